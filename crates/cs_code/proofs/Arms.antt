@@ -11,7 +11,7 @@ use Rattle.cs_ir.specs.declared.op.Act.TheVariants as act
 use Rattle.cs_ir.specs.declared.op.Op.{Op}
 use Rattle.cs_ir.specs.declared.register.Reg.{Reg}
 use Rattle.cs_meaning.specs.Notes.{Note, Path}
-use Rattle.cs_code.specs.Means.{Stands}
+use Rattle.cs_code.specs.Means.{StandsInMachine}
 use Rattle.cs_code.specs.inner.Frames.{op_of}
 use Rattle.cs_code.specs.inner.Code.{arm_code}
 use Rattle.cs_code.proofs.Inside.{plan_of}
@@ -20,7 +20,7 @@ use Rattle.cs_code.proofs.Runs.{Live, run_append, live_step, skip_step, run_past
 -- A machine stands as a note does, and goes on at a place or before it.
 pub record Agrees {W : Type 0} (lim : Rate → ℕ) (placed : Path → Option ℕ) (place : ℕ) (t : Note W)
     (m : Machine W) : Type 0 where
-  pub stands : Stands (plan_of lim placed) t m
+  pub stands : StandsInMachine (plan_of lim placed) t m
   pub next : m.next ≤ place
 
 module _ {W : Type 0} (o : World W) (lim : Rate → ℕ) (placed : Path → Option ℕ) where
@@ -29,7 +29,7 @@ module _ {W : Type 0} (o : World W) (lim : Rate → ℕ) (placed : Path → Opti
   agrees_live place t m a going = record { next = a.next; going = ap o.refused a.stands.world ∙ going }
 
   -- only the place to go on at changes
-  agrees_at : (place to : ℕ) (t : Note W) (m : Machine W) → Stands (plan_of lim placed) t m → to ≤ place
+  agrees_at : (place to : ℕ) (t : Note W) (m : Machine W) → StandsInMachine (plan_of lim placed) t m → to ≤ place
       → Agrees lim placed place t (record m { next = to })
   agrees_at place to t m s le =
       record { stands = record { locals = s.locals; kept = s.kept; world = s.world }; next = le }
@@ -103,10 +103,10 @@ module _ {W : Type 0} (o : World W) (lim : Rate → ℕ) (placed : Path → Opti
       { next = if holds (w 0) then n.next else else_at } =
       live_step o (place + length before) test n live
       ∙ ap (λ v. record n { next = if holds (v 0) then n.next else else_at }) is in
-      let whole : run o place (before ++ (test ∷ tail)) m ≡ run o at tail
+      let gone : run o place (before ++ (test ∷ tail)) m ≡ run o at tail
       (record n { next = if holds (w 0) then n.next else else_at }) =
       run_append o place before (test ∷ tail) m ∙ ap (run o at tail) stepped in
-      subst (Agrees lim placed end (if holds (w 0) then tb else tr)) (sym whole) (by_test (holds (w 0))
+      subst (Agrees lim placed end (if holds (w 0) then tb else tr)) (sym gone) (by_test (holds (w 0))
       (λ e. rw e (taken_runs at q body rest tb (record n { next = n.next })
       (inner (record n { next = n.next }) (agrees_at at n.next s n a.stands (le_trans a.next (omega arith))))))
       (λ e. rw e (passed_runs at jump body rest tr (record n { next = else_at }) refl

@@ -1,5 +1,6 @@
 -- What calls are short for, by their shapes.
-use Rattle.std.proofs.Common.{◌≡◌, ◌++◌, ◌∷◌, ◌∙◌, ℕ, Bool, true, false, true≢false, List, [], Option, Some, None, refl, sym, ap, ap₂}
+use Rattle.std.proofs.Common.{◌≡◌, ◌++◌, ◌∷◌, ◌∙◌, ℕ, Bool, true, false, true≢false, List, [], Option, Some, None, refl}
+use Rattle.std.proofs.Common.{sym, ap, ap₂}
 use Rattle.std.proofs.lemmas.List.{append_assoc}
 use Rattle.cs_base.specs.declared.resource.Rate.{Rate}
 use Rattle.cs_base.specs.declared.resource.Rate.TheVariants as rate
@@ -7,18 +8,19 @@ use Rattle.cs_base.specs.declared.spaces.Spaces.{Spaces}
 use Rattle.cs_ir.specs.declared.op.Op.{Op}
 use Rattle.cs_ir.specs.declared.register.Reg.{Reg}
 use Rattle.cs_meaning.specs.Core.{Stmt, core_call, set, unit, zak, store, out, out_at, ask, turnoff, nothing, choose}
-use Rattle.cs_code.specs.inner.Kept.{Place}
+use Rattle.cs_meaning.specs.When.{cycle}
 use Rattle.cs_typed.specs.TypedTree.{Expression, Argument, value, text}
 use Rattle.cs_typed.specs.declared.tree.Var.{Var as Variable}
 use Rattle.cs_words.specs.declared.catalogue.Opcode.{Opcode}
 use Rattle.cs_words.specs.declared.catalogue.Shape.{Shape}
 use Rattle.cs_words.specs.declared.catalogue.Shape.TheVariants as shape
+use Rattle.cs_code.specs.declared.frame.Progress.{Progress}
 use Rattle.cs_code.specs.declared.frame.Pass.{Pass}
 use Rattle.cs_code.specs.declared.frame.Pass.TheVariants as pass
 use Rattle.cs_code.specs.declared.simple.Sending.{Sending}
 use Rattle.cs_code.specs.declared.simple.Sending.TheVariants as sending
 use Rattle.cs_code.specs.inner.Code.{perf_code, operands_code}
-use Rattle.cs_code.specs.inner.Emitted.{Assigned, assigned, set_of, effect, is_whole, pass_code, sent_as, sent_ops}
+use Rattle.cs_code.specs.inner.Emitted.{Assigned, assigned, set_of, effect, when_of, pass_code, sent_as, sent_ops}
 use Rattle.cs_code.specs.inner.Frames.{Frame, spots}
 
 -- a call is the assignment that it is short for, or else an effect
@@ -85,7 +87,8 @@ by_assigned o r (v ∷ vs) op (shape.ZakPut s) args = refl
 by_assigned o r (v ∷ vs) op shape.ZakMix args = refl
 by_assigned o r (v ∷ vs) op (shape.ZakClear s) args = refl
 
-pub call_assigned : (o : Spaces) (r : Rate) (vs : List Variable) (op : Opcode) (sh : Shape) (args : List Argument) (a : Assigned)
+pub call_assigned : (o : Spaces) (r : Rate) (vs : List Variable) (op : Opcode) (sh : Shape) (args : List Argument)
+    (a : Assigned)
     → assigned sh r vs args ≡ Some a → core_call o r vs op sh args ≡ set_of a
 call_assigned o r vs op sh args a h = by_assigned o r vs op sh args ∙ ap (λ x. either_of x (effect o r vs op sh args)) h
 
@@ -98,7 +101,8 @@ abbrev is_choice : Stmt → Bool
 is_choice (choose r arms) = true
 is_choice _ = false
 
-effect_simple : (o : Spaces) (r : Rate) (vs : List Variable) (op : Opcode) (sh : Shape) (args : List Argument) → is_choice (effect o r vs op sh args) ≡ false
+effect_simple : (o : Spaces) (r : Rate) (vs : List Variable) (op : Opcode) (sh : Shape) (args : List Argument)
+    → is_choice (effect o r vs op sh args) ≡ false
 effect_simple o r vs op shape.Init args = refl
 effect_simple o r vs op shape.ChannelGet args = refl
 effect_simple o r vs op shape.ChannelPut args = refl
@@ -120,16 +124,18 @@ either_simple : (a : Option Assigned) (s : Stmt) → is_choice s ≡ false → i
 either_simple (Some a) s h = refl
 either_simple None s h = h
 
-call_simple : (o : Spaces) (r : Rate) (vs : List Variable) (op : Opcode) (sh : Shape) (args : List Argument) → is_choice (core_call o r vs op sh args) ≡ false
+call_simple : (o : Spaces) (r : Rate) (vs : List Variable) (op : Opcode) (sh : Shape) (args : List Argument)
+    → is_choice (core_call o r vs op sh args) ≡ false
 call_simple o r vs op sh args =
     ap is_choice (by_assigned o r vs op sh args)
     ∙ either_simple (assigned sh r vs args) (effect o r vs op sh args) (effect_simple o r vs op sh args)
 
-anywhere : (way : Pass) (f : Frame) (place : ℕ) (p : Place) (s : Stmt) → is_choice s ≡ false → pass_code way f 0 p s ≡ pass_code way f place p s
+anywhere : (way : Pass) (f : Frame) (place : ℕ) (p : Progress) (s : Stmt) → is_choice s ≡ false
+    → pass_code way f 0 p s ≡ pass_code way f place p s
 anywhere pass.Initialisation f place p (set r v e) h = refl
 anywhere pass.Initialisation f place p (unit r vs op reach xs is) h = refl
 anywhere pass.Initialisation f place p (zak r vs op reach xs) h = refl
-anywhere pass.Initialisation f place p (store r op reach es is) h = refl
+anywhere pass.Initialisation f place p (store r reach es is) h = refl
 anywhere pass.Initialisation f place p (out r es) h = refl
 anywhere pass.Initialisation f place p (out_at r es) h = refl
 anywhere pass.Initialisation f place p (ask es) h = refl
@@ -139,7 +145,7 @@ anywhere pass.Initialisation f place p (choose r arms) h = absurd (true≢false 
 anywhere pass.Performance f place p (set r v e) h = refl
 anywhere pass.Performance f place p (unit r vs op reach xs is) h = refl
 anywhere pass.Performance f place p (zak r vs op reach xs) h = refl
-anywhere pass.Performance f place p (store r op reach es is) h = refl
+anywhere pass.Performance f place p (store r reach es is) h = refl
 anywhere pass.Performance f place p (out r es) h = refl
 anywhere pass.Performance f place p (out_at r es) h = refl
 anywhere pass.Performance f place p (ask es) h = refl
@@ -147,29 +153,36 @@ anywhere pass.Performance f place p (turnoff r) h = refl
 anywhere pass.Performance f place p nothing h = refl
 anywhere pass.Performance f place p (choose r arms) h = absurd (true≢false h)
 
-pub set_anywhere : (way : Pass) (f : Frame) (place : ℕ) (p : Place) (r : Rate) (v : Variable) (e : Expression) → pass_code way f place p (set r v e)
+pub set_anywhere : (way : Pass) (f : Frame) (place : ℕ) (p : Progress) (r : Rate) (v : Variable) (e : Expression)
+    → pass_code way f place p (set r v e)
     ≡ pass_code way f 0 p (set r v e)
 set_anywhere way f place p r v e = sym (anywhere way f place p (set r v e) refl)
 
-pub call_anywhere : (way : Pass) (f : Frame) (place : ℕ) (p : Place) (o : Spaces) (r : Rate) (vs : List Variable) (op : Opcode) (sh : Shape)
-    (args : List Argument) → pass_code way f place p (core_call o r vs op sh args) ≡ pass_code way f 0 p (core_call o r vs op sh args)
-call_anywhere way f place p o r vs op sh args = sym (anywhere way f place p (core_call o r vs op sh args) (call_simple o r vs op sh args))
+pub call_anywhere : (way : Pass) (f : Frame) (place : ℕ) (p : Progress) (o : Spaces) (r : Rate) (vs : List Variable)
+    (op : Opcode) (sh : Shape)
+    (args : List Argument) → pass_code way f place p (core_call o r vs op sh args) ≡ pass_code way f 0 p
+    (core_call o r vs op sh args)
+call_anywhere way f place p o r vs op sh args =
+    sym (anywhere way f place p (core_call o r vs op sh args) (call_simple o r vs op sh args))
 
 -- the code of an assignment and of a call is the same at each place
 pub ruleset at_each_place = (set_anywhere, call_anywhere)
 
 -- values that go out in a cycle
-sent_in_cycle : (f : Frame) (place : ℕ) (p : Place) (how : Sending) (r : Rate) (es : List Expression)
-    → perf_code f place p (sent_as how r es) ≡ operands_code f false p.part es 0 ++ sent_ops how (spots f false p.part es 0)
+sent_in_cycle : (f : Frame) (place : ℕ) (p : Progress) (how : Sending) (r : Rate) (es : List Expression)
+    → perf_code f place p (sent_as how r es) ≡ operands_code f cycle p.part es 0
+    ++ sent_ops how (spots f cycle p.part es 0)
 sent_in_cycle f place p sending.InTurn r es = refl
 sent_in_cycle f place p sending.ByNumber r es = refl
 
-pub sent_pass : (way : Pass) (f : Frame) (p : Place) (how : Sending) (es : List Expression) (old mid new : List Op) (qs regs : List Reg)
-    → way ≡ pass.Performance → mid ≡ old ++ operands_code f (is_whole way) p.part es 0 → regs ≡ spots f (is_whole way) p.part es 0 → qs ≡ regs
+pub sent_pass : (way : Pass) (f : Frame) (p : Progress) (how : Sending) (es : List Expression) (old mid new : List Op)
+    (qs regs : List Reg)
+    → way ≡ pass.Performance → mid ≡ old ++ operands_code f (when_of way) p.part es 0
+    → regs ≡ spots f (when_of way) p.part es 0 → qs ≡ regs
     → new ≡ mid ++ sent_ops how qs → new ≡ old ++ pass_code way f 0 p (sent_as how rate.Audio es)
 sent_pass pass.Initialisation f p how es old mid new qs regs h made spots_are is all = absurd (cc)
 sent_pass pass.Performance f p how es old mid new qs regs h made spots_are is all =
     all
     ∙ ap₂ (λ xs ys. xs ++ sent_ops how ys) made (is ∙ spots_are)
-    ∙ append_assoc old (operands_code f false p.part es 0) (sent_ops how (spots f false p.part es 0))
+    ∙ append_assoc old (operands_code f cycle p.part es 0) (sent_ops how (spots f cycle p.part es 0))
     ∙ ap (λ l. old ++ l) (sym (sent_in_cycle f 0 p how rate.Audio es))

@@ -5,22 +5,26 @@ use Rattle.cs_base.specs.declared.resource.Rate.{Rate}
 use Rattle.cs_base.specs.declared.resource.Rate.TheVariants as rate
 use Rattle.cs_ir.specs.declared.op.Op.{Op}
 use Rattle.cs_meaning.specs.Core.{Stmt, Block, Arms, no_stmt, andthen, choose, arm, otherwise}
-use Rattle.cs_code.specs.inner.Kept.{Place, past, past_parts, past_stmt, past_block}
+use Rattle.cs_code.specs.declared.frame.Progress.{Progress}
+use Rattle.cs_code.specs.inner.Kept.{past, past_parts, past_stmt, past_block}
 use Rattle.cs_typed.specs.TypedTree.{Expression}
 use Rattle.cs_code.specs.declared.frame.Pass.{Pass}
 use Rattle.cs_code.specs.declared.frame.Pass.TheVariants as pass
 use Rattle.cs_code.specs.inner.Code.{keep_code, operand_code, init_block_code, all_code}
-use Rattle.cs_code.specs.inner.Emitted.{pass_code, pass_block_code, chosen_code, cond_code, each_arm_code, is_whole, takes_all}
+use Rattle.cs_code.specs.inner.Emitted.{pass_code, pass_block_code, chosen_code, cond_code, each_arm_code, when_of}
+use Rattle.cs_code.specs.inner.Emitted.{takes_all}
 use Rattle.cs_code.specs.inner.Frames.{Frame}
 
 -- a statement and those that follow, in either pass
-block_step : (way : Pass) (f : Frame) (place : ℕ) (p : Place) (s : Stmt) (b : Block) → pass_block_code way f place p (andthen s b) ≡ pass_code way f place p s
+block_step : (way : Pass) (f : Frame) (place : ℕ) (p : Progress) (s : Stmt) (b : Block)
+    → pass_block_code way f place p (andthen s b) ≡ pass_code way f place p s
     ++ pass_block_code way f (place + length (pass_code way f place p s)) (past_stmt p s) b
 block_step pass.Initialisation f place p s b = refl
 block_step pass.Performance f place p s b = refl
 
-pub block_more : (way : Pass) (f : Frame) (ops new total : List Op) (p q : Place) (s : Stmt) (b : Block) → new ≡ ops
-    ++ pass_code way f (length ops) p s → q ≡ past_stmt p s → ops ++ pass_block_code way f (length ops) p (andthen s b) ≡ total → new
+pub block_more : (way : Pass) (f : Frame) (ops new total : List Op) (p q : Progress) (s : Stmt) (b : Block) → new ≡ ops
+    ++ pass_code way f (length ops) p s → q ≡ past_stmt p s
+    → ops ++ pass_block_code way f (length ops) p (andthen s b) ≡ total → new
     ++ pass_block_code way f (length new) q b ≡ total
 block_more way f ops new total p q s b made at was =
     let own : List Op = pass_code way f (length ops) p s in
@@ -33,19 +37,22 @@ block_more way f ops new total p q s b made at was =
     ∙ was
 
 -- the statements after `else`
-pub chosen_else : (way : Pass) (f : Frame) (place : ℕ) (p : Place) (b : Block) → chosen_code way f place p (otherwise b) ≡ pass_block_code way f place p b
+pub chosen_else : (way : Pass) (f : Frame) (place : ℕ) (p : Progress) (b : Block)
+    → chosen_code way f place p (otherwise b) ≡ pass_block_code way f place p b
 chosen_else pass.Initialisation f place p b = refl
 chosen_else pass.Performance f place p b = refl
 
 -- arms that are all initialised: one, and those that follow
-pub each_more : (f : Frame) (ops new total : List Op) (p q : Place) (c : Expression) (b : Block) (rest : Arms) → new ≡ ops
-    ++ each_arm_code f (length ops) p c b → q ≡ past_block (past_parts (past p.part c) p) b → ops ++ all_code f (length ops) p (arm c b rest)
+pub each_more : (f : Frame) (ops new total : List Op) (p q : Progress) (c : Expression) (b : Block) (rest : Arms)
+    → new ≡ ops
+    ++ each_arm_code f (length ops) p c b → q ≡ past_block (past_parts (past p.part c) p) b
+    → ops ++ all_code f (length ops) p (arm c b rest)
     ≡ total → new ++ all_code f (length new) q rest ≡ total
 each_more f ops new total p q c b rest made at was =
     let place : ℕ = length ops in
     let cond : List Op = keep_code f p.part c in
     let body : List Op = init_block_code f (place + length cond) (past_parts (past p.part c) p) b in
-    let done : Place = past_block (past_parts (past p.part c) p) b in
+    let done : Progress = past_block (past_parts (past p.part c) p) b in
     let long : length new ≡ place + length cond + length body = omega (
       arith,
       ap length made ∙ length-append ops (cond
@@ -60,19 +67,21 @@ each_more f ops new total p q c b rest made at was =
     ∙ was
 
 -- no statement more
-pub block_none : (way : Pass) (f : Frame) (place : ℕ) (p : Place) → pass_block_code way f place p no_stmt ≡ []
+pub block_none : (way : Pass) (f : Frame) (place : ℕ) (p : Progress) → pass_block_code way f place p no_stmt ≡ []
 block_none pass.Initialisation f place p = refl
 block_none pass.Performance f place p = refl
 
 -- an `if` by whether all its arms are initialised
-pub all_taken : (way : Pass) (f : Frame) (place : ℕ) (p : Place) (r : Rate) (arms : Arms) → takes_all way r ≡ true → pass_code way f place p (choose r arms)
+pub all_taken : (way : Pass) (f : Frame) (place : ℕ) (p : Progress) (r : Rate) (arms : Arms) → takes_all way r ≡ true
+    → pass_code way f place p (choose r arms)
     ≡ all_code f place p arms
 all_taken pass.Initialisation f place p rate.Init arms h = absurd (true≢false (sym h))
 all_taken pass.Initialisation f place p rate.Control arms h = refl
 all_taken pass.Initialisation f place p rate.Audio arms h = refl
 all_taken pass.Performance f place p r arms h = absurd (true≢false (sym h))
 
-pub one_taken : (way : Pass) (f : Frame) (place : ℕ) (p : Place) (r : Rate) (arms : Arms) → takes_all way r ≡ false → pass_code way f place p (choose r arms)
+pub one_taken : (way : Pass) (f : Frame) (place : ℕ) (p : Progress) (r : Rate) (arms : Arms) → takes_all way r ≡ false
+    → pass_code way f place p (choose r arms)
     ≡ chosen_code way f place p arms
 one_taken pass.Initialisation f place p rate.Init arms h = refl
 one_taken pass.Initialisation f place p rate.Control arms h = absurd (true≢false h)
@@ -85,6 +94,7 @@ taken_pass pass.Initialisation r h = refl
 taken_pass pass.Performance r h = absurd (true≢false (sym h))
 
 -- a condition in the performance
-pub tested : (way : Pass) (f : Frame) (at : ℕ) (e : Expression) → way ≡ pass.Performance → operand_code f (is_whole way) at e 0 ≡ cond_code way f at e
+pub tested : (way : Pass) (f : Frame) (at : ℕ) (e : Expression) → way ≡ pass.Performance
+    → operand_code f (when_of way) at e 0 ≡ cond_code way f at e
 tested pass.Performance f at e h = refl
 tested pass.Initialisation f at e h = absurd (cc)

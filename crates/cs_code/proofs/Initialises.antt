@@ -1,5 +1,5 @@
 -- The code of the initialisation does what statements do as the note begins.
-use Rattle.std.proofs.Common.{◌≡◌, ℕ, suc, ◌+◌, true, false, List, [], ◌∷◌, ◌++◌, length, Option, Some, refl, sym, ◌∙◌}
+use Rattle.std.proofs.Common.{◌≡◌, ℕ, suc, ◌+◌, false, List, [], ◌∷◌, ◌++◌, length, Option, Some, refl, sym, ◌∙◌}
 use Rattle.std.proofs.Common.{ap, subst, arith, length-append}
 use Rattle.cs_base.proofs.Tests.{by_test}
 use Rattle.cs_base.specs.declared.resource.Rate.{Rate}
@@ -16,7 +16,9 @@ use Rattle.cs_meaning.specs.Core.{no_stmt, andthen, otherwise, arm}
 use Rattle.cs_meaning.specs.Initialising.{going, keep, keep_all, started, run_once, sought, stored_once, zak_once}
 use Rattle.cs_meaning.specs.Initialising.{init_stmt, init_block, init_first, init_all}
 use Rattle.cs_meaning.specs.Notes.{Note, Path, next, past_arm, moved_to, assign, value, values}
-use Rattle.cs_code.specs.inner.Kept.{Place, past, past_parts, past_stmt, past_block, nowhere, parts, numbers}
+use Rattle.cs_meaning.specs.When.{beginning}
+use Rattle.cs_code.specs.declared.frame.Progress.{Progress}
+use Rattle.cs_code.specs.inner.Kept.{past, past_parts, past_stmt, past_block, nowhere, parts, numbers}
 use Rattle.cs_code.specs.inner.Kept.{all_numbers, stmt_numbers, block_numbers, arms_numbers, register_from}
 use Rattle.cs_typed.specs.TypedTree.{Expression}
 use Rattle.cs_typed.specs.declared.tree.Var.{Var as Variable}
@@ -80,12 +82,13 @@ module _ {W : Type 0} (o : World W) (quiet : Quiet o) (f : Frame) (lim : Rate �
       (place : ℕ) (t : Note W) (m : Machine W)
       → Agrees lim placed place t m → o.refused t.world ≡ false → Takes lim opcode vs → InsideAll lim xs
       → InsideAll lim is
-      → Agrees lim placed (place + length (start_code f r opcode n is ++ unit_code f true 0 r vs opcode n reach xs))
+      → Agrees lim placed (place + length
+      (start_code f r opcode n is ++ unit_code f beginning 0 r vs opcode n reach xs))
       (let s = started o r opcode n is t in going o s (run_once o r vs opcode n reach xs s))
-      (run o place (start_code f r opcode n is ++ unit_code f true 0 r vs opcode n reach xs) m)
+      (run o place (start_code f r opcode n is ++ unit_code f beginning 0 r vs opcode n reach xs) m)
   unit_once u r vs opcode reach xs is place t m h live takes moving settled =
       let first : List Op = start_code f r opcode u is in
-      let rest : List Op = unit_code f true 0 r vs opcode u reach xs in
+      let rest : List Op = unit_code f beginning 0 r vs opcode u reach xs in
       let s : Note W = started o r opcode u is t in
       let v : Note W = run_once o r vs opcode u reach xs s in
       let n : Machine W = run o place first m in
@@ -95,7 +98,8 @@ module _ {W : Type 0} (o : World W) (quiet : Quiet o) (f : Frame) (lim : Rate �
       (λ k. going_runs (place + length first) rest s v n k (λ e.
       let lk = agrees_live o lim placed (place + length first) s n k e in
       from_reached v (place + length first) rest n (run o (place + length first) rest n) lk
-      (unit_runs o f lim placed fits quiet true 0 [] r vs opcode u reach xs s (place + length first) n k.stands lk takes
+      (unit_runs o f lim placed fits quiet beginning 0 [] r vs opcode u reach xs s (place + length first) n k.stands lk
+      takes
       moving tt)))
 
   unit_each : (u at : ℕ) (path : Path) (r : Rate) (opcode : Opcode) (xs is : List Expression) (place : ℕ) (t : Note W)
@@ -118,17 +122,17 @@ module _ {W : Type 0} (o : World W) (quiet : Quiet o) (f : Frame) (lim : Rate �
       lk
       (start_runs o f lim placed fits r opcode u is s (place + length first) n k.stands lk settled))
 
-  store_once : (r : Rate) (opcode : Opcode) (reach : Reach) (es is : List Expression) (place : ℕ) (t : Note W)
+  store_once : (r : Rate) (reach : Reach) (es is : List Expression) (place : ℕ) (t : Note W)
       (m : Machine W)
       → Agrees lim placed place t m → o.refused t.world ≡ false → InsideAll lim es → InsideAll lim is
-      → Agrees lim placed (place + length (seek_code f is ++ store_code f true 0 r opcode reach es))
-      (let s = sought o is t in going o s (stored_once o r opcode reach es s))
-      (run o place (seek_code f is ++ store_code f true 0 r opcode reach es) m)
-  store_once r opcode reach es is place t m h live values_in settled =
+      → Agrees lim placed (place + length (seek_code f is ++ store_code f beginning 0 r reach es))
+      (let s = sought o is t in going o s (stored_once o r reach es s))
+      (run o place (seek_code f is ++ store_code f beginning 0 r reach es) m)
+  store_once r reach es is place t m h live values_in settled =
       let first : List Op = seek_code f is in
-      let rest : List Op = store_code f true 0 r opcode reach es in
+      let rest : List Op = store_code f beginning 0 r reach es in
       let s : Note W = sought o is t in
-      let u : Note W = stored_once o r opcode reach es s in
+      let u : Note W = stored_once o r reach es s in
       let n : Machine W = run o place first m in
       let l = agrees_live o lim placed place t m h live in
       seq_runs place first rest s (going o s u) m
@@ -136,7 +140,7 @@ module _ {W : Type 0} (o : World W) (quiet : Quiet o) (f : Frame) (lim : Rate �
       (λ k. going_runs (place + length first) rest s u n k (λ e.
       let lk = agrees_live o lim placed (place + length first) s n k e in
       from_reached u (place + length first) rest n (run o (place + length first) rest n) lk
-      (store_runs o f lim placed fits true 0 [] r opcode reach es s (place + length first) n k.stands lk values_in tt)))
+      (store_runs o f lim placed fits beginning 0 [] r reach es s (place + length first) n k.stands lk values_in tt)))
 
   store_each : (at : ℕ) (path : Path) (es is : List Expression) (place : ℕ) (t : Note W) (m : Machine W)
       → Agrees lim placed place t m → o.refused t.world ≡ false → InsideAll lim es → InsideAll lim is
@@ -156,7 +160,7 @@ module _ {W : Type 0} (o : World W) (quiet : Quiet o) (f : Frame) (lim : Rate �
       (seek_runs o f lim placed fits is s (place + length first) n k.stands lk settled))
 
   -- the arms of an `if` that is decided once, or of any other
-  choose_runs : (r : Rate) (arms : Arms) (path : Path) (p : Place) (place : ℕ) (t : Note W) (m : Machine W)
+  choose_runs : (r : Rate) (arms : Arms) (path : Path) (p : Progress) (place : ℕ) (t : Note W) (m : Machine W)
       → (r ≡ rate.Init → AllStill arms)
       → (AllStill arms
       → Agrees lim placed (place + length (first_code f place p arms)) (init_first o (stands_at path p) arms t)
@@ -171,7 +175,7 @@ module _ {W : Type 0} (o : World W) (quiet : Quiet o) (f : Frame) (lim : Rate �
   choose_runs rate.Audio arms path p place t m still first all = all
 
   -- what goes out in each cycle keeps its parts
-  sent_runs : (es : List Expression) (path : Path) (p : Place) (place : ℕ) (t : Note W) (m : Machine W)
+  sent_runs : (es : List Expression) (path : Path) (p : Progress) (place : ℕ) (t : Note W) (m : Machine W)
       → Agrees lim placed place t m
       → InsideAll lim es → Lays f.kept placed path (all_numbers p.part es)
       → Agrees lim placed (place + length (keep_all_code f p.part es)) (going o t (keep_all o (0 ∷ path) es t))
@@ -186,25 +190,25 @@ module _ {W : Type 0} (o : World W) (quiet : Quiet o) (f : Frame) (lim : Rate �
       (lays_on f.kept placed path (all_numbers p.part es) lays)))
 
   mutual
-    pub init_runs : (s : Stmt) (path : Path) (p : Place) (place : ℕ) (t : Note W) (m : Machine W)
+    pub init_runs : (s : Stmt) (path : Path) (p : Progress) (place : ℕ) (t : Note W) (m : Machine W)
         → Agrees lim placed place t m
         → InsideStmt lim s → Lays f.kept placed path (stmt_numbers p s)
         → Agrees lim placed (place + length (init_code f place p s)) (init_stmt o (stands_at path p) s t)
         (run o place (init_code f place p s) m)
     init_runs (set r v e) path p place t m h inside lays =
-        let once : List Op = set_code f true 0 v e in
+        let once : List Op = set_code f beginning 0 v e in
         let each : List Op = keep_code f p.part e in
-        let a : Note W = assign o v (value o t true [] e) t in
+        let a : Note W = assign o v (value o t beginning [] e) t in
         let b : Note W = keep o (0 ∷ path) e t in
         going_runs place (if_init r once each) t (if_init r a b) m h (λ live.
         let l = agrees_live o lim placed place t m h live in
         rate_agrees r place path (parts (numbers p.part e) nowhere) once each a b m lays
         (from_reached a place once m (run o place once m) l
-        (set_runs o f lim placed fits v true 0 [] e t place m h.stands l inside.0 inside.1 tt))
+        (set_runs o f lim placed fits v beginning 0 [] e t place m h.stands l inside.0 inside.1 tt))
         (λ known. from_kept b place each m (run o place each m) l
         (keep_runs o f lim placed fits e t p.part (0 ∷ path) place m h.stands l inside.1 (λ q. known (0 ∷ q)))))
     init_runs (unit r vs opcode reach xs is) path p place t m h inside lays =
-        let once : List Op = start_code f r opcode p.unit is ++ unit_code f true 0 r vs opcode p.unit reach xs in
+        let once : List Op = start_code f r opcode p.unit is ++ unit_code f beginning 0 r vs opcode p.unit reach xs in
         let each : List Op = keep_all_code f p.part xs ++ start_code f r opcode p.unit is in
         let s : Note W = started o r opcode p.unit is t in
         let a : Note W = going o s (run_once o r vs opcode p.unit reach xs s) in
@@ -215,7 +219,7 @@ module _ {W : Type 0} (o : World W) (quiet : Quiet o) (f : Frame) (lim : Rate �
         (λ known. unit_each p.unit p.part (0 ∷ path) r opcode xs is place t m h live inside.1 inside.2
         (lays_on f.kept placed path (all_numbers p.part xs) known)))
     init_runs (zak r vs opcode reach xs) path p place t m h inside lays =
-        let once : List Op = zak_code f true 0 r vs opcode reach xs in
+        let once : List Op = zak_code f beginning 0 r vs opcode reach xs in
         let each : List Op = keep_all_code f p.part xs in
         let a : Note W = zak_once o r vs opcode reach xs t in
         let b : Note W = keep_all o (0 ∷ path) xs t in
@@ -223,26 +227,27 @@ module _ {W : Type 0} (o : World W) (quiet : Quiet o) (f : Frame) (lim : Rate �
         let l = agrees_live o lim placed place t m h live in
         rate_agrees r place path (all_numbers p.part xs) once each a b m lays
         (from_reached a place once m (run o place once m) l
-        (zak_runs o f lim placed fits quiet true 0 [] r vs opcode reach xs t place m h.stands l inside.0 inside.1 tt))
+        (zak_runs o f lim placed fits quiet beginning 0 [] r vs opcode reach xs t place m h.stands l inside.0 inside.1
+        tt))
         (λ known. from_kept b place each m (run o place each m) l
         (keep_all_runs o f lim placed fits xs t p.part (0 ∷ path) place m h.stands l inside.1
         (lays_on f.kept placed path (all_numbers p.part xs) known))))
-    init_runs (store r opcode reach es is) path p place t m h inside lays =
-        let once : List Op = seek_code f is ++ store_code f true 0 r opcode reach es in
+    init_runs (store r reach es is) path p place t m h inside lays =
+        let once : List Op = seek_code f is ++ store_code f beginning 0 r reach es in
         let each : List Op = keep_all_code f p.part es ++ seek_code f is in
         let s : Note W = sought o is t in
-        let a : Note W = going o s (stored_once o r opcode reach es s) in
+        let a : Note W = going o s (stored_once o r reach es s) in
         let b : Note W = sought o is (keep_all o (0 ∷ path) es t) in
         going_runs place (if_init r once each) t (if_init r a b) m h (λ live.
         rate_agrees r place path (all_numbers p.part es) once each a b m lays
-        (store_once r opcode reach es is place t m h live inside.0 inside.1)
+        (store_once r reach es is place t m h live inside.0 inside.1)
         (λ known. store_each p.part (0 ∷ path) es is place t m h live inside.0 inside.1
         (lays_on f.kept placed path (all_numbers p.part es) known)))
     init_runs (out r es) path p place t m h inside lays = sent_runs es path p place t m h inside lays
     init_runs (out_at r es) path p place t m h inside lays = sent_runs es path p place t m h inside lays
     init_runs (ask es) path p place t m h inside lays =
         let ops : List Op = ask_code f es in
-        let s : Note W = moved_to (o.ask (first_values (values o t true [] es)) t.world) t in
+        let s : Note W = moved_to (o.ask (first_values (values o t beginning [] es)) t.world) t in
         going_runs place ops t s m h (λ live.
         let l = agrees_live o lim placed place t m h live in
         from_reached s place ops m (run o place ops m) l (ask_runs o f lim placed fits es t place m h.stands l inside))
@@ -258,7 +263,7 @@ module _ {W : Type 0} (o : World W) (quiet : Quiet o) (f : Frame) (lim : Rate �
         (λ still. first_runs arms (0 ∷ path) p place t m h live still inside.1 known)
         (all_runs arms (0 ∷ path) p place t m h inside.1 known))
 
-    pub init_block_runs : (b : Block) (path : Path) (p : Place) (place : ℕ) (t : Note W) (m : Machine W)
+    pub init_block_runs : (b : Block) (path : Path) (p : Progress) (place : ℕ) (t : Note W) (m : Machine W)
         → Agrees lim placed place t m
         → InsideBlock lim b → LaysOn f.kept placed path (block_numbers p b)
         → Agrees lim placed (place + length (init_block_code f place p b)) (init_block o (stands_at path p) b t)
@@ -277,7 +282,7 @@ module _ {W : Type 0} (o : World W) (quiet : Quiet o) (f : Frame) (lim : Rate �
         (init_block_runs b (next path) (past_stmt p s) (place + length ops) u (run o place ops m) k inside.1
         (λ i q. lays (suc i) q)))
 
-    first_runs : (arms : Arms) (path : Path) (p : Place) (place : ℕ) (t : Note W) (m : Machine W)
+    first_runs : (arms : Arms) (path : Path) (p : Progress) (place : ℕ) (t : Note W) (m : Machine W)
         → Agrees lim placed place t m
         → o.refused t.world ≡ false → AllStill arms → InsideArms lim arms
         → LaysOn f.kept placed path (arms_numbers p arms)
@@ -288,7 +293,7 @@ module _ {W : Type 0} (o : World W) (quiet : Quiet o) (f : Frame) (lim : Rate �
         (lays_on f.kept placed path (block_numbers p b) (λ q. lays 0 q))
     first_runs (arm c b rest) path p place t m h live still inside lays =
         let before : List Op = keep_code f p.part c in
-        let q : Place = past_parts (past p.part c) p in
+        let q : Progress = past_parts (past p.part c) p in
         let s : Note W = keep o (0 ∷ path) c t in
         let at : ℕ = place + length before + 1 in
         let body : List Op = init_block_code f at q b in
@@ -316,7 +321,7 @@ module _ {W : Type 0} (o : World W) (quiet : Quiet o) (f : Frame) (lim : Rate �
         (first_runs rest (next path) (past_block q b) (at + length body + 1) s k a calm still.1 inside.2
         (λ i j. lays (suc i) j))))
 
-    all_runs : (arms : Arms) (path : Path) (p : Place) (place : ℕ) (t : Note W) (m : Machine W)
+    all_runs : (arms : Arms) (path : Path) (p : Progress) (place : ℕ) (t : Note W) (m : Machine W)
         → Agrees lim placed place t m
         → InsideArms lim arms → LaysOn f.kept placed path (arms_numbers p arms)
         → Agrees lim placed (place + length (all_code f place p arms)) (init_all o (stands_at path p) arms t)
@@ -326,7 +331,7 @@ module _ {W : Type 0} (o : World W) (quiet : Quiet o) (f : Frame) (lim : Rate �
         (lays_on f.kept placed path (block_numbers p b) (λ q. lays 0 q))
     all_runs (arm c b rest) path p place t m h inside lays =
         let before : List Op = keep_code f p.part c in
-        let q : Place = past_parts (past p.part c) p in
+        let q : Progress = past_parts (past p.part c) p in
         let s : Note W = keep o (0 ∷ path) c t in
         let at : ℕ = place + length before in
         let body : List Op = init_block_code f at q b in

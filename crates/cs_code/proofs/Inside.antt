@@ -1,6 +1,6 @@
 -- What the simulation asks of a frame and of statements: local variables below their limits, kept values below their
 -- end.
-use Rattle.std.proofs.Common.{◌≡◌, ◌∙◌, ℕ, zero, suc, ◌+◌, ◌<◌, ◌≤◌, Bool, true, false, List, [], ◌∷◌, Option, Some}
+use Rattle.std.proofs.Common.{◌≡◌, ◌∙◌, ℕ, zero, suc, ◌+◌, ◌<◌, ◌≤◌, true, List, [], ◌∷◌, Option, Some}
 use Rattle.std.proofs.Common.{sym, ap, subst, arith, add-zero}
 use Rattle.cs_base.specs.declared.resource.Rate.{Rate}
 use Rattle.cs_base.specs.declared.resource.Rate.TheVariants as rate
@@ -10,14 +10,16 @@ use Rattle.cs_meaning.specs.Core.{Stmt, Block, Arms, set, unit, zak, store, out,
 use Rattle.cs_meaning.specs.Core.{no_stmt, andthen, otherwise, arm}
 use Rattle.cs_meaning.specs.Notes as meaning
 use Rattle.cs_meaning.specs.Notes.{Path, next}
+use Rattle.cs_meaning.specs.When.{When, beginning, cycle}
 use Rattle.cs_typed.specs.TypedTree.{Expression}
 use Rattle.cs_typed.specs.Variables.{EachInExpression}
 use Rattle.cs_typed.specs.WellRated.{node_rate}
 use Rattle.cs_typed.specs.declared.tree.Var.{Var as Variable}
 use Rattle.cs_typed.specs.declared.tree.Var.TheVariants.{Local, Global}
-use Rattle.cs_code.specs.Means.{Plan}
+use Rattle.cs_code.specs.Means.{RegisterPlan}
 use Rattle.cs_code.specs.inner.Frames.{Frame}
-use Rattle.cs_code.specs.inner.Kept.{Place, parts, inward, register_from}
+use Rattle.cs_code.specs.declared.frame.Progress.{Progress}
+use Rattle.cs_code.specs.inner.Kept.{parts, inward, register_from}
 
 -- A frame has room: temporaries stand beyond all locals, and kept values between the locals and the temporaries, each
 -- in a register of its own.
@@ -27,7 +29,7 @@ pub record Fits (f : Frame) (lim : Rate → ℕ) (placed : Path → Option ℕ) 
   pub apart : (p q : Path) (n : ℕ) → placed p ≡ Some n → placed q ≡ Some n → p ≡ q
 
 -- the plan of these registers
-abbrev pub plan_of : (Rate → ℕ) → (Path → Option ℕ) → Plan
+abbrev pub plan_of : (Rate → ℕ) → (Path → Option ℕ) → RegisterPlan
 plan_of lim placed = record { locals = lim; kept = placed }
 
 -- What is kept of a part at a path, and of parts from a path on, has its registers by numbers.
@@ -41,7 +43,7 @@ behind (suc k) p = behind k (next p)
 abbrev pub LaysOn : ℕ → (Path → Option ℕ) → Path → (Path → Option ℕ) → Type 0
 LaysOn first placed p n = (k : ℕ) (q : Path) → placed (inward q (behind k p)) ≡ register_from first (n (k ∷ q))
 
-behind_is : (k n : ℕ) (p : Path) → behind k (n ∷ p) ≡ (k + n) ∷ p
+pub behind_is : (k n : ℕ) (p : Path) → behind k (n ∷ p) ≡ (k + n) ∷ p
 behind_is zero n p = ap (λ j. j ∷ p) (none n)
   where
     none : (n : ℕ) → n ≡ 0 + n
@@ -60,28 +62,28 @@ lays_on first placed p n h k q =
     (h (k ∷ q))
 
 -- the place of the tree that has a path and the number of a unit
-abbrev pub stands_at : Path → Place → meaning.Place
+abbrev pub stands_at : Path → Progress → meaning.Place
 stands_at path p = record { path = path; unit = p.unit }
 
 -- where parts are read as they were kept, they have their registers
-abbrev pub Reads : Bool → Type 0 → Type 0
-Reads true A = Unit {0}
-Reads false A = A
+abbrev pub Reads : When → Type 0 → Type 0
+Reads beginning A = Unit {0}
+Reads cycle A = A
 
-pub reads_on : (whole : Bool) (first : ℕ) (placed : Path → Option ℕ) (p : Path) (n : Path → Option ℕ)
-    → Reads whole (Lays first placed p n) → Reads whole (LaysOn first placed (0 ∷ p) n)
-reads_on true first placed p n h = tt
-reads_on false first placed p n h = lays_on first placed p n h
+pub reads_on : (when : When) (first : ℕ) (placed : Path → Option ℕ) (p : Path) (n : Path → Option ℕ)
+    → Reads when (Lays first placed p n) → Reads when (LaysOn first placed (0 ∷ p) n)
+reads_on beginning first placed p n h = tt
+reads_on cycle first placed p n h = lays_on first placed p n h
 
-pub reads_first : (whole : Bool) (first : ℕ) (placed : Path → Option ℕ) (p : Path) (n m : Path → Option ℕ)
-    → Reads whole (LaysOn first placed p (parts n m)) → Reads whole (Lays first placed p n)
-reads_first true first placed p n m h = tt
-reads_first false first placed p n m h = λ q. h 0 q
+pub reads_first : (when : When) (first : ℕ) (placed : Path → Option ℕ) (p : Path) (n m : Path → Option ℕ)
+    → Reads when (LaysOn first placed p (parts n m)) → Reads when (Lays first placed p n)
+reads_first beginning first placed p n m h = tt
+reads_first cycle first placed p n m h = λ q. h 0 q
 
-pub reads_rest : (whole : Bool) (first : ℕ) (placed : Path → Option ℕ) (p : Path) (n m : Path → Option ℕ)
-    → Reads whole (LaysOn first placed p (parts n m)) → Reads whole (LaysOn first placed (next p) m)
-reads_rest true first placed p n m h = tt
-reads_rest false first placed p n m h = λ k q. h (suc k) q
+pub reads_rest : (when : When) (first : ℕ) (placed : Path → Option ℕ) (p : Path) (n m : Path → Option ℕ)
+    → Reads when (LaysOn first placed p (parts n m)) → Reads when (LaysOn first placed (next p) m)
+reads_rest beginning first placed p n m h = tt
+reads_rest cycle first placed p n m h = λ k q. h (suc k) q
 
 abbrev pub InsideVar : (Rate → ℕ) → Variable → Type 0
 InsideVar lim (Local r n) = n < lim r
@@ -109,7 +111,7 @@ abbrev mutual
   InsideStmt lim (set r v e) = InsideVar lim v × Inside lim e
   InsideStmt lim (unit r vs opcode reach xs is) = Takes lim opcode vs × InsideAll lim xs × InsideAll lim is
   InsideStmt lim (zak r vs opcode reach xs) = Takes lim opcode vs × InsideAll lim xs
-  InsideStmt lim (store r opcode reach es is) = InsideAll lim es × InsideAll lim is
+  InsideStmt lim (store r reach es is) = InsideAll lim es × InsideAll lim is
   InsideStmt lim (out r es) = InsideAll lim es
   InsideStmt lim (out_at r es) = InsideAll lim es
   InsideStmt lim (ask es) = InsideAll lim es

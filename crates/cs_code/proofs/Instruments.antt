@@ -1,5 +1,6 @@
 -- The codes of a block are what is promised of an instrument, and instruments are added in the order of the text.
-use Rattle.std.proofs.Common.{◌≡◌, ℕ, ◌+◌, ◌<◌, ◌≤◌, max, true, List, [], ◌∷◌, ◌++◌, length, map, take, get_or, refl, sym, ◌∙◌, ap, ap₂, subst, arith, append_assoc, append-nil}
+use Rattle.std.proofs.Common.{◌≡◌, ℕ, ◌+◌, ◌<◌, ◌≤◌, max, true, List, [], ◌∷◌, ◌++◌, length, map, take, get_or, refl}
+use Rattle.std.proofs.Common.{sym, ◌∙◌, ap, ap₂, subst, arith, append_assoc, append-nil}
 use Rattle.std.specs.List.{All, AllZip, Contains}
 use Rattle.std.proofs.lemmas.Grind.{flat_map-append}
 use Rattle.std.proofs.lemmas.List.{map_more, map-append, get_or-map, length-map}
@@ -18,7 +19,8 @@ use Rattle.cs_ir.specs.declared.op.Op.{Op}
 use Rattle.cs_ir.specs.declared.register.Counts.{Counts}
 use Rattle.cs_meaning.specs.Core.{core}
 use Rattle.cs_code.specs.inner.Kept.{start, past_block}
-use Rattle.cs_meaning.specs.Uses.{beginning, block_touched, cycle}
+use Rattle.cs_meaning.specs.Uses.{block_touched}
+use Rattle.cs_meaning.specs.When.{beginning, cycle}
 use Rattle.cs_typed.specs.TypedTree as typed
 use Rattle.cs_typed.specs.Variables.{IsCounted, EachInBlock}
 use Rattle.cs_typed.specs.WellRated.{IsRatedBlock}
@@ -33,15 +35,18 @@ use Rattle.cs_code.specs.inner.Frames.{Frame, frame_for}
 use Rattle.cs_code.specs.inner.Limits.{ops_limit}
 use Rattle.cs_code.proofs.Means.{means_its_tree}
 use Rattle.cs_code.proofs.Resources.{block_begins, block_cycles}
-use Rattle.cs_code.proofs.Validity.{units_counted, init_valid, perf_valid, init_named_rated, perf_cycles_rated, perf_named_rated}
+use Rattle.cs_code.proofs.Validity.{units_counted, init_valid, perf_valid, init_named_rated, perf_cycles_rated}
+use Rattle.cs_code.proofs.Validity.{perf_named_rated}
 
 -- counts that reach two codes reach each of them
-reaches_first : (units : ℕ) (g h : Rate → ℕ) (r : Rate) → g r ≤ at_rate (reached (no_registers units) (λ q. max (g q) (h q))).registers r
+reaches_first : (units : ℕ) (g h : Rate → ℕ) (r : Rate)
+    → g r ≤ at_rate (reached (no_registers units) (λ q. max (g q) (h q))).registers r
 reaches_first units g h rate.Init = omega arith
 reaches_first units g h rate.Control = omega arith
 reaches_first units g h rate.Audio = omega arith
 
-reaches_second : (units : ℕ) (g h : Rate → ℕ) (r : Rate) → h r ≤ at_rate (reached (no_registers units) (λ q. max (g q) (h q))).registers r
+reaches_second : (units : ℕ) (g h : Rate → ℕ) (r : Rate)
+    → h r ≤ at_rate (reached (no_registers units) (λ q. max (g q) (h q))).registers r
 reaches_second units g h rate.Init = omega arith
 reaches_second units g h rate.Control = omega arith
 reaches_second units g h rate.Audio = omega arith
@@ -51,12 +56,15 @@ alike : (xs ys : List Res) → xs ≡ ys → NameTheSame xs ys
 alike xs ys e g = (subst (λ l. Contains l g) e, subst (λ l. Contains l g) (sym e))
 
 -- What the making of two codes of a block with these local variables answers.
-pub record Made (spaces : Spaces) (locals : PerRate ℕ) (t : typed.Block) (counts : Counts) (init perf : List Op) : Type 0 where
+pub record Made (spaces : Spaces) (locals : PerRate ℕ) (t : typed.Block) (counts : Counts) (init perf : List Op) : Type
+    0 where
   pub init_is : init ≡ init_block_code (frame_for locals (core spaces t)) 0 start (core spaces t)
   pub perf_is : perf ≡ perf_block_code (frame_for locals (core spaces t)) 0 start (core spaces t)
-  pub counts_are : counts ≡ reached (no_registers (past_block start (core spaces t)).unit) (λ r. max (ops_limit r init) (ops_limit r perf))
+  pub counts_are : counts ≡ reached (no_registers (past_block start (core spaces t)).unit)
+      (λ r. max (ops_limit r init) (ops_limit r perf))
 
-module _ (spaces : Spaces) (locals : PerRate ℕ) (s : Setting) (t : typed.Block) (rated : IsRatedBlock s t) (counts : Counts) (init perf : List Op)
+module _ (spaces : Spaces) (locals : PerRate ℕ) (s : Setting) (t : typed.Block) (rated : IsRatedBlock s t)
+    (counts : Counts) (init perf : List Op)
     (made : Made spaces locals t counts init perf) where
   abbrev f : Frame
   f = frame_for locals (core spaces t)
@@ -78,21 +86,25 @@ module _ (spaces : Spaces) (locals : PerRate ℕ) (s : Setting) (t : typed.Block
   made_init_valid =
       let units : (past_block start (core spaces t)).unit ≤ counts.units = (let e = units_are in omega arith) in
       subst (λ ops. fine_from counts (length ops) 0 ops ≡ true) (sym made.init_is)
-      (init_valid spaces s t rated f counts units (λ r. subst (λ ops. ops_limit r ops ≤ at_rate counts.registers r) made.init_is (init_reached r)))
+      (init_valid spaces s t rated f counts units
+      (λ r. subst (λ ops. ops_limit r ops ≤ at_rate counts.registers r) made.init_is (init_reached r)))
 
   pub made_perf_valid : fine_from counts (length perf) 0 perf ≡ true
   made_perf_valid =
       let units : (past_block start (core spaces t)).unit ≤ counts.units = (let e = units_are in omega arith) in
       subst (λ ops. fine_from counts (length ops) 0 ops ≡ true) (sym made.perf_is)
-      (perf_valid spaces s t rated f counts units (λ r. subst (λ ops. ops_limit r ops ≤ at_rate counts.registers r) made.perf_is (perf_reached r)))
+      (perf_valid spaces s t rated f counts units
+      (λ r. subst (λ ops. ops_limit r ops ≤ at_rate counts.registers r) made.perf_is (perf_reached r)))
 
   made_means : EachInBlock (IsCounted locals) t → Means (core spaces t) init perf
   made_means counted =
       subst (λ ops. Means (core spaces t) ops perf) (sym made.init_is)
-      (subst (λ ops. Means (core spaces t) (init_block_code f 0 start (core spaces t)) ops) (sym made.perf_is) (means_its_tree spaces s locals t rated counted))
+      (subst (λ ops. Means (core spaces t) (init_block_code f 0 start (core spaces t)) ops) (sym made.perf_is)
+      (means_its_tree spaces s locals t rated counted))
 
   -- the promise of an instrument, of any two codes with these ops and counts
-  pub made_code : EachInBlock (IsCounted locals) t → (a b : Code) → a.ops.items ≡ init → a.counts ≡ counts → b.ops.items ≡ perf → b.counts ≡ counts → IsCodeOf spaces s.channels t a b
+  pub made_code : EachInBlock (IsCounted locals) t → (a b : Code) → a.ops.items ≡ init → a.counts ≡ counts
+      → b.ops.items ≡ perf → b.counts ≡ counts → IsCodeOf spaces s.channels t a b
   made_code counted a b ops_a counts_a ops_b counts_b = record {
     means = subst (λ ops. Means (core spaces t) ops b.ops.items) (sym ops_a)
         (subst (λ ops. Means (core spaces t) init ops) (sym ops_b) (made_means counted));
@@ -126,32 +138,40 @@ module _ {A B : Type 0} (R : A → B → Type 0) where
   zip_append (x ∷ xs) ys [] bs h k = absurd h
   zip_append (x ∷ xs) ys (a ∷ us) bs h k = (h.0, zip_append xs ys us bs h.1 k)
 
-  pub zip_one : (xs : List A) (us : List B) (x : A) (a : B) → AllZip R xs us → R x a → AllZip R (xs ++ x ∷ []) (us ++ a ∷ [])
+  pub zip_one : (xs : List A) (us : List B) (x : A) (a : B) → AllZip R xs us → R x a
+      → AllZip R (xs ++ x ∷ []) (us ++ a ∷ [])
   zip_one xs us x a h k = zip_append xs (x ∷ []) us (a ∷ []) h (k, tt)
 
 -- ---- instruments in the order of the text
 
 -- the same codes
-pub code_same : (spaces : Spaces) (channels : ℕ) (t : typed.Block) (a b init perf : Code) → a ≡ init → b ≡ perf → IsCodeOf spaces channels t init perf
+pub code_same : (spaces : Spaces) (channels : ℕ) (t : typed.Block) (a b init perf : Code) → a ≡ init → b ≡ perf
+    → IsCodeOf spaces channels t init perf
     → IsCodeOf spaces channels t a b
 code_same spaces channels t a b init perf e h code =
     subst (λ x. IsCodeOf spaces channels t x b) (sym e) (subst (λ x. IsCodeOf spaces channels t init x) (sym h) code)
 
 -- a body under one number more
-pub one_numbered : (spaces : Spaces) (channels : ℕ) (t : typed.Block) (ps : List (ℕ × typed.Block)) (ns : List ℕ) (i d : ℕ) (list : List Numbered) (x : Numbered)
-    → i < length ns → AllZip (IsNumberedCode spaces channels) (ps ++ numbered_with t (take i ns)) list → x.number ≡ get_or ns i d
+pub one_numbered : (spaces : Spaces) (channels : ℕ) (t : typed.Block) (ps : List (ℕ × typed.Block)) (ns : List ℕ)
+    (i d : ℕ) (list : List Numbered) (x : Numbered)
+    → i < length ns → AllZip (IsNumberedCode spaces channels) (ps ++ numbered_with t (take i ns)) list
+    → x.number ≡ get_or ns i d
     → IsCodeOf spaces channels t x.init x.perf
     → AllZip (IsNumberedCode spaces channels) (ps ++ numbered_with t (take (i + 1) ns)) (list ++ x ∷ [])
 one_numbered spaces channels t ps ns i d list x low h number code =
     let with : ℕ → ℕ × typed.Block = λ n. (n, t) in
-    let more : ps ++ numbered_with t (take (i + 1) ns) ≡ (ps ++ numbered_with t (take i ns)) ++ with (get_or ns i d) ∷ [] =
-    ap (λ l. ps ++ l) (map_more with ns i d low) ∙ sym (append_assoc ps (numbered_with t (take i ns)) (with (get_or ns i d) ∷ [])) in
+    let more : ps ++ numbered_with t (take (i + 1) ns) ≡ (ps ++ numbered_with t (take i ns)) ++ with (get_or ns i d)
+    ∷ [] =
+    ap (λ l. ps ++ l) (map_more with ns i d low)
+    ∙ sym (append_assoc ps (numbered_with t (take i ns)) (with (get_or ns i d) ∷ [])) in
     subst (λ l. AllZip (IsNumberedCode spaces channels) l (list ++ x ∷ [])) (sym more)
-    (zip_one (IsNumberedCode spaces channels) (ps ++ numbered_with t (take i ns)) list (with (get_or ns i d)) x h (number, code))
+    (zip_one (IsNumberedCode spaces channels) (ps ++ numbered_with t (take i ns)) list (with (get_or ns i d)) x h
+    (number, code))
 
 -- the bodies of one instrument more
 pub bodies_more : (xs : List TypedInstr) (i : ℕ) (x : TypedInstr) → i < length xs → x ≡ get_or xs i x
-    → bodies (map typed.instrument (take (i + 1) xs)) ≡ bodies (map typed.instrument (take i xs)) ++ numbered_with (typed.block x.body.items) x.numbers
+    → bodies (map typed.instrument (take (i + 1) xs)) ≡ bodies (map typed.instrument (take i xs))
+    ++ numbered_with (typed.block x.body.items) x.numbers
 bodies_more xs i x low is =
     let of : typed.Instrument → List (ℕ × typed.Block) = λ (y : typed.Instrument). numbered_with y.body y.numbers in
     let before : List typed.Instrument = map typed.instrument (take i xs) in
@@ -161,14 +181,17 @@ bodies_more xs i x low is =
     ∙ ap (λ l. bodies before ++ l) (append-nil (of (typed.instrument x)))
 
 -- a fact on all instruments, at one of them
-pub at_instrument : (P : typed.Instrument → Type 0) (xs : List TypedInstr) (i : ℕ) (x : TypedInstr) → All P (map typed.instrument xs) → i < length xs
+pub at_instrument : (P : typed.Instrument → Type 0) (xs : List TypedInstr) (i : ℕ) (x : TypedInstr)
+    → All P (map typed.instrument xs) → i < length xs
     → x ≡ get_or xs i x → P (typed.instrument x)
 at_instrument P xs i x all low is =
     let long : length (map typed.instrument xs) ≡ length xs = length-map xs typed.instrument in
-    subst P (get_or-map typed.instrument xs i x (typed.instrument x) low ∙ ap typed.instrument (sym is)) (all i (typed.instrument x) (omega arith))
+    subst P (get_or-map typed.instrument xs i x (typed.instrument x) low ∙ ap typed.instrument (sym is))
+    (all i (typed.instrument x) (omega arith))
 
 -- numbers of instruments are those of the text
-zip_numbers : (spaces : Spaces) (channels : ℕ) (ps : List (ℕ × typed.Block)) (list : List Numbered) → AllZip (IsNumberedCode spaces channels) ps list
+zip_numbers : (spaces : Spaces) (channels : ℕ) (ps : List (ℕ × typed.Block)) (list : List Numbered)
+    → AllZip (IsNumberedCode spaces channels) ps list
     → numbers_of list ≡ map (λ (p : ℕ × typed.Block). p.0) ps
 zip_numbers spaces channels [] [] h = refl
 zip_numbers spaces channels [] (x ∷ list) h = absurd h
@@ -182,8 +205,10 @@ numbers_with t (n ∷ ns) = ap (λ l. n ∷ l) (numbers_with t ns)
 bodies_numbers : (is : List typed.Instrument) → map (λ (p : ℕ × typed.Block). p.0) (bodies is) ≡ all_numbers is
 bodies_numbers [] = refl
 bodies_numbers (x ∷ is) =
-    map-append (λ (p : ℕ × typed.Block). p.0) (numbered_with x.body x.numbers) (bodies is) ∙ ap₂ ◌++◌ (numbers_with x.body x.numbers) (bodies_numbers is)
+    map-append (λ (p : ℕ × typed.Block). p.0) (numbered_with x.body x.numbers) (bodies is)
+    ∙ ap₂ ◌++◌ (numbers_with x.body x.numbers) (bodies_numbers is)
 
-pub same_numbers : (spaces : Spaces) (channels : ℕ) (is : List typed.Instrument) (list : List Numbered) → AllZip (IsNumberedCode spaces channels) (bodies is) list
+pub same_numbers : (spaces : Spaces) (channels : ℕ) (is : List typed.Instrument) (list : List Numbered)
+    → AllZip (IsNumberedCode spaces channels) (bodies is) list
     → numbers_of list ≡ all_numbers is
 same_numbers spaces channels is list h = zip_numbers spaces channels (bodies is) list h ∙ bodies_numbers is

@@ -1,5 +1,6 @@
 -- The letters of a unit's arguments: as many settled values as its row takes, and values that move as its letters say.
-use Rattle.std.proofs.Common.{◌≡◌, ◌∙◌, refl, sym, ap, subst, ℕ, zero, suc, ◌+◌, ◌-◌, ◌≤◌, ◌%◌, ◌==◌, Bool, true, false, not, ◌&&◌, ◌||◌, List, [], ◌∷◌, ◌++◌, length, nat_le, slice_get, if◌then◌else◌, arith}
+use Rattle.std.proofs.Common.{◌≡◌, ◌∙◌, refl, sym, ap, subst, ℕ, zero, suc, ◌+◌, ◌-◌, ◌≤◌, ◌%◌, ◌==◌, Bool, true, false}
+use Rattle.std.proofs.Common.{not, ◌&&◌, ◌||◌, List, [], ◌∷◌, ◌++◌, length, nat_le, slice_get, if◌then◌else◌, arith}
 use Rattle.std.specs.Prelude.{filter}
 use Rattle.std.specs.List.{list_all, list_any}
 use Rattle.std.specs.Option.{unwrap_or}
@@ -10,7 +11,9 @@ use Rattle.std.proofs.lemmas.List.Elements.{filter-append}
 use Rattle.cs_base.specs.Rates.{is_init, is_audio, same_rate}
 use Rattle.cs_base.specs.declared.resource.Rate.{Rate}
 use Rattle.cs_base.specs.declared.resource.Rate.TheVariants as rate
-use Rattle.cs_words.specs.Catalogue.{Row, row_of, letter_at, further, takes, takes_count, may_follow, follows_settled, unit_takes, is_text, is_settled, is_moving, settled_letters, moving_letters, result_count}
+use Rattle.cs_words.specs.Catalogue.{Row, row_of, letter_at, further, takes, takes_count, may_follow, follows_settled}
+use Rattle.cs_words.specs.Catalogue.{unit_takes, is_text, is_settled, is_moving, settled_letters, moving_letters}
+use Rattle.cs_words.specs.Catalogue.{result_count}
 use Rattle.cs_words.specs.declared.catalogue.Letter.{Letter}
 use Rattle.cs_words.specs.declared.catalogue.Letter.TheVariants as letter
 use Rattle.cs_words.specs.declared.catalogue.More.{More}
@@ -26,7 +29,8 @@ use Rattle.cs_meaning.specs.Core.{values_of, settled, moving}
 use Rattle.cs_typed.specs.Places.{is_starting}
 use Rattle.cs_typed.specs.TypedTree as typed
 use Rattle.cs_typed.specs.TypedTree.{Expression}
-use Rattle.cs_typed.specs.WellRated.{node_rate, var_rate, fit_letters, bound_by, may_give, done_at, stores_evenly, is_variable, IsRatedCall}
+use Rattle.cs_typed.specs.WellRated.{node_rate, var_rate, fit_letters, bound_by, may_give, done_at, stores_evenly}
+use Rattle.cs_typed.specs.WellRated.{is_variable, IsRatedCall}
 use Rattle.cs_typed.specs.declared.setting.Setting.{Setting}
 use Rattle.cs_typed.specs.declared.tree.Var.{Var}
 use Rattle.cs_code.proofs.Ranked.{rated}
@@ -52,8 +56,10 @@ letters ls m n (suc k) = letter_in ls m n ∷ letters ls m (n + 1) k
 
 -- ---- one argument
 
-value_moves : (l : Letter) (bound : Rate) (e : Expression) (ls : List Letter) (es : List Expression) → takes l bound (node_rate e) ≡ true
-    → take_rates (filter is_moving ls) bound es ≡ true → take_rates (filter is_moving (l ∷ ls)) bound (if is_settled l then es else e ∷ es) ≡ true
+value_moves : (l : Letter) (bound : Rate) (e : Expression) (ls : List Letter) (es : List Expression)
+    → takes l bound (node_rate e) ≡ true
+    → take_rates (filter is_moving ls) bound es ≡ true
+    → take_rates (filter is_moving (l ∷ ls)) bound (if is_settled l then es else e ∷ es) ≡ true
 value_moves letter.Init bound e ls es h ih = ih
 value_moves letter.Table bound e ls es h ih = ih
 value_moves letter.Control bound e ls es h ih = and_from _ _ h ih
@@ -74,7 +80,8 @@ text_moves letter.Held bound ls es h ih = absurd (cc)
 text_moves letter.Any bound ls es h ih = absurd (cc)
 text_moves letter.Text bound ls es h ih = ih
 
-value_stays : (l : Letter) (bound : Rate) (e : Expression) (es : List Expression) → takes l bound (node_rate e) ≡ true → stills es ≡ true
+value_stays : (l : Letter) (bound : Rate) (e : Expression) (es : List Expression) → takes l bound (node_rate e) ≡ true
+    → stills es ≡ true
     → stills (if is_settled l then e ∷ es else es) ≡ true
 value_stays letter.Init bound e es h ih = and_from _ _ h ih
 value_stays letter.Table bound e es h ih = and_from _ _ h ih
@@ -85,7 +92,8 @@ value_stays letter.Held bound e es h ih = ih
 value_stays letter.Any bound e es h ih = ih
 value_stays letter.Text bound e es h ih = ih
 
-value_counts : (l : Letter) (e : Expression) (ls : List Letter) (es : List Expression) → length es ≡ length (filter is_settled ls)
+value_counts : (l : Letter) (e : Expression) (ls : List Letter) (es : List Expression)
+    → length es ≡ length (filter is_settled ls)
     → length (if is_settled l then e ∷ es else es) ≡ length (filter is_settled (l ∷ ls))
 value_counts letter.Init e ls es ih = ap suc ih
 value_counts letter.Table e ls es ih = ap suc ih
@@ -96,7 +104,8 @@ value_counts letter.Held e ls es ih = ih
 value_counts letter.Any e ls es ih = ih
 value_counts letter.Text e ls es ih = ih
 
-text_counts : (l : Letter) (ls : List Letter) (es : List Expression) → is_text l ≡ true → length es ≡ length (filter is_settled ls)
+text_counts : (l : Letter) (ls : List Letter) (es : List Expression) → is_text l ≡ true
+    → length es ≡ length (filter is_settled ls)
     → length es ≡ length (filter is_settled (l ∷ ls))
 text_counts letter.Init ls es h ih = absurd (cc)
 text_counts letter.Table ls es h ih = absurd (cc)
@@ -114,28 +123,34 @@ moves : (row : Row) (bound : Rate) (n : ℕ) (args : List typed.Argument) → fi
 moves row bound n [] h = refl
 moves row bound n (typed.value e ∷ rest) h =
     let b = and_parts (takes (letter_at row n) bound (node_rate e)) (fit_letters row bound (n + 1) rest) h in
-    value_moves (letter_at row n) bound e (letters row.fixed row.more (n + 1) (length rest)) (moving row (n + 1) rest) b.0 (moves row bound (n + 1) rest b.1)
+    value_moves (letter_at row n) bound e (letters row.fixed row.more (n + 1) (length rest)) (moving row (n + 1) rest)
+    b.0 (moves row bound (n + 1) rest b.1)
 moves row bound n (typed.text v ∷ rest) h =
     let b = and_parts (is_text (letter_at row n)) (fit_letters row bound (n + 1) rest) h in
-    text_moves (letter_at row n) bound (letters row.fixed row.more (n + 1) (length rest)) (moving row (n + 1) rest) b.0 (moves row bound (n + 1) rest b.1)
+    text_moves (letter_at row n) bound (letters row.fixed row.more (n + 1) (length rest)) (moving row (n + 1) rest) b.0
+    (moves row bound (n + 1) rest b.1)
 
-stays : (row : Row) (bound : Rate) (n : ℕ) (args : List typed.Argument) → fit_letters row bound n args ≡ true → stills (settled row n args) ≡ true
+stays : (row : Row) (bound : Rate) (n : ℕ) (args : List typed.Argument) → fit_letters row bound n args ≡ true
+    → stills (settled row n args) ≡ true
 stays row bound n [] h = refl
 stays row bound n (typed.value e ∷ rest) h =
     let b = and_parts (takes (letter_at row n) bound (node_rate e)) (fit_letters row bound (n + 1) rest) h in
     value_stays (letter_at row n) bound e (settled row (n + 1) rest) b.0 (stays row bound (n + 1) rest b.1)
 stays row bound n (typed.text v ∷ rest) h =
-    let b = and_parts (is_text (letter_at row n)) (fit_letters row bound (n + 1) rest) h in stays row bound (n + 1) rest b.1
+    let b = and_parts (is_text (letter_at row n)) (fit_letters row bound (n + 1) rest) h in stays row bound (n + 1) rest
+    b.1
 
 counts : (row : Row) (bound : Rate) (n : ℕ) (args : List typed.Argument) → fit_letters row bound n args ≡ true
     → length (settled row n args) ≡ length (filter is_settled (letters row.fixed row.more n (length args)))
 counts row bound n [] h = refl
 counts row bound n (typed.value e ∷ rest) h =
     let b = and_parts (takes (letter_at row n) bound (node_rate e)) (fit_letters row bound (n + 1) rest) h in
-    value_counts (letter_at row n) e (letters row.fixed row.more (n + 1) (length rest)) (settled row (n + 1) rest) (counts row bound (n + 1) rest b.1)
+    value_counts (letter_at row n) e (letters row.fixed row.more (n + 1) (length rest)) (settled row (n + 1) rest)
+    (counts row bound (n + 1) rest b.1)
 counts row bound n (typed.text v ∷ rest) h =
     let b = and_parts (is_text (letter_at row n)) (fit_letters row bound (n + 1) rest) h in
-    text_counts (letter_at row n) (letters row.fixed row.more (n + 1) (length rest)) (settled row (n + 1) rest) b.0 (counts row bound (n + 1) rest b.1)
+    text_counts (letter_at row n) (letters row.fixed row.more (n + 1) (length rest)) (settled row (n + 1) rest) b.0
+    (counts row bound (n + 1) rest b.1)
 
 -- ---- the letters are those that must be given and what follows
 
@@ -148,7 +163,8 @@ shift l ls m n (suc k) =
     ∙ ap (λ j. letter_in ls m n ∷ letters (l ∷ ls) m j k) s
     ∙ ap (λ t. letter_in ls m n ∷ t) (shift l ls m (n + 1) k)
 
-they_are : (ls : List Letter) (m : More) (k : ℕ) → length ls ≤ k → letters ls m 0 k ≡ ls ++ letters [] m 0 (k - length ls)
+they_are : (ls : List Letter) (m : More) (k : ℕ) → length ls ≤ k
+    → letters ls m 0 k ≡ ls ++ letters [] m 0 (k - length ls)
 they_are [] m k h = ap (letters [] m 0) (omega arith)
 they_are (l ∷ ls) m zero h = let no : ⊥ = omega arith in absurd no
 they_are (l ∷ ls) m (suc k) h =
@@ -158,16 +174,20 @@ they_are (l ∷ ls) m (suc k) h =
 no_move : (l : Letter) (ls : List Letter) → is_settled l ≡ true → filter is_moving (l ∷ ls) ≡ filter is_moving ls
 no_move l ls h = rw h refl
 
-one_more : (l : Letter) (ls : List Letter) → is_settled l ≡ true → length (filter is_settled (l ∷ ls)) ≡ suc (length (filter is_settled ls))
+one_more : (l : Letter) (ls : List Letter) → is_settled l ≡ true
+    → length (filter is_settled (l ∷ ls)) ≡ suc (length (filter is_settled ls))
 one_more l ls h = rw h refl
 
-none_move : (m : More) → ((n : ℕ) → is_settled (further m n) ≡ true) → (n k : ℕ) → filter is_moving (letters [] m n k) ≡ []
+none_move : (m : More) → ((n : ℕ) → is_settled (further m n) ≡ true) → (n k : ℕ)
+    → filter is_moving (letters [] m n k) ≡ []
 none_move m h n zero = refl
 none_move m h n (suc k) = no_move (letter_in [] m n) (letters [] m (n + 1) k) (h (n - 0)) ∙ none_move m h (n + 1) k
 
-all_stay : (m : More) → ((n : ℕ) → is_settled (further m n) ≡ true) → (n k : ℕ) → length (filter is_settled (letters [] m n k)) ≡ k
+all_stay : (m : More) → ((n : ℕ) → is_settled (further m n) ≡ true) → (n k : ℕ)
+    → length (filter is_settled (letters [] m n k)) ≡ k
 all_stay m h n zero = refl
-all_stay m h n (suc k) = one_more (letter_in [] m n) (letters [] m (n + 1) k) (h (n - 0)) ∙ ap suc (all_stay m h (n + 1) k)
+all_stay m h n (suc k) =
+    one_more (letter_in [] m n) (letters [] m (n + 1) k) (h (n - 0)) ∙ ap suc (all_stay m h (n + 1) k)
 
 either : (b : Bool) (l m : Letter) → is_settled l ≡ true → is_settled m ≡ true → is_settled (if b then l else m) ≡ true
 either true l m h k = h
@@ -191,18 +211,23 @@ follow more.Nothing (suc k) h f = let e = equal (suc k) 0 f in let no : ⊥ = om
 follow (more.Perhaps l) k h f = (none_move (more.Perhaps l) (λ n. h) 0 k, all_stay (more.Perhaps l) (λ n. h) 0 k)
 follow (more.Each l) k h f = (none_move (more.Each l) (λ n. h) 0 k, all_stay (more.Each l) (λ n. h) 0 k)
 follow (more.Pairs l m) k h f =
-    let b = and_parts (is_settled l) (is_settled m) h in
-    (none_move (more.Pairs l m) (λ n. either (n % 2 == 0) l m b.0 b.1) 0 k, all_stay (more.Pairs l m) (λ n. either (n % 2 == 0) l m b.0 b.1) 0 k)
+    let b = and_parts (is_settled l) (is_settled m) h in (
+      none_move (more.Pairs l m) (λ n. either (n % 2 == 0) l m b.0 b.1) 0 k,
+      all_stay (more.Pairs l m)
+          (λ n. either (n % 2 == 0) l m b.0 b.1) 0 k,
+    )
 
 lengths : {A : Type 0} (xs ys : List A) → length (xs ++ ys) ≡ length xs + length ys
 lengths [] ys = omega arith
 lengths (x ∷ xs) ys = let e = lengths xs ys in omega (arith, e)
 
-takes_so : (row : Row) (n j : ℕ) → follows_settled row.more ≡ true → may_follow row.more j ≡ true → n ≡ length (settled_letters row) + j
+takes_so : (row : Row) (n j : ℕ) → follows_settled row.more ≡ true → may_follow row.more j ≡ true
+    → n ≡ length (settled_letters row) + j
     → unit_takes row n ≡ true
 takes_so row n j h f e =
     let d : j ≡ n - length (settled_letters row) = omega (arith, e) in
-    and_from _ _ (least (length (settled_letters row)) n (omega (arith, e))) (rw h (subst (λ t. may_follow row.more t ≡ true) d f))
+    and_from _ _ (least (length (settled_letters row)) n (omega (arith, e)))
+    (rw h (subst (λ t. may_follow row.more t ≡ true) d f))
 
 -- What a call gives its unit, where all that may follow is settled.
 pub record FitsUnit (row : Row) (bound : Rate) (args : List typed.Argument) : Type 0 where
@@ -210,16 +235,19 @@ pub record FitsUnit (row : Row) (bound : Rate) (args : List typed.Argument) : Ty
   pub settled : stills (settled row 0 args) ≡ true
   pub moving : take_rates (moving_letters row) bound (moving row 0 args) ≡ true
 
-fit : (row : Row) (bound : Rate) (args : List typed.Argument) → follows_settled row.more ≡ true → takes_count row (length args) ≡ true
+fit : (row : Row) (bound : Rate) (args : List typed.Argument) → follows_settled row.more ≡ true
+    → takes_count row (length args) ≡ true
     → fit_letters row bound 0 args ≡ true → FitsUnit row bound args
 fit row bound args h c l =
-    let b = and_parts (nat_le (length row.fixed) (length args)) (may_follow row.more (length args - length row.fixed)) c in
+    let b = and_parts (nat_le (length row.fixed) (length args)) (may_follow row.more (length args - length row.fixed))
+    c in
     let j = length args - length row.fixed in
     let all = they_are row.fixed row.more (length args) (within (length row.fixed) (length args) b.0) in
     let f = follow row.more j h b.1 in
     let count = counts row bound 0 args l ∙ ap (λ t. length (filter is_settled t)) all
     ∙ ap length (filter-append is_settled row.fixed (letters [] row.more 0 j))
-    ∙ lengths (settled_letters row) (filter is_settled (letters [] row.more 0 j)) ∙ ap (λ t. length (settled_letters row) + t) f.1 in
+    ∙ lengths (settled_letters row) (filter is_settled (letters [] row.more 0 j))
+    ∙ ap (λ t. length (settled_letters row) + t) f.1 in
     let same = ap (filter is_moving) all ∙ filter-append is_moving row.fixed (letters [] row.more 0 j)
     ∙ ap (λ t. moving_letters row ++ t) f.0 ∙ append-nil (moving_letters row) in
     record {
@@ -236,7 +264,8 @@ run_follows : (o : Opcode) → is_run (row_of o).shape ≡ true → follows_sett
 run_follows o h = when_all (λ o. is_run (row_of o).shape) (λ o. follows_settled (row_of o).more) refl o h
 
 pub run_fits : (o : Opcode) (bound : Rate) (args : List typed.Argument) → is_run (row_of o).shape ≡ true
-    → takes_count (row_of o) (length args) ≡ true → fit_letters (row_of o) bound 0 args ≡ true → FitsUnit (row_of o) bound args
+    → takes_count (row_of o) (length args) ≡ true → fit_letters (row_of o) bound 0 args ≡ true
+    → FitsUnit (row_of o) bound args
 run_fits o bound args h c l = fit (row_of o) bound args (run_follows o h) c l
 
 -- ---- the rate at which it runs
@@ -252,7 +281,8 @@ result_rate true r q h e = absurd (cc)
 result_rate false r q h e = e
 
 -- it is one that its opcode's result may have
-pub may_run : (s : Setting) (r : Rate) (vs : List Var) (o : Opcode) (args : List typed.Argument) → IsRatedCall s r vs o args
+pub may_run : (s : Setting) (r : Rate) (vs : List Var) (o : Opcode) (args : List typed.Argument)
+    → IsRatedCall s r vs o args
     → is_run (row_of o).shape ≡ true → may_run_at (row_of o) r ≡ true
 may_run s r [] o args h u = or_left _ _ (subst (λ n. (n == 0) ≡ true) h.results refl)
 may_run s r (v ∷ vs) o args h u =
@@ -266,9 +296,11 @@ unequal : (n m : ℕ) → suc n ≡ m → (m == 0) ≡ false
 unequal n m e = grind (arith, nat_tests)
 
 -- its arguments are bounded by its own rate
-pub same_bound : (s : Setting) (r : Rate) (vs : List Var) (o : Opcode) (args : List typed.Argument) → IsRatedCall s r vs o args
+pub same_bound : (s : Setting) (r : Rate) (vs : List Var) (o : Opcode) (args : List typed.Argument)
+    → IsRatedCall s r vs o args
     → is_run (row_of o).shape ≡ true → bound_by vs ≡ bound_at (row_of o) r
-same_bound s r [] o args h u = let e : (result_count (row_of o) == 0) ≡ true = subst (λ n. (n == 0) ≡ true) h.results refl in rw e refl
+same_bound s r [] o args h u = let e : (result_count (row_of o) == 0) ≡ true =
+    subst (λ n. (n == 0) ≡ true) h.results refl in rw e refl
 same_bound s r (v ∷ vs) o args h u =
     rw (unequal (length vs) (result_count (row_of o)) h.results)
     (sym (result_rate (is_starting (row_of o).shape) r (var_rate v) (not_starting (row_of o).shape u) h.done))
@@ -276,8 +308,10 @@ same_bound s r (v ∷ vs) o args h u =
 -- ---- a table is stored to evenly
 
 even : (r p q t : Rate) → (if is_audio p then is_audio q else not (is_audio q)) ≡ true → is_init t ≡ true
-    → r ≡ (if is_init p && (is_init q && (is_init t && true)) then rate.Init else (if is_audio p || (is_audio q || (is_audio t || false)) then rate.Audio else rate.Control))
-    → ((if is_audio r then is_audio p else not (is_audio p)) && (if is_audio r then is_audio q else not (is_audio q)) && is_init t) ≡ true
+    → r ≡ (if is_init p && (is_init q && (is_init t && true)) then rate.Init else
+    (if is_audio p || (is_audio q || (is_audio t || false)) then rate.Audio else rate.Control))
+    → ((if is_audio r then is_audio p else not (is_audio p)) && (if is_audio r then is_audio q else not (is_audio q))
+    && is_init t) ≡ true
 even r p q rate.Control h i e = absurd (cc)
 even r p q rate.Audio h i e = absurd (cc)
 even r rate.Init rate.Init rate.Init h i e = rw e refl
@@ -297,7 +331,8 @@ pub record FitsStore (r : Rate) (args : List typed.Argument) : Type 0 where
   pub single : length (settled (row_of op.Tablew) 0 args) ≡ 1
 
 pub store_fits : (r : Rate) (args : List typed.Argument) → takes_count (row_of op.Tablew) (length args) ≡ true
-    → fit_letters (row_of op.Tablew) rate.Audio 0 args ≡ true → stores_evenly shape.Store args ≡ true → r ≡ done_at shape.Store [] args → FitsStore r args
+    → fit_letters (row_of op.Tablew) rate.Audio 0 args ≡ true → stores_evenly shape.Store args ≡ true
+    → r ≡ done_at shape.Store [] args → FitsStore r args
 store_fits r [] c l h e = absurd (cc)
 store_fits r (a ∷ []) c l h e = absurd (cc)
 store_fits r (a ∷ b ∷ []) c l h e = absurd (cc)

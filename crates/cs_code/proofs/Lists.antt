@@ -1,8 +1,10 @@
 -- Lists of expressions and arguments.
-use Rattle.std.proofs.Common.{◌≡◌, ◌∙◌, ◌+◌, ◌<◌, ◌++◌, ◌∷◌, drop, get_or, ℕ, Bool, true, false, not, cond, List, [], length, refl, sym, ap}
+use Rattle.std.proofs.Common.{◌≡◌, ◌∙◌, ◌+◌, ◌<◌, ◌++◌, ◌∷◌, drop, get_or, ℕ, Bool, true, false, not, cond, List, []}
+use Rattle.std.proofs.Common.{length, refl, sym, ap}
 use Rattle.std.proofs.lemmas.List.{append_assoc, append-nil, drop_more}
 use Rattle.std.specs.Borrow.{Bor}
 use Rattle.cs_meaning.specs.Core.{settled, moving, values_of}
+use Rattle.cs_meaning.specs.When.{When}
 use Rattle.cs_code.specs.inner.Kept.{past}
 use Rattle.cs_typed.specs.TypedTree.{Expression, Argument, value, text, expression}
 use Rattle.cs_typed.specs.declared.tree.TypedExpr.{TypedExpr}
@@ -17,7 +19,8 @@ pub append_nothing : {A : Type 0} (xs : List A) → xs ++ [] ≡ xs
 append_nothing xs = append-nil xs
 
 -- one value more
-pub expressions_more : (es : List (Bor TypedExpr)) (e : Bor TypedExpr) → expressions_of (es ++ e ∷ []) ≡ expressions_of es ++ expression e.now ∷ []
+pub expressions_more : (es : List (Bor TypedExpr)) (e : Bor TypedExpr)
+    → expressions_of (es ++ e ∷ []) ≡ expressions_of es ++ expression e.now ∷ []
 expressions_more [] e = refl
 expressions_more (x ∷ es) e = ap (λ l. expression x.now ∷ l) (expressions_more es e)
 
@@ -41,8 +44,10 @@ moving_step row n (value e) rest = left_or (is_settled (letter_at row n)) e (mov
 moving_step row n (text v) rest = refl
 
 -- one argument more, in the loop that parts them
-pub settled_more : (row : Row) (args : List Argument) (n m : ℕ) (a : Argument) (rest : List Argument) (take : Bool) (es new total : List Expression)
-    → args ≡ a ∷ rest → take ≡ is_settled (letter_at row n) → m ≡ n + 1 → new ≡ es ++ taken take a → es ++ settled row n args ≡ total
+pub settled_more : (row : Row) (args : List Argument) (n m : ℕ) (a : Argument) (rest : List Argument) (take : Bool)
+    (es new total : List Expression)
+    → args ≡ a ∷ rest → take ≡ is_settled (letter_at row n) → m ≡ n + 1 → new ≡ es ++ taken take a
+    → es ++ settled row n args ≡ total
     → new ++ settled row m rest ≡ total
 settled_more row args n m a rest take es new total split took on made was =
     ap (λ k. new ++ settled row k rest) on
@@ -52,8 +57,10 @@ settled_more row args n m a rest take es new total split took on made was =
     ∙ ap (λ k. es ++ settled row n k) (sym split)
     ∙ was
 
-pub moving_more : (row : Row) (args : List Argument) (n m : ℕ) (a : Argument) (rest : List Argument) (take : Bool) (es new total : List Expression)
-    → args ≡ a ∷ rest → take ≡ is_settled (letter_at row n) → m ≡ n + 1 → new ≡ es ++ taken (not take) a → es ++ moving row n args ≡ total
+pub moving_more : (row : Row) (args : List Argument) (n m : ℕ) (a : Argument) (rest : List Argument) (take : Bool)
+    (es new total : List Expression)
+    → args ≡ a ∷ rest → take ≡ is_settled (letter_at row n) → m ≡ n + 1 → new ≡ es ++ taken (not take) a
+    → es ++ moving row n args ≡ total
     → new ++ moving row m rest ≡ total
 moving_more row args n m a rest take es new total split took on made was =
     ap (λ k. new ++ moving row k rest) on
@@ -67,7 +74,8 @@ values_step : (a : Argument) (rest : List Argument) → values_of (a ∷ rest) �
 values_step (value e) rest = refl
 values_step (text v) rest = refl
 
-pub values_more : (args : List Argument) (a : Argument) (rest : List Argument) (es new total : List Expression) → args ≡ a ∷ rest
+pub values_more : (args : List Argument) (a : Argument) (rest : List Argument) (es new total : List Expression)
+    → args ≡ a ∷ rest
     → new ≡ es ++ taken true a → es ++ values_of args ≡ total → new ++ values_of rest ≡ total
 values_more args a rest es new total split made was =
     ap (λ k. k ++ values_of rest) made
@@ -77,30 +85,36 @@ values_more args a rest es new total split made was =
     ∙ was
 
 -- one value more, in the loops that make code
-pub operands_more : (f : Frame) (way : Bool) (ops new total : List Op) (at now d next : ℕ) (es : List Expression) (e : Expression) (rest : List Expression)
-    → es ≡ e ∷ rest → new ≡ ops ++ operand_code f way at e d → now ≡ past at e → next ≡ d + 1 → ops ++ operands_code f way at es d ≡ total
-    → new ++ operands_code f way now rest next ≡ total
-operands_more f way ops new total at now d next es e rest split made past_it on was =
-    ap (λ k. new ++ operands_code f way k rest next) past_it
-    ∙ ap (λ k. new ++ operands_code f way (past at e) rest k) on
-    ∙ ap (λ k. k ++ operands_code f way (past at e) rest (d + 1)) made
-    ∙ append_assoc ops (operand_code f way at e d) (operands_code f way (past at e) rest (d + 1))
-    ∙ ap (λ k. ops ++ operands_code f way at k d) (sym split)
+pub operands_more : (f : Frame) (when : When) (ops new total : List Op) (at now d next : ℕ) (es : List Expression)
+    (e : Expression) (rest : List Expression)
+    → es ≡ e ∷ rest → new ≡ ops ++ operand_code f when at e d → now ≡ past at e → next ≡ d + 1
+    → ops ++ operands_code f when at es d ≡ total
+    → new ++ operands_code f when now rest next ≡ total
+operands_more f when ops new total at now d next es e rest split made past_it on was =
+    ap (λ k. new ++ operands_code f when k rest next) past_it
+    ∙ ap (λ k. new ++ operands_code f when (past at e) rest k) on
+    ∙ ap (λ k. k ++ operands_code f when (past at e) rest (d + 1)) made
+    ∙ append_assoc ops (operand_code f when at e d) (operands_code f when (past at e) rest (d + 1))
+    ∙ ap (λ k. ops ++ operands_code f when at k d) (sym split)
     ∙ was
 
-pub spots_more : (f : Frame) (way : Bool) (regs new total : List Reg) (at now d next : ℕ) (es : List Expression) (e : Expression) (rest : List Expression)
-    → es ≡ e ∷ rest → new ≡ regs ++ spot f way at e d ∷ [] → now ≡ past at e → next ≡ d + 1 → regs ++ spots f way at es d ≡ total
-    → new ++ spots f way now rest next ≡ total
-spots_more f way regs new total at now d next es e rest split made past_it on was =
-    ap (λ k. new ++ spots f way k rest next) past_it
-    ∙ ap (λ k. new ++ spots f way (past at e) rest k) on
-    ∙ ap (λ k. k ++ spots f way (past at e) rest (d + 1)) made
-    ∙ append_assoc regs (spot f way at e d ∷ []) (spots f way (past at e) rest (d + 1))
-    ∙ ap (λ k. regs ++ spots f way at k d) (sym split)
+pub spots_more : (f : Frame) (when : When) (regs new total : List Reg) (at now d next : ℕ) (es : List Expression)
+    (e : Expression) (rest : List Expression)
+    → es ≡ e ∷ rest → new ≡ regs ++ spot f when at e d ∷ [] → now ≡ past at e → next ≡ d + 1
+    → regs ++ spots f when at es d ≡ total
+    → new ++ spots f when now rest next ≡ total
+spots_more f when regs new total at now d next es e rest split made past_it on was =
+    ap (λ k. new ++ spots f when k rest next) past_it
+    ∙ ap (λ k. new ++ spots f when (past at e) rest k) on
+    ∙ ap (λ k. k ++ spots f when (past at e) rest (d + 1)) made
+    ∙ append_assoc regs (spot f when at e d ∷ []) (spots f when (past at e) rest (d + 1))
+    ∙ ap (λ k. regs ++ spots f when at k d) (sym split)
     ∙ was
 
-pub keep_more : (f : Frame) (ops new total : List Op) (at now : ℕ) (es : List Expression) (e : Expression) (rest : List Expression)
-    → es ≡ e ∷ rest → new ≡ ops ++ keep_code f at e → now ≡ past at e → ops ++ keep_all_code f at es ≡ total → new ++ keep_all_code f now rest ≡ total
+pub keep_more : (f : Frame) (ops new total : List Op) (at now : ℕ) (es : List Expression) (e : Expression)
+    (rest : List Expression)
+    → es ≡ e ∷ rest → new ≡ ops ++ keep_code f at e → now ≡ past at e → ops ++ keep_all_code f at es ≡ total
+    → new ++ keep_all_code f now rest ≡ total
 keep_more f ops new total at now es e rest split made past_it was =
     ap (λ k. new ++ keep_all_code f k rest) past_it
     ∙ ap (λ k. k ++ keep_all_code f (past at e) rest) made
@@ -109,5 +123,6 @@ keep_more f ops new total at now es e rest split made past_it was =
     ∙ was
 
 -- what is left of a list, and what is left after its first
-pub dropped : {A : Type 0} (xs : List A) (i : ℕ) (x : A) → i < length xs → x ≡ get_or xs i x → drop i xs ≡ x ∷ drop (i + 1) xs
+pub dropped : {A : Type 0} (xs : List A) (i : ℕ) (x : A) → i < length xs → x ≡ get_or xs i x
+    → drop i xs ≡ x ∷ drop (i + 1) xs
 dropped xs i x lt e = drop_more xs i x lt ∙ ap (λ y. y ∷ drop (i + 1) xs) (sym e)

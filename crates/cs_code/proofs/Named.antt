@@ -1,6 +1,8 @@
 -- What the code of a note names: its units as what they are, and channels that the piece has. And what is done in a
 -- cycle starts no unit, looks for no table and asks for no note.
-use Rattle.std.proofs.Common.{◌≡◌, ℕ, zero, suc, ◌+◌, ◌<◌, ◌≤◌, Bool, true, false, not, ◌||◌, List, [], ◌∷◌, ◌++◌, length, Option, Some, None, if◌then◌else◌, slice_get, refl, sym, ◌∙◌, ap, subst, arith, length-append}
+use Rattle.std.proofs.Common.{◌≡◌, ℕ, zero, suc, ◌+◌, ◌<◌, ◌≤◌, Bool, true, false, not, ◌||◌, List, [], ◌∷◌, ◌++◌}
+use Rattle.std.proofs.Common.{length, Option, Some, None, if◌then◌else◌, slice_get, refl, sym, ◌∙◌, ap, subst, arith}
+use Rattle.std.proofs.Common.{length-append}
 use Rattle.std.specs.Prelude.{slice_index_or}
 use Rattle.std.proofs.lemmas.Bool.{and_from}
 use Rattle.cs_base.proofs.Rates.{same_rate_is}
@@ -13,16 +15,23 @@ use Rattle.cs_ir.specs.declared.op.Act.{Act}
 use Rattle.cs_ir.specs.declared.op.Act.TheVariants as act
 use Rattle.cs_ir.specs.declared.op.Op.{Op}
 use Rattle.cs_ir.specs.declared.register.Reg.{Reg}
-use Rattle.cs_meaning.specs.Core.{Stmt, Block, Arms, set, unit, zak, store, out, out_at, ask, turnoff, nothing, choose, no_stmt, andthen, otherwise, arm}
+use Rattle.cs_meaning.specs.Core.{Stmt, Block, Arms, set, unit, zak, store, out, out_at, ask, turnoff, nothing, choose}
+use Rattle.cs_meaning.specs.Core.{no_stmt, andthen, otherwise, arm}
 use Rattle.cs_meaning.specs.Notes.{reg}
-use Rattle.cs_code.specs.inner.Kept.{Place, start, past, past_parts, past_stmt, past_block, past_arms}
+use Rattle.cs_meaning.specs.When.{When, beginning, cycle}
+use Rattle.cs_code.specs.declared.frame.Progress.{Progress}
+use Rattle.cs_code.specs.inner.Kept.{start, past, past_parts, past_stmt, past_block, past_arms}
 use Rattle.cs_typed.specs.TypedTree.{Expression, number, var, field, head, neg, pair, pick, apply}
 use Rattle.cs_typed.specs.WellRated.{node_rate}
 use Rattle.cs_typed.specs.declared.tree.Var.{Var as Variable}
 use Rattle.cs_typed.specs.declared.tree.Var.TheVariants.{Local, Global}
 use Rattle.cs_code.specs.Names.{UnitKind, stmt_units, block_units, arms_units, Names, AllNamed}
 use Rattle.cs_code.specs.inner.Frames.{Frame, op_of, kept_reg, temp, direct, spot, spots}
-use Rattle.cs_code.specs.inner.Code.{unless_there, copied, own, code, operand_code, operands_code, kept_code, keep_code, keep_all_code, set_code, target, given_code, on_code, run_code, start_code, unit_code, zak_code, seek_code, store_code, out_ops, out_at_ops, arm_code, init_code, init_block_code, first_code, all_code, perf_code, perf_block_code, perf_arms_code}
+use Rattle.cs_code.specs.inner.Code.{unless_there, copied, own, code, operand_code, operands_code, kept_code, keep_code}
+use Rattle.cs_code.specs.inner.Code.{keep_all_code, set_code, target, given_code, on_code, run_code, start_code}
+use Rattle.cs_code.specs.inner.Code.{unit_code, zak_code, seek_code, store_code, out_ops, out_at_ops, arm_code}
+use Rattle.cs_code.specs.inner.Code.{init_code, init_block_code, first_code, all_code, perf_code, perf_block_code}
+use Rattle.cs_code.specs.inner.Code.{perf_arms_code}
 
 -- ---- places in lists
 
@@ -31,7 +40,8 @@ front_at [] b i x h = absurd (cc)
 front_at (y ∷ a) b zero x h = h
 front_at (y ∷ a) b (suc i) x h = front_at a b i x h
 
-back_at : {A : Type 0} (a b : List A) (i : ℕ) (x : A) → slice_get b i ≡ Some x → slice_get (a ++ b) (length a + i) ≡ Some x
+back_at : {A : Type 0} (a b : List A) (i : ℕ) (x : A) → slice_get b i ≡ Some x
+    → slice_get (a ++ b) (length a + i) ≡ Some x
 back_at [] b i x h = ap (slice_get b) (let e : 0 + i ≡ i = omega arith in e) ∙ h
 back_at (y ∷ a) b i x h =
     let e : length (y ∷ a) + i ≡ suc (length a + i) = omega arith in
@@ -44,7 +54,8 @@ At units k part = (i : ℕ) (x : UnitKind) → slice_get part i ≡ Some x → s
 at_front : (units : List UnitKind) (k : ℕ) (a b : List UnitKind) → At units k (a ++ b) → At units k a
 at_front units k a b h = λ i x e. h i x (front_at a b i x e)
 
-at_back : (units : List UnitKind) (k n : ℕ) (a b : List UnitKind) → n ≡ k + length a → At units k (a ++ b) → At units n b
+at_back : (units : List UnitKind) (k n : ℕ) (a b : List UnitKind) → n ≡ k + length a → At units k (a ++ b)
+    → At units n b
 at_back units k n a b is h = λ i x e.
     let same : n + i ≡ k + (length a + i) = omega arith in
     ap (slice_get units) same ∙ h (length a + i) x (back_at a b i x e)
@@ -55,11 +66,11 @@ at_one units k x h = ap (slice_get units) (let e : k ≡ k + 0 = omega arith in 
 -- ---- numbers of units
 
 mutual
-  stmt_count : (p : Place) (s : Stmt) → (past_stmt p s).unit ≡ p.unit + length (stmt_units s)
+  stmt_count : (p : Progress) (s : Stmt) → (past_stmt p s).unit ≡ p.unit + length (stmt_units s)
   stmt_count p (set r v e) = omega arith
   stmt_count p (unit r vs opcode reach xs is) = refl
   stmt_count p (zak r vs opcode reach xs) = omega arith
-  stmt_count p (store r opcode reach es is) = omega arith
+  stmt_count p (store r reach es is) = omega arith
   stmt_count p (out r es) = omega arith
   stmt_count p (out_at r es) = omega arith
   stmt_count p (ask es) = omega arith
@@ -67,7 +78,7 @@ mutual
   stmt_count p nothing = omega arith
   stmt_count p (choose r arms) = arms_count p arms
 
-  pub block_count : (p : Place) (b : Block) → (past_block p b).unit ≡ p.unit + length (block_units b)
+  pub block_count : (p : Progress) (b : Block) → (past_block p b).unit ≡ p.unit + length (block_units b)
   block_count p no_stmt = omega arith
   block_count p (andthen s b) =
       let first = stmt_count p s in
@@ -75,10 +86,10 @@ mutual
       let both = length-append (stmt_units s) (block_units b) in
       omega arith
 
-  arms_count : (p : Place) (arms : Arms) → (past_arms p arms).unit ≡ p.unit + length (arms_units arms)
+  arms_count : (p : Progress) (arms : Arms) → (past_arms p arms).unit ≡ p.unit + length (arms_units arms)
   arms_count p (otherwise b) = block_count p b
   arms_count p (arm c b rest) =
-      let q : Place = past_parts (past p.part c) p in
+      let q : Progress = past_parts (past p.part c) p in
       let first = block_count q b in
       let others = arms_count (past_block q b) rest in
       let both = length-append (block_units b) (arms_units rest) in
@@ -93,7 +104,7 @@ abbrev mutual
   Narrow channels (set r v e) = Unit {0}
   Narrow channels (unit r vs opcode reach xs is) = Unit {0}
   Narrow channels (zak r vs opcode reach xs) = Unit {0}
-  Narrow channels (store r opcode reach es is) = Unit {0}
+  Narrow channels (store r reach es is) = Unit {0}
   Narrow channels (out_at r es) = Unit {0}
   Narrow channels (ask es) = Unit {0}
   Narrow channels (turnoff r) = Unit {0}
@@ -117,9 +128,10 @@ target_rate f r (Local q x ∷ vs) = into (same_rate q r) refl
     into true e = same_rate_is q r e
     into false e = refl
 
-length_spots : (f : Frame) (whole : Bool) (at : ℕ) (es : List Expression) (d : ℕ) → length (spots f whole at es d) ≡ length es
-length_spots f whole at [] d = refl
-length_spots f whole at (e ∷ es) d = ap suc (length_spots f whole (past at e) es (d + 1))
+length_spots : (f : Frame) (when : When) (at : ℕ) (es : List Expression) (d : ℕ)
+    → length (spots f when at es d) ≡ length es
+length_spots f when at [] d = refl
+length_spots f when at (e ∷ es) d = ap suc (length_spots f when (past at e) es (d + 1))
 
 -- what is done in a cycle starts no unit, looks for no table and asks for no note; as a note begins anything is done
 abbrev pub suits : Bool → Act → Bool
@@ -144,11 +156,11 @@ module _ (cycles : Bool) (channels : ℕ) (units : List UnitKind) where
   both [] b h k = k
   both (op ∷ a) b h k = (h.0, both a b h.1 k)
 
-  operand_by : (f : Frame) (whole : Bool) (e : Expression) (at d : ℕ) → ((x : Reg) → Each (own f whole at e x d))
-      → Each (operand_code f whole at e d)
-  operand_by f whole e at d h = by (direct f whole at e)
+  operand_by : (f : Frame) (when : When) (e : Expression) (at d : ℕ) → ((x : Reg) → Each (own f when at e x d))
+      → Each (operand_code f when at e d)
+  operand_by f when e at d h = by (direct f when at e)
     where
-      by : (there : Option Reg) → Each (unless_there there (own f whole at e (temp f (node_rate e) d) d))
+      by : (there : Option Reg) → Each (unless_there there (own f when at e (temp f (node_rate e) d) d))
       by (Some q) = tt
       by None = h (temp f (node_rate e) d)
 
@@ -156,46 +168,47 @@ module _ (cycles : Bool) (channels : ℕ) (units : List UnitKind) where
   copied_named (Some q) x ops h = ((tt, refl), tt)
   copied_named None x ops h = h
 
-  own_named : (f : Frame) (whole : Bool) (e : Expression) (at : ℕ) (x : Reg) (d : ℕ) → Each (own f whole at e x d)
-  own_named f whole (number r n) at x d = ((tt, refl), tt)
-  own_named f whole (var r (Local q n)) at x d = ((tt, refl), tt)
-  own_named f whole (var r (Global g)) at x d = ((tt, refl), tt)
-  own_named f whole (field r k) at x d = ((tt, refl), tt)
-  own_named f whole (head r k) at x d = ((tt, refl), tt)
-  own_named f whole (neg r a) at x d =
-      both (operand_code f whole at a d) (op_of act.Neg x (spot f whole at a d ∷ []) ∷ [])
-      (operand_by f whole a at d (λ q. own_named f whole a at q d)) ((tt, refl), tt)
-  own_named f whole (pair r o a b) at x d =
-      let last : List Op = op_of (act.Pair o) x (spots f whole at (a ∷ b ∷ []) d) ∷ [] in
-      let second : List Op = operand_code f whole (past at a) b (d + 1) in
-      both (operand_code f whole at a d) (second ++ last) (operand_by f whole a at d (λ q. own_named f whole a at q d))
-      (both second last (operand_by f whole b (past at a) (d + 1) (λ q. own_named f whole b (past at a) q (d + 1)))
+  own_named : (f : Frame) (when : When) (e : Expression) (at : ℕ) (x : Reg) (d : ℕ) → Each (own f when at e x d)
+  own_named f when (number r n) at x d = ((tt, refl), tt)
+  own_named f when (var r (Local q n)) at x d = ((tt, refl), tt)
+  own_named f when (var r (Global g)) at x d = ((tt, refl), tt)
+  own_named f when (field r k) at x d = ((tt, refl), tt)
+  own_named f when (head r k) at x d = ((tt, refl), tt)
+  own_named f when (neg r a) at x d =
+      both (operand_code f when at a d) (op_of act.Neg x (spot f when at a d ∷ []) ∷ [])
+      (operand_by f when a at d (λ q. own_named f when a at q d)) ((tt, refl), tt)
+  own_named f when (pair r o a b) at x d =
+      let last : List Op = op_of (act.Pair o) x (spots f when at (a ∷ b ∷ []) d) ∷ [] in
+      let second : List Op = operand_code f when (past at a) b (d + 1) in
+      both (operand_code f when at a d) (second ++ last) (operand_by f when a at d (λ q. own_named f when a at q d))
+      (both second last (operand_by f when b (past at a) (d + 1) (λ q. own_named f when b (past at a) q (d + 1)))
       ((tt, refl), tt))
-  own_named f whole (pick r c a b) at x d =
-      let last : List Op = op_of act.Pick x (spots f whole at (c ∷ a ∷ b ∷ []) d) ∷ [] in
+  own_named f when (pick r c a b) at x d =
+      let last : List Op = op_of act.Pick x (spots f when at (c ∷ a ∷ b ∷ []) d) ∷ [] in
       let next : ℕ = past (past at c) a in
-      let second : List Op = operand_code f whole (past at c) a (d + 1) in
-      let third : List Op = operand_code f whole next b (d + 1 + 1) in
-      both (operand_code f whole at c d) (second ++ (third ++ last))
-      (operand_by f whole c at d (λ q. own_named f whole c at q d))
+      let second : List Op = operand_code f when (past at c) a (d + 1) in
+      let third : List Op = operand_code f when next b (d + 1 + 1) in
+      both (operand_code f when at c d) (second ++ (third ++ last))
+      (operand_by f when c at d (λ q. own_named f when c at q d))
       (both second (third ++ last)
-      (operand_by f whole a (past at c) (d + 1) (λ q. own_named f whole a (past at c) q (d + 1)))
-      (both third last (operand_by f whole b next (d + 1 + 1) (λ q. own_named f whole b next q (d + 1 + 1)))
+      (operand_by f when a (past at c) (d + 1) (λ q. own_named f when a (past at c) q (d + 1)))
+      (both third last (operand_by f when b next (d + 1 + 1) (λ q. own_named f when b next q (d + 1 + 1)))
       ((tt, refl), tt)))
-  own_named f whole (apply r g a) at x d =
-      both (operand_code f whole at a d) (op_of (act.Call g) x (spot f whole at a d ∷ []) ∷ [])
-      (operand_by f whole a at d (λ q. own_named f whole a at q d)) ((tt, refl), tt)
+  own_named f when (apply r g a) at x d =
+      both (operand_code f when at a d) (op_of (act.Call g) x (spot f when at a d ∷ []) ∷ [])
+      (operand_by f when a at d (λ q. own_named f when a at q d)) ((tt, refl), tt)
 
-  code_named : (f : Frame) (whole : Bool) (e : Expression) (at : ℕ) (x : Reg) (d : ℕ) → Each (code f whole at e x d)
-  code_named f whole e at x d = copied_named (direct f whole at e) x (own f whole at e x d) (own_named f whole e at x d)
+  code_named : (f : Frame) (when : When) (e : Expression) (at : ℕ) (x : Reg) (d : ℕ) → Each (code f when at e x d)
+  code_named f when e at x d = copied_named (direct f when at e) x (own f when at e x d) (own_named f when e at x d)
 
-  operand_named : (f : Frame) (whole : Bool) (e : Expression) (at d : ℕ) → Each (operand_code f whole at e d)
-  operand_named f whole e at d = operand_by f whole e at d (λ q. own_named f whole e at q d)
+  operand_named : (f : Frame) (when : When) (e : Expression) (at d : ℕ) → Each (operand_code f when at e d)
+  operand_named f when e at d = operand_by f when e at d (λ q. own_named f when e at q d)
 
-  operands_named : (f : Frame) (whole : Bool) (es : List Expression) (at d : ℕ) → Each (operands_code f whole at es d)
-  operands_named f whole [] at d = tt
-  operands_named f whole (e ∷ es) at d =
-      both (operand_code f whole at e d) (operands_code f whole (past at e) es (d + 1)) (operand_named f whole e at d) (operands_named f whole es (past at e) (d + 1))
+  operands_named : (f : Frame) (when : When) (es : List Expression) (at d : ℕ) → Each (operands_code f when at es d)
+  operands_named f when [] at d = tt
+  operands_named f when (e ∷ es) at d =
+      both (operand_code f when at e d) (operands_code f when (past at e) es (d + 1)) (operand_named f when e at d)
+      (operands_named f when es (past at e) (d + 1))
 
   when_init : (r : Rate) (once each : List Op) → Each once → Each each → Each (if_init r once each)
   when_init rate.Init once each h k = h
@@ -203,41 +216,46 @@ module _ (cycles : Bool) (channels : ℕ) (units : List UnitKind) where
   when_init rate.Audio once each h k = k
 
   kept_named : (f : Frame) (at : ℕ) (e : Expression) → Each (kept_code f at e)
-  kept_named f at e = code_named f true e 0 (kept_reg f at) 0
+  kept_named f at e = code_named f beginning e 0 (kept_reg f at) 0
 
   keep_named : (f : Frame) (e : Expression) (at : ℕ) → Each (keep_code f at e)
   keep_named f (number r n) at = when_init r (kept_code f at (number r n)) [] (kept_named f at (number r n)) tt
   keep_named f (var r v) at = when_init r (kept_code f at (var r v)) [] (kept_named f at (var r v)) tt
   keep_named f (field r k) at = when_init r (kept_code f at (field r k)) [] (kept_named f at (field r k)) tt
   keep_named f (head r k) at = when_init r (kept_code f at (head r k)) [] (kept_named f at (head r k)) tt
-  keep_named f (neg r a) at = when_init r (kept_code f at (neg r a)) (keep_code f at a) (kept_named f at (neg r a)) (keep_named f a at)
+  keep_named f (neg r a) at =
+      when_init r (kept_code f at (neg r a)) (keep_code f at a) (kept_named f at (neg r a)) (keep_named f a at)
   keep_named f (pair r b y z) at =
-      when_init r (kept_code f at (pair r b y z)) (keep_code f at y ++ keep_code f (past at y) z) (kept_named f at (pair r b y z))
+      when_init r (kept_code f at (pair r b y z)) (keep_code f at y ++ keep_code f (past at y) z)
+      (kept_named f at (pair r b y z))
       (both (keep_code f at y) (keep_code f (past at y) z) (keep_named f y at) (keep_named f z (past at y)))
   keep_named f (pick r c y z) at =
-      when_init r (kept_code f at (pick r c y z)) (keep_code f at c ++ (keep_code f (past at c) y ++ keep_code f (past (past at c) y) z))
+      when_init r (kept_code f at (pick r c y z))
+      (keep_code f at c ++ (keep_code f (past at c) y ++ keep_code f (past (past at c) y) z))
       (kept_named f at (pick r c y z))
       (both (keep_code f at c) (keep_code f (past at c) y ++ keep_code f (past (past at c) y) z) (keep_named f c at)
-      (both (keep_code f (past at c) y) (keep_code f (past (past at c) y) z) (keep_named f y (past at c)) (keep_named f z (past (past at c) y))))
-  keep_named f (apply r g a) at = when_init r (kept_code f at (apply r g a)) (keep_code f at a) (kept_named f at (apply r g a)) (keep_named f a at)
+      (both (keep_code f (past at c) y) (keep_code f (past (past at c) y) z) (keep_named f y (past at c))
+      (keep_named f z (past (past at c) y))))
+  keep_named f (apply r g a) at =
+      when_init r (kept_code f at (apply r g a)) (keep_code f at a) (kept_named f at (apply r g a)) (keep_named f a at)
 
   keep_all_named : (f : Frame) (es : List Expression) (at : ℕ) → Each (keep_all_code f at es)
   keep_all_named f [] at = tt
   keep_all_named f (e ∷ es) at =
       both (keep_code f at e) (keep_all_code f (past at e) es) (keep_named f e at) (keep_all_named f es (past at e))
 
-  set_named : (f : Frame) (whole : Bool) (at : ℕ) (v : Variable) (e : Expression) → Each (set_code f whole at v e)
-  set_named f whole at (Local q n) e = by_rate (same_rate (node_rate e) q)
+  set_named : (f : Frame) (when : When) (at : ℕ) (v : Variable) (e : Expression) → Each (set_code f when at v e)
+  set_named f when at (Local q n) e = by_rate (same_rate (node_rate e) q)
     where
-      by_rate : (b : Bool) → Each (if b then code f whole at e (reg q n) 0
-          else operand_code f whole at e 0 ++ (op_of act.Copy (reg q n) (spot f whole at e 0 ∷ []) ∷ []))
-      by_rate true = code_named f whole e at (reg q n) 0
+      by_rate : (b : Bool) → Each (if b then code f when at e (reg q n) 0
+          else operand_code f when at e 0 ++ (op_of act.Copy (reg q n) (spot f when at e 0 ∷ []) ∷ []))
+      by_rate true = code_named f when e at (reg q n) 0
       by_rate false =
-          both (operand_code f whole at e 0) (op_of act.Copy (reg q n) (spot f whole at e 0 ∷ []) ∷ [])
-          (operand_named f whole e at 0) ((tt, refl), tt)
-  set_named f whole at (Global g) e =
-      both (operand_code f whole at e 0) (op_of (act.Save g) (spot f whole at e 0) (spot f whole at e 0 ∷ []) ∷ [])
-      (operand_named f whole e at 0) ((tt, refl), tt)
+          both (operand_code f when at e 0) (op_of act.Copy (reg q n) (spot f when at e 0 ∷ []) ∷ [])
+          (operand_named f when e at 0) ((tt, refl), tt)
+  set_named f when at (Global g) e =
+      both (operand_code f when at e 0) (op_of (act.Save g) (spot f when at e 0) (spot f when at e 0 ∷ []) ∷ [])
+      (operand_named f when e at 0) ((tt, refl), tt)
 
   given_named : (f : Frame) (r : Rate) (vs : List Variable) → Each (given_code f r vs)
   given_named f r [] = tt
@@ -249,17 +267,17 @@ module _ (cycles : Bool) (channels : ℕ) (units : List UnitKind) where
   given_named f r (Global g ∷ vs) = ((tt, refl), tt)
 
   -- an op that names what there is, on values
-  on_named : (f : Frame) (whole : Bool) (at : ℕ) (a : Act) (into : Reg) (es : List Expression)
-      → Names channels units a into.rate → suits cycles a ≡ true → Each (on_code f whole at a into es)
-  on_named f whole at a into es here done =
-      both (operands_code f whole at es 0) (op_of a into (spots f whole at es 0) ∷ []) (operands_named f whole es at 0)
+  on_named : (f : Frame) (when : When) (at : ℕ) (a : Act) (into : Reg) (es : List Expression)
+      → Names channels units a into.rate → suits cycles a ≡ true → Each (on_code f when at a into es)
+  on_named f when at a into es here done =
+      both (operands_code f when at es 0) (op_of a into (spots f when at es 0) ∷ []) (operands_named f when es at 0)
       ((here, done), tt)
 
-  run_named : (f : Frame) (whole : Bool) (at : ℕ) (a : Act) (r : Rate) (vs : List Variable) (xs : List Expression)
-      → Names channels units a r → suits cycles a ≡ true → Each (run_code f whole at a r vs xs)
-  run_named f whole at a r vs xs here done =
-      both (operands_code f whole at xs 0) (op_of a (target f r vs) (spots f whole at xs 0) ∷ given_code f r vs)
-      (operands_named f whole xs at 0)
+  run_named : (f : Frame) (when : When) (at : ℕ) (a : Act) (r : Rate) (vs : List Variable) (xs : List Expression)
+      → Names channels units a r → suits cycles a ≡ true → Each (run_code f when at a r vs xs)
+  run_named f when at a r vs xs here done =
+      both (operands_code f when at xs 0) (op_of a (target f r vs) (spots f when at xs 0) ∷ given_code f r vs)
+      (operands_named f when xs at 0)
       ((subst (Names channels units a) (sym (target_rate f r vs)) here, done), given_named f r vs)
 
   out_named : (c : ℕ) (qs : List Reg) → c + length qs ≤ channels → Each (out_ops c qs)
@@ -271,41 +289,50 @@ module _ (cycles : Bool) (channels : ℕ) (units : List UnitKind) where
   out_at_named (p ∷ []) = tt
   out_at_named (p ∷ (q ∷ qs)) = ((tt, refl), out_at_named qs)
 
-  arm_named : (place : ℕ) (before : List Op) (q : Reg) (body rest : List Op) → Each before → Each body → Each rest → Each (arm_code place before q body rest)
+  arm_named : (place : ℕ) (before : List Op) (q : Reg) (body rest : List Op) → Each before → Each body → Each rest
+      → Each (arm_code place before q body rest)
   arm_named place before q body rest h k l =
       let jump : Op = op_of (act.Jump (place + length before + 1 + length body + 1 + length rest)) q [] in
       let test : Op = op_of (act.Unless (place + length before + 1 + length body + 1)) q (q ∷ []) in
       both before (test ∷ (body ++ (jump ∷ rest))) h ((tt, refl), both body (jump ∷ rest) k ((tt, refl), l))
 
   mutual
-    init_named : not cycles ≡ true → (f : Frame) (place : ℕ) (p : Place) (s : Stmt) → At units p.unit (stmt_units s) → Each (init_code f place p s)
-    init_named begin f place p (set r v e) h = when_init r (set_code f true 0 v e) (keep_code f p.part e) (set_named f true 0 v e) (keep_named f e p.part)
+    init_named : not cycles ≡ true → (f : Frame) (place : ℕ) (p : Progress) (s : Stmt) → At units p.unit (stmt_units s)
+        → Each (init_code f place p s)
+    init_named begin f place p (set r v e) h =
+        when_init r (set_code f beginning 0 v e) (keep_code f p.part e) (set_named f beginning 0 v e)
+        (keep_named f e p.part)
     init_named begin f place p (unit r vs opcode reach xs is) h =
         let here = at_one units p.unit (record { opcode = opcode; rate = r }) h in
         let starts : List Op = start_code f r opcode p.unit is in
-        let runs : List Op = unit_code f true 0 r vs opcode p.unit reach xs in
+        let runs : List Op = unit_code f beginning 0 r vs opcode p.unit reach xs in
         when_init r (starts ++ runs) (keep_all_code f p.part xs ++ starts)
-        (both starts runs (on_named f true 0 (act.Start opcode p.unit) (reg r 0) is here begin) (run_named f true 0 (act.Unit opcode p.unit reach) r vs xs here refl))
-        (both (keep_all_code f p.part xs) starts (keep_all_named f xs p.part) (on_named f true 0 (act.Start opcode p.unit) (reg r 0) is here begin))
+        (both starts runs (on_named f beginning 0 (act.Start opcode p.unit) (reg r 0) is here begin)
+        (run_named f beginning 0 (act.Unit opcode p.unit reach) r vs xs here refl))
+        (both (keep_all_code f p.part xs) starts (keep_all_named f xs p.part)
+        (on_named f beginning 0 (act.Start opcode p.unit) (reg r 0) is here begin))
     init_named begin f place p (zak r vs opcode reach xs) h =
-        when_init r (zak_code f true 0 r vs opcode reach xs) (keep_all_code f p.part xs) (run_named f true 0 (act.Zak opcode reach) r vs xs tt refl)
+        when_init r (zak_code f beginning 0 r vs opcode reach xs) (keep_all_code f p.part xs)
+        (run_named f beginning 0 (act.Zak opcode reach) r vs xs tt refl)
         (keep_all_named f xs p.part)
-    init_named begin f place p (store r opcode reach es is) h =
+    init_named begin f place p (store r reach es is) h =
         let seeks : List Op = seek_code f is in
-        let stores : List Op = store_code f true 0 r opcode reach es in
-        let sought = on_named f true 0 act.Seek (reg rate.Init 0) is tt begin in
+        let stores : List Op = store_code f beginning 0 r reach es in
+        let sought = on_named f beginning 0 act.Seek (reg rate.Init 0) is tt begin in
         when_init r (seeks ++ stores) (keep_all_code f p.part es ++ seeks)
-        (both seeks stores sought (on_named f true 0 (act.Store opcode reach) (reg r 0) es tt refl))
+        (both seeks stores sought (on_named f beginning 0 (act.Store reach) (reg r 0) es tt refl))
         (both (keep_all_code f p.part es) seeks (keep_all_named f es p.part) sought)
     init_named begin f place p (out r es) h = keep_all_named f es p.part
     init_named begin f place p (out_at r es) h = keep_all_named f es p.part
-    init_named begin f place p (ask es) h = on_named f true 0 act.Ask (reg rate.Init 0) es tt begin
+    init_named begin f place p (ask es) h = on_named f beginning 0 act.Ask (reg rate.Init 0) es tt begin
     init_named begin f place p (turnoff r) h = tt
     init_named begin f place p nothing h = tt
     init_named begin f place p (choose r arms) h =
-        when_init r (first_code f place p arms) (all_code f place p arms) (first_named begin f place p arms h) (all_named begin f place p arms h)
+        when_init r (first_code f place p arms) (all_code f place p arms) (first_named begin f place p arms h)
+        (all_named begin f place p arms h)
 
-    pub init_block_named : not cycles ≡ true → (f : Frame) (place : ℕ) (p : Place) (b : Block) → At units p.unit (block_units b) → Each (init_block_code f place p b)
+    pub init_block_named : not cycles ≡ true → (f : Frame) (place : ℕ) (p : Progress) (b : Block)
+        → At units p.unit (block_units b) → Each (init_block_code f place p b)
     init_block_named begin f place p no_stmt h = tt
     init_block_named begin f place p (andthen s b) h =
         both (init_code f place p s) (init_block_code f (place + length (init_code f place p s)) (past_stmt p s) b)
@@ -313,52 +340,65 @@ module _ (cycles : Bool) (channels : ℕ) (units : List UnitKind) where
         (init_block_named begin f (place + length (init_code f place p s)) (past_stmt p s) b
         (at_back units p.unit (past_stmt p s).unit (stmt_units s) (block_units b) (stmt_count p s) h))
 
-    first_named : not cycles ≡ true → (f : Frame) (place : ℕ) (p : Place) (arms : Arms) → At units p.unit (arms_units arms) → Each (first_code f place p arms)
+    first_named : not cycles ≡ true → (f : Frame) (place : ℕ) (p : Progress) (arms : Arms)
+        → At units p.unit (arms_units arms) → Each (first_code f place p arms)
     first_named begin f place p (otherwise b) h = init_block_named begin f place p b h
     first_named begin f place p (arm c b rest) h =
         let before : List Op = keep_code f p.part c in
-        let q : Place = past_parts (past p.part c) p in
+        let q : Progress = past_parts (past p.part c) p in
         let body : List Op = init_block_code f (place + length before + 1) q b in
-        arm_named place before (kept_reg f p.part) body (first_code f (place + length before + 1 + length body + 1) (past_block q b) rest)
+        arm_named place before (kept_reg f p.part) body
+        (first_code f (place + length before + 1 + length body + 1) (past_block q b) rest)
         (keep_named f c p.part)
-        (init_block_named begin f (place + length before + 1) q b (at_front units p.unit (block_units b) (arms_units rest) h))
+        (init_block_named begin f (place + length before + 1) q b
+        (at_front units p.unit (block_units b) (arms_units rest) h))
         (first_named begin f (place + length before + 1 + length body + 1) (past_block q b) rest
         (at_back units p.unit (past_block q b).unit (block_units b) (arms_units rest) (block_count q b) h))
 
-    all_named : not cycles ≡ true → (f : Frame) (place : ℕ) (p : Place) (arms : Arms) → At units p.unit (arms_units arms) → Each (all_code f place p arms)
+    all_named : not cycles ≡ true → (f : Frame) (place : ℕ) (p : Progress) (arms : Arms)
+        → At units p.unit (arms_units arms) → Each (all_code f place p arms)
     all_named begin f place p (otherwise b) h = init_block_named begin f place p b h
     all_named begin f place p (arm c b rest) h =
         let before : List Op = keep_code f p.part c in
-        let q : Place = past_parts (past p.part c) p in
+        let q : Progress = past_parts (past p.part c) p in
         let body : List Op = init_block_code f (place + length before) q b in
         let others : List Op = all_code f (place + length before + length body) (past_block q b) rest in
         both before (body ++ others) (keep_named f c p.part)
-        (both body others (init_block_named begin f (place + length before) q b (at_front units p.unit (block_units b) (arms_units rest) h))
+        (both body others (init_block_named begin f (place + length before) q b
+        (at_front units p.unit (block_units b) (arms_units rest) h))
         (all_named begin f (place + length before + length body) (past_block q b) rest
         (at_back units p.unit (past_block q b).unit (block_units b) (arms_units rest) (block_count q b) h)))
 
   mutual
-    perf_named : (f : Frame) (place : ℕ) (p : Place) (s : Stmt) → At units p.unit (stmt_units s) → Narrow channels s → Each (perf_code f place p s)
-    perf_named f place p (set r v e) h n = when_init r [] (set_code f false p.part v e) tt (set_named f false p.part v e)
+    perf_named : (f : Frame) (place : ℕ) (p : Progress) (s : Stmt) → At units p.unit (stmt_units s) → Narrow channels s
+        → Each (perf_code f place p s)
+    perf_named f place p (set r v e) h n =
+        when_init r [] (set_code f cycle p.part v e) tt (set_named f cycle p.part v e)
     perf_named f place p (unit r vs opcode reach xs is) h n =
-        when_init r [] (unit_code f false p.part r vs opcode p.unit reach xs) tt
-        (run_named f false p.part (act.Unit opcode p.unit reach) r vs xs (at_one units p.unit (record { opcode = opcode; rate = r }) h) refl)
+        when_init r [] (unit_code f cycle p.part r vs opcode p.unit reach xs) tt
+        (run_named f cycle p.part (act.Unit opcode p.unit reach) r vs xs
+        (at_one units p.unit (record { opcode = opcode; rate = r }) h) refl)
     perf_named f place p (zak r vs opcode reach xs) h n =
-        when_init r [] (zak_code f false p.part r vs opcode reach xs) tt (run_named f false p.part (act.Zak opcode reach) r vs xs tt refl)
-    perf_named f place p (store r opcode reach es is) h n =
-        when_init r [] (store_code f false p.part r opcode reach es) tt (on_named f false p.part (act.Store opcode reach) (reg r 0) es tt refl)
+        when_init r [] (zak_code f cycle p.part r vs opcode reach xs) tt
+        (run_named f cycle p.part (act.Zak opcode reach) r vs xs tt refl)
+    perf_named f place p (store r reach es is) h n =
+        when_init r [] (store_code f cycle p.part r reach es) tt
+        (on_named f cycle p.part (act.Store reach) (reg r 0) es tt refl)
     perf_named f place p (out r es) h n =
-        both (operands_code f false p.part es 0) (out_ops 0 (spots f false p.part es 0)) (operands_named f false es p.part 0)
-        (out_named 0 (spots f false p.part es 0) (let l = length_spots f false p.part es 0 in omega arith))
+        both (operands_code f cycle p.part es 0) (out_ops 0 (spots f cycle p.part es 0))
+        (operands_named f cycle es p.part 0)
+        (out_named 0 (spots f cycle p.part es 0) (let l = length_spots f cycle p.part es 0 in omega arith))
     perf_named f place p (out_at r es) h n =
-        both (operands_code f false p.part es 0) (out_at_ops (spots f false p.part es 0)) (operands_named f false es p.part 0)
-        (out_at_named (spots f false p.part es 0))
+        both (operands_code f cycle p.part es 0) (out_at_ops (spots f cycle p.part es 0))
+        (operands_named f cycle es p.part 0)
+        (out_at_named (spots f cycle p.part es 0))
     perf_named f place p (ask es) h n = tt
     perf_named f place p (turnoff r) h n = ((tt, refl), tt)
     perf_named f place p nothing h n = tt
     perf_named f place p (choose r arms) h n = perf_arms_named f place p arms h n
 
-    pub perf_block_named : (f : Frame) (place : ℕ) (p : Place) (b : Block) → At units p.unit (block_units b) → NarrowBlock channels b
+    pub perf_block_named : (f : Frame) (place : ℕ) (p : Progress) (b : Block) → At units p.unit (block_units b)
+        → NarrowBlock channels b
         → Each (perf_block_code f place p b)
     perf_block_named f place p no_stmt h n = tt
     perf_block_named f place p (andthen s b) h n =
@@ -367,23 +407,27 @@ module _ (cycles : Bool) (channels : ℕ) (units : List UnitKind) where
         (perf_block_named f (place + length (perf_code f place p s)) (past_stmt p s) b
         (at_back units p.unit (past_stmt p s).unit (stmt_units s) (block_units b) (stmt_count p s) h) n.1)
 
-    perf_arms_named : (f : Frame) (place : ℕ) (p : Place) (arms : Arms) → At units p.unit (arms_units arms) → NarrowArms channels arms
+    perf_arms_named : (f : Frame) (place : ℕ) (p : Progress) (arms : Arms) → At units p.unit (arms_units arms)
+        → NarrowArms channels arms
         → Each (perf_arms_code f place p arms)
     perf_arms_named f place p (otherwise b) h n = perf_block_named f place p b h n
     perf_arms_named f place p (arm c b rest) h n =
-        let before : List Op = operand_code f false p.part c 0 in
-        let q : Place = past_parts (past p.part c) p in
+        let before : List Op = operand_code f cycle p.part c 0 in
+        let q : Progress = past_parts (past p.part c) p in
         let body : List Op = perf_block_code f (place + length before + 1) q b in
-        arm_named place before (spot f false p.part c 0) body (perf_arms_code f (place + length before + 1 + length body + 1) (past_block q b) rest)
-        (operand_named f false c p.part 0)
-        (perf_block_named f (place + length before + 1) q b (at_front units p.unit (block_units b) (arms_units rest) h) n.0)
+        arm_named place before (spot f cycle p.part c 0) body
+        (perf_arms_code f (place + length before + 1 + length body + 1) (past_block q b) rest)
+        (operand_named f cycle c p.part 0)
+        (perf_block_named f (place + length before + 1) q b (at_front units p.unit (block_units b) (arms_units rest) h)
+        n.0)
         (perf_arms_named f (place + length before + 1 + length body + 1) (past_block q b) rest
         (at_back units p.unit (past_block q b).unit (block_units b) (arms_units rest) (block_count q b) h) n.1)
 
 pub whole_at : (units : List UnitKind) → At units 0 units
 whole_at units = λ i x e. ap (slice_get units) (let z : 0 + i ≡ i = omega arith in z) ∙ e
 
-pub init_names : (channels : ℕ) (f : Frame) (b : Block) → AllNamed channels (block_units b) (init_block_code f 0 start b)
+pub init_names : (channels : ℕ) (f : Frame) (b : Block)
+    → AllNamed channels (block_units b) (init_block_code f 0 start b)
 init_names channels f b =
     each_all false channels (block_units b) (init_block_code f 0 start b)
     (init_block_named false channels (block_units b) refl f 0 start b (whole_at (block_units b)))
@@ -398,10 +442,12 @@ or_none : (b : Bool) → (b || false) ≡ true → b ≡ true
 or_none true h = refl
 or_none false h = absurd (cc)
 
-in_cycle : (channels : ℕ) (units : List UnitKind) (ops : List Op) → Each true channels units ops → are_of_cycle ops ≡ true
+in_cycle : (channels : ℕ) (units : List UnitKind) (ops : List Op) → Each true channels units ops
+    → are_of_cycle ops ≡ true
 in_cycle channels units [] h = refl
 in_cycle channels units (op ∷ ops) h =
-    and_from (is_of_cycle op.act) (are_of_cycle ops) (or_none (is_of_cycle op.act) h.0.1) (in_cycle channels units ops h.1)
+    and_from (is_of_cycle op.act) (are_of_cycle ops) (or_none (is_of_cycle op.act) h.0.1)
+    (in_cycle channels units ops h.1)
 
 -- the performance of statements starts no unit, looks for no table and asks for no note
 pub perf_cycles : (channels : ℕ) (f : Frame) (b : Block) → NarrowBlock channels b

@@ -1,16 +1,18 @@
 -- Nodes of expressions.
-use Rattle.std.proofs.Common.{◌≡◌, ◌+◌, ◌∷◌, ℕ, Bool, true, false, [], Some, None, refl, ap}
+use Rattle.std.proofs.Common.{◌≡◌, ◌+◌, ◌∷◌, ℕ, [], Some, None, refl, ap}
 use Rattle.std.proofs.lemmas.Option.{none-some}
 use Rattle.cs_base.specs.declared.resource.Rate.{Rate}
 use Rattle.cs_base.specs.declared.resource.Rate.TheVariants as rate
 use Rattle.cs_ir.specs.Waves.{if_init}
 use Rattle.cs_ir.specs.declared.op.Act.TheVariants as act
 use Rattle.cs_ir.specs.declared.register.Reg.{Reg}
+use Rattle.cs_meaning.specs.When.{When, beginning, cycle}
 use Rattle.cs_code.specs.inner.Kept.{past}
 use Rattle.cs_typed.specs.TypedTree.{Expression, of_part, number, var, field, head, neg, pair, pick, apply}
 use Rattle.cs_typed.specs.WellRated.{node_rate}
 use Rattle.cs_typed.specs.declared.tree.TypedPart.{TypedPart}
-use Rattle.cs_typed.specs.declared.tree.TypedPart.TheVariants.{Number, Var, Field, Head as HeadName', Neg', Pair', Pick', Call'}
+use Rattle.cs_typed.specs.declared.tree.TypedPart.TheVariants.{Number, Var, Field, Head as HeadName', Neg', Pair'}
+use Rattle.cs_typed.specs.declared.tree.TypedPart.TheVariants.{Pick', Call'}
 use Rattle.cs_code.specs.inner.Code.{own, code, operand_code, unless_there, copied, keep_code, kept_code}
 use Rattle.cs_code.specs.inner.Emitted.{parts_code, parts_past}
 use Rattle.cs_code.specs.inner.Frames.{Frame, op_of, direct, kept_or, spot, temp, reg_or}
@@ -26,44 +28,53 @@ rate_of_part r (Pick' p rc c q ra a s rb b) = refl
 rate_of_part r (Call' f p ra a) = refl
 
 -- a value that stands somewhere already, and one that doesn't
-pub there_code : (f : Frame) (w : Bool) (at : ℕ) (e : Expression) (d : ℕ) (q : Reg) → direct f w at e ≡ Some q → operand_code f w at e d ≡ []
-there_code f w at e d q h = ap (λ o. unless_there o (own f w at e (temp f (node_rate e) d) d)) h
+pub there_code : (f : Frame) (when : When) (at : ℕ) (e : Expression) (d : ℕ) (q : Reg) → direct f when at e ≡ Some q
+    → operand_code f when at e d ≡ []
+there_code f when at e d q h = ap (λ o. unless_there o (own f when at e (temp f (node_rate e) d) d)) h
 
-pub there_spot : (f : Frame) (w : Bool) (at : ℕ) (e : Expression) (d : ℕ) (q : Reg) → direct f w at e ≡ Some q → spot f w at e d ≡ q
-there_spot f w at e d q h = ap (λ o. reg_or o (temp f (node_rate e) d)) h
+pub there_spot : (f : Frame) (when : When) (at : ℕ) (e : Expression) (d : ℕ) (q : Reg) → direct f when at e ≡ Some q
+    → spot f when at e d ≡ q
+there_spot f when at e d q h = ap (λ o. reg_or o (temp f (node_rate e) d)) h
 
-pub there_copied : (f : Frame) (w : Bool) (at : ℕ) (e : Expression) (x : Reg) (d : ℕ) (q : Reg) → direct f w at e ≡ Some q → code f w at e x d
+pub there_copied : (f : Frame) (when : When) (at : ℕ) (e : Expression) (x : Reg) (d : ℕ) (q : Reg)
+    → direct f when at e ≡ Some q → code f when at e x d
     ≡ op_of act.Copy x (q ∷ []) ∷ []
-there_copied f w at e x d q h = ap (λ o. copied o x (own f w at e x d)) h
+there_copied f when at e x d q h = ap (λ o. copied o x (own f when at e x d)) h
 
-pub made_code : (f : Frame) (w : Bool) (at : ℕ) (e : Expression) (d : ℕ) → direct f w at e ≡ None → operand_code f w at e d
-    ≡ own f w at e (temp f (node_rate e) d) d
-made_code f w at e d h = ap (λ o. unless_there o (own f w at e (temp f (node_rate e) d) d)) h
+pub made_code : (f : Frame) (when : When) (at : ℕ) (e : Expression) (d : ℕ) → direct f when at e ≡ None
+    → operand_code f when at e d
+    ≡ own f when at e (temp f (node_rate e) d) d
+made_code f when at e d h = ap (λ o. unless_there o (own f when at e (temp f (node_rate e) d) d)) h
 
-pub made_spot : (f : Frame) (w : Bool) (at : ℕ) (e : Expression) (d : ℕ) → direct f w at e ≡ None → spot f w at e d ≡ temp f (node_rate e) d
-made_spot f w at e d h = ap (λ o. reg_or o (temp f (node_rate e) d)) h
+pub made_spot : (f : Frame) (when : When) (at : ℕ) (e : Expression) (d : ℕ) → direct f when at e ≡ None
+    → spot f when at e d ≡ temp f (node_rate e) d
+made_spot f when at e d h = ap (λ o. reg_or o (temp f (node_rate e) d)) h
 
-pub made_copied : (f : Frame) (w : Bool) (at : ℕ) (e : Expression) (x : Reg) (d : ℕ) → direct f w at e ≡ None → code f w at e x d ≡ own f w at e x d
-made_copied f w at e x d h = ap (λ o. copied o x (own f w at e x d)) h
+pub made_copied : (f : Frame) (when : When) (at : ℕ) (e : Expression) (x : Reg) (d : ℕ) → direct f when at e ≡ None
+    → code f when at e x d ≡ own f when at e x d
+made_copied f when at e x d h = ap (λ o. copied o x (own f when at e x d)) h
 
-inner_past : (f : Frame) (w : Bool) (r : Rate) (at parts : ℕ) (q : Reg) → kept_or f w r at None ≡ Some q → if_init r (at + 1) parts ≡ if_init r (at + 1) at
-inner_past f true r at parts q h = absurd (none-some q h)
-inner_past f false rate.Init at parts q h = refl
-inner_past f false rate.Control at parts q h = absurd (none-some q h)
-inner_past f false rate.Audio at parts q h = absurd (none-some q h)
+inner_past : (f : Frame) (when : When) (r : Rate) (at parts : ℕ) (q : Reg) → kept_or f when r at None ≡ Some q
+    → if_init r (at + 1) parts ≡ if_init r (at + 1) at
+inner_past f beginning r at parts q h = absurd (none-some q h)
+inner_past f cycle rate.Init at parts q h = refl
+inner_past f cycle rate.Control at parts q h = absurd (none-some q h)
+inner_past f cycle rate.Audio at parts q h = absurd (none-some q h)
 
-pub there_past : (f : Frame) (w : Bool) (at : ℕ) (e : Expression) (q : Reg) → direct f w at e ≡ Some q → past at e ≡ if_init (node_rate e) (at + 1) at
-there_past f w at (number r n) q h = refl
-there_past f w at (var r v) q h = refl
-there_past f w at (field r k) q h = refl
-there_past f w at (head r n) q h = refl
-there_past f w at (neg r a) q h = inner_past f w r at (past at a) q h
-there_past f w at (pair r o a b) q h = inner_past f w r at (past (past at a) b) q h
-there_past f w at (pick r c a b) q h = inner_past f w r at (past (past (past at c) a) b) q h
-there_past f w at (apply r g a) q h = inner_past f w r at (past at a) q h
+pub there_past : (f : Frame) (when : When) (at : ℕ) (e : Expression) (q : Reg) → direct f when at e ≡ Some q
+    → past at e ≡ if_init (node_rate e) (at + 1) at
+there_past f when at (number r n) q h = refl
+there_past f when at (var r v) q h = refl
+there_past f when at (field r k) q h = refl
+there_past f when at (head r n) q h = refl
+there_past f when at (neg r a) q h = inner_past f when r at (past at a) q h
+there_past f when at (pair r o a b) q h = inner_past f when r at (past (past at a) b) q h
+there_past f when at (pick r c a b) q h = inner_past f when r at (past (past (past at c) a) b) q h
+there_past f when at (apply r g a) q h = inner_past f when r at (past at a) q h
 
 -- an expression is kept as a whole or by its parts
-pub keep_splits : (f : Frame) (at : ℕ) (e : Expression) → keep_code f at e ≡ if_init (node_rate e) (kept_code f at e) (parts_code f at e)
+pub keep_splits : (f : Frame) (at : ℕ) (e : Expression)
+    → keep_code f at e ≡ if_init (node_rate e) (kept_code f at e) (parts_code f at e)
 keep_splits f at (number r n) = refl
 keep_splits f at (var r v) = refl
 keep_splits f at (field r k) = refl

@@ -14,10 +14,11 @@ use Rattle.cs_meaning.specs.Notes.{Path, next, unit_past, unit_past_block, unit_
 use Rattle.cs_typed.specs.TypedTree.{Expression, number, var, field, head, neg, pair, pick, apply}
 use Rattle.cs_typed.specs.WellRated.{node_rate}
 use Rattle.cs_code.specs.inner.Frames.{frame_for, parts_of}
-use Rattle.cs_code.specs.inner.Kept.{Place, start, past, past_all, past_parts, past_stmt, past_block, past_arms, itself}
+use Rattle.cs_code.specs.declared.frame.Progress.{Progress}
+use Rattle.cs_code.specs.inner.Kept.{start, past, past_all, past_parts, past_stmt, past_block, past_arms, itself}
 use Rattle.cs_code.specs.inner.Kept.{nowhere, parts, numbers, all_numbers, stmt_numbers, block_numbers, arms_numbers}
 use Rattle.cs_code.specs.inner.Kept.{inward, register_from, registers}
-use Rattle.cs_code.proofs.Inside.{Fits, LaysOn, behind}
+use Rattle.cs_code.proofs.Inside.{Fits, LaysOn, behind, behind_is}
 
 -- ---- numbers grow
 
@@ -49,11 +50,11 @@ if_below rate.Control at n h = h
 if_below rate.Audio at n h = h
 
 mutual
-  stmt_grows : (p : Place) (s : Stmt) → p.part ≤ (past_stmt p s).part
+  stmt_grows : (p : Progress) (s : Stmt) → p.part ≤ (past_stmt p s).part
   stmt_grows p (set r v e) = if_below r p.part (past p.part e) (past_grows p.part e)
   stmt_grows p (unit r vs opcode reach xs is) = if_below r p.part (past_all p.part xs) (past_all_grows p.part xs)
   stmt_grows p (zak r vs opcode reach xs) = if_below r p.part (past_all p.part xs) (past_all_grows p.part xs)
-  stmt_grows p (store r opcode reach es is) = if_below r p.part (past_all p.part es) (past_all_grows p.part es)
+  stmt_grows p (store r reach es is) = if_below r p.part (past_all p.part es) (past_all_grows p.part es)
   stmt_grows p (out r es) = past_all_grows p.part es
   stmt_grows p (out_at r es) = past_all_grows p.part es
   stmt_grows p (ask es) = omega arith
@@ -61,11 +62,11 @@ mutual
   stmt_grows p nothing = omega arith
   stmt_grows p (choose r arms) = arms_grow p arms
 
-  block_grows : (p : Place) (b : Block) → p.part ≤ (past_block p b).part
+  block_grows : (p : Progress) (b : Block) → p.part ≤ (past_block p b).part
   block_grows p no_stmt = omega arith
   block_grows p (andthen s b) = le_trans (stmt_grows p s) (block_grows (past_stmt p s) b)
 
-  arms_grow : (p : Place) (arms : Arms) → p.part ≤ (past_arms p arms).part
+  arms_grow : (p : Progress) (arms : Arms) → p.part ≤ (past_arms p arms).part
   arms_grow p (otherwise b) = block_grows p b
   arms_grow p (arm c b rest) =
       le_trans (past_grows p.part c)
@@ -168,7 +169,7 @@ all_ranged at (e ∷ es) =
     (past_all_grows (past at e) es) (ranged at e) (all_ranged (past at e) es)
 
 mutual
-  stmt_ranged : (p : Place) (s : Stmt) → Ranged p.part (past_stmt p s).part (stmt_numbers p s)
+  stmt_ranged : (p : Progress) (s : Stmt) → Ranged p.part (past_stmt p s).part (stmt_numbers p s)
   stmt_ranged p (set r v e) =
       unless_ranged r p.part (past p.part e) (parts (numbers p.part e) nowhere)
       (last_ranged p.part (past p.part e) (numbers p.part e) (past_grows p.part e) (ranged p.part e))
@@ -176,7 +177,7 @@ mutual
       unless_ranged r p.part (past_all p.part xs) (all_numbers p.part xs) (all_ranged p.part xs)
   stmt_ranged p (zak r vs opcode reach xs) =
       unless_ranged r p.part (past_all p.part xs) (all_numbers p.part xs) (all_ranged p.part xs)
-  stmt_ranged p (store r opcode reach es is) =
+  stmt_ranged p (store r reach es is) =
       unless_ranged r p.part (past_all p.part es) (all_numbers p.part es) (all_ranged p.part es)
   stmt_ranged p (out r es) = all_ranged p.part es
   stmt_ranged p (out_at r es) = all_ranged p.part es
@@ -185,20 +186,20 @@ mutual
   stmt_ranged p nothing = nowhere_ranged p.part p.part
   stmt_ranged p (choose r arms) = arms_ranged p arms
 
-  block_ranged : (p : Place) (b : Block) → Ranged p.part (past_block p b).part (block_numbers p b)
+  block_ranged : (p : Progress) (b : Block) → Ranged p.part (past_block p b).part (block_numbers p b)
   block_ranged p no_stmt = nowhere_ranged p.part p.part
   block_ranged p (andthen s b) =
-      let q : Place = past_stmt p s in
+      let q : Progress = past_stmt p s in
       parts_ranged p.part q.part (past_block q b).part (stmt_numbers p s) (block_numbers q b) (stmt_grows p s)
       (block_grows q b)
       (stmt_ranged p s) (block_ranged q b)
 
-  arms_ranged : (p : Place) (arms : Arms) → Ranged p.part (past_arms p arms).part (arms_numbers p arms)
+  arms_ranged : (p : Progress) (arms : Arms) → Ranged p.part (past_arms p arms).part (arms_numbers p arms)
   arms_ranged p (otherwise b) =
       last_ranged p.part (past_block p b).part (block_numbers p b) (block_grows p b) (block_ranged p b)
   arms_ranged p (arm c b rest) =
-      let q : Place = past_parts (past p.part c) p in
-      let after : Place = past_block q b in
+      let q : Progress = past_parts (past p.part c) p in
+      let after : Progress = past_block q b in
       let end : ℕ = (past_arms after rest).part in
       parts_ranged p.part after.part end (parts (numbers p.part c) (parts (block_numbers q b) nowhere))
       (arms_numbers after rest)
@@ -239,14 +240,7 @@ registers_lay first b k q =
     ∙ ap (λ j. j ∷ q) (add-zero k))
   where
     at_front : (k n : ℕ) (q : Path) → inward (behind k (n ∷ [])) q ≡ (k + n) ∷ q
-    at_front zero n q = ap (λ j. j ∷ q) (none n)
-      where
-        none : (n : ℕ) → n ≡ 0 + n
-        none n = omega arith
-    at_front (suc k) n q = at_front k (suc n) q ∙ ap (λ j. j ∷ q) (further k n)
-      where
-        further : (k n : ℕ) → k + suc n ≡ suc k + n
-        further k n = omega arith
+    at_front k n q = ap (λ p. inward p q) (behind_is k n [])
 
 -- the frame of a block has room for it
 pub frame_fits : (counts : PerRate ℕ) (b : Block) → Fits (frame_for counts b) (at_rate counts) (registers counts.init b)
@@ -294,11 +288,11 @@ still_number at (apply r g x) h = still_once at r _ h
 -- ---- units
 
 mutual
-  pub stmt_unit : (p : Place) (s : Stmt) → (past_stmt p s).unit ≡ unit_past p.unit s
+  pub stmt_unit : (p : Progress) (s : Stmt) → (past_stmt p s).unit ≡ unit_past p.unit s
   stmt_unit p (set r v e) = refl
   stmt_unit p (unit r vs opcode reach xs is) = refl
   stmt_unit p (zak r vs opcode reach xs) = refl
-  stmt_unit p (store r opcode reach es is) = refl
+  stmt_unit p (store r reach es is) = refl
   stmt_unit p (out r es) = refl
   stmt_unit p (out_at r es) = refl
   stmt_unit p (ask es) = refl
@@ -306,12 +300,12 @@ mutual
   stmt_unit p nothing = refl
   stmt_unit p (choose r arms) = arms_unit p arms
 
-  pub block_unit : (p : Place) (b : Block) → (past_block p b).unit ≡ unit_past_block p.unit b
+  pub block_unit : (p : Progress) (b : Block) → (past_block p b).unit ≡ unit_past_block p.unit b
   block_unit p no_stmt = refl
   block_unit p (andthen s b) = block_unit (past_stmt p s) b ∙ ap (λ u. unit_past_block u b) (stmt_unit p s)
 
-  arms_unit : (p : Place) (arms : Arms) → (past_arms p arms).unit ≡ unit_past_arms p.unit arms
+  arms_unit : (p : Progress) (arms : Arms) → (past_arms p arms).unit ≡ unit_past_arms p.unit arms
   arms_unit p (otherwise b) = block_unit p b
   arms_unit p (arm c b rest) =
-      let q : Place = past_parts (past p.part c) p in
+      let q : Progress = past_parts (past p.part c) p in
       arms_unit (past_block q b) rest ∙ ap (λ u. unit_past_arms u rest) (block_unit q b)

@@ -22,12 +22,13 @@ use Rattle.cs_ir.specs.declared.op.Reach.{Reach}
 use Rattle.cs_ir.specs.declared.register.Reg.{Reg}
 use Rattle.cs_meaning.specs.Initialising.{put_kept, keep, keep_all, started, sought}
 use Rattle.cs_meaning.specs.Notes.{Note, Path, next, reg, moved_to, assign, value, values, first_value, done}
+use Rattle.cs_meaning.specs.When.{When, beginning}
 use Rattle.cs_code.specs.inner.Kept.{past, itself, nowhere, numbers, all_numbers}
 use Rattle.cs_typed.specs.TypedTree.{Expression, number, var, field, head, neg, pair, pick, apply}
 use Rattle.cs_typed.specs.WellRated.{node_rate}
 use Rattle.cs_typed.specs.declared.tree.Var.{Var as Variable}
 use Rattle.cs_typed.specs.declared.tree.Var.TheVariants.{Local, Global}
-use Rattle.cs_code.specs.Means.{Stands}
+use Rattle.cs_code.specs.Means.{StandsInMachine}
 use Rattle.cs_code.specs.inner.Frames.{Frame, op_of, kept_reg, temp, spot, spots}
 use Rattle.cs_code.specs.inner.Code.{code, operand_code, operands_code, kept_code, keep_code, keep_all_code, set_code}
 use Rattle.cs_code.specs.inner.Code.{target, given_code, on_code, run_code, start_code, unit_code, zak_code, seek_code}
@@ -43,8 +44,8 @@ pub record Quiet {W : Type 0} (o : World W) : Type 0 where
   pub save : (g : Res) (w : Wave) (x : W) → o.refused (o.save g w x) ≡ o.refused x
   pub does : (opcode : Opcode) (r : Rate) (u : ℕ) (reach : Reach) (ws : List Wave) (x : W)
       → o.refused (o.does opcode r u reach ws x).0 ≡ o.refused x
-  pub store : (opcode : Opcode) (r : Rate) (reach : Reach) (ws : List Wave) (x : W)
-      → o.refused (o.store opcode r reach ws x) ≡ o.refused x
+  pub store : (r : Rate) (reach : Reach) (ws : List Wave) (x : W)
+      → o.refused (o.store r reach ws x) ≡ o.refused x
   pub zak : (opcode : Opcode) (reach : Reach) (ws : List Wave) (x : W)
       → o.refused (o.zak opcode reach ws x).0 ≡ o.refused x
   pub out : (c : ℕ) (w : Wave) (x : W) → o.refused (o.out c w x) ≡ o.refused x
@@ -54,11 +55,11 @@ pub record Quiet {W : Type 0} (o : World W) : Type 0 where
 -- A code has led to a note; and has done so without a touch on the world.
 pub record Reached {W : Type 0} (lim : Rate → ℕ) (placed : Path → Option ℕ) (s : Note W) (m n : Machine W) : Type
     0 where
-  pub stands : Stands (plan_of lim placed) s n
+  pub stands : StandsInMachine (plan_of lim placed) s n
   pub next : n.next ≡ m.next
 
 pub record Kept {W : Type 0} (lim : Rate → ℕ) (placed : Path → Option ℕ) (s : Note W) (m n : Machine W) : Type 0 where
-  pub stands : Stands (plan_of lim placed) s n
+  pub stands : StandsInMachine (plan_of lim placed) s n
   pub next : n.next ≡ m.next
   pub world : n.world ≡ m.world
 
@@ -87,9 +88,10 @@ module _ {W : Type 0} (o : World W) (f : Frame) (lim : Rate → ℕ) (placed : P
     (fits : Fits f lim placed) where
   -- ---- what a register's writing, and the world's moving, mean for a note
 
-  pub local_wrote : (t : Note W) (r : Rate) (x : ℕ) (w : Wave) (m n : Machine W) → Stands (plan_of lim placed) t m
+  pub local_wrote : (t : Note W) (r : Rate) (x : ℕ) (w : Wave) (m n : Machine W)
+      → StandsInMachine (plan_of lim placed) t m
       → x < lim r → Wrote f (reg r x) 0 w m n
-      → Stands (plan_of lim placed) (record t { locals = put t.locals (reg r x) w }) n
+      → StandsInMachine (plan_of lim placed) (record t { locals = put t.locals (reg r x) w }) n
   local_wrote t r x w m n s low h = record {
     locals = λ q below. by_test (same_reg q (reg r x))
         (λ e. subst (λ p. n.regs p ≡ w) (sym (same_reg_is q (reg r x) e)) h.here ∙ rw e refl)
@@ -103,7 +105,7 @@ module _ {W : Type 0} (o : World W) (f : Frame) (lim : Rate → ℕ) (placed : P
     world = h.world ∙ s.world;
   }
 
-  kept_wrote : (t : Note W) (path : Path) (at : ℕ) (z : ℤ) (m n : Machine W) → Stands (plan_of lim placed) t m
+  kept_wrote : (t : Note W) (path : Path) (at : ℕ) (z : ℤ) (m n : Machine W) → StandsInMachine (plan_of lim placed) t m
       → placed path ≡ Some at
       → Wrote f (reg rate.Init at) 0 (constant z) m n → Kept lim placed (put_kept path z t) m n
   kept_wrote t path at z m n s is h = record {
@@ -131,8 +133,9 @@ module _ {W : Type 0} (o : World W) (f : Frame) (lim : Rate → ℕ) (placed : P
     world = h.world;
   }
 
-  pub moved_stands : (t : Note W) (x : W) (m n : Machine W) → Stands (plan_of lim placed) t m → n.world ≡ x
-      → ((p : Reg) → p.index < f.base p.rate → n.regs p ≡ m.regs p) → Stands (plan_of lim placed) (moved_to x t) n
+  pub moved_stands : (t : Note W) (x : W) (m n : Machine W) → StandsInMachine (plan_of lim placed) t m → n.world ≡ x
+      → ((p : Reg) → p.index < f.base p.rate → n.regs p ≡ m.regs p)
+      → StandsInMachine (plan_of lim placed) (moved_to x t) n
   moved_stands t x m n s e same = record {
     locals = λ q below. same q (let b = fits.locals q.rate in omega arith) ∙ s.locals q below;
     kept = λ p k is. same (reg rate.Init k) ((fits.room p k is).1) ∙ s.kept p k is;
@@ -152,7 +155,7 @@ module _ {W : Type 0} (o : World W) (f : Frame) (lim : Rate → ℕ) (placed : P
 
   rate_runs : (r : Rate) (t s : Note W) (at : ℕ) (path : Path) (inner : Path → Option ℕ) (place : ℕ) (z : ℤ)
       (m : Machine W) (once each : List Op)
-      → Stands (plan_of lim placed) t m → Lays f.kept placed path (if_init r (itself at) inner)
+      → StandsInMachine (plan_of lim placed) t m → Lays f.kept placed path (if_init r (itself at) inner)
       → (r ≡ rate.Init → Wrote f (kept_reg f at) 0 (constant z) m (run o place once m))
       → (Lays f.kept placed path inner → Kept lim placed s m (run o place each m))
       → Kept lim placed (if_init r (put_kept path z t) s) m (run o place (if_init r once each) m)
@@ -161,16 +164,16 @@ module _ {W : Type 0} (o : World W) (f : Frame) (lim : Rate → ℕ) (placed : P
   rate_runs rate.Control t s at path inner place z m once each stands lays first other = other lays
   rate_runs rate.Audio t s at path inner place z m once each stands lays first other = other lays
 
-  once_wrote : (t : Note W) (e : Expression) (at place : ℕ) (m : Machine W) → Stands (plan_of lim placed) t m
+  once_wrote : (t : Note W) (e : Expression) (at place : ℕ) (m : Machine W) → StandsInMachine (plan_of lim placed) t m
       → Live o place m → Inside lim e
       → node_rate e ≡ rate.Init
       → Wrote f (kept_reg f at) 0 (constant (first_value o t e)) m (run o place (kept_code f at e) m)
   once_wrote t e at place m s l inside is =
-      subst (λ r. Wrote f (reg r (f.kept + at)) 0 (held o.ksmps r (value o t true [] e)) m
-      (run o place (code f true 0 e (reg r (f.kept + at)) 0) m)) is
-      (code_runs o f lim placed fits t e true 0 [] (f.kept + at) 0 place m s l inside tt)
+      subst (λ r. Wrote f (reg r (f.kept + at)) 0 (held o.ksmps r (value o t beginning [] e)) m
+      (run o place (code f beginning 0 e (reg r (f.kept + at)) 0) m)) is
+      (code_runs o f lim placed fits t e beginning 0 [] (f.kept + at) 0 place m s l inside tt)
 
-  kept_self : (t : Note W) (m : Machine W) → Stands (plan_of lim placed) t m → Kept lim placed t m m
+  kept_self : (t : Note W) (m : Machine W) → StandsInMachine (plan_of lim placed) t m → Kept lim placed t m m
   kept_self t m s = record { stands = s; next = refl; world = refl }
 
   kept_then : (t s : Note W) (place : ℕ) (a b : List Op) (m : Machine W) → Kept lim placed t m (run o place a m)
@@ -181,7 +184,7 @@ module _ {W : Type 0} (o : World W) (f : Frame) (lim : Rate → ℕ) (placed : P
       (record { stands = k.stands; next = k.next ∙ h.next; world = k.world ∙ h.world })
 
   pub keep_runs : (e : Expression) (t : Note W) (at : ℕ) (path : Path) (place : ℕ) (m : Machine W)
-      → Stands (plan_of lim placed) t m → Live o place m
+      → StandsInMachine (plan_of lim placed) t m → Live o place m
       → Inside lim e → Lays f.kept placed path (numbers at e)
       → Kept lim placed (keep o path e t) m (run o place (keep_code f at e) m)
   keep_runs (number r z) t at path place m s l inside lays =
@@ -241,7 +244,7 @@ module _ {W : Type 0} (o : World W) (f : Frame) (lim : Rate → ℕ) (placed : P
       (λ b. keep_runs a t at (0 ∷ path) place m s l inside (λ q. b (0 ∷ q)))
 
   pub keep_all_runs : (es : List Expression) (t : Note W) (at : ℕ) (path : Path) (place : ℕ) (m : Machine W)
-      → Stands (plan_of lim placed) t m
+      → StandsInMachine (plan_of lim placed) t m
       → Live o place m → InsideAll lim es → LaysOn f.kept placed path (all_numbers at es)
       → Kept lim placed (keep_all o path es t) m (run o place (keep_all_code f at es) m)
   keep_all_runs [] t at path place m s l inside lays = kept_self t m s
@@ -257,66 +260,70 @@ module _ {W : Type 0} (o : World W) (f : Frame) (lim : Rate → ℕ) (placed : P
 
   -- ---- an op on values moves the world alone
 
-  pub on_runs : (whole : Bool) (at : ℕ) (path : Path) (a : Act) (into : Reg) (es : List Expression)
+  pub on_runs : (when : When) (at : ℕ) (path : Path) (a : Act) (into : Reg) (es : List Expression)
       (move : List Wave → W → W) (t : Note W) (place : ℕ) (m : Machine W)
       → ((ws : List Wave) (n : Machine W) → acts o a into ws n ≡ in_world (move ws n.world) n)
-      → Stands (plan_of lim placed) t m → Live o place m → InsideAll lim es
-      → Reads whole (LaysOn f.kept placed path (all_numbers at es))
-      → Reached lim placed (moved_to (move (values o t whole path es) t.world) t) m
-      (run o place (on_code f whole at a into es) m)
-  on_runs whole at path a into es move t place m moves s l inside known =
-      let ops : List Op = operands_code f whole at es 0 in
-      let last : Op = op_of a into (spots f whole at es 0) in
+      → StandsInMachine (plan_of lim placed) t m → Live o place m → InsideAll lim es
+      → Reads when (LaysOn f.kept placed path (all_numbers at es))
+      → Reached lim placed (moved_to (move (values o t when path es) t.world) t) m
+      (run o place (on_code f when at a into es) m)
+  on_runs when at path a into es move t place m moves s l inside known =
+      let ops : List Op = operands_code f when at es 0 in
+      let last : Op = op_of a into (spots f when at es 0) in
       let n : Machine W = run o place ops m in
-      let ready = operands_run o f lim placed fits t es whole at path 0 place m s l inside known in
+      let ready = operands_run o f lim placed fits t es when at path 0 place m s l inside known in
       let live : Live o (place + length ops) n = live_same o f 0 place (length ops) m n l ready.same in
-      let x : W = move (values o t whole path es) t.world in
+      let x : W = move (values o t when path es) t.world in
       let here : run o place (ops ++ (last ∷ [])) m ≡ in_world x n =
       run_snoc o place ops last m live
-      ∙ moves (map n.regs (spots f whole at es 0)) n
+      ∙ moves (map n.regs (spots f when at es 0)) n
       ∙ ap (λ ws. in_world (move ws n.world) n) ready.here
-      ∙ ap (λ y. in_world (move (values o t whole path es) y) n) (ready.same.world ∙ s.world) in
+      ∙ ap (λ y. in_world (move (values o t when path es) y) n) (ready.same.world ∙ s.world) in
       subst (Reached lim placed (moved_to x t) m) (sym here) (record {
         stands = moved_stands t x m (in_world x n) s refl (λ p low. ready.same.regs p (omega arith));
         next = ready.same.next;
       })
 
   pub start_runs : (r : Rate) (opcode : Opcode) (u : ℕ) (is : List Expression) (t : Note W) (place : ℕ) (m : Machine W)
-      → Stands (plan_of lim placed) t m → Live o place m → InsideAll lim is
+      → StandsInMachine (plan_of lim placed) t m → Live o place m → InsideAll lim is
       → Reached lim placed (started o r opcode u is t) m (run o place (start_code f r opcode u is) m)
   start_runs r opcode u is t place m s l inside =
-      on_runs true 0 [] (act.Start opcode u) (reg r 0) is (λ ws x. o.start opcode r u (first_values ws) x) t place m
+      on_runs beginning 0 [] (act.Start opcode u) (reg r 0) is (λ ws x. o.start opcode r u (first_values ws) x) t place
+      m
       (λ ws n. refl) s l inside tt
 
   pub seek_runs : (is : List Expression) (t : Note W) (place : ℕ) (m : Machine W)
-      → Stands (plan_of lim placed) t m → Live o place m → InsideAll lim is
+      → StandsInMachine (plan_of lim placed) t m → Live o place m → InsideAll lim is
       → Reached lim placed (sought o is t) m (run o place (seek_code f is) m)
   seek_runs is t place m s l inside =
-      on_runs true 0 [] act.Seek (reg rate.Init 0) is (λ ws x. o.seek (first_values ws) x) t place m (λ ws n. refl) s l
+      on_runs beginning 0 [] act.Seek (reg rate.Init 0) is (λ ws x. o.seek (first_values ws) x) t place m (λ ws n. refl)
+      s l
       inside tt
 
-  pub store_runs : (whole : Bool) (at : ℕ) (path : Path) (r : Rate) (opcode : Opcode) (reach : Reach)
+  pub store_runs : (when : When) (at : ℕ) (path : Path) (r : Rate) (reach : Reach)
       (es : List Expression) (t : Note W) (place : ℕ) (m : Machine W)
-      → Stands (plan_of lim placed) t m → Live o place m → InsideAll lim es
-      → Reads whole (LaysOn f.kept placed path (all_numbers at es))
-      → Reached lim placed (moved_to (o.store opcode r reach (values o t whole path es) t.world) t) m
-      (run o place (store_code f whole at r opcode reach es) m)
-  store_runs whole at path r opcode reach es t place m s l inside known =
-      on_runs whole at path (act.Store opcode reach) (reg r 0) es (λ ws x. o.store opcode r reach ws x) t place m
+      → StandsInMachine (plan_of lim placed) t m → Live o place m → InsideAll lim es
+      → Reads when (LaysOn f.kept placed path (all_numbers at es))
+      → Reached lim placed (moved_to (o.store r reach (values o t when path es) t.world) t) m
+      (run o place (store_code f when at r reach es) m)
+  store_runs when at path r reach es t place m s l inside known =
+      on_runs when at path (act.Store reach) (reg r 0) es (λ ws x. o.store r reach ws x) t place m
       (λ ws n. refl) s l inside known
 
   pub ask_runs : (es : List Expression) (t : Note W) (place : ℕ) (m : Machine W)
-      → Stands (plan_of lim placed) t m → Live o place m → InsideAll lim es
-      → Reached lim placed (moved_to (o.ask (first_values (values o t true [] es)) t.world) t) m
+      → StandsInMachine (plan_of lim placed) t m → Live o place m → InsideAll lim es
+      → Reached lim placed (moved_to (o.ask (first_values (values o t beginning [] es)) t.world) t) m
       (run o place (ask_code f es) m)
   ask_runs es t place m s l inside =
-      on_runs true 0 [] act.Ask (reg rate.Init 0) es (λ ws x. o.ask (first_values ws) x) t place m (λ ws n. refl) s l
+      on_runs beginning 0 [] act.Ask (reg rate.Init 0) es (λ ws x. o.ask (first_values ws) x) t place m (λ ws n. refl) s
+      l
       inside tt
 
   -- ---- what gives a result runs: a unit, or what reads or writes zak places
 
   -- no variable takes the result
-  none_given : (b : Bool) (r : Rate) (t : Note W) (x : W) (w : Wave) (m : Machine W) → Stands (plan_of lim placed) t m
+  none_given : (b : Bool) (r : Rate) (t : Note W) (x : W) (w : Wave) (m : Machine W)
+      → StandsInMachine (plan_of lim placed) t m
       → Reached lim placed (moved_to x t) m (if b then write o.ksmps (temp f r 0) w (in_world x m) else in_world x m)
   none_given true r t x w m s = record {
     stands = moved_stands t x m (write o.ksmps (temp f r 0) w (in_world x m)) s refl
@@ -326,25 +333,26 @@ module _ {W : Type 0} (o : World W) (f : Frame) (lim : Rate → ℕ) (placed : P
   none_given false r t x w m s =
       record { stands = moved_stands t x m (in_world x m) s refl (λ p low. refl); next = refl }
 
-  temp_moved : (r : Rate) (t : Note W) (x : W) (w : Wave) (m : Machine W) → Stands (plan_of lim placed) t m
-      → Stands (plan_of lim placed) (moved_to x t) (write o.ksmps (temp f r 0) w (in_world x m))
+  temp_moved : (r : Rate) (t : Note W) (x : W) (w : Wave) (m : Machine W) → StandsInMachine (plan_of lim placed) t m
+      → StandsInMachine (plan_of lim placed) (moved_to x t) (write o.ksmps (temp f r 0) w (in_world x m))
   temp_moved r t x w m s = (none_given true r t x w m s).stands
 
   -- a local variable takes the result: by the unit itself, or by a copy
   local_given : (b : Bool) (r q : Rate) (y : ℕ) (t : Note W) (x : W) (w : Wave) (place : ℕ) (m : Machine W)
       → same_rate q r ≡ b
-      → Stands (plan_of lim placed) t m → m.next ≤ place → o.refused x ≡ false → y < lim q
+      → StandsInMachine (plan_of lim placed) t m → m.next ≤ place → o.refused x ≡ false → y < lim q
       → Reached lim placed (assign o (Local q y) (held o.ksmps r w) (moved_to x t)) m
       (run o place (if b then [] else op_of act.Copy (reg q y) (temp f r 0 ∷ []) ∷ [])
       (write o.ksmps (if b then reg q y else temp f r 0) w (in_world x m)))
   local_given true r q y t x w place m e s next going low =
       let is : r ≡ q = sym (same_rate_is q r e) in
-      let moved : Stands (plan_of lim placed) (moved_to x t) (in_world x m) =
+      let moved : StandsInMachine (plan_of lim placed) (moved_to x t) (in_world x m) =
       moved_stands t x m (in_world x m) s refl (λ p below. refl) in
       let twice : held o.ksmps q (held o.ksmps r w) ≡ held o.ksmps q w =
       subst (λ p. held o.ksmps q (held o.ksmps p w) ≡ held o.ksmps q w) (sym is) (held_again o.ksmps q w) in
       record {
-        stands = subst (λ v. Stands (plan_of lim placed) (record (moved_to x t) { locals = put t.locals (reg q y) v })
+        stands = subst (λ v. StandsInMachine (plan_of lim placed)
+            (record (moved_to x t) { locals = put t.locals (reg q y) v })
             (write o.ksmps (reg q y) w (in_world x m)))
             (sym twice)
             (local_wrote (moved_to x t) q y (held o.ksmps q w) (in_world x m) (write o.ksmps (reg q y) w (in_world x m))
@@ -368,7 +376,7 @@ module _ {W : Type 0} (o : World W) (f : Frame) (lim : Rate → ℕ) (placed : P
 
   -- what notes share takes the result, by a store
   global_given : (r : Rate) (g : Res) (t : Note W) (x : W) (w : Wave) (place : ℕ) (m : Machine W)
-      → Stands (plan_of lim placed) t m → m.next ≤ place → o.refused x ≡ false
+      → StandsInMachine (plan_of lim placed) t m → m.next ≤ place → o.refused x ≡ false
       → Reached lim placed (assign o (Global g) (held o.ksmps r w) (moved_to x t)) m
       (run o place (op_of (act.Save g) (temp f r 0) (temp f r 0 ∷ []) ∷ [])
       (write o.ksmps (temp f r 0) w (in_world x m)))
@@ -387,7 +395,7 @@ module _ {W : Type 0} (o : World W) (f : Frame) (lim : Rate → ℕ) (placed : P
       })
 
   given_runs : (r : Rate) (vs : List Variable) (opcode : Opcode) (p : W × Wave) (t : Note W) (place : ℕ) (m : Machine W)
-      → Stands (plan_of lim placed) t m → m.next ≤ place → o.refused p.0 ≡ false → Takes lim opcode vs
+      → StandsInMachine (plan_of lim placed) t m → m.next ≤ place → o.refused p.0 ≡ false → Takes lim opcode vs
       → Reached lim placed (done o r vs p t) m
       (run o place (given_code f r vs) (written o.ksmps opcode (target f r vs) p m))
   given_runs r [] opcode p t place m s next going takes = none_given (gives opcode) r t p.0 p.1 m s
@@ -396,89 +404,91 @@ module _ {W : Type 0} (o : World W) (f : Frame) (lim : Rate → ℕ) (placed : P
   given_runs r (Global g ∷ vs) opcode p t place m s next going takes =
       rw takes.1 (global_given r g t p.0 p.1 place m s next going)
 
-  run_runs : (whole : Bool) (at : ℕ) (path : Path) (a : Act) (r : Rate) (vs : List Variable) (opcode : Opcode)
+  run_runs : (when : When) (at : ℕ) (path : Path) (a : Act) (r : Rate) (vs : List Variable) (opcode : Opcode)
       (xs : List Expression) (gives_it : List Wave → W → W × Wave)
       (t : Note W) (place : ℕ) (m : Machine W)
       → ((into : Reg) (ws : List Wave) (n : Machine W) → into.rate ≡ r
       → acts o a into ws n ≡ written o.ksmps opcode into (gives_it ws n.world) n)
       → ((ws : List Wave) (x : W) → o.refused (gives_it ws x).0 ≡ o.refused x)
-      → Stands (plan_of lim placed) t m → Live o place m → Takes lim opcode vs → InsideAll lim xs
-      → Reads whole (LaysOn f.kept placed path (all_numbers at xs))
-      → Reached lim placed (done o r vs (gives_it (values o t whole path xs) t.world) t) m
-      (run o place (run_code f whole at a r vs xs) m)
-  run_runs whole at path a r vs opcode xs gives_it t place m acts_so calm s l takes inside known =
-      let ops : List Op = operands_code f whole at xs 0 in
+      → StandsInMachine (plan_of lim placed) t m → Live o place m → Takes lim opcode vs → InsideAll lim xs
+      → Reads when (LaysOn f.kept placed path (all_numbers at xs))
+      → Reached lim placed (done o r vs (gives_it (values o t when path xs) t.world) t) m
+      (run o place (run_code f when at a r vs xs) m)
+  run_runs when at path a r vs opcode xs gives_it t place m acts_so calm s l takes inside known =
+      let ops : List Op = operands_code f when at xs 0 in
       let rest : List Op = given_code f r vs in
       let into : Reg = target f r vs in
-      let op : Op = op_of a into (spots f whole at xs 0) in
+      let op : Op = op_of a into (spots f when at xs 0) in
       let n : Machine W = run o place ops m in
-      let ready = operands_run o f lim placed fits t xs whole at path 0 place m s l inside known in
+      let ready = operands_run o f lim placed fits t xs when at path 0 place m s l inside known in
       let live : Live o (place + length ops) n = live_same o f 0 place (length ops) m n l ready.same in
-      let p : W × Wave = gives_it (values o t whole path xs) t.world in
+      let p : W × Wave = gives_it (values o t when path xs) t.world in
       let does : step o (place + length ops) op n ≡ written o.ksmps opcode into p n =
       live_step o (place + length ops) op n live
-      ∙ acts_so into (map n.regs (spots f whole at xs 0)) n (target_rate f r vs)
+      ∙ acts_so into (map n.regs (spots f when at xs 0)) n (target_rate f r vs)
       ∙ ap (λ ws. written o.ksmps opcode into (gives_it ws n.world) n) ready.here
-      ∙ ap (λ x. written o.ksmps opcode into (gives_it (values o t whole path xs) x) n) (ready.same.world ∙ s.world) in
+      ∙ ap (λ x. written o.ksmps opcode into (gives_it (values o t when path xs) x) n) (ready.same.world ∙ s.world) in
       let is : run o place (ops ++ (op ∷ rest)) m ≡ run o (place + length ops + 1) rest
       (written o.ksmps opcode into p n) =
       run_append o place ops (op ∷ rest) m ∙ ap (run o (place + length ops + 1) rest) does in
       let going : o.refused p.0 ≡ false =
-      calm (values o t whole path xs) t.world ∙ ap o.refused (sym s.world) ∙ l.going in
+      calm (values o t when path xs) t.world ∙ ap o.refused (sym s.world) ∙ l.going in
       let low : n.next ≤ place + length ops + 1 = le_trans live.next (omega arith) in
       let after = given_runs r vs opcode p t (place + length ops + 1) n
       (stands_same o f lim placed fits t 0 m n s ready.same) low going takes in
       subst (Reached lim placed (done o r vs p t) m) (sym is)
       (record { stands = after.stands; next = after.next ∙ ready.same.next })
 
-  pub unit_runs : Quiet o → (whole : Bool) (at : ℕ) (path : Path) (r : Rate) (vs : List Variable) (opcode : Opcode)
+  pub unit_runs : Quiet o → (when : When) (at : ℕ) (path : Path) (r : Rate) (vs : List Variable) (opcode : Opcode)
       (u : ℕ) (reach : Reach) (xs : List Expression)
-      (t : Note W) (place : ℕ) (m : Machine W) → Stands (plan_of lim placed) t m → Live o place m → Takes lim opcode vs
+      (t : Note W) (place : ℕ) (m : Machine W) → StandsInMachine (plan_of lim placed) t m → Live o place m
+      → Takes lim opcode vs
       → InsideAll lim xs
-      → Reads whole (LaysOn f.kept placed path (all_numbers at xs))
-      → Reached lim placed (done o r vs (o.does opcode r u reach (values o t whole path xs) t.world) t) m
-      (run o place (unit_code f whole at r vs opcode u reach xs) m)
-  unit_runs quiet whole at path r vs opcode u reach xs t place m s l takes inside known =
-      run_runs whole at path (act.Unit opcode u reach) r vs opcode xs (o.does opcode r u reach) t place m
+      → Reads when (LaysOn f.kept placed path (all_numbers at xs))
+      → Reached lim placed (done o r vs (o.does opcode r u reach (values o t when path xs) t.world) t) m
+      (run o place (unit_code f when at r vs opcode u reach xs) m)
+  unit_runs quiet when at path r vs opcode u reach xs t place m s l takes inside known =
+      run_runs when at path (act.Unit opcode u reach) r vs opcode xs (o.does opcode r u reach) t place m
       (λ into ws n is. ap (λ y. written o.ksmps opcode into (o.does opcode y u reach ws n.world) n) is)
       (λ ws x. quiet.does opcode r u reach ws x) s l takes inside known
 
-  pub zak_runs : Quiet o → (whole : Bool) (at : ℕ) (path : Path) (r : Rate) (vs : List Variable) (opcode : Opcode)
+  pub zak_runs : Quiet o → (when : When) (at : ℕ) (path : Path) (r : Rate) (vs : List Variable) (opcode : Opcode)
       (reach : Reach) (xs : List Expression)
-      (t : Note W) (place : ℕ) (m : Machine W) → Stands (plan_of lim placed) t m → Live o place m → Takes lim opcode vs
+      (t : Note W) (place : ℕ) (m : Machine W) → StandsInMachine (plan_of lim placed) t m → Live o place m
+      → Takes lim opcode vs
       → InsideAll lim xs
-      → Reads whole (LaysOn f.kept placed path (all_numbers at xs))
-      → Reached lim placed (done o r vs (o.zak opcode reach (values o t whole path xs) t.world) t) m
-      (run o place (zak_code f whole at r vs opcode reach xs) m)
-  zak_runs quiet whole at path r vs opcode reach xs t place m s l takes inside known =
-      run_runs whole at path (act.Zak opcode reach) r vs opcode xs (o.zak opcode reach) t place m (λ into ws n is. refl)
+      → Reads when (LaysOn f.kept placed path (all_numbers at xs))
+      → Reached lim placed (done o r vs (o.zak opcode reach (values o t when path xs) t.world) t) m
+      (run o place (zak_code f when at r vs opcode reach xs) m)
+  zak_runs quiet when at path r vs opcode reach xs t place m s l takes inside known =
+      run_runs when at path (act.Zak opcode reach) r vs opcode xs (o.zak opcode reach) t place m (λ into ws n is. refl)
       (λ ws x. quiet.zak opcode reach ws x) s l takes inside known
 
   -- ---- a variable takes a value
 
-  local_set : (b : Bool) (whole : Bool) (at : ℕ) (path : Path) (q : Rate) (y : ℕ) (e : Expression) (t : Note W)
+  local_set : (b : Bool) (when : When) (at : ℕ) (path : Path) (q : Rate) (y : ℕ) (e : Expression) (t : Note W)
       (place : ℕ) (m : Machine W) → same_rate (node_rate e) q ≡ b
-      → Stands (plan_of lim placed) t m → Live o place m → y < lim q → Inside lim e
-      → Reads whole (Lays f.kept placed path (numbers at e))
-      → Reached lim placed (assign o (Local q y) (value o t whole path e) t) m
-      (run o place (if b then code f whole at e (reg q y) 0
-      else operand_code f whole at e 0 ++ (op_of act.Copy (reg q y) (spot f whole at e 0 ∷ []) ∷ [])) m)
-  local_set true whole at path q y e t place m is s l low inside known =
-      let wrote = subst (λ r. Wrote f (reg r y) 0 (held o.ksmps r (value o t whole path e)) m
-      (run o place (code f whole at e (reg r y) 0) m))
+      → StandsInMachine (plan_of lim placed) t m → Live o place m → y < lim q → Inside lim e
+      → Reads when (Lays f.kept placed path (numbers at e))
+      → Reached lim placed (assign o (Local q y) (value o t when path e) t) m
+      (run o place (if b then code f when at e (reg q y) 0
+      else operand_code f when at e 0 ++ (op_of act.Copy (reg q y) (spot f when at e 0 ∷ []) ∷ [])) m)
+  local_set true when at path q y e t place m is s l low inside known =
+      let wrote = subst (λ r. Wrote f (reg r y) 0 (held o.ksmps r (value o t when path e)) m
+      (run o place (code f when at e (reg r y) 0) m))
       (same_rate_is (node_rate e) q is)
-      (code_runs o f lim placed fits t e whole at path y 0 place m s l inside known) in
+      (code_runs o f lim placed fits t e when at path y 0 place m s l inside known) in
       record {
-        stands = local_wrote t q y (held o.ksmps q (value o t whole path e)) m
-            (run o place (code f whole at e (reg q y) 0) m) s low wrote;
+        stands = local_wrote t q y (held o.ksmps q (value o t when path e)) m
+            (run o place (code f when at e (reg q y) 0) m) s low wrote;
         next = wrote.next;
       }
-  local_set false whole at path q y e t place m is s l low inside known =
-      let ops : List Op = operand_code f whole at e 0 in
+  local_set false when at path q y e t place m is s l low inside known =
+      let ops : List Op = operand_code f when at e 0 in
       let n : Machine W = run o place ops m in
-      let v : Wave = value o t whole path e in
-      let last : Op = op_of act.Copy (reg q y) (spot f whole at e 0 ∷ []) in
-      let ready = operand_runs o f lim placed fits t e whole at path 0 place m s l inside known in
+      let v : Wave = value o t when path e in
+      let last : Op = op_of act.Copy (reg q y) (spot f when at e 0 ∷ []) in
+      let ready = operand_runs o f lim placed fits t e when at path 0 place m s l inside known in
       let live : Live o (place + length ops) n = live_same o f 0 place (length ops) m n l ready.same in
       let here : run o place (ops ++ (last ∷ [])) m ≡ write o.ksmps (reg q y) v n =
       run_snoc o place ops last m live ∙ ap (λ u. write o.ksmps (reg q y) u n) ready.here in
@@ -489,18 +499,18 @@ module _ {W : Type 0} (o : World W) (f : Frame) (lim : Rate → ℕ) (placed : P
         next = ready.same.next;
       })
 
-  pub set_runs : (v : Variable) (whole : Bool) (at : ℕ) (path : Path) (e : Expression) (t : Note W) (place : ℕ)
-      (m : Machine W) → Stands (plan_of lim placed) t m
-      → Live o place m → InsideVar lim v → Inside lim e → Reads whole (Lays f.kept placed path (numbers at e))
-      → Reached lim placed (assign o v (value o t whole path e) t) m (run o place (set_code f whole at v e) m)
-  set_runs (Local q y) whole at path e t place m s l low inside known =
-      local_set (same_rate (node_rate e) q) whole at path q y e t place m refl s l low inside known
-  set_runs (Global g) whole at path e t place m s l low inside known =
-      let ops : List Op = operand_code f whole at e 0 in
+  pub set_runs : (v : Variable) (when : When) (at : ℕ) (path : Path) (e : Expression) (t : Note W) (place : ℕ)
+      (m : Machine W) → StandsInMachine (plan_of lim placed) t m
+      → Live o place m → InsideVar lim v → Inside lim e → Reads when (Lays f.kept placed path (numbers at e))
+      → Reached lim placed (assign o v (value o t when path e) t) m (run o place (set_code f when at v e) m)
+  set_runs (Local q y) when at path e t place m s l low inside known =
+      local_set (same_rate (node_rate e) q) when at path q y e t place m refl s l low inside known
+  set_runs (Global g) when at path e t place m s l low inside known =
+      let ops : List Op = operand_code f when at e 0 in
       let n : Machine W = run o place ops m in
-      let v : Wave = value o t whole path e in
-      let last : Op = op_of (act.Save g) (spot f whole at e 0) (spot f whole at e 0 ∷ []) in
-      let ready = operand_runs o f lim placed fits t e whole at path 0 place m s l inside known in
+      let v : Wave = value o t when path e in
+      let last : Op = op_of (act.Save g) (spot f when at e 0) (spot f when at e 0 ∷ []) in
+      let ready = operand_runs o f lim placed fits t e when at path 0 place m s l inside known in
       let live : Live o (place + length ops) n = live_same o f 0 place (length ops) m n l ready.same in
       let x : W = o.save g (held o.ksmps (res_rate g) v) t.world in
       let here : run o place (ops ++ (last ∷ [])) m ≡ in_world x n =

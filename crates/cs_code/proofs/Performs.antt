@@ -15,13 +15,15 @@ use Rattle.cs_meaning.specs.Core.{no_stmt, andthen, otherwise, arm}
 use Rattle.cs_meaning.specs.Notes as meaning
 use Rattle.cs_meaning.specs.Notes.{Note, Path, next, inside, inside_arm, past_arm, reg, moved_to, assign, given, done}
 use Rattle.cs_meaning.specs.Notes.{value, values, sent, sent_at}
-use Rattle.cs_code.specs.inner.Kept.{Place, past, past_parts, past_stmt, past_block, nowhere, parts, numbers}
+use Rattle.cs_code.specs.declared.frame.Progress.{Progress}
+use Rattle.cs_code.specs.inner.Kept.{past, past_parts, past_stmt, past_block, nowhere, parts, numbers}
 use Rattle.cs_code.specs.inner.Kept.{all_numbers, stmt_numbers, block_numbers, arms_numbers}
 use Rattle.cs_meaning.specs.Performing.{perf_stmt, perf_block, perf_arms}
+use Rattle.cs_meaning.specs.When.{cycle}
 use Rattle.cs_typed.specs.TypedTree.{Expression}
 use Rattle.cs_typed.specs.declared.tree.Var.{Var as Variable}
 use Rattle.cs_typed.specs.declared.tree.Var.TheVariants.{Local, Global}
-use Rattle.cs_code.specs.Means.{Stands}
+use Rattle.cs_code.specs.Means.{StandsInMachine}
 use Rattle.cs_code.specs.inner.Frames.{Frame, op_of, spot, spots}
 use Rattle.cs_code.specs.inner.Code.{operand_code, operands_code, set_code, unit_code, zak_code, store_code, out_ops}
 use Rattle.cs_code.specs.inner.Code.{out_at_ops, arm_code, perf_code, perf_block_code, perf_arms_code}
@@ -80,19 +82,19 @@ module _ {W : Type 0} (o : World W) (quiet : Quiet o) where
   mutual
     pub stmt_quiet : (p : meaning.Place) (s : Stmt) (t : Note W)
         → o.refused (perf_stmt o p s t).world ≡ o.refused t.world
-    stmt_quiet p (set r v e) t = init_quiet r t _ (assign_quiet v (value o t false (0 ∷ p.path) e) t)
+    stmt_quiet p (set r v e) t = init_quiet r t _ (assign_quiet v (value o t cycle (0 ∷ p.path) e) t)
     stmt_quiet p (unit r vs opcode reach xs is) t =
-        let ws : List Wave = values o t false (0 ∷ p.path) xs in
+        let ws : List Wave = values o t cycle (0 ∷ p.path) xs in
         init_quiet r t _ (done_quiet r vs (o.does opcode r p.unit reach ws t.world) t
         (quiet.does opcode r p.unit reach ws t.world))
     stmt_quiet p (zak r vs opcode reach xs) t =
-        let ws : List Wave = values o t false (0 ∷ p.path) xs in
+        let ws : List Wave = values o t cycle (0 ∷ p.path) xs in
         init_quiet r t _ (done_quiet r vs (o.zak opcode reach ws t.world) t (quiet.zak opcode reach ws t.world))
-    stmt_quiet p (store r opcode reach es is) t =
-        let ws : List Wave = values o t false (0 ∷ p.path) es in
-        init_quiet r t (moved_to (o.store opcode r reach ws t.world) t) (quiet.store opcode r reach ws t.world)
-    stmt_quiet p (out r es) t = sent_quiet 0 (values o t false (0 ∷ p.path) es) t.world
-    stmt_quiet p (out_at r es) t = sent_at_quiet (values o t false (0 ∷ p.path) es) t.world
+    stmt_quiet p (store r reach es is) t =
+        let ws : List Wave = values o t cycle (0 ∷ p.path) es in
+        init_quiet r t (moved_to (o.store r reach ws t.world) t) (quiet.store r reach ws t.world)
+    stmt_quiet p (out r es) t = sent_quiet 0 (values o t cycle (0 ∷ p.path) es) t.world
+    stmt_quiet p (out_at r es) t = sent_at_quiet (values o t cycle (0 ∷ p.path) es) t.world
     stmt_quiet p (ask es) t = refl
     stmt_quiet p (turnoff r) t = quiet.turnoff t.world
     stmt_quiet p nothing t = refl
@@ -107,7 +109,7 @@ module _ {W : Type 0} (o : World W) (quiet : Quiet o) where
         → o.refused (perf_arms o p arms t).world ≡ o.refused t.world
     arms_quiet p (otherwise b) t = block_quiet (inside p) b t
     arms_quiet p (arm c b rest) t =
-        if_quiet (holds (value o t false (0 ∷ p.path) c 0)) t (perf_block o (inside_arm p) b t)
+        if_quiet (holds (value o t cycle (0 ∷ p.path) c 0)) t (perf_block o (inside_arm p) b t)
         (perf_arms o (past_arm p b) rest t)
         (block_quiet (inside_arm p) b t) (arms_quiet (past_arm p b) rest t)
 
@@ -144,23 +146,23 @@ module _ {W : Type 0} (o : World W) (quiet : Quiet o) (f : Frame) (lim : Rate �
   -- operands, and then ops that move the world alone
   sent_from : (es : List Expression) (last : List Op) (send : List Wave → W → W) (t : Note W) (at : ℕ) (path : Path)
       (place : ℕ) (m : Machine W)
-      → ((n : Machine W) → Live o (place + length (operands_code f false at es 0)) n
-      → run o (place + length (operands_code f false at es 0)) last n ≡ in_world
-      (send (map n.regs (spots f false at es 0)) n.world) n)
-      → Stands (plan_of lim placed) t m → Live o place m → InsideAll lim es
+      → ((n : Machine W) → Live o (place + length (operands_code f cycle at es 0)) n
+      → run o (place + length (operands_code f cycle at es 0)) last n ≡ in_world
+      (send (map n.regs (spots f cycle at es 0)) n.world) n)
+      → StandsInMachine (plan_of lim placed) t m → Live o place m → InsideAll lim es
       → LaysOn f.kept placed path (all_numbers at es)
-      → Reached lim placed (moved_to (send (values o t false path es) t.world) t) m
-      (run o place (operands_code f false at es 0 ++ last) m)
+      → Reached lim placed (moved_to (send (values o t cycle path es) t.world) t) m
+      (run o place (operands_code f cycle at es 0 ++ last) m)
   sent_from es last send t at path place m does s l inside lays =
-      let ops : List Op = operands_code f false at es 0 in
+      let ops : List Op = operands_code f cycle at es 0 in
       let n : Machine W = run o place ops m in
-      let ready = operands_run o f lim placed fits t es false at path 0 place m s l inside lays in
+      let ready = operands_run o f lim placed fits t es cycle at path 0 place m s l inside lays in
       let live : Live o (place + length ops) n = live_same o f 0 place (length ops) m n l ready.same in
-      let x : W = send (values o t false path es) t.world in
+      let x : W = send (values o t cycle path es) t.world in
       let is : run o place (ops ++ last) m ≡ in_world x n =
       run_append o place ops last m ∙ does n live
       ∙ ap (λ ws. in_world (send ws n.world) n) ready.here
-      ∙ ap (λ y. in_world (send (values o t false path es) y) n) (ready.same.world ∙ s.world) in
+      ∙ ap (λ y. in_world (send (values o t cycle path es) y) n) (ready.same.world ∙ s.world) in
       subst (Reached lim placed (moved_to x t) m) (sym is) (record {
         stands = moved_stands o f lim placed fits t x m (in_world x n) s refl
             (λ p low. ready.same.regs p (omega arith));
@@ -178,62 +180,62 @@ module _ {W : Type 0} (o : World W) (quiet : Quiet o) (f : Frame) (lim : Rate �
   each_cycle rate.Audio t s place path n ops m h lays does = does lays
 
   mutual
-    pub perf_runs : (s : Stmt) (path : Path) (p : Place) (place : ℕ) (t : Note W) (m : Machine W)
+    pub perf_runs : (s : Stmt) (path : Path) (p : Progress) (place : ℕ) (t : Note W) (m : Machine W)
         → Agrees lim placed place t m
         → o.refused t.world ≡ false → InsideStmt lim s → Lays f.kept placed path (stmt_numbers p s)
         → Agrees lim placed (place + length (perf_code f place p s)) (perf_stmt o (stands_at path p) s t)
         (run o place (perf_code f place p s) m)
     perf_runs (set r v e) path p place t m h going inside lays =
-        let ops : List Op = set_code f false p.part v e in
+        let ops : List Op = set_code f cycle p.part v e in
         let live = agrees_live o lim placed place t m h going in
-        let s : Note W = assign o v (value o t false (0 ∷ path) e) t in
+        let s : Note W = assign o v (value o t cycle (0 ∷ path) e) t in
         each_cycle r t s place path (parts (numbers p.part e) nowhere) ops m h lays (λ b.
         reached t s place ops m (run o place ops m) live
-        (set_runs o f lim placed fits v false p.part (0 ∷ path) e t place m h.stands live inside.0 inside.1
+        (set_runs o f lim placed fits v cycle p.part (0 ∷ path) e t place m h.stands live inside.0 inside.1
         (λ q. b (0 ∷ q))))
     perf_runs (unit r vs opcode reach xs is) path p place t m h going inside lays =
-        let ops : List Op = unit_code f false p.part r vs opcode p.unit reach xs in
+        let ops : List Op = unit_code f cycle p.part r vs opcode p.unit reach xs in
         let live = agrees_live o lim placed place t m h going in
-        let s : Note W = done o r vs (o.does opcode r p.unit reach (values o t false (0 ∷ path) xs) t.world) t in
+        let s : Note W = done o r vs (o.does opcode r p.unit reach (values o t cycle (0 ∷ path) xs) t.world) t in
         each_cycle r t s place path (all_numbers p.part xs) ops m h lays (λ b.
         reached t s place ops m (run o place ops m) live
-        (unit_runs o f lim placed fits quiet false p.part (0 ∷ path) r vs opcode p.unit reach xs t place m h.stands live
+        (unit_runs o f lim placed fits quiet cycle p.part (0 ∷ path) r vs opcode p.unit reach xs t place m h.stands live
         inside.0 inside.1
         (lays_on f.kept placed path (all_numbers p.part xs) b)))
     perf_runs (zak r vs opcode reach xs) path p place t m h going inside lays =
-        let ops : List Op = zak_code f false p.part r vs opcode reach xs in
+        let ops : List Op = zak_code f cycle p.part r vs opcode reach xs in
         let live = agrees_live o lim placed place t m h going in
-        let s : Note W = done o r vs (o.zak opcode reach (values o t false (0 ∷ path) xs) t.world) t in
+        let s : Note W = done o r vs (o.zak opcode reach (values o t cycle (0 ∷ path) xs) t.world) t in
         each_cycle r t s place path (all_numbers p.part xs) ops m h lays (λ b.
         reached t s place ops m (run o place ops m) live
-        (zak_runs o f lim placed fits quiet false p.part (0 ∷ path) r vs opcode reach xs t place m h.stands live
+        (zak_runs o f lim placed fits quiet cycle p.part (0 ∷ path) r vs opcode reach xs t place m h.stands live
         inside.0 inside.1
         (lays_on f.kept placed path (all_numbers p.part xs) b)))
-    perf_runs (store r opcode reach es is) path p place t m h going inside lays =
-        let ops : List Op = store_code f false p.part r opcode reach es in
+    perf_runs (store r reach es is) path p place t m h going inside lays =
+        let ops : List Op = store_code f cycle p.part r reach es in
         let live = agrees_live o lim placed place t m h going in
-        let s : Note W = moved_to (o.store opcode r reach (values o t false (0 ∷ path) es) t.world) t in
+        let s : Note W = moved_to (o.store r reach (values o t cycle (0 ∷ path) es) t.world) t in
         each_cycle r t s place path (all_numbers p.part es) ops m h lays (λ b.
         reached t s place ops m (run o place ops m) live
-        (store_runs o f lim placed fits false p.part (0 ∷ path) r opcode reach es t place m h.stands live inside.0
+        (store_runs o f lim placed fits cycle p.part (0 ∷ path) r reach es t place m h.stands live inside.0
         (lays_on f.kept placed path (all_numbers p.part es) b)))
     perf_runs (out r es) path p place t m h going inside lays =
-        let ops : List Op = operands_code f false p.part es 0 in
-        let last : List Op = out_ops 0 (spots f false p.part es 0) in
+        let ops : List Op = operands_code f cycle p.part es 0 in
+        let last : List Op = out_ops 0 (spots f cycle p.part es 0) in
         let live = agrees_live o lim placed place t m h going in
-        reached t (moved_to (sent o 0 (values o t false (0 ∷ path) es) t.world) t) place (ops ++ last) m
+        reached t (moved_to (sent o 0 (values o t cycle (0 ∷ path) es) t.world) t) place (ops ++ last) m
         (run o place (ops ++ last) m) live
         (sent_from es last (sent o 0) t p.part (0 ∷ path) place m
-        (λ n l. out_ops_run o quiet 0 (spots f false p.part es 0) (place + length ops) n l) h.stands live inside
+        (λ n l. out_ops_run o quiet 0 (spots f cycle p.part es 0) (place + length ops) n l) h.stands live inside
         (lays_on f.kept placed path (all_numbers p.part es) lays))
     perf_runs (out_at r es) path p place t m h going inside lays =
-        let ops : List Op = operands_code f false p.part es 0 in
-        let last : List Op = out_at_ops (spots f false p.part es 0) in
+        let ops : List Op = operands_code f cycle p.part es 0 in
+        let last : List Op = out_at_ops (spots f cycle p.part es 0) in
         let live = agrees_live o lim placed place t m h going in
-        reached t (moved_to (sent_at o (values o t false (0 ∷ path) es) t.world) t) place (ops ++ last) m
+        reached t (moved_to (sent_at o (values o t cycle (0 ∷ path) es) t.world) t) place (ops ++ last) m
         (run o place (ops ++ last) m) live
         (sent_from es last (sent_at o) t p.part (0 ∷ path) place m
-        (λ n l. out_at_ops_run o quiet (spots f false p.part es 0) (place + length ops) n l) h.stands live inside
+        (λ n l. out_at_ops_run o quiet (spots f cycle p.part es 0) (place + length ops) n l) h.stands live inside
         (lays_on f.kept placed path (all_numbers p.part es) lays))
     perf_runs (ask es) path p place t m h going inside lays =
         record { stands = h.stands; next = le_trans h.next (omega arith) }
@@ -253,7 +255,7 @@ module _ {W : Type 0} (o : World W) (quiet : Quiet o) (f : Frame) (lim : Rate �
         perf_arms_runs arms (0 ∷ path) p place t m h going inside.1
         (lays_on f.kept placed path (arms_numbers p arms) lays)
 
-    pub perf_block_runs : (b : Block) (path : Path) (p : Place) (place : ℕ) (t : Note W) (m : Machine W)
+    pub perf_block_runs : (b : Block) (path : Path) (p : Progress) (place : ℕ) (t : Note W) (m : Machine W)
         → Agrees lim placed place t m
         → o.refused t.world ≡ false → InsideBlock lim b → LaysOn f.kept placed path (block_numbers p b)
         → Agrees lim placed (place + length (perf_block_code f place p b)) (perf_block o (stands_at path p) b t)
@@ -277,7 +279,7 @@ module _ {W : Type 0} (o : World W) (quiet : Quiet o) (f : Frame) (lim : Rate �
         (perf_block o (record { path = next path; unit = n }) b u)
         (run o (place + length ops) rest (run o place ops m))) (stmt_unit p s) more))
 
-    pub perf_arms_runs : (arms : Arms) (path : Path) (p : Place) (place : ℕ) (t : Note W) (m : Machine W)
+    pub perf_arms_runs : (arms : Arms) (path : Path) (p : Progress) (place : ℕ) (t : Note W) (m : Machine W)
         → Agrees lim placed place t m
         → o.refused t.world ≡ false → InsideArms lim arms → LaysOn f.kept placed path (arms_numbers p arms)
         → Agrees lim placed (place + length (perf_arms_code f place p arms)) (perf_arms o (stands_at path p) arms t)
@@ -286,14 +288,14 @@ module _ {W : Type 0} (o : World W) (quiet : Quiet o) (f : Frame) (lim : Rate �
         perf_block_runs b (0 ∷ path) p place t m h going inside
         (lays_on f.kept placed path (block_numbers p b) (λ q. lays 0 q))
     perf_arms_runs (arm c b rest) path p place t m h going inside lays =
-        let before : List Op = operand_code f false p.part c 0 in
-        let q : Place = past_parts (past p.part c) p in
+        let before : List Op = operand_code f cycle p.part c 0 in
+        let q : Progress = past_parts (past p.part c) p in
         let at : ℕ = place + length before + 1 in
         let body : List Op = perf_block_code f at q b in
         let others : List Op = perf_arms_code f (at + length body + 1) (past_block q b) rest in
-        let holder : Reg = spot f false p.part c 0 in
+        let holder : Reg = spot f cycle p.part c 0 in
         let live = agrees_live o lim placed place t m h going in
-        let ready = operand_runs o f lim placed fits t c false p.part (0 ∷ path) 0 place m h.stands live inside.0
+        let ready = operand_runs o f lim placed fits t c cycle p.part (0 ∷ path) 0 place m h.stands live inside.0
         (λ k. lays 0 (0 ∷ k)) in
         let n : Machine W = run o place before m in
         let there : Agrees lim placed (place + length before) t n = record {
@@ -304,7 +306,7 @@ module _ {W : Type 0} (o : World W) (quiet : Quiet o) (f : Frame) (lim : Rate �
         (run o place (arm_code place before holder body others) m))
         (arm_length place before holder body others)
         (arm_runs o lim placed place before holder body others t (perf_block o (stands_at (0 ∷ 1 ∷ path) q) b t)
-        (perf_arms o (past_arm (stands_at path p) b) rest t) (value o t false (0 ∷ path) c) m
+        (perf_arms o (past_arm (stands_at path p) b) rest t) (value o t cycle (0 ∷ path) c) m
         there going ready.here
         (λ k a. perf_block_runs b (0 ∷ 1 ∷ path) q at t k a going inside.1
         (lays_on f.kept placed (1 ∷ path) (block_numbers q b) (λ j. lays 0 (1 ∷ j))))

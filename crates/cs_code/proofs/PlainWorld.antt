@@ -15,9 +15,12 @@ calm x y h = ap (λ (r : Rest). is_some r.cause) h
 pub plain_quiet : (piece : Piece) → Quiet (plain piece)
 plain_quiet piece = record {
   save = λ g w x. refl;
-  does = λ opcode r u reach ws x. calm ((plain piece).does opcode r u reach ws x).0 x (unit_rest (plain_model piece) opcode r u reach ws (x.units u) x);
-  store = λ opcode r reach ws x. calm ((plain piece).store opcode r reach ws x) x (store_rest (plain_model piece) r reach ws (index (operand 2 ws 0)) x);
-  zak = λ opcode reach ws x. calm ((plain piece).zak opcode reach ws x).0 x (zak_rest (plain_model piece) (row_of opcode).shape reach ws x);
+  does = λ opcode r u reach ws x. calm ((plain piece).does opcode r u reach ws x).0 x
+      (unit_rest (plain_model piece) opcode r u reach ws (x.units u) x);
+  store = λ r reach ws x. calm ((plain piece).store r reach ws x) x
+      (store_rest (plain_model piece) r reach ws (index (operand 2 ws 0)) x);
+  zak = λ opcode reach ws x. calm ((plain piece).zak opcode reach ws x).0 x
+      (zak_rest (plain_model piece) (row_of opcode).shape reach ws x);
   out = λ c w x. refl;
   out_at = λ k w x. calm ((plain piece).out_at k w x) x (numbered_rest (plain_model piece) (index (k 0)) w x);
   turnoff = λ x. refl;

@@ -5,10 +5,11 @@ use Rattle.cs_base.specs.declared.resource.Rate.{Rate}
 use Rattle.cs_base.specs.declared.resource.Rate.TheVariants as rate
 use Rattle.cs_words.specs.Catalogue.{row_of, moving_letters, unit_takes}
 use Rattle.cs_words.specs.declared.catalogue.Opcode.{Opcode}
-use Rattle.cs_ir.specs.Units.{is_store, is_unit, is_zak}
+use Rattle.cs_ir.specs.Units.{is_unit, is_zak}
 use Rattle.cs_ir.specs.Validity.{suits_operator, suits_function, take_all, stores_with, may_run_at, bound_at, has_value}
 use Rattle.cs_ir.specs.declared.register.Reg.{Reg}
-use Rattle.cs_meaning.specs.Core.{Stmt, Block, Arms, set, unit, zak, store, out, out_at, ask, turnoff, nothing, choose, no_stmt, andthen, otherwise, arm}
+use Rattle.cs_meaning.specs.Core.{Stmt, Block, Arms, set, unit, zak, store, out, out_at, ask, turnoff, nothing, choose}
+use Rattle.cs_meaning.specs.Core.{no_stmt, andthen, otherwise, arm}
 use Rattle.cs_meaning.specs.Notes.{reg}
 use Rattle.cs_typed.specs.TypedTree.{Expression, number, var, field, head, neg, pair, pick, apply}
 use Rattle.cs_typed.specs.WellRated.{node_rate, var_rate}
@@ -29,9 +30,11 @@ Ranked (field r k) = Unit {0}
 Ranked (head r h) = Unit {0}
 Ranked (neg r a) = (within (node_rate a) r ≡ true) × Ranked a
 Ranked (pair r o a b) =
-    (within (node_rate a) r ≡ true) × (within (node_rate b) r ≡ true) × (suits_operator o r ≡ true) × Ranked a × Ranked b
+    (within (node_rate a) r ≡ true) × (within (node_rate b) r ≡ true) × (suits_operator o r ≡ true) × Ranked a
+    × Ranked b
 Ranked (pick r c a b) =
-    (is_audio (node_rate c) ≡ false) × (within (node_rate c) r ≡ true) × (within (node_rate a) r ≡ true) × (within (node_rate b) r ≡ true)
+    (is_audio (node_rate c) ≡ false) × (within (node_rate c) r ≡ true) × (within (node_rate a) r ≡ true)
+    × (within (node_rate b) r ≡ true)
     × Ranked c × Ranked a × Ranked b
 Ranked (apply r g a) = (suits_function g r (node_rate a) ≡ true) × Ranked a
 
@@ -80,8 +83,7 @@ pub record RankedUnit (r : Rate) (vs : List Variable) (opcode : Opcode) (xs is :
   pub settled_parts : AllRanked is
 
 -- A store's arguments are stored at its rate, and one of them, known when the note begins, is the number of its table.
-pub record RankedStore (r : Rate) (opcode : Opcode) (es is : List Expression) : Type 0 where
-  pub is_one : is_store (row_of opcode).shape ≡ true
+pub record RankedStore (r : Rate) (es is : List Expression) : Type 0 where
   pub stores : stores_with r (rated es) ≡ true
   pub settled : AllInit is
   pub single : length is ≡ 1
@@ -93,7 +95,7 @@ abbrev mutual
   RankedStmt (set r v e) = RankedSet v e
   RankedStmt (unit r vs opcode reach xs is) = RankedUnit r vs opcode xs is
   RankedStmt (zak r vs opcode reach xs) = (is_zak (row_of opcode).shape ≡ true) × RankedRun r vs opcode xs
-  RankedStmt (store r opcode reach es is) = RankedStore r opcode es is
+  RankedStmt (store r reach es is) = RankedStore r es is
   RankedStmt (out r es) = AllSound es × AllRanked es
   RankedStmt (out_at r es) = Paired es × AllRanked es
   RankedStmt (ask es) = (3 ≤ length es) × AllInit es × AllRanked es

@@ -26,11 +26,13 @@ reached_two c g h = λ j. record {
 }
 
 -- one more of some
-pub reached_step : (c now : Counts) (g h : Rate → ℕ) → now ≡ reached c g → reached now h ≡ reached c (λ r. max (g r) (h r))
+pub reached_step : (c now : Counts) (g h : Rate → ℕ) → now ≡ reached c g
+    → reached now h ≡ reached c (λ r. max (g r) (h r))
 reached_step c now g h e = ap (λ m. reached m h) e ∙ reached_two c g h
 
 -- one register more, of those from a place on
-pub regs_more : (c now total : Counts) (qs : List Reg) (i : ℕ) (d : Reg) → i < length qs → now ≡ reached c (λ r. reg_limit r (get_or qs i d))
+pub regs_more : (c now total : Counts) (qs : List Reg) (i : ℕ) (d : Reg) → i < length qs
+    → now ≡ reached c (λ r. reg_limit r (get_or qs i d))
     → reached c (λ r. regs_limit r (drop i qs)) ≡ total → reached now (λ r. regs_limit r (drop (i + 1) qs)) ≡ total
 regs_more c now total qs i d lt made was =
     reached_step c now (λ r. reg_limit r (get_or qs i d)) (λ r. regs_limit r (drop (i + 1) qs)) made

@@ -9,7 +9,7 @@ use Rattle.cs_typed.specs.TypedTree.{Expression, number, var, field, head, neg, 
 use Rattle.cs_words.specs.declared.catalogue.Shape.{Shape}
 use Rattle.cs_words.specs.declared.catalogue.Shape.TheVariants as shape
 use Rattle.cs_words.specs.declared.catalogue.Space.TheVariants as space
-use Rattle.cs_code.specs.declared.reach.Known.TheVariants as known
+use Rattle.cs_code.specs.declared.reach.KnownArgument.TheVariants as known
 use Rattle.cs_code.specs.inner.Emitted.{known_of, known_at, table_known, place_known, span_known, zak_known}
 
 pub table_by : (is : List Expression) → table_reach is ≡ table_known (known_at is 0)
@@ -44,7 +44,8 @@ any_by places (pair r o a b) = refl
 any_by places (pick r c a b) = refl
 any_by places (apply r g a) = refl
 
-literal_by : (places : ℕ) (r : Rate) (v : ℤ) (e : Expression) → span_reach places (number r v) e ≡ span_known places (known_of (number r v)) (known_of e)
+literal_by : (places : ℕ) (r : Rate) (v : ℤ) (e : Expression)
+    → span_reach places (number r v) e ≡ span_known places (known_of (number r v)) (known_of e)
 literal_by places q w (number r v) = refl
 literal_by places q w (var r v) = refl
 literal_by places q w (field r k) = refl
@@ -64,7 +65,8 @@ span_by places (pair r o a b) x = sym (any_by places x)
 span_by places (pick r c a b) x = sym (any_by places x)
 span_by places (apply r g a) x = sym (any_by places x)
 
-pub zak_by_known : (spaces : Spaces) (sh : Shape) (xs : List Expression) → zak_reach spaces sh xs ≡ zak_known spaces sh (known_at xs 0) (known_at xs 1)
+pub zak_by_known : (spaces : Spaces) (sh : Shape) (xs : List Expression)
+    → zak_reach spaces sh xs ≡ zak_known spaces sh (known_at xs 0) (known_at xs 1)
 zak_by_known spaces (shape.ZakGet s) [] = refl
 zak_by_known spaces (shape.ZakGet s) (x ∷ xs) = place_by (places_of spaces s) x
 zak_by_known spaces (shape.ZakPut s) [] = refl

@@ -18,9 +18,11 @@ use Rattle.cs_ir.specs.declared.register.Reg.{Reg}
 use Rattle.cs_meaning.specs.Core.{Stmt, Block, Arms, set, unit, zak, store, out, out_at, ask, turnoff, nothing}
 use Rattle.cs_meaning.specs.Core.{choose, no_stmt, andthen, otherwise, arm}
 use Rattle.cs_meaning.specs.Notes.{reg}
-use Rattle.cs_code.specs.inner.Kept.{Place, past, past_parts, past_stmt, past_block}
-use Rattle.cs_meaning.specs.Uses.{arms_touched, block_touched, stmt_touched, beginning, cycle}
+use Rattle.cs_code.specs.declared.frame.Progress.{Progress}
+use Rattle.cs_code.specs.inner.Kept.{past, past_parts, past_stmt, past_block}
+use Rattle.cs_meaning.specs.Uses.{arms_touched, block_touched, stmt_touched}
 use Rattle.cs_meaning.specs.Uses.{expr_reads, expr_used, exprs_read, exprs_used, var_uses, vars_use}
+use Rattle.cs_meaning.specs.When.{When, beginning, cycle}
 use Rattle.cs_typed.specs.TypedTree.{Expression, number, var, field, head, neg, pair, pick, apply}
 use Rattle.cs_typed.specs.WellRated.{node_rate}
 use Rattle.cs_typed.specs.declared.tree.Var.{Var as Variable}
@@ -38,12 +40,12 @@ nothing_read rate.Control = refl
 nothing_read rate.Audio = refl
 
 -- what an expression reads: as a whole all of it, else what a cycle works out
-abbrev reads : Bool → Expression → List Res
-reads true = expr_reads
-reads false = expr_used cycle
+abbrev reads : When → Expression → List Res
+reads beginning = expr_reads
+reads cycle = expr_used cycle
 
 -- what it reads by its own code, where it stands nowhere yet
-abbrev own_reads : Bool → Expression → List Res
+abbrev own_reads : When → Expression → List Res
 own_reads w (number r n) = []
 own_reads w (var r v) = var_uses v
 own_reads w (field r k) = []
@@ -74,42 +76,42 @@ module _ (t : Touch) (stock : Stock) (f : Frame) where
   -- what stands already is read no more: nothing that is made of it touches anything
   by_rate : (r : Rate) (at : ℕ) (make : Option Reg → List Op) (here : Option Reg) (u : List Res)
       → ((q : Reg) → touch (make (Some q)) ≡ []) → touch (make here) ≡ read_only t u
-      → touch (make (kept_or f false r at here)) ≡ read_only t (if_init r [] u)
+      → touch (make (kept_or f cycle r at here)) ≡ read_only t (if_init r [] u)
   by_rate rate.Init at make here u none h = none (kept_reg f at) ∙ sym (no_reads t)
   by_rate rate.Control at make here u none h = h
   by_rate rate.Audio at make here u none h = h
 
-  by_there : (w : Bool) (e : Expression) (at : ℕ) (make : Option Reg → List Op)
+  by_there : (w : When) (e : Expression) (at : ℕ) (make : Option Reg → List Op)
       → ((q : Reg) → touch (make (Some q)) ≡ []) → touch (make None) ≡ read_only t (own_reads w e)
       → touch (make (direct f w at e)) ≡ read_only t (reads w e)
-  by_there true (number r n) at make none h = h
-  by_there true (var r (Local q n)) at make none h = none (reg q n) ∙ sym (no_reads t)
-  by_there true (var r (Global g)) at make none h = h
-  by_there true (field r k) at make none h = h
-  by_there true (head r k) at make none h = h
-  by_there true (neg r a) at make none h = h
-  by_there true (pair r o a b) at make none h = h
-  by_there true (pick r c a b) at make none h = h
-  by_there true (apply r g a) at make none h = h
-  by_there false (number r n) at make none h = by_rate r at make None [] none h ∙ ap (read_only t) (nothing_read r)
-  by_there false (var r (Local q n)) at make none h =
+  by_there beginning (number r n) at make none h = h
+  by_there beginning (var r (Local q n)) at make none h = none (reg q n) ∙ sym (no_reads t)
+  by_there beginning (var r (Global g)) at make none h = h
+  by_there beginning (field r k) at make none h = h
+  by_there beginning (head r k) at make none h = h
+  by_there beginning (neg r a) at make none h = h
+  by_there beginning (pair r o a b) at make none h = h
+  by_there beginning (pick r c a b) at make none h = h
+  by_there beginning (apply r g a) at make none h = h
+  by_there cycle (number r n) at make none h = by_rate r at make None [] none h ∙ ap (read_only t) (nothing_read r)
+  by_there cycle (var r (Local q n)) at make none h =
       by_rate r at make (Some (reg q n)) [] none (none (reg q n) ∙ sym (no_reads t))
-  by_there false (var r (Global g)) at make none h = by_rate r at make None (g ∷ []) none h
-  by_there false (field r k) at make none h = by_rate r at make None [] none h ∙ ap (read_only t) (nothing_read r)
-  by_there false (head r k) at make none h = by_rate r at make None [] none h ∙ ap (read_only t) (nothing_read r)
-  by_there false (neg r a) at make none h = by_rate r at make None (own_reads false (neg r a)) none h
-  by_there false (pair r o a b) at make none h = by_rate r at make None (own_reads false (pair r o a b)) none h
-  by_there false (pick r c a b) at make none h = by_rate r at make None (own_reads false (pick r c a b)) none h
-  by_there false (apply r g a) at make none h = by_rate r at make None (own_reads false (apply r g a)) none h
+  by_there cycle (var r (Global g)) at make none h = by_rate r at make None (g ∷ []) none h
+  by_there cycle (field r k) at make none h = by_rate r at make None [] none h ∙ ap (read_only t) (nothing_read r)
+  by_there cycle (head r k) at make none h = by_rate r at make None [] none h ∙ ap (read_only t) (nothing_read r)
+  by_there cycle (neg r a) at make none h = by_rate r at make None (own_reads cycle (neg r a)) none h
+  by_there cycle (pair r o a b) at make none h = by_rate r at make None (own_reads cycle (pair r o a b)) none h
+  by_there cycle (pick r c a b) at make none h = by_rate r at make None (own_reads cycle (pick r c a b)) none h
+  by_there cycle (apply r g a) at make none h = by_rate r at make None (own_reads cycle (apply r g a)) none h
 
-  operand_by : (w : Bool) (e : Expression) (at d : ℕ)
+  operand_by : (w : When) (e : Expression) (at d : ℕ)
       → ((x : Reg) → touch (own f w at e x d) ≡ read_only t (own_reads w e))
       → touch (operand_code f w at e d) ≡ read_only t (reads w e)
   operand_by w e at d h =
       by_there w e at (λ q. unless_there q (own f w at e (temp f (node_rate e) d) d)) (λ q. refl)
       (h (temp f (node_rate e) d))
 
-  code_by : (w : Bool) (e : Expression) (at : ℕ) (x : Reg) → touch (own f w at e x 0) ≡ read_only t (own_reads w e)
+  code_by : (w : When) (e : Expression) (at : ℕ) (x : Reg) → touch (own f w at e x 0) ≡ read_only t (own_reads w e)
       → touch (code f w at e x 0) ≡ read_only t (reads w e)
   code_by w e at x h = by_there w e at (λ q. copied q x (own f w at e x 0)) (λ q. refl) h
 
@@ -118,7 +120,7 @@ module _ (t : Touch) (stock : Stock) (f : Frame) where
       → touch (a ++ (op ∷ [])) ≡ u
   last a op u none h = two a (op ∷ []) u [] h (ap (λ l. l ++ []) none) ∙ append-nil u
 
-  own_touch : (w : Bool) (e : Expression) (at : ℕ) (x : Reg) (d : ℕ)
+  own_touch : (w : When) (e : Expression) (at : ℕ) (x : Reg) (d : ℕ)
       → touch (own f w at e x d) ≡ read_only t (own_reads w e)
   own_touch w (number r n) at x d = sym (no_reads t)
   own_touch w (var r (Local q n)) at x d = sym (no_reads t)
@@ -154,14 +156,14 @@ module _ (t : Touch) (stock : Stock) (f : Frame) where
       last (operand_code f w at a d) (op_of (act.Call g) x (spot f w at a d ∷ [])) (read_only t (reads w a)) refl
       (operand_by w a at d (λ q. own_touch w a at q d))
 
-  operand_touch : (w : Bool) (at : ℕ) (e : Expression) (d : ℕ)
+  operand_touch : (w : When) (at : ℕ) (e : Expression) (d : ℕ)
       → touch (operand_code f w at e d) ≡ read_only t (reads w e)
   operand_touch w at e d = operand_by w e at d (λ q. own_touch w e at q d)
 
-  code_touch : (w : Bool) (at : ℕ) (e : Expression) (x : Reg) → touch (code f w at e x 0) ≡ read_only t (reads w e)
+  code_touch : (w : When) (at : ℕ) (e : Expression) (x : Reg) → touch (code f w at e x 0) ≡ read_only t (reads w e)
   code_touch w at e x = code_by w e at x (own_touch w e at x 0)
 
-  operands_touch : (w : Bool) (at : ℕ) (es : List Expression) (d : ℕ)
+  operands_touch : (w : When) (at : ℕ) (es : List Expression) (d : ℕ)
       → touch (operands_code f w at es d) ≡ read_only t (flat_map (reads w) es)
   operands_touch w at [] d = sym (no_reads t)
   operands_touch w at (e ∷ es) d =
@@ -186,7 +188,7 @@ module _ (t : Touch) (stock : Stock) (f : Frame) where
   -- of what is kept as a whole, or by its parts
   keeps : (at : ℕ) (e : Expression) (r : Rate) (parts : List Op) (v : List Res) → touch parts ≡ read_only t v
       → touch (if_init r (kept_code f at e) parts) ≡ read_only t (if_init r (expr_reads e) v)
-  keeps at e rate.Init parts v k = code_touch true 0 e (kept_reg f at)
+  keeps at e rate.Init parts v k = code_touch beginning 0 e (kept_reg f at)
   keeps at e rate.Control parts v k = k
   keeps at e rate.Audio parts v k = k
 
@@ -225,7 +227,7 @@ module _ (t : Touch) (stock : Stock) (f : Frame) where
 
   -- ---- parts of statements
 
-  set_touch : (w : Bool) (at : ℕ) (v : Variable) (e : Expression)
+  set_touch : (w : When) (at : ℕ) (v : Variable) (e : Expression)
       → touch (set_code f w at v e) ≡ read_only t (reads w e) ++ var_uses v
   set_touch w at (Local q n) e = by_same (same_rate (node_rate e) q)
     where
@@ -251,7 +253,7 @@ module _ (t : Touch) (stock : Stock) (f : Frame) where
   given_touch r (Global g ∷ vs) = refl
 
   -- an op on values, and what is left to do with its result
-  on_touch : (w : Bool) (at : ℕ) (a : Act) (into : Reg) (es : List Expression)
+  on_touch : (w : When) (at : ℕ) (a : Act) (into : Reg) (es : List Expression)
       → touch (on_code f w at a into es) ≡ read_only t (flat_map (reads w) es) ++ act_touches t stock a
   on_touch w at a into es =
       two (operands_code f w at es 0) (op_of a into (spots f w at es 0) ∷ []) (read_only t (flat_map (reads w) es))
@@ -259,12 +261,13 @@ module _ (t : Touch) (stock : Stock) (f : Frame) where
 
   -- one that touches nothing by itself
   alone : (a : Act) (into : Reg) (es : List Expression) → act_touches t stock a ≡ []
-      → touch (on_code f true 0 a into es) ≡ read_only t (exprs_read es)
+      → touch (on_code f beginning 0 a into es) ≡ read_only t (exprs_read es)
   alone a into es none =
-      last (operands_code f true 0 es 0) (op_of a into (spots f true 0 es 0)) (read_only t (exprs_read es)) none
-      (operands_touch true 0 es 0)
+      last (operands_code f beginning 0 es 0) (op_of a into (spots f beginning 0 es 0)) (read_only t (exprs_read es))
+      none
+      (operands_touch beginning 0 es 0)
 
-  run_touch : (w : Bool) (at : ℕ) (a : Act) (r : Rate) (vs : List Variable) (xs : List Expression)
+  run_touch : (w : When) (at : ℕ) (a : Act) (r : Rate) (vs : List Variable) (xs : List Expression)
       → touch (run_code f w at a r vs xs)
       ≡ read_only t (flat_map (reads w) xs) ++ (act_touches t stock a ++ vars_use vs)
   run_touch w at a r vs xs =
@@ -283,9 +286,9 @@ module _ (t : Touch) (stock : Stock) (f : Frame) where
 
   -- values, and ops on them that touch nothing
   sent : (at : ℕ) (es : List Expression) (ops : List Op) → touch ops ≡ []
-      → touch (operands_code f false at es 0 ++ ops) ≡ read_only t (exprs_used cycle es)
+      → touch (operands_code f cycle at es 0 ++ ops) ≡ read_only t (exprs_used cycle es)
   sent at es ops none =
-      two (operands_code f false at es 0) ops (read_only t (exprs_used cycle es)) [] (operands_touch false at es 0) none
+      two (operands_code f cycle at es 0) ops (read_only t (exprs_used cycle es)) [] (operands_touch cycle at es 0) none
       ∙ append-nil (read_only t (exprs_used cycle es))
 
   arm_touch : (place : ℕ) (before : List Op) (q : Reg) (body rest : List Op) (u v w : List Res) → touch before ≡ u
@@ -298,33 +301,33 @@ module _ (t : Touch) (stock : Stock) (f : Frame) where
   -- ---- statements in a cycle
 
   mutual
-    stmt_cycles : (place : ℕ) (p : Place) (s : Stmt) → touch (perf_code f place p s) ≡ stmt_touched t cycle stock s
+    stmt_cycles : (place : ℕ) (p : Progress) (s : Stmt) → touch (perf_code f place p s) ≡ stmt_touched t cycle stock s
     stmt_cycles place p (set r v e) =
-        either r [] (set_code f false p.part v e) [] (read_only t (expr_used cycle e) ++ var_uses v) refl
-        (set_touch false p.part v e)
+        either r [] (set_code f cycle p.part v e) [] (read_only t (expr_used cycle e) ++ var_uses v) refl
+        (set_touch cycle p.part v e)
     stmt_cycles place p (unit r vs opcode reach xs is) =
-        either r [] (unit_code f false p.part r vs opcode p.unit reach xs) []
+        either r [] (unit_code f cycle p.part r vs opcode p.unit reach xs) []
         (read_only t (exprs_used cycle xs) ++ (read_only t (unit_uses stock opcode reach) ++ vars_use vs)) refl
-        (run_touch false p.part (act.Unit opcode p.unit reach) r vs xs)
+        (run_touch cycle p.part (act.Unit opcode p.unit reach) r vs xs)
     stmt_cycles place p (zak r vs opcode reach xs) =
-        either r [] (zak_code f false p.part r vs opcode reach xs) []
+        either r [] (zak_code f cycle p.part r vs opcode reach xs) []
         (read_only t (exprs_used cycle xs) ++ (zak_touches t stock opcode reach ++ vars_use vs)) refl
-        (run_touch false p.part (act.Zak opcode reach) r vs xs)
-    stmt_cycles place p (store r opcode reach es is) =
-        either r [] (store_code f false p.part r opcode reach es) []
+        (run_touch cycle p.part (act.Zak opcode reach) r vs xs)
+    stmt_cycles place p (store r reach es is) =
+        either r [] (store_code f cycle p.part r reach es) []
         (read_only t (exprs_used cycle es) ++ tables_within stock reach) refl
-        (on_touch false p.part (act.Store opcode reach) (reg r 0) es)
+        (on_touch cycle p.part (act.Store reach) (reg r 0) es)
     stmt_cycles place p (out r es) =
-        sent p.part es (out_ops 0 (spots f false p.part es 0)) (out_touch 0 (spots f false p.part es 0))
+        sent p.part es (out_ops 0 (spots f cycle p.part es 0)) (out_touch 0 (spots f cycle p.part es 0))
     stmt_cycles place p (out_at r es) =
-        sent p.part es (out_at_ops (spots f false p.part es 0)) (out_at_touch (spots f false p.part es 0))
+        sent p.part es (out_at_ops (spots f cycle p.part es 0)) (out_at_touch (spots f cycle p.part es 0))
     stmt_cycles place p (ask es) = refl
     stmt_cycles place p (turnoff r) = refl
     stmt_cycles place p nothing = refl
     stmt_cycles place p (choose r arms) = arms_cycle place p arms
 
     -- the ops of a control cycle touch what its statements do
-    pub block_cycles : (place : ℕ) (p : Place) (b : Block)
+    pub block_cycles : (place : ℕ) (p : Progress) (b : Block)
         → touch (perf_block_code f place p b) ≡ block_touched t cycle stock b
     block_cycles place p no_stmt = refl
     block_cycles place p (andthen s b) =
@@ -332,29 +335,30 @@ module _ (t : Touch) (stock : Stock) (f : Frame) where
         (stmt_touched t cycle stock s) (block_touched t cycle stock b) (stmt_cycles place p s)
         (block_cycles (place + length (perf_code f place p s)) (past_stmt p s) b)
 
-    arms_cycle : (place : ℕ) (p : Place) (arms : Arms)
+    arms_cycle : (place : ℕ) (p : Progress) (arms : Arms)
         → touch (perf_arms_code f place p arms) ≡ arms_touched t cycle stock arms
     arms_cycle place p (otherwise b) = block_cycles place p b
     arms_cycle place p (arm c b rest) =
-        let before : List Op = operand_code f false p.part c 0 in
-        let q : Place = past_parts (past p.part c) p in
+        let before : List Op = operand_code f cycle p.part c 0 in
+        let q : Progress = past_parts (past p.part c) p in
         let body : List Op = perf_block_code f (place + length before + 1) q b in
         let next : ℕ = place + length before + 1 + length body + 1 in
-        arm_touch place before (spot f false p.part c 0) body (perf_arms_code f next (past_block q b) rest)
+        arm_touch place before (spot f cycle p.part c 0) body (perf_arms_code f next (past_block q b) rest)
         (read_only t (expr_used cycle c)) (block_touched t cycle stock b) (arms_touched t cycle stock rest)
-        (operand_touch false p.part c 0) (block_cycles (place + length before + 1) q b)
+        (operand_touch cycle p.part c 0) (block_cycles (place + length before + 1) q b)
         (arms_cycle next (past_block q b) rest)
 
   -- ---- statements as a note begins
 
   mutual
-    stmt_begins : (place : ℕ) (p : Place) (s : Stmt) → touch (init_code f place p s) ≡ stmt_touched t beginning stock s
+    stmt_begins : (place : ℕ) (p : Progress) (s : Stmt)
+        → touch (init_code f place p s) ≡ stmt_touched t beginning stock s
     stmt_begins place p (set r v e) =
-        either r (set_code f true 0 v e) (keep_code f p.part e) (read_only t (expr_reads e) ++ var_uses v)
-        (read_only t (expr_used beginning e)) (set_touch true 0 v e) (keep_touch p.part e)
+        either r (set_code f beginning 0 v e) (keep_code f p.part e) (read_only t (expr_reads e) ++ var_uses v)
+        (read_only t (expr_used beginning e)) (set_touch beginning 0 v e) (keep_touch p.part e)
     stmt_begins place p (unit r vs opcode reach xs is) =
         let started : List Op = start_code f r opcode p.unit is in
-        let once : List Op = unit_code f true 0 r vs opcode p.unit reach xs in
+        let once : List Op = unit_code f beginning 0 r vs opcode p.unit reach xs in
         let kept : List Op = keep_all_code f p.part xs in
         let settled : List Res = read_only t (exprs_read is) in
         let moving : List Res = read_only t (exprs_used beginning xs) in
@@ -362,23 +366,23 @@ module _ (t : Touch) (stock : Stock) (f : Frame) where
         let runs : List Res = read_only t (exprs_read xs) ++ touched in
         let starts = alone (act.Start opcode p.unit) (reg r 0) is refl in
         either r (started ++ once) (kept ++ started) (settled ++ runs) (moving ++ settled)
-        (two started once settled runs starts (run_touch true 0 (act.Unit opcode p.unit reach) r vs xs))
+        (two started once settled runs starts (run_touch beginning 0 (act.Unit opcode p.unit reach) r vs xs))
         (two kept started moving settled (keep_all_touch p.part xs) starts)
     stmt_begins place p (zak r vs opcode reach xs) =
-        either r (zak_code f true 0 r vs opcode reach xs) (keep_all_code f p.part xs)
+        either r (zak_code f beginning 0 r vs opcode reach xs) (keep_all_code f p.part xs)
         (read_only t (exprs_read xs) ++ (zak_touches t stock opcode reach ++ vars_use vs))
-        (read_only t (exprs_used beginning xs)) (run_touch true 0 (act.Zak opcode reach) r vs xs)
+        (read_only t (exprs_used beginning xs)) (run_touch beginning 0 (act.Zak opcode reach) r vs xs)
         (keep_all_touch p.part xs)
-    stmt_begins place p (store r opcode reach es is) =
+    stmt_begins place p (store r reach es is) =
         let sought : List Op = seek_code f is in
-        let once : List Op = store_code f true 0 r opcode reach es in
+        let once : List Op = store_code f beginning 0 r reach es in
         let kept : List Op = keep_all_code f p.part es in
         let settled : List Res = read_only t (exprs_read is) in
         let moving : List Res = read_only t (exprs_used beginning es) in
         let stores : List Res = read_only t (exprs_read es) ++ tables_within stock reach in
         let seeks = alone act.Seek (reg rate.Init 0) is refl in
         either r (sought ++ once) (kept ++ sought) (settled ++ stores) (moving ++ settled)
-        (two sought once settled stores seeks (on_touch true 0 (act.Store opcode reach) (reg r 0) es))
+        (two sought once settled stores seeks (on_touch beginning 0 (act.Store reach) (reg r 0) es))
         (two kept sought moving settled (keep_all_touch p.part es) seeks)
     stmt_begins place p (out r es) = keep_all_touch p.part es
     stmt_begins place p (out_at r es) = keep_all_touch p.part es
@@ -390,7 +394,7 @@ module _ (t : Touch) (stock : Stock) (f : Frame) where
         (first_begins place p arms) (all_begin place p arms)
 
     -- the ops of a note's beginning touch what its statements do then
-    pub block_begins : (place : ℕ) (p : Place) (b : Block)
+    pub block_begins : (place : ℕ) (p : Progress) (b : Block)
         → touch (init_block_code f place p b) ≡ block_touched t beginning stock b
     block_begins place p no_stmt = refl
     block_begins place p (andthen s b) =
@@ -398,24 +402,24 @@ module _ (t : Touch) (stock : Stock) (f : Frame) where
         (stmt_touched t beginning stock s) (block_touched t beginning stock b) (stmt_begins place p s)
         (block_begins (place + length (init_code f place p s)) (past_stmt p s) b)
 
-    first_begins : (place : ℕ) (p : Place) (arms : Arms)
+    first_begins : (place : ℕ) (p : Progress) (arms : Arms)
         → touch (first_code f place p arms) ≡ arms_touched t beginning stock arms
     first_begins place p (otherwise b) = block_begins place p b
     first_begins place p (arm c b rest) =
         let before : List Op = keep_code f p.part c in
-        let q : Place = past_parts (past p.part c) p in
+        let q : Progress = past_parts (past p.part c) p in
         let body : List Op = init_block_code f (place + length before + 1) q b in
         let next : ℕ = place + length before + 1 + length body + 1 in
         arm_touch place before (kept_reg f p.part) body (first_code f next (past_block q b) rest)
         (read_only t (expr_used beginning c)) (block_touched t beginning stock b) (arms_touched t beginning stock rest)
         (keep_touch p.part c) (block_begins (place + length before + 1) q b) (first_begins next (past_block q b) rest)
 
-    all_begin : (place : ℕ) (p : Place) (arms : Arms)
+    all_begin : (place : ℕ) (p : Progress) (arms : Arms)
         → touch (all_code f place p arms) ≡ arms_touched t beginning stock arms
     all_begin place p (otherwise b) = block_begins place p b
     all_begin place p (arm c b rest) =
         let before : List Op = keep_code f p.part c in
-        let q : Place = past_parts (past p.part c) p in
+        let q : Progress = past_parts (past p.part c) p in
         let body : List Op = init_block_code f (place + length before) q b in
         let next : ℕ = place + length before + length body in
         let others : List Op = all_code f next (past_block q b) rest in

@@ -1,5 +1,7 @@
 -- The run of a code: in parts, where ops are passed over, and what is written.
-use Rattle.std.proofs.Common.{◌≡◌, ℕ, ◌+◌, ◌<◌, ◌≤◌, ◌≢◌, pos, Bool, true, false, ◌&&◌, List, [], ◌∷◌, ◌++◌, length, map, nat_le, nat_lt, if◌then◌else◌, refl, sym, ◌∙◌, ap, arith, add-zero, le-leb, ne_eqb, eq-eqb, append_assoc}
+use Rattle.std.proofs.Common.{◌≡◌, ℕ, ◌+◌, ◌<◌, ◌≤◌, ◌≢◌, pos, Bool, true, false, ◌&&◌, List, [], ◌∷◌, ◌++◌, length}
+use Rattle.std.proofs.Common.{map, nat_le, nat_lt, if◌then◌else◌, refl, sym, ◌∙◌, ap, arith, add-zero, le-leb, ne_eqb}
+use Rattle.std.proofs.Common.{eq-eqb, append_assoc}
 use Rattle.std.proofs.lemmas.Bool.Decides.{nat_tests}
 use Rattle.cs_base.proofs.Rates.{same_rate_is, same_rate_here}
 use Rattle.cs_base.proofs.Tests.{by_test}
@@ -25,13 +27,15 @@ pub record Live {W : Type 0} (o : World W) (place : ℕ) (m : Machine W) : Type 
   pub going : o.refused m.world ≡ false
 
 module _ {W : Type 0} (o : World W) where
-  pub run_append : (place : ℕ) (a b : List Op) (m : Machine W) → run o place (a ++ b) m ≡ run o (place + length a) b (run o place a m)
+  pub run_append : (place : ℕ) (a b : List Op) (m : Machine W)
+      → run o place (a ++ b) m ≡ run o (place + length a) b (run o place a m)
   run_append place [] b m = ap (λ p. run o p b m) (sym (add-zero place))
   run_append place (x ∷ a) b m =
       let e : place + 1 + length a ≡ place + length (x ∷ a) = omega arith in
       run_append (place + 1) a b (step o place x m) ∙ ap (λ p. run o p b (run o (place + 1) a (step o place x m))) e
 
-  pub live_step : (place : ℕ) (op : Op) (m : Machine W) → Live o place m → step o place op m ≡ acts o op.act op.into (map m.regs op.from) m
+  pub live_step : (place : ℕ) (op : Op) (m : Machine W) → Live o place m
+      → step o place op m ≡ acts o op.act op.into (map m.regs op.from) m
   live_step place op m l = rw (le-leb m.next place l.next, l.going) refl
 
   pub skip_step : (place : ℕ) (op : Op) (m : Machine W) → place < m.next → step o place op m ≡ m
@@ -48,7 +52,8 @@ module _ {W : Type 0} (o : World W) where
 
   pub run_refused : (place : ℕ) (ops : List Op) (m : Machine W) → o.refused m.world ≡ true → run o place ops m ≡ m
   run_refused place [] m h = refl
-  run_refused place (op ∷ ops) m h = ap (run o (place + 1) ops) (refused_step place op m h) ∙ run_refused (place + 1) ops m h
+  run_refused place (op ∷ ops) m h =
+      ap (run o (place + 1) ops) (refused_step place op m h) ∙ run_refused (place + 1) ops m h
 
   -- one op after others
   pub run_snoc : (place : ℕ) (a : List Op) (op : Op) (m : Machine W) → Live o (place + length a) (run o place a m)

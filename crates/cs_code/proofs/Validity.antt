@@ -17,7 +17,8 @@ use Rattle.cs_code.specs.inner.Code.{init_block_code, perf_block_code}
 use Rattle.cs_code.specs.inner.Frames.{Frame}
 use Rattle.cs_code.specs.inner.Limits.{ops_limit}
 use Rattle.cs_code.proofs.FromRates.{block_ranked, narrow_block}
-use Rattle.cs_code.proofs.Named.{block_count, whole_at, init_block_named, perf_block_named, init_names, perf_cycles, perf_names}
+use Rattle.cs_code.proofs.Named.{block_count, whole_at, init_block_named, perf_block_named, init_names, perf_cycles}
+use Rattle.cs_code.proofs.Named.{perf_names}
 use Rattle.cs_code.proofs.Valid.{fine_valid, init_block_fine, perf_block_fine}
 
 -- as many units as the text has
@@ -27,24 +28,28 @@ units_counted b = let h = block_count start b in omega arith
 pub init_valid : (spaces : Spaces) (s : Setting) (t : typed.Block) → IsRatedBlock s t → (f : Frame) (counts : Counts)
     → (past_block start (core spaces t)).unit ≤ counts.units
     → ((r : Rate) → ops_limit r (init_block_code f 0 start (core spaces t)) ≤ at_rate counts.registers r)
-    → fine_from counts (length (init_block_code f 0 start (core spaces t))) 0 (init_block_code f 0 start (core spaces t)) ≡ true
+    → fine_from counts (length (init_block_code f 0 start (core spaces t))) 0
+    (init_block_code f 0 start (core spaces t)) ≡ true
 init_valid spaces s t rated f counts units limits =
     let b : Block = core spaces t in
     let ops : List Op = init_block_code f 0 start b in
     let counted = units_counted b in
-    fine_valid false counts 0 (block_units b) (length ops) 0 ops (omega arith) limits (init_block_named false 0 (block_units b) refl f 0 start b (whole_at (block_units b)))
+    fine_valid false counts 0 (block_units b) (length ops) 0 ops (omega arith) limits
+    (init_block_named false 0 (block_units b) refl f 0 start b (whole_at (block_units b)))
     (init_block_fine (length ops) f 0 start b (block_ranked spaces s t rated) (omega arith))
 
 pub perf_valid : (spaces : Spaces) (s : Setting) (t : typed.Block) → IsRatedBlock s t → (f : Frame) (counts : Counts)
     → (past_block start (core spaces t)).unit ≤ counts.units
     → ((r : Rate) → ops_limit r (perf_block_code f 0 start (core spaces t)) ≤ at_rate counts.registers r)
-    → fine_from counts (length (perf_block_code f 0 start (core spaces t))) 0 (perf_block_code f 0 start (core spaces t)) ≡ true
+    → fine_from counts (length (perf_block_code f 0 start (core spaces t))) 0
+    (perf_block_code f 0 start (core spaces t)) ≡ true
 perf_valid spaces s t rated f counts units limits =
     let b : Block = core spaces t in
     let ops : List Op = perf_block_code f 0 start b in
     let counted = units_counted b in
     fine_valid true counts s.channels (block_units b) (length ops) 0 ops (omega arith) limits
-    (perf_block_named true s.channels (block_units b) f 0 start b (whole_at (block_units b)) (narrow_block spaces s t rated))
+    (perf_block_named true s.channels (block_units b) f 0 start b (whole_at (block_units b))
+    (narrow_block spaces s t rated))
     (perf_block_fine (length ops) f 0 start b (block_ranked spaces s t rated) (omega arith))
 
 -- both codes name their units by place in the text, and channels that the piece has

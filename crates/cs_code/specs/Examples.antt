@@ -19,7 +19,8 @@ use Rattle.cs_typed.specs.declared.tree.Var.TheVariants.{Local}
 abbrev pub counter : typed.Block
 counter =
     typed.andthen (typed.set 1 rate.Control (Local rate.Control 0)
-    (typed.pair rate.Control sign.Add (typed.var rate.Control (Local rate.Control 0)) (typed.number rate.Init one))) typed.no_stmt
+    (typed.pair rate.Control sign.Add (typed.var rate.Control (Local rate.Control 0)) (typed.number rate.Init one)))
+    typed.no_stmt
 
 -- a1 oscili k1, 440, 1
 -- out a1
@@ -28,7 +29,8 @@ tone =
     typed.andthen (typed.call 1 rate.Audio (Local rate.Audio 0 ∷ []) opcode.Oscili
     (typed.value (typed.var rate.Control (Local rate.Control 0)) ∷ typed.value (typed.number rate.Init (pos 440 *ℤ one))
     ∷ typed.value (typed.number rate.Init one) ∷ []))
-    (typed.andthen (typed.call 2 rate.Audio [] opcode.Out (typed.value (typed.var rate.Audio (Local rate.Audio 0)) ∷ [])) typed.no_stmt)
+    (typed.andthen (typed.call 2 rate.Audio [] opcode.Out
+    (typed.value (typed.var rate.Audio (Local rate.Audio 0)) ∷ [])) typed.no_stmt)
 
 -- k1 = k1 + k2 + k1 + k2
 abbrev pub terms : typed.Block
@@ -36,7 +38,8 @@ terms =
     let first = typed.var rate.Control (Local rate.Control 0) in
     let second = typed.var rate.Control (Local rate.Control 1) in
     let plus = typed.pair rate.Control sign.Add in
-    typed.andthen (typed.set 1 rate.Control (Local rate.Control 0) (plus (plus (plus first second) first) second)) typed.no_stmt
+    typed.andthen (typed.set 1 rate.Control (Local rate.Control 0) (plus (plus (plus first second) first) second))
+    typed.no_stmt
 
 abbrev at : Rate → ℕ → Reg
 at r n = record { rate = r; index = n }
@@ -65,7 +68,8 @@ terms_perf =
 abbrev pub terms_counts : Counts
 terms_counts = record { registers = record { init = 0; control = 3; audio = 0 }; units = 0 }
 
--- As a note begins the frequency is kept and the unit started on its table, and in each cycle the unit runs and its sound goes out.
+-- As a note begins the frequency is kept and the unit started on its table, and in each cycle the unit runs and its
+-- sound goes out.
 abbrev pub tone_init : List Op
 tone_init =
     op (act.Const (pos 440 *ℤ one)) (at rate.Init 0) []

@@ -9,7 +9,8 @@ use Rattle.cs_ir.specs.Resources.{NameTheSame, Stock, Touch, ops_touch}
 use Rattle.cs_ir.specs.Validity.{valid}
 use Rattle.cs_ir.specs.declared.op.Code.{Code}
 use Rattle.cs_meaning.specs.Core.{Block, core}
-use Rattle.cs_meaning.specs.Uses.{beginning, block_touched, cycle}
+use Rattle.cs_meaning.specs.Uses.{block_touched}
+use Rattle.cs_meaning.specs.When.{beginning, cycle}
 use Rattle.cs_typed.specs.TypedTree as typed
 use Rattle.cs_code.specs.Means.{Means}
 use Rattle.cs_code.specs.Names.{UnitKind, block_units, AllNamed}

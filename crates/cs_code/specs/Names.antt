@@ -6,7 +6,8 @@ use Rattle.cs_words.specs.declared.catalogue.Opcode.{Opcode}
 use Rattle.cs_ir.specs.declared.op.Act.{Act}
 use Rattle.cs_ir.specs.declared.op.Act.TheVariants as act
 use Rattle.cs_ir.specs.declared.op.Op.{Op}
-use Rattle.cs_meaning.specs.Core.{Stmt, Block, Arms, set, unit, zak, store, out, out_at, ask, turnoff, nothing, choose, no_stmt, andthen, otherwise, arm}
+use Rattle.cs_meaning.specs.Core.{Stmt, Block, Arms, set, unit, zak, store, out, out_at, ask, turnoff, nothing, choose}
+use Rattle.cs_meaning.specs.Core.{no_stmt, andthen, otherwise, arm}
 
 -- what a unit is: an opcode at a rate
 pub record UnitKind : Type 0 where
@@ -18,7 +19,7 @@ abbrev mutual
   pub stmt_units : Stmt → List UnitKind
   stmt_units (unit r vs opcode reach xs is) = record { opcode = opcode; rate = r } ∷ []
   stmt_units (zak r vs opcode reach xs) = []
-  stmt_units (store r opcode reach es is) = []
+  stmt_units (store r reach es is) = []
   stmt_units (choose r arms) = arms_units arms
   stmt_units (set r v e) = []
   stmt_units (out r es) = []

@@ -2,9 +2,9 @@
 ghost use Rattle.std.specs.Prelude.{◌≡◌, ◌++◌, map, not, true, IfOk, OnOk};
 ghost use Rattle.cs_meaning.specs.Core.{settled, moving, values_of};
 ghost use Rattle.cs_code.specs.inner.Kept.{past_all};
-ghost use Rattle.cs_words.specs.Catalogue.{row_of};
+ghost use Rattle.cs_words.specs.Catalogue.{is_settled, row_of};
 ghost use Rattle.cs_code.specs.inner.Code.{operands_code, on_code, keep_all_code};
-ghost use Rattle.cs_code.specs.inner.Emitted.{frame_of, is_whole, arguments_of, expressions_of, taken};
+ghost use Rattle.cs_code.specs.inner.Emitted.{frame_of, when_of, arguments_of, expressions_of, taken};
 ghost use Rattle.cs_typed.specs.TypedTree.{argument};
 ghost use Rattle.cs_code.specs.inner.Frames.{spots};
 ghost use Rattle.cs_code.specs.declared.frame.Pass.TheVariants as pass;
@@ -14,7 +14,7 @@ use crate::frame::{Context, add, push};
 use cs_base::{OutOfMemory, Rate};
 use cs_ir::{Act, Op, Operands, Reg};
 use cs_typed::{TypedArg, TypedExpr, Var};
-use cs_words::{Opcode, signature_of};
+use cs_words::{Letter, Opcode, signature_of};
 use std::alloc::Global;
 
 /// A call of an opcode, and how often it is done.
@@ -34,17 +34,17 @@ pub struct Parted<'t> {
 }
 
 impl<'t> Parted<'t> {
-    // One argument more.
+    // One argument more, of an opcode that takes it by this letter.
     #[tactic(auto, using(crate::proofs::Lists::expressions_more, crate::proofs::Lists::append_nothing))]
-    fn add(&mut self, settles: bool, arg: &'t TypedArg) -> Result<(), OutOfMemory>
+    fn add(&mut self, letter: Letter, arg: &'t TypedArg) -> Result<(), OutOfMemory>
         ensures settled { OnOk result (expressions_of self.new.settled.items
-            ≡ expressions_of self.old.settled.items ++ taken settles (argument arg.now)) }
+            ≡ expressions_of self.old.settled.items ++ taken (is_settled letter) (argument arg.now)) }
         ensures moving { OnOk result (expressions_of self.new.moving.items
-            ≡ expressions_of self.old.moving.items ++ taken (not settles) (argument arg.now)) }
+            ≡ expressions_of self.old.moving.items ++ taken (not (is_settled letter)) (argument arg.now)) }
     {
         match arg {
             TypedArg::Value(e) => {
-                if settles {
+                if letter.is_settled() {
                     self.settled.push(e)?;
                 } else {
                     self.moving.push(e)?;
@@ -81,7 +81,7 @@ fn part_args<'t>(parted: &mut Parted<'t>, call: &Call<'t>) -> Result<(), OutOfMe
     let row = signature_of(call.opcode);
     let mut place: usize = 0;
     for arg in call.args {
-        parted.add(row.letter(place).is_settled(), arg)?;
+        parted.add(row.letter(place), arg)?;
         place += 1;
     }
     Ok(())
@@ -133,9 +133,9 @@ pub fn operands(
     values: &[&TypedExpr],
 ) -> Result<Gathered, OutOfMemory>
     ensures ops { OnOk result (ops.new.items ≡ ops.old.items
-        ++ operands_code (frame_of context.bases) (is_whole context.pass) at (expressions_of values.now) 0) }
+        ++ operands_code (frame_of context.bases) (when_of context.pass) at (expressions_of values.now) 0) }
     ensures regs { IfOk result (λ g. g.regs.items
-        ≡ spots (frame_of context.bases) (is_whole context.pass) at (expressions_of values.now) 0) }
+        ≡ spots (frame_of context.bases) (when_of context.pass) at (expressions_of values.now) 0) }
     ensures next { IfOk result (λ g. g.next ≡ past_all at (expressions_of values.now)) }
 {
     let mut regs = Vec::new(context.alloc);
@@ -152,9 +152,9 @@ fn gather(
     values: &[&TypedExpr],
 ) -> Result<u32, OutOfMemory>
     ensures ops { OnOk result (ops.new.items ≡ ops.old.items
-        ++ operands_code (frame_of context.bases) (is_whole context.pass) at (expressions_of values.now) 0) }
+        ++ operands_code (frame_of context.bases) (when_of context.pass) at (expressions_of values.now) 0) }
     ensures regs { OnOk result (regs.new.items ≡ regs.old.items
-        ++ spots (frame_of context.bases) (is_whole context.pass) at (expressions_of values.now) 0) }
+        ++ spots (frame_of context.bases) (when_of context.pass) at (expressions_of values.now) 0) }
     ensures next { IfOk result (λ n. n ≡ past_all at (expressions_of values.now)) }
 {
     let mut next = at;
@@ -178,7 +178,7 @@ pub fn push_on(
     values: &[&TypedExpr],
 ) -> Result<u32, OutOfMemory>
     ensures ops { OnOk result (ops.new.items ≡ ops.old.items
-        ++ on_code (frame_of context.bases) (is_whole context.pass) at act into (expressions_of values.now)) }
+        ++ on_code (frame_of context.bases) (when_of context.pass) at act into (expressions_of values.now)) }
     ensures next { IfOk result (λ n. n ≡ past_all at (expressions_of values.now)) }
 {
     let found = operands(ops, context, at, values)?;

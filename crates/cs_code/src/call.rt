@@ -1,16 +1,16 @@
 // The code of calls, for either pass, by what a call is short for.
-ghost use Rattle.std.specs.Prelude.{◌≡◌, ◌++◌, IfOk, IfSome, IsNone, OnOk, Some, None};
+ghost use Rattle.std.specs.Prelude.{◌≡◌, ◌++◌, IfOk, OnOk};
 ghost use Rattle.cs_base.specs.declared.resource.Rate.TheVariants as rate;
 ghost use Rattle.cs_meaning.specs.Core.{ask, unit_call, store_call, zak_call, values_of};
 ghost use Rattle.cs_code.specs.inner.Kept.{start, past_stmt};
 ghost use Rattle.cs_words.specs.Catalogue.{row_of};
 ghost use Rattle.cs_words.specs.declared.catalogue.Shape.TheVariants as shape;
-ghost use Rattle.cs_code.specs.inner.Emitted.{frame_of, place_of, pass_code};
-ghost use Rattle.cs_code.specs.inner.Emitted.{assignment_of, assigned, put_shape};
+ghost use Rattle.cs_code.specs.inner.Emitted.{frame_of, pass_code};
+ghost use Rattle.cs_code.specs.inner.Emitted.{IsAssignmentOf, put_shape};
 ghost use Rattle.cs_code.specs.inner.Emitted.{arguments_of, call_of, effect_of, sent_as};
 
 use crate::args::{Call, parted_values, values};
-use crate::frame::{Context, Step};
+use crate::frame::{Context, Progress};
 use crate::reach::{unit_reach, zak_reach};
 use crate::simple::{Assignment, Sending, ask, assign, send, store, turnoff, unit, zak};
 use crate::value::Value;
@@ -28,10 +28,7 @@ pub enum Putting {
 
 // A variable takes a value once, as the note begins.
 fn once<'t>(call: &Call<'t>) -> Option<Assignment<'t>>
-    ensures some { IfSome result (λ a. assigned shape.Init call.now.rate call.now.results.now (arguments_of call.now)
-        ≡ Some (assignment_of a)) }
-    ensures none { IsNone result → assigned shape.Init call.now.rate call.now.results.now (arguments_of call.now)
-        ≡ None }
+    ensures { IsAssignmentOf result shape.Init call.now }
 {
     match (call.results, call.args) {
         ([v, ..], [TypedArg::Value(e), ..]) => Some(Assignment {
@@ -45,10 +42,7 @@ fn once<'t>(call: &Call<'t>) -> Option<Assignment<'t>>
 
 // A variable takes what a channel has.
 fn get<'t>(call: &Call<'t>) -> Option<Assignment<'t>>
-    ensures some { IfSome result (λ a. assigned shape.ChannelGet call.now.rate call.now.results.now
-        (arguments_of call.now) ≡ Some (assignment_of a)) }
-    ensures none { IsNone result → assigned shape.ChannelGet call.now.rate call.now.results.now
-        (arguments_of call.now) ≡ None }
+    ensures { IsAssignmentOf result shape.ChannelGet call.now }
 {
     match (call.results, call.args) {
         ([v, ..], [TypedArg::Text(c), ..]) => Some(Assignment {
@@ -62,10 +56,7 @@ fn get<'t>(call: &Call<'t>) -> Option<Assignment<'t>>
 
 // A channel takes a value, or what it has and a value.
 fn put<'t>(call: &Call<'t>, how: Putting) -> Option<Assignment<'t>>
-    ensures some { IfSome result (λ a. assigned (put_shape how) call.now.rate call.now.results.now
-        (arguments_of call.now) ≡ Some (assignment_of a)) }
-    ensures none { IsNone result → assigned (put_shape how) call.now.rate call.now.results.now
-        (arguments_of call.now) ≡ None }
+    ensures { IsAssignmentOf result (put_shape how) call.now }
 {
     match call.args {
         [TypedArg::Value(e), TypedArg::Text(c), ..] => Some(Assignment {
@@ -82,10 +73,7 @@ fn put<'t>(call: &Call<'t>, how: Putting) -> Option<Assignment<'t>>
 
 // A channel takes 0.
 fn clear<'t>(call: &Call<'t>) -> Option<Assignment<'t>>
-    ensures some { IfSome result (λ a. assigned shape.ChannelClear call.now.rate call.now.results.now
-        (arguments_of call.now) ≡ Some (assignment_of a)) }
-    ensures none { IsNone result → assigned shape.ChannelClear call.now.rate call.now.results.now
-        (arguments_of call.now) ≡ None }
+    ensures { IsAssignmentOf result shape.ChannelClear call.now }
 {
     match call.args {
         [TypedArg::Text(c), ..] => Some(Assignment {
@@ -99,10 +87,7 @@ fn clear<'t>(call: &Call<'t>) -> Option<Assignment<'t>>
 
 // The assignment that a call is short for, if it is.
 fn assigned<'t>(call: &Call<'t>) -> Option<Assignment<'t>>
-    ensures some { IfSome result (λ a. assigned (row_of call.now.opcode).shape call.now.rate call.now.results.now
-        (arguments_of call.now) ≡ Some (assignment_of a)) }
-    ensures none { IsNone result → assigned (row_of call.now.opcode).shape call.now.rate call.now.results.now
-        (arguments_of call.now) ≡ None }
+    ensures { IsAssignmentOf result (row_of call.now.opcode).shape call.now }
 {
     match signature_of(call.opcode).shape() {
         Shape::Init => once(call),
@@ -118,14 +103,14 @@ fn assigned<'t>(call: &Call<'t>) -> Option<Assignment<'t>>
 fn unit_call(
     ops: &mut Vec<Op>,
     context: Context,
-    p: Step,
+    p: Progress,
     call: &Call<'_>,
-) -> Result<Step, OutOfMemory>
+) -> Result<Progress, OutOfMemory>
     ensures ops { OnOk result (ops.new.items
-        ≡ ops.old.items ++ pass_code context.pass (frame_of context.bases) 0 (place_of p)
+        ≡ ops.old.items ++ pass_code context.pass (frame_of context.bases) 0 p
         (unit_call call.now.rate call.now.results.now call.now.opcode (arguments_of call.now))) }
-    ensures next { IfOk result (λ q. place_of q
-        ≡ past_stmt (place_of p) (unit_call call.now.rate call.now.results.now call.now.opcode
+    ensures next { IfOk result (λ q. q
+        ≡ past_stmt p (unit_call call.now.rate call.now.results.now call.now.opcode
         (arguments_of call.now))) }
 {
     let values = parted_values(context.alloc, call)?;
@@ -137,32 +122,32 @@ fn unit_call(
 fn store_call(
     ops: &mut Vec<Op>,
     context: Context,
-    p: Step,
+    p: Progress,
     call: &Call<'_>,
-) -> Result<Step, OutOfMemory>
+) -> Result<Progress, OutOfMemory>
     ensures ops { OnOk result (ops.new.items
-        ≡ ops.old.items ++ pass_code context.pass (frame_of context.bases) 0 (place_of p)
+        ≡ ops.old.items ++ pass_code context.pass (frame_of context.bases) 0 p
         (store_call call.now.rate call.now.opcode (arguments_of call.now))) }
-    ensures next { IfOk result (λ q. place_of q
-        ≡ past_stmt (place_of p) (store_call call.now.rate call.now.opcode (arguments_of call.now))) }
+    ensures next { IfOk result (λ q. q
+        ≡ past_stmt p (store_call call.now.rate call.now.opcode (arguments_of call.now))) }
 {
     let all = values(context.alloc, call)?;
     let parted = parted_values(context.alloc, call)?;
-    store(ops, context, p, call, &all, &parted.settled)
+    store(ops, context, p, call.rate, &all, &parted.settled)
 }
 
 // What reads or writes zak places, over its values.
 fn zak_call(
     ops: &mut Vec<Op>,
     context: Context,
-    p: Step,
+    p: Progress,
     call: &Call<'_>,
-) -> Result<Step, OutOfMemory>
+) -> Result<Progress, OutOfMemory>
     ensures ops { OnOk result (ops.new.items
-        ≡ ops.old.items ++ pass_code context.pass (frame_of context.bases) 0 (place_of p)
+        ≡ ops.old.items ++ pass_code context.pass (frame_of context.bases) 0 p
         (zak_call context.spaces call.now.rate call.now.results.now call.now.opcode (row_of call.now.opcode).shape
         (arguments_of call.now))) }
-    ensures next { IfOk result (λ q. place_of q ≡ past_stmt (place_of p) (zak_call context.spaces call.now.rate
+    ensures next { IfOk result (λ q. q ≡ past_stmt p (zak_call context.spaces call.now.rate
         call.now.results.now call.now.opcode (row_of call.now.opcode).shape (arguments_of call.now))) }
 {
     let values = parted_values(context.alloc, call)?;
@@ -175,15 +160,15 @@ fn zak_call(
 fn out(
     ops: &mut Vec<Op>,
     context: Context,
-    p: Step,
+    p: Progress,
     sending: Sending,
     call: &Call<'_>,
-) -> Result<Step, OutOfMemory>
+) -> Result<Progress, OutOfMemory>
     ensures ops { OnOk result (ops.new.items ≡ ops.old.items
-        ++ pass_code context.pass (frame_of context.bases) 0 (place_of p)
+        ++ pass_code context.pass (frame_of context.bases) 0 p
         (sent_as sending rate.Audio (values_of (arguments_of call.now)))) }
-    ensures next { IfOk result (λ q. place_of q
-        ≡ past_stmt (place_of p) (sent_as sending rate.Audio (values_of (arguments_of call.now)))) }
+    ensures next { IfOk result (λ q. q
+        ≡ past_stmt p (sent_as sending rate.Audio (values_of (arguments_of call.now)))) }
 {
     let values = values(context.alloc, call)?;
     send(ops, context, p, sending, &values)
@@ -202,14 +187,14 @@ fn schedule(ops: &mut Vec<Op>, context: Context, call: &Call<'_>) -> Result<(), 
 fn effect(
     ops: &mut Vec<Op>,
     context: Context,
-    p: Step,
+    p: Progress,
     call: &Call<'_>,
-) -> Result<Step, OutOfMemory>
+) -> Result<Progress, OutOfMemory>
     ensures ops { OnOk result (ops.new.items ≡ ops.old.items
-        ++ pass_code context.pass (frame_of context.bases) 0 (place_of p) (effect_of context.spaces call.now
+        ++ pass_code context.pass (frame_of context.bases) 0 p (effect_of context.spaces call.now
         (row_of call.now.opcode).shape)) }
-    ensures next { IfOk result (λ q. place_of q
-        ≡ past_stmt (place_of p) (effect_of context.spaces call.now (row_of call.now.opcode).shape)) }
+    ensures next { IfOk result (λ q. q
+        ≡ past_stmt p (effect_of context.spaces call.now (row_of call.now.opcode).shape)) }
 {
     match signature_of(call.opcode).shape() {
         Shape::Out => out(ops, context, p, Sending::InTurn, call),
@@ -235,14 +220,14 @@ fn effect(
 pub fn call(
     ops: &mut Vec<Op>,
     context: Context,
-    p: Step,
+    p: Progress,
     call: &Call<'_>,
-) -> Result<Step, OutOfMemory>
+) -> Result<Progress, OutOfMemory>
     ensures ops { OnOk result (ops.new.items ≡ ops.old.items
-        ++ pass_code context.pass (frame_of context.bases) 0 (place_of p) (call_of context.spaces
+        ++ pass_code context.pass (frame_of context.bases) 0 p (call_of context.spaces
         call.now (row_of call.now.opcode).shape)) }
-    ensures next { IfOk result (λ q. place_of q
-        ≡ past_stmt (place_of p) (call_of context.spaces call.now (row_of
+    ensures next { IfOk result (λ q. q
+        ≡ past_stmt p (call_of context.spaces call.now (row_of
         call.now.opcode).shape)) }
 {
     match assigned(call) {

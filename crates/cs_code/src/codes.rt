@@ -9,7 +9,7 @@ ghost use Rattle.cs_code.specs.inner.Frames.{frame_for};
 ghost use Rattle.cs_code.specs.inner.Limits.{ops_limit};
 
 use crate::counts::with_ops;
-use crate::frame::{Bases, Context, Pass, Step, add, narrow};
+use crate::frame::{Bases, Context, Pass, Progress, add, narrow};
 use crate::stmt::body_of;
 use cs_base::{OutOfMemory, PerRate, Spaces};
 use cs_ir::{Counts, Op};
@@ -25,7 +25,7 @@ pub struct Codes {
 }
 
 /// Where a block begins.
-const START: Step = Step { part: 0, unit: 0 };
+const START: Progress = Progress { part: 0, unit: 0 };
 
 // The counts of two codes.
 #[tactic(auto, using(crate::proofs::Reached::reached_two))]

@@ -5,11 +5,11 @@ ghost use Rattle.cs_typed.specs.TypedTree.{expression, var};
 ghost use Rattle.cs_typed.specs.declared.tree.Var.TheVariants.{Local};
 ghost use Rattle.cs_code.specs.inner.Code.{own, code, operand_code, look_code, keep_code};
 ghost use Rattle.cs_code.specs.inner.Code.{kept_code, set_code};
-ghost use Rattle.cs_code.specs.inner.Emitted.{frame_of, parts_code, parts_past, value_of, is_whole};
+ghost use Rattle.cs_code.specs.inner.Emitted.{frame_of, parts_code, parts_past, value_of, when_of};
 ghost use Rattle.cs_code.specs.inner.Frames.{spot, kept_reg};
 ghost use Rattle.cs_code.specs.declared.frame.Pass.TheVariants as pass;
 
-use crate::frame::{Context, Spot, add, kept_reg, local, next_of, push, temp};
+use crate::frame::{Context, ValueSpot, add, kept_reg, local, next_of, push, temp};
 use crate::value::{Value, direct, rate_of};
 use cs_base::{Num, OutOfMemory, Rate};
 use cs_ir::{Act, Op, Operands, Reg};
@@ -40,7 +40,7 @@ fn own(
     d: u32,
 ) -> Result<u32, OutOfMemory>
     ensures ops { OnOk result (ops.new.items ≡ ops.old.items
-        ++ own (frame_of context.bases) (is_whole context.pass) at (expression e.now) into d) }
+        ++ own (frame_of context.bases) (when_of context.pass) at (expression e.now) into d) }
     ensures next { IfOk result (λ n. n ≡ past at (expression e.now)) }
 {
     match &e.what {
@@ -96,22 +96,22 @@ pub fn operand(
     at: u32,
     e: &TypedExpr,
     d: u32,
-) -> Result<Spot, OutOfMemory>
+) -> Result<ValueSpot, OutOfMemory>
     ensures ops { OnOk result (ops.new.items ≡ ops.old.items
-        ++ operand_code (frame_of context.bases) (is_whole context.pass) at (expression e.now) d) }
+        ++ operand_code (frame_of context.bases) (when_of context.pass) at (expression e.now) d) }
     ensures spot { IfOk result (λ s. s.reg
-        ≡ spot (frame_of context.bases) (is_whole context.pass) at (expression e.now) d) }
+        ≡ spot (frame_of context.bases) (when_of context.pass) at (expression e.now) d) }
     ensures next { IfOk result (λ s. s.next ≡ past at (expression e.now)) }
 {
     match direct(context, at, &Value::Of(e))? {
-        Some(reg) => Ok(Spot {
+        Some(reg) => Ok(ValueSpot {
             reg,
             next: next_of(e.rate, at, at)?,
         }),
         None => {
             let reg = temp(context.bases, e.rate, d)?;
             let next = own(ops, context, at, e, reg, d)?;
-            Ok(Spot { reg, next })
+            Ok(ValueSpot { reg, next })
         }
     }
 }
@@ -125,20 +125,20 @@ fn variable(
     rate: Rate,
     v: Var,
     d: u32,
-) -> Result<Spot, OutOfMemory>
+) -> Result<ValueSpot, OutOfMemory>
     ensures ops { OnOk result (ops.new.items ≡ ops.old.items
-        ++ operand_code (frame_of context.bases) (is_whole context.pass) at (var rate v) d) }
+        ++ operand_code (frame_of context.bases) (when_of context.pass) at (var rate v) d) }
     ensures spot { IfOk result (λ s. s.reg
-        ≡ spot (frame_of context.bases) (is_whole context.pass) at (var rate v) d) }
+        ≡ spot (frame_of context.bases) (when_of context.pass) at (var rate v) d) }
     ensures next { IfOk result (λ s. s.next ≡ past at (var rate v)) }
 {
     let next = next_of(rate, at, at)?;
     match direct(context, at, &Value::Read(rate, v))? {
-        Some(reg) => Ok(Spot { reg, next }),
+        Some(reg) => Ok(ValueSpot { reg, next }),
         None => {
             let reg = temp(context.bases, rate, d)?;
             look(ops, v, reg)?;
-            Ok(Spot { reg, next })
+            Ok(ValueSpot { reg, next })
         }
     }
 }
@@ -153,7 +153,7 @@ fn made(
     d: u32,
 ) -> Result<u32, OutOfMemory>
     ensures ops { OnOk result (ops.new.items ≡ ops.old.items
-        ++ own (frame_of context.bases) (is_whole context.pass) at (value_of value.now) into d) }
+        ++ own (frame_of context.bases) (when_of context.pass) at (value_of value.now) into d) }
     ensures next { IfOk result (λ n. n ≡ past at (value_of value.now)) }
 {
     match value {
@@ -187,22 +187,22 @@ pub fn spot_of(
     context: Context,
     at: u32,
     value: &Value<'_>,
-) -> Result<Spot, OutOfMemory>
+) -> Result<ValueSpot, OutOfMemory>
     ensures ops { OnOk result (ops.new.items ≡ ops.old.items
-        ++ operand_code (frame_of context.bases) (is_whole context.pass) at (value_of value.now) 0) }
+        ++ operand_code (frame_of context.bases) (when_of context.pass) at (value_of value.now) 0) }
     ensures spot { IfOk result (λ s. s.reg
-        ≡ spot (frame_of context.bases) (is_whole context.pass) at (value_of value.now) 0) }
+        ≡ spot (frame_of context.bases) (when_of context.pass) at (value_of value.now) 0) }
     ensures next { IfOk result (λ s. s.next ≡ past at (value_of value.now)) }
 {
     match direct(context, at, value)? {
-        Some(reg) => Ok(Spot {
+        Some(reg) => Ok(ValueSpot {
             reg,
             next: next_of(rate_of(value), at, at)?,
         }),
         None => {
             let reg = temp(context.bases, rate_of(value), 0)?;
             let next = made(ops, context, at, value, reg, 0)?;
-            Ok(Spot { reg, next })
+            Ok(ValueSpot { reg, next })
         }
     }
 }
@@ -217,7 +217,7 @@ pub fn code(
     into: Reg,
 ) -> Result<u32, OutOfMemory>
     ensures ops { OnOk result (ops.new.items ≡ ops.old.items
-        ++ code (frame_of context.bases) (is_whole context.pass) at (value_of value.now) into 0) }
+        ++ code (frame_of context.bases) (when_of context.pass) at (value_of value.now) into 0) }
     ensures next { IfOk result (λ n. n ≡ past at (value_of value.now)) }
 {
     match direct(context, at, value)? {
@@ -314,7 +314,7 @@ pub fn set(
     value: &Value<'_>,
 ) -> Result<u32, OutOfMemory>
     ensures ops { OnOk result (ops.new.items ≡ ops.old.items
-        ++ set_code (frame_of context.bases) (is_whole context.pass) at to (value_of value.now)) }
+        ++ set_code (frame_of context.bases) (when_of context.pass) at to (value_of value.now)) }
     ensures next { IfOk result (λ n. n ≡ past at (value_of value.now)) }
 {
     match to {
@@ -335,7 +335,7 @@ fn set_local(
     value: &Value<'_>,
 ) -> Result<u32, OutOfMemory>
     ensures ops { OnOk result (ops.new.items ≡ ops.old.items
-        ++ set_code (frame_of context.bases) (is_whole context.pass) at (Local to.rate to.index) (value_of value.now)) }
+        ++ set_code (frame_of context.bases) (when_of context.pass) at (Local to.rate to.index) (value_of value.now)) }
     ensures next { IfOk result (λ n. n ≡ past at (value_of value.now)) }
 {
     if rate_of(value).same(to.rate) {

@@ -1,8 +1,8 @@
 // Where a note's values stand among the registers, and the ops that are appended.
-ghost use Rattle.std.specs.Prelude.{◌≡◌, ◌+◌, ◌++◌, [], ◌∷◌, not, IfOk, OnOk, Some};
+ghost use Rattle.std.specs.Prelude.{◌≡◌, ◌+◌, ◌++◌, [], ◌∷◌, IfOk, OnOk, Some};
 ghost use Rattle.cs_ir.specs.Waves.{if_init};
 ghost use Rattle.cs_meaning.specs.Notes.{reg};
-ghost use Rattle.cs_code.specs.inner.Emitted.{frame_of, is_whole};
+ghost use Rattle.cs_code.specs.inner.Emitted.{frame_of};
 ghost use Rattle.cs_code.specs.inner.Frames.{op_of, kept_reg, temp};
 
 use cs_base::{OutOfMemory, PerRate, Rate, Spaces};
@@ -35,16 +35,16 @@ pub struct Context {
     pub spaces: Spaces,
 }
 
-/// How many values were kept and units met in the text before a place.
+/// How far the code of a text has come: how many values were kept and units met in the text before a place.
 #[derive(Clone, Copy)]
-pub struct Step {
+pub struct Progress {
     pub part: u32,
     pub unit: u32,
 }
 
 /// Where a value stands, and the number of the next kept value after its own.
 #[derive(Clone, Copy)]
-pub struct Spot {
+pub struct ValueSpot {
     pub reg: Reg,
     pub next: u32,
 }
@@ -79,17 +79,6 @@ pub fn local(rate: Rate, index: usize) -> Result<Reg, OutOfMemory>
         rate,
         index: narrow(index)?,
     })
-}
-
-impl Pass {
-    pub fn is_performance(self) -> bool
-        ensures { result ≡ not (is_whole self) }
-    {
-        match self {
-            Pass::Initialisation => false,
-            Pass::Performance => true,
-        }
-    }
 }
 
 /// The register of a kept value.

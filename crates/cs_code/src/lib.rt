@@ -7,8 +7,8 @@
 //!
 //! To be read in this order: `frame` (where values stand among the registers), `value` and `expr` (expressions),
 //! `args`, `reach` and `run` (the values of calls, and ops on them), `simple` (simple statements in either pass),
-//! `call` (what a call is short for), `jumps` (jumps that are aimed once their end is known), `stmt` (statements, blocks,
-//! arms), `counts` (registers in use), `codes` (both codes of a block), `orchestra` (`lower`: valid codes, and
+//! `call` (what a call is short for), `jumps` (jumps that are aimed once their end is known), `stmt` (statements,
+//! blocks, arms), `counts` (registers in use), `codes` (both codes of a block), `orchestra` (`lower`: valid codes, and
 //! instruments by number), `laws` (codes worked by hand).
 #![tactic(auto)]
 

@@ -13,7 +13,7 @@ use cs_words::{Opcode, Shape, signature_of};
 /// What is known of an argument: nothing where there is none, and of a literal the whole number
 /// below it.
 #[derive(Clone, Copy)]
-pub enum Known {
+pub enum KnownArgument {
     Missing,
     Literal(u32),
     Other,
@@ -47,7 +47,7 @@ pub fn zak_reach(spaces: Spaces, shape: Shape, values: &[&TypedExpr]) -> Reach
 }
 
 // Which zak places, by what is known of the first two values.
-fn zak_by(spaces: Spaces, shape: Shape, first: Known, second: Known) -> Reach
+fn zak_by(spaces: Spaces, shape: Shape, first: KnownArgument, second: KnownArgument) -> Reach
     ensures { result ≡ zak_known spaces shape first second }
 {
     match shape {
@@ -59,70 +59,70 @@ fn zak_by(spaces: Spaces, shape: Shape, first: Known, second: Known) -> Reach
     }
 }
 
-fn table_of(table: Known) -> Reach
+fn table_of(table: KnownArgument) -> Reach
     ensures { result ≡ table_known table }
 {
     match table {
-        Known::Literal(n) => Reach::Span(n, n),
-        Known::Missing | Known::Other => Reach::Any,
+        KnownArgument::Literal(n) => Reach::Span(n, n),
+        KnownArgument::Missing | KnownArgument::Other => Reach::Any,
     }
 }
 
-fn place_of(places: u32, place: Known) -> Reach
+fn place_of(places: u32, place: KnownArgument) -> Reach
     ensures { result ≡ place_known places place }
 {
     match place {
-        Known::Literal(n) => if n < places {
+        KnownArgument::Literal(n) => if n < places {
             Reach::Span(n, n)
         } else {
             Reach::Nothing
         },
-        Known::Other => Reach::Any,
-        Known::Missing => Reach::Nothing,
+        KnownArgument::Other => Reach::Any,
+        KnownArgument::Missing => Reach::Nothing,
     }
 }
 
-fn span_of(places: u32, first: Known, last: Known) -> Reach
+fn span_of(places: u32, first: KnownArgument, last: KnownArgument) -> Reach
     ensures { result ≡ span_known places first last }
 {
     match (first, last) {
-        (Known::Literal(n), Known::Literal(m)) => {
+        (KnownArgument::Literal(n), KnownArgument::Literal(m)) => {
             if n < places && n <= m {
                 Reach::Span(n, m.min(places - 1))
             } else {
                 Reach::Nothing
             }
         }
-        (_, Known::Missing) => Reach::Nothing,
+        (_, KnownArgument::Missing) => Reach::Nothing,
         _ => Reach::Any,
     }
 }
 
 // What is known of the first of some values, and of the second.
-fn known_first(values: &[&TypedExpr]) -> Known
+fn known_first(values: &[&TypedExpr]) -> KnownArgument
     ensures { result ≡ known_at (expressions_of values.now) 0 }
 {
     match values {
         [e, ..] => known_of(e),
-        [] => Known::Missing,
+        [] => KnownArgument::Missing,
     }
 }
 
-fn known_second(values: &[&TypedExpr]) -> Known
+fn known_second(values: &[&TypedExpr]) -> KnownArgument
     ensures { result ≡ known_at (expressions_of values.now) 1 }
 {
     match values {
         [_, rest @ ..] => known_first(rest),
-        [] => Known::Missing,
+        [] => KnownArgument::Missing,
     }
 }
 
-fn known_of(e: &TypedExpr) -> Known
+fn known_of(e: &TypedExpr) -> KnownArgument
     ensures { result ≡ known_of (expression e.now) }
 {
     match &e.what {
-        TypedPart::Number(value) => Known::Literal(whole_part(*value)),
-        _ => Known::Other,
+        TypedPart::Number(value) => KnownArgument::Literal(whole_part(*value)),
+        _ => KnownArgument::Other,
     }
 }
 

@@ -2,7 +2,7 @@
 ghost use Rattle.std.specs.Prelude.{◌≡◌, ◌+◌, ◌++◌, [], IfOk, OnOk};
 ghost use Rattle.cs_code.specs.inner.Kept.{past_all};
 ghost use Rattle.cs_code.specs.inner.Code.{run_code, target, given_code};
-ghost use Rattle.cs_code.specs.inner.Emitted.{frame_of, expressions_of, is_whole};
+ghost use Rattle.cs_code.specs.inner.Emitted.{frame_of, expressions_of, when_of};
 
 use crate::args::{Call, push_on};
 use crate::frame::{Bases, Context, local, push, temp};
@@ -59,7 +59,7 @@ pub fn run(
     values: &[&TypedExpr],
 ) -> Result<u32, OutOfMemory>
     ensures ops { OnOk result (ops.new.items ≡ ops.old.items
-        ++ run_code (frame_of context.bases) (is_whole context.pass) at act call.now.rate
+        ++ run_code (frame_of context.bases) (when_of context.pass) at act call.now.rate
         call.now.results.now (expressions_of values.now)) }
     ensures next { IfOk result (λ n. n ≡ past_all at (expressions_of values.now)) }
 {

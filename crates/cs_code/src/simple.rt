@@ -7,12 +7,12 @@ ghost use Rattle.cs_meaning.specs.Notes.{reg};
 ghost use Rattle.cs_code.specs.inner.Kept.{start, past_stmt};
 ghost use Rattle.cs_code.specs.inner.Code.{start_code, seek_code, out_ops, out_at_ops};
 ghost use Rattle.cs_code.specs.declared.frame.Pass.TheVariants as pass;
-ghost use Rattle.cs_code.specs.inner.Emitted.{frame_of, place_of, pass_code, expressions_of};
+ghost use Rattle.cs_code.specs.inner.Emitted.{frame_of, pass_code, expressions_of};
 ghost use Rattle.cs_code.specs.inner.Emitted.{assignment_of, set_of, sent_as, sent_ops};
 
 use crate::args::{Call, Parted, keep_all, operands, push_on};
 use crate::expr::{keep_value, set};
-use crate::frame::{Context, Pass, Step, add, push};
+use crate::frame::{Context, Pass, Progress, add, push};
 use crate::reach::table_reach;
 use crate::run::run;
 use crate::value::Value;
@@ -41,12 +41,12 @@ pub struct Assignment<'t> {
 pub fn assign(
     ops: &mut Vec<Op>,
     context: Context,
-    p: Step,
+    p: Progress,
     it: &Assignment<'_>,
-) -> Result<Step, OutOfMemory>
+) -> Result<Progress, OutOfMemory>
     ensures ops { OnOk result (ops.new.items ≡ ops.old.items
-        ++ pass_code context.pass (frame_of context.bases) 0 (place_of p) (set_of (assignment_of it.now))) }
-    ensures next { IfOk result (λ q. place_of q ≡ past_stmt (place_of p) (set_of (assignment_of it.now))) }
+        ++ pass_code context.pass (frame_of context.bases) 0 p (set_of (assignment_of it.now))) }
+    ensures next { IfOk result (λ q. q ≡ past_stmt p (set_of (assignment_of it.now))) }
 {
     match (context.pass, it.done) {
         (Pass::Initialisation, Rate::Init) => {
@@ -55,12 +55,12 @@ pub fn assign(
         }
         (Pass::Initialisation, _) => {
             let part = keep_value(ops, context, p.part, &it.value)?;
-            Ok(Step { part, ..p })
+            Ok(Progress { part, ..p })
         }
         (Pass::Performance, Rate::Init) => Ok(p),
         (Pass::Performance, _) => {
             let part = set(ops, context, p.part, it.to, &it.value)?;
-            Ok(Step { part, ..p })
+            Ok(Progress { part, ..p })
         }
     }
 }
@@ -69,16 +69,16 @@ pub fn assign(
 pub fn unit(
     ops: &mut Vec<Op>,
     context: Context,
-    p: Step,
+    p: Progress,
     reach: Reach,
     call: &Call<'_>,
     values: &Parted<'_>,
-) -> Result<Step, OutOfMemory>
+) -> Result<Progress, OutOfMemory>
     ensures ops { OnOk result (ops.new.items ≡ ops.old.items
-        ++ pass_code context.pass (frame_of context.bases) 0 (place_of p) (unit call.now.rate call.now.results.now
+        ++ pass_code context.pass (frame_of context.bases) 0 p (unit call.now.rate call.now.results.now
         call.now.opcode reach (expressions_of values.now.moving.items) (expressions_of values.now.settled.items))) }
-    ensures next { IfOk result (λ q. place_of q
-        ≡ past_stmt (place_of p) (unit call.now.rate call.now.results.now call.now.opcode reach
+    ensures next { IfOk result (λ q. q
+        ≡ past_stmt p (unit call.now.rate call.now.results.now call.now.opcode reach
         (expressions_of values.now.moving.items) (expressions_of values.now.settled.items))) }
 {
     let unit = add(p.unit, 1)?;
@@ -87,17 +87,17 @@ pub fn unit(
         (Pass::Initialisation, Rate::Init) => {
             start(ops, context, p.unit, call, &values.settled)?;
             run(ops, context, 0, act, call, &values.moving)?;
-            Ok(Step { part: p.part, unit })
+            Ok(Progress { part: p.part, unit })
         }
         (Pass::Initialisation, _) => {
             let part = keep_all(ops, context, p.part, &values.moving)?;
             start(ops, context, p.unit, call, &values.settled)?;
-            Ok(Step { part, unit })
+            Ok(Progress { part, unit })
         }
-        (Pass::Performance, Rate::Init) => Ok(Step { part: p.part, unit }),
+        (Pass::Performance, Rate::Init) => Ok(Progress { part: p.part, unit }),
         (Pass::Performance, _) => {
             let part = run(ops, context, p.part, act, call, &values.moving)?;
-            Ok(Step { part, unit })
+            Ok(Progress { part, unit })
         }
     }
 }
@@ -130,15 +130,15 @@ fn unwritten(rate: Rate) -> Reg
 pub fn zak(
     ops: &mut Vec<Op>,
     context: Context,
-    p: Step,
+    p: Progress,
     reach: Reach,
     call: &Call<'_>,
     values: &[&TypedExpr],
-) -> Result<Step, OutOfMemory>
+) -> Result<Progress, OutOfMemory>
     ensures ops { OnOk result (ops.new.items ≡ ops.old.items
-        ++ pass_code context.pass (frame_of context.bases) 0 (place_of p) (zak call.now.rate call.now.results.now
+        ++ pass_code context.pass (frame_of context.bases) 0 p (zak call.now.rate call.now.results.now
         call.now.opcode reach (expressions_of values.now))) }
-    ensures next { IfOk result (λ q. place_of q ≡ past_stmt (place_of p) (zak call.now.rate call.now.results.now
+    ensures next { IfOk result (λ q. q ≡ past_stmt p (zak call.now.rate call.now.results.now
         call.now.opcode reach (expressions_of values.now))) }
 {
     let act = Act::Zak(call.opcode, reach);
@@ -149,12 +149,12 @@ pub fn zak(
         }
         (Pass::Initialisation, _) => {
             let part = keep_all(ops, context, p.part, values)?;
-            Ok(Step { part, ..p })
+            Ok(Progress { part, ..p })
         }
         (Pass::Performance, Rate::Init) => Ok(p),
         (Pass::Performance, _) => {
             let part = run(ops, context, p.part, act, call, values)?;
-            Ok(Step { part, ..p })
+            Ok(Progress { part, ..p })
         }
     }
 }
@@ -163,20 +163,20 @@ pub fn zak(
 pub fn store(
     ops: &mut Vec<Op>,
     context: Context,
-    p: Step,
-    call: &Call<'_>,
+    p: Progress,
+    rate: Rate,
     values: &[&TypedExpr],
     settled: &[&TypedExpr],
-) -> Result<Step, OutOfMemory>
+) -> Result<Progress, OutOfMemory>
     ensures ops { OnOk result (ops.new.items ≡ ops.old.items
-        ++ pass_code context.pass (frame_of context.bases) 0 (place_of p) (store call.now.rate call.now.opcode
+        ++ pass_code context.pass (frame_of context.bases) 0 p (store rate
         (table_reach (expressions_of settled.now)) (expressions_of values.now) (expressions_of settled.now))) }
-    ensures next { IfOk result (λ q. place_of q ≡ past_stmt (place_of p) (store call.now.rate call.now.opcode
+    ensures next { IfOk result (λ q. q ≡ past_stmt p (store rate
         (table_reach (expressions_of settled.now)) (expressions_of values.now) (expressions_of settled.now))) }
 {
-    let act = Act::Store(call.opcode, table_reach(settled));
-    let into = unwritten(call.rate);
-    match (context.pass, call.rate) {
+    let act = Act::Store(table_reach(settled));
+    let into = unwritten(rate);
+    match (context.pass, rate) {
         (Pass::Initialisation, Rate::Init) => {
             seek(ops, context, settled)?;
             push_on(ops, context, 0, act, into, values)?;
@@ -185,12 +185,12 @@ pub fn store(
         (Pass::Initialisation, _) => {
             let part = keep_all(ops, context, p.part, values)?;
             seek(ops, context, settled)?;
-            Ok(Step { part, ..p })
+            Ok(Progress { part, ..p })
         }
         (Pass::Performance, Rate::Init) => Ok(p),
         (Pass::Performance, _) => {
             let part = push_on(ops, context, p.part, act, into, values)?;
-            Ok(Step { part, ..p })
+            Ok(Progress { part, ..p })
         }
     }
 }
@@ -248,25 +248,25 @@ fn send_regs(ops: &mut Vec<Op>, sending: Sending, regs: &[Reg]) -> Result<(), Ou
 pub fn send(
     ops: &mut Vec<Op>,
     context: Context,
-    p: Step,
+    p: Progress,
     sending: Sending,
     values: &[&TypedExpr],
-) -> Result<Step, OutOfMemory>
+) -> Result<Progress, OutOfMemory>
     ensures ops { OnOk result (ops.new.items ≡ ops.old.items
-        ++ pass_code context.pass (frame_of context.bases) 0 (place_of p)
+        ++ pass_code context.pass (frame_of context.bases) 0 p
         (sent_as sending rate.Audio (expressions_of values.now))) }
-    ensures next { IfOk result (λ q. place_of q
-        ≡ past_stmt (place_of p) (sent_as sending rate.Audio (expressions_of values.now))) }
+    ensures next { IfOk result (λ q. q
+        ≡ past_stmt p (sent_as sending rate.Audio (expressions_of values.now))) }
 {
     match context.pass {
         Pass::Initialisation => {
             let part = keep_all(ops, context, p.part, values)?;
-            Ok(Step { part, ..p })
+            Ok(Progress { part, ..p })
         }
         Pass::Performance => {
             let found = operands(ops, context, p.part, values)?;
             send_regs(ops, sending, &found.regs)?;
-            Ok(Step {
+            Ok(Progress {
                 part: found.next,
                 ..p
             })

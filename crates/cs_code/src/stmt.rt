@@ -6,7 +6,7 @@ ghost use Rattle.cs_code.specs.inner.Kept.{past, past_parts, past_stmt, past_blo
 ghost use Rattle.cs_typed.specs.TypedTree as typed;
 ghost use Rattle.cs_typed.specs.declared.tree.TypedArm.{out-TypedArm};
 ghost use Rattle.cs_code.specs.inner.Code.{all_code, init_block_code};
-ghost use Rattle.cs_code.specs.inner.Emitted.{frame_of, place_of, pass_code};
+ghost use Rattle.cs_code.specs.inner.Emitted.{frame_of, pass_code};
 ghost use Rattle.cs_code.specs.inner.Emitted.{pass_block_code, cond_code, cond_reg};
 ghost use Rattle.cs_code.specs.inner.Emitted.{each_arm_code, takes_all};
 ghost use Rattle.cs_code.specs.inner.Branches.{joined, opened, jump_at, jumps, branch_of};
@@ -16,7 +16,7 @@ ghost use Rattle.cs_code.specs.declared.frame.Pass.TheVariants as pass;
 use crate::args::Call;
 use crate::call::call;
 use crate::expr::{keep, operand};
-use crate::frame::{Context, Pass, Spot, Step, kept_reg, push};
+use crate::frame::{Context, Pass, Progress, ValueSpot, kept_reg, push};
 use crate::jumps::{aim, aim_all};
 use crate::simple::{Assignment, assign};
 use crate::value::Value;
@@ -26,21 +26,21 @@ use cs_typed::{TypedArm, TypedExpr, TypedStmt, TypedWhat};
 
 /// The code of statements, and what was met before its end.
 #[derive(Drop)]
-pub struct Body {
+pub struct BodyCode {
     pub ops: Vec<Op>,
-    pub next: Step,
+    pub next: Progress,
 }
 
 /// The code of the statements of a note.
-pub fn body_of(context: Context, p: Step, stmts: &[TypedStmt]) -> Result<Body, OutOfMemory>
+pub fn body_of(context: Context, p: Progress, stmts: &[TypedStmt]) -> Result<BodyCode, OutOfMemory>
     ensures ops { IfOk result (λ m. m.ops.items ≡ pass_block_code context.pass (frame_of context.bases) 0
-        (place_of p) (core context.spaces (typed.block stmts.now))) }
-    ensures next { IfOk result (λ m. place_of m.next
-        ≡ past_block (place_of p) (core context.spaces (typed.block stmts.now))) }
+        p (core context.spaces (typed.block stmts.now))) }
+    ensures next { IfOk result (λ m. m.next
+        ≡ past_block p (core context.spaces (typed.block stmts.now))) }
 {
     let mut ops = Vec::new(context.alloc);
     let next = block(&mut ops, context, p, stmts)?;
-    Ok(Body { ops, next })
+    Ok(BodyCode { ops, next })
 }
 
 /// The code of the statements of a block. Returns what was met before its end.
@@ -49,14 +49,14 @@ pub fn body_of(context: Context, p: Step, stmts: &[TypedStmt]) -> Result<Body, O
 pub fn block(
     ops: &mut Vec<Op>,
     context: Context,
-    p: Step,
+    p: Progress,
     stmts: &[TypedStmt],
-) -> Result<Step, OutOfMemory>
+) -> Result<Progress, OutOfMemory>
     ensures ops { OnOk result (ops.new.items ≡ ops.old.items
-        ++ pass_block_code context.pass (frame_of context.bases) (length ops.old.items) (place_of p)
+        ++ pass_block_code context.pass (frame_of context.bases) (length ops.old.items) p
         (core context.spaces (typed.block stmts.now))) }
-    ensures next { IfOk result (λ q. place_of q
-        ≡ past_block (place_of p) (core context.spaces (typed.block stmts.now))) }
+    ensures next { IfOk result (λ q. q
+        ≡ past_block p (core context.spaces (typed.block stmts.now))) }
 {
     let mut next = p;
     for s in stmts {
@@ -68,12 +68,17 @@ pub fn block(
 /// The code of a statement. Returns what was met before its end.
 #[cycle(stmt)]
 #[tactic(auto, using(crate::proofs::Calls::at_each_place, crate::proofs::Chains::taken_pass))]
-fn stmt(ops: &mut Vec<Op>, context: Context, p: Step, s: &TypedStmt) -> Result<Step, OutOfMemory>
+fn stmt(
+    ops: &mut Vec<Op>,
+    context: Context,
+    p: Progress,
+    s: &TypedStmt,
+) -> Result<Progress, OutOfMemory>
     ensures ops { OnOk result (ops.new.items ≡ ops.old.items
-        ++ pass_code context.pass (frame_of context.bases) (length ops.old.items) (place_of p)
+        ++ pass_code context.pass (frame_of context.bases) (length ops.old.items) p
         (core_stmt context.spaces (typed.statement s.now))) }
-    ensures next { IfOk result (λ q. place_of q
-        ≡ past_stmt (place_of p) (core_stmt context.spaces (typed.statement s.now))) }
+    ensures next { IfOk result (λ q. q
+        ≡ past_stmt p (core_stmt context.spaces (typed.statement s.now))) }
 {
     match &s.what {
         TypedWhat::Set(v, e) => {
@@ -125,18 +130,18 @@ fn takes_all(pass: Pass, rate: Rate) -> bool
 fn arms_of(
     ops: &mut Vec<Op>,
     context: Context,
-    p: Step,
+    p: Progress,
     arms: &[TypedArm],
     ends: &mut Vec<usize>,
-) -> Result<Step, OutOfMemory>
+) -> Result<Progress, OutOfMemory>
     ensures ops { OnOk result (ops.new.items ≡ ops.old.items
         ++ opened (length ops.old.items) (branches context.pass (frame_of context.bases)
-        context.spaces (length ops.old.items) (place_of p) arms.now)) }
+        context.spaces (length ops.old.items) p arms.now)) }
     ensures ends { OnOk result (ends.new.items ≡ ends.old.items
         ++ jumps (length ops.old.items) (branches context.pass (frame_of context.bases)
-        context.spaces (length ops.old.items) (place_of p) arms.now)) }
-    ensures next { IfOk result (λ q. place_of q
-        ≡ past_list context.spaces (place_of p) arms.now) }
+        context.spaces (length ops.old.items) p arms.now)) }
+    ensures next { IfOk result (λ q. q
+        ≡ past_list context.spaces p arms.now) }
 {
     let mut next = p;
     for a in arms {
@@ -151,23 +156,23 @@ fn arms_of(
 fn arm(
     ops: &mut Vec<Op>,
     context: Context,
-    p: Step,
+    p: Progress,
     arm: &TypedArm,
     ends: &mut Vec<usize>,
-) -> Result<Step, OutOfMemory>
+) -> Result<Progress, OutOfMemory>
     ensures ops { OnOk result (ops.new.items ≡ ops.old.items
         ++ joined (length ops.old.items) (branch_of context.pass (frame_of context.bases)
-        context.spaces (length ops.old.items) (place_of p) arm.now) 0) }
+        context.spaces (length ops.old.items) p arm.now) 0) }
     ensures ends { OnOk result (ends.new.items ≡ ends.old.items
         ++ jump_at (length ops.old.items) (branch_of context.pass (frame_of context.bases)
-        context.spaces (length ops.old.items) (place_of p) arm.now) ∷ []) }
-    ensures next { IfOk result (λ q. place_of q
-        ≡ past_arm context.spaces (place_of p) arm.now) }
+        context.spaces (length ops.old.items) p arm.now) ∷ []) }
+    ensures next { IfOk result (λ q. q
+        ≡ past_arm context.spaces p arm.now) }
 {
     let spot = condition(ops, context, p.part, &arm.cond)?;
     let test = ops.len();
     push(ops, Act::Unless(0), spot.reg, Operands::one(spot.reg))?;
-    let at = Step {
+    let at = Progress {
         part: spot.next,
         unit: p.unit,
     };
@@ -185,7 +190,7 @@ fn condition(
     context: Context,
     at: u32,
     e: &TypedExpr,
-) -> Result<Spot, OutOfMemory>
+) -> Result<ValueSpot, OutOfMemory>
     ensures ops { OnOk result (ops.new.items ≡ ops.old.items
         ++ cond_code context.pass (frame_of context.bases) at (typed.expression e.now)) }
     ensures reg { IfOk result (λ s. s.reg ≡ cond_reg context.pass (frame_of context.bases) at
@@ -193,7 +198,7 @@ fn condition(
     ensures next { IfOk result (λ s. s.next ≡ past at (typed.expression e.now)) }
 {
     match context.pass {
-        Pass::Initialisation => Ok(Spot {
+        Pass::Initialisation => Ok(ValueSpot {
             reg: kept_reg(context.bases, at)?,
             next: keep(ops, context, at, e)?,
         }),
@@ -206,18 +211,18 @@ fn condition(
 fn each_arm(
     ops: &mut Vec<Op>,
     context: Context,
-    p: Step,
+    p: Progress,
     arms: &[TypedArm],
-) -> Result<Step, OutOfMemory>
+) -> Result<Progress, OutOfMemory>
     requires { context.pass ≡ pass.Initialisation }
     ensures ops { IfOk result (λ q. (els : typed.Block)
         → ops.new.items ++ init_block_code (frame_of context.bases) (length ops.new.items)
-        (place_of q) (core context.spaces els)
+        q (core context.spaces els)
         ≡ ops.old.items ++ all_code (frame_of context.bases) (length ops.old.items)
-        (place_of p) (core_arms context.spaces (typed.arms els arms.now))) }
+        p (core_arms context.spaces (typed.arms els arms.now))) }
     ensures next { IfOk result (λ q. (els : typed.Block)
-        → past_block (place_of q) (core context.spaces els)
-        ≡ past_arms (place_of p) (core_arms context.spaces (typed.arms els arms.now))) }
+        → past_block q (core context.spaces els)
+        ≡ past_arms p (core_arms context.spaces (typed.arms els arms.now))) }
 {
     let mut next = p;
     for a in arms {
@@ -231,20 +236,20 @@ fn each_arm(
 fn one_arm(
     ops: &mut Vec<Op>,
     context: Context,
-    p: Step,
+    p: Progress,
     arm: &TypedArm,
-) -> Result<Step, OutOfMemory>
+) -> Result<Progress, OutOfMemory>
     requires { context.pass ≡ pass.Initialisation }
     ensures ops { OnOk result (ops.new.items ≡ ops.old.items
-        ++ each_arm_code (frame_of context.bases) (length ops.old.items) (place_of p)
+        ++ each_arm_code (frame_of context.bases) (length ops.old.items) p
         (typed.expression (out-TypedArm arm.now).cond) (core context.spaces (typed.block
         (out-TypedArm arm.now).body.items))) }
-    ensures next { IfOk result (λ q. place_of q
+    ensures next { IfOk result (λ q. q
         ≡ past_block (past_parts (past p.part (typed.expression (out-TypedArm arm.now).cond))
-        (place_of p))
+        p)
         (core context.spaces (typed.block (out-TypedArm arm.now).body.items))) }
 {
     let part = keep(ops, context, p.part, &arm.cond)?;
-    let at = Step { part, unit: p.unit };
+    let at = Progress { part, unit: p.unit };
     block(ops, context, at, &arm.body)
 }

@@ -2,10 +2,10 @@
 ghost use Rattle.std.specs.Prelude.{◌≡◌, IfOk};
 ghost use Rattle.cs_typed.specs.TypedTree.{expression};
 ghost use Rattle.cs_typed.specs.WellRated.{node_rate};
-ghost use Rattle.cs_code.specs.inner.Emitted.{frame_of, value_of, is_whole};
+ghost use Rattle.cs_code.specs.inner.Emitted.{frame_of, value_of, when_of};
 ghost use Rattle.cs_code.specs.inner.Frames.{local_of, direct};
 
-use crate::frame::{Context, kept_reg, local};
+use crate::frame::{Context, Pass, kept_reg, local};
 use cs_base::{OutOfMemory, Rate};
 use cs_ir::Reg;
 use cs_typed::{TypedExpr, TypedPart, Var};
@@ -58,11 +58,10 @@ fn local_in(e: &TypedExpr) -> Result<Option<Reg>, OutOfMemory>
 
 /// Where a value stands already.
 pub fn direct(context: Context, at: u32, value: &Value<'_>) -> Result<Option<Reg>, OutOfMemory>
-    ensures { IfOk result (λ q. q ≡ direct (frame_of context.bases) (is_whole context.pass) at (value_of value.now)) }
+    ensures { IfOk result (λ q. q ≡ direct (frame_of context.bases) (when_of context.pass) at (value_of value.now)) }
 {
-    if context.pass.is_performance() && rate_of(value).is_init() {
-        Ok(Some(kept_reg(context.bases, at)?))
-    } else {
-        local_of(value)
+    match (context.pass, rate_of(value)) {
+        (Pass::Performance, Rate::Init) => Ok(Some(kept_reg(context.bases, at)?)),
+        _ => local_of(value),
     }
 }

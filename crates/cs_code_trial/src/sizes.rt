@@ -1,10 +1,11 @@
-// How many ops instruments have: of each rate-i part that is kept, each argument that is settled and each unit that is started
-// one as the note begins, and of each operator, unit, output and assignment one a cycle.
+// How many ops instruments have: of each rate-i part that is kept, each argument that is settled and each unit that is
+// started one as the note begins, and of each operator, unit, output and assignment one a cycle.
 use crate::reading::{instrument_of, lower_text};
 use cs_ir::Instrument;
 use std::alloc::Global;
 
-/// How many ops an instrument's note runs as it begins, and how many in a cycle; of number 0 those outside of instruments.
+/// How many ops an instrument's note runs as it begins, and how many in a cycle; of number 0 those outside of
+/// instruments.
 fn sizes(alloc: Global, source: &[u8], number: u32) -> Option<(usize, usize)> {
     let made = lower_text(alloc, source)?;
     if number == 0 {

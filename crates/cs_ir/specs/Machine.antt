@@ -63,7 +63,7 @@ acts o (act.Start opcode u) into ws m = in_world (o.start opcode into.rate u (fi
 acts o (act.Unit opcode u reach) into ws m =
     written o.ksmps opcode into (o.does opcode into.rate u reach ws m.world) m
 acts o act.Seek into ws m = in_world (o.seek (first_values ws) m.world) m
-acts o (act.Store opcode reach) into ws m = in_world (o.store opcode into.rate reach ws m.world) m
+acts o (act.Store reach) into ws m = in_world (o.store into.rate reach ws m.world) m
 acts o (act.Zak opcode reach) into ws m = written o.ksmps opcode into (o.zak opcode reach ws m.world) m
 acts o (act.Jump to) into ws m = record m { next = to }
 acts o (act.Unless to) into ws m = record m { next = if holds (operand 0 ws 0) then m.next else to }

@@ -85,7 +85,7 @@ abbrev pub act_touches : Touch → Stock → Act → List Res
 act_touches t stock (act.Load g) = read_only t (g ∷ [])
 act_touches t stock (act.Save g) = g ∷ []
 act_touches t stock (act.Unit opcode u r) = read_only t (unit_uses stock opcode r)
-act_touches t stock (act.Store opcode r) = tables_within stock r
+act_touches t stock (act.Store r) = tables_within stock r
 act_touches t stock (act.Zak opcode r) = zak_touches t stock opcode r
 act_touches t stock _ = []
 

@@ -1,5 +1,4 @@
--- What an opcode is performed as, of those that are more than a value or an output: a unit, a store, or an act on zak
--- places.
+-- What an opcode is performed as, of those that keep something or work on zak places.
 use Rattle.std.specs.Prelude.{Bool, true, false}
 use Rattle.cs_words.specs.declared.catalogue.Shape.{Shape}
 use Rattle.cs_words.specs.declared.catalogue.Shape.TheVariants as shape
@@ -8,11 +7,6 @@ use Rattle.cs_words.specs.declared.catalogue.Shape.TheVariants as shape
 abbrev pub is_unit : Shape → Bool
 is_unit shape.Unit = true
 is_unit _ = false
-
--- what stores into a table
-abbrev pub is_store : Shape → Bool
-is_store shape.Store = true
-is_store _ = false
 
 -- what reads or writes zak places
 abbrev pub is_zak : Shape → Bool

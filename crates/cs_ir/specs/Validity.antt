@@ -14,7 +14,7 @@ use Rattle.cs_words.specs.declared.sign.BinOp.{BinOp}
 use Rattle.cs_words.specs.declared.word.Func.{Func}
 use Rattle.cs_words.specs.declared.word.Func.TheVariants as func
 use Rattle.cs_ir.specs.Machine.{gives}
-use Rattle.cs_ir.specs.Units.{is_store, is_unit, is_zak}
+use Rattle.cs_ir.specs.Units.{is_unit, is_zak}
 use Rattle.cs_ir.specs.declared.op.Act.{Act}
 use Rattle.cs_ir.specs.declared.op.Act.TheVariants as act
 use Rattle.cs_ir.specs.declared.op.Code.{Code}
@@ -33,7 +33,7 @@ writes (act.Save g) = false
 writes (act.Start opcode u) = false
 writes (act.Unit opcode u reach) = gives opcode
 writes act.Seek = false
-writes (act.Store opcode reach) = false
+writes (act.Store reach) = false
 writes (act.Zak opcode reach) = gives opcode
 writes (act.Jump to) = false
 writes (act.Unless to) = false
@@ -120,7 +120,7 @@ takes_from (act.Save g) r (x ∷ []) = has_value g && within x.rate (res_rate g)
 takes_from (act.Start opcode u) r xs = starts_with (row_of opcode) r xs
 takes_from (act.Unit opcode u reach) r xs = is_unit (row_of opcode).shape && runs_with (row_of opcode) r xs
 takes_from act.Seek r (x ∷ []) = is_still x
-takes_from (act.Store opcode reach) r xs = is_store (row_of opcode).shape && stores_with r xs
+takes_from (act.Store reach) r xs = stores_with r xs
 takes_from (act.Zak opcode reach) r xs = is_zak (row_of opcode).shape && runs_with (row_of opcode) r xs
 takes_from (act.Jump to) r [] = true
 takes_from (act.Unless to) r (x ∷ []) = not (is_audio x.rate)

@@ -19,7 +19,7 @@ pub record World (W : Type 0) : Type 0 where
   pub start : Opcode → Rate → ℕ → List ℤ → W → W
   pub does : Opcode → Rate → ℕ → Reach → List Wave → W → W × Wave
   pub seek : List ℤ → W → W
-  pub store : Opcode → Rate → Reach → List Wave → W → W
+  pub store : Rate → Reach → List Wave → W → W
   pub zak : Opcode → Reach → List Wave → W → W × Wave
   pub out : ℕ → Wave → W → W
   pub out_at : Wave → Wave → W → W

@@ -1,7 +1,6 @@
 // What a note may ask for: another note.
 ghost use Rattle.std.specs.Prelude.{◌≡◌, drop, take, IfOk};
 ghost use Rattle.cs_base.specs.Limits.{greatest_field};
-ghost use Rattle.cs_base.specs.Numbers.{floor_div, one};
 ghost use Rattle.cs_ir.specs.Asks.{ask_of, value_at};
 
 use cs_base::{GREATEST_FIELD, Num, Nums, OutOfMemory};
@@ -26,18 +25,12 @@ impl Ask {
         ensures { IfOk result (λ a. a ≡ ask_of values.now) }
     {
         Ok(Ask {
-            number: number_of(value_at(values, 0)),
+            number: value_at(values, 0).whole_below(),
             when: value_at(values, 1),
             dur: value_at(values, 2),
             more: Nums::from_vec(more_of(values).to_vec(alloc)?),
         })
     }
-}
-
-fn number_of(value: Num) -> i64
-    ensures { result ≡ floor_div value one }
-{
-    value.raw().div_euclid(65_536)
 }
 
 fn more_of(values: &[Num]) -> &[Num]

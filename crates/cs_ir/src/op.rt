@@ -4,7 +4,7 @@ use cs_base::{Num, Res};
 use cs_words::{BinOp, Func, HeadName, Opcode};
 
 /// Which tables, or which places of a zak space, an op may touch, by their numbers.
-#[derive(Clone, Copy, PartialEq, Eq)]
+#[derive(Clone, Copy)]
 pub enum Reach {
     Nothing,
     /// From the first to the last, both of them too.
@@ -13,7 +13,7 @@ pub enum Reach {
 }
 
 /// What an op does with its operands.
-#[derive(Clone, Copy, PartialEq, Eq)]
+#[derive(Clone, Copy)]
 pub enum Act {
     /// Gives a number.
     Const(Num),
@@ -42,7 +42,7 @@ pub enum Act {
     /// Refuses the note where there is no table of the number that its operand has when the note begins.
     Seek,
     /// Stores its first operand at the index that its second one gives into the table whose number its third one has.
-    Store(Opcode, Reach),
+    Store(Reach),
     /// Reads, writes, mixes or clears zak places.
     Zak(Opcode, Reach),
     /// Goes on at a later op.

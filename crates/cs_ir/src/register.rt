@@ -3,7 +3,7 @@ use cs_base::{PerRate, Rate};
 
 /// A register: its rate, and its number among those of its rate. One of rate Audio holds a value for each frame of the
 /// cycle, any other holds one value.
-#[derive(Clone, Copy, PartialEq, Eq)]
+#[derive(Clone, Copy)]
 pub struct Reg {
     pub rate: Rate,
     pub index: u32,

@@ -3,7 +3,7 @@ ghost use Rattle.std.specs.Prelude.{◌≡◌, true, false, IfOk, IfErr, ◌&&�
 ghost use Rattle.std.specs.List.{list_all, list_any};
 ghost use Rattle.cs_words.specs.Catalogue.{is_moving, row_of};
 ghost use Rattle.cs_base.specs.Rates.{same_rate};
-ghost use Rattle.cs_ir.specs.Units.{is_store, is_unit, is_zak};
+ghost use Rattle.cs_ir.specs.Units.{is_unit, is_zak};
 ghost use Rattle.cs_ir.specs.Validity.{has_register, writes, finds, suits_operator, suits_function};
 ghost use Rattle.cs_ir.specs.Validity.{may_run_at, bound_at, take_all, as_sounds, stores_with, starts_with};
 ghost use Rattle.cs_ir.specs.Validity.{runs_with, is_still};
@@ -117,7 +117,7 @@ impl Act {
                 signature_of(opcode).result_count() != 0
             }
             Act::Save(_) | Act::Start(_, _) | Act::Jump(_) | Act::Unless(_) => false,
-            Act::Seek | Act::Store(_, _) => false,
+            Act::Seek | Act::Store(_) => false,
             Act::Out(_) | Act::OutAt | Act::Turnoff | Act::Ask => false,
             _ => true,
         }
@@ -160,9 +160,7 @@ impl Act {
                 is_unit(signature_of(opcode).shape()) && runs_with(opcode, rate, from)
             }
             (Act::Seek, [x]) => x.rate.is_init(),
-            (Act::Store(opcode, _), _) => {
-                is_store(signature_of(opcode).shape()) && stores_with(rate, from)
-            }
+            (Act::Store(_), _) => stores_with(rate, from),
             (Act::Zak(opcode, _), _) => {
                 is_zak(signature_of(opcode).shape()) && runs_with(opcode, rate, from)
             }
@@ -234,13 +232,6 @@ fn is_unit(shape: Shape) -> bool
     ensures { result ≡ is_unit shape }
 {
     matches!(shape, Shape::Unit)
-}
-
-// Whether it stores into a table.
-fn is_store(shape: Shape) -> bool
-    ensures { result ≡ is_store shape }
-{
-    matches!(shape, Shape::Store)
 }
 
 // Whether it reads or writes zak places.

@@ -4,7 +4,7 @@ ghost use Rattle.std.specs.Int.{int_max, int_min};
 ghost use Rattle.cs_ir.specs.Values.{holds, truth, negated, combined, applied, semitones, pitch_class, octave};
 ghost use Rattle.cs_ir.specs.Values.{cpspch_of};
 
-use cs_base::Num;
+use cs_base::{Num, ONE};
 use cs_words::{BinOp, Func};
 
 /// Thousandths of a hertz of the twelve semitones from middle C upwards.
@@ -24,7 +24,7 @@ pub fn holds(x: Num) -> bool
 pub fn truth(is_true: bool) -> Num
     ensures { result ≡ truth is_true }
 {
-    Num::exact(if is_true { 65_536 } else { 0 })
+    Num::exact(if is_true { ONE } else { 0 })
 }
 
 /// What an operator makes of two values.
@@ -83,8 +83,8 @@ fn pitch_class(raw: i64) -> usize
     ensures value { result ≡ pitch_class raw }
     ensures small { result ≤ 100 }
 {
-    let hundredths = raw.rem_euclid(65_536) * 100;
-    (hundredths + 32_768).div_euclid(65_536).unsigned_abs() as usize
+    let hundredths = raw.rem_euclid(ONE) * 100;
+    (hundredths + ONE / 2).div_euclid(ONE).unsigned_abs() as usize
 }
 
 // Its octave, with 12 semitones as one more.
@@ -93,7 +93,7 @@ fn octave(raw: i64, class: usize) -> usize
     ensures value { result ≡ octave raw class }
     ensures small { result ≤ 20 }
 {
-    bounded(raw.div_euclid(65_536) + (class / 12) as i64)
+    bounded(raw.div_euclid(ONE) + (class / 12) as i64)
 }
 
 // A number brought into 0 to 20.

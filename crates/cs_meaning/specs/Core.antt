@@ -30,7 +30,7 @@ mutual
     zak : Rate → List Variable → Opcode → Reach → List Expression → Stmt
     -- a store: the tables that it may touch, its arguments, and of them the one that is settled, the number of its
     -- table
-    store : Rate → Opcode → Reach → List Expression → List Expression → Stmt
+    store : Rate → Reach → List Expression → List Expression → Stmt
     -- values for the output channels from the first on; and pairs of a channel's number and a value for it
     out : Rate → List Expression → Stmt
     out_at : Rate → List Expression → Stmt
@@ -112,7 +112,7 @@ unit_call r vs opcode args =
 
 abbrev pub store_call : Rate → Opcode → List typed.Argument → Stmt
 store_call r opcode args =
-    let is = settled (row_of opcode) 0 args in store r opcode (table_reach is) (values_of args) is
+    let is = settled (row_of opcode) 0 args in store r (table_reach is) (values_of args) is
 
 abbrev pub zak_call : Spaces → Rate → List Variable → Opcode → Shape → List typed.Argument → Stmt
 zak_call spaces r vs opcode sh args =

@@ -1,5 +1,5 @@
 -- What a note does as it begins.
-use Rattle.std.specs.Prelude.{ℕ, ℤ, true, List, [], ◌∷◌, if◌then◌else◌}
+use Rattle.std.specs.Prelude.{ℕ, ℤ, List, [], ◌∷◌, if◌then◌else◌}
 use Rattle.std.specs.Str.{bytes_eq as same_path}
 use Rattle.cs_base.specs.declared.resource.Rate.{Rate}
 use Rattle.cs_words.specs.declared.catalogue.Opcode.{Opcode}
@@ -13,6 +13,7 @@ use Rattle.cs_meaning.specs.Core.{Stmt, Block, Arms, set, unit, zak, store, out,
 use Rattle.cs_meaning.specs.Core.{no_stmt, andthen, otherwise, arm}
 use Rattle.cs_meaning.specs.Notes.{Note, Path, Place, moved_to, next, inside, inside_arm, past_stmt, past_arm, assign}
 use Rattle.cs_meaning.specs.Notes.{value, values, first_value, done}
+use Rattle.cs_meaning.specs.When.{beginning}
 
 -- once something was refused nothing more is done
 abbrev pub going : {W : Type 0} → World W → Note W → Note W → Note W
@@ -41,42 +42,43 @@ keep_all o p (e ∷ es) t = keep_all o (next p) es (keep o p e t)
 
 -- a unit is started with its settled arguments
 abbrev pub started : {W : Type 0} → World W → Rate → Opcode → ℕ → List Expression → Note W → Note W
-started o r opcode u is t = moved_to (o.start opcode r u (first_values (values o t true [] is)) t.world) t
+started o r opcode u is t = moved_to (o.start opcode r u (first_values (values o t beginning [] is)) t.world) t
 
 -- a unit runs once, as the note begins
 abbrev pub run_once : {W : Type 0} → World W → Rate → List Variable → Opcode → ℕ → Reach → List Expression → Note W
     → Note W
-run_once o r vs opcode u reach xs t = done o r vs (o.does opcode r u reach (values o t true [] xs) t.world) t
+run_once o r vs opcode u reach xs t = done o r vs (o.does opcode r u reach (values o t beginning [] xs) t.world) t
 
 -- a store looks for its table, and stores once
 abbrev pub sought : {W : Type 0} → World W → List Expression → Note W → Note W
-sought o is t = moved_to (o.seek (first_values (values o t true [] is)) t.world) t
+sought o is t = moved_to (o.seek (first_values (values o t beginning [] is)) t.world) t
 
-abbrev pub stored_once : {W : Type 0} → World W → Rate → Opcode → Reach → List Expression → Note W → Note W
-stored_once o r opcode reach es t = moved_to (o.store opcode r reach (values o t true [] es) t.world) t
+abbrev pub stored_once : {W : Type 0} → World W → Rate → Reach → List Expression → Note W → Note W
+stored_once o r reach es t = moved_to (o.store r reach (values o t beginning [] es) t.world) t
 
 -- zak places are read or written once
 abbrev pub zak_once : {W : Type 0} → World W → Rate → List Variable → Opcode → Reach → List Expression → Note W → Note W
-zak_once o r vs opcode reach xs t = done o r vs (o.zak opcode reach (values o t true [] xs) t.world) t
+zak_once o r vs opcode reach xs t = done o r vs (o.zak opcode reach (values o t beginning [] xs) t.world) t
 
 -- Initialisation: every statement of rate Init, the start of every unit, the search for the table of every store, and
 -- the parts that are kept, in the order of the text.
 abbrev mutual
   pub init_stmt : {W : Type 0} → World W → Place → Stmt → Note W → Note W
-  init_stmt o p (set r v e) t = going o t (if_init r (assign o v (value o t true [] e) t) (keep o (0 ∷ p.path) e t))
+  init_stmt o p (set r v e) t =
+      going o t (if_init r (assign o v (value o t beginning [] e) t) (keep o (0 ∷ p.path) e t))
   init_stmt o p (unit r vs opcode reach xs is) t =
       going o t (if_init r
       (let s = started o r opcode p.unit is t in going o s (run_once o r vs opcode p.unit reach xs s))
       (started o r opcode p.unit is (keep_all o (0 ∷ p.path) xs t)))
   init_stmt o p (zak r vs opcode reach xs) t =
       going o t (if_init r (zak_once o r vs opcode reach xs t) (keep_all o (0 ∷ p.path) xs t))
-  init_stmt o p (store r opcode reach es is) t =
+  init_stmt o p (store r reach es is) t =
       going o t (if_init r
-      (let s = sought o is t in going o s (stored_once o r opcode reach es s))
+      (let s = sought o is t in going o s (stored_once o r reach es s))
       (sought o is (keep_all o (0 ∷ p.path) es t)))
   init_stmt o p (out r es) t = going o t (keep_all o (0 ∷ p.path) es t)
   init_stmt o p (out_at r es) t = going o t (keep_all o (0 ∷ p.path) es t)
-  init_stmt o p (ask es) t = going o t (moved_to (o.ask (first_values (values o t true [] es)) t.world) t)
+  init_stmt o p (ask es) t = going o t (moved_to (o.ask (first_values (values o t beginning [] es)) t.world) t)
   init_stmt o p (turnoff r) t = t
   init_stmt o p nothing t = t
   init_stmt o p (choose r arms) t =

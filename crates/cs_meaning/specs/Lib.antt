@@ -8,3 +8,4 @@ pub mod Performing
 pub mod Pieces
 pub mod Plain
 pub mod Uses
+pub mod When

@@ -1,5 +1,5 @@
 -- A note in its world, and what its expressions are worth.
-use Rattle.std.specs.Prelude.{ℕ, ℤ, pos, Bool, true, false, suc, ◌+◌, List, [], ◌∷◌}
+use Rattle.std.specs.Prelude.{ℕ, ℤ, pos, suc, ◌+◌, List, [], ◌∷◌}
 use Rattle.cs_base.specs.Rates.{res_rate}
 use Rattle.cs_base.specs.declared.resource.Rate.{Rate}
 use Rattle.cs_typed.specs.TypedTree.{Expression, number, var, field, head, neg, pair, pick, apply}
@@ -12,6 +12,7 @@ use Rattle.cs_ir.specs.Worlds.{World}
 use Rattle.cs_ir.specs.declared.register.Reg.{Reg}
 use Rattle.cs_meaning.specs.Core.{Stmt, Block, Arms, set, unit, zak, store, out, out_at, ask, turnoff, nothing, choose}
 use Rattle.cs_meaning.specs.Core.{no_stmt, andthen, otherwise, arm}
+use Rattle.cs_meaning.specs.When.{When, beginning, cycle}
 
 -- Where a part of a text stands: which part of its whole it is, counted from 0, then which part that whole is of its
 -- own, and so on up to the body, whose parts are its statements.
@@ -48,7 +49,7 @@ abbrev mutual
   unit_past u (choose r arms) = unit_past_arms u arms
   unit_past u (set r v e) = u
   unit_past u (zak r vs opcode reach xs) = u
-  unit_past u (store r opcode reach es is) = u
+  unit_past u (store r reach es is) = u
   unit_past u (out r es) = u
   unit_past u (out_at r es) = u
   unit_past u (ask es) = u
@@ -97,36 +98,36 @@ abbrev pub assign : {W : Type 0} → World W → Variable → Wave → Note W �
 assign o (Local r n) w t = record t { locals = put t.locals (reg r n) (held o.ksmps r w) }
 assign o (Global g) w t = moved_to (o.save g (held o.ksmps (res_rate g) w) t.world) t
 
--- A part of an expression: as it is worked out now, or the value that was kept where it doesn't change.
-abbrev pub part : Bool → Rate → ℤ → Wave → Wave
-part true r kept own = own
-part false r kept own = if_init r (constant kept) own
+-- A part of an expression: as it is worked out now; in a control cycle the value that was kept where it doesn't change.
+abbrev pub part : When → Rate → ℤ → Wave → Wave
+part beginning r kept own = own
+part cycle r kept own = if_init r (constant kept) own
 
 -- The value of an expression that stands somewhere: worked out as a whole as the note begins, and with its kept parts
 -- in a control cycle.
-abbrev pub value : {W : Type 0} → World W → Note W → Bool → Path → Expression → Wave
-value o t whole p (number r n) = part whole r (t.kept p) (held o.ksmps r (constant n))
-value o t whole p (var r v) = part whole r (t.kept p) (look o t r v)
-value o t whole p (field r k) = part whole r (t.kept p) (held o.ksmps r (constant (o.field k)))
-value o t whole p (head r h) = part whole r (t.kept p) (held o.ksmps r (constant (o.head h)))
-value o t whole p (neg r a) =
-    part whole r (t.kept p) (held o.ksmps r (λ j. negated (value o t whole (0 ∷ p) a j)))
-value o t whole p (pair r b x y) =
-    part whole r (t.kept p) (held o.ksmps r (both b (value o t whole (0 ∷ p) x) (value o t whole (1 ∷ p) y)))
-value o t whole p (pick r c x y) =
-    part whole r (t.kept p)
-    (held o.ksmps r (chosen (value o t whole (0 ∷ p) c) (value o t whole (1 ∷ p) x) (value o t whole (2 ∷ p) y)))
-value o t whole p (apply r f x) =
-    part whole r (t.kept p) (held o.ksmps r (λ j. applied f (value o t whole (0 ∷ p) x j)))
+abbrev pub value : {W : Type 0} → World W → Note W → When → Path → Expression → Wave
+value o t w p (number r n) = part w r (t.kept p) (held o.ksmps r (constant n))
+value o t w p (var r v) = part w r (t.kept p) (look o t r v)
+value o t w p (field r k) = part w r (t.kept p) (held o.ksmps r (constant (o.field k)))
+value o t w p (head r h) = part w r (t.kept p) (held o.ksmps r (constant (o.head h)))
+value o t w p (neg r a) =
+    part w r (t.kept p) (held o.ksmps r (λ j. negated (value o t w (0 ∷ p) a j)))
+value o t w p (pair r b x y) =
+    part w r (t.kept p) (held o.ksmps r (both b (value o t w (0 ∷ p) x) (value o t w (1 ∷ p) y)))
+value o t w p (pick r c x y) =
+    part w r (t.kept p)
+    (held o.ksmps r (chosen (value o t w (0 ∷ p) c) (value o t w (1 ∷ p) x) (value o t w (2 ∷ p) y)))
+value o t w p (apply r f x) =
+    part w r (t.kept p) (held o.ksmps r (λ j. applied f (value o t w (0 ∷ p) x j)))
 
 -- the values of expressions of which the first stands here and the others behind
-abbrev pub values : {W : Type 0} → World W → Note W → Bool → Path → List Expression → List Wave
-values o t whole p [] = []
-values o t whole p (e ∷ es) = value o t whole p e ∷ values o t whole (next p) es
+abbrev pub values : {W : Type 0} → World W → Note W → When → Path → List Expression → List Wave
+values o t w p [] = []
+values o t w p (e ∷ es) = value o t w p e ∷ values o t w (next p) es
 
 -- the value of an expression as the note begins
 abbrev pub first_value : {W : Type 0} → World W → Note W → Expression → ℤ
-first_value o t e = value o t true [] e 0
+first_value o t e = value o t beginning [] e 0
 
 -- an opcode has run: its result goes into the variable, if it has one
 abbrev pub given : {W : Type 0} → World W → List Variable → Wave → Note W → Note W

@@ -1,5 +1,5 @@
 -- What a note does in a control cycle.
-use Rattle.std.specs.Prelude.{false, ◌∷◌, if◌then◌else◌}
+use Rattle.std.specs.Prelude.{◌∷◌, if◌then◌else◌}
 use Rattle.cs_ir.specs.Values.{holds}
 use Rattle.cs_ir.specs.Waves.{if_init}
 use Rattle.cs_ir.specs.Worlds.{World}
@@ -7,20 +7,21 @@ use Rattle.cs_meaning.specs.Core.{Stmt, Block, Arms, set, unit, zak, store, out,
 use Rattle.cs_meaning.specs.Core.{no_stmt, andthen, otherwise, arm}
 use Rattle.cs_meaning.specs.Notes.{Note, Place, moved_to, inside, inside_arm, past_stmt, past_arm, assign, value}
 use Rattle.cs_meaning.specs.Notes.{values, done, sent, sent_at}
+use Rattle.cs_meaning.specs.When.{cycle}
 
 -- Performance: every statement of another rate than Init, in the order of the text. An `if` takes the first arm whose
 -- condition holds.
 abbrev mutual
   pub perf_stmt : {W : Type 0} → World W → Place → Stmt → Note W → Note W
-  perf_stmt o p (set r v e) t = if_init r t (assign o v (value o t false (0 ∷ p.path) e) t)
+  perf_stmt o p (set r v e) t = if_init r t (assign o v (value o t cycle (0 ∷ p.path) e) t)
   perf_stmt o p (unit r vs opcode reach xs is) t =
-      if_init r t (done o r vs (o.does opcode r p.unit reach (values o t false (0 ∷ p.path) xs) t.world) t)
+      if_init r t (done o r vs (o.does opcode r p.unit reach (values o t cycle (0 ∷ p.path) xs) t.world) t)
   perf_stmt o p (zak r vs opcode reach xs) t =
-      if_init r t (done o r vs (o.zak opcode reach (values o t false (0 ∷ p.path) xs) t.world) t)
-  perf_stmt o p (store r opcode reach es is) t =
-      if_init r t (moved_to (o.store opcode r reach (values o t false (0 ∷ p.path) es) t.world) t)
-  perf_stmt o p (out r es) t = moved_to (sent o 0 (values o t false (0 ∷ p.path) es) t.world) t
-  perf_stmt o p (out_at r es) t = moved_to (sent_at o (values o t false (0 ∷ p.path) es) t.world) t
+      if_init r t (done o r vs (o.zak opcode reach (values o t cycle (0 ∷ p.path) xs) t.world) t)
+  perf_stmt o p (store r reach es is) t =
+      if_init r t (moved_to (o.store r reach (values o t cycle (0 ∷ p.path) es) t.world) t)
+  perf_stmt o p (out r es) t = moved_to (sent o 0 (values o t cycle (0 ∷ p.path) es) t.world) t
+  perf_stmt o p (out_at r es) t = moved_to (sent_at o (values o t cycle (0 ∷ p.path) es) t.world) t
   perf_stmt o p (ask es) t = t
   perf_stmt o p (turnoff r) t = moved_to (o.turnoff t.world) t
   perf_stmt o p nothing t = t
@@ -33,5 +34,5 @@ abbrev mutual
   pub perf_arms : {W : Type 0} → World W → Place → Arms → Note W → Note W
   perf_arms o p (otherwise b) t = perf_block o (inside p) b t
   perf_arms o p (arm c b rest) t =
-      if holds (value o t false (0 ∷ p.path) c 0) then perf_block o (inside_arm p) b t
+      if holds (value o t cycle (0 ∷ p.path) c 0) then perf_block o (inside_arm p) b t
       else perf_arms o (past_arm p b) rest t

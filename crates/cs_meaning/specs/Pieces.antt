@@ -22,7 +22,7 @@ use Rattle.cs_words.specs.declared.word.HeadName.TheVariants as head
 use Rattle.cs_gen.specs.Places.{place_of_index}
 use Rattle.cs_gen.specs.Points.{len_of}
 use Rattle.cs_gen.specs.Tables.{curve_of}
-use Rattle.cs_typed.specs.Places.{Header}
+use Rattle.cs_base.specs.Heads.{Header}
 use Rattle.cs_ir.specs.Resources.{places_of, zak_place, reaches}
 use Rattle.cs_ir.specs.Waves.{Wave}
 use Rattle.cs_ir.specs.declared.op.Reach.{Reach}

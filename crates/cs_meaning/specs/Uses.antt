@@ -11,11 +11,7 @@ use Rattle.cs_ir.specs.Resources.{Stock, Touch, may_use, may_write, read_only, t
 use Rattle.cs_ir.specs.Waves.{if_init}
 use Rattle.cs_meaning.specs.Core.{Stmt, Block, Arms, set, unit, zak, store, out, out_at, ask, turnoff, nothing, choose}
 use Rattle.cs_meaning.specs.Core.{no_stmt, andthen, otherwise, arm}
-
--- as a note begins, or in a control cycle
-pub data When : Type 0 where
-  beginning : When
-  cycle : When
+pub use Rattle.cs_meaning.specs.When.{When, beginning, cycle}
 
 -- Of what is done at a rate: as the note begins all of it where it is done once, else what is kept of it; and in a
 -- cycle what is done anew in each.
@@ -78,7 +74,7 @@ abbrev mutual
       let moving = read_only t (exprs_used w xs) in
       let touched = zak_touches t stock opcode reach ++ vars_use vs in
       done_at w r (read_only t (exprs_read xs) ++ touched) moving (moving ++ touched)
-  stmt_touched t w stock (store r opcode reach es is) =
+  stmt_touched t w stock (store r reach es is) =
       let settled = read_only t (exprs_read is) in
       let moving = read_only t (exprs_used w es) in
       let touched = tables_within stock reach in

@@ -6,13 +6,16 @@ ghost use Rattle.cs_words.specs.declared.word.Func.TheVariants as func;
 ghost use Rattle.cs_words.specs.declared.word.HeadName.TheVariants as name;
 ghost use Rattle.cs_typed.specs.TypedTree.{head, neg};
 ghost use Rattle.cs_meaning.specs.Examples.{small_piece, heard, cause_of, each, whole, no_code, lit};
-ghost use Rattle.cs_meaning.specs.Kinds.{initialising_both, deciding_inside, reading_once, storing, mixing_places, writing_sounds, mixing_channel, clearing_channel, setting_channel, sending_to_numbers, choosing, sizing, worth, made_of, of_number, points_after};
+ghost use Rattle.cs_meaning.specs.Kinds.{initialising_both, deciding_inside, reading_once, storing, mixing_places};
+ghost use Rattle.cs_meaning.specs.Kinds.{writing_sounds, mixing_channel, clearing_channel, setting_channel};
+ghost use Rattle.cs_meaning.specs.Kinds.{sending_to_numbers, choosing, sizing, worth, made_of, of_number, points_after};
 ghost use Rattle.cs_meaning.specs.Model.{no_table};
 
 /// Notes of one kind of statement each, worked out from the definitions: what is heard in two cycles of four frames.
 pub fn kinds_worked_by_hand()
     // An `if` that may choose anew in each cycle initialises all its arms, and so an `if` inside one of them.
-    ensures both_arms { heard (small_piece 0 0) no_code (initialising_both ∷ []) ≡ each (whole 4) ∷ each (whole 4) ∷ [] }
+    ensures both_arms { heard (small_piece 0 0) no_code (initialising_both ∷ [])
+        ≡ each (whole 4) ∷ each (whole 4) ∷ [] }
     ensures inside { heard (small_piece 0 0) no_code (deciding_inside ∷ []) ≡ each (whole 3) ∷ each (whole 3) ∷ [] }
     // `i` of a variable has what it had as the note began.
     ensures read_once { heard (small_piece 0 0) no_code (reading_once ∷ []) ≡ each (whole 56) ∷ each (whole 57) ∷ [] }
@@ -23,14 +26,20 @@ pub fn kinds_worked_by_hand()
     ensures stored { points_after storing ≡ whole 0 ∷ whole 0 ∷ whole 9 ∷ whole 0 ∷ [] }
     ensures refused { cause_of (small_piece 0 0) storing ≡ Some (no_table (pos 1)) }
     // `zawm` adds and `zaw` stores; `zacl` sets places to 0.
-    ensures mixed_places { heard (small_piece 3 3) no_code (mixing_places ∷ []) ≡ each (whole 60) ∷ each (whole 60) ∷ [] }
-    ensures written_places { heard (small_piece 3 3) no_code (writing_sounds ∷ []) ≡ each (whole 3) ∷ each (whole 3) ∷ [] }
+    ensures mixed_places { heard (small_piece 3 3) no_code (mixing_places ∷ [])
+        ≡ each (whole 60) ∷ each (whole 60) ∷ [] }
+    ensures written_places { heard (small_piece 3 3) no_code (writing_sounds ∷ [])
+        ≡ each (whole 3) ∷ each (whole 3) ∷ [] }
     // `chnmix` adds to what the cycle before left, `chnclear` sets to 0, `chnset` stores.
-    ensures mixed_channel { heard (small_piece 0 0) no_code (mixing_channel ∷ []) ≡ each (whole 3) ∷ each (whole 6) ∷ [] }
-    ensures cleared_channel { heard (small_piece 0 0) no_code (clearing_channel ∷ []) ≡ each (whole 3) ∷ each (whole 3) ∷ [] }
-    ensures set_channel { heard (small_piece 0 0) no_code (setting_channel ∷ []) ≡ each (whole 7) ∷ each (whole 7) ∷ [] }
+    ensures mixed_channel { heard (small_piece 0 0) no_code (mixing_channel ∷ [])
+        ≡ each (whole 3) ∷ each (whole 6) ∷ [] }
+    ensures cleared_channel { heard (small_piece 0 0) no_code (clearing_channel ∷ [])
+        ≡ each (whole 3) ∷ each (whole 3) ∷ [] }
+    ensures set_channel { heard (small_piece 0 0) no_code (setting_channel ∷ [])
+        ≡ each (whole 7) ∷ each (whole 7) ∷ [] }
     // Of one channel the numbers 2, 0 and -1 name none, and 1.9 names it.
-    ensures numbered { heard (small_piece 0 0) no_code (sending_to_numbers ∷ []) ≡ each (whole 3) ∷ each (whole 3) ∷ [] }
+    ensures numbered { heard (small_piece 0 0) no_code (sending_to_numbers ∷ [])
+        ≡ each (whole 3) ∷ each (whole 3) ∷ [] }
 {}
 
 /// What each operator, each function and the header's names are worth, worked out from the definitions.

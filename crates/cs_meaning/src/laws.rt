@@ -1,7 +1,11 @@
 // What follows from the definitions alone: a call that does nothing, whose contract is the law.
 ghost use Rattle.std.specs.Prelude.{◌≡◌, ◌∷◌, [], ℕ, ℤ, pos, true, false, Some};
 ghost use Rattle.cs_base.specs.declared.resource.Res.TheVariants as res;
-ghost use Rattle.cs_meaning.specs.Examples.{small_piece, heard, endings, cause_of, asked_by, each, whole, no_code, zeros, counting, telling, ending, writing_place, reading_places, five, sounding_gi, setting_nine, deciding, two_outside, followed, followed_places, kept_by, missing_table, long_delay, asking, setting_one, reading, writing_first, reading_first, reading_any, uses_of, writes_of};
+ghost use Rattle.cs_meaning.specs.Examples.{small_piece, heard, endings, cause_of, asked_by, each, whole, no_code};
+ghost use Rattle.cs_meaning.specs.Examples.{zeros, counting, telling, ending, writing_place, reading_places, five};
+ghost use Rattle.cs_meaning.specs.Examples.{sounding_gi, setting_nine, deciding, two_outside, followed};
+ghost use Rattle.cs_meaning.specs.Examples.{followed_places, kept_by, missing_table, long_delay, asking, setting_one};
+ghost use Rattle.cs_meaning.specs.Examples.{reading, writing_first, reading_first, reading_any, uses_of, writes_of};
 ghost use Rattle.cs_meaning.specs.Model.{no_table, delay_too_long};
 
 /// Small pieces worked out from the definitions: eight frames a second, four a control cycle, two cycles.
@@ -22,7 +26,7 @@ pub fn notes_worked_by_hand()
         ≡ each (whole 5) ∷ each (whole 5) ∷ [] }
     // An `if` of the initialisation decides once.
     ensures decided { heard (small_piece 0 0) no_code (deciding ∷ []) ≡ each (whole 4) ∷ each (whole 4) ∷ [] }
-    // The note that docs/MEANING.md follows: what it keeps, what is heard of it, and that it ends with its second cycle.
+    // The note that docs/MEANING.md follows: what it keeps, what is heard of it, and that its second cycle is its last.
     ensures followed_keeps { kept_by (small_piece 0 0) two_outside followed followed_places ≡ whole 70 ∷ whole 4 ∷ [] }
     ensures followed_sounds { heard (small_piece 0 0) two_outside (followed ∷ [])
         ≡ each (whole 72) ∷ each (whole 74) ∷ [] }

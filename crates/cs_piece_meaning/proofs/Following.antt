@@ -1,9 +1,12 @@
 -- The notes of a cycle are those of the one before that stay, and those that start.
-use Rattle.std.proofs.Common.{◌≡◌, ◌⊎◌, inl, inr, ⊎_elim, ℕ, zero, suc, ◌+◌, ◌-◌, ◌<◌, ◌≤◌, ◌==◌, Bool, true, false, not, nat_lt, cond, List, [], ◌∷◌, refl, sym, ap, subst, ◌∙◌, arith, true≢false, Contains, if◌then◌else◌}
+use Rattle.std.proofs.Common.{◌≡◌, ◌⊎◌, inl, inr, ⊎_elim, ℕ, zero, suc, ◌+◌, ◌-◌, ◌<◌, ◌≤◌, ◌==◌, Bool, true, false}
+use Rattle.std.proofs.Common.{not, nat_lt, cond, List, [], ◌∷◌, refl, sym, ap, subst, ◌∙◌, arith, true≢false, Contains}
+use Rattle.std.proofs.Common.{if◌then◌else◌}
 use Rattle.std.specs.Prelude.{filter}
 use Rattle.std.specs.List.{AllZip}
 use Rattle.std.proofs.lemmas.Bool.Decides.{nat_tests}
-use Rattle.std.proofs.lemmas.List.Elements.{All-contains, All-contains_itself, All-filter, Contains-append_cases, Contains-append_left, Contains-append_right}
+use Rattle.std.proofs.lemmas.List.Elements.{All-contains, All-contains_itself, All-filter, Contains-append_cases}
+use Rattle.std.proofs.lemmas.List.Elements.{Contains-append_left, Contains-append_right}
 use Rattle.cs_meaning.specs.Core.{Block}
 use Rattle.cs_meaning.specs.Notes.{Note}
 use Rattle.cs_meaning.specs.Plain.{Plain}
@@ -36,10 +39,12 @@ module _ {A : Type 0} where
 
   passes : (p : A → Bool) (xs : List A) (a : A) → p a ≡ true → Contains xs a → Contains (filter p xs) a
   passes p [] a is h = absurd (let lt = h.1 in omega (arith, lt))
-  passes p (x ∷ xs) a is h = among p x xs a (p x) refl is (⊎_elim (λ e. inl e) (λ rest. inr (passes p xs a is rest)) (either x xs a h))
+  passes p (x ∷ xs) a is h =
+      among p x xs a (p x) refl is (⊎_elim (λ e. inl e) (λ rest. inr (passes p xs a is rest)) (either x xs a h))
 
   passed : (p : A → Bool) (xs : List A) (a : A) → Contains (filter p xs) a → Contains xs a
-  passed p xs a h = All-contains (Contains xs) (filter p xs) a (All-filter p (Contains xs) xs (All-contains_itself xs)) h
+  passed p xs a h = All-contains (Contains xs) (filter p xs) a (All-filter p (Contains xs) xs (All-contains_itself xs))
+      h
 
 -- A note that takes its place leaves all others among those that play.
 still_among : (n : Active) (active : List Active) (a : Active) → Contains active a → Contains (placed n active) a
@@ -50,10 +55,12 @@ still_among n active a h = by (low a) refl
 
     by : (b : Bool) → at_most a.number n.number ≡ b → Contains (placed n active) a
     by true e =
-        Contains-append_left (filter (λ (x : Active). at_most x.number n.number) active) (n ∷ filter (λ (x : Active). not (at_most x.number n.number)) active) a
+        Contains-append_left (filter (λ (x : Active). at_most x.number n.number) active)
+        (n ∷ filter (λ (x : Active). not (at_most x.number n.number)) active) a
         (passes (λ (x : Active). at_most x.number n.number) active a e h)
     by false e =
-        Contains-append_right (filter (λ (x : Active). at_most x.number n.number) active) (n ∷ filter (λ (x : Active). not (at_most x.number n.number)) active) a
+        Contains-append_right (filter (λ (x : Active). at_most x.number n.number) active)
+        (n ∷ filter (λ (x : Active). not (at_most x.number n.number)) active) a
         (behind n (filter (λ (x : Active). not (at_most x.number n.number)) active) a
         (passes (λ (x : Active). not (at_most x.number n.number)) active a (ap not e) h))
 
@@ -63,7 +70,8 @@ new_or_old n active a h =
     ⊎_elim (λ l. inr (passed (λ (x : Active). at_most x.number n.number) active a l))
     (λ r. ⊎_elim (λ e. inl e) (λ q. inr (passed (λ (x : Active). not (at_most x.number n.number)) active a q))
     (either n (filter (λ (x : Active). not (at_most x.number n.number)) active) a r))
-    (Contains-append_cases (filter (λ (x : Active). at_most x.number n.number) active) (n ∷ filter (λ (x : Active). not (at_most x.number n.number)) active) a h)
+    (Contains-append_cases (filter (λ (x : Active). at_most x.number n.number) active)
+    (n ∷ filter (λ (x : Active). not (at_most x.number n.number)) active) a h)
 
 -- The notes that played stay, and all others were started later than so many.
 record Grown (old : List Active) (base : ℕ) (active : List Active) (count : ℕ) : Type 0 where
@@ -114,8 +122,10 @@ module _ (c : Composition) where
       → Contains (notes_in c (suc n)) a
   stays n a played on before =
       let m : Moment = moment_at c (suc n) in
-      let left : Contains m.active a = passes (λ (x : Active). not x.note.world.ended) (played_in c n) a (ap not on) played in
-      (grows (suc n) m).stay a (passes (λ (x : Active). nat_lt (suc n) x.ends) m.active a (later (suc n) a.ends before) left)
+      let left : Contains m.active a =
+      passes (λ (x : Active). not x.note.world.ended) (played_in c n) a (ap not on) played in
+      (grows (suc n) m).stay a
+      (passes (λ (x : Active). nat_lt (suc n) x.ends) m.active a (later (suc n) a.ends before) left)
 
   pub comes : (n : ℕ) (a : Active) → Contains (notes_in c (suc n)) a
       → Contains (played_in c n) a ⊎ ((moment_at c (suc n)).started ≤ a.age)
@@ -146,7 +156,8 @@ partner (x ∷ xs) (y ∷ ys) b same h =
 
 -- Notes of each cycle of which those of the next that were started before come from it.
 module _ (notes : ℕ → List Active) (count : ℕ → ℕ) (rising : (n : ℕ) → count n ≤ count (suc n))
-    (down : (k : ℕ) (b : Active) → Contains (notes (suc k)) b → b.age < count (suc k) → (d : Active) × Contains (notes k) d × IsSameNote d b) where
+    (down : (k : ℕ) (b : Active) → Contains (notes (suc k)) b → b.age < count (suc k)
+    → (d : Active) × Contains (notes k) d × IsSameNote d b) where
   more : (n m : ℕ) → count n ≤ count (m + n)
   more n zero = let e : zero + n ≡ n = omega arith in subst (λ q. count n ≤ count q) (sym e) (omega arith)
   more n (suc m) =
@@ -161,8 +172,12 @@ module _ (notes : ℕ → List Active) (count : ℕ → ℕ) (rising : (n : ℕ)
   stretch : (i : ℕ) (m k j : ℕ) (b : Active) → k ≡ m + j → i ≤ j → b.age < count (suc i) → Contains (notes k) b
       → (d : Active) × Contains (notes j) d × IsSameNote d b
   stretch i zero k j b e le early h =
-      let same : k ≡ j = omega (arith, e) in
-      (b, subst (λ q. Contains (notes q) b) same h, record { number = refl; age = refl; ends = refl; fields = refl; body = refl })
+      let same : k ≡ j = omega (arith, e) in (
+        b,
+        subst (λ q. Contains (notes q) b) same h,
+        record
+            { number = refl; age = refl; ends = refl; fields = refl; body = refl },
+      )
   stretch i (suc m) zero j b e le early h = absurd (omega (arith, e))
   stretch i (suc m) (suc k) j b e le early h =
       let up = rises (suc i) (suc k) (omega (arith, e, le)) in
@@ -173,18 +188,22 @@ module _ (notes : ℕ → List Active) (count : ℕ → ℕ) (rising : (n : ℕ)
 
   over_all : (i j k : ℕ) (a b : Active) → i ≤ j → j ≤ k → a.age < count (suc i) → Contains (notes k) b → b.age ≡ a.age
       → (d : Active) × Contains (notes j) d × IsSameNote d b
-  over_all i j k a b low high old last age = stretch i (k - j) k j b (omega (arith, high)) low (omega (arith, old, age)) last
+  over_all i j k a b low high old last age =
+      stretch i (k - j) k j b (omega (arith, high)) low (omega (arith, old, age)) last
 
 module _ (c : Composition) where
   down : (k : ℕ) (b : Active) → Contains (notes_in c (suc k)) b → b.age < (moment_at c (suc k)).started
       → (d : Active) × Contains (notes_in c k) d × IsSameNote d b
   down k b h early =
-      ⊎_elim (λ p. partner (notes_in c k) (played_in c k) b (same_notes c k) p) (λ l. absurd (omega (arith, l, early))) (comes c k b h)
+      ⊎_elim (λ p. partner (notes_in c k) (played_in c k) b (same_notes c k) p) (λ l. absurd (omega (arith, l, early)))
+      (comes c k b h)
 
   pub one_stretch : (i j k : ℕ) (a b : Active) → i ≤ j → j ≤ k → Contains (notes_in c i) a → Contains (notes_in c k) b
       → b.age ≡ a.age
       → (d : Active) × Contains (notes_in c j) d × IsSameNote d b
   one_stretch i j k a b low high first last age =
       let old : a.age < (moment_at c (suc i)).started =
-      All-contains (λ (x : Active). x.age < (moment_at c (suc i)).started) (notes_in c i) a (in_order c i).started first in
-      over_all (notes_in c) (λ n. (moment_at c n).started) (λ n. (grows c n (moment_at c n)).low) down i j k a b low high old last age
+      All-contains (λ (x : Active). x.age < (moment_at c (suc i)).started) (notes_in c i) a (in_order c i).started
+      first in
+      over_all (notes_in c) (λ n. (moment_at c n).started) (λ n. (grows c n (moment_at c n)).low) down i j k a b low
+      high old last age

@@ -1,5 +1,6 @@
 -- A start that finds as many notes as may play.
-use Rattle.std.proofs.Common.{◌≡◌, ◌≢◌, ℕ, ◌==◌, false, nat_lt, length, Option, Some, None, refl, ap, arith, if◌then◌else◌}
+use Rattle.std.proofs.Common.{◌≡◌, ◌≢◌, ℕ, ◌==◌, false, nat_lt, length, Option, Some, None, refl, ap, arith}
+use Rattle.std.proofs.Common.{if◌then◌else◌}
 use Rattle.std.proofs.lemmas.Bool.Decides.{nat_tests}
 use Rattle.cs_base.specs.Limits.{most_notes}
 use Rattle.cs_meaning.specs.Core.{Block}
@@ -18,7 +19,8 @@ no_room s m full some = rw (lasts s.cycles some) (filled (length m.active) full)
 starts_none : (c : Composition) (now : ℕ) (s : Start) (m : Moment) (o : Option Block) → has_room s m ≡ false
     → started c now s o m ≡ in_vain m
 starts_none c now s m None e = refl
-starts_none c now s m (Some body) e = ap (λ b. if b then initialised c now s body (begun c m.made s body m) m else in_vain m) e
+starts_none c now s m (Some body) e =
+    ap (λ b. if b then initialised c now s body (begun c m.made s body m) m else in_vain m) e
 
 pub full_starts_none : (c : Composition) (now : ℕ) (s : Start) (m : Moment) → length m.active ≡ most_notes
     → s.cycles ≢ 0

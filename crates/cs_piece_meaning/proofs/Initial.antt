@@ -19,6 +19,7 @@ use Rattle.cs_meaning.specs.Initialising.{going, keep, keep_all, init_stmt, init
 use Rattle.cs_meaning.specs.Initialising.{sought, started, stored_once, zak_once}
 use Rattle.cs_meaning.specs.Notes.{Note, Path, Place, next, inside, inside_arm, past_arm, past_stmt, assign}
 use Rattle.cs_meaning.specs.Notes.{first_value, given, moved_to, value, values}
+use Rattle.cs_meaning.specs.When.{beginning}
 use Rattle.cs_piece_meaning.specs.Bounded.{asks_in, asks_in_arms, asks_in_stmt}
 
 pub chosen_is : {A B : Type 0} (f : A → B) (b : Bool) (x y : A) (z : B) → f x ≡ z → f y ≡ z → f (if b then x else y) ≡ z
@@ -36,7 +37,7 @@ pub record Goes {W : Type 0} (o : World W) (S : ℕ → W → W → Type 0) : Ty
   pub does : (q : Opcode) (r : Rate) (u : ℕ) (reach : Reach) (ws : List Wave) (x : W)
       → S 0 x (o.does q r u reach ws x).0
   pub seek : (is : List ℤ) (x : W) → S 0 x (o.seek is x)
-  pub store : (q : Opcode) (r : Rate) (reach : Reach) (ws : List Wave) (x : W) → S 0 x (o.store q r reach ws x)
+  pub store : (r : Rate) (reach : Reach) (ws : List Wave) (x : W) → S 0 x (o.store r reach ws x)
   pub zak : (q : Opcode) (reach : Reach) (ws : List Wave) (x : W) → S 0 x (o.zak q reach ws x).0
   pub ask : (is : List ℤ) (x : W) → S 1 x (o.ask is x)
 
@@ -104,32 +105,32 @@ module _ {W : Type 0} (o : World W) (S : ℕ → W → W → Type 0) (goes : Goe
   given_goes (v ∷ vs) w t = assign_goes v w t
 
   started_goes : (r : Rate) (q : Opcode) (u : ℕ) (is : List Expression) (t : Note W) → From 0 t (started o r q u is t)
-  started_goes r q u is t = goes.start q r u (first_values (values o t true [] is)) t.world
+  started_goes r q u is t = goes.start q r u (first_values (values o t beginning [] is)) t.world
 
   sought_goes : (is : List Expression) (t : Note W) → From 0 t (sought o is t)
-  sought_goes is t = goes.seek (first_values (values o t true [] is)) t.world
+  sought_goes is t = goes.seek (first_values (values o t beginning [] is)) t.world
 
   run_goes : (r : Rate) (vs : List Variable) (q : Opcode) (u : ℕ) (reach : Reach) (xs : List Expression) (t : Note W)
       → From 0 t (run_once o r vs q u reach xs t)
   run_goes r vs q u reach xs t =
-      let d : W × Wave = o.does q r u reach (values o t true [] xs) t.world in
+      let d : W × Wave = o.does q r u reach (values o t beginning [] xs) t.world in
       after 0 0 0 t (moved_to d.0 t) (given o vs (held o.ksmps r d.1) (moved_to d.0 t)) (omega arith)
-      (goes.does q r u reach (values o t true [] xs) t.world) (given_goes vs (held o.ksmps r d.1) (moved_to d.0 t))
+      (goes.does q r u reach (values o t beginning [] xs) t.world) (given_goes vs (held o.ksmps r d.1) (moved_to d.0 t))
 
   zak_goes : (r : Rate) (vs : List Variable) (q : Opcode) (reach : Reach) (xs : List Expression) (t : Note W)
       → From 0 t (zak_once o r vs q reach xs t)
   zak_goes r vs q reach xs t =
-      let d : W × Wave = o.zak q reach (values o t true [] xs) t.world in
+      let d : W × Wave = o.zak q reach (values o t beginning [] xs) t.world in
       after 0 0 0 t (moved_to d.0 t) (given o vs (held o.ksmps r d.1) (moved_to d.0 t)) (omega arith)
-      (goes.zak q reach (values o t true [] xs) t.world) (given_goes vs (held o.ksmps r d.1) (moved_to d.0 t))
+      (goes.zak q reach (values o t beginning [] xs) t.world) (given_goes vs (held o.ksmps r d.1) (moved_to d.0 t))
 
   mutual
     pub stmt_goes : (s : Stmt) (p : Place) (t : Note W) → From (asks_in_stmt s) t (init_stmt o p s t)
     stmt_goes (set r v e) p t =
-        let a : Note W = assign o v (value o t true [] e) t in
+        let a : Note W = assign o v (value o t beginning [] e) t in
         let b : Note W = keep o (0 ∷ p.path) e t in
         going_goes 0 t (if_init r a b)
-        (rate_goes 0 r t a b (assign_goes v (value o t true [] e) t) (keep_goes (0 ∷ p.path) e t))
+        (rate_goes 0 r t a b (assign_goes v (value o t beginning [] e) t) (keep_goes (0 ∷ p.path) e t))
     stmt_goes (unit r vs q reach xs is) p t =
         let s : Note W = started o r q p.unit is t in
         let a : Note W = going o s (run_once o r vs q p.unit reach xs s) in
@@ -145,20 +146,20 @@ module _ {W : Type 0} (o : World W) (S : ℕ → W → W → Type 0) (goes : Goe
         let b : Note W = keep_all o (0 ∷ p.path) xs t in
         going_goes 0 t (if_init r a b)
         (rate_goes 0 r t a b (zak_goes r vs q reach xs t) (keep_all_goes (0 ∷ p.path) xs t))
-    stmt_goes (store r q reach es is) p t =
+    stmt_goes (store r reach es is) p t =
         let s : Note W = sought o is t in
-        let a : Note W = going o s (stored_once o r q reach es s) in
+        let a : Note W = going o s (stored_once o r reach es s) in
         let k : Note W = keep_all o (0 ∷ p.path) es t in
         let b : Note W = sought o is k in
         going_goes 0 t (if_init r a b)
         (rate_goes 0 r t a b
         (after 0 0 0 t s a (omega arith) (sought_goes is t)
-        (going_goes 0 s (stored_once o r q reach es s) (goes.store q r reach (values o s true [] es) s.world)))
+        (going_goes 0 s (stored_once o r reach es s) (goes.store r reach (values o s beginning [] es) s.world)))
         (after 0 0 0 t k b (omega arith) (keep_all_goes (0 ∷ p.path) es t) (sought_goes is k)))
     stmt_goes (out r es) p t = going_goes 0 t (keep_all o (0 ∷ p.path) es t) (keep_all_goes (0 ∷ p.path) es t)
     stmt_goes (out_at r es) p t = going_goes 0 t (keep_all o (0 ∷ p.path) es t) (keep_all_goes (0 ∷ p.path) es t)
     stmt_goes (ask es) p t =
-        let is : List ℤ = first_values (values o t true [] es) in
+        let is : List ℤ = first_values (values o t beginning [] es) in
         going_goes 1 t (moved_to (o.ask is t.world) t) (goes.ask is t.world)
     stmt_goes (turnoff r) p t = still 0 t
     stmt_goes nothing p t = still 0 t

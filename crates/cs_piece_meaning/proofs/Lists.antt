@@ -1,5 +1,6 @@
 -- Pairs of elements of lists that are put together.
-use Rattle.std.proofs.Common.{◌≡◌, zero, suc, ◌+◌, Bool, true, false, not, List, [], ◌∷◌, ◌++◌, length, get_or, refl, arith, length-append}
+use Rattle.std.proofs.Common.{◌≡◌, zero, suc, ◌+◌, Bool, true, false, not, List, [], ◌∷◌, ◌++◌, length, get_or, refl}
+use Rattle.std.proofs.Common.{arith, length-append}
 use Rattle.std.specs.Prelude.{All, AllPairs, filter, cond}
 use Rattle.std.proofs.lemmas.List.Elements.{All-append, All-cons, All-filter, All-head, All-tail}
 use Rattle.std.proofs.lemmas.List.Filters.{length-filter_both}
@@ -25,9 +26,11 @@ module _ {A : Type 0} (R : A → A → Type 0) where
   module _ (p : A → Bool) (back : (x y : A) → R x y → R y x) where
     all_of : (x : A) (xs : List A) → All (R x) xs → (b : Bool)
         → All (λ y. All (R y) (filter (λ z. not (p z)) xs)) (filter p xs)
-        → All (λ y. All (R y) (cond (not b) (x ∷ filter (λ z. not (p z)) xs) (filter (λ z. not (p z)) xs))) (cond b (x ∷ filter p xs) (filter p xs))
+        → All (λ y. All (R y) (cond (not b) (x ∷ filter (λ z. not (p z)) xs) (filter (λ z. not (p z)) xs)))
+        (cond b (x ∷ filter p xs) (filter p xs))
     all_of x xs head true rest =
-        All-cons (λ y. All (R y) (filter (λ z. not (p z)) xs)) x (filter p xs) (All-filter (λ z. not (p z)) (R x) xs head) rest
+        All-cons (λ y. All (R y) (filter (λ z. not (p z)) xs)) x (filter p xs)
+        (All-filter (λ z. not (p z)) (R x) xs head) rest
     all_of x xs head false rest = λ k d lt.
         All-cons (R (get_or (filter p xs) k d)) x (filter (λ z. not (p z)) xs)
         (back x (get_or (filter p xs) k d) (All-filter p (R x) xs head k d lt)) (rest k d lt)

@@ -1,5 +1,7 @@
 -- Notes stay in order through the steps of a cycle.
-use Rattle.std.proofs.Common.{◌≡◌, ◌≢◌, ◌∙◌, ◌⊎◌, inl, inr, ⊎_elim, ℕ, ℤ, zero, suc, ◌+◌, ◌<◌, ◌≤◌, ◌<ℤ◌, ◌≤ℤ◌, ◌==◌, Bool, true, false, not, nat_lt, List, [], ◌∷◌, length, get_or, Some, refl, sym, ap, arith, if◌then◌else◌}
+use Rattle.std.proofs.Common.{◌≡◌, ◌≢◌, ◌∙◌, ◌⊎◌, inl, inr, ⊎_elim, ℕ, ℤ, zero, suc, ◌+◌, ◌<◌, ◌≤◌, ◌<ℤ◌, ◌≤ℤ◌, ◌==◌}
+use Rattle.std.proofs.Common.{Bool, true, false, not, nat_lt, List, [], ◌∷◌, length, get_or, Some, refl, sym, ap, arith}
+use Rattle.std.proofs.Common.{if◌then◌else◌}
 use Rattle.std.specs.Prelude.{All, AllPairs, filter}
 use Rattle.std.specs.List.{AllZip}
 use Rattle.std.proofs.lemmas.Bool.Decides.{nat_tests}
@@ -67,15 +69,18 @@ module _ (n : Active) where
       → length active < most_notes
       → InOrder P (placed n active) (n.age + 1)
   placed_stands P active h this room =
-      let older : All (λ (a : Active). a.age < n.age) (filter low active) = All-filter low (λ (a : Active). a.age < n.age) active h.started in
-      let younger : All (λ (a : Active). a.age < n.age) (filter high active) = All-filter high (λ (a : Active). a.age < n.age) active h.started in
+      let older : All (λ (a : Active). a.age < n.age) (filter low active) =
+      All-filter low (λ (a : Active). a.age < n.age) active h.started in
+      let younger : All (λ (a : Active). a.age < n.age) (filter high active) =
+      All-filter high (λ (a : Active). a.age < n.age) active h.started in
       let lows : All (λ a. low a ≡ true) (filter low active) = filter_passes low active in
       let highs : All (λ a. high a ≡ true) (filter high active) = filter_passes high active in
       record {
         order = between_pairs low n active StandsBefore
             (λ k d lt. is_low (get_or (filter low active) k d) (lows k d lt) (older k d lt))
             (λ k d lt. inl (above (get_or (filter high active) k d).number n.number (highs k d lt)))
-            (λ i d lt j e within. is_across (get_or (filter low active) i d) (get_or (filter high active) j e) (lows i d lt) (highs j e within))
+            (λ i d lt j e within. is_across (get_or (filter low active) i d) (get_or (filter high active) j e)
+            (lows i d lt) (highs j e within))
             h.order;
         ages = between_pairs low n active HaveOtherAges
             (λ k d lt e. let l = older k d lt in omega (arith, l, e))
@@ -83,7 +88,8 @@ module _ (n : Active) where
             (pairs_across HaveOtherAges low other_ages active h.ages)
             h.ages;
         started = between_all low n active (λ (a : Active). a.age < n.age + 1) (omega arith)
-            (All-weaker (λ (a : Active). a.age < n.age) (λ (a : Active). a.age < n.age + 1) (λ a l. omega (arith, l)) active h.started);
+            (All-weaker (λ (a : Active). a.age < n.age) (λ (a : Active). a.age < n.age + 1) (λ a l. omega (arith, l))
+            active h.started);
         each = between_all low n active P this h.each;
         few = (let long = between_long low n active in omega (arith, long, room));
       }
@@ -98,13 +104,15 @@ filtered_stands P p active count h = record {
   ages = AllPairs-filter HaveOtherAges p active h.ages;
   started = All-filter p (λ (a : Active). a.age < count) active h.started;
   each = All-filter p P active h.each;
-  few = (let both = length-filter_both p (λ z. not (p z)) (λ z. refl) active in let most = h.few in omega (arith, both, most));
+  few = (let both = length-filter_both p (λ z. not (p z)) (λ z. refl) active in let most =
+      h.few in omega (arith, both, most));
 }
 
 -- the notes are of another kind
 pub other_kind : (P Q : Active → Type 0) (active : List Active) (count : ℕ) → All Q active → InOrder P active count
     → InOrder Q active count
-other_kind P Q active count all h = record { order = h.order; ages = h.ages; started = h.started; each = all; few = h.few }
+other_kind P Q active count all h =
+    record { order = h.order; ages = h.ages; started = h.started; each = all; few = h.few }
 
 -- A START
 
@@ -125,7 +133,8 @@ module _ (c : Composition) (now : ℕ) where
       none = record {
         order = h.order;
         ages = h.ages;
-        started = All-weaker (λ (a : Active). a.age < age) (λ (a : Active). a.age < age + 1) (λ a l. omega (arith, l)) active h.started;
+        started = All-weaker (λ (a : Active). a.age < age) (λ (a : Active). a.age < age + 1) (λ a l. omega (arith, l))
+            active h.started;
         each = h.each;
         few = h.few;
       }
@@ -135,7 +144,8 @@ module _ (c : Composition) (now : ℕ) where
       by false e =
           let some : 0 < s.cycles = grind (arith, nat_tests) in
           let place : length active < most_notes = ⊎_elim (λ z. absurd (omega (arith, z, some))) (λ l. l) room in
-          placed_stands n (PlaysIn c now) active h (record { body = there; before_its_end = omega (arith, some); not_turned_off = on }) place
+          placed_stands n (PlaysIn c now) active h
+          (record { body = there; before_its_end = omega (arith, some); not_turned_off = on }) place
 
   -- the notes that play in the cycle stand in order
   abbrev Ordered : Fact
@@ -155,12 +165,15 @@ module _ (c : Composition) (now : ℕ) where
   still_stands : (m : Moment) → InOrder Playing m.active m.started → Stand (still now m)
   still_stands m h =
       let keeps : Active → Bool = λ a. nat_lt now a.ends in
-      let last : All (λ (a : Active). nat_lt now a.ends ≡ true) (filter (λ a. nat_lt now a.ends) m.active) = filter_passes (λ (a : Active). nat_lt now a.ends) m.active in
-      let fewer : InOrder Playing (filter (λ a. nat_lt now a.ends) m.active) m.started = filtered_stands Playing (λ (a : Active). nat_lt now a.ends) m.active m.started h in
+      let last : All (λ (a : Active). nat_lt now a.ends ≡ true) (filter (λ a. nat_lt now a.ends) m.active) =
+      filter_passes (λ (a : Active). nat_lt now a.ends) m.active in
+      let fewer : InOrder Playing (filter (λ a. nat_lt now a.ends) m.active) m.started =
+      filtered_stands Playing (λ (a : Active). nat_lt now a.ends) m.active m.started h in
       other_kind Playing (PlaysIn c now) (filter (λ a. nat_lt now a.ends) m.active) m.started
       (λ k d lt. record {
         body = (fewer.each k d lt).0;
-        before_its_end = later now (get_or (filter (λ (a : Active). nat_lt now a.ends) m.active) k d).ends (last k d lt);
+        before_its_end = later now (get_or (filter (λ (a : Active). nat_lt now a.ends) m.active) k d).ends
+            (last k d lt);
         not_turned_off = (fewer.each k d lt).1;
       }) fewer
     where
@@ -193,8 +206,11 @@ pub serial_same : (c : Composition) (made : List ℕ) (shared : Res → Wave) (n
     → AllZip IsSameNote notes (serial c made shared notes).0
 serial_same c made shared [] = tt
 serial_same c made shared (a ∷ rest) =
-    let now : Active = next c made shared a in
-    (record { number = refl; age = refl; ends = refl; fields = refl; body = refl }, serial_same c made now.note.world.shared rest)
+    let now : Active = next c made shared a in (
+      record { number = refl; age = refl; ends = refl; fields = refl; body = refl },
+      serial_same c made
+          now.note.world.shared rest,
+    )
 
 module _ (c : Composition) (P Q : Active → Type 0) (keep : (a b : Active) → IsSameNote a b → P a → Q b) where
   same_stands : (xs ys : List Active) (count : ℕ) → AllZip IsSameNote xs ys → InOrder P xs count → InOrder Q ys count
@@ -205,9 +221,12 @@ module _ (c : Composition) (P Q : Active → Type 0) (keep : (a b : Active) → 
             (zip_at IsSameNote xs ys i d d same (omega (arith, lt, within))) (zip_at IsSameNote xs ys j d d same within)
             (h.order i j d lt (omega (arith, within, long)));
         ages = λ i j d lt within e. h.ages i j d lt (omega (arith, within, long))
-            (sym (zip_at IsSameNote xs ys i d d same (omega (arith, lt, within))).age ∙ (e ∙ (zip_at IsSameNote xs ys j d d same within).age));
-        started = λ k d lt. (let is = (zip_at IsSameNote xs ys k d d same lt).age in let l = h.started k d (omega (arith, lt, long)) in omega (arith, is, l));
-        each = λ k d lt. keep (get_or xs k d) (get_or ys k d) (zip_at IsSameNote xs ys k d d same lt) (h.each k d (omega (arith, lt, long)));
+            (sym (zip_at IsSameNote xs ys i d d same (omega (arith, lt, within))).age
+            ∙ (e ∙ (zip_at IsSameNote xs ys j d d same within).age));
+        started = λ k d lt. (let is = (zip_at IsSameNote xs ys k d d same lt).age in let l =
+            h.started k d (omega (arith, lt, long)) in omega (arith, is, l));
+        each = λ k d lt. keep (get_or xs k d) (get_or ys k d) (zip_at IsSameNote xs ys k d d same lt)
+            (h.each k d (omega (arith, lt, long)));
         few = (let most = h.few in omega (arith, long, most));
       }
 
@@ -229,7 +248,11 @@ module _ (c : Composition) where
       filtered_stands OfInstrument (λ (a : Active). not a.note.world.ended) after m.started stands in
       let on = filter_passes (λ (a : Active). not a.note.world.ended) after in
       other_kind OfInstrument (Playing c n) (filter (λ (a : Active). not a.note.world.ended) after) m.started
-      (λ k d lt. (fewer.each k d lt, negated (get_or (filter (λ (a : Active). not a.note.world.ended) after) k d).note.world.ended (on k d lt))) fewer
+      (λ k d lt. (
+        fewer.each k d lt,
+        negated
+            (get_or (filter (λ (a : Active). not a.note.world.ended) after) k d).note.world.ended (on k d lt),
+      )) fewer
     where
       negated : (b : Bool) → not b ≡ true → b ≡ false
       negated true h = absurd cc
@@ -243,7 +266,8 @@ module _ (c : Composition) where
     each = λ k d lt. absurd (omega arith);
     few = omega arith;
   }
-  moment_stands (suc n) = cycle_stands n (begins c n (moment_at c n)) (begins_stands c n (moment_at c n) (moment_stands n))
+  moment_stands (suc n) = cycle_stands n (begins c n (moment_at c n))
+      (begins_stands c n (moment_at c n) (moment_stands n))
 
   pub in_order : (n : ℕ) → AreInOrder c n (begins c n (moment_at c n))
   in_order n =

@@ -1,5 +1,8 @@
--- What stays true through the steps with which a cycle begins, where it does at each note that joins, each that is asked for and each that is taken out of those that wait.
-use Rattle.std.proofs.Common.{◌≡◌, ◌∙◌, ◌⊎◌, inl, inr, ⊎_elim, ℕ, ℤ, pos, zero, suc, ◌+◌, ◌<◌, ◌≤◌, is_some, slice_index_or, ◌==◌, ◌||◌, Bool, true, false, nat_lt, List, [], ◌∷◌, length, Option, Some, None, refl, sym, subst, arith, if◌then◌else◌}
+-- What stays true through the steps with which a cycle begins, where it does at each note that joins, each that is
+-- asked for and each that is taken out of those that wait.
+use Rattle.std.proofs.Common.{◌≡◌, ◌∙◌, ◌⊎◌, inl, inr, ⊎_elim, ℕ, ℤ, pos, zero, suc, ◌+◌, ◌<◌, ◌≤◌, is_some}
+use Rattle.std.proofs.Common.{slice_index_or, ◌==◌, ◌||◌, Bool, true, false, nat_lt, List, [], ◌∷◌, length, Option}
+use Rattle.std.proofs.Common.{Some, None, refl, sym, subst, arith, if◌then◌else◌}
 use Rattle.std.specs.Prelude.{All}
 use Rattle.std.proofs.lemmas.Bool.Decides.{nat_tests}
 use Rattle.std.proofs.lemmas.List.Elements.{All-head, All-tail, filter_passes}
@@ -21,7 +24,9 @@ use Rattle.cs_tempo.specs.declared.plot.EventAct.TheVariants as act
 use Rattle.cs_gen.specs.Points.{points_of}
 use Rattle.cs_piece_meaning.specs.Course.{begins, events_in, still}
 use Rattle.cs_piece_meaning.specs.Moments.{Active, Composition, Moment, clock_of, piece_with}
-use Rattle.cs_piece_meaning.specs.Starts.{Start, act_done, all_asked, all_done, asked, begun, counted, entered, first_started, has_room, in_vain, initialised, joined, start_in, start_of, started, taken, time_of, unless_none, waited, with_points}
+use Rattle.cs_piece_meaning.specs.Starts.{Start, act_done, all_asked, all_done, asked, begun, counted, entered}
+use Rattle.cs_piece_meaning.specs.Starts.{first_started, has_room, in_vain, initialised, joined, start_in, start_of}
+use Rattle.cs_piece_meaning.specs.Starts.{started, taken, time_of, unless_none, waited, with_points}
 use Rattle.cs_piece_meaning.proofs.Unended.{begins_unended}
 
 -- what a note asks for leaves those that play as they are
@@ -33,7 +38,8 @@ module _ (c : Composition) (now : ℕ) (time : ℤ) where
   asked_active : (a : List ℤ) (m : Moment) → (asked c now time (ask_of a) m).active ≡ m.active
   asked_active a m =
       let answer = answer_to (clock_of c) now (ask_of a) m.waiting.kept in
-      counted_active answer (record m { waiting = with_answer answer (due_of (clock_of c) now time (ask_of a)) m.waiting })
+      counted_active answer (record m
+      { waiting = with_answer answer (due_of (clock_of c) now time (ask_of a)) m.waiting })
 
   pub all_active : (asks : List (List ℤ)) (m : Moment) → (all_asked c now time asks m).active ≡ m.active
   all_active [] m = refl
@@ -43,7 +49,8 @@ module _ (c : Composition) (now : ℕ) (time : ℤ) where
 abbrev pub Roomy : Start → List Active → Type 0
 Roomy s active = (s.cycles ≡ 0) ⊎ (length active < most_notes)
 
--- What is kept: something of the notes that play, the count of starts, and what waits, and of a number that goes up where one is taken out.
+-- What is kept: something of the notes that play, the count of starts, and what waits, and of a number that goes up
+-- where one is taken out.
 abbrev pub Fact : Type 1
 Fact = ℕ → List Active → ℕ → Waiting → Type 0
 
@@ -76,7 +83,8 @@ module _ (c : Composition) (now : ℕ) (S : Fact) (keeps : Keeps c now S) where
 
   all_keep : (x : ℕ) (time : ℤ) (asks : List (List ℤ)) (m : Moment) → At S x m → At S x (all_asked c now time asks m)
   all_keep x time [] m h = h
-  all_keep x time (a ∷ asks) m h = all_keep x time asks (asked c now time (ask_of a) m) (asked_keeps x time (ask_of a) m h)
+  all_keep x time (a ∷ asks) m h =
+      all_keep x time asks (asked c now time (ask_of a) m) (asked_keeps x time (ask_of a) m h)
 
   entered_keeps : (x : ℕ) (s : Start) (body : Block) (t : Note Plain) (cause : Option Cause) (m : Moment)
       → c.instrument s.number ≡ Some body
@@ -90,7 +98,8 @@ module _ (c : Composition) (now : ℕ) (S : Fact) (keeps : Keeps c now S) where
   initialised_keeps x s body t m there on room h =
       let before : Moment = record m { shared = t.world.shared } in
       let same = all_active c now (time_of s) t.world.asks before in
-      entered_keeps x s body t t.world.cause (all_asked c now (time_of s) t.world.asks before) there on (subst (Roomy s) (sym same) room)
+      entered_keeps x s body t t.world.cause (all_asked c now (time_of s) t.world.asks before) there on
+      (subst (Roomy s) (sym same) room)
       (all_keep x (time_of s) t.world.asks before h)
 
   roomy : (s : Start) (m : Moment) → has_room s m ≡ true → Roomy s m.active
@@ -109,7 +118,8 @@ module _ (c : Composition) (now : ℕ) (S : Fact) (keeps : Keeps c now S) where
           → At S x (if b then initialised c now s body (begun c m.made s body m) m else in_vain m)
       by false e = h
       by true e =
-          initialised_keeps x s body (begun c m.made s body m) m there (begins_unended (piece_with c m.made s.fields) body m.shared) (roomy s m e) h
+          initialised_keeps x s body (begun c m.made s body m) m there
+          (begins_unended (piece_with c m.made s.fields) body m.shared) (roomy s m e) h
 
   start_keeps : (x : ℕ) (s : Start) (m : Moment) → At S x m → At S x (start_in c now s m)
   start_keeps x s m h = started_keeps x s (c.instrument s.number) m refl h
@@ -120,16 +130,21 @@ module _ (c : Composition) (now : ℕ) (S : Fact) (keeps : Keeps c now S) where
   points_keep x None number points m h = h
   points_keep x (Some t) number points m h = by (is_some t.frozen)
     where
-      by : (b : Bool) → At S x (if b then m else record m { shared = shared_with (res.Table number) (λ j. slice_index_or points j (pos 0)) m.shared })
+      by : (b : Bool) → At S x
+          (if b then m else record m
+          { shared = shared_with (res.Table number) (λ j. slice_index_or points j (pos 0)) m.shared })
       by true = h
       by false = h
 
   act_keeps : (x : ℕ) (a : EventAct) (m : Moment) → At S x m → At S x (act_done c now a m)
-  act_keeps x (act.Start instr cycles fields) m h = start_keeps x (record { number = pos instr; cycles = cycles; fields = fields }) m h
+  act_keeps x (act.Start instr cycles fields) m h =
+      start_keeps x (record { number = pos instr; cycles = cycles; fields = fields }) m h
   act_keeps x (act.Table number size gen args) m h =
-      points_keep x (find_table c.tables (pos number)) number (points_of size gen args) (record m { made = number ∷ m.made }) h
+      points_keep x (find_table c.tables (pos number)) number (points_of size gen args)
+      (record m { made = number ∷ m.made }) h
 
-  events_keep : (x : ℕ) (es : List Event) (m : Moment) → All (λ (e : Event). (e.cycle == now) ≡ true) es → At S x m → At S x (all_done c es m)
+  events_keep : (x : ℕ) (es : List Event) (m : Moment) → All (λ (e : Event). (e.cycle == now) ≡ true) es → At S x m
+      → At S x (all_done c es m)
   events_keep x [] m here h = h
   events_keep x (e ∷ es) m here h =
       let first : (e.cycle == now) ≡ true = All-head (λ (y : Event). (y.cycle == now) ≡ true) e es here in
@@ -141,21 +156,26 @@ module _ (c : Composition) (now : ℕ) (S : Fact) (keeps : Keeps c now S) where
   first_keeps : (x : ℕ) (d : Due) (rest : List Due) (m : Moment) → m.waiting.due now ≡ d ∷ rest → At S x m
       → At S (x + 1) (first_started c now (d ∷ rest) m)
   first_keeps x d rest m is h =
-      start_keeps (x + 1) (start_of d) (record m { waiting = taken now rest m.waiting }) (keeps.take x m.active m.started m.waiting d rest is h)
+      start_keeps (x + 1) (start_of d) (record m { waiting = taken now rest m.waiting })
+      (keeps.take x m.active m.started m.waiting d rest is h)
 
   abbrev pub Over : ℕ → Moment → Type 0
   Over most m = (y : ℕ) × At S y m × ((most ≤ y) ⊎ (m.waiting.due now ≡ []))
 
   waited_keeps : (n x : ℕ) (m : Moment) → At S x m → Over (x + n) (waited n c now m)
   waited_keeps zero x m h = (x, h, inl (omega arith))
-  waited_keeps (suc n) x m h = by (m.waiting.due now) refl (λ d rest is. further d rest (waited_keeps n (x + 1) (first_started c now (d ∷ rest) m) (first_keeps x d rest m is h)))
+  waited_keeps (suc n) x m h =
+      by (m.waiting.due now) refl
+      (λ d rest is. further d rest
+      (waited_keeps n (x + 1) (first_started c now (d ∷ rest) m) (first_keeps x d rest m is h)))
     where
       further : (d : Due) (rest : List Due) → Over (x + 1 + n) (waited n c now (first_started c now (d ∷ rest) m))
           → Over (x + suc n) (waited n c now (first_started c now (d ∷ rest) m))
       further d rest r = (r.0, r.1, ⊎_elim (λ l. inl (omega (arith, l))) (λ e. inr e) r.2)
 
       by : (ds : List Due) → m.waiting.due now ≡ ds
-          → ((d : Due) (rest : List Due) → m.waiting.due now ≡ d ∷ rest → Over (x + suc n) (waited n c now (first_started c now (d ∷ rest) m)))
+          → ((d : Due) (rest : List Due) → m.waiting.due now ≡ d ∷ rest
+          → Over (x + suc n) (waited n c now (first_started c now (d ∷ rest) m)))
           → Over (x + suc n) (unless_none ds m (waited n c now (first_started c now ds m)))
       by [] is more = (x, h, inr is)
       by (d ∷ rest) is more = more d rest is

@@ -66,7 +66,7 @@ module _ (piece : Piece) where
     does = λ q r u reach ws x. untold x ((plain piece).does q r u reach ws x).0
         (ap told_of (unit_rest (plain_model piece) q r u reach ws (x.units u) x));
     seek = λ is x. untold x ((plain piece).seek is x) (sought_is is x);
-    store = λ q r reach ws x. untold x ((plain piece).store q r reach ws x)
+    store = λ r reach ws x. untold x ((plain piece).store r reach ws x)
         (ap told_of (store_rest (plain_model piece) r reach ws (index (operand 2 ws 0)) x));
     zak = λ q reach ws x. untold x ((plain piece).zak q reach ws x).0
         (ap told_of (zak_rest (plain_model piece) (row_of q).shape reach ws x));

@@ -1,5 +1,6 @@
 -- How many starts there are: the events that start a note, and the notes that notes ask for as they are initialised.
-use Rattle.std.specs.Prelude.{ℕ, zero, suc, pos, ◌+◌, Bool, true, false, List, [], ◌∷◌, length, map, sum, Option, Some, None, if◌then◌else◌}
+use Rattle.std.specs.Prelude.{ℕ, zero, suc, pos, ◌+◌, Bool, true, false, List, [], ◌∷◌, length, map, sum, Option, Some}
+use Rattle.std.specs.Prelude.{None, if◌then◌else◌}
 use Rattle.std.specs.List.{count_by, range_with_len}
 use Rattle.cs_base.specs.Limits.{most_asks}
 use Rattle.cs_meaning.specs.Core.{Block}
@@ -37,7 +38,8 @@ asks_of_events c (e ∷ rest) m = asks_of_act c e.act m + asks_of_events c rest 
 -- those of notes that waited for a cycle, the first of which is started until none is left
 abbrev pub asks_of_first : Composition → ℕ → List Due → Moment → ℕ
 asks_of_first c now [] m = 0
-asks_of_first c now (d ∷ rest) m = asks_of c (start_of d) (c.instrument d.number) (record m { waiting = taken now rest m.waiting })
+asks_of_first c now (d ∷ rest) m =
+    asks_of c (start_of d) (c.instrument d.number) (record m { waiting = taken now rest m.waiting })
 
 abbrev pub none_without : List Due → ℕ → ℕ
 none_without [] n = 0

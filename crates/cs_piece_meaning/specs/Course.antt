@@ -38,7 +38,10 @@ begins c now m = all_waited c now (all_done c (events_in c now) (still now m))
 -- Then the notes are performed, one after another: each finds what those before it left.
 abbrev pub next : Composition → List ℕ → (Res → Wave) → Active → Active
 next c made shared a =
-    record a { note = perf_block (plain (piece_with c made a.fields)) start a.body (moved_to (next_cycle shared a.note.world) a.note) }
+    record a {
+      note = perf_block (plain (piece_with c made a.fields)) start a.body
+          (moved_to (next_cycle shared a.note.world) a.note);
+    }
 
 abbrev pub serial : Composition → List ℕ → (Res → Wave) → List Active → List Active × (Res → Wave)
 serial c made shared [] = ([], shared)

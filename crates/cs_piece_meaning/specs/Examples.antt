@@ -1,4 +1,5 @@
--- Small performances that are worked out from the definitions: eight frames a second, four a control cycle, one channel.
+-- Small performances that are worked out from the definitions: eight frames a second, four a control cycle, one
+-- channel.
 use Rattle.std.specs.Prelude.{ℕ, ℤ, pos, ◌*◌, List, [], ◌∷◌, Option, Some, None, if◌then◌else◌}
 use Rattle.std.specs.Ordering.{int_eq}
 use Rattle.cs_base.specs.declared.resource.Rate.TheVariants as rate

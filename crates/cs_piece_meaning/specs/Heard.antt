@@ -11,7 +11,8 @@ sum_at notes frame channel = total (map (λ a. a.note.world.outs channel frame) 
 
 -- the frames of a cycle, channel beside channel
 abbrev pub mix_in : Composition → ℕ → List ℤ
-mix_in c n = flat_map (λ frame. map (sum_at (played_in c n) frame) (range_with_len 0 c.head.nchnls)) (range_with_len 0 c.head.ksmps)
+mix_in c n = flat_map (λ frame. map (sum_at (played_in c n) frame) (range_with_len 0 c.head.nchnls))
+    (range_with_len 0 c.head.ksmps)
 
 -- the frames of the first n cycles, and of the whole performance
 abbrev pub frames_before : Composition → ℕ → List ℤ

@@ -1,5 +1,6 @@
 -- What is performed, and how it stands between two steps of a control cycle.
-use Rattle.std.specs.Prelude.{ℕ, ℤ, pos, ◌-◌, ◌==◌, Bool, not, List, ◌∷◌, ◌++◌, filter, int_lt, map, slice_index_or, Option}
+use Rattle.std.specs.Prelude.{ℕ, ℤ, pos, ◌-◌, ◌==◌, Bool, not, List, ◌∷◌, ◌++◌, filter, int_lt, map, slice_index_or}
+use Rattle.std.specs.Prelude.{Option}
 use Rattle.std.specs.List.{list_any}
 use Rattle.cs_base.specs.declared.resource.Res.{Res}
 use Rattle.cs_typed.specs.Places.{Header}
@@ -13,8 +14,9 @@ use Rattle.cs_sched.specs.Waiting.{Waiting}
 use Rattle.cs_ugen.specs.Generators.{pace_of, the_generators}
 use Rattle.cs_tempo.specs.declared.plot.Event.{Event}
 
--- What two accepted texts ask for: the header, the zak spaces, the statements outside instruments, those of the instrument of each
--- number that there is, every table of the score as if none were made yet, the events in order, and the length in control cycles.
+-- What two accepted texts ask for: the header, the zak spaces, the statements outside instruments, those of the
+-- instrument of each number that there is, every table of the score as if none were made yet, the events in order, and
+-- the length in control cycles.
 pub record Composition : Type 0 where
   pub head : Header
   pub spaces : Spaces
@@ -24,8 +26,8 @@ pub record Composition : Type 0 where
   pub events : List Event
   pub cycles : ℕ
 
--- A note that plays: its instrument, how many notes were started before it, the cycle in which it has ended, its p-fields, its
--- statements, and what it has come to.
+-- A note that plays: its instrument, how many notes were started before it, the cycle in which it has ended, its
+-- p-fields, its statements, and what it has come to.
 pub record Active : Type 0 where
   pub number : ℤ
   pub age : ℕ
@@ -34,8 +36,9 @@ pub record Active : Type 0 where
   pub body : Block
   pub note : Note Plain
 
--- A moment of the performance: what notes share, the numbers of the tables that were made, the notes that play, in the order in
--- which they are performed, those that wait, and how many starts there were that started a note, and that didn't.
+-- A moment of the performance: what notes share, the numbers of the tables that were made, the notes that play, in the
+-- order in which they are performed, those that wait, and how many starts there were that started a note, and that
+-- didn't.
 pub record Moment : Type 0 where
   pub shared : Res → Wave
   pub made : List ℕ
@@ -71,4 +74,5 @@ clock_of c = record { sr = c.head.sr; ksmps = c.head.ksmps; cycles = c.cycles }
 
 -- a note takes its place behind those of lower instruments, and behind the older ones of its own
 abbrev pub placed : Active → List Active → List Active
-placed n active = filter (λ a. at_most a.number n.number) active ++ n ∷ filter (λ a. not (at_most a.number n.number)) active
+placed n active = filter (λ a. at_most a.number n.number) active ++ n
+    ∷ filter (λ a. not (at_most a.number n.number)) active

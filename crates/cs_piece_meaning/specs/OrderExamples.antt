@@ -4,7 +4,8 @@ use Rattle.cs_base.specs.declared.resource.Rate.TheVariants as rate
 use Rattle.cs_base.specs.declared.resource.Res.TheVariants as res
 use Rattle.cs_words.specs.declared.catalogue.Opcode.TheVariants as op
 use Rattle.cs_words.specs.declared.sign.BinOp.TheVariants as sign
-use Rattle.cs_typed.specs.TypedTree.{number, var, field, pair, value, Expression, Statement, set, call, choose, Block as Statements, no_stmt, andthen, otherwise, arm}
+use Rattle.cs_typed.specs.TypedTree.{number, var, field, pair, value, Expression, Statement, set, call, choose}
+use Rattle.cs_typed.specs.TypedTree.{Block as Statements, no_stmt, andthen, otherwise, arm}
 use Rattle.cs_typed.specs.declared.tree.Var.TheVariants.{Local, Global}
 use Rattle.cs_meaning.specs.Examples.{counting, no_code, telling, whole, zeros}
 use Rattle.cs_tempo.specs.declared.plot.Event.{Event}
@@ -21,7 +22,8 @@ first s rest = andthen s rest
 -- if p4 == 1 then gk1 = gk1 + 1 else a1 = gk1, out a1: decided once, as the note begins
 abbrev pub counting_or_telling : Statements
 counting_or_telling =
-    first (choose 4 rate.Init (arm (pair rate.Init sign.Equal (field rate.Init 4) (lit 1)) counting (otherwise telling))) no_stmt
+    first (choose 4 rate.Init
+    (arm (pair rate.Init sign.Equal (field rate.Init 4) (lit 1)) counting (otherwise telling))) no_stmt
 
 -- two notes of one instrument over two cycles, with these p4, one started after the other
 abbrev pub two_of_one : ℕ → ℕ → Composition
@@ -65,14 +67,16 @@ table_stored_to = with_table storing_and_sounding (made 0 5 6 7 8 ∷ note 1 0 2
 -- schedule 2, 0, .5, 7: a note that is asked for now
 abbrev asking_now : Statement
 asking_now =
-    call 3 rate.Init [] op.Schedule (value (lit 2) ∷ value (lit 0) ∷ value (number rate.Init (pos 32768)) ∷ value (lit 7) ∷ [])
+    call 3 rate.Init [] op.Schedule
+    (value (lit 2) ∷ value (lit 0) ∷ value (number rate.Init (pos 32768)) ∷ value (lit 7) ∷ [])
 
 -- gk1 init 9; schedule 2, 0, .5, 7; a1 oscili 1, 1, 9: a table that isn't there
 abbrev pub asking_and_refused : Statements
 asking_and_refused =
     first (call 2 rate.Init (Global (res.Gk 0) ∷ []) op.Init (value (lit 9) ∷ []))
     (first asking_now
-    (first (call 4 rate.Audio (Local rate.Audio 0 ∷ []) op.Oscili (value (lit 1) ∷ value (lit 1) ∷ value (lit 9) ∷ [])) no_stmt))
+    (first (call 4 rate.Audio (Local rate.Audio 0 ∷ []) op.Oscili (value (lit 1) ∷ value (lit 1) ∷ value (lit 9) ∷ []))
+    no_stmt))
 
 -- a note of the second cycle that asks for another of that cycle
 abbrev pub asked_in_its_cycle : Composition

@@ -4,19 +4,20 @@ use Rattle.cs_base.specs.Limits.{most_notes}
 use Rattle.cs_piece_meaning.specs.Course.{begins, moment_at}
 use Rattle.cs_piece_meaning.specs.Moments.{Active, Composition, Moment}
 
--- Notes stand by the number of their instrument, and those of one number by age: the one that was started first stands first.
+-- Notes stand by the number of their instrument, and those of one number by age: the one that was started first stands
+-- first.
 abbrev pub StandsBefore : Active → Active → Type 0
 StandsBefore a b = (a.number <ℤ b.number) ⊎ ((a.number ≡ b.number) × (a.age < b.age))
 
--- A note that plays in a cycle: its statements are those of its instrument, the cycle comes before the one in which it has ended,
--- and it wasn't turned off.
+-- A note that plays in a cycle: its statements are those of its instrument, the cycle comes before the one in which it
+-- has ended, and it wasn't turned off.
 pub record PlaysIn (c : Composition) (cycle : ℕ) (a : Active) : Type 0 where
   pub body : c.instrument a.number ≡ Some a.body
   pub before_its_end : cycle < a.ends
   pub not_turned_off : a.note.world.ended ≡ false
 
--- The notes of a cycle: each earlier one stands before each later one, no two have one age, each was started before now and plays
--- in the cycle, and there are no more than there may be.
+-- The notes of a cycle: each earlier one stands before each later one, no two have one age, each was started before now
+-- and plays in the cycle, and there are no more than there may be.
 pub record AreInOrder (c : Composition) (cycle : ℕ) (m : Moment) : Type 0 where
   pub order : AllPairs StandsBefore m.active
   pub ages : AllPairs (λ (a b : Active). a.age ≢ b.age) m.active

@@ -1,5 +1,6 @@
 -- How notes start and tables are made.
-use Rattle.std.specs.Prelude.{ℕ, ℤ, pos, Bool, ◌||◌, ◌+◌, ◌==◌, zero, suc, List, [], ◌∷◌, length, nat_lt, slice_index_or, Option, Some, None, if◌then◌else◌}
+use Rattle.std.specs.Prelude.{ℕ, ℤ, pos, Bool, ◌||◌, ◌+◌, ◌==◌, zero, suc, List, [], ◌∷◌, length, nat_lt}
+use Rattle.std.specs.Prelude.{slice_index_or, Option, Some, None, if◌then◌else◌}
 use Rattle.std.specs.Option.{is_some}
 use Rattle.cs_base.specs.Limits.{most_asks, most_notes}
 use Rattle.cs_base.specs.declared.resource.Res.TheVariants as res
@@ -52,7 +53,15 @@ time_of s = slice_index_or s.fields 1 (pos 0)
 abbrev pub joined : ℕ → Start → Block → Note Plain → List Active → ℕ → List Active
 joined now s body t active age =
     if s.cycles == 0 then active
-    else placed (record { number = s.number; age = age; ends = now + s.cycles; fields = s.fields; body = body; note = t }) active
+    else placed (record {
+      number = s.number;
+      age = age;
+      ends = now + s.cycles;
+      fields = s.fields;
+      body = body;
+      note =
+          t;
+    }) active
 
 abbrev pub entered : ℕ → Start → Block → Note Plain → Option Cause → Moment → Moment
 entered now s body t None m =
@@ -94,15 +103,16 @@ made_table c number points m =
 
 -- an event of the plot is done
 abbrev pub act_done : Composition → ℕ → EventAct → Moment → Moment
-act_done c now (act.Start instr cycles fields) m = start_in c now (record { number = pos instr; cycles = cycles; fields = fields }) m
+act_done c now (act.Start instr cycles fields) m =
+    start_in c now (record { number = pos instr; cycles = cycles; fields = fields }) m
 act_done c now (act.Table number size gen args) m = made_table c number (points_of size gen args) m
 
 abbrev pub all_done : Composition → List Event → Moment → Moment
 all_done c [] m = m
 all_done c (e ∷ rest) m = all_done c rest (act_done c e.cycle e.act m)
 
--- Those that wait for a cycle are started in the order in which they were kept, those among them that are kept meanwhile; no
--- more than can be kept in all.
+-- Those that wait for a cycle are started in the order in which they were kept, those among them that are kept
+-- meanwhile; no more than can be kept in all.
 abbrev pub taken : ℕ → List Due → Waiting → Waiting
 taken now rest w = record w { due = λ c. if c == now then rest else w.due c }
 

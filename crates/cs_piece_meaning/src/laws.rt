@@ -19,7 +19,9 @@ pub fn performances_worked_by_hand()
     // A note of no cycle asks for another that begins half a second later and lasts a second.
     ensures asked { frames_of (piece_of_two no_code asking_for_two sounding_p4 (note 1 0 0 (whole 7) ∷ []) 4)
         ≡ each (whole 0) ++ each (whole 7) ++ each (whole 7) ++ each (whole 0) }
-    ensures both_started { (closing (piece_of_two no_code asking_for_two sounding_p4 (note 1 0 0 (whole 7) ∷ []) 4)).started ≡ 2 }
+    ensures both_started { (closing (piece_of_two no_code asking_for_two sounding_p4
+        (note 1 0 0 (whole 7) ∷ []) 4)).started ≡ 2 }
     // An instrument that isn't there, and a note that asks for a table that isn't there, in the cycle after the last.
-    ensures not_started { (closing (piece_of_two no_code missing_table no_code (note 3 0 1 (pos 0) ∷ note 1 1 0 (pos 0) ∷ []) 1)).not_started ≡ 2 }
+    ensures not_started { (closing (piece_of_two no_code missing_table no_code
+        (note 3 0 1 (pos 0) ∷ note 1 1 0 (pos 0) ∷ []) 1)).not_started ≡ 2 }
 {}

@@ -1,5 +1,6 @@
 -- When a note that was asked for begins, how long it lasts, and its p-fields.
-use Rattle.std.specs.Prelude.{ℕ, ℤ, pos, ◌+◌, ◌-◌, ◌*◌, ◌/◌, ◌^◌, ◌*ℤ◌, ◌∷◌, List, max, min, unsigned_abs, if◌then◌else◌}
+use Rattle.std.specs.Prelude.{ℕ, ℤ, pos, ◌+◌, ◌-◌, ◌*◌, ◌/◌, ◌^◌, ◌*ℤ◌, ◌∷◌, List, max, min, unsigned_abs}
+use Rattle.std.specs.Prelude.{if◌then◌else◌}
 use Rattle.std.specs.Int.{int_max}
 use Rattle.std.specs.Ordering.{int_eq}
 use Rattle.cs_base.specs.Numbers.{clamp, sum_of}
@@ -44,7 +45,8 @@ abbrev pub lasts : Clock → ℕ → Ask → ℕ
 lasts clock now ask =
     if int_eq ask.dur (pos 0) then 0 else min (ends_in clock now ask) clock.cycles - begins_in clock now ask
 
--- its p-fields: its instrument, when it begins after the p2 of the note that asks, how long it lasts, and those that were given
+-- its p-fields: its instrument, when it begins after the p2 of the note that asks, how long it lasts, and those that
+-- were given
 abbrev pub fields_of : ℤ → Ask → List ℤ
 fields_of time ask = clamp (ask.number *ℤ pos 65536) ∷ sum_of time (none_or ask.when) ∷ ask.dur ∷ ask.more
 

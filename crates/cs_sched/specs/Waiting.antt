@@ -1,5 +1,6 @@
 -- Which notes wait, and what becomes of one that is asked for.
-use Rattle.std.specs.Prelude.{ℕ, ◌≡◌, ◌≢◌, ◌≤◌, ◌+◌, ◌==◌, List, [], ◌∷◌, ◌++◌, filter, length, nat_le, Option, None, option_to_list, if◌then◌else◌}
+use Rattle.std.specs.Prelude.{ℕ, ◌≡◌, ◌≢◌, ◌≤◌, ◌+◌, ◌==◌, List, [], ◌∷◌, ◌++◌, filter, length, nat_le, Option, None}
+use Rattle.std.specs.Prelude.{option_to_list, if◌then◌else◌}
 use Rattle.std.specs.Int.{is_negative}
 use Rattle.std.specs.List.Sorted.{IsNonDecreasingBy}
 use Rattle.cs_base.specs.Limits.{most_asks}

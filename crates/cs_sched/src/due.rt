@@ -1,6 +1,7 @@
 // When a note that was asked for begins, and how long it lasts.
 ghost use Rattle.std.specs.Prelude.{◌≡◌, ◌<◌, ◌^◌, IfOk};
-ghost use Rattle.cs_sched.specs.Times.{begins_in, clock_of, cycle_after, ends_in, fields_of, from_now, lasts, nanoseconds};
+ghost use Rattle.cs_sched.specs.Times.{begins_in, clock_of, cycle_after, ends_in, fields_of, from_now, lasts};
+ghost use Rattle.cs_sched.specs.Times.{nanoseconds};
 
 use cs_base::{Head, Num, Nums, ONE, OutOfMemory};
 use cs_ir::Ask;

@@ -1,6 +1,7 @@
 -- Two typed statements that differ in their variables alone: in two notes where each variable has what the other's has,
 -- they do the same. Such notes may be in two worlds that differ in the numbers of what notes share.
-use Rattle.std.proofs.Common.{◌≡◌, ◌∙◌, ℕ, ℤ, ◌+◌, Bool, true, false, if◌then◌else◌, List, [], ◌∷◌, refl, ap, subst}
+use Rattle.std.proofs.Common.{◌≡◌, ◌∙◌, ℕ, suc, ℤ, ◌+◌, Bool, true, false, if◌then◌else◌, List, [], ◌∷◌}
+use Rattle.std.proofs.Common.{length, arith, refl, ap, subst}
 use Rattle.cs_base.specs.declared.resource.Rate.{Rate}
 use Rattle.cs_base.specs.declared.resource.Rate.TheVariants as rate
 use Rattle.cs_base.specs.declared.resource.Res.{Res}
@@ -27,9 +28,11 @@ use Rattle.cs_meaning.specs.Core.{Stmt, set, unit, zak, store, out, out_at, ask,
 use Rattle.cs_meaning.specs.Core.{otherwise, values_of, settled, moving, table_reach, place_reach, span_reach}
 use Rattle.cs_meaning.specs.Core.{unit_reach, zak_reach, plus, unit_call, store_call, zak_call, core_call}
 use Rattle.cs_meaning.specs.Initialising.{going, put_kept, keep, keep_all, started, sought, init_stmt}
-use Rattle.cs_meaning.specs.Notes.{Note, Path, Place, next, unit_past, moved_to, past_stmt, look, assign, part}
+use Rattle.cs_meaning.specs.Notes.{Note, Path, Place, unit_past, moved_to, look, assign, part}
 use Rattle.cs_meaning.specs.Notes.{value, values, first_value, given, done, sent, sent_at}
 use Rattle.cs_meaning.specs.Performing.{perf_stmt}
+use Rattle.cs_meaning.specs.When.{When, beginning, cycle}
+use Rattle.cs_udo_meaning.specs.Frames.{unit_of}
 use Rattle.cs_udo_meaning.specs.Renumbered.{renumbered}
 
 -- ---- alike but for their variables
@@ -71,9 +74,9 @@ pub data AlikeStmt (V : Variable → Variable → Type 0) : Stmt → Stmt → Ty
       → AlikeStmt V (unit r vs o k xs is) (unit r ws o k ys js)
   alike_zak : (r : Rate) (vs ws : List Variable) (o : Opcode) (k : Reach) (xs ys : List Expression)
       → AlikeVariables V vs ws → AlikeAll V xs ys → AlikeStmt V (zak r vs o k xs) (zak r ws o k ys)
-  alike_store : (r : Rate) (o : Opcode) (k : Reach) (xs ys is js : List Expression) → AlikeAll V xs ys
+  alike_store : (r : Rate) (k : Reach) (xs ys is js : List Expression) → AlikeAll V xs ys
       → AlikeAll V is js
-      → AlikeStmt V (store r o k xs is) (store r o k ys js)
+      → AlikeStmt V (store r k xs is) (store r k ys js)
   alike_out : (r : Rate) (xs ys : List Expression) → AlikeAll V xs ys → AlikeStmt V (out r xs) (out r ys)
   alike_out_at : (r : Rate) (xs ys : List Expression) → AlikeAll V xs ys → AlikeStmt V (out_at r xs) (out_at r ys)
   alike_ask : (xs ys : List Expression) → AlikeAll V xs ys → AlikeStmt V (ask xs) (ask ys)
@@ -212,9 +215,9 @@ store_alike {V} {xs} {ys} r o args =
     let row = row_of o in
     let s = settled_alike row 0 args in
     let made = table_reach (settled row 0 xs) in
-    subst (λ k. AlikeStmt V (store r o made (values_of xs) (settled row 0 xs))
-    (store r o k (values_of ys) (settled row 0 ys))) (table_alike s)
-    (alike_store r o made (values_of xs) (values_of ys) (settled row 0 xs) (settled row 0 ys) (values_alike args) s)
+    subst (λ k. AlikeStmt V (store r made (values_of xs) (settled row 0 xs))
+    (store r k (values_of ys) (settled row 0 ys))) (table_alike s)
+    (alike_store r made (values_of xs) (values_of ys) (settled row 0 xs) (settled row 0 ys) (values_alike args) s)
 
 zak_alike : {V : Variable → Variable → Type 0} {vs ws : List Variable} {xs ys : List typed.Argument}
     → (spaces : Spaces) (r : Rate) (o : Opcode) (sh : Shape)
@@ -317,14 +320,14 @@ core_alike spaces r o (shape.ZakClear s) no_variable args = zak_alike spaces r o
 core_alike spaces r o (shape.ZakClear s) (more_variables x y vs ws g rest) args =
     zak_alike spaces r o (shape.ZakClear s) (more_variables x y vs ws g rest) args
 
--- ---- places
+-- ---- numbers of units
 
 pub units_alike : {V : Variable → Variable → Type 0} {x y : Stmt} → AlikeStmt V x y → (n : ℕ)
     → unit_past n x ≡ unit_past n y
 units_alike (alike_set r v w a b g h) n = refl
 units_alike (alike_unit r vs ws o k xs ys is js g h j) n = refl
 units_alike (alike_zak r vs ws o k xs ys g h) n = refl
-units_alike (alike_store r o k xs ys is js h j) n = refl
+units_alike (alike_store r k xs ys is js h j) n = refl
 units_alike (alike_out r xs ys h) n = refl
 units_alike (alike_out_at r xs ys h) n = refl
 units_alike (alike_ask xs ys h) n = refl
@@ -332,22 +335,41 @@ units_alike (alike_turnoff r) n = refl
 units_alike alike_nothing n = refl
 units_alike (alike_empty r) n = refl
 
-pub past_stmt_alike : {V : Variable → Variable → Type 0} {x y : Stmt} → AlikeStmt V x y → (p : Place)
-    → past_stmt p x ≡ past_stmt p y
-past_stmt_alike h p = λ i. record { path = next p.path; unit = units_alike h p.unit i }
+-- of statements that are alike: the number behind that of the one's unit
+pub unit_behind : {V : Variable → Variable → Type 0} {x y : Stmt} → AlikeStmt V x y → (n : ℕ)
+    → unit_past n x ≡ n + length (unit_of n y)
+unit_behind (alike_set r v w a b g h) n = omega arith
+unit_behind (alike_unit r vs ws o k xs ys is js g h j) n = omega arith
+unit_behind (alike_zak r vs ws o k xs ys g h) n = omega arith
+unit_behind (alike_store r k xs ys is js h j) n = omega arith
+unit_behind (alike_out r xs ys h) n = omega arith
+unit_behind (alike_out_at r xs ys h) n = omega arith
+unit_behind (alike_ask xs ys h) n = omega arith
+unit_behind (alike_turnoff r) n = omega arith
+unit_behind alike_nothing n = omega arith
+unit_behind (alike_empty r) n = omega arith
 
 -- ---- two notes alike
 
 -- A relation between notes of two worlds in which two variables have the same value, and keep having it when both are
--- assigned one.
-pub record Agree {W : Type 0} (o p : World W) (V : Variable → Variable → Type 0) (R : Note W → Note W → Type 0)
-    : Type 0 where
-  pub kept : (t u : Note W) → R t u → t.kept ≡ u.kept
+-- assigned one; and a relation between paths at which both keep the same, that goes on into parts.
+pub record Agree {W : Type 0} (o p : World W) (V : Variable → Variable → Type 0) (At : Path → Path → Type 0)
+    (R : Note W → Note W → Type 0) : Type 0 where
+  pub parts : (p q : Path) → At p q → (k : ℕ) → At (k ∷ p) (k ∷ q)
+  pub kept : (t u : Note W) → R t u → (p q : Path) → At p q → t.kept p ≡ u.kept q
   pub world : (t u : Note W) → R t u → t.world ≡ u.world
   pub looks : (t u : Note W) → R t u → (r : Rate) (v w : Variable) → V v w → look o t r v ≡ look p u r w
   pub assigns : (t u : Note W) → R t u → (v w : Variable) → V v w → (x : Wave) → R (assign o v x t) (assign p w x u)
-  pub keeps : (t u : Note W) → R t u → (p : Path) (z : ℤ) → R (put_kept p z t) (put_kept p z u)
+  pub keeps : (t u : Note W) → R t u → (p q : Path) → At p q → (z : ℤ) → R (put_kept p z t) (put_kept q z u)
   pub moves : (t u : Note W) → R t u → (x : W) → R (moved_to x t) (moved_to x u)
+
+-- what is asked where kept values are read
+abbrev pub Reads : When → Type 0 → Type 0
+Reads beginning A = Unit {0}
+Reads cycle A = A
+
+abbrev pub place : Path → ℕ → Place
+place p n = record { path = p; unit = n }
 
 -- what goes out is the same where what notes share has other numbers
 sent_there : {W : Type 0} (to : Res → Res) (o : World W) (c : ℕ) (ws : List Wave) (x : W)
@@ -362,37 +384,54 @@ sent_at_there to o (k ∷ []) x = refl
 sent_at_there to o (k ∷ w ∷ ws) x = sent_at_there to o ws (o.out_at k w x)
 
 -- The one note is in a world, the other in one with other numbers of what notes share, or in the same.
-module _ {W : Type 0} (o : World W) (to : Res → Res) (V : Variable → Variable → Type 0) (R : Note W → Note W → Type 0)
-    (s : Agree o (renumbered to o) V R) where
+module _ {W : Type 0} (o : World W) (to : Res → Res) (V : Variable → Variable → Type 0) (At : Path → Path → Type 0)
+    (R : Note W → Note W → Type 0) (s : Agree o (renumbered to o) V At R) where
   abbrev there : World W
   there = renumbered to o
 
-  pub value_same : (t u : Note W) → R t u → {a b : Expression} → Alike V a b → (whole : Bool) (p : Path)
-      → value o t whole p a ≡ value there u whole p b
-  value_same t u h (alike_number r z) whole p =
-      λ i. part whole r (s.kept t u h i p) (held o.ksmps r (constant z))
-  value_same t u h (alike_var r v w g) whole p = λ i. part whole r (s.kept t u h i p) (s.looks t u h r v w g i)
-  value_same t u h (alike_field r k) whole p =
-      λ i. part whole r (s.kept t u h i p) (held o.ksmps r (constant (o.field k)))
-  value_same t u h (alike_head r k) whole p =
-      λ i. part whole r (s.kept t u h i p) (held o.ksmps r (constant (o.head k)))
-  value_same t u h (alike_neg r a b g) whole p =
-      λ i. part whole r (s.kept t u h i p) (held o.ksmps r (λ j. negated (value_same t u h g whole (0 ∷ p) i j)))
-  value_same t u h (alike_pair r q a b c d g k) whole p =
-      λ i. part whole r (s.kept t u h i p)
-      (held o.ksmps r (both q (value_same t u h g whole (0 ∷ p) i) (value_same t u h k whole (1 ∷ p) i)))
-  value_same t u h (alike_pick r a b c d x y g k l) whole p =
-      λ i. part whole r (s.kept t u h i p)
-      (held o.ksmps r (chosen (value_same t u h g whole (0 ∷ p) i) (value_same t u h k whole (1 ∷ p) i)
-      (value_same t u h l whole (2 ∷ p) i)))
-  value_same t u h (alike_apply r f a b g) whole p =
-      λ i. part whole r (s.kept t u h i p) (held o.ksmps r (λ j. applied f (value_same t u h g whole (0 ∷ p) i j)))
+  part_same : (t u : Note W) → R t u → (w : When) (r : Rate) (p q : Path) → Reads w (At p q) → (x y : Wave) → x ≡ y
+      → part w r (t.kept p) x ≡ part w r (u.kept q) y
+  part_same t u h beginning r p q at x y e = e
+  part_same t u h cycle r p q at x y e = λ i. if_init r (constant (s.kept t u h p q at i)) (e i)
 
-  values_same : (t u : Note W) → R t u → {xs ys : List Expression} → AlikeAll V xs ys → (whole : Bool) (p : Path)
-      → values o t whole p xs ≡ values there u whole p ys
-  values_same t u h alike_none whole p = refl
-  values_same t u h (alike_more a b xs ys g more) whole p =
-      λ i. value_same t u h g whole p i ∷ values_same t u h more whole (next p) i
+  inner : (w : When) (p q : Path) → Reads w (At p q) → (k : ℕ) → Reads w (At (k ∷ p) (k ∷ q))
+  inner beginning p q at k = tt
+  inner cycle p q at k = s.parts p q at k
+
+  pub value_same : (t u : Note W) → R t u → {a b : Expression} → Alike V a b → (w : When) (p q : Path)
+      → Reads w (At p q) → value o t w p a ≡ value there u w q b
+  value_same t u h (alike_number r z) w p q at = part_same t u h w r p q at _ _ refl
+  value_same t u h (alike_var r x y g) w p q at = part_same t u h w r p q at _ _ (s.looks t u h r x y g)
+  value_same t u h (alike_field r k) w p q at = part_same t u h w r p q at _ _ refl
+  value_same t u h (alike_head r k) w p q at = part_same t u h w r p q at _ _ refl
+  value_same t u h (alike_neg r a b g) w p q at =
+      let one = value_same t u h g w (0 ∷ p) (0 ∷ q) (inner w p q at 0) in
+      part_same t u h w r p q at _ _ (λ i. held o.ksmps r (λ j. negated (one i j)))
+  value_same t u h (alike_pair r f a b c d g k) w p q at =
+      let one = value_same t u h g w (0 ∷ p) (0 ∷ q) (inner w p q at 0) in
+      let two = value_same t u h k w (1 ∷ p) (1 ∷ q) (inner w p q at 1) in
+      part_same t u h w r p q at _ _ (λ i. held o.ksmps r (both f (one i) (two i)))
+  value_same t u h (alike_pick r a b c d x y g k l) w p q at =
+      let one = value_same t u h g w (0 ∷ p) (0 ∷ q) (inner w p q at 0) in
+      let two = value_same t u h k w (1 ∷ p) (1 ∷ q) (inner w p q at 1) in
+      let three = value_same t u h l w (2 ∷ p) (2 ∷ q) (inner w p q at 2) in
+      part_same t u h w r p q at _ _ (λ i. held o.ksmps r (chosen (one i) (two i) (three i)))
+  value_same t u h (alike_apply r f a b g) w p q at =
+      let one = value_same t u h g w (0 ∷ p) (0 ∷ q) (inner w p q at 0) in
+      part_same t u h w r p q at _ _ (λ i. held o.ksmps r (λ j. applied f (one i j)))
+
+  -- values as the note begins, and in a cycle those of parts from one on
+  firsts_same : (t u : Note W) → R t u → {xs ys : List Expression} → AlikeAll V xs ys
+      → values o t beginning [] xs ≡ values there u beginning [] ys
+  firsts_same t u h alike_none = refl
+  firsts_same t u h (alike_more a b xs ys g more) =
+      λ i. value_same t u h g beginning [] [] tt i ∷ firsts_same t u h more i
+
+  values_same : (t u : Note W) → R t u → {xs ys : List Expression} → AlikeAll V xs ys → (k : ℕ) (p q : Path) → At p q
+      → values o t cycle (k ∷ p) xs ≡ values there u cycle (k ∷ q) ys
+  values_same t u h alike_none k p q at = refl
+  values_same t u h (alike_more a b xs ys g more) k p q at =
+      λ i. value_same t u h g cycle (k ∷ p) (k ∷ q) (s.parts p q at k) i ∷ values_same t u h more (suc k) p q at i
 
   moves_to : (t u : Note W) → R t u → (x y : W) → x ≡ y → R (moved_to x t) (moved_to y u)
   moves_to t u h x y e = subst (λ z. R (moved_to x t) (moved_to z u)) e (s.moves t u h x)
@@ -406,36 +445,43 @@ module _ {W : Type 0} (o : World W) (to : Res → Res) (V : Variable → Variabl
   either rate.Control t u q p h k = k
   either rate.Audio t u q p h k = k
 
-  kept_whole : (t u : Note W) → R t u → {a b : Expression} → Alike V a b → (p : Path)
-      → R (put_kept p (first_value o t a) t) (put_kept p (first_value there u b) u)
-  kept_whole t u h {a} {b} g p =
-      subst (λ x. R (put_kept p (first_value o t a) t) (put_kept p x u)) (λ i. value_same t u h g true [] i 0)
-      (s.keeps t u h p (first_value o t a))
+  kept_whole : (t u : Note W) → R t u → {a b : Expression} → Alike V a b → (p q : Path) → At p q
+      → R (put_kept p (first_value o t a) t) (put_kept q (first_value there u b) u)
+  kept_whole t u h {a} {b} g p q at =
+      subst (λ x. R (put_kept p (first_value o t a) t) (put_kept q x u))
+      (λ i. value_same t u h g beginning [] [] tt i 0)
+      (s.keeps t u h p q at (first_value o t a))
 
-  pub keep_same : (t u : Note W) → R t u → {a b : Expression} → Alike V a b → (p : Path)
-      → R (keep o p a t) (keep there p b u)
-  keep_same t u h (alike_number r z) p = either r _ _ t u (kept_whole t u h (alike_number r z) p) h
-  keep_same t u h (alike_var r v w g) p = either r _ _ t u (kept_whole t u h (alike_var r v w g) p) h
-  keep_same t u h (alike_field r k) p = either r _ _ t u (kept_whole t u h (alike_field r k) p) h
-  keep_same t u h (alike_head r k) p = either r _ _ t u (kept_whole t u h (alike_head r k) p) h
-  keep_same t u h (alike_neg r a b g) p =
-      either r _ _ _ _ (kept_whole t u h (alike_neg r a b g) p) (keep_same t u h g (0 ∷ p))
-  keep_same t u h (alike_pair r q a b c d g k) p =
-      either r _ _ _ _ (kept_whole t u h (alike_pair r q a b c d g k) p)
-      (keep_same (keep o (0 ∷ p) a t) (keep there (0 ∷ p) b u) (keep_same t u h g (0 ∷ p)) k (1 ∷ p))
-  keep_same t u h (alike_pick r a b c d x y g k l) p =
-      let one = keep_same t u h g (0 ∷ p) in
-      let two = keep_same (keep o (0 ∷ p) a t) (keep there (0 ∷ p) b u) one k (1 ∷ p) in
-      either r _ _ _ _ (kept_whole t u h (alike_pick r a b c d x y g k l) p)
-      (keep_same (keep o (1 ∷ p) c (keep o (0 ∷ p) a t)) (keep there (1 ∷ p) d (keep there (0 ∷ p) b u)) two l (2 ∷ p))
-  keep_same t u h (alike_apply r f a b g) p =
-      either r _ _ _ _ (kept_whole t u h (alike_apply r f a b g) p) (keep_same t u h g (0 ∷ p))
+  pub keep_same : (t u : Note W) → R t u → {a b : Expression} → Alike V a b → (p q : Path) → At p q
+      → R (keep o p a t) (keep there q b u)
+  keep_same t u h (alike_number r z) p q at = either r _ _ t u (kept_whole t u h (alike_number r z) p q at) h
+  keep_same t u h (alike_var r v w g) p q at = either r _ _ t u (kept_whole t u h (alike_var r v w g) p q at) h
+  keep_same t u h (alike_field r k) p q at = either r _ _ t u (kept_whole t u h (alike_field r k) p q at) h
+  keep_same t u h (alike_head r k) p q at = either r _ _ t u (kept_whole t u h (alike_head r k) p q at) h
+  keep_same t u h (alike_neg r a b g) p q at =
+      either r _ _ _ _ (kept_whole t u h (alike_neg r a b g) p q at)
+      (keep_same t u h g (0 ∷ p) (0 ∷ q) (s.parts p q at 0))
+  keep_same t u h (alike_pair r f a b c d g k) p q at =
+      let one = keep_same t u h g (0 ∷ p) (0 ∷ q) (s.parts p q at 0) in
+      either r _ _ _ _ (kept_whole t u h (alike_pair r f a b c d g k) p q at)
+      (keep_same (keep o (0 ∷ p) a t) (keep there (0 ∷ q) b u) one k (1 ∷ p) (1 ∷ q) (s.parts p q at 1))
+  keep_same t u h (alike_pick r a b c d x y g k l) p q at =
+      let one = keep_same t u h g (0 ∷ p) (0 ∷ q) (s.parts p q at 0) in
+      let two = keep_same (keep o (0 ∷ p) a t) (keep there (0 ∷ q) b u) one k (1 ∷ p) (1 ∷ q) (s.parts p q at 1) in
+      either r _ _ _ _ (kept_whole t u h (alike_pick r a b c d x y g k l) p q at)
+      (keep_same (keep o (1 ∷ p) c (keep o (0 ∷ p) a t)) (keep there (1 ∷ q) d (keep there (0 ∷ q) b u)) two l (2 ∷ p)
+      (2 ∷ q) (s.parts p q at 2))
+  keep_same t u h (alike_apply r f a b g) p q at =
+      either r _ _ _ _ (kept_whole t u h (alike_apply r f a b g) p q at)
+      (keep_same t u h g (0 ∷ p) (0 ∷ q) (s.parts p q at 0))
 
-  keep_all_same : (t u : Note W) → R t u → {xs ys : List Expression} → AlikeAll V xs ys → (p : Path)
-      → R (keep_all o p xs t) (keep_all there p ys u)
-  keep_all_same t u h alike_none p = h
-  keep_all_same t u h (alike_more a b xs ys g more) p =
-      keep_all_same (keep o p a t) (keep there p b u) (keep_same t u h g p) more (next p)
+  -- what is kept of parts from one on
+  keep_all_same : (t u : Note W) → R t u → {xs ys : List Expression} → AlikeAll V xs ys → (k : ℕ) (p q : Path) → At p q
+      → R (keep_all o (k ∷ p) xs t) (keep_all there (k ∷ q) ys u)
+  keep_all_same t u h alike_none k p q at = h
+  keep_all_same t u h (alike_more a b xs ys g more) k p q at =
+      keep_all_same (keep o (k ∷ p) a t) (keep there (k ∷ q) b u)
+      (keep_same t u h g (k ∷ p) (k ∷ q) (s.parts p q at k)) more (suc k) p q at
 
   going_same : (t u q p : Note W) → R t u → R q p → R (going o t q) (going there u p)
   going_same t u q p h k =
@@ -461,82 +507,78 @@ module _ {W : Type 0} (o : World W) (to : Res → Res) (V : Variable → Variabl
   started_same : (t u : Note W) → R t u → (r : Rate) (q : Opcode) (n : ℕ) {xs ys : List Expression} → AlikeAll V xs ys
       → R (started o r q n xs t) (started there r q n ys u)
   started_same t u h r q n g =
-      moves_to t u h _ _ (λ i. o.start q r n (first_values (values_same t u h g true [] i)) (s.world t u h i))
+      moves_to t u h _ _ (λ i. o.start q r n (first_values (firsts_same t u h g i)) (s.world t u h i))
 
   sought_same : (t u : Note W) → R t u → {xs ys : List Expression} → AlikeAll V xs ys
       → R (sought o xs t) (sought there ys u)
-  sought_same t u h g =
-      moves_to t u h _ _ (λ i. o.seek (first_values (values_same t u h g true [] i)) (s.world t u h i))
+  sought_same t u h g = moves_to t u h _ _ (λ i. o.seek (first_values (firsts_same t u h g i)) (s.world t u h i))
 
-  pub init_same : (t u : Note W) → R t u → {x y : Stmt} → AlikeStmt V x y → (p : Place)
-      → R (init_stmt o p x t) (init_stmt there p y u)
-  init_same t u h (alike_set r v w a b g k) p =
+  -- a statement at two paths, with one number of its unit
+  pub init_same : (t u : Note W) → R t u → {x y : Stmt} → AlikeStmt V x y → (p q : Path) → At p q → (n : ℕ)
+      → R (init_stmt o (place p n) x t) (init_stmt there (place q n) y u)
+  init_same t u h (alike_set r v w a b g k) p q at n =
       going_same t u _ _ h
       (either r _ _ _ _
-      (assigns_to t u h v w g (value o t true [] a) (value there u true [] b) (value_same t u h k true []))
-      (keep_same t u h k (0 ∷ p.path)))
-  init_same t u h (alike_unit r vs ws q k xs ys is js g l m) p =
-      let ready = started_same t u h r q p.unit m in
-      let a = started o r q p.unit is t in
-      let b = started there r q p.unit js u in
+      (assigns_to t u h v w g (value o t beginning [] a) (value there u beginning [] b)
+      (value_same t u h k beginning [] [] tt))
+      (keep_same t u h k (0 ∷ p) (0 ∷ q) (s.parts p q at 0)))
+  init_same t u h (alike_unit r vs ws f k xs ys is js g l m) p q at n =
+      let ready = started_same t u h r f n m in
+      let a = started o r f n is t in
+      let b = started there r f n js u in
       going_same t u _ _ h
       (either r _ _ _ _
       (going_same a b _ _ ready (done_same a b ready g r _ _
-      (λ i. o.does q r p.unit k (values_same a b ready l true [] i) (s.world a b ready i))))
-      (started_same (keep_all o (0 ∷ p.path) xs t) (keep_all there (0 ∷ p.path) ys u)
-      (keep_all_same t u h l (0 ∷ p.path))
-      r q p.unit m))
-  init_same t u h (alike_zak r vs ws q k xs ys g l) p =
+      (λ i. o.does f r n k (firsts_same a b ready l i) (s.world a b ready i))))
+      (started_same (keep_all o (0 ∷ p) xs t) (keep_all there (0 ∷ q) ys u) (keep_all_same t u h l 0 p q at) r f n m))
+  init_same t u h (alike_zak r vs ws f k xs ys g l) p q at n =
       going_same t u _ _ h
-      (either r _ _ _ _
-      (done_same t u h g r _ _ (λ i. o.zak q k (values_same t u h l true [] i) (s.world t u h i)))
-      (keep_all_same t u h l (0 ∷ p.path)))
-  init_same t u h (alike_store r q k xs ys is js l m) p =
+      (either r _ _ _ _ (done_same t u h g r _ _ (λ i. o.zak f k (firsts_same t u h l i) (s.world t u h i)))
+      (keep_all_same t u h l 0 p q at))
+  init_same t u h (alike_store r k xs ys is js l m) p q at n =
       let ready = sought_same t u h m in
       let a = sought o is t in
       let b = sought there js u in
       going_same t u _ _ h
       (either r _ _ _ _
       (going_same a b _ _ ready
-      (moves_to a b ready _ _ (λ i. o.store q r k (values_same a b ready l true [] i) (s.world a b ready i))))
-      (sought_same (keep_all o (0 ∷ p.path) xs t) (keep_all there (0 ∷ p.path) ys u)
-      (keep_all_same t u h l (0 ∷ p.path)) m))
-  init_same t u h (alike_out r xs ys g) p = going_same t u _ _ h (keep_all_same t u h g (0 ∷ p.path))
-  init_same t u h (alike_out_at r xs ys g) p = going_same t u _ _ h (keep_all_same t u h g (0 ∷ p.path))
-  init_same t u h (alike_ask xs ys g) p =
+      (moves_to a b ready _ _ (λ i. o.store r k (firsts_same a b ready l i) (s.world a b ready i))))
+      (sought_same (keep_all o (0 ∷ p) xs t) (keep_all there (0 ∷ q) ys u) (keep_all_same t u h l 0 p q at) m))
+  init_same t u h (alike_out r xs ys g) p q at n = going_same t u _ _ h (keep_all_same t u h g 0 p q at)
+  init_same t u h (alike_out_at r xs ys g) p q at n = going_same t u _ _ h (keep_all_same t u h g 0 p q at)
+  init_same t u h (alike_ask xs ys g) p q at n =
       going_same t u _ _ h
-      (moves_to t u h _ _ (λ i. o.ask (first_values (values_same t u h g true [] i)) (s.world t u h i)))
-  init_same t u h (alike_turnoff r) p = h
-  init_same t u h alike_nothing p = h
-  init_same t u h (alike_empty r) p = going_same t u _ _ h (either r t u t u h h)
+      (moves_to t u h _ _ (λ i. o.ask (first_values (firsts_same t u h g i)) (s.world t u h i)))
+  init_same t u h (alike_turnoff r) p q at n = h
+  init_same t u h alike_nothing p q at n = h
+  init_same t u h (alike_empty r) p q at n = going_same t u _ _ h (either r t u t u h h)
 
-  pub perf_same : (t u : Note W) → R t u → {x y : Stmt} → AlikeStmt V x y → (p : Place)
-      → R (perf_stmt o p x t) (perf_stmt there p y u)
-  perf_same t u h (alike_set r v w a b g k) p =
+  pub perf_same : (t u : Note W) → R t u → {x y : Stmt} → AlikeStmt V x y → (p q : Path) → At p q → (n : ℕ)
+      → R (perf_stmt o (place p n) x t) (perf_stmt there (place q n) y u)
+  perf_same t u h (alike_set r v w a b g k) p q at n =
       either r t u _ _ h
-      (assigns_to t u h v w g (value o t false (0 ∷ p.path) a) (value there u false (0 ∷ p.path) b)
-      (value_same t u h k false (0 ∷ p.path)))
-  perf_same t u h (alike_unit r vs ws q k xs ys is js g l m) p =
+      (assigns_to t u h v w g (value o t cycle (0 ∷ p) a) (value there u cycle (0 ∷ q) b)
+      (value_same t u h k cycle (0 ∷ p) (0 ∷ q) (s.parts p q at 0)))
+  perf_same t u h (alike_unit r vs ws f k xs ys is js g l m) p q at n =
       either r t u _ _ h
-      (done_same t u h g r _ _
-      (λ i. o.does q r p.unit k (values_same t u h l false (0 ∷ p.path) i) (s.world t u h i)))
-  perf_same t u h (alike_zak r vs ws q k xs ys g l) p =
+      (done_same t u h g r _ _ (λ i. o.does f r n k (values_same t u h l 0 p q at i) (s.world t u h i)))
+  perf_same t u h (alike_zak r vs ws f k xs ys g l) p q at n =
       either r t u _ _ h
-      (done_same t u h g r _ _ (λ i. o.zak q k (values_same t u h l false (0 ∷ p.path) i) (s.world t u h i)))
-  perf_same t u h (alike_store r q k xs ys is js l m) p =
+      (done_same t u h g r _ _ (λ i. o.zak f k (values_same t u h l 0 p q at i) (s.world t u h i)))
+  perf_same t u h (alike_store r k xs ys is js l m) p q at n =
       either r t u _ _ h
-      (moves_to t u h _ _ (λ i. o.store q r k (values_same t u h l false (0 ∷ p.path) i) (s.world t u h i)))
-  perf_same t u h (alike_out r xs ys g) p =
-      moves_to t u h (sent o 0 (values o t false (0 ∷ p.path) xs) t.world)
-      (sent there 0 (values there u false (0 ∷ p.path) ys) u.world)
-      (sent_there to o 0 (values o t false (0 ∷ p.path) xs) t.world
-      ∙ λ i. sent there 0 (values_same t u h g false (0 ∷ p.path) i) (s.world t u h i))
-  perf_same t u h (alike_out_at r xs ys g) p =
-      moves_to t u h (sent_at o (values o t false (0 ∷ p.path) xs) t.world)
-      (sent_at there (values there u false (0 ∷ p.path) ys) u.world)
-      (sent_at_there to o (values o t false (0 ∷ p.path) xs) t.world
-      ∙ λ i. sent_at there (values_same t u h g false (0 ∷ p.path) i) (s.world t u h i))
-  perf_same t u h (alike_ask xs ys g) p = h
-  perf_same t u h (alike_turnoff r) p = moves_to t u h _ _ (λ i. o.turnoff (s.world t u h i))
-  perf_same t u h alike_nothing p = h
-  perf_same t u h (alike_empty r) p = h
+      (moves_to t u h _ _ (λ i. o.store r k (values_same t u h l 0 p q at i) (s.world t u h i)))
+  perf_same t u h (alike_out r xs ys g) p q at n =
+      moves_to t u h (sent o 0 (values o t cycle (0 ∷ p) xs) t.world)
+      (sent there 0 (values there u cycle (0 ∷ q) ys) u.world)
+      (sent_there to o 0 (values o t cycle (0 ∷ p) xs) t.world
+      ∙ λ i. sent there 0 (values_same t u h g 0 p q at i) (s.world t u h i))
+  perf_same t u h (alike_out_at r xs ys g) p q at n =
+      moves_to t u h (sent_at o (values o t cycle (0 ∷ p) xs) t.world)
+      (sent_at there (values there u cycle (0 ∷ q) ys) u.world)
+      (sent_at_there to o (values o t cycle (0 ∷ p) xs) t.world
+      ∙ λ i. sent_at there (values_same t u h g 0 p q at i) (s.world t u h i))
+  perf_same t u h (alike_ask xs ys g) p q at n = h
+  perf_same t u h (alike_turnoff r) p q at n = moves_to t u h _ _ (λ i. o.turnoff (s.world t u h i))
+  perf_same t u h alike_nothing p q at n = h
+  perf_same t u h (alike_empty r) p q at n = h

@@ -17,7 +17,9 @@ use Rattle.cs_grammar.specs.Tree.{Argument, value, text, Statement, set, call, c
 use Rattle.cs_grammar.specs.Tree.{Arms, otherwise, arm, Definition, Instrument, Orchestra}
 use Rattle.cs_grammar.specs.WellFormed.{WellFormedStmt, WellFormedBlock, WellFormedArms, WellFormedInstrument}
 use Rattle.cs_grammar.specs.WellFormed.{WellFormedDefinition, IsWellFormed, all_numbers}
-use Rattle.cs_udo.specs.Names.{as_it_is, in_frame, renamed_argument, slots}
+use Rattle.cs_grammar.specs.Renaming.{renamed_argument}
+use Rattle.cs_typing.proofs.NumbersOnce.{numbers_kept}
+use Rattle.cs_udo.specs.Names.{as_it_is, in_frame, slots}
 use Rattle.cs_udo.specs.Expanded.{Template, Opcodes, no_opcodes, defined, assignments, value_in, called, after}
 use Rattle.cs_udo.specs.Expanded.{after_block, expanded, expanded_block, expanded_arms, whole_body, template, defining}
 use Rattle.cs_udo.specs.Expanded.{defining_all, before, opcodes_before, expanded_instrument, expanded_orchestra}
@@ -217,13 +219,6 @@ instruments_lack n outside (i ∷ rest) h =
     (All-tail (λ (x : Instrument). CalmBlock x.body) i rest h))
 
 -- ---- numbers
-
-numbers_kept : (n : Known) (outside : Block) (list : List Instrument)
-    → flat_map (λ (i : typed.Instrument). i.numbers) (typed_instruments n (items outside list)) ≡ all_numbers list
-numbers_kept n outside [] = refl
-numbers_kept n outside (i ∷ rest) =
-    ap (λ ns. i.numbers ++ ns)
-    (numbers_kept (known_item (known_item n (alone (before_line i.line outside))) (body i)) (from i.line outside) rest)
 
 expanded_numbers : (ds : List Definition) (list : List Instrument)
     → all_numbers (map (expanded_instrument ds) list) ≡ all_numbers list

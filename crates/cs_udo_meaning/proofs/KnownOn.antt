@@ -6,9 +6,9 @@ use Rattle.std.specs.List.{list_all}
 use Rattle.std.specs.Option.{option_or}
 use Rattle.std.proofs.lemmas.Bool.{and_parts}
 use Rattle.std.proofs.lemmas.Bool.Decides.{nat_tests}
+use Rattle.cs_base.proofs.Tests.{both_none}
 use Rattle.cs_base.specs.Rates.{within, is_init, is_audio}
 use Rattle.cs_base.specs.declared.resource.Res.TheVariants as res
-use Rattle.cs_base.specs.declared.fault.OrcFault.{OrcFault}
 use Rattle.cs_base.specs.declared.fault.OrcKind.{OrcKind}
 use Rattle.cs_base.specs.declared.fault.OrcKind.TheVariants as orc
 use Rattle.cs_base.specs.declared.resource.Rate.{Rate}
@@ -29,7 +29,7 @@ use Rattle.cs_typing.specs.Calls.{all_fit, bound_of, may_result, is_even, kind_o
 use Rattle.cs_typing.specs.Calls.{is_too_wide, all_known, rates_agree, counts_agree, row_fault, call_fault, row_known}
 use Rattle.cs_typing.specs.Calls.{call_known, call_rate, typed_arguments, typed_row, typed_call}
 use Rattle.cs_typing.specs.Expressions.{is_value, is_condition, rate_of, reads_known, typed_expression}
-use Rattle.cs_typing.specs.Known.{Table, in_table, place_in, added, Shared, Known, knows, after_giving, given}
+use Rattle.cs_typing.specs.Known.{RateNames, in_table, place_in, added, Shared, Known, knows, after_giving, given}
 use Rattle.cs_typing.specs.Known.{given_all, used, use_channel, clashes, global, variable, channel_of}
 use Rattle.cs_typing.specs.Settings.{at}
 use Rattle.cs_typing.specs.Statements.{set_fault, condition_fault, known, known_block, known_arms, fault, block_fault}
@@ -72,7 +72,7 @@ later_further n m k a b = record {
   locals = table_further n.locals m.locals k.locals a.locals b.locals;
 }
 
-giving_on : (t : Table) (x : List ℕ) → TableGoesOn t (after_giving t x)
+giving_on : (t : RateNames) (x : List ℕ) → TableGoesOn t (after_giving t x)
 giving_on t x = by (is_global x)
   where
     by : (b : Bool) → TableGoesOn t (if b then t else added t x)
@@ -124,13 +124,13 @@ mutual
 -- ---- variables
 
 -- a numbering has the places of a table
-pub record HasPlaces (s : Numbering) (t : Table) : Type 0 where
+pub record HasPlaces (s : Numbering) (t : RateNames) : Type 0 where
   pub each : (x : List ℕ) → in_table t x ≡ true → s x ≡ place_in t x
 
-pub places : (t : Table) → HasPlaces (place_in t) t
+pub places : (t : RateNames) → HasPlaces (place_in t) t
 places t = record { each = λ x h. refl }
 
-shared_variable : (g h : Table) (x : List ℕ) → h ≡ g
+shared_variable : (g h : RateNames) (x : List ℕ) → h ≡ g
     → variant.Global (global (name_rate x) (place_in g x)) ≡ variant.Global (global (name_rate x) (place_in h x))
 shared_variable g h x e = ap (λ t. variant.Global (global (name_rate x) (place_in t x))) (sym e)
 
@@ -340,10 +340,6 @@ call_same q n m s line (callee.Opcode o) results args h l p = row_same q n m s l
 at_none : (line : ℕ) (k : Option OrcKind) → at line k ≡ None → k ≡ None
 at_none line None h = refl
 at_none line (Some k) h = absurd (cc h)
-
-pub both_none : (f g : Option OrcFault) → option_or f g ≡ None → (f ≡ None) × (g ≡ None)
-both_none None g h = (refl, h)
-both_none (Some f) g h = absurd (cc h)
 
 nothing_unknown : (b c : Bool)
     → (if not b then Some orc.Undefined else (if not c then Some orc.RateMismatch else None)) ≡ None → b ≡ true

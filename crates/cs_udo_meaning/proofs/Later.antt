@@ -8,7 +8,7 @@ use Rattle.cs_base.specs.declared.resource.Rate.{Rate}
 use Rattle.cs_base.specs.declared.resource.Rate.TheVariants as rate
 use Rattle.cs_words.specs.NameSets.{has, place_of, seen}
 use Rattle.cs_words.specs.Names.{name_rate}
-use Rattle.cs_typing.specs.Known.{Table, of_rate, with_name, in_table, place_in, added}
+use Rattle.cs_typing.specs.Known.{RateNames, of_rate, with_name, in_table, place_in, added}
 
 -- a list goes on as another
 pub record GoesOn (xs ys : List (List ℕ)) : Type 0 where
@@ -88,17 +88,17 @@ seen_place xs x = by (has xs x) refl
 
 -- ---- names by their rates
 
-pub record TableGoesOn (t u : Table) : Type 0 where
+pub record TableGoesOn (t u : RateNames) : Type 0 where
   pub each : (r : Rate) → GoesOn (of_rate r t) (of_rate r u)
 
-pub table_stays : (t : Table) → TableGoesOn t t
+pub table_stays : (t : RateNames) → TableGoesOn t t
 table_stays t = record { each = λ r. stays (of_rate r t) }
 
-pub table_further : (t u v : Table) → TableGoesOn t u → TableGoesOn u v → TableGoesOn t v
+pub table_further : (t u v : RateNames) → TableGoesOn t u → TableGoesOn u v → TableGoesOn t v
 table_further t u v a b =
     record { each = λ r. goes_further (of_rate r t) (of_rate r u) (of_rate r v) (a.each r) (b.each r) }
 
-with_name_on : (q : Rate) (t : Table) (x : List ℕ) (r : Rate) → GoesOn (of_rate r t) (of_rate r (with_name q t x))
+with_name_on : (q : Rate) (t : RateNames) (x : List ℕ) (r : Rate) → GoesOn (of_rate r t) (of_rate r (with_name q t x))
 with_name_on rate.Init t x rate.Init = seen_on t.init x
 with_name_on rate.Init t x rate.Control = stays t.control
 with_name_on rate.Init t x rate.Audio = stays t.audio
@@ -109,28 +109,28 @@ with_name_on rate.Audio t x rate.Init = stays t.init
 with_name_on rate.Audio t x rate.Control = stays t.control
 with_name_on rate.Audio t x rate.Audio = seen_on t.audio x
 
-pub added_on : (t : Table) (x : List ℕ) → TableGoesOn t (added t x)
+pub added_on : (t : RateNames) (x : List ℕ) → TableGoesOn t (added t x)
 added_on t x = record { each = with_name_on (name_rate x) t x }
 
-with_name_has : (q : Rate) (t : Table) (x : List ℕ) → has (of_rate q (with_name q t x)) x ≡ true
+with_name_has : (q : Rate) (t : RateNames) (x : List ℕ) → has (of_rate q (with_name q t x)) x ≡ true
 with_name_has rate.Init t x = seen_has t.init x
 with_name_has rate.Control t x = seen_has t.control x
 with_name_has rate.Audio t x = seen_has t.audio x
 
-with_name_place : (q : Rate) (t : Table) (x : List ℕ)
+with_name_place : (q : Rate) (t : RateNames) (x : List ℕ)
     → place_of (of_rate q (with_name q t x)) x ≡ place_of (of_rate q t) x
 with_name_place rate.Init t x = seen_place t.init x
 with_name_place rate.Control t x = seen_place t.control x
 with_name_place rate.Audio t x = seen_place t.audio x
 
-pub added_in : (t : Table) (x : List ℕ) → in_table (added t x) x ≡ true
+pub added_in : (t : RateNames) (x : List ℕ) → in_table (added t x) x ≡ true
 added_in t x = with_name_has (name_rate x) t x
 
-pub added_place : (t : Table) (x : List ℕ) → place_in (added t x) x ≡ place_in t x
+pub added_place : (t : RateNames) (x : List ℕ) → place_in (added t x) x ≡ place_in t x
 added_place t x = with_name_place (name_rate x) t x
 
-pub in_on : (t u : Table) (x : List ℕ) → TableGoesOn t u → in_table t x ≡ true → in_table u x ≡ true
+pub in_on : (t u : RateNames) (x : List ℕ) → TableGoesOn t u → in_table t x ≡ true → in_table u x ≡ true
 in_on t u x g h = has_on (of_rate (name_rate x) t) (of_rate (name_rate x) u) x (g.each (name_rate x)) h
 
-pub place_in_on : (t u : Table) (x : List ℕ) → TableGoesOn t u → in_table t x ≡ true → place_in u x ≡ place_in t x
+pub place_in_on : (t u : RateNames) (x : List ℕ) → TableGoesOn t u → in_table t x ≡ true → place_in u x ≡ place_in t x
 place_in_on t u x g h = place_on (of_rate (name_rate x) t) (of_rate (name_rate x) u) x (g.each (name_rate x)) h

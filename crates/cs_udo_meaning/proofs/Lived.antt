@@ -1,6 +1,8 @@
 -- An instrument of an expanded and typed orchestra means the instrument with frames.
-use Rattle.std.proofs.Common.{◌≡◌, suc, ◌≤◌, List, [], ◌∷◌, map, Option, Some, None, Ok, arith, refl, sym, ap, subst}
-use Rattle.std.specs.List.{All, AllZip}
+use Rattle.std.proofs.Common.{◌≡◌, ◌∙◌, ℕ, suc, ◌+◌, ◌≤◌, List, [], ◌∷◌, ◌++◌, map, Option, Some, None, Ok, arith, refl}
+use Rattle.std.proofs.Common.{sym, ap, subst}
+use Rattle.std.specs.List.{All, AllZip, slice_get}
+use Rattle.std.proofs.lemmas.Option.{slice_get-get_or}
 use Rattle.cs_base.specs.declared.fault.OrcFault.{OrcFault}
 use Rattle.cs_base.specs.declared.limit.LimitHit.{LimitHit}
 use Rattle.cs_grammar.specs.Tree.{Definition, Instrument, Orchestra}
@@ -13,21 +15,29 @@ use Rattle.cs_base.specs.declared.spaces.Spaces.{Spaces}
 use Rattle.cs_ir.specs.Worlds.{World}
 use Rattle.cs_meaning.specs.Core as core
 use Rattle.cs_meaning.specs.Initialising as initial
-use Rattle.cs_meaning.specs.Notes.{Note, start, new_note, moved_to}
+use Rattle.cs_meaning.specs.Notes.{Note, Path, start, new_note, moved_to}
 use Rattle.cs_meaning.specs.Performing as performing
-use Rattle.cs_meaning.specs.Uses.{beginning, cycle}
+use Rattle.cs_meaning.specs.When.{beginning, cycle}
 use Rattle.cs_udo.specs.Expanded.{no_opcodes, before, opcodes_before, expanded_instrument, expanded_orchestra}
 use Rattle.cs_udo.specs.Expanding.{within, unless, expanding}
 use Rattle.cs_udo.specs.Refused.{first_fault}
 use Rattle.cs_udo.specs.Counted.{first_limit}
-use Rattle.cs_udo_meaning.specs.Frames.{Framed, new_framed, framed_in, Reading, no_actions, actions_before}
+use Rattle.cs_udo_meaning.specs.Frames.{Framed, own_frame, new_framed, framed_in, Reading, no_actions, actions_before}
+use Rattle.cs_udo_meaning.specs.Frames.{frames_of_block, keepers_of_block, typed_keepers_of_block}
 use Rattle.cs_udo_meaning.specs.Lives.{Cycle, goes_on, begins, performs, goes_on_framed, in_world, reading, MeansFrames}
 use Rattle.cs_udo_meaning.specs.Numbered.{Numbering, Tells, numbered, block_by}
-use Rattle.cs_udo_meaning.specs.Stands.{Fits, Stands}
+use Rattle.cs_udo_meaning.specs.Stands.{Fits, Way, IsClear, Stands}
 use Rattle.cs_udo_meaning.specs.Typed.{shared_of, IsNumberedInstrument}
-use Rattle.cs_udo_meaning.proofs.Expanding.{all_grow, all_act, nothing_grows, nothing_acts, block_stands}
+use Rattle.cs_udo_meaning.proofs.Expanding.{all_act, nothing_acts, block_stands}
+use Rattle.cs_udo_meaning.proofs.Laid.{Holds, holds_from, LaysOn, lays_on}
+use Rattle.cs_udo_meaning.proofs.Led.{read_still, block_led, all_led}
 use Rattle.cs_udo_meaning.proofs.Named.{NamedBlock, block_named}
+use Rattle.cs_udo_meaning.proofs.Numbers.{spelled_tells}
+use Rattle.cs_udo_meaning.proofs.Paths.{inward, outward_again, same_inward, one_place, each_of, all_of}
 use Rattle.cs_udo_meaning.proofs.TypedBy.{all_numbered}
+use Rattle.cs_udo_meaning.proofs.Untouched.{all_lie, nothing_lies, frames_differ}
+use Rattle.cs_udo_meaning.proofs.Ways.{Leads, nowhere, Reaches, Whole, AllPair, all_pair, nothing_pairs}
+use Rattle.cs_udo_meaning.proofs.Ways.{block_leads, block_sharp, block_kept}
 
 at_first : 1 ≤ 1
 at_first = omega arith
@@ -35,54 +45,145 @@ at_first = omega arith
 named_in : (i : Instrument) → WellFormedInstrument i → NamedBlock (Fits 0) i.body
 named_in i well = block_named (Fits 0) (λ x h e. h) place.Instrument [] 0 i.body well.body
 
+-- what the definitions in front of an instrument are in both texts
+abbrev pairs_before : (W : Type 0) (line : ℕ) (ds : List Definition)
+    → AllPair (opcodes_before line ds) (actions_before W line ds)
+pairs_before W line ds = all_pair no_opcodes no_actions nothing_pairs (before line ds)
+
+-- where an instrument's calls stand, and where the parts of its text do
+abbrev calls_of : (W : Type 0) → List Definition → Instrument → List Path
+calls_of W ds i = frames_of_block (actions_before W i.line ds) start.path i.body
+
+abbrev leads_of : (W : Type 0) → List Definition → Instrument → Leads
+leads_of W ds i =
+    block_leads (opcodes_before i.line ds) (actions_before W i.line ds) (pairs_before W i.line ds) start.path i.body
+    nowhere
+
+abbrev way_of : (W : Type 0) → List Definition → Instrument → Way
+way_of W ds i = record {
+  frame = slice_get (own_frame ∷ calls_of W ds i);
+  part = λ p. leads_of W ds i (inward p []);
+}
+
+module _ (W : Type 0) (ds : List Definition) (i : Instrument) where
+  way_clear : IsClear (way_of W ds i)
+  way_clear =
+      let lie = all_lie no_actions nothing_lies (before i.line ds) in
+      record {
+        own = refl;
+        frames = λ f g p e h.
+            one_place (own_frame ∷ calls_of W ds i)
+            (frames_differ (actions_before W i.line ds) lie 0 [] i.body) f g p e h;
+        parts = λ p q r e h.
+            same_inward p q
+            (block_sharp (opcodes_before i.line ds) (actions_before W i.line ds) (pairs_before W i.line ds) 0 []
+            i.body (inward p []) (inward q []) r e h);
+      }
+
+  way_lays : LaysOn (way_of W ds i) start.path (leads_of W ds i)
+  way_lays = lays_on (way_of W ds i) [] (leads_of W ds i) (λ y. ap (leads_of W ds i) (outward_again y))
+
+  way_holds : Holds (way_of W ds i) 1 (calls_of W ds i)
+  way_holds = holds_from (way_of W ds i) 1 (calls_of W ds i)
+      (λ k j e. ap (slice_get (own_frame ∷ calls_of W ds i)) (one_more k j e))
+    where
+      one_more : (k j : ℕ) → j ≡ k + 1 → j ≡ suc k
+      one_more k j e = omega (arith, e)
+
+  way_calls : All (λ p. (f : ℕ) × ((way_of W ds i).frame f ≡ Some p)) (calls_of W ds i)
+  way_calls k d below = (suc k, slice_get-get_or (calls_of W ds i) k d below)
+
+  -- where something leads in the expanded text
+  from_path : (x : Path) → Reaches (leads_of W ds i) x → (p : Path) × ((way_of W ds i).part p ≡ Some x)
+  from_path x r = (
+    inward (r.part ∷ r.steps) [],
+    ap (leads_of W ds i) (outward_again (r.part ∷ r.steps)) ∙ r.is,
+  )
+
+  abbrev Led : Path → Type 0
+  Led q = (y : Path) → (p : Path) × ((way_of W ds i).part p ≡ Some (y ++ q))
+
+  way_parts : All Led (keepers_of_block (actions_before W i.line ds) start.path i.body)
+  way_parts =
+      let keepers = keepers_of_block (actions_before W i.line ds) start.path i.body in
+      all_of Led keepers
+      (each_of (Whole (leads_of W ds i)) Led (λ q w y. from_path (y ++ q) (w y)) keepers
+      (block_kept (opcodes_before i.line ds) (actions_before W i.line ds) (pairs_before W i.line ds) start.path i.body
+      nowhere).each)
+
+  -- what keeps values in the expanded text, by any numbers of its names
+  way_leads : (g : Shared) (flat : Numbering) → Tells flat
+      → All (λ p. (y : Path) → (q : Path) × ((way_of W ds i).part (y ++ p) ≡ Some q))
+      (typed_keepers_of_block start.path (block_by g (numbered g flat) (expanded_instrument ds i).body))
+  way_leads g flat tf =
+      let m : Reading W = read_still g in
+      let way = way_of W ds i in
+      let clear = way_clear in
+      let acts = all_act m flat tf spelled_tells way clear no_opcodes no_actions nothing_pairs
+      (nothing_acts m flat tf spelled_tells way clear) (before i.line ds) in
+      let led = all_led m flat tf spelled_tells way clear no_opcodes no_actions nothing_pairs
+      (nothing_acts m flat tf spelled_tells way clear) (record { each = λ name. tt }) (before i.line ds) in
+      all_of (λ p. (y : Path) → (q : Path) × (way.part (y ++ p) ≡ Some q))
+      (typed_keepers_of_block start.path (block_by g (numbered g flat) (expanded_instrument ds i).body))
+      (block_led m flat tf spelled_tells way clear (opcodes_before i.line ds) (actions_before W i.line ds)
+      (pairs_before W i.line ds) acts led 0 1 at_first start start.path i.body nowhere way_lays)
+
 module _ {W : Type 0} (ds : List Definition) (i : Instrument) (well : WellFormedInstrument i) (flat : Numbering)
     (tf : Tells flat) where
-  expanded_begins : (m : Reading W) → Tells m.number → (t : Note W) (u : Framed W) → Stands flat m.number t u
-      → Stands flat m.number
+  abbrev Stand : Numbering → Note W → Framed W → Type 0
+  Stand own t u = Stands (way_of W ds i) flat own t u
+
+  expanded_begins : (m : Reading W) → Tells m.number → (t : Note W) (u : Framed W) → Stand m.number t u
+      → Stand m.number
       (initial.init_block m.world start
       (core.core m.spaces (block_by m.shared (numbered m.shared flat) (expanded_instrument ds i).body)) t)
       (begins m ds i u)
   expanded_begins m to t u stand =
-      let own = before i.line ds in
-      block_stands m flat tf to (opcodes_before i.line ds) (actions_before m i.line ds)
-      (all_grow m flat tf to no_opcodes (nothing_grows m flat tf to) own)
-      (all_act m flat tf to no_opcodes no_actions (nothing_grows m flat tf to) (nothing_acts m flat tf to) own) 0
-      beginning 1
-      at_first start i.body
-      (named_in i well) t u stand
+      let way = way_of W ds i in
+      let clear = way_clear W ds i in
+      block_stands m flat tf to way clear (opcodes_before i.line ds) (actions_before W i.line ds)
+      (pairs_before W i.line ds)
+      (all_act m flat tf to way clear no_opcodes no_actions nothing_pairs (nothing_acts m flat tf to way clear)
+      (before i.line ds)) 0 own_frame refl beginning 1 at_first start start.path i.body nowhere (way_lays W ds i)
+      (way_holds W ds i) (named_in i well) t u stand
 
-  expanded_performs : (m : Reading W) → Tells m.number → (t : Note W) (u : Framed W) → Stands flat m.number t u
-      → Stands flat m.number
+  expanded_performs : (m : Reading W) → Tells m.number → (t : Note W) (u : Framed W) → Stand m.number t u
+      → Stand m.number
       (performing.perf_block m.world start
       (core.core m.spaces (block_by m.shared (numbered m.shared flat) (expanded_instrument ds i).body)) t)
       (performs m ds i u)
   expanded_performs m to t u stand =
-      let own = before i.line ds in
-      block_stands m flat tf to (opcodes_before i.line ds) (actions_before m i.line ds)
-      (all_grow m flat tf to no_opcodes (nothing_grows m flat tf to) own)
-      (all_act m flat tf to no_opcodes no_actions (nothing_grows m flat tf to) (nothing_acts m flat tf to) own) 0 cycle
-      1
-      at_first start i.body
-      (named_in i well) t u stand
+      let way = way_of W ds i in
+      let clear = way_clear W ds i in
+      block_stands m flat tf to way clear (opcodes_before i.line ds) (actions_before W i.line ds)
+      (pairs_before W i.line ds)
+      (all_act m flat tf to way clear no_opcodes no_actions nothing_pairs (nothing_acts m flat tf to way clear)
+      (before i.line ds)) 0 own_frame refl cycle 1 at_first start start.path i.body nowhere (way_lays W ds i)
+      (way_holds W ds i) (named_in i well) t u stand
 
-moved_stands : {W : Type 0} (flat own : Numbering) (t : Note W) (u : Framed W) (x y : W) → Stands flat own t u → x ≡ y
-    → Stands flat own (moved_to x t) (framed_in y u)
-moved_stands flat own t u x y h e = record { locals = h.locals; kept = h.kept; world = e }
+moved_stands : {W : Type 0} (way : Way) (flat own : Numbering) (t : Note W) (u : Framed W) (x y : W)
+    → Stands way flat own t u → x ≡ y
+    → Stands way flat own (moved_to x t) (framed_in y u)
+moved_stands way flat own t u x y h e = record { locals = h.locals; kept = h.kept; world = e }
 
-new_stands : {W : Type 0} (flat own : Numbering) (x : W) → Stands flat own (new_note x) (new_framed x)
-new_stands flat own x = record { locals = λ f y e fits. refl; kept = refl; world = refl }
+new_stands : {W : Type 0} (way : Way) (flat own : Numbering) (x : W)
+    → Stands way flat own (new_note x) (new_framed x)
+new_stands way flat own x =
+    record { locals = λ f p at y e fits. refl; kept = λ p q at. refl; world = refl }
 
-cycles_alike : {W : Type 0} (m : Reading W) (ds : List Definition) (i : Instrument) (flat : Numbering)
+cycles_alike : {W : Type 0} (way : Way) (m : Reading W) (ds : List Definition) (i : Instrument) (flat : Numbering)
     (body : core.Block)
-    → ((o : World W) (t : Note W) (u : Framed W) → Stands flat m.number t u
-    → Stands flat m.number (performing.perf_block o start body t) (performs (in_world o m) ds i u))
-    → (cycles : List (Cycle W)) (t : Note W) (u : Framed W) → Stands flat m.number t u
+    → ((o : World W) (t : Note W) (u : Framed W) → Stands way flat m.number t u
+    → Stands way flat m.number (performing.perf_block o start body t) (performs (in_world o m) ds i u))
+    → (cycles : List (Cycle W)) (t : Note W) (u : Framed W) → Stands way flat m.number t u
     → goes_on body cycles t ≡ goes_on_framed m ds i cycles u
-cycles_alike m ds i flat body step [] t u stand = ap (λ x. x ∷ []) stand.world
-cycles_alike m ds i flat body step (c ∷ more) t u stand =
-    let moved = moved_stands flat m.number t u (c.others t.world) (c.others u.world) stand (ap c.others stand.world) in
+cycles_alike way m ds i flat body step [] t u stand = ap (λ x. x ∷ []) stand.world
+cycles_alike way m ds i flat body step (c ∷ more) t u stand =
+    let moved =
+    moved_stands way flat m.number t u (c.others t.world) (c.others u.world) stand (ap c.others stand.world) in
     λ j. stand.world j
-    ∷ cycles_alike m ds i flat body step more (performing.perf_block c.world start body (moved_to (c.others t.world) t))
+    ∷ cycles_alike way m ds i flat body step more
+    (performing.perf_block c.world start body (moved_to (c.others t.world) t))
     (performs (in_world c.world m) ds i (framed_in (c.others u.world) u))
     (step c.world (moved_to (c.others t.world) t) (framed_in (c.others u.world) u) moved) j
 
@@ -94,33 +195,40 @@ instrument_means W ds g i made well h = record {
   numbers = h.numbers;
   register = flat;
   apart = h.body.apart;
+  way = way_of W ds i;
+  clear = way_clear W ds i;
+  calls = way_calls W ds i;
+  parts = way_parts W ds i;
+  leads = subst (λ (b : typed.Block). All (λ p. (y : Path) → (q : Path) × ((way_of W ds i).part (y ++ p) ≡ Some q))
+      (typed_keepers_of_block start.path b)) (sym h.body.is) (way_leads W ds i g flat h.body.apart);
   begun = starts;
   performed = goes;
   lived = λ o spaces own to cycles x.
-      cycles_alike (reading o spaces g own) ds i flat (core.core spaces made.body) (λ w. goes w spaces own to) cycles
+      cycles_alike (way_of W ds i) (reading o spaces g own) ds i flat (core.core spaces made.body)
+      (λ w. goes w spaces own to) cycles
       (initial.init_block o start (core.core spaces made.body) (new_note x))
       (begins (reading o spaces g own) ds i (new_framed x))
-      (starts o spaces own to (new_note x) (new_framed x) (new_stands flat own x));
+      (starts o spaces own to (new_note x) (new_framed x) (new_stands (way_of W ds i) flat own x));
 }
   where
     flat : Numbering
     flat = h.body.number
 
     starts : (o : World W) (spaces : Spaces) (own : Numbering) → Tells own → (t : Note W) (u : Framed W)
-        → Stands flat own t u
-        → Stands flat own (initial.init_block o start (core.core spaces made.body) t)
+        → Stands (way_of W ds i) flat own t u
+        → Stands (way_of W ds i) flat own (initial.init_block o start (core.core spaces made.body) t)
         (begins (reading o spaces g own) ds i u)
     starts o spaces own to t u stand =
-        subst (λ b. Stands flat own (initial.init_block o start (core.core spaces b) t)
+        subst (λ b. Stands (way_of W ds i) flat own (initial.init_block o start (core.core spaces b) t)
         (begins (reading o spaces g own) ds i u)) (sym h.body.is)
         (expanded_begins ds i well flat h.body.apart (reading o spaces g own) to t u stand)
 
     goes : (o : World W) (spaces : Spaces) (own : Numbering) → Tells own → (t : Note W) (u : Framed W)
-        → Stands flat own t u
-        → Stands flat own (performing.perf_block o start (core.core spaces made.body) t)
+        → Stands (way_of W ds i) flat own t u
+        → Stands (way_of W ds i) flat own (performing.perf_block o start (core.core spaces made.body) t)
         (performs (reading o spaces g own) ds i u)
     goes o spaces own to t u stand =
-        subst (λ b. Stands flat own (performing.perf_block o start (core.core spaces b) t)
+        subst (λ b. Stands (way_of W ds i) flat own (performing.perf_block o start (core.core spaces b) t)
         (performs (reading o spaces g own) ds i u)) (sym h.body.is)
         (expanded_performs ds i well flat h.body.apart (reading o spaces g own) to t u stand)
 

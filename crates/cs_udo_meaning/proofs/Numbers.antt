@@ -5,7 +5,7 @@ use Rattle.std.specs.Str.{bytes_eq}
 use Rattle.std.proofs.lemmas.Slice.Eq.{bytes_eq-Decides}
 use Rattle.cs_words.specs.NameSets.{has, place_of}
 use Rattle.cs_words.specs.Names.{name_rate}
-use Rattle.cs_typing.specs.Known.{Table, of_rate, in_table, place_in}
+use Rattle.cs_typing.specs.Known.{RateNames, of_rate, in_table, place_in}
 use Rattle.cs_udo_meaning.specs.Numbered.{Numbering, Tells, pushed, spelled}
 use Rattle.cs_udo_meaning.proofs.KnownOn.{HasPlaces}
 
@@ -66,10 +66,10 @@ place_apart (z ∷ xs) x y h k e = by (bytes_eq x z) (bytes_eq y z) refl refl h 
     by false true p q h k e f = absurd (omega (arith, e))
     by false false p q h k e f = f h k (omega (arith, e))
 
-abbrev pub number_in : Table → Numbering
+abbrev pub number_in : RateNames → Numbering
 number_in t x = if in_table t x then place_in t x else length (of_rate (name_rate x) t) + spelled x
 
-pub number_places : (t : Table) → HasPlaces (number_in t) t
+pub number_places : (t : RateNames) → HasPlaces (number_in t) t
 number_places t = record
     { each = λ x h. ap (λ b. if b then place_in t x else length (of_rate (name_rate x) t) + spelled x) h }
 
@@ -88,7 +88,7 @@ numbers_apart names x y e = by (has names x) (has names y) refl refl e
     by false true p q e = absurd (omega (arith, e, place_low names y q))
     by false false p q e = spelled_apart x y (omega (arith, e))
 
-pub number_tells : (t : Table) → Tells (number_in t)
+pub number_tells : (t : RateNames) → Tells (number_in t)
 number_tells t x y r e =
     let names = of_rate (name_rate x) t in
     numbers_apart names x y

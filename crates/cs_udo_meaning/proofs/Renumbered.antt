@@ -34,6 +34,7 @@ use Rattle.cs_meaning.specs.Notes.{unit_past_block, unit_past_arms, start, new_n
 use Rattle.cs_meaning.specs.Notes.{reg}
 use Rattle.cs_meaning.specs.Notes.{value as value_of}
 use Rattle.cs_meaning.specs.Performing as performing
+use Rattle.cs_meaning.specs.When.{cycle}
 use Rattle.cs_udo.specs.Expanded.{expanded_instrument}
 use Rattle.cs_udo_meaning.specs.Lives.{Cycle, goes_on, life, life_with_frames, reading}
 use Rattle.cs_udo_meaning.specs.Numbered.{Numbering, Tells, spelled, numbered, expression_by, statement_by, block_by}
@@ -176,13 +177,14 @@ module _ {W : Type 0} (to : Res → Res) (g h : Shared) (lead : LeadsTo to h g) 
   assigns_same t u e _ _ (led_shared k) a =
       λ i. moved_to (o.save (to k) (held o.ksmps (lead.rate k i) a) (e i).world) (e i)
 
-  notes_agree : Agree o other Same (λ t u. t ≡ u)
+  notes_agree : Agree o other Same (λ p q. p ≡ q) (λ t u. t ≡ u)
   notes_agree = record {
-    kept = λ t u e. ap (λ (z : Note W). z.kept) e;
+    parts = λ p q e k. ap (λ r. k ∷ r) e;
+    kept = λ t u e p q d. λ i. (e i).kept (d i);
     world = λ t u e. ap (λ (z : Note W). z.world) e;
     looks = looks_same;
     assigns = assigns_same;
-    keeps = λ t u e n z. ap (put_kept n z) e;
+    keeps = λ t u e p q d z. λ i. put_kept (d i) z (e i);
     moves = λ t u e x. ap (moved_to x) e;
   }
 
@@ -216,18 +218,22 @@ module _ {W : Type 0} (to : Res → Res) (g h : Shared) (lead : LeadsTo to h g) 
 
   init_alike : (x y : core.Stmt) → AlikeStmt Same x y → (p : Place) (t : Note W)
       → initial.init_stmt o p x t ≡ initial.init_stmt other p y t
-  init_alike x y a p t = init_same o to Same (λ t u. t ≡ u) notes_agree t t refl a p
+  init_alike x y a p t = init_same o to Same (λ q r. q ≡ r) (λ t u. t ≡ u) notes_agree t t refl a p.path p.path refl
+      p.unit
 
   perf_alike : (x y : core.Stmt) → AlikeStmt Same x y → (p : Place) (t : Note W)
       → performing.perf_stmt o p x t ≡ performing.perf_stmt other p y t
-  perf_alike x y a p t = perf_same o to Same (λ t u. t ≡ u) notes_agree t t refl a p
+  perf_alike x y a p t = perf_same o to Same (λ q r. q ≡ r) (λ t u. t ≡ u) notes_agree t t refl a p.path p.path refl
+      p.unit
 
   condition_kept : (p : Path) (c : Expression) (t : Note W) → keep o p (here c) t ≡ keep other p (there c) t
-  condition_kept p c t = keep_same o to Same (λ t u. t ≡ u) notes_agree t t refl (same_expression c) p
+  condition_kept p c t = keep_same o to Same (λ q r. q ≡ r) (λ t u. t ≡ u) notes_agree t t refl (same_expression c) p p
+      refl
 
   condition_now : (p : Path) (c : Expression) (t : Note W)
-      → value_of o t false p (here c) ≡ value_of other t false p (there c)
-  condition_now p c t = value_same o to Same (λ t u. t ≡ u) notes_agree t t refl (same_expression c) false p
+      → value_of o t cycle p (here c) ≡ value_of other t cycle p (there c)
+  condition_now p c t = value_same o to Same (λ q r. q ≡ r) (λ t u. t ≡ u) notes_agree t t refl (same_expression c)
+      cycle p p refl
 
   -- ---- statements with statements in them
 
@@ -337,7 +343,7 @@ module _ {W : Type 0} (to : Res → Res) (g h : Shared) (lead : LeadsTo to h g) 
     perf_arms_same (arm c b rest) p t =
         let q = inside_arm p in
         let at = 0 ∷ p.path in
-        let now = value_of other t false at (there c) in
+        let now = value_of other t cycle at (there c) in
         ap (λ (z : Wave). if holds (z 0) then performing.perf_block o q (block_here b) t
         else performing.perf_arms o (past_arm p (block_here b)) (arms_here rest) t) (condition_now at c t)
         ∙ ap (λ z. if holds (now 0) then performing.perf_block o q (block_here b) t

@@ -1,10 +1,12 @@
 -- A note that stands as one with frames does: what a statement of a frame does to the one and to the other.
-use Rattle.std.proofs.Common.{◌≡◌, ◌∙◌, ℕ, ◌==◌, Bool, true, false, if◌then◌else◌, List, [], ◌∷◌, map, Option, Some}
+use Rattle.std.proofs.Common.{◌≡◌, ◌∙◌, ℕ, ℤ, ◌==◌, Bool, true, false, if◌then◌else◌, List, [], ◌∷◌, map, Option, Some}
 use Rattle.std.proofs.Common.{None, arith, refl, sym, ap, subst}
 use Rattle.std.specs.Str.{bytes_eq as same_path}
 use Rattle.std.proofs.lemmas.Bool.{and_parts}
 use Rattle.std.proofs.lemmas.Bool.Decides.{nat_tests}
+use Rattle.std.proofs.lemmas.Slice.Eq.{bytes_eq-Decides}
 use Rattle.cs_base.proofs.Rates.{same_rate_is}
+use Rattle.cs_base.proofs.Tests.{some_is}
 use Rattle.cs_base.specs.Rates.{same_rate, res_rate}
 use Rattle.cs_base.specs.declared.resource.Rate.{Rate}
 use Rattle.cs_base.specs.declared.resource.Rate.TheVariants as rate
@@ -27,23 +29,31 @@ use Rattle.cs_ir.specs.Machine.{same_reg, put}
 use Rattle.cs_ir.specs.Waves.{Wave, held}
 use Rattle.cs_ir.specs.Worlds.{World}
 use Rattle.cs_meaning.specs.Core.{core_stmt}
-use Rattle.cs_meaning.specs.Notes.{Note, reg, look, assign}
+use Rattle.cs_meaning.specs.Initialising.{put_kept}
+use Rattle.cs_meaning.specs.Notes.{Note, Path, reg, look, assign}
 use Rattle.cs_udo_meaning.specs.Frames.{Framed, seen_from, put_back}
 use Rattle.cs_udo_meaning.specs.Numbered.{Numbering, Tells, Variables, numbered, expression_by, arguments_by}
 use Rattle.cs_udo_meaning.specs.Numbered.{statement_by}
-use Rattle.cs_udo_meaning.specs.Stands.{own_name, Fits, Stands}
+use Rattle.cs_udo_meaning.specs.Stands.{own_name, Fits, Way, IsClear, Stands}
 use Rattle.cs_udo_meaning.proofs.Alike.{Alike, alike_number, alike_var, alike_field, alike_head, alike_neg, alike_pair}
 use Rattle.cs_udo_meaning.proofs.Alike.{alike_pick, alike_apply, AlikeVariables, no_variable, more_variables}
 use Rattle.cs_udo_meaning.proofs.Alike.{AlikeArguments, no_argument, more_values, more_texts, AlikeStmt, alike_set}
 use Rattle.cs_udo_meaning.proofs.Alike.{alike_empty, core_alike, Agree}
 use Rattle.cs_udo_meaning.proofs.Fresh.{own_shared, own_rate, own_local, own_apart}
 use Rattle.cs_udo_meaning.proofs.Named.{Named, NamedAll, NamedArguments}
+use Rattle.cs_udo_meaning.proofs.Paths.{inward}
 
 equal_tests : (i j : ℕ) → (i == j) ≡ true → i ≡ j
 equal_tests i j h = grind (arith, nat_tests)
 
 test_here : (i : ℕ) → (i == i) ≡ true
 test_here i = grind (arith, nat_tests)
+
+same_paths : (p q : Path) → same_path p q ≡ true → p ≡ q
+same_paths p q h = (bytes_eq-Decides p q).0 h
+
+path_here : (p : Path) → same_path p p ≡ true
+path_here p = (bytes_eq-Decides p p).1 refl
 
 same_truth : (b c : Bool) → (b ≡ true → c ≡ true) → (c ≡ true → b ≡ true) → b ≡ c
 same_truth true c p q = sym (p refl)
@@ -153,46 +163,61 @@ module _ {V : Variable → Variable → Type 0} {P : List ℕ → Type 0} (v w :
 
 -- ---- a note, and the note that a frame sees
 
-pub record Seen {W : Type 0} (flat own : Numbering) (f : ℕ) (u : Framed W) (t s : Note W) : Type 0 where
+-- a part of the expanded text stands where a part of the text does, and so do their parts
+abbrev pub Follows : Way → Path → Path → Type 0
+Follows way p q = (y : Path) → way.part (inward y p) ≡ Some (inward y q)
+
+-- the note as the frame with a number sees it, whose call stands at a path
+pub record Seen {W : Type 0} (way : Way) (flat own : Numbering) (f : ℕ) (p : Path) (u : Framed W) (t s : Note W)
+    : Type 0 where
   pub mine : (x : List ℕ) → is_global x ≡ false → Fits f x
       → t.locals (reg (name_rate x) (flat (own_name f x))) ≡ s.locals (reg (name_rate x) (own x))
-  pub others : (g : ℕ) (x : List ℕ) → (g == f) ≡ false → is_global x ≡ false → Fits g x
-      → t.locals (reg (name_rate x) (flat (own_name g x))) ≡ u.frames g (reg (name_rate x) (own x))
-  pub kept : t.kept ≡ s.kept
+  pub others : (g : ℕ) (q : Path) → way.frame g ≡ Some q → same_path q p ≡ false → (x : List ℕ) → is_global x ≡ false
+      → Fits g x
+      → t.locals (reg (name_rate x) (flat (own_name g x))) ≡ u.frames q (reg (name_rate x) (own x))
+  pub kept : (a b : Path) → way.part a ≡ Some b → t.kept a ≡ s.kept b
   pub world : t.world ≡ s.world
 
-pub to_seen : {W : Type 0} (flat own : Numbering) (f : ℕ) (t : Note W) (u : Framed W) → Stands flat own t u
-    → Seen flat own f u t (seen_from f u)
-to_seen flat own f t u h =
-    record { mine = h.locals f; others = λ g x apart. h.locals g x; kept = h.kept; world = h.world }
+pub to_seen : {W : Type 0} (way : Way) (flat own : Numbering) (f : ℕ) (p : Path) → way.frame f ≡ Some p
+    → (t : Note W) (u : Framed W) → Stands way flat own t u → Seen way flat own f p u t (seen_from p u)
+to_seen way flat own f p at t u h = record {
+  mine = h.locals f p at;
+  others = λ g q there apart. h.locals g q there;
+  kept = h.kept;
+  world = h.world;
+}
 
-pub from_seen : {W : Type 0} (flat own : Numbering) (f : ℕ) (t s : Note W) (u : Framed W) → Seen flat own f u t s
-    → Stands flat own t (put_back f s u)
-from_seen {W} flat own f t s u h = record { locals = each; kept = h.kept; world = h.world }
+pub from_seen : {W : Type 0} (way : Way) → IsClear way → (flat own : Numbering) (f : ℕ) (p : Path)
+    → way.frame f ≡ Some p
+    → (t s : Note W) (u : Framed W) → Seen way flat own f p u t s → Stands way flat own t (put_back p s u)
+from_seen {W} way clear flat own f p at t s u h = record { locals = each; kept = h.kept; world = h.world }
   where
-    each : (g : ℕ) (x : List ℕ) → is_global x ≡ false → Fits g x
-        → t.locals (reg (name_rate x) (flat (own_name g x))) ≡ (if g == f then s.locals else u.frames g)
-        (reg (name_rate x) (own x))
-    each g x e fits = by (g == f) refl
+    each : (g : ℕ) (q : Path) → way.frame g ≡ Some q → (x : List ℕ) → is_global x ≡ false → Fits g x
+        → t.locals (reg (name_rate x) (flat (own_name g x)))
+        ≡ (if same_path q p then s.locals else u.frames q) (reg (name_rate x) (own x))
+    each g q there x e fits = by (same_path q p) refl
       where
-        by : (b : Bool) → (g == f) ≡ b
-            → t.locals (reg (name_rate x) (flat (own_name g x))) ≡ (if b then s.locals else u.frames g)
+        by : (b : Bool) → same_path q p ≡ b
+            → t.locals (reg (name_rate x) (flat (own_name g x))) ≡ (if b then s.locals else u.frames q)
             (reg (name_rate x) (own x))
         by true same =
-            let one : g ≡ f = equal_tests g f same in
+            let one : g ≡ f = clear.frames g f q there (at ∙ ap (λ z. Some z) (sym (same_paths q p same))) in
             ap (λ n. t.locals (reg (name_rate x) (flat (own_name n x)))) one ∙ h.mine x e (λ k. fits (one ∙ k))
-        by false other = h.others g x other e fits
+        by false other = h.others g q there other x e fits
 
-module _ {W : Type 0} (o : World W) (flat own : Numbering) (tf : Tells flat) (to : Tells own) (f : ℕ)
-    (u : Framed W) where
-  mine_put : (t s : Note W) → Seen flat own f u t s → (x y : List ℕ) → is_global x ≡ false → is_global y ≡ false
-      → Fits f x → Fits f y → (a : Wave)
+module _ {W : Type 0} (o : World W) (way : Way) (clear : IsClear way) (flat own : Numbering) (tf : Tells flat)
+    (to : Tells own) (f : ℕ) (p : Path) (at : way.frame f ≡ Some p) (u : Framed W) where
+  abbrev View : Note W → Note W → Type 0
+  View t s = Seen way flat own f p u t s
+
+  mine_put : (t s : Note W) → View t s → (x y : List ℕ) → is_global x ≡ false → is_global y ≡ false → Fits f x
+      → Fits f y → (a : Wave)
       → put t.locals (reg (name_rate x) (flat (own_name f x))) a (reg (name_rate y) (flat (own_name f y)))
       ≡ put s.locals (reg (name_rate x) (own x)) a (reg (name_rate y) (own y))
   mine_put t s h x y ex ey fx fy a =
-      let p = same_reg (reg (name_rate y) (flat (own_name f y))) (reg (name_rate x) (flat (own_name f x))) in
-      let q = same_reg (reg (name_rate y) (own y)) (reg (name_rate x) (own x)) in
-      λ i. if same_truth p q there back i then a else h.mine y ey fy i
+      let b = same_reg (reg (name_rate y) (flat (own_name f y))) (reg (name_rate x) (flat (own_name f x))) in
+      let c = same_reg (reg (name_rate y) (own y)) (reg (name_rate x) (own x)) in
+      λ i. if same_truth b c there back i then a else h.mine y ey fy i
     where
       there : same_reg (reg (name_rate y) (flat (own_name f y))) (reg (name_rate x) (flat (own_name f x))) ≡ true
           → same_reg (reg (name_rate y) (own y)) (reg (name_rate x) (own x)) ≡ true
@@ -210,28 +235,29 @@ module _ {W : Type 0} (o : World W) (flat own : Numbering) (tf : Tells flat) (to
           same_reg_here (name_rate y) (name_rate x) (flat (own_name f y)) (flat (own_name f x)) k.0
           (ap (λ z. flat (own_name f z)) one)
 
-  others_put : (t s : Note W) → Seen flat own f u t s → (x : List ℕ) → is_global x ≡ false → Fits f x
-      → (a : Wave) (g : ℕ) (y : List ℕ)
-      → (g == f) ≡ false → is_global y ≡ false → Fits g y
-      → put t.locals (reg (name_rate x) (flat (own_name f x))) a (reg (name_rate y) (flat (own_name g y))) ≡ u.frames g
-      (reg (name_rate y) (own y))
-  others_put t s h x ex fx a g y apart ey fy = by p refl
+  others_put : (t s : Note W) → View t s → (x : List ℕ) → is_global x ≡ false → Fits f x
+      → (a : Wave) (g : ℕ) (q : Path) → way.frame g ≡ Some q → same_path q p ≡ false
+      → (y : List ℕ) → is_global y ≡ false → Fits g y
+      → put t.locals (reg (name_rate x) (flat (own_name f x))) a (reg (name_rate y) (flat (own_name g y)))
+      ≡ u.frames q (reg (name_rate y) (own y))
+  others_put t s h x ex fx a g q there apart y ey fy = by b refl
     where
-      p : Bool
-      p = same_reg (reg (name_rate y) (flat (own_name g y))) (reg (name_rate x) (flat (own_name f x)))
+      b : Bool
+      b = same_reg (reg (name_rate y) (flat (own_name g y))) (reg (name_rate x) (flat (own_name f x)))
 
-      by : (b : Bool) → p ≡ b
-          → (if b then a else t.locals (reg (name_rate y) (flat (own_name g y)))) ≡ u.frames g
+      by : (c : Bool) → b ≡ c
+          → (if c then a else t.locals (reg (name_rate y) (flat (own_name g y)))) ≡ u.frames q
           (reg (name_rate y) (own y))
       by true e =
           let k = same_reg_is (name_rate y) (name_rate x) (flat (own_name g y)) (flat (own_name f x)) e in
           let names = tf (own_name g y) (own_name f x) (own_rate g y ∙ k.0 ∙ sym (own_rate f x)) k.1 in
           let one = (own_apart g f y x ey ex fy fx names).0 in
-          let never : false ≡ true = sym apart ∙ ap (λ n. n == f) one ∙ test_here f in absurd (cc never)
-      by false e = h.others g y apart ey fy
+          let same : q ≡ p = some_is q p (sym there ∙ ap way.frame one ∙ at) in
+          let never : false ≡ true = sym apart ∙ ap (λ z. same_path z p) same ∙ path_here p in absurd (cc never)
+      by false e = h.others g q there apart y ey fy
 
-  assigned : (t s : Note W) → Seen flat own f u t s → (v w : Variable) → SameVariable flat own f v w → (a : Wave)
-      → Seen flat own f u (assign o v a t) (assign o w a s)
+  assigned : (t s : Note W) → View t s → (v w : Variable) → SameVariable flat own f v w → (a : Wave)
+      → View (assign o v a t) (assign o w a s)
   assigned t s h _ _ (both_shared g) a = record {
     mine = h.mine;
     others = h.others;
@@ -240,27 +266,44 @@ module _ {W : Type 0} (o : World W) (flat own : Numbering) (tf : Tells flat) (to
   }
   assigned t s h _ _ (both_own x e fits) a = record {
     mine = λ y ey fy. mine_put t s h x y e ey fits fy (held o.ksmps (name_rate x) a);
-    others = λ g y apart ey fy. others_put t s h x e fits (held o.ksmps (name_rate x) a) g y apart ey fy;
+    others = λ g q there apart y ey fy.
+        others_put t s h x e fits (held o.ksmps (name_rate x) a) g q there apart y ey fy;
     kept = h.kept;
     world = h.world;
   }
 
-  looked : (t s : Note W) → Seen flat own f u t s → (r : Rate) (v w : Variable) → SameVariable flat own f v w
+  looked : (t s : Note W) → View t s → (r : Rate) (v w : Variable) → SameVariable flat own f v w
       → look o t r v ≡ look o s r w
   looked t s h r _ _ (both_shared g) = ap (λ x. held o.ksmps r (o.load g x)) h.world
   looked t s h r _ _ (both_own x e fits) = h.mine x e fits
 
-  pub seen_agree : Agree o o (SameVariable flat own f) (Seen flat own f u)
+  keeps : (t s : Note W) → View t s → (a b : Path) → Follows way a b → (z : ℤ) → View (put_kept a z t) (put_kept b z s)
+  keeps t s h a b leads z = record {
+    mine = h.mine;
+    others = h.others;
+    kept = λ c d e.
+        let same = same_truth (same_path c a) (same_path d b) (there c d e) (back c d e) in
+        λ i. if same i then z else h.kept c d e i;
+    world = h.world;
+  }
+    where
+      there : (c d : Path) → way.part c ≡ Some d → same_path c a ≡ true → same_path d b ≡ true
+      there c d e k =
+          let one : d ≡ b = some_is d b (sym e ∙ ap way.part (same_paths c a k) ∙ leads []) in
+          ap (λ x. same_path x b) one ∙ path_here b
+
+      back : (c d : Path) → way.part c ≡ Some d → same_path d b ≡ true → same_path c a ≡ true
+      back c d e k =
+          let one : c ≡ a = clear.parts c a b (e ∙ ap (λ x. Some x) (same_paths d b k)) (leads []) in
+          ap (λ x. same_path x a) one ∙ path_here a
+
+  pub seen_agree : Agree o o (SameVariable flat own f) (Follows way) (Seen way flat own f p u)
   seen_agree = record {
-    kept = λ t s h. h.kept;
+    parts = λ a b leads k y. leads (k ∷ y);
+    kept = λ t s h a b leads. h.kept a b (leads []);
     world = λ t s h. h.world;
     looks = looked;
     assigns = assigned;
-    keeps = λ t s h p z. record {
-      mine = h.mine;
-      others = h.others;
-      kept = λ i q. if same_path q p then z else h.kept i q;
-      world = h.world;
-    };
+    keeps = keeps;
     moves = λ t s h x. record { mine = h.mine; others = h.others; kept = h.kept; world = refl };
   }

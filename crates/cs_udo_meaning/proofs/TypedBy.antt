@@ -1,6 +1,7 @@
 -- The typed form of an orchestra without a fault is that of what is known at the end of its text.
 use Rattle.std.proofs.Common.{◌≡◌, ◌∙◌, ℕ, Bool, true, false, nat_lt, if◌then◌else◌, List, [], ◌∷◌, None, refl, ap}
 use Rattle.std.specs.List.{AllZip}
+use Rattle.cs_base.proofs.Tests.{both_none}
 use Rattle.cs_grammar.specs.Tree.{Block, no_stmt, andthen, Instrument, Orchestra}
 use Rattle.cs_typed.specs.Places.{outside, inside}
 use Rattle.cs_typed.specs.TypedTree as typed
@@ -13,7 +14,7 @@ use Rattle.cs_typing.specs.Typing.{typed_instruments, typed_of}
 use Rattle.cs_udo_meaning.specs.Numbered.{Numbering, Variables, numbered, statement_by, block_by}
 use Rattle.cs_udo_meaning.specs.Typed.{shared_of, IsNumbered, IsNumberedInstrument}
 use Rattle.cs_udo_meaning.proofs.KnownOn.{SharedGoesOn, shared_stays, shared_further, Later, later_same, later_further}
-use Rattle.cs_udo_meaning.proofs.KnownOn.{known_block_later, HasPlaces, both_none, block_same}
+use Rattle.cs_udo_meaning.proofs.KnownOn.{known_block_later, HasPlaces, block_same}
 use Rattle.cs_udo_meaning.proofs.Later.{table_stays}
 use Rattle.cs_udo_meaning.proofs.Numbers.{number_in, number_places, number_tells}
 

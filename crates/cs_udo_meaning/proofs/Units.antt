@@ -1,71 +1,75 @@
 -- The numbers of the units of a note with frames ascend in the order of the text.
-use Rattle.std.proofs.Common.{◌≡◌, ℕ, ◌≤◌, ◌<◌, Bool, true, false, if◌then◌else◌, List, [], ◌∷◌, Option, Some, None}
-use Rattle.std.proofs.Common.{arith, refl, sym, subst}
-use Rattle.std.specs.List.{AllPairs}
+use Rattle.std.proofs.Common.{ℕ, ◌+◌, ◌≤◌, ◌<◌, Bool, true, false, if◌then◌else◌, List, [], ◌∷◌, ◌++◌, length}
+use Rattle.std.proofs.Common.{Option, Some, None, arith, subst}
+use Rattle.std.specs.List.{All, AllPairs}
 use Rattle.std.specs.Option.{option_or}
 use Rattle.std.specs.Str.{bytes_eq}
+use Rattle.std.proofs.lemmas.List.Elements.{All-cons, All-nil}
+use Rattle.std.proofs.lemmas.List.Kept.{AllPairs-cons}
 use Rattle.cs_grammar.specs.declared.tree.Callee.{Callee}
 use Rattle.cs_grammar.specs.declared.tree.Callee.TheVariants as callee
-use Rattle.cs_grammar.specs.Tree.{Argument, value, text, Statement, set, call, choose, Block, no_stmt, andthen, Arms}
-use Rattle.cs_grammar.specs.Tree.{otherwise, arm, Definition}
+use Rattle.cs_grammar.specs.Tree.{Statement, set, call, choose, Block, no_stmt, andthen, Arms, otherwise, arm}
+use Rattle.cs_grammar.specs.Tree.{Definition}
 use Rattle.cs_meaning.specs.Core as core
-use Rattle.cs_meaning.specs.Notes.{Place, past_stmt, unit_past, unit_past_block, unit_past_arms}
 use Rattle.cs_udo.specs.Expanded.{whole_body}
-use Rattle.cs_udo_meaning.specs.Frames.{Spot, Reading, read, past_copy, past_copies, Action, Actions, no_actions}
-use Rattle.cs_udo_meaning.specs.Frames.{action_of, values_in, past_inputs, past_call, past_any, into, into_arm, behind}
-use Rattle.cs_udo_meaning.specs.Frames.{past_framed, past_block, past_arms, unit_of, units_of_call, units_of}
-use Rattle.cs_udo_meaning.specs.Frames.{units_of_block, units_of_arms, inner, action, acting, acting_all}
-use Rattle.cs_udo_meaning.proofs.Untouched.{Ascend, joined, ascending}
+use Rattle.cs_udo_meaning.specs.Frames.{Reading, read, Action, Actions, no_actions, action_of, unit_of, units_of_call}
+use Rattle.cs_udo_meaning.specs.Frames.{units_of, units_of_block, units_of_arms, action, acting, acting_all}
+use Rattle.cs_udo_meaning.proofs.Paths.{further}
 
-chain : (a b c : ℕ) → a ≤ b → b ≤ c → a ≤ c
-chain a b c p q = omega (arith, p, q)
+-- ---- numbers that ascend within a span
 
-mutual
-  unit_grows : (n : ℕ) (s : core.Stmt) → n ≤ unit_past n s
-  unit_grows n (core.set r v e) = omega arith
-  unit_grows n (core.unit r vs o k xs is) = omega arith
-  unit_grows n (core.zak r vs o k xs) = omega arith
-  unit_grows n (core.store r o k es is) = omega arith
-  unit_grows n (core.out r es) = omega arith
-  unit_grows n (core.out_at r es) = omega arith
-  unit_grows n (core.ask es) = omega arith
-  unit_grows n (core.turnoff r) = omega arith
-  unit_grows n core.nothing = omega arith
-  unit_grows n (core.choose r list) = unit_arms_grow n list
+abbrev Ascend : ℕ → ℕ → List ℕ → Type 0
+Ascend n k [] = n ≤ k
+Ascend n k (x ∷ xs) = (n ≤ x) × Ascend (x + 1) k xs
 
-  unit_block_grows : (n : ℕ) (b : core.Block) → n ≤ unit_past_block n b
-  unit_block_grows n core.no_stmt = omega arith
-  unit_block_grows n (core.andthen s b) =
-      let k = unit_past n s in chain n k (unit_past_block k b) (unit_grows n s) (unit_block_grows k b)
+from_lower : (n j k : ℕ) (xs : List ℕ) → n ≤ j → Ascend j k xs → Ascend n k xs
+from_lower n j k [] h a = omega (arith, h, a)
+from_lower n j k (x ∷ xs) h a = (omega (arith, h, a.0), a.1)
 
-  unit_arms_grow : (n : ℕ) (list : core.Arms) → n ≤ unit_past_arms n list
-  unit_arms_grow n (core.otherwise b) = unit_block_grows n b
-  unit_arms_grow n (core.arm c b rest) =
-      let k = unit_past_block n b in chain n k (unit_past_arms k rest) (unit_block_grows n b) (unit_arms_grow k rest)
+joined : (n j k : ℕ) (xs ys : List ℕ) → Ascend n j xs → Ascend j k ys → Ascend n k (xs ++ ys)
+joined n j k [] ys a b = from_lower n j k ys a b
+joined n j k (x ∷ xs) ys a b = (a.0, joined (x + 1) j k xs ys a.1 b)
 
-stmt_ascends : (p : Place) (s : core.Stmt) → Ascend p.unit (past_stmt p s).unit (unit_of p s)
-stmt_ascends p (core.set r v e) = omega arith
-stmt_ascends p (core.unit r vs o k xs is) = (omega arith, omega arith)
-stmt_ascends p (core.zak r vs o k xs) = omega arith
-stmt_ascends p (core.store r o k es is) = omega arith
-stmt_ascends p (core.out r es) = omega arith
-stmt_ascends p (core.out_at r es) = omega arith
-stmt_ascends p (core.ask es) = omega arith
-stmt_ascends p (core.turnoff r) = omega arith
-stmt_ascends p core.nothing = omega arith
-stmt_ascends p (core.choose r list) = unit_arms_grow p.unit list
+all_above : (n k : ℕ) (xs : List ℕ) → Ascend (n + 1) k xs → All (λ y. n < y) xs
+all_above n k [] a = All-nil (λ y. n < y)
+all_above n k (x ∷ xs) a =
+    All-cons (λ y. n < y) x xs (omega (arith, a.0))
+    (all_above n k xs (from_lower (n + 1) (x + 1) k xs (omega (arith, a.0)) a.1))
+
+ascending : (n k : ℕ) (xs : List ℕ) → Ascend n k xs → AllPairs (λ f g. f < g) xs
+ascending n k [] a = λ i j d p q. absurd (omega (arith, q))
+ascending n k (x ∷ xs) a = AllPairs-cons (λ f g. f < g) x xs (all_above x k xs a.1) (ascending (x + 1) k xs a.1)
+
+-- numbers from one on, each the next
+abbrev Rise : ℕ → List ℕ → Type 0
+Rise n xs = Ascend n (n + length xs) xs
+
+rise_on : (n : ℕ) (xs ys : List ℕ) → Rise n xs → Rise (n + length xs) ys → Rise n (xs ++ ys)
+rise_on n xs ys h k =
+    subst (λ i. Ascend n i (xs ++ ys)) (further n xs ys)
+    (joined n (n + length xs) ((n + length xs) + length ys) xs ys h k)
+
+none_rise : (n : ℕ) → n ≤ n + 0
+none_rise n = omega arith
+
+unit_rises : (n : ℕ) (s : core.Stmt) → Rise n (unit_of n s)
+unit_rises n (core.set r v e) = none_rise n
+unit_rises n (core.unit r vs o k xs is) = (omega arith, omega arith)
+unit_rises n (core.zak r vs o k xs) = none_rise n
+unit_rises n (core.store r k es is) = none_rise n
+unit_rises n (core.out r es) = none_rise n
+unit_rises n (core.out_at r es) = none_rise n
+unit_rises n (core.ask es) = none_rise n
+unit_rises n (core.turnoff r) = none_rise n
+unit_rises n core.nothing = none_rise n
+unit_rises n (core.choose r list) = none_rise n
+
+-- ---- the units of statements
 
 module _ {W : Type 0} (m : Reading W) where
-  copies_unit : (p : Place) (xs : List (List ℕ)) (args : List Argument) → (past_copies m p xs args).unit ≡ p.unit
-  copies_unit p [] [] = refl
-  copies_unit p [] (a ∷ args) = refl
-  copies_unit p (x ∷ xs) [] = refl
-  copies_unit p (x ∷ xs) (text t ∷ args) = refl
-  copies_unit p (x ∷ xs) (value e ∷ args) = copies_unit (past_copy m p x e) xs args
-
   abbrev pub Rising : Option (Action W) → Type 0
   Rising None = Unit {0}
-  Rising (Some a) = (p : Spot) → Ascend p.place.unit (a.past p).place.unit (a.units p)
+  Rising (Some a) = (n : ℕ) → Rise n (a.units m n)
 
   pub record AllRising (env : Actions W) : Type 0 where
     pub each : (name : List ℕ) → Rising (env name)
@@ -74,59 +78,45 @@ module _ {W : Type 0} (m : Reading W) where
   called_rising env k (callee.Opcode o) = tt
   called_rising env k (callee.Name name) = k.each name
 
-  called_rises : (p : Spot) (x : Statement) (xs : List (List ℕ)) (args : List Argument) (a : Option (Action W))
-      → Rising a
-      → Ascend p.place.unit (past_any m p x xs args a).place.unit (units_of_call m p x args a)
-  called_rises p x xs args None h = stmt_ascends p.place (read m x)
-  called_rises p x xs args (Some a) h =
-      let q = past_inputs m p a args in
-      subst (λ n. Ascend n (past_call m p a xs args).place.unit (a.units q)) (copies_unit p.place a.inputs args)
-      (subst (λ n. Ascend q.place.unit n (a.units q)) (sym (copies_unit (a.past q).place xs (values_in a.results)))
-      (h q))
+  called_rises : (n : ℕ) (x : Statement) (a : Option (Action W)) → Rising a → Rise n (units_of_call m n x a)
+  called_rises n x None h = unit_rises n (read m x)
+  called_rises n x (Some a) h = h n
 
   module _ (env : Actions W) (k : AllRising env) where
     mutual
-      rises : (p : Spot) (x : Statement) → Ascend p.place.unit (past_framed m env p x).place.unit (units_of m env p x)
-      rises p (set line x e) = omega arith
-      rises p (call line xs c args) =
-          called_rises p (call line xs c args) xs args (action_of env c) (called_rising env k c)
-      rises p (choose line list) = arms_rise (into p) list
+      rises : (n : ℕ) (x : Statement) → Rise n (units_of m env n x)
+      rises n (set line x e) = none_rise n
+      rises n (call line xs c args) = called_rises n (call line xs c args) (action_of env c) (called_rising env k c)
+      rises n (choose line list) = arms_rise n list
 
-      block_rises : (p : Spot) (b : Block)
-          → Ascend p.place.unit (past_block m env p b).place.unit (units_of_block m env p b)
-      block_rises p no_stmt = omega arith
-      block_rises p (andthen x rest) =
-          let q = past_framed m env p x in
-          joined p.place.unit q.place.unit (past_block m env q rest).place.unit (units_of m env p x)
-          (units_of_block m env q rest) (rises p x)
-          (block_rises q rest)
+      block_rises : (n : ℕ) (b : Block) → Rise n (units_of_block m env n b)
+      block_rises n no_stmt = none_rise n
+      block_rises n (andthen x rest) =
+          let one = units_of m env n x in
+          rise_on n one (units_of_block m env (n + length one) rest) (rises n x) (block_rises (n + length one) rest)
 
-      arms_rise : (p : Spot) (list : Arms)
-          → Ascend p.place.unit (past_arms m env p list).place.unit (units_of_arms m env p list)
-      arms_rise p (otherwise b) = block_rises (into p) b
-      arms_rise p (arm c b rest) =
-          let q = into_arm p in
-          let r = behind p (past_block m env q b) in
-          joined p.place.unit r.place.unit (past_arms m env r rest).place.unit (units_of_block m env q b)
-          (units_of_arms m env r rest) (block_rises q b)
-          (arms_rise r rest)
+      arms_rise : (n : ℕ) (list : Arms) → Rise n (units_of_arms m env n list)
+      arms_rise n (otherwise b) = block_rises n b
+      arms_rise n (arm c b rest) =
+          let one = units_of_block m env n b in
+          rise_on n one (units_of_arms m env (n + length one) rest) (block_rises n b) (arms_rise (n + length one) rest)
 
-    pub units_differ : (p : Spot) (b : Block) → AllPairs (λ f g. f < g) (units_of_block m env p b)
-    units_differ p b = ascending p.place.unit (past_block m env p b).place.unit (units_of_block m env p b)
-        (block_rises p b)
+    pub units_differ : (n : ℕ) (b : Block) → AllPairs (λ f g. f < g) (units_of_block m env n b)
+    units_differ n b =
+        let list = units_of_block m env n b in ascending n (n + length list) list (block_rises n b)
 
-  acting_rises : (env : Actions W) → AllRising env → (d : Definition) → AllRising (acting m env d)
+  acting_rises : (env : Actions W) → AllRising env → (d : Definition) → AllRising (acting env d)
   acting_rises env k d = record { each = λ name. by (env name) (k.each name) (bytes_eq name d.name) }
     where
       by : (a : Option (Action W)) → Rising a → (b : Bool)
-          → Rising (option_or a (if b then Some (action m env d) else None))
-      by None h true = λ p. block_rises env k (inner p) (whole_body d)
+          → Rising (option_or a (if b then Some (action env d) else None))
+      by None h true = λ n. block_rises env k n (whole_body d)
       by None h false = tt
       by (Some a) h b = h
 
-  pub all_rise : (env : Actions W) → AllRising env → (ds : List Definition) → AllRising (acting_all m env ds)
+  pub all_rise : (env : Actions W) → AllRising env → (ds : List Definition) → AllRising (acting_all env ds)
   all_rise env k [] = k
-  all_rise env k (d ∷ ds) = all_rise (acting m env d) (acting_rises env k d) ds
+  all_rise env k (d ∷ ds) = all_rise (acting env d) (acting_rises env k d) ds
 
   pub nothing_rises : AllRising no_actions
   nothing_rises = record { each = λ name. tt }

@@ -11,12 +11,14 @@ use Rattle.cs_grammar.specs.declared.tree.Callee.TheVariants as callee
 use Rattle.cs_grammar.specs.Tree.{Expression, pair, var, Argument, value, Statement, set, call, choose, otherwise, arm}
 use Rattle.cs_grammar.specs.Tree.{Definition, Instrument}
 use Rattle.cs_meaning.specs.Examples.{small_piece, whole}
+use Rattle.cs_meaning.specs.Notes.{Path, start}
 use Rattle.cs_meaning.specs.Plain.{Plain, Piece, plain, fresh, next_cycle}
 use Rattle.cs_ir.specs.Waves.{silence}
 use Rattle.cs_typing.specs.Known.{Shared, no_names}
 use Rattle.cs_udo.specs.Names.{slot}
 use Rattle.cs_udo.specs.Worked.{literal, variable, statements}
-use Rattle.cs_udo_meaning.specs.Frames.{Framed, new_framed, framed_in, Reading}
+use Rattle.cs_udo_meaning.specs.Frames.{Framed, new_framed, framed_in, Reading, frames_of_block, keepers_of_block}
+use Rattle.cs_udo_meaning.specs.Frames.{actions_of}
 use Rattle.cs_udo_meaning.specs.Lives.{begins, performs, reading}
 
 -- a name of two letters
@@ -75,6 +77,14 @@ abbrev pub heard : Piece → List Definition → List Statement → List (List �
 heard piece ds body =
     let i : Instrument = record { line = 8; numbers = 1 ∷ []; body = statements body } in
     two_cycles piece ds i (begins (read_in piece) ds i (new_framed (fresh (λ g. silence))))
+
+-- where the calls stand that have the frames of statements
+abbrev pub framed : List Definition → List Statement → List Path
+framed ds body = frames_of_block (actions_of Plain ds) start.path (statements body)
+
+-- where that stands which may keep values of statements
+abbrev pub keeping : List Definition → List Statement → List Path
+keeping ds body = keepers_of_block (actions_of Plain ds) start.path (statements body)
 
 -- a call of a defined opcode, and one of an opcode of the catalogue
 abbrev own : ℕ → List (List ℕ) → List ℕ → List Argument → Statement

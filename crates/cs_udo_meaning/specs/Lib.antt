@@ -5,4 +5,3 @@ pub mod Numbered
 pub mod Renumbered
 pub mod Stands
 pub mod Typed
-pub mod Untouched

@@ -1,29 +1,32 @@
 // What holds of calls of defined opcodes: calls that do nothing, whose contracts are the laws.
 ghost use Rattle.std.specs.List.{All, AllZip, AllPairs, IsDistinct, flat_map};
-ghost use Rattle.std.specs.Prelude.{◌≡◌, ◌≢◌, ◌∷◌, ◌<◌, [], ℕ, List, None, Ok, eqb, map};
+ghost use Rattle.std.specs.Prelude.{◌≡◌, ◌≢◌, ◌∷◌, ◌++◌, ◌<◌, [], ℕ, List, None, Ok, eqb, map};
 ghost use Rattle.cs_base.specs.declared.resource.Res.{Res};
 ghost use Rattle.cs_base.specs.declared.spaces.Spaces.{Spaces};
 ghost use Rattle.cs_grammar.specs.Tree.{Block, Definition, Instrument, Orchestra};
 ghost use Rattle.cs_grammar.specs.WellFormed.{IsWellFormed, WellFormedInstrument};
 ghost use Rattle.cs_ir.specs.Worlds.{World};
 ghost use Rattle.cs_meaning.specs.Examples.{each, whole};
-ghost use Rattle.cs_meaning.specs.Uses.{When};
+ghost use Rattle.cs_meaning.specs.Core.{core};
+ghost use Rattle.cs_meaning.specs.Initialising.{init_block};
+ghost use Rattle.cs_meaning.specs.Notes.{Note, Path, Place};
+ghost use Rattle.cs_meaning.specs.Performing.{perf_block};
+ghost use Rattle.cs_meaning.specs.When.{When};
 ghost use Rattle.cs_typed.specs.TypedTree as typed;
 ghost use Rattle.cs_typed.specs.WellRated.{BlockHasNoZakinit};
 ghost use Rattle.cs_typing.specs.Known.{Shared};
 ghost use Rattle.cs_typing.specs.Typing.{type_fault, typed_of};
 ghost use Rattle.cs_udo.specs.Expanding.{expanding};
 ghost use Rattle.cs_udo.specs.Worked.{twice, calls_twice, count};
-ghost use Rattle.cs_udo_meaning.specs.Examples.{bump, calls_bump, counted, heard, of_fives, of_sums, sevens, swap};
-ghost use Rattle.cs_udo_meaning.specs.Examples.{calls_swap, calls_only_first, inc, two, calls_two, turn, calls_turn};
-ghost use Rattle.cs_udo_meaning.specs.Examples.{half, calls_half};
-ghost use Rattle.cs_udo_meaning.specs.Frames.{Framed, Reading, Spot, acting_all, block_done, frames_of_block};
-ghost use Rattle.cs_udo_meaning.specs.Frames.{no_actions, past_block, units_of_block};
+ghost use Rattle.cs_udo_meaning.specs.Examples.{bump, calls_bump, counted, framed, heard, of_fives, of_sums, sevens};
+ghost use Rattle.cs_udo_meaning.specs.Examples.{swap, calls_swap, calls_only_first, inc, two, calls_two, turn};
+ghost use Rattle.cs_udo_meaning.specs.Examples.{calls_turn, half, calls_half, keeping};
+ghost use Rattle.cs_udo_meaning.specs.Frames.{Framed, Reading, actions_of, block_done, frames_of_block, own_frame};
+ghost use Rattle.cs_udo_meaning.specs.Frames.{by_pass, keepers_of_block, typed_keepers_of_block, units_of_block};
 ghost use Rattle.cs_udo_meaning.specs.Lives.{Cycle, MeansFrames, life_with_frames, reading};
 ghost use Rattle.cs_udo_meaning.specs.Numbered.{Numbering, Tells, spelled};
 ghost use Rattle.cs_udo_meaning.specs.Renumbered.{HasNames, LeadsTo, renumbered, renumbered_cycle};
 ghost use Rattle.cs_udo_meaning.specs.Typed.{IsNumbered, IsNumberedInstrument, shared_of};
-ghost use Rattle.cs_udo_meaning.specs.Untouched.{IsOutside};
 
 /// An orchestra with defined opcodes means what its definitions say. Where its calls are expanded and the expansion
 /// breaks no rule of rates and names, each instrument of the typed expansion, as it begins and in every control cycle,
@@ -59,19 +62,28 @@ pub fn expansions_can_be_lowered()
         IsDistinct eqb (flat_map (λ (i : typed.Instrument). i.numbers) (typed_of made).instrs) }
 {}
 
-/// Each place of a call is alone with its frame: the frames of the calls in statements, those in the bodies that they
-/// call too, ascend in the order of the text, so no two are one; so do the numbers of their units, by which these have
-/// their inputs so far; and statements of a frame, as the note begins and in a cycle, leave every frame as it was but
-/// their own and those of the calls in them.
+/// Each place of a call is alone with its frame: of the instrument's own frame and those of the calls in statements,
+/// those in the bodies that they call too, no two are one; the numbers of their units, by which these have their inputs
+/// so far, ascend in the order of the text; and statements of a frame, as the note begins and in a cycle, leave every
+/// frame as it was but their own and those of the calls in them. Values are kept nowhere but at the parts of what may
+/// keep values (`keepers_of_block`), and so it is in a text without calls of defined opcodes.
 pub fn calls_have_frames_of_their_own<W>()
-    ensures ascend { (m : Reading W) → (ds : List Definition) → (p : Spot) → (b : Block) →
-        AllPairs (λ f g. f < g) (frames_of_block m (acting_all m no_actions ds) p b) }
-    ensures units { (m : Reading W) → (ds : List Definition) → (p : Spot) → (b : Block) →
-        AllPairs (λ f g. f < g) (units_of_block m (acting_all m no_actions ds) p b) }
-    ensures alone { (m : Reading W) → (ds : List Definition) → (w : When) → (f : ℕ) → (g : ℕ) → g ≢ f → (p : Spot) →
-        (b : Block) → (u : Framed W) →
-        IsOutside g p.frame (past_block m (acting_all m no_actions ds) p b).frame →
-        (block_done m (acting_all m no_actions ds) w f p b u).frames g ≡ u.frames g }
+    ensures differ { (ds : List Definition) → (n : ℕ) → (p : Path) → (b : Block) →
+        AllPairs (λ f g. f ≢ g) (own_frame ∷ frames_of_block (actions_of W ds) (n ∷ p) b) }
+    ensures units { (m : Reading W) → (ds : List Definition) → (n : ℕ) → (b : Block) →
+        AllPairs (λ f g. f < g) (units_of_block m (actions_of W ds) n b) }
+    ensures alone { (m : Reading W) → (ds : List Definition) → (w : When) → (f : Path) → (g : Path) → g ≢ f →
+        (p : Place) → (b : Block) → (u : Framed W) →
+        All (λ h. g ≢ h) (frames_of_block (actions_of W ds) p.path b) →
+        (block_done m (actions_of W ds) w f p b u).frames g ≡ u.frames g }
+    ensures kept { (m : Reading W) → (ds : List Definition) → (w : When) → (f : Path) → (p : Place) → (b : Block) →
+        (u : Framed W) → (q : Path) →
+        All (λ k. (y : Path) → q ≢ y ++ k) (keepers_of_block (actions_of W ds) p.path b) →
+        (block_done m (actions_of W ds) w f p b u).kept q ≡ u.kept q }
+    ensures kept_in_expansions { (o : World W) → (spaces : Spaces) → (w : When) → (p : Place) → (b : typed.Block) →
+        (t : Note W) → (q : Path) →
+        All (λ k. (y : Path) → q ≢ y ++ k) (typed_keepers_of_block p.path b) →
+        (by_pass w (init_block o p (core spaces b) t) (perf_block o p (core spaces b) t)).kept q ≡ t.kept q }
 {}
 
 /// The typed form of an orchestra without a fault by what is known at the end of its text: shared variables and
@@ -97,10 +109,18 @@ pub fn calls_worked_by_hand()
     ensures results { heard sevens (swap ∷ []) calls_swap ≡ each (whole 21) ∷ each (whole 21) ∷ [] }
     // Calls in calls: each of four counts by itself, so the two results are 12 and 24, and then 24 and 48.
     ensures nested { heard sevens (inc ∷ two ∷ []) calls_two ≡ each (whole 15) ∷ each (whole 30) ∷ [] }
+    // Where these calls stand: in the first and the second statement, and in the two of the body of each, which is
+    // its part 1.
+    ensures framed { framed (inc ∷ two ∷ []) calls_two
+        ≡ (0 ∷ []) ∷ (0 ∷ 1 ∷ 0 ∷ []) ∷ (1 ∷ 1 ∷ 0 ∷ []) ∷ (1 ∷ []) ∷ (0 ∷ 1 ∷ 1 ∷ []) ∷ (1 ∷ 1 ∷ 1 ∷ []) ∷ [] }
     // A unit in a body has a state at each place: where it gives the sum of its inputs, 1 and 2, and then 2 and 4.
     ensures states { heard of_sums (turn ∷ []) calls_turn ≡ each (whole 12) ∷ each (whole 24) ∷ [] }
     // Inputs and results of rate Init are given as the note begins.
     ensures init { heard sevens (half ∷ []) calls_half ≡ each (whole 4) ∷ each (whole 4) ∷ [] }
+    // What may keep values here: the argument, part 0 of the call, the statement that gives `xout`'s value in its body,
+    // part 1, and the result, part 2; and the two statements behind the call.
+    ensures keeping { keeping (half ∷ []) calls_half
+        ≡ (0 ∷ 0 ∷ 0 ∷ []) ∷ (0 ∷ 1 ∷ 0 ∷ []) ∷ (0 ∷ 2 ∷ 0 ∷ []) ∷ (1 ∷ []) ∷ (2 ∷ []) ∷ [] }
     // A call in an `if` counts where its arm is taken alone, and keeps its frame from cycle to cycle.
     ensures in_an_if { heard sevens (count ∷ []) calls_only_first ≡ each (whole 1) ∷ each (whole 0) ∷ [] }
 {}

@@ -4,8 +4,8 @@
 //! each place, in any world and over the meaning of one statement (cs_meaning); specs/Stands how a note of the expanded
 //! text stands to it; specs/Lives what a note is from its beginning on, and `MeansFrames`, that the one means the
 //! other; specs/Numbered the typed form of statements by a number for each local name, and specs/Typed that this is
-//! what typing gives; specs/Renumbered worlds with other numbers for what notes share; specs/Untouched which frames
-//! statements leave alone; specs/Examples small instruments.
+//! what typing gives; specs/Renumbered worlds with other numbers for what notes share; specs/Examples small
+//! instruments.
 //!
 //! Its one contract: `expansion_means_calls`, which cs_compile takes up to what texts mean (`pieces_mean_their_calls`),
 //! and `expansions_can_be_lowered`, on which the compiling of texts rests. How names are made fresh and how frames are

@@ -6,7 +6,8 @@ use Rattle.cs_ir.specs.declared.op.Act.TheVariants as act
 use Rattle.cs_ir.specs.declared.op.Op.{Op}
 use Rattle.cs_ir.specs.declared.register.Reg.{Reg}
 use Rattle.cs_meaning.specs.Core.{Block, core}
-use Rattle.cs_code.specs.inner.Kept.{Place, past, past_parts, past_block}
+use Rattle.cs_code.specs.declared.frame.Progress.{Progress}
+use Rattle.cs_code.specs.inner.Kept.{past, past_parts, past_block}
 use Rattle.cs_typed.specs.TypedTree as typed
 use Rattle.cs_typed.specs.TypedTree.{Expression}
 use Rattle.cs_typed.specs.declared.tree.TypedArm.{TypedArm, out-TypedArm}
@@ -69,22 +70,23 @@ condition_of a = typed.expression (out-TypedArm a).cond
 abbrev pub body_of : Spaces → TypedArm → Block
 body_of spaces a = core spaces (typed.block (out-TypedArm a).body.items)
 
-abbrev pub past_arm : Spaces → Place → TypedArm → Place
+abbrev pub past_arm : Spaces → Progress → TypedArm → Progress
 past_arm spaces p a = past_block (past_parts (past p.part (condition_of a)) p) (body_of spaces a)
 
-abbrev pub past_list : Spaces → Place → List TypedArm → Place
+abbrev pub past_list : Spaces → Progress → List TypedArm → Progress
 past_list spaces p [] = p
 past_list spaces p (a ∷ rest) = past_list spaces (past_arm spaces p a) rest
 
 -- the codes of an arm at a place, and of arms one after another
-abbrev pub branch_of : Pass → Frame → Spaces → ℕ → Place → TypedArm → Branch
+abbrev pub branch_of : Pass → Frame → Spaces → ℕ → Progress → TypedArm → Branch
 branch_of way f spaces place p a = let c = condition_of a in record {
   cond = cond_code way f p.part c;
   q = cond_reg way f p.part c;
-  body = pass_block_code way f (place + length (cond_code way f p.part c) + 1) (past_parts (past p.part c) p) (body_of spaces a);
+  body = pass_block_code way f (place + length (cond_code way f p.part c) + 1) (past_parts (past p.part c) p)
+      (body_of spaces a);
 }
 
-abbrev pub branches : Pass → Frame → Spaces → ℕ → Place → List TypedArm → List Branch
+abbrev pub branches : Pass → Frame → Spaces → ℕ → Progress → List TypedArm → List Branch
 branches way f spaces place p [] = []
 branches way f spaces place p (a ∷ rest) = let b = branch_of way f spaces place p a in
     b ∷ branches way f spaces (past_branch place b) (past_arm spaces p a) rest

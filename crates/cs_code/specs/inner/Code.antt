@@ -1,5 +1,5 @@
 -- The code of expressions and statements.
-use Rattle.std.specs.Prelude.{ℕ, Bool, true, false, ◌+◌, ◌++◌, List, [], ◌∷◌, length, Option, Some, None, if◌then◌else◌}
+use Rattle.std.specs.Prelude.{ℕ, ◌+◌, ◌++◌, List, [], ◌∷◌, length, Option, Some, None, if◌then◌else◌}
 use Rattle.cs_base.specs.Rates.{same_rate}
 use Rattle.cs_base.specs.declared.resource.Rate.{Rate}
 use Rattle.cs_base.specs.declared.resource.Rate.TheVariants as rate
@@ -10,9 +10,12 @@ use Rattle.cs_ir.specs.declared.op.Act.TheVariants as act
 use Rattle.cs_ir.specs.declared.op.Op.{Op}
 use Rattle.cs_ir.specs.declared.op.Reach.{Reach}
 use Rattle.cs_ir.specs.declared.register.Reg.{Reg}
-use Rattle.cs_meaning.specs.Core.{Stmt, Block, Arms, set, unit, zak, store, out, out_at, ask, turnoff, nothing, choose, no_stmt, andthen, otherwise, arm}
+use Rattle.cs_meaning.specs.Core.{Stmt, Block, Arms, set, unit, zak, store, out, out_at, ask, turnoff, nothing, choose}
+use Rattle.cs_meaning.specs.Core.{no_stmt, andthen, otherwise, arm}
 use Rattle.cs_meaning.specs.Notes.{reg}
-use Rattle.cs_code.specs.inner.Kept.{past, past_parts, past_stmt, past_block, Place}
+use Rattle.cs_meaning.specs.When.{When, beginning, cycle}
+use Rattle.cs_code.specs.declared.frame.Progress.{Progress}
+use Rattle.cs_code.specs.inner.Kept.{past, past_parts, past_stmt, past_block}
 use Rattle.cs_typed.specs.TypedTree.{Expression, number, var, field, head, neg, pair, pick, apply}
 use Rattle.cs_typed.specs.WellRated.{node_rate}
 use Rattle.cs_typed.specs.declared.tree.Var.{Var as Variable}
@@ -35,42 +38,44 @@ look_code (Global g) x = op_of (act.Load g) x [] ∷ []
 
 -- The value of an expression that stands nowhere yet, into a register: its operands first, each where it stands or into
 -- the temporary of its rate from d on, and then its own op. The register may be temporary d itself: it is written last.
-abbrev pub own : Frame → Bool → ℕ → Expression → Reg → ℕ → List Op
-own f whole at (number r n) x d = op_of (act.Const n) x [] ∷ []
-own f whole at (var r v) x d = look_code v x
-own f whole at (field r k) x d = op_of (act.Field k) x [] ∷ []
-own f whole at (head r h) x d = op_of (act.Head h) x [] ∷ []
-own f whole at (neg r a) x d =
-    unless_there (direct f whole at a) (own f whole at a (temp f (node_rate a) d) d)
-    ++ (op_of act.Neg x (spot f whole at a d ∷ []) ∷ [])
-own f whole at (pair r b y z) x d =
-    unless_there (direct f whole at y) (own f whole at y (temp f (node_rate y) d) d)
-    ++ (unless_there (direct f whole (past at y) z) (own f whole (past at y) z (temp f (node_rate z) (d + 1)) (d + 1))
-    ++ (op_of (act.Pair b) x (spot f whole at y d ∷ spot f whole (past at y) z (d + 1) ∷ []) ∷ []))
-own f whole at (pick r c y z) x d =
-    unless_there (direct f whole at c) (own f whole at c (temp f (node_rate c) d) d)
-    ++ (unless_there (direct f whole (past at c) y) (own f whole (past at c) y (temp f (node_rate y) (d + 1)) (d + 1))
-    ++ (unless_there (direct f whole (past (past at c) y) z) (own f whole (past (past at c) y) z (temp f (node_rate z) (d + 1 + 1)) (d + 1 + 1))
-    ++ (op_of act.Pick x (spot f whole at c d ∷ spot f whole (past at c) y (d + 1) ∷ spot f whole (past (past at c) y) z (d + 1 + 1) ∷ []) ∷ [])))
-own f whole at (apply r g a) x d =
-    unless_there (direct f whole at a) (own f whole at a (temp f (node_rate a) d) d)
-    ++ (op_of (act.Call g) x (spot f whole at a d ∷ []) ∷ [])
+abbrev pub own : Frame → When → ℕ → Expression → Reg → ℕ → List Op
+own f when at (number r n) x d = op_of (act.Const n) x [] ∷ []
+own f when at (var r v) x d = look_code v x
+own f when at (field r k) x d = op_of (act.Field k) x [] ∷ []
+own f when at (head r h) x d = op_of (act.Head h) x [] ∷ []
+own f when at (neg r a) x d =
+    unless_there (direct f when at a) (own f when at a (temp f (node_rate a) d) d)
+    ++ (op_of act.Neg x (spot f when at a d ∷ []) ∷ [])
+own f when at (pair r b y z) x d =
+    unless_there (direct f when at y) (own f when at y (temp f (node_rate y) d) d)
+    ++ (unless_there (direct f when (past at y) z) (own f when (past at y) z (temp f (node_rate z) (d + 1)) (d + 1))
+    ++ (op_of (act.Pair b) x (spot f when at y d ∷ spot f when (past at y) z (d + 1) ∷ []) ∷ []))
+own f when at (pick r c y z) x d =
+    unless_there (direct f when at c) (own f when at c (temp f (node_rate c) d) d)
+    ++ (unless_there (direct f when (past at c) y) (own f when (past at c) y (temp f (node_rate y) (d + 1)) (d + 1))
+    ++ (unless_there (direct f when (past (past at c) y) z)
+    (own f when (past (past at c) y) z (temp f (node_rate z) (d + 1 + 1)) (d + 1 + 1))
+    ++ (op_of act.Pick x (spot f when at c d ∷ spot f when (past at c) y (d + 1)
+    ∷ spot f when (past (past at c) y) z (d + 1 + 1) ∷ []) ∷ [])))
+own f when at (apply r g a) x d =
+    unless_there (direct f when at a) (own f when at a (temp f (node_rate a) d) d)
+    ++ (op_of (act.Call g) x (spot f when at a d ∷ []) ∷ [])
 
 -- the value of an expression into a register, by a copy where it stands already; and what makes it stand somewhere
-abbrev pub code : Frame → Bool → ℕ → Expression → Reg → ℕ → List Op
-code f whole at e x d = copied (direct f whole at e) x (own f whole at e x d)
+abbrev pub code : Frame → When → ℕ → Expression → Reg → ℕ → List Op
+code f when at e x d = copied (direct f when at e) x (own f when at e x d)
 
-abbrev pub operand_code : Frame → Bool → ℕ → Expression → ℕ → List Op
-operand_code f whole at e d =
-    unless_there (direct f whole at e) (own f whole at e (temp f (node_rate e) d) d)
+abbrev pub operand_code : Frame → When → ℕ → Expression → ℕ → List Op
+operand_code f when at e d =
+    unless_there (direct f when at e) (own f when at e (temp f (node_rate e) d) d)
 
-abbrev pub operands_code : Frame → Bool → ℕ → List Expression → ℕ → List Op
-operands_code f whole at [] d = []
-operands_code f whole at (e ∷ es) d = operand_code f whole at e d ++ operands_code f whole (past at e) es (d + 1)
+abbrev pub operands_code : Frame → When → ℕ → List Expression → ℕ → List Op
+operands_code f when at [] d = []
+operands_code f when at (e ∷ es) d = operand_code f when at e d ++ operands_code f when (past at e) es (d + 1)
 
 -- the outermost parts that don't change, each into its register
 abbrev pub kept_code : Frame → ℕ → Expression → List Op
-kept_code f at e = code f true 0 e (kept_reg f at) 0
+kept_code f at e = code f beginning 0 e (kept_reg f at) 0
 
 abbrev pub keep_code : Frame → ℕ → Expression → List Op
 keep_code f at (number r n) = if_init r (kept_code f at (number r n)) []
@@ -90,12 +95,12 @@ keep_all_code f at [] = []
 keep_all_code f at (e ∷ es) = keep_code f at e ++ keep_all_code f (past at e) es
 
 -- A variable takes a value: a local one of the same rate by the value's own last op, any other by a copy or a store.
-abbrev pub set_code : Frame → Bool → ℕ → Variable → Expression → List Op
-set_code f whole at (Local q n) e =
-    if same_rate (node_rate e) q then code f whole at e (reg q n) 0
-    else operand_code f whole at e 0 ++ (op_of act.Copy (reg q n) (spot f whole at e 0 ∷ []) ∷ [])
-set_code f whole at (Global g) e =
-    operand_code f whole at e 0 ++ (op_of (act.Save g) (spot f whole at e 0) (spot f whole at e 0 ∷ []) ∷ [])
+abbrev pub set_code : Frame → When → ℕ → Variable → Expression → List Op
+set_code f when at (Local q n) e =
+    if same_rate (node_rate e) q then code f when at e (reg q n) 0
+    else operand_code f when at e 0 ++ (op_of act.Copy (reg q n) (spot f when at e 0 ∷ []) ∷ [])
+set_code f when at (Global g) e =
+    operand_code f when at e 0 ++ (op_of (act.Save g) (spot f when at e 0) (spot f when at e 0 ∷ []) ∷ [])
 
 -- where a unit's result goes, and what is left to do then
 abbrev pub target : Frame → Rate → List Variable → Reg
@@ -108,34 +113,34 @@ given_code f r (Local q n ∷ vs) = if same_rate q r then [] else op_of act.Copy
 given_code f r (Global g ∷ vs) = op_of (act.Save g) (temp f r 0) (temp f r 0 ∷ []) ∷ []
 
 -- an op on values, after their code; and then what is left to do with its result
-abbrev pub on_code : Frame → Bool → ℕ → Act → Reg → List Expression → List Op
-on_code f whole at a into es = operands_code f whole at es 0 ++ (op_of a into (spots f whole at es 0) ∷ [])
+abbrev pub on_code : Frame → When → ℕ → Act → Reg → List Expression → List Op
+on_code f when at a into es = operands_code f when at es 0 ++ (op_of a into (spots f when at es 0) ∷ [])
 
-abbrev pub run_code : Frame → Bool → ℕ → Act → Rate → List Variable → List Expression → List Op
-run_code f whole at a r vs xs =
-    operands_code f whole at xs 0 ++ (op_of a (target f r vs) (spots f whole at xs 0) ∷ given_code f r vs)
+abbrev pub run_code : Frame → When → ℕ → Act → Rate → List Variable → List Expression → List Op
+run_code f when at a r vs xs =
+    operands_code f when at xs 0 ++ (op_of a (target f r vs) (spots f when at xs 0) ∷ given_code f r vs)
 
 -- a unit is started, and runs
 abbrev pub start_code : Frame → Rate → Opcode → ℕ → List Expression → List Op
-start_code f r opcode u is = on_code f true 0 (act.Start opcode u) (reg r 0) is
+start_code f r opcode u is = on_code f beginning 0 (act.Start opcode u) (reg r 0) is
 
-abbrev pub unit_code : Frame → Bool → ℕ → Rate → List Variable → Opcode → ℕ → Reach → List Expression → List Op
-unit_code f whole at r vs opcode u reach xs = run_code f whole at (act.Unit opcode u reach) r vs xs
+abbrev pub unit_code : Frame → When → ℕ → Rate → List Variable → Opcode → ℕ → Reach → List Expression → List Op
+unit_code f when at r vs opcode u reach xs = run_code f when at (act.Unit opcode u reach) r vs xs
 
 -- zak places are read or written
-abbrev pub zak_code : Frame → Bool → ℕ → Rate → List Variable → Opcode → Reach → List Expression → List Op
-zak_code f whole at r vs opcode reach xs = run_code f whole at (act.Zak opcode reach) r vs xs
+abbrev pub zak_code : Frame → When → ℕ → Rate → List Variable → Opcode → Reach → List Expression → List Op
+zak_code f when at r vs opcode reach xs = run_code f when at (act.Zak opcode reach) r vs xs
 
 -- a store looks for its table, and stores
 abbrev pub seek_code : Frame → List Expression → List Op
-seek_code f is = on_code f true 0 act.Seek (reg rate.Init 0) is
+seek_code f is = on_code f beginning 0 act.Seek (reg rate.Init 0) is
 
-abbrev pub store_code : Frame → Bool → ℕ → Rate → Opcode → Reach → List Expression → List Op
-store_code f whole at r opcode reach es = on_code f whole at (act.Store opcode reach) (reg r 0) es
+abbrev pub store_code : Frame → When → ℕ → Rate → Reach → List Expression → List Op
+store_code f when at r reach es = on_code f when at (act.Store reach) (reg r 0) es
 
 -- a note is asked for
 abbrev pub ask_code : Frame → List Expression → List Op
-ask_code f es = on_code f true 0 act.Ask (reg rate.Init 0) es
+ask_code f es = on_code f beginning 0 act.Ask (reg rate.Init 0) es
 
 -- values go out: to the channels from one on, and in pairs of a channel's number and a value
 abbrev pub out_ops : ℕ → List Reg → List Op
@@ -146,7 +151,8 @@ abbrev pub out_at_ops : List Reg → List Op
 out_at_ops (p ∷ q ∷ qs) = op_of act.OutAt q (p ∷ q ∷ []) ∷ out_at_ops qs
 out_at_ops _ = []
 
--- An arm at a place: its condition, a jump over the body where it doesn't hold, the body, a jump over the rest, the rest.
+-- An arm at a place: its condition, a jump over the body where it doesn't hold, the body, a jump over the rest, the
+-- rest.
 abbrev pub arm_code : ℕ → List Op → Reg → List Op → List Op → List Op
 arm_code place cond q body rest =
     cond ++ (op_of (act.Unless (place + length cond + 1 + length body + 1)) q (q ∷ [])
@@ -154,14 +160,15 @@ arm_code place cond q body rest =
 
 -- the initialisation of statements whose code begins at a place
 abbrev mutual
-  pub init_code : Frame → ℕ → Place → Stmt → List Op
-  init_code f place p (set r v e) = if_init r (set_code f true 0 v e) (keep_code f p.part e)
+  pub init_code : Frame → ℕ → Progress → Stmt → List Op
+  init_code f place p (set r v e) = if_init r (set_code f beginning 0 v e) (keep_code f p.part e)
   init_code f place p (unit r vs opcode reach xs is) =
-      if_init r (start_code f r opcode p.unit is ++ unit_code f true 0 r vs opcode p.unit reach xs)
+      if_init r (start_code f r opcode p.unit is ++ unit_code f beginning 0 r vs opcode p.unit reach xs)
       (keep_all_code f p.part xs ++ start_code f r opcode p.unit is)
-  init_code f place p (zak r vs opcode reach xs) = if_init r (zak_code f true 0 r vs opcode reach xs) (keep_all_code f p.part xs)
-  init_code f place p (store r opcode reach es is) =
-      if_init r (seek_code f is ++ store_code f true 0 r opcode reach es) (keep_all_code f p.part es ++ seek_code f is)
+  init_code f place p (zak r vs opcode reach xs) =
+      if_init r (zak_code f beginning 0 r vs opcode reach xs) (keep_all_code f p.part xs)
+  init_code f place p (store r reach es is) =
+      if_init r (seek_code f is ++ store_code f beginning 0 r reach es) (keep_all_code f p.part es ++ seek_code f is)
   init_code f place p (out r es) = keep_all_code f p.part es
   init_code f place p (out_at r es) = keep_all_code f p.part es
   init_code f place p (ask es) = ask_code f es
@@ -169,12 +176,12 @@ abbrev mutual
   init_code f place p nothing = []
   init_code f place p (choose r arms) = if_init r (first_code f place p arms) (all_code f place p arms)
 
-  pub init_block_code : Frame → ℕ → Place → Block → List Op
+  pub init_block_code : Frame → ℕ → Progress → Block → List Op
   init_block_code f place p no_stmt = []
   init_block_code f place p (andthen s b) =
       init_code f place p s ++ init_block_code f (place + length (init_code f place p s)) (past_stmt p s) b
 
-  pub first_code : Frame → ℕ → Place → Arms → List Op
+  pub first_code : Frame → ℕ → Progress → Arms → List Op
   first_code f place p (otherwise b) = init_block_code f place p b
   first_code f place p (arm c b rest) =
       let cond = keep_code f p.part c in let q = past_parts (past p.part c) p in
@@ -182,7 +189,7 @@ abbrev mutual
       arm_code place cond (kept_reg f p.part) body
       (first_code f (place + length cond + 1 + length body + 1) (past_block q b) rest)
 
-  pub all_code : Frame → ℕ → Place → Arms → List Op
+  pub all_code : Frame → ℕ → Progress → Arms → List Op
   all_code f place p (otherwise b) = init_block_code f place p b
   all_code f place p (arm c b rest) =
       let cond = keep_code f p.part c in let q = past_parts (past p.part c) p in
@@ -191,27 +198,28 @@ abbrev mutual
 
 -- the performance of statements whose code begins at a place
 abbrev mutual
-  pub perf_code : Frame → ℕ → Place → Stmt → List Op
-  perf_code f place p (set r v e) = if_init r [] (set_code f false p.part v e)
-  perf_code f place p (unit r vs opcode reach xs is) = if_init r [] (unit_code f false p.part r vs opcode p.unit reach xs)
-  perf_code f place p (zak r vs opcode reach xs) = if_init r [] (zak_code f false p.part r vs opcode reach xs)
-  perf_code f place p (store r opcode reach es is) = if_init r [] (store_code f false p.part r opcode reach es)
-  perf_code f place p (out r es) = operands_code f false p.part es 0 ++ out_ops 0 (spots f false p.part es 0)
-  perf_code f place p (out_at r es) = operands_code f false p.part es 0 ++ out_at_ops (spots f false p.part es 0)
+  pub perf_code : Frame → ℕ → Progress → Stmt → List Op
+  perf_code f place p (set r v e) = if_init r [] (set_code f cycle p.part v e)
+  perf_code f place p (unit r vs opcode reach xs is) =
+      if_init r [] (unit_code f cycle p.part r vs opcode p.unit reach xs)
+  perf_code f place p (zak r vs opcode reach xs) = if_init r [] (zak_code f cycle p.part r vs opcode reach xs)
+  perf_code f place p (store r reach es is) = if_init r [] (store_code f cycle p.part r reach es)
+  perf_code f place p (out r es) = operands_code f cycle p.part es 0 ++ out_ops 0 (spots f cycle p.part es 0)
+  perf_code f place p (out_at r es) = operands_code f cycle p.part es 0 ++ out_at_ops (spots f cycle p.part es 0)
   perf_code f place p (ask es) = []
   perf_code f place p (turnoff r) = op_of act.Turnoff (reg rate.Init 0) [] ∷ []
   perf_code f place p nothing = []
   perf_code f place p (choose r arms) = perf_arms_code f place p arms
 
-  pub perf_block_code : Frame → ℕ → Place → Block → List Op
+  pub perf_block_code : Frame → ℕ → Progress → Block → List Op
   perf_block_code f place p no_stmt = []
   perf_block_code f place p (andthen s b) =
       perf_code f place p s ++ perf_block_code f (place + length (perf_code f place p s)) (past_stmt p s) b
 
-  pub perf_arms_code : Frame → ℕ → Place → Arms → List Op
+  pub perf_arms_code : Frame → ℕ → Progress → Arms → List Op
   perf_arms_code f place p (otherwise b) = perf_block_code f place p b
   perf_arms_code f place p (arm c b rest) =
-      let cond = operand_code f false p.part c 0 in let q = past_parts (past p.part c) p in
+      let cond = operand_code f cycle p.part c 0 in let q = past_parts (past p.part c) p in
       let body = perf_block_code f (place + length cond + 1) q b in
-      arm_code place cond (spot f false p.part c 0) body
+      arm_code place cond (spot f cycle p.part c 0) body
       (perf_arms_code f (place + length cond + 1 + length body + 1) (past_block q b) rest)

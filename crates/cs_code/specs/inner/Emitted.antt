@@ -1,6 +1,8 @@
 -- What the functions that make code work on, in the words of the definitions.
-use Rattle.std.specs.Prelude.{ℕ, Bool, true, false, not, zero, suc, ◌+◌, ◌-◌, ◌&&◌, ◌++◌, List, [], ◌∷◌, length, min, nat_lt, nat_le, Option, Some, None, map, if◌then◌else◌, pos}
+use Rattle.std.specs.Prelude.{◌≡◌, ℕ, Bool, false, not, zero, suc, ◌+◌, ◌-◌, ◌&&◌, ◌++◌, List, [], ◌∷◌, length, min}
+use Rattle.std.specs.Prelude.{nat_lt, nat_le, Option, Some, None, map, if◌then◌else◌, pos}
 use Rattle.std.specs.Borrow.{Bor}
+use Rattle.std.specs.Option.{option_map}
 use Rattle.cs_base.specs.Rates.{at_rate, is_init}
 use Rattle.cs_base.specs.declared.resource.Rate.{Rate}
 use Rattle.cs_base.specs.declared.resource.Rate.TheVariants as rate
@@ -10,8 +12,10 @@ use Rattle.cs_ir.specs.declared.op.Op.{Op}
 use Rattle.cs_ir.specs.declared.op.Reach.{Reach}
 use Rattle.cs_ir.specs.declared.op.Reach.TheVariants as reach
 use Rattle.cs_ir.specs.declared.register.Reg.{Reg}
-use Rattle.cs_meaning.specs.Core.{plus, core_call, whole_part, values_of, unit_call, store_call, zak_call, Stmt, Block, Arms, set, out, out_at, ask, turnoff, nothing}
-use Rattle.cs_code.specs.inner.Kept.{past, past_parts, Place}
+use Rattle.cs_meaning.specs.Core.{plus, core_call, whole_part, values_of, unit_call, store_call, zak_call, Stmt, Block}
+use Rattle.cs_meaning.specs.Core.{Arms, set, out, out_at, ask, turnoff, nothing}
+use Rattle.cs_meaning.specs.When.{When, beginning, cycle}
+use Rattle.cs_code.specs.inner.Kept.{past, past_parts}
 use Rattle.cs_typed.specs.TypedTree as typed
 use Rattle.cs_typed.specs.TypedTree.{Expression, number, var, neg, pair, pick, apply}
 use Rattle.cs_typed.specs.declared.tree.TypedExpr.{TypedExpr}
@@ -25,22 +29,20 @@ use Rattle.cs_code.specs.declared.call.Putting.TheVariants as putting
 use Rattle.cs_code.specs.declared.frame.Bases.{Bases}
 use Rattle.cs_code.specs.declared.frame.Pass.{Pass}
 use Rattle.cs_code.specs.declared.frame.Pass.TheVariants as pass
-use Rattle.cs_code.specs.declared.frame.Step.{Step}
-use Rattle.cs_code.specs.declared.reach.Known.{Known}
-use Rattle.cs_code.specs.declared.reach.Known.TheVariants as known
+use Rattle.cs_code.specs.declared.frame.Progress.{Progress}
+use Rattle.cs_code.specs.declared.reach.KnownArgument.{KnownArgument}
+use Rattle.cs_code.specs.declared.reach.KnownArgument.TheVariants as known
 use Rattle.cs_code.specs.declared.simple.Assignment.{Assignment}
 use Rattle.cs_code.specs.declared.simple.Sending.{Sending}
 use Rattle.cs_code.specs.declared.simple.Sending.TheVariants as sending
 use Rattle.cs_code.specs.declared.value.Value.{Value}
 use Rattle.cs_code.specs.declared.value.Value.TheVariants as value
-use Rattle.cs_code.specs.inner.Code.{keep_code, operand_code, init_code, init_block_code, first_code, perf_code, perf_block_code, perf_arms_code, out_ops, out_at_ops}
+use Rattle.cs_code.specs.inner.Code.{keep_code, operand_code, init_code, init_block_code, first_code, perf_code}
+use Rattle.cs_code.specs.inner.Code.{perf_block_code, perf_arms_code, out_ops, out_at_ops}
 use Rattle.cs_code.specs.inner.Frames.{Frame, kept_reg, spot}
 
 abbrev pub frame_of : Bases → Frame
 frame_of b = record { kept = b.kept; base = at_rate b.temporaries }
-
-abbrev pub place_of : Step → Place
-place_of p = record { part = p.part; unit = p.unit }
 
 -- what a variable takes
 abbrev pub value_of : Value → Expression
@@ -88,66 +90,66 @@ taken b (typed.text v) = []
 abbrev pub expressions_of : List (Bor TypedExpr) → List Expression
 expressions_of es = map (λ e. typed.expression e.now) es
 
--- the initialisation works values out as a whole; the performance takes the parts that don't change as they are kept
-abbrev pub is_whole : Pass → Bool
-is_whole pass.Initialisation = true
-is_whole pass.Performance = false
+-- when a code runs
+abbrev pub when_of : Pass → When
+when_of pass.Initialisation = beginning
+when_of pass.Performance = cycle
 
 -- what stands in both passes, by the pass
-abbrev pub pass_code : Pass → Frame → ℕ → Place → Stmt → List Op
+abbrev pub pass_code : Pass → Frame → ℕ → Progress → Stmt → List Op
 pass_code pass.Initialisation f place p s = init_code f place p s
 pass_code pass.Performance f place p s = perf_code f place p s
 
-abbrev pub pass_block_code : Pass → Frame → ℕ → Place → Block → List Op
+abbrev pub pass_block_code : Pass → Frame → ℕ → Progress → Block → List Op
 pass_block_code pass.Initialisation f place p b = init_block_code f place p b
 pass_block_code pass.Performance f place p b = perf_block_code f place p b
 
 -- the code of an `if` of which one arm is done, and of the condition of an arm
-abbrev pub chosen_code : Pass → Frame → ℕ → Place → Arms → List Op
+abbrev pub chosen_code : Pass → Frame → ℕ → Progress → Arms → List Op
 chosen_code pass.Initialisation f place p arms = first_code f place p arms
 chosen_code pass.Performance f place p arms = perf_arms_code f place p arms
 
 abbrev pub cond_code : Pass → Frame → ℕ → Expression → List Op
 cond_code pass.Initialisation f at c = keep_code f at c
-cond_code pass.Performance f at c = operand_code f false at c 0
+cond_code pass.Performance f at c = operand_code f cycle at c 0
 
 abbrev pub cond_reg : Pass → Frame → ℕ → Expression → Reg
 cond_reg pass.Initialisation f at c = kept_reg f at
-cond_reg pass.Performance f at c = spot f false at c 0
+cond_reg pass.Performance f at c = spot f cycle at c 0
 
 -- an arm that is initialised whatever its condition is
-abbrev pub each_arm_code : Frame → ℕ → Place → Expression → Block → List Op
+abbrev pub each_arm_code : Frame → ℕ → Progress → Expression → Block → List Op
 each_arm_code f place p c b =
     keep_code f p.part c
     ++ init_block_code f (place + length (keep_code f p.part c)) (past_parts (past p.part c) p) b
 
 -- what is known of one of some expressions, counted from 0: of a literal the whole number below it
-abbrev pub known_of : Expression → Known
+abbrev pub known_of : Expression → KnownArgument
 known_of (number r v) = known.Literal (whole_part v)
 known_of _ = known.Other
 
-abbrev pub known_at : List Expression → ℕ → Known
+abbrev pub known_at : List Expression → ℕ → KnownArgument
 known_at [] k = known.Missing
 known_at (e ∷ es) zero = known_of e
 known_at (e ∷ es) (suc k) = known_at es k
 
 -- what may be touched by what is known
-abbrev pub table_known : Known → Reach
+abbrev pub table_known : KnownArgument → Reach
 table_known (known.Literal n) = reach.Span n n
 table_known _ = reach.Any
 
-abbrev pub place_known : ℕ → Known → Reach
+abbrev pub place_known : ℕ → KnownArgument → Reach
 place_known places (known.Literal n) = if nat_lt n places then reach.Span n n else reach.Nothing
 place_known places known.Other = reach.Any
 place_known places known.Missing = reach.Nothing
 
-abbrev pub span_known : ℕ → Known → Known → Reach
+abbrev pub span_known : ℕ → KnownArgument → KnownArgument → Reach
 span_known places k known.Missing = reach.Nothing
 span_known places (known.Literal n) (known.Literal m) =
     if nat_lt n places && nat_le n m then reach.Span n (min m (places - 1)) else reach.Nothing
 span_known places _ _ = reach.Any
 
-abbrev pub zak_known : Spaces → Shape → Known → Known → Reach
+abbrev pub zak_known : Spaces → Shape → KnownArgument → KnownArgument → Reach
 zak_known spaces (shape.ZakGet s) x y = place_known (places_of spaces s) x
 zak_known spaces (shape.ZakPut s) x y = place_known (places_of spaces s) y
 zak_known spaces shape.ZakMix x y = place_known spaces.audio y
@@ -168,9 +170,15 @@ abbrev pub assigned : Shape → Rate → List Variable → List typed.Argument �
 assigned shape.Init r (v ∷ vs) (typed.value e ∷ args) = Some (record { done = rate.Init; to = v; value = e })
 assigned shape.ChannelGet r (v ∷ vs) (typed.text c ∷ args) = Some (record { done = r; to = v; value = var r c })
 assigned shape.ChannelPut r vs (typed.value e ∷ typed.text c ∷ args) = Some (record { done = r; to = c; value = e })
-assigned shape.ChannelMix r vs (typed.value e ∷ typed.text c ∷ args) = Some (record { done = r; to = c; value = plus rate.Audio c e })
-assigned shape.ChannelClear r vs (typed.text c ∷ args) = Some (record { done = r; to = c; value = number rate.Init (pos 0) })
+assigned shape.ChannelMix r vs (typed.value e ∷ typed.text c ∷ args) =
+    Some (record { done = r; to = c; value = plus rate.Audio c e })
+assigned shape.ChannelClear r vs (typed.text c ∷ args) =
+    Some (record { done = r; to = c; value = number rate.Init (pos 0) })
 assigned _ r vs args = None
+
+-- what is found is the assignment that a call is short for by a shape, or that there is none
+abbrev pub IsAssignmentOf : Option Assignment → Shape → Call → Type 0
+IsAssignmentOf found sh k = option_map assignment_of found ≡ assigned sh k.rate k.results.now (arguments_of k)
 
 -- the shape of a call that puts a value into a channel
 abbrev pub put_shape : Putting → Shape

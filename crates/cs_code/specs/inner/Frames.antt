@@ -1,5 +1,5 @@
 -- Where a note's values stand among the registers.
-use Rattle.std.specs.Prelude.{ℕ, Bool, true, false, ◌+◌, List, [], ◌∷◌, Option, Some, None}
+use Rattle.std.specs.Prelude.{ℕ, ◌+◌, List, [], ◌∷◌, Option, Some, None}
 use Rattle.cs_base.specs.Rates.{at_rate}
 use Rattle.cs_base.specs.declared.per_rate.PerRate.{PerRate}
 use Rattle.cs_base.specs.declared.resource.Rate.{Rate}
@@ -10,6 +10,7 @@ use Rattle.cs_ir.specs.declared.op.Op.{Op}
 use Rattle.cs_ir.specs.declared.register.Reg.{Reg}
 use Rattle.cs_meaning.specs.Core.{Block}
 use Rattle.cs_meaning.specs.Notes.{reg}
+use Rattle.cs_meaning.specs.When.{When, beginning, cycle}
 use Rattle.cs_code.specs.inner.Kept.{start, past, past_block}
 use Rattle.cs_typed.specs.TypedTree.{Expression, var}
 use Rattle.cs_typed.specs.WellRated.{node_rate}
@@ -24,7 +25,8 @@ pub record Frame : Type 0 where
 abbrev pub parts_of : Block → ℕ
 parts_of b = (past_block start b).part
 
--- The frame of a block with these local variables: no register lies idle between them, its kept values and its temporaries.
+-- The frame of a block with these local variables: no register lies idle between them, its kept values and its
+-- temporaries.
 abbrev pub frame_for : PerRate ℕ → Block → Frame
 frame_for locals b = record { kept = locals.init; base = at_rate (record locals { init = locals.init + parts_of b }) }
 
@@ -43,21 +45,21 @@ local_of (var r (Local q n)) = Some (reg q n)
 local_of _ = None
 
 -- Where a value stands already: a kept one in its register, a local variable in its own.
-abbrev pub kept_or : Frame → Bool → Rate → ℕ → Option Reg → Option Reg
-kept_or f true r at own = own
-kept_or f false r at own = if_init r (Some (kept_reg f at)) own
+abbrev pub kept_or : Frame → When → Rate → ℕ → Option Reg → Option Reg
+kept_or f beginning r at own = own
+kept_or f cycle r at own = if_init r (Some (kept_reg f at)) own
 
-abbrev pub direct : Frame → Bool → ℕ → Expression → Option Reg
-direct f whole at e = kept_or f whole (node_rate e) at (local_of e)
+abbrev pub direct : Frame → When → ℕ → Expression → Option Reg
+direct f when at e = kept_or f when (node_rate e) at (local_of e)
 
 abbrev pub reg_or : Option Reg → Reg → Reg
 reg_or (Some q) r = q
 reg_or None r = r
 
 -- where a value stands once its operand code has run
-abbrev pub spot : Frame → Bool → ℕ → Expression → ℕ → Reg
-spot f whole at e d = reg_or (direct f whole at e) (temp f (node_rate e) d)
+abbrev pub spot : Frame → When → ℕ → Expression → ℕ → Reg
+spot f when at e d = reg_or (direct f when at e) (temp f (node_rate e) d)
 
-abbrev pub spots : Frame → Bool → ℕ → List Expression → ℕ → List Reg
-spots f whole at [] d = []
-spots f whole at (e ∷ es) d = spot f whole at e d ∷ spots f whole (past at e) es (d + 1)
+abbrev pub spots : Frame → When → ℕ → List Expression → ℕ → List Reg
+spots f when at [] d = []
+spots f when at (e ∷ es) d = spot f when at e d ∷ spots f when (past at e) es (d + 1)

@@ -5,13 +5,9 @@ use Rattle.cs_meaning.specs.Core.{Stmt, Block, Arms, set, unit, zak, store, out,
 use Rattle.cs_meaning.specs.Core.{no_stmt, andthen, otherwise, arm}
 use Rattle.cs_meaning.specs.Notes.{Path}
 use Rattle.cs_typed.specs.TypedTree.{Expression, number, var, field, head, neg, pair, pick, apply}
+use Rattle.cs_code.specs.declared.frame.Progress.{Progress}
 
--- How many values were kept and units met in the text before a place.
-pub record Place : Type 0 where
-  pub part : ℕ
-  pub unit : ℕ
-
-abbrev pub start : Place
+abbrev pub start : Progress
 start = record { part = 0; unit = 0 }
 
 -- Of an expression that changes the outermost parts that don't are kept, in the order of the text: the number after
@@ -30,16 +26,16 @@ abbrev pub past_all : ℕ → List Expression → ℕ
 past_all at [] = at
 past_all at (e ∷ es) = past_all (past at e) es
 
-abbrev pub past_parts : ℕ → Place → Place
+abbrev pub past_parts : ℕ → Progress → Progress
 past_parts n p = record { part = n; unit = p.unit }
 
 abbrev mutual
-  pub past_stmt : Place → Stmt → Place
+  pub past_stmt : Progress → Stmt → Progress
   past_stmt p (set r v e) = past_parts (if_init r p.part (past p.part e)) p
   past_stmt p (unit r vs opcode reach xs is) =
       record { part = if_init r p.part (past_all p.part xs); unit = p.unit + 1 }
   past_stmt p (zak r vs opcode reach xs) = past_parts (if_init r p.part (past_all p.part xs)) p
-  past_stmt p (store r opcode reach es is) = past_parts (if_init r p.part (past_all p.part es)) p
+  past_stmt p (store r reach es is) = past_parts (if_init r p.part (past_all p.part es)) p
   past_stmt p (out r es) = past_parts (past_all p.part es) p
   past_stmt p (out_at r es) = past_parts (past_all p.part es) p
   past_stmt p (ask es) = p
@@ -47,11 +43,11 @@ abbrev mutual
   past_stmt p nothing = p
   past_stmt p (choose r arms) = past_arms p arms
 
-  pub past_block : Place → Block → Place
+  pub past_block : Progress → Block → Progress
   past_block p no_stmt = p
   past_block p (andthen s b) = past_block (past_stmt p s) b
 
-  pub past_arms : Place → Arms → Place
+  pub past_arms : Progress → Arms → Progress
   past_arms p (otherwise b) = past_block p b
   past_arms p (arm c b rest) = past_arms (past_block (past_parts (past p.part c) p) b) rest
 
@@ -88,11 +84,11 @@ all_numbers at [] = nowhere
 all_numbers at (e ∷ es) = parts (numbers at e) (all_numbers (past at e) es)
 
 abbrev mutual
-  pub stmt_numbers : Place → Stmt → Path → Option ℕ
+  pub stmt_numbers : Progress → Stmt → Path → Option ℕ
   stmt_numbers p (set r v e) = if_init r nowhere (parts (numbers p.part e) nowhere)
   stmt_numbers p (unit r vs opcode reach xs is) = if_init r nowhere (all_numbers p.part xs)
   stmt_numbers p (zak r vs opcode reach xs) = if_init r nowhere (all_numbers p.part xs)
-  stmt_numbers p (store r opcode reach es is) = if_init r nowhere (all_numbers p.part es)
+  stmt_numbers p (store r reach es is) = if_init r nowhere (all_numbers p.part es)
   stmt_numbers p (out r es) = all_numbers p.part es
   stmt_numbers p (out_at r es) = all_numbers p.part es
   stmt_numbers p (ask es) = nowhere
@@ -100,11 +96,11 @@ abbrev mutual
   stmt_numbers p nothing = nowhere
   stmt_numbers p (choose r arms) = arms_numbers p arms
 
-  pub block_numbers : Place → Block → Path → Option ℕ
+  pub block_numbers : Progress → Block → Path → Option ℕ
   block_numbers p no_stmt = nowhere
   block_numbers p (andthen s b) = parts (stmt_numbers p s) (block_numbers (past_stmt p s) b)
 
-  pub arms_numbers : Place → Arms → Path → Option ℕ
+  pub arms_numbers : Progress → Arms → Path → Option ℕ
   arms_numbers p (otherwise b) = parts (block_numbers p b) nowhere
   arms_numbers p (arm c b rest) = let q = past_parts (past p.part c) p in
       parts (parts (numbers p.part c) (parts (block_numbers q b) nowhere)) (arms_numbers (past_block q b) rest)

@@ -9,6 +9,7 @@ loop-arg-preserved c =
     let i = c.loop-arg.arg-index in
     let x = c.arg-item.result in
     let args = c.args.args.now in
-    values_more (map argument (drop i args)) (argument x) (map argument (drop (i + 1) args)) (expressions_of c.loop-arg.values.items)
+    values_more (map argument (drop i args)) (argument x) (map argument (drop (i + 1) args))
+    (expressions_of c.loop-arg.values.items)
     (expressions_of c.add_value.new.values.items) _ (ap (map argument) (dropped args i x (omega arith) c.arg-item.is))
     c.in_ok-add_value.ensures c.loop-arg.invariant

@@ -12,9 +12,11 @@ loop-e-preserved c =
     let x = c.e-item.result in
     let es : List Expression = expressions_of (drop i c.args.values.now) in
     let rest : List Expression = expressions_of (drop (i + 1) c.args.values.now) in
-    let split : es ≡ expression x.now ∷ rest = ap expressions_of (dropped c.args.values.now i x (omega arith) c.e-item.is) in
+    let split : es ≡ expression x.now ∷ rest =
+    ap expressions_of (dropped c.args.values.now i x (omega arith) c.e-item.is) in
     let made = c.in_ok-next.ensures in (
-      keep_more (frame_of c.args.context.bases) c.loop-e.ops.items c.keep.new.ops.items _ c.loop-e.next c.in_ok-next.next es (expression x.now) rest
+      keep_more (frame_of c.args.context.bases) c.loop-e.ops.items c.keep.new.ops.items _ c.loop-e.next
+          c.in_ok-next.next es (expression x.now) rest
           split made.ops made.next was.0,
       ap (λ n. past_all n rest) made.next ∙ sym (ap (past_all c.loop-e.next) split) ∙ was.1,
     )

@@ -13,16 +13,18 @@ loop-arg-preserved c =
     let row = row_of c.args.call.now.opcode in
     let args : List Argument = map argument (drop i c.args.call.now.args.now) in
     let rest : List Argument = map argument (drop (i + 1) c.args.call.now.args.now) in
-    let split : args ≡ argument x ∷ rest = ap (map argument) (dropped c.args.call.now.args.now i x (omega arith) c.arg-item.is) in
+    let split : args ≡ argument x ∷ rest =
+    ap (map argument) (dropped c.args.call.now.args.now i x (omega arith) c.arg-item.is) in
     let made = c.in_ok-add.ensures in
     let n = c.loop-arg.place in
     let m = n + 1 in
     let on : m ≡ n + 1 = refl in
-    let took : c.is_settled.result ≡ is_settled (letter_at row n) =
-    c.is_settled.ensures ∙ ap is_settled (c.letter.ensures ∙ ap (λ s. letter_at s n) c.signature_of-row.ensures) in (
+    let settles = is_settled c.letter.result in
+    let took : settles ≡ is_settled (letter_at row n) =
+    ap is_settled (c.letter.ensures ∙ ap (λ s. letter_at s n) c.signature_of-row.ensures) in (
       on ∙ ap (λ k. k + 1) was.0,
-      settled_more row args n m (argument x) rest c.is_settled.result (expressions_of c.loop-arg.parted.settled.items)
+      settled_more row args n m (argument x) rest settles (expressions_of c.loop-arg.parted.settled.items)
           (expressions_of c.add.new.self.settled.items) _ split took on made.settled was.1,
-      moving_more row args n m (argument x) rest c.is_settled.result (expressions_of c.loop-arg.parted.moving.items)
+      moving_more row args n m (argument x) rest settles (expressions_of c.loop-arg.parted.moving.items)
           (expressions_of c.add.new.self.moving.items) _ split took on made.moving was.2,
     )

@@ -9,7 +9,9 @@ use Rattle.cs_code.proofs.args.part_args.Given as goal
 abbrev pub invariant-loop-arg : goal.invariant-loop-arg
 invariant-loop-arg l =
     (l.place ≡ l.arg-index)
-    × (expressions_of l.parted.settled.items ++ settled (row_of l.call.opcode) l.place (map argument (drop l.arg-index l.call.args.now))
+    × (expressions_of l.parted.settled.items
+    ++ settled (row_of l.call.opcode) l.place (map argument (drop l.arg-index l.call.args.now))
     ≡ expressions_of l.initial.parted.settled.items ++ settled (row_of l.call.opcode) 0 (map argument l.call.args.now))
-    × (expressions_of l.parted.moving.items ++ moving (row_of l.call.opcode) l.place (map argument (drop l.arg-index l.call.args.now))
+    × (expressions_of l.parted.moving.items
+    ++ moving (row_of l.call.opcode) l.place (map argument (drop l.arg-index l.call.args.now))
     ≡ expressions_of l.initial.parted.moving.items ++ moving (row_of l.call.opcode) 0 (map argument l.call.args.now))

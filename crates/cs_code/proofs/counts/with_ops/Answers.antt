@@ -11,5 +11,6 @@ loop-op-preserved c =
     let x = c.op-item.result in
     let rest = drop (i + 1) c.args.ops.now in
     reached_step c.loop-op.all c.with_op-all.result (λ r. op_limit r x) (λ r. ops_limit r rest) c.with_op-all.ensures
-    ∙ sym (ap (λ xs. reached c.loop-op.all (λ r. ops_limit r xs)) (dropped c.args.ops.now i x (omega arith) c.op-item.is))
+    ∙ sym (ap (λ xs. reached c.loop-op.all (λ r. ops_limit r xs))
+    (dropped c.args.ops.now i x (omega arith) c.op-item.is))
     ∙ c.loop-op.invariant

@@ -35,7 +35,9 @@ loop-instr-preserved c =
     let i = c.loop-instr.instr-index in
     let x = c.instr-item.result in
     let rated = at_instrument (λ (y : typed.Instrument). IsRatedBlock setting y.body) xs i x
-    (subst (λ l. All (λ (y : typed.Instrument). IsRatedBlock setting y.body) (map typed.instrument l)) (sym c.deref-instr-items.ensures.value)
+    (subst (λ l. All (λ (y : typed.Instrument). IsRatedBlock setting y.body) (map typed.instrument l))
+    (sym c.deref-instr-items.ensures.value)
     c.requires.rated.instrs) c.loop-instr-test.true c.instr-item.is in
-    subst (λ l. AllZip (IsNumberedCode o.spaces o.head.nchnls) l c.add_instr.new.list.items) (sym (bodies_more xs i x c.loop-instr-test.true c.instr-item.is))
+    subst (λ l. AllZip (IsNumberedCode o.spaces o.head.nchnls) l c.add_instr.new.list.items)
+    (sym (bodies_more xs i x c.loop-instr-test.true c.instr-item.is))
     (c.in_ok-add_instr.ensures o.head.nchnls (bodies (map typed.instrument (take i xs))) rated c.loop-instr.invariant)

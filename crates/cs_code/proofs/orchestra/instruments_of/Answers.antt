@@ -7,4 +7,5 @@ use Rattle.cs_code.proofs.orchestra.instruments_of.Goals as goal
 pub of-requires : goal.of-requires
 of-requires c =
     let o = typed.orchestra c.args.orc.now in
-    subst (IsDistinct eqb) (sym (same_numbers o.spaces o.head.nchnls o.instrs c.in_ok-list.list.items c.in_ok-list.ensures)) c.requires.distinct
+    subst (IsDistinct eqb) (sym
+    (same_numbers o.spaces o.head.nchnls o.instrs c.in_ok-list.list.items c.in_ok-list.ensures)) c.requires.distinct

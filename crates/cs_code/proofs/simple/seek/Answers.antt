@@ -1,7 +1,8 @@
-use Rattle.std.proofs.Common.{◌∙◌, ◌++◌, true, ap}
+use Rattle.std.proofs.Common.{◌∙◌, ◌++◌, ap}
 use Rattle.cs_ir.specs.declared.op.Act.TheVariants as act
+use Rattle.cs_meaning.specs.When.{beginning}
 use Rattle.cs_code.specs.inner.Code.{on_code}
-use Rattle.cs_code.specs.inner.Emitted.{frame_of, expressions_of, is_whole}
+use Rattle.cs_code.specs.inner.Emitted.{frame_of, expressions_of, when_of}
 use Rattle.cs_code.proofs.simple.seek.Goals as goal
 
 pub returns : goal.returns
@@ -10,5 +11,5 @@ returns c =
     let old = c.args.ops.now.items in
     let es = expressions_of c.args.settled.now in
     c.in_ok-push_on.ensures.ops
-    ∙ ap (λ w. old ++ on_code f (is_whole w) 0 act.Seek c.unwritten.result es) c.requires
-    ∙ ap (λ q. old ++ on_code f true 0 act.Seek q es) c.unwritten.ensures
+    ∙ ap (λ w. old ++ on_code f (when_of w) 0 act.Seek c.unwritten.result es) c.requires
+    ∙ ap (λ q. old ++ on_code f beginning 0 act.Seek q es) c.unwritten.ensures

@@ -1,10 +1,13 @@
-use Rattle.cs_code.specs.inner.Emitted.{frame_of, place_of, expressions_of}
+use Rattle.cs_code.specs.inner.Emitted.{frame_of, expressions_of}
 use Rattle.cs_code.proofs.Calls.{sent_pass}
 use Rattle.cs_code.proofs.simple.send.Goals as goal
 
 pub returns-in_ok-send_regs-in-Performance-clause-ops : goal.returns-in_ok-send_regs-in-Performance-clause-ops
 returns-in_ok-send_regs-in-Performance-clause-ops c =
-    sent_pass c.args.context.pass (frame_of c.args.context.bases) (place_of c.args.p) c.args.sending (expressions_of c.args.values.now)
-    c.args.ops.now.items c.operands.new.ops.items c.send_regs.new.ops.items c.deref.result.now c.in_ok-found-in-Performance.found.regs.items
-    c.in-Performance.is c.in_ok-found-in-Performance.ensures.ops c.in_ok-found-in-Performance.ensures.regs c.deref.ensures.value
+    sent_pass c.args.context.pass (frame_of c.args.context.bases) c.args.p c.args.sending
+    (expressions_of c.args.values.now)
+    c.args.ops.now.items c.operands.new.ops.items c.send_regs.new.ops.items c.deref.result.now
+    c.in_ok-found-in-Performance.found.regs.items
+    c.in-Performance.is c.in_ok-found-in-Performance.ensures.ops c.in_ok-found-in-Performance.ensures.regs
+    c.deref.ensures.value
     c.in_ok-send_regs-in-Performance.ensures

@@ -4,37 +4,46 @@ use Rattle.cs_code.specs.inner.Kept.{past_block, past_arms}
 use Rattle.cs_typed.specs.TypedTree as typed
 use Rattle.cs_code.specs.inner.Code.{all_code}
 use Rattle.cs_code.specs.inner.Branches.{opened, jumps, branches, past_list}
-use Rattle.cs_code.specs.inner.Emitted.{frame_of, place_of, pass_block_code}
+use Rattle.cs_code.specs.inner.Emitted.{frame_of, pass_block_code}
 use Rattle.cs_code.proofs.stmt.+stmt.Given as goal
 
 -- what is made, and what the rest will make
 abbrev pub invariant-block-loop-s : goal.invariant-block-loop-s
 invariant-block-loop-s l =
-    (l.ops.items ++ pass_block_code l.context.pass (frame_of l.context.bases) (length l.ops.items) (place_of l.next) (core l.context.spaces
+    (l.ops.items ++ pass_block_code l.context.pass (frame_of l.context.bases) (length l.ops.items) l.next
+    (core l.context.spaces
     (typed.block (drop l.s-index l.stmts)))
-    ≡ l.initial.ops.items ++ pass_block_code l.context.pass (frame_of l.context.bases) (length l.initial.ops.items) (place_of l.fn.p) (core
+    ≡ l.initial.ops.items ++ pass_block_code l.context.pass (frame_of l.context.bases) (length l.initial.ops.items)
+    l.fn.p (core
     l.context.spaces (typed.block l.stmts)))
-    × (past_block (place_of l.next) (core l.context.spaces (typed.block (drop l.s-index l.stmts)))
-    ≡ past_block (place_of l.fn.p) (core l.context.spaces (typed.block l.stmts)))
+    × (past_block l.next (core l.context.spaces (typed.block (drop l.s-index l.stmts)))
+    ≡ past_block l.fn.p (core l.context.spaces (typed.block l.stmts)))
 
 abbrev pub invariant-arms_of-loop-a : goal.invariant-arms_of-loop-a
 invariant-arms_of-loop-a l =
-    (l.ops.items ++ opened (length l.ops.items) (branches l.context.pass (frame_of l.context.bases) l.context.spaces (length l.ops.items) (place_of l.next)
+    (l.ops.items ++ opened (length l.ops.items)
+    (branches l.context.pass (frame_of l.context.bases) l.context.spaces (length l.ops.items) l.next
     (drop l.a-index l.arms))
-    ≡ l.initial.ops.items ++ opened (length l.initial.ops.items) (branches l.context.pass (frame_of l.context.bases) l.context.spaces
-    (length l.initial.ops.items) (place_of l.fn.p) l.arms))
-    × (l.ends.items ++ jumps (length l.ops.items) (branches l.context.pass (frame_of l.context.bases) l.context.spaces (length l.ops.items) (place_of l.next)
+    ≡ l.initial.ops.items ++ opened (length l.initial.ops.items)
+    (branches l.context.pass (frame_of l.context.bases) l.context.spaces
+    (length l.initial.ops.items) l.fn.p l.arms))
+    × (l.ends.items ++ jumps (length l.ops.items)
+    (branches l.context.pass (frame_of l.context.bases) l.context.spaces (length l.ops.items) l.next
     (drop l.a-index l.arms))
-    ≡ l.initial.ends.items ++ jumps (length l.initial.ops.items) (branches l.context.pass (frame_of l.context.bases) l.context.spaces
-    (length l.initial.ops.items) (place_of l.fn.p) l.arms))
-    × (past_list l.context.spaces (place_of l.next) (drop l.a-index l.arms) ≡ past_list l.context.spaces (place_of l.fn.p) l.arms)
+    ≡ l.initial.ends.items ++ jumps (length l.initial.ops.items)
+    (branches l.context.pass (frame_of l.context.bases) l.context.spaces
+    (length l.initial.ops.items) l.fn.p l.arms))
+    × (past_list l.context.spaces l.next (drop l.a-index l.arms) ≡ past_list l.context.spaces
+    l.fn.p l.arms)
 
 abbrev pub invariant-each_arm-loop-a : goal.invariant-each_arm-loop-a
 invariant-each_arm-loop-a l =
     (els : typed.Block)
-    → (l.ops.items ++ all_code (frame_of l.context.bases) (length l.ops.items) (place_of l.next) (core_arms l.context.spaces (typed.arms els
+    → (l.ops.items ++ all_code (frame_of l.context.bases) (length l.ops.items) l.next
+    (core_arms l.context.spaces (typed.arms els
     (drop l.a-index l.arms)))
-    ≡ l.initial.ops.items ++ all_code (frame_of l.context.bases) (length l.initial.ops.items) (place_of l.fn.p) (core_arms l.context.spaces
+    ≡ l.initial.ops.items ++ all_code (frame_of l.context.bases) (length l.initial.ops.items) l.fn.p
+    (core_arms l.context.spaces
     (typed.arms els l.arms)))
-    × (past_arms (place_of l.next) (core_arms l.context.spaces (typed.arms els (drop l.a-index l.arms)))
-    ≡ past_arms (place_of l.fn.p) (core_arms l.context.spaces (typed.arms els l.arms)))
+    × (past_arms l.next (core_arms l.context.spaces (typed.arms els (drop l.a-index l.arms)))
+    ≡ past_arms l.fn.p (core_arms l.context.spaces (typed.arms els l.arms)))

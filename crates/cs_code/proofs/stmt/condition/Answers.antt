@@ -7,5 +7,6 @@ use Rattle.cs_code.proofs.stmt.condition.Goals as goal
 pub returns-in-Performance-clause-ops : goal.returns-in-Performance-clause-ops
 returns-in-Performance-clause-ops c =
     subst (λ y. OnOk c.operand.result (c.operand.new.ops.items ≡ c.args.ops.now.items ++ y))
-    (tested c.args.context.pass (frame_of c.args.context.bases) c.args.at (typed.expression c.args.e.now) c.in-Performance.is)
+    (tested c.args.context.pass (frame_of c.args.context.bases) c.args.at (typed.expression c.args.e.now)
+    c.in-Performance.is)
     c.operand.ensures.ops

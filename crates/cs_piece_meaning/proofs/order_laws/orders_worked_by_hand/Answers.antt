@@ -1,4 +1,5 @@
-use Rattle.cs_piece_meaning.proofs.Computed.{asked, made_again, refused, refused_counted, refused_started, refused_starts, stored}
+use Rattle.cs_piece_meaning.proofs.Computed.{asked, made_again, refused, refused_counted, refused_started}
+use Rattle.cs_piece_meaning.proofs.Computed.{refused_starts, stored}
 use Rattle.cs_piece_meaning.proofs.order_laws.orders_worked_by_hand.Goals as goal
 
 pub returns-clause-made_again : goal.returns-clause-made_again

@@ -19,8 +19,14 @@ returns-clause-in_an_if c = refl
 pub returns-clause-nested : goal.returns-clause-nested
 returns-clause-nested c = refl
 
+pub returns-clause-framed : goal.returns-clause-framed
+returns-clause-framed c = refl
+
 pub returns-clause-states : goal.returns-clause-states
 returns-clause-states c = refl
 
 pub returns-clause-init : goal.returns-clause-init
 returns-clause-init c = refl
+
+pub returns-clause-keeping : goal.returns-clause-keeping
+returns-clause-keeping c = refl

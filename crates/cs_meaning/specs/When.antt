@@ -1,0 +1,6 @@
+-- The two times at which a note's statements do something.
+
+-- as a note begins, or in a control cycle
+pub data When : Type 0 where
+  beginning : When
+  cycle : When

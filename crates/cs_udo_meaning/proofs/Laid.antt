@@ -1,0 +1,69 @@
+-- Where a way leads: frames whose numbers follow, and parts of the expanded text one behind another.
+use Rattle.std.proofs.Common.{◌≡◌, ◌∙◌, ℕ, zero, suc, ◌+◌, List, [], ◌∷◌, ◌++◌, length, Some, arith, sym}
+use Rattle.std.proofs.Common.{ap, subst, add-zero}
+use Rattle.std.specs.List.{slice_get}
+use Rattle.cs_meaning.specs.Notes.{Path, next}
+use Rattle.cs_udo_meaning.specs.Stands.{Way}
+use Rattle.cs_udo_meaning.proofs.Paths.{inward}
+use Rattle.cs_udo_meaning.proofs.Ways.{Leads}
+
+-- ---- frames whose numbers follow
+
+-- the frames with numbers from one on belong to these calls
+abbrev pub Holds : Way → ℕ → List Path → Type 0
+Holds way n [] = Unit {0}
+Holds way n (p ∷ ps) = (way.frame n ≡ Some p) × Holds way (suc n) ps
+
+pub first_hold : (way : Way) (n : ℕ) (xs ys : List Path) → Holds way n (xs ++ ys) → Holds way n xs
+first_hold way n [] ys h = tt
+first_hold way n (x ∷ xs) ys h = (h.0, first_hold way (suc n) xs ys h.1)
+
+pub rest_hold : (way : Way) (n k : ℕ) (xs ys : List Path) → k ≡ n + length xs → Holds way n (xs ++ ys) → Holds way k ys
+rest_hold way n k [] ys e h = subst (λ i. Holds way i ys) (none n k e) h
+  where
+    none : (n k : ℕ) → k ≡ n + 0 → n ≡ k
+    none n k e = omega (arith, e)
+rest_hold way n k (x ∷ xs) ys e h = rest_hold way (suc n) k xs ys (one n k (length xs) e) h.1
+  where
+    one : (n k j : ℕ) → k ≡ n + suc j → k ≡ suc n + j
+    one n k j e = omega (arith, e)
+
+pub holds_from : (way : Way) (n : ℕ) (xs : List Path)
+    → ((i j : ℕ) → j ≡ i + n → way.frame j ≡ slice_get xs i)
+    → Holds way n xs
+holds_from way n [] h = tt
+holds_from way n (x ∷ xs) h = (h 0 n (first n), holds_from way (suc n) xs (λ i j e. h (suc i) j (on i j n e)))
+  where
+    first : (n : ℕ) → n ≡ 0 + n
+    first n = omega arith
+
+    on : (i j n : ℕ) → j ≡ i + suc n → j ≡ suc i + n
+    on i j n e = omega (arith, e)
+
+-- ---- parts of the expanded text
+
+-- what stands at a path leads so, and what stands there and behind it
+abbrev pub Lays : Way → Path → Leads → Type 0
+Lays way p n = (y : Path) → way.part (inward y p) ≡ n y
+
+abbrev pub behind : ℕ → Path → Path
+behind zero p = p
+behind (suc k) p = behind k (next p)
+
+abbrev pub LaysOn : Way → Path → Leads → Type 0
+LaysOn way p n = (k : ℕ) (y : Path) → way.part (inward y (behind k p)) ≡ n (k ∷ y)
+
+behind_is : (k n : ℕ) (p : Path) → behind k (n ∷ p) ≡ (k + n) ∷ p
+behind_is zero n p = ap (λ j. j ∷ p) (none n)
+  where
+    none : (n : ℕ) → n ≡ 0 + n
+    none n = omega arith
+behind_is (suc k) n p = behind_is k (suc n) p ∙ ap (λ j. j ∷ p) (one k n)
+  where
+    one : (k n : ℕ) → k + suc n ≡ suc k + n
+    one k n = omega arith
+
+-- the parts of what stands at a path
+pub lays_on : (way : Way) (p : Path) (n : Leads) → Lays way p n → LaysOn way (0 ∷ p) n
+lays_on way p n h k y =
+    subst (λ r. way.part (inward y r) ≡ n (k ∷ y)) (sym (behind_is k 0 p ∙ ap (λ j. j ∷ p) (add-zero k))) (h (k ∷ y))
