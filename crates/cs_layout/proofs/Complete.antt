@@ -17,7 +17,10 @@ use Rattle.cs_base.specs.declared.spaces.Spaces.{Spaces}
 use Rattle.cs_ir.specs.Validity.{has_value}
 use Rattle.cs_layout.specs.Layouts.{Shared, numbered, of_tables, shared_by, areas_of, is_shared, AreApart, AreLive}
 use Rattle.cs_layout.specs.Layouts.{AreOfPiece, IsLive}
+use Rattle.cs_layout.specs.declared.areas.Kind.{Kind}
+use Rattle.cs_layout.specs.declared.areas.Kind.TheVariants as kind
 use Rattle.cs_layout.specs.declared.areas.LiveTable.{LiveTable}
+use Rattle.cs_layout.specs.inner.Groups.{res_of}
 use Rattle.cs_layout.proofs.Laid.{laid_at, is_there, found_at}
 use Rattle.cs_layout.proofs.Sharing.{position, is_at}
 use Rattle.cs_layout.proofs.Counted.{spaces_are}
@@ -82,21 +85,57 @@ one_from : (kind : ℕ → Res) (g : Res) (k a count cells : ℕ) → ((n : ℕ)
 one_from kind g k a zero cells h = grind (arith, nat_tests)
 one_from kind g k a (suc count) cells h = rw (h a, one_from kind g k (a + 1) count cells h) (grind (arith, nat_tests))
 
--- resources of a kind, and what comes behind them
-none_then : (kind : ℕ → Res) (g : Res) (count cells : ℕ) (ys : List Shared) (b : Bool)
-    → ((n : ℕ) → same_res (kind n) g ≡ false)
-    → any_of g ys ≡ b → any_of g (numbered kind count cells ++ ys) ≡ b
-none_then kind g count cells ys b h e =
-    list_any-append (λ s. same_res s.res g) (numbered kind count cells) ys
-    ∙ ap (λ x. x || any_of g ys) (none_from kind g 0 count cells h) ∙ e
+-- the number of a resource of a kind, where it is of the kind
+abbrev number_in : Kind → Res → Option ℕ
+number_in kind.Gi (res.Gi n) = Some n
+number_in kind.Gk (res.Gk n) = Some n
+number_in kind.Ga (res.Ga n) = Some n
+number_in kind.Control (res.Control n) = Some n
+number_in kind.Sound (res.Sound n) = Some n
+number_in kind.ZakK (res.ZakK n) = Some n
+number_in kind.ZakA (res.ZakA n) = Some n
+number_in _ _ = None
 
-one_then : (kind : ℕ → Res) (g : Res) (k count cells : ℕ) (ys : List Shared)
-    → ((n : ℕ) → same_res (kind n) g ≡ (n == k))
-    → any_of g ys ≡ false → any_of g (numbered kind count cells ++ ys) ≡ nat_lt k count
-one_then kind g k count cells ys h e =
-    list_any-append (λ s. same_res s.res g) (numbered kind count cells) ys
-    ∙ ap (λ x. x || any_of g ys) (one_from kind g k 0 count cells h)
-    ∙ ap (λ y. (nat_le 0 k && nat_lt k (0 + count)) || y) e ∙ grind (arith, nat_tests)
+abbrev is_number : Option ℕ → ℕ → Bool
+is_number None n = false
+is_number (Some k) n = n == k
+
+abbrev number_within : Option ℕ → ℕ → Bool
+number_within None count = false
+number_within (Some k) count = nat_lt k count
+
+by_number : (x : Kind) (n : ℕ) (g : Res) → same_res (res_of x n) g ≡ is_number (number_in x g) n
+by_number kind.Gi n (res.Gi m) = refl
+by_number kind.Gi n g = refl
+by_number kind.Gk n (res.Gk m) = refl
+by_number kind.Gk n g = refl
+by_number kind.Ga n (res.Ga m) = refl
+by_number kind.Ga n g = refl
+by_number kind.Control n (res.Control m) = refl
+by_number kind.Control n g = refl
+by_number kind.Sound n (res.Sound m) = refl
+by_number kind.Sound n g = refl
+by_number kind.ZakK n (res.ZakK m) = refl
+by_number kind.ZakK n g = refl
+by_number kind.ZakA n (res.ZakA m) = refl
+by_number kind.ZakA n g = refl
+
+-- a resource is in a group where its number is one of the group's
+in_group : (x : Kind) (count cells : ℕ) (g : Res)
+    → any_of g (numbered (res_of x) count cells) ≡ number_within (number_in x g) count
+in_group x count cells g = by (number_in x g) (λ n. by_number x n g)
+  where
+    by : (o : Option ℕ) → ((n : ℕ) → same_res (res_of x n) g ≡ is_number o n)
+        → any_of g (numbered (res_of x) count cells) ≡ number_within o count
+    by None h = none_from (res_of x) g 0 count cells h
+    by (Some k) h = one_from (res_of x) g k 0 count cells h ∙ grind (arith, nat_tests)
+
+-- a group, and what comes behind it
+group_then : (x : Kind) (count cells : ℕ) (ys : List Shared) (g : Res) (b : Bool) → any_of g ys ≡ b
+    → any_of g (numbered (res_of x) count cells ++ ys) ≡ (number_within (number_in x g) count || b)
+group_then x count cells ys g b e =
+    list_any-append (λ s. same_res s.res g) (numbered (res_of x) count cells) ys
+    ∙ λ i. in_group x count cells g i || e i
 
 no_table : (g : Res) (live : List LiveTable) → ((n : ℕ) → same_res (res.Table n) g ≡ false)
     → any_of g (of_tables live) ≡ false
@@ -107,100 +146,45 @@ one_table : (n : ℕ) (live : List LiveTable) → any_of (res.Table n) (of_table
 one_table n [] = refl
 one_table n (t ∷ live) = ap (λ b. (t.number == n) || b) (one_table n live)
 
+abbrev is_live : List LiveTable → Res → Bool
+is_live live (res.Table n) = list_any (λ t. t.number == n) live
+is_live live _ = false
+
+among_tables : (g : Res) (live : List LiveTable) → any_of g (of_tables live) ≡ is_live live g
+among_tables (res.Table n) live = one_table n live
+among_tables g live = no_table g live (λ n. refl)
+
+or_none : (b : Bool) → (b || false) ≡ b
+or_none true = refl
+or_none false = refl
+
 -- a resource is among what is shared exactly where the piece has it
 module _ (ksmps : ℕ) (names : SharedNames) (spaces : Spaces) (live : List LiveTable) where
+  by_groups : (g : Res) → any_of g (shared_by ksmps names spaces live)
+      ≡ (number_within (number_in kind.Gi g) (length names.gi) || (number_within (number_in kind.Gk g) (length names.gk)
+      || (number_within (number_in kind.Ga g) (length names.ga)
+      || (number_within (number_in kind.Control g) (length names.control)
+      || (number_within (number_in kind.Sound g) (length names.sound)
+      || (number_within (number_in kind.ZakK g) spaces.control
+      || (number_within (number_in kind.ZakA g) spaces.audio || is_live live g)))))))
+  by_groups g =
+      group_then kind.Gi (length names.gi) 1 (from_gk ksmps names spaces live) g _
+      (group_then kind.Gk (length names.gk) 1 (from_ga ksmps names spaces live) g _
+      (group_then kind.Ga (length names.ga) ksmps (from_control ksmps names spaces live) g _
+      (group_then kind.Control (length names.control) 1 (from_sound ksmps names spaces live) g _
+      (group_then kind.Sound (length names.sound) ksmps (from_zk ksmps names spaces live) g _
+      (group_then kind.ZakK spaces.control 1 (from_za ksmps names spaces live) g _
+      (group_then kind.ZakA spaces.audio ksmps (of_tables live) g _ (among_tables g live)))))))
+
   shared_is : (g : Res) → any_of g (shared_by ksmps names spaces live) ≡ is_shared names spaces live g
-  shared_is (res.Gi k) = let g = res.Gi k in
-      (one_then res.Gi g k (length names.gi) 1 (from_gk ksmps names spaces live) (λ n. refl)
-      (none_then res.Gk g (length names.gk) 1 (from_ga ksmps names spaces live) false (λ n. refl)
-      (none_then res.Ga g (length names.ga) ksmps (from_control ksmps names spaces live) false (λ n. refl)
-      (none_then res.Control g (length names.control) 1 (from_sound ksmps names spaces live) false (λ n. refl)
-      (none_then res.Sound g (length names.sound) ksmps (from_zk ksmps names spaces live) false (λ n. refl)
-      (none_then res.ZakK g spaces.control 1 (from_za ksmps names spaces live) false (λ n. refl)
-      (none_then res.ZakA g spaces.audio ksmps (of_tables live) false (λ n. refl)
-      (no_table g live (λ n. refl)))))))))
-  shared_is (res.Gk k) = let g = res.Gk k in
-      (none_then res.Gi g (length names.gi) 1 (from_gk ksmps names spaces live) (nat_lt k (length names.gk)) (λ n. refl)
-      (one_then res.Gk g k (length names.gk) 1 (from_ga ksmps names spaces live) (λ n. refl)
-      (none_then res.Ga g (length names.ga) ksmps (from_control ksmps names spaces live) false (λ n. refl)
-      (none_then res.Control g (length names.control) 1 (from_sound ksmps names spaces live) false (λ n. refl)
-      (none_then res.Sound g (length names.sound) ksmps (from_zk ksmps names spaces live) false (λ n. refl)
-      (none_then res.ZakK g spaces.control 1 (from_za ksmps names spaces live) false (λ n. refl)
-      (none_then res.ZakA g spaces.audio ksmps (of_tables live) false (λ n. refl)
-      (no_table g live (λ n. refl)))))))))
-  shared_is (res.Ga k) = let g = res.Ga k in
-      (none_then res.Gi g (length names.gi) 1 (from_gk ksmps names spaces live) (nat_lt k (length names.ga)) (λ n. refl)
-      (none_then res.Gk g (length names.gk) 1 (from_ga ksmps names spaces live) (nat_lt k (length names.ga)) (λ n. refl)
-      (one_then res.Ga g k (length names.ga) ksmps (from_control ksmps names spaces live) (λ n. refl)
-      (none_then res.Control g (length names.control) 1 (from_sound ksmps names spaces live) false (λ n. refl)
-      (none_then res.Sound g (length names.sound) ksmps (from_zk ksmps names spaces live) false (λ n. refl)
-      (none_then res.ZakK g spaces.control 1 (from_za ksmps names spaces live) false (λ n. refl)
-      (none_then res.ZakA g spaces.audio ksmps (of_tables live) false (λ n. refl)
-      (no_table g live (λ n. refl)))))))))
-  shared_is (res.Control k) = let g = res.Control k in
-      (none_then res.Gi g (length names.gi) 1 (from_gk ksmps names spaces live) (nat_lt k (length names.control))
-      (λ n. refl)
-      (none_then res.Gk g (length names.gk) 1 (from_ga ksmps names spaces live) (nat_lt k (length names.control))
-      (λ n. refl)
-      (none_then res.Ga g (length names.ga) ksmps (from_control ksmps names spaces live)
-      (nat_lt k (length names.control)) (λ n. refl)
-      (one_then res.Control g k (length names.control) 1 (from_sound ksmps names spaces live) (λ n. refl)
-      (none_then res.Sound g (length names.sound) ksmps (from_zk ksmps names spaces live) false (λ n. refl)
-      (none_then res.ZakK g spaces.control 1 (from_za ksmps names spaces live) false (λ n. refl)
-      (none_then res.ZakA g spaces.audio ksmps (of_tables live) false (λ n. refl)
-      (no_table g live (λ n. refl)))))))))
-  shared_is (res.Sound k) = let g = res.Sound k in
-      (none_then res.Gi g (length names.gi) 1 (from_gk ksmps names spaces live) (nat_lt k (length names.sound))
-      (λ n. refl)
-      (none_then res.Gk g (length names.gk) 1 (from_ga ksmps names spaces live) (nat_lt k (length names.sound))
-      (λ n. refl)
-      (none_then res.Ga g (length names.ga) ksmps (from_control ksmps names spaces live) (nat_lt k (length names.sound))
-      (λ n. refl)
-      (none_then res.Control g (length names.control) 1 (from_sound ksmps names spaces live)
-      (nat_lt k (length names.sound)) (λ n. refl)
-      (one_then res.Sound g k (length names.sound) ksmps (from_zk ksmps names spaces live) (λ n. refl)
-      (none_then res.ZakK g spaces.control 1 (from_za ksmps names spaces live) false (λ n. refl)
-      (none_then res.ZakA g spaces.audio ksmps (of_tables live) false (λ n. refl)
-      (no_table g live (λ n. refl)))))))))
-  shared_is (res.ZakK k) = let g = res.ZakK k in
-      (none_then res.Gi g (length names.gi) 1 (from_gk ksmps names spaces live) (nat_lt k spaces.control) (λ n. refl)
-      (none_then res.Gk g (length names.gk) 1 (from_ga ksmps names spaces live) (nat_lt k spaces.control) (λ n. refl)
-      (none_then res.Ga g (length names.ga) ksmps (from_control ksmps names spaces live) (nat_lt k spaces.control)
-      (λ n. refl)
-      (none_then res.Control g (length names.control) 1 (from_sound ksmps names spaces live) (nat_lt k spaces.control)
-      (λ n. refl)
-      (none_then res.Sound g (length names.sound) ksmps (from_zk ksmps names spaces live) (nat_lt k spaces.control)
-      (λ n. refl)
-      (one_then res.ZakK g k spaces.control 1 (from_za ksmps names spaces live) (λ n. refl)
-      (none_then res.ZakA g spaces.audio ksmps (of_tables live) false (λ n. refl)
-      (no_table g live (λ n. refl)))))))))
-  shared_is (res.ZakA k) = let g = res.ZakA k in
-      (none_then res.Gi g (length names.gi) 1 (from_gk ksmps names spaces live) (nat_lt k spaces.audio) (λ n. refl)
-      (none_then res.Gk g (length names.gk) 1 (from_ga ksmps names spaces live) (nat_lt k spaces.audio) (λ n. refl)
-      (none_then res.Ga g (length names.ga) ksmps (from_control ksmps names spaces live) (nat_lt k spaces.audio)
-      (λ n. refl)
-      (none_then res.Control g (length names.control) 1 (from_sound ksmps names spaces live) (nat_lt k spaces.audio)
-      (λ n. refl)
-      (none_then res.Sound g (length names.sound) ksmps (from_zk ksmps names spaces live) (nat_lt k spaces.audio)
-      (λ n. refl)
-      (none_then res.ZakK g spaces.control 1 (from_za ksmps names spaces live) (nat_lt k spaces.audio) (λ n. refl)
-      (one_then res.ZakA g k spaces.audio ksmps (of_tables live) (λ n. refl)
-      (no_table g live (λ n. refl)))))))))
-  shared_is (res.Table k) = let g = res.Table k in
-      (none_then res.Gi g (length names.gi) 1 (from_gk ksmps names spaces live) (list_any (λ t. t.number == k) live)
-      (λ n. refl)
-      (none_then res.Gk g (length names.gk) 1 (from_ga ksmps names spaces live) (list_any (λ t. t.number == k) live)
-      (λ n. refl)
-      (none_then res.Ga g (length names.ga) ksmps (from_control ksmps names spaces live)
-      (list_any (λ t. t.number == k) live) (λ n. refl)
-      (none_then res.Control g (length names.control) 1 (from_sound ksmps names spaces live)
-      (list_any (λ t. t.number == k) live) (λ n. refl)
-      (none_then res.Sound g (length names.sound) ksmps (from_zk ksmps names spaces live)
-      (list_any (λ t. t.number == k) live) (λ n. refl)
-      (none_then res.ZakK g spaces.control 1 (from_za ksmps names spaces live) (list_any (λ t. t.number == k) live)
-      (λ n. refl)
-      (none_then res.ZakA g spaces.audio ksmps (of_tables live) (list_any (λ t. t.number == k) live) (λ n. refl)
-      (one_table k live))))))))
+  shared_is (res.Gi k) = by_groups (res.Gi k) ∙ or_none (nat_lt k (length names.gi))
+  shared_is (res.Gk k) = by_groups (res.Gk k) ∙ or_none (nat_lt k (length names.gk))
+  shared_is (res.Ga k) = by_groups (res.Ga k) ∙ or_none (nat_lt k (length names.ga))
+  shared_is (res.Control k) = by_groups (res.Control k) ∙ or_none (nat_lt k (length names.control))
+  shared_is (res.Sound k) = by_groups (res.Sound k) ∙ or_none (nat_lt k (length names.sound))
+  shared_is (res.ZakK k) = by_groups (res.ZakK k) ∙ or_none (nat_lt k spaces.control)
+  shared_is (res.ZakA k) = by_groups (res.ZakA k) ∙ or_none (nat_lt k spaces.audio)
+  shared_is (res.Table k) = by_groups (res.Table k)
 
   pub there : (g : Res) → is_some (area_of (areas_of ksmps names spaces live) g) ≡ is_shared names spaces live g
   there g = is_there 0 (shared_by ksmps names spaces live) g ∙ shared_is g

@@ -45,7 +45,11 @@ laid_at first (s ∷ ss) (suc p) area e =
       res = more.res;
       long = more.long;
       begins =
-          omega (arith, more.begins, sum_by-cons (λ a. a.length) (laid first s) (take p (laid_from (first + s.cells) ss)));
+          omega (
+            arith,
+            more.begins,
+            sum_by-cons (λ a. a.length) (laid first s) (take p (laid_from (first + s.cells) ss)),
+          );
     }
 
 pub length-laid : (first : ℕ) (ss : List Shared) → length (laid_from first ss) ≡ length ss

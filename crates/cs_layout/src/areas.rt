@@ -43,10 +43,10 @@ pub fn layout(
 {
     let groups = groups_of(ksmps, globals, spaces);
     if count_of(&groups, live) > MOST_RESOURCES as u128 {
-        return Err(passed(Limit::Resources));
+        return Err(Or::Fault(LimitHit::at_no_line(Limit::Resources)));
     }
     if words_of(&groups, live) > MOST_WORDS as u128 {
-        return Err(passed(Limit::Words));
+        return Err(Or::Fault(LimitHit::at_no_line(Limit::Words)));
     }
     let areas = areas_of(alloc, &groups, live)?;
     Layout::build(alloc, &areas)
@@ -185,11 +185,4 @@ fn area(res: Res, first: u32, length: u32) -> Area
     ensures { result ≡ record { res = res; first = first; length = length } }
 {
     Area { res, first, length }
-}
-
-// A limit that the areas pass, and no line of a text.
-fn passed(limit: Limit) -> Or<LimitHit>
-    ensures { result ≡ or.Fault (record { limit = limit; line = 0 }) }
-{
-    Or::Fault(LimitHit { limit, line: 0 })
 }

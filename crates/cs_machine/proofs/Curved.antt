@@ -54,10 +54,7 @@ module _ (area : Area) (cells : ℕ → ℤ) where
   live_len = let long = curve_long in omega (arith, long)
 
   pub live_curve : is_len (len_of area.length) ≡ true → IsCurve (curve_of (live_points area cells))
-  live_curve power = record {
-    guarded = curve_long ∙ ap (λ n. n + 1) (sym live_len);
-    power = subst (λ n. is_len n ≡ true) (sym live_len) power;
-  }
+  live_curve power = record { power = subst (λ n. is_len n ≡ true) (sym live_len) power }
 
   point : (place : ℕ) → place < area.length → argument (live_points area cells) place ≡ cells (area.first + place)
   point place low =

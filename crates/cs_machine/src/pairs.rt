@@ -243,15 +243,7 @@ fn product(x: Num, y: Num) -> Num
     requires { IsNarrow x y }
     ensures { result ≡ product_of x y }
 {
-    scaled(x.raw() * y.raw())
-}
-
-/// A product in 65,536ths, rounded down.
-#[inline(always)]
-fn scaled(product: i64) -> Num
-    ensures { result ≡ floor_div product one }
-{
-    Num::exact(product >> 16)
+    Num::of_product(x.raw() * y.raw())
 }
 
 /// Whether a factor makes no number larger.
@@ -284,7 +276,7 @@ fn lifted(x: i64) -> u64
 fn low_product(x: Num, y: Num) -> Num
     ensures { IsShort x → IsShort y → result ≡ product_of x y }
 {
-    scaled(low_times(x.raw(), y.raw()))
+    Num::of_product(low_times(x.raw(), y.raw()))
 }
 
 #[inline(always)]

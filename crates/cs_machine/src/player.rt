@@ -61,14 +61,14 @@ impl<'t> Player<'t> {
     }
 
     /// A player of a unit on a frozen table: the table's number, and its points.
-    pub fn on_frozen(table: i64, unit: Unit, points: FrozenTable<'t>) -> Player<'t>
-        requires { is_len (len_of (length points.points.now)) ≡ true }
-        ensures { result ≡ record { table = table; state = unit; points = Some points.entry.points.now; area = None } }
+    pub fn on_frozen(table: i64, unit: Unit, points: &'t FrozenTable) -> Player<'t>
+        requires { is_len (len_of (length points.now)) ≡ true }
+        ensures { result ≡ record { table = table; state = unit; points = Some points.now; area = None } }
     {
         Player {
             table,
             unit,
-            reads: Reads::Frozen(Frozen::of(points)),
+            reads: Reads::Frozen(Frozen::new(points)),
         }
     }
 

@@ -1,4 +1,4 @@
--- No two of the tables of a plot have one number.
+-- No two of the tables that a plot gives first have one number.
 use Rattle.std.proofs.Common.{◌≡◌, ℕ, zero, suc, ◌==◌, Bool, true, false, not, List, [], ◌∷◌, map, slice_get, Some}
 use Rattle.std.proofs.Common.{cond, refl, sym, ◌∙◌, ap, subst}
 use Rattle.std.specs.List.{filter}
@@ -8,19 +8,9 @@ use Rattle.cs_base.proofs.Tests.{by_test, some_is}
 use Rattle.cs_layout.specs.Layouts.{AreApart}
 use Rattle.cs_layout.specs.declared.areas.LiveTable.{LiveTable}
 use Rattle.cs_meaning.specs.Plain.{Table}
-use Rattle.cs_tempo.specs.declared.plot.Event.{Event}
-use Rattle.cs_typed.specs.TypedTree as typed
 use Rattle.cs_piece.specs.Compositions.{live_in}
-use Rattle.cs_piece.specs.Tables.{Given, firsts, given_in, table_in, tables_in}
-
--- no element has this number; no two of a list have one
-abbrev pub NoneHas : {X : Type 0} → (X → ℕ) → ℕ → List X → Type 0
-NoneHas f n [] = Unit {0}
-NoneHas f n (x ∷ xs) = (f x ≡ n → ⊥) × NoneHas f n xs
-
-abbrev pub Differ : {X : Type 0} → (X → ℕ) → List X → Type 0
-Differ f [] = Unit {0}
-Differ f (x ∷ xs) = NoneHas f (f x) xs × Differ f xs
+use Rattle.cs_piece.specs.Tables.{Given, firsts}
+use Rattle.cs_piece.specs.inner.Marked.{Differ, NoneHas}
 
 module _ {X : Type 0} (f : X → ℕ) where
   none_filter : (p : X → Bool) (n : ℕ) (xs : List X) → NoneHas f n xs → NoneHas f n (filter p xs)
@@ -90,11 +80,6 @@ firsts_differ (x ∷ gs) = (
   differ_filter (λ (g : Given). g.number) (λ (h : Given). not (h.number == x.number)) (firsts gs) (firsts_differ gs),
 )
 
-pub tables_differ : (o : typed.Orchestra) (events : List Event) → Differ (λ (t : Table). t.number) (tables_in o events)
-tables_differ o events =
-    differ_map (table_in o (given_in events)) (λ (t : Table). t.number) (λ (g : Given). g.number) (λ g. refl)
-    (firsts (given_in events)) (firsts_differ (given_in events))
-
 pub live_apart : (tables : List Table) → Differ (λ (t : Table). t.number) tables → AreApart (live_in tables)
 live_apart tables h p q t u e g same =
     differ_at (λ (l : LiveTable). l.number) (live_in tables) p q t u
@@ -103,6 +88,3 @@ live_apart tables h p q t u e g same =
     (filter (λ (x : Table). not (is_some x.frozen)) tables)
     (differ_filter (λ (x : Table). x.number) (λ (x : Table). not (is_some x.frozen)) tables h))
     e g same
-
-pub apart_in : (o : typed.Orchestra) (events : List Event) → AreApart (live_in (tables_in o events))
-apart_in o events = live_apart (tables_in o events) (tables_differ o events)

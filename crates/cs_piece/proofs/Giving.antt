@@ -8,7 +8,7 @@ use Rattle.std.proofs.lemmas.List.Sums.{sum_by-append}
 use Rattle.std.proofs.lemmas.List.Elements.{filter-append}
 use Rattle.cs_base.proofs.Tests.{by_test}
 use Rattle.cs_piece.specs.Tables.{Given, firsts, times_given}
-use Rattle.cs_piece.specs.declared.tables.First.{First}
+use Rattle.cs_piece.specs.declared.tables.GivenTable.{GivenTable}
 use Rattle.cs_piece.specs.declared.tables.Firsts.{Firsts}
 use Rattle.cs_piece.specs.declared.tables.Times.{Times}
 use Rattle.cs_piece.specs.declared.tables.Times.TheVariants as times
@@ -124,21 +124,21 @@ given_is : (m : ℕ) → (as_times m ≡ times.Never → ⊥) → 0 < m
 given_is zero e = absurd (e refl)
 given_is (suc m) e = omega arith
 
-pub firsts_more : (xs : List First) (x : First) (gs : List Given) (t : Times) → map given_of xs ≡ firsts gs
+pub firsts_more : (xs : List GivenTable) (x : GivenTable) (gs : List Given) (t : Times) → map given_of xs ≡ firsts gs
     → t ≡ as_times (times_given (given_of x).number gs) → t ≡ times.Never
     → map given_of (xs ++ x ∷ []) ≡ firsts (gs ++ given_of x ∷ [])
 firsts_more xs x gs t same is never =
     map-append given_of xs (x ∷ []) ∙ ap (λ l. l ++ given_of x ∷ []) same
     ∙ sym (first_now gs (given_of x) (never_is (times_given x.number gs) (sym is ∙ never)))
 
-pub firsts_same : (xs : List First) (x : First) (gs : List Given) (t : Times) → map given_of xs ≡ firsts gs
+pub firsts_same : (xs : List GivenTable) (x : GivenTable) (gs : List Given) (t : Times) → map given_of xs ≡ firsts gs
     → t ≡ as_times (times_given (given_of x).number gs) → (t ≡ times.Never → ⊥)
     → map given_of xs ≡ firsts (gs ++ given_of x ∷ [])
 firsts_same xs x gs t same is given =
     same ∙ sym (not_first gs (given_of x) (given_is (times_given x.number gs) (λ e. given (is ∙ e))))
 
 -- what stands for what was given, with one table more
-module _ (old new : Firsts) (x : First) (gs : List Given) (t u : Times) (stand : StandFor gs old)
+module _ (old new : Firsts) (x : GivenTable) (gs : List Given) (t u : Times) (stand : StandFor gs old)
     (long : length old.times.items ≡ numbers_end) (low : x.number < numbers_end)
     (is : t ≡ times_at old.times.items x.number) (next : u ≡ next_times t)
     (times_new : new.times.items ≡ slice_set old.times.items x.number u) where

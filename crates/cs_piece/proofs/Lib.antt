@@ -6,5 +6,6 @@ mod Marks
 mod Readied
 mod Rights
 mod Staged
+pub mod Ascending
 pub mod Joined
 pub mod Played

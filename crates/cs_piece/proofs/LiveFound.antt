@@ -13,9 +13,9 @@ use Rattle.cs_voice_meaning.specs.Placing.{IsLiveTable}
 use Rattle.cs_voice.specs.Memory.{table_of}
 use Rattle.cs_voice.specs.Tables.{table_at, tables_of}
 use Rattle.cs_voice.specs.VoiceData.{made}
-use Rattle.cs_voice.specs.declared.stage.TableAt.{TableAt}
+use Rattle.cs_voice.specs.declared.stage.PieceTable.{PieceTable}
 use Rattle.cs_piece.specs.Compositions.{live_in}
-use Rattle.cs_piece.proofs.Apart.{Differ, NoneHas}
+use Rattle.cs_piece.specs.inner.Marked.{Differ, NoneHas}
 
 abbrev as_live : Table → LiveTable
 as_live t = record { number = t.number; size = t.size }
@@ -59,7 +59,8 @@ rest_is : {X : Type 0} (x y : X) (xs ys : List X) → x ∷ xs ≡ y ∷ ys → 
 rest_is x y xs ys e = cc
 
 -- a live table of the composition is found by its number, made or not
-pub live_found : (ts : List TableAt) (flags : List Bool) (cs : List Table) (n : ℕ) → Differ (λ (t : Table). t.number) cs
+pub live_found : (ts : List PieceTable) (flags : List Bool) (cs : List Table) (n : ℕ)
+    → Differ (λ (t : Table). t.number) cs
     → map table_of ts ≡ map made cs
     → length flags ≡ length ts → any_live n (live_in cs) ≡ true → IsLiveTable (tables_of ts flags) n
 live_found [] flags [] n d e long any = absurd cc

@@ -74,7 +74,7 @@ act_named stock channels units N (act.Save g) r xs names takes h = (h.0, saves_v
 act_named stock channels units N (act.Start opcode u) r xs names takes h =
     (ap kind_of names, started_shape opcode r xs takes)
 act_named stock channels units N (act.Unit opcode u reach) r xs names takes h = (ap kind_of names, h)
-act_named stock channels units N (act.Store opcode reach) r xs names takes h = h
+act_named stock channels units N (act.Store reach) r xs names takes h = h
 act_named stock channels units N (act.Zak opcode reach) r xs names takes h = h
 act_named stock channels units N act.Seek r xs names takes h = tt
 act_named stock channels units N (act.Const n) r xs names takes h = tt
@@ -103,7 +103,7 @@ act_channel channels units (act.Save g) r names = refl
 act_channel channels units (act.Start opcode u) r names = refl
 act_channel channels units (act.Unit opcode u reach) r names = refl
 act_channel channels units act.Seek r names = refl
-act_channel channels units (act.Store opcode reach) r names = refl
+act_channel channels units (act.Store reach) r names = refl
 act_channel channels units (act.Zak opcode reach) r names = refl
 act_channel channels units (act.Const n) r names = refl
 act_channel channels units (act.Field n) r names = refl
@@ -180,16 +180,15 @@ module _ (s : Sheet) (body : typed.Block) (init perf : Code) (h : IsSheetOf s bo
     has.0,
     has.1,
     λ a inside.
-        or_left (covers s.areas s.foot.uses a) (covers s.areas s.foot.writes a)
-        (subst (λ places. covers s.areas places a ≡ true) (sym h.uses)
-        (covered s.areas (ops_use stock s.perf) g has.0 a has.1 among inside)),
+        or_left (covers s.zones s.foot.uses a) (covers s.zones s.foot.writes a)
+        (h.uses a ∙ covered s.areas (ops_use stock s.perf) g has.0 a has.1 among inside),
   )
 
   written : (g : Res) → Contains (ops_write stock s.perf) g → IsWritten s g
   written g among a inside =
       let at = area_in (area_of s.areas g) a inside in
-      subst (λ places. covers s.areas places a ≡ true) (sym h.writes)
-      (covered s.areas (ops_write stock s.perf) g at.0 a at.1 among (ap (λ o. in_area o a) (sym at.1) ∙ inside))
+      h.writes a
+      ∙ covered s.areas (ops_write stock s.perf) g at.0 a at.1 among (ap (λ o. in_area o a) (sym at.1) ∙ inside)
 
   init_named : AllNamed s.piece.head.nchnls units s.init
   init_named = subst (AllNamed s.piece.head.nchnls units) (sym h.init_ops) h.code.runs.init_names

@@ -3,7 +3,6 @@ use Rattle.std.proofs.Common.{◌≡◌, ℕ, ℤ, pos, zero, suc, ◌+◌, ⊎_
 use Rattle.std.proofs.Common.{◌++◌, length, nat_lt, slice_get, Option, Some, None, if◌then◌else◌, refl, sym, ◌∙◌, ap}
 use Rattle.std.proofs.Common.{subst, arith}
 use Rattle.std.specs.List.{AllZip, Contains, cons_option, filter_map, list_any}
-use Rattle.std.specs.List.Sorted.{IsStrictlyIncreasing}
 use Rattle.std.specs.Option.{is_some, option_map}
 use Rattle.std.proofs.lemmas.Bool.{cases_eq}
 use Rattle.std.proofs.lemmas.List.Elements.{Contains-append_left, Contains-append_right}
@@ -14,7 +13,7 @@ use Rattle.cs_base.specs.declared.resource.Res.TheVariants as res
 use Rattle.cs_cells.specs.declared.footprint.Area.{Area}
 use Rattle.cs_cells.specs.declared.footprint.Footprint.{Footprint}
 use Rattle.cs_code.specs.Lowered.{IsCodeOf}
-use Rattle.cs_code.specs.Means.{Plan}
+use Rattle.cs_code.specs.Means.{RegisterPlan}
 use Rattle.cs_code.specs.Names.{block_units}
 use Rattle.cs_ir.specs.Instruments.{Numbered}
 use Rattle.cs_base.specs.declared.spaces.Spaces.{Spaces}
@@ -29,10 +28,9 @@ use Rattle.cs_name_laws.specs.Names.{IsNamedBlock, is_there}
 use Rattle.cs_piece.proofs.Played.{performed_from, plays_from}
 use Rattle.cs_piece.specs.Sheets.{IsSheetOf, kinds_of}
 use Rattle.cs_piece.specs.VoicesOfNotes.{Perform}
-use Rattle.cs_cells.specs.Areas.{IsFootprint}
-use Rattle.cs_rwset.proofs.Covering.{ops_written_is_used}
-use Rattle.cs_rwset.proofs.Placed.{contains_first, contains_rest, places_alike, places_ascend, places_of_more}
-use Rattle.cs_rwset.proofs.Placed.{places_within_areas}
+use Rattle.cs_cells.specs.Cells.{covers}
+use Rattle.cs_rwset.proofs.Placed.{contains_first, contains_rest, places_alike}
+use Rattle.cs_rwset.specs.Zones.{IsFootOver}
 use Rattle.cs_rwset.specs.Footprints.{places_holding, stock_of, table_number}
 use Rattle.cs_voice_meaning.specs.Follows.{AreNamed}
 use Rattle.cs_voice_meaning.specs.Placing.{HasArea, area_of}
@@ -45,7 +43,7 @@ use Rattle.cs_voice.specs.declared.stage.Stage.{Stage}
 use Rattle.cs_piece.proofs.Bodies.{body_for, holds_of_body, no_body}
 use Rattle.cs_piece.specs.Compositions.{live_in}
 use Rattle.cs_piece.specs.Ready.{IsInstrumentOf, IsStageOf}
-use Rattle.cs_piece.specs.Setups.{IsFootOf, IsSetup, SetupData, composition_of}
+use Rattle.cs_piece.specs.Setups.{IsSetup, SetupData, composition_of}
 use Rattle.cs_piece.specs.Tables.{tables_in}
 
 -- all of some resources are there
@@ -136,7 +134,7 @@ TouchWhatIsThere = (names : SharedNames) (b : typed.Block) → IsNamedBlock name
 
 -- What is ready of an instrument in a piece with such zak spaces and so many channels.
 record IsReady (stage : Stage) (i : Numbered) (foot : Footprint) (spaces : Spaces) (body : typed.Block) : Type 0 where
-  pub plan : Plan
+  pub plan : RegisterPlan
   pub playable : (age : ℕ) (flags : List Bool) (fields : List ℤ) → length flags ≡ length stage.tables.now
       → IsPlayable (sheet_at i age foot stage flags fields)
   pub performs : (age : ℕ) (flags : List Bool) (fields : List ℤ) → length flags ≡ length stage.tables.now
@@ -145,7 +143,7 @@ record IsReady (stage : Stage) (i : Numbered) (foot : Footprint) (spaces : Space
 
 module _ (c : SetupData) (stage : Stage) (is_stage : IsStageOf (composition_of c) stage) (i : Numbered)
     (foot : Footprint) (body : typed.Block)
-    (feet : IsFootOf stage.layout.now i.perf foot)
+    (feet : IsFootOver stage.layout.now stage.zones.now i.perf foot)
     (named : (g : Res) → (spaces : Spaces)
     → Contains (block_uses (stock_of stage.layout.now) (core spaces body)
     ++ block_begins (stock_of stage.layout.now) (core spaces body)) g → HasArea stage.layout.now g) where
@@ -197,21 +195,6 @@ module _ (c : SetupData) (stage : Stage) (is_stage : IsStageOf (composition_of c
       subst (λ ch. IsCodeOf spaces ch body i.init i.perf → IsReady stage i foot spaces body) f
       (subst (λ sp. IsCodeOf sp stage.head.now.nchnls body i.init i.perf → IsReady stage i foot sp body) e ready_here)
 
-  footprint_is : IsFootprint (length stage.layout.now) foot
-  footprint_is =
-      let areas = stage.layout.now in
-      let stock = stock_of areas in
-      let used = ops_use stock i.perf.ops.items in
-      let written = ops_write stock i.perf.ops.items in
-      record {
-        uses = subst IsStrictlyIncreasing (sym feet.uses) (places_ascend areas used);
-        writes = subst IsStrictlyIncreasing (sym feet.writes) (places_ascend areas written);
-        within = λ r h. places_within_areas areas used r (subst (λ l. Contains l r) feet.uses h);
-        written = λ r h. subst (λ l. Contains l r) (sym feet.uses)
-            (places_of_more areas written used r (ops_written_is_used stock i.perf.ops.items)
-            (subst (λ l. Contains l r) feet.writes h));
-      }
-
   pub instrument_is : IsCodeOf (typed.orchestra c.orchestra).spaces c.orchestra.head.nchnls body i.init i.perf
       → IsInstrumentOf stage i foot (core (typed.orchestra c.orchestra).spaces body)
   instrument_is code =
@@ -224,18 +207,21 @@ module _ (c : SetupData) (stage : Stage) (is_stage : IsStageOf (composition_of c
         kinds = kinds_of (block_units (core (typed.orchestra c.orchestra).spaces body));
         playable = r.playable;
         performs = r.performs;
-        footprint = footprint_is;
+        footprint = feet.places;
         there = all_there (HasArea areas) (block_uses (stock_of areas) statements)
             (uses_there (typed.orchestra c.orchestra).spaces);
-        uses = feet.uses ∙ places_alike areas (ops_use (stock_of areas) i.perf.ops.items)
-            (block_uses (stock_of areas) statements) (code.touches.cycles may_use (stock_of areas));
-        writes = feet.writes ∙ places_alike areas (ops_write (stock_of areas) i.perf.ops.items)
-            (block_writes (stock_of areas) statements) (code.touches.cycles may_write (stock_of areas));
+        uses = λ a. feet.uses a
+            ∙ ap (λ places. covers areas places a) (places_alike areas (ops_use (stock_of areas) i.perf.ops.items)
+            (block_uses (stock_of areas) statements) (code.touches.cycles may_use (stock_of areas)));
+        writes = λ a. feet.writes a
+            ∙ ap (λ places. covers areas places a) (places_alike areas (ops_write (stock_of areas) i.perf.ops.items)
+            (block_writes (stock_of areas) statements) (code.touches.cycles may_write (stock_of areas)));
       }
 
 -- What a setup hands out is ready on its stage.
 module _ (touched : TouchWhatIsThere) (c : SetupData) (h : IsSetup c) (stage : Stage)
     (is_stage : IsStageOf (composition_of c) stage) (laid : stage.layout.now ≡ c.layout)
+    (zoned : stage.zones.now ≡ c.zones)
     (i : Numbered) (foot : Footprint) (body : typed.Block)
     (names : IsNamedBlock (typed.shared_names c.orchestra.globals) body) where
   touches : (g : Res) (spaces : Spaces)
@@ -250,21 +236,24 @@ module _ (touched : TouchWhatIsThere) (c : SetupData) (h : IsSetup c) (stage : S
       (subst (λ areas. is_there (typed.shared_names c.orchestra.globals) (stock_of areas) g ≡ true) here
       (touched (typed.shared_names c.orchestra.globals) body names spaces (stock_of stage.layout.now) g k)))
 
-  pub ready_for : IsFootOf c.layout i.perf foot
+  pub ready_for : IsFootOver c.layout c.zones i.perf foot
       → IsCodeOf (typed.orchestra c.orchestra).spaces c.orchestra.head.nchnls body i.init i.perf
       → IsInstrumentOf stage i foot (core (typed.orchestra c.orchestra).spaces body)
   ready_for feet code = instrument_is c stage is_stage i foot body
-      (subst (λ areas. IsFootOf areas i.perf foot) (sym laid) feet) touches code
+      (subst (λ areas. IsFootOver areas stage.zones.now i.perf foot) (sym laid)
+      (subst (λ zones. IsFootOver c.layout zones i.perf foot) (sym zoned) feet)) touches code
 
 -- footprints stand at their instruments' places
-pub foot_at : (areas : List Area) (is : List Numbered) (feet : List Footprint) (k : ℕ) (i : Numbered) (foot : Footprint)
-    → AllZip (λ (x : Numbered) (f : Footprint). IsFootOf areas x.perf f) is feet → slice_get is k ≡ Some i
-    → slice_get feet k ≡ Some foot → IsFootOf areas i.perf foot
-foot_at areas [] feet k i foot h e f = absurd cc
-foot_at areas (x ∷ is) [] k i foot h e f = absurd h
-foot_at areas (x ∷ is) (y ∷ feet) zero i foot h e f =
-    subst {A = Numbered × Footprint} (λ p. IsFootOf areas p.0.perf p.1) (λ j. (some_is x i e j, some_is y foot f j)) h.0
-foot_at areas (x ∷ is) (y ∷ feet) (suc k) i foot h e f = foot_at areas is feet k i foot h.1 e f
+pub foot_at : (areas zones : List Area) (is : List Numbered) (feet : List Footprint) (k : ℕ) (i : Numbered)
+    (foot : Footprint)
+    → AllZip (λ (x : Numbered) (f : Footprint). IsFootOver areas zones x.perf f) is feet → slice_get is k ≡ Some i
+    → slice_get feet k ≡ Some foot → IsFootOver areas zones i.perf foot
+foot_at areas zones [] feet k i foot h e f = absurd cc
+foot_at areas zones (x ∷ is) [] k i foot h e f = absurd h
+foot_at areas zones (x ∷ is) (y ∷ feet) zero i foot h e f =
+    subst {A = Numbered × Footprint} (λ p. IsFootOver areas zones p.0.perf p.1)
+    (λ j. (some_is x i e j, some_is y foot f j)) h.0
+foot_at areas zones (x ∷ is) (y ∷ feet) (suc k) i foot h e f = foot_at areas zones is feet k i foot h.1 e f
 
 pub as_many : {X Y : Type 0} (R : X → Y → Type 0) (xs : List X) (ys : List Y) → AllZip R xs ys → length xs ≡ length ys
 as_many R [] [] h = refl
@@ -278,16 +267,16 @@ module _ (touched : TouchWhatIsThere) (s : SetupData) (h : IsSetup s) where
       → slice_get s.feet place ≡ Some foot → (z : ℤ) → pos i.number ≡ z
       → (body : Block) × ((composition_of s).instrument z ≡ Some body) × (pos i.number ≡ z)
       × ((stage : Stage) → IsStageOf (composition_of s) stage → stage.layout.now ≡ s.layout
-      → IsInstrumentOf stage i foot body)
+      → stage.zones.now ≡ s.zones → IsInstrumentOf stage i foot body)
   handed_out place i foot at feet z n =
       let b = body_for (typed.orchestra s.orchestra) s.lowered.instruments place i z h.instruments at n in (
         core (typed.orchestra s.orchestra).spaces b.body,
         ap (option_map (core (typed.orchestra s.orchestra).spaces)) b.here,
         n,
-        λ stage is_stage laid. ready_for touched s h stage is_stage laid i foot b.body
+        λ stage is_stage laid zoned. ready_for touched s h stage is_stage laid zoned i foot b.body
             (holds_of_body (IsNamedBlock (typed.shared_names s.orchestra.globals)) (typed.orchestra s.orchestra).instrs
             z b.body h.named.instruments b.here)
-            (foot_at s.layout s.lowered.instruments s.feet place i foot h.touch at feet) b.code,
+            (foot_at s.layout s.zones s.lowered.instruments s.feet place i foot h.touch at feet) b.code,
       )
 
   pub not_there : (z : ℤ) → ((k : ℕ) (i : Numbered) → slice_get s.lowered.instruments k ≡ Some i → pos i.number ≡ z → ⊥)
@@ -296,9 +285,9 @@ module _ (touched : TouchWhatIsThere) (s : SetupData) (h : IsSetup s) where
       (no_body (typed.orchestra s.orchestra) s.lowered.instruments z h.instruments none)
 
   pub outside_is : (stage : Stage) → IsStageOf (composition_of s) stage → stage.layout.now ≡ s.layout
-      → IsInstrumentOf stage s.lowered.zero s.zero_foot (composition_of s).outside
-  outside_is stage is_stage laid =
-      ready_for touched s h stage is_stage laid s.lowered.zero s.zero_foot (typed.orchestra s.orchestra).zero
+      → stage.zones.now ≡ s.zones → IsInstrumentOf stage s.lowered.zero s.zero_foot (composition_of s).outside
+  outside_is stage is_stage laid zoned =
+      ready_for touched s h stage is_stage laid zoned s.lowered.zero s.zero_foot (typed.orchestra s.orchestra).zero
       h.named.zero h.zero_touches h.zero_code
 
 -- one instrument more isn't the one that is looked for

@@ -1,6 +1,6 @@
 -- Which tables are found by the codes and the events is what the definitions say.
 use Rattle.std.proofs.Common.{◌≡◌, ℕ, zero, suc, ◌==◌, ◌<◌, ◌≤◌, Bool, true, false, not, ◌&&◌, ◌||◌, List, [], ◌∷◌}
-use Rattle.std.proofs.Common.{◌++◌, map, cond, IfOk, Result, Ok, Err, refl, sym, ◌∙◌, ap, arith}
+use Rattle.std.proofs.Common.{◌++◌, map, cond, refl, sym, ◌∙◌, ap, arith}
 use Rattle.std.specs.List.{All, AllByRecursion, AllZip, filter, flat_map, list_any}
 use Rattle.std.proofs.lemmas.Bool.{ne_eqb}
 use Rattle.std.proofs.lemmas.List.Elements.{All-head, All-tail}
@@ -23,7 +23,7 @@ use Rattle.cs_typed.specs.TypedTree as typed
 use Rattle.cs_rwset.proofs.Placed.{among_alike}
 use Rattle.cs_piece.specs.Tables.{Given, firsts, given_by, given_in, is_frozen, may_be_written, only, stores_into}
 use Rattle.cs_piece.specs.Tables.{table_given, table_in, times_given}
-use Rattle.cs_piece.specs.declared.tables.First.{First}
+use Rattle.cs_piece.specs.declared.tables.GivenTable.{GivenTable}
 use Rattle.cs_piece.specs.declared.tables.Firsts.{Firsts}
 use Rattle.cs_piece.specs.inner.Marked.{IsRight, Marks, StandFor, as_times, codes_store, frozen_by, given_of, is_marked}
 use Rattle.cs_piece.specs.inner.Marked.{is_once, numbers_end, ops_store, table_by}
@@ -117,7 +117,7 @@ module _ (o : typed.Orchestra) (l : List Numbered) (gs : List Given) (given : Fi
   each_as g right = ap (λ b. table_given b g)
       (frozen_as g.number (let high : g.number ≤ 65535 = right.number.1 in omega arith))
 
-  all_as : (xs : List First) → All (λ x. IsRight (given_of x)) xs
+  all_as : (xs : List GivenTable) → All (λ x. IsRight (given_of x)) xs
       → map (λ x. table_by given.times.items w (given_of x)) xs ≡ map (table_in o gs) (map given_of xs)
   all_as [] h = refl
   all_as (x ∷ xs) h = λ i. each_as (given_of x) (All-head (λ y. IsRight (given_of y)) x xs h) i
@@ -126,7 +126,3 @@ module _ (o : typed.Orchestra) (l : List Numbered) (gs : List Given) (given : Fi
   pub tables_as : All (λ x. IsRight (given_of x)) given.items.items
       → map (λ x. table_by given.times.items w (given_of x)) given.items.items ≡ map (table_in o gs) (firsts gs)
   tables_as right = all_as given.items.items right ∙ ap (map (table_in o gs)) stand.firsts_are
-
-pub if_ok : {A E : Type 0} {P Q : A → Type 0} (r : Result A E) → ((a : A) → P a → Q a) → IfOk r P → IfOk r Q
-if_ok (Ok a) f h = f a h
-if_ok (Err e) f h = tt

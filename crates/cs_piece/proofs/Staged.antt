@@ -1,13 +1,19 @@
 -- The stage of a setup: its tables are those of the composition, and what its notes share is placed in its layout.
 use Rattle.std.proofs.Common.{◌≡◌, ℕ, ℤ, zero, suc, ◌<◌, ◌≤◌, ◌==◌, ◌&&◌, ◌||◌, Bool, true, false, not, List, [], ◌∷◌}
-use Rattle.std.proofs.Common.{length, map, slice_get, unsigned_abs, Option, Some, None, cond, if◌then◌else◌, refl, sym}
+use Rattle.std.proofs.Common.{get_or, length, map, pos, slice_get, unsigned_abs, Option, Some, None, cond, if◌then◌else◌, refl, sym}
 use Rattle.std.proofs.Common.{◌∙◌, ap, subst, arith}
 use Rattle.std.specs.Int.{is_negative}
 use Rattle.std.specs.List.{All, AllByRecursion, filter, list_any}
 use Rattle.std.specs.Option.{is_some}
 use Rattle.std.proofs.lemmas.Bool.{eq-eqb}
+use Rattle.std.proofs.lemmas.List.{length-map}
 use Rattle.std.proofs.lemmas.List.Elements.{All-cons, All-nil}
+use Rattle.std.proofs.lemmas.Option.{slice_get-get_or}
 use Rattle.cs_base.proofs.Tests.{some_is}
+use Rattle.cs_base.specs.Rates.{res_rate}
+use Rattle.cs_base.specs.declared.resource.Rate.{Rate}
+use Rattle.cs_base.specs.declared.resource.Rate.TheVariants as rate
+use Rattle.cs_base.specs.declared.resource.Res.{Res}
 use Rattle.cs_base.specs.declared.resource.Res.TheVariants as res
 use Rattle.cs_machine.specs.Access.{AreSpaces, spaces_of}
 use Rattle.cs_cells.specs.Areas.{IsLaid, limit_passed}
@@ -24,8 +30,14 @@ use Rattle.cs_layout.specs.declared.areas.LiveTable.{LiveTable}
 use Rattle.cs_meaning.specs.Plain.{Table, find_table}
 use Rattle.cs_ugen.proofs.Curves.{made_len}
 use Rattle.cs_ugen.specs.Points.{is_len}
+use Rattle.cs_rwset.specs.Zones.{AreZones}
 use Rattle.cs_rwset.specs.Footprints.{stock_of}
-use Rattle.cs_voice_meaning.specs.Placing.{IsPlaced, area_of, is_table_size}
+use Rattle.cs_ir.specs.Resources.{Stock}
+use Rattle.cs_ir.specs.Validity.{has_value}
+use Rattle.cs_meaning.specs.Pieces.{Piece}
+use Rattle.cs_machine.proofs.Found.{own}
+use Rattle.cs_voice_meaning.proofs.Naming.{found_number}
+use Rattle.cs_voice_meaning.specs.Placing.{IsPlaced, area_of, cell_count, is_table_size}
 use Rattle.cs_voice.specs.Starts.{piece_at}
 use Rattle.cs_voice.specs.Tables.{CanAllBePlayed, table_at, tables_of}
 use Rattle.cs_machine.specs.States.{header_of}
@@ -35,13 +47,14 @@ use Rattle.cs_typed.specs.TypedTree.{SharedNames}
 use Rattle.cs_voice.specs.Memory.{table_of}
 use Rattle.cs_voice.specs.VoiceData.{made}
 use Rattle.cs_voice.specs.declared.stage.Stage.{Stage}
-use Rattle.cs_voice.specs.declared.stage.TableAt.{TableAt}
+use Rattle.cs_voice.specs.declared.stage.PieceTable.{PieceTable}
 use Rattle.cs_piece.specs.Compositions.{live_in}
 use Rattle.cs_piece.specs.Ready.{IsStageOf}
 use Rattle.cs_piece.specs.Setups.{IsSetup, SetupData, composition_of}
+use Rattle.cs_piece.specs.Tables as pieces
 use Rattle.cs_piece.specs.Tables.{Given, firsts, given_in, is_frozen, table_given, table_in, tables_in}
 use Rattle.cs_piece.specs.inner.Marked.{IsRight}
-use Rattle.cs_piece.proofs.Apart.{apart_in, tables_differ}
+use Rattle.cs_piece.proofs.Ascending.{apart_in, each_ascending, tables_differ}
 use Rattle.cs_piece.proofs.LiveFound.{live_found}
 use Rattle.cs_piece.proofs.Rights.{AreRight, right_firsts, right_in}
 
@@ -75,7 +88,9 @@ sound_all o all (g ∷ gs) h = (sound_given (is_frozen o all g.number) g h.0, so
 
 pub sound_in : (o : typed.Orchestra) (events : List Event) → AreRight (given_in events)
     → AllByRecursion IsSound (tables_in o events)
-sound_in o events h = sound_all o (given_in events) (firsts (given_in events)) (right_firsts (given_in events) h)
+sound_in o events h =
+    each_ascending IsSound (map (table_in o (given_in events)) (firsts (given_in events)))
+    (sound_all o (given_in events) (firsts (given_in events)) (right_firsts (given_in events) h))
 
 -- a table that a note finds is one of the composition's, made or not
 pub record IsOne (tables : List Table) (t : Table) : Type 0 where
@@ -92,7 +107,8 @@ first_is x y xs ys e = cc
 rest_is : {X : Type 0} (x y : X) (xs ys : List X) → x ∷ xs ≡ y ∷ ys → xs ≡ ys
 rest_is x y xs ys e = cc
 
-found_in : (ts : List TableAt) (flags : List Bool) (cs : List Table) (n : ℤ) (t : Table) → map table_of ts ≡ map made cs
+found_in : (ts : List PieceTable) (flags : List Bool) (cs : List Table) (n : ℤ) (t : Table)
+    → map table_of ts ≡ map made cs
     → find_table (tables_of ts flags) n ≡ Some t → IsOne cs t
 found_in [] flags cs n t e f = absurd cc
 found_in (x ∷ ts) [] cs n t e f = absurd cc
@@ -197,7 +213,7 @@ some_area None e = absurd cc
 some_area (Some x) e = (x, refl)
 
 module _ (ksmps : ℕ) (names : SharedNames) (spaces : Spaces) (cs : List Table) (sound : AllByRecursion IsSound cs)
-    (ts : List TableAt) (same : map table_of ts ≡ map made cs) where
+    (ts : List PieceTable) (same : map table_of ts ≡ map made cs) where
   pub are_live : (flags : List Bool) → AreLive (live_in cs) (tables_of ts flags)
   are_live flags n t e none =
       let r = found_in ts flags cs n t same e in
@@ -218,9 +234,49 @@ module _ (ksmps : ℕ) (names : SharedNames) (spaces : Spaces) (cs : List Table)
             ∙ any_live (live_in cs) p.0 t.number t.size p.1);
       }
 
+-- the tables of a setup are those of its composition, as a note finds them once they have been made
+all_made : (ts : List PieceTable) → map table_of ts ≡ map made (map pieces.table_of ts)
+all_made [] = refl
+all_made (t ∷ ts) = ap (λ (l : List Table). table_of t ∷ l) (all_made ts)
+
+pub tables_found : (s : SetupData) → IsSetup s → map table_of s.tables ≡ map made (composition_of s).tables
+tables_found s h = all_made s.tables ∙ ap (map made) h.tables_are
+
+-- no area of what is placed is empty
+some_cells : (areas : List Area) (stock : Stock) (piece : Piece) → IsPlaced areas stock piece
+    → All (λ (a : Area). 0 < a.length) areas
+some_cells areas stock piece placed k d low =
+    let x = get_or areas k d in has x (own areas k x placed.laid (slice_get-get_or areas k d low))
+  where
+    counted : (n : ℕ) (r : Rate) → 0 < n → 0 < cell_count n r
+    counted n rate.Init h = omega arith
+    counted n rate.Control h = omega arith
+    counted n rate.Audio h = h
+
+    valued : (x : Area) (g : Res) → area_of areas g ≡ Some x → has_value g ≡ true → 0 < x.length
+    valued x g is value = subst (λ n. 0 < n) (sym (placed.cells g x is value))
+        (counted piece.head.ksmps (res_rate g) placed.frames)
+
+    of : (x : Area) (g : Res) → area_of areas g ≡ Some x → 0 < x.length
+    of x (res.Table n) is =
+        let there = placed.live n x is in
+        let lies = placed.tables (pos n) there.table there.found there.live in
+        let number : there.table.number ≡ n = found_number piece.tables (pos n) there.table there.found in
+        subst (λ n. 0 < n) (sym (lies.size x (ap (λ m. area_of areas (res.Table m)) number ∙ is))) lies.some
+    of x (res.Gi n) is = valued x (res.Gi n) is refl
+    of x (res.Gk n) is = valued x (res.Gk n) is refl
+    of x (res.Ga n) is = valued x (res.Ga n) is refl
+    of x (res.Control n) is = valued x (res.Control n) is refl
+    of x (res.Sound n) is = valued x (res.Sound n) is refl
+    of x (res.ZakK n) is = valued x (res.ZakK n) is refl
+    of x (res.ZakA n) is = valued x (res.ZakA n) is refl
+
+    has : (x : Area) → area_of areas x.res ≡ Some x → 0 < x.length
+    has x is = of x x.res is
+
 -- What a setup hands out as its stage.
 module _ (s : SetupData) (h : IsSetup s) (stage : Stage) (head : stage.head.now ≡ s.orchestra.head)
-    (laid : stage.layout.now ≡ s.layout)
+    (laid : stage.layout.now ≡ s.layout) (zoned : stage.zones.now ≡ s.zones)
     (spaces_so : stage.spaces ≡ s.orchestra.spaces)
     (same : map table_of stage.tables.now ≡ map made (composition_of s).tables) where
   sound : AllByRecursion IsSound (tables_in (typed.orchestra s.orchestra) s.plot.events)
@@ -277,6 +333,10 @@ module _ (s : SetupData) (h : IsSetup s) (stage : Stage) (head : stage.head.now 
     within = ap limit_passed laid ∙ h.within;
     places = places;
     zak = zak;
+    some = some_cells stage.layout.now (stock_of stage.layout.now)
+        (piece_at stage (map (λ t. false) stage.tables.now) [])
+        (placed (map (λ t. false) stage.tables.now) [] (length-map stage.tables.now (λ t. false)));
+    zones = subst (λ areas. AreZones areas stage.zones.now) (sym laid) (subst (AreZones s.layout) (sym zoned) h.zones_are);
     placed = λ flags fields long. placed flags fields long;
     can_be_played = λ flags long. can_be_played flags;
   }

@@ -1,15 +1,19 @@
 -- What whoever performs a piece rests on: its stage, and its instruments.
-use Rattle.std.specs.Prelude.{ℕ, ℤ, ◌≡◌, Bool, List, length, map, None}
+use Rattle.std.specs.Prelude.{ℕ, ℤ, ◌≡◌, ◌<◌, Bool, List, length, map, None}
+use Rattle.std.specs.List.{All}
 use Rattle.cs_machine.specs.Access.{AreSpaces, spaces_of}
 use Rattle.cs_cells.specs.Areas.{IsLaid, limit_passed, IsFootprint}
+use Rattle.cs_cells.specs.Cells.{covers}
+use Rattle.cs_cells.specs.declared.footprint.Area.{Area}
 use Rattle.cs_cells.specs.declared.footprint.Footprint.{Footprint}
-use Rattle.cs_code.specs.Means.{Plan}
+use Rattle.cs_code.specs.Means.{RegisterPlan}
 use Rattle.cs_piece_meaning.specs.Moments.{Composition}
 use Rattle.cs_ir.specs.Instruments.{Numbered}
 use Rattle.cs_meaning.specs.Core.{Block}
 use Rattle.cs_meaning.specs.Uses.{block_uses, block_writes}
 use Rattle.cs_piece.specs.VoicesOfNotes.{Perform}
 use Rattle.cs_rwset.specs.Footprints.{places_holding, stock_of}
+use Rattle.cs_rwset.specs.Zones.{AreZones}
 use Rattle.cs_voice_meaning.specs.Follows.{AreNamed, Kinds}
 use Rattle.cs_voice_meaning.specs.Placing.{HasArea, IsPlaced}
 use Rattle.cs_voice_meaning.specs.Voices.{IsPlayable}
@@ -20,8 +24,8 @@ use Rattle.cs_voice.specs.Memory.{table_of}
 use Rattle.cs_voice.specs.VoiceData.{made}
 use Rattle.cs_voice.specs.declared.stage.Stage.{Stage}
 
--- A stage is that of a composition: its header, zak spaces and tables, and a layout in which all that notes share is
--- placed, whichever of the tables have been made.
+-- A stage is that of a composition: its header, zak spaces and tables, a layout in which all that notes share is
+-- placed, whichever of the tables have been made, with a cell in each area, and zones of its areas.
 pub record IsStageOf (c : Composition) (stage : Stage) : Type 0 where
   pub head : header_of stage.head.now ≡ c.head
   pub spaces : stage.spaces ≡ c.spaces
@@ -30,6 +34,8 @@ pub record IsStageOf (c : Composition) (stage : Stage) : Type 0 where
   pub within : limit_passed stage.layout.now ≡ None
   pub places : AreSpaces stage.layout.now
   pub zak : spaces_of stage.layout.now ≡ stage.spaces
+  pub some : All (λ (a : Area). 0 < a.length) stage.layout.now
+  pub zones : AreZones stage.layout.now stage.zones.now
   pub placed : (flags : List Bool) (fields : List ℤ) → length flags ≡ length stage.tables.now
       → IsPlaced stage.layout.now (stock_of stage.layout.now) (piece_at stage flags fields)
   pub can_be_played : (flags : List Bool) → length flags ≡ length stage.tables.now
@@ -39,13 +45,15 @@ pub record IsStageOf (c : Composition) (stage : Stage) : Type 0 where
 -- been made, and do what the statements say, as they begin and in every cycle. The footprint is what the statements
 -- may use and write in a cycle, and all of that has its area.
 pub record IsInstrumentOf (stage : Stage) (i : Numbered) (foot : Footprint) (body : Block) : Type 0 where
-  pub plan : Plan
+  pub plan : RegisterPlan
   pub kinds : Kinds
   pub playable : (age : ℕ) (flags : List Bool) (fields : List ℤ) → length flags ≡ length stage.tables.now
       → IsPlayable (sheet_at i age foot stage flags fields)
   pub performs : (age : ℕ) (flags : List Bool) (fields : List ℤ) → length flags ≡ length stage.tables.now
       → Perform plan kinds (sheet_at i age foot stage flags fields) body
-  pub footprint : IsFootprint (length stage.layout.now) foot
-  pub uses : foot.uses ≡ places_holding stage.layout.now (block_uses (stock_of stage.layout.now) body)
-  pub writes : foot.writes ≡ places_holding stage.layout.now (block_writes (stock_of stage.layout.now) body)
+  pub footprint : IsFootprint (length stage.zones.now) foot
+  pub uses : (a : ℕ) → covers stage.zones.now foot.uses a
+      ≡ covers stage.layout.now (places_holding stage.layout.now (block_uses (stock_of stage.layout.now) body)) a
+  pub writes : (a : ℕ) → covers stage.zones.now foot.writes a
+      ≡ covers stage.layout.now (places_holding stage.layout.now (block_writes (stock_of stage.layout.now) body)) a
   pub there : AreNamed (HasArea stage.layout.now) (block_uses (stock_of stage.layout.now) body)

@@ -12,10 +12,8 @@ use Rattle.cs_meaning.specs.Core.{Block, core}
 use Rattle.cs_piece_meaning.specs.Bounded.{asks_in}
 use Rattle.cs_piece_meaning.specs.Moments.{Composition}
 use Rattle.cs_ir.specs.Instruments.{Numbered}
-use Rattle.cs_ir.specs.Resources.{ops_use, ops_write}
-use Rattle.cs_ir.specs.declared.op.Code.{Code}
 use Rattle.cs_name_laws.specs.Names.{NamesWhatThereIs}
-use Rattle.cs_rwset.specs.Footprints.{places_holding, stock_of}
+use Rattle.cs_rwset.specs.Zones.{AreZones, IsFootOver}
 use Rattle.cs_tempo.specs.Performable.{IsPerformable}
 use Rattle.cs_tempo.specs.declared.plot.Event.{Event}
 use Rattle.cs_tempo.specs.declared.plot.Plot.{Plot}
@@ -23,7 +21,7 @@ use Rattle.cs_typed.specs.TypedTree as typed
 use Rattle.cs_typed.specs.declared.tree.TypedOrc.{TypedOrc}
 use Rattle.cs_piece.specs.Compositions.{areas_in, body_of, composition}
 use Rattle.cs_piece.specs.Tables.{Given, given_in, table_of, tables_in}
-use Rattle.cs_piece.specs.declared.tables.PieceTable.{PieceTable}
+use Rattle.cs_voice.specs.declared.stage.PieceTable.{PieceTable}
 
 -- tables that events give under one number have one size
 abbrev pub AreOfOneSize : List Event → Type 0
@@ -35,24 +33,22 @@ abbrev pub AskForFew : typed.Orchestra → Type 0
 AskForFew o = (z : ℤ) (body : Block) → option_map (core o.spaces) (body_of (bodies o.instrs) z) ≡ Some body
     → asks_in body ≤ most_statements
 
--- the footprint of a performance code in some areas
-pub record IsFootOf (areas : List Area) (perf : Code) (foot : Footprint) : Type 0 where
-  pub uses : foot.uses ≡ places_holding areas (ops_use (stock_of areas) perf.ops.items)
-  pub writes : foot.writes ≡ places_holding areas (ops_write (stock_of areas) perf.ops.items)
-
 -- What contracts see of a setup: the typed orchestra, the plot, its tables, where the cells of what notes share are,
--- the codes, and the footprints of what stands outside of instruments and of these, in their order.
+-- the codes, which of these cells are claimed together, and the footprints over them of what stands outside of
+-- instruments and of these, in their order.
 pub record SetupData : Type 0 where
   pub orchestra : TypedOrc
   pub plot : Plot
   pub tables : List PieceTable
   pub layout : List Area
   pub lowered : Lowered
+  pub zones : List Area
   pub zero_foot : Footprint
   pub feet : List Footprint
 
 -- A setup: its instruments ask for few notes, the tables are those of the plot, the areas those of the piece and within
--- the limits, the codes are those of the orchestra, and the footprints those of the codes.
+-- the limits, the codes are those of the orchestra, the zones are zones of the areas, and the footprints those of the
+-- codes over them.
 pub record IsSetup (s : SetupData) : Type 0 where
   pub performable : IsPerformable s.orchestra.head s.plot
   pub sizes : AreOfOneSize s.plot.events
@@ -65,8 +61,10 @@ pub record IsSetup (s : SetupData) : Type 0 where
       (typed.orchestra s.orchestra).zero
       s.lowered.zero.init s.lowered.zero.perf
   pub instruments : AreInstrumentsOf (typed.orchestra s.orchestra) s.lowered.instruments
-  pub zero_touches : IsFootOf s.layout s.lowered.zero.perf s.zero_foot
-  pub touch : AllZip (λ (i : Numbered) (foot : Footprint). IsFootOf s.layout i.perf foot) s.lowered.instruments s.feet
+  pub zones_are : AreZones s.layout s.zones
+  pub zero_touches : IsFootOver s.layout s.zones s.lowered.zero.perf s.zero_foot
+  pub touch : AllZip (λ (i : Numbered) (foot : Footprint). IsFootOver s.layout s.zones i.perf foot) s.lowered.instruments
+      s.feet
 
 -- what a setup performs
 abbrev pub composition_of : SetupData → Composition

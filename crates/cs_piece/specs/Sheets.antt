@@ -1,10 +1,11 @@
 -- Which sheets a note of an instrument is played from.
-use Rattle.std.specs.Prelude.{◌≡◌, List, slice_get, Option, Some, None}
+use Rattle.std.specs.Prelude.{ℕ, ◌≡◌, List, slice_get, Option, Some, None}
 use Rattle.cs_base.specs.declared.resource.Rate.{Rate}
 use Rattle.cs_base.specs.declared.resource.Rate.TheVariants as rate
 use Rattle.cs_words.specs.declared.catalogue.Opcode.{Opcode}
 use Rattle.cs_words.specs.declared.catalogue.Opcode.TheVariants as op
 use Rattle.cs_typed.specs.TypedTree as typed
+use Rattle.cs_cells.specs.Cells.{covers}
 use Rattle.cs_ir.specs.Resources.{ops_use, ops_write}
 use Rattle.cs_ir.specs.declared.op.Code.{Code}
 use Rattle.cs_code.specs.Lowered.{IsCodeOf}
@@ -24,7 +25,7 @@ abbrev pub kinds_of : List UnitKind → Kinds
 kinds_of units u = kind_of (slice_get units u)
 
 -- A sheet of an instrument's body: its codes are two of the body in the piece, each resource that they may use has
--- its area, and the footprint is that of the second code.
+-- its area, and the footprint covers the cells of those of the second code.
 pub record IsSheetOf (s : Sheet) (body : typed.Block) (init perf : Code) : Type 0 where
   pub code : IsCodeOf s.piece.spaces s.piece.head.nchnls body init perf
   pub init_ops : s.init ≡ init.ops.items
@@ -33,5 +34,7 @@ pub record IsSheetOf (s : Sheet) (body : typed.Block) (init perf : Code) : Type 
   pub placed : IsPlaced s.areas (stock_of s.areas) s.piece
   pub init_areas : AreNamed (HasArea s.areas) (ops_use (stock_of s.areas) s.init)
   pub perf_areas : AreNamed (HasArea s.areas) (ops_use (stock_of s.areas) s.perf)
-  pub uses : s.foot.uses ≡ places_holding s.areas (ops_use (stock_of s.areas) s.perf)
-  pub writes : s.foot.writes ≡ places_holding s.areas (ops_write (stock_of s.areas) s.perf)
+  pub uses : (a : ℕ) → covers s.zones s.foot.uses a
+      ≡ covers s.areas (places_holding s.areas (ops_use (stock_of s.areas) s.perf)) a
+  pub writes : (a : ℕ) → covers s.zones s.foot.writes a
+      ≡ covers s.areas (places_holding s.areas (ops_write (stock_of s.areas) s.perf)) a

@@ -1,6 +1,6 @@
 -- Which tables a piece has: those that the score gives, each once, and which of them stay as they are made.
 use Rattle.std.specs.Prelude.{ℕ, ℤ, Bool, false, not, ◌&&◌, ◌||◌, ◌==◌, List, [], ◌∷◌, filter, count_by, map}
-use Rattle.std.specs.Prelude.{unsigned_abs, Some, None, if◌then◌else◌}
+use Rattle.std.specs.Prelude.{nat_lt, unsigned_abs, Some, None, if◌then◌else◌}
 use Rattle.std.specs.List.{flat_map, list_any}
 use Rattle.cs_base.specs.Rates.{same_res}
 use Rattle.cs_base.specs.declared.resource.Res.TheVariants as res
@@ -14,7 +14,8 @@ use Rattle.cs_tempo.specs.declared.plot.Event.{Event}
 use Rattle.cs_tempo.specs.declared.plot.EventAct.{EventAct}
 use Rattle.cs_tempo.specs.declared.plot.EventAct.TheVariants as act
 use Rattle.cs_typed.specs.TypedTree as typed
-use Rattle.cs_piece.specs.declared.tables.PieceTable.{PieceTable}
+use Rattle.cs_voice.specs.Tables.{table_at}
+use Rattle.cs_voice.specs.declared.stage.PieceTable.{PieceTable}
 
 -- A table as an event gives it: its number, size, GEN and arguments.
 pub record Given : Type 0 where
@@ -70,10 +71,19 @@ table_given frozen g = record {
 abbrev pub table_in : typed.Orchestra → List Given → Given → Table
 table_in o gs g = table_given (is_frozen o gs g.number) g
 
--- the tables of a plot, each once
+-- a table put behind those of lower numbers; and tables by ascending number
+abbrev pub put_in : Table → List Table → List Table
+put_in t [] = t ∷ []
+put_in t (u ∷ rest) = if nat_lt u.number t.number then u ∷ put_in t rest else t ∷ u ∷ rest
+
+abbrev pub ascending : List Table → List Table
+ascending [] = []
+ascending (t ∷ rest) = put_in t (ascending rest)
+
+-- the tables of a plot, each once, by ascending number
 abbrev pub tables_in : typed.Orchestra → List Event → List Table
-tables_in o events = map (table_in o (given_in events)) (firsts (given_in events))
+tables_in o events = ascending (map (table_in o (given_in events)) (firsts (given_in events)))
 
 -- a table as the composition has it, which hasn't been made yet
 abbrev pub table_of : PieceTable → Table
-table_of t = record { number = t.number; size = t.size; frozen = t.points; present = false }
+table_of t = table_at t false

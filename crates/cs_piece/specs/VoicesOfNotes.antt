@@ -13,7 +13,7 @@ use Rattle.cs_meaning.specs.Initialising.{init_block}
 use Rattle.cs_meaning.specs.Notes.{Note, Path, reg, start, new_note, moved_to}
 use Rattle.cs_meaning.specs.Performing.{perf_block}
 use Rattle.cs_meaning.specs.Plain.{Piece, Plain, plain, fresh, next_cycle}
-use Rattle.cs_code.specs.Means.{Plan}
+use Rattle.cs_code.specs.Means.{RegisterPlan}
 use Rattle.cs_voice_meaning.specs.Placing.{area_of, wave_of, HasArea}
 use Rattle.cs_ugen.specs.Generators.{pace_of}
 use Rattle.cs_voice_meaning.specs.Follows.{Kinds, SameUnit}
@@ -32,7 +32,7 @@ Hold areas cells shared = (g : Res) → HasArea areas g → wave_of (area_of are
 
 -- A voice stands for a note that plays: the same local variables and kept values, each unit where all its inputs so
 -- far bring it, and the same output.
-pub record IsVoiceOf (s : Sheet) (plan : Plan) (kinds : Kinds) (v : Sounding) (t : Note Plain) : Type 0 where
+pub record IsVoiceOf (s : Sheet) (plan : RegisterPlan) (kinds : Kinds) (v : Sounding) (t : Note Plain) : Type 0 where
   pub sheet : v.sheet ≡ s
   pub locals : (q : Reg) → q.index < plan.locals q.rate → v.regs q ≡ t.locals q
   pub kept : (p : Path) (n : ℕ) → plan.kept p ≡ Some n → v.regs (reg rate.Init n) ≡ constant (t.kept p)
@@ -45,7 +45,9 @@ pub record IsVoiceOf (s : Sheet) (plan : Plan) (kinds : Kinds) (v : Sounding) (t
 -- The code that begins a voice, over cells that hold what notes share, does what the statements do as the note
 -- begins: it is refused for the same cause or leaves a voice of the note, asks for the same notes, and leaves in the
 -- cells what they share then.
-pub record Begins (s : Sheet) (body : Block) (plan : Plan) (kinds : Kinds) (before : ℕ → ℤ) (shared : Res → Wave) : Type 0 where
+pub record Begins (s : Sheet) (body : Block) (plan : RegisterPlan) (kinds : Kinds) (before : ℕ → ℤ)
+    (shared : Res → Wave) : Type
+    0 where
   pub cause : (initialised s before).world.cause ≡ (begun_note s.piece body shared).world.cause
   pub asks : (initialised s before).world.asks ≡ (begun_note s.piece body shared).world.asks
   pub cells : Hold s.areas (initialised s before).world.shared (begun_note s.piece body shared).world.shared
@@ -54,7 +56,8 @@ pub record Begins (s : Sheet) (body : Block) (plan : Plan) (kinds : Kinds) (befo
 
 -- A cycle of a voice of the note, over cells that hold what notes share, leaves a voice of the note after its next
 -- cycle, and in the cells what notes share then.
-pub record GoesOn (s : Sheet) (body : Block) (plan : Plan) (kinds : Kinds) (v : Sounding) (t : Note Plain) (c : Cells)
+pub record GoesOn (s : Sheet) (body : Block) (plan : RegisterPlan) (kinds : Kinds) (v : Sounding) (t : Note Plain)
+    (c : Cells)
     (shared : Res → Wave) : Type 0 where
   pub voice : IsVoiceOf s plan kinds (performed v c) (next_note s.piece body shared t)
   pub cells : Hold s.areas (cell (left_by v c)) (next_note s.piece body shared t).world.shared
@@ -62,7 +65,7 @@ pub record GoesOn (s : Sheet) (body : Block) (plan : Plan) (kinds : Kinds) (v : 
 -- Voices that play from a sheet perform notes of these statements, from their beginning through every cycle, whatever
 -- other notes do in between to what they share. Where the values of a note stand and what its units are, plan and
 -- kinds say.
-pub record Perform (plan : Plan) (kinds : Kinds) (s : Sheet) (body : Block) : Type 0 where
+pub record Perform (plan : RegisterPlan) (kinds : Kinds) (s : Sheet) (body : Block) : Type 0 where
   pub begins : (cells : ℕ → ℤ) (shared : Res → Wave) → Hold s.areas cells shared → Begins s body plan kinds cells shared
   pub goes_on : (v : Sounding) (t : Note Plain) (c : Cells) (shared : Res → Wave) → word_count s.areas ≤ length c
       → IsVoiceOf s plan kinds v t → Hold s.areas (cell c) shared → GoesOn s body plan kinds v t c shared

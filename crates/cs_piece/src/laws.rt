@@ -1,12 +1,15 @@
 // What holds of every voice and its note: calls that do nothing, whose contracts are the laws.
-ghost use Rattle.std.specs.Prelude.{◌≡◌};
+ghost use Rattle.std.specs.Prelude.{◌≡◌, ◌<◌, AllPairs, List};
 ghost use Rattle.cs_meaning.specs.Core.{Block, core};
+ghost use Rattle.cs_meaning.specs.Plain.{Table};
+ghost use Rattle.cs_tempo.specs.declared.plot.Event.{Event};
 ghost use Rattle.cs_code.specs.Means.{Means};
 ghost use Rattle.cs_ugen.specs.Generators.{pace_of, the_generators};
 ghost use Rattle.cs_voice_meaning.specs.Voices.{Sheet, IsPlayable};
 ghost use Rattle.cs_typed.specs.TypedTree as typed;
 ghost use Rattle.cs_ir.specs.declared.op.Code.{Code};
 ghost use Rattle.cs_code.specs.Names.{block_units};
+ghost use Rattle.cs_piece.specs.Tables.{tables_in};
 ghost use Rattle.cs_piece.specs.Sheets.{IsSheetOf, kinds_of};
 ghost use Rattle.cs_piece.specs.VoicesOfNotes.{Perform};
 
@@ -23,4 +26,10 @@ pub fn instruments_are_performed()
         → IsPlayable s }
     ensures performed { (s : Sheet) (body : typed.Block) (init perf : Code) (h : IsSheetOf s body init perf)
         → Perform h.code.means.plan (kinds_of (block_units (core s.piece.spaces body))) s (core s.piece.spaces body) }
+{}
+
+/// The tables of a plot stand by ascending number.
+pub fn tables_are_in_order()
+    ensures { (o : typed.Orchestra) (events : List Event)
+        → AllPairs (λ (t u : Table). t.number < u.number) (tables_in o events) }
 {}

@@ -18,7 +18,7 @@ mod stage;
 mod tables;
 mod written;
 
-pub use laws::{instruments_are_performed, voices_perform_their_notes};
+pub use laws::{instruments_are_performed, tables_are_in_order, voices_perform_their_notes};
 pub use setup::Setup;
 pub use stage::Playable;
-pub use tables::PieceTable;
+pub use tables::GivenTable;

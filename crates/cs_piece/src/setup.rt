@@ -10,21 +10,22 @@ ghost use Rattle.cs_ir.specs.Instruments.{Numbered};
 ghost use Rattle.cs_layout.specs.Layouts.{AreApart, areas_of};
 ghost use Rattle.cs_name_laws.specs.Names.{NamesWhatThereIs};
 ghost use Rattle.cs_piece.specs.Compositions.{areas_in, live_in};
-ghost use Rattle.cs_piece.specs.Setups.{AreOfOneSize, AskForFew, IsFootOf};
+ghost use Rattle.cs_piece.specs.Setups.{AreOfOneSize, AskForFew};
+ghost use Rattle.cs_rwset.specs.Zones.{AreZones, IsFootOver};
 ghost use Rattle.cs_piece.specs.Tables.{table_of, tables_in};
 ghost use Rattle.cs_tempo.specs.Performable.{IsPerformable};
 ghost use Rattle.cs_typed.specs.TypedTree as typed;
 ghost use Rattle.cs_typed.specs.WellRated.{IsWellRated};
 
-use crate::tables::{PieceTable, tables_of};
+use crate::tables::tables_of;
 use cs_base::{LimitHit, Or, OutOfMemory};
-use cs_cells::{Footprint, Layout};
+use cs_cells::Layout;
 use cs_code::{Lowered, lower};
-use cs_ir::Instrument;
 use cs_layout::{LiveTable, layout};
-use cs_rwset::footprint;
+use cs_rwset::{Zoned, find_zones};
 use cs_tempo::Plot;
 use cs_typed::TypedOrc;
+use cs_voice::PieceTable;
 use std::alloc::Global;
 use std::marker::Model;
 
@@ -33,15 +34,13 @@ use std::marker::Model;
 pub struct Setup {
     pub(crate) orchestra: TypedOrc,
     pub(crate) plot: Plot,
-    /// Each table of the plot once.
+    /// Each table of the plot once, by ascending number.
     pub(crate) tables: Vec<PieceTable>,
     /// Where the cells of what notes share are.
     pub(crate) layout: Layout,
     pub(crate) lowered: Lowered,
-    /// The footprint of what stands outside of instruments.
-    pub(crate) zero_foot: Footprint,
-    /// The footprints of the instruments, in their order.
-    pub(crate) feet: Vec<Footprint>,
+    /// The zones of the layout, and the footprints of what is performed.
+    pub(crate) zoned: Zoned,
 }
 
 impl Model for Setup {
@@ -53,9 +52,9 @@ impl Model for Setup {
 
     ghost coded = { Prim.hlevel (codes, e.the_row.coded) };
 
-    ghost view = { λ s. record { orchestra = s.orchestra; plot = s.plot; tables = s.tables.items; layout = s.layout; lowered = s.lowered; zero_foot = s.zero_foot; feet = s.feet.items } };
+    ghost view = { λ s. record { orchestra = s.orchestra; plot = s.plot; tables = s.tables.items; layout = s.layout; lowered = s.lowered; zones = s.zoned.zones; zero_foot = s.zoned.outside; feet = s.zoned.feet.items } };
 
-    ghost invariant = { λ s. IsSetup (record { orchestra = s.orchestra; plot = s.plot; tables = s.tables.items; layout = s.layout; lowered = s.lowered; zero_foot = s.zero_foot; feet = s.feet.items }) };
+    ghost invariant = { λ s. IsSetup (record { orchestra = s.orchestra; plot = s.plot; tables = s.tables.items; layout = s.layout; lowered = s.lowered; zones = s.zoned.zones; zero_foot = s.zoned.outside; feet = s.zoned.feet.items }) };
 }
 
 /// The tables of a piece, and where its cells are.
@@ -65,18 +64,11 @@ struct Ground {
     layout: Layout,
 }
 
-/// The footprint of what stands outside of instruments, and those of the instruments.
-#[derive(Drop)]
-struct Feet {
-    zero: Footprint,
-    instruments: Vec<Footprint>,
-}
-
 /// Tables and layout of a piece, and the footprints of its codes.
 #[derive(Drop)]
 struct Laid {
     ground: Ground,
-    feet: Feet,
+    zoned: Zoned,
 }
 
 /// All that is made of an orchestra and a plot.
@@ -110,8 +102,7 @@ impl Setup {
             tables: laid.ground.tables,
             layout: laid.ground.layout,
             lowered: made.lowered,
-            zero_foot: laid.feet.zero,
-            feet: laid.feet.instruments,
+            zoned: laid.zoned,
         })
     }
 
@@ -135,6 +126,13 @@ impl Setup {
     {
         &self.layout
     }
+
+    /// Which of these cells are claimed together.
+    pub fn zones(&self) -> &Layout
+        ensures { result.now ≡ self.now.zones }
+    {
+        &self.zoned.zones
+    }
 }
 
 /// What is made of an orchestra that breaks no rule, and of a plot that passes no limit.
@@ -152,10 +150,11 @@ fn made_of(alloc: Global, orchestra: &TypedOrc, plot: &Plot) -> Result<Made, Or<
     ensures within { OnOk result (limit_passed (areas_in (typed.orchestra orchestra.now) plot.now.events) ≡ None) }
     ensures limit { (hit : LimitHit) → result ≡ Err (or.Fault hit)
         → limit_passed (areas_in (typed.orchestra orchestra.now) plot.now.events) ≡ Some hit }
-    ensures zero_foot { IfOk result (λ m. IsFootOf m.laid.ground.layout m.lowered.zero.perf m.laid.feet.zero) }
-    ensures feet { IfOk result (λ m. AllZip (λ (i : Numbered)
-        (foot : Footprint). IsFootOf m.laid.ground.layout i.perf foot)
-        m.lowered.instruments m.laid.feet.instruments.items) }
+    ensures zones { IfOk result (λ m. AreZones m.laid.ground.layout m.laid.zoned.zones) }
+    ensures zero_foot { IfOk result (λ m. IsFootOver m.laid.ground.layout m.laid.zoned.zones m.lowered.zero.perf
+        m.laid.zoned.outside) }
+    ensures feet { IfOk result (λ m. AllZip (λ (i : Numbered) (foot : Footprint). IsFootOver m.laid.ground.layout
+        m.laid.zoned.zones i.perf foot) m.lowered.instruments m.laid.zoned.feet.items) }
 {
     let lowered = lower(alloc, orchestra)?;
     let laid = laid_out(alloc, orchestra, plot, &lowered)?;
@@ -177,13 +176,19 @@ fn laid_out(
     ensures within { OnOk result (limit_passed (areas_in (typed.orchestra orchestra.now) plot.now.events) ≡ None) }
     ensures limit { (hit : LimitHit) → result ≡ Err (or.Fault hit)
         → limit_passed (areas_in (typed.orchestra orchestra.now) plot.now.events) ≡ Some hit }
-    ensures zero { IfOk result (λ l. IsFootOf l.ground.layout lowered.now.zero.perf l.feet.zero) }
-    ensures feet { IfOk result (λ l. AllZip (λ (i : Numbered) (foot : Footprint). IsFootOf l.ground.layout i.perf foot)
-        lowered.now.instruments l.feet.instruments.items) }
+    ensures zones { IfOk result (λ l. AreZones l.ground.layout l.zoned.zones) }
+    ensures zero { IfOk result (λ l. IsFootOver l.ground.layout l.zoned.zones lowered.now.zero.perf l.zoned.outside) }
+    ensures feet { IfOk result (λ l. AllZip (λ (i : Numbered) (foot : Footprint). IsFootOver l.ground.layout
+        l.zoned.zones i.perf foot) lowered.now.instruments l.zoned.feet.items) }
 {
     let ground = ground_of(alloc, orchestra, plot, lowered)?;
-    let feet = feet_of(alloc, lowered, &ground.layout)?;
-    Ok(Laid { ground, feet })
+    let zoned = find_zones(
+        alloc,
+        &ground.layout,
+        lowered.zero.perf(),
+        lowered.instruments.as_slice(),
+    )?;
+    Ok(Laid { ground, zoned })
 }
 
 /// The tables of a plot, and the layout of a piece with those of them that notes may change.
@@ -249,43 +254,4 @@ fn live_of(alloc: Global, tables: &[PieceTable]) -> Result<Vec<LiveTable>, OutOf
         }
     }
     Ok(live)
-}
-
-/// The footprints of what is performed.
-fn feet_of(alloc: Global, lowered: &Lowered, layout: &Layout) -> Result<Feet, OutOfMemory>
-    ensures zero { IfOk result (λ f. IsFootOf layout.now lowered.now.zero.perf f.zero) }
-    ensures instruments { IfOk result (λ f. AllZip
-        (λ (i : Numbered) (foot : Footprint). IsFootOf layout.now i.perf foot)
-        lowered.now.instruments f.instruments.items) }
-{
-    Ok(Feet {
-        zero: foot_of(alloc, &lowered.zero, layout)?,
-        instruments: feet_of_all(alloc, lowered.instruments.as_slice(), layout)?,
-    })
-}
-
-fn feet_of_all(
-    alloc: Global,
-    instruments: &[Instrument],
-    layout: &Layout,
-) -> Result<Vec<Footprint>, OutOfMemory>
-    ensures { IfOk result (λ v. AllZip (λ (i : Numbered)
-        (foot : Footprint). IsFootOf layout.now i.perf foot) instruments.now v.items) }
-{
-    let mut feet = Vec::new(alloc);
-    for instrument in instruments {
-        feet.push(foot_of(alloc, instrument, layout)?)?;
-    }
-    Ok(feet)
-}
-
-/// What the code that performs an instrument's notes may touch.
-fn foot_of(
-    alloc: Global,
-    instrument: &Instrument,
-    layout: &Layout,
-) -> Result<Footprint, OutOfMemory>
-    ensures { IfOk result (λ foot. IsFootOf layout.now instrument.now.perf foot) }
-{
-    footprint(alloc, instrument.perf(), layout)
 }

@@ -1,5 +1,6 @@
 // What a setup hands out to whoever performs it.
-ghost use Rattle.std.specs.Prelude.{◌≡◌, ◌<◌, ℕ, map, length, pos, slice_get, true, false, IfOk, IfSome, IfNone, MatchOption, Some, None};
+ghost use Rattle.std.specs.Prelude.{◌≡◌, ◌<◌, ℕ, length, pos, slice_get, true, false, IfSome, IfNone, MatchOption};
+ghost use Rattle.std.specs.Prelude.{Some, None};
 ghost use Rattle.cs_cells.specs.Areas.{IsLaid, limit_passed};
 ghost use Rattle.cs_ir.specs.Instruments.{Numbered};
 ghost use Rattle.cs_meaning.specs.Core.{Block};
@@ -7,23 +8,16 @@ ghost use Rattle.cs_piece_meaning.specs.Bounded.{IsBounded};
 ghost use Rattle.cs_piece.specs.Compositions.{areas_in};
 ghost use Rattle.cs_piece.specs.Ready.{IsInstrumentOf, IsStageOf};
 ghost use Rattle.cs_piece.specs.Setups.{AreOfOneSize, composition_of};
-ghost use Rattle.cs_piece.specs.Tables as pieces;
+ghost use Rattle.cs_rwset.specs.Zones.{AreZones};
 ghost use Rattle.cs_tempo.specs.Performable.{IsPerformable};
 ghost use Rattle.cs_typed.specs.TypedTree as typed;
-ghost use Rattle.cs_voice.specs.Memory.{frozen_in, table_of};
-ghost use Rattle.cs_voice.specs.VoiceData.{made};
 ghost use Rattle.cs_voice.specs.declared.stage.Stage.{Stage};
 
 use crate::setup::Setup;
-use crate::tables::PieceTable;
-use cs_base::OutOfMemory;
 use cs_cells::Footprint;
-use cs_gen::Points;
 use cs_ir::Instrument;
 use cs_name_laws::notes_touch_what_there_is;
-use cs_ugen::FrozenTable;
-use cs_voice::{Stage, TableAt};
-use std::alloc::Global;
+use cs_voice::Stage;
 
 /// What notes are played from: an instrument, or what stands outside of instruments, and the footprint of its cycle.
 #[derive(Clone, Copy)]
@@ -41,29 +35,24 @@ impl Setup {
         ensures areas { self.now.layout ≡ areas_in (typed.orchestra self.now.orchestra) self.now.plot.events }
         ensures laid { IsLaid self.now.layout }
         ensures within { limit_passed self.now.layout ≡ None }
+        ensures zones { AreZones self.now.layout self.now.zones }
     {
         let _ = &self.plot;
     }
 
-    /// The tables of the piece, as notes find them.
-    pub fn tables_at(&self, alloc: Global) -> Result<Vec<TableAt<'_>>, OutOfMemory>
-        ensures { IfOk result (λ v. map table_of v.items ≡ map made (composition_of self.now).tables) }
-    {
-        all_at(alloc, &self.tables)
-    }
-
     /// The stage that the notes of the piece play in, with its tables.
-    pub fn stage<'s>(&'s self, tables: &'s [TableAt<'s>]) -> Stage<'s>
-        requires { map table_of tables.now ≡ map made (composition_of self.now).tables }
+    pub fn stage(&self) -> Stage<'_>
         ensures stage { IsStageOf (composition_of self.now) result }
         ensures layout { result.layout.now ≡ self.now.layout }
-        ensures tables { result.tables.now ≡ tables.now }
+        ensures zones { result.zones.now ≡ self.now.zones }
+        ensures tables { result.tables.now ≡ self.now.tables }
     {
         Stage {
             head: &self.orchestra.head,
             layout: &self.layout,
+            zones: &self.zoned.zones,
             spaces: self.orchestra.spaces,
-            tables,
+            tables: &self.tables,
         }
     }
 
@@ -73,14 +62,14 @@ impl Setup {
             (λ p. (body : Block) × ((composition_of self.now).instrument number ≡ Some body)
             × (pos p.instrument.now.number ≡ number)
             × ((stage : Stage) → IsStageOf (composition_of self.now) stage → stage.layout.now ≡ self.now.layout
-            → IsInstrumentOf stage p.instrument.now p.foot.now body)) }
+            → stage.zones.now ≡ self.now.zones → IsInstrumentOf stage p.instrument.now p.foot.now body)) }
     {
         notes_touch_what_there_is();
         let instruments = self.lowered.instruments.as_slice();
         match place_of(instruments, number) {
             Some(place) => Some(Playable {
                 instrument: &instruments[place],
-                foot: &self.feet[place],
+                foot: &self.zoned.feet[place],
             }),
             None => None,
         }
@@ -89,12 +78,12 @@ impl Setup {
     /// What stands outside of instruments, with its footprint.
     pub fn outside(&self) -> Playable<'_>
         ensures { (stage : Stage) → IsStageOf (composition_of self.now) stage → stage.layout.now ≡ self.now.layout
-            → IsInstrumentOf stage result.instrument.now result.foot.now (composition_of self.now).outside }
+            → stage.zones.now ≡ self.now.zones → IsInstrumentOf stage result.instrument.now result.foot.now (composition_of self.now).outside }
     {
         notes_touch_what_there_is();
         Playable {
             instrument: &self.lowered.zero,
-            foot: &self.zero_foot,
+            foot: &self.zoned.outside,
         }
     }
 }
@@ -119,27 +108,4 @@ fn has_number(instrument: &Instrument, number: i64) -> bool
     ensures other { result ≡ false → pos instrument.now.number ≡ number → ⊥ }
 {
     i64::from(instrument.number()) == number
-}
-
-fn all_at(alloc: Global, tables: &[PieceTable]) -> Result<Vec<TableAt<'_>>, OutOfMemory>
-    ensures { IfOk result (λ v. map table_of v.items ≡ map made (map pieces.table_of tables.now)) }
-{
-    let mut list = Vec::new(alloc);
-    for table in tables {
-        list.push(TableAt {
-            number: table.number,
-            size: table.size,
-            points: points_of(&table.points),
-        })?;
-    }
-    Ok(list)
-}
-
-fn points_of(points: &Option<Points>) -> Option<FrozenTable<'_>>
-    ensures { frozen_in result ≡ points.now }
-{
-    match points {
-        Some(points) => Some(FrozenTable::new(points.as_slice())),
-        None => None,
-    }
 }

@@ -1,36 +1,54 @@
-// The tables of a piece: each number once, as the score first gives it, and frozen where nothing changes it.
-ghost use Rattle.std.specs.Prelude.{◌≡◌, ◌<◌, ◌++◌, ◌∷◌, [], ℕ, List, length, map, IfOk, OnOk, Some, None, true};
+// The tables of a piece: each number once, in ascending order, as the score first gives it, and frozen where nothing
+// changes it.
+ghost use Rattle.std.specs.Prelude.{◌≡◌, ◌<◌, ◌++◌, ◌∷◌, [], ℕ, List, length, map, pos, IfOk, OnOk, Some, None, true};
 ghost use Rattle.std.specs.Prelude.{false, if◌then◌else◌};
 ghost use Rattle.std.specs.List.{All};
 ghost use Rattle.cs_code.specs.Lowered.{AreInstrumentsOf};
 ghost use Rattle.cs_gen.specs.Faults.{table_fault};
 ghost use Rattle.cs_gen.specs.Points.{points_of};
-ghost use Rattle.cs_piece.specs.Tables.{Given, firsts, given_by, given_in, table_given, table_of, tables_in};
+ghost use Rattle.cs_meaning.specs.Plain.{Table};
+ghost use Rattle.cs_piece.specs.Tables.{Given, ascending, firsts, given_by, given_in, table_given, table_of, tables_in};
 ghost use Rattle.cs_piece.specs.declared.tables.Times.TheVariants as often;
-ghost use Rattle.cs_piece.specs.inner.Marked.{IsRight, StandFor, frozen_by, given_of, is_marked, next_times};
+ghost use Rattle.cs_piece.specs.inner.Marked.{Differ, IsRight, StandFor, frozen_by, given_of, is_marked, next_times};
 ghost use Rattle.cs_piece.specs.inner.Marked.{is_once, numbers_end, table_by, times_at};
 ghost use Rattle.cs_tempo.specs.Performable.{IsActInRange};
 ghost use Rattle.cs_typed.specs.TypedTree as typed;
 
 use crate::written::{Written, written_by};
-use cs_base::{Num, Or, OutOfMemory};
+use cs_base::{GREATEST_TABLE, Num, Or, OutOfMemory};
 use cs_code::Lowered;
 use cs_gen::{Points, accepted_tables_are_made, make_table};
 use cs_tempo::{Event, EventAct};
+use cs_ugen::FrozenTable;
+use cs_voice::PieceTable;
 use std::alloc::Global;
 
-/// Table numbers are below.
-pub(crate) const NUMBERS_END: usize = 65_536;
+/// One more than the greatest number of a table.
+pub(crate) const NUMBERS_END: usize = GREATEST_TABLE as usize + 1;
 
-/// A table of a piece, as the score first gives it.
-#[derive(Drop)]
-pub struct PieceTable {
+/// A table as an event of the score gives it.
+#[derive(Clone, Copy)]
+pub struct GivenTable<'p> {
     /// From 1 to 65,535.
-    pub number: usize,
-    /// How many points it has: from 2 to 65,537.
-    pub size: u32,
-    /// Its points, where it is frozen; None where its points are cells.
-    pub points: Option<Points>,
+    pub number: u32,
+    pub size: i64,
+    pub gen_: i64,
+    pub args: &'p [Num],
+}
+
+impl GivenTable<'_> {
+    /// The points of a table that has no fault.
+    pub fn points(&self, alloc: Global) -> Result<Points, OutOfMemory>
+        requires { table_fault self.now.size self.now.gen_ self.now.args.now ≡ None }
+        ensures points { IfOk result (λ p. p ≡ points_of self.now.size self.now.gen_ self.now.args.now) }
+        ensures long { IfOk result (λ p. pos (length p) ≡ self.now.size) }
+    {
+        match make_table(alloc, self.size, self.gen_, self.args) {
+            Ok(points) => Ok(points),
+            Err(Or::Fault(_)) => unreachable!(),
+            Err(Or::OutOfMemory) => Err(OutOfMemory),
+        }
+    }
 }
 
 /// How often a number is given.
@@ -41,26 +59,18 @@ enum Times {
     Again,
 }
 
-/// A table where its number is given first.
-#[derive(Clone, Copy)]
-struct First<'p> {
-    number: u32,
-    size: i64,
-    gen_: i64,
-    args: &'p [Num],
-}
-
 /// What events give.
 #[derive(Drop)]
 struct Firsts<'p> {
-    items: Vec<First<'p>>,
+    /// Of each number the table that is given first.
+    items: Vec<GivenTable<'p>>,
     /// Of each number below 65,536.
     times: Vec<Times>,
 }
 
-/// The tables that events give, each number once, as it is given first; one has its points where it is given once
-/// alone and no code of an instrument may write it. It takes as long as there are events, ops of instruments and
-/// points.
+/// The tables that events give, each number once, by ascending number, as it is given first; one has its points where
+/// it is given once alone and no code of an instrument may write it. It takes as long as there are events, ops of
+/// instruments and points.
 pub(crate) fn tables_of(
     alloc: Global,
     lowered: &Lowered,
@@ -72,7 +82,17 @@ pub(crate) fn tables_of(
 {
     let given = firsts_of(alloc, events)?;
     let written = written_by(alloc, lowered.instruments.as_slice())?;
-    made_tables(alloc, &given.items, &given.times, &written)
+    let tables = made_tables(alloc, &given.items, &given.times, &written)?;
+    Ok(by_number(tables))
+}
+
+/// Tables in any order, no two of one number, by ascending number.
+fn by_number(mut tables: Vec<PieceTable>) -> Vec<PieceTable>
+    requires { Differ (λ (t : Table). t.number) (map table_of tables.items) }
+    ensures { map table_of result.items ≡ ascending (map table_of tables.items) }
+{
+    tables.sort_unstable_by_key(|table: &PieceTable| table.number);
+    tables
 }
 
 /// What events give.
@@ -94,7 +114,7 @@ fn firsts_of<'p>(alloc: Global, events: &'p [Event]) -> Result<Firsts<'p>, OutOf
             args,
         } = &event.act
         {
-            let first = First {
+            let first = GivenTable {
                 number: *number,
                 size: *size,
                 gen_: *gen_,
@@ -116,7 +136,7 @@ fn never(alloc: Global, count: usize) -> Result<Vec<Times>, OutOfMemory>
 
 impl<'p> Firsts<'p> {
     /// Adds a table that is given.
-    fn add(&mut self, table: First<'p>) -> Result<(), OutOfMemory>
+    fn add(&mut self, table: GivenTable<'p>) -> Result<(), OutOfMemory>
         requires right { IsRight (given_of table) }
         requires long { length self.old.times.items ≡ numbers_end }
         requires all { All (λ x. IsRight (given_of x)) self.old.items.items }
@@ -151,9 +171,10 @@ fn next_times(times: Times) -> Times
     }
 }
 
+/// The tables that are given, in their order.
 fn made_tables(
     alloc: Global,
-    given: &[First<'_>],
+    given: &[GivenTable<'_>],
     times: &[Times],
     written: &Written,
 ) -> Result<Vec<PieceTable>, OutOfMemory>
@@ -185,7 +206,7 @@ fn is_once(times: Times) -> bool
 }
 
 /// A table as it is given, with its points where it is frozen.
-fn table_for(alloc: Global, first: &First<'_>, frozen: bool) -> Result<PieceTable, OutOfMemory>
+fn table_for(alloc: Global, first: &GivenTable<'_>, frozen: bool) -> Result<PieceTable, OutOfMemory>
     requires { IsRight (given_of first.now) }
     ensures { IfOk result (λ t. table_of t ≡ table_given frozen (given_of first.now)) }
 {
@@ -198,7 +219,11 @@ fn table_for(alloc: Global, first: &First<'_>, frozen: bool) -> Result<PieceTabl
     })
 }
 
-fn points_for(alloc: Global, first: &First<'_>, frozen: bool) -> Result<Option<Points>, OutOfMemory>
+fn points_for(
+    alloc: Global,
+    first: &GivenTable<'_>,
+    frozen: bool,
+) -> Result<Option<FrozenTable>, OutOfMemory>
     requires { table_fault first.now.size first.now.gen_ first.now.args.now ≡ None }
     ensures { IfOk result (λ p. p ≡ (if frozen then Some
         (points_of first.now.size first.now.gen_ first.now.args.now) else None)) }
@@ -206,10 +231,6 @@ fn points_for(alloc: Global, first: &First<'_>, frozen: bool) -> Result<Option<P
     if !frozen {
         return Ok(None);
     }
-    match make_table(alloc, first.size, first.gen_, first.args) {
-        Ok(points) => Ok(Some(points)),
-        Err(Or::OutOfMemory) => Err(OutOfMemory),
-        // Each table of a plot is one without a fault.
-        Err(Or::Fault(_)) => unreachable!(),
-    }
+    let points = first.points(alloc)?;
+    Ok(Some(FrozenTable::new(points)))
 }

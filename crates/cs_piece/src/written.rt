@@ -85,7 +85,7 @@ impl Written {
     {
         match act {
             Act::Save(Res::Table(number)) => mark_span(&mut self.numbers, number, number),
-            Act::Store(_, reach) => self.mark(reach),
+            Act::Store(reach) => self.mark(reach),
             _ => {}
         }
     }

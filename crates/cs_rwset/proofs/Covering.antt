@@ -97,7 +97,7 @@ reaches_none n h = cc
 pub act_written_is_used : (stock : Stock) (a : Act) (r : Res) → Contains (act_writes stock a) r
     → Contains (act_uses stock a) r
 act_written_is_used stock (act.Save g) r h = h
-act_written_is_used stock (act.Store opcode reach) r h = h
+act_written_is_used stock (act.Store reach) r h = h
 act_written_is_used stock (act.Zak opcode reach) r h = by (writes_places (row_of opcode).shape) h
   where
     by : (b : Bool) → Contains (if b then zak_uses stock opcode reach else []) r

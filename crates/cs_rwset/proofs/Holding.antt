@@ -54,7 +54,7 @@ module _ (areas : List Area) (f : Op → List Res) (ops : List Op) (place : ℕ)
   each_placed h = exact_places areas (flat_map f ops) place h.1 (of_each f ops h.0 h.1 h.2 h.3) h.4
 
 -- An address is covered by listed places exactly where it lies in the area of one of them.
-none_in : (a : ℕ) → in_area None a ≡ true → ⊥
+pub none_in : (a : ℕ) → in_area None a ≡ true → ⊥
 none_in a h = cc
 
 some_in : (o : Option Area) (a : ℕ) → in_area o a ≡ true
@@ -62,7 +62,7 @@ some_in : (o : Option Area) (a : ℕ) → in_area o a ≡ true
 some_in None a h = absurd (none_in a h)
 some_in (Some area) a h = (area, refl, h)
 
-covered_at : (areas : List Area) (places : List ℕ) (a : ℕ) → covers areas places a ≡ true
+pub covered_at : (areas : List Area) (places : List ℕ) (a : ℕ) → covers areas places a ≡ true
     → (place : ℕ) × Contains places place × (in_area (slice_get areas place) a ≡ true)
 covered_at areas [] a h = absurd cc
 covered_at areas (p ∷ places) a h =
@@ -70,7 +70,7 @@ covered_at areas (p ∷ places) a h =
     (λ t. let later = covered_at areas places a t in (later.0, contains_rest p later.0 places later.1, later.2))
     (or_cases (in_area (slice_get areas p) a) (covers areas places a) h)
 
-at_covers : (areas : List Area) (places : List ℕ) (place a : ℕ) → Contains places place
+pub at_covers : (areas : List Area) (places : List ℕ) (place a : ℕ) → Contains places place
     → in_area (slice_get areas place) a ≡ true
     → covers areas places a ≡ true
 at_covers areas [] place a h k = absurd (contains_none place h)

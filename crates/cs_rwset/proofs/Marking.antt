@@ -209,7 +209,7 @@ marked_same marks n e =
     ∙ append-nil (marked_below marks n))
 
 -- the marked places are those of the resources
-mark_at : (areas : List Area) (rs : List Res) (place : ℕ)
+pub mark_at : (areas : List Area) (rs : List Res) (place : ℕ)
     → get_or (marks_of areas rs) place false ≡ is_of_one rs (slice_get areas place)
 mark_at [] rs place = refl
 mark_at (a ∷ areas) rs zero = refl

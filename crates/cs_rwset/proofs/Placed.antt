@@ -117,7 +117,7 @@ range_ascends n k l =
     let b = get_or-range_with_len 0 n (k + 1) 0 (omega (arith, long)) in
     omega (arith, a, b)
 
-one_of_is : (rs : List Res) (o : Option Area) → is_of_one rs o ≡ true
+pub one_of_is : (rs : List Res) (o : Option Area) → is_of_one rs o ≡ true
     → (a : Area) × (o ≡ Some a) × (is_among rs a.res ≡ true)
 one_of_is rs None h = absurd cc
 one_of_is rs (Some a) h = (a, refl, h)

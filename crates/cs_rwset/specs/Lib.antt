@@ -1,3 +1,4 @@
 pub mod Examples
 pub mod Footprints
+pub mod Zones
 pub mod inner

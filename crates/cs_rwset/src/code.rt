@@ -1,4 +1,4 @@
-// The footprint of a code.
+// What a code may touch, as marks of the areas.
 ghost use Rattle.std.specs.Prelude.{◌≡◌, ℕ, ◌<◌, length, IfOk};
 ghost use Rattle.std.specs.List.{Contains};
 ghost use Rattle.std.specs.List.Sorted.{IsStrictlyIncreasing};
@@ -13,37 +13,15 @@ use cs_ir::{Code, Op};
 use cs_words::Space;
 use std::alloc::Global;
 
-/// The areas that are marked so far.
+/// Of each area, whether a code may use it, and whether it may write it.
 #[derive(Drop)]
-struct Marks {
-    uses: Vec<bool>,
-    writes: Vec<bool>,
+pub(crate) struct Marks {
+    pub uses: Vec<bool>,
+    pub writes: Vec<bool>,
 }
 
-/// What a performance code may touch in a layout: the places of the areas whose resource one of
-/// its ops may use, and of those whose resource one may write, each ascending. It takes as long as
-/// the code has ops and the layout has areas, and for each op whose reach is over many numbers as
-/// long again as the layout has areas. The one error is out of memory.
-pub fn footprint(alloc: Global, perf: &Code, layout: &Layout) -> Result<Footprint, OutOfMemory>
-    ensures uses { IfOk result (λ f. f.uses
-        ≡ places_holding layout.now (ops_use (stock_of layout.now) perf.now.ops.items)) }
-    ensures writes { IfOk result (λ f. f.writes
-        ≡ places_holding layout.now (ops_write (stock_of layout.now) perf.now.ops.items)) }
-    ensures ascending { IfOk result (λ f. IsStrictlyIncreasing f.uses
-        × IsStrictlyIncreasing f.writes) }
-    ensures within { IfOk result (λ f. (place : ℕ) → Contains f.uses place
-        → place < length layout.now) }
-    ensures written { IfOk result (λ f. (place : ℕ) → Contains f.writes place
-        → Contains f.uses place) }
-{
-    let marks = marks_of(alloc, &perf.ops, layout)?;
-    Ok(Footprint {
-        uses: marked_places(alloc, &marks.uses, layout.len())?,
-        writes: marked_places(alloc, &marks.writes, layout.len())?,
-    })
-}
-
-fn marks_of(alloc: Global, ops: &[Op], layout: &Layout) -> Result<Marks, OutOfMemory>
+/// The areas whose resource an op may use, and those whose resource one may write.
+pub(crate) fn marks_of(alloc: Global, ops: &[Op], layout: &Layout) -> Result<Marks, OutOfMemory>
     ensures uses { IfOk result (λ m. m.uses.items
         ≡ marks_of layout.now (ops_use (stock_of layout.now) ops.now)) }
     ensures writes { IfOk result (λ m. m.writes.items

@@ -7,7 +7,7 @@ ghost use Rattle.cs_base.specs.declared.resource.Res.TheVariants as res;
 ghost use Rattle.cs_cells.specs.Areas.{HasPlace, IsLaid};
 ghost use Rattle.cs_cells.specs.Cells.{covers, in_area};
 ghost use Rattle.cs_cells.specs.declared.footprint.Area.{Area};
-ghost use Rattle.cs_words.specs.declared.catalogue.Opcode.TheVariants.{Tablew, Tablei, Zkw, Zkcl};
+ghost use Rattle.cs_words.specs.declared.catalogue.Opcode.TheVariants.{Tablei, Zkw, Zkcl};
 ghost use Rattle.cs_words.specs.declared.catalogue.Space.{Space};
 ghost use Rattle.cs_ir.specs.Resources.{NameTheSame, act_uses, act_writes, ops_use, ops_write};
 ghost use Rattle.cs_ir.specs.Resources.{places_within, tables_within, zak_place};
@@ -83,8 +83,8 @@ pub fn written_is_used()
 pub fn footprints_worked_by_hand()
     ensures laid { IsLaid seven_areas }
     // `tablew k1, k2, i1` may write both tables, and so may read them.
-    ensures table_write { written (Store Tablew Any ∷ []) ≡ 5 ∷ 6 ∷ [] }
-    ensures table_write_uses { used (Store Tablew Any ∷ []) ≡ 5 ∷ 6 ∷ [] }
+    ensures table_write { written (Store Any ∷ []) ≡ 5 ∷ 6 ∷ [] }
+    ensures table_write_uses { used (Store Any ∷ []) ≡ 5 ∷ 6 ∷ [] }
     // `tablei k1, 2` reads table 2.
     ensures table_read { used (Unit Tablei 0 (Span 2 2) ∷ []) ≡ 6 ∷ [] }
     ensures table_read_writes { written (Unit Tablei 0 (Span 2 2) ∷ []) ≡ [] }

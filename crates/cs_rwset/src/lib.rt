@@ -1,20 +1,23 @@
-//! What a note may touch: its footprint in a layout.
+//! What a note may touch: its footprint over the zones of a layout.
 //!
-//! The one contract: `footprint` lists the places of exactly those areas whose resource an op of a performance code may
-//! use or write (cs_ir's specs/Resources), ascending, each once. A literal number names its table or its zak place
-//! alone, a computed one all that may be reached (`reach_of_numbers`).
+//! The one contract: `find_zones` parts a layout into zones, neighbouring areas that each code of a piece touches
+//! together, and lists for each performance code the zones that cover exactly the cells of those areas whose resource
+//! one of its ops may use or write (cs_ir's specs/Resources, specs/Zones). A literal number names its table or its zak
+//! place alone, a computed one all that may be reached (`reach_of_numbers`).
 //!
-//! How the places are collected, here by marks, may be changed without anyone above noticing. To be read in this order:
-//! `named` (what an op names), `marks`, `code`, `laws` (what holds of footprints, and worked examples).
+//! How areas are marked, and whether more than neighbours are one zone, may be changed without anyone above noticing.
+//! To be read in this order: `named` (what an op names), `marks`, `code`, `zones`, `laws` (what holds of the places of
+//! resources, and worked examples).
 #![tactic(auto)]
 
 mod code;
 mod laws;
 mod marks;
 mod named;
+mod zones;
 
-pub use code::footprint;
 pub use laws::{
     cells_are_of_resources, footprints_are_of_ops, footprints_worked_by_hand,
     places_are_of_resources, reach_of_numbers, written_is_used,
 };
+pub use zones::{Zoned, find_zones};

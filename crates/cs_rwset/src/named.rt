@@ -28,7 +28,7 @@ pub fn names_of(act: Act) -> Named
     match act {
         Act::Load(res) | Act::Save(res) => Named::One(res),
         Act::Unit(opcode, _, reach) => named_by_unit(opcode, reach),
-        Act::Store(_, reach) => Named::Tables(reach),
+        Act::Store(reach) => Named::Tables(reach),
         Act::Zak(opcode, reach) => named_by_shape(signature_of(opcode).shape(), reach),
         _ => Named::Nothing,
     }
@@ -61,7 +61,7 @@ pub fn writes(act: Act) -> bool
     ensures { (stock : Stock) → act_writes stock act ≡ (if result then act_uses stock act else []) }
 {
     match act {
-        Act::Save(_) | Act::Store(_, _) => true,
+        Act::Save(_) | Act::Store(_) => true,
         Act::Zak(opcode, _) => writes_places(signature_of(opcode).shape()),
         _ => false,
     }

@@ -1,5 +1,7 @@
 -- The levels of footprints are the turns of notes.
-use Rattle.std.proofs.Common.{◌≡◌, ◌⊎◌, ℕ, zero, suc, ◌+◌, ◌<◌, ◌≤◌, Bool, true, false, List, [], ◌∷◌, ◌++◌, length, get_or, map, max, refl, sym, subst, ap, ◌∙◌, arith, append_assoc, inl, inr, ⊎_elim, if◌then◌else◌}
+use Rattle.std.proofs.Common.{◌≡◌, ◌⊎◌, ℕ, zero, suc, ◌+◌, ◌<◌, ◌≤◌, Bool, true, false, List, [], ◌∷◌, ◌++◌, length}
+use Rattle.std.proofs.Common.{get_or, map, max, refl, sym, subst, ap, ◌∙◌, arith, append_assoc, inl, inr, ⊎_elim}
+use Rattle.std.proofs.Common.{if◌then◌else◌}
 use Rattle.std.specs.List.{AllZip}
 use Rattle.std.proofs.Math.Seq.{get_or-append_seam}
 use Rattle.std.proofs.lemmas.Bool.{cases_lt}
@@ -12,9 +14,9 @@ use Rattle.cs_graph.specs.Graph.{IsLevelled}
 use Rattle.cs_ir.specs.Resources.{Stock}
 use Rattle.cs_meaning.specs.Core.{Block}
 use Rattle.cs_rwset.specs.Footprints.{stock_of}
-use Rattle.cs_turns.specs.Turns.{IsFootOf, Touched, conflict, stock_in, touched, turn_behind, turns_behind, turns_in, turns_of}
+use Rattle.cs_turns.specs.Turns.{AreOver, IsFootOf, Touched, conflict, stock_in, touched, turn_behind, turns_behind}
+use Rattle.cs_turns.specs.Turns.{turns_in, turns_of}
 use Rattle.cs_turns.proofs.Clashes.{IsFootFor, clashes, conflicts}
-use Rattle.cs_turns.proofs.Contained.{written_is_used}
 
 -- a note with its turn
 abbrev pub Turn : Type 0
@@ -28,7 +30,8 @@ at notes p = get_or notes p (nothing, 0)
 
 -- ONE NOTE behind others
 
-bound : (notes : List Turn) (t : Touched) (p : ℕ) → p < length notes → conflict (at notes p).0 t ≡ true → (at notes p).1 + 1 ≤ turn_behind notes t
+bound : (notes : List Turn) (t : Touched) (p : ℕ) → p < length notes → conflict (at notes p).0 t ≡ true
+    → (at notes p).1 + 1 ≤ turn_behind notes t
 bound [] t p l h = absurd (omega arith)
 bound (x ∷ notes) t zero l h = by (conflict x.0 t) h
   where
@@ -45,32 +48,40 @@ bound (x ∷ notes) t (suc p) l h =
 
 -- the turn is 0 or one more than that of some note with which it conflicts
 abbrev IsReached : List Turn → Touched → ℕ → Type 0
-IsReached notes t n = (n ≡ 0) ⊎ ((p : ℕ) × (p < length notes) × (conflict (at notes p).0 t ≡ true) × (n ≡ (at notes p).1 + 1))
+IsReached notes t n = (n ≡ 0)
+    ⊎ ((p : ℕ) × (p < length notes) × (conflict (at notes p).0 t ≡ true) × (n ≡ (at notes p).1 + 1))
 
 -- the greater of two turns is reached where either of them is and is the greater
-later_turn : (x : Turn) (notes : List Turn) (t : Touched) (m n : ℕ) → m ≤ n → IsReached notes t n → IsReached (x ∷ notes) t (max m n)
+later_turn : (x : Turn) (notes : List Turn) (t : Touched) (m n : ℕ) → m ≤ n → IsReached notes t n
+    → IsReached (x ∷ notes) t (max m n)
 later_turn x notes t m n low (inl none) = inl (omega (arith, low, none))
-later_turn x notes t m n low (inr r) = inr (suc r.0, (let l = r.1 in omega arith), r.2, (let e = r.3 in omega (arith, low, e)))
+later_turn x notes t m n low (inr r) =
+    inr (suc r.0, (let l = r.1 in omega arith), r.2, (let e = r.3 in omega (arith, low, e)))
 
-first_turn : (x : Turn) (notes : List Turn) (t : Touched) (n : ℕ) → conflict x.0 t ≡ true → n ≤ x.1 + 1 → IsReached (x ∷ notes) t (max (x.1 + 1) n)
+first_turn : (x : Turn) (notes : List Turn) (t : Touched) (n : ℕ) → conflict x.0 t ≡ true → n ≤ x.1 + 1
+    → IsReached (x ∷ notes) t (max (x.1 + 1) n)
 first_turn x notes t n e high = inr (zero, omega arith, e, omega (arith, high))
 
 reached : (notes : List Turn) (t : Touched) → IsReached notes t (turn_behind notes t)
 reached [] t = inl refl
 reached (x ∷ notes) t = by (conflict x.0 t) refl (cases_lt (x.1 + 1) (turn_behind notes t)) (reached notes t)
   where
-    by : (b : Bool) → conflict x.0 t ≡ b → (x.1 + 1 < turn_behind notes t) ⊎ (turn_behind notes t ≤ x.1 + 1) → IsReached notes t (turn_behind notes t)
+    by : (b : Bool) → conflict x.0 t ≡ b → (x.1 + 1 < turn_behind notes t) ⊎ (turn_behind notes t ≤ x.1 + 1)
+        → IsReached notes t (turn_behind notes t)
         → IsReached (x ∷ notes) t (max (if b then x.1 + 1 else 0) (turn_behind notes t))
     by false e size more = later_turn x notes t 0 (turn_behind notes t) (omega arith) more
     by true e (inl low) more = later_turn x notes t (x.1 + 1) (turn_behind notes t) (omega (arith, low)) more
     by true e (inr high) more = first_turn x notes t (turn_behind notes t) e high
 
 -- a number above the turns of all notes with which it conflicts that is reached is the turn
-turn_is : (notes : List Turn) (t : Touched) (n : ℕ) → ((p : ℕ) → p < length notes → conflict (at notes p).0 t ≡ true → (at notes p).1 < n)
+turn_is : (notes : List Turn) (t : Touched) (n : ℕ)
+    → ((p : ℕ) → p < length notes → conflict (at notes p).0 t ≡ true → (at notes p).1 < n)
     → IsReached notes t n → n ≡ turn_behind notes t
-turn_is notes t n above is = ⊎_elim (λ none. ⊎_elim (λ e. none ∙ sym e) (λ r. absurd (let l = above r.0 r.1 r.2 in omega (arith, l, none))) back)
+turn_is notes t n above is =
+    ⊎_elim (λ none. ⊎_elim (λ e. none ∙ sym e) (λ r. absurd (let l = above r.0 r.1 r.2 in omega (arith, l, none))) back)
     (λ r. let most = bound notes t r.0 r.1 r.2 in
-    ⊎_elim (λ e. absurd (omega (arith, most, e))) (λ q. let l = above q.0 q.1 q.2 in let e = r.3 in let f = q.3 in omega (arith, most, l, e, f)) back) is
+    ⊎_elim (λ e. absurd (omega (arith, most, e)))
+    (λ q. let l = above q.0 q.1 q.2 in let e = r.3 in let f = q.3 in omega (arith, most, l, e, f)) back) is
   where
     back : IsReached notes t (turn_behind notes t)
     back = reached notes t
@@ -80,25 +91,30 @@ turn_is notes t n above is = ⊎_elim (λ none. ⊎_elim (λ e. none ∙ sym e) 
 -- what is known of a note among all
 pub record IsTurnAt (notes : List Turn) (k : ℕ) : Type 0 where
   pub above : (p : ℕ) → p < k → conflict (at notes p).0 (at notes k).0 ≡ true → (at notes p).1 < (at notes k).1
-  pub reached : ((at notes k).1 ≡ 0) ⊎ ((p : ℕ) × (p < k) × (conflict (at notes p).0 (at notes k).0 ≡ true) × ((at notes k).1 ≡ (at notes p).1 + 1))
+  pub reached : ((at notes k).1 ≡ 0)
+      ⊎ ((p : ℕ) × (p < k) × (conflict (at notes p).0 (at notes k).0 ≡ true) × ((at notes k).1 ≡ (at notes p).1 + 1))
 
 -- the same of notes that are equal
 moves : (a b x y : Turn) → a ≡ b → x ≡ y → (conflict a.0 x.0 ≡ true → a.1 < x.1) → conflict b.0 y.0 ≡ true → b.1 < y.1
 moves a b x y e f h =
-    subst (λ (z : Turn). conflict b.0 z.0 ≡ true → b.1 < z.1) f (subst (λ (z : Turn). conflict z.0 x.0 ≡ true → z.1 < x.1) e h)
+    subst (λ (z : Turn). conflict b.0 z.0 ≡ true → b.1 < z.1) f
+    (subst (λ (z : Turn). conflict z.0 x.0 ≡ true → z.1 < x.1) e h)
 
-moved : (a b x y : Turn) → a ≡ b → x ≡ y → (conflict a.0 x.0 ≡ true) × (x.1 ≡ a.1 + 1) → (conflict b.0 y.0 ≡ true) × (y.1 ≡ b.1 + 1)
+moved : (a b x y : Turn) → a ≡ b → x ≡ y → (conflict a.0 x.0 ≡ true) × (x.1 ≡ a.1 + 1)
+    → (conflict b.0 y.0 ≡ true) × (y.1 ≡ b.1 + 1)
 moved a b x y e f h =
     subst (λ (z : Turn). (conflict b.0 z.0 ≡ true) × (z.1 ≡ b.1 + 1)) f
     (subst (λ (z : Turn). (conflict z.0 x.0 ≡ true) × (x.1 ≡ z.1 + 1)) e h)
 
-here : (earlier : List Turn) (x : Turn) (all : List Turn) → ((p : ℕ) → p < length earlier → at all p ≡ at earlier p) → at all (length earlier) ≡ x
+here : (earlier : List Turn) (x : Turn) (all : List Turn) → ((p : ℕ) → p < length earlier → at all p ≡ at earlier p)
+    → at all (length earlier) ≡ x
     → IsTurnAt all (length earlier) → x.1 ≡ turn_behind earlier x.0
 here earlier x all before seam h =
     turn_is earlier x.0 x.1
     (λ p l. moves (at all p) (at earlier p) (at all (length earlier)) x (before p l) seam (h.above p l))
     (⊎_elim (λ none. inl (subst (λ (y : Turn). y.1 ≡ 0) seam none))
-    (λ r. let one = moved (at all r.0) (at earlier r.0) (at all (length earlier)) x (before r.0 r.1) seam (r.2, r.3) in inr (r.0, r.1, one.0, one.1))
+    (λ r. let one = moved (at all r.0) (at earlier r.0) (at all (length earlier)) x (before r.0 r.1) seam
+    (r.2, r.3) in inr (r.0, r.1, one.0, one.1))
     h.reached)
 
 along : (earlier later : List Turn) → ((k : ℕ) → k < length later → IsTurnAt (earlier ++ later) (length earlier + k))
@@ -107,15 +123,20 @@ along earlier [] h = refl
 along earlier (x ∷ later) h =
     let none : length earlier + 0 ≡ length earlier = omega arith in
     let first : x.1 ≡ turn_behind earlier x.0 =
-    here earlier x (earlier ++ x ∷ later) (get_or_append_left earlier (x ∷ later) (nothing, 0)) (get_or-append_seam earlier x later (nothing, 0))
+    here earlier x (earlier ++ x ∷ later) (get_or_append_left earlier (x ∷ later) (nothing, 0))
+    (get_or-append_seam earlier x later (nothing, 0))
     (subst (IsTurnAt (earlier ++ x ∷ later)) none (h 0 (omega arith))) in
     let rest = along (earlier ++ x ∷ []) later (λ k l. next k (h (suc k) (omega arith))) in
-    ap (λ (ns : List ℕ). x.1 ∷ ns) rest ∙ ap (λ (n : ℕ). n ∷ turns_behind (earlier ++ (x.0, n) ∷ []) (map (λ (y : Turn). y.0) later)) first
+    ap (λ (ns : List ℕ). x.1 ∷ ns) rest
+    ∙ ap (λ (n : ℕ). n ∷ turns_behind (earlier ++ (x.0, n) ∷ []) (map (λ (y : Turn). y.0) later)) first
   where
-    next : (k : ℕ) → IsTurnAt (earlier ++ x ∷ later) (length earlier + suc k) → IsTurnAt ((earlier ++ x ∷ []) ++ later) (length (earlier ++ x ∷ []) + k)
+    next : (k : ℕ) → IsTurnAt (earlier ++ x ∷ later) (length earlier + suc k)
+        → IsTurnAt ((earlier ++ x ∷ []) ++ later) (length (earlier ++ x ∷ []) + k)
     next k h =
-        let long : length earlier + suc k ≡ length (earlier ++ x ∷ []) + k = omega (arith, length-append earlier (x ∷ [])) in
-        subst (IsTurnAt ((earlier ++ x ∷ []) ++ later)) long (subst (λ l. IsTurnAt l (length earlier + suc k)) (sym (append_assoc earlier (x ∷ []) later)) h)
+        let long : length earlier + suc k ≡ length (earlier ++ x ∷ []) + k =
+        omega (arith, length-append earlier (x ∷ [])) in
+        subst (IsTurnAt ((earlier ++ x ∷ []) ++ later)) long
+        (subst (λ l. IsTurnAt l (length earlier + suc k)) (sym (append_assoc earlier (x ∷ []) later)) h)
 
 -- NOTES AND LEVELS side by side
 
@@ -137,7 +158,8 @@ paired_turns [] (n ∷ ns) e = absurd (omega (arith, e))
 paired_turns (t ∷ ts) [] e = absurd (omega (arith, e))
 paired_turns (t ∷ ts) (n ∷ ns) e = ap (λ (l : List ℕ). n ∷ l) (paired_turns ts ns (omega (arith, e)))
 
-paired_at : (ts : List Touched) (ns : List ℕ) (k : ℕ) → length ns ≡ length ts → k < length ts → at (paired ts ns) k ≡ (get_or ts k nothing, get_or ns k 0)
+paired_at : (ts : List Touched) (ns : List ℕ) (k : ℕ) → length ns ≡ length ts → k < length ts
+    → at (paired ts ns) k ≡ (get_or ts k nothing, get_or ns k 0)
 unfolding paired
 paired_at [] ns k e l = absurd (omega arith)
 paired_at (t ∷ ts) [] k e l = absurd (omega (arith, e))
@@ -150,7 +172,8 @@ zip_length R [] (y ∷ ys) h = absurd h
 zip_length R (x ∷ xs) [] h = absurd h
 zip_length R (x ∷ xs) (y ∷ ys) h = ap suc (zip_length R xs ys h.1)
 
-zip_at : {A B : Type 0} (R : A → B → Type 0) (xs : List A) (ys : List B) (k : ℕ) (d : A) (e : B) → AllZip R xs ys → k < length xs → R (get_or xs k d) (get_or ys k e)
+zip_at : {A B : Type 0} (R : A → B → Type 0) (xs : List A) (ys : List B) (k : ℕ) (d : A) (e : B) → AllZip R xs ys
+    → k < length xs → R (get_or xs k d) (get_or ys k e)
 zip_at R [] ys k d e h l = absurd (omega arith)
 zip_at R (x ∷ xs) [] k d e h l = absurd h
 zip_at R (x ∷ xs) (y ∷ ys) zero d e h l = h.0
@@ -160,10 +183,12 @@ zero_or : (n : ℕ) → (n ≡ 0) ⊎ (0 < n)
 zero_or zero = inl refl
 zero_or (suc n) = inr (omega arith)
 
-module _ (areas : List Area) (ts : List Touched) (feet : List Footprint) (levels : List ℕ) (are : AllZip (IsFootFor areas) ts feet)
+module _ (areas zones : List Area) (over : AreOver areas zones) (ts : List Touched) (feet : List Footprint)
+    (levels : List ℕ)
+    (are : AllZip (IsFootFor areas zones) ts feet)
     (long : length levels ≡ length feet) (levelled : IsLevelled feet levels) where
   same_length : length ts ≡ length feet
-  same_length = zip_length (IsFootFor areas) ts feet are
+  same_length = zip_length (IsFootFor areas zones) ts feet are
 
   turn : ℕ → Turn
   turn k = (get_or ts k nothing, get_or levels k 0)
@@ -172,8 +197,8 @@ module _ (areas : List Area) (ts : List Touched) (feet : List Footprint) (levels
   unfolding turn
   is_turn k l = paired_at ts levels k (long ∙ sym same_length) l
 
-  foot_at : (k : ℕ) → k < length ts → IsFootFor areas (get_or ts k nothing) (foot feet k)
-  foot_at k l = zip_at (IsFootFor areas) ts feet k nothing (record { uses = []; writes = [] }) are l
+  foot_at : (k : ℕ) → k < length ts → IsFootFor areas zones (get_or ts k nothing) (foot feet k)
+  foot_at k l = zip_at (IsFootFor areas zones) ts feet k nothing (record { uses = []; writes = [] }) are l
 
   turn_above : (p k : ℕ) → p < k → k < length ts → conflict (turn p).0 (turn k).0 ≡ true → (turn p).1 < (turn k).1
   unfolding turn
@@ -181,7 +206,8 @@ module _ (areas : List Area) (ts : List Touched) (feet : List Footprint) (levels
       levelled.above p k (record {
         earlier = l;
         within = omega (arith, m, same_length);
-        clash = clashes areas (get_or ts p nothing) (get_or ts k nothing) (foot feet p) (foot feet k) (foot_at p (omega (arith, l, m))) (foot_at k m) c;
+        clash = clashes areas zones over (get_or ts p nothing) (get_or ts k nothing) (foot feet p) (foot feet k)
+            (foot_at p (omega (arith, l, m))) (foot_at k m) c;
       })
 
   turn_reached : (k : ℕ) → k < length ts
@@ -191,14 +217,22 @@ module _ (areas : List Area) (ts : List Touched) (feet : List Footprint) (levels
       ⊎_elim (λ none. inl none)
       (λ some. let r = levelled.greatest k (omega (arith, m, same_length)) some in
       let l = r.1.earlier in
-      inr (r.0, l, conflicts areas (get_or ts r.0 nothing) (get_or ts k nothing) (foot feet r.0) (foot feet k) (foot_at r.0 (omega (arith, l, m))) (foot_at k m) r.1.clash, r.2))
+      inr (
+        r.0,
+        l,
+        conflicts areas zones over (get_or ts r.0 nothing) (get_or ts k nothing) (foot feet r.0)
+            (foot feet k) (foot_at r.0 (omega (arith, l, m))) (foot_at k m) r.1.clash,
+        r.2,
+      ))
       (zero_or (get_or levels k 0))
 
   turn_at : (k : ℕ) → k < length ts → IsTurnAt (paired ts levels) k
   turn_at k m = record {
-    above = λ p l. moves (turn p) (at (paired ts levels) p) (turn k) (at (paired ts levels) k) (sym (is_turn p (omega (arith, l, m)))) (sym (is_turn k m)) (turn_above p k l m);
+    above = λ p l. moves (turn p) (at (paired ts levels) p) (turn k) (at (paired ts levels) k)
+        (sym (is_turn p (omega (arith, l, m)))) (sym (is_turn k m)) (turn_above p k l m);
     reached = ⊎_elim (λ none. inl (subst (λ (x : Turn). x.1 ≡ 0) (sym (is_turn k m)) none))
-        (λ r. let one = moved (turn r.0) (at (paired ts levels) r.0) (turn k) (at (paired ts levels) k) (sym (is_turn r.0 (let l = r.1 in omega (arith, l, m)))) (sym (is_turn k m)) (r.2, r.3) in
+        (λ r. let one = moved (turn r.0) (at (paired ts levels) r.0) (turn k) (at (paired ts levels) k)
+        (sym (is_turn r.0 (let l = r.1 in omega (arith, l, m)))) (sym (is_turn k m)) (r.2, r.3) in
         inr (r.0, r.1, one.0, one.1)) (turn_reached k m);
   }
 
@@ -212,27 +246,33 @@ module _ (areas : List Area) (ts : List Touched) (feet : List Footprint) (levels
       at_zero : (k : ℕ) → IsTurnAt (paired ts levels) k → IsTurnAt (paired ts levels) (0 + k)
       at_zero k h = let none : k ≡ 0 + k = omega arith in subst (IsTurnAt (paired ts levels)) none h
 
-      shorter : (k : ℕ) → k < length (paired ts levels) → map (λ (x : Turn). x.0) (paired ts levels) ≡ ts → k < length ts
-      shorter k l notes = let long : length (map (λ (x : Turn). x.0) (paired ts levels)) ≡ length ts = ap (λ (xs : List Touched). length xs) notes in
+      shorter : (k : ℕ) → k < length (paired ts levels) → map (λ (x : Turn). x.0) (paired ts levels) ≡ ts
+          → k < length ts
+      shorter k l notes = let long : length (map (λ (x : Turn). x.0) (paired ts levels)) ≡ length ts =
+          ap (λ (xs : List Touched). length xs) notes in
           omega (arith, l, long, length-map (paired ts levels) (λ (x : Turn). x.0))
 
 -- a footprint of statements is that of what they touch
-pub foot_for : (areas : List Area) (body : Block) (f : Footprint) → IsFootOf areas body f → IsFootFor areas (touched (stock_of areas) body) f
-foot_for areas body f h = record { uses = h.uses; writes = h.writes; there = h.there; used = written_is_used (stock_of areas) body }
+pub foot_for : (areas zones : List Area) (body : Block) (f : Footprint) → IsFootOf areas zones body f
+    → IsFootFor areas zones (touched (stock_of areas) body) f
+foot_for areas zones body f h = record { uses = h.uses; writes = h.writes; there = h.there; places = h.places }
 
 -- so it is with the footprints of notes that play
-feet_for : (areas : List Area) (stock : Stock) (notes : List Active) (feet : List Footprint) → stock_of areas ≡ stock
-    → AllZip (λ (a : Active) (f : Footprint). IsFootOf areas a.body f) notes feet → AllZip (IsFootFor areas) (map (λ (a : Active). touched stock a.body) notes) feet
-feet_for areas stock [] [] e h = h
-feet_for areas stock [] (f ∷ feet) e h = h
-feet_for areas stock (a ∷ notes) [] e h = h
-feet_for areas stock (a ∷ notes) (f ∷ feet) e h = (
-  subst (λ (s : Stock). IsFootFor areas (touched s a.body) f) e (foot_for areas a.body f h.0),
-  feet_for areas stock notes feet e h.1,
+feet_for : (areas zones : List Area) (stock : Stock) (notes : List Active) (feet : List Footprint)
+    → stock_of areas ≡ stock → AllZip (λ (a : Active) (f : Footprint). IsFootOf areas zones a.body f) notes feet
+    → AllZip (IsFootFor areas zones) (map (λ (a : Active). touched stock a.body) notes) feet
+feet_for areas zones stock [] [] e h = h
+feet_for areas zones stock [] (f ∷ feet) e h = h
+feet_for areas zones stock (a ∷ notes) [] e h = h
+feet_for areas zones stock (a ∷ notes) (f ∷ feet) e h = (
+  subst (λ (s : Stock). IsFootFor areas zones (touched s a.body) f) e (foot_for areas zones a.body f h.0),
+  feet_for areas zones stock notes feet e h.1,
 )
 
-pub turns_are : (c : Composition) (areas : List Area) (notes : List Active) (feet : List Footprint) (levels : List ℕ)
-    → stock_of areas ≡ stock_in c → AllZip (λ (a : Active) (f : Footprint). IsFootOf areas a.body f) notes feet
+pub turns_are : (c : Composition) (areas zones : List Area) (notes : List Active) (feet : List Footprint)
+    (levels : List ℕ) → AreOver areas zones → stock_of areas ≡ stock_in c
+    → AllZip (λ (a : Active) (f : Footprint). IsFootOf areas zones a.body f) notes feet
     → length levels ≡ length feet → IsLevelled feet levels → levels ≡ turns_in c notes
-turns_are c areas notes feet levels e h long levelled =
-    levels_are areas (map (λ (a : Active). touched (stock_in c) a.body) notes) feet levels (feet_for areas (stock_in c) notes feet e h) long levelled
+turns_are c areas zones notes feet levels over e h long levelled =
+    levels_are areas zones over (map (λ (a : Active). touched (stock_in c) a.body) notes) feet levels
+    (feet_for areas zones (stock_in c) notes feet e h) long levelled

@@ -19,19 +19,24 @@ use Rattle.cs_turns.specs.Turns.{live, live_tables, stock_in}
 abbrev tables_among : List Shared → List ℕ
 tables_among ss = filter_map (λ (s : Shared). table_number s.res) ss
 
-laid : (first : ℕ) (ss : List Shared) → filter_map (λ (a : Area). table_number a.res) (laid_from first ss) ≡ tables_among ss
+laid : (first : ℕ) (ss : List Shared)
+    → filter_map (λ (a : Area). table_number a.res) (laid_from first ss) ≡ tables_among ss
 laid first [] = refl
 laid first (s ∷ rest) = by (table_number s.res) (laid (first + s.cells) rest)
   where
-    by : (o : Option ℕ) → filter_map (λ (a : Area). table_number a.res) (laid_from (first + s.cells) rest) ≡ tables_among rest
-        → cons_option o (filter_map (λ (a : Area). table_number a.res) (laid_from (first + s.cells) rest)) ≡ cons_option o (tables_among rest)
+    by : (o : Option ℕ) → filter_map (λ (a : Area). table_number a.res)
+        (laid_from (first + s.cells) rest) ≡ tables_among rest
+        → cons_option o (filter_map (λ (a : Area). table_number a.res) (laid_from (first + s.cells) rest)) ≡ cons_option
+        o (tables_among rest)
     by o e = ap (cons_option o) e
 
 -- resources of other kinds are none
 others : (kind : ℕ → Res) → ((n : ℕ) → table_number (kind n) ≡ None) → (cells : ℕ) (ns : List ℕ)
     → tables_among (map (λ n. record { res = kind n; cells = cells }) ns) ≡ []
 others kind none cells [] = refl
-others kind none cells (n ∷ ns) = ap (λ o. cons_option o (tables_among (map (λ m. record { res = kind m; cells = cells }) ns))) (none n) ∙ others kind none cells ns
+others kind none cells (n ∷ ns) =
+    ap (λ o. cons_option o (tables_among (map (λ m. record { res = kind m; cells = cells }) ns))) (none n)
+    ∙ others kind none cells ns
 
 tables : (ts : List LiveTable) → tables_among (of_tables ts) ≡ map (λ (t : LiveTable). t.number) ts
 tables [] = refl
@@ -39,12 +44,16 @@ tables (t ∷ ts) = ap (λ (ns : List ℕ). t.number ∷ ns) (tables ts)
 
 -- a kind of others in front
 front : (xs ys : List Shared) → tables_among xs ≡ [] → tables_among (xs ++ ys) ≡ tables_among ys
-front xs ys none = filter_map-append (λ (s : Shared). table_number s.res) xs ys ∙ ap (λ (ns : List ℕ). ns ++ tables_among ys) none
+front xs ys none = filter_map-append (λ (s : Shared). table_number s.res) xs ys
+    ∙ ap (λ (ns : List ℕ). ns ++ tables_among ys) none
 
-in_front : (kind : ℕ → Res) (count cells : ℕ) (ys : List Shared) → ((n : ℕ) → table_number (kind n) ≡ None) → tables_among (numbered kind count cells ++ ys) ≡ tables_among ys
-in_front kind count cells ys none = front (numbered kind count cells) ys (others kind none cells (range_with_len 0 count))
+in_front : (kind : ℕ → Res) (count cells : ℕ) (ys : List Shared) → ((n : ℕ) → table_number (kind n) ≡ None)
+    → tables_among (numbered kind count cells ++ ys) ≡ tables_among ys
+in_front kind count cells ys none =
+    front (numbered kind count cells) ys (others kind none cells (range_with_len 0 count))
 
-shared : (ksmps : ℕ) (names : SharedNames) (spaces : Spaces) (ts : List LiveTable) → tables_among (shared_by ksmps names spaces ts) ≡ map (λ (t : LiveTable). t.number) ts
+shared : (ksmps : ℕ) (names : SharedNames) (spaces : Spaces) (ts : List LiveTable)
+    → tables_among (shared_by ksmps names spaces ts) ≡ map (λ (t : LiveTable). t.number) ts
 shared ksmps names spaces ts =
     in_front res.Gi (length names.gi) 1 _ (λ n. refl)
     ∙ (in_front res.Gk (length names.gk) 1 _ (λ n. refl)
@@ -55,16 +64,20 @@ shared ksmps names spaces ts =
     ∙ (in_front res.ZakA spaces.audio ksmps _ (λ n. refl)
     ∙ tables ts))))))
 
-numbers : (ts : List Table) → map (λ (t : LiveTable). t.number) (map (λ (t : Table). record { number = t.number; size = t.size }) ts) ≡ map (λ (t : Table). t.number) ts
+numbers : (ts : List Table)
+    → map (λ (t : LiveTable). t.number) (map (λ (t : Table). record { number = t.number; size = t.size }) ts) ≡ map
+    (λ (t : Table). t.number) ts
 numbers [] = refl
 numbers (t ∷ ts) = ap (λ (ns : List ℕ). t.number ∷ ns) (numbers ts)
 
-pub stock_is : (c : Composition) (ksmps : ℕ) (names : SharedNames) → (stock_of (areas_of ksmps names c.spaces (live_tables c.tables))).spaces ≡ c.spaces
+pub stock_is : (c : Composition) (ksmps : ℕ) (names : SharedNames)
+    → (stock_of (areas_of ksmps names c.spaces (live_tables c.tables))).spaces ≡ c.spaces
     → stock_of (areas_of ksmps names c.spaces (live_tables c.tables)) ≡ stock_in c
 stock_is c ksmps names spaces =
     let shareds = shared_by ksmps names c.spaces (live_tables c.tables) in
     both _ c.spaces _ (map (λ (t : Table). t.number) (live c.tables)) spaces
     (laid 0 shareds ∙ (shared ksmps names c.spaces (live_tables c.tables) ∙ numbers (live c.tables)))
   where
-    both : (s u : Spaces) (ns ms : List ℕ) → s ≡ u → ns ≡ ms → ◌≡◌ {A = Stock} (record { spaces = s; live = ns }) (record { spaces = u; live = ms })
+    both : (s u : Spaces) (ns ms : List ℕ) → s ≡ u → ns ≡ ms
+        → ◌≡◌ {A = Stock} (record { spaces = s; live = ns }) (record { spaces = u; live = ms })
     both s u ns ms e f = cc

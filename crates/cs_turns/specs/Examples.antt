@@ -29,7 +29,8 @@ no_places = record { control = 0; audio = 0 }
 abbrev three : ℤ → Option Block
 three z =
     if int_eq z (pos 1) then Some (core no_places giving)
-    else (if int_eq z (pos 2) then Some (core no_places (taking 0)) else (if int_eq z (pos 3) then Some (core no_places (taking 1)) else None))
+    else (if int_eq z (pos 2) then Some (core no_places (taking 0)) else
+    (if int_eq z (pos 3) then Some (core no_places (taking 1)) else None))
 
 -- a note of each for two cycles
 abbrev pub giving_and_taking : Composition
@@ -45,7 +46,9 @@ giving_and_taking = record {
 
 -- zkw 2, 1
 abbrev writing_second : Statements
-writing_second = andthen (call 5 rate.Control [] op.Zkw (value (number rate.Init (whole 2)) ∷ value (number rate.Init (whole 1)) ∷ [])) no_stmt
+writing_second = andthen
+    (call 5 rate.Control [] op.Zkw (value (number rate.Init (whole 2)) ∷ value (number rate.Init (whole 1)) ∷ []))
+    no_stmt
 
 -- four zak places of control values and no table
 abbrev four_places : Stock

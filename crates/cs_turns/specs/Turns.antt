@@ -1,8 +1,11 @@
 -- In which turn of a control cycle each note comes at the earliest, and the lines that tell it.
-use Rattle.std.specs.Prelude.{ℕ, ◌+◌, Bool, not, ◌||◌, List, [], ◌∷◌, ◌++◌, codes, decimal, map, max, nat_lt, ◌≡◌, if◌then◌else◌}
-use Rattle.std.specs.List.{filter, flat_map, list_any, range_with_len}
+use Rattle.std.specs.Prelude.{ℕ, ◌+◌, Bool, not, ◌||◌, List, [], ◌∷◌, ◌++◌, codes, decimal, map, length, max, nat_lt}
+use Rattle.std.specs.Prelude.{◌≡◌, ◌<◌, if◌then◌else◌}
+use Rattle.std.specs.List.{All, filter, flat_map, list_any, range_with_len}
 use Rattle.std.specs.Option.{is_some}
 use Rattle.cs_base.specs.declared.resource.Res.{Res}
+use Rattle.cs_cells.specs.Areas.{IsFootprint, IsLaid}
+use Rattle.cs_cells.specs.Cells.{covers}
 use Rattle.cs_cells.specs.declared.footprint.Area.{Area}
 use Rattle.cs_cells.specs.declared.footprint.Footprint.{Footprint}
 use Rattle.cs_piece_meaning.specs.Course.{begins, moment_at}
@@ -13,6 +16,7 @@ use Rattle.cs_meaning.specs.Core.{Block}
 use Rattle.cs_meaning.specs.Plain.{Table}
 use Rattle.cs_meaning.specs.Uses.{block_uses, block_writes}
 use Rattle.cs_rwset.specs.Footprints.{is_among, places_holding, stock_of}
+use Rattle.cs_rwset.specs.Zones.{AreZones}
 use Rattle.cs_voice_meaning.specs.Follows.{AreNamed}
 use Rattle.cs_voice_meaning.specs.Placing.{HasArea}
 
@@ -53,7 +57,8 @@ turn_behind (p ∷ earlier) t = max (if conflict p.0 t then p.1 + 1 else 0) (tur
 -- the turns of notes in their order, behind others
 abbrev pub turns_behind : List (Touched × ℕ) → List Touched → List ℕ
 turns_behind earlier [] = []
-turns_behind earlier (t ∷ later) = turn_behind earlier t ∷ turns_behind (earlier ++ (t, turn_behind earlier t) ∷ []) later
+turns_behind earlier (t ∷ later) =
+    turn_behind earlier t ∷ turns_behind (earlier ++ (t, turn_behind earlier t) ∷ []) later
 
 abbrev pub turns_of : List Touched → List ℕ
 turns_of notes = turns_behind [] notes
@@ -65,7 +70,8 @@ turns_in c notes = turns_of (map (λ (a : Active). touched (stock_in c) a.body) 
 -- THE LINES: a cycle's number and the turn of each of its notes, after one blank each
 
 abbrev pub turn_line : ℕ → List ℕ → List ℕ
-turn_line cycle turns = codes "cycle " ++ decimal cycle ++ codes " turns" ++ flat_map (λ turn. codes " " ++ decimal turn) turns ++ codes "\n"
+turn_line cycle turns = codes "cycle " ++ decimal cycle ++ codes " turns"
+    ++ flat_map (λ turn. codes " " ++ decimal turn) turns ++ codes "\n"
 
 -- each of the first 1,000 cycles has one
 abbrev pub line_of : ℕ → List ℕ → List ℕ
@@ -82,8 +88,19 @@ turn_lines_before c n = flat_map (λ cycle. line_of cycle (turns_in c (notes_in 
 abbrev pub turn_lines_of : Composition → List ℕ
 turn_lines_of c = turn_lines_before c c.cycles
 
--- A footprint in a layout is that of a note's statements, and all that they use has its area.
-pub record IsFootOf (areas : List Area) (body : Block) (foot : Footprint) : Type 0 where
-  pub uses : foot.uses ≡ places_holding areas (block_uses (stock_of areas) body)
-  pub writes : foot.writes ≡ places_holding areas (block_writes (stock_of areas) body)
+-- Zones are zones of areas, and no area is empty.
+pub record AreOver (areas zones : List Area) : Type 0 where
+  pub are_zones : AreZones areas zones
+  pub areas_laid : IsLaid areas
+  pub some_areas : All (λ (a : Area). 0 < a.length) areas
+  pub some_zones : All (λ (a : Area). 0 < a.length) zones
+
+-- A footprint over zones is that of a note's statements: it covers the cells of the areas of what they use, and of what
+-- they write; and all that they use has its area.
+pub record IsFootOf (areas zones : List Area) (body : Block) (foot : Footprint) : Type 0 where
+  pub uses : (a : ℕ) → covers zones foot.uses a
+      ≡ covers areas (places_holding areas (block_uses (stock_of areas) body)) a
+  pub writes : (a : ℕ) → covers zones foot.writes a
+      ≡ covers areas (places_holding areas (block_writes (stock_of areas) body)) a
   pub there : AreNamed (HasArea areas) (block_uses (stock_of areas) body)
+  pub places : IsFootprint (length zones) foot

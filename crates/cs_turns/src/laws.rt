@@ -10,27 +10,29 @@ ghost use Rattle.cs_graph.specs.Graph.{IsLevelled};
 ghost use Rattle.cs_layout.specs.Layouts.{areas_of};
 ghost use Rattle.cs_rwset.specs.Footprints.{stock_of};
 ghost use Rattle.cs_turns.specs.Examples.{giving_and_taking, turns_of_places};
-ghost use Rattle.cs_turns.specs.Turns.{IsFootOf, conflict, line_of, live_tables, notes_in, stock_in, touched, turns_in};
+ghost use Rattle.cs_turns.specs.Turns.{AreOver, IsFootOf, conflict, line_of, live_tables, notes_in, stock_in};
+ghost use Rattle.cs_turns.specs.Turns.{touched, turns_in};
 ghost use Rattle.cs_typed.specs.TypedTree.{SharedNames};
 
 use cs_layout::layouts_are_complete;
 
-/// The footprints of two notes clash exactly where the notes conflict: where what the statements of one of the two may
-/// write in a control cycle meets what those of the other may use.
+/// The footprints of two notes over zones clash exactly where the notes conflict: where what the statements of one of
+/// the two may write in a control cycle meets what those of the other may use.
 pub fn clashes_are_conflicts()
-    ensures conflict { (areas : List Area) (body other : Block) (foot foot_2 : Footprint) → IsFootOf areas body foot
-        → IsFootOf areas other foot_2 → Clash foot foot_2
+    ensures conflict { (areas zones : List Area) (body other : Block) (foot foot_2 : Footprint) → AreOver areas zones
+        → IsFootOf areas zones body foot → IsFootOf areas zones other foot_2 → Clash foot foot_2
         → conflict (touched (stock_of areas) body) (touched (stock_of areas) other) ≡ true }
-    ensures clash { (areas : List Area) (body other : Block) (foot foot_2 : Footprint) → IsFootOf areas body foot
-        → IsFootOf areas other foot_2
+    ensures clash { (areas zones : List Area) (body other : Block) (foot foot_2 : Footprint) → AreOver areas zones
+        → IsFootOf areas zones body foot → IsFootOf areas zones other foot_2
         → conflict (touched (stock_of areas) body) (touched (stock_of areas) other) ≡ true → Clash foot foot_2 }
 {}
 
 /// The levels of notes by their footprints are their turns, in areas with the stock of the piece: whatever way the
 /// levels were found.
 pub fn turns_are_levels()
-    ensures { (c : Composition) (areas : List Area) (notes : List Active) (feet : List Footprint) (levels : List ℕ)
-        → stock_of areas ≡ stock_in c → AllZip (λ (a : Active) (f : Footprint). IsFootOf areas a.body f) notes feet
+    ensures { (c : Composition) (areas zones : List Area) (notes : List Active) (feet : List Footprint)
+        (levels : List ℕ) → AreOver areas zones → stock_of areas ≡ stock_in c
+        → AllZip (λ (a : Active) (f : Footprint). IsFootOf areas zones a.body f) notes feet
         → length levels ≡ length feet → IsLevelled feet levels → levels ≡ turns_in c notes }
 {}
 

@@ -1,5 +1,6 @@
 -- Quotients rounded down, part by part.
-use Rattle.std.proofs.Common.{◌≡◌, ℕ, zero, suc, ◌+◌, ◌-◌, ◌*◌, ◌/◌, ◌%◌, ◌<◌, ℤ, pos, negsuc, ◌+ℤ◌, ◌*ℤ◌, ap, sym, ◌∙◌, arith}
+use Rattle.std.proofs.Common.{◌≡◌, ℕ, zero, suc, ◌+◌, ◌-◌, ◌*◌, ◌/◌, ◌%◌, ◌<◌, ℤ, pos, negsuc, ◌+ℤ◌, ◌*ℤ◌, ap, sym, ◌∙◌}
+use Rattle.std.proofs.Common.{arith}
 use Rattle.std.specs.Int.{int_div_euclid, int_rem_euclid}
 use Rattle.std.proofs.lemmas.Int.{ints}
 use Rattle.cs_base.specs.Numbers.{floor_div}
@@ -14,7 +15,8 @@ split : (z : ℤ) → Split z
 split (pos a) = record { part = a % 65536; small = omega arith; is = omega (arith, ints) }
 split (negsuc a) = record { part = 65535 - a % 65536; small = omega arith; is = omega (arith, ints) }
 
-split_rem : (z : ℤ) (r : ℕ) → r < 65536 → z ≡ (int_div_euclid z (pos 65536) *ℤ pos 65536) +ℤ pos r → int_rem_euclid z (pos 65536) ≡ pos r
+split_rem : (z : ℤ) (r : ℕ) → r < 65536 → z ≡ (int_div_euclid z (pos 65536) *ℤ pos 65536) +ℤ pos r
+    → int_rem_euclid z (pos 65536) ≡ pos r
 split_rem (pos a) r s e = omega (arith, ints)
 split_rem (negsuc a) r s e = omega (arith, ints)
 
@@ -32,7 +34,8 @@ times-zero (pos a) = omega (arith, ints)
 times-zero (negsuc a) = omega (arith, ints)
 
 sum-times : (x y : ℤ) (f : ℕ) → (x +ℤ y) *ℤ pos f ≡ (x *ℤ pos f) +ℤ (y *ℤ pos f)
-sum-times x y zero = let a = times-zero x in let b = times-zero y in let e = times-zero (x +ℤ y) in omega (arith, ints, a, b, e)
+sum-times x y zero = let a = times-zero x in let b = times-zero y in let e =
+    times-zero (x +ℤ y) in omega (arith, ints, a, b, e)
 sum-times x y (suc f) =
     let a = times-suc x f in let b = times-suc y f in let e = times-suc (x +ℤ y) f in let ih = sum-times x y f in
     omega (arith, ints, a, b, e, ih)
@@ -61,7 +64,8 @@ by_parts d f =
     let q : ℕ = l * f / 65536 in
     let r : ℕ = l * f % 65536 in
     let parts : l * f ≡ q * 65536 + r = omega arith in
-    let all : d *ℤ pos f ≡ (((h *ℤ pos f) +ℤ pos q) *ℤ pos 65536) +ℤ pos r = ap (λ z. z *ℤ pos f) s.is ∙ whole h l f q r parts in
+    let all : d *ℤ pos f ≡ (((h *ℤ pos f) +ℤ pos q) *ℤ pos 65536) +ℤ pos r =
+    ap (λ z. z *ℤ pos f) s.is ∙ whole h l f q r parts in
     let low : int_rem_euclid d (pos 65536) ≡ pos l = split_rem d l s.small s.is in
     floor_div_is (d *ℤ pos f) ((h *ℤ pos f) +ℤ pos q) r (omega arith) all
     ∙ ap (λ z. (h *ℤ pos f) +ℤ z) (ap (λ z. floor_div (z *ℤ pos f) (pos 65536)) (sym low))

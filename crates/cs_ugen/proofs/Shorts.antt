@@ -1,5 +1,7 @@
 -- The curve of points, by its places, and points that fit into 32 bits.
-use Rattle.std.proofs.Common.{◌≡◌, ℕ, ◌+◌, ◌-◌, ◌*◌, ◌%◌, ◌<◌, ◌≤◌, ◌⊎◌, inl, inr, ⊎_elim, ◌==◌, Bool, true, false, if◌then◌else◌, List, [], ◌∷◌, ◌++◌, length, take, ℤ, pos, negsuc, get_or, ap, sym, ◌∙◌, subst, arith}
+use Rattle.std.proofs.Common.{◌≡◌, ℕ, ◌+◌, ◌-◌, ◌*◌, ◌%◌, ◌<◌, ◌≤◌, ◌⊎◌, inl, inr, ⊎_elim, ◌==◌, Bool, true, false}
+use Rattle.std.proofs.Common.{if◌then◌else◌, List, [], ◌∷◌, ◌++◌, length, take, ℤ, pos, negsuc, get_or, ap, sym, ◌∙◌}
+use Rattle.std.proofs.Common.{subst, arith}
 use Rattle.std.proofs.lemmas.Bool.{cases_lt}
 use Rattle.std.proofs.lemmas.Bool.Decides.{nat_tests}
 use Rattle.std.proofs.lemmas.Int.{ints}
@@ -17,7 +19,8 @@ curve_inside : (ps : List ℤ) (k : ℕ) → k < len_of (length ps) → argument
 curve_inside ps k h =
     let n : ℕ = len_of (length ps) in
     let long : length (take n ps) ≡ n = length-take-le n ps (omega arith) in
-    get_or_append_left (take n ps) (argument ps (guard_place (length ps)) ∷ []) (pos 0) k (omega (arith, long)) ∙ get_or-take n ps k (pos 0) h
+    get_or_append_left (take n ps) (argument ps (guard_place (length ps)) ∷ []) (pos 0) k (omega (arith, long))
+    ∙ get_or-take n ps k (pos 0) h
 
 -- the guard point
 curve_guard : (ps : List ℤ) → argument (curve_of ps) (len_of (length ps)) ≡ argument ps (guard_place (length ps))
@@ -44,7 +47,8 @@ odd_or_even : (n : ℕ) → (n % 2 ≡ 1) ⊎ (n % 2 ≡ 0)
 odd_or_even n = ⊎_elim (λ h. inr (omega arith)) (λ h. inl (omega arith)) (cases_lt (n % 2) 1)
 
 -- the curve at a place, where behind the last point stands the first
-pub curve_read : (ps : List ℤ) (k held : ℕ) → k ≤ len_of (length ps) → ((k < length ps) × (held ≡ k)) ⊎ ((length ps ≤ k) × (held ≡ 0)) →
+pub curve_read : (ps : List ℤ) (k held : ℕ) → k ≤ len_of (length ps)
+    → ((k < length ps) × (held ≡ k)) ⊎ ((length ps ≤ k) × (held ≡ 0)) →
     argument (curve_of ps) k ≡ argument ps held
 curve_read ps k held most (inl p) =
     let low = p.0 in
@@ -81,7 +85,8 @@ curve_short ps h k = ⊎_elim
     (cases_lt k (len_of (length ps)))
 
 -- one place more of which the point is short
-pub short_more : (ps : List ℤ) (place k : ℕ) (x : ℤ) → ((i : ℕ) → i < place → IsShort (argument ps i)) → x ≡ argument ps place → IsShort x →
+pub short_more : (ps : List ℤ) (place k : ℕ) (x : ℤ) → ((i : ℕ) → i < place → IsShort (argument ps i))
+    → x ≡ argument ps place → IsShort x →
     k < place + 1 → IsShort (argument ps k)
 short_more ps place k x h is short below = ⊎_elim
     (λ p. h k p)
@@ -89,16 +94,19 @@ short_more ps place k x h is short below = ⊎_elim
     (cases_lt k place)
 
 -- all places that there are
-pub short_all : (ps : List ℤ) (place : ℕ) → ((i : ℕ) → i < place → IsShort (argument ps i)) → length ps ≤ place → AreShort ps
+pub short_all : (ps : List ℤ) (place : ℕ) → ((i : ℕ) → i < place → IsShort (argument ps i)) → length ps ≤ place
+    → AreShort ps
 short_all ps place h all k = ⊎_elim
     (λ p. h k p)
     (λ p. subst IsShort (sym (get_or-eq_default ps (pos 0) (omega arith))) zero_short)
     (cases_lt k place)
 
 -- between two short points all is short
-pub between_short : (ps : List ℤ) (place fraction : ℕ) → AreShort ps → fraction < 65536 → IsShort (between_points ps place fraction)
+pub between_short : (ps : List ℤ) (place fraction : ℕ) → AreShort ps → fraction < 65536
+    → IsShort (between_points ps place fraction)
 unfolding between_points
 between_short ps place fraction h below =
     let a = h place in
     let b = h (place + 1) in
-    on_line (negsuc 2147483647) (pos 2147483647) (argument ps place) (argument ps (place + 1)) fraction 65536 below a.0 b.0 a.1 b.1
+    on_line (negsuc 2147483647) (pos 2147483647) (argument ps place) (argument ps (place + 1)) fraction 65536 below a.0
+    b.0 a.1 b.1

@@ -1,13 +1,9 @@
 -- The units as what opcodes with a state give in a piece.
 use Rattle.cs_words.specs.Generators.{Generators}
-use Rattle.cs_typed.specs.Places.{Header}
 use Rattle.cs_signal.specs.Delay.{delay_length}
 use Rattle.cs_signal.specs.Pace.{Pace}
+pub use Rattle.cs_signal.specs.Pace.{pace_of}
 use Rattle.cs_ugen.specs.Units.{gen}
-
--- the pace of a piece
-abbrev pub pace_of : Header → Pace
-pace_of h = record { sr = h.sr; ksmps = h.ksmps }
 
 -- what opcodes give at this pace, by their formulas
 abbrev pub the_generators : Pace → Generators

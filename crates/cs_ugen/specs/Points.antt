@@ -15,7 +15,6 @@ is_len n = list_any (λ len. n == len) lengths
 
 -- the points of a curve: a power of two of them, from 2 to 65,536, and the guard point
 pub record IsCurve (points : List ℤ) : Type 0 where
-  pub guarded : length points ≡ curve_len points + 1
   pub power : is_len (curve_len points) ≡ true
 
 -- a value that fits into 32 bits

@@ -22,9 +22,9 @@ abbrev pub IsUnitOpcode : Opcode → Type 0
 IsUnitOpcode o = (row_of o).shape ≡ shape.Unit
 
 -- What there is of an opcode: the states that a unit of it keeps, and the unit of a state; its formula, which gives its
--- result in the last of some steps from its rate, the piece's pace, its settled arguments and the inputs of all steps so
--- far; the state before the first step, and the unit of this state; one step, which gives the state afterwards and its
--- result; and which steps a state has behind it.
+-- result in the last of some steps from its rate, the piece's pace, its settled arguments and the inputs of all steps
+-- so far; the state before the first step, and the unit of this state; one step, which gives the state afterwards and
+-- its result; and which steps a state has behind it.
 pub record OfOpcode : Type 1 where
   pub State : Type 0
   pub kind : State → Kind

@@ -10,8 +10,8 @@ pub(crate) const TURN: u32 = 16_777_216;
 // One part of a turn in an angle's word.
 const PART: u64 = 1_099_511_627_776;
 
-/// An angle from 0 below a turn, in parts of 2^24 a turn. It lies in the upper bits of a word, the rest of which is 0: so
-/// a sum of two that passes a turn wraps by itself.
+/// An angle from 0 below a turn, in parts of 2^24 a turn. It lies in the upper bits of a word, the rest of which is 0:
+/// so a sum of two that passes a turn wraps by itself.
 #[derive(Clone, Copy)]
 pub(crate) struct Angle {
     word: u64,

@@ -9,24 +9,34 @@ ghost use Rattle.cs_signal.specs.Operands.{argument};
 
 use crate::curve::Curve;
 use cs_base::Num;
+use cs_gen::Points;
+use std::marker::Model;
 
-/// The points of a table that stays as it was made, and whether all of them fit into 32 bits.
-#[derive(Clone, Copy)]
-pub struct FrozenTable<'p> {
-    points: &'p [Num],
+/// The points of a table that stays as it was made, and whether all of them fit into 32 bits. Contracts see its points.
+#[derive(Drop)]
+pub struct FrozenTable {
+    points: Points,
     short: bool,
-    ghost short_is: { short ≡ true → AreShort points.now },
 }
 
-impl<'p> FrozenTable<'p> {
+impl Model for FrozenTable {
+    ghost use Rattle.std.specs.Prelude.{◌≡◌, ℤ, List, true};
+    ghost use Rattle.cs_ugen.specs.Points.{AreShort};
+
+    ghost Value = { List ℤ };
+
+    ghost view = { λ t. t.points };
+
+    ghost invariant = { λ t. t.short ≡ true → AreShort t.points };
+}
+
+impl FrozenTable {
     /// The table of these points. It looks at each of them.
-    pub fn new(points: &'p [Num]) -> FrozenTable<'p>
-        ensures { result.points.now ≡ points.now }
+    pub fn new(points: Points) -> FrozenTable
+        ensures { result ≡ points }
     {
-        FrozenTable {
-            points,
-            short: are_short(points),
-        }
+        let short = are_short(points.as_slice());
+        FrozenTable { points, short }
     }
 }
 
@@ -64,24 +74,17 @@ pub struct Frozen<'p> {
 }
 
 impl<'p> Frozen<'p> {
-    /// The curve of a table by its points, as many as its size. It looks at each of them.
-    pub fn new(points: &'p [Num]) -> Frozen<'p>
-        requires { is_len (len_of (length points.now)) ≡ true }
-        ensures { result.points.now ≡ points.now }
-    {
-        Frozen::of(FrozenTable::new(points))
-    }
-
     /// The curve of a table. It takes no time that grows with it.
-    pub fn of(table: FrozenTable<'p>) -> Frozen<'p>
-        requires { is_len (len_of (length table.points.now)) ≡ true }
-        ensures { result.points.now ≡ table.entry.points.now }
+    pub fn new(table: &'p FrozenTable) -> Frozen<'p>
+        requires { is_len (len_of (length table.now)) ≡ true }
+        ensures { result.points.now ≡ table.now }
     {
-        let len = power_below(table.points.len());
+        let points = table.points.as_slice();
+        let len = power_below(points.len());
         Frozen {
-            points: table.points,
+            points,
             len,
-            mask: mask_of(table.points.len(), len),
+            mask: mask_of(points.len(), len),
             short: table.short,
         }
     }

@@ -1,6 +1,7 @@
 // `oscil` and `oscili`: a table read as a wave.
 ghost use Rattle.std.specs.Prelude.{◌≡◌, ◌<◌, ◌∷◌, ◌++◌, ◌^◌, ◌≤◌, length, ◌*ℤ◌, unsigned_abs};
 ghost use Rattle.std.specs.List.{All};
+ghost use Rattle.cs_base.specs.Heads.{header_of_head};
 ghost use Rattle.cs_base.specs.Numbers.{product_of};
 ghost use Rattle.cs_ugen.specs.Oscil.{oscil_start, wave_step};
 ghost use Rattle.cs_ugen.specs.Phases.{turn};
@@ -36,7 +37,7 @@ impl Oscillator {
     /// One that has no step behind it. Settled: the table's number, which the caller finds, and the starting phase in
     /// turns, or no more.
     pub(crate) fn start(rate: Rate, head: &Head, init: &[Num]) -> Oscillator
-        ensures { result ≡ oscil_start rate (pace_of head.now) init.now }
+        ensures { result ≡ oscil_start rate (pace_of (header_of_head head.now)) init.now }
     {
         Oscillator {
             phase: Phase::start(rate, head, argument(init, 1)),

@@ -19,9 +19,9 @@ pub fn made_tables_are_curves()
         → IsMade size gen args points → IsCurve (curve_of points) }
 {}
 
-/// Steps of docs/LANGUAGE.md, computed at 8 frames a second and rate a, over the points 5, 6, 7, 8 and the guard point 5:
-/// a ramp forward and one that turns backward, a wave between its points and one that holds them, the guard point, and
-/// indexes below, above and between.
+/// Steps of docs/LANGUAGE.md, computed at 8 frames a second and rate a, over the points 5, 6, 7, 8 and the guard point
+/// 5: a ramp forward and one that turns backward, a wave between its points and one that holds them, the guard point,
+/// and indexes below, above and between.
 pub fn steps_worked_by_hand()
     ensures ramp { let x : List ℤ = pos 65536 ∷ [] in
         phasor_of Audio (record { sr = 8; ksmps = 4 }) [] (x ∷ x ∷ x ∷ x ∷ []) ≡ pos 24576 }

@@ -2,6 +2,7 @@
 ghost use Rattle.std.specs.Prelude.{◌≡◌, ◌<◌, ◌∷◌, [], length};
 ghost use Rattle.cs_ugen.specs.Phases.{turn};
 ghost use Rattle.cs_ugen.specs.Phasor.{phasor_start, phasor_step, ramp};
+ghost use Rattle.cs_base.specs.Heads.{header_of_head};
 ghost use Rattle.cs_signal.specs.Operands.{argument, operand_at, Lasts};
 ghost use Rattle.cs_signal.specs.Pace.{pace_of};
 ghost use Rattle.cs_signal.specs.Steps.{run};
@@ -29,7 +30,7 @@ impl Model for Phasor {
 impl Phasor {
     /// One that has no step behind it. Settled: the starting phase in turns, or nothing.
     pub fn start(rate: Rate, head: &Head, init: &[Num]) -> Phasor
-        ensures { result ≡ phasor_start rate (pace_of head.now) init.now }
+        ensures { result ≡ phasor_start rate (pace_of (header_of_head head.now)) init.now }
     {
         Phasor {
             phase: Phase::start(rate, head, argument(init, 0)),

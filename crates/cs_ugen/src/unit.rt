@@ -1,10 +1,12 @@
 // A unit of any opcode: its start, a step of it, and a whole vector of steps in one call.
 ghost use Rattle.std.specs.Prelude.{◌≡◌, ◌++◌, IfOk, OnErr, false, length, true};
 ghost use Rattle.std.specs.List.{All};
+ghost use Rattle.cs_base.specs.Heads.{header_of_head};
 ghost use Rattle.cs_signal.specs.Operands.{Lasts, inputs_at};
 ghost use Rattle.cs_signal.specs.Pace.{pace_of};
 ghost use Rattle.cs_signal.specs.Steps.{run};
-ghost use Rattle.cs_ugen.specs.Units.{IsUnitOpcode, moving_count, opcode_of, reads_table, takes_memory, unit_start, unit_step};
+ghost use Rattle.cs_ugen.specs.Units.{IsUnitOpcode, moving_count, opcode_of, reads_table, takes_memory, unit_start};
+ghost use Rattle.cs_ugen.specs.Units.{unit_step};
 ghost use Rattle.cs_ugen.specs.inner.Runs.{state_run};
 
 use crate::oscillator::Oscillator;
@@ -82,7 +84,7 @@ impl Unit {
         settled: &[Num],
     ) -> Result<Unit, OutOfMemory>
         requires { IsUnitOpcode opcode }
-        ensures unit { IfOk result (λ u. u ≡ unit_start opcode rate (pace_of head.now) settled.now) }
+        ensures unit { IfOk result (λ u. u ≡ unit_start opcode rate (pace_of (header_of_head head.now)) settled.now) }
         ensures memory { OnErr result (takes_memory opcode ≡ true) }
     {
         Ok(Unit {
@@ -181,7 +183,7 @@ fn kind_of(
     settled: &[Num],
 ) -> Result<Kind, OutOfMemory>
     requires { IsUnitOpcode opcode }
-    ensures kind { IfOk result (λ k. k ≡ unit_start opcode rate (pace_of head.now) settled.now) }
+    ensures kind { IfOk result (λ k. k ≡ unit_start opcode rate (pace_of (header_of_head head.now)) settled.now) }
     ensures memory { OnErr result (takes_memory opcode ≡ true) }
 {
     match opcode {

@@ -25,7 +25,7 @@ use Rattle.cs_machine.specs.declared.state.State.{State}
 use Rattle.cs_voice.specs.Memory.{MakeVoice, table_of, voice_in}
 use Rattle.cs_voice.specs.VoiceData.{IsOn, made, sounding_on}
 use Rattle.cs_voice.specs.declared.stage.Stage.{Stage}
-use Rattle.cs_voice.specs.declared.stage.TableAt.{TableAt}
+use Rattle.cs_voice.specs.declared.stage.PieceTable.{PieceTable}
 use Rattle.cs_voice.specs.Passing.{CanInitialise, CanPass, IsStateOf, Passes}
 use Rattle.cs_voice.specs.Starting.{cause_of}
 use Rattle.cs_voice.specs.Starts.{IsLive, IsStarted, sheet_for, started_as}
@@ -36,7 +36,7 @@ use Rattle.cs_voice.specs.declared.note.NewNote.{NewNote}
 use Rattle.cs_voice.specs.declared.tables.Finds.{Finds}
 
 -- the tables that a voice keeps are those that it found, made
-tables_made : (tables : List TableAt) (ms : List Bool) → length ms ≡ length tables
+tables_made : (tables : List PieceTable) (ms : List Bool) → length ms ≡ length tables
     → map made (tables_of tables ms) ≡ map table_of tables
 tables_made [] ms e = refl
 tables_made (t ∷ tables) [] e = absurd (omega arith)
@@ -81,10 +81,10 @@ module _ (s : Sheet) (first now : State) (before after : ℕ → ℤ) (asked giv
   cause_left = ap (λ m. m.world.cause) began
 
   -- the voice of a state
-  sounds_so : (number age : ℕ) (stage : Stage) (foot : Footprint) (code : Code) (fields : List ℤ)
-      → sounding_on s (voice_in number age stage foot code fields now)
+  sounds_so : (number age until : ℕ) (stage : Stage) (foot : Footprint) (code : Code) (fields : List ℤ)
+      → sounding_on s (voice_in number age until stage foot code fields now)
       ≡ voice_of s (machine_of now after passes.next passes.more (option_map cause_of refused))
-  sounds_so number age stage foot code fields = λ i. record {
+  sounds_so number age until stage foot code fields = λ i. record {
     sheet = s;
     regs = values now.regs;
     units = λ u. units_as now.players.items u i;
@@ -93,19 +93,20 @@ module _ (s : Sheet) (first now : State) (before after : ℕ → ℤ) (asked giv
     ended = now.ended;
   }
 
-  pub live : (number age : ℕ) (stage : Stage) (foot : Footprint) (code : Code) (fields : List ℤ) → refused ≡ None
-      → IsOn s (voice_in number age stage foot code fields now)
-      → IsLive s (initialised s before) (voice_in number age stage foot code fields now)
-  live number age stage foot code fields none on = record {
+  pub live : (number age until : ℕ) (stage : Stage) (foot : Footprint) (code : Code) (fields : List ℤ) → refused ≡ None
+      → IsOn s (voice_in number age until stage foot code fields now)
+      → IsLive s until (initialised s before) (voice_in number age until stage foot code fields now)
+  live number age until stage foot code fields none on = record {
     cause = cause_left ∙ ap (option_map cause_of) none;
-    sounds = sounds_so number age stage foot code fields ∙ ap (voice_of s) (sym began);
+    sounds = sounds_so number age until stage foot code fields ∙ ap (voice_of s) (sym began);
     plays = on;
+    ends = refl;
   }
 
-pub refused_so : (s : Sheet) (m : Machine VoiceState) (r : Refusal) → m.world.cause ≡ Some (cause_of r)
-    → IsStarted s m (started_as r)
-refused_so s m (refusal.NoTable number) e = e
-refused_so s m (refusal.DelayTooLong samples) e = e
+pub refused_so : (s : Sheet) (until : ℕ) (m : Machine VoiceState) (r : Refusal) → m.world.cause ≡ Some (cause_of r)
+    → IsStarted s until m (started_as r)
+refused_so s until m (refusal.NoTable number) e = e
+refused_so s until m (refusal.DelayTooLong samples) e = e
 
 -- the parts of a voice that plays from an instrument's sheet
 pub made_voice : (note : NewNote) (number : ℕ) (fields : List ℤ) (perf : Code) (counts : Counts) (state : State)
@@ -113,7 +114,7 @@ pub made_voice : (note : NewNote) (number : ℕ) (fields : List ℤ) (perf : Cod
     → length note.made.now ≡ length note.stage.tables.now
     → AreSpaces note.stage.layout.now → spaces_of note.stage.layout.now ≡ note.stage.spaces → valid perf ≡ true
     → counts ≡ perf.counts → IsStateOf (sheet_for note fields) counts state
-    → MakeVoice number note.age note.stage note.foot.now perf fields state
+    → MakeVoice number note.age note.until note.stage note.foot.now perf fields state
 made_voice note number fields perf counts state playable numbered same long places zak fine counted of = record {
   sheet = sheet_for note fields;
   parts = record {
@@ -124,6 +125,7 @@ made_voice note number fields perf counts state playable numbered same long plac
     tables = tables_made note.stage.tables.now note.made.now long;
     fields = λ k. refl;
     areas = refl;
+    zones = refl;
     foot = refl;
     perf = ap (λ code. code.ops.items) (sym same);
   };
@@ -140,7 +142,7 @@ pub on_sheet : (note : NewNote) (number : ℕ) (fields : List ℤ) (perf : Code)
     → length note.made.now ≡ length note.stage.tables.now
     → AreSpaces note.stage.layout.now → spaces_of note.stage.layout.now ≡ note.stage.spaces → valid perf ≡ true
     → counts ≡ perf.counts → IsStateOf (sheet_for note fields) counts state
-    → IsOn (sheet_for note fields) (voice_in number note.age note.stage note.foot.now perf fields state)
+    → IsOn (sheet_for note fields) (voice_in number note.age note.until note.stage note.foot.now perf fields state)
 unfolding made_voice
 on_sheet note number fields perf counts state playable numbered same long places zak fine counted of =
     (made_voice note number fields perf counts state playable numbered same long places zak fine counted of).parts

@@ -54,7 +54,7 @@ module _ (s : Sheet) (can_get can_set : ℕ → Type 0) (count : ℕ) (get : (a 
   can_do stock kinds (act.Save g) r h w = record { uses = (may_get g h.0, tt); writes = (may_set g h.0 w.0, tt) }
   can_do stock kinds (act.Unit opcode u reach) r h w =
       record { uses = each_get (unit_uses stock opcode reach) h.1; writes = tt }
-  can_do stock kinds (act.Store opcode reach) r h w =
+  can_do stock kinds (act.Store reach) r h w =
       record { uses = each_get (tables_within stock reach) h; writes = each_set (tables_within stock reach) h w }
   can_do stock kinds (act.Zak opcode reach) r h w = record {
     uses = each_get (zak_uses stock opcode reach) h;
@@ -83,7 +83,7 @@ module _ (s : Sheet) where
   act_area stock kinds (act.Save g) r h = (has_area g h.0, h.1)
   act_area stock kinds (act.Start opcode u) r h = h
   act_area stock kinds (act.Unit opcode u reach) r h = (h.0, each_area (unit_uses stock opcode reach) h.1)
-  act_area stock kinds (act.Store opcode reach) r h = each_area (tables_within stock reach) h
+  act_area stock kinds (act.Store reach) r h = each_area (tables_within stock reach) h
   act_area stock kinds (act.Zak opcode reach) r h = each_area (zak_uses stock opcode reach) h
   act_area stock kinds _ r h = tt
 

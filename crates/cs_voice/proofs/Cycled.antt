@@ -72,12 +72,12 @@ refilled_alike f g long frames whole =
     ∙ ap (λ n. record g { rows = map (λ c. row_of n (outs g c)) (range_with_len 0 (length g.rows)); ksmps = n }) frames
     ∙ whole
 
-module _ (number age : ℕ) (stage : Stage) (foot : Footprint) (code : Code) (fields : List ℤ) where
+module _ (number age until : ℕ) (stage : Stage) (foot : Footprint) (code : Code) (fields : List ℤ) where
   abbrev pub voice : State → VoiceData
-  voice s = voice_in number age stage foot code fields s
+  voice s = voice_in number age until stage foot code fields s
 
   abbrev Kept : State → Type 0
-  Kept s = IsKept number age stage foot code fields s
+  Kept s = IsKept number age until stage foot code fields s
 
   -- what the code of a voice is run in
   abbrev pub context : (s : State) → Kept s → Context

@@ -52,25 +52,26 @@ found counts end place op h =
 
 -- ---- operands by number
 
-pub first_there : (counts : Counts) (from : List Reg) (x : Reg) (rest : List Reg)
+pub first_there : (counts : Counts) {from : List Reg} {x : Reg} {rest : List Reg}
     → list_all (has_register counts) from ≡ true → from ≡ x ∷ rest → has_register counts x ≡ true
-first_there counts from x rest h e =
+first_there counts {from} {x} {rest} h e =
     (and_parts (has_register counts x) (list_all (has_register counts) rest)
     (ap (list_all (has_register counts)) (sym e) ∙ h)).0
 
-pub second_there : (counts : Counts) (from : List Reg) (x y : Reg) (rest : List Reg)
+pub second_there : (counts : Counts) {from : List Reg} {x y : Reg} {rest : List Reg}
     → list_all (has_register counts) from ≡ true → from ≡ x ∷ y ∷ rest → has_register counts y ≡ true
-second_there counts from x y rest h e =
-    first_there counts (y ∷ rest) y rest
-    (and_parts (has_register counts x) (list_all (has_register counts) (y ∷ rest))
-    (ap (list_all (has_register counts)) (sym e) ∙ h)).1 refl
+second_there counts {from} {x} {y} {rest} h e =
+    let later = (and_parts (has_register counts x) (list_all (has_register counts) (y ∷ rest))
+    (ap (list_all (has_register counts)) (sym e) ∙ h)).1 in
+    (and_parts (has_register counts y) (list_all (has_register counts) rest) later).0
 
-pub third_there : (counts : Counts) (from : List Reg) (x y z : Reg) (rest : List Reg)
+pub third_there : (counts : Counts) {from : List Reg} {x y z : Reg} {rest : List Reg}
     → list_all (has_register counts) from ≡ true → from ≡ x ∷ y ∷ z ∷ rest → has_register counts z ≡ true
-third_there counts from x y z rest h e =
-    second_there counts (y ∷ z ∷ rest) y z rest
-    (and_parts (has_register counts x) (list_all (has_register counts) (y ∷ z ∷ rest))
-    (ap (list_all (has_register counts)) (sym e) ∙ h)).1 refl
+third_there counts {from} {x} {y} {z} {rest} h e =
+    let later = (and_parts (has_register counts x) (list_all (has_register counts) (y ∷ z ∷ rest))
+    (ap (list_all (has_register counts)) (sym e) ∙ h)).1 in
+    let last = (and_parts (has_register counts y) (list_all (has_register counts) (z ∷ rest)) later).1 in
+    (and_parts (has_register counts z) (list_all (has_register counts) rest) last).0
 
 -- ---- how many operands
 

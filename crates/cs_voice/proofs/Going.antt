@@ -95,12 +95,12 @@ PassesTo get set count at finding ops first before asked place now cells given =
     → finding ≡ Some (f, ms) → f.at ≡ at → code.ops.items ≡ ops → CanPass get set count f ms code s first
     → passed.IsPassed s first before asked place now cells given
 
-module _ {R : Type 0} (get set : R → ℕ → Type 0) (r q : R) (n m : ℕ) (rest : q ≡ r) (long : m ≡ n) (at : Setting)
-    (finding : Finding) (ops : List Op)
-    (first : State) (before : ℕ → ℤ) (asked : List Ask) (place : ℕ) (now : State) (cells : ℕ → ℤ) (given : List Ask)
+module _ {R : Type 0} (get set : R → ℕ → Type 0) {r q : R} {n m : ℕ} (rest : q ≡ r) (long : m ≡ n) {at : Setting}
+    {finding : Finding} {ops : List Op}
+    {first : State} {before : ℕ → ℤ} {asked : List Ask} {place : ℕ} {now : State} {cells : ℕ → ℤ} {given : List Ask}
     (comes : ComesTo (get r) (set r) n at ops first before place now cells)
     (goes : PassesTo (get r) (set r) n at finding ops first before asked place now cells given)
-    (op : Op) (low : place < length ops) (is : slice_get ops place ≡ Some op) where
+    {op : Op} (low : place < length ops) (is : slice_get ops place ≡ Some op) where
   -- the op there can be done in a cycle, over what the bank was and over what it is
   step_first : (c : Context) → CanRun (get r) (set r) n at c ops first
       → CanStep (get r) (set r) n at c (length ops) place op now

@@ -86,10 +86,10 @@ record Played (counts : Counts) (s : State) (sheet : Sheet) : Type 0 where
   playable : IsPlayable sheet
   state : IsStateIn sheet.areas sheet.piece playable.kinds counts s
 
-module _ (number age : ℕ) (stage : Stage) (foot : Footprint) (code : Code) (fields : List ℤ) (s : State)
-    (m : MakeVoice number age stage foot code fields s) where
+module _ (number age until : ℕ) (stage : Stage) (foot : Footprint) (code : Code) (fields : List ℤ) (s : State)
+    (m : MakeVoice number age until stage foot code fields s) where
   abbrev d : VoiceData
-  d = voice_in number age stage foot code fields s
+  d = voice_in number age until stage foot code fields s
 
   own : Played code.counts s (own_sheet m.sheet d)
   own = subst (Played code.counts s) (its_own m.sheet d m.parts) (record { playable = m.playable; state = m.state })
@@ -119,7 +119,7 @@ module _ (number age : ℕ) (stage : Stage) (foot : Footprint) (code : Code) (fi
       m.parts.tables all
 
   pub kept : filled s.regs (values s.regs) ≡ s.regs → refilled s.outs (outs s.outs) ≡ s.outs
-      → IsKept number age stage foot code fields s
+      → IsKept number age until stage foot code fields s
   kept all_registers all_channels = let p = by_itself in record {
     voice = record {
       playable = p.playable;

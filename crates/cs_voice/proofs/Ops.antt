@@ -120,7 +120,7 @@ named_uses : (areas : List Area) (stock : Stock) (kinds : Kinds) (t : Act) (r : 
 named_uses areas stock kinds (act.Load g) r h = (h, tt)
 named_uses areas stock kinds (act.Save g) r h = (h.0, tt)
 named_uses areas stock kinds (act.Unit o u reach) r h = h.1
-named_uses areas stock kinds (act.Store o reach) r h = h
+named_uses areas stock kinds (act.Store reach) r h = h
 named_uses areas stock kinds (act.Zak o reach) r h = h
 named_uses areas stock kinds _ r h = tt
 
@@ -131,7 +131,7 @@ if_named N false gs h = tt
 named_writes : (areas : List Area) (stock : Stock) (kinds : Kinds) (t : Act) (r : Rate)
     → ActNamed stock kinds (HasArea areas) t r → AreNamed (HasArea areas) (act_writes stock t)
 named_writes areas stock kinds (act.Save g) r h = (h.0, tt)
-named_writes areas stock kinds (act.Store o reach) r h = h
+named_writes areas stock kinds (act.Store reach) r h = h
 named_writes areas stock kinds (act.Zak o reach) r h =
     if_named (HasArea areas) (writes_places (row_of o).shape) (zak_uses stock o reach) h
 named_writes areas stock kinds _ r h = tt

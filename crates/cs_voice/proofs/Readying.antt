@@ -15,7 +15,7 @@ use Rattle.cs_words.specs.declared.catalogue.Shape.TheVariants as shape
 use Rattle.cs_words.specs.declared.catalogue.Space.{Space}
 use Rattle.cs_ugen.specs.Units.{IsUnitOpcode, moving_count}
 use Rattle.cs_ir.specs.Resources.{Stock, act_uses, act_writes, places_within, shape_uses, writes_places}
-use Rattle.cs_ir.specs.Units.{is_store, is_unit, is_zak}
+use Rattle.cs_ir.specs.Units.{is_unit, is_zak}
 use Rattle.cs_ir.proofs.Shapes.{run_shape}
 use Rattle.cs_ir.specs.Validity.{bound_at, finds, has_register, may_run_at, runs_with, stores_with, take_all}
 use Rattle.cs_ir.specs.Validity.{takes_from, writes}
@@ -33,7 +33,7 @@ use Rattle.cs_machine.proofs.Done.{has_room}
 use Rattle.cs_machine.specs.States.{Does, DoesAt, HasRoom, IsPlayerOf, MayTouch}
 use Rattle.cs_machine.specs.declared.state.Setting.{Setting}
 use Rattle.cs_machine.specs.declared.state.State.{State}
-use Rattle.cs_voice.specs.Cells.{AreSized, DoesOver, MayReach, MayStore}
+use Rattle.cs_voice.specs.Cells.{AreSized, CanReach, DoesOver, MayReach, MayStore}
 use Rattle.cs_voice.specs.Ready.{DoesOp, IsFit, IsReady}
 use Rattle.cs_voice.specs.Units.{DoesUnit, MayPlay}
 use Rattle.cs_voice.proofs.Fitting.{Parts, found, parts, takes_as}
@@ -41,8 +41,8 @@ use Rattle.cs_voice.proofs.Touching.{may_reach, may_run, may_store}
 
 -- ---- what each op has
 
-module _ (can_get can_set : ℕ → Type 0) (count : ℕ) (at : Setting) (piece : Piece) (kinds : Kinds) (stock : Stock)
-    (o : Op) (s : State)
+module _ {can_get can_set : ℕ → Type 0} {count : ℕ} {at : Setting} {piece : Piece} {kinds : Kinds} {stock : Stock}
+    {o : Op} {s : State}
     (r : IsReady can_get can_set count at piece kinds stock o s) where
   pub room_of : HasRoom s
   room_of = has_room at.layout.now piece kinds s.regs.counts s r.state
@@ -67,33 +67,33 @@ module _ (can_get can_set : ℕ → Type 0) (count : ℕ) (at : Setting) (piece 
   parts_of = parts s.regs.counts r.end r.place o r.fine
 
   -- the act by its name
-  pub uses_of : (a : Act) → o.act ≡ a → AreNamed (MayTouch can_get count at.layout.now) (act_uses stock a)
-  uses_of a e = subst (λ b. AreNamed (MayTouch can_get count at.layout.now) (act_uses stock b)) e r.can.uses
+  pub uses_of : {a : Act} → o.act ≡ a → AreNamed (MayTouch can_get count at.layout.now) (act_uses stock a)
+  uses_of {a} e = subst (λ b. AreNamed (MayTouch can_get count at.layout.now) (act_uses stock b)) e r.can.uses
 
-  pub writes_of : (a : Act) → o.act ≡ a → AreNamed (MayTouch can_set count at.layout.now) (act_writes stock a)
-  writes_of a e = subst (λ b. AreNamed (MayTouch can_set count at.layout.now) (act_writes stock b)) e r.can.writes
+  pub writes_of : {a : Act} → o.act ≡ a → AreNamed (MayTouch can_set count at.layout.now) (act_writes stock a)
+  writes_of {a} e = subst (λ b. AreNamed (MayTouch can_set count at.layout.now) (act_writes stock b)) e r.can.writes
 
-  pub takes_of : (a : Act) → o.act ≡ a → takes_from a o.into.rate o.from ≡ true
-  takes_of a e = takes_as o a e (parts s.regs.counts r.end r.place o r.fine).takes
+  pub takes_of : {a : Act} → o.act ≡ a → takes_from a o.into.rate o.from ≡ true
+  takes_of {a} e = takes_as o a e (parts s.regs.counts r.end r.place o r.fine).takes
 
-  pub into_of : (a : Act) → o.act ≡ a → writes a ≡ true → has_register s.regs.counts o.into ≡ true
-  into_of a e w = (parts s.regs.counts r.end r.place o r.fine).into (ap writes e ∙ w)
+  pub into_of : {a : Act} → o.act ≡ a → writes a ≡ true → has_register s.regs.counts o.into ≡ true
+  into_of {a} e w = (parts s.regs.counts r.end r.place o r.fine).into (ap writes e ∙ w)
 
-  pub kind_of : (opcode : Opcode) (u : ℕ) (reach : Reach) → o.act ≡ act.Unit opcode u reach
+  pub kind_of : {opcode : Opcode} {u : ℕ} {reach : Reach} → o.act ≡ act.Unit opcode u reach
       → kinds u ≡ (opcode, o.into.rate)
-  kind_of opcode u reach e = (subst (λ a. ActNamed stock kinds (HasArea at.layout.now) a o.into.rate) e r.named).0
+  kind_of {opcode} {u} {reach} e = (subst (λ a. ActNamed stock kinds (HasArea at.layout.now) a o.into.rate) e r.named).0
 
-  pub number_of : (opcode : Opcode) (u : ℕ) (reach : Reach) → o.act ≡ act.Unit opcode u reach
+  pub number_of : {opcode : Opcode} {u : ℕ} {reach : Reach} → o.act ≡ act.Unit opcode u reach
       → u < length s.players.items
-  number_of opcode u reach e = subst (λ n. u < n) (sym r.state.units)
+  number_of {opcode} {u} {reach} e = subst (λ n. u < n) (sym r.state.units)
       (ltb-true u s.regs.counts.units
       (ap (finds s.regs.counts r.end r.place) (sym e) ∙ found s.regs.counts r.end r.place o r.fine))
 
   -- the players of a unit
-  pub player_of : (opcode : Opcode) (u : ℕ) (reach : Reach) → o.act ≡ act.Unit opcode u reach → (p : PlayerData)
+  pub player_of : {opcode : Opcode} {u : ℕ} {reach : Reach} → o.act ≡ act.Unit opcode u reach → (p : PlayerData)
       → slice_index_or s.players.items u None ≡ Some p
       → IsPlayerOf at.layout.now piece (opcode, o.into.rate) p
-  player_of opcode u reach e p is = subst (λ k. IsPlayerOf at.layout.now piece k p)
+  player_of {opcode} {u} {reach} e p is = subst (λ k. IsPlayerOf at.layout.now piece k p)
       (subst (λ a. ActNamed stock kinds (HasArea at.layout.now) a o.into.rate) e r.named).0 (r.state.players u p is)
 
 -- ---- operands of units, of stores and of acts on zak places
@@ -170,87 +170,91 @@ mix_sounds o reach r xs x n h mix e =
     (and_parts (is_audio x.rate) (take_all (letter.Place ∷ []) (bound_at (row_of op.Zawm) r) (n ∷ [])) all).0
 
 -- a store takes three operands
-stores_three : (r : Rate) (xs : List Reg) → stores_with r xs ≡ true → length xs ≡ 3
-stores_three r [] h = absurd (cc)
-stores_three r (x ∷ []) h = absurd (cc)
-stores_three r (x ∷ y ∷ []) h = absurd (cc)
-stores_three r (x ∷ y ∷ n ∷ []) h = refl
-stores_three r (x ∷ y ∷ n ∷ z ∷ xs) h = absurd (cc)
-
-pub store_long : (o : Opcode) (reach : Reach) (r : Rate) (xs : List Reg) → takes_from (act.Store o reach) r xs ≡ true
-    → length xs ≡ 3
-store_long o reach r xs h = stores_three r xs (and_parts (is_store (row_of o).shape) (stores_with r xs) h).1
+pub store_long : (r : Rate) (xs : List Reg) → stores_with r xs ≡ true → length xs ≡ 3
+store_long r [] h = absurd (cc)
+store_long r (x ∷ []) h = absurd (cc)
+store_long r (x ∷ y ∷ []) h = absurd (cc)
+store_long r (x ∷ y ∷ n ∷ []) h = refl
+store_long r (x ∷ y ∷ n ∷ z ∷ xs) h = absurd (cc)
 
 -- ---- an op that is done
 
-pub does_op : (can_get can_set : ℕ → Type 0) (count : ℕ) (at : Setting) (o : Op) (b : Act) (ys : List Reg) (old : State)
-    (before : ℕ → ℤ) (new : State) (after : ℕ → ℤ)
+pub does_op : {can_get can_set : ℕ → Type 0} {count : ℕ} {at : Setting} {o : Op} {b : Act} {ys : List Reg} {old : State}
+    {before : ℕ → ℤ} {new : State} {after : ℕ → ℤ}
     → o.act ≡ b → o.from ≡ ys → DoesOver at b o.into ys old before new after
     → DoesOp can_get can_set count at o old before new after
-does_op can_get can_set count at o b ys old before new after e f h piece kinds stock r =
+does_op {can_get} {can_set} {count} {at} {o} {b} {ys} {old} {before} {new} {after} e f h piece kinds stock r =
     subst (λ d. Does at.layout.now piece kinds old.regs.counts d o.into o.from old before new after) (sym e)
     (subst (λ l. Does at.layout.now piece kinds old.regs.counts b o.into l old before new after) (sym f)
     (h at.layout.now piece stock kinds old.regs.counts r.setting r.placed r.state))
 
-pub does_op_unit : (can_get can_set : ℕ → Type 0) (count : ℕ) (at : Setting) (o : Op) (opcode : Opcode) (u : ℕ)
-    (reach : Reach) (ys : List Reg) (old : State) (before : ℕ → ℤ) (new : State) (after : ℕ → ℤ)
+pub does_op_unit : {can_get can_set : ℕ → Type 0} {count : ℕ} {at : Setting} {o : Op} {opcode : Opcode} {u : ℕ}
+    {reach : Reach} {ys : List Reg} {old : State} {before : ℕ → ℤ} {new : State} {after : ℕ → ℤ}
     → o.act ≡ act.Unit opcode u reach → o.from ≡ ys → IsUnitOpcode opcode
     → DoesUnit u reach o.into ys old before new after → DoesOp can_get can_set count at o old before new after
-does_op_unit can_get can_set count at o opcode u reach ys old before new after e f is h piece kinds stock r =
+does_op_unit {can_get} {can_set} {count} {at} {o} {opcode} {u} {reach} {ys} {old} {before} {new} {after} e f is h piece
+    kinds stock r =
     subst (λ d. Does at.layout.now piece kinds old.regs.counts d o.into o.from old before new after) (sym e)
     (subst (λ l. Does at.layout.now piece kinds old.regs.counts (act.Unit opcode u reach) o.into l old before new after)
     (sym f)
     (h at.layout.now piece stock kinds old.regs.counts opcode is
-    (kind_of can_get can_set count at piece kinds stock o old r opcode u reach e) r.placed r.state))
+    (kind_of r e) r.placed r.state))
 
-pub does_op_plain : (can_get can_set : ℕ → Type 0) (count : ℕ) (at : Setting) (o : Op) (old : State) (cells : ℕ → ℤ)
-    (new : State)
+pub does_op_plain : {can_get can_set : ℕ → Type 0} {count : ℕ} {at : Setting} {o : Op} {old : State} {cells : ℕ → ℤ}
+    {new : State}
     → DoesAt at o.act o.into o.from old new → DoesOp can_get can_set count at o old cells new cells
-does_op_plain can_get can_set count at o old cells new h piece kinds stock r =
+does_op_plain {can_get} {can_set} {count} {at} {o} {old} {cells} {new} h piece kinds stock r =
     h at.layout.now piece kinds old.regs.counts cells r.setting r.state
 
 -- ---- zak places of an op that is ready
 
-module _ (can_get can_set : ℕ → Type 0) (count : ℕ) (at : Setting) (piece : Piece) (kinds : Kinds) (stock : Stock)
-    (o : Op) (s : State)
-    (r : IsReady can_get can_set count at piece kinds stock o s) (opcode : Opcode) (reach : Reach)
+module _ {can_get can_set : ℕ → Type 0} {count : ℕ} {at : Setting} {piece : Piece} {kinds : Kinds} {stock : Stock}
+    {o : Op} {s : State}
+    (r : IsReady can_get can_set count at piece kinds stock o s) {opcode : Opcode} {reach : Reach}
     (e : o.act ≡ act.Zak opcode reach) where
   -- those of the space that its shape reads, and those of the one that it writes
-  pub may_read : (z : Space) (sh : Shape) → (row_of opcode).shape ≡ sh
+  pub may_read : (z : Space) {sh : Shape} → (row_of opcode).shape ≡ sh
       → ((stock : Stock) → shape_uses stock sh reach ≡ places_within stock z reach) → MayReach can_get count at z reach
-  may_read z sh is these =
+  may_read z {sh} is these =
       may_reach can_get count at stock piece z reach r.placed.spaces r.setting.spaces
       (subst (AreNamed (MayTouch can_get count at.layout.now)) (ap (λ q. shape_uses stock q reach) is ∙ these stock)
-      (uses_of can_get can_set count at piece kinds stock o s r (act.Zak opcode reach) e))
+      (uses_of r e))
 
-  pub may_write : (z : Space) (sh : Shape) → (row_of opcode).shape ≡ sh
+  pub may_write : (z : Space) {sh : Shape} → (row_of opcode).shape ≡ sh
       → ((stock : Stock) → (if writes_places sh then shape_uses stock sh reach else []) ≡ places_within stock z reach)
       → MayReach can_set count at z reach
-  may_write z sh is these =
+  may_write z {sh} is these =
       may_reach can_set count at stock piece z reach r.placed.spaces r.setting.spaces
       (subst (AreNamed (MayTouch can_set count at.layout.now))
       (ap (λ q. if writes_places q then shape_uses stock q reach else []) is ∙ these stock)
-      (writes_of can_get can_set count at piece kinds stock o s r (act.Zak opcode reach) e))
+      (writes_of r e))
+
+-- a register of an op that is ready may name the places that may be touched
+pub can_reach : {can_get can_set : ℕ → Type 0} {count : ℕ} {at : Setting} {piece : Piece} {kinds : Kinds}
+    {stock : Stock}
+    {o : Op} {s : State} → IsReady can_get can_set count at piece kinds stock o s
+    → {allowed : ℕ → Type 0} {space : Space} {reach : Reach} {number : Reg}
+    → has_register s.regs.counts number ≡ true → MayReach allowed count at space reach
+    → CanReach allowed count at space reach number s
+can_reach r there places = record { register = there; room = room_of r; sized = sized_of r; places = places }
 
 -- ---- tables of an op that is ready
 
-pub unit_may_play : (can_get can_set : ℕ → Type 0) (count : ℕ) (at : Setting) (piece : Piece) (kinds : Kinds)
-    (stock : Stock) (o : Op) (s : State)
-    → IsReady can_get can_set count at piece kinds stock o s → (opcode : Opcode) (u : ℕ) (reach : Reach)
+pub unit_may_play : {can_get can_set : ℕ → Type 0} {count : ℕ} {at : Setting} {piece : Piece} {kinds : Kinds}
+    {stock : Stock} {o : Op} {s : State}
+    → IsReady can_get can_set count at piece kinds stock o s → {opcode : Opcode} {u : ℕ} {reach : Reach}
     → o.act ≡ act.Unit opcode u reach
     → (p : PlayerData) → slice_index_or s.players.items u None ≡ Some p → MayPlay can_get count reach o.from p
-unit_may_play can_get can_set count at piece kinds stock o s r opcode u reach e p is =
-    let takes = takes_of can_get can_set count at piece kinds stock o s r (act.Unit opcode u reach) e in
+unit_may_play {can_get} {can_set} {count} {at} {piece} {kinds} {stock} {o} {s} r {opcode} {u} {reach} e p is =
+    let takes = takes_of r e in
     may_run can_get count at.layout.now stock piece opcode o.into.rate reach o.from p
     (is_a_unit opcode u reach o.into.rate o.from takes)
     (unit_count opcode u reach o.into.rate o.from takes)
-    r.placed (uses_of can_get can_set count at piece kinds stock o s r (act.Unit opcode u reach) e)
-    (player_of can_get can_set count at piece kinds stock o s r opcode u reach e p is)
+    r.placed (uses_of r e) (player_of r e p is)
 
-pub op_may_store : (can_get can_set : ℕ → Type 0) (count : ℕ) (at : Setting) (piece : Piece) (kinds : Kinds)
-    (stock : Stock) (o : Op) (s : State)
-    → IsReady can_get can_set count at piece kinds stock o s → (opcode : Opcode) (reach : Reach)
-    → o.act ≡ act.Store opcode reach → MayStore can_set count at.layout.now reach
-op_may_store can_get can_set count at piece kinds stock o s r opcode reach e =
-    may_store can_set count at.layout.now stock piece reach r.placed
-    (writes_of can_get can_set count at piece kinds stock o s r (act.Store opcode reach) e)
+pub op_may_store : {can_get can_set : ℕ → Type 0} {count : ℕ} {at : Setting} {piece : Piece} {kinds : Kinds}
+    {stock : Stock} {o : Op} {s : State}
+    → IsReady can_get can_set count at piece kinds stock o s → {reach : Reach}
+    → o.act ≡ act.Store reach → MayStore can_set count at.layout.now reach
+op_may_store {can_get} {can_set} {count} {at} {piece} {kinds} {stock} {o} {s} r {reach} e =
+    may_store can_set count at.layout.now stock piece reach r.placed (writes_of r e)

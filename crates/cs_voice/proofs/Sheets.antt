@@ -94,7 +94,7 @@ module _ (areas : List Area) (piece : Piece) (g : Generators) where
   acts_same (act.Unit opcode k reach) into ws m h =
       ap (λ done. written piece.head.ksmps opcode into done m)
       (plays_same opcode into.rate k reach ws (m.world.units k) m.world)
-  acts_same (act.Store opcode reach) into ws m h =
+  acts_same (act.Store reach) into ws m h =
       ap (λ x. in_world x m) (store_same into.rate reach ws (index (operand 2 ws 0)) m.world)
   acts_same (act.Zak opcode reach) into ws m h =
       ap (λ done. written piece.head.ksmps opcode into done m) (zak_same (row_of opcode).shape reach ws m.world)

@@ -5,7 +5,6 @@ use Rattle.std.specs.Option.{is_some}
 use Rattle.cs_base.specs.declared.resource.Rate.{Rate}
 use Rattle.cs_base.specs.declared.resource.Rate.TheVariants as rate
 use Rattle.cs_base.specs.declared.resource.Res.TheVariants as res
-use Rattle.cs_words.specs.declared.catalogue.Opcode.{Opcode}
 use Rattle.cs_ir.specs.Resources.{Stock, reaches}
 use Rattle.cs_ir.specs.Waves.{Wave, operand}
 use Rattle.cs_ir.specs.declared.op.Act.TheVariants as act
@@ -112,13 +111,13 @@ module _ (areas : List Area) (stock : Stock) (piece : Piece) (r : Rate) (ws : Li
       by_reach false g = λ i. record x { shared = g i }
 
 -- the act of a store, by what it makes of cells
-pub store_done : (areas : List Area) (piece : Piece) (stock : Stock) (kinds : Kinds) (counts : Counts) (opcode : Opcode)
-    (reach : Reach) (into signal place table : Reg)
+pub store_done : (areas : List Area) (piece : Piece) (stock : Stock) (kinds : Kinds) (counts : Counts) (reach : Reach)
+    (into signal place table : Reg)
     (s : State) (before after : ℕ → ℤ) → IsPlaced areas stock piece → IsStateIn areas piece kinds counts s
     → Stores (stored_area areas reach (index (values s.regs table 0))) (steps_of s.regs.ksmps into.rate)
     (values s.regs signal) (values s.regs place) before after
-    → Does areas piece kinds counts (act.Store opcode reach) into (signal ∷ place ∷ table ∷ []) s before s after
-store_done areas piece stock kinds counts opcode reach into signal place table s before after placed state h = record {
+    → Does areas piece kinds counts (act.Store reach) into (signal ∷ place ∷ table ∷ []) s before s after
+store_done areas piece stock kinds counts reach into signal place table s before after placed state h = record {
   machine = λ next asks cause i. record (machine_of s before next asks cause) {
     world = (stored_as areas stock piece into.rate
         (values s.regs signal ∷ values s.regs place ∷ values s.regs table ∷ [])

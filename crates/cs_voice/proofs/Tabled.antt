@@ -4,11 +4,11 @@ use Rattle.std.proofs.Common.{length, drop, get_or, unsigned_abs, Option, Some, 
 use Rattle.std.proofs.Common.{arith}
 use Rattle.std.specs.Int.{is_negative}
 use Rattle.cs_meaning.specs.Pieces.{Table, find_table}
-use Rattle.cs_voice.specs.declared.stage.TableAt.{TableAt}
+use Rattle.cs_voice.specs.declared.stage.PieceTable.{PieceTable}
 use Rattle.cs_voice.specs.Tables.{table_at, tables_of}
 
 -- the tables from a place on
-from_place : (tables : List TableAt) (made : List Bool) (n : ℕ) (t : TableAt) (m : Bool) → n < length tables
+from_place : (tables : List PieceTable) (made : List Bool) (n : ℕ) (t : PieceTable) (m : Bool) → n < length tables
     → n < length made
     → t ≡ get_or tables n t → m ≡ get_or made n false
     → tables_of (drop n tables) (drop n made) ≡ table_at t m ∷ tables_of (drop (n + 1) tables) (drop (n + 1) made)
@@ -29,7 +29,7 @@ not_this true t o e = absurd cc
 not_this false t o e = refl
 
 -- the table at a place is the one, where those before it aren't; or it is behind it
-pub found_here : (tables : List TableAt) (made : List Bool) (number : ℤ) (n : ℕ) (t : TableAt) → n < length tables
+pub found_here : (tables : List PieceTable) (made : List Bool) (number : ℤ) (n : ℕ) (t : PieceTable) → n < length tables
     → length made ≡ length tables
     → t ≡ get_or tables n t → (not (is_negative number) && t.number == unsigned_abs number) ≡ true
     → find_table (tables_of tables made) number ≡ find_table (tables_of (drop n tables) (drop n made)) number
@@ -40,7 +40,7 @@ found_here tables made number n t h long e here before =
     (find_table (tables_of (drop (n + 1) tables) (drop (n + 1) made)) number) here
     ∙ sym (before ∙ ap (λ ts. find_table ts number) (from_place tables made n t m h (omega arith) e refl))
 
-pub found_later : (tables : List TableAt) (made : List Bool) (number : ℤ) (n : ℕ) (t : TableAt) → n < length tables
+pub found_later : (tables : List PieceTable) (made : List Bool) (number : ℤ) (n : ℕ) (t : PieceTable) → n < length tables
     → length made ≡ length tables
     → t ≡ get_or tables n t → (not (is_negative number) && t.number == unsigned_abs number) ≡ false
     → find_table (tables_of tables made) number ≡ find_table (tables_of (drop n tables) (drop n made)) number
@@ -52,11 +52,11 @@ found_later tables made number n t h long e here before =
     ∙ not_this (not (is_negative number) && t.number == unsigned_abs number) (table_at t m)
     (find_table (tables_of (drop (n + 1) tables) (drop (n + 1) made)) number) here
 
-no_made : (tables : List TableAt) → tables_of tables [] ≡ []
+no_made : (tables : List PieceTable) → tables_of tables [] ≡ []
 no_made [] = refl
 no_made (t ∷ tables) = refl
 
-none_left : (tables : List TableAt) (made : List Bool) (n : ℕ) → length tables ≤ n
+none_left : (tables : List PieceTable) (made : List Bool) (n : ℕ) → length tables ≤ n
     → tables_of (drop n tables) (drop n made) ≡ []
 none_left [] made zero h = refl
 none_left [] made (suc n) h = refl
@@ -64,7 +64,7 @@ none_left (x ∷ tables) made zero h = absurd (omega arith)
 none_left (x ∷ tables) [] (suc n) h = no_made (drop n tables)
 none_left (x ∷ tables) (y ∷ made) (suc n) h = none_left tables made n (omega arith)
 
-pub found_none : (tables : List TableAt) (made : List Bool) (number : ℤ) (n : ℕ) → length tables ≤ n
+pub found_none : (tables : List PieceTable) (made : List Bool) (number : ℤ) (n : ℕ) → length tables ≤ n
     → find_table (tables_of tables made) number ≡ find_table (tables_of (drop n tables) (drop n made)) number
     → None ≡ find_table (tables_of tables made) number
 found_none tables made number n h before = sym (before ∙ ap (λ ts. find_table ts number) (none_left tables made n h))

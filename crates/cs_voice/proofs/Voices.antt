@@ -26,6 +26,7 @@ own_sheet s d = record {
     fields = λ k. argument d.fields (k - 1);
   };
   areas = d.areas;
+  zones = d.zones;
   foot = d.foot;
   init = s.init;
   perf = d.code.ops.items;
@@ -45,6 +46,7 @@ its_own s d on = λ t. record {
     fields = λ k. on.fields k t;
   };
   areas = on.areas t;
+  zones = on.zones t;
   foot = on.foot t;
   init = s.init;
   perf = on.perf t;
@@ -86,6 +88,7 @@ module _ (s : Sheet) (d : VoiceData) (on : IsOn s d) (h : IsVoice d) where
       tables = on.tables;
       fields = on.fields;
       areas = on.areas;
+      zones = on.zones;
       foot = on.foot;
       perf = on.perf;
     };

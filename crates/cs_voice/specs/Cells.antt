@@ -7,7 +7,7 @@ use Rattle.cs_words.specs.declared.catalogue.Space.{Space}
 use Rattle.cs_gen.specs.Points.{len_of}
 use Rattle.cs_ugen.specs.Points.{is_len}
 use Rattle.cs_ir.specs.Resources.{Stock, places_of, reaches, zak_place}
-use Rattle.cs_ir.specs.Validity.{has_value}
+use Rattle.cs_ir.specs.Validity.{has_register, has_value}
 use Rattle.cs_ir.specs.declared.op.Act.{Act}
 use Rattle.cs_ir.specs.declared.op.Reach.{Reach}
 use Rattle.cs_ir.specs.declared.register.Counts.{Counts}
@@ -17,7 +17,7 @@ use Rattle.cs_meaning.specs.Pieces.{Piece}
 use Rattle.cs_voice_meaning.specs.Follows.{Kinds}
 use Rattle.cs_voice_meaning.specs.Placing.{IsPlaced, area_of, cell_count}
 use Rattle.cs_machine.specs.Access.{CanTouch}
-use Rattle.cs_machine.specs.States.{Does, IsSettingOf, IsStateIn, MayTouch}
+use Rattle.cs_machine.specs.States.{Does, HasRoom, IsSettingOf, IsStateIn, MayTouch}
 use Rattle.cs_machine.specs.declared.state.Setting.{Setting}
 use Rattle.cs_machine.specs.declared.state.State.{State}
 
@@ -39,6 +39,15 @@ pub record AreSized (areas : List Area) (ksmps : ℕ) : Type 0 where
 abbrev pub MayReach : (ℕ → Type 0) → ℕ → Setting → Space → Reach → Type 0
 MayReach allowed count at s reach = (n : ℕ) → n < places_of at.spaces s → reaches reach n ≡ true
     → MayTouch allowed count at.layout.now (zak_place s n)
+
+-- A register may name a zak place that is read or written: it is there, a row has room, areas have their cells, and
+-- each place within reach may be touched.
+pub record CanReach (allowed : ℕ → Type 0) (count : ℕ) (at : Setting) (space : Space) (reach : Reach) (number : Reg)
+    (s : State) : Type 0 where
+  pub register : has_register s.regs.counts number ≡ true
+  pub room : HasRoom s
+  pub sized : AreSized at.layout.now s.regs.ksmps
+  pub places : MayReach allowed count at space reach
 
 -- the area of the live table of a number, where it is within reach
 abbrev pub stored_area : List Area → Reach → Option ℕ → Option Area

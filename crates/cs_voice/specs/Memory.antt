@@ -1,5 +1,5 @@
 -- A voice as it lies in memory.
-use Rattle.std.specs.Prelude.{ℕ, ℤ, ◌≡◌, true, List, map, Option, Some, None}
+use Rattle.std.specs.Prelude.{ℕ, ℤ, ◌≡◌, true, List, map}
 use Rattle.std.specs.Option.{option_map}
 use Rattle.cs_ir.specs.Validity.{valid}
 use Rattle.cs_ir.specs.declared.op.Code.{Code}
@@ -7,35 +7,31 @@ use Rattle.cs_cells.specs.declared.footprint.Footprint.{Footprint}
 use Rattle.cs_meaning.specs.Pieces.{Table}
 use Rattle.cs_machine.specs.Access.{AreSpaces, spaces_of}
 use Rattle.cs_machine.specs.Players.{playing}
-use Rattle.cs_ugen.specs.declared.frozen.FrozenTable.{FrozenTable}
 use Rattle.cs_voice_meaning.specs.Voices.{Sheet, IsPlayable}
 use Rattle.cs_typed.specs.TypedTree.{header_of_head}
 use Rattle.cs_machine.specs.States.{IsStateIn}
 use Rattle.cs_machine.specs.declared.state.State.{State}
 use Rattle.cs_voice.specs.declared.body.Body.{Body}
 use Rattle.cs_voice.specs.declared.stage.Stage.{Stage}
-use Rattle.cs_voice.specs.declared.stage.TableAt.{TableAt}
+use Rattle.cs_voice.specs.declared.stage.PieceTable.{PieceTable}
 use Rattle.cs_voice.specs.VoiceData.{VoiceData, IsOn, piece_of}
 use Rattle.cs_voice.specs.VoiceMeaning.{IsVoice}
 
--- the points of a table that stays as it is
-abbrev pub frozen_in : Option FrozenTable → Option (List ℤ)
-frozen_in None = None
-frozen_in (Some t) = Some t.points.now
-
 -- a table as the definitions have it, once it has been made
-abbrev pub table_of : TableAt → Table
-table_of t = record { number = t.number; size = t.size; frozen = frozen_in t.points; present = true }
+abbrev pub table_of : PieceTable → Table
+table_of t = record { number = t.number; size = t.size; frozen = t.points; present = true }
 
 -- the voice that these parts make
-abbrev pub voice_in : ℕ → ℕ → Stage → Footprint → Code → List ℤ → State → VoiceData
-voice_in number age stage foot code fields s = record {
+abbrev pub voice_in : ℕ → ℕ → ℕ → Stage → Footprint → Code → List ℤ → State → VoiceData
+voice_in number age until stage foot code fields s = record {
   number = number;
   age = age;
+  until = until;
   head = header_of_head stage.head.now;
   spaces = stage.spaces;
   tables = map table_of stage.tables.now;
   areas = stage.layout.now;
+  zones = stage.zones.now;
   fields = fields;
   foot = foot;
   code = code;
@@ -48,10 +44,10 @@ voice_in number age stage foot code fields s = record {
 
 -- Parts make a voice that plays from a sheet: the sheet can be played, the layout has the zak places of the piece, the
 -- code is valid, and the state is one in the piece.
-pub record MakeVoice (number age : ℕ) (stage : Stage) (foot : Footprint) (code : Code) (fields : List ℤ)
+pub record MakeVoice (number age until : ℕ) (stage : Stage) (foot : Footprint) (code : Code) (fields : List ℤ)
     (s : State) : Type 0 where
   pub sheet : Sheet
-  pub parts : IsOn sheet (voice_in number age stage foot code fields s)
+  pub parts : IsOn sheet (voice_in number age until stage foot code fields s)
   pub playable : IsPlayable sheet
   pub spaces : AreSpaces stage.layout.now
   pub zak : spaces_of stage.layout.now ≡ stage.spaces
@@ -59,17 +55,17 @@ pub record MakeVoice (number age : ℕ) (stage : Stage) (foot : Footprint) (code
   pub state : IsStateIn sheet.areas sheet.piece playable.kinds code.counts s
 
 -- What is so of the parts of a voice.
-pub record IsKept (number age : ℕ) (stage : Stage) (foot : Footprint) (code : Code) (fields : List ℤ) (s : State) : Type
+pub record IsKept (number age until : ℕ) (stage : Stage) (foot : Footprint) (code : Code) (fields : List ℤ) (s : State) : Type
     0 where
-  pub voice : IsVoice (voice_in number age stage foot code fields s)
+  pub voice : IsVoice (voice_in number age until stage foot code fields s)
   pub spaces : AreSpaces stage.layout.now
   pub zak : spaces_of stage.layout.now ≡ stage.spaces
-  pub state : IsStateIn stage.layout.now (piece_of (voice_in number age stage foot code fields s)) voice.playable.kinds
+  pub state : IsStateIn stage.layout.now (piece_of (voice_in number age until stage foot code fields s)) voice.playable.kinds
       code.counts s
 
 -- the voice that a body is, and what is so of each body
 abbrev pub data_of : Body → VoiceData
-data_of b = voice_in b.number b.age b.stage b.foot.now b.code.now b.fields.items b.state
+data_of b = voice_in b.number b.age b.until b.stage b.foot.now b.code.now b.fields.items b.state
 
 abbrev pub IsBody : Body → Type 0
-IsBody b = IsKept b.number b.age b.stage b.foot.now b.code.now b.fields.items b.state
+IsBody b = IsKept b.number b.age b.until b.stage b.foot.now b.code.now b.fields.items b.state

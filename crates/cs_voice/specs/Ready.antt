@@ -61,7 +61,7 @@ is_plain (act.Load g) = false
 is_plain (act.Save g) = false
 is_plain (act.Unit opcode u reach) = false
 is_plain (act.Zak opcode reach) = false
-is_plain (act.Store opcode reach) = false
+is_plain (act.Store reach) = false
 is_plain a = is_here a
 
 -- An op of a valid code fits a state: its registers and its channel are there.

@@ -36,6 +36,7 @@ sheet_at instrument age foot stage made fields = record {
   age = age;
   piece = piece_at stage made fields;
   areas = stage.layout.now;
+  zones = stage.zones.now;
   foot = foot;
   init = instrument.init.ops.items;
   perf = instrument.perf.ops.items;
@@ -45,17 +46,18 @@ sheet_at instrument age foot stage made fields = record {
 abbrev pub sheet_for : NewNote → List ℤ → Sheet
 sheet_for note fields = sheet_at note.instrument.now note.age note.foot.now note.stage note.made.now fields
 
--- the voice that a machine has become, which plays from a sheet
-pub record IsLive (s : Sheet) (m : Machine VoiceState) (v : VoiceData) : Type 0 where
+-- the voice that a machine has become, which plays from a sheet, of a note that has ended in cycle `until`
+pub record IsLive (s : Sheet) (until : ℕ) (m : Machine VoiceState) (v : VoiceData) : Type 0 where
   pub cause : m.world.cause ≡ None
   pub sounds : sounding_on s v ≡ voice_of s m
   pub plays : IsOn s v
+  pub ends : v.until ≡ until
 
 -- What came of a note, by the machine that began: a voice, exactly where nothing was refused, or else the cause.
-abbrev pub IsStarted : Sheet → Machine VoiceState → Started → Type 0
-IsStarted s m (started.Live v) = IsLive s m v
-IsStarted s m (started.NoTable number) = m.world.cause ≡ Some (no_table number)
-IsStarted s m (started.DelayTooLong samples) = m.world.cause ≡ Some (delay_too_long samples)
+abbrev pub IsStarted : Sheet → ℕ → Machine VoiceState → Started → Type 0
+IsStarted s until m (started.Live v) = IsLive s until m v
+IsStarted s until m (started.NoTable number) = m.world.cause ≡ Some (no_table number)
+IsStarted s until m (started.DelayTooLong samples) = m.world.cause ≡ Some (delay_too_long samples)
 
 -- what is told of a refusal
 abbrev pub started_as : Refusal → Started

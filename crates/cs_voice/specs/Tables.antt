@@ -7,14 +7,14 @@ use Rattle.cs_meaning.specs.Pieces.{Table, find_table}
 use Rattle.cs_ugen.specs.Points.{is_len}
 use Rattle.cs_voice_meaning.specs.Placing.{HasArea}
 use Rattle.cs_voice.specs.Memory.{table_of}
-use Rattle.cs_voice.specs.declared.stage.TableAt.{TableAt}
+use Rattle.cs_voice.specs.declared.stage.PieceTable.{PieceTable}
 
 -- a table that has been made by now, or hasn't
-abbrev pub table_at : TableAt → Bool → Table
+abbrev pub table_at : PieceTable → Bool → Table
 table_at t made = record (table_of t) { present = made }
 
 -- tables, of which each has been made or not
-abbrev pub tables_of : List TableAt → List Bool → List Table
+abbrev pub tables_of : List PieceTable → List Bool → List Table
 tables_of [] made = []
 tables_of (t ∷ tables) [] = []
 tables_of (t ∷ tables) (m ∷ made) = table_at t m ∷ tables_of tables made

@@ -14,16 +14,18 @@ use Rattle.cs_ugen.specs.Generators.{pace_of, the_generators}
 use Rattle.cs_voice_meaning.specs.VoiceWorld.{Playing}
 use Rattle.cs_voice_meaning.specs.Voices.{Sheet, Sounding}
 
--- A voice: the number of its instrument and its age; the header, the zak spaces, the tables and the areas that it
--- sounds in; its p-fields, its footprint and its code; and its registers, its units, the samples of its delays, its
--- output channels, and whether it was turned off.
+-- A voice: the number of its instrument, its age, and the cycle in which its note has ended; the header, the zak
+-- spaces, the tables, the areas that it sounds in and their zones; its p-fields, its footprint and its code; and its
+-- registers, its units, the samples of its delays, its output channels, and whether it was turned off.
 pub record VoiceData : Type 0 where
   pub number : ℕ
   pub age : ℕ
+  pub until : ℕ
   pub head : Header
   pub spaces : Spaces
   pub tables : List Table
   pub areas : List Area
+  pub zones : List Area
   pub fields : List ℤ
   pub foot : Footprint
   pub code : Code
@@ -51,6 +53,7 @@ sheet_of d = record {
   age = d.age;
   piece = piece_of d;
   areas = d.areas;
+  zones = d.zones;
   foot = d.foot;
   init = [];
   perf = d.code.ops.items;
@@ -86,6 +89,7 @@ pub record IsOn (s : Sheet) (d : VoiceData) : Type 0 where
   pub tables : map made s.piece.tables ≡ d.tables
   pub fields : (k : ℕ) → s.piece.fields k ≡ argument d.fields (k - 1)
   pub areas : s.areas ≡ d.areas
+  pub zones : s.zones ≡ d.zones
   pub foot : s.foot ≡ d.foot
   pub perf : s.perf ≡ d.code.ops.items
 

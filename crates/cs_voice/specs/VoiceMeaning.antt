@@ -30,7 +30,7 @@ leaves d c = left_by (sounding d) c
 
 abbrev pub voice_job : Meaning VoiceData
 voice_job = record {
-  areas = λ d. d.areas;
+  areas = λ d. d.zones;
   foot = λ d. d.foot;
   after = after;
   leaves = leaves;

@@ -4,7 +4,7 @@ ghost use Rattle.cs_voice.specs.Ready.{CanBeDone, DoesOp, IsFit, is_here, is_pla
 ghost use Rattle.cs_cells.specs.Cells.{cell};
 ghost use Rattle.cs_ir.specs.declared.op.Act.TheVariants as acts;
 ghost use Rattle.cs_machine.specs.States.{DoesAt};
-ghost use Rattle.cs_words.specs.declared.catalogue.Opcode.{Opcode};
+ghost use Rattle.cs_words.specs.Catalogue.{row_of};
 
 use crate::shared::{load, save};
 use crate::store::{Storing, store_points};
@@ -41,7 +41,7 @@ pub(crate) fn act<B: Bank>(state: &mut State<'_>, at: &Setting<'_>, op: &Op, ban
             );
         }
         Act::Zak(opcode, reach) => zak(state, at, op, opcode, reach, bank),
-        Act::Store(_, reach) => store(state, at, op, reach, bank),
+        Act::Store(reach) => store(state, at, op, reach, bank),
         _ => plain(state, at, op),
     }
 }
@@ -65,7 +65,7 @@ fn zak<B: Bank>(
     ensures rest { B.rest bank.new ≡ B.rest bank.old }
 {
     let from = op.from.as_slice();
-    match signature_of(opcode).shape() {
+    match shape_of(opcode) {
         Shape::ZakGet(space) => {
             zak_get(state, at, Within { space, reach }, op.into, one(from), bank);
         }
@@ -85,9 +85,15 @@ fn zak<B: Bank>(
     }
 }
 
+fn shape_of(opcode: Opcode) -> Shape
+    ensures { result ≡ (row_of opcode).shape }
+{
+    signature_of(opcode).shape()
+}
+
 /// An op that stores into a table.
 fn store<B: Bank>(state: &State<'_>, at: &Setting<'_>, op: &Op, reach: Reach, bank: &mut B)
-    requires act { (opcode : Opcode) × (op.now.act ≡ acts.Store opcode reach) }
+    requires act { op.now.act ≡ acts.Store reach }
     requires ready { CanBeDone (B.can_get (B.rest bank.old)) (B.can_set (B.rest bank.old)) (length (B.cells bank.old))
         at.now
         op.now state.now }

@@ -17,7 +17,7 @@ ghost use Rattle.cs_machine.specs.States.{IsStateIn};
 ghost use Rattle.cs_ugen.specs.Units.{IsUnitOpcode, unit_start};
 ghost use Rattle.cs_words.specs.Catalogue.{takes_table};
 
-use crate::TableAt;
+use crate::PieceTable;
 use crate::tables::{Finds, find, table_number};
 use cs_base::{Head, MOST_DELAY_SAMPLES, Num, OutOfMemory, Rate, Res};
 use cs_cells::Layout;
@@ -78,7 +78,7 @@ pub(crate) fn begin<'p>(
 }
 
 /// Looks for the table that a store writes; None where it is there.
-pub(crate) fn seek(tables: &[TableAt<'_>], made: &[bool], settled: &[Num]) -> Option<Refusal>
+pub(crate) fn seek(tables: &[PieceTable], made: &[bool], settled: &[Num]) -> Option<Refusal>
     requires { length made.now ≡ length tables.now }
     ensures { Seeks (tables_of tables.now made.now) (table_number settled.now) result }
 {
@@ -114,8 +114,8 @@ fn begin_on_table<'p>(
     requires tables { CanAllBePlayed finds.now.at.layout.now (tables_of finds.now.tables.now made.now) }
     ensures { IfOk result (BeginsOnTable finds.now.at.layout.now (tables_of finds.now.tables.now made.now)
         (table_number settled.now)
-        (unit_start start.opcode start.rate (pace_of finds.now.at.head.now) settled.now) start.unit state.old
-        state.new) }
+        (unit_start start.opcode start.rate (pace_of (header_of_head finds.now.at.head.now)) settled.now) start.unit
+        state.old state.new) }
 {
     let number = table_number(settled);
     let Some(found) = find(finds.tables, made, number) else {
@@ -123,7 +123,7 @@ fn begin_on_table<'p>(
     };
     if found.made {
         let unit = Unit::start(alloc, start.opcode, start.rate, finds.at.head, settled)?;
-        let player = on_table(finds.at.layout, &found.table, number, unit);
+        let player = on_table(finds.at.layout, found.table, number, unit);
         put(state, start.unit, player);
         Ok(None)
     } else {
@@ -143,8 +143,9 @@ fn begin_delay(
     requires opcode { IsUnitOpcode start.opcode }
     requires delays { state.old.delays ≤ most_delay_samples }
     ensures { IfOk result (BeginsDelay
-        (state.old.delays + delay_length (pace_of head.now) (slice_index_or settled.now 0 (pos 0)))
-        (player_alone (table_number settled.now) (unit_start start.opcode start.rate (pace_of head.now) settled.now))
+        (state.old.delays + delay_length (pace_of (header_of_head head.now)) (slice_index_or settled.now 0 (pos 0)))
+        (player_alone (table_number settled.now)
+        (unit_start start.opcode start.rate (pace_of (header_of_head head.now)) settled.now))
         start.unit state.old state.new) }
 {
     let samples = state.delays as u64 + delay_samples(argument(settled, 0), head);
@@ -167,7 +168,8 @@ fn begin_alone(
     requires unit { start.unit < length state.old.players.items }
     requires opcode { IsUnitOpcode start.opcode }
     ensures { OnOk result (HasUnit state.old start.unit
-        (player_alone (table_number settled.now) (unit_start start.opcode start.rate (pace_of head.now) settled.now))
+        (player_alone (table_number settled.now)
+        (unit_start start.opcode start.rate (pace_of (header_of_head head.now)) settled.now))
         samples state.new) }
 {
     let unit = Unit::start(alloc, start.opcode, start.rate, head, settled)?;
@@ -178,12 +180,12 @@ fn begin_alone(
 }
 
 /// The player of a unit on a table: the points of a frozen one, or the area of a live one.
-fn on_table<'p>(layout: &Layout, table: &TableAt<'p>, number: i64, unit: Unit) -> Player<'p>
+fn on_table<'p>(layout: &Layout, table: &'p PieceTable, number: i64, unit: Unit) -> Player<'p>
     requires { CanBePlayed layout.now (table_at table.now true) }
     ensures value { result ≡ player_on layout.now (table_at table.now true) number unit }
     ensures small { (area : Area) → result.area ≡ Some area → area.first + area.length ≤ 65536 }
 {
-    match table.points {
+    match &table.points {
         Some(points) => Player::on_frozen(number, unit, points),
         None => on_live(layout, table.number, number, unit),
     }

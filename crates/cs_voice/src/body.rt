@@ -14,11 +14,13 @@ use cs_ir::Code;
 use cs_machine::{Setting, State};
 
 /// What a note performs, and what it has come to: the number of its instrument, its age (how many notes were started
-/// before it), what it plays in, its footprint, the code that it runs in each control cycle, its p-fields from p1 on.
+/// before it), the cycle in which it has ended, what it plays in, its footprint, the code that it runs in each control
+/// cycle, its p-fields from p1 on.
 #[derive(Drop)]
 pub(crate) struct Body<'p> {
     pub(crate) number: u32,
     pub(crate) age: u64,
+    pub(crate) until: u64,
     pub(crate) stage: Stage<'p>,
     pub(crate) foot: &'p Footprint,
     pub(crate) code: &'p Code,

@@ -38,5 +38,5 @@ mod zak;
 pub use adding::mix;
 pub use laws::voices_perform;
 pub use note::{NewNote, Started, start};
-pub use stage::{Stage, TableAt};
+pub use stage::{PieceTable, Stage};
 pub use voice::Voice;

@@ -42,6 +42,8 @@ pub struct NewNote<'m, 'p> {
     pub made: &'m [bool],
     /// How many notes were started before it.
     pub age: u64,
+    /// The cycle in which it has ended.
+    pub until: u64,
 }
 
 /// Begins a note; `fields` are its p-fields, from p1 on.
@@ -66,7 +68,7 @@ pub fn start<'p, B: Bank>(
     requires set { (a : ℕ) → a < word_count note.now.stage.layout.now → B.can_set (B.rest bank.old) a }
     requires cells { word_count note.now.stage.layout.now ≤ length (B.cells bank.old) }
     ensures started { let s = sheet_for note.now fields.items in
-        IfOk result (IsStarted s (initialised s (cell (B.cells bank.old)))) }
+        IfOk result (IsStarted s note.now.until (initialised s (cell (B.cells bank.old)))) }
     ensures cells { let s = sheet_for note.now fields.items in
         OnOk result (cell (B.cells bank.new) ≡ (initialised s (cell (B.cells bank.old))).world.shared) }
     ensures asks { let s = sheet_for note.now fields.items in
@@ -97,6 +99,7 @@ pub fn start<'p, B: Bank>(
     let parts = Body {
         number,
         age: note.age,
+        until: note.until,
         stage: note.stage,
         foot: note.foot,
         code: perf,

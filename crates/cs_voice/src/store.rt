@@ -7,7 +7,6 @@ ghost use Rattle.cs_ir.specs.declared.op.Act.TheVariants as act;
 ghost use Rattle.cs_ir.specs.declared.register.Reg.{Reg};
 ghost use Rattle.cs_meaning.specs.Pieces.{index, steps_of};
 ghost use Rattle.cs_machine.specs.States.{HasRoom};
-ghost use Rattle.cs_words.specs.declared.catalogue.Opcode.{Opcode};
 
 use cs_base::{Num, Rate, Res};
 use cs_cells::{Area, Bank};
@@ -38,8 +37,8 @@ pub(crate) fn store_points<B: Bank>(
     requires table { has_register state.now.regs.counts storing.table ≡ true }
     requires room { HasRoom state.now }
     requires write { MayStore (B.can_set (B.rest bank.old)) (length (B.cells bank.old)) at.now.layout.now reach }
-    ensures does { (opcode : Opcode) (into : Reg) → into.rate ≡ storing.rate
-        → DoesOver at.now (act.Store opcode reach) into (storing.signal ∷ storing.index ∷ storing.table ∷ []) state.now
+    ensures does { (into : Reg) → into.rate ≡ storing.rate
+        → DoesOver at.now (act.Store reach) into (storing.signal ∷ storing.index ∷ storing.table ∷ []) state.now
         (cell (B.cells bank.old)) state.now (cell (B.cells bank.new)) }
     ensures long { length (B.cells bank.new) ≡ length (B.cells bank.old) }
     ensures rest { B.rest bank.new ≡ B.rest bank.old }

@@ -5,7 +5,7 @@ ghost use Rattle.std.specs.Option.{option_map};
 ghost use Rattle.cs_meaning.specs.Pieces.{find_table, table_number};
 ghost use Rattle.cs_voice.specs.Tables.{table_at, tables_of};
 
-use crate::TableAt;
+use crate::PieceTable;
 use cs_base::Num;
 use cs_machine::Setting;
 
@@ -14,24 +14,24 @@ use cs_machine::Setting;
 pub(crate) struct Finds<'s, 'p> {
     pub at: Setting<'s>,
     /// The tables of the piece.
-    pub tables: &'s [TableAt<'p>],
+    pub tables: &'p [PieceTable],
 }
 
 /// A table that was found, and whether it has been made by now.
 #[derive(Clone, Copy)]
 pub(crate) struct Found<'p> {
-    pub table: TableAt<'p>,
+    pub table: &'p PieceTable,
     pub made: bool,
 }
 
 /// The first table of a number.
-pub(crate) fn find<'p>(tables: &[TableAt<'p>], made: &[bool], number: i64) -> Option<Found<'p>>
+pub(crate) fn find<'p>(tables: &'p [PieceTable], made: &[bool], number: i64) -> Option<Found<'p>>
     requires { length made.now ≡ length tables.now }
-    ensures { option_map (λ f. table_at f.table f.made) result ≡ find_table (tables_of tables.now made.now) number }
+    ensures { option_map (λ f. table_at f.table.now f.made) result ≡ find_table (tables_of tables.now made.now) number }
 {
     for place in 0..tables.len() {
-        let table = tables[place];
-        if has_number(&table, number) {
+        let table = &tables[place];
+        if has_number(table, number) {
             let made = made[place];
             return Some(Found { table, made });
         }
@@ -39,7 +39,7 @@ pub(crate) fn find<'p>(tables: &[TableAt<'p>], made: &[bool], number: i64) -> Op
     None
 }
 
-fn has_number(table: &TableAt, number: i64) -> bool
+fn has_number(table: &PieceTable, number: i64) -> bool
     ensures { result ≡ (not (is_negative number) && table.now.number == unsigned_abs number) }
 {
     !number.is_negative() && table.number == number.unsigned_abs() as usize

@@ -34,8 +34,8 @@ impl<'p> Voice<'p> {
     /// The voice of a note that has begun, of its parts. `OutOfMemory` where there is none for it; then its parts are
     /// dropped.
     pub(crate) fn of(alloc: Global, parts: Body<'p>) -> Result<Voice<'p>, OutOfMemory>
-        requires { MakeVoice parts.number parts.age parts.stage parts.foot.now parts.code.now parts.fields.items
-            parts.state }
+        requires { MakeVoice parts.number parts.age parts.until parts.stage parts.foot.now parts.code.now
+            parts.fields.items parts.state }
         ensures { IfOk result (λ v. v ≡ data_of parts.entry) }
     {
         // What registers and channels have is all that they are.
@@ -58,6 +58,13 @@ impl<'p> Voice<'p> {
         ensures { result ≡ self.now.age }
     {
         self.body.age
+    }
+
+    /// The cycle in which its note has ended.
+    pub fn until(&self) -> u64
+        ensures { result ≡ self.now.until }
+    {
+        self.body.until
     }
 
     /// Whether it was turned off: it ends with this cycle.

@@ -1,7 +1,7 @@
 // Zak places, read, written, mixed into and cleared by the numbers that values name.
 ghost use Rattle.std.specs.Prelude.{◌≡◌, [], ◌∷◌, length, true};
 ghost use Rattle.cs_machine.specs.Access.{AreSpaces, spaces_of};
-ghost use Rattle.cs_voice.specs.Cells.{AreSized, DoesOver, MayReach};
+ghost use Rattle.cs_voice.specs.Cells.{CanReach, DoesOver, MayReach};
 ghost use Rattle.cs_voice.specs.inner.Zak.{reached};
 ghost use Rattle.cs_base.specs.Rates.{is_audio};
 ghost use Rattle.cs_cells.specs.Cells.{cell};
@@ -14,7 +14,6 @@ ghost use Rattle.cs_words.specs.Catalogue.{row_of};
 ghost use Rattle.cs_words.specs.declared.catalogue.Opcode.{Opcode};
 ghost use Rattle.cs_words.specs.declared.catalogue.Shape.TheVariants as shape;
 ghost use Rattle.cs_words.specs.declared.catalogue.Space.TheVariants as space;
-ghost use Rattle.cs_machine.specs.States.{HasRoom};
 
 use crate::shared::{read, write};
 use cs_base::{Num, Rate, Res};
@@ -41,11 +40,8 @@ pub(crate) fn zak_get<B: Bank>(
     bank: &mut B,
 )
     requires into { has_register state.old.regs.counts into ≡ true }
-    requires number { has_register state.old.regs.counts number ≡ true }
-    requires room { HasRoom state.old }
-    requires sized { AreSized at.now.layout.now state.old.regs.ksmps }
-    requires read { MayReach (B.can_get (B.rest bank.old)) (length (B.cells bank.old)) at.now within.space
-        within.reach }
+    requires able { CanReach (B.can_get (B.rest bank.old)) (length (B.cells bank.old)) at.now within.space within.reach
+        number state.old }
     ensures does { (opcode : Opcode) → (row_of opcode).shape ≡ shape.ZakGet within.space → DoesOver at.now
         (act.Zak opcode within.reach) into (number ∷ []) state.old
         (cell (B.cells bank.old)) state.new (cell (B.cells bank.new)) }
@@ -79,11 +75,8 @@ pub(crate) fn zak_put<B: Bank>(
     bank: &mut B,
 )
     requires x { has_register state.old.regs.counts x ≡ true }
-    requires number { has_register state.old.regs.counts number ≡ true }
-    requires room { HasRoom state.old }
-    requires sized { AreSized at.now.layout.now state.old.regs.ksmps }
-    requires write { MayReach (B.can_set (B.rest bank.old)) (length (B.cells bank.old)) at.now within.space
-        within.reach }
+    requires able { CanReach (B.can_set (B.rest bank.old)) (length (B.cells bank.old)) at.now within.space within.reach
+        number state.old }
     ensures does { (opcode : Opcode) (into : Reg) → (row_of opcode).shape ≡ shape.ZakPut within.space → DoesOver at.now
         (act.Zak opcode within.reach) into (x ∷ number ∷ [])
         state.old (cell (B.cells bank.old)) state.new (cell (B.cells bank.new)) }
@@ -108,11 +101,9 @@ pub(crate) fn zak_mix<B: Bank>(
 )
     requires x { has_register state.old.regs.counts x ≡ true }
     requires sound { is_audio x.rate ≡ true }
-    requires number { has_register state.old.regs.counts number ≡ true }
-    requires room { HasRoom state.old }
-    requires sized { AreSized at.now.layout.now state.old.regs.ksmps }
     requires read { MayReach (B.can_get (B.rest bank.old)) (length (B.cells bank.old)) at.now space.Audio reach }
-    requires write { MayReach (B.can_set (B.rest bank.old)) (length (B.cells bank.old)) at.now space.Audio reach }
+    requires able { CanReach (B.can_set (B.rest bank.old)) (length (B.cells bank.old)) at.now space.Audio reach number
+        state.old }
     ensures does { (opcode : Opcode) (into : Reg) → (row_of opcode).shape ≡ shape.ZakMix → DoesOver at.now
         (act.Zak opcode reach) into (x ∷ number ∷ [])
         state.old (cell (B.cells bank.old)) state.new (cell (B.cells bank.new)) }

@@ -1,5 +1,6 @@
 -- Code does alike in worlds that follow one another.
-use Rattle.std.proofs.Common.{◌≡◌, ℕ, ℤ, ◌+◌, ◌&&◌, not, Bool, true, false, List, [], ◌∷◌, map, nat_le, if◌then◌else◌, refl, ◌∙◌, ap, subst}
+use Rattle.std.proofs.Common.{◌≡◌, ℕ, ℤ, ◌+◌, ◌&&◌, not, Bool, true, false, List, [], ◌∷◌, map, nat_le, if◌then◌else◌}
+use Rattle.std.proofs.Common.{refl, ◌∙◌, ap, subst}
 use Rattle.cs_base.specs.Rates.{res_rate}
 use Rattle.cs_base.specs.declared.resource.Rate.{Rate}
 use Rattle.cs_base.specs.declared.resource.Res.{Res}
@@ -18,8 +19,8 @@ use Rattle.cs_words.specs.declared.catalogue.Opcode.{Opcode}
 use Rattle.cs_ugen.specs.Units.{IsUnitOpcode}
 use Rattle.cs_voice_meaning.specs.Follows.{Kinds, AreNamed, ActNamed, OpsNamed, Alike}
 
--- A world follows another at the resources that are named: whatever is done in states that are related gives the same, and
--- leaves them related.
+-- A world follows another at the resources that are named: whatever is done in states that are related gives the same,
+-- and leaves them related.
 pub record Follows {V W : Type 0} (stock : Stock) (kinds : Kinds) (N : Res → Type 0) (o : World V) (u : World W)
     (R : V → W → Type 0) : Type 0 where
   pub ksmps : o.ksmps ≡ u.ksmps
@@ -37,19 +38,21 @@ pub record Follows {V W : Type 0} (stock : Stock) (kinds : Kinds) (N : Res → T
       → R (o.does opcode r n reach ws x).0 (u.does opcode r n reach ws y).0
       × (held o.ksmps r (o.does opcode r n reach ws x).1 ≡ held o.ksmps r (u.does opcode r n reach ws y).1)
   pub seek : (is : List ℤ) (x : V) (y : W) → R x y → R (o.seek is x) (u.seek is y)
-  pub store : (opcode : Opcode) (r : Rate) (reach : Reach) (ws : List Wave) (x : V) (y : W)
+  pub store : (r : Rate) (reach : Reach) (ws : List Wave) (x : V) (y : W)
       → AreNamed N (tables_within stock reach) → R x y
-      → R (o.store opcode r reach ws x) (u.store opcode r reach ws y)
+      → R (o.store r reach ws x) (u.store r reach ws y)
   pub zak : (opcode : Opcode) (reach : Reach) (ws : List Wave) (x : V) (y : W)
       → AreNamed N (zak_uses stock opcode reach) → R x y
-      → R (o.zak opcode reach ws x).0 (u.zak opcode reach ws y).0 × ((o.zak opcode reach ws x).1 ≡ (u.zak opcode reach ws y).1)
+      → R (o.zak opcode reach ws x).0 (u.zak opcode reach ws y).0
+      × ((o.zak opcode reach ws x).1 ≡ (u.zak opcode reach ws y).1)
   pub out : (c : ℕ) (w : Wave) (x : V) (y : W) → R x y → R (o.out c w x) (u.out c w y)
   pub out_at : (k w : Wave) (x : V) (y : W) → R x y → R (o.out_at k w x) (u.out_at k w y)
   pub turnoff : (x : V) (y : W) → R x y → R (o.turnoff x) (u.turnoff y)
   pub ask : (is : List ℤ) (x : V) (y : W) → R x y → R (o.ask is x) (u.ask is y)
   pub refused : (x : V) (y : W) → R x y → o.refused x ≡ u.refused y
 
-module _ {V W : Type 0} (stock : Stock) (kinds : Kinds) (N : Res → Type 0) (o : World V) (u : World W) (R : V → W → Type 0) (f : Follows stock kinds N o u R) where
+module _ {V W : Type 0} (stock : Stock) (kinds : Kinds) (N : Res → Type 0) (o : World V) (u : World W)
+    (R : V → W → Type 0) (f : Follows stock kinds N o u R) where
   either_alike : (b c : Bool) (p m : Machine V) (q n : Machine W) → b ≡ c → Alike R p q → Alike R m n
       → Alike R (if b then p else m) (if c then q else n)
   either_alike true true p m q n e here there = here
@@ -58,14 +61,16 @@ module _ {V W : Type 0} (stock : Stock) (kinds : Kinds) (N : Res → Type 0) (o 
   either_alike false true p m q n e here there = absurd (cc)
 
   -- the world alone changes
-  moved : (m : Machine V) (n : Machine W) (x : V) (y : W) → R x y → Alike R m n → Alike R (record m { world = x }) (record n { world = y })
+  moved : (m : Machine V) (n : Machine W) (x : V) (y : W) → R x y → Alike R m n
+      → Alike R (record m { world = x }) (record n { world = y })
   moved m n x y r a = record { regs = a.regs; next = a.next; world = r }
 
   write_alike : (into : Reg) (w v : Wave) (m : Machine V) (n : Machine W)
       → held o.ksmps into.rate w ≡ held o.ksmps into.rate v → Alike R m n
       → Alike R (write o.ksmps into w m) (write u.ksmps into v n)
   write_alike into w v m n e a = record {
-    regs = ap (λ g. put g into (held o.ksmps into.rate w)) a.regs ∙ ap (λ z. put n.regs into z) e ∙ ap (λ k. put n.regs into (held k into.rate v)) f.ksmps;
+    regs = ap (λ g. put g into (held o.ksmps into.rate w)) a.regs ∙ ap (λ z. put n.regs into z) e
+        ∙ ap (λ k. put n.regs into (held k into.rate v)) f.ksmps;
     next = a.next;
     world = a.world;
   }
@@ -73,40 +78,57 @@ module _ {V W : Type 0} (stock : Stock) (kinds : Kinds) (N : Res → Type 0) (o 
   written_alike : (b : Bool) (into : Reg) (p : V × Wave) (q : W × Wave) (m : Machine V) (n : Machine W) → R p.0 q.0
       → held o.ksmps into.rate p.1 ≡ held o.ksmps into.rate q.1
       → Alike R m n
-      → Alike R (if b then write o.ksmps into p.1 (record m { world = p.0 }) else record m { world = p.0 }) (if b then write u.ksmps into q.1 (record n { world = q.0 }) else record n { world = q.0 })
-  written_alike true into p q m n r e a = write_alike into p.1 q.1 (record m { world = p.0 }) (record n { world = q.0 }) e (moved m n p.0 q.0 r a)
+      → Alike R (if b then write o.ksmps into p.1 (record m { world = p.0 }) else record m { world = p.0 })
+      (if b then write u.ksmps into q.1 (record n { world = q.0 }) else record n { world = q.0 })
+  written_alike true into p q m n r e a =
+      write_alike into p.1 q.1 (record m { world = p.0 }) (record n { world = q.0 }) e (moved m n p.0 q.0 r a)
   written_alike false into p q m n r e a = moved m n p.0 q.0 r a
 
   acts_alike : (a : Act) (into : Reg) (ws : List Wave) (m : Machine V) (n : Machine W)
       → ActNamed stock kinds N a into.rate → Alike R m n → Alike R (acts o a into ws m) (acts u a into ws n)
   acts_alike (act.Const z) into ws m n h a = write_alike into (constant z) (constant z) m n refl a
-  acts_alike (act.Field k) into ws m n h a = write_alike into (constant (o.field k)) (constant (u.field k)) m n (ap (λ g. held o.ksmps into.rate (constant (g k))) f.field) a
-  acts_alike (act.Head k) into ws m n h a = write_alike into (constant (o.head k)) (constant (u.head k)) m n (ap (λ g. held o.ksmps into.rate (constant (g k))) f.head) a
+  acts_alike (act.Field k) into ws m n h a =
+      write_alike into (constant (o.field k)) (constant (u.field k)) m n
+      (ap (λ g. held o.ksmps into.rate (constant (g k))) f.field) a
+  acts_alike (act.Head k) into ws m n h a =
+      write_alike into (constant (o.head k)) (constant (u.head k)) m n
+      (ap (λ g. held o.ksmps into.rate (constant (g k))) f.head) a
   acts_alike act.Copy into ws m n h a = write_alike into (operand 0 ws) (operand 0 ws) m n refl a
-  acts_alike act.Neg into ws m n h a = write_alike into (λ j. negated (operand 0 ws j)) (λ j. negated (operand 0 ws j)) m n refl a
-  acts_alike (act.Pair b) into ws m n h a = write_alike into (both b (operand 0 ws) (operand 1 ws)) (both b (operand 0 ws) (operand 1 ws)) m n refl a
+  acts_alike act.Neg into ws m n h a =
+      write_alike into (λ j. negated (operand 0 ws j)) (λ j. negated (operand 0 ws j)) m n refl a
+  acts_alike (act.Pair b) into ws m n h a =
+      write_alike into (both b (operand 0 ws) (operand 1 ws)) (both b (operand 0 ws) (operand 1 ws)) m n refl a
   acts_alike act.Pick into ws m n h a =
-      write_alike into (chosen (operand 0 ws) (operand 1 ws) (operand 2 ws)) (chosen (operand 0 ws) (operand 1 ws) (operand 2 ws)) m n refl a
-  acts_alike (act.Call g) into ws m n h a = write_alike into (λ j. applied g (operand 0 ws j)) (λ j. applied g (operand 0 ws j)) m n refl a
+      write_alike into (chosen (operand 0 ws) (operand 1 ws) (operand 2 ws))
+      (chosen (operand 0 ws) (operand 1 ws) (operand 2 ws)) m n refl a
+  acts_alike (act.Call g) into ws m n h a =
+      write_alike into (λ j. applied g (operand 0 ws j)) (λ j. applied g (operand 0 ws j)) m n refl a
   acts_alike (act.Load g) into ws m n h a =
-      write_alike into (o.load g m.world) (u.load g n.world) m n (ap (λ w. held o.ksmps into.rate w) (f.load g m.world n.world h a.world)) a
+      write_alike into (o.load g m.world) (u.load g n.world) m n
+      (ap (λ w. held o.ksmps into.rate w) (f.load g m.world n.world h a.world)) a
   acts_alike (act.Save g) into ws m n h a =
       let w : Wave = operand 0 ws in
-      moved m n _ _ (subst (λ k. R (o.save g (held o.ksmps (res_rate g) w) m.world) (u.save g (held k (res_rate g) w) n.world)) f.ksmps (f.save g w m.world n.world h.0 h.1 a.world)) a
-  acts_alike (act.Start opcode k) into ws m n h a = moved m n _ _ (f.start opcode into.rate k (first_values ws) m.world n.world h.0 h.1 a.world) a
+      moved m n _ _ (subst (λ k. R (o.save g (held o.ksmps (res_rate g) w) m.world)
+      (u.save g (held k (res_rate g) w) n.world)) f.ksmps (f.save g w m.world n.world h.0 h.1 a.world)) a
+  acts_alike (act.Start opcode k) into ws m n h a =
+      moved m n _ _ (f.start opcode into.rate k (first_values ws) m.world n.world h.0 h.1 a.world) a
   acts_alike (act.Unit opcode k reach) into ws m n h a =
       let d = f.does opcode into.rate k reach ws m.world n.world h.0 h.1 a.world in
-      written_alike (gives opcode) into (o.does opcode into.rate k reach ws m.world) (u.does opcode into.rate k reach ws n.world) m n d.0 d.1 a
+      written_alike (gives opcode) into (o.does opcode into.rate k reach ws m.world)
+      (u.does opcode into.rate k reach ws n.world) m n d.0 d.1 a
   acts_alike act.Seek into ws m n h a = moved m n _ _ (f.seek (first_values ws) m.world n.world a.world) a
-  acts_alike (act.Store opcode reach) into ws m n h a = moved m n _ _ (f.store opcode into.rate reach ws m.world n.world h a.world) a
+  acts_alike (act.Store reach) into ws m n h a =
+      moved m n _ _ (f.store into.rate reach ws m.world n.world h a.world) a
   acts_alike (act.Zak opcode reach) into ws m n h a =
       let d = f.zak opcode reach ws m.world n.world h a.world in
-      written_alike (gives opcode) into (o.zak opcode reach ws m.world) (u.zak opcode reach ws n.world) m n d.0 (ap (held o.ksmps into.rate) d.1) a
+      written_alike (gives opcode) into (o.zak opcode reach ws m.world) (u.zak opcode reach ws n.world) m n d.0
+      (ap (held o.ksmps into.rate) d.1) a
   acts_alike (act.Jump to) into ws m n h a = record { regs = a.regs; next = refl; world = a.world }
   acts_alike (act.Unless to) into ws m n h a =
       record { regs = a.regs; next = ap (λ k. if holds (operand 0 ws 0) then k else to) a.next; world = a.world }
   acts_alike (act.Out c) into ws m n h a = moved m n _ _ (f.out c (operand 0 ws) m.world n.world a.world) a
-  acts_alike act.OutAt into ws m n h a = moved m n _ _ (f.out_at (operand 0 ws) (operand 1 ws) m.world n.world a.world) a
+  acts_alike act.OutAt into ws m n h a =
+      moved m n _ _ (f.out_at (operand 0 ws) (operand 1 ws) m.world n.world a.world) a
   acts_alike act.Turnoff into ws m n h a = moved m n _ _ (f.turnoff m.world n.world a.world) a
   acts_alike act.Ask into ws m n h a = moved m n _ _ (f.ask (first_values ws) m.world n.world a.world) a
 
@@ -114,12 +136,16 @@ module _ {V W : Type 0} (stock : Stock) (kinds : Kinds) (N : Res → Type 0) (o 
       → Alike R m n → Alike R (step o place op m) (step u place op n)
   step_alike place op m n h a =
       let done : is_done o place m ≡ is_done u place n =
-      ap (λ k. nat_le k place && not (o.refused m.world)) a.next ∙ ap (λ b. nat_le n.next place && not b) (f.refused m.world n.world a.world) in
+      ap (λ k. nat_le k place && not (o.refused m.world)) a.next
+      ∙ ap (λ b. nat_le n.next place && not b) (f.refused m.world n.world a.world) in
       let args : map m.regs op.from ≡ map n.regs op.from = ap (λ g. map g op.from) a.regs in
-      either_alike (is_done o place m) (is_done u place n) (acts o op.act op.into (map m.regs op.from) m) m (acts u op.act op.into (map n.regs op.from) n) n done
-      (subst (λ ws. Alike R (acts o op.act op.into (map m.regs op.from) m) (acts u op.act op.into ws n)) args (acts_alike op.act op.into (map m.regs op.from) m n h a)) a
+      either_alike (is_done o place m) (is_done u place n) (acts o op.act op.into (map m.regs op.from) m) m
+      (acts u op.act op.into (map n.regs op.from) n) n done
+      (subst (λ ws. Alike R (acts o op.act op.into (map m.regs op.from) m) (acts u op.act op.into ws n)) args
+      (acts_alike op.act op.into (map m.regs op.from) m n h a)) a
 
   pub run_alike : (place : ℕ) (ops : List Op) (m : Machine V) (n : Machine W) → OpsNamed stock kinds N ops → Alike R m n
       → Alike R (run o place ops m) (run u place ops n)
   run_alike place [] m n h a = a
-  run_alike place (op ∷ ops) m n h a = run_alike (place + 1) ops (step o place op m) (step u place op n) h.1 (step_alike place op m n h.0 a)
+  run_alike place (op ∷ ops) m n h a =
+      run_alike (place + 1) ops (step o place op m) (step u place op n) h.1 (step_alike place op m n h.0 a)

@@ -1,5 +1,7 @@
 -- A voice stays in the room that its codes' counts give it.
-use Rattle.std.proofs.Common.{◌≡◌, ℕ, ℤ, pos, ◌+◌, ◌-◌, ◌&&◌, ◌||◌, ◌==◌, Bool, true, false, not, List, [], ◌∷◌, map, length, nat_lt, nat_le, slice_index_or, Option, Some, None, if◌then◌else◌, refl, sym, ◌∙◌, ap, subst, arith, eqb, eqb-true}
+use Rattle.std.proofs.Common.{◌≡◌, ℕ, ℤ, pos, ◌+◌, ◌-◌, ◌&&◌, ◌||◌, ◌==◌, Bool, true, false, not, List, [], ◌∷◌, map}
+use Rattle.std.proofs.Common.{length, nat_lt, nat_le, slice_index_or, Option, Some, None, if◌then◌else◌, refl, sym, ◌∙◌}
+use Rattle.std.proofs.Common.{ap, subst, arith, eqb, eqb-true}
 use Rattle.std.specs.List.{list_all}
 use Rattle.std.proofs.lemmas.Bool.{and_parts}
 use Rattle.std.proofs.lemmas.Bool.Decides.{nat_tests}
@@ -28,11 +30,15 @@ use Rattle.cs_ir.specs.declared.register.Counts.{Counts}
 use Rattle.cs_ir.specs.declared.register.Reg.{Reg}
 use Rattle.cs_cells.specs.Cells.{Cells, cell}
 use Rattle.cs_cells.specs.declared.footprint.Area.{Area}
-use Rattle.cs_meaning.specs.Model.{Model, with_value, put_unit, unit_points, has_run, unit_does, store_into, store_at, zak_does, lacks_table, begun, delayed, starts, out_to, out_to_numbered}
-use Rattle.cs_meaning.specs.Pieces.{Piece, Table, find_table, table_number, is_there, is_delay, is_live, index, may_touch, at_place, has_place, added}
+use Rattle.cs_meaning.specs.Model.{Model, with_value, put_unit, unit_points, has_run, unit_does, store_into, store_at}
+use Rattle.cs_meaning.specs.Model.{zak_does, lacks_table, begun, delayed, starts, out_to, out_to_numbered}
+use Rattle.cs_meaning.specs.Pieces.{Piece, Table, find_table, table_number, is_there, is_delay, is_live, index}
+use Rattle.cs_meaning.specs.Pieces.{may_touch, at_place, has_place, added}
 use Rattle.cs_ugen.specs.Generators.{pace_of}
-use Rattle.cs_voice_meaning.specs.VoiceWorld.{Playing, VoiceState, played, has_played, voice_model, voice_world, fresh_voice}
-use Rattle.cs_voice_meaning.specs.Voices.{Sheet, Sounding, IsPlayable, IsSound, begins, seen, initialised, voice_of, performed, has_channel, have_channels}
+use Rattle.cs_voice_meaning.specs.VoiceWorld.{Playing, VoiceState, played, has_played, voice_model, voice_world}
+use Rattle.cs_voice_meaning.specs.VoiceWorld.{fresh_voice}
+use Rattle.cs_voice_meaning.specs.Voices.{Sheet, Sounding, IsPlayable, IsSound, begins, seen, initialised, voice_of}
+use Rattle.cs_voice_meaning.specs.Voices.{performed, has_channel, have_channels}
 use Rattle.cs_voice_meaning.specs.Room.{FitsIn, VoiceFits}
 
 -- ---- registers and frames
@@ -70,7 +76,8 @@ added_held ksmps w v h k = λ i j. at j i
   where
     at : (j : ℕ) → held ksmps rate.Audio (added w v) j ≡ added w v j
     at j = kept_frames (nat_lt j ksmps) (added w v j)
-        (λ past. zero_added (w j) (v j) (past_frames (nat_lt j ksmps) (w j) (λ i. h i j) past) (past_frames (nat_lt j ksmps) (v j) (λ i. k i j) past))
+        (λ past. zero_added (w j) (v j) (past_frames (nat_lt j ksmps) (w j) (λ i. h i j) past)
+        (past_frames (nat_lt j ksmps) (v j) (λ i. k i j) past))
 
 audio_is : (r : Rate) → is_audio r ≡ true → r ≡ rate.Audio
 audio_is rate.Init h = absurd (cc)
@@ -89,7 +96,8 @@ module _ (areas : List Area) (piece : Piece) (counts : Counts) where
 
   -- the world as a machine that fits has it
   abbrev Room : VoiceState → Type 0
-  Room x = ((u : ℕ) → nat_lt u counts.units ≡ false → x.units u ≡ None) × ((c : ℕ) → nat_lt c piece.head.nchnls ≡ false → x.outs c ≡ silence) × ((c : ℕ) → Sound (x.outs c))
+  Room x = ((u : ℕ) → nat_lt u counts.units ≡ false → x.units u ≡ None)
+      × ((c : ℕ) → nat_lt c piece.head.nchnls ≡ false → x.outs c ≡ silence) × ((c : ℕ) → Sound (x.outs c))
 
   room_of : (m : Machine VoiceState) → Fits m → Room m.world
   room_of m f = (f.units, f.outs, f.frames)
@@ -109,19 +117,24 @@ module _ (areas : List Area) (piece : Piece) (counts : Counts) where
 
   put_other : (b : Bool) (q into : Reg) (w v : Wave) → same_reg q into ≡ b → has_register counts into ≡ true
       → has_register counts q ≡ false → v ≡ silence → (if b then w else v) ≡ silence
-  put_other true q into w v e there past h = absurd (let same : q ≡ into = same_reg_is q into e in let t : has_register counts q ≡ true = ap (has_register counts) same ∙ there in cc)
+  put_other true q into w v e there past h =
+      absurd (let same : q ≡ into = same_reg_is q into e in let t : has_register counts q ≡ true =
+      ap (has_register counts) same ∙ there in cc)
   put_other false q into w v e there past h = h
 
   put_held : (b : Bool) (q into : Reg) (w v : Wave) → same_reg q into ≡ b → held piece.head.ksmps q.rate v ≡ v
-      → held piece.head.ksmps q.rate (if b then held piece.head.ksmps into.rate w else v) ≡ (if b then held piece.head.ksmps into.rate w else v)
+      → held piece.head.ksmps q.rate
+      (if b then held piece.head.ksmps into.rate w else v) ≡ (if b then held piece.head.ksmps into.rate w else v)
   put_held true q into w v e h =
-      subst (λ (p : Reg). held piece.head.ksmps p.rate (held piece.head.ksmps into.rate w) ≡ held piece.head.ksmps into.rate w) (sym (same_reg_is q into e)) (held_twice piece.head.ksmps into.rate w)
+      subst (λ (p : Reg). held piece.head.ksmps p.rate (held piece.head.ksmps into.rate w) ≡ held piece.head.ksmps
+      into.rate w) (sym (same_reg_is q into e)) (held_twice piece.head.ksmps into.rate w)
   put_held false q into w v e h = h
 
   write_fits : (into : Reg) (w : Wave) (m : Machine VoiceState) → has_register counts into ≡ true → Fits m
       → Fits (write piece.head.ksmps into w m)
   write_fits into w m there f = record {
-    regs = λ q past. put_other (same_reg q into) q into (held piece.head.ksmps into.rate w) (m.regs q) refl there past (f.regs q past);
+    regs = λ q past. put_other (same_reg q into) q into (held piece.head.ksmps into.rate w) (m.regs q) refl there past
+        (f.regs q past);
     keeps = λ q. put_held (same_reg q into) q into w (m.regs q) refl (f.keeps q);
     units = f.units;
     outs = f.outs;
@@ -130,14 +143,18 @@ module _ (areas : List Area) (piece : Piece) (counts : Counts) where
 
   -- ---- a unit is put where there is one
 
-  put_past : (b : Bool) (p : Playing) (o : Option Playing) (u n : ℕ) → (n == u) ≡ b → nat_lt u counts.units ≡ true → nat_lt n counts.units ≡ false → o ≡ None → (if b then Some p else o) ≡ None
-  put_past true p o u n e there past h = absurd (let same : n ≡ u = eqb-true n u e in let t : nat_lt n counts.units ≡ true = ap (λ k. nat_lt k counts.units) same ∙ there in cc)
+  put_past : (b : Bool) (p : Playing) (o : Option Playing) (u n : ℕ) → (n == u) ≡ b → nat_lt u counts.units ≡ true
+      → nat_lt n counts.units ≡ false → o ≡ None → (if b then Some p else o) ≡ None
+  put_past true p o u n e there past h =
+      absurd (let same : n ≡ u = eqb-true n u e in let t : nat_lt n counts.units ≡ true =
+      ap (λ k. nat_lt k counts.units) same ∙ there in cc)
   put_past false p o u n e there past h = h
 
   put_room : (u : ℕ) (p : Playing) (x : VoiceState) → nat_lt u counts.units ≡ true → Room x → Room (put_unit u p x)
   put_room u p x there r = (λ n past. put_past (n == u) p (x.units n) u n refl there past (r.0 n past), r.1, r.2)
 
-  unit_room : (opcode : Opcode) (r : Rate) (u : ℕ) (reach : Reach) (ws : List Wave) (o : Option Playing) (x : VoiceState)
+  unit_room : (opcode : Opcode) (r : Rate) (u : ℕ) (reach : Reach) (ws : List Wave) (o : Option Playing)
+      (x : VoiceState)
       → nat_lt u counts.units ≡ true → Room x
       → Room (unit_does model opcode r u reach ws o x).0
   unit_room opcode r u reach ws None x there k = k
@@ -154,7 +171,8 @@ module _ (areas : List Area) (piece : Piece) (counts : Counts) where
       → Room (store_at model r reach ws i x)
   store_room r reach ws None x k = k
   store_room r reach ws (Some n) x k =
-      either_room (reaches reach n) (store_into model r ws (find_table piece.tables (pos n)) x) x (table_room r ws (find_table piece.tables (pos n)) x k) k
+      either_room (reaches reach n) (store_into model r ws (find_table piece.tables (pos n)) x) x
+      (table_room r ws (find_table piece.tables (pos n)) x k) k
 
   place_room : (sp : Space) (reach : Reach) (i : Option ℕ) (x : VoiceState) (w : Res → Wave) → Room x
       → Room (at_place piece sp reach i x (λ g. with_value model g (w g) x))
@@ -186,13 +204,17 @@ module _ (areas : List Area) (piece : Piece) (counts : Counts) where
       let samples : ℕ = x.delays + delay_length (pace_of piece.head) (slice_index_or is 0 (pos 0)) in
       either_room (takes_table opcode && not (is_there (find_table piece.tables (table_number is)))) _ _ k
       (either_room (is_delay opcode) (delayed model samples opcode r u is x) _
-      (either_room (nat_le samples most_delay_samples) (begun model opcode r u is (record x { delays = samples })) _ (put_room u _ (record x { delays = samples }) there k) k)
+      (either_room (nat_le samples most_delay_samples) (begun model opcode r u is (record x { delays = samples })) _
+      (put_room u _ (record x { delays = samples }) there k) k)
       (put_room u _ x there k))
 
   -- ---- what goes out
 
-  out_past : (b : Bool) (w v : Wave) (n c : ℕ) → (n == c) ≡ b → nat_lt c piece.head.nchnls ≡ true → nat_lt n piece.head.nchnls ≡ false → v ≡ silence → (if b then w else v) ≡ silence
-  out_past true w v n c e there past h = absurd (let same : n ≡ c = eqb-true n c e in let t : nat_lt n piece.head.nchnls ≡ true = ap (λ k. nat_lt k piece.head.nchnls) same ∙ there in cc)
+  out_past : (b : Bool) (w v : Wave) (n c : ℕ) → (n == c) ≡ b → nat_lt c piece.head.nchnls ≡ true
+      → nat_lt n piece.head.nchnls ≡ false → v ≡ silence → (if b then w else v) ≡ silence
+  out_past true w v n c e there past h =
+      absurd (let same : n ≡ c = eqb-true n c e in let t : nat_lt n piece.head.nchnls ≡ true =
+      ap (λ k. nat_lt k piece.head.nchnls) same ∙ there in cc)
   out_past false w v n c e there past h = h
 
   either_sound : (b : Bool) (w v : Wave) → Sound w → Sound v → Sound (if b then w else v)
@@ -204,7 +226,8 @@ module _ (areas : List Area) (piece : Piece) (counts : Counts) where
   out_room c w x there sound k = (
     k.0,
     λ n past. out_past (n == c) (added (x.outs n) w) (x.outs n) n c refl there past (k.1 n past),
-    λ n. either_sound (n == c) (added (x.outs n) w) (x.outs n) (added_held piece.head.ksmps (x.outs n) w (k.2 n) sound) (k.2 n),
+    λ n. either_sound (n == c) (added (x.outs n) w) (x.outs n) (added_held piece.head.ksmps (x.outs n) w (k.2 n) sound)
+        (k.2 n),
   )
 
   channel_below : (n channels : ℕ) → (nat_le 1 n && nat_le n channels) ≡ true → nat_lt (n - 1) channels ≡ true
@@ -218,7 +241,8 @@ module _ (areas : List Area) (piece : Piece) (counts : Counts) where
       → Room (out_to_numbered piece.head.nchnls i w x)
   out_at_room None w x sound k = k
   out_at_room (Some n) w x sound k =
-      when_room (nat_le 1 n && nat_le n piece.head.nchnls) (out_to (n - 1) w x) x (λ there. out_room (n - 1) w x (channel_below n piece.head.nchnls there) sound k) k
+      when_room (nat_le 1 n && nat_le n piece.head.nchnls) (out_to (n - 1) w x) x
+      (λ there. out_room (n - 1) w x (channel_below n piece.head.nchnls there) sound k) k
 
   reg_sound : (m : Machine VoiceState) (x : Reg) → Fits m → is_audio x.rate ≡ true → Sound (m.regs x)
   reg_sound m x f h = subst (λ r. held piece.head.ksmps r (m.regs x) ≡ m.regs x) (audio_is x.rate h) (f.keeps x)
@@ -260,27 +284,39 @@ module _ (areas : List Area) (piece : Piece) (counts : Counts) where
   acts_fit act.Pick into from end place m w fi ta ch f = write_fits into _ m (w refl) f
   acts_fit (act.Call g) into from end place m w fi ta ch f = write_fits into _ m (w refl) f
   acts_fit (act.Load g) into from end place m w fi ta ch f = write_fits into _ m (w refl) f
-  acts_fit (act.Save g) into from end place m w fi ta ch f = in_room m (acts (voice_world areas piece) (act.Save g) into (map m.regs from) m).world f (room_of m f)
+  acts_fit (act.Save g) into from end place m w fi ta ch f =
+      in_room m (acts (voice_world areas piece) (act.Save g) into (map m.regs from) m).world f (room_of m f)
   acts_fit (act.Start opcode k) into from end place m w fi ta ch f =
-      in_room m (acts (voice_world areas piece) (act.Start opcode k) into (map m.regs from) m).world f (starts_room opcode into.rate k (first_values (map m.regs from)) m.world fi (room_of m f))
+      in_room m (acts (voice_world areas piece) (act.Start opcode k) into (map m.regs from) m).world f
+      (starts_room opcode into.rate k (first_values (map m.regs from)) m.world fi (room_of m f))
   acts_fit (act.Unit opcode k reach) into from end place m w fi ta ch f =
-      written_fits (gives opcode) into (unit_does model opcode into.rate k reach (map m.regs from) (m.world.units k) m.world) m w
+      written_fits (gives opcode) into
+      (unit_does model opcode into.rate k reach (map m.regs from) (m.world.units k) m.world) m w
       (unit_room opcode into.rate k reach (map m.regs from) (m.world.units k) m.world fi (room_of m f)) f
   acts_fit act.Seek into from end place m w fi ta ch f =
-      in_room m (acts (voice_world areas piece) act.Seek into (map m.regs from) m).world f (either_room (lacks_table model (first_values (map m.regs from))) _ m.world (room_of m f) (room_of m f))
-  acts_fit (act.Store opcode reach) into from end place m w fi ta ch f =
-      in_room m (acts (voice_world areas piece) (act.Store opcode reach) into (map m.regs from) m).world f
+      in_room m (acts (voice_world areas piece) act.Seek into (map m.regs from) m).world f
+      (either_room (lacks_table model (first_values (map m.regs from))) _ m.world (room_of m f) (room_of m f))
+  acts_fit (act.Store reach) into from end place m w fi ta ch f =
+      in_room m (acts (voice_world areas piece) (act.Store reach) into (map m.regs from) m).world f
       (store_room into.rate reach (map m.regs from) (index (operand 2 (map m.regs from) 0)) m.world (room_of m f))
   acts_fit (act.Zak opcode reach) into from end place m w fi ta ch f =
       written_fits (gives opcode) into (zak_does model (row_of opcode).shape reach (map m.regs from) m.world) m w
       (zak_room (row_of opcode).shape reach (map m.regs from) m.world (room_of m f)) f
-  acts_fit (act.Jump to) into from end place m w fi ta ch f = record { regs = f.regs; keeps = f.keeps; units = f.units; outs = f.outs; frames = f.frames }
-  acts_fit (act.Unless to) into from end place m w fi ta ch f = record { regs = f.regs; keeps = f.keeps; units = f.units; outs = f.outs; frames = f.frames }
-  acts_fit (act.Out c) into from end place m w fi ta ch f = in_room m (acts (voice_world areas piece) (act.Out c) into (map m.regs from) m).world f (out_room c (operand 0 (map m.regs from)) m.world ch (out_sound m c into.rate from ta f) (room_of m f))
+  acts_fit (act.Jump to) into from end place m w fi ta ch f =
+      record { regs = f.regs; keeps = f.keeps; units = f.units; outs = f.outs; frames = f.frames }
+  acts_fit (act.Unless to) into from end place m w fi ta ch f =
+      record { regs = f.regs; keeps = f.keeps; units = f.units; outs = f.outs; frames = f.frames }
+  acts_fit (act.Out c) into from end place m w fi ta ch f =
+      in_room m (acts (voice_world areas piece) (act.Out c) into (map m.regs from) m).world f
+      (out_room c (operand 0 (map m.regs from)) m.world ch (out_sound m c into.rate from ta f) (room_of m f))
   acts_fit act.OutAt into from end place m w fi ta ch f =
-      in_room m (acts (voice_world areas piece) act.OutAt into (map m.regs from) m).world f (out_at_room (index (operand 0 (map m.regs from) 0)) (operand 1 (map m.regs from)) m.world (out_at_sound m into.rate from ta f) (room_of m f))
-  acts_fit act.Turnoff into from end place m w fi ta ch f = in_room m (acts (voice_world areas piece) act.Turnoff into (map m.regs from) m).world f (room_of m f)
-  acts_fit act.Ask into from end place m w fi ta ch f = in_room m (acts (voice_world areas piece) act.Ask into (map m.regs from) m).world f (room_of m f)
+      in_room m (acts (voice_world areas piece) act.OutAt into (map m.regs from) m).world f
+      (out_at_room (index (operand 0 (map m.regs from) 0)) (operand 1 (map m.regs from)) m.world
+      (out_at_sound m into.rate from ta f) (room_of m f))
+  acts_fit act.Turnoff into from end place m w fi ta ch f =
+      in_room m (acts (voice_world areas piece) act.Turnoff into (map m.regs from) m).world f (room_of m f)
+  acts_fit act.Ask into from end place m w fi ta ch f =
+      in_room m (acts (voice_world areas piece) act.Ask into (map m.regs from) m).world f (room_of m f)
 
   either_fits : (b : Bool) (n m : Machine VoiceState) → Fits n → Fits m → Fits (if b then n else m)
   either_fits true n m h k = h
@@ -297,8 +333,10 @@ module _ (areas : List Area) (piece : Piece) (counts : Counts) where
       let outer = and_parts (own && reads && names) takes fine in
       let middle = and_parts (own && reads) names outer.0 in
       let into = and_parts own reads middle.0 in
-      either_fits (is_done (voice_world areas piece) place m) (acts (voice_world areas piece) op.act op.into (map m.regs op.from) m) m
-      (acts_fit op.act op.into op.from end place m (written_there (writes op.act) (has_register counts op.into) into.0) middle.1 outer.1 ch f) f
+      either_fits (is_done (voice_world areas piece) place m)
+      (acts (voice_world areas piece) op.act op.into (map m.regs op.from) m) m
+      (acts_fit op.act op.into op.from end place m (written_there (writes op.act) (has_register counts op.into) into.0)
+      middle.1 outer.1 ch f) f
 
   -- a machine that fits goes on so
   pub run_fits : (end place : ℕ) (ops : List Op) (m : Machine VoiceState) → fine_from counts end place ops ≡ true
@@ -308,7 +346,8 @@ module _ (areas : List Area) (piece : Piece) (counts : Counts) where
   run_fits end place (op ∷ ops) m fine ch f =
       let now = and_parts (is_fine counts end place op) (fine_from counts end (place + 1) ops) fine in
       let channel = and_parts (has_channel piece.head.nchnls op.act) (have_channels piece.head.nchnls ops) ch in
-      run_fits end (place + 1) ops (step (voice_world areas piece) place op m) now.1 channel.1 (step_fits end place op m now.0 channel.0 f)
+      run_fits end (place + 1) ops (step (voice_world areas piece) place op m) now.1 channel.1
+      (step_fits end place op m now.0 channel.0 f)
 
 silent_held : (ksmps : ℕ) (r : Rate) → held ksmps r silence ≡ silence
 silent_held ksmps rate.Init = refl
@@ -323,7 +362,8 @@ silent_held ksmps rate.Audio = λ i j. both (nat_lt j ksmps) i
 pub begins_fitting : (s : Sheet) (counts : Counts) (cells : ℕ → ℤ) → IsPlayable s
     → fine_from counts (length s.init) 0 s.init ≡ true → VoiceFits counts (voice_of s (initialised s cells))
 begins_fitting s counts cells playable fine =
-    run_fits s.areas s.piece counts (length s.init) 0 s.init (new_machine (fresh_voice cells)) fine playable.init_channels
+    run_fits s.areas s.piece counts (length s.init) 0 s.init (new_machine (fresh_voice cells)) fine
+    playable.init_channels
     (record {
       regs = λ q past. refl;
       keeps = λ q. silent_held s.piece.head.ksmps q.rate;
@@ -336,7 +376,8 @@ pub goes_on_fitting : (v : Sounding) (counts : Counts) (c : Cells) → IsSound v
     → fine_from counts (length v.sheet.perf) 0 v.sheet.perf ≡ true → VoiceFits counts v
     → VoiceFits counts (performed v c)
 goes_on_fitting v counts c playable fine fits =
-    run_fits v.sheet.areas v.sheet.piece counts (length v.sheet.perf) 0 v.sheet.perf (begins v (seen v.sheet (cell c))) fine playable.perf_channels
+    run_fits v.sheet.areas v.sheet.piece counts (length v.sheet.perf) 0 v.sheet.perf (begins v (seen v.sheet (cell c)))
+    fine playable.perf_channels
     (record {
       regs = fits.regs;
       keeps = fits.keeps;

@@ -1,12 +1,14 @@
 -- The frame law of voices.
-use Rattle.std.proofs.Common.{◌≡◌, ℕ, ℤ, pos, zero, suc, ◌+◌, ◌<◌, ◌≤◌, true, false, [], ◌∷◌, map, length, nat_lt, if◌then◌else◌, refl, sym, ◌∙◌, ap, arith}
+use Rattle.std.proofs.Common.{◌≡◌, ℕ, ℤ, pos, zero, suc, ◌+◌, ◌<◌, ◌≤◌, true, false, [], ◌∷◌, map, length, nat_lt}
+use Rattle.std.proofs.Common.{if◌then◌else◌, refl, sym, ◌∙◌, ap, arith}
 use Rattle.std.specs.List.{range_with_len}
 use Rattle.std.proofs.lemmas.List.{length-map}
 use Rattle.std.proofs.lemmas.Bool.Decides.{nat_tests}
 use Rattle.cs_base.proofs.Tests.{by_test}
 use Rattle.cs_cells.specs.Cells.{Cells, cell, Agree}
 use Rattle.cs_cells.specs.Meaning.{Uses, Writes, Frames}
-use Rattle.cs_voice_meaning.specs.Voices.{Sounding, may_use, may_write, seen, cycle, voice_of, performed, left_by, IsSound, voice_means}
+use Rattle.cs_voice_meaning.specs.Voices.{Sounding, may_use, may_write, seen, cycle, voice_of, performed, left_by}
+use Rattle.cs_voice_meaning.specs.Voices.{IsSound, voice_means}
 
 long_range : (j n : ℕ) → length (range_with_len j n) ≡ n
 long_range j zero = refl
@@ -18,7 +20,8 @@ long_map f j n = length-map (range_with_len j n) f ∙ long_range j n
 pub tabled : (f : ℕ → ℤ) (j n a : ℕ) → a < n → cell (map f (range_with_len j n)) a ≡ f (j + a)
 tabled f j zero a h = absurd (omega arith)
 tabled f j (suc n) zero h = ap f (let e : j ≡ j + 0 = omega arith in e)
-tabled f j (suc n) (suc a) h = tabled f (j + 1) n a (omega arith) ∙ ap f (let e : j + 1 + a ≡ j + suc a = omega arith in e)
+tabled f j (suc n) (suc a) h =
+    tabled f (j + 1) n a (omega arith) ∙ ap f (let e : j + 1 + a ≡ j + suc a = omega arith in e)
 
 pub past_cells : (c : Cells) (a : ℕ) → length c ≤ a → cell c a ≡ pos 0
 past_cells [] a h = refl
@@ -38,17 +41,21 @@ seen_same v c d same = λ i a. at a i
   where
     at : (a : ℕ) → seen v.sheet (cell c) a ≡ seen v.sheet (cell d) a
     at a = by_test (may_use v.sheet a)
-        (λ yes. ap (λ b. if b then cell c a else pos 0) yes ∙ same.same a yes ∙ sym (ap (λ b. if b then cell d a else pos 0) yes))
+        (λ yes. ap (λ b. if b then cell c a else pos 0) yes ∙ same.same a yes
+        ∙ sym (ap (λ b. if b then cell d a else pos 0) yes))
         (λ no. ap (λ b. if b then cell c a else pos 0) no ∙ sym (ap (λ b. if b then cell d a else pos 0) no))
 
 pub left_at : (v : Sounding) (c : Cells) (a : ℕ) → a < length c
-    → cell (left_by v c) a ≡ (if may_write v.sheet a then (cycle v (seen v.sheet (cell c))).world.shared a else cell c a)
+    → cell (left_by v c) a ≡ (if may_write v.sheet a then (cycle v (seen v.sheet (cell c))).world.shared a else cell c
+    a)
 left_at v c a h =
-    let value : ℕ → ℤ = λ z. if may_write v.sheet z then (cycle v (seen v.sheet (cell c))).world.shared z else cell c z in
+    let value : ℕ → ℤ = λ z. if may_write v.sheet z then (cycle v (seen v.sheet (cell c))).world.shared z else cell c
+    z in
     tabled value 0 (length c) a h ∙ ap value (let e : 0 + a ≡ a = omega arith in e)
 
 left_long : (v : Sounding) (c : Cells) → length (left_by v c) ≡ length c
-left_long v c = long_map (λ a. if may_write v.sheet a then (cycle v (seen v.sheet (cell c))).world.shared a else cell c a) 0 (length c)
+left_long v c = long_map
+    (λ a. if may_write v.sheet a then (cycle v (seen v.sheet (cell c))).world.shared a else cell c a) 0 (length c)
 
 left_past : (v : Sounding) (c : Cells) (a : ℕ) → length c ≤ a → cell (left_by v c) a ≡ pos 0
 left_past v c a h = let long = left_long v c in past_cells (left_by v c) a (omega (arith, long, h))
@@ -57,7 +64,8 @@ left_same : (v : Sounding) (c d : Cells) → Agree (Uses voice_means v) c d → 
     → cell (left_by v c) a ≡ cell (left_by v d) a
 left_same v c d same a used =
     by_test (nat_lt a (length c))
-    (λ yes. let near : a < length c = low a (length c) yes in let near' : a < length d = omega (arith, near, same.long) in
+    (λ yes. let near : a < length c = low a (length c) yes in let near' : a < length d =
+    omega (arith, near, same.long) in
     left_at v c a near
     ∙ ap (λ s. if may_write v.sheet a then (cycle v s).world.shared a else cell c a) (seen_same v c d same)
     ∙ ap (λ z. if may_write v.sheet a then (cycle v (seen v.sheet (cell d))).world.shared a else z) (same.same a used)
@@ -69,11 +77,13 @@ left_others : (v : Sounding) (c : Cells) (a : ℕ) → ¬ (Writes voice_means v 
 left_others v c a un =
     by_test (nat_lt a (length c))
     (λ yes. left_at v c a (low a (length c) yes)
-    ∙ by_test (may_write v.sheet a) (λ w. absurd (un w)) (λ w. ap (λ b. if b then (cycle v (seen v.sheet (cell c))).world.shared a else cell c a) w))
+    ∙ by_test (may_write v.sheet a) (λ w. absurd (un w))
+    (λ w. ap (λ b. if b then (cycle v (seen v.sheet (cell c))).world.shared a else cell c a) w))
     (λ no. left_past v c a (high a (length c) no) ∙ sym (past_cells c a (high a (length c) no)))
 
 after_same : (v : Sounding) (c d : Cells) → Agree (Uses voice_means v) c d → performed v c ≡ performed v d
-after_same v c d same = let next : (ℕ → ℤ) → Sounding = λ z. voice_of v.sheet (cycle v z) in ap next (seen_same v c d same)
+after_same v c d same = let next : (ℕ → ℤ) → Sounding =
+    λ z. voice_of v.sheet (cycle v z) in ap next (seen_same v c d same)
 
 still_sound : (v : Sounding) (c : Cells) → IsSound v → IsSound (performed v c)
 still_sound v c s = s
@@ -81,7 +91,8 @@ still_sound v c s = s
 pub voice_frames : Frames voice_means
 voice_frames = record {
   job = λ v c d s same. after_same v c d same;
-  cells = λ v c d s same. record { long = left_long v c ∙ same.long ∙ sym (left_long v d); same = left_same v c d same };
+  cells = λ v c d s same. record
+      { long = left_long v c ∙ same.long ∙ sym (left_long v d); same = left_same v c d same };
   others = λ v c a s un. left_others v c a un;
   long = λ v c. left_long v c;
   valid_after = λ v c s. still_sound v c s;

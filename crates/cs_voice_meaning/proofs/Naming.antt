@@ -1,5 +1,7 @@
 -- What a unit may touch is named: its table, and its zak places.
-use Rattle.std.proofs.Common.{◌≡◌, ℕ, ℤ, zero, suc, ◌+◌, ◌<◌, ◌≤◌, ◌≢◌, Bool, true, false, not, ◌&&◌, ◌==◌, List, [], ◌∷◌, map, nat_lt, unsigned_abs, Some, if◌then◌else◌, refl, sym, ◌∙◌, ap, subst, arith, ltb-true, ⊎_elim}
+use Rattle.std.proofs.Common.{◌≡◌, ℕ, ℤ, zero, suc, ◌+◌, ◌<◌, ◌≤◌, ◌≢◌, Bool, true, false, not, ◌&&◌, ◌==◌, List, []}
+use Rattle.std.proofs.Common.{◌∷◌, map, nat_lt, unsigned_abs, Some, if◌then◌else◌, refl, sym, ◌∙◌, ap, subst, arith}
+use Rattle.std.proofs.Common.{ltb-true, ⊎_elim}
 use Rattle.std.specs.List.{list_any, filter, range_with_len}
 use Rattle.std.specs.Int.{is_negative}
 use Rattle.std.proofs.lemmas.Bool.{and_parts, or_left, or_right, or_cases}
@@ -45,7 +47,8 @@ in_range n j zero low high = absurd (omega arith)
 in_range n j (suc len) low high = by_test (n == j)
     (λ yes. or_left (n == j) (list_any (λ k. n == k) (range_with_len (j + 1) len)) yes)
     (λ no. let other : n ≢ j = differ n j no in
-    or_right (n == j) (list_any (λ k. n == k) (range_with_len (j + 1) len)) (in_range n (j + 1) len (omega arith) (omega arith)))
+    or_right (n == j) (list_any (λ k. n == k) (range_with_len (j + 1) len))
+    (in_range n (j + 1) len (omega arith) (omega arith)))
 
 -- a place of a space that is reached
 pub place_named : (N : Res → Type 0) (stock : Stock) (spaces : Spaces) (s : Space) (r : Reach) (n : ℕ)
@@ -53,8 +56,10 @@ pub place_named : (N : Res → Type 0) (stock : Stock) (spaces : Spaces) (s : Sp
     → (nat_lt n (places_of spaces s) && reaches r n) ≡ true → N (zak_place s n)
 place_named N stock spaces s r n e h at =
     let both = and_parts (nat_lt n (places_of spaces s)) (reaches r n) at in
-    let low : n < places_of stock.spaces s = subst (λ k. n < places_of k s) (sym e) (ltb-true n (places_of spaces s) both.0) in
-    named_among N (zak_place s) r (range_with_len 0 (places_of stock.spaces s)) h n (in_range n 0 (places_of stock.spaces s) (omega arith) (omega arith)) both.1
+    let low : n < places_of stock.spaces s =
+    subst (λ k. n < places_of k s) (sym e) (ltb-true n (places_of spaces s) both.0) in
+    named_among N (zak_place s) r (range_with_len 0 (places_of stock.spaces s)) h n
+    (in_range n 0 (places_of stock.spaces s) (omega arith) (omega arith)) both.1
 
 pub no_table : (s : Space) (n : ℕ) → has_value (zak_place s n) ≡ true
 no_table space.Control n = refl
@@ -65,8 +70,11 @@ pub found_number : (ts : List Table) (z : ℤ) (t : Table) → find_table ts z �
 found_number [] z t h = absurd (cc)
 found_number (x ∷ ts) z t h = by_case (found_number ts z t) (not (is_negative z) && x.number == unsigned_abs z) refl h
   where
-    by_case : (find_table ts z ≡ Some t → t.number ≡ unsigned_abs z) → (b : Bool) → (not (is_negative z) && x.number == unsigned_abs z) ≡ b → (if b then Some x else find_table ts z) ≡ Some t → t.number ≡ unsigned_abs z
+    by_case : (find_table ts z ≡ Some t → t.number ≡ unsigned_abs z) → (b : Bool)
+        → (not (is_negative z) && x.number == unsigned_abs z) ≡ b → (if b then Some x else find_table ts z) ≡ Some t
+        → t.number ≡ unsigned_abs z
     by_case later true e k =
         let same : x ≡ t = cc in
-        ap (λ y. y.number) (sym same) ∙ equal x.number (unsigned_abs z) (and_parts (not (is_negative z)) (x.number == unsigned_abs z) e).1
+        ap (λ y. y.number) (sym same)
+        ∙ equal x.number (unsigned_abs z) (and_parts (not (is_negative z)) (x.number == unsigned_abs z) e).1
     by_case later false e k = later k

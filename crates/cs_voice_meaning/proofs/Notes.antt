@@ -15,21 +15,34 @@ use Rattle.cs_voice_meaning.proofs.Alikes.{run_alike}
 use Rattle.cs_voice_meaning.proofs.VoiceFollows.{voice_follows}
 
 -- over cells that have what notes share a voice begins as a note does
-pub begins_same : (N : Res → Type 0) (areas : List Area) (kinds : Kinds) (pace : Pace) (cells : ℕ → ℤ) (shared : Res → Wave)
+pub begins_same : (N : Res → Type 0) (areas : List Area) (kinds : Kinds) (pace : Pace) (cells : ℕ → ℤ)
+    (shared : Res → Wave)
     → ((g : Res) → N g → wave_of (area_of areas g) (res_rate g) cells ≡ shared g)
     → SameState N areas kinds pace [] (fresh_voice cells) (fresh shared)
 begins_same N areas kinds pace cells shared h =
     record { shared = h; units = λ u. tt; delays = refl; outs = refl; ended = refl; asks = refl; cause = refl }
 
 -- and goes on as it does, at whatever resources the next cycle touches
-pub goes_on_same : (N M : Res → Type 0) (areas : List Area) (kinds : Kinds) (pace : Pace) (earlier : List (List ℤ)) (cells : ℕ → ℤ) (shared : Res → Wave) (x : VoiceState) (y : Plain)
+pub goes_on_same : (N M : Res → Type 0) (areas : List Area) (kinds : Kinds) (pace : Pace) (earlier : List (List ℤ))
+    (cells : ℕ → ℤ) (shared : Res → Wave) (x : VoiceState) (y : Plain)
     → SameState N areas kinds pace earlier x y
     → ((g : Res) → M g → wave_of (area_of areas g) (res_rate g) cells ≡ shared g)
     → SameState M areas kinds pace y.asks (next_voice cells x) (next_cycle shared y)
 goes_on_same N M areas kinds pace earlier cells shared x y s h =
-    record { shared = h; units = s.units; delays = s.delays; outs = refl; ended = s.ended; asks = sym (append-nil y.asks); cause = s.cause }
+    record {
+      shared = h;
+      units = s.units;
+      delays = s.delays;
+      outs = refl;
+      ended = s.ended;
+      asks =
+          sym (append-nil y.asks);
+      cause = s.cause;
+    }
 
 pub do_alike : DoAlike
 do_alike areas stock piece kinds earlier placed generators ops m n touches same =
-    run_alike stock kinds (HasArea areas) (voice_world areas piece) (plain piece) (SameState (HasArea areas) areas kinds (pace_of piece.head) earlier)
-    (voice_follows areas stock piece kinds (HasArea areas) earlier placed generators (λ g has. has)) 0 ops m n touches same
+    run_alike stock kinds (HasArea areas) (voice_world areas piece) (plain piece)
+    (SameState (HasArea areas) areas kinds (pace_of piece.head) earlier)
+    (voice_follows areas stock piece kinds (HasArea areas) earlier placed generators (λ g has. has)) 0 ops m n touches
+    same

@@ -1,5 +1,6 @@
 -- What a voice does over the cells that it sees is what it does over all cells.
-use Rattle.std.proofs.Common.{◌≡◌, ℕ, ℤ, pos, ◌<◌, Bool, true, false, List, [], ◌∷◌, length, Option, if◌then◌else◌, refl, sym, ◌∙◌, ap}
+use Rattle.std.proofs.Common.{◌≡◌, ℕ, ℤ, pos, ◌<◌, Bool, true, false, List, [], ◌∷◌, length, Option, if◌then◌else◌}
+use Rattle.std.proofs.Common.{refl, sym, ◌∙◌, ap}
 use Rattle.std.proofs.lemmas.Bool.{or_right}
 use Rattle.cs_base.proofs.Tests.{by_test}
 use Rattle.cs_base.specs.declared.resource.Res.{Res}
@@ -12,7 +13,8 @@ use Rattle.cs_cells.specs.Cells.{Cells, cell, covers, in_area}
 use Rattle.cs_voice_meaning.specs.Placing.{area_of}
 use Rattle.cs_voice_meaning.specs.VoiceWorld.{Playing, VoiceState, voice_world}
 use Rattle.cs_voice_meaning.specs.Follows.{AreNamed, Alike}
-use Rattle.cs_voice_meaning.specs.Voices.{Sounding, may_use, may_write, seen, begins, cycle, voice_of, performed, left_by, IsWritten, OpsWritten, IsSound}
+use Rattle.cs_voice_meaning.specs.Voices.{Sounding, may_use, may_write, seen, begins, cycle, voice_of, performed}
+use Rattle.cs_voice_meaning.specs.Voices.{left_by, IsWritten, OpsWritten, IsSound}
 use Rattle.cs_voice_meaning.proofs.Alikes.{run_alike}
 use Rattle.cs_voice_meaning.proofs.FrameLaw.{left_at}
 use Rattle.cs_voice_meaning.proofs.SameWorlds.{SameSeen, IsSeen, same_follows}
@@ -22,8 +24,11 @@ use Rattle.cs_voice_meaning.proofs.Written.{run_keeps}
 pub cycle_seen : (v : Sounding) (c : ℕ → ℤ) → IsSound v
     → Alike (SameSeen (λ a. may_use v.sheet a ≡ true)) (cycle v (seen v.sheet c)) (cycle v c)
 cycle_seen v c s =
-    run_alike s.stock s.kinds (IsSeen (λ a. may_use v.sheet a ≡ true) v.sheet.areas) (voice_world v.sheet.areas v.sheet.piece) (voice_world v.sheet.areas v.sheet.piece) (SameSeen (λ a. may_use v.sheet a ≡ true))
-    (same_follows v.sheet.areas s.stock v.sheet.piece s.kinds (λ a. may_use v.sheet a ≡ true) s.placed) 0 v.sheet.perf (begins v (seen v.sheet c)) (begins v c) s.perf_uses
+    run_alike s.stock s.kinds (IsSeen (λ a. may_use v.sheet a ≡ true) v.sheet.areas)
+    (voice_world v.sheet.areas v.sheet.piece) (voice_world v.sheet.areas v.sheet.piece)
+    (SameSeen (λ a. may_use v.sheet a ≡ true))
+    (same_follows v.sheet.areas s.stock v.sheet.piece s.kinds (λ a. may_use v.sheet a ≡ true) s.placed) 0 v.sheet.perf
+    (begins v (seen v.sheet c)) (begins v c) s.perf_uses
     (record {
       regs = refl;
       next = refl;
@@ -41,8 +46,11 @@ cycle_seen v c s =
 without : (v : Sounding) (a : ℕ) → may_write v.sheet a ≡ false → (gs : List Res) → AreNamed (IsWritten v.sheet) gs
     → AreNamed (λ g. in_area (area_of v.sheet.areas g) a ≡ false) gs
 without v a un [] h = tt
-without v a un (g ∷ gs) h =
-    (by_test (in_area (area_of v.sheet.areas g) a) (λ yes. absurd (let t : may_write v.sheet a ≡ true = h.0 a yes in cc)) (λ no. no), without v a un gs h.1)
+without v a un (g ∷ gs) h = (
+  by_test (in_area (area_of v.sheet.areas g) a)
+      (λ yes. absurd (let t : may_write v.sheet a ≡ true = h.0 a yes in cc)) (λ no. no),
+  without v a un gs h.1,
+)
 
 ops_without : (v : Sounding) (stock : Stock) (a : ℕ) → may_write v.sheet a ≡ false → (ops : List Op)
     → OpsWritten stock (IsWritten v.sheet) ops
@@ -53,10 +61,13 @@ ops_without v stock a un (op ∷ ops) h = (without v a un (act_writes stock op.a
 -- a cell that the voice may not write keeps its value
 pub cycle_keeps : (v : Sounding) (c : ℕ → ℤ) (a : ℕ) → IsSound v → may_write v.sheet a ≡ false
     → (cycle v c).world.shared a ≡ c a
-cycle_keeps v c a s un = run_keeps v.sheet.areas s.stock v.sheet.piece a s.placed 0 v.sheet.perf (begins v c) (ops_without v s.stock a un v.sheet.perf s.perf_writes)
+cycle_keeps v c a s un =
+    run_keeps v.sheet.areas s.stock v.sheet.piece a s.placed 0 v.sheet.perf (begins v c)
+    (ops_without v s.stock a un v.sheet.perf s.perf_writes)
 
 voice_by : Sounding → (Reg → Wave) → (ℕ → Option Playing) → ℕ → (ℕ → Wave) → Bool → Sounding
-voice_by v regs units delays outs ended = record v { regs = regs; units = units; delays = delays; outs = outs; ended = ended }
+voice_by v regs units delays outs ended =
+    record v { regs = regs; units = units; delays = delays; outs = outs; ended = ended }
 
 same_after : (v : Sounding) (m n : Machine VoiceState) → Alike (SameSeen (λ a. may_use v.sheet a ≡ true)) m n
     → voice_of v.sheet m ≡ voice_of v.sheet n
@@ -79,5 +90,7 @@ left_on_all v c a s near =
     left_at v c a near
     ∙ by_test (may_write v.sheet a)
     (λ yes. ap (λ b. if b then (cycle v (seen v.sheet (cell c))).world.shared a else cell c a) yes
-    ∙ (cycle_seen v (cell c) s).world.cells a (or_right (covers v.sheet.areas v.sheet.foot.uses a) (may_write v.sheet a) yes))
-    (λ no. ap (λ b. if b then (cycle v (seen v.sheet (cell c))).world.shared a else cell c a) no ∙ sym (cycle_keeps v (cell c) a s no))
+    ∙ (cycle_seen v (cell c) s).world.cells a
+    (or_right (covers v.sheet.zones v.sheet.foot.uses a) (may_write v.sheet a) yes))
+    (λ no. ap (λ b. if b then (cycle v (seen v.sheet (cell c))).world.shared a else cell c a) no
+    ∙ sym (cycle_keeps v (cell c) a s no))

@@ -1,5 +1,6 @@
 -- Resources and their cells: what is written into an area is read from it, and no other resource changes.
-use Rattle.std.proofs.Common.{◌≡◌, ℕ, ℤ, pos, suc, ◌+◌, ◌-◌, ◌<◌, ◌≤◌, ◌≢◌, Bool, true, false, List, [], ◌∷◌, nat_lt, slice_get, Some, if◌then◌else◌, sym, ◌∙◌, ap, arith, ltb-true}
+use Rattle.std.proofs.Common.{◌≡◌, ℕ, ℤ, pos, suc, ◌+◌, ◌-◌, ◌<◌, ◌≤◌, ◌≢◌, Bool, true, false, List, [], ◌∷◌, nat_lt}
+use Rattle.std.proofs.Common.{slice_get, Some, if◌then◌else◌, sym, ◌∙◌, ap, arith, ltb-true}
 use Rattle.std.proofs.lemmas.Bool.Decides.{nat_tests}
 use Rattle.cs_base.specs.Rates.{same_res}
 use Rattle.cs_base.specs.declared.resource.Rate.{Rate}
@@ -21,7 +22,8 @@ pub area_at : (areas : List Area) (g : Res) (area : Area) → area_of areas g �
     → (place : ℕ) × (slice_get areas place ≡ Some area) × (area.res ≡ g)
 area_at [] g area h = absurd (cc)
 area_at (a ∷ areas) g area h = by_test (same_res a.res g)
-    (λ yes. let here : a ≡ area = let e : (if same_res a.res g then Some a else area_of areas g) ≡ Some area = h in first (same_res a.res g) yes e in
+    (λ yes. let here : a ≡ area = let e : (if same_res a.res g then Some a else area_of areas g) ≡ Some area =
+    h in first (same_res a.res g) yes e in
     (0, ap Some here, ap (λ x. x.res) (sym here) ∙ same_res_is a.res g yes))
     (λ no. let later : area_of areas g ≡ Some area = second (same_res a.res g) no h in
     let at = area_at areas g area later in (suc at.0, at.1, at.2))
@@ -41,7 +43,8 @@ pub apart : (areas : List Area) (g h : Res) (a b : Area) (x : ℕ) → IsLaid ar
 apart areas g h a b x laid ha hb xa xb =
     let p = area_at areas g a ha in
     let q = area_at areas h b hb in
-    let one : p.0 ≡ q.0 = one_place areas p.0 q.0 x laid (ap (λ o. in_area o x) p.1 ∙ xa) (ap (λ o. in_area o x) q.1 ∙ xb) in
+    let one : p.0 ≡ q.0 = one_place areas p.0 q.0 x laid (ap (λ o. in_area o x) p.1 ∙ xa)
+    (ap (λ o. in_area o x) q.1 ∙ xb) in
     let both : Some a ≡ Some b = sym p.1 ∙ ap (slice_get areas) one ∙ q.1 in
     let same : a ≡ b = cc in
     sym p.2 ∙ ap (λ z. z.res) same ∙ q.2
@@ -75,8 +78,11 @@ wave_same rate.Audio area c d some same = λ i j. at j i
   where
     at : (j : ℕ) → wave_in rate.Audio area c j ≡ wave_in rate.Audio area d j
     at j = by_test (nat_lt j area.length)
-        (λ yes. ap (λ b. if b then c (area.first + j) else pos 0) yes ∙ same (area.first + j) (in_front area j (below j area.length yes)) ∙ sym (ap (λ b. if b then d (area.first + j) else pos 0) yes))
-        (λ no. ap (λ b. if b then c (area.first + j) else pos 0) no ∙ sym (ap (λ b. if b then d (area.first + j) else pos 0) no))
+        (λ yes. ap (λ b. if b then c (area.first + j) else pos 0) yes
+        ∙ same (area.first + j) (in_front area j (below j area.length yes))
+        ∙ sym (ap (λ b. if b then d (area.first + j) else pos 0) yes))
+        (λ no. ap (λ b. if b then c (area.first + j) else pos 0) no
+        ∙ sym (ap (λ b. if b then d (area.first + j) else pos 0) no))
 
 -- a wave that an area can hold: one value, or silence beyond its cells
 abbrev pub Fits : Rate → Area → Wave → Type 0
@@ -104,8 +110,10 @@ wave_written rate.Audio area w c some fits = λ i j. at j i
   where
     at : (j : ℕ) → wave_in rate.Audio area (with_wave (Some area) w c) j ≡ w j
     at j = by_test (nat_lt j area.length)
-        (λ yes. ap (λ b. if b then with_wave (Some area) w c (area.first + j) else pos 0) yes ∙ written_at area w c j (below j area.length yes))
-        (λ no. ap (λ b. if b then with_wave (Some area) w c (area.first + j) else pos 0) no ∙ sym (fits j (at_or_past j area.length no)))
+        (λ yes. ap (λ b. if b then with_wave (Some area) w c (area.first + j) else pos 0) yes
+        ∙ written_at area w c j (below j area.length yes))
+        (λ no. ap (λ b. if b then with_wave (Some area) w c (area.first + j) else pos 0) no
+        ∙ sym (fits j (at_or_past j area.length no)))
 
 -- outside the area nothing changes
 pub unwritten : (area : Area) (w : Wave) (c : ℕ → ℤ) (a : ℕ) → in_area (Some area) a ≡ false
@@ -115,11 +123,13 @@ unwritten area w c a h = ap (λ b. if b then w (a - area.first) else c a) h
 not_in : (areas : List Area) (g h : Res) (a b : Area) (x : ℕ) → IsLaid areas → area_of areas g ≡ Some a
     → area_of areas h ≡ Some b → h ≢ g
     → in_area (Some b) x ≡ true → in_area (Some a) x ≡ false
-not_in areas g h a b x laid ha hb other inside = by_test (in_area (Some a) x) (λ yes. absurd (other (sym (apart areas g h a b x laid ha hb yes inside)))) (λ no. no)
+not_in areas g h a b x laid ha hb other inside =
+    by_test (in_area (Some a) x) (λ yes. absurd (other (sym (apart areas g h a b x laid ha hb yes inside)))) (λ no. no)
 
 -- another resource keeps its wave
 pub wave_kept : (areas : List Area) (g h : Res) (a b : Area) (r : Rate) (w : Wave) (c : ℕ → ℤ) → IsLaid areas
     → area_of areas g ≡ Some a → area_of areas h ≡ Some b
     → h ≢ g → Roomy r b.length → wave_in r b (with_wave (Some a) w c) ≡ wave_in r b c
 wave_kept areas g h a b r w c laid ha hb other some =
-    wave_same r b (with_wave (Some a) w c) c some (λ x inside. unwritten a w c x (not_in areas g h a b x laid ha hb other inside))
+    wave_same r b (with_wave (Some a) w c) c some
+    (λ x inside. unwritten a w c x (not_in areas g h a b x laid ha hb other inside))

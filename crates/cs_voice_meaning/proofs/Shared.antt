@@ -1,5 +1,6 @@
 -- Saving and clearing keep the voice's cells and the plain world's values the same.
-use Rattle.std.proofs.Common.{◌≡◌, ℕ, ℤ, pos, zero, suc, ◌<◌, ◌≤◌, ◌≢◌, Bool, true, false, ◌&&◌, List, [], ◌∷◌, nat_lt, slice_get, Some, if◌then◌else◌, refl, sym, ◌∙◌, ap, arith, ⊎_elim}
+use Rattle.std.proofs.Common.{◌≡◌, ℕ, ℤ, pos, zero, suc, ◌<◌, ◌≤◌, ◌≢◌, Bool, true, false, ◌&&◌, List, [], ◌∷◌, nat_lt}
+use Rattle.std.proofs.Common.{slice_get, Some, if◌then◌else◌, refl, sym, ◌∙◌, ap, arith, ⊎_elim}
 use Rattle.std.specs.List.{list_any}
 use Rattle.std.proofs.lemmas.Bool.{and_parts, and_from, or_left, or_right, or_cases}
 use Rattle.std.proofs.lemmas.Bool.Decides.{nat_tests}
@@ -58,9 +59,11 @@ past_end j n h = grind (arith, nat_tests)
 
 fits_frames : (area : Area) (ksmps : ℕ) (w : Wave) → area.length ≡ ksmps
     → Fits rate.Audio area (held ksmps rate.Audio w)
-fits_frames area ksmps w e j h = let at : ksmps ≤ j = omega (arith, e, h) in ap (λ b. if b then w j else pos 0) (past_end j ksmps at)
+fits_frames area ksmps w e j h = let at : ksmps ≤ j =
+    omega (arith, e, h) in ap (λ b. if b then w j else pos 0) (past_end j ksmps at)
 
-module _ (areas : List Area) (stock : Stock) (piece : Piece) (kinds : Kinds) (N : Res → Type 0) (earlier : List (List ℤ))
+module _ (areas : List Area) (stock : Stock) (piece : Piece) (kinds : Kinds) (N : Res → Type 0)
+    (earlier : List (List ℤ))
     (placed : IsPlaced areas stock piece) (has : (g : Res) → N g → (area : Area) × (area_of areas g ≡ Some area)) where
   one_cell : (g : Res) (a : Area) (n : ℕ) → n ≡ 1 → a.length ≡ n → 0 < a.length
   one_cell g a n e h = omega (arith, e, h)
@@ -112,7 +115,8 @@ module _ (areas : List Area) (stock : Stock) (piece : Piece) (kinds : Kinds) (N 
   pub saved_state : (g : Res) (a : Area) (w : Wave) (x : VoiceState) (y : Plain) → area_of areas g ≡ Some a
       → Fits (res_rate g) a w
       → SameState N areas kinds (pace_of piece.head) earlier x y
-      → SameState N areas kinds (pace_of piece.head) earlier (with_value (voice_model areas piece) g w x) (with_value (plain_model piece) g w y)
+      → SameState N areas kinds (pace_of piece.head) earlier (with_value (voice_model areas piece) g w x)
+      (with_value (plain_model piece) g w y)
   saved_state g a w x y at fits r = record {
     shared = shared_after g a w x y at fits r;
     units = r.units;
@@ -125,7 +129,8 @@ module _ (areas : List Area) (stock : Stock) (piece : Piece) (kinds : Kinds) (N 
 
   pub held_state : (g : Res) (w : Wave) (x : VoiceState) (y : Plain) → N g → has_value g ≡ true
       → SameState N areas kinds (pace_of piece.head) earlier x y
-      → SameState N areas kinds (pace_of piece.head) earlier (saved (voice_model areas piece) g w x) (saved (plain_model piece) g w y)
+      → SameState N areas kinds (pace_of piece.head) earlier (saved (voice_model areas piece) g w x)
+      (saved (plain_model piece) g w y)
   held_state g w x y n t r =
       let a = has g n in
       saved_state g a.0 (held piece.head.ksmps (res_rate g) w) x y a.1 (fits_held g a.0 w a.1 t) r
@@ -137,8 +142,10 @@ module _ (areas : List Area) (stock : Stock) (piece : Piece) (kinds : Kinds) (N 
       → (if lies_cleared areas clears a then pos 0 else c a) ≡ pos 0
   cells_cleared clears g area c at hit a inside =
       let place = area_at areas g area at in
-      let here : (in_area (Some area) a && clears area.res) ≡ true = and_from (in_area (Some area) a) (clears area.res) inside (ap clears place.2 ∙ hit) in
-      ap (λ b. if b then pos 0 else c a) (any_from (λ z. in_area (Some z) a && clears z.res) areas place.0 area place.1 here)
+      let here : (in_area (Some area) a && clears area.res) ≡ true =
+      and_from (in_area (Some area) a) (clears area.res) inside (ap clears place.2 ∙ hit) in
+      ap (λ b. if b then pos 0 else c a)
+      (any_from (λ z. in_area (Some z) a && clears z.res) areas place.0 area place.1 here)
 
   cells_left : (clears : Res → Bool) (g : Res) (area : Area) (c : ℕ → ℤ) → area_of areas g ≡ Some area
       → clears g ≡ false → (a : ℕ) → in_area (Some area) a ≡ true
@@ -150,7 +157,9 @@ module _ (areas : List Area) (stock : Stock) (piece : Piece) (kinds : Kinds) (N 
       (λ yes.
       let found = any_at (λ z. in_area (Some z) a && clears z.res) areas yes in
       let both = and_parts (in_area (Some found.1) a) (clears found.1.res) found.3 in
-      let one : found.0 ≡ place.0 = one_place areas found.0 place.0 a placed.laid (ap (λ o. in_area o a) found.2 ∙ both.0) (ap (λ o. in_area o a) place.1 ∙ inside) in
+      let one : found.0 ≡ place.0 =
+      one_place areas found.0 place.0 a placed.laid (ap (λ o. in_area o a) found.2 ∙ both.0)
+      (ap (λ o. in_area o a) place.1 ∙ inside) in
       let some : Some found.1 ≡ Some area = sym found.2 ∙ ap (slice_get areas) one ∙ place.1 in
       let same : found.1 ≡ area = cc in
       let t : clears g ≡ true = sym (ap clears place.2) ∙ ap (λ z. clears z.res) (sym same) ∙ both.1 in
@@ -160,16 +169,19 @@ module _ (areas : List Area) (stock : Stock) (piece : Piece) (kinds : Kinds) (N 
 
   pub cleared_state : (clears : Res → Bool) (x : VoiceState) (y : Plain)
       → SameState N areas kinds (pace_of piece.head) earlier x y
-      → SameState N areas kinds (pace_of piece.head) earlier (cleared (voice_model areas piece) clears x) (cleared (plain_model piece) clears y)
+      → SameState N areas kinds (pace_of piece.head) earlier (cleared (voice_model areas piece) clears x)
+      (cleared (plain_model piece) clears y)
   cleared_state clears x y r = record {
     shared = λ g n.
         let a = has g n in
         let c : ℕ → ℤ = λ z. if lies_cleared areas clears z then pos 0 else x.shared z in
         ap (λ o. wave_of o (res_rate g) c) a.1
         ∙ by_test (clears g)
-        (λ yes. silent (res_rate g) a.0 c (roomy g a.0 a.1) (cells_cleared clears g a.0 x.shared a.1 yes) ∙ sym (ap (λ b. if b then silence else y.shared g) yes))
+        (λ yes. silent (res_rate g) a.0 c (roomy g a.0 a.1) (cells_cleared clears g a.0 x.shared a.1 yes)
+        ∙ sym (ap (λ b. if b then silence else y.shared g) yes))
         (λ no. wave_same (res_rate g) a.0 c x.shared (roomy g a.0 a.1) (cells_left clears g a.0 x.shared a.1 no)
-        ∙ sym (ap (λ o. wave_of o (res_rate g) x.shared) a.1) ∙ r.shared g n ∙ sym (ap (λ b. if b then silence else y.shared g) no));
+        ∙ sym (ap (λ o. wave_of o (res_rate g) x.shared) a.1) ∙ r.shared g n
+        ∙ sym (ap (λ b. if b then silence else y.shared g) no));
     units = r.units;
     delays = r.delays;
     outs = r.outs;

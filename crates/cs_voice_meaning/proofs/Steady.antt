@@ -1,5 +1,6 @@
 -- A control cycle refuses nothing, asks for nothing, and starts no delay.
-use Rattle.std.proofs.Common.{◌≡◌, ℕ, ℤ, ◌+◌, Bool, true, false, List, [], ◌∷◌, map, Option, None, if◌then◌else◌, refl, ◌∙◌, ap}
+use Rattle.std.proofs.Common.{◌≡◌, ℕ, ℤ, ◌+◌, Bool, true, false, List, [], ◌∷◌, map, Option, None, if◌then◌else◌, refl}
+use Rattle.std.proofs.Common.{◌∙◌, ap}
 use Rattle.std.proofs.lemmas.Bool.{and_parts}
 use Rattle.cs_words.specs.Catalogue.{row_of}
 use Rattle.cs_ir.specs.Cycles.{is_of_cycle, are_of_cycle}
@@ -30,7 +31,8 @@ settled x = settled_of (rest x)
 module _ {S U : Type 0} (model : Model S U) where
   written_steady : (b : Bool) (into : Reg) (p : State S U × Wave) (m : Machine (State S U)) (z : State S U)
       → settled p.0 ≡ settled z
-      → settled (if b then write model.piece.head.ksmps into p.1 (record m { world = p.0 }) else record m { world = p.0 }).world ≡ settled z
+      → settled (if b then write model.piece.head.ksmps into p.1 (record m { world = p.0 }) else record m
+      { world = p.0 }).world ≡ settled z
   written_steady true into p m z h = h
   written_steady false into p m z h = h
 
@@ -48,17 +50,20 @@ module _ {S U : Type 0} (model : Model S U) where
   acts_steady (act.Save g) into ws m h = refl
   acts_steady (act.Start opcode k) into ws m h = absurd (cc)
   acts_steady (act.Unit opcode k reach) into ws m h =
-      written_steady (gives opcode) into (unit_does model opcode into.rate k reach ws (m.world.units k) m.world) m m.world
+      written_steady (gives opcode) into (unit_does model opcode into.rate k reach ws (m.world.units k) m.world) m
+      m.world
       (ap settled_of (unit_rest model opcode into.rate k reach ws (m.world.units k) m.world))
   acts_steady act.Seek into ws m h = absurd (cc)
-  acts_steady (act.Store opcode reach) into ws m h = ap settled_of (store_rest model into.rate reach ws (index (operand 2 ws 0)) m.world)
+  acts_steady (act.Store reach) into ws m h =
+      ap settled_of (store_rest model into.rate reach ws (index (operand 2 ws 0)) m.world)
   acts_steady (act.Zak opcode reach) into ws m h =
       written_steady (gives opcode) into (zak_does model (row_of opcode).shape reach ws m.world) m m.world
       (ap settled_of (zak_rest model (row_of opcode).shape reach ws m.world))
   acts_steady (act.Jump to) into ws m h = refl
   acts_steady (act.Unless to) into ws m h = refl
   acts_steady (act.Out c) into ws m h = refl
-  acts_steady act.OutAt into ws m h = ap settled_of (numbered_rest model (index (operand 0 ws 0)) (operand 1 ws) m.world)
+  acts_steady act.OutAt into ws m h =
+      ap settled_of (numbered_rest model (index (operand 0 ws 0)) (operand 1 ws) m.world)
   acts_steady act.Turnoff into ws m h = refl
   acts_steady act.Ask into ws m h = absurd (cc)
 
@@ -74,11 +79,13 @@ module _ {S U : Type 0} (model : Model S U) where
   run_steady place (op ∷ ops) m h =
       let both = and_parts (is_of_cycle op.act) (are_of_cycle ops) h in
       run_steady (place + 1) ops (step (world_of model) place op m) both.1
-      ∙ either_steady (is_done (world_of model) place m) (acts (world_of model) op.act op.into (map m.regs op.from) m) m m.world
+      ∙ either_steady (is_done (world_of model) place m) (acts (world_of model) op.act op.into (map m.regs op.from) m) m
+      m.world
       (acts_steady op.act op.into (map m.regs op.from) m both.0) refl
 
 pub cycle_steady : (v : Sounding) (cells : ℕ → ℤ) → IsSound v
-    → ((cycle v cells).world.cause ≡ None) × ((cycle v cells).world.asks ≡ []) × ((cycle v cells).world.delays ≡ v.delays)
+    → ((cycle v cells).world.cause ≡ None) × ((cycle v cells).world.asks ≡ [])
+    × ((cycle v cells).world.delays ≡ v.delays)
 cycle_steady v cells s =
     let e = run_steady (voice_model v.sheet.areas v.sheet.piece) 0 v.sheet.perf (begins v cells) s.perf_acts in
     (ap (λ z. z.cause) e, ap (λ z. z.asks) e, ap (λ z. z.delays) e)

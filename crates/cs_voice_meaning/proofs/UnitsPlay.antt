@@ -1,5 +1,8 @@
--- Units that play come to where their inputs bring them: their start, their steps in a cycle, and the points that they read.
-use Rattle.std.proofs.Common.{◌≡◌, ℕ, ℤ, pos, ◌+◌, ◌-◌, ◌<◌, Bool, true, false, not, ◌||◌, ◌==◌, List, [], ◌++◌, map, nat_lt, unsigned_abs, Option, Some, None, if◌then◌else◌, refl, sym, ◌∙◌, ap, subst, arith, ltb-true}
+-- Units that play come to where their inputs bring them: their start, their steps in a cycle, and the points that they
+-- read.
+use Rattle.std.proofs.Common.{◌≡◌, ℕ, ℤ, pos, ◌+◌, ◌-◌, ◌<◌, Bool, true, false, not, ◌||◌, ◌==◌, List, [], ◌++◌, map}
+use Rattle.std.proofs.Common.{nat_lt, unsigned_abs, Option, Some, None, if◌then◌else◌, refl, sym, ◌∙◌, ap, subst, arith}
+use Rattle.std.proofs.Common.{ltb-true}
 use Rattle.std.specs.List.{range_with_len}
 use Rattle.std.proofs.lemmas.Bool.Decides.{nat_tests}
 use Rattle.cs_base.specs.declared.resource.Rate.{Rate}
@@ -22,7 +25,8 @@ use Rattle.cs_ir.specs.declared.op.Reach.{Reach}
 use Rattle.cs_cells.specs.declared.footprint.Area.{Area}
 use Rattle.cs_meaning.specs.Model.{loaded, put_unit, unit_points, has_run, unit_does}
 use Rattle.cs_words.specs.Generators.{Generators}
-use Rattle.cs_meaning.specs.Pieces.{Piece, Table, find_table, table_number, read_points, points_of, steps_of, step_at, may_touch}
+use Rattle.cs_meaning.specs.Pieces.{Piece, Table, find_table, table_number, read_points, points_of, steps_of, step_at}
+use Rattle.cs_meaning.specs.Pieces.{may_touch}
 use Rattle.cs_meaning.specs.Plain.{Plain, History, inputs_of, has_had, generated, plain_model}
 use Rattle.cs_voice_meaning.specs.Placing.{IsPlaced}
 use Rattle.cs_ugen.specs.Generators.{pace_of, the_generators}
@@ -48,7 +52,8 @@ same_results rate.Audio ksmps results w each = λ i j. at j i
   where
     at : (j : ℕ) → (if nat_lt j ksmps then argument results j else pos 0) ≡ (if nat_lt j ksmps then w j else pos 0)
     at j = by_test (nat_lt j ksmps)
-        (λ yes. ap (λ b. if b then argument results j else pos 0) yes ∙ each j (below_frames j ksmps yes) ∙ sym (ap (λ b. if b then w j else pos 0) yes))
+        (λ yes. ap (λ b. if b then argument results j else pos 0) yes ∙ each j (below_frames j ksmps yes)
+        ∙ sym (ap (λ b. if b then w j else pos 0) yes))
         (λ no. ap (λ b. if b then argument results j else pos 0) no ∙ sym (ap (λ b. if b then w j else pos 0) no))
 
 -- ---- units by number
@@ -75,7 +80,8 @@ module _ (areas : List Area) (kinds : Kinds) (N : Res → Type 0) (pace : Pace) 
 
   -- a unit that starts has no inputs behind it
   pub starts_to_play : (opcode : Opcode) (r : Rate) (is : List ℤ) → IsUnitOpcode opcode
-      → Plays pace (opcode, r) (record { table = table_number is; state = unit_start opcode r pace is }) (record { opcode = opcode; rate = r; settled = is; inputs = [] })
+      → Plays pace (opcode, r) (record { table = table_number is; state = unit_start opcode r pace is })
+      (record { opcode = opcode; rate = r; settled = is; inputs = [] })
   starts_to_play opcode r is unit = record {
     opcode = refl;
     rate = refl;
@@ -89,14 +95,18 @@ abbrev of_parts : Generators → Opcode → Rate → History → List Wave → L
 of_parts g opcode r h ws points = λ j. g.gen opcode r h.settled (h.inputs ++ inputs_of ws points (step_at r j + 1))
 
 -- a unit's steps in a cycle: where it comes to, and what it answers
-module _ (piece : Piece) (opcode : Opcode) (r : Rate) (p : Playing) (h : History) (ws : List Wave) (points read : List ℤ)
-    (generators : piece.generators ≡ the_generators (pace_of piece.head)) (plays : Plays (pace_of piece.head) (opcode, r) p h) (same : points ≡ read) where
+module _ (piece : Piece) (opcode : Opcode) (r : Rate) (p : Playing) (h : History) (ws : List Wave)
+    (points read : List ℤ)
+    (generators : piece.generators ≡ the_generators (pace_of piece.head))
+    (plays : Plays (pace_of piece.head) (opcode, r) p h) (same : points ≡ read) where
   ksmps : ℕ
   ksmps = piece.head.ksmps
 
-  answered : HasAnswered (gen opcode) (λ u. Stands u opcode) r (pace_of piece.head) h.settled h.inputs (inputs_at ws points) 0 (steps_of piece.head.ksmps r)
+  answered : HasAnswered (gen opcode) (λ u. Stands u opcode) r (pace_of piece.head) h.settled h.inputs
+      (inputs_at ws points) 0 (steps_of piece.head.ksmps r)
       (played piece.head.ksmps r p ws points).0 (played piece.head.ksmps r p ws points).1
-  answered = by_formula (units opcode plays.unit) p.state r (pace_of piece.head) h.settled h.inputs (inputs_at ws points) 0 (steps_of piece.head.ksmps r) plays.stands
+  answered = by_formula (units opcode plays.unit) p.state r (pace_of piece.head) h.settled h.inputs
+      (inputs_at ws points) 0 (steps_of piece.head.ksmps r) plays.stands
 
   pub plays_on : Plays (pace_of piece.head) (opcode, r) (record p { state = (played piece.head.ksmps r p ws points).0 })
       (has_had piece ws read h)
@@ -105,11 +115,15 @@ module _ (piece : Piece) (opcode : Opcode) (r : Rate) (p : Playing) (h : History
     rate = plays.rate;
     table = plays.table;
     unit = plays.unit;
-    stands = subst (λ l. Stands (played piece.head.ksmps r p ws points).0 opcode r (pace_of piece.head) h.settled (h.inputs ++ l))
-        (ap (λ l. inputs_of ws l (steps_of piece.head.ksmps r)) same ∙ ap (λ q. inputs_of ws read (steps_of piece.head.ksmps q)) (sym plays.rate)) answered.stands;
+    stands = subst (λ l. Stands (played piece.head.ksmps r p ws points).0 opcode r (pace_of piece.head) h.settled
+        (h.inputs ++ l))
+        (ap (λ l. inputs_of ws l (steps_of piece.head.ksmps r)) same
+        ∙ ap (λ q. inputs_of ws read (steps_of piece.head.ksmps q)) (sym plays.rate)) answered.stands;
   }
 
-  pub result_same : held piece.head.ksmps r (λ j. argument (played piece.head.ksmps r p ws points).1 (step_at r j)) ≡ held piece.head.ksmps r (generated piece h ws read)
+  pub result_same : held piece.head.ksmps r
+      (λ j. argument (played piece.head.ksmps r p ws points).1 (step_at r j)) ≡ held piece.head.ksmps r
+      (generated piece h ws read)
   result_same =
       same_results r piece.head.ksmps (played piece.head.ksmps r p ws points).1
       (λ k. gen opcode r (pace_of piece.head) h.settled (h.inputs ++ inputs_of ws points (k + 1))) answered.each
@@ -121,7 +135,8 @@ module _ (piece : Piece) (opcode : Opcode) (r : Rate) (p : Playing) (h : History
 
 -- ---- tables
 
-module _ (areas : List Area) (stock : Stock) (piece : Piece) (kinds : Kinds) (N : Res → Type 0) (earlier : List (List ℤ)) (placed : IsPlaced areas stock piece) where
+module _ (areas : List Area) (stock : Stock) (piece : Piece) (kinds : Kinds) (N : Res → Type 0)
+    (earlier : List (List ℤ)) (placed : IsPlaced areas stock piece) where
   points_same : (x : VoiceState) (y : Plain) (t : Table) (f : Option (List ℤ))
       → SameState N areas kinds (pace_of piece.head) earlier x y → (f ≡ None → N (res.Table t.number))
       → points_of (λ g. loaded (voice_model areas piece) g x) t f ≡ points_of (λ g. loaded (plain_model piece) g y) t f
@@ -159,19 +174,25 @@ module _ (areas : List Area) (stock : Stock) (piece : Piece) (kinds : Kinds) (N 
   points_alike opcode reach p h x y table named may r =
       by_test (takes_table opcode)
       (λ takes.
-      ap (λ b. if b then read_points (λ g. loaded (voice_model areas piece) g x) (find_table piece.tables p.table) else []) takes
+      ap (λ b. if b then read_points (λ g. loaded (voice_model areas piece) g x) (find_table piece.tables p.table) else
+      []) takes
       ∙ read_same x y (find_table piece.tables p.table) r
-      (λ t found live. table_named reach p.table t (when_taken (takes_table opcode) (tables_within stock reach) named takes)
+      (λ t found live. table_named reach p.table t
+      (when_taken (takes_table opcode) (tables_within stock reach) named takes)
       (reached (takes_table opcode) (reaches reach (unsigned_abs p.table)) may takes) found live)
       ∙ ap (λ z. read_points (λ g. loaded (plain_model piece) g y) (find_table piece.tables z)) table
-      ∙ sym (ap (λ b. if b then read_points (λ g. loaded (plain_model piece) g y) (find_table piece.tables (table_number h.settled)) else []) takes))
+      ∙ sym (ap (λ b. if b then read_points (λ g. loaded (plain_model piece) g y)
+      (find_table piece.tables (table_number h.settled)) else []) takes))
       (λ none.
-      ap (λ b. if b then read_points (λ g. loaded (voice_model areas piece) g x) (find_table piece.tables p.table) else []) none
-      ∙ sym (ap (λ b. if b then read_points (λ g. loaded (plain_model piece) g y) (find_table piece.tables (table_number h.settled)) else []) none))
+      ap (λ b. if b then read_points (λ g. loaded (voice_model areas piece) g x) (find_table piece.tables p.table) else
+      []) none
+      ∙ sym (ap (λ b. if b then read_points (λ g. loaded (plain_model piece) g y)
+      (find_table piece.tables (table_number h.settled)) else []) none))
 
   -- both run, or neither does
   abbrev Ran : Rate → VoiceState × Wave → Plain × Wave → Type 0
-  Ran r v q = SameState N areas kinds (pace_of piece.head) earlier v.0 q.0 × (held piece.head.ksmps r v.1 ≡ held piece.head.ksmps r q.1)
+  Ran r v q = SameState N areas kinds (pace_of piece.head) earlier v.0 q.0
+      × (held piece.head.ksmps r v.1 ≡ held piece.head.ksmps r q.1)
 
   either_ran : (b c : Bool) (r : Rate) (v : VoiceState × Wave) (q : Plain × Wave) (x : VoiceState) (y : Plain) → b ≡ c
       → (b ≡ true → Ran r v q)
@@ -183,26 +204,37 @@ module _ (areas : List Area) (stock : Stock) (piece : Piece) (kinds : Kinds) (N 
   either_ran false true r v q x y e ran s = absurd (cc)
 
   -- a unit over a cycle
-  pub unit_alike : (opcode : Opcode) (r : Rate) (u : ℕ) (reach : Reach) (ws : List Wave) (o : Option Playing) (k : Option History) (x : VoiceState) (y : Plain)
+  pub unit_alike : (opcode : Opcode) (r : Rate) (u : ℕ) (reach : Reach) (ws : List Wave) (o : Option Playing)
+      (k : Option History) (x : VoiceState) (y : Plain)
       → piece.generators ≡ the_generators (pace_of piece.head) → kinds u ≡ (opcode, r)
       → AreNamed N (unit_uses stock opcode reach)
       → SameUnit (pace_of piece.head) (kinds u) o k → SameState N areas kinds (pace_of piece.head) earlier x y
-      → SameState N areas kinds (pace_of piece.head) earlier (unit_does (voice_model areas piece) opcode r u reach ws o x).0 (unit_does (plain_model piece) opcode r u reach ws k y).0
-      × (held piece.head.ksmps r (unit_does (voice_model areas piece) opcode r u reach ws o x).1 ≡ held piece.head.ksmps r (unit_does (plain_model piece) opcode r u reach ws k y).1)
+      → SameState N areas kinds (pace_of piece.head) earlier
+      (unit_does (voice_model areas piece) opcode r u reach ws o x).0
+      (unit_does (plain_model piece) opcode r u reach ws k y).0
+      × (held piece.head.ksmps r (unit_does (voice_model areas piece) opcode r u reach ws o x).1 ≡ held piece.head.ksmps
+      r (unit_does (plain_model piece) opcode r u reach ws k y).1)
   unit_alike opcode r u reach ws None None x y gens kind named same s = (s, refl)
   unit_alike opcode r u reach ws None (Some h) x y gens kind named same s = absurd same
   unit_alike opcode r u reach ws (Some p) None x y gens kind named same s = absurd same
   unit_alike opcode r u reach ws (Some p) (Some h) x y gens kind named same s =
-      let plays : Plays (pace_of piece.head) (opcode, r) p h = subst (λ k. Plays (pace_of piece.head) k p h) kind same in
+      let plays : Plays (pace_of piece.head) (opcode, r) p h =
+      subst (λ k. Plays (pace_of piece.head) k p h) kind same in
       either_ran (may_touch opcode reach p.table) (may_touch opcode reach (table_number h.settled)) r
       (has_run u (has_played r p (played piece.head.ksmps r p ws (unit_points (voice_model areas piece) opcode p x))) x)
-      (has_run u (has_had piece ws (unit_points (plain_model piece) opcode h y) h, generated piece h ws (unit_points (plain_model piece) opcode h y)) y)
+      (has_run u (
+        has_had piece ws (unit_points (plain_model piece) opcode h y) h,
+        generated piece h ws
+            (unit_points (plain_model piece) opcode h y),
+      ) y)
       x y (ap (may_touch opcode reach) plays.table)
       (λ touches.
       let points = points_alike opcode reach p h x y plays.table named touches s in
-      let on = plays_on piece opcode r p h ws (unit_points (voice_model areas piece) opcode p x) (unit_points (plain_model piece) opcode h y) gens plays points in (
+      let on = plays_on piece opcode r p h ws (unit_points (voice_model areas piece) opcode p x)
+      (unit_points (plain_model piece) opcode h y) gens plays points in (
         put_state areas kinds N (pace_of piece.head) earlier u _ _ x y (subst (λ k. Plays (pace_of piece.head) k
             (record p { state = (played piece.head.ksmps r p ws (unit_points (voice_model areas piece) opcode p x)).0 })
             (has_had piece ws (unit_points (plain_model piece) opcode h y) h)) (sym kind) on) s,
-        result_same piece opcode r p h ws (unit_points (voice_model areas piece) opcode p x) (unit_points (plain_model piece) opcode h y) gens plays points,
+        result_same piece opcode r p h ws (unit_points (voice_model areas piece) opcode p x)
+            (unit_points (plain_model piece) opcode h y) gens plays points,
       )) s

@@ -1,5 +1,7 @@
 -- A voice changes no cell but those of what its code may write.
-use Rattle.std.proofs.Common.{◌≡◌, ℕ, ℤ, pos, zero, suc, ◌+◌, ◌-◌, ◌&&◌, Bool, true, false, not, List, [], ◌∷◌, map, nat_le, slice_get, slice_index_or, Option, Some, None, if◌then◌else◌, refl, sym, ◌∙◌, ap, subst}
+use Rattle.std.proofs.Common.{◌≡◌, ℕ, ℤ, pos, zero, suc, ◌+◌, ◌-◌, ◌&&◌, Bool, true, false, not, List, [], ◌∷◌, map}
+use Rattle.std.proofs.Common.{nat_le, slice_get, slice_index_or, Option, Some, None, if◌then◌else◌, refl, sym, ◌∙◌, ap}
+use Rattle.std.proofs.Common.{subst}
 use Rattle.std.specs.Option.{is_some}
 use Rattle.std.proofs.lemmas.Bool.{and_parts}
 use Rattle.cs_base.specs.Limits.{most_delay_samples}
@@ -18,7 +20,8 @@ use Rattle.cs_words.specs.declared.catalogue.Space.{Space}
 use Rattle.cs_words.specs.declared.catalogue.Space.TheVariants as space
 use Rattle.cs_signal.specs.Delay.{delay_length}
 use Rattle.cs_ir.specs.Machine.{Machine, acts, is_done, step, run, gives, write}
-use Rattle.cs_ir.specs.Resources.{Stock, reaches, shape_uses, writes_places, act_writes, tables_within, places_within, zak_place}
+use Rattle.cs_ir.specs.Resources.{Stock, reaches, shape_uses, writes_places, act_writes, tables_within, places_within}
+use Rattle.cs_ir.specs.Resources.{zak_place}
 use Rattle.cs_ir.specs.Waves.{Wave, held, silence, operand, first_values}
 use Rattle.cs_ir.specs.declared.op.Act.{Act}
 use Rattle.cs_ir.specs.declared.op.Act.TheVariants as act
@@ -27,11 +30,15 @@ use Rattle.cs_ir.specs.declared.op.Reach.{Reach}
 use Rattle.cs_ir.specs.declared.register.Reg.{Reg}
 use Rattle.cs_cells.specs.Cells.{in_area}
 use Rattle.cs_cells.specs.declared.footprint.Area.{Area}
-use Rattle.cs_meaning.specs.Model.{Model, loaded, with_value, unit_points, has_run, unit_does, store_into, store_at, cleared, zak_does, lacks_table, delayed, starts, out_to, out_to_numbered}
-use Rattle.cs_meaning.specs.Pieces.{Piece, Table, find_table, table_number, is_there, is_delay, is_live, index, is_cleared, is_between, stored, places_of_indices, steps_of, may_touch, at_place, has_place}
+use Rattle.cs_meaning.specs.Model.{Model, loaded, with_value, unit_points, has_run, unit_does, store_into, store_at}
+use Rattle.cs_meaning.specs.Model.{cleared, zak_does, lacks_table, delayed, starts, out_to, out_to_numbered}
+use Rattle.cs_meaning.specs.Pieces.{Piece, Table, find_table, table_number, is_there, is_delay, is_live, index}
+use Rattle.cs_meaning.specs.Pieces.{is_cleared, is_between, stored, places_of_indices, steps_of, may_touch, at_place}
+use Rattle.cs_meaning.specs.Pieces.{has_place}
 use Rattle.cs_voice_meaning.specs.Placing.{area_of, with_wave, IsPlaced}
 use Rattle.cs_ugen.specs.Generators.{pace_of}
-use Rattle.cs_voice_meaning.specs.VoiceWorld.{Playing, VoiceState, played, has_played, lies_cleared, voice_model, voice_world}
+use Rattle.cs_voice_meaning.specs.VoiceWorld.{Playing, VoiceState, played, has_played, lies_cleared, voice_model}
+use Rattle.cs_voice_meaning.specs.VoiceWorld.{voice_world}
 use Rattle.cs_voice_meaning.specs.Follows.{AreNamed}
 use Rattle.cs_voice_meaning.specs.Voices.{OpsWritten}
 use Rattle.cs_voice_meaning.proofs.Naming.{place_named}
@@ -44,8 +51,11 @@ some_area : (areas : List Area) (place : ℕ) (area : Area) → slice_get areas 
     → (b : Area) × (area_of areas area.res ≡ Some b)
 some_area [] place area h = absurd (cc)
 some_area (x ∷ areas) zero area h =
-    let e : x ≡ area = cc in
-    (x, ap (λ b. if b then Some x else area_of areas area.res) (ap (λ z. same_res z.res area.res) e ∙ same_res_here area.res))
+    let e : x ≡ area = cc in (
+      x,
+      ap (λ b. if b then Some x else area_of areas area.res)
+          (ap (λ z. same_res z.res area.res) e ∙ same_res_here area.res),
+    )
 some_area (x ∷ areas) (suc place) area h = by_case (some_area areas place area h) (same_res x.res area.res)
   where
     by_case : (b : Area) × (area_of areas area.res ≡ Some b) → (t : Bool)
@@ -57,8 +67,10 @@ some_area (x ∷ areas) (suc place) area h = by_case (some_area areas place area
 cleared_place : (piece : Piece) (sp : Space) (reach : Reach) (first last : ℤ) (g : Res)
     → is_cleared piece sp reach first last g ≡ true
     → (n : ℕ) × (zak_place sp n ≡ g) × (has_place piece sp reach n ≡ true)
-cleared_place piece space.Control reach first last (res.ZakK n) h = (n, refl, (and_parts (has_place piece space.Control reach n) (is_between first last n) h).0)
-cleared_place piece space.Audio reach first last (res.ZakA n) h = (n, refl, (and_parts (has_place piece space.Audio reach n) (is_between first last n) h).0)
+cleared_place piece space.Control reach first last (res.ZakK n) h =
+    (n, refl, (and_parts (has_place piece space.Control reach n) (is_between first last n) h).0)
+cleared_place piece space.Audio reach first last (res.ZakA n) h =
+    (n, refl, (and_parts (has_place piece space.Audio reach n) (is_between first last n) h).0)
 cleared_place piece space.Control reach first last (res.Gi n) h = absurd (cc)
 cleared_place piece space.Control reach first last (res.Gk n) h = absurd (cc)
 cleared_place piece space.Control reach first last (res.Ga n) h = absurd (cc)
@@ -96,15 +108,19 @@ module _ (areas : List Area) (stock : Stock) (piece : Piece) (a : ℕ) (placed :
       → (starts model opcode r u is x).shared a ≡ x.shared a
   starts_keep opcode r u is x =
       let samples : ℕ = x.delays + delay_length (pace_of piece.head) (slice_index_or is 0 (pos 0)) in
-      same_cell (takes_table opcode && not (is_there (find_table piece.tables (table_number is)))) _ _ (x.shared a) (λ e. refl)
+      same_cell (takes_table opcode && not (is_there (find_table piece.tables (table_number is)))) _ _ (x.shared a)
+      (λ e. refl)
       (same_cell (is_delay opcode) (delayed model samples opcode r u is x) _ (x.shared a)
       (λ e. same_cell (nat_le samples most_delay_samples) _ _ (x.shared a) (λ e. refl) refl) refl)
 
-  unit_keeps : (opcode : Opcode) (r : Rate) (u : ℕ) (reach : Reach) (ws : List Wave) (o : Option Playing) (x : VoiceState)
+  unit_keeps : (opcode : Opcode) (r : Rate) (u : ℕ) (reach : Reach) (ws : List Wave) (o : Option Playing)
+      (x : VoiceState)
       → (unit_does model opcode r u reach ws o x).0.shared a ≡ x.shared a
   unit_keeps opcode r u reach ws None x = refl
   unit_keeps opcode r u reach ws (Some p) x =
-      same_cell_of (may_touch opcode reach p.table) (has_run u (has_played r p (played piece.head.ksmps r p ws (unit_points model opcode p x))) x) (x, silence) (x.shared a) refl refl
+      same_cell_of (may_touch opcode reach p.table)
+      (has_run u (has_played r p (played piece.head.ksmps r p ws (unit_points model opcode p x))) x) (x, silence)
+      (x.shared a) refl refl
 
   live_is : (f : Option (List ℤ)) → not (is_some f) ≡ true → f ≡ None
   live_is None h = refl
@@ -115,7 +131,9 @@ module _ (areas : List Area) (stock : Stock) (piece : Piece) (a : ℕ) (placed :
       → (store_into model r ws o x).shared a ≡ x.shared a
   table_keeps r ws None x named = refl
   table_keeps r ws (Some t) x named = same_cell (is_live t) _ x (x.shared a)
-      (λ live. kept_by_wave (area_of areas (res.Table t.number)) (stored (places_of_indices t (operand 1 ws)) (operand 0 ws) (steps_of piece.head.ksmps r) (loaded model (res.Table t.number) x)) x.shared
+      (λ live. kept_by_wave (area_of areas (res.Table t.number))
+      (stored (places_of_indices t (operand 1 ws)) (operand 0 ws) (steps_of piece.head.ksmps r)
+      (loaded model (res.Table t.number) x)) x.shared
       (named t refl (live_is t.frozen live))) refl
 
   store_keeps : (r : Rate) (reach : Reach) (ws : List Wave) (i : Option ℕ) (x : VoiceState)
@@ -124,15 +142,18 @@ module _ (areas : List Area) (stock : Stock) (piece : Piece) (a : ℕ) (placed :
   store_keeps r reach ws None x named = refl
   store_keeps r reach ws (Some n) x named = same_cell (reaches reach n) _ x (x.shared a)
       (λ touches. table_keeps r ws (find_table piece.tables (pos n)) x
-      (λ t found live. table_named areas stock piece (λ u. (op.Tablew, r)) (λ g. in_area (area_of areas g) a ≡ false) [] placed reach (pos n) t named touches found live)) refl
+      (λ t found live. table_named areas stock piece (λ u. (op.Tablew, r)) (λ g. in_area (area_of areas g) a ≡ false) []
+      placed reach (pos n) t named touches found live)) refl
 
   place_keeps : (sp : Space) (reach : Reach) (i : Option ℕ) (x : VoiceState) (w : Res → Wave)
       → AreNamed (λ g. in_area (area_of areas g) a ≡ false) (places_within stock sp reach)
       → (at_place piece sp reach i x (λ g. with_value model g (w g) x)).shared a ≡ x.shared a
   place_keeps sp reach None x w named = refl
-  place_keeps sp reach (Some n) x w named = same_cell (has_place piece sp reach n) (with_value model (zak_place sp n) (w (zak_place sp n)) x) x (x.shared a)
+  place_keeps sp reach (Some n) x w named =
+      same_cell (has_place piece sp reach n) (with_value model (zak_place sp n) (w (zak_place sp n)) x) x (x.shared a)
       (λ there. kept_by_wave (area_of areas (zak_place sp n)) (w (zak_place sp n)) x.shared
-      (place_named (λ g. in_area (area_of areas g) a ≡ false) stock piece.spaces sp reach n placed.spaces named there)) refl
+      (place_named (λ g. in_area (area_of areas g) a ≡ false) stock piece.spaces sp reach n placed.spaces named there))
+      refl
 
   clear_keeps : (sp : Space) (reach : Reach) (first last : ℤ) (x : VoiceState)
       → AreNamed (λ g. in_area (area_of areas g) a ≡ false) (places_within stock sp reach)
@@ -146,11 +167,14 @@ module _ (areas : List Area) (stock : Stock) (piece : Piece) (a : ℕ) (placed :
       let both = and_parts (in_area (Some found.1) a) (clears found.1.res) found.3 in
       let own = some_area areas found.0 found.1 found.2 in
       let at = area_at areas found.1.res own.0 own.1 in
-      let one : found.0 ≡ at.0 = placed.laid.apart found.0 at.0 found.1.res (found.1, found.2, refl) (own.0, at.1, at.2) in
+      let one : found.0 ≡ at.0 =
+      placed.laid.apart found.0 at.0 found.1.res (found.1, found.2, refl) (own.0, at.1, at.2) in
       let some : Some found.1 ≡ Some own.0 = sym found.2 ∙ ap (slice_get areas) one ∙ at.1 in
       let place = cleared_place piece sp reach first last found.1.res both.1 in
       let outside : in_area (area_of areas found.1.res) a ≡ false =
-      subst (λ g. in_area (area_of areas g) a ≡ false) place.1 (place_named (λ g. in_area (area_of areas g) a ≡ false) stock piece.spaces sp reach place.0 placed.spaces named place.2) in
+      subst (λ g. in_area (area_of areas g) a ≡ false) place.1
+      (place_named (λ g. in_area (area_of areas g) a ≡ false) stock piece.spaces sp reach place.0 placed.spaces named
+      place.2) in
       let inside : in_area (area_of areas found.1.res) a ≡ true = ap (λ o. in_area o a) (own.1 ∙ sym some) ∙ both.0 in
       absurd (cc))
       (λ f. f) in
@@ -177,14 +201,16 @@ module _ (areas : List Area) (stock : Stock) (piece : Piece) (a : ℕ) (placed :
   zak_keeps shape.Ask reach ws x named = refl
 
   written_keeps : (b : Bool) (into : Reg) (p : VoiceState × Wave) (m : Machine VoiceState) (z : ℤ) → p.0.shared a ≡ z
-      → (if b then write piece.head.ksmps into p.1 (record m { world = p.0 }) else record m { world = p.0 }).world.shared a ≡ z
+      → (if b then write piece.head.ksmps into p.1 (record m { world = p.0 }) else record m
+      { world = p.0 }).world.shared a ≡ z
   written_keeps true into p m z h = h
   written_keeps false into p m z h = h
 
   out_at_keeps : (i : Option ℕ) (w : Wave) (x : VoiceState)
       → (out_to_numbered piece.head.nchnls i w x).shared a ≡ x.shared a
   out_at_keeps None w x = refl
-  out_at_keeps (Some n) w x = same_cell (nat_le 1 n && nat_le n piece.head.nchnls) (out_to (n - 1) w x) x (x.shared a) (λ e. refl) refl
+  out_at_keeps (Some n) w x =
+      same_cell (nat_le 1 n && nat_le n piece.head.nchnls) (out_to (n - 1) w x) x (x.shared a) (λ e. refl) refl
 
   acts_keep : (t : Act) (into : Reg) (ws : List Wave) (m : Machine VoiceState)
       → AreNamed (λ g. in_area (area_of areas g) a ≡ false) (act_writes stock t)
@@ -198,13 +224,16 @@ module _ (areas : List Area) (stock : Stock) (piece : Piece) (a : ℕ) (placed :
   acts_keep act.Pick into ws m h = refl
   acts_keep (act.Call g) into ws m h = refl
   acts_keep (act.Load g) into ws m h = refl
-  acts_keep (act.Save g) into ws m h = kept_by_wave (area_of areas g) (held piece.head.ksmps (res_rate g) (operand 0 ws)) m.world.shared h.0
+  acts_keep (act.Save g) into ws m h =
+      kept_by_wave (area_of areas g) (held piece.head.ksmps (res_rate g) (operand 0 ws)) m.world.shared h.0
   acts_keep (act.Start opcode k) into ws m h = starts_keep opcode into.rate k (first_values ws) m.world
   acts_keep (act.Unit opcode k reach) into ws m h =
-      written_keeps (gives opcode) into (unit_does model opcode into.rate k reach ws (m.world.units k) m.world) m (m.world.shared a)
+      written_keeps (gives opcode) into (unit_does model opcode into.rate k reach ws (m.world.units k) m.world) m
+      (m.world.shared a)
       (unit_keeps opcode into.rate k reach ws (m.world.units k) m.world)
-  acts_keep act.Seek into ws m h = same_cell (lacks_table model (first_values ws)) _ m.world (m.world.shared a) (λ e. refl) refl
-  acts_keep (act.Store opcode reach) into ws m h = store_keeps into.rate reach ws (index (operand 2 ws 0)) m.world h
+  acts_keep act.Seek into ws m h =
+      same_cell (lacks_table model (first_values ws)) _ m.world (m.world.shared a) (λ e. refl) refl
+  acts_keep (act.Store reach) into ws m h = store_keeps into.rate reach ws (index (operand 2 ws 0)) m.world h
   acts_keep (act.Zak opcode reach) into ws m h =
       written_keeps (gives opcode) into (zak_does model (row_of opcode).shape reach ws m.world) m (m.world.shared a)
       (zak_keeps (row_of opcode).shape reach ws m.world h)
@@ -227,5 +256,6 @@ module _ (areas : List Area) (stock : Stock) (piece : Piece) (a : ℕ) (placed :
   run_keeps place [] m h = refl
   run_keeps place (op ∷ ops) m h =
       run_keeps (place + 1) ops (step (voice_world areas piece) place op m) h.1
-      ∙ either_keeps (is_done (voice_world areas piece) place m) (acts (voice_world areas piece) op.act op.into (map m.regs op.from) m) m (m.world.shared a)
+      ∙ either_keeps (is_done (voice_world areas piece) place m)
+      (acts (voice_world areas piece) op.act op.into (map m.regs op.from) m) m (m.world.shared a)
       (acts_keep op.act op.into (map m.regs op.from) m h.0) refl

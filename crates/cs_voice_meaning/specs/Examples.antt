@@ -1,4 +1,5 @@
--- Small codes that voices play, worked out from the definitions: eight frames a second, four a control cycle, one channel.
+-- Small codes that voices play, worked out from the definitions: eight frames a second, four a control cycle, one
+-- channel.
 use Rattle.std.specs.Prelude.{ℕ, ℤ, pos, ◌*◌, List, [], ◌∷◌, map, replicate, None, true}
 use Rattle.std.specs.List.{range_with_len}
 use Rattle.cs_base.specs.declared.resource.Rate.TheVariants as rate
@@ -63,6 +64,7 @@ sheet uses writes init perf = record {
   age = 0;
   piece = small_piece;
   areas = small_areas;
+  zones = small_areas;
   foot = record { uses = uses; writes = writes };
   init = init;
   perf = perf;
@@ -148,7 +150,8 @@ storing = record (sheet (0 ∷ []) (0 ∷ [])
     ∷ op_of (act.Const (whole 1)) (i 2) []
     ∷ op_of act.Seek (i 0) (i 2 ∷ [])
     ∷ [])
-    (op_of (act.Store op.Tablew (reach.Span 1 1)) (k 0) (i 0 ∷ i 1 ∷ i 2 ∷ []) ∷ [])) {
+    (op_of (act.Store (reach.Span 1 1)) (k 0) (i 0 ∷ i 1 ∷ i 2 ∷ []) ∷ [])) {
       piece = record small_piece { tables = record { number = 1; size = 4; frozen = None; present = true } ∷ [] };
       areas = record { res = res.Table 1; first = 0; length = 4 } ∷ [];
+      zones = record { res = res.Table 1; first = 0; length = 4 } ∷ [];
     }

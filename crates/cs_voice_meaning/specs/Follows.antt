@@ -33,7 +33,7 @@ ActNamed stock kinds N (act.Load g) r = N g
 ActNamed stock kinds N (act.Save g) r = N g × (has_value g ≡ true)
 ActNamed stock kinds N (act.Start opcode u) r = (kinds u ≡ (opcode, r)) × IsUnitOpcode opcode
 ActNamed stock kinds N (act.Unit opcode u reach) r = (kinds u ≡ (opcode, r)) × AreNamed N (unit_uses stock opcode reach)
-ActNamed stock kinds N (act.Store opcode reach) r = AreNamed N (tables_within stock reach)
+ActNamed stock kinds N (act.Store reach) r = AreNamed N (tables_within stock reach)
 ActNamed stock kinds N (act.Zak opcode reach) r = AreNamed N (zak_uses stock opcode reach)
 ActNamed stock kinds N _ r = Unit {0}
 
@@ -60,8 +60,8 @@ SameUnit pace kind (Some p) (Some h) = Plays pace kind p h
 SameUnit pace kind None (Some h) = ⊥
 SameUnit pace kind (Some p) None = ⊥
 
--- The voice's world is in the state of the plain world: what is named has the same value, each unit has come to where its
--- inputs bring it, and the rest is the same; of what it asked for, all but what it had asked for earlier.
+-- The voice's world is in the state of the plain world: what is named has the same value, each unit has come to where
+-- its inputs bring it, and the rest is the same; of what it asked for, all but what it had asked for earlier.
 pub record SameState (N : Res → Type 0) (areas : List Area) (kinds : Kinds) (pace : Pace) (earlier : List (List ℤ))
     (x : VoiceState) (y : Plain) : Type 0 where
   pub shared : (g : Res) → N g → read_cells areas g x.shared ≡ y.shared g
@@ -72,8 +72,8 @@ pub record SameState (N : Res → Type 0) (areas : List Area) (kinds : Kinds) (p
   pub asks : y.asks ≡ earlier ++ x.asks
   pub cause : x.cause ≡ y.cause
 
--- Machines that run the same ops in the voice's world and in the plain one, from the same state, come to the same state: at all
--- resources that have areas, where the ops touch no others.
+-- Machines that run the same ops in the voice's world and in the plain one, from the same state, come to the same
+-- state: at all resources that have areas, where the ops touch no others.
 abbrev pub DoAlike : Type 0
 DoAlike = (areas : List Area) (stock : Stock) (piece : Piece) (kinds : Kinds) (earlier : List (List ℤ)) →
     IsPlaced areas stock piece → piece.generators ≡ the_generators (pace_of piece.head) →

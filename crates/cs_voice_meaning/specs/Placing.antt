@@ -1,5 +1,6 @@
 -- Where what notes share has its cells.
-use Rattle.std.specs.Prelude.{ℕ, ℤ, pos, ◌≡◌, ◌<◌, ◌+◌, ◌-◌, ◌==◌, Bool, true, List, [], ◌∷◌, nat_lt, Option, Some, None, if◌then◌else◌}
+use Rattle.std.specs.Prelude.{ℕ, ℤ, pos, ◌≡◌, ◌<◌, ◌+◌, ◌-◌, ◌==◌, Bool, true, List, [], ◌∷◌, nat_lt, Option, Some}
+use Rattle.std.specs.Prelude.{None, if◌then◌else◌}
 use Rattle.std.specs.List.{list_any}
 use Rattle.cs_base.specs.Rates.{same_res, res_rate}
 use Rattle.cs_base.specs.declared.resource.Rate.{Rate}
@@ -24,7 +25,8 @@ area_of (area ∷ areas) g = if same_res area.res g then Some area else area_of 
 abbrev pub HasArea : List Area → Res → Type 0
 HasArea areas g = (area : Area) × (area_of areas g ≡ Some area)
 
--- what an area's cells hold over a cycle, by how often it changes: its one cell at each frame, or a cell a frame and 0 beyond
+-- what an area's cells hold over a cycle, by how often it changes: its one cell at each frame, or a cell a frame and 0
+-- beyond
 abbrev pub wave_in : Rate → Area → (ℕ → ℤ) → Wave
 wave_in rate.Init area cells = λ j. cells area.first
 wave_in rate.Control area cells = λ j. cells area.first
@@ -61,8 +63,8 @@ pub record IsLiveTable (tables : List Table) (n : ℕ) : Type 0 where
   pub found : find_table tables (pos n) ≡ Some table
   pub live : table.frozen ≡ None
 
--- Areas hold what the notes of a piece share: each has its resource's number of cells, and the zak places and live tables
--- are those of the piece.
+-- Areas hold what the notes of a piece share: each has its resource's number of cells, and the zak places and live
+-- tables are those of the piece.
 pub record IsPlaced (areas : List Area) (stock : Stock) (piece : Piece) : Type 0 where
   pub laid : IsLaid areas
   pub frames : 0 < piece.head.ksmps

@@ -8,9 +8,10 @@ use Rattle.cs_ir.specs.declared.register.Reg.{Reg}
 use Rattle.cs_voice_meaning.specs.VoiceWorld.{Playing}
 use Rattle.cs_voice_meaning.specs.Voices.{Sounding}
 
--- Registers, units and channels fit in so many of each, of so many frames: past the last there is nothing, and each register
--- holds what its rate can hold.
-pub record FitsIn (counts : Counts) (ksmps channels : ℕ) (r : Reg → Wave) (us : ℕ → Option Playing) (o : ℕ → Wave) : Type 0 where
+-- Registers, units and channels fit in so many of each, of so many frames: past the last there is nothing, and each
+-- register holds what its rate can hold.
+pub record FitsIn (counts : Counts) (ksmps channels : ℕ) (r : Reg → Wave) (us : ℕ → Option Playing)
+    (o : ℕ → Wave) : Type 0 where
   pub regs : (q : Reg) → has_register counts q ≡ false → r q ≡ silence
   pub keeps : (q : Reg) → held ksmps q.rate (r q) ≡ r q
   pub units : (u : ℕ) → nat_lt u counts.units ≡ false → us u ≡ None

@@ -1,5 +1,6 @@
 -- A voice as a job: what it plays from, how it begins, what a cycle makes of it, and what it leaves.
-use Rattle.std.specs.Prelude.{ℕ, ℤ, pos, ◌≡◌, ◌||◌, Bool, true, List, [], map, length, nat_lt, Option, Some, None, if◌then◌else◌}
+use Rattle.std.specs.Prelude.{ℕ, ℤ, pos, ◌≡◌, ◌||◌, Bool, true, List, [], map, length, nat_lt, Option, Some, None}
+use Rattle.std.specs.Prelude.{if◌then◌else◌}
 use Rattle.std.specs.List.{list_all, range_with_len, AllByRecursion}
 use Rattle.cs_base.specs.declared.resource.Res.{Res}
 use Rattle.cs_ir.specs.Cycles.{are_of_cycle}
@@ -19,19 +20,21 @@ use Rattle.cs_voice_meaning.specs.Placing.{area_of, HasArea, IsPlaced}
 use Rattle.cs_voice_meaning.specs.VoiceWorld.{Playing, VoiceState, fresh_voice, voice_world}
 use Rattle.cs_voice_meaning.specs.Follows.{Kinds, AreNamed, OpsNamed}
 
--- What a voice plays from: the number of its instrument, its age, which is how many notes were started before it, the piece and
--- the areas that it sounds in, its footprint, and the codes that begin it and perform it.
+-- What a voice plays from: the number of its instrument, its age, which is how many notes were started before it, the
+-- piece and the areas that it sounds in, the zones of these that are claimed as one, its footprint over the zones, and
+-- the codes that begin it and perform it.
 pub record Sheet : Type 0 where
   pub number : ℕ
   pub age : ℕ
   pub piece : Piece
   pub areas : List Area
+  pub zones : List Area
   pub foot : Footprint
   pub init : List Op
   pub perf : List Op
 
--- A voice: what it plays from, its registers and units, the samples of its delays, its output channels, and whether it was
--- turned off.
+-- A voice: what it plays from, its registers and units, the samples of its delays, its output channels, and whether it
+-- was turned off.
 pub record Sounding : Type 0 where
   pub sheet : Sheet
   pub regs : Reg → Wave
@@ -57,10 +60,10 @@ voice_of s m = record {
 
 -- whether a cell is one that the voice may use, or may write
 abbrev pub may_use : Sheet → ℕ → Bool
-may_use s a = covers s.areas s.foot.uses a || covers s.areas s.foot.writes a
+may_use s a = covers s.zones s.foot.uses a || covers s.zones s.foot.writes a
 
 abbrev pub may_write : Sheet → ℕ → Bool
-may_write s a = covers s.areas s.foot.writes a
+may_write s a = covers s.zones s.foot.writes a
 
 -- the cells as the voice sees them: any that it doesn't use is 0
 abbrev pub seen : Sheet → (ℕ → ℤ) → ℕ → ℤ
@@ -96,7 +99,8 @@ left_by v c = map (λ a. if may_write v.sheet a then (cycle v (seen v.sheet (cel
 
 -- a resource has an area of which the voice may use each cell, or may write each cell
 abbrev pub IsUsed : Sheet → Res → Type 0
-IsUsed s g = (area : Area) × (area_of s.areas g ≡ Some area) × ((a : ℕ) → in_area (Some area) a ≡ true → may_use s a ≡ true)
+IsUsed s g = (area : Area) × (area_of s.areas g ≡ Some area)
+    × ((a : ℕ) → in_area (Some area) a ≡ true → may_use s a ≡ true)
 
 abbrev pub IsWritten : Sheet → Res → Type 0
 IsWritten s g = (a : ℕ) → in_area (area_of s.areas g) a ≡ true → may_write s a ≡ true
@@ -112,8 +116,8 @@ has_channel channels _ = true
 abbrev pub have_channels : ℕ → List Op → Bool
 have_channels channels ops = list_all (λ op. has_channel channels op.act) ops
 
--- What can be played: what the codes touch has its area, and in a cycle lies in the footprint; each unit is of one kind, each
--- channel is there; and a cycle takes no memory and refuses nothing.
+-- What can be played: what the codes touch has its area, and in a cycle lies in the footprint; each unit is of one
+-- kind, each channel is there; and a cycle takes no memory and refuses nothing.
 pub record IsPlayable (s : Sheet) : Type 0 where
   pub stock : Stock
   pub kinds : Kinds
@@ -131,7 +135,7 @@ IsSound v = IsPlayable v.sheet
 -- what a voice means as a job
 abbrev pub voice_means : Meaning Sounding
 voice_means = record {
-  areas = λ v. v.sheet.areas;
+  areas = λ v. v.sheet.zones;
   foot = λ v. v.sheet.foot;
   after = performed;
   leaves = left_by;

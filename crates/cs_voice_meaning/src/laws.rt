@@ -6,9 +6,11 @@ ghost use Rattle.cs_voice_meaning.specs.Follows.{DoAlike};
 ghost use Rattle.cs_ir.specs.Validity.{fine_from};
 ghost use Rattle.cs_ir.specs.declared.register.Counts.{Counts};
 ghost use Rattle.cs_voice_meaning.specs.Room.{VoiceFits};
-ghost use Rattle.cs_voice_meaning.specs.Voices.{Sheet, Sounding, IsPlayable, IsSound, initialised, voice_means, performed, left_by, cycle, voice_of};
+ghost use Rattle.cs_voice_meaning.specs.Voices.{Sheet, Sounding, IsPlayable, IsSound, cycle, initialised, left_by};
+ghost use Rattle.cs_voice_meaning.specs.Voices.{performed, voice_means, voice_of};
 
-/// A code does in the voice's world, over cells and the states of units, what it does in the plain world of the meaning.
+/// A code does in the voice's world, over cells and the states of units, what it does in the plain world of the
+/// meaning.
 pub fn voices_stand_for_notes()
     ensures { DoAlike }
 {}
@@ -29,11 +31,12 @@ pub fn cycles_refuse_nothing()
         × ((cycle v cells).world.asks ≡ []) × ((cycle v cells).world.delays ≡ v.delays) }
 {}
 
-/// A voice that plays valid codes needs the registers and units that they count, and the channels and frames of its piece:
-/// past these there is nothing, as it begins and after each cycle.
+/// A voice that plays valid codes needs the registers and units that they count, and the channels and frames of its
+/// piece: past these there is nothing, as it begins and after each cycle.
 pub fn voices_fit_their_room()
     ensures begins { (s : Sheet) (counts : Counts) (cells : ℕ → ℤ) → IsPlayable s
         → fine_from counts (length s.init) 0 s.init ≡ true → VoiceFits counts (voice_of s (initialised s cells)) }
     ensures goes_on { (v : Sounding) (counts : Counts) (c : Cells) → IsSound v
-        → fine_from counts (length v.sheet.perf) 0 v.sheet.perf ≡ true → VoiceFits counts v → VoiceFits counts (performed v c) }
+        → fine_from counts (length v.sheet.perf) 0 v.sheet.perf ≡ true → VoiceFits counts v
+        → VoiceFits counts (performed v c) }
 {}

@@ -1,6 +1,6 @@
 -- What is found of tables on the way: how often each number is given, which are given first, and which may be written.
-use Rattle.std.specs.Prelude.{ℕ, zero, suc, ◌≡◌, ◌<◌, ◌||◌, ◌&&◌, Bool, true, false, not, List, map, slice_index_or}
-use Rattle.std.specs.Prelude.{None}
+use Rattle.std.specs.Prelude.{ℕ, zero, suc, ◌≡◌, ◌<◌, ◌||◌, ◌&&◌, Bool, true, false, not, List, [], ◌∷◌, map}
+use Rattle.std.specs.Prelude.{slice_index_or, None}
 use Rattle.std.specs.List.{list_any}
 use Rattle.cs_base.specs.Rates.{same_res}
 use Rattle.cs_base.specs.declared.resource.Res.TheVariants as res
@@ -12,7 +12,7 @@ use Rattle.cs_ir.specs.declared.op.Op.{Op}
 use Rattle.cs_score.specs.Ranges.{IsTableNumber}
 use Rattle.cs_meaning.specs.Plain.{Table}
 use Rattle.cs_piece.specs.Tables.{Given, firsts, only, table_given, times_given}
-use Rattle.cs_piece.specs.declared.tables.First.{First}
+use Rattle.cs_piece.specs.declared.tables.GivenTable.{GivenTable}
 use Rattle.cs_piece.specs.declared.tables.Firsts.{Firsts}
 use Rattle.cs_piece.specs.declared.tables.Times.{Times}
 use Rattle.cs_piece.specs.declared.tables.Times.TheVariants as times
@@ -37,7 +37,7 @@ is_once times.Never = false
 is_once times.Once = true
 is_once times.Again = false
 
-abbrev pub given_of : First → Given
+abbrev pub given_of : GivenTable → Given
 given_of f = record { number = f.number; size = f.size; gen = f.gen_; args = f.args.now }
 
 abbrev pub times_at : List Times → ℕ → Times
@@ -79,3 +79,12 @@ frozen_by ts w n = is_once (times_at ts n) && not (is_marked w n)
 
 abbrev pub table_by : List Times → Marks → Given → Table
 table_by ts w g = table_given (frozen_by ts w g.number) g
+
+-- no element has this number; no two of a list have one
+abbrev pub NoneHas : {X : Type 0} → (X → ℕ) → ℕ → List X → Type 0
+NoneHas f n [] = Unit {0}
+NoneHas f n (x ∷ xs) = (f x ≡ n → ⊥) × NoneHas f n xs
+
+abbrev pub Differ : {X : Type 0} → (X → ℕ) → List X → Type 0
+Differ f [] = Unit {0}
+Differ f (x ∷ xs) = NoneHas f (f x) xs × Differ f xs

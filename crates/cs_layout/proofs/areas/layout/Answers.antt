@@ -1,5 +1,7 @@
-use Rattle.std.proofs.Common.{◌≡◌, ◌∙◌, arith, sym, subst, Err, IfNone, IfSome}
+use Rattle.std.proofs.Common.{◌≡◌, ◌∙◌, ap, arith, sym, subst, Err, IfNone, IfSome}
+use Rattle.cs_base.specs.declared.fault.Or.{Or}
 use Rattle.cs_base.specs.declared.fault.Or.TheVariants as or
+use Rattle.cs_base.specs.declared.limit.LimitHit.{LimitHit}
 use Rattle.cs_cells.specs.Areas.{IsLaid, limit_passed}
 use Rattle.cs_layout.specs.Layouts.{areas_of}
 use Rattle.cs_typed.specs.TypedTree.{shared_names}
@@ -13,15 +15,16 @@ returns-then-count_of-clause-limit c =
     let count = count_is c.args.ksmps (shared_names c.args.globals.now) c.args.spaces c.args.live.now
     c.groups_of-groups.result c.groups_of-groups.ensures c.count_of.result c.count_of.ensures in
     limit_told _ (limit_passed (areas_of c.args.ksmps (shared_names c.args.globals.now) c.args.spaces c.args.live.now))
-    hit_resources c.passed.result
+    hit_resources (or.Fault c.at_no_line.result)
     (resources_passed (areas_of c.args.ksmps (shared_names c.args.globals.now) c.args.spaces c.args.live.now)
-    (let many = c.if-count_of.true in omega (arith, count, many))) c.passed.ensures
+    (let many = c.if-count_of.true in omega (arith, count, many)))
+    (ap (λ (h : LimitHit). or.Fault h) c.at_no_line.ensures)
 
 pub returns-then-count_of-clause-memory : goal.returns-then-count_of-clause-memory
 returns-then-count_of-clause-memory c =
     let count = count_is c.args.ksmps (shared_names c.args.globals.now) c.args.spaces c.args.live.now
     c.groups_of-groups.result c.groups_of-groups.ensures c.count_of.result c.count_of.ensures in
-    subst (λ o. IfNone o (c.passed.result ≡ or.OutOfMemory))
+    subst (λ o. IfNone o (◌≡◌ {A = Or LimitHit} (or.Fault c.at_no_line.result) or.OutOfMemory))
     (sym (resources_passed (areas_of c.args.ksmps (shared_names c.args.globals.now) c.args.spaces c.args.live.now)
     (let many = c.if-count_of.true in omega (arith, count, many)))) tt
 
@@ -32,11 +35,11 @@ returns-then-words_of-clause-limit c =
     let words = words_is c.args.ksmps (shared_names c.args.globals.now) c.args.spaces c.args.live.now
     c.groups_of-groups.result c.groups_of-groups.ensures c.words_of.result c.words_of.ensures in
     limit_told _ (limit_passed (areas_of c.args.ksmps (shared_names c.args.globals.now) c.args.spaces c.args.live.now))
-    hit_words c.passed-then-words_of.result
+    hit_words (or.Fault c.at_no_line-then-words_of.result)
     (words_passed (areas_of c.args.ksmps (shared_names c.args.globals.now) c.args.spaces c.args.live.now)
     (let few = c.if-count_of.false in omega (arith, count, few))
     (let many = c.if-words_of.true in omega (arith, words, many)))
-    c.passed-then-words_of.ensures
+    (ap (λ (h : LimitHit). or.Fault h) c.at_no_line-then-words_of.ensures)
 
 pub returns-then-words_of-clause-memory : goal.returns-then-words_of-clause-memory
 returns-then-words_of-clause-memory c =
@@ -44,7 +47,7 @@ returns-then-words_of-clause-memory c =
     c.groups_of-groups.result c.groups_of-groups.ensures c.count_of.result c.count_of.ensures in
     let words = words_is c.args.ksmps (shared_names c.args.globals.now) c.args.spaces c.args.live.now
     c.groups_of-groups.result c.groups_of-groups.ensures c.words_of.result c.words_of.ensures in
-    subst (λ o. IfNone o (c.passed-then-words_of.result ≡ or.OutOfMemory))
+    subst (λ o. IfNone o (◌≡◌ {A = Or LimitHit} (or.Fault c.at_no_line-then-words_of.result) or.OutOfMemory))
     (sym (words_passed (areas_of c.args.ksmps (shared_names c.args.globals.now) c.args.spaces c.args.live.now)
     (let few = c.if-count_of.false in omega (arith, count, few))
     (let many = c.if-words_of.true in omega (arith, words, many)))) tt

@@ -2,7 +2,7 @@ use Rattle.std.proofs.Common.{sym, ◌∙◌, ap, map, subst}
 use Rattle.cs_layout.specs.Layouts.{AreApart}
 use Rattle.cs_piece.specs.Compositions.{live_in}
 use Rattle.cs_piece.specs.Tables.{table_of, tables_in}
-use Rattle.cs_piece.proofs.Apart.{apart_in}
+use Rattle.cs_piece.proofs.Ascending.{apart_in}
 use Rattle.cs_typed.specs.TypedTree as typed
 use Rattle.cs_piece.proofs.setup.ground_of.Goals as goal
 

@@ -5,9 +5,11 @@ use Rattle.cs_turns.proofs.Levels.{foot_for}
 use Rattle.cs_turns.proofs.laws.clashes_are_conflicts.Goals as goal
 
 pub returns-clause-conflict : goal.returns-clause-conflict
-returns-clause-conflict c = λ areas body other f g h k.
-    conflicts areas (touched (stock_of areas) body) (touched (stock_of areas) other) f g (foot_for areas body f h) (foot_for areas other g k)
+returns-clause-conflict c = λ areas zones body other f g over h k.
+    conflicts areas zones over (touched (stock_of areas) body) (touched (stock_of areas) other) f g
+    (foot_for areas zones body f h) (foot_for areas zones other g k)
 
 pub returns-clause-clash : goal.returns-clause-clash
-returns-clause-clash c = λ areas body other f g h k.
-    clashes areas (touched (stock_of areas) body) (touched (stock_of areas) other) f g (foot_for areas body f h) (foot_for areas other g k)
+returns-clause-clash c = λ areas zones body other f g over h k.
+    clashes areas zones over (touched (stock_of areas) body) (touched (stock_of areas) other) f g
+    (foot_for areas zones body f h) (foot_for areas zones other g k)

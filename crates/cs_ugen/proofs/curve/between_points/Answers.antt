@@ -5,4 +5,5 @@ use Rattle.cs_ugen.proofs.curve.between_points.Goals as goal
 
 pub returns-clause-short : goal.returns-clause-short
 returns-clause-short g c = λ h.
-    subst IsShort (sym c.read_between.ensures.value) (between_short (g.C.Curve.points c.args.curve.now) c.args.place c.args.fraction h c.requires.fraction)
+    subst IsShort (sym c.read_between.ensures.value)
+    (between_short (g.C.Curve.points c.args.curve.now) c.args.place c.args.fraction h c.requires.fraction)

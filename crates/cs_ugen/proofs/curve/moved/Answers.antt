@@ -8,6 +8,7 @@ pub exact-requires : goal.exact-requires
 exact-requires c =
     let here = c.requires.here in
     let next = c.requires.next in
-    let line = on_line least greatest c.args.here c.args.next c.args.fraction 65536 c.requires.fraction here.0 next.0 here.1 next.1 in
+    let line = on_line least greatest c.args.here c.args.next c.args.fraction 65536 c.requires.fraction here.0 next.0
+    here.1 next.1 in
     let part = c.requires.part in
     (omega (arith, ints, part, line.0), omega (arith, ints, part, line.1))

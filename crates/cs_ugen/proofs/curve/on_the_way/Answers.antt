@@ -5,7 +5,8 @@ use Rattle.cs_ugen.proofs.curve.on_the_way.Goals as goal
 
 pub moved-requires-clause-part : goal.moved-requires-clause-part
 moved-requires-clause-part c =
-    let rise : to_z w64 (of_z w64 (to_z w64 (of_z w64 c.raw.result) -ℤ to_z w64 (of_z w64 c.raw-2.result))) ≡ c.args.next -ℤ c.args.here = omega (arith, ints) in
+    let rise : to_z w64 (of_z w64 (to_z w64 (of_z w64 c.raw.result) -ℤ to_z w64 (of_z w64 c.raw-2.result)))
+    ≡ c.args.next -ℤ c.args.here = omega (arith, ints) in
     let parts = by_parts (c.args.next -ℤ c.args.here) c.args.fraction in
     let upper = rw rise at c.upper.ensures.value in
     let lower = rw rise at c.lower.ensures.value in

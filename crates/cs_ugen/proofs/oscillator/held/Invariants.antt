@@ -6,5 +6,6 @@ use Rattle.cs_ugen.proofs.oscillator.held.Given as goal
 
 abbrev pub invariant-loop-j : goal.invariant-loop-j
 invariant-loop-j g l =
-    HasRun (wave_step g.R.Reading.on_turn) (λ j. l.fn.amp ∷ l.fn.cps ∷ g.C.Curve.points l.fn.curve) l.fn.unit (length l.fn.out) l.j (at_phase l.fn.unit l.phase) l.out
+    HasRun (wave_step g.R.Reading.on_turn) (λ j. l.fn.amp ∷ l.fn.cps ∷ g.C.Curve.points l.fn.curve) l.fn.unit
+    (length l.fn.out) l.j (at_phase l.fn.unit l.phase) l.out
     × (l.phase < turn) × (g.C.Curve.points l.curve ≡ g.C.Curve.points l.fn.curve) × g.C.Curve.kept l.fn.curve l.curve

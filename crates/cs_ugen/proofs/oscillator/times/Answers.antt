@@ -11,7 +11,8 @@ returns-clause-value c =
     let hy = c.requires.y in
     let ex : to_z w64 (of_z w64 x) ≡ x = omega (arith, ints, hx.0, hx.1) in
     let ey : to_z w64 (of_z w64 y) ≡ y = omega (arith, ints, hy.0, hy.1) in
-    let small : unsigned_abs (x *ℤ y) ≤ 2147483648 * 2147483648 = product_within x y 2147483648 2147483648 (omega (arith, ints, hx.0, hx.1)) (omega (arith, ints, hy.0, hy.1)) in
+    let small : unsigned_abs (x *ℤ y) ≤ 2147483648 * 2147483648 =
+    product_within x y 2147483648 2147483648 (omega (arith, ints, hx.0, hx.1)) (omega (arith, ints, hy.0, hy.1)) in
     let whole : to_z w64 (of_z w64 (x *ℤ y)) ≡ x *ℤ y = omega (arith, ints, small) in
     ap (λ z. to_z w64 (of_z w64 (z *ℤ to_z w64 (of_z w64 y)))) ex ∙ ap (λ z. to_z w64 (of_z w64 (x *ℤ z))) ey ∙ whole
 

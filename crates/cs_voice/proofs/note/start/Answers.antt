@@ -35,8 +35,8 @@ pub returns-in-Some-clause-started : goal.returns-in-Some-clause-started
 returns-in-Some-clause-started g c =
     let s = sheet_for c.args.note.now c.args.fields.items in
     let before = cell (g.B.Bank.cells c.args.bank.now) in
-    subst (λ x. IsStarted s (initialised s before) x) (sym c.refused.ensures)
-    (refused_so s (initialised s before) c.in-Some.refusal
+    subst (λ x. IsStarted s c.args.note.now.until (initialised s before) x) (sym c.refused.ensures)
+    (refused_so s c.args.note.now.until (initialised s before) c.in-Some.refusal
     (cause_left s c.in_ok-state.state c.pass.new.state before (cell (g.B.Bank.cells c.pass.new.bank))
     c.args.asks.now.items c.pass.new.asks.items c.in_ok-refusal.refusal c.in_ok-state.ensures.machine
     (c.in_ok-refusal.ensures.passes c.args.fields.items c.deref.ensures.value)
@@ -70,12 +70,12 @@ pub returns-clause-started : goal.returns-clause-started
 returns-clause-started g c =
     let s = sheet_for c.args.note.now c.args.fields.items in
     let before = cell (g.B.Bank.cells c.args.bank.now) in
-    subst (λ v. IsLive s (initialised s before) v) (sym c.in_ok-voice.ensures)
+    subst (λ v. IsLive s c.args.note.now.until (initialised s before) v) (sym c.in_ok-voice.ensures)
     (live s c.in_ok-state.state c.pass.new.state before (cell (g.B.Bank.cells c.pass.new.bank)) c.args.asks.now.items
     c.pass.new.asks.items c.in_ok-refusal.refusal c.in_ok-state.ensures.machine
     (c.in_ok-refusal.ensures.passes c.args.fields.items c.deref.ensures.value)
-    c.number-number.result c.args.note.now.age c.args.note.now.stage c.args.note.now.foot.now c.perf-perf.result.now
-    c.args.fields.items
+    c.number-number.result c.args.note.now.age c.args.note.now.until c.args.note.now.stage c.args.note.now.foot.now
+    c.perf-perf.result.now c.args.fields.items
     (none_if c.in_ok-refusal.refusal c.in_default.not-Some)
     (on_sheet c.args.note.now c.number-number.result c.args.fields.items c.perf-perf.result.now
     c.in_ok-state.state.regs.counts c.pass.new.state c.requires.playable c.number-number.ensures

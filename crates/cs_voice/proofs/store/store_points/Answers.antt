@@ -20,7 +20,7 @@ store-requires-clause-write g c =
     (sym c.stored_area.ensures.value ∙ c.in-Some.is) c.requires.write).write
 
 pub returns-in-Some-clause-does : goal.returns-in-Some-clause-does
-returns-in-Some-clause-does g c = λ opcode into same areas piece stock kinds counts at placed state.
+returns-in-Some-clause-does g c = λ into same areas piece stock kinds counts at placed state.
     let s = c.args.state.now in
     let before = cell (g.B.Bank.cells c.args.bank.now) in
     let after = cell (g.B.Bank.cells c.store.new.bank) in
@@ -29,7 +29,7 @@ returns-in-Some-clause-does g c = λ opcode into same areas piece stock kinds co
     ap (λ l. stored_area l c.args.reach (index (values s.regs by.table 0))) (sym at.layout)
     ∙ ap (λ z. stored_area c.args.at.now.layout.now c.args.reach (index z)) (sym c.first.ensures)
     ∙ sym c.stored_area.ensures.value ∙ c.in-Some.is in
-    store_done areas piece stock kinds counts opcode c.args.reach into by.signal by.index by.table s before after placed
+    store_done areas piece stock kinds counts c.args.reach into by.signal by.index by.table s before after placed
     state
     (subst (λ o. Stores o (steps_of s.regs.ksmps into.rate) (values s.regs by.signal) (values s.regs by.index) before
     after) (sym there)
@@ -43,7 +43,7 @@ returns-in-Some-clause-does g c = λ opcode into same areas piece stock kinds co
     (λ i j. c.operand-signal.ensures.value j i) (λ i j. c.operand-index.ensures.value j i) c.store.ensures.cells))
 
 pub returns-in_default-clause-does : goal.returns-in_default-clause-does
-returns-in_default-clause-does g c = λ opcode into same areas piece stock kinds counts at placed state.
+returns-in_default-clause-does g c = λ into same areas piece stock kinds counts at placed state.
     let s = c.args.state.now in
     let before = cell (g.B.Bank.cells c.args.bank.now) in
     let by = c.args.storing in
@@ -51,7 +51,7 @@ returns-in_default-clause-does g c = λ opcode into same areas piece stock kinds
     ap (λ l. stored_area l c.args.reach (index (values s.regs by.table 0))) (sym at.layout)
     ∙ ap (λ z. stored_area c.args.at.now.layout.now c.args.reach (index z)) (sym c.first.ensures)
     ∙ sym c.stored_area.ensures.value ∙ c.in_default.is in
-    store_done areas piece stock kinds counts opcode c.args.reach into by.signal by.index by.table s before before
+    store_done areas piece stock kinds counts c.args.reach into by.signal by.index by.table s before before
     placed state
     (subst (λ o. Stores o (steps_of s.regs.ksmps into.rate) (values s.regs by.signal) (values s.regs by.index) before
     before) (sym none) refl)

@@ -16,7 +16,7 @@ use Rattle.cs_voice.proofs.zak.zak_get.Goals as goal
 
 pub read-requires-clause-size : goal.read-requires-clause-size
 read-requires-clause-size g c =
-    c.requires.sized.cells c.in-Some.res c.area_in-area.result c.area_in-area.ensures.value
+    c.requires.able.sized.cells c.in-Some.res c.area_in-area.result c.area_in-area.ensures.value
     (reached_value c.args.at.now c.args.within.space c.args.within.reach (index c.first.result) c.in-Some.res
     (sym c.place.ensures ∙ c.in-Some.is))
     ∙ ap (cell_count c.args.state.now.regs.ksmps) (sym c.rate.ensures)

@@ -39,7 +39,7 @@ returns-in-Some-clause-does g c = λ opcode into shaped areas piece stock kinds 
     ∙ ap (λ cells. machine_of c.args.state.now cells next asks cause)
     (mixed_here areas res c.area_in-area.result w c.row.result.now ksmps piece.head.ksmps before after
     (ap (λ l. area_of l res) (sym at.layout) ∙ c.area_in-area.ensures.value) sound
-    (c.requires.sized.cells res c.area_in-area.result c.area_in-area.ensures.value
+    (c.requires.able.sized.cells res c.area_in-area.result c.area_in-area.ensures.value
     (reached_value c.args.at.now space.Audio c.args.reach (index (v 0)) res here) ∙ ap (cell_count ksmps) sound)
     c.row.ensures.long state.frames
     (c.row.ensures.value ∙ ap (values c.args.state.now.regs) (sound_register c.args.x c.requires.sound))

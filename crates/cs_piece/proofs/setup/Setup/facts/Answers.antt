@@ -9,6 +9,9 @@ returns-clause-sizes c = (subst IsSetup c.self.view_is c.self.invariant).sizes
 pub returns-clause-laid : goal.returns-clause-laid
 returns-clause-laid c = laid_is c.args.self.now (subst IsSetup c.self.view_is c.self.invariant)
 
+pub returns-clause-zones : goal.returns-clause-zones
+returns-clause-zones c = (subst IsSetup c.self.view_is c.self.invariant).zones_are
+
 pub returns-clause-bounded : goal.returns-clause-bounded
 returns-clause-bounded c =
     let is = subst IsSetup c.self.view_is c.self.invariant in

@@ -1,11 +1,14 @@
-use Rattle.std.proofs.Common.{ap, subst}
+use Rattle.std.proofs.Common.{◌∙◌, ap, map, subst}
 use Rattle.cs_piece.specs.Setups.{IsSetup, SetupData}
-use Rattle.cs_piece.proofs.Staged.{is_stage}
+use Rattle.cs_piece.proofs.Staged.{is_stage, tables_found}
 use Rattle.cs_piece.proofs.setup.Setup.stage.Goals as goal
+use Rattle.cs_voice.specs.Memory.{table_of}
 
 pub returns-clause-stage : goal.returns-clause-stage
 returns-clause-stage c =
-    is_stage c.args.self.now (subst IsSetup c.self.view_is c.self.invariant) _
-    (ap (λ (s : SetupData). s.orchestra.head) c.self.view_is)
-    (ap (λ (s : SetupData). s.layout) c.self.view_is) (ap (λ (s : SetupData). s.orchestra.spaces) c.self.view_is)
-    c.requires
+    let is : IsSetup c.args.self.now = subst IsSetup c.self.view_is c.self.invariant in
+    is_stage c.args.self.now is _ (ap (λ (s : SetupData). s.orchestra.head) c.self.view_is)
+    (ap (λ (s : SetupData). s.layout) c.self.view_is) (ap (λ (s : SetupData). s.zones) c.self.view_is)
+    (ap (λ (s : SetupData). s.orchestra.spaces) c.self.view_is)
+    (ap (map table_of) c.deref.ensures.value ∙ ap (λ (s : SetupData). map table_of s.tables) c.self.view_is
+    ∙ tables_found c.args.self.now is)

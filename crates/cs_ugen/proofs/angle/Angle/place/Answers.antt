@@ -14,4 +14,5 @@ returns-clause-value c = c.upper.ensures ∙ place_of c.times.result (c.args.sel
 
 pub returns-clause-inside : goal.returns-clause-inside
 returns-clause-inside c =
-    subst (λ p. p < c.args.len) (sym (returns-clause-value c)) (place_inside c.args.self c.args.len c.times.ensures.small c.requires.some)
+    subst (λ p. p < c.args.len) (sym (returns-clause-value c))
+    (place_inside c.args.self c.args.len c.times.ensures.small c.requires.some)

@@ -8,8 +8,8 @@ perform-requires g c =
     let b = c.args.self.now in
     let at : Setting = record
     { head = b.stage.head; layout = b.stage.layout; spaces = b.stage.spaces; fields = c.deref.result } in (
-      context b.number b.age b.stage b.foot.now b.code.now b.fields.items b.state c.requires.body,
-      able b.number b.age b.stage b.foot.now b.code.now b.fields.items b.state c.requires.body c.begin.new.state
+      context b.number b.age b.until b.stage b.foot.now b.code.now b.fields.items b.state c.requires.body,
+      able b.number b.age b.until b.stage b.foot.now b.code.now b.fields.items b.state c.requires.body c.begin.new.state
           c.begin.ensures.silent c.begin.ensures.channels c.begin.ensures.frames c.begin.ensures.same
           at refl refl refl c.deref.ensures.value c.deref-2.result.now c.deref-2.ensures.value _ _ _ c.requires.get
           c.requires.set c.requires.cells,
@@ -20,7 +20,7 @@ returns-clause-job g c =
     let b = c.args.self.now in
     let at : Setting = record
     { head = b.stage.head; layout = b.stage.layout; spaces = b.stage.spaces; fields = c.deref.result } in
-    run_job b.number b.age b.stage b.foot.now b.code.now b.fields.items b.state c.requires.body c.begin.new.state
+    run_job b.number b.age b.until b.stage b.foot.now b.code.now b.fields.items b.state c.requires.body c.begin.new.state
     c.begin.ensures.silent c.begin.ensures.channels c.begin.ensures.frames c.begin.ensures.same
     at refl refl refl c.deref.ensures.value c.deref-2.result.now c.deref-2.ensures.value _ _ _ c.requires.get
     c.requires.set c.requires.cells
@@ -32,7 +32,7 @@ returns-clause-cells g c =
     let b = c.args.self.now in
     let at : Setting = record
     { head = b.stage.head; layout = b.stage.layout; spaces = b.stage.spaces; fields = c.deref.result } in
-    run_cells b.number b.age b.stage b.foot.now b.code.now b.fields.items b.state c.requires.body c.begin.new.state
+    run_cells b.number b.age b.until b.stage b.foot.now b.code.now b.fields.items b.state c.requires.body c.begin.new.state
     c.begin.ensures.silent c.begin.ensures.channels c.begin.ensures.frames c.begin.ensures.same
     at refl refl refl c.deref.ensures.value c.deref-2.result.now c.deref-2.ensures.value _ _ _ c.requires.get
     c.requires.set c.requires.cells
@@ -44,7 +44,7 @@ returns-clause-body g c =
     let b = c.args.self.now in
     let at : Setting = record
     { head = b.stage.head; layout = b.stage.layout; spaces = b.stage.spaces; fields = c.deref.result } in
-    run_kept b.number b.age b.stage b.foot.now b.code.now b.fields.items b.state c.requires.body c.begin.new.state
+    run_kept b.number b.age b.until b.stage b.foot.now b.code.now b.fields.items b.state c.requires.body c.begin.new.state
     c.begin.ensures.silent c.begin.ensures.channels c.begin.ensures.frames c.begin.ensures.same
     at refl refl refl c.deref.ensures.value c.deref-2.result.now c.deref-2.ensures.value _ _ _ c.requires.get
     c.requires.set c.requires.cells

@@ -1,0 +1,150 @@
+-- Footprints over zones are those of codes.
+use Rattle.std.proofs.Common.{◌≡◌, ◌<◌, ℕ, suc, Bool, true, false, List, get_or, length, slice_get, Option, Some, refl, sym}
+use Rattle.std.proofs.Common.{◌∙◌, ◌≤◌, None, nat_lt, if◌then◌else◌, ap, subst, arith}
+use Rattle.std.proofs.lemmas.Bool.Decides.{nat_tests}
+use Rattle.cs_base.specs.Limits.{most_resources, most_words}
+use Rattle.cs_base.specs.declared.limit.Limit.TheVariants as limit
+use Rattle.cs_base.proofs.Tests.{by_test}
+use Rattle.std.specs.List.{Contains, range_with_len}
+use Rattle.std.specs.List.Sorted.{IsStrictlyIncreasing}
+use Rattle.std.proofs.lemmas.List.{length-map}
+use Rattle.std.proofs.lemmas.List.Kept.{IsStrictlyIncreasing-filter}
+use Rattle.cs_base.specs.declared.resource.Res.{Res}
+use Rattle.cs_cells.specs.Areas.{IsLaid, limit_passed, word_count}
+use Rattle.cs_cells.specs.Cells.{covers}
+use Rattle.cs_cells.specs.declared.footprint.Area.{Area}
+use Rattle.cs_cells.specs.declared.footprint.Footprint.{Footprint}
+use Rattle.cs_ir.specs.Resources.{ops_use, ops_write}
+use Rattle.cs_ir.specs.declared.op.Code.{Code}
+use Rattle.cs_rwset.specs.Footprints.{is_among, is_of_one, places_holding, stock_of}
+use Rattle.cs_rwset.specs.Zones.{IsFootOver}
+use Rattle.cs_rwset.specs.declared.code.Marks.{Marks}
+use Rattle.cs_rwset.specs.inner.Marks.{marked, marks_of}
+use Rattle.cs_rwset.specs.inner.Zoning.{AreBegins, AreFew, AreKept, AreMarksOf, Stay, heads, zones_of}
+use Rattle.cs_rwset.proofs.Covering.{ops_written_is_used}
+use Rattle.cs_rwset.proofs.Marking.{mark_at, marked_places_are}
+use Rattle.cs_rwset.proofs.Placed.{among_contains, contains_among, contains_filter, contains_range, filter_contains}
+use Rattle.cs_rwset.proofs.Placed.{one_of_is, range_ascends, range_contains}
+use Rattle.cs_rwset.proofs.ZonesCover.{zones_cover}
+use Rattle.cs_rwset.proofs.ZonesLaid.{heads_under, zone_marks}
+
+-- marked places, by the marks
+contains_marked : (marks : List Bool) (p : ℕ) → p < length marks → get_or marks p false ≡ true
+    → Contains (marked marks) p
+contains_marked marks p low h =
+    contains_filter (λ q. get_or marks q false) (range_with_len 0 (length marks)) p (contains_range (length marks) p low) h
+
+marked_contains : (marks : List Bool) (p : ℕ) → Contains (marked marks) p
+    → (p < length marks) × (get_or marks p false ≡ true)
+marked_contains marks p h =
+    let f = filter_contains (λ q. get_or marks q false) (range_with_len 0 (length marks)) p h in
+    (range_contains (length marks) p f.0, f.1)
+
+module _ (areas : List Area) (laid : IsLaid areas) (perf : Code) (m : Marks) (begins : List Bool) (foot : Footprint)
+    (is : AreMarksOf areas perf m) (long : length begins ≡ length areas)
+    (first : 0 < length areas → get_or begins 0 false ≡ true)
+    (stays : (p : ℕ) → suc p < length areas → get_or begins (suc p) false ≡ false → Stay m p (suc p))
+    (uses : foot.uses ≡ marked (heads m.uses.items begins))
+    (writes : foot.writes ≡ marked (heads m.writes.items begins)) where
+  begun : 0 < length begins → get_or begins 0 false ≡ true
+  begun low = first (omega (arith, low, long))
+
+  many : (marks : List Bool) (rs : List Res) → marks ≡ marks_of areas rs → length marks ≡ length areas
+  many marks rs e = ap length e ∙ length-map areas (λ a. is_among rs a.res)
+
+  used_many : length m.uses.items ≡ length areas
+  used_many = many m.uses.items (ops_use (stock_of areas) perf.ops.items) is.uses
+
+  written_many : length m.writes.items ≡ length areas
+  written_many = many m.writes.items (ops_write (stock_of areas) perf.ops.items) is.writes
+
+  covers_same : (marks : List Bool) (rs : List Res) (places : List ℕ) → marks ≡ marks_of areas rs
+      → AreKept begins marks → places ≡ marked (heads marks begins) → (a : ℕ)
+      → covers (zones_of areas begins) places a ≡ covers areas (places_holding areas rs) a
+  covers_same marks rs places e kept p a =
+      ap (λ l. covers (zones_of areas begins) l a) p
+      ∙ zones_cover a marks begins areas laid (many marks rs e) long begun kept
+      ∙ ap (λ l. covers areas (marked l) a) e ∙ ap (λ l. covers areas l a) (marked_places_are areas rs)
+
+  of_more : (o : Option Area) → is_of_one (ops_write (stock_of areas) perf.ops.items) o ≡ true
+      → is_of_one (ops_use (stock_of areas) perf.ops.items) o ≡ true
+  of_more o h =
+      let one = one_of_is (ops_write (stock_of areas) perf.ops.items) o h in
+      subst (λ q. is_of_one (ops_use (stock_of areas) perf.ops.items) q ≡ true) (sym one.1)
+      (contains_among (ops_use (stock_of areas) perf.ops.items) one.0.res
+      (ops_written_is_used (stock_of areas) perf.ops.items one.0.res
+      (among_contains (ops_write (stock_of areas) perf.ops.items) one.0.res one.2)))
+
+  under : (p : ℕ) → get_or m.writes.items p false ≡ true → get_or m.uses.items p false ≡ true
+  under p h =
+      ap (λ l. get_or l p false) is.uses ∙ mark_at areas (ops_use (stock_of areas) perf.ops.items) p
+      ∙ of_more (slice_get areas p)
+      (sym (mark_at areas (ops_write (stock_of areas) perf.ops.items) p) ∙ ap (λ l. get_or l p false) (sym is.writes) ∙ h)
+
+  zones_used : length (heads m.uses.items begins) ≡ length (zones_of areas begins)
+  zones_used = zone_marks m.uses.items begins areas used_many long begun
+
+  zones_written : length (heads m.writes.items begins) ≡ length (zones_of areas begins)
+  zones_written = zone_marks m.writes.items begins areas written_many long begun
+
+  pub foot_is : IsFootOver areas (zones_of areas begins) perf foot
+  foot_is = record {
+    uses = covers_same m.uses.items (ops_use (stock_of areas) perf.ops.items) foot.uses is.uses
+        (λ p low same. (stays p (omega (arith, low, used_many)) same).0) uses;
+    writes = covers_same m.writes.items (ops_write (stock_of areas) perf.ops.items) foot.writes is.writes
+        (λ p low same. (stays p (omega (arith, low, written_many)) same).1) writes;
+    places = record {
+      uses = subst IsStrictlyIncreasing (sym uses)
+          (IsStrictlyIncreasing-filter (λ q. get_or (heads m.uses.items begins) q false)
+          (range_with_len 0 (length (heads m.uses.items begins))) (range_ascends (length (heads m.uses.items begins))));
+      writes = subst IsStrictlyIncreasing (sym writes)
+          (IsStrictlyIncreasing-filter (λ q. get_or (heads m.writes.items begins) q false)
+          (range_with_len 0 (length (heads m.writes.items begins)))
+          (range_ascends (length (heads m.writes.items begins))));
+      within = λ r h. (let c = marked_contains (heads m.uses.items begins) r (subst (λ l. Contains l r) uses h) in
+          let low = c.0 in omega (arith, low, zones_used));
+      written = λ r h. (let c = marked_contains (heads m.writes.items begins) r (subst (λ l. Contains l r) writes h) in
+          let low = c.0 in
+          subst (λ l. Contains l r) (sym uses)
+          (contains_marked (heads m.uses.items begins) r (omega (arith, low, zones_used, zones_written))
+          (heads_under m.writes.items m.uses.items begins (written_many ∙ sym used_many) under r c.1)));
+    };
+  }
+
+-- ---- marks of a layout's areas
+
+pub marks_many : (areas : List Area) (perf : Code) (m : Marks) → AreMarksOf areas perf m
+    → (length m.uses.items ≡ length areas) × (length m.writes.items ≡ length areas)
+marks_many areas perf m is = (
+  ap length is.uses ∙ length-map areas (λ a. is_among (ops_use (stock_of areas) perf.ops.items) a.res),
+  ap length is.writes ∙ length-map areas (λ a. is_among (ops_write (stock_of areas) perf.ops.items) a.res),
+)
+
+pub few_areas : (areas : List Area) → limit_passed areas ≡ None → length areas ≤ most_resources
+few_areas areas none = by_test (nat_lt most_resources (length areas))
+    (λ yes. absurd (let e = sym (ap (λ b. if b then Some (record { limit = limit.Resources; line = 0 })
+    else (if nat_lt most_words (word_count areas) then Some (record { limit = limit.Words; line = 0 }) else None)) yes)
+    ∙ none in cc))
+    (λ few. grind (arith, nat_tests))
+
+pub few_marks : (areas : List Area) (perf : Code) (m : Marks) → length areas ≤ most_resources
+    → AreMarksOf areas perf m → AreFew m
+few_marks areas perf m few is =
+    let many = marks_many areas perf m is in
+    let u = many.0 in let w = many.1 in (omega (arith, u, few), omega (arith, w, few))
+
+-- ---- what is found of a code
+
+module _ (areas : List Area) (laid : IsLaid areas) (begins : List Bool) (n : ℕ) (outside : Marks) (each : List Marks)
+    (are : AreBegins n outside each begins) (same : n ≡ length areas) where
+  pub one_over : (m : Marks) (perf : Code) (zones : List Area) (c d : List Bool) (foot : Footprint)
+      → AreMarksOf areas perf m
+      → ((p : ℕ) → suc p < length areas → get_or begins (suc p) false ≡ false → Stay m p (suc p))
+      → c ≡ begins → zones ≡ zones_of areas c → d ≡ begins
+      → foot.uses ≡ marked (heads m.uses.items d) → foot.writes ≡ marked (heads m.writes.items d)
+      → IsFootOver areas zones perf foot
+  one_over m perf zones c d foot is stays e z f uses writes =
+      subst (λ zs. IsFootOver areas zs perf foot) (sym (z ∙ ap (zones_of areas) e))
+      (foot_is areas laid perf m begins foot is (are.long ∙ same)
+      (λ low. are.first (subst (λ k. 0 < k) (sym same) low)) stays
+      (uses ∙ ap (λ l. marked (heads m.uses.items l)) f) (writes ∙ ap (λ l. marked (heads m.writes.items l)) f))

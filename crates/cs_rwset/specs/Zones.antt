@@ -1,0 +1,27 @@
+-- Zones: neighbouring areas that every code touches together, as one; and the footprints of codes over them.
+use Rattle.std.specs.Prelude.{ℕ, ◌≡◌, ◌<◌, ◌≤◌, List, length}
+use Rattle.std.specs.List.{All}
+use Rattle.cs_cells.specs.Areas.{IsFootprint, IsLaid, word_count}
+use Rattle.cs_cells.specs.Cells.{covers}
+use Rattle.cs_cells.specs.declared.footprint.Area.{Area}
+use Rattle.cs_cells.specs.declared.footprint.Footprint.{Footprint}
+use Rattle.cs_ir.specs.Resources.{ops_use, ops_write}
+use Rattle.cs_ir.specs.declared.op.Code.{Code}
+use Rattle.cs_rwset.specs.Footprints.{places_holding, stock_of}
+
+-- Zones of areas have the same cells, one behind the other, and are no more than there are areas. None is empty where
+-- no area is.
+pub record AreZones (areas zones : List Area) : Type 0 where
+  pub laid : IsLaid zones
+  pub words : word_count zones ≡ word_count areas
+  pub few : length zones ≤ length areas
+  pub some : All (λ (a : Area). 0 < a.length) areas → All (λ (z : Area). 0 < z.length) zones
+
+-- The footprint of a performance code over zones covers exactly the cells of the areas whose resource an op may use, and
+-- of those whose resource one may write.
+pub record IsFootOver (areas zones : List Area) (perf : Code) (foot : Footprint) : Type 0 where
+  pub uses : (a : ℕ) → covers zones foot.uses a
+      ≡ covers areas (places_holding areas (ops_use (stock_of areas) perf.ops.items)) a
+  pub writes : (a : ℕ) → covers zones foot.writes a
+      ≡ covers areas (places_holding areas (ops_write (stock_of areas) perf.ops.items)) a
+  pub places : IsFootprint (length zones) foot

@@ -1,0 +1,60 @@
+-- Zones as they are made: where they begin, and what comes of areas and of marks.
+use Rattle.std.specs.Prelude.{ℕ, ◌≡◌, ◌+◌, ◌<◌, ◌≤◌, suc, Bool, true, false, List, [], ◌∷◌, drop, length}
+use Rattle.std.specs.Prelude.{slice_index_or, if◌then◌else◌}
+use Rattle.std.specs.List.{All}
+use Rattle.cs_base.specs.Limits.{most_resources}
+use Rattle.cs_cells.specs.declared.footprint.Area.{Area}
+use Rattle.cs_ir.specs.Resources.{ops_use, ops_write}
+use Rattle.cs_ir.specs.declared.op.Code.{Code}
+use Rattle.cs_rwset.specs.Footprints.{stock_of}
+use Rattle.cs_rwset.specs.declared.code.Marks.{Marks}
+use Rattle.cs_rwset.specs.inner.Marks.{marks_of}
+
+-- an area and the one behind it, as one
+abbrev pub joined : Area → Area → Area
+joined z a = record { res = z.res; first = z.first; length = z.length + a.length }
+
+-- the zones from one on that isn't closed: each further area begins a zone, or belongs to it
+abbrev pub zones_from : Area → List Area → List Bool → List Area
+zones_from z [] begins = z ∷ []
+zones_from z (a ∷ areas) [] = z ∷ []
+zones_from z (a ∷ areas) (b ∷ begins) =
+    if b then z ∷ zones_from a areas begins else zones_from (joined z a) areas begins
+
+abbrev pub zones_of : List Area → List Bool → List Area
+zones_of [] begins = []
+zones_of (a ∷ areas) begins = zones_from a areas (drop 1 begins)
+
+-- the marks of the places with which zones begin
+abbrev pub heads : List Bool → List Bool → List Bool
+heads [] begins = []
+heads (m ∷ marks) [] = []
+heads (m ∷ marks) (b ∷ begins) = if b then m ∷ heads marks begins else heads marks begins
+
+-- no mark changes within a zone
+abbrev pub AreKept : List Bool → List Bool → Type 0
+AreKept begins marks = (p : ℕ) → suc p < length marks → slice_index_or begins (suc p) false ≡ false
+    → slice_index_or marks p false ≡ slice_index_or marks (suc p) false
+
+-- two neighbouring areas are touched alike
+abbrev pub Stay : Marks → ℕ → ℕ → Type 0
+Stay m p q = (slice_index_or m.uses.items p false ≡ slice_index_or m.uses.items q false)
+    × (slice_index_or m.writes.items p false ≡ slice_index_or m.writes.items q false)
+
+-- no more than a layout may have areas
+abbrev pub AreFew : Marks → Type 0
+AreFew m = (length m.uses.items ≤ most_resources) × (length m.writes.items ≤ most_resources)
+
+-- Of each of so many areas it is said whether a zone begins with it: with the first; and of the others that don't, each
+-- is touched as the one before.
+pub record AreBegins (areas : ℕ) (outside : Marks) (each : List Marks) (begins : List Bool) : Type 0 where
+  pub long : length begins ≡ areas
+  pub first : 0 < areas → slice_index_or begins 0 false ≡ true
+  pub outside_stays : (p : ℕ) → suc p < areas → slice_index_or begins (suc p) false ≡ false → Stay outside p (suc p)
+  pub each_stays : (p : ℕ) → suc p < areas → slice_index_or begins (suc p) false ≡ false
+      → All (λ (m : Marks). Stay m p (suc p)) each
+
+-- the marks of a performance code
+pub record AreMarksOf (areas : List Area) (perf : Code) (m : Marks) : Type 0 where
+  pub uses : m.uses.items ≡ marks_of areas (ops_use (stock_of areas) perf.ops.items)
+  pub writes : m.writes.items ≡ marks_of areas (ops_write (stock_of areas) perf.ops.items)

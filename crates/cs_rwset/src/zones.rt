@@ -1,0 +1,230 @@
+// Zones of a layout, and the footprints of codes over them.
+ghost use Rattle.std.specs.Prelude.{◌≡◌, ◌<◌, ◌≤◌, ◌+◌, ◌-◌, ◌^◌, true, false, length, IfOk};
+ghost use Rattle.std.specs.List.{All, AllZip};
+ghost use Rattle.cs_base.specs.Limits.{most_resources};
+ghost use Rattle.cs_cells.specs.declared.footprint.Footprint.{Footprint};
+ghost use Rattle.cs_ir.specs.Instruments.{Numbered};
+ghost use Rattle.cs_rwset.specs.Zones.{AreZones, IsFootOver};
+ghost use Rattle.cs_rwset.specs.declared.code.Marks.{Marks};
+ghost use Rattle.cs_rwset.specs.inner.Marks.{marked};
+ghost use Rattle.cs_rwset.specs.inner.Zoning.{AreBegins, AreFew, AreMarksOf, Stay, heads, joined, zones_of};
+
+use crate::code::{Marks, marks_of};
+use crate::marks::marked_places;
+use cs_base::{Or, OutOfMemory, Places};
+use cs_cells::{Area, Footprint, Layout};
+use cs_ir::{Code, Instrument};
+use std::alloc::Global;
+
+/// Zones of a layout, and footprints over them.
+#[derive(Drop)]
+pub struct Zoned {
+    /// Each zone as an area, of the resource of the first of its areas.
+    pub zones: Layout,
+    /// What the code outside of instruments may touch.
+    pub outside: Footprint,
+    /// What the codes that perform the instruments may touch, in their order.
+    pub feet: Vec<Footprint>,
+}
+
+/// Zones: neighbouring areas that each of these codes may use together, or not at all, and so with what it may write,
+/// as one; and what each code may touch of them. So a footprint has a place for each zone, however many areas a computed
+/// number may name. It takes as long as the codes have ops and the layout has areas, for each op whose reach is over
+/// many numbers and for each code as long again as the layout has areas. The one error is out of memory.
+pub fn find_zones(
+    alloc: Global,
+    layout: &Layout,
+    outside: &Code,
+    instruments: &[Instrument],
+) -> Result<Zoned, OutOfMemory>
+    ensures zones { IfOk result (λ z. AreZones layout.now z.zones) }
+    ensures outside { IfOk result (λ z. IsFootOver layout.now z.zones outside.now z.outside) }
+    ensures feet { IfOk result (λ z. AllZip (λ (i : Numbered) (foot : Footprint). IsFootOver layout.now z.zones i.perf
+        foot) instruments.now z.feet.items) }
+{
+    // No two areas are of one resource.
+    let _ = layout.words();
+    let outside = marks_of(alloc, &outside.ops, layout)?;
+    let each = marks_of_each(alloc, instruments, layout)?;
+    let begins = begins_of(alloc, layout.len() as usize, &outside, &each)?;
+    Ok(Zoned {
+        zones: layout_of(alloc, layout, &begins)?,
+        outside: foot_over(alloc, &outside, &begins)?,
+        feet: feet_over(alloc, &each, &begins)?,
+    })
+}
+
+fn marks_of_each(
+    alloc: Global,
+    instruments: &[Instrument],
+    layout: &Layout,
+) -> Result<Vec<Marks>, OutOfMemory>
+    ensures { IfOk result (λ v. AllZip (λ (i : Numbered) (m : Marks). AreMarksOf layout.now i.perf m) instruments.now
+        v.items) }
+{
+    let mut each = Vec::with_capacity(alloc, instruments.len())?;
+    for instrument in instruments {
+        each.push(marks_of_one(alloc, instrument, layout)?)?;
+    }
+    Ok(each)
+}
+
+fn marks_of_one(
+    alloc: Global,
+    instrument: &Instrument,
+    layout: &Layout,
+) -> Result<Marks, OutOfMemory>
+    ensures { IfOk result (λ m. AreMarksOf layout.now instrument.now.perf m) }
+{
+    let marks = marks_of(alloc, &instrument.perf().ops, layout)?;
+    Ok(marks)
+}
+
+/// Of each of so many areas, whether a zone begins with it.
+fn begins_of(
+    alloc: Global,
+    areas: usize,
+    outside: &Marks,
+    each: &[Marks],
+) -> Result<Vec<bool>, OutOfMemory>
+    requires outside { (length outside.now.uses.items ≡ areas) × (length outside.now.writes.items ≡ areas) }
+    requires each { All (λ (m : Marks). (length m.uses.items ≡ areas) × (length m.writes.items ≡ areas)) each.now }
+    ensures { IfOk result (λ v. AreBegins areas outside.now each.now v.items) }
+{
+    let mut begins = Vec::with_capacity(alloc, areas)?;
+    for place in 0..areas {
+        begins.push(begins_at(outside, each, place))?;
+    }
+    Ok(begins)
+}
+
+/// Whether a zone begins with an area: with the first, and with each that a code touches otherwise than the one before.
+fn begins_at(outside: &Marks, each: &[Marks], place: usize) -> bool
+    requires outside { (place < length outside.now.uses.items) × (place < length outside.now.writes.items) }
+    requires each { All (λ (m : Marks). (place < length m.uses.items) × (place < length m.writes.items)) each.now }
+    ensures first { place ≡ 0 → result ≡ true }
+    ensures outside { result ≡ false → Stay outside.now (place - 1) place }
+    ensures each { result ≡ false → All (λ (m : Marks). Stay m (place - 1) place) each.now }
+{
+    if place == 0 {
+        return true;
+    }
+    !(stays(outside, place) && all_stay(each, place))
+}
+
+fn stays(marks: &Marks, place: usize) -> bool
+    requires later { 0 < place }
+    requires within { (place < length marks.now.uses.items) × (place < length marks.now.writes.items) }
+    ensures { result ≡ true → Stay marks.now (place - 1) place }
+{
+    marks.uses[place - 1] == marks.uses[place] && marks.writes[place - 1] == marks.writes[place]
+}
+
+fn all_stay(each: &[Marks], place: usize) -> bool
+    requires later { 0 < place }
+    requires within { All (λ (m : Marks). (place < length m.uses.items) × (place < length m.writes.items)) each.now }
+    ensures { result ≡ true → All (λ (m : Marks). Stay m (place - 1) place) each.now }
+{
+    for marks in each {
+        if !stays(marks, place) {
+            return false;
+        }
+    }
+    true
+}
+
+fn layout_of(alloc: Global, layout: &Layout, begins: &[bool]) -> Result<Layout, OutOfMemory>
+    requires { length begins.now ≡ length layout.now }
+    ensures { IfOk result (λ l. l ≡ zones_of layout.now begins.now) }
+{
+    let _ = layout.words();
+    let zones = areas_of(alloc, layout, begins)?;
+    match Layout::build(alloc, &zones) {
+        Ok(zones) => Ok(zones),
+        Err(Or::Fault(_)) => unreachable!(),
+        Err(Or::OutOfMemory) => Err(OutOfMemory),
+    }
+}
+
+/// The zones as areas.
+fn areas_of(alloc: Global, layout: &Layout, begins: &[bool]) -> Result<Vec<Area>, OutOfMemory>
+    requires { length begins.now ≡ length layout.now }
+    ensures { IfOk result (λ v. v.items ≡ zones_of layout.now begins.now) }
+{
+    let mut zones = Vec::new(alloc);
+    if layout.len() == 0 {
+        return Ok(zones);
+    }
+    let _ = layout.words();
+    let mut zone = layout.area(0);
+    for place in 1..layout.len() {
+        let area = layout.area(place);
+        if begins[place as usize] {
+            zones.push(zone)?;
+            zone = area;
+        } else {
+            zone = joined(zone, area);
+        }
+    }
+    zones.push(zone)?;
+    Ok(zones)
+}
+
+fn joined(zone: Area, area: Area) -> Area
+    requires { zone.length + area.length < 2 ^ 32 }
+    ensures { result ≡ joined zone area }
+{
+    Area {
+        res: zone.res,
+        first: zone.first,
+        length: zone.length + area.length,
+    }
+}
+
+fn feet_over(alloc: Global, each: &[Marks], begins: &[bool]) -> Result<Vec<Footprint>, OutOfMemory>
+    requires { All (λ (m : Marks). AreFew m) each.now }
+    ensures { IfOk result (λ v. AllZip (λ (m : Marks) (foot : Footprint). (foot.uses ≡ marked (heads m.uses.items
+        begins.now)) × (foot.writes ≡ marked (heads m.writes.items begins.now))) each.now v.items) }
+{
+    let mut feet = Vec::with_capacity(alloc, each.len())?;
+    for marks in each {
+        feet.push(foot_over(alloc, marks, begins)?)?;
+    }
+    Ok(feet)
+}
+
+/// The zones that are marked, by the areas with which they begin.
+fn foot_over(alloc: Global, marks: &Marks, begins: &[bool]) -> Result<Footprint, OutOfMemory>
+    requires { AreFew marks.now }
+    ensures uses { IfOk result (λ foot. foot.uses ≡ marked (heads marks.now.uses.items begins.now)) }
+    ensures writes { IfOk result (λ foot. foot.writes ≡ marked (heads marks.now.writes.items begins.now)) }
+{
+    Ok(Footprint {
+        uses: places_over(alloc, &marks.uses, begins)?,
+        writes: places_over(alloc, &marks.writes, begins)?,
+    })
+}
+
+fn places_over(alloc: Global, marks: &[bool], begins: &[bool]) -> Result<Places, OutOfMemory>
+    requires { length marks.now ≤ most_resources }
+    ensures { IfOk result (λ places. places ≡ marked (heads marks.now begins.now)) }
+{
+    let heads = heads_of(alloc, marks, begins)?;
+    let count = heads.len() as u32;
+    let places = marked_places(alloc, &heads, count)?;
+    Ok(places)
+}
+
+/// The marks of the areas with which zones begin.
+fn heads_of(alloc: Global, marks: &[bool], begins: &[bool]) -> Result<Vec<bool>, OutOfMemory>
+    ensures heads { IfOk result (λ v. v.items ≡ heads marks.now begins.now) }
+    ensures few { IfOk result (λ v. length v.items ≤ length marks.now) }
+{
+    let mut heads = Vec::new(alloc);
+    for place in 0..marks.len().min(begins.len()) {
+        if begins[place] {
+            heads.push(marks[place])?;
+        }
+    }
+    Ok(heads)
+}
