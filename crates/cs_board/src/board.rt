@@ -51,7 +51,8 @@ pub struct Board<J: Job> {
     pub(crate) notes: u32,
     pub(crate) areas: u32,
     pub(crate) cells: u32,
-    ghost built: { IsBuilt (plan_seen opening.value) graph.value notes areas cells frame.table.shared.table_id.words frame.table.shared.table_id.slots },
+    ghost built: { IsBuilt (plan_seen opening.value) graph.value notes areas cells frame.table.shared.table_id.words
+        frame.table.shared.table_id.slots },
 }
 
 impl<J: Job> Board<J> {

@@ -1,7 +1,8 @@
 // The steps on the board's words, one function each.
 ghost use Rattle.std.specs.Prelude.{◌≡◌, ◌+◌, ◌-◌, ◌<◌, ◌≤◌, ℕ, [], ◌∷◌, Some, None, true, false, slice_get};
 ghost use Rattle.cs_board.specs.Board.{plan, IsIdle, run_through};
-ghost use Rattle.cs_board.specs.inner.Sittings.{IsSittingOf, ClosesAt, MovesAt, MovesOut, deed, job_out, seen, tried, stopped, ran_out};
+ghost use Rattle.cs_board.specs.inner.Sittings.{IsSittingOf, ClosesAt, MovesAt, MovesOut, deed, job_out};
+ghost use Rattle.cs_board.specs.inner.Sittings.{seen, tried, stopped, ran_out};
 ghost use Rattle.cs_graph.specs.Graph.{Edge};
 ghost use Rattle.cs_board.specs.Counts.{listed};
 ghost use Rattle.cs_board.specs.Facts.{turned_in};

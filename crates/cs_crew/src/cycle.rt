@@ -27,7 +27,7 @@ pub fn run_cycle<J: Job + Send + Drop, R: Threads + Wait + Sync, G: Gate + Sync>
     desk: Desk<J>,
     jobs: Vec<J>,
 ) -> (Receipt<J>, Desk<J>, Arc<Graph, Global>)
-    requires { IsCycle J.means graph.value desk jobs.items }
+    requires cycle { IsCycle J.means graph.value desk jobs.items }
     ensures played { WasPlayed J.means desk jobs.items result.0 result.1 }
     ensures graph { result.2.value ≡ graph.value }
 {

@@ -26,3 +26,20 @@ was_played M desk given played rested feet layouts long jobs left over notes wor
   note_room_is = notes;
   word_room_is = words;
 }
+
+-- a cycle over a desk that has the same cells, layout and room is one over the desk itself
+pub played_over : {J : Type 0} (M : Meaning J) (desk same : Desk J) (given played : List J) (rested : Desk J)
+    → cells same ≡ cells desk → areas same ≡ areas desk
+    → note_room same ≡ note_room desk → word_room same ≡ word_room desk
+    → WasPlayed M same given played rested → WasPlayed M desk given played rested
+played_over M desk same given played rested left over notes words was = record {
+  jobs_are = was.jobs_are ∙ ap (serial_jobs M given) left;
+  cells_are = was.cells_are ∙ ap (serial_cells M given) left;
+  notes = was.notes;
+  footprints = was.footprints;
+  layouts = was.layouts;
+  areas_are = was.areas_are ∙ over;
+  count = was.count ∙ ap length left;
+  note_room_is = was.note_room_is ∙ notes;
+  word_room_is = was.word_room_is ∙ words;
+}

@@ -1,5 +1,6 @@
 -- The end of a cycle: what a board at rest has, and what the next cycle finds.
-use Rattle.std.proofs.Common.{◌≡◌, ℕ, zero, suc, ◌+◌, ◌<◌, ◌≤◌, List, [], ◌∷◌, ◌++◌, map, length, get_or, take, drop, true, false, Some, None, refl, sym, ap, ◌∙◌, subst, arith, slice_get}
+use Rattle.std.proofs.Common.{◌≡◌, ℕ, zero, suc, ◌+◌, ◌<◌, ◌≤◌, List, [], ◌∷◌, ◌++◌, map, length, get_or, take, drop}
+use Rattle.std.proofs.Common.{false, Some, None, refl, sym, ap, ◌∙◌, subst, arith, slice_get}
 use Rattle.std.proofs.lemmas.Option.{same_Some, slice_get_within, slice_get-get_or}
 use Rattle.std.specs.List.{Contains}
 use Rattle.atomic_table.specs.Seated.{TableId}
@@ -27,7 +28,8 @@ took xs i x h = let e : i + 1 ≡ suc i = omega arith in ap (λ j. take j xs) e 
     go (y ∷ ys) zero x h = ap (λ z. z ∷ []) (same_Some _ _ h)
     go (y ∷ ys) (suc i) x h = ap (λ z. y ∷ z) (go ys i x h)
 
-map_at : {A B : Type 0} (f : A → B) (xs : List A) (i : ℕ) (x : A) → slice_get xs i ≡ Some x → slice_get (map f xs) i ≡ Some (f x)
+map_at : {A B : Type 0} (f : A → B) (xs : List A) (i : ℕ) (x : A) → slice_get xs i ≡ Some x
+    → slice_get (map f xs) i ≡ Some (f x)
 map_at f [] i x h = absurd (cc)
 map_at f (y ∷ ys) zero x h = ap Some (ap f (same_Some _ _ h))
 map_at f (y ∷ ys) (suc i) x h = map_at f ys i x h
@@ -52,22 +54,28 @@ module _ {J : Type 0} (M : Meaning J) (F : Frames M) (k : Plan J) (whole : IsPla
   -- the job that a note leaves has the note's footprint
   pub left_writes : (t : ℕ) (j : J) → slice_get left_jobs t ≡ Some j → (M.foot j).writes ≡ places_written M k t
   left_writes t j at_ =
-      let low : t < length k.jobs = omega (arith, slice_get_within left_jobs t j at_, length-serial_jobs M k.jobs k.cells) in
+      let low : t < length k.jobs =
+      omega (arith, slice_get_within left_jobs t j at_, length-serial_jobs M k.jobs k.cells) in
       let i = there k.jobs t low in
-      let same_ : Some (M.foot j) ≡ Some (M.foot i.0) = sym (map_at M.foot left_jobs t j at_) ∙ ap (λ z. slice_get z t) (foot-serial_jobs M F k.jobs k.cells) ∙ map_at M.foot k.jobs t i.0 i.1 in
+      let same_ : Some (M.foot j) ≡ Some (M.foot i.0) =
+      sym (map_at M.foot left_jobs t j at_) ∙ ap (λ z. slice_get z t) (foot-serial_jobs M F k.jobs k.cells)
+      ∙ map_at M.foot k.jobs t i.0 i.1 in
       ap (λ z. z.writes) (same_Some _ _ same_) ∙ ap (writes_of M) (sym i.1)
 
   -- no note past the last writes
   pub none_past : (u r : ℕ) → length left_jobs ≤ u → listed (places_written M k u) r ≡ false
-  none_past u r l = ap (λ o. listed (writes_of M o) r) (past k.jobs u (omega (arith, l, length-serial_jobs M k.jobs k.cells)))
+  none_past u r l = ap (λ o. listed (writes_of M o) r)
+      (past k.jobs u (omega (arith, l, length-serial_jobs M k.jobs k.cells)))
 
   -- the next of the places that a note writes
   pub next_written : (t : ℕ) (items : List ℕ) (i : ℕ) → items ≡ places_written M k t → i < length items
-      → (get_or items i 0 < area_count k) × (drop i (places_written M k t) ≡ get_or items i 0 ∷ drop (i + 1) (places_written M k t))
+      → (get_or items i 0 < area_count k)
+      × (drop i (places_written M k t) ≡ get_or items i 0 ∷ drop (i + 1) (places_written M k t))
   next_written t items i is low =
       let at_ : slice_get items i ≡ Some (get_or items i 0) = slice_get-get_or items i 0 low in
       let c : Contains items (get_or items i 0) = (i, low, default items i low) in (
-        used_place M k whole t (get_or items i 0) (written_used M k whole t (get_or items i 0) (subst (λ l. Contains l (get_or items i 0)) is c)),
+        used_place M k whole t (get_or items i 0)
+            (written_used M k whole t (get_or items i 0) (subst (λ l. Contains l (get_or items i 0)) is c)),
         subst (λ l. drop i l ≡ get_or items i 0 ∷ drop (i + 1) l) is (drop_one items i (get_or items i 0) at_),
       )
     where
@@ -77,7 +85,8 @@ module _ {J : Type 0} (M : Meaning J) (F : Frames M) (k : Plan J) (whole : IsPla
       default (x ∷ xs) (suc i) l = default xs i (omega arith)
 
 -- the seat of the desk after a cycle
-pub rests_again : {J : Type 0} (M : Meaning J) (k : Plan J) (r c : ℕ) (id : TableId) (s : Seat (Berth J) (View J)) → IsPlan M k → IsSole id s → areas_in s ≡ k.areas
+pub rests_again : {J : Type 0} (M : Meaning J) (k : Plan J) (r c : ℕ) (id : TableId) (s : Seat (Berth J) (View J))
+    → IsPlan M k → IsSole id s → areas_in s ≡ k.areas
     → area_count k ≡ r → length k.cells ≡ c → IsCleared k.areas id.words id.slots (known_in s) → IsResting r c id s
 rests_again M k r c id s whole sole areas areas_made cells_made cleared = record {
   sole = sole;

@@ -1,7 +1,10 @@
 -- A cycle is laid out on a board that rests, and its jobs and turns are cleared away after it.
-use Rattle.std.proofs.Common.{◌≡◌, ◌≢◌, ℕ, zero, suc, ◌+◌, ◌-◌, ◌<◌, ◌≤◌, inl, inr, ⊎_elim, List, [], ◌∷◌, ◌++◌, map, length, take, drop, set, replicate, true, false, Option, Some, refl, sym, ap, ◌∙◌, arith, ◌==◌, slice_get, eqb-true, ext_get_or, length-append}
+use Rattle.std.proofs.Common.{◌≡◌, ◌≢◌, ℕ, zero, suc, ◌+◌, ◌-◌, ◌<◌, ◌≤◌, inl, inr, ⊎_elim, List, [], ◌∷◌, ◌++◌, map}
+use Rattle.std.proofs.Common.{length, take, drop, set, replicate, true, false, Option, Some, refl, sym, ap, ◌∙◌, arith}
+use Rattle.std.proofs.Common.{◌==◌, slice_get, eqb-true, ext_get_or, length-append}
 use Rattle.std.proofs.lemmas.Bool.{cases_Bool, cases_eq, or_cases}
-use Rattle.std.proofs.lemmas.List.{length-map, length-replicate, length-set, take-append-drop, length-take-le, length-drop, replicate-append-replicate}
+use Rattle.std.proofs.lemmas.List.{length-map, length-replicate, length-set, take-append-drop, length-take-le}
+use Rattle.std.proofs.lemmas.List.{length-drop, replicate-append-replicate}
 use Rattle.std.proofs.lemmas.Option.{same_Some}
 use Rattle.std.proofs.Math.Seq.{take-append_seam}
 use Rattle.cs_desk.proofs.Sole.{cleared_of, cleared_homes}
@@ -18,7 +21,7 @@ use Rattle.cs_board.specs.Ending.{IsOver}
 use Rattle.cs_board.specs.Plans.{area_count, edge_count, places_written}
 use Rattle.cs_board.specs.Views.{slot_row, jobs_laid, cells_laid, plan_laid, with_word, with_home}
 use Rattle.cs_board.specs.Words.{Words, all_words, IsSized, status_at, own_at, watch_at, turn_at, word_total}
-use Rattle.cs_board.specs.Opening.{each_below, first_status, first_watch, opening_words}
+use Rattle.cs_board.specs.Opening.{each_below, first_status, first_watch}
 use Rattle.cs_board.specs.declared.view.Berth.{Berth}
 use Rattle.cs_board.specs.declared.view.Berth.TheVariants.{Vacant, Full}
 use Rattle.cs_board.specs.declared.view.Plan.{Plan}
@@ -57,7 +60,9 @@ module _ {J : Type 0} where
   after js n = map (λ j. Some (Full j)) js ++ replicate n empty
 
   row_next : (t : ℕ) (js : List J) (n : ℕ) → slot_row (t + 1) js n ≡ replicate t empty ++ empty ∷ after js n
-  row_next t js n = let s : t + 1 ≡ suc t = omega arith in ap (λ i. replicate i empty ++ after js n) s ∙ one_more t empty (after js n)
+  row_next t js n =
+      let s : t + 1 ≡ suc t = omega arith in
+      ap (λ i. replicate i empty ++ after js n) s ∙ one_more t empty (after js n)
 
   -- the slot before the jobs is vacant, and has the next one then
   pub row_vacant : (t : ℕ) (js : List J) (n : ℕ) → slice_get (slot_row (t + 1) js n) t ≡ Some (Some Vacant)
@@ -70,8 +75,10 @@ module _ {J : Type 0} where
       ∙ ap (λ l. slot_row t l n) (sym (drop_one js t j e))
 
   -- the first of the jobs lies there, and the slot is vacant once it is taken
-  pub row_full : (t : ℕ) (js : List J) (n : ℕ) (j : J) → slice_get js t ≡ Some j → slice_get (slot_row t (drop t js) n) t ≡ Some (Some (Full j))
-  row_full t js n j e = ap (λ l. slice_get (slot_row t l n) t) (drop_one js t j e) ∙ middle_get t empty (Some (Full j)) (after (drop (t + 1) js) n)
+  pub row_full : (t : ℕ) (js : List J) (n : ℕ) (j : J) → slice_get js t ≡ Some j
+      → slice_get (slot_row t (drop t js) n) t ≡ Some (Some (Full j))
+  row_full t js n j e = ap (λ l. slice_get (slot_row t l n) t) (drop_one js t j e)
+      ∙ middle_get t empty (Some (Full j)) (after (drop (t + 1) js) n)
 
   pub row_emptied : (t : ℕ) (js : List J) (n : ℕ) (j : J) → slice_get js t ≡ Some j
       → set (slot_row t (drop t js) n) t (Some Vacant) ≡ slot_row (t + 1) (drop (t + 1) js) n
@@ -88,8 +95,10 @@ module _ {J : Type 0} where
   drop_past (j ∷ js) = drop_past js
 
   -- all slots are vacant
-  pub row_none : (js : List J) (n slots : ℕ) → length js + n ≡ slots → slot_row (length js) (drop (length js) js) n ≡ replicate slots empty
-  row_none js n slots e = ap (λ l. slot_row (length js) l n) (drop_past js) ∙ replicate-append-replicate (length js) n empty ∙ ap (λ m. replicate m empty) e
+  pub row_none : (js : List J) (n slots : ℕ) → length js + n ≡ slots
+      → slot_row (length js) (drop (length js) js) n ≡ replicate slots empty
+  row_none js n slots e = ap (λ l. slot_row (length js) l n) (drop_past js)
+      ∙ replicate-append-replicate (length js) n empty ∙ ap (λ m. replicate m empty) e
 
   pub row_long : (t : ℕ) (js : List J) (n : ℕ) → length (slot_row t js n) ≡ t + (length js + n)
   row_long zero [] n = length-replicate n empty ∙ (let z : n ≡ 0 + (0 + n) = omega arith in z)
@@ -97,7 +106,9 @@ module _ {J : Type 0} where
   row_long (suc t) js n = let h : length (slot_row t js n) ≡ t + (length js + n) = row_long t js n in omega arith
 
 -- how many words there are
-pub words_long : (w : Words) → length (all_words w) ≡ 1 + (length w.cells + (length w.turns + (length w.status + (length w.own + (length w.watch + length w.spare)))))
+pub words_long : (w : Words)
+    → length (all_words w)
+    ≡ 1 + (length w.cells + (length w.turns + (length w.status + (length w.own + (length w.watch + length w.spare)))))
 words_long w = omega (
   arith,
   length-append w.cells (w.turns ++ (w.status ++ (w.own ++ (w.watch ++ w.spare)))),
@@ -112,7 +123,8 @@ module _ {J : Type 0} (k : Plan J) where
   sized_long p s = omega (arith, words_long p, s.cells, s.turns, s.status, s.own, s.watch, s.spare)
 
   -- one more watch word is laid
-  pub laying_watch : (t e x : ℕ) (w : Still J) → e < edge_count k → x ≡ first_watch k.edges e → IsLaying k t e w → IsLaying k t (e + 1) (with_word w (watch_at k e) x)
+  pub laying_watch : (t e x : ℕ) (w : Still J) → e < edge_count k → x ≡ first_watch k.edges e → IsLaying k t e w
+      → IsLaying k t (e + 1) (with_word w (watch_at k e) x)
   laying_watch t e x w low is h = record {
     parts = record h.parts { watch = set h.parts.watch e x };
     words = ap (λ ws. set ws (watch_at k e) x) h.words ∙ set_watch k h.parts h.sized e x low;
@@ -130,13 +142,15 @@ module _ {J : Type 0} (k : Plan J) where
   }
 
   -- one more note is laid
-  pub laying_note : (t e x : ℕ) (j : J) (w : Still J) → t < k.notes → slice_get k.jobs t ≡ Some j → x ≡ first_status k.edges t → IsLaying k (t + 1) e w
+  pub laying_note : (t e x : ℕ) (j : J) (w : Still J) → t < k.notes → slice_get k.jobs t ≡ Some j
+      → x ≡ first_status k.edges t → IsLaying k (t + 1) e w
       → IsLaying k t e (with_word (with_word (with_home w t (Some (Full j))) (status_at k t) x) (own_at k t) 0)
   laying_note t e x j w low at_ is h =
       let p : Words = record h.parts { status = set h.parts.status t x } in
       let s : IsSized k p = sized_status k h.parts h.sized t x in record {
         parts = record p { own = set p.own t 0 };
-        words = ap (λ ws. set (set ws (status_at k t) x) (own_at k t) 0) h.words ∙ ap (λ ws. set ws (own_at k t) 0) (set_status k h.parts h.sized t x low) ∙ set_own k p s t 0 low;
+        words = ap (λ ws. set (set ws (status_at k t) x) (own_at k t) 0) h.words
+            ∙ ap (λ ws. set ws (own_at k t) 0) (set_status k h.parts h.sized t x low) ∙ set_own k p s t 0 low;
         sized = sized_own k p s t 0;
         cells = h.cells;
         turns = h.turns;
@@ -157,7 +171,8 @@ module _ {J : Type 0} (k : Plan J) where
   vacant_next t e w h = ap (λ l. slice_get l t) h.homes ∙ row_vacant t (drop (t + 1) k.jobs) h.left
 
   -- the plan that is laid out is the cycle's
-  pub laid_plan : (e : ℕ) (w : Still J) (areas : List Area) (graph : Dependencies) → IsLaying k 0 e w → k.areas ≡ areas → k.edges ≡ graph.edges → length k.jobs ≡ k.notes
+  pub laid_plan : (e : ℕ) (w : Still J) (areas : List Area) (graph : Dependencies) → IsLaying k 0 e w → k.areas ≡ areas
+      → k.edges ≡ graph.edges → length k.jobs ≡ k.notes
       → length k.cells ≡ word_count areas → plan_laid areas w graph ≡ k
   laid_plan e w areas graph h areas_is edges_is jobs_is cells_is = λ i. record {
     notes = notes_ i;
@@ -177,14 +192,24 @@ module _ {J : Type 0} (k : Plan J) where
       cells_ : values (cells_laid areas w) ≡ k.cells
       cells_ = ap (λ ws. values (take (word_count areas) (drop 1 ws))) h.words
           ∙ ap (λ n. values (take n (drop 1 (all_words h.parts)))) (sym cells_is ∙ sym h.sized.cells)
-          ∙ ap values (take-append_seam h.parts.cells (h.parts.turns ++ (h.parts.status ++ (h.parts.own ++ (h.parts.watch ++ h.parts.spare)))))
+          ∙ ap values (take-append_seam h.parts.cells
+          (h.parts.turns ++ (h.parts.status ++ (h.parts.own ++ (h.parts.watch ++ h.parts.spare)))))
           ∙ h.cells
 
       spare_ : length w.words - wide areas (length (jobs_laid w.homes)) (length graph.edges) ≡ k.spare
-      spare_ = omega (arith, ap length h.words, sized_long h.parts h.sized, notes_, ap length edges_is, ap length areas_is, cells_is)
+      spare_ = omega (
+        arith,
+        ap length h.words,
+        sized_long h.parts h.sized,
+        notes_,
+        ap length edges_is,
+        ap length areas_is,
+        cells_is,
+      )
 
 -- what is cleared can be laid out
-module _ {J : Type 0} (areas : List Area) (w : Still J) (graph : Dependencies) (jobs : List J) (words_made slots_made : ℕ) (h : IsCleared areas words_made slots_made w)
+module _ {J : Type 0} (areas : List Area) (w : Still J) (graph : Dependencies) (jobs : List J)
+    (words_made slots_made : ℕ) (h : IsCleared areas words_made slots_made w)
     (slots : length jobs ≤ slots_made) (words : wide areas (length jobs) (length graph.edges) ≤ words_made) where
   abbrev k : Plan J
   k = plan_over areas w graph jobs
@@ -213,7 +238,8 @@ module _ {J : Type 0} (areas : List Area) (w : Still J) (graph : Dependencies) (
     own = λ u l o. absurd (omega arith);
     watch = λ f l o. absurd (omega arith);
     left = slots_made - n;
-    homes = cleared_homes w slots_made h.vacant h.slots ∙ sym (row_none jobs (slots_made - n) slots_made (omega (arith, slots)));
+    homes = cleared_homes w slots_made h.vacant h.slots
+        ∙ sym (row_none jobs (slots_made - n) slots_made (omega (arith, slots)));
   }
     where
       p : Words
@@ -243,13 +269,17 @@ module _ {J : Type 0} (areas : List Area) (w : Still J) (graph : Dependencies) (
       rest2 : length (drop n (drop n (others_laid areas w))) ≡ length (drop n (others_laid areas w)) - n
       rest2 = length-drop n (drop n (others_laid areas w))
 
-      rest3 : length (drop m (drop n (drop n (others_laid areas w)))) ≡ length (drop n (drop n (others_laid areas w))) - m
+      rest3 : length (drop m (drop n (drop n (others_laid areas w))))
+          ≡ length (drop n (drop n (others_laid areas w))) - m
       rest3 = length-drop m (drop n (drop n (others_laid areas w)))
 
-      split : (others_laid areas w) ≡ take n (others_laid areas w) ++ (take n (drop n (others_laid areas w)) ++ (take m (drop n (drop n (others_laid areas w))) ++ drop m (drop n (drop n (others_laid areas w)))))
+      split : (others_laid areas w) ≡ take n (others_laid areas w)
+          ++ (take n (drop n (others_laid areas w))
+          ++ (take m (drop n (drop n (others_laid areas w))) ++ drop m (drop n (drop n (others_laid areas w)))))
       split = sym (take-append-drop n (others_laid areas w))
           ∙ ap (λ l. take n (others_laid areas w) ++ l) (sym (take-append-drop n (drop n (others_laid areas w)))
-          ∙ ap (λ l. take n (drop n (others_laid areas w)) ++ l) (sym (take-append-drop m (drop n (drop n (others_laid areas w))))))
+          ∙ ap (λ l. take n (drop n (others_laid areas w)) ++ l)
+          (sym (take-append-drop m (drop n (drop n (others_laid areas w))))))
 
 -- the turn words of some resources are cleared one by one
 module _ {J : Type 0} (k : Plan J) where
@@ -263,7 +293,8 @@ module _ {J : Type 0} (k : Plan J) where
     words = λ p s e.
         let c = h.words p s e in
         let q : Words = record p { turns = c.0 } in
-        let sq : IsSized k q = record { cells = s.cells; turns = c.2 ∙ s.turns; status = s.status; own = s.own; watch = s.watch; spare = s.spare } in
+        let sq : IsSized k q = record
+        { cells = s.cells; turns = c.2 ∙ s.turns; status = s.status; own = s.own; watch = s.watch; spare = s.spare } in
         let near : r < length c.0 = omega (arith, low, c.2, s.turns) in (
           set c.0 r 0,
           ap (λ ws. set ws (turn_at k r) 0) c.1 ∙ set_turn k q sq r 0 low,
@@ -273,8 +304,8 @@ module _ {J : Type 0} (k : Plan J) where
               (λ y. inl y.1)
               (λ y. ⊎_elim
               (λ z. inl (y.1 ∙ z))
-              (λ z. ⊎_elim (λ b. absurd (y.0 (sym (eqb-true r x b)))) (λ b. inr b) (or_cases (r == x) (listed left x) z))
-              (c.4 x l))
+              (λ z. ⊎_elim (λ b. absurd (y.0 (sym (eqb-true r x b)))) (λ b. inr b)
+              (or_cases (r == x) (listed left x) z)) (c.4 x l))
               (put_cases c.0 r 0 x near)),
         );
   }
@@ -295,13 +326,21 @@ module _ {J : Type 0} (M : Meaning J) (k : Plan J) where
   }
 
   -- one more note is cleared
-  pub clears_note : (t : ℕ) (j : J) (w w' : Still J) → slice_get left_jobs t ≡ Some j → ClearsTurns k (places_written M k t) [] (with_home w t (Some Vacant)) w'
+  pub clears_note : (t : ℕ) (j : J) (w w' : Still J) → slice_get left_jobs t ≡ Some j
+      → ClearsTurns k (places_written M k t) [] (with_home w t (Some Vacant)) w'
       → IsClearing M k t w → IsClearing M k (t + 1) w'
   clears_note t j w w' at_ c h =
       let d = c.words h.parts h.sized h.words in record {
         parts = record h.parts { turns = d.0 };
         words = d.1;
-        sized = record { cells = h.sized.cells; turns = d.2 ∙ h.sized.turns; status = h.sized.status; own = h.sized.own; watch = h.sized.watch; spare = h.sized.spare };
+        sized = record {
+          cells = h.sized.cells;
+          turns = d.2 ∙ h.sized.turns;
+          status = h.sized.status;
+          own = h.sized.own;
+          watch = h.sized.watch;
+          spare = h.sized.spare;
+        };
         cells = h.cells;
         turns = λ r low none. ⊎_elim
             (λ b. ⊎_elim (λ z. z) (λ z. absurd (let y : false ≡ true = z in cc)) (d.4 r b))
@@ -314,26 +353,41 @@ module _ {J : Type 0} (M : Meaning J) (k : Plan J) where
         homes = c.homes ∙ ap (λ l. set l t (Some Vacant)) h.homes ∙ row_emptied t left_jobs h.left j at_;
       }
 
-  pub full_next : (t : ℕ) (j : J) (w : Still J) → slice_get left_jobs t ≡ Some j → IsClearing M k t w → slice_get w.homes t ≡ Some (Some (Full j))
+  pub full_next : (t : ℕ) (j : J) (w : Still J) → slice_get left_jobs t ≡ Some j → IsClearing M k t w
+      → slice_get w.homes t ≡ Some (Some (Full j))
   full_next t j w at_ h = ap (λ l. slice_get l t) h.homes ∙ row_full t left_jobs h.left j at_
 
   -- what is cleared of all notes
-  pub all_cleared : (w : Still J) (words_made slots_made : ℕ) → IsClearing M k (length left_jobs) w → length k.cells ≡ word_count k.areas
-      → word_total k + k.spare ≡ words_made → length w.homes ≡ slots_made
-      → ((u r : ℕ) → length left_jobs ≤ u → listed (places_written M k u) r ≡ false) → IsCleared k.areas words_made slots_made w
-  all_cleared w words_made slots_made h cells words slots none = (cleared_of k.areas words_made slots_made w h.parts.cells (h.parts.status ++ (h.parts.own ++ (h.parts.watch ++ h.parts.spare)))
-      (h.words ∙ ap (λ z. 0 ∷ h.parts.cells ++ (z ++ (h.parts.status ++ (h.parts.own ++ (h.parts.watch ++ h.parts.spare))))) turns)
+  pub all_cleared : (w : Still J) (words_made slots_made : ℕ) → IsClearing M k (length left_jobs) w
+      → length k.cells ≡ word_count k.areas → word_total k + k.spare ≡ words_made → length w.homes ≡ slots_made
+      → ((u r : ℕ) → length left_jobs ≤ u → listed (places_written M k u) r ≡ false)
+      → IsCleared k.areas words_made slots_made w
+  all_cleared w words_made slots_made h cells words slots none =
+      (cleared_of k.areas words_made slots_made w h.parts.cells
+      (h.parts.status ++ (h.parts.own ++ (h.parts.watch ++ h.parts.spare)))
+      (h.words ∙ ap (λ z. 0 ∷ h.parts.cells
+      ++ (z ++ (h.parts.status ++ (h.parts.own ++ (h.parts.watch ++ h.parts.spare))))) turns)
       (h.sized.cells ∙ cells)
       (ap length h.words ∙ sized_long k h.parts h.sized ∙ words)
       (h.homes ∙ row_none left_jobs h.left slots_made
-      (omega (arith, slots, ap length h.homes, row_long (length left_jobs) (drop (length left_jobs) left_jobs) h.left, length-drop (length left_jobs) left_jobs)))).1
+      (omega (
+        arith,
+        slots,
+        ap length h.homes,
+        row_long (length left_jobs) (drop (length left_jobs) left_jobs) h.left,
+        length-drop (length left_jobs) left_jobs,
+      )))).1
     where
       turns : h.parts.turns ≡ each_below (λ r. 0) (length k.areas)
-      turns = ext_get_or 0 h.parts.turns (each_below (λ r. 0) (length k.areas)) (h.sized.turns ∙ sym (length-each_below (λ r. 0) (length k.areas)))
-          (λ i l. h.turns i (omega (arith, l, h.sized.turns)) (λ u m. none u i m) ∙ sym (at_each_below (λ r. 0) (length k.areas) i (omega (arith, l, h.sized.turns))))
+      turns = ext_get_or 0 h.parts.turns (each_below (λ r. 0) (length k.areas))
+          (h.sized.turns ∙ sym (length-each_below (λ r. 0) (length k.areas)))
+          (λ i l. h.turns i (omega (arith, l, h.sized.turns)) (λ u m. none u i m)
+          ∙ sym (at_each_below (λ r. 0) (length k.areas) i (omega (arith, l, h.sized.turns))))
 
-  pub clearing_cells : (t : ℕ) (w : Still J) → IsClearing M k t w → length k.cells ≡ word_count k.areas → values (cells_laid k.areas w) ≡ serial_cells M k.jobs k.cells
+  pub clearing_cells : (t : ℕ) (w : Still J) → IsClearing M k t w → length k.cells ≡ word_count k.areas
+      → values (cells_laid k.areas w) ≡ serial_cells M k.jobs k.cells
   clearing_cells t w h cells = ap (λ ws. values (take (word_count k.areas) (drop 1 ws))) h.words
       ∙ ap (λ n. values (take n (drop 1 (all_words h.parts)))) (sym cells ∙ sym h.sized.cells)
-      ∙ ap values (take-append_seam h.parts.cells (h.parts.turns ++ (h.parts.status ++ (h.parts.own ++ (h.parts.watch ++ h.parts.spare)))))
+      ∙ ap values (take-append_seam h.parts.cells
+      (h.parts.turns ++ (h.parts.status ++ (h.parts.own ++ (h.parts.watch ++ h.parts.spare)))))
       ∙ h.cells

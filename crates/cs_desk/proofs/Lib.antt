@@ -6,3 +6,4 @@ pub mod Reached
 pub mod Making
 pub mod Feet
 pub mod Cycling
+pub mod Plainly

@@ -1,5 +1,6 @@
 -- A desk as it is made.
-use Rattle.std.proofs.Common.{◌≡◌, ℕ, ◌+◌, ◌<◌, ◌≤◌, ⊎_elim, List, [], ◌∷◌, ◌++◌, length, replicate, Some, None, nat_lt, refl, sym, ap, ◌∙◌, subst, arith, if◌then◌else◌, is_some, length-append}
+use Rattle.std.proofs.Common.{◌≡◌, ℕ, ◌+◌, ◌<◌, ◌≤◌, ⊎_elim, List, [], ◌∷◌, ◌++◌, length, replicate, Some, None, nat_lt}
+use Rattle.std.proofs.Common.{refl, sym, ap, ◌∙◌, subst, arith, if◌then◌else◌, is_some, length-append}
 use Rattle.std.proofs.lemmas.Bool.{cases_lt, lt-ltb}
 use Rattle.atomic_table.specs.Seated.{TableId}
 use Rattle.atomic_table.specs.Table.{opening}
@@ -24,17 +25,24 @@ use Rattle.cs_board.proofs.Rests.{starts}
 few_areas : (areas : List Area) → limit_passed areas ≡ None → length areas ≤ most_resources
 few_areas areas h = ⊎_elim
     (λ (l : most_resources < length areas). absurd (
-    let e : limit_passed areas ≡ Some (record { limit = limit.Resources; line = 0 }) = ap (λ b. if b then Some (record { limit = limit.Resources; line = 0 }) else (if nat_lt most_words (word_count areas) then Some (record { limit = limit.Words; line = 0 }) else None)) (lt-ltb most_resources (length areas) l) in
+    let e : limit_passed areas ≡ Some (record { limit = limit.Resources; line = 0 }) =
+    ap (λ b. if b then Some (record { limit = limit.Resources; line = 0 }) else
+    (if nat_lt most_words (word_count areas) then Some (record { limit = limit.Words; line = 0 }) else None))
+    (lt-ltb most_resources (length areas) l) in
     let n : None ≡ Some (record { limit = limit.Resources; line = 0 }) = sym h ∙ e in cc))
     (λ (l : length areas ≤ most_resources). l)
     (cases_lt most_resources (length areas))
 
-pub desk_starts : {J : Type 0} (M : Meaning J) (areas : List Area) (ws ws' : List ℕ) (slots : List (Berth J)) (n n' : ℕ) → ws ≡ ws' → slots ≡ replicate n Vacant → n' ≡ n
+pub desk_starts : {J : Type 0} (M : Meaning J) (areas : List Area) (ws ws' : List ℕ) (slots : List (Berth J)) (n n' : ℕ)
+    → ws ≡ ws' → slots ≡ replicate n Vacant → n' ≡ n
     → Always M (opening ws slots (resting_view areas (record { words = ws'; homes = replicate n' (Some Vacant) })))
 desk_starts M areas ws ws' slots n n' same_words vacant count =
-    subst (λ z. Always M (opening z slots (resting_view areas (record { words = ws'; homes = replicate n' (Some Vacant) })))) (sym same_words)
-    (subst (λ z. Always M (opening ws' z (resting_view areas (record { words = ws'; homes = replicate n' (Some Vacant) })))) (sym vacant)
-    (subst (λ i. Always M (opening ws' (replicate n Vacant) (resting_view areas (record { words = ws'; homes = replicate i (Some Vacant) })))) (sym count)
+    subst (λ z. Always M (opening z slots
+    (resting_view areas (record { words = ws'; homes = replicate n' (Some Vacant) })))) (sym same_words)
+    (subst (λ z. Always M (opening ws' z
+    (resting_view areas (record { words = ws'; homes = replicate n' (Some Vacant) })))) (sym vacant)
+    (subst (λ i. Always M (opening ws' (replicate n Vacant)
+    (resting_view areas (record { words = ws'; homes = replicate i (Some Vacant) })))) (sym count)
     (starts M (resting_view areas (record { words = ws'; homes = replicate n (Some Vacant) })) ws' n refl refl)))
 
 pub row_long : (areas : List Area) (cells : List ℕ) (n m : ℕ) → length cells ≡ word_count areas
@@ -48,10 +56,12 @@ row_long areas cells n m long = omega (
   length-each_below (λ r. 0) (n + (n + m)),
 )
 
-pub desk_rests : {J : Type 0} (areas : List Area) (ws cells others : List ℕ) (n r c : ℕ) (id : TableId) (s : Seat (Berth J) (View J)) → s.table_id ≡ id
-    → s.me ≡ (resting_view areas (record { words = ws; homes = replicate n (Some Vacant) }), []) → IsLaid areas → limit_passed areas ≡ None
-    → r ≡ length areas → c ≡ word_count areas → ws ≡ 0 ∷ cells ++ (each_below (λ r. 0) (length areas) ++ others) → length cells ≡ word_count areas
-    → id.words ≡ length ws → id.slots ≡ n → IsResting r c id s
+pub desk_rests : {J : Type 0} (areas : List Area) (ws cells others : List ℕ) (n r c : ℕ) (id : TableId)
+    (s : Seat (Berth J) (View J)) → s.table_id ≡ id
+    → s.me ≡ (resting_view areas (record { words = ws; homes = replicate n (Some Vacant) }), []) → IsLaid areas
+    → limit_passed areas ≡ None
+    → r ≡ length areas → c ≡ word_count areas → ws ≡ 0 ∷ cells ++ (each_below (λ r. 0) (length areas) ++ others)
+    → length cells ≡ word_count areas → id.words ≡ length ws → id.slots ≡ n → IsResting r c id s
 desk_rests areas ws cells others n r c id s table me laid within r_is c_is words long count slots =
     record {
       sole = record {
@@ -65,5 +75,6 @@ desk_rests areas ws cells others n r c id s table me laid within r_is c_is words
       areas = ap (λ z. length z.0.plan.areas) me ∙ sym r_is;
       cells = ap (λ z. word_count z.0.plan.areas) me ∙ sym c_is;
       cleared = subst (λ z. IsCleared z.0.plan.areas id.words id.slots (still_in z.0.rest)) (sym me)
-          (cleared_of areas id.words id.slots (record { words = ws; homes = replicate n (Some Vacant) }) cells others words long (sym count) (ap (λ z. replicate z (Some Vacant)) (sym slots))).1;
+          (cleared_of areas id.words id.slots (record { words = ws; homes = replicate n (Some Vacant) }) cells others
+          words long (sym count) (ap (λ z. replicate z (Some Vacant)) (sym slots))).1;
     }

@@ -1,5 +1,6 @@
 -- What is known of the plan of a cycle that a desk opens.
-use Rattle.std.proofs.Common.{◌≡◌, ℕ, ◌-◌, ◌≤◌, List, [], ◌∷◌, ◌++◌, map, length, drop, Some, refl, sym, ap, ◌∙◌, subst, arith, slice_get}
+use Rattle.std.proofs.Common.{◌≡◌, ℕ, ◌-◌, ◌≤◌, List, [], ◌∷◌, ◌++◌, map, length, drop, Some, refl, sym, ap, ◌∙◌, subst}
+use Rattle.std.proofs.Common.{arith, slice_get}
 use Rattle.std.proofs.Math.Seq.{drop-append_seam}
 use Rattle.std.proofs.lemmas.List.{append_assoc, length-map}
 use Rattle.std.proofs.lemmas.Option.{slice_get_within, get_or_from_slice_get}
@@ -23,17 +24,22 @@ use Rattle.cs_board.specs.declared.view.Still.{Still}
 all_at : {A : Type 0} (P : A → Type 0) (xs : List A) (t : ℕ) (x : A) → All P xs → slice_get xs t ≡ Some x → P x
 all_at P xs t x h at_ = subst P (get_or_from_slice_get xs t x x at_) (h t x (slice_get_within xs t x at_))
 
-pub is_plan : {J : Type 0} (M : Meaning J) (areas : List Area) (graph : Dependencies) (jobs : List J) (k : Plan J) → k.notes ≡ length jobs → k.edges ≡ graph.edges
-    → k.areas ≡ areas → k.jobs ≡ jobs → length k.cells ≡ word_count areas → LeadsForward graph.edges (length jobs) → ((t : ℕ) → StandTogether graph.edges t)
-    → IsFit (map M.foot jobs) graph.edges → All (λ j. M.areas j ≡ areas) jobs → All (λ j. IsFootprint (length areas) (M.foot j)) jobs
+pub is_plan : {J : Type 0} (M : Meaning J) (areas : List Area) (graph : Dependencies) (jobs : List J) (k : Plan J)
+    → k.notes ≡ length jobs → k.edges ≡ graph.edges
+    → k.areas ≡ areas → k.jobs ≡ jobs → length k.cells ≡ word_count areas → LeadsForward graph.edges (length jobs)
+    → ((t : ℕ) → StandTogether graph.edges t)
+    → IsFit (map M.foot jobs) graph.edges → All (λ j. M.areas j ≡ areas) jobs
+    → All (λ j. IsFootprint (length areas) (M.foot j)) jobs
     → AllValid M jobs → IsLaid areas → length areas ≤ most_resources → IsPlan M k
 is_plan M areas graph jobs k n e a j c forward together fit same_areas feet valid laid few = record {
   jobs = ap length j ∙ sym n;
   forward = subst (λ z. LeadsForward z k.notes) (sym e) (subst (LeadsForward graph.edges) (sym n) forward);
   together = subst (λ z. (t : ℕ) → StandTogether z t) (sym e) together;
   fit = subst (λ z. IsFit (map M.foot z) k.edges) (sym j) (subst (IsFit (map M.foot jobs)) (sym e) fit);
-  footprints = λ t x at_. subst (λ z. IsFootprint (length z) (M.foot x)) (sym a) (all_at (λ y. IsFootprint (length areas) (M.foot y)) jobs t x feet (ap (λ z. slice_get z t) (sym j) ∙ at_));
-  layout = λ t x at_. all_at (λ y. M.areas y ≡ areas) jobs t x same_areas (ap (λ z. slice_get z t) (sym j) ∙ at_) ∙ sym a;
+  footprints = λ t x at_. subst (λ z. IsFootprint (length z) (M.foot x)) (sym a)
+      (all_at (λ y. IsFootprint (length areas) (M.foot y)) jobs t x feet (ap (λ z. slice_get z t) (sym j) ∙ at_));
+  layout = λ t x at_. all_at (λ y. M.areas y ≡ areas) jobs t x same_areas (ap (λ z. slice_get z t) (sym j) ∙ at_)
+      ∙ sym a;
   valid = subst (AllValid M) (sym j) valid;
   laid = subst IsLaid (sym a) laid;
   few = subst (λ z. length z ≤ most_resources) (sym a) few;
@@ -45,7 +51,8 @@ got : {A : Type 0} (xs ys : List A) (x : A) → slice_get (xs ++ x ∷ ys) (leng
 got [] ys x = refl
 got (z ∷ xs) ys x = got xs ys x
 
-pub popped : {A : Type 0} (X jobs others : List A) (job : A) → (jobs ++ job ∷ []) ++ others ≡ X → (jobs ++ drop (length jobs) X ≡ X) × (slice_get X (length jobs) ≡ Some job)
+pub popped : {A : Type 0} (X jobs others : List A) (job : A) → (jobs ++ job ∷ []) ++ others ≡ X
+    → (jobs ++ drop (length jobs) X ≡ X) × (slice_get X (length jobs) ≡ Some job)
 popped X jobs others job e =
     let is : jobs ++ job ∷ others ≡ X = sym (append_assoc jobs (job ∷ []) others) ∙ e in (
       ap (λ l. jobs ++ l) (ap (drop (length jobs)) (sym is) ∙ drop-append_seam jobs (job ∷ others)) ∙ is,
@@ -64,23 +71,31 @@ module _ {J : Type 0} where
     spare = words - wide areas (length jobs) (length graph.edges);
   }
 
-  pub laid_over : (areas a1 : List Area) (w w1 : Still J) (graph : Dependencies) (jobs : List J) (e : ℕ) → a1 ≡ areas → IsLaying (plan_over areas w graph jobs) 0 e w1
+  pub laid_over : (areas a1 : List Area) (w w1 : Still J) (graph : Dependencies) (jobs : List J) (e : ℕ) → a1 ≡ areas
+      → IsLaying (plan_over areas w graph jobs) 0 e w1
       → length (cells_laid areas w) ≡ word_count areas → plan_laid a1 w1 graph ≡ plan_over areas w graph jobs
   laid_over areas a1 w w1 graph jobs e same_areas h cells =
-      laid_plan (plan_over areas w graph jobs) e w1 a1 graph h (sym same_areas) refl refl (length-map (cells_laid areas w) signed ∙ cells ∙ ap word_count (sym same_areas))
+      laid_plan (plan_over areas w graph jobs) e w1 a1 graph h (sym same_areas) refl refl
+      (length-map (cells_laid areas w) signed ∙ cells ∙ ap word_count (sym same_areas))
 
   -- the plan that is laid out is the one that the desk had
-  pub begin_plan : (areas a1 : List Area) (w w1 : Still J) (graph : Dependencies) (jobs : List J) (words e : ℕ) → a1 ≡ areas → IsLaying (plan_over areas w graph jobs) 0 e w1
-      → length (cells_laid areas w) ≡ word_count areas → length w.words ≡ words → plan_laid a1 w1 graph ≡ desk_plan areas w words graph jobs
+  pub begin_plan : (areas a1 : List Area) (w w1 : Still J) (graph : Dependencies) (jobs : List J) (words e : ℕ)
+      → a1 ≡ areas → IsLaying (plan_over areas w graph jobs) 0 e w1
+      → length (cells_laid areas w) ≡ word_count areas → length w.words ≡ words
+      → plan_laid a1 w1 graph ≡ desk_plan areas w words graph jobs
   begin_plan areas a1 w w1 graph jobs words e same_areas h cells count =
       laid_over areas a1 w w1 graph jobs e same_areas h cells
-      ∙ ap (λ n. record (plan_over areas w graph jobs) { spare = n - wide areas (length jobs) (length graph.edges) }) count
+      ∙ ap (λ n. record (plan_over areas w graph jobs) { spare = n - wide areas (length jobs) (length graph.edges) })
+      count
 
-  pub begin_built : (areas : List Area) (w : Still J) (words slots : ℕ) (graph : Dependencies) (jobs : List J) (k : Plan J) (n r c : ℕ) → k ≡ desk_plan areas w words graph jobs
-      → length (cells_laid areas w) ≡ word_count areas → length graph.levels ≡ length jobs → n ≡ length graph.levels → length areas ≡ r → word_count areas ≡ c
+  pub begin_built : (areas : List Area) (w : Still J) (words slots : ℕ) (graph : Dependencies) (jobs : List J)
+      (k : Plan J) (n r c : ℕ) → k ≡ desk_plan areas w words graph jobs
+      → length (cells_laid areas w) ≡ word_count areas → length graph.levels ≡ length jobs → n ≡ length graph.levels
+      → length areas ≡ r → word_count areas ≡ c
       → length jobs ≤ slots → wide areas (length jobs) (length graph.edges) ≤ words → IsBuilt k graph n r c words slots
   begin_built areas w words slots graph jobs k n r c is cells levels n_is r_is c_is slots_are words_are =
-      let long : length (values (cells_laid areas w)) ≡ word_count areas = length-map (cells_laid areas w) signed ∙ cells in
+      let long : length (values (cells_laid areas w)) ≡ word_count areas =
+      length-map (cells_laid areas w) signed ∙ cells in
       subst (λ z. IsBuilt z graph n r c words slots) (sym is) (record {
         notes = sym levels ∙ sym n_is;
         levels = sym n_is;

@@ -1,5 +1,7 @@
 -- The one seat of a board that rests, after a step.
-use Rattle.std.proofs.Common.{◌≡◌, ℕ, zero, suc, ◌+◌, ◌<◌, ◌≤◌, List, [], ◌∷◌, ◌++◌, length, set, take, drop, replicate, true, false, Option, Some, None, refl, sym, ap, ◌∙◌, subst, arith, slice_get, length-append, drop-drop, drop_at, is_some}
+use Rattle.std.proofs.Common.{◌≡◌, ℕ, zero, suc, ◌+◌, ◌<◌, ◌≤◌, List, [], ◌∷◌, ◌++◌, length, set, take, drop, replicate}
+use Rattle.std.proofs.Common.{true, false, Option, Some, None, refl, sym, ap, ◌∙◌, subst, arith, slice_get}
+use Rattle.std.proofs.Common.{length-append, drop-drop, drop_at, is_some}
 use Rattle.std.proofs.lemmas.List.{get_or_append_left, length-replicate, length-set, map-set}
 use Rattle.std.proofs.Math.Seq.{take-append_seam}
 use mathlib.Core.Option.{none}
@@ -47,13 +49,16 @@ abbrev Sits : Type 0 → Type 0
 Sits J = Seat (Berth J) (View J)
 
 module _ {J : Type 0} where
-  pub sole_areas : (id : TableId) (s s' : Sits J) (w : Still J) → IsSole id s → s'.me ≡ (laid s.me.0 w, []) → areas_in s' ≡ areas_in s
+  pub sole_areas : (id : TableId) (s s' : Sits J) (w : Still J) → IsSole id s → s'.me ≡ (laid s.me.0 w, [])
+      → areas_in s' ≡ areas_in s
   sole_areas id s s' w h me = ap (λ z. z.0.plan.areas) me
 
-  pub sole_known : (id : TableId) (s s' : Sits J) (w : Still J) → IsSole id s → s'.me ≡ (laid s.me.0 w, []) → known_in s' ≡ w
+  pub sole_known : (id : TableId) (s s' : Sits J) (w : Still J) → IsSole id s → s'.me ≡ (laid s.me.0 w, [])
+      → known_in s' ≡ w
   sole_known id s s' w h me = ap (λ z. still_in z.0.rest) me
 
-  pub sole_after : (id : TableId) (s s' : Sits J) (w : Still J) → IsSole id s → s'.table_id ≡ s.table_id → s'.me ≡ (laid s.me.0 w, []) → IsSole id s'
+  pub sole_after : (id : TableId) (s s' : Sits J) (w : Still J) → IsSole id s → s'.table_id ≡ s.table_id
+      → s'.me ≡ (laid s.me.0 w, []) → IsSole id s'
   sole_after id s s' w h table me = record {
     table = table ∙ h.table;
     live = ap (λ z. z.0.spent) me ∙ h.live;
@@ -70,7 +75,8 @@ module _ {J : Type 0} where
   }
 
   -- what is vacant is a row of vacant slots
-  pub cleared_homes : (w : Still J) (slots : ℕ) → all_vacant w.homes ≡ true → length w.homes ≡ slots → w.homes ≡ replicate slots (Some Vacant)
+  pub cleared_homes : (w : Still J) (slots : ℕ) → all_vacant w.homes ≡ true → length w.homes ≡ slots
+      → w.homes ≡ replicate slots (Some Vacant)
   cleared_homes w slots v l = go w.homes v ∙ ap (λ n. replicate n (Some Vacant)) l
     where
       go : (hs : List (Option (Berth J))) → all_vacant hs ≡ true → hs ≡ replicate (length hs) (Some Vacant)
@@ -80,12 +86,15 @@ module _ {J : Type 0} where
       go (Some (Full j) ∷ hs) e = absurd (let z : false ≡ true = e in cc)
       go (Some (Told g) ∷ hs) e = absurd (let z : false ≡ true = e in cc)
 
-  pub cleared_of : (areas : List Area) (words slots : ℕ) (w : Still J) (cells others : List ℕ) → w.words ≡ 0 ∷ cells ++ (each_below (λ r. 0) (length areas) ++ others)
-      → length cells ≡ word_count areas → length w.words ≡ words → w.homes ≡ replicate slots (Some Vacant) → (cells_laid areas w ≡ cells) × IsCleared areas words slots w
+  pub cleared_of : (areas : List Area) (words slots : ℕ) (w : Still J) (cells others : List ℕ)
+      → w.words ≡ 0 ∷ cells ++ (each_below (λ r. 0) (length areas) ++ others)
+      → length cells ≡ word_count areas → length w.words ≡ words → w.homes ≡ replicate slots (Some Vacant)
+      → (cells_laid areas w ≡ cells) × IsCleared areas words slots w
   cleared_of areas words slots w cells others is long count homes = (
     cells_,
     record {
-      words = is ∙ ap (λ z. 0 ∷ z ++ (zeros ++ others)) (sym cells_) ∙ ap (λ z. 0 ∷ cells_laid areas w ++ (zeros ++ z)) (sym others_);
+      words = is ∙ ap (λ z. 0 ∷ z ++ (zeros ++ others)) (sym cells_)
+          ∙ ap (λ z. 0 ∷ cells_laid areas w ++ (zeros ++ z)) (sym others_);
       long = ap length cells_ ∙ long;
       count = count;
       vacant = ap all_vacant homes ∙ all_are slots;
@@ -104,7 +113,8 @@ module _ {J : Type 0} where
       zeros = each_below (λ r. 0) (length areas)
 
       cells_ : cells_laid areas w ≡ cells
-      cells_ = ap (λ ws. take (word_count areas) (drop 1 ws)) is ∙ ap (λ c. take c (drop 1 (0 ∷ cells ++ (zeros ++ others)))) (sym long)
+      cells_ = ap (λ ws. take (word_count areas) (drop 1 ws)) is
+          ∙ ap (λ c. take c (drop 1 (0 ∷ cells ++ (zeros ++ others)))) (sym long)
           ∙ take-append_seam cells (zeros ++ others)
 
       others_ : others_laid areas w ≡ others
@@ -114,17 +124,23 @@ module _ {J : Type 0} where
           ∙ past_drop cells (zeros ++ others) (word_count areas) (length areas) long
           ∙ drop_at zeros others (length areas) (length-each_below (λ r. 0) (length areas))
 
-  pub cleared_set : (areas : List Area) (words slots : ℕ) (w : Still J) (a x : ℕ) → IsCleared areas words slots w → a < word_count areas
-      → (cells_laid areas (with_word w (1 + a) x) ≡ set (cells_laid areas w) a x) × IsCleared areas words slots (with_word w (1 + a) x)
-  cleared_set areas words slots w a x h low = cleared_of areas words slots (with_word w (1 + a) x) (set (cells_laid areas w) a x) (others_laid areas w)
-      (ap (λ ws. set ws (1 + a) x) h.words ∙ one_set 0 (cells_laid areas w ++ (each_below (λ r. 0) (length areas) ++ others_laid areas w)) a x
-      ∙ ap (λ l. 0 ∷ l) (set-append_front (cells_laid areas w) (each_below (λ r. 0) (length areas) ++ others_laid areas w) a x (omega (arith, h.long, low))))
+  pub cleared_set : (areas : List Area) (words slots : ℕ) (w : Still J) (a x : ℕ) → IsCleared areas words slots w
+      → a < word_count areas
+      → (cells_laid areas (with_word w (1 + a) x) ≡ set (cells_laid areas w) a x)
+      × IsCleared areas words slots (with_word w (1 + a) x)
+  cleared_set areas words slots w a x h low =
+      cleared_of areas words slots (with_word w (1 + a) x) (set (cells_laid areas w) a x) (others_laid areas w)
+      (ap (λ ws. set ws (1 + a) x) h.words
+      ∙ one_set 0 (cells_laid areas w ++ (each_below (λ r. 0) (length areas) ++ others_laid areas w)) a x
+      ∙ ap (λ l. 0 ∷ l) (set-append_front (cells_laid areas w)
+      (each_below (λ r. 0) (length areas) ++ others_laid areas w) a x (omega (arith, h.long, low))))
       (length-set (cells_laid areas w) a x ∙ h.long)
       (length-set w.words (1 + a) x ∙ h.count)
       (cleared_homes w slots h.vacant h.slots)
 
   -- a desk's seat that knows what it knew, or one cell otherwise
-  pub resting_same : (r c : ℕ) (id : TableId) (s s' : Sits J) → IsResting r c id s → IsSole id s' → s'.me ≡ s.me → IsResting r c id s'
+  pub resting_same : (r c : ℕ) (id : TableId) (s s' : Sits J) → IsResting r c id s → IsSole id s' → s'.me ≡ s.me
+      → IsResting r c id s'
   resting_same r c id s s' h sole me = record {
     sole = sole;
     laid = subst (λ z. IsLaid z.0.plan.areas) (sym me) h.laid;
@@ -134,7 +150,8 @@ module _ {J : Type 0} where
     cleared = subst (λ z. IsCleared z.0.plan.areas id.words id.slots (still_in z.0.rest)) (sym me) h.cleared;
   }
 
-  pub resting_set : (r c : ℕ) (id : TableId) (s s' : Sits J) (a x : ℕ) → IsResting r c id s → IsSole id s' → areas_in s' ≡ areas_in s
+  pub resting_set : (r c : ℕ) (id : TableId) (s s' : Sits J) (a x : ℕ) → IsResting r c id s → IsSole id s'
+      → areas_in s' ≡ areas_in s
       → known_in s' ≡ with_word (known_in s) (1 + a) x → a < word_count (areas_in s) → IsResting r c id s'
   resting_set r c id s s' a x h sole areas known low = record {
     sole = sole;
@@ -142,22 +159,27 @@ module _ {J : Type 0} where
     few = subst (λ z. length z ≤ most_resources) (sym areas) h.few;
     areas = ap length areas ∙ h.areas;
     cells = ap word_count areas ∙ h.cells;
-    cleared = subst (λ z. IsCleared z id.words id.slots (known_in s')) (sym areas) (subst (IsCleared (areas_in s) id.words id.slots) (sym known) ((cleared_set (areas_in s) id.words id.slots (known_in s) a x h.cleared low).1));
+    cleared = subst (λ z. IsCleared z id.words id.slots (known_in s')) (sym areas)
+        (subst (IsCleared (areas_in s) id.words id.slots) (sym known)
+        ((cleared_set (areas_in s) id.words id.slots (known_in s) a x h.cleared low).1));
   }
 
   -- a word of the cells is the cell's
-  pub reads_cell : (areas : List Area) (words slots : ℕ) (w : Still J) (a : ℕ) → IsCleared areas words slots w → a < word_count areas
-      → signed (at w.words (1 + a)) ≡ cell (values (cells_laid areas w)) a
+  pub reads_cell : (areas : List Area) (words slots : ℕ) (w : Still J) (a : ℕ) → IsCleared areas words slots w
+      → a < word_count areas → signed (at w.words (1 + a)) ≡ cell (values (cells_laid areas w)) a
   reads_cell areas words slots w a h low = ap (λ ws. signed (at ws (1 + a))) h.words
       ∙ ap signed (one_get 0 (cells_laid areas w ++ (each_below (λ r. 0) (length areas) ++ others_laid areas w)) a
-      ∙ get_or_append_left (cells_laid areas w) (each_below (λ r. 0) (length areas) ++ others_laid areas w) 0 a (omega (arith, h.long, low)))
-      ∙ sym (map_at (cells_laid areas w) a (omega (arith, h.long, low)))
+      ∙ get_or_append_left (cells_laid areas w) (each_below (λ r. 0) (length areas) ++ others_laid areas w) 0 a
+      (omega (arith, h.long, low))) ∙ sym (map_at (cells_laid areas w) a (omega (arith, h.long, low)))
 
-  pub sets_cell : (areas : List Area) (words slots : ℕ) (w : Still J) (a x : ℕ) → IsCleared areas words slots w → a < word_count areas
+  pub sets_cell : (areas : List Area) (words slots : ℕ) (w : Still J) (a x : ℕ) → IsCleared areas words slots w
+      → a < word_count areas
       → values (cells_laid areas (with_word w (1 + a) x)) ≡ set (values (cells_laid areas w)) a (signed x)
-  sets_cell areas words slots w a x h low = ap values (cleared_set areas words slots w a x h low).0 ∙ map-set signed (cells_laid areas w) a x
+  sets_cell areas words slots w a x h low =
+      ap values (cleared_set areas words slots w a x h low).0 ∙ map-set signed (cells_laid areas w) a x
 
-  pub within_words : (areas : List Area) (words slots : ℕ) (w : Still J) → IsCleared areas words slots w → 1 + (word_count areas + length areas) ≤ words
+  pub within_words : (areas : List Area) (words slots : ℕ) (w : Still J) → IsCleared areas words slots w
+      → 1 + (word_count areas + length areas) ≤ words
   within_words areas words slots w h = omega (
     arith,
     h.count,
@@ -170,22 +192,29 @@ module _ {J : Type 0} where
 
 -- What the steps of a board that rests tell. s is the seat before them, n the seat after a step.
 module _ {J : Type 0} (id : TableId) (s : Seat (Berth J) (View J)) (h : IsSole id s) where
-  pub told_laid : (n : Sat J) (slots i x : ℕ) → lays (step slots i x 0 none) s.me x n → n ≡ (laid s.me.0 (with_word (known_in s) i x), [])
-  told_laid n slots i x told = told (known_in s) (sole_knows id s h) ∙ ap (λ z. (laid s.me.0 (with_word (known_in s) i x), z)) (sole_carries id s h)
+  pub told_laid : (n : Sat J) (slots i x : ℕ) → lays (step slots i x 0 none) s.me x n
+      → n ≡ (laid s.me.0 (with_word (known_in s) i x), [])
+  told_laid n slots i x told =
+      told (known_in s) (sole_knows id s h)
+      ∙ ap (λ z. (laid s.me.0 (with_word (known_in s) i x), z)) (sole_carries id s h)
 
-  pub told_read : (n : Sat J) (slots i r : ℕ) → reads (step slots i 0 0 none) s.me r n → (n ≡ s.me) × (r ≡ at (known_in s).words i)
+  pub told_read : (n : Sat J) (slots i r : ℕ) → reads (step slots i 0 0 none) s.me r n
+      → (n ≡ s.me) × (r ≡ at (known_in s).words i)
   told_read n slots i r told = (told.0, told.1 (known_in s) (sole_knows id s h))
 
   module _ (t : ℕ) (b : Berth J) (lies : slice_get (known_in s).homes t ≡ Some (Some b)) where
     abbrev taken : Still J
     taken = with_home (known_in s) t None
 
-    pub told_reached : (n : Sat J) (slots r : ℕ) → reaches (step slots t 0 0 none) s.me r n → n ≡ (laid s.me.0 taken, (t, b) ∷ [])
-    told_reached n slots r told = told (known_in s) b (sole_knows id s h) lies ∙ ap (λ z. (laid s.me.0 taken, (t, b) ∷ z)) (sole_carries id s h)
+    pub told_reached : (n : Sat J) (slots r : ℕ) → reaches (step slots t 0 0 none) s.me r n
+        → n ≡ (laid s.me.0 taken, (t, b) ∷ [])
+    told_reached n slots r told =
+        told (known_in s) b (sole_knows id s h) lies ∙ ap (λ z. (laid s.me.0 taken, (t, b) ∷ z)) (sole_carries id s h)
 
     module _ (n : Sat J) (reached : n ≡ (laid s.me.0 taken, (t, b) ∷ [])) where
       -- what was in the slot, and what the seat carries then
-      pub swapped : (x y : Berth J) (m : Sat J) → n.1 ≡ (t, x) ∷ rest n.1 → m ≡ (n.0, (t, y) ∷ rest n.1) → (x ≡ b) × (m ≡ (laid s.me.0 taken, (t, y) ∷ []))
+      pub swapped : (x y : Berth J) (m : Sat J) → n.1 ≡ (t, x) ∷ rest n.1 → m ≡ (n.0, (t, y) ∷ rest n.1)
+          → (x ≡ b) × (m ≡ (laid s.me.0 taken, (t, y) ∷ []))
       swapped x y m found given = (
         ap (λ l. berth_of b l) (sym found ∙ ap (λ z. z.1) reached),
         given ∙ ap (λ z. (z.0, (t, y) ∷ rest z.1)) reached,
@@ -205,10 +234,19 @@ module _ {J : Type 0} (id : TableId) (s : Seat (Berth J) (View J)) (h : IsSole i
       pub held_carries : m.1 ≡ (t, x) ∷ []
       held_carries = ap (λ z. z.1) held
 
-      pub told_left : (n : Sat J) (slots r : ℕ) → leaves (step slots 0 0 0 none) m r n → n ≡ (laid s.me.0 (with_home (known_in s) t (Some x)), [])
+      pub told_left : (n : Sat J) (slots r : ℕ) → leaves (step slots 0 0 0 none) m r n
+          → n ≡ (laid s.me.0 (with_home (known_in s) t (Some x)), [])
       told_left n slots r told = told taken t x held_knows held_carries
           ∙ ap (λ z. (laid z.0 (with_home taken t (Some x)), no_slot)) held
-          ∙ ap (λ l. (laid s.me.0 (record { words = (known_in s).words; homes = l }), no_slot)) (set_twice (known_in s).homes t None (Some x))
+          ∙ ap (λ l. (laid s.me.0 (record { words = (known_in s).words; homes = l }), no_slot))
+          (set_twice (known_in s).homes t None (Some x))
         where
           no_slot : List (ℕ × Berth J)
           no_slot = []
+
+    -- a slot that is reached, has its berth exchanged for y, and is left
+    pub exchanged : (n m p : Sat J) (slots r q : ℕ) (x y : Berth J) → reaches (step slots t 0 0 none) s.me r n
+        → n.1 ≡ (t, x) ∷ rest n.1 → m ≡ (n.0, (t, y) ∷ rest n.1) → leaves (step slots 0 0 0 none) m q p
+        → p ≡ (laid s.me.0 (with_home (known_in s) t (Some y)), [])
+    exchanged n m p slots r q x y reached found given left =
+        told_left m y (swapped n (told_reached n slots r reached) x y m found given).1 p slots q left

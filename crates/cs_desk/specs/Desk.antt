@@ -1,6 +1,7 @@
 -- What stands between two cycles: the cells, the layout, and how much room there is.
-use Rattle.std.specs.Prelude.{ℕ, ◌-◌, ◌≤◌, List, length}
-use Rattle.atomic_table.specs.Seated.{TableId}
+use Rattle.std.specs.Prelude.{ℕ, ◌≤◌, List}
+pub use Rattle.cs_desk.specs.Kept.{Standing}
+use Rattle.cs_desk.specs.Kept.{cells_now, plan_of}
 use Rattle.cs_desk.specs.declared.desk.Desk.{Desk}
 use Rattle.cs_board.specs.Resting.{areas_in, known_in, wide}
 use Rattle.cs_cells.specs.Cells.{Cells, values}
@@ -9,30 +10,25 @@ use Rattle.cs_graph.specs.Graph.{Dependencies}
 use Rattle.cs_board.specs.Views.{cells_laid}
 use Rattle.cs_board.specs.declared.view.Plan.{Plan}
 
--- which table, and the layout of its cells
-pub record Standing : Type 0 where
-  pub table : TableId
-  pub areas : List Area
-
 module _ {J : Type 0} where
   -- the layout of the cells
   abbrev pub areas : Desk J → List Area
-  areas desk = areas_in desk.seat
+  areas desk = areas_in desk.resting.seat
 
   -- what neither a look nor a set changes
   abbrev pub standing : Desk J → Standing
-  standing desk = record { table = desk.table.shared.table_id; areas = areas desk }
+  standing desk = record { table = desk.resting.table.shared.table_id; areas = areas desk }
 
   -- the value of each cell, by address
   abbrev pub cells : Desk J → Cells
-  cells desk = values (cells_laid (areas desk) (known_in desk.seat))
+  cells desk = cells_now desk.plain (values (cells_laid (areas desk) (known_in desk.resting.seat)))
 
   -- how many notes a cycle may have, and how many words there are for all that a cycle needs
   abbrev pub note_room : Desk J → ℕ
-  note_room desk = desk.table.shared.table_id.slots
+  note_room desk = desk.resting.table.shared.table_id.slots
 
   abbrev pub word_room : Desk J → ℕ
-  word_room desk = desk.table.shared.table_id.words
+  word_room desk = desk.resting.table.shared.table_id.words
 
   -- there is room for a cycle of n notes and m edges
   pub record HasRoom (desk : Desk J) (n m : ℕ) : Type 0 where
@@ -41,11 +37,4 @@ module _ {J : Type 0} where
 
   -- the plan of a cycle of these jobs, over the cells of the desk
   abbrev pub plan_from : Desk J → Dependencies → List J → Plan J
-  plan_from desk graph jobs = record {
-    notes = length jobs;
-    edges = graph.edges;
-    areas = areas desk;
-    jobs = jobs;
-    cells = cells desk;
-    spare = word_room desk - wide (areas desk) (length jobs) (length graph.edges);
-  }
+  plan_from desk graph jobs = plan_of (areas desk) (cells desk) (word_room desk) graph jobs

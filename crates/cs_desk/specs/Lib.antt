@@ -1,4 +1,5 @@
 pub mod Courses
 pub mod Cycles
 pub mod Desk
+pub mod Kept
 pub mod inner

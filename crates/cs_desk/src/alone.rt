@@ -2,9 +2,15 @@
 ghost use Rattle.std.specs.Prelude.{◌≡◌, ◌<◌, length};
 
 use crate::desk::Desk;
+use crate::plain::numbers_of;
 use crate::receipt::Receipt;
 use cs_cells::Job;
 use cs_edge::Gate;
+use std::alloc::Global;
+
+/// How many cells may be moved into plain memory for each cycle in a row that was the caller's alone: each has to go
+/// back by an atomic store before the next board.
+const CELLS_A_CYCLE: u32 = 16;
 
 impl<J: Job> Desk<J> {
     ghost use Rattle.cs_desk.specs.Cycles.{AreOver, WasPlayed};
@@ -12,7 +18,8 @@ impl<J: Job> Desk<J> {
 
     /// Runs the notes of a control cycle, `notes` in number, one by one in serial order over the
     /// desk's cells, which nobody else can reach, and answers a receipt with their jobs. There is no
-    /// board: nothing is claimed, laid or cleared, no memory is taken and nobody is waited for.
+    /// board: nothing is claimed, laid or cleared, and nobody is waited for. Where cycle after cycle is run so
+    /// the cells come to lie in plain memory, unless there is none: then they stay where they are.
     /// `gate` is called with `cycle` and the note's place before each note is run.
     pub fn run_alone<G: Gate>(
         &mut self,
@@ -21,6 +28,36 @@ impl<J: Job> Desk<J> {
         jobs: Vec<J>,
         gate: &G,
     ) -> Receipt<J>
+        requires notes { notes ≡ length jobs.items }
+        requires over { AreOver J.means self.old jobs.items }
+        ensures { WasPlayed J.means self.old jobs.items result self.new }
+    {
+        self.loosen(*jobs.allocator());
+        self.run_each(cycle, notes, jobs, gate)
+    }
+
+    /// One cycle more in a row is the caller's alone; after enough of them, by the number of cells, these are moved
+    /// into plain memory.
+    fn loosen(&mut self, alloc: Global)
+        ensures cells { cells self.new ≡ cells self.old }
+        ensures areas { areas self.new ≡ areas self.old }
+        ensures room { (note_room self.new ≡ note_room self.old) × (word_room self.new ≡ word_room self.old) }
+    {
+        if self.plain.is_some() {
+            return;
+        }
+        self.alone = self.alone.saturating_add(1);
+        let count = self.resting.cells;
+        if self.alone < count / CELLS_A_CYCLE {
+            return;
+        }
+        if let Ok(numbers) = numbers_of(alloc, &mut self.resting, count) {
+            self.plain = Some(numbers);
+        }
+    }
+
+    /// Runs the notes, wherever the cells lie.
+    fn run_each<G: Gate>(&mut self, cycle: u32, notes: u32, jobs: Vec<J>, gate: &G) -> Receipt<J>
         requires notes { notes ≡ length jobs.items }
         requires over { AreOver J.means self.old jobs.items }
         ensures { WasPlayed J.means self.old jobs.items result self.new }

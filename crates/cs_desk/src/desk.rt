@@ -1,33 +1,31 @@
 // What stands between two cycles.
-ghost use Rattle.std.specs.Prelude.{◌≡◌, ◌+◌, ◌<◌, ◌≤◌, ◌++◌, ◌∷◌, [], length, replicate, slice_index, slice_set, IfOk, OnOk};
-ghost use Rattle.cs_board.specs.Resting.{IsSole, known_in, areas_in};
-ghost use Rattle.cs_desk.specs.inner.Resting.{IsResting};
+ghost use Rattle.std.specs.Prelude.{◌≡◌, length, IfOk};
+ghost use Rattle.std.specs.Option.{ForSome};
 ghost use Rattle.cs_cells.specs.Areas.{word_count};
-ghost use Rattle.cs_cells.specs.Cells.{values, cell};
-ghost use Rattle.cs_board.specs.Views.{laid, with_word};
-ghost use Rattle.cs_board.specs.declared.view.Berth.TheVariants.{Vacant};
-ghost use Rattle.cs_board.specs.Opening.{each_below};
+ghost use Rattle.cs_cells.specs.Cells.{values};
+ghost use Rattle.cs_desk.specs.inner.Tables.{layout_of};
 
-use atomic_table::{Refused, Table};
+use crate::plain::numbers_in;
+use crate::resting::RestingTable;
 use cs_base::{Num, OutOfMemory};
-use cs_board::{Berth, Berths, Key, Lay, Read, Sitting};
 use cs_cells::{Bank, Job, Layout};
 use std::alloc::Global;
-use std::snapshot::Snapshot;
 
-/// The words and slots of a performance, with the cells of the piece, while no cycle is played.
+/// The words and slots of a performance, with the cells of the piece, while no board is played. While cycles are the
+/// caller's alone the cells lie in plain memory, where a look or a set is no atomic step, and those in the table's
+/// words are of no account.
 #[derive(Drop)]
 pub struct Desk<J: Job> {
-    pub(crate) table: Berths<J>,
-    pub(crate) seat: Sitting<J>,
-    pub(crate) areas: u32,
-    pub(crate) cells: u32,
-    ghost rests: { IsResting areas cells table.shared.table_id seat },
+    pub(crate) resting: RestingTable<J>,
+    pub(crate) plain: Option<Vec<Num>>,
+    /// How many cycles in a row were the caller's alone while the cells lay in the table's words.
+    pub(crate) alone: u32,
+    ghost long: { ForSome plain (λ numbers. length numbers.items ≡ word_count (layout_of resting)) },
 }
 
 impl<J: Job> Desk<J> {
-    ghost use Rattle.cs_desk.specs.Desk.{areas, cells, note_room, word_room};
     ghost use Rattle.cs_board.specs.Resting.{wide};
+    ghost use Rattle.cs_desk.specs.Desk.{areas, cells, note_room, word_room};
 
     /// A desk over this layout, with one word for each cell, and with room for cycles of so many
     /// notes and edges.
@@ -44,102 +42,34 @@ impl<J: Job> Desk<J> {
         ensures notes { IfOk result (λ d. note_room d ≡ notes) }
         ensures room { IfOk result (λ d. word_room d ≡ wide layout.now notes edges) }
     {
-        let row = row_of(alloc, layout, words, notes, edges)?;
-        let slots = vacant_slots(alloc, notes)?;
-        let key = Key {
-            layout: Snapshot::of(layout),
-            words: Snapshot::of(&row),
-            slots: Snapshot::of(&notes),
-        };
-        match Table::new(alloc, &row, slots, &key) {
-            Ok((table, seat)) => Ok(Desk {
-                table,
-                seat,
-                areas: layout.len(),
-                cells: layout.words(),
-            }),
-            Err(Refused { slots }) => {
-                discard(slots);
-                Err(OutOfMemory)
-            }
-        }
+        Desk::over(alloc, layout, numbers_in(alloc, words)?, notes, edges)
+    }
+
+    /// A desk over this layout, with these cells, and with room for cycles of so many notes and edges.
+    pub(crate) fn over(
+        alloc: Global,
+        layout: &Layout,
+        numbers: Vec<Num>,
+        notes: u32,
+        edges: u32,
+    ) -> Result<Desk<J>, OutOfMemory>
+        requires numbers { length numbers.items ≡ word_count layout.now }
+        ensures areas { IfOk result (λ d. areas d ≡ layout.now) }
+        ensures cells { IfOk result (λ d. cells d ≡ numbers.items) }
+        ensures notes { IfOk result (λ d. note_room d ≡ notes) }
+        ensures room { IfOk result (λ d. word_room d ≡ wide layout.now notes edges) }
+    {
+        let resting = RestingTable::new(alloc, layout, notes, edges)?;
+        Ok(Desk {
+            resting,
+            plain: Some(numbers),
+            alone: 0,
+        })
     }
 }
 
-/// The first word, the cells, and zeros for all that a cycle needs.
-fn row_of(
-    alloc: Global,
-    layout: &Layout,
-    words: &[u64],
-    notes: u32,
-    edges: u32,
-) -> Result<Vec<u64>, OutOfMemory>
-    ensures { IfOk result (λ row. row.items ≡ 0 ∷ words.now ++ (each_below (λ r. 0) (length layout.now)
-        ++ each_below (λ r. 0) (notes + (notes + edges)))) }
-{
-    let others = 2 * u64::from(notes) + u64::from(edges);
-    let mut row = Vec::new(alloc);
-    row.push(0)?;
-    row.extend_from_slice(words)?;
-    push_zeros(&mut row, u64::from(layout.len()))?;
-    push_zeros(&mut row, others)?;
-    Ok(row)
-}
-
-fn push_zeros(words: &mut Vec<u64>, count: u64) -> Result<(), OutOfMemory>
-    ensures { OnOk result (words.new.items ≡ words.old.items ++ each_below (λ t. 0) count) }
-{
-    for _ in 0..count {
-        words.push(0)?;
-    }
-    Ok(())
-}
-
-/// So many vacant slots.
-fn vacant_slots<J>(alloc: Global, count: u32) -> Result<Vec<Berth<J>>, OutOfMemory>
-    ensures { IfOk result (λ slots. slots.items ≡ replicate count Vacant) }
-{
-    let mut slots = Vec::with_capacity(alloc, count as usize)?;
-    for _ in 0..count {
-        slots.push_reserved(Berth::Vacant);
-    }
-    Ok(slots)
-}
-
-/// Frees vacant slots.
-fn discard<J>(mut slots: Vec<Berth<J>>)
-    requires { slots.items ≡ replicate (length slots.items) Vacant }
-{
-    while let Some(slot) = slots.pop() {
-        let Berth::Vacant = slot else { unreachable!() };
-    }
-    slots.destroy_empty();
-}
-
-/// A word is set while the board rests.
-pub(crate) fn lay<J: Job>(table: &Berths<J>, seat: &mut Sitting<J>, word: usize, value: u64)
-    requires sole { IsSole table.now.shared.table_id seat.old }
-    requires word { word < table.now.shared.table_id.words }
-    ensures me { seat.new.me ≡ (laid seat.old.me.0 (with_word (known_in seat.old) word value), []) }
-    ensures sole { IsSole table.now.shared.table_id seat.new }
-    ensures areas { areas_in seat.new ≡ areas_in seat.old }
-    ensures known { known_in seat.new ≡ with_word (known_in seat.old) word value }
-{
-    table.shared.store::<Lay>(seat, word, value);
-}
-
-/// A word is read while the board rests.
-fn read<J: Job>(table: &Berths<J>, seat: &mut Sitting<J>, word: usize) -> u64
-    requires sole { IsSole table.now.shared.table_id seat.old }
-    requires word { word < table.now.shared.table_id.words }
-    ensures me { seat.new.me ≡ seat.old.me }
-    ensures sole { IsSole table.now.shared.table_id seat.new }
-    ensures value { result ≡ slice_index (known_in seat.old).words word }
-{
-    table.shared.load::<Read>(seat, word)
-}
-
-/// Between two cycles a note's beginning, or the making of a table, reads and sets cells.
+/// Between two cycles a note's beginning, or the making of a table, reads and sets cells; in a cycle that is the
+/// caller's alone each note does.
 impl<J: Job> Bank for Desk<J> {
     ghost use Rattle.std.specs.Prelude.{◌<◌};
     ghost use Rattle.cs_desk.specs.Desk.{Standing, standing, cells};
@@ -157,16 +87,16 @@ impl<J: Job> Bank for Desk<J> {
     ghost cells = { cells };
 
     fn get(&mut self, addr: u32) -> Num {
-        let word = read(&self.table, &mut self.seat, 1 + addr as usize);
-        Num::of_raw(word.cast_signed())
+        match &self.plain {
+            Some(numbers) => numbers[addr as usize],
+            None => self.resting.get(addr),
+        }
     }
 
     fn set(&mut self, addr: u32, value: Num) {
-        lay(
-            &self.table,
-            &mut self.seat,
-            1 + addr as usize,
-            value.raw().cast_unsigned(),
-        );
+        match &mut self.plain {
+            Some(numbers) => numbers[addr as usize] = value,
+            None => self.resting.set(addr, value),
+        }
     }
 }

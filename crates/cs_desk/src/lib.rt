@@ -2,21 +2,23 @@
 //! with the cells of the piece; it opens a board for each cycle, and the board comes to rest as a
 //! desk again.
 //!
-//! The one contract: `Desk::rest` gives the jobs, and a desk with the cells, that the notes of the
-//! cycle leave when they run one by one in serial order; `Desk::open` costs the cycle's notes and
-//! edges, takes no memory and can't fail. `Desk::run_alone` gives the same without a board.
+//! The one contract: a cycle leaves the jobs, and a desk with the cells, that its notes leave when they run one
+//! by one in serial order, by a board (`Desk::open`, `Desk::rest`) or without one (`Desk::run_alone`). `open`
+//! takes no memory and can't fail.
 //!
-//! In which order words are laid and cleared may change without anyone above noticing. In reading
-//! order: `receipt`, `desk`, `room`, `course` (the graph that is kept from cycle to cycle), `alone` (a
-//! cycle without a board), `open`, `rest`.
+//! In which order words are laid and cleared, and where the cells lie, may change without anyone above noticing. In
+//! reading order: `receipt`, `resting` (words, slots and their seat), `plain` (cells in plain memory), `desk`, `room`,
+//! `course` (the graph that is kept from cycle to cycle), `alone` (a cycle without a board), `open`, `rest`.
 #![tactic(auto)]
 
 mod alone;
 mod course;
 mod desk;
 mod open;
+mod plain;
 mod receipt;
 mod rest;
+mod resting;
 mod room;
 
 pub use course::Course;

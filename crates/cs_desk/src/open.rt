@@ -1,8 +1,11 @@
 // The beginning of a cycle.
-ghost use Rattle.std.specs.Prelude.{◌≡◌, ◌+◌, ◌*◌, ◌<◌, ◌≤◌, ◌^◌, ◌∷◌, [], ℕ, Some, length, true, false, slice_get};
+ghost use Rattle.std.specs.Option.{ForSome};
+ghost use Rattle.std.specs.Prelude.{◌≡◌, ◌+◌, ◌*◌, ◌<◌, ◌≤◌, ◌^◌, [], Some, length, slice_get};
 ghost use Rattle.std.specs.Vec.{vec_capacity};
 ghost use Rattle.cs_board.specs.Resting.{IsSole, IsLaying, areas_in, known_in};
+ghost use Rattle.cs_desk.specs.Kept.{cells_now};
 ghost use Rattle.cs_desk.specs.inner.Resting.{plan_over};
+ghost use Rattle.cs_desk.specs.inner.Tables.{layout_of, cells_in, slots_in, words_in, HasSpace, plan_at};
 ghost use Rattle.cs_cells.specs.Areas.{word_count};
 ghost use Rattle.cs_cells.specs.Serial.{AllValid};
 ghost use Rattle.cs_board.specs.Plans.{IsPlan};
@@ -10,7 +13,10 @@ ghost use Rattle.cs_board.specs.Views.{with_word, with_home, opening_view};
 ghost use Rattle.cs_board.specs.declared.view.Berth.TheVariants.{Vacant, Full};
 ghost use Rattle.cs_board.specs.Opening.{first_status, first_watch};
 
-use crate::desk::{Desk, lay};
+use crate::desk::Desk;
+use crate::plain::fill;
+use crate::resting::{RestingTable, lay};
+use cs_base::Num;
 use cs_board::{
     AVAILABLE, Berth, Berths, Board, BoardSeat, IDLE, Leave, Reach, Sitting, WAITING, WATCHED,
 };
@@ -22,11 +28,11 @@ use std::sync::Arc;
 impl<J: Job> Desk<J> {
     ghost use Rattle.cs_board.specs.Board.{plan, name, view, graph_of, IsSeatOf};
     ghost use Rattle.cs_desk.specs.Cycles.{IsCycle};
-    ghost use Rattle.cs_desk.specs.Desk.{note_room, word_room, HasRoom, plan_from};
+    ghost use Rattle.cs_desk.specs.Desk.{note_room, word_room, plan_from};
 
-    /// The board of a cycle, and its first seat, at the cost of the cycle's notes and edges.
-    /// `graph` is that of the jobs' footprints, and the desk's layout that of each job. It takes no
-    /// memory, and so it can't fail.
+    /// The board of a cycle, and its first seat, at the cost of the cycle's notes and edges, and of the cells where
+    /// they lay in plain memory. `graph` is that of the jobs' footprints, and the desk's layout that of each job. It
+    /// takes no memory, and so it can't fail.
     pub fn open(self, graph: Arc<Graph, Global>, jobs: Vec<J>) -> (Board<J>, BoardSeat<J>)
         requires { IsCycle J.means graph.value self jobs.items }
         ensures plan { plan result.0 ≡ plan_from self graph.value jobs.items }
@@ -38,22 +44,47 @@ impl<J: Job> Desk<J> {
     {
         hear(&jobs);
         let _ = graph.edges();
-        self.begin(graph, jobs)
+        let Desk {
+            resting,
+            plain,
+            alone: _,
+        } = self;
+        let resting = settled(resting, plain);
+        resting.begin(graph, jobs)
     }
+}
+
+/// The table with the cells in its words, wherever they lay.
+fn settled<J: Job>(resting: RestingTable<J>, plain: Option<Vec<Num>>) -> RestingTable<J>
+    requires { ForSome plain (λ numbers. length numbers.items ≡ word_count (layout_of resting)) }
+    ensures cells { cells_in result ≡ cells_now plain (cells_in resting) }
+    ensures areas { layout_of result ≡ layout_of resting }
+    ensures room { (slots_in result ≡ slots_in resting) × (words_in result ≡ words_in resting) }
+{
+    let mut resting = resting;
+    if let Some(numbers) = plain {
+        let count = resting.cells;
+        fill(&mut resting, &numbers, count);
+    }
+    resting
+}
+
+impl<J: Job> RestingTable<J> {
+    ghost use Rattle.cs_board.specs.Board.{plan, name, view, graph_of, IsSeatOf};
 
     /// The board of a cycle whose plan fits.
     fn begin(self, graph: Arc<Graph, Global>, jobs: Vec<J>) -> (Board<J>, BoardSeat<J>)
         requires notes { length graph.value.levels ≡ length jobs.items }
-        requires whole { IsPlan J.means (plan_from self graph.value jobs.items) }
-        requires room { HasRoom self (length jobs.items) (length graph.value.edges) }
-        ensures plan { plan result.0 ≡ plan_from self graph.value jobs.items }
+        requires whole { IsPlan J.means (plan_at self graph.value jobs.items) }
+        requires room { HasSpace self (length jobs.items) (length graph.value.edges) }
+        ensures plan { plan result.0 ≡ plan_at self graph.value jobs.items }
         ensures seat { IsSeatOf J.means (plan result.0) (name result.0) result.1 }
         ensures view { view result.1 ≡ opening_view (plan result.0) }
         ensures graph { graph_of result.0 ≡ graph.value }
-        ensures room { ((name result.0).slots ≡ note_room self) × ((name result.0).words
-            ≡ word_room self) }
+        ensures room { ((name result.0).slots ≡ slots_in self) × ((name result.0).words
+            ≡ words_in self) }
     {
-        let Desk {
+        let RestingTable {
             table,
             mut seat,
             areas,

@@ -9,8 +9,9 @@ ghost use Rattle.cs_board.specs.Plans.{IsPlan, places_written};
 ghost use Rattle.cs_board.specs.Views.{with_home};
 ghost use Rattle.cs_board.specs.declared.view.Berth.TheVariants.{Vacant, Full};
 
-use crate::desk::{Desk, lay};
+use crate::desk::Desk;
 use crate::receipt::Receipt;
+use crate::resting::{RestingTable, lay};
 use cs_board::{Berth, Berths, Board, BoardSeat, Leave, Parts, Reach, Sitting};
 use cs_cells::Job;
 use cs_graph::Graph;
@@ -43,11 +44,16 @@ impl<J: Job> Desk<J> {
             areas,
             cells,
         } = board.into_parts();
-        let desk = Desk {
+        let resting = RestingTable {
             table,
             seat,
             areas,
             cells,
+        };
+        let desk = Desk {
+            resting,
+            plain: None,
+            alone: 0,
         };
         (Receipt { notes, jobs }, desk, graph)
     }

@@ -1,8 +1,10 @@
 // The graph of a control cycle's jobs.
 ghost use Rattle.cs_base.specs.Limits.{most_notes};
-ghost use Rattle.std.specs.Prelude.{◌≡◌, ◌*◌, ◌+◌, ◌<◌, ◌≤◌, ◌↔◌, ℕ, List, map, length, slice_index, IfOk, IfSome, IfNone};
+ghost use Rattle.std.specs.Prelude.{◌≡◌, ◌*◌, ◌+◌, ◌<◌, ◌≤◌, ◌↔◌, ℕ, List, map, length, slice_index};
+ghost use Rattle.std.specs.Prelude.{IfOk, IfSome, IfNone};
 ghost use Rattle.std.specs.List.{AllPairs};
-ghost use Rattle.cs_graph.specs.Graph.{IsGraphOf, IsFit, IsLevelled, Edge, ComesBefore, LeadsForward, StandTogether, IsNextOut, NoneOut, NoneIn};
+ghost use Rattle.cs_graph.specs.Graph.{IsGraphOf, IsFit, IsLevelled, Edge, ComesBefore, LeadsForward, StandTogether};
+ghost use Rattle.cs_graph.specs.Graph.{IsNextOut, NoneOut, NoneIn};
 ghost use Rattle.cs_graph.specs.Cover.{HasCover, AreApart};
 ghost use Rattle.cs_graph.specs.inner.Index.{AreEnds};
 
@@ -41,7 +43,8 @@ impl Model for Graph {
 
     ghost view = { λ g. record { edges = g.edges.items; levels = g.levels.items } };
 
-    ghost invariant = { λ g. IsStored g.edges.items g.levels.items g.into.items g.first_out.items g.next_out.items g.chains };
+    ghost invariant = { λ g. IsStored g.edges.items g.levels.items g.into.items
+        g.first_out.items g.next_out.items g.chains };
 }
 
 impl Graph {

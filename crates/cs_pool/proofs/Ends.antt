@@ -6,8 +6,8 @@ use lib.ListN.{get_elem?}
 use Rattle.atomic_table.specs.Table.{State}
 use Rattle.cs_cells.specs.Meaning.{Meaning}
 use Rattle.cs_pool.specs.inner.Exchange.{beginning, Facts, IsShared, IsBegun, Always}
-use Rattle.cs_pool.specs.declared.letter.Letter.{Letter}
-use Rattle.cs_pool.specs.declared.letter.Letter.TheVariants as letter
+use Rattle.cs_pool.specs.declared.letter.MailboxLetter.{MailboxLetter}
+use Rattle.cs_pool.specs.declared.letter.MailboxLetter.TheVariants as letter
 use Rattle.cs_pool.specs.declared.view.Knows.{Knows}
 use Rattle.cs_pool.specs.declared.view.Role.{Role}
 use Rattle.cs_pool.specs.declared.view.Role.TheVariants.{Maker, Holder, Caller, Helper}
@@ -30,11 +30,11 @@ module _ {A : Type 0} where
   two_of a b c (suc zero) e = inr (refl, some-injective b c e)
   two_of a b c (suc (suc i)) e = absurd (some-ne-none c (sym e))
 
-module _ {J : Type 0} (M : Meaning J) (s : State (Letter J) (Knows J)) (id : ℕ) (v : Knows J) where
+module _ {J : Type 0} (M : Meaning J) (s : State (MailboxLetter J) (Knows J)) (id : ℕ) (v : Knows J) where
   -- the mailbox has its two ends, and this is the caller's
   pub record OfCaller : Type 0 where
     pub word : ℕ
-    pub home : maybe.Option (Letter J)
+    pub home : maybe.Option (MailboxLetter J)
     pub other : Knows J
     pub id_is : id ≡ 0
     pub words : s.words ≡ word ∷ []
@@ -45,7 +45,7 @@ module _ {J : Type 0} (M : Meaning J) (s : State (Letter J) (Knows J)) (id : ℕ
   -- and this is the helper's
   pub record OfHelper : Type 0 where
     pub word : ℕ
-    pub home : maybe.Option (Letter J)
+    pub home : maybe.Option (MailboxLetter J)
     pub other : Knows J
     pub id_is : id ≡ 1
     pub words : s.words ≡ word ∷ []
@@ -54,7 +54,7 @@ module _ {J : Type 0} (M : Meaning J) (s : State (Letter J) (Knows J)) (id : ℕ
     pub facts : Facts M word home other v
 
   -- an end of a mailbox that is being made
-  of_begun : (r : Role) (h : maybe.Option (Letter J)) → IsBegun r h s → get_elem? s.views id ≡ some v
+  of_begun : (r : Role) (h : maybe.Option (MailboxLetter J)) → IsBegun r h s → get_elem? s.views id ≡ some v
       → (id ≡ 0) × (beginning r ≡ v)
   of_begun r h b here = one_of (beginning r) v id (ap (λ vs. get_elem? vs id) (sym b.views) ∙ here)
 
@@ -63,7 +63,7 @@ module _ {J : Type 0} (M : Meaning J) (s : State (Letter J) (Knows J)) (id : ℕ
       → ((id ≡ 0) × (h.caller ≡ v)) ⊎ ((id ≡ 1) × (h.helper ≡ v))
   of_shared h here = two_of h.caller h.helper v id (ap (λ vs. get_elem? vs id) (sym h.views) ∙ here)
 
-  not_begun : (r q : Role) (h : maybe.Option (Letter J)) → rank r ≢ rank q → v.role ≡ q → IsBegun r h s
+  not_begun : (r q : Role) (h : maybe.Option (MailboxLetter J)) → rank r ≢ rank q → v.role ≡ q → IsBegun r h s
       → get_elem? s.views id ≡ some v → ⊥
   not_begun r q h ne role b here = ne (ap (λ z. rank z.role) (of_begun r h b here).1 ∙ ap rank role)
 

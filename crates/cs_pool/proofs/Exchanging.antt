@@ -16,8 +16,8 @@ use Rattle.cs_pool.specs.Working.{IsDone, IsThrough}
 use Rattle.cs_pool.specs.Letters.{errand_of, caller, helper}
 use Rattle.cs_pool.specs.inner.Exchange.{beginning, IsGiven, IsBack, IsHome, IsAbroad, Facts, Always}
 use Rattle.cs_pool.specs.inner.Telling.{Sat, fetched, gave, gave_back, closed, took, collected, withdrew}
-use Rattle.cs_pool.specs.declared.letter.Letter.{Letter}
-use Rattle.cs_pool.specs.declared.letter.Letter.TheVariants as letter
+use Rattle.cs_pool.specs.declared.letter.MailboxLetter.{MailboxLetter}
+use Rattle.cs_pool.specs.declared.letter.MailboxLetter.TheVariants as letter
 use Rattle.cs_pool.specs.declared.letter.TheConstants.{EMPTY, GIVEN, TAKEN, BACK, OVER}
 use Rattle.cs_pool.specs.declared.letter.Task.{Task}
 use Rattle.cs_pool.specs.declared.view.Errand.{Errand}
@@ -41,21 +41,22 @@ module _ {J : Type 0} (M : Meaning J) where
   still_free (Some e) w w' c c' n n' d = absurd (n d.0)
 
   -- at GIVEN there is something out, which lies in the slot
-  given_out : (o : Option (Errand J)) (w : ℕ) (h : maybe.Option (Letter J)) → w ≡ GIVEN
+  given_out : (o : Option (Errand J)) (w : ℕ) (h : maybe.Option (MailboxLetter J)) → w ≡ GIVEN
       → MatchOption o (IsHome M w h) (IsAbroad M w h)
       → (e : Errand J) × (o ≡ Some e) × IsGiven M w h e
   given_out None w h is m = absurd (⊎_elim (λ z. omega (arith, z, is)) (λ z. omega (arith, z, is)) m.word)
   given_out (Some e) w h is m = (e, refl, given_abroad e w h is m)
     where
-      given_abroad : (e : Errand J) (w : ℕ) (h : maybe.Option (Letter J)) → w ≡ GIVEN → IsAbroad M w h e
+      given_abroad : (e : Errand J) (w : ℕ) (h : maybe.Option (MailboxLetter J)) → w ≡ GIVEN → IsAbroad M w h e
           → IsGiven M w h e
       given_abroad e w h is m =
           ⊎_elim (λ g. g) (⊎_elim (λ t. absurd (omega (arith, is, t.word))) (λ b. absurd (omega (arith, is, b.word)))) m
 
-  module _ (s : State (Letter J) (Knows J)) (id : ℕ) where
+  module _ (s : State (MailboxLetter J) (Knows J)) (id : ℕ) where
     -- the rule after a step of the caller, and of the helper
-    caller_stepped : (v : Knows J) (c : OfCaller M s id v) (ws : List ℕ) (hs : List (maybe.Option (Letter J))) (w : ℕ)
-        (h : maybe.Option (Letter J)) (v' : Knows J)
+    caller_stepped : (v : Knows J) (c : OfCaller M s id v) (ws : List ℕ) (hs : List (maybe.Option (MailboxLetter J)))
+        (w : ℕ)
+        (h : maybe.Option (MailboxLetter J)) (v' : Knows J)
         → ws ≡ w ∷ [] → hs ≡ h ∷ [] → Facts M w h v' c.other
         → Always M (record { words = ws; homes = hs; views = slice_set s.views id v' })
     caller_stepped v c ws hs w h v' words homes facts = inr (inr (record {
@@ -69,8 +70,9 @@ module _ {J : Type 0} (M : Meaning J) where
       facts = facts;
     }))
 
-    helper_stepped : (v : Knows J) (c : OfHelper M s id v) (ws : List ℕ) (hs : List (maybe.Option (Letter J))) (w : ℕ)
-        (h : maybe.Option (Letter J)) (v' : Knows J)
+    helper_stepped : (v : Knows J) (c : OfHelper M s id v) (ws : List ℕ) (hs : List (maybe.Option (MailboxLetter J)))
+        (w : ℕ)
+        (h : maybe.Option (MailboxLetter J)) (v' : Knows J)
         → ws ≡ w ∷ [] → hs ≡ h ∷ [] → Facts M w h c.other v'
         → Always M (record { words = ws; homes = hs; views = slice_set s.views id v' })
     helper_stepped v c ws hs w h v' words homes facts = inr (inr (record {
@@ -146,7 +148,7 @@ module _ {J : Type 0} (M : Meaning J) where
       )
 
   -- nothing changes
-  caller_again : (s : State (Letter J) (Knows J)) (id : ℕ) (v : Knows J) (c : OfCaller M s id v)
+  caller_again : (s : State (MailboxLetter J) (Knows J)) (id : ℕ) (v : Knows J) (c : OfCaller M s id v)
       → Always M (record {
         words = slice_set s.words 0 (slice_index s.words 0);
         homes = s.homes;
@@ -156,7 +158,7 @@ module _ {J : Type 0} (M : Meaning J) where
   caller_again s id v c = caller_stepped s id v c (slice_set s.words 0 (slice_index s.words 0)) s.homes c.word c.home v
       (ap (λ ws. slice_set ws 0 (slice_index ws 0)) c.words) c.homes c.facts
 
-  helper_again : (s : State (Letter J) (Knows J)) (id : ℕ) (v : Knows J) (c : OfHelper M s id v)
+  helper_again : (s : State (MailboxLetter J) (Knows J)) (id : ℕ) (v : Knows J) (c : OfHelper M s id v)
       → Always M (record {
         words = slice_set s.words 0 (slice_index s.words 0);
         homes = s.homes;
@@ -171,7 +173,7 @@ module _ {J : Type 0} (M : Meaning J) where
       → Allows (Always M) n id (helper None, []) 0 (λ y. either (eqb y GIVEN) TAKEN y)
       (took M (step n 0 GIVEN TAKEN none) (helper None, []))
   takes_task n id s a long here fits =
-      exchanged x GIVEN TAKEN (λ y. (w : Knows J) × (b : Act (Letter J)) × Valid s.homes [] b
+      exchanged x GIVEN TAKEN (λ y. (w : Knows J) × (b : Act (MailboxLetter J)) × Valid s.homes [] b
       × Always M (stepped s 0 y id [] w b)
       × took M (step n 0 GIVEN TAKEN none) (helper None, []) x (w, carried_after [] b))
       (λ hit.
@@ -233,7 +235,7 @@ module _ {J : Type 0} (M : Meaning J) where
       → Allows (Always M) n id (caller k (Some e), []) 0 (λ y. either (eqb y BACK) EMPTY y)
       (collected M (step n 0 BACK EMPTY none) (caller k (Some e), []))
   collects n id k e s a long here fits =
-      exchanged x BACK EMPTY (λ y. (w : Knows J) × (b : Act (Letter J)) × Valid s.homes [] b
+      exchanged x BACK EMPTY (λ y. (w : Knows J) × (b : Act (MailboxLetter J)) × Valid s.homes [] b
       × Always M (stepped s 0 y id [] w b)
       × collected M (step n 0 BACK EMPTY none) (caller k (Some e), []) x (w, carried_after [] b))
       (λ hit.
@@ -278,7 +280,7 @@ module _ {J : Type 0} (M : Meaning J) where
       → Allows (Always M) n id (caller k (Some e), []) 0 (λ y. either (eqb y GIVEN) EMPTY y)
       (withdrew M (step n 0 GIVEN EMPTY none) (caller k (Some e), []))
   withdraws n id k e s a long here fits =
-      exchanged x GIVEN EMPTY (λ y. (w : Knows J) × (b : Act (Letter J)) × Valid s.homes [] b
+      exchanged x GIVEN EMPTY (λ y. (w : Knows J) × (b : Act (MailboxLetter J)) × Valid s.homes [] b
       × Always M (stepped s 0 y id [] w b)
       × withdrew M (step n 0 GIVEN EMPTY none) (caller k (Some e), []) x (w, carried_after [] b))
       (λ hit.
@@ -319,7 +321,7 @@ module _ {J : Type 0} (M : Meaning J) where
           (⊎_elim (λ t. absurd (omega (arith, is, t.word))) (λ b. absurd (omega (arith, is, b.word)))) c.facts.out
 
   -- there is no further task
-  pub ends : (n id k : ℕ) (l : List (ℕ × Letter J))
+  pub ends : (n id k : ℕ) (l : List (ℕ × MailboxLetter J))
       → Allows (Always M) n id (caller k None, l) 0 (λ _. OVER)
       (λ _. closed (step n 0 OVER 0 none) (caller k None, l) OVER)
   ends n id k l s a long here fits =
@@ -351,19 +353,20 @@ untouched M e r is done =
     (record { done = done; seat = record { first = refl; number = refl; out = refl; made = refl } })
 
 module _ {J : Type 0} where
-  abbrev letter_in : List (ℕ × Letter J) → Letter J
+  abbrev letter_in : List (ℕ × MailboxLetter J) → MailboxLetter J
   letter_in [] = letter.Nothing
   letter_in (x ∷ xs) = x.1
 
   -- an end that has the slot may write into it
-  pub has_slot : (m : Sat J) (v : Knows J) (x : Letter J) → m ≡ (v, (0, x) ∷ [])
-      → (y : Letter J) × (m.1 ≡ (0, y) ∷ rest m.1)
+  pub has_slot : (m : Sat J) (v : Knows J) (x : MailboxLetter J) → m ≡ (v, (0, x) ∷ [])
+      → (y : MailboxLetter J) × (m.1 ≡ (0, y) ∷ rest m.1)
   has_slot m v x e = (x, ap (λ z. z.1) e ∙ ap (λ l. (0, x) ∷ l) (sym (ap (λ z. rest z.1) e)))
 
   -- what it finds there, and what it knows after it
-  pub found : (m : Sat J) (v : Knows J) (x y : Letter J) → m ≡ (v, (0, x) ∷ []) → m.1 ≡ (0, y) ∷ rest m.1 → y ≡ x
+  pub found : (m : Sat J) (v : Knows J) (x y : MailboxLetter J) → m ≡ (v, (0, x) ∷ []) → m.1 ≡ (0, y) ∷ rest m.1 → y ≡ x
   found m v x y e z = ap letter_in (sym z) ∙ ap (λ q. letter_in q.1) e
 
-  pub written : (m n : Sat J) (v : Knows J) (x y : Letter J) → m ≡ (v, (0, x) ∷ []) → n ≡ (m.0, (0, y) ∷ rest m.1)
+  pub written : (m n : Sat J) (v : Knows J) (x y : MailboxLetter J) → m ≡ (v, (0, x) ∷ [])
+      → n ≡ (m.0, (0, y) ∷ rest m.1)
       → n ≡ (v, (0, y) ∷ [])
   written m n v x y e z = z ∙ ap (λ q. (q.0, (0, y) ∷ rest q.1)) e

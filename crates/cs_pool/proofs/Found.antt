@@ -1,14 +1,49 @@
--- What the caller knows of a helper between two looks, and where a look found nothing.
-use Rattle.std.proofs.Common.{Option, Some, None, IfNone}
-use Rattle.cs_board.specs.declared.board.Board.{Board}
-use Rattle.cs_board.specs.declared.board.BoardSeat.{BoardSeat}
-use Rattle.cs_pool.specs.declared.line.Line.{Line}
-use Rattle.cs_pool.specs.inner.Lines.{IsLent}
-
--- what was out before is out now
-abbrev pub StillLent : {J : Type 0} → Line J → Line J → Type 0
-StillLent before now = (b : Board _) (s : BoardSeat _) → IsLent before b s → IsLent now b s
+-- What the caller knows of a helper after it has looked for what was out, and has looked again.
+use Rattle.std.proofs.Common.{◌≡◌, ◌+◌, [], Option, Some, None, IfSome, IfNone, sym, ap, ◌∙◌}
+use Rattle.std.specs.Int.{from_bool}
+use Rattle.cs_cells.specs.Meaning.{Meaning}
+use Rattle.cs_pool.specs.Letters.{caller, errand}
+use Rattle.cs_pool.specs.Mailboxes.{HasSomethingOut, LooksFor}
+use Rattle.cs_pool.specs.declared.mailbox.CallerEnd.{CallerEnd}
+use Rattle.cs_pool.specs.declared.mailbox.Mailbox.{Mailbox}
+use Rattle.cs_pool.specs.declared.mailbox.Returned.{Returned}
 
 pub at_none : {A P Q : Type 0} (o : Option A) → (P → Q) → IfNone o P → IfNone o Q
 at_none None f p = f p
 at_none (Some x) f p = p
+
+pub at_some : {A : Type 0} {P Q : A → Type 0} (o : Option A) → ((x : A) → P x → Q x) → IfSome o P → IfSome o Q
+at_some None f p = p
+at_some (Some x) f p = f x p
+
+module _ {J : Type 0} (M : Meaning J) where
+  -- an end that is as it was has found nothing
+  pub found_nothing : (box : Mailbox J) (end end' : CallerEnd J) → end'.seat.table_id ≡ end.seat.table_id
+      → end'.seat.me ≡ end.seat.me → LooksFor M box box end end' None
+  found_nothing box end end' table me = record {
+    some = λ b s h. tt;
+    home = tt;
+    none = λ b s h. record {
+      table = table ∙ h.table;
+      me = me ∙ h.me ∙ ap (λ k. (caller k (Some (errand b s)), [])) (sym (ap (λ m. m.0.served) me));
+    };
+    counted = tt;
+    same = ap (λ m. m.0.served) me;
+  }
+
+  -- where nothing was found, what was out is out
+  pub still_out : (a b : Mailbox J) (end end' : CallerEnd J) (found : Option (Returned J))
+      → LooksFor M a b end end' found → HasSomethingOut a end → IfNone found (HasSomethingOut b end')
+  still_out a b end end' found l h =
+      at_none found (λ out. record { board = h.board; seat = h.seat; out = out }) (l.none h.board h.seat h.out)
+
+  -- two looks, of which the first found nothing
+  pub looked_again : (a b d : Mailbox J) (end mid end' : CallerEnd J) (found : Option (Returned J))
+      → LooksFor M a b end mid None → LooksFor M b d mid end' found → LooksFor M a d end end' found
+  looked_again a b d end mid end' found l m = record {
+    some = λ p s h. m.some p s (l.none p s h);
+    home = m.home;
+    none = λ p s h. m.none p s (l.none p s h);
+    counted = at_some found (λ r e. e ∙ ap (λ n. n + from_bool r.begun) l.same) m.counted;
+    same = at_none found (λ e. e ∙ l.same) m.same;
+  }

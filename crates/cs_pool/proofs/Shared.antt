@@ -15,7 +15,7 @@ use Rattle.cs_board.specs.contracts.board.Board as board
 use Rattle.cs_cells.specs.declared.job.Job.{Ghosts}
 use Rattle.cs_graph.proofs.graph.Graph.TheSendSync as graph
 use Rattle.cs_pool.proofs.member.Member.TheSendSync as member
-use Rattle.cs_pool.specs.contracts.letter.Letter as letter
+use Rattle.cs_pool.specs.contracts.letter.MailboxLetter as letter
 use Rattle.cs_pool.specs.contracts.letter.Task as task
 use Rattle.cs_pool.specs.contracts.mailbox.HelperEnd as helper_end
 use Rattle.cs_pool.specs.contracts.mailbox.Mailbox as mailbox

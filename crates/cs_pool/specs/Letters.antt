@@ -3,8 +3,8 @@ use Rattle.std.specs.Prelude.{ℕ, List, [], ◌∷◌, Option, Some, None}
 use Rattle.std.specs.Arc.{arc_value}
 use Rattle.cs_board.specs.declared.board.Board.{Board}
 use Rattle.cs_board.specs.declared.board.BoardSeat.{BoardSeat}
-use Rattle.cs_pool.specs.declared.letter.Letter.{Letter}
-use Rattle.cs_pool.specs.declared.letter.Letter.TheVariants as letter
+use Rattle.cs_pool.specs.declared.letter.MailboxLetter.{MailboxLetter}
+use Rattle.cs_pool.specs.declared.letter.MailboxLetter.TheVariants as letter
 use Rattle.cs_pool.specs.declared.letter.Task.{Task}
 use Rattle.cs_pool.specs.declared.view.Errand.{Errand}
 use Rattle.cs_pool.specs.declared.view.Knows.{Knows}
@@ -20,7 +20,7 @@ module _ {J : Type 0} where
   errand_of task = errand (arc_value task.board) task.seat
 
   -- what the task hands out that an end has written into its slot
-  abbrev pub task_in : List (ℕ × Letter J) → Option (Errand J)
+  abbrev pub task_in : List (ℕ × MailboxLetter J) → Option (Errand J)
   task_in [] = None
   task_in ((k, letter.Nothing) ∷ xs) = None
   task_in ((k, letter.Task task) ∷ xs) = Some (errand_of task)

@@ -1,14 +1,18 @@
 -- What the calls of a mailbox promise of its two ends. Nobody else has an end of it, so what is out is known at every
 -- moment: the caller can't hand out a seat of a cycle before again, nor begin a cycle while a helper still has its
 -- share of the last.
-use Rattle.std.specs.Prelude.{◌≡◌, ℕ, [], ◌∷◌, Some, None}
+use Rattle.std.specs.Prelude.{◌≡◌, ◌+◌, ℕ, [], ◌∷◌, Option, Some, None, IfSome, IfNone}
+use Rattle.std.specs.Int.{from_bool}
 use Rattle.cs_board.specs.declared.board.Board.{Board}
 use Rattle.cs_board.specs.declared.board.BoardSeat.{BoardSeat}
+use Rattle.cs_cells.specs.Meaning.{Meaning}
 use Rattle.cs_pool.specs.Letters.{errand, caller, helper}
-use Rattle.cs_pool.specs.declared.letter.Letter.TheVariants.{Nothing}
+use Rattle.cs_pool.specs.declared.letter.MailboxLetter.TheVariants.{Nothing}
 use Rattle.cs_pool.specs.declared.mailbox.CallerEnd.{CallerEnd}
 use Rattle.cs_pool.specs.declared.mailbox.HelperEnd.{HelperEnd}
 use Rattle.cs_pool.specs.declared.mailbox.Mailbox.{Mailbox}
+use Rattle.cs_pool.specs.declared.mailbox.Returned.{Returned}
+use Rattle.cs_pool.specs.Working.{IsThrough}
 
 module _ {J : Type 0} where
   -- how many tasks the helper has begun and given back, as the caller's end knows; one that was taken back doesn't
@@ -26,6 +30,12 @@ module _ {J : Type 0} where
     pub table : end.seat.table_id ≡ box.table.shared.table_id
     pub me : end.seat.me ≡ (caller (served end) (Some (errand board seat)), [])
 
+  -- the caller's end of this mailbox: some seat of some board is out
+  pub record HasSomethingOut (box : Mailbox J) (end : CallerEnd J) : Type 0 where
+    pub board : Board J
+    pub seat : BoardSeat J
+    pub out : HasOut box end board seat
+
   -- the helper's end of this mailbox: it is free
   pub record IsFree (box : Mailbox J) (end : HelperEnd J) : Type 0 where
     pub table : end.seat.table_id ≡ box.table.shared.table_id
@@ -35,3 +45,14 @@ module _ {J : Type 0} where
   pub record IsOnDuty (box : Mailbox J) (end : HelperEnd J) (board : Board J) (seat : BoardSeat J) : Type 0 where
     pub table : end.seat.table_id ≡ box.table.shared.table_id
     pub me : end.seat.me ≡ (helper (Some (errand board seat)), (0, Nothing) ∷ [])
+
+module _ {J : Type 0} (M : Meaning J) where
+  -- The caller looked for what was out, by this end of this mailbox, which are these afterwards: the seat is its own
+  -- again, after the helper's work or as it was handed out, or it is still out.
+  pub record LooksFor (box box' : Mailbox J) (end end' : CallerEnd J) (found : Option (Returned J)) : Type 0 where
+    pub some : (b : Board J) (s : BoardSeat J) → HasOut box end b s → IfSome found (λ r. IsThrough M b s r.seat)
+    pub home : IfSome found (λ _. HasNothingOut box' end')
+    pub none : (b : Board J) (s : BoardSeat J) → HasOut box end b s → IfNone found (HasOut box' end' b s)
+    -- one task more was served where the helper had begun it
+    pub counted : IfSome found (λ r. served end' ≡ served end + from_bool r.begun)
+    pub same : IfNone found (served end' ≡ served end)

@@ -50,7 +50,7 @@ impl<J: Job + Drop> Task<J> {
 
 /// What lies in a mailbox: a task from the caller, or the seat that comes back from the helper.
 #[derive(Drop)]
-pub(crate) enum Letter<J: Job> {
+pub(crate) enum MailboxLetter<J: Job> {
     Nothing,
     Task(Task<J>),
     Answer(BoardSeat<J>),

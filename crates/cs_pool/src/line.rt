@@ -1,11 +1,11 @@
 // The caller's side of one helper.
-ghost use Rattle.std.specs.Prelude.{◌≡◌, ◌+◌, IfOk, IfSome, IfNone};
+ghost use Rattle.std.specs.Prelude.{◌≡◌, ◌+◌, IfOk, IfNone};
 ghost use Rattle.std.specs.Int.{from_bool};
 ghost use Rattle.std.specs.Arc.{arc_value};
 ghost use Rattle.cs_board.specs.declared.board.Board.{Board};
 ghost use Rattle.cs_board.specs.declared.board.BoardSeat.{BoardSeat};
 ghost use Rattle.cs_pool.specs.Working.{IsDone, IsThrough};
-ghost use Rattle.cs_pool.specs.Mailboxes.{HasNothingOut, IsFree, served};
+ghost use Rattle.cs_pool.specs.Mailboxes.{HasNothingOut, IsFree, LooksFor, served};
 ghost use Rattle.cs_pool.specs.inner.Lines.{IsIdle, IsLent, IsBusy};
 
 use crate::helper::{help, pause};
@@ -122,14 +122,9 @@ impl<J: Job + Drop> Line<J> {
     /// The seat that is out, where it is found within a while.
     fn look(&mut self) -> Option<Returned<J>>
         requires { IsBusy self.old }
-        ensures home { IfSome result (λ _. IsIdle self.new) }
-        ensures some { (b : Board J.row.Denot) (s : BoardSeat J.row.Denot)
-            → IsLent self.old b s → IfSome result (λ r. IsThrough J.means b s r.seat) }
+        ensures looked { LooksFor J.means (arc_value self.old.mailbox) (arc_value self.new.mailbox)
+            self.old.end self.new.end result }
         ensures busy { IfNone result (IsBusy self.new) }
-        ensures none { (b : Board J.row.Denot) (s : BoardSeat J.row.Denot)
-            → IsLent self.old b s → IfNone result (IsLent self.new b s) }
-        ensures served { IfSome result (λ r. served self.new.end ≡ served self.old.end + from_bool r.begun) }
-        ensures same { IfNone result (served self.new.end ≡ served self.old.end) }
     {
         for look in 0..LOOKS {
             if let Some(returned) = self.collect() {
@@ -143,14 +138,9 @@ impl<J: Job + Drop> Line<J> {
     /// The seat that is out, where it has come back or the helper hasn't begun.
     fn collect(&mut self) -> Option<Returned<J>>
         requires { IsBusy self.old }
-        ensures home { IfSome result (λ _. IsIdle self.new) }
-        ensures some { (b : Board J.row.Denot) (s : BoardSeat J.row.Denot)
-            → IsLent self.old b s → IfSome result (λ r. IsThrough J.means b s r.seat) }
+        ensures looked { LooksFor J.means (arc_value self.old.mailbox) (arc_value self.new.mailbox)
+            self.old.end self.new.end result }
         ensures busy { IfNone result (IsBusy self.new) }
-        ensures none { (b : Board J.row.Denot) (s : BoardSeat J.row.Denot)
-            → IsLent self.old b s → IfNone result (IsLent self.new b s) }
-        ensures served { IfSome result (λ r. served self.new.end ≡ served self.old.end + from_bool r.begun) }
-        ensures same { IfNone result (served self.new.end ≡ served self.old.end) }
     {
         let mailbox: &Mailbox<J> = &self.mailbox;
         if mailbox.word() == TAKEN {

@@ -1,12 +1,11 @@
 // The mailbox of one helper: the caller gives it a task in each cycle and gets its seat back.
-ghost use Rattle.std.specs.Prelude.{◌≡◌, ◌+◌, IfOk, IfSome, IfNone};
-ghost use Rattle.std.specs.Int.{from_bool};
+ghost use Rattle.std.specs.Prelude.{◌≡◌, IfOk, IfSome, IfNone};
 ghost use Rattle.std.specs.Arc.{arc_value};
 ghost use Rattle.cs_board.specs.declared.board.Board.{Board};
 ghost use Rattle.cs_board.specs.declared.board.BoardSeat.{BoardSeat};
 ghost use Rattle.cs_pool.specs.Working.{IsReady, IsDone, IsThrough};
 
-use crate::letter::{BACK, EMPTY, GIVEN, Letter, OVER, TAKEN, Task};
+use crate::letter::{BACK, EMPTY, GIVEN, MailboxLetter, OVER, TAKEN, Task};
 use crate::mailbox_rule::{
     Close, Collect, Fetch, Give, GiveBack, MailboxRule, Part, Take, Withdraw,
 };
@@ -17,12 +16,12 @@ use cs_cells::Job;
 use std::alloc::{AllocError, Global};
 
 /// What one end of a mailbox steps with.
-pub(crate) type End<J> = Seat<Letter<J>, Knows<J>>;
+pub(crate) type End<J> = Seat<MailboxLetter<J>, Knows<J>>;
 
 /// The mailbox of one helper: a word, a slot, and two ends, the caller's and the helper's.
 #[derive(Drop)]
 pub(crate) struct Mailbox<J: Job> {
-    pub(crate) table: Table<Letter<J>, Knows<J>, (), MailboxRule, Global>,
+    pub(crate) table: Table<MailboxLetter<J>, Knows<J>, (), MailboxRule, Global>,
     ghost sized: { (table.shared.table_id.words ≡ 1) × (table.shared.table_id.slots ≡ 1) },
 }
 
@@ -47,7 +46,8 @@ pub(crate) struct Returned<J: Job> {
 }
 
 impl<J: Job + Drop> Mailbox<J> {
-    ghost use Rattle.cs_pool.specs.Mailboxes.{HasNothingOut, HasOut, IsFree, IsOnDuty, served};
+    ghost use Rattle.cs_pool.specs.Mailboxes.{HasNothingOut, HasOut, HasSomethingOut, IsFree, IsOnDuty};
+    ghost use Rattle.cs_pool.specs.Mailboxes.{LooksFor, served};
 
     /// A mailbox and its two ends. It fails only for want of memory.
     pub(crate) fn new(alloc: Global) -> Result<(Mailbox<J>, CallerEnd<J>, HelperEnd<J>), AllocError>
@@ -55,7 +55,7 @@ impl<J: Job + Drop> Mailbox<J> {
         ensures helper { IfOk result (λ r. IsFree r.0 r.2) }
     {
         let mut slots = Vec::with_capacity(alloc, 1)?;
-        slots.push_reserved(Letter::Nothing);
+        slots.push_reserved(MailboxLetter::Nothing);
         let Ok((table, mut seat)) = Table::new(alloc, &[EMPTY], slots, &()) else {
             return Err(AllocError);
         };
@@ -76,7 +76,7 @@ impl<J: Job + Drop> Mailbox<J> {
         ensures served { served end.new ≡ served end.old }
     {
         let shared = &self.table.shared;
-        let held = shared.exchange(&mut end.seat, 0, Letter::Task(task));
+        let held = shared.exchange(&mut end.seat, 0, MailboxLetter::Task(task));
         drop(held);
         shared.store::<Give>(&mut end.seat, 0, GIVEN);
     }
@@ -84,15 +84,8 @@ impl<J: Job + Drop> Mailbox<J> {
     /// The seat that is out, after its work, where the helper has given it back, or as it was handed
     /// out, where the helper hasn't taken its task; else None, and it stays out.
     pub(crate) fn collect(&self, end: &mut CallerEnd<J>) -> Option<Returned<J>>
-        requires { (b : Board J.row.Denot) × (s : BoardSeat J.row.Denot)
-            × HasOut self.now end.old b s }
-        ensures some { (b : Board J.row.Denot) (s : BoardSeat J.row.Denot)
-            → HasOut self.now end.old b s → IfSome result (λ r. IsThrough J.means b s r.seat) }
-        ensures home { IfSome result (λ _. HasNothingOut self.now end.new) }
-        ensures none { (b : Board J.row.Denot) (s : BoardSeat J.row.Denot)
-            → HasOut self.now end.old b s → IfNone result (HasOut self.now end.new b s) }
-        ensures served { IfSome result (λ r. served end.new ≡ served end.old + from_bool r.begun) }
-        ensures same { IfNone result (served end.new ≡ served end.old) }
+        requires { HasSomethingOut self.now end.old }
+        ensures { LooksFor J.means self.now self.now end.old end.new result }
     {
         match self.fetch_answer(end) {
             Some(returned) => Some(returned),
@@ -102,23 +95,16 @@ impl<J: Job + Drop> Mailbox<J> {
 
     /// The seat that is out, where it has come back.
     fn fetch_answer(&self, end: &mut CallerEnd<J>) -> Option<Returned<J>>
-        requires { (b : Board J.row.Denot) × (s : BoardSeat J.row.Denot)
-            × HasOut self.now end.old b s }
-        ensures some { (b : Board J.row.Denot) (s : BoardSeat J.row.Denot)
-            → HasOut self.now end.old b s → IfSome result (λ r. IsThrough J.means b s r.seat) }
-        ensures home { IfSome result (λ _. HasNothingOut self.now end.new) }
-        ensures none { (b : Board J.row.Denot) (s : BoardSeat J.row.Denot)
-            → HasOut self.now end.old b s → IfNone result (HasOut self.now end.new b s) }
-        ensures served { IfSome result (λ r. served end.new ≡ served end.old + from_bool r.begun) }
-        ensures same { IfNone result (served end.new ≡ served end.old) }
+        requires { HasSomethingOut self.now end.old }
+        ensures { LooksFor J.means self.now self.now end.old end.new result }
     {
         let shared = &self.table.shared;
         let found = shared.compare_exchange::<Collect>(&mut end.seat, 0, BACK, EMPTY);
         if found != BACK {
             return None;
         }
-        let letter = shared.exchange(&mut end.seat, 0, Letter::Nothing);
-        let Letter::Answer(seat) = letter else {
+        let letter = shared.exchange(&mut end.seat, 0, MailboxLetter::Nothing);
+        let MailboxLetter::Answer(seat) = letter else {
             unreachable!()
         };
         Some(Returned { seat, begun: true })
@@ -126,23 +112,16 @@ impl<J: Job + Drop> Mailbox<J> {
 
     /// The seat that is out, where the helper hasn't taken its task.
     fn withdraw(&self, end: &mut CallerEnd<J>) -> Option<Returned<J>>
-        requires { (b : Board J.row.Denot) × (s : BoardSeat J.row.Denot)
-            × HasOut self.now end.old b s }
-        ensures some { (b : Board J.row.Denot) (s : BoardSeat J.row.Denot)
-            → HasOut self.now end.old b s → IfSome result (λ r. IsThrough J.means b s r.seat) }
-        ensures home { IfSome result (λ _. HasNothingOut self.now end.new) }
-        ensures none { (b : Board J.row.Denot) (s : BoardSeat J.row.Denot)
-            → HasOut self.now end.old b s → IfNone result (HasOut self.now end.new b s) }
-        ensures served { IfSome result (λ r. served end.new ≡ served end.old + from_bool r.begun) }
-        ensures same { IfNone result (served end.new ≡ served end.old) }
+        requires { HasSomethingOut self.now end.old }
+        ensures { LooksFor J.means self.now self.now end.old end.new result }
     {
         let shared = &self.table.shared;
         let found = shared.compare_exchange::<Withdraw>(&mut end.seat, 0, GIVEN, EMPTY);
         if found != GIVEN {
             return None;
         }
-        let letter = shared.exchange(&mut end.seat, 0, Letter::Nothing);
-        let Letter::Task(task) = letter else {
+        let letter = shared.exchange(&mut end.seat, 0, MailboxLetter::Nothing);
+        let MailboxLetter::Task(task) = letter else {
             unreachable!()
         };
         Some(Returned {
@@ -178,8 +157,8 @@ impl<J: Job + Drop> Mailbox<J> {
         if found != GIVEN {
             return None;
         }
-        let letter = shared.exchange(&mut end.seat, 0, Letter::Nothing);
-        let Letter::Task(task) = letter else {
+        let letter = shared.exchange(&mut end.seat, 0, MailboxLetter::Nothing);
+        let MailboxLetter::Task(task) = letter else {
             unreachable!()
         };
         Some(task)
@@ -192,7 +171,7 @@ impl<J: Job + Drop> Mailbox<J> {
         ensures { IsFree self.now end.new }
     {
         let shared = &self.table.shared;
-        let held = shared.exchange(&mut end.seat, 0, Letter::Answer(seat));
+        let held = shared.exchange(&mut end.seat, 0, MailboxLetter::Answer(seat));
         drop(held);
         shared.store::<GiveBack>(&mut end.seat, 0, BACK);
     }

@@ -1,12 +1,12 @@
 // The mailbox's rule as a rule of a table, and what each kind of step tells.
-use crate::letter::Letter;
+use crate::letter::MailboxLetter;
 use crate::view::Knows;
 use atomic_table::{Play, Split, TableRule};
 use cs_cells::Job;
 
 pub(crate) struct MailboxRule;
 
-impl<J: Job> TableRule<Letter<J>, Knows<J>, ()> for MailboxRule {
+impl<J: Job> TableRule<MailboxLetter<J>, Knows<J>, ()> for MailboxRule {
     ghost use Rattle.cs_pool.specs.inner.Exchange.{Always, beginning};
     ghost use Rattle.cs_pool.specs.declared.view.Role.TheVariants.{Maker};
 
@@ -18,7 +18,7 @@ impl<J: Job> TableRule<Letter<J>, Knows<J>, ()> for MailboxRule {
 /// The first end takes the slot along, at a load.
 pub(crate) struct Fetch;
 
-impl<J: Job> Play<Letter<J>, Knows<J>> for Fetch {
+impl<J: Job> Play<MailboxLetter<J>, Knows<J>> for Fetch {
     ghost use Rattle.cs_pool.specs.inner.Telling.{fetched};
 
     ghost then = { fetched };
@@ -39,7 +39,7 @@ impl<J: Job> Split<Knows<J>> for Part {
 /// A task is handed out: the slot goes home, and the word is GIVEN.
 pub(crate) struct Give;
 
-impl<J: Job> Play<Letter<J>, Knows<J>> for Give {
+impl<J: Job> Play<MailboxLetter<J>, Knows<J>> for Give {
     ghost use Rattle.cs_pool.specs.inner.Telling.{gave};
 
     ghost then = { gave };
@@ -48,7 +48,7 @@ impl<J: Job> Play<Letter<J>, Knows<J>> for Give {
 /// A task is taken: the word, which was GIVEN, is TAKEN, and the slot is the helper's.
 pub(crate) struct Take;
 
-impl<J: Job> Play<Letter<J>, Knows<J>> for Take {
+impl<J: Job> Play<MailboxLetter<J>, Knows<J>> for Take {
     ghost use Rattle.cs_pool.specs.inner.Telling.{took};
 
     ghost then = { took J.means };
@@ -57,7 +57,7 @@ impl<J: Job> Play<Letter<J>, Knows<J>> for Take {
 /// The helper's seat is given back: the slot goes home, and the word is BACK.
 pub(crate) struct GiveBack;
 
-impl<J: Job> Play<Letter<J>, Knows<J>> for GiveBack {
+impl<J: Job> Play<MailboxLetter<J>, Knows<J>> for GiveBack {
     ghost use Rattle.cs_pool.specs.inner.Telling.{gave_back};
 
     ghost then = { gave_back };
@@ -66,7 +66,7 @@ impl<J: Job> Play<Letter<J>, Knows<J>> for GiveBack {
 /// The answer is taken: the word, which was BACK, is EMPTY, and the slot is the caller's.
 pub(crate) struct Collect;
 
-impl<J: Job> Play<Letter<J>, Knows<J>> for Collect {
+impl<J: Job> Play<MailboxLetter<J>, Knows<J>> for Collect {
     ghost use Rattle.cs_pool.specs.inner.Telling.{collected};
 
     ghost then = { collected J.means };
@@ -76,7 +76,7 @@ impl<J: Job> Play<Letter<J>, Knows<J>> for Collect {
 /// the caller's.
 pub(crate) struct Withdraw;
 
-impl<J: Job> Play<Letter<J>, Knows<J>> for Withdraw {
+impl<J: Job> Play<MailboxLetter<J>, Knows<J>> for Withdraw {
     ghost use Rattle.cs_pool.specs.inner.Telling.{withdrew};
 
     ghost then = { withdrew J.means };
@@ -85,7 +85,7 @@ impl<J: Job> Play<Letter<J>, Knows<J>> for Withdraw {
 /// The word is OVER.
 pub(crate) struct Close;
 
-impl<J: Job> Play<Letter<J>, Knows<J>> for Close {
+impl<J: Job> Play<MailboxLetter<J>, Knows<J>> for Close {
     ghost use Rattle.cs_pool.specs.inner.Telling.{closed};
 
     ghost then = { closed };

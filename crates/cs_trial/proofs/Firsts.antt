@@ -3,7 +3,8 @@ use Rattle.std.proofs.Common.{◌≡◌, ◌≢◌, ℕ, ◌+◌, ◌<◌, ⊎_e
 use Rattle.std.proofs.lemmas.Bool.{cases_eq}
 use Rattle.std.proofs.lemmas.List.{get_or_default}
 
-pub one_more : {A : Type 0} (P : A → Type 0) (xs : List A) (i : ℕ) (x : A) → i < length xs → x ≡ get_or xs i x → P x → ((k : ℕ) (d : A) → k < i → P (get_or xs k d))
+pub one_more : {A : Type 0} (P : A → Type 0) (xs : List A) (i : ℕ) (x : A) → i < length xs → x ≡ get_or xs i x → P x
+    → ((k : ℕ) (d : A) → k < i → P (get_or xs k d))
     → (k : ℕ) (d : A) → k < i + 1 → P (get_or xs k d)
 one_more P xs i x low is here before k d l = ⊎_elim
     (λ (e : k ≡ i). subst P (is ∙ get_or_default xs i x d low ∙ ap (λ j. get_or xs j d) (sym e)) here)

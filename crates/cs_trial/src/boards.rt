@@ -41,7 +41,7 @@ pub fn opened<J: Job + Drop>(
 
 /// A desk with these words, and the graph of the jobs' footprints. None where there is no memory
 /// for it, where there are more jobs than notes may be active, or where a footprint isn't in order.
-fn desk_for<J: Job + Drop>(
+pub fn desk_for<J: Job + Drop>(
     alloc: Global,
     layout: &Layout,
     words: &[u64],

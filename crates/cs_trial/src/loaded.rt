@@ -24,8 +24,8 @@ impl<J> Model for Loaded<J> {
     ghost view = { λ l. (l.words.items, l.jobs.items) };
 }
 
-/// The notes of these parts, before these words. None where there is no memory, or where there are not as many words as the
-/// layout's.
+/// The notes of these parts, before these words. None where there is no memory, or where there are not as many words as
+/// the layout's.
 pub fn loaded_of<'t>(
     alloc: Global,
     layout: &Layout,

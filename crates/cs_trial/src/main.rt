@@ -1,11 +1,13 @@
-//! Boards of small notes, and what no clause of a board says: that notes are given out until none is left, by every order of the
-//! calls of two seats, and after how many tries. Nothing of the product stands on this crate, and it proves nothing of the others:
-//! what must come is a line of `stdout`.
+//! Boards of small notes, and what no clause of a board says: that notes are given out until none is left, by every order
+//! of the calls of two seats, and after how many tries. Nothing of the product stands on this crate, and it proves nothing
+//! of the others: what must come is a line of `stdout`.
 //!
-//! In reading order: `covers`, `mini` (a note with registers and shared code), `parts` (what such notes are made of), `fixtures`,
-//! `loaded` and `boards` (a board for them), `players` (one seat or two that play it), `orders` (small graphs by every order),
-//! `tries` (as many notes as may be).
+//! In reading order: `covers`, `mini` (a note with registers and shared code), `parts` (what such notes are made of),
+//! `fixtures`, `loaded` and `boards` (a board for them), `players` (one seat or two that play it), `orders` (small graphs
+//! by every order), `tries` (as many notes as may be), `single` (one cycle by a crew of its own).
 #![tactic(auto)]
+
+ghost use Rattle.std.specs.Prelude.{◌≤◌};
 
 mod boards;
 mod covers;
@@ -15,11 +17,16 @@ mod mini;
 mod orders;
 mod parts;
 mod players;
+mod single;
 mod tries;
 
 use crate::orders::{SMALL, serial_graphs};
-use crate::tries::{MOST_TRIES, in_a_row, on_their_own};
+use crate::single::in_one_cycle;
+use crate::tries::{MOST_TRIES, each_its_own, in_a_row, on_their_own};
+use cs_base::MOST_NOTES;
 use std::io;
+use std::sync::Wait;
+use std::thread::Threads;
 
 fn main(rt: HostRuntime) -> io::Result<()> {
     for (notes, graphs, orders) in SMALL {
@@ -33,5 +40,22 @@ fn main(rt: HostRuntime) -> io::Result<()> {
         on_their_own(&rt, rt.alloc())
     )?;
     println!(rt; "512 notes in a row: {:?}", in_a_row(&rt, rt.alloc()))?;
-    println!(rt; "(the first word, the last, whether there were at most {MOST_TRIES} tries)")
+    println!(rt; "(the first word, the last, whether there were at most {MOST_TRIES} tries)")?;
+    single_cycle(&rt, 1)?;
+    single_cycle(&rt, 2)?;
+    single_cycle(&rt, 4)?;
+    single_cycle(&rt, 32)?;
+    println!(rt; "(the first word, the last, how many notes the receipt has)")
+}
+
+// One cycle of 512 notes by a crew of so many workers.
+fn single_cycle<R: Print + AllocGlobal + Threads + Wait + Sync>(
+    rt: &R,
+    workers: u32,
+) -> io::Result<()>
+    requires { (1 ≤ workers) × (workers ≤ 32) }
+{
+    let own = in_one_cycle(rt, rt.alloc(), workers, &each_its_own());
+    let row = in_one_cycle(rt, rt.alloc(), workers, &[0; MOST_NOTES]);
+    println!(rt; "512 notes in one cycle by {workers}: {own:?} on their own, {row:?} in a row")
 }

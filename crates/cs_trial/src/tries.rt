@@ -31,7 +31,8 @@ fn part_on(alloc: Global, place: u32) -> Result<Part, AllocError> {
     })
 }
 
-fn parts_on(alloc: Global, places: &[u32]) -> Result<Vec<Part>, AllocError> {
+// Notes that add 1 to the cells of these places.
+pub fn parts_on(alloc: Global, places: &[u32]) -> Result<Vec<Part>, AllocError> {
     let mut parts = Vec::new(alloc);
     for place in places {
         parts.push(part_on(alloc, *place)?)?;
@@ -94,11 +95,16 @@ fn play<R: Wait>(rt: &R, alloc: Global, places: &[u32]) -> Option<Left> {
 
 /// 512 notes that wait for none.
 pub fn on_their_own<R: Wait>(rt: &R, alloc: Global) -> Option<Left> {
+    play(rt, alloc, &each_its_own())
+}
+
+/// A place of its own for each of 512 notes.
+pub fn each_its_own() -> [u32; MOST_NOTES] {
     let mut places = [0; MOST_NOTES];
     for at in 0..MOST_NOTES {
         places[at] = at as u32;
     }
-    play(rt, alloc, &places)
+    places
 }
 
 /// 512 notes, each of which waits for the one before.

@@ -1,6 +1,8 @@
 -- A board that rests between two cycles: what is cleared, and what is cleared away after a cycle.
--- k is the plan of the cycle that begins or has ended, w what is known of the board; t is a note, r the place of a resource.
-use Rattle.std.specs.Prelude.{◌≡◌, ℕ, ◌+◌, ◌-◌, ◌<◌, ◌≤◌, ◌⊎◌, List, [], ◌∷◌, ◌++◌, drop, length, Bool, true, false, Option, Some, None}
+-- k is the plan of the cycle that begins or has ended, w what is known of the board; t is a note, r the place of a
+-- resource.
+use Rattle.std.specs.Prelude.{◌≡◌, ℕ, ◌+◌, ◌-◌, ◌<◌, ◌≤◌, ◌⊎◌, List, [], ◌∷◌, ◌++◌, drop, length, Bool, true, false}
+use Rattle.std.specs.Prelude.{Option, Some, None}
 use Rattle.atomic_table.specs.Seated.{TableId}
 use Rattle.atomic_table.specs.declared.shared.Seat.{Seat}
 use Rattle.cs_base.specs.Limits.{most_resources}
@@ -63,10 +65,12 @@ module _ {J : Type 0} where
     spare = length w.words - wide areas (length jobs) (length graph.edges);
   }
 
-  -- of the turn words of these resources, all but those of `left` are 0 now, and nothing else has changed that was 0 or is no turn word
+  -- of the turn words of these resources, all but those of `left` are 0 now, and nothing else has changed that was 0 or
+  -- is no turn word
   pub record ClearsTurns (k : Plan J) (all left : List ℕ) (w w' : Still J) : Type 0 where
     pub homes : w'.homes ≡ w.homes
-    pub words : (p : Words) → IsSized k p → w.words ≡ all_words p → (turns : List ℕ) × (w'.words ≡ all_words (record p { turns = turns }))
+    pub words : (p : Words) → IsSized k p → w.words ≡ all_words p
+        → (turns : List ℕ) × (w'.words ≡ all_words (record p { turns = turns }))
         × (length turns ≡ length p.turns) × ((r : ℕ) → at p.turns r ≡ 0 → at turns r ≡ 0)
         × ((r : ℕ) → listed all r ≡ true → (at turns r ≡ 0) ⊎ (listed left r ≡ true))
 
@@ -77,6 +81,7 @@ module _ {J : Type 0} (M : Meaning J) where
     pub words : w.words ≡ all_words parts
     pub sized : IsSized k parts
     pub cells : values parts.cells ≡ serial_cells M k.jobs k.cells
-    pub turns : (r : ℕ) → r < area_count k → ((u : ℕ) → t ≤ u → listed (places_written M k u) r ≡ false) → at parts.turns r ≡ 0
+    pub turns : (r : ℕ) → r < area_count k → ((u : ℕ) → t ≤ u → listed (places_written M k u) r ≡ false)
+        → at parts.turns r ≡ 0
     pub left : ℕ
     pub homes : w.homes ≡ slot_row t (drop t (serial_jobs M k.jobs k.cells)) left

@@ -9,8 +9,8 @@ use Rattle.cs_board.specs.declared.board.BoardSeat.{BoardSeat}
 use Rattle.cs_cells.specs.Meaning.{Meaning}
 use Rattle.cs_pool.specs.Working.{IsDone, IsThrough}
 use Rattle.cs_pool.specs.Letters.{errand_of}
-use Rattle.cs_pool.specs.declared.letter.Letter.{Letter}
-use Rattle.cs_pool.specs.declared.letter.Letter.TheVariants as letter
+use Rattle.cs_pool.specs.declared.letter.MailboxLetter.{MailboxLetter}
+use Rattle.cs_pool.specs.declared.letter.MailboxLetter.TheVariants as letter
 use Rattle.cs_pool.specs.declared.letter.TheConstants.{EMPTY, GIVEN, TAKEN, BACK, OVER}
 use Rattle.cs_pool.specs.declared.letter.Task.{Task}
 use Rattle.cs_pool.specs.declared.view.Errand.{Errand}
@@ -26,7 +26,7 @@ module _ {J : Type 0} where
 module _ {J : Type 0} (M : Meaning J) where
   -- The task lies in the slot, and nobody has begun it: its seat and its board are those that are out, and the seat
   -- owes nothing.
-  pub record IsGiven (w : ℕ) (h : maybe.Option (Letter J)) (e : Errand J) : Type 0 where
+  pub record IsGiven (w : ℕ) (h : maybe.Option (MailboxLetter J)) (e : Errand J) : Type 0 where
     pub word : w ≡ GIVEN
     pub task : Task J
     pub home : h ≡ some (letter.Task task)
@@ -34,27 +34,27 @@ module _ {J : Type 0} (M : Meaning J) where
     pub ready : IsDone M e.board e.seat
 
   -- The helper has taken the task, and the slot with it.
-  pub record IsTaken (w : ℕ) (h : maybe.Option (Letter J)) : Type 0 where
+  pub record IsTaken (w : ℕ) (h : maybe.Option (MailboxLetter J)) : Type 0 where
     pub word : w ≡ TAKEN
     pub home : h ≡ none
 
   -- The answer lies in the slot: it is the seat that is out, after its work.
-  pub record IsBack (w : ℕ) (h : maybe.Option (Letter J)) (e : Errand J) : Type 0 where
+  pub record IsBack (w : ℕ) (h : maybe.Option (MailboxLetter J)) (e : Errand J) : Type 0 where
     pub word : w ≡ BACK
     pub answer : BoardSeat J
     pub home : h ≡ some (letter.Answer answer)
     pub through : IsThrough M e.board e.seat answer
 
   -- Nothing is out, and the caller has the slot.
-  pub record IsHome (w : ℕ) (h : maybe.Option (Letter J)) : Type 0 where
+  pub record IsHome (w : ℕ) (h : maybe.Option (MailboxLetter J)) : Type 0 where
     pub word : (w ≡ EMPTY) ⊎ (w ≡ OVER)
     pub home : h ≡ none
 
   -- What is out was given, and then taken, and then brought back.
-  abbrev pub IsAbroad : ℕ → maybe.Option (Letter J) → Errand J → Type 0
+  abbrev pub IsAbroad : ℕ → maybe.Option (MailboxLetter J) → Errand J → Type 0
   IsAbroad w h e = IsGiven w h e ⊎ (IsTaken w h ⊎ IsBack w h e)
 
-  pub record Facts (w : ℕ) (h : maybe.Option (Letter J)) (c d : Knows J) : Type 0 where
+  pub record Facts (w : ℕ) (h : maybe.Option (MailboxLetter J)) (c d : Knows J) : Type 0 where
     pub roles : (c.role ≡ Caller) × (d.role ≡ Helper)
     -- the word is GIVEN, TAKEN or BACK exactly where the caller knows of a seat that is out
     pub out : MatchOption c.out (IsHome w h) (IsAbroad w h)
@@ -62,9 +62,9 @@ module _ {J : Type 0} (M : Meaning J) where
     pub duty : MatchOption d.out (w ≢ TAKEN) (λ e. (w ≡ TAKEN) × (c.out ≡ Some e))
 
   -- The mailbox has its two ends.
-  pub record IsShared (s : State (Letter J) (Knows J)) : Type 0 where
+  pub record IsShared (s : State (MailboxLetter J) (Knows J)) : Type 0 where
     pub word : ℕ
-    pub home : maybe.Option (Letter J)
+    pub home : maybe.Option (MailboxLetter J)
     pub caller : Knows J
     pub helper : Knows J
     pub words : s.words ≡ word ∷ []
@@ -74,11 +74,12 @@ module _ {J : Type 0} (M : Meaning J) where
 
 module _ {J : Type 0} where
   -- The mailbox has one end so far, and its slot is at home, or with that end.
-  pub record IsBegun (r : Role) (h : maybe.Option (Letter J)) (s : State (Letter J) (Knows J)) : Type 0 where
+  pub record IsBegun (r : Role) (h : maybe.Option (MailboxLetter J)) (s : State (MailboxLetter J) (Knows J)) : Type
+      0 where
     pub words : s.words ≡ EMPTY ∷ []
     pub homes : s.homes ≡ h ∷ []
     pub views : s.views ≡ beginning r ∷ []
 
 -- The mailbox is being made, or has its two ends.
-abbrev pub Always : {J : Type 0} → Meaning J → State (Letter J) (Knows J) → Type 0
+abbrev pub Always : {J : Type 0} → Meaning J → State (MailboxLetter J) (Knows J) → Type 0
 Always M s = IsBegun Maker (some letter.Nothing) s ⊎ (IsBegun Holder none s ⊎ IsShared M s)

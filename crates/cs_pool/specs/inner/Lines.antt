@@ -2,7 +2,7 @@
 use Rattle.std.specs.Arc.{arc_value}
 use Rattle.cs_board.specs.declared.board.Board.{Board}
 use Rattle.cs_board.specs.declared.board.BoardSeat.{BoardSeat}
-use Rattle.cs_pool.specs.Mailboxes.{HasNothingOut, HasOut}
+use Rattle.cs_pool.specs.Mailboxes.{HasNothingOut, HasOut, HasSomethingOut}
 use Rattle.cs_pool.specs.declared.line.Line.{Line}
 
 module _ {J : Type 0} where
@@ -15,7 +15,5 @@ module _ {J : Type 0} where
   IsLent line board seat = HasOut (arc_value line.mailbox) line.end board seat
 
   -- something is out
-  pub record IsBusy (line : Line J) : Type 0 where
-    pub board : Board J
-    pub seat : BoardSeat J
-    pub lent : IsLent line board seat
+  abbrev pub IsBusy : Line J → Type 0
+  IsBusy line = HasSomethingOut (arc_value line.mailbox) line.end

@@ -9,8 +9,8 @@ use Rattle.cs_cells.specs.Meaning.{Meaning}
 use Rattle.cs_pool.specs.Working.{IsDone, IsThrough}
 use Rattle.cs_pool.specs.Letters.{errand_of, task_in, caller, helper}
 use Rattle.cs_pool.specs.inner.Exchange.{beginning}
-use Rattle.cs_pool.specs.declared.letter.Letter.{Letter}
-use Rattle.cs_pool.specs.declared.letter.Letter.TheVariants as letter
+use Rattle.cs_pool.specs.declared.letter.MailboxLetter.{MailboxLetter}
+use Rattle.cs_pool.specs.declared.letter.MailboxLetter.TheVariants as letter
 use Rattle.cs_pool.specs.declared.letter.TheConstants.{GIVEN, BACK}
 use Rattle.cs_pool.specs.declared.letter.Task.{Task}
 use Rattle.cs_pool.specs.declared.view.Knows.{Knows}
@@ -18,10 +18,10 @@ use Rattle.cs_pool.specs.declared.view.Role.TheVariants.{Holder}
 
 -- an end's view and the slots that it has taken, and what a step tells of it before, of the word found and of it after
 abbrev pub Sat : Type 0 → Type 0
-Sat J = Me (Letter J) (Knows J)
+Sat J = Me (MailboxLetter J) (Knows J)
 
 abbrev pub Tells : Type 0 → Type 1
-Tells J = Step (Letter J) → Sat J → ℕ → Sat J → Type 0
+Tells J = Step (MailboxLetter J) → Sat J → ℕ → Sat J → Type 0
 
 module _ {J : Type 0} where
   -- the end that is made first takes the slot along

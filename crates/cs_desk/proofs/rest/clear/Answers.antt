@@ -1,4 +1,5 @@
-use Rattle.std.proofs.Common.{ℕ, ◌<◌, ◌≡◌, List, [], ◌∷◌, ◌++◌, length, Option, Some, refl, sym, ap, ◌∙◌, subst, arith, slice_get, take}
+use Rattle.std.proofs.Common.{ℕ, ◌<◌, ◌≡◌, List, [], ◌∷◌, ◌++◌, length, Option, Some, refl, sym, ap, ◌∙◌, subst, arith}
+use Rattle.std.proofs.Common.{slice_get, take}
 use Rattle.std.proofs.lemmas.List.{length-set}
 use Rattle.std.proofs.Math.Seq.{take-length}
 use Rattle.cs_board.specs.Board.{plan}
@@ -30,11 +31,18 @@ pub fetch-job-requires-clause-full : goal.fetch-job-requires-clause-full
 fetch-job-requires-clause-full g c =
     let k = plan c.args.board.now in
     let js : List g.row.J.Denot = serial_jobs g.J.Job.means k.jobs k.cells in
-    let j = there js c.loop-note.note (omega (arith, left_long g.J.Job.means g.met.J.Job.frames k c.requires.whole, c.loop-note-test.true, c.notes-note-end.ensures)) in
+    let j = there js c.loop-note.note
+    (omega (
+      arith,
+      left_long g.J.Job.means g.met.J.Job.frames k c.requires.whole,
+      c.loop-note-test.true,
+      c.notes-note-end.ensures,
+    )) in
     (j.0, full_next g.J.Job.means k c.loop-note.note j.0 (known_in c.loop-note.seat) j.1 c.loop-note.invariant.clearing)
 
 -- the job that was fetched is the one that the serial run leaves
-fetched : {J : Type 0} (js : List J) (t : ℕ) (l : t < length js) (homes : List (Option (Berth J))) (job : J) → slice_get homes t ≡ Some (Some (Full ((there js t l).0)))
+fetched : {J : Type 0} (js : List J) (t : ℕ) (l : t < length js) (homes : List (Option (Berth J))) (job : J)
+    → slice_get homes t ≡ Some (Some (Full ((there js t l).0)))
     → slice_get homes t ≡ Some (Some (Full job)) → slice_get js t ≡ Some job
 fetched js t l homes job full found = (there js t l).1 ∙ ap Some (same_full (there js t l).0 job (sym full ∙ found))
 
@@ -43,9 +51,17 @@ clear_turns-requires-clause-note g c =
     let k = plan c.args.board.now in
     let js : List g.row.J.Denot = serial_jobs g.J.Job.means k.jobs k.cells in
     let t : ℕ = c.loop-note.note in
-    let low : t < length js = omega (arith, left_long g.J.Job.means g.met.J.Job.frames k c.requires.whole, c.loop-note-test.true, c.notes-note-end.ensures) in
+    let low : t < length js =
+    omega (
+      arith,
+      left_long g.J.Job.means g.met.J.Job.frames k c.requires.whole,
+      c.loop-note-test.true,
+      c.notes-note-end.ensures,
+    ) in
     left_writes g.J.Job.means g.met.J.Job.frames k c.requires.whole t c.fetch-job.result
-    (fetched js t low (known_in c.loop-note.seat).homes c.fetch-job.result (full_next g.J.Job.means k t (there js t low).0 (known_in c.loop-note.seat) (there js t low).1 c.loop-note.invariant.clearing) c.fetch-job.ensures.job)
+    (fetched js t low (known_in c.loop-note.seat).homes c.fetch-job.result
+    (full_next g.J.Job.means k t (there js t low).0 (known_in c.loop-note.seat) (there js t low).1
+    c.loop-note.invariant.clearing) c.fetch-job.ensures.job)
 
 pub loop-note-preserved : goal.loop-note-preserved
 loop-note-preserved g c =
@@ -54,22 +70,40 @@ loop-note-preserved g c =
     let t : ℕ = c.loop-note.note in
     let w = known_in c.loop-note.seat in
     let inv = c.loop-note.invariant in
-    let low : t < length js = omega (arith, left_long g.J.Job.means g.met.J.Job.frames k c.requires.whole, c.loop-note-test.true, c.notes-note-end.ensures) in
-    let at_ : slice_get js t ≡ Some c.fetch-job.result = fetched js t low w.homes c.fetch-job.result (full_next g.J.Job.means k t (there js t low).0 w (there js t low).1 inv.clearing) c.fetch-job.ensures.job in
+    let low : t < length js =
+    omega (
+      arith,
+      left_long g.J.Job.means g.met.J.Job.frames k c.requires.whole,
+      c.loop-note-test.true,
+      c.notes-note-end.ensures,
+    ) in
+    let at_ : slice_get js t ≡ Some c.fetch-job.result =
+    fetched js t low w.homes c.fetch-job.result
+    (full_next g.J.Job.means k t (there js t low).0 w (there js t low).1 inv.clearing) c.fetch-job.ensures.job in
     record {
       low = omega (arith, low, left_long g.J.Job.means g.met.J.Job.frames k c.requires.whole);
-      jobs = c.push_reserved.ensures.items ∙ ap (λ l. l ++ c.fetch-job.result ∷ []) inv.jobs ∙ sym (took js t c.fetch-job.result at_);
+      jobs = c.push_reserved.ensures.items ∙ ap (λ l. l ++ c.fetch-job.result ∷ []) inv.jobs
+          ∙ sym (took js t c.fetch-job.result at_);
       room = omega (arith, inv.room, c.push_reserved.ensures.capacity);
       sole = c.clear_turns.ensures.sole;
       areas = c.clear_turns.ensures.areas ∙ c.fetch-job.ensures.areas ∙ inv.areas;
       clearing = clears_note g.J.Job.means k t c.fetch-job.result w (known_in c.clear_turns.new.seat) at_
-          (subst (λ z. ClearsTurns k (places_written g.J.Job.means k t) [] z (known_in c.clear_turns.new.seat)) c.fetch-job.ensures.known c.clear_turns.ensures.cleared) inv.clearing;
-      slots = ap length c.clear_turns.ensures.cleared.homes ∙ ap (λ z. length z.homes) c.fetch-job.ensures.known ∙ length-set w.homes t (Some Vacant) ∙ inv.slots;
+          (subst (λ z. ClearsTurns k (places_written g.J.Job.means k t) [] z (known_in c.clear_turns.new.seat))
+          c.fetch-job.ensures.known c.clear_turns.ensures.cleared) inv.clearing;
+      slots = ap length c.clear_turns.ensures.cleared.homes ∙ ap (λ z. length z.homes) c.fetch-job.ensures.known
+          ∙ length-set w.homes t (Some Vacant) ∙ inv.slots;
     }
 
 pub returns-clause-jobs : goal.returns-clause-jobs
 returns-clause-jobs g c =
     let k = plan c.args.board.now in
     let js : List g.row.J.Denot = serial_jobs g.J.Job.means k.jobs k.cells in
-    let all : c.loop-note.note ≡ length js = omega (arith, left_long g.J.Job.means g.met.J.Job.frames k c.requires.whole, c.loop-note-test.false, c.loop-note.invariant.low, c.notes-note-end.ensures) in
+    let all : c.loop-note.note ≡ length js =
+    omega (
+      arith,
+      left_long g.J.Job.means g.met.J.Job.frames k c.requires.whole,
+      c.loop-note-test.false,
+      c.loop-note.invariant.low,
+      c.notes-note-end.ensures,
+    ) in
     c.loop-note.invariant.jobs ∙ ap (λ n. take n js) all ∙ take-length js

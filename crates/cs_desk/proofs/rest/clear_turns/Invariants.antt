@@ -9,5 +9,7 @@ abbrev pub invariant-loop-area : goal.invariant-loop-area
 invariant-loop-area g l = record {
   sole : IsSole (name l.board) l.seat;
   areas : areas_in l.seat ≡ areas_in l.initial.seat;
-  cleared : ClearsTurns (plan l.board) (places_written g.J.Job.means (plan l.board) l.note) (drop l.area-index (places_written g.J.Job.means (plan l.board) l.note)) (known_in l.initial.seat) (known_in l.seat);
+  cleared : ClearsTurns (plan l.board) (places_written g.J.Job.means (plan l.board) l.note)
+      (drop l.area-index (places_written g.J.Job.means (plan l.board) l.note)) (known_in l.initial.seat)
+      (known_in l.seat);
 }

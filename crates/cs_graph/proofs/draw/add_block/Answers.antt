@@ -25,4 +25,5 @@ pub returns : goal.returns
 returns c = λ old d.
     let e : c.loop-earlier.earlier ≡ c.args.to =
     omega (arith, c.loop-earlier-test.false, c.loop-earlier.auto.earlier, c.requires.small.0) in
-    subst (λ n. AreDrawnTo old c.args.near.now c.args.note n c.loop-earlier.edges.items) e (c.loop-earlier.invariant old d)
+    subst (λ n. AreDrawnTo old c.args.near.now c.args.note n c.loop-earlier.edges.items) e
+    (c.loop-earlier.invariant old d)

@@ -16,7 +16,9 @@ loop-block-preserved c =
           let from : min t (b * 64) ≡ b * 64 = omega (arith, low) in
           let to : w.min.result ≡ min t ((b + 1) * 64) = omega (arith, w.min.ensures) in
           rw w.edges-is (subst (λ n. AreDrawnTo old near t n w.add_block.new.edges.items) to
-          (w.in_ok-add_block.ensures old (subst (λ n. AreDrawnTo old near t n c.loop-block.edges.items) from c.loop-block.invariant)))
+          (w.in_ok-add_block.ensures old
+          (subst (λ n. AreDrawnTo old near t n c.loop-block.edges.items) from c.loop-block.invariant)))
       | else-not-is_clear w ↦
-          rw w.edges-is (drawn_clear old near t c.loop-block.edges.items b low (c.is_clear.ensures w.if-not-is_clear.false) c.loop-block.invariant)
+          rw w.edges-is (drawn_clear old near t c.loop-block.edges.items b low
+          (c.is_clear.ensures w.if-not-is_clear.false) c.loop-block.invariant)
     ]

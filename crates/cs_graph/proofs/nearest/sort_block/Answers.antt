@@ -30,4 +30,5 @@ loop-q-preserved-then-contains c =
 pub returns : goal.returns
 returns c =
     let e : c.loop-q.q ≡ c.args.from = omega (arith, c.loop-q-test.false, c.loop-q.invariant.0) in
-    subst (λ n. IsFound c.args.met.now c.args.known.now n (length c.args.known.now) c.loop-q.found) e c.loop-q.invariant.1
+    subst (λ n. IsFound c.args.met.now c.args.known.now n (length c.args.known.now) c.loop-q.found) e
+    c.loop-q.invariant.1

@@ -5,4 +5,5 @@ use Rattle.cs_trial.proofs.boards.graph_of.Goals as goal
 
 pub returns-clause-orderly : goal.returns-clause-orderly
 returns-clause-orderly g c some =
-    subst (λ n. All (λ j. IsFootprint n (g.J.Job.means.foot j)) c.args.jobs.now) c.len.ensures (c.are_orderly.ensures c.if-not-are_orderly.false)
+    subst (λ n. All (λ j. IsFootprint n (g.J.Job.means.foot j)) c.args.jobs.now) c.len.ensures
+    (c.are_orderly.ensures c.if-not-are_orderly.false)

@@ -16,7 +16,8 @@ load-found-requires g c =
       c.requires.sitting.table,
       omega (arith, low, c.cell_word-word.ensures, c.args.self.now.built.words),
       rw c.cell_word-word.ensures
-          (looks g.J.Job.means (plan c.args.self.now) g.met.J.Job.frames c.args.self.now.frame.table.shared.table_id.slots
+          (looks g.J.Job.means (plan c.args.self.now) g.met.J.Job.frames
+          c.args.self.now.frame.table.shared.table_id.slots
           c.args.sitting.now.id c.args.sitting.now.me c.requires.sitting.knows.plan c.requires.sitting.knows.live
           c.requires.sitting.knows.playing c.args.addr),
     )

@@ -11,7 +11,8 @@ store-requires g c = let m = c.requires.moving in (
   c.requires.sitting.table,
   omega (arith, c.status_word-word.ensures, c.requires.note, c.args.self.now.built.words),
   rw c.status_word-word.ensures
-      (opens_note g.J.Job.means (plan c.args.self.now) g.met.J.Job.frames c.args.self.now.frame.table.shared.table_id.slots
+      (opens_note g.J.Job.means (plan c.args.self.now) g.met.J.Job.frames
+      c.args.self.now.frame.table.shared.table_id.slots
       c.args.sitting.now.id c.args.sitting.now.me c.requires.sitting.knows.plan c.requires.sitting.knows.live
       c.requires.sitting.knows.playing c.args.note m.0 c.requires.note m.1 m.2),
 )

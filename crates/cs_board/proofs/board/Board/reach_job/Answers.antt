@@ -13,10 +13,11 @@ load-requires g c = let j =
     (omega (arith, c.requires.note, c.requires.sitting.whole.jobs)) in (
       c.requires.sitting.table,
       omega (arith, c.args.self.now.built.words, c.args.self.now.built.notes),
-      takes_job g.J.Job.means (plan c.args.self.now) g.met.J.Job.frames c.args.self.now.frame.table.shared.table_id.slots
+      takes_job g.J.Job.means (plan c.args.self.now) g.met.J.Job.frames
+          c.args.self.now.frame.table.shared.table_id.slots
           c.args.sitting.now.id c.args.sitting.now.me c.requires.sitting.knows.plan c.requires.sitting.knows.live
-          c.requires.sitting.knows.playing (fresh g.J.Job.means (plan c.args.self.now) c.args.note) c.requires.doing j.0 refl
-          refl j.1,
+          c.requires.sitting.knows.playing (fresh g.J.Job.means (plan c.args.self.now) c.args.note) c.requires.doing j.0
+          refl refl j.1,
     )
 
 pub returns-clause-sitting : goal.returns-clause-sitting

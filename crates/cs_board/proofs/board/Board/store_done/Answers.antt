@@ -11,10 +11,11 @@ store-requires g c = (
   c.requires.sitting.table,
   omega (arith, c.status_word-word.ensures, c.requires.note, c.args.self.now.built.words),
   rw c.status_word-word.ensures
-      (finishes g.J.Job.means (plan c.args.self.now) g.met.J.Job.frames c.args.self.now.frame.table.shared.table_id.slots
+      (finishes g.J.Job.means (plan c.args.self.now) g.met.J.Job.frames
+      c.args.self.now.frame.table.shared.table_id.slots
       c.args.sitting.now.id c.args.sitting.now.me c.requires.sitting.knows.plan c.requires.sitting.knows.live
-      c.requires.sitting.knows.playing (run_through g.J.Job.means (plan c.args.self.now) c.args.note) c.requires.doing refl
-      refl),
+      c.requires.sitting.knows.playing (run_through g.J.Job.means (plan c.args.self.now) c.args.note) c.requires.doing
+      refl refl),
 )
 
 pub returns-clause-sitting : goal.returns-clause-sitting

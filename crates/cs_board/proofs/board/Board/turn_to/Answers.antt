@@ -16,8 +16,8 @@ store-requires g c =
       rw c.turn_word-word.ensures
           (turns_on g.J.Job.means (plan c.args.self.now) g.met.J.Job.frames
           c.args.self.now.frame.table.shared.table_id.slots c.args.sitting.now.id c.args.sitting.now.me
-          c.requires.sitting.knows.plan c.requires.sitting.knows.live c.requires.sitting.knows.playing d c.requires.doing
-          c.requires.held (d.phase - 1) c.args.area c.args.value phase
+          c.requires.sitting.knows.plan c.requires.sitting.knows.live c.requires.sitting.knows.playing d
+          c.requires.doing c.requires.held (d.phase - 1) c.args.area c.args.value phase
           (slice_get_within W (d.phase - 1) c.args.area c.requires.next)
           (get_or_from_slice_get W (d.phase - 1) c.args.area 0 c.requires.next) c.requires.value),
     )

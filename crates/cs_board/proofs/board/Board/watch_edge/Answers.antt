@@ -14,8 +14,8 @@ compare_exchange-requires g c =
       rw c.watch_word-word.ensures
           (watches_edge g.J.Job.means (plan c.args.self.now) g.met.J.Job.frames
           c.args.self.now.frame.table.shared.table_id.slots c.args.sitting.now.id c.args.sitting.now.me
-          c.requires.sitting.knows.plan c.requires.sitting.knows.live c.requires.sitting.knows.playing c.args.edge m.edge.0
-          c.args.note m.from m.edge.1 m.moving m.low m.first),
+          c.requires.sitting.knows.plan c.requires.sitting.knows.live c.requires.sitting.knows.playing c.args.edge
+          m.edge.0 c.args.note m.from m.edge.1 m.moving m.low m.first),
     )
 
 pub returns-clause-sitting : goal.returns-clause-sitting

@@ -7,16 +7,26 @@ use Rattle.cs_desk.proofs.Laying.{all_cleared}
 use Rattle.cs_desk.proofs.desk.Desk.rest.Goals as goal
 
 pub invariant_of-result : goal.invariant_of-result
-invariant_of-result g c = sym c.into_parts-table.ensures.built.notes ∙ sym (left_long g.J.Job.means g.met.J.Job.frames (plan c.args.board) c.requires.seat.whole) ∙ ap length (sym c.clear-jobs.ensures.jobs)
+invariant_of-result g c =
+    sym c.into_parts-table.ensures.built.notes
+    ∙ sym (left_long g.J.Job.means g.met.J.Job.frames (plan c.args.board) c.requires.seat.whole)
+    ∙ ap length (sym c.clear-jobs.ensures.jobs)
 
-pub invariant_of-desk : goal.invariant_of-desk
-invariant_of-desk g c =
+pub invariant_of-resting : goal.invariant_of-resting
+invariant_of-resting g c =
     let k = plan c.args.board in
     let id = name c.args.board in
     let s = c.clear-jobs.new.seat in
     let long = left_long g.J.Job.means g.met.J.Job.frames k c.requires.seat.whole in
     record {
-      rests = subst (λ i. IsResting c.into_parts-table.result.areas c.into_parts-table.result.cells i s) (sym c.into_parts-table.ensures.table) (rests_again g.J.Job.means k c.into_parts-table.result.areas c.into_parts-table.result.cells id s c.requires.seat.whole c.clear-jobs.ensures.sole (c.clear-jobs.ensures.areas ∙ c.end-seat.ensures.areas) c.into_parts-table.ensures.built.areas c.into_parts-table.ensures.built.cells
-          (all_cleared g.J.Job.means k (known_in s) id.words id.slots (subst (λ n. IsClearing g.J.Job.means k n (known_in s)) (sym long) c.clear-jobs.ensures.cleared) c.requires.seat.whole.cells (sym c.into_parts-table.ensures.built.words)
-          (c.clear-jobs.ensures.slots ∙ c.end-seat.ensures.slots) (none_past g.J.Job.means g.met.J.Job.frames k c.requires.seat.whole)));
+      rests = subst (λ i. IsResting c.into_parts-table.result.areas c.into_parts-table.result.cells i s)
+          (sym c.into_parts-table.ensures.table)
+          (rests_again g.J.Job.means k c.into_parts-table.result.areas c.into_parts-table.result.cells id s
+          c.requires.seat.whole c.clear-jobs.ensures.sole (c.clear-jobs.ensures.areas ∙ c.end-seat.ensures.areas)
+          c.into_parts-table.ensures.built.areas c.into_parts-table.ensures.built.cells
+          (all_cleared g.J.Job.means k (known_in s) id.words id.slots
+          (subst (λ n. IsClearing g.J.Job.means k n (known_in s)) (sym long) c.clear-jobs.ensures.cleared)
+          c.requires.seat.whole.cells (sym c.into_parts-table.ensures.built.words)
+          (c.clear-jobs.ensures.slots ∙ c.end-seat.ensures.slots)
+          (none_past g.J.Job.means g.met.J.Job.frames k c.requires.seat.whole)));
     }

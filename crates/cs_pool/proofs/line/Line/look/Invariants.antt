@@ -1,8 +1,12 @@
-use Rattle.std.proofs.Common.{◌≡◌}
-use Rattle.cs_pool.proofs.Found.{StillLent}
-use Rattle.cs_pool.specs.Mailboxes.{served}
+use Rattle.std.proofs.Common.{None}
+use Rattle.std.specs.Arc.{arc_value}
+use Rattle.cs_pool.specs.Mailboxes.{LooksFor}
 use Rattle.cs_pool.specs.inner.Lines.{IsBusy}
 use Rattle.cs_pool.proofs.line.Line.look.Given as goal
 
 abbrev pub invariant-loop-look : goal.invariant-loop-look
-invariant-loop-look g l = IsBusy l.self × StillLent l.fn.self l.self × (served l.self.end ≡ served l.fn.self.end)
+invariant-loop-look g l = record {
+  busy : IsBusy l.self;
+  looked : LooksFor g.J.Job.means (arc_value l.fn.self.mailbox) (arc_value l.self.mailbox) l.fn.self.end l.self.end
+      None;
+}

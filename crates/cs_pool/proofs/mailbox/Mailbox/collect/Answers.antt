@@ -1,10 +1,13 @@
+use Rattle.std.proofs.Common.{None}
+use Rattle.cs_pool.proofs.Found.{still_out, looked_again}
 use Rattle.cs_pool.proofs.mailbox.Mailbox.collect.Goals as goal
 
 pub withdraw-requires : goal.withdraw-requires
-withdraw-requires g c = (c.requires.0, c.requires.1, c.in-None.ensures.none c.requires.0 c.requires.1 c.requires.2)
+withdraw-requires g c =
+    still_out g.J.Job.means c.args.self.now c.args.self.now c.args.end.now c.fetch_answer.new.end None
+    c.in-None.ensures c.requires
 
-pub returns-in-None-clause-some : goal.returns-in-None-clause-some
-returns-in-None-clause-some g c b s h = c.withdraw.ensures.some b s (c.in-None.ensures.none b s h)
-
-pub returns-in-None-clause-none : goal.returns-in-None-clause-none
-returns-in-None-clause-none g c b s h = c.withdraw.ensures.none b s (c.in-None.ensures.none b s h)
+pub returns-in-None : goal.returns-in-None
+returns-in-None g c =
+    looked_again g.J.Job.means c.args.self.now c.args.self.now c.args.self.now c.args.end.now c.fetch_answer.new.end
+    c.withdraw.new.end c.withdraw.result c.in-None.ensures c.withdraw.ensures

@@ -4,7 +4,7 @@ use Rattle.atomic_table.specs.Table.{step, Allows}
 use Rattle.cs_pool.specs.Mailboxes.{served}
 use Rattle.cs_pool.specs.inner.Exchange.{Always}
 use Rattle.cs_pool.specs.inner.Telling.{closed}
-use Rattle.cs_pool.specs.declared.letter.Letter.TheVariants as letter
+use Rattle.cs_pool.specs.declared.letter.MailboxLetter.TheVariants as letter
 use Rattle.cs_pool.specs.declared.letter.TheConstants.{OVER}
 use Rattle.cs_pool.proofs.Exchanging.{ends}
 use Rattle.cs_pool.proofs.mailbox.Mailbox.end.Goals as goal

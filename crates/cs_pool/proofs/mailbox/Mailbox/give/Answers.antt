@@ -5,7 +5,7 @@ use Rattle.cs_pool.specs.Letters.{caller}
 use Rattle.cs_pool.specs.Mailboxes.{served}
 use Rattle.cs_pool.specs.inner.Exchange.{Always}
 use Rattle.cs_pool.specs.inner.Telling.{gave}
-use Rattle.cs_pool.specs.declared.letter.Letter.TheVariants as letter
+use Rattle.cs_pool.specs.declared.letter.MailboxLetter.TheVariants as letter
 use Rattle.cs_pool.specs.declared.letter.TheConstants.{GIVEN}
 use Rattle.cs_pool.proofs.Exchanging.{has_slot, written, hands_out}
 use Rattle.cs_pool.proofs.mailbox.Mailbox.give.Goals as goal

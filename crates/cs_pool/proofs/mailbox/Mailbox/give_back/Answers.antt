@@ -4,7 +4,7 @@ use Rattle.atomic_table.specs.Table.{step, Allows}
 use Rattle.cs_pool.specs.Letters.{helper, errand}
 use Rattle.cs_pool.specs.inner.Exchange.{Always}
 use Rattle.cs_pool.specs.inner.Telling.{gave_back}
-use Rattle.cs_pool.specs.declared.letter.Letter.TheVariants as letter
+use Rattle.cs_pool.specs.declared.letter.MailboxLetter.TheVariants as letter
 use Rattle.cs_pool.specs.declared.letter.TheConstants.{BACK}
 use Rattle.cs_pool.proofs.Exchanging.{has_slot, written, brings_back}
 use Rattle.cs_pool.proofs.mailbox.Mailbox.give_back.Goals as goal

@@ -5,7 +5,7 @@ use Rattle.atomic_table.specs.Table.{step, Allows}
 use Rattle.cs_pool.specs.Letters.{helper, errand_of}
 use Rattle.cs_pool.specs.inner.Exchange.{Always}
 use Rattle.cs_pool.specs.inner.Telling.{took}
-use Rattle.cs_pool.specs.declared.letter.Letter.TheVariants as letter
+use Rattle.cs_pool.specs.declared.letter.MailboxLetter.TheVariants as letter
 use Rattle.cs_pool.specs.declared.letter.TheConstants.{GIVEN, TAKEN}
 use Rattle.cs_pool.proofs.Exchanging.{has_slot, takes_task}
 use Rattle.cs_pool.proofs.mailbox.Mailbox.take.Goals as goal

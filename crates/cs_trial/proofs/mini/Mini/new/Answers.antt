@@ -12,8 +12,10 @@ loop-op-preserved c =
     let long : c.len.result ≡ length c.args.regs.items = search rules in
     let P : Op → Type 0 = Fits c.args.areas.now c.args.foot.now (length c.args.regs.items) in
     All-more P c.args.ops.now c.loop-op.op-index (Read 0 0) (omega arith) c.loop-op.invariant
-    (subst (λ n. Fits c.args.areas.now c.args.foot.now n (get_or c.args.ops.now c.loop-op.op-index (Read 0 0))) long (c.if-not-fits.ensures refl))
+    (subst (λ n. Fits c.args.areas.now c.args.foot.now n (get_or c.args.ops.now c.loop-op.op-index (Read 0 0))) long
+    (c.if-not-fits.ensures refl))
 
 pub invariant_of-result : goal.invariant_of-result
 invariant_of-result c =
-    subst (λ ops. All (Fits c.args.areas.now c.args.foot.now (length c.args.regs.items)) ops) (take_all c.loop-op.op-index c.args.ops.now (omega arith)) c.loop-op.invariant
+    subst (λ ops. All (Fits c.args.areas.now c.args.foot.now (length c.args.regs.items)) ops)
+    (take_all c.loop-op.op-index c.args.ops.now (omega arith)) c.loop-op.invariant

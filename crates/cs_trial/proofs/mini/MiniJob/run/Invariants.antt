@@ -4,7 +4,8 @@ use Rattle.cs_trial.proofs.mini.MiniJob.run.Given as goal
 
 abbrev pub invariant-loop-op : goal.invariant-loop-op
 invariant-loop-op g l = record {
-  done : steps (drop l.op-index l.op-items) (l.self-inside.regs.items, g.B.Bank.cells l.bank) ≡ steps l.op-items (l.initial.self-inside.regs.items, g.B.Bank.cells l.initial.bank);
+  done : steps (drop l.op-index l.op-items) (l.self-inside.regs.items, g.B.Bank.cells l.bank) ≡ steps l.op-items
+      (l.initial.self-inside.regs.items, g.B.Bank.cells l.initial.bank);
   long : length l.self-inside.regs.items ≡ length l.initial.self-inside.regs.items;
   areas : l.self-inside.areas.now ≡ l.initial.self-inside.areas.now;
   foot : l.self-inside.foot.now ≡ l.initial.self-inside.foot.now;

@@ -8,11 +8,12 @@ use Rattle.cs_board.specs.Resting.{areas_in, known_in}
 use Rattle.cs_desk.proofs.Sole.{resting_set, sets_cell}
 use Rattle.cs_cells.specs.Cells.{values, signed}
 use Rattle.cs_board.specs.Views.{cells_laid}
-use Rattle.cs_desk.proofs.desk.DeskBank.set.Goals as goal
+use Rattle.cs_desk.proofs.resting.RestingTableBank.set.Goals as goal
 
 pub invariant_of-self : goal.invariant_of-self
 invariant_of-self g c = record {
-  rests = resting_set c.args.self.now.areas c.args.self.now.cells c.args.self.now.table.shared.table_id c.args.self.now.seat c.lay.new.seat c.args.addr c.cast_unsigned.result c.args.self.now.rests c.lay.ensures.sole
+  rests = resting_set c.args.self.now.areas c.args.self.now.cells c.args.self.now.table.shared.table_id
+      c.args.self.now.seat c.lay.new.seat c.args.addr c.cast_unsigned.result c.args.self.now.rests c.lay.ensures.sole
       c.lay.ensures.areas c.lay.ensures.known c.requires;
 }
 
@@ -23,8 +24,10 @@ returns-clause-cells g c =
     let word : cast_signed w64 c.cast_unsigned.result ≡ c.raw.result =
     ap (cast_signed w64) c.cast_unsigned.ensures
     ∙ ap (λ z. cast_signed w64 (of_z w64 z)) (to_z-of_z w64 c.raw.result fits) ∙ to_z-of_z w64 c.raw.result fits in
-    let is : signed c.cast_unsigned.result ≡ c.args.value = ap clamp word ∙ clamp_same c.raw.result c.raw.ensures.in_range ∙ c.raw.ensures.value in
+    let is : signed c.cast_unsigned.result ≡ c.args.value =
+    ap clamp word ∙ clamp_same c.raw.result c.raw.ensures.in_range ∙ c.raw.ensures.value in
     ap (λ a. values (cells_laid a (known_in c.lay.new.seat))) c.lay.ensures.areas
     ∙ ap (λ w. values (cells_laid (areas_in s) w)) c.lay.ensures.known
-    ∙ sets_cell (areas_in s) c.args.self.now.table.shared.table_id.words c.args.self.now.table.shared.table_id.slots (known_in s) c.args.addr c.cast_unsigned.result c.args.self.now.rests.cleared c.requires
+    ∙ sets_cell (areas_in s) c.args.self.now.table.shared.table_id.words c.args.self.now.table.shared.table_id.slots
+    (known_in s) c.args.addr c.cast_unsigned.result c.args.self.now.rests.cleared c.requires
     ∙ ap (λ z. set (values (cells_laid (areas_in s) (known_in s))) c.args.addr z) is

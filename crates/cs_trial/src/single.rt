@@ -1,0 +1,59 @@
+// One cycle by a crew of its own.
+ghost use Rattle.std.specs.Prelude.{◌≡◌, ◌≤◌, All, length};
+ghost use Rattle.cs_cells.specs.Areas.{word_count};
+
+use crate::boards::{desk_for, words_on};
+use crate::fixtures::laid;
+use crate::loaded::{Loaded, loaded_of};
+use crate::tries::parts_on;
+use cs_base::MOST_NOTES;
+use cs_cells::{Job, Layout};
+use cs_crew::{Crew, run_cycle};
+use cs_desk::Tally;
+use cs_edge::OpenGate;
+use std::alloc::Global;
+use std::sync::Wait;
+use std::thread::Threads;
+
+/// The first and the last word that notes leave, and how many notes the receipt has.
+type Left = (u64, u64, u64);
+
+// What so many workers leave of the notes.
+fn left_by<J: Job + Send + Drop, R: Threads + Wait + Sync>(
+    rt: &R,
+    alloc: Global,
+    workers: u32,
+    layout: &Layout,
+    loaded: Loaded<J>,
+) -> Option<Left>
+    requires workers { (1 ≤ workers) × (workers ≤ 32) }
+    requires words { length loaded.0 ≡ word_count layout.now }
+    requires areas { All (λ j. J.means.areas j ≡ layout.now) loaded.1 }
+{
+    let Loaded { words, jobs } = loaded;
+    let Some((desk, graph)) = desk_for(alloc, layout, &words, &jobs) else {
+        return None;
+    };
+    let gate = OpenGate::new();
+    let crew = Crew::new(rt, workers, &gate);
+    let (receipt, mut desk, _) = run_cycle(&crew, alloc, 0, graph, desk, jobs);
+    let mut tally = Tally::new();
+    tally.add(receipt);
+    let words = words_on(alloc, layout, &mut desk)?;
+    Some((*words.first()?, *words.last()?, tally.notes()))
+}
+
+/// 512 notes, each of which adds 1 to the cell of its place, by so many workers. None where there is no memory.
+pub fn in_one_cycle<R: Threads + Wait + Sync>(
+    rt: &R,
+    alloc: Global,
+    workers: u32,
+    places: &[u32],
+) -> Option<Left>
+    requires { (1 ≤ workers) × (workers ≤ 32) }
+{
+    let (areas, layout) = laid(alloc, &[1; MOST_NOTES])?;
+    let parts = parts_on(alloc, places).ok()?;
+    let loaded = loaded_of(alloc, &layout, &areas, &parts, &[0; MOST_NOTES])?;
+    left_by(rt, alloc, workers, &layout, loaded)
+}
