@@ -1,6 +1,9 @@
 -- The first byte of a text and its first character.
-use Rattle.std.proofs.Common.{◌≡◌, ◌==◌, ◌||◌, ◌∙◌, ◌<◌, ◌++◌, ◌∷◌, ℕ, Bool, true, false, List, [], Some, arith, refl, sym, ap, subst, chars, encode_utf8, encode_utf8_all, IsUtf8, slice_get, drop, length, eqb-true, true≢false}
-use Rattle.std.proofs.lemmas.Str.{chars_past_char, byte_from_char, length-encode, len_utf8_ascii, encode_ascii, IsUtf8-past_char}
+use Rattle.std.proofs.Common.{◌≡◌, ◌==◌, ◌||◌, ◌∙◌, ◌<◌, ◌++◌, ◌∷◌, ℕ, Bool, true, false, List, [], Some, arith, refl}
+use Rattle.std.proofs.Common.{sym, ap, subst, chars, encode_utf8, encode_utf8_all, IsUtf8, slice_get, drop, length}
+use Rattle.std.proofs.Common.{eqb-true, true≢false}
+use Rattle.std.proofs.lemmas.Str.{chars_past_char, byte_from_char, length-encode, len_utf8_ascii, encode_ascii}
+use Rattle.std.proofs.lemmas.Str.{IsUtf8-past_char}
 use Rattle.cs_arguments.specs.Reading.{Text, is_flag_letter, is_value_letter}
 
 -- a byte that is a letter of a flag is one of five
@@ -37,7 +40,8 @@ pub low_tail : (x : ℕ) (rest : Text) → x < 128 → IsUtf8 (x ∷ rest) → I
 low_tail x rest low utf8 = IsUtf8-past_char (x ∷ rest) rest x utf8 (ap (λ l. l ++ rest) (sym (encode_ascii x low)))
 
 -- a text that isn't empty has a first character
-pub first_of : (x : ℕ) (rest : Text) → IsUtf8 (x ∷ rest) → (y : ℕ) × (slice_get (chars (x ∷ rest)) 0 ≡ Some y) × (y < 128 → x ≡ y)
+pub first_of : (x : ℕ) (rest : Text) → IsUtf8 (x ∷ rest)
+    → (y : ℕ) × (slice_get (chars (x ∷ rest)) 0 ≡ Some y) × (y < 128 → x ≡ y)
 first_of x rest utf8 = go utf8.0 utf8.1.1
   where
     go : (cs : List ℕ) → encode_utf8_all cs ≡ x ∷ rest
@@ -53,8 +57,13 @@ first_of x rest utf8 = go utf8.0 utf8.1.1
 pub no_letter : (x : ℕ) (rest : Text) → IsUtf8 (x ∷ rest) → is_flag_letter x ≡ false → is_value_letter x ≡ false
     → (y : ℕ) × (slice_get (chars (x ∷ rest)) 0 ≡ Some y) × (is_flag_letter y ≡ false) × (is_value_letter y ≡ false)
 no_letter x rest utf8 no_flag no_value =
-    let first = first_of x rest utf8 in
-    (first.0, first.1, not_flag first.0 first.2 (is_flag_letter first.0) refl, not_value first.0 first.2 (is_value_letter first.0) refl)
+    let first = first_of x rest utf8 in (
+      first.0,
+      first.1,
+      not_flag first.0 first.2 (is_flag_letter first.0) refl,
+      not_value first.0 first.2
+          (is_value_letter first.0) refl,
+    )
   where
     not_flag : (y : ℕ) → (y < 128 → x ≡ y) → (b : Bool) → is_flag_letter y ≡ b → is_flag_letter y ≡ false
     not_flag y same true e = ap is_flag_letter (sym (same (low_flag y e))) ∙ no_flag

@@ -1,5 +1,7 @@
 -- The command's own rules are such as the walk asks for, and each value is judged as the reading judges it.
-use Rattle.std.proofs.Common.{◌≡◌, ◌==◌, ◌&&◌, ◌||◌, ◌∙◌, ◌∷◌, ◌<◌, ◌^◌, ℕ, ℤ, pos, zero, suc, neg_ℤ, Bool, true, false, cond, [], Some, None, refl, sym, ap, subst, codes, bytes_eq, length, nat_lt, nat_le, int_le, drop, eqb-true, true≢false, arith, leb-true, lt-ltb}
+use Rattle.std.proofs.Common.{◌≡◌, ◌==◌, ◌&&◌, ◌||◌, ◌∙◌, ◌∷◌, ◌<◌, ◌^◌, ℕ, ℤ, pos, zero, suc, neg_ℤ, Bool, true, false}
+use Rattle.std.proofs.Common.{cond, [], Some, None, refl, sym, ap, subst, codes, bytes_eq, length, nat_lt, nat_le}
+use Rattle.std.proofs.Common.{int_le, drop, eqb-true, true≢false, arith, leb-true, lt-ltb}
 use Rattle.std.specs.Str.Parse.{digits_value, without_leading_plus, starts_with_minus}
 use Rattle.std.proofs.lemmas.Bool.{and_left, and_right, or_parts}
 use Rattle.std.proofs.lemmas.Slice.Eq.{bytes_eq-Decides}
@@ -19,17 +21,21 @@ no_minus most rest = and_left _ _ (and_right (nat_lt 0 (length (45 ∷ rest))) _
 
 abbrev signed_by : ℕ → Text → Bool → Bool
 signed_by most text minus =
-    let z : ℤ = cond minus (neg_ℤ (pos (digits_value 10 (cond minus (drop 1 text) (without_leading_plus text))))) (pos (digits_value 10 (cond minus (drop 1 text) (without_leading_plus text)))) in
-    is_numeral (cond minus (drop 1 text) (without_leading_plus text)) && (fits_i64 z && (int_le (pos 1) z && int_le z (pos most)))
+    let z : ℤ = cond minus (neg_ℤ (pos (digits_value 10 (cond minus (drop 1 text) (without_leading_plus text)))))
+    (pos (digits_value 10 (cond minus (drop 1 text) (without_leading_plus text)))) in
+    is_numeral (cond minus (drop 1 text) (without_leading_plus text))
+    && (fits_i64 z && (int_le (pos 1) z && int_le z (pos most)))
 
 low_negative : (n : ℕ) → int_le (pos 1) (neg_ℤ (pos n)) ≡ false
 low_negative zero = refl
 low_negative (suc n) = refl
 
-fits_low : (n most : ℕ) → most < 2 ^ 63 → (nat_lt n (2 ^ 63) && (nat_le 1 n && nat_le n most)) ≡ (nat_le 1 n && nat_le n most)
+fits_low : (n most : ℕ) → most < 2 ^ 63
+    → (nat_lt n (2 ^ 63) && (nat_le 1 n && nat_le n most)) ≡ (nat_le 1 n && nat_le n most)
 fits_low n most low = go (nat_le n most) refl
   where
-    go : (b : Bool) → nat_le n most ≡ b → (nat_lt n (2 ^ 63) && (nat_le 1 n && nat_le n most)) ≡ (nat_le 1 n && nat_le n most)
+    go : (b : Bool) → nat_le n most ≡ b
+        → (nat_lt n (2 ^ 63) && (nat_le 1 n && nat_le n most)) ≡ (nat_le 1 n && nat_le n most)
     go true e = ap (λ b. b && (nat_le 1 n && nat_le n most)) (lt-ltb n (2 ^ 63) (omega (arith, leb-true n most e)))
     go false e = and_right (nat_lt n (2 ^ 63)) _ (and_right (nat_le 1 n) _ e) ∙ sym (and_right (nat_le 1 n) _ e)
 
@@ -42,10 +48,13 @@ judged most low text = go (starts_with_minus text) refl
 
     go : (b : Bool) → starts_with_minus text ≡ b → is_signed_in (pos 1) (pos most) text ≡ is_number most text
     go true e = ap (signed_by most text) e
-        ∙ and_right (is_numeral (drop 1 text)) _ (and_right (fits_i64 (neg_ℤ (pos (digits_value 10 (drop 1 text))))) _ (and_left _ _ (low_negative (digits_value 10 (drop 1 text)))))
+        ∙ and_right (is_numeral (drop 1 text)) _
+        (and_right (fits_i64 (neg_ℤ (pos (digits_value 10 (drop 1 text))))) _
+        (and_left _ _ (low_negative (digits_value 10 (drop 1 text)))))
         ∙ sym (negative text e)
     go false e = ap (signed_by most text) e
-        ∙ ap (λ b. is_numeral (without_leading_plus text) && b) (fits_low (digits_value 10 (without_leading_plus text)) most low)
+        ∙ ap (λ b. is_numeral (without_leading_plus text) && b)
+        (fits_low (digits_value 10 (without_leading_plus text)) most low)
 
 workers_judged : Judges (codes "j")
 workers_judged v = judged most_workers (omega arith) v
@@ -55,7 +64,8 @@ notes_judged v = judged most_demo_notes (omega arith) v
 
 -- ---- names
 
-each_flag_name : (P : Text → Type 0) (name : Text) → is_flag_name name ≡ true → P (codes "turns") → P (codes "pool") → P name
+each_flag_name : (P : Text → Type 0) (name : Text) → is_flag_name name ≡ true → P (codes "turns") → P (codes "pool")
+    → P name
 each_flag_name P name h turns pool = go (bytes_eq (codes "turns") name) refl h
   where
     go : (b : Bool) → bytes_eq (codes "turns") name ≡ b → (b || bytes_eq (codes "pool") name) ≡ true → P name
@@ -85,22 +95,30 @@ no_long name flags values =
 
 pub the_command : IsCommand the_rules
 the_command = record {
-  flag_letter = λ x h. each_flag (λ y. arg_by_short the_rules y ≡ Some (flag_rule (y ∷ []) None (Some y))) x h refl refl refl refl refl;
-  value_letter = λ x h. each_value (λ y. arg_by_short the_rules y ≡ Some (option_rule (y ∷ []) None (Some y) None)) x h refl refl;
+  flag_letter = λ x h. each_flag (λ y. arg_by_short the_rules y ≡ Some (flag_rule (y ∷ []) None (Some y))) x h refl refl
+      refl refl refl;
+  value_letter = λ x h. each_value (λ y. arg_by_short the_rules y ≡ Some (option_rule (y ∷ []) None (Some y) None)) x h
+      refl refl;
   no_letter = no_rule;
-  flag_name = λ name h. each_flag_name (λ t. arg_by_long the_rules t ≡ Some (flag_rule t (Some t) None)) name h refl refl;
-  value_name = λ name h. each_value_name (λ t. arg_by_long the_rules t ≡ Some (option_rule t (Some t) None None)) name h refl;
+  flag_name = λ name h. each_flag_name (λ t. arg_by_long the_rules t ≡ Some (flag_rule t (Some t) None)) name h refl
+      refl;
+  value_name = λ name h. each_value_name (λ t. arg_by_long the_rules t ≡ Some (option_rule t (Some t) None None)) name h
+      refl;
   no_name = no_long;
   first = refl;
   second = refl;
   third = refl;
-  flag_letter_key = λ x h. each_flag (λ y. IsFlagKey (y ∷ [])) x h (refl, refl) (refl, refl) (refl, refl) (refl, refl) (refl, refl);
+  flag_letter_key = λ x h. each_flag (λ y. IsFlagKey (y ∷ [])) x h (refl, refl) (refl, refl) (refl, refl) (refl, refl)
+      (refl, refl);
   value_letter_key = λ x h. each_value (λ y. IsKey the_rules (y ∷ [])) x h
       (record { long = None; short = Some 106; index = None; found = refl; reads = workers_judged })
       (record { long = None; short = Some 111; index = None; found = refl; reads = λ v. refl });
-  flag_name_key = λ name h. each_flag_name (λ t. IsFlagKey t × IsOptionKey t) name h ((refl, refl), (refl, refl)) ((refl, refl), (refl, refl));
-  value_name_key = λ name h. each_value_name (λ t. IsKey the_rules t × IsOptionKey t) name h
-      (record { long = Some (codes "demo"); short = None; index = None; found = refl; reads = notes_judged }, (refl, refl));
+  flag_name_key = λ name h. each_flag_name (λ t. IsFlagKey t × IsOptionKey t) name h ((refl, refl), (refl, refl))
+      ((refl, refl), (refl, refl));
+  value_name_key = λ name h. each_value_name (λ t. IsKey the_rules t × IsOptionKey t) name h (
+    record { long = Some (codes "demo"); short = None; index = None; found = refl; reads = notes_judged },
+    (refl, refl),
+  );
   orc_key = record { long = None; short = None; index = Some 1; found = refl; reads = λ v. refl };
   sco_key = record { long = None; short = None; index = Some 2; found = refl; reads = λ v. refl };
 }

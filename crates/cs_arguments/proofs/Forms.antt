@@ -1,5 +1,6 @@
 -- What a word looks like: to clap's lexer and to the reading.
-use Rattle.std.proofs.Common.{◌≡◌, ◌==◌, ◌∷◌, ℕ, Bool, true, false, cond, [], Option, Some, None, refl, sym, ap, subst, bytes_eq, IsUtf8, arith, eqb-true}
+use Rattle.std.proofs.Common.{◌≡◌, ◌==◌, ◌∷◌, ℕ, Bool, true, false, cond, [], Option, Some, None, refl, sym, ap, subst}
+use Rattle.std.proofs.Common.{bytes_eq, IsUtf8, arith, eqb-true}
 use Rattle.std.specs.List.{list_any, before_first, after_first}
 use Rattle.clap.specs.Lexer.{long_of, short_of}
 use Rattle.cs_arguments.specs.Reading.{Text, Said, plain, unless_wanting, worded, lettered, titled, is_equals}
@@ -16,7 +17,8 @@ pub data Form (word : Text) : Type 0 where
       → ((s : Said) → worded word s ≡ unless_wanting s.wants (Some (record s { only_names = true }))) → Form word
   a_title : (name : Text) (value : Option Text) → bytes_eq word dashes ≡ false → long_of word ≡ Some (name, value)
       → ((s : Said) → worded word s ≡ unless_wanting s.wants (titled name value s)) → Form word
-  some_letters : (x : ℕ) (rest : Text) → IsUtf8 (x ∷ rest) → bytes_eq word dashes ≡ false → long_of word ≡ None → short_of word ≡ Some (x ∷ rest)
+  some_letters : (x : ℕ) (rest : Text) → IsUtf8 (x ∷ rest) → bytes_eq word dashes ≡ false → long_of word ≡ None
+      → short_of word ≡ Some (x ∷ rest)
       → ((s : Said) → worded word s ≡ unless_wanting s.wants (lettered (x ∷ rest) s)) → Form word
 
 -- a word that begins with something else
@@ -24,10 +26,12 @@ plain_form : (x : ℕ) (rest : Text) → (x == 45) ≡ false → Form (x ∷ res
 plain_form x rest e = a_name (simp e refl) (simp e refl) (simp e refl) (λ s. simp e refl)
 
 letters_form : (y : ℕ) (ys : Text) → (y == 45) ≡ false → IsUtf8 (y ∷ ys) → Form (45 ∷ y ∷ ys)
-letters_form y ys e utf8 = some_letters y ys utf8 (simp e refl) (simp e refl) (simp e refl) (λ s. ap (unless_wanting s.wants) (simp e refl))
+letters_form y ys e utf8 =
+    some_letters y ys utf8 (simp e refl) (simp e refl) (simp e refl) (λ s. ap (unless_wanting s.wants) (simp e refl))
 
 title_form : (z : ℕ) (zs : Text) → Form (45 ∷ 45 ∷ z ∷ zs)
-title_form z zs = a_title (before_first is_equals (z ∷ zs)) (cond (list_any is_equals (z ∷ zs)) (Some (after_first is_equals (z ∷ zs))) None) refl refl (λ s. refl)
+title_form z zs = a_title (before_first is_equals (z ∷ zs))
+    (cond (list_any is_equals (z ∷ zs)) (Some (after_first is_equals (z ∷ zs))) None) refl refl (λ s. refl)
 
 dash_form : (rest : Text) → IsUtf8 (45 ∷ rest) → Form (45 ∷ rest)
 dash_form [] utf8 = a_name refl refl refl (λ s. refl)

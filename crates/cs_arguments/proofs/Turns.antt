@@ -1,11 +1,17 @@
 -- clap's turn at one word, by what the word looks like.
-use Rattle.std.proofs.Common.{◌≡◌, ◌∙◌, ◌∷◌, ℕ, Bool, true, false, cond, List, [], Option, Some, None, refl, ap, ap₂, bytes_eq, length, IsUtf8}
+use Rattle.std.proofs.Common.{◌≡◌, ◌∙◌, ◌∷◌, ℕ, Bool, true, false, cond, List, [], Option, Some, None, refl, ap, ap₂}
+use Rattle.std.proofs.Common.{bytes_eq, length, IsUtf8}
 use Rattle.std.specs.Option.{option_map_or, is_some}
 use Rattle.std.proofs.lemmas.Bool.{and_left}
 use Rattle.clap.specs.Lexer.{long_of, short_of}
 use Rattle.clap.specs.Kinds.{Kinds, or_else}
-use Rattle.clap.specs.Faults.{settle_fault, react_fault, option_fault, long_fault, short_fault, bundle_step_fault, flags_fault, bundle_fault, word_fault, step_fault, turn_fault, positional_fault, flag_word_fault}
-use Rattle.clap.specs.Walk.{Held, Outcome, Rule, Step, Waiting, Walk, idle, option as wait_for_option, trailing, value, next, after_flag, after_step, arg_by_long, arg_by_short, bundle, long_met, long_word, long_or_other, plain_word, short_or_plain, short_word, walked, word_met, takes_values, attached_value, to_positional, arg_by_index, reacted}
+use Rattle.clap.specs.Faults.{settle_fault, react_fault, option_fault, long_fault, short_fault, bundle_step_fault}
+use Rattle.clap.specs.Faults.{flags_fault, bundle_fault, word_fault, step_fault, turn_fault, positional_fault}
+use Rattle.clap.specs.Faults.{flag_word_fault}
+use Rattle.clap.specs.Walk.{Held, Outcome, Rule, Step, Waiting, Walk, idle, option as wait_for_option, trailing, value}
+use Rattle.clap.specs.Walk.{next, after_flag, after_step, arg_by_long, arg_by_short, bundle, long_met, long_word}
+use Rattle.clap.specs.Walk.{long_or_other, plain_word, short_or_plain, short_word, walked, word_met, takes_values}
+use Rattle.clap.specs.Walk.{attached_value, to_positional, arg_by_index, reacted}
 use Rattle.cs_arguments.specs.Reading.{Text}
 use Rattle.cs_arguments.specs.Command.{shape}
 use Rattle.cs_arguments.proofs.Chars.{first_of}
@@ -15,7 +21,8 @@ use Rattle.clap.specs.declared.error.kind.ErrorKind.TheVariants.{TooManyValues}
 
 -- where the walk stands
 abbrev pub walk_at : Held → Waiting → ℕ → Bool → Walk
-walk_at h waiting position only = record { held = h; waiting = waiting; position = position; is_trailing = only; stopped = None }
+walk_at h waiting position only =
+    record { held = h; waiting = waiting; position = position; is_trailing = only; stopped = None }
 
 -- the turn at a word of which these three are known
 abbrev met_long : List Rule → Waiting → Text → Held → Option (Text × Option Text) → Option Text → Held × Step
@@ -23,7 +30,8 @@ met_long c waiting word h (Some p) letters = long_word c waiting word p.0 p.1 h
 met_long c waiting word h None letters = short_or_plain c waiting word letters h
 
 abbrev met_for : List Rule → Waiting → ℕ → Text → Held → Bool → Option (Text × Option Text) → Option Text → Held × Step
-met_for c waiting position word h stop long letters = cond stop (h, trailing position) (met_long c waiting word h long letters)
+met_for c waiting position word h stop long letters =
+    cond stop (h, trailing position) (met_long c waiting word h long letters)
 
 abbrev fault_long : List Rule → Held → Option (Text × Option Text) → Option Text → Kinds
 fault_long c h (Some p) letters = long_fault c false (arg_by_long c p.0) p.1 h
@@ -32,13 +40,16 @@ fault_long c h None letters = option_map_or (λ flags. bundle_fault c false flag
 abbrev turn_by : List Rule → Waiting → ℕ → Text → Held → Bool → Option (Text × Option Text) → Option Text → Kinds
 turn_by c waiting position word h stop long letters =
     or_else (cond stop [] (fault_long c h long letters))
-    (step_fault (shape c) position (met_for c waiting position word h stop long letters).0 (met_for c waiting position word h stop long letters).1)
+    (step_fault (shape c) position (met_for c waiting position word h stop long letters).0
+    (met_for c waiting position word h stop long letters).1)
 
 abbrev walk_by : List Rule → Waiting → ℕ → Text → Held → Bool → Option (Text × Option Text) → Option Text → Walk
 walk_by c waiting position word h stop long letters =
-    after_step c word (walk_at h waiting position false) (met_for c waiting position word h stop long letters).0 (met_for c waiting position word h stop long letters).1
+    after_step c word (walk_at h waiting position false) (met_for c waiting position word h stop long letters).0
+    (met_for c waiting position word h stop long letters).1
 
-met_longer : (c : List Rule) (waiting : Waiting) (word : Text) (h : Held) (long : Option (Text × Option Text)) → long_or_other c waiting word long h ≡ met_long c waiting word h long (short_of word)
+met_longer : (c : List Rule) (waiting : Waiting) (word : Text) (h : Held) (long : Option (Text × Option Text))
+    → long_or_other c waiting word long h ≡ met_long c waiting word h long (short_of word)
 met_longer c waiting word h None = refl
 met_longer c waiting word h (Some p) = refl
 
@@ -53,31 +64,43 @@ pub data IsWaiting : Waiting → Type 0 where
   one : (key : Text) → IsWaiting (wait_for_option key)
 
 met_is : (c : List Rule) (waiting : Waiting) → IsWaiting waiting → (position : ℕ) (word : Text) (h : Held)
-    → word_met c [] false waiting position word h ≡ met_for c waiting position word h (bytes_eq word dashes) (long_of word) (short_of word)
-met_is c waiting none position word h = ap (λ m. cond (bytes_eq word dashes) (h, trailing position) m) (met_longer c idle word h (long_of word))
-met_is c waiting (one key) position word h = ap (λ m. cond (bytes_eq word dashes) (h, trailing position) m) (met_longer c (wait_for_option key) word h (long_of word))
+    → word_met c [] false waiting position word h ≡ met_for c waiting position word h (bytes_eq word dashes)
+    (long_of word) (short_of word)
+met_is c waiting none position word h =
+    ap (λ m. cond (bytes_eq word dashes) (h, trailing position) m) (met_longer c idle word h (long_of word))
+met_is c waiting (one key) position word h =
+    ap (λ m. cond (bytes_eq word dashes) (h, trailing position) m)
+    (met_longer c (wait_for_option key) word h (long_of word))
 
 fault_is : (c : List Rule) (waiting : Waiting) → IsWaiting waiting → (word : Text) (h : Held)
-    → word_fault (shape c) [] false waiting word h ≡ cond (bytes_eq word dashes) [] (fault_long c h (long_of word) (short_of word))
+    → word_fault (shape c) [] false waiting word h ≡ cond (bytes_eq word dashes) []
+    (fault_long c h (long_of word) (short_of word))
 fault_is c waiting none word h = ap (λ k. cond (bytes_eq word dashes) [] k) (fault_longer c word h (long_of word))
 fault_is c waiting (one key) word h = ap (λ k. cond (bytes_eq word dashes) [] k) (fault_longer c word h (long_of word))
 
-pub turn_is : (c : List Rule) (waiting : Waiting) → IsWaiting waiting → (position : ℕ) (word : Text) (h : Held) (stop : Bool) (long : Option (Text × Option Text)) (letters : Option Text)
+pub turn_is : (c : List Rule) (waiting : Waiting) → IsWaiting waiting
+    → (position : ℕ) (word : Text) (h : Held) (stop : Bool) (long : Option (Text × Option Text)) (letters : Option Text)
     → bytes_eq word dashes ≡ stop → long_of word ≡ long → short_of word ≡ letters
-    → turn_fault (shape c) [] (walk_at h waiting position false) word ≡ turn_by c waiting position word h stop long letters
+    → turn_fault (shape c) [] (walk_at h waiting position false) word ≡ turn_by c waiting position word h stop long
+    letters
 turn_is c waiting is position word h stop long letters e f g =
-    ap₂ (λ k (m : Held × Step). or_else k (step_fault (shape c) position m.0 m.1)) (fault_is c waiting is word h) (met_is c waiting is position word h)
+    ap₂ (λ k (m : Held × Step). or_else k (step_fault (shape c) position m.0 m.1)) (fault_is c waiting is word h)
+    (met_is c waiting is position word h)
     ∙ ap (λ b. turn_by c waiting position word h b (long_of word) (short_of word)) e
-    ∙ ap (λ l. turn_by c waiting position word h stop l (short_of word)) f ∙ ap (λ l. turn_by c waiting position word h stop long l) g
+    ∙ ap (λ l. turn_by c waiting position word h stop l (short_of word)) f
+    ∙ ap (λ l. turn_by c waiting position word h stop long l) g
 
-pub walk_is : (c : List Rule) (waiting : Waiting) → IsWaiting waiting → (position : ℕ) (word : Text) (h : Held) (stop : Bool) (long : Option (Text × Option Text)) (letters : Option Text)
+pub walk_is : (c : List Rule) (waiting : Waiting) → IsWaiting waiting
+    → (position : ℕ) (word : Text) (h : Held) (stop : Bool) (long : Option (Text × Option Text)) (letters : Option Text)
     → bytes_eq word dashes ≡ stop → long_of word ≡ long → short_of word ≡ letters
     → walked c [] (walk_at h waiting position false) word ≡ walk_by c waiting position word h stop long letters
 unfolding walked
 walk_is c waiting is position word h stop long letters e f g =
-    ap (λ (m : Held × Step). after_step c word (walk_at h waiting position false) m.0 m.1) (met_is c waiting is position word h)
+    ap (λ (m : Held × Step). after_step c word (walk_at h waiting position false) m.0 m.1)
+    (met_is c waiting is position word h)
     ∙ ap (λ b. walk_by c waiting position word h b (long_of word) (short_of word)) e
-    ∙ ap (λ l. walk_by c waiting position word h stop l (short_of word)) f ∙ ap (λ l. walk_by c waiting position word h stop long l) g
+    ∙ ap (λ l. walk_by c waiting position word h stop l (short_of word)) f
+    ∙ ap (λ l. walk_by c waiting position word h stop long l) g
 
 -- after `--` each word is a name
 pub turn_trailing : (c : List Rule) (waiting : Waiting) (position : ℕ) (word : Text) (h : Held)
@@ -92,36 +115,45 @@ walk_trailing c waiting position word h = refl
 
 -- ---- an option that still wants its value refuses each flag
 
-wants_first : (c : List Rule) (h : Held) → clear (settle_fault c false h) ≡ false → (a : Rule) (values : List Text) → clear (react_fault c false a values h) ≡ false
+wants_first : (c : List Rule) (h : Held) → clear (settle_fault c false h) ≡ false → (a : Rule) (values : List Text)
+    → clear (react_fault c false a values h) ≡ false
 wants_first c h e a values = clear_or (settle_fault c false h) _ ∙ and_left _ _ e
 
-wants_option : (c : List Rule) (h : Held) → clear (settle_fault c false h) ≡ false → (a : Rule) (v : Option Text) → clear (option_fault c false a v h) ≡ false
+wants_option : (c : List Rule) (h : Held) → clear (settle_fault c false h) ≡ false → (a : Rule) (v : Option Text)
+    → clear (option_fault c false a v h) ≡ false
 wants_option c h e a None = e
 wants_option c h e a (Some v) = wants_first c h e a (v ∷ [])
 
-pub wants_long : (c : List Rule) (h : Held) → clear (settle_fault c false h) ≡ false → (o : Option Rule) (v : Option Text) → clear (long_fault c false o v h) ≡ false
+pub wants_long : (c : List Rule) (h : Held) → clear (settle_fault c false h) ≡ false
+    → (o : Option Rule) (v : Option Text) → clear (long_fault c false o v h) ≡ false
 wants_long c h e None v = refl
 wants_long c h e (Some a) v = go (takes_values a) v (wants_option c h e a v) (wants_first c h e a [])
   where
-    go : (b : Bool) (v : Option Text) → clear (option_fault c false a v h) ≡ false → clear (react_fault c false a [] h) ≡ false
-        → clear (cond b (option_fault c false a v h) (cond (is_some v) (TooManyValues ∷ []) (react_fault c false a [] h))) ≡ false
+    go : (b : Bool) (v : Option Text) → clear (option_fault c false a v h) ≡ false
+        → clear (react_fault c false a [] h) ≡ false
+        → clear (cond b (option_fault c false a v h)
+        (cond (is_some v) (TooManyValues ∷ []) (react_fault c false a [] h))) ≡ false
     go true v f g = f
     go false None f g = g
     go false (Some w) f g = refl
 
-wants_short : (c : List Rule) (h : Held) → clear (settle_fault c false h) ≡ false → (o : Option Rule) (rest : Text) (after : Held → Kinds)
+wants_short : (c : List Rule) (h : Held) → clear (settle_fault c false h) ≡ false
+    → (o : Option Rule) (rest : Text) (after : Held → Kinds)
     → clear (short_fault c false o rest h after) ≡ false
 wants_short c h e None rest after = refl
 wants_short c h e (Some a) rest after =
-    go (takes_values a) (wants_option c h e a (attached_value rest)) (clear_or (react_fault c false a [] h) _ ∙ and_left _ _ (wants_first c h e a []))
+    go (takes_values a) (wants_option c h e a (attached_value rest))
+    (clear_or (react_fault c false a [] h) _ ∙ and_left _ _ (wants_first c h e a []))
   where
     go : (b : Bool) → clear (option_fault c false a (attached_value rest) h) ≡ false
         → clear (or_else (react_fault c false a [] h) (after (reacted c a [] h))) ≡ false
-        → clear (cond b (option_fault c false a (attached_value rest) h) (or_else (react_fault c false a [] h) (after (reacted c a [] h)))) ≡ false
+        → clear (cond b (option_fault c false a (attached_value rest) h)
+        (or_else (react_fault c false a [] h) (after (reacted c a [] h)))) ≡ false
     go true f g = f
     go false f g = g
 
-pub wants_letters : (c : List Rule) (h : Held) → clear (settle_fault c false h) ≡ false → (x : ℕ) (rest : Text) → IsUtf8 (x ∷ rest)
+pub wants_letters : (c : List Rule) (h : Held) → clear (settle_fault c false h) ≡ false → (x : ℕ) (rest : Text)
+    → IsUtf8 (x ∷ rest)
     → clear (flags_fault c false (length (x ∷ rest)) (x ∷ rest) 0 h) ≡ false
 unfolding flags_fault
 wants_letters c h e x rest utf8 =

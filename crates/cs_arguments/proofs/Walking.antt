@@ -1,5 +1,6 @@
 -- Uses as rows of matches: one more use, and the argument that is still open.
-use Rattle.std.proofs.Common.{◌≡◌, ◌&&◌, ◌||◌, ◌∙◌, ◌++◌, ◌∷◌, ℕ, Bool, true, false, not, cond, List, [], Option, Some, None, refl, sym, ap, ap₂, codes, bytes_eq, append_assoc, true≢false}
+use Rattle.std.proofs.Common.{◌≡◌, ◌&&◌, ◌||◌, ◌∙◌, ◌++◌, ◌∷◌, ℕ, Bool, true, false, not, cond, List, [], Option, Some}
+use Rattle.std.proofs.Common.{None, refl, sym, ap, ap₂, codes, bytes_eq, append_assoc, true≢false}
 use Rattle.std.specs.Bool.{⊤}
 use Rattle.std.proofs.lemmas.Bool.{or_parts, and_parts, and_left}
 use Rattle.std.proofs.lemmas.List.{map-append}
@@ -8,7 +9,8 @@ use Rattle.clap.specs.Kinds.{Kinds, or_else}
 use Rattle.clap.specs.Faults.{use_fault, settle_fault, react_fault}
 use Rattle.clap.specs.Values.{reading_of}
 use Rattle.clap.specs.ValueTests.{accepts}
-use Rattle.clap.specs.Walk.{Held, Row, Rule, more_values, used as used_row, at_row, has_row, arg_by_id, settled, reacted}
+use Rattle.clap.specs.Walk.{Held, Row, Rule, more_values, used as used_row, at_row, has_row, arg_by_id, settled}
+use Rattle.clap.specs.Walk.{reacted}
 use Rattle.clap.specs.declared.builder.value_parser.Reading.TheVariants as reading
 use Rattle.clap.specs.declared.error.kind.ErrorKind.{ErrorKind}
 use Rattle.clap.specs.declared.error.kind.ErrorKind.TheVariants as kind
@@ -63,7 +65,8 @@ added key value us change none =
 abbrev pub joins : List Use → Use → Bool
 joins us u = not (has_use u.0 us) && is_value u
 
-pub has_more : (key : Text) (us : List Use) (u : Use) → has_use key (us ++ u ∷ []) ≡ (has_use key us || bytes_eq u.0 key)
+pub has_more : (key : Text) (us : List Use) (u : Use)
+    → has_use key (us ++ u ∷ []) ≡ (has_use key us || bytes_eq u.0 key)
 has_more key [] u = go (bytes_eq u.0 key)
   where
     go : (b : Bool) → (b || false) ≡ (false || b)
@@ -76,7 +79,8 @@ has_more key (v ∷ us) u = go (bytes_eq v.0 key) (has_more key us u)
     go true e = refl
     go false e = e
 
-stands_more : (before us : List Use) (u : Use) → stands before (us ++ u ∷ []) ≡ (stands before us && joins (before ++ us) u)
+stands_more : (before us : List Use) (u : Use)
+    → stands before (us ++ u ∷ []) ≡ (stands before us && joins (before ++ us) u)
 stands_more before [] u = swap (joins before u) ∙ ap (λ b. joins b u) (sym (nothing before))
   where
     swap : (b : Bool) → (b && true) ≡ b
@@ -87,10 +91,13 @@ stands_more before [] u = swap (joins before u) ∙ ap (λ b. joins b u) (sym (n
     nothing [] = refl
     nothing (x ∷ xs) = ap (λ l. x ∷ l) (nothing xs)
 stands_more before (v ∷ us) u =
-    go (joins before v) (stands_more (before ++ v ∷ []) us u ∙ ap (λ l. stands (before ++ v ∷ []) us && joins l u) (append_assoc before (v ∷ []) us))
+    go (joins before v) (stands_more (before ++ v ∷ []) us u
+    ∙ ap (λ l. stands (before ++ v ∷ []) us && joins l u) (append_assoc before (v ∷ []) us))
   where
-    go : (b : Bool) → stands (before ++ v ∷ []) (us ++ u ∷ []) ≡ (stands (before ++ v ∷ []) us && joins (before ++ v ∷ us) u)
-        → (b && stands (before ++ v ∷ []) (us ++ u ∷ [])) ≡ ((b && stands (before ++ v ∷ []) us) && joins (before ++ v ∷ us) u)
+    go : (b : Bool) → stands (before ++ v ∷ [])
+        (us ++ u ∷ []) ≡ (stands (before ++ v ∷ []) us && joins (before ++ v ∷ us) u)
+        → (b && stands (before ++ v ∷ []) (us ++ u ∷ []))
+        ≡ ((b && stands (before ++ v ∷ []) us) && joins (before ++ v ∷ us) u)
     go true e = e
     go false e = refl
 
@@ -130,7 +137,8 @@ Judges key = (v : Text) → accepts false (parser_of key) v ≡ is_value (key, v
 pub option_does : (key : Text) (long : Option Text) (short index : Option ℕ) (value : Text) → Judges key
     → Does (option_rule key long short index) (value ∷ []) (key, value)
 option_does key long short index value reads = record {
-  clears = λ us. judged (has_row key (rows us)) (has_use key us) (accepts false (parser_of key) value) (is_value (key, value)) _ _ (has_row-rows key us) (reads value);
+  clears = λ us. judged (has_row key (rows us)) (has_use key us) (accepts false (parser_of key) value)
+      (is_value (key, value)) _ _ (has_row-rows key us) (reads value);
   adds = λ us none. added key value us (more_values CommandLine (value ∷ [])) none;
 }
 
@@ -140,8 +148,12 @@ IsFlagKey key = (reading_of (parser_of key) ≡ reading.AsWritten) × (is_value 
 pub flag_does : (key : Text) (long : Option Text) (short : Option ℕ) → IsFlagKey key
     → Does (flag_rule key long short) [] (key, codes "true")
 flag_does key long short is = record {
-  clears = λ us. judged (has_row key (rows us)) (has_use key us) true (is_value (key, codes "true")) kind.ArgumentConflict kind.InvalidValue (has_row-rows key us) (sym is.1);
-  adds = λ us none. ap (λ how. at_row key (more_values CommandLine (codes "true" ∷ [])) (record { id = key; values = codes "true" ∷ []; count = None; source = Some CommandLine; reading = how } ∷ []) (at_row key (λ _. []) [] (rows us))) (sym is.0) ∙ added key (codes "true") us (more_values CommandLine (codes "true" ∷ [])) none;
+  clears = λ us. judged (has_row key (rows us)) (has_use key us) true (is_value (key, codes "true"))
+      kind.ArgumentConflict kind.InvalidValue (has_row-rows key us) (sym is.1);
+  adds = λ us none. ap (λ how. at_row key (more_values CommandLine (codes "true" ∷ []))
+      (record { id = key; values = codes "true" ∷ []; count = None; source = Some CommandLine; reading = how } ∷ [])
+      (at_row key (λ _. []) [] (rows us))) (sym is.0)
+      ∙ added key (codes "true") us (more_values CommandLine (codes "true" ∷ [])) none;
 }
 
 -- ---- what is held, where the last use may still be open
@@ -173,29 +185,37 @@ pub settle_clear : (c : List Rule) (us : List Use) (p : Option Use) → IsOpen c
     → clear (settle_fault c false (held us p)) ≡ good (with_open us p)
 settle_clear c us None opened fine = sym fine
 settle_clear c us (Some u) opened fine =
-    rw opened.found ((option_does u.0 opened.long opened.short opened.index u.1 opened.reads).clears us ∙ sym (good_more us u ∙ ap (λ b. b && joins us u) fine))
+    rw opened.found ((option_does u.0 opened.long opened.short opened.index u.1 opened.reads).clears us
+    ∙ sym (good_more us u ∙ ap (λ b. b && joins us u) fine))
 
 pub settled_held : (c : List Rule) (us : List Use) (p : Option Use) → IsOpen c p → good (with_open us p) ≡ true
     → settled c (held us p) ≡ held (with_open us p) None
 settled_held c us None opened fine = refl
 settled_held c us (Some u) opened fine =
     let new = joins_new us u (good_before us u fine).1 in
-    rw opened.found (ap (λ rs. record { rows = rs; pending = None; skip = 0 }) ((option_does u.0 opened.long opened.short opened.index u.1 opened.reads).adds us new))
+    rw opened.found (ap (λ rs. record { rows = rs; pending = None; skip = 0 })
+    ((option_does u.0 opened.long opened.short opened.index u.1 opened.reads).adds us new))
 
-pub react_clear : (c : List Rule) (a : Rule) (values : List Text) (us : List Use) (p : Option Use) (u : Use) → Does a values u → IsOpen c p → good us ≡ true
+pub react_clear : (c : List Rule) (a : Rule) (values : List Text) (us : List Use) (p : Option Use) (u : Use)
+    → Does a values u → IsOpen c p → good us ≡ true
     → clear (react_fault c false a values (held us p)) ≡ good (with_open us p ++ u ∷ [])
 react_clear c a values us p u does opened fine =
-    clear_or (settle_fault c false (held us p)) _ ∙ ap (λ b. b && clear (use_fault false a values (settled c (held us p)).rows)) (settle_clear c us p opened fine)
+    clear_or (settle_fault c false (held us p)) _
+    ∙ ap (λ b. b && clear (use_fault false a values (settled c (held us p)).rows)) (settle_clear c us p opened fine)
     ∙ go (good (with_open us p)) refl ∙ sym (good_more (with_open us p) u)
   where
     go : (b : Bool) → good (with_open us p) ≡ b
         → (b && clear (use_fault false a values (settled c (held us p)).rows)) ≡ (b && joins (with_open us p) u)
-    go true e = ap (λ h. clear (use_fault false a values h.rows)) (settled_held c us p opened e) ∙ does.clears (with_open us p)
+    go true e = ap (λ h. clear (use_fault false a values h.rows)) (settled_held c us p opened e)
+        ∙ does.clears (with_open us p)
     go false e = refl
 
-pub react_held : (c : List Rule) (a : Rule) (values : List Text) (us : List Use) (p : Option Use) (u : Use) → Does a values u → IsOpen c p
+pub react_held : (c : List Rule) (a : Rule) (values : List Text) (us : List Use) (p : Option Use) (u : Use)
+    → Does a values u → IsOpen c p
     → good (with_open us p ++ u ∷ []) ≡ true → reacted c a values (held us p) ≡ held (with_open us p ++ u ∷ []) None
 react_held c a values us p u does opened fine =
     let parts = good_before (with_open us p) u fine in
-    ap {A = Held} (λ h. record h { rows = used_row a values h.rows; pending = None }) (settled_held c us p opened parts.0)
-    ∙ ap (λ rs. record { rows = rs; pending = None; skip = 0 }) (does.adds (with_open us p) (joins_new (with_open us p) u parts.1))
+    ap {A = Held} (λ h. record h { rows = used_row a values h.rows; pending = None })
+    (settled_held c us p opened parts.0)
+    ∙ ap (λ rs. record { rows = rs; pending = None; skip = 0 })
+    (does.adds (with_open us p) (joins_new (with_open us p) u parts.1))

@@ -71,7 +71,8 @@ option_rule key long short index = record (made_option key long short) {
 abbrev pub the_rules : List Rule
 the_rules =
     option_rule (codes "j") None (Some 106) None ∷ option_rule (codes "o") None (Some 111) None
-    ∷ flag_rule (codes "W") None (Some 87) ∷ flag_rule (codes "s") None (Some 115) ∷ flag_rule (codes "d") None (Some 100)
+    ∷ flag_rule (codes "W") None (Some 87) ∷ flag_rule (codes "s") None (Some 115)
+    ∷ flag_rule (codes "d") None (Some 100)
     ∷ flag_rule (codes "n") None (Some 110) ∷ flag_rule (codes "3") None (Some 51)
     ∷ flag_rule (codes "turns") (Some (codes "turns")) None ∷ flag_rule (codes "pool") (Some (codes "pool")) None
     ∷ option_rule (codes "demo") (Some (codes "demo")) None None ∷ option_rule (codes "ORC") None None (Some 1)

@@ -1,6 +1,8 @@
 -- What the words behind the program's name ask for: each use of an option, a flag or a name in turn, and then what the
 -- uses come to together.
-use Rattle.std.specs.Prelude.{ℕ, Bool, true, false, not, ◌&&◌, ◌||◌, ◌==◌, if◌then◌else◌, nat_lt, nat_le, nat_eq, List, [], ◌∷◌, ◌++◌, length, codes, find, Option, Some, None, is_some, unwrap_or, option_map, option_and_then, bytes_eq}
+use Rattle.std.specs.Prelude.{ℕ, Bool, true, false, not, ◌&&◌, ◌||◌, ◌==◌, if◌then◌else◌, nat_lt, nat_le, nat_eq, List}
+use Rattle.std.specs.Prelude.{[], ◌∷◌, ◌++◌, length, codes, find, Option, Some, None, is_some, unwrap_or, option_map}
+use Rattle.std.specs.Prelude.{option_and_then, bytes_eq}
 use Rattle.std.specs.List.{list_all, list_any, before_first, after_first, ends_with}
 use Rattle.std.specs.Char.{digit_value}
 use Rattle.std.specs.Str.Parse.{digits_value, without_leading_plus}
@@ -31,8 +33,8 @@ pub record Asked : Type 0 where
 
 -- ---- uses
 
--- One use: of an option by its letter or its long name, or of a name by its place, `ORC` or `SCO`; and its value. A flag
--- has the value `true`.
+-- One use: of an option by its letter or its long name, or of a name by its place, `ORC` or `SCO`; and its value. A
+-- flag has the value `true`.
 abbrev pub Use : Type 0
 Use = Text × Text
 
@@ -74,7 +76,8 @@ is_flag_name name = bytes_eq (codes "turns") name || bytes_eq (codes "pool") nam
 abbrev pub is_value_name : Text → Bool
 is_value_name name = bytes_eq (codes "demo") name
 
--- an option's letter, and what follows it in its word: the value, after an `=` (61) or at once, or else the next word is
+-- an option's letter, and what follows it in its word: the value, after an `=` (61) or at once, or else the next word
+-- is
 abbrev pub valued : Text → Text → Said → Said
 valued key [] s = record s { wants = Some key }
 valued key (x ∷ rest) s = used key (if x == 61 then rest else x ∷ rest) s

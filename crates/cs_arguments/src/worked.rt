@@ -1,7 +1,8 @@
 // Worked examples: what words mean whose reading is worked out by hand.
 ghost use Rattle.std.specs.Prelude.{◌≡◌, ◌∷◌, [], All, None, Some, codes, true};
 ghost use Rattle.cs_arguments.specs.Reading.{demo, one_file, reading, two_files};
-ghost use Rattle.cs_arguments.specs.Worked.{a_and_b, a_b, empty_names, no_numbers, no_options, piece_alone, twice, unwanted_values, without_value, wrong_names};
+ghost use Rattle.cs_arguments.specs.Worked.{a_and_b, a_b, empty_names, no_numbers, no_options, piece_alone, twice};
+ghost use Rattle.cs_arguments.specs.Worked.{unwanted_values, without_value, wrong_names};
 ghost use Rattle.cs_base.specs.declared.width.SampleWidth.TheVariants.{ThreeBytes};
 
 /// Words that ask for something: names alone, flags that share a dash with an option, the forms of a value, and words
@@ -14,7 +15,8 @@ pub fn words_with_a_reading()
         ≡ Some (record (piece_alone a_and_b) { silent = true; width = ThreeBytes; sound_file = codes "x.wav" }) }
     ensures idle { reading (codes "-nWj4" ∷ codes "a" ∷ codes "-s" ∷ codes "b" ∷ codes "-d" ∷ [])
         ≡ Some (record (piece_alone a_and_b) { silent = true; workers = 4 }) }
-    ensures one_equals { reading (codes "-o==x" ∷ a_b) ≡ Some (record (piece_alone a_and_b) { sound_file = codes "=x" }) }
+    ensures one_equals { reading (codes "-o==x" ∷ a_b)
+        ≡ Some (record (piece_alone a_and_b) { sound_file = codes "=x" }) }
     ensures number { reading (codes "-j=+04" ∷ codes "--turns" ∷ a_b)
         ≡ Some (record (piece_alone a_and_b) { workers = 4; turns = true }) }
     ensures most { reading (codes "-j" ∷ codes "32" ∷ codes "--demo=10000" ∷ [])

@@ -30,7 +30,8 @@ made s k n d p q r t = record {
   dbfs_above_zero = t;
 }
 
-same_made : (s s' k k' n n' : ℕ) (d d' : ℤ) (p : InRange 192000 s) (p' : InRange 192000 s') (q : InRange 4096 k) (q' : InRange 4096 k')
+same_made : (s s' k k' n n' : ℕ) (d d' : ℤ) (p : InRange 192000 s) (p' : InRange 192000 s') (q : InRange 4096 k)
+    (q' : InRange 4096 k')
     (r : InRange 16 n) (r' : InRange 16 n') (t : pos 0 <ℤ d) (t' : pos 0 <ℤ d') → s ≡ s' → k ≡ k' → n ≡ n' → d ≡ d'
     → made s k n d p q r t ≡ made s' k' n' d' p' q' r' t'
 same_made s s' k k' n n' d d' p p' q q' r r' t t' e f g h =
@@ -45,9 +46,11 @@ same_made s s' k k' n n' d d' p p' q q' r r' t t' e f g h =
 
 one_head : (a b : Head) → header_of_head a ≡ header_of_head b → a ≡ b
 one_head a b e =
-    same_made a.sr b.sr a.ksmps b.ksmps a.nchnls b.nchnls a.dbfs b.dbfs a.sr_in_range b.sr_in_range a.ksmps_in_range b.ksmps_in_range
+    same_made a.sr b.sr a.ksmps b.ksmps a.nchnls b.nchnls a.dbfs b.dbfs a.sr_in_range b.sr_in_range a.ksmps_in_range
+    b.ksmps_in_range
     a.nchnls_in_range b.nchnls_in_range a.dbfs_above_zero b.dbfs_above_zero
-    (ap (λ (x : Header). x.sr) e) (ap (λ (x : Header). x.ksmps) e) (ap (λ (x : Header). x.nchnls) e) (ap (λ (x : Header). x.dbfs) e)
+    (ap (λ (x : Header). x.sr) e) (ap (λ (x : Header). x.ksmps) e) (ap (λ (x : Header). x.nchnls) e)
+    (ap (λ (x : Header). x.dbfs) e)
 
 pub head_one : (h : Header) → HasOne (HasHead h)
 head_one h (Ok a) (Ok b) p q = ap (λ (x : Head). Ok x) (one_head a b (p ∙ sym q))

@@ -12,7 +12,7 @@ use Rattle.cs_piece.specs.Setups.{AreOfOneSize}
 use Rattle.cs_tempo.specs.declared.plot.Event.{Event}
 use Rattle.cs_tempo.specs.Order.{in_order}
 use Rattle.cs_tempo.specs.Pairing.{stop_of}
-use Rattle.cs_tempo.specs.Plot.{Setting, acts_of, events_along, events_at, events_from, plot_of, setting_of}
+use Rattle.cs_tempo.specs.Plot.{SectionSetting, acts_of, events_along, events_at, events_from, plot_of, setting_of}
 use Rattle.cs_tempo.specs.Sections.{length_of, sections_of}
 use Rattle.cs_tempo.proofs.Elements.{each_append, each_more, in_order_each, sections_each}
 
@@ -30,7 +30,7 @@ module _ (P : ScoreWhat → Type 0) (Q : Given → Type 0)
     (gives : (number at : ℕ) (size gen : ℤ) (args : List ℤ) → P (Table number at size gen args)
     → Q (record { number = number; size = size; gen = gen; args = args })) where
   -- of a turn with its events
-  turn_each : (set : Setting) (stop : Option ℕ) (at line : ℕ) (w : ScoreWhat) → P w
+  turn_each : (set : SectionSetting) (stop : Option ℕ) (at line : ℕ) (w : ScoreWhat) → P w
       → Each Q (given_in (map (λ what. record { cycle = at; line = line; act = what }) (acts_of set stop w)))
   unfolding acts_of
   turn_each set stop cycle line (Note instr at len more) p = tt
@@ -47,7 +47,7 @@ module _ (P : ScoreWhat → Type 0) (Q : Given → Type 0)
       let parts = each_parts Q (given_by x.act) (given_in xs) d in
       each_append Q (given_by x.act) (given_in (xs ++ ys)) parts.0 (given_append xs ys parts.1 e)
 
-  along_each : (set : Setting) (earlier ss : List ScoreStmt) → Each (λ (s : ScoreStmt). P s.what) ss
+  along_each : (set : SectionSetting) (earlier ss : List ScoreStmt) → Each (λ (s : ScoreStmt). P s.what) ss
       → Each Q (given_in (events_along set earlier ss))
   unfolding events_along
   along_each set earlier [] e = tt

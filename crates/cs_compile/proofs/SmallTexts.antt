@@ -10,8 +10,8 @@ use Rattle.cs_base.specs.declared.refusal.Refusal.TheVariants as why
 use Rattle.cs_base.specs.declared.width.SampleWidth.{SampleWidth}
 use Rattle.cs_base.specs.declared.width.SampleWidth.TheVariants.{TwoBytes, ThreeBytes}
 use Rattle.cs_words.specs.Catalogue.{catalogued}
-use Rattle.cs_words.specs.Signs.{operator_of, plain_sign, sign_of}
-use Rattle.cs_words.specs.Words.{field_of, func_of, header_of, is_foreign, keyword_of, word_of}
+use Rattle.cs_words.specs.Signs.{sign_of}
+use Rattle.cs_words.specs.Words.{field_of, is_foreign, listed_word, word_of}
 use Rattle.cs_words.specs.declared.catalogue.Opcode.TheVariants as op
 use Rattle.cs_words.specs.declared.sign.Sign.TheVariants as sign
 use Rattle.cs_words.specs.declared.word.HeadName.TheVariants as head
@@ -106,7 +106,7 @@ line_1 =
     ∷ symbol 1 (kind.Number (whole 8)) (codes "8") ∷ feed 1 ∷ line_2
 
 symbols_are : symbols fourth_field tokens ≡ line_1
-unfolding word_of keyword_of header_of func_of catalogued is_foreign field_of sign_of operator_of plain_sign
+unfolding word_of listed_word catalogued is_foreign field_of sign_of
 symbols_are = refl
 
 -- ITS TREE

@@ -1,4 +1,5 @@
-use Rattle.std.proofs.Common.{◌≡◌, ℕ, ◌+◌, ◌<◌, ◌≤◌, List, [], ◌∷◌, length, get_or, drop, Some, if◌then◌else◌, bytes_eq, refl, ap, sym, ◌∙◌, arith, zero, suc, add-one, true}
+use Rattle.std.proofs.Common.{◌≡◌, ℕ, ◌+◌, ◌<◌, ◌≤◌, List, [], ◌∷◌, length, get_or, drop, Some, if◌then◌else◌, bytes_eq}
+use Rattle.std.proofs.Common.{refl, ap, sym, ◌∙◌, arith, zero, suc, add-one, true}
 use Rattle.std.proofs.Math.Seq.{drop-cons}
 use Rattle.cs_edge.specs.declared.files.NamedBytes.{NamedBytes}
 use Rattle.cs_edge.specs.Files.{file_named}

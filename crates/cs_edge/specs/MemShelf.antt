@@ -5,7 +5,8 @@ use Rattle.cs_edge.specs.declared.fakes.mem_shelf.MemShelf.{MemShelf}
 use Rattle.cs_edge.specs.Files.{ShelfTold}
 use Rattle.cs_edge.specs.Memory.{bytes_at, told_moves}
 
--- what a shelf in memory tells: its files, what is left of the file begun, its moves as long as they are kept, its faults
+-- what a shelf in memory tells: its files, what is left of the file begun, its moves as long as they are kept, its
+-- faults
 abbrev pub shelf_told : MemShelf → ShelfTold
 shelf_told s = record {
   files = Some s.files;

@@ -1,5 +1,6 @@
 // A buffer in front of a writer, which gets whole lines.
-ghost use Rattle.std.specs.Prelude.{◌≡◌, ◌≢◌, ◌⊎◌, ◌<◌, ◌≤◌, ◌-◌, [], ◌++◌, All, length, drop, slice_index_or, OnOk, OnErr};
+ghost use Rattle.std.specs.Prelude.{◌≡◌, ◌≢◌, ◌⊎◌, ◌<◌, ◌≤◌, ◌-◌, [], ◌++◌, All, length, drop, slice_index_or, OnOk};
+ghost use Rattle.std.specs.Prelude.{OnErr};
 ghost use Rattle.std.specs.Io.KnownBytes.{Appends, append_known};
 ghost use Rattle.cs_base.specs.Lines.{line_feed};
 

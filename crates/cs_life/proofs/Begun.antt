@@ -1,5 +1,5 @@
 -- What came of a note that was started is what came of the note of the definitions.
-use Rattle.std.proofs.Common.{◌≡◌, ◌∙◌, ℕ, pos, Bool, List, length, sym, ap, subst}
+use Rattle.std.proofs.Common.{◌≡◌, ◌∙◌, ◌+◌, ℕ, pos, Bool, List, length, sym, ap, subst}
 use Rattle.cs_cells.specs.Cells.{Cells, cell}
 use Rattle.cs_cells.specs.declared.footprint.Footprint.{Footprint}
 use Rattle.cs_piece_meaning.specs.Moments.{Composition, Moment}
@@ -23,9 +23,11 @@ use Rattle.cs_voice.specs.VoiceData.{VoiceData, IsOn, sounding_on}
 use Rattle.cs_voice.specs.VoiceMeaning.{IsVoice}
 use Rattle.cs_voice.specs.declared.stage.Stage.{Stage}
 
-module _ (c : Composition) (stage : Stage) (flags : List Bool) (now : ℕ) (s : Start) (i : Numbered) (foot : Footprint) (body : Block)
+module _ (c : Composition) (stage : Stage) (flags : List Bool) (now : ℕ) (s : Start) (i : Numbered) (foot : Footprint)
+    (body : Block)
     (age : ℕ) (m : Moment) (cells : Cells) (is : IsStageOf c stage) (made : flags ≡ flags_of c.tables m.made)
-    (long : length flags ≡ length stage.tables.now) (of : IsInstrumentOf stage i foot body) (hold : Hold stage.layout.now (cell cells) m.shared) where
+    (long : length flags ≡ length stage.tables.now) (of : IsInstrumentOf stage i foot body)
+    (hold : Hold stage.layout.now (cell cells) m.shared) where
   abbrev sheet : Sheet
   sheet = sheet_at i age foot stage flags s.fields
 
@@ -53,7 +55,7 @@ module _ (c : Composition) (stage : Stage) (flags : List Bool) (now : ℕ) (s : 
       subst (λ x. Hold stage.layout.now x t.world.shared) (sym e)
       (subst (λ (n : Note Plain). Hold stage.layout.now machine.world.shared n.world.shared) same_note begins.cells)
 
-  module _ (v : VoiceData) (live : IsLive sheet machine v) where
+  module _ (v : VoiceData) (live : IsLive sheet (now + s.cycles) machine v) where
     same_sheet : sheet ≡ sheet_at i v.age foot stage flags v.fields
     same_sheet = λ j. record {
       number = i.number;
@@ -66,6 +68,7 @@ module _ (c : Composition) (stage : Stage) (flags : List Bool) (now : ℕ) (s : 
         fields = λ k. live.plays.fields k j;
       };
       areas = sheet.areas;
+      zones = sheet.zones;
       foot = foot;
       init = sheet.init;
       perf = sheet.perf;
@@ -83,13 +86,15 @@ module _ (c : Composition) (stage : Stage) (flags : List Bool) (now : ℕ) (s : 
       foot = foot;
       of = of;
       number = number ∙ ap pos live.plays.number;
+      until = live.ends;
       fields = live.plays.fields;
       on = subst (λ (x : Sheet). IsOn x v) same_sheet live.plays;
       valid = valid;
       note = subst (λ (x : Sheet). IsVoiceOf x of.plan of.kinds (sounding_on x v) t) same_sheet plays_on;
     }
 
-  pub is_begun : (r : Started) → s.number ≡ pos i.number → IsStarted sheet machine r → IsBegun c stage flags now s body t r
+  pub is_begun : (r : Started) → s.number ≡ pos i.number → IsStarted sheet (now + s.cycles) machine r
+      → IsBegun c stage flags now s body t r
   is_begun (started.Live v) number h = (sym same_cause ∙ h.cause, plays v h number)
   is_begun (started.NoTable n) number h = (no_table n, sym same_cause ∙ h)
   is_begun (started.DelayTooLong n) number h = (delay_too_long n, sym same_cause ∙ h)

@@ -1,5 +1,6 @@
 -- Voices play on when more tables have been made.
-use Rattle.std.proofs.Common.{◌≡◌, ℕ, ℤ, pos, suc, ◌==◌, ◌&&◌, ◌||◌, Bool, true, false, not, List, [], ◌∷◌, length, map, unsigned_abs, Option, Some, None, if◌then◌else◌, refl, sym, ◌∙◌, ap, arith}
+use Rattle.std.proofs.Common.{◌≡◌, ℕ, ℤ, pos, suc, ◌==◌, ◌&&◌, ◌||◌, Bool, true, false, not, List, [], ◌∷◌, length, map}
+use Rattle.std.proofs.Common.{unsigned_abs, Option, Some, None, if◌then◌else◌, refl, sym, ◌∙◌, ap, arith}
 use Rattle.std.specs.Borrow.{Bor}
 use Rattle.std.specs.Int.{is_negative}
 use Rattle.std.specs.Option.{is_some}
@@ -12,38 +13,41 @@ use Rattle.cs_piece_meaning.specs.Moments.{Composition, Active}
 use Rattle.cs_meaning.specs.Plain.{Table, find_table}
 use Rattle.cs_voice.specs.Starts.{sheet_at}
 use Rattle.cs_voice.specs.Tables.{table_at, tables_of}
-use Rattle.cs_voice.specs.Memory.{frozen_in, table_of}
+use Rattle.cs_voice.specs.Memory.{table_of}
 use Rattle.cs_voice.specs.VoiceData.{VoiceData, IsOn, made}
 use Rattle.cs_voice.specs.declared.stage.Stage.{Stage}
-use Rattle.cs_voice.specs.declared.stage.TableAt.{TableAt}
+use Rattle.cs_voice.specs.declared.stage.PieceTable.{PieceTable}
 use Rattle.cs_life.specs.Standing.{Plays, flags_of}
 use Rattle.cs_life.specs.inner.Marks.{has_cells, is_in_cells, marked}
 
 -- ---- flags
 
 -- the tables of a stage are those of its composition: as many, of the same numbers
-pub as_many : (ts : List TableAt) (cs : List Table) → map table_of ts ≡ map made cs → length ts ≡ length cs
+pub as_many : (ts : List PieceTable) (cs : List Table) → map table_of ts ≡ map made cs → length ts ≡ length cs
 as_many [] [] e = refl
 as_many [] (c ∷ cs) e = absurd cc
 as_many (t ∷ ts) [] e = absurd cc
 as_many (t ∷ ts) (c ∷ cs) e = let later : map table_of ts ≡ map made cs = cc in ap suc (as_many ts cs later)
 
-first_of : (t : TableAt) (c : Table) (ts : List TableAt) (cs : List Table) → map table_of (t ∷ ts) ≡ map made (c ∷ cs) → table_of t ≡ made c
+first_of : (t : PieceTable) (c : Table) (ts : List PieceTable) (cs : List Table) → map table_of (t ∷ ts) ≡ map made (c ∷ cs)
+    → table_of t ≡ made c
 first_of t c ts cs e = cc
 
-later_of : (t : TableAt) (c : Table) (ts : List TableAt) (cs : List Table) → map table_of (t ∷ ts) ≡ map made (c ∷ cs) → map table_of ts ≡ map made cs
+later_of : (t : PieceTable) (c : Table) (ts : List PieceTable) (cs : List Table) → map table_of (t ∷ ts) ≡ map made (c ∷ cs)
+    → map table_of ts ≡ map made cs
 later_of t c ts cs e = cc
 
 flags_long : (cs : List Table) (ns : List ℕ) → length (flags_of cs ns) ≡ length cs
 flags_long [] ns = refl
 flags_long (c ∷ cs) ns = ap suc (flags_long cs ns)
 
-pub flags_fit : (ts : List TableAt) (cs : List Table) (ns : List ℕ) (flags : List Bool) → map table_of ts ≡ map made cs → flags ≡ flags_of cs ns
+pub flags_fit : (ts : List PieceTable) (cs : List Table) (ns : List ℕ) (flags : List Bool) → map table_of ts ≡ map made cs
+    → flags ≡ flags_of cs ns
     → length flags ≡ length ts
 flags_fit ts cs ns flags e is = ap length is ∙ flags_long cs ns ∙ sym (as_many ts cs e)
 
 -- when those of a number have been made, the flags are those of one number more
-pub marked_flags : (ts : List TableAt) (cs : List Table) (n : ℕ) (ns : List ℕ) → map table_of ts ≡ map made cs
+pub marked_flags : (ts : List PieceTable) (cs : List Table) (n : ℕ) (ns : List ℕ) → map table_of ts ≡ map made cs
     → marked n ts (flags_of cs ns) ≡ flags_of cs (n ∷ ns)
 marked_flags [] [] n ns e = refl
 marked_flags [] (c ∷ cs) n ns e = absurd cc
@@ -53,17 +57,11 @@ marked_flags (t ∷ ts) (c ∷ cs) n ns e =
     let later = marked_flags ts cs n ns (later_of t c ts cs e) in
     λ i. ((n == here i) || list_any (λ k. k == c.number) ns) ∷ later i
 
-pub marked_long : (n : ℕ) (ts : List TableAt) (fs : List Bool) → length fs ≡ length ts → length (marked n ts fs) ≡ length ts
+pub marked_long : (n : ℕ) (ts : List PieceTable) (fs : List Bool) → length fs ≡ length ts
+    → length (marked n ts fs) ≡ length ts
 marked_long n [] fs h = h
 marked_long n (t ∷ ts) [] h = h
 marked_long n (t ∷ ts) (f ∷ fs) h = ap suc (marked_long n ts fs (omega arith))
-
-points_some : (t : TableAt) → is_some t.points ≡ is_some (table_of t).frozen
-points_some t = of_points t.points
-  where
-    of_points : (o : _) → is_some o ≡ is_some (frozen_in o)
-    of_points None = refl
-    of_points (Some x) = refl
 
 not_negative : (n : ℕ) → not (is_negative (pos n)) ≡ true
 not_negative n = grind (arith, nat_tests)
@@ -71,21 +69,24 @@ not_negative n = grind (arith, nat_tests)
 pos_test : (k n : ℕ) → (not (is_negative (pos n)) && k == n) ≡ (k == n)
 pos_test k n = ap (λ b. b && k == n) (not_negative n)
 
-in_branches : (b : Bool) (c : Table) (o : Option Table) → (if b then not (is_some c.frozen) else is_in_cells o) ≡ is_in_cells (if b then Some c else o)
+in_branches : (b : Bool) (c : Table) (o : Option Table)
+    → (if b then not (is_some c.frozen) else is_in_cells o) ≡ is_in_cells (if b then Some c else o)
 in_branches true c o = refl
 in_branches false c o = refl
 
 -- the first table of a number has its points in cells, in the stage as in the composition
-pub cells_of_first : (ts : List TableAt) (cs : List Table) (n : ℕ) → map table_of ts ≡ map made cs → has_cells ts n ≡ is_in_cells (find_table cs (pos n))
+pub cells_of_first : (ts : List PieceTable) (cs : List Table) (n : ℕ) → map table_of ts ≡ map made cs
+    → has_cells ts n ≡ is_in_cells (find_table cs (pos n))
 cells_of_first [] [] n e = refl
 cells_of_first [] (c ∷ cs) n e = absurd cc
 cells_of_first (t ∷ ts) [] n e = absurd cc
 cells_of_first (t ∷ ts) (c ∷ cs) n e =
     let head = first_of t c ts cs e in
     let number : t.number ≡ c.number = ap (λ (x : Table). x.number) head in
-    let frozen : is_some t.points ≡ is_some c.frozen = points_some t ∙ ap (λ (x : Table). is_some x.frozen) head in
+    let frozen : is_some t.points ≡ is_some c.frozen = ap (λ (x : Table). is_some x.frozen) head in
     (λ i. if number i == n then not (frozen i) else has_cells ts n)
-    ∙ (λ i. if (sym (pos_test c.number n)) i then not (is_some c.frozen) else cells_of_first ts cs n (later_of t c ts cs e) i)
+    ∙ (λ i. if (sym (pos_test c.number n)) i then not (is_some c.frozen) else cells_of_first ts cs n
+    (later_of t c ts cs e) i)
     ∙ in_branches (not (is_negative (pos n)) && c.number == n) c (find_table cs (pos n))
 
 -- ---- tables that notes find
@@ -93,25 +94,27 @@ cells_of_first (t ∷ ts) (c ∷ cs) n e =
 equal : (m n : ℕ) → (m == n) ≡ true → m ≡ n
 equal m n h = grind (arith, nat_tests)
 
-no_flags : (ts : List TableAt) → tables_of ts [] ≡ []
+no_flags : (ts : List PieceTable) → tables_of ts [] ≡ []
 no_flags [] = refl
 no_flags (t ∷ ts) = refl
 
 -- once all have been made they are the same
-pub all_made : (ts : List TableAt) (fs : List Bool) → length fs ≡ length ts → map made (tables_of ts fs) ≡ map table_of ts
+pub all_made : (ts : List PieceTable) (fs : List Bool) → length fs ≡ length ts
+    → map made (tables_of ts fs) ≡ map table_of ts
 all_made [] fs h = refl
 all_made (t ∷ ts) [] h = absurd (omega arith)
 all_made (t ∷ ts) (f ∷ fs) h = ap (λ rest. table_of t ∷ rest) (all_made ts fs (omega arith))
 
 -- a table of the composition stands in the stage, made or not
-pub record IsFound (ts : List TableAt) (flags : List Bool) (z : ℤ) (t : Table) : Type 0 where
+pub record IsFound (ts : List PieceTable) (flags : List Bool) (z : ℤ) (t : Table) : Type 0 where
   pub u : Table
   pub found : find_table (tables_of ts flags) z ≡ Some u
   pub number : u.number ≡ t.number
   pub size : u.size ≡ t.size
   pub frozen : u.frozen ≡ t.frozen
 
-pub found_at : (ts : List TableAt) (cs : List Table) (flags : List Bool) (z : ℤ) (t : Table) → map table_of ts ≡ map made cs → length flags ≡ length ts
+pub found_at : (ts : List PieceTable) (cs : List Table) (flags : List Bool) (z : ℤ) (t : Table)
+    → map table_of ts ≡ map made cs → length flags ≡ length ts
     → find_table cs z ≡ Some t → IsFound ts flags z t
 found_at [] [] flags z t e h found = absurd cc
 found_at [] (c ∷ cs) flags z t e h found = absurd cc
@@ -120,8 +123,10 @@ found_at (x ∷ ts) (c ∷ cs) [] z t e h found = absurd (omega arith)
 found_at (x ∷ ts) (c ∷ cs) (f ∷ flags) z t e h found =
     let head = first_of x c ts cs e in
     let same : x.number ≡ c.number = ap (λ (y : Table). y.number) head in
-    let w = here_or_later (not (is_negative z) && c.number == unsigned_abs z) (not (is_negative z) && x.number == unsigned_abs z)
-    (λ i. not (is_negative z) && same i == unsigned_abs z) head (λ later. found_at ts cs flags z t (later_of x c ts cs e) (omega arith) later) found in
+    let w = here_or_later (not (is_negative z) && c.number == unsigned_abs z)
+    (not (is_negative z) && x.number == unsigned_abs z)
+    (λ i. not (is_negative z) && same i == unsigned_abs z) head
+    (λ later. found_at ts cs flags z t (later_of x c ts cs e) (omega arith) later) found in
     record { u = w.0; found = w.1; number = w.2; size = w.3; frozen = w.4 }
   where
     here_or_later : (b d : Bool) → d ≡ b → table_of x ≡ made c → (find_table cs z ≡ Some t → IsFound ts flags z t)
@@ -130,21 +135,30 @@ found_at (x ∷ ts) (c ∷ cs) (f ∷ flags) z t e h found =
         × (u.number ≡ t.number) × (u.size ≡ t.size) × (u.frozen ≡ t.frozen)
     here_or_later true true k head later is =
         let this : c ≡ t = cc in
-        let same : table_of x ≡ made t = head ∙ ap made this in
-        (table_at x f, refl, ap (λ (y : Table). y.number) same, ap (λ (y : Table). y.size) same, ap (λ (y : Table). y.frozen) same)
+        let same : table_of x ≡ made t = head ∙ ap made this in (
+          table_at x f,
+          refl,
+          ap (λ (y : Table). y.number) same,
+          ap (λ (y : Table). y.size) same,
+          ap
+              (λ (y : Table). y.frozen) same,
+        )
     here_or_later true false k head later is = absurd cc
     here_or_later false true k head later is = absurd cc
     here_or_later false false k head later is = let w = later is in (w.u, w.found, w.number, w.size, w.frozen)
 
 pub found_number : (cs : List Table) (n : ℕ) (t : Table) → find_table cs (pos n) ≡ Some t → t.number ≡ n
 found_number [] n t found = absurd cc
-found_number (c ∷ cs) n t found = by_test_of (not (is_negative (pos n)) && c.number == n) refl (λ later. found_number cs n t later) found
+found_number (c ∷ cs) n t found =
+    by_test_of (not (is_negative (pos n)) && c.number == n) refl (λ later. found_number cs n t later) found
   where
-    by_test_of : (b : Bool) → (not (is_negative (pos n)) && c.number == n) ≡ b → (find_table cs (pos n) ≡ Some t → t.number ≡ n)
+    by_test_of : (b : Bool) → (not (is_negative (pos n)) && c.number == n) ≡ b
+        → (find_table cs (pos n) ≡ Some t → t.number ≡ n)
         → (if b then Some c else find_table cs (pos n)) ≡ Some t → t.number ≡ n
     by_test_of true is later h =
         let this : c ≡ t = cc in
-        ap (λ (y : Table). y.number) (sym this) ∙ equal c.number n (and_parts (not (is_negative (pos n))) (c.number == n) is).1
+        ap (λ (y : Table). y.number) (sym this)
+        ∙ equal c.number n (and_parts (not (is_negative (pos n))) (c.number == n) is).1
     by_test_of false is later h = later h
 
 -- ---- voices
@@ -164,6 +178,7 @@ module _ (c : Composition) (stage : Stage) (fs gs : List Bool) (long : length fs
     tables = same_tables ∙ h.tables;
     fields = h.fields;
     areas = h.areas;
+    zones = h.zones;
     foot = h.foot;
     perf = h.perf;
   }
@@ -174,6 +189,7 @@ module _ (c : Composition) (stage : Stage) (fs gs : List Bool) (long : length fs
     foot = h.foot;
     of = h.of;
     number = h.number;
+    until = h.until;
     fields = h.fields;
     on = sheet_on h.i h.foot v h.on;
     valid = h.valid;
@@ -189,7 +205,8 @@ module _ (c : Composition) (stage : Stage) (fs gs : List Bool) (long : length fs
     };
   }
 
-  pub all_play_on : (vs : List VoiceData) (notes : List Active) → AllZip (Plays c stage fs) vs notes → AllZip (Plays c stage gs) vs notes
+  pub all_play_on : (vs : List VoiceData) (notes : List Active) → AllZip (Plays c stage fs) vs notes
+      → AllZip (Plays c stage gs) vs notes
   all_play_on [] [] h = tt
   all_play_on [] (a ∷ notes) h = absurd h
   all_play_on (v ∷ vs) [] h = absurd h

@@ -1,5 +1,7 @@
 -- One thing after another is done.
-use Rattle.std.proofs.Common.{◌≡◌, ℕ, ℤ, pos, zero, suc, ◌+◌, ◌-◌, ◌<◌, ◌≤◌, ◌==◌, Bool, true, false, cond, List, [], ◌∷◌, ◌++◌, length, length-drop, map, take, drop, get_or, get_or-drop, leb, ltb, refl, sym, ◌∙◌, ap, subst, arith}
+use Rattle.std.proofs.Common.{◌≡◌, ℕ, ℤ, pos, zero, suc, ◌+◌, ◌-◌, ◌<◌, ◌≤◌, ◌==◌, Bool, true, false, cond, List, []}
+use Rattle.std.proofs.Common.{◌∷◌, ◌++◌, length, length-drop, map, take, drop, get_or, get_or-drop, leb, ltb, refl, sym}
+use Rattle.std.proofs.Common.{◌∙◌, ap, subst, arith}
 use Rattle.std.specs.List.{All, AllZip, filter}
 use Rattle.std.specs.List.Sorted.{IsPartitionPoint}
 use Rattle.std.proofs.lemmas.Bool.Decides.{nat_tests}
@@ -15,52 +17,61 @@ use Rattle.cs_tempo.specs.declared.plot.Event.{Event}
 use Rattle.cs_tempo.specs.declared.plot.EventAct.{EventAct}
 use Rattle.cs_tempo.specs.declared.plot.EventAct.TheVariants as act
 use Rattle.cs_voice.specs.VoiceData.{VoiceData}
-use Rattle.cs_life.specs.Standing.{Plays, Stands}
+use Rattle.cs_life.specs.Standing.{Plays, StandsFor}
 use Rattle.cs_life.specs.declared.life.Life.{Life}
 use Rattle.cs_life.specs.inner.Doing.{CanBeDone, CanBeMade, CanGoOn, HasGoneOn}
 
 module _ {S : Type 0} (can_get can_set : S → ℕ → Type 0) (r s : S) (same : s ≡ r) (leads : Moment → Moment)
-    (life : Life) (voices : List VoiceData) (cells : Cells) (new : Life) (after : List VoiceData) (left : Cells) (setup : new.setup.now ≡ life.setup.now) where
+    (life : Life) (voices : List VoiceData) (cells : Cells) (new : Life) (after : List VoiceData) (left : Cells)
+    (setup : new.setup.now ≡ life.setup.now) where
   -- what has gone on can go on
   pub goes_on : HasGoneOn leads life voices cells new after left → CanGoOn (can_get r) (can_set r) life voices cells
       → CanGoOn (can_get s) (can_set s) new after left
   goes_on done h = record {
     moment = leads h.moment;
-    stands = subst (λ x. Stands (composition_of x) new after left (leads h.moment)) (sym setup) (done h.moment h.stands);
+    stands = subst (λ x. StandsFor (composition_of x) new after left (leads h.moment)) (sym setup)
+        (done h.moment h.stands);
     gets = λ a lt. subst (λ x. can_get x a) (sym same) (h.gets a (subst (λ x. a < word_count x.layout) setup lt));
     sets = λ a lt. subst (λ x. can_set x a) (sym same) (h.sets a (subst (λ x. a < word_count x.layout) setup lt));
   }
 
 -- one thing, and then another
-pub one_then : (leads follows : Moment → Moment) (life mid new : Life) (voices mids after : List VoiceData) (cells middle left : Cells)
-    → mid.setup.now ≡ life.setup.now → HasGoneOn leads life voices cells mid mids middle → HasGoneOn follows mid mids middle new after left
+pub one_then : (leads follows : Moment → Moment) (life mid new : Life) (voices mids after : List VoiceData)
+    (cells middle left : Cells)
+    → mid.setup.now ≡ life.setup.now → HasGoneOn leads life voices cells mid mids middle
+    → HasGoneOn follows mid mids middle new after left
     → HasGoneOn (λ m. follows (leads m)) life voices cells new after left
 one_then leads follows life mid new voices mids after cells middle left setup one two = λ m h.
-    subst (λ x. Stands (composition_of x) new after left (follows (leads m))) setup
-    (two (leads m) (subst (λ x. Stands (composition_of x) mid mids middle (leads m)) (sym setup) (one m h)))
+    subst (λ x. StandsFor (composition_of x) new after left (follows (leads m))) setup
+    (two (leads m) (subst (λ x. StandsFor (composition_of x) mid mids middle (leads m)) (sym setup) (one m h)))
 
 -- ---- events
 
-done_more : (c : Composition) (es : List Event) (e : Event) (m : Moment) → all_done c (es ++ e ∷ []) m ≡ act_done c e.cycle e.act (all_done c es m)
+done_more : (c : Composition) (es : List Event) (e : Event) (m : Moment)
+    → all_done c (es ++ e ∷ []) m ≡ act_done c e.cycle e.act (all_done c es m)
 done_more c [] e m = refl
 done_more c (x ∷ es) e m = done_more c es e (act_done c x.cycle x.act m)
 
 -- one event more is done
-pub event_done : (c : Composition) (es : List Event) (k : ℕ) (e : Event) (life mid new : Life) (voices mids after : List VoiceData) (cells middle left : Cells)
+pub event_done : (c : Composition) (es : List Event) (k : ℕ) (e : Event) (life mid new : Life)
+    (voices mids after : List VoiceData) (cells middle left : Cells)
     → k < length es → e ≡ get_or es k e → mid.setup.now ≡ life.setup.now → c ≡ composition_of life.setup.now
     → HasGoneOn (all_done c (take k es)) life voices cells mid mids middle
     → HasGoneOn (act_done (composition_of mid.setup.now) e.cycle e.act) mid mids middle new after left
     → HasGoneOn (all_done c (take (k + 1) es)) life voices cells new after left
 event_done c es k e life mid new voices mids after cells middle left below is setup same one two = λ m h.
-    let both = one_then (all_done c (take k es)) (act_done (composition_of mid.setup.now) e.cycle e.act) life mid new voices mids after cells middle left setup one two m h in
-    let here : take (k + 1) es ≡ take k es ++ e ∷ [] = take_more es k e below ∙ ap (λ x. take k es ++ x ∷ []) (sym is) in
-    subst (λ n. Stands (composition_of life.setup.now) new after left n)
+    let both = one_then (all_done c (take k es)) (act_done (composition_of mid.setup.now) e.cycle e.act) life mid new
+    voices mids after cells middle left setup one two m h in
+    let here : take (k + 1) es ≡ take k es ++ e ∷ [] =
+    take_more es k e below ∙ ap (λ x. take k es ++ x ∷ []) (sym is) in
+    subst (λ n. StandsFor (composition_of life.setup.now) new after left n)
     (ap (λ x. act_done x e.cycle e.act (all_done c (take k es) m)) (ap composition_of setup ∙ sym same)
     ∙ sym (done_more c (take k es) e m) ∙ ap (λ xs. all_done c xs m) (sym here)) both
 
 -- those of a cycle follow one another
 module _ (p : Event → Bool) where
-  none_before : (es : List Event) (i : ℕ) → i ≤ length es → ((k : ℕ) (d : Event) → k < i → p (get_or es k d) ≡ false) → filter p es ≡ filter p (drop i es)
+  none_before : (es : List Event) (i : ℕ) → i ≤ length es → ((k : ℕ) (d : Event) → k < i → p (get_or es k d) ≡ false)
+      → filter p es ≡ filter p (drop i es)
   none_before es zero h fails = refl
   none_before [] (suc i) h fails = absurd (omega arith)
   none_before (e ∷ es) (suc i) h fails =
@@ -70,50 +81,36 @@ module _ (p : Event → Bool) where
   no_more : (es : List Event) → ((k : ℕ) (d : Event) → k < length es → p (get_or es k d) ≡ false) → filter p es ≡ []
   no_more [] fails = refl
   no_more (e ∷ es) fails =
-      ap (λ b. cond b (e ∷ filter p es) (filter p es)) (fails 0 e (omega arith)) ∙ no_more es (λ k d lt. fails (suc k) d (omega arith))
+      ap (λ b. cond b (e ∷ filter p es) (filter p es)) (fails 0 e (omega arith))
+      ∙ no_more es (λ k d lt. fails (suc k) d (omega arith))
 
   these : (es : List Event) (n : ℕ) → n ≤ length es → ((k : ℕ) (d : Event) → k < n → p (get_or es k d) ≡ true)
       → ((k : ℕ) (d : Event) → n ≤ k → k < length es → p (get_or es k d) ≡ false) → take n es ≡ filter p es
   these es zero h holds fails = sym (no_more es (λ k d lt. fails k d (omega arith) lt))
   these [] (suc n) h holds fails = absurd (omega arith)
   these (e ∷ es) (suc n) h holds fails =
-      ap (λ xs. e ∷ xs) (these es n (omega arith) (λ k d lt. holds (suc k) d (omega arith)) (λ k d le lt. fails (suc k) d (omega arith) (omega arith)))
+      ap (λ xs. e ∷ xs) (these es n (omega arith) (λ k d lt. holds (suc k) d (omega arith))
+      (λ k d le lt. fails (suc k) d (omega arith) (omega arith)))
       ∙ sym (ap (λ b. cond b (e ∷ filter p es) (filter p es)) (holds 0 e (omega arith)))
 
 -- ---- a cycle begins
 
-zip_long : {A B : Type 0} (R : A → B → Type 0) (xs : List A) (ys : List B) → AllZip R xs ys → length xs ≡ length ys
-zip_long R [] [] h = refl
-zip_long R [] (y ∷ ys) h = absurd h
-zip_long R (x ∷ xs) [] h = absurd h
-zip_long R (x ∷ xs) (y ∷ ys) h = ap suc (zip_long R xs ys h.1)
-
-ends_long : (notes : List Active) → length (map (λ (a : Active). a.ends) notes) ≡ length notes
-ends_long [] = refl
-ends_long (a ∷ notes) = ap suc (ends_long notes)
-
--- there are as many ends as voices
-pub in_step : (c : Composition) (life : Life) (voices : List VoiceData) (cells : Cells) (m : Moment) → Stands c life voices cells m
-    → length voices ≡ length life.ends.items
-in_step c life voices cells m h =
-    zip_long (Plays c life.stage life.made.items) voices m.active h.stand.play
-    ∙ sym (ends_long m.active) ∙ sym (ap length h.ends)
-
 -- notes have left, the events have been done, and those that waited have been started
-pub begun : (cycle : ℕ) (life left mid new : Life) (voices stayed mids after : List VoiceData) (cells middle last : Cells)
-    → left.setup.now ≡ life.setup.now → mid.setup.now ≡ left.setup.now
-    → HasGoneOn (still cycle) life voices cells left stayed cells
-    → HasGoneOn (all_done (composition_of left.setup.now) (events_in (composition_of left.setup.now) cycle)) left stayed cells mid mids middle
+pub begun : (cycle : ℕ) (life mid new : Life) (voices stayed mids after : List VoiceData) (cells middle last : Cells)
+    → mid.setup.now ≡ life.setup.now
+    → HasGoneOn (still cycle) life voices cells life stayed cells
+    → HasGoneOn (all_done (composition_of life.setup.now) (events_in (composition_of life.setup.now) cycle))
+    life stayed cells mid mids middle
     → HasGoneOn (all_waited (composition_of mid.setup.now) cycle) mid mids middle new after last
     → HasGoneOn (begins (composition_of life.setup.now) cycle) life voices cells new after last
-begun cycle life left mid new voices stayed mids after cells middle last e f leave events wait =
-    let follow : HasGoneOn (all_waited (composition_of left.setup.now) cycle) mid mids middle new after last =
-    subst (λ x. HasGoneOn (all_waited (composition_of x) cycle) mid mids middle new after last) f wait in
-    let both = one_then (all_done (composition_of left.setup.now) (events_in (composition_of left.setup.now) cycle)) (all_waited (composition_of left.setup.now) cycle)
-    left mid new stayed mids after cells middle last f events follow in
-    one_then (still cycle) (λ m. all_waited (composition_of life.setup.now) cycle
-    (all_done (composition_of life.setup.now) (events_in (composition_of life.setup.now) cycle) m)) life left new voices stayed after cells cells last e leave
-    (subst (λ x. HasGoneOn (λ m. all_waited (composition_of x) cycle (all_done (composition_of x) (events_in (composition_of x) cycle) m)) left stayed cells new after last) e both)
+begun cycle life mid new voices stayed mids after cells middle last same leave events wait =
+    let c = composition_of life.setup.now in
+    let follow : HasGoneOn (all_waited c cycle) mid mids middle new after last =
+    subst (λ x. HasGoneOn (all_waited (composition_of x) cycle) mid mids middle new after last) same wait in
+    let both = one_then (all_done c (events_in c cycle)) (all_waited c cycle) life mid new stayed mids after
+    cells middle last same events follow in
+    one_then (still cycle) (λ m. all_waited c cycle (all_done c (events_in c cycle) m)) life life new
+    voices stayed after cells cells last refl leave both
 
 -- ---- the events of a cycle
 
@@ -127,20 +124,23 @@ it_is : (x n : ℕ) → ltb x n ≡ false → leb x n ≡ true → (x == n) ≡ 
 it_is x n h k = grind (arith, nat_tests)
 
 -- from the first that isn't before the cycle on, those that aren't behind it
-pub events_between : (es rest : List Event) (cycle first count : ℕ) → first ≤ length es → rest ≡ drop first es → count ≤ length rest
+pub events_between : (es rest : List Event) (cycle first count : ℕ) → first ≤ length es → rest ≡ drop first es
+    → count ≤ length rest
     → IsPartitionPoint (λ (e : Event). ltb e.cycle cycle ≡ true) (λ (e : Event). ltb e.cycle cycle ≡ false) es first
     → IsPartitionPoint (λ (e : Event). leb e.cycle cycle ≡ true) (λ (e : Event). leb e.cycle cycle ≡ false) rest count
     → take count rest ≡ filter (λ (e : Event). e.cycle == cycle) es
 events_between es rest cycle first count low is high point until =
     let long : length rest ≡ length es - first = ap length is ∙ length-drop first es in
     let from : (k : ℕ) (d : Event) → k < length rest → ltb (get_or rest k d).cycle cycle ≡ false =
-    λ k d lt. subst (λ (e : Event). ltb e.cycle cycle ≡ false) (sym (ap (λ xs. get_or xs k d) is ∙ get_or-drop first es k d))
+    λ k d lt. subst (λ (e : Event). ltb e.cycle cycle ≡ false)
+    (sym (ap (λ xs. get_or xs k d) is ∙ get_or-drop first es k d))
     (point.1 (first + k) d (omega arith) (omega (arith, long, lt))) in
     these (λ (e : Event). e.cycle == cycle) rest count high
     (λ k d lt. it_is (get_or rest k d).cycle cycle (from k d (omega (arith, lt, high))) (until.0 k d (omega arith) lt))
     (λ k d le lt. behind_it (get_or rest k d).cycle cycle (until.1 k d le lt))
     ∙ ap (filter (λ (e : Event). e.cycle == cycle)) is
-    ∙ sym (none_before (λ (e : Event). e.cycle == cycle) es first low (λ k d lt. before_it (get_or es k d).cycle cycle (point.0 k d (omega arith) lt)))
+    ∙ sym (none_before (λ (e : Event). e.cycle == cycle) es first low
+    (λ k d lt. before_it (get_or es k d).cycle cycle (point.0 k d (omega arith) lt)))
 
 -- an event among some can be done
 pub event_can : (life new : Life) (es : List Event) (k : ℕ) (e : Event) → new.setup.now ≡ life.setup.now
@@ -150,12 +150,15 @@ event_can life new es k e setup all below is =
     subst (λ x. CanBeDone (composition_of x) e.act) (sym setup)
     (subst (λ (x : Event). CanBeDone (composition_of life.setup.now) x.act) (sym is) (all k e below))
 
-pub all_of_them : (c : Composition) (es : List Event) (k : ℕ) (life : Life) (voices : List VoiceData) (cells : Cells) (m : Moment) → length es ≤ k
-    → Stands c life voices cells (all_done c (take k es) m) → Stands c life voices cells (all_done c es m)
-all_of_them c es k life voices cells m h s = subst (λ xs. Stands c life voices cells (all_done c xs m)) (take_all k es h) s
+pub all_of_them : (c : Composition) (es : List Event) (k : ℕ) (life : Life) (voices : List VoiceData) (cells : Cells)
+    (m : Moment) → length es ≤ k
+    → StandsFor c life voices cells (all_done c (take k es) m) → StandsFor c life voices cells (all_done c es m)
+all_of_them c es k life voices cells m h s =
+    subst (λ xs. StandsFor c life voices cells (all_done c xs m)) (take_all k es h) s
 
 -- a table that an event gives, by its parts as a call passes them
-pub table_given : (c : Composition) (a : EventAct) (number : ℕ) (size gen s g : ℤ) (args xs : List ℤ) → a ≡ act.Table number size gen args
+pub table_given : (c : Composition) (a : EventAct) (number : ℕ) (size gen s g : ℤ) (args xs : List ℤ)
+    → a ≡ act.Table number size gen args
     → s ≡ size → g ≡ gen → xs ≡ args → CanBeDone c a → CanBeMade c number s g xs
 table_given c a number size gen s g args xs is es eg exs can =
     subst (λ x. CanBeMade c number x g xs) (sym es)
@@ -163,16 +166,21 @@ table_given c a number size gen s g args xs is es eg exs can =
     (subst (λ x. CanBeMade c number size gen x) (sym exs) (subst (CanBeDone c) is can)))
 
 -- a note of an event has started
-pub note_done : (life new : Life) (voices after : List VoiceData) (cells left : Cells) (now instr cycles : ℕ) (number : ℤ) (given fields : List ℤ) (a : EventAct)
+pub note_done : (life new : Life) (voices after : List VoiceData) (cells left : Cells) (now instr cycles : ℕ)
+    (number : ℤ) (given fields : List ℤ) (a : EventAct)
     → a ≡ act.Start instr cycles fields → number ≡ pos instr → given ≡ fields
-    → HasGoneOn (start_in (composition_of life.setup.now) now (record { number = number; cycles = cycles; fields = given })) life voices cells new after left
+    → HasGoneOn (start_in (composition_of life.setup.now) now
+    (record { number = number; cycles = cycles; fields = given })) life voices cells new after left
     → HasGoneOn (act_done (composition_of life.setup.now) now a) life voices cells new after left
 note_done life new voices after cells left now instr cycles number given fields a is en ef h =
     subst (λ x. HasGoneOn (act_done (composition_of life.setup.now) now x) life voices cells new after left) (sym is)
-    (subst (λ z. HasGoneOn (start_in (composition_of life.setup.now) now (record { number = z; cycles = cycles; fields = fields })) life voices cells new after left) en
-    (subst (λ xs. HasGoneOn (start_in (composition_of life.setup.now) now (record { number = number; cycles = cycles; fields = xs })) life voices cells new after left) ef h))
+    (subst (λ z. HasGoneOn (start_in (composition_of life.setup.now) now
+    (record { number = z; cycles = cycles; fields = fields })) life voices cells new after left) en
+    (subst (λ xs. HasGoneOn (start_in (composition_of life.setup.now) now
+    (record { number = number; cycles = cycles; fields = xs })) life voices cells new after left) ef h))
 
-pub table_done : (life new : Life) (voices after : List VoiceData) (cells left : Cells) (now number : ℕ) (size gen s g : ℤ) (args xs : List ℤ) (a : EventAct)
+pub table_done : (life new : Life) (voices after : List VoiceData) (cells left : Cells) (now number : ℕ)
+    (size gen s g : ℤ) (args xs : List ℤ) (a : EventAct)
     → a ≡ act.Table number size gen args → s ≡ size → g ≡ gen → xs ≡ args
     → HasGoneOn (made_table (composition_of life.setup.now) number (points_of s g xs)) life voices cells new after left
     → HasGoneOn (act_done (composition_of life.setup.now) now a) life voices cells new after left

@@ -14,13 +14,14 @@ use Rattle.cs_piece.specs.Ready.{IsStageOf}
 use Rattle.cs_typed.specs.Places.{Header}
 use Rattle.cs_voice.specs.VoiceData.{VoiceData}
 use Rattle.cs_voice.specs.declared.stage.Stage.{Stage}
-use Rattle.cs_life.specs.Standing.{Plays, Stands}
+use Rattle.cs_life.specs.Standing.{Plays, StandsFor}
 use Rattle.cs_life.specs.declared.life.Life.{Life}
 
 -- each voice gives what its note gives
 same_outs : (c : Composition) (stage : Stage) (flags : List Bool) (voices : List VoiceData) (active : List Active)
     → AllZip (Plays c stage flags) voices active → (frame channel : ℕ)
-    → map (λ (v : VoiceData). outs v.outs channel frame) voices ≡ map (λ (a : Active). a.note.world.outs channel frame) active
+    → map (λ (v : VoiceData). outs v.outs channel frame) voices ≡ map (λ (a : Active). a.note.world.outs channel frame)
+    active
 same_outs c stage flags [] [] p frame channel = refl
 same_outs c stage flags [] (a ∷ active) p frame channel = absurd p
 same_outs c stage flags (v ∷ voices) [] p frame channel = absurd p
@@ -29,30 +30,37 @@ same_outs c stage flags (v ∷ voices) (a ∷ active) p frame channel =
 
 -- so the frames of a cycle are those of its notes
 pub heard : (c : Composition) (life : Life) (voices : List VoiceData) (cells : Cells) (n : ℕ)
-    → Stands c life voices cells (performed c (begins c n (moment_at c n))) → mixed c.head.ksmps c.head.nchnls voices ≡ mix_in c n
+    → StandsFor c life voices cells (performed c (begins c n (moment_at c n)))
+    → mixed c.head.ksmps c.head.nchnls voices ≡ mix_in c n
 heard c life voices cells n s =
     let m : Moment = performed c (begins c n (moment_at c n)) in
     let sums : (frame channel : ℕ) → sum_of_voices voices frame channel ≡ sum_of_notes m.active frame channel =
     λ frame channel. ap total (same_outs c life.stage life.made.items voices m.active s.stand.play frame channel) in
-    ap (λ (f : ℕ → ℕ → ℤ). flat_map (λ frame. map (f frame) (range_with_len 0 c.head.nchnls)) (range_with_len 0 c.head.ksmps))
+    ap (λ (f : ℕ → ℕ → ℤ). flat_map (λ frame. map (f frame) (range_with_len 0 c.head.nchnls))
+    (range_with_len 0 c.head.ksmps))
     (λ i frame channel. sums frame channel i)
 
 -- each voice has a number for each frame of the cycle
-frames_of : (c : Composition) (stage : Stage) (flags : List Bool) (voices : List VoiceData) (active : List Active) → IsStageOf c stage
+frames_of : (c : Composition) (stage : Stage) (flags : List Bool) (voices : List VoiceData) (active : List Active)
+    → IsStageOf c stage
     → AllZip (Plays c stage flags) voices active → All (λ (v : VoiceData). v.outs.ksmps ≡ c.head.ksmps) voices
 frames_of c stage flags [] [] is p = All-nil (λ (v : VoiceData). v.outs.ksmps ≡ c.head.ksmps)
 frames_of c stage flags [] (a ∷ active) is p = absurd p
 frames_of c stage flags (v ∷ voices) [] is p = absurd p
 frames_of c stage flags (v ∷ voices) (a ∷ active) is p =
     let here : v.outs.ksmps ≡ c.head.ksmps =
-    p.0.valid.channel_frames ∙ (ap (λ (h : Header). h.ksmps) (sym p.0.on.head) ∙ ap (λ (h : Header). h.ksmps) is.head) in
-    All-cons (λ (x : VoiceData). x.outs.ksmps ≡ c.head.ksmps) v voices here (frames_of c stage flags voices active is p.1)
+    p.0.valid.channel_frames
+    ∙ (ap (λ (h : Header). h.ksmps) (sym p.0.on.head) ∙ ap (λ (h : Header). h.ksmps) is.head) in
+    All-cons (λ (x : VoiceData). x.outs.ksmps ≡ c.head.ksmps) v voices here
+    (frames_of c stage flags voices active is p.1)
 
-pub frames : (c : Composition) (life : Life) (voices : List VoiceData) (cells : Cells) (m : Moment) → Stands c life voices cells m
+pub frames : (c : Composition) (life : Life) (voices : List VoiceData) (cells : Cells) (m : Moment)
+    → StandsFor c life voices cells m
     → All (λ (v : VoiceData). v.outs.ksmps ≡ c.head.ksmps) voices
 frames c life voices cells m s = frames_of c life.stage life.made.items voices m.active s.stand.stage_is s.stand.play
 
 -- as many voices as notes
-pub as_many : (c : Composition) (life : Life) (voices : List VoiceData) (cells : Cells) (m : Moment) → Stands c life voices cells m
+pub as_many : (c : Composition) (life : Life) (voices : List VoiceData) (cells : Cells) (m : Moment)
+    → StandsFor c life voices cells m
     → length voices ≡ length m.active
 as_many c life voices cells m s = sym (AllZip-long (Plays c life.stage life.made.items) voices m.active s.stand.play)

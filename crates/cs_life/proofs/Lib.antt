@@ -7,9 +7,9 @@ mod Tabled
 mod Waited
 pub mod Beginning
 pub mod Begun
+pub mod Growing
 pub mod Heard
 pub mod Joining
-pub mod Kept
 pub mod Left
 pub mod Orders
 pub mod Performing

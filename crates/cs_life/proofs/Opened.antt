@@ -1,5 +1,6 @@
 -- The opening of a performance: what stands when the code outside instruments has run over cells that are all 0.
-use Rattle.std.proofs.Common.{◌≡◌, ℕ, pos, zero, suc, Bool, true, false, List, [], ◌∷◌, length, nat_lt, replicate, Option, Some, None, if◌then◌else◌, refl, sym, ◌∙◌, ap, subst, arith}
+use Rattle.std.proofs.Common.{◌≡◌, ℕ, pos, zero, suc, Bool, true, false, List, [], ◌∷◌, length, nat_lt, replicate}
+use Rattle.std.proofs.Common.{Option, Some, None, if◌then◌else◌, refl, sym, ◌∙◌, ap, subst, arith}
 use Rattle.cs_base.specs.Rates.{res_rate}
 use Rattle.cs_base.specs.declared.resource.Rate.{Rate}
 use Rattle.cs_base.specs.declared.resource.Rate.TheVariants as rate
@@ -21,7 +22,7 @@ use Rattle.cs_piece_meaning.specs.Moments.{Composition, piece_with}
 use Rattle.cs_sched.specs.Waiting.{nothing_waits, waiting}
 use Rattle.cs_voice.specs.declared.stage.Stage.{Stage}
 use Rattle.cs_piece.specs.Ready.{IsInstrumentOf, IsStageOf}
-use Rattle.cs_life.specs.Standing.{Stands, flags_of}
+use Rattle.cs_life.specs.Standing.{StandsFor, flags_of}
 use Rattle.cs_life.specs.declared.life.Life.{Life}
 use Rattle.cs_life.proofs.Flags.{flags_fit}
 
@@ -46,17 +47,22 @@ silent None r = refl
 silent (Some area) r = silent_in r area
 
 zeros_hold : (areas : List Area) (n : ℕ) → Hold areas (cell (replicate n (pos 0))) (λ g. silence)
-zeros_hold areas n = λ g has. (λ i. wave_of (area_of areas g) (res_rate g) (λ a. zero_at n a i)) ∙ silent (area_of areas g) (res_rate g)
+zeros_hold areas n = λ g has. (λ i. wave_of (area_of areas g) (res_rate g) (λ a. zero_at n a i))
+    ∙ silent (area_of areas g) (res_rate g)
 
 -- ---- the code outside instruments
 
-pub outside_holds : (c : Composition) (stage : Stage) (i : Numbered) (foot : Footprint) (flags : List Bool) (cells new : Cells) (n : ℕ)
-    → IsStageOf c stage → IsInstrumentOf stage i foot c.outside → flags ≡ flags_of c.tables [] → piece_with c [] [] ≡ piece_at stage flags []
-    → cells ≡ replicate n (pos 0) → cell new ≡ (initialised (sheet_at i 0 foot stage flags []) (cell cells)).world.shared
+pub outside_holds : (c : Composition) (stage : Stage) (i : Numbered) (foot : Footprint) (flags : List Bool)
+    (cells new : Cells) (n : ℕ)
+    → IsStageOf c stage → IsInstrumentOf stage i foot c.outside → flags ≡ flags_of c.tables []
+    → piece_with c [] [] ≡ piece_at stage flags []
+    → cells ≡ replicate n (pos 0)
+    → cell new ≡ (initialised (sheet_at i 0 foot stage flags []) (cell cells)).world.shared
     → Hold stage.layout.now (cell new) (outside_done c).world.shared
 outside_holds c stage i foot flags cells new n stage_is of flags_are piece zeros left =
     let long = flags_fit stage.tables.now c.tables [] flags stage_is.tables flags_are in
-    let before : Hold stage.layout.now (cell cells) (λ g. silence) = subst (λ x. Hold stage.layout.now (cell x) (λ g. silence)) (sym zeros) (zeros_hold stage.layout.now n) in
+    let before : Hold stage.layout.now (cell cells) (λ g. silence) =
+    subst (λ x. Hold stage.layout.now (cell x) (λ g. silence)) (sym zeros) (zeros_hold stage.layout.now n) in
     let begins = (of.performs 0 flags [] long).begins (cell cells) (λ g. silence) before in
     subst (λ x. Hold stage.layout.now x (outside_done c).world.shared) (sym left)
     (subst (λ p. Hold stage.layout.now (initialised (sheet_at i 0 foot stage flags []) (cell cells)).world.shared
@@ -70,11 +76,12 @@ none_made (c ∷ cs) n e = ap (λ k. replicate k false) e ∙ ap (λ fs. false �
 
 -- ---- all that stands
 
-pub opened : (c : Composition) (life : Life) (cells : Cells) → IsStageOf c life.stage → life.stage.layout.now ≡ life.setup.now.layout
+pub opened : (c : Composition) (life : Life) (cells : Cells) → IsStageOf c life.stage
+    → life.stage.layout.now ≡ life.setup.now.layout → life.stage.zones.now ≡ life.setup.now.zones
     → life.made.items ≡ flags_of c.tables [] → Hold life.stage.layout.now (cell cells) (outside_done c).world.shared
-    → length cells ≡ word_count life.stage.layout.now → life.ends.items ≡ [] → waiting life.pending ≡ nothing_waits
-    → life.started ≡ 0 → life.not_started ≡ 0 → Stands c life [] cells (opening c)
-opened c life cells stage_is layout flags hold long ends none started not_started = record {
+    → length cells ≡ word_count life.stage.layout.now → waiting life.pending ≡ nothing_waits
+    → life.started ≡ 0 → life.not_started ≡ 0 → StandsFor c life [] cells (opening c)
+opened c life cells stage_is layout zones flags hold long none started not_started = record {
   stand = record {
     stage_is = stage_is;
     made = flags;
@@ -85,7 +92,7 @@ opened c life cells stage_is layout flags hold long ends none started not_starte
     few = omega arith;
   };
   layout = layout;
-  ends = ends;
+  zones = zones;
   due = λ cycle. ap (λ w. w.due cycle) none;
   kept = ap (λ w. w.kept) none;
   started = started;

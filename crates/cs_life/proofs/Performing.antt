@@ -1,5 +1,6 @@
 -- A cycle of voices that stand at a moment leaves voices that stand at the moment after it.
-use Rattle.std.proofs.Common.{◌≡◌, ℕ, suc, ℤ, ◌≤◌, ◌==◌, Bool, List, [], ◌∷◌, length, map, refl, sym, ◌∙◌, ap, subst, arith}
+use Rattle.std.proofs.Common.{◌≡◌, ℕ, suc, ℤ, ◌≤◌, ◌==◌, Bool, List, [], ◌∷◌, length, map, refl, sym, ◌∙◌, ap, subst}
+use Rattle.std.proofs.Common.{arith}
 use Rattle.std.proofs.lemmas.List.Elements.{All-cons, All-nil}
 use Rattle.std.proofs.lemmas.List.FromFn.{length-map-range_with_len}
 use Rattle.std.specs.List.{All, AllZip, list_any}
@@ -25,13 +26,13 @@ use Rattle.cs_voice.specs.Memory.{table_of}
 use Rattle.cs_voice.specs.VoiceData.{VoiceData, IsOn, made, sounding_on}
 use Rattle.cs_voice.specs.VoiceMeaning.{IsVoice, Performs, after, leaves, voice_job}
 use Rattle.cs_voice.specs.declared.stage.Stage.{Stage}
-use Rattle.cs_voice.specs.declared.stage.TableAt.{TableAt}
-use Rattle.cs_life.specs.Standing.{Plays, Stands, VoicesStand, flags_of}
+use Rattle.cs_voice.specs.declared.stage.PieceTable.{PieceTable}
+use Rattle.cs_life.specs.Standing.{Plays, StandsFor, VoicesStand, flags_of}
 use Rattle.cs_life.specs.declared.life.Life.{Life}
 use Rattle.cs_life.proofs.Orders.{order_over, same_length}
 
 -- Tables as a note finds them: those of the composition as they were made, and those of the stage by their flags.
-pub same_tables : (tables : List Table) (at : List TableAt) (numbers : List ℕ) → map table_of at ≡ map made tables
+pub same_tables : (tables : List Table) (at : List PieceTable) (numbers : List ℕ) → map table_of at ≡ map made tables
     → map (as_made numbers) tables ≡ tables_of at (flags_of tables numbers)
 same_tables [] [] numbers e = refl
 same_tables [] (t ∷ at) numbers e = absurd cc
@@ -44,7 +45,8 @@ same_tables (t ∷ tables) (x ∷ at) numbers e =
     λ i. here i ∷ same_tables tables at numbers rest i
 
 -- what a note finds
-pub same_piece : (c : Composition) (stage : Stage) (flags : List Bool) (numbers : List ℕ) (fields : List ℤ) → IsStageOf c stage
+pub same_piece : (c : Composition) (stage : Stage) (flags : List Bool) (numbers : List ℕ) (fields : List ℤ)
+    → IsStageOf c stage
     → flags ≡ flags_of c.tables numbers → piece_with c numbers fields ≡ piece_at stage flags fields
 same_piece c stage flags numbers fields is f =
     let head : c.head ≡ header_of stage.head.now = sym is.head in
@@ -70,14 +72,16 @@ flags_long c stage flags numbers is f =
     length_of (t ∷ tables) = ap suc (length_of tables)
 
 -- what is left of a step of the way through a cycle: the voice, the cells, and what notes share
-record Stepped (c : Composition) (stage : Stage) (flags : List Bool) (numbers : List ℕ) (v : VoiceData) (a : Active) (cells : Cells)
+record Stepped (c : Composition) (stage : Stage) (flags : List Bool) (numbers : List ℕ) (v : VoiceData) (a : Active)
+    (cells : Cells)
     (shared : Res → Wave) : Type 0 where
   plays : Plays c stage flags (after v cells) (next c numbers shared a)
   hold : Hold stage.layout.now (cell (leaves v cells)) (next c numbers shared a).note.world.shared
   long : length (leaves v cells) ≡ length cells
 
 -- and of the whole way
-record Passed (c : Composition) (stage : Stage) (flags : List Bool) (numbers : List ℕ) (voices : List VoiceData) (active : List Active)
+record Passed (c : Composition) (stage : Stage) (flags : List Bool) (numbers : List ℕ) (voices : List VoiceData)
+    (active : List Active)
     (cells : Cells) (shared : Res → Wave) : Type 0 where
   play : AllZip (Plays c stage flags) (serial_jobs voice_job voices cells) (serial c numbers shared active).0
   hold : Hold stage.layout.now (cell (serial_cells voice_job voices cells)) (serial c numbers shared active).1
@@ -87,13 +91,15 @@ module _ (c : Composition) (stage : Stage) (flags : List Bool) (numbers : List �
     (f : flags ≡ flags_of c.tables numbers)
     (law : (s : Sheet) (d : VoiceData) (cells : Cells) → IsOn s d → IsVoice d → Performs s d cells) where
   one : (v : VoiceData) (a : Active) (cells : Cells) (shared : Res → Wave) → length cells ≡ word_count stage.layout.now
-      → Hold stage.layout.now (cell cells) shared → Plays c stage flags v a → Stepped c stage flags numbers v a cells shared
+      → Hold stage.layout.now (cell cells) shared → Plays c stage flags v a
+      → Stepped c stage flags numbers v a cells shared
   one v a cells shared long hold p =
       let s : Sheet = sheet_at p.i v.age p.foot stage flags v.fields in
       let done : Performs s v cells = law s v cells p.on p.valid in
       let enough : word_count stage.layout.now ≤ length cells = omega arith in
       let go : GoesOn s a.body p.of.plan p.of.kinds (sounding_on s v) a.note cells shared =
-      (p.of.performs v.age flags v.fields (flags_long c stage flags numbers is f)).goes_on (sounding_on s v) a.note cells shared enough p.note hold in
+      (p.of.performs v.age flags v.fields (flags_long c stage flags numbers is f)).goes_on (sounding_on s v) a.note
+      cells shared enough p.note hold in
       let piece : piece_with c numbers a.fields ≡ s.piece =
       same_piece c stage flags numbers a.fields is f ∙ (λ k. record s.piece { fields = λ n. p.fields n k }) in
       let note : next_note s.piece a.body shared a.note ≡ (next c numbers shared a).note =
@@ -104,13 +110,17 @@ module _ (c : Composition) (stage : Stage) (flags : List Bool) (numbers : List �
           foot = p.foot;
           of = p.of;
           number = p.number;
+          until = p.until;
           fields = p.fields;
           on = done.sheet;
           valid = done.valid;
-          note = subst (λ (x : Sounding). IsVoiceOf s p.of.plan p.of.kinds x (next c numbers shared a).note) (sym done.voice)
-              (subst (λ t. IsVoiceOf s p.of.plan p.of.kinds (sounding.performed (sounding_on s v) cells) t) note go.voice);
+          note = subst (λ (x : Sounding). IsVoiceOf s p.of.plan p.of.kinds x (next c numbers shared a).note)
+              (sym done.voice)
+              (subst (λ t. IsVoiceOf s p.of.plan p.of.kinds (sounding.performed (sounding_on s v) cells) t) note
+              go.voice);
         };
-        hold = subst (λ (d : Cells). Hold stage.layout.now (cell d) (next c numbers shared a).note.world.shared) (sym done.cells)
+        hold = subst (λ (d : Cells). Hold stage.layout.now (cell d) (next c numbers shared a).note.world.shared)
+            (sym done.cells)
             (subst (λ t. Hold stage.layout.now (cell (left_by (sounding_on s v) cells)) t.world.shared) note go.cells);
         long = ap length done.cells ∙ length-map-range_with_len _ 0 (length cells);
       }
@@ -127,15 +137,7 @@ module _ (c : Composition) (stage : Stage) (flags : List Bool) (numbers : List �
       all voices active (leaves v cells) (next c numbers shared a).note.world.shared (s.long ∙ long) s.hold p.1 in
       record { play = (s.plays, r.play); hold = r.hold; long = r.long ∙ s.long }
 
--- a cycle changes neither when notes end nor the numbers of their instruments
-same_ends : (c : Composition) (numbers : List ℕ) (shared : Res → Wave) (active : List Active)
-    → map (λ (a : Active). a.ends) (serial c numbers shared active).0 ≡ map (λ (a : Active). a.ends) active
-same_ends c numbers shared [] = refl
-same_ends c numbers shared (a ∷ active) =
-    let rest : map (λ (x : Active). x.ends) (serial c numbers (next c numbers shared a).note.world.shared active).0 ≡ map (λ (x : Active). x.ends) active =
-    same_ends c numbers (next c numbers shared a).note.world.shared active in
-    λ i. a.ends ∷ rest i
-
+-- a cycle doesn't change the numbers of their instruments
 same_numbers : (voices : List VoiceData) (cells : Cells)
     → map (λ (v : VoiceData). v.number) (serial_jobs voice_job voices cells) ≡ map (λ (v : VoiceData). v.number) voices
 same_numbers [] cells = refl
@@ -143,8 +145,9 @@ same_numbers (v ∷ voices) cells = λ i. v.number ∷ same_numbers voices (leav
 
 -- The voices of a moment, run one after another, perform its cycle.
 pub runs_perform : ((s : Sheet) (d : VoiceData) (cells : Cells) → IsOn s d → IsVoice d → Performs s d cells)
-    → (c : Composition) (life : Life) (voices : List VoiceData) (cells : Cells) (m : Moment) → Stands c life voices cells m
-    → Stands c life (serial_jobs voice_job voices cells) (serial_cells voice_job voices cells) (performed c m)
+    → (c : Composition) (life : Life) (voices : List VoiceData) (cells : Cells) (m : Moment)
+    → StandsFor c life voices cells m
+    → StandsFor c life (serial_jobs voice_job voices cells) (serial_cells voice_job voices cells) (performed c m)
 runs_perform law c life voices cells m s =
     let v : VoicesStand c life.stage life.made.items voices cells m = s.stand in
     let r : Passed c life.stage life.made.items m.made voices m.active cells m.shared =
@@ -156,40 +159,45 @@ runs_perform law c life voices cells m s =
         hold = r.hold;
         long = r.long ∙ v.long;
         play = r.play;
-        in_order = order_over (λ (x : VoiceData). x.number) (λ (x : VoiceData). x.number) voices (serial_jobs voice_job voices cells) (same_numbers voices cells) v.in_order;
+        in_order = order_over (λ (x : VoiceData). x.number) (λ (x : VoiceData). x.number) voices
+            (serial_jobs voice_job voices cells) (same_numbers voices cells) v.in_order;
         few = subst (λ n. n ≤ most_notes) (sym (length-serial_jobs voice_job voices cells)) v.few;
       };
       layout = s.layout;
-      ends = s.ends ∙ sym (same_ends c m.made m.shared m.active);
+      zones = s.zones;
       due = s.due;
       kept = s.kept;
       started = s.started;
       not_started = s.not_started;
     }
 
--- What a run of the voices of a moment asks for: they have one layout, and each a footprint in it.
+-- What a run of the voices of a moment asks for: they have the same zones, and each a footprint over them.
 layouts_of : (c : Composition) (stage : Stage) (flags : List Bool) (voices : List VoiceData) (active : List Active)
-    → AllZip (Plays c stage flags) voices active → All (λ (v : VoiceData). v.areas ≡ stage.layout.now) voices
-layouts_of c stage flags [] [] p = All-nil (λ (v : VoiceData). v.areas ≡ stage.layout.now)
+    → AllZip (Plays c stage flags) voices active → All (λ (v : VoiceData). v.zones ≡ stage.zones.now) voices
+layouts_of c stage flags [] [] p = All-nil (λ (v : VoiceData). v.zones ≡ stage.zones.now)
 layouts_of c stage flags [] (a ∷ active) p = absurd p
 layouts_of c stage flags (v ∷ voices) [] p = absurd p
 layouts_of c stage flags (v ∷ voices) (a ∷ active) p =
-    All-cons (λ (x : VoiceData). x.areas ≡ stage.layout.now) v voices (sym p.0.on.areas) (layouts_of c stage flags voices active p.1)
+    All-cons (λ (x : VoiceData). x.zones ≡ stage.zones.now) v voices (sym p.0.on.zones)
+    (layouts_of c stage flags voices active p.1)
 
-pub layouts : (c : Composition) (life : Life) (voices : List VoiceData) (cells : Cells) (m : Moment) → Stands c life voices cells m
-    → All (λ (v : VoiceData). v.areas ≡ life.stage.layout.now) voices
+pub layouts : (c : Composition) (life : Life) (voices : List VoiceData) (cells : Cells) (m : Moment)
+    → StandsFor c life voices cells m
+    → All (λ (v : VoiceData). v.zones ≡ life.stage.zones.now) voices
 layouts c life voices cells m s = layouts_of c life.stage life.made.items voices m.active s.stand.play
 
 footprints_of : (c : Composition) (stage : Stage) (flags : List Bool) (voices : List VoiceData) (active : List Active)
-    → AllZip (Plays c stage flags) voices active → All (λ (v : VoiceData). IsFootprint (length stage.layout.now) v.foot) voices
-footprints_of c stage flags [] [] p = All-nil (λ (v : VoiceData). IsFootprint (length stage.layout.now) v.foot)
+    → AllZip (Plays c stage flags) voices active
+    → All (λ (v : VoiceData). IsFootprint (length stage.zones.now) v.foot) voices
+footprints_of c stage flags [] [] p = All-nil (λ (v : VoiceData). IsFootprint (length stage.zones.now) v.foot)
 footprints_of c stage flags [] (a ∷ active) p = absurd p
 footprints_of c stage flags (v ∷ voices) [] p = absurd p
 footprints_of c stage flags (v ∷ voices) (a ∷ active) p =
-    All-cons (λ (x : VoiceData). IsFootprint (length stage.layout.now) x.foot) v voices
-    (subst (IsFootprint (length stage.layout.now)) p.0.on.foot p.0.of.footprint)
+    All-cons (λ (x : VoiceData). IsFootprint (length stage.zones.now) x.foot) v voices
+    (subst (IsFootprint (length stage.zones.now)) p.0.on.foot p.0.of.footprint)
     (footprints_of c stage flags voices active p.1)
 
-pub footprints : (c : Composition) (life : Life) (voices : List VoiceData) (cells : Cells) (m : Moment) → Stands c life voices cells m
-    → All (λ (v : VoiceData). IsFootprint (length life.stage.layout.now) v.foot) voices
+pub footprints : (c : Composition) (life : Life) (voices : List VoiceData) (cells : Cells) (m : Moment)
+    → StandsFor c life voices cells m
+    → All (λ (v : VoiceData). IsFootprint (length life.stage.zones.now) v.foot) voices
 footprints c life voices cells m s = footprints_of c life.stage life.made.items voices m.active s.stand.play

@@ -1,5 +1,6 @@
 -- A note takes its place among those that play.
-use Rattle.std.proofs.Common.{◌≡◌, ◌∙◌, ℕ, zero, suc, ◌≤◌, ◌<◌, ◌+◌, Bool, true, false, List, [], ◌∷◌, ◌++◌, length, get_or, take, drop, map, sym, ap, refl, arith, append-nil, length-drop}
+use Rattle.std.proofs.Common.{◌≡◌, ◌∙◌, ℕ, zero, suc, ◌≤◌, ◌<◌, ◌+◌, Bool, true, false, List, [], ◌∷◌, ◌++◌, length}
+use Rattle.std.proofs.Common.{get_or, take, drop, sym, ap, refl, arith, append-nil, length-drop}
 use Rattle.std.specs.Prelude.{filter}
 use Rattle.std.specs.List.{All, AllWithin, AllZip, insert}
 use Rattle.std.proofs.lemmas.List.{get_or-drop, get_or-take, length-take-le, take-append-drop}
@@ -15,14 +16,17 @@ module _ {A : Type 0} where
   all_passes : (p : A → Bool) (xs : List A) → All (λ x. p x ≡ true) xs → filter p xs ≡ xs
   all_passes p [] passes = refl
   all_passes p (x ∷ xs) passes =
-      rw (All-head (λ x. p x ≡ true) x xs passes) (ap (λ ys. x ∷ ys) (all_passes p xs (All-tail (λ x. p x ≡ true) x xs passes)))
+      rw (All-head (λ x. p x ≡ true) x xs passes)
+      (ap (λ ys. x ∷ ys) (all_passes p xs (All-tail (λ x. p x ≡ true) x xs passes)))
 
   all_before : (P : A → Type 0) (xs : List A) (i : ℕ) → i ≤ length xs → AllWithin P xs 0 i → All P (take i xs)
   all_before P xs i le all k d lt =
-      rw (get_or-take i xs k d (omega (arith, length-take-le i xs le))) (all k d (omega arith) (omega (arith, length-take-le i xs le)))
+      rw (get_or-take i xs k d (omega (arith, length-take-le i xs le)))
+      (all k d (omega arith) (omega (arith, length-take-le i xs le)))
 
   all_behind : (P : A → Type 0) (xs : List A) (i : ℕ) → AllWithin P xs i (length xs) → All P (drop i xs)
-  all_behind P xs i all k d lt = rw (get_or-drop i xs k d) (all (i + k) d (omega arith) (omega (arith, length-drop i xs)))
+  all_behind P xs i all k d lt =
+      rw (get_or-drop i xs k d) (all (i + k) d (omega arith) (omega (arith, length-drop i xs)))
 
   -- a test that all before a place pass, and none behind it
   pub front : (p : A → Bool) (xs : List A) (i : ℕ) → i ≤ length xs → AllWithin (λ x. p x ≡ true) xs 0 i
@@ -43,27 +47,18 @@ module _ {A : Type 0} where
       let last = all_passes p (drop i xs) (all_behind (λ x. p x ≡ true) xs i passes) in
       grind (arith, append-nil)
 
-pub map_insert : {A B : Type 0} (f : A → B) (xs : List A) (i : ℕ) (x : A) → map f (insert xs i x) ≡ insert (map f xs) i (f x)
-map_insert f xs zero x = refl
-map_insert f [] (suc i) x = refl
-map_insert f (y ∷ xs) (suc i) x = ap (λ ys. f y ∷ ys) (map_insert f xs i x)
-
 module _ {A B : Type 0} (R : A → B → Type 0) where
-  pub zip_insert : (xs : List A) (ys : List B) (i : ℕ) (x : A) (y : B) → AllZip R xs ys → R x y → AllZip R (insert xs i x) (insert ys i y)
+  pub zip_insert : (xs : List A) (ys : List B) (i : ℕ) (x : A) (y : B) → AllZip R xs ys → R x y
+      → AllZip R (insert xs i x) (insert ys i y)
   zip_insert xs ys zero x y all this = (this, all)
   zip_insert [] [] (suc i) x y all this = (this, all)
   zip_insert [] (b ∷ ys) (suc i) x y all this = absurd all
   zip_insert (a ∷ xs) [] (suc i) x y all this = absurd all
   zip_insert (a ∷ xs) (b ∷ ys) (suc i) x y all this = (all.0, zip_insert xs ys i x y all.1 this)
 
-  pub zip_at : (xs : List A) (ys : List B) (k : ℕ) (d : A) (e : B) → AllZip R xs ys → k < length xs → R (get_or xs k d) (get_or ys k e)
+  pub zip_at : (xs : List A) (ys : List B) (k : ℕ) (d : A) (e : B) → AllZip R xs ys → k < length xs
+      → R (get_or xs k d) (get_or ys k e)
   zip_at [] ys k d e all lt = absurd (omega arith)
   zip_at (a ∷ xs) [] k d e all lt = absurd all
   zip_at (a ∷ xs) (b ∷ ys) zero d e all lt = all.0
   zip_at (a ∷ xs) (b ∷ ys) (suc k) d e all lt = zip_at xs ys k d e all.1 (omega arith)
-
-  pub zip_long : (xs : List A) (ys : List B) → AllZip R xs ys → length xs ≡ length ys
-  zip_long [] [] all = refl
-  zip_long [] (b ∷ ys) all = absurd all
-  zip_long (a ∷ xs) [] all = absurd all
-  zip_long (a ∷ xs) (b ∷ ys) all = ap suc (zip_long xs ys all.1)

@@ -1,12 +1,13 @@
--- What is kept stands at the moments of a start: where it was initialised, where what it asks for is asked for, where it takes its
--- place, and where it started nothing.
-use Rattle.std.proofs.Common.{◌≡◌, ◌∙◌, ◌⊎◌, ⊎_elim, inl, inr, ℕ, zero, suc, ◌≤◌, ◌<◌, ◌+◌, ◌-◌, ◌^◌, ◌==◌, Bool, true, false, List, length, map, sym, ap, refl, subst, arith}
+-- What is kept stands at the moments of a start: where it was initialised, where what it asks for is asked for, where
+-- it takes its place, and where it started nothing.
+use Rattle.std.proofs.Common.{◌≡◌, ◌∙◌, ◌⊎◌, ⊎_elim, inl, inr, ℕ, zero, suc, ◌≤◌, ◌<◌, ◌+◌, ◌-◌, ◌^◌, ◌==◌, Bool, true}
+use Rattle.std.proofs.Common.{false, List, length, sym, ap, refl, subst, arith}
 use Rattle.std.specs.Prelude.{min, Option, None, if◌then◌else◌}
-use Rattle.std.specs.Global.{Vec}
 use Rattle.std.specs.List.{AllZip, insert}
 use Rattle.std.specs.List.Sorted.{IsNonDecreasingBy}
 use Rattle.std.proofs.lemmas.Bool.Decides.{nat_tests}
 use Rattle.std.proofs.lemmas.List.Edits.{length-insert}
+use Rattle.std.proofs.lemmas.Slice.Zip.{AllZip-long}
 use Rattle.cs_base.specs.Limits.{most_notes}
 use Rattle.cs_base.specs.declared.resource.Res.{Res}
 use Rattle.cs_cells.specs.Cells.{Cells, cell}
@@ -14,9 +15,9 @@ use Rattle.cs_piece_meaning.specs.Moments.{Composition, Active, Moment, placed}
 use Rattle.cs_piece_meaning.specs.Starts.{Start, entered, has_room, in_vain, joined}
 use Rattle.cs_ir.specs.Waves.{Wave}
 use Rattle.cs_life.proofs.Joining.{placed_is, stay_in_order}
-use Rattle.cs_life.proofs.Places.{map_insert, zip_insert, zip_long}
+use Rattle.cs_life.proofs.Places.{zip_insert}
 use Rattle.cs_life.proofs.Waits.{SameOthers, count_up}
-use Rattle.cs_life.specs.Standing.{Plays, Stands, flags_of, kept_count}
+use Rattle.cs_life.specs.Standing.{Plays, StandsFor, flags_of, kept_count}
 use Rattle.cs_life.specs.declared.life.Life.{Life}
 use Rattle.cs_life.specs.inner.Starting.{IsBegun, IsRefused, Joined, Wait, active_of}
 use Rattle.cs_meaning.specs.Core.{Block}
@@ -31,10 +32,12 @@ use Rattle.cs_voice.specs.VoiceMeaning.{IsVoice}
 use Rattle.cs_voice.specs.declared.stage.Stage.{Stage}
 
 -- a refused note has started nothing
-pub vain_so : (c : Composition) (life : Life) (voices : List VoiceData) (cells : Cells) (now : ℕ) (s : Start) (body : Block) (t : Note Plain) (m : Moment)
-    → IsRefused t → Stands c life voices cells (in_vain m) → Stands c life voices cells (entered now s body t t.world.cause m)
+pub vain_so : (c : Composition) (life : Life) (voices : List VoiceData) (cells : Cells) (now : ℕ) (s : Start)
+    (body : Block) (t : Note Plain) (m : Moment)
+    → IsRefused t → StandsFor c life voices cells (in_vain m)
+    → StandsFor c life voices cells (entered now s body t t.world.cause m)
 vain_so c life voices cells now s body t m r stands =
-    subst (λ (o : Option Cause). Stands c life voices cells (entered now s body t o m)) (sym r.1) stands
+    subst (λ (o : Option Cause). StandsFor c life voices cells (entered now s body t o m)) (sym r.1) stands
 
 none_or_any : (n : ℕ) → (n ≡ 0) ⊎ (0 < n)
 none_or_any zero = inl refl
@@ -45,8 +48,9 @@ lasting n lt = grind (arith, nat_tests)
 
 module _ (c : Composition) (life : Life) (voices : List VoiceData) where
   -- the cells are those that an initialisation left
-  pub shared_so : (cells new : Cells) (m : Moment) (shared : Res → Wave) → Stands c life voices cells m → length new ≡ length cells
-      → Hold life.stage.layout.now (cell new) shared → Stands c life voices new (record m { shared = shared })
+  pub shared_so : (cells new : Cells) (m : Moment) (shared : Res → Wave) → StandsFor c life voices cells m
+      → length new ≡ length cells
+      → Hold life.stage.layout.now (cell new) shared → StandsFor c life voices new (record m { shared = shared })
   shared_so cells new m shared s long hold = record {
     stand = record {
       stage_is = s.stand.stage_is;
@@ -57,17 +61,19 @@ module _ (c : Composition) (life : Life) (voices : List VoiceData) where
       in_order = s.stand.in_order;
       few = s.stand.few;
     };
-    ends = s.ends;
     due = s.due;
     kept = s.kept;
     started = s.started;
     not_started = s.not_started;
     layout = s.layout;
+    zones = s.zones;
   }
 
   -- what is asked for waits
-  pub wait_so : (cells : Cells) (m n : Moment) (pending : Queue) (not_started : ℕ) → Stands c life voices cells m → SameOthers m n
-      → Wait pending not_started n → Stands c (record life { pending = pending; not_started = not_started }) voices cells n
+  pub wait_so : (cells : Cells) (m n : Moment) (pending : Queue) (not_started : ℕ) → StandsFor c life voices cells m
+      → SameOthers m n
+      → Wait pending not_started n
+      → StandsFor c (record life { pending = pending; not_started = not_started }) voices cells n
   wait_so cells m n pending not_started s same w = record {
     stand = record {
       stage_is = s.stand.stage_is;
@@ -78,19 +84,20 @@ module _ (c : Composition) (life : Life) (voices : List VoiceData) where
       in_order = s.stand.in_order;
       few = s.stand.few;
     };
-    ends = subst (λ x. life.ends.items ≡ map (λ (a : Active). a.ends) x) (sym same.active) s.ends;
     due = w.due;
     kept = w.kept;
     started = subst (λ x. life.started ≡ kept_count x) (sym same.started) s.started;
     not_started = w.count;
     layout = s.layout;
+    zones = s.zones;
   }
 
   -- a count of starts goes up
-  started_so : (cells : Cells) (m : Moment) → Stands c life voices cells m → (after : List VoiceData) (ends : Vec ℕ) → after ≡ voices
-      → ends.items ≡ life.ends.items
-      → Stands c (record life { ends = ends; started = min (life.started + 1) (2 ^ 64 - 1) }) after cells (record m { started = m.started + 1 })
-  started_so cells m s after ends same same_ends = record {
+  started_so : (cells : Cells) (m : Moment) → StandsFor c life voices cells m → (after : List VoiceData)
+      → after ≡ voices
+      → StandsFor c (record life { started = min (life.started + 1) (2 ^ 64 - 1) }) after cells
+      (record m { started = m.started + 1 })
+  started_so cells m s after same = record {
     stand = record {
       stage_is = s.stand.stage_is;
       made = s.stand.made;
@@ -100,37 +107,41 @@ module _ (c : Composition) (life : Life) (voices : List VoiceData) where
       in_order = subst (λ x. IsNonDecreasingBy (λ (w : VoiceData). w.number) x) (sym same) s.stand.in_order;
       few = subst (λ (x : List VoiceData). length x ≤ most_notes) (sym same) s.stand.few;
     };
-    ends = same_ends ∙ s.ends;
     due = s.due;
     kept = s.kept;
     started = ap (λ k. min (k + 1) (2 ^ 64 - 1)) s.started ∙ sym (count_up m.started);
     not_started = s.not_started;
     layout = s.layout;
+    zones = s.zones;
   }
 
-  module _ (cells : Cells) (now : ℕ) (s : Start) (body : Block) (t : Note Plain) (m : Moment) (stands : Stands c life voices cells m) where
+  module _ (cells : Cells) (now : ℕ) (s : Start) (body : Block) (t : Note Plain) (m : Moment)
+      (stands : StandsFor c life voices cells m) where
     -- it has started, and lasts no cycle
-    pub brief_so : t.world.cause ≡ None → s.cycles ≡ 0 → (after : List VoiceData) (ends : Vec ℕ) → after ≡ voices → ends.items ≡ life.ends.items
-        → Stands c (record life { ends = ends; started = min (life.started + 1) (2 ^ 64 - 1) }) after cells (entered now s body t t.world.cause m)
-    brief_so none brief after ends same same_ends =
+    pub brief_so : t.world.cause ≡ None → s.cycles ≡ 0 → (after : List VoiceData) → after ≡ voices
+        → StandsFor c (record life { started = min (life.started + 1) (2 ^ 64 - 1) }) after cells
+        (entered now s body t t.world.cause m)
+    brief_so none brief after same =
         let stay : joined now s body t m.active m.started ≡ m.active = rw brief in
-        subst (λ (o : Option Cause). Stands c (record life { ends = ends; started = min (life.started + 1) (2 ^ 64 - 1) }) after cells (entered now s body t o m))
+        subst (λ (o : Option Cause). StandsFor c (record life { started = min (life.started + 1) (2 ^ 64 - 1) }) after
+        cells (entered now s body t o m))
         (sym none)
-        (subst (λ (x : List Active). Stands c (record life { ends = ends; started = min (life.started + 1) (2 ^ 64 - 1) }) after cells (record m { active = x; started = m.started + 1 }))
-        (sym stay) (started_so cells m stands after ends same same_ends))
+        (subst (λ (x : List Active). StandsFor c (record life { started = min (life.started + 1) (2 ^ 64 - 1) }) after
+        cells (record m { active = x; started = m.started + 1 }))
+        (sym stay) (started_so cells m stands after same))
 
     room_for : has_room s m ≡ true → 0 < s.cycles → length m.active < most_notes
     room_for room lasts = grind (arith, nat_tests)
 
     -- it has started, and takes its place
     module _ (none : t.world.cause ≡ None) (lasts : 0 < s.cycles) (room : has_room s m ≡ true) (v : VoiceData)
-        (plays : (age : ℕ) → Plays c life.stage life.made.items v (active_of now s body t age)) (after : List VoiceData) (ends : Vec ℕ)
-        (j : Joined v (now + s.cycles) voices life.ends.items after ends.items) where
+        (plays : (age : ℕ) → Plays c life.stage life.made.items v (active_of now s body t age)) (after : List VoiceData)
+        (j : Joined v voices after) where
       few_then : length after ≤ most_notes
       few_then =
           let one_more = length-insert voices j.place v j.within in
-          let long = ap (length {A = VoiceData}) j.voices_are in
-          let same = zip_long (Plays c life.stage life.made.items) voices m.active stands.stand.play in
+          let long = ap (length {A = VoiceData}) j.is in
+          let same = AllZip-long (Plays c life.stage life.made.items) voices m.active stands.stand.play in
           let there = room_for room lasts in
           omega arith
 
@@ -140,9 +151,10 @@ module _ (c : Composition) (life : Life) (voices : List VoiceData) where
       takes_place : joined now s body t m.active m.started ≡ insert m.active j.place n
       takes_place =
           ap (λ b. if b then m.active else placed n m.active) (lasting s.cycles lasts)
-          ∙ placed_is c life.stage life.made.items voices m.active v n stands.stand.play (plays m.started).number j.place j.within j.lower j.higher
+          ∙ placed_is c life.stage life.made.items voices m.active v n stands.stand.play (plays m.started).number
+          j.place j.within j.lower j.higher
 
-      in_place : Stands c (record life { ends = ends; started = min (life.started + 1) (2 ^ 64 - 1) }) after cells
+      in_place : StandsFor c (record life { started = min (life.started + 1) (2 ^ 64 - 1) }) after cells
           (record m { active = insert m.active j.place n; started = m.started + 1 })
       in_place = record {
         stand = record {
@@ -150,39 +162,47 @@ module _ (c : Composition) (life : Life) (voices : List VoiceData) where
           made = stands.stand.made;
           hold = stands.stand.hold;
           long = stands.stand.long;
-          play = subst (λ x. AllZip (Plays c life.stage life.made.items) x (insert m.active j.place n)) (sym j.voices_are)
-              (zip_insert (Plays c life.stage life.made.items) voices m.active j.place v n stands.stand.play (plays m.started));
-          in_order = subst (λ x. IsNonDecreasingBy (λ (w : VoiceData). w.number) x) (sym j.voices_are)
-              (stay_in_order c life.stage life.made.items voices m.active v n stands.stand.play (plays m.started).number j.place stands.stand.in_order j.within j.lower j.higher);
+          play = subst (λ x. AllZip (Plays c life.stage life.made.items) x (insert m.active j.place n)) (sym j.is)
+              (zip_insert (Plays c life.stage life.made.items) voices m.active j.place v n stands.stand.play
+              (plays m.started));
+          in_order = subst (λ x. IsNonDecreasingBy (λ (w : VoiceData). w.number) x) (sym j.is)
+              (stay_in_order c life.stage life.made.items voices m.active v n stands.stand.play (plays m.started).number
+              j.place stands.stand.in_order j.within j.lower j.higher);
           few = few_then;
         };
-        ends = j.ends_are ∙ ap (λ x. insert x j.place (now + s.cycles)) stands.ends ∙ sym (map_insert (λ (a : Active). a.ends) m.active j.place n);
         due = stands.due;
         kept = stands.kept;
         started = ap (λ k. min (k + 1) (2 ^ 64 - 1)) stands.started ∙ sym (count_up m.started);
         not_started = stands.not_started;
         layout = stands.layout;
+        zones = stands.zones;
       }
 
-      pub place_so : Stands c (record life { ends = ends; started = min (life.started + 1) (2 ^ 64 - 1) }) after cells (entered now s body t t.world.cause m)
+      pub place_so : StandsFor c (record life { started = min (life.started + 1) (2 ^ 64 - 1) }) after cells
+          (entered now s body t t.world.cause m)
       place_so =
-          subst (λ (o : Option Cause). Stands c (record life { ends = ends; started = min (life.started + 1) (2 ^ 64 - 1) }) after cells (entered now s body t o m))
+          subst (λ (o : Option Cause). StandsFor c (record life { started = min (life.started + 1) (2 ^ 64 - 1) }) after
+          cells (entered now s body t o m))
           (sym none)
-          (subst (λ (x : List Active). Stands c (record life { ends = ends; started = min (life.started + 1) (2 ^ 64 - 1) }) after cells (record m { active = x; started = m.started + 1 }))
+          (subst (λ (x : List Active). StandsFor c (record life { started = min (life.started + 1) (2 ^ 64 - 1) }) after
+          cells (record m { active = x; started = m.started + 1 }))
           (sym takes_place) in_place)
 
     -- it has started: by what became of its voice
-    pub live_so : (v : VoiceData) → IsVoice v → IsBegun c life.stage life.made.items now s body t (started.Live v) → has_room s m ≡ true
-        → (after : List VoiceData) (ends : Vec ℕ) → (s.cycles ≡ 0 → (after ≡ voices) × (ends.items ≡ life.ends.items))
-        → (0 < s.cycles → IsNonDecreasingBy (λ (w : VoiceData). w.number) voices → Joined v (now + s.cycles) voices life.ends.items after ends.items)
-        → Stands c (record life { ends = ends; started = min (life.started + 1) (2 ^ 64 - 1) }) after cells (entered now s body t t.world.cause m)
-    live_so v valid begun room after ends brief lasts = ⊎_elim
-        (λ none. brief_so begun.0 none after ends (brief none).0 (brief none).1)
-        (λ any. place_so begun.0 any room v (begun.1 valid) after ends (lasts any stands.stand.in_order))
+    pub live_so : (v : VoiceData) → IsVoice v → IsBegun c life.stage life.made.items now s body t (started.Live v)
+        → has_room s m ≡ true
+        → (after : List VoiceData) → (s.cycles ≡ 0 → after ≡ voices)
+        → (0 < s.cycles → IsNonDecreasingBy (λ (w : VoiceData). w.number) voices → Joined v voices after)
+        → StandsFor c (record life { started = min (life.started + 1) (2 ^ 64 - 1) }) after cells
+        (entered now s body t t.world.cause m)
+    live_so v valid begun room after brief lasts = ⊎_elim
+        (λ none. brief_so begun.0 none after (brief none))
+        (λ any. place_so begun.0 any room v (begun.1 valid) after (lasts any stands.stand.in_order))
         (none_or_any s.cycles)
 
 -- what doesn't live was refused
-pub refused_if : (c : Composition) (stage : Stage) (flags : List Bool) (now : ℕ) (s : Start) (body : Block) (t : Note Plain) (r : Started)
+pub refused_if : (c : Composition) (stage : Stage) (flags : List Bool) (now : ℕ) (s : Start) (body : Block)
+    (t : Note Plain) (r : Started)
     → ((v : VoiceData) → r ≡ started.Live v → ⊥) → IsBegun c stage flags now s body t r → IsRefused t
 refused_if c stage flags now s body t (started.Live v) other h = absurd (other v refl)
 refused_if c stage flags now s body t (started.NoTable n) other h = h

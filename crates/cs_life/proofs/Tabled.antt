@@ -1,5 +1,7 @@
 -- A table is made: what stands at a moment stands when it has been made.
-use Rattle.std.proofs.Common.{◌≡◌, ℕ, ℤ, pos, zero, suc, ◌+◌, ◌<◌, ◌≤◌, ◌≢◌, Bool, true, false, not, List, [], ◌∷◌, length, slice_index_or, Option, Some, None, if◌then◌else◌, refl, sym, ◌∙◌, ap, subst, arith, ltb-true, nat_le, nat_lt}
+use Rattle.std.proofs.Common.{◌≡◌, ℕ, ℤ, pos, zero, suc, ◌+◌, ◌<◌, ◌≤◌, ◌≢◌, Bool, true, false, not, List, [], ◌∷◌}
+use Rattle.std.proofs.Common.{length, slice_index_or, Option, Some, None, if◌then◌else◌, refl, sym, ◌∙◌, ap, subst}
+use Rattle.std.proofs.Common.{arith, ltb-true, nat_le, nat_lt}
 use Rattle.std.specs.Global.{Vec}
 use Rattle.std.specs.Option.{is_some}
 use Rattle.std.proofs.lemmas.Bool.{and_parts}
@@ -26,11 +28,12 @@ use Rattle.cs_piece_meaning.specs.Moments.{Composition, Moment}
 use Rattle.cs_piece_meaning.specs.Starts.{made_table, with_points}
 use Rattle.cs_voice.specs.VoiceData.{VoiceData}
 use Rattle.cs_voice.specs.declared.stage.Stage.{Stage}
-use Rattle.cs_life.specs.Standing.{Stands, VoicesStand}
+use Rattle.cs_life.specs.Standing.{StandsFor, VoicesStand}
 use Rattle.cs_life.specs.declared.life.Life.{Life}
 use Rattle.cs_life.specs.inner.Doing.{CanBeMade}
 use Rattle.cs_life.specs.inner.Marks.{PointsWritten, has_cells, is_in_cells, marked}
-use Rattle.cs_life.proofs.Flags.{all_play_on, cells_of_first, flags_fit, found_at, found_number, marked_flags, marked_long}
+use Rattle.cs_life.proofs.Flags.{all_play_on, cells_of_first, flags_fit, found_at, found_number, marked_flags}
+use Rattle.cs_life.proofs.Flags.{marked_long}
 
 -- ---- cells
 
@@ -52,8 +55,10 @@ module _ (areas : List Area) (stock : Stock) (piece : Piece) (placed : IsPlaced 
   other h g unlike e = absurd (let t : same_res h g ≡ true = ap (λ k. same_res h k) (sym e) ∙ same_res_here h in cc)
 
   -- a table's points are written into its area: cells hold what notes share when the table has these points
-  pub held_with : (n : ℕ) (a : Area) (w : Wave) (cells : ℕ → ℤ) (shared : Res → Wave) → area_of areas (res.Table n) ≡ Some a
-      → ((j : ℕ) → a.length ≤ j → w j ≡ pos 0) → Hold areas cells shared → Hold areas (with_wave (Some a) w cells) (shared_with (res.Table n) w shared)
+  pub held_with : (n : ℕ) (a : Area) (w : Wave) (cells : ℕ → ℤ) (shared : Res → Wave)
+      → area_of areas (res.Table n) ≡ Some a
+      → ((j : ℕ) → a.length ≤ j → w j ≡ pos 0) → Hold areas cells shared
+      → Hold areas (with_wave (Some a) w cells) (shared_with (res.Table n) w shared)
   held_with n a w cells shared at fits hold = λ g has.
       by_test (same_res g (res.Table n))
       (λ yes. let e : g ≡ res.Table n = same_res_is g (res.Table n) yes in
@@ -63,7 +68,8 @@ module _ (areas : List Area) (stock : Stock) (piece : Piece) (placed : IsPlaced 
       ∙ sym (ap (λ t. if t then w else shared g) yes))
       (λ no.
       ap (λ o. wave_of o (res_rate g) (with_wave (Some a) w cells)) has.1
-      ∙ wave_kept areas (res.Table n) g a has.0 (res_rate g) w cells placed.laid at has.1 (other g (res.Table n) no) (roomy g has.0 has.1)
+      ∙ wave_kept areas (res.Table n) g a has.0 (res_rate g) w cells placed.laid at has.1 (other g (res.Table n) no)
+      (roomy g has.0 has.1)
       ∙ sym (ap (λ o. wave_of o (res_rate g) cells) has.1)
       ∙ hold g has
       ∙ sym (ap (λ t. if t then w else shared g) no))
@@ -84,10 +90,12 @@ module _ (c : Composition) (stage : Stage) (flags : List Bool) (voices : List Vo
       let long = flags_fit stage.tables.now c.tables m.made flags h.stage_is.tables h.made in
       record {
         stage_is = h.stage_is;
-        made = ap (marked n stage.tables.now) h.made ∙ marked_flags stage.tables.now c.tables n m.made h.stage_is.tables;
+        made = ap (marked n stage.tables.now) h.made
+            ∙ marked_flags stage.tables.now c.tables n m.made h.stage_is.tables;
         hold = h.hold;
         long = h.long;
-        play = all_play_on c stage flags (marked n stage.tables.now flags) long (marked_long n stage.tables.now flags long) voices m.active h.play;
+        play = all_play_on c stage flags (marked n stage.tables.now flags) long
+            (marked_long n stage.tables.now flags long) voices m.active h.play;
         in_order = h.in_order;
         few = h.few;
       }
@@ -95,14 +103,17 @@ module _ (c : Composition) (stage : Stage) (flags : List Bool) (voices : List Vo
   -- the same flags, and a table's points in its cells
   pointed : (cells new : Cells) (m : Moment) → PointsWritten true stage.layout.now n points cells new
       → VoicesStand c stage flags voices cells m
-      → VoicesStand c stage flags voices new (record m { shared = shared_with (res.Table n) (λ j. slice_index_or points j (pos 0)) m.shared })
+      → VoicesStand c stage flags voices new
+      (record m { shared = shared_with (res.Table n) (λ j. slice_index_or points j (pos 0)) m.shared })
   pointed cells new m w h =
-      let placed = h.stage_is.placed flags [] (flags_fit stage.tables.now c.tables m.made flags h.stage_is.tables h.made) in
+      let placed = h.stage_is.placed flags []
+      (flags_fit stage.tables.now c.tables m.made flags h.stage_is.tables h.made) in
       record {
         stage_is = h.stage_is;
         made = h.made;
         hold = subst (λ x. Hold stage.layout.now x (shared_with (res.Table n) (row_wave points) m.shared)) (sym w.3)
-            (held_with stage.layout.now (stock_of stage.layout.now) (piece_at stage flags []) placed n w.0 (row_wave points) (cell cells) m.shared w.1
+            (held_with stage.layout.now (stock_of stage.layout.now) (piece_at stage flags []) placed n w.0
+            (row_wave points) (cell cells) m.shared w.1
             (row_ends points w.0.length w.2) h.hold);
         long = w.4 ∙ h.long;
         play = h.play;
@@ -110,18 +121,23 @@ module _ (c : Composition) (stage : Stage) (flags : List Bool) (voices : List Vo
         few = h.few;
       }
 
-  same_cells : (cells new : Cells) (m : Moment) → new ≡ cells → VoicesStand c stage flags voices cells m → VoicesStand c stage flags voices new m
+  same_cells : (cells new : Cells) (m : Moment) → new ≡ cells → VoicesStand c stage flags voices cells m
+      → VoicesStand c stage flags voices new m
   same_cells cells new m e h = subst (λ x. VoicesStand c stage flags voices x m) (sym e) h
 
-module _ (c : Composition) (life : Life) (v : Vec Bool) (voices : List VoiceData) (cells new : Cells) (m : Moment) (n : ℕ) (points : List ℤ)
-    (flags : v.items ≡ marked n life.stage.tables.now life.made.items) (h : Stands c life voices cells m) where
+module _ (c : Composition) (life : Life) (v : Vec Bool) (voices : List VoiceData) (cells new : Cells) (m : Moment)
+    (n : ℕ) (points : List ℤ)
+    (flags : v.items ≡ marked n life.stage.tables.now life.made.items) (h : StandsFor c life voices cells m) where
   -- what stands of the voices and cells stands of all
-  all_stand : (s : Res → Wave) → VoicesStand c life.stage (marked n life.stage.tables.now life.made.items) voices new (record m { made = n ∷ m.made; shared = s })
-      → Stands c (record life { made = v }) voices new (record m { made = n ∷ m.made; shared = s })
+  all_stand : (s : Res → Wave)
+      → VoicesStand c life.stage (marked n life.stage.tables.now life.made.items) voices new
+      (record m { made = n ∷ m.made; shared = s })
+      → StandsFor c (record life { made = v }) voices new (record m { made = n ∷ m.made; shared = s })
   all_stand s stand = record {
-    stand = subst (λ f. VoicesStand c life.stage f voices new (record m { made = n ∷ m.made; shared = s })) (sym flags) stand;
+    stand = subst (λ f. VoicesStand c life.stage f voices new (record m { made = n ∷ m.made; shared = s })) (sym flags)
+        stand;
     layout = h.layout;
-    ends = h.ends;
+    zones = h.zones;
     due = h.due;
     kept = h.kept;
     started = h.started;
@@ -129,37 +145,46 @@ module _ (c : Composition) (life : Life) (v : Vec Bool) (voices : List VoiceData
   }
 
   chosen : (frozen : Bool) → PointsWritten (not frozen) life.stage.layout.now n points cells new
-      → Stands c (record life { made = v }) voices new (if frozen then record m { made = n ∷ m.made }
-      else record m { made = n ∷ m.made; shared = shared_with (res.Table n) (λ j. slice_index_or points j (pos 0)) m.shared })
+      → StandsFor c (record life { made = v }) voices new (if frozen then record m { made = n ∷ m.made }
+      else record m {
+        made = n ∷ m.made;
+        shared =
+            shared_with (res.Table n) (λ j. slice_index_or points j (pos 0)) m.shared;
+      })
   chosen true w = all_stand m.shared
-      (same_cells c life.stage (marked n life.stage.tables.now life.made.items) voices n points cells new (record m { made = n ∷ m.made }) w
+      (same_cells c life.stage (marked n life.stage.tables.now life.made.items) voices n points cells new
+      (record m { made = n ∷ m.made }) w
       (flagged c life.stage life.made.items voices n points cells m h.stand))
   chosen false w = all_stand (shared_with (res.Table n) (λ j. slice_index_or points j (pos 0)) m.shared)
-      (pointed c life.stage (marked n life.stage.tables.now life.made.items) voices n points cells new (record m { made = n ∷ m.made }) w
+      (pointed c life.stage (marked n life.stage.tables.now life.made.items) voices n points cells new
+      (record m { made = n ∷ m.made }) w
       (flagged c life.stage life.made.items voices n points cells m h.stand))
 
   with_table : (o : Option Table) → PointsWritten (is_in_cells o) life.stage.layout.now n points cells new
-      → Stands c (record life { made = v }) voices new (with_points o n points (record m { made = n ∷ m.made }))
+      → StandsFor c (record life { made = v }) voices new (with_points o n points (record m { made = n ∷ m.made }))
   with_table None w = all_stand m.shared
-      (same_cells c life.stage (marked n life.stage.tables.now life.made.items) voices n points cells new (record m { made = n ∷ m.made }) w
+      (same_cells c life.stage (marked n life.stage.tables.now life.made.items) voices n points cells new
+      (record m { made = n ∷ m.made }) w
       (flagged c life.stage life.made.items voices n points cells m h.stand))
   with_table (Some t) w = chosen (is_some t.frozen) w
 
 -- a table has been made
-pub stands_made : (c : Composition) (life : Life) (v : Vec Bool) (voices : List VoiceData) (cells new : Cells) (m : Moment) (n : ℕ) (points : List ℤ)
+pub stands_made : (c : Composition) (life : Life) (v : Vec Bool) (voices : List VoiceData) (cells new : Cells)
+    (m : Moment) (n : ℕ) (points : List ℤ)
     → v.items ≡ marked n life.stage.tables.now life.made.items
     → PointsWritten (is_in_cells (find_table c.tables (pos n))) life.stage.layout.now n points cells new
-    → Stands c life voices cells m → Stands c (record life { made = v }) voices new (made_table c n points m)
+    → StandsFor c life voices cells m → StandsFor c (record life { made = v }) voices new (made_table c n points m)
 stands_made c life v voices cells new m n points flags w h =
     with_table c life v voices cells new m n points flags h (find_table c.tables (pos n)) w
 
 -- ---- by what the stage has
 
 -- the points of the first table of the number are cells, and were written
-pub made_in_cells : (c : Composition) (life : Life) (v : Vec Bool) (voices : List VoiceData) (cells new : Cells) (m : Moment) (n : ℕ) (row points : List ℤ)
+pub made_in_cells : (c : Composition) (life : Life) (v : Vec Bool) (voices : List VoiceData) (cells new : Cells)
+    (m : Moment) (n : ℕ) (row points : List ℤ)
     → v.items ≡ marked n life.stage.tables.now life.made.items → has_cells life.stage.tables.now n ≡ true → row ≡ points
-    → PointsWritten true life.stage.layout.now n row cells new → Stands c life voices cells m
-    → Stands c (record life { made = v }) voices new (made_table c n points m)
+    → PointsWritten true life.stage.layout.now n row cells new → StandsFor c life voices cells m
+    → StandsFor c (record life { made = v }) voices new (made_table c n points m)
 made_in_cells c life v voices cells new m n row points flags there same w h =
     let in_cells : true ≡ is_in_cells (find_table c.tables (pos n)) =
     sym there ∙ cells_of_first life.stage.tables.now c.tables n h.stand.stage_is.tables in
@@ -168,9 +193,11 @@ made_in_cells c life v voices cells new m n row points flags there same w h =
     (subst (λ xs. PointsWritten true life.stage.layout.now n xs cells new) same w)) h
 
 -- there is none such, or its points stay as they are
-pub made_elsewhere : (c : Composition) (life : Life) (v : Vec Bool) (voices : List VoiceData) (cells : Cells) (m : Moment) (n : ℕ) (points : List ℤ)
-    → v.items ≡ marked n life.stage.tables.now life.made.items → has_cells life.stage.tables.now n ≡ false → Stands c life voices cells m
-    → Stands c (record life { made = v }) voices cells (made_table c n points m)
+pub made_elsewhere : (c : Composition) (life : Life) (v : Vec Bool) (voices : List VoiceData) (cells : Cells)
+    (m : Moment) (n : ℕ) (points : List ℤ)
+    → v.items ≡ marked n life.stage.tables.now life.made.items → has_cells life.stage.tables.now n ≡ false
+    → StandsFor c life voices cells m
+    → StandsFor c (record life { made = v }) voices cells (made_table c n points m)
 made_elsewhere c life v voices cells m n points flags none h =
     let not_in_cells : false ≡ is_in_cells (find_table c.tables (pos n)) =
     sym none ∙ cells_of_first life.stage.tables.now c.tables n h.stand.stage_is.tables in
@@ -193,7 +220,8 @@ live_one (Some t) h = record { t = t; is = refl; live = unfrozen t.frozen h }
     unfrozen (Some points) h = absurd cc
 
 -- each cell of an area of the layout is one of the piece
-in_piece : (can : ℕ → Type 0) (areas : List Area) (count : ℕ) (g : Res) (a : Area) → IsLaid areas → area_of areas g ≡ Some a → count ≡ word_count areas
+in_piece : (can : ℕ → Type 0) (areas : List Area) (count : ℕ) (g : Res) (a : Area) → IsLaid areas
+    → area_of areas g ≡ Some a → count ≡ word_count areas
     → ((k : ℕ) → k < word_count areas → can k) → CanTouch can count a
 in_piece can areas count g a laid at long all =
     let place = area_at areas g a at in
@@ -207,10 +235,13 @@ in_piece can areas count g a laid at long all =
     before k h = ltb-true k (a.first + a.length) (and_parts (nat_le a.first k) (nat_lt k (a.first + a.length)) h).1
 
 -- the area of a table that is given can be written, and has a cell a point
-pub area_ready : (can : ℕ → Type 0) (c : Composition) (life : Life) (voices : List VoiceData) (cells : Cells) (m : Moment) (n : ℕ) (row : List ℤ)
-    (size gen : ℤ) (args : List ℤ) → Stands c life voices cells m → CanBeMade c n size gen args → has_cells life.stage.tables.now n ≡ true
+pub area_ready : (can : ℕ → Type 0) (c : Composition) (life : Life) (voices : List VoiceData) (cells : Cells)
+    (m : Moment) (n : ℕ) (row : List ℤ)
+    (size gen : ℤ) (args : List ℤ) → StandsFor c life voices cells m → CanBeMade c n size gen args
+    → has_cells life.stage.tables.now n ≡ true
     → pos (length row) ≡ size → ((a : ℕ) → a < word_count life.setup.now.layout → can a)
-    → (x : Area) × (area_of life.stage.layout.now (res.Table n) ≡ Some x) × (length row ≡ x.length) × CanTouch can (length cells) x
+    → (x : Area) × (area_of life.stage.layout.now (res.Table n) ≡ Some x) × (length row ≡ x.length)
+    × CanTouch can (length cells) x
 area_ready can c life voices cells m n row size gen args h given there long sets =
     let ts = life.stage.tables.now in
     let e = h.stand.stage_is.tables in
@@ -220,9 +251,11 @@ area_ready can c life voices cells m n row size gen args h given there long sets
     let w = found_at ts c.tables flags (pos n) o.t e fit o.is in
     let live : w.u.frozen ≡ None = w.frozen ∙ o.live in
     let number : w.u.number ≡ n = w.number ∙ found_number c.tables n o.t o.is in
-    let has : HasArea life.stage.layout.now (res.Table w.u.number) = (h.stand.stage_is.can_be_played flags fit (pos n) w.u w.found).area live in
+    let has : HasArea life.stage.layout.now (res.Table w.u.number) =
+    (h.stand.stage_is.can_be_played flags fit (pos n) w.u w.found).area live in
     let placed = (h.stand.stage_is.placed flags [] fit).tables (pos n) w.u w.found live in
-    let at : area_of life.stage.layout.now (res.Table n) ≡ Some has.0 = ap (λ k. area_of life.stage.layout.now (res.Table k)) (sym number) ∙ has.1 in
+    let at : area_of life.stage.layout.now (res.Table n) ≡ Some has.0 =
+    ap (λ k. area_of life.stage.layout.now (res.Table k)) (sym number) ∙ has.1 in
     let sizes : pos (length row) ≡ pos o.t.size = long ∙ sym (given.one_size o.t o.is) in
     let many : length row ≡ o.t.size = cc in (
       has.0,

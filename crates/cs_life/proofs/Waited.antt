@@ -1,5 +1,6 @@
 -- Notes that wait are started one by one.
-use Rattle.std.proofs.Common.{◌≡◌, ◌≢◌, ℕ, zero, suc, ◌+◌, ◌-◌, ◌<◌, ◌≤◌, ◌==◌, true, false, List, [], ◌∷◌, Some, None, cond, get_or, length, if◌then◌else◌, refl, sym, ◌∙◌, ap, subst, arith}
+use Rattle.std.proofs.Common.{◌≡◌, ◌≢◌, ℕ, zero, suc, ◌+◌, ◌-◌, ◌<◌, ◌≤◌, ◌==◌, true, false, List, [], ◌∷◌, Some, None}
+use Rattle.std.proofs.Common.{cond, get_or, length, if◌then◌else◌, refl, sym, ◌∙◌, ap, subst, arith}
 use Rattle.std.proofs.lemmas.Bool.Decides.{nat_tests}
 use Rattle.cs_base.proofs.Tests.{by_test}
 use Rattle.cs_cells.specs.Cells.{Cells}
@@ -8,7 +9,7 @@ use Rattle.cs_piece_meaning.specs.Starts.{first_started, start_in, start_of, tak
 use Rattle.cs_sched.specs.Waiting.{IsTaken, Queue, those_in, waiting}
 use Rattle.cs_sched.specs.declared.due.Due.{Due}
 use Rattle.cs_voice.specs.VoiceData.{VoiceData}
-use Rattle.cs_life.specs.Standing.{Stands}
+use Rattle.cs_life.specs.Standing.{StandsFor}
 use Rattle.cs_life.specs.declared.life.Life.{Life}
 
 -- ---- what is taken out
@@ -20,9 +21,11 @@ unequal : (m n : ℕ) → (m == n) ≡ false → m ≢ n
 unequal m n h = grind (arith, nat_tests)
 
 -- the first is taken: the moment from which its note is started stands
-pub taken_out : (c : Composition) (life : Life) (q : Queue) (voices : List VoiceData) (cells : Cells) (m : Moment) (now : ℕ) (due : Due)
-    → IsTaken now (waiting life.pending) (Some due) (waiting q) → Stands c life voices cells m
-    → Stands c (record life { pending = q }) voices cells (record m { waiting = taken now ((waiting q).due now) m.waiting })
+pub taken_out : (c : Composition) (life : Life) (q : Queue) (voices : List VoiceData) (cells : Cells) (m : Moment)
+    (now : ℕ) (due : Due)
+    → IsTaken now (waiting life.pending) (Some due) (waiting q) → StandsFor c life voices cells m
+    → StandsFor c (record life { pending = q }) voices cells
+    (record m { waiting = taken now ((waiting q).due now) m.waiting })
 taken_out c life q voices cells m now due is h = record {
   stand = record {
     stage_is = h.stand.stage_is;
@@ -34,10 +37,12 @@ taken_out c life q voices cells m now due is h = record {
     few = h.stand.few;
   };
   layout = h.layout;
-  ends = h.ends;
+  zones = h.zones;
   due = λ cycle. by_test (cycle == now)
-      (λ yes. ap (λ k. (waiting q).due k) (equal cycle now yes) ∙ sym (ap (λ b. if b then (waiting q).due now else m.waiting.due cycle) yes))
-      (λ no. is.others cycle (unequal cycle now no) ∙ h.due cycle ∙ sym (ap (λ b. if b then (waiting q).due now else m.waiting.due cycle) no));
+      (λ yes. ap (λ k. (waiting q).due k) (equal cycle now yes)
+      ∙ sym (ap (λ b. if b then (waiting q).due now else m.waiting.due cycle) yes))
+      (λ no. is.others cycle (unequal cycle now no) ∙ h.due cycle
+      ∙ sym (ap (λ b. if b then (waiting q).due now else m.waiting.due cycle) no));
   kept = is.kept ∙ h.kept;
   started = h.started;
   not_started = h.not_started;
@@ -56,23 +61,29 @@ pub begins_now : (q p : Queue) (now : ℕ) (due : Due) → IsTaken now (waiting 
 begins_now q p now due is = first_of q.dues now due ((waiting p).due now) is.first
 
 -- and it waited first
-pub first_due : (c : Composition) (life : Life) (q : Queue) (voices : List VoiceData) (cells : Cells) (m : Moment) (now : ℕ) (due : Due)
-    → IsTaken now (waiting life.pending) (Some due) (waiting q) → Stands c life voices cells m → m.waiting.due now ≡ due ∷ (waiting q).due now
+pub first_due : (c : Composition) (life : Life) (q : Queue) (voices : List VoiceData) (cells : Cells) (m : Moment)
+    (now : ℕ) (due : Due)
+    → IsTaken now (waiting life.pending) (Some due) (waiting q) → StandsFor c life voices cells m
+    → m.waiting.due now ≡ due ∷ (waiting q).due now
 first_due c life q voices cells m now due is h = sym (h.due now) ∙ is.first
 
-pub none_due : (c : Composition) (life : Life) (q : Queue) (voices : List VoiceData) (cells : Cells) (m : Moment) (now : ℕ)
-    → IsTaken now (waiting life.pending) None (waiting q) → Stands c life voices cells m → m.waiting.due now ≡ []
+pub none_due : (c : Composition) (life : Life) (q : Queue) (voices : List VoiceData) (cells : Cells) (m : Moment)
+    (now : ℕ)
+    → IsTaken now (waiting life.pending) None (waiting q) → StandsFor c life voices cells m → m.waiting.due now ≡ []
 none_due c life q voices cells m now is h = sym (h.due now) ∙ is.none refl
 
 -- nothing else was changed where nothing was taken
-pub none_out : (c : Composition) (life : Life) (q : Queue) (voices : List VoiceData) (cells : Cells) (m : Moment) (now : ℕ)
-    → IsTaken now (waiting life.pending) None (waiting q) → Stands c life voices cells m → Stands c (record life { pending = q }) voices cells m
+pub none_out : (c : Composition) (life : Life) (q : Queue) (voices : List VoiceData) (cells : Cells) (m : Moment)
+    (now : ℕ)
+    → IsTaken now (waiting life.pending) None (waiting q) → StandsFor c life voices cells m
+    → StandsFor c (record life { pending = q }) voices cells m
 none_out c life q voices cells m now is h = record {
   stand = h.stand;
   layout = h.layout;
-  ends = h.ends;
+  zones = h.zones;
   due = λ cycle. by_test (cycle == now)
-      (λ yes. let e = equal cycle now yes in ap (λ k. (waiting q).due k) e ∙ sym is.first ∙ ap (λ k. (waiting life.pending).due k) (sym e) ∙ h.due cycle)
+      (λ yes. let e = equal cycle now yes in ap (λ k. (waiting q).due k) e ∙ sym is.first
+      ∙ ap (λ k. (waiting life.pending).due k) (sym e) ∙ h.due cycle)
       (λ no. is.others cycle (unequal cycle now no) ∙ h.due cycle);
   kept = is.kept ∙ h.kept;
   started = h.started;
@@ -82,18 +93,22 @@ none_out c life q voices cells m now is h = record {
 -- ---- so many have been started
 
 -- From a moment of which as many of all are left one comes to where the waiting notes have been started.
-pub record Waits (all done : ℕ) (c : Composition) (now : ℕ) (life : Life) (voices : List VoiceData) (cells : Cells) (m : Moment) : Type 0 where
+pub record Waits (all done : ℕ) (c : Composition) (now : ℕ) (life : Life) (voices : List VoiceData) (cells : Cells)
+    (m : Moment) : Type 0 where
   pub at : Moment
-  pub stands : Stands c life voices cells at
+  pub stands : StandsFor c life voices cells at
   pub left : waited all c now m ≡ waited (all - done) c now at
 
-pub none_started : (all : ℕ) (c : Composition) (now : ℕ) (life : Life) (voices : List VoiceData) (cells : Cells) (m : Moment)
-    → Stands c life voices cells m → Waits all 0 c now life voices cells m
+pub none_started : (all : ℕ) (c : Composition) (now : ℕ) (life : Life) (voices : List VoiceData) (cells : Cells)
+    (m : Moment)
+    → StandsFor c life voices cells m → Waits all 0 c now life voices cells m
 none_started all c now life voices cells m h = let whole : all ≡ all - 0 = omega arith in
     record { at = m; stands = h; left = ap (λ n. waited n c now m) whole }
 
-one_waited : (n : ℕ) (c : Composition) (now : ℕ) (m : Moment) (due : Due) (rest : List Due) → m.waiting.due now ≡ due ∷ rest
-    → waited (suc n) c now m ≡ waited n c now (start_in c now (start_of due) (record m { waiting = taken now rest m.waiting }))
+one_waited : (n : ℕ) (c : Composition) (now : ℕ) (m : Moment) (due : Due) (rest : List Due)
+    → m.waiting.due now ≡ due ∷ rest
+    → waited (suc n) c now m ≡ waited n c now
+    (start_in c now (start_of due) (record m { waiting = taken now rest m.waiting }))
 one_waited n c now m due rest e = λ i. unless_none (e i) m (waited n c now (first_started c now (e i) m))
 
 no_more : (n : ℕ) (c : Composition) (now : ℕ) (m : Moment) → m.waiting.due now ≡ [] → waited n c now m ≡ m
@@ -101,9 +116,11 @@ no_more zero c now m e = refl
 no_more (suc n) c now m e = λ i. unless_none (e i) m (waited n c now (first_started c now (e i) m))
 
 -- one note more has been started
-pub one_started : (all done : ℕ) (c : Composition) (now : ℕ) (life new : Life) (q : Queue) (voices after : List VoiceData) (cells left : Cells) (m : Moment)
+pub one_started : (all done : ℕ) (c : Composition) (now : ℕ) (life new : Life) (q : Queue)
+    (voices after : List VoiceData) (cells left : Cells) (m : Moment)
     (due : Due) → done < all → IsTaken now (waiting life.pending) (Some due) (waiting q)
-    → ((n : Moment) → Stands c (record life { pending = q }) voices cells n → Stands c new after left (start_in c now (start_of due) n))
+    → ((n : Moment) → StandsFor c (record life { pending = q }) voices cells n
+    → StandsFor c new after left (start_in c now (start_of due) n))
     → Waits all done c now life voices cells m → Waits all (done + 1) c now new after left m
 one_started all done c now life new q voices after cells left m due below is starts w =
     let more : all - done ≡ suc (all - (done + 1)) = omega arith in
@@ -112,21 +129,26 @@ one_started all done c now life new q voices after cells left m due below is sta
       at = start_in c now (start_of due) n;
       stands = starts n (taken_out c life q voices cells w.at now due is w.stands);
       left = w.left ∙ ap (λ k. waited k c now w.at) more
-          ∙ one_waited (all - (done + 1)) c now w.at due ((waiting q).due now) (first_due c life q voices cells w.at now due is w.stands);
+          ∙ one_waited (all - (done + 1)) c now w.at due ((waiting q).due now)
+          (first_due c life q voices cells w.at now due is w.stands);
     }
 
 -- none waits any more
-pub all_started : (all done : ℕ) (c : Composition) (now : ℕ) (life : Life) (q : Queue) (voices : List VoiceData) (cells : Cells) (m : Moment)
+pub all_started : (all done : ℕ) (c : Composition) (now : ℕ) (life : Life) (q : Queue) (voices : List VoiceData)
+    (cells : Cells) (m : Moment)
     → IsTaken now (waiting life.pending) None (waiting q) → Waits all done c now life voices cells m
-    → Stands c (record life { pending = q }) voices cells (waited all c now m)
+    → StandsFor c (record life { pending = q }) voices cells (waited all c now m)
 all_started all done c now life q voices cells m is w =
-    let end : waited all c now m ≡ w.at = w.left ∙ no_more (all - done) c now w.at (none_due c life q voices cells w.at now is w.stands) in
-    subst (λ n. Stands c (record life { pending = q }) voices cells n) (sym end) (none_out c life q voices cells w.at now is w.stands)
+    let end : waited all c now m ≡ w.at =
+    w.left ∙ no_more (all - done) c now w.at (none_due c life q voices cells w.at now is w.stands) in
+    subst (λ n. StandsFor c (record life { pending = q }) voices cells n) (sym end)
+    (none_out c life q voices cells w.at now is w.stands)
 
 -- as many as may be started have been started
-pub most_started : (all done : ℕ) (c : Composition) (now : ℕ) (life : Life) (voices : List VoiceData) (cells : Cells) (m : Moment)
-    → all ≤ done → Waits all done c now life voices cells m → Stands c life voices cells (waited all c now m)
+pub most_started : (all done : ℕ) (c : Composition) (now : ℕ) (life : Life) (voices : List VoiceData) (cells : Cells)
+    (m : Moment)
+    → all ≤ done → Waits all done c now life voices cells m → StandsFor c life voices cells (waited all c now m)
 most_started all done c now life voices cells m h w =
     let none : all - done ≡ 0 = omega arith in
     let end : waited all c now m ≡ w.at = w.left ∙ ap (λ k. waited k c now w.at) none in
-    subst (λ n. Stands c life voices cells n) (sym end) w.stands
+    subst (λ n. StandsFor c life voices cells n) (sym end) w.stands

@@ -38,7 +38,8 @@ counted_same added.Negative m n s = record { shared = s.shared; made = s.made; a
 counted_same added.PastEnd m n s = record { shared = s.shared; made = s.made; active = s.active; started = s.started }
 counted_same added.TooMany m n s = record { shared = s.shared; made = s.made; active = s.active; started = s.started }
 
-asked_same : (c : Composition) (now : ℕ) (time : ℤ) (a : Ask) (m n : Moment) → SameOthers m n → SameOthers m (asked c now time a n)
+asked_same : (c : Composition) (now : ℕ) (time : ℤ) (a : Ask) (m n : Moment) → SameOthers m n
+    → SameOthers m (asked c now time a n)
 asked_same c now time a m n s =
     let answer = answer_to (clock_of c) now a n.waiting.kept in
     counted_same answer m (record n { waiting = with_answer answer (due_of (clock_of c) now time a) n.waiting })
@@ -47,16 +48,19 @@ asked_same c now time a m n s =
 pub wanted_same : (c : Composition) (now : ℕ) (time : ℤ) (asks : List Ask) (m n : Moment) → SameOthers m n
     → SameOthers m (all_wanted c now time asks n)
 wanted_same c now time [] m n s = s
-wanted_same c now time (a ∷ asks) m n s = wanted_same c now time asks m (asked c now time a n) (asked_same c now time a m n s)
+wanted_same c now time (a ∷ asks) m n s =
+    wanted_same c now time asks m (asked c now time a n) (asked_same c now time a m n s)
 
 -- a count that is kept in 64 bits goes up
 pub count_up : (n : ℕ) → kept_count (n + 1) ≡ min (kept_count n + 1) (2 ^ 64 - 1)
 count_up n = omega arith
 
-after_answer : (answer : Added) (d : Due) (old new : Queue) (n : ℕ) (m : Moment) → Wait old n m → waiting new ≡ with_answer answer d (waiting old)
+after_answer : (answer : Added) (d : Due) (old new : Queue) (n : ℕ) (m : Moment) → Wait old n m
+    → waiting new ≡ with_answer answer d (waiting old)
     → Wait new (count_after answer n) (counted answer (record m { waiting = with_answer answer d m.waiting }))
 after_answer added.Kept d old new n m w e = record {
-  due = λ cycle. ap (λ (x : Waiting). x.due cycle) e ∙ ap (λ l. if cycle == d.cycle then l ++ d ∷ [] else l) (w.due cycle);
+  due = λ cycle. ap (λ (x : Waiting). x.due cycle) e
+      ∙ ap (λ l. if cycle == d.cycle then l ++ d ∷ [] else l) (w.due cycle);
   kept = ap (λ (x : Waiting). x.kept) e ∙ ap (λ k. k + 1) w.kept;
   count = w.count;
 }
@@ -77,11 +81,13 @@ after_answer added.TooMany d old new n m w e = record {
 }
 
 -- a note was asked for: by the answer, and by what waits then
-pub asked_waits : (c : Composition) (now : ℕ) (time : ℤ) (a : Ask) (answer : Added) (old new : Queue) (n : ℕ) (m : Moment)
+pub asked_waits : (c : Composition) (now : ℕ) (time : ℤ) (a : Ask) (answer : Added) (old new : Queue) (n : ℕ)
+    (m : Moment)
     → answer ≡ answer_to (clock_of c) now a (waiting old).kept
     → waiting new ≡ with_answer answer (due_of (clock_of c) now time a) (waiting old) → Wait old n m
     → Wait new (count_after answer n) (asked c now time a m)
 asked_waits c now time a answer old new n m is e w =
     let same : answer ≡ answer_to (clock_of c) now a m.waiting.kept = is ∙ ap (answer_to (clock_of c) now a) w.kept in
-    subst (λ x. Wait new (count_after answer n) (counted x (record m { waiting = with_answer x (due_of (clock_of c) now time a) m.waiting })))
+    subst (λ x. Wait new (count_after answer n)
+    (counted x (record m { waiting = with_answer x (due_of (clock_of c) now time a) m.waiting })))
     same (after_answer answer (due_of (clock_of c) now time a) old new n m w e)

@@ -1,10 +1,17 @@
 -- Which notes leave.
+use Rattle.std.specs.Prelude.{Bool, not, nat_lt}
 use Rattle.cs_piece_meaning.specs.Course.{still, turned_off}
 use Rattle.cs_piece_meaning.specs.Moments.{Moment}
+use Rattle.cs_voice.specs.VoiceData.{VoiceData}
 use Rattle.cs_life.specs.declared.leaving.Leaving.{Leaving}
 use Rattle.cs_life.specs.declared.leaving.Leaving.TheVariants as leaving
 
--- the moment after they have left
+-- whether the note of a voice stays
+abbrev pub stays : Leaving → VoiceData → Bool
+stays (leaving.Over cycle) v = nat_lt cycle v.until
+stays leaving.TurnedOff v = not v.ended
+
+-- the moment after the others have left
 abbrev pub without : Leaving → Moment → Moment
 without (leaving.Over cycle) m = still cycle m
 without leaving.TurnedOff m = turned_off m

@@ -23,17 +23,24 @@ use Rattle.cs_life.specs.declared.life.Life.{Life}
 abbrev pub flags_of : List Table → List ℕ → List Bool
 flags_of tables made = map (λ (t : Table). list_any (λ n. n == t.number) made) tables
 
--- A voice stands for a note that plays: the same instrument and p-fields, an instrument of the note's statements, and
--- what the note has come to.
+-- A voice stands for a note that plays: the same instrument and p-fields, the cycle in which it has ended, an
+-- instrument of the note's statements, and what the note has come to.
 pub record Plays (c : Composition) (stage : Stage) (flags : List Bool) (v : VoiceData) (a : Active) : Type 0 where
   pub i : Numbered
   pub foot : Footprint
   pub of : IsInstrumentOf stage i foot a.body
   pub number : a.number ≡ pos v.number
+  pub until : v.until ≡ a.ends
   pub fields : (k : ℕ) → field_of a.fields k ≡ argument v.fields (k - 1)
   pub on : IsOn (sheet_at i v.age foot stage flags v.fields) v
   pub valid : IsVoice v
-  pub note : IsVoiceOf (sheet_at i v.age foot stage flags v.fields) of.plan of.kinds (sounding_on (sheet_at i v.age foot stage flags v.fields) v) a.note
+  pub note : IsVoiceOf (sheet_at i v.age foot stage flags v.fields) of.plan of.kinds
+      (sounding_on (sheet_at i v.age foot stage flags v.fields) v) a.note
+
+-- These voices are the others, or more of them: as many are the same ones.
+pub record Grew (voices more : List VoiceData) : Type 0 where
+  pub many : length voices ≤ length more
+  pub same : length more ≡ length voices → more ≡ voices
 
 -- a count that is kept in 64 bits, and stays at their greatest number
 abbrev pub kept_count : ℕ → ℕ
@@ -41,7 +48,8 @@ kept_count n = min n (2 ^ 64 - 1)
 
 -- Cells and voices stand at a moment: cells hold what notes share, each voice stands for the note at its place, in
 -- the order of performing; so many are no more than may play.
-pub record VoicesStand (c : Composition) (stage : Stage) (flags : List Bool) (voices : List VoiceData) (cells : Cells) (m : Moment) : Type 0 where
+pub record VoicesStand (c : Composition) (stage : Stage) (flags : List Bool) (voices : List VoiceData) (cells : Cells)
+    (m : Moment) : Type 0 where
   pub stage_is : IsStageOf c stage
   pub made : flags ≡ flags_of c.tables m.made
   pub hold : Hold stage.layout.now (cell cells) m.shared
@@ -50,12 +58,13 @@ pub record VoicesStand (c : Composition) (stage : Stage) (flags : List Bool) (vo
   pub in_order : IsNonDecreasingBy (λ (v : VoiceData). v.number) voices
   pub few : length voices ≤ most_notes
 
--- All that is kept stands at a moment: the voices and cells, over the setup's layout; when each note ends, which
--- notes wait, and the counts of starts.
-pub record Stands (c : Composition) (life : Life) (voices : List VoiceData) (cells : Cells) (m : Moment) : Type 0 where
+-- All that is kept stands at a moment: the voices and cells, over the setup's layout; which notes wait, and the counts
+-- of starts.
+pub record StandsFor (c : Composition) (life : Life) (voices : List VoiceData) (cells : Cells) (m : Moment) : Type
+    0 where
   pub stand : VoicesStand c life.stage life.made.items voices cells m
   pub layout : life.stage.layout.now ≡ life.setup.now.layout
-  pub ends : life.ends.items ≡ map (λ (a : Active). a.ends) m.active
+  pub zones : life.stage.zones.now ≡ life.setup.now.zones
   pub due : (cycle : ℕ) → (waiting life.pending).due cycle ≡ m.waiting.due cycle
   pub kept : (waiting life.pending).kept ≡ m.waiting.kept
   pub started : life.started ≡ kept_count m.started

@@ -1,5 +1,4 @@
 -- What private clauses alone cite.
 pub mod Doing
 pub mod Marks
-pub mod Places
 pub mod Starting

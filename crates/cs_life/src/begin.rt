@@ -1,21 +1,21 @@
 // The notes of a cycle begin.
-ghost use Rattle.std.specs.Prelude.{◌≡◌, ◌<◌, ◌==◌, ℕ, filter, length, OnOk};
+ghost use Rattle.std.specs.Prelude.{◌≡◌, ◌<◌, ◌==◌, ℕ, filter, length, true, IfOk, OnOk};
 ghost use Rattle.std.specs.List.{All};
 ghost use Rattle.std.specs.List.Sorted.{IsNonDecreasingBy};
 ghost use Rattle.cs_cells.specs.Areas.{word_count};
 ghost use Rattle.cs_piece_meaning.specs.Course.{begins, events_in};
 ghost use Rattle.cs_piece_meaning.specs.Moments.{Moment};
 ghost use Rattle.cs_piece_meaning.specs.Starts.{act_done, all_done, all_waited};
-ghost use Rattle.cs_life.specs.Standing.{Stands};
+ghost use Rattle.cs_life.specs.Standing.{Grew, StandsFor};
 ghost use Rattle.cs_life.specs.inner.Doing.{CanBeDone, CanGoOn, HasGoneOn};
 ghost use Rattle.cs_piece.specs.Setups.{composition_of};
 ghost use Rattle.cs_tempo.specs.declared.plot.Event.{Event};
 
 use crate::leaving::Leaving;
 use crate::life::Life;
-use crate::tables::GivenTable;
 use cs_base::{MOST_ASKS, Nums, OutOfMemory};
 use cs_cells::Bank;
+use cs_piece::GivenTable;
 use cs_sched::Due;
 use cs_tempo::{Event, EventAct};
 use cs_voice::Voice;
@@ -24,29 +24,34 @@ use std::alloc::Global;
 impl<'t> Life<'t> {
     /// The notes of a cycle begin: those whose end it is leave, then its events are done, then the notes that wait
     /// for it start. `cycle` is that of the next cycle; after the last, its events alone are done. `voices` are those
-    /// that play, in the order of performing. After want of memory nothing is promised of the voices.
+    /// that play, in the order of performing. Returns whether the same notes play as before. After want of memory
+    /// nothing is promised of the voices.
     pub fn begin_cycle<B: Bank>(
         &mut self,
         alloc: Global,
         cycle: u32,
         voices: &mut Vec<Voice<'t>>,
         bank: &mut B,
-    ) -> Result<(), OutOfMemory>
-        requires stands { (m : Moment) × Stands (composition_of self.old.setup.now) self.old voices.old.items
+    ) -> Result<bool, OutOfMemory>
+        requires stands { (m : Moment) × StandsFor (composition_of self.old.setup.now) self.old voices.old.items
             (B.cells bank.old) m }
         requires get { (a : ℕ) → a < word_count self.old.setup.now.layout → B.can_get (B.rest bank.old) a }
         requires set { (a : ℕ) → a < word_count self.old.setup.now.layout → B.can_set (B.rest bank.old) a }
-        ensures begun { OnOk result ((m : Moment) → Stands
+        ensures begun { OnOk result ((m : Moment) → StandsFor
             (composition_of self.old.setup.now) self.old voices.old.items (B.cells bank.old) m
-            → Stands (composition_of self.old.setup.now) self.new voices.new.items (B.cells bank.new)
+            → StandsFor (composition_of self.old.setup.now) self.new voices.new.items (B.cells bank.new)
             (begins (composition_of self.old.setup.now) cycle m)) }
+        ensures same { IfOk result (λ stay. stay ≡ true → voices.new.items ≡ voices.old.items) }
         ensures setup { self.new.setup.now ≡ self.old.setup.now }
         ensures long { length (B.cells bank.new) ≡ length (B.cells bank.old) }
         ensures rest { B.rest bank.new ≡ B.rest bank.old }
     {
+        let playing = voices.len();
         self.leave(voices, Leaving::Over { cycle });
+        let stayed = voices.len();
         self.do_events(alloc, cycle, voices, bank)?;
-        self.start_waiting(alloc, cycle, voices, bank)
+        self.start_waiting(alloc, cycle, voices, bank)?;
+        Ok(all_stay(playing, stayed, voices.len()))
     }
 
     /// The events of a cycle are done, one after another.
@@ -62,6 +67,7 @@ impl<'t> Life<'t> {
         ensures done { OnOk result (HasGoneOn (all_done (composition_of self.old.setup.now)
             (events_in (composition_of self.old.setup.now) cycle))
             self.old voices.old.items (B.cells bank.old) self.new voices.new.items (B.cells bank.new)) }
+        ensures grown { OnOk result (Grew voices.old.items voices.new.items) }
         ensures setup { self.new.setup.now ≡ self.old.setup.now }
         ensures long { length (B.cells bank.new) ≡ length (B.cells bank.old) }
         ensures rest { B.rest bank.new ≡ B.rest bank.old }
@@ -85,6 +91,7 @@ impl<'t> Life<'t> {
         requires events { All (λ (e : Event). CanBeDone (composition_of self.old.setup.now) e.act) events.now }
         ensures done { OnOk result (HasGoneOn (all_done (composition_of self.old.setup.now) events.now)
             self.old voices.old.items (B.cells bank.old) self.new voices.new.items (B.cells bank.new)) }
+        ensures grown { OnOk result (Grew voices.old.items voices.new.items) }
         ensures setup { self.new.setup.now ≡ self.old.setup.now }
         ensures long { length (B.cells bank.new) ≡ length (B.cells bank.old) }
         ensures rest { B.rest bank.new ≡ B.rest bank.old }
@@ -109,6 +116,7 @@ impl<'t> Life<'t> {
         ensures done { OnOk result (HasGoneOn (act_done
             (composition_of self.old.setup.now) event.now.cycle event.now.act)
             self.old voices.old.items (B.cells bank.old) self.new voices.new.items (B.cells bank.new)) }
+        ensures grown { OnOk result (Grew voices.old.items voices.new.items) }
         ensures setup { self.new.setup.now ≡ self.old.setup.now }
         ensures long { length (B.cells bank.new) ≡ length (B.cells bank.old) }
         ensures rest { B.rest bank.new ≡ B.rest bank.old }
@@ -157,6 +165,7 @@ impl<'t> Life<'t> {
             (B.can_set (B.rest bank.old)) self.old voices.old.items (B.cells bank.old) }
         ensures started { OnOk result (HasGoneOn (all_waited (composition_of self.old.setup.now) cycle)
             self.old voices.old.items (B.cells bank.old) self.new voices.new.items (B.cells bank.new)) }
+        ensures grown { OnOk result (Grew voices.old.items voices.new.items) }
         ensures setup { self.new.setup.now ≡ self.old.setup.now }
         ensures long { length (B.cells bank.new) ≡ length (B.cells bank.old) }
         ensures rest { B.rest bank.new ≡ B.rest bank.old }
@@ -169,6 +178,13 @@ impl<'t> Life<'t> {
         }
         Ok(())
     }
+}
+
+/// Whether as many have stayed as played, and as many play now.
+fn all_stay(playing: usize, stayed: usize, now: usize) -> bool
+    ensures { result ≡ true → (stayed ≡ playing) × (now ≡ stayed) }
+{
+    stayed == playing && now == stayed
 }
 
 /// The events of a cycle, among events in the order of their cycles.

@@ -7,7 +7,7 @@ ghost use Rattle.cs_cells.specs.Serial.{serial_cells, serial_jobs};
 ghost use Rattle.cs_piece_meaning.specs.Course.{begins, moment_at, performed};
 ghost use Rattle.cs_piece_meaning.specs.Heard.{mix_in};
 ghost use Rattle.cs_piece_meaning.specs.Moments.{Composition, Moment};
-ghost use Rattle.cs_life.specs.Standing.{Stands};
+ghost use Rattle.cs_life.specs.Standing.{StandsFor};
 ghost use Rattle.cs_life.specs.declared.life.Life.{Life};
 ghost use Rattle.cs_voice.specs.Mixing.{mixed};
 ghost use Rattle.cs_cells.specs.Areas.{IsFootprint};
@@ -19,17 +19,17 @@ use cs_voice::voices_perform;
 /// The serial run of the voices of a moment, over its cells, is the performance of the cycle.
 pub fn serial_runs_perform()
     ensures performed { (c : Composition) (life : Life) (voices : List VoiceData) (cells : Cells) (m : Moment)
-        → Stands c life voices cells m
-        → Stands c life (serial_jobs voice_job voices cells) (serial_cells voice_job voices cells) (performed c m) }
-    // The voices of a moment can be run together: they stand over one layout, and each has a footprint in it.
+        → StandsFor c life voices cells m
+        → StandsFor c life (serial_jobs voice_job voices cells) (serial_cells voice_job voices cells) (performed c m) }
+    // The voices of a moment can be run together: they have the same zones, and each has a footprint over them.
     ensures layouts { (c : Composition) (life : Life) (voices : List VoiceData) (cells : Cells) (m : Moment)
-        → Stands c life voices cells m
-        → All (λ (v : VoiceData). v.areas ≡ life.stage.layout.now) voices }
+        → StandsFor c life voices cells m
+        → All (λ (v : VoiceData). v.zones ≡ life.stage.zones.now) voices }
     ensures footprints { (c : Composition) (life : Life) (voices : List VoiceData) (cells : Cells) (m : Moment)
-        → Stands c life voices cells m
-        → All (λ (v : VoiceData). IsFootprint (length life.stage.layout.now) v.foot) voices }
+        → StandsFor c life voices cells m
+        → All (λ (v : VoiceData). IsFootprint (length life.stage.zones.now) v.foot) voices }
     ensures few { (c : Composition) (life : Life) (voices : List VoiceData) (cells : Cells) (m : Moment)
-        → Stands c life voices cells m
+        → StandsFor c life voices cells m
         → length voices ≤ most_notes }
 {
     voices_perform();
@@ -38,13 +38,13 @@ pub fn serial_runs_perform()
 /// What the voices of a cycle give together is what is heard of it.
 pub fn voices_are_heard()
     ensures heard { (c : Composition) (life : Life) (voices : List VoiceData) (cells : Cells) (n : ℕ)
-        → Stands c life voices cells (performed c (begins c n (moment_at c n)))
+        → StandsFor c life voices cells (performed c (begins c n (moment_at c n)))
         → mixed c.head.ksmps c.head.nchnls voices ≡ mix_in c n }
     // What the sum of voices asks for, and how many notes they are.
     ensures frames { (c : Composition) (life : Life) (voices : List VoiceData) (cells : Cells) (m : Moment)
-        → Stands c life voices cells m
+        → StandsFor c life voices cells m
         → All (λ (v : VoiceData). v.outs.ksmps ≡ c.head.ksmps) voices }
     ensures notes { (c : Composition) (life : Life) (voices : List VoiceData) (cells : Cells) (m : Moment)
-        → Stands c life voices cells m
+        → StandsFor c life voices cells m
         → length voices ≡ length m.active }
 {}

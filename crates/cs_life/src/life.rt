@@ -1,62 +1,55 @@
 // What is kept of a performance beside its cells and the voices of its notes.
-ghost use Rattle.std.specs.Prelude.{◌≡◌, ◌<◌, ℕ, [], false, length, map, pos, replicate, IfOk, OnOk};
+ghost use Rattle.std.specs.Prelude.{◌≡◌, ◌<◌, ℕ, [], false, length, pos, replicate, IfOk, OnOk};
 ghost use Rattle.cs_cells.specs.Areas.{word_count};
 ghost use Rattle.cs_cells.specs.Cells.{cell};
 ghost use Rattle.cs_piece_meaning.specs.Course.{opening, outside_done};
-ghost use Rattle.cs_life.specs.Standing.{Stands, flags_of};
+ghost use Rattle.cs_life.specs.Standing.{StandsFor, flags_of};
 ghost use Rattle.cs_piece.specs.VoicesOfNotes.{Hold};
 ghost use Rattle.cs_piece.specs.Ready.{IsStageOf};
 ghost use Rattle.cs_piece.specs.Setups.{composition_of};
-ghost use Rattle.cs_voice.specs.Memory.{table_of};
-ghost use Rattle.cs_voice.specs.VoiceData.{made};
 
 use cs_base::OutOfMemory;
 use cs_cells::Bank;
 use cs_piece::{Playable, Setup};
 use cs_sched::Pending;
-use cs_voice::{NewNote, Stage, TableAt, start};
+use cs_voice::{NewNote, Stage, start};
 use std::alloc::Global;
 
-/// What is kept of a performance. `Stands` (specs/Standing) says at which moments it stands.
+/// What is kept of a performance. `StandsFor` (specs/Standing) says at which moments it stands.
 #[derive(Drop)]
 pub struct Life<'t> {
     pub(crate) setup: &'t Setup,
     pub(crate) stage: Stage<'t>,
     /// Of each table, whether it has been made.
     pub(crate) made: Vec<bool>,
-    /// Of each note that plays, the cycle in which it has ended.
-    pub(crate) ends: Vec<u64>,
     pub(crate) pending: Pending,
     pub(crate) started: u64,
     pub(crate) not_started: u64,
 }
 
 impl<'t> Life<'t> {
-    /// The opening of a performance of `setup`, with its tables: the code outside instruments runs once over the
-    /// cells of `bank`, all of which are 0.
+    /// The opening of a performance of `setup`: the code outside instruments runs once over the cells of `bank`, all
+    /// of which are 0.
     pub fn new<B: Bank>(
         alloc: Global,
         setup: &'t Setup,
-        tables: &'t [TableAt<'t>],
         bank: &mut B,
     ) -> Result<Life<'t>, OutOfMemory>
-        requires tables { map table_of tables.now ≡ map made (composition_of setup.now).tables }
         requires cells { B.cells bank.old ≡ replicate (word_count setup.now.layout) (pos 0) }
         requires get { (a : ℕ) → a < word_count setup.now.layout → B.can_get (B.rest bank.old) a }
         requires set { (a : ℕ) → a < word_count setup.now.layout → B.can_set (B.rest bank.old) a }
-        ensures stands { IfOk result (λ life. Stands (composition_of setup.now) life [] (B.cells bank.new)
+        ensures stands { IfOk result (λ life. StandsFor (composition_of setup.now) life [] (B.cells bank.new)
             (opening (composition_of setup.now))) }
         ensures setup { IfOk result (λ life. life.setup.now ≡ setup.now) }
         ensures rest { B.rest bank.new ≡ B.rest bank.old }
     {
-        let stage = setup.stage(tables);
-        let made = none_made(alloc, tables.len())?;
+        let stage = setup.stage();
+        let made = none_made(alloc, stage.tables.len())?;
         begin_outside(alloc, setup, stage, &made, bank)?;
         Ok(Life {
             setup,
             stage,
             made,
-            ends: Vec::new(alloc),
             pending: Pending::new(alloc),
             started: 0,
             not_started: 0,
@@ -96,6 +89,7 @@ fn begin_outside<'t, B: Bank>(
 ) -> Result<(), OutOfMemory>
     requires stage { IsStageOf (composition_of setup.now) stage }
     requires layout { stage.layout.now ≡ setup.now.layout }
+    requires zones { stage.zones.now ≡ setup.now.zones }
     requires made { made.now ≡ flags_of (composition_of setup.now).tables [] }
     requires cells { B.cells bank.old ≡ replicate (word_count setup.now.layout) (pos 0) }
     requires get { (a : ℕ) → a < word_count setup.now.layout → B.can_get (B.rest bank.old) a }
@@ -114,6 +108,7 @@ fn begin_outside<'t, B: Bank>(
         stage,
         made,
         age: 0,
+        until: 0,
     };
     start(alloc, &note, fields, &mut asks, bank)?;
     Ok(())

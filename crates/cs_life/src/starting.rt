@@ -1,12 +1,14 @@
 // A note starts: it is initialised, what it asks for waits, and it takes its place among those that play.
-ghost use Rattle.std.specs.Prelude.{◌≡◌, ◌+◌, ◌<◌, ◌==◌, ◌||◌, ℕ, ℤ, pos, true, List, length, nat_lt, slice_index_or, OnOk};
+ghost use Rattle.std.specs.Prelude.{◌≡◌, ◌+◌, ◌<◌, ◌==◌, ◌||◌, ℕ, ℤ, pos, true, List, length, nat_lt, slice_index_or};
+ghost use Rattle.std.specs.Prelude.{OnOk};
 ghost use Rattle.std.specs.List.Sorted.{IsNonDecreasingBy};
 ghost use Rattle.cs_base.specs.Limits.{most_notes};
 ghost use Rattle.cs_cells.specs.Areas.{word_count};
 ghost use Rattle.cs_cells.specs.Cells.{Cells};
 ghost use Rattle.cs_piece_meaning.specs.Moments.{Composition, Moment, clock_of};
-ghost use Rattle.cs_piece_meaning.specs.Starts.{Start, asked, begun, entered, has_room, in_vain, initialised, start_in, start_of};
-ghost use Rattle.cs_life.specs.Standing.{Stands};
+ghost use Rattle.cs_piece_meaning.specs.Starts.{Start, asked, begun, entered, has_room, in_vain, initialised, start_in};
+ghost use Rattle.cs_piece_meaning.specs.Starts.{start_of};
+ghost use Rattle.cs_life.specs.Standing.{Grew, StandsFor};
 ghost use Rattle.cs_life.specs.inner.Starting.{IsBegun, Joined, Wait, all_wanted, count_after};
 ghost use Rattle.cs_meaning.specs.Core.{Block};
 ghost use Rattle.cs_meaning.specs.Notes.{Note};
@@ -36,14 +38,15 @@ impl<'t> Life<'t> {
         voices: &mut Vec<Voice<'t>>,
         bank: &mut B,
     ) -> Result<(), OutOfMemory>
-        requires stands { (m : Moment) × Stands (composition_of self.old.setup.now) self.old voices.old.items
+        requires stands { (m : Moment) × StandsFor (composition_of self.old.setup.now) self.old voices.old.items
             (B.cells bank.old) m }
         requires get { (a : ℕ) → a < word_count self.old.setup.now.layout → B.can_get (B.rest bank.old) a }
         requires set { (a : ℕ) → a < word_count self.old.setup.now.layout → B.can_set (B.rest bank.old) a }
         ensures started { OnOk result ((m : Moment)
-            → Stands (composition_of self.old.setup.now) self.old voices.old.items (B.cells bank.old) m
-            → Stands (composition_of self.old.setup.now) self.new voices.new.items (B.cells bank.new)
+            → StandsFor (composition_of self.old.setup.now) self.old voices.old.items (B.cells bank.old) m
+            → StandsFor (composition_of self.old.setup.now) self.new voices.new.items (B.cells bank.new)
             (start_in (composition_of self.old.setup.now) note.cycle (start_of note) m)) }
+        ensures grown { OnOk result (Grew voices.old.items voices.new.items) }
         ensures setup { self.new.setup.now ≡ self.old.setup.now }
         ensures long { length (B.cells bank.new) ≡ length (B.cells bank.old) }
         ensures rest { B.rest bank.new ≡ B.rest bank.old }
@@ -67,8 +70,8 @@ impl<'t> Life<'t> {
     /// One start more that started nothing.
     fn start_nothing(&mut self)
         ensures counted { (c : Composition) (voices : List VoiceData) (cells : Cells) (m : Moment)
-            → Stands c self.old voices cells m
-            → Stands c self.new voices cells (in_vain m) }
+            → StandsFor c self.old voices cells m
+            → StandsFor c self.new voices cells (in_vain m) }
         ensures setup { self.new.setup.now ≡ self.old.setup.now }
     {
         self.not_started = self.not_started.saturating_add(1);
@@ -85,7 +88,7 @@ impl<'t> Life<'t> {
     ) -> Result<(), OutOfMemory>
         requires instrument { (body : Block)
             × IsInstrumentOf self.old.stage playable.instrument.now playable.foot.now body }
-        requires stands { (m : Moment) × Stands (composition_of self.old.setup.now) self.old voices.old.items
+        requires stands { (m : Moment) × StandsFor (composition_of self.old.setup.now) self.old voices.old.items
             (B.cells bank.old) m }
         requires get { (a : ℕ) → a < word_count self.old.setup.now.layout → B.can_get (B.rest bank.old) a }
         requires set { (a : ℕ) → a < word_count self.old.setup.now.layout → B.can_set (B.rest bank.old) a }
@@ -98,9 +101,10 @@ impl<'t> Life<'t> {
             OnOk result ((body : Block) (m : Moment)
             → IsInstrumentOf self.old.stage playable.entry.instrument.now playable.entry.foot.now body
             → has_room s m ≡ true
-            → Stands c self.old voices.old.items (B.cells bank.old) m
-            → Stands c self.new voices.new.items (B.cells bank.new)
+            → StandsFor c self.old voices.old.items (B.cells bank.old) m
+            → StandsFor c self.new voices.new.items (B.cells bank.new)
             (initialised c note.cycle s body (begun c m.made s body m) m)) }
+        ensures grown { OnOk result (Grew voices.old.items voices.new.items) }
         ensures setup { self.new.setup.now ≡ self.old.setup.now }
         ensures long { length (B.cells bank.new) ≡ length (B.cells bank.old) }
         ensures rest { B.rest bank.new ≡ B.rest bank.old }
@@ -113,6 +117,7 @@ impl<'t> Life<'t> {
         } = note;
         let fields = fields.into_vec();
         let time = time_of(&fields);
+        let until = end_of(cycle, cycles);
         let mut asks = Vec::new(alloc);
         let new_note = NewNote {
             instrument: playable.instrument,
@@ -120,6 +125,7 @@ impl<'t> Life<'t> {
             stage: self.stage,
             made: &self.made,
             age: self.started,
+            until,
         };
         let begun = start(alloc, &new_note, fields, &mut asks, bank)?;
         let at = Asking {
@@ -129,7 +135,7 @@ impl<'t> Life<'t> {
             total: self.setup.plot().cycles,
         };
         ask_all(alloc, asks, &at, &mut self.pending, &mut self.not_started)?;
-        self.enter(begun, cycle, cycles, voices)
+        self.enter(begun, cycles, voices)
     }
 
     /// A note that was initialised takes its place, where it lasts any cycle, or has started nothing, where it was
@@ -137,17 +143,16 @@ impl<'t> Life<'t> {
     fn enter(
         &mut self,
         begun: Started<'t>,
-        now: u32,
         cycles: u32,
         voices: &mut Vec<Voice<'t>>,
     ) -> Result<(), OutOfMemory>
-        requires { length voices.old.items ≡ length self.old.ends.items }
-        ensures entered { OnOk result ((c : Composition) (cells : Cells) (s : Start) (body : Block) (t : Note Plain)
-            (m : Moment)
+        ensures entered { OnOk result ((c : Composition) (cells : Cells) (now : ℕ) (s : Start) (body : Block)
+            (t : Note Plain) (m : Moment)
             → IsBegun c self.old.stage self.old.made.items now s body t begun.entry → s.cycles ≡ cycles
             → has_room s m ≡ true
-            → Stands c self.old voices.old.items cells m
-            → Stands c self.new voices.new.items cells (entered now s body t t.world.cause m)) }
+            → StandsFor c self.old voices.old.items cells m
+            → StandsFor c self.new voices.new.items cells (entered now s body t t.world.cause m)) }
+        ensures grown { OnOk result (Grew voices.old.items voices.new.items) }
         ensures setup { self.new.setup.now ≡ self.old.setup.now }
     {
         let Started::Live(voice) = begun else {
@@ -156,7 +161,7 @@ impl<'t> Life<'t> {
         };
         // What is so of each voice is so of this one.
         let _ = voice.footprint();
-        keep(voice, now, cycles, voices, &mut self.ends)?;
+        keep(voice, cycles, voices)?;
         self.started = self.started.saturating_add(1);
         Ok(())
     }
@@ -177,6 +182,13 @@ fn time_of(fields: &[Num]) -> Num
         Some(time) => *time,
         None => Num::exact(0),
     }
+}
+
+/// The cycle in which a note has ended that begins in `cycle` and lasts `cycles` cycles.
+fn end_of(cycle: u32, cycles: u32) -> u64
+    ensures { result ≡ cycle + cycles }
+{
+    u64::from(cycle) + u64::from(cycles)
 }
 
 /// The notes that a note asks for wait; each that isn't kept counts as a start that started nothing.
@@ -224,39 +236,26 @@ fn count_after(answer: Added, count: u64) -> u64
 }
 
 /// A voice that lasts any cycle is kept among those that play.
-fn keep<'t>(
-    voice: Voice<'t>,
-    now: u32,
-    cycles: u32,
-    voices: &mut Vec<Voice<'t>>,
-    ends: &mut Vec<u64>,
-) -> Result<(), OutOfMemory>
-    requires { length voices.old.items ≡ length ends.old.items }
-    ensures brief { cycles ≡ 0 → (voices.new.items ≡ voices.old.items) × (ends.new.items ≡ ends.old.items) }
+fn keep<'t>(voice: Voice<'t>, cycles: u32, voices: &mut Vec<Voice<'t>>) -> Result<(), OutOfMemory>
+    ensures grown { OnOk result (Grew voices.old.items voices.new.items) }
+    ensures brief { cycles ≡ 0 → voices.new.items ≡ voices.old.items }
     ensures lasting { OnOk result (0 < cycles → IsNonDecreasingBy (λ (v : VoiceData). v.number) voices.old.items
-        → Joined voice.entry (now + cycles) voices.old.items ends.old.items voices.new.items ends.new.items) }
+        → Joined voice.entry voices.old.items voices.new.items) }
 {
     if cycles == 0 {
         return Ok(());
     }
-    join(voice, u64::from(now) + u64::from(cycles), voices, ends)
+    join(voice, voices)
 }
 
-/// A voice takes its place among those that play, behind all of its number and lower ones; so does the cycle in which
-/// it has ended.
-fn join<'t>(
-    voice: Voice<'t>,
-    ending: u64,
-    voices: &mut Vec<Voice<'t>>,
-    ends: &mut Vec<u64>,
-) -> Result<(), OutOfMemory>
-    requires { length voices.old.items ≡ length ends.old.items }
-    ensures { OnOk result (IsNonDecreasingBy (λ (v : VoiceData). v.number) voices.old.items
-        → Joined voice.entry ending voices.old.items ends.old.items voices.new.items ends.new.items) }
+/// A voice takes its place among those that play, behind all of its number and lower ones.
+fn join<'t>(voice: Voice<'t>, voices: &mut Vec<Voice<'t>>) -> Result<(), OutOfMemory>
+    ensures joined { OnOk result (IsNonDecreasingBy (λ (v : VoiceData). v.number) voices.old.items
+        → Joined voice.entry voices.old.items voices.new.items) }
+    ensures more { OnOk result (length voices.new.items ≡ length voices.old.items + 1) }
 {
     let number = voice.number();
     let place = voices.partition_point(|other| other.number() <= number);
     voices.insert(place, voice)?;
-    ends.insert(place, ending)?;
     Ok(())
 }

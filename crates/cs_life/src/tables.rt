@@ -1,5 +1,5 @@
 // A table of the score is made while notes play.
-ghost use Rattle.std.specs.Prelude.{◌≡◌, ◌<◌, ℕ, List, length, pos, true, IfOk, OnOk, None, Some};
+ghost use Rattle.std.specs.Prelude.{◌≡◌, ◌<◌, ℕ, List, length, true, OnOk, Some};
 ghost use Rattle.cs_machine.specs.Access.{CanTouch, row_wave};
 ghost use Rattle.cs_base.specs.declared.resource.Res.TheVariants as res;
 ghost use Rattle.cs_cells.specs.Areas.{word_count};
@@ -7,9 +7,8 @@ ghost use Rattle.cs_cells.specs.Cells.{cell};
 ghost use Rattle.cs_cells.specs.declared.footprint.Area.{Area};
 ghost use Rattle.cs_piece_meaning.specs.Moments.{Moment};
 ghost use Rattle.cs_piece_meaning.specs.Starts.{made_table};
-ghost use Rattle.cs_gen.specs.Faults.{table_fault};
 ghost use Rattle.cs_gen.specs.Points.{points_of};
-ghost use Rattle.cs_life.specs.Standing.{Stands};
+ghost use Rattle.cs_life.specs.Standing.{StandsFor};
 ghost use Rattle.cs_life.specs.inner.Doing.{CanBeMade};
 ghost use Rattle.cs_life.specs.inner.Marks.{PointsWritten, has_cells, marked};
 ghost use Rattle.cs_piece.specs.Setups.{composition_of};
@@ -17,21 +16,12 @@ ghost use Rattle.cs_voice_meaning.specs.Placing.{area_of, with_wave};
 ghost use Rattle.cs_voice.specs.VoiceData.{VoiceData};
 
 use crate::life::Life;
-use cs_base::{Num, Or, OutOfMemory, Res};
+use cs_base::{Num, OutOfMemory, Res};
 use cs_cells::{Bank, Layout};
-use cs_gen::{Points, make_table};
 use cs_machine::{area_of, write_row};
-use cs_voice::TableAt;
+use cs_piece::GivenTable;
+use cs_voice::PieceTable;
 use std::alloc::Global;
-
-/// A table as an event of the score gives it.
-#[derive(Clone, Copy)]
-pub(crate) struct GivenTable<'a> {
-    pub number: u32,
-    pub size: i64,
-    pub gen_: i64,
-    pub args: &'a [Num],
-}
 
 impl<'t> Life<'t> {
     /// Makes a table: each of its number has been made from now on, and where the points of the first are cells, they
@@ -43,13 +33,13 @@ impl<'t> Life<'t> {
         bank: &mut B,
     ) -> Result<(), OutOfMemory>
         requires stands { (voices : List VoiceData) × (m : Moment)
-            × Stands (composition_of self.old.setup.now) self.old voices (B.cells bank.old) m }
+            × StandsFor (composition_of self.old.setup.now) self.old voices (B.cells bank.old) m }
         requires set { (a : ℕ) → a < word_count self.old.setup.now.layout → B.can_set (B.rest bank.old) a }
         requires table { CanBeMade (composition_of self.old.setup.now) table.number table.size table.gen_
             table.args.now }
         ensures made { OnOk result ((voices : List VoiceData) (m : Moment)
-            → Stands (composition_of self.old.setup.now) self.old voices (B.cells bank.old) m
-            → Stands (composition_of self.old.setup.now) self.new voices (B.cells bank.new)
+            → StandsFor (composition_of self.old.setup.now) self.old voices (B.cells bank.old) m
+            → StandsFor (composition_of self.old.setup.now) self.new voices (B.cells bank.new)
             (made_table (composition_of self.old.setup.now) table.entry.number
             (points_of table.entry.size table.entry.gen_ table.entry.args.now) m)) }
         ensures setup { self.new.setup.now ≡ self.old.setup.now }
@@ -59,7 +49,7 @@ impl<'t> Life<'t> {
         let number = table.number as usize;
         mark(self.stage.tables, number, &mut self.made);
         if has_cells(self.stage.tables, number) {
-            let points = points_of(alloc, table)?;
+            let points = table.points(alloc)?;
             put(self.stage.layout, number, points.as_slice(), bank);
         }
         Ok(())
@@ -67,7 +57,7 @@ impl<'t> Life<'t> {
 }
 
 /// Each table of a number has been made.
-fn mark(tables: &[TableAt<'_>], number: usize, flags: &mut Vec<bool>)
+fn mark(tables: &[PieceTable], number: usize, flags: &mut Vec<bool>)
     requires { length flags.old.items ≡ length tables.now }
     ensures { flags.new.items ≡ marked number tables.now flags.old.items }
 {
@@ -79,29 +69,16 @@ fn mark(tables: &[TableAt<'_>], number: usize, flags: &mut Vec<bool>)
 }
 
 /// Whether there is a table of a number, and the points of the first are cells.
-fn has_cells(tables: &[TableAt<'_>], number: usize) -> bool
+fn has_cells(tables: &[PieceTable], number: usize) -> bool
     ensures { result ≡ has_cells tables.now number }
 {
     for place in 0..tables.len() {
-        let table = tables[place];
+        let table = &tables[place];
         if table.number == number {
             return table.points.is_none();
         }
     }
     false
-}
-
-/// The points of a table that has no fault.
-fn points_of(alloc: Global, table: GivenTable<'_>) -> Result<Points, OutOfMemory>
-    requires { table_fault table.size table.gen_ table.args.now ≡ None }
-    ensures points { IfOk result (λ p. p ≡ points_of table.entry.size table.entry.gen_ table.entry.args.now) }
-    ensures long { IfOk result (λ p. pos (length p) ≡ table.entry.size) }
-{
-    match make_table(alloc, table.size, table.gen_, table.args) {
-        Ok(points) => Ok(points),
-        Err(Or::Fault(_)) => unreachable!(),
-        Err(Or::OutOfMemory) => Err(OutOfMemory),
-    }
 }
 
 /// The points of a table are written into its area.

@@ -15,7 +15,7 @@ use Rattle.cs_piece_meaning.specs.Heard.{frames_before, mix_in}
 use Rattle.cs_piece_meaning.specs.Moments.{Active, Composition, Moment}
 use Rattle.cs_ir.specs.Waves.{Wave}
 use Rattle.cs_life.proofs.Heard.{heard}
-use Rattle.cs_life.specs.Standing.{Stands}
+use Rattle.cs_life.specs.Standing.{StandsFor}
 use Rattle.cs_life.specs.declared.life.Life.{Life}
 use Rattle.cs_voice.specs.VoiceData.{VoiceData}
 use Rattle.cs_perform.specs.Counted.{AreHeardIn, CountsOn, Receipts}
@@ -29,7 +29,7 @@ moment_after c n = ap (moment_at c) (let e : suc n ≡ n + 1 = omega arith in e)
 
 -- the voices of a cycle are heard in it
 pub heard_in : (c : Composition) (n : ℕ) (life : Life) (voices : List VoiceData) (cells : Cells)
-    → Stands c life voices cells (performed c (begins c n (moment_at c n))) → AreHeardIn c n voices
+    → StandsFor c life voices cells (performed c (begins c n (moment_at c n))) → AreHeardIn c n voices
 heard_in c n life voices cells st = record {
   stage = life.stage;
   flags = life.made.items;
@@ -40,7 +40,7 @@ heard_in c n life voices cells st = record {
 
 pub counts_cycle : {C : Type 0} (N : C → Receipts → Type 0) (c : Composition) (n : ℕ) (life : Life)
     (voices : List VoiceData) (cells : Cells) (before now : C)
-    → Stands c life voices cells (performed c (begins c n (moment_at c n))) → CountsOn N before now (voices ∷ [])
+    → StandsFor c life voices cells (performed c (begins c n (moment_at c n))) → CountsOn N before now (voices ∷ [])
     → CountsCycle N c n before now
 counts_cycle N c n life voices cells before now st counted = record {
   voices = voices;

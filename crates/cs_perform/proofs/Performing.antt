@@ -7,16 +7,15 @@ use Rattle.cs_base.specs.declared.width.SampleWidth.{SampleWidth}
 use Rattle.cs_piece_meaning.specs.Heard.{frames_before, mix_in}
 use Rattle.cs_piece_meaning.specs.Moments.{Composition}
 use Rattle.cs_edge.specs.Told.{IsFront}
-use Rattle.cs_edge.specs.Moves.{SinkTold, WroteMore}
+use Rattle.cs_edge.specs.Moves.{WroteMore}
 use Rattle.cs_wav.specs.Wav.{samples_of}
 use Rattle.cs_wav.proofs.Files.{samples_of-nil, samples_of-append}
-use Rattle.cs_perform.specs.Counted.{AreHeardIn, CountsOn, Receipts}
+use Rattle.cs_perform.specs.Counted.{AreHeardIn, CountsOn}
 use Rattle.cs_perform.specs.Hearing.{Told, IfWritten}
-use Rattle.cs_perform.specs.Performances.{Lent, Performed}
-use Rattle.cs_perform.specs.declared.order.Output.{Output}
+use Rattle.cs_perform.specs.Performances.{Lent, LentSight, Performed, Request}
 use Rattle.cs_perform.specs.declared.order.PlayFault.{PlayFault}
 use Rattle.cs_perform.specs.declared.order.PlayFault.TheVariants as fault
-use Rattle.cs_perform.specs.inner.Plays.{BreaksCycle, PausedOn, PlayedOn, PlayedInPart, PlaysCycle}
+use Rattle.cs_perform.specs.inner.Plays.{BreaksCycle, PausedOn, PlayedOn, PlayedInPart, PlaysCycle, samples_for}
 use Rattle.cs_perform.specs.inner.Stands.{CountsCycle}
 use Rattle.cs_perform.proofs.Files.{front_all, front_behind, more_written, none_written}
 use Rattle.cs_perform.proofs.Frames.{frames_before_more, numbers_more}
@@ -30,49 +29,51 @@ zip_more R [] (b ∷ ys) x y p r = absurd p
 zip_more R (a ∷ xs) [] x y p r = absurd p
 zip_more R (a ∷ xs) (b ∷ ys) x y p r = (p.0, zip_more R xs ys x y p.1 r)
 
-module _ {T W C : Type 0} (S : T → List ℤ → Type 0) (N : C → Receipts → Type 0) (c : Composition) where
+module _ {T W C : Type 0} (see : LentSight T W C) (c : Composition) where
   -- no cycle yet
-  pub performed_none : (a b : Lent T W C) → b.taps ≡ a.taps → b.tally ≡ a.tally → Performed S N c 0 a b
+  pub performed_none : (a b : Lent T W C) → b.taps ≡ a.taps → b.tally ≡ a.tally → Performed see c 0 a b
   performed_none a b e f = record {
-    told = subst (λ (l : List T). Told S a.taps l []) (sym e) (told_nothing S a.taps);
+    told = subst (λ (l : List T). Told see.stands a.taps l []) (sym e) (told_nothing see.stands a.taps);
     receipts = [];
     heard = tt;
-    counted = λ h x. subst (λ (k : C). N k (h ++ [])) (sym f) (subst (N a.tally) (sym (append-nil h)) x);
+    counted = λ h x. subst (λ (k : C). see.counted k (h ++ [])) (sym f)
+        (subst (see.counted a.tally) (sym (append-nil h)) x);
   }
 
   -- from before the sink was begun on, or until after it was ended
-  pub performed_from : (n : ℕ) (a b d : Lent T W C) → b.taps ≡ a.taps → b.tally ≡ a.tally → Performed S N c n b d
-      → Performed S N c n a d
+  pub performed_from : (n : ℕ) (a b d : Lent T W C) → b.taps ≡ a.taps → b.tally ≡ a.tally → Performed see c n b d
+      → Performed see c n a d
   performed_from n a b d e f p = record {
-    told = subst (λ (l : List T). Told S l d.taps (frames_before c n)) e p.told;
+    told = subst (λ (l : List T). Told see.stands l d.taps (frames_before c n)) e p.told;
     receipts = p.receipts;
     heard = p.heard;
-    counted = subst (λ (k : C). CountsOn N k d.tally p.receipts) f p.counted;
+    counted = subst (λ (k : C). CountsOn see.counted k d.tally p.receipts) f p.counted;
   }
 
-  pub performed_until : (n : ℕ) (a b d : Lent T W C) → d.taps ≡ b.taps → d.tally ≡ b.tally → Performed S N c n a b
-      → Performed S N c n a d
+  pub performed_until : (n : ℕ) (a b d : Lent T W C) → d.taps ≡ b.taps → d.tally ≡ b.tally → Performed see c n a b
+      → Performed see c n a d
   performed_until n a b d e f p = record {
-    told = subst (λ (l : List T). Told S a.taps l (frames_before c n)) (sym e) p.told;
+    told = subst (λ (l : List T). Told see.stands a.taps l (frames_before c n)) (sym e) p.told;
     receipts = p.receipts;
     heard = p.heard;
-    counted = subst (λ (k : C). CountsOn N a.tally k p.receipts) (sym f) p.counted;
+    counted = subst (λ (k : C). CountsOn see.counted a.tally k p.receipts) (sym f) p.counted;
   }
 
   -- one cycle more
-  pub performed_more : (n : ℕ) (a b d : Lent T W C) → Performed S N c n a b → Told S b.taps d.taps (mix_in c n)
-      → CountsCycle N c n b.tally d.tally
-      → Performed S N c (n + 1) a d
+  pub performed_more : (n : ℕ) (a b d : Lent T W C) → Performed see c n a b → Told see.stands b.taps d.taps (mix_in c n)
+      → CountsCycle see.counted c n b.tally d.tally
+      → Performed see c (n + 1) a d
   performed_more n a b d p told counts =
       let heard : AllZip (AreHeardIn c) (range_with_len 0 n ++ n ∷ []) (p.receipts ++ counts.voices ∷ []) =
       zip_more (AreHeardIn c) (range_with_len 0 n) p.receipts n counts.voices p.heard counts.heard in
       record {
-        told = subst (Told S a.taps d.taps) (sym (frames_before_more c n))
-            (told_twice S a.taps b.taps d.taps (frames_before c n) (mix_in c n) p.told told);
+        told = subst (Told see.stands a.taps d.taps) (sym (frames_before_more c n))
+            (told_twice see.stands a.taps b.taps d.taps (frames_before c n) (mix_in c n) p.told told);
         receipts = p.receipts ++ counts.voices ∷ [];
-        heard = subst (λ (l : List ℕ). AllZip (AreHeardIn c) l (p.receipts ++ counts.voices ∷ [])) (sym (numbers_more n))
+        heard = subst (λ (l : List ℕ). AllZip (AreHeardIn c) l (p.receipts ++ counts.voices ∷ []))
+            (sym (numbers_more n))
             heard;
-        counted = λ h x. subst (N d.tally) (append_assoc h p.receipts (counts.voices ∷ []))
+        counted = λ h x. subst (see.counted d.tally) (append_assoc h p.receipts (counts.voices ∷ []))
             (counts.counted (h ++ p.receipts) (p.counted h x));
       }
 
@@ -95,95 +96,102 @@ sounds_before c width dbfs n some =
           (samples_more c width dbfs (n - 1)),
     )
 
-module _ {T W C : Type 0} (S : T → List ℤ → Type 0) (tells : W → SinkTold) (N : C → Receipts → Type 0)
-    (c : Composition) (output : Output)
-    (width : SampleWidth) (dbfs : ℤ) where
-  abbrev samples : ℕ → List ℕ
-  samples n = samples_of width dbfs (frames_before c n)
+module _ {T W C : Type 0} (see : LentSight T W C) (request : Request) where
+  abbrev c : Composition
+  c = request.piece
 
-  pub played_none : (a : Lent T W C) → PlayedOn S tells N c output 0 a a (samples 0)
+  abbrev samples : ℕ → List ℕ
+  samples n = samples_for request (frames_before c n)
+
+  pub played_none : (a : Lent T W C) → PlayedOn see request 0 a a (samples 0)
   played_none a =
-      let P : List ℕ → Type 0 = λ bytes. IfWritten tells output a.wav a.wav (λ x y. WroteMore x y bytes) in
+      let P : List ℕ → Type 0 =
+      λ bytes. IfWritten see.wav request.order.output a.wav a.wav (λ x y. WroteMore x y bytes) in
       record {
-        performed = performed_none S N c a a refl refl;
-        written = subst P (sym (samples_of-nil width dbfs)) (none_written tells output a.wav);
+        performed = performed_none see c a a refl refl;
+        written = subst P (sym (samples_of-nil request.order.width request.head.dbfs))
+            (none_written see.wav request.order.output a.wav);
       }
 
-  pub played_more : (n : ℕ) (a b d : Lent T W C) → PlayedOn S tells N c output n a b (samples n)
-      → PlaysCycle S tells N c output n b d (samples_of width dbfs (mix_in c n))
-      → PlayedOn S tells N c output (n + 1) a d (samples (n + 1))
+  pub played_more : (n : ℕ) (a b d : Lent T W C) → PlayedOn see request n a b (samples n)
+      → PlaysCycle see request n b d (samples_for request (mix_in c n))
+      → PlayedOn see request (n + 1) a d (samples (n + 1))
   played_more n a b d p more =
-      let P : List ℕ → Type 0 = λ bytes. IfWritten tells output a.wav d.wav (λ x y. WroteMore x y bytes) in
+      let P : List ℕ → Type 0 =
+      λ bytes. IfWritten see.wav request.order.output a.wav d.wav (λ x y. WroteMore x y bytes) in
       record {
-        performed = performed_more S N c n a b d p.performed more.told more.counted;
-        written = subst P (sym (samples_more c width dbfs n))
-            (more_written tells output a.wav b.wav d.wav (samples n) (samples_of width dbfs (mix_in c n)) p.written
+        performed = performed_more see c n a b d p.performed more.told more.counted;
+        written = subst P (sym (samples_more c request.order.width request.head.dbfs n))
+            (more_written see.wav request.order.output a.wav b.wav d.wav (samples n) (samples_for request (mix_in c n))
+            p.written
             more.written);
       }
 
   -- the sink failed in this cycle
-  pub played_stopped : (n : ℕ) (a b d : Lent T W C) → n < c.cycles → PlayedOn S tells N c output n a b (samples n)
-      → BreaksCycle S tells N c output width dbfs n b d → PlayedInPart S tells N c output width dbfs a d
+  pub played_stopped : (n : ℕ) (a b d : Lent T W C) → n < c.cycles → PlayedOn see request n a b (samples n)
+      → BreaksCycle see request n b d → PlayedInPart see request a d
   played_stopped n a b d lt p s = record {
     cycles = n + 1;
     within = omega arith;
     front = samples n ++ s.front;
-    is_front = subst (IsFront (samples n ++ s.front)) (sym (samples_more c width dbfs n))
-        (front_behind (samples n) s.front (samples_of width dbfs (mix_in c n)) s.is_front);
+    is_front = subst (IsFront (samples n ++ s.front)) (sym (samples_more c request.order.width request.head.dbfs n))
+        (front_behind (samples n) s.front (samples_for request (mix_in c n)) s.is_front);
     kept = λ some. let last : n + 1 - 1 ≡ n =
         omega arith in subst (λ (k : ℕ). IsFront (samples k) (samples n ++ s.front)) (sym last) (s.front, refl);
     played = record {
-      performed = performed_more S N c n a b d p.performed s.played.told s.played.counted;
-      written = more_written tells output a.wav b.wav d.wav (samples n) s.front p.written s.played.written;
+      performed = performed_more see c n a b d p.performed s.played.told s.played.counted;
+      written = more_written see.wav request.order.output a.wav b.wav d.wav (samples n) s.front p.written
+          s.played.written;
     };
   }
 
   -- memory was refused before this cycle
-  played_before : (n : ℕ) (a b d : Lent T W C) → n ≤ c.cycles → d ≡ b → PlayedOn S tells N c output n a b (samples n)
-      → PlayedInPart S tells N c output width dbfs a d
+  played_before : (n : ℕ) (a b d : Lent T W C) → n ≤ c.cycles → d ≡ b → PlayedOn see request n a b (samples n)
+      → PlayedInPart see request a d
   played_before n a b d le same p = record {
     cycles = n;
     within = le;
     front = samples n;
     is_front = front_all (samples n);
-    kept = λ some. sounds_before c width dbfs n some;
-    played = subst (λ (l : Lent T W C). PlayedOn S tells N c output n a l (samples n)) (sym same) p;
+    kept = λ some. sounds_before c request.order.width request.head.dbfs n some;
+    played = subst (λ (l : Lent T W C). PlayedOn see request n a l (samples n)) (sym same) p;
   }
 
-  pub paused_before : (n : ℕ) (a b d : Lent T W C) → n ≤ c.cycles → d ≡ b → PlayedOn S tells N c output n a b (samples n)
-      → PausedOn S tells N c output width dbfs a d
+  pub paused_before : (n : ℕ) (a b d : Lent T W C) → n ≤ c.cycles → d ≡ b → PlayedOn see request n a b (samples n)
+      → PausedOn see request a d
   paused_before n a b d le same p = record {
     cycles = n;
     within = le;
-    played = subst (λ (l : Lent T W C). PlayedOn S tells N c output n a l (samples n)) (sym same) p;
+    played = subst (λ (l : Lent T W C). PlayedOn see request n a l (samples n)) (sym same) p;
   }
 
   -- whatever stopped this cycle
   pub part_stopped : {A : Type 0} (f : PlayFault) (n : ℕ) (a b d : Lent T W C) → n < c.cycles
-      → PlayedOn S tells N c output n a b (samples n)
-      → (IsErrOf {T = A} (Err f) fault.Sink → BreaksCycle S tells N c output width dbfs n b d)
-      → (IsErrOf {T = A} (Err f) fault.OutOfMemory → d ≡ b) → PlayedInPart S tells N c output width dbfs a d
+      → PlayedOn see request n a b (samples n)
+      → (IsErrOf {T = A} (Err f) fault.Sink → BreaksCycle see request n b d)
+      → (IsErrOf {T = A} (Err f) fault.OutOfMemory → d ≡ b) → PlayedInPart see request a d
   part_stopped fault.Sink n a b d lt p broken same = played_stopped n a b d lt p (broken refl)
   part_stopped fault.OutOfMemory n a b d lt p broken same = played_before n a b d (omega arith) (same refl) p
 
 -- A cycle, by what its notes, the taps and the sink did.
-module _ {T W C : Type 0} (S : T → List ℤ → Type 0) (tells : W → SinkTold) (N : C → Receipts → Type 0)
-    (c : Composition) (output : Output)
-    (width : SampleWidth) (dbfs dbfs' : ℤ)
-    (n : ℕ) (mix : List ℤ) (a b : Lent T W C) (is : mix ≡ mix_in c n) (same : dbfs' ≡ dbfs)
-    (told : Told S a.taps b.taps mix) (counts : CountsCycle N c n a.tally b.tally) where
-  samples_are : samples_of width dbfs' mix ≡ samples_of width dbfs (mix_in c n)
-  samples_are = ap (λ (d : ℤ). samples_of width d mix) same ∙ ap (samples_of width dbfs) is
+module _ {T W C : Type 0} (see : LentSight T W C) (request : Request) (dbfs : ℤ) (n : ℕ) (mix : List ℤ)
+    (a b : Lent T W C)
+    (is : mix ≡ mix_in request.piece n) (same : dbfs ≡ request.head.dbfs) (told : Told see.stands a.taps b.taps mix)
+    (counts : CountsCycle see.counted request.piece n a.tally b.tally) where
+  samples_are : samples_of request.order.width dbfs mix ≡ samples_for request (mix_in request.piece n)
+  samples_are = ap (λ (d : ℤ). samples_of request.order.width d mix) same ∙ ap (samples_for request) is
 
-  plays : (bytes : List ℕ) → IfWritten tells output a.wav b.wav (λ x y. WroteMore x y bytes)
-      → PlaysCycle S tells N c output n a b bytes
-  plays bytes wrote = record { told = subst (Told S a.taps b.taps) is told; counted = counts; written = wrote }
+  plays : (bytes : List ℕ) → IfWritten see.wav request.order.output a.wav b.wav (λ x y. WroteMore x y bytes)
+      → PlaysCycle see request n a b bytes
+  plays bytes wrote = record { told = subst (Told see.stands a.taps b.taps) is told; counted = counts; written = wrote }
 
-  pub plays_cycle : IfWritten tells output a.wav b.wav (λ x y. WroteMore x y (samples_of width dbfs' mix))
-      → PlaysCycle S tells N c output n a b (samples_of width dbfs (mix_in c n))
-  plays_cycle wrote = subst (PlaysCycle S tells N c output n a b) samples_are (plays (samples_of width dbfs' mix) wrote)
+  pub plays_cycle : IfWritten see.wav request.order.output a.wav b.wav
+      (λ x y. WroteMore x y (samples_of request.order.width dbfs mix))
+      → PlaysCycle see request n a b (samples_for request (mix_in request.piece n))
+  plays_cycle wrote = subst (PlaysCycle see request n a b) samples_are
+      (plays (samples_of request.order.width dbfs mix) wrote)
 
-  pub breaks_cycle : (front : List ℕ) × IsFront front (samples_of width dbfs' mix)
-      × IfWritten tells output a.wav b.wav (λ x y. WroteMore x y front)
-      → BreaksCycle S tells N c output width dbfs n a b
+  pub breaks_cycle : (front : List ℕ) × IsFront front (samples_of request.order.width dbfs mix)
+      × IfWritten see.wav request.order.output a.wav b.wav (λ x y. WroteMore x y front)
+      → BreaksCycle see request n a b
   breaks_cycle s = record { front = s.0; is_front = subst (IsFront s.0) samples_are s.1; played = plays s.0 s.2 }

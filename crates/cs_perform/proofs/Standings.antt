@@ -3,69 +3,65 @@ use Rattle.std.proofs.Common.{◌≡◌, ◌≤◌, ◌<◌, ℕ, zero, suc, ℤ
 use Rattle.std.proofs.Common.{◌∙◌, subst, arith}
 use Rattle.std.specs.List.{All}
 use Rattle.std.specs.Prelude.{Result, Ok, Err, OnOk}
-use Rattle.std.proofs.lemmas.List.{length-map}
-use Rattle.std.proofs.lemmas.Slice.Zip.{AllZip-long}
 use Rattle.cs_cells.specs.Areas.{word_count, IsFootprint}
 use Rattle.cs_cells.specs.Cells.{Cells, values}
 use Rattle.cs_cells.specs.Serial.{serial_cells, serial_jobs}
 use Rattle.cs_cells.specs.declared.footprint.Area.{Area}
 use Rattle.cs_cells.specs.declared.footprint.Footprint.{Footprint}
 use Rattle.cs_piece_meaning.specs.Course.{begins}
-use Rattle.cs_piece_meaning.specs.Moments.{Composition, Active, Moment}
+use Rattle.cs_piece_meaning.specs.Moments.{Composition, Moment}
 use Rattle.cs_graph.specs.Graph.{Dependencies, IsFit, IsLevelled}
-use Rattle.cs_life.specs.Standing.{Plays, Stands}
+use Rattle.cs_life.specs.Standing.{StandsFor}
 use Rattle.cs_life.specs.declared.life.Life.{Life}
 use Rattle.cs_piece.specs.Setups.{SetupData, composition_of}
 use Rattle.cs_voice.specs.VoiceData.{VoiceData}
 use Rattle.cs_voice.specs.VoiceMeaning.{voice_job}
 use Rattle.cs_desk.specs.declared.course.Course.{Course}
 use Rattle.cs_desk.specs.Courses.{IsCourseOf}
-use Rattle.cs_perform.specs.declared.order.Order.{Order}
+use Rattle.cs_perform.specs.declared.order.PerformanceOrder.{PerformanceOrder}
 use Rattle.cs_perform.specs.declared.recording.Recording.{Recording}
 use Rattle.cs_perform.specs.inner.Recordings.{IsRecordingOf}
-
--- as many notes play as there are voices, and ends of notes
-pub count_active : (c : Composition) (life : Life) (voices : List VoiceData) (cells : Cells) (m : Moment)
-    → Stands c life voices cells m → length m.active ≡ length voices
-count_active c life voices cells m s = AllZip-long (Plays c life.stage life.made.items) voices m.active s.stand.play
-
-pub count_ends : (c : Composition) (life : Life) (voices : List VoiceData) (cells : Cells) (m : Moment)
-    → Stands c life voices cells m → length voices ≡ length life.ends.items
-count_ends c life voices cells m s =
-    sym (count_active c life voices cells m s) ∙ sym (length-map m.active (λ (a : Active). a.ends))
-    ∙ sym (ap length s.ends)
 
 -- as many cells as the layout has
 pub count_cells : (s : SetupData) (life : Life) (voices : List VoiceData) (cells : Cells) (m : Moment)
     → life.setup.now ≡ s
-    → Stands (composition_of s) life voices cells m → length cells ≡ word_count s.layout
+    → StandsFor (composition_of s) life voices cells m → length cells ≡ word_count s.layout
 count_cells s life voices cells m is st =
     st.stand.long ∙ ap word_count (st.layout ∙ ap (λ (t : SetupData). t.layout) is)
 
 -- a step that is told of the life's own setup
 pub of_setup : (s : SetupData) (life : Life) (voices : List VoiceData) (cells : Cells) (m : Moment) → life.setup.now ≡ s
-    → Stands (composition_of s) life voices cells m → Stands (composition_of life.setup.now) life voices cells m
+    → StandsFor (composition_of s) life voices cells m → StandsFor (composition_of life.setup.now) life voices cells m
 of_setup s life voices cells m is st =
-    let P : SetupData → Type 0 = λ t. Stands (composition_of t) life voices cells m in subst P (sym is) st
+    let P : SetupData → Type 0 = λ t. StandsFor (composition_of t) life voices cells m in subst P (sym is) st
 
 pub begun_at : (s t : SetupData) (life next : Life) (voices voices' : List VoiceData) (cells cells' : Cells) (cycle : ℕ)
     (m : Moment)
-    → t ≡ s → ((m : Moment) → Stands (composition_of t) life voices cells m
-    → Stands (composition_of t) next voices' cells' (begins (composition_of t) cycle m))
-    → Stands (composition_of s) life voices cells m
-    → Stands (composition_of s) next voices' cells' (begins (composition_of s) cycle m)
+    → t ≡ s → ((m : Moment) → StandsFor (composition_of t) life voices cells m
+    → StandsFor (composition_of t) next voices' cells' (begins (composition_of t) cycle m))
+    → StandsFor (composition_of s) life voices cells m
+    → StandsFor (composition_of s) next voices' cells' (begins (composition_of s) cycle m)
 begun_at s t life next voices voices' cells cells' cycle m is step st =
-    let P : SetupData → Type 0 = λ u. Stands (composition_of u) life voices cells m in
+    let P : SetupData → Type 0 = λ u. StandsFor (composition_of u) life voices cells m in
     let Q : SetupData → Type 0 =
-    λ u. Stands (composition_of u) next voices' cells' (begins (composition_of u) cycle m) in
+    λ u. StandsFor (composition_of u) next voices' cells' (begins (composition_of u) cycle m) in
     subst Q is (step m (subst P (sym is) st))
 
 -- what is so of voices in the areas of the stage is so of them in those of the desk
 pub areas_of_desk : (s : SetupData) (life : Life) (areas : List Area) (voices : List VoiceData) (cells : Cells)
     (m : Moment)
-    → life.setup.now ≡ s → areas ≡ s.layout → Stands (composition_of s) life voices cells m
-    → life.stage.layout.now ≡ areas
-areas_of_desk s life areas voices cells m is e st = st.layout ∙ ap (λ (t : SetupData). t.layout) is ∙ sym e
+    → life.setup.now ≡ s → areas ≡ s.zones → StandsFor (composition_of s) life voices cells m
+    → life.stage.zones.now ≡ areas
+areas_of_desk s life areas voices cells m is e st = st.zones ∙ ap (λ (t : SetupData). t.zones) is ∙ sym e
+
+-- the zones have as many cells as the layout
+pub words_of_desk : (s : SetupData) (life : Life) (areas : List Area) (voices : List VoiceData) (cells : Cells)
+    (m : Moment)
+    → life.setup.now ≡ s → areas ≡ s.zones → StandsFor (composition_of s) life voices cells m
+    → word_count life.setup.now.layout ≡ word_count areas
+words_of_desk s life areas voices cells m is e st =
+    ap word_count (sym st.layout) ∙ sym st.stand.stage_is.zones.words
+    ∙ ap word_count (areas_of_desk s life areas voices cells m is e st)
 
 -- words of 0 are cells of 0
 pub zero_cells : (n : ℕ) → values (replicate n 0) ≡ replicate n (pos 0)
@@ -96,25 +92,25 @@ kept_course course next same feet is =
 -- voices and cells that came back
 pub ran_at : (c : Composition) (life : Life) (voices voices' : List VoiceData) (cells cells' : Cells) (m : Moment)
     → voices' ≡ serial_jobs voice_job voices cells → cells' ≡ serial_cells voice_job voices cells
-    → Stands c life (serial_jobs voice_job voices cells) (serial_cells voice_job voices cells) m
-    → Stands c life voices' cells' m
+    → StandsFor c life (serial_jobs voice_job voices cells) (serial_cells voice_job voices cells) m
+    → StandsFor c life voices' cells' m
 ran_at c life voices voices' cells cells' m jobs left st =
-    let P : List VoiceData → Type 0 = λ l. Stands c life l (serial_cells voice_job voices cells) m in
-    let Q : Cells → Type 0 = λ l. Stands c life voices' l m in
+    let P : List VoiceData → Type 0 = λ l. StandsFor c life l (serial_cells voice_job voices cells) m in
+    let Q : Cells → Type 0 = λ l. StandsFor c life voices' l m in
     subst Q (sym left) (subst P (sym jobs) st)
 
--- the footprints of the voices are in the desk's areas
+-- the footprints of the voices are over the desk's areas
 pub areas_same : (s : SetupData) (life : Life) (areas : List Area) (voices : List VoiceData) (cells : Cells)
     (m : Moment)
-    → life.setup.now ≡ s → areas ≡ s.layout → Stands (composition_of s) life voices cells m
-    → All (λ (v : VoiceData). v.areas ≡ life.stage.layout.now) voices → All (λ (v : VoiceData). v.areas ≡ areas) voices
+    → life.setup.now ≡ s → areas ≡ s.zones → StandsFor (composition_of s) life voices cells m
+    → All (λ (v : VoiceData). v.zones ≡ life.stage.zones.now) voices → All (λ (v : VoiceData). v.zones ≡ areas) voices
 areas_same s life areas voices cells m is e st all k d lt =
     all k d lt ∙ areas_of_desk s life areas voices cells m is e st
 
 pub feet_in_areas : (s : SetupData) (life : Life) (areas : List Area) (voices : List VoiceData) (cells : Cells)
     (m : Moment)
-    → life.setup.now ≡ s → areas ≡ s.layout → Stands (composition_of s) life voices cells m
-    → All (λ (v : VoiceData). IsFootprint (length life.stage.layout.now) v.foot) voices
+    → life.setup.now ≡ s → areas ≡ s.zones → StandsFor (composition_of s) life voices cells m
+    → All (λ (v : VoiceData). IsFootprint (length life.stage.zones.now) v.foot) voices
     → All (λ (v : VoiceData). IsFootprint (length areas) v.foot) voices
 feet_in_areas s life areas voices cells m is e st all =
     let P : List Area → Type 0 = λ l. All (λ (v : VoiceData). IsFootprint (length l) v.foot) voices in
@@ -126,7 +122,19 @@ pub stands_so : {S : Type 0} (is_at : SetupData → S → Moment → Type 0) (s 
 stands_so is_at s sounder m at = at
 
 -- what is recorded stays so, whatever comes of the end
-pub still_recorded : {A E : Type 0} (r : Result A E) (s : SetupData) (order : Order) (n : ℕ) (recording : Recording)
+pub still_recorded : {A E : Type 0} (r : Result A E) (s : SetupData) (order : PerformanceOrder) (n : ℕ)
+    (recording : Recording)
     → IsRecordingOf s order n recording → OnOk r (IsRecordingOf s order n recording)
 still_recorded (Ok x) s order n recording is = is
 still_recorded (Err e) s order n recording is = tt
+
+-- the footprints of voices that are the same
+pub feet_stay : (voices after : List VoiceData) (feet : List Footprint) → after ≡ voices
+    → map (λ (v : VoiceData). v.foot) voices ≡ feet → map (λ (v : VoiceData). v.foot) after ≡ feet
+feet_stay voices after feet same is = ap (map (λ (v : VoiceData). v.foot)) same ∙ is
+
+-- and of those that have played a cycle
+pub feet_played : (voices played after : List VoiceData) (feet : List Footprint) → after ≡ played
+    → map (λ (v : VoiceData). v.foot) played ≡ map (λ (v : VoiceData). v.foot) voices
+    → map (λ (v : VoiceData). v.foot) voices ≡ feet → map (λ (v : VoiceData). v.foot) after ≡ feet
+feet_played voices played after feet same stay is = ap (map (λ (v : VoiceData). v.foot)) same ∙ stay ∙ is

@@ -31,12 +31,15 @@ sum_of_both : (xs ys : Receipts) → sum (map length (xs ++ ys)) ≡ sum (map le
 sum_of_both xs ys = ap sum (map-append length xs ys) ∙ sum_by-append (λ x. x) (map length xs) (map length ys)
 
 pub counts_both : (c : Composition) (n : ℕ) (before now : Tally) (earlier receipts : Receipts)
-    → IsTallyOf earlier before → AreHeardBefore c n receipts → CountsOn (λ t counted. IsTallyOf counted t) before now receipts
+    → IsTallyOf earlier before → AreHeardBefore c n receipts
+    → CountsOn (λ t counted. IsTallyOf counted t) before now receipts
     → (now.cycles ≡ before.cycles + n) × (now.notes ≡ before.notes + notes_before c n)
 counts_both c n before now earlier receipts was heard counts =
     let is : IsTallyOf (earlier ++ receipts) now = counts earlier was in
-    let long : length receipts ≡ n = AllZip-long (AreHeardIn c) (range_with_len 0 n) receipts heard ∙ length-range 0 n in
-    let notes : sum (map length receipts) ≡ notes_before c n = ap sum (numbers_of c (range_with_len 0 n) receipts heard) in
+    let long : length receipts ≡ n =
+    AllZip-long (AreHeardIn c) (range_with_len 0 n) receipts heard ∙ length-range 0 n in
+    let notes : sum (map length receipts) ≡ notes_before c n =
+    ap sum (numbers_of c (range_with_len 0 n) receipts heard) in
     let both : length (earlier ++ receipts) ≡ length earlier + length receipts = length-append earlier receipts in
     let all : sum (map length (earlier ++ receipts)) ≡ sum (map length earlier) + sum (map length receipts) =
     sum_of_both earlier receipts in (

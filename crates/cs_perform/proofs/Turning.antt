@@ -14,25 +14,28 @@ use Rattle.cs_perform.specs.declared.order.TurnLines.{TurnLines}
 use Rattle.cs_perform.specs.declared.order.TurnLines.TheVariants.{Told, Untold}
 use Rattle.cs_perform.proofs.Frames.{rows_more}
 
-foot_of : (c : Composition) (stage : Stage) (flags : List Bool) (areas : List Area) (v : VoiceData) (a : Active)
-    → stage.layout.now ≡ areas → Plays c stage flags v a → IsFootOf areas a.body v.foot
-foot_of c stage flags areas v a e p =
-    let here : IsFootOf stage.layout.now a.body p.foot =
-    record { uses = p.of.uses; writes = p.of.writes; there = p.of.there } in
-    let P : List Area → Type 0 = λ l. IsFootOf l a.body p.foot in
-    let Q : Footprint → Type 0 = λ f. IsFootOf areas a.body f in
-    subst Q p.on.foot (subst P e here)
+foot_of : (c : Composition) (stage : Stage) (flags : List Bool) (areas zones : List Area) (v : VoiceData)
+    (a : Active)
+    → stage.layout.now ≡ areas → stage.zones.now ≡ zones → Plays c stage flags v a
+    → IsFootOf areas zones a.body v.foot
+foot_of c stage flags areas zones v a e f p =
+    let here : IsFootOf stage.layout.now stage.zones.now a.body p.foot =
+    record { uses = p.of.uses; writes = p.of.writes; there = p.of.there; places = p.of.footprint } in
+    let P : List Area → Type 0 = λ l. IsFootOf l stage.zones.now a.body p.foot in
+    let R : List Area → Type 0 = λ l. IsFootOf areas l a.body p.foot in
+    let Q : Footprint → Type 0 = λ g. IsFootOf areas zones a.body g in
+    subst Q p.on.foot (subst R f (subst P e here))
 
 -- the footprints of voices are those of their notes
-pub feet_of_notes : (c : Composition) (stage : Stage) (flags : List Bool) (areas : List Area) (voices : List VoiceData)
-    (active : List Active)
-    → stage.layout.now ≡ areas → AllZip (Plays c stage flags) voices active
-    → AllZip (λ (a : Active) (f : Footprint). IsFootOf areas a.body f) active (map (λ (v : VoiceData). v.foot) voices)
-feet_of_notes c stage flags areas [] [] e p = tt
-feet_of_notes c stage flags areas [] (a ∷ rest) e p = absurd p
-feet_of_notes c stage flags areas (v ∷ voices) [] e p = absurd p
-feet_of_notes c stage flags areas (v ∷ voices) (a ∷ rest) e p =
-    (foot_of c stage flags areas v a e p.0, feet_of_notes c stage flags areas voices rest e p.1)
+pub feet_of_notes : (c : Composition) (stage : Stage) (flags : List Bool) (areas zones : List Area)
+    (voices : List VoiceData) (active : List Active)
+    → stage.layout.now ≡ areas → stage.zones.now ≡ zones → AllZip (Plays c stage flags) voices active
+    → AllZip (λ (a : Active) (f : Footprint). IsFootOf areas zones a.body f) active (map (λ (v : VoiceData). v.foot) voices)
+feet_of_notes c stage flags areas zones [] [] e f p = tt
+feet_of_notes c stage flags areas zones [] (a ∷ rest) e f p = absurd p
+feet_of_notes c stage flags areas zones (v ∷ voices) [] e f p = absurd p
+feet_of_notes c stage flags areas zones (v ∷ voices) (a ∷ rest) e f p =
+    (foot_of c stage flags areas zones v a e f p.0, feet_of_notes c stage flags areas zones voices rest e f p.1)
 
 -- LINES
 

@@ -12,14 +12,14 @@ use Rattle.cs_piece_meaning.specs.Heard.{frames_before, frames_of, mix_in}
 use Rattle.cs_piece_meaning.specs.Moments.{Composition}
 use Rattle.cs_edge.specs.Told.{IsFront, Rose}
 use Rattle.cs_edge.specs.Moves.{SinkTold, WroteMore, Wrote, Stopped, Finished}
-use Rattle.cs_piece.specs.Setups.{SetupData, composition_of}
 use Rattle.cs_wav.specs.Wav.{header_bytes, samples_of, size_of, wav_of}
 use Rattle.cs_wav.proofs.Files.{samples_of-append}
-use Rattle.cs_perform.specs.Counted.{Receipts}
 use Rattle.cs_perform.specs.Hearing.{IfWritten}
-use Rattle.cs_perform.specs.Performances.{HasAtLeast, IsPart, IsPaused, IsWhole, Lent, Performed, Performs, file_after}
-use Rattle.cs_perform.specs.Performances.{front_after}
-use Rattle.cs_perform.specs.declared.order.Order.{Order}
+use Rattle.cs_perform.specs.Performances.{HasAtLeast, IsPart, IsPaused, IsWholePerformance, Lent, LentSight, Performed}
+use Rattle.cs_perform.specs.Performances.{Performs}
+use Rattle.cs_perform.specs.Performances.{Request}
+use Rattle.cs_perform.specs.Performances.{file_after, front_after}
+use Rattle.cs_perform.specs.declared.order.PerformanceOrder.{PerformanceOrder}
 use Rattle.cs_perform.specs.declared.order.Output.{Output}
 use Rattle.cs_perform.specs.declared.order.Output.TheVariants.{SoundFile, Nothing}
 use Rattle.cs_perform.specs.declared.order.PlayFault.{PlayFault}
@@ -141,7 +141,7 @@ header_is c head width frames first e f is =
     is ∙ ap (λ (k : ℕ). header_bytes width (k * bytes_of width) head) (values_are c frames head.nchnls e f)
 
 -- all of them, and header and samples stand in the file
-pub all_written : {W : Type 0} (tells : W → SinkTold) (c : Composition) (head : Head) (order : Order)
+pub all_written : {W : Type 0} (tells : W → SinkTold) (c : Composition) (head : Head) (order : PerformanceOrder)
     (name first : List ℕ) (w0 w1 w2 : W)
     → first ≡ header_bytes order.width (length (frames_of c) * bytes_of order.width) head
     → IfWritten tells order.output w0 w1 (λ before now. Wrote before now name first)
@@ -204,23 +204,34 @@ not_sink e = cc
 not_memory : {A : Type 0} → IsErrOf {T = A} (Err fault.Sink) fault.OutOfMemory → ⊥
 not_memory e = cc
 
-module _ {T W C : Type 0} (S : T → List ℤ → Type 0) (tells : W → SinkTold)
-    (N : C → Receipts → Type 0) where
+module _ {T W C : Type 0} (see : LentSight T W C) (request : Request) where
+  abbrev c : Composition
+  c = request.piece
+
+  abbrev head : Head
+  head = request.head
+
+  abbrev order : PerformanceOrder
+  order = request.order
+
+  abbrev name : List ℕ
+  name = request.name
+
   -- the same, of what another call answered
-  pub performs_ok : {A B : Type 0} (s : SetupData) (order : Order) (name : List ℕ) (a b : Lent T W C) (x : A) (y : B)
-      → Performs S tells N s order name a b (let r : Result A PlayFault = Ok x in r)
-      → Performs S tells N s order name a b (let r : Result B PlayFault = Ok y in r)
-  performs_ok s order name a b x y p = record {
+  pub performs_ok : {A B : Type 0} (a b : Lent T W C) (x : A) (y : B)
+      → Performs see request a b (let r : Result A PlayFault = Ok x in r)
+      → Performs see request a b (let r : Result B PlayFault = Ok y in r)
+  performs_ok a b x y p = record {
     whole = p.whole;
     part = tt;
     memory = λ e. absurd (not_ok y fault.OutOfMemory e);
     sink = λ e. absurd (not_ok y fault.Sink e);
   }
 
-  pub performs_err : {A B : Type 0} (s : SetupData) (order : Order) (name : List ℕ) (a b : Lent T W C) (f : PlayFault)
-      → Performs S tells N s order name a b (let r : Result A PlayFault = Err f in r)
-      → Performs S tells N s order name a b (let r : Result B PlayFault = Err f in r)
-  performs_err s order name a b f p = record {
+  pub performs_err : {A B : Type 0} (a b : Lent T W C) (f : PlayFault)
+      → Performs see request a b (let r : Result A PlayFault = Err f in r)
+      → Performs see request a b (let r : Result B PlayFault = Err f in r)
+  performs_err a b f p = record {
     whole = tt;
     part = p.part;
     memory = λ e. p.memory (error_as f fault.OutOfMemory e);
@@ -228,43 +239,35 @@ module _ {T W C : Type 0} (S : T → List ℤ → Type 0) (tells : W → SinkTol
   }
 
   -- memory was refused before anything was done
-  pub performs_nothing : {A : Type 0} (s : SetupData) (order : Order) (name : List ℕ) (a : Lent T W C)
-      → Performs S tells N s order name a a (let r : Result A PlayFault = Err fault.OutOfMemory in r)
-  performs_nothing s order name a =
-      let c : Composition = composition_of s in
+  pub performs_nothing : {A : Type 0} (a : Lent T W C)
+      → Performs see request a a (let r : Result A PlayFault = Err fault.OutOfMemory in r)
+  performs_nothing a =
       record {
         whole = tt;
         part = record {
           cycles = 0;
           within = omega arith;
-          performed = performed_none S N c a a refl refl;
-          written = file_untouched tells order.output a.wav name (file_after c s.orchestra.head order.width 0);
+          performed = performed_none see c a a refl refl;
+          written = file_untouched see.wav order.output a.wav name (file_after c head order.width 0);
           kept = λ some. absurd (omega arith);
         };
         memory = λ e. record {
           cycles = 0;
           within = omega arith;
-          performed = performed_none S N c a a refl refl;
-          written = file_unbegun tells order.output a.wav name (front_after c s.orchestra.head order.width 0) _
+          performed = performed_none see c a a refl refl;
+          written = file_unbegun see.wav order.output a.wav name (front_after c head order.width 0) _
               (refl, refl);
         };
         sink = λ e. absurd (not_sink e);
       }
 
   -- from before the sink was begun on
-  module _ (s : SetupData) (order : Order) (name first : List ℕ) (a b : Lent T W C) (taps : b.taps ≡ a.taps)
-      (tally : b.tally ≡ a.tally)
-      (is : first ≡ header_bytes order.width (length (frames_of (composition_of s)) * bytes_of order.width)
-      s.orchestra.head) where
-    abbrev c : Composition
-    c = composition_of s
-
-    abbrev head : Head
-    head = s.orchestra.head
-
+  module _ (first : List ℕ) (a b : Lent T W C) (taps : b.taps ≡ a.taps) (tally : b.tally ≡ a.tally)
+      (is : first ≡ header_bytes order.width (length (frames_of c) * bytes_of order.width) head) where
     -- the file was begun in part
-    part_begun : ((rest : List ℕ) → IfWritten tells order.output a.wav b.wav (λ x y. Stopped x y name (first ++ rest)))
-        → IsPart S tells N c head order name a b
+    part_begun : ((rest : List ℕ)
+        → IfWritten see.wav order.output a.wav b.wav (λ x y. Stopped x y name (first ++ rest)))
+        → IsPart see request a b
     part_begun stopped =
         let sounds : List ℕ = samples_of order.width head.dbfs (frames_before c 0) in
         let f = front_in_file c head order.width 0 in
@@ -273,16 +276,16 @@ module _ {T W C : Type 0} (S : T → List ℤ → Type 0) (tells : W → SinkTol
         record {
           cycles = 0;
           within = omega arith;
-          performed = performed_none S N c a b taps tally;
-          written = subst (λ (l : List ℕ). IfWritten tells order.output a.wav b.wav (λ x y. Stopped x y name l)) same
+          performed = performed_none see c a b taps tally;
+          written = subst (λ (l : List ℕ). IfWritten see.wav order.output a.wav b.wav (λ x y. Stopped x y name l)) same
               (stopped (sounds ++ f.0));
           kept = λ some. absurd (omega arith);
         }
 
     pub performs_unbegun : {A : Type 0}
-        → ((rest : List ℕ) → IfWritten tells order.output a.wav b.wav (λ x y. Stopped x y name (first ++ rest)))
-        → order.output ≡ SoundFile → Rose (tells a.wav).faults (tells b.wav).faults
-        → Performs S tells N s order name a b (let r : Result A PlayFault = Err fault.Sink in r)
+        → ((rest : List ℕ) → IfWritten see.wav order.output a.wav b.wav (λ x y. Stopped x y name (first ++ rest)))
+        → order.output ≡ SoundFile → Rose (see.wav a.wav).faults (see.wav b.wav).faults
+        → Performs see request a b (let r : Result A PlayFault = Err fault.Sink in r)
     performs_unbegun stopped written rose = record {
       whole = tt;
       part = part_begun stopped;
@@ -290,55 +293,56 @@ module _ {T W C : Type 0} (S : T → List ℤ → Type 0) (tells : W → SinkTol
       sink = λ e. (written, rose);
     }
 
-    module _ (begun : IfWritten tells order.output a.wav b.wav (λ x y. Wrote x y name first)) (d : Lent T W C) where
-      later : (tells a.wav).faults ≤ (tells b.wav).faults
-      later = faults_begun tells order.output a.wav b.wav name first begun
+    module _ (begun : IfWritten see.wav order.output a.wav b.wav (λ x y. Wrote x y name first)) (d : Lent T W C) where
+      later : (see.wav a.wav).faults ≤ (see.wav b.wav).faults
+      later = faults_begun see.wav order.output a.wav b.wav name first begun
 
       -- some cycles were played
-      part_played : PlayedInPart S tells N c order.output order.width head.dbfs b d → IsPart S tells N c head order name a d
+      part_played : PlayedInPart see request b d → IsPart see request a d
       part_played p =
           let sounds : List ℕ = samples_of order.width head.dbfs (frames_before c p.cycles) in
           let front : IsFront (first ++ p.front) (first ++ sounds) = front_behind first p.front sounds p.is_front in
           record {
             cycles = p.cycles;
             within = p.within;
-            performed = performed_from S N c p.cycles a b d taps tally p.played.performed;
-            written = file_stopped tells order.output a.wav d.wav name (first ++ p.front)
+            performed = performed_from see c p.cycles a b d taps tally p.played.performed;
+            written = file_stopped see.wav order.output a.wav d.wav name (first ++ p.front)
                 (file_after c head order.width p.cycles)
-                (file_written tells order.output a.wav b.wav d.wav name first p.front begun p.played.written)
+                (file_written see.wav order.output a.wav b.wav d.wav name first p.front begun p.played.written)
                 (front_of_front (first ++ p.front) (front_after c head order.width p.cycles)
                 (file_after c head order.width p.cycles)
                 (subst (λ (l : List ℕ). IsFront (first ++ p.front) (l ++ sounds)) is front)
                 (front_in_file c head order.width p.cycles));
             kept = λ some. let before : List ℕ = samples_of order.width head.dbfs (frames_before c (p.cycles - 1)) in
-                file_kept tells order.output a.wav d.wav name (front_after c head order.width (p.cycles - 1))
+                file_kept see.wav order.output a.wav d.wav name (front_after c head order.width (p.cycles - 1))
                 (first ++ p.front)
-                (file_written tells order.output a.wav b.wav d.wav name first p.front begun p.played.written)
+                (file_written see.wav order.output a.wav b.wav d.wav name first p.front begun p.played.written)
                 (subst (λ (l : List ℕ). IsFront (l ++ before) (first ++ p.front)) is
                 (front_behind first before p.front (p.kept some)));
           }
 
       -- and memory was refused between two of them
-      paused_between : PausedOn S tells N c order.output order.width head.dbfs b d
-          → IsPaused S tells N c head order name a d
+      paused_between : PausedOn see request b d
+          → IsPaused see request a d
       paused_between p =
           let sounds : List ℕ = samples_of order.width head.dbfs (frames_before c p.cycles) in
           record {
             cycles = p.cycles;
             within = p.within;
-            performed = performed_from S N c p.cycles a b d taps tally p.played.performed;
-            written = file_paused tells order.output a.wav d.wav name (front_after c head order.width p.cycles) _
-                (subst (λ (l : List ℕ). IfWritten tells order.output a.wav d.wav (λ x y. Wrote x y name (l ++ sounds)))
+            performed = performed_from see c p.cycles a b d taps tally p.played.performed;
+            written = file_paused see.wav order.output a.wav d.wav name (front_after c head order.width p.cycles) _
+                (subst (λ (l : List ℕ). IfWritten see.wav order.output a.wav d.wav
+                (λ x y. Wrote x y name (l ++ sounds)))
                 is
-                (file_written tells order.output a.wav b.wav d.wav name first sounds begun p.played.written));
+                (file_written see.wav order.output a.wav b.wav d.wav name first sounds begun p.played.written));
           }
 
       pub performs_in_part : {A B : Type 0} (f : PlayFault)
-          → PlayedInPart S tells N c order.output order.width head.dbfs b d
-          → (IsErrOf {T = A} (Err f) fault.OutOfMemory → PausedOn S tells N c order.output order.width head.dbfs b d)
+          → PlayedInPart see request b d
+          → (IsErrOf {T = A} (Err f) fault.OutOfMemory → PausedOn see request b d)
           → (IsErrOf {T = A} (Err f) fault.Sink
-          → (order.output ≡ SoundFile) × Rose (tells b.wav).faults (tells d.wav).faults)
-          → Performs S tells N s order name a d (let r : Result B PlayFault = Err f in r)
+          → (order.output ≡ SoundFile) × Rose (see.wav b.wav).faults (see.wav d.wav).faults)
+          → Performs see request a d (let r : Result B PlayFault = Err f in r)
       performs_in_part f part memory sink = record {
         whole = tt;
         part = part_played part;
@@ -347,27 +351,27 @@ module _ {T W C : Type 0} (S : T → List ℤ → Type 0) (tells : W → SinkTol
       }
 
       -- all cycles were played, and it was closed, or not
-      module _ (all : PlayedOn S tells N c order.output c.cycles b d (samples_of order.width head.dbfs (frames_of c)))
+      module _ (all : PlayedOn see request c.cycles b d (samples_of order.width head.dbfs (frames_of c)))
           (z : Lent T W C)
           (taps' : z.taps ≡ d.taps) (tally' : z.tally ≡ d.tally) where
-        performed : Performed S N c c.cycles a z
-        performed = performed_until S N c c.cycles a d z taps' tally'
-            (performed_from S N c c.cycles a b d taps tally all.performed)
+        performed : Performed see c c.cycles a z
+        performed = performed_until see c c.cycles a d z taps' tally'
+            (performed_from see c c.cycles a b d taps tally all.performed)
 
-        wrote : IfWritten tells order.output a.wav d.wav
+        wrote : IfWritten see.wav order.output a.wav d.wav
             (λ x y. Wrote x y name (front_after c head order.width c.cycles))
-        wrote = all_written tells c head order name first a.wav b.wav d.wav is begun all.written
+        wrote = all_written see.wav c head order name first a.wav b.wav d.wav is begun all.written
 
         pub performs_closed : {A : Type 0} (r : Result A PlayFault)
-            → OnOk r (IfWritten tells order.output d.wav z.wav (Closes c head order.width))
-            → (IsErrOf r fault.Sink → IfWritten tells order.output d.wav z.wav (Breaks c head order.width))
-            → (IsErrOf r fault.Sink → (order.output ≡ SoundFile) × Rose (tells d.wav).faults (tells z.wav).faults)
-            → (IsErrOf r fault.OutOfMemory → z.wav ≡ d.wav) → Performs S tells N s order name a z r
+            → OnOk r (IfWritten see.wav order.output d.wav z.wav (Closes c head order.width))
+            → (IsErrOf r fault.Sink → IfWritten see.wav order.output d.wav z.wav (Breaks c head order.width))
+            → (IsErrOf r fault.Sink → (order.output ≡ SoundFile) × Rose (see.wav d.wav).faults (see.wav z.wav).faults)
+            → (IsErrOf r fault.OutOfMemory → z.wav ≡ d.wav) → Performs see request a z r
         performs_closed (Ok x) ended broken sink same = record {
           whole = record {
             performed = performed;
             written =
-                file_closed tells c head order.width order.output a.wav d.wav z.wav name wrote ended;
+                file_closed see.wav c head order.width order.output a.wav d.wav z.wav name wrote ended;
           };
           part = tt;
           memory = λ e. absurd (not_ok x fault.OutOfMemory e);
@@ -379,19 +383,20 @@ module _ {T W C : Type 0} (S : T → List ℤ → Type 0) (tells : W → SinkTol
             cycles = c.cycles;
             within = omega arith;
             performed = performed;
-            written = file_broken tells c head order.width order.output a.wav d.wav z.wav name wrote (broken refl);
-            kept = λ some. broken_kept tells c head order.width order.output a.wav d.wav z.wav name wrote (broken refl);
+            written = file_broken see.wav c head order.width order.output a.wav d.wav z.wav name wrote (broken refl);
+            kept = λ some. broken_kept see.wav c head order.width order.output a.wav d.wav z.wav name wrote
+                (broken refl);
           };
           memory = λ e. absurd (not_memory e);
           sink = λ e. let told = sink refl in
-              let more : (tells b.wav).faults ≤ (tells d.wav).faults =
-              faults_after tells order.output b.wav d.wav _ all.written in
+              let more : (see.wav b.wav).faults ≤ (see.wav d.wav).faults =
+              faults_after see.wav order.output b.wav d.wav _ all.written in
               (told.0, rose_later _ _ _ (omega (arith, later, more)) told.1);
         }
         performs_closed (Err fault.OutOfMemory) ended broken sink same =
-            let still : IfWritten tells order.output a.wav z.wav
+            let still : IfWritten see.wav order.output a.wav z.wav
             (λ x y. Wrote x y name (front_after c head order.width c.cycles)) =
-            subst (λ (w : W). IfWritten tells order.output a.wav w
+            subst (λ (w : W). IfWritten see.wav order.output a.wav w
             (λ x y. Wrote x y name (front_after c head order.width c.cycles))) (sym (same refl)) wrote in
             record {
               whole = tt;
@@ -399,10 +404,10 @@ module _ {T W C : Type 0} (S : T → List ℤ → Type 0) (tells : W → SinkTol
                 cycles = c.cycles;
                 within = omega arith;
                 performed = performed;
-                written = file_stopped tells order.output a.wav z.wav name (front_after c head order.width c.cycles)
+                written = file_stopped see.wav order.output a.wav z.wav name (front_after c head order.width c.cycles)
                     (file_after c head order.width c.cycles) still
                     (front_in_file c head order.width c.cycles);
-                kept = λ some. file_kept tells order.output a.wav z.wav name
+                kept = λ some. file_kept see.wav order.output a.wav z.wav name
                     (front_after c head order.width (c.cycles - 1)) (front_after c head order.width c.cycles)
                     still (front_of_all c head order.width (c.cycles - 1) (omega arith));
               };
@@ -410,7 +415,7 @@ module _ {T W C : Type 0} (S : T → List ℤ → Type 0) (tells : W → SinkTol
                 cycles = c.cycles;
                 within = omega arith;
                 performed = performed;
-                written = file_paused tells order.output a.wav z.wav name (front_after c head order.width c.cycles) _
+                written = file_paused see.wav order.output a.wav z.wav name (front_after c head order.width c.cycles) _
                     still;
               };
               sink = λ e. absurd (not_sink e);

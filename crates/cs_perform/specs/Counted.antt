@@ -16,8 +16,8 @@ use Rattle.cs_voice.specs.declared.stage.Stage.{Stage}
 abbrev pub Receipts : Type 0
 Receipts = List (List VoiceData)
 
--- The voices of a cycle: they stand at the moment when its notes have been performed, each for the note at its place, and
--- together they give what is heard of it.
+-- The voices of a cycle: they stand at the moment when its notes have been performed, each for the note at its place,
+-- and together they give what is heard of it.
 pub record AreHeardIn (c : Composition) (n : ℕ) (voices : List VoiceData) : Type 0 where
   pub stage : Stage
   pub flags : List Bool

@@ -1,7 +1,7 @@
 // A performance by a crew, whose helpers are threads of a scope that lasts for the performance.
 ghost use Rattle.std.specs.Prelude.{◌≡◌};
-ghost use Rattle.cs_perform.specs.Performances.{PerformsPiece, lent};
-ghost use Rattle.cs_perform.specs.inner.Crews.{MayPlay};
+ghost use Rattle.cs_perform.specs.Performances.{PerformsPiece, lent, lent_sight, request_of};
+ghost use Rattle.cs_perform.specs.inner.Crews.{HasPlace};
 ghost use Rattle.cs_perform.specs.inner.Stands.{MayGoOn};
 
 use crate::counter::Counter;
@@ -9,15 +9,14 @@ use crate::loan::{Loan, take_back};
 use crate::order::{Outcome, Performance, PlayFault};
 use crate::performance::go_on;
 use crate::sounder::Ensemble;
-use crate::start::Start;
+use crate::start::PerformanceStart;
 use cs_edge::{Gate, Sink, Tap};
 use cs_pool::{Crew, Pool};
-use cs_voice::TableAt;
 use std::sync::Wait;
 use std::thread;
 use std::thread::{Scope, Threads};
 
-/// The performance over these tables, by a crew to which sink, taps and tally are lent.
+/// The performance by a crew, to which sink, taps and tally are lent.
 pub(crate) fn play_by_crew<
     'a,
     'e,
@@ -28,19 +27,17 @@ pub(crate) fn play_by_crew<
     G: Gate + Sync,
 >(
     performance: &Performance<'t>,
-    tables: &'t [TableAt<'t>],
     crew: &Crew<'e, R, G>,
     wav: &'a mut K,
     taps: &'a mut Vec<Box<dyn Tap>>,
     tally: &'a mut C,
 ) -> Result<Outcome, PlayFault>
-    requires { MayPlay performance.now.setup.now performance.now.order (C.room tally.old) tables.now }
-    ensures { PerformsPiece (λ t h. stands_for t h) K.tells C.has_counted
-        performance.now.setup.now performance.now.order
-        performance.now.name.now (lent wav.old taps.old.items tally.old) (lent wav.new taps.new.items tally.new)
+    requires { HasPlace performance.now.setup.now performance.now.order (C.room tally.old) }
+    ensures { PerformsPiece (lent_sight (λ t h. stands_for t h) K.tells C.has_counted)
+        (request_of performance.now) (lent wav.old taps.old.items tally.old) (lent wav.new taps.new.items tally.new)
         result }
 {
-    let Ok(start) = Start::new(performance, tables) else {
+    let Ok(start) = PerformanceStart::new(performance) else {
         return Err(PlayFault::OutOfMemory);
     };
     let loan = Loan { wav, taps, tally };
@@ -53,7 +50,7 @@ pub(crate) fn play_by_crew<
 /// By a crew in a scope of its own.
 fn play_in_scope<'a, 'e, 't, K: Sink, C: Counter, R: Threads + Wait + Sync, G: Gate + Sync>(
     performance: &Performance<'t>,
-    start: Start<'t>,
+    start: PerformanceStart<'t>,
     crew: &Crew<'e, R, G>,
     loan: Loan<'a, K, C>,
 ) -> (Result<Outcome, PlayFault>, Loan<'a, K, C>)
@@ -61,9 +58,8 @@ fn play_in_scope<'a, 'e, 't, K: Sink, C: Counter, R: Threads + Wait + Sync, G: G
     ensures same { (result.1.wav.ghost_name ≡ loan.entry.wav.ghost_name)
         × (result.1.taps.ghost_name ≡ loan.entry.taps.ghost_name)
         × (result.1.tally.ghost_name ≡ loan.entry.tally.ghost_name) }
-    ensures performed { PerformsPiece (λ t h. stands_for t h) K.tells C.has_counted
-        performance.now.setup.now performance.now.order
-        performance.now.name.now (lent loan.entry.wav.now loan.entry.taps.now.items loan.entry.tally.now)
+    ensures performed { PerformsPiece (lent_sight (λ t h. stands_for t h) K.tells C.has_counted)
+        (request_of performance.now) (lent loan.entry.wav.now loan.entry.taps.now.items loan.entry.tally.now)
         (lent result.1.wav.now result.1.taps.now.items result.1.tally.now) result.0 }
 {
     thread::scope(
@@ -74,9 +70,8 @@ fn play_in_scope<'a, 'e, 't, K: Sink, C: Counter, R: Threads + Wait + Sync, G: G
             ensures same { (result.1.wav.ghost_name ≡ loan.entry.wav.ghost_name)
                 × (result.1.taps.ghost_name ≡ loan.entry.taps.ghost_name)
                 × (result.1.tally.ghost_name ≡ loan.entry.tally.ghost_name) }
-            ensures performed { PerformsPiece (λ t h. stands_for t h) K.tells C.has_counted
-                performance.entry.now.setup.now
-                performance.entry.now.order performance.entry.now.name.now
+            ensures performed { PerformsPiece (lent_sight (λ t h. stands_for t h) K.tells C.has_counted)
+                (request_of performance.entry.now)
                 (lent loan.entry.wav.now loan.entry.taps.now.items loan.entry.tally.now)
                 (lent result.1.wav.now result.1.taps.now.items result.1.tally.now) result.0 }
         { play_loan(scope, performance, start, crew, loan) },
@@ -87,7 +82,7 @@ fn play_in_scope<'a, 'e, 't, K: Sink, C: Counter, R: Threads + Wait + Sync, G: G
 fn play_loan<'a, 's, 'e, 't: 's, K: Sink, C: Counter, R: Threads + Wait + Sync, G: Gate + Sync>(
     scope: &'s Scope<'s, &'e ()>,
     performance: &Performance<'t>,
-    start: Start<'t>,
+    start: PerformanceStart<'t>,
     crew: &Crew<'e, R, G>,
     loan: Loan<'a, K, C>,
 ) -> (Result<Outcome, PlayFault>, Loan<'a, K, C>)
@@ -95,14 +90,13 @@ fn play_loan<'a, 's, 'e, 't: 's, K: Sink, C: Counter, R: Threads + Wait + Sync, 
     ensures same { (result.1.wav.ghost_name ≡ loan.entry.wav.ghost_name)
         × (result.1.taps.ghost_name ≡ loan.entry.taps.ghost_name)
         × (result.1.tally.ghost_name ≡ loan.entry.tally.ghost_name) }
-    ensures performed { PerformsPiece (λ t h. stands_for t h) K.tells C.has_counted
-        performance.now.setup.now performance.now.order
-        performance.now.name.now (lent loan.entry.wav.now loan.entry.taps.now.items loan.entry.tally.now)
+    ensures performed { PerformsPiece (lent_sight (λ t h. stands_for t h) K.tells C.has_counted)
+        (request_of performance.now) (lent loan.entry.wav.now loan.entry.taps.now.items loan.entry.tally.now)
         (lent result.1.wav.now result.1.taps.now.items result.1.tally.now) result.0 }
 {
     let mut loan = loan;
     let mut pool = Pool::new(crew.rt, scope, performance.alloc, crew.workers, crew.gate);
-    let Start { stand, recording } = start;
+    let PerformanceStart { stand, recording } = start;
     let ensemble = Ensemble {
         runner: &mut pool,
         stand,

@@ -9,11 +9,11 @@ ghost use Rattle.cs_piece_meaning.specs.Moments.{Moment};
 ghost use Rattle.cs_edge.specs.Told.{HasCause, IsFront, Rose};
 ghost use Rattle.cs_edge.specs.Moves.{WroteMore};
 ghost use Rattle.cs_perform.specs.Hearing.{IfWritten, Told};
-ghost use Rattle.cs_perform.specs.Performances.{if_told, lent};
+ghost use Rattle.cs_perform.specs.Performances.{if_told, lent, lent_sight, request_of};
 ghost use Rattle.cs_perform.specs.declared.order.Output.TheVariants.{SoundFile};
 ghost use Rattle.cs_perform.specs.declared.order.TurnLines.TheVariants.{Untold};
 ghost use Rattle.cs_perform.specs.declared.performers.Performers.TheVariants.{Caller, Crew};
-ghost use Rattle.cs_perform.specs.inner.Plays.{BreaksCycle, PlaysCycle};
+ghost use Rattle.cs_perform.specs.inner.Plays.{BreaksCycle, PlaysCycle, samples_for};
 ghost use Rattle.cs_perform.specs.inner.Recordings.{IsRecordingOf};
 ghost use Rattle.cs_perform.specs.inner.Stands.{CountsCycle, IsAt, IsReady};
 ghost use Rattle.cs_piece.specs.Setups.{composition_of};
@@ -22,7 +22,7 @@ ghost use Rattle.cs_wav.specs.Wav.{is_out_of_range, samples_of};
 
 use crate::counter::Counter;
 use crate::loan::Loan;
-use crate::order::{Order, Performance, PlayFault};
+use crate::order::{Performance, PerformanceOrder, PlayFault};
 use crate::performers::Performers;
 use crate::recording::Recording;
 use crate::runner::Runner;
@@ -43,23 +43,21 @@ pub(crate) fn play_cycle<K: Sink, C: Counter, S: Sounder>(
     recording: &mut Recording,
     loan: &mut Loan<'_, K, C>,
 ) -> Result<S, PlayFault>
-    requires at { S.is_at performance.now.setup.now sounder (moment_at (composition_of performance.now.setup.now) cycle) }
+    requires at { S.is_at performance.now.setup.now sounder
+        (moment_at (composition_of performance.now.setup.now) cycle) }
     requires recorded { IsRecordingOf performance.now.setup.now performance.now.order cycle recording.old }
     requires room { most_notes < C.room loan.old.tally.now }
     ensures at { IfOk result (λ next. S.is_at performance.now.setup.now next
         (moment_at (composition_of performance.now.setup.now) (cycle + 1))) }
     ensures recorded { OnOk result (IsRecordingOf performance.now.setup.now performance.now.order (cycle + 1)
         recording.new) }
-    ensures played { let s = performance.now.setup.now in let c = composition_of s in
-        let order = performance.now.order in
-        OnOk result (PlaysCycle (λ t h. stands_for t h) K.tells C.has_counted c order.output cycle
+    ensures played { let request = request_of performance.now in
+        OnOk result (PlaysCycle (lent_sight (λ t h. stands_for t h) K.tells C.has_counted) request cycle
         (lent loan.old.wav.now loan.old.taps.now.items loan.old.tally.now)
         (lent loan.new.wav.now loan.new.taps.now.items loan.new.tally.now)
-        (samples_of order.width s.orchestra.head.dbfs (mix_in c cycle))) }
-    ensures broken { let s = performance.now.setup.now in let order = performance.now.order in
-        IsErrOf result PlayFault.Sink → BreaksCycle (λ t h. stands_for t h) K.tells C.has_counted
-        (composition_of s) order.output
-        order.width s.orchestra.head.dbfs cycle
+        (samples_for request (mix_in request.piece cycle))) }
+    ensures broken { IsErrOf result PlayFault.Sink
+        → BreaksCycle (lent_sight (λ t h. stands_for t h) K.tells C.has_counted) (request_of performance.now) cycle
         (lent loan.old.wav.now loan.old.taps.now.items loan.old.tally.now)
         (lent loan.new.wav.now loan.new.taps.now.items loan.new.tally.now) }
     ensures room { OnOk result (C.room loan.old.tally.now ≤ C.room loan.new.tally.now + (most_notes + 1)) }
@@ -154,7 +152,7 @@ fn prepare(
     match by {
         Performers::Caller => Ok(()),
         Performers::Crew => {
-            stand.make_ready(performance.alloc, performance.setup.layout())?;
+            stand.make_ready(performance.alloc, performance.setup.zones())?;
             tell_turns(performance, cycle, stand, turns)
         }
     }
@@ -163,7 +161,7 @@ fn prepare(
 /// The mix of a cycle is told to the taps, and its samples are written. Returns how many of them had to be brought
 /// into range.
 pub(crate) fn pour<K: Sink>(
-    order: Order,
+    order: PerformanceOrder,
     head: &Head,
     mix: &[i64],
     out: &mut [u8],

@@ -16,8 +16,8 @@ pub fn early_stops_are_fronts()
         → IsFront (file_after c head width n) (wav_of (frames_of c) head width) }
 {}
 
-/// A tally that counts the receipts of the first cycles of a piece has grown by as many cycles, and by the notes that are
-/// performed in them.
+/// A tally that counts the receipts of the first cycles of a piece has grown by as many cycles, and by the notes that
+/// are performed in them.
 pub fn tallies_count_cycles_and_notes()
     ensures { (c : Composition) (n : ℕ) (before now : Tally) (earlier receipts : Receipts) → IsTallyOf earlier before
         → AreHeardBefore c n receipts → CountsOn (λ t counted. IsTallyOf counted t) before now receipts

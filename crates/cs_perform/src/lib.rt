@@ -1,19 +1,19 @@
 //! A piece is performed: its notes cycle by cycle over a desk, its mix to meters and into a sink.
 //!
-//! The one contract: `perform`, and `perform_alone` by one worker who waits for nobody, tie bytes, taps and receipts to
-//! one number of cycles of the composition that a setup stands for. At Ok it is all of them: the sink has the file of all
-//! frames, each tap stands for these, and every cycle is counted by the voices that were heard in it. Where it stops
-//! early it is some number of whole cycles, of whose file the sink has a front that lacks the last of them at most; at
-//! want of memory exactly their samples (specs/Performances, Counted).
+//! The one contract: `perform`, and `perform_alone` by one worker who waits for nobody, tie bytes, taps and receipts
+//! to one number of cycles of the composition that a setup stands for. At Ok it is all of them: the sink has the file
+//! of all frames, each tap stands for these, and every cycle is counted by the voices that were heard in it. Where it
+//! stops early it is some number of whole cycles, of whose file the sink has a front that lacks the last of them at
+//! most; at want of memory exactly their samples (specs/Performances, Counted).
 //!
 //! How large a desk is and when it is replaced, when the graph of a cycle is built anew, and in which blocks the mix
 //! is made may be changed without anyone above noticing.
 //!
 //! Modules in reading order: `order` (what is asked for, and what comes of it), `performance`, `start` (what a
 //! performance begins with), `counter` (who counts its cycles), `loan` (what is lent to it), `by_crew` (in a scope of
-//! threads), `runner` (who runs the notes), `sounder` (who makes the sound of the cycles), `cycle`, `performers` (by whom
-//! a cycle is performed), `stand` (what is kept from cycle to cycle), `recording`, `taps`, `turns`, `sizes`, `writing`;
-//! `laws`.
+//! threads), `runner` (who runs the notes), `sounder` (who makes the sound of the cycles), `cycle`, `performers` (by
+//! whom a cycle is performed), `stand` (what is kept from cycle to cycle), `recording`, `taps`, `turns`, `sizes`,
+//! `writing`; `laws`.
 #![tactic(auto)]
 
 mod by_crew;
@@ -37,5 +37,5 @@ mod writing;
 pub use counter::Counter;
 pub use cs_pool::Crew;
 pub use laws::{early_stops_are_fronts, tallies_count_cycles_and_notes};
-pub use order::{Order, Outcome, Output, Performance, PlayFault, TurnLines};
+pub use order::{Outcome, Output, Performance, PerformanceOrder, PlayFault, TurnLines};
 pub use performance::{perform, perform_alone};

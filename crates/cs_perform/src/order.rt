@@ -21,7 +21,7 @@ pub enum TurnLines {
 
 /// What is asked for.
 #[derive(Clone, Copy)]
-pub struct Order {
+pub struct PerformanceOrder {
     pub output: Output,
     pub width: SampleWidth,
     pub turns: TurnLines,
@@ -33,7 +33,7 @@ pub struct Performance<'t> {
     /// Where memory comes from.
     pub alloc: Global,
     pub setup: &'t Setup,
-    pub order: Order,
+    pub order: PerformanceOrder,
     /// The name under which the sound file is begun.
     pub name: &'t str,
 }

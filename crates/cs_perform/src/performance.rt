@@ -6,14 +6,13 @@ ghost use Rattle.cs_piece_meaning.specs.Course.{moment_at, opening};
 ghost use Rattle.cs_piece_meaning.specs.Heard.{frames_of};
 ghost use Rattle.cs_edge.specs.Told.{Rose};
 ghost use Rattle.cs_perform.specs.Hearing.{IfWritten};
-ghost use Rattle.cs_perform.specs.Performances.{Performs, PerformsPiece, lent};
+ghost use Rattle.cs_perform.specs.Performances.{Performs, PerformsPiece, lent, lent_sight, request_of};
 ghost use Rattle.cs_perform.specs.declared.order.Output.TheVariants.{SoundFile};
-ghost use Rattle.cs_perform.specs.inner.Crews.{HasPlace, MayPlay};
+ghost use Rattle.cs_perform.specs.inner.Crews.{HasPlace};
 ghost use Rattle.cs_perform.specs.inner.Ends.{AreStartsOf, Breaks, Closes};
-ghost use Rattle.cs_perform.specs.inner.Plays.{PausedOn, PlayedInPart, PlayedOn};
+ghost use Rattle.cs_perform.specs.inner.Plays.{PausedOn, PlayedInPart, PlayedOn, samples_for};
 ghost use Rattle.cs_perform.specs.inner.Recordings.{IsRecordingOf};
 ghost use Rattle.cs_piece.specs.Setups.{composition_of};
-ghost use Rattle.cs_wav.specs.Wav.{samples_of};
 
 use crate::by_crew::play_by_crew;
 use crate::counter::Counter;
@@ -25,12 +24,11 @@ use crate::runner::OneWorker;
 use crate::sizes::{ends_odd, first_bytes, frames_in};
 use crate::sounder::{Ensemble, Sounder};
 use crate::stand::Starts;
-use crate::start::Start;
+use crate::start::PerformanceStart;
 use crate::writing::{begin, finish};
 use cs_edge::{Gate, Sink, Tap};
 use cs_piece_meaning::starts_are_few;
 use cs_pool::Crew;
-use cs_voice::TableAt;
 use std::sync::Wait;
 use std::thread::Threads;
 
@@ -51,15 +49,11 @@ pub fn perform<K: Sink, C: Counter, R: Threads + Wait + Sync, G: Gate + Sync>(
         s.plot.cycles * s.orchestra.head.ksmps * s.orchestra.head.nchnls
         * bytes_of performance.now.order.width ≤ most_wav_bytes }
     // Bytes, taps and receipts are those of one number of cycles.
-    ensures { PerformsPiece (λ t h. stands_for t h) K.tells C.has_counted
-        performance.now.setup.now performance.now.order
-        performance.now.name.now (lent wav.old taps.old.items tally.old) (lent wav.new taps.new.items tally.new)
+    ensures { PerformsPiece (lent_sight (λ t h. stands_for t h) K.tells C.has_counted)
+        (request_of performance.now) (lent wav.old taps.old.items tally.old) (lent wav.new taps.new.items tally.new)
         result }
 {
-    let Ok(tables) = performance.setup.tables_at(performance.alloc) else {
-        return Err(PlayFault::OutOfMemory);
-    };
-    play_by_crew(performance, &tables, crew, wav, taps, tally)
+    play_by_crew(performance, crew, wav, taps, tally)
 }
 
 /// Performs a piece as `perform` does, by the caller alone: no thread is started and nobody is waited for, so it
@@ -75,36 +69,14 @@ pub fn perform_alone<K: Sink, C: Counter, G: Gate>(
     requires bytes { let s = performance.now.setup.now in
         s.plot.cycles * s.orchestra.head.ksmps * s.orchestra.head.nchnls
         * bytes_of performance.now.order.width ≤ most_wav_bytes }
-    ensures { PerformsPiece (λ t h. stands_for t h) K.tells C.has_counted
-        performance.now.setup.now performance.now.order
-        performance.now.name.now (lent wav.old taps.old.items tally.old) (lent wav.new taps.new.items tally.new)
+    ensures { PerformsPiece (lent_sight (λ t h. stands_for t h) K.tells C.has_counted)
+        (request_of performance.now) (lent wav.old taps.old.items tally.old) (lent wav.new taps.new.items tally.new)
         result }
 {
-    let Ok(tables) = performance.setup.tables_at(performance.alloc) else {
+    let Ok(start) = PerformanceStart::new(performance) else {
         return Err(PlayFault::OutOfMemory);
     };
-    play_alone(performance, &tables, gate, wav, taps, tally)
-}
-
-/// The performance over these tables, by one worker to whom sink, taps and tally are lent.
-fn play_alone<'t, K: Sink, C: Counter, G: Gate>(
-    performance: &Performance<'t>,
-    tables: &'t [TableAt<'t>],
-    gate: &G,
-    wav: &mut K,
-    taps: &mut Vec<Box<dyn Tap>>,
-    tally: &mut C,
-) -> Result<Outcome, PlayFault>
-    requires { MayPlay performance.now.setup.now performance.now.order (C.room tally.old) tables.now }
-    ensures { PerformsPiece (λ t h. stands_for t h) K.tells C.has_counted
-        performance.now.setup.now performance.now.order
-        performance.now.name.now (lent wav.old taps.old.items tally.old) (lent wav.new taps.new.items tally.new)
-        result }
-{
-    let Ok(start) = Start::new(performance, tables) else {
-        return Err(PlayFault::OutOfMemory);
-    };
-    let Start { stand, recording } = start;
+    let PerformanceStart { stand, recording } = start;
     let mut worker = OneWorker { gate };
     let ensemble = Ensemble {
         runner: &mut worker,
@@ -127,9 +99,8 @@ pub(crate) fn go_on<K: Sink, C: Counter, S: Sounder>(
     requires place { HasPlace performance.now.setup.now performance.now.order (C.room loan.old.tally.now) }
     requires at { S.is_at performance.now.setup.now sounder (opening (composition_of performance.now.setup.now)) }
     requires recorded { IsRecordingOf performance.now.setup.now performance.now.order 0 recording }
-    ensures performed { PerformsPiece (λ t h. stands_for t h) K.tells C.has_counted
-        performance.now.setup.now performance.now.order
-        performance.now.name.now (lent loan.old.wav.now loan.old.taps.now.items loan.old.tally.now)
+    ensures performed { PerformsPiece (lent_sight (λ t h. stands_for t h) K.tells C.has_counted)
+        (request_of performance.now) (lent loan.old.wav.now loan.old.taps.now.items loan.old.tally.now)
         (lent loan.new.wav.now loan.new.taps.now.items loan.new.tally.now) result }
     ensures same { (loan.new.wav.ghost_name ≡ loan.old.wav.ghost_name)
         × (loan.new.taps.ghost_name ≡ loan.old.taps.ghost_name)
@@ -151,9 +122,8 @@ fn play<K: Sink, C: Counter, S: Sounder>(
     requires place { HasPlace performance.now.setup.now performance.now.order (C.room loan.old.tally.now) }
     requires at { S.is_at performance.now.setup.now sounder (opening (composition_of performance.now.setup.now)) }
     requires recorded { IsRecordingOf performance.now.setup.now performance.now.order 0 recording.old }
-    ensures performed { Performs (λ t h. stands_for t h) K.tells C.has_counted
-        performance.now.setup.now performance.now.order
-        performance.now.name.now (lent loan.old.wav.now loan.old.taps.now.items loan.old.tally.now)
+    ensures performed { Performs (lent_sight (λ t h. stands_for t h) K.tells C.has_counted)
+        (request_of performance.now) (lent loan.old.wav.now loan.old.taps.now.items loan.old.tally.now)
         (lent loan.new.wav.now loan.new.taps.now.items loan.new.tally.now) result }
     ensures recorded { OnOk result (IsRecordingOf performance.now.setup.now performance.now.order
         performance.now.setup.now.plot.cycles recording.new) }
@@ -189,21 +159,17 @@ fn play_all<K: Sink, C: Counter, S: Sounder>(
         (moment_at (composition_of performance.now.setup.now) performance.now.setup.now.plot.cycles)) }
     ensures recorded { OnOk result (IsRecordingOf performance.now.setup.now performance.now.order
         performance.now.setup.now.plot.cycles recording.new) }
-    ensures played { let s = performance.now.setup.now in let c = composition_of s in
-        let order = performance.now.order in
-        OnOk result (PlayedOn (λ t h. stands_for t h) K.tells C.has_counted c order.output s.plot.cycles
+    ensures played { let request = request_of performance.now in
+        OnOk result (PlayedOn (lent_sight (λ t h. stands_for t h) K.tells C.has_counted) request request.piece.cycles
         (lent loan.old.wav.now loan.old.taps.now.items loan.old.tally.now)
         (lent loan.new.wav.now loan.new.taps.now.items loan.new.tally.now)
-        (samples_of order.width s.orchestra.head.dbfs (frames_of c))) }
-    ensures part { let s = performance.now.setup.now in let order = performance.now.order in
-        OnErr result (PlayedInPart (λ t h. stands_for t h) K.tells C.has_counted
-        (composition_of s) order.output order.width
-        s.orchestra.head.dbfs
+        (samples_for request (frames_of request.piece))) }
+    ensures part { OnErr result (PlayedInPart (lent_sight (λ t h. stands_for t h) K.tells C.has_counted)
+        (request_of performance.now)
         (lent loan.old.wav.now loan.old.taps.now.items loan.old.tally.now)
         (lent loan.new.wav.now loan.new.taps.now.items loan.new.tally.now)) }
-    ensures memory { let s = performance.now.setup.now in let order = performance.now.order in
-        IsErrOf result PlayFault.OutOfMemory → PausedOn (λ t h. stands_for t h) K.tells C.has_counted (composition_of s)
-        order.output order.width s.orchestra.head.dbfs
+    ensures memory { IsErrOf result PlayFault.OutOfMemory
+        → PausedOn (lent_sight (λ t h. stands_for t h) K.tells C.has_counted) (request_of performance.now)
         (lent loan.old.wav.now loan.old.taps.now.items loan.old.tally.now)
         (lent loan.new.wav.now loan.new.taps.now.items loan.new.tally.now) }
     ensures sink { IsErrOf result PlayFault.Sink → (performance.now.order.output ≡ SoundFile)

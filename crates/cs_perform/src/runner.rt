@@ -53,11 +53,7 @@ impl<'e, 't, R: Wait, G: Gate> Runner<'t> for Pool<'e, Voice<'t>, R, G> {
         graph: Arc<Graph, Global>,
         desk: Desk<Voice<'t>>,
         jobs: Vec<Voice<'t>>,
-    ) -> (Receipt<Voice<'t>>, Desk<Voice<'t>>, Arc<Graph, Global>)
-        requires playable { IsCycle voice_job graph.value desk jobs.items }
-        ensures played { WasPlayed voice_job desk.entry jobs.entry.items result.0 result.1 }
-        ensures graph { result.2.value ≡ graph.value }
-    {
+    ) -> (Receipt<Voice<'t>>, Desk<Voice<'t>>, Arc<Graph, Global>) {
         self.cycle(cycle, graph, desk, jobs)
     }
 
@@ -66,11 +62,7 @@ impl<'e, 't, R: Wait, G: Gate> Runner<'t> for Pool<'e, Voice<'t>, R, G> {
         cycle: u32,
         desk: Desk<Voice<'t>>,
         jobs: Vec<Voice<'t>>,
-    ) -> (Receipt<Voice<'t>>, Desk<Voice<'t>>)
-        requires few { length jobs.items ≤ most_notes }
-        requires over { AreOver voice_job desk jobs.items }
-        ensures played { WasPlayed voice_job desk.entry jobs.entry.items result.0 result.1 }
-    {
+    ) -> (Receipt<Voice<'t>>, Desk<Voice<'t>>) {
         self.alone(cycle, desk, jobs)
     }
 }
@@ -92,11 +84,7 @@ impl<'g, 't, G: Gate> Runner<'t> for OneWorker<'g, G> {
         graph: Arc<Graph, Global>,
         desk: Desk<Voice<'t>>,
         jobs: Vec<Voice<'t>>,
-    ) -> (Receipt<Voice<'t>>, Desk<Voice<'t>>, Arc<Graph, Global>)
-        requires playable { IsCycle voice_job graph.value desk jobs.items }
-        ensures played { WasPlayed voice_job desk.entry jobs.entry.items result.0 result.1 }
-        ensures graph { result.2.value ≡ graph.value }
-    {
+    ) -> (Receipt<Voice<'t>>, Desk<Voice<'t>>, Arc<Graph, Global>) {
         let mut desk = desk;
         let receipt = desk.run_alone(cycle, graph.len(), jobs, self.gate);
         (receipt, desk, graph)
@@ -107,11 +95,7 @@ impl<'g, 't, G: Gate> Runner<'t> for OneWorker<'g, G> {
         cycle: u32,
         desk: Desk<Voice<'t>>,
         jobs: Vec<Voice<'t>>,
-    ) -> (Receipt<Voice<'t>>, Desk<Voice<'t>>)
-        requires few { length jobs.items ≤ most_notes }
-        requires over { AreOver voice_job desk jobs.items }
-        ensures played { WasPlayed voice_job desk.entry jobs.entry.items result.0 result.1 }
-    {
+    ) -> (Receipt<Voice<'t>>, Desk<Voice<'t>>) {
         let mut desk = desk;
         let notes = jobs.len() as u32;
         let receipt = desk.run_alone(cycle, notes, jobs, self.gate);

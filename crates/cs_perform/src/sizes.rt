@@ -15,7 +15,8 @@ use cs_wav::header;
 
 /// The number of frames, where their samples fit a sound file in some width.
 pub(crate) fn frames_in(setup: &Setup) -> u32
-    requires { (width : SampleWidth) × (setup.now.plot.cycles * setup.now.orchestra.head.ksmps * setup.now.orchestra.head.nchnls
+    requires { (width : SampleWidth)
+        × (setup.now.plot.cycles * setup.now.orchestra.head.ksmps * setup.now.orchestra.head.nchnls
         * bytes_of width ≤ most_wav_bytes) }
     ensures { result ≡ setup.now.plot.cycles * setup.now.orchestra.head.ksmps }
 {

@@ -1,5 +1,5 @@
 // All that is kept of a performance from cycle to cycle.
-ghost use Rattle.std.specs.Prelude.{◌≡◌, ◌+◌, ◌*◌, ◌≤◌, ◌<◌, ℕ, [], ◌∷◌, length, map, pos, replicate, IfOk, OnOk};
+ghost use Rattle.std.specs.Prelude.{◌≡◌, ◌+◌, ◌*◌, ◌≤◌, ◌<◌, ℕ, [], ◌∷◌, length, map, pos, replicate, true, IfOk, OnOk};
 ghost use Rattle.cs_base.specs.Limits.{most_notes};
 ghost use Rattle.cs_cells.specs.Areas.{word_count};
 ghost use Rattle.cs_piece_meaning.specs.Course.{begins, moment_at, opening, performed, turned_off};
@@ -11,8 +11,7 @@ ghost use Rattle.cs_perform.specs.Counted.{CountsOn};
 ghost use Rattle.cs_perform.specs.declared.performers.Performers.TheVariants.{Crew};
 ghost use Rattle.cs_perform.specs.inner.Stands.{IsAt, IsReady};
 ghost use Rattle.cs_piece.specs.Setups.{SetupData, composition_of};
-ghost use Rattle.cs_voice.specs.Memory.{table_of};
-ghost use Rattle.cs_voice.specs.VoiceData.{made};
+ghost use Rattle.cs_voice.specs.VoiceData.{VoiceData};
 
 use crate::counter::Counter;
 use crate::performers::Performers;
@@ -22,7 +21,7 @@ use cs_cells::Layout;
 use cs_desk::{Course, Desk, make_room};
 use cs_life::{Life, serial_runs_perform, voices_are_heard};
 use cs_piece::Setup;
-use cs_voice::{TableAt, Voice, mix};
+use cs_voice::{Voice, mix};
 use std::alloc::Global;
 
 /// The number of notes for which there is room at first.
@@ -38,6 +37,8 @@ pub(crate) struct Stand<'t> {
     pub voices: Vec<Voice<'t>>,
     pub desk: Desk<Voice<'t>>,
     pub course: Course,
+    /// Whether no note has begun or left since the course became that of those that play.
+    pub current: bool,
 }
 
 /// How many starts there were: those that started a note, and those that started nothing.
@@ -49,22 +50,20 @@ pub(crate) struct Starts {
 
 impl<'t> Stand<'t> {
     /// At the opening of a performance.
-    pub fn new(
-        alloc: Global,
-        setup: &'t Setup,
-        tables: &'t [TableAt<'t>],
-    ) -> Result<Stand<'t>, OutOfMemory>
-        requires { map table_of tables.now ≡ map made (composition_of setup.now).tables }
+    pub fn new(alloc: Global, setup: &'t Setup) -> Result<Stand<'t>, OutOfMemory>
         ensures { IfOk result (λ stand. IsAt setup.now stand (opening (composition_of setup.now))) }
     {
         let course = Course::of_jobs::<Voice<'t>>(alloc, &[])?;
-        let mut desk = first_desk(alloc, setup.layout())?;
-        match Life::new(alloc, setup, tables, &mut desk) {
+        // The zones have as many cells as the layout.
+        setup.facts();
+        let mut desk = first_desk(alloc, setup.zones())?;
+        match Life::new(alloc, setup, &mut desk) {
             Ok(life) => Ok(Stand {
                 life,
                 voices: Vec::new(alloc),
                 desk,
                 course,
+                current: false,
             }),
             Err(refused) => {
                 drop((desk, course));
@@ -79,23 +78,40 @@ impl<'t> Stand<'t> {
         ensures begun { OnOk result ((s : SetupData) (m : Moment) → IsAt s self.old m
             → IsAt s self.new (begins (composition_of s) cycle m)) }
     {
-        self.life
-            .begin_cycle(alloc, cycle, &mut self.voices, &mut self.desk)
+        let same = self
+            .life
+            .begin_cycle(alloc, cycle, &mut self.voices, &mut self.desk)?;
+        self.current = is_still_so(self.current, same);
+        Ok(())
+    }
+
+    /// The course becomes that of the notes that play, where notes have begun or left since it was.
+    fn find_course(&mut self, alloc: Global) -> Result<(), OutOfMemory>
+        requires at { (s : SetupData) × (m : Moment) × IsAt s self.old m }
+        ensures at { OnOk result ((s : SetupData) (m : Moment) → IsAt s self.old m → IsAt s self.new m) }
+        ensures feet { OnOk result (map (λ (v : VoiceData). v.foot) self.new.voices.items ≡ self.new.course.feet.items) }
+    {
+        if self.current {
+            return Ok(());
+        }
+        self.course.follow(alloc, &self.voices)?;
+        self.current = true;
+        Ok(())
     }
 
     /// The course becomes that of the notes that play, and the desk has room for their cycle.
     pub fn make_ready(&mut self, alloc: Global, layout: &Layout) -> Result<(), OutOfMemory>
-        requires at { (s : SetupData) × (m : Moment) × IsAt s self.old m × (s.layout ≡ layout.now) }
+        requires at { (s : SetupData) × (m : Moment) × IsAt s self.old m × (s.zones ≡ layout.now) }
         ensures at { OnOk result ((s : SetupData) (m : Moment) → IsAt s self.old m → IsAt s self.new m) }
         ensures ready { OnOk result (IsReady self.new) }
     {
-        self.course.follow(alloc, &self.voices)?;
+        self.find_course(alloc)?;
         let (notes, edges) = (self.course.graph.len(), self.course.graph.edge_count());
         make_room(alloc, layout, &mut self.desk, notes, edges)
     }
 
-    /// The notes that play perform the cycle, and `tally` counts it by their receipt: by the caller alone, whether or not
-    /// the course is theirs, or by the crew.
+    /// The notes that play perform the cycle, and `tally` counts it by their receipt: by the caller alone, whether or
+    /// not the course is theirs, or by the crew.
     pub fn run<P: Runner<'t>, C: Counter>(
         self,
         runner: &mut P,
@@ -116,6 +132,7 @@ impl<'t> Stand<'t> {
             voices,
             desk,
             course,
+            current,
         } = self;
         serial_runs_perform();
         match by {
@@ -127,6 +144,7 @@ impl<'t> Stand<'t> {
                     voices,
                     desk,
                     course,
+                    current,
                 }
             }
             Performers::Crew => {
@@ -138,6 +156,7 @@ impl<'t> Stand<'t> {
                     voices: played,
                     desk,
                     course: Course { graph, feet },
+                    current,
                 }
             }
         }
@@ -166,7 +185,10 @@ impl<'t> Stand<'t> {
         requires at { (s : SetupData) × (m : Moment) × IsAt s self.old m }
         ensures ended { (s : SetupData) (m : Moment) → IsAt s self.old m → IsAt s self.new (turned_off m) }
     {
+        let playing = self.voices.len();
         self.life.end_cycle(&mut self.voices);
+        let stayed = self.voices.len();
+        self.current = is_still_so(self.current, stayed == playing);
     }
 
     /// The events at the very end, in the cycle after the last, are done.
@@ -187,6 +209,13 @@ impl<'t> Stand<'t> {
             Err(refused) => Err(refused),
         }
     }
+}
+
+/// Whether what was so is so again.
+fn is_still_so(before: bool, now: bool) -> bool
+    ensures { result ≡ true → (before ≡ true) × (now ≡ true) }
+{
+    before && now
 }
 
 /// A desk whose cells are all 0.

@@ -35,19 +35,22 @@ module _ {F : Type 0} (tells : F → ShelfTold) (words : List Text) (before now 
     Ends s = IsUnprepared tells s words before now talk talk'
 
     -- a status is what it was said to be
-    ends_as : (r s : Status) (name : List ℕ) → r ≡ s → HasNoPiece tells s name words before now → Says talk talk' (message_of r name) → Ends r
+    ends_as : (r s : Status) (name : List ℕ) → r ≡ s → HasNoPiece tells s name words before now
+        → Says talk talk' (message_of r name) → Ends r
     ends_as r s name e cause says =
         let P : Status → Type 0 = λ x. HasNoPiece tells x name words before now in
         record { name = name; cause = subst P (sym e) cause; line = says }
 
     -- words that aren't read
-    by_unread : (u : Unread) (r : Status) → r ≡ unread_status u → (u ≡ unasked.Usage → reading words ≡ None) → now ≡ before
+    by_unread : (u : Unread) (r : Status) → r ≡ unread_status u → (u ≡ unasked.Usage → reading words ≡ None)
+        → now ≡ before
         → Says talk talk' (message_of r []) → Ends r
     by_unread unasked.Usage r e none same says = ends_as r status.Usage [] e (none refl, same) says
     by_unread unasked.OutOfMemory r e none same says = ends_as r status.OutOfMemory [] e tt says
 
     -- a refusal is the cause of its status
-    by_refusal : (r : Refused) (name : List ℕ) → IsRefused tells r words before now → HasNoPiece tells (refusal r) name words before now
+    by_refusal : (r : Refused) (name : List ℕ) → IsRefused tells r words before now
+        → HasNoPiece tells (refusal r) name words before now
     by_refusal (refused.Csd f) name is = is
     by_refusal (refused.Texts (why.Orc f)) name is = is
     by_refusal (refused.Texts (why.Score f)) name is = is
@@ -72,7 +75,8 @@ module _ {F : Type 0} (tells : F → ShelfTold) (words : List Text) (before now 
           ends_as r (stop_status s) (name_in s) h.status_is (by_cause s means unread) (subst P (sym h.status_is) h.line)
 
 -- words that aren't read: the shelf had no call
-pub unasked_ends : {F : Type 0} (tells : F → ShelfTold) (words : List Text) (shelf : F) (talk talk' : SinkTold) (u : Unread) (r t : Status)
+pub unasked_ends : {F : Type 0} (tells : F → ShelfTold) (words : List Text) (shelf : F) (talk talk' : SinkTold)
+    (u : Unread) (r t : Status)
     → r ≡ t → t ≡ unread_status u → (u ≡ unasked.Usage → reading words ≡ None) → Says talk talk' (message_of t [])
     → IsUnprepared tells r words shelf shelf talk talk'
 unasked_ends tells words shelf talk talk' u r t e h none says =

@@ -1,5 +1,6 @@
 -- What two runs have in common.
-use Rattle.std.proofs.Common.{◌≡◌, ◌≢◌, ℕ, ℤ, List, Bool, true, false, ◌++◌, Option, Result, Some, None, Ok, Err, refl, ap, sym, subst, ◌∙◌, ⊎_elim}
+use Rattle.std.proofs.Common.{◌≡◌, ◌≢◌, ℕ, ℤ, List, Bool, true, false, ◌++◌, Option, Result, Some, None, Ok, Err, refl}
+use Rattle.std.proofs.Common.{ap, sym, subst, ◌∙◌, ⊎_elim}
 use Rattle.cs_base.specs.declared.head.Head.{Head}
 use Rattle.cs_base.specs.declared.width.SampleWidth.{SampleWidth}
 use Rattle.cs_piece_meaning.specs.Heard.{frames_of}
@@ -14,7 +15,7 @@ use Rattle.cs_turns.specs.Turns.{turn_lines_of}
 use Rattle.cs_play.specs.Alike.{AskAlike, HadNoFault, HoldAlike, SoundAlike, TellAlike}
 use Rattle.cs_play.specs.Endings.{IsOk, WasPerformed, lines_of, output_of, report_in}
 use Rattle.cs_play.specs.Report.{counts_of, meter_lines}
-use Rattle.cs_play.specs.Runs.{IsRun}
+use Rattle.cs_play.specs.Runs.{IsProgramRun}
 use Rattle.cs_play.specs.Scene.{Scene, Sight}
 use Rattle.cs_report.specs.Status.{refusal}
 use Rattle.cs_report.specs.declared.status.Status.{Status}
@@ -26,8 +27,10 @@ use Rattle.cs_csd.specs.declared.refused.Refused.{Refused}
 use Rattle.cs_typed.specs.Places.{Header}
 use Rattle.cs_typed.specs.TypedTree.{header_of_head}
 use Rattle.cs_wav.specs.Wav.{header_bytes, wav_of}
-use Rattle.cs_play.proofs.Deciding.{EndedBy, by_memory, by_name, by_refusal, by_sound, by_words, ended_by, loaded, no_asked, the_asked, unread}
-use Rattle.cs_play.proofs.Meanings.{NoneLacking, OneMeaning, OnePair, alike_means, refused_composition, same_composition, same_refusal, source_lacks}
+use Rattle.cs_play.proofs.Deciding.{EndedBy, by_memory, by_name, by_refusal, by_sound, by_words, ended_by, loaded}
+use Rattle.cs_play.proofs.Deciding.{no_asked, the_asked, unread}
+use Rattle.cs_play.proofs.Meanings.{NoneLacking, OneMeaning, OnePair, alike_means, refused_composition}
+use Rattle.cs_play.proofs.Meanings.{same_composition, same_refusal, source_lacks}
 
 -- THE SAME FILE
 
@@ -46,26 +49,32 @@ held_alike None b bytes p q = tt
 held_alike (Some x) None bytes p q = tt
 held_alike (Some x) (Some y) bytes p q = p ∙ sym q
 
-file_held : (before now : SinkTold) (name bytes : List ℕ) → Finished before now name bytes → HoldsWhereTold now.held bytes
+file_held : (before now : SinkTold) (name bytes : List ℕ) → Finished before now name bytes
+    → HoldsWhereTold now.held bytes
 file_held before now name bytes f = held_is before.held now.held (ended_file name bytes) f.taken
 
 -- the sound file of a run that isn't silent
-pub written_is : {W : Type 0} (tells : W → SinkTold) (silent : Bool) (before now : W) (P : SinkTold → SinkTold → Type 0) → silent ≡ false
+pub written_is : {W : Type 0} (tells : W → SinkTold) (silent : Bool) (before now : W) (P : SinkTold → SinkTold → Type 0)
+    → silent ≡ false
     → IfWritten tells (output_of silent) before now P → P (tells before) (tells now)
 written_is tells true before now P e w = absurd (let h : true ≡ false = e in cc)
 written_is tells false before now P e w = w
 
 -- a file is known by its frames and by the numbers of its header
-same_numbers : (frames : List ℤ) (width : SampleWidth) (a b : Head) → a.sr ≡ b.sr → a.nchnls ≡ b.nchnls → a.dbfs ≡ b.dbfs → wav_of frames a width ≡ wav_of frames b width
+same_numbers : (frames : List ℤ) (width : SampleWidth) (a b : Head) → a.sr ≡ b.sr → a.nchnls ≡ b.nchnls
+    → a.dbfs ≡ b.dbfs → wav_of frames a width ≡ wav_of frames b width
 unfolding wav_of header_bytes
 same_numbers frames width a b e f g = cc
 
-pub same_wav : (frames : List ℤ) (width : SampleWidth) (a b : Head) → header_of_head a ≡ header_of_head b → wav_of frames a width ≡ wav_of frames b width
+pub same_wav : (frames : List ℤ) (width : SampleWidth) (a b : Head) → header_of_head a ≡ header_of_head b
+    → wav_of frames a width ≡ wav_of frames b width
 same_wav frames width a b e =
-    same_numbers frames width a b (ap (λ (h : Header). h.sr) e) (ap (λ (h : Header). h.nchnls) e) (ap (λ (h : Header). h.dbfs) e)
+    same_numbers frames width a b (ap (λ (h : Header). h.sr) e) (ap (λ (h : Header). h.nchnls) e)
+    (ap (λ (h : Header). h.dbfs) e)
 
 -- what a source means, asked for alike
-means_as : (told : ShelfTold) (a b : Asked) (r : Result Composition Refused) → AskAlike a b → SourceMeans told b.width b.piece r
+means_as : (told : ShelfTold) (a b : Asked) (r : Result Composition Refused) → AskAlike a b
+    → SourceMeans told b.width b.piece r
     → SourceMeans told a.width a.piece r
 means_as told a b r alike means =
     let Q : Piece → Type 0 = λ l. SourceMeans told b.width l r in
@@ -73,16 +82,19 @@ means_as told a b r alike means =
     subst W (sym alike.width) (subst Q (sym alike.piece) means)
 
 module _ {F K T B C F' K' T' B' C' : Type 0} (see : Sight F K T B C) (see' : Sight F' K' T' B' C') where
-  one_sound : (a b : Asked) (c : Composition) (before now : Scene F K T B C) (before' now' : Scene F' K' T' B' C') → AskAlike a b
+  one_sound : (a b : Asked) (c : Composition) (before now : Scene F K T B C) (before' now' : Scene F' K' T' B' C')
+      → AskAlike a b
       → WasPerformed see a c before now → WasPerformed see' b c before' now' → a.silent ≡ false → b.silent ≡ false
       → HoldAlike (see.wav now.wav).held (see'.wav now'.wav).held
   one_sound a b c before now before' now' alike p q loud loud' =
       let first : HoldsWhereTold (see.wav now.wav).held (wav_of (frames_of c) p.head a.width) =
       file_held (see.wav before.wav) (see.wav now.wav) a.sound_file (wav_of (frames_of c) p.head a.width)
-      (written_is see.wav a.silent before.wav now.wav (λ x y. Finished x y a.sound_file (wav_of (frames_of c) p.head a.width)) loud p.whole.written) in
+      (written_is see.wav a.silent before.wav now.wav
+      (λ x y. Finished x y a.sound_file (wav_of (frames_of c) p.head a.width)) loud p.whole.written) in
       let second : HoldsWhereTold (see'.wav now'.wav).held (wav_of (frames_of c) q.head b.width) =
       file_held (see'.wav before'.wav) (see'.wav now'.wav) b.sound_file (wav_of (frames_of c) q.head b.width)
-      (written_is see'.wav b.silent before'.wav now'.wav (λ x y. Finished x y b.sound_file (wav_of (frames_of c) q.head b.width)) loud' q.whole.written) in
+      (written_is see'.wav b.silent before'.wav now'.wav
+      (λ x y. Finished x y b.sound_file (wav_of (frames_of c) q.head b.width)) loud' q.whole.written) in
       let W : SampleWidth → Type 0 = λ w. wav_of (frames_of c) q.head w ≡ wav_of (frames_of c) p.head a.width in
       let same : wav_of (frames_of c) q.head b.width ≡ wav_of (frames_of c) p.head a.width =
       subst W alike.width (same_wav (frames_of c) a.width q.head p.head (q.head_is ∙ sym p.head_is)) in
@@ -90,20 +102,26 @@ module _ {F K T B C F' K' T' B' C' : Type 0} (see : Sight F K T B C) (see' : Sig
       (subst (HoldsWhereTold (see'.wav now'.wav).held) same second)
 
   -- THE SAME REPORT
-  one_report : (a b : Asked) (c : Composition) (now : Scene F K T B C) (now' : Scene F' K' T' B' C') → a.width ≡ b.width → a.turns ≡ b.turns
-      → meter_lines see.line now.taps ≡ meter_lines see'.line now'.taps → report_in see a c now ≡ report_in see' b c now'
+  one_report : (a b : Asked) (c : Composition) (now : Scene F K T B C) (now' : Scene F' K' T' B' C') → a.width ≡ b.width
+      → a.turns ≡ b.turns
+      → meter_lines see.line now.taps ≡ meter_lines see'.line now'.taps
+      → report_in see a c now ≡ report_in see' b c now'
   one_report a b c now now' w t m = λ i. counts_of c (w i) ++ m i ++ if_told (lines_of (t i)) (turn_lines_of c)
 
-  both_ok : OneMeaning → OnePair → (a b : Asked) (before now : Scene F K T B C) (before' now' : Scene F' K' T' B' C') → AskAlike a b
-      → TellAlike a.piece (see.shelf before.shelf).files (see'.shelf before'.shelf).files → IsOk see a before now → IsOk see' b before' now'
+  both_ok : OneMeaning → OnePair → (a b : Asked) (before now : Scene F K T B C) (before' now' : Scene F' K' T' B' C')
+      → AskAlike a b
+      → TellAlike a.piece (see.shelf before.shelf).files (see'.shelf before'.shelf).files → IsOk see a before now
+      → IsOk see' b before' now'
       → SoundAlike see see' a b before now before' now'
   both_ok m p a b before now before' now' alike told x y =
       let same : x.c ≡ y.c = same_composition x.c y.c
-      (alike_means m p (see.shelf before.shelf) (see'.shelf before'.shelf) a.width a.piece (Ok x.c) (Ok y.c) told x.loaded.means
+      (alike_means m p (see.shelf before.shelf) (see'.shelf before'.shelf) a.width a.piece (Ok x.c) (Ok y.c) told
+      x.loaded.means
       (means_as (see'.shelf before'.shelf) a b (Ok y.c) alike y.loaded.means)) in
       let C : Composition → Type 0 = λ c. WasPerformed see' b c before' now' in
       let M : Composition → Type 0 = λ c. SourceMeans (see'.shelf before'.shelf) b.width b.piece (Ok c) in
-      let R : Composition → Type 0 = λ c. WroteMore (see'.talk before'.talk) (see'.talk now'.talk) (report_in see' b c now') in
+      let R : Composition → Type 0 =
+      λ c. WroteMore (see'.talk before'.talk) (see'.talk now'.talk) (report_in see' b c now') in
       let second : WasPerformed see' b x.c before' now' = subst C (sym same) y.performed in
       record {
         c = x.c;
@@ -117,13 +135,16 @@ module _ {F K T B C F' K' T' B' C' : Type 0} (see : Sight F K T B C) (see' : Sig
         bytes = one_sound a b x.c before now before' now' alike x.performed second;
       }
 
-  pub alike : OneMeaning → OnePair → (words others : List Text) (a b : Asked) (before now : Scene F K T B C) (before' now' : Scene F' K' T' B' C')
+  pub alike : OneMeaning → OnePair
+      → (words others : List Text) (a b : Asked) (before now : Scene F K T B C) (before' now' : Scene F' K' T' B' C')
       → reading words ≡ Some a → reading others ≡ Some b → AskAlike a b
       → TellAlike a.piece (see.shelf before.shelf).files (see'.shelf before'.shelf).files
-      → IsRun see words status.Ok before now → IsRun see' others status.Ok before' now' → SoundAlike see see' a b before now before' now'
+      → IsProgramRun see words status.Ok before now → IsProgramRun see' others status.Ok before' now'
+      → SoundAlike see see' a b before now before' now'
   alike m p words others a b before now before' now' e h ask told run run' =
       both_ok m p a b before now before' now' ask told
-      (the_asked words (λ x. IsOk see x before now) a e run.ended) (the_asked others (λ x. IsOk see' x before' now') b h run'.ended)
+      (the_asked words (λ x. IsOk see x before now) a e run.ended)
+      (the_asked others (λ x. IsOk see' x before' now') b h run'.ended)
 
 -- THE SAME STATUS
 
@@ -144,20 +165,23 @@ module _ {F K T B C : Type 0} (see : Sight F K T B C) (words : List Text) (asked
 
   ended_for : (s : Status) → s ≢ status.OutOfMemory → EndedBy see words before now s → Ended s
   ended_for s m (by_sound c h is) =
-      sounding c (⊎_elim (λ ok. ok) (λ rose. absurd (⊎_elim calm.wav calm.talk rose)) is) (loaded see words before now asked e (Ok c) h)
+      sounding c (⊎_elim (λ ok. ok) (λ rose. absurd (⊎_elim calm.wav calm.talk rose)) is)
+      (loaded see words before now asked e (Ok c) h)
   ended_for s m (by_refusal r is h) = refusing r is (loaded see words before now asked e (Err r) h)
   ended_for s m (by_name name is h) = missing_for s name is (unread see words before now asked e name h)
   ended_for s m (by_words is none) = absurd (no_asked (reading words) asked none e)
   ended_for s m (by_memory is) = absurd (m is)
 
 -- what one of two shelves lacks that tell alike the other lacks
-lack_there : (piece : Piece) (a b : Option (List NamedBytes)) (name : List ℕ) → TellAlike piece a b → LackWhereTold b piece name → LackWhereTold a piece name
+lack_there : (piece : Piece) (a b : Option (List NamedBytes)) (name : List ℕ) → TellAlike piece a b
+    → LackWhereTold b piece name → LackWhereTold a piece name
 lack_there (demo n) a None name told lack = absurd lack
 lack_there (demo n) a (Some files) name told lack = absurd lack
 lack_there (two_files orc sco) a b name told lack = rw told.1 (rw told.2 at lack)
 lack_there (one_file csd) a b name told lack = rw told.1 (rw told.2 at lack)
 
-lack_here : (piece : Piece) (a b : Option (List NamedBytes)) (name : List ℕ) → TellAlike piece a b → LackWhereTold a piece name → LackWhereTold b piece name
+lack_here : (piece : Piece) (a b : Option (List NamedBytes)) (name : List ℕ) → TellAlike piece a b
+    → LackWhereTold a piece name → LackWhereTold b piece name
 lack_here (demo n) None b name told lack = absurd lack
 lack_here (demo n) (Some files) b name told lack = absurd lack
 lack_here (two_files orc sco) a b name told lack = rw told.2 (rw told.1 at lack)
@@ -165,17 +189,25 @@ lack_here (one_file csd) a b name told lack = rw told.2 (rw told.1 at lack)
 
 module _ (m : OneMeaning) (p : OnePair) (none : NoneLacking) (told told' : ShelfTold) (asked : Asked)
     (both_tell : TellAlike asked.piece told.files told'.files) where
-  no_sound : (c : Composition) (r : Refused) → SourceMeans told asked.width asked.piece (Ok c) → SourceMeans told' asked.width asked.piece (Err r) → ⊥
-  no_sound c r h k = refused_composition c r (alike_means m p told told' asked.width asked.piece (Ok c) (Err r) both_tell h k)
+  no_sound : (c : Composition) (r : Refused) → SourceMeans told asked.width asked.piece (Ok c)
+      → SourceMeans told' asked.width asked.piece (Err r) → ⊥
+  no_sound c r h k = refused_composition c r
+      (alike_means m p told told' asked.width asked.piece (Ok c) (Err r) both_tell h k)
 
-  no_refusal : (r : Refused) (c : Composition) → SourceMeans told asked.width asked.piece (Err r) → SourceMeans told' asked.width asked.piece (Ok c) → ⊥
-  no_refusal r c h k = refused_composition c r (sym (alike_means m p told told' asked.width asked.piece (Err r) (Ok c) both_tell h k))
+  no_refusal : (r : Refused) (c : Composition) → SourceMeans told asked.width asked.piece (Err r)
+      → SourceMeans told' asked.width asked.piece (Ok c) → ⊥
+  no_refusal r c h k = refused_composition c r
+      (sym (alike_means m p told told' asked.width asked.piece (Err r) (Ok c) both_tell h k))
 
-  no_lack : (r : Result Composition Refused) (name : List ℕ) → SourceMeans told asked.width asked.piece r → LackWhereTold told'.files asked.piece name → ⊥
-  no_lack r name h k = source_lacks none told asked.width asked.piece r name h (lack_there asked.piece told.files told'.files name both_tell k)
+  no_lack : (r : Result Composition Refused) (name : List ℕ) → SourceMeans told asked.width asked.piece r
+      → LackWhereTold told'.files asked.piece name → ⊥
+  no_lack r name h k = source_lacks none told asked.width asked.piece r name h
+      (lack_there asked.piece told.files told'.files name both_tell k)
 
-  no_meaning : (r : Result Composition Refused) (name : List ℕ) → LackWhereTold told.files asked.piece name → SourceMeans told' asked.width asked.piece r → ⊥
-  no_meaning r name h k = source_lacks none told' asked.width asked.piece r name k (lack_here asked.piece told.files told'.files name both_tell h)
+  no_meaning : (r : Result Composition Refused) (name : List ℕ) → LackWhereTold told.files asked.piece name
+      → SourceMeans told' asked.width asked.piece r → ⊥
+  no_meaning r name h k = source_lacks none told' asked.width asked.piece r name k
+      (lack_here asked.piece told.files told'.files name both_tell h)
 
   same_end : (s t : Status) → EndedFor told asked s → EndedFor told' asked t → s ≡ t
   same_end s t (sounding c e h) (sounding d f k) = e ∙ sym f
@@ -183,7 +215,8 @@ module _ (m : OneMeaning) (p : OnePair) (none : NoneLacking) (told told' : Shelf
   same_end s t (sounding c e h) (missing name f k) = absurd (no_lack (Ok c) name h k)
   same_end s t (refusing r e h) (sounding d f k) = absurd (no_refusal r d h k)
   same_end s t (refusing r e h) (refusing q f k) =
-      e ∙ ap refusal (same_refusal r q (alike_means m p told told' asked.width asked.piece (Err r) (Err q) both_tell h k)) ∙ sym f
+      e ∙ ap refusal (same_refusal r q
+      (alike_means m p told told' asked.width asked.piece (Err r) (Err q) both_tell h k)) ∙ sym f
   same_end s t (refusing r e h) (missing name f k) = absurd (no_lack (Err r) name h k)
   same_end s t (missing name e h) (sounding d f k) = absurd (no_meaning (Ok d) name h k)
   same_end s t (missing name e h) (refusing q f k) = absurd (no_meaning (Err q) name h k)
@@ -193,14 +226,19 @@ module _ (m : OneMeaning) (p : OnePair) (none : NoneLacking) (told told' : Shelf
 as_asked : (told : ShelfTold) (a b : Asked) (s : Status) → AskAlike a b → EndedFor told b s → EndedFor told a s
 as_asked told a b s alike (sounding c e h) = sounding c e (means_as told a b (Ok c) alike h)
 as_asked told a b s alike (refusing r e h) = refusing r e (means_as told a b (Err r) alike h)
-as_asked told a b s alike (missing name e h) = missing name e (subst (λ (l : Piece). LackWhereTold told.files l name) (sym alike.piece) h)
+as_asked told a b s alike (missing name e h) =
+    missing name e (subst (λ (l : Piece). LackWhereTold told.files l name) (sym alike.piece) h)
 
 module _ {F K T B C F' K' T' B' C' : Type 0} (see : Sight F K T B C) (see' : Sight F' K' T' B' C') where
-  pub end_alike : OneMeaning → OnePair → NoneLacking → (words others : List Text) (s t : Status) (a b : Asked) (before now : Scene F K T B C)
+  pub end_alike : OneMeaning → OnePair → NoneLacking
+      → (words others : List Text) (s t : Status) (a b : Asked) (before now : Scene F K T B C)
       (before' now' : Scene F' K' T' B' C') → reading words ≡ Some a → reading others ≡ Some b → AskAlike a b
       → TellAlike a.piece (see.shelf before.shelf).files (see'.shelf before'.shelf).files
-      → IsRun see words s before now → IsRun see' others t before' now' → HadNoFault see before now → HadNoFault see' before' now'
+      → IsProgramRun see words s before now → IsProgramRun see' others t before' now' → HadNoFault see before now
+      → HadNoFault see' before' now'
       → s ≢ status.OutOfMemory → t ≢ status.OutOfMemory → s ≡ t
   end_alike m p none words others s t a b before now before' now' e h ask told run run' calm calm' room room' =
-      same_end m p none (see.shelf before.shelf) (see'.shelf before'.shelf) a told s t (ended_for see words a before now e calm s room (ended_by see words before now s run.ended))
-      (as_asked (see'.shelf before'.shelf) a b t ask (ended_for see' others b before' now' h calm' t room' (ended_by see' others before' now' t run'.ended)))
+      same_end m p none (see.shelf before.shelf) (see'.shelf before'.shelf) a told s t
+      (ended_for see words a before now e calm s room (ended_by see words before now s run.ended))
+      (as_asked (see'.shelf before'.shelf) a b t ask
+      (ended_for see' others b before' now' h calm' t room' (ended_by see' others before' now' t run'.ended)))

@@ -17,8 +17,8 @@ AreTexts files (demo n) texts = texts ≡ demo_notes n
 AreTexts None piece texts = ⊥
 AreTexts (Some files) piece texts = Have files piece texts
 
--- One piece is asked for, and one width of its samples. All else may differ: the name of the sound file and whether it is
--- written, workers, turns and pool.
+-- One piece is asked for, and one width of its samples. All else may differ: the name of the sound file and whether it
+-- is written, workers, turns and pool.
 pub record AskAlike (a b : Asked) : Type 0 where
   pub piece : a.piece ≡ b.piece
   pub width : a.width ≡ b.width
@@ -35,9 +35,10 @@ HoldAlike _ _ = ⊤
 
 -- Two runs performed one composition, which their texts mean, so that their meters were told the same frames, and each
 -- cycle of either was counted by the voices that were heard in it. Each said its report, and the two are the same where
--- turns are asked for alike and the lines of the meters are the same. Where both wrote sound files, the two are the same
--- byte for byte.
-pub record SoundAlike {F K T B C F' K' T' B' C' : Type 0} (see : Sight F K T B C) (see' : Sight F' K' T' B' C') (a b : Asked)
+-- turns are asked for alike and the lines of the meters are the same. Where both wrote sound files, the two are the
+-- same byte for byte.
+pub record SoundAlike {F K T B C F' K' T' B' C' : Type 0} (see : Sight F K T B C) (see' : Sight F' K' T' B' C')
+    (a b : Asked)
     (before now : Scene F K T B C) (before' now' : Scene F' K' T' B' C') : Type 0 where
   pub c : Composition
   pub means : SourceMeans (see.shelf before.shelf) a.width a.piece (Ok c)

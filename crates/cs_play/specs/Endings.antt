@@ -4,8 +4,9 @@ use Rattle.cs_base.specs.declared.head.Head.{Head}
 use Rattle.cs_piece_meaning.specs.Moments.{Composition}
 use Rattle.cs_edge.specs.Moves.{WroteMore}
 use Rattle.cs_edge.specs.Told.{Rose}
-use Rattle.cs_perform.specs.Performances.{IsPart, IsPaused, IsWhole, Lent, lent}
-use Rattle.cs_perform.specs.declared.order.Order.{Order}
+use Rattle.cs_perform.specs.Performances.{IsPart, IsPaused, IsWholePerformance, Lent, LentSight, Request, lent}
+use Rattle.cs_perform.specs.Performances.{lent_sight}
+use Rattle.cs_perform.specs.declared.order.PerformanceOrder.{PerformanceOrder}
 use Rattle.cs_perform.specs.declared.order.Output.{Output}
 use Rattle.cs_perform.specs.declared.order.Output.TheVariants.{SoundFile, Nothing}
 use Rattle.cs_perform.specs.declared.order.TurnLines.{TurnLines}
@@ -31,12 +32,19 @@ lines_of true = Told
 lines_of false = Untold
 
 -- what the performer is asked for
-abbrev pub order_of : Asked → Order
+abbrev pub order_of : Asked → PerformanceOrder
 order_of asked = record { output = output_of asked.silent; width = asked.width; turns = lines_of asked.turns }
 
--- what of it is lent to a performance
+-- and what it performs, where this composition is that of the piece, and this the head of its sound file
+abbrev pub request_in : Asked → Composition → Head → Request
+request_in asked c head = record { piece = c; head = head; order = order_of asked; name = asked.sound_file }
+
+-- what of the objects is lent to a performance, and what is told of it
 abbrev pub lent_in : {F K T B C : Type 0} → Scene F K T B C → Lent B K C
 lent_in s = lent s.wav s.taps s.tally
+
+abbrev pub sees_lent : {F K T B C : Type 0} → Sight F K T B C → LentSight B K C
+sees_lent see = lent_sight see.stands see.wav see.counted
 
 module _ {F K T B C : Type 0} (see : Sight F K T B C) where
   -- The sound file, the meters and the count are as before.
@@ -54,20 +62,20 @@ module _ {F K T B C : Type 0} (see : Sight F K T B C) where
   pub record WasPerformed (asked : Asked) (c : Composition) (before now : Scene F K T B C) : Type 0 where
     pub head : Head
     pub head_is : header_of_head head ≡ c.head
-    pub whole : IsWhole see.stands see.wav see.counted c head (order_of asked) asked.sound_file (lent_in before) (lent_in now)
+    pub whole : IsWholePerformance (sees_lent see) (request_in asked c head) (lent_in before) (lent_in now)
 
   -- Some number of its first cycles were.
   pub record WasPartlyPerformed (asked : Asked) (c : Composition) (before now : Scene F K T B C) : Type 0 where
     pub head : Head
     pub head_is : header_of_head head ≡ c.head
-    pub part : IsPart see.stands see.wav see.counted c head (order_of asked) asked.sound_file (lent_in before) (lent_in now)
+    pub part : IsPart (sees_lent see) (request_in asked c head) (lent_in before) (lent_in now)
 
   -- Some number of its first cycles were, and the sound file, where it was begun, has its header and the samples of
   -- just these.
   pub record WasPaused (asked : Asked) (c : Composition) (before now : Scene F K T B C) : Type 0 where
     pub head : Head
     pub head_is : header_of_head head ≡ c.head
-    pub paused : IsPaused see.stands see.wav see.counted c head (order_of asked) asked.sound_file (lent_in before) (lent_in now)
+    pub paused : IsPaused (sees_lent see) (request_in asked c head) (lent_in before) (lent_in now)
 
   -- the report, with the lines of the meters as they are now
   abbrev pub report_in : Asked → Composition → Scene F K T B C → List ℕ

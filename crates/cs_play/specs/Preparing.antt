@@ -26,11 +26,13 @@ module _ {F : Type 0} (tells : F → ShelfTold) where
   -- A piece: the words ask for it, and its source means the composition of the setup.
   pub record IsPrepared (words : List Text) (before now : F) (p : Prepared) : Type 0 where
     pub asked : reading words ≡ Some (asked_in p.order)
-    pub loaded : IsLoaded (tells before) (tells now) p.order.width (piece_in p.order.source) (Ok (composition_of p.setup))
+    pub loaded : IsLoaded (tells before) (tells now) p.order.width (piece_in p.order.source)
+        (Ok (composition_of p.setup))
 
   -- the source means this refusal
   abbrev pub IsRefused : Refused → List Text → F → F → Type 0
-  IsRefused r words before now = Reads words (λ asked. IsLoaded (tells before) (tells now) asked.width asked.piece (Err r))
+  IsRefused r words before now =
+      Reads words (λ asked. IsLoaded (tells before) (tells now) asked.width asked.piece (Err r))
 
   -- Why there is no piece, by the status that says so, and the name that can't be read where that is why: the words ask
   -- for nothing, and the shelf had no call; the name can't be read, the one begun last; the source means a refusal.
@@ -47,7 +49,8 @@ module _ {F : Type 0} (tells : F → ShelfTold) where
   HasNoPiece _ name words before now = ⊥
 
   -- There is no piece, and talk has the line of the status, or the front of it where its count rose.
-  pub record IsUnprepared (s : Status) (words : List Text) (before now : F) (talk_before talk_now : SinkTold) : Type 0 where
+  pub record IsUnprepared (s : Status) (words : List Text) (before now : F) (talk_before talk_now : SinkTold) : Type
+      0 where
     pub name : List ℕ
     pub cause : HasNoPiece s name words before now
     pub line : Says talk_before talk_now (message_of s name)

@@ -7,7 +7,8 @@ use Rattle.cs_report.specs.declared.status.Status.{Status}
 use Rattle.cs_arguments.specs.Reading.{Text}
 
 -- A run of the program over these words ended with this status.
-pub record IsRun {F K T B C : Type 0} (see : Sight F K T B C) (words : List Text) (s : Status) (before now : Scene F K T B C) : Type 0 where
+pub record IsProgramRun {F K T B C : Type 0} (see : Sight F K T B C) (words : List Text) (s : Status)
+    (before now : Scene F K T B C) : Type 0 where
   -- What has come about by then.
   pub ended : EndsBy see s words before now
   -- The shelf had no call, or was read by the source that the words ask for, all of it or the front.

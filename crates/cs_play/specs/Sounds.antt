@@ -6,8 +6,8 @@ use Rattle.cs_arguments.specs.Reading.{Asked}
 use Rattle.cs_source.specs.Sounds.{IsSoundOf}
 use Rattle.cs_source.specs.Texts.{Texts}
 
--- What a sink holds after a run, and what it told before: the same, where no sound file was begun; nothing, where its begin
--- failed; or, under the name asked for, a front of the sound of the texts.
+-- What a sink holds after a run, and what it told before: the same, where no sound file was begun; nothing, where its
+-- begin failed; or, under the name asked for, a front of the sound of the texts.
 abbrev pub HoldsSoundFront : Texts → Asked → Option Held → Held → Type 0
 HoldsSoundFront t asked before now =
     (before ≡ Some now)

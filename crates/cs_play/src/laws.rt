@@ -7,7 +7,7 @@ ghost use Rattle.cs_edge.specs.Moves.{Held};
 ghost use Rattle.cs_edge.specs.Told.{Rose};
 ghost use Rattle.cs_play.specs.Alike.{AreTexts, AskAlike, HadNoFault, SoundAlike, TellAlike};
 ghost use Rattle.cs_play.specs.Preparing.{Reads};
-ghost use Rattle.cs_play.specs.Runs.{IsRun};
+ghost use Rattle.cs_play.specs.Runs.{IsProgramRun};
 ghost use Rattle.cs_play.specs.Scene.{Scene, sight};
 ghost use Rattle.cs_play.specs.Sounds.{HoldsSoundFront};
 ghost use Rattle.cs_report.specs.Status.{refusal};
@@ -40,19 +40,20 @@ pub fn texts_have_one_sound_or_refusal()
 }
 
 /// THE HEADLINE. The texts of a run are known: those of the files that the shelf tells, or the demo's; and the sound
-/// file tells what it holds. After Ok it holds the sound of the texts, under the name asked for, and was ended, unless
-/// silence is asked for. After any status it holds what it held before, or nothing where its begin failed, or a front of
-/// the sound of the texts.
+/// file tells what it holds. After Ok it holds the sound of the texts, under the name asked for, and was ended,
+/// unless silence is asked for. After any status it holds what it held before, or nothing where its begin failed, or
+/// a front of the sound of the texts.
 pub fn sound_files_hold_sounds<F: Shelf, K: Sink, T: Sink, C: Counter>(_taps: &[Box<dyn Tap>])
     ensures ok { (words : List Text) (before now : Scene F K T _ C) (asked : Asked) (t : Texts) (held : Held)
-        → IsRun (sight F.tells K.tells T.tells C.has_counted (λ t h. stands_for t h)
+        → IsProgramRun (sight F.tells K.tells T.tells C.has_counted (λ t h. stands_for t h)
         (λ t room. text t room)) words status.Ok before now
         → reading words ≡ Some asked → AreTexts (F.tells before.shelf).files asked.piece t
         → (K.tells now.wav).held ≡ Some held → asked.silent ≡ false
         → (held.name ≡ Some asked.sound_file) × (held.ended ≡ true) × IsSoundOf t asked.width held.bytes }
     ensures front { (words : List Text) (s : Status) (before now : Scene F K T _ C) (asked : Asked) (t : Texts)
         (held : Held)
-        → IsRun (sight F.tells K.tells T.tells C.has_counted (λ t h. stands_for t h) (λ t room. text t room)) words s before now
+        → IsProgramRun (sight F.tells K.tells T.tells C.has_counted (λ t h. stands_for t h)
+        (λ t room. text t room)) words s before now
         → reading words ≡ Some asked → AreTexts (F.tells before.shelf).files asked.piece t
         → (K.tells now.wav).held ≡ Some held → HoldsSoundFront t asked (K.tells before.wav).held held }
 {
@@ -60,9 +61,9 @@ pub fn sound_files_hold_sounds<F: Shelf, K: Sink, T: Sink, C: Counter>(_taps: &[
     early_stops_are_fronts();
 }
 
-/// Two runs end Ok; their words ask for one piece and one width, whatever else they say; and their shelves tell the same
-/// files, or the piece is the demo. Then they performed one composition, that of their texts, each has said its report,
-/// and their sound files are the same byte for byte.
+/// Two runs end Ok; their words ask for one piece and one width, whatever else they say; and their shelves tell the
+/// same files, or the piece is the demo. Then they performed one composition, that of their texts, each has said its
+/// report, and their sound files are the same byte for byte.
 pub fn same_bytes<
     F: Shelf,
     K: Sink,
@@ -73,12 +74,13 @@ pub fn same_bytes<
     T2: Sink,
     C2: Counter,
 >(_taps: &[Box<dyn Tap>])
-    ensures { (words others : List Text) (a b : Asked) (before now : Scene F K T _ C) (before_2 now_2 : Scene F2 K2 T2 _ C2)
+    ensures { (words others : List Text) (a b : Asked) (before now : Scene F K T _ C)
+        (before_2 now_2 : Scene F2 K2 T2 _ C2)
         → reading words ≡ Some a → reading others ≡ Some b → AskAlike a b
         → TellAlike a.piece (F.tells before.shelf).files (F2.tells before_2.shelf).files
-        → IsRun (sight F.tells K.tells T.tells C.has_counted (λ t h. stands_for t h)
+        → IsProgramRun (sight F.tells K.tells T.tells C.has_counted (λ t h. stands_for t h)
         (λ t room. text t room)) words status.Ok before now
-        → IsRun (sight F2.tells K2.tells T2.tells C2.has_counted (λ t h. stands_for t h)
+        → IsProgramRun (sight F2.tells K2.tells T2.tells C2.has_counted (λ t h. stands_for t h)
         (λ t room. text t room)) others status.Ok before_2 now_2
         → SoundAlike (sight F.tells K.tells T.tells C.has_counted (λ t h. stands_for t h) (λ t room. text t room))
         (sight F2.tells K2.tells T2.tells C2.has_counted (λ t h. stands_for t h)
@@ -104,10 +106,12 @@ pub fn same_status<
         (before_2 now_2 : Scene F2 K2 T2 _ C2)
         → reading words ≡ Some a → reading others ≡ Some b → AskAlike a b
         → TellAlike a.piece (F.tells before.shelf).files (F2.tells before_2.shelf).files
-        → IsRun (sight F.tells K.tells T.tells C.has_counted (λ t h. stands_for t h) (λ t room. text t room)) words s before now
-        → IsRun (sight F2.tells K2.tells T2.tells C2.has_counted (λ t h. stands_for t h)
+        → IsProgramRun (sight F.tells K.tells T.tells C.has_counted (λ t h. stands_for t h)
+        (λ t room. text t room)) words s before now
+        → IsProgramRun (sight F2.tells K2.tells T2.tells C2.has_counted (λ t h. stands_for t h)
         (λ t room. text t room)) others s_2 before_2 now_2
-        → HadNoFault (sight F.tells K.tells T.tells C.has_counted (λ t h. stands_for t h) (λ t room. text t room)) before now
+        → HadNoFault (sight F.tells K.tells T.tells C.has_counted (λ t h. stands_for t h)
+        (λ t room. text t room)) before now
         → HadNoFault (sight F2.tells K2.tells T2.tells C2.has_counted (λ t h. stands_for t h)
         (λ t room. text t room)) before_2 now_2
         → s ≢ status.OutOfMemory → s_2 ≢ status.OutOfMemory → s ≡ s_2 }
@@ -120,14 +124,16 @@ pub fn same_status<
 /// Words without a reading get the usage line, want of memory aside.
 pub fn words_decide<F: Shelf, K: Sink, T: Sink, C: Counter>(_taps: &[Box<dyn Tap>])
     ensures { (words : List Text) (s : Status) (before now : Scene F K T _ C)
-        → IsRun (sight F.tells K.tells T.tells C.has_counted (λ t h. stands_for t h) (λ t room. text t room)) words s before now
+        → IsProgramRun (sight F.tells K.tells T.tells C.has_counted (λ t h. stands_for t h)
+        (λ t room. text t room)) words s before now
         → reading words ≡ None → (s ≡ status.Usage) ⊎ (s ≡ status.OutOfMemory) }
 {}
 
 /// Where the shelf tells that it lacks a name that is begun, that is the end, want of memory aside.
 pub fn lacking_decides<F: Shelf, K: Sink, T: Sink, C: Counter>(_taps: &[Box<dyn Tap>])
     ensures { (words : List Text) (s : Status) (before now : Scene F K T _ C)
-        → IsRun (sight F.tells K.tells T.tells C.has_counted (λ t h. stands_for t h) (λ t room. text t room)) words s before now
+        → IsProgramRun (sight F.tells K.tells T.tells C.has_counted (λ t h. stands_for t h)
+        (λ t room. text t room)) words s before now
         → Reads words (λ asked. (name : List ℕ) × LackWhereTold (F.tells before.shelf).files asked.piece name)
         → (s ≡ status.ShelfFault) ⊎ (s ≡ status.OutOfMemory) }
 {
@@ -137,7 +143,8 @@ pub fn lacking_decides<F: Shelf, K: Sink, T: Sink, C: Counter>(_taps: &[Box<dyn 
 /// Where the texts are known and refused, and the shelf didn't fail, the refusal comes, want of memory aside.
 pub fn refusals_decide<F: Shelf, K: Sink, T: Sink, C: Counter>(_taps: &[Box<dyn Tap>])
     ensures { (words : List Text) (s : Status) (before now : Scene F K T _ C) (asked : Asked) (t : Texts) (r : Refused)
-        → IsRun (sight F.tells K.tells T.tells C.has_counted (λ t h. stands_for t h) (λ t room. text t room)) words s before now
+        → IsProgramRun (sight F.tells K.tells T.tells C.has_counted (λ t h. stands_for t h)
+        (λ t room. text t room)) words s before now
         → reading words ≡ Some asked → AreTexts (F.tells before.shelf).files asked.piece t → Mean asked.width t (Err r)
         → ¬ (Rose (F.tells before.shelf).faults (F.tells now.shelf).faults)
         → (s ≡ refusal r) ⊎ (s ≡ status.OutOfMemory) }
@@ -152,7 +159,8 @@ pub fn refusals_decide<F: Shelf, K: Sink, T: Sink, C: Counter>(_taps: &[Box<dyn 
 pub fn sounds_decide<F: Shelf, K: Sink, T: Sink, C: Counter>(_taps: &[Box<dyn Tap>])
     ensures { (words : List Text) (s : Status) (before now : Scene F K T _ C) (asked : Asked) (t : Texts)
         (c : Composition)
-        → IsRun (sight F.tells K.tells T.tells C.has_counted (λ t h. stands_for t h) (λ t room. text t room)) words s before now
+        → IsProgramRun (sight F.tells K.tells T.tells C.has_counted (λ t h. stands_for t h)
+        (λ t room. text t room)) words s before now
         → reading words ≡ Some asked → AreTexts (F.tells before.shelf).files asked.piece t → Mean asked.width t (Ok c)
         → ¬ (Rose (F.tells before.shelf).faults (F.tells now.shelf).faults)
         → ¬ (Rose (K.tells before.wav).faults (K.tells now.wav).faults)

@@ -1,6 +1,6 @@
 //! The program as one call: the words behind its name in, a sound file and a report out.
 //!
-//! The one contract: `csplay` ends as `IsRun` says (specs/Runs): each status by what has come about (`EndsBy`,
+//! The one contract: `csplay` ends as `IsProgramRun` says (specs/Runs): each status by what has come about (`EndsBy`,
 //! specs/Endings), over what shelf, sound file, talk and meters tell before and after; and the shelf was read by the
 //! source that the words ask for, or not at all. What comes before the performance is `prepare`, which has no runtime:
 //! a piece (`IsPrepared`, specs/Preparing), or the status and the line of what keeps the run from it (`IsUnprepared`).
@@ -10,8 +10,8 @@
 //!
 //! How many workers there are may be changed without anyone noticing; so may whatever `perform` leaves open.
 //!
-//! Modules in reading order: `top` (the whole run), `preparing` (words and texts), `sounding` (a piece is performed and
-//! reported on), `player` (by how many workers), `laws`.
+//! Modules in reading order: `top` (the whole run), `preparing` (words and texts), `player` (a piece is performed, by
+//! how many workers), `sounding` (what came of it is said), `laws`.
 #![tactic(auto)]
 
 mod laws;

@@ -1,8 +1,10 @@
 // Who performs a piece that was prepared.
-ghost use Rattle.std.specs.Prelude.{◌≡◌, ◌≤◌, ◌^◌};
-ghost use Rattle.cs_perform.specs.Performances.{PerformsPiece, lent};
-ghost use Rattle.cs_play.specs.Endings.{lines_of, order_of, output_of};
+ghost use Rattle.std.specs.Prelude.{◌≡◌, ◌≤◌, ◌^◌, IfOk};
+ghost use Rattle.cs_perform.specs.Performances.{PerformsPiece, lent, lent_sight, request_of};
+ghost use Rattle.cs_play.specs.Endings.{lines_of, order_of, output_of, request_in};
 ghost use Rattle.cs_arguments.specs.Orders.{asked_in};
+ghost use Rattle.cs_piece.specs.Setups.{composition_of};
+ghost use Rattle.cs_play.specs.inner.Sounding.{HasPlayed};
 ghost use Rattle.cs_source.specs.Loaded.{FitsFile};
 
 use crate::preparing::Prepared;
@@ -12,6 +14,7 @@ use cs_perform::{
     Counter, Crew, Outcome, Output, Performance, PlayFault, TurnLines, perform, perform_alone,
 };
 use cs_pool::crew_size;
+use cs_report::Status;
 use std::alloc::Global;
 use std::sync::Wait;
 use std::thread::Threads;
@@ -24,9 +27,63 @@ pub(crate) struct Host<'r, R, G> {
     pub gate: &'r G,
 }
 
-/// Performs a piece as the words ask for it, by as many workers as they ask for, though no more than there are
-/// processors, or two where there is one. One worker is the caller alone. `tally` has room for 2^42 cycles and notes.
+/// The caller alone, and the gate that is called before each note.
+#[derive(Drop)]
+pub(crate) struct Alone<'g, G> {
+    pub alloc: Global,
+    pub gate: &'g G,
+}
+
+/// What came of a performance, or that there was none.
+#[derive(Drop)]
+pub(crate) enum Played {
+    /// A piece was performed, and this came of it.
+    Piece(Result<Outcome, PlayFault>),
+    /// There was no piece. That was said, and this is the status of it.
+    Nothing(Status),
+}
+
+/// Performs what was prepared as the words ask for it, by as many workers as they ask for, though no more than there
+/// are processors, or two where there is one. One worker is the caller alone. `tally` has room for 2^42 cycles and
+/// notes.
 pub(crate) fn play<R: Threads + Wait + Sync, G: Gate + Sync, K: Sink, C: Counter>(
+    host: &Host<'_, R, G>,
+    prepared: &Result<Prepared<'_>, Status>,
+    wav: &mut K,
+    taps: &mut Vec<Box<dyn Tap>>,
+    tally: &mut C,
+) -> Played
+    requires room { 2 ^ 42 ≤ C.room tally.old }
+    requires fits { IfOk prepared.now (λ p. FitsFile p.order.width p.setup) }
+    ensures { HasPlayed (lent_sight (λ t h. stands_for t h) K.tells C.has_counted) prepared.now
+        (lent wav.old taps.old.items tally.old) (lent wav.new taps.new.items tally.new) result }
+{
+    match prepared {
+        Ok(piece) => Played::Piece(play_piece(host, piece, wav, taps, tally)),
+        Err(status) => Played::Nothing(*status),
+    }
+}
+
+/// The same by the caller alone, however many workers the words ask for.
+pub(crate) fn play_alone<G: Gate, K: Sink, C: Counter>(
+    alone: &Alone<'_, G>,
+    prepared: &Result<Prepared<'_>, Status>,
+    wav: &mut K,
+    taps: &mut Vec<Box<dyn Tap>>,
+    tally: &mut C,
+) -> Played
+    requires room { 2 ^ 42 ≤ C.room tally.old }
+    requires fits { IfOk prepared.now (λ p. FitsFile p.order.width p.setup) }
+    ensures { HasPlayed (lent_sight (λ t h. stands_for t h) K.tells C.has_counted) prepared.now
+        (lent wav.old taps.old.items tally.old) (lent wav.new taps.new.items tally.new) result }
+{
+    match prepared {
+        Ok(piece) => Played::Piece(play_piece_alone(alone, piece, wav, taps, tally)),
+        Err(status) => Played::Nothing(*status),
+    }
+}
+
+fn play_piece<R: Threads + Wait + Sync, G: Gate + Sync, K: Sink, C: Counter>(
     host: &Host<'_, R, G>,
     piece: &Prepared<'_>,
     wav: &mut K,
@@ -35,9 +92,9 @@ pub(crate) fn play<R: Threads + Wait + Sync, G: Gate + Sync, K: Sink, C: Counter
 ) -> Result<Outcome, PlayFault>
     requires room { 2 ^ 42 ≤ C.room tally.old }
     requires fits { FitsFile piece.now.order.width piece.now.setup }
-    ensures { PerformsPiece (λ t h. stands_for t h) K.tells C.has_counted piece.now.setup
-        (order_of (asked_in piece.now.order)) piece.now.order.sound_file.now (lent wav.old taps.old.items tally.old)
-        (lent wav.new taps.new.items tally.new) result }
+    ensures { PerformsPiece (lent_sight (λ t h. stands_for t h) K.tells C.has_counted)
+        (request_in (asked_in piece.now.order) (composition_of piece.now.setup) piece.now.setup.orchestra.head)
+        (lent wav.old taps.old.items tally.old) (lent wav.new taps.new.items tally.new) result }
 {
     let workers = workers_of(host.rt, piece.order.workers.number());
     let performance = performance_of(host.alloc, piece);
@@ -48,15 +105,7 @@ pub(crate) fn play<R: Threads + Wait + Sync, G: Gate + Sync, K: Sink, C: Counter
     perform(&performance, &crew, wav, taps, tally)
 }
 
-/// The caller alone, and the gate that is called before each note.
-#[derive(Drop)]
-pub(crate) struct Alone<'g, G> {
-    pub alloc: Global,
-    pub gate: &'g G,
-}
-
-/// The same by the caller alone, however many workers the words ask for.
-pub(crate) fn play_alone<G: Gate, K: Sink, C: Counter>(
+fn play_piece_alone<G: Gate, K: Sink, C: Counter>(
     alone: &Alone<'_, G>,
     piece: &Prepared<'_>,
     wav: &mut K,
@@ -65,9 +114,9 @@ pub(crate) fn play_alone<G: Gate, K: Sink, C: Counter>(
 ) -> Result<Outcome, PlayFault>
     requires room { 2 ^ 42 ≤ C.room tally.old }
     requires fits { FitsFile piece.now.order.width piece.now.setup }
-    ensures { PerformsPiece (λ t h. stands_for t h) K.tells C.has_counted piece.now.setup
-        (order_of (asked_in piece.now.order)) piece.now.order.sound_file.now (lent wav.old taps.old.items tally.old)
-        (lent wav.new taps.new.items tally.new) result }
+    ensures { PerformsPiece (lent_sight (λ t h. stands_for t h) K.tells C.has_counted)
+        (request_in (asked_in piece.now.order) (composition_of piece.now.setup) piece.now.setup.orchestra.head)
+        (lent wav.old taps.old.items tally.old) (lent wav.new taps.new.items tally.new) result }
 {
     let performance = performance_of(alone.alloc, piece);
     perform_alone(&performance, alone.gate, wav, taps, tally)
@@ -84,7 +133,8 @@ fn workers_of<R: Threads>(rt: &R, asked: u32) -> u32
 fn performance_of<'p>(alloc: Global, piece: &'p Prepared<'_>) -> Performance<'p>
     ensures setup { result.setup.now ≡ piece.now.setup }
     ensures order { result.order ≡ order_of (asked_in piece.now.order) }
-    ensures name { result.name.now ≡ piece.now.order.sound_file.now }
+    ensures request { request_of result
+        ≡ request_in (asked_in piece.now.order) (composition_of piece.now.setup) piece.now.setup.orchestra.head }
 {
     Performance {
         alloc,
@@ -94,10 +144,10 @@ fn performance_of<'p>(alloc: Global, piece: &'p Prepared<'_>) -> Performance<'p>
     }
 }
 
-fn performing(order: &Order<'_>) -> cs_perform::Order
+fn performing(order: &Order<'_>) -> cs_perform::PerformanceOrder
     ensures { result ≡ order_of (asked_in order.now) }
 {
-    cs_perform::Order {
+    cs_perform::PerformanceOrder {
         output: output_of(order.silent),
         width: order.width,
         turns: lines_of(order.turns),

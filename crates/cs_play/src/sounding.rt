@@ -1,66 +1,23 @@
-// A piece is performed and reported on.
-ghost use Rattle.std.specs.Prelude.{◌≡◌, ◌≤◌, ◌^◌, ◌++◌, ⊤, flat_map};
-ghost use Rattle.cs_edge.specs.Files.{ShelfTold};
-ghost use Rattle.cs_play.specs.Scene.{scene, sight};
-ghost use Rattle.cs_play.specs.inner.Sounding.{HasReported, HasSounded, counts_told};
+// What came of a performance is said.
+ghost use Rattle.std.specs.Prelude.{◌≡◌, ◌++◌, flat_map};
+ghost use Rattle.cs_play.specs.inner.Sounding.{HasReported, HasSaid, counts_told};
 ghost use Rattle.cs_play.specs.inner.Stopping.{fault_status};
-ghost use Rattle.cs_arguments.specs.Orders.{asked_in};
-ghost use Rattle.cs_piece.specs.Setups.{composition_of};
 ghost use Rattle.cs_report.specs.Report.{counts_in, line_room};
-ghost use Rattle.cs_source.specs.Loaded.{FitsFile};
 
-use crate::player::{Alone, Host, play, play_alone};
-use crate::preparing::Prepared;
-use cs_edge::{Gate, Sink, Tap};
-use cs_perform::{Counter, Outcome, PlayFault};
+use crate::player::Played;
+use cs_edge::{Sink, Tap};
+use cs_perform::{Outcome, PlayFault};
 use cs_report::{Counts, Status, report, say_end};
-use std::sync::Wait;
-use std::thread::Threads;
 
-/// Performs a piece as the words ask for it, and writes its report, or the line that says why there is none. The
-/// shelf has no part in it.
-pub(crate) fn sound<R: Threads + Wait + Sync, G: Gate + Sync, K: Sink, T: Sink, C: Counter>(
-    host: &Host<'_, R, G>,
-    piece: &Prepared<'_>,
-    wav: &mut K,
-    talk: &mut T,
-    taps: &mut Vec<Box<dyn Tap>>,
-    tally: &mut C,
-) -> Status
-    requires room { 2 ^ 42 ≤ C.room tally.old }
-    requires fits { FitsFile piece.now.order.width piece.now.setup }
-    ensures { (told : ShelfTold)
-        → HasSounded (sight (λ (_ : ⊤). told) K.tells T.tells C.has_counted (λ t h. stands_for t h) (λ t room. text t room))
-        (asked_in piece.now.order)
-        (composition_of piece.now.setup) result (scene tt wav.old talk.old taps.old.items tally.old)
-        (scene tt wav.new talk.new taps.new.items tally.new) }
+/// Writes the report of a performance, with the lines of these meters, or the line that says why there is none; where
+/// there was no piece, that has been said.
+pub(crate) fn say<T: Sink>(talk: &mut T, played: &Played, taps: &[Box<dyn Tap>]) -> Status
+    ensures { HasSaid T.tells (λ t room. text t room) played.now taps.now talk.old talk.new result }
 {
-    match play(host, piece, wav, taps, tally) {
-        Ok(outcome) => reported(talk, &outcome, taps),
-        Err(fault) => say_end(talk, status_of(fault), ""),
-    }
-}
-
-/// The same by the caller alone.
-pub(crate) fn sound_alone<G: Gate, K: Sink, T: Sink, C: Counter>(
-    alone: &Alone<'_, G>,
-    piece: &Prepared<'_>,
-    wav: &mut K,
-    talk: &mut T,
-    taps: &mut Vec<Box<dyn Tap>>,
-    tally: &mut C,
-) -> Status
-    requires room { 2 ^ 42 ≤ C.room tally.old }
-    requires fits { FitsFile piece.now.order.width piece.now.setup }
-    ensures { (told : ShelfTold)
-        → HasSounded (sight (λ (_ : ⊤). told) K.tells T.tells C.has_counted (λ t h. stands_for t h) (λ t room. text t room))
-        (asked_in piece.now.order)
-        (composition_of piece.now.setup) result (scene tt wav.old talk.old taps.old.items tally.old)
-        (scene tt wav.new talk.new taps.new.items tally.new) }
-{
-    match play_alone(alone, piece, wav, taps, tally) {
-        Ok(outcome) => reported(talk, &outcome, taps),
-        Err(fault) => say_end(talk, status_of(fault), ""),
+    match played {
+        Played::Piece(Ok(outcome)) => reported(talk, outcome, taps),
+        Played::Piece(Err(fault)) => say_end(talk, status_of(*fault), ""),
+        Played::Nothing(status) => *status,
     }
 }
 

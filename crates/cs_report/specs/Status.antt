@@ -1,7 +1,8 @@
 -- The numbers of the endings, and which of them are refusals of a piece's texts.
 use Rattle.std.specs.Prelude.{ℕ}
 use Rattle.cs_report.specs.declared.status.Status.{Status}
-use Rattle.cs_report.specs.declared.status.Status.TheVariants.{Ok, Usage, ShelfFault, OrcRefused, ScoreRefused, Limit, SinkFault, OutOfMemory, TalkFault, CsdRefused}
+use Rattle.cs_report.specs.declared.status.Status.TheVariants.{Ok, Usage, ShelfFault, OrcRefused, ScoreRefused, Limit}
+use Rattle.cs_report.specs.declared.status.Status.TheVariants.{SinkFault, OutOfMemory, TalkFault, CsdRefused}
 use Rattle.cs_base.specs.declared.refusal.Refusal.TheVariants as why
 use Rattle.cs_csd.specs.declared.refused.Refused.{Refused}
 use Rattle.cs_csd.specs.declared.refused.Refused.TheVariants as refused

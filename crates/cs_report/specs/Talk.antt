@@ -7,7 +7,8 @@ use Rattle.cs_csd.specs.Kinds.{kind_name, kind_number}
 use Rattle.cs_edge.specs.Moves.{SinkTold, WroteMore}
 use Rattle.cs_edge.specs.Told.{Rose, IsFront}
 use Rattle.cs_report.specs.declared.status.Status.{Status}
-use Rattle.cs_report.specs.declared.status.Status.TheVariants.{Ok, Usage, ShelfFault, OrcRefused, ScoreRefused, Limit, SinkFault, OutOfMemory, TalkFault, CsdRefused}
+use Rattle.cs_report.specs.declared.status.Status.TheVariants.{Ok, Usage, ShelfFault, OrcRefused, ScoreRefused, Limit}
+use Rattle.cs_report.specs.declared.status.Status.TheVariants.{SinkFault, OutOfMemory, TalkFault, CsdRefused}
 use Rattle.cs_arguments.specs.Usage.{usage_text}
 
 -- one text after another
@@ -23,20 +24,24 @@ fault_message text line kind name =
 -- the line of a limit that was passed
 unfoldable pub limit_message : LimitHit → List ℕ
 limit_message hit =
-    joined (codes "limit L" ∷ decimal (limit_number hit.limit) ∷ codes " passed at line " ∷ decimal hit.line ∷ codes "\n" ∷ [])
+    joined (codes "limit L" ∷ decimal (limit_number hit.limit) ∷ codes " passed at line " ∷ decimal hit.line
+    ∷ codes "\n" ∷ [])
 
 -- the line of a status, where the text of this name is the one that can't be read; Ok and TalkFault have none
 abbrev pub message_of : Status → List ℕ → List ℕ
 message_of Ok name = []
 message_of Usage name = usage_text ++ codes "\n"
 message_of ShelfFault name = joined (codes "cannot read " ∷ name ∷ codes "\n" ∷ [])
-message_of (OrcRefused fault) name = fault_message (codes "orchestra") fault.line (orc_kind_number fault.kind) (orc_kind_name fault.kind)
-message_of (ScoreRefused fault) name = fault_message (codes "score") fault.line (score_kind_number fault.kind) (score_kind_name fault.kind)
+message_of (OrcRefused fault) name =
+    fault_message (codes "orchestra") fault.line (orc_kind_number fault.kind) (orc_kind_name fault.kind)
+message_of (ScoreRefused fault) name =
+    fault_message (codes "score") fault.line (score_kind_number fault.kind) (score_kind_name fault.kind)
 message_of (Limit hit) name = limit_message hit
 message_of SinkFault name = codes "cannot write the sound file\n"
 message_of OutOfMemory name = codes "out of memory\n"
 message_of TalkFault name = []
-message_of (CsdRefused fault) name = fault_message (codes "csd") fault.line (kind_number fault.kind) (kind_name fault.kind)
+message_of (CsdRefused fault) name =
+    fault_message (codes "csd") fault.line (kind_number fault.kind) (kind_name fault.kind)
 
 -- Where its count of faults rose, a sink has taken the front of a text alone, in writes.
 pub record SaysPart (before now : SinkTold) (text : List ℕ) : Type 0 where

@@ -1,5 +1,6 @@
 -- What was read of a source, and what is left.
-use Rattle.std.proofs.Common.{◌≡◌, ◌≤◌, ◌<◌, ◌⊎◌, ◌+◌, ℕ, Bool, true, false, List, [], length, take, drop, Option, None, Some, refl, ap, sym, subst, ◌∙◌, inl, inr, ⊎_elim, if◌then◌else◌, arith}
+use Rattle.std.proofs.Common.{◌≡◌, ◌≤◌, ◌<◌, ◌⊎◌, ◌+◌, ℕ, Bool, true, false, List, [], length, take, drop, Option, None}
+use Rattle.std.proofs.Common.{Some, refl, ap, sym, subst, ◌∙◌, inl, inr, ⊎_elim, if◌then◌else◌, arith}
 use Rattle.std.proofs.lemmas.Bool.Decides.{nat_tests}
 use Rattle.std.proofs.lemmas.List.{take_all, length-take}
 use Rattle.std.specs.Global.{Vec}
@@ -10,7 +11,8 @@ use Rattle.cs_edge.specs.Told.{Follows, Rose}
 use Rattle.cs_edge.specs.declared.files.NamedBytes.{NamedBytes}
 use Rattle.cs_edge.specs.declared.moves.Move.TheVariants.{Read}
 use Rattle.cs_arguments.specs.Reading.{Piece, one_file, two_files, demo}
-use Rattle.cs_source.specs.Loaded.{CannotRead, IsLeftWhereTold, LeavesUnread, WasRead, is_there_too_long, is_told_too_long}
+use Rattle.cs_source.specs.Loaded.{CannotRead, IsLeftWhereTold, LeavesUnread, WasRead, is_there_too_long}
+use Rattle.cs_source.specs.Loaded.{is_told_too_long}
 use Rattle.cs_source.specs.Texts.{both, csd, demo_notes, HaveWhereTold, IsScoreBehind, LackWhereTold, is_too_long}
 use Rattle.cs_source.specs.declared.source.SourceText.{SourceText}
 use Rattle.cs_source.specs.declared.source.SourceText.TheVariants as read
@@ -37,27 +39,35 @@ whole m x text e h =
     let short : length text ≤ m + 1 = omega (arith, ap length e, length-take (m + 1) text) in
     sym (e ∙ take_all (m + 1) text short)
 
-long_text : (x text : List ℕ) → x ≡ take (most_orchestra_bytes + 1) text → most_orchestra_bytes < length x → is_too_long text ≡ true
+long_text : (x text : List ℕ) → x ≡ take (most_orchestra_bytes + 1) text → most_orchestra_bytes < length x
+    → is_too_long text ≡ true
 long_text x text e h =
-    let long : most_orchestra_bytes < length text = omega (arith, ap length e, length-take (most_orchestra_bytes + 1) text) in grind (arith, nat_tests)
+    let long : most_orchestra_bytes < length text =
+    omega (arith, ap length e, length-take (most_orchestra_bytes + 1) text) in grind (arith, nat_tests)
 
-short_text : (x text : List ℕ) → x ≡ take (most_orchestra_bytes + 1) text → length x ≤ most_orchestra_bytes → is_too_long text ≡ false
+short_text : (x text : List ℕ) → x ≡ take (most_orchestra_bytes + 1) text → length x ≤ most_orchestra_bytes
+    → is_too_long text ≡ false
 short_text x text e h =
-    let short : length text ≤ most_orchestra_bytes = omega (arith, ap length (whole most_orchestra_bytes x text e h)) in grind (arith, nat_tests)
+    let short : length text ≤ most_orchestra_bytes =
+    omega (arith, ap length (whole most_orchestra_bytes x text e h)) in grind (arith, nat_tests)
 
 -- WHAT FILES HAVE
 
 have_long : (files : Option (List NamedBytes)) (orc sco text : List ℕ) → IsFile files orc text → is_too_long text ≡ true
     → HaveWhereTold files (two_files orc sco) (both text [])
 have_long None orc sco text f e = tt
-have_long (Some files) orc sco text f e = let P : Bool → Type 0 = λ b. IsScoreBehind b files sco [] in (f, subst P (sym e) refl)
+have_long (Some files) orc sco text f e = let P : Bool → Type 0 =
+    λ b. IsScoreBehind b files sco [] in (f, subst P (sym e) refl)
 
-have_short : (files : Option (List NamedBytes)) (orc sco text score : List ℕ) → IsFile files orc text → is_too_long text ≡ false → IsFile files sco score
+have_short : (files : Option (List NamedBytes)) (orc sco text score : List ℕ) → IsFile files orc text
+    → is_too_long text ≡ false → IsFile files sco score
     → HaveWhereTold files (two_files orc sco) (both text score)
 have_short None orc sco text score f e h = tt
-have_short (Some files) orc sco text score f e h = let P : Bool → Type 0 = λ b. IsScoreBehind b files sco score in (f, subst P (sym e) h)
+have_short (Some files) orc sco text score f e h = let P : Bool → Type 0 =
+    λ b. IsScoreBehind b files sco score in (f, subst P (sym e) h)
 
-have_file : (files : Option (List NamedBytes)) (name text : List ℕ) → IsFile files name text → HaveWhereTold files (one_file name) (csd text)
+have_file : (files : Option (List NamedBytes)) (name text : List ℕ) → IsFile files name text
+    → HaveWhereTold files (one_file name) (csd text)
 have_file None name text f = tt
 have_file (Some files) name text f = f
 
@@ -65,7 +75,8 @@ have_notes : (files : Option (List NamedBytes)) (n : ℕ) → HaveWhereTold file
 have_notes None n = tt
 have_notes (Some files) n = refl
 
-pub long_read : (files : Option (List NamedBytes)) (orc sco : List ℕ) (x y : Vec ℕ) → IsTextOf 1048577 files orc x.items → length x.items ≤ 1048577
+pub long_read : (files : Option (List NamedBytes)) (orc sco : List ℕ) (x y : Vec ℕ) → IsTextOf 1048577 files orc x.items
+    → length x.items ≤ 1048577
     → 1048576 < length x.items → y.items ≡ [] → AreRead files (two_files orc sco) (read.Pair x y)
 long_read files orc sco x y t h long e =
     let f = text_of 1048577 files orc x.items t h in
@@ -76,8 +87,10 @@ long_read files orc sco x y t h long e =
       read_of = (f.2, e ∙ sym (take_all 4194305 [] (omega arith)));
     }
 
-pub pair_read : (a b : Option (List NamedBytes)) (orc sco : List ℕ) (x y : Vec ℕ) → b ≡ a → IsTextOf 1048577 a orc x.items → length x.items ≤ 1048577
-    → length x.items ≤ 1048576 → IsTextOf 4194305 b sco y.items → length y.items ≤ 4194305 → AreRead a (two_files orc sco) (read.Pair x y)
+pub pair_read : (a b : Option (List NamedBytes)) (orc sco : List ℕ) (x y : Vec ℕ) → b ≡ a
+    → IsTextOf 1048577 a orc x.items → length x.items ≤ 1048577
+    → length x.items ≤ 1048576 → IsTextOf 4194305 b sco y.items → length y.items ≤ 4194305
+    → AreRead a (two_files orc sco) (read.Pair x y)
 pair_read a b orc sco x y same t h short u k =
     let P : Option (List NamedBytes) → Type 0 = λ files. IsTextOf 4194305 files sco y.items in
     let f = text_of 1048577 a orc x.items t h in
@@ -89,23 +102,27 @@ pair_read a b orc sco x y same t h short u k =
       read_of = (f.2, s.2);
     }
 
-pub csd_read : (files : Option (List NamedBytes)) (name : List ℕ) (x : Vec ℕ) → IsTextOf 5242881 files name x.items → length x.items ≤ 5242881
+pub csd_read : (files : Option (List NamedBytes)) (name : List ℕ) (x : Vec ℕ) → IsTextOf 5242881 files name x.items
+    → length x.items ≤ 5242881
     → AreRead files (one_file name) (read.Csd x)
 csd_read files name x t h =
     let f = text_of 5242881 files name x.items t h in
     record { texts = csd f.0; fit = tt; have = have_file files name f.0 f.1; read_of = f.2 }
 
-pub notes_read : (files : Option (List NamedBytes)) (n : ℕ) (text : SourceText) → IsReadOf (demo_notes n) text → AreRead files (demo n) text
+pub notes_read : (files : Option (List NamedBytes)) (n : ℕ) (text : SourceText) → IsReadOf (demo_notes n) text
+    → AreRead files (demo n) text
 notes_read files n text e = record { texts = demo_notes n; fit = refl; have = have_notes files n; read_of = e }
 
 -- WHAT IS LEFT
 
-left_rest : (most : ℕ) (files : List NamedBytes) (name text : List ℕ) (left : Option (List ℕ)) → LeavesRest most (Some files) name left → file_named name files ≡ Some text
+left_rest : (most : ℕ) (files : List NamedBytes) (name text : List ℕ) (left : Option (List ℕ))
+    → LeavesRest most (Some files) name left → file_named name files ≡ Some text
     → left ≡ Some (drop most text)
 left_rest most files name text left r e =
     r.2 ∙ ap (λ (l : List ℕ). Some (drop most l)) (one_text (file_named name files) r.0 text r.1 e)
 
-pub long_left : (files : Option (List NamedBytes)) (before left : Option (List ℕ)) (orc sco x : List ℕ) → IsTextOf 1048577 files orc x → 1048576 < length x
+pub long_left : (files : Option (List NamedBytes)) (before left : Option (List ℕ)) (orc sco x : List ℕ)
+    → IsTextOf 1048577 files orc x → 1048576 < length x
     → LeavesRest 1048577 files orc left → IsLeftWhereTold files (two_files orc sco) before left
 long_left None before left orc sco x t h r = tt
 long_left (Some files) before left orc sco x t h r =
@@ -113,10 +130,12 @@ long_left (Some files) before left orc sco x t h r =
     let is : left ≡ Some (drop 1048577 t.0) = left_rest 1048577 files orc t.0 left r t.1 in (
       both t.0 [],
       have_long (Some files) orc sco t.0 t.1 long,
-      is ∙ sym (ap (λ (b : Bool). if b then Some (drop (most_orchestra_bytes + 1) t.0) else Some (drop (most_score_bytes + 1) [])) long),
+      is ∙ sym (ap (λ (b : Bool). if b then Some (drop (most_orchestra_bytes + 1) t.0) else Some
+          (drop (most_score_bytes + 1) [])) long),
     )
 
-pub pair_left : (a b : Option (List NamedBytes)) (before left : Option (List ℕ)) (orc sco x y : List ℕ) → b ≡ a → IsTextOf 1048577 a orc x → length x ≤ 1048576
+pub pair_left : (a b : Option (List NamedBytes)) (before left : Option (List ℕ)) (orc sco x y : List ℕ) → b ≡ a
+    → IsTextOf 1048577 a orc x → length x ≤ 1048576
     → IsTextOf 4194305 b sco y → LeavesRest 4194305 b sco left → IsLeftWhereTold a (two_files orc sco) before left
 pair_left None b before left orc sco x y same t h u r = tt
 pair_left (Some files) b before left orc sco x y same t h u' r' =
@@ -128,21 +147,25 @@ pair_left (Some files) b before left orc sco x y same t h u' r' =
     let is : left ≡ Some (drop 4194305 u.0) = left_rest 4194305 files sco u.0 left r u.1 in (
       both t.0 u.0,
       have_short (Some files) orc sco t.0 u.0 t.1 short u.1,
-      is ∙ sym (ap (λ (b : Bool). if b then Some (drop (most_orchestra_bytes + 1) t.0) else Some (drop (most_score_bytes + 1) u.0)) short),
+      is ∙ sym (ap (λ (b : Bool). if b then Some (drop (most_orchestra_bytes + 1) t.0) else Some
+          (drop (most_score_bytes + 1) u.0)) short),
     )
 
-pub csd_left : (files : Option (List NamedBytes)) (before left : Option (List ℕ)) (name x : List ℕ) → IsTextOf 5242881 files name x
+pub csd_left : (files : Option (List NamedBytes)) (before left : Option (List ℕ)) (name x : List ℕ)
+    → IsTextOf 5242881 files name x
     → LeavesRest 5242881 files name left → IsLeftWhereTold files (one_file name) before left
 csd_left None before left name x t r = tt
 csd_left (Some files) before left name x t r = (csd t.0, t.1, left_rest 5242881 files name t.0 left r t.1)
 
-pub notes_left : (files : Option (List NamedBytes)) (before : Option (List ℕ)) (n : ℕ) → IsLeftWhereTold files (demo n) before before
+pub notes_left : (files : Option (List NamedBytes)) (before : Option (List ℕ)) (n : ℕ)
+    → IsLeftWhereTold files (demo n) before before
 notes_left None before n = tt
 notes_left (Some files) before n = (demo_notes n, refl, refl)
 
 -- A NAME that can't be read
 
-lacks_first : (files : Option (List NamedBytes)) (orc sco : List ℕ) → Lacks files orc → LackWhereTold files (two_files orc sco) orc
+lacks_first : (files : Option (List NamedBytes)) (orc sco : List ℕ) → Lacks files orc
+    → LackWhereTold files (two_files orc sco) orc
 lacks_first None orc sco l = l
 lacks_first (Some files) orc sco l = inl (refl, l)
 
@@ -158,27 +181,34 @@ rose_since : (a b c : ℕ) → a ≤ b → Rose b c → Rose a c
 rose_since a b c h (inl r) = inl (omega arith)
 rose_since a b c h (inr r) = inr r
 
-lacks_second : (files : Option (List NamedBytes)) (orc sco x : List ℕ) → IsTextOf 1048577 files orc x → length x ≤ 1048576 → Lacks files sco
+lacks_second : (files : Option (List NamedBytes)) (orc sco x : List ℕ) → IsTextOf 1048577 files orc x
+    → length x ≤ 1048576 → Lacks files sco
     → LackWhereTold files (two_files orc sco) sco
 lacks_second None orc sco x t h l = l
 lacks_second (Some files) orc sco x t h l =
-    let short : length t.0 ≤ most_orchestra_bytes = omega (arith, ap length (whole most_orchestra_bytes x t.0 t.2 h)) in inr (refl, t.0, t.1, short, l)
+    let short : length t.0 ≤ most_orchestra_bytes =
+    omega (arith, ap length (whole most_orchestra_bytes x t.0 t.2 h)) in inr (refl, t.0, t.1, short, l)
 
-pub second_unread : (a b c : ShelfTold) (orc sco x : List ℕ) → a.faults ≤ b.faults → b.files ≡ a.files → Follows b.moves c.moves (Grown (IsRun sco Read))
-    → IsTextOf 1048577 a.files orc x → length x ≤ 1048576 → Rose b.faults c.faults ⊎ Lacks b.files sco → CannotRead a c (two_files orc sco) sco
+pub second_unread : (a b c : ShelfTold) (orc sco x : List ℕ) → a.faults ≤ b.faults → b.files ≡ a.files
+    → Follows b.moves c.moves (Grown (IsRun sco Read))
+    → IsTextOf 1048577 a.files orc x → length x ≤ 1048576 → Rose b.faults c.faults ⊎ Lacks b.files sco
+    → CannotRead a c (two_files orc sco) sco
 second_unread a b c orc sco x later same moves t h cause =
     let P : Option (List NamedBytes) → Type 0 = λ files. Lacks files sco in
     record {
       one = inr refl;
       last = last_begun sco b.moves c.moves moves;
-      cause = ⊎_elim (λ r. inl (rose_since a.faults b.faults c.faults later r)) (λ l. inr (lacks_second a.files orc sco x t h (subst P same l))) cause;
+      cause = ⊎_elim (λ r. inl (rose_since a.faults b.faults c.faults later r))
+          (λ l. inr (lacks_second a.files orc sco x t h (subst P same l))) cause;
     }
 
-lacks_file : (files : Option (List NamedBytes)) (name : List ℕ) → Lacks files name → LackWhereTold files (one_file name) name
+lacks_file : (files : Option (List NamedBytes)) (name : List ℕ) → Lacks files name
+    → LackWhereTold files (one_file name) name
 lacks_file None name l = l
 lacks_file (Some files) name l = (refl, l)
 
-pub file_unread : (a b : ShelfTold) (name : List ℕ) → Follows a.moves b.moves (Grown (IsRun name Read)) → Rose a.faults b.faults ⊎ Lacks a.files name
+pub file_unread : (a b : ShelfTold) (name : List ℕ) → Follows a.moves b.moves (Grown (IsRun name Read))
+    → Rose a.faults b.faults ⊎ Lacks a.files name
     → CannotRead a b (one_file name) name
 file_unread a b name moves cause = record {
   one = refl;
@@ -188,17 +218,22 @@ file_unread a b name moves cause = record {
 
 -- BOTH FILES were begun
 
-told_short : (files : Option (List NamedBytes)) (orc x : List ℕ) → IsTextOf 1048577 files orc x → length x ≤ 1048576 → is_told_too_long files orc ≡ false
+told_short : (files : Option (List NamedBytes)) (orc x : List ℕ) → IsTextOf 1048577 files orc x → length x ≤ 1048576
+    → is_told_too_long files orc ≡ false
 told_short None orc x t h = refl
 told_short (Some files) orc x t h = ap is_there_too_long t.1 ∙ short_text x t.0 t.2 h
 
-pub second_read : (a b c : ShelfTold) (orc sco x : List ℕ) → a.faults ≤ b.faults → b.faults ≤ c.faults → Follows a.moves b.moves (Grown (IsRun orc Read))
-    → Follows b.moves c.moves (Grown (IsRun sco Read)) → IsTextOf 1048577 a.files orc x → length x ≤ 1048576 → WasRead a c (two_files orc sco)
-second_read a b c orc sco x p q first second t h = both_read a b c orc sco (told_short a.files orc x t h) p q first second
+pub second_read : (a b c : ShelfTold) (orc sco x : List ℕ) → a.faults ≤ b.faults → b.faults ≤ c.faults
+    → Follows a.moves b.moves (Grown (IsRun orc Read))
+    → Follows b.moves c.moves (Grown (IsRun sco Read)) → IsTextOf 1048577 a.files orc x → length x ≤ 1048576
+    → WasRead a c (two_files orc sco)
+second_read a b c orc sco x p q first second t h =
+    both_read a b c orc sco (told_short a.files orc x t h) p q first second
 
 -- THE SAME PIECE
 
-pub read_as : (files : Option (List NamedBytes)) (p q : Piece) (text : SourceText) → q ≡ p → AreRead files p text → AreRead files q text
+pub read_as : (files : Option (List NamedBytes)) (p q : Piece) (text : SourceText) → q ≡ p → AreRead files p text
+    → AreRead files q text
 read_as files p q text e a = let P : Piece → Type 0 = λ x. AreRead files x text in subst P (sym e) a
 
 pub left_as : (a b : ShelfTold) (p q : Piece) → q ≡ p → LeavesUnread a b p → LeavesUnread a b q

@@ -1,4 +1,5 @@
-use Rattle.std.proofs.Common.{◌≡◌, ◌≤◌, nat_lt, ℕ, ◌-◌, List, [], ◌++◌, length, take, drop, Option, None, Some, Bool, true, false, refl, ap, sym, subst, ◌∙◌, append_assoc, append-nil, arith, length-append}
+use Rattle.std.proofs.Common.{◌≡◌, ◌≤◌, nat_lt, ℕ, ◌-◌, List, [], ◌++◌, length, take, drop, Option, None, Some, Bool}
+use Rattle.std.proofs.Common.{true, false, refl, ap, sym, subst, ◌∙◌, append_assoc, append-nil, arith, length-append}
 use Rattle.std.proofs.lemmas.Bool.Decides.{nat_tests}
 use Rattle.std.proofs.lemmas.List.{take_all, drop_all, take-append-drop, length-take}
 use Rattle.std.proofs.Math.Seq.{take-append_seam, drop-append_seam}
@@ -55,8 +56,11 @@ read_end most None b c bytes buf h r t = tt
 read_end most (Some left) b c bytes buf h r t =
     let t' = subst (λ (o : Option (List ℕ)). TakesFront o c buf 0) r.1 t in
     let all : left ≡ bytes = r.2 ∙ (ap (λ (l : List ℕ). bytes ++ l) (t'.3 refl) ∙ append-nil bytes) in
-    let short : length left ≤ most = subst (λ (l : List ℕ). length l ≤ most) (sym all) h in
-    (sym (take_all most left short ∙ all), t'.0 ∙ ap (λ (l : List ℕ). Some l) (t'.3 refl ∙ sym (drop_all most left short)))
+    let short : length left ≤ most = subst (λ (l : List ℕ). length l ≤ most) (sym all) h in (
+      sym (take_all most left short ∙ all),
+      t'.0
+          ∙ ap (λ (l : List ℕ). Some l) (t'.3 refl ∙ sym (drop_all most left short)),
+    )
 
 -- the buffer is full
 pub read_full : (a b : Option (List ℕ)) (bytes : List ℕ) → ReadSoFar a b bytes → IsFrontOf (length bytes) a bytes b
@@ -70,7 +74,8 @@ not_lt : (n : ℕ) → nat_lt 0 n ≡ false → n ≡ 0
 not_lt n e = grind (arith, nat_tests)
 
 -- one read more
-pub block_on : (most k : ℕ) (a b c : ShelfTold) (text longer : List ℕ) (any : Bool) → length text ≤ most → ReadMore a b text
+pub block_on : (most k : ℕ) (a b c : ShelfTold) (text longer : List ℕ) (any : Bool) → length text ≤ most
+    → ReadMore a b text
     → k ≡ most - length text → ReadOnce b c k text longer any → (length longer ≤ most) × ReadMore a c longer
 block_on most k a b c text longer any h r e o =
     let n = o.count in
@@ -81,7 +86,8 @@ block_on most k a b c text longer any h r e o =
     )
 
 -- the last read, which gave none
-pub block_end : (most k : ℕ) (a b c : ShelfTold) (text longer : List ℕ) (any : Bool) → length text ≤ most → ReadMore a b text
+pub block_end : (most k : ℕ) (a b c : ShelfTold) (text longer : List ℕ) (any : Bool) → length text ≤ most
+    → ReadMore a b text
     → any ≡ false → ReadOnce b c k text longer any → IsFrontOf most a.left longer c.left
 block_end most k a b c text longer any h r e o =
     let none : o.count ≡ 0 = not_lt o.count (sym o.any_is ∙ e) in
@@ -92,7 +98,8 @@ block_end most k a b c text longer any h r e o =
 
 -- THE TEXT of a file that was begun
 
-pub text_read : (most : ℕ) (files : Option (List NamedBytes)) (name text : List ℕ) (found : Bool) (left now : Option (List ℕ))
+pub text_read : (most : ℕ) (files : Option (List NamedBytes)) (name text : List ℕ) (found : Bool)
+    (left now : Option (List ℕ))
     → found ≡ true → Begins files name found left → IsFrontOf most left text now → IsTextOf most files name text
 text_read most None name text found left now e b f = tt
 text_read most (Some files) name text found left now e b' f =
@@ -100,7 +107,8 @@ text_read most (Some files) name text found left now e b' f =
     let f' = subst (λ (o : Option (List ℕ)). IsFrontOf most o text now) b.2 f in
     (b.0, b.1, f'.0)
 
-pub rest_left : (most : ℕ) (files : Option (List NamedBytes)) (name text : List ℕ) (found : Bool) (left now : Option (List ℕ))
+pub rest_left : (most : ℕ) (files : Option (List NamedBytes)) (name text : List ℕ) (found : Bool)
+    (left now : Option (List ℕ))
     → found ≡ true → Begins files name found left → IsFrontOf most left text now → LeavesRest most files name now
 rest_left most None name text found left now e b f = tt
 rest_left most (Some files) name text found left now e b' f =

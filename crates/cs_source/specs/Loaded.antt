@@ -1,5 +1,6 @@
 -- What a shelf tells of a source that was read.
-use Rattle.std.specs.Prelude.{ℕ, ◌≡◌, ◌≤◌, ◌+◌, ◌*◌, ◌⊎◌, Bool, true, false, List, [], ◌++◌, drop, if◌then◌else◌, Option, Some, None, Result, ⊤}
+use Rattle.std.specs.Prelude.{ℕ, ◌≡◌, ◌≤◌, ◌+◌, ◌*◌, ◌⊎◌, Bool, true, false, List, [], ◌++◌, drop, if◌then◌else◌}
+use Rattle.std.specs.Prelude.{Option, Some, None, Result, ⊤}
 use Rattle.cs_base.specs.Limits.{most_csd_bytes, most_orchestra_bytes, most_score_bytes, most_wav_bytes}
 use Rattle.cs_base.specs.declared.width.SampleWidth.{SampleWidth}
 use Rattle.cs_piece.specs.Setups.{SetupData}
@@ -12,7 +13,8 @@ use Rattle.cs_edge.specs.declared.moves.Move.{Move}
 use Rattle.cs_edge.specs.declared.moves.Move.TheVariants.{Read}
 use Rattle.cs_arguments.specs.Reading.{Piece, two_files, one_file, demo}
 use Rattle.cs_source.specs.Meaning.{Mean}
-use Rattle.cs_source.specs.Texts.{Texts, both, csd, demo_notes, Fit, Have, HaveWhereTold, IsNameOf, LackWhereTold, is_too_long}
+use Rattle.cs_source.specs.Texts.{Texts, both, csd, demo_notes, Fit, Have, HaveWhereTold, IsNameOf, LackWhereTold}
+use Rattle.cs_source.specs.Texts.{is_too_long}
 use Rattle.cs_csd.specs.declared.refused.Refused.{Refused}
 use Rattle.cs_wav.specs.Wav.{size_of}
 

@@ -9,8 +9,8 @@ use Rattle.cs_source.specs.Texts.{Texts}
 use Rattle.cs_typed.specs.TypedTree.{header_of_head}
 use Rattle.cs_wav.specs.Wav.{wav_of}
 
--- These bytes are the sound of texts in samples of a width: the texts mean a composition, and the bytes are the WAV file
--- of its frames.
+-- These bytes are the sound of texts in samples of a width: the texts mean a composition, and the bytes are the WAV
+-- file of its frames.
 pub record IsSoundOf (t : Texts) (width : SampleWidth) (bytes : List ℕ) : Type 0 where
   pub c : Composition
   pub means : Mean width t (Ok c)

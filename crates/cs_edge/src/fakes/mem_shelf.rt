@@ -52,7 +52,8 @@ impl Shelf for MemShelf {
     ghost tells = { shelf_told };
 
     fn begin(&mut self, name: &str) -> Result<bool, Failed>
-        ensures found { IfOk result (λ found. Begins (shelf_told self.old).files name.now found (shelf_told self.new).left) }
+        ensures found { IfOk result (λ found.
+            Begins (shelf_told self.old).files name.now found (shelf_told self.new).left) }
         ensures failed { OnErr result (NothingLeft (shelf_told self.new).left) }
         ensures cause { HasCause (shelf_told self.old).faults (shelf_told self.new).faults result }
         ensures listed { FailsAsListed (shelf_script self.old) (shelf_script self.new) result }

@@ -1,5 +1,6 @@
 // A sink in memory, some of whose calls fail.
-ghost use Rattle.std.specs.Prelude.{◌≡◌, ℕ, List, [], ◌++◌, ◌<◌, ◌≤◌, length, take, min, Some, None, IfOk, OnOk, OnErr, IfSome};
+ghost use Rattle.std.specs.Prelude.{◌≡◌, ℕ, List, [], ◌++◌, ◌<◌, ◌≤◌, length, take, min, Some, None, IfOk, OnOk};
+ghost use Rattle.std.specs.Prelude.{OnErr, IfSome};
 ghost use Rattle.cs_edge.specs.declared.moves.Move.TheVariants.{Begin, Write, End};
 ghost use Rattle.cs_edge.specs.Told.{Follows, HasCause};
 ghost use Rattle.cs_edge.specs.Moves.{SinkTold, GrownBy, TakenMore, IsEnded, no_file, open_file};

@@ -1,8 +1,8 @@
 // Objects that serve tests: files, sinks and a meter that are kept in memory, and calls of them that fail as a script
 // says. The program makes none of them.
 //
-// In reading order: `script` (which calls are to fail), `kept`, `lookup`, `mem_shelf`, `sure_shelf`, `taken`, `portion`,
-// `mem_sink`, `sure_sink`, `sure` (the law of those that never fail), `mirror` (a meter that keeps what it is told).
+// In reading order: `script` (which calls are to fail), `kept`, `lookup`, `mem_shelf`, `sure_shelf`, `taken`,
+// `portion`, `mem_sink`, `sure_sink`, `sure` (the law of those that never fail), `mirror` (a meter that keeps what it is told).
 
 mod kept;
 mod lookup;

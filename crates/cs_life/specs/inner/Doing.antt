@@ -9,20 +9,21 @@ use Rattle.cs_piece.specs.Setups.{composition_of}
 use Rattle.cs_tempo.specs.declared.plot.EventAct.{EventAct}
 use Rattle.cs_tempo.specs.declared.plot.EventAct.TheVariants as act
 use Rattle.cs_voice.specs.VoiceData.{VoiceData}
-use Rattle.cs_life.specs.Standing.{Stands}
+use Rattle.cs_life.specs.Standing.{StandsFor}
 use Rattle.cs_life.specs.declared.life.Life.{Life}
 
 -- It can go on: what is kept stands at some moment, and each cell of the piece can be read and written.
 pub record CanGoOn (get set : ℕ → Type 0) (life : Life) (voices : List VoiceData) (cells : Cells) : Type 0 where
   pub moment : Moment
-  pub stands : Stands (composition_of life.setup.now) life voices cells moment
+  pub stands : StandsFor (composition_of life.setup.now) life voices cells moment
   pub gets : (a : ℕ) → a < word_count life.setup.now.layout → get a
   pub sets : (a : ℕ) → a < word_count life.setup.now.layout → set a
 
 -- It has gone on: wherever it stood, it stands where this leads.
 abbrev pub HasGoneOn : (Moment → Moment) → Life → List VoiceData → Cells → Life → List VoiceData → Cells → Type 0
-HasGoneOn leads life voices cells new after left = (m : Moment) → Stands (composition_of life.setup.now) life voices cells m
-    → Stands (composition_of life.setup.now) new after left (leads m)
+HasGoneOn leads life voices cells new after left =
+    (m : Moment) → StandsFor (composition_of life.setup.now) life voices cells m
+    → StandsFor (composition_of life.setup.now) new after left (leads m)
 
 -- A table that is given has no fault, and the size of the table of its number.
 pub record CanBeMade (c : Composition) (number : ℕ) (size gen : ℤ) (args : List ℤ) : Type 0 where

@@ -1,5 +1,6 @@
 -- Flags of tables by the number of a table, and whether the points of a number's table are cells.
-use Rattle.std.specs.Prelude.{ℕ, ℤ, ◌≡◌, ◌==◌, ◌||◌, Bool, true, false, not, List, [], ◌∷◌, length, Option, Some, None, if◌then◌else◌}
+use Rattle.std.specs.Prelude.{ℕ, ℤ, ◌≡◌, ◌==◌, ◌||◌, Bool, true, false, not, List, [], ◌∷◌, length, Option, Some, None}
+use Rattle.std.specs.Prelude.{if◌then◌else◌}
 use Rattle.std.specs.Option.{is_some}
 use Rattle.cs_machine.specs.Access.{row_wave}
 use Rattle.cs_base.specs.declared.resource.Res.TheVariants as res
@@ -7,16 +8,16 @@ use Rattle.cs_cells.specs.Cells.{Cells, cell}
 use Rattle.cs_cells.specs.declared.footprint.Area.{Area}
 use Rattle.cs_meaning.specs.Plain.{Table}
 use Rattle.cs_voice_meaning.specs.Placing.{area_of, with_wave}
-use Rattle.cs_voice.specs.declared.stage.TableAt.{TableAt}
+use Rattle.cs_voice.specs.declared.stage.PieceTable.{PieceTable}
 
 -- each of these tables that has the number has been made; of further ones the flags stay
-abbrev pub marked : ℕ → List TableAt → List Bool → List Bool
+abbrev pub marked : ℕ → List PieceTable → List Bool → List Bool
 marked number [] flags = flags
 marked number (t ∷ tables) [] = []
 marked number (t ∷ tables) (flag ∷ flags) = ((number == t.number) || flag) ∷ marked number tables flags
 
 -- whether there is a table of the number, and the points of the first are cells
-abbrev pub has_cells : List TableAt → ℕ → Bool
+abbrev pub has_cells : List PieceTable → ℕ → Bool
 has_cells [] number = false
 has_cells (t ∷ tables) number = if t.number == number then not (is_some t.points) else has_cells tables number
 

@@ -49,12 +49,10 @@ pub record Wait (pending : Queue) (not_started : ℕ) (m : Moment) : Type 0 wher
   pub kept : (waiting pending).kept ≡ m.waiting.kept
   pub count : not_started ≡ kept_count m.not_started
 
--- A voice, and when its note ends, were put in behind all of its number and lower ones, and before all of higher ones.
-pub record Joined (voice : VoiceData) (ending : ℕ) (voices : List VoiceData) (ends : List ℕ) (voices_after : List VoiceData)
-    (ends_after : List ℕ) : Type 0 where
+-- A voice was put in behind all of its number and lower ones, and before all of higher ones.
+pub record Joined (voice : VoiceData) (voices after : List VoiceData) : Type 0 where
   pub place : ℕ
   pub within : place ≤ length voices
   pub lower : AllWithin (λ (v : VoiceData). v.number ≤ voice.number) voices 0 place
   pub higher : AllWithin (λ (v : VoiceData). voice.number < v.number) voices place (length voices)
-  pub voices_are : voices_after ≡ insert voices place voice
-  pub ends_are : ends_after ≡ insert ends place ending
+  pub is : after ≡ insert voices place voice

@@ -9,7 +9,7 @@ use Rattle.cs_piece_meaning.specs.Heard.{frames_before}
 use Rattle.cs_turns.specs.Turns.{turn_lines_before}
 use Rattle.cs_wav.specs.Wav.{is_out_of_range}
 use Rattle.cs_perform.specs.Performances.{if_told}
-use Rattle.cs_perform.specs.declared.order.Order.{Order}
+use Rattle.cs_perform.specs.declared.order.PerformanceOrder.{PerformanceOrder}
 use Rattle.cs_perform.specs.declared.recording.Recording.{Recording}
 
 -- the blocks have place for the mix of a cycle and its samples
@@ -18,7 +18,7 @@ pub record HasBlocks (head : Head) (width : SampleWidth) (r : Recording) : Type 
   pub samples : length r.samples.items ≡ head.ksmps * head.nchnls * bytes_of width
 
 -- what is written down is that of the first `n` cycles, and the blocks have place for the next
-pub record IsRecordingOf (s : SetupData) (order : Order) (n : ℕ) (r : Recording) : Type 0 where
+pub record IsRecordingOf (s : SetupData) (order : PerformanceOrder) (n : ℕ) (r : Recording) : Type 0 where
   pub blocks : HasBlocks s.orchestra.head order.width r
   pub out_of_range : r.out_of_range
       ≡ count_by (is_out_of_range order.width s.orchestra.head.dbfs) (frames_before (composition_of s) n)

@@ -1,13 +1,17 @@
 -- What a performance and its report come to, by the status that they end with.
-use Rattle.std.specs.Prelude.{ℕ, ◌≡◌, false, List, []}
+use Rattle.std.specs.Prelude.{ℕ, ◌≡◌, ◌++◌, List, [], Result, Ok, Err, flat_map}
+use Rattle.cs_arguments.specs.Orders.{asked_in}
 use Rattle.cs_edge.specs.Moves.{SinkTold, WroteMore}
-use Rattle.cs_edge.specs.Told.{Rose}
+use Rattle.cs_perform.specs.Performances.{Lent, LentSight, PerformsPiece}
 use Rattle.cs_perform.specs.declared.order.Outcome.{Outcome}
-use Rattle.cs_piece_meaning.specs.Moments.{Composition}
-use Rattle.cs_play.specs.Endings.{HasLine, WasPartlyPerformed, WasPaused, WasPerformed, report_in}
-use Rattle.cs_play.specs.Scene.{Scene, Sight}
-use Rattle.cs_arguments.specs.Reading.{Asked}
-use Rattle.cs_report.specs.Talk.{SaysPart}
+use Rattle.cs_piece.specs.Setups.{composition_of}
+use Rattle.cs_play.specs.Endings.{request_in}
+use Rattle.cs_play.specs.declared.player.Played.{Played}
+use Rattle.cs_play.specs.declared.player.Played.TheVariants as what
+use Rattle.cs_play.specs.declared.preparing.Prepared.{Prepared}
+use Rattle.cs_play.specs.inner.Stopping.{fault_status}
+use Rattle.cs_report.specs.Report.{counts_in, line_room}
+use Rattle.cs_report.specs.Talk.{Says, SaysPart, message_of}
 use Rattle.cs_report.specs.declared.counts.Counts.{Counts}
 use Rattle.cs_report.specs.declared.status.Status.{Status}
 use Rattle.cs_report.specs.declared.status.Status.TheVariants as status
@@ -22,20 +26,25 @@ counts_told o = record {
   out_of_range = o.out_of_range;
 }
 
+-- What was prepared was performed: a piece as it was asked for, and nothing where there is none.
+abbrev pub HasPlayed : {B K C : Type 0} → LentSight B K C → Result Prepared Status → Lent B K C → Lent B K C
+    → Played → Type 0
+HasPlayed see (Ok p) before now (what.Piece r) =
+    PerformsPiece see (request_in (asked_in p.order) (composition_of p.setup) p.setup.orchestra.head) before now r
+HasPlayed see (Err s) before now (what.Nothing t) = (t ≡ s) × (now ≡ before)
+HasPlayed see _ before now _ = ⊥
+
 -- talk has a report: the whole at Ok, the front of it at TalkFault
 abbrev pub HasReported : SinkTold → SinkTold → List ℕ → Status → Type 0
 HasReported before now text status.Ok = WroteMore before now text
 HasReported before now text status.TalkFault = SaysPart before now text
 HasReported before now text _ = ⊥
 
--- a composition was performed, whole or in part, and talk has the report or the line of the status
-abbrev pub HasSounded : {F K T B C : Type 0} → Sight F K T B C → Asked → Composition → Status → Scene F K T B C → Scene F K T B C → Type 0
-HasSounded see asked c status.Ok before now = WasPerformed see asked c before now
-    × WroteMore (see.talk before.talk) (see.talk now.talk) (report_in see asked c now)
-HasSounded see asked c status.TalkFault before now = WasPerformed see asked c before now
-    × SaysPart (see.talk before.talk) (see.talk now.talk) (report_in see asked c now)
-HasSounded see asked c status.SinkFault before now = WasPartlyPerformed see asked c before now × (asked.silent ≡ false)
-    × Rose (see.wav before.wav).faults (see.wav now.wav).faults × HasLine see status.SinkFault [] before now
-HasSounded see asked c status.OutOfMemory before now = WasPaused see asked c before now
-    × HasLine see status.OutOfMemory [] before now
-HasSounded see asked c _ before now = ⊥
+-- What came of a performance was said: the report, with the lines of these meters, or the line of the status, which for
+-- a piece that there isn't has been said before.
+abbrev pub HasSaid : {T B : Type 0} → (T → SinkTold) → (B → ℕ → List ℕ) → Played → List B → T → T → Status → Type 0
+HasSaid tells line (what.Piece (Ok o)) taps before now s = HasReported (tells before) (tells now)
+    (counts_in (counts_told o) ++ flat_map (λ tap. line tap line_room) taps ++ o.turns) s
+HasSaid tells line (what.Piece (Err f)) taps before now s =
+    (s ≡ fault_status f) × Says (tells before) (tells now) (message_of (fault_status f) [])
+HasSaid tells line (what.Nothing t) taps before now s = (s ≡ t) × (now ≡ before)

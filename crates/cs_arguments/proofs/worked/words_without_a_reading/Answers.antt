@@ -1,12 +1,14 @@
 use Rattle.std.proofs.Common.{◌≡◌, None, refl}
 use Rattle.std.proofs.lemmas.List.Elements.{All-from_recursion}
 use Rattle.cs_arguments.specs.Reading.{after, said, reading}
-use Rattle.cs_arguments.specs.Worked.{empty_names, no_numbers, no_options, twice, unwanted_values, without_value, wrong_names}
+use Rattle.cs_arguments.specs.Worked.{empty_names, no_numbers, no_options, twice, unwanted_values, without_value}
+use Rattle.cs_arguments.specs.Worked.{wrong_names}
 use Rattle.cs_arguments.proofs.worked.words_without_a_reading.Goals as goal
 
 pub returns-clause-numbers : goal.returns-clause-numbers
 unfolding after said
-returns-clause-numbers c = All-from_recursion (λ words. reading words ≡ None) no_numbers (refl, (refl, (refl, (refl, (refl, tt)))))
+returns-clause-numbers c =
+    All-from_recursion (λ words. reading words ≡ None) no_numbers (refl, (refl, (refl, (refl, (refl, tt)))))
 
 pub returns-clause-twice : goal.returns-clause-twice
 unfolding after said
@@ -22,7 +24,8 @@ returns-clause-empty c = All-from_recursion (λ words. reading words ≡ None) e
 
 pub returns-clause-names : goal.returns-clause-names
 unfolding after said
-returns-clause-names c = All-from_recursion (λ words. reading words ≡ None) wrong_names (refl, (refl, (refl, (refl, (refl, tt)))))
+returns-clause-names c =
+    All-from_recursion (λ words. reading words ≡ None) wrong_names (refl, (refl, (refl, (refl, (refl, tt)))))
 
 pub returns-clause-unwanted : goal.returns-clause-unwanted
 unfolding after said
@@ -30,4 +33,5 @@ returns-clause-unwanted c = All-from_recursion (λ words. reading words ≡ None
 
 pub returns-clause-options : goal.returns-clause-options
 unfolding after said
-returns-clause-options c = All-from_recursion (λ words. reading words ≡ None) no_options (refl, (refl, (refl, (refl, (refl, (refl, tt))))))
+returns-clause-options c =
+    All-from_recursion (λ words. reading words ≡ None) no_options (refl, (refl, (refl, (refl, (refl, (refl, tt))))))

@@ -6,8 +6,12 @@ use Rattle.cs_command.proofs.given.sound_file_of.Goals as goal
 
 pub returns-in-Some : goal.returns-in-Some
 returns-in-Some c = λ uses h.
-    ap (λ o. unwrap_or o (codes "test.wav")) (ap (option_map (λ s. s.now)) (sym c.in-Some.is) ∙ c.get_str.ensures ∙ text_is (codes "o") refl (found_of c.args.matches.now) uses h.1)
+    ap (λ o. unwrap_or o (codes "test.wav"))
+    (ap (option_map (λ s. s.now)) (sym c.in-Some.is) ∙ c.get_str.ensures
+    ∙ text_is (codes "o") refl (found_of c.args.matches.now) uses h.1)
 
 pub returns-in-None : goal.returns-in-None
 returns-in-None c = λ uses h.
-    ap (λ o. unwrap_or o (codes "test.wav")) (ap (option_map (λ s. s.now)) (sym c.in-None.is) ∙ c.get_str.ensures ∙ text_is (codes "o") refl (found_of c.args.matches.now) uses h.1)
+    ap (λ o. unwrap_or o (codes "test.wav"))
+    (ap (option_map (λ s. s.now)) (sym c.in-None.is) ∙ c.get_str.ensures
+    ∙ text_is (codes "o") refl (found_of c.args.matches.now) uses h.1)

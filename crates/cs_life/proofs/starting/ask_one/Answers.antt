@@ -8,9 +8,13 @@ use Rattle.cs_life.proofs.starting.ask_one.Goals as goal
 
 pub returns : goal.returns
 returns c = λ k m e w.
-    subst (λ n. Wait c.add.new.self n (asked k c.args.at.now.cycle c.args.at.now.time c.args.ask m)) (sym c.count_after.ensures)
-    (asked_waits k c.args.at.now.cycle c.args.at.now.time c.args.ask c.in_ok-answer.answer c.args.pending.now c.add.new.self c.args.not_started.now m
-    (c.in_ok-answer.ensures.answer ∙ ap (λ (x : Clock). answer_to x c.args.at.now.cycle c.args.ask c.args.pending.now.kept) (sym e))
+    subst (λ n. Wait c.add.new.self n (asked k c.args.at.now.cycle c.args.at.now.time c.args.ask m))
+    (sym c.count_after.ensures)
+    (asked_waits k c.args.at.now.cycle c.args.at.now.time c.args.ask c.in_ok-answer.answer c.args.pending.now
+    c.add.new.self c.args.not_started.now m
+    (c.in_ok-answer.ensures.answer
+    ∙ ap (λ (x : Clock). answer_to x c.args.at.now.cycle c.args.ask c.args.pending.now.kept) (sym e))
     (c.in_ok-answer.ensures.waits
-    ∙ ap (λ (x : Clock). with_answer c.in_ok-answer.answer (due_of x c.args.at.now.cycle c.args.at.now.time c.args.ask) (waiting c.args.pending.now)) (sym e))
+    ∙ ap (λ (x : Clock). with_answer c.in_ok-answer.answer (due_of x c.args.at.now.cycle c.args.at.now.time c.args.ask)
+    (waiting c.args.pending.now)) (sym e))
     w)

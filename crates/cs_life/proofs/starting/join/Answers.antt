@@ -1,16 +1,28 @@
-use Rattle.std.proofs.Common.{◌≡◌, ◌≤◌, List, leb, length, true, false, rules, subst, sym}
+use Rattle.std.proofs.Common.{◌≡◌, ◌≤◌, List, leb, length, true, false, rules, ap, ◌∙◌, subst, sym}
 use Rattle.std.specs.List.Sorted.{IsNonDecreasingBy, IsPartitionPoint}
 use Rattle.std.proofs.lemmas.List.Sorted.{IsPartitionPoint-from_clause, IsPartitionedBy-leb}
+use Rattle.std.proofs.lemmas.List.Edits.{length-insert}
 use Rattle.cs_life.proofs.Joining.{joined_at}
 use Rattle.cs_voice.specs.VoiceData.{VoiceData}
 use Rattle.cs_life.proofs.starting.join.Goals as goal
 
-pub returns : goal.returns
-returns c = λ order.
+pub returns-clause-joined : goal.returns-clause-joined
+returns-clause-joined c = λ order.
     let sorted = subst (λ xs. IsNonDecreasingBy (λ (y : VoiceData). y.number) xs) (sym c.deref.ensures.value) order in
     let parted = IsPartitionedBy-leb (λ (y : VoiceData). y.number) _ c.number-number.result sorted in
-    let point = IsPartitionPoint-from_clause (λ (y : VoiceData). leb y.number c.number-number.result) _ _ c.partition_point-place.ensures.partitioned parted (λ a r q k. search rules) in
-    joined_at _ c.args.voice c.args.ending c.args.ends.now.items _ _ c.partition_point-place.result c.number-number.result c.number-number.ensures
-    (subst (λ (xs : List VoiceData). c.partition_point-place.result ≤ length xs) c.deref.ensures.value c.partition_point-place.ensures.bound)
-    (subst (λ (xs : List VoiceData). IsPartitionPoint (λ (y : VoiceData). leb y.number c.number-number.result ≡ true) (λ (y : VoiceData). leb y.number c.number-number.result ≡ false) xs c.partition_point-place.result) c.deref.ensures.value point)
-    c.in_ok-insert.ensures.items c.in_ok-insert-2.ensures.items
+    let point = IsPartitionPoint-from_clause (λ (y : VoiceData). leb y.number c.number-number.result) _ _
+    c.partition_point-place.ensures.partitioned parted (λ a r q k. search rules) in
+    joined_at _ c.args.voice _ c.partition_point-place.result c.number-number.result c.number-number.ensures
+    (subst (λ (xs : List VoiceData). c.partition_point-place.result ≤ length xs) c.deref.ensures.value
+    c.partition_point-place.ensures.bound)
+    (subst (λ (xs : List VoiceData). IsPartitionPoint (λ (y : VoiceData). leb y.number c.number-number.result ≡ true)
+    (λ (y : VoiceData). leb y.number c.number-number.result ≡ false) xs c.partition_point-place.result)
+    c.deref.ensures.value point)
+    c.in_ok-insert.ensures.items
+
+pub returns-clause-more : goal.returns-clause-more
+returns-clause-more c =
+    ap length c.in_ok-insert.ensures.items
+    ∙ length-insert c.args.voices.now.items c.partition_point-place.result c.args.voice
+    (subst (λ (xs : List VoiceData). c.partition_point-place.result ≤ length xs) c.deref.ensures.value
+    c.partition_point-place.ensures.bound)

@@ -8,7 +8,7 @@ use Rattle.cs_piece_meaning.specs.Moments.{Composition}
 use Rattle.cs_piece.specs.Setups.{composition_of}
 use Rattle.cs_typed.specs.declared.tree.TypedOrc.{TypedOrc}
 use Rattle.cs_wav.specs.Wav.{is_out_of_range}
-use Rattle.cs_perform.specs.Performances.{lent}
+use Rattle.cs_perform.specs.Performances.{lent, lent_sight, request_of}
 use Rattle.cs_perform.proofs.Blocks.{slice_written}
 use Rattle.cs_perform.proofs.Cycles.{block_small, counted_more, outside_fits}
 use Rattle.cs_perform.proofs.Frames.{length-mix_in}
@@ -19,7 +19,8 @@ use Rattle.cs_perform.proofs.cycle.play_cycle.Goals as goal
 
 pub returns-in_default-clause-memory : goal.returns-in_default-clause-memory
 returns-in_default-clause-memory g c e =
-    ap (λ (y : g.row.C.Denot). lent c.args.loan.now.wav.now c.args.loan.now.taps.now.items y) c.in_default.ensures.memory
+    ap (λ (y : g.row.C.Denot). lent c.args.loan.now.wav.now c.args.loan.now.taps.now.items y)
+    c.in_default.ensures.memory
 
 pub returns-in_default-clause-broken : goal.returns-in_default-clause-broken
 returns-in_default-clause-broken g c e = absurd (not_sink e)
@@ -48,10 +49,9 @@ pour-requires-clause-room g c =
 
 pub returns-in_default-pour-clause-broken : goal.returns-in_default-pour-clause-broken
 returns-in_default-pour-clause-broken g c e =
-    breaks_cycle (λ b h. (goal.Tap-dyn g (b.vtable, b.value)).stands_for b.value h) g.K.Sink.tells g.C.Counter.has_counted
-    (composition_of c.args.performance.now.setup.now)
-    c.args.performance.now.order.output c.args.performance.now.order.width
-    c.args.performance.now.setup.now.orchestra.head.dbfs c.orchestra.result.now.head.dbfs
+    breaks_cycle (lent_sight (λ b h. (goal.Tap-dyn g (b.vtable, b.value)).stands_for b.value h) g.K.Sink.tells
+    g.C.Counter.has_counted)
+    (request_of c.args.performance.now) c.orchestra.result.now.head.dbfs
     c.args.cycle c.deref.result.now _ _ (c.deref.ensures.value ∙ c.in-Ok.ensures.heard)
     (ap (λ (o : TypedOrc). o.head.dbfs) c.orchestra.ensures)
     c.in_default-pour.ensures.told c.in-Ok.ensures.counted c.in_default-pour.ensures.stopped
@@ -79,10 +79,9 @@ overflow_add-recording g c =
 
 pub returns-clause-played : goal.returns-clause-played
 returns-clause-played g c =
-    plays_cycle (λ b h. (goal.Tap-dyn g (b.vtable, b.value)).stands_for b.value h) g.K.Sink.tells g.C.Counter.has_counted
-    (composition_of c.args.performance.now.setup.now)
-    c.args.performance.now.order.output c.args.performance.now.order.width
-    c.args.performance.now.setup.now.orchestra.head.dbfs c.orchestra.result.now.head.dbfs
+    plays_cycle (lent_sight (λ b h. (goal.Tap-dyn g (b.vtable, b.value)).stands_for b.value h) g.K.Sink.tells
+    g.C.Counter.has_counted)
+    (request_of c.args.performance.now) c.orchestra.result.now.head.dbfs
     c.args.cycle c.deref.result.now _ _ (c.deref.ensures.value ∙ c.in-Ok.ensures.heard)
     (ap (λ (o : TypedOrc). o.head.dbfs) c.orchestra.ensures)
     c.in-Ok-pour.ensures.told c.in-Ok.ensures.counted c.in-Ok-pour.ensures.written

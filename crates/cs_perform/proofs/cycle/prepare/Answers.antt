@@ -15,7 +15,7 @@ make_ready-requires c = record {
     c.args.performance.now.setup.now,
     begins (composition_of c.args.performance.now.setup.now) c.args.cycle c.requires.at.0,
     c.in_ok-begin.ensures.begun c.args.performance.now.setup.now c.requires.at.0 c.requires.at.1,
-    sym c.layout.ensures,
+    sym c.zones.ensures,
   );
 }
 

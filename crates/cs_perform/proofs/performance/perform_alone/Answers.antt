@@ -1,11 +1,26 @@
+use Rattle.std.proofs.Common.{rules}
+use Rattle.cs_perform.specs.Performances.{PerformsPiece, lent, lent_sight, request_of}
+use Rattle.cs_perform.proofs.Loans.{three_same}
 use Rattle.cs_perform.proofs.Wholes.{performs_nothing}
 use Rattle.cs_perform.proofs.performance.perform_alone.Goals as goal
 
 pub returns-in_default : goal.returns-in_default
 returns-in_default g c = record {
-  performed = performs_nothing (λ b h. (goal.Tap-dyn g (b.vtable, b.value)).stands_for b.value h) g.K.Sink.tells g.C.Counter.has_counted
-      c.args.performance.now.setup.now
-      c.args.performance.now.order c.args.performance.now.name.now _;
+  performed = performs_nothing
+      (lent_sight (λ b h. (goal.Tap-dyn g (b.vtable, b.value)).stands_for b.value h) g.K.Sink.tells
+      g.C.Counter.has_counted)
+      (request_of c.args.performance.now) _;
   outcome = tt;
   turns = tt;
 }
+
+pub returns : goal.returns
+returns g c =
+    three_same (λ t y w. PerformsPiece
+    (lent_sight (λ b h. (goal.Tap-dyn g (b.vtable, b.value)).stands_for b.value h) g.K.Sink.tells
+    g.C.Counter.has_counted)
+    (request_of c.args.performance.now)
+    (lent c.args.wav.now c.args.taps.now.items c.args.tally.now) (lent w t y) c.go_on-played.result)
+    c.go_on-played.new.loan.taps.now.items _ c.go_on-played.new.loan.tally.now _
+    c.go_on-played.new.loan.wav.now _
+    (search rules) (search rules) (search rules) c.go_on-played.ensures.performed

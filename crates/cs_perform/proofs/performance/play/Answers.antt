@@ -1,7 +1,7 @@
 use Rattle.std.proofs.Common.{refl}
 use Rattle.cs_piece.specs.Setups.{SetupData, composition_of}
 use Rattle.cs_piece_meaning.specs.Course.{moment_at}
-use Rattle.cs_perform.specs.Performances.{lent}
+use Rattle.cs_perform.specs.Performances.{lent, lent_sight, request_of}
 use Rattle.cs_perform.proofs.Standings.{stands_so, still_recorded}
 use Rattle.cs_perform.proofs.Wholes.{performs_closed, performs_in_part, performs_unbegun}
 use Rattle.cs_perform.proofs.performance.play.Goals as goal
@@ -23,9 +23,9 @@ returns-in-Ok-play_all-clause-recorded g c =
 
 pub returns-in_default-clause-performed : goal.returns-in_default-clause-performed
 returns-in_default-clause-performed g c =
-    performs_unbegun (λ b h. (goal.Tap-dyn g (b.vtable, b.value)).stands_for b.value h) g.K.Sink.tells g.C.Counter.has_counted
-    c.args.performance.now.setup.now
-    c.args.performance.now.order c.args.performance.now.name.now c.first_bytes-first.result
+    performs_unbegun (lent_sight (λ b h. (goal.Tap-dyn g (b.vtable, b.value)).stands_for b.value h) g.K.Sink.tells
+    g.C.Counter.has_counted)
+    (request_of c.args.performance.now) c.first_bytes-first.result
     (lent c.args.loan.now.wav.now c.args.loan.now.taps.now.items c.args.loan.now.tally.now)
     (lent c.begin.new.wav c.args.loan.now.taps.now.items c.args.loan.now.tally.now) refl refl
     c.first_bytes-first.ensures
@@ -33,9 +33,9 @@ returns-in_default-clause-performed g c =
 
 pub returns-in-Ok-play_all-clause-performed : goal.returns-in-Ok-play_all-clause-performed
 returns-in-Ok-play_all-clause-performed g c =
-    performs_closed (λ b h. (goal.Tap-dyn g (b.vtable, b.value)).stands_for b.value h) g.K.Sink.tells g.C.Counter.has_counted
-    c.args.performance.now.setup.now
-    c.args.performance.now.order c.args.performance.now.name.now c.first_bytes-first.result
+    performs_closed (lent_sight (λ b h. (goal.Tap-dyn g (b.vtable, b.value)).stands_for b.value h) g.K.Sink.tells
+    g.C.Counter.has_counted)
+    (request_of c.args.performance.now) c.first_bytes-first.result
     (lent c.args.loan.now.wav.now c.args.loan.now.taps.now.items c.args.loan.now.tally.now)
     (lent c.begin.new.wav c.args.loan.now.taps.now.items c.args.loan.now.tally.now) refl refl
     c.first_bytes-first.ensures
@@ -47,9 +47,9 @@ returns-in-Ok-play_all-clause-performed g c =
 
 pub returns-in-Err-clause-performed : goal.returns-in-Err-clause-performed
 returns-in-Err-clause-performed g c =
-    performs_in_part (λ b h. (goal.Tap-dyn g (b.vtable, b.value)).stands_for b.value h) g.K.Sink.tells g.C.Counter.has_counted
-    c.args.performance.now.setup.now
-    c.args.performance.now.order c.args.performance.now.name.now c.first_bytes-first.result
+    performs_in_part (lent_sight (λ b h. (goal.Tap-dyn g (b.vtable, b.value)).stands_for b.value h) g.K.Sink.tells
+    g.C.Counter.has_counted)
+    (request_of c.args.performance.now) c.first_bytes-first.result
     (lent c.args.loan.now.wav.now c.args.loan.now.taps.now.items c.args.loan.now.tally.now)
     (lent c.begin.new.wav c.args.loan.now.taps.now.items c.args.loan.now.tally.now) refl refl
     c.first_bytes-first.ensures

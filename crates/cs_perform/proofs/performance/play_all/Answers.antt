@@ -4,10 +4,9 @@ use Rattle.cs_piece_meaning.specs.Course.{moment_at}
 use Rattle.cs_piece_meaning.specs.Heard.{frames_before}
 use Rattle.cs_piece.specs.Setups.{composition_of}
 use Rattle.cs_tempo.specs.declared.plot.Plot.{Plot}
-use Rattle.cs_wav.specs.Wav.{samples_of}
-use Rattle.cs_perform.specs.Performances.{lent}
+use Rattle.cs_perform.specs.Performances.{lent, lent_sight, request_of}
 use Rattle.cs_perform.specs.declared.order.PlayFault.TheVariants.{OutOfMemory, Sink}
-use Rattle.cs_perform.specs.inner.Plays.{PlayedOn}
+use Rattle.cs_perform.specs.inner.Plays.{PlayedOn, samples_for}
 use Rattle.cs_perform.specs.inner.Recordings.{IsRecordingOf}
 use Rattle.cs_perform.proofs.Cycles.{room_kept, room_left}
 use Rattle.cs_perform.proofs.Files.{error_as, faults_after, rose_later}
@@ -18,10 +17,9 @@ pub loop-cycle-init : goal.loop-cycle-init
 loop-cycle-init g c = (
   c.requires.at,
   c.requires.recorded,
-  played_none (λ b h. (goal.Tap-dyn g (b.vtable, b.value)).stands_for b.value h) g.K.Sink.tells g.C.Counter.has_counted
-      (composition_of c.args.performance.now.setup.now)
-      c.args.performance.now.order.output c.args.performance.now.order.width
-      c.args.performance.now.setup.now.orchestra.head.dbfs _,
+  played_none (lent_sight (λ b h. (goal.Tap-dyn g (b.vtable, b.value)).stands_for b.value h) g.K.Sink.tells
+      g.C.Counter.has_counted)
+      (request_of c.args.performance.now) _,
   refl,
   refl,
   refl,
@@ -38,10 +36,9 @@ pub returns-in-Err-clause-part : goal.returns-in-Err-clause-part
 returns-in-Err-clause-part g c =
     let all : c.plot.result.now.cycles ≡ c.args.performance.now.setup.now.plot.cycles =
     ap (λ (p : Plot). p.cycles) c.plot.ensures in
-    part_stopped (λ b h. (goal.Tap-dyn g (b.vtable, b.value)).stands_for b.value h) g.K.Sink.tells g.C.Counter.has_counted
-    (composition_of c.args.performance.now.setup.now)
-    c.args.performance.now.order.output c.args.performance.now.order.width
-    c.args.performance.now.setup.now.orchestra.head.dbfs
+    part_stopped (lent_sight (λ b h. (goal.Tap-dyn g (b.vtable, b.value)).stands_for b.value h) g.K.Sink.tells
+    g.C.Counter.has_counted)
+    (request_of c.args.performance.now)
     c.in-Err.fault c.loop-cycle.cycle _ _ _ (omega (arith, c.loop-cycle-test.true, all)) c.loop-cycle.invariant.2
     c.in-Err.ensures.broken c.in-Err.ensures.memory
 
@@ -49,10 +46,9 @@ pub returns-in-Err-clause-memory : goal.returns-in-Err-clause-memory
 returns-in-Err-clause-memory g c e =
     let all : c.plot.result.now.cycles ≡ c.args.performance.now.setup.now.plot.cycles =
     ap (λ (p : Plot). p.cycles) c.plot.ensures in
-    paused_before (λ b h. (goal.Tap-dyn g (b.vtable, b.value)).stands_for b.value h) g.K.Sink.tells g.C.Counter.has_counted
-    (composition_of c.args.performance.now.setup.now)
-    c.args.performance.now.order.output c.args.performance.now.order.width
-    c.args.performance.now.setup.now.orchestra.head.dbfs
+    paused_before (lent_sight (λ b h. (goal.Tap-dyn g (b.vtable, b.value)).stands_for b.value h) g.K.Sink.tells
+    g.C.Counter.has_counted)
+    (request_of c.args.performance.now)
     c.loop-cycle.cycle _ _ _ (omega (arith, c.loop-cycle-test.true, all))
     (c.in-Err.ensures.memory (error_as c.in-Err.fault OutOfMemory e)) c.loop-cycle.invariant.2
 
@@ -69,10 +65,9 @@ pub loop-cycle-preserved : goal.loop-cycle-preserved
 loop-cycle-preserved g c = (
   c.in-Ok.ensures.at,
   c.in-Ok.ensures.recorded,
-  played_more (λ b h. (goal.Tap-dyn g (b.vtable, b.value)).stands_for b.value h) g.K.Sink.tells g.C.Counter.has_counted
-      (composition_of c.args.performance.now.setup.now)
-      c.args.performance.now.order.output c.args.performance.now.order.width
-      c.args.performance.now.setup.now.orchestra.head.dbfs
+  played_more (lent_sight (λ b h. (goal.Tap-dyn g (b.vtable, b.value)).stands_for b.value h) g.K.Sink.tells
+      g.C.Counter.has_counted)
+      (request_of c.args.performance.now)
       c.loop-cycle.cycle _ _ _ c.loop-cycle.invariant.2 c.in-Ok.ensures.played,
   c.play_cycle.ensures.same.0 ∙ c.loop-cycle.invariant.3,
   c.play_cycle.ensures.same.1 ∙ c.loop-cycle.invariant.4,
@@ -106,10 +101,12 @@ returns-clause-played g c =
     ap (λ (p : Plot). p.cycles) c.plot.ensures in
     let end : c.loop-cycle.cycle ≡ c.args.performance.now.setup.now.plot.cycles =
     omega (arith, c.loop-cycle-test.false, c.loop-cycle.auto.cycle-end, all) in
-    let P : ℕ → Type 0 = λ k. PlayedOn (λ b h. (goal.Tap-dyn g (b.vtable, b.value)).stands_for b.value h) g.K.Sink.tells g.C.Counter.has_counted
-    (composition_of c.args.performance.now.setup.now) c.args.performance.now.order.output k
+    let P : ℕ → Type 0 = λ k. PlayedOn
+    (lent_sight (λ b h. (goal.Tap-dyn g (b.vtable, b.value)).stands_for b.value h) g.K.Sink.tells
+    g.C.Counter.has_counted)
+    (request_of c.args.performance.now) k
     (lent c.args.loan.now.wav.now c.args.loan.now.taps.now.items c.args.loan.now.tally.now)
     (lent c.loop-cycle.loan.wav.now c.loop-cycle.loan.taps.now.items c.loop-cycle.loan.tally.now)
-    (samples_of c.args.performance.now.order.width c.args.performance.now.setup.now.orchestra.head.dbfs
+    (samples_for (request_of c.args.performance.now)
     (frames_before (composition_of c.args.performance.now.setup.now) k)) in
     subst P end c.loop-cycle.invariant.2

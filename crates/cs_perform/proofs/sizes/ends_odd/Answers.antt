@@ -13,15 +13,19 @@ overflow_mul-values c =
     let head : Head = c.args.setup.now.orchestra.head in
     let fits : c.args.setup.now.plot.cycles * head.ksmps * head.nchnls ≤ most_wav_bytes =
     values_fit _ _ _ _ c.requires.bytes (some_width c.args.width) in
-    let is : c.args.frames * c.orchestra.result.now.head.nchnls ≡ c.args.setup.now.plot.cycles * head.ksmps * head.nchnls =
-    ap (λ (o : TypedOrc). c.args.frames * o.head.nchnls) c.orchestra.ensures ∙ ap (λ (n : ℕ). n * head.nchnls) c.requires.frames in
+    let is : c.args.frames * c.orchestra.result.now.head.nchnls ≡ c.args.setup.now.plot.cycles * head.ksmps *
+    head.nchnls =
+    ap (λ (o : TypedOrc). c.args.frames * o.head.nchnls) c.orchestra.ensures
+    ∙ ap (λ (n : ℕ). n * head.nchnls) c.requires.frames in
     omega (arith, fits, is)
 
 pub overflow_mul-size : goal.overflow_mul-size
 overflow_mul-size c =
     let head : Head = c.args.setup.now.orchestra.head in
-    let is : c.args.frames * c.orchestra.result.now.head.nchnls ≡ c.args.setup.now.plot.cycles * head.ksmps * head.nchnls =
-    ap (λ (o : TypedOrc). c.args.frames * o.head.nchnls) c.orchestra.ensures ∙ ap (λ (n : ℕ). n * head.nchnls) c.requires.frames in
+    let is : c.args.frames * c.orchestra.result.now.head.nchnls ≡ c.args.setup.now.plot.cycles * head.ksmps *
+    head.nchnls =
+    ap (λ (o : TypedOrc). c.args.frames * o.head.nchnls) c.orchestra.ensures
+    ∙ ap (λ (n : ℕ). n * head.nchnls) c.requires.frames in
     let fits : c.args.frames * c.orchestra.result.now.head.nchnls * bytes_of c.args.width ≤ most_wav_bytes =
     subst (λ (n : ℕ). n * bytes_of c.args.width ≤ most_wav_bytes) (sym is) c.requires.bytes in
     rw c.bytes.ensures (omega (arith, fits))

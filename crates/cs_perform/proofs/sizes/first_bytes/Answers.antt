@@ -17,6 +17,8 @@ header-requires c =
 
 pub returns : goal.returns
 returns c =
-    header_is (composition_of c.args.setup.now) c.args.setup.now.orchestra.head c.args.width c.args.frames c.header.result c.requires.frames refl
+    header_is (composition_of c.args.setup.now) c.args.setup.now.orchestra.head c.args.width c.args.frames
+    c.header.result c.requires.frames refl
     (c.header.ensures
-    ∙ ap (λ (o : TypedOrc). header_bytes c.args.width (size_of c.args.width c.args.frames o.head) o.head) c.orchestra.ensures)
+    ∙ ap (λ (o : TypedOrc). header_bytes c.args.width (size_of c.args.width c.args.frames o.head) o.head)
+    c.orchestra.ensures)

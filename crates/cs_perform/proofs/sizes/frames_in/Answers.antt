@@ -7,7 +7,8 @@ use Rattle.cs_perform.proofs.sizes.frames_in.Goals as goal
 
 pub overflow_mul-result : goal.overflow_mul-result
 overflow_mul-result c =
-    let is : c.plot.result.now.cycles * c.orchestra.result.now.head.ksmps ≡ c.args.setup.now.plot.cycles * c.args.setup.now.orchestra.head.ksmps =
+    let is : c.plot.result.now.cycles * c.orchestra.result.now.head.ksmps ≡ c.args.setup.now.plot.cycles *
+    c.args.setup.now.orchestra.head.ksmps =
     ap (λ (p : Plot). p.cycles * c.orchestra.result.now.head.ksmps) c.plot.ensures
     ∙ ap (λ (o : TypedOrc). c.args.setup.now.plot.cycles * o.head.ksmps) c.orchestra.ensures in
     let fits : c.args.setup.now.plot.cycles * c.args.setup.now.orchestra.head.ksmps ≤ most_wav_bytes =

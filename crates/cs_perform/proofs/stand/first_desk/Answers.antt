@@ -10,5 +10,7 @@ pub returns-clause-cells : goal.returns-clause-cells
 returns-clause-cells c =
     let n : ℕ = word_count c.args.layout.now in
     let zeros : values c.deref.result.now ≡ replicate n (pos 0) =
-    ap values (c.deref.ensures.value ∙ c.in_ok-words.ensures.items_if_clones_equal (λ y e. e)) ∙ ap (λ (k : ℕ). values (replicate k 0)) c.words.ensures.words ∙ zero_cells n in
-    IfOk-weaker c.new.result (λ d. cells d ≡ values c.deref.result.now) (λ d. cells d ≡ replicate n (pos 0)) (λ d e. e ∙ zeros) c.new.ensures.cells
+    ap values (c.deref.ensures.value ∙ c.in_ok-words.ensures.items_if_clones_equal (λ y e. e))
+    ∙ ap (λ (k : ℕ). values (replicate k 0)) c.words.ensures.words ∙ zero_cells n in
+    IfOk-weaker c.new.result (λ d. cells d ≡ values c.deref.result.now) (λ d. cells d ≡ replicate n (pos 0))
+    (λ d e. e ∙ zeros) c.new.ensures.cells

@@ -1,4 +1,4 @@
-use Rattle.std.proofs.Common.{◌≡◌, ◌++◌, ℕ, List, length, map, ap, subst, ◌∙◌}
+use Rattle.std.proofs.Common.{◌≡◌, ◌++◌, ℕ, List, length, map, ap, refl, subst, ◌∙◌}
 use Rattle.std.proofs.lemmas.Result.{on_ok_weaker}
 use Rattle.std.specs.List.{AllZip}
 use Rattle.cs_cells.specs.declared.footprint.Footprint.{Footprint}
@@ -19,17 +19,20 @@ returns c =
     let stock : stock_of s.layout ≡ stock_in piece =
     ap stock_of c.facts.ensures.areas
     ∙ c.layouts_have_the_stock.ensures piece piece.head.ksmps (typed.orchestra s.orchestra).globals in
+    let stage = c.args.stand.now.life.stage in
     let P : List Footprint → List Active → Type 0 =
-    λ l active. AllZip (λ (a : Active) (f : Footprint). IsFootOf s.layout a.body f) active l in
+    λ l active. AllZip (λ (a : Active) (f : Footprint). IsFootOf stage.layout.now stage.zones.now a.body f) active l in
     on_ok_weaker c.add_turns.result
     (λ added m at. added
     ∙ ap (λ (g : Dependencies). c.args.turns.now.items ++ line_of c.args.cycle g.levels) c.deref.ensures
     ∙ ap (λ (l : List ℕ). c.args.turns.now.items ++ line_of c.args.cycle l)
-    (c.turns_are_levels.ensures piece s.layout m.active c.args.stand.now.course.feet.items
-    c.args.stand.now.course.graph.value.levels stock
+    (let is = at.stands.stand.stage_is in
+    c.turns_are_levels.ensures piece stage.layout.now stage.zones.now m.active c.args.stand.now.course.feet.items
+    c.args.stand.now.course.graph.value.levels
+    (record { are_zones = is.zones; areas_laid = is.laid; some_areas = is.some; some_zones = is.zones.some is.some })
+    (ap stock_of (at.stands.layout ∙ ap (λ (t : SetupData). t.layout) at.setup) ∙ stock)
     (subst (λ (l : List Footprint). P l m.active) c.requires.feet
-    (feet_of_notes piece c.args.stand.now.life.stage c.args.stand.now.life.made.items s.layout
-    c.args.stand.now.voices.items m.active
-    (at.stands.layout ∙ ap (λ (t : SetupData). t.layout) at.setup) at.stands.stand.play))
+    (feet_of_notes piece stage c.args.stand.now.life.made.items stage.layout.now stage.zones.now
+    c.args.stand.now.voices.items m.active refl refl at.stands.stand.play))
     at.course.notes at.course.levelled))
     c.add_turns.ensures.added

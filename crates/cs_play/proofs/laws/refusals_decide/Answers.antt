@@ -3,4 +3,5 @@ use Rattle.cs_play.proofs.laws.refusals_decide.Goals as goal
 
 pub returns : goal.returns
 returns g c =
-    refusals _ c.texts_of_a_source_mean_one.ensures.one c.files_have_one_pair_of_texts.ensures c.told_files_have_texts_or_lack_a_name.ensures.none
+    refusals _ c.texts_of_a_source_mean_one.ensures.one c.files_have_one_pair_of_texts.ensures
+    c.told_files_have_texts_or_lack_a_name.ensures.none

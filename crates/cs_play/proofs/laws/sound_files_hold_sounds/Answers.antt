@@ -7,4 +7,5 @@ returns-clause-ok g c = λ words before now asked t held run e known holds loud.
 
 pub returns-clause-front : goal.returns-clause-front
 returns-clause-front g c = λ words s before now asked t held run e known holds.
-    holds_front _ c.files_have_one_pair_of_texts.ensures words before now asked t e known held holds c.early_stops_are_fronts.ensures s run
+    holds_front _ c.files_have_one_pair_of_texts.ensures words before now asked t e known held holds
+    c.early_stops_are_fronts.ensures s run

@@ -5,10 +5,13 @@ use Rattle.cs_report.proofs.counts.report_meters.Goals as goal
 
 pub returns-in-Err-clause-part : goal.returns-in-Err-clause-part
 returns-in-Err-clause-part g c =
-    item_said_in_part (λ b. (goal.Tap-dyn g (b.vtable, b.value)).text b.value line_room) c.args.taps.now c.loop-tap.tap-index c.tap-item.result
-    _ _ _ c.loop-tap-test.true c.tap-item.is c.loop-tap.invariant c.in-Err.ensures.stopped (c.in-Err.ensures.cause.rose refl)
+    item_said_in_part (λ b. (goal.Tap-dyn g (b.vtable, b.value)).text b.value line_room) c.args.taps.now
+    c.loop-tap.tap-index c.tap-item.result
+    _ _ _ c.loop-tap-test.true c.tap-item.is c.loop-tap.invariant c.in-Err.ensures.stopped
+    (c.in-Err.ensures.cause.rose refl)
 
 pub loop-tap-preserved : goal.loop-tap-preserved
 loop-tap-preserved g c =
-    item_said (λ b. (goal.Tap-dyn g (b.vtable, b.value)).text b.value line_room) c.args.taps.now c.loop-tap.tap-index c.tap-item.result
+    item_said (λ b. (goal.Tap-dyn g (b.vtable, b.value)).text b.value line_room) c.args.taps.now c.loop-tap.tap-index
+    c.tap-item.result
     _ _ _ c.loop-tap-test.true c.tap-item.is c.loop-tap.invariant c.in_default.ensures.written

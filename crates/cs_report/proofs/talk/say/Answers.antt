@@ -4,10 +4,12 @@ use Rattle.cs_report.proofs.talk.say.Goals as goal
 
 pub returns-in-Err-clause-part : goal.returns-in-Err-clause-part
 returns-in-Err-clause-part g c =
-    said_part (λ piece. piece.now) c.args.pieces.now c.loop-piece.piece-index _ c.as_bytes.result.now _ _ _ c.loop-piece-test.true
+    said_part (λ piece. piece.now) c.args.pieces.now c.loop-piece.piece-index _ c.as_bytes.result.now _ _ _
+    c.loop-piece-test.true
     c.as_bytes.ensures.value c.loop-piece.invariant c.in-Err.ensures.stopped (c.in-Err.ensures.cause.rose refl)
 
 pub loop-piece-preserved : goal.loop-piece-preserved
 loop-piece-preserved g c =
-    said_more (λ piece. piece.now) c.args.pieces.now c.loop-piece.piece-index _ c.as_bytes.result.now _ _ _ c.loop-piece-test.true
+    said_more (λ piece. piece.now) c.args.pieces.now c.loop-piece.piece-index _ c.as_bytes.result.now _ _ _
+    c.loop-piece-test.true
     c.as_bytes.ensures.value c.loop-piece.invariant c.in_default.ensures.written

@@ -13,4 +13,5 @@ returns-in-SinkFault-clause-line g c =
 
 pub returns-in-OutOfMemory-clause-line : goal.returns-in-OutOfMemory-clause-line
 returns-in-OutOfMemory-clause-line g c =
-    says_message _ _ c.args.status OutOfMemory c.args.name.now _ c.in-OutOfMemory.is refl c.say_line-in-OutOfMemory.ensures
+    says_message _ _ c.args.status OutOfMemory c.args.name.now _ c.in-OutOfMemory.is refl
+    c.say_line-in-OutOfMemory.ensures

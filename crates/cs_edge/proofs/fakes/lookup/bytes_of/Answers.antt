@@ -5,7 +5,8 @@ use Rattle.cs_edge.proofs.fakes.lookup.bytes_of.Goals as goal
 
 pub returns-then-place-files : goal.returns-then-place-files
 returns-then-place-files c =
-    let at = bytes_at_place c.args.files.now c.in-Some.place c.index-files-place.result c.if-place-files.true c.index-files-place.is in
+    let at = bytes_at_place c.args.files.now c.in-Some.place c.index-files-place.result c.if-place-files.true
+    c.index-files-place.is in
     rw c.in-Some.is (c.as_slice.ensures ∙ (ap (λ (f : NamedBytes). f.bytes) (sym c.index-files-place.is) ∙ sym at))
 
 pub returns-else-place-files : goal.returns-else-place-files

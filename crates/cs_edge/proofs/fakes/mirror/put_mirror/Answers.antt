@@ -1,4 +1,5 @@
-use Rattle.std.proofs.Common.{List, ℕ, ℤ, pos, get_or, take, flat_map, codes, decimal, [], sym, ◌≡◌, append-nil, ◌++◌, arith, to_z, of_z, w64}
+use Rattle.std.proofs.Common.{List, ℕ, ℤ, pos, get_or, take, flat_map, codes, decimal, [], sym, ◌≡◌, append-nil, ◌++◌}
+use Rattle.std.proofs.Common.{arith, to_z, of_z, w64}
 use Rattle.std.proofs.lemmas.Int.{ints}
 use Rattle.cs_edge.specs.Taps.{mirror_line, mirror_value}
 use Rattle.cs_edge.proofs.Lines.{shows_as, shows_none, values_more, values_end}
@@ -22,6 +23,9 @@ loop-z-preserved c =
 pub returns : goal.returns
 unfolding mirror_line
 returns c =
-    let before : List ℕ = (codes "mirror " ++ decimal c.args.count) ++ flat_map mirror_value (take c.loop-z.z-index c.args.kept.now) in
-    shows_as _ _ (before ++ codes "\n") _ (values_end (codes "mirror ") (decimal c.args.count) (codes "\n") c.args.kept.now c.loop-z.z-index c.loop-z-test.false)
+    let before : List ℕ = (codes "mirror " ++ decimal c.args.count) ++ flat_map mirror_value
+    (take c.loop-z.z-index c.args.kept.now) in
+    shows_as _ _ (before ++ codes "\n") _
+    (values_end (codes "mirror ") (decimal c.args.count) (codes "\n") c.args.kept.now c.loop-z.z-index
+    c.loop-z-test.false)
     (c.add_piece.ensures before c.loop-z.invariant)

@@ -1,4 +1,5 @@
-use Rattle.std.proofs.Common.{ℕ, ℤ, refl, pos, ◌++◌, ◌∙◌, sym, ap, arith, max, get_or, take, nat_abs, ◌≡◌, to_z, of_z, w64}
+use Rattle.std.proofs.Common.{ℕ, ℤ, refl, pos, ◌++◌, ◌∙◌, sym, ap, arith, max, get_or, take, nat_abs, ◌≡◌, to_z, of_z}
+use Rattle.std.proofs.Common.{w64}
 use Rattle.std.proofs.lemmas.Int.{ints}
 use Rattle.cs_edge.specs.Taps.{peak_of}
 use Rattle.cs_edge.proofs.Lines.{peak_more, told_more}

@@ -1,11 +1,18 @@
 use Rattle.std.proofs.Common.{◌≡◌, rules, to_z, of_z, w64, pos}
 use Rattle.std.proofs.lemmas.Result.{on_ok_weaker}
+use Rattle.cs_life.proofs.Growing.{grew_none}
 use Rattle.cs_piece.specs.Setups.{composition_of}
 use Rattle.cs_life.proofs.Going.{note_done, table_given}
 use Rattle.cs_life.proofs.life.Life.act.Goals as goal
 
 pub start_note-requires : goal.start_note-requires
-start_note-requires g c = record { stands = (c.requires.able.moment, c.requires.able.stands); get = c.requires.able.gets; set = c.requires.able.sets }
+start_note-requires g c =
+    record {
+      stands = (c.requires.able.moment, c.requires.able.stands);
+      get = c.requires.able.gets;
+      set =
+          c.requires.able.sets;
+    }
 
 pub make_table-requires : goal.make_table-requires
 make_table-requires g c =
@@ -14,8 +21,10 @@ make_table-requires g c =
     record {
       stands = (c.args.voices.now.items, c.requires.able.moment, c.requires.able.stands);
       set = c.requires.able.sets;
-      table = table_given (composition_of c.args.self.now.setup.now) c.args.event.now.act c.in-Table.number c.in-Table.size c.in-Table.gen_
-          (to_z w64 (of_z w64 c.in-Table.size)) (to_z w64 (of_z w64 c.in-Table.gen_)) c.in-Table.args c.as_slice-in-Table.result.now c.in-Table.is s k
+      table = table_given (composition_of c.args.self.now.setup.now) c.args.event.now.act c.in-Table.number
+          c.in-Table.size c.in-Table.gen_
+          (to_z w64 (of_z w64 c.in-Table.size)) (to_z w64 (of_z w64 c.in-Table.gen_)) c.in-Table.args
+          c.as_slice-in-Table.result.now c.in-Table.is s k
           c.as_slice-in-Table.ensures c.requires.event;
     }
 
@@ -24,7 +33,13 @@ returns-in_ok-fields-in-Start-clause-done g c =
     let same : c.from_vec.result ≡ c.in-Start.fields = search rules in
     let number : to_z w64 (of_z w64 c.from.result) ≡ pos c.in-Start.instr = search rules in
     on_ok_weaker c.start_note.result
-    (λ started. note_done c.args.self.now c.start_note.new.self c.args.voices.now.items c.start_note.new.voices.items (g.B.Bank.cells c.args.bank.now)
-    (g.B.Bank.cells c.start_note.new.bank) c.args.event.now.cycle c.in-Start.instr c.in-Start.cycles (to_z w64 (of_z w64 c.from.result))
+    (λ started. note_done c.args.self.now c.start_note.new.self c.args.voices.now.items c.start_note.new.voices.items
+    (g.B.Bank.cells c.args.bank.now)
+    (g.B.Bank.cells c.start_note.new.bank) c.args.event.now.cycle c.in-Start.instr c.in-Start.cycles
+    (to_z w64 (of_z w64 c.from.result))
     c.from_vec.result c.in-Start.fields c.args.event.now.act c.in-Start.is number same started)
     c.start_note.ensures.started
+
+pub returns-in-Table-clause-grown : goal.returns-in-Table-clause-grown
+returns-in-Table-clause-grown g c =
+    on_ok_weaker c.make_table.result (λ made. grew_none c.args.voices.now.items) c.make_table.ensures.made

@@ -1,50 +1,65 @@
-use Rattle.std.proofs.Common.{ℤ, pos, slice_index_or, ◌∙◌, ◌++◌, List, length, ap, map, refl, subst}
+use Rattle.std.proofs.Common.{ℕ, ℤ, pos, slice_index_or, ◌∙◌, ◌+◌, ◌++◌, List, length, ap, map, refl, subst}
 use Rattle.std.proofs.lemmas.Result.{on_ok_weaker}
 use Rattle.cs_cells.specs.Cells.{cell}
 use Rattle.cs_piece_meaning.specs.Moments.{Composition, Moment}
 use Rattle.cs_piece_meaning.specs.Starts.{Start, all_asked, begun, time_of}
 use Rattle.cs_ir.specs.Asks.{ask_of}
 use Rattle.cs_ir.specs.declared.ask.Ask.{Ask}
-use Rattle.cs_life.proofs.Beginning.{Gives, clock_is, ends_long, is_ready}
+use Rattle.cs_life.proofs.Beginning.{Gives, clock_is, is_ready}
 use Rattle.cs_life.proofs.Performing.{flags_long}
 use Rattle.cs_meaning.specs.Notes.{Note}
 use Rattle.cs_meaning.specs.Plain.{Plain}
 use Rattle.cs_piece.specs.Setups.{composition_of}
-use Rattle.cs_voice_meaning.specs.Voices.{initialised}
-use Rattle.cs_voice.specs.Starts.{sheet_at}
+use Rattle.cs_voice_meaning.specs.Voices.{Sheet, initialised}
+use Rattle.cs_voice.specs.Starts.{IsStarted, sheet_at}
 use Rattle.cs_tempo.specs.declared.plot.Plot.{Plot}
 use Rattle.cs_life.proofs.life.Life.begin.Goals as goal
 
 pub start-requires-clause-tables : goal.start-requires-clause-tables
 start-requires-clause-tables g c =
     c.requires.stands.1.stand.stage_is.can_be_played c.deref-2.result.now
-    (ap length c.deref-2.ensures.value ∙ flags_long _ _ _ _ c.requires.stands.1.stand.stage_is c.requires.stands.1.stand.made)
-
-pub enter-requires : goal.enter-requires
-enter-requires g c = ends_long _ c.args.self.now _ _ _ c.requires.stands.1
+    (ap length c.deref-2.ensures.value
+    ∙ flags_long _ _ _ _ c.requires.stands.1.stand.stage_is c.requires.stands.1.stand.made)
 
 pub returns-clause-begun : goal.returns-clause-begun
 returns-clause-begun g c =
     on_ok_weaker c.enter.result
     (λ f body m of room st.
     let k : Composition = composition_of c.args.self.now.setup.now in
-    let s : Start = record { number = pos c.args.playable.instrument.now.number; cycles = c.args.note.cycles; fields = c.args.note.fields } in
+    let s : Start = record {
+      number = pos c.args.playable.instrument.now.number;
+      cycles = c.args.note.cycles;
+      fields =
+          c.args.note.fields;
+    } in
     let t : Note Plain = begun k m.made s body m in
     let left : Moment = record m { shared = t.world.shared } in
-    let gives : (fields : List ℤ) → Type 0 = λ fields. Gives
-    (sheet_at c.args.playable.instrument.now c.args.self.now.started c.args.playable.foot.now c.args.self.now.stage c.deref-2.result.now fields)
+    let sheet : List ℤ → Sheet = λ fields.
+    sheet_at c.args.playable.instrument.now c.args.self.now.started c.args.playable.foot.now c.args.self.now.stage
+    c.deref-2.result.now fields in
+    let before : ℕ → ℤ = cell (g.B.Bank.cells c.args.bank.now) in
+    let gives : (fields : List ℤ) → Type 0 = λ fields. Gives (sheet fields) (c.args.note.cycle + c.args.note.cycles)
     (g.B.Bank.cells c.args.bank.now) (g.B.Bank.cells c.start.new.bank) c.in_ok-begun.begun c.start.new.asks.items in
-    let ready = is_ready k c.args.self.now c.args.voices.now.items (g.B.Bank.cells c.args.bank.now) (g.B.Bank.cells c.start.new.bank) c.args.note.cycle s
-    c.args.playable.instrument.now c.args.playable.foot.now body m of st c.in_ok-begun.begun c.start.new.asks.items c.time_of-time.result c.deref-2.result.now
+    let ready = is_ready k c.args.self.now c.args.voices.now.items (g.B.Bank.cells c.args.bank.now)
+    (g.B.Bank.cells c.start.new.bank) c.args.note.cycle s
+    c.args.playable.instrument.now c.args.playable.foot.now body m of st c.in_ok-begun.begun c.start.new.asks.items
+    c.time_of-time.result c.deref-2.result.now
     c.ask_all.new.pending c.ask_all.new.not_started room refl c.deref-2.ensures.value
     (subst gives c.into_vec-fields.ensures (record {
-      result = c.in_ok-begun.ensures.started;
+      result = subst (λ n. IsStarted (sheet c.into_vec-fields.result.items) n
+          (initialised (sheet c.into_vec-fields.result.items) before) c.in_ok-begun.begun) c.end_of-until.ensures
+          c.in_ok-begun.ensures.started;
       cells_are = c.in_ok-begun.ensures.cells;
       asks_are = c.in_ok-begun.ensures.asks
-          ∙ ap (λ (x : List Ask). x ++ map ask_of (initialised (sheet_at c.args.playable.instrument.now c.args.self.now.started c.args.playable.foot.now c.args.self.now.stage c.deref-2.result.now c.into_vec-fields.result.items) (cell (g.B.Bank.cells c.args.bank.now))).world.asks) c.new-asks.ensures.items;
+          ∙ ap (λ (x : List Ask). x
+          ++ map ask_of (initialised (sheet c.into_vec-fields.result.items) before).world.asks) c.new-asks.ensures.items;
     }))
     c.start.ensures.long
-    (c.time_of-time.ensures ∙ ap (λ (x : List ℤ). slice_index_or x 1 (pos 0)) (c.deref.ensures.value ∙ c.into_vec-fields.ensures))
-    (c.in_ok-ask_all.ensures k left (clock_is k c.args.self.now.stage c.plot.result.now.cycles st.stand.stage_is (ap (λ (p : Plot). p.cycles) c.plot.ensures))) in
-    f k (g.B.Bank.cells c.start.new.bank) s body t (all_asked k c.args.note.cycle (time_of s) t.world.asks left) ready.began refl ready.room ready.stands)
+    (c.time_of-time.ensures ∙ ap (λ (x : List ℤ). slice_index_or x 1 (pos 0))
+    (c.deref.ensures.value ∙ c.into_vec-fields.ensures))
+    (c.in_ok-ask_all.ensures k left
+    (clock_is k c.args.self.now.stage c.plot.result.now.cycles st.stand.stage_is
+    (ap (λ (p : Plot). p.cycles) c.plot.ensures))) in
+    f k (g.B.Bank.cells c.start.new.bank) c.args.note.cycle s body t
+    (all_asked k c.args.note.cycle (time_of s) t.world.asks left) ready.began refl ready.room ready.stands)
     c.enter.ensures.entered

@@ -1,25 +1,27 @@
-use Rattle.std.proofs.Common.{◌∙◌, ◌+◌, ◌<◌, subst, sym}
+use Rattle.std.proofs.Common.{◌∙◌, ◌<◌, subst, sym}
 use Rattle.cs_piece_meaning.specs.Starts.{entered}
+use Rattle.cs_life.proofs.Growing.{grew_none}
 use Rattle.cs_life.proofs.Standings.{live_so, refused_if, vain_so}
-use Rattle.cs_life.specs.Standing.{Stands}
-use Rattle.cs_life.specs.inner.Starting.{IsBegun, Joined}
+use Rattle.cs_life.specs.Standing.{StandsFor}
+use Rattle.cs_life.specs.inner.Starting.{IsBegun}
 use Rattle.cs_life.proofs.life.Life.enter.Goals as goal
 
 pub returns-in_default : goal.returns-in_default
 returns-in_default c = record {
-  entered = λ k cells s body t m h cycles room stands.
-      vain_so k c.start_nothing.new.self c.args.voices.now.items cells c.args.now s body t m
-      (refused_if k c.args.self.now.stage c.args.self.now.made.items c.args.now s body t c.args.begun c.in_default.not-Live h)
+  entered = λ k cells now s body t m h cycles room stands.
+      vain_so k c.start_nothing.new.self c.args.voices.now.items cells now s body t m
+      (refused_if k c.args.self.now.stage c.args.self.now.made.items now s body t c.args.begun c.in_default.not-Live h)
       (c.start_nothing.ensures.counted k c.args.voices.now.items cells m stands);
+  grown = grew_none c.args.voices.now.items;
   setup = c.start_nothing.ensures.setup;
 }
 
 pub returns-clause-entered : goal.returns-clause-entered
-returns-clause-entered c = λ k cells s body t m h cycles room stands.
-    subst (λ n. Stands k (record c.args.self.now { ends = c.keep.new.ends; started = n }) c.keep.new.voices.items cells (entered c.args.now s body t t.world.cause m))
-    (sym c.saturating_add-self.ensures)
-    (live_so k c.args.self.now c.args.voices.now.items cells c.args.now s body t m stands c.in-Live.voice c.footprint.ensures.valid
-    (subst (λ r. IsBegun k c.args.self.now.stage c.args.self.now.made.items c.args.now s body t r) c.in-Live.is h) room c.keep.new.voices.items c.keep.new.ends
-    (λ none. c.in_ok-keep.ensures.brief (sym cycles ∙ none))
-    (λ any order. subst (λ n. Joined c.in-Live.voice (c.args.now + n) c.args.voices.now.items c.args.self.now.ends.items c.keep.new.voices.items c.keep.new.ends.items) (sym cycles)
-    (c.in_ok-keep.ensures.lasting (subst (λ n. 0 < n) cycles any) order)))
+returns-clause-entered c = λ k cells now s body t m h cycles room stands.
+    subst (λ n. StandsFor k (record c.args.self.now { started = n }) c.keep.new.voices.items cells
+    (entered now s body t t.world.cause m)) (sym c.saturating_add-self.ensures)
+    (live_so k c.args.self.now c.args.voices.now.items cells now s body t m stands c.in-Live.voice
+    c.footprint.ensures.valid
+    (subst (λ r. IsBegun k c.args.self.now.stage c.args.self.now.made.items now s body t r) c.in-Live.is h) room
+    c.keep.new.voices.items (λ none. c.in_ok-keep.ensures.brief (sym cycles ∙ none))
+    (λ any order. c.in_ok-keep.ensures.lasting (subst (λ n. 0 < n) cycles any) order))

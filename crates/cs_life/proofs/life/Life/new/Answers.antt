@@ -12,17 +12,32 @@ use Rattle.cs_life.proofs.life.Life.new.Goals as goal
 pub begin_outside-requires-clause-made : goal.begin_outside-requires-clause-made
 begin_outside-requires-clause-made g c =
     c.deref.ensures.value ∙ c.in_ok-made.ensures
-    ∙ none_made (composition_of c.args.setup.now).tables (length c.args.tables.now) (as_many c.args.tables.now (composition_of c.args.setup.now).tables c.requires.tables)
+    ∙ none_made (composition_of c.args.setup.now).tables (length c.stage-stage.result.tables.now)
+    (as_many c.stage-stage.result.tables.now (composition_of c.args.setup.now).tables
+    c.stage-stage.ensures.stage.tables)
 
 pub returns-clause-stands : goal.returns-clause-stands
 returns-clause-stands g c =
     opened (composition_of c.args.setup.now)
-    (record { setup = c.args.setup; stage = c.stage-stage.result; made = c.in_ok-made.made; ends = c.new.result; pending = c.new-2.result; started = 0; not_started = 0 })
+    (record {
+      setup = c.args.setup;
+      stage = c.stage-stage.result;
+      made = c.in_ok-made.made;
+      pending =
+          c.new.result;
+      started = 0;
+      not_started = 0;
+    })
     (g.B.Bank.cells c.begin_outside.new.bank) c.stage-stage.ensures.stage c.stage-stage.ensures.layout
+    c.stage-stage.ensures.zones
     (c.in_ok-made.ensures
-    ∙ none_made (composition_of c.args.setup.now).tables (length c.args.tables.now) (as_many c.args.tables.now (composition_of c.args.setup.now).tables c.requires.tables))
-    (subst (λ areas. Hold areas (cell (g.B.Bank.cells c.begin_outside.new.bank)) (outside_done (composition_of c.args.setup.now)).world.shared)
+    ∙ none_made (composition_of c.args.setup.now).tables (length c.stage-stage.result.tables.now)
+    (as_many c.stage-stage.result.tables.now (composition_of c.args.setup.now).tables
+    c.stage-stage.ensures.stage.tables))
+    (subst (λ areas. Hold areas (cell (g.B.Bank.cells c.begin_outside.new.bank))
+    (outside_done (composition_of c.args.setup.now)).world.shared)
     (sym c.stage-stage.ensures.layout) c.in_ok-begin_outside.ensures.hold)
-    (c.begin_outside.ensures.long ∙ ap length c.requires.cells ∙ length-replicate (word_count c.args.setup.now.layout) (pos 0)
+    (c.begin_outside.ensures.long ∙ ap length c.requires.cells
+    ∙ length-replicate (word_count c.args.setup.now.layout) (pos 0)
     ∙ ap word_count (sym c.stage-stage.ensures.layout))
-    c.new.ensures.items c.new-2.ensures refl refl
+    c.new.ensures refl refl

@@ -3,7 +3,7 @@ use Rattle.std.proofs.lemmas.List.{length-map}
 use Rattle.cs_cells.specs.declared.footprint.Footprint.{Footprint}
 use Rattle.cs_desk.specs.Desk.{areas, cells}
 use Rattle.cs_graph.specs.Graph.{IsFit}
-use Rattle.cs_perform.proofs.Standings.{areas_same, feet_in_areas, kept_course, ran_at}
+use Rattle.cs_perform.proofs.Standings.{areas_same, feet_in_areas, feet_played, kept_course, ran_at}
 use Rattle.cs_piece.specs.Setups.{composition_of}
 use Rattle.cs_voice.specs.VoiceData.{VoiceData}
 use Rattle.cs_perform.proofs.stand.Stand.run.Goals as goal
@@ -30,6 +30,8 @@ returns-in-Caller-clause-performed g c s m at = record {
       (cells c.args.self.desk) m at.stands);
   areas = c.run_alone-receipt.ensures.played.areas_are ∙ at.areas;
   course = at.course;
+  current = λ h. feet_played c.args.self.voices.items _ _ _ c.count-voices.ensures.voices
+      c.run_alone-receipt.ensures.played.footprints (at.current h);
 }
 
 pub run-receipt-requires : goal.run-receipt-requires
@@ -61,4 +63,6 @@ returns-in-Crew-clause-performed g c s m at = record {
       (cells c.args.self.desk) m at.stands);
   areas = c.run-receipt.ensures.played.areas_are ∙ at.areas;
   course = kept_course c.args.self.course _ c.run-receipt.ensures.graph refl at.course;
+  current = λ h. feet_played c.args.self.voices.items _ _ _ c.count-played.ensures.voices
+      c.run-receipt.ensures.played.footprints (at.current h);
 }

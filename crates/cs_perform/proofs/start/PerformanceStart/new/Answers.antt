@@ -3,7 +3,7 @@ use Rattle.cs_piece.specs.Setups.{composition_of}
 use Rattle.cs_typed.specs.declared.tree.TypedOrc.{TypedOrc}
 use Rattle.cs_perform.specs.inner.Recordings.{HasBlocks}
 use Rattle.cs_perform.proofs.Turning.{no_lines}
-use Rattle.cs_perform.proofs.start.Start.new.Goals as goal
+use Rattle.cs_perform.proofs.start.PerformanceStart.new.Goals as goal
 
 pub returns : goal.returns
 returns c = record {

@@ -1,4 +1,4 @@
-use Rattle.cs_play.proofs.player.play_alone.Goals as goal
+use Rattle.cs_play.proofs.player.play_piece_alone.Goals as goal
 
 pub perform_alone-requires-clause-bytes : goal.perform_alone-requires-clause-bytes
 perform_alone-requires-clause-bytes g c =
@@ -6,8 +6,4 @@ perform_alone-requires-clause-bytes g c =
 
 pub returns : goal.returns
 returns g c =
-    rw (
-      c.performance_of-performance.ensures.setup,
-      c.performance_of-performance.ensures.order,
-      c.performance_of-performance.ensures.name,
-    ) at c.perform_alone.ensures
+    rw c.performance_of-performance.ensures.request at c.perform_alone.ensures

@@ -1,4 +1,4 @@
-use Rattle.cs_play.proofs.player.play.Goals as goal
+use Rattle.cs_play.proofs.player.play_piece.Goals as goal
 
 pub perform_alone-requires-clause-bytes : goal.perform_alone-requires-clause-bytes
 perform_alone-requires-clause-bytes g c =
@@ -10,16 +10,8 @@ perform-requires-clause-bytes g c κs lives =
 
 pub returns-then-workers-eq1 : goal.returns-then-workers-eq1
 returns-then-workers-eq1 g c =
-    rw (
-      c.performance_of-performance.ensures.setup,
-      c.performance_of-performance.ensures.order,
-      c.performance_of-performance.ensures.name,
-    ) at c.perform_alone.ensures
+    rw c.performance_of-performance.ensures.request at c.perform_alone.ensures
 
 pub returns : goal.returns
 returns g c =
-    rw (
-      c.performance_of-performance.ensures.setup,
-      c.performance_of-performance.ensures.order,
-      c.performance_of-performance.ensures.name,
-    ) at c.perform.ensures
+    rw c.performance_of-performance.ensures.request at c.perform.ensures
