@@ -1,9 +1,11 @@
-/* Preloaded under the built program by bench/failing and bench/soak: makes a call fail, or tells another number of
-   processors.
+/* Preloaded under the built program by bench/failing and bench/soak: makes a call fail, tells another number of
+   processors, or delays calls.
 
    FAIL=NAME:N     the Nth call of NAME fails: alloc (malloc, realloc), open, read, write, close, thread
    FAIL=NAME:N+    the Nth and all that follow fail
    PROCESSORS=N    the program sees N processors
+   DELAYS=N        about one of N calls of malloc, free, memcpy, sched_yield, pthread_create and of the system's wait on a
+                   word (futex) takes up to 0.3 ms longer
    COUNTS=FILE     at the end, how often each was called, and how many allocations weren't freed, go to FILE */
 #define _GNU_SOURCE
 #include <dlfcn.h>
@@ -15,12 +17,14 @@
 #include <stdio.h>
 #include <stdlib.h>
 #include <string.h>
+#include <time.h>
 #include <unistd.h>
 
 enum { ALLOC, OPEN, READ, WRITE, CLOSE, THREAD, KINDS };
 static const char *const names[KINDS] = {"alloc", "open", "read", "write", "close", "thread"};
 static long calls[KINDS], held, fail_at;
 static int fail_kind = -1, fail_on, ready;
+static unsigned delays;
 
 extern void *__libc_malloc(size_t);
 extern void *__libc_calloc(size_t, size_t);
@@ -38,7 +42,31 @@ __attribute__((constructor)) static void begin(void) {
             fail_on = *rest == '+';
         }
     }
+    const char *delayed = getenv("DELAYS");
+    delays = delayed ? (unsigned)atoi(delayed) : 0;
     ready = 1;
+}
+
+/* The system's call itself, since `syscall` is one of those that are delayed. */
+static long kernel(long number, long a, long b, long c, long d, long e, long f) {
+    register long r10 __asm__("r10") = d, r8 __asm__("r8") = e, r9 __asm__("r9") = f;
+    long came;
+    __asm__ volatile("syscall"
+                     : "=a"(came)
+                     : "a"(number), "D"(a), "S"(b), "d"(c), "r"(r10), "r"(r8), "r"(r9)
+                     : "rcx", "r11", "memory");
+    return came;
+}
+
+/* One of `delays` calls sleeps, by a row of numbers of the thread's own. */
+static void delay(void) {
+    static __thread unsigned state;
+    if (!ready || !delays) return;
+    if (!state) state = (unsigned)(size_t)&state ^ (unsigned)kernel(186, 0, 0, 0, 0, 0, 0);
+    state = state * 1664525u + 1013904223u;
+    if ((state >> 8) % delays) return;
+    struct timespec span = {0, (state >> 4) % 300000};
+    kernel(35, (long)&span, 0, 0, 0, 0, 0);
 }
 
 static void tell(void) {
@@ -67,6 +95,7 @@ static int fails(int kind) {
 }
 
 void *malloc(size_t size) {
+    delay();
     if (fails(ALLOC)) return errno = ENOMEM, NULL;
     void *made = __libc_malloc(size);
     if (ready && made) __sync_add_and_fetch(&held, 1);
@@ -97,6 +126,7 @@ void *realloc(void *old, size_t size) {
 }
 
 void free(void *old) {
+    delay();
     if (old && !exchanged(old, NULL) && ready) __sync_sub_and_fetch(&held, 1);
     __libc_free(old);
 }
@@ -126,9 +156,34 @@ int close(int which) {
     return failing ? (errno = EIO, -1) : status;
 }
 
+void *memcpy(void *restrict to, const void *restrict from, size_t size) {
+    void *at = to;
+    delay();
+    __asm__ volatile("rep movsb" : "+D"(at), "+S"(from), "+c"(size) : : "memory");
+    return to;
+}
+
+int sched_yield(void) {
+    delay();
+    return (int)kernel(24, 0, 0, 0, 0, 0, 0);
+}
+
+/* Of the system's calls by their numbers the program makes the wait on a word alone. */
+long syscall(long number, ...) {
+    va_list rest;
+    va_start(rest, number);
+    long a = va_arg(rest, long), b = va_arg(rest, long), c = va_arg(rest, long);
+    long d = va_arg(rest, long), e = va_arg(rest, long), f = va_arg(rest, long);
+    va_end(rest);
+    if (number == 202) delay();
+    long came = kernel(number, a, b, c, d, e, f);
+    return came < 0 && came > -4096 ? (errno = (int)-came, -1) : came;
+}
+
 int pthread_create(pthread_t *made, const pthread_attr_t *how, void *(*work)(void *), void *given) {
     static int (*real)(pthread_t *, const pthread_attr_t *, void *(*)(void *), void *);
     if (!real) real = dlsym(RTLD_NEXT, "pthread_create");
+    delay();
     return fails(THREAD) ? EAGAIN : real(made, how, work, given);
 }
 
