@@ -10,9 +10,7 @@ use Rattle.std.proofs.lemmas.Bool.{and_parts}
 use Rattle.cs_base.specs.declared.decimal.Decimal.{Decimal}
 use Rattle.std.proofs.lemmas.Bool.Decides.{nat_tests}
 use Rattle.std.specs.Int.{int_div_euclid, int_rem_euclid, is_negative, is_positive}
-use Rattle.std.specs.Ordering.{int_eq, int_cmp, MatchOrdering}
-use Rattle.std.specs.Cmp.{int_ranks}
-use Rattle.std.specs.declared.cmp.Ordering.TheVariants.{Equal}
+use Rattle.std.specs.Ordering.{int_eq}
 use Rattle.std.proofs.lemmas.Int.{ints, clamps, by_lt_z}
 use Rattle.cs_base.specs.Numbers.{IsRaw, clamp, least, greatest, one, floor_div, quotient_by_zero, quotient_of}
 use Rattle.cs_base.specs.Numbers.{remainder_of, floor_of, int_of, frac_of}
@@ -140,9 +138,6 @@ sums_back x y = omega (arith, ints)
 
 pub int_and_frac : (x : ℤ) → int_of x +ℤ frac_of x ≡ x
 int_and_frac x = sums_back x (int_of x)
-
-pub same_where_equal : (x y : ℤ) → int_cmp x y ≡ Equal → x ≡ y
-same_where_equal x y h = subst (λ o. MatchOrdering o (x <ℤ y) (x ≡ y) (y <ℤ x)) h (int_ranks x y)
 
 either_in_range : (b : Bool) (x y : ℤ) → IsRaw x → IsRaw y → IsRaw (if b then x else y)
 either_in_range true x y h k = h

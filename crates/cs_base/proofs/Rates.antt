@@ -1,15 +1,13 @@
 -- The order of rates, and equality of rates and resources.
-use Rattle.std.proofs.Common.{◌≡◌, ℕ, zero, suc, ◌+◌, ◌<◌, ◌≤◌, max, ◌⊎◌, inl, inr, Bool, true, false, ◌&&◌, ◌==◌, List}
-use Rattle.std.proofs.Common.{[], ◌∷◌, ◌++◌, length, take, get_or, nat_le, if◌then◌else◌, arith, ap, sym, ◌∙◌, refl}
-use Rattle.std.specs.List.{list_all}
+use Rattle.std.proofs.Common.{◌≡◌, ℕ, zero, suc, ◌≤◌, max, ◌⊎◌, inl, inr, Bool, true, false, ◌==◌}
+use Rattle.std.proofs.Common.{if◌then◌else◌, arith, ap, sym, ◌∙◌, refl}
 use Rattle.std.proofs.lemmas.Bool.{and_parts}
 use Rattle.std.proofs.lemmas.Bool.Decides.{nat_tests}
-use Rattle.std.proofs.lemmas.List.{take_more}
 use Rattle.cs_base.specs.declared.resource.Rate.{Rate}
 use Rattle.cs_base.specs.declared.resource.Rate.TheVariants as rate
 use Rattle.cs_base.specs.declared.resource.Res.{Res}
 use Rattle.cs_base.specs.declared.resource.Res.TheVariants as res
-use Rattle.cs_base.specs.Rates.{how_often, same_rate, within, faster, fastest, res_kind, res_number, same_res}
+use Rattle.cs_base.specs.Rates.{how_often, same_rate, within, faster, res_kind, res_number, same_res}
 
 equal : (m n : ℕ) → (m == n) ≡ true → m ≡ n
 equal m n h = grind (arith, nat_tests)
@@ -128,42 +126,3 @@ faster_is_one r s = one (within r s)
     one : (b : Bool) → ((if b then s else r) ≡ r) ⊎ ((if b then s else r) ≡ s)
     one true = inr refl
     one false = inl refl
-
-max_below : (a b c : ℕ) → nat_le (max a b) c ≡ (nat_le a c && nat_le b c)
-max_below a b c = grind (arith, nat_tests)
-
--- the fastest is within a rate exactly where each one is
-pub fastest_within : (rs : List Rate) (s : Rate) → within (fastest rs) s ≡ list_all (λ r. within r s) rs
-fastest_within [] rate.Init = refl
-fastest_within [] rate.Control = refl
-fastest_within [] rate.Audio = refl
-fastest_within (r ∷ rs) s =
-    ap (λ n. nat_le n (how_often s)) (faster_as_often r (fastest rs))
-    ∙ max_below (how_often r) (how_often (fastest rs)) (how_often s)
-    ∙ ap (λ b. within r s && b) (fastest_within rs s)
-
-pub fastest_above : (rs : List Rate) → list_all (λ r. within r (fastest rs)) rs ≡ true
-fastest_above rs = sym (fastest_within rs (fastest rs)) ∙ is_within (fastest rs) (fastest rs) (omega arith)
-
-pub fastest_least : (rs : List Rate) (s : Rate) → list_all (λ r. within r s) rs ≡ true → within (fastest rs) s ≡ true
-fastest_least rs s h = fastest_within rs s ∙ h
-
--- one rate more at the end
-pub fastest_more : (rs : List Rate) (r : Rate) → fastest (rs ++ r ∷ []) ≡ faster (fastest rs) r
-fastest_more rs r = as_often (fastest (rs ++ r ∷ [])) (faster (fastest rs) r)
-    (often rs r ∙ sym (faster_as_often (fastest rs) r))
-  where
-    often : (rs : List Rate) (r : Rate)
-        → how_often (fastest (rs ++ r ∷ [])) ≡ max (how_often (fastest rs)) (how_often r)
-    often [] r = faster_as_often r rate.Init ∙ (omega arith)
-    often (q ∷ rs) r =
-        let here = faster_as_often q (fastest (rs ++ r ∷ [])) in
-        let there = faster_as_often q (fastest rs) in
-        let more = often rs r in
-        omega (arith, here, there, more)
-
-pub fastest_step : (rs : List Rate) (i : ℕ) (f f' d : Rate) → i < length rs → f ≡ fastest (take i rs)
-    → f' ≡ faster f (get_or rs i d) → f' ≡ fastest (take (i + 1) rs)
-fastest_step rs i f f' d l e g =
-    g ∙ ap (λ x. faster x (get_or rs i d)) e ∙ sym (fastest_more (take i rs) (get_or rs i d))
-    ∙ ap fastest (sym (take_more rs i d l))

@@ -1,5 +1,5 @@
 -- How rates stand to each other, and when two resources are the same.
-use Rattle.std.specs.Prelude.{ℕ, Bool, true, false, List, [], ◌∷◌, ◌&&◌, ◌==◌, nat_le, if◌then◌else◌}
+use Rattle.std.specs.Prelude.{ℕ, Bool, true, false, ◌&&◌, ◌==◌, nat_le, if◌then◌else◌}
 use Rattle.cs_base.specs.declared.resource.Rate.{Rate}
 use Rattle.cs_base.specs.declared.resource.Rate.TheVariants as rate
 use Rattle.cs_base.specs.declared.per_rate.PerRate.{PerRate}
@@ -34,11 +34,6 @@ within r s = nat_le (how_often r) (how_often s)
 -- the rate of the two that changes more often
 abbrev pub faster : Rate → Rate → Rate
 faster r s = if within r s then s else r
-
--- the fastest of some rates; of none it is Init
-abbrev pub fastest : List Rate → Rate
-fastest [] = rate.Init
-fastest (r ∷ rs) = faster r (fastest rs)
 
 -- the value of three that is kept for a rate
 abbrev pub at_rate : {T : Type 0} → PerRate T → Rate → T

@@ -3,17 +3,14 @@
 ghost use Rattle.std.specs.Prelude.{◌≡◌, ◌↔◌, ◌⊎◌, true, ℤ, pos, neg_ℤ, ◌+ℤ◌, ◌*ℤ◌, ◌≤ℤ◌, ◌<ℤ◌, ℕ, List, Some};
 ghost use Rattle.std.specs.Prelude.{None, codes};
 ghost use Rattle.std.specs.Prelude.{◌++◌, take};
-ghost use Rattle.std.specs.List.{All, list_all};
-ghost use Rattle.std.specs.Cmp.{IsTotalOrder};
-ghost use Rattle.std.specs.Ordering.{int_cmp};
-ghost use Rattle.std.specs.declared.cmp.Ordering.TheVariants.{Equal};
+ghost use Rattle.std.specs.List.{All};
 ghost use Rattle.cs_base.specs.declared.decimal.Decimal.{Decimal};
 ghost use Rattle.cs_base.specs.Numbers.{IsRaw, clamp, least, one, floor_div, sum_of, difference_of, product_of};
 ghost use Rattle.cs_base.specs.Numbers.{quotient_of, remainder_of, floor_of, int_of, frac_of, abs_of};
 ghost use Rattle.cs_base.specs.Decimals.{decimal_of, raw_of_decimal};
 ghost use Rattle.cs_base.specs.Comments.{comment_len, is_open_comment};
 ghost use Rattle.cs_base.specs.Lines.{line_after, lines_of};
-ghost use Rattle.cs_base.specs.Rates.{same_rate, same_res, within, faster, fastest};
+ghost use Rattle.cs_base.specs.Rates.{same_rate, same_res, within, faster};
 ghost use Rattle.cs_base.specs.declared.resource.Rate.{Rate};
 ghost use Rattle.cs_base.specs.declared.resource.Res.{Res};
 
@@ -55,22 +52,13 @@ pub fn parts_of_a_number()
     ensures int_and_frac { (x : ℤ) → int_of x +ℤ frac_of x ≡ x }
 {}
 
-/// The order of `compare` is total, and only the same number is equal in it.
-pub fn order_is_total()
-    ensures total { IsTotalOrder int_cmp }
-    ensures equal { (x y : ℤ) → int_cmp x y ≡ Equal → x ≡ y }
-{}
-
-/// `within` orders the rates, `faster` is the greater of two in that order, and `fastest` the greatest of some.
+/// `within` orders the rates, and `faster` is the greater of two in that order.
 pub fn rates_are_ordered()
     ensures once { (r s : Rate) → within r s ≡ true → within s r ≡ true → r ≡ s }
     ensures chain { (r s t : Rate) → within r s ≡ true → within s t ≡ true → within r t ≡ true }
     ensures either { (r s : Rate) → (within r s ≡ true) ⊎ (within s r ≡ true) }
     ensures one_of_two { (r s : Rate) → (faster r s ≡ r) ⊎ (faster r s ≡ s) }
     ensures above_two { (r s : Rate) → (within r (faster r s) ≡ true) × (within s (faster r s) ≡ true) }
-    ensures above_all { (rs : List Rate) → list_all (λ r. within r (fastest rs)) rs ≡ true }
-    ensures least { (rs : List Rate) (s : Rate)
-        → list_all (λ r. within r s) rs ≡ true → within (fastest rs) s ≡ true }
 {}
 
 /// The tests for the same rate and the same resource answer yes exactly where the two are equal.

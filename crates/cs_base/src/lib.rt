@@ -37,8 +37,8 @@ pub use fault::{Or, OrcFault, OrcKind, OutOfMemory, ScoreFault, ScoreKind};
 pub use head::Head;
 pub use items::{Bytes, Items, Name, Names, Numbers, Nums, Places, Rates};
 pub use laws::{
-    division_rounds_down, lines_are_those_of_the_file, order_is_total, parts_of_a_number,
-    rates_are_ordered, results_in_range, sameness_is_equality, worked_examples,
+    division_rounds_down, lines_are_those_of_the_file, parts_of_a_number, rates_are_ordered,
+    results_in_range, sameness_is_equality, worked_examples,
 };
 pub use limit::{
     GREATEST_FIELD, GREATEST_INSTRUMENT, GREATEST_KSMPS, GREATEST_SR, GREATEST_TABLE,

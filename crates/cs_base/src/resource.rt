@@ -1,6 +1,6 @@
 // Rates, and the resources that notes share.
 ghost use Rattle.std.specs.Prelude.{◌≡◌};
-ghost use Rattle.cs_base.specs.Rates.{how_often, is_init, is_control, is_audio, same_rate, within, faster, fastest};
+ghost use Rattle.cs_base.specs.Rates.{how_often, is_init, is_control, is_audio, same_rate, within, faster};
 ghost use Rattle.cs_base.specs.Rates.{res_kind, res_number, res_rate, same_res};
 
 /// How often a value changes: once a note, once a control cycle, or once a frame.
@@ -52,17 +52,6 @@ impl Rate {
         ensures { result ≡ faster self other }
     {
         if self.within(other) { other } else { self }
-    }
-
-    /// The fastest of some rates; of none it is Init.
-    pub fn fastest(rates: &[Rate]) -> Rate
-        ensures { result ≡ fastest rates.now }
-    {
-        let mut fastest = Rate::Init;
-        for rate in rates {
-            fastest = fastest.faster(*rate);
-        }
-        fastest
     }
 
     fn how_often(self) -> u8

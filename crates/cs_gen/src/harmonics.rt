@@ -3,7 +3,7 @@ ghost use Rattle.std.specs.Prelude.{◌≡◌, ◌<◌, ◌≤◌, ◌+◌, ◌*
 ghost use Rattle.cs_base.specs.Numbers.{clamp, floor_div};
 ghost use Rattle.cs_gen.specs.Points.{full_scale, harmonics, wave};
 
-use crate::sine::{FULL_SCALE, wave};
+use crate::sine::{FULL_SCALE, TURN, wave};
 use cs_base::Num;
 
 /// The point at place `j` of a table of `len` points; `strengths` are those of the harmonics 1, 2 and so on.
@@ -29,7 +29,7 @@ fn harmonic(len: u64, strength: Num, phase: u64) -> i64
     ensures value { result ≡ floor_div (strength *ℤ wave (phase * 2 ^ 24 / len)) full_scale }
     ensures bounded { unsigned_abs result ≤ 2 ^ 47 }
 {
-    scaled(strength.raw(), wave(phase * (1 << 24) / len))
+    scaled(strength.raw(), wave(phase * TURN / len))
 }
 
 // A strength times a height of the wave, rounded down.

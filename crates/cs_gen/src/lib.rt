@@ -5,7 +5,7 @@
 //! a walk along the segments, a turning phase or a second pass, may be changed without anyone above noticing.
 //!
 //! To be read in this order: `check` (what is refused), `sine` (the one wave), `harmonics` (GEN10), `segments` (GEN07),
-//! `normal` (positive GENs), `table` (GEN02 and the whole), `place` (where an index is read), `laws`.
+//! `normal` (positive GENs), `place` (the places of a table), `table` (GEN02 and the whole), `laws`.
 #![tactic(auto)]
 
 mod check;
@@ -19,5 +19,5 @@ mod table;
 
 pub use check::{GenFault, check_table};
 pub use laws::{accepted_tables_are_made, faults_worked_by_hand, tables_worked_by_hand};
-pub use place::place_of_index;
+pub use place::{len_of, place_of_index};
 pub use table::{Points, make_table};

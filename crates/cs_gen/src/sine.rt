@@ -6,6 +6,12 @@ ghost use Rattle.cs_gen.specs.Points.{wave_at, wave, full_scale, quarter};
 /// The height of the wave at its crest.
 pub(crate) const FULL_SCALE: i64 = 32_767;
 
+/// The parts of a turn of the wave.
+pub(crate) const TURN: u64 = 16_777_216;
+
+// The parts of a turn from one of the wave's 256 places to the next.
+const PARTS: u64 = 65_536;
+
 // The rising quarter of a wave of 256 places, from place 0 to place 64.
 const QUARTER: [u16; 65] = [
     0, 804, 1608, 2410, 3212, 4011, 4808, 5602, 6393, 7179, 7962, 8739, 9512, 10278, 11039, 11793,
@@ -24,9 +30,9 @@ pub(crate) fn wave(w: u64) -> i64
     ensures below { result ≤ℤ full_scale }
 {
     between(
-        wave_at(w / 65536),
-        wave_at((w / 65536 + 1) % 256),
-        w % 65536,
+        wave_at(w / PARTS),
+        wave_at((w / PARTS + 1) % 256),
+        w % PARTS,
     )
 }
 
@@ -51,7 +57,7 @@ fn part(difference: i64, fraction: u64) -> i64
     requires below { difference ≤ℤ pos 65534 }
     ensures { result ≡ floor_div (difference *ℤ pos fraction) (pos 65536) }
 {
-    (difference * fraction as i64).div_euclid(65536)
+    (difference * fraction as i64).div_euclid(PARTS as i64)
 }
 
 #[tactic(auto, unfolding(crate::specs::Points::wave_at))]

@@ -8,6 +8,7 @@ ghost use Rattle.cs_base.specs.Numbers.{clamp};
 use crate::check::{GenFault, argument, check_table};
 use crate::harmonics::harmonics;
 use crate::normal::normalise_for;
+use crate::place::len_of;
 use crate::segments::segment_points;
 use cs_base::{Items, Num, Or};
 use std::alloc::{AllocError, Global};
@@ -63,7 +64,7 @@ fn harmonic_points(alloc: Global, size: u64, strengths: &[Num]) -> Result<Vec<Nu
     ensures { let wave = λ (j : ℕ). clamp (harmonics (len_of size) strengths.now j) in
         IfOk result (λ points. points.items ≡ at_places size wave) }
 {
-    let len = size - size % 2;
+    let len = u64::from(len_of(size as u32));
     let mut points = Vec::new(alloc);
     for j in 0..size {
         points.push(harmonics(len, strengths, j))?;

@@ -40,17 +40,23 @@ module _ {J : Type 0} (M : Meaning J) where
   still_free None w w' c c' n n' d = n'
   still_free (Some e) w w' c c' n n' d = absurd (n d.0)
 
+  -- of what is out, at GIVEN the task lies in the slot, and at BACK the answer
+  given_abroad : (w : ℕ) (h : maybe.Option (MailboxLetter J)) (e : Errand J) → w ≡ GIVEN → IsAbroad M w h e
+      → IsGiven M w h e
+  given_abroad w h e is =
+      ⊎_elim (λ g. g) (⊎_elim (λ t. absurd (omega (arith, is, t.word))) (λ b. absurd (omega (arith, is, b.word))))
+
+  back_abroad : (w : ℕ) (h : maybe.Option (MailboxLetter J)) (e : Errand J) → w ≡ BACK → IsAbroad M w h e
+      → IsBack M w h e
+  back_abroad w h e is =
+      ⊎_elim (λ g. absurd (omega (arith, is, g.word))) (⊎_elim (λ t. absurd (omega (arith, is, t.word))) (λ b. b))
+
   -- at GIVEN there is something out, which lies in the slot
   given_out : (o : Option (Errand J)) (w : ℕ) (h : maybe.Option (MailboxLetter J)) → w ≡ GIVEN
       → MatchOption o (IsHome M w h) (IsAbroad M w h)
       → (e : Errand J) × (o ≡ Some e) × IsGiven M w h e
   given_out None w h is m = absurd (⊎_elim (λ z. omega (arith, z, is)) (λ z. omega (arith, z, is)) m.word)
-  given_out (Some e) w h is m = (e, refl, given_abroad e w h is m)
-    where
-      given_abroad : (e : Errand J) (w : ℕ) (h : maybe.Option (MailboxLetter J)) → w ≡ GIVEN → IsAbroad M w h e
-          → IsGiven M w h e
-      given_abroad e w h is m =
-          ⊎_elim (λ g. g) (⊎_elim (λ t. absurd (omega (arith, is, t.word))) (λ b. absurd (omega (arith, is, b.word)))) m
+  given_out (Some e) w h is m = (e, refl, given_abroad w h e is m)
 
   module _ (s : State (MailboxLetter J) (Knows J)) (id : ℕ) where
     -- the rule after a step of the caller, and of the helper
@@ -230,37 +236,33 @@ module _ {J : Type 0} (M : Meaning J) where
   is_home : (w : ℕ) → (w ≡ EMPTY) ⊎ (w ≡ OVER) → IsHome M w none
   is_home w is = record { word = is; home = refl }
 
-  -- the answer is taken, or there is none
-  pub collects : (n id k : ℕ) (e : Errand J)
-      → Allows (Always M) n id (caller k (Some e), []) 0 (λ y. either (eqb y BACK) EMPTY y)
-      (collected M (step n 0 BACK EMPTY none) (caller k (Some e), []))
-  collects n id k e s a long here fits =
-      exchanged x BACK EMPTY (λ y. (w : Knows J) × (b : Act (MailboxLetter J)) × Valid s.homes [] b
-      × Always M (stepped s 0 y id [] w b)
-      × collected M (step n 0 BACK EMPTY none) (caller k (Some e), []) x (w, carried_after [] b))
+  -- Where the caller finds the word that it looks for, it takes what lies in the slot, and nothing is out any more;
+  -- else nothing changes.
+  takes_back : (n id k k' old : ℕ) (e : Errand J) (told : ℕ → Sat J → Type 0) → old ≢ TAKEN
+      → ((w : ℕ) (h : maybe.Option (MailboxLetter J)) → w ≡ old → IsAbroad M w h e
+      → (l : MailboxLetter J) × (h ≡ some l) × told w (caller k' None, (0, l) ∷ []))
+      → ((w : ℕ) → w ≢ old → told w (caller k (Some e), []))
+      → Allows (Always M) n id (caller k (Some e), []) 0 (λ y. either (eqb y old) EMPTY y) told
+  takes_back n id k k' old e told free found missed s a long here fits =
+      exchanged x old EMPTY (λ y. (w : Knows J) × (b : Act (MailboxLetter J)) × Valid s.homes [] b
+      × Always M (stepped s 0 y id [] w b) × told x (w, carried_after [] b))
       (λ hit.
-      let g : IsBack M c.word c.home e = back (word_is ∙ hit) in (
-        caller (k + 1) None,
-        takes 0 (letter.Answer g.answer),
-        ap (λ hs. get_elem? hs 0) c.homes ∙ ap some g.home,
+      let f = found c.word c.home (word_is ∙ hit) c.facts.out in (
+        caller k' None,
+        takes 0 f.0,
+        ap (λ hs. get_elem? hs 0) c.homes ∙ ap some f.1,
         caller_stepped s id (caller k (Some e)) c (slice_set s.words 0 EMPTY) (slice_set s.homes 0 none) EMPTY none
-            (caller (k + 1) None)
+            (caller k' None)
             (ap (λ ws. slice_set ws 0 EMPTY) c.words) (ap (λ hs. slice_set hs 0 none) c.homes)
             (record {
               roles = (refl, c.facts.roles.1);
               out = is_home EMPTY (inl refl);
-              duty = still_free c.other.out c.word EMPTY (Some e) None (λ z. omega (arith, z, g.word))
+              duty = still_free c.other.out c.word EMPTY (Some e) None (λ z. free (sym (word_is ∙ hit) ∙ z))
                   (λ z. omega (arith, z)) c.facts.duty;
             }),
-        ((λ y. (g.answer, refl, g.through)), (λ y. absurd (y hit))),
+        subst (λ y. told y (caller k' None, (0, f.0) ∷ [])) word_is f.2,
       ))
-      (λ miss. (
-        caller k (Some e),
-        keeps,
-        tt,
-        caller_again s id (caller k (Some e)) c,
-        ((λ y. absurd (miss y)), (λ y. refl)),
-      ))
+      (λ miss. (caller k (Some e), keeps, tt, caller_again s id (caller k (Some e)) c, missed x miss))
     where
       x : ℕ
       x = slice_index s.words 0
@@ -271,54 +273,30 @@ module _ {J : Type 0} (M : Meaning J) where
       word_is : c.word ≡ x
       word_is = sym (ap (λ ws. slice_index ws 0) c.words)
 
-      back : c.word ≡ BACK → IsBack M c.word c.home e
-      back is = ⊎_elim (λ g. absurd (omega (arith, is, g.word)))
-          (⊎_elim (λ t. absurd (omega (arith, is, t.word))) (λ b. b)) c.facts.out
+  -- the answer is taken, or there is none
+  pub collects : (n id k : ℕ) (e : Errand J)
+      → Allows (Always M) n id (caller k (Some e), []) 0 (λ y. either (eqb y BACK) EMPTY y)
+      (collected M (step n 0 BACK EMPTY none) (caller k (Some e), []))
+  collects n id k e =
+      takes_back n id k (k + 1) BACK e (collected M (step n 0 BACK EMPTY none) (caller k (Some e), []))
+      (λ z. omega (arith, z))
+      (λ w h is out. let b = back_abroad w h e is out in
+      (letter.Answer b.answer, b.home, ((λ y. (b.answer, refl, b.through)), (λ y. absurd (y is)))))
+      (λ w miss. ((λ y. absurd (miss y)), (λ y. refl)))
 
   -- the task is taken back, or the helper has it
   pub withdraws : (n id k : ℕ) (e : Errand J)
       → Allows (Always M) n id (caller k (Some e), []) 0 (λ y. either (eqb y GIVEN) EMPTY y)
       (withdrew M (step n 0 GIVEN EMPTY none) (caller k (Some e), []))
-  withdraws n id k e s a long here fits =
-      exchanged x GIVEN EMPTY (λ y. (w : Knows J) × (b : Act (MailboxLetter J)) × Valid s.homes [] b
-      × Always M (stepped s 0 y id [] w b)
-      × withdrew M (step n 0 GIVEN EMPTY none) (caller k (Some e), []) x (w, carried_after [] b))
-      (λ hit.
-      let g : IsGiven M c.word c.home e = given (word_is ∙ hit) in (
-        caller k None,
-        takes 0 (letter.Task g.task),
-        ap (λ hs. get_elem? hs 0) c.homes ∙ ap some g.home,
-        caller_stepped s id (caller k (Some e)) c (slice_set s.words 0 EMPTY) (slice_set s.homes 0 none) EMPTY none
-            (caller k None)
-            (ap (λ ws. slice_set ws 0 EMPTY) c.words) (ap (λ hs. slice_set hs 0 none) c.homes)
-            (record {
-              roles = (refl, c.facts.roles.1);
-              out = is_home EMPTY (inl refl);
-              duty = still_free c.other.out c.word EMPTY (Some e) None (λ z. omega (arith, z, g.word))
-                  (λ z. omega (arith, z)) c.facts.duty;
-            }),
-        ((λ y. (g.task, refl, (ap (λ z. z.seat) g.same, g.ready))), (λ y. absurd (y hit))),
+  withdraws n id k e =
+      takes_back n id k k GIVEN e (withdrew M (step n 0 GIVEN EMPTY none) (caller k (Some e), []))
+      (λ z. omega (arith, z))
+      (λ w h is out. let g = given_abroad w h e is out in (
+        letter.Task g.task,
+        g.home,
+        ((λ y. (g.task, refl, (ap (λ z. z.seat) g.same, g.ready))), (λ y. absurd (y is))),
       ))
-      (λ miss. (
-        caller k (Some e),
-        keeps,
-        tt,
-        caller_again s id (caller k (Some e)) c,
-        ((λ y. absurd (miss y)), (λ y. refl)),
-      ))
-    where
-      x : ℕ
-      x = slice_index s.words 0
-
-      c : OfCaller M s id (caller k (Some e))
-      c = of_caller M s id (caller k (Some e)) refl a here
-
-      word_is : c.word ≡ x
-      word_is = sym (ap (λ ws. slice_index ws 0) c.words)
-
-      given : c.word ≡ GIVEN → IsGiven M c.word c.home e
-      given is = ⊎_elim (λ g. g)
-          (⊎_elim (λ t. absurd (omega (arith, is, t.word))) (λ b. absurd (omega (arith, is, b.word)))) c.facts.out
+      (λ w miss. ((λ y. absurd (miss y)), (λ y. refl)))
 
   -- there is no further task
   pub ends : (n id k : ℕ) (l : List (ℕ × MailboxLetter J))

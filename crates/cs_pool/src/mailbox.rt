@@ -7,7 +7,7 @@ ghost use Rattle.cs_pool.specs.Working.{IsReady, IsDone, IsThrough};
 
 use crate::letter::{BACK, EMPTY, GIVEN, MailboxLetter, OVER, TAKEN, Task};
 use crate::mailbox_rule::{
-    Close, Collect, Fetch, Give, GiveBack, MailboxRule, Part, Take, Withdraw,
+    Close, Collect, Fetch, Give, GiveBack, MailboxRule, SplitOff, Take, Withdraw,
 };
 use crate::view::Knows;
 use atomic_table::{Seat, Table};
@@ -60,7 +60,7 @@ impl<J: Job + Drop> Mailbox<J> {
             return Err(AllocError);
         };
         table.shared.load::<Fetch>(&mut seat, 0);
-        let other = table.shared.split_seat::<Part>(&mut seat);
+        let other = table.shared.split_seat::<SplitOff>(&mut seat);
         Ok((
             Mailbox { table },
             CallerEnd { seat },

@@ -25,9 +25,9 @@ impl<J: Job> Play<MailboxLetter<J>, Knows<J>> for Fetch {
 }
 
 /// The helper's end is split off the first one, which is the caller's from then on.
-pub(crate) struct Part;
+pub(crate) struct SplitOff;
 
-impl<J: Job> Split<Knows<J>> for Part {
+impl<J: Job> Split<Knows<J>> for SplitOff {
     ghost use Rattle.std.specs.Prelude.{None};
     ghost use Rattle.cs_pool.specs.Letters.{caller, helper};
 

@@ -14,20 +14,20 @@ use std::marker::Model;
 
 /// A `limit` of a note, which keeps nothing.
 #[derive(Drop)]
-pub struct Limit {}
+pub struct LimitUnit {}
 
-impl Model for Limit {
+impl Model for LimitUnit {
     ghost Value = { Unit {0} };
 
     ghost view = { λ unit. tt };
 }
 
-impl Limit {
+impl LimitUnit {
     /// One that has no step behind it.
-    pub fn start() -> Limit
+    pub fn start() -> LimitUnit
         ensures { result ≡ tt }
     {
-        Limit {}
+        LimitUnit {}
     }
 
     // One step: the value brought between `low` and `high`, and the middle of the two where `low` is above `high`.
@@ -52,7 +52,7 @@ impl Limit {
     }
 }
 
-impl Generator for Limit {
+impl Generator for LimitUnit {
     ghost step = { limit_step };
 
     ghost moving = { 3 };

@@ -15,14 +15,14 @@ use std::marker::Model;
 
 /// A `line` of a note: its way, and the number of the step to come.
 #[derive(Drop)]
-pub struct Line {
+pub struct LineUnit {
     from: Num,
     to: Num,
     way: u64,
     number: u64,
 }
 
-impl Model for Line {
+impl Model for LineUnit {
     ghost use Rattle.std.specs.Prelude.{◌≤◌, ◌<◌, ◌^◌};
     ghost use Rattle.cs_signal.specs.Line.{LineState};
     ghost use Rattle.cs_signal.specs.Pace.{last_number};
@@ -34,12 +34,12 @@ impl Model for Line {
     ghost invariant = { λ unit. (1 ≤ unit.way) × (unit.way < 2 ^ 49) × (unit.number ≤ last_number) };
 }
 
-impl Line {
+impl LineUnit {
     /// One that has no step behind it, from its settled arguments: the first value, the duration, the second value.
-    pub fn start(rate: Rate, head: &Head, init: &[Num]) -> Line
+    pub fn start(rate: Rate, head: &Head, init: &[Num]) -> LineUnit
         ensures { result ≡ line_start rate (pace_of (header_of_head head.now)) init.now }
     {
-        Line {
+        LineUnit {
             from: argument(init, 0),
             to: argument(init, 2),
             way: steps(argument(init, 1), rate, head).max(1),
@@ -78,7 +78,7 @@ impl Line {
     }
 }
 
-impl Generator for Line {
+impl Generator for LineUnit {
     ghost step = { line_step };
 
     ghost moving = { 0 };

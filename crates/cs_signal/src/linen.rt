@@ -251,7 +251,7 @@ fn part_of_one(n: u64, rise: u64) -> u64
     ensures value { result ≡ 65536 * n / rise }
     ensures bounded { result ≤ 65536 }
 {
-    (65_536 * u128::from(n) / u128::from(rise)) as u64
+    (ONE as u128 * u128::from(n) / u128::from(rise)) as u64
 }
 
 // The factor of the decay, one or less.
@@ -292,5 +292,5 @@ fn fallen(left: i128, decay: u64) -> i128
     requires bounded { unsigned_abs left < 2 ^ 64 }
     ensures { result ≡ floor_div (one *ℤ left) (pos decay) }
 {
-    (65_536 * left).div_euclid(i128::from(decay))
+    (i128::from(ONE) * left).div_euclid(i128::from(decay))
 }

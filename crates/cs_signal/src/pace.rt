@@ -4,14 +4,14 @@ ghost use Rattle.cs_base.specs.Heads.{header_of_head};
 ghost use Rattle.cs_base.specs.Numbers.{IsRaw, floor_div, one};
 ghost use Rattle.cs_signal.specs.Pace.{from_zero, pace_of, samples_of, cycles_of, steps_of, number_after};
 
-use cs_base::{Head, Num, Rate};
+use cs_base::{Head, Num, ONE, Rate};
 
 /// A time in seconds as whole samples, rounded down; none where it is below 0.
 pub(crate) fn samples(time: Num, head: &Head) -> u64
     ensures value { result ≡ samples_of (pace_of (header_of_head head.now)) time }
     ensures bounded { result < 2 ^ 49 }
 {
-    counted(times(time, head.sr), 65_536)
+    counted(times(time, head.sr), ONE as u32)
 }
 
 /// A time in seconds as whole control cycles, rounded down; none where it is below 0.
@@ -19,7 +19,7 @@ fn cycles(time: Num, head: &Head) -> u64
     ensures value { result ≡ cycles_of (pace_of (header_of_head head.now)) time }
     ensures bounded { result < 2 ^ 49 }
 {
-    counted(times(time, head.sr), 65_536 * head.ksmps)
+    counted(times(time, head.sr), ONE as u32 * head.ksmps)
 }
 
 /// A time in seconds as steps of a unit: of a sample each at audio rate, else of a control cycle each.

@@ -10,8 +10,8 @@ use Rattle.cs_ugen.proofs.Oscillators.{oscil_is_unit, oscili_is_unit, phasor_is_
 use Rattle.cs_ugen.specs.Units.{IsUnitOpcode, OfOpcode, Stands, StateStands, gen, of_opcode, of_unit, opcode_of}
 use Rattle.cs_ugen.specs.Units.{unit_start, unit_step, with_state}
 use Rattle.cs_ugen.specs.inner.Runs.{run_of, state_run}
-use Rattle.cs_ugen.specs.declared.unit.Kind.{Kind}
-use Rattle.cs_ugen.specs.declared.unit.Kind.TheVariants as unit
+use Rattle.cs_ugen.specs.declared.unit.UnitState.{UnitState}
+use Rattle.cs_ugen.specs.declared.unit.UnitState.TheVariants as unit
 
 abbrev HasLaw : OfOpcode → Type 0
 HasLaw e = IsUnit e.formula e.start e.step e.stands
@@ -47,21 +47,21 @@ state_found op.Oscil is s = refl
 state_found o is s = cc
 
 -- each unit has an opcode of a unit, and is the unit of its state
-is_unit : (u : Kind) → IsUnitOpcode (opcode_of u)
+is_unit : (u : UnitState) → IsUnitOpcode (opcode_of u)
 is_unit (unit.Oscil s) = refl
 is_unit u = refl
 
-whole : (u : Kind) → u ≡ (of_opcode (of_unit u).opcode).kind (of_unit u).state
+whole : (u : UnitState) → u ≡ (of_opcode (of_unit u).opcode).kind (of_unit u).state
 whole (unit.Oscil s) = refl
 whole u = refl
 
 -- what there is of a unit is by its opcode and its state
-by_state : (u : Kind) → of_unit u ≡ with_state (of_unit u).opcode (of_unit u).state
+by_state : (u : UnitState) → of_unit u ≡ with_state (of_unit u).opcode (of_unit u).state
 by_state (unit.Oscil s) = refl
 by_state u = refl
 
 -- the unit of a state, and the steps that it has behind it
-kept : (o : Opcode) (rate : Rate) (pace : Pace) (settled : List ℤ) (inputs : List (List ℤ)) (u : Kind)
+kept : (o : Opcode) (rate : Rate) (pace : Pace) (settled : List ℤ) (inputs : List (List ℤ)) (u : UnitState)
     (s : (of_opcode o).State) → IsUnitOpcode o → u ≡ (of_opcode o).kind s
     → (of_opcode o).stands s rate pace settled inputs → Stands u o rate pace settled inputs
 kept o rate pace settled inputs u s is same stands =
@@ -78,24 +78,24 @@ state_starts o rate pace settled is =
     (begins o rate pace settled) ((law_of o).starts rate pace settled)
 
 -- a step of a unit is that of its state
-stepped : (u : Kind) (x : List ℤ) → unit_step u x ≡ (with_state (of_unit u).opcode (of_unit u).state).step x
+stepped : (u : UnitState) (x : List ℤ) → unit_step u x ≡ (with_state (of_unit u).opcode (of_unit u).state).step x
 stepped u x = ap (λ v. v.step x) (by_state u)
 
-next : (u : Kind) (x : List ℤ) → of_unit (unit_step u x).0
+next : (u : UnitState) (x : List ℤ) → of_unit (unit_step u x).0
     ≡ with_state (opcode_of u) ((of_opcode (opcode_of u)).step (of_unit u).state x).0
 next u x = ap (λ r. of_unit r.0) (stepped u x)
     ∙ state_found (opcode_of u) (is_unit u) ((of_opcode (opcode_of u)).step (of_unit u).state x).0
 
-pub opcode_stays : (u : Kind) (x : List ℤ) → opcode_of (unit_step u x).0 ≡ opcode_of u
+pub opcode_stays : (u : UnitState) (x : List ℤ) → opcode_of (unit_step u x).0 ≡ opcode_of u
 opcode_stays u x = ap (λ v. v.opcode) (next u x)
 
 -- the steps behind a unit are those behind its state
-behind : (u : Kind) (rate : Rate) (pace : Pace) (settled : List ℤ) (inputs : List (List ℤ))
+behind : (u : UnitState) (rate : Rate) (pace : Pace) (settled : List ℤ) (inputs : List (List ℤ))
     → StateStands u rate pace settled inputs
     → (of_opcode (opcode_of u)).stands (of_unit u).state rate pace settled inputs
 behind u rate pace settled inputs h = subst (λ v. v.stands rate pace settled inputs) (by_state u) h
 
-pub answers : (u : Kind) (o : Opcode) (rate : Rate) (pace : Pace) (settled : List ℤ) (before : List (List ℤ))
+pub answers : (u : UnitState) (o : Opcode) (rate : Rate) (pace : Pace) (settled : List ℤ) (before : List (List ℤ))
     (x : List ℤ) → Stands u o rate pace settled before → (unit_step u x).1 ≡ gen o rate pace settled (before ++ x ∷ [])
 unfolding gen
 answers u o rate pace settled before x h =
@@ -104,7 +104,7 @@ answers u o rate pace settled before x h =
     (behind u rate pace settled before h.state)
     ∙ ap (λ p. (of_opcode p).formula rate pace settled (before ++ x ∷ [])) h.opcode
 
-pub goes_on : (u : Kind) (o : Opcode) (rate : Rate) (pace : Pace) (settled : List ℤ) (before : List (List ℤ))
+pub goes_on : (u : UnitState) (o : Opcode) (rate : Rate) (pace : Pace) (settled : List ℤ) (before : List (List ℤ))
     (x : List ℤ) → Stands u o rate pace settled before
     → Stands (unit_step u x).0 o rate pace settled (before ++ x ∷ [])
 goes_on u o rate pace settled before x h = record {
@@ -134,10 +134,10 @@ run_within o is at s j (suc n) =
     ap (λ r. ((run unit_step at r.0 (j + 1) n).0, r.1 ∷ (run unit_step at r.0 (j + 1) n).1)) same
     ∙ ap (λ r. (r.0, (here.step s (at j)).1 ∷ r.1)) (run_within o is at (here.step s (at j)).0 (j + 1) n)
 
-by_cases : (u : Kind) (at : ℕ → List ℤ) (n : ℕ) → state_run u at n ≡ run_of (of_unit u) at n
+by_cases : (u : UnitState) (at : ℕ → List ℤ) (n : ℕ) → state_run u at n ≡ run_of (of_unit u) at n
 by_cases (unit.Oscil s) at n = refl
 by_cases u at n = refl
 
-pub runs : (u : Kind) (at : ℕ → List ℤ) (n : ℕ) → state_run u at n ≡ run unit_step at u 0 n
+pub runs : (u : UnitState) (at : ℕ → List ℤ) (n : ℕ) → state_run u at n ≡ run unit_step at u 0 n
 runs u at n = by_cases u at n
     ∙ sym (ap (λ v. run unit_step at v 0 n) (whole u) ∙ run_within (opcode_of u) (is_unit u) at (of_unit u).state 0 n)

@@ -14,8 +14,8 @@ use Rattle.cs_ugen.specs.Oscili
 use Rattle.cs_ugen.specs.Phasor
 use Rattle.cs_ugen.specs.Table
 use Rattle.cs_ugen.specs.Tablei
-use Rattle.cs_ugen.specs.declared.unit.Kind.{Kind}
-use Rattle.cs_ugen.specs.declared.unit.Kind.TheVariants as unit
+use Rattle.cs_ugen.specs.declared.unit.UnitState.{UnitState}
+use Rattle.cs_ugen.specs.declared.unit.UnitState.TheVariants as unit
 
 -- an opcode that computes its result from its arguments and its own state
 abbrev pub IsUnitOpcode : Opcode → Type 0
@@ -27,15 +27,15 @@ IsUnitOpcode o = (row_of o).shape ≡ shape.Unit
 -- its result; and which steps a state has behind it.
 pub record OfOpcode : Type 1 where
   pub State : Type 0
-  pub kind : State → Kind
+  pub kind : State → UnitState
   pub formula : Rate → Pace → List ℤ → List (List ℤ) → ℤ
   pub start : Rate → Pace → List ℤ → State
-  pub begin : Rate → Pace → List ℤ → Kind
+  pub begin : Rate → Pace → List ℤ → UnitState
   pub step : State → List ℤ → State × ℤ
   pub stands : State → Rate → Pace → List ℤ → List (List ℤ) → Type 0
 
 -- one that keeps something from step to step
-abbrev pub keeping : {S : Type 0} → (S → Kind) → (Rate → Pace → List ℤ → List (List ℤ) → ℤ)
+abbrev pub keeping : {S : Type 0} → (S → UnitState) → (Rate → Pace → List ℤ → List (List ℤ) → ℤ)
     → (Rate → Pace → List ℤ → S)
     → (S → List ℤ → S × ℤ) → (S → Rate → Pace → List ℤ → List (List ℤ) → Type 0) → OfOpcode
 keeping {S} unit_of given started stepped stood = record {
@@ -49,7 +49,7 @@ keeping {S} unit_of given started stepped stood = record {
 }
 
 -- one whose result is in the inputs of its step
-abbrev pub plain : (Unit {0} → Kind) → (List ℤ → ℤ) → OfOpcode
+abbrev pub plain : (Unit {0} → UnitState) → (List ℤ → ℤ) → OfOpcode
 plain unit_of value = keeping unit_of (plain_of value) plain_start (plain_step value) PlainStands
 
 -- an opcode that is no unit gives 0, and has no unit of its own
@@ -86,7 +86,7 @@ unfoldable pub gen : Opcode → Rate → Pace → List ℤ → List (List ℤ) �
 gen o rate pace settled inputs = (of_opcode o).formula rate pace settled inputs
 
 -- a unit before its first step
-abbrev pub unit_start : Opcode → Rate → Pace → List ℤ → Kind
+abbrev pub unit_start : Opcode → Rate → Pace → List ℤ → UnitState
 unit_start o rate pace settled = (of_opcode o).begin rate pace settled
 
 -- What there is of a unit: its opcode, and the state that it keeps; one step, which gives the unit afterwards and its
@@ -94,7 +94,7 @@ unit_start o rate pace settled = (of_opcode o).begin rate pace settled
 pub record OfUnit : Type 1 where
   pub opcode : Opcode
   pub state : (of_opcode opcode).State
-  pub step : List ℤ → Kind × ℤ
+  pub step : List ℤ → UnitState × ℤ
   pub stands : Rate → Pace → List ℤ → List (List ℤ) → Type 0
 
 abbrev pub with_state : (o : Opcode) → (of_opcode o).State → OfUnit
@@ -105,7 +105,7 @@ with_state o s = record {
   stands = (of_opcode o).stands s;
 }
 
-abbrev pub of_unit : Kind → OfUnit
+abbrev pub of_unit : UnitState → OfUnit
 of_unit (unit.Oscil s) = with_state op.Oscil s
 of_unit (unit.Oscili s) = with_state op.Oscili s
 of_unit (unit.Phasor s) = with_state op.Phasor s
@@ -123,17 +123,18 @@ of_unit (unit.Limit s) = with_state op.Limit s
 of_unit (unit.Interp s) = with_state op.Interp s
 of_unit (unit.Downsamp s) = with_state op.Downsamp s
 
-abbrev pub opcode_of : Kind → Opcode
+abbrev pub opcode_of : UnitState → Opcode
 opcode_of u = (of_unit u).opcode
 
-abbrev pub unit_step : Kind → List ℤ → Kind × ℤ
+abbrev pub unit_step : UnitState → List ℤ → UnitState × ℤ
 unit_step u x = (of_unit u).step x
 
-abbrev pub StateStands : Kind → Rate → Pace → List ℤ → List (List ℤ) → Type 0
+abbrev pub StateStands : UnitState → Rate → Pace → List ℤ → List (List ℤ) → Type 0
 StateStands u = (of_unit u).stands
 
 -- a unit stands for a list of inputs, one entry a step, under an opcode, a rate, a pace and settled arguments
-pub record Stands (u : Kind) (o : Opcode) (rate : Rate) (pace : Pace) (settled : List ℤ) (inputs : List (List ℤ)) : Type
+pub record Stands (u : UnitState) (o : Opcode) (rate : Rate) (pace : Pace) (settled : List ℤ)
+    (inputs : List (List ℤ)) : Type
     0 where
   pub opcode : opcode_of u ≡ o
   pub state : StateStands u rate pace settled inputs

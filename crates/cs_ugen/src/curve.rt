@@ -7,7 +7,7 @@ ghost use Rattle.cs_ugen.specs.Points.{AreShort, IsCurve, IsShort, between_point
 ghost use Rattle.cs_signal.specs.Operands.{argument};
 
 use crate::frozen::ShortCurve;
-use cs_base::Num;
+use cs_base::{Num, ONE};
 
 /// A table as a unit reads it: `len` points and behind them the guard point, which no call changes. What a curve
 /// stands on, such as cells that it reads, stays as it is too.
@@ -64,7 +64,7 @@ pub trait Curve {
 
 /// How many points a curve has before its guard point: from 2 to 65,536.
 #[inline(always)]
-pub(crate) fn len_of<C: Curve>(curve: &C) -> u32
+pub(crate) fn curve_len<C: Curve>(curve: &C) -> u32
     ensures value { result ≡ curve_len (C.points curve.now) }
     ensures least { 2 ≤ result }
     ensures most { result ≤ 65536 }
@@ -193,5 +193,5 @@ fn lower(difference: i64, fraction: u32) -> i64
     ensures value { result ≡ floor_div (int_rem_euclid difference (pos 65536) *ℤ pos fraction) (pos 65536) }
     ensures bounded { unsigned_abs result < 65536 }
 {
-    floored(difference.rem_euclid(65536) * i64::from(fraction))
+    floored(difference.rem_euclid(ONE) * i64::from(fraction))
 }

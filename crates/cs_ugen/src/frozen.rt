@@ -9,7 +9,7 @@ ghost use Rattle.cs_signal.specs.Operands.{argument};
 
 use crate::curve::Curve;
 use cs_base::Num;
-use cs_gen::Points;
+use cs_gen::{Points, len_of};
 use std::marker::Model;
 
 /// The points of a table that stays as it was made, and whether all of them fit into 32 bits. Contracts see its points.
@@ -80,7 +80,7 @@ impl<'p> Frozen<'p> {
         ensures { result.points.now ≡ table.now }
     {
         let points = table.points.as_slice();
-        let len = power_below(points.len());
+        let len = len_of_points(points);
         Frozen {
             points,
             len,
@@ -90,14 +90,14 @@ impl<'p> Frozen<'p> {
     }
 }
 
-// The power of two of a size.
-fn power_below(size: usize) -> u32
-    requires { is_len (len_of size) ≡ true }
-    ensures value { result ≡ len_of size }
+// How many places a table has before its guard point.
+fn len_of_points(points: &[Num]) -> u32
+    requires { is_len (len_of (length points.now)) ≡ true }
+    ensures value { result ≡ len_of (length points.now) }
     ensures least { 2 ≤ result }
     ensures most { result ≤ 65536 }
 {
-    (size - size % 2) as u32
+    len_of(points.len() as u32)
 }
 
 // A table's mask for places of its curve: behind the last point stands the first, unless the guard point is a point.

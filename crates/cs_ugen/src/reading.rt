@@ -9,9 +9,12 @@ ghost use Rattle.cs_ugen.specs.Table.{point_of};
 ghost use Rattle.cs_ugen.specs.Tablei.{line_of};
 
 use crate::angle::Angle;
-use crate::curve::{Curve, between_points, len_of};
-use cs_base::Num;
+use crate::curve::{Curve, between_points, curve_len};
+use cs_base::{Num, ONE};
 use cs_gen::place_of_index;
+
+// The parts of a place that an index counts.
+const PARTS: u32 = ONE as u32;
 
 /// A way to read a curve.
 pub(crate) trait Reading {
@@ -46,13 +49,13 @@ impl Reading for Truncating {
 
     #[inline(always)]
     fn turned<C: Curve>(curve: &mut C, phase: Angle) -> Num {
-        let len = len_of(curve);
+        let len = curve_len(curve);
         curve.inner(phase.place(len))
     }
 
     #[inline(always)]
     fn indexed<C: Curve>(curve: &mut C, ndx: Num) -> Num {
-        let len = len_of(curve);
+        let len = curve_len(curve);
         curve.inner(place_of_index(ndx, len))
     }
 }
@@ -67,19 +70,19 @@ impl Reading for Interpolating {
 
     #[inline(always)]
     fn turned<C: Curve>(curve: &mut C, phase: Angle) -> Num {
-        let len = len_of(curve);
+        let len = curve_len(curve);
         between_points(curve, phase.place(len), phase.fraction(len))
     }
 
     #[inline(always)]
     fn indexed<C: Curve>(curve: &mut C, ndx: Num) -> Num {
-        let len = len_of(curve);
+        let len = curve_len(curve);
         let index = index_of(ndx, len);
-        between_points(curve, index / 65536, index % 65536)
+        between_points(curve, index / PARTS, index % PARTS)
     }
 }
 
-// An index brought into 0 .. len * 65536 - 1, in 65,536ths of a place.
+// An index brought into 0 .. len * 65536 - 1, in parts of a place.
 #[inline(always)]
 fn index_of(ndx: Num, len: u32) -> u32
     requires some { 1 ≤ len }
@@ -87,5 +90,5 @@ fn index_of(ndx: Num, len: u32) -> u32
     ensures value { result ≡ from_zero_to (len * 65536 - 1) ndx }
     ensures inside { result < len * 65536 }
 {
-    ndx.raw().max(0).min(i64::from(len) * 65536 - 1) as u32
+    ndx.raw().max(0).min(i64::from(len) * ONE - 1) as u32
 }

@@ -13,20 +13,20 @@ use std::marker::Model;
 
 /// A `table` or `tablei` of a note, which keeps nothing from step to step.
 #[derive(Drop)]
-pub(crate) struct Table;
+pub(crate) struct TableReader;
 
-impl Model for Table {
+impl Model for TableReader {
     ghost Value = { Unit {0} };
 
     ghost view = { λ unit. tt };
 }
 
-impl Table {
+impl TableReader {
     /// One that has no step behind it.
-    pub(crate) fn start() -> Table
+    pub(crate) fn start() -> TableReader
         ensures { result ≡ tt }
     {
-        Table
+        TableReader
     }
 
     /// One step at this index.

@@ -11,7 +11,7 @@ ghost use Rattle.cs_ugen.specs.inner.Runs.{state_run};
 
 use crate::oscillator::Oscillator;
 use crate::reading::{Interpolating, Truncating};
-use crate::table::Table;
+use crate::table::TableReader;
 use crate::{Curve, Phasor};
 use cs_base::{Head, Num, OutOfMemory, Rate};
 use cs_signal::{Generator, Operand};
@@ -22,25 +22,25 @@ use std::marker::Model;
 /// The state of one opcode of one note.
 #[derive(Drop)]
 pub struct Unit {
-    kind: Kind,
+    kind: UnitState,
 }
 
 #[derive(Drop)]
-enum Kind {
+enum UnitState {
     Oscil(Oscillator),
     Oscili(Oscillator),
     Phasor(Phasor),
-    Line(cs_signal::Line),
+    Line(cs_signal::LineUnit),
     Linseg(cs_signal::Linseg),
     Linen(cs_signal::Linen),
     Delay(cs_signal::Delay),
     Biquad(cs_signal::Biquad),
-    Table(Table),
-    Tablei(Table),
+    Table(TableReader),
+    Tablei(TableReader),
     Integ(cs_signal::Integ),
     Diff(cs_signal::Diff),
     Samphold(cs_signal::Samphold),
-    Limit(cs_signal::Limit),
+    Limit(cs_signal::LimitUnit),
     Interp(cs_signal::Interp),
     Downsamp(cs_signal::Downsamp),
 }
@@ -49,27 +49,27 @@ enum Kind {
 macro_rules! generator {
     ($kind:expr, $unit:ident => $call:expr) => {
         match $kind {
-            Kind::Phasor($unit) => $call,
-            Kind::Line($unit) => $call,
-            Kind::Linseg($unit) => $call,
-            Kind::Linen($unit) => $call,
-            Kind::Delay($unit) => $call,
-            Kind::Biquad($unit) => $call,
-            Kind::Integ($unit) => $call,
-            Kind::Diff($unit) => $call,
-            Kind::Samphold($unit) => $call,
-            Kind::Limit($unit) => $call,
-            Kind::Interp($unit) => $call,
-            Kind::Downsamp($unit) => $call,
-            Kind::Oscil(_) | Kind::Oscili(_) | Kind::Table(_) | Kind::Tablei(_) => unreachable!(),
+            UnitState::Phasor($unit) => $call,
+            UnitState::Line($unit) => $call,
+            UnitState::Linseg($unit) => $call,
+            UnitState::Linen($unit) => $call,
+            UnitState::Delay($unit) => $call,
+            UnitState::Biquad($unit) => $call,
+            UnitState::Integ($unit) => $call,
+            UnitState::Diff($unit) => $call,
+            UnitState::Samphold($unit) => $call,
+            UnitState::Limit($unit) => $call,
+            UnitState::Interp($unit) => $call,
+            UnitState::Downsamp($unit) => $call,
+            UnitState::Oscil(_) | UnitState::Oscili(_) | UnitState::Table(_) | UnitState::Tablei(_) => unreachable!(),
         }
     };
 }
 
 impl Model for Unit {
-    ghost use Rattle.cs_ugen.specs.declared.unit.Kind.{Kind};
+    ghost use Rattle.cs_ugen.specs.declared.unit.UnitState.{UnitState};
 
-    ghost Value = { Kind };
+    ghost Value = { UnitState };
 
     ghost view = { λ u. u.kind };
 }
@@ -110,10 +110,12 @@ impl Unit {
         ensures kept { C.kept curve.old curve.new }
     {
         match &mut self.kind {
-            Kind::Oscil(unit) => unit.step_on::<Truncating, C>(inputs[0], inputs[1], curve),
-            Kind::Oscili(unit) => unit.step_on::<Interpolating, C>(inputs[0], inputs[1], curve),
-            Kind::Table(unit) => unit.step_on::<Truncating, C>(inputs[0], curve),
-            Kind::Tablei(unit) => unit.step_on::<Interpolating, C>(inputs[0], curve),
+            UnitState::Oscil(unit) => unit.step_on::<Truncating, C>(inputs[0], inputs[1], curve),
+            UnitState::Oscili(unit) => unit.step_on::<Interpolating, C>(
+                inputs[0], inputs[1], curve,
+            ),
+            UnitState::Table(unit) => unit.step_on::<Truncating, C>(inputs[0], curve),
+            UnitState::Tablei(unit) => unit.step_on::<Interpolating, C>(inputs[0], curve),
             _ => unreachable!(),
         }
     }
@@ -166,10 +168,10 @@ impl Unit {
         ensures kept { C.kept curve.old curve.new }
     {
         match &mut self.kind {
-            Kind::Oscil(unit) => unit.render_on::<Truncating, C>(inputs, curve, out),
-            Kind::Oscili(unit) => unit.render_on::<Interpolating, C>(inputs, curve, out),
-            Kind::Table(unit) => unit.render_on::<Truncating, C>(inputs, curve, out),
-            Kind::Tablei(unit) => unit.render_on::<Interpolating, C>(inputs, curve, out),
+            UnitState::Oscil(unit) => unit.render_on::<Truncating, C>(inputs, curve, out),
+            UnitState::Oscili(unit) => unit.render_on::<Interpolating, C>(inputs, curve, out),
+            UnitState::Table(unit) => unit.render_on::<Truncating, C>(inputs, curve, out),
+            UnitState::Tablei(unit) => unit.render_on::<Interpolating, C>(inputs, curve, out),
             _ => unreachable!(),
         }
     }
@@ -181,28 +183,30 @@ fn kind_of(
     rate: Rate,
     head: &Head,
     settled: &[Num],
-) -> Result<Kind, OutOfMemory>
+) -> Result<UnitState, OutOfMemory>
     requires { IsUnitOpcode opcode }
     ensures kind { IfOk result (λ k. k ≡ unit_start opcode rate (pace_of (header_of_head head.now)) settled.now) }
     ensures memory { OnErr result (takes_memory opcode ≡ true) }
 {
     match opcode {
-        Opcode::Oscil => Ok(Kind::Oscil(Oscillator::start(rate, head, settled))),
-        Opcode::Oscili => Ok(Kind::Oscili(Oscillator::start(rate, head, settled))),
-        Opcode::Phasor => Ok(Kind::Phasor(Phasor::start(rate, head, settled))),
-        Opcode::Line => Ok(Kind::Line(cs_signal::Line::start(rate, head, settled))),
-        Opcode::Linseg => Ok(Kind::Linseg(cs_signal::Linseg::start(alloc, rate, head, settled)?)),
-        Opcode::Linen => Ok(Kind::Linen(cs_signal::Linen::start(rate, head, settled))),
-        Opcode::Delay => Ok(Kind::Delay(cs_signal::Delay::start(alloc, head, settled)?)),
-        Opcode::Biquad => Ok(Kind::Biquad(cs_signal::Biquad::start())),
-        Opcode::Table => Ok(Kind::Table(Table::start())),
-        Opcode::Tablei => Ok(Kind::Tablei(Table::start())),
-        Opcode::Integ => Ok(Kind::Integ(cs_signal::Integ::start())),
-        Opcode::Diff => Ok(Kind::Diff(cs_signal::Diff::start())),
-        Opcode::Samphold => Ok(Kind::Samphold(cs_signal::Samphold::start())),
-        Opcode::Limit => Ok(Kind::Limit(cs_signal::Limit::start())),
-        Opcode::Interp => Ok(Kind::Interp(cs_signal::Interp::start(head))),
-        Opcode::Downsamp => Ok(Kind::Downsamp(cs_signal::Downsamp::start())),
+        Opcode::Oscil => Ok(UnitState::Oscil(Oscillator::start(rate, head, settled))),
+        Opcode::Oscili => Ok(UnitState::Oscili(Oscillator::start(rate, head, settled))),
+        Opcode::Phasor => Ok(UnitState::Phasor(Phasor::start(rate, head, settled))),
+        Opcode::Line => Ok(UnitState::Line(cs_signal::LineUnit::start(rate, head, settled))),
+        Opcode::Linseg => Ok(UnitState::Linseg(cs_signal::Linseg::start(
+            alloc, rate, head, settled,
+        )?)),
+        Opcode::Linen => Ok(UnitState::Linen(cs_signal::Linen::start(rate, head, settled))),
+        Opcode::Delay => Ok(UnitState::Delay(cs_signal::Delay::start(alloc, head, settled)?)),
+        Opcode::Biquad => Ok(UnitState::Biquad(cs_signal::Biquad::start())),
+        Opcode::Table => Ok(UnitState::Table(TableReader::start())),
+        Opcode::Tablei => Ok(UnitState::Tablei(TableReader::start())),
+        Opcode::Integ => Ok(UnitState::Integ(cs_signal::Integ::start())),
+        Opcode::Diff => Ok(UnitState::Diff(cs_signal::Diff::start())),
+        Opcode::Samphold => Ok(UnitState::Samphold(cs_signal::Samphold::start())),
+        Opcode::Limit => Ok(UnitState::Limit(cs_signal::LimitUnit::start())),
+        Opcode::Interp => Ok(UnitState::Interp(cs_signal::Interp::start(head))),
+        Opcode::Downsamp => Ok(UnitState::Downsamp(cs_signal::Downsamp::start())),
         _ => unreachable!(),
     }
 }

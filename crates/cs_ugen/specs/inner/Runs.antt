@@ -2,14 +2,14 @@
 use Rattle.std.specs.Prelude.{ℕ, List, ℤ}
 use Rattle.cs_signal.specs.Steps.{run}
 use Rattle.cs_ugen.specs.Units.{OfUnit, of_opcode, of_unit}
-use Rattle.cs_ugen.specs.declared.unit.Kind.{Kind}
-use Rattle.cs_ugen.specs.declared.unit.Kind.TheVariants as unit
+use Rattle.cs_ugen.specs.declared.unit.UnitState.{UnitState}
+use Rattle.cs_ugen.specs.declared.unit.UnitState.TheVariants as unit
 
 -- n steps of a state, where `at` gives the inputs of a step: the unit of the state afterwards, and the results
-abbrev pub run_of : OfUnit → (ℕ → List ℤ) → ℕ → Kind × List ℤ
+abbrev pub run_of : OfUnit → (ℕ → List ℤ) → ℕ → UnitState × List ℤ
 run_of u at n = let here = of_opcode u.opcode in let r = run here.step at u.state 0 n in (here.kind r.0, r.1)
 
 -- n steps of a unit by those of its state; by cases, so that it is looked into where the kind is known
-abbrev pub state_run : Kind → (ℕ → List ℤ) → ℕ → Kind × List ℤ
+abbrev pub state_run : UnitState → (ℕ → List ℤ) → ℕ → UnitState × List ℤ
 state_run (unit.Oscil s) at n = run_of (of_unit (unit.Oscil s)) at n
 state_run u at n = run_of (of_unit u) at n

@@ -1,5 +1,4 @@
-use Rattle.cs_base.proofs.Rates.{within_once, within_chain, within_either, faster_is_one, within_faster, fastest_above}
-use Rattle.cs_base.proofs.Rates.{fastest_least}
+use Rattle.cs_base.proofs.Rates.{within_once, within_chain, within_either, faster_is_one, within_faster}
 use Rattle.cs_base.proofs.laws.rates_are_ordered.Goals as goal
 
 pub returns-clause-once : goal.returns-clause-once
@@ -16,9 +15,3 @@ returns-clause-one_of_two c = faster_is_one
 
 pub returns-clause-above_two : goal.returns-clause-above_two
 returns-clause-above_two c = within_faster
-
-pub returns-clause-above_all : goal.returns-clause-above_all
-returns-clause-above_all c = fastest_above
-
-pub returns-clause-least : goal.returns-clause-least
-returns-clause-least c = fastest_least

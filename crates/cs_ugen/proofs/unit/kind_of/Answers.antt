@@ -2,7 +2,7 @@ use Rattle.std.proofs.Common.{ap, sym, ◌∙◌}
 use Rattle.cs_base.specs.Heads.{header_of_head}
 use Rattle.cs_signal.specs.Pace.{pace_of}
 use Rattle.cs_ugen.specs.Units.{unit_start}
-use Rattle.cs_ugen.specs.declared.unit.Kind.TheVariants as unit
+use Rattle.cs_ugen.specs.declared.unit.UnitState.TheVariants as unit
 use Rattle.cs_ugen.proofs.unit.kind_of.Goals as goal
 
 pub returns-in_ok-start-in-Delay-clause-kind : goal.returns-in_ok-start-in-Delay-clause-kind

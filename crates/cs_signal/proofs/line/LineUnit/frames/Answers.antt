@@ -1,7 +1,7 @@
 use Rattle.std.proofs.Common.{[], length, refl}
 use Rattle.cs_signal.specs.Line.{line_step}
 use Rattle.cs_signal.proofs.Walks.{HasRun_none, HasRun_step, HasRun_end}
-use Rattle.cs_signal.proofs.line.Line.frames.Goals as goal
+use Rattle.cs_signal.proofs.line.LineUnit.frames.Goals as goal
 
 pub loop-j-init : goal.loop-j-init
 loop-j-init c = HasRun_none line_step (λ j. []) c.args.self.now (length c.args.out.now) c.args.out.now refl

@@ -3,7 +3,7 @@ use Rattle.cs_ugen.specs.Table.{index_step}
 use Rattle.cs_signal.specs.Operands.{operand_at}
 use Rattle.cs_signal.proofs.Walks.{HasRun_none, HasRun_step, HasRun_end}
 use Rattle.cs_ugen.proofs.Loops.{step_at}
-use Rattle.cs_ugen.proofs.table.Table.block_on.Goals as goal
+use Rattle.cs_ugen.proofs.table.TableReader.block_on.Goals as goal
 
 pub loop-j-init : goal.loop-j-init
 loop-j-init g c = (

@@ -2,7 +2,7 @@ use Rattle.std.proofs.Common.{[], ◌+◌, length, ap, sym, ◌∙◌, arith}
 use Rattle.cs_signal.specs.Line.{line_step}
 use Rattle.cs_signal.specs.Steps.{run}
 use Rattle.cs_signal.proofs.Ramps.{line_ramp}
-use Rattle.cs_signal.proofs.line.Line.block.Goals as goal
+use Rattle.cs_signal.proofs.line.LineUnit.block.Goals as goal
 
 pub returns-then-count-self : goal.returns-then-count-self
 returns-then-count-self c =

@@ -2,7 +2,7 @@ use Rattle.std.proofs.Common.{◌∷◌, [], length, refl, ap, ◌∙◌}
 use Rattle.cs_signal.specs.Operands.{operand_at}
 use Rattle.cs_signal.specs.Limit.{limit_step}
 use Rattle.cs_signal.proofs.Walks.{HasRun_none, HasRun_step, HasRun_end}
-use Rattle.cs_signal.proofs.limit.Limit.block.Goals as goal
+use Rattle.cs_signal.proofs.limit.LimitUnit.block.Goals as goal
 
 pub loop-j-init : goal.loop-j-init
 loop-j-init c = HasRun_none limit_step

@@ -1,7 +1,7 @@
 use Rattle.std.proofs.Common.{arith}
 use Rattle.cs_ugen.specs.Points.{curve_len}
 use Rattle.cs_ugen.proofs.Curves.{is_len-bounds}
-use Rattle.cs_ugen.proofs.curve.len_of.Goals as goal
+use Rattle.cs_ugen.proofs.curve.curve_len.Goals as goal
 
 pub returns-clause-least : goal.returns-clause-least
 returns-clause-least g c =
