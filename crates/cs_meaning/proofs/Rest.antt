@@ -11,7 +11,7 @@ use Rattle.cs_words.specs.declared.catalogue.Space.TheVariants as space
 use Rattle.cs_ir.specs.Resources.{reaches}
 use Rattle.cs_ir.specs.Waves.{Wave, operand, silence}
 use Rattle.cs_ir.specs.declared.op.Reach.{Reach}
-use Rattle.cs_meaning.specs.Model.{Cause, State, Model, with_value, unit_points, has_run, unit_does, store_into}
+use Rattle.cs_meaning.specs.Model.{Cause, State, WorldModel, with_value, unit_points, has_run, unit_does, store_into}
 use Rattle.cs_meaning.specs.Model.{store_at, zak_does, out_to, out_to_numbered}
 use Rattle.cs_meaning.specs.Pieces.{Table, find_table, is_live, index, may_touch, at_place, has_place}
 
@@ -25,7 +25,7 @@ pub record Rest : Type 0 where
 abbrev pub rest : {S U : Type 0} → State S U → Rest
 rest x = record { delays = x.delays; ended = x.ended; asks = x.asks; cause = x.cause }
 
-module _ {S U : Type 0} (model : Model S U) where
+module _ {S U : Type 0} (model : WorldModel S U) where
   either : (b : Bool) (x y z : State S U) → rest x ≡ rest z → rest y ≡ rest z → rest (if b then x else y) ≡ rest z
   either true x y z h k = h
   either false x y z h k = k

@@ -11,7 +11,8 @@ use Rattle.cs_ir.specs.Worlds.{World}
 use Rattle.cs_ir.specs.declared.op.Reach.{Reach}
 use Rattle.cs_meaning.specs.Core.{Stmt, Block, Arms, set, unit, zak, store, out, out_at, ask, turnoff, nothing, choose}
 use Rattle.cs_meaning.specs.Core.{no_stmt, andthen, otherwise, arm}
-use Rattle.cs_meaning.specs.Notes.{Note, Path, Place, moved_to, next, inside, inside_arm, past_stmt, past_arm, assign}
+use Rattle.cs_meaning.specs.Notes.{Note, Path, StatementPlace, moved_to, next, inside, inside_arm, past_stmt, past_arm}
+use Rattle.cs_meaning.specs.Notes.{assign}
 use Rattle.cs_meaning.specs.Notes.{value, values, first_value, done}
 use Rattle.cs_meaning.specs.When.{beginning}
 
@@ -63,7 +64,7 @@ zak_once o r vs opcode reach xs t = done o r vs (o.zak opcode reach (values o t 
 -- Initialisation: every statement of rate Init, the start of every unit, the search for the table of every store, and
 -- the parts that are kept, in the order of the text.
 abbrev mutual
-  pub init_stmt : {W : Type 0} → World W → Place → Stmt → Note W → Note W
+  pub init_stmt : {W : Type 0} → World W → StatementPlace → Stmt → Note W → Note W
   init_stmt o p (set r v e) t =
       going o t (if_init r (assign o v (value o t beginning [] e) t) (keep o (0 ∷ p.path) e t))
   init_stmt o p (unit r vs opcode reach xs is) t =
@@ -84,19 +85,19 @@ abbrev mutual
   init_stmt o p (choose r arms) t =
       going o t (if_init r (init_first o (inside p) arms t) (init_all o (inside p) arms t))
 
-  pub init_block : {W : Type 0} → World W → Place → Block → Note W → Note W
+  pub init_block : {W : Type 0} → World W → StatementPlace → Block → Note W → Note W
   init_block o p no_stmt t = t
   init_block o p (andthen s b) t = init_block o (past_stmt p s) b (init_stmt o p s t)
 
   -- an `if` that is decided once: the first arm whose condition holds, which is kept for all cycles
-  pub init_first : {W : Type 0} → World W → Place → Arms → Note W → Note W
+  pub init_first : {W : Type 0} → World W → StatementPlace → Arms → Note W → Note W
   init_first o p (otherwise b) t = init_block o (inside p) b t
   init_first o p (arm c b rest) t =
       let s = keep o (0 ∷ p.path) c t in
       if holds (s.kept (0 ∷ p.path)) then init_block o (inside_arm p) b s else init_first o (past_arm p b) rest s
 
   -- any other `if` chooses nothing yet: all its arms are initialised
-  pub init_all : {W : Type 0} → World W → Place → Arms → Note W → Note W
+  pub init_all : {W : Type 0} → World W → StatementPlace → Arms → Note W → Note W
   init_all o p (otherwise b) t = init_block o (inside p) b t
   init_all o p (arm c b rest) t =
       going o t (init_all o (past_arm p b) rest (init_block o (inside_arm p) b (keep o (0 ∷ p.path) c t)))

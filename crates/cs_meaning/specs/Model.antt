@@ -46,7 +46,7 @@ fresh_state s =
 -- of some resources are set to 0. Of a unit: as it starts with its settled values; how many samples a delay of a time
 -- in raw seconds keeps; the number of its table; and, by its rate, its moving arguments and the points that it reads,
 -- the unit after a cycle and its result.
-pub record Model (S U : Type 0) : Type 0 where
+pub record WorldModel (S U : Type 0) : Type 0 where
   pub piece : Piece
   pub load : Res → S → Wave
   pub save : Res → Wave → S → S
@@ -59,13 +59,13 @@ pub record Model (S U : Type 0) : Type 0 where
 -- ---- what notes share
 
 -- what a resource has; and the state after it takes a value, and after it takes one as it is kept at its rate
-abbrev pub loaded : {S U : Type 0} → Model S U → Res → State S U → Wave
+abbrev pub loaded : {S U : Type 0} → WorldModel S U → Res → State S U → Wave
 loaded m g x = m.load g x.shared
 
-abbrev pub with_value : {S U : Type 0} → Model S U → Res → Wave → State S U → State S U
+abbrev pub with_value : {S U : Type 0} → WorldModel S U → Res → Wave → State S U → State S U
 with_value m g w x = record x { shared = m.save g w x.shared }
 
-abbrev pub saved : {S U : Type 0} → Model S U → Res → Wave → State S U → State S U
+abbrev pub saved : {S U : Type 0} → WorldModel S U → Res → Wave → State S U → State S U
 saved m g w x = with_value m g (held m.piece.head.ksmps (res_rate g) w) x
 
 -- ---- units
@@ -74,7 +74,7 @@ abbrev pub put_unit : {S U : Type 0} → ℕ → U → State S U → State S U
 put_unit u p x = record x { units = λ n. if n == u then Some p else x.units n }
 
 -- the points that a unit reads: none where it takes no table
-abbrev pub unit_points : {S U : Type 0} → Model S U → Opcode → U → State S U → List ℤ
+abbrev pub unit_points : {S U : Type 0} → WorldModel S U → Opcode → U → State S U → List ℤ
 unit_points m opcode p x =
     if takes_table opcode then read_points (λ g. loaded m g x) (find_table m.piece.tables (m.table p)) else []
 
@@ -82,7 +82,7 @@ abbrev pub has_run : {S U : Type 0} → ℕ → U × Wave → State S U → Stat
 has_run u (p, w) x = (put_unit u p x, w)
 
 -- a unit runs over a cycle: the state after it, and its result
-abbrev pub unit_does : {S U : Type 0} → Model S U → Opcode → Rate → ℕ → Reach → List Wave → Option U → State S U
+abbrev pub unit_does : {S U : Type 0} → WorldModel S U → Opcode → Rate → ℕ → Reach → List Wave → Option U → State S U
     → State S U × Wave
 unit_does m opcode r u reach ws None x = (x, silence)
 unit_does m opcode r u reach ws (Some p) x =
@@ -91,7 +91,7 @@ unit_does m opcode r u reach ws (Some p) x =
 -- ---- stores
 
 -- a table that notes may change takes values, each step at its place
-abbrev pub store_into : {S U : Type 0} → Model S U → Rate → List Wave → Option Table → State S U → State S U
+abbrev pub store_into : {S U : Type 0} → WorldModel S U → Rate → List Wave → Option Table → State S U → State S U
 store_into m r ws None x = x
 store_into m r ws (Some t) x =
     let g = res.Table t.number in
@@ -100,21 +100,21 @@ store_into m r ws (Some t) x =
     if is_live t then with_value m g points x else x
 
 -- a store of a value at an index: into the table with a number, where it may be touched
-abbrev pub store_at : {S U : Type 0} → Model S U → Rate → Reach → List Wave → Option ℕ → State S U → State S U
+abbrev pub store_at : {S U : Type 0} → WorldModel S U → Rate → Reach → List Wave → Option ℕ → State S U → State S U
 store_at m r reach ws None x = x
 store_at m r reach ws (Some n) x =
     if reaches reach n then store_into m r ws (find_table m.piece.tables (pos n)) x else x
 
-abbrev pub store_does : {S U : Type 0} → Model S U → Rate → Reach → List Wave → State S U → State S U
+abbrev pub store_does : {S U : Type 0} → WorldModel S U → Rate → Reach → List Wave → State S U → State S U
 store_does m r reach ws x = store_at m r reach ws (index (operand 2 ws 0)) x
 
 -- ---- zak places
 
-abbrev pub cleared : {S U : Type 0} → Model S U → (Res → Bool) → State S U → State S U
+abbrev pub cleared : {S U : Type 0} → WorldModel S U → (Res → Bool) → State S U → State S U
 cleared m clears x = record x { shared = m.clear clears x.shared }
 
 -- what an opcode does with zak places, by its shape: the state after it, and its result
-abbrev pub zak_does : {S U : Type 0} → Model S U → Shape → Reach → List Wave → State S U → State S U × Wave
+abbrev pub zak_does : {S U : Type 0} → WorldModel S U → Shape → Reach → List Wave → State S U → State S U × Wave
 zak_does m (shape.ZakGet s) reach ws x =
     (x, at_place m.piece s reach (index (operand 0 ws 0)) silence (λ g. loaded m g x))
 zak_does m (shape.ZakPut s) reach ws x =
@@ -135,23 +135,23 @@ abbrev pub refused_for : {S U : Type 0} → Cause → State S U → State S U
 refused_for cause x = record x { cause = Some cause }
 
 -- where the table that settled values name isn't there
-abbrev pub lacks_table : {S U : Type 0} → Model S U → List ℤ → Bool
+abbrev pub lacks_table : {S U : Type 0} → WorldModel S U → List ℤ → Bool
 lacks_table m is = not (is_there (find_table m.piece.tables (table_number is)))
 
-abbrev pub seek : {S U : Type 0} → Model S U → List ℤ → State S U → State S U
+abbrev pub seek : {S U : Type 0} → WorldModel S U → List ℤ → State S U → State S U
 seek m is x = if lacks_table m is then refused_for (no_table (table_number is)) x else x
 
 -- a unit is started
-abbrev pub begun : {S U : Type 0} → Model S U → Opcode → Rate → ℕ → List ℤ → State S U → State S U
+abbrev pub begun : {S U : Type 0} → WorldModel S U → Opcode → Rate → ℕ → List ℤ → State S U → State S U
 begun m opcode r u is x = put_unit u (m.start opcode r is) x
 
 -- and refused where the delays become too long together, or where it asks for a table that isn't there
-abbrev pub delayed : {S U : Type 0} → Model S U → ℕ → Opcode → Rate → ℕ → List ℤ → State S U → State S U
+abbrev pub delayed : {S U : Type 0} → WorldModel S U → ℕ → Opcode → Rate → ℕ → List ℤ → State S U → State S U
 delayed m samples opcode r u is x =
     if nat_le samples most_delay_samples then begun m opcode r u is (record x { delays = samples })
     else refused_for (delay_too_long samples) x
 
-abbrev pub starts : {S U : Type 0} → Model S U → Opcode → Rate → ℕ → List ℤ → State S U → State S U
+abbrev pub starts : {S U : Type 0} → WorldModel S U → Opcode → Rate → ℕ → List ℤ → State S U → State S U
 starts m opcode r u is x =
     if takes_table opcode && lacks_table m is
     then refused_for (no_table (table_number is)) x
@@ -171,7 +171,7 @@ out_to_numbered channels None w x = x
 out_to_numbered channels (Some n) w x = if nat_le 1 n && nat_le n channels then out_to (n - 1) w x else x
 
 -- the world of a model
-abbrev pub world_of : {S U : Type 0} → Model S U → World (State S U)
+abbrev pub world_of : {S U : Type 0} → WorldModel S U → World (State S U)
 world_of m = record {
   ksmps = m.piece.head.ksmps;
   field = m.piece.fields;

@@ -65,27 +65,27 @@ abbrev mutual
   unit_past_arms u (arm c b rest) = unit_past_arms (unit_past_block u b) rest
 
 -- The place of a statement or of an arm: where it stands, and the number of the first unit from there on.
-pub record Place : Type 0 where
+pub record StatementPlace : Type 0 where
   pub path : Path
   pub unit : ℕ
 
 -- the place of a body's first statement
-abbrev pub start : Place
+abbrev pub start : StatementPlace
 start = record { path = 0 ∷ []; unit = 0 }
 
 -- The place behind a statement, and behind an arm with these statements.
-abbrev pub past_stmt : Place → Stmt → Place
+abbrev pub past_stmt : StatementPlace → Stmt → StatementPlace
 past_stmt p s = record { path = next p.path; unit = unit_past p.unit s }
 
-abbrev pub past_arm : Place → Block → Place
+abbrev pub past_arm : StatementPlace → Block → StatementPlace
 past_arm p b = record { path = next p.path; unit = unit_past_block p.unit b }
 
 -- The place of the first part of what has a place: of an `if` its first arm, of the last arm its first statement. Any
 -- other arm has two parts, its condition and its statements.
-abbrev pub inside : Place → Place
+abbrev pub inside : StatementPlace → StatementPlace
 inside p = record { path = 0 ∷ p.path; unit = p.unit }
 
-abbrev pub inside_arm : Place → Place
+abbrev pub inside_arm : StatementPlace → StatementPlace
 inside_arm p = record { path = 0 ∷ 1 ∷ p.path; unit = p.unit }
 
 -- what a variable has, read at a rate

@@ -7,7 +7,7 @@ use Rattle.cs_base.specs.declared.resource.Res.{Res}
 use Rattle.cs_words.specs.declared.catalogue.Opcode.{Opcode}
 use Rattle.cs_ir.specs.Waves.{Wave, silence}
 use Rattle.cs_ir.specs.Worlds.{World}
-use Rattle.cs_meaning.specs.Model.{State, Model, fresh_state, world_of}
+use Rattle.cs_meaning.specs.Model.{State, WorldModel, fresh_state, world_of}
 pub use Rattle.cs_meaning.specs.Model.{Cause, no_table, delay_too_long, out_to, out_to_numbered}
 pub use Rattle.cs_meaning.specs.Pieces.{Piece, Table, head_value, index, added, steps_of, step_at, table_number}
 pub use Rattle.cs_meaning.specs.Pieces.{find_table, is_there, points_of, read_points, is_live, stored}
@@ -50,7 +50,7 @@ generated piece h ws points =
     λ j. piece.generators.gen h.opcode h.rate h.settled (h.inputs ++ inputs_of ws points (step_at h.rate j + 1))
 
 -- the plain world of a piece
-abbrev pub plain_model : Piece → Model (Res → Wave) History
+abbrev pub plain_model : Piece → WorldModel (Res → Wave) History
 plain_model piece = record {
   piece = piece;
   load = λ g shared. shared g;

@@ -12,7 +12,7 @@ use Rattle.cs_grammar.specs.Tree.{Orchestra}
 use Rattle.cs_typed.specs.Places.{outside, inside}
 use Rattle.cs_typed.specs.declared.tree.Var.TheVariants.{Local, Global}
 use Rattle.cs_typed.proofs.Variables.{each_then}
-use Rattle.cs_typing.specs.Known.{RateNames, Shared, Known, of_rate, in_table, place_in, used, global, variable}
+use Rattle.cs_typing.specs.Known.{RateNames, Shared, KnownHere, of_rate, in_table, place_in, used, global, variable}
 use Rattle.cs_typing.specs.Known.{channel_of}
 use Rattle.cs_typing.specs.Settings.{header, settings_fault}
 use Rattle.cs_typing.specs.Statements.{known_block, typed_block}
@@ -42,7 +42,7 @@ global_named rate.Control t g name e h =
 global_named rate.Audio t g name e h =
     within (place_of g.audio name) g.audio t.globals.audio (ap (λ x. x.audio) e) (low g.audio name h)
 
-known_named : (n : Known) (t : Shared) (name : List ℕ) → Grown n.shared t → IsGiven n.shared.globals name
+known_named : (n : KnownHere) (t : Shared) (name : List ℕ) → Grown n.shared t → IsGiven n.shared.globals name
     → IsNamed (shared_names t) (variable n name)
 known_named n t name grown given = by (is_global name) given
   where
@@ -71,7 +71,7 @@ channel_named s t channel.Sound name grown =
 -- ---- statements
 
 -- all bodies know no more than in the end
-abbrev IsEarlier : Shared → Known → Type 0
+abbrev IsEarlier : Shared → KnownHere → Type 0
 IsEarlier t n = Grown n.shared t
 
 tells : (t : Shared) → Tells (IsNamed (shared_names t)) (IsEarlier t) (IsGiven t.globals)
@@ -86,7 +86,7 @@ tells t = record {
 
 -- ---- the parts of an orchestra
 
-items_before : (t : Shared) (n : Known) (list : List Item) → IsEarlier t (known_items n list) → IsEarlier t n
+items_before : (t : Shared) (n : KnownHere) (list : List Item) → IsEarlier t (known_items n list) → IsEarlier t n
 items_before t n [] h = h
 items_before t n (alone b ∷ rest) h =
     block_before (IsNamed (shared_names t)) (IsEarlier t) (IsGiven t.globals) (tells t) n b
@@ -95,7 +95,7 @@ items_before t n (body i ∷ rest) h =
     block_before (IsNamed (shared_names t)) (IsEarlier t) (IsGiven t.globals) (tells t) (entered n) i.body
     (items_before t (known_item n (body i)) rest h)
 
-items_named : (channels : ℕ) (n : Known) (t : Shared) (list : List Item) → items_fault channels n list ≡ None
+items_named : (channels : ℕ) (n : KnownHere) (t : Shared) (list : List Item) → items_fault channels n list ≡ None
     → IsEarlier t (known_items n list) → ItemsGive t.globals list
     → IsNamedBlock (shared_names t) (typed_outside n list)
     × All (λ i. IsNamedBlock (shared_names t) i.body) (typed_instruments n list)

@@ -12,9 +12,9 @@ use Rattle.cs_typed.specs.declared.tree.Var.TheVariants.{Local, Global}
 
 -- a global variable or a channel, of as many as have names; zak places and tables have none
 abbrev pub is_named : SharedNames → Res → Bool
-is_named names (res.Gi n) = nat_lt n (length names.gi)
-is_named names (res.Gk n) = nat_lt n (length names.gk)
-is_named names (res.Ga n) = nat_lt n (length names.ga)
+is_named names (res.Gi n) = nat_lt n (length names.variables.init)
+is_named names (res.Gk n) = nat_lt n (length names.variables.control)
+is_named names (res.Ga n) = nat_lt n (length names.variables.audio)
 is_named names (res.Control n) = nat_lt n (length names.control)
 is_named names (res.Sound n) = nat_lt n (length names.sound)
 is_named names (res.ZakK n) = false

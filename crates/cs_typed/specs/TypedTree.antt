@@ -66,9 +66,7 @@ pub record Instrument : Type 0 where
 
 -- the names of what notes share, each list in the order in which they were first seen
 pub record SharedNames : Type 0 where
-  pub gi : List (List ℕ)
-  pub gk : List (List ℕ)
-  pub ga : List (List ℕ)
+  pub variables : PerRate (List (List ℕ))
   pub control : List (List ℕ)
   pub sound : List (List ℕ)
 
@@ -131,7 +129,7 @@ abbrev pub instrument : TypedInstr → Instrument
 instrument i = record { line = i.line; numbers = i.numbers; locals = i.locals; body = block i.body.items }
 
 abbrev pub shared_names : Globals → SharedNames
-shared_names g = record { gi = g.gi; gk = g.gk; ga = g.ga; control = g.control; sound = g.sound }
+shared_names g = record { variables = g.variables; control = g.control; sound = g.sound }
 
 abbrev pub orchestra : TypedOrc → Orchestra
 orchestra o = record {

@@ -87,13 +87,11 @@ pub struct TypedInstr {
     pub body: TypedStmts,
 }
 
-/// The names of what notes share, each list in the order in which they were first seen: variables by rate, control
-/// channels and sound channels.
+/// The names of what notes share, each list in the order in which they were first seen: variables, control channels and
+/// sound channels.
 #[derive(Drop)]
 pub struct Globals {
-    pub gi: Names,
-    pub gk: Names,
-    pub ga: Names,
+    pub variables: PerRate<Names>,
     pub control: Names,
     pub sound: Names,
 }

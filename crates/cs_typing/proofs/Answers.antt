@@ -11,7 +11,7 @@ use Rattle.cs_grammar.specs.declared.tree.Arm.{Arm, out-Arm}
 use Rattle.cs_grammar.specs.declared.tree.OrcStmt.{OrcStmt}
 use Rattle.cs_grammar.specs.Tree as tree
 use Rattle.cs_typed.specs.declared.setting.Setting.{Setting}
-use Rattle.cs_typing.specs.Known.{Known}
+use Rattle.cs_typing.specs.Known.{KnownHere}
 use Rattle.cs_typing.specs.Expressions.{typed_expression}
 use Rattle.cs_typing.specs.Settings.{at}
 use Rattle.cs_typing.specs.Statements.{condition_fault, fault, known, typed_statement, block_fault, known_block}
@@ -47,7 +47,7 @@ pub dropped : {A : Type 0} (xs : List A) (i : ℕ) (x : A) → i < length xs →
 dropped xs i x lt e = drop_more xs i x lt ∙ ap (λ y. y ∷ drop (i + 1) xs) (sym e)
 
 -- one statement more: the rest says what the whole says
-pub rest_fault : (s : Setting) (n m : Known) (list rest : List OrcStmt) (x : OrcStmt) → list ≡ x ∷ rest
+pub rest_fault : (s : Setting) (n m : KnownHere) (list rest : List OrcStmt) (x : OrcStmt) → list ≡ x ∷ rest
     → fault s n (tree.statement x) ≡ None → m ≡ known n (tree.statement x)
     → block_fault s m (tree.block rest) ≡ block_fault s n (tree.block list)
 rest_fault s n m list rest x e none after =
@@ -55,7 +55,7 @@ rest_fault s n m list rest x e none after =
     ∙ sym (ap (λ f. option_or f (block_fault s (known n (tree.statement x)) (tree.block rest))) none)
     ∙ sym (ap (λ xs. block_fault s n (tree.block xs)) e)
 
-pub rest_typed : (n m : Known) (list rest : List OrcStmt) (x : OrcStmt) (done more : List TypedStmt) (y : TypedStmt)
+pub rest_typed : (n m : KnownHere) (list rest : List OrcStmt) (x : OrcStmt) (done more : List TypedStmt) (y : TypedStmt)
     → list ≡ x ∷ rest → more ≡ done ++ y ∷ [] → typed.statement y ≡ typed_statement n (tree.statement x)
     → m ≡ known n (tree.statement x)
     → typed.then_block (typed.block more) (typed_block m (tree.block rest)) ≡ typed.then_block (typed.block done)
@@ -68,13 +68,14 @@ rest_typed n m list rest x done more y e pushed form after =
     (typed.andthen (typed_statement n (tree.statement x)) (typed_block k (tree.block rest)))) after
     ∙ sym (ap (λ xs. typed.then_block (typed.block done) (typed_block n (tree.block xs))) e)
 
-pub rest_known : (n m : Known) (list rest : List OrcStmt) (x : OrcStmt) → list ≡ x ∷ rest
+pub rest_known : (n m : KnownHere) (list rest : List OrcStmt) (x : OrcStmt) → list ≡ x ∷ rest
     → m ≡ known n (tree.statement x) → known_block m (tree.block rest) ≡ known_block n (tree.block list)
 rest_known n m list rest x e after =
     ap (λ k. known_block k (tree.block rest)) after ∙ sym (ap (λ xs. known_block n (tree.block xs)) e)
 
 -- a fault of the first statement is that of all
-pub first_fault : (s : Setting) (n : Known) (list rest : List OrcStmt) (x : OrcStmt) (f : OrcFault) → list ≡ x ∷ rest
+pub first_fault : (s : Setting) (n : KnownHere) (list rest : List OrcStmt) (x : OrcStmt) (f : OrcFault)
+    → list ≡ x ∷ rest
     → fault s n (tree.statement x) ≡ Some f → block_fault s n (tree.block list) ≡ Some f
 first_fault s n list rest x f e here =
     ap (λ xs. block_fault s n (tree.block xs)) e
@@ -89,7 +90,7 @@ abbrev pub body_of : Arm → tree.Block
 body_of a = tree.block (out-Arm a).body.items
 
 -- one arm more: the rest says what the whole says
-pub rest_arms_fault : (s : Setting) (n m : Known) (line : ℕ) (els : tree.Block) (list rest : List Arm) (a : Arm)
+pub rest_arms_fault : (s : Setting) (n m : KnownHere) (line : ℕ) (els : tree.Block) (list rest : List Arm) (a : Arm)
     → list ≡ a ∷ rest → at line (condition_fault s n (cond_of a)) ≡ None → block_fault s n (body_of a) ≡ None
     → m ≡ known_block n (body_of a)
     → arms_fault s m line (tree.arms els rest) ≡ arms_fault s n line (tree.arms els list)
@@ -101,7 +102,7 @@ rest_arms_fault s n m line els list rest a e cond body after =
     cond)
     ∙ sym (ap (λ xs. arms_fault s n line (tree.arms els xs)) e)
 
-pub rest_arms_typed : (n m : Known) (els : tree.Block) (list rest : List Arm) (a : Arm) (done more : List TypedArm)
+pub rest_arms_typed : (n m : KnownHere) (els : tree.Block) (list rest : List Arm) (a : Arm) (done more : List TypedArm)
     (y : TypedArm) → list ≡ a ∷ rest → more ≡ done ++ y ∷ []
     → typed.expression (out-TypedArm y).cond ≡ typed_expression n (cond_of a)
     → typed.block (out-TypedArm y).body.items ≡ typed_block n (body_of a) → m ≡ known_block n (body_of a)
@@ -116,7 +117,7 @@ rest_arms_typed n m els list rest a done more y e pushed cond body after =
     (typed.arm (typed_expression n (cond_of a)) (typed_block n (body_of a)) (typed_arms k (tree.arms els rest)))) after
     ∙ sym (ap (λ xs. with_arms done (typed_arms n (tree.arms els xs))) e)
 
-pub rest_arms_known : (n m : Known) (els : tree.Block) (list rest : List Arm) (a : Arm) → list ≡ a ∷ rest
+pub rest_arms_known : (n m : KnownHere) (els : tree.Block) (list rest : List Arm) (a : Arm) → list ≡ a ∷ rest
     → m ≡ known_block n (body_of a) → known_arms m (tree.arms els rest) ≡ known_arms n (tree.arms els list)
 rest_arms_known n m els list rest a e after =
     ap (λ k. known_arms k (tree.arms els rest)) after ∙ sym (ap (λ xs. known_arms n (tree.arms els xs)) e)
@@ -127,7 +128,7 @@ sooner (Some g) b c f e = e
 sooner None b c f e = ap (λ g. option_or g c) e
 
 -- a fault of the first arm is that of all
-pub first_arm_fault : (s : Setting) (n : Known) (line : ℕ) (els : tree.Block) (list rest : List Arm) (a : Arm)
+pub first_arm_fault : (s : Setting) (n : KnownHere) (line : ℕ) (els : tree.Block) (list rest : List Arm) (a : Arm)
     (f : OrcFault) → list ≡ a ∷ rest → arm_fault s n line a ≡ Some f → arms_fault s n line (tree.arms els list) ≡ Some f
 first_arm_fault s n line els list rest a f e here =
     ap (λ xs. arms_fault s n line (tree.arms els xs)) e
@@ -135,11 +136,11 @@ first_arm_fault s n line els list rest a f e here =
     (arms_fault s (known_block n (body_of a)) line (tree.arms els rest)) f here
 
 -- a condition's fault is the arm's
-pub condition_first : (s : Setting) (n : Known) (line : ℕ) (a : Arm) (f : OrcFault)
+pub condition_first : (s : Setting) (n : KnownHere) (line : ℕ) (a : Arm) (f : OrcFault)
     → at line (condition_fault s n (cond_of a)) ≡ Some f → arm_fault s n line a ≡ Some f
 condition_first s n line a f e = ap (λ g. option_or g (block_fault s n (body_of a))) e
 
-pub body_next : (s : Setting) (n : Known) (line : ℕ) (a : Arm) (f : OrcFault)
+pub body_next : (s : Setting) (n : KnownHere) (line : ℕ) (a : Arm) (f : OrcFault)
     → at line (condition_fault s n (cond_of a)) ≡ None → block_fault s n (body_of a) ≡ Some f
     → arm_fault s n line a ≡ Some f
 body_next s n line a f none e = ap (λ g. option_or g (block_fault s n (body_of a))) none ∙ e

@@ -18,7 +18,8 @@ use Rattle.cs_typed.specs.TypedTree as typed
 use Rattle.cs_typed.specs.Variables.{IsCounted, EachInBlock}
 use Rattle.cs_typed.specs.declared.tree.Var.TheVariants.{Local, Global}
 use Rattle.cs_typed.proofs.Variables.{each_then}
-use Rattle.cs_typing.specs.Known.{RateNames, Shared, Known, of_rate, counts_of, with_name, in_table, place_in, added}
+use Rattle.cs_typing.specs.Known.{RateNames, Shared, KnownHere, of_rate, counts_of, with_name, in_table, place_in}
+use Rattle.cs_typing.specs.Known.{added}
 use Rattle.cs_typing.specs.Known.{knows}
 use Rattle.cs_typing.specs.Known.{given, variable, channel_of, global}
 use Rattle.cs_typing.specs.Statements.{known_block, typed_block}
@@ -59,7 +60,7 @@ seen_low names name = by_test (has names name) there new
 -- ---- local variables
 
 -- no more names of each rate than are counted
-abbrev IsWithin : PerRate ℕ → Known → Type 0
+abbrev IsWithin : PerRate ℕ → KnownHere → Type 0
 IsWithin counts n = (r : Rate) → length (of_rate r n.locals) ≤ at_rate counts r
 
 longer : (r q : Rate) (t : RateNames) (name : List ℕ) → length (of_rate r t) ≤ length (of_rate r (with_name q t name))
@@ -79,7 +80,7 @@ place_low rate.Init t name = seen_low t.init name
 place_low rate.Control t name = seen_low t.control name
 place_low rate.Audio t name = seen_low t.audio name
 
-given_within : (counts : PerRate ℕ) (n : Known) (name : List ℕ) → IsWithin counts (given n name) → IsWithin counts n
+given_within : (counts : PerRate ℕ) (n : KnownHere) (name : List ℕ) → IsWithin counts (given n name) → IsWithin counts n
 given_within counts n name = by (is_global name)
   where
     by : (b : Bool) → ((r : Rate) → length (of_rate r (if b then n.locals else added n.locals name)) ≤ at_rate counts r)
@@ -87,7 +88,7 @@ given_within counts n name = by (is_global name)
     by true h = h
     by false h = λ r. omega (arith, h r, longer r (name_rate name) n.locals name)
 
-known_counted : (counts : PerRate ℕ) (n : Known) (name : List ℕ) → IsWithin counts n → knows n name ≡ true
+known_counted : (counts : PerRate ℕ) (n : KnownHere) (name : List ℕ) → IsWithin counts n → knows n name ≡ true
     → IsCounted counts (variable n name)
 known_counted counts n name h = by (is_global name)
   where
@@ -97,7 +98,7 @@ known_counted counts n name h = by (is_global name)
     by true k = tt
     by false k = omega (arith, low (of_rate (name_rate name) n.locals) name k, h (name_rate name))
 
-given_counted : (counts : PerRate ℕ) (n : Known) (name : List ℕ) → IsWithin counts (given n name) → Unit {0}
+given_counted : (counts : PerRate ℕ) (n : KnownHere) (name : List ℕ) → IsWithin counts (given n name) → Unit {0}
     → IsCounted counts (variable n name)
 given_counted counts n name h u = by (is_global name) h
   where
@@ -140,7 +141,7 @@ mutual
 
 -- ---- the parts of an orchestra
 
-items_before : (counts : PerRate ℕ) (n : Known) (list : List Item) → IsWithin counts (known_items n list)
+items_before : (counts : PerRate ℕ) (n : KnownHere) (list : List Item) → IsWithin counts (known_items n list)
     → IsWithin counts n
 items_before counts n [] h = h
 items_before counts n (alone b ∷ rest) h =
@@ -148,7 +149,7 @@ items_before counts n (alone b ∷ rest) h =
     (items_before counts (known_block n b) rest h)
 items_before counts n (body i ∷ rest) h = items_before counts (known_item n (body i)) rest h
 
-pub outside_counted : (channels : ℕ) (counts : PerRate ℕ) (n : Known) (list : List Item)
+pub outside_counted : (channels : ℕ) (counts : PerRate ℕ) (n : KnownHere) (list : List Item)
     → items_fault channels n list ≡ None
     → IsWithin counts (known_items n list) → EachInBlock (IsCounted counts) (typed_outside n list)
 outside_counted channels counts n [] h within = tt
@@ -162,7 +163,7 @@ outside_counted channels counts n (body i ∷ rest) h within =
     let parts = both_none (item_fault channels n (body i)) (items_fault channels (known_item n (body i)) rest) h in
     outside_counted channels counts (known_item n (body i)) rest parts.1 within
 
-pub all_within : (n : Known) → IsWithin (counts_of n.locals) n
+pub all_within : (n : KnownHere) → IsWithin (counts_of n.locals) n
 all_within n rate.Init = omega arith
 all_within n rate.Control = omega arith
 all_within n rate.Audio = omega arith
@@ -170,7 +171,7 @@ all_within n rate.Audio = omega arith
 abbrev pub IsCountedInstrument : typed.Instrument → Type 0
 IsCountedInstrument i = EachInBlock (IsCounted i.locals) i.body
 
-pub instruments_counted : (channels : ℕ) (n : Known) (list : List Item) → items_fault channels n list ≡ None
+pub instruments_counted : (channels : ℕ) (n : KnownHere) (list : List Item) → items_fault channels n list ≡ None
     → All IsCountedInstrument (typed_instruments n list)
 instruments_counted channels n [] h = All-nil IsCountedInstrument
 instruments_counted channels n (alone b ∷ rest) h =

@@ -11,7 +11,7 @@ use Rattle.cs_grammar.specs.declared.tree.StmtWhat.{StmtWhat}
 use Rattle.cs_grammar.specs.declared.tree.StmtWhat.TheVariants.{Set, Call, Choose'}
 use Rattle.cs_grammar.specs.Tree as tree
 use Rattle.cs_typed.specs.declared.tree.TypedStmt.{TypedStmt}
-use Rattle.cs_typing.specs.Known.{Known}
+use Rattle.cs_typing.specs.Known.{KnownHere}
 use Rattle.cs_typing.specs.Typing.{line_of, before, from, Item, alone, body, items, item_fault, items_fault, known_item}
 use Rattle.cs_typing.specs.Typing.{typed_outside, typed_instrument, typed_instruments}
 use Rattle.cs_typing.specs.Statements.{known_block, typed_block}
@@ -86,7 +86,7 @@ joined_blocks [] b = refl
 joined_blocks (x ∷ a) b = ap (λ r. typed.andthen (typed.statement x) r) (joined_blocks a b)
 
 -- two parts more: the rest says what the whole says
-pub rest_fault : (ch : ℕ) (n m : Known) (a b : Item) (xs : List Item) → item_fault ch n a ≡ None
+pub rest_fault : (ch : ℕ) (n m : KnownHere) (a b : Item) (xs : List Item) → item_fault ch n a ≡ None
     → item_fault ch (known_item n a) b ≡ None → m ≡ known_item (known_item n a) b
     → items_fault ch m xs ≡ items_fault ch n (a ∷ b ∷ xs)
 rest_fault ch n m a b xs none none_too after =
@@ -95,17 +95,17 @@ rest_fault ch n m a b xs none none_too after =
     ∙ sym (ap (λ f. option_or f
     (option_or (item_fault ch (known_item n a) b) (items_fault ch (known_item (known_item n a) b) xs))) none)
 
-pub rest_made : (n m : Known) (was now : Made) (a b : Item) (xs : List Item)
+pub rest_made : (n m : KnownHere) (was now : Made) (a b : Item) (xs : List Item)
     → now ≡ after_item (known_item n a) (after_item n was a) b → m ≡ known_item (known_item n a) b
     → after_items m now xs ≡ after_items n was (a ∷ b ∷ xs)
 rest_made n m was now a b xs made after =
     ap (λ k. after_items k now xs) after ∙ ap (λ x. after_items (known_item (known_item n a) b) x xs) made
 
-pub first_fault : (ch : ℕ) (n : Known) (a : Item) (xs : List Item) (f : OrcFault) → item_fault ch n a ≡ Some f
+pub first_fault : (ch : ℕ) (n : KnownHere) (a : Item) (xs : List Item) (f : OrcFault) → item_fault ch n a ≡ Some f
     → items_fault ch n (a ∷ xs) ≡ Some f
 first_fault ch n a xs f e = ap (λ g. option_or g (items_fault ch (known_item n a) xs)) e
 
-pub second_fault : (ch : ℕ) (n : Known) (a b : Item) (xs : List Item) (f : OrcFault) → item_fault ch n a ≡ None
+pub second_fault : (ch : ℕ) (n : KnownHere) (a b : Item) (xs : List Item) (f : OrcFault) → item_fault ch n a ≡ None
     → item_fault ch (known_item n a) b ≡ Some f → items_fault ch n (a ∷ b ∷ xs) ≡ Some f
 second_fault ch n a b xs f none e =
     ap (λ g. option_or g (items_fault ch (known_item n a) (b ∷ xs))) none ∙ first_fault ch (known_item n a) b xs f e
@@ -121,7 +121,7 @@ then_nothing : (b : typed.Block) → typed.then_block b typed.no_stmt ≡ b
 then_nothing typed.no_stmt = refl
 then_nothing (typed.andthen s rest) = ap (λ r. typed.andthen s r) (then_nothing rest)
 
-zero_of : (n : Known) (m : Made) (xs : List Item)
+zero_of : (n : KnownHere) (m : Made) (xs : List Item)
     → (after_items n m xs).zero ≡ typed.then_block m.zero (typed_outside n xs)
 zero_of n m [] = sym (then_nothing m.zero)
 zero_of n m (alone b ∷ xs) =
@@ -129,16 +129,17 @@ zero_of n m (alone b ∷ xs) =
     ∙ then_more m.zero (typed_block n b) (typed_outside (known_block n b) xs)
 zero_of n m (body i ∷ xs) = zero_of (known_item n (body i)) (after_item n m (body i)) xs
 
-instrs_of : (n : Known) (m : Made) (xs : List Item) → (after_items n m xs).instrs ≡ m.instrs ++ typed_instruments n xs
+instrs_of : (n : KnownHere) (m : Made) (xs : List Item)
+    → (after_items n m xs).instrs ≡ m.instrs ++ typed_instruments n xs
 instrs_of n m [] = sym (append-nil m.instrs)
 instrs_of n m (alone b ∷ xs) = instrs_of (known_item n (alone b)) (after_item n m (alone b)) xs
 instrs_of n m (body i ∷ xs) =
     instrs_of (known_item n (body i)) (after_item n m (body i)) xs
     ∙ append_assoc m.instrs (typed_instrument n i ∷ []) (typed_instruments (known_item n (body i)) xs)
 
-pub all_zero : (n : Known) (m : Made) (xs : List Item) → m ≡ after_items n nothing xs → m.zero ≡ typed_outside n xs
+pub all_zero : (n : KnownHere) (m : Made) (xs : List Item) → m ≡ after_items n nothing xs → m.zero ≡ typed_outside n xs
 all_zero n m xs e = ap (λ x. x.zero) e ∙ zero_of n nothing xs
 
-pub all_instrs : (n : Known) (m : Made) (xs : List Item) → m ≡ after_items n nothing xs
+pub all_instrs : (n : KnownHere) (m : Made) (xs : List Item) → m ≡ after_items n nothing xs
     → m.instrs ≡ typed_instruments n xs
 all_instrs n m xs e = ap (λ x. x.instrs) e ∙ instrs_of n nothing xs

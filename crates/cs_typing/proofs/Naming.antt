@@ -24,7 +24,7 @@ use Rattle.cs_typing.specs.Calls.{all_fit, bound_of, kind_of, any_sound, channel
 use Rattle.cs_typing.specs.Calls.{all_known, call_fault, call_known}
 use Rattle.cs_typing.specs.Calls.{typed_arguments, typed_call}
 use Rattle.cs_typing.specs.Expressions.{is_condition, rate_of, reads_known, typed_expression}
-use Rattle.cs_typing.specs.Known.{RateNames, Shared, Known, known_with, knows, after_giving, given, given_all, used}
+use Rattle.cs_typing.specs.Known.{RateNames, Shared, KnownHere, known_with, knows, after_giving, given, given_all, used}
 use Rattle.cs_typing.specs.Known.{use_channel, variable, channel_of}
 use Rattle.cs_typing.specs.Settings.{at}
 use Rattle.cs_typing.specs.Statements.{may_set, set_fault, condition_fault, fault, block_fault, arms_fault, known}
@@ -53,13 +53,13 @@ abbrev mutual
 -- What is asked of a property P of variables, of a property S of what is known, and of a property G of the names that
 -- are given: S of what is known after a name was given, or a channel used, is S of what was known before, and there P
 -- holds of what is read, of what is given and of the channel.
-pub record Tells (P : Variable → Type 0) (S : Known → Type 0) (G : List ℕ → Type 0) : Type 0 where
-  pub before_given : (n : Known) (name : List ℕ) → S (given n name) → S n
-  pub before_used : (n : Known) (kind : Channel) (name : List ℕ) → S (known_with (used n.shared kind name) n.locals)
+pub record Tells (P : Variable → Type 0) (S : KnownHere → Type 0) (G : List ℕ → Type 0) : Type 0 where
+  pub before_given : (n : KnownHere) (name : List ℕ) → S (given n name) → S n
+  pub before_used : (n : KnownHere) (kind : Channel) (name : List ℕ) → S (known_with (used n.shared kind name) n.locals)
       → S n
-  pub reads : (n : Known) (name : List ℕ) → S n → knows n name ≡ true → P (variable n name)
-  pub gives : (n : Known) (name : List ℕ) → S (given n name) → G name → P (variable n name)
-  pub uses : (n : Known) (kind : Channel) (name : List ℕ) → S (known_with (used n.shared kind name) n.locals)
+  pub reads : (n : KnownHere) (name : List ℕ) → S n → knows n name ≡ true → P (variable n name)
+  pub gives : (n : KnownHere) (name : List ℕ) → S (given n name) → G name → P (variable n name)
+  pub uses : (n : KnownHere) (kind : Channel) (name : List ℕ) → S (known_with (used n.shared kind name) n.locals)
       → P (channel_of n.shared kind name)
 
 -- a variable is given whatever is known of channels
@@ -84,27 +84,27 @@ one_result : (m : ℕ) (b : Bool) → (suc (suc m) == (if b then 0 else 1)) ≡ 
 one_result m true = grind (arith, nat_tests)
 one_result m false = grind (arith, nat_tests)
 
-module _ (P : Variable → Type 0) (S : Known → Type 0) (G : List ℕ → Type 0) (w : Tells P S G) where
+module _ (P : Variable → Type 0) (S : KnownHere → Type 0) (G : List ℕ → Type 0) (w : Tells P S G) where
   -- ---- what is known before
 
-  all_before : (n : Known) (names : List (List ℕ)) → S (given_all n names) → S n
+  all_before : (n : KnownHere) (names : List (List ℕ)) → S (given_all n names) → S n
   all_before n [] h = h
   all_before n (name ∷ names) h = w.before_given n name (all_before (given n name) names h)
 
-  channel_before : (n : Known) (role : Option Channel) (name : List ℕ)
+  channel_before : (n : KnownHere) (role : Option Channel) (name : List ℕ)
       → S (known_with (use_channel n.shared role name) n.locals) → S n
   channel_before n None name h = h
   channel_before n (Some kind) name h = w.before_used n kind name h
 
   -- the locals of a call, and then its channel
-  channel_alone : (n : Known) (role : Option Channel) (name : List ℕ) (results : List (List ℕ))
+  channel_alone : (n : KnownHere) (role : Option Channel) (name : List ℕ) (results : List (List ℕ))
       → S (known_with (use_channel n.shared role name) (given_all n results).locals)
       → S (known_with (use_channel n.shared role name) n.locals)
   channel_alone n role name results h =
       let t = use_channel n.shared role name in
       all_before (known_with t n.locals) results (subst S (same_locals t n.shared n.locals results) h)
 
-  call_before : (n : Known) (c : Callee) (results : List (List ℕ)) (args : List Argument)
+  call_before : (n : KnownHere) (c : Callee) (results : List (List ℕ)) (args : List Argument)
       → S (call_known n c results args) → S n
   call_before n (callee.Opcode o) results args h =
       let role = channel_use (row_of o).shape results args in
@@ -112,22 +112,22 @@ module _ (P : Variable → Type 0) (S : Known → Type 0) (G : List ℕ → Type
   call_before n (callee.Name name) results args h = all_before n results h
 
   mutual
-    before : (n : Known) (x : Statement) → S (known n x) → S n
+    before : (n : KnownHere) (x : Statement) → S (known n x) → S n
     before n (set line name e) h = w.before_given n name h
     before n (call line results c args) h = call_before n c results args h
     before n (choose line list) h = arms_before n list h
 
-    pub block_before : (n : Known) (b : Block) → S (known_block n b) → S n
+    pub block_before : (n : KnownHere) (b : Block) → S (known_block n b) → S n
     block_before n no_stmt h = h
     block_before n (andthen x rest) h = before n x (block_before (known n x) rest h)
 
-    arms_before : (n : Known) (list : Arms) → S (known_arms n list) → S n
+    arms_before : (n : KnownHere) (list : Arms) → S (known_arms n list) → S n
     arms_before n (otherwise b) h = block_before n b h
     arms_before n (arm c b rest) h = block_before n b (arms_before (known_block n b) rest h)
 
   -- ---- expressions
 
-  named : (n : Known) (e : Expression) → S n → reads_known n e ≡ true → EachInExpression P (typed_expression n e)
+  named : (n : KnownHere) (e : Expression) → S n → reads_known n e ≡ true → EachInExpression P (typed_expression n e)
   named n (number v) s h = tt
   named n (var name) s h = w.reads n name s h
   named n (field k) s h = tt
@@ -144,10 +144,10 @@ module _ (P : Variable → Type 0) (S : Known → Type 0) (G : List ℕ → Type
 
   -- ---- arguments
 
-  abbrev ArgumentsNamed : Known → Option Channel → List Argument → Type 0
+  abbrev ArgumentsNamed : KnownHere → Option Channel → List Argument → Type 0
   ArgumentsNamed n role args = All (EachInArgument P) (typed_arguments n role args)
 
-  one_value : (n : Known) (role : Option Channel) (e : Expression) (rest : List Argument) → S n
+  one_value : (n : KnownHere) (role : Option Channel) (e : Expression) (rest : List Argument) → S n
       → all_known n (value e ∷ rest) ≡ true → (all_known n rest ≡ true → ArgumentsNamed n role rest)
       → ArgumentsNamed n role (value e ∷ rest)
   one_value n role e rest s h more =
@@ -156,19 +156,19 @@ module _ (P : Variable → Type 0) (S : Known → Type 0) (G : List ℕ → Type
       (named n e s parts.0) (more parts.1)
 
   -- where no text leaves a trace
-  plain_named : (n : Known) (args : List Argument) → S n → all_known n args ≡ true → ArgumentsNamed n None args
+  plain_named : (n : KnownHere) (args : List Argument) → S n → all_known n args ≡ true → ArgumentsNamed n None args
   plain_named n [] s h = All-nil (EachInArgument P)
   plain_named n (value e ∷ rest) s h = one_value n None e rest s h (plain_named n rest s)
   plain_named n (text name ∷ rest) s h = plain_named n rest s (and_parts true (all_known n rest) h).1
 
-  one_text : (n : Known) (kind : Channel) (name : List ℕ) → S (known_with (used n.shared kind name) n.locals)
+  one_text : (n : KnownHere) (kind : Channel) (name : List ℕ) → S (known_with (used n.shared kind name) n.locals)
       → ArgumentsNamed n (Some kind) (text name ∷ [])
   one_text n kind name u =
       All-cons (EachInArgument P) (typed.text (channel_of n.shared kind name)) [] (w.uses n kind name u)
       (All-nil (EachInArgument P))
 
   -- an opcode that takes a text alone
-  text_alone : (n : Known) (kind : Channel) (args : List Argument)
+  text_alone : (n : KnownHere) (kind : Channel) (args : List Argument)
       → (nat_le 1 (length args) && (length args - 1 == 0)) ≡ true
       → S n → S (known_with (used n.shared kind (text_of args)) n.locals) → all_known n args ≡ true
       → ArgumentsNamed n (Some kind) args
@@ -182,7 +182,7 @@ module _ (P : Variable → Type 0) (S : Known → Type 0) (G : List ℕ → Type
       absurd (cc never)
 
   -- an opcode that takes a value and a text
-  text_behind : (n : Known) (kind : Channel) (e : Expression) (args : List Argument)
+  text_behind : (n : KnownHere) (kind : Channel) (e : Expression) (args : List Argument)
       → (nat_le 2 (suc (length args)) && (suc (length args) - 2 == 0)) ≡ true
       → S n → S (known_with (used n.shared kind (text_of args)) n.locals) → all_known n (value e ∷ args) ≡ true
       → ArgumentsNamed n (Some kind) (value e ∷ args)
@@ -199,7 +199,7 @@ module _ (P : Variable → Type 0) (S : Known → Type 0) (G : List ℕ → Type
       let never : false ≡ true = sym (past_two m) ∙ none in
       absurd (cc never)
 
-  arguments_named : (n : Known) (o : Opcode) (results : List (List ℕ)) (args : List Argument)
+  arguments_named : (n : KnownHere) (o : Opcode) (results : List (List ℕ)) (args : List Argument)
       → takes_count (row_of o) (length args) ≡ true → all_fit (row_of o) (bound_of results) 0 args ≡ true
       → S n → S (known_with (use_channel n.shared (channel_use (row_of o).shape results args) (text_of args)) n.locals)
       → all_known n args ≡ true → ArgumentsNamed n (channel_use (row_of o).shape results args) args
@@ -217,7 +217,7 @@ module _ (P : Variable → Type 0) (S : Known → Type 0) (G : List ℕ → Type
 
   -- ---- calls
 
-  results_named : (n : Known) (role : Option Channel) (name : List ℕ) (none : Bool) (results : List (List ℕ))
+  results_named : (n : KnownHere) (role : Option Channel) (name : List ℕ) (none : Bool) (results : List (List ℕ))
       → (length results == (if none then 0 else 1)) ≡ true
       → S (known_with (use_channel n.shared role name) (given_all n results).locals) → All G results
       → All P (map (variable n) results)
@@ -228,7 +228,7 @@ module _ (P : Variable → Type 0) (S : Known → Type 0) (G : List ℕ → Type
   results_named n role name none (x ∷ y ∷ rest) c h g =
       let never : false ≡ true = sym (one_result (length rest) none) ∙ c in absurd (cc never)
 
-  call_named : (s : Setting) (n : Known) (line : ℕ) (c : Callee) (results : List (List ℕ)) (args : List Argument)
+  call_named : (s : Setting) (n : KnownHere) (line : ℕ) (c : Callee) (results : List (List ℕ)) (args : List Argument)
       → call_fault s n c results args ≡ None → S (call_known n c results args) → All G results
       → EachInStatement P (typed_call line n c results args)
   call_named s n line (callee.Name name) results args h after g = absurd (cc h)
@@ -245,7 +245,7 @@ module _ (P : Variable → Type 0) (S : Known → Type 0) (G : List ℕ → Type
   -- ---- statements
 
   mutual
-    stmt_named : (s : Setting) (n : Known) (x : Statement) → fault s n x ≡ None → S (known n x) → Give G x
+    stmt_named : (s : Setting) (n : KnownHere) (x : Statement) → fault s n x ≡ None → S (known n x) → Give G x
         → EachInStatement P (typed_statement n x)
     stmt_named s n (set line name e) h after g =
         let right = reads_right (reads_known n e) (may_set s name e) (at_none line (set_fault s n name e) h) in
@@ -254,7 +254,7 @@ module _ (P : Variable → Type 0) (S : Known → Type 0) (G : List ℕ → Type
         call_named s n line c results args (at_none line (call_fault s n c results args) h) after g
     stmt_named s n (choose line list) h after g = arms_named s n line list h after g
 
-    pub block_named : (s : Setting) (n : Known) (b : Block) → block_fault s n b ≡ None → S (known_block n b)
+    pub block_named : (s : Setting) (n : KnownHere) (b : Block) → block_fault s n b ≡ None → S (known_block n b)
         → BlockGives G b
         → EachInBlock P (typed_block n b)
     block_named s n no_stmt h after g = tt
@@ -265,7 +265,7 @@ module _ (P : Variable → Type 0) (S : Known → Type 0) (G : List ℕ → Type
               after g.1,
         )
 
-    arms_named : (s : Setting) (n : Known) (line : ℕ) (list : Arms) → arms_fault s n line list ≡ None
+    arms_named : (s : Setting) (n : KnownHere) (line : ℕ) (list : Arms) → arms_fault s n line list ≡ None
         → S (known_arms n list) → ArmsGive G list
         → EachInArms P (typed_arms n list)
     arms_named s n line (otherwise b) h after g = block_named s n b h after g

@@ -5,12 +5,12 @@ use Rattle.std.proofs.lemmas.Bool.{eq-eqb, eqb-true}
 use Rattle.std.proofs.lemmas.Map.Made.{IsDistinct-from_AllPairs}
 use Rattle.cs_grammar.specs.Tree.{Block, Instrument, Orchestra}
 use Rattle.cs_grammar.specs.WellFormed.{IsWellFormed, all_numbers}
-use Rattle.cs_typing.specs.Known.{Known}
+use Rattle.cs_typing.specs.Known.{KnownHere}
 use Rattle.cs_typing.specs.Typing.{alone, body, items, before, from, known_item, first_known, typed_instruments}
 use Rattle.cs_typing.specs.Typing.{typed_of}
 use Rattle.cs_typed.specs.TypedTree as typed
 
-pub numbers_kept : (n : Known) (outside : Block) (list : List Instrument)
+pub numbers_kept : (n : KnownHere) (outside : Block) (list : List Instrument)
     → flat_map (λ (i : typed.Instrument). i.numbers) (typed_instruments n (items outside list)) ≡ all_numbers list
 numbers_kept n outside [] = refl
 numbers_kept n outside (i ∷ rest) =

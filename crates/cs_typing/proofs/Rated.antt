@@ -17,7 +17,7 @@ use Rattle.cs_typed.specs.Places.{outside, inside}
 use Rattle.cs_typed.specs.declared.setting.Setting.{Setting}
 use Rattle.cs_typing.specs.Calls.{call_fault}
 use Rattle.cs_typing.specs.Expressions.{is_value, is_condition, rate_of, reads_known, typed_expression}
-use Rattle.cs_typing.specs.Known.{Known, variable}
+use Rattle.cs_typing.specs.Known.{KnownHere, variable}
 use Rattle.cs_typing.specs.Settings.{at}
 use Rattle.cs_typing.specs.Statements.{set_fault, condition_fault, fault, block_fault, arms_fault, known, known_block}
 use Rattle.cs_typing.specs.Statements.{all_init, typed_statement, typed_block, typed_arms}
@@ -38,7 +38,7 @@ no_rule_broken true true h = refl
 no_rule_broken true false h = absurd (cc h)
 no_rule_broken false c h = absurd (cc h)
 
-set_rated : (s : Setting) (n : Known) (name : List ℕ) (e : Expression) → is_value e ≡ true
+set_rated : (s : Setting) (n : KnownHere) (name : List ℕ) (e : Expression) → is_value e ≡ true
     → within (rate_of e) (name_rate name) ≡ true
     → (s.inside || is_init (name_rate name)) ≡ true
     → IsRatedSet s (name_rate name) (variable n name) (typed_expression n e)
@@ -50,14 +50,14 @@ set_rated s n name e v w p = (
   value_rated n e v,
 )
 
-still_arms : (n : Known) (list : Arms) → all_init list ≡ all_still (typed_arms n list)
+still_arms : (n : KnownHere) (list : Arms) → all_init list ≡ all_still (typed_arms n list)
 still_arms n (otherwise b) = refl
 still_arms n (arm c b rest) =
     ap (λ r. is_init r && all_init rest) (sym (node_is n c))
     ∙ ap (λ x. is_init (node_rate (typed_expression n c)) && x) (still_arms (known_block n b) rest)
 
 mutual
-  pub stmt_rated : (s : Setting) (n : Known) (x : Statement) → fault s n x ≡ None
+  pub stmt_rated : (s : Setting) (n : KnownHere) (x : Statement) → fault s n x ≡ None
       → IsRatedStatement s (typed_statement n x)
   stmt_rated s n (set line name e) h =
       let may = no_rule_broken (reads_known n e)
@@ -72,13 +72,14 @@ mutual
   stmt_rated s n (choose line list) h =
       (ap (λ b. if b then rate.Init else rate.Control) (still_arms n list), arms_rated s n line list h)
 
-  pub block_rated : (s : Setting) (n : Known) (b : Block) → block_fault s n b ≡ None → IsRatedBlock s (typed_block n b)
+  pub block_rated : (s : Setting) (n : KnownHere) (b : Block) → block_fault s n b ≡ None
+      → IsRatedBlock s (typed_block n b)
   block_rated s n no_stmt h = tt
   block_rated s n (andthen x rest) h =
       let parts = both_none (fault s n x) (block_fault s (known n x) rest) h in
       (stmt_rated s n x parts.0, block_rated s (known n x) rest parts.1)
 
-  arms_rated : (s : Setting) (n : Known) (line : ℕ) (list : Arms) → arms_fault s n line list ≡ None
+  arms_rated : (s : Setting) (n : KnownHere) (line : ℕ) (list : Arms) → arms_fault s n line list ≡ None
       → IsRatedArms s (typed_arms n list)
   arms_rated s n line (otherwise b) h = block_rated s n b h
   arms_rated s n line (arm c b rest) h =
@@ -100,7 +101,7 @@ then_rated : (s : Setting) (a b : typed.Block) → IsRatedBlock s a → IsRatedB
 then_rated s typed.no_stmt b p q = q
 then_rated s (typed.andthen x rest) b p q = (p.0, then_rated s rest b p.1 q)
 
-pub items_rated : (channels : ℕ) (n : Known) (list : List Item) → items_fault channels n list ≡ None
+pub items_rated : (channels : ℕ) (n : KnownHere) (list : List Item) → items_fault channels n list ≡ None
     → IsRatedBlock (outside channels) (typed_outside n list)
     × All (λ i. IsRatedBlock (inside channels) i.body) (typed_instruments n list)
 items_rated channels n [] h = (tt, All-nil (λ i. IsRatedBlock (inside channels) i.body))

@@ -33,7 +33,7 @@ use Rattle.cs_typing.specs.Calls.{fits, all_fit, bound_of, may_result, is_sound,
 use Rattle.cs_typing.specs.Calls.{channel_use, is_too_wide, row_fault}
 use Rattle.cs_typing.specs.Calls.{call_fault, is_still, call_rate, typed_arguments, typed_call}
 use Rattle.cs_typing.specs.Expressions.{is_value, rate_of, typed_expression}
-use Rattle.cs_typing.specs.Known.{Known, Shared, variable, channel_of}
+use Rattle.cs_typing.specs.Known.{KnownHere, Shared, variable, channel_of}
 use Rattle.cs_typed.specs.TypedTree as typed
 use Rattle.cs_typed.specs.WellRated.{var_rate, is_variable, is_channel, node_rate, IsRatedArgument, row_left}
 use Rattle.cs_typed.specs.WellRated.{fits_letter, fit_letters, bound_by, may_give, goes_beyond, stores_evenly}
@@ -76,13 +76,14 @@ no_text row h k j = at_fixed row.fixed (further row.more (j - length row.fixed))
 
 -- ---- arguments where no text leaves a trace
 
-fits_value : (n : Known) (l m : Letter) (b : Rate) (e : _) → l ≡ m → takes l b (rate_of e) ≡ true
+fits_value : (n : KnownHere) (l m : Letter) (b : Rate) (e : _) → l ≡ m → takes l b (rate_of e) ≡ true
     → takes m b (node_rate (typed_expression n e)) ≡ true
 fits_value n l m b e same h =
     ap (λ p. takes p b (node_rate (typed_expression n e))) (sym same) ∙ ap (λ r. takes l b r) (node_is n e) ∙ h
 
 -- letters of a row from a place on, as another row has them
-plain_letters : (n : Known) (row left : Row) (b : Rate) (d : ℕ) → ((j : ℕ) → letter_at row (j + d) ≡ letter_at left j)
+plain_letters : (n : KnownHere) (row left : Row) (b : Rate) (d : ℕ)
+    → ((j : ℕ) → letter_at row (j + d) ≡ letter_at left j)
     → ((j : ℕ) → is_text (letter_at left j) ≡ false) → (args : List Argument) (m k : ℕ) → m ≡ k + d
     → all_fit row b m args ≡ true
     → (fit_letters left b k (typed_arguments n None args) ≡ true) × (length (typed_arguments n None args) ≡ length args)
@@ -106,7 +107,8 @@ plain_letters n row left b d same none (text name ∷ rest) m k e h =
 and_none : (j : ℕ) → j + 0 ≡ j
 and_none j = omega arith
 
-plain_row : (n : Known) (row : Row) (b : Rate) (args : List Argument) → list_all (λ m. not (is_text m)) row.fixed ≡ true
+plain_row : (n : KnownHere) (row : Row) (b : Rate) (args : List Argument)
+    → list_all (λ m. not (is_text m)) row.fixed ≡ true
     → no_text_after row.more ≡ true
     → all_fit row b 0 args ≡ true
     → (fit_letters row b 0 (typed_arguments n None args) ≡ true) × (length (typed_arguments n None args) ≡ length args)
@@ -115,7 +117,7 @@ plain_row n row b args f g h =
 
 -- ---- arguments where a text is a channel
 
-kept_letters : (n : Known) (kind : Channel) (row : Row) (b : Rate) (args : List Argument) (k : ℕ)
+kept_letters : (n : KnownHere) (kind : Channel) (row : Row) (b : Rate) (args : List Argument) (k : ℕ)
     → all_fit row b k args ≡ true
     → (fit_letters row b k (typed_arguments n (Some kind) args) ≡ true)
     × (length (typed_arguments n (Some kind) args) ≡ length args)
@@ -151,7 +153,7 @@ at_least m h = grind (arith, nat_tests)
 one_less : (m : ℕ) → takes_count (row_of op.EventI) (suc m) ≡ true → takes_count (row_of op.Schedule) m ≡ true
 one_less m h = and_from (nat_le 3 m) true (at_least m (and_parts (nat_le 4 (suc m)) true h).0) refl
 
-event_letters : (n : Known) (b : Rate) (args : List Argument) → takes_count (row_of op.EventI) (length args) ≡ true
+event_letters : (n : KnownHere) (b : Rate) (args : List Argument) → takes_count (row_of op.EventI) (length args) ≡ true
     → all_fit (row_of op.EventI) b 0 args ≡ true
     → (fit_letters (row_of op.Schedule) b 0 (typed_arguments n None args) ≡ true) ×
     (takes_count (row_of op.Schedule) (length (typed_arguments n None args)) ≡ true)
@@ -166,7 +168,7 @@ event_letters n b (text name ∷ rest) c h =
 
 -- ---- any opcode
 
-plain : (n : Known) (row : Row) (b : Rate) (args : List Argument) → list_all (λ m. not (is_text m)) row.fixed ≡ true
+plain : (n : KnownHere) (row : Row) (b : Rate) (args : List Argument) → list_all (λ m. not (is_text m)) row.fixed ≡ true
     → no_text_after row.more ≡ true
     → takes_count row (length args) ≡ true → all_fit row b 0 args ≡ true
     → (fit_letters row b 0 (typed_arguments n None args) ≡ true)
@@ -174,14 +176,15 @@ plain : (n : Known) (row : Row) (b : Rate) (args : List Argument) → list_all (
 plain n row b args f g c h =
     let made = plain_row n row b args f g h in (made.0, ap (λ m. takes_count row m) made.1 ∙ c)
 
-kept : (n : Known) (kind : Channel) (row : Row) (b : Rate) (args : List Argument) → takes_count row (length args) ≡ true
+kept : (n : KnownHere) (kind : Channel) (row : Row) (b : Rate) (args : List Argument)
+    → takes_count row (length args) ≡ true
     → all_fit row b 0 args ≡ true
     → (fit_letters row b 0 (typed_arguments n (Some kind) args) ≡ true)
     × (takes_count row (length (typed_arguments n (Some kind) args)) ≡ true)
 kept n kind row b args c h =
     let made = kept_letters n kind row b args 0 h in (made.0, ap (λ m. takes_count row m) made.1 ∙ c)
 
-letters_right : (n : Known) (o : Opcode) (b : Rate) (results : List (List ℕ)) (args : List Argument)
+letters_right : (n : KnownHere) (o : Opcode) (b : Rate) (results : List (List ℕ)) (args : List Argument)
     → takes_count (row_of o) (length args) ≡ true
     → all_fit (row_of o) b 0 args ≡ true
     → (fit_letters (row_left o) b 0 (typed_arguments n (channel_use (row_of o).shape results args) args) ≡ true) ×
@@ -194,7 +197,7 @@ letters_right n op.Chnclear b results args c h = kept n channel.Sound (row_of op
 letters_right n op.EventI b results args c h = event_letters n b args c h
 letters_right n o b results args c h = plain n (row_of o) b args refl refl c h
 
-channels_right : (n : Known) (s : Setting) (o : Opcode) (b : Rate) (results : List (List ℕ)) (args : List Argument)
+channels_right : (n : KnownHere) (s : Setting) (o : Opcode) (b : Rate) (results : List (List ℕ)) (args : List Argument)
     → all_fit (row_of o) b 0 args ≡ true
     → is_too_wide s (row_of o).shape args ≡ false
     → goes_beyond s (row_of o).shape (typed_arguments n (channel_use (row_of o).shape results args) args) ≡ false
@@ -204,7 +207,7 @@ channels_right n s op.Outs b results args h wide =
     ap (λ m. nat_lt s.channels m) (plain_row n (row_of op.Outs) b args refl refl h).1 ∙ wide
 channels_right n s o b results args h wide = refl
 
-even_right : (n : Known) (b : Rate) (args : List Argument) → all_fit (row_of op.Tablew) b 0 args ≡ true
+even_right : (n : KnownHere) (b : Rate) (args : List Argument) → all_fit (row_of op.Tablew) b 0 args ≡ true
     → is_even shape.Store args ≡ true
     → stores_evenly shape.Store (typed_arguments n None args) ≡ true
 even_right n b [] h e = refl
@@ -219,7 +222,7 @@ even_right n b (value x ∷ value y ∷ rest) h e =
     ∙ ap (λ r. if is_audio (rate_of x) then is_audio r else not (is_audio r)) (node_is n y)
     ∙ e
 
-stores_right : (n : Known) (o : Opcode) (b : Rate) (results : List (List ℕ)) (args : List Argument)
+stores_right : (n : KnownHere) (o : Opcode) (b : Rate) (results : List (List ℕ)) (args : List Argument)
     → all_fit (row_of o) b 0 args ≡ true
     → is_even (row_of o).shape args ≡ true
     → stores_evenly (row_of o).shape (typed_arguments n (channel_use (row_of o).shape results args) args) ≡ true
@@ -230,7 +233,7 @@ channel_made : (s : Shared) (kind : Channel) (name : List ℕ) → is_channel (c
 channel_made s channel.Control name = refl
 channel_made s channel.Sound name = refl
 
-parts_rated : (n : Known) (role : Option Channel) (row : Row) (b : Rate) (args : List Argument) (k : ℕ)
+parts_rated : (n : KnownHere) (role : Option Channel) (row : Row) (b : Rate) (args : List Argument) (k : ℕ)
     → all_fit row b k args ≡ true
     → All IsRatedArgument (typed_arguments n role args)
 parts_rated n role row b [] k h = All-nil IsRatedArgument
@@ -249,7 +252,7 @@ parts_rated n (Some kind) row b (text name ∷ rest) k h =
     (parts_rated n (Some kind) row b rest (k + 1)
     (and_parts (fits (letter_at row k) b (text name)) (all_fit row b (k + 1) rest) h).1)
 
-given_right : (n : Known) (row : Row) (results : List (List ℕ)) → list_all (may_result row) results ≡ true
+given_right : (n : KnownHere) (row : Row) (results : List (List ℕ)) → list_all (may_result row) results ≡ true
     → list_all (may_give row) (map (variable n) results) ≡ true
 given_right n row [] h = refl
 given_right n row (name ∷ rest) h =
@@ -259,11 +262,11 @@ given_right n row (name ∷ rest) h =
     (ap (λ r. list_any (same_rate r) row.results) (variable_rate n name).0 ∙ parts.0) in
     and_from (may_give row v) (list_all (may_give row) (map (variable n) rest)) one (given_right n row rest parts.1)
 
-bound_right : (n : Known) (results : List (List ℕ)) → bound_of results ≡ bound_by (map (variable n) results)
+bound_right : (n : KnownHere) (results : List (List ℕ)) → bound_of results ≡ bound_by (map (variable n) results)
 bound_right n [] = refl
 bound_right n (name ∷ rest) = sym (variable_rate n name).0
 
-still_right : (n : Known) (role : Option Channel) (args : List Argument)
+still_right : (n : KnownHere) (role : Option Channel) (args : List Argument)
     → list_all keeps_still (typed_arguments n role args) ≡ list_all is_still args
 still_right n role [] = refl
 still_right n role (value x ∷ rest) =
@@ -272,7 +275,7 @@ still_right n role (value x ∷ rest) =
 still_right n None (text name ∷ rest) = still_right n None rest
 still_right n (Some kind) (text name ∷ rest) = still_right n (Some kind) rest
 
-sound_right : (n : Known) (role : Option Channel) (args : List Argument)
+sound_right : (n : KnownHere) (role : Option Channel) (args : List Argument)
     → list_any is_of_sound (typed_arguments n role args) ≡ list_any is_sound args
 sound_right n role [] = refl
 sound_right n role (value x ∷ rest) =
@@ -281,7 +284,7 @@ sound_right n role (value x ∷ rest) =
 sound_right n None (text name ∷ rest) = sound_right n None rest
 sound_right n (Some kind) (text name ∷ rest) = sound_right n (Some kind) rest
 
-done_right : (n : Known) (role : Option Channel) (sh : Shape) (results : List (List ℕ)) (args : List Argument)
+done_right : (n : KnownHere) (role : Option Channel) (sh : Shape) (results : List (List ℕ)) (args : List Argument)
     → call_rate sh results args ≡ done_at sh (map (variable n) results) (typed_arguments n role args)
 done_right n role sh [] args =
     let made = typed_arguments n role args in
@@ -311,7 +314,7 @@ or_none false = refl
 past_two : (m : ℕ) → (suc (suc (suc m)) - 2 == 0) ≡ false
 past_two m = grind (arith, nat_tests)
 
-suits_right : (n : Known) (o : Opcode) (results : List (List ℕ)) (args : List Argument)
+suits_right : (n : KnownHere) (o : Opcode) (results : List (List ℕ)) (args : List Argument)
     → takes_count (row_of o) (length args) ≡ true
     → suits_channel (row_of o).shape (map (variable n) results)
     (typed_arguments n (channel_use (row_of o).shape results args) args) ≡ true
@@ -352,7 +355,7 @@ suits_right n o results args c = refl
 equal : (i j : ℕ) → (i == j) ≡ true → i ≡ j
 equal i j h = grind (arith, nat_tests)
 
-row_rated : (s : Setting) (n : Known) (o : Opcode) (results : List (List ℕ)) (args : List Argument)
+row_rated : (s : Setting) (n : KnownHere) (o : Opcode) (results : List (List ℕ)) (args : List Argument)
     → row_fault s n (row_of o) results args ≡ None
     → IsRatedCall s (call_rate (row_of o).shape results args) (map (variable n) results) o
     (typed_arguments n (channel_use (row_of o).shape results args) args)
@@ -375,7 +378,7 @@ row_rated s n o results args h =
       place = keeps.place;
     }
 
-pub call_rated : (s : Setting) (n : Known) (line : ℕ) (c : Callee) (results : List (List ℕ)) (args : List Argument)
+pub call_rated : (s : Setting) (n : KnownHere) (line : ℕ) (c : Callee) (results : List (List ℕ)) (args : List Argument)
     → call_fault s n c results args ≡ None → IsRatedStatement s (typed_call line n c results args)
 call_rated s n line (callee.Opcode o) results args h = row_rated s n o results args h
 call_rated s n line (callee.Name name) results args h = absurd (cc h)

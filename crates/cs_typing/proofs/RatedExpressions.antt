@@ -11,11 +11,11 @@ use Rattle.cs_words.specs.declared.word.Func.TheVariants as func
 use Rattle.cs_grammar.specs.Tree.{Expression, number, var, field, head, neg, pair, pick, apply}
 use Rattle.cs_typed.specs.declared.tree.Var.TheVariants as variable_of
 use Rattle.cs_typing.specs.Expressions.{is_control_name, is_value, is_condition, rate_of, typed_expression}
-use Rattle.cs_typing.specs.Known.{Known, variable, global, place_in}
+use Rattle.cs_typing.specs.Known.{KnownHere, variable, global, place_in}
 use Rattle.cs_typed.specs.WellRated.{var_rate, is_variable, node_rate, is_read_once, IsRated}
 
 -- the rate beside the typed form is that of the text
-pub node_is : (n : Known) (e : Expression) → node_rate (typed_expression n e) ≡ rate_of e
+pub node_is : (n : KnownHere) (e : Expression) → node_rate (typed_expression n e) ≡ rate_of e
 node_is n (number v) = refl
 node_is n (var name) = refl
 node_is n (field k) = refl
@@ -37,7 +37,7 @@ either_rate true r j k = global_rate r j
 either_rate false r j k = (refl, refl)
 
 -- a variable changes as often as its name says
-pub variable_rate : (n : Known) (name : List ℕ)
+pub variable_rate : (n : KnownHere) (name : List ℕ)
     → (var_rate (variable n name) ≡ name_rate name) × (is_variable (variable n name) ≡ true)
 variable_rate n name = either_rate (is_global name) (name_rate name) (place_in n.shared.globals name)
     (place_in n.locals name)
@@ -94,20 +94,20 @@ no_sound (neg a) h = absurd (cc h)
 no_sound (pick c a b) h = absurd (cc h)
 no_sound (apply f a) h = absurd (cc h)
 
-fast_is : (n : Known) (a b : Expression)
+fast_is : (n : KnownHere) (a b : Expression)
     → faster (rate_of a) (rate_of b) ≡ faster (node_rate (typed_expression n a)) (node_rate (typed_expression n b))
 fast_is n a b =
     ap (λ r. faster r (rate_of b)) (sym (node_is n a))
     ∙ ap (λ r. faster (node_rate (typed_expression n a)) r) (sym (node_is n b))
 
-fastest_is : (n : Known) (c a b : Expression)
+fastest_is : (n : KnownHere) (c a b : Expression)
     → faster (rate_of c) (faster (rate_of a) (rate_of b)) ≡ faster (node_rate (typed_expression n c))
     (faster (node_rate (typed_expression n a)) (node_rate (typed_expression n b)))
 fastest_is n c a b =
     ap (λ r. faster r (faster (rate_of a) (rate_of b))) (sym (node_is n c))
     ∙ ap (λ r. faster (node_rate (typed_expression n c)) r) (fast_is n a b)
 
-read_once : (n : Known) (a : Expression) → is_control_name a ≡ true
+read_once : (n : KnownHere) (a : Expression) → is_control_name a ≡ true
     → (is_read_once (typed_expression n a) ≡ true) × IsRated (typed_expression n a)
 read_once n (var name) h = (h, (sym (variable_rate n name).0, (variable_rate n name).1))
 read_once n (number v) h = absurd (cc h)
@@ -119,7 +119,7 @@ read_once n (pick c a b) h = absurd (cc h)
 read_once n (apply f a) h = absurd (cc h)
 
 mutual
-  pub value_rated : (n : Known) (e : Expression) → is_value e ≡ true → IsRated (typed_expression n e)
+  pub value_rated : (n : KnownHere) (e : Expression) → is_value e ≡ true → IsRated (typed_expression n e)
   value_rated n (number v) h = refl
   value_rated n (var name) h = (sym (variable_rate n name).0, (variable_rate n name).1)
   value_rated n (field k) h = refl
@@ -151,7 +151,7 @@ mutual
   value_rated n (apply func.Abs a) h = (sym (node_is n a), value_rated n a h)
   value_rated n (apply func.Floor a) h = (sym (node_is n a), value_rated n a h)
 
-  pub condition_rated : (n : Known) (c : Expression) → is_condition c ≡ true → IsRated (typed_expression n c)
+  pub condition_rated : (n : KnownHere) (c : Expression) → is_condition c ≡ true → IsRated (typed_expression n c)
   condition_rated n (pair o a b) h =
       let fast = is_audio (faster (rate_of a) (rate_of b)) in
       let both = is_condition a && is_condition b in

@@ -24,7 +24,8 @@ use Rattle.cs_typed.specs.declared.tree.Var.TheVariants as variant
 use Rattle.cs_typing.specs.Calls.{text_of, is_too_wide, argument_known, all_known, counts_agree, row_fault, call_fault}
 use Rattle.cs_typing.specs.Calls.{row_known, call_known, call_by, typed_call}
 use Rattle.cs_typing.specs.Expressions.{reads_known, expression_by, typed_expression}
-use Rattle.cs_typing.specs.Known.{RateNames, of_rate, with_name, in_table, place_in, added, Known, known_with, knows}
+use Rattle.cs_typing.specs.Known.{RateNames, of_rate, with_name, in_table, place_in, added, KnownHere, known_with}
+use Rattle.cs_typing.specs.Known.{knows}
 use Rattle.cs_typing.specs.Known.{after_giving, given, given_all, use_channel, clashes, global, variable}
 use Rattle.cs_grammar.specs.Renaming.{renamed_expression, renamed_argument}
 use Rattle.cs_typing.specs.Renaming.{IsRenaming, renamed_name, renamed, renamed_block, renamed_arms, renamed_table}
@@ -142,7 +143,7 @@ place_in_kept f r t x =
     ∙ ap (λ l. place_of l (renamed_name f x)) (of_rate_renamed f (name_rate x) t)
     ∙ place_kept f r (of_rate (name_rate x) t) x
 
-knows_kept : (f : List ℕ → List ℕ) → IsRenaming f → (n : Known) (x : List ℕ)
+knows_kept : (f : List ℕ → List ℕ) → IsRenaming f → (n : KnownHere) (x : List ℕ)
     → knows (renamed_known f n) (renamed_name f x) ≡ knows n x
 knows_kept f r n x =
     ap (λ b. if b then in_table n.shared.globals (renamed_name f x) else in_table (renamed_table f n.locals)
@@ -156,7 +157,7 @@ knows_kept f r n x =
     by true e = ap (in_table n.shared.globals) (own_name f x e)
     by false e = in_table_kept f r n.locals x
 
-variable_kept : (f : List ℕ → List ℕ) → IsRenaming f → (n : Known) (x : List ℕ)
+variable_kept : (f : List ℕ → List ℕ) → IsRenaming f → (n : KnownHere) (x : List ℕ)
     → variable (renamed_known f n) (renamed_name f x) ≡ variable n x
 variable_kept f r n x =
     ap (λ b. if b then over (renamed_name f x) else own (renamed_table f n.locals) (renamed_name f x))
@@ -186,17 +187,17 @@ giving_renamed f r t x =
     by true = refl
     by false = added_renamed f r t x
 
-given_renamed : (f : List ℕ → List ℕ) → IsRenaming f → (n : Known) (x : List ℕ)
+given_renamed : (f : List ℕ → List ℕ) → IsRenaming f → (n : KnownHere) (x : List ℕ)
     → given (renamed_known f n) (renamed_name f x) ≡ renamed_known f (given n x)
 given_renamed f r n x = ap (known_with n.shared) (giving_renamed f r n.locals x)
 
-given_all_renamed : (f : List ℕ → List ℕ) → IsRenaming f → (n : Known) (xs : List (List ℕ))
+given_all_renamed : (f : List ℕ → List ℕ) → IsRenaming f → (n : KnownHere) (xs : List (List ℕ))
     → given_all (renamed_known f n) (map (renamed_name f) xs) ≡ renamed_known f (given_all n xs)
 given_all_renamed f r n [] = refl
 given_all_renamed f r n (x ∷ xs) =
     ap (λ m. given_all m (map (renamed_name f) xs)) (given_renamed f r n x) ∙ given_all_renamed f r (given n x) xs
 
-reads_kept : (f : List ℕ → List ℕ) → IsRenaming f → (n : Known) (e : Expression)
+reads_kept : (f : List ℕ → List ℕ) → IsRenaming f → (n : KnownHere) (e : Expression)
     → reads_known (renamed_known f n) (renamed_expression (renamed_name f) e) ≡ reads_known n e
 reads_kept f r n (number v) = refl
 reads_kept f r n (var name) = knows_kept f r n name
@@ -207,7 +208,7 @@ reads_kept f r n (pair o a b) = λ i. reads_kept f r n a i && reads_kept f r n b
 reads_kept f r n (pick c a b) = λ i. reads_kept f r n c i && reads_kept f r n a i && reads_kept f r n b i
 reads_kept f r n (apply g a) = reads_kept f r n a
 
-expression_kept : (f : List ℕ → List ℕ) → IsRenaming f → (n : Known) (e : Expression)
+expression_kept : (f : List ℕ → List ℕ) → IsRenaming f → (n : KnownHere) (e : Expression)
     → typed_expression (renamed_known f n) (renamed_expression (renamed_name f) e) ≡ typed_expression n e
 expression_kept f r n e =
     expression_renamed (rates f r) (variable (renamed_known f n)) e
@@ -238,12 +239,12 @@ text_kept f [] = refl
 text_kept f (value e ∷ args) = text_kept f args
 text_kept f (text name ∷ args) = refl
 
-argument_known_kept : (f : List ℕ → List ℕ) → IsRenaming f → (n : Known) (a : Argument)
+argument_known_kept : (f : List ℕ → List ℕ) → IsRenaming f → (n : KnownHere) (a : Argument)
     → argument_known (renamed_known f n) (renamed_argument (renamed_name f) a) ≡ argument_known n a
 argument_known_kept f r n (value e) = reads_kept f r n e
 argument_known_kept f r n (text name) = refl
 
-all_known_kept : (f : List ℕ → List ℕ) → IsRenaming f → (n : Known) (args : List Argument)
+all_known_kept : (f : List ℕ → List ℕ) → IsRenaming f → (n : KnownHere) (args : List Argument)
     → all_known (renamed_known f n) (map (renamed_argument (renamed_name f)) args) ≡ all_known n args
 all_known_kept f r n [] = refl
 all_known_kept f r n (a ∷ args) = λ i. argument_known_kept f r n a i && all_known_kept f r n args i
@@ -256,7 +257,7 @@ counts_kept f row results args =
     && takes_count row (length-map args (renamed_argument (renamed_name f)) i)
 
 row_fault_kept : (f : List ℕ → List ℕ) → IsRenaming f
-    → (s : Setting) (n : Known) (row : Row) (results : List (List ℕ)) (args : List Argument)
+    → (s : Setting) (n : KnownHere) (row : Row) (results : List (List ℕ)) (args : List Argument)
     → row_fault s (renamed_known f n) row (map (renamed_name f) results)
     (map (renamed_argument (renamed_name f)) args) ≡ row_fault s n
     row results args
@@ -269,7 +270,7 @@ row_fault_kept f r s n row results args = λ i.
     else (if wide_kept f s row.shape args i then Some orc.OutCount else None))))
 
 call_fault_kept : (f : List ℕ → List ℕ) → IsRenaming f
-    → (s : Setting) (n : Known) (c : Callee) (results : List (List ℕ)) (args : List Argument)
+    → (s : Setting) (n : KnownHere) (c : Callee) (results : List (List ℕ)) (args : List Argument)
     → call_fault s (renamed_known f n) c (map (renamed_name f) results)
     (map (renamed_argument (renamed_name f)) args) ≡ call_fault s n
     c results args
@@ -277,7 +278,7 @@ call_fault_kept f r s n (callee.Name name) results args = refl
 call_fault_kept f r s n (callee.Opcode o) results args = row_fault_kept f r s n (row_of o) results args
 
 row_known_renamed : (f : List ℕ → List ℕ) → IsRenaming f
-    → (n : Known) (row : Row) (results : List (List ℕ)) (args : List Argument)
+    → (n : KnownHere) (row : Row) (results : List (List ℕ)) (args : List Argument)
     → row_known (renamed_known f n) row (map (renamed_name f) results)
     (map (renamed_argument (renamed_name f)) args) ≡ renamed_known f
     (row_known n row results args)
@@ -286,7 +287,7 @@ row_known_renamed f r n row results args =
     (given_all_renamed f r n results i).locals
 
 call_known_renamed : (f : List ℕ → List ℕ) → IsRenaming f
-    → (n : Known) (c : Callee) (results : List (List ℕ)) (args : List Argument)
+    → (n : KnownHere) (c : Callee) (results : List (List ℕ)) (args : List Argument)
     → call_known (renamed_known f n) c (map (renamed_name f) results)
     (map (renamed_argument (renamed_name f)) args) ≡ renamed_known f
     (call_known n c results args)
@@ -294,7 +295,7 @@ call_known_renamed f r n (callee.Name name) results args = given_all_renamed f r
 call_known_renamed f r n (callee.Opcode o) results args = row_known_renamed f r n (row_of o) results args
 
 call_kept : (f : List ℕ → List ℕ) → IsRenaming f
-    → (line : ℕ) (n : Known) (c : Callee) (results : List (List ℕ)) (args : List Argument)
+    → (line : ℕ) (n : KnownHere) (c : Callee) (results : List (List ℕ)) (args : List Argument)
     → typed_call line (renamed_known f n) c (map (renamed_name f) results)
     (map (renamed_argument (renamed_name f)) args) ≡ typed_call
     line n c results args
@@ -303,19 +304,19 @@ call_kept f r line n c results args =
     ∙ λ i. call_by line n.shared (λ x. variable_kept f r n x i) c results args
 
 mutual
-  pub known_renamed : (f : List ℕ → List ℕ) → IsRenaming f → (n : Known) (x : Statement)
+  pub known_renamed : (f : List ℕ → List ℕ) → IsRenaming f → (n : KnownHere) (x : Statement)
       → known (renamed_known f n) (renamed f x) ≡ renamed_known f (known n x)
   known_renamed f r n (set line name e) = given_renamed f r n name
   known_renamed f r n (call line results c args) = call_known_renamed f r n c results args
   known_renamed f r n (choose line list) = known_arms_renamed f r n list
 
-  pub known_block_renamed : (f : List ℕ → List ℕ) → IsRenaming f → (n : Known) (b : Block)
+  pub known_block_renamed : (f : List ℕ → List ℕ) → IsRenaming f → (n : KnownHere) (b : Block)
       → known_block (renamed_known f n) (renamed_block f b) ≡ renamed_known f (known_block n b)
   known_block_renamed f r n no_stmt = refl
   known_block_renamed f r n (andthen x rest) =
       ap (λ m. known_block m (renamed_block f rest)) (known_renamed f r n x) ∙ known_block_renamed f r (known n x) rest
 
-  known_arms_renamed : (f : List ℕ → List ℕ) → IsRenaming f → (n : Known) (list : Arms)
+  known_arms_renamed : (f : List ℕ → List ℕ) → IsRenaming f → (n : KnownHere) (list : Arms)
       → known_arms (renamed_known f n) (renamed_arms f list) ≡ renamed_known f (known_arms n list)
   known_arms_renamed f r n (otherwise b) = known_block_renamed f r n b
   known_arms_renamed f r n (arm c b rest) =
@@ -327,7 +328,7 @@ all_init_kept f r (otherwise b) = refl
 all_init_kept f r (arm c b rest) = λ i. is_init (rate_of_kept (rates f r) c i) && all_init_kept f r rest i
 
 mutual
-  pub statement_kept : (f : List ℕ → List ℕ) → IsRenaming f → (n : Known) (x : Statement)
+  pub statement_kept : (f : List ℕ → List ℕ) → IsRenaming f → (n : KnownHere) (x : Statement)
       → typed_statement (renamed_known f n) (renamed f x) ≡ typed_statement n x
   statement_kept f r n (set line name e) =
       λ i. typed.set line (rate_kept f r name i) (variable_kept f r n name i) (expression_kept f r n e i)
@@ -335,7 +336,7 @@ mutual
   statement_kept f r n (choose line list) =
       λ i. typed.choose line (if all_init_kept f r list i then rate.Init else rate.Control) (arms_kept f r n list i)
 
-  pub block_kept : (f : List ℕ → List ℕ) → IsRenaming f → (n : Known) (b : Block)
+  pub block_kept : (f : List ℕ → List ℕ) → IsRenaming f → (n : KnownHere) (b : Block)
       → typed_block (renamed_known f n) (renamed_block f b) ≡ typed_block n b
   block_kept f r n no_stmt = refl
   block_kept f r n (andthen x rest) =
@@ -343,7 +344,7 @@ mutual
       (known_renamed f r n x)
       ∙ λ i. typed.andthen (statement_kept f r n x i) (block_kept f r (known n x) rest i)
 
-  arms_kept : (f : List ℕ → List ℕ) → IsRenaming f → (n : Known) (list : Arms)
+  arms_kept : (f : List ℕ → List ℕ) → IsRenaming f → (n : KnownHere) (list : Arms)
       → typed_arms (renamed_known f n) (renamed_arms f list) ≡ typed_arms n list
   arms_kept f r n (otherwise b) = ap typed.otherwise (block_kept f r n b)
   arms_kept f r n (arm c b rest) =
@@ -352,7 +353,7 @@ mutual
       (typed_arms m (renamed_arms f rest))) (known_block_renamed f r n b)
       ∙ λ i. typed.arm (expression_kept f r n c i) (block_kept f r n b i) (arms_kept f r (known_block n b) rest i)
 
-set_fault_kept : (f : List ℕ → List ℕ) → IsRenaming f → (s : Setting) (n : Known) (x : List ℕ) (e : Expression)
+set_fault_kept : (f : List ℕ → List ℕ) → IsRenaming f → (s : Setting) (n : KnownHere) (x : List ℕ) (e : Expression)
     → set_fault s (renamed_known f n) (renamed_name f x) (renamed_expression (renamed_name f) e) ≡ set_fault s n x e
 set_fault_kept f r s n x e = λ i.
     if not (reads_kept f r n e i) then Some orc.Undefined
@@ -360,7 +361,7 @@ set_fault_kept f r s n x e = λ i.
     && (s.inside || is_init (rate_kept f r x i)))
     then Some orc.RateMismatch else None)
 
-condition_fault_kept : (f : List ℕ → List ℕ) → IsRenaming f → (s : Setting) (n : Known) (e : Expression)
+condition_fault_kept : (f : List ℕ → List ℕ) → IsRenaming f → (s : Setting) (n : KnownHere) (e : Expression)
     → condition_fault s (renamed_known f n) (renamed_expression (renamed_name f) e) ≡ condition_fault s n e
 condition_fault_kept f r s n e = λ i.
     if not (reads_kept f r n e i) then Some orc.Undefined
@@ -369,13 +370,13 @@ condition_fault_kept f r s n e = λ i.
     else None)
 
 mutual
-  pub fault_kept : (f : List ℕ → List ℕ) → IsRenaming f → (s : Setting) (n : Known) (x : Statement)
+  pub fault_kept : (f : List ℕ → List ℕ) → IsRenaming f → (s : Setting) (n : KnownHere) (x : Statement)
       → fault s (renamed_known f n) (renamed f x) ≡ fault s n x
   fault_kept f r s n (set line name e) = ap (at line) (set_fault_kept f r s n name e)
   fault_kept f r s n (call line results c args) = ap (at line) (call_fault_kept f r s n c results args)
   fault_kept f r s n (choose line list) = arms_fault_kept f r s n line list
 
-  pub block_fault_kept : (f : List ℕ → List ℕ) → IsRenaming f → (s : Setting) (n : Known) (b : Block)
+  pub block_fault_kept : (f : List ℕ → List ℕ) → IsRenaming f → (s : Setting) (n : KnownHere) (b : Block)
       → block_fault s (renamed_known f n) (renamed_block f b) ≡ block_fault s n b
   block_fault_kept f r s n no_stmt = refl
   block_fault_kept f r s n (andthen x rest) =
@@ -383,7 +384,7 @@ mutual
       (known_renamed f r n x)
       ∙ λ i. option_or (fault_kept f r s n x i) (block_fault_kept f r s (known n x) rest i)
 
-  arms_fault_kept : (f : List ℕ → List ℕ) → IsRenaming f → (s : Setting) (n : Known) (line : ℕ) (list : Arms)
+  arms_fault_kept : (f : List ℕ → List ℕ) → IsRenaming f → (s : Setting) (n : KnownHere) (line : ℕ) (list : Arms)
       → arms_fault s (renamed_known f n) line (renamed_arms f list) ≡ arms_fault s n line list
   arms_fault_kept f r s n line (otherwise b) = block_fault_kept f r s n b
   arms_fault_kept f r s n line (arm c b rest) =

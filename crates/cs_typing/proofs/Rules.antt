@@ -10,9 +10,9 @@ use Rattle.cs_typed.specs.Places.{stands_outside}
 use Rattle.cs_typed.specs.declared.setting.Setting.{Setting}
 use Rattle.cs_typing.specs.Calls.{all_fit, bound_of, may_result, is_even, channel_use, text_of, is_too_wide, all_known}
 use Rattle.cs_typing.specs.Calls.{rates_agree, counts_agree, row_fault}
-use Rattle.cs_typing.specs.Known.{Known, clashes}
+use Rattle.cs_typing.specs.Known.{KnownHere, clashes}
 
-pub record KeepsRules (s : Setting) (n : Known) (row : Row) (results : List (List ℕ)) (args : List Argument)
+pub record KeepsRules (s : Setting) (n : KnownHere) (row : Row) (results : List (List ℕ)) (args : List Argument)
     : Type 0 where
   pub results_count : (length results == result_count row) ≡ true
   pub args_count : takes_count row (length args) ≡ true
@@ -35,7 +35,7 @@ none_broken true true false d e h = absurd (cc h)
 none_broken true false c d e h = absurd (cc h)
 none_broken false b c d e h = absurd (cc h)
 
-pub keeps_rules : (s : Setting) (n : Known) (row : Row) (results : List (List ℕ)) (args : List Argument)
+pub keeps_rules : (s : Setting) (n : KnownHere) (row : Row) (results : List (List ℕ)) (args : List Argument)
     → row_fault s n row results args ≡ None → KeepsRules s n row results args
 keeps_rules s n row results args h =
     let role = channel_use row.shape results args in

@@ -21,7 +21,7 @@ use Rattle.cs_typed.specs.Calls.{rate_without_result, rate_of_call}
 use Rattle.cs_typed.specs.Places.{stands_outside}
 use Rattle.cs_typed.specs.declared.setting.Setting.{Setting}
 use Rattle.cs_typing.specs.Expressions.{is_value, rate_of, reads_known, Variables, expression_by}
-use Rattle.cs_typing.specs.Known.{Known, Shared, known_with, given_all, use_channel, clashes, channel_of, variable}
+use Rattle.cs_typing.specs.Known.{KnownHere, Shared, known_with, given_all, use_channel, clashes, channel_of, variable}
 use Rattle.cs_typed.specs.TypedTree as typed
 use Rattle.cs_typing.specs.declared.known.Channel.{Channel}
 use Rattle.cs_typing.specs.declared.known.Channel.TheVariants as channel
@@ -82,11 +82,11 @@ abbrev pub is_too_wide : Setting → Shape → List Argument → Bool
 is_too_wide s sh args = exceeds s sh args
 
 -- an argument reads what is known
-abbrev pub argument_known : Known → Argument → Bool
+abbrev pub argument_known : KnownHere → Argument → Bool
 argument_known n (value e) = reads_known n e
 argument_known n (text name) = true
 
-abbrev pub all_known : Known → List Argument → Bool
+abbrev pub all_known : KnownHere → List Argument → Bool
 all_known n args = list_all (argument_known n) args
 
 -- arguments and results have the rates that the row allows, and the opcode may stand here
@@ -102,7 +102,7 @@ abbrev pub counts_agree : Row → List (List ℕ) → List Argument → Bool
 counts_agree row results args = length results == result_count row && takes_count row (length args)
 
 -- the first rule that a call of an opcode breaks
-abbrev pub row_fault : Setting → Known → Row → List (List ℕ) → List Argument → Option OrcKind
+abbrev pub row_fault : Setting → KnownHere → Row → List (List ℕ) → List Argument → Option OrcKind
 row_fault s n row results args =
     if not (counts_agree row results args) then Some orc.ArgCount
     else (if not (all_known n args) then Some orc.Undefined
@@ -111,16 +111,16 @@ row_fault s n row results args =
     else (if is_too_wide s row.shape args then Some orc.OutCount else None))))
 
 -- the first rule that a call breaks: a name that is called is no opcode
-abbrev pub call_fault : Setting → Known → Callee → List (List ℕ) → List Argument → Option OrcKind
+abbrev pub call_fault : Setting → KnownHere → Callee → List (List ℕ) → List Argument → Option OrcKind
 call_fault s n (callee.Opcode o) results args = row_fault s n (row_of o) results args
 call_fault s n (callee.Name name) results args = Some orc.UnknownOpcode
 
 -- what is known after a call
-abbrev pub row_known : Known → Row → List (List ℕ) → List Argument → Known
+abbrev pub row_known : KnownHere → Row → List (List ℕ) → List Argument → KnownHere
 row_known n row results args =
     known_with (use_channel n.shared (channel_use row.shape results args) (text_of args)) (given_all n results).locals
 
-abbrev pub call_known : Known → Callee → List (List ℕ) → List Argument → Known
+abbrev pub call_known : KnownHere → Callee → List (List ℕ) → List Argument → KnownHere
 call_known n (callee.Opcode o) results args = row_known n (row_of o) results args
 call_known n (callee.Name name) results args = given_all n results
 
@@ -158,14 +158,14 @@ call_by line g v (callee.Opcode o) results args = row_by line g v o (row_of o) r
 call_by line g v (callee.Name name) results args = typed.choose line rate.Init (typed.otherwise typed.no_stmt)
 
 -- the typed forms, by what is known
-abbrev pub typed_argument : Known → Option Channel → Argument → List typed.Argument
+abbrev pub typed_argument : KnownHere → Option Channel → Argument → List typed.Argument
 typed_argument n role a = argument_by n.shared (variable n) role a
 
-abbrev pub typed_arguments : Known → Option Channel → List Argument → List typed.Argument
+abbrev pub typed_arguments : KnownHere → Option Channel → List Argument → List typed.Argument
 typed_arguments n role args = arguments_by n.shared (variable n) role args
 
-abbrev pub typed_row : ℕ → Known → Opcode → Row → List (List ℕ) → List Argument → typed.Statement
+abbrev pub typed_row : ℕ → KnownHere → Opcode → Row → List (List ℕ) → List Argument → typed.Statement
 typed_row line n opcode row results args = row_by line n.shared (variable n) opcode row results args
 
-abbrev pub typed_call : ℕ → Known → Callee → List (List ℕ) → List Argument → typed.Statement
+abbrev pub typed_call : ℕ → KnownHere → Callee → List (List ℕ) → List Argument → typed.Statement
 typed_call line n c results args = call_by line n.shared (variable n) c results args

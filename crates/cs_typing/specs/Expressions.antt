@@ -8,7 +8,7 @@ use Rattle.cs_words.specs.Signs.{is_arithmetic, is_logic}
 use Rattle.cs_words.specs.declared.word.Func.{Func}
 use Rattle.cs_words.specs.declared.word.Func.TheVariants as func
 use Rattle.cs_grammar.specs.Tree.{Expression, number, var, field, head, neg, pair, pick, apply}
-use Rattle.cs_typing.specs.Known.{Known, knows, variable}
+use Rattle.cs_typing.specs.Known.{KnownHere, knows, variable}
 use Rattle.cs_typed.specs.TypedTree as typed
 use Rattle.cs_typed.specs.declared.tree.Var.{Var}
 
@@ -55,7 +55,7 @@ abbrev mutual
   is_condition _ = false
 
 -- every variable that is read is known
-abbrev pub reads_known : Known → Expression → Bool
+abbrev pub reads_known : KnownHere → Expression → Bool
 reads_known n (number v) = true
 reads_known n (var name) = knows n name
 reads_known n (field k) = true
@@ -82,5 +82,5 @@ expression_by v (pick c a b) =
 expression_by v (apply f a) = typed.apply (rate_of (apply f a)) f (expression_by v a)
 
 -- the typed form, by the variables that are known
-abbrev pub typed_expression : Known → Expression → typed.Expression
+abbrev pub typed_expression : KnownHere → Expression → typed.Expression
 typed_expression n e = expression_by (variable n) e

@@ -52,29 +52,29 @@ pub record Shared : Type 0 where
 
 -- what is known at a place of the text: what all bodies know, and the local variables that a statement of the body
 -- before gives
-pub record Known : Type 0 where
+pub record KnownHere : Type 0 where
   pub shared : Shared
   pub locals : RateNames
 
-abbrev pub known_with : Shared → RateNames → Known
+abbrev pub known_with : Shared → RateNames → KnownHere
 known_with shared locals = record { shared = shared; locals = locals }
 
 -- what is known before the first statement, where these are the global variables
-abbrev pub first_with : RateNames → Known
+abbrev pub first_with : RateNames → KnownHere
 first_with globals = known_with (record { globals = globals; control = []; sound = [] }) no_names
 
 -- a variable may be read
-abbrev pub knows : Known → List ℕ → Bool
+abbrev pub knows : KnownHere → List ℕ → Bool
 knows n name = if is_global name then in_table n.shared.globals name else in_table n.locals name
 
 -- the local variables after a variable was given
 abbrev pub after_giving : RateNames → List ℕ → RateNames
 after_giving locals name = if is_global name then locals else added locals name
 
-abbrev pub given : Known → List ℕ → Known
+abbrev pub given : KnownHere → List ℕ → KnownHere
 given n name = known_with n.shared (after_giving n.locals name)
 
-abbrev pub given_all : Known → List (List ℕ) → Known
+abbrev pub given_all : KnownHere → List (List ℕ) → KnownHere
 given_all n [] = n
 given_all n (name ∷ names) = given_all (given n name) names
 
@@ -87,7 +87,7 @@ abbrev pub use_channel : Shared → Option Channel → List ℕ → Shared
 use_channel s None name = s
 use_channel s (Some kind) name = used s kind name
 
-abbrev pub with_channel : Known → Option Channel → List ℕ → Known
+abbrev pub with_channel : KnownHere → Option Channel → List ℕ → KnownHere
 with_channel n role name = known_with (use_channel n.shared role name) n.locals
 
 -- a channel was used before as one of the other kind
@@ -103,7 +103,7 @@ global rate.Control k = res.Gk k
 global rate.Audio k = res.Ga k
 
 -- the variable of a name: a new name has the next number
-abbrev pub variable : Known → List ℕ → Var
+abbrev pub variable : KnownHere → List ℕ → Var
 variable n name =
     if is_global name then var.Global (global (name_rate name) (place_in n.shared.globals name))
     else var.Local (name_rate name) (place_in n.locals name)

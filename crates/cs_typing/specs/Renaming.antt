@@ -3,7 +3,7 @@ use Rattle.std.specs.Prelude.{ℕ, false, List, map, ◌≡◌, if◌then◌else
 use Rattle.cs_words.specs.Names.{name_rate, is_global}
 use Rattle.cs_grammar.specs.Renaming.{renamed_expression, renamed_argument}
 use Rattle.cs_grammar.specs.Tree.{Statement, set, call, choose, Block, no_stmt, andthen, Arms, otherwise, arm}
-use Rattle.cs_typing.specs.Known.{RateNames, Known, known_with}
+use Rattle.cs_typing.specs.Known.{RateNames, KnownHere, known_with}
 
 -- Other names for local variables: of the same rates, local too, and never one for two.
 pub record IsRenaming (f : List ℕ → List ℕ) : Type 0 where
@@ -40,5 +40,5 @@ renamed_table f t = record {
 }
 
 -- what is known, with other names of local variables
-abbrev pub renamed_known : (List ℕ → List ℕ) → Known → Known
+abbrev pub renamed_known : (List ℕ → List ℕ) → KnownHere → KnownHere
 renamed_known f n = known_with n.shared (renamed_table f n.locals)

@@ -13,7 +13,7 @@ use Rattle.cs_typed.specs.Calls.{rate_of_choice}
 use Rattle.cs_typed.specs.declared.setting.Setting.{Setting}
 use Rattle.cs_typing.specs.Calls.{call_fault, call_known, typed_call}
 use Rattle.cs_typing.specs.Expressions.{is_value, is_condition, rate_of, reads_known, typed_expression}
-use Rattle.cs_typing.specs.Known.{Known, given, variable}
+use Rattle.cs_typing.specs.Known.{KnownHere, given, variable}
 use Rattle.cs_typing.specs.Settings.{at}
 use Rattle.cs_typed.specs.TypedTree as typed
 
@@ -22,45 +22,45 @@ abbrev pub may_set : Setting → List ℕ → Expression → Bool
 may_set s name e = is_value e && within (rate_of e) (name_rate name) && (s.inside || is_init (name_rate name))
 
 -- the first rule that an assignment breaks
-abbrev pub set_fault : Setting → Known → List ℕ → Expression → Option OrcKind
+abbrev pub set_fault : Setting → KnownHere → List ℕ → Expression → Option OrcKind
 set_fault s n name e =
     if not (reads_known n e) then Some orc.Undefined
     else (if not (may_set s name e) then Some orc.RateMismatch else None)
 
 -- the first rule that the condition of an `if` breaks
-abbrev pub condition_fault : Setting → Known → Expression → Option OrcKind
+abbrev pub condition_fault : Setting → KnownHere → Expression → Option OrcKind
 condition_fault s n e =
     if not (reads_known n e) then Some orc.Undefined
     else (if not (is_condition e && (s.inside || is_init (rate_of e))) then Some orc.RateMismatch else None)
 
 -- what is known after statements; an `if` gives what any of its arms gives
 abbrev mutual
-  pub known : Known → Statement → Known
+  pub known : KnownHere → Statement → KnownHere
   known n (set line name e) = given n name
   known n (call line results callee args) = call_known n callee results args
   known n (choose line list) = known_arms n list
 
-  pub known_block : Known → Block → Known
+  pub known_block : KnownHere → Block → KnownHere
   known_block n no_stmt = n
   known_block n (andthen x rest) = known_block (known n x) rest
 
-  pub known_arms : Known → Arms → Known
+  pub known_arms : KnownHere → Arms → KnownHere
   known_arms n (otherwise b) = known_block n b
   known_arms n (arm c b rest) = known_arms (known_block n b) rest
 
 -- The first rule that statements break, in the order of the text. The condition of an arm is judged at its place, after
 -- the bodies of the arms before it, and its fault has the line of the `if`.
 abbrev mutual
-  pub fault : Setting → Known → Statement → Option OrcFault
+  pub fault : Setting → KnownHere → Statement → Option OrcFault
   fault s n (set line name e) = at line (set_fault s n name e)
   fault s n (call line results callee args) = at line (call_fault s n callee results args)
   fault s n (choose line list) = arms_fault s n line list
 
-  pub block_fault : Setting → Known → Block → Option OrcFault
+  pub block_fault : Setting → KnownHere → Block → Option OrcFault
   block_fault s n no_stmt = None
   block_fault s n (andthen x rest) = option_or (fault s n x) (block_fault s (known n x) rest)
 
-  pub arms_fault : Setting → Known → ℕ → Arms → Option OrcFault
+  pub arms_fault : Setting → KnownHere → ℕ → Arms → Option OrcFault
   arms_fault s n line (otherwise b) = block_fault s n b
   arms_fault s n line (arm c b rest) =
       option_or (at line (condition_fault s n c))
@@ -77,15 +77,15 @@ choice_rate list = rate_of_choice (all_init list)
 
 -- the typed form of statements
 abbrev mutual
-  pub typed_statement : Known → Statement → typed.Statement
+  pub typed_statement : KnownHere → Statement → typed.Statement
   typed_statement n (set line name e) = typed.set line (name_rate name) (variable n name) (typed_expression n e)
   typed_statement n (call line results callee args) = typed_call line n callee results args
   typed_statement n (choose line list) = typed.choose line (choice_rate list) (typed_arms n list)
 
-  pub typed_block : Known → Block → typed.Block
+  pub typed_block : KnownHere → Block → typed.Block
   typed_block n no_stmt = typed.no_stmt
   typed_block n (andthen x rest) = typed.andthen (typed_statement n x) (typed_block (known n x) rest)
 
-  pub typed_arms : Known → Arms → typed.Arms
+  pub typed_arms : KnownHere → Arms → typed.Arms
   typed_arms n (otherwise b) = typed.otherwise (typed_block n b)
   typed_arms n (arm c b rest) = typed.arm (typed_expression n c) (typed_block n b) (typed_arms (known_block n b) rest)

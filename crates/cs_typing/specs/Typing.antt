@@ -6,7 +6,7 @@ use Rattle.cs_words.specs.Names.{is_global}
 use Rattle.cs_grammar.specs.Tree.{Statement, set, call, choose, Block, no_stmt, andthen, Arms, otherwise, arm}
 use Rattle.cs_grammar.specs.Tree.{Instrument, Orchestra}
 use Rattle.cs_typed.specs.Places.{outside, inside}
-use Rattle.cs_typing.specs.Known.{RateNames, no_names, counts_of, added, Shared, Known, known_with, first_with}
+use Rattle.cs_typing.specs.Known.{RateNames, no_names, counts_of, added, Shared, KnownHere, known_with, first_with}
 use Rattle.cs_typing.specs.Settings.{header, settings_fault, zaks_of_block, zak_spaces}
 use Rattle.cs_typing.specs.Statements.{block_fault, known_block, typed_block}
 use Rattle.cs_typed.specs.TypedTree as typed
@@ -66,30 +66,30 @@ items outside [] = alone outside ∷ []
 items outside (i ∷ rest) = alone (before i.line outside) ∷ body i ∷ items (from i.line outside) rest
 
 -- An instrument has its own local variables. Channels go on from part to part.
-abbrev pub entered : Known → Known
+abbrev pub entered : KnownHere → KnownHere
 entered n = known_with n.shared no_names
 
-abbrev pub left : Known → Known → Known
+abbrev pub left : KnownHere → KnownHere → KnownHere
 left n m = known_with m.shared n.locals
 
-abbrev pub known_item : Known → Item → Known
+abbrev pub known_item : KnownHere → Item → KnownHere
 known_item n (alone b) = known_block n b
 known_item n (body i) = left n (known_block (entered n) i.body)
 
-abbrev pub known_items : Known → List Item → Known
+abbrev pub known_items : KnownHere → List Item → KnownHere
 known_items n [] = n
 known_items n (x ∷ rest) = known_items (known_item n x) rest
 
-abbrev pub item_fault : ℕ → Known → Item → Option OrcFault
+abbrev pub item_fault : ℕ → KnownHere → Item → Option OrcFault
 item_fault channels n (alone b) = block_fault (outside channels) n b
 item_fault channels n (body i) = block_fault (inside channels) (entered n) i.body
 
-abbrev pub items_fault : ℕ → Known → List Item → Option OrcFault
+abbrev pub items_fault : ℕ → KnownHere → List Item → Option OrcFault
 items_fault channels n [] = None
 items_fault channels n (x ∷ rest) = option_or (item_fault channels n x) (items_fault channels (known_item n x) rest)
 
 -- what is known at the beginning: every global variable
-abbrev pub first_known : Orchestra → Known
+abbrev pub first_known : Orchestra → KnownHere
 first_known o = first_with (all_globals o)
 
 -- the first rule of rates, names and types that an orchestra breaks
@@ -99,12 +99,12 @@ type_fault o =
     (items_fault (header o.head).nchnls (first_known o) (items o.zero o.instrs))
 
 -- the typed statements outside instruments, all together
-abbrev pub typed_outside : Known → List Item → typed.Block
+abbrev pub typed_outside : KnownHere → List Item → typed.Block
 typed_outside n [] = typed.no_stmt
 typed_outside n (alone b ∷ rest) = typed.then_block (typed_block n b) (typed_outside (known_block n b) rest)
 typed_outside n (body i ∷ rest) = typed_outside (known_item n (body i)) rest
 
-abbrev pub typed_instrument : Known → Instrument → typed.Instrument
+abbrev pub typed_instrument : KnownHere → Instrument → typed.Instrument
 typed_instrument n i = record {
   line = i.line;
   numbers = i.numbers;
@@ -113,15 +113,14 @@ typed_instrument n i = record {
 }
 
 -- the typed instruments
-abbrev pub typed_instruments : Known → List Item → List typed.Instrument
+abbrev pub typed_instruments : KnownHere → List Item → List typed.Instrument
 typed_instruments n [] = []
 typed_instruments n (alone b ∷ rest) = typed_instruments (known_block n b) rest
 typed_instruments n (body i ∷ rest) = typed_instrument n i ∷ typed_instruments (known_item n (body i)) rest
 
 -- what notes share, by name
 abbrev pub shared_names : Shared → typed.SharedNames
-shared_names s =
-    record { gi = s.globals.init; gk = s.globals.control; ga = s.globals.audio; control = s.control; sound = s.sound }
+shared_names s = record { variables = s.globals; control = s.control; sound = s.sound }
 
 -- the typed form of an orchestra
 abbrev pub typed_of : Orchestra → typed.Orchestra

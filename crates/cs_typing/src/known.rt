@@ -8,7 +8,7 @@ ghost use Rattle.cs_typing.specs.Typing.{entered, first_known, shared_names};
 ghost use Rattle.cs_typed.specs.TypedTree as typed;
 
 use crate::globals::add_globals;
-use cs_base::{OutOfMemory, PerRate, Rate, Res};
+use cs_base::{Names, OutOfMemory, PerRate, Rate, Res};
 use cs_grammar::Orc;
 use cs_typed::{Globals, Var};
 use cs_words::{NameSet, is_global, name_rate};
@@ -97,6 +97,20 @@ impl<'t> NamesByRate<'t> {
             audio: self.audio.len(),
         }
     }
+
+    // All names, copied.
+    fn copied(&self, alloc: Global) -> Result<PerRate<Names>, OutOfMemory>
+        ensures { IfOk result (λ made. made ≡ self.now) }
+    {
+        let init = self.init.to_names(alloc)?;
+        let control = self.control.to_names(alloc)?;
+        let audio = self.audio.to_names(alloc)?;
+        Ok(PerRate {
+            init,
+            control,
+            audio,
+        })
+    }
 }
 
 /// What all bodies of an orchestra know alike: global variables, and the channels that were used before.
@@ -152,15 +166,11 @@ impl<'t> Shared<'t> {
     fn copied(&self, alloc: Global) -> Result<Globals, OutOfMemory>
         ensures { IfOk result (λ made. typed.shared_names made ≡ shared_names self.now) }
     {
-        let gi = self.globals.init.to_names(alloc)?;
-        let gk = self.globals.control.to_names(alloc)?;
-        let ga = self.globals.audio.to_names(alloc)?;
+        let variables = self.globals.copied(alloc)?;
         let control = self.control.to_names(alloc)?;
         let sound = self.sound.to_names(alloc)?;
         Ok(Globals {
-            gi,
-            gk,
-            ga,
+            variables,
             control,
             sound,
         })
@@ -176,9 +186,9 @@ pub struct KnownNames<'t> {
 }
 
 impl<'t> Model for KnownNames<'t> {
-    ghost use Rattle.cs_typing.specs.Known.{Known};
+    ghost use Rattle.cs_typing.specs.Known.{KnownHere};
 
-    ghost Value = { Known };
+    ghost Value = { KnownHere };
 
     ghost view = { λ n. record { shared = n.shared; locals = n.locals } };
 }

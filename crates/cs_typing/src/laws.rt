@@ -4,7 +4,7 @@ ghost use Rattle.std.specs.Prelude.{ℕ, ◌≡◌, List, None, eqb};
 ghost use Rattle.cs_grammar.specs.Tree.{Orchestra, Statement, Block};
 ghost use Rattle.cs_grammar.specs.WellFormed.{IsWellFormed};
 ghost use Rattle.cs_typed.specs.declared.setting.Setting.{Setting};
-ghost use Rattle.cs_typing.specs.Known.{Known};
+ghost use Rattle.cs_typing.specs.Known.{KnownHere};
 ghost use Rattle.cs_typing.specs.Renaming.{IsRenaming, renamed, renamed_block, renamed_known};
 ghost use Rattle.cs_typing.specs.Statements.{known, known_block, fault, block_fault, typed_statement, typed_block};
 ghost use Rattle.cs_typing.specs.Typing.{type_fault, typed_of};
@@ -34,16 +34,16 @@ pub fn numbers_stand_once()
 /// two, have the same typed form and the same fault in what is known by those names, and afterwards the same is known
 /// by those names.
 pub fn local_names_dont_matter()
-    ensures typed { (f : List ℕ → List ℕ) → IsRenaming f → (n : Known) → (x : Statement) →
+    ensures typed { (f : List ℕ → List ℕ) → IsRenaming f → (n : KnownHere) → (x : Statement) →
         typed_statement (renamed_known f n) (renamed f x) ≡ typed_statement n x }
-    ensures typed_block { (f : List ℕ → List ℕ) → IsRenaming f → (n : Known) → (b : Block) →
+    ensures typed_block { (f : List ℕ → List ℕ) → IsRenaming f → (n : KnownHere) → (b : Block) →
         typed_block (renamed_known f n) (renamed_block f b) ≡ typed_block n b }
-    ensures known { (f : List ℕ → List ℕ) → IsRenaming f → (n : Known) → (x : Statement) →
+    ensures known { (f : List ℕ → List ℕ) → IsRenaming f → (n : KnownHere) → (x : Statement) →
         known (renamed_known f n) (renamed f x) ≡ renamed_known f (known n x) }
-    ensures known_block { (f : List ℕ → List ℕ) → IsRenaming f → (n : Known) → (b : Block) →
+    ensures known_block { (f : List ℕ → List ℕ) → IsRenaming f → (n : KnownHere) → (b : Block) →
         known_block (renamed_known f n) (renamed_block f b) ≡ renamed_known f (known_block n b) }
-    ensures fault { (f : List ℕ → List ℕ) → IsRenaming f → (s : Setting) → (n : Known) → (x : Statement) →
+    ensures fault { (f : List ℕ → List ℕ) → IsRenaming f → (s : Setting) → (n : KnownHere) → (x : Statement) →
         fault s (renamed_known f n) (renamed f x) ≡ fault s n x }
-    ensures block_fault { (f : List ℕ → List ℕ) → IsRenaming f → (s : Setting) → (n : Known) → (b : Block) →
+    ensures block_fault { (f : List ℕ → List ℕ) → IsRenaming f → (s : Setting) → (n : KnownHere) → (b : Block) →
         block_fault s (renamed_known f n) (renamed_block f b) ≡ block_fault s n b }
 {}

@@ -35,7 +35,7 @@ pub struct MadeArms {
 
 /// A part of the text that is expanded.
 #[derive(Clone, Copy)]
-pub struct Part<'l, 't> {
+pub struct ExpandedPart<'l, 't> {
     pub alloc: Global,
     pub library: &'l Library<'t>,
     /// The number of definitions in front of it.
@@ -96,7 +96,7 @@ fn give_all(
 
 // Adds the assignments of `xout` inside the frame of a call, and then those of its results at the caller's line.
 fn give_results(
-    part: &Part,
+    part: &ExpandedPart,
     made: &mut Made,
     definition: &Udo,
     frame: Owner,
@@ -129,7 +129,7 @@ fn give_results(
 
 // Adds a call of what isn't defined.
 fn add_other(
-    part: &Part,
+    part: &ExpandedPart,
     made: &mut Made,
     line: u32,
     results: &[Name],
@@ -160,7 +160,7 @@ fn arm_of(cond: Expr, body: Stmts) -> Arm
 }
 
 #[cycle(build)]
-fn add_stmt(part: &Part, made: &mut Made, s: &OrcStmt) -> Result<(), OutOfMemory>
+fn add_stmt(part: &ExpandedPart, made: &mut Made, s: &OrcStmt) -> Result<(), OutOfMemory>
     requires depth { total (counts (opcodes_in part.now) (tree.statement s.now)) < part.now.depth }
     requires room { made.old.next + total (counts (opcodes_in part.now) (tree.statement s.now)) < 2 ^ 32 }
     ensures { OnOk result (shown made.new
@@ -186,7 +186,7 @@ fn add_stmt(part: &Part, made: &mut Made, s: &OrcStmt) -> Result<(), OutOfMemory
 // Adds a call.
 #[cycle(build)]
 fn add_call(
-    part: &Part,
+    part: &ExpandedPart,
     made: &mut Made,
     line: u32,
     results: &[Name],
@@ -205,7 +205,7 @@ fn add_call(
         None => add_other(part, made, line, results, callee, args),
         Some(found) => {
             let frame = Owner::Frame(made.next);
-            let inner = Part {
+            let inner = ExpandedPart {
                 alloc: part.alloc,
                 library: part.library,
                 visible: found.place,
@@ -229,7 +229,7 @@ fn add_call(
 // Adds an `if`.
 #[cycle(build)]
 fn add_choice(
-    part: &Part,
+    part: &ExpandedPart,
     made: &mut Made,
     line: u32,
     list: &[Arm],
@@ -242,7 +242,7 @@ fn add_choice(
     ensures { OnOk result (shown made.new ≡ building (opcodes_in part.now) (owned part.now.owner) (shown made.old)
         (tree.choose line (tree.arms (tree.block els.now) list.now))) }
 {
-    let inner = Part {
+    let inner = ExpandedPart {
         alloc: part.alloc,
         library: part.library,
         visible: part.visible,
@@ -265,7 +265,7 @@ fn add_choice(
 
 // Adds statements.
 #[cycle(build)]
-pub fn add_block(part: &Part, made: &mut Made, stmts: &[OrcStmt]) -> Result<(), OutOfMemory>
+pub fn add_block(part: &ExpandedPart, made: &mut Made, stmts: &[OrcStmt]) -> Result<(), OutOfMemory>
     requires depth { total (counts_in (opcodes_in part.now) (tree.block stmts.now)) < part.now.depth }
     requires room { made.old.next + total (counts_in (opcodes_in part.now) (tree.block stmts.now)) < 2 ^ 32 }
     ensures { OnOk result (shown made.new
@@ -279,7 +279,7 @@ pub fn add_block(part: &Part, made: &mut Made, stmts: &[OrcStmt]) -> Result<(), 
 
 // Adds arms.
 #[cycle(build)]
-fn add_arms(part: &Part, made: &mut MadeArms, list: &[Arm]) -> Result<(), OutOfMemory>
+fn add_arms(part: &ExpandedPart, made: &mut MadeArms, list: &[Arm]) -> Result<(), OutOfMemory>
     requires depth { total (counts_in_arms (opcodes_in part.now) (tree.arms tree.no_stmt list.now)) < part.now.depth }
     requires room { made.old.next
         + total (counts_in_arms (opcodes_in part.now) (tree.arms tree.no_stmt list.now)) < 2 ^ 32 }
@@ -293,7 +293,7 @@ fn add_arms(part: &Part, made: &mut MadeArms, list: &[Arm]) -> Result<(), OutOfM
 
 // Adds an arm.
 #[cycle(build)]
-fn add_arm(part: &Part, made: &mut MadeArms, a: &Arm) -> Result<(), OutOfMemory>
+fn add_arm(part: &ExpandedPart, made: &mut MadeArms, a: &Arm) -> Result<(), OutOfMemory>
     requires depth { total (counts_in (opcodes_in part.now) (tree.block (out-Arm a.now).body.items)) < part.now.depth }
     requires room { made.old.next
         + total (counts_in (opcodes_in part.now) (tree.block (out-Arm a.now).body.items)) < 2 ^ 32 }

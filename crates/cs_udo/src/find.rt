@@ -6,7 +6,7 @@ ghost use Rattle.cs_grammar.specs.Tree as tree;
 ghost use Rattle.cs_grammar.specs.declared.tree.Callee.TheVariants as callee;
 ghost use Rattle.cs_udo.specs.inner.Library.{definitions_of, IsFound};
 
-use crate::library::{Found, Library};
+use crate::library::{FoundDefinition, Library};
 use cs_base::OutOfMemory;
 use cs_grammar::{Callee, Udo};
 use cs_words::NameSet;
@@ -26,7 +26,7 @@ impl<'t> Library<'t> {
     }
 
     /// The definition that is called, among the first `visible`; None where the callee is none of them.
-    pub fn find(&self, visible: usize, callee: &Callee) -> Option<Found<'t>>
+    pub fn find(&self, visible: usize, callee: &Callee) -> Option<FoundDefinition<'t>>
         ensures { IsFound (definitions_of self.now) visible callee.now result }
     {
         match callee {
@@ -36,12 +36,12 @@ impl<'t> Library<'t> {
     }
 
     // The definition of a name, among the first `visible`.
-    fn named(&self, visible: usize, name: &[u8]) -> Option<Found<'t>>
+    fn named(&self, visible: usize, name: &[u8]) -> Option<FoundDefinition<'t>>
         ensures { IsFound (definitions_of self.now) visible (callee.Name name.now) result }
     {
         let place = self.names.place(name);
         if place < visible.min(self.definitions.len()) {
-            Some(Found {
+            Some(FoundDefinition {
                 place,
                 definition: &self.definitions[place],
             })

@@ -14,7 +14,7 @@ pub struct Library<'t> {
 
 /// A definition, and how many there are in front of it.
 #[derive(Clone, Copy)]
-pub struct Found<'t> {
+pub struct FoundDefinition<'t> {
     pub place: usize,
     pub definition: &'t Udo,
 }

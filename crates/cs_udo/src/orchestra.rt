@@ -13,7 +13,7 @@ ghost use Rattle.cs_udo.specs.inner.Library.{definitions_of};
 ghost use Rattle.cs_udo.specs.inner.Whole.{AreWithin, with_instruments};
 ghost use Rattle.cs_udo.specs.Expanding.{expanding};
 
-use crate::build::{Made, Part, add_block};
+use crate::build::{ExpandedPart, Made, add_block};
 use crate::library::Library;
 use crate::owner::Owner;
 use crate::refuse::first_fault;
@@ -30,7 +30,7 @@ fn body_of(alloc: Global, library: &Library, i: &Instr) -> Result<Stmts, OutOfMe
         ≡ expanded_block (opcodes_before i.now.line (definitions_of library.now)) as_it_is 1
         (tree.block i.now.body.items)) }
 {
-    let part = Part {
+    let part = ExpandedPart {
         alloc,
         library,
         visible: library.before(i.line),

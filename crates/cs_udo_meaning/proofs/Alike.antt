@@ -28,7 +28,7 @@ use Rattle.cs_meaning.specs.Core.{Stmt, set, unit, zak, store, out, out_at, ask,
 use Rattle.cs_meaning.specs.Core.{otherwise, values_of, settled, moving, table_reach, place_reach, span_reach}
 use Rattle.cs_meaning.specs.Core.{unit_reach, zak_reach, plus, unit_call, store_call, zak_call, core_call}
 use Rattle.cs_meaning.specs.Initialising.{going, put_kept, keep, keep_all, started, sought, init_stmt}
-use Rattle.cs_meaning.specs.Notes.{Note, Path, Place, unit_past, moved_to, look, assign, part}
+use Rattle.cs_meaning.specs.Notes.{Note, Path, StatementPlace, unit_past, moved_to, look, assign, part}
 use Rattle.cs_meaning.specs.Notes.{value, values, first_value, given, done, sent, sent_at}
 use Rattle.cs_meaning.specs.Performing.{perf_stmt}
 use Rattle.cs_meaning.specs.When.{When, beginning, cycle}
@@ -368,7 +368,7 @@ abbrev pub Reads : When → Type 0 → Type 0
 Reads beginning A = Unit {0}
 Reads cycle A = A
 
-abbrev pub place : Path → ℕ → Place
+abbrev pub place : Path → ℕ → StatementPlace
 place p n = record { path = p; unit = n }
 
 -- what goes out is the same where what notes share has other numbers

@@ -1,9 +1,8 @@
 -- Expanded statements do what the statements do with frames.
-use Rattle.std.proofs.Common.{◌≡◌, ◌∙◌, ℕ, zero, suc, ◌+◌, ◌≤◌, ◌&&◌, Bool, true, false, if◌then◌else◌, List, [], ◌∷◌}
+use Rattle.std.proofs.Common.{◌≡◌, ◌∙◌, ℕ, zero, suc, ◌+◌, ◌≤◌, Bool, true, false, if◌then◌else◌, List, [], ◌∷◌}
 use Rattle.std.proofs.Common.{map, length, Option, Some, None, arith, refl, sym, ap, subst}
 use Rattle.std.specs.Option.{option_or}
 use Rattle.std.specs.Str.{bytes_eq}
-use Rattle.cs_base.specs.Rates.{is_init}
 use Rattle.cs_base.specs.declared.resource.Rate.{Rate}
 use Rattle.cs_base.specs.declared.resource.Rate.TheVariants as rate
 use Rattle.cs_words.specs.Names.{name_rate}
@@ -14,14 +13,14 @@ use Rattle.cs_grammar.specs.Tree.{andthen, joins, Arms, otherwise, arm, Definiti
 use Rattle.cs_typed.specs.TypedTree as typed
 use Rattle.cs_typed.specs.declared.tree.Var.{Var as Variable}
 use Rattle.cs_typing.specs.Known.{channel_of}
-use Rattle.cs_typing.specs.Statements.{all_init, choice_rate}
+use Rattle.cs_typing.specs.Statements.{choice_rate}
 use Rattle.cs_typing.specs.declared.known.Channel.{Channel}
 use Rattle.cs_ir.specs.Values.{holds}
 use Rattle.cs_ir.specs.Waves.{Wave, if_init}
 use Rattle.cs_meaning.specs.Core as core
 use Rattle.cs_meaning.specs.Initialising as initial
 use Rattle.cs_meaning.specs.Initialising.{going, keep}
-use Rattle.cs_meaning.specs.Notes.{Note, Path, Place, next, inside, inside_arm, past_stmt, unit_past_block}
+use Rattle.cs_meaning.specs.Notes.{Note, Path, StatementPlace, next, inside, inside_arm, past_stmt, unit_past_block}
 use Rattle.cs_meaning.specs.Notes.{unit_past_arms, assign}
 use Rattle.cs_meaning.specs.Notes.{past_arm as text_past_arm}
 use Rattle.cs_meaning.specs.Notes.{value as value_of}
@@ -40,7 +39,7 @@ use Rattle.cs_udo_meaning.specs.Frames.{units_of_block, units_of_arms, past_arm,
 use Rattle.cs_udo_meaning.specs.Frames.{init_all, perf_arms, action, acting, acting_all}
 use Rattle.cs_udo_meaning.specs.Numbered.{Numbering, Tells, Variables, numbered, expression_by, statement_by, block_by}
 use Rattle.cs_udo_meaning.specs.Numbered.{arms_by}
-use Rattle.cs_udo_meaning.specs.Stands.{own_name, Fits, Way, IsClear, Stands}
+use Rattle.cs_udo_meaning.specs.Stands.{own_name, Fits, Way, IsClear, StandsForFrames}
 use Rattle.cs_udo_meaning.proofs.Alike.{Alike, AlikeStmt, Agree, Reads, place, unit_behind, value_same, keep_same}
 use Rattle.cs_udo_meaning.proofs.Alike.{init_same, perf_same}
 use Rattle.cs_udo_meaning.proofs.Fresh.{own_rate}
@@ -48,28 +47,14 @@ use Rattle.cs_udo_meaning.proofs.Laid.{Holds, first_hold, rest_hold, LaysOn, lay
 use Rattle.cs_udo_meaning.proofs.Named.{Named, NamedAll, NamedArguments, NamedStmt, NamedBlock, NamedArms, any_names}
 use Rattle.cs_udo_meaning.proofs.Named.{any_arguments, any_block}
 use Rattle.cs_udo_meaning.proofs.Paths.{further}
-use Rattle.cs_typing.proofs.SameRates.{KeepsRates, rate_of_kept, expression_renamed}
+use Rattle.cs_udo_meaning.proofs.OwnRates.{own_rates, choice_kept}
+use Rattle.cs_typing.proofs.SameRates.{expression_renamed}
 use Rattle.cs_udo_meaning.proofs.Renamed.{set_renamed, call_renamed}
 use Rattle.cs_udo_meaning.proofs.Standing.{SameVariable, both_shared, variable_alike, channel_alike, expression_alike}
 use Rattle.cs_udo_meaning.proofs.Standing.{set_alike, call_alike, Follows, Seen, to_seen, from_seen, seen_agree}
 use Rattle.cs_udo_meaning.proofs.Ways.{Leads, nowhere, alike, parts, copies_lead, Pair, PairIf, AllPair, called_pair}
 use Rattle.cs_udo_meaning.proofs.Ways.{call_leads, stmt_leads, block_leads, arms_lead, after_is, after_block_is}
 use Rattle.cs_udo_meaning.proofs.Ways.{template_pair, with_pair, defining_pairs, all_pair, nothing_pairs}
-
--- ---- rates
-
-own_rates : (f : ℕ) → KeepsRates (own_name f)
-own_rates f = record { rate = own_rate f }
-
-all_init_kept : (opcodes : Opcodes) (f n : ℕ) (list : Arms)
-    → all_init (expanded_arms opcodes (own_name f) n list) ≡ all_init list
-all_init_kept opcodes f n (otherwise b) = refl
-all_init_kept opcodes f n (arm c b rest) =
-    λ i. is_init (rate_of_kept (own_rates f) c i) && all_init_kept opcodes f (after_block opcodes n b) rest i
-
-choice_kept : (opcodes : Opcodes) (f n : ℕ) (list : Arms)
-    → choice_rate (expanded_arms opcodes (own_name f) n list) ≡ choice_rate list
-choice_kept opcodes f n list = ap (λ b. if b then rate.Init else rate.Control) (all_init_kept opcodes f n list)
 
 -- ---- names of frames
 
@@ -100,7 +85,7 @@ module _ {W : Type 0} (m : Reading W) (flat : Numbering) (tf : Tells flat) (to :
   flat_arms list = core.core_arms m.spaces (arms_by m.shared (numbered m.shared flat) list)
 
   abbrev pub Stand : Note W → Framed W → Type 0
-  Stand t u = Stands way flat m.number t u
+  Stand t u = StandsForFrames way flat m.number t u
 
   abbrev Same : ℕ → Variable → Variable → Type 0
   Same f = SameVariable flat m.number f
@@ -108,33 +93,33 @@ module _ {W : Type 0} (m : Reading W) (flat : Numbering) (tf : Tells flat) (to :
   -- ---- blocks one after another
 
   -- the place behind statements of the expanded text
-  abbrev pub past_text : Place → core.Block → Place
+  abbrev pub past_text : StatementPlace → core.Block → StatementPlace
   past_text p core.no_stmt = p
   past_text p (core.andthen x rest) = past_text (past_stmt p x) rest
 
-  text_units : (p : Place) (b : core.Block) → (past_text p b).unit ≡ unit_past_block p.unit b
+  text_units : (p : StatementPlace) (b : core.Block) → (past_text p b).unit ≡ unit_past_block p.unit b
   text_units p core.no_stmt = refl
   text_units p (core.andthen x rest) = text_units (past_stmt p x) rest
 
-  past_joins : (p : Place) (a b : Block)
+  past_joins : (p : StatementPlace) (a b : Block)
       → past_text p (flat_block (joins a b)) ≡ past_text (past_text p (flat_block a)) (flat_block b)
   past_joins p no_stmt b = refl
   past_joins p (andthen x rest) b = past_joins (past_stmt p (flat_stmt x)) rest b
 
   -- what statements of the expanded text do
-  abbrev pub text_done : When → Place → core.Block → Note W → Note W
+  abbrev pub text_done : When → StatementPlace → core.Block → Note W → Note W
   text_done w p b t = by_pass w (initial.init_block m.world p b t) (performing.perf_block m.world p b t)
 
-  text_none : (w : When) (p : Place) (t : Note W) → t ≡ text_done w p core.no_stmt t
+  text_none : (w : When) (p : StatementPlace) (t : Note W) → t ≡ text_done w p core.no_stmt t
   text_none beginning p t = refl
   text_none cycle p t = refl
 
-  text_more : (w : When) (p : Place) (x : core.Stmt) (rest : core.Block) (t : Note W)
+  text_more : (w : When) (p : StatementPlace) (x : core.Stmt) (rest : core.Block) (t : Note W)
       → text_done w (past_stmt p x) rest (stmt_done w m.world p x t) ≡ text_done w p (core.andthen x rest) t
   text_more beginning p x rest t = refl
   text_more cycle p x rest t = refl
 
-  text_joins : (w : When) (p : Place) (a b : Block) (t : Note W)
+  text_joins : (w : When) (p : StatementPlace) (a b : Block) (t : Note W)
       → text_done w (past_text p (flat_block a)) (flat_block b) (text_done w p (flat_block a) t)
       ≡ text_done w p (flat_block (joins a b)) t
   text_joins w p no_stmt b t = ap (text_done w p (flat_block b)) (sym (text_none w p t))
@@ -191,7 +176,8 @@ module _ {W : Type 0} (m : Reading W) (flat : Numbering) (tf : Tells flat) (to :
       → Agree m.world m.world (Same f) (Follows way) (Seen way flat m.number f p u)
   agree f p at u = seen_agree m.world way clear flat m.number tf to f p at u
 
-  plain_stands : (w : When) (f : ℕ) (fp : Path) → way.frame f ≡ Some fp → (p : Place) (q : Path) → Follows way p.path q
+  plain_stands : (w : When) (f : ℕ) (fp : Path) → way.frame f ≡ Some fp → (p : StatementPlace) (q : Path)
+      → Follows way p.path q
       → (x : core.Stmt) (y : core.Stmt) (t : Note W) (u : Framed W) → AlikeStmt (Same f) x y → Stand t u
       → Stand (stmt_done w m.world p x t)
       (put_back fp (stmt_done w m.world (place q p.unit) y (seen_from fp u)) u)
@@ -209,7 +195,8 @@ module _ {W : Type 0} (m : Reading W) (flat : Numbering) (tf : Tells flat) (to :
       (to_seen way flat m.number f fp at t u h) a p.path q leads p.unit)
 
   -- a statement alone
-  alone_stands : (w : When) (f : ℕ) (fp : Path) → way.frame f ≡ Some fp → (p : Place) (q : Path) → Follows way p.path q
+  alone_stands : (w : When) (f : ℕ) (fp : Path) → way.frame f ≡ Some fp → (p : StatementPlace) (q : Path)
+      → Follows way p.path q
       → (x : core.Stmt) (y : core.Stmt) (t : Note W) (u : Framed W) → AlikeStmt (Same f) x y → Stand t u
       → Stand (text_done w p (core.andthen x core.no_stmt) t)
       (put_back fp (stmt_done w m.world (place q p.unit) y (seen_from fp u)) u)
@@ -267,7 +254,7 @@ module _ {W : Type 0} (m : Reading W) (flat : Numbering) (tf : Tells flat) (to :
   copy_of line f g x e = set line (own_name g x) (renamed_expression (own_name f) e)
 
   copy_stands : (w : When) (line f g : ℕ) (fp gp : Path) → way.frame f ≡ Some fp → way.frame g ≡ Some gp
-      → (p : Place) (q : Path) → Follows way (0 ∷ p.path) q
+      → (p : StatementPlace) (q : Path) → Follows way (0 ∷ p.path) q
       → (x : List ℕ) (e : Expression) (t : Note W) (u : Framed W)
       → Fits g x → Named (Fits f) e → Stand t u
       → Stand (stmt_done w m.world p (flat_stmt (copy_of line f g x e)) t) (copy_done m w fp gp q x e u)
@@ -298,7 +285,7 @@ module _ {W : Type 0} (m : Reading W) (flat : Numbering) (tf : Tells flat) (to :
   abbrev pub copies_of : ℕ → ℕ → ℕ → List (List ℕ) → List Argument → Block
   copies_of line f g xs args = assignments line (map (own_name g) xs) (map (renamed_argument (own_name f)) args)
 
-  copies_unit : (line f g : ℕ) (p : Place) (xs : List (List ℕ)) (args : List Argument)
+  copies_unit : (line f g : ℕ) (p : StatementPlace) (xs : List (List ℕ)) (args : List Argument)
       → (past_text p (flat_block (copies_of line f g xs args))).unit ≡ p.unit
   copies_unit line f g p [] [] = refl
   copies_unit line f g p [] (a ∷ args) = refl
@@ -307,7 +294,8 @@ module _ {W : Type 0} (m : Reading W) (flat : Numbering) (tf : Tells flat) (to :
   copies_unit line f g p (x ∷ xs) (value e ∷ args) =
       copies_unit line f g (past_stmt p (flat_stmt (copy_of line f g x e))) xs args
 
-  pub copies_lay : (line f g : ℕ) (p : Place) (q : Path) (xs : List (List ℕ)) (args : List Argument) (n : Leads)
+  pub copies_lay : (line f g : ℕ) (p : StatementPlace) (q : Path) (xs : List (List ℕ)) (args : List Argument)
+      (n : Leads)
       → LaysOn way p.path (copies_lead q xs args n)
       → LaysOn way (past_text p (flat_block (copies_of line f g xs args))).path n
   copies_lay line f g p q [] [] n h = h
@@ -318,7 +306,7 @@ module _ {W : Type 0} (m : Reading W) (flat : Numbering) (tf : Tells flat) (to :
       copies_lay line f g (past_stmt p (flat_stmt (copy_of line f g x e))) (next q) xs args n (λ k y. h (suc k) y)
 
   copies_stand : (w : When) (line f g : ℕ) (fp gp : Path) → way.frame f ≡ Some fp → way.frame g ≡ Some gp
-      → (p : Place) (q : Path) (xs : List (List ℕ)) (args : List Argument) (n : Leads)
+      → (p : StatementPlace) (q : Path) (xs : List (List ℕ)) (args : List Argument) (n : Leads)
       → LaysOn way p.path (copies_lead q xs args n)
       → (t : Note W) (u : Framed W) → NamedAll (Fits g) xs → NamedArguments (Fits f) args → Stand t u
       → Stand (text_done w p (flat_block (copies_of line f g xs args)) t) (copies_done m w fp gp q xs args u)
@@ -341,11 +329,12 @@ module _ {W : Type 0} (m : Reading W) (flat : Numbering) (tf : Tells flat) (to :
   -- ---- what a defined opcode does
 
   pub record Acts (t : Template) (a : Action W) (k : Pair t a) : Type 0 where
-    pub units : (n : ℕ) → 1 ≤ n → (p : Place)
+    pub units : (n : ℕ) → 1 ≤ n → (p : StatementPlace)
         → (past_text p (flat_block (t.block n))).unit ≡ p.unit + length (a.units m p.unit)
-    pub lays : (n : ℕ) → 1 ≤ n → (p : Place) (q : Path) (l : Leads) → LaysOn way p.path (k.leads q l)
+    pub lays : (n : ℕ) → 1 ≤ n → (p : StatementPlace) (q : Path) (l : Leads) → LaysOn way p.path (k.leads q l)
         → LaysOn way (past_text p (flat_block (t.block n))).path l
-    pub does : (w : When) (n : ℕ) → 1 ≤ n → (p : Place) (q : Path) (l : Leads) → LaysOn way p.path (k.leads q l)
+    pub does : (w : When) (n : ℕ) → 1 ≤ n → (p : StatementPlace) (q : Path) (l : Leads)
+        → LaysOn way p.path (k.leads q l)
         → way.frame n ≡ Some q → Holds way (suc n) (a.calls q) → (s : Note W) (u : Framed W) → Stand s u
         → Stand (text_done w p (flat_block (t.block n)) s) (a.does m w (place q p.unit) u)
 
@@ -380,7 +369,8 @@ module _ {W : Type 0} (m : Reading W) (flat : Numbering) (tf : Tells flat) (to :
       (joins (t.block n) (assignments line (map (own_name f) xs) (given_results i)))
 
   -- the place behind a call
-  call_past : (f n line : ℕ) (p : Place) (xs : List (List ℕ)) (c : Callee) (args : List Argument) (t : Template)
+  call_past : (f n line : ℕ) (p : StatementPlace) (xs : List (List ℕ)) (c : Callee) (args : List Argument)
+      (t : Template)
       (a : Action W)
       → 1 ≤ n → Pair t a
       → past_text p (flat_block (called (own_name f) n line xs c args (Some t)))
@@ -393,19 +383,20 @@ module _ {W : Type 0} (m : Reading W) (flat : Numbering) (tf : Tells flat) (to :
       ∙ past_joins p one (joins (t.block n) two)
       ∙ past_joins (past_text p (flat_block one)) (t.block n) two
 
-  call_unit : (f n line : ℕ) (p : Place) (xs : List (List ℕ)) (c : Callee) (args : List Argument) (t : Template)
+  call_unit : (f n line : ℕ) (p : StatementPlace) (xs : List (List ℕ)) (c : Callee) (args : List Argument)
+      (t : Template)
       (a : Action W) (k : Pair t a)
       → 1 ≤ n → Acts t a k
       → (past_text p (flat_block (called (own_name f) n line xs c args (Some t)))).unit
       ≡ p.unit + length (a.units m p.unit)
   call_unit f n line p xs c args t a k h acts =
       let ready = past_text p (flat_block (copies_of line f n a.inputs args)) in
-      ap (λ (z : Place). z.unit) (call_past f n line p xs c args t a h k)
+      ap (λ (z : StatementPlace). z.unit) (call_past f n line p xs c args t a h k)
       ∙ copies_unit line n f (past_text ready (flat_block (t.block n))) xs (values_in a.results)
       ∙ acts.units n h ready
       ∙ ap (λ i. i + length (a.units m i)) (copies_unit line f n p a.inputs args)
 
-  call_stands : (w : When) (f n line : ℕ) (fp : Path) → way.frame f ≡ Some fp → (p : Place) (q : Path)
+  call_stands : (w : When) (f n line : ℕ) (fp : Path) → way.frame f ≡ Some fp → (p : StatementPlace) (q : Path)
       (xs : List (List ℕ)) (c : Callee) (args : List Argument) (t : Template) (a : Action W) (k : Pair t a)
       (l : Leads)
       → 1 ≤ n → Acts t a k
@@ -441,7 +432,8 @@ module _ {W : Type 0} (m : Reading W) (flat : Numbering) (tf : Tells flat) (to :
       (text_joins w ready (t.block n) two s1 ∙ text_joins w p one (joins (t.block n) two) s) done)
 
   -- a call of a defined opcode or of another
-  any_unit : (f n line : ℕ) (p : Place) (xs : List (List ℕ)) (c : Callee) (args : List Argument) (t : Option Template)
+  any_unit : (f n line : ℕ) (p : StatementPlace) (xs : List (List ℕ)) (c : Callee) (args : List Argument)
+      (t : Option Template)
       (a : Option (Action W)) (k : PairIf t a)
       → 1 ≤ n → ActsIf t a k
       → NamedAll (Fits f) xs → NamedArguments (Fits f) args
@@ -453,7 +445,7 @@ module _ {W : Type 0} (m : Reading W) (flat : Numbering) (tf : Tells flat) (to :
   any_unit f n line p xs c args (Some t) None k h acts fits named = absurd k
   any_unit f n line p xs c args (Some t) (Some a) k h acts fits named = call_unit f n line p xs c args t a k h acts
 
-  any_lays : (f n line : ℕ) (p : Place) (q : Path) (xs : List (List ℕ)) (c : Callee) (args : List Argument)
+  any_lays : (f n line : ℕ) (p : StatementPlace) (q : Path) (xs : List (List ℕ)) (c : Callee) (args : List Argument)
       (t : Option Template) (a : Option (Action W)) (k : PairIf t a) (l : Leads)
       → 1 ≤ n → ActsIf t a k
       → LaysOn way p.path (call_leads t a k q xs args l)
@@ -464,12 +456,12 @@ module _ {W : Type 0} (m : Reading W) (flat : Numbering) (tf : Tells flat) (to :
   any_lays f n line p q xs c args (Some t) (Some a) k l h acts lay =
       let last = copies_lead (0 ∷ 2 ∷ q) xs (values_in a.results) l in
       let ready = past_text p (flat_block (copies_of line f n a.inputs args)) in
-      subst (λ (z : Place). LaysOn way z.path l) (sym (call_past f n line p xs c args t a h k))
+      subst (λ (z : StatementPlace). LaysOn way z.path l) (sym (call_past f n line p xs c args t a h k))
       (copies_lay line n f (past_text ready (flat_block (t.block n))) (0 ∷ 2 ∷ q) xs (values_in a.results) l
       (acts.lays n h ready q last
       (copies_lay line f n p (0 ∷ 0 ∷ q) a.inputs args (k.leads q last) lay)))
 
-  any_stands : (w : When) (f n line : ℕ) (fp : Path) → way.frame f ≡ Some fp → (p : Place) (q : Path)
+  any_stands : (w : When) (f n line : ℕ) (fp : Path) → way.frame f ≡ Some fp → (p : StatementPlace) (q : Path)
       (xs : List (List ℕ)) (c : Callee) (args : List Argument) (t : Option Template) (a : Option (Action W))
       (k : PairIf t a) (l : Leads)
       → 1 ≤ n → ActsIf t a k
@@ -516,7 +508,7 @@ module _ {W : Type 0} (m : Reading W) (flat : Numbering) (tf : Tells flat) (to :
     block_at_least n b h = omega (arith, h, after_block_is opcodes env k n [] b)
 
     mutual
-      unit_stands : (n : ℕ) → 1 ≤ n → (p : Place) (x : Statement) → NamedStmt (Fits f) x
+      unit_stands : (n : ℕ) → 1 ≤ n → (p : StatementPlace) (x : Statement) → NamedStmt (Fits f) x
           → (past_text p (text_of n x)).unit ≡ p.unit + length (units_of m env p.unit x)
       unit_stands n h p (set line x e) named = omega arith
       unit_stands n h p (call line xs c args) named =
@@ -524,14 +516,14 @@ module _ {W : Type 0} (m : Reading W) (flat : Numbering) (tf : Tells flat) (to :
           (acts_called opcodes env k g c) named.0 named.1
       unit_stands n h p (choose line list) named = arms_units n h p.unit list named
 
-      pub block_unit : (n : ℕ) → 1 ≤ n → (p : Place) (b : Block) → NamedBlock (Fits f) b
+      pub block_unit : (n : ℕ) → 1 ≤ n → (p : StatementPlace) (b : Block) → NamedBlock (Fits f) b
           → (past_text p (texts_of n b)).unit ≡ p.unit + length (units_of_block m env p.unit b)
       block_unit n h p no_stmt named = omega arith
       block_unit n h p (andthen x rest) named =
           let i = after opcodes n x in
           let q = past_text p (text_of n x) in
           let one = units_of m env p.unit x in
-          ap (λ (z : Place). z.unit)
+          ap (λ (z : StatementPlace). z.unit)
           (past_joins p (expanded opcodes (own_name f) n x) (expanded_block opcodes (own_name f) i rest))
           ∙ block_unit i (at_least n x h) q rest named.1
           ∙ ap (λ j. j + length (units_of_block m env j rest)) (unit_stands n h p x named.0)
@@ -550,14 +542,14 @@ module _ {W : Type 0} (m : Reading W) (flat : Numbering) (tf : Tells flat) (to :
           ∙ further j one (units_of_arms m env (j + length one) rest)
 
     -- the place behind an arm
-    arm_behind : (n : ℕ) → 1 ≤ n → (p : Place) (q : Path) (b : Block) → NamedBlock (Fits f) b
+    arm_behind : (n : ℕ) → 1 ≤ n → (p : StatementPlace) (q : Path) (b : Block) → NamedBlock (Fits f) b
         → place (next q) (text_past_arm p (texts_of n b)).unit ≡ past_arm m env (place q p.unit) b
     arm_behind n h p q b named =
         ap (place (next q)) (sym (text_units (place [] p.unit) (texts_of n b))
         ∙ block_unit n h (place [] p.unit) b named)
 
     mutual
-      pub stmt_lays : (n : ℕ) → 1 ≤ n → (p : Place) (q : Path) (x : Statement) (l : Leads)
+      pub stmt_lays : (n : ℕ) → 1 ≤ n → (p : StatementPlace) (q : Path) (x : Statement) (l : Leads)
           → LaysOn way p.path (stmt_leads opcodes env k q x l)
           → LaysOn way (past_text p (text_of n x)).path l
       stmt_lays n h p q (set line x e) l lay = λ i y. lay (suc i) y
@@ -566,13 +558,13 @@ module _ {W : Type 0} (m : Reading W) (flat : Numbering) (tf : Tells flat) (to :
           (acts_called opcodes env k g c) lay
       stmt_lays n h p q (choose line list) l lay = λ i y. lay (suc i) y
 
-      pub block_lays : (n : ℕ) → 1 ≤ n → (p : Place) (q : Path) (b : Block) (l : Leads)
+      pub block_lays : (n : ℕ) → 1 ≤ n → (p : StatementPlace) (q : Path) (b : Block) (l : Leads)
           → LaysOn way p.path (block_leads opcodes env k q b l)
           → LaysOn way (past_text p (texts_of n b)).path l
       block_lays n h p q no_stmt l lay = lay
       block_lays n h p q (andthen x rest) l lay =
           let i = after opcodes n x in
-          subst (λ (z : Place). LaysOn way z.path l)
+          subst (λ (z : StatementPlace). LaysOn way z.path l)
           (sym (past_joins p (expanded opcodes (own_name f) n x) (expanded_block opcodes (own_name f) i rest)))
           (block_lays i (at_least n x h) (past_text p (text_of n x)) (next q) rest l
           (stmt_lays n h p q x (block_leads opcodes env k (next q) rest l) lay))
@@ -593,7 +585,7 @@ module _ {W : Type 0} (m : Reading W) (flat : Numbering) (tf : Tells flat) (to :
 
     module _ (fp : Path) (af : way.frame f ≡ Some fp) where
       mutual
-        stands : (w : When) (n : ℕ) → 1 ≤ n → (p : Place) (q : Path) (x : Statement) (l : Leads)
+        stands : (w : When) (n : ℕ) → 1 ≤ n → (p : StatementPlace) (q : Path) (x : Statement) (l : Leads)
             → LaysOn way p.path (stmt_leads opcodes env k q x l) → Holds way n (frames_of env q x)
             → NamedStmt (Fits f) x
             → (t : Note W) (u : Framed W) → Stand t u
@@ -620,7 +612,7 @@ module _ {W : Type 0} (m : Reading W) (flat : Numbering) (tf : Tells flat) (to :
             (all_stand n h r (0 ∷ q) list inner hold named t u stand))))
             (perf_arms_stand n h r (0 ∷ q) list inner hold named t u stand)
 
-        pub block_stands : (w : When) (n : ℕ) → 1 ≤ n → (p : Place) (q : Path) (b : Block) (l : Leads)
+        pub block_stands : (w : When) (n : ℕ) → 1 ≤ n → (p : StatementPlace) (q : Path) (b : Block) (l : Leads)
             → LaysOn way p.path (block_leads opcodes env k q b l) → Holds way n (frames_of_block env q b)
             → NamedBlock (Fits f) b
             → (t : Note W) (u : Framed W) → Stand t u
@@ -645,7 +637,7 @@ module _ {W : Type 0} (m : Reading W) (flat : Numbering) (tf : Tells flat) (to :
             (rest_hold way n i one two (after_is opcodes env k n q x) hold) named.1 now next_u
             (stands w n h p q x more lay (first_hold way n one two hold) named.0 t u stand)))
 
-        first_stands : (n : ℕ) → 1 ≤ n → (p : Place) (q : Path) (list : Arms)
+        first_stands : (n : ℕ) → 1 ≤ n → (p : StatementPlace) (q : Path) (list : Arms)
             → LaysOn way p.path (arms_lead opcodes env k q list) → Holds way n (frames_of_arms env q list)
             → NamedArms (Fits f) list → (t : Note W) (u : Framed W) → Stand t u
             → Stand (initial.init_first m.world p (arms_of n list) t) (init_first m env fp (place q p.unit) list u)
@@ -677,7 +669,7 @@ module _ {W : Type 0} (m : Reading W) (flat : Numbering) (tf : Tells flat) (to :
             choose_stands (holds (now.kept (0 ∷ p.path))) (holds (next_u.kept (0 ∷ q)))
             (ap holds (kept_now.kept (0 ∷ p.path) (0 ∷ q) (at []))) _ _ _ _ one two
 
-        all_stand : (n : ℕ) → 1 ≤ n → (p : Place) (q : Path) (list : Arms)
+        all_stand : (n : ℕ) → 1 ≤ n → (p : StatementPlace) (q : Path) (list : Arms)
             → LaysOn way p.path (arms_lead opcodes env k q list) → Holds way n (frames_of_arms env q list)
             → NamedArms (Fits f) list → (t : Note W) (u : Framed W) → Stand t u
             → Stand (initial.init_all m.world p (arms_of n list) t) (init_all m env fp (place q p.unit) list u)
@@ -710,7 +702,7 @@ module _ {W : Type 0} (m : Reading W) (flat : Numbering) (tf : Tells flat) (to :
             one) in
             going_stands t _ u _ stand two
 
-        perf_arms_stand : (n : ℕ) → 1 ≤ n → (p : Place) (q : Path) (list : Arms)
+        perf_arms_stand : (n : ℕ) → 1 ≤ n → (p : StatementPlace) (q : Path) (list : Arms)
             → LaysOn way p.path (arms_lead opcodes env k q list) → Holds way n (frames_of_arms env q list)
             → NamedArms (Fits f) list → (t : Note W) (u : Framed W) → Stand t u
             → Stand (performing.perf_arms m.world p (arms_of n list) t) (perf_arms m env fp (place q p.unit) list u)

@@ -27,7 +27,7 @@ use Rattle.cs_udo.specs.Counted.{first_limit}
 use Rattle.cs_udo.specs.Refused.{first_fault}
 use Rattle.cs_udo.specs.Expanding.{within, unless, expanding}
 use Rattle.cs_typing.specs.Calls.{typed_call}
-use Rattle.cs_typing.specs.Known.{Known}
+use Rattle.cs_typing.specs.Known.{KnownHere}
 use Rattle.cs_typing.specs.Statements.{known, known_block, typed_statement, typed_block, typed_arms}
 use Rattle.cs_typing.specs.Typing.{alone, body, items, from, entered, known_item, first_known, typed_instruments}
 use Rattle.cs_typing.specs.Typing.{typed_of}
@@ -187,26 +187,26 @@ calm_instruments ds k (i ∷ rest) h =
 
 -- ---- their typed form
 
-call_lacks : (line : ℕ) (n : Known) (c : Callee) (results : List (List ℕ)) (args : List Argument)
+call_lacks : (line : ℕ) (n : KnownHere) (c : Callee) (results : List (List ℕ)) (args : List Argument)
     → c ≢ callee.Opcode op.Zakinit → HasNoZakinit (typed_call line n c results args)
 call_lacks line n (callee.Name name) results args h = tt
 call_lacks line n (callee.Opcode o) results args h = λ e. h (ap callee.Opcode e)
 
 mutual
-  stmt_lacks : (n : Known) (x : Statement) → Calm x → HasNoZakinit (typed_statement n x)
+  stmt_lacks : (n : KnownHere) (x : Statement) → Calm x → HasNoZakinit (typed_statement n x)
   stmt_lacks n (set line name e) h = tt
   stmt_lacks n (call line results c args) h = call_lacks line n c results args h
   stmt_lacks n (choose line list) h = arms_lack n list h
 
-  block_lacks : (n : Known) (b : Block) → CalmBlock b → BlockHasNoZakinit (typed_block n b)
+  block_lacks : (n : KnownHere) (b : Block) → CalmBlock b → BlockHasNoZakinit (typed_block n b)
   block_lacks n no_stmt h = tt
   block_lacks n (andthen x rest) h = (stmt_lacks n x h.0, block_lacks (known n x) rest h.1)
 
-  arms_lack : (n : Known) (list : Arms) → CalmArms list → ArmsHaveNoZakinit (typed_arms n list)
+  arms_lack : (n : KnownHere) (list : Arms) → CalmArms list → ArmsHaveNoZakinit (typed_arms n list)
   arms_lack n (otherwise b) h = block_lacks n b h
   arms_lack n (arm c b rest) h = (block_lacks n b h.0, arms_lack (known_block n b) rest h.1)
 
-instruments_lack : (n : Known) (outside : Block) (list : List Instrument)
+instruments_lack : (n : KnownHere) (outside : Block) (list : List Instrument)
     → All (λ (i : Instrument). CalmBlock i.body) list
     → All (λ (i : typed.Instrument). BlockHasNoZakinit i.body) (typed_instruments n (items outside list))
 instruments_lack n outside [] h = All-nil (λ (i : typed.Instrument). BlockHasNoZakinit i.body)

@@ -22,7 +22,8 @@ use Rattle.cs_meaning.specs.Core.{Stmt, Block, Arms, set, unit, zak, store, out,
 use Rattle.cs_meaning.specs.Core.{no_stmt, andthen, otherwise, arm, core, core_stmt, core_arms}
 use Rattle.cs_meaning.specs.Initialising as initial
 use Rattle.cs_meaning.specs.Initialising.{going, put_kept, keep, keep_all, started, sought}
-use Rattle.cs_meaning.specs.Notes.{Note, Path, Place, next, inside, inside_arm, unit_past, unit_past_block, assign}
+use Rattle.cs_meaning.specs.Notes.{Note, Path, StatementPlace, next, inside, inside_arm, unit_past, unit_past_block}
+use Rattle.cs_meaning.specs.Notes.{assign}
 use Rattle.cs_meaning.specs.Notes.{value as value_of, first_value, done, past_stmt}
 use Rattle.cs_meaning.specs.Notes.{past_arm as text_past_arm}
 use Rattle.cs_meaning.specs.Performing as performing
@@ -155,7 +156,7 @@ module _ {W : Type 0} (o : World W) (q : Path) where
         ∙ keep_off (0 ∷ j ∷ p) c t (inner q 0 (j ∷ p) at))
 
   mutual
-    perf_off : (p : Place) (s : Stmt) (t : Note W) → (performing.perf_stmt o p s t).kept q ≡ t.kept q
+    perf_off : (p : StatementPlace) (s : Stmt) (t : Note W) → (performing.perf_stmt o p s t).kept q ≡ t.kept q
     perf_off p (set r v e) t = either r t _ t refl (assign_off v _ t)
     perf_off p (unit r vs opcode reach xs is) t = either r t _ t refl (done_off r vs _ t)
     perf_off p (zak r vs opcode reach xs) t = either r t _ t refl (done_off r vs _ t)
@@ -167,13 +168,14 @@ module _ {W : Type 0} (o : World W) (q : Path) where
     perf_off p nothing t = refl
     perf_off p (choose r arms) t = perf_arms_off (inside p) arms t
 
-    perf_block_off : (p : Place) (b : Block) (t : Note W) → (performing.perf_block o p b t).kept q ≡ t.kept q
+    perf_block_off : (p : StatementPlace) (b : Block) (t : Note W) → (performing.perf_block o p b t).kept q ≡ t.kept q
     perf_block_off p no_stmt t = refl
     perf_block_off p (andthen s b) t =
         perf_block_off (record { path = next p.path; unit = unit_past p.unit s }) b (performing.perf_stmt o p s t)
         ∙ perf_off p s t
 
-    perf_arms_off : (p : Place) (list : Arms) (t : Note W) → (performing.perf_arms o p list t).kept q ≡ t.kept q
+    perf_arms_off : (p : StatementPlace) (list : Arms) (t : Note W)
+        → (performing.perf_arms o p list t).kept q ≡ t.kept q
     perf_arms_off p (otherwise b) t = perf_block_off (inside p) b t
     perf_arms_off p (arm c b rest) t =
         chosen (holds (value_of o t cycle (0 ∷ p.path) c 0)) _ _ t (perf_block_off (inside_arm p) b t)
@@ -181,7 +183,7 @@ module _ {W : Type 0} (o : World W) (q : Path) where
 
   -- a typed text without calls of defined opcodes
   mutual
-    typed_off : (spaces : Spaces) (p : Place) (x : typed.Statement) (t : Note W)
+    typed_off : (spaces : Spaces) (p : StatementPlace) (x : typed.Statement) (t : Note W)
         → Each (Off q) (typed_keepers p.path x) → (initial.init_stmt o p (core_stmt spaces x) t).kept q ≡ t.kept q
     typed_off spaces p (typed.set line r v e) t off =
         if_going t _ (either r _ _ t (assign_off v _ t) (keep_off (0 ∷ p.path) e t off.0))
@@ -191,7 +193,7 @@ module _ {W : Type 0} (o : World W) (q : Path) where
         if_going t _
         (either r _ _ t (typed_first_off spaces (inside p) list t off) (typed_all_off spaces (inside p) list t off))
 
-    typed_block_off : (spaces : Spaces) (p : Place) (b : typed.Block) (t : Note W)
+    typed_block_off : (spaces : Spaces) (p : StatementPlace) (b : typed.Block) (t : Note W)
         → Each (Off q) (typed_keepers_of_block p.path b) → (initial.init_block o p (core spaces b) t).kept q ≡ t.kept q
     typed_block_off spaces p typed.no_stmt t off = refl
     typed_block_off spaces p (typed.andthen x rest) t off =
@@ -201,7 +203,7 @@ module _ {W : Type 0} (o : World W) (q : Path) where
         typed_block_off spaces (past_stmt p s) rest (initial.init_stmt o p s t) (each_rest (Off q) one two off)
         ∙ typed_off spaces p x t (each_first (Off q) one two off)
 
-    typed_first_off : (spaces : Spaces) (p : Place) (list : typed.Arms) (t : Note W)
+    typed_first_off : (spaces : Spaces) (p : StatementPlace) (list : typed.Arms) (t : Note W)
         → Each (Off q) (typed_keepers_of_arms p.path list)
         → (initial.init_first o p (core_arms spaces list) t).kept q ≡ t.kept q
     typed_first_off spaces p (typed.otherwise b) t off = typed_block_off spaces (inside p) b t off
@@ -214,7 +216,7 @@ module _ {W : Type 0} (o : World W) (q : Path) where
         (typed_first_off spaces (text_past_arm p (core spaces b)) rest s (each_rest (Off q) own more off))
         ∙ keep_off (0 ∷ p.path) c t here.0
 
-    typed_all_off : (spaces : Spaces) (p : Place) (list : typed.Arms) (t : Note W)
+    typed_all_off : (spaces : Spaces) (p : StatementPlace) (list : typed.Arms) (t : Note W)
         → Each (Off q) (typed_keepers_of_arms p.path list)
         → (initial.init_all o p (core_arms spaces list) t).kept q ≡ t.kept q
     typed_all_off spaces p (typed.otherwise b) t off = typed_block_off spaces (inside p) b t off
@@ -229,14 +231,14 @@ module _ {W : Type 0} (o : World W) (q : Path) where
         ∙ typed_block_off spaces (inside_arm p) b s here.1
         ∙ keep_off (0 ∷ p.path) c t here.0)
 
-  pub texts_off : (w : When) (spaces : Spaces) (p : Place) (b : typed.Block) (t : Note W)
+  pub texts_off : (w : When) (spaces : Spaces) (p : StatementPlace) (b : typed.Block) (t : Note W)
       → Each (Off q) (typed_keepers_of_block p.path b)
       → (by_pass w (initial.init_block o p (core spaces b) t) (performing.perf_block o p (core spaces b) t)).kept q
       ≡ t.kept q
   texts_off beginning spaces p b t off = typed_block_off spaces p b t off
   texts_off cycle spaces p b t off = perf_block_off p (core spaces b) t
 
-  stmt_off : (w : When) (p : Place) (s : Stmt) (t : Note W) → Off q p.path
+  stmt_off : (w : When) (p : StatementPlace) (s : Stmt) (t : Note W) → Off q p.path
       → (stmt_done w o p s t).kept q ≡ t.kept q
   stmt_off beginning p s t off = init_off p.path p.unit s t off
   stmt_off cycle p s t off = perf_off p s t
@@ -292,7 +294,7 @@ module _ {W : Type 0} (m : Reading W) (q : Path) where
 
   abbrev pub KeepsInside : Option (Action W) → Type 0
   KeepsInside None = Unit {0}
-  KeepsInside (Some a) = (w : When) (p : Place) (u : Framed W) → AllOff (a.keepers p.path)
+  KeepsInside (Some a) = (w : When) (p : StatementPlace) (u : Framed W) → AllOff (a.keepers p.path)
       → (a.does m w p u).kept q ≡ u.kept q
 
   pub record AllKeepInside (env : Actions W) : Type 0 where
@@ -302,11 +304,12 @@ module _ {W : Type 0} (m : Reading W) (q : Path) where
   called_inside env k (callee.Opcode o) = tt
   called_inside env k (callee.Name name) = k.each name
 
-  plain_off : (w : When) (f : Path) (p : Place) (x : text.Statement) (u : Framed W) → Off q p.path
+  plain_off : (w : When) (f : Path) (p : StatementPlace) (x : text.Statement) (u : Framed W) → Off q p.path
       → (put_back f (stmt_done w m.world p (read m x) (seen_from f u)) u).kept q ≡ u.kept q
   plain_off w f p x u off = stmt_off m.world q w p (read m x) (seen_from f u) off
 
-  any_off : (w : When) (f : Path) (p : Place) (x : text.Statement) (xs : List (List ℕ)) (args : List text.Argument)
+  any_off : (w : When) (f : Path) (p : StatementPlace) (x : text.Statement) (xs : List (List ℕ))
+      (args : List text.Argument)
       (a : Option (Action W))
       → KeepsInside a → (u : Framed W) → AllOff (keepers_of_call p.path xs args a)
       → (any_done m w f p x xs args a u).kept q ≡ u.kept q
@@ -326,7 +329,7 @@ module _ {W : Type 0} (m : Reading W) (q : Path) where
 
   module _ (env : Actions W) (k : AllKeepInside env) where
     mutual
-      kept_off : (w : When) (f : Path) (p : Place) (x : text.Statement) (u : Framed W)
+      kept_off : (w : When) (f : Path) (p : StatementPlace) (x : text.Statement) (u : Framed W)
           → AllOff (keepers_of env p.path x) → (framed_done m env w f p x u).kept q ≡ u.kept q
       kept_off w f p (text.set line x e) u off = plain_off w f p (text.set line x e) u off.0
       kept_off w f p (text.call line xs c args) u off =
@@ -338,7 +341,7 @@ module _ {W : Type 0} (m : Reading W) (q : Path) where
           (either_off (choice_rate list) _ _ u (first_off f r list u off) (all_off f r list u off)))
           (arms_off f r list u off)
 
-      pub block_off : (w : When) (f : Path) (p : Place) (b : text.Block) (u : Framed W)
+      pub block_off : (w : When) (f : Path) (p : StatementPlace) (b : text.Block) (u : Framed W)
           → AllOff (keepers_of_block env p.path b) → (block_done m env w f p b u).kept q ≡ u.kept q
       block_off w f p text.no_stmt u off = refl
       block_off w f p (text.andthen x rest) u off =
@@ -347,7 +350,7 @@ module _ {W : Type 0} (m : Reading W) (q : Path) where
           block_off w f (past m env p x) rest (framed_done m env w f p x u) (each_rest (Off q) one two off)
           ∙ kept_off w f p x u (each_first (Off q) one two off)
 
-      first_off : (f : Path) (p : Place) (list : text.Arms) (u : Framed W)
+      first_off : (f : Path) (p : StatementPlace) (list : text.Arms) (u : Framed W)
           → AllOff (keepers_of_arms env p.path list) → (init_first m env f p list u).kept q ≡ u.kept q
       first_off f p (text.otherwise b) u off = block_off beginning f (inside p) b u off
       first_off f p (text.arm c b rest) u off =
@@ -360,7 +363,7 @@ module _ {W : Type 0} (m : Reading W) (q : Path) where
           (first_off f r rest now (each_rest (Off q) own more off))
           ∙ keep_off m.world q (0 ∷ p.path) (expression_read m c) (seen_from f u) here.0
 
-      all_off : (f : Path) (p : Place) (list : text.Arms) (u : Framed W)
+      all_off : (f : Path) (p : StatementPlace) (list : text.Arms) (u : Framed W)
           → AllOff (keepers_of_arms env p.path list) → (init_all m env f p list u).kept q ≡ u.kept q
       all_off f p (text.otherwise b) u off = block_off beginning f (inside p) b u off
       all_off f p (text.arm c b rest) u off =
@@ -375,7 +378,7 @@ module _ {W : Type 0} (m : Reading W) (q : Path) where
           ∙ block_off beginning f (inside_arm p) b now here.1
           ∙ keep_off m.world q (0 ∷ p.path) (expression_read m c) (seen_from f u) here.0)
 
-      arms_off : (f : Path) (p : Place) (list : text.Arms) (u : Framed W)
+      arms_off : (f : Path) (p : StatementPlace) (list : text.Arms) (u : Framed W)
           → AllOff (keepers_of_arms env p.path list) → (perf_arms m env f p list u).kept q ≡ u.kept q
       arms_off f p (text.otherwise b) u off = block_off cycle f (inside p) b u off
       arms_off f p (text.arm c b rest) u off =

@@ -29,7 +29,7 @@ use Rattle.cs_typing.specs.Calls.{all_fit, bound_of, may_result, is_even, kind_o
 use Rattle.cs_typing.specs.Calls.{is_too_wide, all_known, rates_agree, counts_agree, row_fault, call_fault, row_known}
 use Rattle.cs_typing.specs.Calls.{call_known, call_rate, typed_arguments, typed_row, typed_call}
 use Rattle.cs_typing.specs.Expressions.{is_value, is_condition, rate_of, reads_known, typed_expression}
-use Rattle.cs_typing.specs.Known.{RateNames, in_table, place_in, added, Shared, Known, knows, after_giving, given}
+use Rattle.cs_typing.specs.Known.{RateNames, in_table, place_in, added, Shared, KnownHere, knows, after_giving, given}
 use Rattle.cs_typing.specs.Known.{given_all, used, use_channel, clashes, global, variable, channel_of}
 use Rattle.cs_typing.specs.Settings.{at}
 use Rattle.cs_typing.specs.Statements.{set_fault, condition_fault, known, known_block, known_arms, fault, block_fault}
@@ -49,7 +49,7 @@ pub record SharedGoesOn (s r : Shared) : Type 0 where
   pub control : GoesOn s.control r.control
   pub sound : GoesOn s.sound r.sound
 
-pub record Later (n m : Known) : Type 0 where
+pub record Later (n m : KnownHere) : Type 0 where
   pub shared : SharedGoesOn n.shared m.shared
   pub locals : TableGoesOn n.locals m.locals
 
@@ -63,10 +63,10 @@ shared_further s r q a b = record {
   sound = goes_further s.sound r.sound q.sound a.sound b.sound;
 }
 
-pub later_same : (n : Known) → Later n n
+pub later_same : (n : KnownHere) → Later n n
 later_same n = record { shared = shared_stays n.shared; locals = table_stays n.locals }
 
-pub later_further : (n m k : Known) → Later n m → Later m k → Later n k
+pub later_further : (n m k : KnownHere) → Later n m → Later m k → Later n k
 later_further n m k a b = record {
   shared = shared_further n.shared m.shared k.shared a.shared b.shared;
   locals = table_further n.locals m.locals k.locals a.locals b.locals;
@@ -79,10 +79,10 @@ giving_on t x = by (is_global x)
     by true = table_stays t
     by false = added_on t x
 
-given_later : (n : Known) (x : List ℕ) → Later n (given n x)
+given_later : (n : KnownHere) (x : List ℕ) → Later n (given n x)
 given_later n x = record { shared = shared_stays n.shared; locals = giving_on n.locals x }
 
-given_all_later : (n : Known) (xs : List (List ℕ)) → Later n (given_all n xs)
+given_all_later : (n : KnownHere) (xs : List (List ℕ)) → Later n (given_all n xs)
 given_all_later n [] = later_same n
 given_all_later n (x ∷ xs) =
     later_further n (given n x) (given_all (given n x) xs) (given_later n x) (given_all_later (given n x) xs)
@@ -92,30 +92,30 @@ used_on s None x = shared_stays s
 used_on s (Some channel.Control) x = record { globals = refl; control = seen_on s.control x; sound = stays s.sound }
 used_on s (Some channel.Sound) x = record { globals = refl; control = stays s.control; sound = seen_on s.sound x }
 
-row_later : (n : Known) (row : Row) (results : List (List ℕ)) (args : List Argument)
+row_later : (n : KnownHere) (row : Row) (results : List (List ℕ)) (args : List Argument)
     → Later n (row_known n row results args)
 row_later n row results args = record {
   shared = used_on n.shared (channel_use row.shape results args) (text_of args);
   locals = (given_all_later n results).locals;
 }
 
-call_later : (n : Known) (c : Callee) (results : List (List ℕ)) (args : List Argument)
+call_later : (n : KnownHere) (c : Callee) (results : List (List ℕ)) (args : List Argument)
     → Later n (call_known n c results args)
 call_later n (callee.Name name) results args = given_all_later n results
 call_later n (callee.Opcode o) results args = row_later n (row_of o) results args
 
 mutual
-  pub known_later : (n : Known) (x : Statement) → Later n (known n x)
+  pub known_later : (n : KnownHere) (x : Statement) → Later n (known n x)
   known_later n (set line name e) = given_later n name
   known_later n (call line results c args) = call_later n c results args
   known_later n (choose line list) = known_arms_later n list
 
-  pub known_block_later : (n : Known) (b : Block) → Later n (known_block n b)
+  pub known_block_later : (n : KnownHere) (b : Block) → Later n (known_block n b)
   known_block_later n no_stmt = later_same n
   known_block_later n (andthen x rest) =
       later_further n (known n x) (known_block (known n x) rest) (known_later n x) (known_block_later (known n x) rest)
 
-  pub known_arms_later : (n : Known) (list : Arms) → Later n (known_arms n list)
+  pub known_arms_later : (n : KnownHere) (list : Arms) → Later n (known_arms n list)
   known_arms_later n (otherwise b) = known_block_later n b
   known_arms_later n (arm c b rest) =
       later_further n (known_block n b) (known_arms (known_block n b) rest) (known_block_later n b)
@@ -134,7 +134,8 @@ shared_variable : (g h : RateNames) (x : List ℕ) → h ≡ g
     → variant.Global (global (name_rate x) (place_in g x)) ≡ variant.Global (global (name_rate x) (place_in h x))
 shared_variable g h x e = ap (λ t. variant.Global (global (name_rate x) (place_in t x))) (sym e)
 
-pub variable_known : (n m : Known) (s : Numbering) (x : List ℕ) → Later n m → HasPlaces s m.locals → knows n x ≡ true
+pub variable_known : (n m : KnownHere) (s : Numbering) (x : List ℕ) → Later n m → HasPlaces s m.locals
+    → knows n x ≡ true
     → variable n x ≡ numbered m.shared s x
 variable_known n m s x l p h = by (is_global x) h
   where
@@ -147,7 +148,7 @@ variable_known n m s x l p h = by (is_global x) h
     by false k = ap (variant.Local (name_rate x))
         (sym (p.each x (in_on n.locals m.locals x l.locals k) ∙ place_in_on n.locals m.locals x l.locals k))
 
-pub variable_given : (n m : Known) (s : Numbering) (x : List ℕ) → m.shared.globals ≡ n.shared.globals
+pub variable_given : (n m : KnownHere) (s : Numbering) (x : List ℕ) → m.shared.globals ≡ n.shared.globals
     → TableGoesOn (after_giving n.locals x) m.locals
     → HasPlaces s m.locals
     → variable n x ≡ numbered m.shared s x
@@ -165,7 +166,7 @@ variable_given n m s x e l p = by (is_global x) l
         (sym (p.each x (in_on (added n.locals x) m.locals x k there) ∙ place_in_on (added n.locals x) m.locals x k there
         ∙ added_place n.locals x))
 
-pub expression_same : (n m : Known) (s : Numbering) (e : Expression) → Later n m → HasPlaces s m.locals
+pub expression_same : (n m : KnownHere) (s : Numbering) (e : Expression) → Later n m → HasPlaces s m.locals
     → reads_known n e ≡ true
     → typed_expression n e ≡ expression_by (numbered m.shared s) e
 expression_same n m s (number z) l p h = refl
@@ -185,7 +186,7 @@ expression_same n m s (apply f a) l p h = ap (typed.apply (rate_of (apply f a)) 
 
 -- ---- arguments
 
-plain_same : (n m : Known) (s : Numbering) (args : List Argument) → Later n m → HasPlaces s m.locals
+plain_same : (n m : KnownHere) (s : Numbering) (args : List Argument) → Later n m → HasPlaces s m.locals
     → all_known n args ≡ true
     → typed_arguments n None args ≡ arguments_by m.shared (numbered m.shared s) None args
 plain_same n m s [] l p h = refl
@@ -204,12 +205,13 @@ channel_same s r channel.Sound t l =
     (sym (seen_place s.sound t) ∙ sym (place_on (seen s.sound t) r.sound t l.sound (seen_has s.sound t)))
 
 -- a text alone, and a value and a text
-text_alone : (n m : Known) (s : Numbering) (kind : Channel) (t : List ℕ) → SharedGoesOn (used n.shared kind t) m.shared
+text_alone : (n m : KnownHere) (s : Numbering) (kind : Channel) (t : List ℕ)
+    → SharedGoesOn (used n.shared kind t) m.shared
     → typed_arguments n (Some kind) (text t ∷ []) ≡ arguments_by m.shared (numbered m.shared s) (Some kind)
     (text t ∷ [])
 text_alone n m s kind t l = ap (λ c. typed.text c ∷ []) (channel_same n.shared m.shared kind t l)
 
-value_text : (n m : Known) (s : Numbering) (kind : Channel) (e : Expression) (t : List ℕ) → Later n m
+value_text : (n m : KnownHere) (s : Numbering) (kind : Channel) (e : Expression) (t : List ℕ) → Later n m
     → HasPlaces s m.locals → reads_known n e ≡ true
     → SharedGoesOn (used n.shared kind t) m.shared
     → typed_arguments n (Some kind) (value e ∷ text t ∷ []) ≡ arguments_by m.shared (numbered m.shared s) (Some kind)
@@ -245,7 +247,8 @@ first_known_of : (a b : Bool) → (a && (true && b)) ≡ true → a ≡ true
 first_known_of true b h = refl
 first_known_of false b h = absurd (cc h)
 
-arguments_same : (n m : Known) (s : Numbering) (o : Opcode) (b : Rate) (results : List (List ℕ)) (args : List Argument)
+arguments_same : (n m : KnownHere) (s : Numbering) (o : Opcode) (b : Rate) (results : List (List ℕ))
+    (args : List Argument)
     → Later n m → HasPlaces s m.locals
     → takes_count (row_of o) (length args) ≡ true → all_fit (row_of o) b 0 args ≡ true → all_known n args ≡ true
     → SharedGoesOn (use_channel n.shared (channel_use (row_of o).shape results args) (text_of args)) m.shared
@@ -289,7 +292,7 @@ one_at_most : {A : Type 0} (b : Bool) (k : ℕ) → (suc (suc k) == (if b then 0
 one_at_most true k h = absurd (omega (arith, equal (suc (suc k)) 0 h))
 one_at_most false k h = absurd (omega (arith, equal (suc (suc k)) 1 h))
 
-results_same : (n m : Known) (s : Numbering) (row : Row) (results : List (List ℕ))
+results_same : (n m : KnownHere) (s : Numbering) (row : Row) (results : List (List ℕ))
     → (length results == result_count row) ≡ true
     → m.shared.globals ≡ n.shared.globals → TableGoesOn (given_all n results).locals m.locals → HasPlaces s m.locals
     → map (variable n) results ≡ map (numbered m.shared s) results
@@ -309,7 +312,7 @@ no_rule_broken true true false d e h = absurd (cc h)
 no_rule_broken true false c d e h = absurd (cc h)
 no_rule_broken false b c d e h = absurd (cc h)
 
-row_same : (q : Setting) (n m : Known) (s : Numbering) (line : ℕ) (o : Opcode) (results : List (List ℕ))
+row_same : (q : Setting) (n m : KnownHere) (s : Numbering) (line : ℕ) (o : Opcode) (results : List (List ℕ))
     (args : List Argument)
     → row_fault q n (row_of o) results args ≡ None → Later (row_known n (row_of o) results args) m
     → HasPlaces s m.locals
@@ -328,7 +331,7 @@ row_same q n m s line o results args h l p =
     let made = arguments_same n m s o (bound_of results) results args whole p counts.1 inner.0 right.1 l.shared in
     λ i. typed.call line (call_rate row.shape results args) (given_on i) o (made i)
 
-call_same : (q : Setting) (n m : Known) (s : Numbering) (line : ℕ) (c : Callee) (results : List (List ℕ))
+call_same : (q : Setting) (n m : KnownHere) (s : Numbering) (line : ℕ) (c : Callee) (results : List (List ℕ))
     (args : List Argument)
     → call_fault q n c results args ≡ None → Later (call_known n c results args) m → HasPlaces s m.locals
     → typed_call line n c results args ≡ call_by line m.shared (numbered m.shared s) c results args
@@ -346,21 +349,21 @@ nothing_unknown : (b c : Bool)
 nothing_unknown true c h = refl
 nothing_unknown false c h = absurd (cc h)
 
-set_known : (q : Setting) (n : Known) (line : ℕ) (x : List ℕ) (e : Expression) → at line (set_fault q n x e) ≡ None
+set_known : (q : Setting) (n : KnownHere) (line : ℕ) (x : List ℕ) (e : Expression) → at line (set_fault q n x e) ≡ None
     → reads_known n e ≡ true
 set_known q n line x e h =
     nothing_unknown (reads_known n e)
     (is_value e && within (rate_of e) (name_rate x) && (q.inside || is_init (name_rate x)))
     (at_none line (set_fault q n x e) h)
 
-condition_known : (q : Setting) (n : Known) (line : ℕ) (e : Expression) → at line (condition_fault q n e) ≡ None
+condition_known : (q : Setting) (n : KnownHere) (line : ℕ) (e : Expression) → at line (condition_fault q n e) ≡ None
     → reads_known n e ≡ true
 condition_known q n line e h =
     nothing_unknown (reads_known n e) (is_condition e && (q.inside || is_init (rate_of e)))
     (at_none line (condition_fault q n e) h)
 
 mutual
-  pub statement_same : (q : Setting) (n m : Known) (s : Numbering) (x : Statement) → fault q n x ≡ None
+  pub statement_same : (q : Setting) (n m : KnownHere) (s : Numbering) (x : Statement) → fault q n x ≡ None
       → Later (known n x) m → HasPlaces s m.locals
       → typed_statement n x ≡ statement_by m.shared (numbered m.shared s) x
   statement_same q n m s (set line x e) h l p =
@@ -372,7 +375,7 @@ mutual
   statement_same q n m s (choose line list) h l p =
       ap (typed.choose line (choice_rate list)) (arms_same q n m s line list h l p)
 
-  pub block_same : (q : Setting) (n m : Known) (s : Numbering) (b : Block) → block_fault q n b ≡ None
+  pub block_same : (q : Setting) (n m : KnownHere) (s : Numbering) (b : Block) → block_fault q n b ≡ None
       → Later (known_block n b) m → HasPlaces s m.locals
       → typed_block n b ≡ block_by m.shared (numbered m.shared s) b
   block_same q n m s no_stmt h l p = refl
@@ -382,7 +385,8 @@ mutual
       later_further (known n x) (known_block (known n x) rest) m (known_block_later (known n x) rest) l in
       λ i. typed.andthen (statement_same q n m s x parts.0 after p i) (block_same q (known n x) m s rest parts.1 l p i)
 
-  pub arms_same : (q : Setting) (n m : Known) (s : Numbering) (line : ℕ) (list : Arms) → arms_fault q n line list ≡ None
+  pub arms_same : (q : Setting) (n m : KnownHere) (s : Numbering) (line : ℕ) (list : Arms)
+      → arms_fault q n line list ≡ None
       → Later (known_arms n list) m
       → HasPlaces s m.locals → typed_arms n list ≡ arms_by m.shared (numbered m.shared s) list
   arms_same q n m s line (otherwise b) h l p = ap typed.otherwise (block_same q n m s b h l p)

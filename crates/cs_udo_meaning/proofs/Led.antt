@@ -10,7 +10,7 @@ use Rattle.cs_grammar.specs.Tree.{Arms, otherwise, arm, Definition}
 use Rattle.cs_typing.specs.Known.{Shared}
 use Rattle.cs_ir.specs.Waves.{silence}
 use Rattle.cs_ir.specs.Worlds.{World}
-use Rattle.cs_meaning.specs.Notes.{Path, Place, next, past_stmt}
+use Rattle.cs_meaning.specs.Notes.{Path, StatementPlace, next, past_stmt}
 use Rattle.cs_udo.specs.Expanded.{Template, Opcodes, defined, called, alone, after, after_block, expanded}
 use Rattle.cs_udo.specs.Expanded.{expanded_block, expanded_arms, whole_body, template, defining, defining_all}
 use Rattle.cs_udo_meaning.specs.Frames.{Reading, Action, Actions, action_of, values_in, typed_keepers}
@@ -65,7 +65,7 @@ module _ {W : Type 0} (m : Reading W) (flat : Numbering) (tf : Tells flat) (to :
   abbrev pub AllLed : Path → Block → Type 0
   AllLed p b = Each Led (typed_keepers_of_block p (block_by m.shared v b))
 
-  abbrev behind_text : Place → Block → Place
+  abbrev behind_text : StatementPlace → Block → StatementPlace
   behind_text p b = past_text m flat tf to way clear p (flat_block m flat tf to way clear b)
 
   led_of : (p q : Path) → Follows way p q → Led p
@@ -74,7 +74,7 @@ module _ {W : Type 0} (m : Reading W) (flat : Numbering) (tf : Tells flat) (to :
   one_led : (p : Path) (x : Statement) → Each Led (typed_keepers p (statement_by m.shared v x)) → AllLed p (alone x)
   one_led p x h = each_joined Led (typed_keepers p (statement_by m.shared v x)) [] h tt
 
-  joins_led : (p : Place) (a b : Block) → AllLed p.path a → AllLed (behind_text p a).path b
+  joins_led : (p : StatementPlace) (a b : Block) → AllLed p.path a → AllLed (behind_text p a).path b
       → AllLed p.path (joins a b)
   joins_led p no_stmt b h k = k
   joins_led p (andthen x rest) b h k =
@@ -101,7 +101,7 @@ module _ {W : Type 0} (m : Reading W) (flat : Numbering) (tf : Tells flat) (to :
   -- ---- what a defined opcode does
 
   pub record ActsLed (t : Template) (a : Action W) (k : Pair t a) : Type 0 where
-    pub led : (n : ℕ) → 1 ≤ n → (p : Place) (q : Path) (l : Leads) → LaysOn way p.path (k.leads q l)
+    pub led : (n : ℕ) → 1 ≤ n → (p : StatementPlace) (q : Path) (l : Leads) → LaysOn way p.path (k.leads q l)
         → AllLed p.path (t.block n)
 
   abbrev pub ActsLedIf : (t : Option Template) (a : Option (Action W)) → PairIf t a → Type 0
@@ -120,7 +120,7 @@ module _ {W : Type 0} (m : Reading W) (flat : Numbering) (tf : Tells flat) (to :
 
   -- ---- a call
 
-  call_led : (f n line : ℕ) (p : Place) (q : Path) (xs : List (List ℕ)) (c : Callee) (args : List Argument)
+  call_led : (f n line : ℕ) (p : StatementPlace) (q : Path) (xs : List (List ℕ)) (c : Callee) (args : List Argument)
       (t : Template) (a : Action W) (k : Pair t a) (l : Leads)
       → 1 ≤ n → Acts m flat tf to way clear t a k → ActsLed t a k
       → LaysOn way p.path (call_leads (Some t) (Some a) k q xs args l)
@@ -144,7 +144,7 @@ module _ {W : Type 0} (m : Reading W) (flat : Numbering) (tf : Tells flat) (to :
   plain_led line p q xs (callee.Opcode o) args h = (led_of p q h, tt)
   plain_led line p q xs (callee.Name name) args h = tt
 
-  any_led : (f n line : ℕ) (p : Place) (q : Path) (xs : List (List ℕ)) (c : Callee) (args : List Argument)
+  any_led : (f n line : ℕ) (p : StatementPlace) (q : Path) (xs : List (List ℕ)) (c : Callee) (args : List Argument)
       (t : Option Template) (a : Option (Action W)) (k : PairIf t a) (l : Leads)
       → 1 ≤ n → ActsIf m flat tf to way clear t a k → ActsLedIf t a k
       → LaysOn way p.path (call_leads t a k q xs args l)
@@ -160,7 +160,7 @@ module _ {W : Type 0} (m : Reading W) (flat : Numbering) (tf : Tells flat) (to :
   module _ (opcodes : Opcodes) (env : Actions W) (k : AllPair opcodes env)
       (g : Act m flat tf to way clear opcodes env k) (r : ActLed opcodes env k) (f : ℕ) where
     mutual
-      stmt_led : (n : ℕ) → 1 ≤ n → (p : Place) (q : Path) (x : Statement) (l : Leads)
+      stmt_led : (n : ℕ) → 1 ≤ n → (p : StatementPlace) (q : Path) (x : Statement) (l : Leads)
           → LaysOn way p.path (stmt_leads opcodes env k q x l) → AllLed p.path (expanded opcodes (own_name f) n x)
       stmt_led n h p q (set line x e) l lay = (led_of (0 ∷ p.path) (0 ∷ q) (λ y. lay 0 (0 ∷ y)), tt)
       stmt_led n h p q (call line xs c args) l lay =
@@ -171,7 +171,7 @@ module _ {W : Type 0} (m : Reading W) (flat : Numbering) (tf : Tells flat) (to :
           (arms_led n h (0 ∷ p.path) (0 ∷ q) list
           (lays_on way p.path (arms_lead opcodes env k (0 ∷ q) list) (λ y. lay 0 y)))
 
-      pub block_led : (n : ℕ) → 1 ≤ n → (p : Place) (q : Path) (b : Block) (l : Leads)
+      pub block_led : (n : ℕ) → 1 ≤ n → (p : StatementPlace) (q : Path) (b : Block) (l : Leads)
           → LaysOn way p.path (block_leads opcodes env k q b l)
           → AllLed p.path (expanded_block opcodes (own_name f) n b)
       block_led n h p q no_stmt l lay = tt

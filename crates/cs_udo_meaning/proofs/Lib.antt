@@ -10,6 +10,7 @@ pub mod Later
 pub mod Lived
 pub mod Named
 pub mod Numbers
+pub mod OwnRates
 pub mod Paths
 pub mod Renamed
 pub mod Renumbered

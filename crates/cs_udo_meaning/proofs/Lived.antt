@@ -26,7 +26,7 @@ use Rattle.cs_udo_meaning.specs.Frames.{Framed, own_frame, new_framed, framed_in
 use Rattle.cs_udo_meaning.specs.Frames.{frames_of_block, keepers_of_block, typed_keepers_of_block}
 use Rattle.cs_udo_meaning.specs.Lives.{Cycle, goes_on, begins, performs, goes_on_framed, in_world, reading, MeansFrames}
 use Rattle.cs_udo_meaning.specs.Numbered.{Numbering, Tells, numbered, block_by}
-use Rattle.cs_udo_meaning.specs.Stands.{Fits, Way, IsClear, Stands}
+use Rattle.cs_udo_meaning.specs.Stands.{Fits, Way, IsClear, StandsForFrames}
 use Rattle.cs_udo_meaning.specs.Typed.{shared_of, IsNumberedInstrument}
 use Rattle.cs_udo_meaning.proofs.Expanding.{all_act, nothing_acts, block_stands}
 use Rattle.cs_udo_meaning.proofs.Laid.{Holds, holds_from, LaysOn, lays_on}
@@ -131,7 +131,7 @@ module _ (W : Type 0) (ds : List Definition) (i : Instrument) where
 module _ {W : Type 0} (ds : List Definition) (i : Instrument) (well : WellFormedInstrument i) (flat : Numbering)
     (tf : Tells flat) where
   abbrev Stand : Numbering → Note W → Framed W → Type 0
-  Stand own t u = Stands (way_of W ds i) flat own t u
+  Stand own t u = StandsForFrames (way_of W ds i) flat own t u
 
   expanded_begins : (m : Reading W) → Tells m.number → (t : Note W) (u : Framed W) → Stand m.number t u
       → Stand m.number
@@ -162,20 +162,20 @@ module _ {W : Type 0} (ds : List Definition) (i : Instrument) (well : WellFormed
       (way_holds W ds i) (named_in i well) t u stand
 
 moved_stands : {W : Type 0} (way : Way) (flat own : Numbering) (t : Note W) (u : Framed W) (x y : W)
-    → Stands way flat own t u → x ≡ y
-    → Stands way flat own (moved_to x t) (framed_in y u)
+    → StandsForFrames way flat own t u → x ≡ y
+    → StandsForFrames way flat own (moved_to x t) (framed_in y u)
 moved_stands way flat own t u x y h e = record { locals = h.locals; kept = h.kept; world = e }
 
 new_stands : {W : Type 0} (way : Way) (flat own : Numbering) (x : W)
-    → Stands way flat own (new_note x) (new_framed x)
+    → StandsForFrames way flat own (new_note x) (new_framed x)
 new_stands way flat own x =
     record { locals = λ f p at y e fits. refl; kept = λ p q at. refl; world = refl }
 
 cycles_alike : {W : Type 0} (way : Way) (m : Reading W) (ds : List Definition) (i : Instrument) (flat : Numbering)
     (body : core.Block)
-    → ((o : World W) (t : Note W) (u : Framed W) → Stands way flat m.number t u
-    → Stands way flat m.number (performing.perf_block o start body t) (performs (in_world o m) ds i u))
-    → (cycles : List (Cycle W)) (t : Note W) (u : Framed W) → Stands way flat m.number t u
+    → ((o : World W) (t : Note W) (u : Framed W) → StandsForFrames way flat m.number t u
+    → StandsForFrames way flat m.number (performing.perf_block o start body t) (performs (in_world o m) ds i u))
+    → (cycles : List (Cycle W)) (t : Note W) (u : Framed W) → StandsForFrames way flat m.number t u
     → goes_on body cycles t ≡ goes_on_framed m ds i cycles u
 cycles_alike way m ds i flat body step [] t u stand = ap (λ x. x ∷ []) stand.world
 cycles_alike way m ds i flat body step (c ∷ more) t u stand =
@@ -215,20 +215,20 @@ instrument_means W ds g i made well h = record {
     flat = h.body.number
 
     starts : (o : World W) (spaces : Spaces) (own : Numbering) → Tells own → (t : Note W) (u : Framed W)
-        → Stands (way_of W ds i) flat own t u
-        → Stands (way_of W ds i) flat own (initial.init_block o start (core.core spaces made.body) t)
+        → StandsForFrames (way_of W ds i) flat own t u
+        → StandsForFrames (way_of W ds i) flat own (initial.init_block o start (core.core spaces made.body) t)
         (begins (reading o spaces g own) ds i u)
     starts o spaces own to t u stand =
-        subst (λ b. Stands (way_of W ds i) flat own (initial.init_block o start (core.core spaces b) t)
+        subst (λ b. StandsForFrames (way_of W ds i) flat own (initial.init_block o start (core.core spaces b) t)
         (begins (reading o spaces g own) ds i u)) (sym h.body.is)
         (expanded_begins ds i well flat h.body.apart (reading o spaces g own) to t u stand)
 
     goes : (o : World W) (spaces : Spaces) (own : Numbering) → Tells own → (t : Note W) (u : Framed W)
-        → Stands (way_of W ds i) flat own t u
-        → Stands (way_of W ds i) flat own (performing.perf_block o start (core.core spaces made.body) t)
+        → StandsForFrames (way_of W ds i) flat own t u
+        → StandsForFrames (way_of W ds i) flat own (performing.perf_block o start (core.core spaces made.body) t)
         (performs (reading o spaces g own) ds i u)
     goes o spaces own to t u stand =
-        subst (λ b. Stands (way_of W ds i) flat own (performing.perf_block o start (core.core spaces b) t)
+        subst (λ b. StandsForFrames (way_of W ds i) flat own (performing.perf_block o start (core.core spaces b) t)
         (performs (reading o spaces g own) ds i u)) (sym h.body.is)
         (expanded_performs ds i well flat h.body.apart (reading o spaces g own) to t u stand)
 

@@ -29,7 +29,7 @@ use Rattle.cs_ir.specs.Worlds.{World}
 use Rattle.cs_meaning.specs.Core as core
 use Rattle.cs_meaning.specs.Initialising as initial
 use Rattle.cs_meaning.specs.Initialising.{going, put_kept, keep}
-use Rattle.cs_meaning.specs.Notes.{Note, Path, Place, next, inside, inside_arm, past_arm, past_stmt, unit_past}
+use Rattle.cs_meaning.specs.Notes.{Note, Path, StatementPlace, next, inside, inside_arm, past_arm, past_stmt, unit_past}
 use Rattle.cs_meaning.specs.Notes.{unit_past_block, unit_past_arms, start, new_note, moved_to, look, assign}
 use Rattle.cs_meaning.specs.Notes.{reg}
 use Rattle.cs_meaning.specs.Notes.{value as value_of}
@@ -216,12 +216,12 @@ module _ {W : Type 0} (to : Res → Res) (g h : Shared) (lead : LeadsTo to h g) 
       call_alike (numbered g number) (numbered h number) same_variable g h same_channel spaces line xs c args
       (any_names Any any xs) (any_arguments Any any args)
 
-  init_alike : (x y : core.Stmt) → AlikeStmt Same x y → (p : Place) (t : Note W)
+  init_alike : (x y : core.Stmt) → AlikeStmt Same x y → (p : StatementPlace) (t : Note W)
       → initial.init_stmt o p x t ≡ initial.init_stmt other p y t
   init_alike x y a p t = init_same o to Same (λ q r. q ≡ r) (λ t u. t ≡ u) notes_agree t t refl a p.path p.path refl
       p.unit
 
-  perf_alike : (x y : core.Stmt) → AlikeStmt Same x y → (p : Place) (t : Note W)
+  perf_alike : (x y : core.Stmt) → AlikeStmt Same x y → (p : StatementPlace) (t : Note W)
       → performing.perf_stmt o p x t ≡ performing.perf_stmt other p y t
   perf_alike x y a p t = perf_same o to Same (λ q r. q ≡ r) (λ t u. t ≡ u) notes_agree t t refl a p.path p.path refl
       p.unit
@@ -267,14 +267,14 @@ module _ {W : Type 0} (to : Res → Res) (g h : Shared) (lead : LeadsTo to h g) 
         ap (λ k. unit_past_arms k (arms_here rest)) (block_units_same b n)
         ∙ arms_units_same rest (unit_past_block n (block_there b))
 
-  past_same : (x : Statement) (p : Place) → past_stmt p (stmt_here x) ≡ past_stmt p (stmt_there x)
+  past_same : (x : Statement) (p : StatementPlace) → past_stmt p (stmt_here x) ≡ past_stmt p (stmt_there x)
   past_same x p = λ i. record { path = next p.path; unit = units_same x p.unit i }
 
-  past_arm_same : (b : Block) (p : Place) → past_arm p (block_here b) ≡ past_arm p (block_there b)
+  past_arm_same : (b : Block) (p : StatementPlace) → past_arm p (block_here b) ≡ past_arm p (block_there b)
   past_arm_same b p = λ i. record { path = next p.path; unit = block_units_same b p.unit i }
 
   mutual
-    init_stmt_same : (x : Statement) (p : Place) (t : Note W)
+    init_stmt_same : (x : Statement) (p : StatementPlace) (t : Note W)
         → initial.init_stmt o p (stmt_here x) t ≡ initial.init_stmt other p (stmt_there x) t
     init_stmt_same (set line x e) p t = init_alike _ _ (same_set line x e) p t
     init_stmt_same (call line xs c args) p t = init_alike _ _ (same_call line xs c args) p t
@@ -282,7 +282,7 @@ module _ {W : Type 0} (to : Res → Res) (g h : Shared) (lead : LeadsTo to h g) 
         λ i. going o t (if_init (choice_rate list) (init_first_same list (inside p) t i)
         (init_all_same list (inside p) t i))
 
-    init_block_same : (b : Block) (p : Place) (t : Note W)
+    init_block_same : (b : Block) (p : StatementPlace) (t : Note W)
         → initial.init_block o p (block_here b) t ≡ initial.init_block other p (block_there b) t
     init_block_same no_stmt p t = refl
     init_block_same (andthen x rest) p t =
@@ -291,7 +291,7 @@ module _ {W : Type 0} (to : Res → Res) (g h : Shared) (lead : LeadsTo to h g) 
         ∙ ap (λ z. initial.init_block o (past_stmt p (stmt_there x)) (block_here rest) z) (init_stmt_same x p t)
         ∙ init_block_same rest (past_stmt p (stmt_there x)) (initial.init_stmt other p (stmt_there x) t)
 
-    init_first_same : (list : Arms) (p : Place) (t : Note W)
+    init_first_same : (list : Arms) (p : StatementPlace) (t : Note W)
         → initial.init_first o p (arms_here list) t ≡ initial.init_first other p (arms_there list) t
     init_first_same (otherwise b) p t = init_block_same b (inside p) t
     init_first_same (arm c b rest) p t =
@@ -305,7 +305,7 @@ module _ {W : Type 0} (to : Res → Res) (g h : Shared) (lead : LeadsTo to h g) 
         ∙ λ i. if holds (now.kept at) then init_block_same b q now i
         else init_first_same rest (past_arm p (block_there b)) now i
 
-    init_all_same : (list : Arms) (p : Place) (t : Note W)
+    init_all_same : (list : Arms) (p : StatementPlace) (t : Note W)
         → initial.init_all o p (arms_here list) t ≡ initial.init_all other p (arms_there list) t
     init_all_same (otherwise b) p t = init_block_same b (inside p) t
     init_all_same (arm c b rest) p t =
@@ -322,13 +322,13 @@ module _ {W : Type 0} (to : Res → Res) (g h : Shared) (lead : LeadsTo to h g) 
         ∙ ap (λ z. going o t z) (init_all_same rest (past_arm p (block_there b)) done)
 
   mutual
-    perf_stmt_same : (x : Statement) (p : Place) (t : Note W)
+    perf_stmt_same : (x : Statement) (p : StatementPlace) (t : Note W)
         → performing.perf_stmt o p (stmt_here x) t ≡ performing.perf_stmt other p (stmt_there x) t
     perf_stmt_same (set line x e) p t = perf_alike _ _ (same_set line x e) p t
     perf_stmt_same (call line xs c args) p t = perf_alike _ _ (same_call line xs c args) p t
     perf_stmt_same (choose line list) p t = perf_arms_same list (inside p) t
 
-    perf_block_same : (b : Block) (p : Place) (t : Note W)
+    perf_block_same : (b : Block) (p : StatementPlace) (t : Note W)
         → performing.perf_block o p (block_here b) t ≡ performing.perf_block other p (block_there b) t
     perf_block_same no_stmt p t = refl
     perf_block_same (andthen x rest) p t =
@@ -337,7 +337,7 @@ module _ {W : Type 0} (to : Res → Res) (g h : Shared) (lead : LeadsTo to h g) 
         ∙ ap (λ z. performing.perf_block o (past_stmt p (stmt_there x)) (block_here rest) z) (perf_stmt_same x p t)
         ∙ perf_block_same rest (past_stmt p (stmt_there x)) (performing.perf_stmt other p (stmt_there x) t)
 
-    perf_arms_same : (list : Arms) (p : Place) (t : Note W)
+    perf_arms_same : (list : Arms) (p : StatementPlace) (t : Note W)
         → performing.perf_arms o p (arms_here list) t ≡ performing.perf_arms other p (arms_there list) t
     perf_arms_same (otherwise b) p t = perf_block_same b (inside p) t
     perf_arms_same (arm c b rest) p t =

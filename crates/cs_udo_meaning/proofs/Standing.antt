@@ -34,7 +34,7 @@ use Rattle.cs_meaning.specs.Notes.{Note, Path, reg, look, assign}
 use Rattle.cs_udo_meaning.specs.Frames.{Framed, seen_from, put_back}
 use Rattle.cs_udo_meaning.specs.Numbered.{Numbering, Tells, Variables, numbered, expression_by, arguments_by}
 use Rattle.cs_udo_meaning.specs.Numbered.{statement_by}
-use Rattle.cs_udo_meaning.specs.Stands.{own_name, Fits, Way, IsClear, Stands}
+use Rattle.cs_udo_meaning.specs.Stands.{own_name, Fits, Way, IsClear, StandsForFrames}
 use Rattle.cs_udo_meaning.proofs.Alike.{Alike, alike_number, alike_var, alike_field, alike_head, alike_neg, alike_pair}
 use Rattle.cs_udo_meaning.proofs.Alike.{alike_pick, alike_apply, AlikeVariables, no_variable, more_variables}
 use Rattle.cs_udo_meaning.proofs.Alike.{AlikeArguments, no_argument, more_values, more_texts, AlikeStmt, alike_set}
@@ -179,7 +179,7 @@ pub record Seen {W : Type 0} (way : Way) (flat own : Numbering) (f : ℕ) (p : P
   pub world : t.world ≡ s.world
 
 pub to_seen : {W : Type 0} (way : Way) (flat own : Numbering) (f : ℕ) (p : Path) → way.frame f ≡ Some p
-    → (t : Note W) (u : Framed W) → Stands way flat own t u → Seen way flat own f p u t (seen_from p u)
+    → (t : Note W) (u : Framed W) → StandsForFrames way flat own t u → Seen way flat own f p u t (seen_from p u)
 to_seen way flat own f p at t u h = record {
   mine = h.locals f p at;
   others = λ g q there apart. h.locals g q there;
@@ -189,7 +189,7 @@ to_seen way flat own f p at t u h = record {
 
 pub from_seen : {W : Type 0} (way : Way) → IsClear way → (flat own : Numbering) (f : ℕ) (p : Path)
     → way.frame f ≡ Some p
-    → (t s : Note W) (u : Framed W) → Seen way flat own f p u t s → Stands way flat own t (put_back p s u)
+    → (t s : Note W) (u : Framed W) → Seen way flat own f p u t s → StandsForFrames way flat own t (put_back p s u)
 from_seen {W} way clear flat own f p at t s u h = record { locals = each; kept = h.kept; world = h.world }
   where
     each : (g : ℕ) (q : Path) → way.frame g ≡ Some q → (x : List ℕ) → is_global x ≡ false → Fits g x

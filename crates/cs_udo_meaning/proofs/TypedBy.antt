@@ -5,7 +5,7 @@ use Rattle.cs_base.proofs.Tests.{both_none}
 use Rattle.cs_grammar.specs.Tree.{Block, no_stmt, andthen, Instrument, Orchestra}
 use Rattle.cs_typed.specs.Places.{outside, inside}
 use Rattle.cs_typed.specs.TypedTree as typed
-use Rattle.cs_typing.specs.Known.{Shared, Known, known_with}
+use Rattle.cs_typing.specs.Known.{Shared, KnownHere, known_with}
 use Rattle.cs_typing.specs.Settings.{header, settings_fault}
 use Rattle.cs_typing.specs.Statements.{block_fault, known_block, typed_block}
 use Rattle.cs_typing.specs.Typing.{line_of, before, from, Item, alone, body, items, entered, known_item, known_items}
@@ -18,11 +18,11 @@ use Rattle.cs_udo_meaning.proofs.KnownOn.{known_block_later, HasPlaces, block_sa
 use Rattle.cs_udo_meaning.proofs.Later.{table_stays}
 use Rattle.cs_udo_meaning.proofs.Numbers.{number_in, number_places, number_tells}
 
-item_later : (n : Known) (x : Item) → Later n (known_item n x)
+item_later : (n : KnownHere) (x : Item) → Later n (known_item n x)
 item_later n (alone b) = known_block_later n b
 item_later n (body i) = record { shared = (known_block_later (entered n) i.body).shared; locals = table_stays n.locals }
 
-pub items_later : (n : Known) (list : List Item) → Later n (known_items n list)
+pub items_later : (n : KnownHere) (list : List Item) → Later n (known_items n list)
 items_later n [] = later_same n
 items_later n (x ∷ rest) =
     later_further n (known_item n x) (known_items (known_item n x) rest) (item_later n x)
@@ -30,7 +30,7 @@ items_later n (x ∷ rest) =
 
 -- ---- instruments
 
-instrument_numbered : (channels : ℕ) (n : Known) (i : Instrument) (g : Shared)
+instrument_numbered : (channels : ℕ) (n : KnownHere) (i : Instrument) (g : Shared)
     → block_fault (inside channels) (entered n) i.body ≡ None
     → SharedGoesOn (known_block (entered n) i.body).shared g → IsNumberedInstrument g i (typed_instrument n i)
 instrument_numbered channels n i g h l = record {
@@ -44,10 +44,10 @@ instrument_numbered channels n i g h l = record {
   };
 }
   where
-    known : Known
+    known : KnownHere
     known = known_block (entered n) i.body
 
-pub instruments_numbered : (channels : ℕ) (n : Known) (b : Block) (list : List Instrument) (g : Shared)
+pub instruments_numbered : (channels : ℕ) (n : KnownHere) (b : Block) (list : List Instrument) (g : Shared)
     → items_fault channels n (items b list) ≡ None
     → SharedGoesOn (known_items n (items b list)).shared g
     → AllZip (IsNumberedInstrument g) list (typed_instruments n (items b list))
@@ -87,7 +87,7 @@ cut g v line (andthen x rest) = by (nat_lt (line_of x) line) (cut g v line rest)
     by true h = ap (typed.andthen (statement_by g v x)) h
     by false h = refl
 
-outside_same : (channels : ℕ) (n : Known) (b : Block) (list : List Instrument) (m : Known) (s : Numbering)
+outside_same : (channels : ℕ) (n : KnownHere) (b : Block) (list : List Instrument) (m : KnownHere) (s : Numbering)
     → items_fault channels n (items b list) ≡ None
     → Later (known_items n (items b list)) m → HasPlaces s m.locals
     → typed_outside n (items b list) ≡ block_by m.shared (numbered m.shared s) b

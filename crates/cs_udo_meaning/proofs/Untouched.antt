@@ -18,7 +18,7 @@ use Rattle.cs_typing.specs.Statements.{choice_rate}
 use Rattle.cs_ir.specs.Values.{holds}
 use Rattle.cs_ir.specs.Waves.{if_init}
 use Rattle.cs_meaning.specs.Initialising.{keep}
-use Rattle.cs_meaning.specs.Notes.{Note, Path, Place, next, inside, inside_arm, assign}
+use Rattle.cs_meaning.specs.Notes.{Note, Path, StatementPlace, next, inside, inside_arm, assign}
 use Rattle.cs_meaning.specs.Notes.{value as value_of}
 use Rattle.cs_meaning.specs.When.{When, beginning, cycle}
 use Rattle.cs_udo.specs.Expanded.{whole_body}
@@ -180,7 +180,7 @@ module _ {W : Type 0} (m : Reading W) where
 
   abbrev pub Alone : Option (Action W) → Type 0
   Alone None = Unit {0}
-  Alone (Some a) = (w : When) (p : Place) (u : Framed W) (g : Path) → g ≢ p.path → Lacks g (a.calls p.path)
+  Alone (Some a) = (w : When) (p : StatementPlace) (u : Framed W) (g : Path) → g ≢ p.path → Lacks g (a.calls p.path)
       → (a.does m w p u).frames g ≡ u.frames g
 
   pub record AllAlone (env : Actions W) : Type 0 where
@@ -191,7 +191,7 @@ module _ {W : Type 0} (m : Reading W) where
   called_alone env k (callee.Name name) = k.each name
 
   any_kept : (w : When) (f g : Path) → g ≢ f
-      → (p : Place) (x : Statement) (xs : List (List ℕ)) (args : List Argument) (a : Option (Action W))
+      → (p : StatementPlace) (x : Statement) (xs : List (List ℕ)) (args : List Argument) (a : Option (Action W))
       → Alone a → (u : Framed W)
       → Lacks g (frames_of_call p.path a) → (any_done m w f p x xs args a u).frames g ≡ u.frames g
   any_kept w f g nf p x xs args None k u o =
@@ -208,7 +208,7 @@ module _ {W : Type 0} (m : Reading W) where
 
   module _ (env : Actions W) (k : AllAlone env) where
     mutual
-      kept : (w : When) (f g : Path) → g ≢ f → (p : Place) (x : Statement) (u : Framed W)
+      kept : (w : When) (f g : Path) → g ≢ f → (p : StatementPlace) (x : Statement) (u : Framed W)
           → Lacks g (frames_of env p.path x)
           → (framed_done m env w f p x u).frames g ≡ u.frames g
       kept w f g nf p (set line x e) u o =
@@ -225,7 +225,7 @@ module _ {W : Type 0} (m : Reading W) where
           (either_kept (choice_rate list) g a b u (first_kept f g nf q list u o) (all_kept f g nf q list u o)))
           (arms_kept f g nf q list u o)
 
-      pub block_kept : (w : When) (f g : Path) → g ≢ f → (p : Place) (b : Block) (u : Framed W)
+      pub block_kept : (w : When) (f g : Path) → g ≢ f → (p : StatementPlace) (b : Block) (u : Framed W)
           → Lacks g (frames_of_block env p.path b)
           → (block_done m env w f p b u).frames g ≡ u.frames g
       block_kept w f g nf p no_stmt u o = refl
@@ -235,7 +235,7 @@ module _ {W : Type 0} (m : Reading W) where
           block_kept w f g nf (past m env p x) rest (framed_done m env w f p x u) (each_rest (λ h. g ≢ h) one two o)
           ∙ kept w f g nf p x u (each_first (λ h. g ≢ h) one two o)
 
-      first_kept : (f g : Path) → g ≢ f → (p : Place) (list : Arms) (u : Framed W)
+      first_kept : (f g : Path) → g ≢ f → (p : StatementPlace) (list : Arms) (u : Framed W)
           → Lacks g (frames_of_arms env p.path list)
           → (init_first m env f p list u).frames g ≡ u.frames g
       first_kept f g nf p (otherwise b) u o = block_kept beginning f g nf (inside p) b u o
@@ -251,7 +251,7 @@ module _ {W : Type 0} (m : Reading W) where
           (first_kept f g nf r rest now (each_rest (λ h. g ≢ h) body more o))
           ∙ elsewhere f g (differ g f nf) (keep m.world (0 ∷ p.path) (expression_read m c) (seen_from f u)) u
 
-      all_kept : (f g : Path) → g ≢ f → (p : Place) (list : Arms) (u : Framed W)
+      all_kept : (f g : Path) → g ≢ f → (p : StatementPlace) (list : Arms) (u : Framed W)
           → Lacks g (frames_of_arms env p.path list)
           → (init_all m env f p list u).frames g ≡ u.frames g
       all_kept f g nf p (otherwise b) u o = block_kept beginning f g nf (inside p) b u o
@@ -267,7 +267,7 @@ module _ {W : Type 0} (m : Reading W) where
           ∙ block_kept beginning f g nf q b now (each_first (λ h. g ≢ h) body more o)
           ∙ elsewhere f g (differ g f nf) (keep m.world (0 ∷ p.path) (expression_read m c) (seen_from f u)) u)
 
-      arms_kept : (f g : Path) → g ≢ f → (p : Place) (list : Arms) (u : Framed W)
+      arms_kept : (f g : Path) → g ≢ f → (p : StatementPlace) (list : Arms) (u : Framed W)
           → Lacks g (frames_of_arms env p.path list)
           → (perf_arms m env f p list u).frames g ≡ u.frames g
       arms_kept f g nf p (otherwise b) u o = block_kept cycle f g nf (inside p) b u o

@@ -19,7 +19,7 @@ use Rattle.cs_ir.specs.Worlds.{World}
 use Rattle.cs_ir.specs.declared.register.Reg.{Reg}
 use Rattle.cs_meaning.specs.Core.{Stmt, unit, core_stmt}
 use Rattle.cs_meaning.specs.Initialising.{keep, init_stmt}
-use Rattle.cs_meaning.specs.Notes.{Note, Path, Place, next, inside, inside_arm, assign}
+use Rattle.cs_meaning.specs.Notes.{Note, Path, StatementPlace, next, inside, inside_arm, assign}
 use Rattle.cs_meaning.specs.Notes.{value as value_of}
 use Rattle.cs_meaning.specs.Performing.{perf_stmt}
 use Rattle.cs_meaning.specs.When.{When, beginning, cycle}
@@ -76,11 +76,11 @@ by_pass beginning x y = x
 by_pass cycle x y = y
 
 -- what a statement does in a note
-abbrev pub stmt_done : {W : Type 0} → When → World W → Place → Stmt → Note W → Note W
+abbrev pub stmt_done : {W : Type 0} → When → World W → StatementPlace → Stmt → Note W → Note W
 stmt_done w o p s t = by_pass w (init_stmt o p s t) (perf_stmt o p s t)
 
 -- a statement without calls of defined opcodes does in its frame what it does in a note
-abbrev pub plain_done : {W : Type 0} → Reading W → When → Path → Place → Statement → Framed W → Framed W
+abbrev pub plain_done : {W : Type 0} → Reading W → When → Path → StatementPlace → Statement → Framed W → Framed W
 plain_done m w f p x u = put_back f (stmt_done w m.world p (read m x) (seen_from f u)) u
 
 -- A variable of frame g takes the value of an expression in frame f that stands at a path: a variable of rate Init as
@@ -116,7 +116,7 @@ pub record Action (W : Type 0) : Type 0 where
   pub calls : Path → List Path
   pub keepers : Path → List Path
   pub units : Reading W → ℕ → List ℕ
-  pub does : Reading W → When → Place → Framed W → Framed W
+  pub does : Reading W → When → StatementPlace → Framed W → Framed W
 
 -- the defined opcodes that may be called, by name
 abbrev pub Actions : Type 0 → Type 0
@@ -136,14 +136,16 @@ values_in xs = map (λ x. value (var x)) xs
 
 -- A call from frame f: its frame is that of its path. Its parts are its arguments, its body, and the values of `xout`.
 -- The inputs take the values of the arguments; the body is done; the results take the values of `xout`.
-abbrev pub call_done : {W : Type 0} → Reading W → When → Path → Place → Action W → List (List ℕ) → List Argument
+abbrev pub call_done : {W : Type 0} → Reading W → When → Path → StatementPlace → Action W → List (List ℕ)
+    → List Argument
     → Framed W → Framed W
 call_done m w f p a xs args u =
     copies_done m w p.path f (0 ∷ 2 ∷ p.path) xs (values_in a.results)
     (a.does m w p (copies_done m w f p.path (0 ∷ 0 ∷ p.path) a.inputs args u))
 
 -- a call of a defined opcode, or else of one of the catalogue
-abbrev pub any_done : {W : Type 0} → Reading W → When → Path → Place → Statement → List (List ℕ) → List Argument
+abbrev pub any_done : {W : Type 0} → Reading W → When → Path → StatementPlace → Statement → List (List ℕ)
+    → List Argument
     → Option (Action W) → Framed W → Framed W
 any_done m w f p x xs args None u = plain_done m w f p x u
 any_done m w f p x xs args (Some a) u = call_done m w f p a xs args u
@@ -240,16 +242,17 @@ abbrev mutual
       let first = units_of_block m env n b in first ++ units_of_arms m env (n + length first) rest
 
 -- the place behind a statement, and behind an arm with these statements
-abbrev pub past : {W : Type 0} → Reading W → Actions W → Place → Statement → Place
+abbrev pub past : {W : Type 0} → Reading W → Actions W → StatementPlace → Statement → StatementPlace
 past m env p x = record { path = next p.path; unit = p.unit + length (units_of m env p.unit x) }
 
-abbrev pub past_arm : {W : Type 0} → Reading W → Actions W → Place → Block → Place
+abbrev pub past_arm : {W : Type 0} → Reading W → Actions W → StatementPlace → Block → StatementPlace
 past_arm m env p b = record { path = next p.path; unit = p.unit + length (units_of_block m env p.unit b) }
 
 -- What statements of frame f do. As the note begins an `if` whose conditions are all known then is decided once; of any
 -- other all arms are initialised. In a control cycle an `if` takes the first arm whose condition holds.
 abbrev mutual
-  pub framed_done : {W : Type 0} → Reading W → Actions W → When → Path → Place → Statement → Framed W → Framed W
+  pub framed_done : {W : Type 0} → Reading W → Actions W → When → Path → StatementPlace → Statement → Framed W
+      → Framed W
   framed_done m env w f p (set line x e) u = plain_done m w f p (set line x e) u
   framed_done m env w f p (call line xs c args) u =
       any_done m w f p (call line xs c args) xs args (action_of env c) u
@@ -259,26 +262,26 @@ abbrev mutual
       (if_init (choice_rate list) (init_first m env f (inside p) list u) (init_all m env f (inside p) list u)))
       (perf_arms m env f (inside p) list u)
 
-  pub block_done : {W : Type 0} → Reading W → Actions W → When → Path → Place → Block → Framed W → Framed W
+  pub block_done : {W : Type 0} → Reading W → Actions W → When → Path → StatementPlace → Block → Framed W → Framed W
   block_done m env w f p no_stmt u = u
   block_done m env w f p (andthen x rest) u =
       block_done m env w f (past m env p x) rest (framed_done m env w f p x u)
 
-  pub init_first : {W : Type 0} → Reading W → Actions W → Path → Place → Arms → Framed W → Framed W
+  pub init_first : {W : Type 0} → Reading W → Actions W → Path → StatementPlace → Arms → Framed W → Framed W
   init_first m env f p (otherwise b) u = block_done m env beginning f (inside p) b u
   init_first m env f p (arm c b rest) u =
       let now = put_back f (keep m.world (0 ∷ p.path) (expression_read m c) (seen_from f u)) u in
       if holds (now.kept (0 ∷ p.path)) then block_done m env beginning f (inside_arm p) b now
       else init_first m env f (past_arm m env p b) rest now
 
-  pub init_all : {W : Type 0} → Reading W → Actions W → Path → Place → Arms → Framed W → Framed W
+  pub init_all : {W : Type 0} → Reading W → Actions W → Path → StatementPlace → Arms → Framed W → Framed W
   init_all m env f p (otherwise b) u = block_done m env beginning f (inside p) b u
   init_all m env f p (arm c b rest) u =
       let now = put_back f (keep m.world (0 ∷ p.path) (expression_read m c) (seen_from f u)) u in
       going_on m.world u
       (init_all m env f (past_arm m env p b) rest (block_done m env beginning f (inside_arm p) b now))
 
-  pub perf_arms : {W : Type 0} → Reading W → Actions W → Path → Place → Arms → Framed W → Framed W
+  pub perf_arms : {W : Type 0} → Reading W → Actions W → Path → StatementPlace → Arms → Framed W → Framed W
   perf_arms m env f p (otherwise b) u = block_done m env cycle f (inside p) b u
   perf_arms m env f p (arm c b rest) u =
       if holds (value_of m.world (seen_from f u) cycle (0 ∷ p.path) (expression_read m c) 0)

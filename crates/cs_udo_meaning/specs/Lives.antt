@@ -14,7 +14,7 @@ use Rattle.cs_meaning.specs.When.{beginning, cycle}
 use Rattle.cs_udo_meaning.specs.Frames.{Framed, own_frame, new_framed, framed_in, Reading, actions_before, block_done}
 use Rattle.cs_udo_meaning.specs.Frames.{frames_of_block, keepers_of_block, typed_keepers_of_block}
 use Rattle.cs_udo_meaning.specs.Numbered.{Numbering, Tells}
-use Rattle.cs_udo_meaning.specs.Stands.{Way, IsClear, Stands}
+use Rattle.cs_udo_meaning.specs.Stands.{Way, IsClear, StandsForFrames}
 
 -- A control cycle of a note: the world in which it is performed, and what others do to its state before.
 pub record Cycle (W : Type 0) : Type 0 where
@@ -73,12 +73,12 @@ pub record MeansFrames (W : Type 0) (ds : List Definition) (shared : Shared) (i 
   pub leads : All (λ p. (y : Path) → (q : Path) × (way.part (y ++ p) ≡ Some q))
       (typed_keepers_of_block start.path made.body)
   pub begun : (o : World W) (spaces : Spaces) (own : Numbering) → Tells own → (t : Note W) (u : Framed W)
-      → Stands way register own t u
-      → Stands way register own (initial.init_block o start (core.core spaces made.body) t)
+      → StandsForFrames way register own t u
+      → StandsForFrames way register own (initial.init_block o start (core.core spaces made.body) t)
       (begins (reading o spaces shared own) ds i u)
   pub performed : (o : World W) (spaces : Spaces) (own : Numbering) → Tells own → (t : Note W) (u : Framed W)
-      → Stands way register own t u
-      → Stands way register own (performing.perf_block o start (core.core spaces made.body) t)
+      → StandsForFrames way register own t u
+      → StandsForFrames way register own (performing.perf_block o start (core.core spaces made.body) t)
       (performs (reading o spaces shared own) ds i u)
   pub lived : (o : World W) (spaces : Spaces) (own : Numbering) → Tells own → (cycles : List (Cycle W)) (x : W)
       → life o (core.core spaces made.body) cycles x ≡ life_with_frames (reading o spaces shared own) ds i cycles x

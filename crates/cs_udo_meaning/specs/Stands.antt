@@ -30,7 +30,7 @@ pub record IsClear (way : Way) : Type 0 where
 
 -- The note stands as the note with frames does: the local variables of each frame under the names that they have in the
 -- expanded text, the same values kept, the same state of the world. Two numberings tell which registers the names have.
-pub record Stands {W : Type 0} (way : Way) (flat own : Numbering) (t : Note W) (u : Framed W) : Type 0 where
+pub record StandsForFrames {W : Type 0} (way : Way) (flat own : Numbering) (t : Note W) (u : Framed W) : Type 0 where
   pub locals : (f : ℕ) (p : Path) → way.frame f ≡ Some p → (x : List ℕ) → is_global x ≡ false → Fits f x
       → t.locals (reg (name_rate x) (flat (own_name f x))) ≡ u.frames p (reg (name_rate x) (own x))
   pub kept : (p q : Path) → way.part p ≡ Some q → t.kept p ≡ u.kept q

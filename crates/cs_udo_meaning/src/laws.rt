@@ -9,7 +9,7 @@ ghost use Rattle.cs_ir.specs.Worlds.{World};
 ghost use Rattle.cs_meaning.specs.Examples.{each, whole};
 ghost use Rattle.cs_meaning.specs.Core.{core};
 ghost use Rattle.cs_meaning.specs.Initialising.{init_block};
-ghost use Rattle.cs_meaning.specs.Notes.{Note, Path, Place};
+ghost use Rattle.cs_meaning.specs.Notes.{Note, Path, StatementPlace};
 ghost use Rattle.cs_meaning.specs.Performing.{perf_block};
 ghost use Rattle.cs_meaning.specs.When.{When};
 ghost use Rattle.cs_typed.specs.TypedTree as typed;
@@ -73,15 +73,15 @@ pub fn calls_have_frames_of_their_own<W>()
     ensures units { (m : Reading W) → (ds : List Definition) → (n : ℕ) → (b : Block) →
         AllPairs (λ f g. f < g) (units_of_block m (actions_of W ds) n b) }
     ensures alone { (m : Reading W) → (ds : List Definition) → (w : When) → (f : Path) → (g : Path) → g ≢ f →
-        (p : Place) → (b : Block) → (u : Framed W) →
+        (p : StatementPlace) → (b : Block) → (u : Framed W) →
         All (λ h. g ≢ h) (frames_of_block (actions_of W ds) p.path b) →
         (block_done m (actions_of W ds) w f p b u).frames g ≡ u.frames g }
-    ensures kept { (m : Reading W) → (ds : List Definition) → (w : When) → (f : Path) → (p : Place) → (b : Block) →
-        (u : Framed W) → (q : Path) →
+    ensures kept { (m : Reading W) → (ds : List Definition) → (w : When) → (f : Path) →
+        (p : StatementPlace) → (b : Block) → (u : Framed W) → (q : Path) →
         All (λ k. (y : Path) → q ≢ y ++ k) (keepers_of_block (actions_of W ds) p.path b) →
         (block_done m (actions_of W ds) w f p b u).kept q ≡ u.kept q }
-    ensures kept_in_expansions { (o : World W) → (spaces : Spaces) → (w : When) → (p : Place) → (b : typed.Block) →
-        (t : Note W) → (q : Path) →
+    ensures kept_in_expansions { (o : World W) → (spaces : Spaces) → (w : When) →
+        (p : StatementPlace) → (b : typed.Block) → (t : Note W) → (q : Path) →
         All (λ k. (y : Path) → q ≢ y ++ k) (typed_keepers_of_block p.path b) →
         (by_pass w (init_block o p (core spaces b) t) (perf_block o p (core spaces b) t)).kept q ≡ t.kept q }
 {}

@@ -10,7 +10,7 @@ use Rattle.cs_typed.specs.declared.setting.Setting.{Setting}
 use Rattle.cs_typed.specs.declared.tree.TypedArm.{TypedArm, out-TypedArm}
 use Rattle.cs_typing.specs.Expressions.{typed_expression}
 use Rattle.cs_typing.specs.Settings.{at}
-use Rattle.cs_typing.specs.Known.{Known}
+use Rattle.cs_typing.specs.Known.{KnownHere}
 use Rattle.cs_typing.specs.Statements.{condition_fault, block_fault, arms_fault, known_block, known_arms, typed_block}
 use Rattle.cs_typing.specs.Statements.{typed_arms}
 use Rattle.cs_typed.specs.TypedTree as typed
@@ -22,13 +22,13 @@ Gives see (Err (or.Fault f)) fault form = fault ≡ Some f
 Gives see (Err or.OutOfMemory) fault form = Unit {0}
 
 -- the first rule that an arm breaks
-abbrev pub arm_fault : Setting → Known → ℕ → Arm → Option OrcFault
+abbrev pub arm_fault : Setting → KnownHere → ℕ → Arm → Option OrcFault
 arm_fault s n line a =
     option_or (at line (condition_fault s n (expression (out-Arm a).cond)))
     (block_fault s n (block (out-Arm a).body.items))
 
 -- The same of an arm; m is what is known after it.
-abbrev pub GivesArm : Setting → Known → ℕ → Arm → Result TypedArm (Or OrcFault) → Known → Type 0
+abbrev pub GivesArm : Setting → KnownHere → ℕ → Arm → Result TypedArm (Or OrcFault) → KnownHere → Type 0
 GivesArm s n line a (Ok x) m =
     (at line (condition_fault s n (expression (out-Arm a).cond)) ≡ None)
     × (block_fault s n (block (out-Arm a).body.items) ≡ None)
@@ -39,8 +39,8 @@ GivesArm s n line a (Err (or.Fault f)) m = arm_fault s n line a ≡ Some f
 GivesArm s n line a (Err or.OutOfMemory) m = Unit {0}
 
 -- The same of the arms of an `if`, whatever stands after `else`; m is what is known after them.
-abbrev pub GivesArms : {T : Type 0} → (T → List TypedArm) → Setting → Known → ℕ → List Arm → Result T (Or OrcFault)
-    → Known → Type 0
+abbrev pub GivesArms : {T : Type 0} → (T → List TypedArm) → Setting → KnownHere → ℕ → List Arm → Result T (Or OrcFault)
+    → KnownHere → Type 0
 GivesArms see s n line list (Ok made) m =
     (els : Block) → (arms_fault s n line (arms els list) ≡ block_fault s m els)
     × (typed.arms (typed_block m els) (see made) ≡ typed_arms n (arms els list))

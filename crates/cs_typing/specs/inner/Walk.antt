@@ -3,7 +3,7 @@ use Rattle.std.specs.Prelude.{ℕ, List, [], ◌∷◌, ◌++◌, ◌≡◌, map
 use Rattle.cs_base.specs.declared.fault.Or.{Or}
 use Rattle.cs_base.specs.declared.fault.Or.TheVariants as or
 use Rattle.cs_base.specs.declared.fault.OrcFault.{OrcFault}
-use Rattle.cs_typing.specs.Known.{counts_of, Known}
+use Rattle.cs_typing.specs.Known.{counts_of, KnownHere}
 use Rattle.cs_typing.specs.Statements.{known_block, typed_block}
 use Rattle.cs_typing.specs.Typing.{Item, alone, body, items, items_fault, known_item, known_items, first_known}
 use Rattle.cs_typing.specs.Typing.{shared_names, typed_instrument, typed_outside, typed_instruments}
@@ -29,11 +29,11 @@ abbrev pub nothing : Made
 nothing = made_with typed.no_stmt []
 
 -- what is made after one more part
-abbrev pub after_item : Known → Made → Item → Made
+abbrev pub after_item : KnownHere → Made → Item → Made
 after_item n m (alone b) = made_with (typed.then_block m.zero (typed_block n b)) m.instrs
 after_item n m (body i) = made_with m.zero (m.instrs ++ typed_instrument n i ∷ [])
 
-abbrev pub after_items : Known → Made → List Item → Made
+abbrev pub after_items : KnownHere → Made → List Item → Made
 after_items n m [] = m
 after_items n m (x ∷ xs) = after_items (known_item n x) (after_item n m x) xs
 
@@ -49,7 +49,7 @@ parts_fault channels o = items_fault channels (first_known o) (items o.zero o.in
 
 -- the typed form of an orchestra, from its settings, what is known at its end, the statements outside instruments, the
 -- instruments
-abbrev pub made_from : Told → Known → typed.Block → List typed.Instrument → typed.Orchestra
+abbrev pub made_from : Told → KnownHere → typed.Block → List typed.Instrument → typed.Orchestra
 made_from t n zero instrs = record {
   head = t.head;
   spaces = t.spaces;

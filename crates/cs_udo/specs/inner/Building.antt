@@ -9,11 +9,11 @@ use Rattle.cs_udo.specs.Expanded.{Template, Opcodes, called, after_called, after
 use Rattle.cs_udo.specs.Expanded.{expanded_block, expanded_arms}
 use Rattle.cs_udo.specs.declared.build.Made.{Made}
 use Rattle.cs_udo.specs.declared.build.MadeArms.{MadeArms}
-use Rattle.cs_udo.specs.declared.build.Part.{Part}
+use Rattle.cs_udo.specs.declared.build.ExpandedPart.{ExpandedPart}
 use Rattle.cs_udo.specs.inner.Library.{definitions_of, opcodes_of}
 
 -- what is defined in front of a part of the text
-abbrev pub opcodes_in : Part → Opcodes
+abbrev pub opcodes_in : ExpandedPart → Opcodes
 opcodes_in p = opcodes_of (definitions_of p.library.now) p.visible
 
 -- statements that are made, and the number of the next call

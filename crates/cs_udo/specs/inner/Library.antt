@@ -2,7 +2,7 @@
 use Rattle.std.specs.Prelude.{ℕ, List, ◌≡◌, ◌<◌, length, map, take, slice_get, Option, Some, None}
 use Rattle.cs_grammar.specs.declared.tree.Callee.{Callee}
 use Rattle.cs_grammar.specs.Tree.{Definition, definition}
-use Rattle.cs_udo.specs.declared.library.Found.{Found}
+use Rattle.cs_udo.specs.declared.library.FoundDefinition.{FoundDefinition}
 use Rattle.cs_udo.specs.declared.library.Library.{Library}
 use Rattle.cs_udo.specs.Expanded.{Opcodes, no_opcodes, defined, defining_all, template}
 
@@ -20,7 +20,7 @@ opcodes_priced l costs = opcodes_of (definitions_of l) (length costs)
 
 -- what is called where the first `visible` definitions are seen: none of them, or one, which may call those in front
 -- of it
-abbrev pub IsFound : List Definition → ℕ → Callee → Option Found → Type 0
+abbrev pub IsFound : List Definition → ℕ → Callee → Option FoundDefinition → Type 0
 IsFound ds visible c None = defined (opcodes_of ds visible) c ≡ None
 IsFound ds visible c (Some f) =
     (f.place < visible) × (slice_get ds f.place ≡ Some (definition f.definition.now))
