@@ -1,11 +1,9 @@
 -- Arms one after another whose jumps are aimed once their end is known.
-use Rattle.std.proofs.Common.{◌≡◌, ◌∙◌, ◌+◌, ◌<◌, ◌≤◌, ◌++◌, ℕ, zero, suc, true, false, List, [], ◌∷◌, length, get_or}
-use Rattle.std.proofs.Common.{set, arith}
-use Rattle.std.proofs.Common.{refl, sym, ap}
+use Rattle.std.proofs.Common.{◌≡◌, ◌∙◌, ◌+◌, ◌++◌, ℕ, true, false, List, [], ◌∷◌, length, arith, refl, sym, ap}
 use Rattle.std.proofs.lemmas.List.{append_assoc, length-append}
 use Rattle.cs_base.specs.declared.resource.Rate.{Rate}
 use Rattle.cs_base.specs.declared.spaces.Spaces.{Spaces}
-use Rattle.cs_ir.specs.declared.op.Act.{Act}
+use Rattle.cs_ir.specs.Codes.{aim, aimed}
 use Rattle.cs_ir.specs.declared.op.Act.TheVariants as act
 use Rattle.cs_ir.specs.declared.op.Op.{Op}
 use Rattle.cs_ir.specs.declared.register.Reg.{Reg}
@@ -18,30 +16,19 @@ use Rattle.cs_typed.specs.declared.tree.TypedArm.{TypedArm, out-TypedArm}
 use Rattle.cs_typed.specs.declared.tree.TypedStmt.{TypedStmt}
 use Rattle.cs_code.specs.declared.frame.Pass.{Pass}
 use Rattle.cs_code.specs.declared.frame.Pass.TheVariants as pass
-use Rattle.cs_code.specs.inner.Branches.{Branch, past_branch, after, chain, joined, opened, jump_at, jumps, aim}
+use Rattle.cs_code.specs.inner.Branches.{Branch, past_branch, after, chain, joined, opened, jump_at, jumps}
 use Rattle.cs_code.specs.inner.Branches.{aim_all, condition_of, body_of, past_arm, past_list, branch_of, branches}
 use Rattle.cs_code.specs.inner.Code.{all_code, arm_code, init_block_code}
 use Rattle.cs_code.specs.inner.Emitted.{pass_code, pass_block_code, chosen_code, cond_code, cond_reg, takes_all}
 use Rattle.cs_code.specs.inner.Frames.{Frame, op_of}
 use Rattle.cs_code.proofs.Chains.{all_taken, chosen_else, one_taken, taken_pass}
 
--- ---- one op that does another act
+-- ---- one jump that is aimed
 
-pub aim_seam : (xs : List Op) (op : Op) (ys : List Op) (what : Act)
-    → aim (length xs) what (xs ++ op ∷ ys) ≡ xs ++ op_of what op.into op.from ∷ ys
-aim_seam [] op ys what = refl
-aim_seam (x ∷ xs) op ys what = ap (λ l. x ∷ l) (aim_seam xs op ys what)
-
-pub aim_set : (ops : List Op) (n : ℕ) (what : Act) (op : Op) → n < length ops → op ≡ get_or ops n op
-    → set ops n (op_of what op.into op.from) ≡ aim n what ops
-aim_set [] n what op low is = absurd (omega arith)
-aim_set (x ∷ ops) zero what op low is = ap (λ y. op_of what y.into y.from ∷ ops) is
-aim_set (x ∷ ops) (suc n) what op low is = ap (λ l. x ∷ l) (aim_set ops n what op (omega arith) is)
-
-pub aim_none : (ops : List Op) (n : ℕ) (what : Act) → length ops ≤ n → aim n what ops ≡ ops
-aim_none [] n what h = refl
-aim_none (x ∷ ops) zero what h = absurd (omega arith)
-aim_none (x ∷ ops) (suc n) what h = ap (λ l. x ∷ l) (aim_none ops n what (omega arith))
+pub aim_seam : (xs : List Op) (op : Op) (ys : List Op) (to : ℕ)
+    → aim (length xs) to (xs ++ op ∷ ys) ≡ xs ++ op_of (aimed to op.act) op.into op.from ∷ ys
+aim_seam [] op ys to = refl
+aim_seam (x ∷ xs) op ys to = ap (λ l. x ∷ l) (aim_seam xs op ys to)
 
 -- ---- an arm among other ops
 
@@ -99,16 +86,16 @@ chain_first place end b bs els e =
 
 -- an arm's jump is aimed, whatever stands around the arm
 aimed_one : (place end : ℕ) (pre : List Op) (b : Branch) (rest : List Op) → length pre ≡ place
-    → aim (jump_at place b) (act.Jump end) (pre ++ (joined place b 0 ++ rest)) ≡ pre ++ (joined place b end ++ rest)
+    → aim (jump_at place b) end (pre ++ (joined place b 0 ++ rest)) ≡ pre ++ (joined place b end ++ rest)
 aimed_one place end pre b rest at =
     let test : Op = op_of (act.Unless (past_branch place b)) b.q (b.q ∷ []) in
     let jump : ℕ → Op = λ to. op_of (act.Jump to) b.q [] in
     let head : List Op = pre ++ (b.cond ++ (test ∷ b.body)) in
     let here : jump_at place b ≡ length head =
     omega (arith, at, length-append pre (b.cond ++ (test ∷ b.body)), length-append b.cond (test ∷ b.body)) in
-    ap (λ l. aim (jump_at place b) (act.Jump end) l) (flat pre b.cond b.body test (jump 0) rest)
-    ∙ ap (λ n. aim n (act.Jump end) (head ++ (jump 0 ∷ rest))) here
-    ∙ aim_seam head (jump 0) rest (act.Jump end)
+    ap (λ l. aim (jump_at place b) end l) (flat pre b.cond b.body test (jump 0) rest)
+    ∙ ap (λ n. aim n end (head ++ (jump 0 ∷ rest))) here
+    ∙ aim_seam head (jump 0) rest end
     ∙ sym (flat pre b.cond b.body test (jump end) rest)
 
 pub closed : (end place : ℕ) (pre : List Op) (bs : List Branch) (els : List Op) → length pre ≡ place
@@ -120,7 +107,7 @@ closed end place pre (b ∷ bs) els at is =
     let rest : List Op = opened next bs ++ els in
     let first : List Op = joined place b end in
     let long : length (pre ++ first) ≡ next = omega (arith, at, length-append pre first, joined_long place end b) in
-    ap (λ l. aim_all (jumps next bs) end (aim (jump_at place b) (act.Jump end) (pre ++ l)))
+    ap (λ l. aim_all (jumps next bs) end (aim (jump_at place b) end (pre ++ l)))
     (append_assoc (joined place b 0) (opened next bs) els)
     ∙ ap (aim_all (jumps next bs) end) (aimed_one place end pre b rest at ∙ sym (append_assoc pre first rest))
     ∙ closed end next (pre ++ first) bs els long is
@@ -161,7 +148,7 @@ pub arm_made : (old first tested filled jumped new cond body : List Op) (q : Reg
     → test ≡ length first
     → tested ≡ first ++ (op_of (act.Unless 0) q (q ∷ []) ∷ []) → filled ≡ tested ++ body
     → jumped ≡ filled ++ (op_of (act.Jump 0) q [] ∷ [])
-    → past ≡ length jumped → new ≡ aim test (act.Unless past) jumped
+    → past ≡ length jumped → new ≡ aim test past jumped
     → new ≡ old ++ joined (length old) (record { cond = cond; q = q; body = body }) 0
 arm_made old first tested filled jumped new cond body q test past a b c d e g h =
     let none : Op = op_of (act.Unless 0) q (q ∷ []) in
@@ -182,9 +169,9 @@ arm_made old first tested filled jumped new cond body q test past a b c d e g h 
       length-append body (jump ∷ []),
     ) in
     h
-    ∙ ap (λ n. aim n (act.Unless past) jumped) (b ∙ ap length a)
-    ∙ ap (aim (length (old ++ cond)) (act.Unless past)) all
-    ∙ aim_seam (old ++ cond) none (body ++ (jump ∷ [])) (act.Unless past)
+    ∙ ap (λ n. aim n past jumped) (b ∙ ap length a)
+    ∙ ap (aim (length (old ++ cond)) past) all
+    ∙ aim_seam (old ++ cond) none (body ++ (jump ∷ [])) past
     ∙ ap (λ n. (old ++ cond) ++ (op_of (act.Unless n) q (q ∷ []) ∷ (body ++ (jump ∷ [])))) long
     ∙ append_assoc old cond (op_of (act.Unless (past_branch (length old) b0)) q (q ∷ []) ∷ (body ++ (jump ∷ [])))
 
@@ -261,7 +248,7 @@ pub chosen_made : (way : Pass) (f : Frame) (o : Spaces) (old mid last new : List
     → q ≡ past_list o p list → last ≡ mid ++ pass_block_code way f (length mid) q (core o els)
     → new ≡ aim_all ends (length last) last
     → new ≡ old ++ chosen_code way f (length old) p (core_arms o (typed.arms els list))
-chosen_made way f o old mid last new ends p q list els made at on done aimed =
+chosen_made way f o old mid last new ends p q list els made at on done closing =
     let bs : List Branch = branches way f o (length old) p list in
     let begins : ℕ = after (length old) bs in
     let rest : List Op = pass_block_code way f begins (past_list o p list) (core o els) in
@@ -282,7 +269,7 @@ chosen_made way f o old mid last new ends p q list els made at on done aimed =
           (opened (length old) bs) rest,
       opened_long (length old) bs,
     ) in
-    aimed
+    closing
     ∙ ap (λ ns. aim_all ns (length last) last) at
     ∙ ap (aim_all (jumps (length old) bs) (length last)) all
     ∙ closed (length last) (length old) old bs rest refl end
@@ -319,10 +306,10 @@ pub one_choice : (way : Pass) (f : Frame) (o : Spaces) (old mid last new : List 
     → new ≡ aim_all ends (length last) last
     → new ≡ old ++ pass_code way f (length old) p (core_stmt o s)
 one_choice way f o old mid last new none now ends p q line r s arms list stmts els seen taken are rest_are empty same
-    made kept at done aimed =
+    made kept at done closing =
     chosen_made way f o old mid last new now p q arms (typed.block stmts) made
     (kept ∙ ap (λ ns. ns ++ jumps (length old) (branches way f o (length old) p arms)) empty) at done
-    (aimed ∙ ap (λ ns. aim_all ns (length last) last) same)
+    (closing ∙ ap (λ ns. aim_all ns (length last) last) same)
     ∙ ap (λ xs. old ++ chosen_code way f (length old) p (core_arms o (typed.arms (typed.block xs) arms))) rest_are
     ∙ ap (λ xs. old ++ chosen_code way f (length old) p (core_arms o (typed.arms (typed.block els) xs))) are
     ∙ sym (ap (λ l. old ++ l)

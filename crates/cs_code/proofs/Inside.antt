@@ -62,7 +62,7 @@ lays_on first placed p n h k q =
     (h (k ∷ q))
 
 -- the place of the tree that has a path and the number of a unit
-abbrev pub stands_at : Path → Progress → meaning.Place
+abbrev pub stands_at : Path → Progress → meaning.StatementPlace
 stands_at path p = record { path = path; unit = p.unit }
 
 -- where parts are read as they were kept, they have their registers

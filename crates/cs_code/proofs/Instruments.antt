@@ -103,15 +103,15 @@ module _ (spaces : Spaces) (locals : PerRate ℕ) (s : Setting) (t : typed.Block
       (means_its_tree spaces s locals t rated counted))
 
   -- the promise of an instrument, of any two codes with these ops and counts
-  pub made_code : EachInBlock (IsCounted locals) t → (a b : Code) → a.ops.items ≡ init → a.counts ≡ counts
-      → b.ops.items ≡ perf → b.counts ≡ counts → IsCodeOf spaces s.channels t a b
+  pub made_code : EachInBlock (IsCounted locals) t → (a b : Code) → a.ops ≡ init → a.counts ≡ counts
+      → b.ops ≡ perf → b.counts ≡ counts → IsCodeOf spaces s.channels t a b
   made_code counted a b ops_a counts_a ops_b counts_b = record {
-    means = subst (λ ops. Means (core spaces t) ops b.ops.items) (sym ops_a)
+    means = subst (λ ops. Means (core spaces t) ops b.ops) (sym ops_a)
         (subst (λ ops. Means (core spaces t) init ops) (sym ops_b) (made_means counted));
     runs = record {
-      init_valid = ap (λ c. fine_from c (length a.ops.items) 0 a.ops.items) counts_a
+      init_valid = ap (λ c. fine_from c (length a.ops) 0 a.ops) counts_a
           ∙ ap (λ ops. fine_from counts (length ops) 0 ops) ops_a ∙ made_init_valid;
-      perf_valid = ap (λ c. fine_from c (length b.ops.items) 0 b.ops.items) counts_b
+      perf_valid = ap (λ c. fine_from c (length b.ops) 0 b.ops) counts_b
           ∙ ap (λ ops. fine_from counts (length ops) 0 ops) ops_b ∙ made_perf_valid;
       counts = counts_a ∙ sym counts_b;
       count = ap (λ (c : Counts). c.units) counts_a ∙ units_are ∙ units_counted (core spaces t);
@@ -122,9 +122,9 @@ module _ (spaces : Spaces) (locals : PerRate ℕ) (s : Setting) (t : typed.Block
       perf_cycle = ap are_of_cycle (ops_b ∙ made.perf_is) ∙ perf_cycles_rated spaces s t rated f;
     };
     touches = record {
-      begins = λ way stock. alike (ops_touch way stock a.ops.items) (block_touched way beginning stock (core spaces t))
+      begins = λ way stock. alike (ops_touch way stock a.ops) (block_touched way beginning stock (core spaces t))
           (ap (ops_touch way stock) (ops_a ∙ made.init_is) ∙ block_begins way stock f 0 start (core spaces t));
-      cycles = λ way stock. alike (ops_touch way stock b.ops.items) (block_touched way cycle stock (core spaces t))
+      cycles = λ way stock. alike (ops_touch way stock b.ops) (block_touched way cycle stock (core spaces t))
           (ap (ops_touch way stock) (ops_b ∙ made.perf_is) ∙ block_cycles way stock f 0 start (core spaces t));
     };
   }

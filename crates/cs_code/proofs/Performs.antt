@@ -80,7 +80,7 @@ module _ {W : Type 0} (o : World W) (quiet : Quiet o) where
   done_quiet r vs p t h = given_quiet vs (held o.ksmps r p.1) (moved_to p.0 t) ∙ h
 
   mutual
-    pub stmt_quiet : (p : meaning.Place) (s : Stmt) (t : Note W)
+    pub stmt_quiet : (p : meaning.StatementPlace) (s : Stmt) (t : Note W)
         → o.refused (perf_stmt o p s t).world ≡ o.refused t.world
     stmt_quiet p (set r v e) t = init_quiet r t _ (assign_quiet v (value o t cycle (0 ∷ p.path) e) t)
     stmt_quiet p (unit r vs opcode reach xs is) t =
@@ -100,12 +100,12 @@ module _ {W : Type 0} (o : World W) (quiet : Quiet o) where
     stmt_quiet p nothing t = refl
     stmt_quiet p (choose r arms) t = arms_quiet (inside p) arms t
 
-    pub block_quiet : (p : meaning.Place) (b : Block) (t : Note W)
+    pub block_quiet : (p : meaning.StatementPlace) (b : Block) (t : Note W)
         → o.refused (perf_block o p b t).world ≡ o.refused t.world
     block_quiet p no_stmt t = refl
     block_quiet p (andthen s b) t = block_quiet (meaning.past_stmt p s) b (perf_stmt o p s t) ∙ stmt_quiet p s t
 
-    pub arms_quiet : (p : meaning.Place) (arms : Arms) (t : Note W)
+    pub arms_quiet : (p : meaning.StatementPlace) (arms : Arms) (t : Note W)
         → o.refused (perf_arms o p arms t).world ≡ o.refused t.world
     arms_quiet p (otherwise b) t = block_quiet (inside p) b t
     arms_quiet p (arm c b rest) t =

@@ -88,4 +88,4 @@ tone_counts = record { registers = record { init = 2; control = 1; audio = 1 }; 
 
 -- a code with these ops, over these registers and units
 abbrev pub IsMadeOf : List Op → Counts → Code → Type 0
-IsMadeOf ops counts code = (code.ops.items ≡ ops) × (code.counts ≡ counts)
+IsMadeOf ops counts code = (code.ops ≡ ops) × (code.counts ≡ counts)

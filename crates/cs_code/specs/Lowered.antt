@@ -22,22 +22,22 @@ pub record CanBeRun (channels : ℕ) (units : List UnitKind) (init perf : Code) 
   pub perf_valid : valid perf ≡ true
   pub counts : init.counts ≡ perf.counts
   pub count : init.counts.units ≡ length units
-  pub init_names : AllNamed channels units init.ops.items
-  pub perf_names : AllNamed channels units perf.ops.items
-  pub perf_cycle : are_of_cycle perf.ops.items ≡ true
+  pub init_names : AllNamed channels units init.ops
+  pub perf_names : AllNamed channels units perf.ops
+  pub perf_cycle : are_of_cycle perf.ops ≡ true
 
 -- Two codes use and may write the same resources as statements do, in whatever order: the initialisation those of the
 -- note's beginning, and the performance those of a cycle.
 pub record TouchAlike (body : Block) (init perf : Code) : Type 0 where
   pub begins : (t : Touch) (stock : Stock)
-      → NameTheSame (ops_touch t stock init.ops.items) (block_touched t beginning stock body)
+      → NameTheSame (ops_touch t stock init.ops) (block_touched t beginning stock body)
   pub cycles : (t : Touch) (stock : Stock)
-      → NameTheSame (ops_touch t stock perf.ops.items) (block_touched t cycle stock body)
+      → NameTheSame (ops_touch t stock perf.ops) (block_touched t cycle stock body)
 
 -- The two codes of a block, in a piece with these zak spaces and this number of channels: they mean its statements, can
 -- be run, and touch what the statements do.
 pub record IsCodeOf (spaces : Spaces) (channels : ℕ) (body : typed.Block) (init perf : Code) : Type 0 where
-  pub means : Means (core spaces body) init.ops.items perf.ops.items
+  pub means : Means (core spaces body) init.ops perf.ops
   pub runs : CanBeRun channels (block_units (core spaces body)) init perf
   pub touches : TouchAlike (core spaces body) init perf
 

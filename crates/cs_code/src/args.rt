@@ -12,7 +12,7 @@ ghost use Rattle.cs_code.specs.declared.frame.Pass.TheVariants as pass;
 use crate::expr::{keep, operand};
 use crate::frame::{Context, add, push};
 use cs_base::{OutOfMemory, Rate};
-use cs_ir::{Act, Op, Operands, Reg};
+use cs_ir::{Act, CodeDraft, Operands, Reg};
 use cs_typed::{TypedArg, TypedExpr, Var};
 use cs_words::{Letter, Opcode, signature_of};
 use std::alloc::Global;
@@ -127,12 +127,12 @@ pub struct Gathered {
 
 /// The code of values, into temporaries from 0 on where they stand nowhere yet.
 pub fn operands(
-    ops: &mut Vec<Op>,
+    ops: &mut CodeDraft,
     context: Context,
     at: u32,
     values: &[&TypedExpr],
 ) -> Result<Gathered, OutOfMemory>
-    ensures ops { OnOk result (ops.new.items ≡ ops.old.items
+    ensures ops { OnOk result (ops.new ≡ ops.old
         ++ operands_code (frame_of context.bases) (when_of context.pass) at (expressions_of values.now) 0) }
     ensures regs { IfOk result (λ g. g.regs.items
         ≡ spots (frame_of context.bases) (when_of context.pass) at (expressions_of values.now) 0) }
@@ -145,13 +145,13 @@ pub fn operands(
 
 // The same, to registers that are appended.
 fn gather(
-    ops: &mut Vec<Op>,
+    ops: &mut CodeDraft,
     regs: &mut Vec<Reg>,
     context: Context,
     at: u32,
     values: &[&TypedExpr],
 ) -> Result<u32, OutOfMemory>
-    ensures ops { OnOk result (ops.new.items ≡ ops.old.items
+    ensures ops { OnOk result (ops.new ≡ ops.old
         ++ operands_code (frame_of context.bases) (when_of context.pass) at (expressions_of values.now) 0) }
     ensures regs { OnOk result (regs.new.items ≡ regs.old.items
         ++ spots (frame_of context.bases) (when_of context.pass) at (expressions_of values.now) 0) }
@@ -170,14 +170,14 @@ fn gather(
 
 /// An op on values, after their code. Returns the number of the next kept value.
 pub fn push_on(
-    ops: &mut Vec<Op>,
+    ops: &mut CodeDraft,
     context: Context,
     at: u32,
     act: Act,
     into: Reg,
     values: &[&TypedExpr],
 ) -> Result<u32, OutOfMemory>
-    ensures ops { OnOk result (ops.new.items ≡ ops.old.items
+    ensures ops { OnOk result (ops.new ≡ ops.old
         ++ on_code (frame_of context.bases) (when_of context.pass) at act into (expressions_of values.now)) }
     ensures next { IfOk result (λ n. n ≡ past_all at (expressions_of values.now)) }
 {
@@ -189,13 +189,13 @@ pub fn push_on(
 
 /// The parts of values that are kept. Returns the number of the next kept value.
 pub fn keep_all(
-    ops: &mut Vec<Op>,
+    ops: &mut CodeDraft,
     context: Context,
     at: u32,
     values: &[&TypedExpr],
 ) -> Result<u32, OutOfMemory>
     requires { context.pass ≡ pass.Initialisation }
-    ensures ops { OnOk result (ops.new.items ≡ ops.old.items
+    ensures ops { OnOk result (ops.new ≡ ops.old
         ++ keep_all_code (frame_of context.bases) at (expressions_of values.now)) }
     ensures next { IfOk result (λ n. n ≡ past_all at (expressions_of values.now)) }
 {

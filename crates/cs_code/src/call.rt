@@ -15,7 +15,7 @@ use crate::reach::{unit_reach, zak_reach};
 use crate::simple::{Assignment, Sending, ask, assign, send, store, turnoff, unit, zak};
 use crate::value::Value;
 use cs_base::{OutOfMemory, Rate};
-use cs_ir::Op;
+use cs_ir::CodeDraft;
 use cs_typed::TypedArg;
 use cs_words::{Shape, signature_of};
 
@@ -101,13 +101,13 @@ fn assigned<'t>(call: &Call<'t>) -> Option<Assignment<'t>>
 
 // A unit, over the values among its arguments.
 fn unit_call(
-    ops: &mut Vec<Op>,
+    ops: &mut CodeDraft,
     context: Context,
     p: Progress,
     call: &Call<'_>,
 ) -> Result<Progress, OutOfMemory>
-    ensures ops { OnOk result (ops.new.items
-        ≡ ops.old.items ++ pass_code context.pass (frame_of context.bases) 0 p
+    ensures ops { OnOk result (ops.new
+        ≡ ops.old ++ pass_code context.pass (frame_of context.bases) 0 p
         (unit_call call.now.rate call.now.results.now call.now.opcode (arguments_of call.now))) }
     ensures next { IfOk result (λ q. q
         ≡ past_stmt p (unit_call call.now.rate call.now.results.now call.now.opcode
@@ -120,13 +120,13 @@ fn unit_call(
 
 // A store, over all values among its arguments, of which the settled one is the number of its table.
 fn store_call(
-    ops: &mut Vec<Op>,
+    ops: &mut CodeDraft,
     context: Context,
     p: Progress,
     call: &Call<'_>,
 ) -> Result<Progress, OutOfMemory>
-    ensures ops { OnOk result (ops.new.items
-        ≡ ops.old.items ++ pass_code context.pass (frame_of context.bases) 0 p
+    ensures ops { OnOk result (ops.new
+        ≡ ops.old ++ pass_code context.pass (frame_of context.bases) 0 p
         (store_call call.now.rate call.now.opcode (arguments_of call.now))) }
     ensures next { IfOk result (λ q. q
         ≡ past_stmt p (store_call call.now.rate call.now.opcode (arguments_of call.now))) }
@@ -138,13 +138,13 @@ fn store_call(
 
 // What reads or writes zak places, over its values.
 fn zak_call(
-    ops: &mut Vec<Op>,
+    ops: &mut CodeDraft,
     context: Context,
     p: Progress,
     call: &Call<'_>,
 ) -> Result<Progress, OutOfMemory>
-    ensures ops { OnOk result (ops.new.items
-        ≡ ops.old.items ++ pass_code context.pass (frame_of context.bases) 0 p
+    ensures ops { OnOk result (ops.new
+        ≡ ops.old ++ pass_code context.pass (frame_of context.bases) 0 p
         (zak_call context.spaces call.now.rate call.now.results.now call.now.opcode (row_of call.now.opcode).shape
         (arguments_of call.now))) }
     ensures next { IfOk result (λ q. q ≡ past_stmt p (zak_call context.spaces call.now.rate
@@ -158,13 +158,13 @@ fn zak_call(
 
 // Values go out.
 fn out(
-    ops: &mut Vec<Op>,
+    ops: &mut CodeDraft,
     context: Context,
     p: Progress,
     sending: Sending,
     call: &Call<'_>,
 ) -> Result<Progress, OutOfMemory>
-    ensures ops { OnOk result (ops.new.items ≡ ops.old.items
+    ensures ops { OnOk result (ops.new ≡ ops.old
         ++ pass_code context.pass (frame_of context.bases) 0 p
         (sent_as sending rate.Audio (values_of (arguments_of call.now)))) }
     ensures next { IfOk result (λ q. q
@@ -175,8 +175,8 @@ fn out(
 }
 
 // Asks for a note.
-fn schedule(ops: &mut Vec<Op>, context: Context, call: &Call<'_>) -> Result<(), OutOfMemory>
-    ensures { OnOk result (ops.new.items ≡ ops.old.items
+fn schedule(ops: &mut CodeDraft, context: Context, call: &Call<'_>) -> Result<(), OutOfMemory>
+    ensures { OnOk result (ops.new ≡ ops.old
         ++ pass_code context.pass (frame_of context.bases) 0 start (ask (values_of (arguments_of call.now)))) }
 {
     let values = values(context.alloc, call)?;
@@ -185,12 +185,12 @@ fn schedule(ops: &mut Vec<Op>, context: Context, call: &Call<'_>) -> Result<(), 
 
 // A call that is no assignment.
 fn effect(
-    ops: &mut Vec<Op>,
+    ops: &mut CodeDraft,
     context: Context,
     p: Progress,
     call: &Call<'_>,
 ) -> Result<Progress, OutOfMemory>
-    ensures ops { OnOk result (ops.new.items ≡ ops.old.items
+    ensures ops { OnOk result (ops.new ≡ ops.old
         ++ pass_code context.pass (frame_of context.bases) 0 p (effect_of context.spaces call.now
         (row_of call.now.opcode).shape)) }
     ensures next { IfOk result (λ q. q
@@ -218,12 +218,12 @@ fn effect(
 
 /// The code of a call. Returns what was met before its end.
 pub fn call(
-    ops: &mut Vec<Op>,
+    ops: &mut CodeDraft,
     context: Context,
     p: Progress,
     call: &Call<'_>,
 ) -> Result<Progress, OutOfMemory>
-    ensures ops { OnOk result (ops.new.items ≡ ops.old.items
+    ensures ops { OnOk result (ops.new ≡ ops.old
         ++ pass_code context.pass (frame_of context.bases) 0 p (call_of context.spaces
         call.now (row_of call.now.opcode).shape)) }
     ensures next { IfOk result (λ q. q

@@ -8,19 +8,19 @@ ghost use Rattle.cs_code.specs.inner.Counted.{reached, no_registers};
 ghost use Rattle.cs_code.specs.inner.Frames.{frame_for};
 ghost use Rattle.cs_code.specs.inner.Limits.{ops_limit};
 
-use crate::counts::with_ops;
+use crate::counts::with_stretches;
 use crate::frame::{Bases, Context, Pass, Progress, add, narrow};
 use crate::stmt::body_of;
 use cs_base::{OutOfMemory, PerRate, Spaces};
-use cs_ir::{Counts, Op};
+use cs_ir::{Counts, Ops, Passages};
 use cs_typed::TypedStmt;
 use std::alloc::Global;
 
 /// The two codes of a block, over the same registers and units.
 #[derive(Drop)]
 pub struct Codes {
-    pub init: Vec<Op>,
-    pub perf: Vec<Op>,
+    pub init: Ops,
+    pub perf: Ops,
     pub counts: Counts,
 }
 
@@ -29,7 +29,7 @@ const START: Progress = Progress { part: 0, unit: 0 };
 
 // The counts of two codes.
 #[tactic(auto, using(crate::proofs::Reached::reached_two))]
-fn counts_of(units: usize, init: &[Op], perf: &[Op]) -> Counts
+fn counts_of(units: usize, init: &Ops, perf: &Ops) -> Counts
     ensures { result ≡ reached (no_registers units) (λ r. max (ops_limit r init.now) (ops_limit r perf.now)) }
 {
     let registers = PerRate {
@@ -38,8 +38,8 @@ fn counts_of(units: usize, init: &[Op], perf: &[Op]) -> Counts
         audio: 0,
     };
     let none = Counts { registers, units };
-    let counts = with_ops(none, init);
-    with_ops(counts, perf)
+    let counts = with_stretches(none, init.stretches());
+    with_stretches(counts, perf.stretches())
 }
 
 // Numbers of registers as ops name them.
@@ -53,22 +53,25 @@ fn narrowed(locals: PerRate<usize>) -> Result<PerRate<u32>, OutOfMemory>
     })
 }
 
-/// The two codes of a block with these local variables. The performance is made first: it keeps no temporary of rate
-/// Init, and counts the kept values, after which those of the initialisation begin.
+/// The two codes of a block with these local variables, of an instrument whose `instr` stands at a line. The
+/// performance is made first: it keeps no temporary of rate Init, and counts the kept values, after which those of the
+/// initialisation begin.
 pub fn codes_of(
+    passages: &mut Passages,
     alloc: Global,
     spaces: Spaces,
     locals: PerRate<usize>,
+    line: u32,
     stmts: &[TypedStmt],
 ) -> Result<Codes, OutOfMemory>
     ensures init { let body = core spaces (typed.block stmts.now) in
-        IfOk result (λ c. c.init.items ≡ init_block_code (frame_for locals body) 0 start body) }
+        IfOk result (λ c. c.init ≡ init_block_code (frame_for locals body) 0 start body) }
     ensures perf { let body = core spaces (typed.block stmts.now) in
-        IfOk result (λ c. c.perf.items ≡ perf_block_code (frame_for locals body) 0 start body) }
+        IfOk result (λ c. c.perf ≡ perf_block_code (frame_for locals body) 0 start body) }
     ensures counts { IfOk result (λ c. c.counts
         ≡ reached (no_registers (past_block start (core spaces
         (typed.block stmts.now))).unit)
-        (λ r. max (ops_limit r c.init.items) (ops_limit r c.perf.items))) }
+        (λ r. max (ops_limit r c.init) (ops_limit r c.perf))) }
 {
     let locals = narrowed(locals)?;
     let kept = locals.init;
@@ -81,8 +84,9 @@ pub fn codes_of(
         pass: Pass::Performance,
         bases,
         spaces,
+        line,
     };
-    let perf = body_of(context, START, stmts)?;
+    let perf = body_of(passages, context, START, stmts)?;
     let init = add(kept, perf.next.part)?;
     let bases = Bases {
         kept,
@@ -93,8 +97,9 @@ pub fn codes_of(
         pass: Pass::Initialisation,
         bases,
         spaces,
+        line,
     };
-    let init = body_of(context, START, stmts)?;
+    let init = body_of(passages, context, START, stmts)?;
     let counts = counts_of(init.next.unit as usize, &init.ops, &perf.ops);
     Ok(Codes {
         init: init.ops,

@@ -1,11 +1,12 @@
 // How many registers codes name.
 ghost use Rattle.std.specs.Prelude.{◌≡◌, if◌then◌else◌};
 ghost use Rattle.cs_base.specs.Rates.{same_rate};
+ghost use Rattle.cs_ir.specs.Codes.{flat, ops_of};
 ghost use Rattle.cs_code.specs.inner.Counted.{reached, op_limit};
 ghost use Rattle.cs_code.specs.inner.Limits.{reg_limit, regs_limit, ops_limit};
 
 use cs_base::{PerRate, Rate};
-use cs_ir::{Counts, Op, Reg};
+use cs_ir::{Counts, Op, Reg, SharedOps, Stretch};
 
 // Counts that reach a register of a rate that ends at a number.
 #[tactic(auto, using(crate::proofs::Reached::max_none))]
@@ -59,13 +60,42 @@ fn with_op(counts: Counts, op: &Op) -> Counts
     with_regs(counts, op.from.as_slice())
 }
 
-/// Raises `counts` to cover every register that `ops` name.
-pub fn with_ops(counts: Counts, ops: &[Op]) -> Counts
+fn with_own(counts: Counts, ops: &[Op]) -> Counts
     ensures { result ≡ reached counts (λ r. ops_limit r ops.now) }
 {
     let mut all = counts;
     for op in ops {
         all = with_op(all, op);
+    }
+    all
+}
+
+fn with_shared(counts: Counts, ops: &SharedOps) -> Counts
+    ensures { result ≡ reached counts (λ r. ops_limit r ops.now) }
+{
+    let mut all = counts;
+    for place in 0..ops.len() {
+        all = with_op(all, &ops.op(place));
+    }
+    all
+}
+
+fn with_stretch(counts: Counts, stretch: &Stretch) -> Counts
+    ensures { result ≡ reached counts (λ r. ops_limit r (ops_of stretch.now)) }
+{
+    match stretch {
+        Stretch::Own(ops) => with_own(counts, ops),
+        Stretch::Shared(ops) => with_shared(counts, ops),
+    }
+}
+
+/// Raises `counts` to cover every register that the ops of a code name, stretch by stretch.
+pub fn with_stretches(counts: Counts, stretches: &[Stretch]) -> Counts
+    ensures { result ≡ reached counts (λ r. ops_limit r (flat stretches.now)) }
+{
+    let mut all = counts;
+    for stretch in stretches {
+        all = with_stretch(all, stretch);
     }
     all
 }

@@ -12,13 +12,13 @@ ghost use Rattle.cs_code.specs.declared.frame.Pass.TheVariants as pass;
 use crate::frame::{Context, ValueSpot, add, kept_reg, local, next_of, push, temp};
 use crate::value::{Value, direct, rate_of};
 use cs_base::{Num, OutOfMemory, Rate};
-use cs_ir::{Act, Op, Operands, Reg};
+use cs_ir::{Act, CodeDraft, Operands, Reg};
 use cs_typed::{TypedExpr, TypedPart, Var};
 use cs_words::BinOp;
 
 // A variable's value into a register.
-fn look(ops: &mut Vec<Op>, v: Var, into: Reg) -> Result<(), OutOfMemory>
-    ensures { OnOk result (ops.new.items ≡ ops.old.items ++ look_code v into) }
+fn look(ops: &mut CodeDraft, v: Var, into: Reg) -> Result<(), OutOfMemory>
+    ensures { OnOk result (ops.new ≡ ops.old ++ look_code v into) }
 {
     match v {
         Var::Local(rate, index) => {
@@ -32,14 +32,14 @@ fn look(ops: &mut Vec<Op>, v: Var, into: Reg) -> Result<(), OutOfMemory>
 // number of the next kept value.
 #[cycle(expr)]
 fn own(
-    ops: &mut Vec<Op>,
+    ops: &mut CodeDraft,
     context: Context,
     at: u32,
     e: &TypedExpr,
     into: Reg,
     d: u32,
 ) -> Result<u32, OutOfMemory>
-    ensures ops { OnOk result (ops.new.items ≡ ops.old.items
+    ensures ops { OnOk result (ops.new ≡ ops.old
         ++ own (frame_of context.bases) (when_of context.pass) at (expression e.now) into d) }
     ensures next { IfOk result (λ n. n ≡ past at (expression e.now)) }
 {
@@ -91,13 +91,13 @@ fn own(
 #[cycle(expr)]
 #[tactic(auto, using(crate::proofs::Nodes::rate_of_part, crate::proofs::Nodes::nodes))]
 pub fn operand(
-    ops: &mut Vec<Op>,
+    ops: &mut CodeDraft,
     context: Context,
     at: u32,
     e: &TypedExpr,
     d: u32,
 ) -> Result<ValueSpot, OutOfMemory>
-    ensures ops { OnOk result (ops.new.items ≡ ops.old.items
+    ensures ops { OnOk result (ops.new ≡ ops.old
         ++ operand_code (frame_of context.bases) (when_of context.pass) at (expression e.now) d) }
     ensures spot { IfOk result (λ s. s.reg
         ≡ spot (frame_of context.bases) (when_of context.pass) at (expression e.now) d) }
@@ -119,14 +119,14 @@ pub fn operand(
 // What makes a variable's value stand somewhere.
 #[tactic(auto, using(crate::proofs::Nodes::nodes))]
 fn variable(
-    ops: &mut Vec<Op>,
+    ops: &mut CodeDraft,
     context: Context,
     at: u32,
     rate: Rate,
     v: Var,
     d: u32,
 ) -> Result<ValueSpot, OutOfMemory>
-    ensures ops { OnOk result (ops.new.items ≡ ops.old.items
+    ensures ops { OnOk result (ops.new ≡ ops.old
         ++ operand_code (frame_of context.bases) (when_of context.pass) at (var rate v) d) }
     ensures spot { IfOk result (λ s. s.reg
         ≡ spot (frame_of context.bases) (when_of context.pass) at (var rate v) d) }
@@ -145,14 +145,14 @@ fn variable(
 
 // A value that stands nowhere yet, into a register.
 fn made(
-    ops: &mut Vec<Op>,
+    ops: &mut CodeDraft,
     context: Context,
     at: u32,
     value: &Value<'_>,
     into: Reg,
     d: u32,
 ) -> Result<u32, OutOfMemory>
-    ensures ops { OnOk result (ops.new.items ≡ ops.old.items
+    ensures ops { OnOk result (ops.new ≡ ops.old
         ++ own (frame_of context.bases) (when_of context.pass) at (value_of value.now) into d) }
     ensures next { IfOk result (λ n. n ≡ past at (value_of value.now)) }
 {
@@ -183,12 +183,12 @@ fn made(
 /// What makes a value stand somewhere: nothing, or its code into the first temporary of its rate.
 #[tactic(auto, using(crate::proofs::Nodes::nodes))]
 pub fn spot_of(
-    ops: &mut Vec<Op>,
+    ops: &mut CodeDraft,
     context: Context,
     at: u32,
     value: &Value<'_>,
 ) -> Result<ValueSpot, OutOfMemory>
-    ensures ops { OnOk result (ops.new.items ≡ ops.old.items
+    ensures ops { OnOk result (ops.new ≡ ops.old
         ++ operand_code (frame_of context.bases) (when_of context.pass) at (value_of value.now) 0) }
     ensures spot { IfOk result (λ s. s.reg
         ≡ spot (frame_of context.bases) (when_of context.pass) at (value_of value.now) 0) }
@@ -210,13 +210,13 @@ pub fn spot_of(
 /// A value into a register, by a copy where it stands already. Returns the number of the next kept value.
 #[tactic(auto, using(crate::proofs::Nodes::copies))]
 pub fn code(
-    ops: &mut Vec<Op>,
+    ops: &mut CodeDraft,
     context: Context,
     at: u32,
     value: &Value<'_>,
     into: Reg,
 ) -> Result<u32, OutOfMemory>
-    ensures ops { OnOk result (ops.new.items ≡ ops.old.items
+    ensures ops { OnOk result (ops.new ≡ ops.old
         ++ code (frame_of context.bases) (when_of context.pass) at (value_of value.now) into 0) }
     ensures next { IfOk result (λ n. n ≡ past at (value_of value.now)) }
 {
@@ -230,9 +230,14 @@ pub fn code(
 }
 
 // A value that doesn't change is worked out as a whole and kept.
-fn kept(ops: &mut Vec<Op>, context: Context, at: u32, value: &Value<'_>) -> Result<u32, OutOfMemory>
+fn kept(
+    ops: &mut CodeDraft,
+    context: Context,
+    at: u32,
+    value: &Value<'_>,
+) -> Result<u32, OutOfMemory>
     requires { context.pass ≡ pass.Initialisation }
-    ensures ops { OnOk result (ops.new.items ≡ ops.old.items
+    ensures ops { OnOk result (ops.new ≡ ops.old
         ++ kept_code (frame_of context.bases) at (value_of value.now)) }
     ensures next { IfOk result (λ n. n ≡ at + 1) }
 {
@@ -243,9 +248,14 @@ fn kept(ops: &mut Vec<Op>, context: Context, at: u32, value: &Value<'_>) -> Resu
 /// The outermost parts that don't change, each into its register. Returns the number of the next kept value.
 #[cycle(keep)]
 #[tactic(auto, using(crate::proofs::Nodes::splits))]
-pub fn keep(ops: &mut Vec<Op>, context: Context, at: u32, e: &TypedExpr) -> Result<u32, OutOfMemory>
+pub fn keep(
+    ops: &mut CodeDraft,
+    context: Context,
+    at: u32,
+    e: &TypedExpr,
+) -> Result<u32, OutOfMemory>
     requires { context.pass ≡ pass.Initialisation }
-    ensures ops { OnOk result (ops.new.items ≡ ops.old.items
+    ensures ops { OnOk result (ops.new ≡ ops.old
         ++ keep_code (frame_of context.bases) at (expression e.now)) }
     ensures next { IfOk result (λ n. n ≡ past at (expression e.now)) }
 {
@@ -258,13 +268,13 @@ pub fn keep(ops: &mut Vec<Op>, context: Context, at: u32, e: &TypedExpr) -> Resu
 // Emits the kept parts inside an expression that itself changes.
 #[cycle(keep)]
 fn keep_parts(
-    ops: &mut Vec<Op>,
+    ops: &mut CodeDraft,
     context: Context,
     at: u32,
     e: &TypedExpr,
 ) -> Result<u32, OutOfMemory>
     requires { context.pass ≡ pass.Initialisation }
-    ensures ops { OnOk result (ops.new.items ≡ ops.old.items
+    ensures ops { OnOk result (ops.new ≡ ops.old
         ++ parts_code (frame_of context.bases) at (expression e.now)) }
     ensures next { IfOk result (λ n. n ≡ parts_past at (expression e.now)) }
 {
@@ -287,13 +297,13 @@ fn keep_parts(
 
 /// The kept parts of a value. Returns the number of the next kept value.
 pub fn keep_value(
-    ops: &mut Vec<Op>,
+    ops: &mut CodeDraft,
     context: Context,
     at: u32,
     value: &Value<'_>,
 ) -> Result<u32, OutOfMemory>
     requires { context.pass ≡ pass.Initialisation }
-    ensures ops { OnOk result (ops.new.items ≡ ops.old.items
+    ensures ops { OnOk result (ops.new ≡ ops.old
         ++ keep_code (frame_of context.bases) at (value_of value.now)) }
     ensures next { IfOk result (λ n. n ≡ past at (value_of value.now)) }
 {
@@ -307,13 +317,13 @@ pub fn keep_value(
 
 /// A variable takes a value. Returns the number of the next kept value.
 pub fn set(
-    ops: &mut Vec<Op>,
+    ops: &mut CodeDraft,
     context: Context,
     at: u32,
     to: Var,
     value: &Value<'_>,
 ) -> Result<u32, OutOfMemory>
-    ensures ops { OnOk result (ops.new.items ≡ ops.old.items
+    ensures ops { OnOk result (ops.new ≡ ops.old
         ++ set_code (frame_of context.bases) (when_of context.pass) at to (value_of value.now)) }
     ensures next { IfOk result (λ n. n ≡ past at (value_of value.now)) }
 {
@@ -328,13 +338,13 @@ pub fn set(
 }
 
 fn set_local(
-    ops: &mut Vec<Op>,
+    ops: &mut CodeDraft,
     context: Context,
     at: u32,
     to: Reg,
     value: &Value<'_>,
 ) -> Result<u32, OutOfMemory>
-    ensures ops { OnOk result (ops.new.items ≡ ops.old.items
+    ensures ops { OnOk result (ops.new ≡ ops.old
         ++ set_code (frame_of context.bases) (when_of context.pass) at (Local to.rate to.index) (value_of value.now)) }
     ensures next { IfOk result (λ n. n ≡ past at (value_of value.now)) }
 {

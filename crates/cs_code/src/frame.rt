@@ -6,7 +6,7 @@ ghost use Rattle.cs_code.specs.inner.Emitted.{frame_of};
 ghost use Rattle.cs_code.specs.inner.Frames.{op_of, kept_reg, temp};
 
 use cs_base::{OutOfMemory, PerRate, Rate, Spaces};
-use cs_ir::{Act, Op, Operands, Reg};
+use cs_ir::{Act, CodeDraft, Op, Operands, Reg};
 use std::alloc::Global;
 
 /// Where values stand among the registers: local variables from 0 on, then, at rate Init, the kept values, then
@@ -26,13 +26,15 @@ pub enum Pass {
     Performance,
 }
 
-/// What code is made for: one of a note's two codes, where its values stand, and the zak spaces of the piece.
+/// What code is made for: one of a note's two codes, where its values stand, the zak spaces of the piece, and the line
+/// of the instrument's `instr`. What stands in front of that line was written in the definition of an opcode.
 #[derive(Clone, Copy)]
 pub struct Context {
     pub alloc: Global,
     pub pass: Pass,
     pub bases: Bases,
     pub spaces: Spaces,
+    pub line: u32,
 }
 
 /// How far the code of a text has come: how many values were kept and units met in the text before a place.
@@ -112,9 +114,8 @@ pub fn next_of(rate: Rate, at: u32, parts: u32) -> Result<u32, OutOfMemory>
 }
 
 /// Appends an op.
-pub fn push(ops: &mut Vec<Op>, act: Act, into: Reg, from: Operands) -> Result<(), OutOfMemory>
-    ensures { OnOk result (ops.new.items ≡ ops.old.items ++ op_of act into from ∷ []) }
+pub fn push(ops: &mut CodeDraft, act: Act, into: Reg, from: Operands) -> Result<(), OutOfMemory>
+    ensures { OnOk result (ops.new ≡ ops.old ++ op_of act into from ∷ []) }
 {
-    ops.push(Op { act, into, from })?;
-    Ok(())
+    ops.push(Op { act, into, from })
 }

@@ -14,7 +14,7 @@ ghost use Rattle.cs_code.specs.inner.Rated.{IsRatedSomewhere};
 
 use crate::codes::{Codes, codes_of};
 use cs_base::{OutOfMemory, PerRate, Spaces};
-use cs_ir::{Body, Code, Instrument, Instruments, ValidCode};
+use cs_ir::{Body, Code, Instrument, Instruments, Passages, ValidCode};
 use cs_typed::{TypedInstr, TypedOrc, TypedStmt};
 use std::alloc::Global;
 use std::sync::Arc;
@@ -49,7 +49,15 @@ fn zero_of(alloc: Global, orc: &TypedOrc) -> Result<Instrument, OutOfMemory>
     ensures code { IfOk result (λ i. IsCodeOf orc.now.spaces orc.now.head.nchnls
         (typed.block orc.now.zero.items) i.init i.perf) }
 {
-    let body = body_of(alloc, orc.spaces, orc.zero_locals, &orc.zero)?;
+    let mut passages = Passages::new(alloc);
+    let body = body_of(
+        &mut passages,
+        alloc,
+        orc.spaces,
+        orc.zero_locals,
+        0,
+        &orc.zero,
+    )?;
     Instrument::new(0, &body)
 }
 
@@ -70,14 +78,16 @@ fn in_text(alloc: Global, orc: &TypedOrc) -> Result<Vec<Instrument>, OutOfMemory
         (bodies (typed.orchestra orc.now).instrs) v.items) }
 {
     let mut list = Vec::new(alloc);
+    let mut passages = Passages::new(alloc);
     for instr in &orc.instrs {
-        add_instr(alloc, orc.spaces, instr, &mut list)?;
+        add_instr(&mut passages, alloc, orc.spaces, instr, &mut list)?;
     }
     Ok(list)
 }
 
 // An instrument more, under each of its numbers.
 fn add_instr(
+    passages: &mut Passages,
     alloc: Global,
     spaces: Spaces,
     instr: &TypedInstr,
@@ -91,7 +101,14 @@ fn add_instr(
         → AllZip (IsNumberedCode spaces channels)
         (ps ++ numbered_with (typed.instrument instr.now).body instr.now.numbers) list.new.items) }
 {
-    let body = body_of(alloc, spaces, instr.locals, &instr.body)?;
+    let body = body_of(
+        passages,
+        alloc,
+        spaces,
+        instr.locals,
+        instr.line,
+        &instr.body,
+    )?;
     add_numbers(&body, instr.numbers.as_slice(), list)
 }
 
@@ -115,9 +132,11 @@ fn add_numbers(
 
 // The codes of a block, where all its numbers find them.
 fn body_of(
+    passages: &mut Passages,
     alloc: Global,
     spaces: Spaces,
     locals: PerRate<usize>,
+    line: u32,
     stmts: &[TypedStmt],
 ) -> Result<Arc<Body, Global>, OutOfMemory>
     requires rated { IsRatedSomewhere (typed.block stmts.now) }
@@ -125,17 +144,17 @@ fn body_of(
     ensures { IfOk result (λ b. (s : Setting) → IsRatedBlock s (typed.block stmts.now)
         → IsCodeOf spaces s.channels (typed.block stmts.now) b.value.init b.value.perf) }
 {
-    let codes = codes_of(alloc, spaces, locals, stmts)?;
+    let codes = codes_of(passages, alloc, spaces, locals, line, stmts)?;
     Ok(Arc::new(alloc, valid_body(codes))?)
 }
 
 // Two codes that are known to be valid, over the same registers.
 fn valid_body(codes: Codes) -> Body
-    requires init { fine_from codes.counts (length codes.init.items) 0 codes.init.items ≡ true }
-    requires perf { fine_from codes.counts (length codes.perf.items) 0 codes.perf.items ≡ true }
-    ensures init { result.init.ops.items ≡ codes.init.items }
+    requires init { fine_from codes.counts (length codes.init) 0 codes.init ≡ true }
+    requires perf { fine_from codes.counts (length codes.perf) 0 codes.perf ≡ true }
+    ensures init { result.init.ops ≡ codes.init }
     ensures init_counts { result.init.counts ≡ codes.counts }
-    ensures perf { result.perf.ops.items ≡ codes.perf.items }
+    ensures perf { result.perf.ops ≡ codes.perf }
     ensures perf_counts { result.perf.counts ≡ codes.counts }
 {
     let Codes { init, perf, counts } = codes;

@@ -7,7 +7,7 @@ ghost use Rattle.cs_code.specs.inner.Emitted.{frame_of, expressions_of, when_of}
 use crate::args::{Call, push_on};
 use crate::frame::{Bases, Context, local, push, temp};
 use cs_base::{OutOfMemory, Rate};
-use cs_ir::{Act, Op, Operands, Reg};
+use cs_ir::{Act, CodeDraft, Operands, Reg};
 use cs_typed::{TypedExpr, Var};
 
 // Where a result goes.
@@ -27,8 +27,8 @@ fn target(bases: Bases, rate: Rate, results: &[Var]) -> Result<Reg, OutOfMemory>
 }
 
 // What is left to do once a result is there.
-fn give(ops: &mut Vec<Op>, bases: Bases, rate: Rate, results: &[Var]) -> Result<(), OutOfMemory>
-    ensures { OnOk result (ops.new.items ≡ ops.old.items
+fn give(ops: &mut CodeDraft, bases: Bases, rate: Rate, results: &[Var]) -> Result<(), OutOfMemory>
+    ensures { OnOk result (ops.new ≡ ops.old
         ++ given_code (frame_of bases) rate results.now) }
 {
     match results {
@@ -51,14 +51,14 @@ fn give(ops: &mut Vec<Op>, bases: Bases, rate: Rate, results: &[Var]) -> Result<
 /// An op on values that gives a result where its opcode has one, and what is left to do then. Returns the number of the
 /// next kept value.
 pub fn run(
-    ops: &mut Vec<Op>,
+    ops: &mut CodeDraft,
     context: Context,
     at: u32,
     act: Act,
     call: &Call<'_>,
     values: &[&TypedExpr],
 ) -> Result<u32, OutOfMemory>
-    ensures ops { OnOk result (ops.new.items ≡ ops.old.items
+    ensures ops { OnOk result (ops.new ≡ ops.old
         ++ run_code (frame_of context.bases) (when_of context.pass) at act call.now.rate
         call.now.results.now (expressions_of values.now)) }
     ensures next { IfOk result (λ n. n ≡ past_all at (expressions_of values.now)) }

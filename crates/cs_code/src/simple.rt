@@ -17,7 +17,7 @@ use crate::reach::table_reach;
 use crate::run::run;
 use crate::value::Value;
 use cs_base::{OutOfMemory, Rate};
-use cs_ir::{Act, Op, Operands, Reach, Reg};
+use cs_ir::{Act, CodeDraft, Operands, Reach, Reg};
 use cs_typed::{TypedExpr, Var};
 
 /// To which channels values go.
@@ -39,12 +39,12 @@ pub struct Assignment<'t> {
 
 /// A variable takes a value: once, or in each cycle, for which the parts that don't change are kept.
 pub fn assign(
-    ops: &mut Vec<Op>,
+    ops: &mut CodeDraft,
     context: Context,
     p: Progress,
     it: &Assignment<'_>,
 ) -> Result<Progress, OutOfMemory>
-    ensures ops { OnOk result (ops.new.items ≡ ops.old.items
+    ensures ops { OnOk result (ops.new ≡ ops.old
         ++ pass_code context.pass (frame_of context.bases) 0 p (set_of (assignment_of it.now))) }
     ensures next { IfOk result (λ q. q ≡ past_stmt p (set_of (assignment_of it.now))) }
 {
@@ -67,14 +67,14 @@ pub fn assign(
 
 /// A unit: started as the note begins, and run then where it is done once, else in each cycle.
 pub fn unit(
-    ops: &mut Vec<Op>,
+    ops: &mut CodeDraft,
     context: Context,
     p: Progress,
     reach: Reach,
     call: &Call<'_>,
     values: &Parted<'_>,
 ) -> Result<Progress, OutOfMemory>
-    ensures ops { OnOk result (ops.new.items ≡ ops.old.items
+    ensures ops { OnOk result (ops.new ≡ ops.old
         ++ pass_code context.pass (frame_of context.bases) 0 p (unit call.now.rate call.now.results.now
         call.now.opcode reach (expressions_of values.now.moving.items) (expressions_of values.now.settled.items))) }
     ensures next { IfOk result (λ q. q
@@ -104,14 +104,14 @@ pub fn unit(
 
 // A unit is started with its settled values.
 fn start(
-    ops: &mut Vec<Op>,
+    ops: &mut CodeDraft,
     context: Context,
     unit: u32,
     call: &Call<'_>,
     settled: &[&TypedExpr],
 ) -> Result<(), OutOfMemory>
     requires { context.pass ≡ pass.Initialisation }
-    ensures { OnOk result (ops.new.items ≡ ops.old.items
+    ensures { OnOk result (ops.new ≡ ops.old
         ++ start_code (frame_of context.bases) call.now.rate call.now.opcode unit (expressions_of settled.now)) }
 {
     let act = Act::Start(call.opcode, unit);
@@ -128,14 +128,14 @@ fn unwritten(rate: Rate) -> Reg
 
 /// Zak places are read or written: once, or in each cycle.
 pub fn zak(
-    ops: &mut Vec<Op>,
+    ops: &mut CodeDraft,
     context: Context,
     p: Progress,
     reach: Reach,
     call: &Call<'_>,
     values: &[&TypedExpr],
 ) -> Result<Progress, OutOfMemory>
-    ensures ops { OnOk result (ops.new.items ≡ ops.old.items
+    ensures ops { OnOk result (ops.new ≡ ops.old
         ++ pass_code context.pass (frame_of context.bases) 0 p (zak call.now.rate call.now.results.now
         call.now.opcode reach (expressions_of values.now))) }
     ensures next { IfOk result (λ q. q ≡ past_stmt p (zak call.now.rate call.now.results.now
@@ -161,14 +161,14 @@ pub fn zak(
 
 /// A store: as the note begins its table must be there, and it stores then where it is done once, else in each cycle.
 pub fn store(
-    ops: &mut Vec<Op>,
+    ops: &mut CodeDraft,
     context: Context,
     p: Progress,
     rate: Rate,
     values: &[&TypedExpr],
     settled: &[&TypedExpr],
 ) -> Result<Progress, OutOfMemory>
-    ensures ops { OnOk result (ops.new.items ≡ ops.old.items
+    ensures ops { OnOk result (ops.new ≡ ops.old
         ++ pass_code context.pass (frame_of context.bases) 0 p (store rate
         (table_reach (expressions_of settled.now)) (expressions_of values.now) (expressions_of settled.now))) }
     ensures next { IfOk result (λ q. q ≡ past_stmt p (store rate
@@ -196,9 +196,9 @@ pub fn store(
 }
 
 // The table that settled values name is looked for.
-fn seek(ops: &mut Vec<Op>, context: Context, settled: &[&TypedExpr]) -> Result<(), OutOfMemory>
+fn seek(ops: &mut CodeDraft, context: Context, settled: &[&TypedExpr]) -> Result<(), OutOfMemory>
     requires { context.pass ≡ pass.Initialisation }
-    ensures { OnOk result (ops.new.items ≡ ops.old.items ++ seek_code (frame_of context.bases)
+    ensures { OnOk result (ops.new ≡ ops.old ++ seek_code (frame_of context.bases)
         (expressions_of settled.now)) }
 {
     push_on(ops, context, 0, Act::Seek, unwritten(Rate::Init), settled)?;
@@ -206,8 +206,8 @@ fn seek(ops: &mut Vec<Op>, context: Context, settled: &[&TypedExpr]) -> Result<(
 }
 
 // Values to the channels from one on.
-fn out_ops(ops: &mut Vec<Op>, regs: &[Reg]) -> Result<(), OutOfMemory>
-    ensures { OnOk result (ops.new.items ≡ ops.old.items ++ out_ops 0 regs.now) }
+fn out_ops(ops: &mut CodeDraft, regs: &[Reg]) -> Result<(), OutOfMemory>
+    ensures { OnOk result (ops.new ≡ ops.old ++ out_ops 0 regs.now) }
 {
     let mut channel: usize = 0;
     for reg in regs {
@@ -218,8 +218,8 @@ fn out_ops(ops: &mut Vec<Op>, regs: &[Reg]) -> Result<(), OutOfMemory>
 }
 
 // Pairs of a channel's number and a value for it.
-fn out_at_ops(ops: &mut Vec<Op>, regs: &[Reg]) -> Result<(), OutOfMemory>
-    ensures { OnOk result (ops.new.items ≡ ops.old.items ++ out_at_ops regs.now) }
+fn out_at_ops(ops: &mut CodeDraft, regs: &[Reg]) -> Result<(), OutOfMemory>
+    ensures { OnOk result (ops.new ≡ ops.old ++ out_at_ops regs.now) }
 {
     let mut channel = None;
     for reg in regs {
@@ -235,8 +235,8 @@ fn out_at_ops(ops: &mut Vec<Op>, regs: &[Reg]) -> Result<(), OutOfMemory>
 }
 
 // Values in registers go out.
-fn send_regs(ops: &mut Vec<Op>, sending: Sending, regs: &[Reg]) -> Result<(), OutOfMemory>
-    ensures { OnOk result (ops.new.items ≡ ops.old.items ++ sent_ops sending regs.now) }
+fn send_regs(ops: &mut CodeDraft, sending: Sending, regs: &[Reg]) -> Result<(), OutOfMemory>
+    ensures { OnOk result (ops.new ≡ ops.old ++ sent_ops sending regs.now) }
 {
     match sending {
         Sending::InTurn => out_ops(ops, regs),
@@ -246,13 +246,13 @@ fn send_regs(ops: &mut Vec<Op>, sending: Sending, regs: &[Reg]) -> Result<(), Ou
 
 /// Values go out: their parts that don't change are kept as the note begins, and each cycle sends them.
 pub fn send(
-    ops: &mut Vec<Op>,
+    ops: &mut CodeDraft,
     context: Context,
     p: Progress,
     sending: Sending,
     values: &[&TypedExpr],
 ) -> Result<Progress, OutOfMemory>
-    ensures ops { OnOk result (ops.new.items ≡ ops.old.items
+    ensures ops { OnOk result (ops.new ≡ ops.old
         ++ pass_code context.pass (frame_of context.bases) 0 p
         (sent_as sending rate.Audio (expressions_of values.now))) }
     ensures next { IfOk result (λ q. q
@@ -275,8 +275,8 @@ pub fn send(
 }
 
 /// Asks for a note, as the note begins.
-pub fn ask(ops: &mut Vec<Op>, context: Context, values: &[&TypedExpr]) -> Result<(), OutOfMemory>
-    ensures { OnOk result (ops.new.items ≡ ops.old.items
+pub fn ask(ops: &mut CodeDraft, context: Context, values: &[&TypedExpr]) -> Result<(), OutOfMemory>
+    ensures { OnOk result (ops.new ≡ ops.old
         ++ pass_code context.pass (frame_of context.bases) 0 start (ask (expressions_of values.now))) }
 {
     match context.pass {
@@ -289,8 +289,8 @@ pub fn ask(ops: &mut Vec<Op>, context: Context, values: &[&TypedExpr]) -> Result
 }
 
 /// Ends the note with this cycle.
-pub fn turnoff(ops: &mut Vec<Op>, context: Context) -> Result<(), OutOfMemory>
-    ensures { OnOk result (ops.new.items ≡ ops.old.items
+pub fn turnoff(ops: &mut CodeDraft, context: Context) -> Result<(), OutOfMemory>
+    ensures { OnOk result (ops.new ≡ ops.old
         ++ pass_code context.pass (frame_of context.bases) 0 start (turnoff rate.Audio)) }
 {
     match context.pass {

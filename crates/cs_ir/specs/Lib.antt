@@ -1,4 +1,5 @@
 pub mod Asks
+pub mod Codes
 pub mod Cycles
 pub mod Instruments
 pub mod Machine
@@ -9,3 +10,4 @@ pub mod Validity
 pub mod Values
 pub mod Waves
 pub mod Worlds
+pub mod inner

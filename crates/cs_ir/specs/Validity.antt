@@ -146,4 +146,4 @@ fine_from counts end place (op ∷ ops) = is_fine counts end place op && fine_fr
 
 -- A code that can be run: each of its ops is fine at its place.
 abbrev pub valid : Code → Bool
-valid c = fine_from c.counts (length c.ops.items) 0 c.ops.items
+valid c = fine_from c.counts (length c.ops) 0 c.ops

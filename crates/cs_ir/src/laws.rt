@@ -11,9 +11,9 @@ ghost use Rattle.cs_words.specs.declared.sign.BinOp.TheVariants as op;
 /// A code is valid exactly where each of its ops is fine at its place.
 pub fn valid_code_is_fine()
     ensures each { (c : Code) (n : ℕ) (o : Op)
-        → valid c ≡ true → slice_get c.ops.items n ≡ Some o → is_fine c.counts (length c.ops.items) n o ≡ true }
+        → valid c ≡ true → slice_get c.ops n ≡ Some o → is_fine c.counts (length c.ops) n o ≡ true }
     ensures all { (c : Code)
-        → ((n : ℕ) (o : Op) → slice_get c.ops.items n ≡ Some o → is_fine c.counts (length c.ops.items) n o ≡ true)
+        → ((n : ℕ) (o : Op) → slice_get c.ops n ≡ Some o → is_fine c.counts (length c.ops) n o ≡ true)
         → valid c ≡ true }
 {}
 

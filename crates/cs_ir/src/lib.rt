@@ -1,32 +1,47 @@
 //! The flat code of a note: registers, ops, and what a code does in a world.
 //!
 //! Its one contract: a `ValidCode` is a code that can be run (specs/Validity.antt), and all that runs a code may rely
-//! on it. `Code::check` takes exactly these and hands back any other; `ValidCode::of` takes one that is proved to be
-//! valid. What a code does is the fold over its ops in specs/Machine.antt, in any world (specs/Worlds.antt); which of
-//! what notes share it may touch is specs/Resources.antt. How operands are stored and how instruments are kept may be
+//! on it; `ValidCode::of` takes one that is proved to be valid. What a code does is the fold over its ops in
+//! specs/Machine.antt, in any world (specs/Worlds.antt); which of what notes share it may touch is
+//! specs/Resources.antt. How operands are stored, which ops of codes are kept once and how instruments are kept may be
 //! changed without anyone above noticing.
 //!
-//! To be read in this order: `register`, `operands`, `op` (what code is made of), `validity` (which code can be run),
-//! `instrument` (codes under numbers), `resources` (tables and zak places by number), `ask` (a note that a note asks
-//! for), `value` (operators and functions), `laws`.
+//! To be read in this order: `register`, `operands`, `op` (what code is made of), `stretch`, `ops` (a code as a whole),
+//! `window`, `passage` (ops that are kept once for several places), `origin`, `passages`, `same`, `draft` (how a code
+//! is made), `validity` (which code can be run), `instrument` (codes under numbers), `resources` (tables and zak places
+//! by number), `ask` (a note that a note asks for), `value` (operators and functions), `laws`.
 #![tactic(auto)]
 
 mod ask;
+mod draft;
 mod instrument;
 mod laws;
 mod op;
 mod operands;
+mod ops;
+mod origin;
+mod passage;
+mod passages;
 mod register;
 mod resources;
+mod same;
+mod stretch;
 mod validity;
 mod value;
+mod window;
 
 pub use ask::Ask;
+pub use draft::{CodeDraft, DraftedCode};
 pub use instrument::{Body, Instrument, Instruments};
 pub use laws::{valid_code_is_fine, worked_examples};
 pub use op::{Act, Code, Op, Reach};
 pub use operands::Operands;
+pub use ops::{FoundStretch, Ops};
+pub use origin::Origin;
+pub use passage::SharedOps;
+pub use passages::Passages;
 pub use register::{Counts, Reg};
 pub use resources::{places_of, zak_place};
+pub use stretch::Stretch;
 pub use validity::ValidCode;
 pub use value::{apply, combine, holds, negate, truth};

@@ -1,5 +1,5 @@
 // Ops: what a note's code does, one after another.
-use crate::{Counts, Operands, Reg};
+use crate::{Counts, Operands, Ops, Reg};
 use cs_base::{Num, Res};
 use cs_words::{BinOp, Func, HeadName, Opcode};
 
@@ -74,6 +74,6 @@ pub struct Op {
 /// A code: ops in order, and how many registers and units they may name.
 #[derive(Drop)]
 pub struct Code {
-    pub ops: Vec<Op>,
+    pub ops: Ops,
     pub counts: Counts,
 }

@@ -15,10 +15,10 @@ use Rattle.cs_cells.specs.Areas.{IsLaid, word_count}
 use Rattle.cs_cells.specs.declared.footprint.Area.{Area}
 use Rattle.cs_base.specs.declared.spaces.Spaces.{Spaces}
 use Rattle.cs_ir.specs.Validity.{has_value}
-use Rattle.cs_layout.specs.Layouts.{Shared, numbered, of_tables, shared_by, areas_of, is_shared, AreApart, AreLive}
+use Rattle.cs_layout.specs.Layouts.{SharedCells, numbered, of_tables, shared_by, areas_of, is_shared, AreApart, AreLive}
 use Rattle.cs_layout.specs.Layouts.{AreOfPiece, IsLive}
-use Rattle.cs_layout.specs.declared.areas.Kind.{Kind}
-use Rattle.cs_layout.specs.declared.areas.Kind.TheVariants as kind
+use Rattle.cs_layout.specs.declared.areas.GroupKind.{GroupKind}
+use Rattle.cs_layout.specs.declared.areas.GroupKind.TheVariants as kind
 use Rattle.cs_layout.specs.declared.areas.LiveTable.{LiveTable}
 use Rattle.cs_layout.specs.inner.Groups.{res_of}
 use Rattle.cs_layout.proofs.Laid.{laid_at, is_there, found_at}
@@ -71,7 +71,7 @@ cells_of ksmps names spaces live apart g area e h =
     ∙ ap (λ r. cell_count ksmps (res_rate r)) found.res
 
 -- whether one of some resources of a kind is a resource
-abbrev any_of : Res → List Shared → Bool
+abbrev any_of : Res → List SharedCells → Bool
 any_of g ss = list_any (λ s. same_res s.res g) ss
 
 none_from : (kind : ℕ → Res) (g : Res) (a count cells : ℕ) → ((n : ℕ) → same_res (kind n) g ≡ false)
@@ -86,7 +86,7 @@ one_from kind g k a zero cells h = grind (arith, nat_tests)
 one_from kind g k a (suc count) cells h = rw (h a, one_from kind g k (a + 1) count cells h) (grind (arith, nat_tests))
 
 -- the number of a resource of a kind, where it is of the kind
-abbrev number_in : Kind → Res → Option ℕ
+abbrev number_in : GroupKind → Res → Option ℕ
 number_in kind.Gi (res.Gi n) = Some n
 number_in kind.Gk (res.Gk n) = Some n
 number_in kind.Ga (res.Ga n) = Some n
@@ -104,7 +104,7 @@ abbrev number_within : Option ℕ → ℕ → Bool
 number_within None count = false
 number_within (Some k) count = nat_lt k count
 
-by_number : (x : Kind) (n : ℕ) (g : Res) → same_res (res_of x n) g ≡ is_number (number_in x g) n
+by_number : (x : GroupKind) (n : ℕ) (g : Res) → same_res (res_of x n) g ≡ is_number (number_in x g) n
 by_number kind.Gi n (res.Gi m) = refl
 by_number kind.Gi n g = refl
 by_number kind.Gk n (res.Gk m) = refl
@@ -121,7 +121,7 @@ by_number kind.ZakA n (res.ZakA m) = refl
 by_number kind.ZakA n g = refl
 
 -- a resource is in a group where its number is one of the group's
-in_group : (x : Kind) (count cells : ℕ) (g : Res)
+in_group : (x : GroupKind) (count cells : ℕ) (g : Res)
     → any_of g (numbered (res_of x) count cells) ≡ number_within (number_in x g) count
 in_group x count cells g = by (number_in x g) (λ n. by_number x n g)
   where
@@ -131,7 +131,7 @@ in_group x count cells g = by (number_in x g) (λ n. by_number x n g)
     by (Some k) h = one_from (res_of x) g k 0 count cells h ∙ grind (arith, nat_tests)
 
 -- a group, and what comes behind it
-group_then : (x : Kind) (count cells : ℕ) (ys : List Shared) (g : Res) (b : Bool) → any_of g ys ≡ b
+group_then : (x : GroupKind) (count cells : ℕ) (ys : List SharedCells) (g : Res) (b : Bool) → any_of g ys ≡ b
     → any_of g (numbered (res_of x) count cells ++ ys) ≡ (number_within (number_in x g) count || b)
 group_then x count cells ys g b e =
     list_any-append (λ s. same_res s.res g) (numbered (res_of x) count cells) ys
@@ -161,25 +161,26 @@ or_none false = refl
 -- a resource is among what is shared exactly where the piece has it
 module _ (ksmps : ℕ) (names : SharedNames) (spaces : Spaces) (live : List LiveTable) where
   by_groups : (g : Res) → any_of g (shared_by ksmps names spaces live)
-      ≡ (number_within (number_in kind.Gi g) (length names.gi) || (number_within (number_in kind.Gk g) (length names.gk)
-      || (number_within (number_in kind.Ga g) (length names.ga)
+      ≡ (number_within (number_in kind.Gi g) (length names.variables.init)
+      || (number_within (number_in kind.Gk g) (length names.variables.control)
+      || (number_within (number_in kind.Ga g) (length names.variables.audio)
       || (number_within (number_in kind.Control g) (length names.control)
       || (number_within (number_in kind.Sound g) (length names.sound)
       || (number_within (number_in kind.ZakK g) spaces.control
       || (number_within (number_in kind.ZakA g) spaces.audio || is_live live g)))))))
   by_groups g =
-      group_then kind.Gi (length names.gi) 1 (from_gk ksmps names spaces live) g _
-      (group_then kind.Gk (length names.gk) 1 (from_ga ksmps names spaces live) g _
-      (group_then kind.Ga (length names.ga) ksmps (from_control ksmps names spaces live) g _
+      group_then kind.Gi (length names.variables.init) 1 (from_gk ksmps names spaces live) g _
+      (group_then kind.Gk (length names.variables.control) 1 (from_ga ksmps names spaces live) g _
+      (group_then kind.Ga (length names.variables.audio) ksmps (from_control ksmps names spaces live) g _
       (group_then kind.Control (length names.control) 1 (from_sound ksmps names spaces live) g _
       (group_then kind.Sound (length names.sound) ksmps (from_zk ksmps names spaces live) g _
       (group_then kind.ZakK spaces.control 1 (from_za ksmps names spaces live) g _
       (group_then kind.ZakA spaces.audio ksmps (of_tables live) g _ (among_tables g live)))))))
 
   shared_is : (g : Res) → any_of g (shared_by ksmps names spaces live) ≡ is_shared names spaces live g
-  shared_is (res.Gi k) = by_groups (res.Gi k) ∙ or_none (nat_lt k (length names.gi))
-  shared_is (res.Gk k) = by_groups (res.Gk k) ∙ or_none (nat_lt k (length names.gk))
-  shared_is (res.Ga k) = by_groups (res.Ga k) ∙ or_none (nat_lt k (length names.ga))
+  shared_is (res.Gi k) = by_groups (res.Gi k) ∙ or_none (nat_lt k (length names.variables.init))
+  shared_is (res.Gk k) = by_groups (res.Gk k) ∙ or_none (nat_lt k (length names.variables.control))
+  shared_is (res.Ga k) = by_groups (res.Ga k) ∙ or_none (nat_lt k (length names.variables.audio))
   shared_is (res.Control k) = by_groups (res.Control k) ∙ or_none (nat_lt k (length names.control))
   shared_is (res.Sound k) = by_groups (res.Sound k) ∙ or_none (nat_lt k (length names.sound))
   shared_is (res.ZakK k) = by_groups (res.ZakK k) ∙ or_none (nat_lt k spaces.control)

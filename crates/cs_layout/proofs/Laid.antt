@@ -10,21 +10,21 @@ use Rattle.cs_base.proofs.Rates.{same_res_is}
 use Rattle.cs_base.proofs.Tests.{by_test, some_is}
 use Rattle.cs_cells.specs.Areas.{word_count}
 use Rattle.cs_cells.specs.declared.footprint.Area.{Area}
-use Rattle.cs_layout.specs.Layouts.{Shared, laid_from}
+use Rattle.cs_layout.specs.Layouts.{SharedCells, laid_from}
 use Rattle.cs_voice_meaning.specs.Placing.{area_of}
 
-abbrev pub laid : ℕ → Shared → Area
+abbrev pub laid : ℕ → SharedCells → Area
 laid first s = record { res = s.res; first = first; length = s.cells }
 
 -- an area is that of what is shared at its place
-pub record IsLaidAt (first : ℕ) (ss : List Shared) (p : ℕ) (area : Area) : Type 0 where
-  pub what : Shared
+pub record IsLaidAt (first : ℕ) (ss : List SharedCells) (p : ℕ) (area : Area) : Type 0 where
+  pub what : SharedCells
   pub there : slice_get ss p ≡ Some what
   pub res : area.res ≡ what.res
   pub long : area.length ≡ what.cells
   pub begins : area.first ≡ first + word_count (take p (laid_from first ss))
 
-pub laid_at : (first : ℕ) (ss : List Shared) (p : ℕ) (area : Area) → slice_get (laid_from first ss) p ≡ Some area
+pub laid_at : (first : ℕ) (ss : List SharedCells) (p : ℕ) (area : Area) → slice_get (laid_from first ss) p ≡ Some area
     → IsLaidAt first ss p area
 laid_at first [] p area e = absurd (cc (e))
 laid_at first (s ∷ ss) zero area e =
@@ -52,11 +52,11 @@ laid_at first (s ∷ ss) (suc p) area e =
           );
     }
 
-pub length-laid : (first : ℕ) (ss : List Shared) → length (laid_from first ss) ≡ length ss
+pub length-laid : (first : ℕ) (ss : List SharedCells) → length (laid_from first ss) ≡ length ss
 length-laid first [] = refl
 length-laid first (s ∷ ss) = ap suc (length-laid (first + s.cells) ss)
 
-pub words-laid : (first : ℕ) (ss : List Shared) → word_count (laid_from first ss) ≡ sum_by (λ s. s.cells) ss
+pub words-laid : (first : ℕ) (ss : List SharedCells) → word_count (laid_from first ss) ≡ sum_by (λ s. s.cells) ss
 words-laid first [] = refl
 words-laid first (s ∷ ss) =
     sum_by-cons (λ a. a.length) (laid first s) (laid_from (first + s.cells) ss)
@@ -64,7 +64,7 @@ words-laid first (s ∷ ss) =
     ∙ sym (sum_by-cons (λ x. x.cells) s ss)
 
 -- an area of a resource is there exactly where the resource is shared
-pub is_there : (first : ℕ) (ss : List Shared) (g : Res)
+pub is_there : (first : ℕ) (ss : List SharedCells) (g : Res)
     → is_some (area_of (laid_from first ss) g) ≡ list_any (λ s. same_res s.res g) ss
 is_there first [] g = refl
 is_there first (s ∷ ss) g = by_test (same_res s.res g) (λ h. rw h refl) (λ h. rw h (is_there (first + s.cells) ss g))

@@ -12,18 +12,18 @@ use Rattle.cs_base.specs.declared.resource.Res.TheVariants as res
 use Rattle.cs_cells.specs.Areas.{word_count}
 use Rattle.cs_cells.specs.declared.footprint.Area.{Area}
 use Rattle.cs_base.specs.declared.spaces.Spaces.{Spaces}
-use Rattle.cs_layout.specs.Layouts.{Shared, areas_of, laid_from, numbered, of_tables, shared_by}
+use Rattle.cs_layout.specs.Layouts.{SharedCells, areas_of, laid_from, numbered, of_tables, shared_by}
 use Rattle.cs_layout.specs.declared.areas.Group.{Group}
 use Rattle.cs_layout.specs.declared.areas.LiveTable.{LiveTable}
 use Rattle.cs_layout.specs.inner.Groups.{groups_of, members, res_of}
 use Rattle.cs_layout.proofs.Laid.{laid, length-laid, words-laid}
 use Rattle.cs_typed.specs.TypedTree.{SharedNames}
 
-abbrev pub cells_in : List Shared → ℕ
+abbrev pub cells_in : List SharedCells → ℕ
 cells_in ss = sum_by (λ s. s.cells) ss
 
 -- what is behind comes behind
-pub laid-append : (first : ℕ) (xs ys : List Shared)
+pub laid-append : (first : ℕ) (xs ys : List SharedCells)
     → laid_from first (xs ++ ys) ≡ laid_from first xs ++ laid_from (first + cells_in xs) ys
 laid-append first [] ys = ap (λ n. laid_from n ys) (let same : first ≡ first + 0 = omega arith in same)
 laid-append first (x ∷ xs) ys =
@@ -33,7 +33,7 @@ laid-append first (x ∷ xs) ys =
     omega (arith, sum_by-cons (λ s. s.cells) x xs) in same))
 
 -- the groups, one behind the other, are what is shared
-behind : (gs : List Group) (ys : List Shared) (g : Group)
+behind : (gs : List Group) (ys : List SharedCells) (g : Group)
     → flat_map members (g ∷ gs) ++ ys ≡ members g ++ (flat_map members gs ++ ys)
 behind gs ys g = append_assoc (members g) (flat_map members gs) ys
 
@@ -41,11 +41,11 @@ pub groups_are : (ksmps : ℕ) (names : SharedNames) (spaces : Spaces) (live : L
     → flat_map members (groups_of ksmps names spaces) ++ of_tables live ≡ shared_by ksmps names spaces live
 groups_are ksmps names spaces live = joined (groups_of ksmps names spaces) (of_tables live)
   where
-    all_then : List Group → List Shared → List Shared
+    all_then : List Group → List SharedCells → List SharedCells
     all_then [] ys = ys
     all_then (g ∷ gs) ys = members g ++ all_then gs ys
 
-    joined : (gs : List Group) (ys : List Shared) → flat_map members gs ++ ys ≡ all_then gs ys
+    joined : (gs : List Group) (ys : List SharedCells) → flat_map members gs ++ ys ≡ all_then gs ys
     joined [] ys = refl
     joined (g ∷ gs) ys = behind gs ys g ∙ ap (λ zs. members g ++ zs) (joined gs ys)
 
@@ -103,7 +103,8 @@ group_length : (gs : List Group) → length (flat_map members gs) ≡ sum_by (λ
 group_length [] = refl
 group_length (g ∷ gs) =
     length-append (members g) (flat_map members gs)
-    ∙ (λ i. length-map-range_with_len {X = Shared} (λ k. record { res = res_of g.kind k; cells = g.cells }) 0 g.count i
+    ∙ (λ i. length-map-range_with_len {X = SharedCells} (λ k. record { res = res_of g.kind k; cells = g.cells }) 0
+    g.count i
     + group_length gs i)
     ∙ sym (sum_by-cons (λ x. x.count) g gs)
 
@@ -145,7 +146,7 @@ pub table_pushed : (areas more : List Area) (gs : List Group) (live : List LiveT
     ∷ []
     → more ≡ laid_from 0 (flat_map members gs ++ of_tables (take (i + 1) live))
 table_pushed areas more gs live i d next low was at is =
-    let x : Shared = record { res = res.Table (get_or live i d).number; cells = (get_or live i d).size } in
+    let x : SharedCells = record { res = res.Table (get_or live i d).number; cells = (get_or live i d).size } in
     is ∙ ap (λ l. l ++ laid next x ∷ []) was
     ∙ ap (λ k. laid_from 0 (flat_map members gs ++ of_tables (take i live)) ++ laid k x ∷ [])
     (let cells = both_cells gs (take i live) in let same : next ≡ 0 + cells_in

@@ -4,21 +4,24 @@ use Rattle.std.proofs.Common.{sym, ◌∙◌, refl, subst, slice_get, Some, if�
 use Rattle.std.specs.List.{range_with_len}
 use Rattle.std.proofs.lemmas.Bool.Decides.{nat_tests}
 use Rattle.std.proofs.lemmas.List.FromFn.{length-map-range_with_len}
-use Rattle.cs_base.specs.Rates.{res_rate}
+use Rattle.cs_base.specs.Rates.{at_rate, res_rate}
+use Rattle.cs_base.specs.declared.resource.Rate.{Rate}
+use Rattle.cs_base.specs.declared.resource.Rate.TheVariants as rate
 use Rattle.cs_base.specs.declared.resource.Res.{Res}
 use Rattle.cs_base.specs.declared.resource.Res.TheVariants as res
 use Rattle.cs_base.proofs.Tests.{by_test, some_is}
 use Rattle.cs_base.specs.declared.spaces.Spaces.{Spaces}
 use Rattle.cs_ir.specs.Validity.{has_value}
-use Rattle.cs_layout.specs.Layouts.{Shared, numbered, of_tables, shared_by, AreApart}
+use Rattle.cs_layout.specs.Layouts.{SharedCells, numbered, of_tables, shared_by, AreApart}
 use Rattle.cs_layout.proofs.Tails.{from_gk, from_ga, from_control, from_sound, from_zk, from_za}
 use Rattle.cs_layout.specs.declared.areas.LiveTable.{LiveTable}
 use Rattle.cs_voice_meaning.specs.Placing.{cell_count}
 use Rattle.cs_typed.specs.TypedTree.{SharedNames}
 
 -- what holds at each place of two lists, one behind the other
-at_append : (P : ℕ → Shared → Type 0) (xs ys : List Shared) → ((p : ℕ) (s : Shared) → slice_get xs p ≡ Some s → P p s)
-    → ((p : ℕ) (s : Shared) → slice_get ys p ≡ Some s → P (length xs + p) s) → (p : ℕ) (s : Shared)
+at_append : (P : ℕ → SharedCells → Type 0) (xs ys : List SharedCells)
+    → ((p : ℕ) (s : SharedCells) → slice_get xs p ≡ Some s → P p s)
+    → ((p : ℕ) (s : SharedCells) → slice_get ys p ≡ Some s → P (length xs + p) s) → (p : ℕ) (s : SharedCells)
     → slice_get (xs ++ ys) p ≡ Some s → P p s
 at_append P [] ys front back p s e = subst (λ n. P n s) (let same : 0 + p ≡ p = omega arith in same) (back p s e)
 at_append P (x ∷ xs) ys front back zero s e = front 0 s e
@@ -28,10 +31,10 @@ at_append P (x ∷ xs) ys front back (suc p) s e =
     (back q t f)) p s e
 
 -- a resource of a kind, by its number
-abbrev of_kind : (ℕ → Res) → ℕ → ℕ → Shared
+abbrev of_kind : (ℕ → Res) → ℕ → ℕ → SharedCells
 of_kind kind cells n = record { res = kind n; cells = cells }
 
-shared_from : (kind : ℕ → Res) (a count cells p : ℕ) (s : Shared)
+shared_from : (kind : ℕ → Res) (a count cells p : ℕ) (s : SharedCells)
     → slice_get (map (of_kind kind cells) (range_with_len a count)) p ≡ Some s → of_kind kind cells (a + p) ≡ s
 shared_from kind a zero cells p s e = absurd (cc (e))
 shared_from kind a (suc count) cells zero s e = ap (of_kind kind cells) (omega arith) ∙ some_is _ s e
@@ -39,9 +42,9 @@ shared_from kind a (suc count) cells (suc p) s e =
     ap (of_kind kind cells) (omega arith) ∙ shared_from kind (a + 1) count cells p s e
 
 -- what holds of each resource of a kind and of what comes behind them
-group_then : (P : ℕ → Shared → Type 0) (kind : ℕ → Res) (count cells : ℕ) (ys : List Shared)
+group_then : (P : ℕ → SharedCells → Type 0) (kind : ℕ → Res) (count cells : ℕ) (ys : List SharedCells)
     → ((n : ℕ) → P n (of_kind kind cells n))
-    → ((p : ℕ) (s : Shared) → slice_get ys p ≡ Some s → P (count + p) s) → (p : ℕ) (s : Shared)
+    → ((p : ℕ) (s : SharedCells) → slice_get ys p ≡ Some s → P (count + p) s) → (p : ℕ) (s : SharedCells)
     → slice_get (numbered kind count cells ++ ys) p ≡ Some s → P p s
 group_then P kind count cells ys front back =
     at_append P (numbered kind count cells) ys
@@ -76,7 +79,7 @@ among_is (u ∷ live) n (suc p) t e h =
     (λ k. among_later u live n k more)
 
 -- a table's place
-table_at : (live : List LiveTable) (p : ℕ) (s : Shared) → slice_get (of_tables live) p ≡ Some s
+table_at : (live : List LiveTable) (p : ℕ) (s : SharedCells) → slice_get (of_tables live) p ≡ Some s
     → (t : LiveTable) × (slice_get live p ≡ Some t) × (s ≡ record { res = res.Table t.number; cells = t.size })
 table_at [] p s e = absurd (cc (e))
 table_at (t ∷ live) zero s e = (t, refl, sym (some_is _ s e))
@@ -99,32 +102,39 @@ size_of_table live apart p t n q size e r l =
 
 -- where a resource stands among all
 module _ (ksmps : ℕ) (names : SharedNames) (spaces : Spaces) (live : List LiveTable) where
+  -- how many global variables of a rate there are
+  abbrev variables : Rate → ℕ
+  variables r = length (at_rate names.variables r)
+
   abbrev pub position : Res → ℕ
   position (res.Gi n) = n
-  position (res.Gk n) = length names.gi + n
-  position (res.Ga n) = length names.gi + (length names.gk + n)
-  position (res.Control n) = length names.gi + (length names.gk + (length names.ga + n))
-  position (res.Sound n) = length names.gi + (length names.gk + (length names.ga + (length names.control + n)))
-  position (res.ZakK n) = length names.gi +
-      (length names.gk + (length names.ga + (length names.control + (length names.sound + n))))
+  position (res.Gk n) = variables rate.Init + n
+  position (res.Ga n) = variables rate.Init + (variables rate.Control + n)
+  position (res.Control n) = variables rate.Init + (variables rate.Control + (variables rate.Audio + n))
+  position (res.Sound n) =
+      variables rate.Init + (variables rate.Control + (variables rate.Audio + (length names.control + n)))
+  position (res.ZakK n) =
+      variables rate.Init + (variables rate.Control + (variables rate.Audio
+      + (length names.control + (length names.sound + n))))
   position (res.ZakA n) =
-      length names.gi + (length names.gk +
-      (length names.ga + (length names.control + (length names.sound + (spaces.control + n)))))
+      variables rate.Init + (variables rate.Control + (variables rate.Audio
+      + (length names.control + (length names.sound + (spaces.control + n)))))
   position (res.Table n) =
-      length names.gi + (length names.gk + (length names.ga + (length names.control + (length names.sound
-      + (spaces.control + (spaces.audio + place_among live n))))))
+      variables rate.Init + (variables rate.Control + (variables rate.Audio + (length names.control
+      + (length names.sound + (spaces.control + (spaces.audio + place_among live n))))))
 
-  pub record IsAt (p : ℕ) (s : Shared) : Type 0 where
+  pub record IsAt (p : ℕ) (s : SharedCells) : Type 0 where
     pub place : p ≡ position s.res
     pub cells : has_value s.res ≡ true → s.cells ≡ cell_count ksmps (res_rate s.res)
     pub size : (n q size : ℕ) → s.res ≡ res.Table n → slice_get live q ≡ Some (record { number = n; size = size })
         → s.cells ≡ size
 
-  pub is_at : AreApart live → (p : ℕ) (s : Shared) → slice_get (shared_by ksmps names spaces live) p ≡ Some s → IsAt p s
+  pub is_at : AreApart live → (p : ℕ) (s : SharedCells) → slice_get (shared_by ksmps names spaces live) p ≡ Some s
+      → IsAt p s
   is_at apart =
-      let a = length names.gi in
-      let b = length names.gk in
-      let c = length names.ga in
+      let a = variables rate.Init in
+      let b = variables rate.Control in
+      let c = variables rate.Audio in
       let d = length names.control in
       let e = length names.sound in
       group_then (λ p s. IsAt p s) res.Gi a 1 (from_gk ksmps names spaces live)

@@ -12,25 +12,25 @@ use Rattle.cs_typed.specs.TypedTree.{SharedNames}
 use Rattle.cs_voice_meaning.specs.Placing.{IsLiveTable}
 
 -- what notes share: a resource, and how many cells it has
-pub record Shared : Type 0 where
+pub record SharedCells : Type 0 where
   pub res : Res
   pub cells : ℕ
 
 -- `count` resources of a kind, numbered from 0, each with `cells` cells
-abbrev pub numbered : (ℕ → Res) → ℕ → ℕ → List Shared
+abbrev pub numbered : (ℕ → Res) → ℕ → ℕ → List SharedCells
 numbered kind count cells = map (λ n. record { res = kind n; cells = cells }) (range_with_len 0 count)
 
 -- the live tables, a cell a point
-abbrev pub of_tables : List LiveTable → List Shared
+abbrev pub of_tables : List LiveTable → List SharedCells
 of_tables live = map (λ t. record { res = res.Table t.number; cells = t.size }) live
 
 -- What a piece's notes share: variables of the rates i, k and a, channels of control values and of sounds, zak places
 -- of both spaces, live tables. What is a sound has a cell for each frame of a control cycle.
-abbrev pub shared_by : ℕ → SharedNames → Spaces → List LiveTable → List Shared
+abbrev pub shared_by : ℕ → SharedNames → Spaces → List LiveTable → List SharedCells
 shared_by ksmps names spaces live =
-    numbered res.Gi (length names.gi) 1
-    ++ (numbered res.Gk (length names.gk) 1
-    ++ (numbered res.Ga (length names.ga) ksmps
+    numbered res.Gi (length names.variables.init) 1
+    ++ (numbered res.Gk (length names.variables.control) 1
+    ++ (numbered res.Ga (length names.variables.audio) ksmps
     ++ (numbered res.Control (length names.control) 1
     ++ (numbered res.Sound (length names.sound) ksmps
     ++ (numbered res.ZakK spaces.control 1
@@ -38,7 +38,7 @@ shared_by ksmps names spaces live =
     ++ of_tables live))))))
 
 -- the areas of what is shared, one behind the other, from an address on
-abbrev pub laid_from : ℕ → List Shared → List Area
+abbrev pub laid_from : ℕ → List SharedCells → List Area
 laid_from first [] = []
 laid_from first (s ∷ rest) = record { res = s.res; first = first; length = s.cells } ∷ laid_from (first + s.cells) rest
 
@@ -53,9 +53,9 @@ AreApart live = (p q : ℕ) (t u : LiveTable) → slice_get live p ≡ Some t �
 
 -- whether notes share a resource
 abbrev pub is_shared : SharedNames → Spaces → List LiveTable → Res → Bool
-is_shared names spaces live (res.Gi n) = nat_lt n (length names.gi)
-is_shared names spaces live (res.Gk n) = nat_lt n (length names.gk)
-is_shared names spaces live (res.Ga n) = nat_lt n (length names.ga)
+is_shared names spaces live (res.Gi n) = nat_lt n (length names.variables.init)
+is_shared names spaces live (res.Gk n) = nat_lt n (length names.variables.control)
+is_shared names spaces live (res.Ga n) = nat_lt n (length names.variables.audio)
 is_shared names spaces live (res.Control n) = nat_lt n (length names.control)
 is_shared names spaces live (res.Sound n) = nat_lt n (length names.sound)
 is_shared names spaces live (res.ZakK n) = nat_lt n spaces.control

@@ -54,7 +54,7 @@ pub fn layout(
 
 // What is numbered from 0 in a piece.
 #[derive(Clone, Copy)]
-enum Kind {
+enum GroupKind {
     Gi,
     Gk,
     Ga,
@@ -64,18 +64,18 @@ enum Kind {
     ZakA,
 }
 
-impl Kind {
+impl GroupKind {
     fn res(self, number: usize) -> Res
         ensures { result ≡ res_of self number }
     {
         match self {
-            Kind::Gi => Res::Gi(number),
-            Kind::Gk => Res::Gk(number),
-            Kind::Ga => Res::Ga(number),
-            Kind::Control => Res::Control(number),
-            Kind::Sound => Res::Sound(number),
-            Kind::ZakK => Res::ZakK(number),
-            Kind::ZakA => Res::ZakA(number),
+            GroupKind::Gi => Res::Gi(number),
+            GroupKind::Gk => Res::Gk(number),
+            GroupKind::Ga => Res::Ga(number),
+            GroupKind::Control => Res::Control(number),
+            GroupKind::Sound => Res::Sound(number),
+            GroupKind::ZakK => Res::ZakK(number),
+            GroupKind::ZakA => Res::ZakA(number),
         }
     }
 }
@@ -83,7 +83,7 @@ impl Kind {
 // `count` resources of a kind, each with `cells` cells.
 #[derive(Clone, Copy)]
 struct Group {
-    kind: Kind,
+    kind: GroupKind,
     count: usize,
     cells: u32,
 }
@@ -92,17 +92,17 @@ fn groups_of(ksmps: u32, globals: &Globals, spaces: Spaces) -> [Group; 7]
     ensures { result ≡ groups_of ksmps (shared_names globals.now) spaces }
 {
     [
-        many(Kind::Gi, globals.gi.len(), 1),
-        many(Kind::Gk, globals.gk.len(), 1),
-        many(Kind::Ga, globals.ga.len(), ksmps),
-        many(Kind::Control, globals.control.len(), 1),
-        many(Kind::Sound, globals.sound.len(), ksmps),
-        many(Kind::ZakK, spaces.control as usize, 1),
-        many(Kind::ZakA, spaces.audio as usize, ksmps),
+        many(GroupKind::Gi, globals.variables.init.len(), 1),
+        many(GroupKind::Gk, globals.variables.control.len(), 1),
+        many(GroupKind::Ga, globals.variables.audio.len(), ksmps),
+        many(GroupKind::Control, globals.control.len(), 1),
+        many(GroupKind::Sound, globals.sound.len(), ksmps),
+        many(GroupKind::ZakK, spaces.control as usize, 1),
+        many(GroupKind::ZakA, spaces.audio as usize, ksmps),
     ]
 }
 
-fn many(kind: Kind, count: usize, cells: u32) -> Group
+fn many(kind: GroupKind, count: usize, cells: u32) -> Group
     ensures { result ≡ record { kind = kind; count = count; cells = cells } }
 {
     Group { kind, count, cells }

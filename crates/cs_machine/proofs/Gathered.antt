@@ -12,18 +12,18 @@ use Rattle.cs_words.specs.declared.catalogue.Opcode.{Opcode}
 use Rattle.cs_ir.specs.Waves.{Wave}
 use Rattle.cs_ir.specs.declared.register.Reg.{Reg}
 use Rattle.cs_machine.proofs.Frames.{apart}
-use Rattle.cs_machine.specs.inner.Gathered.{IsFirstAt, StandsAt, StandsFor, no_register}
+use Rattle.cs_machine.specs.inner.Gathered.{IsFirstAt, StandsAt, HoldsOperand, no_register}
 use Rattle.cs_signal.specs.declared.operand.Operand.{Operand}
 use Rattle.cs_ugen.specs.Units as units
 use Rattle.cs_ugen.specs.Units.{moving_count, opcode_of}
-use Rattle.cs_ugen.specs.declared.unit.Kind.{Kind}
+use Rattle.cs_ugen.specs.declared.unit.UnitState.{UnitState}
 use Rattle.cs_voice_meaning.specs.VoiceWorld.{inputs_at}
 
 -- no opcode takes more than seven moving arguments
 few_test : (o : Opcode) → nat_le (moving_count o) 7 ≡ true
 few_test = of_all (λ o. nat_le (moving_count o) 7) refl
 
-pub few : (k : Kind) (n : ℕ) → n ≡ moving_count (opcode_of k) → n ≤ 7
+pub few : (k : UnitState) (n : ℕ) → n ≡ moving_count (opcode_of k) → n ≤ 7
 few k n e = subst (λ m. m ≤ 7) (sym e) (let h = few_test (opcode_of k) in grind (arith, nat_tests))
 
 -- what stands at a place of a list doesn't hang on what is read past its end
@@ -47,13 +47,13 @@ more_set P xs d x j low here before i h = by_test (i == j)
 
 -- each of seven operands stands for its register
 pub seven_stand : (f : Reg → Wave) (rs : List Reg) (a b c d e g h : Operand)
-    → (0 < length rs → StandsFor f a (get_or rs 0 no_register))
-    → (1 < length rs → StandsFor f b (get_or rs 1 no_register))
-    → (2 < length rs → StandsFor f c (get_or rs 2 no_register))
-    → (3 < length rs → StandsFor f d (get_or rs 3 no_register))
-    → (4 < length rs → StandsFor f e (get_or rs 4 no_register))
-    → (5 < length rs → StandsFor f g (get_or rs 5 no_register))
-    → (6 < length rs → StandsFor f h (get_or rs 6 no_register)) → length rs ≤ 7
+    → (0 < length rs → HoldsOperand f a (get_or rs 0 no_register))
+    → (1 < length rs → HoldsOperand f b (get_or rs 1 no_register))
+    → (2 < length rs → HoldsOperand f c (get_or rs 2 no_register))
+    → (3 < length rs → HoldsOperand f d (get_or rs 3 no_register))
+    → (4 < length rs → HoldsOperand f e (get_or rs 4 no_register))
+    → (5 < length rs → HoldsOperand f g (get_or rs 5 no_register))
+    → (6 < length rs → HoldsOperand f h (get_or rs 6 no_register)) → length rs ≤ 7
     → (j : ℕ) → j < length rs → StandsAt f (a ∷ b ∷ c ∷ d ∷ e ∷ g ∷ h ∷ []) rs j
 seven_stand f rs a b c d e g h x0 x1 x2 x3 x4 x5 x6 most zero low = x0 low
 seven_stand f rs a b c d e g h x0 x1 x2 x3 x4 x5 x6 most (suc zero) low = x1 low
@@ -66,9 +66,9 @@ seven_stand f rs a b c d e g h x0 x1 x2 x3 x4 x5 x6 most (suc (suc (suc (suc (su
     absurd (omega (arith, low, most))
 
 pub three_stand : (f : Reg → Wave) (rs : List Reg) (a b c : Operand)
-    → (0 < length rs → StandsFor f a (get_or rs 0 no_register))
-    → (1 < length rs → StandsFor f b (get_or rs 1 no_register))
-    → (2 < length rs → StandsFor f c (get_or rs 2 no_register)) → length rs ≤ 3
+    → (0 < length rs → HoldsOperand f a (get_or rs 0 no_register))
+    → (1 < length rs → HoldsOperand f b (get_or rs 1 no_register))
+    → (2 < length rs → HoldsOperand f c (get_or rs 2 no_register)) → length rs ≤ 3
     → (j : ℕ) → j < length rs → StandsAt f (a ∷ b ∷ c ∷ []) rs j
 three_stand f rs a b c x0 x1 x2 most zero low = x0 low
 three_stand f rs a b c x0 x1 x2 most (suc zero) low = x1 low

@@ -10,13 +10,13 @@ use Rattle.cs_ugen.specs.Points.{is_len}
 use Rattle.cs_signal.specs.Steps.{run}
 use Rattle.cs_voice_meaning.specs.VoiceWorld.{Playing, inputs_at}
 use Rattle.cs_ugen.specs.Units.{opcode_of, reads_table, unit_step}
-use Rattle.cs_ugen.specs.declared.unit.Kind.{Kind}
+use Rattle.cs_ugen.specs.declared.unit.UnitState.{UnitState}
 
 -- A unit as it lies in memory: the number of the table that it was started with, its state, and where the table is: the
 -- points of a frozen one, or the area of a live one.
 pub record PlayerData : Type 0 where
   pub table : ℤ
-  pub state : Kind
+  pub state : UnitState
   pub points : Option (List ℤ)
   pub area : Option Area
 
@@ -48,5 +48,5 @@ pub record SamePlayer (p q : PlayerData) : Type 0 where
   pub unit : opcode_of q.state ≡ opcode_of p.state
 
 -- so many steps of a player, over cells, on values over a cycle
-abbrev pub stepped : PlayerData → List Wave → (ℕ → ℤ) → ℕ → Kind × List ℤ
+abbrev pub stepped : PlayerData → List Wave → (ℕ → ℤ) → ℕ → UnitState × List ℤ
 stepped p ws cells n = run unit_step (inputs_at ws (curve_at p.points p.area cells)) p.state 0 n

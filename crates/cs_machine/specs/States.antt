@@ -29,7 +29,7 @@ use Rattle.cs_voice_meaning.specs.Follows.{Kinds, AreNamed}
 use Rattle.cs_machine.specs.Access.{CanTouch}
 use Rattle.cs_machine.specs.Players.{PlayerData, has_table, playing}
 use Rattle.cs_machine.specs.declared.state.State.{State}
-use Rattle.cs_machine.specs.declared.state.Setting.{Setting}
+use Rattle.cs_machine.specs.declared.state.NoteSetting.{NoteSetting}
 
 -- the unit of a number as it plays
 abbrev pub unit_at : List (Option PlayerData) → ℕ → Option Playing
@@ -53,7 +53,7 @@ machine_of s cells next asks cause = record {
 }
 
 -- A setting is that of a piece over areas. Its fields begin with p1, and p-fields are counted from 1.
-pub record IsSettingOf (at : Setting) (areas : List Area) (piece : Piece) : Type 0 where
+pub record IsSettingOf (at : NoteSetting) (areas : List Area) (piece : Piece) : Type 0 where
   pub layout : at.layout.now ≡ areas
   pub head : piece.head ≡ header_of_head at.head.now
   pub spaces : piece.spaces ≡ at.spaces
@@ -111,7 +111,7 @@ DoesAnywhere act into from old new =
     (areas : List Area) (piece : Piece) (kinds : Kinds) (counts : Counts) (cells : ℕ → ℤ)
     → IsStateIn areas piece kinds counts old → Does areas piece kinds counts act into from old cells new cells
 
-abbrev pub DoesAt : Setting → Act → Reg → List Reg → State → State → Type 0
+abbrev pub DoesAt : NoteSetting → Act → Reg → List Reg → State → State → Type 0
 DoesAt at act into from old new = (areas : List Area) (piece : Piece) (kinds : Kinds) (counts : Counts) (cells : ℕ → ℤ)
     → IsSettingOf at areas piece → IsStateIn areas piece kinds counts old
     → Does areas piece kinds counts act into from old cells new cells

@@ -5,7 +5,7 @@ ghost use Rattle.cs_cells.specs.Cells.{cell};
 ghost use Rattle.cs_ir.specs.Validity.{has_register};
 ghost use Rattle.cs_machine.specs.Players.{CanRead, SamePlayer, stepped};
 ghost use Rattle.cs_machine.specs.Registers.{values};
-ghost use Rattle.cs_machine.specs.inner.Gathered.{IsFirstAt, StandsAt, StandsFor, no_register};
+ghost use Rattle.cs_machine.specs.inner.Gathered.{IsFirstAt, StandsAt, HoldsOperand, no_register};
 ghost use Rattle.cs_signal.specs.Operands.{Lasts};
 ghost use Rattle.cs_ugen.specs.Units.{IsUnitOpcode, moving_count, opcode_of};
 
@@ -87,7 +87,7 @@ fn operands<'r>(regs: &'r Registers, from: &[Reg]) -> [Operand<'r>; MOST_INPUTS]
 #[inline(always)]
 fn operand_at<'r>(regs: &'r Registers, from: &[Reg], place: usize) -> Operand<'r>
     requires { list_all (has_register regs.now.counts) from.now ≡ true }
-    ensures stands { place < length from.now → StandsFor (values regs.now) result
+    ensures stands { place < length from.now → HoldsOperand (values regs.now) result
         (slice_index_or from.now place no_register) }
     ensures lasts { Lasts regs.now.ksmps result }
 {

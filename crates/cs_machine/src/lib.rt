@@ -41,6 +41,6 @@ pub use outputs::Outputs;
 pub use places::{area_in, area_of, index};
 pub use player::Player;
 pub use registers::Registers;
-pub use state::{Setting, State};
+pub use state::{NoteSetting, State};
 pub use table::store;
 pub use zak::clear_places;

@@ -5,9 +5,9 @@ ghost use Rattle.cs_gen.specs.Points.{guard_place, len_of};
 ghost use Rattle.cs_ugen.specs.Points.{is_len};
 
 use crate::area_rows::get_frame;
-use crate::table::power_below;
 use cs_base::Num;
 use cs_cells::{Area, Bank};
+use cs_gen::len_of;
 use cs_ugen::Curve;
 use std::marker::Model;
 
@@ -44,7 +44,7 @@ impl<'b, B: Bank> LiveTable<'b, B> {
         ensures bank { result.bank ≡ bank.old }
         ensures area { result.area ≡ area }
     {
-        let len = power_below(area.length);
+        let len = len_of(area.length);
         let guard = guard_of(area.length);
         LiveTable {
             bank,

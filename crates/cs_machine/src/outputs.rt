@@ -14,12 +14,12 @@ use std::marker::Model;
 
 /// A channel: a row, and whether anything was given to it in this cycle. What its row holds counts only where it was.
 #[derive(Drop)]
-struct Channel {
+struct OutputChannel {
     row: Vec<Num>,
     sounding: bool,
 }
 
-impl Model for Channel {
+impl Model for OutputChannel {
     ghost use Rattle.std.specs.Prelude.{ℤ, List};
     ghost use Rattle.cs_machine.specs.inner.Kept.{shown};
 
@@ -28,11 +28,11 @@ impl Model for Channel {
     ghost view = { λ c. shown c.sounding c.row.items };
 }
 
-impl Channel {
-    fn new(alloc: Global, ksmps: usize) -> Result<Channel, OutOfMemory>
+impl OutputChannel {
+    fn new(alloc: Global, ksmps: usize) -> Result<OutputChannel, OutOfMemory>
         ensures { IfOk result (λ c. c ≡ replicate ksmps (pos 0)) }
     {
-        Ok(Channel {
+        Ok(OutputChannel {
             row: zeros(alloc, ksmps)?,
             sounding: false,
         })
@@ -70,7 +70,7 @@ impl Channel {
 /// frame.
 #[derive(Drop)]
 pub struct Outputs {
-    channels: Vec<Channel>,
+    channels: Vec<OutputChannel>,
     ksmps: usize,
 }
 
@@ -138,17 +138,17 @@ impl Outputs {
     }
 }
 
-fn channels(alloc: Global, count: usize, ksmps: usize) -> Result<Vec<Channel>, OutOfMemory>
+fn channels(alloc: Global, count: usize, ksmps: usize) -> Result<Vec<OutputChannel>, OutOfMemory>
     ensures { IfOk result (λ v. v.items ≡ replicate count (replicate ksmps (pos 0))) }
 {
     let mut all = Vec::with_capacity(alloc, count)?;
     for _ in 0..count {
-        all.push(Channel::new(alloc, ksmps)?)?;
+        all.push(OutputChannel::new(alloc, ksmps)?)?;
     }
     Ok(all)
 }
 
-fn clear_all(channels: &mut [Channel])
+fn clear_all(channels: &mut [OutputChannel])
     ensures silent { (n : ℕ) → row_wave (slice_index_or channels.new n []) ≡ silence }
     ensures rows { (ksmps : ℕ) → AreRows ksmps channels.old → AreRows ksmps channels.new }
     ensures long { length channels.new ≡ length channels.old }

@@ -14,7 +14,7 @@ ghost use Rattle.cs_words.specs.declared.sign.BinOp.TheVariants as op;
 
 use crate::quotient::{HeldDivisor, divisor_of, quotient};
 use crate::rows::fill;
-use cs_base::Num;
+use cs_base::{Num, ONE};
 use cs_ir::combine;
 use cs_signal::Operand;
 use cs_words::BinOp;
@@ -64,7 +64,7 @@ impl Side for Held {
 
     #[inline(always)]
     fn is_gain(&self) -> bool {
-        self.value.raw().unsigned_abs() < 65_536
+        self.value.raw().unsigned_abs() < ONE as u64
     }
 
     #[inline(always)]

@@ -45,9 +45,8 @@ fn area_at(layout: &Layout, place: u32) -> Area
 pub fn index(value: Num) -> Option<usize>
     ensures { result ≡ index value }
 {
-    let raw = value.raw();
-    if raw.is_negative() {
+    if value.raw().is_negative() {
         return None;
     }
-    Some(raw.div_euclid(65536).unsigned_abs() as usize)
+    Some(value.whole_below().unsigned_abs() as usize)
 }

@@ -35,7 +35,7 @@ pub struct State<'p> {
 /// What a note plays in: the header, where what notes share has its cells, how many places each zak space has, and the
 /// p-fields that it was given, from p1 on; any further one is 0.
 #[derive(Clone, Copy)]
-pub struct Setting<'s> {
+pub struct NoteSetting<'s> {
     pub head: &'s Head,
     pub layout: &'s Layout,
     pub spaces: Spaces,

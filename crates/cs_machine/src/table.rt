@@ -1,5 +1,5 @@
 // Live tables that are stored into.
-ghost use Rattle.std.specs.Prelude.{◌≡◌, ◌+◌, ◌-◌, ◌<◌, ◌≤◌, ◌%◌, true, length, Some};
+ghost use Rattle.std.specs.Prelude.{◌≡◌, ◌+◌, ◌≤◌, true, length, Some};
 ghost use Rattle.cs_machine.specs.Access.{CanTouch};
 ghost use Rattle.cs_base.specs.declared.resource.Rate.TheVariants as rate;
 ghost use Rattle.cs_cells.specs.Cells.{cell};
@@ -12,15 +12,8 @@ ghost use Rattle.cs_voice_meaning.specs.Placing.{wave_in, with_wave};
 use crate::area_rows::set_frame;
 use cs_base::Num;
 use cs_cells::{Area, Bank};
-use cs_gen::place_of_index;
+use cs_gen::{len_of, place_of_index};
 use cs_signal::Operand;
-
-// The power of two of a size.
-pub(crate) fn power_below(size: u32) -> u32
-    ensures { result ≡ len_of size }
-{
-    size - size % 2
-}
 
 /// Stores into a live table: at each step a value, at the place of an index brought into the table.
 pub fn store<B: Bank>(bank: &mut B, area: Area, steps: usize, sig: &Operand, ndx: &Operand)
@@ -33,7 +26,7 @@ pub fn store<B: Bank>(bank: &mut B, area: Area, steps: usize, sig: &Operand, ndx
     ensures long { length (B.cells bank.new) ≡ length (B.cells bank.old) }
     ensures rest { B.rest bank.new ≡ B.rest bank.old }
 {
-    let len = power_below(area.length);
+    let len = len_of(area.length);
     for j in 0..steps {
         let place = place_of_index(ndx.at(j), len);
         set_frame(bank, area, place as usize, sig.at(j));

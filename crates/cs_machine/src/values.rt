@@ -7,7 +7,7 @@ ghost use Rattle.cs_signal.specs.Operands.{argument};
 ghost use Rattle.cs_typed.specs.TypedTree.{header_of_head};
 ghost use Rattle.cs_machine.specs.States.{DoesAnywhere, DoesAt, HasRoom};
 
-use crate::state::{Setting, State};
+use crate::state::{NoteSetting, State};
 use cs_base::{Head, Num};
 use cs_ir::Reg;
 use cs_words::HeadName;
@@ -23,7 +23,7 @@ impl State<'_> {
     }
 
     /// Gives a p-field, counted from 1, and 0 past the last: the act `Field`.
-    pub fn field(&mut self, at: &Setting<'_>, into: Reg, field: u32)
+    pub fn field(&mut self, at: &NoteSetting<'_>, into: Reg, field: u32)
         requires into { has_register self.old.regs.counts into ≡ true }
         requires room { HasRoom self.old }
         ensures { DoesAt at.now (act.Field field) into [] self.old self.new }
@@ -33,7 +33,7 @@ impl State<'_> {
     }
 
     /// Gives what the header says: the act `Head`.
-    pub fn header(&mut self, at: &Setting<'_>, into: Reg, name: HeadName)
+    pub fn header(&mut self, at: &NoteSetting<'_>, into: Reg, name: HeadName)
         requires into { has_register self.old.regs.counts into ≡ true }
         requires room { HasRoom self.old }
         ensures { DoesAt at.now (act.Head name) into [] self.old self.new }
@@ -69,5 +69,5 @@ fn whole(number: u32) -> Num
     requires { number ≤ 192000 }
     ensures { result ≡ pos (number * 65536) }
 {
-    Num::exact(i64::from(number) * 65_536)
+    Num::of_whole(i64::from(number))
 }

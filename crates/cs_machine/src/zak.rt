@@ -12,7 +12,7 @@ ghost use Rattle.cs_voice_meaning.specs.VoiceWorld.{lies_cleared};
 
 use crate::area_rows::clear;
 use crate::places::{area_in, index};
-use crate::state::Setting;
+use crate::state::NoteSetting;
 use cs_base::Num;
 use cs_cells::Bank;
 use cs_ir::{Reach, places_of, zak_place};
@@ -21,7 +21,7 @@ use cs_words::Space;
 /// Sets the places from one value to another to 0, as far as the space has them and the reach goes.
 pub fn clear_places<B: Bank>(
     bank: &mut B,
-    at: &Setting<'_>,
+    at: &NoteSetting<'_>,
     space: Space,
     reach: Reach,
     first: Num,
@@ -51,7 +51,13 @@ pub fn clear_places<B: Bank>(
 }
 
 /// Sets one place of a space to 0, where it is within reach.
-fn clear_place<B: Bank>(bank: &mut B, at: &Setting<'_>, space: Space, reach: Reach, number: usize)
+fn clear_place<B: Bank>(
+    bank: &mut B,
+    at: &NoteSetting<'_>,
+    space: Space,
+    reach: Reach,
+    number: usize,
+)
     requires spaces { AreSpaces at.now.layout.now }
     requires zak { spaces_of at.now.layout.now ≡ at.now.spaces }
     requires number { number < places_of at.now.spaces space }

@@ -17,7 +17,7 @@ use Rattle.cs_meaning.specs.Core.{no_stmt, andthen, otherwise, arm}
 use Rattle.cs_meaning.specs.Initialising as initial
 use Rattle.cs_meaning.specs.Initialising.{going, keep, keep_all, init_stmt, init_block, init_first, init_all, run_once}
 use Rattle.cs_meaning.specs.Initialising.{sought, started, stored_once, zak_once}
-use Rattle.cs_meaning.specs.Notes.{Note, Path, Place, next, inside, inside_arm, past_arm, past_stmt, assign}
+use Rattle.cs_meaning.specs.Notes.{Note, Path, StatementPlace, next, inside, inside_arm, past_arm, past_stmt, assign}
 use Rattle.cs_meaning.specs.Notes.{first_value, given, moved_to, value, values}
 use Rattle.cs_meaning.specs.When.{beginning}
 use Rattle.cs_piece_meaning.specs.Bounded.{asks_in, asks_in_arms, asks_in_stmt}
@@ -125,7 +125,7 @@ module _ {W : Type 0} (o : World W) (S : ℕ → W → W → Type 0) (goes : Goe
       (goes.zak q reach (values o t beginning [] xs) t.world) (given_goes vs (held o.ksmps r d.1) (moved_to d.0 t))
 
   mutual
-    pub stmt_goes : (s : Stmt) (p : Place) (t : Note W) → From (asks_in_stmt s) t (init_stmt o p s t)
+    pub stmt_goes : (s : Stmt) (p : StatementPlace) (t : Note W) → From (asks_in_stmt s) t (init_stmt o p s t)
     stmt_goes (set r v e) p t =
         let a : Note W = assign o v (value o t beginning [] e) t in
         let b : Note W = keep o (0 ∷ p.path) e t in
@@ -164,13 +164,13 @@ module _ {W : Type 0} (o : World W) (S : ℕ → W → W → Type 0) (goes : Goe
     stmt_goes (turnoff r) p t = still 0 t
     stmt_goes nothing p t = still 0 t
     stmt_goes (choose r arms) p t =
-        let q : Place = inside p in
+        let q : StatementPlace = inside p in
         let a : Note W = init_first o q arms t in
         let b : Note W = init_all o q arms t in
         going_goes (asks_in_arms arms) t (if_init r a b)
         (rate_goes (asks_in_arms arms) r t a b (first_goes arms q t) (all_goes arms q t))
 
-    pub block_goes : (b : Block) (p : Place) (t : Note W) → From (asks_in b) t (init_block o p b t)
+    pub block_goes : (b : Block) (p : StatementPlace) (t : Note W) → From (asks_in b) t (init_block o p b t)
     block_goes no_stmt p t = still 0 t
     block_goes (andthen s b) p t =
         let u : Note W = init_stmt o p s t in
@@ -178,26 +178,26 @@ module _ {W : Type 0} (o : World W) (S : ℕ → W → W → Type 0) (goes : Goe
         (omega arith)
         (stmt_goes s p t) (block_goes b (past_stmt p s) u)
 
-    first_goes : (arms : Arms) (p : Place) (t : Note W) → From (asks_in_arms arms) t (init_first o p arms t)
+    first_goes : (arms : Arms) (p : StatementPlace) (t : Note W) → From (asks_in_arms arms) t (init_first o p arms t)
     first_goes (otherwise b) p t = block_goes b (inside p) t
     first_goes (arm c b rest) p t =
         let n : ℕ = asks_in b + asks_in_arms rest in
         let s : Note W = keep o (0 ∷ p.path) c t in
-        let q : Place = inside_arm p in
-        let next_arm : Place = past_arm p b in
+        let q : StatementPlace = inside_arm p in
+        let next_arm : StatementPlace = past_arm p b in
         let x : Note W = init_block o q b s in
         let y : Note W = init_first o next_arm rest s in
         chosen_goes n (holds (s.kept (0 ∷ p.path))) t x y
         (after n 0 (asks_in b) t s x (omega arith) (keep_goes (0 ∷ p.path) c t) (block_goes b q s))
         (after n 0 (asks_in_arms rest) t s y (omega arith) (keep_goes (0 ∷ p.path) c t) (first_goes rest next_arm s))
 
-    all_goes : (arms : Arms) (p : Place) (t : Note W) → From (asks_in_arms arms) t (init_all o p arms t)
+    all_goes : (arms : Arms) (p : StatementPlace) (t : Note W) → From (asks_in_arms arms) t (init_all o p arms t)
     all_goes (otherwise b) p t = block_goes b (inside p) t
     all_goes (arm c b rest) p t =
         let n : ℕ = asks_in b + asks_in_arms rest in
         let s : Note W = keep o (0 ∷ p.path) c t in
-        let q : Place = inside_arm p in
-        let next_arm : Place = past_arm p b in
+        let q : StatementPlace = inside_arm p in
+        let next_arm : StatementPlace = past_arm p b in
         let u : Note W = init_block o q b s in
         let v : Note W = init_all o next_arm rest u in
         going_goes n t v

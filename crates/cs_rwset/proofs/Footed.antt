@@ -1,5 +1,6 @@
 -- Footprints over zones are those of codes.
-use Rattle.std.proofs.Common.{◌≡◌, ◌<◌, ℕ, suc, Bool, true, false, List, get_or, length, slice_get, Option, Some, refl, sym}
+use Rattle.std.proofs.Common.{◌≡◌, ◌<◌, ℕ, suc, Bool, true, false, List, get_or, length, slice_get, Option, Some, refl}
+use Rattle.std.proofs.Common.{sym}
 use Rattle.std.proofs.Common.{◌∙◌, ◌≤◌, None, nat_lt, if◌then◌else◌, ap, subst, arith}
 use Rattle.std.proofs.lemmas.Bool.Decides.{nat_tests}
 use Rattle.cs_base.specs.Limits.{most_resources, most_words}
@@ -32,7 +33,8 @@ use Rattle.cs_rwset.proofs.ZonesLaid.{heads_under, zone_marks}
 contains_marked : (marks : List Bool) (p : ℕ) → p < length marks → get_or marks p false ≡ true
     → Contains (marked marks) p
 contains_marked marks p low h =
-    contains_filter (λ q. get_or marks q false) (range_with_len 0 (length marks)) p (contains_range (length marks) p low) h
+    contains_filter (λ q. get_or marks q false) (range_with_len 0 (length marks)) p
+    (contains_range (length marks) p low) h
 
 marked_contains : (marks : List Bool) (p : ℕ) → Contains (marked marks) p
     → (p < length marks) × (get_or marks p false ≡ true)
@@ -53,10 +55,10 @@ module _ (areas : List Area) (laid : IsLaid areas) (perf : Code) (m : Marks) (be
   many marks rs e = ap length e ∙ length-map areas (λ a. is_among rs a.res)
 
   used_many : length m.uses.items ≡ length areas
-  used_many = many m.uses.items (ops_use (stock_of areas) perf.ops.items) is.uses
+  used_many = many m.uses.items (ops_use (stock_of areas) perf.ops) is.uses
 
   written_many : length m.writes.items ≡ length areas
-  written_many = many m.writes.items (ops_write (stock_of areas) perf.ops.items) is.writes
+  written_many = many m.writes.items (ops_write (stock_of areas) perf.ops) is.writes
 
   covers_same : (marks : List Bool) (rs : List Res) (places : List ℕ) → marks ≡ marks_of areas rs
       → AreKept begins marks → places ≡ marked (heads marks begins) → (a : ℕ)
@@ -66,20 +68,20 @@ module _ (areas : List Area) (laid : IsLaid areas) (perf : Code) (m : Marks) (be
       ∙ zones_cover a marks begins areas laid (many marks rs e) long begun kept
       ∙ ap (λ l. covers areas (marked l) a) e ∙ ap (λ l. covers areas l a) (marked_places_are areas rs)
 
-  of_more : (o : Option Area) → is_of_one (ops_write (stock_of areas) perf.ops.items) o ≡ true
-      → is_of_one (ops_use (stock_of areas) perf.ops.items) o ≡ true
+  of_more : (o : Option Area) → is_of_one (ops_write (stock_of areas) perf.ops) o ≡ true
+      → is_of_one (ops_use (stock_of areas) perf.ops) o ≡ true
   of_more o h =
-      let one = one_of_is (ops_write (stock_of areas) perf.ops.items) o h in
-      subst (λ q. is_of_one (ops_use (stock_of areas) perf.ops.items) q ≡ true) (sym one.1)
-      (contains_among (ops_use (stock_of areas) perf.ops.items) one.0.res
-      (ops_written_is_used (stock_of areas) perf.ops.items one.0.res
-      (among_contains (ops_write (stock_of areas) perf.ops.items) one.0.res one.2)))
+      let one = one_of_is (ops_write (stock_of areas) perf.ops) o h in
+      subst (λ q. is_of_one (ops_use (stock_of areas) perf.ops) q ≡ true) (sym one.1)
+      (contains_among (ops_use (stock_of areas) perf.ops) one.0.res
+      (ops_written_is_used (stock_of areas) perf.ops one.0.res
+      (among_contains (ops_write (stock_of areas) perf.ops) one.0.res one.2)))
 
   under : (p : ℕ) → get_or m.writes.items p false ≡ true → get_or m.uses.items p false ≡ true
   under p h =
-      ap (λ l. get_or l p false) is.uses ∙ mark_at areas (ops_use (stock_of areas) perf.ops.items) p
+      ap (λ l. get_or l p false) is.uses ∙ mark_at areas (ops_use (stock_of areas) perf.ops) p
       ∙ of_more (slice_get areas p)
-      (sym (mark_at areas (ops_write (stock_of areas) perf.ops.items) p) ∙ ap (λ l. get_or l p false) (sym is.writes) ∙ h)
+      (sym (mark_at areas (ops_write (stock_of areas) perf.ops) p) ∙ ap (λ l. get_or l p false) (sym is.writes) ∙ h)
 
   zones_used : length (heads m.uses.items begins) ≡ length (zones_of areas begins)
   zones_used = zone_marks m.uses.items begins areas used_many long begun
@@ -89,9 +91,9 @@ module _ (areas : List Area) (laid : IsLaid areas) (perf : Code) (m : Marks) (be
 
   pub foot_is : IsFootOver areas (zones_of areas begins) perf foot
   foot_is = record {
-    uses = covers_same m.uses.items (ops_use (stock_of areas) perf.ops.items) foot.uses is.uses
+    uses = covers_same m.uses.items (ops_use (stock_of areas) perf.ops) foot.uses is.uses
         (λ p low same. (stays p (omega (arith, low, used_many)) same).0) uses;
-    writes = covers_same m.writes.items (ops_write (stock_of areas) perf.ops.items) foot.writes is.writes
+    writes = covers_same m.writes.items (ops_write (stock_of areas) perf.ops) foot.writes is.writes
         (λ p low same. (stays p (omega (arith, low, written_many)) same).1) writes;
     places = record {
       uses = subst IsStrictlyIncreasing (sym uses)
@@ -116,8 +118,8 @@ module _ (areas : List Area) (laid : IsLaid areas) (perf : Code) (m : Marks) (be
 pub marks_many : (areas : List Area) (perf : Code) (m : Marks) → AreMarksOf areas perf m
     → (length m.uses.items ≡ length areas) × (length m.writes.items ≡ length areas)
 marks_many areas perf m is = (
-  ap length is.uses ∙ length-map areas (λ a. is_among (ops_use (stock_of areas) perf.ops.items) a.res),
-  ap length is.writes ∙ length-map areas (λ a. is_among (ops_write (stock_of areas) perf.ops.items) a.res),
+  ap length is.uses ∙ length-map areas (λ a. is_among (ops_use (stock_of areas) perf.ops) a.res),
+  ap length is.writes ∙ length-map areas (λ a. is_among (ops_write (stock_of areas) perf.ops) a.res),
 )
 
 pub few_areas : (areas : List Area) → limit_passed areas ≡ None → length areas ≤ most_resources

@@ -17,11 +17,11 @@ pub record AreZones (areas zones : List Area) : Type 0 where
   pub few : length zones ≤ length areas
   pub some : All (λ (a : Area). 0 < a.length) areas → All (λ (z : Area). 0 < z.length) zones
 
--- The footprint of a performance code over zones covers exactly the cells of the areas whose resource an op may use, and
--- of those whose resource one may write.
+-- The footprint of a performance code over zones covers exactly the cells of the areas whose resource an op may use,
+-- and of those whose resource one may write.
 pub record IsFootOver (areas zones : List Area) (perf : Code) (foot : Footprint) : Type 0 where
   pub uses : (a : ℕ) → covers zones foot.uses a
-      ≡ covers areas (places_holding areas (ops_use (stock_of areas) perf.ops.items)) a
+      ≡ covers areas (places_holding areas (ops_use (stock_of areas) perf.ops)) a
   pub writes : (a : ℕ) → covers zones foot.writes a
-      ≡ covers areas (places_holding areas (ops_write (stock_of areas) perf.ops.items)) a
+      ≡ covers areas (places_holding areas (ops_write (stock_of areas) perf.ops)) a
   pub places : IsFootprint (length zones) foot

@@ -1,15 +1,16 @@
 // What a code may touch, as marks of the areas.
-ghost use Rattle.std.specs.Prelude.{◌≡◌, ℕ, ◌<◌, length, IfOk};
-ghost use Rattle.std.specs.List.{Contains};
-ghost use Rattle.std.specs.List.Sorted.{IsStrictlyIncreasing};
+ghost use Rattle.std.specs.Prelude.{◌≡◌, ◌++◌, List, length, IfOk};
+ghost use Rattle.cs_base.specs.declared.resource.Res.{Res};
+ghost use Rattle.cs_cells.specs.Areas.{IsLaid};
+ghost use Rattle.cs_ir.specs.Codes.{ops_of};
 ghost use Rattle.cs_ir.specs.Resources.{ops_use, ops_write};
-ghost use Rattle.cs_rwset.specs.Footprints.{is_place, place_count, places_holding, stock_of};
+ghost use Rattle.cs_rwset.specs.Footprints.{is_place, place_count, stock_of};
 ghost use Rattle.cs_rwset.specs.inner.Marks.{marks_of};
 
-use crate::marks::{mark_op, marked_places};
+use crate::marks::mark_act;
 use cs_base::{OutOfMemory, Res, Spaces};
-use cs_cells::{Footprint, Layout};
-use cs_ir::{Code, Op};
+use cs_cells::Layout;
+use cs_ir::{Ops, Stretch};
 use cs_words::Space;
 use std::alloc::Global;
 
@@ -21,7 +22,7 @@ pub(crate) struct Marks {
 }
 
 /// The areas whose resource an op may use, and those whose resource one may write.
-pub(crate) fn marks_of(alloc: Global, ops: &[Op], layout: &Layout) -> Result<Marks, OutOfMemory>
+pub(crate) fn marks_of(alloc: Global, ops: &Ops, layout: &Layout) -> Result<Marks, OutOfMemory>
     ensures uses { IfOk result (λ m. m.uses.items
         ≡ marks_of layout.now (ops_use (stock_of layout.now) ops.now)) }
     ensures writes { IfOk result (λ m. m.writes.items
@@ -35,10 +36,30 @@ pub(crate) fn marks_of(alloc: Global, ops: &[Op], layout: &Layout) -> Result<Mar
     };
     // No two areas are of one resource.
     let _ = layout.words();
-    for op in ops {
-        mark_op(&mut marks.uses, &mut marks.writes, layout, spaces, op);
+    let stretches = ops.stretches();
+    for stretch in stretches {
+        marks.add(layout, spaces, stretch);
     }
     Ok(marks)
+}
+
+impl Marks {
+    /// Marks what the ops of a stretch may use, and what they may write.
+    fn add(&mut self, layout: &Layout, spaces: Spaces, stretch: &Stretch)
+        requires laid { IsLaid layout.now }
+        requires spaces { spaces ≡ (stock_of layout.now).spaces }
+        requires uses { length self.old.uses.items ≡ length layout.now }
+        requires writes { length self.old.writes.items ≡ length layout.now }
+        ensures uses { (rs : List Res) → self.old.uses.items ≡ marks_of layout.now rs
+            → self.new.uses.items ≡ marks_of layout.now (rs ++ ops_use (stock_of layout.now) (ops_of stretch.now)) }
+        ensures writes { (rs : List Res) → self.old.writes.items ≡ marks_of layout.now rs
+            → self.new.writes.items ≡ marks_of layout.now (rs ++ ops_write (stock_of layout.now) (ops_of stretch.now)) }
+    {
+        for place in 0..stretch.len() {
+            let act = stretch.act(place);
+            mark_act(&mut self.uses, &mut self.writes, layout, spaces, &act);
+        }
+    }
 }
 
 /// How many places each zak space has.

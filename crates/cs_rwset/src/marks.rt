@@ -11,24 +11,24 @@ ghost use Rattle.cs_rwset.specs.inner.Named.{covers};
 use crate::named::{Named, names_of, writes};
 use cs_base::{OutOfMemory, Places, Res, Spaces};
 use cs_cells::Layout;
-use cs_ir::Op;
+use cs_ir::Act;
 use std::alloc::Global;
 
-/// Marks what an op may use, and what it may write.
-pub fn mark_op(uses: &mut [bool], written: &mut [bool], layout: &Layout, spaces: Spaces, op: &Op)
+/// Marks what an act may use, and what it may write.
+pub fn mark_act(uses: &mut [bool], written: &mut [bool], layout: &Layout, spaces: Spaces, act: &Act)
     requires laid { IsLaid layout.now }
     requires spaces { spaces ≡ (stock_of layout.now).spaces }
     requires uses { length uses.old ≡ length layout.now }
     requires writes { length written.old ≡ length layout.now }
     ensures uses { (rs : List Res) → uses.old ≡ marks_of layout.now rs
-        → uses.new ≡ marks_of layout.now (rs ++ act_uses (stock_of layout.now) op.now.act) }
+        → uses.new ≡ marks_of layout.now (rs ++ act_uses (stock_of layout.now) act.now) }
     ensures writes { (rs : List Res) → written.old ≡ marks_of layout.now rs
-        → written.new ≡ marks_of layout.now (rs ++ act_writes (stock_of layout.now) op.now.act) }
+        → written.new ≡ marks_of layout.now (rs ++ act_writes (stock_of layout.now) act.now) }
 {
-    let named = names_of(op.act);
+    let named = names_of(*act);
     let names = named.narrowed(spaces);
     mark(uses, layout, spaces, names);
-    if writes(op.act) {
+    if writes(*act) {
         mark(written, layout, spaces, names);
     }
 }

@@ -30,8 +30,8 @@ use Rattle.cs_voice.specs.Passing.{CanInitialise, CanPass, IsStateOf, Passes}
 use Rattle.cs_voice.specs.Starting.{cause_of}
 use Rattle.cs_voice.specs.Starts.{IsLive, IsStarted, sheet_for, started_as}
 use Rattle.cs_voice.specs.Tables.{tables_of}
-use Rattle.cs_voice.specs.declared.begin.Refusal.{Refusal}
-use Rattle.cs_voice.specs.declared.begin.Refusal.TheVariants as refusal
+use Rattle.cs_voice.specs.declared.begin.StartRefusal.{StartRefusal}
+use Rattle.cs_voice.specs.declared.begin.StartRefusal.TheVariants as refusal
 use Rattle.cs_voice.specs.declared.note.NewNote.{NewNote}
 use Rattle.cs_voice.specs.declared.tables.Finds.{Finds}
 
@@ -65,7 +65,7 @@ new_state s counts state fresh in_piece playable =
       },
     )
 
-module _ (s : Sheet) (first now : State) (before after : ℕ → ℤ) (asked given : List Ask) (refused : Option Refusal)
+module _ (s : Sheet) (first now : State) (before after : ℕ → ℤ) (asked given : List Ask) (refused : Option StartRefusal)
     (fresh : (cells : ℕ → ℤ) → machine_of first cells 0 [] None ≡ new_machine (fresh_voice cells))
     (passes : Passes s first before asked now after given refused) where
   began : initialised s before ≡ machine_of now after passes.next passes.more (option_map cause_of refused)
@@ -103,7 +103,7 @@ module _ (s : Sheet) (first now : State) (before after : ℕ → ℤ) (asked giv
     ends = refl;
   }
 
-pub refused_so : (s : Sheet) (until : ℕ) (m : Machine VoiceState) (r : Refusal) → m.world.cause ≡ Some (cause_of r)
+pub refused_so : (s : Sheet) (until : ℕ) (m : Machine VoiceState) (r : StartRefusal) → m.world.cause ≡ Some (cause_of r)
     → IsStarted s until m (started_as r)
 refused_so s until m (refusal.NoTable number) e = e
 refused_so s until m (refusal.DelayTooLong samples) e = e
@@ -127,7 +127,7 @@ made_voice note number fields perf counts state playable numbered same long plac
     areas = refl;
     zones = refl;
     foot = refl;
-    perf = ap (λ code. code.ops.items) (sym same);
+    perf = ap (λ code. code.ops) (sym same);
   };
   playable = playable;
   spaces = places;
@@ -176,7 +176,7 @@ can_pass get set count finds note fields init state same fine can =
         sets = can.sets;
         long = can.cells;
       };
-      same = ap (λ code. code.ops.items) (sym same);
+      same = ap (λ code. code.ops) (sym same);
       valid = fine;
       counts = new.0 ∙ ap (λ (code : Code). code.counts) (sym same);
     }

@@ -28,7 +28,7 @@ use Rattle.cs_voice_meaning.specs.Follows.{OpsNamed}
 use Rattle.cs_typed.specs.TypedTree.{header_of_head}
 use Rattle.cs_machine.specs.States.{CanDo, IsStateIn, machine_of, unit_at}
 use Rattle.cs_machine.specs.declared.state.State.{State}
-use Rattle.cs_machine.specs.declared.state.Setting.{Setting}
+use Rattle.cs_machine.specs.declared.state.NoteSetting.{NoteSetting}
 use Rattle.cs_voice.specs.declared.stage.Stage.{Stage}
 use Rattle.cs_voice.specs.Cycles.{CanRun, Context, HasRun}
 use Rattle.cs_voice.specs.Memory.{IsKept, voice_in}
@@ -103,13 +103,13 @@ module _ (number age until : ℕ) (stage : Stage) (foot : Footprint) (code : Cod
   }
 
   -- the code of a voice can be run over a bank that has what the voice may touch
-  pub can_run : (can_get can_set : ℕ → Type 0) (count : ℕ) (s : State) (h : Kept s) (at : Setting) (t : State)
+  pub can_run : (can_get can_set : ℕ → Type 0) (count : ℕ) (s : State) (h : Kept s) (at : NoteSetting) (t : State)
       → ((a : ℕ) → Uses voice_job (voice s) a → can_get a) → ((a : ℕ) → Writes voice_job (voice s) a → can_set a)
       → ((a : ℕ) → Uses voice_job (voice s) a → a < count)
       → at.layout.now ≡ stage.layout.now → at.head.now ≡ stage.head.now → at.spaces ≡ stage.spaces
       → at.fields.now ≡ fields
       → IsStateIn stage.layout.now (piece_of (voice s)) h.voice.playable.kinds code.counts t
-      → CanRun can_get can_set count at (context s h) code.ops.items t
+      → CanRun can_get can_set count at (context s h) code.ops t
   can_run can_get can_set count s h at t get set within layout head zak given st =
       let p = h.voice.playable in
       let sh = sheet_of (voice s) in
@@ -125,19 +125,19 @@ module _ (number age until : ℕ) (stage : Stage) (foot : Footprint) (code : Cod
         placed = subst (λ l. IsPlaced l p.stock (piece_of (voice s))) (sym layout) p.placed;
         state = subst (λ l. IsStateIn l (piece_of (voice s)) p.kinds code.counts t) (sym layout) st;
         fine = h.voice.code;
-        named = subst (λ l. OpsNamed p.stock p.kinds (HasArea l) code.ops.items) (sym layout)
-            (all_areas sh p.stock p.kinds code.ops.items p.perf_uses);
+        named = subst (λ l. OpsNamed p.stock p.kinds (HasArea l) code.ops) (sym layout)
+            (all_areas sh p.stock p.kinds code.ops p.perf_uses);
         channels = p.perf_channels;
         acts = p.perf_acts;
-        can = subst (λ l. AllByRecursion (λ (op : Op). CanDo can_get can_set count l p.stock op.act) code.ops.items)
+        can = subst (λ l. AllByRecursion (λ (op : Op). CanDo can_get can_set count l p.stock op.act) code.ops)
             (sym layout)
-            (can_all sh can_get can_set count get set within p.stock p.kinds code.ops.items p.perf_uses p.perf_writes);
+            (can_all sh can_get can_set count get set within p.stock p.kinds code.ops p.perf_uses p.perf_writes);
       }
 
   -- a cycle was run
   module _ (s : State) (h : Kept s) (o : ChannelFile) (silent : outs o ≡ (λ n. silence)) (t : State) (areas : List Area)
       (same : areas ≡ stage.layout.now) (c d : Cells)
-      (ran : HasRun areas (context s h) code.ops.items (record s { outs = o }) (cell c) t (cell d))
+      (ran : HasRun areas (context s h) code.ops (record s { outs = o }) (cell c) t (cell d))
       (all_registers : filled t.regs (values t.regs) ≡ t.regs)
       (all_channels : refilled t.outs (outs t.outs) ≡ t.outs) where
     begin : begins (sounding (voice s)) (cell c) ≡ machine_of (record s { outs = o }) (cell c) 0 [] None
@@ -159,9 +159,9 @@ module _ (number age until : ℕ) (stage : Stage) (foot : Footprint) (code : Cod
     end : machine_of t (cell d) ran.next [] None ≡ cycle (sounding (voice s)) (cell c)
     end =
         ran.machine
-        ∙ ap (λ l. run (voice_world l (piece_of (voice s))) 0 code.ops.items
+        ∙ ap (λ l. run (voice_world l (piece_of (voice s))) 0 code.ops
         (machine_of (record s { outs = o }) (cell c) 0 [] None)) same
-        ∙ ap (run (voice_world stage.layout.now (piece_of (voice s))) 0 code.ops.items) (sym begin)
+        ∙ ap (run (voice_world stage.layout.now (piece_of (voice s))) 0 code.ops) (sym begin)
 
     done : voice_of (sheet_of (voice s)) (machine_of t (cell d) ran.next [] None) ≡ performed (sounding (voice s)) c
     done = ap (voice_of (sheet_of (voice s))) end ∙ sym (performed_on_all (sounding (voice s)) c h.voice.playable)
@@ -208,37 +208,38 @@ module _ (number age until : ℕ) (stage : Stage) (foot : Footprint) (code : Cod
       state = subst (λ l. IsStateIn l (piece_of (voice s)) h.voice.playable.kinds code.counts t) same ran.state;
     }
 
+  -- what a voice whose code was run over cells has become, and what it leaves in them
+  pub record HasCycled (s t : State) (c d : Cells) : Type 0 where
+    pub job : voice t ≡ after (voice s) c
+    pub cells : d ≡ leaves (voice s) c
+    pub kept : Kept t
+
   -- a body runs: its channels are cleared, its code is run in a setting, and its registers and channels are asked
   module _ (s : State) (h : Kept s) (u : State) (silent : outs u.outs ≡ (λ n. silence))
       (long : length u.outs.rows ≡ length s.outs.rows)
       (frames : u.outs.ksmps ≡ s.outs.ksmps) (same : u ≡ record s { outs = u.outs })
-      (at : Setting) (layout : at.layout.now ≡ stage.layout.now) (head : at.head.now ≡ stage.head.now)
+      (at : NoteSetting) (layout : at.layout.now ≡ stage.layout.now) (head : at.head.now ≡ stage.head.now)
       (zak : at.spaces ≡ stage.spaces)
-      (given : at.fields.now ≡ fields) (ops : List Op) (is : ops ≡ code.ops.items) (can_get can_set : ℕ → Type 0)
-      (count : ℕ)
+      (given : at.fields.now ≡ fields) (can_get can_set : ℕ → Type 0) (count : ℕ)
       (get : (a : ℕ) → Uses voice_job (voice s) a → can_get a)
       (set : (a : ℕ) → Writes voice_job (voice s) a → can_set a)
       (within : (a : ℕ) → Uses voice_job (voice s) a → a < count) where
-    pub able : CanRun can_get can_set count at (context s h) ops u
-    able = subst (λ l. CanRun can_get can_set count at (context s h) l u) (sym is)
-        (subst (λ z. CanRun can_get can_set count at (context s h) code.ops.items z) (sym same)
+    pub able : CanRun can_get can_set count at (context s h) code.ops u
+    able = subst (λ z. CanRun can_get can_set count at (context s h) code.ops z) (sym same)
         (can_run can_get can_set count s h at (record s { outs = u.outs }) get set within layout head zak given
-        (cleared s h u.outs long frames)))
+        (cleared s h u.outs long frames))
 
-    module _ (t : State) (c d : Cells)
-        (run : (x : Context) → CanRun can_get can_set count at x ops u
-        → HasRun at.layout.now x ops u (cell c) t (cell d))
-        (all_registers : filled t.regs (values t.regs) ≡ t.regs)
-        (all_channels : refilled t.outs (outs t.outs) ≡ t.outs) where
-      ran : HasRun at.layout.now (context s h) code.ops.items (record s { outs = u.outs }) (cell c) t (cell d)
-      ran = subst (λ z. HasRun at.layout.now (context s h) code.ops.items z (cell c) t (cell d)) same
-          (subst (λ l. HasRun at.layout.now (context s h) l u (cell c) t (cell d)) is (run (context s h) able))
-
-      pub run_job : voice t ≡ after (voice s) c
-      run_job = job s h u.outs silent t at.layout.now layout c d ran all_registers all_channels
-
-      pub run_cells : length d ≡ length c → d ≡ leaves (voice s) c
-      run_cells same = cells s h u.outs silent t at.layout.now layout c d ran all_registers all_channels same
-
-      pub run_kept : Kept t
-      run_kept = still_kept s h u.outs silent t at.layout.now layout c d ran all_registers all_channels
+    pub cycled : (t : State) (c d : Cells)
+        → ((x : Context) → CanRun can_get can_set count at x code.ops u
+        → HasRun at.layout.now x code.ops u (cell c) t (cell d))
+        → filled t.regs (values t.regs) ≡ t.regs → refilled t.outs (outs t.outs) ≡ t.outs → length d ≡ length c
+        → HasCycled s t c d
+    cycled t c d run all_registers all_channels long = record {
+      job = job s h u.outs silent t at.layout.now layout c d ran all_registers all_channels;
+      cells = cells s h u.outs silent t at.layout.now layout c d ran all_registers all_channels long;
+      kept = still_kept s h u.outs silent t at.layout.now layout c d ran all_registers all_channels;
+    }
+      where
+        ran : HasRun at.layout.now (context s h) code.ops (record s { outs = u.outs }) (cell c) t (cell d)
+        ran = subst (λ z. HasRun at.layout.now (context s h) code.ops z (cell c) t (cell d)) same
+            (run (context s h) able)

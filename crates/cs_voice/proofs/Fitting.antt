@@ -12,7 +12,7 @@ use Rattle.cs_ir.specs.declared.op.Op.{Op}
 use Rattle.cs_ir.specs.declared.register.Counts.{Counts}
 use Rattle.cs_ir.specs.declared.register.Reg.{Reg}
 use Rattle.cs_voice_meaning.specs.Voices.{has_channel}
-use Rattle.cs_machine.specs.declared.state.Setting.{Setting}
+use Rattle.cs_machine.specs.declared.state.NoteSetting.{NoteSetting}
 use Rattle.cs_machine.specs.declared.state.State.{State}
 use Rattle.cs_machine.specs.States.{DoesAnywhere, DoesAt}
 use Rattle.cs_voice.specs.Ready.{IsFit}
@@ -174,12 +174,12 @@ channel_there channels c a e h = ltb-true c channels (ap (has_channel channels) 
 
 -- ---- an op that does an act
 
-pub does_at : (at : Setting) (a b : Act) (into : Reg) (xs ys : List Reg) (old new : State) → a ≡ b → xs ≡ ys
+pub does_at : (at : NoteSetting) (a b : Act) (into : Reg) (xs ys : List Reg) (old new : State) → a ≡ b → xs ≡ ys
     → DoesAt at b into ys old new → DoesAt at a into xs old new
 does_at at a b into xs ys old new e f h =
     subst (λ d. DoesAt at d into xs old new) (sym e) (subst (λ l. DoesAt at b into l old new) (sym f) h)
 
-pub does_anywhere : (at : Setting) (a b : Act) (into : Reg) (xs ys : List Reg) (old new : State) → a ≡ b → xs ≡ ys
+pub does_anywhere : (at : NoteSetting) (a b : Act) (into : Reg) (xs ys : List Reg) (old new : State) → a ≡ b → xs ≡ ys
     → DoesAnywhere b into ys old new → DoesAt at a into xs old new
 does_anywhere at a b into xs ys old new e f h =
     does_at at a b into xs ys old new e f

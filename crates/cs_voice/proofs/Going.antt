@@ -1,5 +1,6 @@
 -- A code that is done from place to place, in a control cycle or as a note begins.
-use Rattle.std.proofs.Common.{◌≡◌, ℕ, ℤ, zero, suc, ◌+◌, ◌<◌, ◌≤◌, inl, inr, Bool, true, false, List, [], ◌∷◌, length}
+use Rattle.std.proofs.Common.{◌≡◌, ℕ, ℤ, zero, suc, ◌+◌, ◌-◌, ◌<◌, ◌≤◌, inl, inr, Bool, true, false, List, [], ◌∷◌}
+use Rattle.std.proofs.Common.{length}
 use Rattle.std.proofs.Common.{map, get_or, slice_get, Option, Some, None, refl, sym, ◌∙◌, ap, subst, arith}
 use Rattle.cs_ir.specs.Cycles.{is_of_cycle}
 use Rattle.cs_ir.specs.Validity.{is_fine}
@@ -9,16 +10,18 @@ use Rattle.cs_ir.specs.declared.op.Act.TheVariants as act
 use Rattle.cs_ir.specs.declared.op.Code.{Code}
 use Rattle.cs_ir.specs.declared.op.Op.{Op}
 use Rattle.cs_machine.specs.Registers.{values}
-use Rattle.cs_machine.specs.declared.state.Setting.{Setting}
+use Rattle.cs_machine.specs.declared.state.NoteSetting.{NoteSetting}
 use Rattle.cs_machine.specs.declared.state.State.{State}
 use Rattle.cs_voice_meaning.specs.Voices.{Sheet}
 use Rattle.cs_voice.specs.Codes.{CanDoHere, CanGo, CanStart, CanStartIn, Finding, HasStarted}
 use Rattle.cs_voice.specs.Cycles.{CanRun, CanStep, Context, HasStepped}
 use Rattle.cs_voice.specs.Passing.{CanDoOp, CanPass, IsDone, Passes}
 use Rattle.cs_voice.specs.Ready.{CanBeDone, DoesOp, is_here}
-use Rattle.cs_voice.specs.declared.begin.Refusal.{Refusal}
+use Rattle.cs_voice.specs.declared.begin.StartRefusal.{StartRefusal}
 use Rattle.cs_voice.specs.declared.tables.Finds.{Finds}
 use Rattle.cs_voice.specs.inner.Jumps.{GoesOn, is_jump, is_start}
+use Rattle.cs_voice.specs.inner.Cursors.{LieFrom}
+use Rattle.cs_voice.proofs.Cursors.{at_place, there_low}
 use Rattle.cs_voice.proofs.Ops.{fine_here}
 use Rattle.cs_voice.proofs.Passed as passed
 use Rattle.cs_voice.proofs.Steps as steps
@@ -45,7 +48,7 @@ item_of (x ∷ ops) (suc n) op e = item_of ops n op e
 
 -- ---- one op
 
-module _ (get set : ℕ → Type 0) (count : ℕ) (at : Setting) (op : Op) (now : State) where
+module _ (get set : ℕ → Type 0) (count : ℕ) (at : NoteSetting) (op : Op) (now : State) where
   pub can_start : (finding : Finding) → is_start op.act ≡ true → CanDoHere get set count at finding op now
       → CanStart finding op now
   can_start finding st (inl (c, end, place, h)) = absurd (starts_not op.act h.acts st)
@@ -73,7 +76,7 @@ module _ (get set : ℕ → Type 0) (count : ℕ) (at : Setting) (op : Op) (now 
 
   -- what a starter did
   pub started : (finding : Finding) (f : Finds) (ms : List Bool) (s : Sheet) (new : State) (cells : ℕ → ℤ)
-      (asked given : List Ask) (refused : Option Refusal)
+      (asked given : List Ask) (refused : Option StartRefusal)
       → finding ≡ Some (f, ms) → CanDoOp get set count f ms op s now → HasStarted finding op now asked new given refused
       → IsDone s op now cells asked new cells given refused
   started finding f ms s new cells asked given refused is h has =
@@ -84,23 +87,33 @@ module _ (get set : ℕ → Type 0) (count : ℕ) (at : Setting) (op : Op) (now 
 -- ---- a code
 
 -- A code was done up to a place, as one of a control cycle; and as one of a sheet that begins.
-abbrev pub ComesTo : (get set : ℕ → Type 0) → ℕ → Setting → List Op → State → (ℕ → ℤ) → ℕ → State → (ℕ → ℤ) → Type 0
+abbrev pub ComesTo : (get set : ℕ → Type 0) → ℕ → NoteSetting → List Op → State → (ℕ → ℤ) → ℕ → State → (ℕ → ℤ) → Type 0
 ComesTo get set count at ops first before place now cells = (c : Context) → CanRun get set count at c ops first
     → steps.HasComeTo at.layout.now c ops place first before now cells
 
-abbrev pub PassesTo : (get set : ℕ → Type 0) → ℕ → Setting → Finding → List Op → State → (ℕ → ℤ) → List Ask → ℕ → State
+abbrev pub PassesTo : (get set : ℕ → Type 0) → ℕ → NoteSetting → Finding → List Op → State → (ℕ → ℤ) → List Ask → ℕ
+    → State
     → (ℕ → ℤ) → List Ask → Type 0
 PassesTo get set count at finding ops first before asked place now cells given =
     (f : Finds) (ms : List Bool) (code : Code) (s : Sheet)
-    → finding ≡ Some (f, ms) → f.at ≡ at → code.ops.items ≡ ops → CanPass get set count f ms code s first
+    → finding ≡ Some (f, ms) → f.at ≡ at → code.ops ≡ ops → CanPass get set count f ms code s first
     → passed.IsPassed s first before asked place now cells given
 
-module _ {R : Type 0} (get set : R → ℕ → Type 0) {r q : R} {n m : ℕ} (rest : q ≡ r) (long : m ≡ n) {at : Setting}
+module _ {R : Type 0} (get set : R → ℕ → Type 0) {r q : R} {n m : ℕ} (rest : q ≡ r) (long : m ≡ n) {at : NoteSetting}
     {finding : Finding} {ops : List Op}
     {first : State} {before : ℕ → ℤ} {asked : List Ask} {place : ℕ} {now : State} {cells : ℕ → ℤ} {given : List Ask}
     (comes : ComesTo (get r) (set r) n at ops first before place now cells)
     (goes : PassesTo (get r) (set r) n at finding ops first before asked place now cells given)
-    {op : Op} (low : place < length ops) (is : slice_get ops place ≡ Some op) where
+    {begin : ℕ} {seen here : List Op} {op : Op} (lie : LieFrom ops begin seen) (read : here ≡ seen)
+    (from : begin ≤ place)
+    (is_here : slice_get here (place - begin) ≡ Some op) where
+  is : slice_get ops place ≡ Some op
+  is = at_place ops here begin place from (there_low here (place - begin) op is_here)
+      (subst (LieFrom ops begin) (sym read) lie) ∙ is_here
+
+  pub low : place < length ops
+  low = there_low ops place op is
+
   -- the op there can be done in a cycle, over what the bank was and over what it is
   step_first : (c : Context) → CanRun (get r) (set r) n at c ops first
       → CanStep (get r) (set r) n at c (length ops) place op now
@@ -115,7 +128,7 @@ module _ {R : Type 0} (get set : R → ℕ → Type 0) {r q : R} {n m : ℕ} (re
 
   -- and as one of a sheet that begins
   pub op_now : (f : Finds) (ms : List Bool) (code : Code) (s : Sheet) → finding ≡ Some (f, ms) → f.at ≡ at
-      → code.ops.items ≡ ops
+      → code.ops ≡ ops
       → CanPass (get r) (set r) n f ms code s first → CanDoOp (get q) (set q) m f ms op s now
   op_now f ms code s found same eq can =
       passed.able_again get set r q n m f ms code s first before asked place now cells given op rest long can
@@ -141,8 +154,8 @@ module _ {R : Type 0} (get set : R → ℕ → Type 0) {r q : R} {n m : ℕ} (re
       by None e (inr h) = absurd h
       by (Some f) e (inr (code, s, same, eq, h)) =
           let u = goes f.0 f.1 code s e same eq h in (
-            length code.ops.items,
-            subst (λ k. is_fine k (length code.ops.items) place op ≡ true) (sym (u.counted ∙ h.counts))
+            length code.ops,
+            subst (λ k. is_fine k (length code.ops) place op ≡ true) (sym (u.counted ∙ h.counts))
                 (fine_here code place op h.valid (ap (λ xs. slice_get xs place) eq ∙ is)),
           )
 
@@ -182,12 +195,12 @@ module _ {R : Type 0} (get set : R → ℕ → Type 0) {r q : R} {n m : ℕ} (re
       (did f ms s found same (op_now f ms code s found same eq can))
 
   -- what was refused
-  pub passes_refused : (new : State) (after : ℕ → ℤ) (asks_new : List Ask) (refused : Refusal)
+  pub passes_refused : (new : State) (after : ℕ → ℤ) (asks_new : List Ask) (refused : StartRefusal)
       → ((f : Finds) (ms : List Bool) (s : Sheet) → finding ≡ Some (f, ms) → f.at ≡ at
       → CanDoOp (get q) (set q) m f ms op s now
       → IsDone s op now cells given new after asks_new (Some refused))
       → (f : Finds) (ms : List Bool) (code : Code) (s : Sheet) → finding ≡ Some (f, ms) → f.at ≡ at
-      → code.ops.items ≡ ops
+      → code.ops ≡ ops
       → CanPass (get r) (set r) n f ms code s first → Passes s first before asked new after asks_new (Some refused)
   passes_refused new after asks_new refused did f ms code s found same eq can =
       passed.passed_refused s first before asked place now new cells after given asks_new op refused
@@ -196,11 +209,12 @@ module _ {R : Type 0} (get set : R → ℕ → Type 0) {r q : R} {n m : ℕ} (re
       (did f ms s found same (op_now f ms code s found same eq can))
 
 -- the end of a code
-pub passes_all : (get set : ℕ → Type 0) (count : ℕ) (at : Setting) (finding : Finding) (ops : List Op) (first : State)
+pub passes_all : (get set : ℕ → Type 0) (count : ℕ) (at : NoteSetting) (finding : Finding) (ops : List Op)
+    (first : State)
     (before : ℕ → ℤ) (asked : List Ask)
     (place : ℕ) (now : State) (cells : ℕ → ℤ) (given : List Ask)
     → PassesTo get set count at finding ops first before asked place now cells given → length ops ≤ place
-    → (f : Finds) (ms : List Bool) (code : Code) (s : Sheet) → finding ≡ Some (f, ms) → f.at ≡ at → code.ops.items ≡ ops
+    → (f : Finds) (ms : List Bool) (code : Code) (s : Sheet) → finding ≡ Some (f, ms) → f.at ≡ at → code.ops ≡ ops
     → CanPass get set count f ms code s first → Passes s first before asked now cells given None
 passes_all get set count at finding ops first before asked place now cells given goes far f ms code s found same eq
     can =

@@ -9,6 +9,7 @@ pub mod Stored
 pub mod Touching
 pub mod Began
 pub mod Ops
+pub mod Cursors
 pub mod Passed
 pub mod Going
 pub mod Running

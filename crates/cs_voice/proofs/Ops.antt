@@ -44,20 +44,20 @@ each_at f (x ∷ ops) zero op h e = let p =
 each_at f (x ∷ ops) (suc n) op h e = let p = and_parts (f x) (list_all f ops) h in each_at f ops n op p.1 e
 
 -- an op of the code at its place
-pub fine_here : (code : Code) (n : ℕ) (op : Op) → valid code ≡ true → slice_get code.ops.items n ≡ Some op
-    → is_fine code.counts (length code.ops.items) n op ≡ true
+pub fine_here : (code : Code) (n : ℕ) (op : Op) → valid code ≡ true → slice_get code.ops n ≡ Some op
+    → is_fine code.counts (length code.ops) n op ≡ true
 fine_here code n op fine at =
     let here : 0 + n ≡ n = omega arith in
-    subst (λ k. is_fine code.counts (length code.ops.items) k op ≡ true) here
-    (fine_at code.counts (length code.ops.items) 0 code.ops.items n op fine at)
+    subst (λ k. is_fine code.counts (length code.ops) k op ≡ true) here
+    (fine_at code.counts (length code.ops) 0 code.ops n op fine at)
 
-pub op_of : (s : Sheet) (code : Code) (counts : Counts) (n : ℕ) (op : Op) → IsPlayable s → s.init ≡ code.ops.items
+pub op_of : (s : Sheet) (code : Code) (counts : Counts) (n : ℕ) (op : Op) → IsPlayable s → s.init ≡ code.ops
     → valid code ≡ true → counts ≡ code.counts
-    → slice_get code.ops.items n ≡ Some op → IsOpOf s counts op
+    → slice_get code.ops n ≡ Some op → IsOpOf s counts op
 op_of s code counts n op playable same fine counted at = record {
-  end = length code.ops.items;
+  end = length code.ops;
   place = n;
-  fine = subst (λ c. is_fine c (length code.ops.items) n op ≡ true) (sym counted) (fine_here code n op fine at);
+  fine = subst (λ c. is_fine c (length code.ops) n op ≡ true) (sym counted) (fine_here code n op fine at);
   named = λ p. all_at (λ x. ActNamed p.stock p.kinds (HasArea s.areas) x.act x.into.rate) s.init n op p.init_uses
       (ap (λ ops. slice_get ops n) same ∙ at);
   channel = each_at (λ x. has_channel s.piece.head.nchnls x.act) s.init n op playable.init_channels

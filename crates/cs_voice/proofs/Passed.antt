@@ -38,7 +38,7 @@ use Rattle.cs_machine.specs.declared.state.State.{State}
 use Rattle.cs_voice.specs.Passing.{CanDoOp, CanPass, IsDone, IsFound, IsOpOf, IsStateOf, Passes}
 use Rattle.cs_voice.specs.Tables.{CanAllBePlayed, tables_of}
 use Rattle.cs_voice.specs.Starting.{Starts, cause_of}
-use Rattle.cs_voice.specs.declared.begin.Refusal.{Refusal}
+use Rattle.cs_voice.specs.declared.begin.StartRefusal.{StartRefusal}
 use Rattle.cs_voice.specs.declared.tables.Finds.{Finds}
 use Rattle.cs_voice.specs.inner.Begun.{Seeks}
 use Rattle.cs_voice.specs.inner.Jumps.{GoesOn}
@@ -139,7 +139,7 @@ done_ask s op old cells asked is state = record {
 
 -- a unit is started, or isn't
 pub done_start : (s : Sheet) (op : Op) (o : Opcode) (u : ℕ) (areas : List Area) (old new : State) (cells : ℕ → ℤ)
-    (asked : List Ask) (refused : Option Refusal)
+    (asked : List Ask) (refused : Option StartRefusal)
     → op.act ≡ act.Start o u → areas ≡ s.areas → IsPlayable s
     → ((p : IsPlayable s) → Starts areas s.piece p.kinds old.regs.counts o op.into.rate u
     (first_values (map (values old.regs) op.from)) old new refused)
@@ -263,7 +263,7 @@ passed_all s first before asked place now cells asks u h = record {
 }
 
 pub passed_refused : (s : Sheet) (first : State) (before : ℕ → ℤ) (asked : List Ask) (place : ℕ) (now new : State)
-    (cells after : ℕ → ℤ) (asks asks_new : List Ask) (op : Op) (refused : Refusal)
+    (cells after : ℕ → ℤ) (asks asks_new : List Ask) (op : Op) (refused : StartRefusal)
     → IsPassed s first before asked place now cells asks → slice_get s.init place ≡ Some op
     → IsDone s op now cells asks new after asks_new (Some refused)
     → Passes s first before asked new after asks_new (Some refused)
@@ -296,7 +296,7 @@ start_takes counts end place u o op fine is =
 
 -- a start, and an ask, as they are done
 pub started_op : (finds : Finds) (ms : List Bool) (s : Sheet) (op : Op) (o : Opcode) (u : ℕ) (settled : List ℤ)
-    (old new : State) (cells : ℕ → ℤ) (asked : List Ask) (refused : Option Refusal)
+    (old new : State) (cells : ℕ → ℤ) (asked : List Ask) (refused : Option StartRefusal)
     → op.act ≡ act.Start o u → IsFound finds ms s → IsPlayable s → IsOpOf s old.regs.counts op
     → IsStateOf s old.regs.counts old
     → settled ≡ first_values (map (values old.regs) op.from)
@@ -316,7 +316,7 @@ started_op finds ms s op o u settled old new cells asked refused is found playab
 
 -- a look for a table
 sought : (s : Sheet) (old : State) (cells : ℕ → ℤ) (next : ℕ) (earlier : List (List ℤ)) (is : List ℤ)
-    (refused : Option Refusal) → Seeks s.piece.tables (table_number is) refused
+    (refused : Option StartRefusal) → Seeks s.piece.tables (table_number is) refused
     → machine_of old cells next earlier (option_map cause_of refused)
     ≡ in_world (seek (voice_model s.areas s.piece) is (machine_of old cells next earlier None).world)
     (machine_of old cells next earlier None)
@@ -328,7 +328,7 @@ sought s old cells next earlier is refused h = by refused h
     looks : Bool → Machine VoiceState
     looks there = in_world (if not there then refused_for (no_table (table_number is)) m.world else m.world) m
 
-    by : (refused : Option Refusal) → Seeks s.piece.tables (table_number is) refused
+    by : (refused : Option StartRefusal) → Seeks s.piece.tables (table_number is) refused
         → machine_of old cells next earlier (option_map cause_of refused) ≡ looks
         (is_there (find_table s.piece.tables (table_number is)))
     by None there = sym (ap looks there)
@@ -336,7 +336,7 @@ sought s old cells next earlier is refused h = by refused h
         ap (λ q. machine_of old cells next earlier (Some (cause_of q))) cause ∙ sym (ap looks missing)
 
 pub sought_op : (finds : Finds) (ms : List Bool) (s : Sheet) (op : Op) (settled : List ℤ) (old : State) (cells : ℕ → ℤ)
-    (asked : List Ask) (refused : Option Refusal)
+    (asked : List Ask) (refused : Option StartRefusal)
     → op.act ≡ act.Seek → IsFound finds ms s → IsStateOf s old.regs.counts old
     → settled ≡ first_values (map (values old.regs) op.from)
     → Seeks (tables_of finds.tables.now ms) (table_number settled) refused
@@ -373,7 +373,7 @@ pub able_again : {R : Type 0} (get set : R → ℕ → Type 0) (r q : R) (n m : 
     (code : Code) (s : Sheet) (first : State) (before : ℕ → ℤ) (asked : List Ask)
     (place : ℕ) (now : State) (cells : ℕ → ℤ) (given : List Ask) (op : Op) → q ≡ r → m ≡ n
     → CanPass (get r) (set r) n finds ms code s first
-    → IsPassed s first before asked place now cells given → slice_get code.ops.items place ≡ Some op
+    → IsPassed s first before asked place now cells given → slice_get code.ops place ≡ Some op
     → CanDoOp (get q) (set q) m finds ms op s now
 able_again get set r q n m finds ms code s first before asked place now cells given op rest long can u at = record {
   begin = record {
@@ -387,6 +387,6 @@ able_again get set r q n m finds ms code s first before asked place now cells gi
   fine = op_of s code now.regs.counts place op can.begin.playable can.same can.valid (u.counted ∙ can.counts) at;
 }
 
-pub none_if : (o : Option Refusal) → ((x : Refusal) → o ≡ Some x → ⊥) → o ≡ None
+pub none_if : (o : Option StartRefusal) → ((x : StartRefusal) → o ≡ Some x → ⊥) → o ≡ None
 none_if None h = refl
 none_if (Some x) h = absurd (h x refl)

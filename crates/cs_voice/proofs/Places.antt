@@ -34,7 +34,7 @@ use Rattle.cs_machine.proofs.Writing.{frame_past}
 use Rattle.cs_voice.specs.Cells.{MayReach}
 use Rattle.cs_voice.specs.inner.Zak.{reached}
 use Rattle.cs_machine.specs.States.{MayTouch}
-use Rattle.cs_machine.specs.declared.state.Setting.{Setting}
+use Rattle.cs_machine.specs.declared.state.NoteSetting.{NoteSetting}
 
 -- ---- the acts, by the shapes of their opcodes
 
@@ -103,7 +103,7 @@ module _ (areas : List Area) (piece : Piece) (o : Opcode) (reach : Reach) (into 
 
 -- ---- the place that a number names
 
-pub at_reached : {A : Type 0} (at : Setting) (piece : Piece) (s : Space) (reach : Reach) (k : Option ℕ) (g : Res)
+pub at_reached : {A : Type 0} (at : NoteSetting) (piece : Piece) (s : Space) (reach : Reach) (k : Option ℕ) (g : Res)
     (other : A) (found : Res → A)
     → piece.spaces ≡ at.spaces → reached at s reach k ≡ Some g → at_place piece s reach k other found ≡ found g
 at_reached at piece s reach None g other found same h = absurd cc
@@ -117,7 +117,7 @@ at_reached {A} at piece s reach (Some n) g other found same h =
     by true e = ap found (some_is (zak_place s n) g e)
     by false e = absurd cc
 
-pub not_reached : {A : Type 0} (at : Setting) (piece : Piece) (s : Space) (reach : Reach) (k : Option ℕ) (other : A)
+pub not_reached : {A : Type 0} (at : NoteSetting) (piece : Piece) (s : Space) (reach : Reach) (k : Option ℕ) (other : A)
     (found : Res → A)
     → piece.spaces ≡ at.spaces → reached at s reach k ≡ None → at_place piece s reach k other found ≡ other
 not_reached at piece s reach None other found same h = refl
@@ -131,7 +131,8 @@ not_reached {A} at piece s reach (Some n) other found same h =
     by true e = absurd cc
     by false e = refl
 
-pub reached_here : {can : ℕ → Type 0} (count : ℕ) (at : Setting) (s : Space) (reach : Reach) (k : Option ℕ) (g : Res)
+pub reached_here : {can : ℕ → Type 0} (count : ℕ) (at : NoteSetting) (s : Space) (reach : Reach) (k : Option ℕ)
+    (g : Res)
     → MayReach can count at s reach → reached at s reach k ≡ Some g → MayTouch can count at.layout.now g
 reached_here count at s reach None g may h = absurd cc
 reached_here {can} count at s reach (Some n) g may h = by_test (nat_lt n (places_of at.spaces s) && reaches reach n)
@@ -141,7 +142,8 @@ reached_here {can} count at s reach (Some n) g may h = by_test (nat_lt n (places
     (may n (ltb-true n (places_of at.spaces s) parts.0) parts.1))
     (λ no. let none : None ≡ Some g = sym (ap (λ b. if b then Some (zak_place s n) else None) no) ∙ h in absurd cc)
 
-place_of_number : (at : Setting) (s : Space) (reach : Reach) (k : Option ℕ) (g : Res) → reached at s reach k ≡ Some g
+place_of_number : (at : NoteSetting) (s : Space) (reach : Reach) (k : Option ℕ) (g : Res)
+    → reached at s reach k ≡ Some g
     → (n : ℕ) × (zak_place s n ≡ g)
 place_of_number at s reach None g h = absurd cc
 place_of_number at s reach (Some n) g h = (n, by (nat_lt n (places_of at.spaces s) && reaches reach n) h)
@@ -150,7 +152,8 @@ place_of_number at s reach (Some n) g h = (n, by (nat_lt n (places_of at.spaces 
     by true e = some_is (zak_place s n) g e
     by false e = absurd cc
 
-pub reached_value : (at : Setting) (s : Space) (reach : Reach) (k : Option ℕ) (g : Res) → reached at s reach k ≡ Some g
+pub reached_value : (at : NoteSetting) (s : Space) (reach : Reach) (k : Option ℕ) (g : Res)
+    → reached at s reach k ≡ Some g
     → has_value g ≡ true
 reached_value at s reach k g h = let p =
     place_of_number at s reach k g h in subst (λ r. has_value r ≡ true) p.1 (place_value s p.0)
@@ -159,7 +162,8 @@ reached_value at s reach k g h = let p =
     place_value space.Control n = refl
     place_value space.Audio n = refl
 
-pub reached_sound : (at : Setting) (reach : Reach) (k : Option ℕ) (g : Res) → reached at space.Audio reach k ≡ Some g
+pub reached_sound : (at : NoteSetting) (reach : Reach) (k : Option ℕ) (g : Res)
+    → reached at space.Audio reach k ≡ Some g
     → res_rate g ≡ rate.Audio
 reached_sound at reach k g h = let p = place_of_number at space.Audio reach k g h in sym (ap res_rate p.1)
 

@@ -10,7 +10,7 @@ use Rattle.cs_words.specs.declared.catalogue.Opcode.{Opcode}
 use Rattle.cs_signal.specs.Operands.{argument}
 use Rattle.cs_signal.specs.Steps.{run}
 use Rattle.cs_ugen.specs.Units.{IsUnitOpcode, opcode_of, unit_step}
-use Rattle.cs_ugen.specs.declared.unit.Kind.{Kind}
+use Rattle.cs_ugen.specs.declared.unit.UnitState.{UnitState}
 use Rattle.cs_ir.specs.Machine.{Machine, acts, gives, in_world, put, write, written}
 use Rattle.cs_ir.specs.Resources.{Stock}
 use Rattle.cs_ir.specs.Waves.{Wave, held, silence}
@@ -133,7 +133,7 @@ run_machine ksmps old new u q into w ran frames low before after same next asks 
 }
 
 -- a unit that has gone on still is of its opcode, on its table
-goes_on : (areas : List Area) (piece : Piece) (kind : Opcode × Rate) (p : PlayerData) (k : Kind)
+goes_on : (areas : List Area) (piece : Piece) (kind : Opcode × Rate) (p : PlayerData) (k : UnitState)
     → opcode_of k ≡ opcode_of p.state → IsPlayerOf areas piece kind p
     → IsPlayerOf areas piece kind (record p { state = k })
 goes_on areas piece kind p k same is = record {

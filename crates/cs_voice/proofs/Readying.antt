@@ -31,7 +31,7 @@ use Rattle.cs_voice_meaning.specs.Placing.{HasArea, cell_count}
 use Rattle.cs_voice_meaning.specs.Voices.{has_channel}
 use Rattle.cs_machine.proofs.Done.{has_room}
 use Rattle.cs_machine.specs.States.{Does, DoesAt, HasRoom, IsPlayerOf, MayTouch}
-use Rattle.cs_machine.specs.declared.state.Setting.{Setting}
+use Rattle.cs_machine.specs.declared.state.NoteSetting.{NoteSetting}
 use Rattle.cs_machine.specs.declared.state.State.{State}
 use Rattle.cs_voice.specs.Cells.{AreSized, CanReach, DoesOver, MayReach, MayStore}
 use Rattle.cs_voice.specs.Ready.{DoesOp, IsFit, IsReady}
@@ -41,7 +41,7 @@ use Rattle.cs_voice.proofs.Touching.{may_reach, may_run, may_store}
 
 -- ---- what each op has
 
-module _ {can_get can_set : ℕ → Type 0} {count : ℕ} {at : Setting} {piece : Piece} {kinds : Kinds} {stock : Stock}
+module _ {can_get can_set : ℕ → Type 0} {count : ℕ} {at : NoteSetting} {piece : Piece} {kinds : Kinds} {stock : Stock}
     {o : Op} {s : State}
     (r : IsReady can_get can_set count at piece kinds stock o s) where
   pub room_of : HasRoom s
@@ -179,7 +179,8 @@ store_long r (x ∷ y ∷ n ∷ z ∷ xs) h = absurd (cc)
 
 -- ---- an op that is done
 
-pub does_op : {can_get can_set : ℕ → Type 0} {count : ℕ} {at : Setting} {o : Op} {b : Act} {ys : List Reg} {old : State}
+pub does_op : {can_get can_set : ℕ → Type 0} {count : ℕ} {at : NoteSetting} {o : Op} {b : Act} {ys : List Reg}
+    {old : State}
     {before : ℕ → ℤ} {new : State} {after : ℕ → ℤ}
     → o.act ≡ b → o.from ≡ ys → DoesOver at b o.into ys old before new after
     → DoesOp can_get can_set count at o old before new after
@@ -188,7 +189,7 @@ does_op {can_get} {can_set} {count} {at} {o} {b} {ys} {old} {before} {new} {afte
     (subst (λ l. Does at.layout.now piece kinds old.regs.counts b o.into l old before new after) (sym f)
     (h at.layout.now piece stock kinds old.regs.counts r.setting r.placed r.state))
 
-pub does_op_unit : {can_get can_set : ℕ → Type 0} {count : ℕ} {at : Setting} {o : Op} {opcode : Opcode} {u : ℕ}
+pub does_op_unit : {can_get can_set : ℕ → Type 0} {count : ℕ} {at : NoteSetting} {o : Op} {opcode : Opcode} {u : ℕ}
     {reach : Reach} {ys : List Reg} {old : State} {before : ℕ → ℤ} {new : State} {after : ℕ → ℤ}
     → o.act ≡ act.Unit opcode u reach → o.from ≡ ys → IsUnitOpcode opcode
     → DoesUnit u reach o.into ys old before new after → DoesOp can_get can_set count at o old before new after
@@ -200,7 +201,7 @@ does_op_unit {can_get} {can_set} {count} {at} {o} {opcode} {u} {reach} {ys} {old
     (h at.layout.now piece stock kinds old.regs.counts opcode is
     (kind_of r e) r.placed r.state))
 
-pub does_op_plain : {can_get can_set : ℕ → Type 0} {count : ℕ} {at : Setting} {o : Op} {old : State} {cells : ℕ → ℤ}
+pub does_op_plain : {can_get can_set : ℕ → Type 0} {count : ℕ} {at : NoteSetting} {o : Op} {old : State} {cells : ℕ → ℤ}
     {new : State}
     → DoesAt at o.act o.into o.from old new → DoesOp can_get can_set count at o old cells new cells
 does_op_plain {can_get} {can_set} {count} {at} {o} {old} {cells} {new} h piece kinds stock r =
@@ -208,7 +209,7 @@ does_op_plain {can_get} {can_set} {count} {at} {o} {old} {cells} {new} h piece k
 
 -- ---- zak places of an op that is ready
 
-module _ {can_get can_set : ℕ → Type 0} {count : ℕ} {at : Setting} {piece : Piece} {kinds : Kinds} {stock : Stock}
+module _ {can_get can_set : ℕ → Type 0} {count : ℕ} {at : NoteSetting} {piece : Piece} {kinds : Kinds} {stock : Stock}
     {o : Op} {s : State}
     (r : IsReady can_get can_set count at piece kinds stock o s) {opcode : Opcode} {reach : Reach}
     (e : o.act ≡ act.Zak opcode reach) where
@@ -230,7 +231,7 @@ module _ {can_get can_set : ℕ → Type 0} {count : ℕ} {at : Setting} {piece 
       (writes_of r e))
 
 -- a register of an op that is ready may name the places that may be touched
-pub can_reach : {can_get can_set : ℕ → Type 0} {count : ℕ} {at : Setting} {piece : Piece} {kinds : Kinds}
+pub can_reach : {can_get can_set : ℕ → Type 0} {count : ℕ} {at : NoteSetting} {piece : Piece} {kinds : Kinds}
     {stock : Stock}
     {o : Op} {s : State} → IsReady can_get can_set count at piece kinds stock o s
     → {allowed : ℕ → Type 0} {space : Space} {reach : Reach} {number : Reg}
@@ -240,7 +241,7 @@ can_reach r there places = record { register = there; room = room_of r; sized = 
 
 -- ---- tables of an op that is ready
 
-pub unit_may_play : {can_get can_set : ℕ → Type 0} {count : ℕ} {at : Setting} {piece : Piece} {kinds : Kinds}
+pub unit_may_play : {can_get can_set : ℕ → Type 0} {count : ℕ} {at : NoteSetting} {piece : Piece} {kinds : Kinds}
     {stock : Stock} {o : Op} {s : State}
     → IsReady can_get can_set count at piece kinds stock o s → {opcode : Opcode} {u : ℕ} {reach : Reach}
     → o.act ≡ act.Unit opcode u reach
@@ -252,7 +253,7 @@ unit_may_play {can_get} {can_set} {count} {at} {piece} {kinds} {stock} {o} {s} r
     (unit_count opcode u reach o.into.rate o.from takes)
     r.placed (uses_of r e) (player_of r e p is)
 
-pub op_may_store : {can_get can_set : ℕ → Type 0} {count : ℕ} {at : Setting} {piece : Piece} {kinds : Kinds}
+pub op_may_store : {can_get can_set : ℕ → Type 0} {count : ℕ} {at : NoteSetting} {piece : Piece} {kinds : Kinds}
     {stock : Stock} {o : Op} {s : State}
     → IsReady can_get can_set count at piece kinds stock o s → {reach : Reach}
     → o.act ≡ act.Store reach → MayStore can_set count at.layout.now reach

@@ -16,7 +16,7 @@ use Rattle.cs_words.specs.declared.catalogue.Opcode.TheVariants as op
 use Rattle.cs_signal.specs.Delay.{delay_length}
 use Rattle.cs_signal.specs.Pace.{Pace}
 use Rattle.cs_ugen.specs.Units.{IsUnitOpcode, unit_start}
-use Rattle.cs_ugen.specs.declared.unit.Kind.{Kind}
+use Rattle.cs_ugen.specs.declared.unit.UnitState.{UnitState}
 use Rattle.cs_ugen.proofs.Units.{state_starts}
 use Rattle.cs_ir.specs.Machine.{Machine, in_world}
 use Rattle.cs_ir.specs.declared.register.Counts.{Counts}
@@ -35,7 +35,7 @@ use Rattle.cs_machine.specs.declared.state.State.{State}
 use Rattle.cs_voice.specs.Starting.{HasUnit, Starts, cause_of, player_alone, player_on}
 use Rattle.cs_voice.specs.Tables.{CanBePlayed, CanAllBePlayed}
 use Rattle.cs_voice.specs.inner.Begun.{BeginsDelay, BeginsOnTable, IsBegunOn}
-use Rattle.cs_voice.specs.declared.begin.Refusal.{Refusal}
+use Rattle.cs_voice.specs.declared.begin.StartRefusal.{StartRefusal}
 
 apart : (m n : ℕ) → (m == n) ≡ false → m ≢ n
 apart m n h = grind (arith, nat_tests)
@@ -202,7 +202,7 @@ with_unit cells next asks s u samples p = record {
 module _ (areas : List Area) (piece : Piece) (kinds : Kinds) (counts : Counts) (o : Opcode) (r : Rate) (u : ℕ)
     (settled : List ℤ) (old new : State) where
   -- what is refused
-  refused_is : (refused : Refusal) → new ≡ old → IsStateIn areas piece kinds counts old
+  refused_is : (refused : StartRefusal) → new ≡ old → IsStateIn areas piece kinds counts old
       → old.delays ≤ most_delay_samples
       → ((x : VoiceState) → x.delays ≡ old.delays
       → starts (voice_model areas piece) o r u settled x ≡ record x { cause = Some (cause_of refused) })
@@ -236,7 +236,7 @@ module _ (areas : List Area) (piece : Piece) (kinds : Kinds) (counts : Counts) (
   module _ (pace : Pace) (same_pace : pace_of piece.head ≡ pace) (kind : kinds u ≡ (o, r)) (unit : IsUnitOpcode o)
       (state : IsStateIn areas piece kinds counts old)
       (low : u < length old.players.items) (small : old.delays ≤ most_delay_samples) where
-    pub on_table : (refused : Option Refusal) → takes_table o ≡ true → CanAllBePlayed areas piece.tables
+    pub on_table : (refused : Option StartRefusal) → takes_table o ≡ true → CanAllBePlayed areas piece.tables
         → BeginsOnTable areas piece.tables (table_number settled) (unit_start o r pace settled) u old new refused
         → Starts areas piece kinds counts o r u settled old new refused
     unfolding with_unit
@@ -274,7 +274,7 @@ module _ (areas : List Area) (piece : Piece) (kinds : Kinds) (counts : Counts) (
         ∙ ap (λ q. with_unit cells next asks old u old.delays
         (record { table = table_number settled; state = unit_start o r q settled })) same_pace)
 
-    pub a_delay : (refused : Option Refusal) → is_delay o ≡ true
+    pub a_delay : (refused : Option StartRefusal) → is_delay o ≡ true
         → BeginsDelay (old.delays + delay_length pace (slice_index_or settled 0 (pos 0)))
         (player_alone (table_number settled) (unit_start o r pace settled)) u old new refused
         → Starts areas piece kinds counts o r u settled old new refused
@@ -315,7 +315,7 @@ module _ (areas : List Area) (piece : Piece) (kinds : Kinds) (counts : Counts) (
         ∙ sym (ap cause_of b.cause)))
 
 -- a unit that was put on a table
-pub begun_on : (areas : List Area) (tables : List Table) (t : Table) (number n m : ℤ) (state k : Kind) (u : ℕ)
+pub begun_on : (areas : List Area) (tables : List Table) (t : Table) (number n m : ℤ) (state k : UnitState) (u : ℕ)
     (old new : State) (p : PlayerData)
     → n ≡ number → m ≡ number → Some t ≡ find_table tables n → t.present ≡ true → k ≡ state → p ≡ player_on areas t m k
     → ((area : Area) → p.area ≡ Some area → area.first + area.length ≤ 65536) → HasUnit old u p old.delays new

@@ -20,7 +20,7 @@ use Rattle.cs_voice_meaning.specs.VoiceWorld.{VoiceState, voice_world}
 use Rattle.cs_voice_meaning.specs.Voices.{has_channel}
 use Rattle.cs_machine.specs.States.{Does, IsStateIn, machine_of}
 use Rattle.cs_machine.specs.declared.state.State.{State}
-use Rattle.cs_machine.specs.declared.state.Setting.{Setting}
+use Rattle.cs_machine.specs.declared.state.NoteSetting.{NoteSetting}
 use Rattle.cs_voice.specs.Ready.{CanBeDone, DoesOp}
 use Rattle.cs_voice.specs.inner.Jumps.{GoesOn}
 use Rattle.cs_voice.specs.Cycles.{CanRun, CanStep, Context, HasMoved, HasRun, HasStepped}
@@ -95,7 +95,7 @@ module _ (areas : List Area) (c : Context) (op : Op) (place : ℕ) (s : State) (
 
 -- ---- what a code that can be run needs of each op
 
-module _ (can_get can_set : ℕ → Type 0) (count : ℕ) (at : Setting) (c : Context) (ops : List Op) (s : State) where
+module _ (can_get can_set : ℕ → Type 0) (count : ℕ) (at : NoteSetting) (c : Context) (ops : List Op) (s : State) where
   -- each op of a code that can be run can be done
   pub can_step : (n : ℕ) (op : Op) → CanRun can_get can_set count at c ops s → n < length ops → op ≡ get_or ops n op
       → CanStep can_get can_set count at c (length ops) n op s
@@ -139,7 +139,8 @@ module _ (can_get can_set : ℕ → Type 0) (count : ℕ) (at : Setting) (c : Co
     can = h.can;
   }
 
-module _ (can_get can_set : ℕ → Type 0) (count : ℕ) (at : Setting) (c : Context) (s : State) (end place : ℕ) (op : Op)
+module _ (can_get can_set : ℕ → Type 0) (count : ℕ) (at : NoteSetting) (c : Context) (s : State) (end place : ℕ)
+    (op : Op)
     (h : CanStep can_get can_set count at c end place op s) where
   pub can_be_done : CanBeDone can_get can_set count at op s
   can_be_done = record { piece = c.piece; kinds = c.kinds; stock = c.stock; ready = h.ready }
@@ -224,7 +225,7 @@ module _ (areas : List Area) (c : Context) (ops : List Op) (old : State) (before
   }
 
 -- over a bank that lets the same be done
-module _ {R : Type 0} (get set : R → ℕ → Type 0) (r q : R) (m n : ℕ) (rest : q ≡ r) (long : n ≡ m) (at : Setting)
+module _ {R : Type 0} (get set : R → ℕ → Type 0) (r q : R) (m n : ℕ) (rest : q ≡ r) (long : n ≡ m) (at : NoteSetting)
     (c : Context) where
   pub runs_again : (ops : List Op) (s : State) → CanRun (get r) (set r) m at c ops s
       → CanRun (get q) (set q) n at c ops s

@@ -40,7 +40,8 @@ found_here tables made number n t h long e here before =
     (find_table (tables_of (drop (n + 1) tables) (drop (n + 1) made)) number) here
     ∙ sym (before ∙ ap (λ ts. find_table ts number) (from_place tables made n t m h (omega arith) e refl))
 
-pub found_later : (tables : List PieceTable) (made : List Bool) (number : ℤ) (n : ℕ) (t : PieceTable) → n < length tables
+pub found_later : (tables : List PieceTable) (made : List Bool) (number : ℤ) (n : ℕ) (t : PieceTable)
+    → n < length tables
     → length made ≡ length tables
     → t ≡ get_or tables n t → (not (is_negative number) && t.number == unsigned_abs number) ≡ false
     → find_table (tables_of tables made) number ≡ find_table (tables_of (drop n tables) (drop n made)) number

@@ -24,7 +24,7 @@ use Rattle.cs_voice_meaning.proofs.Naming.{found_number, named_among, place_name
 use Rattle.cs_voice_meaning.specs.Follows.{AreNamed}
 use Rattle.cs_voice_meaning.specs.Placing.{IsPlaced, area_of}
 use Rattle.cs_machine.specs.States.{IsOnTable, IsPlayerOf, MayTouch}
-use Rattle.cs_machine.specs.declared.state.Setting.{Setting}
+use Rattle.cs_machine.specs.declared.state.NoteSetting.{NoteSetting}
 use Rattle.cs_voice.specs.Cells.{MayReach, MayStore}
 use Rattle.cs_voice.specs.Units.{MayPlay, may_play}
 use Rattle.cs_voice.proofs.Points.{IsLiveOn, live_table, table_taken, unit_result}
@@ -123,7 +123,7 @@ may_store allowed count areas stock piece reach placed named n area within at =
 
 -- ---- zak places
 
-pub may_reach : (allowed : ℕ → Type 0) (count : ℕ) (at : Setting) (stock : Stock) (piece : Piece) (s : Space)
+pub may_reach : (allowed : ℕ → Type 0) (count : ℕ) (at : NoteSetting) (stock : Stock) (piece : Piece) (s : Space)
     (reach : Reach) → stock.spaces ≡ piece.spaces → piece.spaces ≡ at.spaces
     → AreNamed (MayTouch allowed count at.layout.now) (places_within stock s reach) → MayReach allowed count at s reach
 may_reach allowed count at stock piece s reach same here named n low within =

@@ -29,7 +29,7 @@ own_sheet s d = record {
   zones = d.zones;
   foot = d.foot;
   init = s.init;
-  perf = d.code.ops.items;
+  perf = d.code.ops;
 }
 
 -- a sheet is its own one with a voice's parts
@@ -57,7 +57,7 @@ module _ (s : Sheet) (d : VoiceData) (on : IsOn s d) (h : IsVoice d) where
   same_cycle : (x : ℕ → ℤ) → cycle (sounding_on (own_sheet s d) d) x ≡ cycle (sounding d) x
   unfolding own_sheet
   same_cycle x =
-      sym (run_same d.areas (own_sheet s d).piece (piece_of d).generators 0 d.code.ops.items (begins (sounding d) x)
+      sym (run_same d.areas (own_sheet s d).piece (piece_of d).generators 0 d.code.ops (begins (sounding d) x)
       h.playable.perf_acts)
       ∙ ap (λ ts. cycle (record (sounding d)
       { sheet = record (sheet_of d) { piece = record (piece_of d) { tables = ts } } }) x) on.tables

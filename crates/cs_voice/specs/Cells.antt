@@ -3,12 +3,16 @@ use Rattle.std.specs.Prelude.{ℕ, ℤ, ◌≡◌, ◌<◌, true, List, Option, 
 use Rattle.cs_base.specs.Rates.{res_rate}
 use Rattle.cs_base.specs.declared.resource.Res.{Res}
 use Rattle.cs_base.specs.declared.resource.Res.TheVariants as res
+use Rattle.cs_words.specs.Catalogue.{row_of}
+use Rattle.cs_words.specs.declared.catalogue.Opcode.{Opcode}
+use Rattle.cs_words.specs.declared.catalogue.Shape.{Shape}
 use Rattle.cs_words.specs.declared.catalogue.Space.{Space}
 use Rattle.cs_gen.specs.Points.{len_of}
 use Rattle.cs_ugen.specs.Points.{is_len}
 use Rattle.cs_ir.specs.Resources.{Stock, places_of, reaches, zak_place}
 use Rattle.cs_ir.specs.Validity.{has_register, has_value}
 use Rattle.cs_ir.specs.declared.op.Act.{Act}
+use Rattle.cs_ir.specs.declared.op.Act.TheVariants as acts
 use Rattle.cs_ir.specs.declared.op.Reach.{Reach}
 use Rattle.cs_ir.specs.declared.register.Counts.{Counts}
 use Rattle.cs_ir.specs.declared.register.Reg.{Reg}
@@ -18,16 +22,21 @@ use Rattle.cs_voice_meaning.specs.Follows.{Kinds}
 use Rattle.cs_voice_meaning.specs.Placing.{IsPlaced, area_of, cell_count}
 use Rattle.cs_machine.specs.Access.{CanTouch}
 use Rattle.cs_machine.specs.States.{Does, HasRoom, IsSettingOf, IsStateIn, MayTouch}
-use Rattle.cs_machine.specs.declared.state.Setting.{Setting}
+use Rattle.cs_machine.specs.declared.state.NoteSetting.{NoteSetting}
 use Rattle.cs_machine.specs.declared.state.State.{State}
 
 -- An act makes of a state and cells what it makes in whatever piece the setting is of, whose areas are placed and whose
 -- state it is.
-abbrev pub DoesOver : Setting → Act → Reg → List Reg → State → (ℕ → ℤ) → State → (ℕ → ℤ) → Type 0
+abbrev pub DoesOver : NoteSetting → Act → Reg → List Reg → State → (ℕ → ℤ) → State → (ℕ → ℤ) → Type 0
 DoesOver at act into from old before new after =
     (areas : List Area) (piece : Piece) (stock : Stock) (kinds : Kinds) (counts : Counts)
     → IsSettingOf at areas piece → IsPlaced areas stock piece → IsStateIn areas piece kinds counts old
     → Does areas piece kinds counts act into from old before new after
+
+-- so does the act on zak places of any opcode of a shape
+abbrev pub DoesZak : NoteSetting → Shape → Reach → Reg → List Reg → State → (ℕ → ℤ) → State → (ℕ → ℤ) → Type 0
+DoesZak at s reach into from old before new after =
+    (opcode : Opcode) → (row_of opcode).shape ≡ s → DoesOver at (acts.Zak opcode reach) into from old before new after
 
 -- Areas of values have as many cells as a value has in a control cycle of so many frames.
 pub record AreSized (areas : List Area) (ksmps : ℕ) : Type 0 where
@@ -36,13 +45,13 @@ pub record AreSized (areas : List Area) (ksmps : ℕ) : Type 0 where
       → area.length ≡ cell_count ksmps (res_rate g)
 
 -- what can be done to the cells of each zak place that a unit may reach
-abbrev pub MayReach : (ℕ → Type 0) → ℕ → Setting → Space → Reach → Type 0
+abbrev pub MayReach : (ℕ → Type 0) → ℕ → NoteSetting → Space → Reach → Type 0
 MayReach allowed count at s reach = (n : ℕ) → n < places_of at.spaces s → reaches reach n ≡ true
     → MayTouch allowed count at.layout.now (zak_place s n)
 
 -- A register may name a zak place that is read or written: it is there, a row has room, areas have their cells, and
 -- each place within reach may be touched.
-pub record CanReach (allowed : ℕ → Type 0) (count : ℕ) (at : Setting) (space : Space) (reach : Reach) (number : Reg)
+pub record CanReach (allowed : ℕ → Type 0) (count : ℕ) (at : NoteSetting) (space : Space) (reach : Reach) (number : Reg)
     (s : State) : Type 0 where
   pub register : has_register s.regs.counts number ≡ true
   pub room : HasRoom s

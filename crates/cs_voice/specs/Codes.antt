@@ -3,12 +3,12 @@ use Rattle.std.specs.Prelude.{ℕ, ℤ, Bool, ◌≡◌, ◌⊎◌, List, Option
 use Rattle.cs_ir.specs.declared.ask.Ask.{Ask}
 use Rattle.cs_ir.specs.declared.op.Code.{Code}
 use Rattle.cs_ir.specs.declared.op.Op.{Op}
-use Rattle.cs_machine.specs.declared.state.Setting.{Setting}
+use Rattle.cs_machine.specs.declared.state.NoteSetting.{NoteSetting}
 use Rattle.cs_machine.specs.declared.state.State.{State}
 use Rattle.cs_voice_meaning.specs.Voices.{Sheet, IsPlayable}
 use Rattle.cs_voice.specs.Cycles.{CanRun, CanStep, Context}
 use Rattle.cs_voice.specs.Passing.{CanDoOp, CanPass, IsDone, IsFound, IsOpOf, IsStateOf}
-use Rattle.cs_voice.specs.declared.begin.Refusal.{Refusal}
+use Rattle.cs_voice.specs.declared.begin.StartRefusal.{StartRefusal}
 use Rattle.cs_voice.specs.declared.tables.Finds.{Finds}
 
 -- what a note that begins finds, with which of its tables have been made; nothing in a control cycle
@@ -28,27 +28,27 @@ CanStart None op now = Unit {0}
 CanStart (Some f) op now = (s : Sheet) × CanStartIn f.0 f.1 op s now
 
 -- and it was, whatever the cells hold
-abbrev pub HasStarted : Finding → Op → State → List Ask → State → List Ask → Option Refusal → Type 0
+abbrev pub HasStarted : Finding → Op → State → List Ask → State → List Ask → Option StartRefusal → Type 0
 HasStarted None op old asked new given refused = Unit {0}
 HasStarted (Some f) op old asked new given refused = (s : Sheet) (cells : ℕ → ℤ) → CanStartIn f.0 f.1 op s old
     → IsDone s op old cells asked new cells given refused
 
 -- a code can be done as one of a sheet that begins
-abbrev pub CanBeginBy : (get set : ℕ → Type 0) → ℕ → Setting → Finding → List Op → State → Type 0
+abbrev pub CanBeginBy : (get set : ℕ → Type 0) → ℕ → NoteSetting → Finding → List Op → State → Type 0
 CanBeginBy get set count at None ops now = ⊥
-CanBeginBy get set count at (Some f) ops now = (code : Code) × (s : Sheet) × (f.0.at ≡ at) × (code.ops.items ≡ ops)
+CanBeginBy get set count at (Some f) ops now = (code : Code) × (s : Sheet) × (f.0.at ≡ at) × (code.ops ≡ ops)
     × CanPass get set count f.0 f.1 code s now
 
-abbrev pub CanGo : (get set : ℕ → Type 0) → ℕ → Setting → Finding → List Op → State → Type 0
+abbrev pub CanGo : (get set : ℕ → Type 0) → ℕ → NoteSetting → Finding → List Op → State → Type 0
 CanGo get set count at finding ops now =
     ((c : Context) × CanRun get set count at c ops now) ⊎ CanBeginBy get set count at finding ops now
 
 -- so can an op of it
-abbrev pub CanDoBy : (get set : ℕ → Type 0) → ℕ → Setting → Finding → Op → State → Type 0
+abbrev pub CanDoBy : (get set : ℕ → Type 0) → ℕ → NoteSetting → Finding → Op → State → Type 0
 CanDoBy get set count at None op now = ⊥
 CanDoBy get set count at (Some f) op now = (s : Sheet) × (f.0.at ≡ at) × CanDoOp get set count f.0 f.1 op s now
 
-abbrev pub CanDoHere : (get set : ℕ → Type 0) → ℕ → Setting → Finding → Op → State → Type 0
+abbrev pub CanDoHere : (get set : ℕ → Type 0) → ℕ → NoteSetting → Finding → Op → State → Type 0
 CanDoHere get set count at finding op now =
     ((c : Context) × (end : ℕ) × (place : ℕ) × CanStep get set count at c end place op now)
     ⊎ CanDoBy get set count at finding op now

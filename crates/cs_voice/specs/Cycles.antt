@@ -18,7 +18,7 @@ use Rattle.cs_voice_meaning.specs.Follows.{Kinds, OpsNamed}
 use Rattle.cs_voice_meaning.specs.Voices.{have_channels}
 use Rattle.cs_machine.specs.States.{CanDo, IsSettingOf, IsStateIn, machine_of}
 use Rattle.cs_machine.specs.declared.state.State.{State}
-use Rattle.cs_machine.specs.declared.state.Setting.{Setting}
+use Rattle.cs_machine.specs.declared.state.NoteSetting.{NoteSetting}
 
 -- What a code is run in: the piece, what it has beside its variables, which opcode each unit has, and how many
 -- registers and units there are.
@@ -30,7 +30,7 @@ pub record Context : Type 0 where
 
 -- An op at a place of a code of so many can be done in a control cycle over a bank: it may be done, is fine there, and
 -- is one of a cycle.
-pub record CanStep (can_get can_set : ℕ → Type 0) (count : ℕ) (at : Setting) (c : Context) (end place : ℕ) (op : Op)
+pub record CanStep (can_get can_set : ℕ → Type 0) (count : ℕ) (at : NoteSetting) (c : Context) (end place : ℕ) (op : Op)
     (s : State) : Type 0 where
   pub ready : IsReady can_get can_set count at c.piece c.kinds c.stock op s
   pub counts : s.regs.counts ≡ c.counts
@@ -38,7 +38,7 @@ pub record CanStep (can_get can_set : ℕ → Type 0) (count : ℕ) (at : Settin
   pub acts : is_of_cycle op.act ≡ true
 
 -- A code can be run in a control cycle over a bank: each of its ops can be done.
-pub record CanRun (can_get can_set : ℕ → Type 0) (count : ℕ) (at : Setting) (c : Context) (ops : List Op)
+pub record CanRun (can_get can_set : ℕ → Type 0) (count : ℕ) (at : NoteSetting) (c : Context) (ops : List Op)
     (s : State) : Type 0 where
   pub setting : IsSettingOf at at.layout.now c.piece
   pub placed : IsPlaced at.layout.now c.stock c.piece

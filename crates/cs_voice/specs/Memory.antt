@@ -11,7 +11,7 @@ use Rattle.cs_voice_meaning.specs.Voices.{Sheet, IsPlayable}
 use Rattle.cs_typed.specs.TypedTree.{header_of_head}
 use Rattle.cs_machine.specs.States.{IsStateIn}
 use Rattle.cs_machine.specs.declared.state.State.{State}
-use Rattle.cs_voice.specs.declared.body.Body.{Body}
+use Rattle.cs_voice.specs.declared.body.VoiceBody.{VoiceBody}
 use Rattle.cs_voice.specs.declared.stage.Stage.{Stage}
 use Rattle.cs_voice.specs.declared.stage.PieceTable.{PieceTable}
 use Rattle.cs_voice.specs.VoiceData.{VoiceData, IsOn, piece_of}
@@ -55,17 +55,19 @@ pub record MakeVoice (number age until : ℕ) (stage : Stage) (foot : Footprint)
   pub state : IsStateIn sheet.areas sheet.piece playable.kinds code.counts s
 
 -- What is so of the parts of a voice.
-pub record IsKept (number age until : ℕ) (stage : Stage) (foot : Footprint) (code : Code) (fields : List ℤ) (s : State) : Type
+pub record IsKept (number age until : ℕ) (stage : Stage) (foot : Footprint) (code : Code) (fields : List ℤ)
+    (s : State) : Type
     0 where
   pub voice : IsVoice (voice_in number age until stage foot code fields s)
   pub spaces : AreSpaces stage.layout.now
   pub zak : spaces_of stage.layout.now ≡ stage.spaces
-  pub state : IsStateIn stage.layout.now (piece_of (voice_in number age until stage foot code fields s)) voice.playable.kinds
+  pub state : IsStateIn stage.layout.now (piece_of (voice_in number age until stage foot code fields s))
+      voice.playable.kinds
       code.counts s
 
 -- the voice that a body is, and what is so of each body
-abbrev pub data_of : Body → VoiceData
+abbrev pub data_of : VoiceBody → VoiceData
 data_of b = voice_in b.number b.age b.until b.stage b.foot.now b.code.now b.fields.items b.state
 
-abbrev pub IsBody : Body → Type 0
+abbrev pub IsBody : VoiceBody → Type 0
 IsBody b = IsKept b.number b.age b.until b.stage b.foot.now b.code.now b.fields.items b.state

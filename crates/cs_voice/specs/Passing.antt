@@ -23,7 +23,7 @@ use Rattle.cs_machine.specs.declared.state.State.{State}
 use Rattle.cs_voice.specs.Starting.{cause_of}
 use Rattle.cs_voice.specs.Starts.{sheet_for}
 use Rattle.cs_voice.specs.Tables.{CanAllBePlayed, tables_of}
-use Rattle.cs_voice.specs.declared.begin.Refusal.{Refusal}
+use Rattle.cs_voice.specs.declared.begin.StartRefusal.{StartRefusal}
 use Rattle.cs_voice.specs.declared.note.NewNote.{NewNote}
 use Rattle.cs_voice.specs.declared.tables.Finds.{Finds}
 
@@ -65,7 +65,7 @@ pub record CanBegin (get set : ℕ → Type 0) (count : ℕ) (finds : Finds) (ms
 pub record CanPass (get set : ℕ → Type 0) (count : ℕ) (finds : Finds) (ms : List Bool) (code : Code) (s : Sheet)
     (now : State) : Type 0 where
   pub begin : CanBegin get set count finds ms s now
-  pub same : s.init ≡ code.ops.items
+  pub same : s.init ≡ code.ops
   pub valid : valid code ≡ true
   pub counts : now.regs.counts ≡ code.counts
 
@@ -99,7 +99,7 @@ pub record CanInitialise (get set : ℕ → Type 0) (count : ℕ) (finds : Finds
 -- An op is done: state and cells become what it makes of them in the world of voices, what it asks for comes behind
 -- what was asked for, and where it is refused it is for the same cause.
 pub record IsDone (s : Sheet) (op : Op) (old : State) (before : ℕ → ℤ) (asked : List Ask) (new : State)
-    (after : ℕ → ℤ) (given : List Ask) (refused : Option Refusal) : Type 0 where
+    (after : ℕ → ℤ) (given : List Ask) (refused : Option StartRefusal) : Type 0 where
   pub more : List (List ℤ)
   pub asks : given ≡ asked ++ map ask_of more
   pub machine : (next : ℕ) (earlier : List (List ℤ))
@@ -110,7 +110,7 @@ pub record IsDone (s : Sheet) (op : Op) (old : State) (before : ℕ → ℤ) (as
 
 -- The code is done, to its end or up to what is refused; of the machine the place of the next op alone isn't told.
 pub record Passes (s : Sheet) (old : State) (before : ℕ → ℤ) (asked : List Ask) (new : State)
-    (after : ℕ → ℤ) (given : List Ask) (refused : Option Refusal) : Type 0 where
+    (after : ℕ → ℤ) (given : List Ask) (refused : Option StartRefusal) : Type 0 where
   pub next : ℕ
   pub more : List (List ℤ)
   pub asks : given ≡ asked ++ map ask_of more

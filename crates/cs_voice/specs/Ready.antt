@@ -11,7 +11,7 @@ use Rattle.cs_voice_meaning.specs.Placing.{HasArea, IsPlaced}
 use Rattle.cs_voice_meaning.specs.Follows.{ActNamed, Kinds}
 use Rattle.cs_voice_meaning.specs.Voices.{has_channel}
 use Rattle.cs_machine.specs.States.{CanDo, Does, HasRoom, IsSettingOf, IsStateIn}
-use Rattle.cs_machine.specs.declared.state.Setting.{Setting}
+use Rattle.cs_machine.specs.declared.state.NoteSetting.{NoteSetting}
 use Rattle.cs_machine.specs.declared.state.State.{State}
 
 -- The acts that are done here: all but those that go on at another op, start a unit, look for a table or ask for a
@@ -27,7 +27,7 @@ is_here _ = true
 -- An op of a valid code may be done: the setting is that of a piece, whose areas are placed; the state is one of the
 -- code and the piece; the units are of the op's opcode, and its channel is there; and what it touches may be read or
 -- written.
-pub record IsReady (can_get can_set : ℕ → Type 0) (count : ℕ) (at : Setting) (piece : Piece) (kinds : Kinds)
+pub record IsReady (can_get can_set : ℕ → Type 0) (count : ℕ) (at : NoteSetting) (piece : Piece) (kinds : Kinds)
     (stock : Stock)
     (op : Op) (s : State) : Type 0 where
   pub setting : IsSettingOf at at.layout.now piece
@@ -43,14 +43,14 @@ pub record IsReady (can_get can_set : ℕ → Type 0) (count : ℕ) (at : Settin
   pub can : CanDo can_get can_set count at.layout.now stock op.act
 
 -- some piece in which it may be done
-pub record CanBeDone (can_get can_set : ℕ → Type 0) (count : ℕ) (at : Setting) (op : Op) (s : State) : Type 0 where
+pub record CanBeDone (can_get can_set : ℕ → Type 0) (count : ℕ) (at : NoteSetting) (op : Op) (s : State) : Type 0 where
   pub piece : Piece
   pub kinds : Kinds
   pub stock : Stock
   pub ready : IsReady can_get can_set count at piece kinds stock op s
 
 -- In whatever piece it may be done, the op is done there.
-abbrev pub DoesOp : (ℕ → Type 0) → (ℕ → Type 0) → ℕ → Setting → Op → State → (ℕ → ℤ) → State → (ℕ → ℤ) → Type 0
+abbrev pub DoesOp : (ℕ → Type 0) → (ℕ → Type 0) → ℕ → NoteSetting → Op → State → (ℕ → ℤ) → State → (ℕ → ℤ) → Type 0
 DoesOp can_get can_set count at op old before new after = (piece : Piece) (kinds : Kinds) (stock : Stock)
     → IsReady can_get can_set count at piece kinds stock op old
     → Does at.layout.now piece kinds old.regs.counts op.act op.into op.from old before new after

@@ -5,7 +5,7 @@ use Rattle.cs_base.specs.Limits.{most_delay_samples}
 use Rattle.cs_base.specs.declared.resource.Rate.{Rate}
 use Rattle.cs_base.specs.declared.resource.Res.TheVariants as res
 use Rattle.cs_words.specs.declared.catalogue.Opcode.{Opcode}
-use Rattle.cs_ugen.specs.declared.unit.Kind.{Kind}
+use Rattle.cs_ugen.specs.declared.unit.UnitState.{UnitState}
 use Rattle.cs_ir.specs.Machine.{in_world}
 use Rattle.cs_ir.specs.declared.register.Counts.{Counts}
 use Rattle.cs_cells.specs.declared.footprint.Area.{Area}
@@ -17,11 +17,11 @@ use Rattle.cs_voice_meaning.specs.Follows.{Kinds}
 use Rattle.cs_machine.specs.Players.{PlayerData}
 use Rattle.cs_machine.specs.States.{machine_of, IsStateIn}
 use Rattle.cs_machine.specs.declared.state.State.{State}
-use Rattle.cs_voice.specs.declared.begin.Refusal.{Refusal}
-use Rattle.cs_voice.specs.declared.begin.Refusal.TheVariants as refusal
+use Rattle.cs_voice.specs.declared.begin.StartRefusal.{StartRefusal}
+use Rattle.cs_voice.specs.declared.begin.StartRefusal.TheVariants as refusal
 
 -- the player of a unit on a table, and of one that has none
-abbrev pub player_on : List Area → Table → ℤ → Kind → PlayerData
+abbrev pub player_on : List Area → Table → ℤ → UnitState → PlayerData
 player_on areas t number unit = record {
   table = number;
   state = unit;
@@ -29,7 +29,7 @@ player_on areas t number unit = record {
   area = if is_some t.frozen then None else area_of areas (res.Table t.number);
 }
 
-abbrev pub player_alone : ℤ → Kind → PlayerData
+abbrev pub player_alone : ℤ → UnitState → PlayerData
 player_alone number unit = record { table = number; state = unit; points = None; area = None }
 
 -- a unit of a number was put into a state, whose delays have so many samples now
@@ -42,7 +42,7 @@ pub record HasUnit (old : State) (unit : ℕ) (p : PlayerData) (samples : ℕ) (
   pub row : new.row ≡ old.row
 
 -- why a note doesn't start
-abbrev pub cause_of : Refusal → Cause
+abbrev pub cause_of : StartRefusal → Cause
 cause_of (refusal.NoTable number) = no_table number
 cause_of (refusal.DelayTooLong samples) = delay_too_long samples
 
@@ -50,7 +50,7 @@ cause_of (refusal.DelayTooLong samples) = delay_too_long samples
 -- delays stay within their limit.
 pub record Starts (areas : List Area) (piece : Piece) (kinds : Kinds) (counts : Counts) (opcode : Opcode) (rate : Rate)
     (unit : ℕ)
-    (settled : List ℤ) (old new : State) (refused : Option Refusal) : Type 0 where
+    (settled : List ℤ) (old new : State) (refused : Option StartRefusal) : Type 0 where
   pub machine : (cells : ℕ → ℤ) (next : ℕ) (asks : List (List ℤ))
       → machine_of new cells next asks (option_map cause_of refused)
       ≡ in_world (starts (voice_model areas piece) opcode rate unit settled (machine_of old cells next asks None).world)

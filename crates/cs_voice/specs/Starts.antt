@@ -13,8 +13,8 @@ use Rattle.cs_typed.specs.TypedTree.{header_of_head}
 use Rattle.cs_voice.specs.VoiceData.{VoiceData, IsOn, sounding_on}
 use Rattle.cs_voice.specs.declared.stage.Stage.{Stage}
 use Rattle.cs_voice.specs.Tables.{tables_of}
-use Rattle.cs_voice.specs.declared.begin.Refusal.{Refusal}
-use Rattle.cs_voice.specs.declared.begin.Refusal.TheVariants as refusal
+use Rattle.cs_voice.specs.declared.begin.StartRefusal.{StartRefusal}
+use Rattle.cs_voice.specs.declared.begin.StartRefusal.TheVariants as refusal
 use Rattle.cs_voice.specs.declared.note.NewNote.{NewNote}
 use Rattle.cs_voice.specs.declared.note.Started.{Started}
 use Rattle.cs_voice.specs.declared.note.Started.TheVariants as started
@@ -38,8 +38,8 @@ sheet_at instrument age foot stage made fields = record {
   areas = stage.layout.now;
   zones = stage.zones.now;
   foot = foot;
-  init = instrument.init.ops.items;
-  perf = instrument.perf.ops.items;
+  init = instrument.init.ops;
+  perf = instrument.perf.ops;
 }
 
 -- what a note that is to begin plays from, with these p-fields
@@ -60,6 +60,6 @@ IsStarted s until m (started.NoTable number) = m.world.cause ≡ Some (no_table 
 IsStarted s until m (started.DelayTooLong samples) = m.world.cause ≡ Some (delay_too_long samples)
 
 -- what is told of a refusal
-abbrev pub started_as : Refusal → Started
+abbrev pub started_as : StartRefusal → Started
 started_as (refusal.NoTable number) = started.NoTable number
 started_as (refusal.DelayTooLong samples) = started.DelayTooLong samples

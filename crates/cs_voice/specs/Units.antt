@@ -5,7 +5,7 @@ use Rattle.cs_base.specs.declared.resource.Rate.{Rate}
 use Rattle.cs_words.specs.declared.catalogue.Opcode.{Opcode}
 use Rattle.cs_signal.specs.Operands.{argument}
 use Rattle.cs_ugen.specs.Units.{IsUnitOpcode, moving_count, opcode_of}
-use Rattle.cs_ugen.specs.declared.unit.Kind.{Kind}
+use Rattle.cs_ugen.specs.declared.unit.UnitState.{UnitState}
 use Rattle.cs_ir.specs.Resources.{Stock, reaches}
 use Rattle.cs_ir.specs.Waves.{Wave, silence}
 use Rattle.cs_ir.specs.declared.op.Act.TheVariants as act
@@ -32,7 +32,7 @@ pub record MayPlay (allowed : ℕ → Type 0) (count : ℕ) (reach : Reach) (fro
   pub read : may_play reach p ≡ true → CanRead allowed count p
 
 -- the steps of a unit in a cycle, at a rate: where it comes to, and its results
-abbrev pub cycled : ℕ → Rate → List Wave → (ℕ → ℤ) → PlayerData → Kind × List ℤ
+abbrev pub cycled : ℕ → Rate → List Wave → (ℕ → ℤ) → PlayerData → UnitState × List ℤ
 cycled ksmps r ws cells p = stepped p ws cells (steps_of ksmps r)
 
 -- the unit after a cycle, where there is one; and what it gives: nothing where there is none, or where its table is out

@@ -56,7 +56,7 @@ sheet_of d = record {
   zones = d.zones;
   foot = d.foot;
   init = [];
-  perf = d.code.ops.items;
+  perf = d.code.ops;
 }
 
 abbrev pub units_in : List (Option Playing) → ℕ → Option Playing
@@ -91,7 +91,7 @@ pub record IsOn (s : Sheet) (d : VoiceData) : Type 0 where
   pub areas : s.areas ≡ d.areas
   pub zones : s.zones ≡ d.zones
   pub foot : s.foot ≡ d.foot
-  pub perf : s.perf ≡ d.code.ops.items
+  pub perf : s.perf ≡ d.code.ops
 
 -- the same voice with what another has in its registers, units and channels
 abbrev pub taking : VoiceData → Sounding → VoiceData

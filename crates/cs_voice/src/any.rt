@@ -12,12 +12,12 @@ use crate::unit::run_unit;
 use crate::zak::{Within, zak_clear, zak_get, zak_mix, zak_put};
 use cs_cells::Bank;
 use cs_ir::{Act, Op, Reach, Reg};
-use cs_machine::{Setting, State};
+use cs_machine::{NoteSetting, State};
 use cs_words::{Opcode, Shape, signature_of};
 
 /// Does an op of a valid code on a state, over the cells of a bank: any but a jump, the start of a unit and the asking
 /// for a note.
-pub(crate) fn act<B: Bank>(state: &mut State<'_>, at: &Setting<'_>, op: &Op, bank: &mut B)
+pub(crate) fn act<B: Bank>(state: &mut State<'_>, at: &NoteSetting<'_>, op: &Op, bank: &mut B)
     requires here { is_here op.now.act ≡ true }
     requires ready { CanBeDone (B.can_get (B.rest bank.old)) (B.can_set (B.rest bank.old)) (length (B.cells bank.old))
         at.now
@@ -49,7 +49,7 @@ pub(crate) fn act<B: Bank>(state: &mut State<'_>, at: &Setting<'_>, op: &Op, ban
 /// An op on zak places, by the shape of its opcode.
 fn zak<B: Bank>(
     state: &mut State<'_>,
-    at: &Setting<'_>,
+    at: &NoteSetting<'_>,
     op: &Op,
     opcode: Opcode,
     reach: Reach,
@@ -92,7 +92,7 @@ fn shape_of(opcode: Opcode) -> Shape
 }
 
 /// An op that stores into a table.
-fn store<B: Bank>(state: &State<'_>, at: &Setting<'_>, op: &Op, reach: Reach, bank: &mut B)
+fn store<B: Bank>(state: &State<'_>, at: &NoteSetting<'_>, op: &Op, reach: Reach, bank: &mut B)
     requires act { op.now.act ≡ acts.Store reach }
     requires ready { CanBeDone (B.can_get (B.rest bank.old)) (B.can_set (B.rest bank.old)) (length (B.cells bank.old))
         at.now
@@ -113,7 +113,7 @@ fn store<B: Bank>(state: &State<'_>, at: &Setting<'_>, op: &Op, reach: Reach, ba
 }
 
 /// An op that touches registers and output channels alone.
-fn plain(state: &mut State<'_>, at: &Setting<'_>, op: &Op)
+fn plain(state: &mut State<'_>, at: &NoteSetting<'_>, op: &Op)
     requires plain { is_plain op.now.act ≡ true }
     requires fit { IsFit op.now state.old }
     ensures { DoesAt at.now op.now.act op.now.into op.now.from state.old state.new }

@@ -29,7 +29,7 @@ use std::alloc::Global;
 
 /// Why a note doesn't start.
 #[derive(Clone, Copy)]
-pub(crate) enum Refusal {
+pub(crate) enum StartRefusal {
     /// A unit asks for a table that hasn't been made.
     NoTable(i64),
     /// The delays need so many samples together.
@@ -38,7 +38,7 @@ pub(crate) enum Refusal {
 
 /// What is started: an opcode at a rate, as the unit of a number.
 #[derive(Clone, Copy)]
-pub(crate) struct Start {
+pub(crate) struct UnitStart {
     pub opcode: Opcode,
     pub rate: Rate,
     pub unit: usize,
@@ -50,9 +50,9 @@ pub(crate) fn begin<'p>(
     state: &mut State<'p>,
     finds: &Finds<'_, 'p>,
     made: &[bool],
-    start: Start,
+    start: UnitStart,
     settled: &[Num],
-) -> Result<Option<Refusal>, OutOfMemory>
+) -> Result<Option<StartRefusal>, OutOfMemory>
     requires unit { start.unit < length state.old.players.items }
     requires opcode { IsUnitOpcode start.opcode }
     requires delays { state.old.delays ≤ most_delay_samples }
@@ -78,18 +78,18 @@ pub(crate) fn begin<'p>(
 }
 
 /// Looks for the table that a store writes; None where it is there.
-pub(crate) fn seek(tables: &[PieceTable], made: &[bool], settled: &[Num]) -> Option<Refusal>
+pub(crate) fn seek(tables: &[PieceTable], made: &[bool], settled: &[Num]) -> Option<StartRefusal>
     requires { length made.now ≡ length tables.now }
     ensures { Seeks (tables_of tables.now made.now) (table_number settled.now) result }
 {
     let number = table_number(settled);
     let Some(found) = find(tables, made, number) else {
-        return Some(Refusal::NoTable(number));
+        return Some(StartRefusal::NoTable(number));
     };
     if found.made {
         None
     } else {
-        Some(Refusal::NoTable(number))
+        Some(StartRefusal::NoTable(number))
     }
 }
 
@@ -105,9 +105,9 @@ fn begin_on_table<'p>(
     state: &mut State<'p>,
     finds: &Finds<'_, 'p>,
     made: &[bool],
-    start: Start,
+    start: UnitStart,
     settled: &[Num],
-) -> Result<Option<Refusal>, OutOfMemory>
+) -> Result<Option<StartRefusal>, OutOfMemory>
     requires unit { start.unit < length state.old.players.items }
     requires opcode { IsUnitOpcode start.opcode }
     requires made { length made.now ≡ length finds.now.tables.now }
@@ -119,7 +119,7 @@ fn begin_on_table<'p>(
 {
     let number = table_number(settled);
     let Some(found) = find(finds.tables, made, number) else {
-        return Ok(Some(Refusal::NoTable(number)));
+        return Ok(Some(StartRefusal::NoTable(number)));
     };
     if found.made {
         let unit = Unit::start(alloc, start.opcode, start.rate, finds.at.head, settled)?;
@@ -127,7 +127,7 @@ fn begin_on_table<'p>(
         put(state, start.unit, player);
         Ok(None)
     } else {
-        Ok(Some(Refusal::NoTable(number)))
+        Ok(Some(StartRefusal::NoTable(number)))
     }
 }
 
@@ -136,9 +136,9 @@ fn begin_delay(
     alloc: Global,
     state: &mut State<'_>,
     head: &Head,
-    start: Start,
+    start: UnitStart,
     settled: &[Num],
-) -> Result<Option<Refusal>, OutOfMemory>
+) -> Result<Option<StartRefusal>, OutOfMemory>
     requires unit { start.unit < length state.old.players.items }
     requires opcode { IsUnitOpcode start.opcode }
     requires delays { state.old.delays ≤ most_delay_samples }
@@ -150,7 +150,7 @@ fn begin_delay(
 {
     let samples = state.delays as u64 + delay_samples(argument(settled, 0), head);
     if samples > MOST_DELAY_SAMPLES as u64 {
-        return Ok(Some(Refusal::DelayTooLong(samples)));
+        return Ok(Some(StartRefusal::DelayTooLong(samples)));
     }
     begin_alone(alloc, state, head, start, settled, samples as usize)?;
     Ok(None)
@@ -161,7 +161,7 @@ fn begin_alone(
     alloc: Global,
     state: &mut State<'_>,
     head: &Head,
-    start: Start,
+    start: UnitStart,
     settled: &[Num],
     samples: usize,
 ) -> Result<(), OutOfMemory>

@@ -11,13 +11,13 @@ use crate::stage::Stage;
 use cs_base::Num;
 use cs_cells::{Bank, Footprint};
 use cs_ir::Code;
-use cs_machine::{Setting, State};
+use cs_machine::{NoteSetting, State};
 
 /// What a note performs, and what it has come to: the number of its instrument, its age (how many notes were started
 /// before it), the cycle in which it has ended, what it plays in, its footprint, the code that it runs in each control
 /// cycle, its p-fields from p1 on.
 #[derive(Drop)]
-pub(crate) struct Body<'p> {
+pub(crate) struct VoiceBody<'p> {
     pub(crate) number: u32,
     pub(crate) age: u64,
     pub(crate) until: u64,
@@ -28,7 +28,7 @@ pub(crate) struct Body<'p> {
     pub(crate) state: State<'p>,
 }
 
-impl Body<'_> {
+impl VoiceBody<'_> {
     /// Performs a control cycle: its channels begin silent.
     pub(crate) fn run<B: Bank>(&mut self, bank: &mut B)
         requires body { IsBody self.old }
@@ -41,7 +41,7 @@ impl Body<'_> {
         ensures body { IsBody self.new }
     {
         begin(&mut self.state);
-        let at = Setting {
+        let at = NoteSetting {
             head: self.stage.head,
             layout: self.stage.layout,
             spaces: self.stage.spaces,

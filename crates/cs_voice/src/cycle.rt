@@ -3,12 +3,12 @@ ghost use Rattle.std.specs.Prelude.{◌≡◌, length};
 ghost use Rattle.cs_cells.specs.Cells.{cell};
 ghost use Rattle.cs_voice.specs.Cycles.{CanRun, Context, HasRun};
 
-use crate::begin::Refusal;
+use crate::begin::StartRefusal;
 use crate::run::{Starter, run};
 use cs_base::OutOfMemory;
 use cs_cells::Bank;
-use cs_ir::Op;
-use cs_machine::{Setting, State};
+use cs_ir::{Op, Ops};
+use cs_machine::{NoteSetting, State};
 
 /// A control cycle starts nothing and asks for nothing, so nothing of it is ever done here.
 #[derive(Drop)]
@@ -21,13 +21,17 @@ impl<'p> Starter<'p> for NoStarter {
 
     ghost asked = { λ starter. [] };
 
-    fn start(&mut self, state: &mut State<'p>, op: &Op) -> Result<Option<Refusal>, OutOfMemory> {
+    fn start(
+        &mut self,
+        state: &mut State<'p>,
+        op: &Op,
+    ) -> Result<Option<StartRefusal>, OutOfMemory> {
         Ok(None)
     }
 }
 
 /// Runs a code over a cycle.
-pub(crate) fn perform<B: Bank>(state: &mut State<'_>, at: &Setting<'_>, ops: &[Op], bank: &mut B)
+pub(crate) fn perform<B: Bank>(state: &mut State<'_>, at: &NoteSetting<'_>, ops: &Ops, bank: &mut B)
     requires { (c : Context) × CanRun (B.can_get (B.rest bank.old)) (B.can_set (B.rest bank.old))
         (length (B.cells bank.old))
         at.now c ops.now state.old }

@@ -8,15 +8,15 @@ ghost use Rattle.cs_voice_meaning.specs.Voices.{IsPlayable, initialised};
 ghost use Rattle.cs_voice.specs.Starts.{IsStarted, sheet_for, started_as};
 ghost use Rattle.cs_voice.specs.Tables.{CanAllBePlayed};
 
-use crate::begin::Refusal;
-use crate::body::Body;
+use crate::begin::StartRefusal;
+use crate::body::VoiceBody;
 use crate::pass::pass;
 use crate::tables::Finds;
 use crate::{Stage, Voice};
 use cs_base::{Num, OutOfMemory};
 use cs_cells::{Bank, Footprint};
 use cs_ir::{Ask, Instrument};
-use cs_machine::{Setting, State};
+use cs_machine::{NoteSetting, State};
 use std::alloc::Global;
 
 /// What came of a note that was to begin.
@@ -78,7 +78,7 @@ pub fn start<'p, B: Bank>(
     ensures rest { B.rest bank.new ≡ B.rest bank.old }
 {
     let finds = Finds {
-        at: Setting {
+        at: NoteSetting {
             head: note.stage.head,
             layout: note.stage.layout,
             spaces: note.stage.spaces,
@@ -96,7 +96,7 @@ pub fn start<'p, B: Bank>(
     }
     let number = note.instrument.number();
     let perf = note.instrument.perf();
-    let parts = Body {
+    let parts = VoiceBody {
         number,
         age: note.age,
         until: note.until,
@@ -110,11 +110,11 @@ pub fn start<'p, B: Bank>(
     Ok(Started::Live(voice))
 }
 
-fn refused<'p>(refusal: Refusal) -> Started<'p>
+fn refused<'p>(refusal: StartRefusal) -> Started<'p>
     ensures { result ≡ started_as refusal }
 {
     match refusal {
-        Refusal::NoTable(number) => Started::NoTable { number },
-        Refusal::DelayTooLong(samples) => Started::DelayTooLong { samples },
+        StartRefusal::NoTable(number) => Started::NoTable { number },
+        StartRefusal::DelayTooLong(samples) => Started::DelayTooLong { samples },
     }
 }

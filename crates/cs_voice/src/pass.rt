@@ -6,7 +6,7 @@ ghost use Rattle.cs_voice.specs.Starts.{sheet_for};
 
 use crate::NewNote;
 use crate::asks::{ask, gather};
-use crate::begin::{Refusal, Start, begin, seek};
+use crate::begin::{StartRefusal, UnitStart, begin, seek};
 use crate::run::{Starter, run};
 use crate::tables::Finds;
 use cs_base::{Num, OutOfMemory};
@@ -33,11 +33,15 @@ impl<'p> Starter<'p> for Beginning<'_, '_, 'p> {
 
     ghost asked = { λ b. b.asks.items };
 
-    fn start(&mut self, state: &mut State<'p>, op: &Op) -> Result<Option<Refusal>, OutOfMemory> {
+    fn start(
+        &mut self,
+        state: &mut State<'p>,
+        op: &Op,
+    ) -> Result<Option<StartRefusal>, OutOfMemory> {
         match op.act {
             Act::Start(opcode, unit) => {
                 gather(&state.regs, op.from.as_slice(), &mut self.settled)?;
-                let start = Start {
+                let start = UnitStart {
                     opcode,
                     rate: op.into.rate,
                     unit: unit as usize,
@@ -76,7 +80,7 @@ pub(crate) fn pass<'s, 'p, B: Bank>(
     note: &NewNote<'_, 'p>,
     asks: &mut Vec<Ask>,
     bank: &mut B,
-) -> Result<Option<Refusal>, OutOfMemory>
+) -> Result<Option<StartRefusal>, OutOfMemory>
     requires { CanInitialise (B.can_get (B.rest bank.old)) (B.can_set (B.rest bank.old)) (length (B.cells bank.old))
         finds.now note.now finds.now.at.fields.now
         state.old }

@@ -11,12 +11,13 @@ ghost use Rattle.cs_voice.specs.declared.tables.Finds.{Finds};
 ghost use Rattle.cs_voice.specs.inner.Jumps.{is_jump, is_start};
 
 use crate::any::act;
-use crate::begin::Refusal;
+use crate::begin::StartRefusal;
+use crate::cursor::Cursor;
 use crate::jumps::jump;
 use cs_base::OutOfMemory;
 use cs_cells::Bank;
-use cs_ir::{Act, Op};
-use cs_machine::{Setting, State};
+use cs_ir::{Act, Op, Ops};
+use cs_machine::{NoteSetting, State};
 
 /// Does what only a code that begins a note does: it starts units, looks for tables and asks for notes.
 pub(crate) trait Starter<'p> {
@@ -32,7 +33,7 @@ pub(crate) trait Starter<'p> {
     ghost asked: { Self → List Ask };
 
     /// Does a start, a look for a table or an ask.
-    fn start(&mut self, state: &mut State<'p>, op: &Op) -> Result<Option<Refusal>, OutOfMemory>
+    fn start(&mut self, state: &mut State<'p>, op: &Op) -> Result<Option<StartRefusal>, OutOfMemory>
         requires here { is_start op.now.act ≡ true }
         requires able { CanStart (finds self.old) op.now state.old }
         ensures does { IfOk result (λ refused. HasStarted (finds self.old) op.now state.old (asked self.old) state.new
@@ -44,11 +45,11 @@ pub(crate) trait Starter<'p> {
 /// nothing.
 pub(crate) fn run<'p, S: Starter<'p>, B: Bank>(
     state: &mut State<'p>,
-    at: &Setting<'_>,
-    ops: &[Op],
+    at: &NoteSetting<'_>,
+    ops: &Ops,
     starter: &mut S,
     bank: &mut B,
-) -> Result<Option<Refusal>, OutOfMemory>
+) -> Result<Option<StartRefusal>, OutOfMemory>
     requires { CanGo (B.can_get (B.rest bank.old)) (B.can_set (B.rest bank.old)) (length (B.cells bank.old)) at.now
         (S.finds starter.old) ops.now state.old }
     ensures cycle { IfOk result (λ refused. (c : Context) → CanRun (B.can_get (B.rest bank.old))
@@ -57,7 +58,7 @@ pub(crate) fn run<'p, S: Starter<'p>, B: Bank>(
         → (refused ≡ None) × HasRun at.now.layout.now c ops.now state.old (cell (B.cells bank.old)) state.new
         (cell (B.cells bank.new))) }
     ensures passes { IfOk result (λ refused. (f : Finds) (ms : List Bool) (code : Code) (s : Sheet)
-        → S.finds starter.old ≡ Some (f, ms) → f.at ≡ at.now → code.ops.items ≡ ops.now
+        → S.finds starter.old ≡ Some (f, ms) → f.at ≡ at.now → code.ops ≡ ops.now
         → CanPass (B.can_get (B.rest bank.old)) (B.can_set (B.rest bank.old)) (length (B.cells bank.old)) f ms code s
         state.old
         → Passes s state.old (cell (B.cells bank.old)) (S.asked starter.old) state.new (cell (B.cells bank.new))
@@ -68,24 +69,31 @@ pub(crate) fn run<'p, S: Starter<'p>, B: Bank>(
     ensures rest { B.rest bank.new ≡ B.rest bank.old }
 {
     let end = ops.len();
+    let mut cursor = Cursor::new();
     let mut place: usize = 0;
-    while place < end {
-        let op = op_at(ops, place);
-        match jump(&state.regs, op, place) {
-            Some(to) => place = to,
-            None => {
-                let refused = one(state, at, op, starter, bank)?;
-                if let Some(refused) = refused {
-                    return Ok(Some(refused));
+    'each_stretch: while place < end {
+        cursor.go_to(ops, place);
+        let stretch = cursor.ops();
+        let first = place;
+        let behind = first + stretch.len();
+        'each_op: while place < behind {
+            let op = op_at(stretch, place - first);
+            match jump(&state.regs, op, place) {
+                Some(to) => place = to,
+                None => {
+                    let refused = one(state, at, op, starter, bank)?;
+                    if let Some(refused) = refused {
+                        return Ok(Some(refused));
+                    }
+                    place += 1;
                 }
-                place += 1;
             }
         }
     }
     Ok(None)
 }
 
-/// The op at a place of a code.
+/// The op at a place among ops.
 fn op_at(ops: &[Op], place: usize) -> &Op
     requires { place < length ops.now }
     ensures { slice_get ops.now place ≡ Some result.now }
@@ -97,11 +105,11 @@ fn op_at(ops: &[Op], place: usize) -> &Op
 #[inline(always)]
 fn one<'p, S: Starter<'p>, B: Bank>(
     state: &mut State<'p>,
-    at: &Setting<'_>,
+    at: &NoteSetting<'_>,
     op: &Op,
     starter: &mut S,
     bank: &mut B,
-) -> Result<Option<Refusal>, OutOfMemory>
+) -> Result<Option<StartRefusal>, OutOfMemory>
     requires able { CanDoHere (B.can_get (B.rest bank.old)) (B.can_set (B.rest bank.old)) (length (B.cells bank.old))
         at.now
         (S.finds starter.old) op.now state.old }

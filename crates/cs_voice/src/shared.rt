@@ -15,12 +15,12 @@ ghost use Rattle.cs_machine.specs.States.{HasRoom, MayTouch};
 use cs_base::{Num, Rate, Res};
 use cs_cells::{Area, Bank};
 use cs_ir::Reg;
-use cs_machine::{Registers, Setting, State, area_in, read_row, write_row, write_value};
+use cs_machine::{NoteSetting, Registers, State, area_in, read_row, write_row, write_value};
 
 /// Reads what notes share into a register: the act `Load`.
 pub(crate) fn load<B: Bank>(
     state: &mut State<'_>,
-    at: &Setting<'_>,
+    at: &NoteSetting<'_>,
     into: Reg,
     res: Res,
     bank: &mut B,
@@ -47,7 +47,13 @@ pub(crate) fn load<B: Bank>(
 }
 
 /// Writes a register to what notes share: the act `Save`.
-pub(crate) fn save<B: Bank>(state: &mut State<'_>, at: &Setting<'_>, res: Res, x: Reg, bank: &mut B)
+pub(crate) fn save<B: Bank>(
+    state: &mut State<'_>,
+    at: &NoteSetting<'_>,
+    res: Res,
+    x: Reg,
+    bank: &mut B,
+)
     requires x { has_register state.old.regs.counts x ≡ true }
     requires room { HasRoom state.old }
     requires value { has_value res ≡ true }

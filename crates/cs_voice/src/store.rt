@@ -11,7 +11,7 @@ ghost use Rattle.cs_machine.specs.States.{HasRoom};
 use cs_base::{Num, Rate, Res};
 use cs_cells::{Area, Bank};
 use cs_ir::{Reach, Reg};
-use cs_machine::{Setting, State, area_of, index, store};
+use cs_machine::{NoteSetting, State, area_of, index, store};
 
 /// What is stored: a register, at the places that another one names, into the table whose number a third one holds; and
 /// the rate, which says how often: once a frame, or once a cycle.
@@ -27,7 +27,7 @@ pub(crate) struct Storing {
 /// as they are.
 pub(crate) fn store_points<B: Bank>(
     state: &State<'_>,
-    at: &Setting<'_>,
+    at: &NoteSetting<'_>,
     storing: Storing,
     reach: Reach,
     bank: &mut B,
@@ -52,7 +52,7 @@ pub(crate) fn store_points<B: Bank>(
 }
 
 /// The area of the live table that a value names, where it is within reach.
-fn stored_area(at: &Setting<'_>, reach: Reach, value: Num) -> Option<Area>
+fn stored_area(at: &NoteSetting<'_>, reach: Reach, value: Num) -> Option<Area>
     ensures value { result ≡ stored_area at.now.layout.now reach (index value) }
     ensures small { IfSome result (λ area. area.first + area.length ≤ 65536) }
 {

@@ -7,25 +7,29 @@ ghost use Rattle.cs_voice.specs.Tables.{table_at, tables_of};
 
 use crate::PieceTable;
 use cs_base::Num;
-use cs_machine::Setting;
+use cs_machine::NoteSetting;
 
 /// What a note that begins finds; beside it stands of each table whether it has been made by now.
 #[derive(Clone, Copy)]
 pub(crate) struct Finds<'s, 'p> {
-    pub at: Setting<'s>,
+    pub at: NoteSetting<'s>,
     /// The tables of the piece.
     pub tables: &'p [PieceTable],
 }
 
 /// A table that was found, and whether it has been made by now.
 #[derive(Clone, Copy)]
-pub(crate) struct Found<'p> {
+pub(crate) struct FoundTable<'p> {
     pub table: &'p PieceTable,
     pub made: bool,
 }
 
 /// The first table of a number.
-pub(crate) fn find<'p>(tables: &'p [PieceTable], made: &[bool], number: i64) -> Option<Found<'p>>
+pub(crate) fn find<'p>(
+    tables: &'p [PieceTable],
+    made: &[bool],
+    number: i64,
+) -> Option<FoundTable<'p>>
     requires { length made.now ≡ length tables.now }
     ensures { option_map (λ f. table_at f.table.now f.made) result ≡ find_table (tables_of tables.now made.now) number }
 {
@@ -33,7 +37,7 @@ pub(crate) fn find<'p>(tables: &'p [PieceTable], made: &[bool], number: i64) -> 
         let table = &tables[place];
         if has_number(table, number) {
             let made = made[place];
-            return Some(Found { table, made });
+            return Some(FoundTable { table, made });
         }
     }
     None
@@ -50,7 +54,7 @@ pub(crate) fn table_number(settled: &[Num]) -> i64
     ensures { result ≡ table_number settled.now }
 {
     match settled.get(0) {
-        Some(value) => value.raw().div_euclid(65_536),
+        Some(value) => value.whole_below(),
         None => 0,
     }
 }

@@ -5,7 +5,7 @@ ghost use Rattle.cs_machine.specs.Outputs.{outs};
 ghost use Rattle.cs_machine.specs.Rows.{row_wave};
 ghost use Rattle.cs_voice.specs.Memory.{MakeVoice, data_of};
 
-use crate::body::Body;
+use crate::body::VoiceBody;
 use cs_base::{Num, OutOfMemory};
 use cs_cells::{Bank, Footprint, Job};
 use std::alloc::Global;
@@ -15,7 +15,7 @@ use std::marker::Model;
 /// come to as plain data.
 #[derive(Drop)]
 pub struct Voice<'p> {
-    body: Box<Body<'p>>,
+    body: Box<VoiceBody<'p>>,
 }
 
 impl<'p> Model for Voice<'p> {
@@ -33,7 +33,7 @@ impl<'p> Model for Voice<'p> {
 impl<'p> Voice<'p> {
     /// The voice of a note that has begun, of its parts. `OutOfMemory` where there is none for it; then its parts are
     /// dropped.
-    pub(crate) fn of(alloc: Global, parts: Body<'p>) -> Result<Voice<'p>, OutOfMemory>
+    pub(crate) fn of(alloc: Global, parts: VoiceBody<'p>) -> Result<Voice<'p>, OutOfMemory>
         requires { MakeVoice parts.number parts.age parts.until parts.stage parts.foot.now parts.code.now
             parts.fields.items parts.state }
         ensures { IfOk result (λ v. v ≡ data_of parts.entry) }

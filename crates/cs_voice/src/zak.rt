@@ -1,17 +1,14 @@
 // Zak places, read, written, mixed into and cleared by the numbers that values name.
 ghost use Rattle.std.specs.Prelude.{◌≡◌, [], ◌∷◌, length, true};
 ghost use Rattle.cs_machine.specs.Access.{AreSpaces, spaces_of};
-ghost use Rattle.cs_voice.specs.Cells.{CanReach, DoesOver, MayReach};
+ghost use Rattle.cs_voice.specs.Cells.{CanReach, DoesZak, MayReach};
 ghost use Rattle.cs_voice.specs.inner.Zak.{reached};
 ghost use Rattle.cs_base.specs.Rates.{is_audio};
 ghost use Rattle.cs_cells.specs.Cells.{cell};
 ghost use Rattle.cs_ir.specs.Resources.{places_of};
 ghost use Rattle.cs_ir.specs.Validity.{has_register};
-ghost use Rattle.cs_ir.specs.declared.op.Act.TheVariants as act;
 ghost use Rattle.cs_ir.specs.declared.register.Reg.{Reg};
 ghost use Rattle.cs_meaning.specs.Pieces.{index};
-ghost use Rattle.cs_words.specs.Catalogue.{row_of};
-ghost use Rattle.cs_words.specs.declared.catalogue.Opcode.{Opcode};
 ghost use Rattle.cs_words.specs.declared.catalogue.Shape.TheVariants as shape;
 ghost use Rattle.cs_words.specs.declared.catalogue.Space.TheVariants as space;
 
@@ -19,7 +16,7 @@ use crate::shared::{read, write};
 use cs_base::{Num, Rate, Res};
 use cs_cells::{Area, Bank};
 use cs_ir::{Reach, Reg, places_of, zak_place};
-use cs_machine::{Registers, Setting, State, area_in, clear_places, index, mix_row};
+use cs_machine::{NoteSetting, Registers, State, area_in, clear_places, index, mix_row};
 use cs_words::Space;
 
 /// The zak places that an op may touch: those of a space that are within its reach.
@@ -33,7 +30,7 @@ pub(crate) struct Within {
 /// one.
 pub(crate) fn zak_get<B: Bank>(
     state: &mut State<'_>,
-    at: &Setting<'_>,
+    at: &NoteSetting<'_>,
     within: Within,
     into: Reg,
     number: Reg,
@@ -42,8 +39,7 @@ pub(crate) fn zak_get<B: Bank>(
     requires into { has_register state.old.regs.counts into ≡ true }
     requires able { CanReach (B.can_get (B.rest bank.old)) (length (B.cells bank.old)) at.now within.space within.reach
         number state.old }
-    ensures does { (opcode : Opcode) → (row_of opcode).shape ≡ shape.ZakGet within.space → DoesOver at.now
-        (act.Zak opcode within.reach) into (number ∷ []) state.old
+    ensures does { DoesZak at.now (shape.ZakGet within.space) within.reach into (number ∷ []) state.old
         (cell (B.cells bank.old)) state.new (cell (B.cells bank.new)) }
     ensures same { B.cells bank.new ≡ B.cells bank.old }
     ensures rest { B.rest bank.new ≡ B.rest bank.old }
@@ -68,7 +64,7 @@ pub(crate) fn zak_get<B: Bank>(
 /// opcode that writes one.
 pub(crate) fn zak_put<B: Bank>(
     state: &mut State<'_>,
-    at: &Setting<'_>,
+    at: &NoteSetting<'_>,
     within: Within,
     x: Reg,
     number: Reg,
@@ -77,8 +73,7 @@ pub(crate) fn zak_put<B: Bank>(
     requires x { has_register state.old.regs.counts x ≡ true }
     requires able { CanReach (B.can_set (B.rest bank.old)) (length (B.cells bank.old)) at.now within.space within.reach
         number state.old }
-    ensures does { (opcode : Opcode) (into : Reg) → (row_of opcode).shape ≡ shape.ZakPut within.space → DoesOver at.now
-        (act.Zak opcode within.reach) into (x ∷ number ∷ [])
+    ensures does { (into : Reg) → DoesZak at.now (shape.ZakPut within.space) within.reach into (x ∷ number ∷ [])
         state.old (cell (B.cells bank.old)) state.new (cell (B.cells bank.new)) }
     ensures long { length (B.cells bank.new) ≡ length (B.cells bank.old) }
     ensures rest { B.rest bank.new ≡ B.rest bank.old }
@@ -93,7 +88,7 @@ pub(crate) fn zak_put<B: Bank>(
 /// of an opcode that mixes.
 pub(crate) fn zak_mix<B: Bank>(
     state: &mut State<'_>,
-    at: &Setting<'_>,
+    at: &NoteSetting<'_>,
     reach: Reach,
     x: Reg,
     number: Reg,
@@ -104,8 +99,7 @@ pub(crate) fn zak_mix<B: Bank>(
     requires read { MayReach (B.can_get (B.rest bank.old)) (length (B.cells bank.old)) at.now space.Audio reach }
     requires able { CanReach (B.can_set (B.rest bank.old)) (length (B.cells bank.old)) at.now space.Audio reach number
         state.old }
-    ensures does { (opcode : Opcode) (into : Reg) → (row_of opcode).shape ≡ shape.ZakMix → DoesOver at.now
-        (act.Zak opcode reach) into (x ∷ number ∷ [])
+    ensures does { (into : Reg) → DoesZak at.now shape.ZakMix reach into (x ∷ number ∷ [])
         state.old (cell (B.cells bank.old)) state.new (cell (B.cells bank.new)) }
     ensures long { length (B.cells bank.new) ≡ length (B.cells bank.old) }
     ensures rest { B.rest bank.new ≡ B.rest bank.old }
@@ -120,7 +114,7 @@ pub(crate) fn zak_mix<B: Bank>(
 /// opcode that clears.
 pub(crate) fn zak_clear<B: Bank>(
     state: &mut State<'_>,
-    at: &Setting<'_>,
+    at: &NoteSetting<'_>,
     within: Within,
     first: Reg,
     last: Reg,
@@ -132,8 +126,7 @@ pub(crate) fn zak_clear<B: Bank>(
     requires zak { spaces_of at.now.layout.now ≡ at.now.spaces }
     requires write { MayReach (B.can_set (B.rest bank.old)) (length (B.cells bank.old)) at.now within.space
         within.reach }
-    ensures does { (opcode : Opcode) (into : Reg) → (row_of opcode).shape ≡ shape.ZakClear within.space
-        → DoesOver at.now (act.Zak opcode within.reach) into (first ∷ last ∷ [])
+    ensures does { (into : Reg) → DoesZak at.now (shape.ZakClear within.space) within.reach into (first ∷ last ∷ [])
         state.old (cell (B.cells bank.old)) state.new (cell (B.cells bank.new)) }
     ensures long { length (B.cells bank.new) ≡ length (B.cells bank.old) }
     ensures rest { B.rest bank.new ≡ B.rest bank.old }
@@ -149,7 +142,7 @@ pub(crate) fn zak_clear<B: Bank>(
 }
 
 /// The zak place that a value names, where its space has it and it is within reach.
-fn place(at: &Setting<'_>, space: Space, reach: Reach, value: Num) -> Option<Res>
+fn place(at: &NoteSetting<'_>, space: Space, reach: Reach, value: Num) -> Option<Res>
     ensures { result ≡ reached at.now space reach (index value) }
 {
     match index(value) {

@@ -30,7 +30,8 @@ use Rattle.cs_ir.specs.declared.register.Counts.{Counts}
 use Rattle.cs_ir.specs.declared.register.Reg.{Reg}
 use Rattle.cs_cells.specs.Cells.{Cells, cell}
 use Rattle.cs_cells.specs.declared.footprint.Area.{Area}
-use Rattle.cs_meaning.specs.Model.{Model, with_value, put_unit, unit_points, has_run, unit_does, store_into, store_at}
+use Rattle.cs_meaning.specs.Model.{WorldModel, with_value, put_unit, unit_points, has_run, unit_does, store_into}
+use Rattle.cs_meaning.specs.Model.{store_at}
 use Rattle.cs_meaning.specs.Model.{zak_does, lacks_table, begun, delayed, starts, out_to, out_to_numbered}
 use Rattle.cs_meaning.specs.Pieces.{Piece, Table, find_table, table_number, is_there, is_delay, is_live, index}
 use Rattle.cs_meaning.specs.Pieces.{may_touch, at_place, has_place, added}
@@ -85,7 +86,7 @@ audio_is rate.Control h = absurd (cc)
 audio_is rate.Audio h = refl
 
 module _ (areas : List Area) (piece : Piece) (counts : Counts) where
-  abbrev model : Model (ℕ → ℤ) Playing
+  abbrev model : WorldModel (ℕ → ℤ) Playing
   model = voice_model areas piece
 
   abbrev pub Fits : Machine VoiceState → Type 0

@@ -23,7 +23,7 @@ use Rattle.cs_ir.specs.Waves.{Wave, held, silence, operand}
 use Rattle.cs_ir.specs.declared.op.Reach.{Reach}
 use Rattle.cs_cells.specs.Cells.{in_area}
 use Rattle.cs_cells.specs.declared.footprint.Area.{Area}
-use Rattle.cs_meaning.specs.Model.{Model, Cause, no_table, delay_too_long, loaded, with_value, saved, put_unit}
+use Rattle.cs_meaning.specs.Model.{WorldModel, Cause, no_table, delay_too_long, loaded, with_value, saved, put_unit}
 use Rattle.cs_meaning.specs.Model.{unit_points, has_run, unit_does, store_into, store_at, cleared, zak_does}
 use Rattle.cs_meaning.specs.Model.{lacks_table, refused_for, begun, delayed, starts, out_to, out_to_numbered}
 use Rattle.cs_meaning.specs.Pieces.{Piece, Table, find_table, table_number, is_there, is_delay, is_live, index}
@@ -56,7 +56,7 @@ IsSeen P areas g = (area : Area) × (area_of areas g ≡ Some area) × ((a : ℕ
 
 module _ (areas : List Area) (stock : Stock) (piece : Piece) (kinds : Kinds) (P : ℕ → Type 0)
     (placed : IsPlaced areas stock piece) where
-  abbrev model : Model (ℕ → ℤ) Playing
+  abbrev model : WorldModel (ℕ → ℤ) Playing
   model = voice_model areas piece
 
   either_seen : (b : Bool) (x m y n : VoiceState) → SameSeen P x y → SameSeen P m n

@@ -10,7 +10,7 @@ use Rattle.cs_ir.specs.declared.op.Act.{Act}
 use Rattle.cs_ir.specs.declared.op.Act.TheVariants as act
 use Rattle.cs_ir.specs.declared.op.Op.{Op}
 use Rattle.cs_ir.specs.declared.register.Reg.{Reg}
-use Rattle.cs_meaning.specs.Model.{Cause, State, Model, unit_does, zak_does, world_of}
+use Rattle.cs_meaning.specs.Model.{Cause, State, WorldModel, unit_does, zak_does, world_of}
 use Rattle.cs_meaning.specs.Pieces.{index}
 use Rattle.cs_meaning.proofs.Rest.{Rest, rest, unit_rest, store_rest, zak_rest, numbered_rest}
 use Rattle.cs_voice_meaning.specs.VoiceWorld.{voice_model}
@@ -28,7 +28,7 @@ settled_of r = record { delays = r.delays; asks = r.asks; cause = r.cause }
 abbrev pub settled : {S U : Type 0} → State S U → Settled
 settled x = settled_of (rest x)
 
-module _ {S U : Type 0} (model : Model S U) where
+module _ {S U : Type 0} (model : WorldModel S U) where
   written_steady : (b : Bool) (into : Reg) (p : State S U × Wave) (m : Machine (State S U)) (z : State S U)
       → settled p.0 ≡ settled z
       → settled (if b then write model.piece.head.ksmps into p.1 (record m { world = p.0 }) else record m

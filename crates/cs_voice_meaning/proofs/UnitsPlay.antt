@@ -31,7 +31,7 @@ use Rattle.cs_meaning.specs.Plain.{Plain, History, inputs_of, has_had, generated
 use Rattle.cs_voice_meaning.specs.Placing.{IsPlaced}
 use Rattle.cs_ugen.specs.Generators.{pace_of, the_generators}
 use Rattle.cs_voice_meaning.specs.VoiceWorld.{Playing, VoiceState, inputs_at, played, has_played, voice_model}
-use Rattle.cs_voice_meaning.specs.Follows.{Kinds, AreNamed, Plays, SameUnit, SameState}
+use Rattle.cs_voice_meaning.specs.Follows.{Kinds, AreNamed, PlaysUnit, SameUnit, SameState}
 use Rattle.cs_voice_meaning.proofs.Naming.{named_among, found_number}
 
 equal : (m n : ℕ) → (m == n) ≡ true → m ≡ n
@@ -60,12 +60,12 @@ same_results rate.Audio ksmps results w each = λ i j. at j i
 
 module _ (areas : List Area) (kinds : Kinds) (N : Res → Type 0) (pace : Pace) (earlier : List (List ℤ)) where
   unit_after : (u n : ℕ) (b : Bool) (p : Playing) (h : History) (o : Option Playing) (k : Option History)
-      → (b ≡ true → n ≡ u) → Plays pace (kinds u) p h
+      → (b ≡ true → n ≡ u) → PlaysUnit pace (kinds u) p h
       → SameUnit pace (kinds n) o k → SameUnit pace (kinds n) (if b then Some p else o) (if b then Some h else k)
-  unit_after u n true p h o k at plays same = subst (λ z. Plays pace (kinds z) p h) (sym (at refl)) plays
+  unit_after u n true p h o k at plays same = subst (λ z. PlaysUnit pace (kinds z) p h) (sym (at refl)) plays
   unit_after u n false p h o k at plays same = same
 
-  pub put_state : (u : ℕ) (p : Playing) (h : History) (x : VoiceState) (y : Plain) → Plays pace (kinds u) p h
+  pub put_state : (u : ℕ) (p : Playing) (h : History) (x : VoiceState) (y : Plain) → PlaysUnit pace (kinds u) p h
       → SameState N areas kinds pace earlier x y
       → SameState N areas kinds pace earlier (put_unit u p x) (put_unit u h y)
   put_state u p h x y plays r = record {
@@ -80,7 +80,7 @@ module _ (areas : List Area) (kinds : Kinds) (N : Res → Type 0) (pace : Pace) 
 
   -- a unit that starts has no inputs behind it
   pub starts_to_play : (opcode : Opcode) (r : Rate) (is : List ℤ) → IsUnitOpcode opcode
-      → Plays pace (opcode, r) (record { table = table_number is; state = unit_start opcode r pace is })
+      → PlaysUnit pace (opcode, r) (record { table = table_number is; state = unit_start opcode r pace is })
       (record { opcode = opcode; rate = r; settled = is; inputs = [] })
   starts_to_play opcode r is unit = record {
     opcode = refl;
@@ -98,7 +98,7 @@ of_parts g opcode r h ws points = λ j. g.gen opcode r h.settled (h.inputs ++ in
 module _ (piece : Piece) (opcode : Opcode) (r : Rate) (p : Playing) (h : History) (ws : List Wave)
     (points read : List ℤ)
     (generators : piece.generators ≡ the_generators (pace_of piece.head))
-    (plays : Plays (pace_of piece.head) (opcode, r) p h) (same : points ≡ read) where
+    (plays : PlaysUnit (pace_of piece.head) (opcode, r) p h) (same : points ≡ read) where
   ksmps : ℕ
   ksmps = piece.head.ksmps
 
@@ -108,7 +108,8 @@ module _ (piece : Piece) (opcode : Opcode) (r : Rate) (p : Playing) (h : History
   answered = by_formula (units opcode plays.unit) p.state r (pace_of piece.head) h.settled h.inputs
       (inputs_at ws points) 0 (steps_of piece.head.ksmps r) plays.stands
 
-  pub plays_on : Plays (pace_of piece.head) (opcode, r) (record p { state = (played piece.head.ksmps r p ws points).0 })
+  pub plays_on : PlaysUnit (pace_of piece.head) (opcode, r)
+      (record p { state = (played piece.head.ksmps r p ws points).0 })
       (has_had piece ws read h)
   plays_on = record {
     opcode = plays.opcode;
@@ -218,8 +219,8 @@ module _ (areas : List Area) (stock : Stock) (piece : Piece) (kinds : Kinds) (N 
   unit_alike opcode r u reach ws None (Some h) x y gens kind named same s = absurd same
   unit_alike opcode r u reach ws (Some p) None x y gens kind named same s = absurd same
   unit_alike opcode r u reach ws (Some p) (Some h) x y gens kind named same s =
-      let plays : Plays (pace_of piece.head) (opcode, r) p h =
-      subst (λ k. Plays (pace_of piece.head) k p h) kind same in
+      let plays : PlaysUnit (pace_of piece.head) (opcode, r) p h =
+      subst (λ k. PlaysUnit (pace_of piece.head) k p h) kind same in
       either_ran (may_touch opcode reach p.table) (may_touch opcode reach (table_number h.settled)) r
       (has_run u (has_played r p (played piece.head.ksmps r p ws (unit_points (voice_model areas piece) opcode p x))) x)
       (has_run u (
@@ -232,7 +233,7 @@ module _ (areas : List Area) (stock : Stock) (piece : Piece) (kinds : Kinds) (N 
       let points = points_alike opcode reach p h x y plays.table named touches s in
       let on = plays_on piece opcode r p h ws (unit_points (voice_model areas piece) opcode p x)
       (unit_points (plain_model piece) opcode h y) gens plays points in (
-        put_state areas kinds N (pace_of piece.head) earlier u _ _ x y (subst (λ k. Plays (pace_of piece.head) k
+        put_state areas kinds N (pace_of piece.head) earlier u _ _ x y (subst (λ k. PlaysUnit (pace_of piece.head) k
             (record p { state = (played piece.head.ksmps r p ws (unit_points (voice_model areas piece) opcode p x)).0 })
             (has_had piece ws (unit_points (plain_model piece) opcode h y) h)) (sym kind) on) s,
         result_same piece opcode r p h ws (unit_points (voice_model areas piece) opcode p x)

@@ -25,7 +25,7 @@ use Rattle.cs_meaning.specs.Plain.{Plain, History, plain, plain_model}
 use Rattle.cs_voice_meaning.specs.Placing.{area_of, IsPlaced}
 use Rattle.cs_ugen.specs.Generators.{pace_of, the_generators}
 use Rattle.cs_voice_meaning.specs.VoiceWorld.{Playing, VoiceState, voice_model, voice_world}
-use Rattle.cs_voice_meaning.specs.Follows.{Kinds, AreNamed, Plays, SameState}
+use Rattle.cs_voice_meaning.specs.Follows.{Kinds, AreNamed, PlaysUnit, SameState}
 use Rattle.cs_voice_meaning.proofs.Alikes.{Follows}
 use Rattle.cs_voice_meaning.proofs.Shared.{held_state, cleared_state}
 use Rattle.cs_voice_meaning.proofs.StoresPlay.{store_alike, place_state, place_wave}
@@ -65,7 +65,7 @@ module _ (areas : List Area) (stock : Stock) (piece : Piece) (kinds : Kinds) (N 
       let p : Playing = record { table = table_number is; state = unit_start opcode r (pace_of piece.head) is } in
       let h : History = record { opcode = opcode; rate = r; settled = is; inputs = [] } in
       put_state areas kinds N (pace_of piece.head) earlier u p h x y
-      (subst (λ k. Plays (pace_of piece.head) k p h) (sym kind)
+      (subst (λ k. PlaysUnit (pace_of piece.head) k p h) (sym kind)
       (starts_to_play areas kinds N (pace_of piece.head) earlier opcode r is unit)) s
 
   delays_same : (n : ℕ) (x : VoiceState) (y : Plain) → SameState N areas kinds (pace_of piece.head) earlier x y

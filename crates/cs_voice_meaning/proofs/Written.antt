@@ -30,7 +30,8 @@ use Rattle.cs_ir.specs.declared.op.Reach.{Reach}
 use Rattle.cs_ir.specs.declared.register.Reg.{Reg}
 use Rattle.cs_cells.specs.Cells.{in_area}
 use Rattle.cs_cells.specs.declared.footprint.Area.{Area}
-use Rattle.cs_meaning.specs.Model.{Model, loaded, with_value, unit_points, has_run, unit_does, store_into, store_at}
+use Rattle.cs_meaning.specs.Model.{WorldModel, loaded, with_value, unit_points, has_run, unit_does, store_into}
+use Rattle.cs_meaning.specs.Model.{store_at}
 use Rattle.cs_meaning.specs.Model.{cleared, zak_does, lacks_table, delayed, starts, out_to, out_to_numbered}
 use Rattle.cs_meaning.specs.Pieces.{Piece, Table, find_table, table_number, is_there, is_delay, is_live, index}
 use Rattle.cs_meaning.specs.Pieces.{is_cleared, is_between, stored, places_of_indices, steps_of, may_touch, at_place}
@@ -87,7 +88,7 @@ cleared_place piece space.Audio reach first last (res.Sound n) h = absurd (cc)
 cleared_place piece space.Audio reach first last (res.Table n) h = absurd (cc)
 
 module _ (areas : List Area) (stock : Stock) (piece : Piece) (a : ℕ) (placed : IsPlaced areas stock piece) where
-  abbrev model : Model (ℕ → ℤ) Playing
+  abbrev model : WorldModel (ℕ → ℤ) Playing
   model = voice_model areas piece
 
   kept_by_wave : (o : Option Area) (w : Wave) (c : ℕ → ℤ) → in_area o a ≡ false → with_wave o w c a ≡ c a

@@ -47,7 +47,7 @@ pub record Alike {V W : Type 0} (R : V → W → Type 0) (m : Machine V) (n : Ma
   pub world : R m.world n.world
 
 -- a unit that plays has come to where all its inputs so far bring it
-pub record Plays (pace : Pace) (kind : Opcode × Rate) (p : Playing) (h : History) : Type 0 where
+pub record PlaysUnit (pace : Pace) (kind : Opcode × Rate) (p : Playing) (h : History) : Type 0 where
   pub opcode : h.opcode ≡ kind.0
   pub rate : h.rate ≡ kind.1
   pub table : p.table ≡ table_number h.settled
@@ -56,7 +56,7 @@ pub record Plays (pace : Pace) (kind : Opcode × Rate) (p : Playing) (h : Histor
 
 abbrev pub SameUnit : Pace → Opcode × Rate → Option Playing → Option History → Type 0
 SameUnit pace kind None None = Unit {0}
-SameUnit pace kind (Some p) (Some h) = Plays pace kind p h
+SameUnit pace kind (Some p) (Some h) = PlaysUnit pace kind p h
 SameUnit pace kind None (Some h) = ⊥
 SameUnit pace kind (Some p) None = ⊥
 

@@ -9,19 +9,19 @@ use Rattle.cs_signal.specs.Operands.{argument}
 use Rattle.cs_signal.specs.Steps.{run}
 use Rattle.cs_ugen.specs.Generators.{pace_of}
 use Rattle.cs_ugen.specs.Units.{unit_start, unit_step}
-use Rattle.cs_ugen.specs.declared.unit.Kind.{Kind}
+use Rattle.cs_ugen.specs.declared.unit.UnitState.{UnitState}
 use Rattle.cs_ir.specs.Waves.{Wave, silence}
 use Rattle.cs_ir.specs.Worlds.{World}
 use Rattle.cs_cells.specs.Cells.{in_area}
 use Rattle.cs_cells.specs.declared.footprint.Area.{Area}
-use Rattle.cs_meaning.specs.Model.{State, Model, fresh_state, world_of}
+use Rattle.cs_meaning.specs.Model.{State, WorldModel, fresh_state, world_of}
 use Rattle.cs_meaning.specs.Pieces.{Piece, steps_of, step_at, table_number}
 use Rattle.cs_voice_meaning.specs.Placing.{area_of, wave_of, with_wave}
 
 -- A unit as it plays: the number of the table that it was started with, and the state that it has come to.
 pub record Playing : Type 0 where
   pub table : ℤ
-  pub state : Kind
+  pub state : UnitState
 
 abbrev pub VoiceState : Type 0
 VoiceState = State (ℕ → ℤ) Playing
@@ -52,14 +52,14 @@ abbrev pub inputs_at : List Wave → List ℤ → ℕ → List ℤ
 inputs_at ws points j = map (λ w. w j) ws ++ points
 
 -- the steps of a cycle: the unit after them, and their results
-abbrev pub played : ℕ → Rate → Playing → List Wave → List ℤ → Kind × List ℤ
+abbrev pub played : ℕ → Rate → Playing → List Wave → List ℤ → UnitState × List ℤ
 played ksmps r p ws points = run unit_step (inputs_at ws points) p.state 0 (steps_of ksmps r)
 
-abbrev pub has_played : Rate → Playing → Kind × List ℤ → Playing × Wave
+abbrev pub has_played : Rate → Playing → UnitState × List ℤ → Playing × Wave
 has_played r p done = (record p { state = done.0 }, λ j. argument done.1 (step_at r j))
 
 -- the world of a piece's voices over areas
-abbrev pub voice_model : List Area → Piece → Model (ℕ → ℤ) Playing
+abbrev pub voice_model : List Area → Piece → WorldModel (ℕ → ℤ) Playing
 voice_model areas piece = record {
   piece = piece;
   load = read_cells areas;

@@ -1,7 +1,7 @@
 -- Arms of an `if` of which one is done, one after another, and the jumps past the others.
-use Rattle.std.specs.Prelude.{ℕ, zero, suc, ◌+◌, ◌++◌, List, [], ◌∷◌, length}
+use Rattle.std.specs.Prelude.{ℕ, ◌+◌, ◌++◌, List, [], ◌∷◌, length}
 use Rattle.cs_base.specs.declared.spaces.Spaces.{Spaces}
-use Rattle.cs_ir.specs.declared.op.Act.{Act}
+use Rattle.cs_ir.specs.Codes.{aim}
 use Rattle.cs_ir.specs.declared.op.Act.TheVariants as act
 use Rattle.cs_ir.specs.declared.op.Op.{Op}
 use Rattle.cs_ir.specs.declared.register.Reg.{Reg}
@@ -53,15 +53,10 @@ abbrev pub jumps : ℕ → List Branch → List ℕ
 jumps place [] = []
 jumps place (b ∷ bs) = jump_at place b ∷ jumps (past_branch place b) bs
 
--- ops of which the one at a place does another act; and ops of which those at some places are jumps to an end
-abbrev pub aim : ℕ → Act → List Op → List Op
-aim n what [] = []
-aim zero what (op ∷ ops) = op_of what op.into op.from ∷ ops
-aim (suc n) what (op ∷ ops) = op ∷ aim n what ops
-
+-- ops of which the jumps at some places go to an end
 abbrev pub aim_all : List ℕ → ℕ → List Op → List Op
 aim_all [] end ops = ops
-aim_all (n ∷ ns) end ops = aim_all ns end (aim n (act.Jump end) ops)
+aim_all (n ∷ ns) end ops = aim_all ns end (aim n end ops)
 
 -- the condition and the body of an arm of the tree, and what was met before its end
 abbrev pub condition_of : TypedArm → Expression

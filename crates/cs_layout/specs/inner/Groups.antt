@@ -3,14 +3,14 @@ use Rattle.std.specs.Prelude.{ℕ, List, [], ◌∷◌, length}
 use Rattle.cs_base.specs.declared.resource.Res.{Res}
 use Rattle.cs_base.specs.declared.resource.Res.TheVariants as res
 use Rattle.cs_base.specs.declared.spaces.Spaces.{Spaces}
-use Rattle.cs_layout.specs.Layouts.{Shared, numbered}
+use Rattle.cs_layout.specs.Layouts.{SharedCells, numbered}
 use Rattle.cs_layout.specs.declared.areas.Group.{Group}
-use Rattle.cs_layout.specs.declared.areas.Kind.{Kind}
-use Rattle.cs_layout.specs.declared.areas.Kind.TheVariants as kind
+use Rattle.cs_layout.specs.declared.areas.GroupKind.{GroupKind}
+use Rattle.cs_layout.specs.declared.areas.GroupKind.TheVariants as kind
 use Rattle.cs_typed.specs.TypedTree.{SharedNames}
 
 -- a resource of a kind by its number
-abbrev pub res_of : Kind → ℕ → Res
+abbrev pub res_of : GroupKind → ℕ → Res
 res_of kind.Gi = res.Gi
 res_of kind.Gk = res.Gk
 res_of kind.Ga = res.Ga
@@ -20,17 +20,17 @@ res_of kind.ZakK = res.ZakK
 res_of kind.ZakA = res.ZakA
 
 -- what is in a group
-abbrev pub members : Group → List Shared
+abbrev pub members : Group → List SharedCells
 members g = numbered (res_of g.kind) g.count g.cells
 
-abbrev pub many : Kind → ℕ → ℕ → Group
+abbrev pub many : GroupKind → ℕ → ℕ → Group
 many k count cells = record { kind = k; count = count; cells = cells }
 
 abbrev pub groups_of : ℕ → SharedNames → Spaces → List Group
 groups_of ksmps names spaces =
-    many kind.Gi (length names.gi) 1
-    ∷ many kind.Gk (length names.gk) 1
-    ∷ many kind.Ga (length names.ga) ksmps
+    many kind.Gi (length names.variables.init) 1
+    ∷ many kind.Gk (length names.variables.control) 1
+    ∷ many kind.Ga (length names.variables.audio) ksmps
     ∷ many kind.Control (length names.control) 1
     ∷ many kind.Sound (length names.sound) ksmps
     ∷ many kind.ZakK spaces.control 1

@@ -15,11 +15,11 @@ abbrev pub no_operand : Operand
 no_operand = operand.Held (pos 0)
 
 -- an operand is at each frame what a register is
-abbrev pub StandsFor : (Reg → Wave) → Operand → Reg → Type 0
-StandsFor f o r = (frame : ℕ) → operand_at o frame ≡ f r frame
+abbrev pub HoldsOperand : (Reg → Wave) → Operand → Reg → Type 0
+HoldsOperand f o r = (frame : ℕ) → operand_at o frame ≡ f r frame
 
 abbrev pub StandsAt : (Reg → Wave) → List Operand → List Reg → ℕ → Type 0
-StandsAt f os rs j = StandsFor f (slice_index_or os j no_operand) (slice_index_or rs j no_register)
+StandsAt f os rs j = HoldsOperand f (slice_index_or os j no_operand) (slice_index_or rs j no_register)
 
 -- a number is what the register of its place is at the first frame
 abbrev pub IsFirstAt : (Reg → Wave) → List ℤ → List Reg → ℕ → Type 0

@@ -56,5 +56,5 @@ pub record AreBegins (areas : ℕ) (outside : Marks) (each : List Marks) (begins
 
 -- the marks of a performance code
 pub record AreMarksOf (areas : List Area) (perf : Code) (m : Marks) : Type 0 where
-  pub uses : m.uses.items ≡ marks_of areas (ops_use (stock_of areas) perf.ops.items)
-  pub writes : m.writes.items ≡ marks_of areas (ops_write (stock_of areas) perf.ops.items)
+  pub uses : m.uses.items ≡ marks_of areas (ops_use (stock_of areas) perf.ops)
+  pub writes : m.writes.items ≡ marks_of areas (ops_write (stock_of areas) perf.ops)

@@ -20,7 +20,7 @@ loop-e-preserved c =
     let regs = c.in_ok-push.ensures.items ∙ ap (λ q. c.loop-e.regs.items ++ q ∷ []) made.spot in
     let at = c.loop-e.next in
     let d = c.loop-e.d in (
-      operands_more f way c.loop-e.ops.items c.operand.new.ops.items _ at c.in_ok-spot.spot.next d c.in_ok-d.d es
+      operands_more f way c.loop-e.ops c.operand.new.ops _ at c.in_ok-spot.spot.next d c.in_ok-d.d es
           (expression x.now) rest split
           made.ops made.next c.in_ok-d.ensures was.0,
       spots_more f way c.loop-e.regs.items c.push.new.self.items _ at c.in_ok-spot.spot.next d c.in_ok-d.d es

@@ -8,9 +8,9 @@ use Rattle.cs_code.proofs.args.gather.Given as goal
 -- what is made, and what the rest will make
 abbrev pub invariant-loop-e : goal.invariant-loop-e
 invariant-loop-e l =
-    (l.ops.items ++ operands_code (frame_of l.context.bases) (when_of l.context.pass) l.next
+    (l.ops ++ operands_code (frame_of l.context.bases) (when_of l.context.pass) l.next
     (expressions_of (drop l.e-index l.values)) l.d
-    ≡ l.initial.ops.items ++ operands_code (frame_of l.context.bases) (when_of l.context.pass) l.at
+    ≡ l.initial.ops ++ operands_code (frame_of l.context.bases) (when_of l.context.pass) l.at
     (expressions_of l.values) 0)
     × (l.regs.items ++ spots (frame_of l.context.bases) (when_of l.context.pass) l.next
     (expressions_of (drop l.e-index l.values)) l.d

@@ -15,7 +15,7 @@ loop-e-preserved c =
     let split : es ≡ expression x.now ∷ rest =
     ap expressions_of (dropped c.args.values.now i x (omega arith) c.e-item.is) in
     let made = c.in_ok-next.ensures in (
-      keep_more (frame_of c.args.context.bases) c.loop-e.ops.items c.keep.new.ops.items _ c.loop-e.next
+      keep_more (frame_of c.args.context.bases) c.loop-e.ops c.keep.new.ops _ c.loop-e.next
           c.in_ok-next.next es (expression x.now) rest
           split made.ops made.next was.0,
       ap (λ n. past_all n rest) made.next ∙ sym (ap (past_all c.loop-e.next) split) ∙ was.1,

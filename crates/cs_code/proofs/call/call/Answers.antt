@@ -8,7 +8,7 @@ use Rattle.cs_code.proofs.call.call.Goals as goal
 pub returns-in-Some-clause-ops : goal.returns-in-Some-clause-ops
 returns-in-Some-clause-ops c =
     let k = c.args.call.now in
-    subst (λ s. OnOk c.assign.result (c.assign.new.ops.items ≡ c.args.ops.now.items
+    subst (λ s. OnOk c.assign.result (c.assign.new.ops ≡ c.args.ops.now
     ++ pass_code c.args.context.pass (frame_of c.args.context.bases) 0 c.args.p s))
     (sym (call_assigned c.args.context.spaces k.rate k.results.now k.opcode (row_of k.opcode).shape (arguments_of k)
     (assignment_of c.in-Some.assignment)
@@ -27,7 +27,7 @@ returns-in-Some-clause-next c =
 pub returns-in-None-clause-ops : goal.returns-in-None-clause-ops
 returns-in-None-clause-ops c =
     let k = c.args.call.now in
-    subst (λ s. OnOk c.effect.result (c.effect.new.ops.items ≡ c.args.ops.now.items
+    subst (λ s. OnOk c.effect.result (c.effect.new.ops ≡ c.args.ops.now
     ++ pass_code c.args.context.pass (frame_of c.args.context.bases) 0 c.args.p s))
     (sym (call_effect c.args.context.spaces k.rate k.results.now k.opcode (row_of k.opcode).shape (arguments_of k)
     (sym c.in-None.ensures)))

@@ -8,7 +8,7 @@ pub valid_body-requires-clause-init : goal.valid_body-requires-clause-init
 valid_body-requires-clause-init c =
     let made = c.in_ok-codes.codes in
     made_init_valid c.args.spaces c.args.locals c.requires.rated.0 (typed.block c.args.stmts.now) c.requires.rated.1
-    made.counts made.init.items made.perf.items
+    made.counts made.init made.perf
     (record {
       init_is = c.in_ok-codes.ensures.init;
       perf_is = c.in_ok-codes.ensures.perf;
@@ -20,7 +20,7 @@ pub valid_body-requires-clause-perf : goal.valid_body-requires-clause-perf
 valid_body-requires-clause-perf c =
     let made = c.in_ok-codes.codes in
     made_perf_valid c.args.spaces c.args.locals c.requires.rated.0 (typed.block c.args.stmts.now) c.requires.rated.1
-    made.counts made.init.items made.perf.items
+    made.counts made.init made.perf
     (record {
       init_is = c.in_ok-codes.ensures.init;
       perf_is = c.in_ok-codes.ensures.perf;
@@ -32,8 +32,8 @@ pub returns : goal.returns
 returns c = λ s rated.
     let made = c.in_ok-codes.codes in
     let same = c.in_ok-new.ensures.ok in
-    made_code c.args.spaces c.args.locals s (typed.block c.args.stmts.now) rated made.counts made.init.items
-    made.perf.items
+    made_code c.args.spaces c.args.locals s (typed.block c.args.stmts.now) rated made.counts made.init
+    made.perf
     (record {
       init_is = c.in_ok-codes.ensures.init;
       perf_is = c.in_ok-codes.ensures.perf;
@@ -41,7 +41,7 @@ returns c = λ s rated.
           c.in_ok-codes.ensures.counts;
     })
     c.requires.counted c.in_ok-new.field-0.value.init c.in_ok-new.field-0.value.perf
-    (ap (λ (b : Body). b.init.ops.items) same ∙ c.valid_body.ensures.init)
+    (ap (λ (b : Body). b.init.ops) same ∙ c.valid_body.ensures.init)
     (ap (λ (b : Body). b.init.counts) same ∙ c.valid_body.ensures.init_counts)
-    (ap (λ (b : Body). b.perf.ops.items) same ∙ c.valid_body.ensures.perf)
+    (ap (λ (b : Body). b.perf.ops) same ∙ c.valid_body.ensures.perf)
     (ap (λ (b : Body). b.perf.counts) same ∙ c.valid_body.ensures.perf_counts)

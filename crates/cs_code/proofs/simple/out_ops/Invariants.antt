@@ -5,4 +5,4 @@ use Rattle.cs_code.proofs.simple.out_ops.Given as goal
 abbrev pub invariant-loop-reg : goal.invariant-loop-reg
 invariant-loop-reg l =
     (l.channel ≡ l.reg-index)
-    × (l.ops.items ++ out_ops l.channel (drop l.reg-index l.regs) ≡ l.initial.ops.items ++ out_ops 0 l.regs)
+    × (l.ops ++ out_ops l.channel (drop l.reg-index l.regs) ≡ l.initial.ops ++ out_ops 0 l.regs)

@@ -8,7 +8,7 @@ use Rattle.cs_code.proofs.simple.seek.Goals as goal
 pub returns : goal.returns
 returns c =
     let f = frame_of c.args.context.bases in
-    let old = c.args.ops.now.items in
+    let old = c.args.ops.now in
     let es = expressions_of c.args.settled.now in
     c.in_ok-push_on.ensures.ops
     ∙ ap (λ w. old ++ on_code f (when_of w) 0 act.Seek c.unwritten.result es) c.requires

@@ -8,7 +8,7 @@ use Rattle.cs_code.proofs.simple.start.Goals as goal
 pub returns : goal.returns
 returns c =
     let f = frame_of c.args.context.bases in
-    let old = c.args.ops.now.items in
+    let old = c.args.ops.now in
     let es = expressions_of c.args.settled.now in
     let begins = act.Start c.args.call.now.opcode c.args.unit in
     c.in_ok-push_on.ensures.ops

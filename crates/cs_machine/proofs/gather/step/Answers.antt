@@ -4,7 +4,7 @@ use Rattle.cs_machine.specs.Players.{PlayerData, curve_at}
 use Rattle.cs_machine.specs.Registers.{values}
 use Rattle.cs_machine.proofs.Gathered.{few, same_firsts}
 use Rattle.cs_ugen.specs.Units.{unit_step}
-use Rattle.cs_ugen.specs.declared.unit.Kind.{Kind}
+use Rattle.cs_ugen.specs.declared.unit.UnitState.{UnitState}
 use Rattle.cs_machine.proofs.gather.step.Goals as goal
 
 pub firsts-inputs-requires-clause-few : goal.firsts-inputs-requires-clause-few
@@ -16,7 +16,7 @@ returns-then-from-le-FEW_INPUTS-clause-value g c =
     let points : List ℤ = curve_at p.points p.area (cell (g.B.Bank.cells c.args.bank.now)) in
     let long : length c.args.from.now ≤ length c.few_firsts-inputs.result =
     omega (arith, c.if-from-le-FEW_INPUTS.true, c.few_firsts-inputs.ensures.long) in
-    ap (λ (r : Kind × ℤ). (r.0, r.1 ∷ []))
+    ap (λ (r : UnitState × ℤ). (r.0, r.1 ∷ []))
     (c.step.ensures.value
     ∙ ap (λ xs. unit_step p.state (xs ++ points))
     (same_firsts (values c.args.regs.now) c.few_firsts-inputs.result c.args.from.now long
@@ -29,7 +29,7 @@ returns-else-from-le-FEW_INPUTS-clause-value g c =
     let most : length c.args.from.now ≤ 7 = few p.state (length c.args.from.now) c.requires.count in
     let long : length c.args.from.now ≤ length c.firsts-inputs.result =
     omega (arith, most, c.firsts-inputs.ensures.long) in
-    ap (λ (r : Kind × ℤ). (r.0, r.1 ∷ []))
+    ap (λ (r : UnitState × ℤ). (r.0, r.1 ∷ []))
     (c.step-else-from-le-FEW_INPUTS.ensures.value
     ∙ ap (λ xs. unit_step p.state (xs ++ points))
     (same_firsts (values c.args.regs.now) c.firsts-inputs.result c.args.from.now long c.firsts-inputs.ensures.first))

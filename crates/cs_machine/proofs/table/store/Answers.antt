@@ -18,12 +18,12 @@ loop-j-init g c = record
 
 pub place_of_index-place-requires : goal.place_of_index-place-requires
 place_of_index-place-requires g c = let some = some_points c.args.area.length c.requires.power in let is =
-    c.power_below-len.ensures in omega (arith, some, is)
+    c.len_of-len.ensures in omega (arith, some, is)
 
 pub set_frame-requires-clause-frame : goal.set_frame-requires-clause-frame
 set_frame-requires-clause-frame g c =
     place_within c.args.area.length c.place_of_index-place.result
-    (let low = c.place_of_index-place.ensures.inside in let is = c.power_below-len.ensures in omega (arith, low, is))
+    (let low = c.place_of_index-place.ensures.inside in let is = c.len_of-len.ensures in omega (arith, low, is))
 
 pub set_frame-requires-clause-write : goal.set_frame-requires-clause-write
 set_frame-requires-clause-write g c =
@@ -35,7 +35,7 @@ pub loop-j-preserved : goal.loop-j-preserved
 loop-j-preserved g c =
     let low : c.place_of_index-place.result < c.args.area.length =
     place_within c.args.area.length c.place_of_index-place.result
-    (let l = c.place_of_index-place.ensures.inside in let is = c.power_below-len.ensures in omega (arith, l, is)) in
+    (let l = c.place_of_index-place.ensures.inside in let is = c.len_of-len.ensures in omega (arith, l, is)) in
     let long = within_here (g.B.Bank.can_set (g.B.Bank.rest c.args.bank.now)) (length (g.B.Bank.cells c.args.bank.now))
     c.args.area c.place_of_index-place.result c.requires.write low in
     record {
@@ -44,7 +44,7 @@ loop-j-preserved g c =
           (λ j. place_of_index (len_of c.args.area.length) (operand_at c.args.ndx.now j)) (operand_at c.args.sig.now)
           (wave_in rate.Audio c.args.area (cell (g.B.Bank.cells c.args.bank.now))) c.loop-j.j
           c.place_of_index-place.result c.at-in-loop-j.result c.loop-j.invariant.cells
-          (c.place_of_index-place.ensures.value ∙ ap (λ n. place_of_index n c.at.result) c.power_below-len.ensures
+          (c.place_of_index-place.ensures.value ∙ ap (λ n. place_of_index n c.at.result) c.len_of-len.ensures
           ∙ ap (place_of_index (len_of c.args.area.length)) c.at.ensures) low
           (subst (λ n. c.args.area.first + c.place_of_index-place.result < n) (sym c.loop-j.invariant.long) long)
           c.at-in-loop-j.ensures;

@@ -1,46 +1,59 @@
-use Rattle.std.proofs.Common.{◌≡◌, ◌∙◌, ap, take, arith, get_or}
-use Rattle.std.proofs.lemmas.List.{take_all}
+use Rattle.std.proofs.Common.{◌≡◌, ◌∙◌, ap, take, arith, get_or, length}
+use Rattle.std.proofs.lemmas.List.{length-map, take_all}
+use Rattle.cs_ir.specs.Codes.{flat}
 use Rattle.cs_ir.specs.Resources.{act_uses, act_writes, ops_use, ops_write}
-use Rattle.cs_rwset.specs.Footprints.{stock_of}
+use Rattle.cs_rwset.specs.Footprints.{is_among, stock_of}
 use Rattle.cs_rwset.specs.inner.Marks.{marks_of}
-use Rattle.cs_rwset.proofs.Marking.{none_marked, ops_step, rewritten}
+use Rattle.cs_rwset.proofs.Marking.{none_marked, stretch_step}
 use Rattle.cs_rwset.proofs.code.marks_of.Goals as goal
 
-pub loop-op-init : goal.loop-op-init
-loop-op-init c = (
+pub loop-stretch-init : goal.loop-stretch-init
+loop-stretch-init c = (
   c.in_ok-vec.ensures.items_if_clones_equal (λ y h. h) ∙ none_marked c.args.layout.now _ c.len-areas.ensures,
   c.in_ok-vec-2.ensures.items_if_clones_equal (λ y h. h) ∙ none_marked c.args.layout.now _ c.len-areas.ensures,
 )
 
-pub loop-op-preserved : goal.loop-op-preserved
-loop-op-preserved c =
+pub add-requires-clause-uses : goal.add-requires-clause-uses
+add-requires-clause-uses c =
     let areas = c.args.layout.now in
-    let ops = c.args.ops.now in
-    let i = c.loop-op.op-index in
-    let is = c.op-item.is in
-    let same : c.op-item.result ≡ get_or ops i c.op-item.result = cc in (
-      rewritten areas _ _ c.loop-op.marks.uses.len c.loop-op.marks.uses.items c.mark_op.new.uses c.loop-op.invariant.0
-          (omega (arith, c.loop-op.marks.uses.ok))
-          (c.mark_op.ensures.uses (ops_use (stock_of areas) (take i ops))
-          (c.deref_mut.ensures.value ∙ c.loop-op.invariant.0)
-          ∙ ap (marks_of areas) (ops_step (λ o. act_uses (stock_of areas) o.act) ops i c.op-item.result same
-          c.loop-op-test.true)),
-      rewritten areas _ _ c.loop-op.marks.writes.len c.loop-op.marks.writes.items c.mark_op.new.written
-          c.loop-op.invariant.1 (omega (arith, c.loop-op.marks.writes.ok))
-          (c.mark_op.ensures.writes (ops_write (stock_of areas) (take i ops))
-          (c.deref_mut-in-loop-op.ensures.value ∙ c.loop-op.invariant.1)
-          ∙ ap (marks_of areas) (ops_step (λ o. act_writes (stock_of areas) o.act) ops i c.op-item.result same
-          c.loop-op-test.true)),
+    ap length c.loop-stretch.invariant.0
+    ∙ length-map areas (λ a. is_among
+    (ops_use (stock_of areas) (flat (take c.loop-stretch.stretch-index c.stretches-stretches.result.now))) a.res)
+
+pub add-requires-clause-writes : goal.add-requires-clause-writes
+add-requires-clause-writes c =
+    let areas = c.args.layout.now in
+    ap length c.loop-stretch.invariant.1
+    ∙ length-map areas (λ a. is_among
+    (ops_write (stock_of areas) (flat (take c.loop-stretch.stretch-index c.stretches-stretches.result.now))) a.res)
+
+pub loop-stretch-preserved : goal.loop-stretch-preserved
+loop-stretch-preserved c =
+    let areas = c.args.layout.now in
+    let ss = c.stretches-stretches.result.now in
+    let i = c.loop-stretch.stretch-index in
+    let is = c.stretch-item.is in
+    let same : c.stretch-item.result ≡ get_or ss i c.stretch-item.result = cc in (
+      c.add.ensures.uses (ops_use (stock_of areas) (flat (take i ss))) c.loop-stretch.invariant.0
+          ∙ ap (marks_of areas) (stretch_step (λ o. act_uses (stock_of areas) o.act) ss i c.stretch-item.result same
+          c.loop-stretch-test.true),
+      c.add.ensures.writes (ops_write (stock_of areas) (flat (take i ss))) c.loop-stretch.invariant.1
+          ∙ ap (marks_of areas) (stretch_step (λ o. act_writes (stock_of areas) o.act) ss i c.stretch-item.result same
+          c.loop-stretch-test.true),
     )
 
 pub returns-clause-uses : goal.returns-clause-uses
 returns-clause-uses c =
-    c.loop-op.invariant.0
-    ∙ ap (λ l. marks_of c.args.layout.now (ops_use (stock_of c.args.layout.now) l))
-    (take_all c.loop-op.op-index c.args.ops.now (omega (arith, c.loop-op-test.false)))
+    let areas = c.args.layout.now in
+    c.loop-stretch.invariant.0
+    ∙ ap (λ l. marks_of areas (ops_use (stock_of areas) (flat l)))
+    (take_all c.loop-stretch.stretch-index c.stretches-stretches.result.now (omega (arith, c.loop-stretch-test.false)))
+    ∙ ap (λ l. marks_of areas (ops_use (stock_of areas) l)) c.stretches-stretches.ensures
 
 pub returns-clause-writes : goal.returns-clause-writes
 returns-clause-writes c =
-    c.loop-op.invariant.1
-    ∙ ap (λ l. marks_of c.args.layout.now (ops_write (stock_of c.args.layout.now) l))
-    (take_all c.loop-op.op-index c.args.ops.now (omega (arith, c.loop-op-test.false)))
+    let areas = c.args.layout.now in
+    c.loop-stretch.invariant.1
+    ∙ ap (λ l. marks_of areas (ops_write (stock_of areas) (flat l)))
+    (take_all c.loop-stretch.stretch-index c.stretches-stretches.result.now (omega (arith, c.loop-stretch-test.false)))
+    ∙ ap (λ l. marks_of areas (ops_write (stock_of areas) l)) c.stretches-stretches.ensures

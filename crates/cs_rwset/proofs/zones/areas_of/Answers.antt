@@ -12,7 +12,8 @@ pub joined-zone-requires : goal.joined-zone-requires
 joined-zone-requires c =
     let p = c.loop-place.place in
     let a = c.area-area.result in
-    let first : a.first ≡ word_count (take p c.args.layout.now) = c.words.ensures.laid.follows p a c.area-area.ensures in
+    let first : a.first ≡ word_count (take p c.args.layout.now) =
+    c.words.ensures.laid.follows p a c.area-area.ensures in
     let within = area_within c.args.layout.now p a c.words.ensures.laid c.area-area.ensures in
     let so_far = c.loop-place.invariant.1 in
     let all : c.words.result ≡ word_count c.args.layout.now = c.words.ensures.words in
@@ -28,7 +29,8 @@ loop-place-preserved c =
     let zone = c.loop-place.zone in
     let done = c.loop-place.zones.items in
     let read : a ≡ get_or areas p a = sym (get_or_from_slice_get areas p a a c.area-area.ensures) in
-    let low : p < length areas = (let t = c.loop-place-test.true in let e = c.len-place-end.ensures in omega (arith, t, e)) in
+    let low : p < length areas =
+    (let t = c.loop-place-test.true in let e = c.len-place-end.ensures in omega (arith, t, e)) in
     let here : p < length begins = (let e = c.requires in omega (arith, low, e)) in
     let first : a.first ≡ word_count (take p areas) = c.words.ensures.laid.follows p a c.area-area.ensures in
     let words : a.first + a.length ≡ word_count (take (p + 1) areas) =

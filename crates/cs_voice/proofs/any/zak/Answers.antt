@@ -93,15 +93,15 @@ returns-in-ZakGet-clause-does g c = does_op c.requires.act (sym c.as_slice-from.
 
 pub returns-in-ZakPut-clause-does : goal.returns-in-ZakPut-clause-does
 returns-in-ZakPut-clause-does g c = does_op c.requires.act (sym c.as_slice-from.ensures ∙ c.two.ensures)
-    (c.zak_put.ensures.does c.args.opcode c.args.op.now.into (sym c.shape_of.ensures ∙ c.in-ZakPut.is))
+    (c.zak_put.ensures.does c.args.op.now.into c.args.opcode (sym c.shape_of.ensures ∙ c.in-ZakPut.is))
 
 pub returns-in-ZakMix-clause-does : goal.returns-in-ZakMix-clause-does
 returns-in-ZakMix-clause-does g c = does_op c.requires.act (sym c.as_slice-from.ensures ∙ c.two-in-ZakMix.ensures)
-    (c.zak_mix.ensures.does c.args.opcode c.args.op.now.into (sym c.shape_of.ensures ∙ c.in-ZakMix.is))
+    (c.zak_mix.ensures.does c.args.op.now.into c.args.opcode (sym c.shape_of.ensures ∙ c.in-ZakMix.is))
 
 pub returns-in-ZakClear-clause-does : goal.returns-in-ZakClear-clause-does
 returns-in-ZakClear-clause-does g c = does_op c.requires.act (sym c.as_slice-from.ensures ∙ c.two-in-ZakClear.ensures)
-    (c.zak_clear.ensures.does c.args.opcode c.args.op.now.into (sym c.shape_of.ensures ∙ c.in-ZakClear.is))
+    (c.zak_clear.ensures.does c.args.op.now.into c.args.opcode (sym c.shape_of.ensures ∙ c.in-ZakClear.is))
 
 pub unreachable-requires : goal.unreachable-requires
 unreachable-requires g c = not_zak c.shape_of.result

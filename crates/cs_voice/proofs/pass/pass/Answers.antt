@@ -12,7 +12,7 @@ run-passed-requires g c k = (
     c.init-code.result.now,
     sheet_for c.args.note.now c.args.finds.now.at.fields.now,
     refl,
-    sym c.deref.ensures.value,
+    refl,
     can_pass (g.B.Bank.can_get (g.B.Bank.rest c.args.bank.now)) (g.B.Bank.can_set (g.B.Bank.rest c.args.bank.now))
         (length (g.B.Bank.cells c.args.bank.now)) c.args.finds.now c.args.note.now c.args.finds.now.at.fields.now
         c.init-code.result.now c.args.state.now c.init-code.ensures.same c.init-code.ensures.valid c.requires,
@@ -29,7 +29,7 @@ returns-clause-passes g c fields given =
     c.run-passed.new.state after c.run-passed.new.starter.asks.items c.in_ok-refused.refused)
     given
     (c.in_ok-refused.ensures.passes c.args.finds.now c.args.note.now.made.now c.init-code.result.now
-    (sheet_for c.args.note.now c.args.finds.now.at.fields.now) refl refl (sym c.deref.ensures.value)
+    (sheet_for c.args.note.now c.args.finds.now.at.fields.now) refl refl refl
     (can_pass (g.B.Bank.can_get (g.B.Bank.rest c.args.bank.now)) (g.B.Bank.can_set (g.B.Bank.rest c.args.bank.now))
     (length (g.B.Bank.cells c.args.bank.now)) c.args.finds.now c.args.note.now c.args.finds.now.at.fields.now
     c.init-code.result.now c.args.state.now c.init-code.ensures.same c.init-code.ensures.valid c.requires)) in

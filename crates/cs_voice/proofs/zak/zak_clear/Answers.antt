@@ -10,7 +10,7 @@ use Rattle.cs_voice.proofs.Places.{clearing}
 use Rattle.cs_voice.proofs.zak.zak_clear.Goals as goal
 
 pub returns-clause-does : goal.returns-clause-does
-returns-clause-does g c = λ opcode into shaped areas piece stock kinds counts at placed state.
+returns-clause-does g c = λ into opcode shaped areas piece stock kinds counts at placed state.
     let before = cell (g.B.Bank.cells c.args.bank.now) in
     let after = cell (g.B.Bank.cells c.clear_places.new.bank) in
     let f = values c.args.state.now.regs c.args.first in

@@ -16,7 +16,7 @@ use Rattle.cs_voice.proofs.Places.{at_reached, mixed_here, mixing, not_reached, 
 use Rattle.cs_voice.proofs.zak.zak_mix.Goals as goal
 
 pub returns-in-Some-clause-does : goal.returns-in-Some-clause-does
-returns-in-Some-clause-does g c = λ opcode into shaped areas piece stock kinds counts at placed state.
+returns-in-Some-clause-does g c = λ into opcode shaped areas piece stock kinds counts at placed state.
     let before = cell (g.B.Bank.cells c.args.bank.now) in
     let after = cell (g.B.Bank.cells c.mix_row.new.bank) in
     let v = values c.args.state.now.regs c.args.number in
@@ -46,7 +46,7 @@ returns-in-Some-clause-does g c = λ opcode into shaped areas piece stock kinds 
     c.mix_row.ensures.cells))
 
 pub returns-in_default-clause-does : goal.returns-in_default-clause-does
-returns-in_default-clause-does g c = λ opcode into shaped areas piece stock kinds counts at placed state.
+returns-in_default-clause-does g c = λ into opcode shaped areas piece stock kinds counts at placed state.
     let before = cell (g.B.Bank.cells c.args.bank.now) in
     let v = values c.args.state.now.regs c.args.number in
     let w = values c.args.state.now.regs c.args.x in

@@ -24,7 +24,7 @@ write-requires-clause-size g c =
     ∙ ap (cell_count c.args.state.now.regs.ksmps) (sym c.rate.ensures)
 
 pub returns-in-Some-clause-does : goal.returns-in-Some-clause-does
-returns-in-Some-clause-does g c = λ opcode into shaped areas piece stock kinds counts at placed state.
+returns-in-Some-clause-does g c = λ into opcode shaped areas piece stock kinds counts at placed state.
     let before = cell (g.B.Bank.cells c.args.bank.now) in
     let after = cell (g.B.Bank.cells c.write.new.bank) in
     let v = values c.args.state.now.regs c.args.number in
@@ -50,7 +50,7 @@ returns-in-Some-clause-does g c = λ opcode into shaped areas piece stock kinds 
     c.write.ensures.cells)))
 
 pub returns-in_default-clause-does : goal.returns-in_default-clause-does
-returns-in_default-clause-does g c = λ opcode into shaped areas piece stock kinds counts at placed state.
+returns-in_default-clause-does g c = λ into opcode shaped areas piece stock kinds counts at placed state.
     let before = cell (g.B.Bank.cells c.args.bank.now) in
     let v = values c.args.state.now.regs c.args.number in
     let w = values c.args.state.now.regs c.args.x in

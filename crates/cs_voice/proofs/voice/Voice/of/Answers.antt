@@ -7,4 +7,5 @@ pub invariant_of-result : goal.invariant_of-result
 invariant_of-result c =
     subst IsBody (sym c.in_ok-new.ensures.ok)
     (kept c.args.parts.number c.args.parts.age c.args.parts.until c.args.parts.stage c.args.parts.foot.now
-    c.args.parts.code.now c.args.parts.fields.items c.args.parts.state c.requires c.counts.ensures.whole c.len.ensures.whole)
+    c.args.parts.code.now c.args.parts.fields.items c.args.parts.state c.requires c.counts.ensures.whole
+    c.len.ensures.whole)

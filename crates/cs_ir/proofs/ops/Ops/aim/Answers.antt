@@ -1,0 +1,31 @@
+use Rattle.std.proofs.Common.{◌≤◌, ap, subst, sym, arith, length, List, ℕ}
+use Rattle.cs_ir.specs.inner.Laid.{IsNumberOf}
+use Rattle.cs_ir.proofs.Aiming.{aim_none}
+use Rattle.cs_ir.proofs.Laid.{laid_aimed, laid_first, laid_some}
+use Rattle.cs_ir.proofs.ops.Ops.aim.Goals as goal
+
+pub number_of-number-requires-clause-some : goal.number_of-number-requires-clause-some
+number_of-number-requires-clause-some c =
+    rw c.deref.ensures.value
+    (laid_some c.self.inside.stretches.items c.self.inside.begins.items c.self.inside.len c.args.place c.self.invariant
+    (omega arith))
+
+pub number_of-number-requires-clause-from : goal.number_of-number-requires-clause-from
+number_of-number-requires-clause-from c =
+    rw c.deref.ensures.value
+    (laid_first c.self.inside.stretches.items c.self.inside.begins.items c.self.inside.len c.args.place c.self.invariant
+    (omega arith))
+
+pub invariant_of-self : goal.invariant_of-self
+invariant_of-self c =
+    let number : IsNumberOf c.self.inside.begins.items c.self.inside.len c.args.place c.number_of-number.result =
+    subst (λ (l : List ℕ). IsNumberOf l c.self.inside.len c.args.place c.number_of-number.result)
+    c.deref.ensures.value c.number_of-number.ensures in
+    laid_aimed c.self.inside.stretches.items c.self.inside.begins.items c.self.inside.len c.args.place
+    c.number_of-number.result c.index-first.result.now c.args.to c.index_mut.result.now c.aim.new.self c.self.invariant
+    number c.index-first.ensures c.index_mut.ensures.value c.aim.ensures
+
+pub returns-else-place-self : goal.returns-else-place-self
+returns-else-place-self c =
+    let past : length c.args.self.now ≤ c.args.place = omega (arith, ap length c.self.view_is) in
+    sym (aim_none c.args.self.now c.args.place c.args.to past)

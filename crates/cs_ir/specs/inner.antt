@@ -1,0 +1,3 @@
+-- What only clauses of private functions cite: passages in their windows, and how stretches lie.
+pub mod Laid
+pub mod Windows
