@@ -1,10 +1,10 @@
 -- An order, as the words ask for it.
-use Rattle.cs_arguments.specs.Reading.{Asked, Piece, two_files, one_file, demo}
+use Rattle.cs_arguments.specs.Reading.{Asked, AskedPiece, two_files, one_file, demo}
 use Rattle.cs_arguments.specs.declared.order.Order.{Order}
 use Rattle.cs_arguments.specs.declared.order.Source.{Source}
 use Rattle.cs_arguments.specs.declared.order.Source.TheVariants as source
 
-abbrev pub piece_in : Source → Piece
+abbrev pub piece_in : Source → AskedPiece
 piece_in (source.TwoFiles orchestra score) = two_files orchestra.now score.now
 piece_in (source.OneFile csd) = one_file csd.now
 piece_in (source.Demo notes) = demo notes

@@ -17,10 +17,10 @@ Text = List ℕ
 -- ---- what the words ask for
 
 -- where orchestra and score come from
-pub data Piece : Type 0 where
-  two_files : Text → Text → Piece
-  one_file : Text → Piece
-  demo : ℕ → Piece
+pub data AskedPiece : Type 0 where
+  two_files : Text → Text → AskedPiece
+  one_file : Text → AskedPiece
+  demo : ℕ → AskedPiece
 
 pub record Asked : Type 0 where
   pub workers : ℕ
@@ -29,7 +29,7 @@ pub record Asked : Type 0 where
   pub silent : Bool
   pub turns : Bool
   pub pool : Bool
-  pub piece : Piece
+  pub piece : AskedPiece
 
 -- ---- uses
 
@@ -165,7 +165,7 @@ abbrev pub value_of : Text → List Use → Option Text
 value_of key uses = option_map (λ u. u.1) (find (λ u. bytes_eq u.0 key) uses)
 
 -- a demo without names, two names, or one that ends in `.csd`
-abbrev pub piece_of : Option ℕ → Option Text → Option Text → Option Piece
+abbrev pub piece_of : Option ℕ → Option Text → Option Text → Option AskedPiece
 piece_of (Some notes) None None = Some (demo notes)
 piece_of None (Some orc) (Some sco) = Some (two_files orc sco)
 piece_of None (Some csd) None = if ends_with nat_eq csd (codes ".csd") then Some (one_file csd) else None
@@ -176,7 +176,7 @@ width_of true = width.ThreeBytes
 width_of false = width.TwoBytes
 
 -- `-W`, `-s` and `-d` may stand, and change nothing
-abbrev pub asked_of : List Use → Piece → Asked
+abbrev pub asked_of : List Use → AskedPiece → Asked
 asked_of uses piece = record {
   workers = unwrap_or (option_map number_of (value_of (codes "j") uses)) 1;
   sound_file = unwrap_or (value_of (codes "o") uses) (codes "test.wav");

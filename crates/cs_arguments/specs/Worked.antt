@@ -1,10 +1,10 @@
 -- Words whose reading is worked out by hand.
 use Rattle.std.specs.Prelude.{false, List, [], ◌∷◌, codes}
 use Rattle.cs_base.specs.declared.width.SampleWidth.TheVariants as width
-use Rattle.cs_arguments.specs.Reading.{Asked, Piece, Text, two_files}
+use Rattle.cs_arguments.specs.Reading.{Asked, AskedPiece, Text, two_files}
 
 -- a piece by itself: without options and flags
-abbrev pub piece_alone : Piece → Asked
+abbrev pub piece_alone : AskedPiece → Asked
 piece_alone piece = record {
   workers = 1;
   sound_file = codes "test.wav";
@@ -16,7 +16,7 @@ piece_alone piece = record {
 }
 
 -- the files `a` and `b`
-abbrev pub a_and_b : Piece
+abbrev pub a_and_b : AskedPiece
 a_and_b = two_files (codes "a") (codes "b")
 
 -- words that end in the names `a` and `b`

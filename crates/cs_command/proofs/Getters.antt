@@ -6,7 +6,8 @@ use Rattle.std.specs.Str.Parse.{ParsesUnsigned}
 use Rattle.std.proofs.lemmas.Slice.Eq.{bytes_eq-Decides}
 use Rattle.clap.specs.Matches.{ReadsOne, found_of, one_text}
 use Rattle.clap.specs.declared.parser.matches.ArgMatches.{ArgMatches}
-use Rattle.cs_arguments.specs.Reading.{Piece, Text, Use, asked_by, asked_of, has_use, number_of, piece_of, value_of}
+use Rattle.cs_arguments.specs.Reading.{AskedPiece, Text, Use, asked_by, asked_of, has_use, number_of, piece_of}
+use Rattle.cs_arguments.specs.Reading.{value_of}
 use Rattle.cs_arguments.specs.Reading.{width_of}
 use Rattle.cs_arguments.specs.Ranges.{most_workers, most_demo_notes}
 use Rattle.cs_base.specs.declared.width.SampleWidth.{SampleWidth}
@@ -68,7 +69,7 @@ pool_flag = (refl, refl, says_true)
 -- ---- all together
 
 pub all_given : (uses : List Use) (w : ℕ) (f : Text) (wide silent turns pool : Bool) (width : SampleWidth)
-    (piece : Piece)
+    (piece : AskedPiece)
     → w ≡ unwrap_or (option_map number_of (value_of (codes "j") uses)) 1
     → f ≡ unwrap_or (value_of (codes "o") uses) (codes "test.wav")
     → width ≡ width_of wide → wide ≡ has_use (codes "3") uses → silent ≡ has_use (codes "n") uses

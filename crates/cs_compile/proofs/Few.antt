@@ -17,7 +17,7 @@ use Rattle.cs_piece_meaning.specs.Bounded.{asks_in, asks_in_arms, asks_in_stmt}
 use Rattle.cs_typed.specs.TypedTree as typed
 use Rattle.cs_typed.specs.declared.tree.Var.{Var as Variable}
 use Rattle.cs_typing.specs.Calls.{typed_call}
-use Rattle.cs_typing.specs.Known.{Known}
+use Rattle.cs_typing.specs.Known.{KnownHere}
 use Rattle.cs_typing.specs.Statements.{known, known_block, typed_arms, typed_block, typed_statement}
 use Rattle.cs_typing.specs.Typing.{alone, before, body, entered, first_known, from, items, known_item, type_fault}
 use Rattle.cs_typing.specs.Typing.{typed_instruments, typed_of}
@@ -94,23 +94,24 @@ module _ (spaces : Spaces) where
   call_asks r (v ∷ vs) o shape.ChannelClear (typed.value e ∷ args) = omega arith
   call_asks r (v ∷ vs) o shape.ChannelClear (typed.text c ∷ args) = omega arith
 
-  callee_asks : (n : Known) (line : ℕ) (c : Callee) (xs : List (List ℕ)) (args : List tree.Argument)
+  callee_asks : (n : KnownHere) (line : ℕ) (c : Callee) (xs : List (List ℕ)) (args : List tree.Argument)
       → asks_in_stmt (core_stmt spaces (typed_call line n c xs args)) ≤ 1
   callee_asks n line (callee.Opcode o) xs args = call_asks _ _ o (row_of o).shape _
   callee_asks n line (callee.Name name) xs args = omega arith
 
   mutual
-    stmt_asks : (n : Known) (x : tree.Statement) → asks_in_stmt (core_stmt spaces (typed_statement n x)) ≤ size x
+    stmt_asks : (n : KnownHere) (x : tree.Statement) → asks_in_stmt (core_stmt spaces (typed_statement n x)) ≤ size x
     stmt_asks n (tree.set line name e) = omega arith
     stmt_asks n (tree.call line xs c args) = callee_asks n line c xs args
     stmt_asks n (tree.choose line list) = let few = arms_ask n list in omega (arith, few)
 
-    block_asks : (n : Known) (b : tree.Block) → asks_in (core spaces (typed_block n b)) ≤ size_of b
+    block_asks : (n : KnownHere) (b : tree.Block) → asks_in (core spaces (typed_block n b)) ≤ size_of b
     block_asks n tree.no_stmt = omega arith
     block_asks n (tree.andthen x rest) =
         let first = stmt_asks n x in let others = block_asks (known n x) rest in omega (arith, first, others)
 
-    arms_ask : (n : Known) (list : tree.Arms) → asks_in_arms (core_arms spaces (typed_arms n list)) ≤ size_of_arms list
+    arms_ask : (n : KnownHere) (list : tree.Arms)
+        → asks_in_arms (core_arms spaces (typed_arms n list)) ≤ size_of_arms list
     arms_ask n (tree.otherwise b) = block_asks n b
     arms_ask n (tree.arm c b rest) =
         let first = block_asks n b in let others = arms_ask (known_block n b) rest in omega (arith, first, others)
@@ -119,11 +120,11 @@ module _ (spaces : Spaces) where
   abbrev AsksFew : typed.Instrument → Type 0
   AsksFew i = asks_in (core spaces i.body) ≤ most_statements
 
-  typed_ask : (n : Known) (outside : tree.Block) (list : List tree.Instrument) → Each HasFew list
+  typed_ask : (n : KnownHere) (outside : tree.Block) (list : List tree.Instrument) → Each HasFew list
       → Each AsksFew (typed_instruments n (items outside list))
   typed_ask n outside [] few = tt
   typed_ask n outside (i ∷ rest) few =
-      let m : Known = known_block n (before i.line outside) in
+      let m : KnownHere = known_block n (before i.line outside) in
       let asks = block_asks (entered m) i.body in
       let own : size_of i.body ≤ most_statements = few.0 in
       (omega (arith, asks, own), typed_ask (known_item m (body i)) (from i.line outside) rest few.1)

@@ -1,7 +1,6 @@
 -- Voices play on when more tables have been made.
 use Rattle.std.proofs.Common.{◌≡◌, ℕ, ℤ, pos, suc, ◌==◌, ◌&&◌, ◌||◌, Bool, true, false, not, List, [], ◌∷◌, length, map}
-use Rattle.std.proofs.Common.{unsigned_abs, Option, Some, None, if◌then◌else◌, refl, sym, ◌∙◌, ap, arith}
-use Rattle.std.specs.Borrow.{Bor}
+use Rattle.std.proofs.Common.{unsigned_abs, Option, Some, if◌then◌else◌, refl, sym, ◌∙◌, ap, arith}
 use Rattle.std.specs.Int.{is_negative}
 use Rattle.std.specs.Option.{is_some}
 use Rattle.std.proofs.lemmas.Bool.{and_parts}
@@ -29,11 +28,13 @@ as_many [] (c ∷ cs) e = absurd cc
 as_many (t ∷ ts) [] e = absurd cc
 as_many (t ∷ ts) (c ∷ cs) e = let later : map table_of ts ≡ map made cs = cc in ap suc (as_many ts cs later)
 
-first_of : (t : PieceTable) (c : Table) (ts : List PieceTable) (cs : List Table) → map table_of (t ∷ ts) ≡ map made (c ∷ cs)
+first_of : (t : PieceTable) (c : Table) (ts : List PieceTable) (cs : List Table)
+    → map table_of (t ∷ ts) ≡ map made (c ∷ cs)
     → table_of t ≡ made c
 first_of t c ts cs e = cc
 
-later_of : (t : PieceTable) (c : Table) (ts : List PieceTable) (cs : List Table) → map table_of (t ∷ ts) ≡ map made (c ∷ cs)
+later_of : (t : PieceTable) (c : Table) (ts : List PieceTable) (cs : List Table)
+    → map table_of (t ∷ ts) ≡ map made (c ∷ cs)
     → map table_of ts ≡ map made cs
 later_of t c ts cs e = cc
 
@@ -41,7 +42,8 @@ flags_long : (cs : List Table) (ns : List ℕ) → length (flags_of cs ns) ≡ l
 flags_long [] ns = refl
 flags_long (c ∷ cs) ns = ap suc (flags_long cs ns)
 
-pub flags_fit : (ts : List PieceTable) (cs : List Table) (ns : List ℕ) (flags : List Bool) → map table_of ts ≡ map made cs
+pub flags_fit : (ts : List PieceTable) (cs : List Table) (ns : List ℕ) (flags : List Bool)
+    → map table_of ts ≡ map made cs
     → flags ≡ flags_of cs ns
     → length flags ≡ length ts
 flags_fit ts cs ns flags e is = ap length is ∙ flags_long cs ns ∙ sym (as_many ts cs e)

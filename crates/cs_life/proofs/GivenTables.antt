@@ -3,7 +3,7 @@ use Rattle.std.proofs.Common.{◌≡◌, ℕ, ℤ, pos, zero, suc, ◌<◌, ◌=
 use Rattle.std.proofs.Common.{List, [], ◌∷◌, ◌++◌, length, map, slice_index_or, unsigned_abs, Some, None, if◌then◌else◌}
 use Rattle.std.proofs.Common.{refl, sym, subst, ◌∙◌, ap, arith}
 use Rattle.std.specs.Int.{is_negative}
-use Rattle.std.specs.List.{All, AllByRecursion as Each, Contains, filter}
+use Rattle.std.specs.List.{All, AllByRecursion as Each, filter}
 use Rattle.cs_gen.specs.Faults.{table_fault}
 use Rattle.cs_gen.proofs.Places.{accepted}
 use Rattle.cs_meaning.specs.Plain.{Table, find_table}

@@ -1,15 +1,15 @@
 -- One thing after another is done.
 use Rattle.std.proofs.Common.{◌≡◌, ℕ, ℤ, pos, zero, suc, ◌+◌, ◌-◌, ◌<◌, ◌≤◌, ◌==◌, Bool, true, false, cond, List, []}
-use Rattle.std.proofs.Common.{◌∷◌, ◌++◌, length, length-drop, map, take, drop, get_or, get_or-drop, leb, ltb, refl, sym}
+use Rattle.std.proofs.Common.{◌∷◌, ◌++◌, length, length-drop, take, drop, get_or, get_or-drop, leb, ltb, refl, sym}
 use Rattle.std.proofs.Common.{◌∙◌, ap, subst, arith}
-use Rattle.std.specs.List.{All, AllZip, filter}
+use Rattle.std.specs.List.{All, filter}
 use Rattle.std.specs.List.Sorted.{IsPartitionPoint}
 use Rattle.std.proofs.lemmas.Bool.Decides.{nat_tests}
 use Rattle.std.proofs.lemmas.List.{take_all, take_more}
 use Rattle.cs_cells.specs.Areas.{word_count}
 use Rattle.cs_cells.specs.Cells.{Cells}
 use Rattle.cs_piece_meaning.specs.Course.{begins, events_in, still}
-use Rattle.cs_piece_meaning.specs.Moments.{Active, Composition, Moment}
+use Rattle.cs_piece_meaning.specs.Moments.{Composition, Moment}
 use Rattle.cs_piece_meaning.specs.Starts.{act_done, all_done, all_waited, made_table, start_in}
 use Rattle.cs_gen.specs.Points.{points_of}
 use Rattle.cs_piece.specs.Setups.{composition_of}
@@ -17,7 +17,7 @@ use Rattle.cs_tempo.specs.declared.plot.Event.{Event}
 use Rattle.cs_tempo.specs.declared.plot.EventAct.{EventAct}
 use Rattle.cs_tempo.specs.declared.plot.EventAct.TheVariants as act
 use Rattle.cs_voice.specs.VoiceData.{VoiceData}
-use Rattle.cs_life.specs.Standing.{Plays, StandsFor}
+use Rattle.cs_life.specs.Standing.{StandsFor}
 use Rattle.cs_life.specs.declared.life.Life.{Life}
 use Rattle.cs_life.specs.inner.Doing.{CanBeDone, CanBeMade, CanGoOn, HasGoneOn}
 

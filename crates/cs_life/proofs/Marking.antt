@@ -54,7 +54,8 @@ at_miss : (b : Bool) (t : PieceTable) (o : Bool) → b ≡ false → (if b then 
 at_miss true t o e = absurd cc
 at_miss false t o e = refl
 
-pub first_hit : (n : ℕ) (ts : List PieceTable) (k : ℕ) (t : PieceTable) → k < length ts → t ≡ get_or ts k t → t.number ≡ n
+pub first_hit : (n : ℕ) (ts : List PieceTable) (k : ℕ) (t : PieceTable) → k < length ts → t ≡ get_or ts k t
+    → t.number ≡ n
     → has_cells (drop k ts) n ≡ not (is_some t.points)
 first_hit n [] k t h is e = absurd (omega arith)
 first_hit n (x ∷ ts) zero t h is e =
@@ -62,11 +63,13 @@ first_hit n (x ∷ ts) zero t h is e =
     ∙ ap (λ (y : PieceTable). not (is_some y.points)) (sym is)
 first_hit n (x ∷ ts) (suc k) t h is e = first_hit n ts k t (omega arith) is e
 
-pub first_miss : (n : ℕ) (ts : List PieceTable) (k : ℕ) (t : PieceTable) → k < length ts → t ≡ get_or ts k t → t.number ≢ n
+pub first_miss : (n : ℕ) (ts : List PieceTable) (k : ℕ) (t : PieceTable) → k < length ts → t ≡ get_or ts k t
+    → t.number ≢ n
     → has_cells (drop k ts) n ≡ has_cells (drop (k + 1) ts) n
 first_miss n [] k t h is e = absurd (omega arith)
 first_miss n (x ∷ ts) zero t h is e =
-    at_miss (x.number == n) x (has_cells ts n) (miss x.number n (λ same. e (ap (λ (y : PieceTable). y.number) is ∙ same)))
+    at_miss (x.number == n) x (has_cells ts n)
+    (miss x.number n (λ same. e (ap (λ (y : PieceTable). y.number) is ∙ same)))
 first_miss n (x ∷ ts) (suc k) t h is e =
     let more : suc (k + 1) ≡ suc k + 1 = omega arith in
     first_miss n ts k t (omega arith) is e ∙ ap (λ j. has_cells (drop j (x ∷ ts)) n) more

@@ -30,7 +30,8 @@ foot_of c stage flags areas zones v a e f p =
 pub feet_of_notes : (c : Composition) (stage : Stage) (flags : List Bool) (areas zones : List Area)
     (voices : List VoiceData) (active : List Active)
     → stage.layout.now ≡ areas → stage.zones.now ≡ zones → AllZip (Plays c stage flags) voices active
-    → AllZip (λ (a : Active) (f : Footprint). IsFootOf areas zones a.body f) active (map (λ (v : VoiceData). v.foot) voices)
+    → AllZip (λ (a : Active) (f : Footprint). IsFootOf areas zones a.body f) active
+    (map (λ (v : VoiceData). v.foot) voices)
 feet_of_notes c stage flags areas zones [] [] e f p = tt
 feet_of_notes c stage flags areas zones [] (a ∷ rest) e f p = absurd p
 feet_of_notes c stage flags areas zones (v ∷ voices) [] e f p = absurd p

@@ -89,7 +89,8 @@ impl<'t> Stand<'t> {
     fn find_course(&mut self, alloc: Global) -> Result<(), OutOfMemory>
         requires at { (s : SetupData) × (m : Moment) × IsAt s self.old m }
         ensures at { OnOk result ((s : SetupData) (m : Moment) → IsAt s self.old m → IsAt s self.new m) }
-        ensures feet { OnOk result (map (λ (v : VoiceData). v.foot) self.new.voices.items ≡ self.new.course.feet.items) }
+        ensures feet { OnOk result
+            (map (λ (v : VoiceData). v.foot) self.new.voices.items ≡ self.new.course.feet.items) }
     {
         if self.current {
             return Ok(());

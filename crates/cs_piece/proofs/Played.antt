@@ -201,12 +201,12 @@ module _ (s : Sheet) (body : typed.Block) (init perf : Code) (h : IsSheetOf s bo
     stock = stock;
     kinds = kinds_of units;
     placed = h.placed;
-    init_uses = ops_named stock s.piece.head.nchnls units (HasArea s.areas) init.counts (length init.ops.items) 0 s.init
+    init_uses = ops_named stock s.piece.head.nchnls units (HasArea s.areas) init.counts (length init.ops) 0 s.init
         init_named
-        (ap (fine_from init.counts (length init.ops.items) 0) h.init_ops ∙ h.code.runs.init_valid) h.init_areas;
-    perf_uses = ops_named stock s.piece.head.nchnls units (IsUsed s) perf.counts (length perf.ops.items) 0 s.perf
+        (ap (fine_from init.counts (length init.ops) 0) h.init_ops ∙ h.code.runs.init_valid) h.init_areas;
+    perf_uses = ops_named stock s.piece.head.nchnls units (IsUsed s) perf.counts (length perf.ops) 0 s.perf
         perf_named
-        (ap (fine_from perf.counts (length perf.ops.items) 0) h.perf_ops ∙ h.code.runs.perf_valid)
+        (ap (fine_from perf.counts (length perf.ops) 0) h.perf_ops ∙ h.code.runs.perf_valid)
         (all_with (HasArea s.areas) (IsUsed s) (ops_use stock s.perf) used h.perf_areas);
     perf_writes = ops_written stock (IsWritten s) s.perf (all_from (IsWritten s) (ops_write stock s.perf) written);
     init_channels = channels_there s.piece.head.nchnls units s.init init_named;
@@ -217,7 +217,7 @@ module _ (s : Sheet) (body : typed.Block) (init perf : Code) (h : IsSheetOf s bo
   means_so : (piece : Piece) → MeansIn (plain piece) h.code.means.plan (core s.piece.spaces body) s.init s.perf
   means_so piece =
       subst (λ ops. MeansIn (plain piece) h.code.means.plan (core s.piece.spaces body) ops s.perf) (sym h.init_ops)
-      (subst (λ ops. MeansIn (plain piece) h.code.means.plan (core s.piece.spaces body) init.ops.items ops)
+      (subst (λ ops. MeansIn (plain piece) h.code.means.plan (core s.piece.spaces body) init.ops ops)
       (sym h.perf_ops) (h.code.means.each piece))
 
   pub performed_from : Perform h.code.means.plan (kinds_of units) s (core s.piece.spaces body)

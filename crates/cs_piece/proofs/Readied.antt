@@ -169,9 +169,9 @@ module _ (c : SetupData) (stage : Stage) (is_stage : IsStageOf (composition_of c
     perf_ops = refl;
     generators = refl;
     placed = is_stage.placed flags fields long;
-    init_areas = all_there (HasArea stage.layout.now) (ops_use (stock_of stage.layout.now) i.init.ops.items)
+    init_areas = all_there (HasArea stage.layout.now) (ops_use (stock_of stage.layout.now) i.init.ops)
         (λ g k. begins_there stage.spaces g ((code.touches.begins may_use (stock_of stage.layout.now) g).0 k));
-    perf_areas = all_there (HasArea stage.layout.now) (ops_use (stock_of stage.layout.now) i.perf.ops.items)
+    perf_areas = all_there (HasArea stage.layout.now) (ops_use (stock_of stage.layout.now) i.perf.ops)
         (λ g k. uses_there stage.spaces g ((code.touches.cycles may_use (stock_of stage.layout.now) g).0 k));
     uses = feet.uses;
     writes = feet.writes;
@@ -211,10 +211,10 @@ module _ (c : SetupData) (stage : Stage) (is_stage : IsStageOf (composition_of c
         there = all_there (HasArea areas) (block_uses (stock_of areas) statements)
             (uses_there (typed.orchestra c.orchestra).spaces);
         uses = λ a. feet.uses a
-            ∙ ap (λ places. covers areas places a) (places_alike areas (ops_use (stock_of areas) i.perf.ops.items)
+            ∙ ap (λ places. covers areas places a) (places_alike areas (ops_use (stock_of areas) i.perf.ops)
             (block_uses (stock_of areas) statements) (code.touches.cycles may_use (stock_of areas)));
         writes = λ a. feet.writes a
-            ∙ ap (λ places. covers areas places a) (places_alike areas (ops_write (stock_of areas) i.perf.ops.items)
+            ∙ ap (λ places. covers areas places a) (places_alike areas (ops_write (stock_of areas) i.perf.ops)
             (block_writes (stock_of areas) statements) (code.touches.cycles may_write (stock_of areas)));
       }
 

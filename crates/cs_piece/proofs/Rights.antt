@@ -1,10 +1,9 @@
 -- Which tables are found by the codes and the events is what the definitions say.
 use Rattle.std.proofs.Common.{◌≡◌, ℕ, zero, suc, ◌==◌, ◌<◌, ◌≤◌, Bool, true, false, not, ◌&&◌, ◌||◌, List, [], ◌∷◌}
 use Rattle.std.proofs.Common.{◌++◌, map, cond, refl, sym, ◌∙◌, ap, arith}
-use Rattle.std.specs.List.{All, AllByRecursion, AllZip, filter, flat_map, list_any}
+use Rattle.std.specs.List.{All, AllByRecursion, AllZip, filter, list_any}
 use Rattle.std.proofs.lemmas.Bool.{ne_eqb}
 use Rattle.std.proofs.lemmas.List.Elements.{All-head, All-tail}
-use Rattle.std.proofs.lemmas.List.Folds.{list_any-append}
 use Rattle.std.proofs.lemmas.List.Sorted.{list_any-IsPermutation}
 use Rattle.cs_base.specs.Rates.{same_res}
 use Rattle.cs_base.specs.declared.resource.Res.TheVariants as res
@@ -21,6 +20,7 @@ use Rattle.cs_tempo.specs.declared.plot.EventAct.{EventAct}
 use Rattle.cs_tempo.specs.declared.plot.EventAct.TheVariants as act
 use Rattle.cs_typed.specs.TypedTree as typed
 use Rattle.cs_rwset.proofs.Placed.{among_alike}
+use Rattle.cs_piece.proofs.Marks.{any_of_parts}
 use Rattle.cs_piece.specs.Tables.{Given, firsts, given_by, given_in, is_frozen, may_be_written, only, stores_into}
 use Rattle.cs_piece.specs.Tables.{table_given, table_in, times_given}
 use Rattle.cs_piece.specs.declared.tables.GivenTable.{GivenTable}
@@ -60,12 +60,6 @@ right_firsts (g ∷ gs) h =
     (h.0, right_filter (λ (x : Given). not (x.number == g.number)) (firsts gs) (right_firsts gs h.1))
 
 -- ops that may write a table
-any_of_parts : {X Y : Type 0} (p : Y → Bool) (f : X → List Y) (xs : List X)
-    → list_any (λ x. list_any p (f x)) xs ≡ list_any p (flat_map f xs)
-any_of_parts p f [] = refl
-any_of_parts p f (x ∷ xs) =
-    ap (λ b. list_any p (f x) || b) (any_of_parts p f xs) ∙ sym (list_any-append p (f x) (flat_map f xs))
-
 stores_as : (n : ℕ) (ops : List Op) → ops_store n ops ≡ list_any (same_res (res.Table n)) (ops_write (only n) ops)
 stores_as n ops = any_of_parts (same_res (res.Table n)) (λ (o : Op). act_writes (only n) o.act) ops
 
@@ -73,11 +67,11 @@ store_alike : (n : ℕ) (spaces : Spaces) (channels : ℕ) (p : ℕ × typed.Blo
     → IsNumberedCode spaces channels p i
     → codes_store n i ≡ stores_into n (core spaces p.1)
 store_alike n spaces channels p i h =
-    ap (λ b. b || ops_store n i.perf.ops.items) (stores_as n i.init.ops.items
-    ∙ among_alike (ops_write (only n) i.init.ops.items) (block_begin_writes (only n) (core spaces p.1))
+    ap (λ b. b || ops_store n i.perf.ops) (stores_as n i.init.ops
+    ∙ among_alike (ops_write (only n) i.init.ops) (block_begin_writes (only n) (core spaces p.1))
     (h.1.touches.begins may_write (only n)) (res.Table n))
-    ∙ ap (λ b. first || b) (stores_as n i.perf.ops.items
-    ∙ among_alike (ops_write (only n) i.perf.ops.items) (block_writes (only n) (core spaces p.1))
+    ∙ ap (λ b. first || b) (stores_as n i.perf.ops
+    ∙ among_alike (ops_write (only n) i.perf.ops) (block_writes (only n) (core spaces p.1))
     (h.1.touches.cycles may_write (only n)) (res.Table n))
   where
     first : Bool

@@ -1,6 +1,7 @@
 -- The stage of a setup: its tables are those of the composition, and what its notes share is placed in its layout.
 use Rattle.std.proofs.Common.{◌≡◌, ℕ, ℤ, zero, suc, ◌<◌, ◌≤◌, ◌==◌, ◌&&◌, ◌||◌, Bool, true, false, not, List, [], ◌∷◌}
-use Rattle.std.proofs.Common.{get_or, length, map, pos, slice_get, unsigned_abs, Option, Some, None, cond, if◌then◌else◌, refl, sym}
+use Rattle.std.proofs.Common.{get_or, length, map, pos, slice_get, unsigned_abs, Option, Some, None, cond}
+use Rattle.std.proofs.Common.{if◌then◌else◌, refl, sym}
 use Rattle.std.proofs.Common.{◌∙◌, ap, subst, arith}
 use Rattle.std.specs.Int.{is_negative}
 use Rattle.std.specs.List.{All, AllByRecursion, filter, list_any}
@@ -336,7 +337,8 @@ module _ (s : SetupData) (h : IsSetup s) (stage : Stage) (head : stage.head.now 
     some = some_cells stage.layout.now (stock_of stage.layout.now)
         (piece_at stage (map (λ t. false) stage.tables.now) [])
         (placed (map (λ t. false) stage.tables.now) [] (length-map stage.tables.now (λ t. false)));
-    zones = subst (λ areas. AreZones areas stage.zones.now) (sym laid) (subst (AreZones s.layout) (sym zoned) h.zones_are);
+    zones = subst (λ areas. AreZones areas stage.zones.now) (sym laid)
+        (subst (AreZones s.layout) (sym zoned) h.zones_are);
     placed = λ flags fields long. placed flags fields long;
     can_be_played = λ flags long. can_be_played flags;
   }

@@ -63,7 +63,8 @@ pub record IsSetup (s : SetupData) : Type 0 where
   pub instruments : AreInstrumentsOf (typed.orchestra s.orchestra) s.lowered.instruments
   pub zones_are : AreZones s.layout s.zones
   pub zero_touches : IsFootOver s.layout s.zones s.lowered.zero.perf s.zero_foot
-  pub touch : AllZip (λ (i : Numbered) (foot : Footprint). IsFootOver s.layout s.zones i.perf foot) s.lowered.instruments
+  pub touch : AllZip (λ (i : Numbered) (foot : Footprint). IsFootOver s.layout s.zones i.perf foot)
+      s.lowered.instruments
       s.feet
 
 -- what a setup performs

@@ -28,8 +28,8 @@ kinds_of units u = kind_of (slice_get units u)
 -- its area, and the footprint covers the cells of those of the second code.
 pub record IsSheetOf (s : Sheet) (body : typed.Block) (init perf : Code) : Type 0 where
   pub code : IsCodeOf s.piece.spaces s.piece.head.nchnls body init perf
-  pub init_ops : s.init ≡ init.ops.items
-  pub perf_ops : s.perf ≡ perf.ops.items
+  pub init_ops : s.init ≡ init.ops
+  pub perf_ops : s.perf ≡ perf.ops
   pub generators : s.piece.generators ≡ the_generators (pace_of s.piece.head)
   pub placed : IsPlaced s.areas (stock_of s.areas) s.piece
   pub init_areas : AreNamed (HasArea s.areas) (ops_use (stock_of s.areas) s.init)

@@ -52,9 +52,27 @@ impl Model for Setup {
 
     ghost coded = { Prim.hlevel (codes, e.the_row.coded) };
 
-    ghost view = { λ s. record { orchestra = s.orchestra; plot = s.plot; tables = s.tables.items; layout = s.layout; lowered = s.lowered; zones = s.zoned.zones; zero_foot = s.zoned.outside; feet = s.zoned.feet.items } };
+    ghost view = { λ s. record {
+      orchestra = s.orchestra;
+      plot = s.plot;
+      tables = s.tables.items;
+      layout = s.layout;
+      lowered = s.lowered;
+      zones = s.zoned.zones;
+      zero_foot = s.zoned.outside;
+      feet = s.zoned.feet.items;
+    } };
 
-    ghost invariant = { λ s. IsSetup (record { orchestra = s.orchestra; plot = s.plot; tables = s.tables.items; layout = s.layout; lowered = s.lowered; zones = s.zoned.zones; zero_foot = s.zoned.outside; feet = s.zoned.feet.items }) };
+    ghost invariant = { λ s. IsSetup (record {
+      orchestra = s.orchestra;
+      plot = s.plot;
+      tables = s.tables.items;
+      layout = s.layout;
+      lowered = s.lowered;
+      zones = s.zoned.zones;
+      zero_foot = s.zoned.outside;
+      feet = s.zoned.feet.items;
+    }) };
 }
 
 /// The tables of a piece, and where its cells are.
@@ -141,7 +159,7 @@ fn made_of(alloc: Global, orchestra: &TypedOrc, plot: &Plot) -> Result<Made, Or<
     requires distinct { IsDistinct eqb (all_numbers (typed.orchestra orchestra.now).instrs) }
     requires performable { IsPerformable orchestra.now.head plot.now }
     ensures outside { IfOk result (λ m. IsCodeOf (typed.orchestra orchestra.now).spaces orchestra.now.head.nchnls
-        (typed.block orchestra.now.zero.items) m.lowered.zero.init m.lowered.zero.perf) }
+        (typed.orchestra orchestra.now).zero m.lowered.zero.init m.lowered.zero.perf) }
     ensures instruments { IfOk result (λ m. AreInstrumentsOf (typed.orchestra orchestra.now) m.lowered.instruments) }
     ensures tables { IfOk result (λ m. map table_of m.laid.ground.tables.items
         ≡ tables_in (typed.orchestra orchestra.now) plot.now.events) }

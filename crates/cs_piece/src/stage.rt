@@ -78,7 +78,8 @@ impl Setup {
     /// What stands outside of instruments, with its footprint.
     pub fn outside(&self) -> Playable<'_>
         ensures { (stage : Stage) → IsStageOf (composition_of self.now) stage → stage.layout.now ≡ self.now.layout
-            → stage.zones.now ≡ self.now.zones → IsInstrumentOf stage result.instrument.now result.foot.now (composition_of self.now).outside }
+            → stage.zones.now ≡ self.now.zones
+            → IsInstrumentOf stage result.instrument.now result.foot.now (composition_of self.now).outside }
     {
         notes_touch_what_there_is();
         Playable {

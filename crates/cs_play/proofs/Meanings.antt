@@ -5,7 +5,7 @@ use Rattle.cs_edge.specs.Files.{ShelfTold}
 use Rattle.cs_edge.specs.Told.{Rose}
 use Rattle.cs_edge.specs.declared.files.NamedBytes.{NamedBytes}
 use Rattle.cs_play.specs.Alike.{AreTexts, TellAlike}
-use Rattle.cs_arguments.specs.Reading.{Piece, two_files, one_file, demo}
+use Rattle.cs_arguments.specs.Reading.{AskedPiece, two_files, one_file, demo}
 use Rattle.cs_source.specs.Loaded.{CannotRead, SourceMeans}
 use Rattle.cs_source.specs.Meaning.{Mean}
 use Rattle.cs_source.specs.Texts.{Texts, both, csd, demo_notes, Fit, Have, HaveWhereTold, Lack, LackWhereTold}
@@ -18,10 +18,10 @@ OneMeaning = (width : SampleWidth) (t : Texts) (r s : Result Composition Refused
     → r ≡ s
 
 abbrev pub OnePair : Type 0
-OnePair = (files : List NamedBytes) (piece : Piece) (t u : Texts) → Have files piece t → Have files piece u → t ≡ u
+OnePair = (files : List NamedBytes) (piece : AskedPiece) (t u : Texts) → Have files piece t → Have files piece u → t ≡ u
 
 abbrev pub NoneLacking : Type 0
-NoneLacking = (files : List NamedBytes) (piece : Piece) (t : Texts) (name : List ℕ) → Lack files piece name
+NoneLacking = (files : List NamedBytes) (piece : AskedPiece) (t : Texts) (name : List ℕ) → Lack files piece name
     → Have files piece t → ⊥
 
 demo_texts : (n : ℕ) (t : Texts) → Fit (demo n) t → t ≡ demo_notes n
@@ -30,7 +30,7 @@ demo_texts n (csd a) f = absurd f
 demo_texts n (demo_notes m) f = ap demo_notes (sym f)
 
 -- the texts that are known are those of the source
-same_texts : OnePair → (files : Option (List NamedBytes)) (piece : Piece) (t u : Texts) → AreTexts files piece t
+same_texts : OnePair → (files : Option (List NamedBytes)) (piece : AskedPiece) (t u : Texts) → AreTexts files piece t
     → Fit piece u
     → HaveWhereTold files piece u → t ≡ u
 same_texts one files (demo n) t u known fit have = known ∙ sym (demo_texts n u fit)
@@ -41,20 +41,20 @@ same_texts one (Some files) (one_file name) t u known fit have = one files (one_
 
 -- so they mean what the source means
 pub known_means : OnePair
-    → (told : ShelfTold) (width : SampleWidth) (piece : Piece) (t : Texts) (r : Result Composition Refused)
+    → (told : ShelfTold) (width : SampleWidth) (piece : AskedPiece) (t : Texts) (r : Result Composition Refused)
     → AreTexts told.files piece t → SourceMeans told width piece r → Mean width t r
 known_means pair told width piece t r known source =
     let P : Texts → Type 0 = λ u. Mean width u r in
     subst P (sym (same_texts pair told.files piece t source.texts known source.fit source.have)) source.mean
 
 pub source_means : OneMeaning → OnePair
-    → (told : ShelfTold) (width : SampleWidth) (piece : Piece) (t : Texts) (r s : Result Composition Refused)
+    → (told : ShelfTold) (width : SampleWidth) (piece : AskedPiece) (t : Texts) (r s : Result Composition Refused)
     → AreTexts told.files piece t → Mean width t r → SourceMeans told width piece s → r ≡ s
 source_means meaning pair told width piece t r s known mean source =
     meaning width t r s mean (known_means pair told width piece t s known source)
 
 -- and none of them is lacking
-known_lack : NoneLacking → (files : Option (List NamedBytes)) (piece : Piece) (t : Texts) (name : List ℕ)
+known_lack : NoneLacking → (files : Option (List NamedBytes)) (piece : AskedPiece) (t : Texts) (name : List ℕ)
     → AreTexts files piece t
     → LackWhereTold files piece name → ⊥
 known_lack none None piece t name known lack = absurd lack
@@ -63,13 +63,13 @@ known_lack none (Some files) (two_files orc sco) t name known lack = none files 
 known_lack none (Some files) (one_file csd_name) t name known lack = none files (one_file csd_name) t name lack known
 
 -- so that a name can't be read only where the shelf failed
-pub known_unread : NoneLacking → (told now : ShelfTold) (piece : Piece) (t : Texts) (name : List ℕ)
+pub known_unread : NoneLacking → (told now : ShelfTold) (piece : AskedPiece) (t : Texts) (name : List ℕ)
     → AreTexts told.files piece t
     → CannotRead told now piece name → Rose told.faults now.faults
 known_unread none told now piece t name known unread =
     ⊎_elim (λ rose. rose) (λ lack. absurd (known_lack none told.files piece t name known lack)) unread.cause
 
-have_lack : NoneLacking → (files : Option (List NamedBytes)) (piece : Piece) (t : Texts) (name : List ℕ)
+have_lack : NoneLacking → (files : Option (List NamedBytes)) (piece : AskedPiece) (t : Texts) (name : List ℕ)
     → HaveWhereTold files piece t
     → LackWhereTold files piece name → ⊥
 have_lack none None piece t name have lack = lack
@@ -77,13 +77,13 @@ have_lack none (Some files) piece t name have lack = none files piece t name lac
 
 -- texts of a source aren't lacking
 pub source_lacks : NoneLacking
-    → (told : ShelfTold) (width : SampleWidth) (piece : Piece) (r : Result Composition Refused) (name : List ℕ)
+    → (told : ShelfTold) (width : SampleWidth) (piece : AskedPiece) (r : Result Composition Refused) (name : List ℕ)
     → SourceMeans told width piece r → LackWhereTold told.files piece name → ⊥
 source_lacks none told width piece r name source lack =
     have_lack none told.files piece source.texts name source.have lack
 
 -- two sources that tell alike have the same texts
-alike_texts : OnePair → (a b : Option (List NamedBytes)) (piece : Piece) (t u : Texts) → TellAlike piece a b
+alike_texts : OnePair → (a b : Option (List NamedBytes)) (piece : AskedPiece) (t u : Texts) → TellAlike piece a b
     → Fit piece t → Fit piece u
     → HaveWhereTold a piece t → HaveWhereTold b piece u → t ≡ u
 alike_texts one a b (demo n) t u told fit fit' have have' = demo_texts n t fit ∙ sym (demo_texts n u fit')
@@ -93,7 +93,7 @@ alike_texts one a b (one_file name) t u told fit fit' have have' =
     one told.0 (one_file name) t u (rw told.1 at have) (rw told.2 at have')
 
 pub alike_means : OneMeaning → OnePair
-    → (told told' : ShelfTold) (width : SampleWidth) (piece : Piece) (r s : Result Composition Refused)
+    → (told told' : ShelfTold) (width : SampleWidth) (piece : AskedPiece) (r s : Result Composition Refused)
     → TellAlike piece told.files told'.files → SourceMeans told width piece r → SourceMeans told' width piece s → r ≡ s
 alike_means meaning pair told told' width piece r s alike source source' =
     let P : Texts → Type 0 = λ u. Mean width u r in

@@ -20,7 +20,7 @@ use Rattle.cs_play.specs.Scene.{Scene, Sight}
 use Rattle.cs_report.specs.Status.{refusal}
 use Rattle.cs_report.specs.declared.status.Status.{Status}
 use Rattle.cs_report.specs.declared.status.Status.TheVariants as status
-use Rattle.cs_arguments.specs.Reading.{Asked, Piece, Text, demo, one_file, reading, two_files}
+use Rattle.cs_arguments.specs.Reading.{Asked, AskedPiece, Text, demo, one_file, reading, two_files}
 use Rattle.cs_source.specs.Loaded.{CannotRead, SourceMeans}
 use Rattle.cs_source.specs.Texts.{LackWhereTold}
 use Rattle.cs_csd.specs.declared.refused.Refused.{Refused}
@@ -77,7 +77,7 @@ means_as : (told : ShelfTold) (a b : Asked) (r : Result Composition Refused) →
     → SourceMeans told b.width b.piece r
     → SourceMeans told a.width a.piece r
 means_as told a b r alike means =
-    let Q : Piece → Type 0 = λ l. SourceMeans told b.width l r in
+    let Q : AskedPiece → Type 0 = λ l. SourceMeans told b.width l r in
     let W : SampleWidth → Type 0 = λ w. SourceMeans told w a.piece r in
     subst W (sym alike.width) (subst Q (sym alike.piece) means)
 
@@ -173,14 +173,14 @@ module _ {F K T B C : Type 0} (see : Sight F K T B C) (words : List Text) (asked
   ended_for s m (by_memory is) = absurd (m is)
 
 -- what one of two shelves lacks that tell alike the other lacks
-lack_there : (piece : Piece) (a b : Option (List NamedBytes)) (name : List ℕ) → TellAlike piece a b
+lack_there : (piece : AskedPiece) (a b : Option (List NamedBytes)) (name : List ℕ) → TellAlike piece a b
     → LackWhereTold b piece name → LackWhereTold a piece name
 lack_there (demo n) a None name told lack = absurd lack
 lack_there (demo n) a (Some files) name told lack = absurd lack
 lack_there (two_files orc sco) a b name told lack = rw told.1 (rw told.2 at lack)
 lack_there (one_file csd) a b name told lack = rw told.1 (rw told.2 at lack)
 
-lack_here : (piece : Piece) (a b : Option (List NamedBytes)) (name : List ℕ) → TellAlike piece a b
+lack_here : (piece : AskedPiece) (a b : Option (List NamedBytes)) (name : List ℕ) → TellAlike piece a b
     → LackWhereTold a piece name → LackWhereTold b piece name
 lack_here (demo n) None b name told lack = absurd lack
 lack_here (demo n) (Some files) b name told lack = absurd lack
@@ -227,7 +227,7 @@ as_asked : (told : ShelfTold) (a b : Asked) (s : Status) → AskAlike a b → En
 as_asked told a b s alike (sounding c e h) = sounding c e (means_as told a b (Ok c) alike h)
 as_asked told a b s alike (refusing r e h) = refusing r e (means_as told a b (Err r) alike h)
 as_asked told a b s alike (missing name e h) =
-    missing name e (subst (λ (l : Piece). LackWhereTold told.files l name) (sym alike.piece) h)
+    missing name e (subst (λ (l : AskedPiece). LackWhereTold told.files l name) (sym alike.piece) h)
 
 module _ {F K T B C F' K' T' B' C' : Type 0} (see : Sight F K T B C) (see' : Sight F' K' T' B' C') where
   pub end_alike : OneMeaning → OnePair → NoneLacking

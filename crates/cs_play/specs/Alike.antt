@@ -7,12 +7,12 @@ use Rattle.cs_edge.specs.declared.files.NamedBytes.{NamedBytes}
 use Rattle.cs_play.specs.Endings.{WasPerformed, report_in}
 use Rattle.cs_play.specs.Report.{meter_lines}
 use Rattle.cs_play.specs.Scene.{Scene, Sight}
-use Rattle.cs_arguments.specs.Reading.{Asked, Piece, demo}
+use Rattle.cs_arguments.specs.Reading.{Asked, AskedPiece, demo}
 use Rattle.cs_source.specs.Loaded.{SourceMeans}
 use Rattle.cs_source.specs.Texts.{Texts, Have, demo_notes}
 
 -- The texts of a piece: those of the demo, or those that files have which are told.
-abbrev pub AreTexts : Option (List NamedBytes) → Piece → Texts → Type 0
+abbrev pub AreTexts : Option (List NamedBytes) → AskedPiece → Texts → Type 0
 AreTexts files (demo n) texts = texts ≡ demo_notes n
 AreTexts None piece texts = ⊥
 AreTexts (Some files) piece texts = Have files piece texts
@@ -24,7 +24,7 @@ pub record AskAlike (a b : Asked) : Type 0 where
   pub width : a.width ≡ b.width
 
 -- Two shelves tell the same files. For the demo they may tell what they want.
-abbrev pub TellAlike : Piece → Option (List NamedBytes) → Option (List NamedBytes) → Type 0
+abbrev pub TellAlike : AskedPiece → Option (List NamedBytes) → Option (List NamedBytes) → Type 0
 TellAlike (demo n) a b = ⊤
 TellAlike piece a b = (files : List NamedBytes) × (a ≡ Some files) × (b ≡ Some files)
 

@@ -7,7 +7,7 @@ ghost use Rattle.cs_report.specs.Report.{counts_in, line_room};
 use crate::player::Played;
 use cs_edge::{Sink, Tap};
 use cs_perform::{Outcome, PlayFault};
-use cs_report::{Counts, Status, report, say_end};
+use cs_report::{PerformanceCounts, Status, report, say_end};
 
 /// Writes the report of a performance, with the lines of these meters, or the line that says why there is none; where
 /// there was no piece, that has been said.
@@ -33,10 +33,10 @@ fn reported<T: Sink>(talk: &mut T, outcome: &Outcome, taps: &[Box<dyn Tap>]) -> 
     }
 }
 
-fn counts_of(outcome: &Outcome) -> Counts
+fn counts_of(outcome: &Outcome) -> PerformanceCounts
     ensures { result ≡ counts_told outcome.now }
 {
-    Counts {
+    PerformanceCounts {
         frames: outcome.frames,
         cycles: outcome.cycles,
         started: outcome.started,

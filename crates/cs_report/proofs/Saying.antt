@@ -17,7 +17,7 @@ use Rattle.cs_report.specs.declared.status.Status.{Status}
 use Rattle.std.specs.Prelude.{Result, OnOk, OnErr}
 use Rattle.cs_edge.specs.declared.moves.Failed.{Failed}
 use Rattle.cs_report.specs.Report.{count_lines, counts_in}
-use Rattle.cs_report.specs.declared.counts.Counts.{Counts}
+use Rattle.cs_report.specs.declared.counts.PerformanceCounts.{PerformanceCounts}
 use Rattle.cs_report.specs.Talk.{joined, Says, SaysPart, fault_message, limit_message, message_of}
 
 all_twice : (move : Move) (x y : List Move) → AreAll move x → AreAll move y → AreAll move (x ++ y)
@@ -151,7 +151,8 @@ five_lines : (a b c d e blank f g h i j feed : List ℕ)
 five_lines a b c d e blank f g h i j feed = simp append_assoc
 
 -- the counts, of which five pieces are numerals
-pub counts_are : (o : Counts) (f c s n r : List ℕ) → f ≡ decimal o.frames → c ≡ decimal o.cycles → s ≡ decimal o.started
+pub counts_are : (o : PerformanceCounts) (f c s n r : List ℕ) → f ≡ decimal o.frames → c ≡ decimal o.cycles
+    → s ≡ decimal o.started
     → n ≡ decimal o.not_started → r ≡ decimal o.out_of_range
     → joined (codes "frames " ∷ f ∷ codes "\ncycles " ∷ c ∷ codes "\nnotes " ∷ s ∷ codes "\nnot started " ∷ n
     ∷ codes "\nout of range " ∷ r ∷ codes "\n" ∷ [])

@@ -1,6 +1,6 @@
 -- The report of a performance: five counts and the line of each meter.
 use Rattle.std.specs.Prelude.{ℕ, List, ◌++◌, codes, decimal}
-use Rattle.cs_report.specs.declared.counts.Counts.{Counts}
+use Rattle.cs_report.specs.declared.counts.PerformanceCounts.{PerformanceCounts}
 
 -- the room that a meter has for its line, in bytes
 abbrev pub line_room : ℕ
@@ -20,5 +20,5 @@ count_lines frames cycles started not_started out_of_range =
     ++ count_line (codes "out of range") out_of_range
 
 -- those of these counts
-abbrev pub counts_in : Counts → List ℕ
+abbrev pub counts_in : PerformanceCounts → List ℕ
 counts_in c = count_lines c.frames c.cycles c.started c.not_started c.out_of_range

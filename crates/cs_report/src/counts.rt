@@ -11,7 +11,7 @@ use itoa::Buffer;
 
 /// The counts of a performance.
 #[derive(Clone, Copy)]
-pub struct Counts {
+pub struct PerformanceCounts {
     /// How many frames there are, each of which has a value a channel.
     pub frames: u32,
     /// How many control cycles.
@@ -27,7 +27,7 @@ pub struct Counts {
 /// Writes the counts of a performance, the line of each meter, and the lines of turns, until talk fails.
 pub fn report<T: Sink>(
     talk: &mut T,
-    counts: &Counts,
+    counts: &PerformanceCounts,
     taps: &[Box<dyn Tap>],
     turns: &[u8],
 ) -> Result<(), Failed>
@@ -45,7 +45,7 @@ pub fn report<T: Sink>(
     report_turns(talk, turns)
 }
 
-fn report_counts<T: Sink>(talk: &mut T, counts: &Counts) -> Result<(), Failed>
+fn report_counts<T: Sink>(talk: &mut T, counts: &PerformanceCounts) -> Result<(), Failed>
     ensures whole { OnOk result (WroteMore (T.tells talk.old) (T.tells talk.new) (counts_in counts.now)) }
     ensures part { OnErr result (SaysPart (T.tells talk.old) (T.tells talk.new) (counts_in counts.now)) }
 {

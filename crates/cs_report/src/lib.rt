@@ -12,6 +12,6 @@ mod counts;
 mod status;
 mod talk;
 
-pub use counts::{Counts, report};
+pub use counts::{PerformanceCounts, report};
 pub use status::Status;
 pub use talk::say_end;

@@ -10,7 +10,7 @@ use Rattle.cs_edge.specs.Moves.{Grown, IsRun}
 use Rattle.cs_edge.specs.Told.{Follows, Rose}
 use Rattle.cs_edge.specs.declared.files.NamedBytes.{NamedBytes}
 use Rattle.cs_edge.specs.declared.moves.Move.TheVariants.{Read}
-use Rattle.cs_arguments.specs.Reading.{Piece, one_file, two_files, demo}
+use Rattle.cs_arguments.specs.Reading.{AskedPiece, one_file, two_files, demo}
 use Rattle.cs_source.specs.Loaded.{CannotRead, IsLeftWhereTold, LeavesUnread, WasRead, is_there_too_long}
 use Rattle.cs_source.specs.Loaded.{is_told_too_long}
 use Rattle.cs_source.specs.Texts.{both, csd, demo_notes, HaveWhereTold, IsScoreBehind, LackWhereTold, is_too_long}
@@ -232,12 +232,12 @@ second_read a b c orc sco x p q first second t h =
 
 -- THE SAME PIECE
 
-pub read_as : (files : Option (List NamedBytes)) (p q : Piece) (text : SourceText) → q ≡ p → AreRead files p text
+pub read_as : (files : Option (List NamedBytes)) (p q : AskedPiece) (text : SourceText) → q ≡ p → AreRead files p text
     → AreRead files q text
-read_as files p q text e a = let P : Piece → Type 0 = λ x. AreRead files x text in subst P (sym e) a
+read_as files p q text e a = let P : AskedPiece → Type 0 = λ x. AreRead files x text in subst P (sym e) a
 
-pub left_as : (a b : ShelfTold) (p q : Piece) → q ≡ p → LeavesUnread a b p → LeavesUnread a b q
-left_as a b p q e l = let P : Piece → Type 0 = LeavesUnread a b in subst P (sym e) l
+pub left_as : (a b : ShelfTold) (p q : AskedPiece) → q ≡ p → LeavesUnread a b p → LeavesUnread a b q
+left_as a b p q e l = let P : AskedPiece → Type 0 = LeavesUnread a b in subst P (sym e) l
 
-pub was_read_as : (a b : ShelfTold) (p q : Piece) → q ≡ p → WasRead a b p → WasRead a b q
-was_read_as a b p q e w = let P : Piece → Type 0 = WasRead a b in subst P (sym e) w
+pub was_read_as : (a b : ShelfTold) (p q : AskedPiece) → q ≡ p → WasRead a b p → WasRead a b q
+was_read_as a b p q e w = let P : AskedPiece → Type 0 = WasRead a b in subst P (sym e) w

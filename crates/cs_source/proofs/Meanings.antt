@@ -17,7 +17,7 @@ use Rattle.cs_csd.specs.declared.part.CsdFault.{CsdFault}
 use Rattle.cs_csd.specs.declared.part.Parts.{Parts}
 use Rattle.cs_source.specs.DemoTexts as demo_texts
 use Rattle.cs_edge.specs.Files.{ShelfTold}
-use Rattle.cs_arguments.specs.Reading.{Piece}
+use Rattle.cs_arguments.specs.Reading.{AskedPiece}
 use Rattle.cs_source.specs.Loaded.{IsLoaded, LeavesUnread, SourceMeans}
 use Rattle.cs_source.specs.Meaning.{FileMeans, FilesMean, Mean, PartsMean, TextsMean, excerpt_of, told}
 use Rattle.cs_source.specs.Texts.{Texts, both, csd, demo_notes}
@@ -145,14 +145,14 @@ mean_whole width (csd text) (read.Pair x y) r f m = absurd f
 mean_whole width (demo_notes n) (read.Csd x) r f m = absurd f
 
 -- what was read of a source means what the source means
-source_means : (before : ShelfTold) (width : SampleWidth) (piece : Piece) (text : SourceText)
+source_means : (before : ShelfTold) (width : SampleWidth) (piece : AskedPiece) (text : SourceText)
     (r : Result Composition Refused) → AreRead before.files piece text
     → MeansAsRead width text r → SourceMeans before width piece r
 source_means before width piece text r a m =
     record { texts = a.texts; fit = a.fit; have = a.have; mean = mean_whole width a.texts text r a.read_of m }
 
 -- and where no more of it was read, it is loaded
-pub source_loaded : (before now : ShelfTold) (width : SampleWidth) (piece : Piece) (text : SourceText)
+pub source_loaded : (before now : ShelfTold) (width : SampleWidth) (piece : AskedPiece) (text : SourceText)
     (r : Result Composition Refused)
     → AreRead before.files piece text → LeavesUnread before now piece → MeansAsRead width text r
     → IsLoaded before now width piece r

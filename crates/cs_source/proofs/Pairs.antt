@@ -5,7 +5,7 @@ use Rattle.std.proofs.lemmas.Bool.Decides.{nat_tests}
 use Rattle.cs_base.specs.Limits.{most_orchestra_bytes}
 use Rattle.cs_edge.specs.Files.{file_named}
 use Rattle.cs_edge.specs.declared.files.NamedBytes.{NamedBytes}
-use Rattle.cs_arguments.specs.Reading.{Piece, two_files, one_file, demo}
+use Rattle.cs_arguments.specs.Reading.{AskedPiece, two_files, one_file, demo}
 use Rattle.cs_source.specs.Texts.{Texts, both, csd, demo_notes, Have, IsScoreBehind, Lack, is_too_long}
 
 one_text : (o : Option (List ℕ)) (x y : List ℕ) → o ≡ Some x → o ≡ Some y → x ≡ y
@@ -23,7 +23,8 @@ two_texts files sco a b x y e p q =
     let same : x ≡ y = one_score (is_too_long a) files sco x y p (subst P (sym e) q) in
     cc
 
-pub one_pair : (files : List NamedBytes) (piece : Piece) (t u : Texts) → Have files piece t → Have files piece u → t ≡ u
+pub one_pair : (files : List NamedBytes) (piece : AskedPiece) (t u : Texts) → Have files piece t → Have files piece u
+    → t ≡ u
 one_pair files (two_files orc sco) (both a x) (both b y) p q =
     two_texts files sco a b x y (one_text (file_named orc files) a b p.0 q.0) p.1 q.1
 one_pair files (one_file name) (csd a) (csd b) p q = ap csd (one_text (file_named name files) a b p q)
@@ -43,7 +44,7 @@ one_pair files (demo n) (demo_notes a) (csd b) p q = absurd q
 
 -- TEXTS OR A NAME THAT IS LACKING
 
-abbrev Either : List NamedBytes → Piece → Type 0
+abbrev Either : List NamedBytes → AskedPiece → Type 0
 Either files piece = ((t : Texts) × Have files piece t) ⊎ ((name : List ℕ) × Lack files piece name)
 
 score_or_none : (files : List NamedBytes) (orc sco a : List ℕ) (o : Option (List ℕ)) (long : Bool)
@@ -66,7 +67,7 @@ file_or_none : (files : List NamedBytes) (name : List ℕ) (o : Option (List ℕ
 file_or_none files name None e = inr (name, (refl, e))
 file_or_none files name (Some a) e = inl (csd a, e)
 
-pub texts_or_none : (files : List NamedBytes) (piece : Piece)
+pub texts_or_none : (files : List NamedBytes) (piece : AskedPiece)
     → ((t : Texts) × Have files piece t) ⊎ ((name : List ℕ) × Lack files piece name)
 texts_or_none files (two_files orc sco) = pair_or_none files orc sco (file_named orc files) refl
 texts_or_none files (one_file name) = file_or_none files name (file_named name files) refl
@@ -91,7 +92,7 @@ pair_not_none files orc sco a x name (inr l) h =
     let P : List ℕ → Type 0 = λ t. length t ≤ most_orchestra_bytes in
     no_score files sco a x (subst P same l.3) l.4 h.1
 
-pub never_both : (files : List NamedBytes) (piece : Piece) (t : Texts) (name : List ℕ) → Lack files piece name
+pub never_both : (files : List NamedBytes) (piece : AskedPiece) (t : Texts) (name : List ℕ) → Lack files piece name
     → Have files piece t → ⊥
 never_both files (two_files orc sco) (both a x) name l h = pair_not_none files orc sco a x name l h
 never_both files (two_files orc sco) (csd a) name l h = h

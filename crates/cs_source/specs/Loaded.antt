@@ -11,7 +11,7 @@ use Rattle.cs_edge.specs.Told.{Follows, Rose}
 use Rattle.cs_edge.specs.declared.files.NamedBytes.{NamedBytes}
 use Rattle.cs_edge.specs.declared.moves.Move.{Move}
 use Rattle.cs_edge.specs.declared.moves.Move.TheVariants.{Read}
-use Rattle.cs_arguments.specs.Reading.{Piece, two_files, one_file, demo}
+use Rattle.cs_arguments.specs.Reading.{AskedPiece, two_files, one_file, demo}
 use Rattle.cs_source.specs.Meaning.{Mean}
 use Rattle.cs_source.specs.Texts.{Texts, both, csd, demo_notes, Fit, Have, HaveWhereTold, IsNameOf, LackWhereTold}
 use Rattle.cs_source.specs.Texts.{is_too_long}
@@ -19,7 +19,7 @@ use Rattle.cs_csd.specs.declared.refused.Refused.{Refused}
 use Rattle.cs_wav.specs.Wav.{size_of}
 
 -- Texts of a source mean this, and where the shelf tells its files it has them.
-pub record SourceMeans (before : ShelfTold) (width : SampleWidth) (piece : Piece) (r : Result Composition Refused)
+pub record SourceMeans (before : ShelfTold) (width : SampleWidth) (piece : AskedPiece) (r : Result Composition Refused)
     : Type 0 where
   pub texts : Texts
   pub fit : Fit piece texts
@@ -46,7 +46,7 @@ IsScoreRun true sco moves = moves ≡ []
 IsScoreRun false sco moves = IsRun sco Read moves
 
 -- the moves of a shelf whose source is read whole: a begin and reads for each name that is begun, none for the demo
-abbrev pub AreReadings : Option (List NamedBytes) → Piece → List Move → Type 0
+abbrev pub AreReadings : Option (List NamedBytes) → AskedPiece → List Move → Type 0
 AreReadings files (two_files orc sco) moves =
     (first second : List Move) × IsRun orc Read first × IsScoreRun (is_told_too_long files orc) sco second
     × (moves ≡ first ++ second)
@@ -54,12 +54,12 @@ AreReadings files (one_file name) moves = IsRun name Read moves
 AreReadings files (demo n) moves = moves ≡ []
 
 -- the demo leaves a shelf as it was
-abbrev pub AsItWasForDemo : ShelfTold → ShelfTold → Piece → Type 0
+abbrev pub AsItWasForDemo : ShelfTold → ShelfTold → AskedPiece → Type 0
 AsItWasForDemo before now (demo n) = now ≡ before
 AsItWasForDemo before now _ = ⊤
 
 -- A source was read, all of it or the front.
-pub record WasRead (before now : ShelfTold) (piece : Piece) : Type 0 where
+pub record WasRead (before now : ShelfTold) (piece : AskedPiece) : Type 0 where
   pub later : before.faults ≤ now.faults
   pub moves : Follows before.moves now.moves (Grown (IsFrontOf (AreReadings before.files piece)))
   pub untouched : AsItWasForDemo before now piece
@@ -72,17 +72,17 @@ left_of before (both orchestra score) =
 left_of before (csd text) = Some (drop (most_csd_bytes + 1) text)
 left_of before (demo_notes n) = before
 
-abbrev pub IsLeftWhereTold : Option (List NamedBytes) → Piece → Option (List ℕ) → Option (List ℕ) → Type 0
+abbrev pub IsLeftWhereTold : Option (List NamedBytes) → AskedPiece → Option (List ℕ) → Option (List ℕ) → Type 0
 IsLeftWhereTold None piece before now = ⊤
 IsLeftWhereTold (Some files) piece before now = (texts : Texts) × Have files piece texts × (now ≡ left_of before texts)
 
 -- No more of the texts was read, where the files are told.
-abbrev pub LeavesUnread : ShelfTold → ShelfTold → Piece → Type 0
+abbrev pub LeavesUnread : ShelfTold → ShelfTold → AskedPiece → Type 0
 LeavesUnread before now piece = IsLeftWhereTold before.files piece before.left now.left
 
 -- The source of a piece was read and means this: texts mean it which, where the shelf tells its files, are theirs. What
 -- the shelf has left of them is what is over one byte more than a text may have.
-pub record IsLoaded (before now : ShelfTold) (width : SampleWidth) (piece : Piece) (r : Result Composition Refused)
+pub record IsLoaded (before now : ShelfTold) (width : SampleWidth) (piece : AskedPiece) (r : Result Composition Refused)
     : Type 0 where
   pub means : SourceMeans before width piece r
   pub rest : LeavesUnread before now piece
@@ -93,7 +93,7 @@ IsLastBegun None name = ⊤
 IsLastBegun (Some moves) name = (earlier last : List Move) × IsRun name Read last × (moves ≡ earlier ++ last)
 
 -- A name of the source can't be read, the one begun last: the shelf failed, or is told to lack this name.
-pub record CannotRead (before now : ShelfTold) (piece : Piece) (name : List ℕ) : Type 0 where
+pub record CannotRead (before now : ShelfTold) (piece : AskedPiece) (name : List ℕ) : Type 0 where
   pub one : IsNameOf piece name
   pub last : IsLastBegun now.moves name
   pub cause : Rose before.faults now.faults ⊎ LackWhereTold before.files piece name

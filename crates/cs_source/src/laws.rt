@@ -4,7 +4,7 @@ ghost use Rattle.cs_base.specs.declared.head.Head.{Head};
 ghost use Rattle.cs_base.specs.declared.width.SampleWidth.{SampleWidth};
 ghost use Rattle.cs_piece_meaning.specs.Moments.{Composition};
 ghost use Rattle.cs_edge.specs.declared.files.NamedBytes.{NamedBytes};
-ghost use Rattle.cs_arguments.specs.Reading.{Piece};
+ghost use Rattle.cs_arguments.specs.Reading.{AskedPiece};
 ghost use Rattle.cs_source.specs.Meaning.{Mean};
 ghost use Rattle.cs_source.specs.Texts.{Have, Lack, Texts};
 ghost use Rattle.cs_csd.specs.declared.refused.Refused.{Refused};
@@ -28,14 +28,14 @@ pub fn texts_of_a_source_mean_one()
 
 /// Files have no two pairs of texts for a source.
 pub fn files_have_one_pair_of_texts()
-    ensures { (files : List NamedBytes) (piece : Piece) (t u : Texts) → Have files piece t → Have files piece u
+    ensures { (files : List NamedBytes) (piece : AskedPiece) (t u : Texts) → Have files piece t → Have files piece u
         → t ≡ u }
 {}
 
 /// Files have texts for a source, or lack a name that is begun, and never both.
 pub fn told_files_have_texts_or_lack_a_name()
-    ensures some { (files : List NamedBytes) (piece : Piece)
+    ensures some { (files : List NamedBytes) (piece : AskedPiece)
         → ((t : Texts) × Have files piece t) ⊎ ((name : List ℕ) × Lack files piece name) }
-    ensures none { (files : List NamedBytes) (piece : Piece) (t : Texts) (name : List ℕ) → Lack files piece name
+    ensures none { (files : List NamedBytes) (piece : AskedPiece) (t : Texts) (name : List ℕ) → Lack files piece name
         → Have files piece t → ⊥ }
 {}

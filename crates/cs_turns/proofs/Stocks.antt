@@ -8,7 +8,7 @@ use Rattle.cs_cells.specs.declared.footprint.Area.{Area}
 use Rattle.cs_piece_meaning.specs.Moments.{Composition}
 use Rattle.cs_base.specs.declared.spaces.Spaces.{Spaces}
 use Rattle.cs_ir.specs.Resources.{Stock}
-use Rattle.cs_layout.specs.Layouts.{Shared, areas_of, laid_from, numbered, of_tables, shared_by}
+use Rattle.cs_layout.specs.Layouts.{SharedCells, areas_of, laid_from, numbered, of_tables, shared_by}
 use Rattle.cs_layout.specs.declared.areas.LiveTable.{LiveTable}
 use Rattle.cs_meaning.specs.Plain.{Table}
 use Rattle.cs_rwset.specs.Footprints.{stock_of, table_number}
@@ -16,10 +16,10 @@ use Rattle.cs_typed.specs.TypedTree.{SharedNames}
 use Rattle.cs_turns.specs.Turns.{live, live_tables, stock_in}
 
 -- the numbers of tables among what is shared
-abbrev tables_among : List Shared → List ℕ
-tables_among ss = filter_map (λ (s : Shared). table_number s.res) ss
+abbrev tables_among : List SharedCells → List ℕ
+tables_among ss = filter_map (λ (s : SharedCells). table_number s.res) ss
 
-laid : (first : ℕ) (ss : List Shared)
+laid : (first : ℕ) (ss : List SharedCells)
     → filter_map (λ (a : Area). table_number a.res) (laid_from first ss) ≡ tables_among ss
 laid first [] = refl
 laid first (s ∷ rest) = by (table_number s.res) (laid (first + s.cells) rest)
@@ -43,11 +43,11 @@ tables [] = refl
 tables (t ∷ ts) = ap (λ (ns : List ℕ). t.number ∷ ns) (tables ts)
 
 -- a kind of others in front
-front : (xs ys : List Shared) → tables_among xs ≡ [] → tables_among (xs ++ ys) ≡ tables_among ys
-front xs ys none = filter_map-append (λ (s : Shared). table_number s.res) xs ys
+front : (xs ys : List SharedCells) → tables_among xs ≡ [] → tables_among (xs ++ ys) ≡ tables_among ys
+front xs ys none = filter_map-append (λ (s : SharedCells). table_number s.res) xs ys
     ∙ ap (λ (ns : List ℕ). ns ++ tables_among ys) none
 
-in_front : (kind : ℕ → Res) (count cells : ℕ) (ys : List Shared) → ((n : ℕ) → table_number (kind n) ≡ None)
+in_front : (kind : ℕ → Res) (count cells : ℕ) (ys : List SharedCells) → ((n : ℕ) → table_number (kind n) ≡ None)
     → tables_among (numbered kind count cells ++ ys) ≡ tables_among ys
 in_front kind count cells ys none =
     front (numbered kind count cells) ys (others kind none cells (range_with_len 0 count))
@@ -55,9 +55,9 @@ in_front kind count cells ys none =
 shared : (ksmps : ℕ) (names : SharedNames) (spaces : Spaces) (ts : List LiveTable)
     → tables_among (shared_by ksmps names spaces ts) ≡ map (λ (t : LiveTable). t.number) ts
 shared ksmps names spaces ts =
-    in_front res.Gi (length names.gi) 1 _ (λ n. refl)
-    ∙ (in_front res.Gk (length names.gk) 1 _ (λ n. refl)
-    ∙ (in_front res.Ga (length names.ga) ksmps _ (λ n. refl)
+    in_front res.Gi (length names.variables.init) 1 _ (λ n. refl)
+    ∙ (in_front res.Gk (length names.variables.control) 1 _ (λ n. refl)
+    ∙ (in_front res.Ga (length names.variables.audio) ksmps _ (λ n. refl)
     ∙ (in_front res.Control (length names.control) 1 _ (λ n. refl)
     ∙ (in_front res.Sound (length names.sound) ksmps _ (λ n. refl)
     ∙ (in_front res.ZakK spaces.control 1 _ (λ n. refl)

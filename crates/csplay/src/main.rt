@@ -47,7 +47,8 @@ fn follow<R: Files + Print + AllocGlobal + Threads + Wait + Sync>(
     }
 }
 
-/// Follows the words with this meter. It becomes one of a list here, since a function that hands such a list out isn't proved.
+/// Follows the words with this meter. It becomes one of a list here, since a function that hands such a list out isn't
+/// proved.
 fn metered<R: Files + Print + AllocGlobal + Threads + Wait + Sync>(
     rt: &R,
     words: &[String],

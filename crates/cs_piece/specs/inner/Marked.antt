@@ -62,7 +62,7 @@ ops_store n ops = list_any (λ o. act_stores n o.act) ops
 
 -- whether the codes of an instrument may
 abbrev pub codes_store : ℕ → Numbered → Bool
-codes_store n i = ops_store n i.init.ops.items || ops_store n i.perf.ops.items
+codes_store n i = ops_store n i.init.ops || ops_store n i.perf.ops
 
 -- tables that are marked: all of them, or by their numbers
 pub record Marks : Type 0 where

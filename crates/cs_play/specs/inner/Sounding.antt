@@ -12,12 +12,12 @@ use Rattle.cs_play.specs.declared.preparing.Prepared.{Prepared}
 use Rattle.cs_play.specs.inner.Stopping.{fault_status}
 use Rattle.cs_report.specs.Report.{counts_in, line_room}
 use Rattle.cs_report.specs.Talk.{Says, SaysPart, message_of}
-use Rattle.cs_report.specs.declared.counts.Counts.{Counts}
+use Rattle.cs_report.specs.declared.counts.PerformanceCounts.{PerformanceCounts}
 use Rattle.cs_report.specs.declared.status.Status.{Status}
 use Rattle.cs_report.specs.declared.status.Status.TheVariants as status
 
 -- the counts that the performer answered
-abbrev pub counts_told : Outcome → Counts
+abbrev pub counts_told : Outcome → PerformanceCounts
 counts_told o = record {
   frames = o.frames;
   cycles = o.cycles;

@@ -7,7 +7,7 @@ use Rattle.cs_base.specs.declared.width.SampleWidth.{SampleWidth}
 use Rattle.cs_piece_meaning.specs.Moments.{Composition}
 use Rattle.cs_source.specs.DemoTexts as demo_texts
 use Rattle.cs_edge.specs.declared.files.NamedBytes.{NamedBytes}
-use Rattle.cs_arguments.specs.Reading.{Piece}
+use Rattle.cs_arguments.specs.Reading.{AskedPiece}
 use Rattle.cs_source.specs.Meaning.{FileMeans, FilesMean}
 use Rattle.cs_source.specs.Texts.{Texts, both, csd, demo_notes, Fit, HaveWhereTold}
 use Rattle.cs_csd.specs.declared.refused.Refused.{Refused}
@@ -28,7 +28,7 @@ IsReadOf (demo_notes n) (read.Pair x y) = (x.items ≡ demo_texts.orchestra) × 
 IsReadOf _ _ = ⊥
 
 -- Texts of a source, those that the files have where they are told, were read.
-pub record AreRead (files : Option (List NamedBytes)) (piece : Piece) (text : SourceText) : Type 0 where
+pub record AreRead (files : Option (List NamedBytes)) (piece : AskedPiece) (text : SourceText) : Type 0 where
   pub texts : Texts
   pub fit : Fit piece texts
   pub have : HaveWhereTold files piece texts

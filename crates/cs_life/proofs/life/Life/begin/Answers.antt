@@ -52,7 +52,8 @@ returns-clause-begun g c =
       cells_are = c.in_ok-begun.ensures.cells;
       asks_are = c.in_ok-begun.ensures.asks
           ∙ ap (λ (x : List Ask). x
-          ++ map ask_of (initialised (sheet c.into_vec-fields.result.items) before).world.asks) c.new-asks.ensures.items;
+          ++ map ask_of (initialised (sheet c.into_vec-fields.result.items) before).world.asks)
+          c.new-asks.ensures.items;
     }))
     c.start.ensures.long
     (c.time_of-time.ensures ∙ ap (λ (x : List ℤ). slice_index_or x 1 (pos 0))
