@@ -1,6 +1,6 @@
 // The case that is being made.
 use crate::gate::Task;
-use crate::line::{Object, Piece, Shown};
+use crate::line::{CaseText, Object, Shown};
 use crate::text::add_piece;
 use std::alloc::{AllocError, Global};
 
@@ -82,7 +82,7 @@ impl Once {
 
 /// Two texts, which stay until others are begun, and what holds for the next case alone.
 #[derive(Drop)]
-pub struct Desk {
+pub struct CaseDesk {
     pub orchestra: Vec<u8>,
     pub score: Vec<u8>,
     /// The words, one a line.
@@ -91,9 +91,9 @@ pub struct Desk {
     filling: Filling,
 }
 
-impl Desk {
-    pub fn new(alloc: Global) -> Desk {
-        Desk {
+impl CaseDesk {
+    pub fn new(alloc: Global) -> CaseDesk {
+        CaseDesk {
             orchestra: Vec::new(alloc),
             score: Vec::new(alloc),
             words: Vec::new(alloc),
@@ -138,7 +138,7 @@ impl Desk {
     }
 
     /// Adds to what was begun last.
-    pub fn add(&mut self, piece: Piece<'_>) -> Result<(), AllocError> {
+    pub fn add(&mut self, piece: CaseText<'_>) -> Result<(), AllocError> {
         match self.filling {
             Filling::Orchestra => add_piece(&mut self.orchestra, piece),
             Filling::Score => add_piece(&mut self.score, piece),

@@ -17,20 +17,21 @@ const MEETINGS: u64 = 10;
 #[derive(Clone, Copy)]
 pub enum Task {
     Nothing,
-    /// Of the notes from this one on, it holds the first of a cycle until another has come, or for so many turns; so notes that
-    /// run one after another never meet. Once two have met, none is held.
+    /// Of the notes from this one on, it holds the first of a cycle until another has come, or for so many turns; so
+    /// notes that run one after another never meet. Once two have met, none is held.
     Meeting(u32),
-    /// From this cycle on, in each until two notes have met in ten, it holds the one that comes first until the other has come
-    /// in the same cycle, or for so many turns, and then the other, so that whoever ran the first has nothing more to do
-    /// meanwhile. It counts its calls.
+    /// From this cycle on, in each until two notes have met in ten, it holds the one that comes first until the other
+    /// has come in the same cycle, or for so many turns, and then the other, so that whoever ran the first has nothing
+    /// more to do meanwhile. It counts its calls.
     Gathering(u32),
-    /// It counts its calls, and marks one that isn't the next: each cycle has so many notes, which must come one by one.
+    /// It counts its calls, and marks one that isn't the next: each cycle has so many notes, which must come one by
+    /// one.
     Counting(u32),
 }
 
 /// Cycles are kept as one more than their number; 0 is none.
 #[derive(Drop)]
-pub struct Watch {
+pub struct CaseGate {
     task: Task,
     holding: AtomicU64,
     joined: AtomicU64,
@@ -39,9 +40,9 @@ pub struct Watch {
     astray: AtomicU64,
 }
 
-impl Watch {
-    pub fn new(task: Task) -> Watch {
-        Watch {
+impl CaseGate {
+    pub fn new(task: Task) -> CaseGate {
+        CaseGate {
             task,
             holding: AtomicU64::new(0),
             joined: AtomicU64::new(0),
@@ -118,7 +119,7 @@ impl Watch {
     }
 }
 
-impl Gate for Watch {
+impl Gate for CaseGate {
     fn before(&self, cycle: u32, note: u32) {
         let cycle = u64::from(cycle);
         match self.task {

@@ -21,14 +21,14 @@ pub enum Shown {
 
 /// A text that is added so many times, with or without a line feed behind it.
 #[derive(Clone, Copy)]
-pub struct Piece<'a> {
+pub struct CaseText<'a> {
     pub times: u32,
     pub text: &'a [u8],
     pub feed: bool,
 }
 
 #[derive(Clone, Copy)]
-pub enum Line<'a> {
+pub enum CaseLine<'a> {
     /// A comment or a blank line.
     Nothing,
     /// A new orchestra, from a file where a path is given.
@@ -37,7 +37,7 @@ pub enum Line<'a> {
     Score(&'a [u8]),
     /// The words of the case follow.
     Words,
-    Text(Piece<'a>),
+    Text(CaseText<'a>),
     /// That call of the object fails.
     Fail(Object, u32),
     /// The object takes so many bytes a write at most.
@@ -47,7 +47,8 @@ pub enum Line<'a> {
     Twice,
     /// Two notes of a cycle meet, of those from this one on, or the line says that they didn't.
     Meet(u32),
-    /// Two notes meet in ten cycles, of those from this one on; the line says in how many they did, and how many calls there were.
+    /// Two notes meet in ten cycles, of those from this one on; the line says in how many they did, and how many calls
+    /// there were.
     Gather(u32),
     /// The gate counts its calls, of so many notes a cycle.
     Count(u32),
@@ -61,60 +62,60 @@ pub enum Line<'a> {
     Wrong,
 }
 
-pub fn line_of(line: &[u8]) -> Line<'_> {
+pub fn line_of(line: &[u8]) -> CaseLine<'_> {
     let digits = count_digits(line);
     let (front, rest) = line.split_at(digits.min(line.len()));
     match rest {
-        [b'|', text @ ..] => Line::Text(piece_of(front, text, true)),
-        [b'>', text @ ..] => Line::Text(piece_of(front, text, false)),
+        [b'|', text @ ..] => CaseLine::Text(piece_of(front, text, true)),
+        [b'>', text @ ..] => CaseLine::Text(piece_of(front, text, false)),
         _ => line_of_word(line),
     }
 }
 
-fn line_of_word(line: &[u8]) -> Line<'_> {
+fn line_of_word(line: &[u8]) -> CaseLine<'_> {
     let (word, rest) = parted(line);
     match word {
-        b"" => Line::Nothing,
-        b"orc" => Line::Orchestra(rest),
-        b"sco" => Line::Score(rest),
-        b"words" => Line::Words,
+        b"" => CaseLine::Nothing,
+        b"orc" => CaseLine::Orchestra(rest),
+        b"sco" => CaseLine::Score(rest),
+        b"words" => CaseLine::Words,
         b"fail" => fail_of(rest),
         b"room" => room_of(rest),
-        b"hex" => Line::Show(Shown::Hex),
-        b"calls" => Line::Show(Shown::Calls),
-        b"report" => Line::Show(Shown::Report),
-        b"twice" => Line::Twice,
-        b"meet" => Line::Meet(number_of(rest)),
-        b"gather" => Line::Gather(number_of(rest)),
-        b"count" => Line::Count(number_of(rest)),
-        b"mirror" => Line::Mirror(number_of(rest)),
-        b"wide" => Line::Wide,
-        b"play" => Line::Play(rest),
+        b"hex" => CaseLine::Show(Shown::Hex),
+        b"calls" => CaseLine::Show(Shown::Calls),
+        b"report" => CaseLine::Show(Shown::Report),
+        b"twice" => CaseLine::Twice,
+        b"meet" => CaseLine::Meet(number_of(rest)),
+        b"gather" => CaseLine::Gather(number_of(rest)),
+        b"count" => CaseLine::Count(number_of(rest)),
+        b"mirror" => CaseLine::Mirror(number_of(rest)),
+        b"wide" => CaseLine::Wide,
+        b"play" => CaseLine::Play(rest),
         _ => comment_or_wrong(word),
     }
 }
 
-fn comment_or_wrong(word: &[u8]) -> Line<'_> {
+fn comment_or_wrong(word: &[u8]) -> CaseLine<'_> {
     match word {
-        [b'#', ..] => Line::Nothing,
-        _ => Line::Wrong,
+        [b'#', ..] => CaseLine::Nothing,
+        _ => CaseLine::Wrong,
     }
 }
 
-fn fail_of(rest: &[u8]) -> Line<'_> {
+fn fail_of(rest: &[u8]) -> CaseLine<'_> {
     let (name, number) = parted(rest);
     match object_of(name) {
-        Some(object) => Line::Fail(object, number_of(number)),
-        None => Line::Wrong,
+        Some(object) => CaseLine::Fail(object, number_of(number)),
+        None => CaseLine::Wrong,
     }
 }
 
 // `room 7` is the sound file's.
-fn room_of(rest: &[u8]) -> Line<'_> {
+fn room_of(rest: &[u8]) -> CaseLine<'_> {
     let (name, number) = parted(rest);
     match object_of(name) {
-        Some(object) => Line::Room(object, number_of(number)),
-        None => Line::Room(Object::Wav, number_of(name)),
+        Some(object) => CaseLine::Room(object, number_of(number)),
+        None => CaseLine::Room(Object::Wav, number_of(name)),
     }
 }
 
@@ -128,7 +129,7 @@ fn object_of(name: &[u8]) -> Option<Object> {
 }
 
 // One blank behind the sign is left out; no number is once.
-fn piece_of<'a>(number: &'a [u8], text: &'a [u8], feed: bool) -> Piece<'a> {
+fn piece_of<'a>(number: &'a [u8], text: &'a [u8], feed: bool) -> CaseText<'a> {
     let text = match text {
         [b' ', rest @ ..] => rest,
         _ => text,
@@ -138,7 +139,7 @@ fn piece_of<'a>(number: &'a [u8], text: &'a [u8], feed: bool) -> Piece<'a> {
     } else {
         number_of(number)
     };
-    Piece { times, text, feed }
+    CaseText { times, text, feed }
 }
 
 // The first word, and what stands behind its blank.

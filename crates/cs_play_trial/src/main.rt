@@ -1,11 +1,13 @@
 //! Trials of the program. A case is two texts that go through the public call `csplay` over objects in memory; it comes
-//! out as one line, and the crate's `stdout` has the lines that must come. The case files stand in data/, whose README.md
-//! says how a case is written; the words of the program, the crate's `args`, name them in the order in which they run.
+//! out as one line, and the crate's `stdout` has the lines that must come. The case files stand in data/, whose
+//! README.md says how a case is written; the words of the program, the crate's `args`, name them in the order in which
+//! they run.
 //!
 //! Nothing is proved of the answers here, only that the trials are safe.
 //!
-//! In reading order: `line` (what a line of a case file says), `text` (its escapes), `gate` (what shows how workers run), `desk`
-//! (the case that is being made), `play` (the runs of a case), `show` (its line) and `wave` (the samples in it).
+//! In reading order: `line` (what a line of a case file says), `text` (its escapes), `gate` (what shows how workers
+//! run), `desk` (the case that is being made), `play` (the runs of a case), `show` (its line) and `wave` (the samples
+//! in it).
 #![tactic(auto)]
 
 mod desk;
@@ -16,9 +18,9 @@ mod show;
 mod text;
 mod wave;
 
-use crate::desk::Desk;
+use crate::desk::CaseDesk;
 use crate::gate::Task;
-use crate::line::{Line, line_of};
+use crate::line::{CaseLine, line_of};
 use crate::play::play;
 use crate::show::add_shown;
 use std::io::Write;
@@ -49,7 +51,7 @@ fn run_file<R: Files + Print + AllocGlobal + Threads + Wait + Sync>(
     rt: &R,
     text: &[u8],
 ) -> io::Result<()> {
-    let mut desk = Desk::new(rt.alloc());
+    let mut desk = CaseDesk::new(rt.alloc());
     for line in text.split(|byte| *byte == b'\n') {
         follow(rt, line, &mut desk)?;
     }
@@ -60,34 +62,34 @@ fn run_file<R: Files + Print + AllocGlobal + Threads + Wait + Sync>(
 fn follow<R: Files + Print + AllocGlobal + Threads + Wait + Sync>(
     rt: &R,
     line: &[u8],
-    desk: &mut Desk,
+    desk: &mut CaseDesk,
 ) -> io::Result<()> {
     match line_of(line) {
-        Line::Nothing => {}
-        Line::Orchestra(path) => {
+        CaseLine::Nothing => {}
+        CaseLine::Orchestra(path) => {
             desk.begin_orchestra();
             add_file(rt, path, &mut desk.orchestra)?;
         }
-        Line::Score(path) => {
+        CaseLine::Score(path) => {
             desk.begin_score();
             add_file(rt, path, &mut desk.score)?;
         }
-        Line::Words => desk.begin_words(),
-        Line::Text(piece) => desk.add(piece)?,
-        Line::Fail(object, call) => desk.once.fail(object, call),
-        Line::Room(object, most) => desk.once.limit(object, most),
-        Line::Show(what) => desk.once.show(what),
-        Line::Twice => desk.once.twice = true,
-        Line::Meet(from) => desk.once.task = Task::Meeting(from),
-        Line::Gather(from) => desk.once.task = Task::Gathering(from),
-        Line::Count(notes) => desk.once.task = Task::Counting(notes),
-        Line::Mirror(room) => desk.once.mirror = room,
-        Line::Wide => desk.once.wide = true,
-        Line::Play(name) => {
+        CaseLine::Words => desk.begin_words(),
+        CaseLine::Text(piece) => desk.add(piece)?,
+        CaseLine::Fail(object, call) => desk.once.fail(object, call),
+        CaseLine::Room(object, most) => desk.once.limit(object, most),
+        CaseLine::Show(what) => desk.once.show(what),
+        CaseLine::Twice => desk.once.twice = true,
+        CaseLine::Meet(from) => desk.once.task = Task::Meeting(from),
+        CaseLine::Gather(from) => desk.once.task = Task::Gathering(from),
+        CaseLine::Count(notes) => desk.once.task = Task::Counting(notes),
+        CaseLine::Mirror(room) => desk.once.mirror = room,
+        CaseLine::Wide => desk.once.wide = true,
+        CaseLine::Play(name) => {
             say(rt, name, desk)?;
             desk.forget();
         }
-        Line::Wrong => say_wrong(rt, line)?,
+        CaseLine::Wrong => say_wrong(rt, line)?,
     }
     Ok(())
 }
@@ -112,7 +114,7 @@ const CREWS: [&[&str]; 3] = [&["-j", "4"], &["--pool", "-j", "4"], &["-j", "32"]
 fn say<R: Print + AllocGlobal + Threads + Wait + Sync>(
     rt: &R,
     name: &[u8],
-    desk: &Desk,
+    desk: &CaseDesk,
 ) -> io::Result<()> {
     let mut out = String::new(rt.alloc());
     let status = play(rt, name, desk, &[], &mut out)?;
@@ -130,7 +132,7 @@ fn say<R: Print + AllocGlobal + Threads + Wait + Sync>(
 fn say_by<R: Print + AllocGlobal + Threads + Wait + Sync>(
     rt: &R,
     name: &[u8],
-    desk: &Desk,
+    desk: &CaseDesk,
     crew: &[&str],
     line: &str,
 ) -> io::Result<()> {

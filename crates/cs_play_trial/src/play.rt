@@ -1,7 +1,7 @@
 // The runs of a case.
-use crate::desk::{Desk, Once};
-use crate::gate::Watch;
-use crate::show::{Outcome, add_line};
+use crate::desk::{CaseDesk, Once};
+use crate::gate::CaseGate;
+use crate::show::{CaseOutcome, Written, add_line};
 use cs_base::{Bytes, Text};
 use cs_desk::Tally;
 use cs_edge::{Calls, Files, MemShelf, MemSink, MirrorTap, NamedBytes, PeakTap, Tap};
@@ -14,7 +14,7 @@ use std::thread::Threads;
 pub fn play<R: AllocGlobal + Threads + Wait + Sync>(
     rt: &R,
     name: &[u8],
-    desk: &Desk,
+    desk: &CaseDesk,
     crew: &[&str],
     out: &mut String,
 ) -> Result<u8, AllocError> {
@@ -37,27 +37,17 @@ fn run_on<R: AllocGlobal + Threads + Wait + Sync>(
     once: Once,
     out: &mut String,
 ) -> Result<u8, AllocError> {
-    let mut wav = sink_of(rt.alloc(), once.wav_fails, once.wav_room)?;
-    let mut talk = sink_of(rt.alloc(), once.talk_fails, once.talk_room)?;
-    let gate = Watch::new(once.task);
-    let mut told = Vec::new(rt.alloc());
-    let status = run(
-        rt,
-        words,
-        shelf,
-        &mut wav,
-        &mut talk,
-        &gate,
-        once.mirror,
-        &mut told,
-    )?;
-    let outcome = Outcome {
+    let wav = sink_of(rt.alloc(), once.wav_fails, once.wav_room)?;
+    let talk = sink_of(rt.alloc(), once.talk_fails, once.talk_room)?;
+    let told = Vec::new(rt.alloc());
+    let mut written = Written { wav, talk, told };
+    let gate = CaseGate::new(once.task);
+    let status = run(rt, words, shelf, &mut written, &gate, once.mirror)?;
+    let outcome = CaseOutcome {
         status,
         shelf: &*shelf,
-        wav: &wav,
-        talk: &talk,
+        written: &written,
         gate: &gate,
-        told: &told,
     };
     add_line(out, name, once, outcome)?;
     Ok(status)
@@ -67,11 +57,9 @@ fn run<R: AllocGlobal + Threads + Wait + Sync>(
     rt: &R,
     words: &[String],
     shelf: &mut MemShelf,
-    wav: &mut MemSink,
-    talk: &mut MemSink,
-    gate: &Watch,
+    written: &mut Written,
+    gate: &CaseGate,
     room: u32,
-    told: &mut Vec<u8>,
 ) -> Result<u8, AllocError> {
     let mut taps: Vec<Box<dyn Tap>> = Vec::new(rt.alloc());
     taps.push(Box::new(rt.alloc(), PeakTap::new())?)?;
@@ -87,14 +75,14 @@ fn run<R: AllocGlobal + Threads + Wait + Sync>(
         rt.alloc(),
         words,
         shelf,
-        wav,
-        talk,
+        &mut written.wav,
+        &mut written.talk,
         &mut taps,
         gate,
         &mut tally,
     );
     if room > 0 {
-        add_told(&taps, told)?;
+        add_told(&taps, &mut written.told)?;
     }
     Ok(status.number())
 }
@@ -110,7 +98,7 @@ fn add_told(taps: &[Box<dyn Tap>], told: &mut Vec<u8>) -> Result<(), AllocError>
 }
 
 // The words of a case, behind others.
-fn words_of(alloc: Global, front: &[&str], desk: &Desk) -> Result<Vec<String>, AllocError> {
+fn words_of(alloc: Global, front: &[&str], desk: &CaseDesk) -> Result<Vec<String>, AllocError> {
     let mut words = Vec::new(alloc);
     for word in front {
         add_word(alloc, word.as_bytes(), &mut words)?;
@@ -139,7 +127,7 @@ fn add_word(alloc: Global, word: &[u8], words: &mut Vec<String>) -> Result<(), A
     Ok(())
 }
 
-fn shelf_of(alloc: Global, desk: &Desk) -> Result<MemShelf, AllocError> {
+fn shelf_of(alloc: Global, desk: &CaseDesk) -> Result<MemShelf, AllocError> {
     let mut files = Files::new(alloc);
     files.push(file_of(alloc, "a.orc", &desk.orchestra)?)?;
     files.push(file_of(alloc, "a.sco", &desk.score)?)?;

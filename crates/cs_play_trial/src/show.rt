@@ -1,58 +1,62 @@
 // The line of a case.
 use crate::desk::Once;
-use crate::gate::{Task, Watch};
+use crate::gate::{CaseGate, Task};
 use crate::wave::{add_hex, add_wave};
 use cs_edge::{MemShelf, MemSink, Move};
 use itoa::Buffer;
 use std::alloc::AllocError;
 
-/// What a run left.
-#[derive(Clone, Copy)]
-pub struct Outcome<'a> {
-    pub status: u8,
-    pub shelf: &'a MemShelf,
-    pub wav: &'a MemSink,
-    pub talk: &'a MemSink,
-    pub gate: &'a Watch,
-    /// The line of a mirror.
-    pub told: &'a [u8],
+/// What a run writes: the sound file, what it says, and the line of a mirror.
+#[derive(Drop)]
+pub struct Written {
+    pub wav: MemSink,
+    pub talk: MemSink,
+    pub told: Vec<u8>,
 }
 
-/// Writes a case's line: its name, the status, the line on talk (the report where it is asked for), and the sound file where one
-/// was begun.
+/// What a run left.
+#[derive(Clone, Copy)]
+pub struct CaseOutcome<'a> {
+    pub status: u8,
+    pub shelf: &'a MemShelf,
+    pub written: &'a Written,
+    pub gate: &'a CaseGate,
+}
+
+/// Writes a case's line: its name, the status, the line on talk (the report where it is asked for), and the sound file
+/// where one was begun.
 pub fn add_line(
     out: &mut String,
     name: &[u8],
     once: Once,
-    outcome: Outcome<'_>,
+    outcome: CaseOutcome<'_>,
 ) -> Result<(), AllocError> {
+    let written = outcome.written;
     add_shown(out, name)?;
     out.push_str(": ")?;
     add_number(out, u64::from(outcome.status))?;
     if outcome.status != 0 || once.report {
-        add_talk(out, outcome.talk.taken())?;
+        add_talk(out, written.talk.taken())?;
     }
-    if !outcome.wav.moves().is_empty() {
-        add_sound(out, outcome.wav.taken(), once.hex)?;
+    if !written.wav.moves().is_empty() {
+        add_sound(out, written.wav.taken(), once.hex)?;
     }
     add_gate(out, once.task, outcome.gate)?;
     if once.mirror > 0 {
         out.push_str("; ")?;
-        add_shown(
-            out,
-            outcome.told.strip_suffix(b"\n").unwrap_or(outcome.told),
-        )?;
+        let told = written.told.as_slice();
+        add_shown(out, told.strip_suffix(b"\n").unwrap_or(told))?;
     }
     if once.calls {
         add_calls(out, "; shelf", outcome.shelf.moves())?;
-        add_calls(out, "; wav", outcome.wav.moves())?;
-        add_calls(out, "; talk", outcome.talk.moves())?;
+        add_calls(out, "; wav", written.wav.moves())?;
+        add_calls(out, "; talk", written.talk.moves())?;
     }
     out.push('\n')
 }
 
 // What the gate of a case shows.
-fn add_gate(out: &mut String, task: Task, gate: &Watch) -> Result<(), AllocError> {
+fn add_gate(out: &mut String, task: Task, gate: &CaseGate) -> Result<(), AllocError> {
     match task {
         Task::Nothing => Ok(()),
         Task::Meeting(_) => out.push_str(if gate.has_met() { "; met" } else { "; not met" }),

@@ -1,6 +1,6 @@
-// The escapes in a text: behind a grave accent stand two hexadecimal digits, which are a byte, or `#`, the number of the
-// time that the text is added.
-use crate::line::Piece;
+// The escapes in a text: behind a grave accent stand two hexadecimal digits, which are a byte, or `#`, the number of
+// the time that the text is added.
+use crate::line::CaseText;
 use itoa::Buffer;
 use std::alloc::AllocError;
 
@@ -14,7 +14,7 @@ enum Escape {
 }
 
 /// Adds a text so many times.
-pub fn add_piece(to: &mut Vec<u8>, piece: Piece<'_>) -> Result<(), AllocError> {
+pub fn add_piece(to: &mut Vec<u8>, piece: CaseText<'_>) -> Result<(), AllocError> {
     for number in 0..piece.times {
         add_text(to, piece.text, number.saturating_add(1))?;
         if piece.feed {

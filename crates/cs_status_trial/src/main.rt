@@ -1,6 +1,6 @@
-//! A program over the call `csplay_alone`, which never waits, whose stored run doesn't end with 0: the orchestra of `data/` misspells an opcode, so
-//! the run prints the refusal with its line (`stdout`), ends with the refusal's status (`status`) and begins no sound
-//! file. The words are the crate's `args`, the texts real files.
+//! A program over the call `csplay_alone`, which never waits, whose stored run doesn't end with 0: the orchestra of
+//! `data/` misspells an opcode, so the run prints the refusal with its line (`stdout`), ends with the refusal's status
+//! (`status`) and begins no sound file. The words are the crate's `args`, the texts real files.
 //!
 //! Nothing is proved of the answer here, only that the trial is safe; the gate compares the line and the status.
 #![tactic(auto)]

@@ -10,18 +10,18 @@ use Rattle.cs_trial.specs.declared.players.Players.{Players}
 
 module _ {J : Type 0} (M : Meaning J) where
   -- what the seat may do next
-  abbrev pub Stands : Phase → View J → Type 0
-  Stands Free v = IsIdle v
-  Stands (Claimed note) v = IsClaimed M v
-  Stands Ran v = HasRun M v
-  Stands Over v = IsIdle v × (v.owes ≡ [])
+  abbrev pub IsInPhase : Phase → View J → Type 0
+  IsInPhase Free v = IsIdle v
+  IsInPhase (Claimed note) v = IsClaimed M v
+  IsInPhase Ran v = HasRun M v
+  IsInPhase Over v = IsIdle v × (v.owes ≡ [])
 
   -- the second seat was split off the first, and nothing else was
   pub record ArePlaying (board : Board J) (p : Players J) : Type 0 where
     pub first : IsSeatOf M (plan board) (name board) p.first
     pub second : IsSeatOf M (plan board) (name board) p.second
-    pub here : Stands p.here (view p.first)
-    pub there : Stands p.there (view p.second)
+    pub here : IsInPhase p.here (view p.first)
+    pub there : IsInPhase p.there (view p.second)
     pub leads : (view p.first).first ≡ true
     pub out : (view p.first).out ≡ 0 ∷ []
     pub follows : (view p.second).first ≡ false

@@ -4,7 +4,7 @@ ghost use Rattle.cs_cells.specs.Areas.{word_count};
 
 use crate::fixtures::words_of;
 use crate::mini::Mini;
-use crate::parts::{Part, minis};
+use crate::parts::{MiniPart, minis};
 use cs_cells::{Area, Layout};
 use std::alloc::Global;
 use std::marker::Model;
@@ -30,7 +30,7 @@ pub fn loaded_of<'t>(
     alloc: Global,
     layout: &Layout,
     areas: &'t [Area],
-    parts: &'t [Part],
+    parts: &'t [MiniPart],
     before: &[u64],
 ) -> Option<Loaded<Mini<'t>>>
     requires { layout.now ≡ areas.now }

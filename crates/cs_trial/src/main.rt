@@ -1,10 +1,10 @@
-//! Boards of small notes, and what no clause of a board says: that notes are given out until none is left, by every order
-//! of the calls of two seats, and after how many tries. Nothing of the product stands on this crate, and it proves nothing
-//! of the others: what must come is a line of `stdout`.
+//! Boards of small notes, and what no clause of a board says: that notes are given out until none is left, by every
+//! order of the calls of two seats, and after how many tries. Nothing of the product stands on this crate, and it
+//! proves nothing of the others: what must come is a line of `stdout`.
 //!
 //! In reading order: `covers`, `mini` (a note with registers and shared code), `parts` (what such notes are made of),
-//! `fixtures`, `loaded` and `boards` (a board for them), `players` (one seat or two that play it), `orders` (small graphs
-//! by every order), `tries` (as many notes as may be), `single` (one cycle by a crew of its own).
+//! `fixtures`, `loaded` and `boards` (a board for them), `players` (one seat or two that play it), `orders` (small
+//! graphs by every order), `tries` (as many notes as may be), `single` (one cycle by a crew of its own).
 #![tactic(auto)]
 
 ghost use Rattle.std.specs.Prelude.{◌≤◌};

@@ -1,6 +1,6 @@
 // A small machine with registers, whose code is shared: the shape of a note.
 ghost use Rattle.std.specs.Prelude.{◌≡◌, length, IfSome, IsTrue};
-ghost use Rattle.cs_trial.specs.Mini.{MayDo, Fits, step};
+ghost use Rattle.cs_trial.specs.Mini.{MayDo, FitsFootprint, step};
 
 use crate::covers::is_covered;
 use cs_base::Num;
@@ -9,7 +9,7 @@ use std::marker::Model;
 
 /// One op: a cell into a register, a number onto a register, or a register into a cell.
 #[derive(Clone, Copy)]
-pub enum Op {
+pub enum MiniOp {
     Read(u32, u32),
     Add(u32, i64),
     Write(u32, u32),
@@ -20,7 +20,7 @@ pub enum Op {
 pub struct Mini<'t> {
     areas: &'t [Area],
     foot: &'t Footprint,
-    ops: &'t [Op],
+    ops: &'t [MiniOp],
     regs: Vec<i64>,
 }
 
@@ -41,7 +41,7 @@ impl<'t> Mini<'t> {
     pub fn new(
         areas: &'t [Area],
         foot: &'t Footprint,
-        ops: &'t [Op],
+        ops: &'t [MiniOp],
         regs: Vec<i64>,
     ) -> Option<Mini<'t>>
         ensures { IfSome result (λ j. (j.areas ≡ areas.now) × (j.foot ≡ foot.now) × (j.ops
@@ -61,14 +61,14 @@ impl<'t> Mini<'t> {
     }
 }
 
-fn fits(areas: &[Area], foot: &Footprint, regs: usize, op: Op) -> bool
-    ensures { IsTrue result → Fits areas.now foot.now regs op }
+fn fits(areas: &[Area], foot: &Footprint, regs: usize, op: MiniOp) -> bool
+    ensures { IsTrue result → FitsFootprint areas.now foot.now regs op }
 {
     match op {
-        Op::Read(reg, addr) => (reg as usize) < regs
+        MiniOp::Read(reg, addr) => (reg as usize) < regs
             && is_covered(areas, foot.uses.as_slice(), addr),
-        Op::Add(reg, _) => (reg as usize) < regs,
-        Op::Write(addr, reg) => (reg as usize) < regs
+        MiniOp::Add(reg, _) => (reg as usize) < regs,
+        MiniOp::Write(addr, reg) => (reg as usize) < regs
             && is_covered(areas, foot.writes.as_slice(), addr),
     }
 }
@@ -92,7 +92,7 @@ impl<'t> Job for Mini<'t> {
     ghost frames = { small_frames };
 }
 
-fn run_op<B: Bank>(op: Op, regs: &mut Vec<i64>, bank: &mut B)
+fn run_op<B: Bank>(op: MiniOp, regs: &mut Vec<i64>, bank: &mut B)
     requires { MayDo (B.can_get (B.rest bank.old)) (B.can_set (B.rest bank.old))
         (length regs.old.items) op }
     ensures regs { regs.new.items ≡ (step op (regs.old.items, B.cells bank.old)).0 }
@@ -100,13 +100,13 @@ fn run_op<B: Bank>(op: Op, regs: &mut Vec<i64>, bank: &mut B)
     ensures rest { B.rest bank.new ≡ B.rest bank.old }
 {
     match op {
-        Op::Read(reg, addr) => {
+        MiniOp::Read(reg, addr) => {
             regs[reg as usize] = bank.get(addr).raw();
         }
-        Op::Add(reg, value) => {
+        MiniOp::Add(reg, value) => {
             regs[reg as usize] = regs[reg as usize].wrapping_add(value);
         }
-        Op::Write(addr, reg) => {
+        MiniOp::Write(addr, reg) => {
             bank.set(addr, Num::of_raw(regs[reg as usize]));
         }
     }

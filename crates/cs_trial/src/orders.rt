@@ -7,8 +7,8 @@ ghost use Rattle.cs_board.specs.Views.{opening_view};
 use crate::boards::{opened, words_on};
 use crate::fixtures::{foot, laid};
 use crate::loaded::loaded_of;
-use crate::mini::Op;
-use crate::parts::Part;
+use crate::mini::MiniOp;
+use crate::parts::MiniPart;
 use crate::players::play_two;
 use cs_board::{Board, BoardSeat};
 use cs_cells::{Area, Job, Layout};
@@ -42,20 +42,20 @@ fn places_of(alloc: Global, note: u32, pairs: u32) -> Result<Vec<u32>, AllocErro
 }
 
 // The note writes its number, from 1, into each of its resources.
-fn part_of(alloc: Global, note: u32, pairs: u32) -> Result<Part, AllocError> {
+fn part_of(alloc: Global, note: u32, pairs: u32) -> Result<MiniPart, AllocError> {
     let places = places_of(alloc, note, pairs)?;
     let mut ops = Vec::new(alloc);
-    ops.push(Op::Add(0, i64::from(note) + 1))?;
+    ops.push(MiniOp::Add(0, i64::from(note) + 1))?;
     for place in &places {
-        ops.push(Op::Write(*place, 0))?;
+        ops.push(MiniOp::Write(*place, 0))?;
     }
-    Ok(Part {
+    Ok(MiniPart {
         foot: foot(alloc, &places, &places)?,
         ops,
     })
 }
 
-fn parts_of(alloc: Global, notes: u32, pairs: u32) -> Result<Vec<Part>, AllocError> {
+fn parts_of(alloc: Global, notes: u32, pairs: u32) -> Result<Vec<MiniPart>, AllocError> {
     let mut parts = Vec::new(alloc);
     for note in 0..notes {
         parts.push(part_of(alloc, note, pairs)?)?;
@@ -82,62 +82,54 @@ fn serial_words(alloc: Global, notes: u32, pairs: u32) -> Result<Vec<u64>, Alloc
     Ok(words)
 }
 
-// Whether the notes leave these words by one order of calls.
+/// The notes of a small graph over their cells, and the words that the serial run leaves.
+#[derive(Clone, Copy)]
+struct SmallGraph<'t> {
+    layout: &'t Layout,
+    areas: &'t [Area],
+    parts: &'t [MiniPart],
+    serial: &'t [u64],
+}
+
+// Whether the notes leave the words of the serial run by one order of calls.
 fn leaves<J: Job + Drop, R: Wait>(
     rt: &R,
     alloc: Global,
-    layout: &Layout,
+    graph: SmallGraph<'_>,
     board: Board<J>,
     seat: BoardSeat<J>,
     order: u32,
-    serial: &[u64],
 ) -> bool
     requires seat { IsSeatOf J.means (plan board) (name board) seat }
     requires opens { view seat ≡ opening_view (plan board) }
-    requires areas { (plan board).areas ≡ layout.now }
+    requires areas { (plan board).areas ≡ graph.layout.now }
 {
     let (receipt, mut desk) = play_two(rt, board, seat, order);
     Tally::new().add(receipt);
-    match words_on(alloc, layout, &mut desk) {
-        Some(words) => words.as_slice() == serial,
+    match words_on(alloc, graph.layout, &mut desk) {
+        Some(words) => words.as_slice() == graph.serial,
         None => false,
     }
 }
 
-fn is_serial_by<R: Wait>(
-    rt: &R,
-    alloc: Global,
-    layout: &Layout,
-    areas: &[Area],
-    parts: &[Part],
-    order: u32,
-    serial: &[u64],
-) -> bool
-    requires { layout.now ≡ areas.now }
+fn is_serial_by<R: Wait>(rt: &R, alloc: Global, graph: SmallGraph<'_>, order: u32) -> bool
+    requires { graph.layout.now ≡ graph.areas.now }
 {
-    let Some(loaded) = loaded_of(alloc, layout, areas, parts, &[0; 10]) else {
+    let Some(loaded) = loaded_of(alloc, graph.layout, graph.areas, graph.parts, &[0; 10]) else {
         return false;
     };
-    match opened(alloc, layout, loaded) {
-        Ok((board, seat)) => leaves(rt, alloc, layout, board, seat, order, serial),
+    match opened(alloc, graph.layout, loaded) {
+        Ok((board, seat)) => leaves(rt, alloc, graph, board, seat, order),
         Err(_) => false,
     }
 }
 
 // Whether each of these orders of calls leaves what the serial run leaves.
-fn are_serial<R: Wait>(
-    rt: &R,
-    alloc: Global,
-    layout: &Layout,
-    areas: &[Area],
-    parts: &[Part],
-    orders: u32,
-    serial: &[u64],
-) -> bool
-    requires { layout.now ≡ areas.now }
+fn are_serial<R: Wait>(rt: &R, alloc: Global, graph: SmallGraph<'_>, orders: u32) -> bool
+    requires { graph.layout.now ≡ graph.areas.now }
 {
     for order in 0..orders {
-        if !is_serial_by(rt, alloc, layout, areas, parts, order, serial) {
+        if !is_serial_by(rt, alloc, graph, order) {
             return false;
         }
     }
@@ -152,7 +144,15 @@ fn is_serial<R: Wait>(rt: &R, alloc: Global, notes: u32, pairs: u32, orders: u32
         return false;
     };
     match laid(alloc, &[1; 10]) {
-        Some((areas, layout)) => are_serial(rt, alloc, &layout, &areas, &parts, orders, &serial),
+        Some((areas, layout)) => {
+            let graph = SmallGraph {
+                layout: &layout,
+                areas: &areas,
+                parts: &parts,
+                serial: &serial,
+            };
+            are_serial(rt, alloc, graph, orders)
+        }
         None => false,
     }
 }

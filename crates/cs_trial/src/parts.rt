@@ -1,22 +1,22 @@
 // What notes of the small machine are made of.
 ghost use Rattle.std.specs.Prelude.{◌≡◌, All, IfOk, IfSome};
 
-use crate::mini::{Mini, Op};
+use crate::mini::{Mini, MiniOp};
 use cs_cells::{Area, Footprint};
 use std::alloc::{AllocError, Global};
 
 /// What a note of the small machine is made of: what it uses and writes, and its code.
 #[derive(Drop)]
-pub struct Part {
+pub struct MiniPart {
     pub foot: Footprint,
-    pub ops: Vec<Op>,
+    pub ops: Vec<MiniOp>,
 }
 
 /// The notes of these parts, each with two registers.
 pub fn minis<'t>(
     alloc: Global,
     areas: &'t [Area],
-    parts: &'t [Part],
+    parts: &'t [MiniPart],
 ) -> Result<Option<Vec<Mini<'t>>>, AllocError>
     ensures { IfOk result (λ o. IfSome o (λ v. All (λ j. j.areas ≡ areas.now) v.items)) }
 {

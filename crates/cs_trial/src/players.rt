@@ -3,7 +3,7 @@ ghost use Rattle.std.specs.Prelude.{◌≡◌, [], ◌∷◌, true, false};
 ghost use Rattle.cs_board.specs.Board.{plan, name, view, IsSeatOf, IsIdle, SameSeat};
 ghost use Rattle.cs_desk.specs.Desk.{areas};
 ghost use Rattle.cs_board.specs.Views.{opening_view};
-ghost use Rattle.cs_trial.specs.Playing.{Stands, ArePlaying};
+ghost use Rattle.cs_trial.specs.Playing.{IsInPhase, ArePlaying};
 ghost use Rattle.cs_trial.specs.declared.players.Phase.TheVariants as phase_is;
 
 use cs_base::Steps;
@@ -35,7 +35,7 @@ fn claimed<J: Job>(board: &Board<J>, seat: &mut BoardSeat<J>) -> Phase
     requires seat { IsSeatOf J.means (plan board.now) (name board.now) seat.old }
     requires idle { IsIdle (view seat.old) }
     ensures seat { IsSeatOf J.means (plan board.now) (name board.now) seat.new }
-    ensures stands { Stands J.means result (view seat.new) }
+    ensures stands { IsInPhase J.means result (view seat.new) }
     ensures same { SameSeat (view seat.old) (view seat.new) }
 {
     match board.claim(seat, &mut Steps::new()) {
@@ -47,9 +47,9 @@ fn claimed<J: Job>(board: &Board<J>, seat: &mut BoardSeat<J>) -> Phase
 /// The seat's next call.
 fn step<J: Job>(board: &Board<J>, seat: &mut BoardSeat<J>, phase: Phase) -> Phase
     requires seat { IsSeatOf J.means (plan board.now) (name board.now) seat.old }
-    requires stands { Stands J.means phase (view seat.old) }
+    requires stands { IsInPhase J.means phase (view seat.old) }
     ensures seat { IsSeatOf J.means (plan board.now) (name board.now) seat.new }
-    ensures stands { Stands J.means result (view seat.new) }
+    ensures stands { IsInPhase J.means result (view seat.new) }
     ensures same { SameSeat (view seat.old) (view seat.new) }
 {
     match phase {

@@ -6,8 +6,8 @@ ghost use Rattle.cs_board.specs.Views.{opening_view};
 use crate::boards::{opened, words_on};
 use crate::fixtures::{foot, laid};
 use crate::loaded::loaded_of;
-use crate::mini::Op;
-use crate::parts::Part;
+use crate::mini::MiniOp;
+use crate::parts::MiniPart;
 use crate::players::play_alone;
 use cs_base::MOST_NOTES;
 use cs_board::{Board, BoardSeat};
@@ -23,16 +23,20 @@ pub const MOST_TRIES: u64 = 1_024;
 type Left = (u64, u64, bool);
 
 // A note that adds 1 to the one cell of a place.
-fn part_on(alloc: Global, place: u32) -> Result<Part, AllocError> {
-    let code = [Op::Read(0, place), Op::Add(0, 1), Op::Write(place, 0)];
-    Ok(Part {
+fn part_on(alloc: Global, place: u32) -> Result<MiniPart, AllocError> {
+    let code = [
+        MiniOp::Read(0, place),
+        MiniOp::Add(0, 1),
+        MiniOp::Write(place, 0),
+    ];
+    Ok(MiniPart {
         foot: foot(alloc, &[place], &[place])?,
         ops: Vec::from_array(alloc, code)?,
     })
 }
 
 // Notes that add 1 to the cells of these places.
-pub fn parts_on(alloc: Global, places: &[u32]) -> Result<Vec<Part>, AllocError> {
+pub fn parts_on(alloc: Global, places: &[u32]) -> Result<Vec<MiniPart>, AllocError> {
     let mut parts = Vec::new(alloc);
     for place in places {
         parts.push(part_on(alloc, *place)?)?;
@@ -70,7 +74,7 @@ fn play_on<R: Wait>(
     alloc: Global,
     areas: &[Area],
     layout: &Layout,
-    parts: &[Part],
+    parts: &[MiniPart],
 ) -> Option<Left>
     requires { layout.now ≡ areas.now }
 {
