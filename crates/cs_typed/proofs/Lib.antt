@@ -1,2 +1,3 @@
+pub mod Moved
 pub mod Trees
 pub mod Variables

@@ -1,7 +1,10 @@
 -- The typed tree of an orchestra as the definitions see it, and what the code's tree is among it.
-use Rattle.std.specs.Prelude.{ℕ, ℤ, List, [], ◌∷◌, map}
+use Rattle.std.specs.Prelude.{ℕ, ℤ, ◌+◌, List, [], ◌∷◌, ◌++◌, map}
+use Rattle.std.specs.Prelude.{slice_index_or}
+use Rattle.std.specs.Global.{Vec}
 use Rattle.cs_base.specs.Heads.{Header}
 pub use Rattle.cs_base.specs.Heads.{header_of_head}
+use Rattle.cs_base.specs.Rates.{at_rate}
 use Rattle.cs_base.specs.declared.per_rate.PerRate.{PerRate}
 use Rattle.cs_base.specs.declared.resource.Rate.{Rate}
 use Rattle.cs_base.specs.declared.spaces.Spaces.{Spaces}
@@ -22,8 +25,9 @@ use Rattle.cs_typed.specs.declared.tree.TypedPart.TheVariants.{Pick', Call'}
 use Rattle.cs_typed.specs.declared.tree.TypedStmt.{TypedStmt}
 use Rattle.cs_typed.specs.declared.tree.TypedWhat.{TypedWhat, Row_of-TypedArm, end_of-TypedArm, more_of-TypedArm}
 use Rattle.cs_typed.specs.declared.tree.TypedWhat.{Row_of-TypedStmt, end_of-TypedStmt, more_of-TypedStmt}
-use Rattle.cs_typed.specs.declared.tree.TypedWhat.TheVariants.{Set, Call, Choose'}
+use Rattle.cs_typed.specs.declared.tree.TypedWhat.TheVariants.{Set, Call, Choose', Invoke}
 use Rattle.cs_typed.specs.declared.tree.Var.{Var as Variable}
+use Rattle.cs_typed.specs.declared.tree.Var.TheVariants.{Local, Global}
 
 -- The typed tree as the definitions see it, without boxes' addresses and vectors' capacities. An expression has its
 -- rate first.
@@ -80,6 +84,60 @@ pub record Orchestra : Type 0 where
   pub instrs : List Instrument
   pub globals : SharedNames
 
+-- the statements of one block and then those of another
+abbrev pub then_block : Block → Block → Block
+then_block no_stmt b = b
+then_block (andthen s rest) b = andthen s (then_block rest b)
+
+-- one statement
+abbrev pub alone : Statement → Block
+alone s = andthen s no_stmt
+
+-- STATEMENTS MOVED: with the numbers of local variables a number further on, for each rate its own.
+
+-- no variables, and as many as these and those
+abbrev pub no_counts : PerRate ℕ
+no_counts = record { init = 0; control = 0; audio = 0 }
+
+abbrev pub counts_with : PerRate ℕ → PerRate ℕ → PerRate ℕ
+counts_with a b =
+    record { init = a.init + b.init; control = a.control + b.control; audio = a.audio + b.audio }
+
+-- a variable: what notes share stays
+abbrev pub moved_variable : PerRate ℕ → Variable → Variable
+moved_variable base (Local r n) = Local r (at_rate base r + n)
+moved_variable base (Global g) = Global g
+
+abbrev pub moved_expression : PerRate ℕ → Expression → Expression
+moved_expression base (number r n) = number r n
+moved_expression base (var r v) = var r (moved_variable base v)
+moved_expression base (field r k) = field r k
+moved_expression base (head r h) = head r h
+moved_expression base (neg r a) = neg r (moved_expression base a)
+moved_expression base (pair r o a b) = pair r o (moved_expression base a) (moved_expression base b)
+moved_expression base (pick r c a b) =
+    pick r (moved_expression base c) (moved_expression base a) (moved_expression base b)
+moved_expression base (apply r f a) = apply r f (moved_expression base a)
+
+abbrev pub moved_argument : PerRate ℕ → Argument → Argument
+moved_argument base (value e) = value (moved_expression base e)
+moved_argument base (text v) = text (moved_variable base v)
+
+abbrev mutual
+  pub moved : PerRate ℕ → Statement → Statement
+  moved base (set line r v e) = set line r (moved_variable base v) (moved_expression base e)
+  moved base (call line r vs opcode args) =
+      call line r (map (moved_variable base) vs) opcode (map (moved_argument base) args)
+  moved base (choose line r list) = choose line r (moved_arms base list)
+
+  pub moved_block : PerRate ℕ → Block → Block
+  moved_block base no_stmt = no_stmt
+  moved_block base (andthen x rest) = andthen (moved base x) (moved_block base rest)
+
+  pub moved_arms : PerRate ℕ → Arms → Arms
+  moved_arms base (otherwise b) = otherwise (moved_block base b)
+  moved_arms base (arm c b rest) = arm (moved_expression base c) (moved_block base b) (moved_arms base rest)
+
 -- what the code's tree is among these
 abbrev pub of_part : Rate → TypedPart → Expression
 of_part r (Number v) = number r v
@@ -98,50 +156,64 @@ abbrev pub argument : TypedArg → Argument
 argument (Value e) = value (expression e)
 argument (Text v) = text v
 
+-- What routines do, by their places; nothing where there is none.
+abbrev pub routine_at : List Block → ℕ → Block
+routine_at rs k = slice_index_or rs k no_stmt
+
+-- A statement of the code is one statement, or, where it invokes a routine, what that one does, its local variables
+-- numbered from a base on.
 abbrev mutual
-  pub of_what : ℕ → Rate → TypedWhat → Statement
-  of_what line r (Set v e) = set line r v (expression e)
-  of_what line r (Call results opcode args) = call line r results opcode (map argument args.items)
-  of_what line r (Choose' s a t b) = choose line r (of_arms (of_block b) a)
+  pub of_what : List Block → ℕ → Rate → TypedWhat → Block
+  of_what rs line r (Set v e) = alone (set line r v (expression e))
+  of_what rs line r (Call results opcode args) = alone (call line r results opcode (map argument args.items))
+  of_what rs line r (Choose' s a t b) = alone (choose line r (of_arms rs (of_block rs b) a))
+  of_what rs line r (Invoke k base) = moved_block base (routine_at rs k)
 
-  pub of_block : {m : _} → Row_of-TypedStmt m → Block
-  of_block end_of-TypedStmt = no_stmt
-  of_block (more_of-TypedStmt line r what rest) = andthen (of_what line r what) (of_block rest)
+  pub of_block : {m : _} → List Block → Row_of-TypedStmt m → Block
+  of_block rs end_of-TypedStmt = no_stmt
+  of_block rs (more_of-TypedStmt line r what rest) = then_block (of_what rs line r what) (of_block rs rest)
 
-  pub of_arms : {m : _} → Block → Row_of-TypedArm m → Arms
-  of_arms els end_of-TypedArm = otherwise els
-  of_arms els (more_of-TypedArm (TypedArm' cond s body) rest) = arm (expression cond) (of_block body) (of_arms els rest)
+  pub of_arms : {m : _} → List Block → Block → Row_of-TypedArm m → Arms
+  of_arms rs els end_of-TypedArm = otherwise els
+  of_arms rs els (more_of-TypedArm (TypedArm' cond s body) rest) =
+      arm (expression cond) (of_block rs body) (of_arms rs els rest)
 
-abbrev pub statement : TypedStmt → Statement
-statement s = of_what s.line s.rate s.what
+abbrev pub statement : List Block → TypedStmt → Block
+statement rs s = of_what rs s.line s.rate s.what
 
 -- statements of a list
-abbrev pub block : List TypedStmt → Block
-block [] = no_stmt
-block (s ∷ ss) = andthen (statement s) (block ss)
+abbrev pub block : List Block → List TypedStmt → Block
+block rs [] = no_stmt
+block rs (s ∷ ss) = then_block (statement rs s) (block rs ss)
 
 -- arms of a list, and the statements after `else`
-abbrev pub arms : Block → List TypedArm → Arms
-arms els [] = otherwise els
-arms els (a ∷ rest) = arm (expression (out-TypedArm a).cond) (block (out-TypedArm a).body.items) (arms els rest)
+abbrev pub arms : List Block → Block → List TypedArm → Arms
+arms rs els [] = otherwise els
+arms rs els (a ∷ rest) =
+    arm (expression (out-TypedArm a).cond) (block rs (out-TypedArm a).body.items) (arms rs els rest)
 
-abbrev pub instrument : TypedInstr → Instrument
-instrument i = record { line = i.line; numbers = i.numbers; locals = i.locals; body = block i.body.items }
+-- what routines do, after some others: each may invoke those in front of it
+abbrev pub more_routines : List Block → List (Vec TypedStmt) → List Block
+more_routines rs [] = rs
+more_routines rs (r ∷ rest) = more_routines (rs ++ block rs r.items ∷ []) rest
+
+abbrev pub routines : List (Vec TypedStmt) → List Block
+routines list = more_routines [] list
+
+abbrev pub instrument : List Block → TypedInstr → Instrument
+instrument rs i = record { line = i.line; numbers = i.numbers; locals = i.locals; body = block rs i.body.items }
 
 abbrev pub shared_names : Globals → SharedNames
 shared_names g = record { variables = g.variables; control = g.control; sound = g.sound }
 
 abbrev pub orchestra : TypedOrc → Orchestra
-orchestra o = record {
-  head = header_of_head o.head;
-  spaces = o.spaces;
-  zero_locals = o.zero_locals;
-  zero = block o.zero.items;
-  instrs = map instrument o.instrs.items;
-  globals = shared_names o.globals;
-}
-
--- the statements of one block and then those of another
-abbrev pub then_block : Block → Block → Block
-then_block no_stmt b = b
-then_block (andthen s rest) b = andthen s (then_block rest b)
+orchestra o =
+    let rs = routines o.routines.items in
+    record {
+      head = header_of_head o.head;
+      spaces = o.spaces;
+      zero_locals = o.zero_locals;
+      zero = block rs o.zero.items;
+      instrs = map (instrument rs) o.instrs.items;
+      globals = shared_names o.globals;
+    }

@@ -2,9 +2,10 @@
 //! each expression and each statement.
 //!
 //! It has no calls: it is what the reading of an orchestra makes and what the code of notes is made from, so that
-//! either is built and proved without the other. The tree as the definitions see it stands in specs/TypedTree.antt, and
-//! the rules of rates that a typed tree keeps in specs/WellRated.antt (`IsWellRated`), over its variables
-//! (specs/Variables.antt). A further part of the tree changes both sides.
+//! either is built and proved without the other. What a defined opcode does stands in it once, as a routine that
+//! statements invoke; the tree as the definitions see it has what the routine does in their place. That tree stands in
+//! specs/TypedTree.antt, and the rules of rates that it keeps in specs/WellRated.antt (`IsWellRated`), over its
+//! variables (specs/Variables.antt). A further part of the tree changes both sides.
 //!
 //! Modules in reading order: `tree`, `setting` (where a statement stands).
 #![tactic(auto)]

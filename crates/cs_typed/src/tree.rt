@@ -65,6 +65,8 @@ pub enum TypedWhat {
     Call(Vars, Opcode, TypedArgs),
     /// The arms of `if` and `elseif`, and the statements after `else`.
     Choose(TypedArms, TypedStmts),
+    /// What the routine at a place does, its local variables numbered from these numbers on.
+    Invoke(usize, PerRate<usize>),
 }
 
 /// A condition, and the statements that are done where it is the first that holds.
@@ -107,5 +109,8 @@ pub struct TypedOrc {
     /// The statements outside instruments.
     pub zero: TypedStmts,
     pub instrs: Vec<TypedInstr>,
+    /// What its statements invoke: what each defined opcode does that is called, its local variables numbered from 0.
+    /// A routine invokes those in front of it alone.
+    pub routines: Vec<TypedStmts>,
     pub globals: Globals,
 }

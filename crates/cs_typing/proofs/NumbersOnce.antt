@@ -1,5 +1,5 @@
 -- The typed instruments of an orchestra have the numbers that the instruments of the text have.
-use Rattle.std.proofs.Common.{ℕ, eqb, List, [], ◌∷◌, ◌++◌, ◌≡◌, refl, sym, ap, subst}
+use Rattle.std.proofs.Common.{eqb, List, [], ◌∷◌, ◌++◌, ◌≡◌, refl, sym, ap, subst}
 use Rattle.std.specs.List.{IsDistinct, flat_map}
 use Rattle.std.proofs.lemmas.Bool.{eq-eqb, eqb-true}
 use Rattle.std.proofs.lemmas.Map.Made.{IsDistinct-from_AllPairs}

@@ -1,19 +1,17 @@
 -- Other names for local variables change nothing.
 use Rattle.std.proofs.Common.{◌≡◌, ◌∙◌, ℕ, ◌+◌, Bool, cond, true, false, not, ◌&&◌, ◌||◌, if◌then◌else◌, List, [], ◌∷◌}
-use Rattle.std.proofs.Common.{◌++◌, ◌==◌, map, nat_lt, Some, None, refl, sym, ap}
+use Rattle.std.proofs.Common.{◌++◌, map, Some, None, refl, sym, ap}
 use Rattle.std.specs.Str.{bytes_eq}
 use Rattle.std.specs.Option.{option_or}
-use Rattle.std.proofs.lemmas.List.{length-map, map-append}
+use Rattle.std.proofs.lemmas.List.{map-append}
 use Rattle.std.proofs.lemmas.Slice.Eq.{bytes_eq-Decides}
 use Rattle.cs_base.specs.Rates.{within, is_init}
 use Rattle.cs_base.specs.declared.fault.OrcKind.TheVariants as orc
 use Rattle.cs_base.specs.declared.resource.Rate.{Rate}
 use Rattle.cs_base.specs.declared.resource.Rate.TheVariants as rate
-use Rattle.cs_words.specs.Catalogue.{Row, row_of, takes_count, result_count}
+use Rattle.cs_words.specs.Catalogue.{Row, row_of}
 use Rattle.cs_words.specs.NameSets.{has, place_of, seen}
 use Rattle.cs_words.specs.Names.{name_rate, is_global}
-use Rattle.cs_words.specs.declared.catalogue.Shape.{Shape}
-use Rattle.cs_words.specs.declared.catalogue.Shape.TheVariants as shape
 use Rattle.cs_grammar.specs.declared.tree.Callee.{Callee}
 use Rattle.cs_grammar.specs.declared.tree.Callee.TheVariants as callee
 use Rattle.cs_grammar.specs.Tree.{Expression, number, var, field, head, neg, pair, pick, apply, Argument, value, text}
@@ -21,7 +19,7 @@ use Rattle.cs_grammar.specs.Tree.{Statement, set, call, choose, Block, no_stmt, 
 use Rattle.cs_typed.specs.declared.setting.Setting.{Setting}
 use Rattle.cs_typed.specs.declared.tree.Var.{Var}
 use Rattle.cs_typed.specs.declared.tree.Var.TheVariants as variant
-use Rattle.cs_typing.specs.Calls.{text_of, is_too_wide, argument_known, all_known, counts_agree, row_fault, call_fault}
+use Rattle.cs_typing.specs.Calls.{argument_known, all_known, row_fault, call_fault}
 use Rattle.cs_typing.specs.Calls.{row_known, call_known, call_by, typed_call}
 use Rattle.cs_typing.specs.Expressions.{reads_known, expression_by, typed_expression}
 use Rattle.cs_typing.specs.Known.{RateNames, of_rate, with_name, in_table, place_in, added, KnownHere, known_with}
@@ -31,7 +29,7 @@ use Rattle.cs_grammar.specs.Renaming.{renamed_expression, renamed_argument}
 use Rattle.cs_typing.specs.Renaming.{IsRenaming, renamed_name, renamed, renamed_block, renamed_arms, renamed_table}
 use Rattle.cs_typing.specs.Renaming.{renamed_known}
 use Rattle.cs_typing.proofs.SameRates.{KeepsRates, rate_of_kept, value_kept, condition_kept, use_kept, rates_kept}
-use Rattle.cs_typing.proofs.SameRates.{expression_renamed, call_renamed}
+use Rattle.cs_typing.proofs.SameRates.{wide_kept, text_kept, counts_kept, expression_renamed, call_renamed}
 use Rattle.cs_typing.specs.Settings.{at}
 use Rattle.cs_typing.specs.Statements.{set_fault, condition_fault, known, known_block, known_arms, fault, block_fault}
 use Rattle.cs_typing.specs.Statements.{arms_fault, all_init, typed_statement, typed_block, typed_arms}
@@ -214,31 +212,6 @@ expression_kept f r n e =
     expression_renamed (rates f r) (variable (renamed_known f n)) e
     ∙ λ i. expression_by (λ x. variable_kept f r n x i) e
 
-wide_kept : (f : List ℕ → List ℕ) (s : Setting) (sh : Shape) (args : List Argument)
-    → is_too_wide s sh (map (renamed_argument (renamed_name f)) args) ≡ is_too_wide s sh args
-wide_kept f s shape.Init args = refl
-wide_kept f s shape.Unit args = refl
-wide_kept f s shape.Store args = refl
-wide_kept f s shape.Out args = ap (nat_lt s.channels) (length-map args (renamed_argument (renamed_name f)))
-wide_kept f s shape.OutAt args = refl
-wide_kept f s shape.Turnoff args = refl
-wide_kept f s shape.ZakInit args = refl
-wide_kept f s (shape.ZakGet w) args = refl
-wide_kept f s (shape.ZakPut w) args = refl
-wide_kept f s shape.ZakMix args = refl
-wide_kept f s (shape.ZakClear w) args = refl
-wide_kept f s shape.ChannelGet args = refl
-wide_kept f s shape.ChannelPut args = refl
-wide_kept f s shape.ChannelMix args = refl
-wide_kept f s shape.ChannelClear args = refl
-wide_kept f s shape.Ask args = refl
-
-text_kept : (f : List ℕ → List ℕ) (args : List Argument)
-    → text_of (map (renamed_argument (renamed_name f)) args) ≡ text_of args
-text_kept f [] = refl
-text_kept f (value e ∷ args) = text_kept f args
-text_kept f (text name ∷ args) = refl
-
 argument_known_kept : (f : List ℕ → List ℕ) → IsRenaming f → (n : KnownHere) (a : Argument)
     → argument_known (renamed_known f n) (renamed_argument (renamed_name f) a) ≡ argument_known n a
 argument_known_kept f r n (value e) = reads_kept f r n e
@@ -249,25 +222,18 @@ all_known_kept : (f : List ℕ → List ℕ) → IsRenaming f → (n : KnownHere
 all_known_kept f r n [] = refl
 all_known_kept f r n (a ∷ args) = λ i. argument_known_kept f r n a i && all_known_kept f r n args i
 
-counts_kept : (f : List ℕ → List ℕ) (row : Row) (results : List (List ℕ)) (args : List Argument)
-    → counts_agree row (map (renamed_name f) results) (map (renamed_argument (renamed_name f)) args) ≡ counts_agree row
-    results args
-counts_kept f row results args =
-    λ i. length-map results (renamed_name f) i == result_count row
-    && takes_count row (length-map args (renamed_argument (renamed_name f)) i)
-
 row_fault_kept : (f : List ℕ → List ℕ) → IsRenaming f
     → (s : Setting) (n : KnownHere) (row : Row) (results : List (List ℕ)) (args : List Argument)
     → row_fault s (renamed_known f n) row (map (renamed_name f) results)
     (map (renamed_argument (renamed_name f)) args) ≡ row_fault s n
     row results args
 row_fault_kept f r s n row results args = λ i.
-    if not (counts_kept f row results args i) then Some orc.ArgCount
+    if not (counts_kept (rates f r) row results args i) then Some orc.ArgCount
     else (if not (all_known_kept f r n args i) then Some orc.Undefined
     else (if not (rates_kept (rates f r) s row results args i) then Some orc.RateMismatch
-    else (if clashes n.shared (use_kept (rates f r) row.shape results args i) (text_kept f args i) then Some
+    else (if clashes n.shared (use_kept (rates f r) row.shape results args i) (text_kept (rates f r) args i) then Some
     orc.ChannelRate
-    else (if wide_kept f s row.shape args i then Some orc.OutCount else None))))
+    else (if wide_kept (rates f r) s row.shape args i then Some orc.OutCount else None))))
 
 call_fault_kept : (f : List ℕ → List ℕ) → IsRenaming f
     → (s : Setting) (n : KnownHere) (c : Callee) (results : List (List ℕ)) (args : List Argument)
@@ -283,7 +249,8 @@ row_known_renamed : (f : List ℕ → List ℕ) → IsRenaming f
     (map (renamed_argument (renamed_name f)) args) ≡ renamed_known f
     (row_known n row results args)
 row_known_renamed f r n row results args =
-    λ i. known_with (use_channel n.shared (use_kept (rates f r) row.shape results args i) (text_kept f args i))
+    λ i. known_with (use_channel n.shared (use_kept (rates f r) row.shape results args i)
+    (text_kept (rates f r) args i))
     (given_all_renamed f r n results i).locals
 
 call_known_renamed : (f : List ℕ → List ℕ) → IsRenaming f

@@ -1,13 +1,14 @@
 -- Other names of the same rates: the rates, the kinds and the use of what they stand in stay, and typed forms differ in
 -- their variables alone.
 use Rattle.std.proofs.Common.{◌≡◌, ◌∙◌, ℕ, ◌+◌, not, ◌&&◌, ◌||◌, if◌then◌else◌, List, [], ◌∷◌, ◌++◌, map, Option, Some}
-use Rattle.std.proofs.Common.{None, refl, ap}
+use Rattle.std.proofs.Common.{None, ◌==◌, nat_lt, refl, ap}
+use Rattle.std.proofs.lemmas.List.{length-map}
 use Rattle.std.specs.List.{list_any, list_all}
 use Rattle.cs_base.specs.Rates.{faster, same_rate, is_init, is_control, is_audio}
 use Rattle.cs_base.specs.declared.resource.Rate.{Rate}
 use Rattle.cs_base.specs.declared.resource.Rate.TheVariants as rate
 use Rattle.cs_words.specs.Signs.{is_arithmetic, is_logic}
-use Rattle.cs_words.specs.Catalogue.{Row, letter_at, takes, row_of}
+use Rattle.cs_words.specs.Catalogue.{Row, letter_at, takes, row_of, takes_count, result_count}
 use Rattle.cs_words.specs.Names.{name_rate}
 use Rattle.cs_words.specs.declared.catalogue.Letter.{Letter}
 use Rattle.cs_words.specs.declared.catalogue.Shape.{Shape}
@@ -17,8 +18,8 @@ use Rattle.cs_grammar.specs.Tree.{Expression, number, var, field, head, neg, pai
 use Rattle.cs_typed.specs.Places.{stands_outside, is_starting, is_writing}
 use Rattle.cs_typed.specs.declared.setting.Setting.{Setting}
 use Rattle.cs_typing.specs.Calls.{fits, all_fit, bound_of, may_result, is_sound, any_sound, is_even, kind_of}
-use Rattle.cs_typing.specs.Calls.{channel_use, rates_agree, is_still, plain_rate, call_rate, argument_by, arguments_by}
-use Rattle.cs_typing.specs.Calls.{row_by, call_by}
+use Rattle.cs_typing.specs.Calls.{channel_use, text_of, is_too_wide, rates_agree, counts_agree, is_still, plain_rate}
+use Rattle.cs_typing.specs.Calls.{call_rate, argument_by, arguments_by, row_by, call_by}
 use Rattle.cs_typing.specs.Expressions.{applied_rate, is_control_name, is_value, is_condition, rate_of, Variables}
 use Rattle.cs_typing.specs.Expressions.{expression_by}
 use Rattle.cs_grammar.specs.Renaming.{renamed_expression, renamed_argument}
@@ -170,6 +171,36 @@ module _ {own : List ℕ → List ℕ} (same : KeepsRates own) where
       (bound_kept results)
       ∙ λ i. all_fit_kept row (bound_of results) 0 args i && results_kept row results i
       && even_kept row.shape args i && (s.inside || stands_outside row.shape)
+
+  pub wide_kept : (s : Setting) (sh : Shape) (args : List Argument)
+      → is_too_wide s sh (map (renamed_argument own) args) ≡ is_too_wide s sh args
+  wide_kept s shape.Init args = refl
+  wide_kept s shape.Unit args = refl
+  wide_kept s shape.Store args = refl
+  wide_kept s shape.Out args = ap (nat_lt s.channels) (length-map args (renamed_argument own))
+  wide_kept s shape.OutAt args = refl
+  wide_kept s shape.Turnoff args = refl
+  wide_kept s shape.ZakInit args = refl
+  wide_kept s (shape.ZakGet w) args = refl
+  wide_kept s (shape.ZakPut w) args = refl
+  wide_kept s shape.ZakMix args = refl
+  wide_kept s (shape.ZakClear w) args = refl
+  wide_kept s shape.ChannelGet args = refl
+  wide_kept s shape.ChannelPut args = refl
+  wide_kept s shape.ChannelMix args = refl
+  wide_kept s shape.ChannelClear args = refl
+  wide_kept s shape.Ask args = refl
+
+  pub text_kept : (args : List Argument) → text_of (map (renamed_argument own) args) ≡ text_of args
+  text_kept [] = refl
+  text_kept (value e ∷ args) = text_kept args
+  text_kept (text name ∷ args) = refl
+
+  pub counts_kept : (row : Row) (results : List (List ℕ)) (args : List Argument)
+      → counts_agree row (map own results) (map (renamed_argument own) args) ≡ counts_agree row results args
+  counts_kept row results args =
+      λ i. length-map results own i == result_count row
+      && takes_count row (length-map args (renamed_argument own) i)
 
   pub plain_rate_kept : (sh : Shape) (args : List Argument)
       → plain_rate sh (map (renamed_argument own) args) ≡ plain_rate sh args

@@ -1,6 +1,6 @@
 -- Calls of opcodes: what may be called with what, and the typed form of a call.
-use Rattle.std.specs.Prelude.{ℕ, Bool, true, false, not, List, [], ◌∷◌, ◌++◌, ◌&&◌, ◌||◌, ◌+◌, ◌==◌, length, map}
-use Rattle.std.specs.Prelude.{nat_lt, Option, Some, None, if◌then◌else◌}
+use Rattle.std.specs.Prelude.{ℕ, Bool, true, not, List, [], ◌∷◌, ◌++◌, ◌&&◌, ◌||◌, ◌+◌, ◌==◌, length, map}
+use Rattle.std.specs.Prelude.{Option, Some, None, if◌then◌else◌}
 use Rattle.std.specs.List.{list_any, list_all}
 use Rattle.cs_base.specs.Rates.{is_audio}
 use Rattle.cs_base.specs.declared.fault.OrcKind.{OrcKind}
@@ -20,8 +20,9 @@ use Rattle.cs_typed.specs.Calls.{sounds, stands_still, accepts, all_meet, bound_
 use Rattle.cs_typed.specs.Calls.{rate_without_result, rate_of_call}
 use Rattle.cs_typed.specs.Places.{stands_outside}
 use Rattle.cs_typed.specs.declared.setting.Setting.{Setting}
-use Rattle.cs_typing.specs.Expressions.{is_value, rate_of, reads_known, Variables, expression_by}
-use Rattle.cs_typing.specs.Known.{KnownHere, Shared, known_with, given_all, use_channel, clashes, channel_of, variable}
+use Rattle.cs_typing.specs.Expressions.{is_value, rate_of, reads_by, Variables, expression_by}
+use Rattle.cs_typing.specs.Known.{KnownHere, Shared, known_with, knows, given_all, use_channel, clashes, channel_of}
+use Rattle.cs_typing.specs.Known.{variable}
 use Rattle.cs_typed.specs.TypedTree as typed
 use Rattle.cs_typing.specs.declared.known.Channel.{Channel}
 use Rattle.cs_typing.specs.declared.known.Channel.TheVariants as channel
@@ -82,12 +83,18 @@ abbrev pub is_too_wide : Setting → Shape → List Argument → Bool
 is_too_wide s sh args = exceeds s sh args
 
 -- an argument reads what is known
+abbrev pub argument_read_by : (List ℕ → Bool) → Argument → Bool
+argument_read_by is_known (value e) = reads_by is_known e
+argument_read_by is_known (text name) = true
+
+abbrev pub all_read_by : (List ℕ → Bool) → List Argument → Bool
+all_read_by is_known args = list_all (argument_read_by is_known) args
+
 abbrev pub argument_known : KnownHere → Argument → Bool
-argument_known n (value e) = reads_known n e
-argument_known n (text name) = true
+argument_known n a = argument_read_by (knows n) a
 
 abbrev pub all_known : KnownHere → List Argument → Bool
-all_known n args = list_all (argument_known n) args
+all_known n args = all_read_by (knows n) args
 
 -- arguments and results have the rates that the row allows, and the opcode may stand here
 abbrev pub rates_agree : Setting → Row → List (List ℕ) → List Argument → Bool
@@ -101,19 +108,30 @@ rates_agree s row results args =
 abbrev pub counts_agree : Row → List (List ℕ) → List Argument → Bool
 counts_agree row results args = length results == result_count row && takes_count row (length args)
 
--- the first rule that a call of an opcode breaks
-abbrev pub row_fault : Setting → KnownHere → Row → List (List ℕ) → List Argument → Option OrcKind
-row_fault s n row results args =
+-- the first rule that a call of an opcode breaks, by what bodies share and by which names are known
+abbrev pub row_fault_by : Setting → Shared → (List ℕ → Bool) → Row → List (List ℕ) → List Argument → Option OrcKind
+row_fault_by s g is_known row results args =
     if not (counts_agree row results args) then Some orc.ArgCount
-    else (if not (all_known n args) then Some orc.Undefined
+    else (if not (all_read_by is_known args) then Some orc.Undefined
     else (if not (rates_agree s row results args) then Some orc.RateMismatch
-    else (if clashes n.shared (channel_use row.shape results args) (text_of args) then Some orc.ChannelRate
+    else (if clashes g (channel_use row.shape results args) (text_of args) then Some orc.ChannelRate
     else (if is_too_wide s row.shape args then Some orc.OutCount else None))))
 
 -- the first rule that a call breaks: a name that is called is no opcode
+abbrev pub call_fault_by : Setting → Shared → (List ℕ → Bool) → Callee → List (List ℕ) → List Argument → Option OrcKind
+call_fault_by s g is_known (callee.Opcode o) results args = row_fault_by s g is_known (row_of o) results args
+call_fault_by s g is_known (callee.Name name) results args = Some orc.UnknownOpcode
+
+abbrev pub row_fault : Setting → KnownHere → Row → List (List ℕ) → List Argument → Option OrcKind
+row_fault s n row results args = row_fault_by s n.shared (knows n) row results args
+
 abbrev pub call_fault : Setting → KnownHere → Callee → List (List ℕ) → List Argument → Option OrcKind
-call_fault s n (callee.Opcode o) results args = row_fault s n (row_of o) results args
-call_fault s n (callee.Name name) results args = Some orc.UnknownOpcode
+call_fault s n c results args = call_fault_by s n.shared (knows n) c results args
+
+-- what bodies share after a call
+abbrev pub call_shared : Shared → Callee → List (List ℕ) → List Argument → Shared
+call_shared g (callee.Opcode o) results args = use_channel g (channel_use (row_of o).shape results args) (text_of args)
+call_shared g (callee.Name name) results args = g
 
 -- what is known after a call
 abbrev pub row_known : KnownHere → Row → List (List ℕ) → List Argument → KnownHere
@@ -158,9 +176,6 @@ call_by line g v (callee.Opcode o) results args = row_by line g v o (row_of o) r
 call_by line g v (callee.Name name) results args = typed.choose line rate.Init (typed.otherwise typed.no_stmt)
 
 -- the typed forms, by what is known
-abbrev pub typed_argument : KnownHere → Option Channel → Argument → List typed.Argument
-typed_argument n role a = argument_by n.shared (variable n) role a
-
 abbrev pub typed_arguments : KnownHere → Option Channel → List Argument → List typed.Argument
 typed_arguments n role args = arguments_by n.shared (variable n) role args
 

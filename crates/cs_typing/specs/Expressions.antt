@@ -54,16 +54,19 @@ abbrev mutual
       else not (is_arithmetic o) && (is_value a && is_value b && not (is_audio (faster (rate_of a) (rate_of b))))
   is_condition _ = false
 
--- every variable that is read is known
+-- every variable that is read is among those that are known
+abbrev pub reads_by : (List ℕ → Bool) → Expression → Bool
+reads_by is_known (number v) = true
+reads_by is_known (var name) = is_known name
+reads_by is_known (field k) = true
+reads_by is_known (head h) = true
+reads_by is_known (neg a) = reads_by is_known a
+reads_by is_known (pair o a b) = reads_by is_known a && reads_by is_known b
+reads_by is_known (pick c a b) = reads_by is_known c && reads_by is_known a && reads_by is_known b
+reads_by is_known (apply f a) = reads_by is_known a
+
 abbrev pub reads_known : KnownHere → Expression → Bool
-reads_known n (number v) = true
-reads_known n (var name) = knows n name
-reads_known n (field k) = true
-reads_known n (head h) = true
-reads_known n (neg a) = reads_known n a
-reads_known n (pair o a b) = reads_known n a && reads_known n b
-reads_known n (pick c a b) = reads_known n c && reads_known n a && reads_known n b
-reads_known n (apply f a) = reads_known n a
+reads_known n e = reads_by (knows n) e
 
 -- the variable of each name
 abbrev pub Variables : Type 0

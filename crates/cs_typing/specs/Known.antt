@@ -87,9 +87,6 @@ abbrev pub use_channel : Shared → Option Channel → List ℕ → Shared
 use_channel s None name = s
 use_channel s (Some kind) name = used s kind name
 
-abbrev pub with_channel : KnownHere → Option Channel → List ℕ → KnownHere
-with_channel n role name = known_with (use_channel n.shared role name) n.locals
-
 -- a channel was used before as one of the other kind
 abbrev pub clashes : Shared → Option Channel → List ℕ → Bool
 clashes s None name = false

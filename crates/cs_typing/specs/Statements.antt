@@ -12,8 +12,8 @@ use Rattle.cs_grammar.specs.Tree.{arm}
 use Rattle.cs_typed.specs.Calls.{rate_of_choice}
 use Rattle.cs_typed.specs.declared.setting.Setting.{Setting}
 use Rattle.cs_typing.specs.Calls.{call_fault, call_known, typed_call}
-use Rattle.cs_typing.specs.Expressions.{is_value, is_condition, rate_of, reads_known, typed_expression}
-use Rattle.cs_typing.specs.Known.{KnownHere, given, variable}
+use Rattle.cs_typing.specs.Expressions.{is_value, is_condition, rate_of, reads_by, typed_expression}
+use Rattle.cs_typing.specs.Known.{KnownHere, knows, given, variable}
 use Rattle.cs_typing.specs.Settings.{at}
 use Rattle.cs_typed.specs.TypedTree as typed
 
@@ -21,17 +21,23 @@ use Rattle.cs_typed.specs.TypedTree as typed
 abbrev pub may_set : Setting → List ℕ → Expression → Bool
 may_set s name e = is_value e && within (rate_of e) (name_rate name) && (s.inside || is_init (name_rate name))
 
--- the first rule that an assignment breaks
-abbrev pub set_fault : Setting → KnownHere → List ℕ → Expression → Option OrcKind
-set_fault s n name e =
-    if not (reads_known n e) then Some orc.Undefined
+-- the first rule that an assignment breaks, by which names are known
+abbrev pub set_fault_by : Setting → (List ℕ → Bool) → List ℕ → Expression → Option OrcKind
+set_fault_by s is_known name e =
+    if not (reads_by is_known e) then Some orc.Undefined
     else (if not (may_set s name e) then Some orc.RateMismatch else None)
 
--- the first rule that the condition of an `if` breaks
-abbrev pub condition_fault : Setting → KnownHere → Expression → Option OrcKind
-condition_fault s n e =
-    if not (reads_known n e) then Some orc.Undefined
+abbrev pub set_fault : Setting → KnownHere → List ℕ → Expression → Option OrcKind
+set_fault s n name e = set_fault_by s (knows n) name e
+
+-- the first rule that the condition of an `if` breaks, by which names are known
+abbrev pub condition_fault_by : Setting → (List ℕ → Bool) → Expression → Option OrcKind
+condition_fault_by s is_known e =
+    if not (reads_by is_known e) then Some orc.Undefined
     else (if not (is_condition e && (s.inside || is_init (rate_of e))) then Some orc.RateMismatch else None)
+
+abbrev pub condition_fault : Setting → KnownHere → Expression → Option OrcKind
+condition_fault s n e = condition_fault_by s (knows n) e
 
 -- what is known after statements; an `if` gives what any of its arms gives
 abbrev mutual

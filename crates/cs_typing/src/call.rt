@@ -1,17 +1,19 @@
 // Calls of opcodes: how many arguments, what each may be, which channel is used, and the typed form.
-ghost use Rattle.std.specs.Prelude.{◌≡◌, ◌++◌, IfOk, OnOk, map};
+ghost use Rattle.std.specs.Prelude.{◌≡◌, ◌++◌, IfOk, List, OnOk, map};
 ghost use Rattle.std.specs.List.{list_all};
 ghost use Rattle.cs_base.specs.declared.fault.Or.TheVariants as or;
 ghost use Rattle.cs_grammar.specs.Tree.{argument};
 ghost use Rattle.cs_typed.specs.Places.{stands_outside, is_starting, is_writing};
 ghost use Rattle.cs_typing.specs.Calls.{fits, all_fit, bound_of, may_result, is_sound, any_sound, is_even, kind_of};
-ghost use Rattle.cs_typing.specs.Calls.{channel_use, text_of, is_too_wide, argument_known, all_known, rates_agree};
-ghost use Rattle.cs_typing.specs.Calls.{counts_agree, row_fault, is_still, plain_rate, call_rate, typed_argument};
-ghost use Rattle.cs_typing.specs.Calls.{typed_arguments, typed_row, call_fault, call_known, typed_call};
-ghost use Rattle.cs_typing.specs.Known.{known_with, variable, given_all, use_channel};
+ghost use Rattle.cs_typing.specs.Calls.{channel_use, text_of, is_too_wide, argument_read_by, all_read_by, rates_agree};
+ghost use Rattle.cs_typing.specs.Calls.{counts_agree, row_fault_by, is_still, plain_rate, call_rate, argument_by};
+ghost use Rattle.cs_typing.specs.Calls.{arguments_by, row_by, call_fault_by, call_shared, call_by};
+ghost use Rattle.cs_typing.specs.Known.{use_channel};
 ghost use Rattle.cs_typing.specs.Settings.{at};
 ghost use Rattle.cs_typed.specs.TypedTree as typed;
-ghost use Rattle.cs_typing.specs.inner.Answers.{Gives};
+ghost use Rattle.cs_typing.specs.inner.Answers.{GivesOne};
+ghost use Rattle.cs_typing.specs.inner.Routines.{all_given_in, known_in, knows_in, variable_in};
+ghost use Rattle.cs_typing.specs.inner.Held.{known_of};
 
 use crate::expr::{is_value, rate_of, reads_known, typed_expression};
 use crate::known::{Channel, KnownNames};
@@ -164,7 +166,7 @@ fn is_too_wide(setting: Setting, shape: Shape, args: &[Arg]) -> bool
 
 // Whether an argument reads what is known.
 fn argument_known<'t>(names: &KnownNames<'t>, arg: &Arg) -> bool
-    ensures { result ≡ argument_known names.now (argument arg.now) }
+    ensures { result ≡ argument_read_by (knows_in (known_of names.now)) (argument arg.now) }
 {
     match arg {
         Arg::Value(e) => reads_known(names, e),
@@ -173,7 +175,7 @@ fn argument_known<'t>(names: &KnownNames<'t>, arg: &Arg) -> bool
 }
 
 fn all_known<'t>(names: &KnownNames<'t>, args: &[Arg]) -> bool
-    ensures { result ≡ all_known names.now (map argument args.now) }
+    ensures { result ≡ all_read_by (knows_in (known_of names.now)) (map argument args.now) }
 {
     for arg in args {
         if !argument_known(names, arg) {
@@ -208,7 +210,8 @@ pub fn row_fault<'t>(
     results: &[Name],
     args: &[Arg],
 ) -> Option<OrcKind>
-    ensures { result ≡ row_fault setting names.now row.now results.now (map argument args.now) }
+    ensures { result ≡ row_fault_by setting names.now.shared (knows_in (known_of names.now)) row.now results.now
+        (map argument args.now) }
 {
     if !counts_agree(row, results, args) {
         Some(OrcKind::ArgCount)
@@ -286,7 +289,7 @@ pub fn call_rate(shape: Shape, results: &[Name], args: &[Arg]) -> Rate
 
 // The variables of results.
 fn variables<'t>(names: &KnownNames<'t>, results: &[Name]) -> Result<Vars, OutOfMemory>
-    ensures { IfOk result (λ made. made ≡ map (variable names.now) results.now) }
+    ensures { IfOk result (λ made. made ≡ map (variable_in (known_of names.now)) results.now) }
 {
     let mut made = Vars::new(names.alloc());
     for name in results {
@@ -303,7 +306,7 @@ fn add_argument<'t>(
     made: &mut TypedArgs,
 ) -> Result<(), OutOfMemory>
     ensures { OnOk result (map typed.argument made.new.items ≡ map typed.argument made.old.items
-        ++ typed_argument names.now role (argument arg.now)) }
+        ++ argument_by names.now.shared (variable_in (known_of names.now)) role (argument arg.now)) }
 {
     match (arg, role) {
         (Arg::Value(e), _) => {
@@ -324,7 +327,7 @@ fn typed_arguments<'t>(
     args: &[Arg],
 ) -> Result<TypedArgs, OutOfMemory>
     ensures { IfOk result (λ made. map typed.argument made.items
-        ≡ typed_arguments names.now role (map argument args.now)) }
+        ≡ arguments_by names.now.shared (variable_in (known_of names.now)) role (map argument args.now)) }
 {
     let mut made = Vec::new(names.alloc());
     for arg in args {
@@ -342,8 +345,9 @@ fn typed_row<'t>(
     results: &[Name],
     args: &[Arg],
 ) -> Result<TypedStmt, OutOfMemory>
-    ensures { IfOk result (λ made. typed.statement made
-        ≡ typed_row line names.now opcode row.now results.now (map argument args.now)) }
+    ensures { IfOk result (λ made. (rs : List typed.Block) → typed.statement rs made
+        ≡ typed.alone (row_by line names.now.shared (variable_in (known_of names.now)) opcode row.now results.now
+        (map argument args.now))) }
 {
     let role = channel_use(row.shape(), results, args);
     let vars = variables(names, results)?;
@@ -357,7 +361,8 @@ fn typed_row<'t>(
 
 // Notes that results are given.
 fn give_all<'t>(names: &mut KnownNames<'t>, results: &'t [Name]) -> Result<(), OutOfMemory>
-    ensures { OnOk result (names.new ≡ given_all names.old results.now) }
+    ensures { OnOk result (known_of names.new
+        ≡ known_in names.old.shared (all_given_in (known_of names.old).locals results.now)) }
 {
     for name in results {
         names.give(name.as_slice())?;
@@ -374,11 +379,14 @@ pub fn call<'t>(
     callee: &Callee,
     args: &'t [Arg],
 ) -> Result<TypedStmt, Or<OrcFault>>
-    ensures gives { Gives typed.statement result
-        (at line (call_fault setting names.old callee.now results.now (map argument args.now)))
-        (typed_call line names.old callee.now results.now (map argument args.now)) }
-    ensures known { OnOk result (names.new
-        ≡ call_known names.old callee.now results.now (map argument args.now)) }
+    ensures gives { GivesOne result
+        (at line (call_fault_by setting names.old.shared (knows_in (known_of names.old)) callee.now results.now
+        (map argument args.now)))
+        (call_by line names.old.shared (variable_in (known_of names.old)) callee.now results.now
+        (map argument args.now)) }
+    ensures known { OnOk result (known_of names.new ≡ known_in
+        (call_shared names.old.shared callee.now results.now (map argument args.now))
+        (all_given_in (known_of names.old).locals results.now)) }
 {
     let Callee::Opcode(opcode) = callee else {
         return Err(broken(line, OrcKind::UnknownOpcode));
@@ -393,7 +401,6 @@ pub fn call<'t>(
 }
 
 // Notes what a call gives: its results, and the channel that it uses. What was made of it is handed on.
-#[tactic(auto, using(crate::proofs::Given::given_shared))]
 fn noted<'t, T: Drop>(
     names: &mut KnownNames<'t>,
     results: &'t [Name],
@@ -402,8 +409,8 @@ fn noted<'t, T: Drop>(
     made: T,
 ) -> Result<T, OutOfMemory>
     ensures made { IfOk result (λ m. m ≡ made) }
-    ensures known { OnOk result (names.new
-        ≡ known_with (use_channel names.old.shared role channel.now) (given_all names.old results.now).locals) }
+    ensures known { OnOk result (known_of names.new ≡ known_in (use_channel names.old.shared role channel.now)
+        (all_given_in (known_of names.old).locals results.now)) }
 {
     give_all(names, results)?;
     names.use_channel(role, channel)?;

@@ -5,8 +5,10 @@ ghost use Rattle.std.specs.Box.{box_value};
 ghost use Rattle.cs_base.specs.Rates.{faster};
 ghost use Rattle.cs_base.specs.declared.resource.Rate.TheVariants as rate;
 ghost use Rattle.cs_typing.specs.Expressions.{rate_of, applied_rate, is_control_name, is_value, is_condition};
-ghost use Rattle.cs_typing.specs.Expressions.{reads_known, typed_expression};
+ghost use Rattle.cs_typing.specs.Expressions.{reads_by, expression_by};
+ghost use Rattle.cs_typing.specs.inner.Routines.{knows_in, variable_in};
 ghost use Rattle.cs_typed.specs.TypedTree as typed;
+ghost use Rattle.cs_typing.specs.inner.Held.{known_of};
 
 use crate::known::KnownNames;
 use crate::making::in_box;
@@ -76,7 +78,7 @@ pub fn is_condition(e: &Expr) -> bool
 
 /// Whether every variable that is read is known.
 pub fn reads_known<'t>(names: &KnownNames<'t>, e: &Expr) -> bool
-    ensures { result ≡ reads_known names.now (expression e.now) }
+    ensures { result ≡ reads_by (knows_in (known_of names.now)) (expression e.now) }
 {
     match e {
         Expr::Number(_) | Expr::Field(_) | Expr::Head(_) => true,
@@ -93,7 +95,7 @@ pub fn reads_known<'t>(names: &KnownNames<'t>, e: &Expr) -> bool
 #[cycle(typed)]
 pub fn typed_expression<'t>(names: &KnownNames<'t>, e: &Expr) -> Result<TypedExpr, OutOfMemory>
     ensures form { IfOk result (λ made. typed.expression made
-        ≡ typed_expression names.now (expression e.now)) }
+        ≡ expression_by (variable_in (known_of names.now)) (expression e.now)) }
     ensures rate { IfOk result (λ made. made.rate ≡ rate_of (expression e.now)) }
 {
     match e {
@@ -182,7 +184,7 @@ fn still(what: TypedPart) -> TypedExpr
 #[cycle(typed)]
 fn boxed<'t>(names: &KnownNames<'t>, e: &Expr) -> Result<Box<TypedExpr>, OutOfMemory>
     ensures form { IfOk result (λ made. typed.expression (box_value made)
-        ≡ typed_expression names.now (expression e.now)) }
+        ≡ expression_by (variable_in (known_of names.now)) (expression e.now)) }
     ensures rate { IfOk result (λ made. (box_value made).rate ≡ rate_of (expression e.now)) }
 {
     let made = typed_expression(names, e)?;

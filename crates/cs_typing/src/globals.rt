@@ -1,16 +1,36 @@
 // The global variables of an orchestra, in the order in which statements first give them: those outside instruments
-// first.
-ghost use Rattle.std.specs.Prelude.{◌≡◌, OnOk, map};
+// first. What a defined opcode gives is given where it is first called, so each definition is looked through once.
+ghost use Rattle.std.specs.Prelude.{◌≡◌, OnOk, IfOk, map, nat_lt, true};
+ghost use Rattle.std.specs.List.{prefix_len};
 ghost use Rattle.cs_grammar.specs.Tree as tree;
 ghost use Rattle.cs_grammar.specs.declared.tree.Arm.{out-Arm};
-ghost use Rattle.cs_typing.specs.Known.{no_names};
-ghost use Rattle.cs_typing.specs.Typing.{given_global, given_globals, globals, globals_of_block, globals_of_arms};
-ghost use Rattle.cs_typing.specs.Typing.{globals_of_instruments, all_globals};
+ghost use Rattle.cs_typing.specs.Typing.{given_global, given_globals, all_globals};
+ghost use Rattle.cs_typing.specs.inner.Globals.{called_names, names_in, names_in_block, names_in_bodies};
+ghost use Rattle.cs_typing.specs.inner.Globals.{IsDone, Looks, givers_in, givers_of, names_in_instruments};
+ghost use Rattle.cs_udo.specs.Expanded.{expanded_orchestra};
+ghost use Rattle.cs_udo.specs.Library.{definitions_of};
+ghost use Rattle.cs_udo.specs.Ready.{IsReady};
 
 use crate::known::NamesByRate;
 use cs_base::{Name, OutOfMemory};
-use cs_grammar::{Arm, Instr, Orc, OrcStmt, StmtWhat};
+use cs_grammar::{Arm, Callee, Instr, OrcStmt, StmtWhat};
+use cs_udo::{Expansion, Library};
 use cs_words::is_global;
+use std::alloc::Global;
+
+/// The global variables so far, and for each definition whether its own are among them.
+#[derive(Drop)]
+pub struct GivenGlobals<'t> {
+    names: NamesByRate<'t>,
+    done: Vec<bool>,
+}
+
+/// The definitions that stand in front of a part of the text.
+#[derive(Clone, Copy)]
+pub struct Front<'l, 't> {
+    library: &'l Library<'t>,
+    visible: usize,
+}
 
 fn give_global<'t>(t: &mut NamesByRate<'t>, name: &'t [u8]) -> Result<(), OutOfMemory>
     ensures { OnOk result (t.new ≡ given_global t.old name.now) }
@@ -28,64 +48,154 @@ fn give_globals<'t>(t: &mut NamesByRate<'t>, names: &'t [Name]) -> Result<(), Ou
 }
 
 #[cycle(globals)]
-fn globals_of_stmt<'t>(t: &mut NamesByRate<'t>, s: &'t OrcStmt) -> Result<(), OutOfMemory>
-    ensures { OnOk result (t.new ≡ globals t.old (tree.statement s.now)) }
+fn globals_of_stmt<'t>(
+    given: &mut GivenGlobals<'t>,
+    front: Front<'_, 't>,
+    s: &'t OrcStmt,
+) -> Result<(), OutOfMemory>
+    requires { IsDone front given.old }
+    ensures { OnOk result (Looks front.entry given.old given.new
+        (names_in (givers_in front.entry) (tree.statement s.now))) }
 {
     match &s.what {
-        StmtWhat::Set(name, _) => give_global(t, name.as_slice()),
-        StmtWhat::Call(results, _, _) => give_globals(t, results.as_slice()),
+        StmtWhat::Set(name, _) => give_global(&mut given.names, name.as_slice()),
+        StmtWhat::Call(results, callee, _) => {
+            globals_of_callee(given, front, callee)?;
+            give_globals(&mut given.names, results.as_slice())
+        }
         StmtWhat::Choose(list, els) => {
-            globals_of_arms(t, list)?;
-            globals_of_block(t, els)
+            globals_of_arms(given, front, list)?;
+            globals_of_block(given, front, els)
+        }
+    }
+}
+
+// Those of what is called, where it is a defined opcode that wasn't looked through.
+#[cycle(globals)]
+fn globals_of_callee<'t>(
+    given: &mut GivenGlobals<'t>,
+    front: Front<'_, 't>,
+    callee: &Callee,
+) -> Result<(), OutOfMemory>
+    requires { IsDone front given.old }
+    ensures { OnOk result (Looks front.entry given.old given.new
+        (called_names (givers_in front.entry) callee.now)) }
+{
+    match front.library.find(front.visible, callee) {
+        None => Ok(()),
+        Some(found) => {
+            if !given.done[found.place] {
+                let inner = Front {
+                    library: front.library,
+                    visible: found.place,
+                };
+                globals_of_block(given, inner, &found.definition.body)?;
+                given.done[found.place] = true;
+            }
+            Ok(())
         }
     }
 }
 
 #[cycle(globals)]
-fn globals_of_block<'t>(t: &mut NamesByRate<'t>, stmts: &'t [OrcStmt]) -> Result<(), OutOfMemory>
-    ensures { OnOk result (t.new ≡ globals_of_block t.old (tree.block stmts.now)) }
+fn globals_of_block<'t>(
+    given: &mut GivenGlobals<'t>,
+    front: Front<'_, 't>,
+    stmts: &'t [OrcStmt],
+) -> Result<(), OutOfMemory>
+    requires { IsDone front given.old }
+    ensures { OnOk result (Looks front.entry given.old given.new
+        (names_in_block (givers_in front.entry) (tree.block stmts.now))) }
 {
     for s in stmts {
-        globals_of_stmt(t, s)?;
+        globals_of_stmt(given, front, s)?;
     }
     Ok(())
 }
 
 #[cycle(globals)]
-fn globals_of_arms<'t>(t: &mut NamesByRate<'t>, list: &'t [Arm]) -> Result<(), OutOfMemory>
-    ensures { OnOk result ((els : tree.Block)
-        → globals_of_block t.new els ≡ globals_of_arms t.old (tree.arms els list.now)) }
+fn globals_of_arms<'t>(
+    given: &mut GivenGlobals<'t>,
+    front: Front<'_, 't>,
+    list: &'t [Arm],
+) -> Result<(), OutOfMemory>
+    requires { IsDone front given.old }
+    ensures { OnOk result (Looks front.entry given.old given.new
+        (names_in_bodies (givers_in front.entry) list.now)) }
 {
     for a in list {
-        globals_of_arm(t, a)?;
+        globals_of_arm(given, front, a)?;
     }
     Ok(())
 }
 
 #[cycle(globals)]
-fn globals_of_arm<'t>(t: &mut NamesByRate<'t>, a: &'t Arm) -> Result<(), OutOfMemory>
-    ensures { OnOk result (t.new ≡ globals_of_block t.old (tree.block (out-Arm a.now).body.items)) }
+fn globals_of_arm<'t>(
+    given: &mut GivenGlobals<'t>,
+    front: Front<'_, 't>,
+    a: &'t Arm,
+) -> Result<(), OutOfMemory>
+    requires { IsDone front given.old }
+    ensures { OnOk result (Looks front.entry given.old given.new
+        (names_in_block (givers_in front.entry) (tree.block (out-Arm a.now).body.items))) }
 {
-    globals_of_block(t, &a.body)
+    globals_of_block(given, front, &a.body)
 }
 
+// Those of instruments, each with what is defined in front of it.
 fn globals_of_instruments<'t>(
-    t: &mut NamesByRate<'t>,
+    given: &mut GivenGlobals<'t>,
+    outside: Front<'_, 't>,
     instrs: &'t [Instr],
 ) -> Result<(), OutOfMemory>
-    ensures { OnOk result (t.new ≡ globals_of_instruments t.old (map tree.instrument instrs.now)) }
+    requires { IsDone outside given.old }
+    ensures { OnOk result (given.new.names ≡ given_globals given.old.names
+        (names_in_instruments (definitions_of outside.entry.library.now) (map tree.instrument instrs.now))) }
 {
     for i in instrs {
-        globals_of_block(t, &i.body)?;
+        globals_of_instrument(given, outside, i)?;
     }
     Ok(())
 }
 
-/// Adds the global variables that statements of an orchestra give, where there are none.
-pub fn add_globals<'t>(t: &mut NamesByRate<'t>, orc: &'t Orc) -> Result<(), OutOfMemory>
-    requires { t.old ≡ no_names }
-    ensures { OnOk result (t.new ≡ all_globals (tree.orchestra orc.now)) }
+fn globals_of_instrument<'t>(
+    given: &mut GivenGlobals<'t>,
+    outside: Front<'_, 't>,
+    i: &'t Instr,
+) -> Result<(), OutOfMemory>
+    requires { IsDone outside given.old }
+    ensures names { OnOk result (given.new.names ≡ given_globals given.old.names (names_in_block
+        (givers_of (definitions_of outside.entry.library.now)
+        (prefix_len (λ d. nat_lt d.line i.now.line) (definitions_of outside.entry.library.now)))
+        (tree.block i.now.body.items))) }
+    ensures done { OnOk result (IsDone outside.entry given.new) }
 {
-    globals_of_block(t, &orc.zero)?;
-    globals_of_instruments(t, &orc.instrs)
+    let library = outside.library;
+    let front = Front {
+        library,
+        visible: library.before(i.line),
+    };
+    globals_of_block(given, front, &i.body)
+}
+
+/// The global variables that statements of an orchestra give, and those of the definitions that they call.
+pub fn globals_of<'t>(
+    alloc: Global,
+    expansion: &Expansion<'t>,
+) -> Result<NamesByRate<'t>, OutOfMemory>
+    requires { IsReady expansion.now }
+    ensures { IfOk result (λ t. t ≡ all_globals (expanded_orchestra (tree.orchestra expansion.now.orc.now))) }
+{
+    let library = &expansion.library;
+    let mut given = GivenGlobals {
+        names: NamesByRate::new(alloc),
+        done: vec![in alloc; false; library.definitions.len()]?,
+    };
+    let outside = Front {
+        library,
+        visible: 0,
+    };
+    globals_of_block(&mut given, outside, &expansion.orc.zero)?;
+    globals_of_instruments(&mut given, outside, &expansion.orc.instrs)?;
+    Ok(given.names)
 }

@@ -1,8 +1,8 @@
 // Header lines: their ranges, their equation, and what holds for the whole piece.
 ghost use Rattle.std.specs.Prelude.{◌≡◌, ◌≤◌, ◌<◌, ◌^◌, ◌<ℤ◌, pos, [], Some, None};
 ghost use Rattle.cs_words.specs.declared.word.HeadName.TheVariants as head;
-ghost use Rattle.cs_typing.specs.Settings.{at, raw_of, whole, is_whole_to, is_above_zero, in_range, same_head};
-ghost use Rattle.cs_typing.specs.Settings.{header_fault, headers_fault, header_of, whole_or, value_or, rate_of_frames};
+ghost use Rattle.cs_typing.specs.Settings.{raw_of, whole, is_whole_to, is_above_zero, in_range, same_head};
+ghost use Rattle.cs_typing.specs.Settings.{header_fault, headers_fault, header_of, whole_or, value_or};
 ghost use Rattle.cs_typing.specs.Settings.{ksmps_of, header, is_product, kr_agrees, kr_fault};
 ghost use Rattle.cs_base.specs.Heads.{header_of_head};
 ghost use Rattle.cs_typing.specs.inner.Settled.{is_given};

@@ -1,26 +1,158 @@
 // What is known at a place of the text: names of variables and of channels, each with its number.
-ghost use Rattle.std.specs.Prelude.{◌≡◌, OnOk, IfOk};
-ghost use Rattle.cs_typing.specs.Known.{no_names, counts_of, of_rate, in_table, place_in, added, known_with};
-ghost use Rattle.cs_typing.specs.Known.{first_with, knows, variable, given};
-ghost use Rattle.cs_typing.specs.Known.{clashes, channel_of, use_channel, with_channel, global};
-ghost use Rattle.cs_grammar.specs.Tree as tree;
-ghost use Rattle.cs_typing.specs.Typing.{entered, first_known, shared_names};
+ghost use Rattle.std.specs.Prelude.{◌≡◌, ◌+◌, OnOk, IfOk, if◌then◌else◌};
+ghost use Rattle.cs_base.specs.Rates.{at_rate};
+ghost use Rattle.cs_typing.specs.Known.{no_names, of_rate, in_table, place_in, added, first_with};
+ghost use Rattle.cs_typing.specs.Known.{clashes, channel_of, use_channel, global};
+ghost use Rattle.cs_typing.specs.Typing.{shared_names};
 ghost use Rattle.cs_typed.specs.TypedTree as typed;
+ghost use Rattle.cs_typing.specs.inner.Routines.{no_locals, has_local, number_in, with_local, given_in, counted};
+ghost use Rattle.cs_typing.specs.inner.Routines.{past_call, known_in, knows_in, variable_in};
+ghost use Rattle.cs_typing.specs.inner.Held.{known_of, locals_of};
+ghost use Rattle.cs_typing.specs.inner.Slots.{one_counted};
 
-use crate::globals::add_globals;
 use cs_base::{Names, OutOfMemory, PerRate, Rate, Res};
-use cs_grammar::Orc;
 use cs_typed::{Globals, Var};
 use cs_words::{NameSet, is_global, name_rate};
+use indexmap::IndexMap;
 use std::alloc::Global;
 use std::marker::Model;
-use std::mem::{replace, swap};
+use std::mem::swap;
 
 /// What kind a channel is: of control values, or of sounds.
 #[derive(Clone, Copy)]
 pub enum Channel {
     Control,
     Sound,
+}
+
+/// The sum of two numbers of local variables. One that doesn't fit would be reported as out of memory; none is met,
+/// since an expanded body has at most `MOST_STATEMENTS` statements.
+pub fn plus(a: usize, b: usize) -> Result<usize, OutOfMemory>
+    ensures { IfOk result (λ n. n ≡ a + b) }
+{
+    match a.checked_add(b) {
+        Some(sum) => Ok(sum),
+        None => Err(OutOfMemory),
+    }
+}
+
+// One more of a rate.
+fn one_more(counts: PerRate<usize>, rate: Rate) -> Result<PerRate<usize>, OutOfMemory>
+    ensures { IfOk result (λ c. c ≡ counted rate counts) }
+{
+    let PerRate {
+        init,
+        control,
+        audio,
+    } = counts;
+    match rate {
+        Rate::Init => Ok(PerRate {
+            init: plus(init, 1)?,
+            control,
+            audio,
+        }),
+        Rate::Control => Ok(PerRate {
+            init,
+            control: plus(control, 1)?,
+            audio,
+        }),
+        Rate::Audio => Ok(PerRate {
+            init,
+            control,
+            audio: plus(audio, 1)?,
+        }),
+    }
+}
+
+/// The local variables that a body has so far: the number of each among those of its rate, and how many numbers of each
+/// rate are taken, those of what it calls among them.
+#[derive(Drop)]
+pub struct Scope<'t> {
+    numbers: IndexMap<&'t [u8], usize>,
+    counts: PerRate<usize>,
+}
+
+impl<'t> Scope<'t> {
+    /// No variables.
+    pub fn new(alloc: Global) -> Scope<'t>
+        ensures { locals_of result ≡ no_locals }
+    {
+        Scope {
+            numbers: IndexMap::new(alloc),
+            counts: PerRate {
+                init: 0,
+                control: 0,
+                audio: 0,
+            },
+        }
+    }
+
+    // The number of a variable that is given.
+    fn given_number(&self, name: &[u8]) -> Option<usize>
+        ensures { result ≡ (locals_of self.now).number name.now }
+    {
+        self.numbers.get(name).copied()
+    }
+
+    /// Whether a variable is given.
+    pub fn has(&self, name: &[u8]) -> bool
+        ensures { result ≡ has_local (locals_of self.now) name.now }
+    {
+        self.given_number(name).is_some()
+    }
+
+    /// The number of a variable; a new one has the next of its rate.
+    pub fn number(&self, name: &[u8]) -> usize
+        ensures { result ≡ number_in (locals_of self.now) name.now }
+    {
+        match self.given_number(name) {
+            Some(number) => number,
+            None => self.counts.of(name_rate(name)),
+        }
+    }
+
+    /// Notes that a local variable is given.
+    pub fn add(&mut self, name: &'t [u8]) -> Result<(), OutOfMemory>
+        ensures { OnOk result (locals_of self.new ≡ (if has_local (locals_of self.old) name.now
+            then locals_of self.old else with_local (locals_of self.old) name.now)) }
+    {
+        if self.has(name) {
+            return Ok(());
+        }
+        let rate = name_rate(name);
+        let counts = one_more(self.counts, rate)?;
+        let number = self.counts.of(rate);
+        self.numbers.insert(name, number)?;
+        self.counts = counts;
+        Ok(())
+    }
+
+    /// Takes the next number of a rate, for a variable that no name of the text has.
+    pub fn take_one(&mut self, rate: Rate) -> Result<(), OutOfMemory>
+        ensures { OnOk result (locals_of self.new ≡ one_counted (locals_of self.old) rate) }
+    {
+        self.counts = one_more(self.counts, rate)?;
+        Ok(())
+    }
+
+    /// Takes some numbers of each rate, for the variables of a body that is called.
+    pub fn take(&mut self, counts: PerRate<usize>) -> Result<(), OutOfMemory>
+        ensures { OnOk result (locals_of self.new ≡ past_call (locals_of self.old) counts) }
+    {
+        self.counts = PerRate {
+            init: plus(self.counts.init, counts.init)?,
+            control: plus(self.counts.control, counts.control)?,
+            audio: plus(self.counts.audio, counts.audio)?,
+        };
+        Ok(())
+    }
+
+    /// How many numbers of each rate are taken.
+    pub fn counts(&self) -> PerRate<usize>
+        ensures { result ≡ (locals_of self.now).counts }
+    {
+        self.counts
+    }
 }
 
 /// Names of variables by their rates, each list in the order in which they were first given.
@@ -84,17 +216,6 @@ impl<'t> NamesByRate<'t> {
             Rate::Init => self.init.add(name),
             Rate::Control => self.control.add(name),
             Rate::Audio => self.audio.add(name),
-        }
-    }
-
-    /// The number of names of each rate.
-    pub fn counts(&self) -> PerRate<usize>
-        ensures { result ≡ counts_of self.now }
-    {
-        PerRate {
-            init: self.init.len(),
-            control: self.control.len(),
-            audio: self.audio.len(),
         }
     }
 
@@ -182,39 +303,23 @@ impl<'t> Shared<'t> {
 pub struct KnownNames<'t> {
     alloc: Global,
     shared: Shared<'t>,
-    locals: NamesByRate<'t>,
-}
-
-impl<'t> Model for KnownNames<'t> {
-    ghost use Rattle.cs_typing.specs.Known.{KnownHere};
-
-    ghost Value = { KnownHere };
-
-    ghost view = { λ n. record { shared = n.shared; locals = n.locals } };
+    scope: Scope<'t>,
 }
 
 impl<'t> KnownNames<'t> {
-    /// No names.
-    pub fn new(alloc: Global) -> KnownNames<'t>
-        ensures { result ≡ first_with no_names }
+    /// These global variables, and nothing else.
+    pub fn new(alloc: Global, globals: NamesByRate<'t>) -> KnownNames<'t>
+        ensures { known_of result ≡ known_in (first_with globals.entry).shared no_locals }
     {
         KnownNames {
             alloc,
             shared: Shared {
-                globals: NamesByRate::new(alloc),
+                globals,
                 control: NameSet::new(alloc),
                 sound: NameSet::new(alloc),
             },
-            locals: NamesByRate::new(alloc),
+            scope: Scope::new(alloc),
         }
-    }
-
-    /// Adds the global variables that an orchestra gives, where nothing is known.
-    pub fn add_globals(&mut self, orc: &'t Orc) -> Result<(), OutOfMemory>
-        requires { self.old ≡ first_with no_names }
-        ensures { OnOk result (self.new ≡ first_known (tree.orchestra orc.now)) }
-    {
-        add_globals(&mut self.shared.globals, orc)
     }
 
     pub fn alloc(&self) -> Global {
@@ -223,24 +328,24 @@ impl<'t> KnownNames<'t> {
 
     /// Whether a variable may be read.
     pub fn knows(&self, name: &[u8]) -> bool
-        ensures { result ≡ knows self.now name.now }
+        ensures { result ≡ knows_in (known_of self.now) name.now }
     {
         if is_global(name) {
             self.shared.globals.has(name)
         } else {
-            self.locals.has(name)
+            self.scope.has(name)
         }
     }
 
     /// The variable of a name; a new name has the next number.
     pub fn variable(&self, name: &[u8]) -> Var
-        ensures { result ≡ variable self.now name.now }
+        ensures { result ≡ variable_in (known_of self.now) name.now }
     {
         let rate = name_rate(name);
         if is_global(name) {
             Var::Global(global(rate, self.shared.globals.place(name)))
         } else {
-            Var::Local(rate, self.locals.place(name))
+            Var::Local(rate, self.scope.number(name))
         }
     }
 
@@ -260,54 +365,66 @@ impl<'t> KnownNames<'t> {
 
     /// Notes that a channel is used, if one is.
     pub fn use_channel(&mut self, role: Option<Channel>, name: &'t [u8]) -> Result<(), OutOfMemory>
-        ensures { OnOk result (self.new ≡ with_channel self.old role name.now) }
+        ensures { OnOk result (known_of self.new
+            ≡ known_in (use_channel self.old.shared role name.now) (known_of self.old).locals) }
     {
         self.shared.use_channel(role, name)
     }
 
     /// Notes that a variable is given: a local one is among the body's own from now on.
     pub fn give(&mut self, name: &'t [u8]) -> Result<(), OutOfMemory>
-        ensures { OnOk result (self.new ≡ given self.old name.now) }
+        ensures { OnOk result (known_of self.new
+            ≡ known_in self.old.shared (given_in (known_of self.old).locals name.now)) }
     {
         if is_global(name) {
             Ok(())
         } else {
-            self.locals.add(name)
+            self.scope.add(name)
         }
     }
 
     /// The same; what is made of a statement is handed on.
     pub fn given<T: Drop>(&mut self, name: &'t [u8], made: T) -> Result<T, OutOfMemory>
         ensures made { IfOk result (λ m. m ≡ made) }
-        ensures known { OnOk result (self.new ≡ given self.old name.now) }
+        ensures known { OnOk result (known_of self.new
+            ≡ known_in self.old.shared (given_in (known_of self.old).locals name.now)) }
     {
         self.give(name)?;
         Ok(made)
     }
 
-    /// Begins a body, which has its own variables; those of the body around it are kept in `around`.
-    pub fn enter(&mut self, around: &mut NamesByRate<'t>)
-        ensures body { self.new ≡ entered self.old }
-        ensures around { around.new ≡ self.old.locals }
+    /// Takes the next number of a rate, for a variable that no name of the text has; returns that number.
+    pub fn take_one(&mut self, rate: Rate) -> Result<usize, OutOfMemory>
+        ensures number { IfOk result (λ n. n ≡ at_rate (known_of self.old).locals.counts rate) }
+        ensures known { OnOk result (known_of self.new
+            ≡ known_in self.old.shared (one_counted (known_of self.old).locals rate)) }
     {
-        let last = replace(around, NamesByRate::new(self.alloc));
-        drop(last);
-        swap(&mut self.locals, around);
+        let number = self.scope.counts().of(rate);
+        self.scope.take_one(rate)?;
+        Ok(number)
     }
 
-    /// Ends a body: its own variables are exchanged for those of the body around it.
-    pub fn leave(&mut self, around: &mut NamesByRate<'t>)
-        ensures body { self.new ≡ known_with self.old.shared around.old }
-        ensures own { around.new ≡ self.old.locals }
+    /// Takes some numbers of each rate, for the variables of a body that is called.
+    pub fn take(&mut self, counts: PerRate<usize>) -> Result<(), OutOfMemory>
+        ensures { OnOk result (known_of self.new
+            ≡ known_in self.old.shared (past_call (known_of self.old).locals counts)) }
     {
-        swap(&mut self.locals, around);
+        self.scope.take(counts)
     }
 
-    /// The number of the body's own variables of each rate.
+    /// Exchanges the body's own variables for those of another body.
+    pub fn exchange(&mut self, other: &mut Scope<'t>)
+        ensures own { known_of self.new ≡ known_in self.old.shared (locals_of other.old) }
+        ensures other { locals_of other.new ≡ (known_of self.old).locals }
+    {
+        swap(&mut self.scope, other);
+    }
+
+    /// How many numbers of each rate the body has taken.
     pub fn local_counts(&self) -> PerRate<usize>
-        ensures { result ≡ counts_of self.now.locals }
+        ensures { result ≡ (known_of self.now).locals.counts }
     {
-        self.locals.counts()
+        self.scope.counts()
     }
 
     /// The names that all bodies share, copied.

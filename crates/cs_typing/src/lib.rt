@@ -1,28 +1,33 @@
-//! Rates, names and types of an orchestra: the grammar's tree with a variable in place of each name, an opcode in place
-//! of each opcode's name, and a rate beside each expression and each statement.
+//! Rates, names and types of an orchestra: the grammar's tree with a variable in place of each name, an opcode in
+//! place of each opcode's name, and a rate beside each expression and each statement.
 //!
-//! Its one contract: `type_orc` returns the typed form as specs/Typing.antt defines it, or the first broken rule of the
-//! kinds 12 to 19 with its line: header lines and `zakinit`s in the order of the text, then `kr`, and then each
-//! statement in the order of the text. What it returns agrees with the rules of rates (`typing_is_well_rated`), no
-//! `zakinit` stands in an instrument (`instruments_have_no_zakinit`), and each instrument's number stands once
-//! (`numbers_stand_once`); `types_worked_by_hand` and `settings_worked_by_hand` are its rows. How names are looked up
-//! may be changed without anyone above noticing.
+//! Its one contract: `type_orc` returns the typed form of the expanded orchestra (cs_udo) as specs/Typing.antt defines
+//! it, or its first broken rule of the kinds 12 to 19 with its line: header lines and `zakinit`s in the order of the
+//! text, then `kr`, and then each statement in the order of the expanded text. A definition is judged and typed where
+//! it is first called, and serves all its calls. What is returned agrees with the rules of rates
+//! (`typing_is_well_rated`), no `zakinit` stands in an instrument (`instruments_have_no_zakinit`), and each
+//! instrument's number stands once (`numbers_stand_once`); `types_worked_by_hand` and `settings_worked_by_hand` are
+//! its rows. How names are looked up, and what is typed once, may be changed without anyone above noticing.
 //!
-//! To be read in this order: `known` (names and their numbers), `making` (boxes and lists), `expr`, `call`, `stmt`
-//! (what is judged where it stands), `headers`, `zak` and `settle` (what holds for the whole piece), `globals` (the
-//! variables that all instruments share), `orc` (the parts in the order of the text), `laws`, `examples`. What is made,
-//! the typed tree, is the layer below.
+//! To be read in this order: `known` (names and their numbers), `making` (boxes and lists), `expr`, `call`, `assign`
+//! (what is judged where it stands), `routines` and `invoke` (what defined opcodes do, and what stands beside a call
+//! of one), `stmt`, `headers`, `zak` and `settle` (what holds for the whole piece), `globals` (the variables that all
+//! instruments share), `orc` (the parts in the order of the text), `laws`, `examples`. What is made, the typed tree,
+//! is the layer below.
 #![tactic(auto)]
 
+mod assign;
 mod call;
 mod examples;
 mod expr;
 mod globals;
 mod headers;
+mod invoke;
 mod known;
 mod laws;
 mod making;
 mod orc;
+mod routines;
 mod settle;
 mod stmt;
 mod zak;

@@ -1,7 +1,6 @@
-// Boxes and lists of what is made, and a value for one call, whatever its type.
+// Boxes and lists of what is made, whatever its type.
 ghost use Rattle.std.specs.Prelude.{◌≡◌, ◌++◌, [], ◌∷◌, IfOk, OnOk};
 ghost use Rattle.std.specs.Box.{box_value};
-ghost use Rattle.std.specs.Fn.{FnOnceReturnsAtMut, FnOnceTakesAtMut};
 
 use cs_base::OutOfMemory;
 use std::alloc::Global;
@@ -19,12 +18,4 @@ pub fn add<T: Drop>(list: &mut Vec<T>, value: T) -> Result<(), OutOfMemory>
 {
     list.push(value)?;
     Ok(())
-}
-
-/// Lends a value to one call, and drops it.
-pub fn lend<T: Drop, R, F: FnOnce(&mut T) -> R>(mut value: T, work: F) -> R
-    requires { FnOnceTakesAtMut F.FnOnce work value }
-    ensures { (left : T) × FnOnceReturnsAtMut F.FnOnce work value result left }
-{
-    work(&mut value)
 }

@@ -1,25 +1,33 @@
 // An orchestra: its parts in the order of the text, each instrument with its own variables.
-ghost use Rattle.std.specs.Prelude.{◌≡◌, ◌≤◌, ◌++◌, ◌∷◌, [], OnOk, IfOk, length, map, None, Err, nat_lt};
+ghost use Rattle.std.specs.Prelude.{◌≡◌, ◌≤◌, ◌++◌, ◌∷◌, [], List, OnOk, IfOk, length, map, None, Err, nat_lt};
 ghost use Rattle.std.specs.List.{prefix_len};
 ghost use Rattle.cs_base.specs.declared.fault.Or.TheVariants as or;
 ghost use Rattle.cs_base.specs.declared.fault.OrcFault.{OrcFault};
 ghost use Rattle.cs_grammar.specs.Tree as tree;
 ghost use Rattle.cs_typed.specs.TypedTree as typed;
-ghost use Rattle.cs_typing.specs.Known.{first_with, no_names};
-ghost use Rattle.cs_typing.specs.Typing.{items, items_fault, item_fault, known_item, known_items, alone, body};
-ghost use Rattle.cs_typing.specs.Typing.{typed_instrument, typed_outside, typed_instruments, type_fault, typed_of};
-ghost use Rattle.cs_typing.specs.inner.Answers.{Gives};
-ghost use Rattle.cs_typing.specs.inner.Walk.{Judged, GivesOrc, parts_fault, typed_by, made_from, made_of, made_with};
-ghost use Rattle.cs_typing.specs.inner.Walk.{nothing, after_item, after_items};
+ghost use Rattle.cs_typing.specs.Typing.{items, alone, body, type_fault, typed_of};
+ghost use Rattle.cs_typing.specs.inner.Answers.{Judged};
 ghost use Rattle.cs_typing.specs.inner.Settled.{settings_of};
+ghost use Rattle.cs_typing.specs.inner.Listed.{blocks_in};
+ghost use Rattle.cs_typing.specs.inner.Parts.{made_from, made_with, nothing, part_fault, parts_fault};
+ghost use Rattle.cs_typing.specs.inner.Parts.{instrument_in, statements_fault, typed_by};
+ghost use Rattle.cs_typing.specs.inner.Walk.{AddsParts, AreSound, GivesInstrument, GivesOrc, IsBegun};
+ghost use Rattle.cs_typing.specs.inner.Walk.{IsBehind, made_of};
+ghost use Rattle.cs_udo.specs.Expanded.{expanded_orchestra};
+ghost use Rattle.cs_udo.specs.Library.{definitions_of};
+ghost use Rattle.cs_typing.specs.inner.Held.{known_of};
+ghost use Rattle.cs_udo.specs.Ready.{IsReady};
 
-use crate::known::{KnownNames, NamesByRate};
-use crate::making::{add, lend};
+use crate::globals::globals_of;
+use crate::known::{KnownNames, Scope};
+use crate::making::add;
+use crate::routines::{RoutineTable, Site, SoFar};
 use crate::settle::{Settings, judge_settings};
 use crate::stmt::block;
 use cs_base::{Or, OrcFault, OutOfMemory};
-use cs_grammar::{Instr, Orc, OrcStmt};
+use cs_grammar::{Instr, OrcStmt};
 use cs_typed::{Setting, TypedInstr, TypedOrc, TypedStmts};
+use cs_udo::{Expansion, Library};
 use std::alloc::Global;
 use std::mem::replace;
 
@@ -32,7 +40,7 @@ pub struct Done {
 
 impl Done {
     fn new(alloc: Global) -> Done
-        ensures { made_of result ≡ nothing }
+        ensures { (rs : List typed.Block) → made_of rs result ≡ nothing }
     {
         Done {
             zero: Vec::new(alloc),
@@ -42,8 +50,9 @@ impl Done {
 
     // Adds statements outside instruments.
     fn add_outside(&mut self, mut more: TypedStmts) -> Result<(), OutOfMemory>
-        ensures { OnOk result (made_of self.new
-            ≡ made_with (typed.then_block (made_of self.old).zero (typed.block more.items)) (made_of self.old).instrs) }
+        ensures { OnOk result ((rs : List typed.Block) → made_of rs self.new
+            ≡ made_with (typed.then_block (made_of rs self.old).zero (typed.block rs more.items))
+            (made_of rs self.old).instrs) }
     {
         self.zero.append(&mut more)?;
         Ok(())
@@ -51,8 +60,8 @@ impl Done {
 
     // Adds an instrument.
     fn add_instrument(&mut self, i: TypedInstr) -> Result<(), OutOfMemory>
-        ensures { OnOk result (made_of self.new
-            ≡ made_with (made_of self.old).zero ((made_of self.old).instrs ++ typed.instrument i ∷ [])) }
+        ensures { OnOk result ((rs : List typed.Block) → made_of rs self.new
+            ≡ made_with (made_of rs self.old).zero ((made_of rs self.old).instrs ++ typed.instrument rs i ∷ [])) }
     {
         add(&mut self.instrs, i)
     }
@@ -61,46 +70,67 @@ impl Done {
 /// An orchestra that is judged part by part: what is known, a place for the names of the body around, what is made.
 #[derive(Drop)]
 pub struct Typing<'t> {
-    names: KnownNames<'t>,
-    around: NamesByRate<'t>,
+    so_far: SoFar<'t>,
+    around: Scope<'t>,
     made: Done,
 }
 
 impl<'t> Typing<'t> {
-    fn new(alloc: Global) -> Typing<'t>
-        ensures names { result.names ≡ first_with no_names }
-        ensures made { made_of result.made ≡ nothing }
+    fn new(alloc: Global, expansion: &Expansion<'t>) -> Result<Typing<'t>, OutOfMemory>
+        requires { IsReady expansion.now }
+        ensures { IfOk result (λ t. IsBegun expansion.now t) }
     {
-        Typing {
-            names: KnownNames::new(alloc),
-            around: NamesByRate::new(alloc),
+        let globals = globals_of(alloc, expansion)?;
+        let routines = RoutineTable::new(alloc, expansion.library.definitions.len())?;
+        Ok(Typing {
+            so_far: SoFar {
+                names: KnownNames::new(alloc, globals),
+                routines,
+            },
+            around: Scope::new(alloc),
             made: Done::new(alloc),
-        }
+        })
     }
 
     // Judges statements outside instruments, and adds their typed forms.
-    fn add_outside(&mut self, channels: u32, stmts: &'t [OrcStmt]) -> Result<(), Or<OrcFault>>
-        ensures fault { Judged result (item_fault channels self.old.names (alone (tree.block stmts.now))) }
-        ensures made { OnOk result (made_of self.new.made
-            ≡ after_item self.old.names (made_of self.old.made) (alone (tree.block stmts.now))) }
-        ensures known { OnOk result (self.new.names ≡ known_item self.old.names (alone (tree.block stmts.now))) }
+    fn add_outside(
+        &mut self,
+        channels: u32,
+        library: &Library<'t>,
+        stmts: &'t [OrcStmt],
+    ) -> Result<(), Or<OrcFault>>
+        requires sound { AreSound channels (definitions_of library.now) self.old.so_far }
+        ensures fault { Judged result (part_fault channels (definitions_of library.now) (known_of self.old.so_far.names)
+            (alone (tree.block stmts.now))) }
+        ensures adds { OnOk result (AddsParts channels (definitions_of library.now) self.old self.new
+            (alone (tree.block stmts.now) ∷ [])) }
     {
-        let setting = Setting {
-            inside: false,
-            channels,
+        let site = Site {
+            setting: Setting {
+                inside: false,
+                channels,
+            },
+            library,
+            visible: 0,
         };
-        let more = block(setting, &mut self.names, stmts)?;
+        let more = block(&site, &mut self.so_far, stmts)?;
         Ok(self.made.add_outside(more)?)
     }
 
     // Judges an instrument, and adds its typed form.
-    fn add_instrument(&mut self, channels: u32, i: &'t Instr) -> Result<(), Or<OrcFault>>
-        ensures fault { Judged result (item_fault channels self.old.names (body (tree.instrument i.now))) }
-        ensures made { OnOk result (made_of self.new.made
-            ≡ after_item self.old.names (made_of self.old.made) (body (tree.instrument i.now))) }
-        ensures known { OnOk result (self.new.names ≡ known_item self.old.names (body (tree.instrument i.now))) }
+    fn add_instrument(
+        &mut self,
+        channels: u32,
+        library: &Library<'t>,
+        i: &'t Instr,
+    ) -> Result<(), Or<OrcFault>>
+        requires sound { AreSound channels (definitions_of library.now) self.old.so_far }
+        ensures fault { Judged result (part_fault channels (definitions_of library.now) (known_of self.old.so_far.names)
+            (body (tree.instrument i.now))) }
+        ensures adds { OnOk result (AddsParts channels (definitions_of library.now) self.old self.new
+            (body (tree.instrument i.now) ∷ [])) }
     {
-        let made = instrument(channels, &mut self.names, &mut self.around, i)?;
+        let made = instrument(channels, library, &mut self.so_far, &mut self.around, i)?;
         Ok(self.made.add_instrument(made)?)
     }
 
@@ -108,70 +138,62 @@ impl<'t> Typing<'t> {
     fn add_parts(
         &mut self,
         channels: u32,
-        zero: &'t [OrcStmt],
+        library: &Library<'t>,
+        outside: &'t [OrcStmt],
         instrs: &'t [Instr],
     ) -> Result<(), Or<OrcFault>>
-        ensures fault { Judged result (items_fault channels self.old.names
-            (items (tree.block zero.now) (map tree.instrument instrs.now))) }
-        ensures made { OnOk result (made_of self.new.made ≡ after_items self.old.names (made_of self.old.made)
-            (items (tree.block zero.now) (map tree.instrument instrs.now))) }
-        ensures known { OnOk result (self.new.names ≡ known_items self.old.names
-            (items (tree.block zero.now) (map tree.instrument instrs.now))) }
+        requires sound { AreSound channels (definitions_of library.now) self.old.so_far }
+        ensures fault { Judged result (parts_fault channels (definitions_of library.now)
+            (known_of self.old.so_far.names)
+            (items (tree.block outside.now) (map tree.instrument instrs.now))) }
+        ensures adds { OnOk result (AddsParts channels (definitions_of library.now) self.old self.new
+            (items (tree.block outside.now) (map tree.instrument instrs.now))) }
     {
-        let mut rest = zero;
+        let mut rest = outside;
         for i in instrs {
             let (front, back) = rest.split_at(before_line(rest, i.line));
-            self.add_outside(channels, front)?;
-            self.add_instrument(channels, i)?;
+            self.add_outside(channels, library, front)?;
+            self.add_instrument(channels, library, i)?;
             rest = back;
         }
-        self.add_outside(channels, rest)?;
-        Ok(())
-    }
-
-    // Judges all parts of an orchestra, where nothing is made yet.
-    fn add_all(&mut self, channels: u32, orc: &'t Orc) -> Result<(), Or<OrcFault>>
-        requires { made_of self.old.made ≡ nothing }
-        ensures fault { Judged result (items_fault channels self.old.names
-            (items (tree.orchestra orc.now).zero (tree.orchestra orc.now).instrs)) }
-        ensures zero { OnOk result ((made_of self.new.made).zero ≡ typed_outside self.old.names
-            (items (tree.orchestra orc.now).zero (tree.orchestra orc.now).instrs)) }
-        ensures instrs { OnOk result ((made_of self.new.made).instrs ≡ typed_instruments self.old.names
-            (items (tree.orchestra orc.now).zero (tree.orchestra orc.now).instrs)) }
-        ensures known { OnOk result (self.new.names ≡ known_items self.old.names
-            (items (tree.orchestra orc.now).zero (tree.orchestra orc.now).instrs)) }
-    {
-        self.add_parts(channels, &orc.zero, &orc.instrs)
+        self.add_outside(channels, library, rest)
     }
 
     // What is made, with the names that its notes share.
     fn finished(&mut self, settings: Settings) -> Result<TypedOrc, OutOfMemory>
         ensures { IfOk result (λ t. typed.orchestra t
-            ≡ made_from (settings_of settings) self.old.names (made_of self.old.made).zero
-            (made_of self.old.made).instrs) }
+            ≡ made_from (settings_of settings) (known_of self.old.so_far.names)
+            (made_of (blocks_in self.old.so_far.routines) self.old.made)) }
     {
-        let globals = self.names.shared_names()?;
-        let made = replace(&mut self.made, Done::new(self.names.alloc()));
+        let alloc = self.so_far.names.alloc();
+        let globals = self.so_far.names.shared_names()?;
+        let made = replace(&mut self.made, Done::new(alloc));
+        let list = replace(&mut self.so_far.routines.list, Vec::new(alloc));
         let Done { zero, instrs } = made;
         Ok(TypedOrc {
             head: settings.head,
             spaces: settings.spaces,
-            zero_locals: self.names.local_counts(),
+            zero_locals: self.so_far.names.local_counts(),
             zero,
             instrs,
+            routines: list,
             globals,
         })
     }
 
-    // Judges an orchestra whose settings have no fault.
-    fn typed(&mut self, settings: Settings, orc: &'t Orc) -> Result<TypedOrc, Or<OrcFault>>
-        requires names { self.old.names ≡ first_with no_names }
-        requires made { made_of self.old.made ≡ nothing }
-        ensures { GivesOrc result (parts_fault settings.head.nchnls (tree.orchestra orc.now))
-            (typed_by (settings_of settings) (tree.orchestra orc.now)) }
+    // Judges an orchestra whose settings have no fault, where nothing of it is judged yet.
+    fn typed(
+        &mut self,
+        settings: Settings,
+        expansion: &Expansion<'t>,
+    ) -> Result<TypedOrc, Or<OrcFault>>
+        requires ready { IsReady expansion.now }
+        requires begun { IsBegun expansion.now self.old }
+        ensures { GivesOrc result (statements_fault settings.head.nchnls (tree.orchestra expansion.now.orc.now))
+            (typed_by (settings_of settings) (tree.orchestra expansion.now.orc.now)) }
     {
-        self.names.add_globals(orc)?;
-        self.add_all(settings.head.nchnls, orc)?;
+        let Expansion { orc, library } = expansion;
+        self.add_parts(settings.head.nchnls, library, &orc.zero, &orc.instrs)?;
         Ok(self.finished(settings)?)
     }
 }
@@ -179,23 +201,32 @@ impl<'t> Typing<'t> {
 // An instrument, which has its own variables.
 fn instrument<'t>(
     channels: u32,
-    names: &mut KnownNames<'t>,
-    around: &mut NamesByRate<'t>,
+    library: &Library<'t>,
+    so_far: &mut SoFar<'t>,
+    around: &mut Scope<'t>,
     i: &'t Instr,
 ) -> Result<TypedInstr, Or<OrcFault>>
-    ensures gives { Gives typed.instrument result
-        (item_fault channels names.old (body (tree.instrument i.now)))
-        (typed_instrument names.old (tree.instrument i.now)) }
-    ensures known { OnOk result (names.new ≡ known_item names.old (body (tree.instrument i.now))) }
+    requires sound { AreSound channels (definitions_of library.now) so_far.old }
+    ensures gives { GivesInstrument so_far.new.routines result
+        (part_fault channels (definitions_of library.now) (known_of so_far.old.names) (body (tree.instrument i.now)))
+        (instrument_in (definitions_of library.now) (known_of so_far.old.names) (tree.instrument i.now)) }
+    ensures behind { OnOk result (IsBehind channels (definitions_of library.now) so_far.old so_far.new
+        (body (tree.instrument i.now))) }
 {
-    let setting = Setting {
-        inside: true,
-        channels,
+    let site = Site {
+        setting: Setting {
+            inside: true,
+            channels,
+        },
+        library,
+        visible: library.before(i.line),
     };
-    let numbers = i.numbers.to_items(names.alloc())?;
-    names.enter(around);
-    let body = block(setting, names, &i.body)?;
-    names.leave(around);
+    let alloc = so_far.names.alloc();
+    let numbers = i.numbers.to_items(alloc)?;
+    drop(replace(around, Scope::new(alloc)));
+    so_far.names.exchange(around);
+    let body = block(&site, so_far, &i.body)?;
+    so_far.names.exchange(around);
     Ok(TypedInstr {
         line: i.line,
         numbers,
@@ -219,24 +250,47 @@ fn before_line(stmts: &[OrcStmt], line: u32) -> usize
     count
 }
 
-// An orchestra whose settings have no fault.
-fn settled(alloc: Global, settings: Settings, orc: &Orc) -> Result<TypedOrc, Or<OrcFault>>
-    ensures { GivesOrc result (parts_fault settings.head.nchnls (tree.orchestra orc.now))
-        (typed_by (settings_of settings) (tree.orchestra orc.now)) }
+// An orchestra that is begun; what is known of it is let go afterwards.
+fn typed_from<'t>(
+    mut typing: Typing<'t>,
+    settings: Settings,
+    expansion: &Expansion<'t>,
+) -> Result<TypedOrc, Or<OrcFault>>
+    requires ready { IsReady expansion.now }
+    requires begun { IsBegun expansion.now typing }
+    ensures { GivesOrc result (statements_fault settings.head.nchnls (tree.orchestra expansion.now.orc.now))
+        (typed_by (settings_of settings) (tree.orchestra expansion.now.orc.now)) }
 {
-    lend(Typing::new(alloc), |typing| typing.typed(settings, orc))
+    typing.typed(settings, expansion)
 }
 
-/// Judges rates, names and types of an orchestra, and gives its typed form; or its first fault, which is of the kinds
-/// 12 to 19. Header lines and `zakinit`s are judged first, then `kr`, and then each statement in the order of the text.
-///
-/// Defined opcodes are not looked at.
-pub fn type_orc(alloc: Global, orc: &Orc) -> Result<TypedOrc, Or<OrcFault>>
-    ensures typed { IfOk result (λ t. typed.orchestra t ≡ typed_of (tree.orchestra orc.now)) }
-    ensures right { OnOk result (type_fault (tree.orchestra orc.now) ≡ None) }
-    ensures fault { (f : OrcFault) → result ≡ Err (or.Fault f)
-        → type_fault (tree.orchestra orc.now) ≡ Some f }
+// An orchestra whose settings have no fault.
+fn settled(
+    alloc: Global,
+    settings: Settings,
+    expansion: &Expansion<'_>,
+) -> Result<TypedOrc, Or<OrcFault>>
+    requires { IsReady expansion.now }
+    ensures { GivesOrc result (statements_fault settings.head.nchnls (tree.orchestra expansion.now.orc.now))
+        (typed_by (settings_of settings) (tree.orchestra expansion.now.orc.now)) }
 {
-    let settings = judge_settings(&orc.head, &orc.zero)?;
-    settled(alloc, settings, orc)
+    let typing = Typing::new(alloc, expansion)?;
+    typed_from(typing, settings, expansion)
+}
+
+/// Judges rates, names and types of an orchestra, as if its calls of defined opcodes were expanded, and gives its typed
+/// form; or its first fault, which is of the kinds 12 to 19. Header lines and `zakinit`s are judged first, then `kr`,
+/// and then each statement in the order of the expanded text.
+///
+/// A definition is judged and typed where it is first called, and not again.
+pub fn type_orc(alloc: Global, expansion: &Expansion<'_>) -> Result<TypedOrc, Or<OrcFault>>
+    requires { IsReady expansion.now }
+    ensures typed { IfOk result (λ t. typed.orchestra t
+        ≡ typed_of (expanded_orchestra (tree.orchestra expansion.now.orc.now))) }
+    ensures right { OnOk result (type_fault (expanded_orchestra (tree.orchestra expansion.now.orc.now)) ≡ None) }
+    ensures fault { (f : OrcFault) → result ≡ Err (or.Fault f)
+        → type_fault (expanded_orchestra (tree.orchestra expansion.now.orc.now)) ≡ Some f }
+{
+    let settings = judge_settings(&expansion.orc.head, &expansion.orc.zero)?;
+    settled(alloc, settings, expansion)
 }

@@ -1,51 +1,35 @@
-// Statements: judged in the order of the text, and given their typed form.
-ghost use Rattle.std.specs.Prelude.{◌≡◌, OnOk};
-ghost use Rattle.cs_words.specs.Names.{name_rate};
+// Statements: judged in the order of the text, and given their typed form. A defined opcode is typed where it is first
+// called.
+ghost use Rattle.std.specs.Prelude.{◌≡◌, ◌<◌, List, OnOk, Some, map, slice_get};
 ghost use Rattle.cs_grammar.specs.Tree as tree;
-ghost use Rattle.cs_grammar.specs.declared.tree.Arm.{out-Arm};
-ghost use Rattle.cs_typing.specs.Expressions.{typed_expression};
-ghost use Rattle.cs_typing.specs.Known.{variable, given};
+ghost use Rattle.cs_grammar.specs.declared.tree.Callee.{Callee};
+ghost use Rattle.cs_typing.specs.Expressions.{expression_by};
 ghost use Rattle.cs_typing.specs.Settings.{at};
-ghost use Rattle.cs_typing.specs.Statements.{may_set, set_fault, condition_fault, fault, block_fault, arms_fault};
-ghost use Rattle.cs_typing.specs.Statements.{known, known_block, known_arms, typed_statement, typed_block, typed_arms};
-ghost use Rattle.cs_typing.specs.Statements.{choice_rate, all_init};
+ghost use Rattle.cs_typing.specs.Statements.{condition_fault_by, choice_rate, all_init};
 ghost use Rattle.cs_typed.specs.TypedTree as typed;
-ghost use Rattle.cs_typing.specs.inner.Answers.{Gives, GivesArm, GivesArms};
+ghost use Rattle.cs_typing.specs.inner.Answers.{Gives, Judged};
+ghost use Rattle.cs_typing.specs.inner.Listed.{AddsOver, GivesArm, GivesArms, GivesBlock, IsAhead, IsListed, IsSound};
+ghost use Rattle.cs_typing.specs.inner.Listed.{routine_here, routines_at};
+ghost use Rattle.cs_typing.specs.inner.Routines.{all_given_in, call_fault_in, call_in, locals_after_call};
+ghost use Rattle.cs_typing.specs.inner.Routines.{fault_in, block_fault_in, known_after, known_after_block, knows_in};
+ghost use Rattle.cs_typing.specs.inner.Routines.{known_in, no_locals, typed_in, typed_block_in, variable_in};
+ghost use Rattle.cs_udo.specs.Library.{definitions_of};
+ghost use Rattle.cs_typing.specs.inner.Held.{known_of, locals_of};
 
+use crate::assign::set_name;
 use crate::call::{broken, call};
-use crate::expr::{is_condition, is_value, rate_of, reads_known, typed_expression};
-use crate::known::KnownNames;
+use crate::expr::{is_condition, rate_of, reads_known, typed_expression};
+use crate::invoke::{Invocation, give_inputs, give_results, give_slots, inputs_of};
+use crate::known::{KnownNames, Scope};
 use crate::making::add;
-use cs_base::{Or, OrcFault, OrcKind, Rate};
-use cs_grammar::{Arm, Expr, OrcStmt, StmtWhat};
+use crate::routines::{Site, SoFar};
+use cs_base::{Or, OrcFault, OrcKind, PerRate, Rate};
+use cs_grammar::{Arm, Expr, OrcStmt, StmtWhat, Udo};
 use cs_typed::{Setting, TypedArm, TypedArms, TypedExpr, TypedStmt, TypedStmts, TypedWhat};
-use cs_words::name_rate;
-
-// Whether a variable may take a value.
-fn may_set(setting: Setting, name: &[u8], e: &Expr) -> bool
-    ensures { result ≡ may_set setting name.now (tree.expression e.now) }
-{
-    is_value(e)
-        && rate_of(e).within(name_rate(name))
-        && (setting.inside || name_rate(name).is_init())
-}
-
-// The first rule that an assignment breaks.
-fn set_fault<'t>(setting: Setting, names: &KnownNames<'t>, name: &[u8], e: &Expr) -> Option<OrcKind>
-    ensures { result ≡ set_fault setting names.now name.now (tree.expression e.now) }
-{
-    if !reads_known(names, e) {
-        Some(OrcKind::Undefined)
-    } else if !may_set(setting, name, e) {
-        Some(OrcKind::RateMismatch)
-    } else {
-        None
-    }
-}
 
 // The first rule that the condition of an `if` breaks.
 fn condition_fault<'t>(setting: Setting, names: &KnownNames<'t>, e: &Expr) -> Option<OrcKind>
-    ensures { result ≡ condition_fault setting names.now (tree.expression e.now) }
+    ensures { result ≡ condition_fault_by setting (knows_in (known_of names.now)) (tree.expression e.now) }
 {
     if !reads_known(names, e) {
         Some(OrcKind::Undefined)
@@ -54,34 +38,6 @@ fn condition_fault<'t>(setting: Setting, names: &KnownNames<'t>, e: &Expr) -> Op
     } else {
         None
     }
-}
-
-// `name = e`
-fn set<'t>(
-    setting: Setting,
-    names: &mut KnownNames<'t>,
-    line: u32,
-    name: &'t [u8],
-    e: &Expr,
-) -> Result<TypedStmt, Or<OrcFault>>
-    ensures gives { Gives typed.statement result
-        (at line (set_fault setting names.old name.now
-        (tree.expression e.now)))
-        (typed.set line (name_rate name.now) (variable names.old name.now)
-        (typed_expression names.old (tree.expression e.now))) }
-    ensures known { OnOk result (names.new ≡ given names.old name.now) }
-{
-    if let Some(kind) = set_fault(setting, names, name, e) {
-        return Err(broken(line, kind));
-    }
-    let var = names.variable(name);
-    let value = typed_expression(names, e)?;
-    let made = TypedStmt {
-        line,
-        rate: name_rate(name),
-        what: TypedWhat::Set(var, value),
-    };
-    Ok(names.given(name, made)?)
 }
 
 // Whether all conditions are known when the note begins.
@@ -115,8 +71,8 @@ fn condition<'t>(
     e: &Expr,
 ) -> Result<TypedExpr, Or<OrcFault>>
     ensures { Gives typed.expression result
-        (at line (condition_fault setting names.now (tree.expression e.now)))
-        (typed_expression names.now (tree.expression e.now)) }
+        (at line (condition_fault_by setting (knows_in (known_of names.now)) (tree.expression e.now)))
+        (expression_by (variable_in (known_of names.now)) (tree.expression e.now)) }
 {
     if let Some(kind) = condition_fault(setting, names, e) {
         return Err(broken(line, kind));
@@ -124,52 +80,170 @@ fn condition<'t>(
     Ok(typed_expression(names, e)?)
 }
 
-/// Judges a statement, and gives its typed form; what it gives is known from then on.
+// Judges a statement, and adds its typed form; what it gives is known from then on.
 #[cycle(typing)]
-pub fn stmt<'t>(
-    setting: Setting,
-    names: &mut KnownNames<'t>,
+fn stmt<'t>(
+    site: &Site<'_, 't>,
+    so_far: &mut SoFar<'t>,
+    done: &mut TypedStmts,
     s: &'t OrcStmt,
-) -> Result<TypedStmt, Or<OrcFault>>
-    ensures gives { Gives typed.statement result
-        (fault setting names.old (tree.statement s.now))
-        (typed_statement names.old (tree.statement s.now)) }
-    ensures known { OnOk result (names.new
-        ≡ known names.old (tree.statement s.now)) }
+) -> Result<(), Or<OrcFault>>
+    requires sound { IsSound site.now so_far.old }
+    ensures fault { Judged result (fault_in site.now.setting (routines_at site.now) (known_of so_far.old.names)
+        (tree.statement s.now)) }
+    ensures made { OnOk result (AddsOver so_far.new.routines done.old.items done.new.items
+        (typed_in (routines_at site.now) (known_of so_far.old.names) (tree.statement s.now))) }
+    ensures known { OnOk result (known_of so_far.new.names
+        ≡ known_after (routines_at site.now) (known_of so_far.old.names) (tree.statement s.now)) }
+    ensures ahead { OnOk result (IsAhead site.now so_far.old so_far.new) }
 {
     match &s.what {
-        StmtWhat::Set(name, e) => set(setting, names, s.line, name.as_slice(), e),
+        StmtWhat::Set(name, e) => {
+            let made = set_name(site.setting, &mut so_far.names, s.line, name.as_slice(), e)?;
+            Ok(add(done, made)?)
+        }
         StmtWhat::Call(results, callee, args) => {
-            call(setting, names, s.line, results.as_slice(), callee, args)
+            let results = results.as_slice();
+            match site.library.find(site.visible, callee) {
+                None => {
+                    let names = &mut so_far.names;
+                    let made = call(site.setting, names, s.line, results, callee, args)?;
+                    Ok(add(done, made)?)
+                }
+                Some(found) => {
+                    let it = Invocation {
+                        line: s.line,
+                        results,
+                        args,
+                        definition: found.definition,
+                        base: so_far.names.local_counts(),
+                    };
+                    invoke(site, so_far, done, &it, found.place)
+                }
+            }
         }
         StmtWhat::Choose(list, els) => {
-            let typed = arms(setting, names, s.line, list)?;
-            let typed_els = block(setting, names, els)?;
-            Ok(TypedStmt {
+            let typed = arms(site, so_far, s.line, list)?;
+            let typed_els = block(site, so_far, els)?;
+            let made = TypedStmt {
                 line: s.line,
                 rate: choice_rate(list),
                 what: TypedWhat::Choose(typed, typed_els),
-            })
+            };
+            Ok(add(done, made)?)
         }
     }
+}
+
+// A call of the definition at a place: its inputs are given, its routine is invoked, its results are given.
+#[cycle(typing)]
+fn invoke<'t>(
+    site: &Site<'_, 't>,
+    so_far: &mut SoFar<'t>,
+    done: &mut TypedStmts,
+    it: &Invocation<'t>,
+    place: usize,
+) -> Result<(), Or<OrcFault>>
+    requires sound { IsSound site.now so_far.old }
+    requires base { it.now.base ≡ (known_of so_far.old.names).locals.counts }
+    requires front { place < site.now.visible }
+    requires here { slice_get (definitions_of site.now.library.now) place
+        ≡ Some (tree.definition it.now.definition.now) }
+    ensures fault { let r = routine_here site.now place (tree.definition it.now.definition.now) in
+        (c : Callee) → Judged result (call_fault_in site.now.setting (known_of so_far.old.names) it.now.line
+        it.now.results.now c
+        (map tree.argument it.now.args.now) (Some r)) }
+    ensures made { let r = routine_here site.now place (tree.definition it.now.definition.now) in
+        OnOk result ((c : Callee) → AddsOver so_far.new.routines done.old.items done.new.items
+        (call_in (known_of so_far.old.names) it.now.line it.now.results.now c (map tree.argument it.now.args.now)
+        (Some r))) }
+    ensures known { let r = routine_here site.now place (tree.definition it.now.definition.now) in
+        OnOk result (known_of so_far.new.names ≡ known_in (r.shared so_far.old.names.shared)
+        (locals_after_call (known_of so_far.old.names).locals it.now.results.now (Some r))) }
+    ensures ahead { OnOk result (IsAhead site.now so_far.old so_far.new) }
+{
+    let inputs = inputs_of(&so_far.names, it.definition)?;
+    give_inputs(site.setting, &so_far.names, done, it, &inputs)?;
+    typed_routine(site, so_far, it.definition, inputs, place)?;
+    let SoFar { names, routines } = so_far;
+    match routines.of(place) {
+        None => Ok(()),
+        Some(found) => {
+            add(done, invocation(it.line, found.routine, it.base))?;
+            names.take(found.locals)?;
+            give_results(site.setting, names, done, it, &found.slots)
+        }
+    }
+}
+
+// The typed form of an invocation.
+fn invocation(line: u32, routine: usize, base: PerRate<usize>) -> TypedStmt
+    ensures { (rs : List typed.Block) → typed.statement rs result
+        ≡ typed.moved_block base (typed.routine_at rs routine) }
+{
+    TypedStmt {
+        line,
+        rate: Rate::Init,
+        what: TypedWhat::Invoke(routine, base),
+    }
+}
+
+// Types the definition at a place, unless it is typed.
+#[cycle(typing)]
+fn typed_routine<'t>(
+    site: &Site<'_, 't>,
+    so_far: &mut SoFar<'t>,
+    definition: &'t Udo,
+    inputs: Scope<'t>,
+    place: usize,
+) -> Result<(), Or<OrcFault>>
+    requires sound { IsSound site.now so_far.old }
+    requires inputs { locals_of inputs ≡ all_given_in no_locals definition.now.names }
+    requires front { place < site.now.visible }
+    requires here { slice_get (definitions_of site.now.library.now) place ≡ Some (tree.definition definition.now) }
+    ensures fault { let r = routine_here site.now place (tree.definition definition.now) in
+        Judged result (r.fault site.now.setting so_far.old.names.shared) }
+    ensures listed { let r = routine_here site.now place (tree.definition definition.now) in
+        OnOk result (IsListed so_far.new.routines place r so_far.old.names.shared) }
+    ensures known { let r = routine_here site.now place (tree.definition definition.now) in
+        OnOk result (known_of so_far.new.names
+        ≡ known_in (r.shared so_far.old.names.shared) (known_of so_far.old.names).locals) }
+    ensures ahead { OnOk result (IsAhead site.now so_far.old so_far.new) }
+{
+    if so_far.routines.of(place).is_some() {
+        return Ok(());
+    }
+    let mut around = inputs;
+    so_far.names.exchange(&mut around);
+    let inner = Site {
+        setting: site.setting,
+        library: site.library,
+        visible: place,
+    };
+    let mut body = block(&inner, so_far, &definition.body)?;
+    let slots = give_slots(site.setting, &mut so_far.names, &mut body, definition)?;
+    so_far.names.exchange(&mut around);
+    Ok(so_far.routines.add(place, around.counts(), slots, body)?)
 }
 
 /// Judges statements, and gives their typed forms.
 #[cycle(typing)]
 pub fn block<'t>(
-    setting: Setting,
-    names: &mut KnownNames<'t>,
+    site: &Site<'_, 't>,
+    so_far: &mut SoFar<'t>,
     stmts: &'t [OrcStmt],
 ) -> Result<TypedStmts, Or<OrcFault>>
-    ensures gives { Gives (λ v. typed.block v.items) result
-        (block_fault setting names.old (tree.block stmts.now))
-        (typed_block names.old (tree.block stmts.now)) }
-    ensures known { OnOk result (names.new
-        ≡ known_block names.old (tree.block stmts.now)) }
+    requires sound { IsSound site.now so_far.old }
+    ensures gives { GivesBlock so_far.new.routines result
+        (block_fault_in site.now.setting (routines_at site.now) (known_of so_far.old.names) (tree.block stmts.now))
+        (typed_block_in (routines_at site.now) (known_of so_far.old.names) (tree.block stmts.now)) }
+    ensures known { OnOk result (known_of so_far.new.names
+        ≡ known_after_block (routines_at site.now) (known_of so_far.old.names) (tree.block stmts.now)) }
+    ensures ahead { OnOk result (IsAhead site.now so_far.old so_far.new) }
 {
-    let mut done = Vec::new(names.alloc());
+    let mut done = Vec::new(so_far.names.alloc());
     for s in stmts {
-        add(&mut done, stmt(setting, names, s)?)?;
+        stmt(site, so_far, &mut done, s)?;
     }
     Ok(done)
 }
@@ -177,17 +251,19 @@ pub fn block<'t>(
 // The arms of an `if`, whose line is given.
 #[cycle(typing)]
 fn arms<'t>(
-    setting: Setting,
-    names: &mut KnownNames<'t>,
+    site: &Site<'_, 't>,
+    so_far: &mut SoFar<'t>,
     line: u32,
     list: &'t [Arm],
 ) -> Result<TypedArms, Or<OrcFault>>
-    ensures { GivesArms (λ v. v.items) setting names.old line list.now result
-        (names.new) }
+    requires sound { IsSound site.now so_far.old }
+    ensures gives { GivesArms so_far.new.routines site.now.setting (routines_at site.now)
+        (known_of so_far.old.names) line list.now result (known_of so_far.new.names) }
+    ensures ahead { OnOk result (IsAhead site.now so_far.old so_far.new) }
 {
-    let mut done = Vec::new(names.alloc());
+    let mut done = Vec::new(so_far.names.alloc());
     for a in list {
-        add(&mut done, arm(setting, names, line, a)?)?;
+        add(&mut done, arm(site, so_far, line, a)?)?;
     }
     Ok(done)
 }
@@ -195,30 +271,17 @@ fn arms<'t>(
 // An arm of an `if`, whose line is given.
 #[cycle(typing)]
 fn arm<'t>(
-    setting: Setting,
-    names: &mut KnownNames<'t>,
+    site: &Site<'_, 't>,
+    so_far: &mut SoFar<'t>,
     line: u32,
     a: &'t Arm,
 ) -> Result<TypedArm, Or<OrcFault>>
-    ensures { GivesArm setting names.old line a.now result (names.new) }
+    requires sound { IsSound site.now so_far.old }
+    ensures gives { GivesArm so_far.new.routines site.now.setting (routines_at site.now)
+        (known_of so_far.old.names) line a.now result (known_of so_far.new.names) }
+    ensures ahead { OnOk result (IsAhead site.now so_far.old so_far.new) }
 {
-    let cond = condition(setting, names, line, &a.cond)?;
-    let body = arm_body(setting, names, a)?;
+    let cond = condition(site.setting, &so_far.names, line, &a.cond)?;
+    let body = block(site, so_far, &a.body)?;
     Ok(TypedArm { cond, body })
-}
-
-// The statements of an arm.
-#[cycle(typing)]
-fn arm_body<'t>(
-    setting: Setting,
-    names: &mut KnownNames<'t>,
-    a: &'t Arm,
-) -> Result<TypedStmts, Or<OrcFault>>
-    ensures gives { Gives (λ v. typed.block v.items) result
-        (block_fault setting names.old (tree.block (out-Arm a.now).body.items))
-        (typed_block names.old (tree.block (out-Arm a.now).body.items)) }
-    ensures known { OnOk result (names.new
-        ≡ known_block names.old (tree.block (out-Arm a.now).body.items)) }
-{
-    block(setting, names, &a.body)
 }

@@ -1,5 +1,5 @@
 // `zakinit`s outside instruments, in the order of the text: their first fault, and the two zak spaces.
-ghost use Rattle.std.specs.Prelude.{◌≡◌, ◌≤◌, map, true, false, None};
+ghost use Rattle.std.specs.Prelude.{◌≡◌, map, true, false, None};
 ghost use Rattle.std.specs.List.{list_all};
 ghost use Rattle.cs_grammar.specs.Tree as tree;
 ghost use Rattle.cs_grammar.specs.declared.tree.Arm.{out-Arm};

@@ -14,19 +14,13 @@ use Rattle.cs_udo.specs.Expanded.{Opcodes, no_opcodes, template}
 use Rattle.cs_udo.specs.Refused.{has_text, broken_rule, upper, uppermost_of, uppermost, faults_outside}
 use Rattle.cs_udo.specs.Refused.{faults_of_definitions, faults_of_instruments, first_fault}
 use Rattle.cs_udo.proofs.Weighed.{length_slots}
-use Rattle.cs_udo.specs.inner.Walks.{listed, after_faults}
+use Rattle.cs_udo.specs.inner.Walks.{after_faults}
 
 -- the faults of one list, and then those of another
 pub after_both : (first : Option OrcFault) (xs ys : List OrcFault)
     → after_faults first (xs ++ ys) ≡ after_faults (after_faults first xs) ys
 after_both first [] ys = refl
 after_both first (f ∷ xs) ys = after_both (uppermost_of first (Some f)) xs ys
-
-pub one_listed : (first o : Option OrcFault) → uppermost_of first o ≡ after_faults first (listed o)
-one_listed None None = refl
-one_listed None (Some f) = refl
-one_listed (Some g) None = refl
-one_listed (Some g) (Some f) = refl
 
 abbrev pick : Bool → OrcFault → OrcFault → OrcFault
 pick b f g = if b then f else g

@@ -18,7 +18,7 @@ use Rattle.cs_grammar.specs.Tree.{Definition, definition, of_what}
 use Rattle.cs_grammar.specs.declared.tree.Udo.{Udo}
 use Rattle.cs_udo.specs.Expanded.{Template, Opcodes, no_opcodes, template, defining, defining_all, before}
 use Rattle.cs_udo.specs.Expanded.{opcodes_before}
-use Rattle.cs_udo.specs.inner.Library.{opcodes_of}
+use Rattle.cs_udo.specs.Library.{opcodes_of, place_among}
 
 -- what is left of a list, and what is left after its first
 pub dropped : {A : Type 0} (xs : List A) (i : ℕ) (x : A) → i < length xs → x ≡ get_or xs i x
@@ -121,6 +121,17 @@ pub at_place : (us : List Udo) (k : ℕ) (u : Udo) → k < length us → u ≡ g
     → definition u ≡ get_or (map definition us) k (definition u)
 at_place us k u lt e = sym
     (get_or_from_slice_get (map definition us) k (definition u) (definition u) (read_one us k u lt e))
+
+pub place_is : (us : List Udo) (ns : List (List ℕ)) (k : ℕ) (x : List ℕ) → ns ≡ map (λ v. v.name) us
+    → k ≡ place_of ns x → k ≡ place_among (map definition us) x
+place_is us ns k x named p = p ∙ ap (λ ms. place_of ms x) (named ∙ sym (names_are us))
+
+pub none_in_front : (us : List Udo) (ns : List (List ℕ)) (n k : ℕ) (x : List ℕ) → ns ≡ map (λ v. v.name) us
+    → k ≡ place_of ns x → min n (length us) ≤ k → min n (length (map definition us)) ≤ place_among (map definition us) x
+none_in_front us ns n k x named p h =
+    let here : k ≡ place_among (map definition us) x = place_is us ns k x named p in
+    let long : length (map definition us) ≡ length us = length-map us definition in
+    omega (arith, h, here, long)
 
 pub found_one : (us : List Udo) (ns : List (List ℕ)) (n k : ℕ) (x : List ℕ) (u : Udo) → ns ≡ map (λ v. v.name) us
     → k ≡ place_of ns x → k < n → k < length us → u ≡ get_or us k u

@@ -4,11 +4,11 @@ use Rattle.cs_grammar.specs.declared.tree.Callee.{Callee}
 use Rattle.cs_grammar.specs.declared.tree.Callee.TheVariants as callee
 use Rattle.cs_grammar.specs.Tree.{Expression, number, var, field, head, neg, pair, pick, apply, Argument, value, text}
 use Rattle.cs_grammar.specs.Tree.{Statement, set, call, choose}
-use Rattle.cs_grammar.specs.Tree.{Block, no_stmt, andthen, joins, Arms, otherwise, arm, Instrument}
+use Rattle.cs_grammar.specs.Tree.{Block, no_stmt, andthen, joins, Arms, otherwise, arm}
 use Rattle.cs_grammar.specs.Renaming.{renamed_expression, renamed_argument}
 use Rattle.cs_udo.specs.Names.{as_it_is}
 use Rattle.cs_udo.specs.Expanded.{no_opcodes, defined, alone, called, after, after_block, expanded, expanded_block}
-use Rattle.cs_udo.specs.Expanded.{expanded_arms, expanded_instrument}
+use Rattle.cs_udo.specs.Expanded.{expanded_arms}
 
 same_value : (e : Expression) → renamed_expression as_it_is e ≡ e
 same_value (number v) = refl
@@ -42,7 +42,7 @@ mutual
   same_statement f (call line xs c args) = not_called f line xs c args
   same_statement f (choose line list) = ap (λ a. alone (choose line a)) (same_arms f list)
 
-  same_block : (f : ℕ) (b : Block) → expanded_block no_opcodes as_it_is f b ≡ b
+  pub same_block : (f : ℕ) (b : Block) → expanded_block no_opcodes as_it_is f b ≡ b
   same_block f no_stmt = refl
   same_block f (andthen x rest) = λ i. joins (same_statement f x i) (same_block (after no_opcodes f x) rest i)
 
@@ -50,8 +50,3 @@ mutual
   same_arms f (otherwise b) = ap otherwise (same_block f b)
   same_arms f (arm c b rest) =
       λ i. arm (same_value c i) (same_block f b i) (same_arms (after_block no_opcodes f b) rest i)
-
-pub same_instruments : (is : List Instrument) → map (expanded_instrument []) is ≡ is
-same_instruments [] = refl
-same_instruments (i ∷ is) =
-    λ k. record { line = i.line; numbers = i.numbers; body = same_block 1 i.body k } ∷ same_instruments is k

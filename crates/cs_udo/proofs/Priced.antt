@@ -1,19 +1,17 @@
 -- What calls and definitions count, capped.
-use Rattle.std.proofs.Common.{◌≡◌, ◌∙◌, ◌+◌, ◌≤◌, ℕ, min, List, [], ◌∷◌, ◌++◌, length, slice_get, slice_index, Option}
+use Rattle.std.proofs.Common.{◌≡◌, ◌∙◌, ◌+◌, ◌≤◌, ℕ, min, List, [], ◌∷◌, ◌++◌, length, slice_get, slice_index}
 use Rattle.std.proofs.Common.{Some, None, arith, refl, sym, ap}
-use Rattle.std.specs.Option.{option_or}
 use borrow.Author.Count.{below_more}
 use Rattle.std.proofs.lemmas.List.{length_push, get_or_append_left, get_or_push}
-use Rattle.std.proofs.lemmas.Option.{none-some, same_Some}
+use Rattle.std.proofs.lemmas.Option.{same_Some}
 use Rattle.cs_base.specs.declared.limit.Limit.TheVariants as limit
-use Rattle.cs_base.specs.declared.limit.LimitHit.{LimitHit}
 use Rattle.cs_grammar.specs.declared.tree.Callee.{Callee}
 use Rattle.cs_grammar.specs.Tree.{Argument, Block, Definition}
 use Rattle.cs_udo.specs.Names.{slots}
 use Rattle.cs_udo.specs.Expanded.{Opcodes, defined, assignments, template}
 use Rattle.cs_udo.specs.Counted.{size_of, call_count, counts_in, hit, statements_hit}
 use Rattle.cs_udo.specs.declared.tally.RunningCount.{RunningCount}
-use Rattle.cs_udo.specs.inner.Library.{opcodes_of}
+use Rattle.cs_udo.specs.Library.{opcodes_of}
 use Rattle.cs_udo.specs.inner.Tallies.{capped, total, after_counts, weight, IsPriced}
 use Rattle.cs_udo.proofs.Tallied.{capped_first, capped_both, sum_after, passed_after}
 use Rattle.cs_udo.proofs.Weighed.{AllFair, fair_template, call_weight, body_weight, length_slots}
@@ -62,9 +60,6 @@ cost_is env fair d t given result counted g r =
     nothing_plus : (n : ℕ) → 0 + n ≡ n
     nothing_plus n = omega arith
 
-pub first_price : (ds : List Definition) → IsPriced ds []
-first_price ds = record { each = λ k d lt e. absurd (omega (arith, lt)) }
-
 pub one_more_price : (ds : List Definition) (costs more : List ℕ) (cost : ℕ) (d : Definition) → IsPriced ds costs
     → slice_get ds (length costs) ≡ Some d → cost ≡ capped (weight (template (opcodes_of ds (length costs)) d))
     → more ≡ costs ++ cost ∷ [] → IsPriced ds more
@@ -92,12 +87,3 @@ statements_are env b t counted =
   where
     few : 0 ≤ 2000
     few = omega arith
-
--- a limit of the first two is one of the three
-pub sooner : (a b c : Option LimitHit) (f : LimitHit) → option_or a b ≡ Some f → option_or a (option_or b c) ≡ Some f
-sooner (Some g) b c f e = e
-sooner None b c f e = ap (λ g. option_or g c) e
-
-pub later : (a b c : Option LimitHit) → option_or a b ≡ None → option_or a (option_or b c) ≡ c
-later (Some g) b c e = absurd (none-some g (sym e))
-later None b c e = ap (λ g. option_or g c) e

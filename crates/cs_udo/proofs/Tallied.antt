@@ -1,6 +1,6 @@
 -- Counts, one after the other.
 use Rattle.std.proofs.Common.{◌≡◌, ◌∙◌, ◌+◌, ◌≤◌, ℕ, Bool, true, false, nat_lt, if◌then◌else◌, List, [], ◌∷◌, ◌++◌}
-use Rattle.std.proofs.Common.{Option, Some, None, arith, refl, sym, ap}
+use Rattle.std.proofs.Common.{Some, None, arith, refl, sym, ap}
 use Rattle.std.proofs.lemmas.Bool.Decides.{nat_tests}
 use Rattle.std.specs.Option.{option_or}
 use Rattle.std.proofs.lemmas.Option.{none-some}
@@ -34,25 +34,6 @@ capped_second a b = ap capped (swap a (capped b)) ∙ capped_first b a ∙ ap ca
 
 pub capped_both : (a b : ℕ) → capped (capped a + capped b) ≡ capped (a + b)
 capped_both a b = capped_first a (capped b) ∙ capped_second a b
-
-both_past : (sum n : ℕ) → nat_lt 2000 n ≡ true → nat_lt 2000 (sum + 2001) ≡ nat_lt 2000 (sum + n)
-both_past sum n e = grind (arith, nat_tests)
-
--- a count that is too much passes where its cap does
-same_passing : (sum n : ℕ) → nat_lt 2000 (sum + capped n) ≡ nat_lt 2000 (sum + n)
-same_passing sum n = by (nat_lt 2000 n) refl
-  where
-    by : (c : Bool) → nat_lt 2000 n ≡ c → nat_lt 2000 (sum + capped n) ≡ nat_lt 2000 (sum + n)
-    by true e = ap (λ k. nat_lt 2000 (sum + k)) (capped_by n true e) ∙ both_past sum n e
-    by false e = ap (λ k. nat_lt 2000 (sum + k)) (capped_by n false e)
-
-pub counted_capped : (t : RunningCount) (line n : ℕ) → after_count t (line, capped n) ≡ after_count t (line, n)
-counted_capped t line n =
-    made (capped_second t.sum n) (ap (λ b. option_or t.passed (if b then Some line else None)) (same_passing t.sum n))
-  where
-    made : {a b : ℕ} {o p : Option ℕ} → a ≡ b → o ≡ p
-        → ◌≡◌ {A = RunningCount} (record { sum = a; passed = o }) (record { sum = b; passed = p })
-    made e k = λ i. record { sum = e i; passed = k i }
 
 -- the counts of one list, and then those of another
 pub after_both : (t : RunningCount) (xs ys : List (ℕ × ℕ))

@@ -15,7 +15,7 @@ use Rattle.cs_udo.specs.Expanded.{Template, Opcodes, no_opcodes, defined, assign
 use Rattle.cs_udo.specs.Expanded.{after_called, after, after_block, after_arms, expanded, expanded_block, expanded_arms}
 use Rattle.cs_udo.specs.Expanded.{calls, calls_in, calls_in_arms, whole_body, template, defining, defining_all}
 use Rattle.cs_udo.specs.Counted.{size_of, size_of_arms, call_count, counts, counts_in, counts_in_arms}
-use Rattle.cs_udo.specs.inner.Library.{opcodes_of}
+use Rattle.cs_udo.specs.Library.{opcodes_of}
 use Rattle.cs_udo.specs.inner.Tallies.{total, is_value, weight}
 use Rattle.cs_udo.proofs.Tallied.{total_both}
 

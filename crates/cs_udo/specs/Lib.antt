@@ -1,7 +1,9 @@
 pub mod Counted
 pub mod Expanded
 pub mod Expanding
+pub mod Library
 pub mod Names
+pub mod Ready
 pub mod Refused
 pub mod Worked
 pub mod inner

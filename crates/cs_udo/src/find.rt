@@ -4,7 +4,7 @@ ghost use Rattle.std.specs.List.{prefix_len};
 ghost use Rattle.cs_grammar.specs.Inputs.{AreDifferent};
 ghost use Rattle.cs_grammar.specs.Tree as tree;
 ghost use Rattle.cs_grammar.specs.declared.tree.Callee.TheVariants as callee;
-ghost use Rattle.cs_udo.specs.inner.Library.{definitions_of, IsFound};
+ghost use Rattle.cs_udo.specs.Library.{definitions_of, IsFound, IsDefined};
 
 use crate::library::{FoundDefinition, Library};
 use cs_base::OutOfMemory;
@@ -27,7 +27,8 @@ impl<'t> Library<'t> {
 
     /// The definition that is called, among the first `visible`; None where the callee is none of them.
     pub fn find(&self, visible: usize, callee: &Callee) -> Option<FoundDefinition<'t>>
-        ensures { IsFound (definitions_of self.now) visible callee.now result }
+        ensures found { IsFound (definitions_of self.now) visible callee.now result }
+        ensures defined { IsDefined (definitions_of self.now) visible callee.now result }
     {
         match callee {
             Callee::Opcode(_) => None,
@@ -37,7 +38,8 @@ impl<'t> Library<'t> {
 
     // The definition of a name, among the first `visible`.
     fn named(&self, visible: usize, name: &[u8]) -> Option<FoundDefinition<'t>>
-        ensures { IsFound (definitions_of self.now) visible (callee.Name name.now) result }
+        ensures found { IsFound (definitions_of self.now) visible (callee.Name name.now) result }
+        ensures defined { IsDefined (definitions_of self.now) visible (callee.Name name.now) result }
     {
         let place = self.names.place(name);
         if place < visible.min(self.definitions.len()) {

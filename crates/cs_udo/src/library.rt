@@ -1,14 +1,17 @@
-// The defined opcodes of an orchestra.
-ghost use Rattle.std.specs.Prelude.{◌≡◌, map};
+// The defined opcodes of an orchestra, and an orchestra that may be expanded.
+ghost use Rattle.std.specs.Prelude.{◌≡◌, None, map};
+ghost use Rattle.cs_grammar.specs.Tree as tree;
+ghost use Rattle.cs_udo.specs.Counted.{first_limit};
+ghost use Rattle.cs_udo.specs.Refused.{first_fault};
 
-use cs_grammar::Udo;
+use cs_grammar::{Orc, Udo};
 use cs_words::NameSet;
 
 /// The definitions of an orchestra, in the order of the text, and their names.
 #[derive(Drop)]
 pub struct Library<'t> {
     pub definitions: &'t [Udo],
-    pub names: NameSet<'t>,
+    pub(crate) names: NameSet<'t>,
     ghost named: { names ≡ map (λ u. u.name) definitions.now },
 }
 
@@ -17,4 +20,13 @@ pub struct Library<'t> {
 pub struct FoundDefinition<'t> {
     pub place: usize,
     pub definition: &'t Udo,
+}
+
+/// An orchestra none of whose calls of defined opcodes breaks a rule, and that passes no limit; and its definitions.
+#[derive(Drop)]
+pub struct Expansion<'t> {
+    pub orc: &'t Orc,
+    pub library: Library<'t>,
+    ghost fine: { first_fault (tree.orchestra orc.now) ≡ None },
+    ghost within: { first_limit (tree.orchestra orc.now) ≡ None },
 }

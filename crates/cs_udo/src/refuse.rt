@@ -7,7 +7,7 @@ ghost use Rattle.cs_udo.specs.Refused.{has_text, broken_rule, at, call_faults, u
 ghost use Rattle.cs_udo.specs.Refused.{faults_in_arms, faults_outside, faults_of_definitions, faults_of_instruments};
 ghost use Rattle.cs_udo.specs.Refused.{first_fault};
 ghost use Rattle.cs_udo.specs.Expanded.{Opcodes, no_opcodes, defined, template};
-ghost use Rattle.cs_udo.specs.inner.Library.{definitions_of};
+ghost use Rattle.cs_udo.specs.Library.{definitions_of};
 ghost use Rattle.cs_udo.specs.inner.Walks.{opcodes_at, listed, after_faults};
 
 use crate::library::Library;

@@ -44,8 +44,8 @@ use Rattle.cs_udo_meaning.proofs.Alike.{Alike, AlikeStmt, Agree, Reads, place, u
 use Rattle.cs_udo_meaning.proofs.Alike.{init_same, perf_same}
 use Rattle.cs_udo_meaning.proofs.Fresh.{own_rate}
 use Rattle.cs_udo_meaning.proofs.Laid.{Holds, first_hold, rest_hold, LaysOn, lays_on}
-use Rattle.cs_udo_meaning.proofs.Named.{Named, NamedAll, NamedArguments, NamedStmt, NamedBlock, NamedArms, any_names}
-use Rattle.cs_udo_meaning.proofs.Named.{any_arguments, any_block}
+use Rattle.cs_typing.proofs.Named.{Named, NamedAll, NamedArguments, NamedStmt, NamedBlock, NamedArms, any_names}
+use Rattle.cs_typing.proofs.Named.{any_arguments, any_block}
 use Rattle.cs_udo_meaning.proofs.Paths.{further}
 use Rattle.cs_udo_meaning.proofs.OwnRates.{own_rates, choice_kept}
 use Rattle.cs_typing.proofs.SameRates.{expression_renamed}

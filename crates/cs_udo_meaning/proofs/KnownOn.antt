@@ -1,22 +1,19 @@
 -- What is known goes on being known, and the typed form of statements without a fault is that of what is known at the
 -- end.
-use Rattle.std.proofs.Common.{◌≡◌, ◌∙◌, ℕ, suc, ◌-◌, ◌==◌, Bool, true, false, not, ◌&&◌, ◌||◌, if◌then◌else◌, List, []}
-use Rattle.std.proofs.Common.{◌∷◌, length, map, nat_le, Option, Some, None, arith, refl, sym, ap}
+use Rattle.std.proofs.Common.{◌≡◌, ◌∙◌, ℕ, suc, ◌==◌, Bool, true, false, not, ◌&&◌, ◌||◌, if◌then◌else◌, List, []}
+use Rattle.std.proofs.Common.{◌∷◌, length, map, Option, Some, None, arith, refl, sym, ap}
 use Rattle.std.specs.List.{list_all}
 use Rattle.std.specs.Option.{option_or}
 use Rattle.std.proofs.lemmas.Bool.{and_parts}
 use Rattle.std.proofs.lemmas.Bool.Decides.{nat_tests}
 use Rattle.cs_base.proofs.Tests.{both_none}
-use Rattle.cs_base.specs.Rates.{within, is_init, is_audio}
-use Rattle.cs_base.specs.declared.resource.Res.TheVariants as res
+use Rattle.cs_base.specs.Rates.{within, is_init}
 use Rattle.cs_base.specs.declared.fault.OrcKind.{OrcKind}
 use Rattle.cs_base.specs.declared.fault.OrcKind.TheVariants as orc
 use Rattle.cs_base.specs.declared.resource.Rate.{Rate}
 use Rattle.cs_words.specs.Catalogue.{Row, row_of, takes_count, result_count}
-use Rattle.cs_words.specs.NameSets.{seen}
 use Rattle.cs_words.specs.Names.{name_rate, is_global}
 use Rattle.cs_words.specs.declared.catalogue.Opcode.{Opcode}
-use Rattle.cs_words.specs.declared.catalogue.Opcode.TheVariants as op
 use Rattle.cs_grammar.specs.declared.tree.Callee.{Callee}
 use Rattle.cs_grammar.specs.declared.tree.Callee.TheVariants as callee
 use Rattle.cs_grammar.specs.Tree.{Expression, number, var, field, head, neg, pair, pick, apply, Argument, value, text}
@@ -25,101 +22,22 @@ use Rattle.cs_typed.specs.Places.{stands_outside}
 use Rattle.cs_typed.specs.TypedTree as typed
 use Rattle.cs_typed.specs.declared.setting.Setting.{Setting}
 use Rattle.cs_typed.specs.declared.tree.Var.TheVariants as variant
-use Rattle.cs_typing.specs.Calls.{all_fit, bound_of, may_result, is_even, kind_of, any_sound, channel_use, text_of}
+use Rattle.cs_typing.specs.Calls.{all_fit, bound_of, may_result, is_even, channel_use, text_of}
 use Rattle.cs_typing.specs.Calls.{is_too_wide, all_known, rates_agree, counts_agree, row_fault, call_fault, row_known}
 use Rattle.cs_typing.specs.Calls.{call_known, call_rate, typed_arguments, typed_row, typed_call}
 use Rattle.cs_typing.specs.Expressions.{is_value, is_condition, rate_of, reads_known, typed_expression}
-use Rattle.cs_typing.specs.Known.{RateNames, in_table, place_in, added, Shared, KnownHere, knows, after_giving, given}
+use Rattle.cs_typing.specs.Known.{RateNames, in_table, place_in, added, KnownHere, knows, after_giving, given}
 use Rattle.cs_typing.specs.Known.{given_all, used, use_channel, clashes, global, variable, channel_of}
 use Rattle.cs_typing.specs.Settings.{at}
 use Rattle.cs_typing.specs.Statements.{set_fault, condition_fault, known, known_block, known_arms, fault, block_fault}
 use Rattle.cs_typing.specs.Statements.{arms_fault, choice_rate, typed_statement, typed_block, typed_arms}
 use Rattle.cs_typing.specs.declared.known.Channel.{Channel}
-use Rattle.cs_typing.specs.declared.known.Channel.TheVariants as channel
 use Rattle.cs_udo_meaning.specs.Numbered.{Numbering, numbered, expression_by, arguments_by, row_by, call_by}
 use Rattle.cs_udo_meaning.specs.Numbered.{statement_by, block_by, arms_by}
-use Rattle.cs_udo_meaning.proofs.Later.{GoesOn, stays, goes_further, place_on, seen_on, seen_has, seen_place}
-use Rattle.cs_udo_meaning.proofs.Later.{TableGoesOn, table_stays, table_further, added_on, added_in, added_place, in_on}
-use Rattle.cs_udo_meaning.proofs.Later.{place_in_on}
-
--- ---- what is known later
-
-pub record SharedGoesOn (s r : Shared) : Type 0 where
-  pub globals : r.globals ≡ s.globals
-  pub control : GoesOn s.control r.control
-  pub sound : GoesOn s.sound r.sound
-
-pub record Later (n m : KnownHere) : Type 0 where
-  pub shared : SharedGoesOn n.shared m.shared
-  pub locals : TableGoesOn n.locals m.locals
-
-pub shared_stays : (s : Shared) → SharedGoesOn s s
-shared_stays s = record { globals = refl; control = stays s.control; sound = stays s.sound }
-
-pub shared_further : (s r q : Shared) → SharedGoesOn s r → SharedGoesOn r q → SharedGoesOn s q
-shared_further s r q a b = record {
-  globals = b.globals ∙ a.globals;
-  control = goes_further s.control r.control q.control a.control b.control;
-  sound = goes_further s.sound r.sound q.sound a.sound b.sound;
-}
-
-pub later_same : (n : KnownHere) → Later n n
-later_same n = record { shared = shared_stays n.shared; locals = table_stays n.locals }
-
-pub later_further : (n m k : KnownHere) → Later n m → Later m k → Later n k
-later_further n m k a b = record {
-  shared = shared_further n.shared m.shared k.shared a.shared b.shared;
-  locals = table_further n.locals m.locals k.locals a.locals b.locals;
-}
-
-giving_on : (t : RateNames) (x : List ℕ) → TableGoesOn t (after_giving t x)
-giving_on t x = by (is_global x)
-  where
-    by : (b : Bool) → TableGoesOn t (if b then t else added t x)
-    by true = table_stays t
-    by false = added_on t x
-
-given_later : (n : KnownHere) (x : List ℕ) → Later n (given n x)
-given_later n x = record { shared = shared_stays n.shared; locals = giving_on n.locals x }
-
-given_all_later : (n : KnownHere) (xs : List (List ℕ)) → Later n (given_all n xs)
-given_all_later n [] = later_same n
-given_all_later n (x ∷ xs) =
-    later_further n (given n x) (given_all (given n x) xs) (given_later n x) (given_all_later (given n x) xs)
-
-used_on : (s : Shared) (kind : Option Channel) (x : List ℕ) → SharedGoesOn s (use_channel s kind x)
-used_on s None x = shared_stays s
-used_on s (Some channel.Control) x = record { globals = refl; control = seen_on s.control x; sound = stays s.sound }
-used_on s (Some channel.Sound) x = record { globals = refl; control = stays s.control; sound = seen_on s.sound x }
-
-row_later : (n : KnownHere) (row : Row) (results : List (List ℕ)) (args : List Argument)
-    → Later n (row_known n row results args)
-row_later n row results args = record {
-  shared = used_on n.shared (channel_use row.shape results args) (text_of args);
-  locals = (given_all_later n results).locals;
-}
-
-call_later : (n : KnownHere) (c : Callee) (results : List (List ℕ)) (args : List Argument)
-    → Later n (call_known n c results args)
-call_later n (callee.Name name) results args = given_all_later n results
-call_later n (callee.Opcode o) results args = row_later n (row_of o) results args
-
-mutual
-  pub known_later : (n : KnownHere) (x : Statement) → Later n (known n x)
-  known_later n (set line name e) = given_later n name
-  known_later n (call line results c args) = call_later n c results args
-  known_later n (choose line list) = known_arms_later n list
-
-  pub known_block_later : (n : KnownHere) (b : Block) → Later n (known_block n b)
-  known_block_later n no_stmt = later_same n
-  known_block_later n (andthen x rest) =
-      later_further n (known n x) (known_block (known n x) rest) (known_later n x) (known_block_later (known n x) rest)
-
-  pub known_arms_later : (n : KnownHere) (list : Arms) → Later n (known_arms n list)
-  known_arms_later n (otherwise b) = known_block_later n b
-  known_arms_later n (arm c b rest) =
-      later_further n (known_block n b) (known_arms (known_block n b) rest) (known_block_later n b)
-      (known_arms_later (known_block n b) rest)
+use Rattle.cs_typing.proofs.ChannelTexts.{TextsAre, OneText, one_text}
+use Rattle.cs_typing.proofs.KnownLater.{channel_same, SharedGoesOn, Later, later_further, given_later, row_later}
+use Rattle.cs_typing.proofs.KnownLater.{known_block_later, known_arms_later}
+use Rattle.cs_typing.proofs.Later.{TableGoesOn, added_in, added_place, in_on, place_in_on}
 
 -- ---- variables
 
@@ -195,57 +113,17 @@ plain_same n m s (value e ∷ rest) l p h =
     λ i. typed.value (expression_same n m s e l p k.0 i) ∷ plain_same n m s rest l p k.1 i
 plain_same n m s (text t ∷ rest) l p h = plain_same n m s rest l p h
 
-channel_same : (s r : Shared) (kind : Channel) (t : List ℕ) → SharedGoesOn (used s kind t) r
-    → channel_of s kind t ≡ channel_of r kind t
-channel_same s r channel.Control t l =
-    ap (λ k. variant.Global (res.Control k))
-    (sym (seen_place s.control t) ∙ sym (place_on (seen s.control t) r.control t l.control (seen_has s.control t)))
-channel_same s r channel.Sound t l =
-    ap (λ k. variant.Global (res.Sound k))
-    (sym (seen_place s.sound t) ∙ sym (place_on (seen s.sound t) r.sound t l.sound (seen_has s.sound t)))
-
--- a text alone, and a value and a text
-text_alone : (n m : KnownHere) (s : Numbering) (kind : Channel) (t : List ℕ)
-    → SharedGoesOn (used n.shared kind t) m.shared
-    → typed_arguments n (Some kind) (text t ∷ []) ≡ arguments_by m.shared (numbered m.shared s) (Some kind)
-    (text t ∷ [])
-text_alone n m s kind t l = ap (λ c. typed.text c ∷ []) (channel_same n.shared m.shared kind t l)
-
-value_text : (n m : KnownHere) (s : Numbering) (kind : Channel) (e : Expression) (t : List ℕ) → Later n m
-    → HasPlaces s m.locals → reads_known n e ≡ true
-    → SharedGoesOn (used n.shared kind t) m.shared
-    → typed_arguments n (Some kind) (value e ∷ text t ∷ []) ≡ arguments_by m.shared (numbered m.shared s) (Some kind)
-    (value e ∷ text t ∷ [])
-value_text n m s kind e t l p h on =
-    λ i. typed.value (expression_same n m s e l p h i) ∷ typed.text (channel_same n.shared m.shared kind t on i) ∷ []
-
-past_one : (k : ℕ) → (suc (suc k) - 1 == 0) ≡ false
-past_one k = grind (arith, nat_tests)
-
-past_two : (k : ℕ) → (suc (suc (suc k)) - 2 == 0) ≡ false
-past_two k = grind (arith, nat_tests)
-
-no_second : {A : Type 0} (k : ℕ) → (nat_le 1 (suc (suc k)) && (suc (suc k) - 1 == 0)) ≡ true → A
-no_second k h =
-    let never : false ≡ true =
-    sym (past_one k) ∙ (and_parts (nat_le 1 (suc (suc k))) (suc (suc k) - 1 == 0) h).1 in absurd (cc never)
-
-no_third : {A : Type 0} (k : ℕ) → (nat_le 2 (suc (suc (suc k))) && (suc (suc (suc k)) - 2 == 0)) ≡ true → A
-no_third k h =
-    let never : false ≡ true =
-    sym (past_two k) ∙ (and_parts (nat_le 2 (suc (suc (suc k)))) (suc (suc (suc k)) - 2 == 0) h).1 in absurd (cc never)
-
-no_value : {A : Type 0} (a b : Bool) → ((a && false) && b) ≡ true → A
-no_value true b h = absurd (cc h)
-no_value false b h = absurd (cc h)
-
-second_no_value : {A : Type 0} (a b c : Bool) → (a && ((b && false) && c)) ≡ true → A
-second_no_value true b c h = no_value b c h
-second_no_value false b c h = absurd (cc h)
-
-first_known_of : (a b : Bool) → (a && (true && b)) ≡ true → a ≡ true
-first_known_of true b h = refl
-first_known_of false b h = absurd (cc h)
+texts_typed : (n m : KnownHere) (s : Numbering) (kind : Channel) (t : List ℕ) (args : List Argument) → Later n m
+    → HasPlaces s m.locals → all_known n args ≡ true → TextsAre t args → SharedGoesOn (used n.shared kind t) m.shared
+    → typed_arguments n (Some kind) args ≡ arguments_by m.shared (numbered m.shared s) (Some kind) args
+texts_typed n m s kind t [] l p h one on = refl
+texts_typed n m s kind t (value e ∷ rest) l p h one on =
+    let k = and_parts (reads_known n e) (all_known n rest) h in
+    λ i. typed.value (expression_same n m s e l p k.0 i) ∷ texts_typed n m s kind t rest l p k.1 one on i
+texts_typed n m s kind t (text u ∷ rest) l p h one on =
+    let same = ap (channel_of n.shared kind) one.0 ∙ channel_same n.shared m.shared kind t on
+    ∙ sym (ap (channel_of m.shared kind) one.0) in
+    λ i. typed.text (same i) ∷ texts_typed n m s kind t rest l p h one.1 on i
 
 arguments_same : (n m : KnownHere) (s : Numbering) (o : Opcode) (b : Rate) (results : List (List ℕ))
     (args : List Argument)
@@ -254,34 +132,13 @@ arguments_same : (n m : KnownHere) (s : Numbering) (o : Opcode) (b : Rate) (resu
     → SharedGoesOn (use_channel n.shared (channel_use (row_of o).shape results args) (text_of args)) m.shared
     → typed_arguments n (channel_use (row_of o).shape results args) args
     ≡ arguments_by m.shared (numbered m.shared s) (channel_use (row_of o).shape results args) args
-arguments_same n m s op.Chnget b results [] l p c f h on = absurd (cc c)
-arguments_same n m s op.Chnget b results (value e ∷ rest) l p c f h on =
-    no_value (is_value e) (all_fit (row_of op.Chnget) b 1 rest) f
-arguments_same n m s op.Chnget b results (text t ∷ []) l p c f h on =
-    text_alone n m s (kind_of (is_audio (bound_of results))) t on
-arguments_same n m s op.Chnget b results (text t ∷ a ∷ rest) l p c f h on = no_second (length rest) c
-arguments_same n m s op.Chnset b results [] l p c f h on = absurd (cc c)
-arguments_same n m s op.Chnset b results (text t ∷ rest) l p c f h on = absurd (cc f)
-arguments_same n m s op.Chnset b results (value e ∷ []) l p c f h on = absurd (cc c)
-arguments_same n m s op.Chnset b results (value e ∷ value d ∷ rest) l p c f h on =
-    second_no_value (is_value e && true) (is_value d) (all_fit (row_of op.Chnset) b 2 rest) f
-arguments_same n m s op.Chnset b results (value e ∷ text t ∷ []) l p c f h on =
-    value_text n m s (kind_of (any_sound (value e ∷ text t ∷ []))) e t l p (first_known_of (reads_known n e) true h) on
-arguments_same n m s op.Chnset b results (value e ∷ text t ∷ a ∷ rest) l p c f h on = no_third (length rest) c
-arguments_same n m s op.Chnmix b results [] l p c f h on = absurd (cc c)
-arguments_same n m s op.Chnmix b results (text t ∷ rest) l p c f h on = absurd (cc f)
-arguments_same n m s op.Chnmix b results (value e ∷ []) l p c f h on = absurd (cc c)
-arguments_same n m s op.Chnmix b results (value e ∷ value d ∷ rest) l p c f h on =
-    second_no_value (is_value e && is_audio (rate_of e)) (is_value d) (all_fit (row_of op.Chnmix) b 2 rest) f
-arguments_same n m s op.Chnmix b results (value e ∷ text t ∷ []) l p c f h on =
-    value_text n m s channel.Sound e t l p (first_known_of (reads_known n e) true h) on
-arguments_same n m s op.Chnmix b results (value e ∷ text t ∷ a ∷ rest) l p c f h on = no_third (length rest) c
-arguments_same n m s op.Chnclear b results [] l p c f h on = absurd (cc c)
-arguments_same n m s op.Chnclear b results (value e ∷ rest) l p c f h on =
-    no_value (is_value e) (all_fit (row_of op.Chnclear) b 1 rest) f
-arguments_same n m s op.Chnclear b results (text t ∷ []) l p c f h on = text_alone n m s channel.Sound t on
-arguments_same n m s op.Chnclear b results (text t ∷ a ∷ rest) l p c f h on = no_second (length rest) c
-arguments_same n m s o b results args l p c f h on = plain_same n m s args l p h
+arguments_same n m s o b results args l p c f h on =
+    by (channel_use (row_of o).shape results args) (one_text o b results args c f) on
+  where
+    by : (role : Option Channel) → OneText role args → SharedGoesOn (use_channel n.shared role (text_of args)) m.shared
+        → typed_arguments n role args ≡ arguments_by m.shared (numbered m.shared s) role args
+    by None one more = plain_same n m s args l p h
+    by (Some kind) one more = texts_typed n m s kind (text_of args) args l p h one more
 
 -- ---- results: none or one
 

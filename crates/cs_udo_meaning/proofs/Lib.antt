@@ -6,9 +6,7 @@ pub mod KnownOn
 pub mod Kept
 pub mod Laid
 pub mod Led
-pub mod Later
 pub mod Lived
-pub mod Named
 pub mod Numbers
 pub mod OwnRates
 pub mod Paths

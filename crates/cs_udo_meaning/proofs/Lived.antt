@@ -31,7 +31,7 @@ use Rattle.cs_udo_meaning.specs.Typed.{shared_of, IsNumberedInstrument}
 use Rattle.cs_udo_meaning.proofs.Expanding.{all_act, nothing_acts, block_stands}
 use Rattle.cs_udo_meaning.proofs.Laid.{Holds, holds_from, LaysOn, lays_on}
 use Rattle.cs_udo_meaning.proofs.Led.{read_still, block_led, all_led}
-use Rattle.cs_udo_meaning.proofs.Named.{NamedBlock, block_named}
+use Rattle.cs_typing.proofs.Named.{NamedBlock, block_named}
 use Rattle.cs_udo_meaning.proofs.Numbers.{spelled_tells}
 use Rattle.cs_udo_meaning.proofs.Paths.{inward, outward_again, same_inward, one_place, each_of, all_of}
 use Rattle.cs_udo_meaning.proofs.TypedBy.{all_numbered}

@@ -44,7 +44,7 @@ use Rattle.cs_udo_meaning.specs.Typed.{IsNumberedInstrument}
 use Rattle.cs_udo_meaning.proofs.Alike.{Alike, AlikeStmt, Agree, units_alike, value_same, keep_same}
 use Rattle.cs_udo_meaning.proofs.Alike.{init_same, perf_same}
 use Rattle.cs_udo_meaning.proofs.Lived.{instrument_means}
-use Rattle.cs_udo_meaning.proofs.Named.{any_named, any_names, any_arguments}
+use Rattle.cs_typing.proofs.Named.{any_named, any_names, any_arguments}
 use Rattle.cs_udo_meaning.proofs.Numbers.{spelled_tells}
 use Rattle.cs_udo_meaning.proofs.Standing.{expression_alike, set_alike, call_alike}
 

@@ -40,7 +40,7 @@ use Rattle.cs_udo_meaning.proofs.Alike.{alike_pick, alike_apply, AlikeVariables,
 use Rattle.cs_udo_meaning.proofs.Alike.{AlikeArguments, no_argument, more_values, more_texts, AlikeStmt, alike_set}
 use Rattle.cs_udo_meaning.proofs.Alike.{alike_empty, core_alike, Agree}
 use Rattle.cs_udo_meaning.proofs.Fresh.{own_shared, own_rate, own_local, own_apart}
-use Rattle.cs_udo_meaning.proofs.Named.{Named, NamedAll, NamedArguments}
+use Rattle.cs_typing.proofs.Named.{Named, NamedAll, NamedArguments}
 use Rattle.cs_udo_meaning.proofs.Paths.{inward}
 
 equal_tests : (i j : ℕ) → (i == j) ≡ true → i ≡ j

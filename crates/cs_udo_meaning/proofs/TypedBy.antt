@@ -13,9 +13,11 @@ use Rattle.cs_typing.specs.Typing.{item_fault, items_fault, first_known, type_fa
 use Rattle.cs_typing.specs.Typing.{typed_instruments, typed_of}
 use Rattle.cs_udo_meaning.specs.Numbered.{Numbering, Variables, numbered, statement_by, block_by}
 use Rattle.cs_udo_meaning.specs.Typed.{shared_of, IsNumbered, IsNumberedInstrument}
-use Rattle.cs_udo_meaning.proofs.KnownOn.{SharedGoesOn, shared_stays, shared_further, Later, later_same, later_further}
-use Rattle.cs_udo_meaning.proofs.KnownOn.{known_block_later, HasPlaces, block_same}
-use Rattle.cs_udo_meaning.proofs.Later.{table_stays}
+use Rattle.cs_typing.proofs.Joined.{then_nothing}
+use Rattle.cs_typing.proofs.KnownLater.{SharedGoesOn, shared_stays, shared_further, Later, later_same, later_further}
+use Rattle.cs_typing.proofs.KnownLater.{known_block_later}
+use Rattle.cs_udo_meaning.proofs.KnownOn.{HasPlaces, block_same}
+use Rattle.cs_typing.proofs.Later.{table_stays}
 use Rattle.cs_udo_meaning.proofs.Numbers.{number_in, number_places, number_tells}
 
 item_later : (n : KnownHere) (x : Item) → Later n (known_item n x)
@@ -69,10 +71,6 @@ instruments_numbered channels n b (i ∷ rest) g h l =
     )
 
 -- ---- statements outside
-
-then_nothing : (b : typed.Block) → typed.then_block b typed.no_stmt ≡ b
-then_nothing typed.no_stmt = refl
-then_nothing (typed.andthen x rest) = ap (typed.andthen x) (then_nothing rest)
 
 cut : (g : Shared) (v : Variables) (line : ℕ) (b : Block)
     → typed.then_block (block_by g v (before line b)) (block_by g v (from line b)) ≡ block_by g v b

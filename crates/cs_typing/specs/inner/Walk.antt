@@ -1,70 +1,61 @@
--- What is made of the parts of an orchestra, one after another.
-use Rattle.std.specs.Prelude.{ℕ, List, [], ◌∷◌, ◌++◌, ◌≡◌, map, Option, Some, None, Result, Ok, Err}
+-- What is made of the parts of an orchestra so far, and what calls answer of parts.
+use Rattle.std.specs.Prelude.{ℕ, List, ◌≡◌, ◌++◌, map, Option, Some, None, Result, Ok, Err}
 use Rattle.cs_base.specs.declared.fault.Or.{Or}
 use Rattle.cs_base.specs.declared.fault.Or.TheVariants as or
 use Rattle.cs_base.specs.declared.fault.OrcFault.{OrcFault}
-use Rattle.cs_typing.specs.Known.{counts_of, KnownHere}
-use Rattle.cs_typing.specs.Statements.{known_block, typed_block}
-use Rattle.cs_typing.specs.Typing.{Item, alone, body, items, items_fault, known_item, known_items, first_known}
-use Rattle.cs_typing.specs.Typing.{shared_names, typed_instrument, typed_outside, typed_instruments}
-use Rattle.cs_grammar.specs.Tree.{Orchestra}
+use Rattle.cs_grammar.specs.Tree.{Definition, orchestra}
+use Rattle.cs_typed.specs.declared.tree.TypedInstr.{TypedInstr}
 use Rattle.cs_typed.specs.declared.tree.TypedOrc.{TypedOrc}
 use Rattle.cs_typed.specs.TypedTree as typed
+use Rattle.cs_udo.specs.Library.{definitions_of}
+use Rattle.cs_udo.specs.declared.library.Expansion.{Expansion}
+use Rattle.cs_typing.specs.Typing.{Item}
 use Rattle.cs_typing.specs.declared.orc.Done.{Done}
-use Rattle.cs_typing.specs.inner.Settled.{Told}
+use Rattle.cs_typing.specs.declared.orc.Typing.{Typing}
+use Rattle.cs_typing.specs.inner.Held.{known_of}
+use Rattle.cs_typing.specs.declared.routines.RoutineTable.{RoutineTable}
+use Rattle.cs_typing.specs.declared.routines.SoFar.{SoFar}
+use Rattle.cs_typing.specs.inner.Listed.{AreTyped, IsLonger, blocks_in}
+use Rattle.cs_typing.specs.inner.Parts.{MadeParts, after_parts, begun, known_behind, known_behind_all, made_with}
+use Rattle.cs_typing.specs.inner.Parts.{nothing}
 
--- what is made of the parts of an orchestra so far: the typed statements of the code outside instruments, and the
--- instruments
-pub record Made : Type 0 where
-  pub zero : typed.Block
-  pub instrs : List typed.Instrument
+-- what is made, where these are the routines
+abbrev pub made_of : List typed.Block → Done → MadeParts
+made_of rs d = made_with (typed.block rs d.zero.items) (map (typed.instrument rs) d.instrs.items)
 
-abbrev pub made_with : typed.Block → List typed.Instrument → Made
-made_with zero instrs = record { zero = zero; instrs = instrs }
+-- What is judged so far holds: each definition that has a routine is typed.
+abbrev pub AreSound : ℕ → List Definition → SoFar → Type 0
+AreSound channels ds f = AreTyped channels ds f.names.shared f.routines
 
-abbrev pub made_of : Done → Made
-made_of d = made_with (typed.block d.zero.items) (map typed.instrument d.instrs.items)
+-- Nothing of an orchestra is judged yet: what is known is what is known at its beginning, what is typed holds, whatever
+-- the channels, and nothing is made.
+pub record IsBegun (e : Expansion) (t : Typing) : Type 0 where
+  pub known : known_of t.so_far.names ≡ begun (orchestra e.orc.now)
+  pub sound : (channels : ℕ) → AreSound channels (definitions_of e.library) t.so_far
+  pub made : (rs : List typed.Block) → made_of rs t.made ≡ nothing
 
-abbrev pub nothing : Made
-nothing = made_with typed.no_stmt []
+-- Parts are added: they are known behind, what is made is theirs too, where more routines may follow, and what is typed
+-- holds on.
+pub record AddsParts (channels : ℕ) (ds : List Definition) (old new : Typing) (xs : List Item) : Type 0 where
+  pub known : known_of new.so_far.names ≡ known_behind_all ds (known_of old.so_far.names) xs
+  pub made : (more : List typed.Block) → made_of (blocks_in new.so_far.routines ++ more) new.made
+      ≡ after_parts ds (known_of old.so_far.names) (made_of (blocks_in new.so_far.routines ++ more) old.made) xs
+  pub longer : IsLonger old.so_far.routines new.so_far.routines
+  pub sound : AreSound channels ds new.so_far
 
--- what is made after one more part
-abbrev pub after_item : KnownHere → Made → Item → Made
-after_item n m (alone b) = made_with (typed.then_block m.zero (typed_block n b)) m.instrs
-after_item n m (body i) = made_with m.zero (m.instrs ++ typed_instrument n i ∷ [])
+-- An answer: what is made of an instrument, where more routines may follow, or its fault. Out of memory says nothing.
+abbrev pub GivesInstrument : RoutineTable → Result TypedInstr (Or OrcFault) → Option OrcFault → typed.Instrument
+    → Type 0
+GivesInstrument t (Ok x) fault form =
+    (fault ≡ None) × ((more : List typed.Block) → typed.instrument (blocks_in t ++ more) x ≡ form)
+GivesInstrument t (Err (or.Fault f)) fault form = fault ≡ Some f
+GivesInstrument t (Err or.OutOfMemory) fault form = Unit {0}
 
-abbrev pub after_items : KnownHere → Made → List Item → Made
-after_items n m [] = m
-after_items n m (x ∷ xs) = after_items (known_item n x) (after_item n m x) xs
-
--- An answer: there is no fault, or else it is this. Out of memory says nothing.
-abbrev pub Judged : {T : Type 0} → Result T (Or OrcFault) → Option OrcFault → Type 0
-Judged (Ok x) fault = fault ≡ None
-Judged (Err (or.Fault f)) fault = fault ≡ Some f
-Judged (Err or.OutOfMemory) fault = Unit {0}
-
--- the first rule that statements break, where the settings break none
-abbrev pub parts_fault : ℕ → Orchestra → Option OrcFault
-parts_fault channels o = items_fault channels (first_known o) (items o.zero o.instrs)
-
--- the typed form of an orchestra, from its settings, what is known at its end, the statements outside instruments, the
--- instruments
-abbrev pub made_from : Told → KnownHere → typed.Block → List typed.Instrument → typed.Orchestra
-made_from t n zero instrs = record {
-  head = t.head;
-  spaces = t.spaces;
-  zero_locals = counts_of n.locals;
-  zero = zero;
-  instrs = instrs;
-  globals = shared_names n.shared;
-}
-
--- the typed form of an orchestra whose settings are these
-abbrev pub typed_by : Told → Orchestra → typed.Orchestra
-typed_by t o =
-    let parts = items o.zero o.instrs in
-    made_from t (known_items (first_known o) parts) (typed_outside (first_known o) parts)
-    (typed_instruments (first_known o) parts)
+-- An instrument is judged: it is known behind, and what is typed holds on.
+pub record IsBehind (channels : ℕ) (ds : List Definition) (old new : SoFar) (x : Item) : Type 0 where
+  pub known : known_of new.names ≡ known_behind ds (known_of old.names) x
+  pub longer : IsLonger old.routines new.routines
+  pub sound : AreSound channels ds new
 
 -- An answer: the typed orchestra, where there is no fault, or else the fault. Out of memory says nothing.
 abbrev pub GivesOrc : Result TypedOrc (Or OrcFault) → Option OrcFault → typed.Orchestra → Type 0

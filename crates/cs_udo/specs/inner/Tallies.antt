@@ -5,9 +5,10 @@ use Rattle.std.specs.Option.{option_or}
 use Rattle.cs_base.specs.Limits.{most_statements}
 use Rattle.cs_grammar.specs.Tree.{Argument, value, text, Definition}
 use Rattle.cs_udo.specs.Counted.{size_of}
-use Rattle.cs_udo.specs.Expanded.{Template, template}
+use Rattle.cs_udo.specs.Expanded.{Opcodes, Template, template}
+use Rattle.cs_udo.specs.declared.library.Library.{Library}
 use Rattle.cs_udo.specs.declared.tally.RunningCount.{RunningCount}
-use Rattle.cs_udo.specs.inner.Library.{opcodes_of}
+use Rattle.cs_udo.specs.Library.{definitions_of, opcodes_of}
 
 -- a number, or one more than may be where it is too much
 abbrev pub capped : ℕ → ℕ
@@ -37,6 +38,10 @@ is_value (text t) = false
 -- what a definition counts where it is called, beside its inputs and results
 abbrev pub weight : Template → ℕ
 weight t = size_of (t.block 1) + t.calls
+
+-- the opcodes of a library that have a price
+abbrev pub opcodes_priced : Library → List ℕ → Opcodes
+opcodes_priced l costs = opcodes_of (definitions_of l) (length costs)
 
 -- what each of the first definitions counts
 pub record IsPriced (ds : List Definition) (costs : List ℕ) : Type 0 where

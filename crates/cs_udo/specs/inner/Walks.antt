@@ -4,7 +4,7 @@ use Rattle.cs_base.specs.declared.fault.OrcFault.{OrcFault}
 use Rattle.cs_udo.specs.Expanded.{Opcodes}
 use Rattle.cs_udo.specs.Refused.{uppermost_of}
 use Rattle.cs_udo.specs.declared.refuse.Site.{Site}
-use Rattle.cs_udo.specs.inner.Library.{definitions_of, opcodes_of}
+use Rattle.cs_udo.specs.Library.{definitions_of, opcodes_of}
 
 -- what is defined in front of the place of a call
 abbrev pub opcodes_at : Site → Opcodes

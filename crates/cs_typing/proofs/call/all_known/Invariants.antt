@@ -1,8 +1,11 @@
 use Rattle.std.proofs.Common.{◌≡◌, drop, map}
 use Rattle.cs_grammar.specs.Tree.{argument}
-use Rattle.cs_typing.specs.Calls.{all_known}
+use Rattle.cs_typing.specs.Calls.{all_read_by}
+use Rattle.cs_typing.specs.inner.Held.{known_of}
+use Rattle.cs_typing.specs.inner.Routines.{knows_in}
 use Rattle.cs_typing.proofs.call.all_known.Given as goal
 
 abbrev pub invariant-loop-arg : goal.invariant-loop-arg
 invariant-loop-arg l =
-    all_known l.names (map argument (drop l.arg-index l.args)) ≡ all_known l.names (map argument l.args)
+    all_read_by (knows_in (known_of l.names)) (map argument (drop l.arg-index l.args))
+    ≡ all_read_by (knows_in (known_of l.names)) (map argument l.args)

@@ -1,7 +1,9 @@
 use Rattle.std.proofs.Common.{◌≡◌, ◌++◌, drop, map}
-use Rattle.cs_typing.specs.Known.{variable}
+use Rattle.cs_typing.specs.inner.Held.{known_of}
+use Rattle.cs_typing.specs.inner.Routines.{variable_in}
 use Rattle.cs_typing.proofs.call.variables.Given as goal
 
 abbrev pub invariant-loop-name : goal.invariant-loop-name
 invariant-loop-name l =
-    l.made ++ map (variable l.names) (drop l.name-index l.results) ≡ map (variable l.names) l.results
+    l.made ++ map (variable_in (known_of l.names)) (drop l.name-index l.results) ≡ map (variable_in (known_of l.names))
+    l.results

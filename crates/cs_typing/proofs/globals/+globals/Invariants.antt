@@ -1,14 +1,42 @@
-use Rattle.std.proofs.Common.{◌≡◌, drop}
+use Rattle.std.proofs.Common.{◌≡◌, ◌+◌, drop}
 use Rattle.cs_grammar.specs.Tree as tree
-use Rattle.cs_typing.specs.Typing.{globals_of_block, globals_of_arms}
+use Rattle.cs_grammar.specs.declared.tree.Arm.{out-Arm}
+use Rattle.cs_typing.specs.Typing.{given_globals}
+use Rattle.cs_typing.specs.inner.Globals.{IsDone, givers_in, names_in_block, names_in_bodies}
+use Rattle.cs_typing.proofs.Weights.{weight, weight_before, weight_of, weight_of_bodies}
 use Rattle.cs_typing.proofs.globals.+globals.Given as goal
+use Rattle.cs_udo.specs.Library.{definitions_of}
+
+-- a definition weighs less than those in front of the place of its call
+abbrev pub decreases-globals_of_stmt : goal.decreases-globals_of_stmt
+decreases-globals_of_stmt l =
+    weight_before (definitions_of l.front.library.now) l.front.visible + weight (tree.statement l.s.now)
+
+abbrev pub decreases-globals_of_callee : goal.decreases-globals_of_callee
+decreases-globals_of_callee l = weight_before (definitions_of l.front.library.now) l.front.visible + 1
+
+abbrev pub decreases-globals_of_block : goal.decreases-globals_of_block
+decreases-globals_of_block l =
+    weight_before (definitions_of l.front.library.now) l.front.visible + weight_of (tree.block l.stmts.now)
+
+abbrev pub decreases-globals_of_arms : goal.decreases-globals_of_arms
+decreases-globals_of_arms l =
+    weight_before (definitions_of l.front.library.now) l.front.visible + weight_of_bodies l.list.now
+
+abbrev pub decreases-globals_of_arm : goal.decreases-globals_of_arm
+decreases-globals_of_arm l =
+    weight_before (definitions_of l.front.library.now) l.front.visible
+    + (1 + weight_of (tree.block (out-Arm l.a.now).body.items))
 
 -- the rest gives what the whole gives
 abbrev pub invariant-globals_of_block-loop-s : goal.invariant-globals_of_block-loop-s
 invariant-globals_of_block-loop-s l =
-    globals_of_block l.t (tree.block (drop l.s-index l.stmts)) ≡ globals_of_block l.initial.t (tree.block l.stmts)
+    (given_globals l.given.names (names_in_block (givers_in l.front) (tree.block (drop l.s-index l.stmts)))
+    ≡ given_globals l.initial.given.names (names_in_block (givers_in l.front) (tree.block l.stmts)))
+    × IsDone l.front l.given
 
 abbrev pub invariant-globals_of_arms-loop-a : goal.invariant-globals_of_arms-loop-a
 invariant-globals_of_arms-loop-a l =
-    (els : tree.Block) → globals_of_arms l.t (tree.arms els (drop l.a-index l.list)) ≡ globals_of_arms l.initial.t
-    (tree.arms els l.list)
+    (given_globals l.given.names (names_in_bodies (givers_in l.front) (drop l.a-index l.list))
+    ≡ given_globals l.initial.given.names (names_in_bodies (givers_in l.front) l.list))
+    × IsDone l.front l.given

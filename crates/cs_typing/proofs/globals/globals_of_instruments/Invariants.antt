@@ -1,9 +1,14 @@
 use Rattle.std.proofs.Common.{◌≡◌, drop, map}
 use Rattle.cs_grammar.specs.Tree as tree
-use Rattle.cs_typing.specs.Typing.{globals_of_instruments}
+use Rattle.cs_typing.specs.Typing.{given_globals}
+use Rattle.cs_typing.specs.inner.Globals.{IsDone, names_in_instruments}
+use Rattle.cs_udo.specs.Library.{definitions_of}
 use Rattle.cs_typing.proofs.globals.globals_of_instruments.Given as goal
 
 abbrev pub invariant-loop-i : goal.invariant-loop-i
 invariant-loop-i l =
-    globals_of_instruments l.t (map tree.instrument (drop l.i-index l.instrs)) ≡ globals_of_instruments l.initial.t
-    (map tree.instrument l.instrs)
+    (given_globals l.given.names
+    (names_in_instruments (definitions_of l.outside.library.now) (map tree.instrument (drop l.i-index l.instrs)))
+    ≡ given_globals l.initial.given.names
+    (names_in_instruments (definitions_of l.outside.library.now) (map tree.instrument l.instrs)))
+    × IsDone l.outside l.given

@@ -3,7 +3,7 @@ use Rattle.std.proofs.lemmas.List.{length-map}
 use Rattle.cs_grammar.specs.Tree as tree
 use Rattle.cs_udo.specs.Expanded.{defining}
 use Rattle.cs_udo.specs.Refused.{faults_in, faults_of_definitions}
-use Rattle.cs_udo.specs.inner.Library.{definitions_of, opcodes_of}
+use Rattle.cs_udo.specs.Library.{definitions_of, opcodes_of}
 use Rattle.cs_udo.specs.inner.Walks.{after_faults}
 use Rattle.cs_udo.proofs.Faulted.{after_both}
 use Rattle.cs_udo.proofs.Places.{dropped, at_place, opcodes_more}

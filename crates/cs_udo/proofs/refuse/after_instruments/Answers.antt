@@ -2,7 +2,7 @@ use Rattle.std.proofs.Common.{◌∙◌, ◌+◌, arith, drop, map, true, sym, a
 use Rattle.cs_grammar.specs.Tree as tree
 use Rattle.cs_udo.specs.Expanded.{opcodes_before}
 use Rattle.cs_udo.specs.Refused.{faults_in, faults_of_instruments}
-use Rattle.cs_udo.specs.inner.Library.{definitions_of, opcodes_of}
+use Rattle.cs_udo.specs.Library.{definitions_of, opcodes_of}
 use Rattle.cs_udo.specs.inner.Walks.{after_faults}
 use Rattle.cs_udo.proofs.Faulted.{after_both}
 use Rattle.cs_udo.proofs.Places.{dropped, opcodes_here}

@@ -3,7 +3,7 @@ use Rattle.cs_grammar.specs.Tree as tree
 use Rattle.cs_grammar.specs.WellFormed.{line_of}
 use Rattle.cs_udo.specs.Expanded.{opcodes_before}
 use Rattle.cs_udo.specs.Refused.{faults, faults_outside}
-use Rattle.cs_udo.specs.inner.Library.{definitions_of}
+use Rattle.cs_udo.specs.Library.{definitions_of}
 use Rattle.cs_udo.specs.inner.Walks.{after_faults}
 use Rattle.cs_udo.proofs.Faulted.{after_both}
 use Rattle.cs_udo.proofs.Places.{dropped, opcodes_here, line_is}

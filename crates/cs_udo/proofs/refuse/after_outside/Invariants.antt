@@ -1,7 +1,7 @@
 use Rattle.std.proofs.Common.{◌≡◌, drop}
 use Rattle.cs_grammar.specs.Tree as tree
 use Rattle.cs_udo.specs.Refused.{faults_outside}
-use Rattle.cs_udo.specs.inner.Library.{definitions_of}
+use Rattle.cs_udo.specs.Library.{definitions_of}
 use Rattle.cs_udo.specs.inner.Walks.{after_faults}
 use Rattle.cs_udo.proofs.refuse.after_outside.Given as goal
 

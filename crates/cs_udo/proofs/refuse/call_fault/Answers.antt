@@ -1,7 +1,7 @@
 use Rattle.std.proofs.Common.{◌∙◌, map, sym, ap}
 use Rattle.cs_grammar.specs.Tree as tree
 use Rattle.cs_udo.specs.Refused.{at, call_faults}
-use Rattle.cs_udo.specs.inner.Library.{definitions_of, opcodes_of}
+use Rattle.cs_udo.specs.Library.{definitions_of, opcodes_of}
 use Rattle.cs_udo.proofs.refuse.call_fault.Goals as goal
 
 pub returns-in-Some : goal.returns-in-Some
@@ -10,4 +10,4 @@ returns-in-Some c =
     ∙ ap (at c.args.line) (c.broken_rule.ensures
     (opcodes_of (definitions_of c.args.site.now.library.now) c.in-Some.found.place))
     ∙ sym (ap (call_faults c.args.site.now.inside c.args.line c.args.results.now (map tree.argument c.args.args.now))
-    c.in-Some.ensures.2)
+    c.in-Some.ensures.defined.2)

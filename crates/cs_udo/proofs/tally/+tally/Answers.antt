@@ -4,7 +4,7 @@ use Rattle.cs_grammar.specs.declared.tree.Arm.{out-Arm}
 use Rattle.cs_grammar.specs.declared.tree.StmtWhat.TheViews.{the_lemmas}
 use Rattle.cs_grammar.proofs.Rows.{block_is, arms_is}
 use Rattle.cs_udo.specs.Counted.{counts, counts_in, counts_in_arms}
-use Rattle.cs_udo.specs.inner.Library.{definitions_of, opcodes_of}
+use Rattle.cs_udo.specs.Library.{definitions_of, opcodes_of}
 use Rattle.cs_udo.specs.inner.Tallies.{after_counts}
 use Rattle.cs_udo.proofs.Tallied.{after_both}
 use Rattle.cs_udo.proofs.Places.{dropped}

@@ -3,7 +3,7 @@ use Rattle.cs_grammar.specs.Tree as tree
 use Rattle.cs_udo.specs.Counted.{size_of, counts_in}
 use Rattle.cs_udo.specs.Expanded.{assignments}
 use Rattle.cs_udo.specs.Names.{slots}
-use Rattle.cs_udo.specs.inner.Library.{definitions_of, opcodes_of}
+use Rattle.cs_udo.specs.Library.{definitions_of, opcodes_of}
 use Rattle.cs_udo.specs.inner.Tallies.{capped, after_counts}
 use Rattle.cs_udo.proofs.Priced.{none_counted, cost_is}
 use Rattle.cs_udo.proofs.Weighed.{fair_of, length_slots}

@@ -2,7 +2,7 @@ use Rattle.std.proofs.Common.{◌≡◌, ◌∙◌, ◌+◌, arith, length, slic
 use Rattle.std.proofs.lemmas.List.{length_push}
 use Rattle.cs_grammar.specs.Tree as tree
 use Rattle.cs_udo.specs.Expanded.{template}
-use Rattle.cs_udo.specs.inner.Library.{definitions_of, opcodes_of}
+use Rattle.cs_udo.specs.Library.{definitions_of, opcodes_of}
 use Rattle.cs_udo.specs.inner.Tallies.{capped, weight}
 use Rattle.cs_udo.proofs.Places.{read_one}
 use Rattle.cs_udo.proofs.Priced.{one_more_price}

@@ -2,7 +2,7 @@ use Rattle.std.proofs.Common.{◌∙◌, ◌≤◌, length, take, arith, ap}
 use Rattle.std.proofs.lemmas.List.{length-take-le}
 use Rattle.cs_grammar.specs.Tree as tree
 use Rattle.cs_udo.specs.Counted.{counts_in, statements_hit}
-use Rattle.cs_udo.specs.inner.Library.{definitions_of, opcodes_of}
+use Rattle.cs_udo.specs.Library.{definitions_of, opcodes_of}
 use Rattle.cs_udo.specs.inner.Tallies.{after_counts}
 use Rattle.cs_udo.proofs.Places.{opcodes_here}
 use Rattle.cs_udo.proofs.Priced.{none_counted, statements_are}

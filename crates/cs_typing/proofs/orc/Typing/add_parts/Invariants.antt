@@ -1,17 +1,22 @@
 use Rattle.std.proofs.Common.{◌≡◌, drop, map}
 use Rattle.cs_grammar.specs.Tree as tree
-use Rattle.cs_typing.specs.Typing.{items, items_fault, known_items}
-use Rattle.cs_typing.specs.inner.Walk.{made_of, after_items}
+use Rattle.cs_typing.specs.Typing.{items}
+use Rattle.cs_typing.specs.declared.orc.Typing.{Typing}
+use Rattle.cs_typing.specs.inner.Held.{known_of}
+use Rattle.cs_typing.specs.inner.Parts.{parts_fault}
+use Rattle.cs_typing.specs.inner.Walk.{AddsParts, AreSound}
 use Rattle.cs_typing.proofs.orc.Typing.add_parts.Given as goal
+use Rattle.cs_udo.specs.Library.{definitions_of}
 
--- the rest says what the whole says
+-- the rest says what the whole says, and adds what the whole adds
 abbrev pub invariant-loop-i : goal.invariant-loop-i
 invariant-loop-i l =
-    (items_fault l.channels l.self.names (items (tree.block l.rest) (map tree.instrument (drop l.i-index l.instrs)))
-    ≡ items_fault l.channels l.initial.self.names (items (tree.block l.zero) (map tree.instrument l.instrs)))
-    × (after_items l.self.names (made_of l.self.made)
+    (parts_fault l.channels (definitions_of l.library) (known_of l.self.so_far.names)
     (items (tree.block l.rest) (map tree.instrument (drop l.i-index l.instrs)))
-    ≡ after_items l.initial.self.names (made_of l.initial.self.made)
-    (items (tree.block l.zero) (map tree.instrument l.instrs)))
-    × (known_items l.self.names (items (tree.block l.rest) (map tree.instrument (drop l.i-index l.instrs)))
-    ≡ known_items l.initial.self.names (items (tree.block l.zero) (map tree.instrument l.instrs)))
+    ≡ parts_fault l.channels (definitions_of l.library) (known_of l.initial.self.so_far.names)
+    (items (tree.block l.outside) (map tree.instrument l.instrs)))
+    × ((t : Typing) → AddsParts l.channels (definitions_of l.library) l.self t
+    (items (tree.block l.rest) (map tree.instrument (drop l.i-index l.instrs)))
+    → AddsParts l.channels (definitions_of l.library) l.initial.self t
+    (items (tree.block l.outside) (map tree.instrument l.instrs)))
+    × AreSound l.channels (definitions_of l.library) l.self.so_far

@@ -1,0 +1,270 @@
+-- What stands beside the routine of a call, one after another: functions of two lists, names or rates with arguments,
+-- and of the rests of both.
+use Rattle.std.proofs.Common.{◌≡◌, ◌∙◌, ◌+◌, ◌<◌, ◌≤◌, ◌⊎◌, inl, inr, ◌++◌, ℕ, min, drop, get_or, List, [], ◌∷◌, length}
+use Rattle.std.proofs.Common.{map}
+use Rattle.std.proofs.Common.{Option, None, arith, refl, sym, ap, subst}
+use Rattle.std.specs.Option.{option_or}
+use Rattle.std.proofs.lemmas.List.{append_assoc, drop_all, drop_more, get_or_default}
+use Rattle.cs_base.specs.Rates.{at_rate}
+use Rattle.cs_base.specs.declared.fault.OrcFault.{OrcFault}
+use Rattle.cs_base.specs.declared.per_rate.PerRate.{PerRate}
+use Rattle.cs_base.specs.declared.resource.Rate.{Rate}
+use Rattle.cs_grammar.specs.declared.tree.Arg.{Arg}
+use Rattle.cs_grammar.specs.declared.tree.Arg.TheVariants.{Value, Text}
+use Rattle.cs_grammar.specs.declared.tree.Expr.{Expr}
+use Rattle.cs_grammar.specs.Tree.{expression, argument, Argument, value, text}
+use Rattle.cs_typed.specs.TypedTree as typed
+use Rattle.cs_typed.specs.declared.setting.Setting.{Setting}
+use Rattle.cs_typed.specs.declared.tree.TypedStmt.{TypedStmt}
+use Rattle.cs_typed.specs.declared.tree.Var.TheVariants.{Local}
+use Rattle.cs_typed.proofs.Moved.{then_again}
+use Rattle.cs_typing.specs.Expressions.{expression_by}
+use Rattle.cs_typing.specs.Settings.{at}
+use Rattle.cs_typing.specs.Statements.{set_fault_by}
+use Rattle.cs_typing.specs.inner.Listed.{Adds}
+use Rattle.cs_typing.specs.inner.Routines.{Locals, KnownInBody, all_given_in, given_in, inputs_fault, known_in}
+use Rattle.cs_typing.specs.inner.Routines.{knows_in, variable_in}
+use Rattle.cs_typing.specs.inner.Slots.{given_set, one_counted, slot_numbers, slots_fault, slots_past, slots_set}
+use Rattle.cs_typing.specs.inner.Slots.{taken_fault, taken_kind, taken_set}
+use Rattle.cs_words.specs.Names.{name_rate}
+use Rattle.cs_udo.specs.Names.{slot}
+use Rattle.cs_typing.proofs.Answers.{dropped}
+use Rattle.cs_typing.proofs.Joined.{then_nothing}
+
+-- a function of names and arguments, on both rests where each has a next
+pub both_next : {X R : Type 0} (f : List X → List Argument → R) (xs : List X) (as' : List Arg) (i : ℕ) (x : X) (a : Arg)
+    (e : Expr)
+    → i < length xs → x ≡ get_or xs i x → i < length as' → a ≡ get_or as' i a → a ≡ Value e
+    → f (drop i xs) (map argument (drop i as'))
+    ≡ f (x ∷ drop (i + 1) xs) (value (expression e) ∷ map argument (drop (i + 1) as'))
+both_next f xs as' i x a e l p m q k =
+    ap (λ ys. f ys (map argument (drop i as'))) (dropped xs i x l p)
+    ∙ ap (λ ys. f (x ∷ drop (i + 1) xs) (map argument ys)) (dropped as' i a m q)
+    ∙ ap (λ y. f (x ∷ drop (i + 1) xs) (argument y ∷ map argument (drop (i + 1) as'))) k
+
+-- A function that ends with what it says where no name is left, no argument, or no value.
+pub record Ends (X R : Type 0) (f : List X → List Argument → R) (r : R) : Type 0 where
+  pub none : (as' : List Argument) → f [] as' ≡ r
+  pub last : (x : X) (xs : List X) → f (x ∷ xs) [] ≡ r
+  pub word : (x : X) (xs : List X) (t : List ℕ) (as' : List Argument) → f (x ∷ xs) (text t ∷ as') ≡ r
+
+pub at_end : (X R : Type 0) (f : List X → List Argument → R) (r : R) → Ends X R f r → (xs : List X) (as' : List Arg)
+    (i : ℕ) → min (length xs) (length as') ≤ i → f (drop i xs) (map argument (drop i as')) ≡ r
+at_end X R f r ends xs as' i h = by (one_of (length xs) (length as') i h)
+  where
+    one_of : (m n i : ℕ) → min m n ≤ i → (m ≤ i) ⊎ (n ≤ i)
+    one_of m n i h = grind (arith)
+
+    no_value : (ys : List X) → f ys [] ≡ r
+    no_value [] = ends.none []
+    no_value (y ∷ ys) = ends.last y ys
+
+    by : (length xs ≤ i) ⊎ (length as' ≤ i) → f (drop i xs) (map argument (drop i as')) ≡ r
+    by (inl l) = ap (λ ys. f ys (map argument (drop i as'))) (drop_all i xs l) ∙ ends.none (map argument (drop i as'))
+    by (inr l) = ap (λ ys. f (drop i xs) (map argument ys)) (drop_all i as' l) ∙ no_value (drop i xs)
+
+pub at_word : (X R : Type 0) (f : List X → List Argument → R) (r : R) → Ends X R f r → (xs : List X) (as' : List Arg)
+    (i : ℕ) (a : Arg) (t : List ℕ) → i < length as' → a ≡ get_or as' i a → a ≡ Text t
+    → f (drop i xs) (map argument (drop i as')) ≡ r
+at_word X R f r ends xs as' i a t m q k =
+    ap (λ ys. f (drop i xs) (map argument ys)) (dropped as' i a m q)
+    ∙ ap (λ y. f (drop i xs) (argument y ∷ map argument (drop (i + 1) as'))) k
+    ∙ no_value (drop i xs)
+  where
+    no_value : (ys : List X) → f ys (text t ∷ map argument (drop (i + 1) as')) ≡ r
+    no_value [] = ends.none (text t ∷ map argument (drop (i + 1) as'))
+    no_value (y ∷ ys) = ends.word y ys t (map argument (drop (i + 1) as'))
+
+-- ---- the four functions of names or rates with arguments
+
+pub inputs_fault_ends : (s : Setting) (k : KnownInBody) (line : ℕ)
+    → Ends (List ℕ) (Option OrcFault) (inputs_fault s k line) None
+inputs_fault_ends s k line = record {
+  none = λ as'. refl;
+  last = λ x xs. refl;
+  word = λ x xs t as'. refl;
+}
+
+pub given_ends : (k : KnownInBody) (first : Locals) (line : ℕ)
+    → Ends (List ℕ) typed.Block (given_set k first line) typed.no_stmt
+given_ends k first line = record {
+  none = λ as'. refl;
+  last = λ x xs. refl;
+  word = λ x xs t as'. refl;
+}
+
+pub slots_fault_ends : (s : Setting) (k : KnownInBody) (line : ℕ)
+    → Ends Rate (Option OrcFault) (slots_fault s k line) None
+slots_fault_ends s k line = record {
+  none = λ as'. refl;
+  last = λ x xs. refl;
+  word = λ x xs t as'. refl;
+}
+
+pub slots_set_ends : (k : KnownInBody) (line : ℕ) → Ends Rate typed.Block (slots_set k line) typed.no_stmt
+slots_set_ends k line = record {
+  none = λ as'. refl;
+  last = λ x xs. refl;
+  word = λ x xs t as'. refl;
+}
+
+pub slots_past_ends : (l : Locals) → Ends Rate Locals (slots_past l) l
+slots_past_ends l = record {
+  none = λ as'. refl;
+  last = λ x xs. refl;
+  word = λ x xs t as'. refl;
+}
+
+pub slot_numbers_ends : (c : PerRate ℕ) → Ends Rate (List ℕ) (slot_numbers c) []
+slot_numbers_ends c = record {
+  none = λ as'. refl;
+  last = λ x xs. refl;
+  word = λ x xs t as'. refl;
+}
+
+-- ---- statements that were added
+
+-- one statement was added: those to come stand behind it
+pub added_one : (rs : List typed.Block) (old new : List TypedStmt) (one rest : typed.Block)
+    → typed.block rs new ≡ typed.then_block (typed.block rs old) one
+    → typed.then_block (typed.block rs new) rest
+    ≡ typed.then_block (typed.block rs old) (typed.then_block one rest)
+added_one rs old new one rest is =
+    ap (λ b. typed.then_block b rest) is ∙ then_again (typed.block rs old) one rest
+
+-- none is left to add
+pub none_left : (rs : List typed.Block) (new : List TypedStmt) (rest all : typed.Block) → rest ≡ typed.no_stmt
+    → typed.then_block (typed.block rs new) rest ≡ all → typed.block rs new ≡ all
+none_left rs new rest all none is =
+    sym (then_nothing (typed.block rs new)) ∙ sym (ap (λ b. typed.then_block (typed.block rs new) b) none) ∙ is
+
+-- ---- the rest says what the whole says, where the first breaks no rule
+
+pub fault_next : (first here next whole : Option OrcFault) → here ≡ option_or first next → first ≡ None → here ≡ whole
+    → next ≡ whole
+fault_next first here next whole split none was = sym (ap (λ f. option_or f next) none) ∙ sym split ∙ was
+
+-- one statement was added, as the first that was left to add
+pub made_next : (rs : List typed.Block) (old new : List TypedStmt) (is form : typed.Statement)
+    (here next whole : typed.Block)
+    → Adds old new (typed.alone is) → is ≡ form → here ≡ typed.andthen form next
+    → typed.then_block (typed.block rs old) here ≡ whole → typed.then_block (typed.block rs new) next ≡ whole
+made_next rs old new is form here next whole added same split was =
+    added_one rs old new (typed.alone is) next (added rs)
+    ∙ ap (λ y. typed.then_block (typed.block rs old) (typed.andthen y next)) same
+    ∙ sym (ap (λ b. typed.then_block (typed.block rs old) b) split) ∙ was
+
+-- ---- one slot more
+
+module _ (s : Setting) (k m : KnownInBody) (line : ℕ) (outs rates : List Rate) (args : List Arg) (i : ℕ) (d : Rate)
+    (a : Arg) (e : Expr) (old new : List TypedStmt) (before after : List ℕ) (number : ℕ) where
+  abbrev r : Rate
+  r = get_or rates i d
+
+  abbrev rest : List Argument
+  rest = map argument (drop (i + 1) args)
+
+  abbrev form : typed.Statement
+  form = typed.set line r (Local r (at_rate k.locals.counts r)) (expression_by (variable_in k) (expression e))
+
+  abbrev Says : KnownInBody → List TypedStmt → List ℕ → List Rate → List Argument → Option OrcFault
+      → (List typed.Block → typed.Block) → KnownInBody → List ℕ → Type 0
+  Says n done slots rs as' fault made known numbers =
+      (slots_fault s n line rs as' ≡ fault)
+      × ((bs : List typed.Block) → typed.then_block (typed.block bs done) (slots_set n line rs as') ≡ made bs)
+      × (known_in n.shared (slots_past n.locals rs as') ≡ known)
+      × (slots ++ slot_numbers n.locals.counts rs as' ≡ numbers)
+
+  pub slots_next : i < length outs → i < length args → rates ≡ outs → a ≡ get_or args i a → a ≡ Value e
+      → at line (set_fault_by s (knows_in k) (slot 0 r) (expression e)) ≡ None → Adds old new (typed.alone form)
+      → m ≡ known_in k.shared (one_counted k.locals r) → number ≡ at_rate k.locals.counts r
+      → after ≡ before ++ number ∷ []
+      → (fault : Option OrcFault) (made : List typed.Block → typed.Block) (known : KnownInBody) (numbers : List ℕ)
+      → Says k old before (drop i outs) (map argument (drop i args)) fault made known numbers
+      → Says m new after (drop (i + 1) outs) rest fault made known numbers
+  slots_next front back same q v none added on num pushed fault made known numbers was =
+      let low : i < length rates = subst (λ xs. i < length xs) (sym same) front in
+      let p : r ≡ get_or outs i r = get_or_default rates i d r low ∙ ap (λ xs. get_or xs i r) same in (
+        ap (λ n. slots_fault s n line (drop (i + 1) outs) rest) on
+            ∙ fault_next (at line (set_fault_by s (knows_in k) (slot 0 r) (expression e))) _ _ fault
+            (both_next (slots_fault s k line) outs args i r a e front p back q v) none was.0,
+        λ bs. ap (λ n. typed.then_block (typed.block bs new) (slots_set n line (drop (i + 1) outs) rest)) on
+            ∙ made_next bs old new form form _ _ (made bs) added refl
+            (both_next (slots_set k line) outs args i r a e front p back q v) (was.1 bs),
+        ap (λ n. known_in n.shared (slots_past n.locals (drop (i + 1) outs) rest)) on
+            ∙ sym (ap (known_in k.shared) (both_next (slots_past k.locals) outs args i r a e front p back q v)) ∙ was.2,
+        ap (λ ns. ns ++ slot_numbers m.locals.counts (drop (i + 1) outs) rest) pushed
+            ∙ append_assoc before (number ∷ []) (slot_numbers m.locals.counts (drop (i + 1) outs) rest)
+            ∙ (λ j. before ++ num j ∷ slot_numbers (on j).locals.counts (drop (i + 1) outs) rest)
+            ∙ sym (ap (λ ns. before ++ ns)
+            (both_next (slot_numbers k.locals.counts) outs args i r a e front p back q v)) ∙ was.3,
+      )
+
+-- what is left of a list that is another
+pub shifted : (rates outs : List Rate) (i : ℕ) (d : Rate) → rates ≡ outs → i < length rates
+    → drop i outs ≡ get_or rates i d ∷ drop (i + 1) outs
+shifted rates outs i d same low =
+    sym (ap (λ ys. drop i ys) same) ∙ drop_more rates i d low ∙ ap (λ ys. get_or rates i d ∷ drop (i + 1) ys) same
+
+-- ---- one result more
+
+nothing_judged : (s : Setting) (line : ℕ) (ys : List (List ℕ)) → taken_fault s line ys [] ≡ None
+nothing_judged s line [] = refl
+nothing_judged s line (y ∷ ys) = refl
+
+nothing_taken : (k : KnownInBody) (base : PerRate ℕ) (line : ℕ) (ys : List (List ℕ)) (ns : List ℕ)
+    → taken_set k base line ys [] ns ≡ typed.no_stmt
+nothing_taken k base line [] ns = refl
+nothing_taken k base line (y ∷ ys) ns = refl
+
+module _ (s : Setting) (k m : KnownInBody) (base : PerRate ℕ) (line : ℕ) (xs : List (List ℕ)) (outs : List Rate)
+    (slots : List ℕ) (i : ℕ) (x : List ℕ) (old new : List TypedStmt) where
+  abbrev Left : KnownInBody → List TypedStmt → List (List ℕ) → List Rate → List ℕ → Option OrcFault
+      → (List typed.Block → typed.Block) → KnownInBody → Type 0
+  Left n done ys rs ns fault made known =
+      (taken_fault s line ys rs ≡ fault)
+      × ((bs : List typed.Block) → typed.then_block (typed.block bs done) (taken_set n base line ys rs ns) ≡ made bs)
+      × (known_in n.shared (all_given_in n.locals ys) ≡ known)
+
+  abbrev taken_form : Rate → ℕ → typed.Statement
+  taken_form r n =
+      typed.set line (name_rate x) (variable_in k x) (typed.var r (Local r (at_rate base r + n)))
+
+  -- one that has a slot
+  pub one_taken : (r : Rate) (n : ℕ) → drop i xs ≡ x ∷ drop (i + 1) xs → drop i outs ≡ r ∷ drop (i + 1) outs
+      → drop i slots ≡ n ∷ drop (i + 1) slots
+      → at line (taken_kind s x r) ≡ None → Adds old new (typed.alone (taken_form r n))
+      → m ≡ known_in k.shared (given_in k.locals x)
+      → (fault : Option OrcFault) (made : List typed.Block → typed.Block) (known : KnownInBody)
+      → Left k old (drop i xs) (drop i outs) (drop i slots) fault made known
+      → Left m new (drop (i + 1) xs) (drop (i + 1) outs) (drop (i + 1) slots) fault made known
+  one_taken r n p q t none added on fault made known was = (
+    fault_next (at line (taken_kind s x r)) _ _ fault (λ j. taken_fault s line (p j) (q j)) none was.0,
+    λ bs. ap (λ l. typed.then_block (typed.block bs new)
+        (taken_set l base line (drop (i + 1) xs) (drop (i + 1) outs) (drop (i + 1) slots))) on
+        ∙ made_next bs old new (taken_form r n) (taken_form r n) _ _ (made bs) added refl
+        (λ j. taken_set k base line (p j) (q j) (t j)) (was.1 bs),
+    ap (λ l. known_in l.shared (all_given_in l.locals (drop (i + 1) xs))) on
+        ∙ sym (ap (λ ys. known_in k.shared (all_given_in k.locals ys)) p) ∙ was.2,
+  )
+
+  -- one that has none
+  pub none_taken : drop i xs ≡ x ∷ drop (i + 1) xs → length outs ≤ i → new ≡ old
+      → m ≡ known_in k.shared (given_in k.locals x)
+      → (fault : Option OrcFault) (made : List typed.Block → typed.Block) (known : KnownInBody)
+      → Left k old (drop i xs) (drop i outs) (drop i slots) fault made known
+      → Left m new (drop (i + 1) xs) (drop (i + 1) outs) (drop (i + 1) slots) fault made known
+  none_taken p past same on fault made known was =
+      let here : drop i outs ≡ [] = drop_all i outs past in
+      let next : drop (i + 1) outs ≡ [] = drop_all (i + 1) outs (omega (arith, past)) in (
+        ap (taken_fault s line (drop (i + 1) xs)) next ∙ nothing_judged s line (drop (i + 1) xs)
+            ∙ sym (ap (taken_fault s line (drop i xs)) here ∙ nothing_judged s line (drop i xs)) ∙ was.0,
+        λ bs. (λ j. typed.then_block (typed.block bs (same j))
+            (taken_set m base line (drop (i + 1) xs) (next j) (drop (i + 1) slots)))
+            ∙ ap (typed.then_block (typed.block bs old))
+            (nothing_taken m base line (drop (i + 1) xs) (drop (i + 1) slots)
+            ∙ sym (ap (λ rs. taken_set k base line (drop i xs) rs (drop i slots)) here
+            ∙ nothing_taken k base line (drop i xs) (drop i slots))) ∙ was.1 bs,
+        ap (λ l. known_in l.shared (all_given_in l.locals (drop (i + 1) xs))) on
+            ∙ sym (ap (λ ys. known_in k.shared (all_given_in k.locals ys)) p) ∙ was.2,
+      )

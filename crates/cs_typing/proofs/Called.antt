@@ -1,0 +1,88 @@
+-- A call of a defined opcode, from what stands beside its routine.
+use Rattle.std.proofs.Common.{◌≡◌, ◌∙◌, ◌<◌, ◌++◌, ℕ, List, [], ◌∷◌, Some, None, length, map, sym, ap}
+use Rattle.std.specs.Option.{option_or}
+use Rattle.cs_base.specs.declared.fault.OrcFault.{OrcFault}
+use Rattle.cs_grammar.specs.Tree.{Argument, Definition}
+use Rattle.cs_grammar.specs.WellFormed.{WellFormedDefinition}
+use Rattle.cs_grammar.specs.declared.tree.Callee.{Callee}
+use Rattle.cs_typed.specs.TypedTree as typed
+use Rattle.cs_typed.specs.declared.setting.Setting.{Setting}
+use Rattle.cs_typed.specs.declared.tree.TypedStmt.{TypedStmt}
+use Rattle.cs_typing.specs.declared.routines.RoutineTable.{RoutineTable}
+use Rattle.cs_typing.specs.inner.Listed.{Adds, AddsOver, blocks_in, routines_of}
+use Rattle.cs_typing.specs.inner.Routines.{KnownInBody, Routine, Routines, call_fault_in, call_in, inputs_fault}
+use Rattle.cs_typing.specs.inner.Routines.{inputs_set, known_in, number_in, past_call, results_fault, results_set}
+use Rattle.cs_typing.specs.inner.Routines.{routine_of}
+use Rattle.cs_typing.specs.inner.Slots.{given_set, taken_fault, taken_set}
+use Rattle.cs_typing.proofs.Listed.{at_front, one_more}
+use Rattle.cs_typing.proofs.RoutineSlots.{body_numbers, call_inputs_form, call_results_fault, call_results_form}
+use Rattle.cs_typing.proofs.RoutineSlots.{first_locals}
+use Rattle.cs_typing.proofs.Walked.{added_both}
+
+module _ (ds : List Definition) (place : ℕ) (d : Definition) (well : WellFormedDefinition d) (s : Setting)
+    (k : KnownInBody) (line : ℕ) (xs : List (List ℕ)) (args : List Argument) where
+  abbrev rs : Routines
+  rs = routines_of ds place
+
+  abbrev r : Routine
+  r = routine_of rs d
+
+  -- ---- the first rule that it breaks
+
+  pub call_sound : (c : Callee) → inputs_fault s k line d.names args ≡ None → r.fault s k.shared ≡ None
+      → taken_fault s line xs d.outs ≡ None → call_fault_in s k line xs c args (Some r) ≡ None
+  call_sound c inputs body results =
+      ap (λ f. option_or f (option_or (r.fault s k.shared)
+      (results_fault s (r.shared k.shared) r line xs r.results))) inputs
+      ∙ ap (λ f. option_or f (results_fault s (r.shared k.shared) r line xs r.results)) body
+      ∙ call_results_fault rs d well s (r.shared k.shared) line xs
+      ∙ results
+
+  pub results_break : (c : Callee) (f : OrcFault) → inputs_fault s k line d.names args ≡ None
+      → r.fault s k.shared ≡ None → taken_fault s line xs d.outs ≡ Some f
+      → call_fault_in s k line xs c args (Some r) ≡ Some f
+  results_break c f inputs body e =
+      ap (λ g. option_or g (option_or (r.fault s k.shared)
+      (results_fault s (r.shared k.shared) r line xs r.results))) inputs
+      ∙ ap (λ g. option_or g (results_fault s (r.shared k.shared) r line xs r.results)) body
+      ∙ call_results_fault rs d well s (r.shared k.shared) line xs
+      ∙ e
+
+  -- ---- its typed form
+
+  pub call_adds : (t : RoutineTable) (a b e f : List TypedStmt) (y : TypedStmt) (routine : ℕ) (slots : List ℕ)
+      (n : KnownInBody)
+      → Adds a b (given_set k (first_locals rs d well) line d.names args)
+      → e ≡ b ++ y ∷ []
+      → ((bs : List typed.Block) → typed.statement bs y
+      ≡ typed.moved_block k.locals.counts (typed.routine_at bs routine))
+      → routine < length (blocks_in t)
+      → r.block k.shared ≡ typed.routine_at (blocks_in t) routine
+      → n ≡ known_in (r.shared k.shared) (past_call k.locals r.last.counts)
+      → slots ≡ map (number_in r.last) r.results
+      → Adds e f (taken_set n k.locals.counts line xs d.outs slots)
+      → (c : Callee) → AddsOver t a f (call_in k line xs c args (Some r))
+  call_adds t a b e f y routine slots n inputs pushed invoked within stands after numbered results c more =
+      let bs = blocks_in t ++ more in
+      let base = k.locals.counts in
+      let there : typed.routine_at bs routine ≡ r.block k.shared =
+      at_front (blocks_in t) more routine within ∙ sym stands in
+      let body : typed.block bs e ≡ typed.then_block (typed.block bs b) (typed.moved_block base (r.block k.shared)) =
+      ap (typed.block bs) pushed ∙ one_more bs b y
+      ∙ ap (λ z. typed.then_block (typed.block bs b) z) (invoked bs ∙ ap (typed.moved_block base) there) in
+      let last = taken_set n base line xs d.outs slots in
+      let both : typed.block bs f
+      ≡ typed.then_block (typed.block bs b) (typed.then_block (typed.moved_block base (r.block k.shared)) last) =
+      added_both bs b e f (typed.moved_block base (r.block k.shared)) last body (results bs) in
+      let all = added_both bs a b f (given_set k (first_locals rs d well) line d.names args)
+      (typed.then_block (typed.moved_block base (r.block k.shared)) last) (inputs bs) both in
+      let ending : last ≡ results_set (known_in (r.shared k.shared) (past_call k.locals r.last.counts)) base r line xs
+      r.results =
+      (λ i. taken_set (after i) base line xs d.outs ((numbered ∙ body_numbers rs d well) i))
+      ∙ sym (call_results_form rs d well (known_in (r.shared k.shared) (past_call k.locals r.last.counts)) base line xs)
+      in
+      let beginning : given_set k (first_locals rs d well) line d.names args ≡ inputs_set k r line r.inputs args =
+      sym (call_inputs_form rs d well k line args) in
+      all
+      ∙ λ i. typed.then_block (typed.block bs a) (typed.then_block (beginning i)
+      (typed.then_block (typed.moved_block base (r.block k.shared)) (ending i)))

@@ -1,0 +1,49 @@
+-- Before anything is judged no definition is typed, and no channel is used.
+use Rattle.std.proofs.Common.{◌≡◌, ◌∙◌, ℕ, List, [], length, replicate, slice_get}
+use Rattle.std.proofs.Common.{Option, Some, None, arith, sym, ap, subst}
+use Rattle.std.specs.List.{All}
+use Rattle.std.proofs.lemmas.List.{get_or-replicate, length-map, length-replicate}
+use Rattle.std.proofs.lemmas.Option.{get_or_from_slice_get, none-some, slice_get_within}
+use Rattle.cs_words.specs.NameSets.{has}
+use Rattle.cs_grammar.specs.Tree.{Definition}
+use Rattle.cs_grammar.specs.Tree as tree
+use Rattle.cs_grammar.specs.WellFormed.{WellFormedDefinition}
+use Rattle.cs_udo.specs.Library.{definitions_of}
+use Rattle.cs_udo.specs.Ready.{IsReady}
+use Rattle.cs_udo.specs.declared.library.Expansion.{Expansion}
+use Rattle.cs_typing.specs.Known.{Shared}
+use Rattle.cs_typing.specs.declared.known.KnownNames.{KnownNames}
+use Rattle.cs_typing.specs.declared.routines.RoutineTable.{RoutineTable}
+use Rattle.cs_typing.specs.declared.routines.TypedDefinition.{TypedDefinition}
+use Rattle.cs_typing.specs.inner.Held.{known_of}
+use Rattle.cs_typing.specs.inner.Listed.{AreTyped}
+use Rattle.cs_typing.specs.inner.Parts.{begun}
+
+none_typed : {A : Type 0} (n k : ℕ) (it : TypedDefinition) → slice_get (replicate n None) k ≡ Some (Some it) → A
+none_typed n k it e =
+    let inside = slice_get_within (replicate n None) k (Some it) e in
+    let long = length-replicate {A = Option TypedDefinition} n None in
+    let here = get_or_from_slice_get (replicate n None) k (Some it) None e in
+    let nothing = get_or-replicate {A = Option TypedDefinition} n k None None (omega (arith, inside, long)) in
+    absurd (none-some it (sym nothing ∙ here))
+
+pub first_sound : (channels : ℕ) (ds : List Definition) (g : Shared) (t : RoutineTable) (n : ℕ)
+    → All WellFormedDefinition ds → length ds ≡ n → t.by_definition.items ≡ replicate n None → g.control ≡ []
+    → AreTyped channels ds g t
+first_sound channels ds g t n fit long marks none = record {
+  fit = fit;
+  marks = ap length marks ∙ length-replicate {A = Option TypedDefinition} n None ∙ sym long;
+  each = λ k it d at here. none_typed n k it (sym (ap (λ l. slice_get l k) marks) ∙ at);
+  apart = λ x h. absurd (cc (sym (ap (λ l. has l x) none) ∙ h));
+}
+
+-- so it is where an orchestra is begun
+pub begun_sound : (e : Expansion) → IsReady e → (channels : ℕ) (names : KnownNames) (t : RoutineTable) (n : ℕ)
+    → known_of names ≡ begun (tree.orchestra e.orc.now) → length e.library.definitions.now ≡ n
+    → t.by_definition.items ≡ replicate n None → AreTyped channels (definitions_of e.library) names.shared t
+begun_sound e ready channels names t n known many marks =
+    first_sound channels (definitions_of e.library) names.shared t n
+    (subst (All WellFormedDefinition) (sym ready.definitions) ready.well_formed.definitions)
+    (length-map e.library.definitions.now tree.definition ∙ many)
+    marks
+    (ap (λ k. k.shared.control) known)

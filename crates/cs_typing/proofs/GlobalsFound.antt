@@ -1,0 +1,227 @@
+-- Which names a called opcode gives, by the places of definitions; and what each definition's mark says.
+use Rattle.std.proofs.Common.{◌≡◌, ◌∙◌, ℕ, zero, suc, ◌+◌, ◌<◌, ◌≤◌, min, Bool, cond, true, false, not, if◌then◌else◌}
+use Rattle.std.proofs.Common.{List, [], ◌∷◌, ◌++◌, length, take, set, slice_get, map, Some, None, arith, refl, sym, ap}
+use Rattle.std.proofs.Common.{subst, ◌≢◌, ⊎_elim}
+use Rattle.std.specs.Option.{option_or}
+use Rattle.std.specs.Str.{bytes_eq}
+use Rattle.std.proofs.lemmas.List.{append_assoc, length-set}
+use Rattle.std.proofs.lemmas.Bool.{cases_eq}
+use Rattle.std.proofs.lemmas.Option.{none-some, same_Some}
+use Rattle.cs_grammar.specs.WellFormed.{IsWellFormed}
+use Rattle.cs_grammar.specs.declared.tree.Callee.{Callee}
+use Rattle.cs_grammar.specs.declared.tree.Callee.TheVariants as callee
+use Rattle.cs_grammar.specs.declared.tree.Arm.{Arm as Arm', out-Arm}
+use Rattle.cs_grammar.specs.Tree as tree
+use Rattle.cs_grammar.specs.Tree.{Block, Definition, Orchestra, definition}
+use Rattle.cs_udo.specs.Expanded.{expanded_instrument, expanded_orchestra, no_opcodes}
+use Rattle.cs_udo.specs.Library.{IsFound, definitions_of, place_among}
+use Rattle.cs_udo.specs.Refused.{all_faults, faults_of_definitions, faults_of_instruments, faults_outside, first_fault}
+use Rattle.cs_udo.specs.declared.library.FoundDefinition.{FoundDefinition}
+use Rattle.cs_typing.specs.Known.{no_names}
+use Rattle.cs_typing.specs.Typing.{all_globals, given_globals, globals_of_instruments}
+use Rattle.cs_typing.specs.declared.globals.Front.{Front}
+use Rattle.cs_typing.specs.declared.globals.GivenGlobals.{GivenGlobals}
+use Rattle.cs_typing.specs.inner.Globals.{Givers, Has, IsDone, Looks, called_names, givers_in, givers_of}
+use Rattle.cs_typing.specs.inner.Globals.{names_in_block}
+use Rattle.cs_typing.specs.inner.Globals.{names_in_arms, names_in_bodies}
+use Rattle.cs_typing.specs.inner.Globals.{names_in_instruments, names_of, with_giver, with_givers}
+use Rattle.cs_typing.proofs.GlobalsHeld.{given_held, held_again, held_on}
+use Rattle.cs_typing.proofs.GlobalsWritten.{all_local_inputs, given_both, instruments_given, plain_block_given}
+use Rattle.cs_typing.proofs.RoutineBlocks.{no_first}
+use Rattle.cs_typing.proofs.RoutineOrchestra.{no_uppermost}
+
+kept : (gs : Givers) (ds : List Definition) (x : List ℕ) (xs : List (List ℕ)) → gs x ≡ Some xs
+    → with_givers gs ds x ≡ Some xs
+kept gs [] x xs e = e
+kept gs (d ∷ ds) x xs e =
+    kept (with_giver gs d) ds x xs
+    (ap (λ o. option_or o (if bytes_eq x d.name then Some (names_in_block gs d.body) else None)) e)
+
+here : (gs : Givers) (d : Definition) (x : List ℕ) → gs x ≡ None → bytes_eq x d.name ≡ true
+    → with_giver gs d x ≡ Some (names_in_block gs d.body)
+here gs d x none same =
+    ap (λ o. option_or o (if bytes_eq x d.name then Some (names_in_block gs d.body) else None)) none
+    ∙ ap (λ b. if b then Some (names_in_block gs d.body) else None) same
+
+elsewhere : (gs : Givers) (d : Definition) (x : List ℕ) → gs x ≡ None → bytes_eq x d.name ≡ false
+    → with_giver gs d x ≡ None
+elsewhere gs d x none other =
+    ap (λ o. option_or o (if bytes_eq x d.name then Some (names_in_block gs d.body) else None)) none
+    ∙ ap (λ b. if b then Some (names_in_block gs d.body) else None) other
+
+-- a name that none of the first definitions has
+unfound : (gs : Givers) (ds : List Definition) (n : ℕ) (x : List ℕ) → gs x ≡ None
+    → min n (length ds) ≤ place_among ds x → with_givers gs (take n ds) x ≡ None
+unfound gs ds zero x none h = none
+unfound gs [] (suc n) x none h = none
+unfound gs (d ∷ ds) (suc n) x none h = by (bytes_eq x d.name) refl h (unfound (with_giver gs d) ds n x)
+  where
+    by : (b : Bool) → bytes_eq x d.name ≡ b → min (suc n) (suc (length ds)) ≤ cond (not b) (1 + place_among ds x) 0
+        → (with_giver gs d x ≡ None → min n (length ds) ≤ place_among ds x
+        → with_givers (with_giver gs d) (take n ds) x ≡ None) → with_givers (with_giver gs d) (take n ds) x ≡ None
+    by true e k rest = absurd (omega (arith, k))
+    by false e k rest = rest (elsewhere gs d x none e) (omega (arith, k))
+
+-- a name that one of the first definitions has
+found_next : (gs : Givers) (c : Definition) (ds : List Definition) (n k : ℕ) (x : List ℕ) (d : Definition)
+    → gs x ≡ None → (b : Bool) → bytes_eq x c.name ≡ b → k ≡ cond (not b) (1 + place_among ds x) 0 → k < suc n
+    → slice_get (c ∷ ds) k ≡ Some d
+    → ((j : ℕ) → with_giver gs c x ≡ None → j ≡ place_among ds x → j < n → slice_get ds j ≡ Some d
+    → with_givers (with_giver gs c) (take n ds) x
+    ≡ Some (names_in_block (with_givers (with_giver gs c) (take j ds)) d.body))
+    → with_givers (with_giver gs c) (take n ds) x ≡ Some (names_in_block (with_givers gs (take k (c ∷ ds))) d.body)
+found_next gs c ds n zero x d none true e p lt g rest =
+    kept (with_giver gs c) (take n ds) x (names_in_block gs d.body)
+    (here gs c x none e ∙ ap (λ y. Some (names_in_block gs y.body)) (same_Some c d g))
+found_next gs c ds n (suc k) x d none true e p lt g rest = absurd (omega (arith, p))
+found_next gs c ds n zero x d none false e p lt g rest = absurd (omega (arith, p))
+found_next gs c ds n (suc k) x d none false e p lt g rest =
+    rest k (elsewhere gs c x none e) (omega (arith, p)) (omega (arith, lt)) g
+
+found : (gs : Givers) (ds : List Definition) (n k : ℕ) (x : List ℕ) (d : Definition) → gs x ≡ None
+    → k ≡ place_among ds x → k < n → slice_get ds k ≡ Some d
+    → with_givers gs (take n ds) x ≡ Some (names_in_block (with_givers gs (take k ds)) d.body)
+found gs [] n k x d none p lt g = absurd (none-some d g)
+found gs (c ∷ ds) zero k x d none p lt g = absurd (omega (arith, lt))
+found gs (c ∷ ds) (suc n) k x d none p lt g =
+    found_next gs c ds n k x d none (bytes_eq x c.name) refl p lt g (λ j. found (with_giver gs c) ds n j x d)
+
+-- what is called, by what the library finds
+pub giver_unfound : (ds : List Definition) (visible : ℕ) (c : Callee) → IsFound ds visible c None
+    → called_names (givers_of ds visible) c ≡ []
+giver_unfound ds visible (callee.Opcode o) h = refl
+giver_unfound ds visible (callee.Name x) h = ap names_of (unfound (λ name. None) ds visible x refl h)
+
+pub giver_found : (ds : List Definition) (visible : ℕ) (c : Callee) (f : FoundDefinition)
+    → IsFound ds visible c (Some f)
+    → called_names (givers_of ds visible) c ≡ names_in_block (givers_of ds f.place) (definition f.definition.now).body
+giver_found ds visible (callee.Opcode o) f h = absurd h
+giver_found ds visible (callee.Name x) f h =
+    ap names_of (found (λ name. None) ds visible f.place x (definition f.definition.now) refl h.1 h.0 h.2)
+
+-- ---- marks
+
+-- they say the same in front of any part
+pub done_at : (f h : Front) (g : GivenGlobals) → f.library ≡ h.library → IsDone f g → IsDone h g
+done_at f h g e d = subst (λ l. IsDone (record { library = l; visible = h.visible }) g) e (record {
+  marks = d.marks;
+  has = d.has;
+})
+
+-- nothing is given that wasn't
+pub looks_unfound : (f : Front) (g : GivenGlobals) (c : Callee) → IsDone f g
+    → IsFound (definitions_of f.library.now) f.visible c None → Looks f g g (called_names (givers_in f) c)
+looks_unfound f g c d h = record {
+  names = ap (given_globals g.names) (sym (giver_unfound (definitions_of f.library.now) f.visible c h));
+  done = d;
+}
+
+-- what a marked definition gives is given
+pub looks_again : (f : Front) (g : GivenGlobals) (c : Callee) (found : FoundDefinition) → IsDone f g
+    → IsFound (definitions_of f.library.now) f.visible c (Some found)
+    → slice_get (definitions_of f.library.now) found.place ≡ Some (definition found.definition.now)
+    → slice_get g.done.items found.place ≡ Some true → Looks f g g (called_names (givers_in f) c)
+looks_again f g c found d h at marked = record {
+  names =
+      let xs = names_in_block (givers_of (definitions_of f.library.now) found.place)
+      (definition found.definition.now).body in
+      sym (ap (given_globals g.names) (giver_found (definitions_of f.library.now) f.visible c found h)
+      ∙ held_again g.names xs (d.has found.place (definition found.definition.now) marked at));
+  done = d;
+}
+
+get_set_other : (xs : List Bool) (i k : ℕ) (b : Bool) → k ≢ i → slice_get (set xs i b) k ≡ slice_get xs k
+get_set_other [] i k b other = refl
+get_set_other (x ∷ xs) zero zero b other = absurd (other refl)
+get_set_other (x ∷ xs) zero (suc k) b other = refl
+get_set_other (x ∷ xs) (suc i) zero b other = refl
+get_set_other (x ∷ xs) (suc i) (suc k) b other = get_set_other xs i k b (λ e. other (ap suc e))
+
+-- what a definition gives at its first call, after which it is marked
+pub looks_first : (f inner : Front) (old made new : GivenGlobals) (c : Callee) (found : FoundDefinition)
+    → inner.library ≡ f.library → inner.visible ≡ found.place
+    → IsFound (definitions_of f.library.now) f.visible c (Some found)
+    → slice_get (definitions_of f.library.now) found.place ≡ Some (definition found.definition.now)
+    → Looks inner old made (names_in_block (givers_in inner) (definition found.definition.now).body)
+    → new.names ≡ made.names → new.done.items ≡ set made.done.items found.place true
+    → Looks f old new (called_names (givers_in f) c)
+looks_first f inner old made new c found lib vis h at l names marks =
+    let ds = definitions_of f.library.now in
+    let xs = names_in_block (givers_of ds found.place) (definition found.definition.now).body in
+    let same : names_in_block (givers_in inner) (definition found.definition.now).body ≡ xs =
+    ap (λ b. names_in_block (givers_of (definitions_of b.now) inner.visible) (definition found.definition.now).body) lib
+    ∙ ap (λ v. names_in_block (givers_of ds v) (definition found.definition.now).body) vis in
+    let all : made.names ≡ given_globals old.names xs = l.names ∙ ap (given_globals old.names) same in
+    let before : IsDone f made = done_at inner f made lib l.done in
+    let held : Has made.names xs = subst (λ t. Has t xs) (sym all) (given_held old.names xs) in
+    record {
+      names =
+          names ∙ all ∙ ap (given_globals old.names) (sym (giver_found ds f.visible c found h));
+      done = record {
+        marks = ap length marks ∙ length-set made.done.items found.place true ∙ before.marks;
+        has = λ k d marked here.
+            let now : Has made.names (names_in_block (givers_of ds k) d.body) =
+            ⊎_elim
+            (λ hit.
+            let one : slice_get ds found.place ≡ Some d = subst (λ j. slice_get ds j ≡ Some d) hit here in
+            let is : definition found.definition.now ≡ d =
+            same_Some (definition found.definition.now) d (sym at ∙ one) in
+            subst (λ j. Has made.names (names_in_block (givers_of ds j) d.body)) (sym hit)
+            (subst (λ (y : Definition). Has made.names (names_in_block (givers_of ds found.place) y.body)) is held))
+            (λ miss. before.has k d
+            (sym (get_set_other made.done.items found.place k true miss) ∙ ap (λ l. slice_get l k) (sym marks) ∙ marked)
+            here)
+            (cases_eq k found.place) in
+            subst (λ t. Has t (names_in_block (givers_of ds k) d.body)) (sym names) now;
+      };
+    }
+
+-- ---- the whole
+
+-- the global variables of an expanded orchestra, by the text as it is written
+pub all_written : (o : Orchestra) → IsWellFormed o → first_fault o ≡ None
+    → all_globals (expanded_orchestra o)
+    ≡ given_globals (given_globals no_names (names_in_block (givers_of o.opcodes 0) o.zero))
+    (names_in_instruments o.opcodes o.instrs)
+all_written o well allowed =
+    let none = no_uppermost (all_faults o) allowed in
+    let outer = no_first (faults_outside o.opcodes o.zero)
+    (faults_of_definitions no_opcodes o.opcodes ++ faults_of_instruments o.opcodes o.instrs) none in
+    let inner = no_first (faults_of_definitions no_opcodes o.opcodes) (faults_of_instruments o.opcodes o.instrs)
+    outer.1 in
+    ap (λ t. globals_of_instruments t (map (expanded_instrument o.opcodes) o.instrs))
+    (plain_block_given no_names o.zero)
+    ∙ instruments_given o.opcodes (all_local_inputs o.opcodes well.definitions) inner.0
+    (given_globals no_names (names_in_block (givers_of o.opcodes 0) o.zero)) o.instrs inner.1
+
+-- ---- one after another
+
+pub looks_both : (f : Front) (old mid new : GivenGlobals) (xs ys : List (List ℕ)) → Looks f old mid xs
+    → Looks f mid new ys → Looks f old new (xs ++ ys)
+looks_both f old mid new xs ys a b = record {
+  names = b.names ∙ ap (λ t. given_globals t ys) a.names ∙ sym (given_both old.names xs ys);
+  done = b.done;
+}
+
+-- names that a statement gives itself
+pub looks_given : (f : Front) (old new : GivenGlobals) (ys : List (List ℕ)) → IsDone f old
+    → new.names ≡ given_globals old.names ys → new.done.items ≡ old.done.items → Looks f old new ys
+looks_given f old new ys d names marks = record {
+  names = names;
+  done = record {
+    marks = ap length marks ∙ d.marks;
+    has = λ k x marked here.
+        let xs = names_in_block (givers_of (definitions_of f.library.now) k) x.body in
+        subst (λ t. Has t xs) (sym names)
+        (held_on old.names xs ys (d.has k x (sym (ap (λ l. slice_get l k) marks) ∙ marked) here));
+  };
+}
+
+-- the arms of an `if`, and the statements after `else`
+pub arms_names : (givers : Givers) (els : Block) (list : List Arm')
+    → names_in_arms givers (tree.arms els list) ≡ names_in_bodies givers list ++ names_in_block givers els
+arms_names givers els [] = refl
+arms_names givers els (a ∷ rest) =
+    let xs = names_in_block givers (tree.block (out-Arm a).body.items) in
+    ap (λ l. xs ++ l) (arms_names givers els rest)
+    ∙ sym (append_assoc xs (names_in_bodies givers rest) (names_in_block givers els))

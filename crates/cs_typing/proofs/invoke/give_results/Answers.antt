@@ -1,0 +1,84 @@
+use Rattle.std.proofs.Common.{◌≡◌, ◌∙◌, ◌+◌, ◌<◌, ◌≤◌, List, [], ◌∷◌, drop, get_or, length, arith, sym, ap}
+use Rattle.std.proofs.Common.{subst, Vec}
+use Rattle.std.proofs.Common.{Global}
+use Rattle.std.proofs.lemmas.List.{drop_all, drop_more}
+use Rattle.cs_base.specs.Rates.{at_rate}
+use Rattle.cs_typed.specs.TypedTree as typed
+use Rattle.cs_typed.specs.declared.tree.TypedStmt.{TypedStmt}
+use Rattle.cs_typed.specs.declared.tree.Var.TheVariants.{Local}
+use Rattle.cs_words.specs.Names.{name_rate}
+use Rattle.cs_typing.specs.Settings.{at}
+use Rattle.cs_typing.specs.inner.Held.{known_of}
+use Rattle.cs_typing.specs.inner.Listed.{Adds}
+use Rattle.cs_typing.specs.inner.Routines.{all_given_in, given_in, known_in, variable_in}
+use Rattle.cs_typing.specs.inner.Slots.{taken_fault, taken_kind, taken_set}
+use Rattle.cs_typing.proofs.Answers.{dropped}
+use Rattle.cs_typing.proofs.Beside.{none_left, none_taken, one_taken, shifted}
+use Rattle.cs_typing.proofs.Walked.{one_added_always}
+use Rattle.cs_typing.proofs.invoke.give_results.Goals as goal
+use Rattle.cs_typing.proofs.invoke.give_results.Goals.{then-i-rates+in_ok-from+in_ok-taken+in_ok-add, else-i-rates}
+
+pub loop-i-preserved : goal.loop-i-preserved
+loop-i-preserved c =
+    let it = c.args.it.now in
+    let s = c.args.setting in
+    let k = known_of c.loop-i.names in
+    let m = known_of c.give.new.self in
+    let outs = it.definition.now.outs in
+    let xs = it.results.now in
+    let i = c.loop-i.i in
+    let x = c.index-it-i.result in
+    let p : drop i xs ≡ x ∷ drop (i + 1) xs = dropped xs i x (omega (arith, c.loop-i-test.true)) c.index-it-i.is in
+    let name : c.as_slice-name.result.now ≡ x = c.as_slice-name.ensures ∙ sym c.index-it-i.is in
+    let on : m ≡ known_in k.shared (given_in k.locals x) =
+    c.in_ok-give.ensures ∙ ap (λ y. known_in k.shared (given_in k.locals y)) name in
+    let old = c.loop-i.done.items in
+    let new = c.if-i-rates.done.items in
+    let slots = c.args.slots.now in
+    let start = known_of c.args.names.now in
+    let fault = taken_fault s it.line xs outs in
+    let made : List typed.Block → typed.Block = λ rs.
+    typed.then_block (typed.block rs c.args.done.now.items) (taken_set start it.base it.line xs outs slots) in
+    let known = known_in start.shared (all_given_in start.locals xs) in
+    let rates : c.as_slice-rates.result.now ≡ outs = c.as_slice-rates.ensures in
+    elim c.if-i-rates.branch [
+      | then-i-rates+in_ok-from+in_ok-taken+in_ok-add w ↦
+          let r = w.in_ok-from.from.rate in
+          let n = get_or slots i 0 in
+          let low : i < length c.as_slice-rates.result.now = omega (arith, w.if-i-rates) in
+          let front : i < length outs = subst (λ ys. i < length ys) rates low in
+          let within : i < length slots = omega (arith, front, c.requires) in
+          let q : drop i outs ≡ r ∷ drop (i + 1) outs =
+          shifted c.as_slice-rates.result.now outs i _ rates low
+          ∙ ap (λ y. y ∷ drop (i + 1) outs) (sym w.in_ok-from.ensures.rate) in
+          let var : w.in_ok-from.from.var ≡ Local r (at_rate it.base r + n) =
+          w.in_ok-from.ensures.var
+          ∙ λ j. Local (sym w.in_ok-from.ensures.rate j) (at_rate it.base (sym w.in_ok-from.ensures.rate j) + n) in
+          let form = typed.set it.line (name_rate c.as_slice-name.result.now) (variable_in k c.as_slice-name.result.now)
+          (typed.var r w.in_ok-from.from.var) in
+          let same : form ≡ typed.set it.line (name_rate x) (variable_in k x)
+          (typed.var r (Local r (at_rate it.base r + n))) =
+          λ j. typed.set it.line (name_rate (name j)) (variable_in k (name j)) (typed.var r (var j)) in
+          let pushed = ap (λ (v : Vec TypedStmt Global). v.items) w.done-is ∙ w.in_ok-add.ensures in
+          let added : Adds old new (typed.alone form) =
+          one_added_always old new w.in_ok-taken.field-0 form pushed w.in_ok-taken.ensures.1 in
+          one_taken s k m it.base it.line xs outs slots i x old new r n p q (drop_more slots i 0 within)
+          (ap (λ y. at it.line (taken_kind s y r)) (sym name) ∙ w.in_ok-taken.ensures.0)
+          (λ bs. added bs ∙ ap (λ f. typed.then_block (typed.block bs old) (typed.alone f)) same) on fault made known
+          c.loop-i.invariant
+      | else-i-rates w ↦
+          none_taken s k m it.base it.line xs outs slots i x old new p
+          (subst (λ ys. length ys ≤ i) rates (omega (arith, w.if-i-rates)))
+          (ap (λ (v : Vec TypedStmt Global). v.items) w.done-is) on fault made known c.loop-i.invariant
+    ]
+
+pub returns-clause-made : goal.returns-clause-made
+returns-clause-made c =
+    let it = c.args.it.now in
+    let k = known_of c.loop-i.names in
+    let outs = it.definition.now.outs in
+    let xs = it.results.now in
+    let i = c.loop-i.i in
+    let none : drop i xs ≡ [] = drop_all i xs (omega (arith, c.loop-i-test.false)) in
+    λ rs. none_left rs c.loop-i.done.items _ _
+    (ap (λ ys. taken_set k it.base it.line ys (drop i outs) (drop i c.args.slots.now)) none) (c.loop-i.invariant.1 rs)

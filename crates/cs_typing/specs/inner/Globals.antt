@@ -1,0 +1,90 @@
+-- The names that statements give as they are written, those that a defined opcode gives at its calls among them.
+use Rattle.std.specs.Prelude.{ℕ, true, List, [], ◌∷◌, ◌++◌, ◌≡◌, length, take, slice_get, Option, Some, None}
+use Rattle.std.specs.Prelude.{if◌then◌else◌, nat_lt}
+use Rattle.std.specs.List.{All, prefix_len}
+use Rattle.std.specs.Option.{option_or}
+use Rattle.std.specs.Str.{bytes_eq}
+use Rattle.cs_words.specs.Names.{is_global}
+use Rattle.cs_grammar.specs.declared.tree.Callee.{Callee}
+use Rattle.cs_grammar.specs.declared.tree.Callee.TheVariants as callee
+use Rattle.cs_grammar.specs.Tree.{Statement, set, call, choose, Block, no_stmt, andthen, Arms, otherwise, arm}
+use Rattle.cs_grammar.specs.Tree.{Definition}
+use Rattle.cs_grammar.specs.Tree.{Instrument}
+use Rattle.cs_grammar.specs.Tree.{block}
+use Rattle.cs_grammar.specs.declared.tree.Arm.{Arm as Arm', out-Arm}
+use Rattle.cs_typing.specs.Known.{RateNames, in_table}
+use Rattle.cs_typing.specs.Typing.{given_globals}
+use Rattle.cs_typing.specs.declared.globals.Front.{Front}
+use Rattle.cs_typing.specs.declared.globals.GivenGlobals.{GivenGlobals}
+use Rattle.cs_udo.specs.Library.{definitions_of}
+
+-- the names that each defined opcode gives which may be called at a place
+abbrev pub Givers : Type 0
+Givers = List ℕ → Option (List (List ℕ))
+
+abbrev pub names_of : Option (List (List ℕ)) → List (List ℕ)
+names_of None = []
+names_of (Some xs) = xs
+
+abbrev pub called_names : Givers → Callee → List (List ℕ)
+called_names givers (callee.Opcode o) = []
+called_names givers (callee.Name name) = names_of (givers name)
+
+-- the names that statements give, in the order of the text
+abbrev mutual
+  pub names_in : Givers → Statement → List (List ℕ)
+  names_in givers (set line x e) = x ∷ []
+  names_in givers (call line xs c args) = called_names givers c ++ xs
+  names_in givers (choose line list) = names_in_arms givers list
+
+  pub names_in_block : Givers → Block → List (List ℕ)
+  names_in_block givers no_stmt = []
+  names_in_block givers (andthen x rest) = names_in givers x ++ names_in_block givers rest
+
+  pub names_in_arms : Givers → Arms → List (List ℕ)
+  names_in_arms givers (otherwise b) = names_in_block givers b
+  names_in_arms givers (arm c b rest) = names_in_block givers b ++ names_in_arms givers rest
+
+abbrev pub with_giver : Givers → Definition → Givers
+with_giver givers d name =
+    option_or (givers name) (if bytes_eq name d.name then Some (names_in_block givers d.body) else None)
+
+abbrev pub with_givers : Givers → List Definition → Givers
+with_givers givers [] = givers
+with_givers givers (d ∷ ds) = with_givers (with_giver givers d) ds
+
+-- what the first definitions give
+abbrev pub givers_of : List Definition → ℕ → Givers
+givers_of ds visible = with_givers (λ name. None) (take visible ds)
+
+-- what instruments give, each with what is defined in front of it
+abbrev pub names_in_instruments : List Definition → List Instrument → List (List ℕ)
+names_in_instruments ds [] = []
+names_in_instruments ds (i ∷ rest) =
+    names_in_block (givers_of ds (prefix_len (λ d. nat_lt d.line i.line) ds)) i.body ++ names_in_instruments ds rest
+
+-- the global ones among these names are in a table
+abbrev pub Has : RateNames → List (List ℕ) → Type 0
+Has t xs = All (λ x. is_global x ≡ true → in_table t x ≡ true) xs
+
+-- what may be called in a part of the text
+abbrev pub givers_in : Front → Givers
+givers_in f = givers_of (definitions_of f.library.now) f.visible
+
+-- the names that the bodies of arms give
+abbrev pub names_in_bodies : Givers → List Arm' → List (List ℕ)
+names_in_bodies givers [] = []
+names_in_bodies givers (a ∷ rest) =
+    names_in_block givers (block (out-Arm a).body.items) ++ names_in_bodies givers rest
+
+-- each definition has its mark, and what marked ones give is among the variables
+pub record IsDone (f : Front) (g : GivenGlobals) : Type 0 where
+  pub marks : length g.done.items ≡ length (definitions_of f.library.now)
+  pub has : (k : ℕ) (d : Definition) → slice_get g.done.items k ≡ Some true
+      → slice_get (definitions_of f.library.now) k ≡ Some d
+      → Has g.names (names_in_block (givers_of (definitions_of f.library.now) k) d.body)
+
+-- these names are looked through
+pub record Looks (f : Front) (old new : GivenGlobals) (xs : List (List ℕ)) : Type 0 where
+  pub names : new.names ≡ given_globals old.names xs
+  pub done : IsDone f new

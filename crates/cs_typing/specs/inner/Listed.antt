@@ -1,0 +1,137 @@
+-- The definitions that are typed so far, each by its routine in a list.
+use Rattle.std.specs.Prelude.{ℕ, true, false, List, ◌++◌, ◌≡◌, ◌<◌, length, map, take, slice_get, Option, Some}
+use Rattle.std.specs.Prelude.{None}
+use Rattle.std.specs.Prelude.{Result, Ok, Err}
+use Rattle.std.specs.Global.{Vec}
+use Rattle.cs_base.specs.declared.fault.Or.{Or}
+use Rattle.cs_base.specs.declared.fault.Or.TheVariants as or
+use Rattle.cs_base.specs.declared.fault.OrcFault.{OrcFault}
+use Rattle.cs_words.specs.NameSets.{has}
+use Rattle.std.specs.List.{All}
+use Rattle.std.specs.Option.{option_or}
+use Rattle.cs_grammar.specs.WellFormed.{WellFormedDefinition}
+use Rattle.cs_grammar.specs.declared.tree.Arm.{Arm, out-Arm}
+use Rattle.cs_grammar.specs.Tree.{Block, Definition, arms, block, expression}
+use Rattle.cs_typed.specs.declared.setting.Setting.{Setting}
+use Rattle.cs_typed.specs.declared.tree.TypedArm.{TypedArm, out-TypedArm}
+use Rattle.cs_typing.specs.Expressions.{expression_by}
+use Rattle.cs_typing.specs.Settings.{at}
+use Rattle.cs_typing.specs.Statements.{condition_fault_by}
+use Rattle.cs_typed.specs.Places.{inside}
+use Rattle.cs_typed.specs.TypedTree as typed
+use Rattle.cs_typed.specs.declared.tree.TypedStmt.{TypedStmt}
+use Rattle.cs_udo.specs.Library.{definitions_of}
+use Rattle.cs_typing.specs.Known.{Shared}
+use Rattle.cs_typing.specs.declared.routines.RoutineTable.{RoutineTable}
+use Rattle.cs_typing.specs.declared.routines.Site.{Site}
+use Rattle.cs_typing.specs.declared.routines.SoFar.{SoFar}
+use Rattle.cs_typing.specs.declared.routines.TypedDefinition.{TypedDefinition}
+use Rattle.cs_typing.specs.inner.Routines.{Routine, Routines, no_routines, with_routines, routine_of, number_in}
+use Rattle.cs_typing.specs.inner.Routines.{KnownInBody, arms_fault_in, block_fault_in, known_after_arms}
+use Rattle.cs_typing.specs.inner.Routines.{known_after_block, knows_in, typed_arms_in, typed_block_in, variable_in}
+
+-- the routines of the first definitions
+abbrev pub routines_of : List Definition → ℕ → Routines
+routines_of ds visible = with_routines no_routines (take visible ds)
+
+-- what may be called at a place
+abbrev pub routines_at : Site → Routines
+routines_at s = routines_of (definitions_of s.library.now) s.visible
+
+-- what the routines of a table do, by their places
+abbrev pub blocks_in : RoutineTable → List typed.Block
+blocks_in t = typed.routines t.list.items
+
+-- A definition is typed: where bodies share this much, its routine breaks no rule, uses no new channel, and does what
+-- stands at its place of the list.
+pub record IsTyped (channels : ℕ) (g : Shared) (r : Routine) (it : TypedDefinition) (blocks : List typed.Block) : Type 0
+  where
+    pub fault : r.fault (inside channels) g ≡ None
+    pub shared : r.shared g ≡ g
+    pub within : it.routine < length blocks
+    pub block : r.block g ≡ typed.routine_at blocks it.routine
+    pub locals : it.locals ≡ r.last.counts
+    pub slots : it.slots.items ≡ map (number_in r.last) r.results
+
+-- So is each definition that has a routine, each is well formed, and no channel is one of both kinds.
+pub record AreTyped (channels : ℕ) (ds : List Definition) (g : Shared) (t : RoutineTable) : Type 0 where
+  pub fit : All WellFormedDefinition ds
+  pub marks : length t.by_definition.items ≡ length ds
+  pub each : (k : ℕ) (it : TypedDefinition) (d : Definition) → slice_get t.by_definition.items k ≡ Some (Some it)
+      → slice_get ds k ≡ Some d → IsTyped channels g (routine_of (routines_of ds k) d) it (blocks_in t)
+  pub apart : (x : List ℕ) → has g.control x ≡ true → has g.sound x ≡ false
+
+-- where a place of the text has seen all this
+abbrev pub IsSound : Site → SoFar → Type 0
+IsSound s f = AreTyped s.setting.channels (definitions_of s.library.now) f.names.shared f.routines
+
+-- a table with more routines
+abbrev pub IsLonger : RoutineTable → RoutineTable → Type 0
+IsLonger old new = (more : List typed.Block) × (blocks_in new ≡ blocks_in old ++ more)
+
+-- after statements of a place: what holds of all that is typed holds on, and the routines stay where they are
+pub record IsAhead (s : Site) (old new : SoFar) : Type 0 where
+  pub sound : IsSound s new
+  pub longer : IsLonger old.routines new.routines
+
+-- Statements are added that are these, whatever routines there are; and the same where more routines may follow.
+abbrev pub Adds : List TypedStmt → List TypedStmt → typed.Block → Type 0
+Adds old new b = (rs : List typed.Block) → typed.block rs new ≡ typed.then_block (typed.block rs old) b
+
+abbrev pub AddsOver : RoutineTable → List TypedStmt → List TypedStmt → typed.Block → Type 0
+AddsOver t old new b =
+    (more : List typed.Block) → typed.block (blocks_in t ++ more) new
+    ≡ typed.then_block (typed.block (blocks_in t ++ more) old) b
+
+-- ---- what calls answer
+
+-- statements, where more routines may follow
+abbrev pub GivesBlock : RoutineTable → Result (Vec TypedStmt) (Or OrcFault) → Option OrcFault → typed.Block → Type 0
+GivesBlock t (Ok v) fault form =
+    (fault ≡ None) × ((more : List typed.Block) → typed.block (blocks_in t ++ more) v.items ≡ form)
+GivesBlock t (Err (or.Fault f)) fault form = fault ≡ Some f
+GivesBlock t (Err or.OutOfMemory) fault form = Unit {0}
+
+-- the first rule that an arm breaks
+abbrev pub arm_fault_in : Setting → Routines → KnownInBody → ℕ → Arm → Option OrcFault
+arm_fault_in s rs k line a =
+    option_or (at line (condition_fault_by s (knows_in k) (expression (out-Arm a).cond)))
+    (block_fault_in s rs k (block (out-Arm a).body.items))
+
+-- an arm; `n` is what is known after it
+abbrev pub GivesArm : RoutineTable → Setting → Routines → KnownInBody → ℕ → Arm → Result TypedArm (Or OrcFault)
+    → KnownInBody → Type 0
+GivesArm t s rs k line a (Ok x) n =
+    (at line (condition_fault_by s (knows_in k) (expression (out-Arm a).cond)) ≡ None)
+    × (block_fault_in s rs k (block (out-Arm a).body.items) ≡ None)
+    × (typed.expression (out-TypedArm x).cond ≡ expression_by (variable_in k) (expression (out-Arm a).cond))
+    × ((more : List typed.Block) → typed.block (blocks_in t ++ more) (out-TypedArm x).body.items
+    ≡ typed_block_in rs k (block (out-Arm a).body.items))
+    × (n ≡ known_after_block rs k (block (out-Arm a).body.items))
+GivesArm t s rs k line a (Err (or.Fault f)) n = arm_fault_in s rs k line a ≡ Some f
+GivesArm t s rs k line a (Err or.OutOfMemory) n = Unit {0}
+
+-- the arms of an `if`, whatever stands after `else`; `n` is what is known after them
+abbrev pub GivesArms : RoutineTable → Setting → Routines → KnownInBody → ℕ → List Arm
+    → Result (Vec TypedArm) (Or OrcFault) → KnownInBody → Type 0
+GivesArms t s rs k line list (Ok made) n =
+    (els : Block) → (arms_fault_in s rs k line (arms els list) ≡ block_fault_in s rs n els)
+    × ((more : List typed.Block) → typed.arms (blocks_in t ++ more) (typed_block_in rs n els) made.items
+    ≡ typed_arms_in rs k (arms els list))
+    × (known_after_arms rs k (arms els list) ≡ known_after_block rs n els)
+GivesArms t s rs k line list (Err (or.Fault f)) n =
+    (els : Block) → arms_fault_in s rs k line (arms els list) ≡ Some f
+GivesArms t s rs k line list (Err or.OutOfMemory) n = Unit {0}
+
+-- the routine of the definition at a place
+abbrev pub routine_here : Site → ℕ → Definition → Routine
+routine_here s place d = routine_of (routines_of (definitions_of s.library.now) place) d
+
+-- A definition has its routine in a table, which does what it does where bodies shared this much.
+pub record IsListed (t : RoutineTable) (place : ℕ) (r : Routine) (g : Shared) : Type 0 where
+  pub it : TypedDefinition
+  pub at : slice_get t.by_definition.items place ≡ Some (Some it)
+  pub block : r.block g ≡ typed.routine_at (blocks_in t) it.routine
+  pub within : it.routine < length (blocks_in t)
+  pub locals : it.locals ≡ r.last.counts
+  pub slots : it.slots.items ≡ map (number_in r.last) r.results

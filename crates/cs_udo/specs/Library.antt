@@ -1,0 +1,37 @@
+-- Definitions by their places.
+use Rattle.std.specs.Prelude.{ℕ, List, ◌≡◌, ◌<◌, ◌≤◌, min, length, map, take, slice_get, Option, Some, None}
+use Rattle.cs_words.specs.NameSets.{place_of}
+use Rattle.cs_grammar.specs.declared.tree.Callee.{Callee}
+use Rattle.cs_grammar.specs.declared.tree.Callee.TheVariants as callee
+use Rattle.cs_grammar.specs.Tree.{Definition, definition}
+use Rattle.cs_udo.specs.declared.library.FoundDefinition.{FoundDefinition}
+use Rattle.cs_udo.specs.declared.library.Library.{Library}
+use Rattle.cs_udo.specs.Expanded.{Opcodes, no_opcodes, defined, defining_all, template}
+
+-- the definitions of a library
+abbrev pub definitions_of : Library → List Definition
+definitions_of l = map definition l.definitions.now
+
+-- the opcodes that the first `visible` definitions define
+abbrev pub opcodes_of : List Definition → ℕ → Opcodes
+opcodes_of ds visible = defining_all no_opcodes (take visible ds)
+
+-- the place of the first of some definitions that has a name, or their number where none has it
+abbrev pub place_among : List Definition → List ℕ → ℕ
+place_among ds x = place_of (map (λ d. d.name) ds) x
+
+-- what is called where the first `visible` definitions are seen: none of them, or the first that has the name
+abbrev pub IsFound : List Definition → ℕ → Callee → Option FoundDefinition → Type 0
+IsFound ds visible (callee.Opcode o) None = Unit {0}
+IsFound ds visible (callee.Opcode o) (Some f) = ⊥
+IsFound ds visible (callee.Name x) None = min visible (length ds) ≤ place_among ds x
+IsFound ds visible (callee.Name x) (Some f) =
+    (f.place < visible) × (f.place ≡ place_among ds x)
+    × (slice_get ds f.place ≡ Some (definition f.definition.now))
+
+-- The same by opcodes: a definition may call those in front of it.
+abbrev pub IsDefined : List Definition → ℕ → Callee → Option FoundDefinition → Type 0
+IsDefined ds visible c None = defined (opcodes_of ds visible) c ≡ None
+IsDefined ds visible c (Some f) =
+    (f.place < visible) × (slice_get ds f.place ≡ Some (definition f.definition.now))
+    × (defined (opcodes_of ds visible) c ≡ Some (template (opcodes_of ds f.place) (definition f.definition.now)))
