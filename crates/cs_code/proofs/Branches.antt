@@ -2,14 +2,13 @@
 use Rattle.std.proofs.Common.{◌≡◌, ◌∙◌, ◌+◌, ◌++◌, ℕ, true, false, List, [], ◌∷◌, length, arith, refl, sym, ap}
 use Rattle.std.proofs.lemmas.List.{append_assoc, length-append}
 use Rattle.cs_base.specs.declared.resource.Rate.{Rate}
-use Rattle.cs_base.specs.declared.spaces.Spaces.{Spaces}
 use Rattle.cs_ir.specs.Codes.{aim, aimed}
 use Rattle.cs_ir.specs.declared.op.Act.TheVariants as act
 use Rattle.cs_ir.specs.declared.op.Op.{Op}
 use Rattle.cs_ir.specs.declared.register.Reg.{Reg}
-use Rattle.cs_meaning.specs.Core.{Block, Arms, arm, core, core_arms, core_stmt}
+use Rattle.cs_meaning.specs.Core.{Block, Arms, arm, choose}
 use Rattle.cs_code.specs.declared.frame.Progress.{Progress}
-use Rattle.cs_code.specs.inner.Kept.{past, past_parts, past_stmt, past_block, past_arms}
+use Rattle.cs_code.specs.inner.Kept.{past, past_parts, past_block, past_arms}
 use Rattle.cs_typed.specs.TypedTree as typed
 use Rattle.cs_typed.specs.TypedTree.{Expression}
 use Rattle.cs_typed.specs.declared.tree.TypedArm.{TypedArm, out-TypedArm}
@@ -19,9 +18,10 @@ use Rattle.cs_code.specs.declared.frame.Pass.TheVariants as pass
 use Rattle.cs_code.specs.inner.Branches.{Branch, past_branch, after, chain, joined, opened, jump_at, jumps}
 use Rattle.cs_code.specs.inner.Branches.{aim_all, condition_of, body_of, past_arm, past_list, branch_of, branches}
 use Rattle.cs_code.specs.inner.Code.{all_code, arm_code, init_block_code}
-use Rattle.cs_code.specs.inner.Emitted.{pass_code, pass_block_code, chosen_code, cond_code, cond_reg, takes_all}
+use Rattle.cs_code.specs.inner.Emitted.{Scope, block_in, core_in, arms_in, pass_block_code, chosen_code, cond_code}
+use Rattle.cs_code.specs.inner.Emitted.{cond_reg, takes_all}
 use Rattle.cs_code.specs.inner.Frames.{Frame, op_of}
-use Rattle.cs_code.proofs.Chains.{all_taken, chosen_else, one_taken, taken_pass}
+use Rattle.cs_code.proofs.Chains.{all_taken, alone_code, chosen_else, one_taken, taken_pass}
 
 -- ---- one jump that is aimed
 
@@ -127,19 +127,19 @@ arms_whole : (way : Pass) (f : Frame) (place : ℕ) (p : Progress) (c : Expressi
 arms_whole pass.Initialisation f place p c b rest = refl
 arms_whole pass.Performance f place p c b rest = refl
 
-chosen_list : (way : Pass) (f : Frame) (o : Spaces) (place : ℕ) (p : Progress) (list : List TypedArm)
+chosen_list : (way : Pass) (f : Frame) (o : Scope) (place : ℕ) (p : Progress) (list : List TypedArm)
     (els : typed.Block)
     → chain place (branches way f o place p list)
-    (pass_block_code way f (after place (branches way f o place p list)) (past_list o p list) (core o els))
-    ≡ chosen_code way f place p (core_arms o (typed.arms els list))
-chosen_list way f o place p [] els = sym (chosen_else way f place p (core o els))
+    (pass_block_code way f (after place (branches way f o place p list)) (past_list o p list) (core_in o els))
+    ≡ chosen_code way f place p (arms_in o els list)
+chosen_list way f o place p [] els = sym (chosen_else way f place p (core_in o els))
 chosen_list way f o place p (a ∷ rest) els =
     let b : Branch = branch_of way f o place p a in
     ap (arm_code place b.cond b.q b.body) (chosen_list way f o (past_branch place b) (past_arm o p a) rest els)
-    ∙ arms_whole way f place p (condition_of a) (body_of o a) (core_arms o (typed.arms els rest))
+    ∙ arms_whole way f place p (condition_of o a) (body_of o a) (arms_in o els rest)
 
-pub past_chosen : (o : Spaces) (p : Progress) (list : List TypedArm) (els : typed.Block)
-    → past_block (past_list o p list) (core o els) ≡ past_arms p (core_arms o (typed.arms els list))
+pub past_chosen : (o : Scope) (p : Progress) (list : List TypedArm) (els : typed.Block)
+    → past_block (past_list o p list) (core_in o els) ≡ past_arms p (arms_in o els list)
 past_chosen o p [] els = refl
 past_chosen o p (a ∷ rest) els = past_chosen o (past_arm o p a) rest els
 
@@ -181,17 +181,17 @@ pub body_made : (old first tested cond : List Op) (test : Op) → first ≡ old 
 body_made old first tested cond test a b =
     omega (arith, ap length a, ap length b, length-append old cond, length-append first (test ∷ []))
 
-pub body_filled : (way : Pass) (f : Frame) (o : Spaces) (old first tested filled : List Op) (p : Progress)
+pub body_filled : (way : Pass) (f : Frame) (o : Scope) (old first tested filled : List Op) (p : Progress)
     (a : TypedArm) (test : Op) (n : ℕ) (stmts : List TypedStmt)
-    → first ≡ old ++ cond_code way f p.part (condition_of a)
+    → first ≡ old ++ cond_code way f p.part (condition_of o a)
     → tested ≡ first ++ (test ∷ [])
-    → filled ≡ tested ++ pass_block_code way f (length tested) (past_parts n p) (core o (typed.block stmts))
-    → stmts ≡ (out-TypedArm a).body.items → n ≡ past p.part (condition_of a)
+    → filled ≡ tested ++ pass_block_code way f (length tested) (past_parts n p) (block_in o stmts)
+    → stmts ≡ (out-TypedArm a).body.items → n ≡ past p.part (condition_of o a)
     → filled ≡ tested ++ (branch_of way f o (length old) p a).body
 body_filled way f o old first tested filled p a test n stmts begun at made is next =
-    let cond : List Op = cond_code way f p.part (condition_of a) in
+    let cond : List Op = cond_code way f p.part (condition_of o a) in
     made
-    ∙ ap (λ xs. tested ++ pass_block_code way f (length tested) (past_parts n p) (core o (typed.block xs))) is
+    ∙ ap (λ xs. tested ++ pass_block_code way f (length tested) (past_parts n p) (block_in o xs)) is
     ∙ ap (λ k. tested ++ pass_block_code way f k (past_parts n p) (body_of o a))
     (body_made old first tested cond test begun at)
     ∙ ap (λ k. tested ++ pass_block_code way f (length old + length cond + 1) (past_parts k p) (body_of o a)) next
@@ -210,7 +210,7 @@ one_made f old kept cond q b made =
     ∙ append_assoc old cond (init_block_code f (length old + length cond) q b)
 
 -- one arm more
-pub arms_more : (way : Pass) (f : Frame) (o : Spaces) (ops new total : List Op) (ends now all : List ℕ)
+pub arms_more : (way : Pass) (f : Frame) (o : Scope) (ops new total : List Op) (ends now all : List ℕ)
     (p q last : Progress) (a : TypedArm) (rest : List TypedArm)
     → new ≡ ops ++ joined (length ops) (branch_of way f o (length ops) p a) 0
     → now ≡ ends ++ (jump_at (length ops) (branch_of way f o (length ops) p a) ∷ [])
@@ -241,23 +241,23 @@ arms_more way f o ops new total ends now all p q last a rest made kept at was en
     )
 
 -- all arms are made, then the statements after `else`, and then the jumps are aimed
-pub chosen_made : (way : Pass) (f : Frame) (o : Spaces) (old mid last new : List Op) (ends : List ℕ) (p q : Progress)
+pub chosen_made : (way : Pass) (f : Frame) (o : Scope) (old mid last new : List Op) (ends : List ℕ) (p q : Progress)
     (list : List TypedArm) (els : typed.Block)
     → mid ≡ old ++ opened (length old) (branches way f o (length old) p list)
     → ends ≡ jumps (length old) (branches way f o (length old) p list)
-    → q ≡ past_list o p list → last ≡ mid ++ pass_block_code way f (length mid) q (core o els)
+    → q ≡ past_list o p list → last ≡ mid ++ pass_block_code way f (length mid) q (core_in o els)
     → new ≡ aim_all ends (length last) last
-    → new ≡ old ++ chosen_code way f (length old) p (core_arms o (typed.arms els list))
+    → new ≡ old ++ chosen_code way f (length old) p (arms_in o els list)
 chosen_made way f o old mid last new ends p q list els made at on done closing =
     let bs : List Branch = branches way f o (length old) p list in
     let begins : ℕ = after (length old) bs in
-    let rest : List Op = pass_block_code way f begins (past_list o p list) (core o els) in
+    let rest : List Op = pass_block_code way f begins (past_list o p list) (core_in o els) in
     let there : length mid ≡ begins =
     omega (arith, ap length made, length-append old (opened (length old) bs), opened_long (length old) bs) in
     let all : last ≡ old ++ (opened (length old) bs ++ rest) =
     done
-    ∙ ap (λ n. mid ++ pass_block_code way f n q (core o els)) there
-    ∙ ap (λ k. mid ++ pass_block_code way f begins k (core o els)) on
+    ∙ ap (λ n. mid ++ pass_block_code way f n q (core_in o els)) there
+    ∙ ap (λ k. mid ++ pass_block_code way f begins k (core_in o els)) on
     ∙ ap (λ l. l ++ rest) made
     ∙ append_assoc old (opened (length old) bs) rest in
     let end : length last ≡ begins + length rest =
@@ -277,52 +277,56 @@ chosen_made way f o old mid last new ends p q list els made at on done closing =
 
 -- an `if` as the tree has it, whatever holds its arms and the statements after `else`: the code of all its arms, that
 -- of one of them, and the progress behind it
-pub all_choice : (way : Pass) (f : Frame) (o : Spaces) (old mid : List Op) (p q : Progress) (line : ℕ) (r : Rate)
-    (s : typed.Statement) (arms list : List TypedArm) (stmts els : List TypedStmt)
-    → s ≡ typed.choose line r (typed.arms (typed.block els) list)
+pub all_choice : (way : Pass) (f : Frame) (o : Scope) (old mid : List Op) (p q : Progress) (line : ℕ) (r : Rate)
+    (s : typed.Block) (arms list : List TypedArm) (stmts els : List TypedStmt)
+    → s ≡ typed.alone (typed.choose line r (typed.arms o.routines (typed.block o.routines els) list))
     → takes_all way r ≡ true → arms ≡ list → stmts ≡ els
-    → ((rest : typed.Block) → mid ++ init_block_code f (length mid) q (core o rest)
-    ≡ old ++ all_code f (length old) p (core_arms o (typed.arms rest arms)))
-    → mid ++ pass_block_code way f (length mid) q (core o (typed.block stmts))
-    ≡ old ++ pass_code way f (length old) p (core_stmt o s)
+    → ((rest : typed.Block) → mid ++ init_block_code f (length mid) q (core_in o rest)
+    ≡ old ++ all_code f (length old) p (arms_in o rest arms))
+    → mid ++ pass_block_code way f (length mid) q (block_in o stmts)
+    ≡ old ++ pass_block_code way f (length old) p (core_in o s)
 all_choice way f o old mid p q line r s arms list stmts els seen taken are rest_are made =
-    let last : typed.Block = typed.block els in
-    ap (λ xs. mid ++ pass_block_code way f (length mid) q (core o (typed.block xs))) rest_are
-    ∙ ap (λ w. mid ++ pass_block_code w f (length mid) q (core o last)) (taken_pass way r taken)
+    let last : typed.Block = typed.block o.routines els in
+    ap (λ xs. mid ++ pass_block_code way f (length mid) q (block_in o xs)) rest_are
+    ∙ ap (λ w. mid ++ pass_block_code w f (length mid) q (core_in o last)) (taken_pass way r taken)
     ∙ made last
-    ∙ ap (λ xs. old ++ all_code f (length old) p (core_arms o (typed.arms last xs))) are
-    ∙ sym (ap (λ l. old ++ l) (all_taken way f (length old) p r (core_arms o (typed.arms last list)) taken))
-    ∙ sym (ap (λ x. old ++ pass_code way f (length old) p (core_stmt o x)) seen)
+    ∙ ap (λ xs. old ++ all_code f (length old) p (arms_in o last xs)) are
+    ∙ sym (ap (λ l. old ++ l) (all_taken way f (length old) p r (arms_in o last list) taken))
+    ∙ sym (ap (λ l. old ++ l) (alone_code way f (length old) p (choose r (arms_in o last list))))
+    ∙ sym (ap (λ x. old ++ pass_block_code way f (length old) p (core_in o x)) seen)
 
-pub one_choice : (way : Pass) (f : Frame) (o : Spaces) (old mid last new : List Op) (none now ends : List ℕ)
-    (p q : Progress) (line : ℕ) (r : Rate) (s : typed.Statement) (arms list : List TypedArm)
+pub one_choice : (way : Pass) (f : Frame) (o : Scope) (old mid last new : List Op) (none now ends : List ℕ)
+    (p q : Progress) (line : ℕ) (r : Rate) (s : typed.Block) (arms list : List TypedArm)
     (stmts els : List TypedStmt)
-    → s ≡ typed.choose line r (typed.arms (typed.block els) list)
+    → s ≡ typed.alone (typed.choose line r (typed.arms o.routines (typed.block o.routines els) list))
     → takes_all way r ≡ false → arms ≡ list → stmts ≡ els → none ≡ [] → ends ≡ now
     → mid ≡ old ++ opened (length old) (branches way f o (length old) p arms)
     → now ≡ none ++ jumps (length old) (branches way f o (length old) p arms)
     → q ≡ past_list o p arms
-    → last ≡ mid ++ pass_block_code way f (length mid) q (core o (typed.block stmts))
+    → last ≡ mid ++ pass_block_code way f (length mid) q (block_in o stmts)
     → new ≡ aim_all ends (length last) last
-    → new ≡ old ++ pass_code way f (length old) p (core_stmt o s)
+    → new ≡ old ++ pass_block_code way f (length old) p (core_in o s)
 one_choice way f o old mid last new none now ends p q line r s arms list stmts els seen taken are rest_are empty same
     made kept at done closing =
-    chosen_made way f o old mid last new now p q arms (typed.block stmts) made
+    chosen_made way f o old mid last new now p q arms (typed.block o.routines stmts) made
     (kept ∙ ap (λ ns. ns ++ jumps (length old) (branches way f o (length old) p arms)) empty) at done
     (closing ∙ ap (λ ns. aim_all ns (length last) last) same)
-    ∙ ap (λ xs. old ++ chosen_code way f (length old) p (core_arms o (typed.arms (typed.block xs) arms))) rest_are
-    ∙ ap (λ xs. old ++ chosen_code way f (length old) p (core_arms o (typed.arms (typed.block els) xs))) are
+    ∙ ap (λ xs. old ++ chosen_code way f (length old) p (arms_in o (typed.block o.routines xs) arms)) rest_are
+    ∙ ap (λ xs. old ++ chosen_code way f (length old) p (arms_in o (typed.block o.routines els) xs)) are
     ∙ sym (ap (λ l. old ++ l)
-    (one_taken way f (length old) p r (core_arms o (typed.arms (typed.block els) list)) taken))
-    ∙ sym (ap (λ x. old ++ pass_code way f (length old) p (core_stmt o x)) seen)
+    (one_taken way f (length old) p r (arms_in o (typed.block o.routines els) list) taken))
+    ∙ sym (ap (λ l. old ++ l)
+    (alone_code way f (length old) p (choose r (arms_in o (typed.block o.routines els) list))))
+    ∙ sym (ap (λ x. old ++ pass_block_code way f (length old) p (core_in o x)) seen)
 
-pub past_choice : (o : Spaces) (p q : Progress) (line : ℕ) (r : Rate) (s : typed.Statement)
+pub past_choice : (o : Scope) (p q : Progress) (line : ℕ) (r : Rate) (s : typed.Block)
     (arms list : List TypedArm) (stmts els : List TypedStmt)
-    → s ≡ typed.choose line r (typed.arms (typed.block els) list) → arms ≡ list → stmts ≡ els
-    → ((rest : typed.Block) → past_block q (core o rest) ≡ past_arms p (core_arms o (typed.arms rest arms)))
-    → past_block q (core o (typed.block stmts)) ≡ past_stmt p (core_stmt o s)
+    → s ≡ typed.alone (typed.choose line r (typed.arms o.routines (typed.block o.routines els) list)) → arms ≡ list
+    → stmts ≡ els
+    → ((rest : typed.Block) → past_block q (core_in o rest) ≡ past_arms p (arms_in o rest arms))
+    → past_block q (block_in o stmts) ≡ past_block p (core_in o s)
 past_choice o p q line r s arms list stmts els seen are rest_are next =
-    ap (λ xs. past_block q (core o (typed.block xs))) rest_are
-    ∙ next (typed.block els)
-    ∙ ap (λ xs. past_arms p (core_arms o (typed.arms (typed.block els) xs))) are
-    ∙ sym (ap (λ x. past_stmt p (core_stmt o x)) seen)
+    ap (λ xs. past_block q (block_in o xs)) rest_are
+    ∙ next (typed.block o.routines els)
+    ∙ ap (λ xs. past_arms p (arms_in o (typed.block o.routines els) xs)) are
+    ∙ sym (ap (λ x. past_block p (core_in o x)) seen)

@@ -24,11 +24,11 @@ use Rattle.cs_code.specs.inner.Emitted.{Assigned, assigned, set_of, effect, when
 use Rattle.cs_code.specs.inner.Frames.{Frame, spots}
 
 -- a call is the assignment that it is short for, or else an effect
-abbrev either_of : Option Assigned → Stmt → Stmt
+abbrev pub either_of : Option Assigned → Stmt → Stmt
 either_of (Some a) s = set_of a
 either_of None s = s
 
-by_assigned : (o : Spaces) (r : Rate) (vs : List Variable) (op : Opcode) (sh : Shape) (args : List Argument)
+pub by_assigned : (o : Spaces) (r : Rate) (vs : List Variable) (op : Opcode) (sh : Shape) (args : List Argument)
     → core_call o r vs op sh args ≡ either_of (assigned sh r vs args) (effect o r vs op sh args)
 by_assigned o r [] op shape.Init args = refl
 by_assigned o r [] op shape.ChannelGet args = refl
@@ -97,7 +97,7 @@ pub call_effect : (o : Spaces) (r : Rate) (vs : List Variable) (op : Opcode) (sh
 call_effect o r vs op sh args h = by_assigned o r vs op sh args ∙ ap (λ x. either_of x (effect o r vs op sh args)) h
 
 -- The code of what is no `if` is the same at each place.
-abbrev is_choice : Stmt → Bool
+abbrev pub is_choice : Stmt → Bool
 is_choice (choose r arms) = true
 is_choice _ = false
 
@@ -124,7 +124,7 @@ either_simple : (a : Option Assigned) (s : Stmt) → is_choice s ≡ false → i
 either_simple (Some a) s h = refl
 either_simple None s h = h
 
-call_simple : (o : Spaces) (r : Rate) (vs : List Variable) (op : Opcode) (sh : Shape) (args : List Argument)
+pub call_simple : (o : Spaces) (r : Rate) (vs : List Variable) (op : Opcode) (sh : Shape) (args : List Argument)
     → is_choice (core_call o r vs op sh args) ≡ false
 call_simple o r vs op sh args =
     ap is_choice (by_assigned o r vs op sh args)

@@ -1,18 +1,19 @@
 -- Statements one after another, and arms that are all initialised.
 use Rattle.std.proofs.Common.{◌≡◌, ◌∙◌, ◌+◌, ◌++◌, ℕ, true, false, true≢false, List, [], length, arith, refl, sym, ap}
-use Rattle.std.proofs.lemmas.List.{append_assoc, length-append}
+use Rattle.std.proofs.lemmas.List.{append_assoc, append-nil, length-append}
 use Rattle.cs_base.specs.declared.resource.Rate.{Rate}
 use Rattle.cs_base.specs.declared.resource.Rate.TheVariants as rate
 use Rattle.cs_ir.specs.declared.op.Op.{Op}
-use Rattle.cs_meaning.specs.Core.{Stmt, Block, Arms, no_stmt, andthen, choose, arm, otherwise}
+use Rattle.cs_meaning.specs.Core.{Stmt, Block, Arms, no_stmt, andthen, choose, arm, otherwise, core_stmt}
 use Rattle.cs_code.specs.declared.frame.Progress.{Progress}
 use Rattle.cs_code.specs.inner.Kept.{past, past_parts, past_stmt, past_block}
+use Rattle.cs_typed.specs.TypedTree as typed
 use Rattle.cs_typed.specs.TypedTree.{Expression}
 use Rattle.cs_code.specs.declared.frame.Pass.{Pass}
 use Rattle.cs_code.specs.declared.frame.Pass.TheVariants as pass
 use Rattle.cs_code.specs.inner.Code.{keep_code, operand_code, init_block_code, all_code}
 use Rattle.cs_code.specs.inner.Emitted.{pass_code, pass_block_code, chosen_code, cond_code, each_arm_code, when_of}
-use Rattle.cs_code.specs.inner.Emitted.{takes_all}
+use Rattle.cs_code.specs.inner.Emitted.{takes_all, Scope, core_in}
 use Rattle.cs_code.specs.inner.Frames.{Frame}
 
 -- a statement and those that follow, in either pass
@@ -22,19 +23,72 @@ block_step : (way : Pass) (f : Frame) (place : ℕ) (p : Progress) (s : Stmt) (b
 block_step pass.Initialisation f place p s b = refl
 block_step pass.Performance f place p s b = refl
 
-pub block_more : (way : Pass) (f : Frame) (ops new total : List Op) (p q : Progress) (s : Stmt) (b : Block) → new ≡ ops
-    ++ pass_code way f (length ops) p s → q ≡ past_stmt p s
-    → ops ++ pass_block_code way f (length ops) p (andthen s b) ≡ total → new
-    ++ pass_block_code way f (length new) q b ≡ total
-block_more way f ops new total p q s b made at was =
-    let own : List Op = pass_code way f (length ops) p s in
-    let long : length new ≡ length ops + length own = omega (arith, ap length made ∙ length-append ops own) in
-    ap (λ n. new ++ pass_block_code way f n q b) long
-    ∙ ap (λ n. new ++ pass_block_code way f (length ops + length own) n b) at
-    ∙ ap (λ xs. xs ++ pass_block_code way f (length ops + length own) (past_stmt p s) b) made
-    ∙ append_assoc ops own (pass_block_code way f (length ops + length own) (past_stmt p s) b)
-    ∙ sym (ap (λ xs. ops ++ xs) (block_step way f (length ops) p s b))
-    ∙ was
+-- no statement more
+pub block_none : (way : Pass) (f : Frame) (place : ℕ) (p : Progress) → pass_block_code way f place p no_stmt ≡ []
+block_none pass.Initialisation f place p = refl
+block_none pass.Performance f place p = refl
+
+-- one statement alone
+pub alone_code : (way : Pass) (f : Frame) (place : ℕ) (p : Progress) (s : Stmt)
+    → pass_block_code way f place p (andthen s no_stmt) ≡ pass_code way f place p s
+alone_code pass.Initialisation f place p s = append-nil (pass_code pass.Initialisation f place p s)
+alone_code pass.Performance f place p s = append-nil (pass_code pass.Performance f place p s)
+
+-- the statements of two blocks
+abbrev both_blocks : Block → Block → Block
+both_blocks no_stmt b = b
+both_blocks (andthen s rest) b = andthen s (both_blocks rest b)
+
+core_both : (o : Scope) (a b : typed.Block) → core_in o (typed.then_block a b) ≡ both_blocks (core_in o a) (core_in o b)
+core_both o typed.no_stmt b = refl
+core_both o (typed.andthen s rest) b =
+    ap (andthen (core_stmt o.spaces (typed.moved o.locals s))) (core_both o rest b)
+
+both_code : (way : Pass) (f : Frame) (place : ℕ) (p : Progress) (a b : Block)
+    → pass_block_code way f place p (both_blocks a b) ≡ pass_block_code way f place p a
+    ++ pass_block_code way f (place + length (pass_block_code way f place p a)) (past_block p a) b
+both_code way f place p no_stmt b =
+    ap (λ n. pass_block_code way f n p b)
+    (omega (arith, ap length (block_none way f place p)))
+    ∙ sym (ap (λ l. l ++ pass_block_code way f (place + length (pass_block_code way f place p no_stmt)) p b)
+    (block_none way f place p))
+both_code way f place p (andthen s rest) b =
+    let own : List Op = pass_code way f place p s in
+    let next : ℕ = place + length own in
+    let more : List Op = pass_block_code way f next (past_stmt p s) rest in
+    let done : Progress = past_block (past_stmt p s) rest in
+    let long : next + length more ≡ place + length (own ++ more) = omega (arith, length-append own more) in
+    block_step way f place p s (both_blocks rest b)
+    ∙ ap (λ l. own ++ l) (both_code way f next (past_stmt p s) rest b)
+    ∙ sym (append_assoc own more (pass_block_code way f (next + length more) done b))
+    ∙ ap (λ n. (own ++ more) ++ pass_block_code way f n done b) long
+    ∙ sym (ap (λ l. l ++ pass_block_code way f (place + length l) done b) (block_step way f place p s rest))
+
+both_past : (p : Progress) (a b : Block) → past_block p (both_blocks a b) ≡ past_block (past_block p a) b
+both_past p no_stmt b = refl
+both_past p (andthen s rest) b = both_past (past_stmt p s) rest b
+
+-- a block is made, and those that follow it
+pub block_more : (way : Pass) (f : Frame) (o : Scope) (ops new total : List Op) (p q last : Progress)
+    (all a b : typed.Block) → all ≡ typed.then_block a b
+    → new ≡ ops ++ pass_block_code way f (length ops) p (core_in o a) → q ≡ past_block p (core_in o a)
+    → ops ++ pass_block_code way f (length ops) p (core_in o all) ≡ total → past_block p (core_in o all) ≡ last
+    → (new ++ pass_block_code way f (length new) q (core_in o b) ≡ total) × (past_block q (core_in o b) ≡ last)
+block_more way f o ops new total p q last all a b split made at was last_was =
+    let x : Block = core_in o a in
+    let y : Block = core_in o b in
+    let own : List Op = pass_block_code way f (length ops) p x in
+    let parted : core_in o all ≡ both_blocks x y = ap (core_in o) split ∙ core_both o a b in
+    let long : length new ≡ length ops + length own = omega (arith, ap length made ∙ length-append ops own) in (
+      ap (λ n. new ++ pass_block_code way f n q y) long
+          ∙ ap (λ n. new ++ pass_block_code way f (length ops + length own) n y) at
+          ∙ ap (λ xs. xs ++ pass_block_code way f (length ops + length own) (past_block p x) y) made
+          ∙ append_assoc ops own (pass_block_code way f (length ops + length own) (past_block p x) y)
+          ∙ sym (ap (λ xs. ops ++ xs) (both_code way f (length ops) p x y))
+          ∙ sym (ap (λ k. ops ++ pass_block_code way f (length ops) p k) parted)
+          ∙ was,
+      ap (λ k. past_block k y) at ∙ sym (both_past p x y) ∙ sym (ap (past_block p) parted) ∙ last_was,
+    )
 
 -- the statements after `else`
 pub chosen_else : (way : Pass) (f : Frame) (place : ℕ) (p : Progress) (b : Block)
@@ -65,11 +119,6 @@ each_more f ops new total p q c b rest made at was =
     ∙ append_assoc ops (cond ++ body) (all_code f (place + length cond + length body) done rest)
     ∙ ap (λ xs. ops ++ xs) (append_assoc cond body (all_code f (place + length cond + length body) done rest))
     ∙ was
-
--- no statement more
-pub block_none : (way : Pass) (f : Frame) (place : ℕ) (p : Progress) → pass_block_code way f place p no_stmt ≡ []
-block_none pass.Initialisation f place p = refl
-block_none pass.Performance f place p = refl
 
 -- an `if` by whether all its arms are initialised
 pub all_taken : (way : Pass) (f : Frame) (place : ℕ) (p : Progress) (r : Rate) (arms : Arms) → takes_all way r ≡ true

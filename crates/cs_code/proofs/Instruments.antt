@@ -32,7 +32,7 @@ use Rattle.cs_code.specs.Names.{block_units, AllNamed}
 use Rattle.cs_code.specs.inner.Code.{init_block_code, perf_block_code}
 use Rattle.cs_code.specs.inner.Counted.{reached, no_registers}
 use Rattle.cs_code.specs.inner.Frames.{Frame, frame_for}
-use Rattle.cs_code.specs.inner.Limits.{ops_limit}
+use Rattle.cs_ir.specs.Limits.{ops_limit}
 use Rattle.cs_code.proofs.Means.{means_its_tree}
 use Rattle.cs_code.proofs.Resources.{block_begins, block_cycles}
 use Rattle.cs_code.proofs.Validity.{units_counted, init_valid, perf_valid, init_named_rated, perf_cycles_rated}
@@ -169,25 +169,27 @@ one_numbered spaces channels t ps ns i d list x low h number code =
     (number, code))
 
 -- the bodies of one instrument more
-pub bodies_more : (xs : List TypedInstr) (i : ℕ) (x : TypedInstr) → i < length xs → x ≡ get_or xs i x
-    → bodies (map typed.instrument (take (i + 1) xs)) ≡ bodies (map typed.instrument (take i xs))
-    ++ numbered_with (typed.block x.body.items) x.numbers
-bodies_more xs i x low is =
+pub bodies_more : (rs : List typed.Block) (xs : List TypedInstr) (i : ℕ) (x : TypedInstr)
+    → i < length xs → x ≡ get_or xs i x
+    → bodies (map (typed.instrument rs) (take (i + 1) xs)) ≡ bodies (map (typed.instrument rs) (take i xs))
+    ++ numbered_with (typed.block rs x.body.items) x.numbers
+bodies_more rs xs i x low is =
     let of : typed.Instrument → List (ℕ × typed.Block) = λ (y : typed.Instrument). numbered_with y.body y.numbers in
-    let before : List typed.Instrument = map typed.instrument (take i xs) in
-    ap bodies (map_more typed.instrument xs i x low)
-    ∙ flat_map-append of before (typed.instrument (get_or xs i x) ∷ [])
-    ∙ ap (λ y. bodies before ++ (of (typed.instrument y) ++ [])) (sym is)
-    ∙ ap (λ l. bodies before ++ l) (append-nil (of (typed.instrument x)))
+    let before : List typed.Instrument = map (typed.instrument rs) (take i xs) in
+    ap bodies (map_more (typed.instrument rs) xs i x low)
+    ∙ flat_map-append of before (typed.instrument rs (get_or xs i x) ∷ [])
+    ∙ ap (λ y. bodies before ++ (of (typed.instrument rs y) ++ [])) (sym is)
+    ∙ ap (λ l. bodies before ++ l) (append-nil (of (typed.instrument rs x)))
 
 -- a fact on all instruments, at one of them
-pub at_instrument : (P : typed.Instrument → Type 0) (xs : List TypedInstr) (i : ℕ) (x : TypedInstr)
-    → All P (map typed.instrument xs) → i < length xs
-    → x ≡ get_or xs i x → P (typed.instrument x)
-at_instrument P xs i x all low is =
-    let long : length (map typed.instrument xs) ≡ length xs = length-map xs typed.instrument in
-    subst P (get_or-map typed.instrument xs i x (typed.instrument x) low ∙ ap typed.instrument (sym is))
-    (all i (typed.instrument x) (omega arith))
+pub at_instrument : (rs : List typed.Block) (P : typed.Instrument → Type 0) (xs : List TypedInstr)
+    (i : ℕ) (x : TypedInstr)
+    → All P (map (typed.instrument rs) xs) → i < length xs
+    → x ≡ get_or xs i x → P (typed.instrument rs x)
+at_instrument rs P xs i x all low is =
+    let long : length (map (typed.instrument rs) xs) ≡ length xs = length-map xs (typed.instrument rs) in
+    subst P (get_or-map (typed.instrument rs) xs i x (typed.instrument rs x) low ∙ ap (typed.instrument rs) (sym is))
+    (all i (typed.instrument rs x) (omega arith))
 
 -- numbers of instruments are those of the text
 zip_numbers : (spaces : Spaces) (channels : ℕ) (ps : List (ℕ × typed.Block)) (list : List Numbered)

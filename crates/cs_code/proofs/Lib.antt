@@ -11,8 +11,14 @@ pub mod Instruments
 pub mod Letters
 pub mod Lists
 pub mod Means
+pub mod Moved
+pub mod Moving
+pub mod MovingCalls
+pub mod MovingRegisters
+pub mod MovingStatements
 pub mod Named
 pub mod Nodes
+pub mod Noting
 pub mod Numbers
 pub mod Parts
 pub mod Performs
@@ -22,7 +28,9 @@ pub mod Rated
 pub mod Reached
 pub mod Reaches
 pub mod Resources
+pub mod Routines
 pub mod Runs
 pub mod Valid
 pub mod Validity
+pub mod Weights
 pub mod Worked

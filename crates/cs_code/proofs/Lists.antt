@@ -1,28 +1,38 @@
 -- Lists of expressions and arguments.
 use Rattle.std.proofs.Common.{◌≡◌, ◌∙◌, ◌+◌, ◌<◌, ◌++◌, ◌∷◌, drop, get_or, ℕ, Bool, true, false, not, cond, List, []}
-use Rattle.std.proofs.Common.{length, refl, sym, ap}
-use Rattle.std.proofs.lemmas.List.{append_assoc, append-nil, drop_more}
+use Rattle.std.proofs.Common.{◌≤◌, arith, length, map, refl, sym, subst, take, ap, ap₂}
+use Rattle.std.proofs.lemmas.List.{append_assoc, append-nil, drop_more, map-append, take_all, take_more}
+use Rattle.std.proofs.lemmas.List.Elements.{All-cons}
 use Rattle.std.specs.Borrow.{Bor}
+use Rattle.std.specs.List.{All}
 use Rattle.cs_meaning.specs.Core.{settled, moving, values_of}
 use Rattle.cs_meaning.specs.When.{When}
 use Rattle.cs_code.specs.inner.Kept.{past}
-use Rattle.cs_typed.specs.TypedTree.{Expression, Argument, value, text, expression}
+use Rattle.cs_typed.specs.TypedTree.{Expression, Argument, value, text, argument}
+use Rattle.cs_typed.specs.declared.tree.TypedArg.{TypedArg}
 use Rattle.cs_typed.specs.declared.tree.TypedExpr.{TypedExpr}
 use Rattle.cs_words.specs.Catalogue.{Row, letter_at, is_settled}
 use Rattle.cs_ir.specs.declared.op.Op.{Op}
 use Rattle.cs_ir.specs.declared.register.Reg.{Reg}
 use Rattle.cs_code.specs.inner.Code.{operand_code, operands_code, keep_code, keep_all_code}
-use Rattle.cs_code.specs.inner.Emitted.{taken, expressions_of}
+use Rattle.cs_code.specs.declared.frame.Bases.{Bases}
+use Rattle.cs_code.specs.inner.Emitted.{taken, expression_of, expressions_of}
 use Rattle.cs_code.specs.inner.Frames.{Frame, spot, spots}
 
 pub append_nothing : {A : Type 0} (xs : List A) → xs ++ [] ≡ xs
 append_nothing xs = append-nil xs
 
+-- what holds of an element and of all after it
+pub each_more : {A : Type 0} (P : A → Type 0) (xs : List A) (i : ℕ) (d : A) → i < length xs → P (get_or xs i d)
+    → All P (drop (i + 1) xs) → All P (drop i xs)
+each_more P xs i d lt here rest =
+    subst (All P) (sym (drop_more xs i d lt)) (All-cons P (get_or xs i d) (drop (i + 1) xs) here rest)
+
 -- one value more
-pub expressions_more : (es : List (Bor TypedExpr)) (e : Bor TypedExpr)
-    → expressions_of (es ++ e ∷ []) ≡ expressions_of es ++ expression e.now ∷ []
-expressions_more [] e = refl
-expressions_more (x ∷ es) e = ap (λ l. expression x.now ∷ l) (expressions_more es e)
+pub expressions_more : (b : Bases) (es : List (Bor TypedExpr)) (e : Bor TypedExpr)
+    → expressions_of b (es ++ e ∷ []) ≡ expressions_of b es ++ expression_of b e.now ∷ []
+expressions_more b [] e = refl
+expressions_more b (x ∷ es) e = ap (λ l. expression_of b x.now ∷ l) (expressions_more b es e)
 
 -- the first argument, and those that follow
 taken_or : (b : Bool) (e : Expression) (xs : List Expression) → cond b (e ∷ xs) xs ≡ cond b (e ∷ []) [] ++ xs
@@ -122,7 +132,31 @@ keep_more f ops new total at now es e rest split made past_it was =
     ∙ ap (λ k. ops ++ keep_all_code f at k) (sym split)
     ∙ was
 
+pub map_twice : {A B C : Type 0} (g : B → C) (f : A → B) (xs : List A) → map g (map f xs) ≡ map (λ x. g (f x)) xs
+map_twice g f [] = refl
+map_twice g f (x ∷ xs) = ap (λ l. g (f x) ∷ l) (map_twice g f xs)
+
 -- what is left of a list, and what is left after its first
 pub dropped : {A : Type 0} (xs : List A) (i : ℕ) (x : A) → i < length xs → x ≡ get_or xs i x
     → drop i xs ≡ x ∷ drop (i + 1) xs
 dropped xs i x lt e = drop_more xs i x lt ∙ ap (λ y. y ∷ drop (i + 1) xs) (sym e)
+
+-- ---- arguments that are the same in two lists
+
+pub arguments_more : (xs ys : List TypedArg) (i : ℕ) (a b : TypedArg) → length xs ≡ length ys → i < length xs
+    → a ≡ get_or xs i a → b ≡ get_or ys i b → argument a ≡ argument b
+    → map argument (take i xs) ≡ map argument (take i ys)
+    → map argument (take (i + 1) xs) ≡ map argument (take (i + 1) ys)
+arguments_more xs ys i a b long low here there same before =
+    let low' : i < length ys = omega (arith, long, low) in
+    ap (map argument) (take_more xs i a low ∙ ap (λ x. take i xs ++ x ∷ []) (sym here))
+    ∙ map-append argument (take i xs) (a ∷ [])
+    ∙ ap₂ (λ l x. l ++ x ∷ []) before same
+    ∙ sym (map-append argument (take i ys) (b ∷ []))
+    ∙ sym (ap (map argument) (take_more ys i b low' ∙ ap (λ y. take i ys ++ y ∷ []) (sym there)))
+
+pub arguments_all : (xs ys : List TypedArg) (i : ℕ) → length xs ≡ length ys → length xs ≤ i
+    → map argument (take i xs) ≡ map argument (take i ys) → map argument xs ≡ map argument ys
+arguments_all xs ys i long past same =
+    sym (ap (map argument) (take_all i xs past)) ∙ same
+    ∙ ap (map argument) (take_all i ys (omega (arith, long, past)))

@@ -1,6 +1,7 @@
 -- Nodes of expressions.
 use Rattle.std.proofs.Common.{◌≡◌, ◌+◌, ◌∷◌, ℕ, [], Some, None, refl, ap}
 use Rattle.std.proofs.lemmas.Option.{none-some}
+use Rattle.cs_base.specs.declared.per_rate.PerRate.{PerRate}
 use Rattle.cs_base.specs.declared.resource.Rate.{Rate}
 use Rattle.cs_base.specs.declared.resource.Rate.TheVariants as rate
 use Rattle.cs_ir.specs.Waves.{if_init}
@@ -8,7 +9,8 @@ use Rattle.cs_ir.specs.declared.op.Act.TheVariants as act
 use Rattle.cs_ir.specs.declared.register.Reg.{Reg}
 use Rattle.cs_meaning.specs.When.{When, beginning, cycle}
 use Rattle.cs_code.specs.inner.Kept.{past}
-use Rattle.cs_typed.specs.TypedTree.{Expression, of_part, number, var, field, head, neg, pair, pick, apply}
+use Rattle.cs_typed.specs.TypedTree.{Expression, of_part, moved_expression, number, var, field, head, neg, pair, pick}
+use Rattle.cs_typed.specs.TypedTree.{apply}
 use Rattle.cs_typed.specs.WellRated.{node_rate}
 use Rattle.cs_typed.specs.declared.tree.TypedPart.{TypedPart}
 use Rattle.cs_typed.specs.declared.tree.TypedPart.TheVariants.{Number, Var, Field, Head as HeadName', Neg', Pair'}
@@ -17,15 +19,15 @@ use Rattle.cs_code.specs.inner.Code.{own, code, operand_code, unless_there, copi
 use Rattle.cs_code.specs.inner.Emitted.{parts_code, parts_past}
 use Rattle.cs_code.specs.inner.Frames.{Frame, op_of, direct, kept_or, spot, temp, reg_or}
 
-pub rate_of_part : (r : Rate) (w : TypedPart) → node_rate (of_part r w) ≡ r
-rate_of_part r (Number v) = refl
-rate_of_part r (Var v) = refl
-rate_of_part r (Field k) = refl
-rate_of_part r (HeadName' h) = refl
-rate_of_part r (Neg' p ra a) = refl
-rate_of_part r (Pair' op p ra a q rb b) = refl
-rate_of_part r (Pick' p rc c q ra a s rb b) = refl
-rate_of_part r (Call' f p ra a) = refl
+pub rate_of_moved : (b : PerRate ℕ) (r : Rate) (w : TypedPart) → node_rate (moved_expression b (of_part r w)) ≡ r
+rate_of_moved b r (Number v) = refl
+rate_of_moved b r (Var v) = refl
+rate_of_moved b r (Field k) = refl
+rate_of_moved b r (HeadName' h) = refl
+rate_of_moved b r (Neg' p ra a) = refl
+rate_of_moved b r (Pair' op p ra a q rb c) = refl
+rate_of_moved b r (Pick' p rc c q ra a s rb d) = refl
+rate_of_moved b r (Call' f p ra a) = refl
 
 -- a value that stands somewhere already, and one that doesn't
 pub there_code : (f : Frame) (when : When) (at : ℕ) (e : Expression) (d : ℕ) (q : Reg) → direct f when at e ≡ Some q
@@ -100,4 +102,4 @@ pub ruleset nodes = (there_code, there_spot, there_past, made_code, made_spot)
 pub ruleset copies = (there_copied, made_copied, there_past)
 
 -- the kept parts of an expression, by whether it changes
-pub ruleset splits = (rate_of_part, keep_splits, past_splits)
+pub ruleset splits = (rate_of_moved, keep_splits, past_splits)

@@ -27,7 +27,7 @@ if_grows rate.Init at n h = omega arith
 if_grows rate.Control at n h = h
 if_grows rate.Audio at n h = h
 
-past_grows : (at : ℕ) (e : Expression) → at ≤ past at e
+pub past_grows : (at : ℕ) (e : Expression) → at ≤ past at e
 past_grows at (number r n) = if_grows r at at (omega arith)
 past_grows at (var r v) = if_grows r at at (omega arith)
 past_grows at (field r k) = if_grows r at at (omega arith)
@@ -40,7 +40,7 @@ past_grows at (pick r c a b) =
     (le_trans (past_grows at c) (le_trans (past_grows (past at c) a) (past_grows (past (past at c) a) b)))
 past_grows at (apply r g a) = if_grows r at (past at a) (past_grows at a)
 
-past_all_grows : (at : ℕ) (es : List Expression) → at ≤ past_all at es
+pub past_all_grows : (at : ℕ) (es : List Expression) → at ≤ past_all at es
 past_all_grows at [] = omega arith
 past_all_grows at (e ∷ es) = le_trans (past_grows at e) (past_all_grows (past at e) es)
 

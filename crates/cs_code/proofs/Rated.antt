@@ -44,11 +44,11 @@ stills spaces (typed.arm c b rest) h =
 -- ---- what a block with these local variables names
 
 module _ (counts : PerRate ℕ) where
-  inside_var : (v : Variable) → IsCounted counts v → InsideVar (at_rate counts) v
+  pub inside_var : (v : Variable) → IsCounted counts v → InsideVar (at_rate counts) v
   inside_var (Local q n) h = h
   inside_var (Global g) h = tt
 
-  inside_expr : (e : Expression) → EachInExpression (IsCounted counts) e → Inside (at_rate counts) e
+  pub inside_expr : (e : Expression) → EachInExpression (IsCounted counts) e → Inside (at_rate counts) e
   inside_expr e h = expression_weaker (IsCounted counts) (InsideVar (at_rate counts)) inside_var e h
 
   inside_either : (b : Bool) (xs ys : List Expression) → InsideAll (at_rate counts) xs → InsideAll (at_rate counts) ys
@@ -59,7 +59,7 @@ module _ (counts : PerRate ℕ) where
   abbrev Counted : Argument → Type 0
   Counted a = EachInArgument (IsCounted counts) a
 
-  inside_values : (args : List Argument) → All Counted args → InsideAll (at_rate counts) (values_of args)
+  pub inside_values : (args : List Argument) → All Counted args → InsideAll (at_rate counts) (values_of args)
   inside_values [] h = tt
   inside_values (typed.value e ∷ rest) h = (
     inside_expr e (All-head Counted (typed.value e) rest h),
@@ -68,7 +68,7 @@ module _ (counts : PerRate ℕ) where
   )
   inside_values (typed.text v ∷ rest) h = inside_values rest (All-tail Counted (typed.text v) rest h)
 
-  inside_settled : (row : Row) (n : ℕ) (args : List Argument) → All Counted args
+  pub inside_settled : (row : Row) (n : ℕ) (args : List Argument) → All Counted args
       → InsideAll (at_rate counts) (settled row n args)
   inside_settled row n [] h = tt
   inside_settled row n (typed.value e ∷ rest) h =
@@ -78,7 +78,7 @@ module _ (counts : PerRate ℕ) where
   inside_settled row n (typed.text v ∷ rest) h =
       inside_settled row (n + 1) rest (All-tail Counted (typed.text v) rest h)
 
-  inside_moving : (row : Row) (n : ℕ) (args : List Argument) → All Counted args
+  pub inside_moving : (row : Row) (n : ℕ) (args : List Argument) → All Counted args
       → InsideAll (at_rate counts) (moving row n args)
   inside_moving row n [] h = tt
   inside_moving row n (typed.value e ∷ rest) h =

@@ -1,13 +1,14 @@
 -- Counts that reach further.
-use Rattle.std.proofs.Common.{◌≡◌, ◌∙◌, ◌+◌, ◌<◌, ◌++◌, ◌∷◌, [], ℕ, List, max, length, drop, get_or, arith, sym, ap}
+use Rattle.std.proofs.Common.{◌≡◌, ◌∙◌, ◌+◌, ◌<◌, ◌++◌, ℕ, List, max, length, drop, get_or, arith, sym, ap}
 use Rattle.std.proofs.Math.Nat.{max-zero}
 use Rattle.cs_base.specs.declared.resource.Rate.{Rate}
 use Rattle.cs_base.specs.declared.resource.Rate.TheVariants as rate
+use Rattle.cs_ir.proofs.Reaching.{limit_append}
+use Rattle.cs_ir.specs.Limits.{reg_limit, regs_limit, ops_limit}
 use Rattle.cs_ir.specs.declared.op.Op.{Op}
 use Rattle.cs_ir.specs.declared.register.Counts.{Counts}
 use Rattle.cs_ir.specs.declared.register.Reg.{Reg}
 use Rattle.cs_code.specs.inner.Counted.{reached}
-use Rattle.cs_code.specs.inner.Limits.{reg_limit, regs_limit, ops_limit}
 use Rattle.std.proofs.lemmas.List.{drop_more}
 
 pub max_none : (n : ℕ) → max n 0 ≡ n
@@ -39,15 +40,6 @@ regs_more c now total qs i d lt made was =
     reached_step c now (λ r. reg_limit r (get_or qs i d)) (λ r. regs_limit r (drop (i + 1) qs)) made
     ∙ sym (ap (λ xs. reached c (λ r. regs_limit r xs)) (drop_more qs i d lt))
     ∙ was
-
-zero_max : (n : ℕ) → n ≡ max 0 n
-zero_max n = omega arith
-
-limit_append : (r : Rate) (xs ys : List Op) → ops_limit r (xs ++ ys) ≡ max (ops_limit r xs) (ops_limit r ys)
-limit_append r [] ys = zero_max (ops_limit r ys)
-limit_append r (x ∷ xs) ys =
-    ap (max (max (reg_limit r x.into) (regs_limit r x.from))) (limit_append r xs ys)
-    ∙ sym (max_assoc (max (reg_limit r x.into) (regs_limit r x.from)) (ops_limit r xs) (ops_limit r ys))
 
 -- some ops, and then others
 pub reached_append : (c now : Counts) (xs ys : List Op) → now ≡ reached c (λ r. ops_limit r xs)

@@ -15,7 +15,7 @@ use Rattle.cs_typed.specs.declared.setting.Setting.{Setting}
 use Rattle.cs_code.specs.Names.{block_units, AllNamed}
 use Rattle.cs_code.specs.inner.Code.{init_block_code, perf_block_code}
 use Rattle.cs_code.specs.inner.Frames.{Frame}
-use Rattle.cs_code.specs.inner.Limits.{ops_limit}
+use Rattle.cs_ir.specs.Limits.{ops_limit}
 use Rattle.cs_code.proofs.FromRates.{block_ranked, narrow_block}
 use Rattle.cs_code.proofs.Named.{block_count, whole_at, init_block_named, perf_block_named, init_names, perf_cycles}
 use Rattle.cs_code.proofs.Named.{perf_names}

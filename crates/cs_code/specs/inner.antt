@@ -5,5 +5,6 @@ pub mod Counted
 pub mod Emitted
 pub mod Frames
 pub mod Kept
-pub mod Limits
+pub mod Passages
+pub mod Places
 pub mod Rated

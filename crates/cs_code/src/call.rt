@@ -7,7 +7,7 @@ ghost use Rattle.cs_words.specs.Catalogue.{row_of};
 ghost use Rattle.cs_words.specs.declared.catalogue.Shape.TheVariants as shape;
 ghost use Rattle.cs_code.specs.inner.Emitted.{frame_of, pass_code};
 ghost use Rattle.cs_code.specs.inner.Emitted.{IsAssignmentOf, put_shape};
-ghost use Rattle.cs_code.specs.inner.Emitted.{arguments_of, call_of, effect_of, sent_as};
+ghost use Rattle.cs_code.specs.inner.Emitted.{arguments_of, call_of, effect_of, sent_as, variables_of};
 
 use crate::args::{Call, parted_values, values};
 use crate::frame::{Context, Progress};
@@ -108,10 +108,11 @@ fn unit_call(
 ) -> Result<Progress, OutOfMemory>
     ensures ops { OnOk result (ops.new
         ≡ ops.old ++ pass_code context.pass (frame_of context.bases) 0 p
-        (unit_call call.now.rate call.now.results.now call.now.opcode (arguments_of call.now))) }
+        (unit_call call.now.rate (variables_of context.bases call.now.results.now) call.now.opcode
+        (arguments_of context.bases call.now))) }
     ensures next { IfOk result (λ q. q
-        ≡ past_stmt p (unit_call call.now.rate call.now.results.now call.now.opcode
-        (arguments_of call.now))) }
+        ≡ past_stmt p (unit_call call.now.rate (variables_of context.bases call.now.results.now) call.now.opcode
+        (arguments_of context.bases call.now))) }
 {
     let values = parted_values(context.alloc, call)?;
     let reach = unit_reach(call.opcode, &values.settled);
@@ -127,9 +128,9 @@ fn store_call(
 ) -> Result<Progress, OutOfMemory>
     ensures ops { OnOk result (ops.new
         ≡ ops.old ++ pass_code context.pass (frame_of context.bases) 0 p
-        (store_call call.now.rate call.now.opcode (arguments_of call.now))) }
+        (store_call call.now.rate call.now.opcode (arguments_of context.bases call.now))) }
     ensures next { IfOk result (λ q. q
-        ≡ past_stmt p (store_call call.now.rate call.now.opcode (arguments_of call.now))) }
+        ≡ past_stmt p (store_call call.now.rate call.now.opcode (arguments_of context.bases call.now))) }
 {
     let all = values(context.alloc, call)?;
     let parted = parted_values(context.alloc, call)?;
@@ -145,10 +146,12 @@ fn zak_call(
 ) -> Result<Progress, OutOfMemory>
     ensures ops { OnOk result (ops.new
         ≡ ops.old ++ pass_code context.pass (frame_of context.bases) 0 p
-        (zak_call context.spaces call.now.rate call.now.results.now call.now.opcode (row_of call.now.opcode).shape
-        (arguments_of call.now))) }
+        (zak_call context.spaces call.now.rate (variables_of context.bases call.now.results.now) call.now.opcode
+        (row_of call.now.opcode).shape
+        (arguments_of context.bases call.now))) }
     ensures next { IfOk result (λ q. q ≡ past_stmt p (zak_call context.spaces call.now.rate
-        call.now.results.now call.now.opcode (row_of call.now.opcode).shape (arguments_of call.now))) }
+        (variables_of context.bases call.now.results.now) call.now.opcode (row_of call.now.opcode).shape
+        (arguments_of context.bases call.now))) }
 {
     let values = parted_values(context.alloc, call)?;
     let shape = signature_of(call.opcode).shape();
@@ -166,9 +169,9 @@ fn out(
 ) -> Result<Progress, OutOfMemory>
     ensures ops { OnOk result (ops.new ≡ ops.old
         ++ pass_code context.pass (frame_of context.bases) 0 p
-        (sent_as sending rate.Audio (values_of (arguments_of call.now)))) }
+        (sent_as sending rate.Audio (values_of (arguments_of context.bases call.now)))) }
     ensures next { IfOk result (λ q. q
-        ≡ past_stmt p (sent_as sending rate.Audio (values_of (arguments_of call.now)))) }
+        ≡ past_stmt p (sent_as sending rate.Audio (values_of (arguments_of context.bases call.now)))) }
 {
     let values = values(context.alloc, call)?;
     send(ops, context, p, sending, &values)
@@ -177,7 +180,8 @@ fn out(
 // Asks for a note.
 fn schedule(ops: &mut CodeDraft, context: Context, call: &Call<'_>) -> Result<(), OutOfMemory>
     ensures { OnOk result (ops.new ≡ ops.old
-        ++ pass_code context.pass (frame_of context.bases) 0 start (ask (values_of (arguments_of call.now)))) }
+        ++ pass_code context.pass (frame_of context.bases) 0 start (ask (values_of
+        (arguments_of context.bases call.now)))) }
 {
     let values = values(context.alloc, call)?;
     ask(ops, context, &values)
@@ -191,10 +195,10 @@ fn effect(
     call: &Call<'_>,
 ) -> Result<Progress, OutOfMemory>
     ensures ops { OnOk result (ops.new ≡ ops.old
-        ++ pass_code context.pass (frame_of context.bases) 0 p (effect_of context.spaces call.now
+        ++ pass_code context.pass (frame_of context.bases) 0 p (effect_of context.spaces context.bases call.now
         (row_of call.now.opcode).shape)) }
     ensures next { IfOk result (λ q. q
-        ≡ past_stmt p (effect_of context.spaces call.now (row_of call.now.opcode).shape)) }
+        ≡ past_stmt p (effect_of context.spaces context.bases call.now (row_of call.now.opcode).shape)) }
 {
     match signature_of(call.opcode).shape() {
         Shape::Out => out(ops, context, p, Sending::InTurn, call),
@@ -224,11 +228,10 @@ pub fn call(
     call: &Call<'_>,
 ) -> Result<Progress, OutOfMemory>
     ensures ops { OnOk result (ops.new ≡ ops.old
-        ++ pass_code context.pass (frame_of context.bases) 0 p (call_of context.spaces
+        ++ pass_code context.pass (frame_of context.bases) 0 p (call_of context.spaces context.bases
         call.now (row_of call.now.opcode).shape)) }
     ensures next { IfOk result (λ q. q
-        ≡ past_stmt p (call_of context.spaces call.now (row_of
-        call.now.opcode).shape)) }
+        ≡ past_stmt p (call_of context.spaces context.bases call.now (row_of call.now.opcode).shape)) }
 {
     match assigned(call) {
         Some(assignment) => assign(ops, context, p, &assignment),

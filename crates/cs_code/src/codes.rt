@@ -5,15 +5,17 @@ ghost use Rattle.cs_code.specs.inner.Kept.{start, past_block};
 ghost use Rattle.cs_typed.specs.TypedTree as typed;
 ghost use Rattle.cs_code.specs.inner.Code.{init_block_code, perf_block_code};
 ghost use Rattle.cs_code.specs.inner.Counted.{reached, no_registers};
+ghost use Rattle.cs_code.specs.inner.Emitted.{frame_of, pass_block_code};
 ghost use Rattle.cs_code.specs.inner.Frames.{frame_for};
-ghost use Rattle.cs_code.specs.inner.Limits.{ops_limit};
+ghost use Rattle.cs_ir.specs.Limits.{ops_limit};
 
 use crate::counts::with_stretches;
+use crate::draft::Draft;
 use crate::frame::{Bases, Context, Pass, Progress, add, narrow};
-use crate::stmt::body_of;
-use cs_base::{OutOfMemory, PerRate, Spaces};
-use cs_ir::{Counts, Ops, Passages};
-use cs_typed::TypedStmt;
+use crate::stmt::{BodyCode, body_of};
+use cs_base::{OutOfMemory, PerRate};
+use cs_ir::{Counts, Ops};
+use cs_typed::{TypedOrc, TypedStmt};
 use std::alloc::Global;
 
 /// The two codes of a block, over the same registers and units.
@@ -26,6 +28,13 @@ pub struct Codes {
 
 /// Where a block begins.
 const START: Progress = Progress { part: 0, unit: 0 };
+
+/// The local variables of a block that nothing invokes are the first registers.
+const NO_LOCALS: PerRate<u32> = PerRate {
+    init: 0,
+    control: 0,
+    audio: 0,
+};
 
 // The counts of two codes.
 #[tactic(auto, using(crate::proofs::Reached::reached_two))]
@@ -53,29 +62,46 @@ fn narrowed(locals: PerRate<usize>) -> Result<PerRate<u32>, OutOfMemory>
     })
 }
 
+// The code of a block that nothing invokes, by its pass.
+fn code_of<'t>(
+    draft: &mut Draft<'t>,
+    context: Context,
+    orc: &'t TypedOrc,
+    stmts: &'t [TypedStmt],
+) -> Result<BodyCode, OutOfMemory>
+    requires { context.bases.locals ≡ typed.no_counts }
+    ensures ops { IfOk result (λ m. m.ops ≡ pass_block_code context.pass (frame_of context.bases) 0
+        start (core context.spaces (typed.block (typed.routines orc.now.routines.items) stmts.now))) }
+    ensures next { IfOk result (λ m. m.next ≡ past_block start (core context.spaces
+        (typed.block (typed.routines orc.now.routines.items) stmts.now))) }
+{
+    body_of(draft, context, &orc.routines, START, stmts)
+}
+
 /// The two codes of a block with these local variables, of an instrument whose `instr` stands at a line. The
 /// performance is made first: it keeps no temporary of rate Init, and counts the kept values, after which those of the
 /// initialisation begin.
-pub fn codes_of(
-    passages: &mut Passages,
+pub fn codes_of<'t>(
+    draft: &mut Draft<'t>,
     alloc: Global,
-    spaces: Spaces,
+    orc: &'t TypedOrc,
     locals: PerRate<usize>,
     line: u32,
-    stmts: &[TypedStmt],
+    stmts: &'t [TypedStmt],
 ) -> Result<Codes, OutOfMemory>
-    ensures init { let body = core spaces (typed.block stmts.now) in
+    ensures init { let body = core orc.now.spaces (typed.block (typed.routines orc.now.routines.items) stmts.now) in
         IfOk result (λ c. c.init ≡ init_block_code (frame_for locals body) 0 start body) }
-    ensures perf { let body = core spaces (typed.block stmts.now) in
+    ensures perf { let body = core orc.now.spaces (typed.block (typed.routines orc.now.routines.items) stmts.now) in
         IfOk result (λ c. c.perf ≡ perf_block_code (frame_for locals body) 0 start body) }
     ensures counts { IfOk result (λ c. c.counts
-        ≡ reached (no_registers (past_block start (core spaces
-        (typed.block stmts.now))).unit)
+        ≡ reached (no_registers (past_block start (core orc.now.spaces
+        (typed.block (typed.routines orc.now.routines.items) stmts.now))).unit)
         (λ r. max (ops_limit r c.init) (ops_limit r c.perf))) }
 {
     let locals = narrowed(locals)?;
     let kept = locals.init;
     let bases = Bases {
+        locals: NO_LOCALS,
         kept,
         temporaries: locals,
     };
@@ -83,12 +109,13 @@ pub fn codes_of(
         alloc,
         pass: Pass::Performance,
         bases,
-        spaces,
+        spaces: orc.spaces,
         line,
     };
-    let perf = body_of(passages, context, START, stmts)?;
+    let perf = code_of(draft, context, orc, stmts)?;
     let init = add(kept, perf.next.part)?;
     let bases = Bases {
+        locals: NO_LOCALS,
         kept,
         temporaries: PerRate { init, ..locals },
     };
@@ -96,10 +123,10 @@ pub fn codes_of(
         alloc,
         pass: Pass::Initialisation,
         bases,
-        spaces,
+        spaces: orc.spaces,
         line,
     };
-    let init = body_of(passages, context, START, stmts)?;
+    let init = code_of(draft, context, orc, stmts)?;
     let counts = counts_of(init.next.unit as usize, &init.ops, &perf.ops);
     Ok(Codes {
         init: init.ops,

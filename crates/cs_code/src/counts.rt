@@ -2,8 +2,8 @@
 ghost use Rattle.std.specs.Prelude.{◌≡◌, if◌then◌else◌};
 ghost use Rattle.cs_base.specs.Rates.{same_rate};
 ghost use Rattle.cs_ir.specs.Codes.{flat, ops_of};
-ghost use Rattle.cs_code.specs.inner.Counted.{reached, op_limit};
-ghost use Rattle.cs_code.specs.inner.Limits.{reg_limit, regs_limit, ops_limit};
+ghost use Rattle.cs_code.specs.inner.Counted.{reached};
+ghost use Rattle.cs_ir.specs.Limits.{op_limit, ops_limit, reg_limit, regs_limit};
 
 use cs_base::{PerRate, Rate};
 use cs_ir::{Counts, Op, Reg, SharedOps, Stretch};
@@ -73,11 +73,13 @@ fn with_own(counts: Counts, ops: &[Op]) -> Counts
 fn with_shared(counts: Counts, ops: &SharedOps) -> Counts
     ensures { result ≡ reached counts (λ r. ops_limit r ops.now) }
 {
-    let mut all = counts;
-    for place in 0..ops.len() {
-        all = with_op(all, &ops.op(place));
-    }
-    all
+    let Counts { registers, units } = counts;
+    let registers = PerRate {
+        init: registers.init.max(ops.limit(Rate::Init)),
+        control: registers.control.max(ops.limit(Rate::Control)),
+        audio: registers.audio.max(ops.limit(Rate::Audio)),
+    };
+    Counts { registers, units }
 }
 
 fn with_stretch(counts: Counts, stretch: &Stretch) -> Counts

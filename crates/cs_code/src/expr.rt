@@ -1,15 +1,16 @@
 // The code of expressions, and of what variables take. Each call appends to `ops`.
 ghost use Rattle.std.specs.Prelude.{◌≡◌, ◌+◌, ◌++◌, IfOk, OnOk};
 ghost use Rattle.cs_code.specs.inner.Kept.{past};
-ghost use Rattle.cs_typed.specs.TypedTree.{expression, var};
+ghost use Rattle.cs_typed.specs.TypedTree.{var};
 ghost use Rattle.cs_typed.specs.declared.tree.Var.TheVariants.{Local};
 ghost use Rattle.cs_code.specs.inner.Code.{own, code, operand_code, look_code, keep_code};
 ghost use Rattle.cs_code.specs.inner.Code.{kept_code, set_code};
-ghost use Rattle.cs_code.specs.inner.Emitted.{frame_of, parts_code, parts_past, value_of, when_of};
+ghost use Rattle.cs_code.specs.inner.Emitted.{expression_of, frame_of, parts_code, parts_past, value_of};
+ghost use Rattle.cs_code.specs.inner.Emitted.{variable_of, when_of};
 ghost use Rattle.cs_code.specs.inner.Frames.{spot, kept_reg};
 ghost use Rattle.cs_code.specs.declared.frame.Pass.TheVariants as pass;
 
-use crate::frame::{Context, ValueSpot, add, kept_reg, local, next_of, push, temp};
+use crate::frame::{Bases, Context, ValueSpot, add, kept_reg, local, next_of, push, temp};
 use crate::value::{Value, direct, rate_of};
 use cs_base::{Num, OutOfMemory, Rate};
 use cs_ir::{Act, CodeDraft, Operands, Reg};
@@ -17,12 +18,17 @@ use cs_typed::{TypedExpr, TypedPart, Var};
 use cs_words::BinOp;
 
 // A variable's value into a register.
-fn look(ops: &mut CodeDraft, v: Var, into: Reg) -> Result<(), OutOfMemory>
-    ensures { OnOk result (ops.new ≡ ops.old ++ look_code v into) }
+fn look(ops: &mut CodeDraft, bases: Bases, v: Var, into: Reg) -> Result<(), OutOfMemory>
+    ensures { OnOk result (ops.new ≡ ops.old ++ look_code (variable_of bases v) into) }
 {
     match v {
         Var::Local(rate, index) => {
-            push(ops, Act::Copy, into, Operands::one(local(rate, index)?))
+            push(
+                ops,
+                Act::Copy,
+                into,
+                Operands::one(local(bases, rate, index)?),
+            )
         }
         Var::Global(res) => push(ops, Act::Load(res), into, Operands::none()),
     }
@@ -40,8 +46,8 @@ fn own(
     d: u32,
 ) -> Result<u32, OutOfMemory>
     ensures ops { OnOk result (ops.new ≡ ops.old
-        ++ own (frame_of context.bases) (when_of context.pass) at (expression e.now) into d) }
-    ensures next { IfOk result (λ n. n ≡ past at (expression e.now)) }
+        ++ own (frame_of context.bases) (when_of context.pass) at (expression_of context.bases e.now) into d) }
+    ensures next { IfOk result (λ n. n ≡ past at (expression_of context.bases e.now)) }
 {
     match &e.what {
         TypedPart::Number(value) => {
@@ -49,7 +55,7 @@ fn own(
             next_of(e.rate, at, at)
         }
         TypedPart::Var(v) => {
-            look(ops, *v, into)?;
+            look(ops, context.bases, *v, into)?;
             next_of(e.rate, at, at)
         }
         TypedPart::Field(field) => {
@@ -89,7 +95,7 @@ fn own(
 
 /// Returns the register that holds `e`, and emits code into temporary `d` of its rate where `e` isn't in one already.
 #[cycle(expr)]
-#[tactic(auto, using(crate::proofs::Nodes::rate_of_part, crate::proofs::Nodes::nodes))]
+#[tactic(auto, using(crate::proofs::Nodes::rate_of_moved, crate::proofs::Nodes::nodes))]
 pub fn operand(
     ops: &mut CodeDraft,
     context: Context,
@@ -98,10 +104,10 @@ pub fn operand(
     d: u32,
 ) -> Result<ValueSpot, OutOfMemory>
     ensures ops { OnOk result (ops.new ≡ ops.old
-        ++ operand_code (frame_of context.bases) (when_of context.pass) at (expression e.now) d) }
+        ++ operand_code (frame_of context.bases) (when_of context.pass) at (expression_of context.bases e.now) d) }
     ensures spot { IfOk result (λ s. s.reg
-        ≡ spot (frame_of context.bases) (when_of context.pass) at (expression e.now) d) }
-    ensures next { IfOk result (λ s. s.next ≡ past at (expression e.now)) }
+        ≡ spot (frame_of context.bases) (when_of context.pass) at (expression_of context.bases e.now) d) }
+    ensures next { IfOk result (λ s. s.next ≡ past at (expression_of context.bases e.now)) }
 {
     match direct(context, at, &Value::Of(e))? {
         Some(reg) => Ok(ValueSpot {
@@ -116,6 +122,18 @@ pub fn operand(
     }
 }
 
+/// The register that holds `e` once its code has run.
+#[tactic(auto, using(crate::proofs::Nodes::rate_of_moved, crate::proofs::Nodes::nodes))]
+pub fn operand_reg(context: Context, at: u32, e: &TypedExpr, d: u32) -> Result<Reg, OutOfMemory>
+    ensures { IfOk result (λ q. q
+        ≡ spot (frame_of context.bases) (when_of context.pass) at (expression_of context.bases e.now) d) }
+{
+    match direct(context, at, &Value::Of(e))? {
+        Some(reg) => Ok(reg),
+        None => temp(context.bases, e.rate, d),
+    }
+}
+
 // What makes a variable's value stand somewhere.
 #[tactic(auto, using(crate::proofs::Nodes::nodes))]
 fn variable(
@@ -127,17 +145,17 @@ fn variable(
     d: u32,
 ) -> Result<ValueSpot, OutOfMemory>
     ensures ops { OnOk result (ops.new ≡ ops.old
-        ++ operand_code (frame_of context.bases) (when_of context.pass) at (var rate v) d) }
+        ++ operand_code (frame_of context.bases) (when_of context.pass) at (var rate (variable_of context.bases v)) d) }
     ensures spot { IfOk result (λ s. s.reg
-        ≡ spot (frame_of context.bases) (when_of context.pass) at (var rate v) d) }
-    ensures next { IfOk result (λ s. s.next ≡ past at (var rate v)) }
+        ≡ spot (frame_of context.bases) (when_of context.pass) at (var rate (variable_of context.bases v)) d) }
+    ensures next { IfOk result (λ s. s.next ≡ past at (var rate (variable_of context.bases v))) }
 {
     let next = next_of(rate, at, at)?;
     match direct(context, at, &Value::Read(rate, v))? {
         Some(reg) => Ok(ValueSpot { reg, next }),
         None => {
             let reg = temp(context.bases, rate, d)?;
-            look(ops, v, reg)?;
+            look(ops, context.bases, v, reg)?;
             Ok(ValueSpot { reg, next })
         }
     }
@@ -153,13 +171,13 @@ fn made(
     d: u32,
 ) -> Result<u32, OutOfMemory>
     ensures ops { OnOk result (ops.new ≡ ops.old
-        ++ own (frame_of context.bases) (when_of context.pass) at (value_of value.now) into d) }
-    ensures next { IfOk result (λ n. n ≡ past at (value_of value.now)) }
+        ++ own (frame_of context.bases) (when_of context.pass) at (value_of context.bases value.now) into d) }
+    ensures next { IfOk result (λ n. n ≡ past at (value_of context.bases value.now)) }
 {
     match value {
         Value::Of(e) => own(ops, context, at, e, into, d),
         Value::Read(rate, v) => {
-            look(ops, *v, into)?;
+            look(ops, context.bases, *v, into)?;
             next_of(*rate, at, at)
         }
         Value::Mixed(v, e) => {
@@ -189,10 +207,10 @@ pub fn spot_of(
     value: &Value<'_>,
 ) -> Result<ValueSpot, OutOfMemory>
     ensures ops { OnOk result (ops.new ≡ ops.old
-        ++ operand_code (frame_of context.bases) (when_of context.pass) at (value_of value.now) 0) }
+        ++ operand_code (frame_of context.bases) (when_of context.pass) at (value_of context.bases value.now) 0) }
     ensures spot { IfOk result (λ s. s.reg
-        ≡ spot (frame_of context.bases) (when_of context.pass) at (value_of value.now) 0) }
-    ensures next { IfOk result (λ s. s.next ≡ past at (value_of value.now)) }
+        ≡ spot (frame_of context.bases) (when_of context.pass) at (value_of context.bases value.now) 0) }
+    ensures next { IfOk result (λ s. s.next ≡ past at (value_of context.bases value.now)) }
 {
     match direct(context, at, value)? {
         Some(reg) => Ok(ValueSpot {
@@ -217,8 +235,8 @@ pub fn code(
     into: Reg,
 ) -> Result<u32, OutOfMemory>
     ensures ops { OnOk result (ops.new ≡ ops.old
-        ++ code (frame_of context.bases) (when_of context.pass) at (value_of value.now) into 0) }
-    ensures next { IfOk result (λ n. n ≡ past at (value_of value.now)) }
+        ++ code (frame_of context.bases) (when_of context.pass) at (value_of context.bases value.now) into 0) }
+    ensures next { IfOk result (λ n. n ≡ past at (value_of context.bases value.now)) }
 {
     match direct(context, at, value)? {
         Some(reg) => {
@@ -238,7 +256,7 @@ fn kept(
 ) -> Result<u32, OutOfMemory>
     requires { context.pass ≡ pass.Initialisation }
     ensures ops { OnOk result (ops.new ≡ ops.old
-        ++ kept_code (frame_of context.bases) at (value_of value.now)) }
+        ++ kept_code (frame_of context.bases) at (value_of context.bases value.now)) }
     ensures next { IfOk result (λ n. n ≡ at + 1) }
 {
     code(ops, context, 0, value, kept_reg(context.bases, at)?)?;
@@ -256,8 +274,8 @@ pub fn keep(
 ) -> Result<u32, OutOfMemory>
     requires { context.pass ≡ pass.Initialisation }
     ensures ops { OnOk result (ops.new ≡ ops.old
-        ++ keep_code (frame_of context.bases) at (expression e.now)) }
-    ensures next { IfOk result (λ n. n ≡ past at (expression e.now)) }
+        ++ keep_code (frame_of context.bases) at (expression_of context.bases e.now)) }
+    ensures next { IfOk result (λ n. n ≡ past at (expression_of context.bases e.now)) }
 {
     match e.rate {
         Rate::Init => kept(ops, context, at, &Value::Of(e)),
@@ -275,8 +293,8 @@ fn keep_parts(
 ) -> Result<u32, OutOfMemory>
     requires { context.pass ≡ pass.Initialisation }
     ensures ops { OnOk result (ops.new ≡ ops.old
-        ++ parts_code (frame_of context.bases) at (expression e.now)) }
-    ensures next { IfOk result (λ n. n ≡ parts_past at (expression e.now)) }
+        ++ parts_code (frame_of context.bases) at (expression_of context.bases e.now)) }
+    ensures next { IfOk result (λ n. n ≡ parts_past at (expression_of context.bases e.now)) }
 {
     match &e.what {
         TypedPart::Number(_) | TypedPart::Var(_) | TypedPart::Field(_) | TypedPart::Head(_) => {
@@ -304,8 +322,8 @@ pub fn keep_value(
 ) -> Result<u32, OutOfMemory>
     requires { context.pass ≡ pass.Initialisation }
     ensures ops { OnOk result (ops.new ≡ ops.old
-        ++ keep_code (frame_of context.bases) at (value_of value.now)) }
-    ensures next { IfOk result (λ n. n ≡ past at (value_of value.now)) }
+        ++ keep_code (frame_of context.bases) at (value_of context.bases value.now)) }
+    ensures next { IfOk result (λ n. n ≡ past at (value_of context.bases value.now)) }
 {
     match value {
         Value::Of(e) => keep(ops, context, at, e),
@@ -324,11 +342,15 @@ pub fn set(
     value: &Value<'_>,
 ) -> Result<u32, OutOfMemory>
     ensures ops { OnOk result (ops.new ≡ ops.old
-        ++ set_code (frame_of context.bases) (when_of context.pass) at to (value_of value.now)) }
-    ensures next { IfOk result (λ n. n ≡ past at (value_of value.now)) }
+        ++ set_code (frame_of context.bases) (when_of context.pass) at (variable_of context.bases to)
+        (value_of context.bases value.now)) }
+    ensures next { IfOk result (λ n. n ≡ past at (value_of context.bases value.now)) }
 {
     match to {
-        Var::Local(own, index) => set_local(ops, context, at, local(own, index)?, value),
+        Var::Local(own, index) => {
+            let to = local(context.bases, own, index)?;
+            set_local(ops, context, at, to, value)
+        }
         Var::Global(res) => {
             let spot = spot_of(ops, context, at, value)?;
             push(ops, Act::Save(res), spot.reg, Operands::one(spot.reg))?;
@@ -345,8 +367,9 @@ fn set_local(
     value: &Value<'_>,
 ) -> Result<u32, OutOfMemory>
     ensures ops { OnOk result (ops.new ≡ ops.old
-        ++ set_code (frame_of context.bases) (when_of context.pass) at (Local to.rate to.index) (value_of value.now)) }
-    ensures next { IfOk result (λ n. n ≡ past at (value_of value.now)) }
+        ++ set_code (frame_of context.bases) (when_of context.pass) at (Local to.rate to.index)
+        (value_of context.bases value.now)) }
+    ensures next { IfOk result (λ n. n ≡ past at (value_of context.bases value.now)) }
 {
     if rate_of(value).same(to.rate) {
         code(ops, context, at, value, to)

@@ -1,5 +1,6 @@
 // Where a note's values stand among the registers, and the ops that are appended.
 ghost use Rattle.std.specs.Prelude.{◌≡◌, ◌+◌, ◌++◌, [], ◌∷◌, IfOk, OnOk, Some};
+ghost use Rattle.cs_base.specs.Rates.{at_rate};
 ghost use Rattle.cs_ir.specs.Waves.{if_init};
 ghost use Rattle.cs_meaning.specs.Notes.{reg};
 ghost use Rattle.cs_code.specs.inner.Emitted.{frame_of};
@@ -13,6 +14,8 @@ use std::alloc::Global;
 /// temporaries.
 #[derive(Clone, Copy)]
 pub struct Bases {
+    /// The registers of the first local variables of the routine at hand, by rate.
+    pub locals: PerRate<u32>,
     /// The register of the first kept value.
     pub kept: u32,
     /// The first temporary of each rate.
@@ -74,12 +77,12 @@ pub fn narrow(number: usize) -> Result<u32, OutOfMemory>
 }
 
 /// The register of a local variable.
-pub fn local(rate: Rate, index: usize) -> Result<Reg, OutOfMemory>
-    ensures { IfOk result (λ q. q ≡ reg rate index) }
+pub fn local(bases: Bases, rate: Rate, index: usize) -> Result<Reg, OutOfMemory>
+    ensures { IfOk result (λ q. q ≡ reg rate (at_rate bases.locals rate + index)) }
 {
     Ok(Reg {
         rate,
-        index: narrow(index)?,
+        index: add(bases.locals.of(rate), narrow(index)?)?,
     })
 }
 

@@ -2,10 +2,10 @@
 ghost use Rattle.std.specs.Prelude.{◌≡◌, length};
 ghost use Rattle.cs_code.specs.inner.Branches.{aim_all};
 
-use cs_ir::CodeDraft;
+use crate::draft::Draft;
 
 /// Lets the jumps at some places go to the end of the ops.
-pub fn aim_all(ops: &mut CodeDraft, places: &[usize])
+pub fn aim_all(ops: &mut Draft<'_>, places: &[usize])
     ensures { ops.new ≡ aim_all places.now (length ops.old) ops.old }
 {
     let end = ops.len();

@@ -13,8 +13,9 @@ ghost use Rattle.cs_code.specs.Lowered.{all_numbers, numbered_with, bodies};
 ghost use Rattle.cs_code.specs.inner.Rated.{IsRatedSomewhere};
 
 use crate::codes::{Codes, codes_of};
-use cs_base::{OutOfMemory, PerRate, Spaces};
-use cs_ir::{Body, Code, Instrument, Instruments, Passages, ValidCode};
+use crate::draft::Draft;
+use cs_base::{OutOfMemory, PerRate};
+use cs_ir::{Body, Code, Instrument, Instruments, ValidCode};
 use cs_typed::{TypedInstr, TypedOrc, TypedStmt};
 use std::alloc::Global;
 use std::sync::Arc;
@@ -34,7 +35,7 @@ pub fn lower(alloc: Global, orc: &TypedOrc) -> Result<Lowered, OutOfMemory>
     requires distinct { IsDistinct eqb (all_numbers (typed.orchestra orc.now).instrs) }
     ensures number { IfOk result (λ l. l.zero.number ≡ 0) }
     ensures zero { IfOk result (λ l. IsCodeOf (typed.orchestra orc.now).spaces orc.now.head.nchnls
-        (typed.block orc.now.zero.items) l.zero.init l.zero.perf) }
+        (typed.block (typed.routines orc.now.routines.items) orc.now.zero.items) l.zero.init l.zero.perf) }
     ensures instruments { IfOk result (λ l. AreInstrumentsOf (typed.orchestra orc.now) l.instruments) }
 {
     let zero = zero_of(alloc, orc)?;
@@ -47,17 +48,10 @@ fn zero_of(alloc: Global, orc: &TypedOrc) -> Result<Instrument, OutOfMemory>
     requires rated { IsWellRated (typed.orchestra orc.now) }
     ensures number { IfOk result (λ i. i.number ≡ 0) }
     ensures code { IfOk result (λ i. IsCodeOf orc.now.spaces orc.now.head.nchnls
-        (typed.block orc.now.zero.items) i.init i.perf) }
+        (typed.block (typed.routines orc.now.routines.items) orc.now.zero.items) i.init i.perf) }
 {
-    let mut passages = Passages::new(alloc);
-    let body = body_of(
-        &mut passages,
-        alloc,
-        orc.spaces,
-        orc.zero_locals,
-        0,
-        &orc.zero,
-    )?;
+    let mut draft = Draft::new(alloc);
+    let body = body_of(&mut draft, alloc, orc, orc.zero_locals, 0, &orc.zero)?;
     Instrument::new(0, &body)
 }
 
@@ -78,37 +72,32 @@ fn in_text(alloc: Global, orc: &TypedOrc) -> Result<Vec<Instrument>, OutOfMemory
         (bodies (typed.orchestra orc.now).instrs) v.items) }
 {
     let mut list = Vec::new(alloc);
-    let mut passages = Passages::new(alloc);
+    let mut draft = Draft::new(alloc);
     for instr in &orc.instrs {
-        add_instr(&mut passages, alloc, orc.spaces, instr, &mut list)?;
+        add_instr(&mut draft, alloc, orc, instr, &mut list)?;
     }
     Ok(list)
 }
 
 // An instrument more, under each of its numbers.
-fn add_instr(
-    passages: &mut Passages,
+fn add_instr<'t>(
+    draft: &mut Draft<'t>,
     alloc: Global,
-    spaces: Spaces,
-    instr: &TypedInstr,
+    orc: &'t TypedOrc,
+    instr: &'t TypedInstr,
     list: &mut Vec<Instrument>,
 ) -> Result<(), OutOfMemory>
-    requires rated { IsRatedSomewhere (typed.instrument instr.now).body }
-    requires counted { EachInBlock (IsCounted instr.now.locals) (typed.instrument instr.now).body }
+    requires rated { IsRatedSomewhere (typed.instrument (typed.routines orc.now.routines.items) instr.now).body }
+    requires counted { EachInBlock (IsCounted instr.now.locals) (typed.instrument
+        (typed.routines orc.now.routines.items) instr.now).body }
     ensures { OnOk result ((channels : ℕ) (ps : List (ℕ × typed.Block))
-        → IsRatedBlock (inside channels) (typed.instrument instr.now).body
-        → AllZip (IsNumberedCode spaces channels) ps list.old.items
-        → AllZip (IsNumberedCode spaces channels)
-        (ps ++ numbered_with (typed.instrument instr.now).body instr.now.numbers) list.new.items) }
+        → IsRatedBlock (inside channels) (typed.instrument (typed.routines orc.now.routines.items) instr.now).body
+        → AllZip (IsNumberedCode orc.now.spaces channels) ps list.old.items
+        → AllZip (IsNumberedCode orc.now.spaces channels)
+        (ps ++ numbered_with (typed.instrument
+        (typed.routines orc.now.routines.items) instr.now).body instr.now.numbers) list.new.items) }
 {
-    let body = body_of(
-        passages,
-        alloc,
-        spaces,
-        instr.locals,
-        instr.line,
-        &instr.body,
-    )?;
+    let body = body_of(draft, alloc, orc, instr.locals, instr.line, &instr.body)?;
     add_numbers(&body, instr.numbers.as_slice(), list)
 }
 
@@ -131,20 +120,22 @@ fn add_numbers(
 }
 
 // The codes of a block, where all its numbers find them.
-fn body_of(
-    passages: &mut Passages,
+fn body_of<'t>(
+    draft: &mut Draft<'t>,
     alloc: Global,
-    spaces: Spaces,
+    orc: &'t TypedOrc,
     locals: PerRate<usize>,
     line: u32,
-    stmts: &[TypedStmt],
+    stmts: &'t [TypedStmt],
 ) -> Result<Arc<Body, Global>, OutOfMemory>
-    requires rated { IsRatedSomewhere (typed.block stmts.now) }
-    requires counted { EachInBlock (IsCounted locals) (typed.block stmts.now) }
-    ensures { IfOk result (λ b. (s : Setting) → IsRatedBlock s (typed.block stmts.now)
-        → IsCodeOf spaces s.channels (typed.block stmts.now) b.value.init b.value.perf) }
+    requires rated { IsRatedSomewhere (typed.block (typed.routines orc.now.routines.items) stmts.now) }
+    requires counted { EachInBlock (IsCounted locals) (typed.block (typed.routines orc.now.routines.items) stmts.now) }
+    ensures { IfOk result (λ b. (s : Setting) → IsRatedBlock s (typed.block
+        (typed.routines orc.now.routines.items) stmts.now)
+        → IsCodeOf orc.now.spaces s.channels (typed.block
+        (typed.routines orc.now.routines.items) stmts.now) b.value.init b.value.perf) }
 {
-    let codes = codes_of(passages, alloc, spaces, locals, line, stmts)?;
+    let codes = codes_of(draft, alloc, orc, locals, line, stmts)?;
     Ok(Arc::new(alloc, valid_body(codes))?)
 }
 

@@ -2,7 +2,7 @@
 ghost use Rattle.std.specs.Prelude.{◌≡◌, ◌+◌, ◌++◌, [], IfOk, OnOk};
 ghost use Rattle.cs_code.specs.inner.Kept.{past_all};
 ghost use Rattle.cs_code.specs.inner.Code.{run_code, target, given_code};
-ghost use Rattle.cs_code.specs.inner.Emitted.{frame_of, expressions_of, when_of};
+ghost use Rattle.cs_code.specs.inner.Emitted.{frame_of, expressions_of, variables_of, when_of};
 
 use crate::args::{Call, push_on};
 use crate::frame::{Bases, Context, local, push, temp};
@@ -12,12 +12,12 @@ use cs_typed::{TypedExpr, Var};
 
 // Where a result goes.
 fn target(bases: Bases, rate: Rate, results: &[Var]) -> Result<Reg, OutOfMemory>
-    ensures { IfOk result (λ q. q ≡ target (frame_of bases) rate results.now) }
+    ensures { IfOk result (λ q. q ≡ target (frame_of bases) rate (variables_of bases results.now)) }
 {
     match results {
         [Var::Local(own, index), ..] => {
             if own.same(rate) {
-                local(*own, *index)
+                local(bases, *own, *index)
             } else {
                 temp(bases, rate, 0)
             }
@@ -29,7 +29,7 @@ fn target(bases: Bases, rate: Rate, results: &[Var]) -> Result<Reg, OutOfMemory>
 // What is left to do once a result is there.
 fn give(ops: &mut CodeDraft, bases: Bases, rate: Rate, results: &[Var]) -> Result<(), OutOfMemory>
     ensures { OnOk result (ops.new ≡ ops.old
-        ++ given_code (frame_of bases) rate results.now) }
+        ++ given_code (frame_of bases) rate (variables_of bases results.now)) }
 {
     match results {
         [] => Ok(()),
@@ -37,7 +37,7 @@ fn give(ops: &mut CodeDraft, bases: Bases, rate: Rate, results: &[Var]) -> Resul
             if own.same(rate) {
                 Ok(())
             } else {
-                let into = local(*own, *index)?;
+                let into = local(bases, *own, *index)?;
                 push(ops, Act::Copy, into, Operands::one(temp(bases, rate, 0)?))
             }
         }
@@ -60,8 +60,8 @@ pub fn run(
 ) -> Result<u32, OutOfMemory>
     ensures ops { OnOk result (ops.new ≡ ops.old
         ++ run_code (frame_of context.bases) (when_of context.pass) at act call.now.rate
-        call.now.results.now (expressions_of values.now)) }
-    ensures next { IfOk result (λ n. n ≡ past_all at (expressions_of values.now)) }
+        (variables_of context.bases call.now.results.now) (expressions_of context.bases values.now)) }
+    ensures next { IfOk result (λ n. n ≡ past_all at (expressions_of context.bases values.now)) }
 {
     let into = target(context.bases, call.rate, call.results)?;
     let next = push_on(ops, context, at, act, into, values)?;

@@ -8,7 +8,7 @@ ghost use Rattle.cs_code.specs.inner.Kept.{start, past_stmt};
 ghost use Rattle.cs_code.specs.inner.Code.{start_code, seek_code, out_ops, out_at_ops};
 ghost use Rattle.cs_code.specs.declared.frame.Pass.TheVariants as pass;
 ghost use Rattle.cs_code.specs.inner.Emitted.{frame_of, pass_code, expressions_of};
-ghost use Rattle.cs_code.specs.inner.Emitted.{assignment_of, set_of, sent_as, sent_ops};
+ghost use Rattle.cs_code.specs.inner.Emitted.{assignment_of, set_of, sent_as, sent_ops, variables_of};
 
 use crate::args::{Call, Parted, keep_all, operands, push_on};
 use crate::expr::{keep_value, set};
@@ -45,8 +45,8 @@ pub fn assign(
     it: &Assignment<'_>,
 ) -> Result<Progress, OutOfMemory>
     ensures ops { OnOk result (ops.new ≡ ops.old
-        ++ pass_code context.pass (frame_of context.bases) 0 p (set_of (assignment_of it.now))) }
-    ensures next { IfOk result (λ q. q ≡ past_stmt p (set_of (assignment_of it.now))) }
+        ++ pass_code context.pass (frame_of context.bases) 0 p (set_of (assignment_of context.bases it.now))) }
+    ensures next { IfOk result (λ q. q ≡ past_stmt p (set_of (assignment_of context.bases it.now))) }
 {
     match (context.pass, it.done) {
         (Pass::Initialisation, Rate::Init) => {
@@ -75,11 +75,14 @@ pub fn unit(
     values: &Parted<'_>,
 ) -> Result<Progress, OutOfMemory>
     ensures ops { OnOk result (ops.new ≡ ops.old
-        ++ pass_code context.pass (frame_of context.bases) 0 p (unit call.now.rate call.now.results.now
-        call.now.opcode reach (expressions_of values.now.moving.items) (expressions_of values.now.settled.items))) }
+        ++ pass_code context.pass (frame_of context.bases) 0 p (unit call.now.rate
+        (variables_of context.bases call.now.results.now)
+        call.now.opcode reach (expressions_of context.bases values.now.moving.items)
+        (expressions_of context.bases values.now.settled.items))) }
     ensures next { IfOk result (λ q. q
-        ≡ past_stmt p (unit call.now.rate call.now.results.now call.now.opcode reach
-        (expressions_of values.now.moving.items) (expressions_of values.now.settled.items))) }
+        ≡ past_stmt p (unit call.now.rate (variables_of context.bases call.now.results.now) call.now.opcode reach
+        (expressions_of context.bases values.now.moving.items)
+        (expressions_of context.bases values.now.settled.items))) }
 {
     let unit = add(p.unit, 1)?;
     let act = Act::Unit(call.opcode, p.unit, reach);
@@ -112,7 +115,8 @@ fn start(
 ) -> Result<(), OutOfMemory>
     requires { context.pass ≡ pass.Initialisation }
     ensures { OnOk result (ops.new ≡ ops.old
-        ++ start_code (frame_of context.bases) call.now.rate call.now.opcode unit (expressions_of settled.now)) }
+        ++ start_code (frame_of context.bases) call.now.rate call.now.opcode unit
+        (expressions_of context.bases settled.now)) }
 {
     let act = Act::Start(call.opcode, unit);
     push_on(ops, context, 0, act, unwritten(call.rate), settled)?;
@@ -136,10 +140,12 @@ pub fn zak(
     values: &[&TypedExpr],
 ) -> Result<Progress, OutOfMemory>
     ensures ops { OnOk result (ops.new ≡ ops.old
-        ++ pass_code context.pass (frame_of context.bases) 0 p (zak call.now.rate call.now.results.now
-        call.now.opcode reach (expressions_of values.now))) }
-    ensures next { IfOk result (λ q. q ≡ past_stmt p (zak call.now.rate call.now.results.now
-        call.now.opcode reach (expressions_of values.now))) }
+        ++ pass_code context.pass (frame_of context.bases) 0 p (zak call.now.rate
+        (variables_of context.bases call.now.results.now)
+        call.now.opcode reach (expressions_of context.bases values.now))) }
+    ensures next { IfOk result (λ q. q ≡ past_stmt p (zak call.now.rate
+        (variables_of context.bases call.now.results.now)
+        call.now.opcode reach (expressions_of context.bases values.now))) }
 {
     let act = Act::Zak(call.opcode, reach);
     match (context.pass, call.rate) {
@@ -170,9 +176,11 @@ pub fn store(
 ) -> Result<Progress, OutOfMemory>
     ensures ops { OnOk result (ops.new ≡ ops.old
         ++ pass_code context.pass (frame_of context.bases) 0 p (store rate
-        (table_reach (expressions_of settled.now)) (expressions_of values.now) (expressions_of settled.now))) }
+        (table_reach (expressions_of context.bases settled.now)) (expressions_of context.bases values.now)
+        (expressions_of context.bases settled.now))) }
     ensures next { IfOk result (λ q. q ≡ past_stmt p (store rate
-        (table_reach (expressions_of settled.now)) (expressions_of values.now) (expressions_of settled.now))) }
+        (table_reach (expressions_of context.bases settled.now)) (expressions_of context.bases values.now)
+        (expressions_of context.bases settled.now))) }
 {
     let act = Act::Store(table_reach(settled));
     let into = unwritten(rate);
@@ -199,7 +207,7 @@ pub fn store(
 fn seek(ops: &mut CodeDraft, context: Context, settled: &[&TypedExpr]) -> Result<(), OutOfMemory>
     requires { context.pass ≡ pass.Initialisation }
     ensures { OnOk result (ops.new ≡ ops.old ++ seek_code (frame_of context.bases)
-        (expressions_of settled.now)) }
+        (expressions_of context.bases settled.now)) }
 {
     push_on(ops, context, 0, Act::Seek, unwritten(Rate::Init), settled)?;
     Ok(())
@@ -254,9 +262,9 @@ pub fn send(
 ) -> Result<Progress, OutOfMemory>
     ensures ops { OnOk result (ops.new ≡ ops.old
         ++ pass_code context.pass (frame_of context.bases) 0 p
-        (sent_as sending rate.Audio (expressions_of values.now))) }
+        (sent_as sending rate.Audio (expressions_of context.bases values.now))) }
     ensures next { IfOk result (λ q. q
-        ≡ past_stmt p (sent_as sending rate.Audio (expressions_of values.now))) }
+        ≡ past_stmt p (sent_as sending rate.Audio (expressions_of context.bases values.now))) }
 {
     match context.pass {
         Pass::Initialisation => {
@@ -277,7 +285,7 @@ pub fn send(
 /// Asks for a note, as the note begins.
 pub fn ask(ops: &mut CodeDraft, context: Context, values: &[&TypedExpr]) -> Result<(), OutOfMemory>
     ensures { OnOk result (ops.new ≡ ops.old
-        ++ pass_code context.pass (frame_of context.bases) 0 start (ask (expressions_of values.now))) }
+        ++ pass_code context.pass (frame_of context.bases) 0 start (ask (expressions_of context.bases values.now))) }
 {
     match context.pass {
         Pass::Initialisation => {

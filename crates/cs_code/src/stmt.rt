@@ -1,30 +1,25 @@
 // The code of statements, blocks and arms, for either pass. Each call appends to `ops`, in which each
-// op stands at its place from the first on. What a statement of an opcode's definition makes is kept once for all
-// calls of the opcode, but for where registers and units begin.
+// op stands at its place from the first on.
 ghost use Rattle.std.specs.Prelude.{◌≡◌, ◌++◌, ◌∷◌, [], length, IfOk, OnOk};
-ghost use Rattle.cs_meaning.specs.Core.{core, core_stmt, core_arms};
-ghost use Rattle.cs_code.specs.inner.Kept.{past, past_parts, past_stmt, past_block, past_arms};
+ghost use Rattle.cs_code.specs.inner.Kept.{past, past_block, past_arms};
 ghost use Rattle.cs_typed.specs.TypedTree as typed;
-ghost use Rattle.cs_typed.specs.declared.tree.TypedArm.{out-TypedArm};
 ghost use Rattle.cs_code.specs.inner.Code.{all_code, init_block_code};
-ghost use Rattle.cs_code.specs.inner.Emitted.{frame_of, pass_code};
-ghost use Rattle.cs_code.specs.inner.Emitted.{pass_block_code, cond_code, cond_reg};
+ghost use Rattle.cs_code.specs.inner.Emitted.{frame_of, pass_block_code, cond_code, cond_reg, expression_of};
+ghost use Rattle.cs_code.specs.inner.Emitted.{scope_of, block_in, statement_in, arms_in, core_in, routine_in, invoked};
 ghost use Rattle.cs_code.specs.inner.Emitted.{each_arm_code, takes_all};
 ghost use Rattle.cs_code.specs.inner.Branches.{joined, opened, jump_at, jumps, branch_of};
-ghost use Rattle.cs_code.specs.inner.Branches.{branches, past_arm, past_list};
+ghost use Rattle.cs_code.specs.inner.Branches.{branches, past_arm, past_list, condition_of, body_of};
 ghost use Rattle.cs_code.specs.declared.frame.Pass.TheVariants as pass;
 
 use crate::args::Call;
-use crate::call::call;
-use crate::expr::{keep, operand};
-use crate::frame::{Context, Pass, Progress, ValueSpot, kept_reg, push};
+use crate::draft::{Draft, push};
+use crate::frame::{Bases, Context, Pass, Progress, ValueSpot, add, narrow};
 use crate::jumps::aim_all;
-use crate::simple::{Assignment, assign};
-use crate::value::Value;
+use crate::placed::{placed, tested_reg};
+use crate::subject::Subject;
 use cs_base::{OutOfMemory, PerRate, Rate};
-use cs_ir::{Act, CodeDraft, DraftedCode, Operands, Ops, Origin, Passages};
-use cs_typed::{TypedArm, TypedExpr, TypedStmt, TypedWhat};
-use std::mem;
+use cs_ir::{Act, Operands, Ops};
+use cs_typed::{TypedArm, TypedExpr, TypedStmt, TypedStmts, TypedWhat};
 
 /// The code of statements, and what was met before its end.
 #[derive(Drop)]
@@ -33,148 +28,149 @@ pub struct BodyCode {
     pub next: Progress,
 }
 
-/// The code of the statements of a note. Takes passages that were noted before, and leaves these and its own.
-pub fn body_of(
-    passages: &mut Passages,
+// What arms stand in: the routines that they may invoke, and the line of their `if`.
+#[derive(Clone, Copy)]
+struct Within<'t> {
+    routines: &'t [TypedStmts],
+    line: u32,
+}
+
+/// The code of the statements of a note, in place of the one that was made before it.
+pub fn body_of<'t>(
+    ops: &mut Draft<'t>,
     context: Context,
+    routines: &'t [TypedStmts],
     p: Progress,
-    stmts: &[TypedStmt],
+    stmts: &'t [TypedStmt],
 ) -> Result<BodyCode, OutOfMemory>
     ensures ops { IfOk result (λ m. m.ops ≡ pass_block_code context.pass (frame_of context.bases) 0
-        p (core context.spaces (typed.block stmts.now))) }
+        p (block_in (scope_of context.spaces context.bases routines.now) stmts.now)) }
     ensures next { IfOk result (λ m. m.next
-        ≡ past_block p (core context.spaces (typed.block stmts.now))) }
+        ≡ past_block p (block_in (scope_of context.spaces context.bases routines.now) stmts.now)) }
 {
-    let noted = mem::replace(passages, Passages::new(context.alloc));
-    let mut ops = CodeDraft::new(context.alloc, noted);
-    let next = block(&mut ops, context, p, stmts)?;
-    let drafted = ops.end()?;
-    let DraftedCode {
-        ops,
-        passages: noted,
-    } = drafted;
-    *passages = noted;
-    Ok(BodyCode { ops, next })
+    ops.begin();
+    let next = block(ops, context, routines, p, stmts)?;
+    Ok(BodyCode {
+        ops: ops.end()?,
+        next,
+    })
 }
 
 /// The code of the statements of a block. Returns what was met before its end.
 #[cycle(stmt)]
 #[tactic(auto, using(crate::proofs::Chains::block_none, crate::proofs::Lists::append_nothing))]
-pub fn block(
-    ops: &mut CodeDraft,
+pub fn block<'t>(
+    ops: &mut Draft<'t>,
     context: Context,
+    routines: &'t [TypedStmts],
     p: Progress,
-    stmts: &[TypedStmt],
+    stmts: &'t [TypedStmt],
 ) -> Result<Progress, OutOfMemory>
     ensures ops { OnOk result (ops.new ≡ ops.old
         ++ pass_block_code context.pass (frame_of context.bases) (length ops.old) p
-        (core context.spaces (typed.block stmts.now))) }
+        (block_in (scope_of context.spaces context.bases routines.now) stmts.now)) }
     ensures next { IfOk result (λ q. q
-        ≡ past_block p (core context.spaces (typed.block stmts.now))) }
+        ≡ past_block p (block_in (scope_of context.spaces context.bases routines.now) stmts.now)) }
 {
     let mut next = p;
     for s in stmts {
-        let from = ops.len();
-        let begin = next;
-        next = stmt(ops, context, begin, s)?;
-        share_stmt(ops, context, begin, from, s)?;
+        next = stmt(ops, context, routines, next, s)?;
     }
     Ok(next)
-}
-
-// Keeps the ops from a place on, those of a line, as a passage where the line stands in the definition of an opcode.
-fn share(
-    ops: &mut CodeDraft,
-    context: Context,
-    begin: Progress,
-    from: usize,
-    line: u32,
-) -> Result<(), OutOfMemory>
-    ensures { OnOk result (ops.new ≡ ops.old) }
-{
-    if context.line <= line {
-        return Ok(());
-    }
-    let temporaries = match context.pass {
-        Pass::Initialisation => context.bases.temporaries,
-        Pass::Performance => PerRate {
-            init: u32::MAX,
-            ..context.bases.temporaries
-        },
-    };
-    let origin = Origin {
-        kept: context.bases.kept,
-        part: begin.part,
-        temporaries,
-        unit: begin.unit,
-    };
-    ops.share(from, line, &origin)
-}
-
-// The same of a statement's ops; those of an `if` part by part, as they are made.
-fn share_stmt(
-    ops: &mut CodeDraft,
-    context: Context,
-    begin: Progress,
-    from: usize,
-    s: &TypedStmt,
-) -> Result<(), OutOfMemory>
-    ensures { OnOk result (ops.new ≡ ops.old) }
-{
-    match &s.what {
-        TypedWhat::Set(_, _) | TypedWhat::Call(_, _, _) => {
-            share(ops, context, begin, from, s.line)
-        }
-        TypedWhat::Choose(_, _) => Ok(()),
-    }
 }
 
 /// The code of a statement. Returns what was met before its end.
 #[cycle(stmt)]
 #[tactic(auto, using(crate::proofs::Calls::at_each_place, crate::proofs::Chains::taken_pass))]
-fn stmt(
-    ops: &mut CodeDraft,
+fn stmt<'t>(
+    ops: &mut Draft<'t>,
     context: Context,
+    routines: &'t [TypedStmts],
     p: Progress,
-    s: &TypedStmt,
+    s: &'t TypedStmt,
 ) -> Result<Progress, OutOfMemory>
     ensures ops { OnOk result (ops.new ≡ ops.old
-        ++ pass_code context.pass (frame_of context.bases) (length ops.old) p
-        (core_stmt context.spaces (typed.statement s.now))) }
+        ++ pass_block_code context.pass (frame_of context.bases) (length ops.old) p
+        (statement_in (scope_of context.spaces context.bases routines.now) s.now)) }
     ensures next { IfOk result (λ q. q
-        ≡ past_stmt p (core_stmt context.spaces (typed.statement s.now))) }
+        ≡ past_block p (statement_in (scope_of context.spaces context.bases routines.now) s.now)) }
 {
     match &s.what {
         TypedWhat::Set(v, e) => {
-            let assignment = Assignment {
-                done: s.rate,
-                to: *v,
-                value: Value::Of(e),
-            };
-            assign(ops, context, p, &assignment)
+            let subject = Subject::Set(s.rate, *v, e);
+            placed(ops, context, p, s.line, &subject)
         }
         TypedWhat::Call(results, opcode, args) => {
-            let made = Call {
+            let subject = Subject::Call(Call {
                 rate: s.rate,
                 results: results.as_slice(),
                 opcode: *opcode,
                 args,
-            };
-            call(ops, context, p, &made)
+            });
+            placed(ops, context, p, s.line, &subject)
         }
         TypedWhat::Choose(arms, els) => {
+            let within = Within {
+                routines,
+                line: s.line,
+            };
             if takes_all(context.pass, s.rate) {
-                let next = each_arm(ops, context, p, s.line, arms)?;
-                block(ops, context, next, els)
+                let next = each_arm(ops, context, &within, p, arms)?;
+                block(ops, context, routines, next, els)
             } else {
                 let mut ends = Vec::new(context.alloc);
-                let last = arms_of(ops, context, p, s.line, arms, &mut ends)?;
-                let done = block(ops, context, last, els)?;
+                let last = arms_of(ops, context, &within, p, arms, &mut ends)?;
+                let done = block(ops, context, routines, last, els)?;
                 aim_all(ops, &ends);
                 Ok(done)
             }
         }
+        TypedWhat::Invoke(number, base) => {
+            let inner = inside(context, *base)?;
+            invoke(ops, inner, routines, p, *number)
+        }
     }
+}
+
+// What the routine of a number does; nothing where there is none.
+#[cycle(stmt)]
+#[tactic(auto, using(crate::proofs::Routines::no_routine))]
+fn invoke<'t>(
+    ops: &mut Draft<'t>,
+    context: Context,
+    routines: &'t [TypedStmts],
+    p: Progress,
+    number: usize,
+) -> Result<Progress, OutOfMemory>
+    ensures ops { OnOk result (ops.new ≡ ops.old
+        ++ pass_block_code context.pass (frame_of context.bases) (length ops.old) p
+        (routine_in (scope_of context.spaces context.bases routines.now) number)) }
+    ensures next { IfOk result (λ q. q
+        ≡ past_block p (routine_in (scope_of context.spaces context.bases routines.now) number)) }
+{
+    match routines.get(number) {
+        Some(routine) => block(ops, context, &routines[..number], p, routine),
+        None => Ok(p),
+    }
+}
+
+// What a routine's code is made for that is invoked here, with local variables of its own.
+fn inside(context: Context, base: PerRate<usize>) -> Result<Context, OutOfMemory>
+    ensures { IfOk result (λ c. c ≡ invoked context base) }
+{
+    let locals = context.bases.locals;
+    let locals = PerRate {
+        init: add(locals.init, narrow(base.init)?)?,
+        control: add(locals.control, narrow(base.control)?)?,
+        audio: add(locals.audio, narrow(base.audio)?)?,
+    };
+    Ok(Context {
+        bases: Bases {
+            locals,
+            ..context.bases
+        },
+        ..context
+    })
 }
 
 // Whether all arms of an `if` are initialised, because the conditions aren't known as the note begins.
@@ -191,26 +187,26 @@ fn takes_all(pass: Pass, rate: Rate) -> bool
 // the places of the jumps.
 #[cycle(stmt)]
 #[tactic(auto, using(crate::proofs::Lists::append_nothing))]
-fn arms_of(
-    ops: &mut CodeDraft,
+fn arms_of<'t>(
+    ops: &mut Draft<'t>,
     context: Context,
+    within: &Within<'t>,
     p: Progress,
-    line: u32,
-    arms: &[TypedArm],
+    arms: &'t [TypedArm],
     ends: &mut Vec<usize>,
 ) -> Result<Progress, OutOfMemory>
     ensures ops { OnOk result (ops.new ≡ ops.old
         ++ opened (length ops.old) (branches context.pass (frame_of context.bases)
-        context.spaces (length ops.old) p arms.now)) }
+        (scope_of context.spaces context.bases within.now.routines.now) (length ops.old) p arms.now)) }
     ensures ends { OnOk result (ends.new.items ≡ ends.old.items
         ++ jumps (length ops.old) (branches context.pass (frame_of context.bases)
-        context.spaces (length ops.old) p arms.now)) }
+        (scope_of context.spaces context.bases within.now.routines.now) (length ops.old) p arms.now)) }
     ensures next { IfOk result (λ q. q
-        ≡ past_list context.spaces p arms.now) }
+        ≡ past_list (scope_of context.spaces context.bases within.now.routines.now) p arms.now) }
 {
     let mut next = p;
     for a in arms {
-        next = arm(ops, context, next, line, a, ends)?;
+        next = arm(ops, context, within, next, a, ends)?;
     }
     Ok(next)
 }
@@ -218,31 +214,31 @@ fn arms_of(
 // One of them: its condition, a jump past its body where that doesn't hold, its body, and the jump
 // past the others.
 #[cycle(stmt)]
-fn arm(
-    ops: &mut CodeDraft,
+fn arm<'t>(
+    ops: &mut Draft<'t>,
     context: Context,
+    within: &Within<'t>,
     p: Progress,
-    line: u32,
-    arm: &TypedArm,
+    arm: &'t TypedArm,
     ends: &mut Vec<usize>,
 ) -> Result<Progress, OutOfMemory>
     ensures ops { OnOk result (ops.new ≡ ops.old
         ++ joined (length ops.old) (branch_of context.pass (frame_of context.bases)
-        context.spaces (length ops.old) p arm.now) 0) }
+        (scope_of context.spaces context.bases within.now.routines.now) (length ops.old) p arm.now) 0) }
     ensures ends { OnOk result (ends.new.items ≡ ends.old.items
         ++ jump_at (length ops.old) (branch_of context.pass (frame_of context.bases)
-        context.spaces (length ops.old) p arm.now) ∷ []) }
+        (scope_of context.spaces context.bases within.now.routines.now) (length ops.old) p arm.now) ∷ []) }
     ensures next { IfOk result (λ q. q
-        ≡ past_arm context.spaces p arm.now) }
+        ≡ past_arm (scope_of context.spaces context.bases within.now.routines.now) p arm.now) }
 {
-    let spot = condition(ops, context, p, line, &arm.cond)?;
+    let spot = condition(ops, context, p, within.line, &arm.cond)?;
     let test = ops.len();
     push(ops, Act::Unless(0), spot.reg, Operands::one(spot.reg))?;
     let at = Progress {
         part: spot.next,
         unit: p.unit,
     };
-    let next = block(ops, context, at, &arm.body)?;
+    let next = block(ops, context, within.routines, at, &arm.body)?;
     ends.push(ops.len())?;
     push(ops, Act::Jump(0), spot.reg, Operands::none())?;
     let past = ops.len();
@@ -251,95 +247,71 @@ fn arm(
 }
 
 // The condition of an arm, of an `if` on a line.
-fn condition(
-    ops: &mut CodeDraft,
+fn condition<'t>(
+    ops: &mut Draft<'t>,
     context: Context,
     p: Progress,
     line: u32,
-    e: &TypedExpr,
+    e: &'t TypedExpr,
 ) -> Result<ValueSpot, OutOfMemory>
     ensures ops { OnOk result (ops.new ≡ ops.old
-        ++ cond_code context.pass (frame_of context.bases) p.part (typed.expression e.now)) }
+        ++ cond_code context.pass (frame_of context.bases) p.part (expression_of context.bases e.now)) }
     ensures reg { IfOk result (λ s. s.reg ≡ cond_reg context.pass (frame_of context.bases) p.part
-        (typed.expression e.now)) }
-    ensures next { IfOk result (λ s. s.next ≡ past p.part (typed.expression e.now)) }
+        (expression_of context.bases e.now)) }
+    ensures next { IfOk result (λ s. s.next ≡ past p.part (expression_of context.bases e.now)) }
 {
-    let from = ops.len();
-    let spot = tested(ops, context, p.part, e)?;
-    share(ops, context, p, from, line)?;
-    Ok(spot)
-}
-
-// What is tested of a condition.
-fn tested(
-    ops: &mut CodeDraft,
-    context: Context,
-    at: u32,
-    e: &TypedExpr,
-) -> Result<ValueSpot, OutOfMemory>
-    ensures ops { OnOk result (ops.new ≡ ops.old
-        ++ cond_code context.pass (frame_of context.bases) at (typed.expression e.now)) }
-    ensures reg { IfOk result (λ s. s.reg ≡ cond_reg context.pass (frame_of context.bases) at
-        (typed.expression e.now)) }
-    ensures next { IfOk result (λ s. s.next ≡ past at (typed.expression e.now)) }
-{
-    match context.pass {
-        Pass::Initialisation => Ok(ValueSpot {
-            reg: kept_reg(context.bases, at)?,
-            next: keep(ops, context, at, e)?,
-        }),
-        Pass::Performance => operand(ops, context, at, e, 0),
-    }
+    let reg = tested_reg(context, p.part, e)?;
+    let next = placed(ops, context, p, line, &Subject::Condition(e))?;
+    Ok(ValueSpot {
+        reg,
+        next: next.part,
+    })
 }
 
 // Arms that are all initialised, since nothing is chosen yet.
 #[cycle(stmt)]
-fn each_arm(
-    ops: &mut CodeDraft,
+fn each_arm<'t>(
+    ops: &mut Draft<'t>,
     context: Context,
+    within: &Within<'t>,
     p: Progress,
-    line: u32,
-    arms: &[TypedArm],
+    arms: &'t [TypedArm],
 ) -> Result<Progress, OutOfMemory>
     requires { context.pass ≡ pass.Initialisation }
     ensures ops { IfOk result (λ q. (els : typed.Block)
         → ops.new ++ init_block_code (frame_of context.bases) (length ops.new)
-        q (core context.spaces els)
+        q (core_in (scope_of context.spaces context.bases within.now.routines.now) els)
         ≡ ops.old ++ all_code (frame_of context.bases) (length ops.old)
-        p (core_arms context.spaces (typed.arms els arms.now))) }
+        p (arms_in (scope_of context.spaces context.bases within.now.routines.now) els arms.now)) }
     ensures next { IfOk result (λ q. (els : typed.Block)
-        → past_block q (core context.spaces els)
-        ≡ past_arms p (core_arms context.spaces (typed.arms els arms.now))) }
+        → past_block q (core_in (scope_of context.spaces context.bases within.now.routines.now) els)
+        ≡ past_arms p (arms_in (scope_of context.spaces context.bases within.now.routines.now) els arms.now)) }
 {
     let mut next = p;
     for a in arms {
-        next = one_arm(ops, context, next, line, a)?;
+        next = one_arm(ops, context, within, next, a)?;
     }
     Ok(next)
 }
 
 // One of them.
 #[cycle(stmt)]
-fn one_arm(
-    ops: &mut CodeDraft,
+fn one_arm<'t>(
+    ops: &mut Draft<'t>,
     context: Context,
+    within: &Within<'t>,
     p: Progress,
-    line: u32,
-    arm: &TypedArm,
+    arm: &'t TypedArm,
 ) -> Result<Progress, OutOfMemory>
     requires { context.pass ≡ pass.Initialisation }
     ensures ops { OnOk result (ops.new ≡ ops.old
         ++ each_arm_code (frame_of context.bases) (length ops.old) p
-        (typed.expression (out-TypedArm arm.now).cond) (core context.spaces (typed.block
-        (out-TypedArm arm.now).body.items))) }
+        (condition_of (scope_of context.spaces context.bases within.now.routines.now) arm.now)
+        (body_of (scope_of context.spaces context.bases within.now.routines.now) arm.now)) }
     ensures next { IfOk result (λ q. q
-        ≡ past_block (past_parts (past p.part (typed.expression (out-TypedArm arm.now).cond))
-        p)
-        (core context.spaces (typed.block (out-TypedArm arm.now).body.items))) }
+        ≡ past_arm (scope_of context.spaces context.bases within.now.routines.now) p arm.now) }
 {
-    let from = ops.len();
-    let part = keep(ops, context, p.part, &arm.cond)?;
-    share(ops, context, p, from, line)?;
-    let at = Progress { part, unit: p.unit };
-    block(ops, context, at, &arm.body)
+    let subject = Subject::Condition(&arm.cond);
+    let at = placed(ops, context, p, within.line, &subject)?;
+    block(ops, context, within.routines, at, &arm.body)
 }

@@ -1,9 +1,6 @@
 -- Jumps that are aimed.
 use Rattle.std.proofs.Common.{◌≡◌, ◌∙◌, ◌+◌, ◌<◌, ◌≤◌, ◌++◌, ℕ, zero, suc, true, not, List, [], ◌∷◌, length, get_or}
-use Rattle.std.proofs.Common.{set, take, arith, refl, sym, ap, subst, slice_get, Some}
-use Rattle.std.specs.Option.{option_map}
-use Rattle.std.proofs.lemmas.List.{length-map, take_all, take_more_same}
-use Rattle.std.proofs.lemmas.Option.{get_or_from_slice_get, slice_get-map}
+use Rattle.std.proofs.Common.{◌-◌, drop, set, arith, refl, ap, subst}
 use Rattle.std.specs.List.{list_all}
 use Rattle.std.proofs.lemmas.Bool.{and_parts, and_from}
 use Rattle.cs_ir.specs.Codes.{aim, aimed}
@@ -46,6 +43,13 @@ aim_high (x ∷ xs) ys n to =
     let e : suc (length xs + n) ≡ suc (length xs) + n = omega arith in
     subst (λ m. aim m to (x ∷ (xs ++ ys)) ≡ x ∷ (xs ++ aim n to ys)) e (ap (λ l. x ∷ l) (aim_high xs ys n to))
 
+pub drop_high : (xs ys : List Op) (n : ℕ) → length xs ≤ n → drop n (xs ++ ys) ≡ drop (n - length xs) ys
+drop_high [] ys n h = let e : n ≡ n - 0 = omega arith in ap (λ k. drop k ys) e
+drop_high (x ∷ xs) ys zero h = absurd (omega arith)
+drop_high (x ∷ xs) ys (suc n) h =
+    let e : n - length xs ≡ suc n - suc (length xs) = omega arith in
+    drop_high xs ys n (omega arith) ∙ ap (λ k. drop k ys) e
+
 -- ---- ops of which none is a jump
 
 act_stays : (w : Window) (to : ℕ) (a : Act) → not (is_jump a) ≡ true → aimed to (with_unit w a) ≡ with_unit w a
@@ -85,20 +89,3 @@ pub all_more : (ps : List PassageOp) (p : PassageOp) → list_all goes_on ps ≡
 all_more [] p h g = and_from (goes_on p) true g refl
 all_more (q ∷ ps) p h g =
     let b = and_parts (goes_on q) (list_all goes_on ps) h in and_from _ _ b.0 (all_more ps p b.1 g)
-
--- ---- a passage that says ops
-
-pub says_more : (w : Window) (ps : List PassageOp) (ops : List Op) (place : ℕ) (p : PassageOp) (op : Op)
-    → length ps ≡ length ops → place < length ops → slice_get ps place ≡ Some p → op ≡ get_or ops place op
-    → op_in w p ≡ op → take place (ops_in w ps) ≡ take place ops → take (place + 1) (ops_in w ps) ≡ take (place + 1) ops
-says_more w ps ops place p op long low at here same before =
-    let e : slice_get (ops_in w ps) place ≡ Some (op_in w p) =
-    slice_get-map (op_in w) ps place ∙ ap (option_map (op_in w)) at in
-    let f : get_or (ops_in w ps) place op ≡ get_or ops place op =
-    get_or_from_slice_get (ops_in w ps) place (op_in w p) op e ∙ same ∙ here in
-    take_more_same (ops_in w ps) ops place op (omega (arith, length-map ps (op_in w))) low before f
-
-pub says_all : (w : Window) (ps : List PassageOp) (ops : List Op) (place : ℕ) → length ps ≡ length ops
-    → length ops ≤ place → take place (ops_in w ps) ≡ take place ops → ops_in w ps ≡ ops
-says_all w ps ops place long past same =
-    sym (take_all place (ops_in w ps) (omega (arith, length-map ps (op_in w)))) ∙ same ∙ take_all place ops past

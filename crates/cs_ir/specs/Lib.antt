@@ -2,9 +2,12 @@ pub mod Asks
 pub mod Codes
 pub mod Cycles
 pub mod Instruments
+pub mod Limits
 pub mod Machine
+pub mod Moved
 pub mod Operands
 pub mod Resources
+pub mod Touching
 pub mod Units
 pub mod Validity
 pub mod Values

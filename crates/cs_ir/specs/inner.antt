@@ -1,3 +1,5 @@
 -- What only clauses of private functions cite: passages in their windows, and how stretches lie.
+pub mod Ends
 pub mod Laid
+pub mod Touching
 pub mod Windows

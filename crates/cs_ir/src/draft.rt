@@ -1,9 +1,11 @@
 // Codes that are being made.
-ghost use Rattle.std.specs.Prelude.{◌≡◌, ◌+◌, ◌<◌, ◌≤◌, ◌++◌, ◌^◌, ◌∷◌, [], length, drop, IfOk, OnOk, OnErr};
+ghost use Rattle.std.specs.Prelude.{◌≡◌, ◌+◌, ◌<◌, ◌≤◌, ◌++◌, ◌^◌, ◌∷◌, [], length, drop, IfOk, IfSome};
+ghost use Rattle.std.specs.Prelude.{OnOk, OnErr, if◌then◌else◌};
 ghost use Rattle.cs_ir.specs.Codes.{aim};
+ghost use Rattle.cs_ir.specs.Moved.{begins_low, moved_ops};
 
 use crate::stretch::aim_in;
-use crate::{Op, Ops, Origin, Passages, SharedOps, Stretch};
+use crate::{NotedPassage, Op, Ops, Origin, SharedOps, Stretch};
 use cs_base::OutOfMemory;
 use std::alloc::Global;
 use std::marker::Model;
@@ -18,7 +20,6 @@ pub struct CodeDraft {
     done: Ops,
     /// The ops behind those, which stand nowhere else.
     tail: Vec<Op>,
-    passages: Passages,
 }
 
 impl Model for CodeDraft {
@@ -32,22 +33,14 @@ impl Model for CodeDraft {
     ghost invariant = { λ d. length d.done ≤ 2 ^ 62 };
 }
 
-/// The ops of a code that is made, and the passages that codes after it may take.
-#[derive(Drop)]
-pub struct DraftedCode {
-    pub ops: Ops,
-    pub passages: Passages,
-}
-
 impl CodeDraft {
-    /// A code without ops, whose statements may take passages that codes before it made.
-    pub fn new(alloc: Global, passages: Passages) -> CodeDraft
+    /// A code without ops.
+    pub fn new(alloc: Global) -> CodeDraft
         ensures { result ≡ [] }
     {
         CodeDraft {
             done: Ops::new(alloc),
             tail: Vec::new(alloc),
-            passages,
         }
     }
 
@@ -76,53 +69,98 @@ impl CodeDraft {
         }
     }
 
-    /// Keeps the ops from a place on, those of a statement on a line, as a passage where one says them.
-    pub fn share(&mut self, from: usize, line: u32, origin: &Origin) -> Result<(), OutOfMemory>
-        ensures { OnOk result (self.new ≡ self.old) }
+    /// Notes the ops from a place on, those of a statement at an origin, for other places of the statement, and keeps
+    /// them once. None where they are few, where one of them has no form in a passage, and in a draft that is too long.
+    pub fn note(
+        &mut self,
+        from: usize,
+        origin: &Origin,
+    ) -> Result<Option<NotedPassage>, OutOfMemory>
+        ensures same { OnOk result (self.new ≡ self.old) }
+        ensures ops { IfOk result (λ m. IfSome m (λ n. n.ops ≡ drop from self.old)) }
+        ensures origin { IfOk result (λ m. IfSome m (λ n. n.origin ≡ origin.now)) }
     {
         let end = self.done.len();
         if from < end || self.tail.len() < from - end || end + self.tail.len() > MOST_OPS {
-            return Ok(());
+            return Ok(None);
         }
         let start = from - end;
-        match self.passages.shared(line, origin, &self.tail[start..])? {
-            Some(shared) => put(&mut self.done, &mut self.tail, start, shared),
-            None => Ok(()),
+        match noted_from(&self.tail, start, origin)? {
+            Some(noted) => {
+                let shared = noted.here()?;
+                self.tail.truncate(start);
+                put(&mut self.done, &mut self.tail, shared)?;
+                Ok(Some(noted))
+            }
+            None => Ok(None),
         }
+    }
+
+    /// Appends the ops of a statement as they are where it stands at an origin, and returns true. Does nothing and
+    /// returns false where registers or units begin too high there.
+    pub fn say(&mut self, noted: &NotedPassage, origin: &Origin) -> Result<bool, OutOfMemory>
+        ensures said { IfOk result (λ said. said ≡ begins_low origin.now) }
+        ensures ops { IfOk result (λ said. self.new ≡ if said
+            then self.old ++ moved_ops noted.now.origin origin.now noted.now.ops else self.old) }
+    {
+        if !origin.begins_low() {
+            return Ok(false);
+        }
+        let shared = noted.there(origin)?;
+        self.append(shared)?;
+        Ok(true)
+    }
+
+    /// Appends shared ops: one by one where they make too long a draft.
+    fn append(&mut self, shared: SharedOps) -> Result<(), OutOfMemory>
+        ensures { OnOk result (self.new ≡ self.old ++ shared) }
+    {
+        if self.len().saturating_add(shared.len()) > MOST_OPS {
+            return self.copy(&shared);
+        }
+        put(&mut self.done, &mut self.tail, shared)
+    }
+
+    /// Appends ops one by one.
+    fn copy(&mut self, ops: &SharedOps) -> Result<(), OutOfMemory>
+        ensures { OnOk result (self.new ≡ self.old ++ ops.now) }
+    {
+        for place in 0..ops.len() {
+            self.push(ops.op(place))?;
+        }
+        Ok(())
     }
 
     /// The ops that were drafted.
-    pub fn end(self) -> Result<DraftedCode, OutOfMemory>
-        ensures { IfOk result (λ d. d.ops ≡ self) }
+    pub fn end(self) -> Result<Ops, OutOfMemory>
+        ensures { IfOk result (λ o. o ≡ self) }
     {
-        let CodeDraft {
-            mut done,
-            tail,
-            passages,
-        } = self;
+        let CodeDraft { mut done, tail } = self;
         push_own(&mut done, tail)?;
-        Ok(DraftedCode {
-            ops: done,
-            passages,
-        })
+        Ok(done)
     }
 }
 
-/// Puts shared ops in the place of the last ones, from a start on. Those before it become a stretch of their own.
-fn put(
-    done: &mut Ops,
-    tail: &mut Vec<Op>,
+/// What is noted of the ops from a start on.
+fn noted_from(
+    tail: &Vec<Op>,
     start: usize,
-    shared: SharedOps,
-) -> Result<(), OutOfMemory>
-    requires low { start ≤ length tail.old.items }
-    requires same { shared ≡ drop start tail.old.items }
-    requires few { length done.old + length tail.old.items ≤ 2 ^ 62 }
-    ensures same { OnOk result (done.new ++ tail.new.items ≡ done.old ++ tail.old.items) }
+    origin: &Origin,
+) -> Result<Option<NotedPassage>, OutOfMemory>
+    requires { start ≤ length tail.now.items }
+    ensures ops { IfOk result (λ m. IfSome m (λ n. n.ops ≡ drop start tail.now.items)) }
+    ensures origin { IfOk result (λ m. IfSome m (λ n. n.origin ≡ origin.now)) }
+{
+    NotedPassage::of(*tail.allocator(), origin, &tail[start..])
+}
+
+/// Appends shared ops. Those of the tail before them become a stretch of their own.
+fn put(done: &mut Ops, tail: &mut Vec<Op>, shared: SharedOps) -> Result<(), OutOfMemory>
+    requires { length done.old + length tail.old.items + length shared ≤ 2 ^ 62 }
+    ensures same { OnOk result (done.new ++ tail.new.items ≡ (done.old ++ tail.old.items) ++ shared) }
     ensures few { length done.new ≤ 2 ^ 62 }
 {
-    tail.truncate(start);
-    if start > 0 {
+    if !tail.is_empty() {
         let none = Vec::new(*tail.allocator());
         push_own(done, mem::replace(tail, none))?;
     }

@@ -7,13 +7,16 @@
 //! changed without anyone above noticing.
 //!
 //! To be read in this order: `register`, `operands`, `op` (what code is made of), `stretch`, `ops` (a code as a whole),
-//! `window`, `passage` (ops that are kept once for several places), `origin`, `passages`, `same`, `draft` (how a code
-//! is made), `validity` (which code can be run), `instrument` (codes under numbers), `resources` (tables and zak places
-//! by number), `ask` (a note that a note asks for), `value` (operators and functions), `laws`.
+//! `window`, `origin` (where a statement's registers and units begin), `ends` (how far those of a passage reach),
+//! `touching` (what its ops touch of what notes share), `passage` (ops of a statement that are kept once for several
+//! places), `draft` (how a code is made), `validity` (which code can be run), `instrument` (codes under numbers),
+//! `resources` (tables and zak places by number), `ask` (a note that a note asks for), `value` (operators and
+//! functions), `laws`.
 #![tactic(auto)]
 
 mod ask;
 mod draft;
+mod ends;
 mod instrument;
 mod laws;
 mod op;
@@ -21,25 +24,23 @@ mod operands;
 mod ops;
 mod origin;
 mod passage;
-mod passages;
 mod register;
 mod resources;
-mod same;
 mod stretch;
+mod touching;
 mod validity;
 mod value;
 mod window;
 
 pub use ask::Ask;
-pub use draft::{CodeDraft, DraftedCode};
+pub use draft::CodeDraft;
 pub use instrument::{Body, Instrument, Instruments};
 pub use laws::{valid_code_is_fine, worked_examples};
 pub use op::{Act, Code, Op, Reach};
 pub use operands::Operands;
 pub use ops::{FoundStretch, Ops};
 pub use origin::Origin;
-pub use passage::SharedOps;
-pub use passages::Passages;
+pub use passage::{LEAST_OPS, NotedPassage, SharedOps};
 pub use register::{Counts, Reg};
 pub use resources::{places_of, zak_place};
 pub use stretch::Stretch;

@@ -1,155 +1,212 @@
-// How the ops of a statement are taken for a passage. Which kind a register is of is guessed here: no clause asks
-// whether the guess is right, since a passage is taken only where it says exactly the ops that it stands for.
-ghost use Rattle.std.specs.Prelude.{◌≡◌, true, false, IfSome};
-ghost use Rattle.cs_ir.specs.inner.Windows.{goes_on, is_jump};
+// Where a statement's registers and units begin in a code, and its ops as those of a passage.
+ghost use Rattle.std.specs.Prelude.{◌≡◌, ◌+◌, ◌-◌, ◌≤◌, ◌^◌, ℕ, true, false, map, IfSome};
+ghost use Rattle.cs_base.specs.declared.resource.Rate.TheVariants as rate;
+ghost use Rattle.cs_ir.specs.Moved.{begins_low, each_low, is_kept, is_local, is_low, locals_end, moved};
+ghost use Rattle.cs_ir.specs.Moved.{moved_act, moved_op, moved_reg, names_into};
+ghost use Rattle.cs_ir.specs.inner.Windows.{counted, goes_on, is_jump, op_in, register, registers_in, window};
+ghost use Rattle.cs_ir.specs.inner.Windows.{with_unit};
+ghost use Rattle.cs_ir.specs.declared.origin.Origin.{Origin};
 
 use crate::passage::PassageOp;
-use crate::window::{Slot, Slots, Window};
+use crate::window::{Slot, Slots, Window, counted};
 use crate::{Act, Op, Reg};
 use cs_base::{PerRate, Rate};
 
 /// Where the registers and the units of a statement begin in a code.
 #[derive(Clone, Copy)]
 pub struct Origin {
+    /// The first local variable of each rate of the statement's routine.
+    pub locals: PerRate<u32>,
     /// The first register of a kept value: at rate Init, local variables stand before it.
     pub kept: u32,
     /// How many values are kept in the text before the statement.
     pub part: u32,
-    /// The first temporary of each rate.
+    /// The first temporary of each rate: at any other rate than Init, local variables stand before it.
     pub temporaries: PerRate<u32>,
     /// How many units are met in the text before the statement.
     pub unit: u32,
 }
 
+/// Half of all numbers of registers and units. An op of a passage counts less than this, from where its kind begins.
+const HALF: u32 = 1 << 31;
+
+/// A number as counted from where its kind begins; None where it stands before that or far behind.
+#[tactic(auto, using(crate::proofs::Windows::counted_on))]
+fn offset(begin: u32, number: u32) -> Option<u32>
+    ensures back { IfSome result (λ n. counted begin n ≡ number) }
+    ensures there { IfSome result (λ n. (other : ℕ) → other ≤ 2 ^ 31
+        → counted other n ≡ moved begin other number) }
+{
+    match number.checked_sub(begin) {
+        Some(n) if n < HALF => Some(n),
+        _ => None,
+    }
+}
+
+pub(crate) fn is_low(begin: u32) -> bool
+    ensures { result ≡ is_low begin }
+{
+    begin <= HALF
+}
+
+pub(crate) fn each_low(begins: PerRate<u32>) -> bool
+    ensures { result ≡ each_low begins }
+{
+    is_low(begins.init) && is_low(begins.control) && is_low(begins.audio)
+}
+
 impl Origin {
-    /// The window of the statement's ops: local variables begin with the first one that they name.
-    pub(crate) fn window_of(&self, ops: &[Op]) -> Window {
-        let mut first = PerRate {
-            init: None,
-            control: None,
-            audio: None,
-        };
-        for op in ops {
-            first = self.with_op(first, op);
+    /// Whether registers and units begin so low that a passage can stand here.
+    pub(crate) fn begins_low(&self) -> bool
+        ensures { result ≡ begins_low self.now }
+    {
+        each_low(self.locals) && self.keeps_low() && each_low(self.temporaries) && is_low(self.unit)
+    }
+
+    fn keeps_low(&self) -> bool
+        ensures { result ≡ is_low (self.now.kept + self.now.part) }
+    {
+        match self.kept.checked_add(self.part) {
+            Some(begin) => is_low(begin),
+            None => false,
         }
+    }
+
+    /// Where the statement's ops begin to count.
+    pub(crate) fn window(&self) -> Window
+        ensures { result ≡ window self.now }
+    {
         Window {
-            locals: PerRate {
-                init: first.init.unwrap_or(0),
-                control: first.control.unwrap_or(0),
-                audio: first.audio.unwrap_or(0),
-            },
-            kept: self.kept.wrapping_add(self.part),
+            locals: self.locals,
+            kept: counted(self.kept, self.part),
             temporaries: self.temporaries,
             unit: self.unit,
         }
     }
 
-    /// The first local variables of ops, with one op more.
-    fn with_op(&self, first: PerRate<Option<u32>>, op: &Op) -> PerRate<Option<u32>> {
-        let mut first = first;
-        if names_into(op.act) {
-            first = self.with_register(first, op.into);
-        }
-        for register in op.from.as_slice() {
-            first = self.with_register(first, *register);
-        }
-        first
-    }
-
-    fn with_register(&self, first: PerRate<Option<u32>>, register: Reg) -> PerRate<Option<u32>> {
-        let Reg { rate, index } = register;
-        if !self.is_local(register) || first.of(rate).is_some() {
-            return first;
-        }
-        let index = Some(index);
+    fn locals_end(&self, rate: Rate) -> u32
+        ensures { result ≡ locals_end self.now rate }
+    {
         match rate {
-            Rate::Init => PerRate {
-                init: index,
-                ..first
-            },
-            Rate::Control => PerRate {
-                control: index,
-                ..first
-            },
-            Rate::Audio => PerRate {
-                audio: index,
-                ..first
-            },
-        }
-    }
-
-    fn is_local(&self, register: Reg) -> bool {
-        let end = match register.rate {
             Rate::Init => self.kept,
-            Rate::Control | Rate::Audio => self.temporaries.of(register.rate),
-        };
-        register.index < end
-    }
-
-    fn slot_of(&self, window: &Window, register: Reg) -> Slot {
-        let Reg { rate, index } = register;
-        if self.is_local(register) {
-            Slot::Local(rate, index.wrapping_sub(window.locals.of(rate)))
-        } else if rate.is_init() && index < self.temporaries.init {
-            Slot::Kept(index.wrapping_sub(window.kept))
-        } else {
-            Slot::Temporary(rate, index.wrapping_sub(window.temporaries.of(rate)))
+            Rate::Control => self.temporaries.control,
+            Rate::Audio => self.temporaries.audio,
         }
     }
 
-    fn into_of(&self, window: &Window, op: &Op) -> Slot {
-        if names_into(op.act) {
-            self.slot_of(window, op.into)
+    fn is_local(&self, q: Reg) -> bool
+        ensures { result ≡ is_local self.now q }
+    {
+        q.index < self.locals_end(q.rate)
+    }
+
+    fn is_kept(&self, q: Reg) -> bool
+        ensures { result ≡ is_kept self.now q }
+    {
+        q.rate.is_init() && q.index < self.temporaries.init
+    }
+
+    /// A register as the statement names it.
+    fn slot_of(&self, q: Reg) -> Option<Slot>
+        ensures back { IfSome result (λ s. register (window self.now) s ≡ q) }
+        ensures there { IfSome result (λ s. (o : Origin) → begins_low o ≡ true
+            → register (window o) s ≡ moved_reg self.now o q) }
+    {
+        let Reg { rate, index } = q;
+        if self.is_local(q) {
+            Some(Slot::Local(rate, offset(self.locals.of(rate), index)?))
+        } else if self.is_kept(q) {
+            self.kept_of(index)
         } else {
-            Slot::Fixed(op.into.rate, op.into.index)
+            Some(Slot::Temporary(rate, offset(self.temporaries.of(rate), index)?))
+        }
+    }
+
+    /// A register of a kept value.
+    fn kept_of(&self, index: u32) -> Option<Slot>
+        ensures back { IfSome result (λ s. register (window self.now) s
+            ≡ record { rate = rate.Init; index = index }) }
+        ensures there { IfSome result (λ s. (o : Origin) → begins_low o ≡ true
+            → register (window o) s ≡ record {
+              rate = rate.Init;
+              index = moved (self.now.kept + self.now.part) (o.kept + o.part) index;
+            }) }
+    {
+        let begin = self.kept.checked_add(self.part)?;
+        Some(Slot::Kept(offset(begin, index)?))
+    }
+
+    /// What an op may write.
+    fn into_of(&self, op: &Op) -> Option<Slot>
+        ensures back { IfSome result (λ s. register (window self.now) s ≡ op.now.into) }
+        ensures there { IfSome result (λ s. (o : Origin) → begins_low o ≡ true
+            → register (window o) s ≡ (moved_op self.now o op.now).into) }
+    {
+        if names_into(op.act) {
+            self.slot_of(op.into)
+        } else {
+            Some(Slot::Fixed(op.into.rate, op.into.index))
         }
     }
 
     /// No slots for more than three registers.
-    fn slots_of(&self, window: &Window, registers: &[Reg]) -> Option<Slots> {
+    fn slots_of(&self, registers: &[Reg]) -> Option<Slots>
+        ensures back { IfSome result (λ s. registers_in (window self.now) s ≡ registers.now) }
+        ensures there { IfSome result (λ s. (o : Origin) → begins_low o ≡ true
+            → registers_in (window o) s ≡ map (moved_reg self.now o) registers.now) }
+    {
         match registers {
             [] => Some(Slots::Nothing),
-            [x] => Some(Slots::One(self.slot_of(window, *x))),
-            [x, y] => Some(Slots::Two(self.slot_of(window, *x), self.slot_of(window, *y))),
+            [x] => Some(Slots::One(self.slot_of(*x)?)),
+            [x, y] => Some(Slots::Two(self.slot_of(*x)?, self.slot_of(*y)?)),
             [x, y, z] => Some(Slots::Three(
-                self.slot_of(window, *x),
-                self.slot_of(window, *y),
-                self.slot_of(window, *z),
+                self.slot_of(*x)?,
+                self.slot_of(*y)?,
+                self.slot_of(*z)?,
             )),
             _ => None,
         }
     }
 
-    /// An op as one of a passage; None for a jump, and for one that reads more than three registers.
-    pub(crate) fn passage_op(&self, window: &Window, op: &Op) -> Option<PassageOp>
-        ensures { IfSome result (λ p. goes_on p ≡ true) }
+    /// An act whose unit is counted from where the statement's begin. None for a jump.
+    fn act_of(&self, act: Act) -> Option<Act>
+        ensures back { IfSome result (λ a. with_unit (window self.now) a ≡ act) }
+        ensures there { IfSome result (λ a. (o : Origin) → begins_low o ≡ true
+            → with_unit (window o) a ≡ moved_act self.now o act) }
+        ensures goes { IfSome result (λ a. is_jump a ≡ false) }
+    {
+        match act {
+            Act::Start(opcode, unit) => Some(Act::Start(opcode, offset(self.unit, unit)?)),
+            Act::Unit(opcode, unit, reach) => {
+                Some(Act::Unit(opcode, offset(self.unit, unit)?, reach))
+            }
+            Act::Jump(_) | Act::Unless(_) => None,
+            _ => Some(act),
+        }
+    }
+
+    /// An op of the statement as one of a passage; None for a jump, for one that reads more than three registers, and
+    /// where a number doesn't stand less than `HALF` behind where its kind begins.
+    pub(crate) fn passage_op(&self, op: &Op) -> Option<PassageOp>
+        ensures back { IfSome result (λ p. op_in (window self.now) p ≡ op.now) }
+        ensures there { IfSome result (λ p. (o : Origin) → begins_low o ≡ true
+            → op_in (window o) p ≡ moved_op self.now o op.now) }
+        ensures goes { IfSome result (λ p. goes_on p ≡ true) }
     {
         Some(PassageOp {
-            act: without_unit(window, op.act)?,
-            into: self.into_of(window, op),
-            from: self.slots_of(window, op.from.as_slice())?,
+            act: self.act_of(op.act)?,
+            into: self.into_of(op)?,
+            from: self.slots_of(op.from.as_slice())?,
         })
     }
 }
 
-/// Whether the register that an op may write is one of its statement's.
-fn names_into(act: Act) -> bool {
+/// Whether the register that an op may write is one of its statement's: others tell a rate alone.
+fn names_into(act: Act) -> bool
+    ensures { result ≡ names_into act }
+{
     !matches!(
         act,
         Act::Start(_, _) | Act::Seek | Act::Store(_) | Act::Ask | Act::Turnoff
     )
-}
-
-/// An act whose unit is counted from where those of a window begin. None for a jump.
-fn without_unit(window: &Window, act: Act) -> Option<Act>
-    ensures { IfSome result (λ a. is_jump a ≡ false) }
-{
-    match act {
-        Act::Start(opcode, unit) => Some(Act::Start(opcode, unit.wrapping_sub(window.unit))),
-        Act::Unit(opcode, unit, reach) => {
-            Some(Act::Unit(opcode, unit.wrapping_sub(window.unit), reach))
-        }
-        Act::Jump(_) | Act::Unless(_) => None,
-        _ => Some(act),
-    }
 }

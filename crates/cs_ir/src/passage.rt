@@ -1,18 +1,28 @@
 // Passages: ops that stand at several places of codes, and are kept once.
-ghost use Rattle.std.specs.Prelude.{◌≡◌, ◌<◌, length, slice_get, slice_index_or, true, Some, IfOk, ℕ};
-ghost use Rattle.std.specs.List.{list_all};
+ghost use Rattle.std.specs.Prelude.{◌≡◌, ◌<◌, length, slice_get, slice_index_or, Bool, true, Some, IfOk, IfSome, ℕ};
+ghost use Rattle.std.specs.List.{list_all, list_any};
 ghost use Rattle.cs_ir.specs.Codes.{aim};
-ghost use Rattle.cs_ir.specs.inner.Windows.{op_in, ops_in, goes_on};
+ghost use Rattle.cs_ir.specs.Limits.{ops_limit};
+ghost use Rattle.cs_ir.specs.Moved.{begins_low, moved_ops};
+ghost use Rattle.cs_ir.specs.Touching.{IsOfShared};
+ghost use Rattle.cs_ir.specs.inner.Ends.{LowWindow};
+ghost use Rattle.cs_ir.specs.inner.Touching.{AreTouching};
+ghost use Rattle.cs_ir.specs.inner.Windows.{Says, op_in, ops_in, goes_on};
+ghost use Rattle.cs_ir.specs.declared.op.Act.{Act};
 ghost use Rattle.cs_ir.specs.declared.op.Op.{Op};
 
+use crate::ends::Ends;
 use crate::origin::Origin;
-use crate::same::same_op;
+use crate::touching::touching_acts;
 use crate::window::{Slot, Slots, Window};
 use crate::{Act, Op};
-use cs_base::OutOfMemory;
+use cs_base::{OutOfMemory, Rate};
 use std::alloc::Global;
 use std::marker::Model;
 use std::sync::Arc;
+
+/// Fewer ops than these are no shorter as a stretch of a passage.
+pub const LEAST_OPS: usize = 4;
 
 /// An op of a passage. Its unit is counted from where those of its place begin, as its registers are.
 #[derive(Clone, Copy)]
@@ -29,11 +39,17 @@ const _: () = prove!(size_of::<PassageOp>() <= 64);
 #[derive(Drop)]
 pub struct Passage {
     ops: Vec<PassageOp>,
+    /// The ends of the slots that the ops name.
+    ends: Ends,
+    /// What they touch of what notes share.
+    touching: Vec<Act>,
 }
 
 impl Model for Passage {
     ghost use Rattle.std.specs.Prelude.{◌≡◌, List, true};
     ghost use Rattle.std.specs.List.{list_all};
+    ghost use Rattle.cs_ir.specs.inner.Ends.{AreEnds, LowEnds};
+    ghost use Rattle.cs_ir.specs.inner.Touching.{AreTouching};
     ghost use Rattle.cs_ir.specs.inner.Windows.{goes_on};
     ghost use Rattle.cs_ir.specs.declared.passage.PassageOp.{PassageOp};
 
@@ -41,7 +57,29 @@ impl Model for Passage {
 
     ghost view = { λ p. p.ops.items };
 
-    ghost invariant = { λ p. list_all goes_on p.ops.items ≡ true };
+    ghost invariant = { λ p. (list_all goes_on p.ops.items ≡ true) × AreEnds p.ends p.ops.items × LowEnds p.ends
+        × AreTouching p.touching.items p.ops.items };
+}
+
+/// The ops of a statement, noted as a passage for other places of the statement. Contracts see them, and the origin
+/// where they were made.
+#[derive(Drop)]
+pub struct NotedPassage {
+    passage: Arc<Passage, Global>,
+    origin: Origin,
+}
+
+impl Model for NotedPassage {
+    ghost use Rattle.std.specs.Prelude.{◌≡◌, true};
+    ghost use Rattle.cs_ir.specs.Moved.{Noted, begins_low};
+    ghost use Rattle.cs_ir.specs.inner.Windows.{Says, ops_in, window};
+
+    ghost Value = { Noted };
+
+    ghost view = { λ n. record { ops = ops_in (window n.origin) n.passage.value; origin = n.origin } };
+
+    ghost invariant = { λ n. Says n.origin (ops_in (window n.origin) n.passage.value) n.passage.value
+        × (begins_low n.origin ≡ true) };
 }
 
 /// The ops of a passage at one of its places. Contracts see the list of them.
@@ -53,12 +91,15 @@ pub struct SharedOps {
 
 impl Model for SharedOps {
     ghost use Rattle.std.specs.Prelude.{List};
+    ghost use Rattle.cs_ir.specs.inner.Ends.{LowWindow};
     ghost use Rattle.cs_ir.specs.inner.Windows.{ops_in};
     ghost use Rattle.cs_ir.specs.declared.op.Op.{Op};
 
     ghost Value = { List Op };
 
     ghost view = { λ s. ops_in s.window s.passage.value };
+
+    ghost invariant = { λ s. LowWindow s.window };
 }
 
 impl PassageOp {
@@ -75,22 +116,29 @@ impl PassageOp {
 }
 
 impl Passage {
-    /// The passage of ops in a window; None where one of them has no form in a passage.
+    /// The passage of a statement's ops; None where one of them has no form in a passage, and where the number of a
+    /// register is very high.
     #[tactic(auto, using(crate::proofs::Aiming::all_more))]
-    pub(crate) fn of(
-        alloc: Global,
-        origin: &Origin,
-        window: &Window,
-        ops: &[Op],
-    ) -> Result<Option<Passage>, OutOfMemory> {
+    fn of(alloc: Global, origin: &Origin, ops: &[Op]) -> Result<Option<Passage>, OutOfMemory>
+        ensures { IfOk result (λ m. IfSome m (λ p. Says origin.now ops.now p)) }
+    {
         let mut made = Vec::with_capacity(alloc, ops.len())?;
         for op in ops {
-            let Some(one) = origin.passage_op(window, op) else {
+            let Some(one) = origin.passage_op(op) else {
                 return Ok(None);
             };
             made.push(one)?;
         }
-        Ok(Some(Passage { ops: made }))
+        let ends = Ends::of(&made);
+        if !ends.are_low() {
+            return Ok(None);
+        }
+        let touching = touching_acts(alloc, &made)?;
+        Ok(Some(Passage {
+            ops: made,
+            ends,
+            touching,
+        }))
     }
 
     fn len(&self) -> usize
@@ -107,44 +155,75 @@ impl Passage {
         self.ops[place]
     }
 
+    /// Where the registers of a rate end that its ops name in a window.
+    fn limit(&self, window: &Window, rate: Rate) -> usize
+        requires { LowWindow window.now }
+        ensures { result ≡ ops_limit rate (ops_in window.now self.now) }
+    {
+        self.ends.limit(window, rate)
+    }
+
+    /// What its ops touch of what notes share, by their acts, units without their numbers.
+    fn touching(&self) -> &[Act]
+        ensures { AreTouching result.now self.now }
+    {
+        &self.touching
+    }
+
     /// No op of it is a jump.
     fn go_on(&self)
         ensures { list_all goes_on self.now ≡ true }
     {
         let _ = &self.ops;
     }
+}
 
-    /// Whether it says these ops in a window.
-    #[tactic(auto, using(crate::proofs::Aiming::says_more, crate::proofs::Aiming::says_all))]
-    pub(crate) fn says(&self, window: &Window, ops: &[Op]) -> bool
-        ensures { result ≡ true → ops_in window.now self.now ≡ ops.now }
+impl NotedPassage {
+    /// The passage of a statement's ops; None where they are few, where one of them has no form in a passage, and where
+    /// registers or units begin too high.
+    pub(crate) fn of(
+        alloc: Global,
+        origin: &Origin,
+        ops: &[Op],
+    ) -> Result<Option<NotedPassage>, OutOfMemory>
+        ensures ops { IfOk result (λ m. IfSome m (λ n. n.ops ≡ ops.now)) }
+        ensures origin { IfOk result (λ m. IfSome m (λ n. n.origin ≡ origin.now)) }
     {
-        if self.len() != ops.len() {
-            return false;
+        if ops.len() < LEAST_OPS || !origin.begins_low() {
+            return Ok(None);
         }
-        for place in 0..ops.len() {
-            if !same_op(&self.get(place).in_window(window), &ops[place]) {
-                return false;
-            }
+        match Passage::of(alloc, origin, ops)? {
+            Some(passage) => Ok(Some(NotedPassage {
+                passage: Arc::new(alloc, passage)?,
+                origin: *origin,
+            })),
+            None => Ok(None),
         }
-        true
+    }
+
+    /// Its ops as they were made.
+    pub(crate) fn here(&self) -> Result<SharedOps, OutOfMemory>
+        ensures { IfOk result (λ s. s ≡ self.now.ops) }
+    {
+        Ok(SharedOps {
+            passage: Arc::try_clone(&self.passage)?,
+            window: self.origin.window(),
+        })
+    }
+
+    /// Its ops where the statement stands at an origin.
+    pub(crate) fn there(&self, origin: &Origin) -> Result<SharedOps, OutOfMemory>
+        requires { begins_low origin.now ≡ true }
+        ensures { IfOk result (λ s. s ≡ moved_ops self.now.origin origin.now self.now.ops) }
+    {
+        Ok(SharedOps {
+            passage: Arc::try_clone(&self.passage)?,
+            window: origin.window(),
+        })
     }
 }
 
 impl SharedOps {
-    /// A passage at one of its places.
-    pub(crate) fn new(
-        passage: &Arc<Passage, Global>,
-        window: Window,
-    ) -> Result<SharedOps, OutOfMemory>
-        ensures { IfOk result (λ s. s ≡ ops_in window passage.now.value) }
-    {
-        Ok(SharedOps {
-            passage: Arc::try_clone(passage)?,
-            window,
-        })
-    }
-
     pub fn len(&self) -> usize
         ensures { result ≡ length self.now }
     {
@@ -165,6 +244,23 @@ impl SharedOps {
         ensures { (d : Op) → result ≡ (slice_index_or self.now place d).act }
     {
         self.window.with_unit(self.passage.get(place).act)
+    }
+
+    /// Where the registers of a rate end that the ops name: one more than the greatest number of one, 0 where there are
+    /// none.
+    pub fn limit(&self, rate: Rate) -> usize
+        ensures { result ≡ ops_limit rate self.now }
+    {
+        self.passage.limit(&self.window, rate)
+    }
+
+    /// What the ops touch of what notes share, by their acts, units without their numbers. It is at hand at once.
+    #[tactic(auto, using(crate::proofs::Touches::touching_in))]
+    pub fn touching(&self) -> &[Act]
+        ensures { (asks : Act → Bool) → IsOfShared asks
+            → list_any asks result.now ≡ list_any (λ o. asks o.act) self.now }
+    {
+        self.passage.touching()
     }
 
     /// No op of it is a jump, so that none can be aimed at.

@@ -37,7 +37,7 @@ pub enum Slots {
 }
 
 /// A number that is counted from where its kind begins.
-fn counted(begin: u32, number: u32) -> u32
+pub(crate) fn counted(begin: u32, number: u32) -> u32
     ensures { result ≡ counted begin number }
 {
     begin.wrapping_add(number)

@@ -5,6 +5,15 @@ use Rattle.std.specs.List.{flat_map, list_any}
 use Rattle.std.proofs.lemmas.Bool.{cases_lt}
 use Rattle.std.proofs.lemmas.List.{get_or-replicate, get_or_past, length-replicate}
 use Rattle.std.proofs.lemmas.List.Folds.{list_any-append, list_any_more}
+use Rattle.cs_base.specs.Rates.{same_res}
+use Rattle.cs_base.specs.declared.resource.Res.TheVariants as res
+use Rattle.cs_ir.proofs.Touches.{touches_none, touches_unit}
+use Rattle.cs_ir.specs.Resources.{may_write}
+use Rattle.cs_ir.specs.Touching.{IsOfShared}
+use Rattle.cs_ir.specs.declared.op.Act.{Act}
+use Rattle.cs_ir.specs.declared.op.Op.{Op}
+use Rattle.cs_piece.specs.Tables.{only}
+use Rattle.cs_piece.specs.inner.Marked.{act_stores, ops_store}
 
 pub or_three : (a b c : Bool) → ((a || b) || c) ≡ (a || (b || c))
 or_three true b c = refl
@@ -32,3 +41,16 @@ all_are xs count n d e = ap (λ l. get_or l n d) e ∙ ⊎_elim
     (λ l. get_or-replicate count n d d l)
     (λ g. get_or_past (replicate count d) n d (omega (arith, length-replicate count d, g)))
     (cases_lt n count)
+
+-- ---- by the acts of a passage that touch what notes share
+
+stores_shared : (n : ℕ) → IsOfShared (act_stores n)
+stores_shared n = record {
+  none = λ a h. ap (list_any (same_res (res.Table n))) (touches_none may_write (only n) a h);
+  unit = λ a. ap (list_any (same_res (res.Table n))) (touches_unit may_write (only n) a);
+}
+
+pub stores_touched : (acts : List Act) (ops : List Op)
+    → ((asks : Act → Bool) → IsOfShared asks → list_any asks acts ≡ list_any (λ (o : Op). asks o.act) ops)
+    → (n : ℕ) → list_any (act_stores n) acts ≡ ops_store n ops
+stores_touched acts ops h n = h (act_stores n) (stores_shared n)

@@ -82,13 +82,35 @@ impl Written {
     }
 
     /// Marks what the ops of a stretch may write.
+    #[tactic(auto, using(crate::proofs::Marks::stores_touched))]
     fn mark_stretch(&mut self, stretch: &Stretch)
+        ensures { (n : ℕ) → n < numbers_end → is_marked self.new n
+            ≡ (is_marked self.old n || ops_store n (ops_of stretch.now)) }
+    {
+        match stretch {
+            Stretch::Own(_) => self.mark_own(stretch),
+            Stretch::Shared(ops) => self.mark_acts(ops.touching()),
+        }
+    }
+
+    /// Marks what each op of a stretch may write.
+    fn mark_own(&mut self, stretch: &Stretch)
         ensures { (n : ℕ) → n < numbers_end → is_marked self.new n
             ≡ (is_marked self.old n || ops_store n (ops_of stretch.now)) }
     {
         for place in 0..stretch.len() {
             let act = stretch.act(place);
             self.mark_act(act);
+        }
+    }
+
+    /// Marks what acts may write.
+    fn mark_acts(&mut self, acts: &[Act])
+        ensures { (n : ℕ) → n < numbers_end → is_marked self.new n
+            ≡ (is_marked self.old n || list_any (act_stores n) acts.now) }
+    {
+        for act in acts {
+            self.mark_act(*act);
         }
     }
 

@@ -186,6 +186,14 @@ act_step areas f rs ops i a is l =
     ∙ ap (λ y. rs ++ (flat_map g (take i ops) ++ f y)) (is any_op)
     ∙ ap (λ t. rs ++ t) (list_more g ops i any_op l))
 
+-- what one more act names
+pub list_step : (areas : List Area) (f : Act → List Res) (rs : List Res) (acts : List Act) (i : ℕ) (a : Act)
+    → a ≡ get_or acts i a → i < length acts
+    → marks_of areas ((rs ++ flat_map f (take i acts)) ++ f a) ≡ marks_of areas (rs ++ flat_map f (take (i + 1) acts))
+list_step areas f rs acts i a is l =
+    ap (marks_of areas) (append_assoc rs (flat_map f (take i acts)) (f a)
+    ∙ ap (λ y. rs ++ (flat_map f (take i acts) ++ f y)) is ∙ ap (λ t. rs ++ t) (list_more f acts i a l))
+
 -- what the ops of one more stretch name
 pub stretch_step : (f : Op → List Res) (stretches : List Stretch) (i : ℕ) (s : Stretch) → s ≡ get_or stretches i s
     → i < length stretches

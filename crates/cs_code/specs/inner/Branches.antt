@@ -1,19 +1,17 @@
 -- Arms of an `if` of which one is done, one after another, and the jumps past the others.
 use Rattle.std.specs.Prelude.{ℕ, ◌+◌, ◌++◌, List, [], ◌∷◌, length}
-use Rattle.cs_base.specs.declared.spaces.Spaces.{Spaces}
 use Rattle.cs_ir.specs.Codes.{aim}
 use Rattle.cs_ir.specs.declared.op.Act.TheVariants as act
 use Rattle.cs_ir.specs.declared.op.Op.{Op}
 use Rattle.cs_ir.specs.declared.register.Reg.{Reg}
-use Rattle.cs_meaning.specs.Core.{Block, core}
+use Rattle.cs_meaning.specs.Core.{Block}
 use Rattle.cs_code.specs.declared.frame.Progress.{Progress}
 use Rattle.cs_code.specs.inner.Kept.{past, past_parts, past_block}
-use Rattle.cs_typed.specs.TypedTree as typed
 use Rattle.cs_typed.specs.TypedTree.{Expression}
 use Rattle.cs_typed.specs.declared.tree.TypedArm.{TypedArm, out-TypedArm}
 use Rattle.cs_code.specs.declared.frame.Pass.{Pass}
 use Rattle.cs_code.specs.inner.Code.{arm_code}
-use Rattle.cs_code.specs.inner.Emitted.{pass_block_code, cond_code, cond_reg}
+use Rattle.cs_code.specs.inner.Emitted.{Scope, block_in, expression_in, pass_block_code, cond_code, cond_reg}
 use Rattle.cs_code.specs.inner.Frames.{Frame, op_of}
 
 -- An arm: the code of its condition, where the condition stands, the code of its body.
@@ -59,29 +57,29 @@ aim_all [] end ops = ops
 aim_all (n ∷ ns) end ops = aim_all ns end (aim n end ops)
 
 -- the condition and the body of an arm of the tree, and what was met before its end
-abbrev pub condition_of : TypedArm → Expression
-condition_of a = typed.expression (out-TypedArm a).cond
+abbrev pub condition_of : Scope → TypedArm → Expression
+condition_of o a = expression_in o (out-TypedArm a).cond
 
-abbrev pub body_of : Spaces → TypedArm → Block
-body_of spaces a = core spaces (typed.block (out-TypedArm a).body.items)
+abbrev pub body_of : Scope → TypedArm → Block
+body_of o a = block_in o (out-TypedArm a).body.items
 
-abbrev pub past_arm : Spaces → Progress → TypedArm → Progress
-past_arm spaces p a = past_block (past_parts (past p.part (condition_of a)) p) (body_of spaces a)
+abbrev pub past_arm : Scope → Progress → TypedArm → Progress
+past_arm o p a = past_block (past_parts (past p.part (condition_of o a)) p) (body_of o a)
 
-abbrev pub past_list : Spaces → Progress → List TypedArm → Progress
-past_list spaces p [] = p
-past_list spaces p (a ∷ rest) = past_list spaces (past_arm spaces p a) rest
+abbrev pub past_list : Scope → Progress → List TypedArm → Progress
+past_list o p [] = p
+past_list o p (a ∷ rest) = past_list o (past_arm o p a) rest
 
 -- the codes of an arm at a place, and of arms one after another
-abbrev pub branch_of : Pass → Frame → Spaces → ℕ → Progress → TypedArm → Branch
-branch_of way f spaces place p a = let c = condition_of a in record {
+abbrev pub branch_of : Pass → Frame → Scope → ℕ → Progress → TypedArm → Branch
+branch_of way f o place p a = let c = condition_of o a in record {
   cond = cond_code way f p.part c;
   q = cond_reg way f p.part c;
   body = pass_block_code way f (place + length (cond_code way f p.part c) + 1) (past_parts (past p.part c) p)
-      (body_of spaces a);
+      (body_of o a);
 }
 
-abbrev pub branches : Pass → Frame → Spaces → ℕ → Progress → List TypedArm → List Branch
-branches way f spaces place p [] = []
-branches way f spaces place p (a ∷ rest) = let b = branch_of way f spaces place p a in
-    b ∷ branches way f spaces (past_branch place b) (past_arm spaces p a) rest
+abbrev pub branches : Pass → Frame → Scope → ℕ → Progress → List TypedArm → List Branch
+branches way f o place p [] = []
+branches way f o place p (a ∷ rest) = let b = branch_of way f o place p a in
+    b ∷ branches way f o (past_branch place b) (past_arm o p a) rest

@@ -2,12 +2,7 @@
 use Rattle.std.specs.Prelude.{ℕ, max}
 use Rattle.cs_base.specs.declared.resource.Rate.{Rate}
 use Rattle.cs_base.specs.declared.resource.Rate.TheVariants as rate
-use Rattle.cs_ir.specs.declared.op.Op.{Op}
 use Rattle.cs_ir.specs.declared.register.Counts.{Counts}
-use Rattle.cs_code.specs.inner.Limits.{reg_limit, regs_limit}
-
-abbrev pub op_limit : Rate → Op → ℕ
-op_limit r op = max (reg_limit r op.into) (regs_limit r op.from)
 
 abbrev pub no_registers : ℕ → Counts
 no_registers units = record { registers = record { init = 0; control = 0; audio = 0 }; units = units }

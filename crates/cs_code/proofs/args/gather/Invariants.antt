@@ -9,11 +9,13 @@ use Rattle.cs_code.proofs.args.gather.Given as goal
 abbrev pub invariant-loop-e : goal.invariant-loop-e
 invariant-loop-e l =
     (l.ops ++ operands_code (frame_of l.context.bases) (when_of l.context.pass) l.next
-    (expressions_of (drop l.e-index l.values)) l.d
+    (expressions_of l.context.bases (drop l.e-index l.values)) l.d
     ≡ l.initial.ops ++ operands_code (frame_of l.context.bases) (when_of l.context.pass) l.at
-    (expressions_of l.values) 0)
+    (expressions_of l.context.bases l.values) 0)
     × (l.regs.items ++ spots (frame_of l.context.bases) (when_of l.context.pass) l.next
-    (expressions_of (drop l.e-index l.values)) l.d
-    ≡ l.initial.regs.items ++ spots (frame_of l.context.bases) (when_of l.context.pass) l.at (expressions_of l.values)
+    (expressions_of l.context.bases (drop l.e-index l.values)) l.d
+    ≡ l.initial.regs.items ++ spots (frame_of l.context.bases) (when_of l.context.pass) l.at
+    (expressions_of l.context.bases l.values)
     0)
-    × (past_all l.next (expressions_of (drop l.e-index l.values)) ≡ past_all l.at (expressions_of l.values))
+    × (past_all l.next (expressions_of l.context.bases (drop l.e-index l.values)) ≡ past_all l.at
+    (expressions_of l.context.bases l.values))

@@ -14,7 +14,8 @@ pub returns-clause-init : goal.returns-clause-init
 returns-clause-init c =
     let locals : PerRate ℕ = c.args.locals in
     let same : c.in_ok-locals.locals ≡ locals = c.in_ok-locals.ensures in
-    let body : Block = core c.args.spaces (typed.block c.args.stmts.now) in
+    let body : Block = core c.args.orc.now.spaces
+    (typed.block (typed.routines c.args.orc.now.routines.items) c.args.stmts.now) in
     let counted : c.in_ok-perf.perf.next.part ≡ parts_of body =
     ap (λ (p : Progress). p.part) c.in_ok-perf.ensures.next in
     c.in_ok-init-2.ensures.ops
@@ -29,7 +30,9 @@ pub returns-clause-perf : goal.returns-clause-perf
 returns-clause-perf c =
     let locals : PerRate ℕ = c.args.locals in
     let same : c.in_ok-locals.locals ≡ locals = c.in_ok-locals.ensures in
-    let body : Block = core c.args.spaces (typed.block c.args.stmts.now) in
+    let body : Block = core c.args.orc.now.spaces
+    (typed.block (typed.routines c.args.orc.now.routines.items) c.args.stmts.now) in
     c.in_ok-perf.ensures.ops
     ∙ ap (λ (l : PerRate ℕ). perf_block_code (record { kept = l.init; base = at_rate l }) 0 start body) same
-    ∙ same_block (record { kept = locals.init; temporaries = locals }) (locals.init + parts_of body) 0 start body
+    ∙ same_block (record { locals = typed.no_counts; kept = locals.init; temporaries = locals })
+    (locals.init + parts_of body) 0 start body

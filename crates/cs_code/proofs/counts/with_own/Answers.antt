@@ -1,6 +1,6 @@
 use Rattle.std.proofs.Common.{◌∙◌, ◌+◌, arith, drop, sym, ap}
-use Rattle.cs_code.specs.inner.Counted.{reached, op_limit}
-use Rattle.cs_code.specs.inner.Limits.{ops_limit}
+use Rattle.cs_code.specs.inner.Counted.{reached}
+use Rattle.cs_ir.specs.Limits.{op_limit, ops_limit}
 use Rattle.cs_code.proofs.Lists.{dropped}
 use Rattle.cs_code.proofs.Reached.{reached_step}
 use Rattle.cs_code.proofs.counts.with_own.Goals as goal

@@ -1,6 +1,6 @@
 use Rattle.std.proofs.Common.{◌≡◌, drop}
 use Rattle.cs_code.specs.inner.Counted.{reached}
-use Rattle.cs_code.specs.inner.Limits.{ops_limit}
+use Rattle.cs_ir.specs.Limits.{ops_limit}
 use Rattle.cs_code.proofs.counts.with_own.Given as goal
 
 abbrev pub invariant-loop-op : goal.invariant-loop-op

@@ -1,6 +1,6 @@
 use Rattle.std.proofs.Common.{◌≡◌, drop}
 use Rattle.cs_code.specs.inner.Counted.{reached}
-use Rattle.cs_code.specs.inner.Limits.{regs_limit}
+use Rattle.cs_ir.specs.Limits.{regs_limit}
 use Rattle.cs_code.proofs.counts.with_regs.Given as goal
 
 abbrev pub invariant-loop-reg : goal.invariant-loop-reg

@@ -1,7 +1,7 @@
 use Rattle.std.proofs.Common.{◌∙◌, ◌+◌, arith, drop, sym, ap}
 use Rattle.cs_ir.specs.Codes.{flat, ops_of}
 use Rattle.cs_code.specs.inner.Counted.{reached}
-use Rattle.cs_code.specs.inner.Limits.{ops_limit}
+use Rattle.cs_ir.specs.Limits.{ops_limit}
 use Rattle.cs_code.proofs.Lists.{dropped}
 use Rattle.cs_code.proofs.Reached.{reached_append}
 use Rattle.cs_code.proofs.counts.with_stretches.Goals as goal

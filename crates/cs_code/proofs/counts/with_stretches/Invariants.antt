@@ -1,7 +1,7 @@
 use Rattle.std.proofs.Common.{◌≡◌, drop}
 use Rattle.cs_ir.specs.Codes.{flat}
 use Rattle.cs_code.specs.inner.Counted.{reached}
-use Rattle.cs_code.specs.inner.Limits.{ops_limit}
+use Rattle.cs_ir.specs.Limits.{ops_limit}
 use Rattle.cs_code.proofs.counts.with_stretches.Given as goal
 
 abbrev pub invariant-loop-stretch : goal.invariant-loop-stretch

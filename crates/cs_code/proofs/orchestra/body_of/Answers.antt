@@ -7,7 +7,8 @@ use Rattle.cs_code.proofs.orchestra.body_of.Goals as goal
 pub valid_body-requires-clause-init : goal.valid_body-requires-clause-init
 valid_body-requires-clause-init c =
     let made = c.in_ok-codes.codes in
-    made_init_valid c.args.spaces c.args.locals c.requires.rated.0 (typed.block c.args.stmts.now) c.requires.rated.1
+    made_init_valid c.args.orc.now.spaces c.args.locals c.requires.rated.0
+    (typed.block (typed.routines c.args.orc.now.routines.items) c.args.stmts.now) c.requires.rated.1
     made.counts made.init made.perf
     (record {
       init_is = c.in_ok-codes.ensures.init;
@@ -19,7 +20,8 @@ valid_body-requires-clause-init c =
 pub valid_body-requires-clause-perf : goal.valid_body-requires-clause-perf
 valid_body-requires-clause-perf c =
     let made = c.in_ok-codes.codes in
-    made_perf_valid c.args.spaces c.args.locals c.requires.rated.0 (typed.block c.args.stmts.now) c.requires.rated.1
+    made_perf_valid c.args.orc.now.spaces c.args.locals c.requires.rated.0
+    (typed.block (typed.routines c.args.orc.now.routines.items) c.args.stmts.now) c.requires.rated.1
     made.counts made.init made.perf
     (record {
       init_is = c.in_ok-codes.ensures.init;
@@ -32,7 +34,8 @@ pub returns : goal.returns
 returns c = λ s rated.
     let made = c.in_ok-codes.codes in
     let same = c.in_ok-new.ensures.ok in
-    made_code c.args.spaces c.args.locals s (typed.block c.args.stmts.now) rated made.counts made.init
+    made_code c.args.orc.now.spaces c.args.locals s
+    (typed.block (typed.routines c.args.orc.now.routines.items) c.args.stmts.now) rated made.counts made.init
     made.perf
     (record {
       init_is = c.in_ok-codes.ensures.init;

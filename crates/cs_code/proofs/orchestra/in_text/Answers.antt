@@ -14,8 +14,9 @@ add_instr-requires-clause-rated c =
     let P = λ (i : typed.Instrument). IsRatedBlock setting i.body in
     let xs = c.deref-instr-items.result.now in (
       setting,
-      at_instrument P xs c.loop-instr.instr-index c.instr-item.result
-          (subst (λ l. All P (map typed.instrument l)) (sym c.deref-instr-items.ensures.value) c.requires.rated.instrs)
+      at_instrument (typed.routines c.args.orc.now.routines.items) P xs c.loop-instr.instr-index c.instr-item.result
+          (subst (λ l. All P (map (typed.instrument (typed.routines c.args.orc.now.routines.items)) l))
+          (sym c.deref-instr-items.ensures.value) c.requires.rated.instrs)
           c.loop-instr-test.true c.instr-item.is,
     )
 
@@ -23,8 +24,9 @@ pub add_instr-requires-clause-counted : goal.add_instr-requires-clause-counted
 add_instr-requires-clause-counted c =
     let P = λ (i : typed.Instrument). EachInBlock (IsCounted i.locals) i.body in
     let xs = c.deref-instr-items.result.now in
-    at_instrument P xs c.loop-instr.instr-index c.instr-item.result
-    (subst (λ l. All P (map typed.instrument l)) (sym c.deref-instr-items.ensures.value) c.requires.rated.locals)
+    at_instrument (typed.routines c.args.orc.now.routines.items) P xs c.loop-instr.instr-index c.instr-item.result
+    (subst (λ l. All P (map (typed.instrument (typed.routines c.args.orc.now.routines.items)) l))
+    (sym c.deref-instr-items.ensures.value) c.requires.rated.locals)
     c.loop-instr-test.true c.instr-item.is
 
 pub loop-instr-preserved : goal.loop-instr-preserved
@@ -34,10 +36,14 @@ loop-instr-preserved c =
     let xs = c.deref-instr-items.result.now in
     let i = c.loop-instr.instr-index in
     let x = c.instr-item.result in
-    let rated = at_instrument (λ (y : typed.Instrument). IsRatedBlock setting y.body) xs i x
-    (subst (λ l. All (λ (y : typed.Instrument). IsRatedBlock setting y.body) (map typed.instrument l))
+    let rated = at_instrument (typed.routines c.args.orc.now.routines.items)
+    (λ (y : typed.Instrument). IsRatedBlock setting y.body) xs i x
+    (subst (λ l. All (λ (y : typed.Instrument). IsRatedBlock setting y.body)
+    (map (typed.instrument (typed.routines c.args.orc.now.routines.items)) l))
     (sym c.deref-instr-items.ensures.value)
     c.requires.rated.instrs) c.loop-instr-test.true c.instr-item.is in
     subst (λ l. AllZip (IsNumberedCode o.spaces o.head.nchnls) l c.add_instr.new.list.items)
-    (sym (bodies_more xs i x c.loop-instr-test.true c.instr-item.is))
-    (c.in_ok-add_instr.ensures o.head.nchnls (bodies (map typed.instrument (take i xs))) rated c.loop-instr.invariant)
+    (sym (bodies_more (typed.routines c.args.orc.now.routines.items) xs i x c.loop-instr-test.true c.instr-item.is))
+    (c.in_ok-add_instr.ensures o.head.nchnls
+    (bodies (map (typed.instrument (typed.routines c.args.orc.now.routines.items)) (take i xs))) rated
+    c.loop-instr.invariant)

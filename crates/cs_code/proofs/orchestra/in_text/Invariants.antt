@@ -7,4 +7,5 @@ use Rattle.cs_code.proofs.orchestra.in_text.Given as goal
 abbrev pub invariant-loop-instr : goal.invariant-loop-instr
 invariant-loop-instr l =
     AllZip (IsNumberedCode l.orc.spaces l.orc.head.nchnls)
-    (bodies (map typed.instrument (take l.instr-index l.instr-items))) l.list.items
+    (bodies (map (typed.instrument (typed.routines l.orc.routines.items)) (take l.instr-index l.instr-items)))
+    l.list.items

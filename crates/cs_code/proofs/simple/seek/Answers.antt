@@ -9,7 +9,7 @@ pub returns : goal.returns
 returns c =
     let f = frame_of c.args.context.bases in
     let old = c.args.ops.now in
-    let es = expressions_of c.args.settled.now in
+    let es = expressions_of c.args.context.bases c.args.settled.now in
     c.in_ok-push_on.ensures.ops
     ∙ ap (λ w. old ++ on_code f (when_of w) 0 act.Seek c.unwritten.result es) c.requires
     ∙ ap (λ q. old ++ on_code f beginning 0 act.Seek q es) c.unwritten.ensures

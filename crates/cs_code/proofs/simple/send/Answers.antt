@@ -5,7 +5,7 @@ use Rattle.cs_code.proofs.simple.send.Goals as goal
 pub returns-in_ok-send_regs-in-Performance-clause-ops : goal.returns-in_ok-send_regs-in-Performance-clause-ops
 returns-in_ok-send_regs-in-Performance-clause-ops c =
     sent_pass c.args.context.pass (frame_of c.args.context.bases) c.args.p c.args.sending
-    (expressions_of c.args.values.now)
+    (expressions_of c.args.context.bases c.args.values.now)
     c.args.ops.now c.operands.new.ops c.send_regs.new.ops c.deref.result.now
     c.in_ok-found-in-Performance.found.regs.items
     c.in-Performance.is c.in_ok-found-in-Performance.ensures.ops c.in_ok-found-in-Performance.ensures.regs

@@ -1,0 +1,124 @@
+-- How much there is to do in statements: a number that falls from each part of the tree to the parts in it, and from a
+-- routine to those in front of it.
+use Rattle.std.proofs.Common.{◌≡◌, ◌<◌, ◌≤◌, ◌+◌, ◌*◌, ◌∷◌, [], ℕ, zero, suc, List, Some, length, take, get_or}
+use Rattle.std.proofs.Common.{arith}
+use Rattle.std.proofs.Common.{refl, ap}
+use Rattle.std.specs.List.{slice_get}
+use Rattle.std.specs.Global.{Vec}
+use Rattle.std.proofs.lemmas.Option.{none-some}
+use Rattle.cs_base.proofs.Tests.{some_is}
+use Rattle.cs_base.specs.declared.resource.Rate.{Rate}
+use Rattle.cs_typed.specs.TypedTree as typed
+use Rattle.cs_typed.specs.declared.tree.TypedArm.{TypedArm, out-TypedArm}
+use Rattle.cs_typed.specs.declared.tree.TypedStmt.{TypedStmt}
+
+abbrev mutual
+  pub stmt_weight : typed.Statement → ℕ
+  stmt_weight (typed.set line r v e) = 0
+  stmt_weight (typed.call line r vs opcode args) = 0
+  stmt_weight (typed.choose line r list) = suc (arms_weight list)
+
+  pub block_weight : typed.Block → ℕ
+  block_weight typed.no_stmt = 0
+  block_weight (typed.andthen s rest) = stmt_weight s + block_weight rest
+
+  pub arms_weight : typed.Arms → ℕ
+  arms_weight (typed.otherwise b) = block_weight b
+  arms_weight (typed.arm c b rest) = suc (block_weight b) + arms_weight rest
+
+-- of what the code's tree has, where what is invoked counts for nothing
+abbrev pub one_weight : TypedStmt → ℕ
+one_weight s = block_weight (typed.statement [] s)
+
+abbrev pub all_weight : List TypedStmt → ℕ
+all_weight ss = block_weight (typed.block [] ss)
+
+abbrev pub body_weight : TypedArm → ℕ
+body_weight a = all_weight (out-TypedArm a).body.items
+
+abbrev pub list_weight : List TypedArm → ℕ
+list_weight arms = arms_weight (typed.arms [] typed.no_stmt arms)
+
+both_weigh : (a b : typed.Block) → block_weight (typed.then_block a b) ≡ block_weight a + block_weight b
+both_weigh typed.no_stmt b = zero_more (block_weight b)
+  where
+    zero_more : (n : ℕ) → n ≡ 0 + n
+    zero_more n = omega arith
+both_weigh (typed.andthen s rest) b =
+    let more = both_weigh rest b in
+    let all : stmt_weight s + block_weight (typed.then_block rest b)
+    ≡ (stmt_weight s + block_weight rest) + block_weight b = omega (arith, more) in
+    all
+
+pub one_in_all : (ss : List TypedStmt) (i : ℕ) (x : TypedStmt) → i < length ss → x ≡ get_or ss i x
+    → one_weight x ≤ all_weight ss
+one_in_all [] i x low e = absurd (omega (arith, low))
+one_in_all (s ∷ ss) zero x low e =
+    let all : all_weight (s ∷ ss) ≡ one_weight s + all_weight ss =
+    both_weigh (typed.statement [] s) (typed.block [] ss) in
+    let same : one_weight x ≡ one_weight s = ap one_weight e in
+    omega (arith, all, same)
+one_in_all (s ∷ ss) (suc i) x low e =
+    let all : all_weight (s ∷ ss) ≡ one_weight s + all_weight ss =
+    both_weigh (typed.statement [] s) (typed.block [] ss) in
+    let more : one_weight x ≤ all_weight ss = one_in_all ss i x (omega (arith, low)) e in
+    omega (arith, all, more)
+
+pub body_in_list : (arms : List TypedArm) (i : ℕ) (a : TypedArm) → i < length arms → a ≡ get_or arms i a
+    → body_weight a < list_weight arms
+body_in_list [] i a low e = absurd (omega (arith, low))
+body_in_list (x ∷ arms) zero a low e =
+    let all : list_weight (x ∷ arms) ≡ suc (body_weight x) + list_weight arms = refl in
+    let same : body_weight a ≡ body_weight x = ap body_weight e in
+    omega (arith, all, same)
+body_in_list (x ∷ arms) (suc i) a low e =
+    let all : list_weight (x ∷ arms) ≡ suc (body_weight x) + list_weight arms = refl in
+    let more : body_weight a < list_weight arms = body_in_list arms i a (omega (arith, low)) e in
+    omega (arith, all, more)
+
+-- an `if` weighs more than its arms and the statements after `else` together
+arms_and_else : (els : typed.Block) (arms : List TypedArm)
+    → arms_weight (typed.arms [] els arms) ≡ list_weight arms + block_weight els
+arms_and_else els [] = zero_more (block_weight els)
+  where
+    zero_more : (n : ℕ) → n ≡ 0 + n
+    zero_more n = omega arith
+arms_and_else els (a ∷ arms) =
+    let wider : arms_weight (typed.arms [] els (a ∷ arms))
+    ≡ suc (body_weight a) + arms_weight (typed.arms [] els arms) = refl in
+    let all : list_weight (a ∷ arms) ≡ suc (body_weight a) + list_weight arms = refl in
+    let more : arms_weight (typed.arms [] els arms) ≡ list_weight arms + block_weight els = arms_and_else els arms in
+    omega (arith, wider, all, more)
+
+pub choice_weighs : (s : typed.Block) (line : ℕ) (r : Rate) (els : List TypedStmt)
+    (arms : List TypedArm)
+    → s ≡ typed.alone (typed.choose line r (typed.arms [] (typed.block [] els) arms))
+    → block_weight s ≡ list_weight arms + all_weight els + 1
+choice_weighs s line r els arms e =
+    let more : arms_weight (typed.arms [] (typed.block [] els) arms) ≡ list_weight arms + all_weight els =
+    arms_and_else (typed.block [] els) arms in
+    let same : block_weight s ≡ suc (arms_weight (typed.arms [] (typed.block [] els) arms)) + 0 = ap block_weight e in
+    omega (arith, same, more)
+
+-- ---- routines
+
+abbrev pub routines_weight : List (Vec TypedStmt) → ℕ
+routines_weight [] = 0
+routines_weight (r ∷ rs) = (4 * all_weight r.items + 4) + routines_weight rs
+
+pub weight_falls : (list : List (Vec TypedStmt)) (k : ℕ) (r : Vec TypedStmt) → slice_get list k ≡ Some r
+    → routines_weight (take k list) + (4 * all_weight r.items + 4) ≤ routines_weight list
+weight_falls [] k r e = absurd (none-some r e)
+weight_falls (x ∷ list) zero r e =
+    let front : routines_weight (take zero (x ∷ list)) ≡ 0 = refl in
+    let all : routines_weight (x ∷ list) ≡ (4 * all_weight x.items + 4) + routines_weight list = refl in
+    let same : all_weight x.items ≡ all_weight r.items =
+    ap (λ (y : Vec TypedStmt). all_weight y.items) (some_is x r e) in
+    omega (arith, front, all, same)
+weight_falls (x ∷ list) (suc k) r e =
+    let front : routines_weight (take (suc k) (x ∷ list))
+    ≡ (4 * all_weight x.items + 4) + routines_weight (take k list) = refl in
+    let all : routines_weight (x ∷ list) ≡ (4 * all_weight x.items + 4) + routines_weight list = refl in
+    let more : routines_weight (take k list) + (4 * all_weight r.items + 4) ≤ routines_weight list =
+    weight_falls list k r e in
+    omega (arith, front, all, more)
