@@ -12,7 +12,9 @@ use cs_code::{Lowered, lower};
 use cs_grammar::{Orc, parse, trees_are_well_formed};
 use cs_ir::{Instrument, Instruments};
 use cs_lex::lex;
-use cs_typing::{TypedOrc, numbers_stand_once, type_orc, typing_is_well_rated};
+use cs_typing::{TypedOrc, type_orc, typing_is_well_rated};
+use cs_udo::Expansion;
+use cs_udo_meaning::expansions_can_be_lowered;
 use std::alloc::Global;
 
 // The tree of a text.
@@ -33,15 +35,19 @@ fn tree_of(alloc: Global, source: &[u8]) -> Option<Orc>
     }
 }
 
-// Its typed form, which agrees with the rules of rates, and gives no number twice.
+// Its typed form, which agrees with the rules of rates, and gives no number twice; none where a call of an opcode of
+// one's own is refused.
 fn typed_of(alloc: Global, orc: &Orc) -> Option<TypedOrc>
     requires { IsWellFormed (tree.orchestra orc.now) }
     ensures rated { IfSome result (λ t. IsWellRated (typed.orchestra t)) }
     ensures distinct { IfSome result (λ t. IsDistinct eqb (all_numbers (typed.orchestra t).instrs)) }
 {
     typing_is_well_rated();
-    numbers_stand_once();
-    match type_orc(alloc, orc) {
+    expansions_can_be_lowered();
+    let Ok(expansion) = Expansion::new(alloc, orc) else {
+        return None;
+    };
+    match type_orc(alloc, &expansion) {
         Ok(typed) => Some(typed),
         Err(_) => None,
     }

@@ -1,7 +1,6 @@
 -- An orchestra that texts mean asks for few notes: an instrument for no more than it may have statements.
-use Rattle.std.proofs.Common.{◌≡◌, ◌≤◌, ℕ, ℤ, List, [], ◌∷◌, Option, Some, Ok, sym, subst, arith}
-use Rattle.std.specs.List.{All, AllByRecursion as Each, Contains}
-use Rattle.std.specs.Option.{option_map}
+use Rattle.std.proofs.Common.{◌≡◌, ◌≤◌, ℕ, List, [], ◌∷◌, Ok, sym, subst, arith}
+use Rattle.std.specs.List.{All, AllByRecursion as Each}
 use Rattle.std.proofs.lemmas.List.Elements.{All-contains, All-from_recursion}
 use Rattle.cs_base.specs.Limits.{most_statements}
 use Rattle.cs_base.specs.declared.resource.Rate.{Rate}
@@ -19,7 +18,7 @@ use Rattle.cs_typed.specs.declared.tree.Var.{Var as Variable}
 use Rattle.cs_typing.specs.Calls.{typed_call}
 use Rattle.cs_typing.specs.Known.{KnownHere}
 use Rattle.cs_typing.specs.Statements.{known, known_block, typed_arms, typed_block, typed_statement}
-use Rattle.cs_typing.specs.Typing.{alone, before, body, entered, first_known, from, items, known_item, type_fault}
+use Rattle.cs_typing.specs.Typing.{before, body, entered, first_known, from, items, known_item, type_fault}
 use Rattle.cs_typing.specs.Typing.{typed_instruments, typed_of}
 use Rattle.cs_udo.specs.Counted.{size, size_of, size_of_arms}
 use Rattle.cs_udo.specs.Expanding.{expanding}

@@ -1,18 +1,14 @@
 -- What the single steps answer, and how their answers go together.
-use Rattle.std.proofs.Common.{◌≡◌, ◌≤◌, ◌<◌, Bool, true, false, nat_lt, List, length, Option, Some, None, Result, Ok}
-use Rattle.std.proofs.Common.{Err, IfOk, refl, sym, ap, ◌∙◌, arith}
+use Rattle.std.proofs.Common.{◌≡◌, ◌∙◌, List, Option, Some, None, Result, Ok, Err, IfOk, refl, sym, ap}
 use Rattle.std.specs.Option.{option_or}
 use Rattle.std.specs.Result.{IsErrAnd}
-use Rattle.std.proofs.lemmas.Bool.Decides.{nat_tests}
 use Rattle.cs_base.specs.Lines.{Excerpt}
 use Rattle.cs_base.specs.declared.fault.Or.{Or}
 use Rattle.cs_base.specs.declared.fault.Or.TheVariants as or
 use Rattle.cs_base.specs.declared.fault.OrcFault.{OrcFault}
 use Rattle.cs_base.specs.declared.fault.ScoreFault.{ScoreFault}
 use Rattle.cs_base.specs.declared.head.Head.{Head}
-use Rattle.cs_base.specs.declared.limit.Limit.{Limit}
 use Rattle.cs_base.specs.declared.limit.LimitHit.{LimitHit}
-use Rattle.cs_base.specs.Limits.{most_of}
 use Rattle.cs_grammar.specs.Tree as tree
 use Rattle.cs_score.specs.Limits.{IsRefusedFor, Passes, limit_of_score}
 use Rattle.cs_score.specs.Statements.{score_of}
@@ -26,7 +22,7 @@ use Rattle.cs_typing.specs.Typing.{judged, type_fault, typed_of}
 use Rattle.cs_base.specs.declared.width.SampleWidth.{SampleWidth}
 use Rattle.cs_compile.specs.Then.{Is}
 use Rattle.cs_piece_meaning.specs.Moments.{Composition}
-use Rattle.cs_compile.specs.Meaning.{HasHead, IsPlayedAs, no_longer_than, orchestra_means, orchestra_plays, passed_if}
+use Rattle.cs_compile.specs.Meaning.{HasHead, IsPlayedAs, orchestra_means, orchestra_plays}
 use Rattle.cs_compile.specs.Meaning.{piece_of, plotted, refused_as, score_means, short_texts_mean, typed_form}
 use Rattle.cs_compile.specs.Meaning.{unless_passed}
 use Rattle.cs_base.specs.declared.refusal.Refusal.{Refusal}
@@ -44,30 +40,6 @@ left_with (Err g) e x i h = let same : g ≡ or.Fault x = cc in ap (λ (z : Or _
 pub if_ok : {A E : Type 0} (P Q : A → Type 0) → ((a : A) → P a → Q a) → (r : Result A E) → IfOk r P → IfOk r Q
 if_ok P Q weaker (Ok a) p = weaker a p
 if_ok P Q weaker (Err e) p = tt
-
-pub if_both : {A E : Type 0} (P Q R : A → Type 0) → ((a : A) → P a → Q a → R a) → (r : Result A E) → IfOk r P → IfOk r Q
-    → IfOk r R
-if_both P Q R both (Ok a) p q = both a p q
-if_both P Q R both (Err e) p q = tt
-
--- TEXTS by their lengths
-
-pub is_short : (which : Limit) (text : Excerpt) → length text.bytes ≤ most_of which
-    → Ok text ≡ no_longer_than which text
-is_short which text h = by_test (nat_lt (most_of which) (length text.bytes)) (grind (arith, nat_tests))
-  where
-    by_test : (b : Bool) → b ≡ false → Ok text ≡ unless_passed (passed_if which b) text
-    by_test true h = absurd (cc)
-    by_test false h = refl
-
-pub is_long : (which : Limit) (text : Excerpt) → most_of which < length text.bytes
-    → Err (why.Limit (record { limit = which; line = 0 })) ≡ no_longer_than which text
-is_long which text h = by_test (nat_lt (most_of which) (length text.bytes)) (grind (arith, nat_tests))
-  where
-    by_test : (b : Bool) → b ≡ true
-        → Err (why.Limit (record { limit = which; line = 0 })) ≡ unless_passed (passed_if which b) text
-    by_test true h = refl
-    by_test false h = absurd (cc)
 
 -- TREES
 

@@ -13,7 +13,8 @@ ghost use Rattle.cs_piece.specs.Setups.{AskForFew};
 ghost use Rattle.cs_typed.specs.TypedTree as typed;
 ghost use Rattle.cs_typed.specs.WellRated.{IsWellRated};
 ghost use Rattle.cs_typing.specs.Typing.{typed_of};
-ghost use Rattle.cs_udo.specs.Expanding.{expanding};
+ghost use Rattle.cs_udo.specs.Expanded.{expanded_orchestra};
+ghost use Rattle.cs_udo.specs.Ready.{IsReady};
 
 use cs_base::{Excerpt, Or, Refusal};
 use cs_grammar::{Orc, parse, trees_are_well_formed};
@@ -21,7 +22,7 @@ use cs_lex::lex;
 use cs_name_laws::typed_trees_name_what_there_is;
 use cs_typed::TypedOrc;
 use cs_typing::{type_orc, typing_is_well_rated};
-use cs_udo::expand;
+use cs_udo::Expansion;
 use cs_udo_meaning::expansions_can_be_lowered;
 use std::alloc::Global;
 
@@ -63,32 +64,26 @@ fn typed_tree(alloc: Global, orc: Orc) -> Result<TypedOrc, Or<Refusal>>
     ensures asks { IfOk result (λ o. AskForFew (typed.orchestra o)) }
     ensures refused { (r : Refusal) → result ≡ Err (or.Fault r) → IsTypedAs (tree.orchestra orc) (Err r) }
 {
-    let whole = expanded(alloc, orc)?;
-    typed_form(alloc, &whole)
-}
-
-// A tree without calls of defined opcodes, or why there is none.
-fn expanded(alloc: Global, orc: Orc) -> Result<Orc, Or<Refusal>>
-    requires { IsWellFormed (tree.orchestra orc) }
-    ensures expanded { IfOk result (λ e. expanding (tree.orchestra orc) ≡ Ok (tree.orchestra e)) }
-    ensures distinct { IfOk result (λ e. IsDistinct eqb (all_numbers (typed_of (tree.orchestra e)).instrs)) }
-    ensures refused { (r : Refusal) → result ≡ Err (or.Fault r) → expanding (tree.orchestra orc) ≡ Err r }
-{
     expansions_can_be_lowered();
-    expand(alloc, orc)
+    let expansion = Expansion::new(alloc, &orc)?;
+    typed_form(alloc, &expansion)
 }
 
-// The typed form of an expanded tree, or the refusal of its first broken rule of rates and names.
-fn typed_form(alloc: Global, orc: &Orc) -> Result<TypedOrc, Or<Refusal>>
-    requires { IsDistinct eqb (all_numbers (typed_of (tree.orchestra orc.now)).instrs) }
-    ensures typed { IfOk result (λ o. typed_form (tree.orchestra orc.now) ≡ Ok (typed.orchestra o)) }
+// The typed form of the expanded tree, or the refusal of its first broken rule of rates and names.
+fn typed_form(alloc: Global, expansion: &Expansion<'_>) -> Result<TypedOrc, Or<Refusal>>
+    requires ready { IsReady expansion.now }
+    requires distinct { let t = expanded_orchestra (tree.orchestra expansion.now.orc.now) in
+        IsDistinct eqb (all_numbers (typed_of t).instrs) }
+    ensures typed { let t = expanded_orchestra (tree.orchestra expansion.now.orc.now) in
+        IfOk result (λ o. typed_form t ≡ Ok (typed.orchestra o)) }
     ensures rated { IfOk result (λ o. IsWellRated (typed.orchestra o)) }
     ensures distinct { IfOk result (λ o. IsDistinct eqb (all_numbers (typed.orchestra o).instrs)) }
     ensures named { IfOk result (λ o. NamesWhatThereIs (typed.orchestra o)) }
-    ensures refused { (r : Refusal) → result ≡ Err (or.Fault r) → typed_form (tree.orchestra orc.now) ≡ Err r }
+    ensures refused { let t = expanded_orchestra (tree.orchestra expansion.now.orc.now) in
+        (r : Refusal) → result ≡ Err (or.Fault r) → typed_form t ≡ Err r }
 {
     typing_is_well_rated();
     typed_trees_name_what_there_is();
-    let typed = type_orc(alloc, orc)?;
+    let typed = type_orc(alloc, expansion)?;
     Ok(typed)
 }
