@@ -75,6 +75,16 @@ at_word X R f r ends xs as' i a t m q k =
     no_value [] = ends.none (text t ∷ map argument (drop (i + 1) as'))
     no_value (y ∷ ys) = ends.word y ys t (map argument (drop (i + 1) as'))
 
+-- a place within two lists, where a count runs to the lesser of the lengths of their copies
+pub in_both : {X Y : Type 0} {ys : List X} {n end : ℕ} (xs : List X) (as' : List Y) (i : ℕ) → end ≡ min (length ys) n
+    → ys ≡ xs → n ≡ length as' → i < end → i < min (length xs) (length as')
+in_both xs as' i e same count h = subst (λ m. i < m) (e ∙ λ j. min (length (same j)) (count j)) h
+
+-- a place past the end of one of them
+pub past_both : {X Y : Type 0} {ys : List X} {n end : ℕ} (xs : List X) (as' : List Y) (i : ℕ) → end ≡ min (length ys) n
+    → ys ≡ xs → n ≡ length as' → end ≤ i → min (length xs) (length as') ≤ i
+past_both xs as' i e same count h = subst (λ m. m ≤ i) (e ∙ λ j. min (length (same j)) (count j)) h
+
 -- ---- the four functions of names or rates with arguments
 
 pub inputs_fault_ends : (s : Setting) (k : KnownInBody) (line : ℕ)

@@ -1,12 +1,14 @@
 -- Statements cut at the line of an instrument, and the parts of an orchestra one after the other.
-use Rattle.std.proofs.Common.{◌≡◌, ◌∙◌, ◌+◌, ℕ, suc, Bool, true, false, List, [], ◌∷◌, map, take, drop, cond}
-use Rattle.std.proofs.Common.{nat_lt, if◌then◌else◌, refl, sym, ap, arith}
+use Rattle.std.proofs.Common.{◌≡◌, ◌∙◌, ◌+◌, ◌<◌, ℕ, suc, Bool, true, false, List, [], ◌∷◌, map, take, drop, cond}
+use Rattle.std.proofs.Common.{length}
+use Rattle.std.proofs.Common.{nat_lt, get_or, if◌then◌else◌, refl, sym, ap, arith}
 use Rattle.std.specs.List.{prefix_len}
 use Rattle.cs_grammar.specs.declared.tree.Instr.{Instr}
 use Rattle.cs_grammar.specs.declared.tree.OrcStmt.{OrcStmt}
 use Rattle.cs_grammar.specs.declared.tree.StmtWhat.{StmtWhat}
 use Rattle.cs_grammar.specs.declared.tree.StmtWhat.TheVariants.{Set, Call, Choose'}
 use Rattle.cs_grammar.specs.Tree as tree
+use Rattle.cs_typing.proofs.Answers.{dropped}
 use Rattle.cs_typing.specs.Typing.{line_of, before, from, alone, body, items}
 
 line_of_what : (line : ℕ) (w : StmtWhat) → line_of (tree.of_what line w) ≡ line
@@ -52,20 +54,21 @@ from_is line (s ∷ ss) =
         ap (λ j. tree.block (drop j (s ∷ ss))) more ∙ e
     by false e = refl
 
--- the parts from here on: the statements in front of the next instrument, the instrument, and the parts behind it
-pub cut : (stmts front back : List OrcStmt) (list rest : List Instr) (i : Instr) (n : ℕ) → list ≡ i ∷ rest
+-- the parts from an instrument on: the statements in front of it, the instrument, and the parts behind it
+pub cut : (stmts front back : List OrcStmt) (list : List Instr) (k : ℕ) (i : Instr) (n : ℕ) → k < length list
+    → i ≡ get_or list k i
     → n ≡ prefix_len (λ s. nat_lt s.line i.line) stmts → front ≡ take n stmts → back ≡ drop n stmts
-    → items (tree.block stmts) (map tree.instrument list) ≡ alone (tree.block front) ∷ body (tree.instrument i)
-    ∷ items (tree.block back) (map tree.instrument rest)
-cut stmts front back list rest i n e count f b =
+    → items (tree.block stmts) (map tree.instrument (drop k list)) ≡ alone (tree.block front)
+    ∷ body (tree.instrument i) ∷ items (tree.block back) (map tree.instrument (drop (k + 1) list))
+cut stmts front back list k i n low at count f b =
+    let rest = map tree.instrument (drop (k + 1) list) in
     let head_is : tree.block front ≡ before i.line (tree.block stmts) =
-    ap tree.block f ∙ ap (λ k. tree.block (take k stmts)) count ∙ before_is i.line stmts in
+    ap tree.block f ∙ ap (λ m. tree.block (take m stmts)) count ∙ before_is i.line stmts in
     let tail_is : tree.block back ≡ from i.line (tree.block stmts) =
-    ap tree.block b ∙ ap (λ k. tree.block (drop k stmts)) count ∙ from_is i.line stmts in
-    ap (λ xs. items (tree.block stmts) (map tree.instrument xs)) e
-    ∙ sym (ap (λ x. alone x ∷ body (tree.instrument i)
-    ∷ items (from i.line (tree.block stmts)) (map tree.instrument rest)) head_is)
-    ∙ sym (ap (λ x. alone (tree.block front) ∷ body (tree.instrument i) ∷ items x (map tree.instrument rest)) tail_is)
+    ap tree.block b ∙ ap (λ m. tree.block (drop m stmts)) count ∙ from_is i.line stmts in
+    ap (λ xs. items (tree.block stmts) (map tree.instrument xs)) (dropped list k i low at)
+    ∙ sym (ap (λ x. alone x ∷ body (tree.instrument i) ∷ items (from i.line (tree.block stmts)) rest) head_is)
+    ∙ sym (ap (λ x. alone (tree.block front) ∷ body (tree.instrument i) ∷ items x rest) tail_is)
 
 -- the last part
 pub last : (stmts : List OrcStmt) (list : List Instr) → list ≡ []

@@ -1,18 +1,24 @@
 -- Routines by the places of their definitions: what is found where a name is called.
 use Rattle.std.proofs.Common.{◌≡◌, ◌∙◌, ℕ, zero, suc, ◌+◌, ◌<◌, ◌≤◌, min, Bool, cond, true, false, not, if◌then◌else◌}
 use Rattle.std.proofs.Common.{List, [], ◌∷◌, length, take, slice_get, nat_lt, Some, None, arith, refl, sym, ap}
+use Rattle.std.proofs.Common.{map}
 use Rattle.std.specs.List.{prefix_len}
 use Rattle.std.specs.Option.{option_or}
 use Rattle.std.specs.Str.{bytes_eq}
 use Rattle.std.proofs.lemmas.Option.{none-some, same_Some}
 use Rattle.cs_grammar.specs.declared.tree.Callee.{Callee}
 use Rattle.cs_grammar.specs.declared.tree.Callee.TheVariants as callee
-use Rattle.cs_grammar.specs.Tree.{Definition, definition}
+use Rattle.cs_grammar.specs.declared.tree.Arg.{Arg}
+use Rattle.cs_grammar.specs.Tree.{Definition, Statement, argument, call, definition}
+use Rattle.cs_typed.specs.declared.setting.Setting.{Setting}
 use Rattle.cs_udo.specs.Library.{IsFound, place_among}
 use Rattle.cs_udo.specs.declared.library.FoundDefinition.{FoundDefinition}
 use Rattle.cs_udo.proofs.Places.{before_first}
 use Rattle.cs_typing.specs.inner.Routines.{Routine, Routines, no_routines, routine_called, routine_of, with_routine}
-use Rattle.cs_typing.specs.inner.Routines.{with_routines, routines_before}
+use Rattle.cs_typing.specs.inner.Routines.{with_routines, routines_before, KnownInBody, call_fault_in, fault_in}
+use Rattle.cs_typing.specs.inner.Routines.{knows_in}
+use Rattle.cs_typing.specs.Calls.{call_fault_by}
+use Rattle.cs_typing.specs.Settings.{at}
 
 kept : (rs : Routines) (ds : List Definition) (x : List ℕ) (r : Routine) → rs x ≡ Some r
     → with_routines rs ds x ≡ Some r
@@ -90,3 +96,13 @@ pub routine_found : (ds : List Definition) (visible : ℕ) (c : Callee) (f : Fou
 routine_found ds visible (callee.Opcode o) f h = absurd h
 routine_found ds visible (callee.Name x) f h =
     found no_routines ds visible f.place x (definition f.definition.now) refl h.1 h.0 h.2
+
+-- the first rule that a call of no definition breaks, by copies of its results and arguments
+pub unfound_fault : (s : Setting) (rs : Routines) (k : KnownInBody) (stmt : Statement) (line : ℕ)
+    (xs ys : List (List ℕ)) (c : Callee) (args zs : List Arg) → stmt ≡ call line xs c (map argument args)
+    → routine_called rs c ≡ None → ys ≡ xs → zs ≡ args
+    → fault_in s rs k stmt ≡ at line (call_fault_by s k.shared (knows_in k) c ys (map argument zs))
+unfound_fault s rs k stmt line xs ys c args zs is none same lent =
+    ap (fault_in s rs k) is
+    ∙ ap (call_fault_in s k line xs c (map argument args)) none
+    ∙ sym (λ i. at line (call_fault_by s k.shared (knows_in k) c (same i) (map argument (lent i))))

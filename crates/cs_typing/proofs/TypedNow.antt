@@ -1,5 +1,5 @@
 -- A definition at its first call: what its body and its slots answer, put together.
-use Rattle.std.proofs.Common.{◌≡◌, ◌∙◌, ◌+◌, ◌<◌, ◌++◌, ℕ, List, [], ◌∷◌, Some, None, length, slice_get}
+use Rattle.std.proofs.Common.{◌≡◌, ◌∙◌, ◌<◌, ◌++◌, ℕ, List, [], ◌∷◌, Some, None, length, slice_get}
 use Rattle.std.proofs.Common.{slice_set, Vec, Global, refl, sym, ap, subst}
 use Rattle.std.specs.List.{All}
 use Rattle.std.specs.Option.{option_or}
@@ -7,7 +7,7 @@ use Rattle.std.proofs.lemmas.List.{length-set}
 use Rattle.std.proofs.lemmas.Option.{get_or_from_slice_get, slice_get_within}
 use Rattle.cs_base.specs.declared.fault.OrcFault.{OrcFault}
 use Rattle.cs_base.specs.declared.per_rate.PerRate.{PerRate}
-use Rattle.cs_grammar.specs.Tree.{Definition}
+use Rattle.cs_grammar.specs.Tree.{Block, Definition}
 use Rattle.cs_grammar.specs.WellFormed.{WellFormedDefinition}
 use Rattle.cs_typed.specs.Places.{inside}
 use Rattle.cs_typed.specs.TypedTree as typed
@@ -38,22 +38,23 @@ module _ (s : Setting) (ds : List Definition) (place : ℕ) (d : Definition) (we
   r = routine_of (routines_of ds place) d
 
   -- a fault of the body
-  pub body_breaks : (f : OrcFault) → block_fault_in s (routines_of ds place) k1 d.body ≡ Some f → r.fault s g ≡ Some f
-  body_breaks f e =
+  pub body_breaks : (stmts : Block) → stmts ≡ d.body → (f : OrcFault)
+      → block_fault_in s (routines_of ds place) k1 stmts ≡ Some f → r.fault s g ≡ Some f
+  body_breaks stmts lent f e =
       body_fault (routines_of ds place) d well s g
-      ∙ ap (λ k. option_or (block_fault_in s (routines_of ds place) k d.body)
-      (slots_fault s (behind_body (routines_of ds place) d well g) d.line d.outs d.result)) (sym start)
+      ∙ sym (λ i. option_or (block_fault_in s (routines_of ds place) (start i) (lent i))
+      (slots_fault s (behind_body (routines_of ds place) d well g) d.line d.outs d.result))
       ∙ ap (λ o. option_or o (slots_fault s (behind_body (routines_of ds place) d well g) d.line d.outs d.result)) e
 
-  module _ (none_body : block_fault_in s (routines_of ds place) k1 d.body ≡ None)
-      (known : kb ≡ known_after_block (routines_of ds place) k1 d.body) where
+  module _ (stmts : Block) (lent : stmts ≡ d.body) (none_body : block_fault_in s (routines_of ds place) k1 stmts ≡ None)
+      (known : kb ≡ known_after_block (routines_of ds place) k1 stmts) where
     at_slots : kb ≡ behind_body (routines_of ds place) d well g
-    at_slots = known ∙ ap (λ k. known_after_block (routines_of ds place) k d.body) start
+    at_slots = known ∙ λ i. known_after_block (routines_of ds place) (start i) (lent i)
 
     no_body_fault : block_fault_in s (routines_of ds place) (known_in g (first_locals (routines_of ds place) d well))
         d.body
         ≡ None
-    no_body_fault = sym (ap (λ k. block_fault_in s (routines_of ds place) k d.body) start) ∙ none_body
+    no_body_fault = sym (λ i. block_fault_in s (routines_of ds place) (start i) (lent i)) ∙ none_body
 
     -- a fault of the slots
     pub slots_breaks : (f : OrcFault) → slots_fault s kb d.line d.outs d.result ≡ Some f → r.fault s g ≡ Some f
@@ -75,7 +76,7 @@ module _ (s : Setting) (ds : List Definition) (place : ℕ) (d : Definition) (we
       module _ (free : Apart g) (b c : RoutineTable) (first : List TypedStmt) (body : Vec TypedStmt Global)
           (locals : PerRate ℕ) (slots : Vec ℕ Global)
           (gives : (more : List typed.Block) → typed.block (blocks_in b ++ more) first
-          ≡ typed_block_in (routines_of ds place) k1 d.body)
+          ≡ typed_block_in (routines_of ds place) k1 stmts)
           (adds : (bs : List typed.Block) → typed.block bs body.items
           ≡ typed.then_block (typed.block bs first) (slots_set kb d.line d.outs d.result))
           (counts : locals ≡ (slots_past kb.locals d.outs d.result).counts)
@@ -94,7 +95,7 @@ module _ (s : Setting) (ds : List Definition) (place : ℕ) (d : Definition) (we
         made more =
             adds (blocks_in b ++ more)
             ∙ ap (λ x. typed.then_block x (slots_set kb d.line d.outs d.result)) (gives more)
-            ∙ λ i. typed.then_block (typed_block_in (routines_of ds place) (start i) d.body)
+            ∙ λ i. typed.then_block (typed_block_in (routines_of ds place) (start i) (lent i))
             (slots_set (at_slots i) d.line d.outs d.result)
 
         all_counts : locals ≡ (slots_past (body_locals (routines_of ds place) d well) d.outs d.result).counts

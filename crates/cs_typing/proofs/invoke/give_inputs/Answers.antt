@@ -1,5 +1,5 @@
-use Rattle.std.proofs.Common.{◌≡◌, ◌∙◌, ◌+◌, ◌<◌, ◌≤◌, ℕ, List, Option, None, min, get_or, length, arith}
-use Rattle.std.proofs.Common.{sym, ap, subst}
+use Rattle.std.proofs.Common.{◌≡◌, ◌∙◌, ◌+◌, ◌<◌, ℕ, List, Option, None, get_or, length, arith}
+use Rattle.std.proofs.Common.{refl, sym, ap}
 use Rattle.cs_base.specs.Rates.{at_rate}
 use Rattle.cs_base.specs.declared.fault.OrcFault.{OrcFault}
 use Rattle.cs_grammar.specs.Tree.{expression}
@@ -13,8 +13,8 @@ use Rattle.cs_typing.specs.inner.Held.{known_of, locals_of}
 use Rattle.cs_typing.specs.inner.Listed.{Adds}
 use Rattle.cs_typing.specs.inner.Routines.{inputs_fault, knows_in, number_in, variable_in}
 use Rattle.cs_typing.specs.inner.Slots.{given_set}
-use Rattle.cs_typing.proofs.Beside.{at_end, at_word, both_next, fault_next, given_ends, inputs_fault_ends, made_next}
-use Rattle.cs_typing.proofs.Beside.{none_left}
+use Rattle.cs_typing.proofs.Beside.{at_end, at_word, both_next, fault_next, given_ends, in_both, inputs_fault_ends}
+use Rattle.cs_typing.proofs.Beside.{made_next, none_left, past_both}
 use Rattle.cs_typing.proofs.Walked.{one_added_always}
 use Rattle.cs_typing.proofs.invoke.give_inputs.Goals as goal
 
@@ -22,9 +22,8 @@ pub returns-in-Text-clause-fault : goal.returns-in-Text-clause-fault
 returns-in-Text-clause-fault c =
     let it = c.args.it.now in
     let k = known_of c.args.names.now in
-    let end : c.min-i-end.result ≡ min (length it.definition.now.names) (length it.args.now) =
-    c.min-i-end.ensures ∙ ap (λ xs. min (length xs) (length it.args.now)) c.as_slice-list.ensures in
-    let low = subst (λ n. c.loop-i.i < n) end (omega (arith, c.loop-i-test.true)) in
+    let low = in_both it.definition.now.names it.args.now c.loop-i.i c.min-i-end.ensures c.as_slice-list.ensures refl
+    (omega (arith, c.loop-i-test.true)) in
     sym c.loop-i.invariant.0
     ∙ at_word (List ℕ) (Option OrcFault) (inputs_fault c.args.setting k it.line) None
     (inputs_fault_ends c.args.setting k it.line) it.definition.now.names it.args.now c.loop-i.i c.index-it-i.result _
@@ -36,9 +35,8 @@ returns-in-Text-clause-made c =
     let it = c.args.it.now in
     let k = known_of c.args.names.now in
     let first = locals_of c.args.inputs.now in
-    let end : c.min-i-end.result ≡ min (length it.definition.now.names) (length it.args.now) =
-    c.min-i-end.ensures ∙ ap (λ xs. min (length xs) (length it.args.now)) c.as_slice-list.ensures in
-    let low = subst (λ n. c.loop-i.i < n) end (omega (arith, c.loop-i-test.true)) in
+    let low = in_both it.definition.now.names it.args.now c.loop-i.i c.min-i-end.ensures c.as_slice-list.ensures refl
+    (omega (arith, c.loop-i-test.true)) in
     λ rs. none_left rs c.loop-i.done.items _ _
     (at_word (List ℕ) typed.Block (given_set k first it.line) typed.no_stmt (given_ends k first it.line)
     it.definition.now.names it.args.now c.loop-i.i c.index-it-i.result _ (omega (arith, low)) c.index-it-i.is
@@ -57,10 +55,8 @@ loop-i-preserved c =
     let x = c.index-list-i.result in
     let a = c.index-it-i.result in
     let e = c.in-Value.e in
-    let end : c.min-i-end.result ≡ min (length names) (length args) =
-    c.min-i-end.ensures ∙ ap (λ xs. min (length xs) (length args)) c.as_slice-list.ensures in
-    let low : i < min (length names) (length args) =
-    subst (λ n. i < n) end (omega (arith, c.loop-i-test.true)) in
+    let low = in_both names args i c.min-i-end.ensures c.as_slice-list.ensures refl
+    (omega (arith, c.loop-i-test.true)) in
     let front : i < length names = omega (arith, low) in
     let back : i < length args = omega (arith, low) in
     let here : x ≡ get_or names i x = c.index-list-i.is ∙ ap (λ xs. get_or xs i x) c.as_slice-list.ensures in
@@ -95,22 +91,22 @@ pub returns-clause-fault : goal.returns-clause-fault
 returns-clause-fault c =
     let it = c.args.it.now in
     let k = known_of c.args.names.now in
-    let end : c.min-i-end.result ≡ min (length it.definition.now.names) (length it.args.now) =
-    c.min-i-end.ensures ∙ ap (λ xs. min (length xs) (length it.args.now)) c.as_slice-list.ensures in
+    let past = past_both it.definition.now.names it.args.now c.loop-i.i c.min-i-end.ensures c.as_slice-list.ensures refl
+    (omega (arith, c.loop-i-test.false)) in
     sym c.loop-i.invariant.0
     ∙ at_end (List ℕ) (Option OrcFault) (inputs_fault c.args.setting k it.line) None
     (inputs_fault_ends c.args.setting k it.line) it.definition.now.names it.args.now c.loop-i.i
-    (subst (λ n. n ≤ c.loop-i.i) end (omega (arith, c.loop-i-test.false)))
+    past
 
 pub returns-clause-made : goal.returns-clause-made
 returns-clause-made c =
     let it = c.args.it.now in
     let k = known_of c.args.names.now in
     let first = locals_of c.args.inputs.now in
-    let end : c.min-i-end.result ≡ min (length it.definition.now.names) (length it.args.now) =
-    c.min-i-end.ensures ∙ ap (λ xs. min (length xs) (length it.args.now)) c.as_slice-list.ensures in
+    let past = past_both it.definition.now.names it.args.now c.loop-i.i c.min-i-end.ensures c.as_slice-list.ensures refl
+    (omega (arith, c.loop-i-test.false)) in
     λ rs. none_left rs c.loop-i.done.items _ _
     (at_end (List ℕ) typed.Block (given_set k first it.line) typed.no_stmt (given_ends k first it.line)
     it.definition.now.names it.args.now c.loop-i.i
-    (subst (λ n. n ≤ c.loop-i.i) end (omega (arith, c.loop-i-test.false))))
+    past)
     (c.loop-i.invariant.1 rs)

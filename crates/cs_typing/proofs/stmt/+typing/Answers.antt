@@ -39,7 +39,7 @@ use Rattle.cs_typing.specs.Calls.{call_by, call_fault_by, call_shared}
 use Rattle.cs_typing.specs.Expressions.{expression_by}
 use Rattle.cs_typing.specs.Settings.{at}
 use Rattle.cs_typing.proofs.Called.{call_adds, call_sound, results_break}
-use Rattle.cs_typing.proofs.RoutinePlaces.{routine_found, routine_unfound}
+use Rattle.cs_typing.proofs.RoutinePlaces.{routine_found, routine_unfound, unfound_fault}
 use Rattle.cs_typing.proofs.stmt.+typing.Goals as goal
 
 pub block-stmt-requires : goal.block-stmt-requires
@@ -238,8 +238,7 @@ typed_routine-returns-in_err-body-clause-fault t c =
     (block_fault_in s.setting rs k (tree.block c.deref.result.now))
     (typed_block_in rs k (tree.block c.deref.result.now)))
     c.from_residual.result _ c.from_residual.ensures.1 c.in_err-body.ensures.gives
-    (λ f h. body_breaks s.setting ds place d well g k k start f
-    (sym (ap (λ xs. block_fault_in s.setting rs k (tree.block xs)) c.deref.ensures.value) ∙ h))
+    (λ f h. body_breaks s.setting ds place d well g k k start _ (ap tree.block c.deref.ensures.value) f h)
     tt
 
 -- its slots take their values
@@ -250,19 +249,16 @@ typed_routine-returns-in_err-slots-clause-fault t c =
     let d = tree.definition c.args.definition.now in
     let g = c.args.so_far.now.names.shared in
     let place = c.args.place in
-    let rs = routines_of ds place in
     let k = known_of c.exchange.new.self in
     let kb = known_of c.block.new.so_far.names in
     let well = well_at ds place d c.requires.sound.fit c.requires.here in
     let start = c.exchange.ensures.own ∙ ap (known_in g) c.requires.inputs in
-    let lent = c.deref.ensures.value in
+    let lent = ap tree.block c.deref.ensures.value in
     let body = c.in_ok-body.ensures in
-    let none = sym (ap (λ xs. block_fault_in s.setting rs k (tree.block xs)) lent) ∙ body.gives.0 in
-    let known = body.known ∙ ap (λ xs. known_after_block rs k (tree.block xs)) lent in
     failed (λ r. Judged r ((routine_here s place d).fault s.setting g))
     (λ e. Judged {T = Vec ℕ Global} (Err e) (slots_fault s.setting kb d.line d.outs d.result))
     c.from_residual-in_err-slots.result _ c.from_residual-in_err-slots.ensures.1 c.in_err-slots.ensures.fault
-    (λ f h. slots_breaks s.setting ds place d well g k kb start none known f h)
+    (λ f h. slots_breaks s.setting ds place d well g k kb start _ lent body.gives.0 body.known f h)
     tt
 
 pub typed_routine-returns-clause-fault : goal.typed_routine-returns-clause-fault
@@ -272,16 +268,13 @@ typed_routine-returns-clause-fault t c =
     let d = tree.definition c.args.definition.now in
     let g = c.args.so_far.now.names.shared in
     let place = c.args.place in
-    let rs = routines_of ds place in
     let k = known_of c.exchange.new.self in
     let kb = known_of c.block.new.so_far.names in
     let well = well_at ds place d c.requires.sound.fit c.requires.here in
     let start = c.exchange.ensures.own ∙ ap (known_in g) c.requires.inputs in
-    let lent = c.deref.ensures.value in
+    let lent = ap tree.block c.deref.ensures.value in
     let body = c.in_ok-body.ensures in
-    let none = sym (ap (λ xs. block_fault_in s.setting rs k (tree.block xs)) lent) ∙ body.gives.0 in
-    let known = body.known ∙ ap (λ xs. known_after_block rs k (tree.block xs)) lent in
-    no_fault s.setting ds place d well g k kb start none known c.in_ok-slots.ensures.fault
+    no_fault s.setting ds place d well g k kb start _ lent body.gives.0 body.known c.in_ok-slots.ensures.fault
 
 pub typed_routine-returns-clause-listed : goal.typed_routine-returns-clause-listed
 typed_routine-returns-clause-listed t c =
@@ -290,25 +283,23 @@ typed_routine-returns-clause-listed t c =
     let d = tree.definition c.args.definition.now in
     let g = c.args.so_far.now.names.shared in
     let place = c.args.place in
-    let rs = routines_of ds place in
     let k = known_of c.exchange.new.self in
     let kb = known_of c.block.new.so_far.names in
     let well = well_at ds place d c.requires.sound.fit c.requires.here in
     let start = c.exchange.ensures.own ∙ ap (known_in g) c.requires.inputs in
-    let lent = c.deref.ensures.value in
+    let lent = ap tree.block c.deref.ensures.value in
     let body = c.in_ok-body.ensures in
     let slots = c.in_ok-slots.ensures in
-    let none = sym (ap (λ xs. block_fault_in s.setting rs k (tree.block xs)) lent) ∙ body.gives.0 in
-    let known = body.known ∙ ap (λ xs. known_after_block rs k (tree.block xs)) lent in
     let free : Apart g = record { sound = c.requires.sound.apart } in
     let table = c.block.new.so_far.routines in
     let counts = c.counts.ensures ∙ ap (λ l. l.counts) c.exchange-2.ensures.other
     ∙ ap (λ n. n.locals.counts) slots.known in
     let marks = body.ahead.sound.marks in
     let inside_ds = slice_get_within ds place d c.requires.here in
-    then_listed s.setting ds place d well g k kb start none known slots.fault free table c.add.new.self
+    then_listed s.setting ds place d well g k kb start _ lent body.gives.0 body.known slots.fault free table
+    c.add.new.self
     c.in_ok-body.body.items c.give_slots.new.done c.counts.result c.in_ok-slots.slots
-    (λ more. body.gives.1 more ∙ ap (λ xs. typed_block_in rs k (tree.block xs)) lent) slots.made counts slots.numbers
+    body.gives.1 slots.made counts slots.numbers
     (omega (arith, marks, inside_ds)) c.in_ok-add.ensures.list c.in_ok-add.ensures.marks
 
 pub typed_routine-returns-clause-known : goal.typed_routine-returns-clause-known
@@ -318,17 +309,14 @@ typed_routine-returns-clause-known t c =
     let d = tree.definition c.args.definition.now in
     let g = c.args.so_far.now.names.shared in
     let place = c.args.place in
-    let rs = routines_of ds place in
     let k = known_of c.exchange.new.self in
     let kb = known_of c.block.new.so_far.names in
     let well = well_at ds place d c.requires.sound.fit c.requires.here in
     let start = c.exchange.ensures.own ∙ ap (known_in g) c.requires.inputs in
-    let lent = c.deref.ensures.value in
+    let lent = ap tree.block c.deref.ensures.value in
     let body = c.in_ok-body.ensures in
-    let none = sym (ap (λ xs. block_fault_in s.setting rs k (tree.block xs)) lent) ∙ body.gives.0 in
-    let known = body.known ∙ ap (λ xs. known_after_block rs k (tree.block xs)) lent in
     let shared = ap (λ n. n.shared) c.in_ok-slots.ensures.known
-    ∙ shared_then s.setting ds place d well g k kb start none known in
+    ∙ shared_then s.setting ds place d well g k kb start _ lent body.gives.0 body.known in
     c.exchange-2.ensures.own ∙ λ i. known_in (shared i) (c.exchange.ensures.other i)
 
 pub typed_routine-returns-clause-ahead : goal.typed_routine-returns-clause-ahead
@@ -338,16 +326,13 @@ typed_routine-returns-clause-ahead t c =
     let d = tree.definition c.args.definition.now in
     let g = c.args.so_far.now.names.shared in
     let place = c.args.place in
-    let rs = routines_of ds place in
     let k = known_of c.exchange.new.self in
     let kb = known_of c.block.new.so_far.names in
     let well = well_at ds place d c.requires.sound.fit c.requires.here in
     let start = c.exchange.ensures.own ∙ ap (known_in g) c.requires.inputs in
-    let lent = c.deref.ensures.value in
+    let lent = ap tree.block c.deref.ensures.value in
     let body = c.in_ok-body.ensures in
     let slots = c.in_ok-slots.ensures in
-    let none = sym (ap (λ xs. block_fault_in s.setting rs k (tree.block xs)) lent) ∙ body.gives.0 in
-    let known = body.known ∙ ap (λ xs. known_after_block rs k (tree.block xs)) lent in
     let free : Apart g = record { sound = c.requires.sound.apart } in
     let table = c.block.new.so_far.routines in
     let counts = c.counts.ensures ∙ ap (λ l. l.counts) c.exchange-2.ensures.other
@@ -355,19 +340,20 @@ typed_routine-returns-clause-ahead t c =
     let marks = body.ahead.sound.marks in
     let inside_ds = slice_get_within ds place d c.requires.here in
     let within : place < length table.by_definition.items = omega (arith, marks, inside_ds) in
-    let gives : (more : List typed.Block) → typed.block (blocks_in table ++ more) c.in_ok-body.body.items
-    ≡ typed_block_in rs k d.body =
-    λ more. body.gives.1 more ∙ ap (λ xs. typed_block_in rs k (tree.block xs)) lent in
     let stays = ap (λ n. n.shared) c.exchange-2.ensures.own ∙ ap (λ n. n.shared) slots.known in
     record {
       sound = subst (λ h. AreTyped s.setting.channels ds h c.add.new.self) (sym stays)
-          (then_typed s.setting ds place d well g k kb start none known slots.fault free table c.add.new.self
-          c.in_ok-body.body.items c.give_slots.new.done c.counts.result c.in_ok-slots.slots gives slots.made counts
+          (then_typed s.setting ds place d well g k kb start _ lent body.gives.0 body.known slots.fault free table
+          c.add.new.self
+          c.in_ok-body.body.items c.give_slots.new.done c.counts.result c.in_ok-slots.slots body.gives.1 slots.made
+          counts
           slots.numbers within c.in_ok-add.ensures.list c.in_ok-add.ensures.marks s.setting.channels
           (placed_inside s place c.requires.front) c.requires.here body.ahead.sound);
       longer = longer_still c.args.so_far.now.routines table c.add.new.self body.ahead.longer
-          (then_longer s.setting ds place d well g k kb start none known slots.fault free table c.add.new.self
-          c.in_ok-body.body.items c.give_slots.new.done c.counts.result c.in_ok-slots.slots gives slots.made counts
+          (then_longer s.setting ds place d well g k kb start _ lent body.gives.0 body.known slots.fault free table
+          c.add.new.self
+          c.in_ok-body.body.items c.give_slots.new.done c.counts.result c.in_ok-slots.slots body.gives.1 slots.made
+          counts
           slots.numbers within c.in_ok-add.ensures.list c.in_ok-add.ensures.marks);
     }
 
@@ -557,13 +543,8 @@ stmt-returns-in_err-made-in-None-clause-fault t c =
     (call_by line k.shared (variable_in k) q c.as_slice-results.result.now (map tree.argument c.deref.result.now)))
     c.from_residual-in_err-made-in-None.result _ c.from_residual-in_err-made-in-None.ensures.1
     c.in_err-made-in-None.ensures.gives
-    (λ f h. ap (fault_in s.setting rs k) is
-    ∙ ap (call_fault_in s.setting k line xs q (map tree.argument args)) none
-    ∙ sym (ap (λ ys. at line (call_fault_by s.setting k.shared (knows_in k) q ys (map tree.argument args)))
-    c.as_slice-results.ensures)
-    ∙ sym (ap (λ zs. at line (call_fault_by s.setting k.shared (knows_in k) q c.as_slice-results.result.now
-    (map tree.argument zs))) c.deref.ensures.value)
-    ∙ h)
+    (λ f h. unfound_fault s.setting rs k (tree.statement c.args.s.now) line xs _ q args _ is none
+    c.as_slice-results.ensures c.deref.ensures.value ∙ h)
     tt
 
 pub stmt-returns-in_ok-add-in-None-clause-made : goal.stmt-returns-in_ok-add-in-None-clause-made
@@ -606,12 +587,8 @@ stmt-returns-in_ok-add-in-None-clause-ahead t c =
     let none : routine_called rs q ≡ None =
     routine_unfound (definitions_of s.library.now) s.visible q c.in-None.ensures.found in
     let fault : fault_in s.setting rs k (tree.statement c.args.s.now) ≡ None =
-    ap (fault_in s.setting rs k) is
-    ∙ ap (call_fault_in s.setting k line xs q (map tree.argument args)) none
-    ∙ sym (ap (λ ys. at line (call_fault_by s.setting k.shared (knows_in k) q ys (map tree.argument args)))
-    c.as_slice-results.ensures)
-    ∙ sym (ap (λ zs. at line (call_fault_by s.setting k.shared (knows_in k) q c.as_slice-results.result.now
-    (map tree.argument zs))) c.deref.ensures.value)
+    unfound_fault s.setting rs k (tree.statement c.args.s.now) line xs _ q args _ is none c.as_slice-results.ensures
+    c.deref.ensures.value
     ∙ c.in_ok-made-in-None.ensures.gives.0 in
     let known = c.in_ok-made-in-None.ensures.known
     ∙ ap (λ ys. known_in (call_shared k.shared q ys (map tree.argument c.deref.result.now))

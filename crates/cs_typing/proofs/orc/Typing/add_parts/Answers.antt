@@ -6,7 +6,7 @@ use Rattle.cs_typing.specs.inner.Answers.{Judged}
 use Rattle.cs_typing.specs.inner.Held.{known_of}
 use Rattle.cs_typing.specs.inner.Parts.{part_fault, parts_fault}
 use Rattle.cs_typing.specs.inner.Walk.{AddsParts}
-use Rattle.cs_typing.proofs.Answers.{dropped, failed, on_ok}
+use Rattle.cs_typing.proofs.Answers.{failed, on_ok}
 use Rattle.cs_typing.proofs.Cut.{cut, last}
 use Rattle.cs_typing.proofs.PartsAdded.{adds_both, fault_alone, fault_first, fault_next}
 use Rattle.cs_typing.proofs.orc.Typing.add_parts.Goals as goal
@@ -17,14 +17,12 @@ returns-in_err-add_outside-clause-fault c =
     let ch = c.args.channels in
     let ds = definitions_of c.args.library.now in
     let k = known_of c.loop-i.self.so_far.names in
-    let list = drop c.loop-i.i-index c.args.instrs.now in
     let rest = drop (c.loop-i.i-index + 1) c.args.instrs.now in
     let i = c.i-item.result in
     let front = c.split_at.result.0.now in
     let back = c.split_at.result.1.now in
-    let parts = cut c.loop-i.rest.now front back list rest i c.before_line.result
-    (dropped c.args.instrs.now c.loop-i.i-index i (omega arith) c.i-item.is) c.before_line.ensures.count
-    c.split_at.ensures.front c.split_at.ensures.back in
+    let parts = cut c.loop-i.rest.now front back c.args.instrs.now c.loop-i.i-index i c.before_line.result (omega arith)
+    c.i-item.is c.before_line.ensures.count c.split_at.ensures.front c.split_at.ensures.back in
     let first = alone (tree.block front) in
     failed (λ r. Judged r (parts_fault ch ds (known_of c.args.self.now.so_far.names)
     (items (tree.block c.args.outside.now) (map tree.instrument c.args.instrs.now))))
@@ -39,14 +37,12 @@ returns-in_err-add_instrument-clause-fault c =
     let ch = c.args.channels in
     let ds = definitions_of c.args.library.now in
     let k = known_of c.loop-i.self.so_far.names in
-    let list = drop c.loop-i.i-index c.args.instrs.now in
     let rest = drop (c.loop-i.i-index + 1) c.args.instrs.now in
     let i = c.i-item.result in
     let front = c.split_at.result.0.now in
     let back = c.split_at.result.1.now in
-    let parts = cut c.loop-i.rest.now front back list rest i c.before_line.result
-    (dropped c.args.instrs.now c.loop-i.i-index i (omega arith) c.i-item.is) c.before_line.ensures.count
-    c.split_at.ensures.front c.split_at.ensures.back in
+    let parts = cut c.loop-i.rest.now front back c.args.instrs.now c.loop-i.i-index i c.before_line.result (omega arith)
+    c.i-item.is c.before_line.ensures.count c.split_at.ensures.front c.split_at.ensures.back in
     let first = alone (tree.block front) in
     let next = body (tree.instrument i) in
     let more = items (tree.block back) (map tree.instrument rest) in
@@ -69,14 +65,12 @@ loop-i-preserved c =
     let self = c.loop-i.self in
     let k = known_of self.so_far.names in
     let was = c.loop-i.invariant in
-    let list = drop c.loop-i.i-index c.args.instrs.now in
     let rest = drop (c.loop-i.i-index + 1) c.args.instrs.now in
     let i = c.i-item.result in
     let front = c.split_at.result.0.now in
     let back = c.split_at.result.1.now in
-    let parts = cut c.loop-i.rest.now front back list rest i c.before_line.result
-    (dropped c.args.instrs.now c.loop-i.i-index i (omega arith) c.i-item.is) c.before_line.ensures.count
-    c.split_at.ensures.front c.split_at.ensures.back in
+    let parts = cut c.loop-i.rest.now front back c.args.instrs.now c.loop-i.i-index i c.before_line.result (omega arith)
+    c.i-item.is c.before_line.ensures.count c.split_at.ensures.front c.split_at.ensures.back in
     let first = alone (tree.block front) in
     let next = body (tree.instrument i) in
     let more = items (tree.block back) (map tree.instrument rest) in
