@@ -1,19 +1,24 @@
 -- How far the slots of a passage's ops reach.
 use Rattle.std.proofs.Common.{◌≡◌, ◌∙◌, ◌+◌, ◌-◌, ◌≤◌, ◌++◌, ◌^◌, ℕ, zero, suc, List, [], ◌∷◌, max, min}
-use Rattle.std.proofs.Common.{arith, refl, sym, ap, if◌then◌else◌}
+use Rattle.std.proofs.Common.{◌<◌, arith, drop, get_or, length, refl, subst, sym, take, ap, if◌then◌else◌}
+use Rattle.std.proofs.lemmas.List.{drop_more, take_more}
 use Rattle.cs_base.specs.Rates.{at_rate, same_rate}
 use Rattle.cs_base.specs.declared.per_rate.PerRate.{PerRate}
 use Rattle.cs_base.specs.declared.resource.Rate.{Rate}
 use Rattle.cs_base.specs.declared.resource.Rate.TheVariants as rate
 use Rattle.cs_ir.proofs.Windows.{counted_low}
-use Rattle.cs_ir.specs.Limits.{op_limit, ops_limit, reg_limit}
+use Rattle.cs_ir.specs.Limits.{op_limit, ops_limit}
+use Rattle.cs_ir.specs.Registers.{reg_limit, regs_limit}
 use Rattle.cs_ir.specs.declared.ends.Ends.{Ends}
 use Rattle.cs_ir.specs.declared.op.Op.{Op}
 use Rattle.cs_ir.specs.declared.passage.PassageOp.{PassageOp}
+use Rattle.cs_ir.specs.declared.register.Reg.{Reg}
+use Rattle.cs_ir.specs.declared.window.Slot.{Slot}
 use Rattle.cs_ir.specs.declared.window.Slot.TheVariants as slot
 use Rattle.cs_ir.specs.declared.window.Window.{Window}
-use Rattle.cs_ir.specs.inner.Ends.{AreEnds, EachLow, Raised, behind, kept_limit, limit_in}
-use Rattle.cs_ir.specs.inner.Windows.{counted, op_in, ops_in, register}
+use Rattle.cs_ir.specs.inner.Ends.{AreSlotEnds, EachLow, Raised, behind, kept_limit, limit_in}
+use Rattle.cs_ir.specs.inner.Slots.{counted, register, slots_in}
+use Rattle.cs_ir.specs.inner.Windows.{AreEnds, op_in, ops_in}
 
 -- ---- numbers
 
@@ -241,7 +246,8 @@ limit_append r (x ∷ xs) ys =
 limit_one : (r : Rate) (op : Op) → ops_limit r (op ∷ []) ≡ op_limit r op
 limit_one r op = max_none (op_limit r op)
 
-in_more : (w : Window) (ps : List PassageOp) (p : PassageOp) → ops_in w (ps ++ p ∷ []) ≡ ops_in w ps ++ op_in w p ∷ []
+in_more : (w : Window) (ps : List PassageOp) (p : PassageOp)
+    → ops_in w (ps ++ p ∷ []) ≡ ops_in w ps ++ op_in w p ∷ []
 in_more w [] p = refl
 in_more w (q ∷ ps) p = ap (λ l. op_in w q ∷ l) (in_more w ps p)
 
@@ -254,3 +260,40 @@ ends_more e new ps p h more = record {
       ∙ sym (limit_append r (ops_in w ps) (op_in w p ∷ []))
       ∙ ap (ops_limit r) (sym (in_more w ps p));
 }
+
+-- ---- slots of a list
+
+regs_append : (r : Rate) (xs ys : List Reg) → regs_limit r (xs ++ ys) ≡ max (regs_limit r xs) (regs_limit r ys)
+regs_append r [] ys = sym (none_max (regs_limit r ys))
+regs_append r (x ∷ xs) ys =
+    ap (max (reg_limit r x)) (regs_append r xs ys)
+    ∙ sym (max_assoc (reg_limit r x) (regs_limit r xs) (regs_limit r ys))
+
+pub slots_append : (w : Window) (xs ys : List Slot) → slots_in w (xs ++ ys) ≡ slots_in w xs ++ slots_in w ys
+slots_append w [] ys = refl
+slots_append w (x ∷ xs) ys = ap (λ l. register w x ∷ l) (slots_append w xs ys)
+
+slots_more : (e new : Ends) (ss : List Slot) (s : Slot) → AreSlotEnds e ss
+    → Raised e new (λ w r. reg_limit r (register w s)) → AreSlotEnds new (ss ++ s ∷ [])
+slots_more e new ss s h more = record {
+  reach = λ l w b r.
+      more.reach l w b r ∙ ap (λ m. max m (reg_limit r (register w s))) (h.reach (more.low l) w b r)
+      ∙ ap (max (regs_limit r (slots_in w ss))) (sym (max_none (reg_limit r (register w s))))
+      ∙ sym (regs_append r (slots_in w ss) (register w s ∷ []))
+      ∙ ap (regs_limit r) (sym (slots_append w ss (s ∷ [])));
+}
+
+-- one slot more of those that are looked at in turn
+pub slot_ends_next : (e new : Ends) (ss : List Slot) (i : ℕ) (d : Slot) → i < length ss → AreSlotEnds e (take i ss)
+    → Raised e new (λ w r. reg_limit r (register w (get_or ss i d))) → AreSlotEnds new (take (i + 1) ss)
+slot_ends_next e new ss i d low h more =
+    subst (AreSlotEnds new) (sym (take_more ss i d low)) (slots_more e new (take i ss) (get_or ss i d) h more)
+
+-- one register more of those that are looked at in turn
+pub limit_next : (r : Rate) (xs : List Reg) (i end : ℕ) (d : Reg) → i < length xs
+    → max end (regs_limit r (drop i xs)) ≡ regs_limit r xs
+    → max (max end (reg_limit r (get_or xs i d))) (regs_limit r (drop (i + 1) xs)) ≡ regs_limit r xs
+limit_next r xs i end d low before =
+    max_assoc end (reg_limit r (get_or xs i d)) (regs_limit r (drop (i + 1) xs))
+    ∙ ap (max end) (sym (ap (regs_limit r) (drop_more xs i d low)))
+    ∙ before

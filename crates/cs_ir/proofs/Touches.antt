@@ -14,7 +14,8 @@ use Rattle.cs_ir.specs.declared.op.Op.{Op}
 use Rattle.cs_ir.specs.declared.op.Reach.TheVariants as reach
 use Rattle.cs_ir.specs.declared.passage.PassageOp.{PassageOp}
 use Rattle.cs_ir.specs.declared.window.Window.{Window}
-use Rattle.cs_ir.specs.inner.Windows.{counted, ops_in, with_unit}
+use Rattle.cs_ir.specs.inner.Slots.{counted}
+use Rattle.cs_ir.specs.inner.Windows.{ops_in, with_unit}
 
 -- ---- acts in a window
 

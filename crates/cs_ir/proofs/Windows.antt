@@ -1,7 +1,7 @@
 -- Numbers as passages count them.
 use Rattle.std.proofs.Common.{◌≡◌, ◌∙◌, ◌+◌, ◌-◌, ◌<◌, ◌≤◌, ◌^◌, ℕ, arith}
 use Rattle.cs_ir.specs.Moved.{moved}
-use Rattle.cs_ir.specs.inner.Windows.{counted}
+use Rattle.cs_ir.specs.inner.Slots.{counted}
 
 pub counted_low : (begin n : ℕ) → begin + n < 2 ^ 32 → counted begin n ≡ begin + n
 counted_low begin n low = omega (arith, low)

@@ -6,6 +6,7 @@ pub mod Limits
 pub mod Machine
 pub mod Moved
 pub mod Operands
+pub mod Registers
 pub mod Resources
 pub mod Touching
 pub mod Units

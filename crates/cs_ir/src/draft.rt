@@ -1,10 +1,15 @@
 // Codes that are being made.
-ghost use Rattle.std.specs.Prelude.{◌≡◌, ◌+◌, ◌<◌, ◌≤◌, ◌++◌, ◌^◌, ◌∷◌, [], length, drop, IfOk, IfSome};
+ghost use Rattle.std.specs.Prelude.{◌≡◌, ◌+◌, ◌<◌, ◌≤◌, ◌++◌, ◌^◌, ◌∷◌, [], length, drop, true, IfOk, IfSome};
 ghost use Rattle.std.specs.Prelude.{OnOk, OnErr, if◌then◌else◌};
 ghost use Rattle.cs_ir.specs.Codes.{aim};
 ghost use Rattle.cs_ir.specs.Moved.{begins_low, moved_ops};
+ghost use Rattle.cs_ir.specs.inner.Ends.{LowWindow};
+ghost use Rattle.cs_ir.specs.inner.Pieces.{piece_in, pieces_in};
+ghost use Rattle.cs_ir.specs.inner.Windows.{window};
 
+use crate::pieces::Piece;
 use crate::stretch::aim_in;
+use crate::window::Window;
 use crate::{NotedPassage, Op, Ops, Origin, SharedOps, Stretch};
 use cs_base::OutOfMemory;
 use std::alloc::Global;
@@ -70,7 +75,8 @@ impl CodeDraft {
     }
 
     /// Notes the ops from a place on, those of a statement at an origin, for other places of the statement, and keeps
-    /// them once. None where they are few, where one of them has no form in a passage, and in a draft that is too long.
+    /// them once. None where they are few, where one of them has no form in a passage, and where some of them are kept
+    /// once already.
     pub fn note(
         &mut self,
         from: usize,
@@ -81,15 +87,14 @@ impl CodeDraft {
         ensures origin { IfOk result (λ m. IfSome m (λ n. n.origin ≡ origin.now)) }
     {
         let end = self.done.len();
-        if from < end || self.tail.len() < from - end || end + self.tail.len() > MOST_OPS {
+        if from < end || self.tail.len() < from - end {
             return Ok(None);
         }
         let start = from - end;
         match noted_from(&self.tail, start, origin)? {
             Some(noted) => {
-                let shared = noted.here()?;
                 self.tail.truncate(start);
-                put(&mut self.done, &mut self.tail, shared)?;
+                self.append_pieces(noted.pieces(), origin)?;
                 Ok(Some(noted))
             }
             None => Ok(None),
@@ -106,9 +111,34 @@ impl CodeDraft {
         if !origin.begins_low() {
             return Ok(false);
         }
-        let shared = noted.there(origin)?;
-        self.append(shared)?;
+        let pieces = noted.pieces();
+        self.append_pieces(pieces, origin)?;
         Ok(true)
+    }
+
+    /// Appends the ops of pieces where their statement stands at an origin.
+    fn append_pieces(&mut self, pieces: &[Piece], origin: &Origin) -> Result<(), OutOfMemory>
+        requires { begins_low origin.now ≡ true }
+        ensures { OnOk result (self.new ≡ self.old ++ pieces_in pieces.now (window origin.now)) }
+    {
+        let window = origin.window();
+        for piece in pieces {
+            self.append_piece(piece, &window)?;
+        }
+        Ok(())
+    }
+
+    fn append_piece(&mut self, piece: &Piece, window: &Window) -> Result<(), OutOfMemory>
+        requires { LowWindow window.now }
+        ensures { OnOk result (self.new ≡ self.old ++ piece_in window.now piece.now) }
+    {
+        match piece {
+            Piece::Ops(passage) => self.append(SharedOps::of(passage, window)?),
+            Piece::Long(op) => {
+                let op = op.in_window(*self.tail.allocator(), window)?;
+                self.push(op)
+            }
+        }
     }
 
     /// Appends shared ops: one by one where they make too long a draft.

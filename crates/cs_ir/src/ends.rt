@@ -1,9 +1,11 @@
 // How far the slots reach that the ops of a passage name.
 ghost use Rattle.std.specs.Prelude.{◌≡◌, ◌+◌, ◌-◌, ◌^◌, [], max, min, true, if◌then◌else◌};
 ghost use Rattle.cs_base.specs.Rates.{at_rate, same_rate};
-ghost use Rattle.cs_ir.specs.Limits.{op_limit, reg_limit, regs_limit};
-ghost use Rattle.cs_ir.specs.inner.Ends.{AreEnds, LowEnds, Raised, behind, kept_limit, limit_in};
-ghost use Rattle.cs_ir.specs.inner.Windows.{op_in, register, registers_in};
+ghost use Rattle.cs_ir.specs.Limits.{op_limit};
+ghost use Rattle.cs_ir.specs.Registers.{reg_limit, regs_limit};
+ghost use Rattle.cs_ir.specs.inner.Ends.{AreSlotEnds, LowEnds, Raised, behind, kept_limit, limit_in};
+ghost use Rattle.cs_ir.specs.inner.Slots.{register};
+ghost use Rattle.cs_ir.specs.inner.Windows.{AreEnds, op_in, registers_in};
 
 use crate::origin::{each_low, is_low};
 use crate::passage::PassageOp;
@@ -62,7 +64,8 @@ fn behind(begin: u32, end: u32) -> usize
 
 impl Ends {
     fn none() -> Ends
-        ensures { AreEnds result [] }
+        ensures ops { AreEnds result [] }
+        ensures slots { AreSlotEnds result [] }
     {
         Ends {
             locals: NONE,
@@ -113,6 +116,17 @@ impl Ends {
         ensures { Raised self result (λ w r. op_limit r (op_in w op.now)) }
     {
         self.with_slot(op.into).with_slots(op.from)
+    }
+
+    /// The ends of slots.
+    pub fn of_slots(slots: &[Slot]) -> Ends
+        ensures { AreSlotEnds result slots.now }
+    {
+        let mut ends = Ends::none();
+        for slot in slots {
+            ends = ends.with_slot(*slot);
+        }
+        ends
     }
 
     /// The ends of the slots that ops name.

@@ -8,10 +8,10 @@
 //!
 //! To be read in this order: `register`, `operands`, `op` (what code is made of), `stretch`, `ops` (a code as a whole),
 //! `window`, `origin` (where a statement's registers and units begin), `ends` (how far those of a passage reach),
-//! `touching` (what its ops touch of what notes share), `passage` (ops of a statement that are kept once for several
-//! places), `draft` (how a code is made), `validity` (which code can be run), `instrument` (codes under numbers),
-//! `resources` (tables and zak places by number), `ask` (a note that a note asks for), `value` (operators and
-//! functions), `laws`.
+//! `listed` (long lists of registers that passages name), `touching` (what a passage's ops touch of what notes share),
+//! `passage` (ops of a statement that are kept once for several places), `pieces` (how a statement's ops are noted),
+//! `draft` (how a code is made), `validity` (which code can be run), `instrument` (codes under numbers), `resources`
+//! (tables and zak places by number), `ask` (a note that a note asks for), `value` (operators and functions), `laws`.
 #![tactic(auto)]
 
 mod ask;
@@ -19,11 +19,13 @@ mod draft;
 mod ends;
 mod instrument;
 mod laws;
+mod listed;
 mod op;
 mod operands;
 mod ops;
 mod origin;
 mod passage;
+mod pieces;
 mod register;
 mod resources;
 mod stretch;
@@ -40,7 +42,8 @@ pub use op::{Act, Code, Op, Reach};
 pub use operands::Operands;
 pub use ops::{FoundStretch, Ops};
 pub use origin::Origin;
-pub use passage::{LEAST_OPS, NotedPassage, SharedOps};
+pub use passage::SharedOps;
+pub use pieces::{LEAST_OPS, NotedPassage};
 pub use register::{Counts, Reg};
 pub use resources::{places_of, zak_place};
 pub use stretch::Stretch;

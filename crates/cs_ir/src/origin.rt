@@ -1,16 +1,24 @@
 // Where a statement's registers and units begin in a code, and its ops as those of a passage.
-ghost use Rattle.std.specs.Prelude.{◌≡◌, ◌+◌, ◌-◌, ◌≤◌, ◌^◌, ℕ, true, false, map, IfSome};
+ghost use Rattle.std.specs.Prelude.{◌≡◌, ◌+◌, ◌-◌, ◌≤◌, ◌^◌, ◌∷◌, [], ℕ, true, false, map, slice_get};
+ghost use Rattle.std.specs.Prelude.{Some, IfOk, IfSome};
 ghost use Rattle.cs_base.specs.declared.resource.Rate.TheVariants as rate;
 ghost use Rattle.cs_ir.specs.Moved.{begins_low, each_low, is_kept, is_local, is_low, locals_end, moved};
 ghost use Rattle.cs_ir.specs.Moved.{moved_act, moved_op, moved_reg, names_into};
-ghost use Rattle.cs_ir.specs.inner.Windows.{counted, goes_on, is_jump, op_in, register, registers_in, window};
-ghost use Rattle.cs_ir.specs.inner.Windows.{with_unit};
+ghost use Rattle.cs_ir.specs.inner.Ends.{LowWindow};
+ghost use Rattle.cs_ir.specs.inner.Pieces.{long_in};
+ghost use Rattle.cs_ir.specs.inner.Slots.{counted, register};
+ghost use Rattle.cs_ir.specs.inner.Windows.{Names, goes_on, is_jump, op_in, registers_in, window, with_unit};
 ghost use Rattle.cs_ir.specs.declared.origin.Origin.{Origin};
+ghost use Rattle.cs_ir.specs.declared.register.Reg.{Reg};
 
+use crate::listed::SlotList;
 use crate::passage::PassageOp;
-use crate::window::{Slot, Slots, Window, counted};
-use crate::{Act, Op, Reg};
-use cs_base::{PerRate, Rate};
+use crate::pieces::LongOp;
+use crate::window::{MOST_SLOTS, Slot, Slots, Window, counted};
+use crate::{Act, Op, Operands, Reg};
+use cs_base::{OutOfMemory, PerRate, Rate};
+use std::alloc::Global;
+use std::sync::Arc;
 
 /// Where the registers and the units of a statement begin in a code.
 #[derive(Clone, Copy)]
@@ -74,7 +82,8 @@ impl Origin {
 
     /// Where the statement's ops begin to count.
     pub(crate) fn window(&self) -> Window
-        ensures { result ≡ window self.now }
+        ensures same { result ≡ window self.now }
+        ensures low { begins_low self.now ≡ true → LowWindow result }
     {
         Window {
             locals: self.locals,
@@ -149,7 +158,7 @@ impl Origin {
         }
     }
 
-    /// No slots for more than three registers.
+    /// No slots for more than `MOST_SLOTS` registers.
     fn slots_of(&self, registers: &[Reg]) -> Option<Slots>
         ensures back { IfSome result (λ s. registers_in (window self.now) s ≡ registers.now) }
         ensures there { IfSome result (λ s. (o : Origin) → begins_low o ≡ true
@@ -185,19 +194,65 @@ impl Origin {
         }
     }
 
-    /// An op of the statement as one of a passage; None for a jump, for one that reads more than three registers, and
-    /// where a number doesn't stand less than `HALF` behind where its kind begins.
+    /// An op of the statement as one of a passage; None for a jump, where it reads more than `MOST_SLOTS`
+    /// registers, and where a number doesn't stand less than `HALF` behind where its kind begins.
     pub(crate) fn passage_op(&self, op: &Op) -> Option<PassageOp>
         ensures back { IfSome result (λ p. op_in (window self.now) p ≡ op.now) }
         ensures there { IfSome result (λ p. (o : Origin) → begins_low o ≡ true
             → op_in (window o) p ≡ moved_op self.now o op.now) }
         ensures goes { IfSome result (λ p. goes_on p ≡ true) }
     {
+        if op.from.len() > MOST_SLOTS {
+            return None;
+        }
         Some(PassageOp {
             act: self.act_of(op.act)?,
             into: self.into_of(op)?,
             from: self.slots_of(op.from.as_slice())?,
         })
+    }
+
+    /// An op that reads any number of registers, as one of a passage; None for a jump, and where a number doesn't stand
+    /// less than `HALF` behind where its kind begins.
+    pub(crate) fn long_op(&self, alloc: Global, op: &Op) -> Result<Option<LongOp>, OutOfMemory>
+        ensures back { IfOk result (λ m. IfSome m (λ l. long_in (window self.now) l ≡ op.now)) }
+        ensures there { IfOk result (λ m. IfSome m (λ l. (o : Origin) → begins_low o ≡ true
+            → long_in (window o) l ≡ moved_op self.now o op.now)) }
+    {
+        let Some(act) = self.act_of(op.act) else {
+            return Ok(None);
+        };
+        let Some(into) = self.into_of(op) else {
+            return Ok(None);
+        };
+        let Some(list) = self.list_of(alloc, &op.from)? else {
+            return Ok(None);
+        };
+        let from = Arc::new(alloc, list)?;
+        Ok(Some(LongOp { act, into, from }))
+    }
+
+    /// The slots of any number of registers.
+    fn list_of(&self, alloc: Global, from: &Operands) -> Result<Option<SlotList>, OutOfMemory>
+        ensures { IfOk result (λ m. IfSome m (λ slots. Names self.now from.now slots)) }
+    {
+        let mut slots = Vec::with_capacity(alloc, from.len())?;
+        for place in 0..from.len() {
+            let Some(slot) = self.slot_at(from, place) else {
+                return Ok(None);
+            };
+            slots.push(slot)?;
+        }
+        Ok(SlotList::of(slots))
+    }
+
+    /// The slot of the register at a place.
+    fn slot_at(&self, from: &Operands, place: usize) -> Option<Slot>
+        ensures { IfSome result (λ s. (q : Reg) → slice_get from.now place ≡ Some q
+            → Names self.now (q ∷ []) (s ∷ [])) }
+    {
+        let register = from.get(place)?;
+        self.slot_of(register)
     }
 }
 

@@ -3,16 +3,14 @@ ghost use Rattle.std.specs.Prelude.{◌≡◌, ◌<◌, length, slice_get, slice
 ghost use Rattle.std.specs.List.{list_all, list_any};
 ghost use Rattle.cs_ir.specs.Codes.{aim};
 ghost use Rattle.cs_ir.specs.Limits.{ops_limit};
-ghost use Rattle.cs_ir.specs.Moved.{begins_low, moved_ops};
 ghost use Rattle.cs_ir.specs.Touching.{IsOfShared};
 ghost use Rattle.cs_ir.specs.inner.Ends.{LowWindow};
 ghost use Rattle.cs_ir.specs.inner.Touching.{AreTouching};
-ghost use Rattle.cs_ir.specs.inner.Windows.{Says, op_in, ops_in, goes_on};
+ghost use Rattle.cs_ir.specs.inner.Windows.{op_in, ops_in, goes_on};
 ghost use Rattle.cs_ir.specs.declared.op.Act.{Act};
 ghost use Rattle.cs_ir.specs.declared.op.Op.{Op};
 
 use crate::ends::Ends;
-use crate::origin::Origin;
 use crate::touching::touching_acts;
 use crate::window::{Slot, Slots, Window};
 use crate::{Act, Op};
@@ -20,9 +18,6 @@ use cs_base::{OutOfMemory, Rate};
 use std::alloc::Global;
 use std::marker::Model;
 use std::sync::Arc;
-
-/// Fewer ops than these are no shorter as a stretch of a passage.
-pub const LEAST_OPS: usize = 4;
 
 /// An op of a passage. Its unit is counted from where those of its place begin, as its registers are.
 #[derive(Clone, Copy)]
@@ -48,9 +43,9 @@ pub struct Passage {
 impl Model for Passage {
     ghost use Rattle.std.specs.Prelude.{◌≡◌, List, true};
     ghost use Rattle.std.specs.List.{list_all};
-    ghost use Rattle.cs_ir.specs.inner.Ends.{AreEnds, LowEnds};
+    ghost use Rattle.cs_ir.specs.inner.Ends.{LowEnds};
     ghost use Rattle.cs_ir.specs.inner.Touching.{AreTouching};
-    ghost use Rattle.cs_ir.specs.inner.Windows.{goes_on};
+    ghost use Rattle.cs_ir.specs.inner.Windows.{AreEnds, goes_on};
     ghost use Rattle.cs_ir.specs.declared.passage.PassageOp.{PassageOp};
 
     ghost Value = { List PassageOp };
@@ -59,27 +54,6 @@ impl Model for Passage {
 
     ghost invariant = { λ p. (list_all goes_on p.ops.items ≡ true) × AreEnds p.ends p.ops.items × LowEnds p.ends
         × AreTouching p.touching.items p.ops.items };
-}
-
-/// The ops of a statement, noted as a passage for other places of the statement. Contracts see them, and the origin
-/// where they were made.
-#[derive(Drop)]
-pub struct NotedPassage {
-    passage: Arc<Passage, Global>,
-    origin: Origin,
-}
-
-impl Model for NotedPassage {
-    ghost use Rattle.std.specs.Prelude.{◌≡◌, true};
-    ghost use Rattle.cs_ir.specs.Moved.{Noted, begins_low};
-    ghost use Rattle.cs_ir.specs.inner.Windows.{Says, ops_in, window};
-
-    ghost Value = { Noted };
-
-    ghost view = { λ n. record { ops = ops_in (window n.origin) n.passage.value; origin = n.origin } };
-
-    ghost invariant = { λ n. Says n.origin (ops_in (window n.origin) n.passage.value) n.passage.value
-        × (begins_low n.origin ≡ true) };
 }
 
 /// The ops of a passage at one of its places. Contracts see the list of them.
@@ -116,26 +90,19 @@ impl PassageOp {
 }
 
 impl Passage {
-    /// The passage of a statement's ops; None where one of them has no form in a passage, and where the number of a
-    /// register is very high.
-    #[tactic(auto, using(crate::proofs::Aiming::all_more))]
-    fn of(alloc: Global, origin: &Origin, ops: &[Op]) -> Result<Option<Passage>, OutOfMemory>
-        ensures { IfOk result (λ m. IfSome m (λ p. Says origin.now ops.now p)) }
+    /// The passage of some ops; None where the number of a slot is very high.
+    pub(crate) fn of(alloc: Global, mut ops: Vec<PassageOp>) -> Result<Option<Passage>, OutOfMemory>
+        requires { list_all goes_on ops.items ≡ true }
+        ensures { IfOk result (λ m. IfSome m (λ p. p ≡ ops.items)) }
     {
-        let mut made = Vec::with_capacity(alloc, ops.len())?;
-        for op in ops {
-            let Some(one) = origin.passage_op(op) else {
-                return Ok(None);
-            };
-            made.push(one)?;
-        }
-        let ends = Ends::of(&made);
+        let ends = Ends::of(&ops);
         if !ends.are_low() {
             return Ok(None);
         }
-        let touching = touching_acts(alloc, &made)?;
+        let touching = touching_acts(alloc, &ops)?;
+        ops.shrink_to_fit();
         Ok(Some(Passage {
-            ops: made,
+            ops,
             ends,
             touching,
         }))
@@ -178,52 +145,21 @@ impl Passage {
     }
 }
 
-impl NotedPassage {
-    /// The passage of a statement's ops; None where they are few, where one of them has no form in a passage, and where
-    /// registers or units begin too high.
-    pub(crate) fn of(
-        alloc: Global,
-        origin: &Origin,
-        ops: &[Op],
-    ) -> Result<Option<NotedPassage>, OutOfMemory>
-        ensures ops { IfOk result (λ m. IfSome m (λ n. n.ops ≡ ops.now)) }
-        ensures origin { IfOk result (λ m. IfSome m (λ n. n.origin ≡ origin.now)) }
-    {
-        if ops.len() < LEAST_OPS || !origin.begins_low() {
-            return Ok(None);
-        }
-        match Passage::of(alloc, origin, ops)? {
-            Some(passage) => Ok(Some(NotedPassage {
-                passage: Arc::new(alloc, passage)?,
-                origin: *origin,
-            })),
-            None => Ok(None),
-        }
-    }
-
-    /// Its ops as they were made.
-    pub(crate) fn here(&self) -> Result<SharedOps, OutOfMemory>
-        ensures { IfOk result (λ s. s ≡ self.now.ops) }
-    {
-        Ok(SharedOps {
-            passage: Arc::try_clone(&self.passage)?,
-            window: self.origin.window(),
-        })
-    }
-
-    /// Its ops where the statement stands at an origin.
-    pub(crate) fn there(&self, origin: &Origin) -> Result<SharedOps, OutOfMemory>
-        requires { begins_low origin.now ≡ true }
-        ensures { IfOk result (λ s. s ≡ moved_ops self.now.origin origin.now self.now.ops) }
-    {
-        Ok(SharedOps {
-            passage: Arc::try_clone(&self.passage)?,
-            window: origin.window(),
-        })
-    }
-}
-
 impl SharedOps {
+    /// The ops of a passage in a window.
+    pub(crate) fn of(
+        passage: &Arc<Passage, Global>,
+        window: &Window,
+    ) -> Result<SharedOps, OutOfMemory>
+        requires { LowWindow window.now }
+        ensures { IfOk result (λ s. s ≡ ops_in window.now passage.now.value) }
+    {
+        Ok(SharedOps {
+            passage: Arc::try_clone(passage)?,
+            window: *window,
+        })
+    }
+
     pub fn len(&self) -> usize
         ensures { result ≡ length self.now }
     {

@@ -1,6 +1,7 @@
 // Registers and units as passages name them, and where those are that they name.
 ghost use Rattle.std.specs.Prelude.{◌≡◌};
-ghost use Rattle.cs_ir.specs.inner.Windows.{counted, register, registers_in, with_unit};
+ghost use Rattle.cs_ir.specs.inner.Slots.{counted, register};
+ghost use Rattle.cs_ir.specs.inner.Windows.{registers_in, with_unit};
 
 use crate::{Act, Operands, Reg};
 use cs_base::{PerRate, Rate};
@@ -26,6 +27,9 @@ pub enum Slot {
     /// The register of this very number, of an op that writes none.
     Fixed(Rate, u32),
 }
+
+/// How many registers an op of a passage reads at most.
+pub const MOST_SLOTS: usize = 3;
 
 /// The registers that an op of a passage reads, in order.
 #[derive(Clone, Copy)]

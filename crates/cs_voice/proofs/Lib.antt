@@ -1,4 +1,6 @@
+pub mod Few
 pub mod Fitting
+pub mod Gathering
 pub mod Places
 pub mod Playing
 pub mod Points

@@ -1,14 +1,14 @@
--- How far the registers reach that ops of a passage name where a window is.
+-- How far the registers reach that slots name where a window is.
 use Rattle.std.specs.Prelude.{ℕ, zero, suc, ◌≡◌, ◌+◌, ◌≤◌, ◌^◌, max, List}
 use Rattle.cs_base.specs.Rates.{at_rate}
 use Rattle.cs_base.specs.declared.per_rate.PerRate.{PerRate}
 use Rattle.cs_base.specs.declared.resource.Rate.{Rate}
 use Rattle.cs_base.specs.declared.resource.Rate.TheVariants as rate
-use Rattle.cs_ir.specs.Limits.{ops_limit}
+use Rattle.cs_ir.specs.Registers.{regs_limit}
 use Rattle.cs_ir.specs.declared.ends.Ends.{Ends}
-use Rattle.cs_ir.specs.declared.passage.PassageOp.{PassageOp}
+use Rattle.cs_ir.specs.declared.window.Slot.{Slot}
 use Rattle.cs_ir.specs.declared.window.Window.{Window}
-use Rattle.cs_ir.specs.inner.Windows.{ops_in}
+use Rattle.cs_ir.specs.inner.Slots.{slots_in}
 
 -- where the registers of a kind end that begin at a number, by where their own numbers end: at 0 where there are none
 abbrev pub behind : ℕ → ℕ → ℕ
@@ -47,6 +47,6 @@ pub record Raised (e new : Ends) (limit : Window → Rate → ℕ) : Type 0 wher
   pub reach : LowEnds new → (w : Window) → LowWindow w → (r : Rate)
       → limit_in w new r ≡ max (limit_in w e r) (limit w r)
 
--- The ends of the slots that ops of a passage name: in each window they reach as far as the ops.
-pub record AreEnds (e : Ends) (ops : List PassageOp) : Type 0 where
-  pub reach : LowEnds e → (w : Window) → LowWindow w → (r : Rate) → limit_in w e r ≡ ops_limit r (ops_in w ops)
+-- The ends of slots: in each window they reach as far as the registers that the slots name.
+pub record AreSlotEnds (e : Ends) (slots : List Slot) : Type 0 where
+  pub reach : LowEnds e → (w : Window) → LowWindow w → (r : Rate) → limit_in w e r ≡ regs_limit r (slots_in w slots)

@@ -1,8 +1,9 @@
 -- Ops that stand at several places of a code, and what they are at each of them.
-use Rattle.std.specs.Prelude.{ℕ, Bool, true, false, ◌+◌, ◌%◌, ◌^◌, ◌≡◌, List, [], ◌∷◌, map, not}
-use Rattle.cs_base.specs.Rates.{at_rate}
-use Rattle.cs_base.specs.declared.resource.Rate.TheVariants as rate
-use Rattle.cs_ir.specs.Moved.{begins_low, moved_ops}
+use Rattle.std.specs.Prelude.{Bool, true, false, ◌≡◌, List, [], ◌∷◌, map, not}
+use Rattle.cs_base.specs.declared.resource.Rate.{Rate}
+use Rattle.cs_ir.specs.Limits.{ops_limit}
+use Rattle.cs_ir.specs.Moved.{begins_low, moved_ops, moved_reg}
+use Rattle.cs_ir.specs.declared.ends.Ends.{Ends}
 use Rattle.cs_ir.specs.declared.op.Act.{Act}
 use Rattle.cs_ir.specs.declared.op.Act.TheVariants as act
 use Rattle.cs_ir.specs.declared.op.Op.{Op}
@@ -10,20 +11,11 @@ use Rattle.cs_ir.specs.declared.origin.Origin.{Origin}
 use Rattle.cs_ir.specs.declared.register.Reg.{Reg}
 use Rattle.cs_ir.specs.declared.passage.PassageOp.{PassageOp}
 use Rattle.cs_ir.specs.declared.window.Slot.{Slot}
-use Rattle.cs_ir.specs.declared.window.Slot.TheVariants as slot
 use Rattle.cs_ir.specs.declared.window.Slots.{Slots}
 use Rattle.cs_ir.specs.declared.window.Slots.TheVariants as slots
 use Rattle.cs_ir.specs.declared.window.Window.{Window}
-
--- a number that is counted from where its kind begins
-abbrev pub counted : ℕ → ℕ → ℕ
-counted begin n = (begin + n) % 2 ^ 32
-
-abbrev pub register : Window → Slot → Reg
-register w (slot.Local r n) = record { rate = r; index = counted (at_rate w.locals r) n }
-register w (slot.Kept n) = record { rate = rate.Init; index = counted w.kept n }
-register w (slot.Temporary r n) = record { rate = r; index = counted (at_rate w.temporaries r) n }
-register w (slot.Fixed r n) = record { rate = r; index = n }
+use Rattle.cs_ir.specs.inner.Ends.{LowEnds, LowWindow, limit_in}
+use Rattle.cs_ir.specs.inner.Slots.{counted, register, slots_in}
 
 -- the window of a statement's ops
 abbrev pub window : Origin → Window
@@ -57,8 +49,17 @@ is_jump _ = false
 abbrev pub goes_on : PassageOp → Bool
 goes_on p = not (is_jump p.act)
 
--- What a passage made of ops at an origin says: those ops there, and wherever registers and units begin low, the same
--- ones as they are there.
-pub record Says (here : Origin) (ops : List Op) (passage : List PassageOp) : Type 0 where
-  pub back : ops_in (window here) passage ≡ ops
-  pub there : (o : Origin) → begins_low o ≡ true → ops_in (window o) passage ≡ moved_ops here o ops
+-- The ends of the slots that ops of a passage name: in each window they reach as far as the ops.
+pub record AreEnds (e : Ends) (ops : List PassageOp) : Type 0 where
+  pub reach : LowEnds e → (w : Window) → LowWindow w → (r : Rate) → limit_in w e r ≡ ops_limit r (ops_in w ops)
+
+-- What was made of ops at an origin says by its windows: those ops there, and wherever registers and units begin low,
+-- the same ones as they are there.
+pub record Says (here : Origin) (ops : List Op) (made : Window → List Op) : Type 0 where
+  pub back : made (window here) ≡ ops
+  pub there : (o : Origin) → begins_low o ≡ true → made (window o) ≡ moved_ops here o ops
+
+-- What slots made of registers at an origin name: the same by registers.
+pub record Names (here : Origin) (registers : List Reg) (slots : List Slot) : Type 0 where
+  pub back : slots_in (window here) slots ≡ registers
+  pub there : (o : Origin) → begins_low o ≡ true → slots_in (window o) slots ≡ map (moved_reg here o) registers

@@ -1,4 +1,4 @@
-use Rattle.std.proofs.Common.{length, inr, refl, rules, subst, sym}
+use Rattle.std.proofs.Common.{length, inr, refl, rules, subst}
 use Rattle.cs_cells.specs.Cells.{cell}
 use Rattle.cs_voice.specs.Passing.{Passes}
 use Rattle.cs_voice.specs.Starts.{sheet_for}

@@ -1,7 +1,7 @@
 use Rattle.std.proofs.Common.{◌∙◌, ◌++◌, ◌∷◌, [], arith, ap, subst, sym, take}
 use Rattle.std.proofs.lemmas.List.{take_more}
 use Rattle.cs_ir.proofs.Reaching.{ends_more}
-use Rattle.cs_ir.specs.inner.Ends.{AreEnds}
+use Rattle.cs_ir.specs.inner.Windows.{AreEnds}
 use Rattle.cs_ir.proofs.ends.Ends.of.Goals as goal
 
 pub loop-op-preserved : goal.loop-op-preserved

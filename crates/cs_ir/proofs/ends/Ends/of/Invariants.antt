@@ -1,5 +1,5 @@
 use Rattle.std.proofs.Common.{take}
-use Rattle.cs_ir.specs.inner.Ends.{AreEnds}
+use Rattle.cs_ir.specs.inner.Windows.{AreEnds}
 use Rattle.cs_ir.proofs.ends.Ends.of.Given as goal
 
 abbrev pub invariant-loop-op : goal.invariant-loop-op

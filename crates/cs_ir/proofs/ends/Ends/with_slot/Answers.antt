@@ -1,9 +1,9 @@
 use Rattle.std.proofs.Common.{arith, subst, sym}
-use Rattle.cs_ir.specs.Limits.{reg_limit}
+use Rattle.cs_ir.specs.Registers.{reg_limit}
 use Rattle.cs_ir.specs.declared.ends.Ends.{Ends}
 use Rattle.cs_ir.specs.declared.window.Slot.{Slot}
 use Rattle.cs_ir.specs.inner.Ends.{Raised}
-use Rattle.cs_ir.specs.inner.Windows.{register}
+use Rattle.cs_ir.specs.inner.Slots.{register}
 use Rattle.cs_ir.proofs.Reaching.{fixed_slot_raised, kept_raised, local_raised, temporary_raised}
 use Rattle.cs_ir.proofs.ends.Ends.with_slot.Goals as goal
 

@@ -1,5 +1,5 @@
 use Rattle.std.proofs.Common.{subst, sym}
-use Rattle.cs_ir.specs.Limits.{regs_limit}
+use Rattle.cs_ir.specs.Registers.{regs_limit}
 use Rattle.cs_ir.specs.inner.Ends.{Raised}
 use Rattle.cs_ir.specs.inner.Windows.{registers_in}
 use Rattle.cs_ir.proofs.Reaching.{not_raised}
