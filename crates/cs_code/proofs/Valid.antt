@@ -33,7 +33,8 @@ use Rattle.cs_typed.specs.WellRated.{node_rate}
 use Rattle.cs_typed.specs.declared.tree.Var.{Var as Variable}
 use Rattle.cs_typed.specs.declared.tree.Var.TheVariants.{Local, Global}
 use Rattle.cs_code.specs.Names.{UnitKind, Names}
-use Rattle.cs_ir.specs.Limits.{reg_limit, regs_limit, ops_limit}
+use Rattle.cs_ir.specs.Limits.{ops_limit}
+use Rattle.cs_ir.specs.Registers.{reg_limit, regs_limit}
 use Rattle.cs_code.specs.inner.Frames.{Frame, op_of, kept_reg, temp, kept_or, direct, reg_or, spot, spots}
 use Rattle.cs_code.specs.inner.Code.{unless_there, copied, own, code, operand_code, operands_code, kept_code, keep_code}
 use Rattle.cs_code.specs.inner.Code.{keep_all_code, set_code, target, given_code, on_code, run_code, start_code}

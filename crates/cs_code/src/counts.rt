@@ -1,9 +1,10 @@
 // How many registers codes name.
 ghost use Rattle.std.specs.Prelude.{◌≡◌, if◌then◌else◌};
-ghost use Rattle.cs_base.specs.Rates.{same_rate};
+ghost use Rattle.cs_base.specs.Rates.{at_rate, same_rate};
 ghost use Rattle.cs_ir.specs.Codes.{flat, ops_of};
 ghost use Rattle.cs_code.specs.inner.Counted.{reached};
-ghost use Rattle.cs_ir.specs.Limits.{op_limit, ops_limit, reg_limit, regs_limit};
+ghost use Rattle.cs_ir.specs.Limits.{op_limit, ops_limit};
+ghost use Rattle.cs_ir.specs.Registers.{reg_limit};
 
 use cs_base::{PerRate, Rate};
 use cs_ir::{Counts, Op, Reg, SharedOps, Stretch};
@@ -42,14 +43,16 @@ fn with_reg(counts: Counts, reg: Reg) -> Counts
     with_end(counts, reg.rate, reg.index as usize + 1)
 }
 
-fn with_regs(counts: Counts, regs: &[Reg]) -> Counts
-    ensures { result ≡ reached counts (λ r. regs_limit r regs.now) }
+fn with_limits(counts: Counts, limits: PerRate<usize>) -> Counts
+    ensures { result ≡ reached counts (λ r. at_rate limits r) }
 {
-    let mut all = counts;
-    for reg in regs {
-        all = with_reg(all, *reg);
-    }
-    all
+    let Counts { registers, units } = counts;
+    let registers = PerRate {
+        init: registers.init.max(limits.init),
+        control: registers.control.max(limits.control),
+        audio: registers.audio.max(limits.audio),
+    };
+    Counts { registers, units }
 }
 
 #[tactic(auto, using(crate::proofs::Reached::reached_two))]
@@ -57,7 +60,12 @@ fn with_op(counts: Counts, op: &Op) -> Counts
     ensures { result ≡ reached counts (λ r. op_limit r op.now) }
 {
     let counts = with_reg(counts, op.into);
-    with_regs(counts, op.from.as_slice())
+    let limits = PerRate {
+        init: op.from.limit(Rate::Init),
+        control: op.from.limit(Rate::Control),
+        audio: op.from.limit(Rate::Audio),
+    };
+    with_limits(counts, limits)
 }
 
 fn with_own(counts: Counts, ops: &[Op]) -> Counts
@@ -73,13 +81,12 @@ fn with_own(counts: Counts, ops: &[Op]) -> Counts
 fn with_shared(counts: Counts, ops: &SharedOps) -> Counts
     ensures { result ≡ reached counts (λ r. ops_limit r ops.now) }
 {
-    let Counts { registers, units } = counts;
-    let registers = PerRate {
-        init: registers.init.max(ops.limit(Rate::Init)),
-        control: registers.control.max(ops.limit(Rate::Control)),
-        audio: registers.audio.max(ops.limit(Rate::Audio)),
+    let limits = PerRate {
+        init: ops.limit(Rate::Init),
+        control: ops.limit(Rate::Control),
+        audio: ops.limit(Rate::Audio),
     };
-    Counts { registers, units }
+    with_limits(counts, limits)
 }
 
 fn with_stretch(counts: Counts, stretch: &Stretch) -> Counts

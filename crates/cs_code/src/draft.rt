@@ -4,7 +4,7 @@ ghost use Rattle.cs_ir.specs.Codes.{aim};
 ghost use Rattle.cs_code.specs.inner.Frames.{op_of};
 ghost use Rattle.cs_code.specs.inner.Passages.{Fits, advanced, past_source, source_code, source_of};
 
-use crate::frame::{self, Context, Progress};
+use crate::frame::{self, Context, Pass, Progress};
 use crate::passages::{Passage, Passages, fits, origin_of};
 use crate::subject::Subject;
 use cs_base::OutOfMemory;
@@ -12,6 +12,9 @@ use cs_ir::{Act, CodeDraft, LEAST_OPS, Operands, Ops, Origin, Reg};
 use std::alloc::Global;
 use std::marker::Model;
 use std::mem;
+
+/// A call with more arguments than these reads a list of registers as the note begins, which its ops keep once.
+const MANY_ARGUMENTS: usize = 8;
 
 /// A code that is being made, and the passages of the orchestra. Contracts see the list of its ops.
 #[derive(Drop)]
@@ -79,9 +82,11 @@ impl<'t> Draft<'t> {
         code.end()
     }
 
-    /// Whether what stands on a line is noted and said: it stands in a definition, and many ops were made.
-    pub fn uses_passages(&self, context: &Context, line: u32) -> bool {
-        line < context.line && self.passages.are_used(self.code.len())
+    /// Whether a subject on a line is noted and said: it stands in a definition, and many ops were made or it reads a
+    /// list of registers.
+    pub fn uses_passages(&self, context: &Context, line: u32, subject: &Subject<'_>) -> bool {
+        line < context.line
+            && (reads_list(context, subject) || self.passages.are_used(self.code.len()))
     }
 
     /// Appends the ops of a subject on a line, where it has a passage. Returns what was met before its end.
@@ -104,7 +109,7 @@ impl<'t> Draft<'t> {
         }
     }
 
-    /// Notes what was made last, of a subject on a line, unless it has few ops.
+    /// Notes what was made last, of a subject on a line, unless it has few ops and reads no list of registers.
     pub fn note(
         &mut self,
         context: Context,
@@ -119,7 +124,8 @@ impl<'t> Draft<'t> {
         ensures { OnOk result (self.new ≡ self.old) }
     {
         // A statement of rate Init has no ops in the performance: its variables aren't looked at.
-        if self.code.len().saturating_sub(made.from) < LEAST_OPS {
+        let few = self.code.len().saturating_sub(made.from) < LEAST_OPS;
+        if few && !reads_list(&context, subject) {
             return Ok(());
         }
         match self.noted(context, made, subject)? {
@@ -149,6 +155,14 @@ impl<'t> Draft<'t> {
             Some(noted) => Ok(Some(Passage::of(&context, subject, noted, extent))),
             None => Ok(None),
         }
+    }
+}
+
+/// Whether the ops of a subject read a list of registers.
+fn reads_list(context: &Context, subject: &Subject<'_>) -> bool {
+    match (context.pass, subject) {
+        (Pass::Initialisation, Subject::Call(call)) => call.args.len() > MANY_ARGUMENTS,
+        _ => false,
     }
 }
 

@@ -1,5 +1,5 @@
 // What was noted of the statements and conditions in definitions, so that it is said where they stand again.
-ghost use Rattle.std.specs.Prelude.{◌≡◌, ◌+◌, ◌++◌, ◌<◌, ◌≤◌, ℕ, true, IfNone, IfOk, IfSome};
+ghost use Rattle.std.specs.Prelude.{◌≡◌, ◌+◌, ◌++◌, ◌≤◌, ℕ, true, IfNone, IfOk, IfSome};
 ghost use Rattle.cs_ir.specs.declared.origin.Origin.{Origin};
 ghost use Rattle.cs_code.specs.inner.Passages.{Fits, IsNoted, Source, advanced};
 ghost use Rattle.cs_code.specs.inner.Passages.{past_source, source_code, source_of};
@@ -11,12 +11,13 @@ use cs_base::{OutOfMemory, PerRate, Spaces};
 use cs_ir::{CodeDraft, NotedPassage, Origin};
 use std::alloc::Global;
 use std::collections::BTreeMap;
+use std::mem;
 
 /// Where the temporaries of rate Init would begin in a performance, which has none: behind all kept values.
 const NO_TEMPORARIES: u32 = 1 << 31;
 
-/// The most passages of a line, so that looking for one takes a bounded time.
-const MOST_OF_A_LINE: usize = 256;
+/// At most so many passages are looked at for a subject, so that a long ring takes no longer than a short one.
+const MOST_STEPS: usize = 8;
 
 /// Before an orchestra has so many ops nothing is noted: ops that stand alone are run faster.
 const MANY_OPS: usize = 1 << 19;
@@ -33,20 +34,30 @@ pub struct Passage<'t> {
     ghost noted_of: { IsNoted spaces pass (source_of subject) noted extent },
 }
 
-/// The passages of an orchestra, by their lines. No contract speaks of them.
+/// The passages of an orchestra, by their lines: those of initialisations, and those of performances. No contract
+/// speaks of them.
 #[derive(Drop)]
 pub struct Passages<'t> {
     alloc: Global,
-    by_line: BTreeMap<u32, LinePassages<'t>>,
+    initialisations: BTreeMap<u32, LinePassages<'t>>,
+    performances: BTreeMap<u32, LinePassages<'t>>,
     /// How many ops the codes have that are made.
     made: usize,
 }
 
-/// The passages of a line, and the number of the one that is looked at first: a line has the same ones in the same
-/// order again.
+/// The passages of a line in a pass, as a ring: each call of a definition has the same subjects in the same order
+/// again, so a new passage stands behind the one that served last, and what comes is looked for from there on.
 #[derive(Drop)]
 struct LinePassages<'t> {
-    passages: Vec<Passage<'t>>,
+    links: Vec<Link<'t>>,
+    /// The number of the passage that was found or kept last.
+    last: usize,
+}
+
+/// A passage in a ring, and the number of the one behind it: of the one whose subject came next.
+#[derive(Drop)]
+struct Link<'t> {
+    passage: Passage<'t>,
     next: usize,
 }
 
@@ -113,29 +124,44 @@ impl<'t> Passage<'t> {
     }
 }
 
-/// The number so many steps after another among so many, which go round.
-fn around(first: usize, steps: usize, count: usize) -> usize
-    requires { 0 < count }
-    ensures { result < count }
-{
-    first.wrapping_add(steps) % count
-}
-
 impl<'t> LinePassages<'t> {
-    /// The first that serves a subject.
+    /// The number of the passage behind one; 0 where there is none of that number.
+    fn behind(&self, number: usize) -> usize {
+        match self.links.get(number) {
+            Some(link) => link.next,
+            None => 0,
+        }
+    }
+
+    /// One of the next that serves a subject.
     fn find(&mut self, context: &Context, subject: &Subject<'t>) -> Option<&Passage<'t>>
         ensures { IfSome result (λ n. IsNoted context.now.spaces context.now.pass (source_of subject.now)
             n.now.noted n.now.extent) }
     {
-        let count = self.passages.len();
-        for step in 0..count {
-            let number = around(self.next, step, count);
-            if self.passages[number].serves(context, subject) {
-                self.next = number + 1;
-                return Some(&self.passages[number]);
+        let mut number = self.last;
+        for _ in 0..MOST_STEPS {
+            number = self.behind(number);
+            if number >= self.links.len() {
+                return None;
+            }
+            if self.links[number].passage.serves(context, subject) {
+                self.last = number;
+                return Some(&self.links[number].passage);
             }
         }
         None
+    }
+
+    /// Keeps a passage behind the last.
+    fn add(&mut self, passage: Passage<'t>) -> Result<(), OutOfMemory> {
+        let number = self.links.len();
+        let next = match self.links.get_mut(self.last) {
+            Some(last) => mem::replace(&mut last.next, number),
+            None => number,
+        };
+        self.links.push(Link { passage, next })?;
+        self.last = number;
+        Ok(())
     }
 }
 
@@ -144,7 +170,8 @@ impl<'t> Passages<'t> {
     pub fn new(alloc: Global) -> Passages<'t> {
         Passages {
             alloc,
-            by_line: BTreeMap::new(alloc),
+            initialisations: BTreeMap::new(alloc),
+            performances: BTreeMap::new(alloc),
             made: 0,
         }
     }
@@ -169,7 +196,7 @@ impl<'t> Passages<'t> {
         ensures { IfSome result (λ n. IsNoted context.now.spaces context.now.pass (source_of subject.now)
             n.now.noted n.now.extent) }
     {
-        match self.by_line.get_mut(&line) {
+        match self.lines_of(context.pass).get_mut(&line) {
             Some(passages) => passages.find(context, subject),
             None => None,
         }
@@ -178,14 +205,18 @@ impl<'t> Passages<'t> {
     /// Keeps what was noted on a line.
     pub fn add(&mut self, line: u32, passage: Passage<'t>) -> Result<(), OutOfMemory> {
         let none = LinePassages {
-            passages: Vec::new(self.alloc),
-            next: 0,
+            links: Vec::new(self.alloc),
+            last: 0,
         };
-        let line = self.by_line.entry(line)?.or_insert(none);
-        if line.passages.len() < MOST_OF_A_LINE {
-            line.passages.push(passage)?;
+        let lines = self.lines_of(passage.pass);
+        lines.entry(line)?.or_insert(none).add(passage)
+    }
+
+    fn lines_of(&mut self, pass: Pass) -> &mut BTreeMap<u32, LinePassages<'t>> {
+        match pass {
+            Pass::Initialisation => &mut self.initialisations,
+            Pass::Performance => &mut self.performances,
         }
-        Ok(())
     }
 }
 

@@ -29,7 +29,7 @@ pub fn placed<'t>(
     ensures next { IfOk result (λ q.
         q ≡ past_source context.spaces context.bases.locals p (source_of subject.now)) }
 {
-    if !ops.uses_passages(&context, line) {
+    if !ops.uses_passages(&context, line, subject) {
         return made(&mut ops.code, context, p, subject);
     }
     if let Some(next) = ops.say(context, p, line, subject)? {
