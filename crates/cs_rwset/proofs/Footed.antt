@@ -1,5 +1,5 @@
 -- Footprints over zones are those of codes.
-use Rattle.std.proofs.Common.{◌≡◌, ◌<◌, ℕ, suc, Bool, true, false, List, get_or, length, slice_get, Option, Some, refl}
+use Rattle.std.proofs.Common.{◌≡◌, ◌<◌, ℕ, suc, Bool, true, false, List, get_or, length, slice_get, Option, Some}
 use Rattle.std.proofs.Common.{sym}
 use Rattle.std.proofs.Common.{◌∙◌, ◌≤◌, None, nat_lt, if◌then◌else◌, ap, subst, arith}
 use Rattle.std.proofs.lemmas.Bool.Decides.{nat_tests}

@@ -9,7 +9,6 @@ use Rattle.cs_base.specs.declared.resource.Res.{Res}
 use Rattle.cs_cells.specs.Areas.{HasPlace}
 use Rattle.cs_cells.specs.Cells.{covers, in_area}
 use Rattle.cs_cells.specs.declared.footprint.Area.{Area}
-use Rattle.cs_ir.specs.Resources.{Stock, act_uses, act_writes, ops_use, ops_write}
 use Rattle.cs_ir.specs.declared.op.Op.{Op}
 use Rattle.cs_rwset.specs.Footprints.{places_holding}
 use Rattle.cs_rwset.proofs.Placed.{exact_places, places_exact, contains_none, contains_first, contains_rest}
@@ -30,15 +29,6 @@ module _ {X Y : Type 0} (f : X → List Y) where
       ⊎_elim (λ here. (z, contains_first z xs, here))
       (λ t. let later = each_of xs y t in (later.0, contains_rest z later.0 xs later.1, later.2))
       (Contains-append_cases (f z) (flat_map f xs) y h)
-
--- what an op of a code may use, the code may use; likewise what it may write
-pub of_op : (stock : Stock) (ops : List Op) (op : Op) (r : Res) → Contains ops op → Contains (act_uses stock op.act) r
-    → Contains (ops_use stock ops) r
-of_op stock ops op r h k = of_each (λ o. act_uses stock o.act) ops op r h k
-
-pub written_of_op : (stock : Stock) (ops : List Op) (op : Op) (r : Res) → Contains ops op
-    → Contains (act_writes stock op.act) r → Contains (ops_write stock ops) r
-written_of_op stock ops op r h k = of_each (λ o. act_writes stock o.act) ops op r h k
 
 -- The places of what a function of ops lists: those of what it lists for one of the ops.
 module _ (areas : List Area) (f : Op → List Res) (ops : List Op) (place : ℕ) where

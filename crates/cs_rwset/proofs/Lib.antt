@@ -3,6 +3,7 @@ pub mod Footed
 pub mod Holding
 pub mod Marking
 pub mod Placed
+pub mod Spans
 pub mod Touched
 pub mod ZoneSteps
 pub mod ZonesCover

@@ -29,11 +29,11 @@ use Rattle.cs_rwset.proofs.Covering.{covers_named}
 use Rattle.cs_rwset.specs.inner.Marks.{marked, marked_by, marks_of}
 use Rattle.std.proofs.lemmas.Option.{slice_get_within}
 
-or_here : (p q : Bool) → q ≡ true → true ≡ (p || q)
+pub or_here : (p q : Bool) → q ≡ true → true ≡ (p || q)
 or_here true q e = refl
 or_here false q e = sym e
 
-or_not : (p q : Bool) → q ≡ false → p ≡ (p || q)
+pub or_not : (p q : Bool) → q ≡ false → p ≡ (p || q)
 or_not true q e = refl
 or_not false q e = sym e
 

@@ -13,7 +13,7 @@ use Rattle.std.proofs.lemmas.List.{length-append, take_more}
 use Rattle.std.proofs.lemmas.List.Elements.{All-cons, All-nil, All-push}
 use Rattle.cs_cells.specs.declared.footprint.Area.{Area}
 use Rattle.cs_rwset.specs.declared.code.Marks.{Marks}
-use Rattle.cs_rwset.specs.inner.Zoning.{AreBegins, Stay, heads, joined, zones_from, zones_of}
+use Rattle.cs_rwset.specs.inner.Zoning.{AreBegins, Stay, heads, joined, zones_from}
 
 -- the zones from one on, at an area
 zones_at : (areas : List Area) (begins : List Bool) (p : ℕ) (zone a : Area) → a ≡ get_or areas p a
@@ -43,20 +43,6 @@ zone_goes_on areas begins p zone a done all read low here still h =
     ap (λ l. done ++ l) (sym (zones_at areas begins p zone a read low here
     ∙ ap (λ b. if b then zone ∷ zones_from a (drop (p + 1) areas) (drop (p + 1) begins)
     else zones_from (joined zone a) (drop (p + 1) areas) (drop (p + 1) begins)) still)) ∙ h
-
-pub zone_ends : (areas : List Area) (begins : List Bool) (p : ℕ) (zone : Area) (done all : List Area)
-    → length areas ≤ p → done ++ zones_from zone (drop p areas) (drop p begins) ≡ all → done ++ zone ∷ [] ≡ all
-zone_ends areas begins p zone done all far h =
-    ap (λ l. done ++ l) (sym (at_drop_all (λ l. zones_from zone l (drop p begins)) areas p far)) ∙ h
-
-pub zone_first : (areas : List Area) (begins : List Bool) (a : Area) → a ≡ get_or areas 0 a → 0 < length areas
-    → zones_from a (drop 1 areas) (drop 1 begins) ≡ zones_of areas begins
-zone_first [] begins a read some = absurd (omega (arith, some))
-zone_first (x ∷ areas) begins a read some = ap (λ y. zones_from y areas (drop 1 begins)) read
-
-pub no_zones : (areas : List Area) (begins : List Bool) → length areas ≡ 0 → [] ≡ zones_of areas begins
-no_zones [] begins e = refl
-no_zones (x ∷ areas) begins e = absurd (omega (arith, e))
 
 -- the marks at an area
 heads_at : (marks begins : List Bool) (p : ℕ) → p < length marks → p < length begins
@@ -133,14 +119,6 @@ begins_more outside each begins new place b is e first stays all = record {
     at_first zero is none = get_or_at begins b [] false 0 is.long ∙ none refl
     at_first (suc n) is none =
         get_or_append_left begins (b ∷ []) false 0 (let m = is.long in omega (arith, m)) ∙ is.first (omega arith)
-
-pub no_begins_yet : (outside : Marks) (each : List Marks) → AreBegins 0 outside each []
-no_begins_yet outside each = record {
-  long = refl;
-  first = λ some. absurd (omega (arith, some));
-  outside_stays = λ p low. absurd (omega (arith, low));
-  each_stays = λ p low. absurd (omega (arith, low));
-}
 
 -- ---- lists item by item
 

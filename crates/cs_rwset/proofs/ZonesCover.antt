@@ -1,22 +1,18 @@
 -- Zones cover what the areas cover of which they are made.
-use Rattle.std.proofs.Common.{◌≡◌, ◌+◌, ◌<◌, ◌≤◌, ◌&&◌, ◌||◌, ℕ, zero, suc, Bool, true, false, List, [], ◌∷◌, drop}
-use Rattle.std.proofs.Common.{get_or, length, nat_le, nat_lt, slice_get, take, Option, Some, None, if◌then◌else◌, refl}
-use Rattle.std.proofs.Common.{sym, ◌∙◌, ap, subst, arith, ⊎_elim, leb-true, ltb-true}
-use Rattle.std.specs.List.{All, Contains, filter, range_with_len}
-use Rattle.std.specs.List.Sorted.{IsStrictlyIncreasing}
+use Rattle.std.proofs.Common.{◌≡◌, ◌+◌, ◌<◌, ◌&&◌, ◌||◌, ℕ, zero, suc, Bool, true, false, List, [], ◌∷◌}
+use Rattle.std.proofs.Common.{get_or, length, nat_le, nat_lt, slice_get, take, Some, if◌then◌else◌, refl}
+use Rattle.std.proofs.Common.{sym, ◌∙◌, ap, subst, arith, ⊎_elim}
+use Rattle.std.specs.List.{range_with_len}
 use Rattle.std.proofs.lemmas.Bool.{and_from, and_parts, or_cases, or_left, or_right}
 use Rattle.std.proofs.lemmas.Bool.Decides.{nat_tests}
-use Rattle.std.proofs.lemmas.List.Elements.{All-cons, All-nil}
-use Rattle.std.proofs.lemmas.List.Kept.{IsStrictlyIncreasing-filter}
 use Rattle.std.proofs.lemmas.List.Sums.{sum_by-cons}
-use Rattle.cs_base.specs.declared.resource.Res.{Res}
-use Rattle.cs_cells.specs.Areas.{HasPlace, IsLaid, word_count}
+use Rattle.cs_cells.specs.Areas.{IsLaid, word_count}
 use Rattle.cs_cells.specs.Cells.{covers, in_area}
 use Rattle.cs_cells.specs.declared.footprint.Area.{Area}
 use Rattle.cs_rwset.specs.inner.Marks.{marked}
 use Rattle.cs_rwset.specs.inner.Zoning.{AreKept, heads, joined, zones_from, zones_of}
 use Rattle.cs_rwset.proofs.Holding.{at_covers, covered_at, none_in}
-use Rattle.cs_rwset.proofs.Placed.{contains_filter, contains_range, filter_contains, range_ascends, range_contains}
+use Rattle.cs_rwset.proofs.Placed.{contains_filter, contains_range, filter_contains}
 use Rattle.cs_rwset.proofs.Placed.{same_tests}
 
 -- ---- areas, one behind the other

@@ -3,7 +3,7 @@ use Rattle.std.proofs.lemmas.Option.{get_or_from_slice_get}
 use Rattle.cs_cells.specs.Areas.{word_count}
 use Rattle.cs_cells.specs.declared.footprint.Area.{Area}
 use Rattle.cs_cells.proofs.Laid.{area_within}
-use Rattle.cs_rwset.specs.inner.Zoning.{joined, zones_from}
+use Rattle.cs_rwset.specs.inner.Zoning.{zones_from}
 use Rattle.cs_rwset.proofs.ZoneSteps.{words_more, zone_begins, zone_goes_on}
 use Rattle.cs_rwset.proofs.zones.areas_of.Goals.{then-begins-place+in_ok-push, else-begins-place}
 use Rattle.cs_rwset.proofs.zones.areas_of.Goals as goal

@@ -2,8 +2,8 @@ use Rattle.std.proofs.Common.{◌∙◌, ap, sym, ◌+◌, arith}
 use Rattle.std.proofs.lemmas.List.{take_all}
 use Rattle.cs_rwset.specs.Footprints.{place_count}
 use Rattle.cs_rwset.proofs.Marking.{counted, not_counted}
-use Rattle.cs_rwset.proofs.code.place_count.Goals.{then-is_place, else-is_place}
-use Rattle.cs_rwset.proofs.code.place_count.Goals as goal
+use Rattle.cs_rwset.proofs.runs.place_count.Goals.{then-is_place, else-is_place}
+use Rattle.cs_rwset.proofs.runs.place_count.Goals as goal
 
 pub loop-place-preserved : goal.loop-place-preserved
 loop-place-preserved c = elim c.if-is_place.branch [

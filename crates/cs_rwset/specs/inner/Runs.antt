@@ -1,0 +1,53 @@
+-- Where the areas of what has numbers lie side by side.
+use Rattle.std.specs.Prelude.{ℕ, ◌≡◌, ◌+◌, ◌<◌, ◌≤◌, Bool, true, false, List, length, slice_get, Option, Some}
+use Rattle.std.specs.Prelude.{IfNone, IfSome, is_some}
+use Rattle.cs_base.specs.Limits.{most_resources}
+use Rattle.cs_base.specs.declared.resource.Res.{Res}
+use Rattle.cs_cells.specs.Areas.{HasPlace}
+use Rattle.cs_cells.specs.declared.footprint.Area.{Area}
+use Rattle.cs_ir.specs.Resources.{places_of, zak_place}
+use Rattle.cs_ir.specs.declared.op.Reach.TheVariants as reach
+use Rattle.cs_rwset.specs.Footprints.{stock_of}
+use Rattle.cs_rwset.specs.declared.named.Named.{Named}
+use Rattle.cs_rwset.specs.declared.named.Named.TheVariants as named
+use Rattle.cs_rwset.specs.declared.runs.Run.{Run}
+use Rattle.cs_rwset.specs.declared.runs.Runs.{Runs}
+use Rattle.cs_rwset.specs.inner.Named.{covers}
+use Rattle.cs_words.specs.declared.catalogue.Space.{Space}
+use Rattle.cs_words.specs.declared.catalogue.Space.TheVariants as space
+
+-- what is found is what it should be, and where nothing is found there is nothing
+abbrev pub Finds : {X : Type 0} → (X → Type 0) → Option X → Type 0
+Finds {X = X} P found = IfSome found P × IfNone found ((x : X) → ¬ (P x))
+
+-- The areas whose resources pass a test are those from one place up to another.
+pub record IsRun (areas : List Area) (test : Res → Bool) (run : Run) : Type 0 where
+  pub ordered : run.from ≤ run.to
+  pub within : run.to ≤ length areas
+  pub inside : (place : ℕ) (a : Area) → slice_get areas place ≡ Some a → run.from ≤ place → place < run.to
+      → test a.res ≡ true
+  pub before : (place : ℕ) (a : Area) → slice_get areas place ≡ Some a → place < run.from → test a.res ≡ false
+  pub behind : (place : ℕ) (a : Area) → slice_get areas place ≡ Some a → run.to ≤ place → test a.res ≡ false
+
+-- So many places of a zak space have areas one behind the other, in the order of their numbers.
+pub record AreInOrder (areas : List Area) (s : Space) (count begin : ℕ) : Type 0 where
+  pub within : begin + count ≤ length areas
+  pub each : (n : ℕ) → n < count → HasPlace areas (zak_place s n) (begin + n)
+
+-- where the areas of a zak space begin
+abbrev pub begin_of : Runs → Space → Option ℕ
+begin_of runs space.Control = runs.control
+begin_of runs space.Audio = runs.audio
+
+-- what has numbers in a layout, and where it lies side by side
+pub record AreRuns (areas : List Area) (runs : Runs) : Type 0 where
+  pub few : length areas ≤ most_resources
+  pub spaces : runs.spaces ≡ (stock_of areas).spaces
+  pub tables : Finds (IsRun areas (covers runs.spaces (named.Tables reach.Any))) runs.tables
+  pub places : (s : Space) → Finds (AreInOrder areas s (places_of runs.spaces s)) (begin_of runs s)
+
+-- whether runs tell what is named: all tables, or places of a zak space, where that lies side by side
+abbrev pub is_told : Runs → Named → Bool
+is_told runs (named.Tables reach.Any) = is_some runs.tables
+is_told runs (named.Places s r) = is_some (begin_of runs s)
+is_told runs _ = false

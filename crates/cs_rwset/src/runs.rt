@@ -1,0 +1,230 @@
+// Where the areas of what has numbers lie side by side.
+ghost use Rattle.std.specs.Prelude.{◌≡◌, ◌<◌, ◌≤◌, ℕ, List, length, slice_get, true, false, Some, IfSome, is_some};
+ghost use Rattle.cs_base.specs.Limits.{most_resources};
+ghost use Rattle.cs_cells.specs.Areas.{HasPlace, IsLaid};
+ghost use Rattle.cs_cells.specs.declared.footprint.Area.{Area};
+ghost use Rattle.cs_ir.specs.Resources.{places_of, reaches, zak_place};
+ghost use Rattle.cs_ir.specs.declared.op.Reach.TheVariants as reach;
+ghost use Rattle.cs_rwset.specs.Footprints.{is_place, place_count, stock_of};
+ghost use Rattle.cs_rwset.specs.declared.named.Named.TheVariants as named;
+ghost use Rattle.cs_rwset.specs.inner.Named.{covers};
+ghost use Rattle.cs_rwset.specs.inner.Runs.{AreInOrder, AreRuns, Finds, IsRun, begin_of, is_told};
+
+use crate::named::Named;
+use cs_base::{Res, Spaces};
+use cs_cells::Layout;
+use cs_ir::{Reach, places_of, zak_place};
+use cs_words::Space;
+
+/// Places or numbers from one up to another, which isn't among them.
+#[derive(Clone, Copy)]
+pub struct Run {
+    pub from: u32,
+    pub to: u32,
+}
+
+/// Where the areas of what has numbers lie side by side in a layout. Where a field is None, they don't.
+#[derive(Clone, Copy)]
+pub struct Runs {
+    /// How many places each zak space has.
+    pub spaces: Spaces,
+    /// The areas of tables, in whatever order.
+    pub tables: Option<Run>,
+    /// Where the areas of the zak places of control values begin, which lie in the order of their numbers.
+    pub control: Option<u32>,
+    /// Where those of the zak places of sounds begin, which lie so too.
+    pub audio: Option<u32>,
+}
+
+impl Runs {
+    /// Looks where areas lie side by side.
+    pub fn of(layout: &Layout) -> Runs
+        ensures { AreRuns layout.now result }
+    {
+        // No two areas are of one resource, and they are few.
+        let _ = layout.words();
+        let spaces = spaces_of(layout);
+        Runs {
+            spaces,
+            tables: find_tables(layout, spaces),
+            control: find_places(layout, Space::Control, spaces.control),
+            audio: find_places(layout, Space::Audio, spaces.audio),
+        }
+    }
+
+    /// The areas whose resources are named; None where no run tells them.
+    pub fn run(&self, names: Named) -> Option<Run>
+        ensures run { IfSome result (λ run. (areas : List Area) → IsLaid areas → AreRuns areas self.now
+            → IsRun areas (covers self.now.spaces names) run) }
+        ensures told { is_some result ≡ is_told self.now names }
+    {
+        match names {
+            Named::Tables(Reach::Any) => self.tables,
+            Named::Places(space, reach) => self.places(space, reach),
+            _ => None,
+        }
+    }
+
+    /// The areas of the places of a zak space within a reach; None where no run tells them.
+    fn places(&self, space: Space, reach: Reach) -> Option<Run>
+        ensures run { IfSome result (λ run. (areas : List Area) → IsLaid areas → AreRuns areas self.now
+            → IsRun areas (covers self.now.spaces (named.Places space reach)) run) }
+        ensures told { is_some result ≡ is_some (begin_of self.now space) }
+    {
+        match self.begin(space) {
+            Some(begin) => Some(placed(begin, places_of(self.spaces, space), reach)),
+            None => None,
+        }
+    }
+
+    /// Where the areas of a zak space begin.
+    fn begin(&self, space: Space) -> Option<u32>
+        ensures { result ≡ begin_of self.now space }
+    {
+        match space {
+            Space::Control => self.control,
+            Space::Audio => self.audio,
+        }
+    }
+}
+
+/// The areas of the zak places within a reach, of so many whose areas begin at a place.
+fn placed(begin: u32, count: u32, reach: Reach) -> Run
+    ensures { (areas : List Area) (s : Space) (spaces : Spaces) → IsLaid areas → length areas ≤ most_resources
+        → spaces ≡ (stock_of areas).spaces → count ≡ places_of spaces s → AreInOrder areas s count begin
+        → IsRun areas (covers spaces (named.Places s reach)) result }
+{
+    let numbers = numbers_within(reach, count);
+    Run {
+        from: begin.saturating_add(numbers.from),
+        to: begin.saturating_add(numbers.to),
+    }
+}
+
+/// The numbers within a reach, of those below a count.
+fn numbers_within(reach: Reach, count: u32) -> Run
+    ensures within { (n : ℕ) → n < count → reaches reach n ≡ true → (result.from ≤ n) × (n < result.to) }
+    ensures all { (n : ℕ) → result.from ≤ n → n < result.to → reaches reach n ≡ true }
+    ensures few { result.to ≤ count }
+    ensures ordered { result.from ≤ result.to }
+{
+    match reach {
+        Reach::Nothing => Run { from: 0, to: 0 },
+        Reach::Span(first, last) => {
+            let to = last.saturating_add(1).min(count);
+            Run {
+                from: first.min(to),
+                to,
+            }
+        }
+        Reach::Any => Run { from: 0, to: count },
+    }
+}
+
+/// Where the areas of so many places of a zak space begin, if they lie side by side in the order of their numbers; some
+/// place or other where there are none.
+fn find_places(layout: &Layout, space: Space, count: u32) -> Option<u32>
+    requires { IsLaid layout.now }
+    ensures { Finds (AreInOrder layout.now space count) result }
+{
+    let begin = first_place(layout, space);
+    for number in 0..count {
+        let place = layout.find(zak_place(space, number as usize))?;
+        if place as u64 != begin as u64 + number as u64 {
+            return None;
+        }
+    }
+    Some(begin)
+}
+
+/// Where the area of the first place of a zak space is, or the first place of the layout where it has none.
+fn first_place(layout: &Layout, space: Space) -> u32
+    requires { IsLaid layout.now }
+    ensures within { result ≤ length layout.now }
+    ensures first { (place : ℕ) → HasPlace layout.now (zak_place space 0) place → result ≡ place }
+{
+    match layout.find(zak_place(space, 0)) {
+        Some(place) => place,
+        None => 0,
+    }
+}
+
+/// The areas of tables, if they lie side by side.
+fn find_tables(layout: &Layout, spaces: Spaces) -> Option<Run>
+    ensures { Finds (IsRun layout.now (covers spaces (named.Tables reach.Any))) result }
+{
+    let from = next_table(layout, spaces, 0);
+    let to = next_other(layout, spaces, from);
+    if next_table(layout, spaces, to) == layout.len() {
+        Some(Run { from, to })
+    } else {
+        None
+    }
+}
+
+/// The first place of a table's area from a place on; where there is none, the number of areas.
+fn next_table(layout: &Layout, spaces: Spaces, from: u32) -> u32
+    requires { from ≤ length layout.now }
+    ensures within { (from ≤ result) × (result ≤ length layout.now) }
+    ensures here { (a : Area) → slice_get layout.now result ≡ Some a
+        → covers spaces (named.Tables reach.Any) a.res ≡ true }
+    ensures before { (place : ℕ) (a : Area) → slice_get layout.now place ≡ Some a → from ≤ place → place < result
+        → covers spaces (named.Tables reach.Any) a.res ≡ false }
+{
+    for place in from..layout.len() {
+        if Named::Tables(Reach::Any).covers(spaces, layout.area(place).res) {
+            return place;
+        }
+    }
+    layout.len()
+}
+
+/// The first place of an area that isn't a table's from a place on; where there is none, the number of areas.
+fn next_other(layout: &Layout, spaces: Spaces, from: u32) -> u32
+    requires { from ≤ length layout.now }
+    ensures within { (from ≤ result) × (result ≤ length layout.now) }
+    ensures here { (a : Area) → slice_get layout.now result ≡ Some a
+        → covers spaces (named.Tables reach.Any) a.res ≡ false }
+    ensures before { (place : ℕ) (a : Area) → slice_get layout.now place ≡ Some a → from ≤ place → place < result
+        → covers spaces (named.Tables reach.Any) a.res ≡ true }
+{
+    for place in from..layout.len() {
+        if !Named::Tables(Reach::Any).covers(spaces, layout.area(place).res) {
+            return place;
+        }
+    }
+    layout.len()
+}
+
+/// How many places each zak space has.
+fn spaces_of(layout: &Layout) -> Spaces
+    ensures { result ≡ (stock_of layout.now).spaces }
+{
+    Spaces {
+        control: place_count(layout, Space::Control),
+        audio: place_count(layout, Space::Audio),
+    }
+}
+
+/// How many places of a zak space have an area.
+fn place_count(layout: &Layout, space: Space) -> u32
+    ensures { result ≡ place_count layout.now space }
+{
+    let mut count: u32 = 0;
+    for place in 0..layout.len() {
+        if is_place(space, layout.area(place).res) {
+            count += 1;
+        }
+    }
+    count
+}
+
+fn is_place(space: Space, res: Res) -> bool
+    ensures { result ≡ is_place space res }
+{
+    match (space, res) {
+        (Space::Control, Res::ZakK(_)) => true,
+        (Space::Audio, Res::ZakA(_)) => true,
+        _ => false,
+    }
+}
