@@ -3,11 +3,10 @@
 //!
 //! Its one contract: `type_orc` returns the typed form of the expanded orchestra (cs_udo) as specs/Typing.antt defines
 //! it, or its first broken rule of the kinds 12 to 19 with its line: header lines and `zakinit`s in the order of the
-//! text, then `kr`, and then each statement in the order of the expanded text. A definition is judged and typed where
-//! it is first called, and serves all its calls. What is returned agrees with the rules of rates
-//! (`typing_is_well_rated`), no `zakinit` stands in an instrument (`instruments_have_no_zakinit`), and each
-//! instrument's number stands once (`numbers_stand_once`); `types_worked_by_hand` and `settings_worked_by_hand` are
-//! its rows. How names are looked up, and what is typed once, may be changed without anyone above noticing.
+//! text, then `kr`, and then each statement in the order of the expanded text. What is returned agrees with the rules
+//! of rates (`typing_is_well_rated`), no `zakinit` stands in an instrument (`instruments_have_no_zakinit`), and each
+//! instrument's number stands once (`numbers_stand_once`); `types_worked_by_hand` and `settings_worked_by_hand` are its
+//! rows. How names are looked up, and what is typed once, may be changed without anyone above noticing.
 //!
 //! To be read in this order: `known` (names and their numbers), `making` (boxes and lists), `expr`, `call`, `assign`
 //! (what is judged where it stands), `routines` and `invoke` (what defined opcodes do, and what stands beside a call

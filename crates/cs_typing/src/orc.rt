@@ -282,7 +282,7 @@ fn settled(
 /// form; or its first fault, which is of the kinds 12 to 19. Header lines and `zakinit`s are judged first, then `kr`,
 /// and then each statement in the order of the expanded text.
 ///
-/// A definition is judged and typed where it is first called, and not again.
+/// A definition is judged where it is first called. How often its text is gone through is in no clause.
 pub fn type_orc(alloc: Global, expansion: &Expansion<'_>) -> Result<TypedOrc, Or<OrcFault>>
     requires { IsReady expansion.now }
     ensures typed { IfOk result (λ t. typed.orchestra t
