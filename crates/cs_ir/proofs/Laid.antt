@@ -1,13 +1,14 @@
 -- How the stretches of a code lie one behind the other.
 use Rattle.std.proofs.Common.{◌≡◌, ◌∙◌, ◌+◌, ◌-◌, ◌<◌, ◌≤◌, ◌++◌, ℕ, zero, suc, List, [], ◌∷◌, length, get_or, set}
 use Rattle.std.proofs.Common.{take, drop, arith, refl, sym, ap, subst, slice_get}
-use Rattle.std.proofs.lemmas.List.{append_assoc, append-nil, get_or_default, length-append, take_more}
+use Rattle.std.proofs.lemmas.List.{append_assoc, append-nil, get_or_default, length-append, take-append-drop}
+use Rattle.std.proofs.lemmas.List.{take_more}
 use Rattle.std.proofs.lemmas.List.Concat.{flat_map-append}
 use Rattle.cs_ir.specs.Codes.{IsStretchAt, aim, flat, ops_of}
 use Rattle.cs_ir.specs.declared.op.Op.{Op}
 use Rattle.cs_ir.specs.declared.stretch.Stretch.{Stretch}
 use Rattle.cs_ir.specs.inner.Laid.{AreLaid, IsNumberOf, begins}
-use Rattle.cs_ir.proofs.Aiming.{aim_high, aim_long, aim_low}
+use Rattle.cs_ir.proofs.Aiming.{aim_high, aim_low, drop_both, drop_past}
 
 -- ---- one stretch more
 
@@ -172,15 +173,60 @@ aimed_flat ss ps end place k first to s t h n at is new =
     ∙ ap (λ m. aim m to (pre ++ (ops_of s ++ post))) e
     ∙ ap (aim place to) (sym (parted ss k s l.low is))
 
-pub laid_aimed : (ss : List Stretch) (ps : List ℕ) (end place k first to : ℕ) (s t : Stretch) → AreLaid ss ps end
+-- one as long in its place
+pub laid_changed : (ss : List Stretch) (ps : List ℕ) (end place k first : ℕ) (s t : Stretch) → AreLaid ss ps end
     → IsNumberOf ps end place k → first ≡ get_or ps k first → s ≡ get_or ss k s
-    → ops_of t ≡ aim (place - first) to (ops_of s)
+    → length (ops_of t) ≡ length (ops_of s)
     → AreLaid (set ss k t) ps end
-laid_aimed ss ps end place k first to s t h n at is new =
-    let l = lies ss ps end place k first s h n at is in record {
-      begin =
-          h.begin ∙ sym (begins_changed 0 ss k s t l.low is (ap length new ∙ aim_long (ops_of s) (place - first) to));
-      long =
-          h.long ∙ sym (ap length (aimed_flat ss ps end place k first to s t h n at is new)
-          ∙ aim_long (flat ss) place to);
+laid_changed ss ps end place k first s t h n at is long =
+    let l = lies ss ps end place k first s h n at is in
+    let pre : List Op = flat (take k ss) in
+    let post : List Op = flat (drop (suc k) ss) in
+    let new : length (flat (set ss k t)) ≡ length (pre ++ (ops_of t ++ post)) = ap length (changed ss k t l.low) in
+    let old : length (flat ss) ≡ length (pre ++ (ops_of s ++ post)) = ap length (parted ss k s l.low is) in
+    record {
+      begin = h.begin ∙ sym (begins_changed 0 ss k s t l.low is long);
+      long = omega (
+        arith,
+        h.long,
+        new,
+        old,
+        long,
+        length-append pre (ops_of t ++ post),
+        length-append pre (ops_of s ++ post),
+        length-append (ops_of t) post,
+        length-append (ops_of s) post,
+      );
     }
+
+-- the same ops in its place
+pub same_flat : (ss : List Stretch) (ps : List ℕ) (end place k first : ℕ) (s t : Stretch) → AreLaid ss ps end
+    → IsNumberOf ps end place k → first ≡ get_or ps k first → s ≡ get_or ss k s → ops_of t ≡ ops_of s
+    → flat (set ss k t) ≡ flat ss
+same_flat ss ps end place k first s t h n at is same =
+    let l = lies ss ps end place k first s h n at is in
+    changed ss k t l.low
+    ∙ ap (λ (x : List Op). flat (take k ss) ++ (x ++ flat (drop (suc k) ss))) same
+    ∙ sym (parted ss k s l.low is)
+
+-- ---- the stretches from one on
+
+pub flat_from : (ss : List Stretch) (ps : List ℕ) (end place k first : ℕ) → AreLaid ss ps end
+    → IsNumberOf ps end place k → first ≡ get_or ps k first
+    → drop (place - first) (flat (drop k ss)) ≡ drop place (flat ss)
+flat_from ss ps end place k first h n at =
+    let e : end ≡ 0 + length (flat ss) = omega (arith, h.long) in
+    let low : k < length ss = omega (arith, n.low, laid_long ss ps end h) in
+    let here : get_or ps k end ≡ 0 + length (flat (take k ss)) =
+    subst (λ (l : List ℕ). get_or l k end ≡ 0 + length (flat (take k ss))) (sym h.begin)
+    (subst (λ m. get_or (begins 0 ss) k m ≡ 0 + length (flat (take k ss))) (sym e)
+    (begin_is 0 ss k (omega arith))) in
+    let same : first ≡ get_or ps k end = at ∙ get_or_default ps k first end n.low in
+    let begin : first ≡ length (flat (take k ss)) = omega (arith, same, here) in
+    let behind : length (flat (take k ss)) ≤ place = omega (arith, here, n.from) in
+    sym (ap (λ (l : List Stretch). drop place (flat l)) (sym (take-append-drop k ss))
+    ∙ ap (drop place) (flat_map-append ops_of (take k ss) (drop k ss))
+    ∙ drop_both (flat (take k ss)) (flat (drop k ss)) place
+    ∙ ap (λ l. l ++ drop (place - length (flat (take k ss))) (flat (drop k ss)))
+    (drop_past (flat (take k ss)) place behind)
+    ∙ ap (λ m. drop (place - m) (flat (drop k ss))) (sym begin))

@@ -246,7 +246,7 @@ limit_append r (x ∷ xs) ys =
 limit_one : (r : Rate) (op : Op) → ops_limit r (op ∷ []) ≡ op_limit r op
 limit_one r op = max_none (op_limit r op)
 
-in_more : (w : Window) (ps : List PassageOp) (p : PassageOp)
+pub in_more : (w : Window) (ps : List PassageOp) (p : PassageOp)
     → ops_in w (ps ++ p ∷ []) ≡ ops_in w ps ++ op_in w p ∷ []
 in_more w [] p = refl
 in_more w (q ∷ ps) p = ap (λ l. op_in w q ∷ l) (in_more w ps p)

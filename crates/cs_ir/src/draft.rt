@@ -1,16 +1,19 @@
 // Codes that are being made.
 ghost use Rattle.std.specs.Prelude.{◌≡◌, ◌+◌, ◌<◌, ◌≤◌, ◌++◌, ◌^◌, ◌∷◌, [], length, drop, true, IfOk, IfSome};
 ghost use Rattle.std.specs.Prelude.{OnOk, OnErr, if◌then◌else◌};
+ghost use Rattle.std.specs.List.{All};
 ghost use Rattle.cs_ir.specs.Codes.{aim};
-ghost use Rattle.cs_ir.specs.Moved.{begins_low, moved_ops};
+ghost use Rattle.cs_ir.specs.Moved.{can_be_said, further, moved_ops, window};
+ghost use Rattle.cs_ir.specs.declared.pieces.Piece.{Piece};
 ghost use Rattle.cs_ir.specs.inner.Ends.{LowWindow};
-ghost use Rattle.cs_ir.specs.inner.Pieces.{piece_in, pieces_in};
-ghost use Rattle.cs_ir.specs.inner.Windows.{window};
+ghost use Rattle.cs_ir.specs.inner.Pieces.{drafted_in, piece_in, pieces_in};
+ghost use Rattle.cs_ir.specs.inner.Windows.{Says, begins_low};
 
-use crate::pieces::Piece;
+use crate::pieces::{Content, Piece, PieceDraft};
 use crate::stretch::aim_in;
-use crate::window::Window;
-use crate::{NotedPassage, Op, Ops, Origin, SharedOps, Stretch};
+use crate::stretches::{Stretches, StretchesFrom};
+use crate::window::{NO_FURTHER, Window};
+use crate::{NotedOps, Op, Ops, Origin, SharedOps, Stretch};
 use cs_base::OutOfMemory;
 use std::alloc::Global;
 use std::marker::Model;
@@ -22,7 +25,7 @@ const MOST_OPS: usize = 0x4000_0000_0000_0000;
 /// A code that is being made. Contracts see the list of its ops.
 #[derive(Drop)]
 pub struct CodeDraft {
-    done: Ops,
+    done: Stretches,
     /// The ops behind those, which stand nowhere else.
     tail: Vec<Op>,
 }
@@ -44,7 +47,7 @@ impl CodeDraft {
         ensures { result ≡ [] }
     {
         CodeDraft {
-            done: Ops::new(alloc),
+            done: Stretches::new(alloc),
             tail: Vec::new(alloc),
         }
     }
@@ -63,52 +66,60 @@ impl CodeDraft {
     }
 
     /// Lets the jump at a place, if one stands there, go to another.
-    pub fn aim(&mut self, place: usize, to: usize)
-        ensures { self.new ≡ aim place to self.old }
+    pub fn aim(&mut self, place: usize, to: usize) -> Result<(), OutOfMemory>
+        ensures { OnOk result (self.new ≡ aim place to self.old) }
     {
         let end = self.done.len();
-        if place < end {
-            self.done.aim(place, to);
-        } else {
+        if place >= end {
             aim_in(&mut self.tail, place - end, to);
+            return Ok(());
         }
+        self.done.aim(place, to)?;
+        Ok(())
     }
 
-    /// Notes the ops from a place on, those of a statement at an origin, for other places of the statement, and keeps
-    /// them once. None where they are few, where one of them has no form in a passage, and where some of them are kept
-    /// once already.
-    pub fn note(
-        &mut self,
-        from: usize,
-        origin: &Origin,
-    ) -> Result<Option<NotedPassage>, OutOfMemory>
-        ensures same { OnOk result (self.new ≡ self.old) }
-        ensures ops { IfOk result (λ m. IfSome m (λ n. n.ops ≡ drop from self.old)) }
+    /// Notes the ops from a place on, those of a routine's code at an origin, for other places of the routine. None
+    /// where one of them has no form that serves elsewhere: a register, a unit or a jump that isn't counted from where
+    /// the routine's begin.
+    pub fn note(&self, from: usize, origin: &Origin) -> Result<Option<NotedOps>, OutOfMemory>
+        ensures ops { IfOk result (λ m. IfSome m (λ n. n.ops ≡ drop from self.now)) }
         ensures origin { IfOk result (λ m. IfSome m (λ n. n.origin ≡ origin.now)) }
+        ensures again { IfOk result (λ m. IfSome m (λ n. can_be_said n origin.now ≡ true)) }
     {
-        let end = self.done.len();
-        if from < end || self.tail.len() < from - end {
+        if !origin.reaches_low(&NO_FURTHER) {
             return Ok(None);
         }
-        let start = from - end;
-        match noted_from(&self.tail, start, origin)? {
-            Some(noted) => {
-                self.tail.truncate(start);
-                self.append_pieces(noted.pieces(), origin)?;
-                Ok(Some(noted))
-            }
+        match self.drafted(from, origin)? {
+            Some(draft) => NotedOps::of(draft, origin),
             None => Ok(None),
         }
     }
 
-    /// Appends the ops of a statement as they are where it stands at an origin, and returns true. Does nothing and
-    /// returns false where registers or units begin too high there.
-    pub fn say(&mut self, noted: &NotedPassage, origin: &Origin) -> Result<bool, OutOfMemory>
-        ensures said { IfOk result (λ said. said ≡ begins_low origin.now) }
+    /// The ops from a place on in pieces.
+    fn drafted(&self, from: usize, origin: &Origin) -> Result<Option<PieceDraft>, OutOfMemory>
+        requires { begins_low origin.now ≡ true }
+        ensures { IfOk result (λ m. IfSome m (λ d. Says origin.now (drop from self.now) d.far (drafted_in d))) }
+    {
+        let mut draft = PieceDraft::new(*self.tail.allocator());
+        let StretchesFrom { stretches, before } = self.done.stretches_from(from);
+        if !draft.add_stretches(origin, stretches, before)? {
+            return Ok(None);
+        }
+        let before = from.saturating_sub(self.done.len());
+        if !draft.add_ops(origin, &self.tail, before)? {
+            return Ok(None);
+        }
+        Ok(Some(draft))
+    }
+
+    /// Appends the ops of a routine's code as they are where it stands at an origin, and returns true. Does nothing and
+    /// returns false where registers, units or ops begin too high there.
+    pub fn say(&mut self, noted: &NotedOps, origin: &Origin) -> Result<bool, OutOfMemory>
+        ensures said { IfOk result (λ said. said ≡ can_be_said noted.now origin.now) }
         ensures ops { IfOk result (λ said. self.new ≡ if said
             then self.old ++ moved_ops noted.now.origin origin.now noted.now.ops else self.old) }
     {
-        if !origin.begins_low() {
+        if !origin.reaches_low(noted.far()) {
             return Ok(false);
         }
         let pieces = noted.pieces();
@@ -116,9 +127,10 @@ impl CodeDraft {
         Ok(true)
     }
 
-    /// Appends the ops of pieces where their statement stands at an origin.
+    /// Appends the ops of pieces where their routine's code stands at an origin.
     fn append_pieces(&mut self, pieces: &[Piece], origin: &Origin) -> Result<(), OutOfMemory>
-        requires { begins_low origin.now ≡ true }
+        requires low { begins_low origin.now ≡ true }
+        requires each { All (λ p. LowWindow (further (window origin.now) p.at)) pieces.now }
         ensures { OnOk result (self.new ≡ self.old ++ pieces_in pieces.now (window origin.now)) }
     {
         let window = origin.window();
@@ -129,13 +141,14 @@ impl CodeDraft {
     }
 
     fn append_piece(&mut self, piece: &Piece, window: &Window) -> Result<(), OutOfMemory>
-        requires { LowWindow window.now }
+        requires { LowWindow (further window.now piece.now.at) }
         ensures { OnOk result (self.new ≡ self.old ++ piece_in window.now piece.now) }
     {
-        match piece {
-            Piece::Ops(passage) => self.append(SharedOps::of(passage, window)?),
-            Piece::Long(op) => {
-                let op = op.in_window(*self.tail.allocator(), window)?;
+        let there = window.further(&piece.at);
+        match &piece.content {
+            Content::Ops(passage) => self.append(SharedOps::of(passage, &there)?),
+            Content::Long(op) => {
+                let op = op.in_windows(*self.tail.allocator(), window, &there)?;
                 self.push(op)
             }
         }
@@ -166,26 +179,14 @@ impl CodeDraft {
         ensures { IfOk result (λ o. o ≡ self) }
     {
         let CodeDraft { mut done, tail } = self;
+        let alloc = *tail.allocator();
         push_own(&mut done, tail)?;
-        Ok(done)
+        Ops::of(alloc, done)
     }
 }
 
-/// What is noted of the ops from a start on.
-fn noted_from(
-    tail: &Vec<Op>,
-    start: usize,
-    origin: &Origin,
-) -> Result<Option<NotedPassage>, OutOfMemory>
-    requires { start ≤ length tail.now.items }
-    ensures ops { IfOk result (λ m. IfSome m (λ n. n.ops ≡ drop start tail.now.items)) }
-    ensures origin { IfOk result (λ m. IfSome m (λ n. n.origin ≡ origin.now)) }
-{
-    NotedPassage::of(*tail.allocator(), origin, &tail[start..])
-}
-
 /// Appends shared ops. Those of the tail before them become a stretch of their own.
-fn put(done: &mut Ops, tail: &mut Vec<Op>, shared: SharedOps) -> Result<(), OutOfMemory>
+fn put(done: &mut Stretches, tail: &mut Vec<Op>, shared: SharedOps) -> Result<(), OutOfMemory>
     requires { length done.old + length tail.old.items + length shared ≤ 2 ^ 62 }
     ensures same { OnOk result (done.new ++ tail.new.items ≡ (done.old ++ tail.old.items) ++ shared) }
     ensures few { length done.new ≤ 2 ^ 62 }
@@ -198,7 +199,7 @@ fn put(done: &mut Ops, tail: &mut Vec<Op>, shared: SharedOps) -> Result<(), OutO
 }
 
 /// Appends ops that stand nowhere else, if there are any.
-fn push_own(done: &mut Ops, mut ops: Vec<Op>) -> Result<(), OutOfMemory>
+fn push_own(done: &mut Stretches, mut ops: Vec<Op>) -> Result<(), OutOfMemory>
     requires { length done.old + length ops.items < 2 ^ 64 }
     ensures ok { OnOk result (done.new ≡ done.old ++ ops.items) }
     ensures err { OnErr result (done.new ≡ done.old) }

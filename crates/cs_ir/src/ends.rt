@@ -1,12 +1,14 @@
 // How far the slots reach that the ops of a passage name.
-ghost use Rattle.std.specs.Prelude.{◌≡◌, ◌+◌, ◌-◌, ◌^◌, [], max, min, true, if◌then◌else◌};
+ghost use Rattle.std.specs.Prelude.{◌≡◌, ◌+◌, ◌-◌, ◌≤◌, ◌^◌, [], max, min, true, if◌then◌else◌};
 ghost use Rattle.cs_base.specs.Rates.{at_rate, same_rate};
 ghost use Rattle.cs_ir.specs.Limits.{op_limit};
+ghost use Rattle.cs_ir.specs.Moved.{locals_end};
 ghost use Rattle.cs_ir.specs.Registers.{reg_limit, regs_limit};
 ghost use Rattle.cs_ir.specs.inner.Ends.{AreSlotEnds, LowEnds, Raised, behind, kept_limit, limit_in};
 ghost use Rattle.cs_ir.specs.inner.Slots.{register};
-ghost use Rattle.cs_ir.specs.inner.Windows.{AreEnds, op_in, registers_in};
+ghost use Rattle.cs_ir.specs.inner.Windows.{AreEnds, Holds, op_in, registers_in};
 
+use crate::Origin;
 use crate::origin::{each_low, is_low};
 use crate::passage::PassageOp;
 use crate::window::{Slot, Slots, Window};
@@ -167,5 +169,24 @@ impl Ends {
             Rate::Init => behind(window.kept, self.kept),
             Rate::Control | Rate::Audio => 0,
         }
+    }
+
+    /// Whether registers of slots that it ends hold at an origin, in a window behind, what the slots say.
+    pub fn hold(&self, origin: &Origin, window: &Window) -> bool
+        ensures { result ≡ true → Holds origin.now window.now self.now }
+    {
+        self.locals_end_at(origin, window, Rate::Init)
+            && self.locals_end_at(origin, window, Rate::Control)
+            && self.locals_end_at(origin, window, Rate::Audio)
+            && behind(window.kept, self.kept) <= origin.temporaries.init as usize
+            && origin.kept <= origin.temporaries.init
+    }
+
+    /// Whether the local variables of a rate end in a window before what stands behind those of an origin.
+    fn locals_end_at(&self, origin: &Origin, window: &Window, rate: Rate) -> bool
+        ensures { result ≡ true
+            → behind (at_rate window.now.locals rate) (at_rate self.now.locals rate) ≤ locals_end origin.now rate }
+    {
+        behind(window.locals.of(rate), self.locals.of(rate)) <= origin.locals_end(rate) as usize
     }
 }

@@ -1,5 +1,5 @@
 // Operands: the registers that an op reads.
-ghost use Rattle.std.specs.Prelude.{◌≡◌, ◌<◌, ◌≤◌, [], ◌∷◌, length, slice_get, IfOk};
+ghost use Rattle.std.specs.Prelude.{◌≡◌, ◌<◌, ◌≤◌, [], ◌∷◌, length, slice_get, IfOk, IfSome};
 ghost use Rattle.cs_ir.specs.Registers.{regs_limit};
 ghost use Rattle.cs_ir.specs.inner.Ends.{LowWindow};
 ghost use Rattle.cs_ir.specs.inner.Slots.{slots_in};
@@ -118,6 +118,16 @@ impl Operands {
                 list.is_long();
                 unreachable!()
             }
+        }
+    }
+
+    /// They, where they stand in a list that passages share.
+    pub(crate) fn as_listed(&self) -> Option<&Listed>
+        ensures { IfSome result (λ l. l.now ≡ self.now) }
+    {
+        match &self.stored {
+            Stored::Listed(list) => Some(list),
+            _ => None,
         }
     }
 

@@ -1,9 +1,14 @@
-// The ops of a code as a whole, in stretches that are found by their places.
-ghost use Rattle.std.specs.Prelude.{◌≡◌, ◌+◌, ◌<◌, ◌≤◌, ◌++◌, ◌^◌, [], length, get_or, true, OnOk, OnErr};
-ghost use Rattle.cs_ir.specs.Codes.{IsStretchAt, aim, flat, ops_of};
-ghost use Rattle.cs_ir.specs.inner.Laid.{IsNumberOf};
+// The ops of a code as a whole.
+ghost use Rattle.std.specs.Prelude.{◌≡◌, ◌<◌, length, Bool, IfOk, OnOk, Option};
+ghost use Rattle.std.specs.List.{list_any};
+ghost use Rattle.cs_base.specs.declared.resource.Res.{Res};
+ghost use Rattle.cs_ir.specs.Codes.{IsStretchAt, flat, ops_of};
+ghost use Rattle.cs_ir.specs.Touching.{AsksFor, IsOfShared, answers};
+ghost use Rattle.cs_ir.specs.inner.Touching.{Adds, AreTouched};
+ghost use Rattle.cs_ir.specs.declared.op.Act.{Act};
 
-use crate::Stretch;
+use crate::stretches::Stretches;
+use crate::{FoundStretch, Op, Stretch, Touching};
 use cs_base::OutOfMemory;
 use std::alloc::Global;
 use std::marker::Model;
@@ -11,10 +16,9 @@ use std::marker::Model;
 /// The ops of a code, in stretches. Contracts see the list of them.
 #[derive(Drop)]
 pub struct Ops {
-    stretches: Vec<Stretch>,
-    /// Where each of them begins.
-    begins: Vec<usize>,
-    len: usize,
+    stretches: Stretches,
+    /// What they touch of what notes share.
+    touching: Touching,
 }
 
 impl Model for Ops {
@@ -23,140 +27,86 @@ impl Model for Ops {
 
     ghost Value = { List Op };
 
-    ghost use Rattle.cs_ir.specs.Codes.{flat};
-    ghost use Rattle.cs_ir.specs.inner.Laid.{AreLaid};
+    ghost use Rattle.cs_ir.specs.inner.Touching.{AreTouched};
 
-    ghost view = { λ o. flat o.stretches.items };
+    ghost view = { λ o. o.stretches };
 
-    ghost invariant = { λ o. AreLaid o.stretches.items o.begins.items o.len };
-}
-
-/// A stretch of a code where a place of it lies.
-pub struct FoundStretch<'c> {
-    pub stretch: &'c Stretch,
-    /// Its number among the stretches.
-    pub number: usize,
-    /// The place of its first op.
-    pub first: usize,
+    ghost invariant = { λ o. AreTouched o.touching o.stretches };
 }
 
 impl Ops {
-    pub(crate) fn new(alloc: Global) -> Ops
-        ensures { result ≡ [] }
+    /// The ops of stretches.
+    pub(crate) fn of(alloc: Global, mut stretches: Stretches) -> Result<Ops, OutOfMemory>
+        ensures { IfOk result (λ o. o ≡ stretches) }
     {
-        Ops {
-            stretches: Vec::new(alloc),
-            begins: Vec::new(alloc),
-            len: 0,
-        }
+        stretches.shrink_to_fit();
+        let touching = touching_in(alloc, stretches.as_slice())?;
+        Ok(Ops {
+            stretches,
+            touching,
+        })
     }
 
     pub fn len(&self) -> usize
         ensures { result ≡ length self.now }
     {
-        self.len
+        self.stretches.len()
     }
 
     /// The stretches, one behind the other.
     pub fn stretches(&self) -> &[Stretch]
         ensures { flat result.now ≡ self.now }
     {
-        &self.stretches
+        self.stretches.as_slice()
     }
 
     /// The stretch where a place lies. It is found at once where its number is the guessed one or the next; else in as
     /// many steps as the count of stretches has binary digits.
-    #[tactic(auto, using(crate::proofs::Laid::laid_long))]
     pub fn find(&self, place: usize, guess: usize) -> FoundStretch<'_>
         requires { place < length self.now }
         ensures { IsStretchAt self.now place result.first (ops_of result.stretch.now) }
     {
-        let number = number_from(&self.begins, self.len, place, guess);
-        FoundStretch {
-            stretch: &self.stretches[number],
-            number,
-            first: self.begins[number],
-        }
+        self.stretches.find(place, guess)
     }
 
-    /// Appends a stretch.
-    pub(crate) fn push(&mut self, stretch: Stretch) -> Result<(), OutOfMemory>
-        requires { length self.old + length (ops_of stretch) < 2 ^ 64 }
-        ensures ok { OnOk result (self.new ≡ self.old ++ ops_of stretch) }
-        ensures err { OnErr result (self.new ≡ self.old) }
+    /// What the ops touch of what notes share. It is at hand at once.
+    pub fn touching(&self) -> &Touching
+        ensures { (asks : Act → Bool) (q : Option Res) → IsOfShared asks → AsksFor asks q
+            → answers asks q result.now ≡ list_any (λ o. asks o.act) self.now }
     {
-        let long = stretch.len();
-        self.begins.push(self.len)?;
-        if self.stretches.push(stretch).is_err() {
-            let _ = self.begins.pop();
-            return Err(OutOfMemory);
-        }
-        self.len += long;
-        Ok(())
-    }
-
-    /// Lets the jump at a place, if one stands there, go to another.
-    #[tactic(auto, using(crate::proofs::Laid::laid_long, crate::proofs::Laid::aimed_flat))]
-    pub(crate) fn aim(&mut self, place: usize, to: usize)
-        ensures { self.new ≡ aim place to self.old }
-    {
-        if place < self.len {
-            let number = number_of(&self.begins, self.len, place);
-            let first = self.begins[number];
-            self.stretches[number].aim(place - first, to);
-        }
+        &self.touching
     }
 }
 
-/// The number of the stretch where a place lies, of stretches that begin at ascending places and end at another.
-fn number_of(begins: &[usize], end: usize, place: usize) -> usize
-    requires some { 0 < length begins.now }
-    requires from { get_or begins.now 0 end ≤ place }
-    requires before { place < end }
-    ensures { IsNumberOf begins.now end place result }
+/// What the ops of stretches touch of what notes share.
+fn touching_in(alloc: Global, stretches: &[Stretch]) -> Result<Touching, OutOfMemory>
+    ensures { IfOk result (λ t. AreTouched t (flat stretches.now)) }
 {
-    let mut low: usize = 0;
-    let mut high = begins.len();
-    while low + 1 < high {
-        let middle = low + (high - low) / 2;
-        if begins[middle] <= place {
-            low = middle;
-        } else {
-            high = middle;
-        }
+    let mut touching = Touching::new(alloc);
+    for stretch in stretches {
+        add_stretch(&mut touching, stretch)?;
     }
-    low
+    touching.acts.shrink_to_fit();
+    Ok(touching)
 }
 
-/// The same, which is looked for at a guessed number and at the next one first.
-fn number_from(begins: &[usize], end: usize, place: usize, guess: usize) -> usize
-    requires some { 0 < length begins.now }
-    requires from { get_or begins.now 0 end ≤ place }
-    requires before { place < end }
-    ensures { IsNumberOf begins.now end place result }
+/// Adds what the ops of a stretch touch.
+fn add_stretch(touching: &mut Touching, stretch: &Stretch) -> Result<(), OutOfMemory>
+    ensures { OnOk result (Adds touching.old touching.new
+        (λ asks q. list_any (λ o. asks o.act) (ops_of stretch.now))) }
 {
-    let next = guess.saturating_add(1);
-    if is_number_of(begins, end, place, guess) {
-        guess
-    } else if is_number_of(begins, end, place, next) {
-        next
-    } else {
-        number_of(begins, end, place)
+    match stretch {
+        Stretch::Own(ops) => add_ops(touching, ops),
+        Stretch::Shared(shared) => touching.join(shared.touching()),
     }
 }
 
-fn is_number_of(begins: &[usize], end: usize, place: usize, number: usize) -> bool
-    ensures { result ≡ true → IsNumberOf begins.now end place number }
+/// Adds what ops touch.
+fn add_ops(touching: &mut Touching, ops: &[Op]) -> Result<(), OutOfMemory>
+    ensures { OnOk result (Adds touching.old touching.new (λ asks q. list_any (λ o. asks o.act) ops.now)) }
 {
-    number < begins.len() && begins[number] <= place && place < begin_of(begins, end, number + 1)
-}
-
-/// Where a stretch begins, or the last one ends.
-fn begin_of(begins: &[usize], end: usize, number: usize) -> usize
-    ensures { result ≡ get_or begins.now number end }
-{
-    match begins.get(number) {
-        Some(begin) => *begin,
-        None => end,
+    for op in ops {
+        touching.add(&op.act)?;
     }
+    Ok(())
 }

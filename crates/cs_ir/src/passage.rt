@@ -1,25 +1,31 @@
 // Passages: ops that stand at several places of codes, and are kept once.
-ghost use Rattle.std.specs.Prelude.{◌≡◌, ◌<◌, length, slice_get, slice_index_or, Bool, true, Some, IfOk, IfSome, ℕ};
+ghost use Rattle.std.specs.Prelude.{◌≡◌, ◌<◌, length, slice_get, Bool, true};
+ghost use Rattle.std.specs.Prelude.{IfOk, IfSome, Option, Some};
 ghost use Rattle.std.specs.List.{list_all, list_any};
-ghost use Rattle.cs_ir.specs.Codes.{aim};
+ghost use Rattle.cs_base.specs.declared.resource.Res.{Res};
 ghost use Rattle.cs_ir.specs.Limits.{ops_limit};
-ghost use Rattle.cs_ir.specs.Touching.{IsOfShared};
+ghost use Rattle.cs_ir.specs.Moved.{further, window};
+ghost use Rattle.cs_ir.specs.Touching.{AsksFor, IsOfShared, answers};
 ghost use Rattle.cs_ir.specs.inner.Ends.{LowWindow};
+ghost use Rattle.cs_ir.specs.inner.Pieces.{piece_in};
 ghost use Rattle.cs_ir.specs.inner.Touching.{AreTouching};
-ghost use Rattle.cs_ir.specs.inner.Windows.{op_in, ops_in, goes_on};
+ghost use Rattle.cs_ir.specs.inner.Windows.{Says, begins_low, can_move, op_in, ops_in};
 ghost use Rattle.cs_ir.specs.declared.op.Act.{Act};
 ghost use Rattle.cs_ir.specs.declared.op.Op.{Op};
+ghost use Rattle.cs_ir.specs.declared.window.Window.{Window};
 
 use crate::ends::Ends;
-use crate::touching::touching_acts;
+use crate::pieces::{Content, Piece};
+use crate::touching::{Touching, touching_of};
 use crate::window::{Slot, Slots, Window};
-use crate::{Act, Op};
+use crate::{Act, Op, Origin};
 use cs_base::{OutOfMemory, Rate};
 use std::alloc::Global;
 use std::marker::Model;
 use std::sync::Arc;
 
-/// An op of a passage. Its unit is counted from where those of its place begin, as its registers are.
+/// An op of a passage. Its unit, and the place where its jump goes on, are counted from where those of its place begin,
+/// as its registers are.
 #[derive(Clone, Copy)]
 pub struct PassageOp {
     pub act: Act,
@@ -30,14 +36,14 @@ pub struct PassageOp {
 // It takes no more memory than an op.
 const _: () = prove!(size_of::<PassageOp>() <= 64);
 
-/// Ops, none of them a jump, that are the same at several places but for where registers and units begin.
+/// Ops that are the same at several places but for where registers, units and ops begin.
 #[derive(Drop)]
 pub struct Passage {
     ops: Vec<PassageOp>,
     /// The ends of the slots that the ops name.
     ends: Ends,
     /// What they touch of what notes share.
-    touching: Vec<Act>,
+    touching: Touching,
 }
 
 impl Model for Passage {
@@ -45,15 +51,15 @@ impl Model for Passage {
     ghost use Rattle.std.specs.List.{list_all};
     ghost use Rattle.cs_ir.specs.inner.Ends.{LowEnds};
     ghost use Rattle.cs_ir.specs.inner.Touching.{AreTouching};
-    ghost use Rattle.cs_ir.specs.inner.Windows.{AreEnds, goes_on};
+    ghost use Rattle.cs_ir.specs.inner.Windows.{AreEnds, can_move};
     ghost use Rattle.cs_ir.specs.declared.passage.PassageOp.{PassageOp};
 
     ghost Value = { List PassageOp };
 
     ghost view = { λ p. p.ops.items };
 
-    ghost invariant = { λ p. (list_all goes_on p.ops.items ≡ true) × AreEnds p.ends p.ops.items × LowEnds p.ends
-        × AreTouching p.touching.items p.ops.items };
+    ghost invariant = { λ p. (list_all can_move p.ops.items ≡ true) × AreEnds p.ends p.ops.items × LowEnds p.ends
+        × AreTouching p.touching p.ops.items };
 }
 
 /// The ops of a passage at one of its places. Contracts see the list of them.
@@ -82,7 +88,7 @@ impl PassageOp {
         ensures { result ≡ op_in window.now self.now }
     {
         Op {
-            act: window.with_unit(self.act),
+            act: window.act(self.act),
             into: window.register(self.into),
             from: window.registers(self.from),
         }
@@ -92,14 +98,14 @@ impl PassageOp {
 impl Passage {
     /// The passage of some ops; None where the number of a slot is very high.
     pub(crate) fn of(alloc: Global, mut ops: Vec<PassageOp>) -> Result<Option<Passage>, OutOfMemory>
-        requires { list_all goes_on ops.items ≡ true }
+        requires { list_all can_move ops.items ≡ true }
         ensures { IfOk result (λ m. IfSome m (λ p. p ≡ ops.items)) }
     {
         let ends = Ends::of(&ops);
         if !ends.are_low() {
             return Ok(None);
         }
-        let touching = touching_acts(alloc, &ops)?;
+        let touching = touching_of(alloc, &ops)?;
         ops.shrink_to_fit();
         Ok(Some(Passage {
             ops,
@@ -108,6 +114,7 @@ impl Passage {
         }))
     }
 
+    /// How many ops they are.
     fn len(&self) -> usize
         ensures { result ≡ length self.now }
     {
@@ -130,18 +137,20 @@ impl Passage {
         self.ends.limit(window, rate)
     }
 
-    /// What its ops touch of what notes share, by their acts, units without their numbers.
-    fn touching(&self) -> &[Act]
+    /// What its ops touch of what notes share.
+    fn touching(&self) -> &Touching
         ensures { AreTouching result.now self.now }
     {
         &self.touching
     }
 
-    /// No op of it is a jump.
-    fn go_on(&self)
-        ensures { list_all goes_on self.now ≡ true }
+    /// Whether the registers that its ops name in a window behind that of an origin hold there what the slots say.
+    fn holds(&self, origin: &Origin, there: &Window) -> bool
+        requires { LowWindow there.now }
+        ensures { result ≡ true → (at : Window) → further (window origin.now) at ≡ there.now
+            → Says origin.now (ops_in there.now self.now) at (λ w. ops_in (further w at) self.now) }
     {
-        let _ = &self.ops;
+        self.ends.hold(origin, there)
     }
 }
 
@@ -174,14 +183,6 @@ impl SharedOps {
         self.passage.get(place).in_window(&self.window)
     }
 
-    /// The act of the op at a place.
-    pub fn act(&self, place: usize) -> Act
-        requires { place < length self.now }
-        ensures { (d : Op) → result ≡ (slice_index_or self.now place d).act }
-    {
-        self.window.with_unit(self.passage.get(place).act)
-    }
-
     /// Where the registers of a rate end that the ops name: one more than the greatest number of one, 0 where there are
     /// none.
     pub fn limit(&self, rate: Rate) -> usize
@@ -190,19 +191,39 @@ impl SharedOps {
         self.passage.limit(&self.window, rate)
     }
 
-    /// What the ops touch of what notes share, by their acts, units without their numbers. It is at hand at once.
+    /// What the ops touch of what notes share. It is at hand at once.
     #[tactic(auto, using(crate::proofs::Touches::touching_in))]
-    pub fn touching(&self) -> &[Act]
-        ensures { (asks : Act → Bool) → IsOfShared asks
-            → list_any asks result.now ≡ list_any (λ o. asks o.act) self.now }
+    pub(crate) fn touching(&self) -> &Touching
+        ensures { (asks : Act → Bool) (q : Option Res) → IsOfShared asks → AsksFor asks q
+            → answers asks q result.now ≡ list_any (λ o. asks o.act) self.now }
     {
         self.passage.touching()
     }
 
-    /// No op of it is a jump, so that none can be aimed at.
-    pub(crate) fn go_on(&self)
-        ensures { (place to : ℕ) → aim place to self.now ≡ self.now }
+    /// The ops as they stand here, one by one.
+    pub(crate) fn copied(&self, alloc: Global) -> Result<Vec<Op>, OutOfMemory>
+        ensures { IfOk result (λ ops. ops.items ≡ self.now) }
     {
-        self.passage.go_on();
+        let mut ops = Vec::with_capacity(alloc, self.len())?;
+        for place in 0..self.len() {
+            ops.push(self.op(place))?;
+        }
+        Ok(ops)
+    }
+
+    /// The ops as a piece of those of an origin; None where their window doesn't stand behind its own, or where their
+    /// registers don't hold there what the slots say.
+    pub(crate) fn piece(&self, origin: &Origin) -> Result<Option<Piece>, OutOfMemory>
+        requires { begins_low origin.now ≡ true }
+        ensures { IfOk result (λ m. IfSome m (λ p. Says origin.now self.now p.at (λ w. piece_in w p))) }
+    {
+        let Some(at) = self.window.behind(&origin.window()) else {
+            return Ok(None);
+        };
+        if !self.passage.holds(origin, &self.window) {
+            return Ok(None);
+        }
+        let content = Content::Ops(Arc::try_clone(&self.passage)?);
+        Ok(Some(Piece { content, at }))
     }
 }

@@ -1,25 +1,26 @@
-// The ops of a statement, noted in pieces: passages, and ops between them that read many registers.
-ghost use Rattle.std.specs.Prelude.{◌≡◌, ◌++◌, ◌∷◌, [], List, true, IfOk, IfSome};
+// The ops of a routine's code, noted in pieces: passages, and ops between them that read many registers.
+ghost use Rattle.std.specs.Prelude.{◌≡◌, ◌∷◌, [], List, true, drop, IfOk, IfSome};
+ghost use Rattle.std.specs.List.{All};
+ghost use Rattle.cs_ir.specs.Codes.{flat, ops_of};
+ghost use Rattle.cs_ir.specs.Moved.{can_be_said, further, window};
 ghost use Rattle.cs_ir.specs.declared.op.Op.{Op};
+ghost use Rattle.cs_ir.specs.declared.origin.Origin.{Origin};
 ghost use Rattle.cs_ir.specs.inner.Ends.{LowWindow};
-ghost use Rattle.cs_ir.specs.inner.Pieces.{drafted_in, long_in, pieces_in};
-ghost use Rattle.cs_ir.specs.inner.Slots.{slots_in};
-ghost use Rattle.cs_ir.specs.inner.Windows.{Says};
+ghost use Rattle.cs_ir.specs.inner.Pieces.{Adds, IsWithin, drafted_in, long_in, piece_in, pieces_in};
+ghost use Rattle.cs_ir.specs.inner.Slots.{register, slots_in};
+ghost use Rattle.cs_ir.specs.inner.Windows.{Says, act_in, begins_low, can_move, no_further};
 ghost use Rattle.cs_ir.specs.declared.window.Window.{Window};
 
-use crate::listed::{MOST_OWN, SlotList};
+use crate::listed::{MOST_OWN, PlacedList, SlotList};
 use crate::origin::Origin;
-use crate::passage::{Passage, PassageOp};
-use crate::window::{MOST_SLOTS, Slot, Window};
-use crate::{Act, Op, Operands};
+use crate::passage::{Passage, PassageOp, SharedOps};
+use crate::window::{MOST_SLOTS, NO_FURTHER, Slot, Window};
+use crate::{Act, Op, Operands, Stretch};
 use cs_base::OutOfMemory;
 use std::alloc::Global;
 use std::marker::Model;
 use std::mem;
 use std::sync::Arc;
-
-/// Fewer ops than these, with few registers each, are no shorter in pieces.
-pub const LEAST_OPS: usize = 4;
 
 /// An op that stands at several places, and reads more registers than one of a passage.
 #[derive(Drop)]
@@ -29,66 +30,107 @@ pub struct LongOp {
     pub from: Arc<SlotList, Global>,
 }
 
-/// A part of a statement's ops.
+/// What a piece is made of.
 #[derive(Drop)]
-pub enum Piece {
+pub enum Content {
     Ops(Arc<Passage, Global>),
     Long(LongOp),
 }
 
-/// The ops of a statement, noted for other places of the statement. Contracts see them, and the origin where they were
-/// made.
+/// A part of noted ops.
 #[derive(Drop)]
-pub struct NotedPassage {
-    pieces: Vec<Piece>,
-    pub(crate) origin: Origin,
+pub struct Piece {
+    pub content: Content,
+    /// How far the window of the passage, or of the list that the op reads, stands behind that of the noted ops: not at
+    /// all for the routine's own, and as far as those of a routine that it invokes were said.
+    pub at: Window,
 }
 
-impl Model for NotedPassage {
+/// The ops of a routine's code, noted for other places of the routine. Contracts see them, the origin where they were
+/// made, and how far behind that its pieces stand.
+#[derive(Drop)]
+pub struct NotedOps {
+    pieces: Vec<Piece>,
+    pub(crate) origin: Origin,
+    /// In each kind of number, that of the furthest piece.
+    far: Window,
+}
+
+impl Model for NotedOps {
     ghost use Rattle.std.specs.Prelude.{◌≡◌, true};
-    ghost use Rattle.cs_ir.specs.Moved.{Noted, begins_low};
-    ghost use Rattle.cs_ir.specs.inner.Pieces.{pieces_in};
-    ghost use Rattle.cs_ir.specs.inner.Windows.{Says, window};
+    ghost use Rattle.std.specs.List.{All};
+    ghost use Rattle.cs_ir.specs.Moved.{Noted, window};
+    ghost use Rattle.cs_ir.specs.inner.Pieces.{IsWithin, pieces_in};
+    ghost use Rattle.cs_ir.specs.inner.Windows.{Says};
 
     ghost Value = { Noted };
 
-    ghost view = { λ n. record { ops = pieces_in n.pieces.items (window n.origin); origin = n.origin } };
+    ghost view = { λ n. record {
+      ops = pieces_in n.pieces.items (window n.origin);
+      origin = n.origin;
+      far = n.far;
+    } };
 
-    ghost invariant = { λ n. Says n.origin (pieces_in n.pieces.items (window n.origin)) (pieces_in n.pieces.items)
-        × (begins_low n.origin ≡ true) };
+    ghost invariant = { λ n.
+        Says n.origin (pieces_in n.pieces.items (window n.origin)) n.far (pieces_in n.pieces.items)
+        × All (IsWithin n.far) n.pieces.items };
 }
 
 /// Pieces that are being made, and the ops behind them that are in none yet.
 #[derive(Drop)]
-struct PieceDraft {
+pub struct PieceDraft {
     alloc: Global,
     pieces: Vec<Piece>,
     run: Vec<PassageOp>,
+    far: Window,
 }
 
 impl Model for PieceDraft {
     ghost use Rattle.std.specs.Prelude.{◌≡◌, true};
-    ghost use Rattle.std.specs.List.{list_all};
-    ghost use Rattle.cs_ir.specs.inner.Pieces.{Drafted};
-    ghost use Rattle.cs_ir.specs.inner.Windows.{goes_on};
+    ghost use Rattle.std.specs.List.{All, list_all};
+    ghost use Rattle.cs_ir.specs.inner.Pieces.{Drafted, IsWithin};
+    ghost use Rattle.cs_ir.specs.inner.Windows.{can_move};
 
     ghost Value = { Drafted };
 
-    ghost view = { λ d. record { pieces = d.pieces.items; run = d.run.items } };
+    ghost view = { λ d. record { pieces = d.pieces.items; run = d.run.items; far = d.far } };
 
-    ghost invariant = { λ d. list_all goes_on d.run.items ≡ true };
+    ghost invariant = { λ d. (list_all can_move d.run.items ≡ true) × All (IsWithin d.far) d.pieces.items };
+}
+
+impl Piece {
+    /// An op that reads a list, by its act and what it may write in the window of the noted ops.
+    pub(crate) fn long(act: Act, into: Slot, list: PlacedList) -> Piece
+        ensures at { result.at ≡ list.at }
+        ensures op { (w : Window) → piece_in w result ≡ record {
+          act = act_in w act;
+          into = register w into;
+          from = slots_in (further w list.at) list.list.value;
+        } ∷ [] }
+    {
+        let PlacedList { list: from, at } = list;
+        Piece {
+            content: Content::Long(LongOp { act, into, from }),
+            at,
+        }
+    }
 }
 
 impl LongOp {
-    /// The op in a window.
-    pub(crate) fn in_window(&self, alloc: Global, window: &Window) -> Result<Op, OutOfMemory>
-        requires { LowWindow window.now }
-        ensures { IfOk result (λ op. op ≡ long_in window.now self.now) }
+    /// The op in a window, with a list that stands in another.
+    pub(crate) fn in_windows(
+        &self,
+        alloc: Global,
+        window: &Window,
+        of_list: &Window,
+    ) -> Result<Op, OutOfMemory>
+        requires { LowWindow of_list.now }
+        ensures { IfOk result (λ op. op ≡ long_in window.now of_list.now self.now) }
     {
         Ok(Op {
-            act: window.with_unit(self.act),
+            act: window.act(self.act),
             into: window.register(self.into),
-            from: operands_in(alloc, &self.from, window)?,
+            from: operands_in(alloc, &self.from, of_list)?,
         })
     }
 }
@@ -114,82 +156,146 @@ fn operands_in(
     Ok(Operands::from_vec(from))
 }
 
-impl NotedPassage {
-    /// The pieces of a statement's ops; None where they are few, where one of them has no form in a passage, and where
-    /// registers or units begin too high.
+impl NotedOps {
+    /// What was drafted of ops at an origin; None where the number of a slot is very high, and where registers, units
+    /// or ops begin too high.
     pub(crate) fn of(
-        alloc: Global,
+        mut draft: PieceDraft,
         origin: &Origin,
-        ops: &[Op],
-    ) -> Result<Option<NotedPassage>, OutOfMemory>
-        ensures ops { IfOk result (λ m. IfSome m (λ n. n.ops ≡ ops.now)) }
+    ) -> Result<Option<NotedOps>, OutOfMemory>
+        requires { Says origin.now (drafted_in draft (window origin.now)) draft.far (drafted_in draft) }
+        ensures ops { IfOk result (λ m. IfSome m (λ n. n.ops ≡ drafted_in draft (window origin.now))) }
         ensures origin { IfOk result (λ m. IfSome m (λ n. n.origin ≡ origin.now)) }
+        ensures low { IfOk result (λ m. IfSome m (λ n. can_be_said n origin.now ≡ true)) }
     {
-        if !are_worth(ops) || !origin.begins_low() {
+        if !draft.close()? || !origin.reaches_low(&draft.far) {
             return Ok(None);
         }
-        match pieces_of(alloc, origin, ops)? {
-            Some(pieces) => Ok(Some(NotedPassage {
-                pieces,
-                origin: *origin,
-            })),
-            None => Ok(None),
-        }
+        let PieceDraft {
+            mut pieces,
+            far,
+            ..
+        } = draft;
+        pieces.shrink_to_fit();
+        Ok(Some(NotedOps {
+            pieces,
+            origin: *origin,
+            far,
+        }))
     }
 
     /// What its ops are said by.
     pub(crate) fn pieces(&self) -> &[Piece]
-        ensures { Says self.now.origin self.now.ops (pieces_in result.now) }
+        ensures says { Says self.now.origin self.now.ops self.now.far (pieces_in result.now) }
+        ensures within { All (IsWithin self.now.far) result.now }
     {
         &self.pieces
     }
+
+    /// How far behind the origin its pieces stand.
+    pub(crate) fn far(&self) -> &Window
+        ensures { result.now ≡ self.now.far }
+    {
+        &self.far
+    }
 }
 
-/// Whether ops are shorter in pieces.
-fn are_worth(ops: &[Op]) -> bool {
-    if ops.len() >= LEAST_OPS {
-        return true;
-    }
-    for op in ops {
-        if op.from.len() > MOST_OWN {
-            return true;
-        }
-    }
-    false
-}
-
-/// The pieces of a statement's ops.
-fn pieces_of(alloc: Global, origin: &Origin, ops: &[Op]) -> Result<Option<Vec<Piece>>, OutOfMemory>
-    ensures { IfOk result (λ m. IfSome m (λ pieces. Says origin.now ops.now (pieces_in pieces.items))) }
+/// The ops behind some of them.
+fn behind(ops: &[Op], before: usize) -> &[Op]
+    ensures { result.now ≡ drop before ops.now }
 {
-    let mut draft = PieceDraft::new(alloc);
-    for op in ops {
-        if !draft.add(origin, op)? {
-            return Ok(None);
-        }
+    match ops.get(before..) {
+        Some(rest) => rest,
+        None => &[],
     }
-    draft.end()
 }
 
 impl PieceDraft {
-    fn new(alloc: Global) -> PieceDraft
-        ensures { result ≡ record { pieces = []; run = [] } }
+    /// No pieces yet.
+    pub(crate) fn new(alloc: Global) -> PieceDraft
+        ensures { result ≡ record { pieces = []; run = []; far = no_further } }
     {
         PieceDraft {
             alloc,
             pieces: Vec::new(alloc),
             run: Vec::new(alloc),
+            far: NO_FURTHER,
         }
     }
 
-    /// Adds an op of a statement at an origin. Returns false where it can't be in a piece.
-    #[tactic(auto, using(crate::proofs::Aiming::all_more))]
+    /// Adds the ops of stretches at an origin, but for some before them. Returns false where one can't be in a piece.
+    pub(crate) fn add_stretches(
+        &mut self,
+        origin: &Origin,
+        stretches: &[Stretch],
+        before: usize,
+    ) -> Result<bool, OutOfMemory>
+        requires { begins_low origin.now ≡ true }
+        ensures { IfOk result (λ fits. fits ≡ true
+            → Adds origin.now self.old self.new (drop before (flat stretches.now))) }
+    {
+        let mut skipped = before;
+        for stretch in stretches {
+            if !self.add_stretch(origin, stretch, skipped)? {
+                return Ok(false);
+            }
+            skipped = skipped.saturating_sub(stretch.len());
+        }
+        Ok(true)
+    }
+
+    /// Adds the ops of a stretch, but for some before them. Shared ones are added as a whole or not at all.
+    fn add_stretch(
+        &mut self,
+        origin: &Origin,
+        stretch: &Stretch,
+        before: usize,
+    ) -> Result<bool, OutOfMemory>
+        requires { begins_low origin.now ≡ true }
+        ensures { IfOk result (λ fits. fits ≡ true
+            → Adds origin.now self.old self.new (drop before (ops_of stretch.now))) }
+    {
+        match stretch {
+            Stretch::Own(ops) => self.add_ops(origin, ops, before),
+            Stretch::Shared(shared) => {
+                if before > 0 {
+                    return Ok(before >= shared.len());
+                }
+                self.add_shared(origin, shared)
+            }
+        }
+    }
+
+    /// Adds ops at an origin, but for some before them. Returns false where one can't be in a piece.
+    pub(crate) fn add_ops(
+        &mut self,
+        origin: &Origin,
+        ops: &[Op],
+        before: usize,
+    ) -> Result<bool, OutOfMemory>
+        requires { begins_low origin.now ≡ true }
+        ensures { IfOk result (λ fits. fits ≡ true
+            → Adds origin.now self.old self.new (drop before ops.now)) }
+    {
+        let rest = behind(ops, before);
+        for op in rest {
+            if !self.add(origin, op)? {
+                return Ok(false);
+            }
+        }
+        Ok(true)
+    }
+
+    #[tactic(auto, using(crate::proofs::Moving::all_more))]
     fn add(&mut self, origin: &Origin, op: &Op) -> Result<bool, OutOfMemory>
-        ensures { IfOk result (λ fits. fits ≡ true → (ops : List Op) → Says origin.now ops (drafted_in self.old)
-            → Says origin.now (ops ++ op.now ∷ []) (drafted_in self.new)) }
+        requires { begins_low origin.now ≡ true }
+        ensures { IfOk result (λ fits. fits ≡ true → Adds origin.now self.old self.new (op.now ∷ [])) }
     {
         if op.from.len() > MOST_SLOTS {
-            return self.add_long(origin, op);
+            return match origin.long_piece(self.alloc, op)? {
+                Some(piece) => self.add_piece(piece),
+                None => Ok(false),
+            };
         }
         match origin.passage_op(op) {
             Some(one) => {
@@ -200,20 +306,28 @@ impl PieceDraft {
         }
     }
 
-    fn add_long(&mut self, origin: &Origin, op: &Op) -> Result<bool, OutOfMemory>
-        ensures { IfOk result (λ fits. fits ≡ true → (ops : List Op) → Says origin.now ops (drafted_in self.old)
-            → Says origin.now (ops ++ op.now ∷ []) (drafted_in self.new)) }
+    fn add_shared(&mut self, origin: &Origin, shared: &SharedOps) -> Result<bool, OutOfMemory>
+        requires { begins_low origin.now ≡ true }
+        ensures { IfOk result (λ fits. fits ≡ true → Adds origin.now self.old self.new shared.now) }
+    {
+        match shared.piece(origin)? {
+            Some(piece) => self.add_piece(piece),
+            None => Ok(false),
+        }
+    }
+
+    /// Adds a piece. Returns false where the ops before it can't be in one.
+    fn add_piece(&mut self, piece: Piece) -> Result<bool, OutOfMemory>
+        ensures { IfOk result (λ fits. fits ≡ true → (here : Origin) (ops : List Op)
+            → Says here ops piece.at (λ w. piece_in w piece) → Adds here self.old self.new ops) }
     {
         if !self.close()? {
             return Ok(false);
         }
-        match origin.long_op(self.alloc, op)? {
-            Some(long) => {
-                self.pieces.push(Piece::Long(long))?;
-                Ok(true)
-            }
-            None => Ok(false),
-        }
+        let far = self.far.furthest(&piece.at);
+        self.pieces.push(piece)?;
+        self.far = far;
+        Ok(true)
     }
 
     /// Makes a passage of the ops that are in no piece yet. Returns false where it can't.
@@ -221,6 +335,7 @@ impl PieceDraft {
         ensures none { IfOk result (λ fits. fits ≡ true → self.new.run ≡ []) }
         ensures same { IfOk result (λ fits. fits ≡ true
             → (w : Window) → drafted_in self.new w ≡ drafted_in self.old w) }
+        ensures far { self.new.far ≡ self.old.far }
     {
         if self.run.is_empty() {
             return Ok(true);
@@ -228,24 +343,12 @@ impl PieceDraft {
         let run = mem::replace(&mut self.run, Vec::new(self.alloc));
         match Passage::of(self.alloc, run)? {
             Some(passage) => {
-                let passage = Arc::new(self.alloc, passage)?;
-                self.pieces.push(Piece::Ops(passage))?;
+                let content = Content::Ops(Arc::new(self.alloc, passage)?);
+                let at = NO_FURTHER;
+                self.pieces.push(Piece { content, at })?;
                 Ok(true)
             }
             None => Ok(false),
         }
-    }
-
-    /// The pieces; None where the last ops can't be in one.
-    fn end(mut self) -> Result<Option<Vec<Piece>>, OutOfMemory>
-        ensures { IfOk result (λ m. IfSome m (λ pieces. (w : Window) → pieces_in pieces.items w
-            ≡ drafted_in self w)) }
-    {
-        if !self.close()? {
-            return Ok(None);
-        }
-        let PieceDraft { mut pieces, .. } = self;
-        pieces.shrink_to_fit();
-        Ok(Some(pieces))
     }
 }

@@ -1,9 +1,11 @@
 // Stretches of a code.
-ghost use Rattle.std.specs.Prelude.{◌≡◌, ◌<◌, length, slice_index_or};
+ghost use Rattle.std.specs.Prelude.{◌≡◌, ◌<◌, length, OnErr, OnOk};
 ghost use Rattle.cs_ir.specs.Codes.{ops_of, aim, aimed};
 ghost use Rattle.cs_ir.specs.declared.op.Op.{Op};
 
 use crate::{Act, Op, SharedOps};
+use cs_base::OutOfMemory;
+use std::alloc::Global;
 
 /// A stretch of a code.
 #[derive(Drop)]
@@ -24,31 +26,28 @@ impl Stretch {
         }
     }
 
-    /// The act of the op at a place, counted from 0.
-    pub fn act(&self, place: usize) -> Act
-        requires { place < length (ops_of self.now) }
-        ensures { (d : Op) → result ≡ (slice_index_or (ops_of self.now) place d).act }
+    /// Lets the jump at a place, if one stands there, go to another. Of ops that stand at several places, a copy of
+    /// their own is made first.
+    pub(crate) fn aim(&mut self, alloc: Global, place: usize, to: usize) -> Result<(), OutOfMemory>
+        ensures ok { OnOk result (ops_of self.new ≡ aim place to (ops_of self.old)) }
+        ensures err { OnErr result (ops_of self.new ≡ ops_of self.old) }
     {
-        match self {
-            Stretch::Own(ops) => ops[place].act,
-            Stretch::Shared(ops) => ops.act(place),
-        }
-    }
-
-    /// Lets the jump at a place go to another. Ops that stand at several places have none.
-    pub fn aim(&mut self, place: usize, to: usize)
-        ensures { ops_of self.new ≡ aim place to (ops_of self.old) }
-    {
-        match self {
-            Stretch::Own(ops) => aim_in(ops, place, to),
-            Stretch::Shared(ops) => ops.go_on(),
-        }
+        let mut own = match self {
+            Stretch::Own(ops) => {
+                aim_in(ops, place, to);
+                return Ok(());
+            }
+            Stretch::Shared(shared) => shared.copied(alloc)?,
+        };
+        aim_in(&mut own, place, to);
+        *self = Stretch::Own(own);
+        Ok(())
     }
 }
 
 /// Lets the jump at a place, if one stands there, go to another.
 #[tactic(auto, using(crate::proofs::Aiming::aim_set, crate::proofs::Aiming::aim_none))]
-pub fn aim_in(ops: &mut Vec<Op>, place: usize, to: usize)
+pub(crate) fn aim_in(ops: &mut Vec<Op>, place: usize, to: usize)
     ensures { ops.new.items ≡ aim place to ops.old.items }
 {
     if let Some(op) = ops.get_mut(place) {

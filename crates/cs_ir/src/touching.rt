@@ -1,31 +1,100 @@
-// The acts of a passage that touch what notes share.
-ghost use Rattle.std.specs.Prelude.{◌≡◌, Bool, true, IfOk};
+// What ops touch of what notes share.
+ghost use Rattle.std.specs.Prelude.{◌≡◌, ◌||◌, Bool, true, false, IfOk, OnOk, Option};
 ghost use Rattle.std.specs.List.{list_any};
-ghost use Rattle.cs_ir.specs.Touching.{has_any, may_touch, unnumbered};
-ghost use Rattle.cs_ir.specs.inner.Touching.{AreTouching};
+ghost use Rattle.cs_base.specs.declared.resource.Res.{Res};
+ghost use Rattle.cs_ir.specs.Touching.{AsksFor, answers, has_any, may_touch, unnumbered};
+ghost use Rattle.cs_ir.specs.inner.Touching.{Adds, AreTouching};
 ghost use Rattle.cs_ir.specs.declared.op.Act.{Act};
 
 use crate::passage::PassageOp;
-use crate::{Act, Reach};
+use crate::{Act, Loads, Reach};
 use cs_base::OutOfMemory;
 use std::alloc::Global;
 
 /// So many of the acts that were kept last are compared with one more.
 const COMPARED: usize = 8;
 
-/// The acts of ops that touch what notes share, each once among a few, units without their numbers.
-pub fn touching_acts(alloc: Global, ops: &[PassageOp]) -> Result<Vec<Act>, OutOfMemory>
-    ensures { IfOk result (λ acts. AreTouching acts.items ops.now) }
+/// Behind so many acts in the list, variables that are read are kept in the set: what ops read in expressions and
+/// conditions is in no limit, and is gone through at each place where they stand.
+const MOST_LISTED: usize = 32;
+
+/// What ops touch of what notes share: their acts, each once among a few, units without their numbers; and beside these
+/// a set of global variables that they read.
+#[derive(Drop)]
+pub struct Touching {
+    pub acts: Vec<Act>,
+    pub loads: Loads,
+}
+
+/// What the ops of a passage touch of what notes share.
+pub(crate) fn touching_of(alloc: Global, ops: &[PassageOp]) -> Result<Touching, OutOfMemory>
+    ensures { IfOk result (λ t. AreTouching t ops.now) }
 {
-    let mut acts = Vec::new(alloc);
+    let mut touching = Touching::new(alloc);
     for op in ops {
-        let act = unnumbered(op.act);
-        if !may_touch(&op.act) || is_kept(&acts, &act) {
-            continue;
-        }
-        acts.push(act)?;
+        touching.add(&op.act)?;
     }
-    Ok(acts)
+    Ok(touching)
+}
+
+impl Touching {
+    /// Nothing.
+    pub(crate) fn new(alloc: Global) -> Touching
+        ensures { (asks : Act → Bool) (q : Option Res) → answers asks q result ≡ false }
+    {
+        Touching {
+            acts: Vec::new(alloc),
+            loads: Loads::new(alloc),
+        }
+    }
+
+    /// Adds what an act touches.
+    pub(crate) fn add(&mut self, act: &Act) -> Result<(), OutOfMemory>
+        ensures { OnOk result (Adds self.old self.new (λ asks q. asks act.now)) }
+    {
+        if !may_touch(act) || self.add_load(act)? {
+            return Ok(());
+        }
+        let one = unnumbered(*act);
+        if !is_kept(&self.acts, &one) {
+            self.acts.push(one)?;
+        }
+        Ok(())
+    }
+
+    /// Adds what others touch.
+    pub(crate) fn join(&mut self, other: &Touching) -> Result<(), OutOfMemory>
+        ensures { OnOk result (Adds self.old self.new (λ asks q. answers asks q other.now)) }
+    {
+        self.add_acts(&other.acts)?;
+        self.loads.join(&other.loads)
+    }
+
+    fn add_acts(&mut self, acts: &[Act]) -> Result<(), OutOfMemory>
+        ensures { OnOk result (Adds self.old self.new (λ asks q. list_any asks acts.now)) }
+    {
+        for act in acts {
+            self.add(act)?;
+        }
+        Ok(())
+    }
+
+    /// Adds a variable that is read to the set and returns true; does nothing and returns false at any other act, and
+    /// where the list is short.
+    fn add_load(&mut self, act: &Act) -> Result<bool, OutOfMemory>
+        ensures added { IfOk result (λ added. added ≡ true → (asks : Act → Bool) (q : Option Res) → AsksFor asks q
+            → answers asks q self.new ≡ (answers asks q self.old || asks act.now)) }
+        ensures same { IfOk result (λ added. added ≡ false → (asks : Act → Bool) (q : Option Res)
+            → answers asks q self.new ≡ answers asks q self.old) }
+    {
+        if self.acts.len() < MOST_LISTED {
+            return Ok(false);
+        }
+        match act {
+            Act::Load(r) => self.loads.insert(*r),
+            _ => Ok(false),
+        }
+    }
 }
 
 /// Whether an act may touch what notes share.

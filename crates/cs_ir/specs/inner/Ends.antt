@@ -30,10 +30,13 @@ limit_in w e r =
 abbrev pub EachLow : PerRate ℕ → Type 0
 EachLow numbers = (r : Rate) → at_rate numbers r ≤ 2 ^ 31
 
+-- a window from which nothing that is counted has a number too high
 pub record LowWindow (w : Window) : Type 0 where
   pub locals : EachLow w.locals
   pub kept : w.kept ≤ 2 ^ 31
   pub temporaries : EachLow w.temporaries
+  pub unit : w.unit ≤ 2 ^ 31
+  pub place : w.place ≤ 2 ^ 62
 
 pub record LowEnds (e : Ends) : Type 0 where
   pub locals : EachLow e.locals

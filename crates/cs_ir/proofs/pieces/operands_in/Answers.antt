@@ -13,7 +13,8 @@ loop-place-preserved c =
     elim c.match-get.branch [
       | in-Some+in_ok-push b ↦
           (let found : slice_get list i ≡ Some b.in-Some.slot = search rules in
-          let more : c.match-get.from.items ≡ c.loop-place.from.items ++ register w b.in-Some.slot ∷ [] = search rules in
+          let more : c.match-get.from.items ≡ c.loop-place.from.items ++ register w b.in-Some.slot ∷ [] =
+          search rules in
           more ∙ slots_next w list i b.in-Some.slot c.loop-place.from.items found c.loop-place.invariant)
       | in_default b ↦
           (let low : i < length list = search (rules, arith) in

@@ -1,6 +1,6 @@
 use Rattle.std.proofs.Common.{◌≡◌, ◌++◌, take}
+use Rattle.cs_ir.specs.Moved.{window}
 use Rattle.cs_ir.specs.inner.Pieces.{pieces_in}
-use Rattle.cs_ir.specs.inner.Windows.{window}
 use Rattle.cs_ir.proofs.draft.CodeDraft.append_pieces.Given as goal
 
 abbrev pub invariant-loop-piece : goal.invariant-loop-piece

@@ -1,6 +1,0 @@
-use Rattle.std.proofs.Common.{take}
-use Rattle.cs_ir.specs.inner.Touching.{AreTouching}
-use Rattle.cs_ir.proofs.touching.touching_acts.Given as goal
-
-abbrev pub invariant-loop-op : goal.invariant-loop-op
-invariant-loop-op l = AreTouching l.acts.items (take l.op-index l.ops)
