@@ -1,17 +1,19 @@
 -- Marks of tables, set one after another.
 use Rattle.std.proofs.Common.{◌≡◌, ℕ, ◌+◌, ◌<◌, Bool, true, false, ◌||◌, List, [], ◌∷◌, length, get_or, replicate}
-use Rattle.std.proofs.Common.{take, ⊎_elim, arith, refl, sym, ◌∙◌, ap}
+use Rattle.std.proofs.Common.{take, Option, None, ⊎_elim, arith, refl, sym, ◌∙◌, ap}
 use Rattle.std.specs.List.{flat_map, list_any}
 use Rattle.std.proofs.lemmas.Bool.{cases_lt}
 use Rattle.std.proofs.lemmas.List.{get_or-replicate, get_or_past, length-replicate}
 use Rattle.std.proofs.lemmas.List.Folds.{list_any-append, list_any_more}
 use Rattle.cs_base.specs.Rates.{same_res}
+use Rattle.cs_base.specs.declared.resource.Res.{Res}
 use Rattle.cs_base.specs.declared.resource.Res.TheVariants as res
 use Rattle.cs_ir.proofs.Touches.{touches_none, touches_unit}
 use Rattle.cs_ir.specs.Resources.{may_write}
-use Rattle.cs_ir.specs.Touching.{IsOfShared}
+use Rattle.cs_ir.specs.Touching.{AsksFor, IsOfShared, answers}
 use Rattle.cs_ir.specs.declared.op.Act.{Act}
 use Rattle.cs_ir.specs.declared.op.Op.{Op}
+use Rattle.cs_ir.specs.declared.touching.Touching.{Touching}
 use Rattle.cs_piece.specs.Tables.{only}
 use Rattle.cs_piece.specs.inner.Marked.{act_stores, ops_store}
 
@@ -42,7 +44,11 @@ all_are xs count n d e = ap (λ l. get_or l n d) e ∙ ⊎_elim
     (λ g. get_or_past (replicate count d) n d (omega (arith, length-replicate count d, g)))
     (cases_lt n count)
 
--- ---- by the acts of a passage that touch what notes share
+-- ---- by the acts of ops that touch what notes share
+
+or_nothing : (b : Bool) → b ≡ (b || false)
+or_nothing true = refl
+or_nothing false = refl
 
 stores_shared : (n : ℕ) → IsOfShared (act_stores n)
 stores_shared n = record {
@@ -50,7 +56,10 @@ stores_shared n = record {
   unit = λ a. ap (list_any (same_res (res.Table n))) (touches_unit may_write (only n) a);
 }
 
-pub stores_touched : (acts : List Act) (ops : List Op)
-    → ((asks : Act → Bool) → IsOfShared asks → list_any asks acts ≡ list_any (λ (o : Op). asks o.act) ops)
-    → (n : ℕ) → list_any (act_stores n) acts ≡ ops_store n ops
-stores_touched acts ops h n = h (act_stores n) (stores_shared n)
+pub stores_touched : (touching : Touching) (ops : List Op)
+    → ((asks : Act → Bool) (q : Option Res) → IsOfShared asks → AsksFor asks q
+    → answers asks q touching ≡ list_any (λ (o : Op). asks o.act) ops)
+    → (n : ℕ) → list_any (act_stores n) touching.acts.items ≡ ops_store n ops
+stores_touched touching ops h n =
+    or_nothing (list_any (act_stores n) touching.acts.items)
+    ∙ h (act_stores n) None (stores_shared n) (λ r. refl)

@@ -1,13 +1,12 @@
 // Which tables the codes of instruments may write.
-ghost use Rattle.std.specs.Prelude.{◌≡◌, ◌<◌, ◌≤◌, ◌||◌, ℕ, false, length, nat_le, nat_lt, ◌&&◌, IfOk, slice_index_or};
+ghost use Rattle.std.specs.Prelude.{◌≡◌, ◌<◌, ◌||◌, ℕ, false, length, nat_le, ◌&&◌, IfOk, slice_index_or};
 ghost use Rattle.std.specs.List.{list_any};
-ghost use Rattle.cs_ir.specs.Codes.{ops_of};
 ghost use Rattle.cs_ir.specs.Resources.{reaches};
 ghost use Rattle.cs_piece.specs.inner.Marked.{act_stores, codes_store, is_marked, numbers_end, ops_store};
 
 use crate::tables::NUMBERS_END;
 use cs_base::{OutOfMemory, Res};
-use cs_ir::{Act, Instrument, Ops, Reach, Stretch};
+use cs_ir::{Act, Instrument, Ops, Reach};
 use std::alloc::Global;
 use std::marker::Model;
 
@@ -72,36 +71,11 @@ impl Written {
     }
 
     /// Marks what ops may write.
+    #[tactic(auto, using(crate::proofs::Marks::stores_touched))]
     fn mark_ops(&mut self, ops: &Ops)
         ensures { (n : ℕ) → n < numbers_end → is_marked self.new n ≡ (is_marked self.old n || ops_store n ops.now) }
     {
-        let stretches = ops.stretches();
-        for stretch in stretches {
-            self.mark_stretch(stretch);
-        }
-    }
-
-    /// Marks what the ops of a stretch may write.
-    #[tactic(auto, using(crate::proofs::Marks::stores_touched))]
-    fn mark_stretch(&mut self, stretch: &Stretch)
-        ensures { (n : ℕ) → n < numbers_end → is_marked self.new n
-            ≡ (is_marked self.old n || ops_store n (ops_of stretch.now)) }
-    {
-        match stretch {
-            Stretch::Own(_) => self.mark_own(stretch),
-            Stretch::Shared(ops) => self.mark_acts(ops.touching()),
-        }
-    }
-
-    /// Marks what each op of a stretch may write.
-    fn mark_own(&mut self, stretch: &Stretch)
-        ensures { (n : ℕ) → n < numbers_end → is_marked self.new n
-            ≡ (is_marked self.old n || ops_store n (ops_of stretch.now)) }
-    {
-        for place in 0..stretch.len() {
-            let act = stretch.act(place);
-            self.mark_act(act);
-        }
+        self.mark_acts(&ops.touching().acts);
     }
 
     /// Marks what acts may write.

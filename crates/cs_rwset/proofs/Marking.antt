@@ -6,12 +6,7 @@ use Rattle.std.proofs.lemmas.List.{append-nil, append_assoc, length-append, leng
 use Rattle.std.proofs.lemmas.List.{take_more}
 use Rattle.std.proofs.lemmas.List.Concat.{flat_map-append}
 use Rattle.cs_base.specs.declared.spaces.Spaces.{Spaces}
-use Rattle.cs_base.specs.declared.resource.Rate.TheVariants as rate
-use Rattle.cs_ir.specs.Codes.{flat, ops_of}
 use Rattle.cs_ir.specs.declared.op.Act.{Act}
-use Rattle.cs_ir.specs.declared.op.Act.TheVariants as act
-use Rattle.cs_ir.specs.declared.op.Op.{Op}
-use Rattle.cs_ir.specs.declared.stretch.Stretch.{Stretch}
 use Rattle.std.proofs.lemmas.List.Elements.{filter-append}
 use Rattle.std.proofs.lemmas.Bool.{cond-true, cond-false, false_from_ne_true}
 use Rattle.std.proofs.lemmas.List.Folds.{list_any-append}
@@ -172,20 +167,6 @@ list_more f xs i d l =
     sym (ap (flat_map f) (take_more xs i d l) ∙ flat_map-append f (take i xs) (get_or xs i d ∷ [])
     ∙ ap (λ t. flat_map f (take i xs) ++ t) (append-nil (f (get_or xs i d))))
 
-any_op : Op
-any_op = record { act = act.Turnoff; into = record { rate = rate.Init; index = 0 }; from = [] }
-
--- what the act of one more op of a stretch names
-pub act_step : (areas : List Area) (f : Act → List Res) (rs : List Res) (ops : List Op) (i : ℕ) (a : Act)
-    → ((d : Op) → a ≡ (get_or ops i d).act) → i < length ops
-    → marks_of areas ((rs ++ flat_map (λ (o : Op). f o.act) (take i ops)) ++ f a)
-    ≡ marks_of areas (rs ++ flat_map (λ (o : Op). f o.act) (take (i + 1) ops))
-act_step areas f rs ops i a is l =
-    let g : Op → List Res = λ o. f o.act in
-    ap (marks_of areas) (append_assoc rs (flat_map g (take i ops)) (f a)
-    ∙ ap (λ y. rs ++ (flat_map g (take i ops) ++ f y)) (is any_op)
-    ∙ ap (λ t. rs ++ t) (list_more g ops i any_op l))
-
 -- what one more act names
 pub list_step : (areas : List Area) (f : Act → List Res) (rs : List Res) (acts : List Act) (i : ℕ) (a : Act)
     → a ≡ get_or acts i a → i < length acts
@@ -193,14 +174,6 @@ pub list_step : (areas : List Area) (f : Act → List Res) (rs : List Res) (acts
 list_step areas f rs acts i a is l =
     ap (marks_of areas) (append_assoc rs (flat_map f (take i acts)) (f a)
     ∙ ap (λ y. rs ++ (flat_map f (take i acts) ++ f y)) is ∙ ap (λ t. rs ++ t) (list_more f acts i a l))
-
--- what the ops of one more stretch name
-pub stretch_step : (f : Op → List Res) (stretches : List Stretch) (i : ℕ) (s : Stretch) → s ≡ get_or stretches i s
-    → i < length stretches
-    → flat_map f (flat (take i stretches)) ++ flat_map f (ops_of s) ≡ flat_map f (flat (take (i + 1) stretches))
-stretch_step f stretches i s is l =
-    sym (flat_map-append f (flat (take i stretches)) (ops_of s))
-    ∙ ap (flat_map f) (ap (λ y. flat (take i stretches) ++ ops_of y) is ∙ list_more ops_of stretches i s l)
 
 -- one more area is counted, or isn't
 pub get_at : (areas : List Area) (i : ℕ) (a : Area) → slice_get areas i ≡ Some a → get_or areas i a ≡ a

@@ -1,7 +1,7 @@
 -- Marks of neighbouring areas.
 use Rattle.std.proofs.Common.{◌≡◌, ◌<◌, ◌≤◌, ◌+◌, ◌++◌, ℕ, zero, suc, List, [], ◌∷◌, length, take, drop, replicate}
 use Rattle.std.proofs.Common.{◌-◌, slice_get, Some, Bool, true, false, ◌||◌, refl, sym, ◌∙◌, ap, subst, arith}
-use Rattle.std.proofs.Common.{◌⊎◌, ⊎_elim, IfSome}
+use Rattle.std.proofs.Common.{⊎_elim, IfSome}
 use Rattle.std.specs.List.{Contains}
 use Rattle.std.proofs.lemmas.Bool.{cases_lt, false_from_ne_true, true≢false}
 use Rattle.std.proofs.lemmas.Option.{slice_get_cases, slice_get_within}

@@ -1,5 +1,5 @@
 -- Zones are laid out as areas are.
-use Rattle.std.proofs.Common.{◌≡◌, ◌+◌, ◌<◌, ◌≤◌, ◌⊎◌, ℕ, zero, suc, Bool, true, false, List, [], ◌∷◌, ◌++◌}
+use Rattle.std.proofs.Common.{◌≡◌, ◌+◌, ◌<◌, ◌≤◌, ℕ, zero, suc, Bool, true, false, List, [], ◌∷◌, ◌++◌}
 use Rattle.std.proofs.Common.{get_or}
 use Rattle.std.proofs.Common.{None, nat_lt}
 use Rattle.std.proofs.Common.{length, Some, if◌then◌else◌, refl, sym, ◌∙◌, ap, subst, arith, ⊎_elim}

@@ -3,17 +3,16 @@ ghost use Rattle.std.specs.Prelude.{◌≡◌, ◌++◌, List, length, IfOk};
 ghost use Rattle.std.specs.List.{flat_map};
 ghost use Rattle.cs_base.specs.declared.resource.Res.{Res};
 ghost use Rattle.cs_cells.specs.Areas.{IsLaid};
-ghost use Rattle.cs_ir.specs.Codes.{ops_of};
 ghost use Rattle.cs_ir.specs.Resources.{act_uses, act_writes, ops_use, ops_write};
 ghost use Rattle.cs_rwset.specs.Footprints.{stock_of};
 ghost use Rattle.cs_rwset.specs.inner.Marks.{marks_of};
 ghost use Rattle.cs_rwset.specs.inner.Runs.{AreRuns};
 
-use crate::marks::mark_act;
+use crate::marks::{mark_act, mark_loads};
 use crate::runs::Runs;
 use cs_base::OutOfMemory;
 use cs_cells::Layout;
-use cs_ir::{Act, Ops, Stretch};
+use cs_ir::{Act, Ops};
 use std::alloc::Global;
 
 /// Of each area, whether a code may use it, and whether it may write it.
@@ -38,48 +37,13 @@ pub(crate) fn marks_of(alloc: Global, ops: &Ops, layout: &Layout) -> Result<Mark
     };
     // No two areas are of one resource.
     let _ = layout.words();
-    let stretches = ops.stretches();
-    for stretch in stretches {
-        marks.add(layout, &runs, stretch);
-    }
+    let touching = ops.touching();
+    marks.add_acts(layout, &runs, &touching.acts);
+    mark_loads(&mut marks.uses, layout, &touching.loads);
     Ok(marks)
 }
 
 impl Marks {
-    /// Marks what the ops of a stretch may use, and what they may write.
-    fn add(&mut self, layout: &Layout, runs: &Runs, stretch: &Stretch)
-        requires laid { IsLaid layout.now }
-        requires runs { AreRuns layout.now runs.now }
-        requires uses { length self.old.uses.items ≡ length layout.now }
-        requires writes { length self.old.writes.items ≡ length layout.now }
-        ensures uses { (rs : List Res) → self.old.uses.items ≡ marks_of layout.now rs
-            → self.new.uses.items ≡ marks_of layout.now (rs ++ ops_use (stock_of layout.now) (ops_of stretch.now)) }
-        ensures writes { (rs : List Res) → self.old.writes.items ≡ marks_of layout.now rs
-            → self.new.writes.items ≡ marks_of layout.now (rs ++ ops_write (stock_of layout.now) (ops_of stretch.now)) }
-    {
-        match stretch {
-            Stretch::Own(_) => self.add_own(layout, runs, stretch),
-            Stretch::Shared(ops) => self.add_acts(layout, runs, ops.touching()),
-        }
-    }
-
-    /// Marks what each op of a stretch may use, and what it may write.
-    fn add_own(&mut self, layout: &Layout, runs: &Runs, stretch: &Stretch)
-        requires laid { IsLaid layout.now }
-        requires runs { AreRuns layout.now runs.now }
-        requires uses { length self.old.uses.items ≡ length layout.now }
-        requires writes { length self.old.writes.items ≡ length layout.now }
-        ensures uses { (rs : List Res) → self.old.uses.items ≡ marks_of layout.now rs
-            → self.new.uses.items ≡ marks_of layout.now (rs ++ ops_use (stock_of layout.now) (ops_of stretch.now)) }
-        ensures writes { (rs : List Res) → self.old.writes.items ≡ marks_of layout.now rs
-            → self.new.writes.items ≡ marks_of layout.now (rs ++ ops_write (stock_of layout.now) (ops_of stretch.now)) }
-    {
-        for place in 0..stretch.len() {
-            let act = stretch.act(place);
-            mark_act(&mut self.uses, &mut self.writes, layout, runs, &act);
-        }
-    }
-
     /// Marks what acts may use, and what they may write.
     fn add_acts(&mut self, layout: &Layout, runs: &Runs, acts: &[Act])
         requires laid { IsLaid layout.now }

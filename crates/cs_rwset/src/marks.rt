@@ -4,6 +4,7 @@ ghost use Rattle.cs_base.specs.Rates.{same_res};
 ghost use Rattle.cs_base.specs.declared.resource.Res.{Res};
 ghost use Rattle.cs_cells.specs.Areas.{IsLaid};
 ghost use Rattle.cs_ir.specs.Resources.{act_uses, act_writes};
+ghost use Rattle.cs_ir.specs.Touching.{has};
 ghost use Rattle.cs_rwset.specs.Footprints.{stock_of};
 ghost use Rattle.cs_rwset.specs.inner.Marks.{marked, marked_by, marks_of};
 ghost use Rattle.cs_rwset.specs.inner.Named.{covers};
@@ -13,7 +14,7 @@ use crate::named::{Named, names_of, writes};
 use crate::runs::{Run, Runs};
 use cs_base::{OutOfMemory, Places, Res, Spaces};
 use cs_cells::Layout;
-use cs_ir::Act;
+use cs_ir::{Act, Loads};
 use std::alloc::Global;
 
 /// Marks what an act may use, and what it may write.
@@ -94,6 +95,19 @@ fn mark_all(marks: &mut [bool], layout: &Layout, spaces: Spaces, names: Named)
 {
     for place in 0..layout.len() {
         if names.covers(spaces, layout.area(place).res) {
+            marks[place as usize] = true;
+        }
+    }
+}
+
+/// Marks each area whose resource is in a set of variables.
+pub fn mark_loads(marks: &mut [bool], layout: &Layout, loads: &Loads)
+    requires long { length marks.old ≡ length layout.now }
+    ensures { (P : Res → Bool) → marks.old ≡ marked_by P layout.now
+        → marks.new ≡ marked_by (λ r. P r || has loads.now r) layout.now }
+{
+    for place in 0..layout.len() {
+        if loads.contains(layout.area(place).res) {
             marks[place as usize] = true;
         }
     }
