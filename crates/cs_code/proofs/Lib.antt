@@ -11,9 +11,10 @@ pub mod Instruments
 pub mod Letters
 pub mod Lists
 pub mod Means
-pub mod Moved
 pub mod Moving
+pub mod MovingBlocks
 pub mod MovingCalls
+pub mod MovingNumbers
 pub mod MovingRegisters
 pub mod MovingStatements
 pub mod Named
@@ -28,6 +29,7 @@ pub mod Rated
 pub mod Reached
 pub mod Reaches
 pub mod Resources
+pub mod RoutineEnds
 pub mod Routines
 pub mod Runs
 pub mod Valid

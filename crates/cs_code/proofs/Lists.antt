@@ -1,15 +1,14 @@
 -- Lists of expressions and arguments.
 use Rattle.std.proofs.Common.{◌≡◌, ◌∙◌, ◌+◌, ◌<◌, ◌++◌, ◌∷◌, drop, get_or, ℕ, Bool, true, false, not, cond, List, []}
-use Rattle.std.proofs.Common.{◌≤◌, arith, length, map, refl, sym, subst, take, ap, ap₂}
-use Rattle.std.proofs.lemmas.List.{append_assoc, append-nil, drop_more, map-append, take_all, take_more}
+use Rattle.std.proofs.Common.{length, map, refl, sym, subst, ap}
+use Rattle.std.proofs.lemmas.List.{append_assoc, append-nil, drop_more}
 use Rattle.std.proofs.lemmas.List.Elements.{All-cons}
 use Rattle.std.specs.Borrow.{Bor}
 use Rattle.std.specs.List.{All}
 use Rattle.cs_meaning.specs.Core.{settled, moving, values_of}
 use Rattle.cs_meaning.specs.When.{When}
 use Rattle.cs_code.specs.inner.Kept.{past}
-use Rattle.cs_typed.specs.TypedTree.{Expression, Argument, value, text, argument}
-use Rattle.cs_typed.specs.declared.tree.TypedArg.{TypedArg}
+use Rattle.cs_typed.specs.TypedTree.{Expression, Argument, value, text}
 use Rattle.cs_typed.specs.declared.tree.TypedExpr.{TypedExpr}
 use Rattle.cs_words.specs.Catalogue.{Row, letter_at, is_settled}
 use Rattle.cs_ir.specs.declared.op.Op.{Op}
@@ -140,23 +139,3 @@ map_twice g f (x ∷ xs) = ap (λ l. g (f x) ∷ l) (map_twice g f xs)
 pub dropped : {A : Type 0} (xs : List A) (i : ℕ) (x : A) → i < length xs → x ≡ get_or xs i x
     → drop i xs ≡ x ∷ drop (i + 1) xs
 dropped xs i x lt e = drop_more xs i x lt ∙ ap (λ y. y ∷ drop (i + 1) xs) (sym e)
-
--- ---- arguments that are the same in two lists
-
-pub arguments_more : (xs ys : List TypedArg) (i : ℕ) (a b : TypedArg) → length xs ≡ length ys → i < length xs
-    → a ≡ get_or xs i a → b ≡ get_or ys i b → argument a ≡ argument b
-    → map argument (take i xs) ≡ map argument (take i ys)
-    → map argument (take (i + 1) xs) ≡ map argument (take (i + 1) ys)
-arguments_more xs ys i a b long low here there same before =
-    let low' : i < length ys = omega (arith, long, low) in
-    ap (map argument) (take_more xs i a low ∙ ap (λ x. take i xs ++ x ∷ []) (sym here))
-    ∙ map-append argument (take i xs) (a ∷ [])
-    ∙ ap₂ (λ l x. l ++ x ∷ []) before same
-    ∙ sym (map-append argument (take i ys) (b ∷ []))
-    ∙ sym (ap (map argument) (take_more ys i b low' ∙ ap (λ y. take i ys ++ y ∷ []) (sym there)))
-
-pub arguments_all : (xs ys : List TypedArg) (i : ℕ) → length xs ≡ length ys → length xs ≤ i
-    → map argument (take i xs) ≡ map argument (take i ys) → map argument xs ≡ map argument ys
-arguments_all xs ys i long past same =
-    sym (ap (map argument) (take_all i xs past)) ∙ same
-    ∙ ap (map argument) (take_all i ys (omega (arith, long, past)))

@@ -239,7 +239,7 @@ module _ (m : Reg → Reg) (o o' : Origin) (f f' : Frame) (when : When) (l l' : 
       by (Some q) h = refl
       by None h = h tt
 
-  spot_is : (e : Expression) (at at' d : ℕ) → Inside lim e → Placed when at at' (past at (E e))
+  pub spot_is : (e : Expression) (at at' d : ℕ) → Inside lim e → Placed when at at' (past at (E e))
       → spot f' when at' (E' e) d ≡ m (spot f when at (E e) d)
   spot_is e at at' d h p =
       reg_is (direct f when at (E e)) (direct f' when at' (E' e)) (temp f (node_rate (E e)) d)

@@ -1,12 +1,14 @@
 -- What typed statements with other local variables are short for, and what is met up to their ends.
-use Rattle.std.proofs.Common.{◌≡◌, ◌∙◌, ◌+◌, ℕ, Bool, true, false, true≢false, List, [], ◌∷◌, map, Option, Some, None}
+use Rattle.std.proofs.Common.{◌≡◌, ◌∙◌, ◌+◌, ◌||◌, ℕ, Bool, true, false, not, List, [], ◌∷◌, map, Option, Some, None}
 use Rattle.std.proofs.Common.{if◌then◌else◌, refl, sym, ap, ap₂}
+use Rattle.std.proofs.lemmas.Bool.{and_parts}
 use Rattle.std.proofs.lemmas.List.Elements.{All-head, All-tail}
 use Rattle.std.specs.List.{All}
 use Rattle.std.specs.Option.{option_map}
-use Rattle.cs_base.specs.Rates.{at_rate}
+use Rattle.cs_base.specs.Rates.{at_rate, is_init}
 use Rattle.cs_base.specs.declared.per_rate.PerRate.{PerRate}
 use Rattle.cs_base.specs.declared.resource.Rate.{Rate}
+use Rattle.cs_base.specs.declared.resource.Rate.TheVariants as rate
 use Rattle.cs_base.specs.declared.spaces.Spaces.{Spaces}
 use Rattle.cs_words.specs.Catalogue.{Row, row_of, letter_at, is_settled, takes_table}
 use Rattle.cs_words.specs.declared.catalogue.Opcode.{Opcode}
@@ -16,19 +18,23 @@ use Rattle.cs_words.specs.declared.catalogue.Space.{Space}
 use Rattle.cs_words.specs.declared.catalogue.Space.TheVariants as space
 use Rattle.cs_ir.specs.Resources.{places_of}
 use Rattle.cs_ir.specs.declared.op.Reach.TheVariants as reach
-use Rattle.cs_meaning.specs.Core.{Stmt, unit, zak, store, out, out_at, ask}
+use Rattle.cs_meaning.specs.Core.{Stmt, unit, zak, store, out, out_at, ask, choose, andthen, otherwise, arm}
 use Rattle.cs_meaning.specs.Core.{values_of, settled, moving, table_reach, place_reach, span_reach, unit_reach}
 use Rattle.cs_meaning.specs.Core.{zak_reach}
-use Rattle.cs_meaning.specs.Core.{core_stmt, core_call, unit_call, store_call, zak_call}
+use Rattle.cs_meaning.specs.Core.{core, core_stmt, core_arms, core_call, unit_call, store_call, zak_call}
 use Rattle.cs_typed.specs.TypedTree as typed
 use Rattle.cs_typed.specs.TypedTree.{Expression, number, var, field, head, neg, pair, pick, apply, Argument, value}
 use Rattle.cs_typed.specs.TypedTree.{text, moved_variable, moved_expression, moved_argument}
-use Rattle.cs_typed.specs.Variables.{IsCounted, EachInArgument, EachInStatement}
+use Rattle.cs_typed.specs.Variables.{IsCounted, EachInArgument, EachInStatement, EachInBlock, EachInArms}
+use Rattle.cs_typed.specs.WellRated.{all_still}
 use Rattle.cs_typed.specs.declared.tree.Var.{Var as Variable}
-use Rattle.cs_code.proofs.Calls.{either_of, by_assigned, is_choice, call_simple}
+use Rattle.cs_code.proofs.Calls.{either_of, by_assigned}
+use Rattle.cs_code.proofs.Inside.{AllStill}
 use Rattle.cs_code.proofs.Moving.{Given}
-use Rattle.cs_code.proofs.MovingStatements.{moved_stmt, Names}
-use Rattle.cs_code.proofs.Rated.{inside_var, inside_expr, inside_values, inside_settled, inside_moving}
+use Rattle.cs_code.proofs.MovingNumbers.{moved_stmt, moved_stmts, moved_arms}
+use Rattle.cs_code.proofs.MovingStatements.{Names, BlockNames, ArmsName}
+use Rattle.cs_code.proofs.Rated.{inside_var, inside_expr, inside_values, inside_settled, inside_moving, stills}
+use Rattle.cs_code.specs.inner.Decided.{is_decided, block_is_decided, arms_are_decided}
 use Rattle.cs_code.specs.inner.Emitted.{Assigned, assigned, effect}
 
 -- ---- a call with other local variables is short for the same
@@ -265,23 +271,51 @@ module _ (ends : PerRate ℕ) where
 
 -- ---- statements
 
-abbrev pub is_if : typed.Statement → Bool
-is_if (typed.choose line r list) = true
-is_if _ = false
+mutual
+  stmt_moved : (l : PerRate ℕ) (o : Spaces) (x : typed.Statement)
+      → core_stmt o (typed.moved l x) ≡ moved_stmt l (core_stmt o x)
+  stmt_moved l o (typed.set line r v e) = refl
+  stmt_moved l o (typed.call line r vs op args) = call_moved l o r vs op (row_of op).shape args
+  stmt_moved l o (typed.choose line r list) = ap (choose r) (arms_moved l o list)
 
-pub core_moved : (l : PerRate ℕ) (o : Spaces) (x : typed.Statement) → is_if x ≡ false
-    → core_stmt o (typed.moved l x) ≡ moved_stmt l (core_stmt o x)
-core_moved l o (typed.set line r v e) h = refl
-core_moved l o (typed.call line r vs op args) h = call_moved l o r vs op (row_of op).shape args
-core_moved l o (typed.choose line r list) h = absurd (true≢false h)
+  pub core_moved : (l : PerRate ℕ) (o : Spaces) (b : typed.Block)
+      → core o (typed.moved_block l b) ≡ moved_stmts l (core o b)
+  core_moved l o typed.no_stmt = refl
+  core_moved l o (typed.andthen x rest) = ap₂ andthen (stmt_moved l o x) (core_moved l o rest)
 
-pub names_of : (ends : PerRate ℕ) (o : Spaces) (x : typed.Statement) → is_if x ≡ false
-    → EachInStatement (IsCounted ends) x → Names (at_rate ends) (core_stmt o x)
-names_of ends o (typed.set line r v e) h k = (inside_var ends v k.0, inside_expr ends e k.1)
-names_of ends o (typed.call line r vs op args) h k = names_call ends o r vs op (row_of op).shape args k.0 k.1
-names_of ends o (typed.choose line r list) h k = absurd (true≢false h)
+  arms_moved : (l : PerRate ℕ) (o : Spaces) (list : typed.Arms)
+      → core_arms o (typed.moved_arms l list) ≡ moved_arms l (core_arms o list)
+  arms_moved l o (typed.otherwise b) = ap otherwise (core_moved l o b)
+  arms_moved l o (typed.arm c b rest) =
+      ap₂ (arm (moved_expression l c)) (core_moved l o b) (arms_moved l o rest)
 
-pub simple : (o : Spaces) (x : typed.Statement) → is_if x ≡ false → is_choice (core_stmt o x) ≡ false
-simple o (typed.set line r v e) h = refl
-simple o (typed.call line r vs op args) h = call_simple o r vs op (row_of op).shape args
-simple o (typed.choose line r list) h = absurd (true≢false h)
+-- an `if` of rate Init that is decided has conditions that are kept
+still_where : (o : Spaces) (r : Rate) (list : typed.Arms) → (not (is_init r) || all_still list) ≡ true
+    → r ≡ rate.Init → AllStill (core_arms o list)
+still_where o rate.Init list h e = stills o list h
+still_where o rate.Control list h e = absurd (cc)
+still_where o rate.Audio list h e = absurd (cc)
+
+module _ (ends : PerRate ℕ) (o : Spaces) where
+  mutual
+    stmt_names : (x : typed.Statement) → EachInStatement (IsCounted ends) x → is_decided x ≡ true
+        → Names (at_rate ends) (core_stmt o x)
+    stmt_names (typed.set line r v e) k d = (inside_var ends v k.0, inside_expr ends e k.1)
+    stmt_names (typed.call line r vs op args) k d = names_call ends o r vs op (row_of op).shape args k.0 k.1
+    stmt_names (typed.choose line r list) k d =
+        let both = and_parts (not (is_init r) || all_still list) (arms_are_decided list) d in
+        (still_where o r list both.0, arms_name list k both.1)
+
+    pub names_of : (b : typed.Block) → EachInBlock (IsCounted ends) b → block_is_decided b ≡ true
+        → BlockNames (at_rate ends) (core o b)
+    names_of typed.no_stmt k d = tt
+    names_of (typed.andthen x rest) k d =
+        let both = and_parts (is_decided x) (block_is_decided rest) d in
+        (stmt_names x k.0 both.0, names_of rest k.1 both.1)
+
+    arms_name : (list : typed.Arms) → EachInArms (IsCounted ends) list → arms_are_decided list ≡ true
+        → ArmsName (at_rate ends) (core_arms o list)
+    arms_name (typed.otherwise b) k d = names_of b k d
+    arms_name (typed.arm c b rest) k d =
+        let both = and_parts (block_is_decided b) (arms_are_decided rest) d in
+        (inside_expr ends c k.0, names_of b k.1 both.0, arms_name rest k.2 both.1)

@@ -1,91 +1,104 @@
--- What was noted of a statement or a condition serves wherever it stands.
-use Rattle.std.proofs.Common.{◌≡◌, ◌∙◌, ◌+◌, ℕ, false, refl, sym, ap, subst, arith}
+-- What was noted of a routine serves wherever it is invoked.
+use Rattle.std.proofs.Common.{◌≡◌, ◌∙◌, ◌+◌, ◌≤◌, ◌^◌, ◌++◌, ◌∷◌, [], ℕ, zero, suc, true, List, Option, None, Some, set}
+use Rattle.std.proofs.Common.{length, sym, ap, subst, refl, arith}
+use Rattle.std.proofs.Common.{◌⊎◌, inl, inr, ⊎_elim, IfSome}
+use Rattle.std.proofs.lemmas.Option.{none-some}
+use Rattle.std.specs.Global.{Vec}
+use Rattle.std.specs.List.{slice_get}
+use Rattle.cs_base.proofs.Tests.{some_is}
 use Rattle.cs_base.specs.declared.per_rate.PerRate.{PerRate}
 use Rattle.cs_base.specs.declared.spaces.Spaces.{Spaces}
 use Rattle.cs_ir.specs.Moved.{Noted, moved_ops}
 use Rattle.cs_meaning.specs.Core.{core}
 use Rattle.cs_typed.specs.TypedTree as typed
-use Rattle.cs_code.proofs.Moved.{alone_moved, alone_past, cond_moved, cond_past}
-use Rattle.cs_code.proofs.MovingCalls.{is_if}
-use Rattle.cs_code.specs.declared.frame.Bases.{Bases}
+use Rattle.cs_typed.specs.Variables.{EachInBlock, IsCounted}
+use Rattle.cs_typed.specs.declared.tree.TypedStmt.{TypedStmt}
+use Rattle.cs_code.proofs.MovingBlocks.{block_moved, block_past}
 use Rattle.cs_code.specs.declared.frame.Pass.{Pass}
+use Rattle.cs_code.specs.declared.frame.Pass.TheVariants as pass
 use Rattle.cs_code.specs.declared.frame.Progress.{Progress}
-use Rattle.cs_code.specs.declared.subject.Subject.{Subject}
-use Rattle.cs_code.specs.declared.subject.Subject.TheVariants as subject
-use Rattle.cs_code.specs.inner.Kept.{start, past, past_block}
-use Rattle.cs_code.specs.inner.Passages.{Fits, IsNoted, Source, statement, condition, advanced, past_source}
-use Rattle.cs_code.specs.inner.Passages.{source_code, source_of}
-use Rattle.cs_code.specs.inner.Places.{origin_of}
-
--- a statement of it is no `if`
-abbrev pub IsSimple : Source → Type 0
-IsSimple (statement x) = is_if x ≡ false
-IsSimple (condition e) = Unit {0}
-
-simple_source : (x : Subject) → IsSimple (source_of x)
-simple_source (subject.Set r v e) = refl
-simple_source (subject.Call k) = refl
-simple_source (subject.Condition e) = tt
+use Rattle.cs_code.specs.declared.noted.NotedRoutine.{NotedRoutine}
+use Rattle.cs_code.specs.inner.Decided.{block_is_decided}
+use Rattle.cs_code.specs.inner.Kept.{start, past_block}
+use Rattle.cs_code.specs.inner.Noted.{AreNoted, IsNoted, advanced, past_routine, routine_code}
+use Rattle.cs_code.specs.inner.Places.{HasRoom, origin_of, own_bases}
 
 -- how far it leads, which is the same wherever it stands
-abbrev own_extent : Spaces → Source → Progress
-own_extent spaces (statement x) = past_block start (core spaces (typed.alone x))
-own_extent spaces (condition e) = record { part = past 0 e; unit = 0 }
+abbrev own_extent : Spaces → typed.Block → Progress
+own_extent spaces x = past_block start (core spaces x)
 
-past_any : (spaces : Spaces) (l : PerRate ℕ) (p : Progress) (s : Source) → IsSimple s
-    → past_source spaces l p s ≡ advanced p (own_extent spaces s)
-past_any spaces l p (statement x) h = alone_past l spaces p x h
-past_any spaces l p (condition e) h = λ i. record {
-  part = cond_past l p.part e i;
-  unit = none_more p.unit i;
-}
+advanced_start : (p : Progress) → advanced start p ≡ p
+advanced_start p = λ i. record { part = none_before p.part i; unit = none_before p.unit i }
   where
-    none_more : (n : ℕ) → n ≡ n + 0
-    none_more n = omega arith
+    none_before : (n : ℕ) → 0 + n ≡ n
+    none_before n = omega arith
 
--- its code at two places
-code_any : (spaces : Spaces) (way : Pass) (b b' : Bases) (p p' : Progress) (place place' : ℕ) (s : Source) → IsSimple s
-    → Fits s (own_extent spaces s).part (origin_of way b p)
-    → source_code spaces way b' place' p' s
-    ≡ moved_ops (origin_of way b p) (origin_of way b' p') (source_code spaces way b place p s)
-code_any spaces way b b' p p' place place' (statement x) h f =
-    alone_moved f.ends b b' p p' way spaces place place' x h f.counted f.room
-code_any spaces way b b' p p' place place' (condition e) h f =
-    cond_moved f.ends b b' p p' way e f.counted f.room
+own_room : (way : Pass) (counts : PerRate ℕ) (parts : ℕ) → counts.init + parts ≤ 2 ^ 31
+    → HasRoom counts parts (origin_of way (own_bases counts) start 0)
+own_room pass.Initialisation counts parts h =
+    record { init = omega arith; control = omega arith; audio = omega arith; kept = omega (arith, h) }
+own_room pass.Performance counts parts h =
+    record { init = omega arith; control = omega arith; audio = omega arith; kept = omega (arith, h) }
 
--- an extent that leads to the same place is the same
-same_part : (p : Progress) (x y : Progress) → advanced p x ≡ advanced p y → x.part ≡ y.part
-same_part p x y h = let e = ap (λ (q : Progress). q.part) h in omega (arith, e)
+-- What was noted of a routine's own code serves.
+pub noted_is : (spaces : Spaces) (way : Pass) (counts : PerRate ℕ) (x : typed.Block) (noted : Noted) (extent : Progress)
+    → block_is_decided x ≡ true → EachInBlock (IsCounted counts) x → counts.init + extent.part ≤ 2 ^ 31
+    → noted.ops ≡ routine_code spaces way (own_bases counts) 0 start x
+    → noted.origin ≡ origin_of way (own_bases counts) start 0
+    → extent ≡ past_routine spaces (own_bases counts).locals start x
+    → IsNoted spaces way x noted extent
+noted_is spaces way counts x noted extent decided counted low ops origin past =
+    let b = own_bases counts in
+    let o = origin_of way b start 0 in
+    let e : extent ≡ own_extent spaces x =
+    past ∙ block_past b.locals spaces start x ∙ advanced_start (own_extent spaces x) in
+    let room = own_room way counts (own_extent spaces x).part
+    (subst (λ (q : Progress). counts.init + q.part ≤ 2 ^ 31) e low) in
+    record {
+      code = λ b' p' place'. block_moved counts b b' start p' 0 place' way spaces x counted decided room
+          ∙ ap (moved_ops o (origin_of way b' p' place')) (sym ops)
+          ∙ ap (λ q. moved_ops q (origin_of way b' p' place') noted.ops) (sym origin);
+      past = λ l q. block_past l spaces q x ∙ ap (advanced q) (sym e);
+    }
 
-same_unit : (p : Progress) (x y : Progress) → advanced p x ≡ advanced p y → x.unit ≡ y.unit
-same_unit p x y h = let e = ap (λ (q : Progress). q.unit) h in omega (arith, e)
+-- ---- lists of what was noted
 
-same_extent : (p : Progress) (x y : Progress) → advanced p x ≡ advanced p y → x ≡ y
-same_extent p x y h = λ i. record { part = same_part p x y h i; unit = same_unit p x y h i }
+-- what is found in a list with one more stood there before, or is the last
+last_or : {A : Type 0} (xs : List A) (x y : A) (k : ℕ) → slice_get (xs ++ x ∷ []) k ≡ Some y
+    → (slice_get xs k ≡ Some y) ⊎ ((k ≡ length xs) × (x ≡ y))
+last_or [] x y zero e = inr (refl, some_is x y e)
+last_or [] x y (suc k) e = absurd (none-some y e)
+last_or (z ∷ xs) x y zero e = inl e
+last_or (z ∷ xs) x y (suc k) e = elim (last_or xs x y k e) [
+  | inl h ↦ inl h
+  | inr h ↦ inr (ap suc h.0, h.1)
+]
 
-by_extent : (spaces : Spaces) (way : Pass) (b : Bases) (p : Progress) (place : ℕ) (s : Source) (noted : Noted)
-    → IsSimple s → Fits s (own_extent spaces s).part (origin_of way b p)
-    → noted.ops ≡ source_code spaces way b place p s → noted.origin ≡ origin_of way b p
-    → IsNoted spaces way s noted (own_extent spaces s)
-by_extent spaces way b p place s noted h f ops origin = record {
-  code = λ b' p' place'. code_any spaces way b b' p p' place place' s h f
-      ∙ ap (moved_ops (origin_of way b p) (origin_of way b' p')) (sym ops)
-      ∙ ap (λ o. moved_ops o (origin_of way b' p') noted.ops) (sym origin);
-  past = λ l q. past_any spaces l q s h;
-}
+-- what is there once one is taken out was there before
+there_before : {A : Type 0} (xs : List (Option A)) (i k : ℕ) (y : A) → slice_get (set xs i None) k ≡ Some (Some y)
+    → slice_get xs k ≡ Some (Some y)
+there_before [] i k y e = e
+there_before (x ∷ xs) zero zero y e = absurd (none-some y (some_is None (Some y) e))
+there_before (x ∷ xs) zero (suc k) y e = e
+there_before (x ∷ xs) (suc i) zero y e = e
+there_before (x ∷ xs) (suc i) (suc k) y e = there_before xs i k y e
 
--- What was noted of a subject serves, where its registers could be told from one another as it was made.
-pub noted_is : (spaces : Spaces) (way : Pass) (b : Bases) (p : Progress) (place : ℕ) (x : Subject) (noted : Noted)
-    (extent end : Progress)
-    → Fits (source_of x) extent.part (origin_of way b p)
-    → noted.ops ≡ source_code spaces way b place p (source_of x) → noted.origin ≡ origin_of way b p
-    → end ≡ past_source spaces b.locals p (source_of x) → end ≡ advanced p extent
-    → IsNoted spaces way (source_of x) noted extent
-noted_is spaces way b p place x noted extent end f ops origin past is =
-    let s = source_of x in
-    let e : own_extent spaces s ≡ extent =
-    same_extent p (own_extent spaces s) extent
-    (sym (past_any spaces b.locals p s (simple_source x)) ∙ sym past ∙ is) in
-    subst (λ k. IsNoted spaces way s noted k) e
-    (by_extent spaces way b p place s noted (simple_source x)
-    (subst (λ n. Fits s n (origin_of way b p)) (sym (ap (λ (q : Progress). q.part) e)) f) ops origin)
+-- one fewer
+pub noted_fewer : (spaces : Spaces) (way : Pass) (list : List (Vec TypedStmt)) (noted : List (Option NotedRoutine))
+    (i : ℕ) → AreNoted spaces way list noted → AreNoted spaces way list (set noted i None)
+noted_fewer spaces way list noted i old k n low is = old k n low (there_before noted i k n is)
+
+-- one more, of the routine whose number is the length
+pub noted_more : (spaces : Spaces) (way : Pass) (list : List (Vec TypedStmt)) (noted : List (Option NotedRoutine))
+    (x : Option NotedRoutine) (number : ℕ) → length noted ≡ number
+    → IfSome x (λ n. IsNoted spaces way (typed.routine_at (typed.routines list) number) n.noted n.extent)
+    → AreNoted spaces way list noted → AreNoted spaces way list (noted ++ x ∷ [])
+noted_more spaces way list noted x number long new old k n low is =
+    ⊎_elim
+    (λ (h : slice_get noted k ≡ Some (Some n)). old k n low h)
+    (λ (h : (k ≡ length noted) × (x ≡ Some n)). subst
+    (λ j. IsNoted spaces way (typed.routine_at (typed.routines list) j) n.noted n.extent)
+    (sym (h.0 ∙ long))
+    (subst (λ o. IfSome o (λ m. IsNoted spaces way (typed.routine_at (typed.routines list) number) m.noted m.extent))
+    h.1 new))
+    (last_or noted x (Some n) k is)

@@ -62,11 +62,11 @@ mutual
   stmt_grows p nothing = omega arith
   stmt_grows p (choose r arms) = arms_grow p arms
 
-  block_grows : (p : Progress) (b : Block) → p.part ≤ (past_block p b).part
+  pub block_grows : (p : Progress) (b : Block) → p.part ≤ (past_block p b).part
   block_grows p no_stmt = omega arith
   block_grows p (andthen s b) = le_trans (stmt_grows p s) (block_grows (past_stmt p s) b)
 
-  arms_grow : (p : Progress) (arms : Arms) → p.part ≤ (past_arms p arms).part
+  pub arms_grow : (p : Progress) (arms : Arms) → p.part ≤ (past_arms p arms).part
   arms_grow p (otherwise b) = block_grows p b
   arms_grow p (arm c b rest) =
       le_trans (past_grows p.part c)

@@ -35,7 +35,7 @@ still_if : (b : Bool) (r : Rate) → r ≡ (if b then rate.Init else rate.Contro
 still_if true r h k = refl
 still_if false r h k = absurd (cc)
 
-stills : (spaces : Spaces) (list : typed.Arms) → all_still list ≡ true → AllStill (core_arms spaces list)
+pub stills : (spaces : Spaces) (list : typed.Arms) → all_still list ≡ true → AllStill (core_arms spaces list)
 stills spaces (typed.otherwise b) h = tt
 stills spaces (typed.arm c b rest) h =
     let both = and_parts (is_init (node_rate c)) (all_still rest) h in

@@ -2,9 +2,11 @@
 pub mod Branches
 pub mod Code
 pub mod Counted
+pub mod Decided
 pub mod Emitted
+pub mod Ends
 pub mod Frames
 pub mod Kept
-pub mod Passages
+pub mod Noted
 pub mod Places
 pub mod Rated

@@ -7,11 +7,13 @@ ghost use Rattle.cs_code.specs.inner.Code.{init_block_code, perf_block_code};
 ghost use Rattle.cs_code.specs.inner.Counted.{reached, no_registers};
 ghost use Rattle.cs_code.specs.inner.Emitted.{frame_of, pass_block_code};
 ghost use Rattle.cs_code.specs.inner.Frames.{frame_for};
+ghost use Rattle.cs_code.specs.inner.Noted.{IsLibraryOf};
 ghost use Rattle.cs_ir.specs.Limits.{ops_limit};
 
 use crate::counts::with_stretches;
-use crate::draft::Draft;
-use crate::frame::{Bases, Context, Pass, Progress, add, narrow};
+use crate::frame::{Bases, Context, NO_LOCALS, Pass, START, add, narrow};
+use crate::library::Library;
+use crate::noted::Routines;
 use crate::stmt::{BodyCode, body_of};
 use cs_base::{OutOfMemory, PerRate};
 use cs_ir::{Counts, Ops};
@@ -25,16 +27,6 @@ pub struct Codes {
     pub perf: Ops,
     pub counts: Counts,
 }
-
-/// Where a block begins.
-const START: Progress = Progress { part: 0, unit: 0 };
-
-/// The local variables of a block that nothing invokes are the first registers.
-const NO_LOCALS: PerRate<u32> = PerRate {
-    init: 0,
-    control: 0,
-    audio: 0,
-};
 
 // The counts of two codes.
 #[tactic(auto, using(crate::proofs::Reached::reached_two))]
@@ -63,32 +55,34 @@ fn narrowed(locals: PerRate<usize>) -> Result<PerRate<u32>, OutOfMemory>
 }
 
 // The code of a block that nothing invokes, by its pass.
-fn code_of<'t>(
-    draft: &mut Draft<'t>,
+fn code_of(
     context: Context,
-    orc: &'t TypedOrc,
-    stmts: &'t [TypedStmt],
+    orc: &TypedOrc,
+    library: &Library,
+    stmts: &[TypedStmt],
 ) -> Result<BodyCode, OutOfMemory>
-    requires { context.bases.locals ≡ typed.no_counts }
+    requires locals { context.bases.locals ≡ typed.no_counts }
+    requires noted { IsLibraryOf context.spaces orc.now.routines.items library.now }
     ensures ops { IfOk result (λ m. m.ops ≡ pass_block_code context.pass (frame_of context.bases) 0
         start (core context.spaces (typed.block (typed.routines orc.now.routines.items) stmts.now))) }
     ensures next { IfOk result (λ m. m.next ≡ past_block start (core context.spaces
         (typed.block (typed.routines orc.now.routines.items) stmts.now))) }
 {
-    body_of(draft, context, &orc.routines, START, stmts)
+    let noted = library.serving(context.pass, stmts);
+    let routines = Routines::of(&orc.routines, noted, &context);
+    body_of(context, &routines, START, stmts)
 }
 
-/// The two codes of a block with these local variables, of an instrument whose `instr` stands at a line. The
-/// performance is made first: it keeps no temporary of rate Init, and counts the kept values, after which those of the
-/// initialisation begin.
-pub fn codes_of<'t>(
-    draft: &mut Draft<'t>,
+/// The two codes of a block with these local variables. The performance is made first: it keeps no temporary of rate
+/// Init, and counts the kept values, after which those of the initialisation begin.
+pub fn codes_of(
     alloc: Global,
-    orc: &'t TypedOrc,
+    orc: &TypedOrc,
+    library: &Library,
     locals: PerRate<usize>,
-    line: u32,
-    stmts: &'t [TypedStmt],
+    stmts: &[TypedStmt],
 ) -> Result<Codes, OutOfMemory>
+    requires { IsLibraryOf orc.now.spaces orc.now.routines.items library.now }
     ensures init { let body = core orc.now.spaces (typed.block (typed.routines orc.now.routines.items) stmts.now) in
         IfOk result (λ c. c.init ≡ init_block_code (frame_for locals body) 0 start body) }
     ensures perf { let body = core orc.now.spaces (typed.block (typed.routines orc.now.routines.items) stmts.now) in
@@ -110,9 +104,8 @@ pub fn codes_of<'t>(
         pass: Pass::Performance,
         bases,
         spaces: orc.spaces,
-        line,
     };
-    let perf = code_of(draft, context, orc, stmts)?;
+    let perf = code_of(context, orc, library, stmts)?;
     let init = add(kept, perf.next.part)?;
     let bases = Bases {
         locals: NO_LOCALS,
@@ -124,9 +117,8 @@ pub fn codes_of<'t>(
         pass: Pass::Initialisation,
         bases,
         spaces: orc.spaces,
-        line,
     };
-    let init = code_of(draft, context, orc, stmts)?;
+    let init = code_of(context, orc, library, stmts)?;
     let counts = counts_of(init.next.unit as usize, &init.ops, &perf.ops);
     Ok(Codes {
         init: init.ops,

@@ -29,15 +29,13 @@ pub enum Pass {
     Performance,
 }
 
-/// What code is made for: one of a note's two codes, where its values stand, the zak spaces of the piece, and the line
-/// of the instrument's `instr`. What stands in front of that line was written in the definition of an opcode.
+/// What code is made for: one of a note's two codes, where its values stand, and the zak spaces of the piece.
 #[derive(Clone, Copy)]
 pub struct Context {
     pub alloc: Global,
     pub pass: Pass,
     pub bases: Bases,
     pub spaces: Spaces,
-    pub line: u32,
 }
 
 /// How far the code of a text has come: how many values were kept and units met in the text before a place.
@@ -46,6 +44,16 @@ pub struct Progress {
     pub part: u32,
     pub unit: u32,
 }
+
+/// Where a code begins.
+pub const START: Progress = Progress { part: 0, unit: 0 };
+
+/// The local variables of a block that nothing invokes are the first registers.
+pub const NO_LOCALS: PerRate<u32> = PerRate {
+    init: 0,
+    control: 0,
+    audio: 0,
+};
 
 /// Where a value stands, and the number of the next kept value after its own.
 #[derive(Clone, Copy)]

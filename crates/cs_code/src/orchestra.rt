@@ -10,10 +10,11 @@ ghost use Rattle.cs_typed.specs.WellRated.{IsWellRated, IsRatedBlock};
 ghost use Rattle.cs_typed.specs.declared.setting.Setting.{Setting};
 ghost use Rattle.cs_code.specs.Lowered.{IsCodeOf, IsNumberedCode, AreInstrumentsOf};
 ghost use Rattle.cs_code.specs.Lowered.{all_numbers, numbered_with, bodies};
+ghost use Rattle.cs_code.specs.inner.Noted.{IsLibraryOf};
 ghost use Rattle.cs_code.specs.inner.Rated.{IsRatedSomewhere};
 
 use crate::codes::{Codes, codes_of};
-use crate::draft::Draft;
+use crate::library::{Library, library_of};
 use cs_base::{OutOfMemory, PerRate};
 use cs_ir::{Body, Code, Instrument, Instruments, ValidCode};
 use cs_typed::{TypedInstr, TypedOrc, TypedStmt};
@@ -38,55 +39,62 @@ pub fn lower(alloc: Global, orc: &TypedOrc) -> Result<Lowered, OutOfMemory>
         (typed.block (typed.routines orc.now.routines.items) orc.now.zero.items) l.zero.init l.zero.perf) }
     ensures instruments { IfOk result (λ l. AreInstrumentsOf (typed.orchestra orc.now) l.instruments) }
 {
-    let zero = zero_of(alloc, orc)?;
-    let instruments = instruments_of(alloc, orc)?;
+    let library = library_of(alloc, orc)?;
+    let zero = zero_of(alloc, orc, &library)?;
+    let instruments = instruments_of(alloc, orc, &library)?;
     Ok(Lowered { zero, instruments })
 }
 
 // The instrument of what stands outside of all.
-fn zero_of(alloc: Global, orc: &TypedOrc) -> Result<Instrument, OutOfMemory>
+fn zero_of(alloc: Global, orc: &TypedOrc, library: &Library) -> Result<Instrument, OutOfMemory>
     requires rated { IsWellRated (typed.orchestra orc.now) }
+    requires noted { IsLibraryOf orc.now.spaces orc.now.routines.items library.now }
     ensures number { IfOk result (λ i. i.number ≡ 0) }
     ensures code { IfOk result (λ i. IsCodeOf orc.now.spaces orc.now.head.nchnls
         (typed.block (typed.routines orc.now.routines.items) orc.now.zero.items) i.init i.perf) }
 {
-    let mut draft = Draft::new(alloc);
-    let body = body_of(&mut draft, alloc, orc, orc.zero_locals, 0, &orc.zero)?;
+    let body = body_of(alloc, orc, library, orc.zero_locals, &orc.zero)?;
     Instrument::new(0, &body)
 }
 
 // The instruments of an orchestra.
-fn instruments_of(alloc: Global, orc: &TypedOrc) -> Result<Instruments, OutOfMemory>
+fn instruments_of(
+    alloc: Global,
+    orc: &TypedOrc,
+    library: &Library,
+) -> Result<Instruments, OutOfMemory>
     requires rated { IsWellRated (typed.orchestra orc.now) }
+    requires noted { IsLibraryOf orc.now.spaces orc.now.routines.items library.now }
     requires distinct { IsDistinct eqb (all_numbers (typed.orchestra orc.now).instrs) }
     ensures { IfOk result (λ l. AreInstrumentsOf (typed.orchestra orc.now) l) }
 {
-    let list = in_text(alloc, orc)?;
+    let list = in_text(alloc, orc, library)?;
     Ok(Instruments::of(list))
 }
 
 // The instruments in the order of the text.
-fn in_text(alloc: Global, orc: &TypedOrc) -> Result<Vec<Instrument>, OutOfMemory>
+fn in_text(alloc: Global, orc: &TypedOrc, library: &Library) -> Result<Vec<Instrument>, OutOfMemory>
     requires rated { IsWellRated (typed.orchestra orc.now) }
+    requires noted { IsLibraryOf orc.now.spaces orc.now.routines.items library.now }
     ensures { IfOk result (λ v. AllZip (IsNumberedCode orc.now.spaces orc.now.head.nchnls)
         (bodies (typed.orchestra orc.now).instrs) v.items) }
 {
     let mut list = Vec::new(alloc);
-    let mut draft = Draft::new(alloc);
     for instr in &orc.instrs {
-        add_instr(&mut draft, alloc, orc, instr, &mut list)?;
+        add_instr(alloc, orc, library, instr, &mut list)?;
     }
     Ok(list)
 }
 
 // An instrument more, under each of its numbers.
-fn add_instr<'t>(
-    draft: &mut Draft<'t>,
+fn add_instr(
     alloc: Global,
-    orc: &'t TypedOrc,
-    instr: &'t TypedInstr,
+    orc: &TypedOrc,
+    library: &Library,
+    instr: &TypedInstr,
     list: &mut Vec<Instrument>,
 ) -> Result<(), OutOfMemory>
+    requires noted { IsLibraryOf orc.now.spaces orc.now.routines.items library.now }
     requires rated { IsRatedSomewhere (typed.instrument (typed.routines orc.now.routines.items) instr.now).body }
     requires counted { EachInBlock (IsCounted instr.now.locals) (typed.instrument
         (typed.routines orc.now.routines.items) instr.now).body }
@@ -97,7 +105,7 @@ fn add_instr<'t>(
         (ps ++ numbered_with (typed.instrument
         (typed.routines orc.now.routines.items) instr.now).body instr.now.numbers) list.new.items) }
 {
-    let body = body_of(draft, alloc, orc, instr.locals, instr.line, &instr.body)?;
+    let body = body_of(alloc, orc, library, instr.locals, &instr.body)?;
     add_numbers(&body, instr.numbers.as_slice(), list)
 }
 
@@ -120,14 +128,14 @@ fn add_numbers(
 }
 
 // The codes of a block, where all its numbers find them.
-fn body_of<'t>(
-    draft: &mut Draft<'t>,
+fn body_of(
     alloc: Global,
-    orc: &'t TypedOrc,
+    orc: &TypedOrc,
+    library: &Library,
     locals: PerRate<usize>,
-    line: u32,
-    stmts: &'t [TypedStmt],
+    stmts: &[TypedStmt],
 ) -> Result<Arc<Body, Global>, OutOfMemory>
+    requires noted { IsLibraryOf orc.now.spaces orc.now.routines.items library.now }
     requires rated { IsRatedSomewhere (typed.block (typed.routines orc.now.routines.items) stmts.now) }
     requires counted { EachInBlock (IsCounted locals) (typed.block (typed.routines orc.now.routines.items) stmts.now) }
     ensures { IfOk result (λ b. (s : Setting) → IsRatedBlock s (typed.block
@@ -135,7 +143,7 @@ fn body_of<'t>(
         → IsCodeOf orc.now.spaces s.channels (typed.block
         (typed.routines orc.now.routines.items) stmts.now) b.value.init b.value.perf) }
 {
-    let codes = codes_of(draft, alloc, orc, locals, line, stmts)?;
+    let codes = codes_of(alloc, orc, library, locals, stmts)?;
     Ok(Arc::new(alloc, valid_body(codes))?)
 }
 

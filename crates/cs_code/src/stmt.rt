@@ -1,10 +1,10 @@
 // The code of statements, blocks and arms, for either pass. Each call appends to `ops`, in which each
 // op stands at its place from the first on.
 ghost use Rattle.std.specs.Prelude.{◌≡◌, ◌++◌, ◌∷◌, [], length, IfOk, OnOk};
-ghost use Rattle.cs_code.specs.inner.Kept.{past, past_block, past_arms};
+ghost use Rattle.cs_code.specs.inner.Kept.{past_block, past_arms};
 ghost use Rattle.cs_typed.specs.TypedTree as typed;
 ghost use Rattle.cs_code.specs.inner.Code.{all_code, init_block_code};
-ghost use Rattle.cs_code.specs.inner.Emitted.{frame_of, pass_block_code, cond_code, cond_reg, expression_of};
+ghost use Rattle.cs_code.specs.inner.Emitted.{frame_of, pass_block_code};
 ghost use Rattle.cs_code.specs.inner.Emitted.{scope_of, block_in, statement_in, arms_in, core_in, routine_in, invoked};
 ghost use Rattle.cs_code.specs.inner.Emitted.{each_arm_code, takes_all};
 ghost use Rattle.cs_code.specs.inner.Branches.{joined, opened, jump_at, jumps, branch_of};
@@ -12,14 +12,13 @@ ghost use Rattle.cs_code.specs.inner.Branches.{branches, past_arm, past_list, co
 ghost use Rattle.cs_code.specs.declared.frame.Pass.TheVariants as pass;
 
 use crate::args::Call;
-use crate::draft::{Draft, push};
-use crate::frame::{Bases, Context, Pass, Progress, ValueSpot, add, narrow};
+use crate::frame::{Bases, Context, Pass, Progress, add, narrow, push};
 use crate::jumps::aim_all;
-use crate::placed::{placed, tested_reg};
-use crate::subject::Subject;
+use crate::leaves::{assign, called, condition};
+use crate::noted::Routines;
 use cs_base::{OutOfMemory, PerRate, Rate};
-use cs_ir::{Act, Operands, Ops};
-use cs_typed::{TypedArm, TypedExpr, TypedStmt, TypedStmts, TypedWhat};
+use cs_ir::{Act, CodeDraft, Operands, Ops};
+use cs_typed::{TypedArm, TypedStmt, TypedWhat};
 
 /// The code of statements, and what was met before its end.
 #[derive(Drop)]
@@ -28,28 +27,20 @@ pub struct BodyCode {
     pub next: Progress,
 }
 
-// What arms stand in: the routines that they may invoke, and the line of their `if`.
-#[derive(Clone, Copy)]
-struct Within<'t> {
-    routines: &'t [TypedStmts],
-    line: u32,
-}
-
-/// The code of the statements of a note, in place of the one that was made before it.
-pub fn body_of<'t>(
-    ops: &mut Draft<'t>,
+/// The code of the statements of a note.
+pub fn body_of(
     context: Context,
-    routines: &'t [TypedStmts],
+    routines: &Routines<'_>,
     p: Progress,
-    stmts: &'t [TypedStmt],
+    stmts: &[TypedStmt],
 ) -> Result<BodyCode, OutOfMemory>
     ensures ops { IfOk result (λ m. m.ops ≡ pass_block_code context.pass (frame_of context.bases) 0
-        p (block_in (scope_of context.spaces context.bases routines.now) stmts.now)) }
+        p (block_in (scope_of context.spaces context.bases routines.now.list.now) stmts.now)) }
     ensures next { IfOk result (λ m. m.next
-        ≡ past_block p (block_in (scope_of context.spaces context.bases routines.now) stmts.now)) }
+        ≡ past_block p (block_in (scope_of context.spaces context.bases routines.now.list.now) stmts.now)) }
 {
-    ops.begin();
-    let next = block(ops, context, routines, p, stmts)?;
+    let mut ops = CodeDraft::new(context.alloc);
+    let next = block(&mut ops, context, routines, p, stmts)?;
     Ok(BodyCode {
         ops: ops.end()?,
         next,
@@ -59,18 +50,18 @@ pub fn body_of<'t>(
 /// The code of the statements of a block. Returns what was met before its end.
 #[cycle(stmt)]
 #[tactic(auto, using(crate::proofs::Chains::block_none, crate::proofs::Lists::append_nothing))]
-pub fn block<'t>(
-    ops: &mut Draft<'t>,
+pub fn block(
+    ops: &mut CodeDraft,
     context: Context,
-    routines: &'t [TypedStmts],
+    routines: &Routines<'_>,
     p: Progress,
-    stmts: &'t [TypedStmt],
+    stmts: &[TypedStmt],
 ) -> Result<Progress, OutOfMemory>
     ensures ops { OnOk result (ops.new ≡ ops.old
         ++ pass_block_code context.pass (frame_of context.bases) (length ops.old) p
-        (block_in (scope_of context.spaces context.bases routines.now) stmts.now)) }
+        (block_in (scope_of context.spaces context.bases routines.now.list.now) stmts.now)) }
     ensures next { IfOk result (λ q. q
-        ≡ past_block p (block_in (scope_of context.spaces context.bases routines.now) stmts.now)) }
+        ≡ past_block p (block_in (scope_of context.spaces context.bases routines.now.list.now) stmts.now)) }
 {
     let mut next = p;
     for s in stmts {
@@ -82,46 +73,39 @@ pub fn block<'t>(
 /// The code of a statement. Returns what was met before its end.
 #[cycle(stmt)]
 #[tactic(auto, using(crate::proofs::Calls::at_each_place, crate::proofs::Chains::taken_pass))]
-fn stmt<'t>(
-    ops: &mut Draft<'t>,
+fn stmt(
+    ops: &mut CodeDraft,
     context: Context,
-    routines: &'t [TypedStmts],
+    routines: &Routines<'_>,
     p: Progress,
-    s: &'t TypedStmt,
+    s: &TypedStmt,
 ) -> Result<Progress, OutOfMemory>
     ensures ops { OnOk result (ops.new ≡ ops.old
         ++ pass_block_code context.pass (frame_of context.bases) (length ops.old) p
-        (statement_in (scope_of context.spaces context.bases routines.now) s.now)) }
+        (statement_in (scope_of context.spaces context.bases routines.now.list.now) s.now)) }
     ensures next { IfOk result (λ q. q
-        ≡ past_block p (statement_in (scope_of context.spaces context.bases routines.now) s.now)) }
+        ≡ past_block p (statement_in (scope_of context.spaces context.bases routines.now.list.now) s.now)) }
 {
     match &s.what {
-        TypedWhat::Set(v, e) => {
-            let subject = Subject::Set(s.rate, *v, e);
-            placed(ops, context, p, s.line, &subject)
-        }
+        TypedWhat::Set(v, e) => assign(ops, context, p, s.rate, *v, e),
         TypedWhat::Call(results, opcode, args) => {
-            let subject = Subject::Call(Call {
+            let made = Call {
                 rate: s.rate,
                 results: results.as_slice(),
                 opcode: *opcode,
                 args,
-            });
-            placed(ops, context, p, s.line, &subject)
+            };
+            called(ops, context, p, &made)
         }
         TypedWhat::Choose(arms, els) => {
-            let within = Within {
-                routines,
-                line: s.line,
-            };
             if takes_all(context.pass, s.rate) {
-                let next = each_arm(ops, context, &within, p, arms)?;
+                let next = each_arm(ops, context, routines, p, arms)?;
                 block(ops, context, routines, next, els)
             } else {
                 let mut ends = Vec::new(context.alloc);
-                let last = arms_of(ops, context, &within, p, arms, &mut ends)?;
+                let last = arms_of(ops, context, routines, p, arms, &mut ends)?;
                 let done = block(ops, context, routines, last, els)?;
-                aim_all(ops, &ends);
+                aim_all(ops, &ends)?;
                 Ok(done)
             }
         }
@@ -132,24 +116,47 @@ fn stmt<'t>(
     }
 }
 
-// What the routine of a number does; nothing where there is none.
+// What the routine of a number does: as it was noted, or made anew.
 #[cycle(stmt)]
-#[tactic(auto, using(crate::proofs::Routines::no_routine))]
-fn invoke<'t>(
-    ops: &mut Draft<'t>,
+fn invoke(
+    ops: &mut CodeDraft,
     context: Context,
-    routines: &'t [TypedStmts],
+    routines: &Routines<'_>,
     p: Progress,
     number: usize,
 ) -> Result<Progress, OutOfMemory>
     ensures ops { OnOk result (ops.new ≡ ops.old
         ++ pass_block_code context.pass (frame_of context.bases) (length ops.old) p
-        (routine_in (scope_of context.spaces context.bases routines.now) number)) }
+        (routine_in (scope_of context.spaces context.bases routines.now.list.now) number)) }
     ensures next { IfOk result (λ q. q
-        ≡ past_block p (routine_in (scope_of context.spaces context.bases routines.now) number)) }
+        ≡ past_block p (routine_in (scope_of context.spaces context.bases routines.now.list.now) number)) }
 {
-    match routines.get(number) {
-        Some(routine) => block(ops, context, &routines[..number], p, routine),
+    if let Some(routine) = routines.find(&context, number) {
+        if let Some(next) = routine.say(ops, context, p)? {
+            return Ok(next);
+        }
+    }
+    expand(ops, context, routines, p, number)
+}
+
+/// What the routine of a number does, made anew; nothing where there is none.
+#[cycle(stmt)]
+#[tactic(auto, using(crate::proofs::Routines::no_routine))]
+pub fn expand(
+    ops: &mut CodeDraft,
+    context: Context,
+    routines: &Routines<'_>,
+    p: Progress,
+    number: usize,
+) -> Result<Progress, OutOfMemory>
+    ensures ops { OnOk result (ops.new ≡ ops.old
+        ++ pass_block_code context.pass (frame_of context.bases) (length ops.old) p
+        (routine_in (scope_of context.spaces context.bases routines.now.list.now) number)) }
+    ensures next { IfOk result (λ q. q
+        ≡ past_block p (routine_in (scope_of context.spaces context.bases routines.now.list.now) number)) }
+{
+    match routines.list.get(number) {
+        Some(routine) => block(ops, context, &routines.before(number), p, routine),
         None => Ok(p),
     }
 }
@@ -187,26 +194,26 @@ fn takes_all(pass: Pass, rate: Rate) -> bool
 // the places of the jumps.
 #[cycle(stmt)]
 #[tactic(auto, using(crate::proofs::Lists::append_nothing))]
-fn arms_of<'t>(
-    ops: &mut Draft<'t>,
+fn arms_of(
+    ops: &mut CodeDraft,
     context: Context,
-    within: &Within<'t>,
+    routines: &Routines<'_>,
     p: Progress,
-    arms: &'t [TypedArm],
+    arms: &[TypedArm],
     ends: &mut Vec<usize>,
 ) -> Result<Progress, OutOfMemory>
     ensures ops { OnOk result (ops.new ≡ ops.old
         ++ opened (length ops.old) (branches context.pass (frame_of context.bases)
-        (scope_of context.spaces context.bases within.now.routines.now) (length ops.old) p arms.now)) }
+        (scope_of context.spaces context.bases routines.now.list.now) (length ops.old) p arms.now)) }
     ensures ends { OnOk result (ends.new.items ≡ ends.old.items
         ++ jumps (length ops.old) (branches context.pass (frame_of context.bases)
-        (scope_of context.spaces context.bases within.now.routines.now) (length ops.old) p arms.now)) }
+        (scope_of context.spaces context.bases routines.now.list.now) (length ops.old) p arms.now)) }
     ensures next { IfOk result (λ q. q
-        ≡ past_list (scope_of context.spaces context.bases within.now.routines.now) p arms.now) }
+        ≡ past_list (scope_of context.spaces context.bases routines.now.list.now) p arms.now) }
 {
     let mut next = p;
     for a in arms {
-        next = arm(ops, context, within, next, a, ends)?;
+        next = arm(ops, context, routines, next, a, ends)?;
     }
     Ok(next)
 }
@@ -214,104 +221,85 @@ fn arms_of<'t>(
 // One of them: its condition, a jump past its body where that doesn't hold, its body, and the jump
 // past the others.
 #[cycle(stmt)]
-fn arm<'t>(
-    ops: &mut Draft<'t>,
+fn arm(
+    ops: &mut CodeDraft,
     context: Context,
-    within: &Within<'t>,
+    routines: &Routines<'_>,
     p: Progress,
-    arm: &'t TypedArm,
+    arm: &TypedArm,
     ends: &mut Vec<usize>,
 ) -> Result<Progress, OutOfMemory>
     ensures ops { OnOk result (ops.new ≡ ops.old
         ++ joined (length ops.old) (branch_of context.pass (frame_of context.bases)
-        (scope_of context.spaces context.bases within.now.routines.now) (length ops.old) p arm.now) 0) }
+        (scope_of context.spaces context.bases routines.now.list.now) (length ops.old) p arm.now) 0) }
     ensures ends { OnOk result (ends.new.items ≡ ends.old.items
         ++ jump_at (length ops.old) (branch_of context.pass (frame_of context.bases)
-        (scope_of context.spaces context.bases within.now.routines.now) (length ops.old) p arm.now) ∷ []) }
+        (scope_of context.spaces context.bases routines.now.list.now) (length ops.old) p arm.now) ∷ []) }
     ensures next { IfOk result (λ q. q
-        ≡ past_arm (scope_of context.spaces context.bases within.now.routines.now) p arm.now) }
+        ≡ past_arm (scope_of context.spaces context.bases routines.now.list.now) p arm.now) }
 {
-    let spot = condition(ops, context, p, within.line, &arm.cond)?;
+    let spot = condition(ops, context, p.part, &arm.cond)?;
     let test = ops.len();
     push(ops, Act::Unless(0), spot.reg, Operands::one(spot.reg))?;
     let at = Progress {
         part: spot.next,
         unit: p.unit,
     };
-    let next = block(ops, context, within.routines, at, &arm.body)?;
+    let next = block(ops, context, routines, at, &arm.body)?;
     ends.push(ops.len())?;
     push(ops, Act::Jump(0), spot.reg, Operands::none())?;
     let past = ops.len();
-    ops.aim(test, past);
+    ops.aim(test, past)?;
     Ok(next)
-}
-
-// The condition of an arm, of an `if` on a line.
-fn condition<'t>(
-    ops: &mut Draft<'t>,
-    context: Context,
-    p: Progress,
-    line: u32,
-    e: &'t TypedExpr,
-) -> Result<ValueSpot, OutOfMemory>
-    ensures ops { OnOk result (ops.new ≡ ops.old
-        ++ cond_code context.pass (frame_of context.bases) p.part (expression_of context.bases e.now)) }
-    ensures reg { IfOk result (λ s. s.reg ≡ cond_reg context.pass (frame_of context.bases) p.part
-        (expression_of context.bases e.now)) }
-    ensures next { IfOk result (λ s. s.next ≡ past p.part (expression_of context.bases e.now)) }
-{
-    let reg = tested_reg(context, p.part, e)?;
-    let next = placed(ops, context, p, line, &Subject::Condition(e))?;
-    Ok(ValueSpot {
-        reg,
-        next: next.part,
-    })
 }
 
 // Arms that are all initialised, since nothing is chosen yet.
 #[cycle(stmt)]
-fn each_arm<'t>(
-    ops: &mut Draft<'t>,
+fn each_arm(
+    ops: &mut CodeDraft,
     context: Context,
-    within: &Within<'t>,
+    routines: &Routines<'_>,
     p: Progress,
-    arms: &'t [TypedArm],
+    arms: &[TypedArm],
 ) -> Result<Progress, OutOfMemory>
     requires { context.pass ≡ pass.Initialisation }
     ensures ops { IfOk result (λ q. (els : typed.Block)
         → ops.new ++ init_block_code (frame_of context.bases) (length ops.new)
-        q (core_in (scope_of context.spaces context.bases within.now.routines.now) els)
+        q (core_in (scope_of context.spaces context.bases routines.now.list.now) els)
         ≡ ops.old ++ all_code (frame_of context.bases) (length ops.old)
-        p (arms_in (scope_of context.spaces context.bases within.now.routines.now) els arms.now)) }
+        p (arms_in (scope_of context.spaces context.bases routines.now.list.now) els arms.now)) }
     ensures next { IfOk result (λ q. (els : typed.Block)
-        → past_block q (core_in (scope_of context.spaces context.bases within.now.routines.now) els)
-        ≡ past_arms p (arms_in (scope_of context.spaces context.bases within.now.routines.now) els arms.now)) }
+        → past_block q (core_in (scope_of context.spaces context.bases routines.now.list.now) els)
+        ≡ past_arms p (arms_in (scope_of context.spaces context.bases routines.now.list.now) els arms.now)) }
 {
     let mut next = p;
     for a in arms {
-        next = one_arm(ops, context, within, next, a)?;
+        next = one_arm(ops, context, routines, next, a)?;
     }
     Ok(next)
 }
 
 // One of them.
 #[cycle(stmt)]
-fn one_arm<'t>(
-    ops: &mut Draft<'t>,
+fn one_arm(
+    ops: &mut CodeDraft,
     context: Context,
-    within: &Within<'t>,
+    routines: &Routines<'_>,
     p: Progress,
-    arm: &'t TypedArm,
+    arm: &TypedArm,
 ) -> Result<Progress, OutOfMemory>
     requires { context.pass ≡ pass.Initialisation }
     ensures ops { OnOk result (ops.new ≡ ops.old
         ++ each_arm_code (frame_of context.bases) (length ops.old) p
-        (condition_of (scope_of context.spaces context.bases within.now.routines.now) arm.now)
-        (body_of (scope_of context.spaces context.bases within.now.routines.now) arm.now)) }
+        (condition_of (scope_of context.spaces context.bases routines.now.list.now) arm.now)
+        (body_of (scope_of context.spaces context.bases routines.now.list.now) arm.now)) }
     ensures next { IfOk result (λ q. q
-        ≡ past_arm (scope_of context.spaces context.bases within.now.routines.now) p arm.now) }
+        ≡ past_arm (scope_of context.spaces context.bases routines.now.list.now) p arm.now) }
 {
-    let subject = Subject::Condition(&arm.cond);
-    let at = placed(ops, context, p, within.line, &subject)?;
-    block(ops, context, within.routines, at, &arm.body)
+    let spot = condition(ops, context, p.part, &arm.cond)?;
+    let at = Progress {
+        part: spot.next,
+        unit: p.unit,
+    };
+    block(ops, context, routines, at, &arm.body)
 }

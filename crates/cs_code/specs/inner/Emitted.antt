@@ -124,9 +124,13 @@ scope_of spaces b list = record { spaces = spaces; locals = b.locals; routines =
 abbrev pub invoked : Context → PerRate ℕ → Context
 invoked c base = record c { bases = record c.bases { locals = typed.counts_with c.bases.locals base } }
 
--- a block of the tree as it is lowered; statements, one of them, and what the routine of a number does
+-- a block of the tree as it is lowered; a statement that stands alone; statements, one of them, and what the routine
+-- of a number does
 abbrev pub core_in : Scope → typed.Block → Block
 core_in o b = core o.spaces (typed.moved_block o.locals b)
+
+abbrev pub alone_in : Spaces → Bases → typed.Statement → Block
+alone_in spaces b x = core spaces (typed.moved_block b.locals (typed.alone x))
 
 abbrev pub block_in : Scope → List TypedStmt → Block
 block_in o stmts = core_in o (typed.block o.routines stmts)

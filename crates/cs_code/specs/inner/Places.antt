@@ -2,6 +2,7 @@
 use Rattle.std.specs.Prelude.{ℕ, ◌+◌, ◌^◌, ◌≤◌}
 use Rattle.cs_base.specs.declared.per_rate.PerRate.{PerRate}
 use Rattle.cs_ir.specs.declared.origin.Origin.{Origin}
+use Rattle.cs_typed.specs.TypedTree.{no_counts}
 use Rattle.cs_code.specs.declared.frame.Bases.{Bases}
 use Rattle.cs_code.specs.declared.frame.Pass.{Pass}
 use Rattle.cs_code.specs.declared.frame.Pass.TheVariants as pass
@@ -13,14 +14,23 @@ abbrev pub temporaries_in : Pass → Bases → PerRate ℕ
 temporaries_in pass.Initialisation b = b.temporaries
 temporaries_in pass.Performance b = record b.temporaries { init = 2 ^ 31 }
 
--- where the ops of a statement begin to count
-abbrev pub origin_of : Pass → Bases → Progress → Origin
-origin_of pass b p = record {
+-- where the ops of a statement begin to count, whose code begins at a place
+abbrev pub origin_of : Pass → Bases → Progress → ℕ → Origin
+origin_of pass b p at = record {
   locals = b.locals;
   kept = b.kept;
   part = p.part;
   temporaries = temporaries_in pass b;
   unit = p.unit;
+  place = at;
+}
+
+-- the registers of a routine's own code, with these local variables
+abbrev pub own_bases : PerRate ℕ → Bases
+own_bases counts = record {
+  locals = no_counts;
+  kept = counts.init;
+  temporaries = record counts { init = 2 ^ 31 };
 }
 
 -- A statement has room at an origin, whose local variables have numbers below these and that keeps so many values:

@@ -1,0 +1,102 @@
+// The code of what is no `if` and invokes nothing: assignments, calls, and the conditions of arms.
+ghost use Rattle.std.specs.Prelude.{◌≡◌, ◌++◌, length, map, IfOk, OnOk};
+ghost use Rattle.cs_typed.specs.TypedTree as typed;
+ghost use Rattle.cs_code.specs.inner.Emitted.{alone_in, cond_code, cond_reg, expression_of, frame_of, pass_block_code};
+ghost use Rattle.cs_code.specs.inner.Kept.{past, past_block};
+
+use crate::args::Call;
+use crate::call;
+use crate::expr::{keep, operand, operand_reg};
+use crate::frame::{Context, Pass, Progress, ValueSpot, kept_reg};
+use crate::simple::{self, Assignment};
+use crate::value::Value;
+use cs_base::{OutOfMemory, Rate};
+use cs_ir::{CodeDraft, Reg};
+use cs_typed::{TypedExpr, Var};
+
+/// A variable takes the value of an expression, as often as the rate says. Returns what was met before the end.
+pub fn assign(
+    ops: &mut CodeDraft,
+    context: Context,
+    p: Progress,
+    done: Rate,
+    to: Var,
+    e: &TypedExpr,
+) -> Result<Progress, OutOfMemory>
+    ensures ops { OnOk result (ops.new ≡ ops.old
+        ++ pass_block_code context.pass (frame_of context.bases) (length ops.old) p
+        (alone_in context.spaces context.bases (typed.set 0 done to (typed.expression e.now)))) }
+    ensures next { IfOk result (λ q. q
+        ≡ past_block p (alone_in context.spaces context.bases (typed.set 0 done to (typed.expression e.now)))) }
+{
+    let assignment = Assignment {
+        done,
+        to,
+        value: Value::Of(e),
+    };
+    simple::assign(ops, context, p, &assignment)
+}
+
+/// The code of a call. Returns what was met before its end.
+pub fn called(
+    ops: &mut CodeDraft,
+    context: Context,
+    p: Progress,
+    made: &Call<'_>,
+) -> Result<Progress, OutOfMemory>
+    ensures ops { OnOk result (ops.new ≡ ops.old
+        ++ pass_block_code context.pass (frame_of context.bases) (length ops.old) p
+        (alone_in context.spaces context.bases (typed.call 0 made.now.rate made.now.results.now made.now.opcode
+        (map typed.argument made.now.args.now)))) }
+    ensures next { IfOk result (λ q. q
+        ≡ past_block p (alone_in context.spaces context.bases (typed.call 0 made.now.rate made.now.results.now
+        made.now.opcode (map typed.argument made.now.args.now)))) }
+{
+    call::call(ops, context, p, made)
+}
+
+/// The code of a condition, and where it stands.
+pub fn condition(
+    ops: &mut CodeDraft,
+    context: Context,
+    at: u32,
+    e: &TypedExpr,
+) -> Result<ValueSpot, OutOfMemory>
+    ensures ops { OnOk result (ops.new ≡ ops.old
+        ++ cond_code context.pass (frame_of context.bases) at (expression_of context.bases e.now)) }
+    ensures reg { IfOk result (λ s. s.reg ≡ cond_reg context.pass (frame_of context.bases) at
+        (expression_of context.bases e.now)) }
+    ensures next { IfOk result (λ s. s.next ≡ past at (expression_of context.bases e.now)) }
+{
+    Ok(ValueSpot {
+        reg: tested_reg(context, at, e)?,
+        next: tested(ops, context, at, e)?,
+    })
+}
+
+// What is tested of a condition. Returns the number of the next kept value.
+#[tactic(auto, using(crate::proofs::Chains::tested))]
+fn tested(ops: &mut CodeDraft, context: Context, at: u32, e: &TypedExpr) -> Result<u32, OutOfMemory>
+    ensures ops { OnOk result (ops.new ≡ ops.old
+        ++ cond_code context.pass (frame_of context.bases) at (expression_of context.bases e.now)) }
+    ensures next { IfOk result (λ n. n ≡ past at (expression_of context.bases e.now)) }
+{
+    match context.pass {
+        Pass::Initialisation => keep(ops, context, at, e),
+        Pass::Performance => {
+            let spot = operand(ops, context, at, e, 0)?;
+            Ok(spot.next)
+        }
+    }
+}
+
+// Where a condition stands that is tested.
+fn tested_reg(context: Context, at: u32, e: &TypedExpr) -> Result<Reg, OutOfMemory>
+    ensures { IfOk result (λ q. q ≡ cond_reg context.pass (frame_of context.bases) at
+        (expression_of context.bases e.now)) }
+{
+    match context.pass {
+        Pass::Initialisation => kept_reg(context.bases, at),
+        Pass::Performance => operand_reg(context, at, e, 0),
+    }
+}
