@@ -49,45 +49,12 @@ left_over_flipped x (negsuc d) h =
 not_zero : (d : ℕ) → 0 < d → int_eq (pos d) (pos 0) ≡ false
 not_zero d h = grind (arith, ints, nat_tests)
 
-remainder_of_pos : (x : ℤ) (d : ℕ) → 0 < d → remainder_of x (pos d) ≡ int_rem_euclid x (pos d)
-remainder_of_pos x d h = rw (not_zero d h) (left_over x d h)
-
-pub remainder_above : (x y : ℤ) → pos 0 <ℤ y → (pos 0 ≤ℤ remainder_of x y) × (remainder_of x y <ℤ y)
-remainder_above x (pos d) h =
-    let positive : 0 < d = omega (arith, ints) in
-    let is = remainder_of_pos x d positive in
-    (rw is (left_over_low x d), rw is (left_over_high x d positive))
-remainder_above x (negsuc d) h = absurd (omega (arith, ints))
-
-pub remainder_below : (x y : ℤ) → y <ℤ pos 0 → (y <ℤ remainder_of x y) × (remainder_of x y ≤ℤ pos 0)
-remainder_below x (pos d) h = absurd (omega (arith, ints))
-remainder_below x (negsuc d) h =
-    let flip = left_over_flipped x (negsuc d) h in
-    let low = left_over_low (neg_ℤ x) (suc d) in
-    let high = left_over_high (neg_ℤ x) (suc d) (omega arith) in
-    (omega (arith, ints, flip, high), omega (arith, ints, flip, low))
-
-pub remainder_in_range : (x y : ℤ) → IsRaw y → IsRaw (remainder_of x y)
-remainder_in_range x (pos zero) h = (omega (arith, ints), omega (arith, ints))
-remainder_in_range x (pos (suc d)) h =
-    let part = remainder_above x (pos (suc d)) (omega (arith, ints)) in
-    (omega (arith, ints), omega (arith, ints))
-remainder_in_range x (negsuc d) h =
-    let part = remainder_below x (negsuc d) (omega (arith, ints)) in
-    (omega (arith, ints), omega (arith, ints))
-
 pub floor_below : (x : ℤ) → (floor_of x ≤ℤ x) × (x <ℤ (floor_of x +ℤ one))
 floor_below x =
     let left = left_over x 65536 (omega arith) in
     let low = left_over_low x 65536 in
     let high = left_over_high x 65536 (omega arith) in
     (omega (arith, ints, left, low), omega (arith, ints, left, high))
-
-pub floor_in_range : (x : ℤ) → IsRaw x → IsRaw (floor_of x)
-floor_in_range x h =
-    let below = floor_below x in
-    let whole : floor_of x ≡ floor_div x one *ℤ one = refl in
-    (omega (arith, ints), omega (arith, ints))
 
 not_negative : (x : ℤ) → pos 0 ≤ℤ x → is_negative x ≡ false
 not_negative x h = grind (arith, ints)
@@ -109,29 +76,6 @@ int_below_zero x h low =
     let below = floor_below (neg_ℤ x) in
     let positive = floor_of_positive (neg_ℤ x) (omega (arith, ints)) in
     rw (negative x low) (clamp_same (neg_ℤ (floor_of (neg_ℤ x))) (omega (arith, ints), omega (arith, ints)))
-
-pub int_below : (x : ℤ) → pos 0 ≤ℤ x → (pos 0 ≤ℤ int_of x) × (int_of x ≤ℤ x) × (x <ℤ (int_of x +ℤ one))
-int_below x low =
-    let below = floor_below x in
-    rw (int_from_zero x low) (floor_of_positive x low, below.0, below.1)
-
-pub int_above : (x : ℤ) → IsRaw x → x <ℤ pos 0 → (int_of x ≤ℤ pos 0) × (x ≤ℤ int_of x) × (int_of x <ℤ (x +ℤ one))
-int_above x h high =
-    let below = floor_below (neg_ℤ x) in
-    let positive = floor_of_positive (neg_ℤ x) (omega (arith, ints)) in
-    rw (int_below_zero x h high) (omega (arith, ints), omega (arith, ints), omega (arith, ints))
-
-pub int_in_range : (x : ℤ) → IsRaw x → IsRaw (int_of x)
-int_in_range x h = by_lt_z x (pos 0)
-    (λ low. let part = int_above x h low in (omega (arith, ints), omega (arith, ints)))
-    (λ high. let part = int_below x high in (omega (arith, ints), omega (arith, ints)))
-
-pub frac_in_range : (x : ℤ) → IsRaw x → IsRaw (frac_of x)
-frac_in_range x h =
-    let is : frac_of x ≡ x -ℤ int_of x = refl in
-    by_lt_z x (pos 0)
-    (λ low. let part = int_above x h low in (omega (arith, ints), omega (arith, ints)))
-    (λ high. let part = int_below x high in (omega (arith, ints), omega (arith, ints)))
 
 sums_back : (x y : ℤ) → y +ℤ (x -ℤ y) ≡ x
 sums_back x y = omega (arith, ints)

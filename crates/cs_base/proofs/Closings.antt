@@ -61,12 +61,6 @@ close_next text at l h =
     let split = drop_more text at 0 l in
     ap close_of split ∙ close_later (get_or text at 0) (drop (at + 1) text) (sym (ap closes split) ∙ h)
 
-pub close_here : (text : List ℕ) (at : ℕ) → at < length text → closes (drop at text) ≡ true
-    → close_of (drop at text) ≡ 0
-close_here text at l h =
-    let split = drop_more text at 0 l in
-    ap close_of split ∙ close_at_once (get_or text at 0) (drop (at + 1) text) (sym (ap closes split) ∙ h)
-
 there : (text : List ℕ) → close_of text < length text → list_any closes (tails text) ≡ true
 there text l = let e : nat_lt (close_of text) (length text) ≡ true =
     grind (arith, nat_tests, l) in sym (close_is_there text) ∙ e

@@ -5,3 +5,5 @@ pub mod Texts
 pub mod Closings
 pub mod Rates
 pub mod LineCuts
+pub mod Quotients
+pub mod Inverses

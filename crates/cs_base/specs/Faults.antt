@@ -5,6 +5,8 @@ use Rattle.cs_base.specs.declared.fault.Or.TheVariants as or
 use Rattle.cs_base.specs.declared.limit.Limit.{Limit}
 use Rattle.cs_base.specs.declared.refusal.Refusal.{Refusal}
 use Rattle.cs_base.specs.declared.refusal.Refusal.TheVariants as refusal
+use Rattle.cs_base.specs.declared.fault.CsdKind.{CsdKind}
+use Rattle.cs_base.specs.declared.fault.CsdKind.TheVariants as csd
 use Rattle.cs_base.specs.declared.fault.OrcKind.{OrcKind}
 use Rattle.cs_base.specs.declared.fault.OrcKind.TheVariants as orc
 use Rattle.cs_base.specs.declared.fault.ScoreKind.{ScoreKind}
@@ -88,6 +90,18 @@ score_kind_name score.TableResized = codes "TableResized"
 score_kind_name score.NegativeTime = codes "NegativeTime"
 score_kind_name score.NotInProfile = codes "NotInProfile"
 
+-- the number of a kind of fault of the tags of a file with both texts
+abbrev pub csd_kind_number : CsdKind → ℕ
+csd_kind_number csd.MissingTag = 1
+csd_kind_number csd.SectionTwice = 2
+csd_kind_number csd.NotInProfile = 3
+
+-- its name
+abbrev pub csd_kind_name : CsdKind → List ℕ
+csd_kind_name csd.MissingTag = codes "MissingTag"
+csd_kind_name csd.SectionTwice = codes "SectionTwice"
+csd_kind_name csd.NotInProfile = codes "NotInProfile"
+
 -- a limit that no line of a text passes
 abbrev pub passed : Limit → Refusal
 passed limit = refusal.Limit (record { limit = limit; line = 0 })
@@ -96,8 +110,3 @@ passed limit = refusal.Limit (record { limit = limit; line = 0 })
 abbrev pub or_by : {F G : Type 0} → (F → G) → Or F → Or G
 or_by told (or.Fault f) = or.Fault (told f)
 or_by told or.OutOfMemory = or.OutOfMemory
-
--- a result whose faults are told as others
-abbrev pub told_by : {A F G : Type 0} → (F → G) → Result A (Or F) → Result A (Or G)
-told_by told (Ok a) = Ok a
-told_by told (Err e) = Err (or_by told e)

@@ -7,3 +7,4 @@ pub mod Lines
 pub mod Numbers
 pub mod Rates
 pub mod Widths
+pub mod inner

@@ -1,7 +1,8 @@
 // What a text is refused for: each fault has the line at which it stands and its one kind.
 ghost use Rattle.std.specs.Prelude.{◌≡◌};
 ghost use Rattle.cs_base.specs.declared.fault.Or.TheVariants as or;
-ghost use Rattle.cs_base.specs.Faults.{orc_kind_number, orc_kind_name, score_kind_number, score_kind_name};
+ghost use Rattle.cs_base.specs.Faults.{csd_kind_number, csd_kind_name, orc_kind_number, orc_kind_name};
+ghost use Rattle.cs_base.specs.Faults.{score_kind_number, score_kind_name};
 
 use std::alloc::{AllocError, AllocFailed};
 use thiserror::Error;
@@ -177,4 +178,42 @@ pub struct OrcFault {
 pub struct ScoreFault {
     pub line: u32,
     pub kind: ScoreKind,
+}
+
+/// The kinds of fault of the tags of a file with both texts.
+#[derive(Clone, Copy, Debug, PartialEq, Eq)]
+pub enum CsdKind {
+    /// The file ends before a tag that is still needed, or has no `<CsInstruments>`.
+    MissingTag = 1,
+    /// A section is opened that stood before.
+    SectionTwice = 2,
+    /// A line between sections that is no tag of the profile.
+    NotInProfile = 3,
+}
+
+impl CsdKind {
+    /// The kind's number, from 1 to 3, as a refusal prints it.
+    pub fn number(self) -> u8
+        ensures { result ≡ csd_kind_number self }
+    {
+        self as u8
+    }
+
+    /// The kind's name, as a refusal prints it.
+    pub fn name(self) -> &'static str
+        ensures { result.now ≡ csd_kind_name self }
+    {
+        match self {
+            CsdKind::MissingTag => "MissingTag",
+            CsdKind::SectionTwice => "SectionTwice",
+            CsdKind::NotInProfile => "NotInProfile",
+        }
+    }
+}
+
+/// The first broken rule of the tags of a file with both texts. Lines count from 1.
+#[derive(Clone, Copy, Debug, PartialEq, Eq)]
+pub struct CsdFault {
+    pub line: u32,
+    pub kind: CsdKind,
 }

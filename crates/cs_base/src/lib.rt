@@ -5,15 +5,16 @@
 //! computes, and how a decimal or a comment is read, may be changed without anyone above noticing; the definitions in
 //! specs/ may not.
 //!
-//! To be read in this order: `number` (arithmetic), `laws` (what holds of the definitions, and worked examples),
-//! `decimal` (numbers as a text writes them), `excerpt` (a text in a file), `lines` and `comments` (what both languages
-//! have between their words), `fault`, `limit` and `refusal` (what a text is refused for), `head`, `resource` (rates,
-//! and what notes share), `per_rate`, `spaces`, `width` (the width of a sample), `items` (the one list type), `text`,
-//! `steps`.
+//! To be read in this order: `number` (arithmetic), `divisor` (many quotients by one number), `laws` (what holds of the
+//! definitions, and worked examples), `decimal` (numbers as a text writes them), `excerpt` (a text in a file), `lines`
+//! and `comments` (what both languages have between their words), `fault`, `limit` and `refusal` (what a text is refused
+//! for), `head`, `resource` (rates, and what notes share), `per_rate`, `spaces`, `width` (the width of a sample),
+//! `items` (the one list type), `text`, `steps`.
 #![tactic(auto)]
 
 mod comments;
 mod decimal;
+mod divisor;
 mod excerpt;
 mod fault;
 mod head;
@@ -32,8 +33,9 @@ mod width;
 
 pub use comments::{begins_comment, comment_len, is_open_comment};
 pub use decimal::{Decimal, read_decimal};
+pub use divisor::Divisor;
 pub use excerpt::Excerpt;
-pub use fault::{Or, OrcFault, OrcKind, OutOfMemory, ScoreFault, ScoreKind};
+pub use fault::{CsdFault, CsdKind, Or, OrcFault, OrcKind, OutOfMemory, ScoreFault, ScoreKind};
 pub use head::Head;
 pub use items::{Bytes, Items, Name, Names, Numbers, Nums, Places, Rates};
 pub use laws::{

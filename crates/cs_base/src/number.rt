@@ -1,10 +1,12 @@
 // A number of the profile is a whole count of 65,536ths; nothing anywhere is floating point.
 ghost use Rattle.std.specs.Prelude.{◌≡◌, ◌≢◌, ◌<◌, ◌^◌, pos, ◌*ℤ◌, ◌≤ℤ◌, ◌<ℤ◌, neg_ℤ, unsigned_abs, IsTrue};
 ghost use Rattle.std.specs.Prelude.{◌↔◌};
+ghost use Rattle.std.specs.Ordering.{int_cmp};
 ghost use Rattle.cs_base.specs.Numbers.{IsRaw, clamp, one, floor_div, sum_of, difference_of, product_of};
 ghost use Rattle.cs_base.specs.Numbers.{quotient_by_zero, quotient_of, remainder_of, floor_of, int_of, frac_of, abs_of};
 ghost use Rattle.cs_base.specs.Numbers.{whole_below};
 
+use std::cmp::Ordering;
 use std::marker::Model;
 
 const LEAST: i64 = -140_737_488_355_328;
@@ -186,6 +188,14 @@ impl Num {
         ensures { result ≡ abs_of self }
     {
         Num::of_raw(self.raw.abs())
+    }
+
+    /// Whether it is less than `other`, equal to it or greater.
+    #[inline(always)]
+    pub fn compare(self, other: Num) -> Ordering
+        ensures { result ≡ int_cmp self other }
+    {
+        self.raw.cmp(&other.raw)
     }
 }
 

@@ -1,11 +1,11 @@
-// What an orchestra and a score are refused for, as one type from the first text that is read on.
+// What the texts of a piece are refused for, as one type from the first text that is read to the status.
 ghost use Rattle.std.specs.Prelude.{◌≡◌};
 ghost use Rattle.cs_base.specs.Faults.{or_by, passed};
 ghost use Rattle.cs_base.specs.declared.refusal.Refusal.TheVariants as refusal;
 
-use crate::{Limit, LimitHit, Or, OrcFault, ScoreFault};
+use crate::{CsdFault, Limit, LimitHit, Or, OrcFault, ScoreFault};
 
-/// The first refusal of an orchestra and a score.
+/// The first refusal of a piece's texts, with its line in the file in which it stands, or 0 where it has none.
 #[derive(Clone, Copy, Debug, PartialEq, Eq)]
 pub enum Refusal {
     /// A broken rule of the orchestra.
@@ -14,6 +14,8 @@ pub enum Refusal {
     Score(ScoreFault),
     /// A limit of either text, or of both together: then at line 0.
     Limit(LimitHit),
+    /// A broken rule of the tags of a file with both texts.
+    Csd(CsdFault),
 }
 
 impl Refusal {

@@ -5,7 +5,7 @@ use Rattle.std.specs.List.{All}
 use Rattle.std.proofs.lemmas.List.Elements.{All-head, All-tail}
 use Rattle.cs_csd.specs.declared.line.Section.{Section}
 use Rattle.cs_csd.specs.declared.line.Section.TheVariants as section
-use Rattle.cs_csd.specs.declared.part.CsdFault.{CsdFault}
+use Rattle.cs_base.specs.declared.fault.CsdFault.{CsdFault}
 use Rattle.cs_csd.specs.declared.part.Part.{Part}
 use Rattle.cs_csd.specs.declared.part.Parts.{Parts}
 use Rattle.cs_csd.specs.declared.scan.SectionsFound.{SectionsFound}

@@ -6,9 +6,9 @@ use Rattle.std.specs.Option.{is_some}
 use Rattle.cs_csd.specs.declared.line.LineMark.TheVariants as mark
 use Rattle.cs_csd.specs.declared.line.Section.{Section}
 use Rattle.cs_csd.specs.declared.line.Section.TheVariants as section
-use Rattle.cs_csd.specs.declared.part.CsdFault.{CsdFault}
-use Rattle.cs_csd.specs.declared.part.CsdKind.{CsdKind}
-use Rattle.cs_csd.specs.declared.part.CsdKind.TheVariants as kind
+use Rattle.cs_base.specs.declared.fault.CsdFault.{CsdFault}
+use Rattle.cs_base.specs.declared.fault.CsdKind.{CsdKind}
+use Rattle.cs_base.specs.declared.fault.CsdKind.TheVariants as kind
 use Rattle.cs_csd.specs.declared.part.Part.{Part}
 use Rattle.cs_csd.specs.declared.part.Parts.{Parts}
 use Rattle.cs_csd.specs.declared.scan.SectionsFound.{SectionsFound}

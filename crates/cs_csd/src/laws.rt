@@ -1,8 +1,8 @@
 // What holds of every file, and worked examples: calls that do nothing, whose contracts are the laws.
 ghost use Rattle.std.specs.Prelude.{◌≡◌, ℕ, List, Result, Ok, Err, codes, ◌++◌};
 ghost use Rattle.cs_csd.specs.Sections.{BeginsOnItsLine, Reading, fault};
-ghost use Rattle.cs_csd.specs.declared.part.CsdFault.{CsdFault};
-ghost use Rattle.cs_csd.specs.declared.part.CsdKind.TheVariants as kind;
+ghost use Rattle.cs_base.specs.declared.fault.CsdFault.{CsdFault};
+ghost use Rattle.cs_base.specs.declared.fault.CsdKind.TheVariants as kind;
 ghost use Rattle.cs_csd.specs.declared.part.Parts.{Parts};
 
 /// Each file has a reading, and no two.

@@ -6,17 +6,15 @@
 //! may be changed without anyone above noticing.
 //!
 //! To be read in this order: `part` (what comes out), `line` (what a line says), `scan` (line after line), `split`,
-//! `laws`; `refused` (why the texts of a piece are refused, with the line in the file).
+//! `laws`.
 #![tactic(auto)]
 
 mod laws;
 mod line;
 mod part;
-mod refused;
 mod scan;
 mod split;
 
 pub use laws::{files_worked_by_hand, one_reading, parts_begin_on_their_lines};
-pub use part::{CsdFault, CsdKind, Part, Parts};
-pub use refused::Refused;
+pub use part::{Part, Parts};
 pub use split::split_csd;

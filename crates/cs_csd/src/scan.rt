@@ -7,7 +7,8 @@ ghost use Rattle.cs_csd.specs.Sections.{fault, nothing_found, stood, with_sectio
 ghost use Rattle.cs_csd.specs.inner.Scan.{begun, finish, inside, marked, opened, step, stopped};
 
 use crate::line::{LineMark, Section, is_start, mark_of};
-use crate::{CsdFault, CsdKind, Part, Parts};
+use crate::{Part, Parts};
+use cs_base::{CsdFault, CsdKind};
 
 /// The sections that stood before; what the options say isn't kept.
 #[derive(Clone, Copy)]

@@ -3,9 +3,9 @@ ghost use Rattle.std.specs.Prelude.{◌≤◌, length};
 ghost use Rattle.cs_base.specs.Limits.{most_csd_bytes};
 ghost use Rattle.cs_csd.specs.Sections.{Reading};
 
+use crate::Parts;
 use crate::scan::ScanState;
-use crate::{CsdFault, Parts};
-use cs_base::{line_len, next_len};
+use cs_base::{CsdFault, line_len, next_len};
 
 /// Where the orchestra and the score stand in a file, or the first fault of its tags. It can't be out of memory.
 pub fn split_csd(text: &[u8]) -> Result<Parts, CsdFault>

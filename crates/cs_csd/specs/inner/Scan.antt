@@ -4,8 +4,8 @@ use Rattle.std.specs.Prelude.{if◌then◌else◌}
 use Rattle.cs_csd.specs.declared.line.LineMark.{LineMark}
 use Rattle.cs_csd.specs.declared.line.LineMark.TheVariants as mark
 use Rattle.cs_csd.specs.declared.line.Section.{Section}
-use Rattle.cs_csd.specs.declared.part.CsdFault.{CsdFault}
-use Rattle.cs_csd.specs.declared.part.CsdKind.TheVariants as kind
+use Rattle.cs_base.specs.declared.fault.CsdFault.{CsdFault}
+use Rattle.cs_base.specs.declared.fault.CsdKind.TheVariants as kind
 use Rattle.cs_csd.specs.declared.part.Part.{Part}
 use Rattle.cs_csd.specs.declared.part.Parts.{Parts}
 use Rattle.cs_csd.specs.declared.scan.SectionsFound.{SectionsFound}
