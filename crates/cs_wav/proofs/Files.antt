@@ -1,12 +1,10 @@
 -- The file of a mix, for the layers that write it piece by piece.
-use Rattle.std.proofs.Common.{◌≡◌, ℕ, ◌+◌, ◌*◌, ◌%◌, ℤ, List, [], ◌∷◌, ◌++◌, length, refl, ap, ◌∙◌, arith}
-use Rattle.std.proofs.lemmas.List.{append-nil, length-append}
+use Rattle.std.proofs.Common.{◌≡◌, ℕ, ◌+◌, ◌*◌, ℤ, List, [], ◌∷◌, ◌++◌, length, refl, ap, ◌∙◌, arith}
+use Rattle.std.proofs.lemmas.List.{length-append}
 use Rattle.std.proofs.lemmas.List.Concat.{flat_map-append}
 use Rattle.cs_base.specs.Widths.{bytes_of}
-use Rattle.cs_base.specs.declared.head.Head.{Head}
 use Rattle.cs_base.specs.declared.width.SampleWidth.{SampleWidth}
-use Rattle.cs_base.specs.declared.width.SampleWidth.TheVariants.{TwoBytes}
-use Rattle.cs_wav.specs.Wav.{sample_bytes, samples_of, header_bytes, wav_of}
+use Rattle.cs_wav.specs.Wav.{sample_bytes, samples_of}
 use Rattle.cs_wav.proofs.Samples.{length-sample_bytes}
 
 -- no mix, no samples
@@ -30,11 +28,3 @@ length-samples_of w dbfs (x ∷ xs) =
     ∙ ap (λ (n : ℕ). n + length (samples_of w dbfs xs)) (length-sample_bytes w dbfs x)
     ∙ ap (λ (n : ℕ). bytes_of w + n) (length-samples_of w dbfs xs)
     ∙ (let more : bytes_of w + length xs * bytes_of w ≡ length (x ∷ xs) * bytes_of w = omega arith in more)
-
--- a file of 16 bits is a header and samples
-pub wav_of-narrow : (mix : List ℤ) (head : Head)
-    → wav_of mix head TwoBytes ≡ header_bytes TwoBytes (length mix * 2) head ++ samples_of TwoBytes head.dbfs mix
-unfolding wav_of
-wav_of-narrow mix head =
-    let even : length mix * 2 % 2 ≡ 0 = omega arith in
-    rw (even, append-nil) refl

@@ -1,3 +1,4 @@
 pub mod Files
 pub mod Samples
+pub mod Scales
 pub mod Sums

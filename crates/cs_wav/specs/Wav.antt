@@ -24,11 +24,11 @@ abbrev pub is_out_of_range : SampleWidth → ℤ → ℤ → Bool
 is_out_of_range width dbfs mix =
     int_lt (level width dbfs mix) (least_of width) || int_lt (greatest_of width) (level width dbfs mix)
 
--- a number's lowest bytes, so many, the lowest first
+-- the lowest `bytes` bytes of a number, the lowest first
 abbrev pub little_bytes : ℕ → ℕ → List ℕ
 little_bytes bytes number = bytes_low_first 0 bytes number
 
--- a signed number in the two's complement of so many bytes
+-- a signed number in the two's complement of `bytes` bytes
 abbrev pub complement : ℕ → ℤ → ℕ
 complement bytes (pos n) = n
 complement bytes (negsuc n) = 2 ^ (8 * bytes) - suc n
@@ -75,14 +75,6 @@ unfoldable pub wav_of : List ℤ → Head → SampleWidth → List ℕ
 wav_of mix head width =
     let size = length mix * bytes_of width in
     header_bytes width size head ++ samples_of width head.dbfs mix ++ replicate (size % 2) 0
-
--- the greatest sum of notes: 2^56
-abbrev pub greatest_mix : ℤ
-greatest_mix = pos 72057594037927936
-
--- what a sum of notes may be: no greater than that in size
-abbrev pub IsMix : ℤ → Type 0
-IsMix z = (neg_ℤ greatest_mix ≤ℤ z) × (z ≤ℤ greatest_mix)
 
 -- a sum of notes that is one again with any number more
 abbrev pub TakesMore : ℤ → Type 0

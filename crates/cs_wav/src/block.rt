@@ -4,7 +4,7 @@ ghost use Rattle.std.specs.List.{count_by};
 ghost use Rattle.cs_base.specs.Widths.{bytes_of};
 ghost use Rattle.cs_wav.specs.Wav.{is_out_of_range, samples_of};
 
-use crate::sample::put_value;
+use crate::sample::Scale;
 use cs_base::{Num, SampleWidth};
 
 /// Writes these mix values, in 65,536ths, as samples of this width, where `dbfs` stands for full scale.
@@ -16,10 +16,24 @@ pub fn pcm_block(width: SampleWidth, mix: &[i64], dbfs: Num, out: &mut [u8]) -> 
     ensures bytes { out.new ≡ samples_of width dbfs mix.now }
     ensures out_of_range { result ≡ count_by (is_out_of_range width dbfs) mix.now }
 {
-    let bytes = width.bytes() as usize;
+    // Both arms are the same text: in each the compiler knows how many bytes a sample has.
+    match width {
+        SampleWidth::TwoBytes => each_sample(Scale::of(SampleWidth::TwoBytes, dbfs), mix, out),
+        SampleWidth::ThreeBytes => each_sample(Scale::of(SampleWidth::ThreeBytes, dbfs), mix, out),
+    }
+}
+
+#[inline(always)]
+fn each_sample(scale: Scale, mix: &[i64], out: &mut [u8]) -> u32
+    requires few { length mix.now < 2 ^ 32 }
+    requires room { length out.old ≡ length mix.now * bytes_of scale.width }
+    ensures bytes { out.new ≡ samples_of scale.width scale.dbfs mix.now }
+    ensures out_of_range { result ≡ count_by (is_out_of_range scale.width scale.dbfs) mix.now }
+{
+    let bytes = scale.width.bytes() as usize;
     let mut brought_in = 0;
     for (i, value) in mix.iter().enumerate() {
-        if put_value(out, i * bytes, width, dbfs, *value) {
+        if scale.put_value(out, i * bytes, *value) {
             brought_in += 1;
         }
     }

@@ -1,25 +1,97 @@
 // One mix value becomes one sample.
-ghost use Rattle.std.specs.Prelude.{◌≡◌, ◌≤◌, ◌+◌, ◌≤ℤ◌, ◌<ℤ◌, pos, int_lt, ◌*ℤ◌, ◌++◌, ◌||◌, length, take, drop};
-ghost use Rattle.std.specs.Int.{int_max, int_min, int_div_euclid};
+ghost use Rattle.std.specs.Prelude.{◌≡◌, ◌≤◌, ◌<◌, ◌+◌, ◌^◌, ◌≤ℤ◌, ◌<ℤ◌, pos, neg_ℤ, ◌*ℤ◌, ◌++◌, length, true};
+ghost use Rattle.std.specs.Prelude.{take, drop, not, unsigned_abs, if◌then◌else◌};
+ghost use Rattle.std.specs.Option.{ForSome};
+ghost use Rattle.std.specs.Int.{int_div_euclid, is_negative};
 ghost use Rattle.cs_base.specs.Widths.{bytes_of, greatest_of, least_of};
-ghost use Rattle.cs_wav.specs.Wav.{full_scale, is_out_of_range, little_bytes, complement, sample_bytes};
+ghost use Rattle.cs_wav.specs.Wav.{full_scale, is_out_of_range, little_bytes, complement, level, sample, sample_bytes};
 
 use byteorder::{ByteOrder, LittleEndian};
-use cs_base::{Num, SampleWidth};
+use cs_base::{Divisor, Num, SampleWidth};
 
-/// Writes a mix value as a sample into `out` from place `at` on, and returns whether it had to be
-/// brought into range.
-pub fn put_value(out: &mut [u8], at: usize, width: SampleWidth, dbfs: Num, value: i64) -> bool
-    requires above_zero { pos 0 <ℤ dbfs }
-    requires room { at + bytes_of width ≤ length out.old }
-    ensures written { out.new ≡ take at out.old
-        ++ (sample_bytes width dbfs value ++ drop (at + bytes_of width) out.old) }
-    ensures out_of_range { result ≡ is_out_of_range width dbfs value }
-{
-    let level = level_of(full_scale(width), dbfs, value);
-    put_sample(out, at, width, brought_in(width, level));
-    is_outside(width, level)
+/// How mix values become samples of a width, where a value stands for full scale.
+#[derive(Clone, Copy)]
+pub(crate) struct Scale {
+    /// The width of the samples.
+    pub(crate) width: SampleWidth,
+    dbfs: i64,
+    divisor: Option<Divisor>,
+    ghost low: { pos 1 ≤ℤ dbfs },
+    ghost high: { unsigned_abs dbfs < 2 ^ 47 },
+    ghost known: { ForSome divisor (λ d. d.value ≡ dbfs) },
+    ghost near: { ForSome divisor (λ d. unsigned_abs (d.value *ℤ full_scale width) ≤ 2 ^ 61) },
 }
+
+impl Scale {
+    /// The scale of samples of this width, where `dbfs` stands for full scale.
+    pub(crate) fn of(width: SampleWidth, dbfs: Num) -> Scale
+        requires { pos 0 <ℤ dbfs }
+        ensures width { result.width ≡ width }
+        ensures dbfs { result.dbfs ≡ dbfs }
+    {
+        Scale {
+            width,
+            dbfs: dbfs.raw(),
+            divisor: near_divisor(width, dbfs.raw()),
+        }
+    }
+
+    /// Writes a mix value as a sample into `out` from place `at` on, and returns whether it had to be
+    /// brought into range.
+    #[inline(always)]
+    pub(crate) fn put_value(&self, out: &mut [u8], at: usize, value: i64) -> bool
+        requires { at + bytes_of self.now.width ≤ length out.old }
+        ensures written { out.new ≡ take at out.old ++ (sample_bytes self.now.width self.now.dbfs value
+            ++ drop (at + bytes_of self.now.width) out.old) }
+        ensures out_of_range { result ≡ is_out_of_range self.now.width self.now.dbfs value }
+    {
+        if self.holds(value) {
+            put_sample(out, at, self.width, self.level(value));
+            false
+        } else {
+            put_sample(out, at, self.width, end_of_range(self.width, value));
+            true
+        }
+    }
+
+    // Whether a value lies within full scale. That is where its level is in the range of samples as it is.
+    #[inline(always)]
+    fn holds(&self, value: i64) -> bool
+        ensures within { result ≡ true → (neg_ℤ self.now.dbfs ≤ℤ value) × (value <ℤ self.now.dbfs) }
+        ensures in_range { result ≡ not (is_out_of_range self.now.width self.now.dbfs value) }
+    {
+        -self.dbfs <= value && value < self.dbfs
+    }
+
+    // The value in steps of a sample, rounded down.
+    #[inline(always)]
+    fn level(&self, value: i64) -> i64
+        requires low { neg_ℤ self.now.dbfs ≤ℤ value }
+        requires high { value <ℤ self.now.dbfs }
+        ensures { result ≡ level self.now.width self.now.dbfs value }
+    {
+        match self.divisor {
+            Some(divisor) => divisor.divide(value * full_scale(self.width)),
+            None => wide_level(full_scale(self.width), self.dbfs, value),
+        }
+    }
+}
+
+// A value of full scale as a divisor, where every product of full scale and a value within it is at most 2^61 in size.
+fn near_divisor(width: SampleWidth, dbfs: i64) -> Option<Divisor>
+    requires low { pos 1 ≤ℤ dbfs }
+    requires high { unsigned_abs dbfs < 2 ^ 47 }
+    ensures known { ForSome result (λ d. d.value ≡ dbfs) }
+    ensures near { ForSome result (λ d. unsigned_abs (d.value *ℤ full_scale width) ≤ 2 ^ 61) }
+{
+    if dbfs <= MOST_PRODUCT / full_scale(width) {
+        Some(Divisor::of(dbfs))
+    } else {
+        None
+    }
+}
+
+const MOST_PRODUCT: i64 = 2_305_843_009_213_693_952;
 
 // Full scale: one more than the greatest sample.
 fn full_scale(width: SampleWidth) -> i64
@@ -28,31 +100,27 @@ fn full_scale(width: SampleWidth) -> i64
     width.greatest() + 1
 }
 
-// The value in steps of a sample, rounded down. The product may be greater than an i64.
-fn level_of(full: i64, dbfs: Num, value: i64) -> i128
-    requires { pos 0 <ℤ dbfs }
+// The level by a product of 128 bits.
+fn wide_level(full: i64, dbfs: i64, value: i64) -> i64
+    requires above_zero { pos 0 <ℤ dbfs }
+    requires bounded { unsigned_abs (int_div_euclid (value *ℤ full) dbfs) < 2 ^ 62 }
     ensures { result ≡ int_div_euclid (value *ℤ full) dbfs }
 {
-    (i128::from(value) * i128::from(full)).div_euclid(i128::from(dbfs.raw()))
+    (i128::from(value) * i128::from(full)).div_euclid(i128::from(dbfs)) as i64
 }
 
-// The level, or the end of the range that it lies beyond.
-fn brought_in(width: SampleWidth, level: i128) -> i64
-    ensures value { result ≡ int_max (least_of width) (int_min level (greatest_of width)) }
-    ensures least { least_of width ≤ℤ result }
-    ensures greatest { result ≤ℤ greatest_of width }
+// The end of the range beyond which a value outside full scale lies.
+fn end_of_range(width: SampleWidth, value: i64) -> i64
+    ensures { result ≡ (if is_negative value then least_of width else greatest_of width) }
 {
-    level
-        .min(i128::from(width.greatest()))
-        .max(i128::from(width.least())) as i64
+    if value < 0 {
+        width.least()
+    } else {
+        width.greatest()
+    }
 }
 
-fn is_outside(width: SampleWidth, level: i128) -> bool
-    ensures { result ≡ (int_lt level (least_of width) || int_lt (greatest_of width) level) }
-{
-    level < i128::from(width.least()) || i128::from(width.greatest()) < level
-}
-
+#[inline(always)]
 fn put_sample(out: &mut [u8], at: usize, width: SampleWidth, sample: i64)
     requires least { least_of width ≤ℤ sample }
     requires greatest { sample ≤ℤ greatest_of width }

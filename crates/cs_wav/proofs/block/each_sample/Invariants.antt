@@ -3,7 +3,7 @@ use Rattle.std.specs.List.{count_by}
 use Rattle.cs_base.specs.Widths.{bytes_of}
 use Rattle.cs_base.specs.declared.width.SampleWidth.{SampleWidth}
 use Rattle.cs_wav.specs.Wav.{is_out_of_range, samples_of}
-use Rattle.cs_wav.proofs.block.pcm_block.Given as goal
+use Rattle.cs_wav.proofs.block.each_sample.Given as goal
 
 -- the samples so far stand at the front, and those of them that were brought in are counted
 pub record IsSoFar (w : SampleWidth) (dbfs : ℤ) (mix : List ℤ) (out : List ℕ) (brought_in i : ℕ) : Type 0 where
@@ -12,4 +12,4 @@ pub record IsSoFar (w : SampleWidth) (dbfs : ℤ) (mix : List ℤ) (out : List �
   pub counted : brought_in ≡ count_by (is_out_of_range w dbfs) (take i mix)
 
 abbrev pub invariant-loop-i : goal.invariant-loop-i
-invariant-loop-i l = IsSoFar l.width l.dbfs l.mix l.out l.brought_in l.i
+invariant-loop-i l = IsSoFar l.scale.width l.scale.dbfs l.mix l.out l.brought_in l.i
