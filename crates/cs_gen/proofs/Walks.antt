@@ -41,10 +41,6 @@ HasReached-here args j k begin end p e h =
     let next : end ≡ begin_of args (k + 1) = e ∙ ap (λ b. b + length_of args k) p.begins ∙ sym (begin_of-more args k) in
     record { come = p; inside = λ _. omega arith }
 
-pub HasReached-end : (args : List ℤ) (j k begin : ℕ) → HasPassed args j k begin → segments_of args ≤ k
-    → HasReached args j k begin
-HasReached-end args j k begin p h = record { come = p; inside = λ before. absurd (omega arith) }
-
 -- what is passed at a place is passed at the next
 pub HasPassed-later : (args : List ℤ) (j k begin : ℕ) → HasReached args j k begin → HasPassed args (j + 1) k begin
 HasPassed-later args j k begin r =

@@ -1,14 +1,12 @@
 // A table by its size, its GEN and the arguments.
-ghost use Rattle.std.specs.Prelude.{ℕ, ◌≡◌, ◌≤◌, IfOk, IfErr, OnOk, None, unsigned_abs};
+ghost use Rattle.std.specs.Prelude.{◌≡◌, ◌≤◌, IfOk, IfErr, OnOk, None, unsigned_abs};
 ghost use Rattle.cs_gen.specs.Faults.{IsCauseOf, argument, table_fault};
-ghost use Rattle.cs_gen.specs.Points.{at_places, harmonics, len_of, plain_point};
+ghost use Rattle.cs_gen.specs.Points.{at_places, plain_point};
 ghost use Rattle.cs_gen.specs.Tables.{IsMade};
-ghost use Rattle.cs_base.specs.Numbers.{clamp};
 
 use crate::check::{GenFault, argument, check_table};
-use crate::harmonics::harmonics;
+use crate::harmonics::harmonic_points;
 use crate::normal::normalise_for;
-use crate::place::len_of;
 use crate::segments::segment_points;
 use cs_base::{Items, Num, Or};
 use std::alloc::{AllocError, Global};
@@ -53,21 +51,6 @@ fn argument_points(alloc: Global, count: u64, args: &[Num]) -> Result<Vec<Num>, 
     let mut points = Vec::new(alloc);
     for j in 0..count {
         points.push(argument(args, j as usize))?;
-    }
-    Ok(points)
-}
-
-// GEN10: the sums of harmonics.
-fn harmonic_points(alloc: Global, size: u64, strengths: &[Num]) -> Result<Vec<Num>, AllocError>
-    requires some { 2 ≤ size }
-    requires wide { size ≤ 65537 }
-    ensures { let wave = λ (j : ℕ). clamp (harmonics (len_of size) strengths.now j) in
-        IfOk result (λ points. points.items ≡ at_places size wave) }
-{
-    let len = u64::from(len_of(size as u32));
-    let mut points = Vec::new(alloc);
-    for j in 0..size {
-        points.push(harmonics(len, strengths, j))?;
     }
     Ok(points)
 }

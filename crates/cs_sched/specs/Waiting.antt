@@ -1,8 +1,7 @@
 -- Which notes wait, and what becomes of one that is asked for.
-use Rattle.std.specs.Prelude.{ℕ, ◌≡◌, ◌≢◌, ◌≤◌, ◌+◌, ◌==◌, List, [], ◌∷◌, ◌++◌, filter, length, nat_le, Option, None}
+use Rattle.std.specs.Prelude.{ℕ, ◌≡◌, ◌≢◌, ◌+◌, ◌==◌, List, [], ◌∷◌, ◌++◌, filter, nat_le, Option, None}
 use Rattle.std.specs.Prelude.{option_to_list, if◌then◌else◌}
 use Rattle.std.specs.Int.{is_negative}
-use Rattle.std.specs.List.Sorted.{IsNonDecreasingBy}
 use Rattle.cs_base.specs.Limits.{most_asks}
 use Rattle.cs_ir.specs.declared.ask.Ask.{Ask}
 use Rattle.cs_sched.specs.Times.{Clock, begins_in}
@@ -50,9 +49,3 @@ those_in dues c = filter (λ d. d.cycle == c) dues
 
 abbrev pub waiting : Queue → Waiting
 waiting q = record { due = those_in q.dues; kept = q.kept }
-
--- by ascending cycle; no more were kept than allowed
-pub record AreInOrder (dues : List Due) (kept : ℕ) : Type 0 where
-  pub ascending : IsNonDecreasingBy (λ d. d.cycle) dues
-  pub within : length dues ≤ kept
-  pub few : kept ≤ most_asks

@@ -1,15 +1,18 @@
 // The notes that wait.
-ghost use Rattle.std.specs.Prelude.{◌≡◌, ◌<◌, IfOk, OnErr, OnOk};
+ghost use Rattle.std.specs.Prelude.{◌≡◌, ◌<◌, ◌++◌, ◌∷◌, [], IfOk, OnErr, OnOk};
+ghost use Rattle.std.specs.BTreeMap.{IsOrdered};
+ghost use Rattle.std.specs.Ordering.{nat_cmp};
 ghost use Rattle.cs_base.specs.Limits.{most_asks};
 ghost use Rattle.cs_sched.specs.Times.{clock_of, due_of};
 ghost use Rattle.cs_sched.specs.Waiting.{answer_to, nothing_waits, waiting, with_answer, IsTaken};
 ghost use Rattle.cs_sched.specs.declared.pending.Added.TheVariants as added;
+ghost use Rattle.cs_sched.specs.inner.ByCycle.{Puts, at_cycle};
 
 use crate::due::{Due, begins_in, fields_of, lasts};
 use cs_base::{Head, MOST_ASKS, Num, OutOfMemory};
 use cs_ir::Ask;
 use std::alloc::Global;
-use std::collections::VecDeque;
+use std::collections::{BTreeMap, LinkedList};
 use std::marker::Model;
 
 /// When a note asks for another, and in which piece.
@@ -41,18 +44,19 @@ pub enum Added {
 /// they were kept, and how many were kept in all.
 #[derive(Drop)]
 pub struct Pending {
-    dues: VecDeque<Due>,
+    dues: BTreeMap<u32, LinkedList<Due>>,
     kept: usize,
 }
 
 impl Model for Pending {
-    ghost use Rattle.cs_sched.specs.Waiting.{Queue, AreInOrder};
+    ghost use Rattle.cs_sched.specs.Waiting.{Queue};
+    ghost use Rattle.cs_sched.specs.inner.ByCycle.{AreByCycle, all_dues};
 
     ghost Value = { Queue };
 
-    ghost view = { λ p. record { dues = p.dues.items; kept = p.kept } };
+    ghost view = { λ p. record { dues = all_dues p.dues.entries; kept = p.kept } };
 
-    ghost invariant = { λ p. AreInOrder p.dues.items p.kept };
+    ghost invariant = { λ p. AreByCycle p.dues p.kept };
 }
 
 impl Pending {
@@ -61,7 +65,7 @@ impl Pending {
         ensures { waiting result ≡ nothing_waits }
     {
         Pending {
-            dues: VecDeque::new(alloc),
+            dues: BTreeMap::new(alloc),
             kept: 0,
         }
     }
@@ -91,7 +95,7 @@ impl Pending {
             number: ask.number,
             fields: fields_of(alloc, at.time, &ask)?,
         };
-        self.keep(due)?;
+        self.keep(alloc, due)?;
         Ok(Added::Kept)
     }
 
@@ -99,23 +103,55 @@ impl Pending {
     pub fn next(&mut self, cycle: u32) -> Option<Due>
         ensures { IsTaken cycle (waiting self.old) result (waiting self.new) }
     {
-        let place = self.dues.partition_point(|due| due.cycle < cycle);
-        match self.dues.get(place) {
-            Some(due) if due.cycle == cycle => self.dues.remove(place),
-            _ => None,
+        let queue = self.dues.get_mut(&cycle)?;
+        let due = queue.pop_front();
+        if queue.is_empty() {
+            forget(&mut self.dues, cycle);
         }
+        due
     }
 
-    /// Puts a note behind all that begin in its cycle or before.
-    fn keep(&mut self, due: Due) -> Result<(), OutOfMemory>
+    // Puts a note behind all that begin in its cycle.
+    fn keep(&mut self, alloc: Global, due: Due) -> Result<(), OutOfMemory>
         requires { self.old.kept < most_asks }
         ensures waits { OnOk result (waiting self.new ≡ with_answer added.Kept due (waiting self.old)) }
         ensures same { OnErr result (self.new ≡ self.old) }
     {
-        let cycle = due.cycle;
-        let place = self.dues.partition_point(|other| other.cycle <= cycle);
-        self.dues.insert(place, due)?;
+        put(&mut self.dues, alloc, due)?;
         self.kept += 1;
         Ok(())
     }
+}
+
+// Puts a note behind all that are kept at its cycle.
+fn put(
+    dues: &mut BTreeMap<u32, LinkedList<Due>>,
+    alloc: Global,
+    due: Due,
+) -> Result<(), OutOfMemory>
+    ensures put { OnOk result (Puts dues.old dues.new due.cycle (at_cycle dues.old due.cycle ++ due ∷ [])) }
+    ensures ordered { IsOrdered nat_cmp dues.old → IsOrdered nat_cmp dues.new }
+    ensures same { OnErr result (dues.new.entries ≡ dues.old.entries) }
+{
+    let cycle = due.cycle;
+    match dues.get_mut(&cycle) {
+        Some(others) => {
+            others.push_back(due)?;
+            Ok(())
+        }
+        None => {
+            let mut alone = LinkedList::new(alloc);
+            alone.push_back(due)?;
+            dues.insert(cycle, alone)?;
+            Ok(())
+        }
+    }
+}
+
+// Takes out a cycle at which nothing is kept.
+fn forget(dues: &mut BTreeMap<u32, LinkedList<Due>>, cycle: u32)
+    ensures put { Puts dues.old dues.new cycle [] }
+    ensures ordered { IsOrdered nat_cmp dues.new }
+{
+    dues.remove(&cycle);
 }

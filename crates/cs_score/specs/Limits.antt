@@ -74,3 +74,4 @@ abbrev pub IsRefusedFor : Refusal → Result (List ScoreStmt) ScoreFault → Typ
 IsRefusedFor (refusal.Score fault) meant = meant ≡ Err fault
 IsRefusedFor (refusal.Limit hit) meant = Passes hit meant
 IsRefusedFor (refusal.Orc fault) meant = ⊥
+IsRefusedFor (refusal.Csd fault) meant = ⊥

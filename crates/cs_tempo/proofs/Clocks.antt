@@ -1,13 +1,13 @@
 -- The time of a beat by the time of a point at or before it.
 use Rattle.std.proofs.Common.{◌≡◌, ℕ, zero, suc, ◌+◌, ◌-◌, ◌*◌, ◌^◌, ◌<◌, ◌≤◌, min, List, [], ◌∷◌, drop, take, length}
-use Rattle.std.proofs.Common.{get_or, arith, refl, sym}
-use Rattle.std.proofs.lemmas.List.{drop-drop, take_rest, get_or_read}
+use Rattle.std.proofs.Common.{get_or, arith, refl, sym, ◌∙◌}
+use Rattle.std.proofs.lemmas.List.{drop-drop, take_rest, get_or_read, length-drop}
 use Rattle.std.proofs.lemmas.Nat.{mul-le, div_below}
 use Rattle.cs_score.specs.Ranges.{AreRising, beats_end}
 use Rattle.cs_score.specs.declared.statement.TempoPoint.{TempoPoint}
-use Rattle.cs_tempo.specs.Time.{part_of, time_along, time_of, IsTempo, Rises, cycle_of}
+use Rattle.cs_tempo.specs.Time.{part_of, time_along, time_of, Rises, cycle_of}
 use Rattle.cs_tempo.specs.inner.Clock.{point_at, IsTimed}
-use Rattle.cs_tempo.proofs.Times.{along_small, rises_on, tempo_rises}
+use Rattle.cs_tempo.proofs.Times.{along_is, along_small, rises_on, tempo_rises}
 
 -- what rises goes on rising
 pub rises_drop : (ps : List TempoPoint) (k : ℕ) → Rises ps → Rises (drop k ps)
@@ -81,10 +81,6 @@ unfolding time_along
 first_time [] r = refl
 first_time (p ∷ later) r = sym (nothing_yet p later p.beat r (omega arith))
 
-pub tempo_begins : (ps : List TempoPoint) → IsTempo ps → (point_at ps 0).beat ≡ 0
-tempo_begins [] t = refl
-tempo_begins (p ∷ later) t = t.0
-
 -- a cycle's number fits
 pub cycle_small : (ns sr ksmps : ℕ) → ns ≤ 60000 * beats_end → sr ≤ 192000 → 1 ≤ ksmps → cycle_of ns sr ksmps < 2 ^ 47
 unfolding cycle_of
@@ -95,10 +91,12 @@ cycle_small ns sr ksmps early slow some =
 -- a clock's reading: the time of a point, and what passes from there
 pub reading : (ps : List TempoPoint) (times : List ℕ) (k x t part : ℕ) → IsTimed ps times → k < length ps
     → (point_at ps k).beat ≤ x →
-    t ≡ get_or times k t → part ≡ time_along (take (length ps - k) (drop k ps)) x → t + part ≡ time_of ps x
+    t ≡ get_or times k t → part ≡ time_of (take (length ps - k) (drop k ps)) x → t + part ≡ time_of ps x
 reading [] times k x t part timed some early at e = absurd (omega arith)
 reading (p ∷ later) times k x t part timed some early at e =
     let ps : List TempoPoint = p ∷ later in
     let read : t ≡ get_or times k 0 = get_or_read times k t (omega (arith, timed.known.long)) at 0 in
-    let rest : part ≡ time_along (drop k ps) x = rw take_rest at e in
+    let behind : part ≡ time_of (drop k ps) x = rw take_rest at e in
+    let rest : part ≡ time_along (drop k ps) x =
+    behind ∙ sym (along_is (drop k ps) x (omega (arith, length-drop k ps))) in
     omega (arith, read, rest, timed.known.each k some, time_from ps k x (tempo_rises ps timed.tempo) some early)

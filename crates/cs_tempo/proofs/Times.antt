@@ -115,6 +115,11 @@ unfolding time_along
 rises_small [] beat r = omega arith
 rises_small (p ∷ later) beat r = omega (arith, along_small p later beat r.0 r.1)
 
+-- where a tempo has points, the time of a beat is that along them
+pub along_is : (ps : List TempoPoint) (beat : ℕ) → 0 < length ps → time_along ps beat ≡ time_of ps beat
+along_is [] beat some = absurd (omega arith)
+along_is (p ∷ later) beat some = refl
+
 -- without points a beat lasts a second
 pub sixty_time : (beat : ℕ) → 1000000000 * beat / 1000000 ≡ time_of [] beat
 unfolding time_along part_of beat_length

@@ -1,11 +1,11 @@
 // The clock of a section: it finds the time of a beat by the ramp that the beat lies in alone.
-ghost use Rattle.std.specs.Prelude.{◌≡◌, ◌≤◌, ◌<◌, ◌+◌, ◌-◌, ◌*◌, ◌^◌, length, IfOk, drop};
+ghost use Rattle.std.specs.Prelude.{◌≡◌, ◌≤◌, ◌<◌, ◌+◌, ◌-◌, ◌*◌, ◌^◌, length, IfOk};
 ghost use Rattle.cs_score.specs.Ranges.{beats_end};
 ghost use Rattle.cs_tempo.specs.Time.{time_along, time_of, IsTempo, Rises};
 ghost use Rattle.cs_tempo.specs.inner.Clock.{point_at, AreTimes};
 ghost use Rattle.cs_tempo.specs.Sections.{cycle_at};
 
-use crate::time::{cycle_of, first_part, steady_time, time_along};
+use crate::time::{beat_time, cycle_of, first_part};
 use cs_base::{Head, OutOfMemory};
 use cs_score::TempoPoint;
 use std::alloc::Global;
@@ -55,10 +55,10 @@ impl<'s> Clock<'s> {
         ensures tempo { IsTempo self.now.tempo }
     {
         if self.points.is_empty() {
-            return steady_time(1_000_000_000, beat);
+            return beat_time(self.points, beat);
         }
         let k = ramp_of(self.points, beat);
-        self.times[k] + time_along(&self.points[k..], beat)
+        self.times[k] + beat_time(&self.points[k..], beat)
     }
 
     /// The time from one beat to another that isn't before it.

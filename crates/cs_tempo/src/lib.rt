@@ -28,4 +28,4 @@ pub use laws::{
 };
 pub use plot::{Event, EventAct, Events, Plot};
 pub use scheduling::schedule;
-pub use time::cycle_of;
+pub use time::{beat_time, cycle_of};

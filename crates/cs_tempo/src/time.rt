@@ -5,7 +5,7 @@ ghost use Rattle.cs_base.specs.Numbers.{IsRaw};
 ghost use Rattle.cs_score.specs.Ranges.{beats_end};
 ghost use Rattle.cs_score.specs.declared.statement.TempoPoint.{TempoPoint};
 ghost use Rattle.cs_tempo.specs.inner.Ramps.{rounded_up};
-ghost use Rattle.cs_tempo.specs.Time.{beat_length, ramp_time, time_along, Rises, cycle_of, seconds_of};
+ghost use Rattle.cs_tempo.specs.Time.{beat_length, ramp_time, time_along, time_of, Rises, cycle_of, seconds_of};
 
 use cs_base::ONE;
 use cs_score::TempoPoint;
@@ -32,8 +32,22 @@ pub(crate) fn seconds_of(ns: u64) -> i64
     (u128::from(ns) * ONE as u128 / 1_000_000_000) as i64
 }
 
-/// The time of a beat along points that rise.
-pub(crate) fn time_along(points: &[TempoPoint], beat: u64) -> u64
+/// The time of a beat along a tempo, in nanoseconds from its first point. No point lies before the one before it; no
+/// points at all are 60 beats a minute.
+pub fn beat_time(points: &[TempoPoint], beat: u64) -> u64
+    requires rising { Rises points.now }
+    requires beat { beat < beats_end }
+    ensures { result ≡ time_of points.now beat }
+{
+    if points.is_empty() {
+        steady_time(1_000_000_000, beat)
+    } else {
+        time_along(points, beat)
+    }
+}
+
+// The time of a beat along points that rise.
+fn time_along(points: &[TempoPoint], beat: u64) -> u64
     requires rising { Rises points.now }
     requires beat { beat < beats_end }
     ensures time { result ≡ time_along points.now beat }
@@ -77,7 +91,7 @@ fn beat_length(tempo: u64) -> u64
 }
 
 // The time of `x` millionths of a beat, where a beat lasts `length` nanoseconds.
-pub(crate) fn steady_time(length: u64, x: u64) -> u64
+fn steady_time(length: u64, x: u64) -> u64
     requires length { length ≤ 60000000000 }
     requires x { x < beats_end }
     ensures { result ≡ length * x / 1000000 }

@@ -13,8 +13,8 @@ ghost use Rattle.cs_typing.specs.inner.Slots.{one_counted};
 use cs_base::{Names, OutOfMemory, PerRate, Rate, Res};
 use cs_typed::{Globals, Var};
 use cs_words::{NameSet, is_global, name_rate};
-use indexmap::IndexMap;
 use std::alloc::Global;
+use std::collections::BTreeMap;
 use std::marker::Model;
 use std::mem::swap;
 
@@ -68,7 +68,7 @@ fn one_more(counts: PerRate<usize>, rate: Rate) -> Result<PerRate<usize>, OutOfM
 /// rate are taken, those of what it calls among them.
 #[derive(Drop)]
 pub struct Scope<'t> {
-    numbers: IndexMap<&'t [u8], usize>,
+    numbers: BTreeMap<&'t [u8], usize>,
     counts: PerRate<usize>,
 }
 
@@ -78,7 +78,7 @@ impl<'t> Scope<'t> {
         ensures { locals_of result ≡ no_locals }
     {
         Scope {
-            numbers: IndexMap::new(alloc),
+            numbers: BTreeMap::new(alloc),
             counts: PerRate {
                 init: 0,
                 control: 0,

@@ -3,22 +3,26 @@ ghost use Rattle.std.specs.Prelude.{◌≡◌, [], length, OnOk, OnErr, IfOk};
 ghost use Rattle.cs_words.specs.NameSets.{has, place_of, seen};
 
 use cs_base::{Items, Names, OutOfMemory};
-use indexmap::IndexSet;
 use std::alloc::Global;
+use std::collections::BTreeMap;
 use std::marker::Model;
 
 /// Different names of a text, in the order in which they were first seen.
 #[derive(Drop)]
 pub struct NameSet<'s> {
-    names: IndexSet<&'s [u8]>,
+    names: Vec<&'s [u8]>,
+    places: BTreeMap<&'s [u8], usize>,
 }
 
 impl<'s> Model for NameSet<'s> {
     ghost use Rattle.std.specs.Prelude.{ℕ, List, map};
+    ghost use Rattle.cs_words.specs.inner.Indexes.{IsIndex};
 
     ghost Value = { List (List ℕ) };
 
-    ghost view = { λ s. map (λ n. n.now) s.names.keys };
+    ghost view = { λ s. map (λ n. n.now) s.names.items };
+
+    ghost invariant = { λ s. IsIndex (map (λ n. n.now) s.names.items) s.places };
 }
 
 impl<'s> NameSet<'s> {
@@ -27,7 +31,8 @@ impl<'s> NameSet<'s> {
         ensures { result ≡ [] }
     {
         NameSet {
-            names: IndexSet::new(alloc),
+            names: Vec::new(alloc),
+            places: BTreeMap::new(alloc),
         }
     }
 
@@ -35,14 +40,14 @@ impl<'s> NameSet<'s> {
     pub fn has(&self, name: &[u8]) -> bool
         ensures { result ≡ has self.now name.now }
     {
-        self.names.contains(name)
+        self.places.contains_key(name)
     }
 
     /// The place of a name, counted from 0, or their number where it isn't among them.
     pub fn place(&self, name: &[u8]) -> usize
         ensures { result ≡ place_of self.now name.now }
     {
-        self.names.get_index_of(name).unwrap_or(self.names.len())
+        self.places.get(name).copied().unwrap_or(self.names.len())
     }
 
     /// How many names there are.
@@ -57,7 +62,15 @@ impl<'s> NameSet<'s> {
         ensures ok { OnOk result (self.new ≡ seen self.old name.now) }
         ensures err { OnErr result (self.new ≡ self.old) }
     {
-        self.names.insert(name)?;
+        if self.has(name) {
+            return Ok(());
+        }
+        let place = self.names.len();
+        self.names.push(name)?;
+        if self.places.insert(name, place).is_err() {
+            self.names.pop();
+            return Err(OutOfMemory);
+        }
         Ok(())
     }
 
@@ -66,7 +79,7 @@ impl<'s> NameSet<'s> {
         ensures { IfOk result (λ made. made ≡ self.now) }
     {
         let mut made = Names::new(alloc);
-        for name in self.names.as_slice() {
+        for name in &self.names {
             made.push(Items::of_slice(alloc, name)?)?;
         }
         Ok(made)

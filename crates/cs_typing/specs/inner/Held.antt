@@ -1,13 +1,14 @@
 -- What the code's tables of names say.
-use Rattle.std.specs.Map.{lookup}
-use Rattle.std.specs.Str.{bytes_eq}
+use Rattle.std.specs.BTreeMap.{get_by}
+use Rattle.std.specs.Cmp.Lexicographic.{slice_cmp}
+use Rattle.std.specs.Ordering.{nat_cmp}
 use Rattle.cs_typing.specs.declared.known.KnownNames.{KnownNames}
 use Rattle.cs_typing.specs.declared.known.Scope.{Scope}
 use Rattle.cs_typing.specs.inner.Routines.{KnownInBody, Locals, known_in}
 
 -- the local variables of a body
 abbrev pub locals_of : Scope → Locals
-locals_of s = record { number = λ x. lookup (λ k. bytes_eq x k.now) s.numbers.entries; counts = s.counts }
+locals_of s = record { number = λ x. get_by (λ k. slice_cmp nat_cmp x k.now) s.numbers; counts = s.counts }
 
 -- what is known at a place of a body
 abbrev pub known_of : KnownNames → KnownInBody

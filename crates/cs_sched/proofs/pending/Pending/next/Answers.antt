@@ -1,36 +1,58 @@
-use Rattle.std.proofs.Common.{ltb, arith, rules, refl, ap, ◌∙◌}
-use Rattle.std.proofs.lemmas.Grind.{common_steps}
-use Rattle.std.proofs.lemmas.List.Sorted.{IsPartitionPoint-from_clause, IsPartitionedBy-ltb}
-use Rattle.std.proofs.lemmas.List.{get_or_read_under}
-use Rattle.cs_sched.proofs.Order.{absurd_none, none_taken, taken_at}
+use Rattle.std.proofs.Common.{◌≡◌, ◌∙◌, ◌++◌, [], ap, arith, rules, sym}
+use Rattle.std.specs.Option.{unwrap_or}
+use Rattle.std.specs.Prelude.{Some, option_to_list}
+use Rattle.std.proofs.lemmas.Bool.Decides.{nat_tests}
+use Rattle.std.proofs.lemmas.List.{nil_from_length}
+use Rattle.cs_sched.proofs.Cycles.{none_left, none_taken, popped, puts, puts_again, taken}
 use Rattle.cs_sched.proofs.pending.Pending.next.Goals as goal
-use Rattle.cs_sched.proofs.pending.Pending.next.Goals.{in_default-via-in-Some+else-due-cycle, in_default-via-in_default}
 
-pub returns-in-Some : goal.returns-in-Some
-returns-in-Some c =
-    let parted = IsPartitionedBy-ltb (λ y. y.cycle) _ c.args.cycle c.self.invariant.ascending in
-    let point = IsPartitionPoint-from_clause (λ y. ltb y.cycle c.args.cycle) _ _
-    c.partition_point-place.ensures.partitioned parted (λ a r q k. search rules) in
-    let there = c.in-Some.ensures.variant.0 refl in
-    rw (← c.self.view_is)
-    (taken_at c.self.inside.dues.items c.remove.new.self.items c.self.inside.kept c.partition_point-place.result
-    c.args.cycle c.in-Some.due.now
-    c.remove.result (omega (arith, c.self.inside.dues.ok.0, there)) c.in-Some.ensures.lookup c.if-due-cycle.true
-    (c.remove.ensures.succeeds c.in-Some.due.now there) c.remove.ensures.items point.0)
+pub returns-in_err-queue : goal.returns-in_err-queue
+returns-in_err-queue c =
+    rw (← c.self.view_is) (rw (c.from_residual.ensures, c.get_mut.follows.holds-at-none)
+    (none_taken c.self.inside.dues c.self.inside.kept c.args.cycle c.self.invariant (sym c.in_err-queue.ensures.value)))
 
-pub returns-in_default : goal.returns-in_default
-returns-in_default c =
-    let parted = IsPartitionedBy-ltb (λ y. y.cycle) _ c.args.cycle c.self.invariant.ascending in
-    let point = IsPartitionPoint-from_clause (λ y. ltb y.cycle c.args.cycle) _ _
-    c.partition_point-place.ensures.partitioned parted (λ a r q k. search rules) in
-    rw (← c.self.view_is)
-    (none_taken c.self.inside.dues.items c.self.inside.kept c.partition_point-place.result c.args.cycle
-    c.self.invariant.ascending point
-    (λ d lt. elim c.in_default.branch [
-      | in_default-via-in-Some+else-due-cycle w ↦
-          (λ e. w.if-due-cycle.false
-          (ap (λ y. y.cycle) (get_or_read_under c.self.inside.dues.items c.partition_point-place.result _
-          w.in-Some.due.now d w.in-Some.ensures.lookup (w.in-Some.ensures.variant.0 refl) c.self.inside.dues.ok.0) ∙ e))
-      | in_default-via-in_default w ↦ absurd_none
-          (w.in_default.ensures.variant.1 (omega (arith, c.self.inside.dues.ok.0, lt)))
-    ]))
+pub invariant_of-self-else-is_empty : goal.invariant_of-self-else-is_empty
+invariant_of-self-else-is_empty c =
+    let rest = c.pop_front-due.new.self in
+    let loan = c.get_mut.follows.holds rest in
+    popped c.self.inside.dues (c.get_mut.follows.lender rest) c.self.inside.kept c.args.cycle c.pop_front-due.result
+    c.in_ok-queue.queue.now rest c.self.invariant (ap (λ o. unwrap_or o []) c.in_ok-queue.ensures.value)
+    c.pop_front-due.ensures.items
+    (puts c.self.inside.dues (c.get_mut.follows.lender rest) c.args.cycle (Some rest) (loan.3 (search rules))) loan.4
+
+pub returns-else-is_empty : goal.returns-else-is_empty
+returns-else-is_empty c =
+    let rest = c.pop_front-due.new.self in
+    let loan = c.get_mut.follows.holds rest in
+    let at = ap (λ o. unwrap_or o []) c.in_ok-queue.ensures.value in
+    rw (← c.self.view_is) (taken c.self.inside.dues (c.get_mut.follows.lender rest) c.self.inside.kept c.args.cycle
+    c.pop_front-due.result rest c.self.invariant (invariant_of-self-else-is_empty c)
+    (puts c.self.inside.dues (c.get_mut.follows.lender rest) c.args.cycle (Some rest) (loan.3 (search rules)))
+    (sym at ∙ c.pop_front-due.ensures.items)
+    (λ e. sym at ∙ none_left c.pop_front-due.result c.in_ok-queue.queue.now _ _ c.pop_front-due.ensures.cases e))
+
+pub invariant_of-self-then-is_empty : goal.invariant_of-self-then-is_empty
+invariant_of-self-then-is_empty c =
+    let rest = c.pop_front-due.new.self in
+    let loan = c.get_mut.follows.holds rest in
+    let none : rest ≡ [] = nil_from_length rest (grind (arith, nat_tests)) in
+    popped c.self.inside.dues c.forget.new.dues c.self.inside.kept c.args.cycle c.pop_front-due.result
+    c.in_ok-queue.queue.now [] c.self.invariant (ap (λ o. unwrap_or o []) c.in_ok-queue.ensures.value)
+    (c.pop_front-due.ensures.items ∙ ap (λ xs. option_to_list c.pop_front-due.result ++ xs) none)
+    (puts_again c.self.inside.dues (c.get_mut.follows.lender rest) c.forget.new.dues c.args.cycle rest []
+    (puts c.self.inside.dues (c.get_mut.follows.lender rest) c.args.cycle (Some rest) (loan.3 (search rules)))
+    c.forget.ensures.put) c.forget.ensures.ordered
+
+pub returns-then-is_empty : goal.returns-then-is_empty
+returns-then-is_empty c =
+    let rest = c.pop_front-due.new.self in
+    let loan = c.get_mut.follows.holds rest in
+    let at = ap (λ o. unwrap_or o []) c.in_ok-queue.ensures.value in
+    let none : rest ≡ [] = nil_from_length rest (grind (arith, nat_tests)) in
+    rw (← c.self.view_is) (taken c.self.inside.dues c.forget.new.dues c.self.inside.kept c.args.cycle
+    c.pop_front-due.result [] c.self.invariant (invariant_of-self-then-is_empty c)
+    (puts_again c.self.inside.dues (c.get_mut.follows.lender rest) c.forget.new.dues c.args.cycle rest []
+    (puts c.self.inside.dues (c.get_mut.follows.lender rest) c.args.cycle (Some rest) (loan.3 (search rules)))
+    c.forget.ensures.put)
+    (sym at ∙ c.pop_front-due.ensures.items ∙ ap (λ xs. option_to_list c.pop_front-due.result ++ xs) none)
+    (λ e. sym at ∙ none_left c.pop_front-due.result c.in_ok-queue.queue.now _ _ c.pop_front-due.ensures.cases e))

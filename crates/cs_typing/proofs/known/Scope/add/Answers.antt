@@ -8,7 +8,7 @@ pub returns : goal.returns
 returns c =
     let s = c.args.self.now in
     let rate = c.name_rate-rate.ensures in
-    put_in s.numbers.entries c.insert.new.self.entries c.args.name c.of-number.result s.counts c.in_ok-counts.counts
-    (sym c.has.ensures ∙ c.if-has.false) c.in_ok-insert.ensures.entries
+    put_in s.numbers c.insert.new.self c.args.name.now c.of-number.result s.counts c.in_ok-counts.counts
+    (sym c.has.ensures ∙ c.if-has.false) c.in_ok-insert.ensures.updates
     (c.of-number.ensures ∙ ap (at_rate s.counts) rate)
     (c.in_ok-counts.ensures ∙ ap (λ r. counted r s.counts) rate)

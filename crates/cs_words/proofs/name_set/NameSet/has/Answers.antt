@@ -1,9 +1,10 @@
-use Rattle.std.proofs.Common.{◌∙◌, ap}
+use Rattle.std.proofs.Common.{◌∙◌, ap, map}
 use Rattle.cs_words.specs.NameSets.{has}
-use Rattle.cs_words.proofs.Different.{any_name}
+use Rattle.cs_words.proofs.Different.{has_name, now}
 use Rattle.cs_words.proofs.name_set.NameSet.has.Goals as goal
 
 pub returns : goal.returns
 returns c =
-    c.contains.ensures ∙ any_name c.args.name.now c.self.inside.names.keys
+    c.contains_key.ensures
+    ∙ has_name (map now c.self.inside.names.items) c.self.inside.places c.self.invariant c.args.name.now
     ∙ ap (λ ns. has ns c.args.name.now) c.self.view_is
