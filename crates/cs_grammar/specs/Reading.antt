@@ -100,9 +100,14 @@ open_kind place.Outside = orc.Unexpected
 open_kind place.Instrument = orc.MissingEndin
 open_kind place.Definition = orc.MissingEndop
 
+-- from `opcode` to `endop`, no instrument and no other definition begins
+abbrev pub opcode_kind : Place → OrcKind → OrcKind
+opcode_kind place.Definition usual = orc.Unexpected
+opcode_kind _ usual = usual
+
 abbrev pub instr_kind : Place → OrcKind → OrcKind
 instr_kind place.Instrument usual = orc.NestedInstr
-instr_kind _ usual = usual
+instr_kind p usual = opcode_kind p usual
 
 -- from `opcode` to `endop`, an `xin` or `xout` that fits no rule is a fault of its own kind
 abbrev pub x_kind : Place → OrcKind → OrcKind
@@ -113,6 +118,7 @@ abbrev pub keyword_kind : Scope → OrcKind → Keyword → OrcKind
 keyword_kind s usual key.Endin = early s usual
 keyword_kind s usual key.Endop = early s usual
 keyword_kind s usual key.Instr = instr_kind s.place usual
+keyword_kind s usual key.Opcode = opcode_kind s.place usual
 keyword_kind s usual key.Xin = x_kind s.place usual
 keyword_kind s usual key.Xout = x_kind s.place usual
 keyword_kind s usual _ = usual

@@ -3,7 +3,7 @@ ghost use Rattle.std.specs.Prelude.{◌≡◌, ◌++◌, ◌∷◌, [], false, O
 ghost use Rattle.cs_base.specs.Limits.{most_nested_ifs};
 ghost use Rattle.cs_words.specs.NameSets.{has};
 ghost use Rattle.cs_grammar.specs.Reading.{outside, in_instrument, in_definition, deeper, has_number, misfit_kind};
-ghost use Rattle.cs_grammar.specs.Reading.{keyword_kind, early, open_kind, instr_kind, x_kind};
+ghost use Rattle.cs_grammar.specs.Reading.{keyword_kind, early, open_kind, opcode_kind, instr_kind, x_kind};
 ghost use Rattle.cs_grammar.specs.Parts.{is_opcode};
 ghost use Rattle.cs_grammar.specs.Lines.{is_own};
 
@@ -183,6 +183,7 @@ impl<'a, 's> Scope<'a, 's> {
         match keyword {
             Keyword::Endin | Keyword::Endop => self.early(usual),
             Keyword::Instr => self.instr_kind(usual),
+            Keyword::Opcode => self.opcode_kind(usual),
             Keyword::Xin | Keyword::Xout => self.x_kind(usual),
             _ => usual,
         }
@@ -214,6 +215,16 @@ impl<'a, 's> Scope<'a, 's> {
     {
         match self.place {
             Place::Instrument => OrcKind::NestedInstr,
+            _ => self.opcode_kind(usual),
+        }
+    }
+
+    // From `opcode` to `endop`, no instrument and no other definition begins.
+    fn opcode_kind(&self, usual: OrcKind) -> OrcKind
+        ensures { result ≡ opcode_kind self.now.place usual }
+    {
+        match self.place {
+            Place::Definition => OrcKind::Unexpected,
             _ => usual,
         }
     }
