@@ -5,6 +5,7 @@ use Rattle.std.proofs.Common.{reverse, drop, replicate, ℤ, pos, fold, find, re
 use Rattle.cs_base.specs.Numbers.{sum_of, difference_of, product_of, clamp}
 use Rattle.cs_signal.proofs.Histories.{last_of-more, reverse_one, signal_one, now_one, ago_one, length_one}
 use Rattle.cs_signal.proofs.Histories.{last_number_one, number_one}
+use Rattle.cs_signal.proofs.Ramps.{not_zero}
 use Rattle.cs_signal.specs.Biquad.{biquad_of, biquad_start, biquad_step, biquad_after, results, BiquadStands}
 use Rattle.cs_signal.specs.Delay.{delay_length, delay_of, delay_start, delay_step, DelayStands}
 use Rattle.cs_signal.specs.Diff.{diff_of, diff_start, diff_step, DiffStands}
@@ -23,7 +24,6 @@ use Rattle.cs_signal.specs.Steps.{IsUnit}
 use Rattle.std.proofs.lemmas.List.Sums.{fold-append}
 use Rattle.std.proofs.lemmas.List.{append-nil, get_or-drop, get_or-reverse, reverse-append, length-append}
 use Rattle.std.proofs.lemmas.List.{length-replicate, length-map, drop-append-le, drop-drop}
-use Rattle.std.proofs.lemmas.Bool.Decides.{nat_tests}
 use Rattle.std.proofs.Math.Nat.{zero-mod, mod-lt, mod-add-mod, mod-zero, mod_self, mod-eq_of_lt, eq-or-lt_of_le}
 
 pub line_law : IsUnit line_of line_start line_step LineStands
@@ -189,9 +189,6 @@ one_more_or_none n (suc m) = ⊎_elim
     (λ e. inr (ap (λ a. a % suc m) e ∙ mod_self (suc m)))
     (λ h. inl (mod-eq_of_lt h))
     (eq-or-lt_of_le (below n m))
-
-not_zero : (n : ℕ) → (suc n == 0) ≡ false
-not_zero n = grind (arith, nat_tests)
 
 kept_or_new : (next sample : ℕ) (before : List (List ℤ)) (x : List ℤ) → (next ≡ sample + 1) ⊎ (next ≡ 0) →
     (if next == 0 then argument x 0 else ago 0 sample before) ≡ ago 0 next (before ++ x ∷ [])

@@ -1,7 +1,6 @@
 pub mod Blocks
 pub mod Formulas
 pub mod Histories
-pub mod Inverses
 pub mod Levels
 pub mod Operands
 pub mod Pieces

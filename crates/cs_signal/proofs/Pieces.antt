@@ -1,6 +1,6 @@
 -- A walk along the pieces of a linseg: at each, what is left of the step's number.
-use Rattle.std.proofs.Common.{◌≡◌, ℕ, ◌+◌, ◌-◌, ◌<◌, ◌≤◌, nat_lt, true, false, List, length, ℤ, refl, sym, ◌∙◌}
-use Rattle.std.proofs.Common.{ap, subst, arith, below_more}
+use Rattle.std.proofs.Common.{◌≡◌, ℕ, ◌+◌, ◌-◌, ◌<◌, ◌≤◌, nat_lt, true, false, List, length, ℤ, refl, sym}
+use Rattle.std.proofs.Common.{subst, arith, below_more}
 use Rattle.std.specs.List.{range_with_len}
 use Rattle.std.specs.Prelude.{slice_index}
 use Rattle.std.proofs.lemmas.List.{take_more}
@@ -12,66 +12,61 @@ use Rattle.cs_base.specs.Numbers.{clamp}
 use Rattle.cs_signal.specs.Line.{part_way}
 use Rattle.cs_signal.specs.Linseg.{begin_of, piece_at, on_pieces}
 use Rattle.cs_signal.specs.Operands.{argument}
-use Rattle.cs_signal.specs.inner.Pieces.{HasPassed}
+use Rattle.cs_signal.specs.inner.Pieces.{HasPassed, IsPlace}
 
 pub begin_of-more : (lengths : List ℕ) (k : ℕ) → k < length lengths
     → begin_of lengths (k + 1) ≡ begin_of lengths k + slice_index lengths k
 begin_of-more lengths k h = let more = take_more lengths k 0 h in rw more (grind (arith, common_steps))
 
-pub HasPassed-none : (lengths : List ℕ) (n : ℕ) → HasPassed lengths n 0 n
-HasPassed-none lengths n = record { begins = omega arith; passed = λ i h. absurd (omega arith) }
-
-pub HasPassed-more : (lengths : List ℕ) (n k left d : ℕ) → HasPassed lengths n k left → k < length lengths
-    → d ≡ slice_index lengths k → d ≤ left →
-    HasPassed lengths n (k + 1) (left - d)
-HasPassed-more lengths n k left d p h e low =
+pub HasPassed-more : (lengths : List ℕ) (n k begin d : ℕ) → HasPassed lengths n k begin → k < length lengths
+    → d ≡ slice_index lengths k → d ≤ n - begin → HasPassed lengths n (k + 1) (begin + d)
+HasPassed-more lengths n k begin d p h e low =
     let more = begin_of-more lengths k h in
     let here = p.begins in
+    let come = p.come in
     record {
       begins = omega arith;
+      come = omega arith;
       passed = below_more (λ i. begin_of lengths (i + 1) ≤ n) k p.passed (omega arith);
     }
 
-piece_at-here : (lengths : List ℕ) (n k left : ℕ) → HasPassed lengths n k left → k ≤ length lengths
-    → (k < length lengths → left < slice_index lengths k) →
-    piece_at lengths n ≡ k
+-- the same at a later step
+pub HasPassed-later : (lengths : List ℕ) (n m k begin : ℕ) → HasPassed lengths n k begin → n ≤ m
+    → HasPassed lengths m k begin
+HasPassed-later lengths n m k begin p h =
+    let come = p.come in
+    record { begins = p.begins; come = omega arith; passed = λ i l. let q = p.passed i l in omega arith }
+
+piece_at-here : (lengths : List ℕ) (n k begin : ℕ) → IsPlace lengths n k begin → piece_at lengths n ≡ k
 unfolding piece_at
-piece_at-here lengths n k left p real inside =
+piece_at-here lengths n k begin p =
     let m : ℕ = length lengths in
+    let real = p.real in
     let size : length (range_with_len 0 m) ≡ m = length-range_with_len 0 m in
     position_or_len_is (λ i. nat_lt n (begin_of lengths (i + 1))) (range_with_len 0 m) k 0 (omega arith)
     (λ i h. subst (λ x. nat_lt n (begin_of lengths (x + 1)) ≡ false) (sym (number_at m i (omega arith)))
-    (isnt_below n (begin_of lengths (i + 1)) (p.passed i (omega arith))))
-    (λ h. let h' : k < m = omega arith in let in_it = inside h' in
-    let more = begin_of-more lengths k h' in let b = p.begins in
+    (isnt_below n (begin_of lengths (i + 1)) (p.come.passed i (omega arith))))
+    (λ h. let h' : k < m = omega arith in let in_it = p.inside h' in
+    let more = begin_of-more lengths k h' in let b = p.come.begins in
     subst (λ x. nat_lt n (begin_of lengths (x + 1)) ≡ true) (sym (number_at m k h'))
     (is_below n (begin_of lengths (k + 1)) (omega arith)))
 
 -- on a piece's line
-pub on_piece : (values : List ℤ) (lengths : List ℕ) (n k left d : ℕ) (here next : ℤ) → HasPassed lengths n k left
-    → k < length lengths →
-    d ≡ slice_index lengths k → left < d → here ≡ argument values k → next ≡ argument values (k + 1) →
-    clamp (part_way here next left d) ≡ clamp (on_pieces values lengths n)
+pub on_piece : (values : List ℤ) (lengths : List ℕ) (n k begin d : ℕ) (here next : ℤ) → IsPlace lengths n k begin
+    → k < length lengths → d ≡ slice_index lengths k → here ≡ argument values k → next ≡ argument values (k + 1) →
+    clamp (part_way here next (n - begin) d) ≡ clamp (on_pieces values lengths n)
 unfolding on_pieces
-on_piece values lengths n k left d here next p h ed inside eh en =
-    let at = piece_at-here lengths n k left p (omega arith) (λ _. omega arith) in
+on_piece values lengths n k begin d here next p h ed eh en =
+    let at = piece_at-here lengths n k begin p in
     let test = is_below k (length lengths) h in
-    let b = p.begins in
-    let e : n - begin_of lengths k ≡ left = omega arith in
+    let e = p.come.begins in
     rw at (rw test (rw e (rw (← ed) (rw (← eh) (rw (← en) refl)))))
 
 -- after the last piece
-pub after_pieces : (values : List ℤ) (lengths : List ℕ) (n k left : ℕ) → HasPassed lengths n k left
-    → k ≡ length lengths →
-    on_pieces values lengths n ≡ argument values k
+pub last_value : (values : List ℤ) (lengths : List ℕ) (n k begin : ℕ) (z : ℤ) → IsPlace lengths n k begin
+    → length lengths ≤ k → z ≡ argument values k → clamp z ≡ clamp (on_pieces values lengths n)
 unfolding on_pieces
-after_pieces values lengths n k left p h =
-    let at = piece_at-here lengths n k left p (omega arith) (λ l. absurd (omega arith)) in
-    let test = isnt_below k (length lengths) (omega arith) in
-    rw at (rw test refl)
-
-pub last_value : (values : List ℤ) (lengths : List ℕ) (n k left : ℕ) (z : ℤ) → HasPassed lengths n k left
-    → k ≡ length lengths →
-    z ≡ argument values (length lengths) → clamp z ≡ clamp (on_pieces values lengths n)
-last_value values lengths n k left z p h e =
-    ap clamp (e ∙ ap (argument values) (sym h) ∙ sym (after_pieces values lengths n k left p h))
+last_value values lengths n k begin z p h e =
+    let at = piece_at-here lengths n k begin p in
+    let test = isnt_below k (length lengths) h in
+    rw at (rw test (rw (← e) refl))

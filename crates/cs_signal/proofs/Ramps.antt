@@ -1,18 +1,22 @@
 -- A straight line by sums alone: the parts of a number, of a sum, and the quotient that they give.
 use Rattle.std.proofs.Common.{◌≡◌, ℕ, zero, suc, ◌+◌, ◌-◌, ◌*◌, ◌<◌, ◌≤◌, inl, inr, List, [], ◌∷◌, ◌++◌, length, map, ℤ}
-use Rattle.std.proofs.Common.{pos, negsuc, ◌+ℤ◌, ◌-ℤ◌, ◌*ℤ◌, ◌≤ℤ◌, ◌<ℤ◌, refl, set, unsigned_abs, ◌^◌, ap, sym, ◌∙◌}
-use Rattle.std.proofs.Common.{subst, arith}
+use Rattle.std.proofs.Common.{pos, ◌+ℤ◌, ◌-ℤ◌, ◌*ℤ◌, refl, set, unsigned_abs, ◌^◌, ap, sym, ◌∙◌}
+use Rattle.std.proofs.Common.{subst, replicate, arith, Bool, false, ◌==◌, ◌%◌, if◌then◌else◌}
+use Rattle.std.proofs.lemmas.Bool.Decides.{nat_tests}
+use Rattle.std.proofs.Math.Nat.{mod_self, mod-eq_of_lt}
 use Rattle.std.proofs.lemmas.Int.{ints, unsigned_abs-mul}
-use Rattle.std.proofs.lemmas.Nat.{div-mul-add, mul-le}
+use Rattle.std.proofs.lemmas.Nat.{mul-le}
 use Rattle.std.proofs.Math.IntN.{*ℤ_comm, suc_ℤ-*ℤ}
 use Rattle.cs_base.specs.Numbers.{clamp, floor_div}
+use Rattle.cs_base.proofs.Quotients.{quotient_of_parts}
 use Rattle.cs_signal.specs.inner.Ramp.{IsParted, IsAdvanced, HasRamped, ramp_of}
+use Rattle.cs_signal.specs.Interp.{InterpState, interp_step}
 use Rattle.cs_signal.specs.Line.{LineState, line_step, part_way}
 use Rattle.std.specs.Prelude.{slice_index}
 use Rattle.cs_signal.specs.Linseg.{LinsegState, linseg_step, on_pieces}
 use Rattle.cs_signal.specs.Operands.{argument}
-use Rattle.cs_signal.specs.inner.Pieces.{HasPassed}
-use Rattle.cs_signal.proofs.Pieces.{on_piece}
+use Rattle.cs_signal.specs.inner.Pieces.{IsPlace}
+use Rattle.cs_signal.proofs.Pieces.{HasPassed-later, last_value, on_piece}
 use Rattle.cs_signal.proofs.Walks.{led}
 use Rattle.cs_signal.specs.Pace.{number_after, last_number}
 use Rattle.cs_signal.specs.Steps.{run}
@@ -21,25 +25,10 @@ use Rattle.std.proofs.lemmas.List.{take_more_set, length-set, take_all}
 use Rattle.std.proofs.lemmas.List.FromFn.{map-range_with_len_more}
 
 pub floor_is : (z q : ℤ) (d r : ℕ) → IsParted z d q r → floor_div z (pos d) ≡ q
-floor_is z (pos e) d r h =
-    let sum = h.sum in
-    let e1 : z ≡ pos (e * d + r) = omega (arith, ints) in
-    ap (λ z. floor_div z (pos d)) e1 ∙ ap pos (div-mul-add e d r h.below)
-floor_is z (negsuc e) d r h =
-    let sum = h.sum in
-    let below = h.below in
-    let e1 : z ≡ negsuc (e * d + (d - 1 - r)) = omega (arith, ints) in
-    ap (λ z. floor_div z (pos d)) e1 ∙ ap negsuc (div-mul-add e d (d - 1 - r) (omega arith))
+floor_is z q d r h = quotient_of_parts z q d r h.sum h.below
 
 pub once_more : (z : ℤ) (d : ℕ) → z *ℤ pos (suc d) ≡ (z *ℤ pos d) +ℤ z
 once_more z d = *ℤ_comm z (pos (suc d)) ∙ suc_ℤ-*ℤ (pos d) z ∙ ap (λ w. w +ℤ z) (*ℤ_comm (pos d) z)
-
--- what leaves a rest from 0 below the divisor is the quotient
-pub quotient_is : (n q d r : ℤ) → r ≡ n -ℤ (q *ℤ d) → pos 0 ≤ℤ r → r <ℤ d → q ≡ floor_div n d
-quotient_is n q (pos m) (pos k) e low high =
-    sym (floor_is n q m k (record { sum = omega (arith, ints, e); below = omega (arith, ints, high) }))
-quotient_is n q (negsuc m) (pos k) e low high = absurd (omega (arith, ints, high))
-quotient_is n q d (negsuc k) e low high = absurd (omega (arith, ints, low))
 
 -- a product of a number within m and one within n is within m * n
 pub product_within : (x y : ℤ) (m n : ℕ) → unsigned_abs x ≤ m → unsigned_abs y ≤ n → unsigned_abs (x *ℤ y) ≤ m * n
@@ -135,25 +124,94 @@ line_ramp s j (suc n) h =
     ∙ ap (led value) (line_ramp t (j + 1) n (omega arith))
     ∙ ap (λ m. (line_at_step s m, value ∷ ramp_of s.from s.to (s.number + 1) s.way n)) sum
 
-one_on : (lengths : List ℕ) (n k left : ℕ) → HasPassed lengths n k left → HasPassed lengths (n + 1) k (left + 1)
-one_on lengths n k left p =
-    let b = p.begins in record { begins = omega arith; passed = λ i h. let q = p.passed i h in omega arith }
+pub not_zero : (n : ℕ) → (suc n == 0) ≡ false
+not_zero n = grind (arith, nat_tests)
+
+-- the rest of an interp's cycle is a ramp
+pub interp_ramp : (s : InterpState) (x : ℤ) (j n : ℕ) → s.sample + suc n ≡ s.ksmps →
+    run interp_step (λ j. x ∷ []) s j (suc n) ≡ (
+      record { ksmps = s.ksmps; before = x; sample = 0 },
+      ramp_of s.before x (s.sample + 1) s.ksmps (suc n),
+    )
+interp_ramp s x j zero e =
+    let value : ℤ = clamp (part_way s.before x (s.sample + 1) s.ksmps) in
+    let round : (s.sample + 1) % s.ksmps ≡ 0 = ap (λ k. k % s.ksmps) (omega (arith, e)) ∙ mod_self s.ksmps in
+    ap (λ k. (record { ksmps = s.ksmps; before = if k == 0 then x else s.before; sample = k }, value ∷ [])) round
+interp_ramp s x j (suc n) e =
+    let t : InterpState = record { ksmps = s.ksmps; before = s.before; sample = suc s.sample } in
+    let value : ℤ = clamp (part_way s.before x (s.sample + 1) s.ksmps) in
+    let next : (s.sample + 1) % s.ksmps ≡ suc s.sample =
+    ap (λ k. k % s.ksmps) (omega arith) ∙ mod-eq_of_lt (omega (arith, e)) in
+    let at : ℕ → Bool → InterpState = λ k new. record {
+      ksmps = s.ksmps;
+      before = if new then x else s.before;
+      sample = k;
+    } in
+    ap (λ k. led value (run interp_step (λ j. x ∷ []) (at k (k == 0)) (j + 1) (suc n))) next
+    ∙ ap (λ b. led value (run interp_step (λ j. x ∷ []) (at (suc s.sample) b) (j + 1) (suc n))) (not_zero s.sample)
+    ∙ ap (led value) (interp_ramp t x (j + 1) n (omega (arith, e)))
+    ∙ ap (λ k. (record { ksmps = s.ksmps; before = x; sample = 0 }, value ∷ ramp_of s.before x k s.ksmps (suc n)))
+    (omega arith)
+
+one_on : (lengths : List ℕ) (n k begin d : ℕ) → IsPlace lengths n k begin → d ≡ slice_index lengths k
+    → n + 1 < begin + d → IsPlace lengths (n + 1) k begin
+one_on lengths n k begin d p e room =
+    let real = p.real in
+    record {
+      come = HasPassed-later lengths n (n + 1) k begin p.come (omega arith);
+      real = real;
+      inside = λ h. omega arith;
+    }
 
 -- a linseg's steps within a piece are a ramp
-pub linseg_ramp : (s : LinsegState) (j n k left d : ℕ) (here next : ℤ) → HasPassed s.lengths s.number k left
+pub linseg_ramp : (s : LinsegState) (j n k begin d : ℕ) (here next : ℤ) → IsPlace s.lengths s.number k begin
     → k < length s.lengths → d ≡ slice_index s.lengths k →
-    left + n ≤ d → here ≡ argument s.values k → next ≡ argument s.values (k + 1) → s.number + n ≤ last_number →
-    run linseg_step (λ j. []) s j n ≡ (linseg_at_step s (s.number + n), ramp_of here next left d n)
-linseg_ramp s j zero k left d here next p inside ed room eh en h = ap (λ m. (linseg_at_step s m, [])) (omega arith)
-linseg_ramp s j (suc n) k left d here next p inside ed room eh en h =
+    s.number + n ≤ begin + d → here ≡ argument s.values k → next ≡ argument s.values (k + 1)
+    → s.number + n ≤ last_number →
+    run linseg_step (λ j. []) s j n
+    ≡ (linseg_at_step s (s.number + n), ramp_of here next (s.number - begin) d n)
+linseg_ramp s j zero k begin d here next p inside ed room eh en h = ap (λ m. (linseg_at_step s m, [])) (omega arith)
+linseg_ramp s j (suc zero) k begin d here next p inside ed room eh en h =
+    let known : clamp (on_pieces s.values s.lengths s.number) ≡ clamp (part_way here next (s.number - begin) d) =
+    sym (on_piece s.values s.lengths s.number k begin d here next p inside ed eh en) in
+    ap (λ m. (linseg_at_step s m, clamp (on_pieces s.values s.lengths s.number) ∷ [])) (omega arith)
+    ∙ ap (λ z. (linseg_at_step s (s.number + 1), z ∷ [])) known
+linseg_ramp s j (suc (suc n)) k begin d here next p inside ed room eh en h =
     let t : LinsegState = linseg_at_step s (s.number + 1) in
     let e : number_after (s.number + 1) ≡ s.number + 1 = omega arith in
     let value : ℤ = clamp (on_pieces s.values s.lengths s.number) in
-    let sum : (s.number + 1) + n ≡ s.number + suc n = omega arith in
-    let known : value ≡ clamp (part_way here next left d) =
-    sym (on_piece s.values s.lengths s.number k left d here next p inside ed (omega arith) eh en) in
-    ap (λ m. led value (run linseg_step (λ j. []) (linseg_at_step s m) (j + 1) n)) e
-    ∙ ap (led value) (linseg_ramp t (j + 1) n k (left + 1) d here next (one_on s.lengths s.number k left p) inside ed
-    (omega arith) eh en (omega arith))
-    ∙ ap (λ m. (linseg_at_step s m, value ∷ ramp_of here next (left + 1) d n)) sum
-    ∙ ap (λ z. (linseg_at_step s (s.number + suc n), z ∷ ramp_of here next (left + 1) d n)) known
+    let come = p.come.come in
+    let sum : (s.number + 1) + suc n ≡ s.number + suc (suc n) = omega arith in
+    let known : value ≡ clamp (part_way here next (s.number - begin) d) =
+    sym (on_piece s.values s.lengths s.number k begin d here next p inside ed eh en) in
+    let on : (s.number + 1) - begin ≡ (s.number - begin) + 1 = omega arith in
+    ap (λ m. led value (run linseg_step (λ j. []) (linseg_at_step s m) (j + 1) (suc n))) e
+    ∙ ap (led value) (linseg_ramp t (j + 1) (suc n) k begin d here next
+    (one_on s.lengths s.number k begin d p ed (omega arith)) inside ed (omega arith) eh en (omega arith))
+    ∙ ap (λ m. (linseg_at_step s m, value ∷ ramp_of here next ((s.number + 1) - begin) d (suc n))) sum
+    ∙ ap (λ m. (linseg_at_step s (s.number + suc (suc n)), value ∷ ramp_of here next m d (suc n))) on
+    ∙ ap (λ z. (
+      linseg_at_step s (s.number + suc (suc n)),
+      z ∷ ramp_of here next ((s.number - begin) + 1) d (suc n),
+    )) known
+
+-- after the last piece they are the last value
+pub linseg_holds : (s : LinsegState) (j n k begin : ℕ) (z : ℤ) → IsPlace s.lengths s.number k begin
+    → length s.lengths ≤ k → z ≡ argument s.values k → s.number + n ≤ last_number →
+    run linseg_step (λ j. []) s j n ≡ (linseg_at_step s (s.number + n), replicate n (clamp z))
+linseg_holds s j zero k begin z p over e h = ap (λ m. (linseg_at_step s m, [])) (omega arith)
+linseg_holds s j (suc n) k begin z p over e h =
+    let t : LinsegState = linseg_at_step s (s.number + 1) in
+    let after : number_after (s.number + 1) ≡ s.number + 1 = omega arith in
+    let value : ℤ = clamp (on_pieces s.values s.lengths s.number) in
+    let real = p.real in
+    let later : IsPlace s.lengths (s.number + 1) k begin = record {
+      come = HasPassed-later s.lengths s.number (s.number + 1) k begin p.come (omega arith);
+      real = real;
+      inside = λ l. absurd (omega arith);
+    } in
+    ap (λ m. led value (run linseg_step (λ j. []) (linseg_at_step s m) (j + 1) n)) after
+    ∙ ap (led value) (linseg_holds t (j + 1) n k begin z later over e (omega arith))
+    ∙ ap (λ m. (linseg_at_step s m, value ∷ replicate n (clamp z))) (omega arith)
+    ∙ ap (λ y. (linseg_at_step s (s.number + suc n), y ∷ replicate n (clamp z)))
+    (sym (last_value s.values s.lengths s.number k begin z p over e))

@@ -1,50 +1,118 @@
 -- A list in a ring: as it is filled, and after a new value took the place of the oldest.
-use Rattle.std.proofs.Common.{◌≡◌, ℕ, suc, ◌+◌, ◌-◌, ◌<◌, ◌≤◌, ◌⊎◌, inl, inr, List, [], ◌∷◌, ◌++◌, length, take, drop}
-use Rattle.std.proofs.Common.{set, get_or, replicate, ℤ, pos, ap, sym, ◌∙◌, subst, arith, append_assoc}
-use Rattle.std.proofs.lemmas.List.{append-nil, drop_more, take_more_set, take_all, drop-set-lt, length-append}
-use Rattle.std.proofs.lemmas.List.{length-set}
+use Rattle.std.proofs.Common.{◌≡◌, ℕ, zero, suc, ◌+◌, ◌-◌, ◌<◌, ◌≤◌, ◌⊎◌, inl, inr, List, [], ◌∷◌, ◌++◌, length, map}
+use Rattle.std.proofs.Common.{take, drop, replicate, ℤ, pos, refl, ap, sym, ◌∙◌, subst, arith, append_assoc}
+use Rattle.std.proofs.Common.{length-append, length-drop}
+use Rattle.std.specs.List.{range_with_len}
+use Rattle.std.proofs.lemmas.List.{append-nil, drop-drop, drop_more, length-take-le, take_all, take-append-drop}
+use Rattle.std.proofs.lemmas.List.FromFn.{length-map-range_with_len}
 use Rattle.std.proofs.Math.ListN.{drop_of_length-le}
+use Rattle.std.proofs.Math.Seq.{drop-append_seam, take-append_seam}
 use Rattle.cs_signal.specs.Delay.{delay_step}
+use Rattle.cs_signal.specs.Operands.{argument, operand_at}
 use Rattle.cs_signal.specs.Steps.{run}
 use Rattle.cs_signal.specs.Walk.{HasRun}
-use Rattle.cs_signal.specs.inner.Ring.{IsNextPlace, in_order, line_in}
-use Rattle.cs_signal.proofs.Walks.{HasRun_none}
+use Rattle.cs_signal.specs.declared.operand.Operand.TheVariants.{Held}
+use Rattle.cs_signal.specs.inner.Ring.{IsWrapped, in_order, line_in}
+use Rattle.cs_signal.proofs.Walks.{HasRun_none, led}
 
--- the list without its oldest value and with the new one behind
-renewed : (ring : List ℤ) (oldest : ℕ) (x : ℤ) → oldest < length ring →
-    drop (oldest + 1) ring ++ take (oldest + 1) (set ring oldest x) ≡ drop 1 (in_order ring oldest) ++ x ∷ []
-renewed ring oldest x h =
-    let d = drop (oldest + 1) ring in
-    let t = take oldest ring in
-    ap (λ l. d ++ l) (take_more_set ring oldest x h) ∙ sym (append_assoc d t (x ∷ []))
-    ∙ ap (λ l. drop 1 (l ++ t) ++ x ∷ []) (sym (drop_more ring oldest (pos 0) h))
+-- as many steps as values leave a line: they are the results, and what came stands behind what stays
+leave : (x : ℕ → ℤ) (old stays : List ℤ) (j : ℕ) →
+    run delay_step (λ j. x j ∷ []) (old ++ stays) j (length old)
+    ≡ (stays ++ map x (range_with_len j (length old)), old)
+leave x [] stays j = ap (λ l. (l, [])) (sym (append-nil stays))
+leave x (o ∷ old) stays j =
+    let next : List ℤ = stays ++ x j ∷ [] in
+    let more : List ℤ = map x (range_with_len (j + 1) (length old)) in
+    ap (λ l. led o (run delay_step (λ j. x j ∷ []) l (j + 1) (length old))) (append_assoc old stays (x j ∷ []))
+    ∙ ap (led o) (leave x old next (j + 1))
+    ∙ ap (λ l. (l, o ∷ old)) (append_assoc stays (x j ∷ []) more)
 
-turned : (ring : List ℤ) (oldest next : ℕ) (x : ℤ) → oldest < length ring → IsNextPlace oldest (length ring) next →
-    in_order (set ring oldest x) next ≡ drop 1 (in_order ring oldest) ++ x ∷ []
-turned ring oldest next x h (inl n) =
-    ap (in_order (set ring oldest x)) n.1
-    ∙ ap (λ l. l ++ take (oldest + 1) (set ring oldest x)) (drop-set-lt (oldest + 1) ring oldest x (omega arith))
-    ∙ renewed ring oldest x h
-turned ring oldest next x h (inr n) =
-    let e = n.0 in
-    let long = length-set ring oldest x in
-    ap (in_order (set ring oldest x)) n.1
-    ∙ append-nil (set ring oldest x) ∙ sym (take_all (oldest + 1) (set ring oldest x) (omega arith))
-    ∙ ap (λ l. l ++ take (oldest + 1) (set ring oldest x)) (sym (drop_of_length-le ring (omega arith)))
-    ∙ renewed ring oldest x h
+-- how long a list is some of whose items were replaced
+pub spliced : (l new : List ℤ) (place count : ℕ) → place + count ≤ length l → length new ≡ count →
+    length (take place l ++ (new ++ drop (place + count) l)) ≡ length l
+spliced l new place count room long =
+    let first : length (take place l) ≡ place = length-take-le place l (omega arith) in
+    let left = length-drop (place + count) l in
+    let more = length-append new (drop (place + count) l) in
+    length-append (take place l) (new ++ drop (place + count) l) ∙ omega (arith, first, left, more, long)
 
-pub inside_ring : (place len next : ℕ) → place < len → IsNextPlace place len next → next < len
-inside_ring place len next h (inl n) = omega (arith, n.0, n.1)
-inside_ring place len next h (inr n) = omega (arith, n.1, h)
+-- a ring in order is what stands up to a place, and what stands from there on and before the oldest
+parted : (ring : List ℤ) (place count : ℕ) →
+    in_order ring place
+    ≡ take count (drop place ring) ++ (drop (place + count) ring ++ take place ring)
+parted ring place count =
+    ap (λ l. l ++ take place ring) (sym (take-append-drop count (drop place ring))
+    ∙ ap (λ l. take count (drop place ring) ++ l) (drop-drop count place ring))
+    ∙ append_assoc (take count (drop place ring)) (drop (place + count) ring) (take place ring)
 
--- a step of a delay
-pub delayed : (ring : List ℤ) (oldest next : ℕ) (x value : ℤ) → oldest < length ring → value ≡ get_or ring oldest value
-    → IsNextPlace oldest (length ring) next →
-    (in_order (set ring oldest x) next, value) ≡ delay_step (in_order ring oldest) (x ∷ [])
-delayed ring oldest next x value h ev en =
-    let first : value ≡ get_or (in_order ring oldest) 0 (pos 0) =
-    ev ∙ ap (λ l. get_or (l ++ take oldest ring) 0 (pos 0)) (sym (drop_more ring oldest value h)) in
-    ap (λ l. (l, value)) (turned ring oldest next x h en) ∙ ap (λ z. (drop 1 (in_order ring oldest) ++ x ∷ [], z)) first
+-- the ring after its values from a place on were exchanged, from the place behind them on
+exchanged_from : (ring new : List ℤ) (place count : ℕ) → place + count ≤ length ring → length new ≡ count →
+    in_order (take place ring ++ (new ++ drop (place + count) ring)) (place + count)
+    ≡ (drop (place + count) ring ++ take place ring) ++ new
+exchanged_from ring new place count room long =
+    let before : List ℤ = take place ring in
+    let behind : List ℤ = drop (place + count) ring in
+    let first : length before ≡ place = length-take-le place ring (omega arith) in
+    let size : length (before ++ new) ≡ place + count = length-append before new ∙ omega (arith, first, long) in
+    ap (λ l. in_order l (place + count)) (sym (append_assoc before new behind))
+    ∙ ap (λ l. l ++ take (place + count) ((before ++ new) ++ behind))
+    (ap (λ n. drop n ((before ++ new) ++ behind)) (sym size)
+    ∙ drop-append_seam (before ++ new) behind)
+    ∙ ap (λ l. behind ++ l) (ap (λ n. take n ((before ++ new) ++ behind)) (sym size)
+    ∙ take-append_seam (before ++ new) behind)
+    ∙ sym (append_assoc behind before new)
+
+-- so many steps of a delay in a ring
+pub passed : (x : ℕ → ℤ) (ring : List ℤ) (place count j : ℕ) → place + count ≤ length ring →
+    run delay_step (λ j. x j ∷ []) (in_order ring place) j count
+    ≡ (
+      in_order (take place ring ++ (map x (range_with_len j count) ++ drop (place + count) ring)) (place + count),
+      take count (drop place ring),
+    )
+passed x ring place count j room =
+    let old : List ℤ = take count (drop place ring) in
+    let stays : List ℤ = drop (place + count) ring ++ take place ring in
+    let rest = length-drop place ring in
+    let long : length old ≡ count = length-take-le count (drop place ring) (omega (arith, rest)) in
+    let new : length (map x (range_with_len j count)) ≡ count = length-map-range_with_len x j count in
+    ap (λ l. run delay_step (λ j. x j ∷ []) l j count) (parted ring place count)
+    ∙ ap (λ n. run delay_step (λ j. x j ∷ []) (old ++ stays) j n) (sym long)
+    ∙ leave x old stays j
+    ∙ ap (λ n. (stays ++ map x (range_with_len j n), old)) long
+    ∙ ap (λ l. (l, old)) (sym (exchanged_from ring (map x (range_with_len j count)) place count room new))
+
+-- behind its last place a ring begins again
+pub wraps : (ring : List ℤ) (place next : ℕ) → IsWrapped place (length ring) next
+    → in_order ring place ≡ in_order ring next
+wraps ring place next (inl h) = ap (in_order ring) (sym h.1)
+wraps ring place next (inr h) =
+    ap (in_order ring) h.0
+    ∙ ap (λ l. l ++ take (length ring) ring) (drop_of_length-le ring (omega arith))
+    ∙ take_all (length ring) ring (omega arith)
+    ∙ sym (append-nil ring) ∙ ap (in_order ring) (sym h.1)
+
+pub inside_ring : (place len next : ℕ) → place ≤ len → 0 < len → IsWrapped place len next → next < len
+inside_ring place len next h some (inl n) = let off = n.0 in omega (arith, n.1, off, h)
+inside_ring place len next h some (inr n) = omega (arith, n.1, some)
+
+-- an operand at the frames of a run
+pub held_run : (value : ℤ) (from count : ℕ)
+    → replicate count value ≡ map (operand_at (Held value)) (range_with_len from count)
+held_run value from zero = refl
+held_run value from (suc count) = ap (λ l. value ∷ l) (held_run value (from + 1) count)
+
+pub row_run : (values : List ℤ) (from count : ℕ) → from + count ≤ length values
+    → take count (drop from values) ≡ map (argument values) (range_with_len from count)
+row_run values from zero h = refl
+row_run values from (suc count) h =
+    ap (take (suc count)) (drop_more values from (pos 0) (omega arith))
+    ∙ ap (λ l. argument values from ∷ l) (row_run values (from + 1) count (omega arith))
+
+-- a vector all of whose items were written
+pub written : (n : ℕ) (new old : List ℤ) → length new ≡ n → length old ≡ n → take n (new ++ drop (length new) old) ≡ new
+written n new old e f =
+    let none : drop (length new) old ≡ [] = drop_of_length-le old (omega (arith, e, f)) in
+    ap (λ l. take n (new ++ l)) none ∙ ap (take n) (append-nil new) ∙ take_all n new (omega (arith, e))
 
 -- a ring in which nothing has been stored, and one that is full
 pub none_yet : (count : ℕ) → line_in count [] 0 ≡ replicate count (pos 0)

@@ -1,5 +1,4 @@
 -- What private clauses alone cite.
-pub mod Inverses
 pub mod Level
 pub mod Pieces
 pub mod Ramp

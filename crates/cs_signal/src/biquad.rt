@@ -7,10 +7,10 @@ ghost use Rattle.cs_signal.specs.Biquad.{all_held, biquad_step, filtered, inputs
 ghost use Rattle.cs_signal.specs.Operands.{operand_at, Lasts};
 ghost use Rattle.cs_signal.specs.Steps.{run};
 
+use crate::Operand;
 use crate::generator::Generator;
 use crate::operand::argument;
-use crate::{Divisor, Operand};
-use cs_base::Num;
+use cs_base::{Divisor, Num};
 use std::marker::Model;
 
 /// A `biquad` of a note: its last two inputs and results, the later first, 0 before the first step.

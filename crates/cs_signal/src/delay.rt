@@ -1,5 +1,7 @@
 // `delay`: its input of a fixed number of samples ago.
-ghost use Rattle.std.specs.Prelude.{ℤ, ◌≡◌, ◌<◌, ◌≤◌, ◌∷◌, [], List, IfOk, length, vec_capacity};
+ghost use Rattle.std.specs.Prelude.{ℤ, ◌≡◌, ◌<◌, ◌≤◌, ◌+◌, ◌∷◌, ◌++◌, [], List, IfOk, length, vec_capacity};
+ghost use Rattle.std.specs.Prelude.{drop, map, replicate, take};
+ghost use Rattle.std.specs.List.{range_with_len};
 ghost use Rattle.cs_base.specs.Heads.{header_of_head};
 ghost use Rattle.cs_base.specs.declared.resource.Rate.{Rate};
 ghost use Rattle.cs_signal.specs.Delay.{delay_start, delay_step};
@@ -7,7 +9,7 @@ ghost use Rattle.cs_signal.specs.Operands.{operand_at, Lasts};
 ghost use Rattle.cs_signal.specs.Pace.{pace_of};
 ghost use Rattle.cs_signal.specs.Steps.{run};
 ghost use Rattle.cs_signal.specs.Walk.{HasRun};
-ghost use Rattle.cs_signal.specs.inner.Ring.{IsNextPlace, IsRing, in_order, line_in};
+ghost use Rattle.cs_signal.specs.inner.Ring.{IsRing, IsWrapped, in_order, line_in};
 
 use crate::Operand;
 use crate::generator::Generator;
@@ -90,7 +92,8 @@ impl Generator for Delay {
 
 // A step for each frame of `out`; the result is the place of the oldest value.
 fn pass(ring: &mut Vec<Num>, count: usize, oldest: usize, x: &Operand, out: &mut [Num]) -> usize
-    requires { IsRing count ring.old.items (vec_capacity ring.old) oldest }
+    requires ring { IsRing count ring.old.items (vec_capacity ring.old) oldest }
+    requires last { Lasts (length out.old) x.now }
     ensures value { (line_in count ring.new.items result, out.new)
         ≡ run delay_step (λ j. operand_at x.now j ∷ []) (line_in count ring.old.items oldest) 0 (length out.old) }
     ensures kept { IsRing count ring.new.items (vec_capacity ring.new) result }
@@ -106,6 +109,7 @@ fn pass(ring: &mut Vec<Num>, count: usize, oldest: usize, x: &Operand, out: &mut
 fn filled_on(ring: &mut Vec<Num>, count: usize, x: &Operand, out: &mut [Num]) -> usize
     requires some { length ring.old.items < count }
     requires memory { count ≤ vec_capacity ring.old }
+    requires last { Lasts (length out.old) x.now }
     ensures value { (line_in count ring.new.items result, out.new)
         ≡ run delay_step (λ j. operand_at x.now j ∷ []) (line_in count ring.old.items 0) 0 (length out.old) }
     ensures kept { IsRing count ring.new.items (vec_capacity ring.new) result }
@@ -136,34 +140,71 @@ fn fill(ring: &mut Vec<Num>, count: usize, x: &Operand, out: &mut [Num]) -> usiz
     filled
 }
 
-// The steps from a frame on, in a full ring whose oldest value has this place; the result is the place of the oldest
-// value after them.
-fn turned(ring: &mut Vec<Num>, oldest: usize, x: &Operand, from: usize, out: &mut [Num]) -> usize
-    requires { oldest < length ring.old.items }
+// The steps from a frame on, in a full ring whose oldest value has this place, run by run up to the ring's end; the
+// result is the place of the oldest value after them.
+fn turned(ring: &mut [Num], oldest: usize, x: &Operand, from: usize, out: &mut [Num]) -> usize
+    requires oldest { oldest < length ring.old }
+    requires last { Lasts (length out.old) x.now }
     ensures run { (first : List ℤ)
         → HasRun delay_step (λ j. operand_at x.now j ∷ []) first (length out.old) from
-        (in_order ring.old.items oldest) out.old
-        → (in_order ring.new.items result, out.new)
+        (in_order ring.old oldest) out.old
+        → (in_order ring.new result, out.new)
         ≡ run delay_step (λ j. operand_at x.now j ∷ []) first 0 (length out.old) }
-    ensures inside { result < length ring.new.items }
-    ensures long { length ring.new.items ≡ length ring.old.items }
+    ensures inside { result < length ring.new }
+    ensures long { length ring.new ≡ length ring.old }
 {
-    let len = ring.len();
     let mut place = oldest;
-    for j in from..out.len() {
-        let value = ring[place];
-        ring[place] = x.at(j);
-        out[j] = value;
-        place = after(place, len);
+    let mut frame = from;
+    while frame < out.len() {
+        let count = (ring.len() - place).min(out.len() - frame);
+        exchanged(ring, place, x, frame, count, out);
+        frame += count;
+        place = wrapped(place + count, ring.len());
     }
     place
 }
 
-// The place after this one in a ring.
-#[inline(always)]
-fn after(place: usize, len: usize) -> usize
-    requires { place < len }
-    ensures { IsNextPlace place len result }
+// So many values leave the ring, from a place on, and others from a frame on come into their places.
+fn exchanged(
+    ring: &mut [Num],
+    place: usize,
+    x: &Operand,
+    from: usize,
+    count: usize,
+    out: &mut [Num],
+)
+    requires ring { place + count ≤ length ring.old }
+    requires out { from + count ≤ length out.old }
+    requires last { Lasts (length out.old) x.now }
+    ensures out { out.new ≡ take from out.old ++ (take count (drop place ring.old) ++ drop (from + count) out.old) }
+    ensures ring { ring.new ≡ take place ring.old
+        ++ (map (operand_at x.now) (range_with_len from count) ++ drop (place + count) ring.old) }
 {
-    if place + 1 == len { 0 } else { place + 1 }
+    out[from..from + count].copy_from_slice(&ring[place..place + count]);
+    match x {
+        Operand::Held(value) => hold(ring, place, count, *value),
+        Operand::Row(values) => put(ring, place, count, &values[from..from + count]),
+    }
+}
+
+fn hold(ring: &mut [Num], place: usize, count: usize, value: Num)
+    requires { place + count ≤ length ring.old }
+    ensures { ring.new ≡ take place ring.old ++ (replicate count value ++ drop (place + count) ring.old) }
+{
+    ring[place..place + count].fill(value);
+}
+
+fn put(ring: &mut [Num], place: usize, count: usize, values: &[Num])
+    requires fits { place + count ≤ length ring.old }
+    requires count { length values.now ≡ count }
+    ensures { ring.new ≡ take place ring.old ++ (values.now ++ drop (place + count) ring.old) }
+{
+    ring[place..place + count].copy_from_slice(values);
+}
+
+// A place in a ring, of which the one behind the last is the first.
+fn wrapped(place: usize, len: usize) -> usize
+    ensures { IsWrapped place len result }
+{
+    if place == len { 0 } else { place }
 }

@@ -1,17 +1,16 @@
 // `diff`: how much its input has risen since the step before.
-ghost use Rattle.std.specs.Prelude.{◌≡◌, ◌∷◌, [], length, pos};
+ghost use Rattle.std.specs.Prelude.{◌≡◌, pos};
 ghost use Rattle.cs_signal.specs.Diff.{diff_step};
-ghost use Rattle.cs_signal.specs.Operands.{operand_at, Lasts};
-ghost use Rattle.cs_signal.specs.Steps.{run};
 
 use crate::Operand;
 use crate::generator::Generator;
 use crate::operand::argument;
+use crate::stepwise::{Stepper, step_by_step};
 use cs_base::Num;
 use std::marker::Model;
 
 /// A `diff` of a note: the input of the step before, 0 before the first.
-#[derive(Drop)]
+#[derive(Clone, Copy)]
 pub struct Diff {
     before: Num,
 }
@@ -20,6 +19,8 @@ impl Model for Diff {
     ghost use Rattle.std.specs.Prelude.{ℤ};
 
     ghost Value = { ℤ };
+
+    ghost inverse = { λ before. record { before = before } };
 
     ghost view = { λ unit. unit.before };
 }
@@ -33,25 +34,18 @@ impl Diff {
             before: Num::of_raw(0),
         }
     }
+}
+
+impl Stepper for Diff {
+    ghost stepped = { diff_step };
 
     // One step: this value less the one before.
     #[inline(always)]
-    fn step(&mut self, x: Num) -> Num
-        ensures { (self.new, result) ≡ diff_step self.old (x ∷ []) }
-    {
+    fn step(&mut self, inputs: &[Num]) -> Num {
+        let x = argument(inputs, 0);
         let risen = x.sub(self.before);
         self.before = x;
         risen
-    }
-
-    // A step for each frame of `out`.
-    fn block(&mut self, x: &Operand, out: &mut [Num])
-        requires { Lasts (length out.old) x.now }
-        ensures { (self.new, out.new) ≡ run diff_step (λ j. operand_at x.now j ∷ []) self.old 0 (length out.old) }
-    {
-        for j in 0..out.len() {
-            out[j] = self.step(x.at(j));
-        }
     }
 }
 
@@ -61,13 +55,10 @@ impl Generator for Diff {
     ghost moving = { 1 };
 
     fn tick(&mut self, inputs: &[Num]) -> Num {
-        self.step(argument(inputs, 0))
+        self.step(inputs)
     }
 
     fn render(&mut self, inputs: &[Operand], out: &mut [Num]) {
-        match inputs {
-            [x] => self.block(x, out),
-            _ => unreachable!(),
-        }
+        step_by_step(self, inputs, out);
     }
 }

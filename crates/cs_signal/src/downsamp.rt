@@ -1,21 +1,22 @@
 // `downsamp`: a sound as a control value, by the first sample of each control cycle.
-ghost use Rattle.std.specs.Prelude.{◌≡◌, ◌∷◌, [], length};
+ghost use Rattle.std.specs.Prelude.{◌≡◌};
 ghost use Rattle.cs_signal.specs.Downsamp.{downsamp_step};
-ghost use Rattle.cs_signal.specs.Operands.{operand_at, Lasts};
-ghost use Rattle.cs_signal.specs.Steps.{run};
 
 use crate::Operand;
 use crate::generator::Generator;
 use crate::operand::argument;
+use crate::stepwise::{Stepper, step_by_step};
 use cs_base::Num;
 use std::marker::Model;
 
 /// A `downsamp` of a note, which keeps nothing.
-#[derive(Drop)]
+#[derive(Clone, Copy)]
 pub struct Downsamp {}
 
 impl Model for Downsamp {
     ghost Value = { Unit {0} };
+
+    ghost inverse = { λ _. record {} };
 
     ghost view = { λ unit. tt };
 }
@@ -27,23 +28,15 @@ impl Downsamp {
     {
         Downsamp {}
     }
+}
+
+impl Stepper for Downsamp {
+    ghost stepped = { downsamp_step };
 
     // One step, which is a control cycle: `x` is the cycle's first sample, and the result.
     #[inline(always)]
-    fn step(&mut self, x: Num) -> Num
-        ensures { (self.new, result) ≡ downsamp_step self.old (x ∷ []) }
-    {
-        x
-    }
-
-    // A step for each place of `out`.
-    fn block(&mut self, x: &Operand, out: &mut [Num])
-        requires { Lasts (length out.old) x.now }
-        ensures { (self.new, out.new) ≡ run downsamp_step (λ j. operand_at x.now j ∷ []) self.old 0 (length out.old) }
-    {
-        for j in 0..out.len() {
-            out[j] = self.step(x.at(j));
-        }
+    fn step(&mut self, inputs: &[Num]) -> Num {
+        argument(inputs, 0)
     }
 }
 
@@ -53,13 +46,10 @@ impl Generator for Downsamp {
     ghost moving = { 1 };
 
     fn tick(&mut self, inputs: &[Num]) -> Num {
-        self.step(argument(inputs, 0))
+        self.step(inputs)
     }
 
     fn render(&mut self, inputs: &[Operand], out: &mut [Num]) {
-        match inputs {
-            [x] => self.block(x, out),
-            _ => unreachable!(),
-        }
+        step_by_step(self, inputs, out);
     }
 }

@@ -11,6 +11,7 @@ use crate::Operand;
 use crate::generator::Generator;
 use crate::line::part_way;
 use crate::operand::argument;
+use crate::ramp::ramp;
 use cs_base::{Head, Num};
 use std::marker::Model;
 
@@ -60,6 +61,29 @@ impl Interp {
 
     // A step for each frame of `out`.
     fn block(&mut self, x: &Operand, out: &mut [Num])
+        requires { Lasts (length out.old) x.now }
+        ensures { (self.new, out.new) ≡ run interp_step (λ j. operand_at x.now j ∷ []) self.old 0 (length out.old) }
+    {
+        match x {
+            Operand::Held(value) if self.sample == 0 && out.len() as u64 == self.ksmps => {
+                self.cycle(*value, out);
+            }
+            _ => self.frames(x, out),
+        }
+    }
+
+    // A whole control cycle of one value.
+    fn cycle(&mut self, x: Num, out: &mut [Num])
+        requires first { self.old.sample ≡ 0 }
+        requires whole { length out.old ≡ self.old.ksmps }
+        ensures { (self.new, out.new) ≡ run interp_step (λ j. x ∷ []) self.old 0 (length out.old) }
+    {
+        ramp(self.before, x, 1, self.ksmps, out);
+        self.before = x;
+    }
+
+    // Step by step.
+    fn frames(&mut self, x: &Operand, out: &mut [Num])
         requires { Lasts (length out.old) x.now }
         ensures { (self.new, out.new) ≡ run interp_step (λ j. operand_at x.now j ∷ []) self.old 0 (length out.old) }
     {

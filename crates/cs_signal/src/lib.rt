@@ -7,14 +7,12 @@
 //! noticing; the formulas may not.
 //!
 //! Modules in reading order: `pace` (times in steps), `operand` (inputs over a control cycle), `generator` (what a unit
-//! does), `laws` (examples); then a module an opcode, `ramp` (many steps of a straight line by sums alone) and
-//! `divisor` (many quotients by one number).
+//! does), `laws` (examples); then a module an opcode, `ramp` (many steps of a straight line by sums alone).
 #![tactic(auto)]
 
 mod biquad;
 mod delay;
 mod diff;
-mod divisor;
 mod downsamp;
 mod generator;
 mod integ;
@@ -28,11 +26,11 @@ mod operand;
 mod pace;
 mod ramp;
 mod samphold;
+mod stepwise;
 
 pub use biquad::Biquad;
 pub use delay::Delay;
 pub use diff::Diff;
-pub use divisor::Divisor;
 pub use downsamp::Downsamp;
 pub use generator::Generator;
 pub use integ::Integ;

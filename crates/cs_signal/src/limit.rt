@@ -1,23 +1,24 @@
 // `limit`: its input brought between two bounds.
-ghost use Rattle.std.specs.Prelude.{ℕ, ◌≡◌, ◌∷◌, [], length, pos, ◌+ℤ◌, ◌≤ℤ◌};
+ghost use Rattle.std.specs.Prelude.{◌≡◌, pos, ◌+ℤ◌, ◌≤ℤ◌};
 ghost use Rattle.std.specs.Int.{int_max, int_min};
 ghost use Rattle.cs_base.specs.Numbers.{IsRaw, floor_div};
 ghost use Rattle.cs_signal.specs.Limit.{limit_step, limited};
-ghost use Rattle.cs_signal.specs.Operands.{operand_at, Lasts};
-ghost use Rattle.cs_signal.specs.Steps.{run};
 
 use crate::Operand;
 use crate::generator::Generator;
 use crate::operand::argument;
+use crate::stepwise::{Stepper, step_by_step};
 use cs_base::Num;
 use std::marker::Model;
 
 /// A `limit` of a note, which keeps nothing.
-#[derive(Drop)]
+#[derive(Clone, Copy)]
 pub struct LimitUnit {}
 
 impl Model for LimitUnit {
     ghost Value = { Unit {0} };
+
+    ghost inverse = { λ _. record {} };
 
     ghost view = { λ unit. tt };
 }
@@ -29,26 +30,19 @@ impl LimitUnit {
     {
         LimitUnit {}
     }
+}
+
+impl Stepper for LimitUnit {
+    ghost stepped = { limit_step };
 
     // One step: the value brought between `low` and `high`, and the middle of the two where `low` is above `high`.
     #[inline(always)]
-    fn step(&mut self, x: Num, low: Num, high: Num) -> Num
-        ensures { (self.new, result) ≡ limit_step self.old (x ∷ low ∷ high ∷ []) }
-    {
-        limited(x, low, high)
-    }
-
-    // A step for each frame of `out`.
-    fn block(&mut self, x: &Operand, low: &Operand, high: &Operand, out: &mut [Num])
-        requires x { Lasts (length out.old) x.now }
-        requires low { Lasts (length out.old) low.now }
-        requires high { Lasts (length out.old) high.now }
-        ensures { let at = λ (j : ℕ). operand_at x.now j ∷ operand_at low.now j ∷ operand_at high.now j ∷ [] in
-            (self.new, out.new) ≡ run limit_step at self.old 0 (length out.old) }
-    {
-        for j in 0..out.len() {
-            out[j] = self.step(x.at(j), low.at(j), high.at(j));
-        }
+    fn step(&mut self, inputs: &[Num]) -> Num {
+        limited(
+            argument(inputs, 0),
+            argument(inputs, 1),
+            argument(inputs, 2),
+        )
     }
 }
 
@@ -58,18 +52,11 @@ impl Generator for LimitUnit {
     ghost moving = { 3 };
 
     fn tick(&mut self, inputs: &[Num]) -> Num {
-        self.step(
-            argument(inputs, 0),
-            argument(inputs, 1),
-            argument(inputs, 2),
-        )
+        self.step(inputs)
     }
 
     fn render(&mut self, inputs: &[Operand], out: &mut [Num]) {
-        match inputs {
-            [x, low, high] => self.block(x, low, high, out),
-            _ => unreachable!(),
-        }
+        step_by_step(self, inputs, out);
     }
 }
 

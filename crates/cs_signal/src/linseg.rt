@@ -1,12 +1,11 @@
 // `linseg`: straight pieces from value to value; after the last piece the last value.
-ghost use Rattle.std.specs.Prelude.{ℕ, ◌≡◌, ◌+◌, ◌*◌, ◌<◌, ◌≤◌, ◌∷◌, [], true, false, IfOk, IfSome, length, map};
-ghost use Rattle.std.specs.List.{range_with_len};
+ghost use Rattle.std.specs.Prelude.{◌≡◌, ◌+◌, ◌*◌, ◌<◌, ◌≤◌, [], IfOk, length};
 ghost use Rattle.cs_base.specs.Heads.{header_of_head};
 ghost use Rattle.cs_base.specs.Numbers.{clamp};
 ghost use Rattle.cs_signal.specs.Linseg.{linseg_start, linseg_step, lengths_of, on_pieces, pieces_of, values_of};
 ghost use Rattle.cs_signal.specs.Pace.{pace_of, last_number};
 ghost use Rattle.cs_signal.specs.Steps.{run};
-ghost use Rattle.cs_signal.specs.inner.Pieces.{IsSpot};
+ghost use Rattle.cs_signal.specs.inner.Pieces.{HasPassed, IsPlace};
 
 use crate::generator::Generator;
 use crate::line::part_way;
@@ -17,26 +16,35 @@ use cs_base::{Head, Num, Rate};
 use std::alloc::{AllocError, Global};
 use std::marker::Model;
 
-/// A `linseg` of a note: the values at the ends of its pieces, the steps that each piece takes, and the number of the
-/// step to come.
+/// A `linseg` of a note: the values at the ends of its pieces, the steps that each piece takes, the number of the step
+/// to come, and the place of that step.
 #[derive(Drop)]
 pub struct Linseg {
     values: Vec<Num>,
     lengths: Vec<u64>,
     number: u64,
+    place: Place,
+}
+
+// A piece, and the number of the step at which it begins. Behind the last piece stands the last value, for ever.
+#[derive(Clone, Copy)]
+struct Place {
+    piece: usize,
+    begin: u64,
 }
 
 impl Model for Linseg {
     ghost use Rattle.std.specs.Prelude.{◌≡◌, ◌+◌, ◌≤◌, length};
     ghost use Rattle.cs_signal.specs.Linseg.{LinsegState};
     ghost use Rattle.cs_signal.specs.Pace.{last_number};
+    ghost use Rattle.cs_signal.specs.inner.Pieces.{IsPlace};
 
     ghost Value = { LinsegState };
 
     ghost view = { λ unit. record { values = unit.values.items; lengths = unit.lengths.items; number = unit.number } };
 
     ghost invariant = { λ unit. (length unit.values.items ≡ length unit.lengths.items + 1)
-        × (unit.number ≤ last_number) };
+        × (unit.number ≤ last_number) × IsPlace unit.lengths.items unit.number unit.place.piece unit.place.begin };
 }
 
 impl Linseg {
@@ -46,10 +54,12 @@ impl Linseg {
     {
         let values = values_of(alloc, init)?;
         let lengths = lengths_of(alloc, rate, head, init)?;
+        let place = place_of(&lengths, Place { piece: 0, begin: 0 }, 0);
         Ok(Linseg {
             values,
             lengths,
             number: 0,
+            place,
         })
     }
 
@@ -57,45 +67,53 @@ impl Linseg {
     fn step(&mut self) -> Num
         ensures { (self.new, result) ≡ linseg_step self.old [] }
     {
-        let value = on_pieces(&self.values, &self.lengths, self.number);
+        let value = self.value();
         self.number = next_number(self.number);
+        self.place = place_of(&self.lengths, self.place, self.number);
         value
     }
 
-    // A step for each frame of `out`.
-    fn block(&mut self, out: &mut [Num])
-        ensures { (self.new, out.new) ≡ run linseg_step (λ j. []) self.old 0 (length out.old) }
+    // The value at the step to come.
+    fn value(&self) -> Num
+        ensures { result ≡ clamp (on_pieces self.now.values self.now.lengths self.now.number) }
     {
-        if !self.within_piece(out) {
-            self.frames(out);
+        let Place { piece, begin } = self.place;
+        if piece < self.lengths.len() {
+            part_way(
+                self.values[piece],
+                self.values[piece + 1],
+                self.number - begin,
+                self.lengths[piece],
+            )
+        } else {
+            Num::of_raw(self.values[piece].raw())
         }
     }
 
-    // All steps at once where they lie in one piece; where they don't nothing is done.
-    fn within_piece(&mut self, out: &mut [Num]) -> bool
-        ensures done { result ≡ true → (self.new, out.new) ≡ run linseg_step (λ j. []) self.old 0 (length out.old) }
-        ensures not_done { result ≡ false → (self.new ≡ self.old) × (out.new ≡ out.old) }
+    // A step for each frame of `out`: all at once where they lie in one piece, or after the last.
+    fn block(&mut self, out: &mut [Num])
+        ensures { (self.new, out.new) ≡ run linseg_step (λ j. []) self.old 0 (length out.old) }
     {
         let count = out.len() as u64;
-        let Some(spot) = spot_of(&self.lengths, self.number) else {
-            return false;
-        };
-        let length = self.lengths[spot.piece];
-        if length > i64::MAX as u64
-            || count > length - spot.left
-            || count > i64::MAX as u64 - self.number
-        {
-            return false;
+        let Place { piece, begin } = self.place;
+        if count > i64::MAX as u64 - self.number {
+            self.frames(out);
+        } else if piece == self.lengths.len() {
+            out.fill(self.value());
+            self.number += count;
+        } else if count <= self.lengths[piece] - (self.number - begin) {
+            ramp(
+                self.values[piece],
+                self.values[piece + 1],
+                self.number - begin,
+                self.lengths[piece],
+                out,
+            );
+            self.number += count;
+            self.place = place_of(&self.lengths, self.place, self.number);
+        } else {
+            self.frames(out);
         }
-        ramp(
-            self.values[spot.piece],
-            self.values[spot.piece + 1],
-            spot.left,
-            length,
-            out,
-        );
-        self.number += count;
-        true
     }
 
     fn frames(&mut self, out: &mut [Num])
@@ -154,39 +172,21 @@ fn lengths_of(alloc: Global, rate: Rate, head: &Head, init: &[Num]) -> Result<Ve
     Ok(lengths)
 }
 
-// A step's piece, and how many steps of the piece lie before it.
-#[derive(Clone, Copy)]
-struct Spot {
-    piece: usize,
-    left: u64,
-}
-
-// Where step `n` lies, unless that is after the last piece.
-fn spot_of(lengths: &[u64], n: u64) -> Option<Spot>
-    ensures { IfSome result (λ spot. IsSpot lengths.now n spot.piece spot.left) }
+// The place of a step, from one that is no later.
+fn place_of(lengths: &[u64], from: Place, number: u64) -> Place
+    requires real { from.piece ≤ length lengths.now }
+    requires passed { HasPassed lengths.now number from.piece from.begin }
+    ensures { IsPlace lengths.now number result.piece result.begin }
 {
-    let mut left = n;
-    for k in 0..lengths.len() {
-        if left < lengths[k] {
-            return Some(Spot { piece: k, left });
+    let mut begin = from.begin;
+    for k in from.piece..lengths.len() {
+        if number - begin < lengths[k] {
+            return Place { piece: k, begin };
         }
-        left -= lengths[k];
+        begin += lengths[k];
     }
-    None
-}
-
-// The value at step `n`: on the line of the piece in which it lies, or the last value.
-fn on_pieces(values: &[Num], lengths: &[u64], n: u64) -> Num
-    requires ends { length values.now ≡ length lengths.now + 1 }
-    requires number { n ≤ last_number }
-    ensures { result ≡ clamp (on_pieces values.now lengths.now n) }
-{
-    let mut left = n;
-    for k in 0..lengths.len() {
-        if left < lengths[k] {
-            return part_way(values[k], values[k + 1], left, lengths[k]);
-        }
-        left -= lengths[k];
+    Place {
+        piece: lengths.len(),
+        begin,
     }
-    Num::of_raw(values[lengths.len()].raw())
 }

@@ -38,6 +38,7 @@ impl<'r> Operand<'r> {
 }
 
 /// An argument by its place, counted from 0; one that is missing is 0.
+#[inline(always)]
 pub fn argument(arguments: &[Num], place: usize) -> Num
     ensures { result ≡ argument arguments.now place }
 {

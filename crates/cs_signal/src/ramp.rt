@@ -1,5 +1,6 @@
 // A straight line through many steps, by sums alone.
 ghost use Rattle.std.specs.Prelude.{◌≡◌, ◌<◌, ◌≤◌, ◌+◌, ◌^◌, length, pos, ◌+ℤ◌, ◌-ℤ◌, ◌*ℤ◌, unsigned_abs};
+ghost use Rattle.std.specs.Int.{int_rem_euclid};
 ghost use Rattle.cs_base.specs.Numbers.{IsRaw, clamp};
 ghost use Rattle.cs_signal.specs.Pace.{last_number};
 ghost use Rattle.cs_signal.specs.inner.Ramp.{IsAdvanced, IsParted, ramp_of};
@@ -17,21 +18,22 @@ struct Parts {
 /// The values at parts `n`, `n + 1` and so on of `d` of the way from one value to another, as many as `out` has.
 pub(crate) fn ramp(from: Num, to: Num, n: u64, d: u64, out: &mut [Num])
     requires some { 1 ≤ d }
-    requires wide { d ≤ 2 ^ 63 }
     requires number { n ≤ last_number }
     ensures { out.new ≡ ramp_of from to n d (length out.old) }
 {
-    if n < d && (out.len() as u64) < d - n {
-        before_end(from, to, n, d, out);
+    if n <= d && (out.len() as u64).saturating_sub(1) <= d - n {
+        between_ends(from, to, n, d, out);
     } else {
         anywhere(from, to, n, d, out);
     }
 }
 
-// The same before the end of the way: each value lies between the two, so that nothing is brought into range.
-fn before_end(from: Num, to: Num, n: u64, d: u64, out: &mut [Num])
-    requires wide { d ≤ 2 ^ 63 }
-    requires before { n + length out.old < d }
+// The same up to the end of the way: each value lies between the two, so that nothing is brought into range.
+fn between_ends(from: Num, to: Num, n: u64, d: u64, out: &mut [Num])
+    requires some { 1 ≤ d }
+    requires number { n ≤ last_number }
+    requires begun { n ≤ d }
+    requires room { n + length out.old ≤ d + 1 }
     ensures { out.new ≡ ramp_of from to n d (length out.old) }
 {
     let step = near_rise(from, to, d);
@@ -90,21 +92,20 @@ fn sum(from: i64, whole: i128) -> i64
 fn next(at: Near, by: Near, d: u64) -> Near
     requires at { at.rest < d }
     requires by { by.rest < d }
-    requires wide { d ≤ 2 ^ 63 }
     requires range { IsRaw at.whole }
     requires near { unsigned_abs by.whole < 2 ^ 48 }
     ensures { IsAdvanced d at.whole at.rest by.whole by.rest result.whole result.rest }
 {
-    let rest = at.rest + by.rest;
-    if rest < d {
+    let left = d - by.rest;
+    if at.rest < left {
         Near {
             whole: at.whole + by.whole,
-            rest,
+            rest: at.rest + by.rest,
         }
     } else {
         Near {
             whole: at.whole + by.whole + 1,
-            rest: rest - d,
+            rest: at.rest - left,
         }
     }
 }
@@ -112,7 +113,6 @@ fn next(at: Near, by: Near, d: u64) -> Near
 // The same wherever the parts lie.
 fn anywhere(from: Num, to: Num, n: u64, d: u64, out: &mut [Num])
     requires some { 1 ≤ d }
-    requires wide { d ≤ 2 ^ 63 }
     requires number { n ≤ last_number }
     ensures { out.new ≡ ramp_of from to n d (length out.old) }
 {
@@ -161,7 +161,19 @@ fn parted(n: i128, d: u64) -> Parts
 {
     Parts {
         whole: quotient(n, d),
-        rest: n.rem_euclid(i128::from(d)) as u64,
+        rest: remainder(n, d),
+    }
+}
+
+fn remainder(n: i128, d: u64) -> u64
+    requires { 1 ≤ d }
+    ensures { result ≡ unsigned_abs (int_rem_euclid n (pos d)) }
+{
+    // As in `quotient`.
+    if i64::MIN as i128 <= n && n <= i64::MAX as i128 && d <= i64::MAX as u64 {
+        (n as i64).rem_euclid(d as i64) as u64
+    } else {
+        n.rem_euclid(i128::from(d)) as u64
     }
 }
 
@@ -170,22 +182,21 @@ fn parted(n: i128, d: u64) -> Parts
 fn advanced(at: Parts, by: Parts, d: u64) -> Parts
     requires at { at.rest < d }
     requires by { by.rest < d }
-    requires wide { d ≤ 2 ^ 63 }
     requires far { unsigned_abs at.whole < 2 ^ 120 }
     requires near { unsigned_abs by.whole < 2 ^ 48 }
     ensures sum { IsAdvanced d at.whole at.rest by.whole by.rest result.whole result.rest }
     ensures bounded { unsigned_abs result.whole ≤ unsigned_abs at.whole + 2 ^ 49 }
 {
-    let rest = at.rest + by.rest;
-    if rest < d {
+    let left = d - by.rest;
+    if at.rest < left {
         Parts {
             whole: plus(at.whole, by.whole),
-            rest,
+            rest: at.rest + by.rest,
         }
     } else {
         Parts {
             whole: plus(plus(at.whole, by.whole), 1),
-            rest: rest - d,
+            rest: at.rest - left,
         }
     }
 }

@@ -1,17 +1,16 @@
 // `samphold`: its input while its gate is open, and then the last value held.
-ghost use Rattle.std.specs.Prelude.{ℕ, ◌≡◌, ◌∷◌, [], length, pos};
+ghost use Rattle.std.specs.Prelude.{◌≡◌, pos};
 ghost use Rattle.cs_signal.specs.Samphold.{samphold_step};
-ghost use Rattle.cs_signal.specs.Operands.{operand_at, Lasts};
-ghost use Rattle.cs_signal.specs.Steps.{run};
 
 use crate::Operand;
 use crate::generator::Generator;
 use crate::operand::argument;
+use crate::stepwise::{Stepper, step_by_step};
 use cs_base::Num;
 use std::marker::Model;
 
 /// A `samphold` of a note: its last result, 0 before the first step.
-#[derive(Drop)]
+#[derive(Clone, Copy)]
 pub struct Samphold {
     last: Num,
 }
@@ -20,6 +19,8 @@ impl Model for Samphold {
     ghost use Rattle.std.specs.Prelude.{ℤ};
 
     ghost Value = { ℤ };
+
+    ghost inverse = { λ last. record { last = last } };
 
     ghost view = { λ unit. unit.last };
 }
@@ -33,28 +34,18 @@ impl Samphold {
             last: Num::of_raw(0),
         }
     }
+}
+
+impl Stepper for Samphold {
+    ghost stepped = { samphold_step };
 
     // One step: the value where the gate is above 0, else the last result.
     #[inline(always)]
-    fn step(&mut self, x: Num, gate: Num) -> Num
-        ensures { (self.new, result) ≡ samphold_step self.old (x ∷ gate ∷ []) }
-    {
-        if gate.raw() > 0 {
-            self.last = x;
+    fn step(&mut self, inputs: &[Num]) -> Num {
+        if argument(inputs, 1).raw() > 0 {
+            self.last = argument(inputs, 0);
         }
         self.last
-    }
-
-    // A step for each frame of `out`.
-    fn block(&mut self, x: &Operand, gate: &Operand, out: &mut [Num])
-        requires x { Lasts (length out.old) x.now }
-        requires gate { Lasts (length out.old) gate.now }
-        ensures { let at = λ (j : ℕ). operand_at x.now j ∷ operand_at gate.now j ∷ [] in
-            (self.new, out.new) ≡ run samphold_step at self.old 0 (length out.old) }
-    {
-        for j in 0..out.len() {
-            out[j] = self.step(x.at(j), gate.at(j));
-        }
     }
 }
 
@@ -64,13 +55,10 @@ impl Generator for Samphold {
     ghost moving = { 2 };
 
     fn tick(&mut self, inputs: &[Num]) -> Num {
-        self.step(argument(inputs, 0), argument(inputs, 1))
+        self.step(inputs)
     }
 
     fn render(&mut self, inputs: &[Operand], out: &mut [Num]) {
-        match inputs {
-            [x, gate] => self.block(x, gate, out),
-            _ => unreachable!(),
-        }
+        step_by_step(self, inputs, out);
     }
 }

@@ -1,7 +1,7 @@
 -- How long a curve is.
-use Rattle.std.proofs.Common.{◌≡◌, ℕ, ◌+◌, ◌^◌, ◌%◌, ◌≤◌, Bool, true, false, ◌||◌, ◌==◌, List, [], ◌∷◌, length, map, ℤ}
+use Rattle.std.proofs.Common.{◌≡◌, ℕ, ◌+◌, ◌%◌, ◌≤◌, Bool, true, false, ◌||◌, ◌==◌, List, [], ◌∷◌, length, ℤ}
 use Rattle.std.proofs.Common.{pos, refl, ap, sym, arith, subst, nat_le, ◌&&◌, unsigned_abs, Some, None, if◌then◌else◌}
-use Rattle.std.specs.List.{list_any, list_all, range_with_len}
+use Rattle.std.specs.List.{list_any, list_all}
 use Rattle.std.specs.Ordering.{int_eq}
 use Rattle.std.proofs.lemmas.Bool.Decides.{nat_tests, Decides-int_eq}
 use Rattle.cs_gen.specs.Faults.{lengths, is_size, is_gen, has_negative_length, table_fault}
@@ -88,19 +88,3 @@ made_curve size gen args points h made =
     let long = made.long in
     let len : curve_len (curve_of points) ≡ len_of (length points) = omega (arith, long) in
     record { power = subst (λ n. is_len n ≡ true) (sym len) (made_len size gen args points h made) }
-
--- a power of two of the list
-pub record Power (n : ℕ) : Type 0 where
-  pub exponent : ℕ
-  pub is : n ≡ 2 ^ exponent
-
-any_power : (n : ℕ) (ks : List ℕ) → list_any (λ len. n == len) (map (λ k. 2 ^ k) ks) ≡ true → Power n
-any_power n [] any = absurd cc
-any_power n (k ∷ ks) any =
-    cases (n == 2 ^ k) (list_any (λ len. n == len) (map (λ k. 2 ^ k) ks)) any
-    (λ e. record { exponent = k; is = grind (arith, nat_tests) })
-    (λ e. any_power n ks e)
-
-pub is_len-power : (n : ℕ) → is_len n ≡ true → Power n
-unfolding lengths
-is_len-power n h = any_power n (range_with_len 1 16) h

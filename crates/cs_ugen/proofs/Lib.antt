@@ -2,7 +2,6 @@ pub mod Angles
 pub mod Curves
 pub mod Inputs
 pub mod Loops
-pub mod Masks
 pub mod Oscillators
 pub mod Phases
 pub mod Quotients

@@ -34,6 +34,7 @@ impl Model for Angle {
 
 impl Angle {
     /// The angle of so many parts.
+    #[inline(always)]
     pub(crate) fn of(parts: u32) -> Angle
         requires { parts < turn }
         ensures { result ≡ parts }
@@ -54,7 +55,7 @@ impl Angle {
 
     /// Its place in a curve of so many points a turn, rounded down.
     #[inline(always)]
-    pub(crate) fn place(self, len: u32) -> u32
+    pub(crate) fn place(self, len: usize) -> usize
         requires some { 1 ≤ len }
         requires few { len ≤ 65536 }
         ensures value { result ≡ self * len / turn }
@@ -65,7 +66,7 @@ impl Angle {
 
     /// How far it lies behind that place, in 65,536ths of the way to the next.
     #[inline(always)]
-    pub(crate) fn fraction(self, len: u32) -> u32
+    pub(crate) fn fraction(self, len: usize) -> u32
         requires { len ≤ 65536 }
         ensures value { result ≡ self * len % turn / 256 }
         ensures small { result < 65536 }
@@ -75,11 +76,11 @@ impl Angle {
 
     // The word times a number.
     #[inline(always)]
-    fn times(self, len: u32) -> u128
+    fn times(self, len: usize) -> u128
         ensures value { result ≡ self * len * 1099511627776 }
         ensures small { self < turn }
     {
-        u128::from(self.word) * u128::from(len)
+        u128::from(self.word) * u128::from(len as u64)
     }
 }
 
@@ -96,11 +97,11 @@ pub(crate) fn moved(phase: Angle, by: Angle) -> Angle
 
 // How often a turn's word goes into a number.
 #[inline(always)]
-fn upper(n: u128) -> u32
+fn upper(n: u128) -> usize
     requires { n < 2 ^ 96 }
     ensures { result ≡ n / 2 ^ 64 }
 {
-    (n / 18_446_744_073_709_551_616) as u32
+    (n / 18_446_744_073_709_551_616) as usize
 }
 
 // What is left then, in 2^48ths.

@@ -2,7 +2,6 @@
 ghost use Rattle.std.specs.Prelude.{IfSome, true, ◌≡◌, ◌<◌, ◌^◌, ◌≤◌, ℤ, pos, ◌-ℤ◌, ◌*ℤ◌, unsigned_abs, List};
 ghost use Rattle.std.specs.Int.{int_rem_euclid};
 ghost use Rattle.cs_base.specs.Numbers.{IsRaw, floor_div};
-ghost use Rattle.cs_gen.specs.Tables.{curve_of};
 ghost use Rattle.cs_ugen.specs.Points.{AreShort, IsCurve, IsShort, between_points, curve_len, on_the_way};
 ghost use Rattle.cs_signal.specs.Operands.{argument};
 
@@ -19,27 +18,16 @@ pub trait Curve {
     ghost kept: { Self → Self → Type 0 };
 
     /// How many points it has before the guard point: a power of two from 2 to 65,536.
-    fn len(&self) -> u32
+    fn len(&self) -> usize
         ensures value { result ≡ curve_len (points self.now) }
         ensures curve { IsCurve (points self.now) };
 
     /// The point at a place from 0 to `len`, that at `len` being the guard point.
-    fn at(&mut self, place: u32) -> Num
+    fn at(&mut self, place: usize) -> Num
         requires { place ≤ curve_len (points self.old) }
         ensures value { result ≡ argument (points self.old) place }
         ensures same { points self.new ≡ points self.old }
         ensures kept { kept self.old self.new };
-
-    /// The same of a place before the guard point, which needs no look at where that is.
-    #[inline(always)]
-    fn inner(&mut self, place: u32) -> Num
-        requires { place < curve_len (points self.old) }
-        ensures value { result ≡ argument (points self.old) place }
-        ensures same { points self.new ≡ points self.old }
-        ensures kept { kept self.old self.new }
-    {
-        self.at(place)
-    }
 
     /// Whether all points are known to fit into 32 bits, so that no product with one is looked at.
     #[inline(always)]
@@ -52,7 +40,7 @@ pub trait Curve {
     /// The same curve for a loop, where it lies in one row and `is_short` there; else None.
     #[inline(always)]
     fn short(&self) -> Option<ShortCurve<'_>>
-        ensures { IfSome result (λ s. curve_of s.points.now ≡ points self.now) }
+        ensures { IfSome result (λ s. s.curve.now ≡ points self.now) }
     {
         None
     }
@@ -64,7 +52,7 @@ pub trait Curve {
 
 /// How many points a curve has before its guard point: from 2 to 65,536.
 #[inline(always)]
-pub(crate) fn curve_len<C: Curve>(curve: &C) -> u32
+pub(crate) fn curve_len<C: Curve>(curve: &C) -> usize
     ensures value { result ≡ curve_len (C.points curve.now) }
     ensures least { 2 ≤ result }
     ensures most { result ≤ 65536 }
@@ -74,7 +62,7 @@ pub(crate) fn curve_len<C: Curve>(curve: &C) -> u32
 
 /// The curve between the point at a place and the next, so many 65,536ths of the way.
 #[inline(always)]
-pub(crate) fn between_points<C: Curve>(curve: &mut C, place: u32, fraction: u32) -> Num
+pub(crate) fn between_points<C: Curve>(curve: &mut C, place: usize, fraction: u32) -> Num
     requires place { place < curve_len (C.points curve.old) }
     requires few { curve_len (C.points curve.old) ≤ 65536 }
     requires fraction { fraction < 65536 }
@@ -88,7 +76,7 @@ pub(crate) fn between_points<C: Curve>(curve: &mut C, place: u32, fraction: u32)
 
 #[inline(always)]
 #[tactic(auto, unfolding(crate::specs::Points::between_points))]
-fn read_between<C: Curve>(curve: &mut C, place: u32, fraction: u32) -> Num
+fn read_between<C: Curve>(curve: &mut C, place: usize, fraction: u32) -> Num
     requires place { place < curve_len (C.points curve.old) }
     requires few { curve_len (C.points curve.old) ≤ 65536 }
     requires fraction { fraction < 65536 }
@@ -96,7 +84,7 @@ fn read_between<C: Curve>(curve: &mut C, place: u32, fraction: u32) -> Num
     ensures same { C.points curve.new ≡ C.points curve.old }
     ensures kept { C.kept curve.old curve.new }
 {
-    let here = curve.inner(place);
+    let here = curve.at(place);
     let next = curve.at(place + 1);
     if curve.is_short() {
         short_way(here, next, fraction)

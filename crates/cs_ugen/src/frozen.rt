@@ -1,43 +1,66 @@
 // A table that stays as it was made.
-ghost use Rattle.std.specs.Prelude.{◌≡◌, ◌<◌, ◌≤◌, ◌-◌, ◌%◌, true, refl, length};
+ghost use Rattle.std.specs.Prelude.{◌≡◌, ◌≤◌, ◌%◌, IfOk, true, refl, length};
 ghost use Rattle.std.proofs.Common.{◌∙◌};
 ghost use Rattle.cs_gen.specs.Points.{len_of};
 ghost use Rattle.cs_gen.specs.Tables.{curve_of};
-ghost use Rattle.cs_ugen.specs.Points.{AreShort, IsCurve, IsShort, curve_len, is_len};
-ghost use Rattle.cs_ugen.specs.inner.Masks.{IsMask};
 ghost use Rattle.cs_signal.specs.Operands.{argument};
+ghost use Rattle.cs_ugen.specs.Points.{AreShort, IsShort, curve_len, is_len};
 
 use crate::curve::Curve;
 use cs_base::Num;
-use cs_gen::{Points, len_of};
+use cs_gen::Points;
+use cs_signal::argument;
+use std::alloc::AllocError;
 use std::marker::Model;
 
-/// The points of a table that stays as it was made, and whether all of them fit into 32 bits. Contracts see its points.
+/// The curve of a table that stays as it was made: its points, with the guard point behind the last of them, which is
+/// the last of a size that is one more than a power of two, else the first; and whether all fit into 32 bits. Contracts
+/// see the points that the table keeps.
 #[derive(Drop)]
 pub struct FrozenTable {
-    points: Points,
+    curve: Vec<Num>,
+    size: usize,
     short: bool,
 }
 
 impl Model for FrozenTable {
-    ghost use Rattle.std.specs.Prelude.{◌≡◌, ℤ, List, true};
+    ghost use Rattle.std.specs.Prelude.{◌≡◌, ◌≤◌, ℤ, List, length, take, true};
+    ghost use Rattle.cs_gen.specs.Tables.{curve_of};
+    ghost use Rattle.cs_signal.specs.Operands.{argument};
     ghost use Rattle.cs_ugen.specs.Points.{AreShort};
 
     ghost Value = { List ℤ };
 
-    ghost view = { λ t. t.points };
+    ghost view = { λ t. take t.size t.curve.items };
 
-    ghost invariant = { λ t. t.short ≡ true → AreShort t.points };
+    ghost invariant = { λ t. (t.size ≤ length t.curve.items)
+        × (t.curve.items ≡ curve_of (take t.size t.curve.items)) × (t.short ≡ true → AreShort t.curve.items) };
 }
 
 impl FrozenTable {
-    /// The table of these points. It looks at each of them.
-    pub fn new(points: Points) -> FrozenTable
-        ensures { result ≡ points }
+    /// The table of these points. It looks at each of them, and takes memory for the guard point.
+    pub fn new(points: Points) -> Result<FrozenTable, AllocError>
+        ensures { IfOk result (λ t. t ≡ points) }
     {
-        let short = are_short(points.as_slice());
-        FrozenTable { points, short }
+        let size = points.len();
+        let curve = with_guard(points.into_vec())?;
+        let short = are_short(&curve);
+        Ok(FrozenTable { curve, size, short })
     }
+}
+
+// The points with the guard point behind them, where it isn't the last.
+fn with_guard(points: Vec<Num>) -> Result<Vec<Num>, AllocError>
+    ensures { IfOk result (λ curve. curve.items ≡ curve_of points.items) }
+{
+    let mut curve = points;
+    if curve.len() % 2 == 1 {
+        return Ok(curve);
+    }
+    let guard = argument(&curve, 0);
+    curve.reserve_exact(1)?;
+    curve.push_reserved(guard);
+    Ok(curve)
 }
 
 fn are_short(points: &[Num]) -> bool
@@ -59,18 +82,15 @@ pub(crate) fn is_short(x: Num) -> bool
     -2_147_483_648 <= x.raw() && x.raw() <= 2_147_483_647
 }
 
-/// A frozen table as a curve: its points, and the guard point, which is the last of a size that is one more than a
-/// power of two, else the first.
+/// A frozen table as a curve.
 #[derive(Clone, Copy)]
 pub struct Frozen<'p> {
     points: &'p [Num],
-    len: u32,
-    mask: u32,
+    curve: &'p [Num],
     short: bool,
-    ghost len_is: { len ≡ len_of (length points.now) },
-    ghost power: { is_len len ≡ true },
-    ghost mask_is: { IsMask (length points.now) mask },
-    ghost short_is: { short ≡ true → AreShort points.now },
+    ghost power: { is_len (curve_len curve.now) ≡ true },
+    ghost curve_is: { curve.now ≡ curve_of points.now },
+    ghost short_is: { short ≡ true → AreShort curve.now },
 }
 
 impl<'p> Frozen<'p> {
@@ -79,56 +99,31 @@ impl<'p> Frozen<'p> {
         requires { is_len (len_of (length table.now)) ≡ true }
         ensures { result.points.now ≡ table.now }
     {
-        let points = table.points.as_slice();
-        let len = len_of_points(points);
         Frozen {
-            points,
-            len,
-            mask: mask_of(points.len(), len),
+            points: &table.curve[..table.size],
+            curve: &table.curve,
             short: table.short,
         }
     }
 }
 
-// How many places a table has before its guard point.
-fn len_of_points(points: &[Num]) -> u32
-    requires { is_len (len_of (length points.now)) ≡ true }
-    ensures value { result ≡ len_of (length points.now) }
-    ensures least { 2 ≤ result }
-    ensures most { result ≤ 65536 }
-{
-    len_of(points.len() as u32)
-}
-
-// A table's mask for places of its curve: behind the last point stands the first, unless the guard point is a point.
-fn mask_of(size: usize, len: u32) -> u32
-    requires len { len ≡ len_of size }
-    requires power { is_len len ≡ true }
-    requires least { 2 ≤ len }
-    requires most { len ≤ 65536 }
-    ensures { IsMask size result }
-{
-    if size % 2 == 0 { len - 1 } else { 2 * len - 1 }
-}
-
-// The point at a place of the curve of some points.
+// How many points a curve has before its guard point.
 #[inline(always)]
-fn point_at(points: &[Num], mask: u32, place: u32) -> Num
-    requires power { is_len (len_of (length points.now)) ≡ true }
-    requires mask { IsMask (length points.now) mask }
-    requires place { place ≤ len_of (length points.now) }
-    ensures { result ≡ argument (curve_of points.now) place }
+fn len_of_curve(curve: &[Num]) -> usize
+    requires { is_len (curve_len curve.now) ≡ true }
+    ensures { result ≡ curve_len curve.now }
 {
-    points[(place & mask) as usize]
+    curve.len() - 1
 }
 
-// The same before the guard point.
+// The point at a place of a curve.
 #[inline(always)]
-fn inner_at(points: &[Num], place: u32) -> Num
-    requires { place < len_of (length points.now) }
-    ensures { result ≡ argument (curve_of points.now) place }
+fn point_at(curve: &[Num], place: usize) -> Num
+    requires power { is_len (curve_len curve.now) ≡ true }
+    requires place { place ≤ curve_len curve.now }
+    ensures { result ≡ argument curve.now place }
 {
-    points[place as usize]
+    curve[place]
 }
 
 impl Curve for Frozen<'_> {
@@ -137,28 +132,19 @@ impl Curve for Frozen<'_> {
     ghost kept = { λ before after. after ≡ before };
 
     #[inline(always)]
-    fn len(&self) -> u32 {
-        self.len
+    fn len(&self) -> usize {
+        len_of_curve(self.curve)
     }
 
     #[inline(always)]
-    fn at(&mut self, place: u32) -> Num {
-        point_at(self.points, self.mask, place)
-    }
-
-    #[inline(always)]
-    fn inner(&mut self, place: u32) -> Num {
-        inner_at(self.points, place)
+    fn at(&mut self, place: usize) -> Num {
+        point_at(self.curve, place)
     }
 
     #[inline(always)]
     fn short(&self) -> Option<ShortCurve<'_>> {
         if self.short {
-            Some(ShortCurve {
-                points: self.points,
-                len: self.len,
-                mask: self.mask,
-            })
+            Some(ShortCurve { curve: self.curve })
         } else {
             None
         }
@@ -172,33 +158,24 @@ impl Curve for Frozen<'_> {
 /// A frozen table as a curve whose points all fit into 32 bits.
 #[derive(Clone, Copy)]
 pub struct ShortCurve<'p> {
-    points: &'p [Num],
-    len: u32,
-    mask: u32,
-    ghost len_is: { len ≡ len_of (length points.now) },
-    ghost power: { is_len len ≡ true },
-    ghost mask_is: { IsMask (length points.now) mask },
-    ghost short_is: { AreShort points.now },
+    curve: &'p [Num],
+    ghost power: { is_len (curve_len curve.now) ≡ true },
+    ghost short_is: { AreShort curve.now },
 }
 
 impl Curve for ShortCurve<'_> {
-    ghost points = { λ f. curve_of f.points.now };
+    ghost points = { λ f. f.curve.now };
 
     ghost kept = { λ before after. after ≡ before };
 
     #[inline(always)]
-    fn len(&self) -> u32 {
-        self.len
+    fn len(&self) -> usize {
+        len_of_curve(self.curve)
     }
 
     #[inline(always)]
-    fn at(&mut self, place: u32) -> Num {
-        point_at(self.points, self.mask, place)
-    }
-
-    #[inline(always)]
-    fn inner(&mut self, place: u32) -> Num {
-        inner_at(self.points, place)
+    fn at(&mut self, place: usize) -> Num {
+        point_at(self.curve, place)
     }
 
     #[inline(always)]

@@ -192,6 +192,7 @@ fn along<R: Reading, C: Curve>(
     ensures same { C.points curve.new ≡ C.points curve.old }
     ensures kept { C.kept curve.old curve.new }
 {
+    let (amp, cps) = (amp.copied(), cps.copied());
     for j in 0..out.len() {
         out[j] = unit.step_on::<R, C>(amp.at(j), cps.at(j), curve);
     }

@@ -7,8 +7,7 @@ ghost use Rattle.cs_signal.specs.Pace.{pace_of};
 ghost use Rattle.cs_ugen.specs.Phases.{at_phase, begun, increment, turn, turned, within_turn};
 
 use crate::angle::{Angle, TURN, moved};
-use cs_base::{Head, Num, Rate};
-use cs_signal::Divisor;
+use cs_base::{Divisor, Head, Num, Rate};
 use std::marker::Model;
 
 /// The phase of a unit's next step. A frequency that stays is turned into parts once.
@@ -101,6 +100,7 @@ impl Phase {
 }
 
 // How far a frequency turns in a step.
+#[inline(always)]
 #[tactic(auto, unfolding(crate::specs::Phases::increment))]
 fn parts_of(rate: Rate, sr: u32, ksmps: u32, cps: Num, divisor: Divisor) -> Angle
     requires some { 1 ≤ sr }
@@ -115,6 +115,7 @@ fn parts_of(rate: Rate, sr: u32, ksmps: u32, cps: Num, divisor: Divisor) -> Angl
     }
 }
 
+#[inline(always)]
 fn parts(cps: Num, factor: u32, sr: u32, divisor: Divisor) -> Angle
     requires some { 1 ≤ sr }
     requires divisor { divisor.value ≡ pos sr }
@@ -126,6 +127,7 @@ fn parts(cps: Num, factor: u32, sr: u32, divisor: Divisor) -> Angle
 }
 
 // The exact product.
+#[inline(always)]
 fn times(cps: Num, factor: u32) -> i128
     requires { factor ≤ 2 ^ 20 }
     ensures value { result ≡ cps *ℤ pos factor }
@@ -150,6 +152,7 @@ fn floored(n: i128, d: u32, divisor: Divisor) -> i128
 }
 
 // The place of `parts` within one turn.
+#[inline(always)]
 #[tactic(auto, unfolding(crate::specs::Phases::within_turn))]
 fn within_turn(parts: i128) -> Angle
     ensures value { result ≡ within_turn parts }

@@ -50,13 +50,13 @@ impl Reading for Truncating {
     #[inline(always)]
     fn turned<C: Curve>(curve: &mut C, phase: Angle) -> Num {
         let len = curve_len(curve);
-        curve.inner(phase.place(len))
+        curve.at(phase.place(len))
     }
 
     #[inline(always)]
     fn indexed<C: Curve>(curve: &mut C, ndx: Num) -> Num {
         let len = curve_len(curve);
-        curve.inner(place_of_index(ndx, len))
+        curve.at(place_of_index(ndx, len as u32) as usize)
     }
 }
 
@@ -78,17 +78,17 @@ impl Reading for Interpolating {
     fn indexed<C: Curve>(curve: &mut C, ndx: Num) -> Num {
         let len = curve_len(curve);
         let index = index_of(ndx, len);
-        between_points(curve, index / PARTS, index % PARTS)
+        between_points(curve, (index / PARTS) as usize, index % PARTS)
     }
 }
 
 // An index brought into 0 .. len * 65536 - 1, in parts of a place.
 #[inline(always)]
-fn index_of(ndx: Num, len: u32) -> u32
+fn index_of(ndx: Num, len: usize) -> u32
     requires some { 1 ≤ len }
     requires few { len ≤ 65536 }
     ensures value { result ≡ from_zero_to (len * 65536 - 1) ndx }
     ensures inside { result < len * 65536 }
 {
-    ndx.raw().max(0).min(i64::from(len) * ONE - 1) as u32
+    ndx.raw().max(0).min(i64::from(len as u32) * ONE - 1) as u32
 }

@@ -69,6 +69,7 @@ impl TableReader {
         ensures same { C.points curve.new ≡ C.points curve.old }
         ensures kept { C.kept curve.old curve.new }
     {
+        let ndx = ndx.copied();
         for j in 0..out.len() {
             out[j] = self.step_on::<R, C>(ndx.at(j), curve);
         }

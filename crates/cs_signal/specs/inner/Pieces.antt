@@ -2,13 +2,14 @@
 use Rattle.std.specs.Prelude.{ℕ, ◌≡◌, ◌+◌, ◌<◌, ◌≤◌, List, length, slice_index}
 use Rattle.cs_signal.specs.Linseg.{begin_of}
 
--- the pieces before piece k end at or before step n, and `left` steps lie between their end and n
-pub record HasPassed (lengths : List ℕ) (n k left : ℕ) : Type 0 where
-  pub begins : begin_of lengths k + left ≡ n
+-- the pieces before piece k end at or before step n, and piece k begins at step `begin`
+pub record HasPassed (lengths : List ℕ) (n k begin : ℕ) : Type 0 where
+  pub begins : begin_of lengths k ≡ begin
+  pub come : begin ≤ n
   pub passed : (i : ℕ) → i < k → begin_of lengths (i + 1) ≤ n
 
--- step n lies in piece `piece`, and `left` steps of the piece lie before it
-pub record IsSpot (lengths : List ℕ) (n piece left : ℕ) : Type 0 where
-  pub come : HasPassed lengths n piece left
-  pub real : piece < length lengths
-  pub inside : left < slice_index lengths piece
+-- step n lies in piece k, which begins at step `begin`; or it lies after the last piece, and k is their number
+pub record IsPlace (lengths : List ℕ) (n k begin : ℕ) : Type 0 where
+  pub come : HasPassed lengths n k begin
+  pub real : k ≤ length lengths
+  pub inside : k < length lengths → n < begin + slice_index lengths k

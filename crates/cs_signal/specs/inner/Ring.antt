@@ -1,9 +1,9 @@
 -- A list of values that is kept in a ring.
-use Rattle.std.specs.Prelude.{ℕ, ◌≡◌, ◌⊎◌, ◌+◌, ◌-◌, ◌<◌, ◌≤◌, List, ◌++◌, length, drop, take, replicate, ℤ, pos}
+use Rattle.std.specs.Prelude.{ℕ, ◌≡◌, ◌≢◌, ◌⊎◌, ◌-◌, ◌<◌, ◌≤◌, List, ◌++◌, length, drop, take, replicate, ℤ, pos}
 
--- `next` is the place after `place` in a ring of `len` places
-abbrev pub IsNextPlace : ℕ → ℕ → ℕ → Type 0
-IsNextPlace place len next = ((place + 1 < len) × (next ≡ place + 1)) ⊎ ((place + 1 ≡ len) × (next ≡ 0))
+-- of a ring of `len` places the one behind the last is the first
+abbrev pub IsWrapped : ℕ → ℕ → ℕ → Type 0
+IsWrapped place len wrapped = ((place ≢ len) × (wrapped ≡ place)) ⊎ ((place ≡ len) × (wrapped ≡ 0))
 
 -- the values of a ring, from the place of the oldest on
 abbrev pub in_order : List ℤ → ℕ → List ℤ

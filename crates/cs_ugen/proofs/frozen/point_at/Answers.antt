@@ -1,24 +1,15 @@
-use Rattle.std.proofs.Common.{length, sym, ◌∙◌, arith}
-use lib.Bits.{bit_and}
-use Rattle.cs_gen.specs.Points.{len_of}
+use Rattle.std.proofs.Common.{arith}
 use Rattle.cs_signal.proofs.Walks.{read}
+use Rattle.cs_ugen.specs.Points.{curve_len}
 use Rattle.cs_ugen.proofs.Curves.{is_len-bounds}
-use Rattle.cs_ugen.proofs.Masks.{held_or_first}
-use Rattle.cs_ugen.proofs.Shorts.{curve_read, held_within}
 use Rattle.cs_ugen.proofs.frozen.point_at.Goals as goal
 
-pub bounds-points-place : goal.bounds-points-place
-bounds-points-place c =
-    let low = (is_len-bounds (len_of (length c.args.points.now)) c.requires.power).0 in
-    held_within (length c.args.points.now) c.args.place (bit_and c.args.place c.args.mask) (omega (arith, low))
-    (held_or_first (length c.args.points.now) c.args.place (bit_and c.args.place c.args.mask)
-    (c.requires.mask c.args.place c.requires.place))
+pub bounds-curve-place : goal.bounds-curve-place
+bounds-curve-place c = let b = is_len-bounds (curve_len c.args.curve.now) c.requires.power in
+    let most = c.requires.place in omega (arith, b.0, most)
 
 pub returns : goal.returns
 returns c =
-    let low = (is_len-bounds (len_of (length c.args.points.now)) c.requires.power).0 in
-    let held = held_or_first (length c.args.points.now) c.args.place (bit_and c.args.place c.args.mask)
-    (c.requires.mask c.args.place c.requires.place) in
-    read c.args.points.now (bit_and c.args.place c.args.mask) c.index-points-place.result c.index-points-place.is
-    (held_within (length c.args.points.now) c.args.place (bit_and c.args.place c.args.mask) (omega (arith, low)) held)
-    ∙ sym (curve_read c.args.points.now c.args.place (bit_and c.args.place c.args.mask) c.requires.place held)
+    let b = is_len-bounds (curve_len c.args.curve.now) c.requires.power in
+    let most = c.requires.place in
+    read c.args.curve.now c.args.place c.index-curve-place.result c.index-curve-place.is (omega (arith, b.0, most))

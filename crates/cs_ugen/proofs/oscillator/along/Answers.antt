@@ -1,4 +1,4 @@
-use Rattle.std.proofs.Common.{◌∷◌, ℕ, length, refl, ◌∙◌}
+use Rattle.std.proofs.Common.{◌∷◌, ℕ, length, refl, ap, ◌∙◌}
 use Rattle.cs_ugen.specs.Oscil.{wave_step}
 use Rattle.cs_signal.specs.Operands.{operand_at}
 use Rattle.cs_signal.proofs.Walks.{HasRun_none, HasRun_step, HasRun_end}
@@ -23,7 +23,8 @@ loop-j-preserved g c =
           c.args.unit.now (length c.args.out.now) c.loop-j.j c.loop-j.unit c.step_on.new.self c.loop-j.out
           c.step_on.result so_far.0 c.loop-j-test.true
           (step_at_both (wave_step g.R.Reading.on_turn) c.loop-j.unit c.at.result _ c.at-in-loop-j.result _ _ _ _
-          step.value c.at.ensures c.at-in-loop-j.ensures so_far.1),
+          step.value (c.at.ensures ∙ ap (λ o. operand_at o c.loop-j.j) c.copied-amp.ensures)
+          (c.at-in-loop-j.ensures ∙ ap (λ o. operand_at o c.loop-j.j) c.copied-cps.ensures) so_far.1),
       step.same ∙ so_far.1,
       g.met.C.Curve.chain c.args.curve.now c.loop-j.curve c.step_on.new.curve so_far.2 step.kept,
     )

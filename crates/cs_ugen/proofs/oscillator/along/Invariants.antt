@@ -6,6 +6,7 @@ use Rattle.cs_ugen.proofs.oscillator.along.Given as goal
 
 abbrev pub invariant-loop-j : goal.invariant-loop-j
 invariant-loop-j g l =
-    HasRun (wave_step g.R.Reading.on_turn) (λ j. operand_at l.amp j ∷ operand_at l.cps j ∷ g.C.Curve.points l.fn.curve)
-    l.fn.unit (length l.fn.out) l.j l.unit l.out
+    HasRun (wave_step g.R.Reading.on_turn)
+    (λ j. operand_at l.fn.amp j ∷ operand_at l.fn.cps j ∷ g.C.Curve.points l.fn.curve) l.fn.unit
+    (length l.fn.out) l.j l.unit l.out
     × (g.C.Curve.points l.curve ≡ g.C.Curve.points l.fn.curve) × g.C.Curve.kept l.fn.curve l.curve
