@@ -6,7 +6,7 @@ use Rattle.cs_ir.specs.Codes.{aim, aimed}
 use Rattle.cs_ir.specs.declared.op.Act.TheVariants as act
 use Rattle.cs_ir.specs.declared.op.Op.{Op}
 use Rattle.cs_ir.specs.declared.register.Reg.{Reg}
-use Rattle.cs_meaning.specs.Core.{Block, Arms, arm, choose}
+use Rattle.cs_meaning.specs.Core.{Block, choose}
 use Rattle.cs_code.specs.declared.frame.Progress.{Progress}
 use Rattle.cs_code.specs.inner.Kept.{past, past_parts, past_block, past_arms}
 use Rattle.cs_typed.specs.TypedTree as typed
@@ -14,14 +14,14 @@ use Rattle.cs_typed.specs.TypedTree.{Expression}
 use Rattle.cs_typed.specs.declared.tree.TypedArm.{TypedArm, out-TypedArm}
 use Rattle.cs_typed.specs.declared.tree.TypedStmt.{TypedStmt}
 use Rattle.cs_code.specs.declared.frame.Pass.{Pass}
-use Rattle.cs_code.specs.declared.frame.Pass.TheVariants as pass
 use Rattle.cs_code.specs.inner.Branches.{Branch, past_branch, after, chain, joined, opened, jump_at, jumps}
 use Rattle.cs_code.specs.inner.Branches.{aim_all, condition_of, body_of, past_arm, past_list, branch_of, branches}
+use Rattle.cs_code.specs.inner.Code.{pass_block_code, chosen_code, cond_code}
 use Rattle.cs_code.specs.inner.Code.{all_code, arm_code, init_block_code}
-use Rattle.cs_code.specs.inner.Emitted.{Scope, block_in, core_in, arms_in, pass_block_code, chosen_code, cond_code}
-use Rattle.cs_code.specs.inner.Emitted.{cond_reg, takes_all}
+use Rattle.cs_code.specs.inner.Emitted.{Scope, block_in, core_in, arms_in}
+use Rattle.cs_code.specs.inner.Emitted.{takes_all}
 use Rattle.cs_code.specs.inner.Frames.{Frame, op_of}
-use Rattle.cs_code.proofs.Chains.{all_taken, alone_code, chosen_else, one_taken, taken_pass}
+use Rattle.cs_code.proofs.Chains.{all_taken, alone_code, one_taken, taken_pass}
 
 -- ---- one jump that is aimed
 
@@ -116,27 +116,15 @@ closed end place pre (b ∷ bs) els at is =
 
 -- ---- the arms of the tree
 
-arms_whole : (way : Pass) (f : Frame) (place : ℕ) (p : Progress) (c : Expression) (b : Block) (rest : Arms)
-    → arm_code place (cond_code way f p.part c) (cond_reg way f p.part c)
-    (pass_block_code way f (place + length (cond_code way f p.part c) + 1) (past_parts
-    (past p.part c) p) b) (chosen_code way f
-    (place + length (cond_code way f p.part c) + 1 + length (pass_block_code way f (place + length
-    (cond_code way f p.part c) + 1) (past_parts (past p.part c) p) b) + 1) (past_block (past_parts (past p.part c) p) b)
-    rest)
-    ≡ chosen_code way f place p (arm c b rest)
-arms_whole pass.Initialisation f place p c b rest = refl
-arms_whole pass.Performance f place p c b rest = refl
-
 chosen_list : (way : Pass) (f : Frame) (o : Scope) (place : ℕ) (p : Progress) (list : List TypedArm)
     (els : typed.Block)
     → chain place (branches way f o place p list)
     (pass_block_code way f (after place (branches way f o place p list)) (past_list o p list) (core_in o els))
     ≡ chosen_code way f place p (arms_in o els list)
-chosen_list way f o place p [] els = sym (chosen_else way f place p (core_in o els))
+chosen_list way f o place p [] els = refl
 chosen_list way f o place p (a ∷ rest) els =
     let b : Branch = branch_of way f o place p a in
     ap (arm_code place b.cond b.q b.body) (chosen_list way f o (past_branch place b) (past_arm o p a) rest els)
-    ∙ arms_whole way f place p (condition_of o a) (body_of o a) (arms_in o els rest)
 
 pub past_chosen : (o : Scope) (p : Progress) (list : List TypedArm) (els : typed.Block)
     → past_block (past_list o p list) (core_in o els) ≡ past_arms p (arms_in o els list)

@@ -7,7 +7,7 @@ use Rattle.cs_base.specs.declared.resource.Rate.TheVariants as rate
 use Rattle.cs_base.specs.declared.spaces.Spaces.{Spaces}
 use Rattle.cs_ir.specs.declared.op.Op.{Op}
 use Rattle.cs_ir.specs.declared.register.Reg.{Reg}
-use Rattle.cs_meaning.specs.Core.{Stmt, core_call, set, unit, zak, store, out, out_at, ask, turnoff, nothing, choose}
+use Rattle.cs_meaning.specs.Core.{Stmt, core_call, set, choose}
 use Rattle.cs_meaning.specs.When.{cycle}
 use Rattle.cs_typed.specs.TypedTree.{Expression, Argument, value, text}
 use Rattle.cs_typed.specs.declared.tree.Var.{Var as Variable}
@@ -19,8 +19,9 @@ use Rattle.cs_code.specs.declared.frame.Pass.{Pass}
 use Rattle.cs_code.specs.declared.frame.Pass.TheVariants as pass
 use Rattle.cs_code.specs.declared.simple.Sending.{Sending}
 use Rattle.cs_code.specs.declared.simple.Sending.TheVariants as sending
+use Rattle.cs_code.specs.inner.Code.{pass_code}
 use Rattle.cs_code.specs.inner.Code.{perf_code, operands_code}
-use Rattle.cs_code.specs.inner.Emitted.{Assigned, assigned, set_of, effect, when_of, pass_code, sent_as, sent_ops}
+use Rattle.cs_code.specs.inner.Emitted.{Assigned, assigned, set_of, effect, when_of, sent_as, sent_ops}
 use Rattle.cs_code.specs.inner.Frames.{Frame, spots}
 
 -- a call is the assignment that it is short for, or else an effect
@@ -132,31 +133,13 @@ call_simple o r vs op sh args =
 
 anywhere : (way : Pass) (f : Frame) (place : ℕ) (p : Progress) (s : Stmt) → is_choice s ≡ false
     → pass_code way f 0 p s ≡ pass_code way f place p s
-anywhere pass.Initialisation f place p (set r v e) h = refl
-anywhere pass.Initialisation f place p (unit r vs op reach xs is) h = refl
-anywhere pass.Initialisation f place p (zak r vs op reach xs) h = refl
-anywhere pass.Initialisation f place p (store r reach es is) h = refl
-anywhere pass.Initialisation f place p (out r es) h = refl
-anywhere pass.Initialisation f place p (out_at r es) h = refl
-anywhere pass.Initialisation f place p (ask es) h = refl
-anywhere pass.Initialisation f place p (turnoff r) h = refl
-anywhere pass.Initialisation f place p nothing h = refl
-anywhere pass.Initialisation f place p (choose r arms) h = absurd (true≢false h)
-anywhere pass.Performance f place p (set r v e) h = refl
-anywhere pass.Performance f place p (unit r vs op reach xs is) h = refl
-anywhere pass.Performance f place p (zak r vs op reach xs) h = refl
-anywhere pass.Performance f place p (store r reach es is) h = refl
-anywhere pass.Performance f place p (out r es) h = refl
-anywhere pass.Performance f place p (out_at r es) h = refl
-anywhere pass.Performance f place p (ask es) h = refl
-anywhere pass.Performance f place p (turnoff r) h = refl
-anywhere pass.Performance f place p nothing h = refl
-anywhere pass.Performance f place p (choose r arms) h = absurd (true≢false h)
+anywhere way f place p (choose r arms) h = absurd (true≢false h)
+anywhere way f place p _ h = refl
 
 pub set_anywhere : (way : Pass) (f : Frame) (place : ℕ) (p : Progress) (r : Rate) (v : Variable) (e : Expression)
     → pass_code way f place p (set r v e)
     ≡ pass_code way f 0 p (set r v e)
-set_anywhere way f place p r v e = sym (anywhere way f place p (set r v e) refl)
+set_anywhere way f place p r v e = refl
 
 pub call_anywhere : (way : Pass) (f : Frame) (place : ℕ) (p : Progress) (o : Spaces) (r : Rate) (vs : List Variable)
     (op : Opcode) (sh : Shape)

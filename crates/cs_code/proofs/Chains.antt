@@ -4,35 +4,27 @@ use Rattle.std.proofs.lemmas.List.{append_assoc, append-nil, length-append}
 use Rattle.cs_base.specs.declared.resource.Rate.{Rate}
 use Rattle.cs_base.specs.declared.resource.Rate.TheVariants as rate
 use Rattle.cs_ir.specs.declared.op.Op.{Op}
-use Rattle.cs_meaning.specs.Core.{Stmt, Block, Arms, no_stmt, andthen, choose, arm, otherwise, core_stmt}
+use Rattle.cs_meaning.specs.Core.{Stmt, Block, Arms, no_stmt, andthen, choose, arm, core_stmt}
 use Rattle.cs_code.specs.declared.frame.Progress.{Progress}
 use Rattle.cs_code.specs.inner.Kept.{past, past_parts, past_stmt, past_block}
 use Rattle.cs_typed.specs.TypedTree as typed
 use Rattle.cs_typed.specs.TypedTree.{Expression}
 use Rattle.cs_code.specs.declared.frame.Pass.{Pass}
 use Rattle.cs_code.specs.declared.frame.Pass.TheVariants as pass
+use Rattle.cs_code.specs.inner.Code.{pass_code, pass_block_code, chosen_code, cond_code}
 use Rattle.cs_code.specs.inner.Code.{keep_code, operand_code, init_block_code, all_code}
-use Rattle.cs_code.specs.inner.Emitted.{pass_code, pass_block_code, chosen_code, cond_code, each_arm_code, when_of}
+use Rattle.cs_code.specs.inner.Emitted.{each_arm_code, when_of}
 use Rattle.cs_code.specs.inner.Emitted.{takes_all, Scope, core_in}
 use Rattle.cs_code.specs.inner.Frames.{Frame}
 
--- a statement and those that follow, in either pass
-block_step : (way : Pass) (f : Frame) (place : ℕ) (p : Progress) (s : Stmt) (b : Block)
-    → pass_block_code way f place p (andthen s b) ≡ pass_code way f place p s
-    ++ pass_block_code way f (place + length (pass_code way f place p s)) (past_stmt p s) b
-block_step pass.Initialisation f place p s b = refl
-block_step pass.Performance f place p s b = refl
-
 -- no statement more
 pub block_none : (way : Pass) (f : Frame) (place : ℕ) (p : Progress) → pass_block_code way f place p no_stmt ≡ []
-block_none pass.Initialisation f place p = refl
-block_none pass.Performance f place p = refl
+block_none way f place p = refl
 
 -- one statement alone
 pub alone_code : (way : Pass) (f : Frame) (place : ℕ) (p : Progress) (s : Stmt)
     → pass_block_code way f place p (andthen s no_stmt) ≡ pass_code way f place p s
-alone_code pass.Initialisation f place p s = append-nil (pass_code pass.Initialisation f place p s)
-alone_code pass.Performance f place p s = append-nil (pass_code pass.Performance f place p s)
+alone_code way f place p s = append-nil (pass_code way f place p s)
 
 -- the statements of two blocks
 abbrev both_blocks : Block → Block → Block
@@ -47,22 +39,16 @@ core_both o (typed.andthen s rest) b =
 both_code : (way : Pass) (f : Frame) (place : ℕ) (p : Progress) (a b : Block)
     → pass_block_code way f place p (both_blocks a b) ≡ pass_block_code way f place p a
     ++ pass_block_code way f (place + length (pass_block_code way f place p a)) (past_block p a) b
-both_code way f place p no_stmt b =
-    ap (λ n. pass_block_code way f n p b)
-    (omega (arith, ap length (block_none way f place p)))
-    ∙ sym (ap (λ l. l ++ pass_block_code way f (place + length (pass_block_code way f place p no_stmt)) p b)
-    (block_none way f place p))
+both_code way f place p no_stmt b = ap (λ n. pass_block_code way f n p b) (let z : place ≡ place + 0 = omega arith in z)
 both_code way f place p (andthen s rest) b =
     let own : List Op = pass_code way f place p s in
     let next : ℕ = place + length own in
     let more : List Op = pass_block_code way f next (past_stmt p s) rest in
     let done : Progress = past_block (past_stmt p s) rest in
     let long : next + length more ≡ place + length (own ++ more) = omega (arith, length-append own more) in
-    block_step way f place p s (both_blocks rest b)
-    ∙ ap (λ l. own ++ l) (both_code way f next (past_stmt p s) rest b)
+    ap (λ l. own ++ l) (both_code way f next (past_stmt p s) rest b)
     ∙ sym (append_assoc own more (pass_block_code way f (next + length more) done b))
     ∙ ap (λ n. (own ++ more) ++ pass_block_code way f n done b) long
-    ∙ sym (ap (λ l. l ++ pass_block_code way f (place + length l) done b) (block_step way f place p s rest))
 
 both_past : (p : Progress) (a b : Block) → past_block p (both_blocks a b) ≡ past_block (past_block p a) b
 both_past p no_stmt b = refl
@@ -89,12 +75,6 @@ block_more way f o ops new total p q last all a b split made at was last_was =
           ∙ was,
       ap (λ k. past_block k y) at ∙ sym (both_past p x y) ∙ sym (ap (past_block p) parted) ∙ last_was,
     )
-
--- the statements after `else`
-pub chosen_else : (way : Pass) (f : Frame) (place : ℕ) (p : Progress) (b : Block)
-    → chosen_code way f place p (otherwise b) ≡ pass_block_code way f place p b
-chosen_else pass.Initialisation f place p b = refl
-chosen_else pass.Performance f place p b = refl
 
 -- arms that are all initialised: one, and those that follow
 pub each_more : (f : Frame) (ops new total : List Op) (p q : Progress) (c : Expression) (b : Block) (rest : Arms)

@@ -18,6 +18,7 @@ use Rattle.cs_ir.specs.declared.op.Code.{Code}
 use Rattle.cs_ir.specs.declared.op.Op.{Op}
 use Rattle.cs_ir.specs.declared.register.Counts.{Counts}
 use Rattle.cs_meaning.specs.Core.{core}
+use Rattle.cs_code.specs.declared.frame.Pass.TheVariants as pass
 use Rattle.cs_code.specs.inner.Kept.{start, past_block}
 use Rattle.cs_meaning.specs.Uses.{block_touched}
 use Rattle.cs_meaning.specs.When.{beginning, cycle}
@@ -34,9 +35,10 @@ use Rattle.cs_code.specs.inner.Counted.{reached, no_registers}
 use Rattle.cs_code.specs.inner.Frames.{Frame, frame_for}
 use Rattle.cs_ir.specs.Limits.{ops_limit}
 use Rattle.cs_code.proofs.Means.{means_its_tree}
-use Rattle.cs_code.proofs.Resources.{block_begins, block_cycles}
-use Rattle.cs_code.proofs.Validity.{units_counted, init_valid, perf_valid, init_named_rated, perf_cycles_rated}
-use Rattle.cs_code.proofs.Validity.{perf_named_rated}
+use Rattle.cs_code.proofs.Resources.{block_touch}
+use Rattle.cs_code.proofs.FromRates.{narrow_block}
+use Rattle.cs_code.proofs.Named.{names_of, perf_cycles}
+use Rattle.cs_code.proofs.Validity.{units_counted, code_valid}
 
 -- counts that reach two codes reach each of them
 reaches_first : (units : ℕ) (g h : Rate → ℕ) (r : Rate)
@@ -86,14 +88,14 @@ module _ (spaces : Spaces) (locals : PerRate ℕ) (s : Setting) (t : typed.Block
   made_init_valid =
       let units : (past_block start (core spaces t)).unit ≤ counts.units = (let e = units_are in omega arith) in
       subst (λ ops. fine_from counts (length ops) 0 ops ≡ true) (sym made.init_is)
-      (init_valid spaces s t rated f counts units
+      (code_valid pass.Initialisation spaces s t rated f counts units
       (λ r. subst (λ ops. ops_limit r ops ≤ at_rate counts.registers r) made.init_is (init_reached r)))
 
   pub made_perf_valid : fine_from counts (length perf) 0 perf ≡ true
   made_perf_valid =
       let units : (past_block start (core spaces t)).unit ≤ counts.units = (let e = units_are in omega arith) in
       subst (λ ops. fine_from counts (length ops) 0 ops ≡ true) (sym made.perf_is)
-      (perf_valid spaces s t rated f counts units
+      (code_valid pass.Performance spaces s t rated f counts units
       (λ r. subst (λ ops. ops_limit r ops ≤ at_rate counts.registers r) made.perf_is (perf_reached r)))
 
   made_means : EachInBlock (IsCounted locals) t → Means (core spaces t) init perf
@@ -116,16 +118,19 @@ module _ (spaces : Spaces) (locals : PerRate ℕ) (s : Setting) (t : typed.Block
       counts = counts_a ∙ sym counts_b;
       count = ap (λ (c : Counts). c.units) counts_a ∙ units_are ∙ units_counted (core spaces t);
       init_names = subst (AllNamed s.channels (block_units (core spaces t))) (sym (ops_a ∙ made.init_is))
-          (init_named_rated spaces s t f);
+          (names_of pass.Initialisation s.channels f (core spaces t) (narrow_block spaces s t rated));
       perf_names = subst (AllNamed s.channels (block_units (core spaces t))) (sym (ops_b ∙ made.perf_is))
-          (perf_named_rated spaces s t rated f);
-      perf_cycle = ap are_of_cycle (ops_b ∙ made.perf_is) ∙ perf_cycles_rated spaces s t rated f;
+          (names_of pass.Performance s.channels f (core spaces t) (narrow_block spaces s t rated));
+      perf_cycle = ap are_of_cycle (ops_b ∙ made.perf_is)
+          ∙ perf_cycles s.channels f (core spaces t) (narrow_block spaces s t rated);
     };
     touches = record {
       begins = λ way stock. alike (ops_touch way stock a.ops) (block_touched way beginning stock (core spaces t))
-          (ap (ops_touch way stock) (ops_a ∙ made.init_is) ∙ block_begins way stock f 0 start (core spaces t));
+          (ap (ops_touch way stock) (ops_a ∙ made.init_is)
+          ∙ block_touch way stock f pass.Initialisation 0 start (core spaces t));
       cycles = λ way stock. alike (ops_touch way stock b.ops) (block_touched way cycle stock (core spaces t))
-          (ap (ops_touch way stock) (ops_b ∙ made.perf_is) ∙ block_cycles way stock f 0 start (core spaces t));
+          (ap (ops_touch way stock) (ops_b ∙ made.perf_is)
+          ∙ block_touch way stock f pass.Performance 0 start (core spaces t));
     };
   }
 

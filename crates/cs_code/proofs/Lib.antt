@@ -11,15 +11,8 @@ pub mod Instruments
 pub mod Letters
 pub mod Lists
 pub mod Means
-pub mod Moving
-pub mod MovingBlocks
-pub mod MovingCalls
-pub mod MovingNumbers
-pub mod MovingRegisters
-pub mod MovingStatements
 pub mod Named
 pub mod Nodes
-pub mod Noting
 pub mod Numbers
 pub mod Parts
 pub mod Performs
@@ -29,7 +22,6 @@ pub mod Rated
 pub mod Reached
 pub mod Reaches
 pub mod Resources
-pub mod RoutineEnds
 pub mod Routines
 pub mod Runs
 pub mod Valid

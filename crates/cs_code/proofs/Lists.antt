@@ -1,10 +1,8 @@
 -- Lists of expressions and arguments.
 use Rattle.std.proofs.Common.{◌≡◌, ◌∙◌, ◌+◌, ◌<◌, ◌++◌, ◌∷◌, drop, get_or, ℕ, Bool, true, false, not, cond, List, []}
-use Rattle.std.proofs.Common.{length, map, refl, sym, subst, ap}
+use Rattle.std.proofs.Common.{length, map, refl, sym, ap}
 use Rattle.std.proofs.lemmas.List.{append_assoc, append-nil, drop_more}
-use Rattle.std.proofs.lemmas.List.Elements.{All-cons}
 use Rattle.std.specs.Borrow.{Bor}
-use Rattle.std.specs.List.{All}
 use Rattle.cs_meaning.specs.Core.{settled, moving, values_of}
 use Rattle.cs_meaning.specs.When.{When}
 use Rattle.cs_code.specs.inner.Kept.{past}
@@ -20,12 +18,6 @@ use Rattle.cs_code.specs.inner.Frames.{Frame, spot, spots}
 
 pub append_nothing : {A : Type 0} (xs : List A) → xs ++ [] ≡ xs
 append_nothing xs = append-nil xs
-
--- what holds of an element and of all after it
-pub each_more : {A : Type 0} (P : A → Type 0) (xs : List A) (i : ℕ) (d : A) → i < length xs → P (get_or xs i d)
-    → All P (drop (i + 1) xs) → All P (drop i xs)
-each_more P xs i d lt here rest =
-    subst (All P) (sym (drop_more xs i d lt)) (All-cons P (get_or xs i d) (drop (i + 1) xs) here rest)
 
 -- one value more
 pub expressions_more : (b : Bases) (es : List (Bor TypedExpr)) (e : Bor TypedExpr)

@@ -19,6 +19,8 @@ use Rattle.cs_meaning.specs.Core.{Stmt, Block, Arms, set, unit, zak, store, out,
 use Rattle.cs_meaning.specs.Core.{no_stmt, andthen, otherwise, arm}
 use Rattle.cs_meaning.specs.Notes.{reg}
 use Rattle.cs_meaning.specs.When.{When, beginning, cycle}
+use Rattle.cs_code.specs.declared.frame.Pass.{Pass}
+use Rattle.cs_code.specs.declared.frame.Pass.TheVariants as pass
 use Rattle.cs_code.specs.declared.frame.Progress.{Progress}
 use Rattle.cs_code.specs.inner.Kept.{start, past, past_parts, past_stmt, past_block, past_arms}
 use Rattle.cs_typed.specs.TypedTree.{Expression, number, var, field, head, neg, pair, pick, apply}
@@ -30,8 +32,8 @@ use Rattle.cs_code.specs.inner.Frames.{Frame, op_of, kept_reg, temp, direct, spo
 use Rattle.cs_code.specs.inner.Code.{unless_there, copied, own, code, operand_code, operands_code, kept_code, keep_code}
 use Rattle.cs_code.specs.inner.Code.{keep_all_code, set_code, target, given_code, on_code, run_code, start_code}
 use Rattle.cs_code.specs.inner.Code.{unit_code, zak_code, seek_code, store_code, out_ops, out_at_ops, arm_code}
-use Rattle.cs_code.specs.inner.Code.{init_code, init_block_code, first_code, all_code, perf_code, perf_block_code}
-use Rattle.cs_code.specs.inner.Code.{perf_arms_code}
+use Rattle.cs_code.specs.inner.Code.{cond_code, cond_reg, choice_code, pass_code, pass_block_code}
+use Rattle.cs_code.specs.inner.Code.{chosen_code, all_code}
 
 -- ---- places in lists
 
@@ -296,13 +298,30 @@ module _ (cycles : Bool) (channels : ℕ) (units : List UnitKind) where
       let test : Op = op_of (act.Unless (place + length before + 1 + length body + 1)) q (q ∷ []) in
       both before (test ∷ (body ++ (jump ∷ rest))) h ((tt, refl), both body (jump ∷ rest) k ((tt, refl), l))
 
+  -- A note's beginning may do anything where ops aren't of a cycle alone.
+  abbrev pub Begins : Pass → Type 0
+  Begins pass.Initialisation = not cycles ≡ true
+  Begins pass.Performance = Unit {0}
+
+  cond_named : (way : Pass) (f : Frame) (at : ℕ) (c : Expression) → Each (cond_code way f at c)
+  cond_named pass.Initialisation f at c = keep_named f c at
+  cond_named pass.Performance f at c = operand_named f cycle c at 0
+
+  choice_named : (way : Pass) (r : Rate) (one all : List Op) → Each one → (Begins pass.Initialisation → Each all)
+      → Begins way → Each (choice_code way r one all)
+  choice_named pass.Initialisation r one all h k begin = when_init r one all h (k begin)
+  choice_named pass.Performance r one all h k begin = h
+
   mutual
-    init_named : not cycles ≡ true → (f : Frame) (place : ℕ) (p : Progress) (s : Stmt) → At units p.unit (stmt_units s)
-        → Each (init_code f place p s)
-    init_named begin f place p (set r v e) h =
+    stmt_named : (way : Pass) → Begins way → (f : Frame) (place : ℕ) (p : Progress) (s : Stmt)
+        → At units p.unit (stmt_units s) → Narrow channels s → Each (pass_code way f place p s)
+    stmt_named way begin f place p (choose r arms) h n =
+        choice_named way r (chosen_code way f place p arms) (all_code f place p arms)
+        (chosen_named way begin f place p arms h n) (λ b. all_named b f place p arms h n) begin
+    stmt_named pass.Initialisation begin f place p (set r v e) h n =
         when_init r (set_code f beginning 0 v e) (keep_code f p.part e) (set_named f beginning 0 v e)
         (keep_named f e p.part)
-    init_named begin f place p (unit r vs opcode reach xs is) h =
+    stmt_named pass.Initialisation begin f place p (unit r vs opcode reach xs is) h n =
         let here = at_one units p.unit (record { opcode = opcode; rate = r }) h in
         let starts : List Op = start_code f r opcode p.unit is in
         let runs : List Op = unit_code f beginning 0 r vs opcode p.unit reach xs in
@@ -311,132 +330,106 @@ module _ (cycles : Bool) (channels : ℕ) (units : List UnitKind) where
         (run_named f beginning 0 (act.Unit opcode p.unit reach) r vs xs here refl))
         (both (keep_all_code f p.part xs) starts (keep_all_named f xs p.part)
         (on_named f beginning 0 (act.Start opcode p.unit) (reg r 0) is here begin))
-    init_named begin f place p (zak r vs opcode reach xs) h =
+    stmt_named pass.Initialisation begin f place p (zak r vs opcode reach xs) h n =
         when_init r (zak_code f beginning 0 r vs opcode reach xs) (keep_all_code f p.part xs)
         (run_named f beginning 0 (act.Zak opcode reach) r vs xs tt refl)
         (keep_all_named f xs p.part)
-    init_named begin f place p (store r reach es is) h =
+    stmt_named pass.Initialisation begin f place p (store r reach es is) h n =
         let seeks : List Op = seek_code f is in
         let stores : List Op = store_code f beginning 0 r reach es in
         let sought = on_named f beginning 0 act.Seek (reg rate.Init 0) is tt begin in
         when_init r (seeks ++ stores) (keep_all_code f p.part es ++ seeks)
         (both seeks stores sought (on_named f beginning 0 (act.Store reach) (reg r 0) es tt refl))
         (both (keep_all_code f p.part es) seeks (keep_all_named f es p.part) sought)
-    init_named begin f place p (out r es) h = keep_all_named f es p.part
-    init_named begin f place p (out_at r es) h = keep_all_named f es p.part
-    init_named begin f place p (ask es) h = on_named f beginning 0 act.Ask (reg rate.Init 0) es tt begin
-    init_named begin f place p (turnoff r) h = tt
-    init_named begin f place p nothing h = tt
-    init_named begin f place p (choose r arms) h =
-        when_init r (first_code f place p arms) (all_code f place p arms) (first_named begin f place p arms h)
-        (all_named begin f place p arms h)
-
-    pub init_block_named : not cycles ≡ true → (f : Frame) (place : ℕ) (p : Progress) (b : Block)
-        → At units p.unit (block_units b) → Each (init_block_code f place p b)
-    init_block_named begin f place p no_stmt h = tt
-    init_block_named begin f place p (andthen s b) h =
-        both (init_code f place p s) (init_block_code f (place + length (init_code f place p s)) (past_stmt p s) b)
-        (init_named begin f place p s (at_front units p.unit (stmt_units s) (block_units b) h))
-        (init_block_named begin f (place + length (init_code f place p s)) (past_stmt p s) b
-        (at_back units p.unit (past_stmt p s).unit (stmt_units s) (block_units b) (stmt_count p s) h))
-
-    first_named : not cycles ≡ true → (f : Frame) (place : ℕ) (p : Progress) (arms : Arms)
-        → At units p.unit (arms_units arms) → Each (first_code f place p arms)
-    first_named begin f place p (otherwise b) h = init_block_named begin f place p b h
-    first_named begin f place p (arm c b rest) h =
-        let before : List Op = keep_code f p.part c in
-        let q : Progress = past_parts (past p.part c) p in
-        let body : List Op = init_block_code f (place + length before + 1) q b in
-        arm_named place before (kept_reg f p.part) body
-        (first_code f (place + length before + 1 + length body + 1) (past_block q b) rest)
-        (keep_named f c p.part)
-        (init_block_named begin f (place + length before + 1) q b
-        (at_front units p.unit (block_units b) (arms_units rest) h))
-        (first_named begin f (place + length before + 1 + length body + 1) (past_block q b) rest
-        (at_back units p.unit (past_block q b).unit (block_units b) (arms_units rest) (block_count q b) h))
-
-    all_named : not cycles ≡ true → (f : Frame) (place : ℕ) (p : Progress) (arms : Arms)
-        → At units p.unit (arms_units arms) → Each (all_code f place p arms)
-    all_named begin f place p (otherwise b) h = init_block_named begin f place p b h
-    all_named begin f place p (arm c b rest) h =
-        let before : List Op = keep_code f p.part c in
-        let q : Progress = past_parts (past p.part c) p in
-        let body : List Op = init_block_code f (place + length before) q b in
-        let others : List Op = all_code f (place + length before + length body) (past_block q b) rest in
-        both before (body ++ others) (keep_named f c p.part)
-        (both body others (init_block_named begin f (place + length before) q b
-        (at_front units p.unit (block_units b) (arms_units rest) h))
-        (all_named begin f (place + length before + length body) (past_block q b) rest
-        (at_back units p.unit (past_block q b).unit (block_units b) (arms_units rest) (block_count q b) h)))
-
-  mutual
-    perf_named : (f : Frame) (place : ℕ) (p : Progress) (s : Stmt) → At units p.unit (stmt_units s) → Narrow channels s
-        → Each (perf_code f place p s)
-    perf_named f place p (set r v e) h n =
+    stmt_named pass.Initialisation begin f place p (out r es) h n = keep_all_named f es p.part
+    stmt_named pass.Initialisation begin f place p (out_at r es) h n = keep_all_named f es p.part
+    stmt_named pass.Initialisation begin f place p (ask es) h n =
+        on_named f beginning 0 act.Ask (reg rate.Init 0) es tt begin
+    stmt_named pass.Performance begin f place p (set r v e) h n =
         when_init r [] (set_code f cycle p.part v e) tt (set_named f cycle p.part v e)
-    perf_named f place p (unit r vs opcode reach xs is) h n =
+    stmt_named pass.Performance begin f place p (unit r vs opcode reach xs is) h n =
         when_init r [] (unit_code f cycle p.part r vs opcode p.unit reach xs) tt
         (run_named f cycle p.part (act.Unit opcode p.unit reach) r vs xs
         (at_one units p.unit (record { opcode = opcode; rate = r }) h) refl)
-    perf_named f place p (zak r vs opcode reach xs) h n =
+    stmt_named pass.Performance begin f place p (zak r vs opcode reach xs) h n =
         when_init r [] (zak_code f cycle p.part r vs opcode reach xs) tt
         (run_named f cycle p.part (act.Zak opcode reach) r vs xs tt refl)
-    perf_named f place p (store r reach es is) h n =
+    stmt_named pass.Performance begin f place p (store r reach es is) h n =
         when_init r [] (store_code f cycle p.part r reach es) tt
         (on_named f cycle p.part (act.Store reach) (reg r 0) es tt refl)
-    perf_named f place p (out r es) h n =
+    stmt_named pass.Performance begin f place p (out r es) h n =
         both (operands_code f cycle p.part es 0) (out_ops 0 (spots f cycle p.part es 0))
         (operands_named f cycle es p.part 0)
         (out_named 0 (spots f cycle p.part es 0) (let l = length_spots f cycle p.part es 0 in omega arith))
-    perf_named f place p (out_at r es) h n =
+    stmt_named pass.Performance begin f place p (out_at r es) h n =
         both (operands_code f cycle p.part es 0) (out_at_ops (spots f cycle p.part es 0))
         (operands_named f cycle es p.part 0)
         (out_at_named (spots f cycle p.part es 0))
-    perf_named f place p (ask es) h n = tt
-    perf_named f place p (turnoff r) h n = ((tt, refl), tt)
-    perf_named f place p nothing h n = tt
-    perf_named f place p (choose r arms) h n = perf_arms_named f place p arms h n
+    stmt_named pass.Performance begin f place p (turnoff r) h n = ((tt, refl), tt)
+    stmt_named pass.Initialisation begin f place p _ h n = tt
+    stmt_named pass.Performance begin f place p _ h n = tt
 
-    pub perf_block_named : (f : Frame) (place : ℕ) (p : Progress) (b : Block) → At units p.unit (block_units b)
-        → NarrowBlock channels b
-        → Each (perf_block_code f place p b)
-    perf_block_named f place p no_stmt h n = tt
-    perf_block_named f place p (andthen s b) h n =
-        both (perf_code f place p s) (perf_block_code f (place + length (perf_code f place p s)) (past_stmt p s) b)
-        (perf_named f place p s (at_front units p.unit (stmt_units s) (block_units b) h) n.0)
-        (perf_block_named f (place + length (perf_code f place p s)) (past_stmt p s) b
+    pub block_named : (way : Pass) → Begins way → (f : Frame) (place : ℕ) (p : Progress) (b : Block)
+        → At units p.unit (block_units b) → NarrowBlock channels b → Each (pass_block_code way f place p b)
+    block_named way begin f place p no_stmt h n = tt
+    block_named way begin f place p (andthen s b) h n =
+        let next : ℕ = place + length (pass_code way f place p s) in
+        both (pass_code way f place p s) (pass_block_code way f next (past_stmt p s) b)
+        (stmt_named way begin f place p s (at_front units p.unit (stmt_units s) (block_units b) h) n.0)
+        (block_named way begin f next (past_stmt p s) b
         (at_back units p.unit (past_stmt p s).unit (stmt_units s) (block_units b) (stmt_count p s) h) n.1)
 
-    perf_arms_named : (f : Frame) (place : ℕ) (p : Progress) (arms : Arms) → At units p.unit (arms_units arms)
-        → NarrowArms channels arms
-        → Each (perf_arms_code f place p arms)
-    perf_arms_named f place p (otherwise b) h n = perf_block_named f place p b h n
-    perf_arms_named f place p (arm c b rest) h n =
-        let before : List Op = operand_code f cycle p.part c 0 in
+    chosen_named : (way : Pass) → Begins way → (f : Frame) (place : ℕ) (p : Progress) (arms : Arms)
+        → At units p.unit (arms_units arms) → NarrowArms channels arms → Each (chosen_code way f place p arms)
+    chosen_named way begin f place p (otherwise b) h n = block_named way begin f place p b h n
+    chosen_named way begin f place p (arm c b rest) h n =
+        let before : List Op = cond_code way f p.part c in
         let q : Progress = past_parts (past p.part c) p in
-        let body : List Op = perf_block_code f (place + length before + 1) q b in
-        arm_named place before (spot f cycle p.part c 0) body
-        (perf_arms_code f (place + length before + 1 + length body + 1) (past_block q b) rest)
-        (operand_named f cycle c p.part 0)
-        (perf_block_named f (place + length before + 1) q b (at_front units p.unit (block_units b) (arms_units rest) h)
-        n.0)
-        (perf_arms_named f (place + length before + 1 + length body + 1) (past_block q b) rest
+        let body : List Op = pass_block_code way f (place + length before + 1) q b in
+        let next : ℕ = place + length before + 1 + length body + 1 in
+        arm_named place before (cond_reg way f p.part c) body (chosen_code way f next (past_block q b) rest)
+        (cond_named way f p.part c)
+        (block_named way begin f (place + length before + 1) q b
+        (at_front units p.unit (block_units b) (arms_units rest) h) n.0)
+        (chosen_named way begin f next (past_block q b) rest
         (at_back units p.unit (past_block q b).unit (block_units b) (arms_units rest) (block_count q b) h) n.1)
+
+    all_named : Begins pass.Initialisation → (f : Frame) (place : ℕ) (p : Progress) (arms : Arms)
+        → At units p.unit (arms_units arms) → NarrowArms channels arms → Each (all_code f place p arms)
+    all_named begin f place p (otherwise b) h n = block_named pass.Initialisation begin f place p b h n
+    all_named begin f place p (arm c b rest) h n =
+        let before : List Op = keep_code f p.part c in
+        let q : Progress = past_parts (past p.part c) p in
+        let body : List Op = pass_block_code pass.Initialisation f (place + length before) q b in
+        let next : ℕ = place + length before + length body in
+        let others : List Op = all_code f next (past_block q b) rest in
+        both before (body ++ others) (keep_named f c p.part)
+        (both body others (block_named pass.Initialisation begin f (place + length before) q b
+        (at_front units p.unit (block_units b) (arms_units rest) h) n.0)
+        (all_named begin f next (past_block q b) rest
+        (at_back units p.unit (past_block q b).unit (block_units b) (arms_units rest) (block_count q b) h) n.1))
 
 pub whole_at : (units : List UnitKind) → At units 0 units
 whole_at units = λ i x e. ap (slice_get units) (let z : 0 + i ≡ i = omega arith in z) ∙ e
 
-pub init_names : (channels : ℕ) (f : Frame) (b : Block)
-    → AllNamed channels (block_units b) (init_block_code f 0 start b)
-init_names channels f b =
-    each_all false channels (block_units b) (init_block_code f 0 start b)
-    (init_block_named false channels (block_units b) refl f 0 start b (whole_at (block_units b)))
+-- whether a pass is done in each cycle
+abbrev pub of_cycles : Pass → Bool
+of_cycles pass.Initialisation = false
+of_cycles pass.Performance = true
 
-pub perf_names : (channels : ℕ) (f : Frame) (b : Block) → NarrowBlock channels b
-    → AllNamed channels (block_units b) (perf_block_code f 0 start b)
-perf_names channels f b narrow =
-    each_all true channels (block_units b) (perf_block_code f 0 start b)
-    (perf_block_named true channels (block_units b) f 0 start b (whole_at (block_units b)) narrow)
+-- the code of statements by its pass
+pub whole_named : (way : Pass) (channels : ℕ) (f : Frame) (b : Block) → NarrowBlock channels b
+    → Each (of_cycles way) channels (block_units b) (pass_block_code way f 0 start b)
+whole_named pass.Initialisation channels f b narrow =
+    block_named false channels (block_units b) pass.Initialisation refl f 0 start b (whole_at (block_units b)) narrow
+whole_named pass.Performance channels f b narrow =
+    block_named true channels (block_units b) pass.Performance tt f 0 start b (whole_at (block_units b)) narrow
+
+pub names_of : (way : Pass) (channels : ℕ) (f : Frame) (b : Block) → NarrowBlock channels b
+    → AllNamed channels (block_units b) (pass_block_code way f 0 start b)
+names_of way channels f b narrow =
+    each_all (of_cycles way) channels (block_units b) (pass_block_code way f 0 start b)
+    (whole_named way channels f b narrow)
 
 or_none : (b : Bool) → (b || false) ≡ true → b ≡ true
 or_none true h = refl
@@ -451,7 +444,7 @@ in_cycle channels units (op ∷ ops) h =
 
 -- the performance of statements starts no unit, looks for no table and asks for no note
 pub perf_cycles : (channels : ℕ) (f : Frame) (b : Block) → NarrowBlock channels b
-    → are_of_cycle (perf_block_code f 0 start b) ≡ true
+    → are_of_cycle (pass_block_code pass.Performance f 0 start b) ≡ true
 perf_cycles channels f b narrow =
-    in_cycle channels (block_units b) (perf_block_code f 0 start b)
-    (perf_block_named true channels (block_units b) f 0 start b (whole_at (block_units b)) narrow)
+    in_cycle channels (block_units b) (pass_block_code pass.Performance f 0 start b)
+    (whole_named pass.Performance channels f b narrow)

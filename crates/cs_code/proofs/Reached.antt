@@ -1,12 +1,12 @@
 -- Counts that reach further.
-use Rattle.std.proofs.Common.{◌≡◌, ◌∙◌, ◌++◌, ℕ, List, max, arith, sym, ap}
+use Rattle.std.proofs.Common.{◌≡◌, ◌∙◌, ◌+◌, ◌<◌, ℕ, List, max, length, drop, get_or, arith, sym, ap}
 use Rattle.std.proofs.Math.Nat.{max-zero}
+use Rattle.std.proofs.lemmas.List.{drop_more}
 use Rattle.cs_base.specs.declared.resource.Rate.{Rate}
 use Rattle.cs_base.specs.declared.resource.Rate.TheVariants as rate
-use Rattle.cs_ir.proofs.Reaching.{limit_append}
-use Rattle.cs_ir.specs.Limits.{ops_limit}
-use Rattle.cs_ir.specs.declared.op.Op.{Op}
+use Rattle.cs_ir.specs.Registers.{reg_limit, regs_limit}
 use Rattle.cs_ir.specs.declared.register.Counts.{Counts}
+use Rattle.cs_ir.specs.declared.register.Reg.{Reg}
 use Rattle.cs_code.specs.inner.Counted.{reached}
 
 pub max_none : (n : ℕ) → max n 0 ≡ n
@@ -30,9 +30,11 @@ pub reached_step : (c now : Counts) (g h : Rate → ℕ) → now ≡ reached c g
     → reached now h ≡ reached c (λ r. max (g r) (h r))
 reached_step c now g h e = ap (λ m. reached m h) e ∙ reached_two c g h
 
--- some ops, and then others
-pub reached_append : (c now : Counts) (xs ys : List Op) → now ≡ reached c (λ r. ops_limit r xs)
-    → reached now (λ r. ops_limit r ys) ≡ reached c (λ r. ops_limit r (xs ++ ys))
-reached_append c now xs ys made =
-    reached_step c now (λ r. ops_limit r xs) (λ r. ops_limit r ys) made
-    ∙ ap (reached c) (λ i r. sym (limit_append r xs ys) i)
+-- one register more, of those from a place on
+pub regs_more : (c now total : Counts) (qs : List Reg) (i : ℕ) (d : Reg) → i < length qs
+    → now ≡ reached c (λ r. reg_limit r (get_or qs i d))
+    → reached c (λ r. regs_limit r (drop i qs)) ≡ total → reached now (λ r. regs_limit r (drop (i + 1) qs)) ≡ total
+regs_more c now total qs i d lt made was =
+    reached_step c now (λ r. reg_limit r (get_or qs i d)) (λ r. regs_limit r (drop (i + 1) qs)) made
+    ∙ sym (ap (λ xs. reached c (λ r. regs_limit r xs)) (drop_more qs i d lt))
+    ∙ was

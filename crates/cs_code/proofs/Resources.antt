@@ -1,7 +1,7 @@
 -- The ops of a note touch exactly what its statements do, as it begins and in a cycle: both what they may use and what
 -- they may write.
 use Rattle.std.proofs.Common.{◌≡◌, ℕ, ◌+◌, Bool, true, false, List, [], ◌∷◌, ◌++◌, length, Option, Some, None}
-use Rattle.std.proofs.Common.{if◌then◌else◌, refl, sym, ◌∙◌, ap, ap₂, append-nil}
+use Rattle.std.proofs.Common.{if◌then◌else◌, refl, sym, ◌∙◌, ap, ap₂, subst, append-nil}
 use Rattle.std.specs.List.{flat_map}
 use Rattle.std.proofs.lemmas.Grind.{flat_map-append}
 use Rattle.cs_base.specs.Rates.{same_rate}
@@ -15,9 +15,11 @@ use Rattle.cs_ir.specs.declared.op.Act.{Act}
 use Rattle.cs_ir.specs.declared.op.Act.TheVariants as act
 use Rattle.cs_ir.specs.declared.op.Op.{Op}
 use Rattle.cs_ir.specs.declared.register.Reg.{Reg}
-use Rattle.cs_meaning.specs.Core.{Stmt, Block, Arms, set, unit, zak, store, out, out_at, ask, turnoff, nothing}
+use Rattle.cs_meaning.specs.Core.{Stmt, Block, Arms, set, unit, zak, store, out, out_at, ask}
 use Rattle.cs_meaning.specs.Core.{choose, no_stmt, andthen, otherwise, arm}
 use Rattle.cs_meaning.specs.Notes.{reg}
+use Rattle.cs_code.specs.declared.frame.Pass.{Pass}
+use Rattle.cs_code.specs.declared.frame.Pass.TheVariants as pass
 use Rattle.cs_code.specs.declared.frame.Progress.{Progress}
 use Rattle.cs_code.specs.inner.Kept.{past, past_parts, past_stmt, past_block}
 use Rattle.cs_meaning.specs.Uses.{arms_touched, block_touched, stmt_touched}
@@ -31,8 +33,8 @@ use Rattle.cs_code.specs.inner.Frames.{Frame, op_of, kept_reg, temp, kept_or, di
 use Rattle.cs_code.specs.inner.Code.{unless_there, own, code, copied, operand_code, operands_code, kept_code, keep_code}
 use Rattle.cs_code.specs.inner.Code.{keep_all_code, set_code, target, given_code, on_code, run_code, start_code}
 use Rattle.cs_code.specs.inner.Code.{unit_code, zak_code, seek_code, store_code, out_ops, out_at_ops, arm_code}
-use Rattle.cs_code.specs.inner.Code.{init_code, init_block_code, first_code, all_code}
-use Rattle.cs_code.specs.inner.Code.{perf_code, perf_block_code, perf_arms_code}
+use Rattle.cs_code.specs.inner.Code.{cond_code, cond_reg, choice_code, pass_code, pass_block_code, chosen_code, all_code}
+use Rattle.cs_code.specs.inner.Emitted.{when_of}
 
 nothing_read : (r : Rate) → if_init {A = List Res} r [] [] ≡ []
 nothing_read rate.Init = refl
@@ -179,12 +181,6 @@ module _ (t : Touch) (stock : Stock) (f : Frame) where
   either rate.Control once each u v h k = k
   either rate.Audio once each u v h k = k
 
-  same : (r : Rate) (once each : List Op) (u : List Res) → touch once ≡ u → touch each ≡ u
-      → touch (if_init r once each) ≡ u
-  same rate.Init once each u h k = h
-  same rate.Control once each u h k = k
-  same rate.Audio once each u h k = k
-
   -- of what is kept as a whole, or by its parts
   keeps : (at : ℕ) (e : Expression) (r : Rate) (parts : List Op) (v : List Res) → touch parts ≡ read_only t v
       → touch (if_init r (kept_code f at e) parts) ≡ read_only t (if_init r (expr_reads e) v)
@@ -298,65 +294,32 @@ module _ (t : Touch) (stock : Stock) (f : Frame) where
       let test : Op = op_of (act.Unless (place + length before + 1 + length body + 1)) q (q ∷ []) in
       two before (test ∷ (body ++ (jump ∷ rest))) u (v ++ w) h (two body (jump ∷ rest) v w k l)
 
-  -- ---- statements in a cycle
+  -- ---- statements, by the pass
+
+  cond_touch : (way : Pass) (at : ℕ) (c : Expression)
+      → touch (cond_code way f at c) ≡ read_only t (expr_used (when_of way) c)
+  cond_touch pass.Initialisation at c = keep_touch at c
+  cond_touch pass.Performance at c = operand_touch cycle at c 0
+
+  choice_touch : (way : Pass) (r : Rate) (one all : List Op) (u : List Res) → touch one ≡ u
+      → (way ≡ pass.Initialisation → touch all ≡ u) → touch (choice_code way r one all) ≡ u
+  choice_touch pass.Initialisation rate.Init one all u h k = h
+  choice_touch pass.Initialisation rate.Control one all u h k = k refl
+  choice_touch pass.Initialisation rate.Audio one all u h k = k refl
+  choice_touch pass.Performance r one all u h k = h
 
   mutual
-    stmt_cycles : (place : ℕ) (p : Progress) (s : Stmt) → touch (perf_code f place p s) ≡ stmt_touched t cycle stock s
-    stmt_cycles place p (set r v e) =
-        either r [] (set_code f cycle p.part v e) [] (read_only t (expr_used cycle e) ++ var_uses v) refl
-        (set_touch cycle p.part v e)
-    stmt_cycles place p (unit r vs opcode reach xs is) =
-        either r [] (unit_code f cycle p.part r vs opcode p.unit reach xs) []
-        (read_only t (exprs_used cycle xs) ++ (read_only t (unit_uses stock opcode reach) ++ vars_use vs)) refl
-        (run_touch cycle p.part (act.Unit opcode p.unit reach) r vs xs)
-    stmt_cycles place p (zak r vs opcode reach xs) =
-        either r [] (zak_code f cycle p.part r vs opcode reach xs) []
-        (read_only t (exprs_used cycle xs) ++ (zak_touches t stock opcode reach ++ vars_use vs)) refl
-        (run_touch cycle p.part (act.Zak opcode reach) r vs xs)
-    stmt_cycles place p (store r reach es is) =
-        either r [] (store_code f cycle p.part r reach es) []
-        (read_only t (exprs_used cycle es) ++ tables_within stock reach) refl
-        (on_touch cycle p.part (act.Store reach) (reg r 0) es)
-    stmt_cycles place p (out r es) =
-        sent p.part es (out_ops 0 (spots f cycle p.part es 0)) (out_touch 0 (spots f cycle p.part es 0))
-    stmt_cycles place p (out_at r es) =
-        sent p.part es (out_at_ops (spots f cycle p.part es 0)) (out_at_touch (spots f cycle p.part es 0))
-    stmt_cycles place p (ask es) = refl
-    stmt_cycles place p (turnoff r) = refl
-    stmt_cycles place p nothing = refl
-    stmt_cycles place p (choose r arms) = arms_cycle place p arms
-
-    -- the ops of a control cycle touch what its statements do
-    pub block_cycles : (place : ℕ) (p : Progress) (b : Block)
-        → touch (perf_block_code f place p b) ≡ block_touched t cycle stock b
-    block_cycles place p no_stmt = refl
-    block_cycles place p (andthen s b) =
-        two (perf_code f place p s) (perf_block_code f (place + length (perf_code f place p s)) (past_stmt p s) b)
-        (stmt_touched t cycle stock s) (block_touched t cycle stock b) (stmt_cycles place p s)
-        (block_cycles (place + length (perf_code f place p s)) (past_stmt p s) b)
-
-    arms_cycle : (place : ℕ) (p : Progress) (arms : Arms)
-        → touch (perf_arms_code f place p arms) ≡ arms_touched t cycle stock arms
-    arms_cycle place p (otherwise b) = block_cycles place p b
-    arms_cycle place p (arm c b rest) =
-        let before : List Op = operand_code f cycle p.part c 0 in
-        let q : Progress = past_parts (past p.part c) p in
-        let body : List Op = perf_block_code f (place + length before + 1) q b in
-        let next : ℕ = place + length before + 1 + length body + 1 in
-        arm_touch place before (spot f cycle p.part c 0) body (perf_arms_code f next (past_block q b) rest)
-        (read_only t (expr_used cycle c)) (block_touched t cycle stock b) (arms_touched t cycle stock rest)
-        (operand_touch cycle p.part c 0) (block_cycles (place + length before + 1) q b)
-        (arms_cycle next (past_block q b) rest)
-
-  -- ---- statements as a note begins
-
-  mutual
-    stmt_begins : (place : ℕ) (p : Progress) (s : Stmt)
-        → touch (init_code f place p s) ≡ stmt_touched t beginning stock s
-    stmt_begins place p (set r v e) =
+    stmt_touch : (way : Pass) (place : ℕ) (p : Progress) (s : Stmt)
+        → touch (pass_code way f place p s) ≡ stmt_touched t (when_of way) stock s
+    stmt_touch way place p (choose r arms) =
+        choice_touch way r (chosen_code way f place p arms) (all_code f place p arms)
+        (arms_touched t (when_of way) stock arms) (chosen_touch way place p arms)
+        (λ is. subst (λ w. touch (all_code f place p arms) ≡ arms_touched t (when_of w) stock arms) (sym is)
+        (all_touch place p arms))
+    stmt_touch pass.Initialisation place p (set r v e) =
         either r (set_code f beginning 0 v e) (keep_code f p.part e) (read_only t (expr_reads e) ++ var_uses v)
         (read_only t (expr_used beginning e)) (set_touch beginning 0 v e) (keep_touch p.part e)
-    stmt_begins place p (unit r vs opcode reach xs is) =
+    stmt_touch pass.Initialisation place p (unit r vs opcode reach xs is) =
         let started : List Op = start_code f r opcode p.unit is in
         let once : List Op = unit_code f beginning 0 r vs opcode p.unit reach xs in
         let kept : List Op = keep_all_code f p.part xs in
@@ -368,12 +331,12 @@ module _ (t : Touch) (stock : Stock) (f : Frame) where
         either r (started ++ once) (kept ++ started) (settled ++ runs) (moving ++ settled)
         (two started once settled runs starts (run_touch beginning 0 (act.Unit opcode p.unit reach) r vs xs))
         (two kept started moving settled (keep_all_touch p.part xs) starts)
-    stmt_begins place p (zak r vs opcode reach xs) =
+    stmt_touch pass.Initialisation place p (zak r vs opcode reach xs) =
         either r (zak_code f beginning 0 r vs opcode reach xs) (keep_all_code f p.part xs)
         (read_only t (exprs_read xs) ++ (zak_touches t stock opcode reach ++ vars_use vs))
         (read_only t (exprs_used beginning xs)) (run_touch beginning 0 (act.Zak opcode reach) r vs xs)
         (keep_all_touch p.part xs)
-    stmt_begins place p (store r reach es is) =
+    stmt_touch pass.Initialisation place p (store r reach es is) =
         let sought : List Op = seek_code f is in
         let once : List Op = store_code f beginning 0 r reach es in
         let kept : List Op = keep_all_code f p.part es in
@@ -384,46 +347,65 @@ module _ (t : Touch) (stock : Stock) (f : Frame) where
         either r (sought ++ once) (kept ++ sought) (settled ++ stores) (moving ++ settled)
         (two sought once settled stores seeks (on_touch beginning 0 (act.Store reach) (reg r 0) es))
         (two kept sought moving settled (keep_all_touch p.part es) seeks)
-    stmt_begins place p (out r es) = keep_all_touch p.part es
-    stmt_begins place p (out_at r es) = keep_all_touch p.part es
-    stmt_begins place p (ask es) = alone act.Ask (reg rate.Init 0) es refl
-    stmt_begins place p (turnoff r) = refl
-    stmt_begins place p nothing = refl
-    stmt_begins place p (choose r arms) =
-        same r (first_code f place p arms) (all_code f place p arms) (arms_touched t beginning stock arms)
-        (first_begins place p arms) (all_begin place p arms)
+    stmt_touch pass.Initialisation place p (out r es) = keep_all_touch p.part es
+    stmt_touch pass.Initialisation place p (out_at r es) = keep_all_touch p.part es
+    stmt_touch pass.Initialisation place p (ask es) = alone act.Ask (reg rate.Init 0) es refl
+    stmt_touch pass.Performance place p (set r v e) =
+        either r [] (set_code f cycle p.part v e) [] (read_only t (expr_used cycle e) ++ var_uses v) refl
+        (set_touch cycle p.part v e)
+    stmt_touch pass.Performance place p (unit r vs opcode reach xs is) =
+        either r [] (unit_code f cycle p.part r vs opcode p.unit reach xs) []
+        (read_only t (exprs_used cycle xs) ++ (read_only t (unit_uses stock opcode reach) ++ vars_use vs)) refl
+        (run_touch cycle p.part (act.Unit opcode p.unit reach) r vs xs)
+    stmt_touch pass.Performance place p (zak r vs opcode reach xs) =
+        either r [] (zak_code f cycle p.part r vs opcode reach xs) []
+        (read_only t (exprs_used cycle xs) ++ (zak_touches t stock opcode reach ++ vars_use vs)) refl
+        (run_touch cycle p.part (act.Zak opcode reach) r vs xs)
+    stmt_touch pass.Performance place p (store r reach es is) =
+        either r [] (store_code f cycle p.part r reach es) []
+        (read_only t (exprs_used cycle es) ++ tables_within stock reach) refl
+        (on_touch cycle p.part (act.Store reach) (reg r 0) es)
+    stmt_touch pass.Performance place p (out r es) =
+        sent p.part es (out_ops 0 (spots f cycle p.part es 0)) (out_touch 0 (spots f cycle p.part es 0))
+    stmt_touch pass.Performance place p (out_at r es) =
+        sent p.part es (out_at_ops (spots f cycle p.part es 0)) (out_at_touch (spots f cycle p.part es 0))
+    stmt_touch pass.Initialisation place p _ = refl
+    stmt_touch pass.Performance place p _ = refl
 
-    -- the ops of a note's beginning touch what its statements do then
-    pub block_begins : (place : ℕ) (p : Progress) (b : Block)
-        → touch (init_block_code f place p b) ≡ block_touched t beginning stock b
-    block_begins place p no_stmt = refl
-    block_begins place p (andthen s b) =
-        two (init_code f place p s) (init_block_code f (place + length (init_code f place p s)) (past_stmt p s) b)
-        (stmt_touched t beginning stock s) (block_touched t beginning stock b) (stmt_begins place p s)
-        (block_begins (place + length (init_code f place p s)) (past_stmt p s) b)
+    -- the ops of a note's beginning and of a control cycle touch what its statements do then
+    pub block_touch : (way : Pass) (place : ℕ) (p : Progress) (b : Block)
+        → touch (pass_block_code way f place p b) ≡ block_touched t (when_of way) stock b
+    block_touch way place p no_stmt = refl
+    block_touch way place p (andthen s b) =
+        let next : ℕ = place + length (pass_code way f place p s) in
+        two (pass_code way f place p s) (pass_block_code way f next (past_stmt p s) b)
+        (stmt_touched t (when_of way) stock s) (block_touched t (when_of way) stock b) (stmt_touch way place p s)
+        (block_touch way next (past_stmt p s) b)
 
-    first_begins : (place : ℕ) (p : Progress) (arms : Arms)
-        → touch (first_code f place p arms) ≡ arms_touched t beginning stock arms
-    first_begins place p (otherwise b) = block_begins place p b
-    first_begins place p (arm c b rest) =
-        let before : List Op = keep_code f p.part c in
+    chosen_touch : (way : Pass) (place : ℕ) (p : Progress) (arms : Arms)
+        → touch (chosen_code way f place p arms) ≡ arms_touched t (when_of way) stock arms
+    chosen_touch way place p (otherwise b) = block_touch way place p b
+    chosen_touch way place p (arm c b rest) =
+        let before : List Op = cond_code way f p.part c in
         let q : Progress = past_parts (past p.part c) p in
-        let body : List Op = init_block_code f (place + length before + 1) q b in
+        let body : List Op = pass_block_code way f (place + length before + 1) q b in
         let next : ℕ = place + length before + 1 + length body + 1 in
-        arm_touch place before (kept_reg f p.part) body (first_code f next (past_block q b) rest)
-        (read_only t (expr_used beginning c)) (block_touched t beginning stock b) (arms_touched t beginning stock rest)
-        (keep_touch p.part c) (block_begins (place + length before + 1) q b) (first_begins next (past_block q b) rest)
+        arm_touch place before (cond_reg way f p.part c) body (chosen_code way f next (past_block q b) rest)
+        (read_only t (expr_used (when_of way) c)) (block_touched t (when_of way) stock b)
+        (arms_touched t (when_of way) stock rest)
+        (cond_touch way p.part c) (block_touch way (place + length before + 1) q b)
+        (chosen_touch way next (past_block q b) rest)
 
-    all_begin : (place : ℕ) (p : Progress) (arms : Arms)
+    all_touch : (place : ℕ) (p : Progress) (arms : Arms)
         → touch (all_code f place p arms) ≡ arms_touched t beginning stock arms
-    all_begin place p (otherwise b) = block_begins place p b
-    all_begin place p (arm c b rest) =
+    all_touch place p (otherwise b) = block_touch pass.Initialisation place p b
+    all_touch place p (arm c b rest) =
         let before : List Op = keep_code f p.part c in
         let q : Progress = past_parts (past p.part c) p in
-        let body : List Op = init_block_code f (place + length before) q b in
+        let body : List Op = pass_block_code pass.Initialisation f (place + length before) q b in
         let next : ℕ = place + length before + length body in
         let others : List Op = all_code f next (past_block q b) rest in
         two before (body ++ others) (read_only t (expr_used beginning c))
         (block_touched t beginning stock b ++ arms_touched t beginning stock rest) (keep_touch p.part c)
         (two body others (block_touched t beginning stock b) (arms_touched t beginning stock rest)
-        (block_begins (place + length before) q b) (all_begin next (past_block q b) rest))
+        (block_touch pass.Initialisation (place + length before) q b) (all_touch next (past_block q b) rest))

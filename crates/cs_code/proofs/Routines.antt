@@ -1,5 +1,5 @@
 -- What a routine does, found at its number: its statements, over the routines in front of it.
-use Rattle.std.proofs.Common.{◌≡◌, ◌∙◌, ◌<◌, ◌≤◌, ◌+◌, ◌++◌, ◌∷◌, [], ℕ, zero, suc, List, Some, length, take, drop}
+use Rattle.std.proofs.Common.{◌≡◌, ◌∙◌, ◌<◌, ◌≤◌, ◌+◌, ◌++◌, ◌∷◌, [], ℕ, zero, suc, List, Some, length, take}
 use Rattle.std.proofs.Common.{arith, refl, sym, ap, true, get_or}
 use Rattle.std.proofs.Math.Dec.{ltb}
 use Rattle.std.proofs.lemmas.Bool.{ltb-true}
@@ -75,25 +75,6 @@ long rs (x ∷ list) =
 
 pub routine_missing : (list : Bodies) (k : ℕ) → length list ≤ k → routine_at (routines list) k ≡ no_stmt
 routine_missing list k h = past_end (routines list) k (omega (arith, long [] list, h))
-
--- the routines in front of one, and those from it on
-parted : (rs : List Block) (n : ℕ) (list : Bodies)
-    → more_routines rs list ≡ more_routines (more_routines rs (take n list)) (drop n list)
-parted rs zero list = refl
-parted rs (suc n) [] = refl
-parted rs (suc n) (x ∷ list) = parted (rs ++ block rs x.items ∷ []) n list
-
-pub same_in_front : (list : Bodies) (n k : ℕ) → k < length (take n list)
-    → routine_at (routines (take n list)) k ≡ routine_at (routines list) k
-same_in_front list n k h =
-    let front = routines (take n list) in
-    sym (stays front (drop n list) k (omega (arith, h, long [] (take n list))))
-    ∙ sym (ap (λ rs. routine_at rs k) (parted [] n list))
-
-pub short_front : (n : ℕ) (list : Bodies) → length (take n list) ≤ length list
-short_front zero list = omega arith
-short_front (suc n) [] = omega arith
-short_front (suc n) (x ∷ list) = let rest = short_front n list in omega (arith, rest)
 
 -- what is done where no routine has the number
 pub ruleset no_routine = (routine_missing, block_none, append_nothing)

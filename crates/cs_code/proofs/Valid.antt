@@ -22,10 +22,12 @@ use Rattle.cs_ir.specs.declared.op.Op.{Op}
 use Rattle.cs_ir.specs.declared.op.Reach.{Reach}
 use Rattle.cs_ir.specs.declared.register.Counts.{Counts}
 use Rattle.cs_ir.specs.declared.register.Reg.{Reg}
-use Rattle.cs_meaning.specs.Core.{Stmt, Block, Arms, set, unit, zak, store, out, out_at, ask, turnoff, nothing, choose}
+use Rattle.cs_meaning.specs.Core.{Stmt, Block, Arms, set, unit, zak, store, out, out_at, ask, turnoff, choose}
 use Rattle.cs_meaning.specs.Core.{no_stmt, andthen, otherwise, arm}
 use Rattle.cs_meaning.specs.Notes.{reg}
 use Rattle.cs_meaning.specs.When.{When, beginning, cycle}
+use Rattle.cs_code.specs.declared.frame.Pass.{Pass}
+use Rattle.cs_code.specs.declared.frame.Pass.TheVariants as pass
 use Rattle.cs_code.specs.declared.frame.Progress.{Progress}
 use Rattle.cs_code.specs.inner.Kept.{past, past_parts, past_stmt, past_block}
 use Rattle.cs_typed.specs.TypedTree.{Expression, number, var, field, head, neg, pair, pick, apply}
@@ -35,12 +37,12 @@ use Rattle.cs_typed.specs.declared.tree.Var.TheVariants.{Local, Global}
 use Rattle.cs_code.specs.Names.{UnitKind, Names}
 use Rattle.cs_ir.specs.Limits.{ops_limit}
 use Rattle.cs_ir.specs.Registers.{reg_limit, regs_limit}
-use Rattle.cs_code.specs.inner.Frames.{Frame, op_of, kept_reg, temp, kept_or, direct, reg_or, spot, spots}
+use Rattle.cs_code.specs.inner.Frames.{Frame, op_of, temp, kept_or, direct, reg_or, spot, spots}
 use Rattle.cs_code.specs.inner.Code.{unless_there, copied, own, code, operand_code, operands_code, kept_code, keep_code}
 use Rattle.cs_code.specs.inner.Code.{keep_all_code, set_code, target, given_code, on_code, run_code, start_code}
 use Rattle.cs_code.specs.inner.Code.{unit_code, zak_code, seek_code, store_code, ask_code, out_ops, out_at_ops}
-use Rattle.cs_code.specs.inner.Code.{arm_code, init_code, init_block_code, first_code, all_code, perf_code}
-use Rattle.cs_code.specs.inner.Code.{perf_block_code, perf_arms_code}
+use Rattle.cs_code.specs.inner.Code.{arm_code, cond_code, cond_reg, choice_code, pass_code}
+use Rattle.cs_code.specs.inner.Code.{pass_block_code, chosen_code, all_code}
 use Rattle.cs_code.proofs.Named.{Each, target_rate}
 use Rattle.cs_code.proofs.Performs.{arm_length}
 use Rattle.cs_code.proofs.Ranked.{Ranked, AllRanked, AllInit, AllSound, Paired, rated, RankedSet, GivenTo, RankedRun}
@@ -486,20 +488,35 @@ module _ (end : ℕ) where
         both_fine (place + length before + 1) body (jump ∷ rest) k (refl, (omega arith, omega arith), l),
       )
 
-  either_fine : (r : Rate) (place : ℕ) (a b : List Op) → place + length (if_init r a b) ≤ end
+  cond_fine : (way : Pass) (f : Frame) (place at : ℕ) (c : Expression) → Ranked c
+      → Fine end place (cond_code way f at c)
+  cond_fine pass.Initialisation f place at c h = keep_fine f c at place h
+  cond_fine pass.Performance f place at c h = operand_fine f cycle c at 0 place h
+
+  -- a condition stands in no sound
+  cond_held : (way : Pass) (f : Frame) (at : ℕ) (c : Expression) → Ranked c → is_audio (node_rate c) ≡ false
+      → is_audio (cond_reg way f at c).rate ≡ false
+  cond_held pass.Initialisation f at c h held = refl
+  cond_held pass.Performance f at c h held = ap is_audio (spot_rate f cycle at c 0 h) ∙ held
+
+  choice_fine : (way : Pass) (r : Rate) (place : ℕ) (a b : List Op) → place + length (choice_code way r a b) ≤ end
       → (place + length a ≤ end → Fine end place a)
-      → (place + length b ≤ end → Fine end place b) → Fine end place (if_init r a b)
-  either_fine rate.Init place a b low h k = h low
-  either_fine rate.Control place a b low h k = k low
-  either_fine rate.Audio place a b low h k = k low
+      → (place + length b ≤ end → Fine end place b) → Fine end place (choice_code way r a b)
+  choice_fine pass.Initialisation rate.Init place a b low h k = h low
+  choice_fine pass.Initialisation rate.Control place a b low h k = k low
+  choice_fine pass.Initialisation rate.Audio place a b low h k = k low
+  choice_fine pass.Performance r place a b low h k = h low
 
   mutual
-    init_fine : (f : Frame) (place : ℕ) (p : Progress) (s : Stmt) → RankedStmt s
-        → place + length (init_code f place p s) ≤ end → Fine end place (init_code f place p s)
-    init_fine f place p (set r v e) h low =
+    stmt_fine : (way : Pass) (f : Frame) (place : ℕ) (p : Progress) (s : Stmt) → RankedStmt s
+        → place + length (pass_code way f place p s) ≤ end → Fine end place (pass_code way f place p s)
+    stmt_fine way f place p (choose r arms) h low =
+        choice_fine way r place (chosen_code way f place p arms) (all_code f place p arms) low
+        (λ l. chosen_fine way f place p arms h l) (λ l. all_fine f place p arms h l)
+    stmt_fine pass.Initialisation f place p (set r v e) h low =
         when_init r place (set_code f beginning 0 v e) (keep_code f p.part e) (λ i. set_fine f beginning 0 place v e h)
         (keep_fine f e p.part place h.1)
-    init_fine f place p (unit r vs opcode reach xs is) h low =
+    stmt_fine pass.Initialisation f place p (unit r vs opcode reach xs is) h low =
         let begins : List Op = start_code f r opcode p.unit is in
         when_init r place (begins ++ unit_code f beginning 0 r vs opcode p.unit reach xs)
         (keep_all_code f p.part xs ++ begins)
@@ -508,10 +525,10 @@ module _ (end : ℕ) where
         (unit_fine f beginning 0 r vs opcode p.unit reach xs is (place + length begins) h))
         (both_fine place (keep_all_code f p.part xs) begins (keep_all_fine f xs p.part place h.run.parts)
         (start_fine f r vs opcode p.unit xs is (place + length (keep_all_code f p.part xs)) h))
-    init_fine f place p (zak r vs opcode reach xs) h low =
+    stmt_fine pass.Initialisation f place p (zak r vs opcode reach xs) h low =
         when_init r place (zak_code f beginning 0 r vs opcode reach xs) (keep_all_code f p.part xs)
         (λ i. zak_fine f beginning 0 r vs opcode reach xs place h.0 h.1) (keep_all_fine f xs p.part place h.1.parts)
-    init_fine f place p (store r reach es is) h low =
+    stmt_fine pass.Initialisation f place p (store r reach es is) h low =
         let seeks : List Op = seek_code f is in
         let stores : List Op = store_code f beginning 0 r reach es in
         when_init r place (seeks ++ stores) (keep_all_code f p.part es ++ seeks)
@@ -519,115 +536,75 @@ module _ (end : ℕ) where
         (store_fine f beginning 0 r reach es is (place + length seeks) h))
         (both_fine place (keep_all_code f p.part es) seeks (keep_all_fine f es p.part place h.parts)
         (seek_fine f r es is (place + length (keep_all_code f p.part es)) h))
-    init_fine f place p (out r es) h low = keep_all_fine f es p.part place h.1
-    init_fine f place p (out_at r es) h low = keep_all_fine f es p.part place h.1
-    init_fine f place p (ask es) h low = ask_fine f es place h.0 h.1 h.2
-    init_fine f place p (turnoff r) h low = tt
-    init_fine f place p nothing h low = tt
-    init_fine f place p (choose r arms) h low =
-        either_fine r place (first_code f place p arms) (all_code f place p arms) low
-        (λ l. first_fine f place p arms h l) (λ l. all_fine f place p arms h l)
+    stmt_fine pass.Initialisation f place p (out r es) h low = keep_all_fine f es p.part place h.1
+    stmt_fine pass.Initialisation f place p (out_at r es) h low = keep_all_fine f es p.part place h.1
+    stmt_fine pass.Initialisation f place p (ask es) h low = ask_fine f es place h.0 h.1 h.2
+    stmt_fine pass.Performance f place p (set r v e) h low =
+        when_init r place [] (set_code f cycle p.part v e) (λ i. tt) (set_fine f cycle p.part place v e h)
+    stmt_fine pass.Performance f place p (unit r vs opcode reach xs is) h low =
+        when_init r place [] (unit_code f cycle p.part r vs opcode p.unit reach xs) (λ i. tt)
+        (unit_fine f cycle p.part r vs opcode p.unit reach xs is place h)
+    stmt_fine pass.Performance f place p (zak r vs opcode reach xs) h low =
+        when_init r place [] (zak_code f cycle p.part r vs opcode reach xs) (λ i. tt)
+        (zak_fine f cycle p.part r vs opcode reach xs place h.0 h.1)
+    stmt_fine pass.Performance f place p (store r reach es is) h low =
+        when_init r place [] (store_code f cycle p.part r reach es) (λ i. tt)
+        (store_fine f cycle p.part r reach es is place h)
+    stmt_fine pass.Performance f place p (out r es) h low =
+        both_fine place (operands_code f cycle p.part es 0) (out_ops 0 (spots f cycle p.part es 0))
+        (operands_fine f cycle es p.part 0 place h.1)
+        (out_fine f 0 p.part 0 (place + length (operands_code f cycle p.part es 0)) es h.0 h.1)
+    stmt_fine pass.Performance f place p (out_at r es) h low =
+        both_fine place (operands_code f cycle p.part es 0) (out_at_ops (spots f cycle p.part es 0))
+        (operands_fine f cycle es p.part 0 place h.1)
+        (out_at_fine f p.part 0 (place + length (operands_code f cycle p.part es 0)) es h.0 h.1)
+    stmt_fine pass.Performance f place p (turnoff r) h low = (refl, tt, tt)
+    stmt_fine pass.Initialisation f place p _ h low = tt
+    stmt_fine pass.Performance f place p _ h low = tt
 
-    pub init_block_fine : (f : Frame) (place : ℕ) (p : Progress) (b : Block) → RankedBlock b
-        → place + length (init_block_code f place p b) ≤ end
-        → Fine end place (init_block_code f place p b)
-    init_block_fine f place p no_stmt h low = tt
-    init_block_fine f place p (andthen s b) h low =
-        let first : List Op = init_code f place p s in
-        let rest : List Op = init_block_code f (place + length first) (past_stmt p s) b in
+    pub block_fine : (way : Pass) (f : Frame) (place : ℕ) (p : Progress) (b : Block) → RankedBlock b
+        → place + length (pass_block_code way f place p b) ≤ end → Fine end place (pass_block_code way f place p b)
+    block_fine way f place p no_stmt h low = tt
+    block_fine way f place p (andthen s b) h low =
+        let first : List Op = pass_code way f place p s in
+        let rest : List Op = pass_block_code way f (place + length first) (past_stmt p s) b in
         let long = length-append first rest in
-        both_fine place first rest (init_fine f place p s h.0 (omega arith))
-        (init_block_fine f (place + length first) (past_stmt p s) b h.1 (omega arith))
+        both_fine place first rest (stmt_fine way f place p s h.0 (omega arith))
+        (block_fine way f (place + length first) (past_stmt p s) b h.1 (omega arith))
 
-    first_fine : (f : Frame) (place : ℕ) (p : Progress) (arms : Arms) → RankedArms arms
-        → place + length (first_code f place p arms) ≤ end
-        → Fine end place (first_code f place p arms)
-    first_fine f place p (otherwise b) h low = init_block_fine f place p b h low
-    first_fine f place p (arm c b rest) h low =
-        let before : List Op = keep_code f p.part c in
+    chosen_fine : (way : Pass) (f : Frame) (place : ℕ) (p : Progress) (arms : Arms) → RankedArms arms
+        → place + length (chosen_code way f place p arms) ≤ end → Fine end place (chosen_code way f place p arms)
+    chosen_fine way f place p (otherwise b) h low = block_fine way f place p b h low
+    chosen_fine way f place p (arm c b rest) h low =
+        let before : List Op = cond_code way f p.part c in
+        let holder : Reg = cond_reg way f p.part c in
         let q : Progress = past_parts (past p.part c) p in
         let at : ℕ = place + length before + 1 in
-        let body : List Op = init_block_code f at q b in
-        let others : List Op = first_code f (at + length body + 1) (past_block q b) rest in
-        let far = arm_length place before (kept_reg f p.part) body others in
+        let body : List Op = pass_block_code way f at q b in
+        let others : List Op = chosen_code way f (at + length body + 1) (past_block q b) rest in
+        let far = arm_length place before holder body others in
         let inner : at + length body ≤ end = omega arith in
         let outer : at + length body + 1 + length others ≤ end = omega arith in
-        arm_fine place before (kept_reg f p.part) body others refl low (keep_fine f c p.part place h.1)
-        (init_block_fine f at q b h.2 inner)
-        (first_fine f (at + length body + 1) (past_block q b) rest h.3 outer)
+        arm_fine place before holder body others (cond_held way f p.part c h.1 h.0) low
+        (cond_fine way f place p.part c h.1)
+        (block_fine way f at q b h.2 inner)
+        (chosen_fine way f (at + length body + 1) (past_block q b) rest h.3 outer)
 
     all_fine : (f : Frame) (place : ℕ) (p : Progress) (arms : Arms) → RankedArms arms
         → place + length (all_code f place p arms) ≤ end
         → Fine end place (all_code f place p arms)
-    all_fine f place p (otherwise b) h low = init_block_fine f place p b h low
+    all_fine f place p (otherwise b) h low = block_fine pass.Initialisation f place p b h low
     all_fine f place p (arm c b rest) h low =
         let before : List Op = keep_code f p.part c in
         let q : Progress = past_parts (past p.part c) p in
         let at : ℕ = place + length before in
-        let body : List Op = init_block_code f at q b in
+        let body : List Op = pass_block_code pass.Initialisation f at q b in
         let others : List Op = all_code f (at + length body) (past_block q b) rest in
         let long = length-append before (body ++ others) in
         let more = length-append body others in
         both_fine place before (body ++ others) (keep_fine f c p.part place h.1)
-        (both_fine at body others (init_block_fine f at q b h.2 (omega arith))
+        (both_fine at body others (block_fine pass.Initialisation f at q b h.2 (omega arith))
         (all_fine f (at + length body) (past_block q b) rest h.3 (omega arith)))
-
-  mutual
-    perf_fine : (f : Frame) (place : ℕ) (p : Progress) (s : Stmt) → RankedStmt s
-        → place + length (perf_code f place p s) ≤ end → Fine end place (perf_code f place p s)
-    perf_fine f place p (set r v e) h low =
-        when_init r place [] (set_code f cycle p.part v e) (λ i. tt) (set_fine f cycle p.part place v e h)
-    perf_fine f place p (unit r vs opcode reach xs is) h low =
-        when_init r place [] (unit_code f cycle p.part r vs opcode p.unit reach xs) (λ i. tt)
-        (unit_fine f cycle p.part r vs opcode p.unit reach xs is place h)
-    perf_fine f place p (zak r vs opcode reach xs) h low =
-        when_init r place [] (zak_code f cycle p.part r vs opcode reach xs) (λ i. tt)
-        (zak_fine f cycle p.part r vs opcode reach xs place h.0 h.1)
-    perf_fine f place p (store r reach es is) h low =
-        when_init r place [] (store_code f cycle p.part r reach es) (λ i. tt)
-        (store_fine f cycle p.part r reach es is place h)
-    perf_fine f place p (out r es) h low =
-        both_fine place (operands_code f cycle p.part es 0) (out_ops 0 (spots f cycle p.part es 0))
-        (operands_fine f cycle es p.part 0 place h.1)
-        (out_fine f 0 p.part 0 (place + length (operands_code f cycle p.part es 0)) es h.0 h.1)
-    perf_fine f place p (out_at r es) h low =
-        both_fine place (operands_code f cycle p.part es 0) (out_at_ops (spots f cycle p.part es 0))
-        (operands_fine f cycle es p.part 0 place h.1)
-        (out_at_fine f p.part 0 (place + length (operands_code f cycle p.part es 0)) es h.0 h.1)
-    perf_fine f place p (ask es) h low = tt
-    perf_fine f place p (turnoff r) h low = (refl, tt, tt)
-    perf_fine f place p nothing h low = tt
-    perf_fine f place p (choose r arms) h low = perf_arms_fine f place p arms h low
-
-    pub perf_block_fine : (f : Frame) (place : ℕ) (p : Progress) (b : Block) → RankedBlock b
-        → place + length (perf_block_code f place p b) ≤ end
-        → Fine end place (perf_block_code f place p b)
-    perf_block_fine f place p no_stmt h low = tt
-    perf_block_fine f place p (andthen s b) h low =
-        let first : List Op = perf_code f place p s in
-        let rest : List Op = perf_block_code f (place + length first) (past_stmt p s) b in
-        let long = length-append first rest in
-        both_fine place first rest (perf_fine f place p s h.0 (omega arith))
-        (perf_block_fine f (place + length first) (past_stmt p s) b h.1 (omega arith))
-
-    perf_arms_fine : (f : Frame) (place : ℕ) (p : Progress) (arms : Arms) → RankedArms arms
-        → place + length (perf_arms_code f place p arms) ≤ end
-        → Fine end place (perf_arms_code f place p arms)
-    perf_arms_fine f place p (otherwise b) h low = perf_block_fine f place p b h low
-    perf_arms_fine f place p (arm c b rest) h low =
-        let before : List Op = operand_code f cycle p.part c 0 in
-        let holder : Reg = spot f cycle p.part c 0 in
-        let q : Progress = past_parts (past p.part c) p in
-        let at : ℕ = place + length before + 1 in
-        let body : List Op = perf_block_code f at q b in
-        let others : List Op = perf_arms_code f (at + length body + 1) (past_block q b) rest in
-        let far = arm_length place before holder body others in
-        let inner : at + length body ≤ end = omega arith in
-        let outer : at + length body + 1 + length others ≤ end = omega arith in
-        arm_fine place before holder body others (ap is_audio (spot_rate f cycle p.part c 0 h.1) ∙ h.0) low
-        (operand_fine f cycle c p.part 0 place h.1)
-        (perf_block_fine f at q b h.2 inner)
-        (perf_arms_fine f (at + length body + 1) (past_block q b) rest h.3 outer)
 
 -- ---- the whole test of a code
 

@@ -2,11 +2,7 @@
 pub mod Branches
 pub mod Code
 pub mod Counted
-pub mod Decided
 pub mod Emitted
-pub mod Ends
 pub mod Frames
 pub mod Kept
-pub mod Noted
-pub mod Places
 pub mod Rated

@@ -2,10 +2,11 @@
 ghost use Rattle.std.specs.Prelude.{◌≡◌, ◌++◌, IfOk, OnOk};
 ghost use Rattle.cs_base.specs.declared.resource.Rate.TheVariants as rate;
 ghost use Rattle.cs_meaning.specs.Core.{ask, unit_call, store_call, zak_call, values_of};
+ghost use Rattle.cs_code.specs.inner.Code.{pass_code};
 ghost use Rattle.cs_code.specs.inner.Kept.{start, past_stmt};
 ghost use Rattle.cs_words.specs.Catalogue.{row_of};
 ghost use Rattle.cs_words.specs.declared.catalogue.Shape.TheVariants as shape;
-ghost use Rattle.cs_code.specs.inner.Emitted.{frame_of, pass_code};
+ghost use Rattle.cs_code.specs.inner.Emitted.{frame_of};
 ghost use Rattle.cs_code.specs.inner.Emitted.{IsAssignmentOf, put_shape};
 ghost use Rattle.cs_code.specs.inner.Emitted.{arguments_of, call_of, effect_of, sent_as, variables_of};
 

@@ -3,17 +3,15 @@ ghost use Rattle.std.specs.Prelude.{◌≡◌, max, IfOk};
 ghost use Rattle.cs_meaning.specs.Core.{core};
 ghost use Rattle.cs_code.specs.inner.Kept.{start, past_block};
 ghost use Rattle.cs_typed.specs.TypedTree as typed;
+ghost use Rattle.cs_code.specs.inner.Code.{pass_block_code};
 ghost use Rattle.cs_code.specs.inner.Code.{init_block_code, perf_block_code};
 ghost use Rattle.cs_code.specs.inner.Counted.{reached, no_registers};
-ghost use Rattle.cs_code.specs.inner.Emitted.{frame_of, pass_block_code};
+ghost use Rattle.cs_code.specs.inner.Emitted.{frame_of};
 ghost use Rattle.cs_code.specs.inner.Frames.{frame_for};
-ghost use Rattle.cs_code.specs.inner.Noted.{IsLibraryOf};
 ghost use Rattle.cs_ir.specs.Limits.{ops_limit};
 
-use crate::counts::with_stretches;
+use crate::counts::with_ops;
 use crate::frame::{Bases, Context, NO_LOCALS, Pass, START, add, narrow};
-use crate::library::Library;
-use crate::noted::Routines;
 use crate::stmt::{BodyCode, body_of};
 use cs_base::{OutOfMemory, PerRate};
 use cs_ir::{Counts, Ops};
@@ -39,8 +37,8 @@ fn counts_of(units: usize, init: &Ops, perf: &Ops) -> Counts
         audio: 0,
     };
     let none = Counts { registers, units };
-    let counts = with_stretches(none, init.stretches());
-    with_stretches(counts, perf.stretches())
+    let counts = with_ops(none, init.as_slice());
+    with_ops(counts, perf.as_slice())
 }
 
 // Numbers of registers as ops name them.
@@ -55,22 +53,14 @@ fn narrowed(locals: PerRate<usize>) -> Result<PerRate<u32>, OutOfMemory>
 }
 
 // The code of a block that nothing invokes, by its pass.
-fn code_of(
-    context: Context,
-    orc: &TypedOrc,
-    library: &Library,
-    stmts: &[TypedStmt],
-) -> Result<BodyCode, OutOfMemory>
-    requires locals { context.bases.locals ≡ typed.no_counts }
-    requires noted { IsLibraryOf context.spaces orc.now.routines.items library.now }
+fn code_of(context: Context, orc: &TypedOrc, stmts: &[TypedStmt]) -> Result<BodyCode, OutOfMemory>
+    requires { context.bases.locals ≡ typed.no_counts }
     ensures ops { IfOk result (λ m. m.ops ≡ pass_block_code context.pass (frame_of context.bases) 0
         start (core context.spaces (typed.block (typed.routines orc.now.routines.items) stmts.now))) }
     ensures next { IfOk result (λ m. m.next ≡ past_block start (core context.spaces
         (typed.block (typed.routines orc.now.routines.items) stmts.now))) }
 {
-    let noted = library.serving(context.pass, stmts);
-    let routines = Routines::of(&orc.routines, noted, &context);
-    body_of(context, &routines, START, stmts)
+    body_of(context, &orc.routines, START, stmts)
 }
 
 /// The two codes of a block with these local variables. The performance is made first: it keeps no temporary of rate
@@ -78,11 +68,9 @@ fn code_of(
 pub fn codes_of(
     alloc: Global,
     orc: &TypedOrc,
-    library: &Library,
     locals: PerRate<usize>,
     stmts: &[TypedStmt],
 ) -> Result<Codes, OutOfMemory>
-    requires { IsLibraryOf orc.now.spaces orc.now.routines.items library.now }
     ensures init { let body = core orc.now.spaces (typed.block (typed.routines orc.now.routines.items) stmts.now) in
         IfOk result (λ c. c.init ≡ init_block_code (frame_for locals body) 0 start body) }
     ensures perf { let body = core orc.now.spaces (typed.block (typed.routines orc.now.routines.items) stmts.now) in
@@ -105,7 +93,7 @@ pub fn codes_of(
         bases,
         spaces: orc.spaces,
     };
-    let perf = code_of(context, orc, library, stmts)?;
+    let perf = code_of(context, orc, stmts)?;
     let init = add(kept, perf.next.part)?;
     let bases = Bases {
         locals: NO_LOCALS,
@@ -118,7 +106,7 @@ pub fn codes_of(
         bases,
         spaces: orc.spaces,
     };
-    let init = code_of(context, orc, library, stmts)?;
+    let init = code_of(context, orc, stmts)?;
     let counts = counts_of(init.next.unit as usize, &init.ops, &perf.ops);
     Ok(Codes {
         init: init.ops,

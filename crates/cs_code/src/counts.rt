@@ -1,13 +1,12 @@
 // How many registers codes name.
 ghost use Rattle.std.specs.Prelude.{◌≡◌, if◌then◌else◌};
-ghost use Rattle.cs_base.specs.Rates.{at_rate, same_rate};
-ghost use Rattle.cs_ir.specs.Codes.{flat, ops_of};
+ghost use Rattle.cs_base.specs.Rates.{same_rate};
 ghost use Rattle.cs_code.specs.inner.Counted.{reached};
 ghost use Rattle.cs_ir.specs.Limits.{op_limit, ops_limit};
-ghost use Rattle.cs_ir.specs.Registers.{reg_limit};
+ghost use Rattle.cs_ir.specs.Registers.{reg_limit, regs_limit};
 
 use cs_base::{PerRate, Rate};
-use cs_ir::{Counts, Op, Reg, SharedOps, Stretch};
+use cs_ir::{Counts, Op, Reg};
 
 // Counts that reach a register of a rate that ends at a number.
 #[tactic(auto, using(crate::proofs::Reached::max_none))]
@@ -43,16 +42,14 @@ fn with_reg(counts: Counts, reg: Reg) -> Counts
     with_end(counts, reg.rate, reg.index as usize + 1)
 }
 
-fn with_limits(counts: Counts, limits: PerRate<usize>) -> Counts
-    ensures { result ≡ reached counts (λ r. at_rate limits r) }
+fn with_regs(counts: Counts, regs: &[Reg]) -> Counts
+    ensures { result ≡ reached counts (λ r. regs_limit r regs.now) }
 {
-    let Counts { registers, units } = counts;
-    let registers = PerRate {
-        init: registers.init.max(limits.init),
-        control: registers.control.max(limits.control),
-        audio: registers.audio.max(limits.audio),
-    };
-    Counts { registers, units }
+    let mut all = counts;
+    for reg in regs {
+        all = with_reg(all, *reg);
+    }
+    all
 }
 
 #[tactic(auto, using(crate::proofs::Reached::reached_two))]
@@ -60,51 +57,16 @@ fn with_op(counts: Counts, op: &Op) -> Counts
     ensures { result ≡ reached counts (λ r. op_limit r op.now) }
 {
     let counts = with_reg(counts, op.into);
-    let limits = PerRate {
-        init: op.from.limit(Rate::Init),
-        control: op.from.limit(Rate::Control),
-        audio: op.from.limit(Rate::Audio),
-    };
-    with_limits(counts, limits)
+    with_regs(counts, op.from.as_slice())
 }
 
-fn with_own(counts: Counts, ops: &[Op]) -> Counts
+/// Raises `counts` to cover every register that `ops` name.
+pub fn with_ops(counts: Counts, ops: &[Op]) -> Counts
     ensures { result ≡ reached counts (λ r. ops_limit r ops.now) }
 {
     let mut all = counts;
     for op in ops {
         all = with_op(all, op);
-    }
-    all
-}
-
-fn with_shared(counts: Counts, ops: &SharedOps) -> Counts
-    ensures { result ≡ reached counts (λ r. ops_limit r ops.now) }
-{
-    let limits = PerRate {
-        init: ops.limit(Rate::Init),
-        control: ops.limit(Rate::Control),
-        audio: ops.limit(Rate::Audio),
-    };
-    with_limits(counts, limits)
-}
-
-fn with_stretch(counts: Counts, stretch: &Stretch) -> Counts
-    ensures { result ≡ reached counts (λ r. ops_limit r (ops_of stretch.now)) }
-{
-    match stretch {
-        Stretch::Own(ops) => with_own(counts, ops),
-        Stretch::Shared(ops) => with_shared(counts, ops),
-    }
-}
-
-/// Raises `counts` to cover every register that the ops of a code name, stretch by stretch.
-pub fn with_stretches(counts: Counts, stretches: &[Stretch]) -> Counts
-    ensures { result ≡ reached counts (λ r. ops_limit r (flat stretches.now)) }
-{
-    let mut all = counts;
-    for stretch in stretches {
-        all = with_stretch(all, stretch);
     }
     all
 }

@@ -1,7 +1,8 @@
 // The code of what is no `if` and invokes nothing: assignments, calls, and the conditions of arms.
 ghost use Rattle.std.specs.Prelude.{◌≡◌, ◌++◌, length, map, IfOk, OnOk};
 ghost use Rattle.cs_typed.specs.TypedTree as typed;
-ghost use Rattle.cs_code.specs.inner.Emitted.{alone_in, cond_code, cond_reg, expression_of, frame_of, pass_block_code};
+ghost use Rattle.cs_code.specs.inner.Code.{cond_code, cond_reg, pass_block_code};
+ghost use Rattle.cs_code.specs.inner.Emitted.{alone_in, expression_of, frame_of};
 ghost use Rattle.cs_code.specs.inner.Kept.{past, past_block};
 
 use crate::args::Call;

@@ -7,31 +7,26 @@
 //!
 //! To be read in this order: `frame` (where values stand among the registers), `value` and `expr` (expressions),
 //! `args`, `reach` and `run` (the values of calls, and ops on them), `simple` (simple statements in either pass),
-//! `call` (what a call is short for), `leaves` (what is no `if` and invokes nothing), `noted` (what was noted of
-//! routines, and is said where they are invoked), `jumps` (jumps that are aimed once their end is known), `stmt`
-//! (statements, blocks, arms), `ends` and `uses` (what is known of routines), `library` (what is noted of them),
-//! `counts` (registers in use), `codes` (both codes of a block), `orchestra` (`lower`: valid codes, and instruments by
-//! number), `laws` (codes worked by hand).
+//! `call` (what a call is short for), `leaves` (what is no `if` and invokes nothing), `jumps` (jumps that are aimed once
+//! their end is known), `stmt` (statements, blocks, arms, and routines wherever they are invoked), `counts` (registers
+//! in use), `codes` (both codes of a block), `orchestra` (`lower`: valid codes, and instruments by number), `laws`
+//! (codes worked by hand).
 #![tactic(auto)]
 
 mod args;
 mod call;
 mod codes;
 mod counts;
-mod ends;
 mod expr;
 mod frame;
 mod jumps;
 mod laws;
 mod leaves;
-mod library;
-mod noted;
 mod orchestra;
 mod reach;
 mod run;
 mod simple;
 mod stmt;
-mod uses;
 mod value;
 
 pub use laws::codes_worked_by_hand;

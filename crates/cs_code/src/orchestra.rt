@@ -10,11 +10,9 @@ ghost use Rattle.cs_typed.specs.WellRated.{IsWellRated, IsRatedBlock};
 ghost use Rattle.cs_typed.specs.declared.setting.Setting.{Setting};
 ghost use Rattle.cs_code.specs.Lowered.{IsCodeOf, IsNumberedCode, AreInstrumentsOf};
 ghost use Rattle.cs_code.specs.Lowered.{all_numbers, numbered_with, bodies};
-ghost use Rattle.cs_code.specs.inner.Noted.{IsLibraryOf};
 ghost use Rattle.cs_code.specs.inner.Rated.{IsRatedSomewhere};
 
 use crate::codes::{Codes, codes_of};
-use crate::library::{Library, library_of};
 use cs_base::{OutOfMemory, PerRate};
 use cs_ir::{Body, Code, Instrument, Instruments, ValidCode};
 use cs_typed::{TypedInstr, TypedOrc, TypedStmt};
@@ -39,49 +37,41 @@ pub fn lower(alloc: Global, orc: &TypedOrc) -> Result<Lowered, OutOfMemory>
         (typed.block (typed.routines orc.now.routines.items) orc.now.zero.items) l.zero.init l.zero.perf) }
     ensures instruments { IfOk result (λ l. AreInstrumentsOf (typed.orchestra orc.now) l.instruments) }
 {
-    let library = library_of(alloc, orc)?;
-    let zero = zero_of(alloc, orc, &library)?;
-    let instruments = instruments_of(alloc, orc, &library)?;
+    let zero = zero_of(alloc, orc)?;
+    let instruments = instruments_of(alloc, orc)?;
     Ok(Lowered { zero, instruments })
 }
 
 // The instrument of what stands outside of all.
-fn zero_of(alloc: Global, orc: &TypedOrc, library: &Library) -> Result<Instrument, OutOfMemory>
+fn zero_of(alloc: Global, orc: &TypedOrc) -> Result<Instrument, OutOfMemory>
     requires rated { IsWellRated (typed.orchestra orc.now) }
-    requires noted { IsLibraryOf orc.now.spaces orc.now.routines.items library.now }
     ensures number { IfOk result (λ i. i.number ≡ 0) }
     ensures code { IfOk result (λ i. IsCodeOf orc.now.spaces orc.now.head.nchnls
         (typed.block (typed.routines orc.now.routines.items) orc.now.zero.items) i.init i.perf) }
 {
-    let body = body_of(alloc, orc, library, orc.zero_locals, &orc.zero)?;
+    let body = body_of(alloc, orc, orc.zero_locals, &orc.zero)?;
     Instrument::new(0, &body)
 }
 
 // The instruments of an orchestra.
-fn instruments_of(
-    alloc: Global,
-    orc: &TypedOrc,
-    library: &Library,
-) -> Result<Instruments, OutOfMemory>
+fn instruments_of(alloc: Global, orc: &TypedOrc) -> Result<Instruments, OutOfMemory>
     requires rated { IsWellRated (typed.orchestra orc.now) }
-    requires noted { IsLibraryOf orc.now.spaces orc.now.routines.items library.now }
     requires distinct { IsDistinct eqb (all_numbers (typed.orchestra orc.now).instrs) }
     ensures { IfOk result (λ l. AreInstrumentsOf (typed.orchestra orc.now) l) }
 {
-    let list = in_text(alloc, orc, library)?;
+    let list = in_text(alloc, orc)?;
     Ok(Instruments::of(list))
 }
 
 // The instruments in the order of the text.
-fn in_text(alloc: Global, orc: &TypedOrc, library: &Library) -> Result<Vec<Instrument>, OutOfMemory>
+fn in_text(alloc: Global, orc: &TypedOrc) -> Result<Vec<Instrument>, OutOfMemory>
     requires rated { IsWellRated (typed.orchestra orc.now) }
-    requires noted { IsLibraryOf orc.now.spaces orc.now.routines.items library.now }
     ensures { IfOk result (λ v. AllZip (IsNumberedCode orc.now.spaces orc.now.head.nchnls)
         (bodies (typed.orchestra orc.now).instrs) v.items) }
 {
     let mut list = Vec::new(alloc);
     for instr in &orc.instrs {
-        add_instr(alloc, orc, library, instr, &mut list)?;
+        add_instr(alloc, orc, instr, &mut list)?;
     }
     Ok(list)
 }
@@ -90,11 +80,9 @@ fn in_text(alloc: Global, orc: &TypedOrc, library: &Library) -> Result<Vec<Instr
 fn add_instr(
     alloc: Global,
     orc: &TypedOrc,
-    library: &Library,
     instr: &TypedInstr,
     list: &mut Vec<Instrument>,
 ) -> Result<(), OutOfMemory>
-    requires noted { IsLibraryOf orc.now.spaces orc.now.routines.items library.now }
     requires rated { IsRatedSomewhere (typed.instrument (typed.routines orc.now.routines.items) instr.now).body }
     requires counted { EachInBlock (IsCounted instr.now.locals) (typed.instrument
         (typed.routines orc.now.routines.items) instr.now).body }
@@ -105,7 +93,7 @@ fn add_instr(
         (ps ++ numbered_with (typed.instrument
         (typed.routines orc.now.routines.items) instr.now).body instr.now.numbers) list.new.items) }
 {
-    let body = body_of(alloc, orc, library, instr.locals, &instr.body)?;
+    let body = body_of(alloc, orc, instr.locals, &instr.body)?;
     add_numbers(&body, instr.numbers.as_slice(), list)
 }
 
@@ -131,11 +119,9 @@ fn add_numbers(
 fn body_of(
     alloc: Global,
     orc: &TypedOrc,
-    library: &Library,
     locals: PerRate<usize>,
     stmts: &[TypedStmt],
 ) -> Result<Arc<Body, Global>, OutOfMemory>
-    requires noted { IsLibraryOf orc.now.spaces orc.now.routines.items library.now }
     requires rated { IsRatedSomewhere (typed.block (typed.routines orc.now.routines.items) stmts.now) }
     requires counted { EachInBlock (IsCounted locals) (typed.block (typed.routines orc.now.routines.items) stmts.now) }
     ensures { IfOk result (λ b. (s : Setting) → IsRatedBlock s (typed.block
@@ -143,7 +129,7 @@ fn body_of(
         → IsCodeOf orc.now.spaces s.channels (typed.block
         (typed.routines orc.now.routines.items) stmts.now) b.value.init b.value.perf) }
 {
-    let codes = codes_of(alloc, orc, library, locals, stmts)?;
+    let codes = codes_of(alloc, orc, locals, stmts)?;
     Ok(Arc::new(alloc, valid_body(codes))?)
 }
 

@@ -5,9 +5,10 @@ ghost use Rattle.cs_base.specs.declared.resource.Rate.TheVariants as rate;
 ghost use Rattle.cs_meaning.specs.Core.{unit, zak, store, table_reach, ask, turnoff};
 ghost use Rattle.cs_meaning.specs.Notes.{reg};
 ghost use Rattle.cs_code.specs.inner.Kept.{start, past_stmt};
+ghost use Rattle.cs_code.specs.inner.Code.{pass_code};
 ghost use Rattle.cs_code.specs.inner.Code.{start_code, seek_code, out_ops, out_at_ops};
 ghost use Rattle.cs_code.specs.declared.frame.Pass.TheVariants as pass;
-ghost use Rattle.cs_code.specs.inner.Emitted.{frame_of, pass_code, expressions_of};
+ghost use Rattle.cs_code.specs.inner.Emitted.{frame_of, expressions_of};
 ghost use Rattle.cs_code.specs.inner.Emitted.{assignment_of, set_of, sent_as, sent_ops, variables_of};
 
 use crate::args::{Call, Parted, keep_all, operands, push_on};

@@ -3,8 +3,9 @@
 ghost use Rattle.std.specs.Prelude.{◌≡◌, ◌++◌, ◌∷◌, [], length, IfOk, OnOk};
 ghost use Rattle.cs_code.specs.inner.Kept.{past_block, past_arms};
 ghost use Rattle.cs_typed.specs.TypedTree as typed;
+ghost use Rattle.cs_code.specs.inner.Code.{pass_block_code};
 ghost use Rattle.cs_code.specs.inner.Code.{all_code, init_block_code};
-ghost use Rattle.cs_code.specs.inner.Emitted.{frame_of, pass_block_code};
+ghost use Rattle.cs_code.specs.inner.Emitted.{frame_of};
 ghost use Rattle.cs_code.specs.inner.Emitted.{scope_of, block_in, statement_in, arms_in, core_in, routine_in, invoked};
 ghost use Rattle.cs_code.specs.inner.Emitted.{each_arm_code, takes_all};
 ghost use Rattle.cs_code.specs.inner.Branches.{joined, opened, jump_at, jumps, branch_of};
@@ -15,10 +16,9 @@ use crate::args::Call;
 use crate::frame::{Bases, Context, Pass, Progress, add, narrow, push};
 use crate::jumps::aim_all;
 use crate::leaves::{assign, called, condition};
-use crate::noted::Routines;
 use cs_base::{OutOfMemory, PerRate, Rate};
 use cs_ir::{Act, CodeDraft, Operands, Ops};
-use cs_typed::{TypedArm, TypedStmt, TypedWhat};
+use cs_typed::{TypedArm, TypedStmt, TypedStmts, TypedWhat};
 
 /// The code of statements, and what was met before its end.
 #[derive(Drop)]
@@ -30,14 +30,14 @@ pub struct BodyCode {
 /// The code of the statements of a note.
 pub fn body_of(
     context: Context,
-    routines: &Routines<'_>,
+    routines: &[TypedStmts],
     p: Progress,
     stmts: &[TypedStmt],
 ) -> Result<BodyCode, OutOfMemory>
     ensures ops { IfOk result (λ m. m.ops ≡ pass_block_code context.pass (frame_of context.bases) 0
-        p (block_in (scope_of context.spaces context.bases routines.now.list.now) stmts.now)) }
+        p (block_in (scope_of context.spaces context.bases routines.now) stmts.now)) }
     ensures next { IfOk result (λ m. m.next
-        ≡ past_block p (block_in (scope_of context.spaces context.bases routines.now.list.now) stmts.now)) }
+        ≡ past_block p (block_in (scope_of context.spaces context.bases routines.now) stmts.now)) }
 {
     let mut ops = CodeDraft::new(context.alloc);
     let next = block(&mut ops, context, routines, p, stmts)?;
@@ -47,21 +47,21 @@ pub fn body_of(
     })
 }
 
-/// The code of the statements of a block. Returns what was met before its end.
+// The code of the statements of a block. Returns what was met before its end.
 #[cycle(stmt)]
 #[tactic(auto, using(crate::proofs::Chains::block_none, crate::proofs::Lists::append_nothing))]
-pub fn block(
+fn block(
     ops: &mut CodeDraft,
     context: Context,
-    routines: &Routines<'_>,
+    routines: &[TypedStmts],
     p: Progress,
     stmts: &[TypedStmt],
 ) -> Result<Progress, OutOfMemory>
     ensures ops { OnOk result (ops.new ≡ ops.old
         ++ pass_block_code context.pass (frame_of context.bases) (length ops.old) p
-        (block_in (scope_of context.spaces context.bases routines.now.list.now) stmts.now)) }
+        (block_in (scope_of context.spaces context.bases routines.now) stmts.now)) }
     ensures next { IfOk result (λ q. q
-        ≡ past_block p (block_in (scope_of context.spaces context.bases routines.now.list.now) stmts.now)) }
+        ≡ past_block p (block_in (scope_of context.spaces context.bases routines.now) stmts.now)) }
 {
     let mut next = p;
     for s in stmts {
@@ -70,21 +70,21 @@ pub fn block(
     Ok(next)
 }
 
-/// The code of a statement. Returns what was met before its end.
+// The code of a statement. Returns what was met before its end.
 #[cycle(stmt)]
 #[tactic(auto, using(crate::proofs::Calls::at_each_place, crate::proofs::Chains::taken_pass))]
 fn stmt(
     ops: &mut CodeDraft,
     context: Context,
-    routines: &Routines<'_>,
+    routines: &[TypedStmts],
     p: Progress,
     s: &TypedStmt,
 ) -> Result<Progress, OutOfMemory>
     ensures ops { OnOk result (ops.new ≡ ops.old
         ++ pass_block_code context.pass (frame_of context.bases) (length ops.old) p
-        (statement_in (scope_of context.spaces context.bases routines.now.list.now) s.now)) }
+        (statement_in (scope_of context.spaces context.bases routines.now) s.now)) }
     ensures next { IfOk result (λ q. q
-        ≡ past_block p (statement_in (scope_of context.spaces context.bases routines.now.list.now) s.now)) }
+        ≡ past_block p (statement_in (scope_of context.spaces context.bases routines.now) s.now)) }
 {
     match &s.what {
         TypedWhat::Set(v, e) => assign(ops, context, p, s.rate, *v, e),
@@ -105,7 +105,7 @@ fn stmt(
                 let mut ends = Vec::new(context.alloc);
                 let last = arms_of(ops, context, routines, p, arms, &mut ends)?;
                 let done = block(ops, context, routines, last, els)?;
-                aim_all(ops, &ends)?;
+                aim_all(ops, &ends);
                 Ok(done)
             }
         }
@@ -116,47 +116,24 @@ fn stmt(
     }
 }
 
-// What the routine of a number does: as it was noted, or made anew.
+// What the routine of a number does; nothing where there is none.
 #[cycle(stmt)]
+#[tactic(auto, using(crate::proofs::Routines::no_routine))]
 fn invoke(
     ops: &mut CodeDraft,
     context: Context,
-    routines: &Routines<'_>,
+    routines: &[TypedStmts],
     p: Progress,
     number: usize,
 ) -> Result<Progress, OutOfMemory>
     ensures ops { OnOk result (ops.new ≡ ops.old
         ++ pass_block_code context.pass (frame_of context.bases) (length ops.old) p
-        (routine_in (scope_of context.spaces context.bases routines.now.list.now) number)) }
+        (routine_in (scope_of context.spaces context.bases routines.now) number)) }
     ensures next { IfOk result (λ q. q
-        ≡ past_block p (routine_in (scope_of context.spaces context.bases routines.now.list.now) number)) }
+        ≡ past_block p (routine_in (scope_of context.spaces context.bases routines.now) number)) }
 {
-    if let Some(routine) = routines.find(&context, number) {
-        if let Some(next) = routine.say(ops, context, p)? {
-            return Ok(next);
-        }
-    }
-    expand(ops, context, routines, p, number)
-}
-
-/// What the routine of a number does, made anew; nothing where there is none.
-#[cycle(stmt)]
-#[tactic(auto, using(crate::proofs::Routines::no_routine))]
-pub fn expand(
-    ops: &mut CodeDraft,
-    context: Context,
-    routines: &Routines<'_>,
-    p: Progress,
-    number: usize,
-) -> Result<Progress, OutOfMemory>
-    ensures ops { OnOk result (ops.new ≡ ops.old
-        ++ pass_block_code context.pass (frame_of context.bases) (length ops.old) p
-        (routine_in (scope_of context.spaces context.bases routines.now.list.now) number)) }
-    ensures next { IfOk result (λ q. q
-        ≡ past_block p (routine_in (scope_of context.spaces context.bases routines.now.list.now) number)) }
-{
-    match routines.list.get(number) {
-        Some(routine) => block(ops, context, &routines.before(number), p, routine),
+    match routines.get(number) {
+        Some(routine) => block(ops, context, &routines[..number], p, routine),
         None => Ok(p),
     }
 }
@@ -197,19 +174,19 @@ fn takes_all(pass: Pass, rate: Rate) -> bool
 fn arms_of(
     ops: &mut CodeDraft,
     context: Context,
-    routines: &Routines<'_>,
+    routines: &[TypedStmts],
     p: Progress,
     arms: &[TypedArm],
     ends: &mut Vec<usize>,
 ) -> Result<Progress, OutOfMemory>
     ensures ops { OnOk result (ops.new ≡ ops.old
         ++ opened (length ops.old) (branches context.pass (frame_of context.bases)
-        (scope_of context.spaces context.bases routines.now.list.now) (length ops.old) p arms.now)) }
+        (scope_of context.spaces context.bases routines.now) (length ops.old) p arms.now)) }
     ensures ends { OnOk result (ends.new.items ≡ ends.old.items
         ++ jumps (length ops.old) (branches context.pass (frame_of context.bases)
-        (scope_of context.spaces context.bases routines.now.list.now) (length ops.old) p arms.now)) }
+        (scope_of context.spaces context.bases routines.now) (length ops.old) p arms.now)) }
     ensures next { IfOk result (λ q. q
-        ≡ past_list (scope_of context.spaces context.bases routines.now.list.now) p arms.now) }
+        ≡ past_list (scope_of context.spaces context.bases routines.now) p arms.now) }
 {
     let mut next = p;
     for a in arms {
@@ -224,19 +201,19 @@ fn arms_of(
 fn arm(
     ops: &mut CodeDraft,
     context: Context,
-    routines: &Routines<'_>,
+    routines: &[TypedStmts],
     p: Progress,
     arm: &TypedArm,
     ends: &mut Vec<usize>,
 ) -> Result<Progress, OutOfMemory>
     ensures ops { OnOk result (ops.new ≡ ops.old
         ++ joined (length ops.old) (branch_of context.pass (frame_of context.bases)
-        (scope_of context.spaces context.bases routines.now.list.now) (length ops.old) p arm.now) 0) }
+        (scope_of context.spaces context.bases routines.now) (length ops.old) p arm.now) 0) }
     ensures ends { OnOk result (ends.new.items ≡ ends.old.items
         ++ jump_at (length ops.old) (branch_of context.pass (frame_of context.bases)
-        (scope_of context.spaces context.bases routines.now.list.now) (length ops.old) p arm.now) ∷ []) }
+        (scope_of context.spaces context.bases routines.now) (length ops.old) p arm.now) ∷ []) }
     ensures next { IfOk result (λ q. q
-        ≡ past_arm (scope_of context.spaces context.bases routines.now.list.now) p arm.now) }
+        ≡ past_arm (scope_of context.spaces context.bases routines.now) p arm.now) }
 {
     let spot = condition(ops, context, p.part, &arm.cond)?;
     let test = ops.len();
@@ -249,7 +226,7 @@ fn arm(
     ends.push(ops.len())?;
     push(ops, Act::Jump(0), spot.reg, Operands::none())?;
     let past = ops.len();
-    ops.aim(test, past)?;
+    ops.aim(test, past);
     Ok(next)
 }
 
@@ -258,19 +235,19 @@ fn arm(
 fn each_arm(
     ops: &mut CodeDraft,
     context: Context,
-    routines: &Routines<'_>,
+    routines: &[TypedStmts],
     p: Progress,
     arms: &[TypedArm],
 ) -> Result<Progress, OutOfMemory>
     requires { context.pass ≡ pass.Initialisation }
     ensures ops { IfOk result (λ q. (els : typed.Block)
         → ops.new ++ init_block_code (frame_of context.bases) (length ops.new)
-        q (core_in (scope_of context.spaces context.bases routines.now.list.now) els)
+        q (core_in (scope_of context.spaces context.bases routines.now) els)
         ≡ ops.old ++ all_code (frame_of context.bases) (length ops.old)
-        p (arms_in (scope_of context.spaces context.bases routines.now.list.now) els arms.now)) }
+        p (arms_in (scope_of context.spaces context.bases routines.now) els arms.now)) }
     ensures next { IfOk result (λ q. (els : typed.Block)
-        → past_block q (core_in (scope_of context.spaces context.bases routines.now.list.now) els)
-        ≡ past_arms p (arms_in (scope_of context.spaces context.bases routines.now.list.now) els arms.now)) }
+        → past_block q (core_in (scope_of context.spaces context.bases routines.now) els)
+        ≡ past_arms p (arms_in (scope_of context.spaces context.bases routines.now) els arms.now)) }
 {
     let mut next = p;
     for a in arms {
@@ -284,17 +261,17 @@ fn each_arm(
 fn one_arm(
     ops: &mut CodeDraft,
     context: Context,
-    routines: &Routines<'_>,
+    routines: &[TypedStmts],
     p: Progress,
     arm: &TypedArm,
 ) -> Result<Progress, OutOfMemory>
     requires { context.pass ≡ pass.Initialisation }
     ensures ops { OnOk result (ops.new ≡ ops.old
         ++ each_arm_code (frame_of context.bases) (length ops.old) p
-        (condition_of (scope_of context.spaces context.bases routines.now.list.now) arm.now)
-        (body_of (scope_of context.spaces context.bases routines.now.list.now) arm.now)) }
+        (condition_of (scope_of context.spaces context.bases routines.now) arm.now)
+        (body_of (scope_of context.spaces context.bases routines.now) arm.now)) }
     ensures next { IfOk result (λ q. q
-        ≡ past_arm (scope_of context.spaces context.bases routines.now.list.now) p arm.now) }
+        ≡ past_arm (scope_of context.spaces context.bases routines.now) p arm.now) }
 {
     let spot = condition(ops, context, p.part, &arm.cond)?;
     let at = Progress {

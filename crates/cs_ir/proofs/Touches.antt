@@ -2,56 +2,16 @@
 use Rattle.std.proofs.Common.{◌≡◌, ◌∙◌, ◌||◌, ℕ, Bool, true, false, List, [], ◌∷◌, map, refl, sym, ap}
 use Rattle.std.proofs.Common.{◌+◌, ◌<◌, get_or, if◌then◌else◌, length, take}
 use Rattle.std.specs.List.{filter, list_any}
-use Rattle.std.proofs.lemmas.List.Folds.{list_any_more, list_any-append}
+use Rattle.std.proofs.lemmas.List.Folds.{list_any_more}
 use Rattle.cs_base.specs.declared.resource.Res.TheVariants as res
 use Rattle.cs_words.specs.Catalogue.{takes_table}
 use Rattle.cs_words.specs.declared.catalogue.Opcode.{Opcode}
-use Rattle.cs_ir.specs.Codes.{flat, ops_of}
 use Rattle.cs_ir.specs.Resources.{Stock, Touch, act_touches, may_use, may_write, read_only, reaches}
 use Rattle.cs_ir.specs.Resources.{unit_uses}
-use Rattle.cs_ir.specs.Touching.{IsOfShared, may_touch, unnumbered}
+use Rattle.cs_ir.specs.Touching.{may_touch, unnumbered}
 use Rattle.cs_ir.specs.declared.op.Act.{Act}
 use Rattle.cs_ir.specs.declared.op.Act.TheVariants as act
-use Rattle.cs_ir.specs.declared.op.Op.{Op}
 use Rattle.cs_ir.specs.declared.op.Reach.TheVariants as reach
-use Rattle.cs_ir.specs.declared.passage.PassageOp.{PassageOp}
-use Rattle.cs_ir.specs.declared.stretch.Stretch.{Stretch}
-use Rattle.cs_ir.specs.declared.window.Window.{Window}
-use Rattle.cs_ir.specs.inner.Slots.{counted}
-use Rattle.cs_ir.specs.inner.Windows.{act_in, counted_place, ops_in}
-
--- ---- acts in a window
-
-asked_in : (w : Window) (a : Act) (asks : Act → Bool) → IsOfShared asks → asks (act_in w a) ≡ asks a
-asked_in w (act.Const n) asks s = refl
-asked_in w (act.Field k) asks s = refl
-asked_in w (act.Head k) asks s = refl
-asked_in w act.Copy asks s = refl
-asked_in w act.Neg asks s = refl
-asked_in w (act.Pair o) asks s = refl
-asked_in w act.Pick asks s = refl
-asked_in w (act.Call f) asks s = refl
-asked_in w (act.Load g) asks s = refl
-asked_in w (act.Save g) asks s = refl
-asked_in w (act.Start o u) asks s = s.none (act.Start o (counted w.unit u)) refl ∙ sym (s.none (act.Start o u) refl)
-asked_in w (act.Unit o u r) asks s = sym (s.unit (act.Unit o (counted w.unit u) r)) ∙ s.unit (act.Unit o u r)
-asked_in w act.Seek asks s = refl
-asked_in w (act.Store r) asks s = refl
-asked_in w (act.Zak o r) asks s = refl
-asked_in w (act.Jump to) asks s = s.none (act.Jump (counted_place w.place to)) refl ∙ sym (s.none (act.Jump to) refl)
-asked_in w (act.Unless to) asks s =
-    s.none (act.Unless (counted_place w.place to)) refl ∙ sym (s.none (act.Unless to) refl)
-asked_in w (act.Out n) asks s = refl
-asked_in w act.OutAt asks s = refl
-asked_in w act.Turnoff asks s = refl
-asked_in w act.Ask asks s = refl
-
-pub touching_in : (w : Window) (ps : List PassageOp) (asks : Act → Bool) → IsOfShared asks
-    → list_any (λ (o : Op). asks o.act) (ops_in w ps) ≡ list_any (λ (p : PassageOp). asks p.act) ps
-touching_in w [] asks s = refl
-touching_in w (p ∷ ps) asks s =
-    ap (λ b. b || list_any (λ (o : Op). asks o.act) (ops_in w ps)) (asked_in w p.act asks s)
-    ∙ ap (λ b. asks p.act || b) (touching_in w ps asks s)
 
 -- ---- one more of a list
 
@@ -60,12 +20,6 @@ pub answered_next : {X : Type 0} (p : X → Bool) (xs : List X) (i : ℕ) (x : X
 answered_next p xs i x old new low is before after =
     after ∙ ap (λ b. b || p x) before ∙ ap (λ y. list_any p (take i xs) || p y) is
     ∙ sym (list_any_more p xs i x low)
-
-pub any_flat : (p : Op → Bool) (ss : List Stretch)
-    → list_any (λ (s : Stretch). list_any p (ops_of s)) ss ≡ list_any p (flat ss)
-any_flat p [] = refl
-any_flat p (s ∷ ss) =
-    ap (λ b. list_any p (ops_of s) || b) (any_flat p ss) ∙ sym (list_any-append p (ops_of s) (flat ss))
 
 -- ---- what acts touch
 

@@ -4,7 +4,6 @@ pub mod Cycles
 pub mod Instruments
 pub mod Limits
 pub mod Machine
-pub mod Moved
 pub mod Operands
 pub mod Registers
 pub mod Resources

@@ -11,4 +11,3 @@ registers (stored.One xs) = xs
 registers (stored.Two xs) = xs
 registers (stored.Three xs) = xs
 registers (stored.More v) = v.items
-registers (stored.Listed xs) = xs

@@ -58,15 +58,6 @@ impl Loads {
         }
         Ok(true)
     }
-
-    /// Adds the variables of another set.
-    pub(crate) fn join(&mut self, other: &Loads) -> Result<(), OutOfMemory>
-        ensures { OnOk result ((q : Res) → has self.new q ≡ (has self.old q || has other.now q)) }
-    {
-        join(&mut self.gi, &other.gi)?;
-        join(&mut self.gk, &other.gk)?;
-        join(&mut self.ga, &other.ga)
-    }
 }
 
 fn is_marked(marks: &[bool], number: usize) -> bool
@@ -98,17 +89,5 @@ fn mark(marks: &mut Vec<bool>, number: usize) -> Result<(), OutOfMemory>
 {
     widen(marks, number + 1)?;
     marks[number] = true;
-    Ok(())
-}
-
-/// Marks the numbers that are marked in another list.
-fn join(marks: &mut Vec<bool>, others: &[bool]) -> Result<(), OutOfMemory>
-    ensures { OnOk result ((n : ℕ) → slice_index_or marks.new.items n false
-        ≡ (slice_index_or marks.old.items n false || slice_index_or others.now n false)) }
-{
-    widen(marks, others.len())?;
-    for place in 0..others.len() {
-        marks[place] |= others[place];
-    }
     Ok(())
 }

@@ -1,19 +1,11 @@
 // Operands: the registers that an op reads.
-ghost use Rattle.std.specs.Prelude.{◌≡◌, ◌<◌, ◌≤◌, [], ◌∷◌, length, slice_get, IfOk, IfSome};
-ghost use Rattle.cs_ir.specs.Registers.{regs_limit};
-ghost use Rattle.cs_ir.specs.inner.Ends.{LowWindow};
-ghost use Rattle.cs_ir.specs.inner.Slots.{slots_in};
+ghost use Rattle.std.specs.Prelude.{◌≡◌, [], ◌∷◌};
 
 use crate::Reg;
-use crate::listed::{Listed, SlotList};
-use crate::window::Window;
-use cs_base::{OutOfMemory, Rate};
-use std::alloc::Global;
 use std::marker::Model;
-use std::sync::Arc;
 
-/// Up to three registers stand in the op itself, more of them in a vector or in a list of a passage: what most ops
-/// read is found without following a pointer.
+/// Up to three registers stand in the op itself, more of them in a vector: what most ops read is found without
+/// following a pointer.
 #[derive(Drop)]
 enum Stored {
     Nothing,
@@ -21,7 +13,6 @@ enum Stored {
     Two([Reg; 2]),
     Three([Reg; 3]),
     More(Vec<Reg>),
-    Listed(Listed),
 }
 
 /// The registers that an op reads, in order. Contracts see the list of them.
@@ -88,24 +79,7 @@ impl Operands {
         }
     }
 
-    /// The registers that a list of more than `MOST_OWN` slots names in a window.
-    pub(crate) fn listed(
-        alloc: Global,
-        list: &Arc<SlotList, Global>,
-        window: &Window,
-    ) -> Result<Operands, OutOfMemory>
-        requires many { 8 < length list.now.value }
-        requires low { LowWindow window.now }
-        ensures { IfOk result (λ o. o ≡ slots_in window.now list.now.value) }
-    {
-        Ok(Operands {
-            stored: Stored::Listed(Listed::new(alloc, list, window)?),
-        })
-    }
-
-    /// The registers as a slice, of at most 8 of them: more may stand in a list that passages share.
     pub fn as_slice(&self) -> &[Reg]
-        requires { length self.now ≤ 8 }
         ensures { result.now ≡ self.now }
     {
         match &self.stored {
@@ -114,72 +88,6 @@ impl Operands {
             Stored::Two(registers) => registers,
             Stored::Three(registers) => registers,
             Stored::More(registers) => registers,
-            Stored::Listed(list) => {
-                list.is_long();
-                unreachable!()
-            }
         }
     }
-
-    /// They, where they stand in a list that passages share.
-    pub(crate) fn as_listed(&self) -> Option<&Listed>
-        ensures { IfSome result (λ l. l.now ≡ self.now) }
-    {
-        match &self.stored {
-            Stored::Listed(list) => Some(list),
-            _ => None,
-        }
-    }
-
-    pub fn len(&self) -> usize
-        ensures { result ≡ length self.now }
-    {
-        match &self.stored {
-            Stored::Nothing => 0,
-            Stored::One(registers) => registers.as_slice().len(),
-            Stored::Two(registers) => registers.as_slice().len(),
-            Stored::Three(registers) => registers.as_slice().len(),
-            Stored::More(registers) => registers.len(),
-            Stored::Listed(list) => list.len(),
-        }
-    }
-
-    /// The register at a place, counted from 0.
-    pub fn get(&self, place: usize) -> Option<Reg>
-        ensures { result ≡ slice_get self.now place }
-    {
-        match &self.stored {
-            Stored::Nothing => None,
-            Stored::One(registers) => registers.get(place).copied(),
-            Stored::Two(registers) => registers.get(place).copied(),
-            Stored::Three(registers) => registers.get(place).copied(),
-            Stored::More(registers) => registers.get(place).copied(),
-            Stored::Listed(list) => list.get(place),
-        }
-    }
-
-    /// Where the registers of a rate end: one more than the greatest number of one, 0 where there are none.
-    pub fn limit(&self, rate: Rate) -> usize
-        ensures { result ≡ regs_limit rate self.now }
-    {
-        match &self.stored {
-            Stored::Nothing => 0,
-            Stored::One(registers) => limit_of(registers, rate),
-            Stored::Two(registers) => limit_of(registers, rate),
-            Stored::Three(registers) => limit_of(registers, rate),
-            Stored::More(registers) => limit_of(registers, rate),
-            Stored::Listed(list) => list.limit(rate),
-        }
-    }
-}
-
-/// Where the registers of a rate end.
-fn limit_of(registers: &[Reg], rate: Rate) -> usize
-    ensures { result ≡ regs_limit rate registers.now }
-{
-    let mut end = 0usize;
-    for register in registers {
-        end = end.max(register.limit(rate));
-    }
-    end
 }

@@ -2,12 +2,11 @@
 ghost use Rattle.std.specs.Prelude.{◌≡◌, ◌||◌, Bool, true, false, IfOk, OnOk, Option};
 ghost use Rattle.std.specs.List.{list_any};
 ghost use Rattle.cs_base.specs.declared.resource.Res.{Res};
-ghost use Rattle.cs_ir.specs.Touching.{AsksFor, answers, has_any, may_touch, unnumbered};
-ghost use Rattle.cs_ir.specs.inner.Touching.{Adds, AreTouching};
+ghost use Rattle.cs_ir.specs.Touching.{AsksFor, IsOfShared, answers, has_any, may_touch, unnumbered};
+ghost use Rattle.cs_ir.specs.inner.Touching.{AreTouched};
 ghost use Rattle.cs_ir.specs.declared.op.Act.{Act};
 
-use crate::passage::PassageOp;
-use crate::{Act, Loads, Reach};
+use crate::{Act, Loads, Op, Reach};
 use cs_base::OutOfMemory;
 use std::alloc::Global;
 
@@ -26,20 +25,21 @@ pub struct Touching {
     pub loads: Loads,
 }
 
-/// What the ops of a passage touch of what notes share.
-pub(crate) fn touching_of(alloc: Global, ops: &[PassageOp]) -> Result<Touching, OutOfMemory>
-    ensures { IfOk result (λ t. AreTouching t ops.now) }
+/// What ops touch of what notes share.
+pub(crate) fn touching_of(alloc: Global, ops: &[Op]) -> Result<Touching, OutOfMemory>
+    ensures { IfOk result (λ t. AreTouched t ops.now) }
 {
     let mut touching = Touching::new(alloc);
     for op in ops {
         touching.add(&op.act)?;
     }
+    touching.acts.shrink_to_fit();
     Ok(touching)
 }
 
 impl Touching {
     /// Nothing.
-    pub(crate) fn new(alloc: Global) -> Touching
+    fn new(alloc: Global) -> Touching
         ensures { (asks : Act → Bool) (q : Option Res) → answers asks q result ≡ false }
     {
         Touching {
@@ -49,8 +49,9 @@ impl Touching {
     }
 
     /// Adds what an act touches.
-    pub(crate) fn add(&mut self, act: &Act) -> Result<(), OutOfMemory>
-        ensures { OnOk result (Adds self.old self.new (λ asks q. asks act.now)) }
+    fn add(&mut self, act: &Act) -> Result<(), OutOfMemory>
+        ensures { OnOk result ((asks : Act → Bool) (q : Option Res) → IsOfShared asks → AsksFor asks q
+            → answers asks q self.new ≡ (answers asks q self.old || asks act.now)) }
     {
         if !may_touch(act) || self.add_load(act)? {
             return Ok(());
@@ -58,23 +59,6 @@ impl Touching {
         let one = unnumbered(*act);
         if !is_kept(&self.acts, &one) {
             self.acts.push(one)?;
-        }
-        Ok(())
-    }
-
-    /// Adds what others touch.
-    pub(crate) fn join(&mut self, other: &Touching) -> Result<(), OutOfMemory>
-        ensures { OnOk result (Adds self.old self.new (λ asks q. answers asks q other.now)) }
-    {
-        self.add_acts(&other.acts)?;
-        self.loads.join(&other.loads)
-    }
-
-    fn add_acts(&mut self, acts: &[Act]) -> Result<(), OutOfMemory>
-        ensures { OnOk result (Adds self.old self.new (λ asks q. list_any asks acts.now)) }
-    {
-        for act in acts {
-            self.add(act)?;
         }
         Ok(())
     }

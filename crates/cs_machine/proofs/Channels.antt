@@ -3,7 +3,7 @@ use Rattle.std.proofs.Common.{◌≡◌, ℕ, ℤ, pos, ◌+◌, ◌<◌, ◌≤
 use Rattle.std.proofs.Common.{slice_index_or, Option, Some, None, IfNone, if◌then◌else◌, refl, sym, ◌∙◌, ap, arith}
 use Rattle.std.proofs.Common.{ltb-true}
 use Rattle.std.proofs.lemmas.Bool.{eqb-true}
-use Rattle.std.proofs.lemmas.List.{length-set, length-replicate, get_or-replicate, get_or_past, ext_get_or}
+use Rattle.std.proofs.lemmas.List.{length-set, length-replicate, get_or_past, ext_get_or}
 use Rattle.std.specs.List.{range_with_len}
 use Rattle.std.proofs.lemmas.List.FromFn.{get_or-map-range_with_len, length-map-range_with_len}
 use Rattle.cs_base.proofs.Tests.{by_test}
@@ -61,18 +61,6 @@ gave old c row sum all low long frames same = record {
         (λ no. ap row_wave (set_at_place old.rows c sum [] low n
         ∙ ap (λ b. if b then sum else slice_index_or old.rows n []) no)
         ∙ sym (ap (λ b. if b then both op.Add (outs old n) (row_wave row) else outs old n) no))
-
--- channels of zeros are silent
-pub zeros_all : (count ksmps n : ℕ)
-    → row_wave (slice_index_or (replicate count (replicate ksmps (pos 0))) n []) ≡ silence
-zeros_all count ksmps n = by_test (nat_lt n count)
-    (λ yes. let low : n < count =
-    ltb-true n count yes in ap row_wave (get_or-replicate count n (replicate ksmps (pos 0)) [] low)
-    ∙ zeros_silent ksmps)
-    (λ no. let far : count ≤ n = at_or_past n count no in
-    ap row_wave (get_or_past (replicate count (replicate ksmps (pos 0))) n []
-    (let e : length (replicate count (replicate ksmps (pos 0))) ≡ count =
-    length-replicate count (replicate ksmps (pos 0)) in omega (arith, far, e))))
 
 -- a channel that nothing was given to is silent
 pub zeros_at : (rows : List (List ℤ)) (c n : ℕ) → slice_index_or rows c [] ≡ replicate n (pos 0)

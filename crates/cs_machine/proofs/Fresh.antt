@@ -1,6 +1,6 @@
 -- A state that was just made.
-use Rattle.std.proofs.Common.{◌≡◌, ℕ, ◌<◌, ◌≤◌, ◌∙◌, length, replicate, nat_lt, Option, None, Some, arith, ltb-true}
-use Rattle.std.proofs.Common.{sym, slice_index_or}
+use Rattle.std.proofs.Common.{◌≡◌, ℕ, ◌<◌, ◌≤◌, length, replicate, nat_lt, Option, None, arith, ltb-true}
+use Rattle.std.proofs.Common.{slice_index_or}
 use Rattle.std.specs.Option.{option_map}
 use Rattle.std.proofs.lemmas.List.{get_or-replicate, get_or_past, length-replicate}
 use Rattle.std.proofs.lemmas.Bool.Decides.{nat_tests}
@@ -21,7 +21,3 @@ no_unit n u = by_test (nat_lt u n)
 
 pub no_units : (n : ℕ) → unit_at (replicate n nothing) ≡ (λ u. None)
 no_units n = λ i u. option_map playing (no_unit n u i)
-
--- so none of them is one that a piece must know
-pub none_there : (n u : ℕ) (p : PlayerData) → slice_index_or (replicate n nothing) u nothing ≡ Some p → ⊥
-none_there n u p h = let none : nothing ≡ Some p = sym (no_unit n u) ∙ h in cc

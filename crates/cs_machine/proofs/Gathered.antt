@@ -1,17 +1,13 @@
 -- Arguments that stand for registers give a unit what the registers are.
-use Rattle.std.proofs.Common.{◌≡◌, ◌≢◌, ℕ, zero, suc, ◌+◌, ◌<◌, ◌≤◌, ◌==◌, true, List, [], ◌∷◌, ◌++◌, length, map}
-use Rattle.std.proofs.Common.{nat_le, take, get_or, set, ℤ, refl, sym, ◌∙◌, ap, subst, arith}
+use Rattle.std.proofs.Common.{◌≡◌, ℕ, zero, suc, ◌+◌, ◌<◌, ◌≤◌, true, List, [], ◌∷◌, ◌++◌, length, map}
+use Rattle.std.proofs.Common.{nat_le, take, get_or, ℤ, refl, sym, subst, arith}
 use Rattle.std.specs.List.{All}
-use Rattle.std.proofs.lemmas.Bool.{eqb-true}
 use Rattle.std.proofs.lemmas.Bool.Decides.{nat_tests}
-use Rattle.std.proofs.lemmas.List.{get_or-set_same, get_or-set_other}
 use Rattle.std.proofs.lemmas.List.Elements.{All-cons, All-head, All-nil, All-tail}
-use Rattle.cs_base.proofs.Tests.{by_test}
 use Rattle.cs_words.proofs.EachOpcode.{of_all}
 use Rattle.cs_words.specs.declared.catalogue.Opcode.{Opcode}
 use Rattle.cs_ir.specs.Waves.{Wave}
 use Rattle.cs_ir.specs.declared.register.Reg.{Reg}
-use Rattle.cs_machine.proofs.Frames.{apart}
 use Rattle.cs_machine.specs.inner.Gathered.{IsFirstAt, StandsAt, HoldsOperand, no_register}
 use Rattle.cs_signal.specs.declared.operand.Operand.{Operand}
 use Rattle.cs_ugen.specs.Units as units
@@ -31,19 +27,6 @@ default : {A : Type 0} (xs : List A) (j : ℕ) (d e : A) → j < length xs → g
 default [] j d e low = absurd (omega (arith, low))
 default (x ∷ xs) zero d e low = refl
 default (x ∷ xs) (suc j) d e low = default xs j d e (omega (arith, low))
-
-pub register_is : (rs : List Reg) (j : ℕ) (r : Reg) → j < length rs → r ≡ get_or rs j r → r ≡ get_or rs j no_register
-register_is rs j r low is = is ∙ default rs j r no_register low
-
--- one more place of a list has what it should have
-pub more_set : {A : Type 0} (P : ℕ → A → Type 0) (xs : List A) (d x : A) (j : ℕ) → j < length xs → P j x
-    → ((i : ℕ) → i < j → P i (get_or xs i d))
-    → (i : ℕ) → i < j + 1 → P i (get_or (set xs j x) i d)
-more_set P xs d x j low here before i h = by_test (i == j)
-    (λ yes. let e : i ≡ j = eqb-true i j yes in
-    subst (λ k. P k (get_or (set xs j x) k d)) (sym e) (subst (P j) (sym (get_or-set_same xs j x d low)) here))
-    (λ no. let other : i ≢ j = apart i j no in
-    subst (P i) (sym (get_or-set_other xs j i x d other)) (before i (let m : i < j = grind (arith, nat_tests) in m)))
 
 -- each of seven operands stands for its register
 pub seven_stand : (f : Reg → Wave) (rs : List Reg) (a b c d e g h : Operand)
@@ -101,11 +84,6 @@ all_taken P zero xs all = All-nil P
 all_taken P (suc n) [] all = All-nil P
 all_taken P (suc n) (x ∷ xs) all =
     All-cons P x (take n xs) (All-head P x xs all) (all_taken P n xs (All-tail P x xs all))
-
-pub taken_long : {A : Type 0} (n : ℕ) (xs : List A) → n ≤ length xs → length (take n xs) ≡ n
-taken_long zero xs h = refl
-taken_long (suc n) [] h = absurd (omega (arith, h))
-taken_long (suc n) (x ∷ xs) h = ap suc (taken_long n xs (omega (arith, h)))
 
 -- operands that stand for registers, as many of them, are what the registers are
 pub same_inputs : (f : Reg → Wave) (os : List Operand) (rs : List Reg) (points : List ℤ) → length rs ≤ length os

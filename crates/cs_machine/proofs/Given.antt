@@ -89,12 +89,3 @@ numbered_channel channels (Some n) c w x h = at (nat_le 1 n && nat_le n channels
     at : (b : Bool) → (if b then Some (n - 1) else None) ≡ Some c → (if b then out_to (n - 1) w x else x) ≡ out_to c w x
     at true e = ap (λ k. out_to k w x) (some_is (n - 1) c e)
     at false e = cc
-
-pub no_channel : (channels : ℕ) (number : Option ℕ) (w : Wave) (x : VoiceState) → channel_below channels number ≡ None
-    → out_to_numbered channels number w x ≡ x
-no_channel channels None w x h = refl
-no_channel channels (Some n) w x h = at (nat_le 1 n && nat_le n channels) h
-  where
-    at : (b : Bool) → (if b then Some (n - 1) else None) ≡ None → (if b then out_to (n - 1) w x else x) ≡ x
-    at true e = cc
-    at false e = refl

@@ -106,13 +106,6 @@ new_silent i k a ksmps = λ t q. at q.rate q.index t
     at rate.Control m = ap constant (zero_at k m)
     at rate.Audio m = row_at a m
 
--- rows of zeros have their length
-pub new_rows : (a ksmps : ℕ) → AreRows ksmps (replicate a (replicate ksmps (pos 0)))
-new_rows a ksmps n h = ap length
-    (get_or-replicate a n (replicate ksmps (pos 0)) []
-    (let e : length (replicate a (replicate ksmps (pos 0))) ≡ a =
-    length-replicate a (replicate ksmps (pos 0)) in omega (arith, h, e))) ∙ length-replicate ksmps (pos 0)
-
 -- what holds values is known by them
 pub filled_again : (f : RegisterFile) → AreKept f.i f.k f.a f.counts f.ksmps → filled f (values f) ≡ f
 filled_again f h = λ t. record f
@@ -238,11 +231,6 @@ module _ {A : Type 0} (f : A → List ℤ) where
       ap (λ y. length (f y)) is ∙ sym (ap length (get_or-map f rows n x [] low))
       ∙ all n (let e : length (map f rows) ≡ length rows = length-map rows f in omega (arith, e, low))
 
-  -- and is what the register holds
-  pub row_is : (rows : List A) (n : ℕ) (x : A) → n < length rows → x ≡ slice_index_or rows n x
-      → row_wave (f x) ≡ row_wave (slice_index_or (map f rows) n [])
-  row_is rows n x low is = ap (λ y. row_wave (f y)) is ∙ sym (ap row_wave (get_or-map f rows n x [] low))
-
   pub swapped_kept : (is ks : List ℤ) (rows : List A) (counts : Counts) (ksmps n : ℕ) (new row : A)
       → AreKept is ks (map f rows) counts ksmps
       → new ≡ row → length (f row) ≡ ksmps → n < length rows → AreKept is ks (map f (slice_set rows n new)) counts ksmps
@@ -282,13 +270,3 @@ pub audio_low : (counts : Counts) (q : Reg) → has_register counts q ≡ true �
     → q.index < counts.registers.audio
 audio_low counts q h e =
     ltb-true q.index counts.registers.audio (sym (ap (λ r. nat_lt q.index (at_rate counts.registers r)) e) ∙ h)
-
-pub init_low : (counts : Counts) (q : Reg) → has_register counts q ≡ true → q.rate ≡ rate.Init
-    → q.index < counts.registers.init
-init_low counts q h e = ltb-true q.index counts.registers.init
-    (sym (ap (λ r. nat_lt q.index (at_rate counts.registers r)) e) ∙ h)
-
-pub control_low : (counts : Counts) (q : Reg) → has_register counts q ≡ true → q.rate ≡ rate.Control
-    → q.index < counts.registers.control
-control_low counts q h e =
-    ltb-true q.index counts.registers.control (sym (ap (λ r. nat_lt q.index (at_rate counts.registers r)) e) ∙ h)

@@ -83,14 +83,14 @@ impl<'b, B: Bank> Curve for LiveTable<'b, B> {
         × (B.cells after.bank ≡ B.cells before.bank) × (B.rest after.bank ≡ B.rest before.bank) };
 
     #[inline(always)]
-    fn len(&self) -> u32 {
-        self.len
+    fn len(&self) -> usize {
+        self.len as usize
     }
 
     #[inline(always)]
-    fn at(&mut self, place: u32) -> Num {
-        if place < self.len {
-            get_frame(self.bank, self.area, place as usize)
+    fn at(&mut self, place: usize) -> Num {
+        if place < self.len as usize {
+            get_frame(self.bank, self.area, place)
         } else {
             get_frame(self.bank, self.area, self.guard as usize)
         }

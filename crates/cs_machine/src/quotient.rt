@@ -2,8 +2,7 @@
 ghost use Rattle.std.specs.Prelude.{◌≡◌, ◌≤◌, ◌*◌, ◌^◌, ◌≤ℤ◌, ◌<◌, ◌*ℤ◌, pos, true, unsigned_abs, IfSome};
 ghost use Rattle.cs_base.specs.Numbers.{IsRaw, clamp, one, quotient_of};
 
-use cs_base::{Num, ONE};
-use cs_signal::Divisor;
+use cs_base::{Divisor, Num, ONE};
 
 /// A divisor that is held, and how large a number may be, in size, whose quotient by it is in range and is found by a
 /// product with its inverse.

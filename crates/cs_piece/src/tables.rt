@@ -232,5 +232,5 @@ fn points_for(
         return Ok(None);
     }
     let points = first.points(alloc)?;
-    Ok(Some(FrozenTable::new(points)))
+    Ok(Some(FrozenTable::new(points)?))
 }

@@ -1,9 +1,8 @@
 -- What an op of a valid code has: its registers, as many operands as its act takes, and their rates.
-use Rattle.std.proofs.Common.{◌≡◌, ℕ, ◌<◌, Bool, true, false, not, ◌&&◌, ◌||◌, List, [], ◌∷◌, length, refl, sym, ◌∙◌}
-use Rattle.std.proofs.Common.{ap, subst, ltb-true}
+use Rattle.std.proofs.Common.{◌≡◌, ℕ, Bool, true, false, not, ◌&&◌, ◌||◌, List, [], ◌∷◌, refl, sym, ◌∙◌}
+use Rattle.std.proofs.Common.{ap, subst}
 use Rattle.std.specs.List.{list_all}
 use Rattle.std.proofs.lemmas.Bool.{and_parts}
-use Rattle.cs_base.specs.Rates.{is_audio, within}
 use Rattle.cs_base.specs.declared.resource.Rate.{Rate}
 use Rattle.cs_ir.specs.Validity.{finds, has_register, is_fine, takes_from, writes}
 use Rattle.cs_ir.specs.declared.op.Act.{Act}
@@ -11,7 +10,6 @@ use Rattle.cs_ir.specs.declared.op.Act.TheVariants as act
 use Rattle.cs_ir.specs.declared.op.Op.{Op}
 use Rattle.cs_ir.specs.declared.register.Counts.{Counts}
 use Rattle.cs_ir.specs.declared.register.Reg.{Reg}
-use Rattle.cs_voice_meaning.specs.Voices.{has_channel}
 use Rattle.cs_machine.specs.declared.state.NoteSetting.{NoteSetting}
 use Rattle.cs_machine.specs.declared.state.State.{State}
 use Rattle.cs_machine.specs.States.{DoesAnywhere, DoesAt}
@@ -84,19 +82,6 @@ is_bare act.Turnoff = true
 is_bare (act.Load g) = true
 is_bare _ = false
 
-abbrev pub is_single : Act → Bool
-is_single act.Copy = true
-is_single act.Neg = true
-is_single (act.Call f) = true
-is_single (act.Save g) = true
-is_single (act.Out c) = true
-is_single _ = false
-
-abbrev pub is_double : Act → Bool
-is_double (act.Pair b) = true
-is_double act.OutAt = true
-is_double _ = false
-
 pub no_operands : (a : Act) (r : Rate) (xs : List Reg) → is_bare a ≡ true → takes_from a r xs ≡ true → xs ≡ []
 no_operands (act.Const n) r [] b h = refl
 no_operands (act.Const n) r (x ∷ xs) b h = absurd (cc)
@@ -109,68 +94,6 @@ no_operands act.Turnoff r (x ∷ xs) b h = absurd (cc)
 no_operands (act.Load g) r [] b h = refl
 no_operands (act.Load g) r (x ∷ xs) b h = absurd (cc)
 no_operands a r xs b h = absurd (cc)
-
-pub one_operand : (a : Act) (r : Rate) (xs : List Reg) → is_single a ≡ true → takes_from a r xs ≡ true → length xs ≡ 1
-one_operand act.Copy r [] b h = absurd (cc)
-one_operand act.Copy r (x ∷ []) b h = refl
-one_operand act.Copy r (x ∷ y ∷ xs) b h = absurd (cc)
-one_operand act.Neg r [] b h = absurd (cc)
-one_operand act.Neg r (x ∷ []) b h = refl
-one_operand act.Neg r (x ∷ y ∷ xs) b h = absurd (cc)
-one_operand (act.Call f) r [] b h = absurd (cc)
-one_operand (act.Call f) r (x ∷ []) b h = refl
-one_operand (act.Call f) r (x ∷ y ∷ xs) b h = absurd (cc)
-one_operand (act.Save g) r [] b h = absurd (cc)
-one_operand (act.Save g) r (x ∷ []) b h = refl
-one_operand (act.Save g) r (x ∷ y ∷ xs) b h = absurd (cc)
-one_operand (act.Out c) r [] b h = absurd (cc)
-one_operand (act.Out c) r (x ∷ []) b h = refl
-one_operand (act.Out c) r (x ∷ y ∷ xs) b h = absurd (cc)
-one_operand a r xs b h = absurd (cc)
-
-pub two_operands : (a : Act) (r : Rate) (xs : List Reg) → is_double a ≡ true → takes_from a r xs ≡ true → length xs ≡ 2
-two_operands (act.Pair o) r [] b h = absurd (cc)
-two_operands (act.Pair o) r (x ∷ []) b h = absurd (cc)
-two_operands (act.Pair o) r (x ∷ y ∷ []) b h = refl
-two_operands (act.Pair o) r (x ∷ y ∷ z ∷ xs) b h = absurd (cc)
-two_operands act.OutAt r [] b h = absurd (cc)
-two_operands act.OutAt r (x ∷ []) b h = absurd (cc)
-two_operands act.OutAt r (x ∷ y ∷ []) b h = refl
-two_operands act.OutAt r (x ∷ y ∷ z ∷ xs) b h = absurd (cc)
-two_operands a r xs b h = absurd (cc)
-
-pub three_operands : (r : Rate) (xs : List Reg) → takes_from act.Pick r xs ≡ true → length xs ≡ 3
-three_operands r [] h = absurd (cc)
-three_operands r (x ∷ []) h = absurd (cc)
-three_operands r (x ∷ y ∷ []) h = absurd (cc)
-three_operands r (x ∷ y ∷ z ∷ []) h = refl
-three_operands r (x ∷ y ∷ z ∷ v ∷ xs) h = absurd (cc)
-
--- ---- rates of operands
-
-not_true : (b : Bool) → not b ≡ true → b ≡ false
-not_true false h = refl
-not_true true h = absurd (cc)
-
-pub out_sounds : (c : ℕ) (r : Rate) (xs : List Reg) (x : Reg) → takes_from (act.Out c) r xs ≡ true → xs ≡ x ∷ []
-    → is_audio x.rate ≡ true
-out_sounds c r xs x h e = ap (takes_from (act.Out c) r) (sym e) ∙ h
-
-pub numbered_sounds : (r : Rate) (xs : List Reg) (n x : Reg) → takes_from act.OutAt r xs ≡ true → xs ≡ n ∷ x ∷ []
-    → is_audio x.rate ≡ true
-numbered_sounds r xs n x h e =
-    (and_parts (not (is_audio n.rate)) (is_audio x.rate) (ap (takes_from act.OutAt r) (sym e) ∙ h)).1
-
-pub picks_by_held : (r : Rate) (xs : List Reg) (c x y : Reg) → takes_from act.Pick r xs ≡ true → xs ≡ c ∷ x ∷ y ∷ []
-    → is_audio c.rate ≡ false
-picks_by_held r xs c x y h e =
-    let abc = and_parts (not (is_audio c.rate) && within c.rate r && within x.rate r) (within y.rate r)
-    (ap (takes_from act.Pick r) (sym e) ∙ h) in
-    let ab = and_parts (not (is_audio c.rate) && within c.rate r) (within x.rate r) abc.0 in
-    not_true (is_audio c.rate) (and_parts (not (is_audio c.rate)) (within c.rate r) ab.0).0
-
-pub channel_there : (channels c : ℕ) (a : Act) → a ≡ act.Out c → has_channel channels a ≡ true → c < channels
-channel_there channels c a e h = ltb-true c channels (ap (has_channel channels) (sym e) ∙ h)
 
 -- ---- an op that does an act
 

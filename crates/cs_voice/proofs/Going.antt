@@ -1,6 +1,5 @@
 -- A code that is done from place to place, in a control cycle or as a note begins.
-use Rattle.std.proofs.Common.{◌≡◌, ℕ, ℤ, zero, suc, ◌+◌, ◌-◌, ◌<◌, ◌≤◌, inl, inr, Bool, true, false, List, [], ◌∷◌}
-use Rattle.std.proofs.Common.{length}
+use Rattle.std.proofs.Common.{◌≡◌, ℕ, ℤ, zero, suc, ◌+◌, ◌<◌, ◌≤◌, inl, inr, Bool, true, false, List, [], ◌∷◌, length}
 use Rattle.std.proofs.Common.{map, get_or, slice_get, Option, Some, None, refl, sym, ◌∙◌, ap, subst, arith}
 use Rattle.cs_ir.specs.Cycles.{is_of_cycle}
 use Rattle.cs_ir.specs.Validity.{is_fine}
@@ -13,15 +12,13 @@ use Rattle.cs_machine.specs.Registers.{values}
 use Rattle.cs_machine.specs.declared.state.NoteSetting.{NoteSetting}
 use Rattle.cs_machine.specs.declared.state.State.{State}
 use Rattle.cs_voice_meaning.specs.Voices.{Sheet}
-use Rattle.cs_voice.specs.Codes.{CanDoHere, CanGo, CanStart, CanStartIn, Finding, HasStarted}
+use Rattle.cs_voice.specs.Codes.{CanDoHere, CanGo, CanStart, Finding}
 use Rattle.cs_voice.specs.Cycles.{CanRun, CanStep, Context, HasStepped}
 use Rattle.cs_voice.specs.Passing.{CanDoOp, CanPass, IsDone, Passes}
 use Rattle.cs_voice.specs.Ready.{CanBeDone, DoesOp, is_here}
 use Rattle.cs_voice.specs.declared.begin.StartRefusal.{StartRefusal}
 use Rattle.cs_voice.specs.declared.tables.Finds.{Finds}
 use Rattle.cs_voice.specs.inner.Jumps.{GoesOn, is_jump, is_start}
-use Rattle.cs_voice.specs.inner.Cursors.{LieFrom}
-use Rattle.cs_voice.proofs.Cursors.{at_place, there_low}
 use Rattle.cs_voice.proofs.Ops.{fine_here}
 use Rattle.cs_voice.proofs.Passed as passed
 use Rattle.cs_voice.proofs.Steps as steps
@@ -74,16 +71,6 @@ module _ (get set : ℕ → Type 0) (count : ℕ) (at : NoteSetting) (op : Op) (
       h.begin.state h.begin.playable here
       new before after asked (subst (λ x. DoesOp get set count x op now before new after) (sym same) does)
 
-  -- what a starter did
-  pub started : (finding : Finding) (f : Finds) (ms : List Bool) (s : Sheet) (new : State) (cells : ℕ → ℤ)
-      (asked given : List Ask) (refused : Option StartRefusal)
-      → finding ≡ Some (f, ms) → CanDoOp get set count f ms op s now → HasStarted finding op now asked new given refused
-      → IsDone s op now cells asked new cells given refused
-  started finding f ms s new cells asked given refused is h has =
-      let all : (t : Sheet) (c : ℕ → ℤ) → CanStartIn f ms op t now → IsDone t op now c asked new c given refused =
-      subst (λ x. HasStarted x op now asked new given refused) is has in
-      all s cells (record { found = h.begin.found; playable = h.begin.playable; fine = h.fine; state = h.begin.state })
-
 -- ---- a code
 
 -- A code was done up to a place, as one of a control cycle; and as one of a sheet that begins.
@@ -104,15 +91,13 @@ module _ {R : Type 0} (get set : R → ℕ → Type 0) {r q : R} {n m : ℕ} (re
     {first : State} {before : ℕ → ℤ} {asked : List Ask} {place : ℕ} {now : State} {cells : ℕ → ℤ} {given : List Ask}
     (comes : ComesTo (get r) (set r) n at ops first before place now cells)
     (goes : PassesTo (get r) (set r) n at finding ops first before asked place now cells given)
-    {begin : ℕ} {seen here : List Op} {op : Op} (lie : LieFrom ops begin seen) (read : here ≡ seen)
-    (from : begin ≤ place)
-    (is_here : slice_get here (place - begin) ≡ Some op) where
-  is : slice_get ops place ≡ Some op
-  is = at_place ops here begin place from (there_low here (place - begin) op is_here)
-      (subst (LieFrom ops begin) (sym read) lie) ∙ is_here
+    {here : List Op} {op : Op} (read : here ≡ ops) (there : place < length here)
+    (is_here : slice_get here place ≡ Some op) where
+  low : place < length ops
+  low = subst (λ (xs : List Op). place < length xs) read there
 
-  pub low : place < length ops
-  low = there_low ops place op is
+  is : slice_get ops place ≡ Some op
+  is = subst (λ (xs : List Op). slice_get xs place ≡ Some op) read is_here
 
   -- the op there can be done in a cycle, over what the bank was and over what it is
   step_first : (c : Context) → CanRun (get r) (set r) n at c ops first

@@ -1,6 +1,4 @@
-pub mod Few
 pub mod Fitting
-pub mod Gathering
 pub mod Places
 pub mod Playing
 pub mod Points
@@ -11,7 +9,6 @@ pub mod Stored
 pub mod Touching
 pub mod Began
 pub mod Ops
-pub mod Cursors
 pub mod Passed
 pub mod Going
 pub mod Running

@@ -36,12 +36,12 @@ all_at P [] n op h e = absurd (no_op n op e)
 all_at P (x ∷ ops) zero op h e = subst P (same_op x op e) h.0
 all_at P (x ∷ ops) (suc n) op h e = all_at P ops n op h.1 e
 
-pub each_at : {A : Type 0} (f : A → Bool) (xs : List A) (n : ℕ) (x : A) → list_all f xs ≡ true
-    → slice_get xs n ≡ Some x → f x ≡ true
-each_at f [] n x h e = absurd (cc)
-each_at f (y ∷ ys) zero x h e =
-    let same : y ≡ x = cc in subst (λ z. f z ≡ true) same (and_parts (f y) (list_all f ys) h).0
-each_at f (y ∷ ys) (suc n) x h e = each_at f ys n x (and_parts (f y) (list_all f ys) h).1 e
+each_at : (f : Op → Bool) (ops : List Op) (n : ℕ) (op : Op) → list_all f ops ≡ true → slice_get ops n ≡ Some op
+    → f op ≡ true
+each_at f [] n op h e = absurd (no_op n op e)
+each_at f (x ∷ ops) zero op h e = let p =
+    and_parts (f x) (list_all f ops) h in subst (λ y. f y ≡ true) (same_op x op e) p.0
+each_at f (x ∷ ops) (suc n) op h e = let p = and_parts (f x) (list_all f ops) h in each_at f ops n op p.1 e
 
 -- an op of the code at its place
 pub fine_here : (code : Code) (n : ℕ) (op : Op) → valid code ≡ true → slice_get code.ops n ≡ Some op
@@ -60,19 +60,9 @@ op_of s code counts n op playable same fine counted at = record {
   fine = subst (λ c. is_fine c (length code.ops) n op ≡ true) (sym counted) (fine_here code n op fine at);
   named = λ p. all_at (λ x. ActNamed p.stock p.kinds (HasArea s.areas) x.act x.into.rate) s.init n op p.init_uses
       (ap (λ ops. slice_get ops n) same ∙ at);
-  channel = each_at (λ (x : Op). has_channel s.piece.head.nchnls x.act) s.init n op playable.init_channels
+  channel = each_at (λ x. has_channel s.piece.head.nchnls x.act) s.init n op playable.init_channels
       (ap (λ ops. slice_get ops n) same ∙ at);
 }
-
--- the parts of what makes an op fine
-pub reads_of : (counts : Counts) (end place : ℕ) (op : Op) → is_fine counts end place op ≡ true
-    → list_all (has_register counts) op.from ≡ true
-reads_of counts end place op fine =
-    let own : Bool = not (writes op.act) || has_register counts op.into in
-    let outer = and_parts (own && list_all (has_register counts) op.from && finds counts end place op.act)
-    (takes_from op.act op.into.rate op.from) fine in
-    let middle = and_parts (own && list_all (has_register counts) op.from) (finds counts end place op.act) outer.0 in
-    (and_parts own (list_all (has_register counts) op.from) middle.0).1
 
 pub names_of : (counts : Counts) (end place : ℕ) (op : Op) → is_fine counts end place op ≡ true
     → finds counts end place op.act ≡ true

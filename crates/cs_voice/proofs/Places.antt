@@ -1,7 +1,6 @@
 -- Zak places: what their opcodes do at the place that a value names.
 use Rattle.std.proofs.Common.{◌≡◌, ℕ, ℤ, pos, ◌≤◌, ◌&&◌, Bool, true, false, not, List, [], ◌∷◌, length, nat_lt, Option}
-use Rattle.std.proofs.Common.{Some, None, if◌then◌else◌, refl, sym, ◌∙◌, ap, subst, arith, ltb-true}
-use Rattle.std.proofs.lemmas.Bool.{and_parts}
+use Rattle.std.proofs.Common.{Some, None, if◌then◌else◌, refl, sym, ◌∙◌, ap, subst, arith}
 use Rattle.std.proofs.lemmas.Bool.Decides.{nat_tests}
 use Rattle.std.proofs.lemmas.List.{get_or_past}
 use Rattle.cs_base.specs.Rates.{res_rate}
@@ -31,9 +30,7 @@ use Rattle.cs_machine.specs.Rows.{row_wave}
 use Rattle.cs_voice_meaning.specs.Placing.{area_of, wave_in, wave_of, with_wave}
 use Rattle.cs_voice_meaning.specs.VoiceWorld.{VoiceState, read_cells, voice_model, voice_world}
 use Rattle.cs_machine.proofs.Writing.{frame_past}
-use Rattle.cs_voice.specs.Cells.{MayReach}
 use Rattle.cs_voice.specs.inner.Zak.{reached}
-use Rattle.cs_machine.specs.States.{MayTouch}
 use Rattle.cs_machine.specs.declared.state.NoteSetting.{NoteSetting}
 
 -- ---- the acts, by the shapes of their opcodes
@@ -130,17 +127,6 @@ not_reached {A} at piece s reach (Some n) other found same h =
         → (if b then found (zak_place s n) else other) ≡ other
     by true e = absurd cc
     by false e = refl
-
-pub reached_here : {can : ℕ → Type 0} (count : ℕ) (at : NoteSetting) (s : Space) (reach : Reach) (k : Option ℕ)
-    (g : Res)
-    → MayReach can count at s reach → reached at s reach k ≡ Some g → MayTouch can count at.layout.now g
-reached_here count at s reach None g may h = absurd cc
-reached_here {can} count at s reach (Some n) g may h = by_test (nat_lt n (places_of at.spaces s) && reaches reach n)
-    (λ yes. let parts = and_parts (nat_lt n (places_of at.spaces s)) (reaches reach n) yes in
-    let here : Some (zak_place s n) ≡ Some g = sym (ap (λ b. if b then Some (zak_place s n) else None) yes) ∙ h in
-    subst (MayTouch can count at.layout.now) (some_is (zak_place s n) g here)
-    (may n (ltb-true n (places_of at.spaces s) parts.0) parts.1))
-    (λ no. let none : None ≡ Some g = sym (ap (λ b. if b then Some (zak_place s n) else None) no) ∙ h in absurd cc)
 
 place_of_number : (at : NoteSetting) (s : Space) (reach : Reach) (k : Option ℕ) (g : Res)
     → reached at s reach k ≡ Some g

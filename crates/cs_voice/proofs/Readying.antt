@@ -98,14 +98,14 @@ module _ {can_get can_set : ℕ → Type 0} {count : ℕ} {at : NoteSetting} {pi
 
 -- ---- operands of units, of stores and of acts on zak places
 
-pub take_count : (ls : List Letter) (bound : Rate) (xs : List Reg) → take_all ls bound xs ≡ true → length xs ≡ length ls
+take_count : (ls : List Letter) (bound : Rate) (xs : List Reg) → take_all ls bound xs ≡ true → length xs ≡ length ls
 take_count [] bound [] h = refl
 take_count [] bound (x ∷ xs) h = absurd (cc)
 take_count (l ∷ ls) bound [] h = absurd (cc)
 take_count (l ∷ ls) bound (x ∷ xs) h =
     ap (λ n. suc n) (take_count ls bound xs (and_parts (takes l bound x.rate) (take_all ls bound xs) h).1)
 
-pub run_takes : (o : Opcode) (r : Rate) (xs : List Reg) → runs_with (row_of o) r xs ≡ true
+run_takes : (o : Opcode) (r : Rate) (xs : List Reg) → runs_with (row_of o) r xs ≡ true
     → take_all (moving_letters (row_of o)) (bound_at (row_of o) r) xs ≡ true
 run_takes o r xs h = (and_parts (take_all (moving_letters (row_of o)) (bound_at (row_of o) r) xs)
     (may_run_at (row_of o) r) h).0

@@ -7,7 +7,6 @@ use Rattle.cs_base.specs.Rates.{is_audio}
 use Rattle.cs_base.specs.declared.resource.Rate.{Rate}
 use Rattle.cs_base.specs.declared.resource.Rate.TheVariants as rate
 use Rattle.cs_base.specs.declared.resource.Res.{Res}
-use Rattle.cs_base.proofs.Tests.{some_is}
 use Rattle.cs_ir.specs.Waves.{Wave, constant, held}
 use Rattle.cs_ir.specs.declared.register.Reg.{Reg}
 use Rattle.cs_cells.specs.declared.footprint.Area.{Area}
@@ -16,16 +15,7 @@ use Rattle.cs_machine.specs.Rows.{HasFrames, row_wave}
 use Rattle.cs_machine.proofs.Frames.{held_row}
 use Rattle.cs_machine.proofs.Putting.{wrote_first, wrote_row}
 use Rattle.cs_voice_meaning.specs.Placing.{area_of, cell_count, wave_in, with_wave}
-use Rattle.cs_machine.specs.Access.{CanTouch}
-use Rattle.cs_machine.proofs.Writing.{in_here}
-use Rattle.cs_machine.specs.States.{MayTouch}
 use Rattle.cs_machine.proofs.Given.{sound_register}
-
--- the first cell of an area that has one
-pub first_in : (can : ℕ → Type 0) (n : ℕ) (area : Area) → CanTouch can n area → 0 < area.length → can area.first
-first_in can n area touch some =
-    subst can (let e : area.first + 0 ≡ area.first = omega arith in e)
-    (touch.can (area.first + 0) (in_here area 0 some))
 
 -- an area of sound was read into a row that was swapped in
 pub read_sound : (f g : RegisterFile) (into : Reg) (r : Rate) (area : Area) (cells : ℕ → ℤ) (swapped row : List ℤ)
@@ -80,10 +70,3 @@ pub saved_here : (areas : List Area) (g : Res) (area : Area) (r : Rate) (w : Wav
 saved_here areas g area r w m n before after found same is =
     ap (λ o. with_wave o (held n r w) before) found
     ∙ ap (λ k. with_wave (Some area) (held k r w) before) (sym same) ∙ sym is
-
--- what may be touched of a resource's area
-pub touch_of : (allowed : ℕ → Type 0) (count : ℕ) (areas : List Area) (g : Res) (area : Area)
-    → MayTouch allowed count areas g
-    → area_of areas g ≡ Some area → CanTouch allowed count area
-touch_of allowed count areas g area may found =
-    subst (CanTouch allowed count) (some_is may.0 area (sym may.1 ∙ found)) may.2

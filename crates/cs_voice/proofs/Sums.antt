@@ -23,10 +23,6 @@ sum_more (x ∷ voices) v frame channel =
     ap (λ z. here +ℤ z) (sum_more voices v frame channel)
     ∙ sym (+ℤ_assoc here (sum_at voices frame channel) (outs v.outs channel frame))
 
--- how far sums are from 0
-pub nothing : IsSumOf 0 (pos 0)
-nothing = record { low = omega (arith, ints); high = omega (arith, ints) }
-
 pub one_more : (n : ℕ) (x z : ℤ) → IsSumOf n x → IsRaw z → IsSumOf (n + 1) (x +ℤ z)
 one_more n x z s r = record { low = omega (arith, ints, s.low, r.0); high = omega (arith, ints, s.high, r.1) }
 

@@ -1,6 +1,6 @@
 -- The tables that a note finds, by their numbers.
 use Rattle.std.proofs.Common.{◌≡◌, ℕ, ℤ, zero, suc, ◌+◌, ◌<◌, ◌≤◌, ◌==◌, Bool, true, false, not, ◌&&◌, List, [], ◌∷◌}
-use Rattle.std.proofs.Common.{length, drop, get_or, unsigned_abs, Option, Some, None, if◌then◌else◌, refl, sym, ◌∙◌, ap}
+use Rattle.std.proofs.Common.{length, drop, get_or, unsigned_abs, Option, Some, if◌then◌else◌, refl, sym, ◌∙◌, ap}
 use Rattle.std.proofs.Common.{arith}
 use Rattle.std.specs.Int.{is_negative}
 use Rattle.cs_meaning.specs.Pieces.{Table, find_table}
@@ -64,8 +64,3 @@ none_left [] made (suc n) h = refl
 none_left (x ∷ tables) made zero h = absurd (omega arith)
 none_left (x ∷ tables) [] (suc n) h = no_made (drop n tables)
 none_left (x ∷ tables) (y ∷ made) (suc n) h = none_left tables made n (omega arith)
-
-pub found_none : (tables : List PieceTable) (made : List Bool) (number : ℤ) (n : ℕ) → length tables ≤ n
-    → find_table (tables_of tables made) number ≡ find_table (tables_of (drop n tables) (drop n made)) number
-    → None ≡ find_table (tables_of tables made) number
-found_none tables made number n h before = sym (before ∙ ap (λ ts. find_table ts number) (none_left tables made n h))

@@ -83,10 +83,6 @@ module _ (d : VoiceData) (h : IsVoice d) (v : Sounding)
 pub performed_fits : (d : VoiceData) (c : Cells) → IsVoice d → VoiceFits d.code.counts (performed (sounding d) c)
 performed_fits d c h = goes_on_fitting (sounding d) d.code.counts c h.playable h.code (fits d h)
 
--- after a cycle it sounds as the voice of the definitions does
-pub after_sounds : (d : VoiceData) (c : Cells) → IsVoice d → sounding (after d c) ≡ performed (sounding d) c
-after_sounds d c h = taken d h (performed (sounding d) c) (performed_fits d c h) (sheet_of d)
-
 pub after_voice : (d : VoiceData) (c : Cells) → IsVoice d → IsVoice (after d c)
 after_voice d c h = still_voice d h (performed (sounding d) c) (performed_fits d c h)
 

@@ -7,7 +7,7 @@ ghost use Rattle.cs_ir.specs.Waves.{first_values};
 ghost use Rattle.cs_machine.specs.Registers.{values};
 
 use cs_base::{Num, OutOfMemory};
-use cs_ir::{Ask, Operands};
+use cs_ir::{Ask, Reg};
 use cs_machine::Registers;
 use std::alloc::Global;
 
@@ -21,19 +21,13 @@ pub(crate) fn ask(alloc: Global, asks: &mut Vec<Ask>, values: &[Num]) -> Result<
 }
 
 /// What registers are as the note begins, in place of what `into` held.
-pub(crate) fn gather(
-    regs: &Registers,
-    from: &Operands,
-    into: &mut Vec<Num>,
-) -> Result<(), OutOfMemory>
+pub(crate) fn gather(regs: &Registers, from: &[Reg], into: &mut Vec<Num>) -> Result<(), OutOfMemory>
     requires { list_all (has_register regs.now.counts) from.now ≡ true }
     ensures { OnOk result (into.new.items ≡ first_values (map (values regs.now) from.now)) }
 {
     into.clear();
-    for place in 0..from.len() {
-        if let Some(register) = from.get(place) {
-            into.push(regs.first(register))?;
-        }
+    for register in from {
+        into.push(regs.first(*register))?;
     }
     Ok(())
 }

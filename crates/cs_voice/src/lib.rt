@@ -10,10 +10,10 @@
 //! voices are added may be changed without anyone above noticing.
 //!
 //! Modules in reading order: `shared` (what notes share, by resource and rate), `zak` (zak places), `unit` (units),
-//! `store` (stores into tables), `any` (the act of any op), `jumps` (where an op goes on), `cursor` (the ops at a
-//! place), `run` (a code from place to place); `stage` (what all notes of a piece play in), `cycle` (the second code,
-//! once a control cycle), `body`, `voice` (the note and its run as a job), `laws`; `tables` (what a note finds),
-//! `begin` (units), `asks`, `pass` (the first code), `note` (how a note begins); `adding` (what voices give together).
+//! `store` (stores into tables), `any` (the act of any op), `jumps` (where an op goes on), `run` (a code from place to
+//! place); `stage` (what all notes of a piece play in), `cycle` (the second code, once a control cycle), `body`,
+//! `voice` (the note and its run as a job), `laws`; `tables` (what a note finds), `begin` (units), `asks`, `pass` (the
+//! first code), `note` (how a note begins); `adding` (what voices give together).
 #![tactic(auto)]
 
 mod adding;
@@ -21,7 +21,6 @@ mod any;
 mod asks;
 mod begin;
 mod body;
-mod cursor;
 mod cycle;
 mod jumps;
 mod laws;

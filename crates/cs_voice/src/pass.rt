@@ -40,7 +40,7 @@ impl<'p> Starter<'p> for Beginning<'_, '_, 'p> {
     ) -> Result<Option<StartRefusal>, OutOfMemory> {
         match op.act {
             Act::Start(opcode, unit) => {
-                gather(&state.regs, &op.from, &mut self.settled)?;
+                gather(&state.regs, op.from.as_slice(), &mut self.settled)?;
                 let start = UnitStart {
                     opcode,
                     rate: op.into.rate,
@@ -57,12 +57,12 @@ impl<'p> Starter<'p> for Beginning<'_, '_, 'p> {
                 Ok(refused)
             }
             Act::Seek => {
-                gather(&state.regs, &op.from, &mut self.settled)?;
+                gather(&state.regs, op.from.as_slice(), &mut self.settled)?;
                 let refused = seek(self.finds.tables, self.made, &self.settled);
                 Ok(refused)
             }
             Act::Ask => {
-                gather(&state.regs, &op.from, &mut self.settled)?;
+                gather(&state.regs, op.from.as_slice(), &mut self.settled)?;
                 ask(self.alloc, &mut self.asks, &self.settled)?;
                 Ok(None)
             }

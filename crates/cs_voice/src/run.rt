@@ -12,7 +12,6 @@ ghost use Rattle.cs_voice.specs.inner.Jumps.{is_jump, is_start};
 
 use crate::any::act;
 use crate::begin::StartRefusal;
-use crate::cursor::Cursor;
 use crate::jumps::jump;
 use cs_base::OutOfMemory;
 use cs_cells::Bank;
@@ -68,32 +67,26 @@ pub(crate) fn run<'p, S: Starter<'p>, B: Bank>(
     ensures long { length (B.cells bank.new) ≡ length (B.cells bank.old) }
     ensures rest { B.rest bank.new ≡ B.rest bank.old }
 {
-    let end = ops.len();
-    let mut cursor = Cursor::new();
+    let list = ops.as_slice();
+    let end = list.len();
     let mut place: usize = 0;
-    'each_stretch: while place < end {
-        cursor.go_to(ops, place);
-        let stretch = cursor.ops();
-        let first = place;
-        let behind = first + stretch.len();
-        'each_op: while place < behind {
-            let op = op_at(stretch, place - first);
-            match jump(&state.regs, op, place) {
-                Some(to) => place = to,
-                None => {
-                    let refused = one(state, at, op, starter, bank)?;
-                    if let Some(refused) = refused {
-                        return Ok(Some(refused));
-                    }
-                    place += 1;
+    while place < end {
+        let op = op_at(list, place);
+        match jump(&state.regs, op, place) {
+            Some(to) => place = to,
+            None => {
+                let refused = one(state, at, op, starter, bank)?;
+                if let Some(refused) = refused {
+                    return Ok(Some(refused));
                 }
+                place += 1;
             }
         }
     }
     Ok(None)
 }
 
-/// The op at a place among ops.
+/// The op at a place of a code.
 fn op_at(ops: &[Op], place: usize) -> &Op
     requires { place < length ops.now }
     ensures { slice_get ops.now place ≡ Some result.now }

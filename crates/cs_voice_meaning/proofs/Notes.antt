@@ -1,15 +1,14 @@
--- A voice that begins, goes on and runs is in the state of the note of the plain world.
-use Rattle.std.proofs.Common.{◌≡◌, ℕ, ℤ, List, [], refl, sym}
-use Rattle.std.proofs.lemmas.List.{append-nil}
+-- A voice that begins and runs is in the state of the note of the plain world.
+use Rattle.std.proofs.Common.{◌≡◌, ℕ, ℤ, List, [], refl}
 use Rattle.cs_base.specs.Rates.{res_rate}
 use Rattle.cs_base.specs.declared.resource.Res.{Res}
 use Rattle.cs_signal.specs.Pace.{Pace}
 use Rattle.cs_ir.specs.Waves.{Wave}
 use Rattle.cs_cells.specs.declared.footprint.Area.{Area}
-use Rattle.cs_meaning.specs.Plain.{Plain, plain, fresh, next_cycle}
+use Rattle.cs_meaning.specs.Plain.{plain, fresh}
 use Rattle.cs_voice_meaning.specs.Placing.{area_of, HasArea, wave_of}
 use Rattle.cs_ugen.specs.Generators.{pace_of}
-use Rattle.cs_voice_meaning.specs.VoiceWorld.{VoiceState, fresh_voice, next_voice, voice_world}
+use Rattle.cs_voice_meaning.specs.VoiceWorld.{fresh_voice, voice_world}
 use Rattle.cs_voice_meaning.specs.Follows.{Kinds, SameState, DoAlike}
 use Rattle.cs_voice_meaning.proofs.Alikes.{run_alike}
 use Rattle.cs_voice_meaning.proofs.VoiceFollows.{voice_follows}
@@ -21,24 +20,6 @@ pub begins_same : (N : Res → Type 0) (areas : List Area) (kinds : Kinds) (pace
     → SameState N areas kinds pace [] (fresh_voice cells) (fresh shared)
 begins_same N areas kinds pace cells shared h =
     record { shared = h; units = λ u. tt; delays = refl; outs = refl; ended = refl; asks = refl; cause = refl }
-
--- and goes on as it does, at whatever resources the next cycle touches
-pub goes_on_same : (N M : Res → Type 0) (areas : List Area) (kinds : Kinds) (pace : Pace) (earlier : List (List ℤ))
-    (cells : ℕ → ℤ) (shared : Res → Wave) (x : VoiceState) (y : Plain)
-    → SameState N areas kinds pace earlier x y
-    → ((g : Res) → M g → wave_of (area_of areas g) (res_rate g) cells ≡ shared g)
-    → SameState M areas kinds pace y.asks (next_voice cells x) (next_cycle shared y)
-goes_on_same N M areas kinds pace earlier cells shared x y s h =
-    record {
-      shared = h;
-      units = s.units;
-      delays = s.delays;
-      outs = refl;
-      ended = s.ended;
-      asks =
-          sym (append-nil y.asks);
-      cause = s.cause;
-    }
 
 pub do_alike : DoAlike
 do_alike areas stock piece kinds earlier placed generators ops m n touches same =

@@ -1,5 +1,5 @@
 -- The voice's world: what notes share as cells by address, and each unit as the state that it has come to.
-use Rattle.std.specs.Prelude.{ℕ, ℤ, pos, Bool, ◌&&◌, ◌++◌, List, [], map, Some, if◌then◌else◌}
+use Rattle.std.specs.Prelude.{ℕ, ℤ, pos, Bool, ◌&&◌, ◌++◌, List, map, Some, if◌then◌else◌}
 use Rattle.std.specs.List.{list_any}
 use Rattle.cs_base.specs.Rates.{res_rate}
 use Rattle.cs_base.specs.declared.resource.Rate.{Rate}
@@ -10,7 +10,7 @@ use Rattle.cs_signal.specs.Steps.{run}
 use Rattle.cs_ugen.specs.Generators.{pace_of}
 use Rattle.cs_ugen.specs.Units.{unit_start, unit_step}
 use Rattle.cs_ugen.specs.declared.unit.UnitState.{UnitState}
-use Rattle.cs_ir.specs.Waves.{Wave, silence}
+use Rattle.cs_ir.specs.Waves.{Wave}
 use Rattle.cs_ir.specs.Worlds.{World}
 use Rattle.cs_cells.specs.Cells.{in_area}
 use Rattle.cs_cells.specs.declared.footprint.Area.{Area}
@@ -26,12 +26,9 @@ pub record Playing : Type 0 where
 abbrev pub VoiceState : Type 0
 VoiceState = State (ℕ → ℤ) Playing
 
--- as a voice begins, and as it goes on in its next cycle, over these cells; what it asked for has been taken
+-- as a voice begins, over these cells
 abbrev pub fresh_voice : (ℕ → ℤ) → VoiceState
 fresh_voice = fresh_state
-
-abbrev pub next_voice : (ℕ → ℤ) → VoiceState → VoiceState
-next_voice cells x = record x { shared = cells; outs = λ c. silence; asks = [] }
 
 -- a resource is read from its area, and written into it
 abbrev pub read_cells : List Area → Res → (ℕ → ℤ) → Wave

@@ -10,8 +10,9 @@ use Rattle.cs_code.specs.inner.Kept.{past, past_parts, past_block}
 use Rattle.cs_typed.specs.TypedTree.{Expression}
 use Rattle.cs_typed.specs.declared.tree.TypedArm.{TypedArm, out-TypedArm}
 use Rattle.cs_code.specs.declared.frame.Pass.{Pass}
+use Rattle.cs_code.specs.inner.Code.{pass_block_code, cond_code, cond_reg}
 use Rattle.cs_code.specs.inner.Code.{arm_code}
-use Rattle.cs_code.specs.inner.Emitted.{Scope, block_in, expression_in, pass_block_code, cond_code, cond_reg}
+use Rattle.cs_code.specs.inner.Emitted.{Scope, block_in, expression_in}
 use Rattle.cs_code.specs.inner.Frames.{Frame, op_of}
 
 -- An arm: the code of its condition, where the condition stands, the code of its body.

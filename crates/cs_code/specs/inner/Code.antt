@@ -10,10 +10,12 @@ use Rattle.cs_ir.specs.declared.op.Act.TheVariants as act
 use Rattle.cs_ir.specs.declared.op.Op.{Op}
 use Rattle.cs_ir.specs.declared.op.Reach.{Reach}
 use Rattle.cs_ir.specs.declared.register.Reg.{Reg}
-use Rattle.cs_meaning.specs.Core.{Stmt, Block, Arms, set, unit, zak, store, out, out_at, ask, turnoff, nothing, choose}
+use Rattle.cs_meaning.specs.Core.{Stmt, Block, Arms, set, unit, zak, store, out, out_at, ask, turnoff, choose}
 use Rattle.cs_meaning.specs.Core.{no_stmt, andthen, otherwise, arm}
 use Rattle.cs_meaning.specs.Notes.{reg}
 use Rattle.cs_meaning.specs.When.{When, beginning, cycle}
+use Rattle.cs_code.specs.declared.frame.Pass.{Pass}
+use Rattle.cs_code.specs.declared.frame.Pass.TheVariants as pass
 use Rattle.cs_code.specs.declared.frame.Progress.{Progress}
 use Rattle.cs_code.specs.inner.Kept.{past, past_parts, past_stmt, past_block}
 use Rattle.cs_typed.specs.TypedTree.{Expression, number, var, field, head, neg, pair, pick, apply}
@@ -158,68 +160,89 @@ arm_code place cond q body rest =
     cond ++ (op_of (act.Unless (place + length cond + 1 + length body + 1)) q (q ∷ [])
     ∷ (body ++ (op_of (act.Jump (place + length cond + 1 + length body + 1 + length rest)) q [] ∷ rest)))
 
--- the initialisation of statements whose code begins at a place
+-- The code of a statement that is no `if`, as the note begins and in a cycle: the same at each place.
+abbrev pub simple_code : Pass → Frame → Progress → Stmt → List Op
+simple_code pass.Initialisation f p (set r v e) = if_init r (set_code f beginning 0 v e) (keep_code f p.part e)
+simple_code pass.Initialisation f p (unit r vs opcode reach xs is) =
+    if_init r (start_code f r opcode p.unit is ++ unit_code f beginning 0 r vs opcode p.unit reach xs)
+    (keep_all_code f p.part xs ++ start_code f r opcode p.unit is)
+simple_code pass.Initialisation f p (zak r vs opcode reach xs) =
+    if_init r (zak_code f beginning 0 r vs opcode reach xs) (keep_all_code f p.part xs)
+simple_code pass.Initialisation f p (store r reach es is) =
+    if_init r (seek_code f is ++ store_code f beginning 0 r reach es) (keep_all_code f p.part es ++ seek_code f is)
+simple_code pass.Initialisation f p (out r es) = keep_all_code f p.part es
+simple_code pass.Initialisation f p (out_at r es) = keep_all_code f p.part es
+simple_code pass.Initialisation f p (ask es) = ask_code f es
+simple_code pass.Performance f p (set r v e) = if_init r [] (set_code f cycle p.part v e)
+simple_code pass.Performance f p (unit r vs opcode reach xs is) =
+    if_init r [] (unit_code f cycle p.part r vs opcode p.unit reach xs)
+simple_code pass.Performance f p (zak r vs opcode reach xs) =
+    if_init r [] (zak_code f cycle p.part r vs opcode reach xs)
+simple_code pass.Performance f p (store r reach es is) = if_init r [] (store_code f cycle p.part r reach es)
+simple_code pass.Performance f p (out r es) = operands_code f cycle p.part es 0 ++ out_ops 0 (spots f cycle p.part es 0)
+simple_code pass.Performance f p (out_at r es) =
+    operands_code f cycle p.part es 0 ++ out_at_ops (spots f cycle p.part es 0)
+simple_code pass.Performance f p (turnoff r) = op_of act.Turnoff (reg rate.Init 0) [] ∷ []
+simple_code way f p _ = []
+
+-- the code of the condition of an arm, and where the condition stands
+abbrev pub cond_code : Pass → Frame → ℕ → Expression → List Op
+cond_code pass.Initialisation f at c = keep_code f at c
+cond_code pass.Performance f at c = operand_code f cycle at c 0
+
+abbrev pub cond_reg : Pass → Frame → ℕ → Expression → Reg
+cond_reg pass.Initialisation f at c = kept_reg f at
+cond_reg pass.Performance f at c = spot f cycle at c 0
+
+-- the code of an `if`, by that of one arm that is chosen and that of all: as a note begins all arms are initialised of
+-- an `if` that goes on
+abbrev pub choice_code : Pass → Rate → List Op → List Op → List Op
+choice_code pass.Initialisation r one all = if_init r one all
+choice_code pass.Performance r one all = one
+
+-- the code of statements that begins at a place, as the note begins and in a cycle; and of arms
 abbrev mutual
-  pub init_code : Frame → ℕ → Progress → Stmt → List Op
-  init_code f place p (set r v e) = if_init r (set_code f beginning 0 v e) (keep_code f p.part e)
-  init_code f place p (unit r vs opcode reach xs is) =
-      if_init r (start_code f r opcode p.unit is ++ unit_code f beginning 0 r vs opcode p.unit reach xs)
-      (keep_all_code f p.part xs ++ start_code f r opcode p.unit is)
-  init_code f place p (zak r vs opcode reach xs) =
-      if_init r (zak_code f beginning 0 r vs opcode reach xs) (keep_all_code f p.part xs)
-  init_code f place p (store r reach es is) =
-      if_init r (seek_code f is ++ store_code f beginning 0 r reach es) (keep_all_code f p.part es ++ seek_code f is)
-  init_code f place p (out r es) = keep_all_code f p.part es
-  init_code f place p (out_at r es) = keep_all_code f p.part es
-  init_code f place p (ask es) = ask_code f es
-  init_code f place p (turnoff r) = []
-  init_code f place p nothing = []
-  init_code f place p (choose r arms) = if_init r (first_code f place p arms) (all_code f place p arms)
+  pub pass_code : Pass → Frame → ℕ → Progress → Stmt → List Op
+  pass_code way f place p (choose r arms) =
+      choice_code way r (chosen_code way f place p arms) (all_code f place p arms)
+  pass_code way f place p s = simple_code way f p s
 
-  pub init_block_code : Frame → ℕ → Progress → Block → List Op
-  init_block_code f place p no_stmt = []
-  init_block_code f place p (andthen s b) =
-      init_code f place p s ++ init_block_code f (place + length (init_code f place p s)) (past_stmt p s) b
+  pub pass_block_code : Pass → Frame → ℕ → Progress → Block → List Op
+  pass_block_code way f place p no_stmt = []
+  pass_block_code way f place p (andthen s b) =
+      pass_code way f place p s
+      ++ pass_block_code way f (place + length (pass_code way f place p s)) (past_stmt p s) b
 
-  pub first_code : Frame → ℕ → Progress → Arms → List Op
-  first_code f place p (otherwise b) = init_block_code f place p b
-  first_code f place p (arm c b rest) =
-      let cond = keep_code f p.part c in let q = past_parts (past p.part c) p in
-      let body = init_block_code f (place + length cond + 1) q b in
-      arm_code place cond (kept_reg f p.part) body
-      (first_code f (place + length cond + 1 + length body + 1) (past_block q b) rest)
+  pub chosen_code : Pass → Frame → ℕ → Progress → Arms → List Op
+  chosen_code way f place p (otherwise b) = pass_block_code way f place p b
+  chosen_code way f place p (arm c b rest) =
+      let cond = cond_code way f p.part c in let q = past_parts (past p.part c) p in
+      let body = pass_block_code way f (place + length cond + 1) q b in
+      arm_code place cond (cond_reg way f p.part c) body
+      (chosen_code way f (place + length cond + 1 + length body + 1) (past_block q b) rest)
 
   pub all_code : Frame → ℕ → Progress → Arms → List Op
-  all_code f place p (otherwise b) = init_block_code f place p b
+  all_code f place p (otherwise b) = pass_block_code pass.Initialisation f place p b
   all_code f place p (arm c b rest) =
       let cond = keep_code f p.part c in let q = past_parts (past p.part c) p in
-      let body = init_block_code f (place + length cond) q b in
+      let body = pass_block_code pass.Initialisation f (place + length cond) q b in
       cond ++ (body ++ all_code f (place + length cond + length body) (past_block q b) rest)
 
--- the performance of statements whose code begins at a place
-abbrev mutual
-  pub perf_code : Frame → ℕ → Progress → Stmt → List Op
-  perf_code f place p (set r v e) = if_init r [] (set_code f cycle p.part v e)
-  perf_code f place p (unit r vs opcode reach xs is) =
-      if_init r [] (unit_code f cycle p.part r vs opcode p.unit reach xs)
-  perf_code f place p (zak r vs opcode reach xs) = if_init r [] (zak_code f cycle p.part r vs opcode reach xs)
-  perf_code f place p (store r reach es is) = if_init r [] (store_code f cycle p.part r reach es)
-  perf_code f place p (out r es) = operands_code f cycle p.part es 0 ++ out_ops 0 (spots f cycle p.part es 0)
-  perf_code f place p (out_at r es) = operands_code f cycle p.part es 0 ++ out_at_ops (spots f cycle p.part es 0)
-  perf_code f place p (ask es) = []
-  perf_code f place p (turnoff r) = op_of act.Turnoff (reg rate.Init 0) [] ∷ []
-  perf_code f place p nothing = []
-  perf_code f place p (choose r arms) = perf_arms_code f place p arms
+-- each pass by itself
+abbrev pub init_code : Frame → ℕ → Progress → Stmt → List Op
+init_code f place p s = pass_code pass.Initialisation f place p s
 
-  pub perf_block_code : Frame → ℕ → Progress → Block → List Op
-  perf_block_code f place p no_stmt = []
-  perf_block_code f place p (andthen s b) =
-      perf_code f place p s ++ perf_block_code f (place + length (perf_code f place p s)) (past_stmt p s) b
+abbrev pub init_block_code : Frame → ℕ → Progress → Block → List Op
+init_block_code f place p b = pass_block_code pass.Initialisation f place p b
 
-  pub perf_arms_code : Frame → ℕ → Progress → Arms → List Op
-  perf_arms_code f place p (otherwise b) = perf_block_code f place p b
-  perf_arms_code f place p (arm c b rest) =
-      let cond = operand_code f cycle p.part c 0 in let q = past_parts (past p.part c) p in
-      let body = perf_block_code f (place + length cond + 1) q b in
-      arm_code place cond (spot f cycle p.part c 0) body
-      (perf_arms_code f (place + length cond + 1 + length body + 1) (past_block q b) rest)
+abbrev pub first_code : Frame → ℕ → Progress → Arms → List Op
+first_code f place p arms = chosen_code pass.Initialisation f place p arms
+
+abbrev pub perf_code : Frame → ℕ → Progress → Stmt → List Op
+perf_code f place p s = pass_code pass.Performance f place p s
+
+abbrev pub perf_block_code : Frame → ℕ → Progress → Block → List Op
+perf_block_code f place p b = pass_block_code pass.Performance f place p b
+
+abbrev pub perf_arms_code : Frame → ℕ → Progress → Arms → List Op
+perf_arms_code f place p arms = chosen_code pass.Performance f place p arms

@@ -44,9 +44,8 @@ use Rattle.cs_code.specs.declared.simple.Sending.{Sending}
 use Rattle.cs_code.specs.declared.simple.Sending.TheVariants as sending
 use Rattle.cs_code.specs.declared.value.Value.{Value}
 use Rattle.cs_code.specs.declared.value.Value.TheVariants as value
-use Rattle.cs_code.specs.inner.Code.{keep_code, operand_code, init_code, init_block_code, first_code, perf_code}
-use Rattle.cs_code.specs.inner.Code.{perf_block_code, perf_arms_code, out_ops, out_at_ops}
-use Rattle.cs_code.specs.inner.Frames.{Frame, kept_reg, spot}
+use Rattle.cs_code.specs.inner.Code.{keep_code, pass_block_code, out_ops, out_at_ops}
+use Rattle.cs_code.specs.inner.Frames.{Frame}
 
 abbrev pub frame_of : Bases → Frame
 frame_of b = record { kept = b.kept; base = at_rate b.temporaries }
@@ -153,33 +152,11 @@ abbrev pub when_of : Pass → When
 when_of pass.Initialisation = beginning
 when_of pass.Performance = cycle
 
--- what stands in both passes, by the pass
-abbrev pub pass_code : Pass → Frame → ℕ → Progress → Stmt → List Op
-pass_code pass.Initialisation f place p s = init_code f place p s
-pass_code pass.Performance f place p s = perf_code f place p s
-
-abbrev pub pass_block_code : Pass → Frame → ℕ → Progress → Block → List Op
-pass_block_code pass.Initialisation f place p b = init_block_code f place p b
-pass_block_code pass.Performance f place p b = perf_block_code f place p b
-
--- the code of an `if` of which one arm is done, and of the condition of an arm
-abbrev pub chosen_code : Pass → Frame → ℕ → Progress → Arms → List Op
-chosen_code pass.Initialisation f place p arms = first_code f place p arms
-chosen_code pass.Performance f place p arms = perf_arms_code f place p arms
-
-abbrev pub cond_code : Pass → Frame → ℕ → Expression → List Op
-cond_code pass.Initialisation f at c = keep_code f at c
-cond_code pass.Performance f at c = operand_code f cycle at c 0
-
-abbrev pub cond_reg : Pass → Frame → ℕ → Expression → Reg
-cond_reg pass.Initialisation f at c = kept_reg f at
-cond_reg pass.Performance f at c = spot f cycle at c 0
-
 -- an arm that is initialised whatever its condition is
 abbrev pub each_arm_code : Frame → ℕ → Progress → Expression → Block → List Op
 each_arm_code f place p c b =
     keep_code f p.part c
-    ++ init_block_code f (place + length (keep_code f p.part c)) (past_parts (past p.part c) p) b
+    ++ pass_block_code pass.Initialisation f (place + length (keep_code f p.part c)) (past_parts (past p.part c) p) b
 
 -- what is known of one of some expressions, counted from 0: of a literal the whole number below it
 abbrev pub known_of : Expression → KnownArgument

@@ -1,7 +1,8 @@
 use Rattle.std.proofs.Common.{◌≡◌, ◌++◌, sym, subst, IfOk, OnOk}
+use Rattle.cs_code.specs.inner.Code.{pass_code}
 use Rattle.cs_code.specs.inner.Kept.{past_stmt}
 use Rattle.cs_words.specs.Catalogue.{row_of}
-use Rattle.cs_code.specs.inner.Emitted.{frame_of, pass_code, assignment_of, arguments_of, variables_of}
+use Rattle.cs_code.specs.inner.Emitted.{frame_of, assignment_of, arguments_of, variables_of}
 use Rattle.cs_code.proofs.Calls.{call_assigned, call_effect}
 use Rattle.cs_code.proofs.call.call.Goals as goal
 

@@ -5,7 +5,8 @@ use Rattle.cs_words.specs.Catalogue.{row_of}
 use Rattle.cs_code.proofs.Calls.{call_anywhere}
 use Rattle.cs_code.proofs.Chains.{alone_code}
 use Rattle.cs_code.proofs.Lists.{map_twice}
-use Rattle.cs_code.specs.inner.Emitted.{argument_of, frame_of, pass_block_code, variables_of}
+use Rattle.cs_code.specs.inner.Code.{pass_block_code}
+use Rattle.cs_code.specs.inner.Emitted.{argument_of, frame_of, variables_of}
 use Rattle.cs_code.specs.inner.Kept.{past_stmt}
 use Rattle.cs_code.proofs.leaves.called.Goals as goal
 

@@ -11,14 +11,15 @@ use Rattle.cs_code.specs.inner.Kept.{past, past_parts, past_block, past_arms}
 use Rattle.cs_typed.specs.TypedTree as typed
 use Rattle.cs_typed.specs.declared.tree.TypedWhat.TheViews.{the_lemmas}
 use Rattle.cs_typed.proofs.Trees.{typed_block_is, typed_arms_is}
+use Rattle.cs_code.specs.inner.Code.{cond_code, pass_block_code}
 use Rattle.cs_code.specs.inner.Code.{all_code, init_block_code, keep_code}
 use Rattle.cs_code.specs.inner.Branches.{opened, jumps, branch_of, branches, past_list, condition_of, body_of}
-use Rattle.cs_code.specs.inner.Emitted.{cond_code, frame_of, pass_block_code, scope_of, block_in, core_in, arms_in}
+use Rattle.cs_code.specs.inner.Emitted.{frame_of, scope_of, block_in, core_in, arms_in}
 use Rattle.cs_code.specs.inner.Emitted.{routine_in}
 use Rattle.cs_code.specs.inner.Frames.{op_of}
 use Rattle.cs_code.proofs.Branches.{arm_made, body_filled, body_made, arms_more, jump_placed, one_made}
 use Rattle.cs_code.proofs.Branches.{all_choice, one_choice, past_choice, past_chosen}
-use Rattle.cs_code.proofs.Chains.{block_more, block_none, each_more, taken_pass}
+use Rattle.cs_code.proofs.Chains.{block_more, each_more, taken_pass}
 use Rattle.cs_code.proofs.Lists.{dropped}
 use Rattle.cs_code.proofs.Routines.{routine_at_number, routine_found}
 use Rattle.cs_code.proofs.Weights.{routines_weight, one_weight, all_weight, body_weight, list_weight, one_in_all}
@@ -28,7 +29,7 @@ use Rattle.cs_code.proofs.stmt.+stmt.Goals as goal
 pub block-loop-s-preserved : goal.block-loop-s-preserved
 block-loop-s-preserved t c =
     let was = c.loop-s.invariant in
-    let o = (scope_of c.args.context.spaces c.args.context.bases c.args.routines.now.list.now) in
+    let o = (scope_of c.args.context.spaces c.args.context.bases c.args.routines.now) in
     let i = c.loop-s.s-index in
     let x = c.s-item.result in
     let made = c.in_ok-next.ensures in
@@ -40,26 +41,25 @@ block-loop-s-preserved t c =
 
 pub block-returns-clause-ops : goal.block-returns-clause-ops
 block-returns-clause-ops t c =
-    let o = (scope_of c.args.context.spaces c.args.context.bases c.args.routines.now.list.now) in
+    let o = (scope_of c.args.context.spaces c.args.context.bases c.args.routines.now) in
     let f = frame_of c.args.context.bases in
     let way = c.args.context.pass in
     let ops = c.loop-s.ops in
     let p = c.loop-s.next in
     let none = drop_all c.loop-s.s-index c.args.stmts.now (omega (arith, c.loop-s-test.false)) in
     sym (append-nil ops)
-    ∙ sym (ap (λ l. ops ++ l) (block_none way f (length ops) p))
     ∙ sym (ap (λ xs. ops ++ pass_block_code way f (length ops) p (block_in o xs)) none)
     ∙ c.loop-s.invariant.0
 
 pub block-returns-clause-next : goal.block-returns-clause-next
 block-returns-clause-next t c =
-    let o = (scope_of c.args.context.spaces c.args.context.bases c.args.routines.now.list.now) in
+    let o = (scope_of c.args.context.spaces c.args.context.bases c.args.routines.now) in
     let none = drop_all c.loop-s.s-index c.args.stmts.now (omega (arith, c.loop-s-test.false)) in
     sym (ap (λ xs. past_block c.loop-s.next (block_in o xs)) none) ∙ c.loop-s.invariant.1
 
 pub stmt-returns-in_ok-next-in-Choose-clause-ops : goal.stmt-returns-in_ok-next-in-Choose-clause-ops
 stmt-returns-in_ok-next-in-Choose-clause-ops t c =
-    let o = (scope_of c.args.context.spaces c.args.context.bases c.args.routines.now.list.now) in
+    let o = (scope_of c.args.context.spaces c.args.context.bases c.args.routines.now) in
     let rs = o.routines in
     let seen : typed.statement rs c.args.s.now ≡ typed.alone (typed.choose c.args.s.now.line c.args.s.now.rate
     (typed.arms rs (typed.block rs c.in-Choose.els.items) c.in-Choose.arms.items)) =
@@ -73,7 +73,7 @@ stmt-returns-in_ok-next-in-Choose-clause-ops t c =
 
 pub stmt-returns-in_ok-next-in-Choose-clause-next : goal.stmt-returns-in_ok-next-in-Choose-clause-next
 stmt-returns-in_ok-next-in-Choose-clause-next t c =
-    let o = (scope_of c.args.context.spaces c.args.context.bases c.args.routines.now.list.now) in
+    let o = (scope_of c.args.context.spaces c.args.context.bases c.args.routines.now) in
     let rs = o.routines in
     let seen : typed.statement rs c.args.s.now ≡ typed.alone (typed.choose c.args.s.now.line c.args.s.now.rate
     (typed.arms rs (typed.block rs c.in-Choose.els.items) c.in-Choose.arms.items)) =
@@ -83,9 +83,9 @@ stmt-returns-in_ok-next-in-Choose-clause-next t c =
     c.deref-then-takes_all.ensures.value c.deref-then-takes_all-2.ensures.value c.in_ok-next-in-Choose.ensures.next)
     c.block.ensures.next
 
-pub stmt-returns-in_ok-aim_all-in-Choose-clause-ops : goal.stmt-returns-in_ok-aim_all-in-Choose-clause-ops
-stmt-returns-in_ok-aim_all-in-Choose-clause-ops t c =
-    let o = (scope_of c.args.context.spaces c.args.context.bases c.args.routines.now.list.now) in
+pub stmt-returns-in_ok-done-in-Choose-clause-ops : goal.stmt-returns-in_ok-done-in-Choose-clause-ops
+stmt-returns-in_ok-done-in-Choose-clause-ops t c =
+    let o = (scope_of c.args.context.spaces c.args.context.bases c.args.routines.now) in
     let rs = o.routines in
     let seen : typed.statement rs c.args.s.now ≡ typed.alone (typed.choose c.args.s.now.line c.args.s.now.rate
     (typed.arms rs (typed.block rs c.in-Choose.els.items) c.in-Choose.arms.items)) =
@@ -96,11 +96,11 @@ stmt-returns-in_ok-aim_all-in-Choose-clause-ops t c =
     c.arms_of.new.ends.items c.deref-else-takes_all-3.result.now c.args.p c.in_ok-last-in-Choose.last _ _ _ _ _ _ _ seen
     (sym c.takes_all.ensures ∙ c.if-takes_all.false) c.deref-else-takes_all.ensures.value
     c.deref-else-takes_all-2.ensures.value c.new-ends.ensures.items c.deref-else-takes_all-3.ensures.value
-    made.ops made.ends made.next c.in_ok-done-in-Choose.ensures.ops c.in_ok-aim_all-in-Choose.ensures
+    made.ops made.ends made.next c.in_ok-done-in-Choose.ensures.ops c.aim_all.ensures
 
-pub stmt-returns-in_ok-aim_all-in-Choose-clause-next : goal.stmt-returns-in_ok-aim_all-in-Choose-clause-next
-stmt-returns-in_ok-aim_all-in-Choose-clause-next t c =
-    let o = (scope_of c.args.context.spaces c.args.context.bases c.args.routines.now.list.now) in
+pub stmt-returns-in_ok-done-in-Choose-clause-next : goal.stmt-returns-in_ok-done-in-Choose-clause-next
+stmt-returns-in_ok-done-in-Choose-clause-next t c =
+    let o = (scope_of c.args.context.spaces c.args.context.bases c.args.routines.now) in
     let rs = o.routines in
     let seen : typed.statement rs c.args.s.now ≡ typed.alone (typed.choose c.args.s.now.line c.args.s.now.rate
     (typed.arms rs (typed.block rs c.in-Choose.els.items) c.in-Choose.arms.items)) =
@@ -114,7 +114,7 @@ stmt-returns-in_ok-aim_all-in-Choose-clause-next t c =
 
 pub stmt-returns-in-Set-clause-ops : goal.stmt-returns-in-Set-clause-ops
 stmt-returns-in-Set-clause-ops t c =
-    let o = (scope_of c.args.context.spaces c.args.context.bases c.args.routines.now.list.now) in
+    let o = (scope_of c.args.context.spaces c.args.context.bases c.args.routines.now) in
     let f = frame_of c.args.context.bases in
     let old = c.args.ops.now in
     let seen : typed.statement o.routines c.args.s.now
@@ -126,7 +126,7 @@ stmt-returns-in-Set-clause-ops t c =
 
 pub stmt-returns-in-Set-clause-next : goal.stmt-returns-in-Set-clause-next
 stmt-returns-in-Set-clause-next t c =
-    let o = (scope_of c.args.context.spaces c.args.context.bases c.args.routines.now.list.now) in
+    let o = (scope_of c.args.context.spaces c.args.context.bases c.args.routines.now) in
     let seen : typed.statement o.routines c.args.s.now
     ≡ typed.alone (typed.set c.args.s.now.line c.args.s.now.rate c.in-Set.v (typed.expression c.in-Set.e)) =
     search (rules, c.in-Set.is) in
@@ -136,7 +136,7 @@ stmt-returns-in-Set-clause-next t c =
 
 pub stmt-returns-in-Call-clause-ops : goal.stmt-returns-in-Call-clause-ops
 stmt-returns-in-Call-clause-ops t c =
-    let o = (scope_of c.args.context.spaces c.args.context.bases c.args.routines.now.list.now) in
+    let o = (scope_of c.args.context.spaces c.args.context.bases c.args.routines.now) in
     let f = frame_of c.args.context.bases in
     let way = c.args.context.pass in
     let old = c.args.ops.now in
@@ -157,7 +157,7 @@ stmt-returns-in-Call-clause-ops t c =
 
 pub stmt-returns-in-Call-clause-next : goal.stmt-returns-in-Call-clause-next
 stmt-returns-in-Call-clause-next t c =
-    let o = (scope_of c.args.context.spaces c.args.context.bases c.args.routines.now.list.now) in
+    let o = (scope_of c.args.context.spaces c.args.context.bases c.args.routines.now) in
     let p = c.args.p in
     let r = c.args.s.now.rate in
     let k = c.in-Call.opcode in
@@ -176,7 +176,7 @@ stmt-returns-in-Call-clause-next t c =
 -- what a routine does that is invoked with local variables of its own
 pub stmt-returns-in_ok-inner-in-Invoke-clause-ops : goal.stmt-returns-in_ok-inner-in-Invoke-clause-ops
 stmt-returns-in_ok-inner-in-Invoke-clause-ops t c =
-    let o = (scope_of c.args.context.spaces c.args.context.bases c.args.routines.now.list.now) in
+    let o = (scope_of c.args.context.spaces c.args.context.bases c.args.routines.now) in
     let old = c.args.ops.now in
     let n = c.in-Invoke.number in
     let base = c.in-Invoke.base in
@@ -184,7 +184,7 @@ stmt-returns-in_ok-inner-in-Invoke-clause-ops t c =
     search (rules, c.in-Invoke.is) in
     subst (λ y. OnOk c.invoke.result (c.invoke.new.ops ≡ y))
     (ap (λ (k : Context). old ++ pass_block_code k.pass (frame_of k.bases) (length old) c.args.p
-    (routine_in (scope_of k.spaces k.bases c.args.routines.now.list.now) n)) c.in_ok-inner-in-Invoke.ensures
+    (routine_in (scope_of k.spaces k.bases c.args.routines.now) n)) c.in_ok-inner-in-Invoke.ensures
     ∙ sym (ap (λ b. old ++ pass_block_code c.args.context.pass (frame_of c.args.context.bases) (length old) c.args.p
     (core o.spaces b)) (block_twice o.locals base (typed.routine_at o.routines n)))
     ∙ sym (ap (λ x. old ++ pass_block_code c.args.context.pass (frame_of c.args.context.bases) (length old) c.args.p
@@ -193,13 +193,13 @@ stmt-returns-in_ok-inner-in-Invoke-clause-ops t c =
 
 pub stmt-returns-in_ok-inner-in-Invoke-clause-next : goal.stmt-returns-in_ok-inner-in-Invoke-clause-next
 stmt-returns-in_ok-inner-in-Invoke-clause-next t c =
-    let o = (scope_of c.args.context.spaces c.args.context.bases c.args.routines.now.list.now) in
+    let o = (scope_of c.args.context.spaces c.args.context.bases c.args.routines.now) in
     let n = c.in-Invoke.number in
     let base = c.in-Invoke.base in
     let seen : typed.statement o.routines c.args.s.now ≡ typed.moved_block base (typed.routine_at o.routines n) =
     search (rules, c.in-Invoke.is) in
     subst (λ y. IfOk c.invoke.result (λ q. q ≡ y))
-    (ap (λ (k : Context). past_block c.args.p (routine_in (scope_of k.spaces k.bases c.args.routines.now.list.now) n))
+    (ap (λ (k : Context). past_block c.args.p (routine_in (scope_of k.spaces k.bases c.args.routines.now) n))
     c.in_ok-inner-in-Invoke.ensures
     ∙ sym (ap (λ b. past_block c.args.p (core o.spaces b)) (block_twice o.locals base (typed.routine_at o.routines n)))
     ∙ sym (ap (λ x. past_block c.args.p (core_in o x)) seen))
@@ -208,7 +208,7 @@ stmt-returns-in_ok-inner-in-Invoke-clause-next t c =
 pub each_arm-loop-a-preserved : goal.each_arm-loop-a-preserved
 each_arm-loop-a-preserved t c els =
     let was = c.loop-a.invariant els in
-    let o = (scope_of c.args.context.spaces c.args.context.bases c.args.routines.now.list.now) in
+    let o = (scope_of c.args.context.spaces c.args.context.bases c.args.routines.now) in
     let f = frame_of c.args.context.bases in
     let i = c.loop-a.a-index in
     let x = c.a-item.result in
@@ -231,19 +231,19 @@ each_arm-returns-clause-ops t c els =
     let ops = c.loop-a.ops in
     let none = drop_all c.loop-a.a-index c.args.arms.now (omega (arith, c.loop-a-test.false)) in
     sym (ap (λ xs. ops ++ all_code (frame_of c.args.context.bases) (length ops) c.loop-a.next
-    (arms_in (scope_of c.args.context.spaces c.args.context.bases c.args.routines.now.list.now) els xs)) none)
+    (arms_in (scope_of c.args.context.spaces c.args.context.bases c.args.routines.now) els xs)) none)
     ∙ (c.loop-a.invariant els).0
 
 pub each_arm-returns-clause-next : goal.each_arm-returns-clause-next
 each_arm-returns-clause-next t c els =
     let none = drop_all c.loop-a.a-index c.args.arms.now (omega (arith, c.loop-a-test.false)) in
     sym (ap (λ xs. past_arms c.loop-a.next
-    (arms_in (scope_of c.args.context.spaces c.args.context.bases c.args.routines.now.list.now) els xs)) none)
+    (arms_in (scope_of c.args.context.spaces c.args.context.bases c.args.routines.now) els xs)) none)
     ∙ (c.loop-a.invariant els).1
 
 pub one_arm-returns-clause-ops : goal.one_arm-returns-clause-ops
 one_arm-returns-clause-ops t c =
-    let o = (scope_of c.args.context.spaces c.args.context.bases c.args.routines.now.list.now) in
+    let o = (scope_of c.args.context.spaces c.args.context.bases c.args.routines.now) in
     let f = frame_of c.args.context.bases in
     let old = c.args.ops.now in
     let kept = c.condition.new.ops in
@@ -263,7 +263,7 @@ one_arm-returns-clause-ops t c =
 
 pub one_arm-returns-clause-next : goal.one_arm-returns-clause-next
 one_arm-returns-clause-next t c =
-    let o = (scope_of c.args.context.spaces c.args.context.bases c.args.routines.now.list.now) in
+    let o = (scope_of c.args.context.spaces c.args.context.bases c.args.routines.now) in
     let p = c.args.p in
     let body = body_of o c.args.arm.now in
     subst (λ y. IfOk c.block.result (λ q. q ≡ y))
@@ -274,7 +274,7 @@ one_arm-returns-clause-next t c =
 pub arms_of-loop-a-preserved : goal.arms_of-loop-a-preserved
 arms_of-loop-a-preserved t c =
     let was = c.loop-a.invariant in
-    let o = (scope_of c.args.context.spaces c.args.context.bases c.args.routines.now.list.now) in
+    let o = (scope_of c.args.context.spaces c.args.context.bases c.args.routines.now) in
     let f = frame_of c.args.context.bases in
     let way = c.args.context.pass in
     let i = c.loop-a.a-index in
@@ -298,7 +298,7 @@ arms_of-returns-clause-ops t c =
     sym (append-nil ops)
     ∙ sym (ap (λ xs. ops ++ opened (length ops)
     (branches c.args.context.pass (frame_of c.args.context.bases)
-    (scope_of c.args.context.spaces c.args.context.bases c.args.routines.now.list.now)
+    (scope_of c.args.context.spaces c.args.context.bases c.args.routines.now)
     (length ops) c.loop-a.next xs)) none)
     ∙ c.loop-a.invariant.0
 
@@ -310,14 +310,14 @@ arms_of-returns-clause-ends t c =
     sym (append-nil ends)
     ∙ sym (ap (λ xs. ends ++ jumps (length ops)
     (branches c.args.context.pass (frame_of c.args.context.bases)
-    (scope_of c.args.context.spaces c.args.context.bases c.args.routines.now.list.now)
+    (scope_of c.args.context.spaces c.args.context.bases c.args.routines.now)
     (length ops) c.loop-a.next xs)) none)
     ∙ c.loop-a.invariant.1
 
 pub arms_of-returns-clause-next : goal.arms_of-returns-clause-next
 arms_of-returns-clause-next t c =
     let none = drop_all c.loop-a.a-index c.args.arms.now (omega (arith, c.loop-a-test.false)) in
-    sym (ap (past_list (scope_of c.args.context.spaces c.args.context.bases c.args.routines.now.list.now)
+    sym (ap (past_list (scope_of c.args.context.spaces c.args.context.bases c.args.routines.now)
     c.loop-a.next) none) ∙ c.loop-a.invariant.2
 
 pub arm-returns-clause-ops : goal.arm-returns-clause-ops
@@ -325,7 +325,7 @@ arm-returns-clause-ops t c =
     let f = frame_of c.args.context.bases in
     let way = c.args.context.pass in
     let old = c.args.ops.now in
-    let b = branch_of way f (scope_of c.args.context.spaces c.args.context.bases c.args.routines.now.list.now)
+    let b = branch_of way f (scope_of c.args.context.spaces c.args.context.bases c.args.routines.now)
     (length old) c.args.p c.args.arm.now in
     let is = c.in_ok-spot.ensures in
     let first = c.condition.new.ops in
@@ -343,17 +343,17 @@ arm-returns-clause-ops t c =
     let over : c.len-past.result ≡ length c.push-3.new.ops = search (rules, c.len-past.ensures) in
     arm_made old first tested filled c.push-3.new.ops c.aim.new.self b.cond b.body b.q c.len-test.result
     c.len-past.result is.ops at test
-    (body_filled way f (scope_of c.args.context.spaces c.args.context.bases c.args.routines.now.list.now) old first
+    (body_filled way f (scope_of c.args.context.spaces c.args.context.bases c.args.routines.now) old first
     tested filled c.args.p c.args.arm.now _ c.in_ok-spot.spot.next
     c.deref.result.now is.ops c.in_ok-push.ensures c.in_ok-next.ensures.ops c.deref.ensures.value is.next)
-    jump over c.in_ok-aim.ensures
+    jump over c.aim.ensures
 
 pub arm-returns-clause-ends : goal.arm-returns-clause-ends
 arm-returns-clause-ends t c =
     let f = frame_of c.args.context.bases in
     let way = c.args.context.pass in
     let old = c.args.ops.now in
-    let b = branch_of way f (scope_of c.args.context.spaces c.args.context.bases c.args.routines.now.list.now)
+    let b = branch_of way f (scope_of c.args.context.spaces c.args.context.bases c.args.routines.now)
     (length old) c.args.p c.args.arm.now in
     let is = c.in_ok-spot.ensures in
     let first = c.condition.new.ops in
@@ -363,13 +363,13 @@ arm-returns-clause-ends t c =
     c.in_ok-push-2.ensures.items
     ∙ ap (λ n. c.args.ends.now.items ++ n ∷ [])
     (at ∙ jump_placed old tested filled b.cond b.body (body_made old first tested b.cond _ is.ops c.in_ok-push.ensures)
-    (body_filled way f (scope_of c.args.context.spaces c.args.context.bases c.args.routines.now.list.now) old first
+    (body_filled way f (scope_of c.args.context.spaces c.args.context.bases c.args.routines.now) old first
     tested filled c.args.p c.args.arm.now _ c.in_ok-spot.spot.next
     c.deref.result.now is.ops c.in_ok-push.ensures c.in_ok-next.ensures.ops c.deref.ensures.value is.next))
 
 pub arm-returns-clause-next : goal.arm-returns-clause-next
 arm-returns-clause-next t c =
-    let o = (scope_of c.args.context.spaces c.args.context.bases c.args.routines.now.list.now) in
+    let o = (scope_of c.args.context.spaces c.args.context.bases c.args.routines.now) in
     let p = c.args.p in
     c.in_ok-next.ensures.next
     ∙ ap (λ xs. past_block (past_parts c.in_ok-spot.spot.next p) (block_in o xs)) c.deref.ensures.value
@@ -379,7 +379,7 @@ arm-returns-clause-next t c =
 
 pub block-stmt-requires : goal.block-stmt-requires
 block-stmt-requires t c =
-    let R = routines_weight c.args.routines.now.list.now in
+    let R = routines_weight c.args.routines.now in
     let x = c.s-item.result in
     let start : R + (4 * all_weight c.args.stmts.now + 3) ≡ t = c.decreases in
     let part : one_weight x ≤ all_weight c.args.stmts.now =
@@ -388,7 +388,7 @@ block-stmt-requires t c =
 
 pub stmt-each_arm-requires : goal.stmt-each_arm-requires
 stmt-each_arm-requires t c =
-    let R = routines_weight c.args.routines.now.list.now in
+    let R = routines_weight c.args.routines.now in
     let arms = c.deref-then-takes_all.result.now in
     let start : R + (4 * one_weight c.args.s.now + 2) ≡ t = c.decreases in
     let seen : typed.statement [] c.args.s.now ≡ typed.alone (typed.choose c.args.s.now.line c.args.s.now.rate
@@ -405,7 +405,7 @@ stmt-each_arm-requires t c =
 
 pub stmt-arms_of-requires : goal.stmt-arms_of-requires
 stmt-arms_of-requires t c =
-    let R = routines_weight c.args.routines.now.list.now in
+    let R = routines_weight c.args.routines.now in
     let arms = c.deref-else-takes_all.result.now in
     let start : R + (4 * one_weight c.args.s.now + 2) ≡ t = c.decreases in
     let seen : typed.statement [] c.args.s.now ≡ typed.alone (typed.choose c.args.s.now.line c.args.s.now.rate
@@ -419,7 +419,7 @@ stmt-arms_of-requires t c =
 
 pub stmt-block-requires : goal.stmt-block-requires
 stmt-block-requires t c =
-    let R = routines_weight c.args.routines.now.list.now in
+    let R = routines_weight c.args.routines.now in
     let els = c.deref-then-takes_all-2.result.now in
     let start : R + (4 * one_weight c.args.s.now + 2) ≡ t = c.decreases in
     let seen : typed.statement [] c.args.s.now ≡ typed.alone (typed.choose c.args.s.now.line c.args.s.now.rate
@@ -433,7 +433,7 @@ stmt-block-requires t c =
 
 pub stmt-block-requires-else-takes_all : goal.stmt-block-requires-else-takes_all
 stmt-block-requires-else-takes_all t c =
-    let R = routines_weight c.args.routines.now.list.now in
+    let R = routines_weight c.args.routines.now in
     let els = c.deref-else-takes_all-2.result.now in
     let start : R + (4 * one_weight c.args.s.now + 2) ≡ t = c.decreases in
     let seen : typed.statement [] c.args.s.now ≡ typed.alone (typed.choose c.args.s.now.line c.args.s.now.rate
@@ -447,7 +447,7 @@ stmt-block-requires-else-takes_all t c =
 
 pub arms_of-arm-requires : goal.arms_of-arm-requires
 arms_of-arm-requires t c =
-    let R = routines_weight c.args.routines.now.list.now in
+    let R = routines_weight c.args.routines.now in
     let x = c.a-item.result in
     let start : R + (4 * list_weight c.args.arms.now + 1) ≡ t = c.decreases in
     let part : body_weight x < list_weight c.args.arms.now =
@@ -456,7 +456,7 @@ arms_of-arm-requires t c =
 
 pub each_arm-one_arm-requires : goal.each_arm-one_arm-requires
 each_arm-one_arm-requires t c =
-    let R = routines_weight c.args.routines.now.list.now in
+    let R = routines_weight c.args.routines.now in
     let x = c.a-item.result in
     let start : R + (4 * list_weight c.args.arms.now + 1) ≡ t = c.decreases in
     let part : body_weight x < list_weight c.args.arms.now =
@@ -465,21 +465,21 @@ each_arm-one_arm-requires t c =
 
 pub arm-block-requires : goal.arm-block-requires
 arm-block-requires t c =
-    let R = routines_weight c.args.routines.now.list.now in
+    let R = routines_weight c.args.routines.now in
     let start : R + (4 * body_weight c.args.arm.now + 4) ≡ t = c.decreases in
     let same : all_weight c.deref.result.now ≡ body_weight c.args.arm.now = ap all_weight c.deref.ensures.value in
     let less : R + (4 * all_weight c.deref.result.now + 3) < t = omega (arith, start, same) in (less, tt)
 
 pub one_arm-block-requires : goal.one_arm-block-requires
 one_arm-block-requires t c =
-    let R = routines_weight c.args.routines.now.list.now in
+    let R = routines_weight c.args.routines.now in
     let start : R + (4 * body_weight c.args.arm.now + 4) ≡ t = c.decreases in
     let same : all_weight c.deref.result.now ≡ body_weight c.args.arm.now = ap all_weight c.deref.ensures.value in
     let less : R + (4 * all_weight c.deref.result.now + 3) < t = omega (arith, start, same) in (less, tt)
 
-pub expand-block-requires : goal.expand-block-requires
-expand-block-requires t c =
-    let list = c.args.routines.now.list.now in
+pub invoke-block-requires : goal.invoke-block-requires
+invoke-block-requires t c =
+    let list = c.args.routines.now in
     let start : routines_weight list ≡ t = c.decreases in
     let at = routine_at_number list c.args.number c.in-Some.routine.now c.in-Some.ensures.lookup.0
     c.in-Some.ensures.lookup.1 in
@@ -487,40 +487,35 @@ expand-block-requires t c =
     ≤ routines_weight list = weight_falls list c.args.number c.in-Some.routine.now at in
     let same : all_weight c.deref.result.now ≡ all_weight c.in-Some.routine.now.items =
     ap all_weight c.deref.ensures.value in
-    let front : routines_weight c.before-in-Some.result.list.now ≡ routines_weight (take c.args.number list) =
-    ap routines_weight c.before-in-Some.ensures in
-    let less : routines_weight c.before-in-Some.result.list.now + (4 * all_weight c.deref.result.now + 3) < t =
-    omega (arith, start, falls, same, front) in (less, tt)
+    let less : routines_weight (take c.args.number list) + (4 * all_weight c.deref.result.now + 3) < t =
+    omega (arith, start, falls, same) in (less, tt)
 
 -- ---- what a routine does
 
-pub expand-returns-in-Some-clause-ops : goal.expand-returns-in-Some-clause-ops
-expand-returns-in-Some-clause-ops t c =
+pub invoke-returns-in-Some-clause-ops : goal.invoke-returns-in-Some-clause-ops
+invoke-returns-in-Some-clause-ops t c =
     let k = c.args.context in
-    let list = c.args.routines.now.list.now in
+    let list = c.args.routines.now in
     let n = c.args.number in
     let old = c.args.ops.now in
     let front = take n list in
     let at = routine_at_number list n c.in-Some.routine.now c.in-Some.ensures.lookup.0 c.in-Some.ensures.lookup.1 in
     subst (λ y. OnOk c.block.result (c.block.new.ops ≡ y))
-    (ap (λ l. old ++ pass_block_code k.pass (frame_of k.bases) (length old) c.args.p
-    (block_in (scope_of k.spaces k.bases l) c.deref.result.now)) c.before-in-Some.ensures
-    ∙ ap (λ xs. old ++ pass_block_code k.pass (frame_of k.bases) (length old) c.args.p
+    (ap (λ xs. old ++ pass_block_code k.pass (frame_of k.bases) (length old) c.args.p
     (block_in (scope_of k.spaces k.bases front) xs)) c.deref.ensures.value
     ∙ ap (λ b. old ++ pass_block_code k.pass (frame_of k.bases) (length old) c.args.p
     (core k.spaces (typed.moved_block k.bases.locals b))) (routine_found list n c.in-Some.routine.now at))
     c.block.ensures.ops
 
-pub expand-returns-in-Some-clause-next : goal.expand-returns-in-Some-clause-next
-expand-returns-in-Some-clause-next t c =
+pub invoke-returns-in-Some-clause-next : goal.invoke-returns-in-Some-clause-next
+invoke-returns-in-Some-clause-next t c =
     let k = c.args.context in
-    let list = c.args.routines.now.list.now in
+    let list = c.args.routines.now in
     let n = c.args.number in
     let front = take n list in
     let at = routine_at_number list n c.in-Some.routine.now c.in-Some.ensures.lookup.0 c.in-Some.ensures.lookup.1 in
     subst (λ y. IfOk c.block.result (λ q. q ≡ y))
-    (ap (λ l. past_block c.args.p (block_in (scope_of k.spaces k.bases l) c.deref.result.now)) c.before-in-Some.ensures
-    ∙ ap (λ xs. past_block c.args.p (block_in (scope_of k.spaces k.bases front) xs)) c.deref.ensures.value
+    (ap (λ xs. past_block c.args.p (block_in (scope_of k.spaces k.bases front) xs)) c.deref.ensures.value
     ∙ ap (λ b. past_block c.args.p (core k.spaces (typed.moved_block k.bases.locals b)))
     (routine_found list n c.in-Some.routine.now at))
     c.block.ensures.next

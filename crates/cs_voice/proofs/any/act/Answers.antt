@@ -2,7 +2,6 @@ use Rattle.std.proofs.Common.{◌≡◌, ◌∙◌, length, refl, subst, sym, tr
 use Rattle.std.specs.List.{list_all}
 use Rattle.cs_ir.specs.Validity.{has_register}
 use Rattle.cs_ir.specs.declared.op.Act.TheVariants as act
-use Rattle.cs_voice.proofs.Few.{few_taken}
 use Rattle.cs_voice.proofs.Fitting.{bare_from}
 use Rattle.cs_voice.proofs.Points.{unit_result}
 use Rattle.cs_voice.proofs.Readying.{does_op, does_op_plain, does_op_unit, fit_of, into_of, is_a_unit, number_of}
@@ -14,16 +13,6 @@ pub returns-in-Load-clause-does : goal.returns-in-Load-clause-does
 returns-in-Load-clause-does g c = does_op c.in-Load.is
     (bare_from c.args.op.now c.args.state.now (act.Load c.in-Load.res) (fit_of c.requires.ready.ready) c.in-Load.is
     refl) c.load.ensures.does
-
-pub as_slice-requires : goal.as_slice-requires
-as_slice-requires g c =
-    few_taken c.args.op.now.act c.args.op.now.into.rate c.args.op.now.from c.requires.here
-    (parts_of c.requires.ready.ready).takes
-
-pub as_slice-requires-in-Unit : goal.as_slice-requires-in-Unit
-as_slice-requires-in-Unit g c =
-    few_taken c.args.op.now.act c.args.op.now.into.rate c.args.op.now.from c.requires.here
-    (parts_of c.requires.ready.ready).takes
 
 pub returns-in-Save-clause-does : goal.returns-in-Save-clause-does
 returns-in-Save-clause-does g c = does_op c.in-Save.is (sym c.as_slice.ensures ∙ c.one.ensures)

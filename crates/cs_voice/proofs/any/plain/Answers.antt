@@ -1,14 +1,7 @@
 use Rattle.std.proofs.Common.{◌∙◌, [], ◌∷◌, refl, sym}
 use Rattle.cs_ir.specs.declared.op.Act.TheVariants as act
-use Rattle.cs_voice.proofs.Few.{few_plain}
-use Rattle.cs_voice.proofs.Fitting.{bare_from, does_anywhere, does_at, parts}
+use Rattle.cs_voice.proofs.Fitting.{bare_from, does_anywhere, does_at}
 use Rattle.cs_voice.proofs.any.plain.Goals as goal
-
-pub as_slice-from-requires : goal.as_slice-from-requires
-as_slice-from-requires c =
-    let fit = c.requires.fit in
-    few_plain c.args.op.now.act c.args.op.now.into.rate c.args.op.now.from c.requires.plain
-    (parts c.args.state.now.regs.counts fit.end fit.place c.args.op.now fit.fine).takes
 
 pub returns-in-Const : goal.returns-in-Const
 returns-in-Const c = does_anywhere c.args.at.now c.args.op.now.act (act.Const c.in-Const.value) c.args.op.now.into

@@ -1,14 +1,7 @@
 use Rattle.std.proofs.Common.{◌∙◌, ap, length, refl, sym}
-use Rattle.cs_ir.specs.declared.op.Act.TheVariants as act
-use Rattle.cs_voice.proofs.Few.{few_taken}
 use Rattle.cs_voice.proofs.Fitting.{first_there, second_there, third_there}
 use Rattle.cs_voice.proofs.Readying.{does_op, op_may_store, parts_of, room_of, store_long, takes_of}
 use Rattle.cs_voice.proofs.any.store.Goals as goal
-
-pub as_slice-requires : goal.as_slice-requires
-as_slice-requires g c =
-    few_taken (act.Store c.args.reach) c.args.op.now.into.rate c.args.op.now.from refl
-    (takes_of c.requires.ready.ready c.requires.act)
 
 pub three-requires : goal.three-requires
 three-requires g c = ap length c.as_slice.ensures

@@ -1,18 +1,11 @@
 use Rattle.std.proofs.Common.{◌∙◌, ap, length, refl, sym}
 use Rattle.cs_ir.specs.Units.{is_zak}
 use Rattle.cs_words.specs.declared.catalogue.Space.TheVariants as space
-use Rattle.cs_ir.specs.declared.op.Act.TheVariants as act
-use Rattle.cs_voice.proofs.Few.{few_taken}
 use Rattle.cs_voice.proofs.Fitting.{first_there, second_there}
 use Rattle.cs_voice.proofs.Places.{get_gives}
 use Rattle.cs_voice.proofs.Readying.{can_reach, does_op, into_of, is_a_zak, may_read, may_write, mix_sounds, not_zak}
 use Rattle.cs_voice.proofs.Readying.{parts_of, takes_of, zak_count, zak_long}
 use Rattle.cs_voice.proofs.any.zak.Goals as goal
-
-pub as_slice-from-requires : goal.as_slice-from-requires
-as_slice-from-requires g c =
-    few_taken (act.Zak c.args.opcode c.args.reach) c.args.op.now.into.rate c.args.op.now.from refl
-    (takes_of c.requires.ready.ready c.requires.act)
 
 pub one-requires : goal.one-requires
 one-requires g c = ap length c.as_slice-from.ensures

@@ -1,4 +1,6 @@
-use Rattle.std.proofs.Common.{◌<◌, ◌∙◌, subst, sym}
+use Rattle.std.proofs.Common.{◌<◌, ◌∙◌, ap, map, subst, sym}
+use Rattle.cs_ir.specs.Waves.{first_values}
+use Rattle.cs_machine.specs.Registers.{values}
 use Rattle.cs_voice.proofs.Passed.{all_played, asked_op, sought_op, start_takes, start_there, started_op}
 use Rattle.cs_voice.proofs.pass.BeginningStarter.start.Goals as goal
 
@@ -25,7 +27,8 @@ returns-in_ok-refused-in-Start-clause-does c s cells can =
     c.deref.result.now c.args.state.now c.begin.new.state
     cells c.args.self.now.asks.items c.in_ok-refused-in-Start.refused
     c.in-Start.is can.found can.playable can.fine can.state
-    (c.deref.ensures.value ∙ c.in_ok-gather-in-Start.ensures)
+    (c.deref.ensures.value ∙ c.in_ok-gather-in-Start.ensures
+    ∙ ap (λ xs. first_values (map (values c.args.state.now.regs) xs)) c.as_slice.ensures)
     c.in_ok-refused-in-Start.ensures
 
 pub returns-in_ok-gather-in-Seek-clause-does : goal.returns-in_ok-gather-in-Seek-clause-does
@@ -33,7 +36,8 @@ returns-in_ok-gather-in-Seek-clause-does c s cells can =
     sought_op c.args.self.now.finds c.args.self.now.made.now s c.args.op.now c.deref-in-Seek.result.now c.args.state.now
     cells c.args.self.now.asks.items c.seek-refused.result
     c.in-Seek.is can.found can.state
-    (c.deref-in-Seek.ensures.value ∙ c.in_ok-gather-in-Seek.ensures)
+    (c.deref-in-Seek.ensures.value ∙ c.in_ok-gather-in-Seek.ensures
+    ∙ ap (λ xs. first_values (map (values c.args.state.now.regs) xs)) c.as_slice-in-Seek.ensures)
     c.seek-refused.ensures
 
 pub returns-in_ok-ask-in-Ask-clause-does : goal.returns-in_ok-ask-in-Ask-clause-does
@@ -41,5 +45,6 @@ returns-in_ok-ask-in-Ask-clause-does c s cells can =
     asked_op s c.args.op.now c.deref-in-Ask.result.now c.args.state.now cells c.args.self.now.asks.items
     c.ask.new.asks.items
     c.in-Ask.is can.state
-    (c.deref-in-Ask.ensures.value ∙ c.in_ok-gather-in-Ask.ensures)
+    (c.deref-in-Ask.ensures.value ∙ c.in_ok-gather-in-Ask.ensures
+    ∙ ap (λ xs. first_values (map (values c.args.state.now.regs) xs)) c.as_slice-in-Ask.ensures)
     c.in_ok-ask-in-Ask.ensures
