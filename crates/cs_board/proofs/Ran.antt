@@ -1,19 +1,21 @@
 -- A note that a seat does, and the notes that seats finished.
-use Rattle.std.proofs.Common.{◌≡◌, ⊎_elim, sym, ap, ◌∙◌, arith}
-use Rattle.std.proofs.lemmas.Bool.{cases_eq}
+use Rattle.std.proofs.Common.{◌≡◌, ℕ, false, ⊎_elim, sym, subst, ap, ◌∙◌, arith}
+use Rattle.std.proofs.lemmas.Bool.{both_ways, cases_Bool, cases_eq}
 use Rattle.std.proofs.lemmas.List.{length-map}
 use Rattle.atomic_table.specs.Table.{State}
-use Rattle.cs_cells.specs.Meaning.{Meaning}
+use Rattle.cs_cells.specs.Meaning.{Meaning, Frames}
 use Rattle.cs_board.specs.Counts.{same}
-use Rattle.cs_board.specs.Laws.{DoneOnce, EarlierDone}
+use Rattle.cs_board.specs.Laws.{DoneOnce, EarlierDone, SeenBefore}
 use Rattle.cs_board.specs.Rule.{Holds}
 use Rattle.cs_board.specs.Words.{at}
 use Rattle.cs_board.specs.declared.view.Berth.{Berth}
 use Rattle.cs_board.specs.declared.view.Plan.{Plan}
 use Rattle.cs_board.specs.declared.view.View.{View}
 use Rattle.cs_board.proofs.Allowed.{status_is}
-use Rattle.cs_board.proofs.Conflicts.{past}
+use Rattle.cs_board.specs.Plans.{writes_at}
+use Rattle.cs_board.proofs.Conflicts.{alone_at, past, used_within}
 use Rattle.cs_board.proofs.Does.{busy, apart}
+use Rattle.cs_board.proofs.Stores.{used_before}
 
 module _ {J : Type 0} (M : Meaning J) (k : Plan J) (s : State (Berth J) (View J)) (h : Holds M k s) where
   pub done_once : DoneOnce k s
@@ -28,3 +30,17 @@ module _ {J : Type 0} (M : Meaning J) (k : Plan J) (s : State (Berth J) (View J)
       let running : at h.parts.status d.note ≡ 2 = busy k h.parts.status s.views h.facts.doers id v d e is in
       status_is M k s h p (omega (arith, c.earlier, c.within, length-map k.jobs M.foot, h.plan.jobs))
       ∙ past M k h.plan h.parts.status h.parts.watch h.facts.gates p d.note c (λ z. omega arith)
+
+  pub seen_before : Frames M → SeenBefore k s M
+  seen_before F id v d a is doing used other =
+      let running : at h.parts.status d.note ≡ 2 = busy k h.parts.status s.views h.facts.doers id v d is doing in
+      let within = used_within M k h.plan d.note a used in
+      sym ((h.facts.stored.images id v d is doing).seen a within.0 used)
+      ∙ used_before M F k h.plan h.parts.status h.parts.watch h.parts.cells h.facts.gates d.note a within.1
+      (λ z. omega (arith, running)) (λ z. omega (arith, running)) used
+      (λ u l e. ⊎_elim
+      (λ w. absurd (both_ways _ (subst (λ n. writes_at M k n a ≡ false)
+      (sym (alone_at M k h.plan h.parts.status h.parts.watch h.facts.gates u d.note a w used e running)) other) w))
+      (λ w. w)
+      (cases_Bool (writes_at M k u a)))
+      (h.facts.stored.values a within.0)

@@ -32,6 +32,27 @@ module _ {J : Type 0} (M : Meaning J) (F : Frames M) (k : Plan J) (plan : IsPlan
   quiet p t a low h = passed_by_all M F k.jobs k.cells plan.valid p a (t - p) t (omega arith)
       (λ q j l m e w. both_ways _ (h q l m) (writes_job q a j e w))
 
+  -- a note has begun and isn't Done: a cell that it uses and that no note InProgress writes is as before it in the serial
+  -- run
+  pub used_before : (st wt cw : List ℕ) → Gates k st wt → (t a : ℕ) → t < k.notes → at st t ≢ 0 → at st t ≢ 3
+      → uses_at M k t a ≡ true → ((u : ℕ) → u < k.notes → at st u ≡ 2 → writes_at M k u a ≡ false) → Kept M k st cw a
+      → signed (at cw a) ≡ cell (before_at M k t) a
+  used_before st wt cw g t a low begun open_ used quiet_now h = h.value quiet_now ∙ ⊎_elim
+      (λ (l : h.upto < t). sym (quiet h.upto t a (omega arith) (λ q x y. ⊎_elim
+      (λ z. absurd (h.later q x (omega arith) z
+      (past M k plan st wt g q t (writer_user_at M k plan q t a y z used) begun)))
+      (λ z. z)
+      (cases_Bool (writes_at M k q a)))))
+      (λ (l : t ≤ h.upto). quiet t h.upto a l (λ q x y. ⊎_elim
+      (λ z. absurd (let d : at st q ≡ 3 = h.done q y z in ⊎_elim
+      (λ (e : t ≡ q). open_ (ap (at st) e ∙ d))
+      (λ (n : t ≢ q). open_ (past M k plan st wt g t q (user_writer_at M k plan t q a (omega arith) used z)
+      (λ c. omega arith)))
+      (cases_eq t q)))
+      (λ z. z)
+      (cases_Bool (writes_at M k q a))))
+      (cases_lt h.upto t)
+
   module _ (st wt cw : List ℕ) (vs : List (View J)) (id : ℕ) (v w : View J) (here : get_elem? vs id ≡ some v)
       (g : Gates k st wt) where
     -- a step after which the same notes are Done, and no other is InProgress that wasn't
@@ -62,7 +83,7 @@ module _ {J : Type 0} (M : Meaning J) (F : Frames M) (k : Plan J) (plan : IsPlan
     pub pictured_fresh : (t : ℕ) → t < k.notes → at st t ≡ 1 → Stored M k st cw vs → Pictured M k cw (fresh M k t)
     pictured_fresh t low is s = record {
       long = length-before M F k.jobs k.cells t;
-      seen = λ a l u. seen a u (s.values a l);
+      seen = λ a l u. used_before st wt cw g t a low begun open_ u (none_running a u) (s.values a l);
       after = λ z. absurd (omega arith);
     }
       where
@@ -80,23 +101,6 @@ module _ {J : Type 0} (M : Meaning J) (F : Frames M) (k : Plan J) (plan : IsPlan
             let y : at st u ≡ at st t = ap (at st) z in omega arith))
             (λ x. x)
             (cases_Bool (writes_at M k u a))
-
-        seen : (a : ℕ) → uses_at M k t a ≡ true → Kept M k st cw a → signed (at cw a) ≡ cell (before_at M k t) a
-        seen a used h = h.value (none_running a used) ∙ ⊎_elim
-            (λ (l : h.upto < t). sym (quiet h.upto t a (omega arith) (λ q x y. ⊎_elim
-            (λ z. absurd (h.later q x (omega arith) z
-            (past M k plan st wt g q t (writer_user_at M k plan q t a y z used) begun)))
-            (λ z. z)
-            (cases_Bool (writes_at M k q a)))))
-            (λ (l : t ≤ h.upto). quiet t h.upto a l (λ q x y. ⊎_elim
-            (λ z. absurd (let d : at st q ≡ 3 = h.done q y z in ⊎_elim
-            (λ (e : t ≡ q). open_ (ap (at st) e ∙ d))
-            (λ (n : t ≢ q). open_ (past M k plan st wt g t q (user_writer_at M k plan t q a (omega arith) used z)
-            (λ c. omega arith)))
-            (cases_eq t q)))
-            (λ z. z)
-            (cases_Bool (writes_at M k q a))))
-            (cases_lt h.upto t)
 
     -- a cell is set by the note that writes it
     pub stored_set : (d : Doing) (a x : ℕ) → Doers k st vs → v.doing ≡ Some d → d.phase ≡ 0

@@ -1,14 +1,15 @@
 -- What follows from the rule for the notes that seats do, and for those that they finished. k is a plan, s the state of
--- the board; i and j are seats, v and w their views, d and e what they do, t is a note and p an earlier one.
-use Rattle.std.specs.Prelude.{◌≡◌, ℕ, ◌<◌, Some, slice_index}
+-- the board; i and j are seats, v and w their views, d and e what they do, t is a note and p an earlier one, a an address.
+use Rattle.std.specs.Prelude.{◌≡◌, ℕ, ◌<◌, Some, slice_index, true, false}
 use mathlib.Core.Option.{some}
 use lib.ListN.{get_elem?}
 use Rattle.atomic_table.specs.Table.{State}
+use Rattle.cs_cells.specs.Cells.{cell}
 use Rattle.cs_cells.specs.Meaning.{Meaning}
 use Rattle.cs_graph.specs.Conflict.{Conflict}
 use Rattle.cs_board.specs.Counts.{same, total}
 use Rattle.cs_board.specs.Facts.{has_done}
-use Rattle.cs_board.specs.Plans.{feet}
+use Rattle.cs_board.specs.Plans.{feet, uses_at, writes_at, before_at}
 use Rattle.cs_board.specs.Words.{status_at}
 use Rattle.cs_board.specs.declared.view.Berth.{Berth}
 use Rattle.cs_board.specs.declared.view.Doing.{Doing}
@@ -27,3 +28,9 @@ module _ {J : Type 0} (k : Plan J) (s : State (Berth J) (View J)) where
   abbrev pub EarlierDone : Meaning J → Type 0
   EarlierDone M = (id : ℕ) (v : View J) (d : Doing) (p : ℕ) → get_elem? s.views id ≡ some v → v.doing ≡ Some d
       → Conflict (feet M k) p d.note → slice_index s.words (status_at k p) ≡ DONE
+
+  -- While a seat does a note, a cell that the note uses and doesn't write has in the note's image what the serial run
+  -- has there before it.
+  abbrev pub SeenBefore : Meaning J → Type 0
+  SeenBefore M = (id : ℕ) (v : View J) (d : Doing) (a : ℕ) → get_elem? s.views id ≡ some v → v.doing ≡ Some d
+      → uses_at M k d.note a ≡ true → writes_at M k d.note a ≡ false → cell d.image a ≡ cell (before_at M k d.note) a

@@ -4,7 +4,7 @@ ghost use mathlib.Core.Option.{some};
 ghost use lib.ListN.{get_elem?};
 ghost use Rattle.atomic_table.specs.Table.{State};
 ghost use Rattle.cs_board.specs.Ending.{HasLast, IsLast, AllDone, AllMine, IsSerial};
-ghost use Rattle.cs_board.specs.Laws.{DoneOnce, EarlierDone};
+ghost use Rattle.cs_board.specs.Laws.{DoneOnce, EarlierDone, SeenBefore};
 ghost use Rattle.cs_board.specs.Rule.{Holds};
 
 use crate::view::{Berth, Plan, View};
@@ -14,6 +14,8 @@ use cs_cells::Job;
 pub fn rule_laws<J: Job>()
     ensures earlier_done { (k : Plan J) (s : State (Berth J) (View J)) → Holds J.means k s
         → EarlierDone k s J.means }
+    ensures seen_before { (k : Plan J) (s : State (Berth J) (View J)) → Holds J.means k s
+        → SeenBefore k s J.means }
     ensures done_once { (k : Plan J) (s : State (Berth J) (View J)) → Holds J.means k s
         → DoneOnce k s }
     ensures nothing_lost { (k : Plan J) (s : State (Berth J) (View J)) → Holds J.means k s

@@ -99,6 +99,7 @@ pub score_refused_for : (head : Head) (text : Excerpt) (r : Refusal) → IsRefus
 score_refused_for head text (why.Score fault) read = score_refused head text fault read
 score_refused_for head text (why.Limit hit) passes = score_passes head text hit passes
 score_refused_for head text (why.Orc fault) never = absurd never
+score_refused_for head text (why.Csd fault) never = absurd never
 
 -- BOTH TEXTS
 

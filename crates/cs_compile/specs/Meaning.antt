@@ -38,6 +38,7 @@ IsRead IsValue IsFault (Ok a) = IsValue a
 IsRead IsValue IsFault (Err (why.Orc f)) = IsFault f.line f.kind
 IsRead IsValue IsFault (Err (why.Score f)) = ⊥
 IsRead IsValue IsFault (Err (why.Limit hit)) = ⊥
+IsRead IsValue IsFault (Err (why.Csd f)) = ⊥
 
 -- an answer whose faults are refusals of this kind
 abbrev pub refused_as : {A F : Type 0} → (F → Refusal) → Result A F → Result A Refusal

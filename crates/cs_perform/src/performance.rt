@@ -56,6 +56,26 @@ pub fn perform<K: Sink, C: Counter, R: Threads + Wait + Sync, G: Gate + Sync>(
     play_by_crew(performance, crew, wav, taps, tally)
 }
 
+/// Performs a piece as `perform` does, by a crew that was asked to stay for the whole performance. Each crew stays, so
+/// the two differ in name alone.
+pub fn perform_pool<K: Sink, C: Counter, R: Threads + Wait + Sync, G: Gate + Sync>(
+    performance: &Performance<'_>,
+    crew: &Crew<'_, R, G>,
+    wav: &mut K,
+    taps: &mut Vec<Box<dyn Tap>>,
+    tally: &mut C,
+) -> Result<Outcome, PlayFault>
+    requires room { 2 ^ 42 ≤ C.room tally.old }
+    requires bytes { let s = performance.now.setup.now in
+        s.plot.cycles * s.orchestra.head.ksmps * s.orchestra.head.nchnls
+        * bytes_of performance.now.order.width ≤ most_wav_bytes }
+    ensures { PerformsPiece (lent_sight (λ t h. stands_for t h) K.tells C.has_counted)
+        (request_of performance.now) (lent wav.old taps.old.items tally.old) (lent wav.new taps.new.items tally.new)
+        result }
+{
+    perform(performance, crew, wav, taps, tally)
+}
+
 /// Performs a piece as `perform` does, by the caller alone: no thread is started and nobody is waited for, so it
 /// returns. `gate` is called before each note.
 pub fn perform_alone<K: Sink, C: Counter, G: Gate>(

@@ -16,8 +16,7 @@ use Rattle.cs_source.specs.Loaded.{CannotRead, SourceMeans}
 use Rattle.cs_source.specs.Meaning.{Mean}
 use Rattle.cs_source.specs.Texts.{LackWhereTold, Texts}
 use Rattle.cs_base.specs.declared.refusal.Refusal.TheVariants as why
-use Rattle.cs_csd.specs.declared.refused.Refused.{Refused}
-use Rattle.cs_csd.specs.declared.refused.Refused.TheVariants as refused
+use Rattle.cs_base.specs.declared.refusal.Refusal.{Refusal}
 use Rattle.cs_play.proofs.Meanings.{NoneLacking, OneMeaning, OnePair, known_unread, refused_composition, same_refusal}
 use Rattle.cs_play.proofs.Meanings.{source_lacks, source_means}
 
@@ -40,7 +39,7 @@ pub data EndedBy {F K T B C : Type 0} (see : Sight F K T B C) (words : List Text
       → (s ≡ status.Ok) ⊎ (Rose (see.wav before.wav).faults (see.wav now.wav).faults
       ⊎ Rose (see.talk before.talk).faults (see.talk now.talk).faults)
       → EndedBy see words before now s
-  by_refusal : (r : Refused) → s ≡ refusal r → Reads words (λ a. HasLoaded see a before now (Err r))
+  by_refusal : (r : Refusal) → s ≡ refusal r → Reads words (λ a. HasLoaded see a before now (Err r))
       → EndedBy see words before now s
   by_name : (name : List ℕ) → s ≡ status.ShelfFault
       → Reads words (λ a. CannotRead (see.shelf before.shelf) (see.shelf now.shelf) a.piece name)
@@ -59,10 +58,10 @@ module _ {F K T B C : Type 0} (see : Sight F K T B C) (words : List Text) (befor
   ended_by status.OutOfMemory h = by_memory refl
   ended_by status.ShelfFault h = by_name h.unprepared.name refl h.unprepared.cause
   ended_by status.Usage h = by_words refl h.unprepared.cause.0
-  ended_by (status.OrcRefused f) h = by_refusal (refused.Texts (why.Orc f)) refl h.unprepared.cause
-  ended_by (status.ScoreRefused f) h = by_refusal (refused.Texts (why.Score f)) refl h.unprepared.cause
-  ended_by (status.Limit l) h = by_refusal (refused.Texts (why.Limit l)) refl h.unprepared.cause
-  ended_by (status.CsdRefused f) h = by_refusal (refused.Csd f) refl h.unprepared.cause
+  ended_by (status.OrcRefused f) h = by_refusal (why.Orc f) refl h.unprepared.cause
+  ended_by (status.ScoreRefused f) h = by_refusal (why.Score f) refl h.unprepared.cause
+  ended_by (status.Limit l) h = by_refusal (why.Limit l) refl h.unprepared.cause
+  ended_by (status.CsdRefused f) h = by_refusal (why.Csd f) refl h.unprepared.cause
 
   -- WORDS that ask for nothing
   asks_nothing : reading words ≡ None → (P : Asked → Type 0) → Reads words P → ⊥
@@ -78,7 +77,7 @@ module _ {F K T B C : Type 0} (see : Sight F K T B C) (words : List Text) (befor
 
   -- WORDS that ask for this
   module _ (asked : Asked) (e : reading words ≡ Some asked) where
-    pub loaded : (r : Result Composition Refused) → Reads words (λ a. HasLoaded see a before now r)
+    pub loaded : (r : Result Composition Refusal) → Reads words (λ a. HasLoaded see a before now r)
         → SourceMeans (see.shelf before.shelf) asked.width asked.piece r
     loaded r h = (the_asked words (λ a. HasLoaded see a before now r) asked e h).means
 
@@ -104,7 +103,7 @@ module _ {F K T B C : Type 0} (see : Sight F K T B C) (words : List Text) (befor
     module _ (meaning : OneMeaning) (pair : OnePair) (none : NoneLacking) (t : Texts)
         (known : AreTexts (see.shelf before.shelf).files asked.piece t)
         (calm : ¬ (Rose (see.shelf before.shelf).faults (see.shelf now.shelf).faults)) where
-      same : (r q : Result Composition Refused) → Mean asked.width t r → Reads words (λ a. HasLoaded see a before now q)
+      same : (r q : Result Composition Refusal) → Mean asked.width t r → Reads words (λ a. HasLoaded see a before now q)
           → r ≡ q
       same r q mean h = source_means meaning pair (see.shelf before.shelf) asked.width asked.piece t r q known mean
           (loaded q h)
@@ -114,7 +113,7 @@ module _ {F K T B C : Type 0} (see : Sight F K T B C) (words : List Text) (befor
       is_read name h = calm (known_unread none (see.shelf before.shelf) (see.shelf now.shelf) asked.piece t name known
           (unread name h))
 
-      refusal_ends : (s : Status) (r : Refused) → Mean asked.width t (Err r) → Ended s
+      refusal_ends : (s : Status) (r : Refusal) → Mean asked.width t (Err r) → Ended s
           → (s ≡ refusal r) ⊎ (s ≡ status.OutOfMemory)
       refusal_ends s r mean (by_sound c h is) = absurd (refused_composition c r (sym (same (Err r) (Ok c) mean h)))
       refusal_ends s r mean (by_refusal q is h) =
@@ -151,7 +150,7 @@ module _ {F K T B C : Type 0} (see : Sight F K T B C) where
 
   pub refusals : OneMeaning → OnePair → NoneLacking
       → (words : List Text) (s : Status) (before now : Scene F K T B C) (asked : Asked) (t : Texts)
-      (r : Refused)
+      (r : Refusal)
       → IsProgramRun see words s before now → reading words ≡ Some asked
       → AreTexts (see.shelf before.shelf).files asked.piece t
       → Mean asked.width t (Err r) → ¬ (Rose (see.shelf before.shelf).faults (see.shelf now.shelf).faults)

@@ -10,11 +10,11 @@ use Rattle.cs_source.specs.Loaded.{CannotRead, SourceMeans}
 use Rattle.cs_source.specs.Meaning.{Mean}
 use Rattle.cs_source.specs.Texts.{Texts, both, csd, demo_notes, Fit, Have, HaveWhereTold, Lack, LackWhereTold}
 use Rattle.cs_base.specs.declared.width.SampleWidth.{SampleWidth}
-use Rattle.cs_csd.specs.declared.refused.Refused.{Refused}
+use Rattle.cs_base.specs.declared.refusal.Refusal.{Refusal}
 
 -- texts have one meaning; files have one pair of texts; and what files lack they don't have
 abbrev pub OneMeaning : Type 0
-OneMeaning = (width : SampleWidth) (t : Texts) (r s : Result Composition Refused) → Mean width t r → Mean width t s
+OneMeaning = (width : SampleWidth) (t : Texts) (r s : Result Composition Refusal) → Mean width t r → Mean width t s
     → r ≡ s
 
 abbrev pub OnePair : Type 0
@@ -41,14 +41,14 @@ same_texts one (Some files) (one_file name) t u known fit have = one files (one_
 
 -- so they mean what the source means
 pub known_means : OnePair
-    → (told : ShelfTold) (width : SampleWidth) (piece : AskedPiece) (t : Texts) (r : Result Composition Refused)
+    → (told : ShelfTold) (width : SampleWidth) (piece : AskedPiece) (t : Texts) (r : Result Composition Refusal)
     → AreTexts told.files piece t → SourceMeans told width piece r → Mean width t r
 known_means pair told width piece t r known source =
     let P : Texts → Type 0 = λ u. Mean width u r in
     subst P (sym (same_texts pair told.files piece t source.texts known source.fit source.have)) source.mean
 
 pub source_means : OneMeaning → OnePair
-    → (told : ShelfTold) (width : SampleWidth) (piece : AskedPiece) (t : Texts) (r s : Result Composition Refused)
+    → (told : ShelfTold) (width : SampleWidth) (piece : AskedPiece) (t : Texts) (r s : Result Composition Refusal)
     → AreTexts told.files piece t → Mean width t r → SourceMeans told width piece s → r ≡ s
 source_means meaning pair told width piece t r s known mean source =
     meaning width t r s mean (known_means pair told width piece t s known source)
@@ -77,7 +77,7 @@ have_lack none (Some files) piece t name have lack = none files piece t name lac
 
 -- texts of a source aren't lacking
 pub source_lacks : NoneLacking
-    → (told : ShelfTold) (width : SampleWidth) (piece : AskedPiece) (r : Result Composition Refused) (name : List ℕ)
+    → (told : ShelfTold) (width : SampleWidth) (piece : AskedPiece) (r : Result Composition Refusal) (name : List ℕ)
     → SourceMeans told width piece r → LackWhereTold told.files piece name → ⊥
 source_lacks none told width piece r name source lack =
     have_lack none told.files piece source.texts name source.have lack
@@ -93,7 +93,7 @@ alike_texts one a b (one_file name) t u told fit fit' have have' =
     one told.0 (one_file name) t u (rw told.1 at have) (rw told.2 at have')
 
 pub alike_means : OneMeaning → OnePair
-    → (told told' : ShelfTold) (width : SampleWidth) (piece : AskedPiece) (r s : Result Composition Refused)
+    → (told told' : ShelfTold) (width : SampleWidth) (piece : AskedPiece) (r s : Result Composition Refusal)
     → TellAlike piece told.files told'.files → SourceMeans told width piece r → SourceMeans told' width piece s → r ≡ s
 alike_means meaning pair told told' width piece r s alike source source' =
     let P : Texts → Type 0 = λ u. Mean width u r in
@@ -103,11 +103,11 @@ alike_means meaning pair told told' width piece r s alike source source' =
     source'.mean
 
 -- answers that are the same have the same value
-pub same_refusal : (r s : Refused) → (let a : Result Composition Refused = Err r in a) ≡ Err s → r ≡ s
+pub same_refusal : (r s : Refusal) → (let a : Result Composition Refusal = Err r in a) ≡ Err s → r ≡ s
 same_refusal r s e = cc
 
-pub same_composition : (c d : Composition) → (let a : Result Composition Refused = Ok c in a) ≡ Ok d → c ≡ d
+pub same_composition : (c d : Composition) → (let a : Result Composition Refusal = Ok c in a) ≡ Ok d → c ≡ d
 same_composition c d e = cc
 
-pub refused_composition : (c : Composition) (r : Refused) → (let a : Result Composition Refused = Ok c in a) ≡ Err r → ⊥
+pub refused_composition : (c : Composition) (r : Refusal) → (let a : Result Composition Refusal = Ok c in a) ≡ Err r → ⊥
 refused_composition c r e = cc

@@ -1,8 +1,7 @@
 -- How a piece comes to be prepared, or not: one lemma for each way out.
 use Rattle.std.proofs.Common.{◌≡◌, ℕ, List, [], Some, None, Ok, Err, refl, ap, sym, subst, ◌∙◌}
 use Rattle.cs_base.specs.declared.refusal.Refusal.TheVariants as why
-use Rattle.cs_csd.specs.declared.refused.Refused.{Refused}
-use Rattle.cs_csd.specs.declared.refused.Refused.TheVariants as refused
+use Rattle.cs_base.specs.declared.refusal.Refusal.{Refusal}
 use Rattle.cs_edge.specs.Files.{ShelfTold}
 use Rattle.cs_edge.specs.Moves.{SinkTold}
 use Rattle.cs_piece.specs.Setups.{composition_of}
@@ -12,14 +11,14 @@ use Rattle.cs_command.specs.declared.reading.Unread.{Unread}
 use Rattle.cs_command.specs.declared.reading.Unread.TheVariants as unasked
 use Rattle.cs_play.specs.Preparing.{HasNoPiece, IsPrepared, IsRefused, IsUnprepared}
 use Rattle.cs_play.specs.declared.preparing.Prepared.{Prepared}
-use Rattle.cs_play.specs.inner.Stopping.{HasStopped, name_in, stop_status, unread_status}
+use Rattle.cs_play.specs.inner.Faulted.{IsNotLoaded, name_in, load_status, unread_status}
 use Rattle.cs_report.specs.Status.{refusal}
 use Rattle.cs_report.specs.Talk.{Says, message_of}
 use Rattle.cs_report.specs.declared.status.Status.{Status}
 use Rattle.cs_report.specs.declared.status.Status.TheVariants as status
 use Rattle.cs_source.specs.Loaded.{CannotRead, IsLoaded}
-use Rattle.cs_source.specs.declared.loading.Stop.{Stop}
-use Rattle.cs_source.specs.declared.loading.Stop.TheVariants as stop
+use Rattle.cs_source.specs.declared.loading.LoadFault.{LoadFault}
+use Rattle.cs_source.specs.declared.loading.LoadFault.TheVariants as unloaded
 
 module _ {F : Type 0} (tells : F → ShelfTold) (words : List Text) (before now : F) where
   -- a piece of an order that the words ask for
@@ -49,30 +48,30 @@ module _ {F : Type 0} (tells : F → ShelfTold) (words : List Text) (before now 
     by_unread unasked.OutOfMemory r e none same says = ends_as r status.OutOfMemory [] e tt says
 
     -- a refusal is the cause of its status
-    by_refusal : (r : Refused) (name : List ℕ) → IsRefused tells r words before now
+    by_refusal : (r : Refusal) (name : List ℕ) → IsRefused tells r words before now
         → HasNoPiece tells (refusal r) name words before now
-    by_refusal (refused.Csd f) name is = is
-    by_refusal (refused.Texts (why.Orc f)) name is = is
-    by_refusal (refused.Texts (why.Score f)) name is = is
-    by_refusal (refused.Texts (why.Limit h)) name is = is
+    by_refusal (why.Csd f) name is = is
+    by_refusal (why.Orc f) name is = is
+    by_refusal (why.Score f) name is = is
+    by_refusal (why.Limit h) name is = is
 
     -- a source that isn't read, or is refused
     module _ (asked : Asked) (e : reading words ≡ Some asked) where
-      by_cause : (s : Stop)
-          → ((r : Refused) → s ≡ stop.Refused r → IsLoaded (tells before) (tells now) asked.width asked.piece (Err r))
-          → ((name : _) → s ≡ stop.Unread name → CannotRead (tells before) (tells now) asked.piece name.now)
-          → HasNoPiece tells (stop_status s) (name_in s) words before now
-      by_cause (stop.Unread name) means unread = (asked, e, unread name refl)
-      by_cause (stop.Refused r) means unread = by_refusal r [] (asked, e, means r refl)
-      by_cause stop.OutOfMemory means unread = tt
+      by_cause : (s : LoadFault)
+          → ((r : Refusal) → s ≡ unloaded.Refused r → IsLoaded (tells before) (tells now) asked.width asked.piece (Err r))
+          → ((name : _) → s ≡ unloaded.Unread name → CannotRead (tells before) (tells now) asked.piece name.now)
+          → HasNoPiece tells (load_status s) (name_in s) words before now
+      by_cause (unloaded.Unread name) means unread = (asked, e, unread name refl)
+      by_cause (unloaded.Refused r) means unread = by_refusal r [] (asked, e, means r refl)
+      by_cause unloaded.OutOfMemory means unread = tt
 
-      pub by_stop : (s : Stop) (r : Status) → HasStopped s r talk talk'
-          → ((q : Refused) → s ≡ stop.Refused q → IsLoaded (tells before) (tells now) asked.width asked.piece (Err q))
-          → ((name : _) → s ≡ stop.Unread name → CannotRead (tells before) (tells now) asked.piece name.now)
+      pub by_stop : (s : LoadFault) (r : Status) → IsNotLoaded s r talk talk'
+          → ((q : Refusal) → s ≡ unloaded.Refused q → IsLoaded (tells before) (tells now) asked.width asked.piece (Err q))
+          → ((name : _) → s ≡ unloaded.Unread name → CannotRead (tells before) (tells now) asked.piece name.now)
           → IsUnprepared tells r words before now talk talk'
       by_stop s r h means unread =
           let P : Status → Type 0 = λ x. Says talk talk' (message_of x (name_in s)) in
-          ends_as r (stop_status s) (name_in s) h.status_is (by_cause s means unread) (subst P (sym h.status_is) h.line)
+          ends_as r (load_status s) (name_in s) h.status_is (by_cause s means unread) (subst P (sym h.status_is) h.line)
 
 -- words that aren't read: the shelf had no call
 pub unasked_ends : {F : Type 0} (tells : F → ShelfTold) (words : List Text) (shelf : F) (talk talk' : SinkTold)

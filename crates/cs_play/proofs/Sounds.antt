@@ -3,7 +3,7 @@ use Rattle.std.proofs.Common.{◌≡◌, ◌⊎◌, ◌≤◌, ℕ, Bool, true, 
 use Rattle.std.proofs.Common.{sym, subst, ◌∙◌, ⊎_elim, inl, inr}
 use Rattle.cs_base.specs.declared.head.Head.{Head}
 use Rattle.cs_base.specs.declared.width.SampleWidth.{SampleWidth}
-use Rattle.cs_csd.specs.declared.refused.Refused.{Refused}
+use Rattle.cs_base.specs.declared.refusal.Refusal.{Refusal}
 use Rattle.cs_edge.specs.Moves.{Finished, Held, HoldsFront, SinkTold, Stopped, Wrote, ended_file, open_file}
 use Rattle.cs_edge.specs.Told.{Follows, IsFront}
 use Rattle.cs_perform.specs.Hearing.{IfWritten}
@@ -34,18 +34,18 @@ use Rattle.cs_play.proofs.TwoRuns.{same_wav, written_is}
 -- ONE SOUND OR ONE REFUSAL
 
 abbrev pub SomeMeaning : Type 0
-SomeMeaning = (width : SampleWidth) (t : Texts) → (r : Result Composition Refused) × Mean width t r
+SomeMeaning = (width : SampleWidth) (t : Texts) → (r : Result Composition Refusal) × Mean width t r
 
 abbrev pub HaveHeads : Type 0
 HaveHeads = (width : SampleWidth) (t : Texts) (c : Composition) → Mean width t (Ok c)
     → (head : Head) × (header_of_head head ≡ c.head)
 
 pub sound_or_refusal : SomeMeaning → HaveHeads → (t : Texts) (width : SampleWidth)
-    → ((bytes : List ℕ) × IsSoundOf t width bytes) ⊎ ((r : Refused) × Mean width t (Err r))
+    → ((bytes : List ℕ) × IsSoundOf t width bytes) ⊎ ((r : Refusal) × Mean width t (Err r))
 sound_or_refusal some heads t width = let m = some width t in by m.0 m.1
   where
-    by : (r : Result Composition Refused) → Mean width t r
-        → ((bytes : List ℕ) × IsSoundOf t width bytes) ⊎ ((q : Refused) × Mean width t (Err q))
+    by : (r : Result Composition Refusal) → Mean width t r
+        → ((bytes : List ℕ) × IsSoundOf t width bytes) ⊎ ((q : Refusal) × Mean width t (Err q))
     by (Ok c) h =
         let head = heads width t c h in
         inl (wav_of (frames_of c) head.0 width, record { c = c; means = h; head = head.0; head_is = head.1; is = refl })
@@ -64,11 +64,11 @@ one_sound one t width a b x y =
     x.is ∙ (same_sound x.c y.c x.head y.head width
     (same_composition x.c y.c (one width t (Ok x.c) (Ok y.c) x.means y.means)) x.head_is y.head_is ∙ sym y.is)
 
-pub one_refusal : OneMeaning → (t : Texts) (width : SampleWidth) (r s : Refused) → Mean width t (Err r)
+pub one_refusal : OneMeaning → (t : Texts) (width : SampleWidth) (r s : Refusal) → Mean width t (Err r)
     → Mean width t (Err s) → r ≡ s
 one_refusal one t width r s h k = same_refusal r s (one width t (Err r) (Err s) h k)
 
-pub never_both : OneMeaning → (t : Texts) (width : SampleWidth) (bytes : List ℕ) (r : Refused) → IsSoundOf t width bytes
+pub never_both : OneMeaning → (t : Texts) (width : SampleWidth) (bytes : List ℕ) (r : Refusal) → IsSoundOf t width bytes
     → Mean width t (Err r) → ⊥
 never_both one t width bytes r x h = refused_composition x.c r (one width t (Ok x.c) (Err r) x.means h)
 

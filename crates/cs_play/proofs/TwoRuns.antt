@@ -23,7 +23,7 @@ use Rattle.cs_report.specs.declared.status.Status.TheVariants as status
 use Rattle.cs_arguments.specs.Reading.{Asked, AskedPiece, Text, demo, one_file, reading, two_files}
 use Rattle.cs_source.specs.Loaded.{CannotRead, SourceMeans}
 use Rattle.cs_source.specs.Texts.{LackWhereTold}
-use Rattle.cs_csd.specs.declared.refused.Refused.{Refused}
+use Rattle.cs_base.specs.declared.refusal.Refusal.{Refusal}
 use Rattle.cs_typed.specs.Places.{Header}
 use Rattle.cs_typed.specs.TypedTree.{header_of_head}
 use Rattle.cs_wav.specs.Wav.{header_bytes, wav_of}
@@ -73,7 +73,7 @@ same_wav frames width a b e =
     (ap (λ (h : Header). h.dbfs) e)
 
 -- what a source means, asked for alike
-means_as : (told : ShelfTold) (a b : Asked) (r : Result Composition Refused) → AskAlike a b
+means_as : (told : ShelfTold) (a b : Asked) (r : Result Composition Refusal) → AskAlike a b
     → SourceMeans told b.width b.piece r
     → SourceMeans told a.width a.piece r
 means_as told a b r alike means =
@@ -151,7 +151,7 @@ module _ {F K T B C F' K' T' B' C' : Type 0} (see : Sight F K T B C) (see' : Sig
 -- How a run ended in which nothing failed and memory sufficed: by the sound, by a refusal or by a lacking name.
 pub data EndedFor (told : ShelfTold) (asked : Asked) (s : Status) : Type 0 where
   sounding : (c : Composition) → s ≡ status.Ok → SourceMeans told asked.width asked.piece (Ok c) → EndedFor told asked s
-  refusing : (r : Refused) → s ≡ refusal r → SourceMeans told asked.width asked.piece (Err r) → EndedFor told asked s
+  refusing : (r : Refusal) → s ≡ refusal r → SourceMeans told asked.width asked.piece (Err r) → EndedFor told asked s
   missing : (name : List ℕ) → s ≡ status.ShelfFault → LackWhereTold told.files asked.piece name → EndedFor told asked s
 
 module _ {F K T B C : Type 0} (see : Sight F K T B C) (words : List Text) (asked : Asked) (before now : Scene F K T B C)
@@ -189,22 +189,22 @@ lack_here (one_file csd) a b name told lack = rw told.2 (rw told.1 at lack)
 
 module _ (m : OneMeaning) (p : OnePair) (none : NoneLacking) (told told' : ShelfTold) (asked : Asked)
     (both_tell : TellAlike asked.piece told.files told'.files) where
-  no_sound : (c : Composition) (r : Refused) → SourceMeans told asked.width asked.piece (Ok c)
+  no_sound : (c : Composition) (r : Refusal) → SourceMeans told asked.width asked.piece (Ok c)
       → SourceMeans told' asked.width asked.piece (Err r) → ⊥
   no_sound c r h k = refused_composition c r
       (alike_means m p told told' asked.width asked.piece (Ok c) (Err r) both_tell h k)
 
-  no_refusal : (r : Refused) (c : Composition) → SourceMeans told asked.width asked.piece (Err r)
+  no_refusal : (r : Refusal) (c : Composition) → SourceMeans told asked.width asked.piece (Err r)
       → SourceMeans told' asked.width asked.piece (Ok c) → ⊥
   no_refusal r c h k = refused_composition c r
       (sym (alike_means m p told told' asked.width asked.piece (Err r) (Ok c) both_tell h k))
 
-  no_lack : (r : Result Composition Refused) (name : List ℕ) → SourceMeans told asked.width asked.piece r
+  no_lack : (r : Result Composition Refusal) (name : List ℕ) → SourceMeans told asked.width asked.piece r
       → LackWhereTold told'.files asked.piece name → ⊥
   no_lack r name h k = source_lacks none told asked.width asked.piece r name h
       (lack_there asked.piece told.files told'.files name both_tell k)
 
-  no_meaning : (r : Result Composition Refused) (name : List ℕ) → LackWhereTold told.files asked.piece name
+  no_meaning : (r : Result Composition Refusal) (name : List ℕ) → LackWhereTold told.files asked.piece name
       → SourceMeans told' asked.width asked.piece r → ⊥
   no_meaning r name h k = source_lacks none told' asked.width asked.piece r name k
       (lack_here asked.piece told.files told'.files name both_tell h)

@@ -19,7 +19,7 @@ use Rattle.cs_report.specs.declared.status.Status.{Status}
 use Rattle.cs_report.specs.declared.status.Status.TheVariants as status
 use Rattle.cs_arguments.specs.Reading.{Asked, Text}
 use Rattle.cs_source.specs.Loaded.{IsLoaded}
-use Rattle.cs_csd.specs.declared.refused.Refused.{Refused}
+use Rattle.cs_base.specs.declared.refusal.Refusal.{Refusal}
 use Rattle.cs_typed.specs.TypedTree.{header_of_head}
 
 -- the sound file is written, unless silence is asked for
@@ -54,7 +54,7 @@ module _ {F K T B C : Type 0} (see : Sight F K T B C) where
     pub tally : now.tally ≡ before.tally
 
   -- the source of the piece was read and means this
-  abbrev pub HasLoaded : Asked → Scene F K T B C → Scene F K T B C → Result Composition Refused → Type 0
+  abbrev pub HasLoaded : Asked → Scene F K T B C → Scene F K T B C → Result Composition Refusal → Type 0
   HasLoaded asked before now r = IsLoaded (see.shelf before.shelf) (see.shelf now.shelf) asked.width asked.piece r
 
   -- A composition was performed whole: each meter was told all its frames, each of its cycles was counted by the

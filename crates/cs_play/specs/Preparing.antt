@@ -4,8 +4,7 @@ use Rattle.cs_base.specs.declared.refusal.Refusal.TheVariants as why
 use Rattle.cs_edge.specs.Files.{ShelfTold}
 use Rattle.cs_edge.specs.Moves.{SinkTold}
 use Rattle.cs_piece.specs.Setups.{composition_of}
-use Rattle.cs_csd.specs.declared.refused.Refused.{Refused}
-use Rattle.cs_csd.specs.declared.refused.Refused.TheVariants as refused
+use Rattle.cs_base.specs.declared.refusal.Refusal.{Refusal}
 use Rattle.cs_arguments.specs.Orders.{asked_in, piece_in}
 use Rattle.cs_arguments.specs.Reading.{Asked, Text, reading}
 use Rattle.cs_source.specs.Loaded.{CannotRead, IsLoaded, WasRead}
@@ -30,7 +29,7 @@ module _ {F : Type 0} (tells : F → ShelfTold) where
         (Ok (composition_of p.setup))
 
   -- the source means this refusal
-  abbrev pub IsRefused : Refused → List Text → F → F → Type 0
+  abbrev pub IsRefused : Refusal → List Text → F → F → Type 0
   IsRefused r words before now =
       Reads words (λ asked. IsLoaded (tells before) (tells now) asked.width asked.piece (Err r))
 
@@ -41,10 +40,10 @@ module _ {F : Type 0} (tells : F → ShelfTold) where
   HasNoPiece status.Usage name words before now = (reading words ≡ None) × (now ≡ before)
   HasNoPiece status.ShelfFault name words before now =
       Reads words (λ asked. CannotRead (tells before) (tells now) asked.piece name)
-  HasNoPiece (status.OrcRefused f) name words before now = IsRefused (refused.Texts (why.Orc f)) words before now
-  HasNoPiece (status.ScoreRefused f) name words before now = IsRefused (refused.Texts (why.Score f)) words before now
-  HasNoPiece (status.Limit h) name words before now = IsRefused (refused.Texts (why.Limit h)) words before now
-  HasNoPiece (status.CsdRefused f) name words before now = IsRefused (refused.Csd f) words before now
+  HasNoPiece (status.OrcRefused f) name words before now = IsRefused (why.Orc f) words before now
+  HasNoPiece (status.ScoreRefused f) name words before now = IsRefused (why.Score f) words before now
+  HasNoPiece (status.Limit h) name words before now = IsRefused (why.Limit h) words before now
+  HasNoPiece (status.CsdRefused f) name words before now = IsRefused (why.Csd f) words before now
   HasNoPiece status.OutOfMemory name words before now = ⊤
   HasNoPiece _ name words before now = ⊥
 

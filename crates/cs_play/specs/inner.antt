@@ -1,3 +1,3 @@
 -- what private clauses cite alone
 pub mod Sounding
-pub mod Stopping
+pub mod Faulted

@@ -17,7 +17,7 @@ ghost use Rattle.cs_arguments.specs.Reading.{Asked, Text, reading};
 ghost use Rattle.cs_source.specs.Meaning.{Mean};
 ghost use Rattle.cs_source.specs.Sounds.{IsSoundOf};
 ghost use Rattle.cs_source.specs.Texts.{LackWhereTold, Texts};
-ghost use Rattle.cs_csd.specs.declared.refused.Refused.{Refused};
+ghost use Rattle.cs_base.specs.declared.refusal.Refusal.{Refusal};
 
 use cs_edge::{Shelf, Sink, Tap};
 use cs_perform::{Counter, early_stops_are_fronts};
@@ -28,12 +28,12 @@ use cs_source::{
 /// Texts have exactly one sound or exactly one first refusal, and never both, in samples of either width.
 pub fn texts_have_one_sound_or_refusal()
     ensures some { (t : Texts) (width : SampleWidth)
-        → ((bytes : List ℕ) × IsSoundOf t width bytes) ⊎ ((r : Refused) × Mean width t (Err r)) }
+        → ((bytes : List ℕ) × IsSoundOf t width bytes) ⊎ ((r : Refusal) × Mean width t (Err r)) }
     ensures one_sound { (t : Texts) (width : SampleWidth) (a b : List ℕ) → IsSoundOf t width a → IsSoundOf t width b
         → a ≡ b }
-    ensures one_refusal { (t : Texts) (width : SampleWidth) (r s : Refused) → Mean width t (Err r)
+    ensures one_refusal { (t : Texts) (width : SampleWidth) (r s : Refusal) → Mean width t (Err r)
         → Mean width t (Err s) → r ≡ s }
-    ensures never_both { (t : Texts) (width : SampleWidth) (bytes : List ℕ) (r : Refused) → IsSoundOf t width bytes
+    ensures never_both { (t : Texts) (width : SampleWidth) (bytes : List ℕ) (r : Refusal) → IsSoundOf t width bytes
         → Mean width t (Err r) → ⊥ }
 {
     texts_of_a_source_mean_one();
@@ -142,7 +142,7 @@ pub fn lacking_decides<F: Shelf, K: Sink, T: Sink, C: Counter>(_taps: &[Box<dyn 
 
 /// Where the texts are known and refused, and the shelf didn't fail, the refusal comes, want of memory aside.
 pub fn refusals_decide<F: Shelf, K: Sink, T: Sink, C: Counter>(_taps: &[Box<dyn Tap>])
-    ensures { (words : List Text) (s : Status) (before now : Scene F K T _ C) (asked : Asked) (t : Texts) (r : Refused)
+    ensures { (words : List Text) (s : Status) (before now : Scene F K T _ C) (asked : Asked) (t : Texts) (r : Refusal)
         → IsProgramRun (sight F.tells K.tells T.tells C.has_counted (λ t h. stands_for t h)
         (λ t room. text t room)) words s before now
         → reading words ≡ Some asked → AreTexts (F.tells before.shelf).files asked.piece t → Mean asked.width t (Err r)

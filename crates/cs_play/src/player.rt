@@ -12,6 +12,7 @@ use cs_arguments::Order;
 use cs_edge::{Gate, Sink, Tap};
 use cs_perform::{
     Counter, Crew, Outcome, Output, Performance, PlayFault, TurnLines, perform, perform_alone,
+    perform_pool,
 };
 use cs_pool::crew_size;
 use cs_report::Status;
@@ -44,8 +45,8 @@ pub(crate) enum Played {
 }
 
 /// Performs what was prepared as the words ask for it, by as many workers as they ask for, though no more than there
-/// are processors, or two where there is one. One worker is the caller alone. `tally` has room for 2^42 cycles and
-/// notes.
+/// are processors, or two where there is one. One worker is the caller alone, unless the words ask for a crew that
+/// stays. `tally` has room for 2^42 cycles and notes.
 pub(crate) fn play<R: Threads + Wait + Sync, G: Gate + Sync, K: Sink, C: Counter>(
     host: &Host<'_, R, G>,
     prepared: &Result<Prepared<'_>, Status>,
@@ -98,10 +99,13 @@ fn play_piece<R: Threads + Wait + Sync, G: Gate + Sync, K: Sink, C: Counter>(
 {
     let workers = workers_of(host.rt, piece.order.workers.number());
     let performance = performance_of(host.alloc, piece);
-    if workers == 1 {
+    if workers == 1 && !piece.order.pool {
         return perform_alone(&performance, host.gate, wav, taps, tally);
     }
     let crew = Crew::new(host.rt, workers, host.gate);
+    if piece.order.pool {
+        return perform_pool(&performance, &crew, wav, taps, tally);
+    }
     perform(&performance, &crew, wav, taps, tally)
 }
 

@@ -4,7 +4,7 @@ ghost use Rattle.cs_arguments.specs.Orders.{asked_in, piece_in};
 ghost use Rattle.cs_arguments.specs.Reading.{Text, reading};
 ghost use Rattle.cs_command.specs.Words.{texts};
 ghost use Rattle.cs_play.specs.Preparing.{IsPrepared, IsReadFor, IsUnprepared};
-ghost use Rattle.cs_play.specs.inner.Stopping.{HasStopped, unread_status};
+ghost use Rattle.cs_play.specs.inner.Faulted.{IsNotLoaded, unread_status};
 ghost use Rattle.cs_piece.specs.Setups.{composition_of};
 ghost use Rattle.cs_source.specs.Loaded.{FitsFile, IsLoaded, WasRead};
 
@@ -13,7 +13,7 @@ use cs_command::{Unread, read};
 use cs_edge::{Shelf, Sink};
 use cs_piece::Setup;
 use cs_report::{Status, say_end};
-use cs_source::{Stop, load};
+use cs_source::{LoadFault, load};
 use std::alloc::Global;
 
 /// A piece that can be performed.
@@ -78,17 +78,17 @@ fn load_for<F: Shelf, T: Sink>(
 {
     match load(alloc, shelf, &order.source, order.width) {
         Ok(setup) => Ok(setup),
-        Err(stop) => Err(say_stop(talk, stop)),
+        Err(stop) => Err(say_fault_of_load(talk, stop)),
     }
 }
 
 /// Says why there is no piece.
-fn say_stop<T: Sink>(talk: &mut T, stop: Stop<'_>) -> Status
-    ensures { HasStopped stop.entry result (T.tells talk.old) (T.tells talk.new) }
+fn say_fault_of_load<T: Sink>(talk: &mut T, stop: LoadFault<'_>) -> Status
+    ensures { IsNotLoaded stop.entry result (T.tells talk.old) (T.tells talk.new) }
 {
     match stop {
-        Stop::Unread(name) => say_end(talk, Status::ShelfFault, name),
-        Stop::Refused(refused) => say_end(talk, Status::of_refusal(refused), ""),
-        Stop::OutOfMemory => say_end(talk, Status::OutOfMemory, ""),
+        LoadFault::Unread(name) => say_end(talk, Status::ShelfFault, name),
+        LoadFault::Refused(refused) => say_end(talk, Status::of_refusal(refused), ""),
+        LoadFault::OutOfMemory => say_end(talk, Status::OutOfMemory, ""),
     }
 }

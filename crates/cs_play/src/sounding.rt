@@ -1,7 +1,7 @@
 // What came of a performance is said.
 ghost use Rattle.std.specs.Prelude.{◌≡◌, ◌++◌, flat_map};
 ghost use Rattle.cs_play.specs.inner.Sounding.{HasReported, HasSaid, counts_told};
-ghost use Rattle.cs_play.specs.inner.Stopping.{fault_status};
+ghost use Rattle.cs_play.specs.inner.Faulted.{fault_status};
 ghost use Rattle.cs_report.specs.Report.{counts_in, line_room};
 
 use crate::player::Played;

@@ -33,6 +33,10 @@ pub struct Once {
     pub mirror: u32,
     /// Samples have three bytes.
     pub wide: bool,
+    /// The last meter notes its drop.
+    pub drops: bool,
+    /// The shelf and the sinks are those that never fail.
+    pub sure: bool,
 }
 
 impl Once {
@@ -51,6 +55,8 @@ impl Once {
             task: Task::Nothing,
             mirror: 0,
             wide: false,
+            drops: false,
+            sure: false,
         }
     }
 

@@ -56,6 +56,10 @@ pub enum CaseLine<'a> {
     Mirror(u32),
     /// Samples of three bytes.
     Wide,
+    /// The last meter is one that notes its drop; the line shows each meter's.
+    Drops,
+    /// Shelf and sinks are those that never fail and tell no calls.
+    Sure,
     /// The case of this name runs.
     Play(&'a [u8]),
     /// None of these.
@@ -90,6 +94,8 @@ fn line_of_word(line: &[u8]) -> CaseLine<'_> {
         b"count" => CaseLine::Count(number_of(rest)),
         b"mirror" => CaseLine::Mirror(number_of(rest)),
         b"wide" => CaseLine::Wide,
+        b"drops" => CaseLine::Drops,
+        b"sure" => CaseLine::Sure,
         b"play" => CaseLine::Play(rest),
         _ => comment_or_wrong(word),
     }

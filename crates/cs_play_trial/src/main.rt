@@ -6,15 +6,17 @@
 //! Nothing is proved of the answers here, only that the trials are safe.
 //!
 //! In reading order: `line` (what a line of a case file says), `text` (its escapes), `gate` (what shows how workers
-//! run), `desk` (the case that is being made), `play` (the runs of a case), `show` (its line) and `wave` (the samples
-//! in it).
+//! run), `meters` (what the meters show), `desk` (the case that is being made), `play` (the runs of a case), `sure` (a
+//! run over objects that never fail), `show` (its line) and `wave` (the samples in it).
 #![tactic(auto)]
 
 mod desk;
 mod gate;
 mod line;
+mod meters;
 mod play;
 mod show;
+mod sure;
 mod text;
 mod wave;
 
@@ -85,6 +87,8 @@ fn follow<R: Files + Print + AllocGlobal + Threads + Wait + Sync>(
         CaseLine::Count(notes) => desk.once.task = Task::Counting(notes),
         CaseLine::Mirror(room) => desk.once.mirror = room,
         CaseLine::Wide => desk.once.wide = true,
+        CaseLine::Drops => desk.once.drops = true,
+        CaseLine::Sure => desk.once.sure = true,
         CaseLine::Play(name) => {
             say(rt, name, desk)?;
             desk.forget();

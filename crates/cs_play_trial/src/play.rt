@@ -1,13 +1,16 @@
 // The runs of a case.
 use crate::desk::{CaseDesk, Once};
 use crate::gate::CaseGate;
+use crate::meters::{DropTap, add_all, add_drops, add_last};
 use crate::show::{CaseOutcome, Written, add_line};
+use crate::sure::play_surely;
 use cs_base::{Bytes, Text};
 use cs_desk::Tally;
 use cs_edge::{Calls, Files, MemShelf, MemSink, MirrorTap, NamedBytes, PeakTap, Tap};
 use cs_play::csplay;
 use std::alloc::{AllocError, Global};
-use std::sync::Wait;
+use std::sync::atomic::{AtomicU64, Ordering};
+use std::sync::{Arc, Wait};
 use std::thread::Threads;
 
 /// Runs a case, with these words before its own, and writes its line; its status comes back.
@@ -19,6 +22,9 @@ pub fn play<R: AllocGlobal + Threads + Wait + Sync>(
     out: &mut String,
 ) -> Result<u8, AllocError> {
     let words = words_of(rt.alloc(), crew, desk)?;
+    if desk.once.sure {
+        return play_surely(rt, name, desk, &words, out);
+    }
     let mut shelf = shelf_of(rt.alloc(), desk)?;
     let status = run_on(rt, name, &words, &mut shelf, desk.once, out)?;
     if !desk.once.twice {
@@ -42,7 +48,7 @@ fn run_on<R: AllocGlobal + Threads + Wait + Sync>(
     let told = Vec::new(rt.alloc());
     let mut written = Written { wav, talk, told };
     let gate = CaseGate::new(once.task);
-    let status = run(rt, words, shelf, &mut written, &gate, once.mirror)?;
+    let status = run(rt, words, shelf, &mut written, &gate, once)?;
     let outcome = CaseOutcome {
         status,
         shelf: &*shelf,
@@ -59,15 +65,20 @@ fn run<R: AllocGlobal + Threads + Wait + Sync>(
     shelf: &mut MemShelf,
     written: &mut Written,
     gate: &CaseGate,
-    room: u32,
+    once: Once,
 ) -> Result<u8, AllocError> {
+    let drops = Arc::new(rt.alloc(), AtomicU64::new(0))?;
     let mut taps: Vec<Box<dyn Tap>> = Vec::new(rt.alloc());
     taps.push(Box::new(rt.alloc(), PeakTap::new())?)?;
-    if room > 0 {
-        let Ok(mirror) = MirrorTap::new(rt.alloc(), room) else {
+    if once.mirror > 0 {
+        let Ok(mirror) = MirrorTap::new(rt.alloc(), once.mirror) else {
             return Err(AllocError);
         };
         taps.push(Box::new(rt.alloc(), mirror)?)?;
+    }
+    if once.drops {
+        let drops = Arc::try_clone(&drops)?;
+        taps.push(Box::new(rt.alloc(), DropTap { drops })?)?;
     }
     let mut tally = Tally::new();
     let status = csplay(
@@ -81,20 +92,24 @@ fn run<R: AllocGlobal + Threads + Wait + Sync>(
         gate,
         &mut tally,
     );
-    if room > 0 {
-        add_told(&taps, &mut written.told)?;
+    if once.drops {
+        add_dropped(taps, &drops, &mut written.told)?;
+    } else if once.mirror > 0 {
+        add_last(&taps, &mut written.told)?;
     }
     Ok(status.number())
 }
 
-// The line of the last meter.
-fn add_told(taps: &[Box<dyn Tap>], told: &mut Vec<u8>) -> Result<(), AllocError> {
-    if let Some(tap) = taps.last() {
-        let mut line = [0u8; 64];
-        let count = tap.line(&mut line);
-        told.extend_from_slice(&line[..count.min(64)])?;
-    }
-    Ok(())
+// The lines of the meters, and what the last one notes of its drop.
+fn add_dropped(
+    taps: Vec<Box<dyn Tap>>,
+    drops: &AtomicU64,
+    told: &mut Vec<u8>,
+) -> Result<(), AllocError> {
+    add_all(&taps, told)?;
+    let before = drops.load(Ordering::SeqCst);
+    drop(taps);
+    add_drops(before, drops.load(Ordering::SeqCst), told)
 }
 
 // The words of a case, behind others.
@@ -128,12 +143,18 @@ fn add_word(alloc: Global, word: &[u8], words: &mut Vec<String>) -> Result<(), A
 }
 
 fn shelf_of(alloc: Global, desk: &CaseDesk) -> Result<MemShelf, AllocError> {
+    let files = files_of(alloc, desk)?;
+    Ok(MemShelf::new(alloc, files, failing(alloc, desk.once.shelf_fails)?))
+}
+
+/// The two texts of a case, and the file with both.
+pub fn files_of(alloc: Global, desk: &CaseDesk) -> Result<Files, AllocError> {
     let mut files = Files::new(alloc);
     files.push(file_of(alloc, "a.orc", &desk.orchestra)?)?;
     files.push(file_of(alloc, "a.sco", &desk.score)?)?;
     // A file with both texts is written as an orchestra.
     files.push(file_of(alloc, "a.csd", &desk.orchestra)?)?;
-    Ok(MemShelf::new(alloc, files, failing(alloc, desk.once.shelf_fails)?))
+    Ok(files)
 }
 
 fn file_of(alloc: Global, name: &str, text: &[u8]) -> Result<NamedBytes, AllocError> {

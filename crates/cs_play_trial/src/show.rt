@@ -43,9 +43,7 @@ pub fn add_line(
     }
     add_gate(out, once.task, outcome.gate)?;
     if once.mirror > 0 {
-        out.push_str("; ")?;
-        let told = written.told.as_slice();
-        add_shown(out, told.strip_suffix(b"\n").unwrap_or(told))?;
+        add_told(out, &written.told)?;
     }
     if once.calls {
         add_calls(out, "; shelf", outcome.shelf.moves())?;
@@ -53,6 +51,26 @@ pub fn add_line(
         add_calls(out, "; talk", written.talk.moves())?;
     }
     out.push('\n')
+}
+
+/// Writes the line of a case over objects that keep nothing: its name, the status, and what meters show.
+pub fn add_sure_line(
+    out: &mut String,
+    name: &[u8],
+    status: u8,
+    told: &[u8],
+) -> Result<(), AllocError> {
+    add_shown(out, name)?;
+    out.push_str(": ")?;
+    add_number(out, u64::from(status))?;
+    add_told(out, told)?;
+    out.push('\n')
+}
+
+// What meters show: a last line feed isn't shown.
+fn add_told(out: &mut String, told: &[u8]) -> Result<(), AllocError> {
+    out.push_str("; ")?;
+    add_shown(out, told.strip_suffix(b"\n").unwrap_or(told))
 }
 
 // What the gate of a case shows.

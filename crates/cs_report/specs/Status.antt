@@ -4,8 +4,7 @@ use Rattle.cs_report.specs.declared.status.Status.{Status}
 use Rattle.cs_report.specs.declared.status.Status.TheVariants.{Ok, Usage, ShelfFault, OrcRefused, ScoreRefused, Limit}
 use Rattle.cs_report.specs.declared.status.Status.TheVariants.{SinkFault, OutOfMemory, TalkFault, CsdRefused}
 use Rattle.cs_base.specs.declared.refusal.Refusal.TheVariants as why
-use Rattle.cs_csd.specs.declared.refused.Refused.{Refused}
-use Rattle.cs_csd.specs.declared.refused.Refused.TheVariants as refused
+use Rattle.cs_base.specs.declared.refusal.Refusal.{Refusal}
 
 abbrev pub status_number : Status → ℕ
 status_number Ok = 0
@@ -20,8 +19,8 @@ status_number TalkFault = 9
 status_number (CsdRefused fault) = 11
 
 -- the status of a refusal
-abbrev pub refusal : Refused → Status
-refusal (refused.Csd f) = CsdRefused f
-refusal (refused.Texts (why.Orc f)) = OrcRefused f
-refusal (refused.Texts (why.Score f)) = ScoreRefused f
-refusal (refused.Texts (why.Limit h)) = Limit h
+abbrev pub refusal : Refusal → Status
+refusal (why.Csd f) = CsdRefused f
+refusal (why.Orc f) = OrcRefused f
+refusal (why.Score f) = ScoreRefused f
+refusal (why.Limit h) = Limit h

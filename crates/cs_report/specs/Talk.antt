@@ -1,9 +1,9 @@
 -- What the program says of its end.
 use Rattle.std.specs.Prelude.{ℕ, ◌⊎◌, List, [], ◌∷◌, ◌++◌, codes, decimal}
-use Rattle.cs_base.specs.Faults.{orc_kind_number, orc_kind_name, score_kind_number, score_kind_name}
+use Rattle.cs_base.specs.Faults.{csd_kind_number, csd_kind_name, orc_kind_number, orc_kind_name}
+use Rattle.cs_base.specs.Faults.{score_kind_number, score_kind_name}
 use Rattle.cs_base.specs.Limits.{limit_number}
 use Rattle.cs_base.specs.declared.limit.LimitHit.{LimitHit}
-use Rattle.cs_csd.specs.Kinds.{kind_name, kind_number}
 use Rattle.cs_edge.specs.Moves.{SinkTold, WroteMore}
 use Rattle.cs_edge.specs.Told.{Rose, IsFront}
 use Rattle.cs_report.specs.declared.status.Status.{Status}
@@ -41,7 +41,7 @@ message_of SinkFault name = codes "cannot write the sound file\n"
 message_of OutOfMemory name = codes "out of memory\n"
 message_of TalkFault name = []
 message_of (CsdRefused fault) name =
-    fault_message (codes "csd") fault.line (kind_number fault.kind) (kind_name fault.kind)
+    fault_message (codes "csd") fault.line (csd_kind_number fault.kind) (csd_kind_name fault.kind)
 
 -- Where its count of faults rose, a sink has taken the front of a text alone, in writes.
 pub record SaysPart (before now : SinkTold) (text : List ℕ) : Type 0 where

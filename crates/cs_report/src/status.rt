@@ -2,8 +2,7 @@
 ghost use Rattle.std.specs.Prelude.{◌≡◌};
 ghost use Rattle.cs_report.specs.Status.{refusal, status_number};
 
-use cs_base::{LimitHit, OrcFault, Refusal, ScoreFault};
-use cs_csd::{CsdFault, Refused};
+use cs_base::{CsdFault, LimitHit, OrcFault, Refusal, ScoreFault};
 
 /// How a run ended.
 #[derive(Clone, Copy)]
@@ -50,14 +49,14 @@ impl Status {
     }
 
     /// The status of a refusal.
-    pub fn of_refusal(refused: Refused) -> Status
+    pub fn of_refusal(refused: Refusal) -> Status
         ensures { result ≡ refusal refused }
     {
         match refused {
-            Refused::Csd(fault) => Status::CsdRefused(fault),
-            Refused::Texts(Refusal::Orc(fault)) => Status::OrcRefused(fault),
-            Refused::Texts(Refusal::Score(fault)) => Status::ScoreRefused(fault),
-            Refused::Texts(Refusal::Limit(hit)) => Status::Limit(hit),
+            Refusal::Orc(fault) => Status::OrcRefused(fault),
+            Refusal::Score(fault) => Status::ScoreRefused(fault),
+            Refusal::Limit(hit) => Status::Limit(hit),
+            Refusal::Csd(fault) => Status::CsdRefused(fault),
         }
     }
 }

@@ -8,9 +8,8 @@ use Rattle.cs_base.specs.declared.width.SampleWidth.{SampleWidth}
 use Rattle.cs_compile.proofs.SmallTexts.{first_line_refused}
 use Rattle.cs_csd.proofs.Readings.{scan_reads}
 use Rattle.cs_csd.specs.Sections.{no_text}
-use Rattle.cs_csd.specs.declared.part.CsdFault.{CsdFault}
+use Rattle.cs_base.specs.declared.fault.CsdFault.{CsdFault}
 use Rattle.cs_csd.specs.declared.part.Parts.{Parts}
-use Rattle.cs_csd.specs.declared.refused.Refused.TheVariants as refused
 use Rattle.cs_source.specs.Meaning.{Mean}
 use Rattle.cs_source.specs.Texts.{csd}
 use Rattle.cs_source.specs.Worked.{fault_in_line_4}
@@ -21,6 +20,6 @@ fault = record { line = 4; kind = orc.BadToken }
 abbrev parts : Result Parts CsdFault
 parts = Ok (record { orc = record { from = 42; to = 44; line = 4 }; sco = no_text })
 
-pub in_line_4 : (width : SampleWidth) → Mean width (csd fault_in_line_4) (Err (refused.Texts (why.Orc fault)))
+pub in_line_4 : (width : SampleWidth) → Mean width (csd fault_in_line_4) (Err (why.Orc fault))
 in_line_4 width =
-    (parts, scan_reads fault_in_line_4, (Err (why.Orc fault), first_line_refused 4 width (excerpt 1 []) refl, refl))
+    (parts, scan_reads fault_in_line_4, first_line_refused 4 width (excerpt 1 []) refl)

@@ -1,19 +1,16 @@
 -- The sound file of two small texts.
-use Rattle.std.proofs.Common.{◌≡◌, ◌∷◌, ℕ, ℤ, List, [], Result, Ok, Err, refl, sym, subst, arith}
+use Rattle.std.proofs.Common.{◌≡◌, ◌∷◌, ℕ, ℤ, List, [], Ok, refl, sym, subst, arith}
 use Rattle.cs_base.specs.Lines.{whole_file}
 use Rattle.cs_base.specs.declared.head.Head.{Head}
-use Rattle.cs_base.specs.declared.refusal.Refusal.{Refusal}
 use Rattle.cs_base.specs.declared.width.SampleWidth.{SampleWidth}
 use Rattle.cs_base.specs.declared.width.SampleWidth.TheVariants.{TwoBytes, ThreeBytes}
 use Rattle.cs_compile.specs.Meaning.{means}
 use Rattle.cs_compile.specs.Worked.{fourth_field, note_of_100, whole}
 use Rattle.cs_piece_meaning.specs.Heard.{frames_of}
 use Rattle.cs_piece_meaning.specs.Moments.{Composition}
-use Rattle.cs_source.specs.Meaning.{Mean, told}
 use Rattle.cs_source.specs.Sounds.{IsSoundOf}
 use Rattle.cs_source.specs.Texts.{both}
 use Rattle.cs_source.specs.Worked.{narrow_file, wide_file}
-use Rattle.cs_csd.specs.declared.refused.Refused.{Refused}
 use Rattle.cs_typed.specs.Places.{Header}
 use Rattle.cs_wav.specs.Wav.{header_bytes, samples_of, wav_of}
 
@@ -53,7 +50,7 @@ heard_as : (width : SampleWidth) (bytes : List ℕ) → bytes ≡ wav_of frames 
     → IsSoundOf (both fourth_field note_of_100) width bytes
 heard_as width bytes e h = record {
   c = h.0;
-  means = (Ok h.0, h.1, refl);
+  means = h.1;
   head = numbers;
   head_is = sym h.2;
   is = subst (λ (f : List ℤ). bytes ≡ wav_of f numbers width) (sym h.3) e;
@@ -64,10 +61,3 @@ narrow_sound h = heard_as TwoBytes narrow_file narrow_bytes h
 
 pub wide_sound : Heard ThreeBytes → IsSoundOf (both fourth_field note_of_100) ThreeBytes wide_file
 wide_sound h = heard_as ThreeBytes wide_file wide_bytes h
-
--- two texts that are refused, each a file of its own
-pub refused_as : (width : SampleWidth) (orchestra score : List ℕ) (f : Refusal) (r : Refused)
-    → means width (whole_file orchestra) (whole_file score) (Err f)
-    → (let a : Result Composition Refused = Err r in a) ≡ told (Err f)
-    → Mean width (both orchestra score) (Err r)
-refused_as width orchestra score f r m e = (Err f, m, e)

@@ -15,11 +15,11 @@ use Rattle.cs_arguments.specs.Reading.{AskedPiece, two_files, one_file, demo}
 use Rattle.cs_source.specs.Meaning.{Mean}
 use Rattle.cs_source.specs.Texts.{Texts, both, csd, demo_notes, Fit, Have, HaveWhereTold, IsNameOf, LackWhereTold}
 use Rattle.cs_source.specs.Texts.{is_too_long}
-use Rattle.cs_csd.specs.declared.refused.Refused.{Refused}
+use Rattle.cs_base.specs.declared.refusal.Refusal.{Refusal}
 use Rattle.cs_wav.specs.Wav.{size_of}
 
 -- Texts of a source mean this, and where the shelf tells its files it has them.
-pub record SourceMeans (before : ShelfTold) (width : SampleWidth) (piece : AskedPiece) (r : Result Composition Refused)
+pub record SourceMeans (before : ShelfTold) (width : SampleWidth) (piece : AskedPiece) (r : Result Composition Refusal)
     : Type 0 where
   pub texts : Texts
   pub fit : Fit piece texts
@@ -82,7 +82,7 @@ LeavesUnread before now piece = IsLeftWhereTold before.files piece before.left n
 
 -- The source of a piece was read and means this: texts mean it which, where the shelf tells its files, are theirs. What
 -- the shelf has left of them is what is over one byte more than a text may have.
-pub record IsLoaded (before now : ShelfTold) (width : SampleWidth) (piece : AskedPiece) (r : Result Composition Refused)
+pub record IsLoaded (before now : ShelfTold) (width : SampleWidth) (piece : AskedPiece) (r : Result Composition Refusal)
     : Type 0 where
   pub means : SourceMeans before width piece r
   pub rest : LeavesUnread before now piece

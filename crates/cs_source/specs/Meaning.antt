@@ -7,14 +7,13 @@ use Rattle.cs_base.specs.Lines.{Excerpt, excerpt, whole_file}
 use Rattle.cs_base.specs.declared.width.SampleWidth.{SampleWidth}
 use Rattle.cs_compile.specs.Meaning.{means}
 use Rattle.cs_base.specs.declared.refusal.Refusal.{Refusal}
+use Rattle.cs_base.specs.declared.refusal.Refusal.TheVariants as why
 use Rattle.cs_piece_meaning.specs.Moments.{Composition}
 use Rattle.cs_csd.specs.Sections.{Reading}
-use Rattle.cs_csd.specs.declared.part.CsdFault.{CsdFault}
+use Rattle.cs_base.specs.declared.fault.CsdFault.{CsdFault}
 use Rattle.cs_csd.specs.declared.part.Part.{Part}
 use Rattle.cs_csd.specs.declared.part.Parts.{Parts}
 use Rattle.cs_source.specs.DemoTexts as demo
-use Rattle.cs_csd.specs.declared.refused.Refused.{Refused}
-use Rattle.cs_csd.specs.declared.refused.Refused.TheVariants as refused
 use Rattle.cs_source.specs.Texts.{Texts, both, csd, demo_notes}
 
 -- the text of a part
@@ -25,30 +24,22 @@ part_of text p = take (p.to - p.from) (drop p.from text)
 abbrev pub excerpt_of : List ℕ → Part → Excerpt
 excerpt_of text p = excerpt p.line (part_of text p)
 
-abbrev pub told : Result Composition Refusal → Result Composition Refused
-told (Ok c) = Ok c
-told (Err r) = Err (refused.Texts r)
-
--- two texts, each with the line of its file on which it begins
-abbrev pub TextsMean : SampleWidth → Excerpt → Excerpt → Result Composition Refused → Type 0
-TextsMean width orchestra score r = (q : Result Composition Refusal) × means width orchestra score q × (r ≡ told q)
-
 -- two texts that are files of their own
-abbrev pub FilesMean : SampleWidth → List ℕ → List ℕ → Result Composition Refused → Type 0
-FilesMean width orchestra score r = TextsMean width (whole_file orchestra) (whole_file score) r
+abbrev pub FilesMean : SampleWidth → List ℕ → List ℕ → Result Composition Refusal → Type 0
+FilesMean width orchestra score r = means width (whole_file orchestra) (whole_file score) r
 
 -- a file whose tags were read
-abbrev pub PartsMean : SampleWidth → List ℕ → Result Parts CsdFault → Result Composition Refused → Type 0
-PartsMean width text (Err f) r = r ≡ Err (refused.Csd f)
-PartsMean width text (Ok p) r = TextsMean width (excerpt_of text p.orc) (excerpt_of text p.sco) r
+abbrev pub PartsMean : SampleWidth → List ℕ → Result Parts CsdFault → Result Composition Refusal → Type 0
+PartsMean width text (Err f) r = r ≡ Err (why.Csd f)
+PartsMean width text (Ok p) r = means width (excerpt_of text p.orc) (excerpt_of text p.sco) r
 
 -- a file that is too long or not: its tags aren't read where it is
-abbrev pub FileMeans : Bool → SampleWidth → List ℕ → Result Composition Refused → Type 0
-FileMeans true width text r = r ≡ Err (refused.Texts (passed limit.CsdBytes))
+abbrev pub FileMeans : Bool → SampleWidth → List ℕ → Result Composition Refusal → Type 0
+FileMeans true width text r = r ≡ Err (passed limit.CsdBytes)
 FileMeans false width text r = (p : Result Parts CsdFault) × Reading text p × PartsMean width text p r
 
 -- What texts mean. The demo's texts are told as files of their own.
-abbrev pub Mean : SampleWidth → Texts → Result Composition Refused → Type 0
+abbrev pub Mean : SampleWidth → Texts → Result Composition Refusal → Type 0
 Mean width (both orchestra score) r = FilesMean width orchestra score r
 Mean width (csd text) r = FileMeans (nat_lt most_csd_bytes (length text)) width text r
 Mean width (demo_notes n) r = FilesMean width demo.orchestra (demo.score n) r

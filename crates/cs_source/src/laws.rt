@@ -7,7 +7,7 @@ ghost use Rattle.cs_edge.specs.declared.files.NamedBytes.{NamedBytes};
 ghost use Rattle.cs_arguments.specs.Reading.{AskedPiece};
 ghost use Rattle.cs_source.specs.Meaning.{Mean};
 ghost use Rattle.cs_source.specs.Texts.{Have, Lack, Texts};
-ghost use Rattle.cs_csd.specs.declared.refused.Refused.{Refused};
+ghost use Rattle.cs_base.specs.declared.refusal.Refusal.{Refusal};
 ghost use Rattle.cs_typed.specs.TypedTree.{header_of_head};
 
 use cs_compile::texts_have_one_meaning;
@@ -16,8 +16,8 @@ use cs_csd::one_reading;
 /// The texts of a source mean one thing: one composition, whose header has its numbers in the ranges of a head, or one
 /// first refusal.
 pub fn texts_of_a_source_mean_one()
-    ensures some { (width : SampleWidth) (t : Texts) → (r : Result Composition Refused) × Mean width t r }
-    ensures one { (width : SampleWidth) (t : Texts) (r s : Result Composition Refused) → Mean width t r
+    ensures some { (width : SampleWidth) (t : Texts) → (r : Result Composition Refusal) × Mean width t r }
+    ensures one { (width : SampleWidth) (t : Texts) (r s : Result Composition Refusal) → Mean width t r
         → Mean width t s → r ≡ s }
     ensures head { (width : SampleWidth) (t : Texts) (c : Composition) → Mean width t (Ok c)
         → (head : Head) × (header_of_head head ≡ c.head) }

@@ -24,5 +24,5 @@ pub use demo::{demo_orchestra, demo_score};
 pub use laws::{
     files_have_one_pair_of_texts, texts_of_a_source_mean_one, told_files_have_texts_or_lack_a_name,
 };
-pub use loading::{Stop, load};
+pub use loading::{LoadFault, load};
 pub use worked::{lines_worked_by_hand, sounds_worked_by_hand};

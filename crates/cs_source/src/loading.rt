@@ -1,29 +1,27 @@
 // The piece of a source, read and compiled.
 ghost use Rattle.std.specs.Prelude.{◌≡◌, Err, IfOk, Ok};
-ghost use Rattle.cs_base.specs.declared.fault.Or.TheVariants as or;
 ghost use Rattle.cs_arguments.specs.Orders.{piece_in};
 ghost use Rattle.cs_piece.specs.Setups.{composition_of};
 ghost use Rattle.cs_source.specs.Loaded.{CannotRead, FitsFile, IsLoaded, WasRead};
-ghost use Rattle.cs_source.specs.declared.loading.Stop.TheVariants as stop;
-ghost use Rattle.cs_csd.specs.declared.refused.Refused.{Refused};
+ghost use Rattle.cs_source.specs.declared.loading.LoadFault.TheVariants as unloaded;
+ghost use Rattle.cs_base.specs.declared.refusal.Refusal.{Refusal};
 ghost use Rattle.cs_source.specs.inner.Read.{MeansAsRead};
 
 use crate::meaning::compile_source;
 use crate::source::{SourceText, read_source};
 use cs_arguments::Source;
-use cs_base::{Or, SampleWidth};
-use cs_csd::Refused;
+use cs_base::{Or, Refusal, SampleWidth};
 use cs_edge::Shelf;
 use cs_piece::Setup;
 use std::alloc::Global;
 
 /// Why there is no piece.
 #[derive(Clone, Copy)]
-pub enum Stop<'a> {
+pub enum LoadFault<'a> {
     /// The text of this name can't be read: the shelf failed, or lacks it.
     Unread(&'a str),
     /// The texts are refused.
-    Refused(Refused),
+    Refused(Refusal),
     OutOfMemory,
 }
 
@@ -36,44 +34,26 @@ pub fn load<'a, F: Shelf>(
     shelf: &mut F,
     source: &Source<'a>,
     width: SampleWidth,
-) -> Result<Setup, Stop<'a>>
+) -> Result<Setup, LoadFault<'a>>
     ensures piece { IfOk result (λ s. IsLoaded (F.tells shelf.old) (F.tells shelf.new) width (piece_in source.now)
         (Ok (composition_of s))) }
     // The samples of the piece fit a sound file.
     ensures within { IfOk result (λ s. FitsFile width s) }
-    ensures refused { (r : Refused) → result ≡ Err (stop.Refused r)
+    ensures refused { (r : Refusal) → result ≡ Err (unloaded.Refused r)
         → IsLoaded (F.tells shelf.old) (F.tells shelf.new) width (piece_in source.now) (Err r) }
-    ensures unread { (name : _) → result ≡ Err (stop.Unread name)
+    ensures unread { (name : _) → result ≡ Err (unloaded.Unread name)
         → CannotRead (F.tells shelf.old) (F.tells shelf.new) (piece_in source.now) name.now }
     ensures shelf { WasRead (F.tells shelf.old) (F.tells shelf.new) (piece_in source.now) }
     ensures files { (F.tells shelf.new).files ≡ (F.tells shelf.old).files }
 {
-    match read_source(alloc, shelf, source) {
-        Ok(texts) => meant(alloc, &texts, width),
-        Err(Or::Fault(name)) => Err(Stop::Unread(name)),
-        Err(Or::OutOfMemory) => Err(Stop::OutOfMemory),
-    }
-}
-
-/// What the piece of texts that were read needs to be performed, or their first refusal.
-fn meant<'a>(alloc: Global, texts: &SourceText, width: SampleWidth) -> Result<Setup, Stop<'a>>
-    ensures piece { IfOk result (λ s. MeansAsRead width texts.now (Ok (composition_of s))) }
-    ensures within { IfOk result (λ s. FitsFile width s) }
-    ensures refused { (r : Refused) → result ≡ Err (stop.Refused r) → MeansAsRead width texts.now (Err r) }
-    ensures read { (name : _) → result ≡ Err (stop.Unread name) → ⊥ }
-{
-    stopped(compile_source(alloc, texts, width))
-}
-
-/// What was compiled, or why there is no piece.
-fn stopped<'a, T: Drop>(compiled: Result<T, Or<Refused>>) -> Result<T, Stop<'a>>
-    ensures same { IfOk result (λ t. compiled ≡ Ok t) }
-    ensures refused { (r : Refused) → result ≡ Err (stop.Refused r) → compiled ≡ Err (or.Fault r) }
-    ensures read { (name : _) → result ≡ Err (stop.Unread name) → ⊥ }
-{
-    match compiled {
-        Ok(piece) => Ok(piece),
-        Err(Or::Fault(refused)) => Err(Stop::Refused(refused)),
-        Err(Or::OutOfMemory) => Err(Stop::OutOfMemory),
+    let texts = match read_source(alloc, shelf, source) {
+        Ok(texts) => texts,
+        Err(Or::Fault(name)) => return Err(LoadFault::Unread(name)),
+        Err(Or::OutOfMemory) => return Err(LoadFault::OutOfMemory),
+    };
+    match compile_source(alloc, &texts, width) {
+        Ok(setup) => Ok(setup),
+        Err(Or::Fault(refusal)) => Err(LoadFault::Refused(refusal)),
+        Err(Or::OutOfMemory) => Err(LoadFault::OutOfMemory),
     }
 }

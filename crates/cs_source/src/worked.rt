@@ -5,7 +5,6 @@ ghost use Rattle.cs_base.specs.declared.refusal.Refusal.TheVariants as why;
 ghost use Rattle.cs_base.specs.declared.width.SampleWidth.{SampleWidth};
 ghost use Rattle.cs_base.specs.declared.width.SampleWidth.TheVariants.{TwoBytes, ThreeBytes};
 ghost use Rattle.cs_compile.specs.Worked.{fourth_field, note_of_100, stray_byte};
-ghost use Rattle.cs_csd.specs.declared.refused.Refused.TheVariants as refused;
 ghost use Rattle.cs_source.specs.Meaning.{Mean};
 ghost use Rattle.cs_source.specs.Sounds.{IsSoundOf};
 ghost use Rattle.cs_source.specs.Texts.{both, csd};
@@ -18,7 +17,7 @@ pub fn sounds_worked_by_hand()
     ensures narrow { IsSoundOf (both fourth_field note_of_100) TwoBytes narrow_file }
     ensures wide { IsSoundOf (both fourth_field note_of_100) ThreeBytes wide_file }
     ensures refused { (width : SampleWidth) → Mean width (both stray_byte note_of_100)
-        (Err (refused.Texts (why.Orc (record { line = 2; kind = orc.BadToken })))) }
+        (Err (why.Orc (record { line = 2; kind = orc.BadToken }))) }
 {
     texts_worked_by_hand();
 }
@@ -26,5 +25,5 @@ pub fn sounds_worked_by_hand()
 /// A fault in the first line behind `<CsInstruments>`, where that tag stands in line 3, is at line 4 of the file.
 pub fn lines_worked_by_hand()
     ensures { (width : SampleWidth) → Mean width (csd fault_in_line_4)
-        (Err (refused.Texts (why.Orc (record { line = 4; kind = orc.BadToken })))) }
+        (Err (why.Orc (record { line = 4; kind = orc.BadToken }))) }
 {}

@@ -13,7 +13,7 @@ module _ {J : Type 0} (M : Meaning J) where
   abbrev pub IsInPhase : Phase → View J → Type 0
   IsInPhase Free v = IsIdle v
   IsInPhase (Claimed note) v = IsClaimed M v
-  IsInPhase Ran v = HasRun M v
+  IsInPhase (Ran turns) v = HasRun M v
   IsInPhase Over v = IsIdle v × (v.owes ≡ [])
 
   -- the second seat was split off the first, and nothing else was

@@ -89,7 +89,7 @@ fn read_words<B: Bank>(alloc: Global, bank: &mut B, count: u32) -> Result<Vec<u6
 
 /// The graph of the jobs' footprints. None where there is no memory for it, where there are more
 /// jobs than notes may be active, or where a footprint isn't in order.
-fn graph_of<J: Job>(alloc: Global, layout: &Layout, jobs: &[J]) -> Option<Graph>
+pub fn graph_of<J: Job>(alloc: Global, layout: &Layout, jobs: &[J]) -> Option<Graph>
     ensures notes { IfSome result (λ g. length g.levels ≡ length jobs.now) }
     ensures fit { IfSome result (λ g. IsFit (map J.means.foot jobs.now) g.edges) }
     ensures orderly { IsSome result

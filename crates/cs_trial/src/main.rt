@@ -4,7 +4,8 @@
 //!
 //! In reading order: `covers`, `mini` (a note with registers and shared code), `parts` (what such notes are made of),
 //! `fixtures`, `loaded` and `boards` (a board for them), `players` (one seat or two that play it), `orders` (small
-//! graphs by every order), `tries` (as many notes as may be), `single` (one cycle by a crew of its own).
+//! graphs by every order), `tries` (as many notes as may be), `rows` (small cycles call by call), `single` (one cycle by
+//! a crew of its own).
 #![tactic(auto)]
 
 ghost use Rattle.std.specs.Prelude.{◌≤◌};
@@ -17,10 +18,12 @@ mod mini;
 mod orders;
 mod parts;
 mod players;
+mod rows;
 mod single;
 mod tries;
 
 use crate::orders::{SMALL, serial_graphs};
+use crate::rows::{edges_of, one_before_one, one_before_two, three_on_one_cell};
 use crate::single::in_one_cycle;
 use crate::tries::{MOST_TRIES, each_its_own, in_a_row, on_their_own};
 use cs_base::MOST_NOTES;
@@ -41,11 +44,33 @@ fn main(rt: HostRuntime) -> io::Result<()> {
     )?;
     println!(rt; "512 notes in a row: {:?}", in_a_row(&rt, rt.alloc()))?;
     println!(rt; "(the first word, the last, whether there were at most {MOST_TRIES} tries)")?;
+    call_by_call(&rt)?;
     single_cycle(&rt, 1)?;
     single_cycle(&rt, 2)?;
     single_cycle(&rt, 4)?;
     single_cycle(&rt, 32)?;
     println!(rt; "(the first word, the last, how many notes the receipt has)")
+}
+
+// Small cycles, what each call brought its seat to, and the word at the end; and the edges of notes in a row.
+fn call_by_call<R: Print + AllocGlobal + Wait>(rt: &R) -> io::Result<()> {
+    let (one, two) = (
+        one_before_one(rt, rt.alloc()),
+        one_before_two(rt, rt.alloc()),
+    );
+    println!(rt; "note 0 before note 1: {one:?}")?;
+    println!(rt;
+        "note 0 before notes 1 and 2: {two:?} (whether both seats claim, and not the same)"
+    )?;
+    println!(rt;
+        "three notes on a cell of 5: {:?}",
+        three_on_one_cell(rt, rt.alloc())
+    )?;
+    let (four, most) = (
+        edges_of(rt.alloc(), &[0; 4]),
+        edges_of(rt.alloc(), &[0; MOST_NOTES]),
+    );
+    println!(rt; "edges of 4 and of 512 notes in a row: {four:?}, {most:?}")
 }
 
 // One cycle of 512 notes by a crew of so many workers.

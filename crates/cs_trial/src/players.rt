@@ -12,13 +12,13 @@ use cs_cells::Job;
 use cs_desk::{Desk, Receipt};
 use std::sync::Wait;
 
-/// How far a seat is: it may claim, it has claimed this note, its note has run, or its last claim
-/// answered None.
-#[derive(Clone, Copy, PartialEq, Eq)]
+/// How far a seat is: it may claim, it has claimed this note, its note has run and the run returned
+/// this many turns, or its last claim returned None.
+#[derive(Clone, Copy, Debug, PartialEq, Eq)]
 pub enum Phase {
     Free,
     Claimed(u32),
-    Ran,
+    Ran(u64),
     Over,
 }
 
@@ -54,11 +54,8 @@ fn step<J: Job>(board: &Board<J>, seat: &mut BoardSeat<J>, phase: Phase) -> Phas
 {
     match phase {
         Phase::Free => claimed(board, seat),
-        Phase::Claimed(_) => {
-            board.run(seat);
-            Phase::Ran
-        }
-        Phase::Ran => {
+        Phase::Claimed(_) => Phase::Ran(board.run(seat)),
+        Phase::Ran(_) => {
             board.finish(seat);
             Phase::Free
         }

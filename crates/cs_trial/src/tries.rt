@@ -23,7 +23,7 @@ pub const MOST_TRIES: u64 = 1_024;
 type Left = (u64, u64, bool);
 
 // A note that adds 1 to the one cell of a place.
-fn part_on(alloc: Global, place: u32) -> Result<MiniPart, AllocError> {
+pub fn part_on(alloc: Global, place: u32) -> Result<MiniPart, AllocError> {
     let code = [
         MiniOp::Read(0, place),
         MiniOp::Add(0, 1),

@@ -9,7 +9,7 @@ use Rattle.cs_play.specs.Endings.{request_in}
 use Rattle.cs_play.specs.declared.player.Played.{Played}
 use Rattle.cs_play.specs.declared.player.Played.TheVariants as what
 use Rattle.cs_play.specs.declared.preparing.Prepared.{Prepared}
-use Rattle.cs_play.specs.inner.Stopping.{fault_status}
+use Rattle.cs_play.specs.inner.Faulted.{fault_status}
 use Rattle.cs_report.specs.Report.{counts_in, line_room}
 use Rattle.cs_report.specs.Talk.{Says, SaysPart, message_of}
 use Rattle.cs_report.specs.declared.counts.PerformanceCounts.{PerformanceCounts}

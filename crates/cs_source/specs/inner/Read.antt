@@ -10,7 +10,7 @@ use Rattle.cs_edge.specs.declared.files.NamedBytes.{NamedBytes}
 use Rattle.cs_arguments.specs.Reading.{AskedPiece}
 use Rattle.cs_source.specs.Meaning.{FileMeans, FilesMean}
 use Rattle.cs_source.specs.Texts.{Texts, both, csd, demo_notes, Fit, HaveWhereTold}
-use Rattle.cs_csd.specs.declared.refused.Refused.{Refused}
+use Rattle.cs_base.specs.declared.refusal.Refusal.{Refusal}
 use Rattle.cs_source.specs.declared.source.SourceText.{SourceText}
 use Rattle.cs_source.specs.declared.source.SourceText.TheVariants as read
 
@@ -35,6 +35,6 @@ pub record AreRead (files : Option (List NamedBytes)) (piece : AskedPiece) (text
   pub read_of : IsReadOf texts text
 
 -- what was read means this
-abbrev pub MeansAsRead : SampleWidth → SourceText → Result Composition Refused → Type 0
+abbrev pub MeansAsRead : SampleWidth → SourceText → Result Composition Refusal → Type 0
 MeansAsRead width (read.Pair x y) r = FilesMean width x.items y.items r
 MeansAsRead width (read.Csd x) r = FileMeans (nat_lt most_csd_bytes (length x.items)) width x.items r

@@ -4,13 +4,21 @@ pub perform_alone-requires-clause-bytes : goal.perform_alone-requires-clause-byt
 perform_alone-requires-clause-bytes g c =
     rw (c.performance_of-performance.ensures.setup, c.performance_of-performance.ensures.order) c.requires.fits
 
+pub perform_pool-requires-clause-bytes : goal.perform_pool-requires-clause-bytes
+perform_pool-requires-clause-bytes g c κs lives =
+    rw (c.performance_of-performance.ensures.setup, c.performance_of-performance.ensures.order) c.requires.fits
+
 pub perform-requires-clause-bytes : goal.perform-requires-clause-bytes
 perform-requires-clause-bytes g c κs lives =
     rw (c.performance_of-performance.ensures.setup, c.performance_of-performance.ensures.order) c.requires.fits
 
-pub returns-then-workers-eq1 : goal.returns-then-workers-eq1
-returns-then-workers-eq1 g c =
+pub returns-then-not-piece : goal.returns-then-not-piece
+returns-then-not-piece g c =
     rw c.performance_of-performance.ensures.request at c.perform_alone.ensures
+
+pub returns-then-piece : goal.returns-then-piece
+returns-then-piece g c =
+    rw c.performance_of-performance.ensures.request at c.perform_pool.ensures
 
 pub returns : goal.returns
 returns g c =

@@ -1,6 +1,4 @@
-use Rattle.std.proofs.Common.{refl}
-use Rattle.cs_compile.specs.Worked.{note_of_100, stray_byte}
-use Rattle.cs_source.proofs.SmallSounds.{narrow_sound, refused_as, wide_sound}
+use Rattle.cs_source.proofs.SmallSounds.{narrow_sound, wide_sound}
 use Rattle.cs_source.proofs.worked.sounds_worked_by_hand.Goals as goal
 use Rattle.cs_base.specs.declared.width.SampleWidth.TheVariants.{TwoBytes, ThreeBytes}
 
@@ -11,5 +9,4 @@ pub returns-clause-wide : goal.returns-clause-wide
 returns-clause-wide c = wide_sound (c.texts_worked_by_hand.ensures.sound ThreeBytes)
 
 pub returns-clause-refused : goal.returns-clause-refused
-returns-clause-refused c =
-    λ width. refused_as width stray_byte note_of_100 _ _ (c.texts_worked_by_hand.ensures.refused width) refl
+returns-clause-refused c = λ width. c.texts_worked_by_hand.ensures.refused width

@@ -9,28 +9,28 @@ use Rattle.cs_report.specs.Status.{refusal}
 use Rattle.cs_report.specs.Talk.{Says, message_of}
 use Rattle.cs_report.specs.declared.status.Status.{Status}
 use Rattle.cs_report.specs.declared.status.Status.TheVariants as status
-use Rattle.cs_source.specs.declared.loading.Stop.{Stop}
-use Rattle.cs_source.specs.declared.loading.Stop.TheVariants as stop
+use Rattle.cs_source.specs.declared.loading.LoadFault.{LoadFault}
+use Rattle.cs_source.specs.declared.loading.LoadFault.TheVariants as unloaded
 
 abbrev pub unread_status : Unread → Status
 unread_status unasked.Usage = status.Usage
 unread_status unasked.OutOfMemory = status.OutOfMemory
 
-abbrev pub stop_status : Stop → Status
-stop_status (stop.Unread name) = status.ShelfFault
-stop_status (stop.Refused r) = refusal r
-stop_status stop.OutOfMemory = status.OutOfMemory
+abbrev pub load_status : LoadFault → Status
+load_status (unloaded.Unread name) = status.ShelfFault
+load_status (unloaded.Refused r) = refusal r
+load_status unloaded.OutOfMemory = status.OutOfMemory
 
-abbrev pub name_in : Stop → List ℕ
-name_in (stop.Unread name) = name.now
-name_in (stop.Refused r) = []
-name_in stop.OutOfMemory = []
+abbrev pub name_in : LoadFault → List ℕ
+name_in (unloaded.Unread name) = name.now
+name_in (unloaded.Refused r) = []
+name_in unloaded.OutOfMemory = []
 
 abbrev pub fault_status : PlayFault → Status
 fault_status fault.Sink = status.SinkFault
 fault_status fault.OutOfMemory = status.OutOfMemory
 
 -- that there is no piece was said, and this is the status of it
-pub record HasStopped (s : Stop) (result : Status) (before now : SinkTold) : Type 0 where
-  pub status_is : result ≡ stop_status s
-  pub line : Says before now (message_of (stop_status s) (name_in s))
+pub record IsNotLoaded (s : LoadFault) (result : Status) (before now : SinkTold) : Type 0 where
+  pub status_is : result ≡ load_status s
+  pub line : Says before now (message_of (load_status s) (name_in s))
