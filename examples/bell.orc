@@ -1,4 +1,6 @@
 ; A bell by frequency modulation: one oscillator moves the frequency of another up and down.
+; Change, and listen: the ratio 1.4, as 1 or 2 for a brass tone and 3.53 for a small bell; p6 of the score, how bright
+; it begins, from 0 to 10; `afall * p4` in place of the third power, which falls as an organ's valve would.
 sr     = 44100
 ksmps  = 32
 nchnls = 1

@@ -1,4 +1,6 @@
 ; Drums out of tables: a sine whose pitch falls along a table, and noise from a table that is read by leaps.
+; Change, and listen: 180, how far the bass drum falls, as 60 for a soft and 600 for a hard stick; the snare's .4 and
+; 190, its skin; table 3 of the score, the shape of each stroke, as `f3 0 1025 -7 1 1024 0` for a longer one.
 sr     = 44100
 ksmps  = 32
 nchnls = 1
