@@ -1,4 +1,4 @@
-// Forms of the loops of a note over a row of frames, in C, as docs/DECISIONS.md compares them. bench/forms builds this
+// Forms of the loops of a note over a row of frames, in C, as bench/EXPERIMENTS.md compares them. bench/forms builds this
 // file by the kit's compiler with the product's words, and says what each form takes and what its loop is. Numbers are
 // those of the product: raw values of 48 bits in words of 64.
 typedef long long i64;

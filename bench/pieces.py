@@ -2,8 +2,7 @@
 files.
 
 LONG is timed beside Csound (bench/run), SHORT is played many times (bench/soak), FAILING is played with a
-failing call at each place (bench/failing). Every piece is one that csplay plays and, but for its opcodes of its
-own, Csound too."""
+failing call at each place (bench/failing), and has what no Csound plays: opcodes of one's own, refused texts."""
 import os
 import sys
 
@@ -41,13 +40,22 @@ def many(notes=2000, cycles=500):
 
 
 def staccato(chords=64):
-    """Chords of 48 notes of twelve oscillators, 20 cycles each with 5 light cycles after it, over two notes that stay."""
+    """Chords of 48 notes of twelve oscillators, 20 cycles each and 5 light ones after it, over two notes that stay."""
     orc = "sr = 32000\nksmps = 64\nnchnls = 1\ninstr 1\na1 oscili p4, p5, 1\nout a1\nendin\ninstr 2\n"
     orc += "".join(f"a{n} oscili p4, p5 * {n}, 1\n" for n in range(1, 13))
     orc += "out " + " + ".join(f"a{n}" for n in range(1, 13)) + "\nendin\n"
     notes = "".join(f"i2 {beat * 0.05:.2f} .04 9 {100 + 3 * n}\n" for beat in range(chords) for n in range(48))
     stay = "".join(f"i1 0 {chords * 0.05:.2f} 500 {pitch}\n" for pitch in (220, 330))
     return orc, f"f1 0 4096 10 1\n{stay}{notes}e\n"
+
+
+def held(voices, ksmps, seconds=600):
+    """Notes of one oscillator in both channels, `voices` of them from the first frame to the last: what a small piece
+    costs. Without a note, what is left: the mix and the sound file."""
+    orc = f"sr = 44100\nksmps = {ksmps}\nnchnls = 2\ninstr 1\na1 oscili p4, p5, 1\nouts a1, a1\nendin\n"
+    notes = "".join(f"i1 0 {seconds} {32000 // voices} {220 + 55 * n}\n" for n in range(voices))
+    notes = notes or f"f0 {seconds}\n"
+    return orc, f"f1 0 4096 10 1\n{notes}e\n"
 
 
 def chain():
@@ -111,6 +119,61 @@ def small_stereo():
     return orc.replace("44100", "4410"), sco
 
 
+def both_in_one():
+    """Both texts of a short piece in one file."""
+    orc, sco = own_opcodes()
+    parts = f"<CsInstruments>\n{orc}</CsInstruments>\n<CsScore>\n{sco}</CsScore>\n"
+    return (f"<CsoundSynthesizer>\n<CsOptions>\n</CsOptions>\n{parts}</CsoundSynthesizer>\n",)
+
+
+def asking():
+    """A note that asks for notes, each of which asks for one more, while another is held until it is stopped."""
+    orc = "sr = 8000\nksmps = 32\nnchnls = 1\ninstr 1\na1 oscili p4, p5, 1\nout a1\n"
+    orc += 'schedule 2, .01, .02, p4, p5 * 2\nevent_i "i", 2, .03, .02, p4, p5 * 3\nendin\n'
+    orc += "instr 2\na1 oscili p4, p5, 1\nout a1\nschedule 3, 0, .01, p4\nendin\ninstr 3\na1 = p4\nout a1\nendin\n"
+    return orc, "f1 0 256 10 1\ni1 0 .1 90 200\ni1 .02 .05 90 300\ni3 0 -1 5\ni-3 .05 0\nf0 .1\ne\n"
+
+
+def changing():
+    """Notes that write into a table that others play, and a table that the score gives twice."""
+    orc = "sr = 8000\nksmps = 32\nnchnls = 1\ninstr 1\nk1 line 0, p3, 255\ntablew k1 / 256, k1, 2\nendin\n"
+    orc += "instr 2\na1 oscili p4, p5, 2\na2 oscili p4, p5, 1\nout a1 + a2\nendin\n"
+    return orc, "f1 0 256 10 1\nf2 0 256 10 1\nf1 .05 256 10 1 .5\ni1 0 .1\ni2 0 .1 90 200\ni2 .02 .08 90 300\ne\n"
+
+
+def several_writes():
+    """A sound of 192,000 bytes, some three buffers of it."""
+    orc = "sr = 16000\nksmps = 64\nnchnls = 2\ninstr 1\na1 oscili p4, p5, 1\nouts a1, a1\nendin\n"
+    return orc, "f1 0 256 10 1\ni1 0 3 9000 200\ni1 0 3 9000 300\ne\n"
+
+
+def light_then_heavy(sections=8):
+    """Sections of 2 s in turn: eight notes of one oscillator, then 64 of sixteen."""
+    orc, _ = heavy()
+    orc += "instr 2\na1 oscili p4, p5, 1\nout a1\nendin\n"
+    light = "".join(f"i2 0 2 900 {110 + 11 * n}\n" for n in range(8))
+    dense = "".join(f"i1 0 2 20 {55 + 7 * n}\n" for n in range(64))
+    return orc, "f1 0 4096 10 1\n" + "s\n".join((light, dense)[n % 2] for n in range(sections)) + "e\n"
+
+
+def steady(notes=500, seconds=5):
+    """Light notes, of which none changes."""
+    orc = "sr = 32000\nksmps = 64\nnchnls = 1\ninstr 1\na1 oscili p4, p5, 1\nout a1\nendin\n"
+    return orc, "f1 0 4096 10 1\n" + "".join(f"i1 0 {seconds} 40 {200 + n % 300}\n" for n in range(notes)) + "e\n"
+
+
+def on_busses(notes=2000):
+    """Light notes of eight instruments, each of which adds to a bus of its instrument, 400 at once, and a mixer."""
+    orc = "sr = 32000\nksmps = 64\nnchnls = 1\n" + "".join(f"ga{n} init 0\n" for n in range(1, 9))
+    for n in range(1, 9):
+        orc += f"instr {n}\na1 oscili p4, p5, 1\nga{n} = ga{n} + a1\nendin\n"
+    orc += "instr 99\nout " + " + ".join(f"ga{n}" for n in range(1, 9)) + "\n"
+    orc += "".join(f"ga{n} = 0\n" for n in range(1, 9)) + "endin\n"
+    lines = "".join(f"i{1 + n % 8} {n * 0.002:.3f} .8 40 {200 + n % 300}\n" for n in range(notes))
+    return orc, f"f1 0 4096 10 1\n{lines}i99 0 {notes * 0.002 + 0.8:.3f}\ne\n"
+
+
+HELD = (("silence", 0), ("one voice", 1), ("4 voices", 4), ("16 voices", 16))
 LONG = {
     "demo, 64 notes": demo(64),
     "demo, 1,000 notes": demo(1000),
@@ -119,6 +182,10 @@ LONG = {
     "64 notes of 16 oscillators, 10 s": heavy(),
     "500 notes at once, one changes in each cycle, 5 s": many(),
     "staccato chords over two notes, 3.2 s": staccato(),
+    "light sections and heavy ones in turn, 16 s": light_then_heavy(),
+    "500 notes at once, none changes, 5 s": steady(),
+    "2,000 notes of 8 instruments on 8 busses, 400 at once, 4.8 s": on_busses(),
+    **{f"{name}, stereo, ksmps {ksmps}, 600 s": held(voices, ksmps) for name, voices in HELD for ksmps in (10, 64)},
 }
 SHORT = {
     "stereo": small_stereo(),
@@ -128,16 +195,32 @@ SHORT = {
     "in turn": in_turn(),
     "shared": shared(),
 }
-FAILING = {"stereo": small_stereo(), "shared": shared(), "own opcodes": own_opcodes()}
+FAILING = {
+    "stereo": small_stereo(),
+    "shared": shared(),
+    "own opcodes": own_opcodes(),
+    "both in one file": both_in_one(),
+    "demo": (),
+    "asks": asking(),
+    "tables that change": changing(),
+    "several writes": several_writes(),
+    "short reads and writes": own_opcodes(),
+    "a refused orchestra": ("instr 1\na1 = p4 +\nendin\n", "e\n"),
+    "a refused score": ("instr 1\nendin\n", "f1 0 16 10 1\ni1 0 x\n"),
+    "no words": (),
+}
+# Those that are refused, and their statuses.
+REFUSED = {"a refused orchestra": 4, "a refused score": 5, "no words": 2}
 
 
 def write(folder, name, texts):
-    """Writes the texts as files, and answers their two names, relative to the folder."""
+    """Writes the texts as files, one alone as a `.csd`, and answers their names, relative to the folder."""
     short = "".join(c if c.isalnum() else "-" for c in name)
-    for ending, text in zip(("orc", "sco"), texts):
-        with open(f"{folder}/{short}.{ending}", "w", encoding="ascii") as it:
+    names = [f"{short}.{ending}" for ending in (("csd",) if len(texts) == 1 else ("orc", "sco"))]
+    for file, text in zip(names, texts):
+        with open(f"{folder}/{file}", "w", encoding="ascii") as it:
             it.write(text)
-    return f"{short}.orc", f"{short}.sco"
+    return tuple(names[: len(texts)])
 
 
 if __name__ == "__main__":

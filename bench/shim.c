@@ -3,6 +3,8 @@
 
    FAIL=NAME:N     the Nth call of NAME fails: alloc (malloc, realloc), open, read, write, close, thread
    FAIL=NAME:N+    the Nth and all that follow fail
+   FAIL=ONE,OTHER  both of these
+   SHORT=N         a read or a write takes at most N bytes, so it is asked for again
    PROCESSORS=N    the program sees N processors
    DELAYS=N        about one of N calls of malloc, free, memcpy, sched_yield, pthread_create and of the system's wait on a
                    word (futex) takes up to 0.3 ms longer
@@ -22,9 +24,15 @@
 
 enum { ALLOC, OPEN, READ, WRITE, CLOSE, THREAD, KINDS };
 static const char *const names[KINDS] = {"alloc", "open", "read", "write", "close", "thread"};
-static long calls[KINDS], held, fail_at;
-static int fail_kind = -1, fail_on, ready;
+static long calls[KINDS], held;
+static int ready;
 static unsigned delays;
+static size_t longest;
+/* What is to fail: from which call on, or 0 for none, and whether all that follow fail too. */
+static struct {
+    long at;
+    int on;
+} failing[KINDS];
 
 extern void *__libc_malloc(size_t);
 extern void *__libc_calloc(size_t, size_t);
@@ -33,15 +41,17 @@ extern void __libc_free(void *);
 
 __attribute__((constructor)) static void begin(void) {
     const char *fail = getenv("FAIL");
-    for (int kind = 0; fail && kind < KINDS; kind++) {
-        size_t length = strlen(names[kind]);
-        if (!strncmp(fail, names[kind], length) && fail[length] == ':') {
-            char *rest;
-            fail_kind = kind;
-            fail_at = strtol(fail + length + 1, &rest, 10);
-            fail_on = *rest == '+';
+    for (; fail; fail = strchr(fail, ',') ? strchr(fail, ',') + 1 : NULL)
+        for (int kind = 0; kind < KINDS; kind++) {
+            size_t length = strlen(names[kind]);
+            if (!strncmp(fail, names[kind], length) && fail[length] == ':') {
+                char *rest;
+                failing[kind].at = strtol(fail + length + 1, &rest, 10);
+                failing[kind].on = *rest == '+';
+            }
         }
-    }
+    const char *shorter = getenv("SHORT");
+    longest = shorter ? (size_t)atol(shorter) : (size_t)-1;
     const char *delayed = getenv("DELAYS");
     delays = delayed ? (unsigned)atoi(delayed) : 0;
     ready = 1;
@@ -91,7 +101,8 @@ void _exit(int status) {
 static int fails(int kind) {
     if (!ready) return 0;
     long number = __sync_add_and_fetch(&calls[kind], 1);
-    return kind == fail_kind && (number == fail_at || (fail_on && number > fail_at));
+    long at = failing[kind].at;
+    return at && (number == at || (failing[kind].on && number > at));
 }
 
 void *malloc(size_t size) {
@@ -142,18 +153,18 @@ int open(const char *path, int flags, ...) {
 
 ssize_t read(int from, void *to, size_t size) {
     if (fails(READ)) return errno = EIO, -1;
-    return syscall(0, from, to, size);
+    return syscall(0, from, to, size < longest ? size : longest);
 }
 
 ssize_t write(int to, const void *from, size_t size) {
     if (fails(WRITE)) return errno = ENOSPC, -1;
-    return syscall(1, to, from, size);
+    return syscall(1, to, from, size < longest ? size : longest);
 }
 
 int close(int which) {
-    int failing = fails(CLOSE);
+    int is_failing = fails(CLOSE);
     int status = (int)syscall(3, which);
-    return failing ? (errno = EIO, -1) : status;
+    return is_failing ? (errno = EIO, -1) : status;
 }
 
 void *memcpy(void *restrict to, const void *restrict from, size_t size) {
