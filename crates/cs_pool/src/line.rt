@@ -19,7 +19,11 @@ use cs_edge::Gate;
 use std::alloc::{AllocError, Global};
 use std::sync::{Arc, Wait};
 use std::thread;
-use std::thread::{JoinHandle, Scope, Threads};
+use std::thread::{Builder, JoinHandle, Scope, Threads};
+
+/// The bytes of stack that a helper has, whatever the system gives. A note's program is run by recursion,
+/// which takes some hundred bytes a level.
+const STACK: usize = 1 << 20;
 
 /// How often the caller looks for the seat of a helper that still works, before it sleeps until the
 /// helper has given the seat back.
@@ -42,7 +46,8 @@ pub(crate) struct Line<J: Job> {
 }
 
 impl<J: Job + Drop> Line<J> {
-    /// Starts a helper in a thread of the scope.
+    /// Starts a helper in a thread of the scope, with a stack of its own size. It fails only for want of memory
+    /// or of a thread.
     pub(crate) fn start<'s, 'e, R, G>(
         rt: &'e R,
         scope: &'s Scope<'s, &'e ()>,
@@ -57,7 +62,12 @@ impl<J: Job + Drop> Line<J> {
     {
         let (mailbox, theirs, end, helper_end) = shared_mailbox::<J>(alloc)?;
         let (parker, unparker) = bell(alloc)?;
-        let handle = scope.spawn(move || help(rt, gate, theirs, helper_end, parker))?;
+        let Ok(handle) = Builder::new()
+            .stack_size(STACK)
+            .spawn_scoped(scope, move || help(rt, gate, theirs, helper_end, parker))
+        else {
+            return Err(AllocError);
+        };
         Ok(Line {
             mailbox,
             end,

@@ -15,15 +15,22 @@ use std::{env, io};
 /// The bytes of stack that the program's thread has. Five times what the deepest text that was found needs.
 const STACK: usize = 1 << 24;
 
-/// Runs on a thread of its own, so that the stack that the system gives a program doesn't matter; on this one where
-/// none can be started.
+/// The bytes of stack where the system gives no thread with `STACK`: more than the deepest text that was found needs.
+const SMALL_STACK: usize = 1 << 22;
+
+/// Runs on a thread of its own, so that the stack that the system gives a program doesn't matter. Where none can be
+/// started the run ends as out of memory.
 fn main(rt: HostRuntime) -> ExitCode {
-    let status = match Builder::new()
-        .stack_size(STACK)
-        .spawn(&rt, move || run(&rt))
-    {
+    let builder = Builder::new().stack_size(STACK);
+    let status = match builder.spawn(&rt, move || run(&rt)) {
         Ok(thread) => thread.join(&rt),
-        Err(_) => run(&rt),
+        Err(_) => {
+            let builder = Builder::new().stack_size(SMALL_STACK);
+            match builder.spawn(&rt, move || run(&rt)) {
+                Ok(thread) => thread.join(&rt),
+                Err(_) => starved(&rt),
+            }
+        }
     };
     ExitCode::from(status.number())
 }

@@ -6,7 +6,7 @@ use Rattle.cs_pool.proofs.Shared.{mailbox_send, mailbox_sync, end_send}
 use Rattle.cs_pool.proofs.line.Line.start.Goals as goal
 
 -- what goes to the helper's thread: its end of the mailbox, a share of the mailbox, and what it sleeps on
-pub spawn-requires-send-F : goal.spawn-requires-send-F
-spawn-requires-send-F g c κs within =
+pub spawn_scoped-requires-send-F : goal.spawn_scoped-requires-send-F
+spawn_scoped-requires-send-F g c κs within =
     search (sendable, crosses, parker.the_send, heap.the_send, heap.the_sync, mailbox_send, mailbox_sync, end_send)
     depth 40
