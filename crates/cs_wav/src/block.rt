@@ -33,9 +33,7 @@ fn each_sample(scale: Scale, mix: &[i64], out: &mut [u8]) -> u32
     let bytes = scale.width.bytes() as usize;
     let mut brought_in = 0;
     for (i, value) in mix.iter().enumerate() {
-        if scale.put_value(out, i * bytes, *value) {
-            brought_in += 1;
-        }
+        brought_in += scale.put_value(out, i * bytes, *value);
     }
     brought_in
 }

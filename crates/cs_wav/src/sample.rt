@@ -36,21 +36,21 @@ impl Scale {
         }
     }
 
-    /// Writes a mix value as a sample into `out` from place `at` on, and returns whether it had to be
-    /// brought into range.
+    /// Writes a mix value as a sample into `out` from place `at` on. Returns 1 where it had to be brought into range,
+    /// else 0.
     #[inline(always)]
-    pub(crate) fn put_value(&self, out: &mut [u8], at: usize, value: i64) -> bool
+    pub(crate) fn put_value(&self, out: &mut [u8], at: usize, value: i64) -> u32
         requires { at + bytes_of self.now.width ≤ length out.old }
         ensures written { out.new ≡ take at out.old ++ (sample_bytes self.now.width self.now.dbfs value
             ++ drop (at + bytes_of self.now.width) out.old) }
-        ensures out_of_range { result ≡ is_out_of_range self.now.width self.now.dbfs value }
+        ensures out_of_range { result ≡ (if is_out_of_range self.now.width self.now.dbfs value then 1 else 0) }
     {
         if self.holds(value) {
             put_sample(out, at, self.width, self.level(value));
-            false
+            0
         } else {
             put_sample(out, at, self.width, end_of_range(self.width, value));
-            true
+            1
         }
     }
 

@@ -1,15 +1,14 @@
-use Rattle.std.proofs.Common.{◌≡◌, ◌≤◌, ℕ, ◌+◌, ◌*◌, ℤ, pos, length, take, get_or, ap, sym, ◌∙◌, arith, rules, to_z}
-use Rattle.std.proofs.Common.{of_z, w64}
+use Rattle.std.proofs.Common.{◌≡◌, ◌≤◌, ℕ, ◌+◌, ◌*◌, ℤ, pos, Bool, true, false, length, take, get_or, ap, sym, ◌∙◌}
+use Rattle.std.proofs.Common.{if◌then◌else◌, arith, rules, to_z, of_z, w64}
 use Rattle.std.proofs.lemmas.Int.{ints}
 use Rattle.std.proofs.lemmas.List.{length-take-le, take_all}
-use Rattle.std.proofs.lemmas.List.Sums.{count_by-le-length, count_by_more_yes, count_by_more_no}
+use Rattle.std.proofs.lemmas.List.Sums.{count_by-le-length, sum_by_more}
 use Rattle.std.proofs.Math.Nat.{mul-le-mul_left}
 use Rattle.std.specs.List.{count_by}
 use Rattle.cs_base.specs.Widths.{bytes_of}
 use Rattle.cs_wav.specs.Wav.{is_out_of_range, samples_of}
 use Rattle.cs_wav.proofs.Samples.{take-written}
 use Rattle.cs_wav.proofs.block.each_sample.Goals as goal
-use Rattle.cs_wav.proofs.block.each_sample.Goals.{then-put_value, else-put_value}
 
 pub loop-i-init : goal.loop-i-init
 unfolding samples_of
@@ -21,8 +20,8 @@ loop-i-init c = record {
       search rules;
 }
 
-pub put_value-requires : goal.put_value-requires
-put_value-requires c =
+pub put_value-brought_in-requires : goal.put_value-brought_in-requires
+put_value-brought_in-requires c =
     rw c.bytes-bytes.ensures
     (omega (
       arith,
@@ -31,13 +30,22 @@ put_value-requires c =
       c.loop-i.invariant.size,
     ))
 
+one_at_most : (b : Bool) (n : ℕ) → n ≡ (if b then 1 else 0) → n ≤ 1
+one_at_most true n e = omega (arith, e)
+one_at_most false n e = omega (arith, e)
+
 pub overflow_add-brought_in : goal.overflow_add-brought_in
 overflow_add-brought_in c =
-    let few = count_by-le-length (is_out_of_range c.args.scale.width c.args.scale.dbfs)
-    (take c.loop-i.i c.args.mix.now) in
+    let scale = c.args.scale in
+    let outside = is_out_of_range scale.width scale.dbfs in
+    let value : ℤ = get_or c.args.mix.now c.loop-i.i (pos 0) in
+    let same : to_z w64 (of_z w64 value) ≡ value = omega (arith, ints) in
+    let told = rw same at c.put_value-brought_in.ensures.out_of_range in
+    let one = one_at_most (outside value) c.put_value-brought_in.result told in
+    let few = count_by-le-length outside (take c.loop-i.i c.args.mix.now) in
     let front : length (take c.loop-i.i c.args.mix.now) ≡ c.loop-i.i =
     length-take-le c.loop-i.i c.args.mix.now (omega arith) in
-    omega (arith, c.loop-i.invariant.counted)
+    omega (arith, c.loop-i.invariant.counted, one)
 
 pub loop-i-preserved : goal.loop-i-preserved
 loop-i-preserved c =
@@ -45,20 +53,14 @@ loop-i-preserved c =
     let outside = is_out_of_range scale.width scale.dbfs in
     let value : ℤ = get_or c.args.mix.now c.loop-i.i (pos 0) in
     let same : to_z w64 (of_z w64 value) ≡ value = omega (arith, ints) in
-    let written = rw (same, c.bytes-bytes.ensures) at c.put_value.ensures.written in
-    let told = rw same at c.put_value.ensures.out_of_range in
+    let written = rw (same, c.bytes-bytes.ensures) at c.put_value-brought_in.ensures.written in
+    let told = rw same at c.put_value-brought_in.ensures.out_of_range in
     record {
-      size = c.put_value.auto.out ∙ c.loop-i.invariant.size;
-      written = take-written scale.width scale.dbfs c.args.mix.now c.loop-i.out c.put_value.new.out c.loop-i.i
-          c.loop-i-test.true c.loop-i.invariant.size c.loop-i.invariant.written written;
-      counted = elim c.if-put_value.branch [
-        | then-put_value w ↦ w.brought_in-is ∙ ap (λ (n : ℕ). n + 1) c.loop-i.invariant.counted
-            ∙ sym (count_by_more_yes outside c.args.mix.now c.loop-i.i (pos 0)
-            c.loop-i-test.true (sym told ∙ w.if-put_value.true))
-        | else-put_value w ↦ w.brought_in-is ∙ c.loop-i.invariant.counted
-            ∙ sym (count_by_more_no outside c.args.mix.now c.loop-i.i (pos 0)
-            c.loop-i-test.true (sym told ∙ w.if-put_value.false))
-      ];
+      size = c.put_value-brought_in.auto.out ∙ c.loop-i.invariant.size;
+      written = take-written scale.width scale.dbfs c.args.mix.now c.loop-i.out c.put_value-brought_in.new.out
+          c.loop-i.i c.loop-i-test.true c.loop-i.invariant.size c.loop-i.invariant.written written;
+      counted = (λ j. c.loop-i.invariant.counted j + told j)
+          ∙ sym (sum_by_more (λ x. if outside x then 1 else 0) c.args.mix.now c.loop-i.i (pos 0) c.loop-i-test.true);
     }
 
 pub returns-clause-bytes : goal.returns-clause-bytes
