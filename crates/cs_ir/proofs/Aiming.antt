@@ -1,5 +1,6 @@
 -- Jumps that are aimed.
-use Rattle.std.proofs.Common.{◌≡◌, ◌∙◌, ◌<◌, ◌≤◌, ℕ, zero, suc, List, [], ◌∷◌, length, get_or, set, arith, refl, ap}
+use Rattle.std.proofs.Common.{◌≡◌, ◌∙◌, ◌+◌, ◌<◌, ◌≤◌, ◌++◌, ℕ, zero, suc, List, [], ◌∷◌, length, get_or, set, arith}
+use Rattle.std.proofs.Common.{refl, ap, subst}
 use Rattle.cs_ir.specs.Codes.{aim, aimed}
 use Rattle.cs_ir.specs.declared.op.Act.{Act}
 use Rattle.cs_ir.specs.declared.op.Op.{Op}
@@ -15,3 +16,10 @@ pub aim_none : (ops : List Op) (n to : ℕ) → length ops ≤ n → aim n to op
 aim_none [] n to h = refl
 aim_none (x ∷ ops) zero to h = absurd (omega arith)
 aim_none (x ∷ ops) (suc n) to h = ap (λ l. x ∷ l) (aim_none ops n to (omega arith))
+
+-- ops behind others
+pub aim_high : (xs ys : List Op) (n to : ℕ) → aim (length xs + n) to (xs ++ ys) ≡ xs ++ aim n to ys
+aim_high [] ys n to = let e : zero + n ≡ n = omega arith in ap (λ m. aim m to ys) e
+aim_high (x ∷ xs) ys n to =
+    let e : suc (length xs + n) ≡ suc (length xs) + n = omega arith in
+    subst (λ m. aim m to (x ∷ (xs ++ ys)) ≡ x ∷ (xs ++ aim n to ys)) e (ap (λ l. x ∷ l) (aim_high xs ys n to))

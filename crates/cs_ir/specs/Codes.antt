@@ -1,5 +1,5 @@
 -- Jumps of a code, and where they go on.
-use Rattle.std.specs.Prelude.{ℕ, zero, suc, List, [], ◌∷◌}
+use Rattle.std.specs.Prelude.{ℕ, zero, suc, Bool, true, ◌==◌, List, [], ◌∷◌}
 use Rattle.cs_ir.specs.declared.op.Act.{Act}
 use Rattle.cs_ir.specs.declared.op.Act.TheVariants as act
 use Rattle.cs_ir.specs.declared.op.Op.{Op}
@@ -15,3 +15,9 @@ abbrev pub aim : ℕ → ℕ → List Op → List Op
 aim place to [] = []
 aim zero to (op ∷ ops) = record op { act = aimed to op.act } ∷ ops
 aim (suc n) to (op ∷ ops) = op ∷ aim n to ops
+
+-- an act that is no jump, or a jump that isn't aimed yet
+abbrev pub is_unaimed : Act → Bool
+is_unaimed (act.Jump to) = to == 0
+is_unaimed (act.Unless to) = to == 0
+is_unaimed a = true

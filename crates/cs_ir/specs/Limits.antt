@@ -1,12 +1,12 @@
--- Where the registers end that ops name, by rate: one more than the greatest number of one.
+-- Where the registers end that ops name, by kind: one more than the greatest number of one.
 use Rattle.std.specs.Prelude.{ℕ, max, List, [], ◌∷◌}
-use Rattle.cs_base.specs.declared.resource.Rate.{Rate}
 use Rattle.cs_ir.specs.Registers.{reg_limit, regs_limit}
 use Rattle.cs_ir.specs.declared.op.Op.{Op}
+use Rattle.cs_ir.specs.declared.register.Kind.{Kind}
 
-abbrev pub op_limit : Rate → Op → ℕ
-op_limit r op = max (reg_limit r op.into) (regs_limit r op.from)
+abbrev pub op_limit : Kind → Op → ℕ
+op_limit k op = max (reg_limit k op.into) (regs_limit k op.from)
 
-abbrev pub ops_limit : Rate → List Op → ℕ
-ops_limit r [] = 0
-ops_limit r (op ∷ ops) = max (op_limit r op) (ops_limit r ops)
+abbrev pub ops_limit : Kind → List Op → ℕ
+ops_limit k [] = 0
+ops_limit k (op ∷ ops) = max (op_limit k op) (ops_limit k ops)

@@ -1,8 +1,8 @@
 -- The run of a code: a fold over its ops, each done where no jump has passed over it and nothing was refused.
 use Rattle.std.specs.Prelude.{ℕ, Bool, not, ◌&&◌, ◌+◌, ◌==◌, List, [], ◌∷◌, map, nat_le, if◌then◌else◌}
-use Rattle.cs_base.specs.Rates.{same_rate}
 use Rattle.cs_words.specs.Catalogue.{row_of, result_count}
 use Rattle.cs_words.specs.declared.catalogue.Opcode.{Opcode}
+use Rattle.cs_ir.specs.Registers.{rate_at, same_kind}
 use Rattle.cs_ir.specs.Values.{holds, negated, applied}
 use Rattle.cs_ir.specs.Waves.{Wave, held, silence, constant, both, chosen, operand, first_values}
 use Rattle.cs_ir.specs.Worlds.{World}
@@ -14,7 +14,7 @@ use Rattle.cs_base.specs.Rates.{res_rate}
 
 -- whether two registers are the same
 abbrev pub same_reg : Reg → Reg → Bool
-same_reg p q = same_rate p.rate q.rate && p.index == q.index
+same_reg p q = same_kind p.kind q.kind && p.offset == q.offset
 
 abbrev pub put : (Reg → Wave) → Reg → Wave → Reg → Wave
 put f r w q = if same_reg q r then w else f q
@@ -37,7 +37,7 @@ abbrev pub in_world : {W : Type 0} → W → Machine W → Machine W
 in_world x m = record m { world = x }
 
 abbrev pub write : {W : Type 0} → ℕ → Reg → Wave → Machine W → Machine W
-write ksmps into w m = record m { regs = put m.regs into (held ksmps into.rate w) }
+write ksmps into w m = record m { regs = put m.regs into (held ksmps (rate_at into) w) }
 
 -- what an opcode gives goes into a register where it has a result
 abbrev pub gives : Opcode → Bool
@@ -59,11 +59,11 @@ acts o act.Pick into ws m = write o.ksmps into (chosen (operand 0 ws) (operand 1
 acts o (act.Call f) into ws m = write o.ksmps into (λ j. applied f (operand 0 ws j)) m
 acts o (act.Load g) into ws m = write o.ksmps into (o.load g m.world) m
 acts o (act.Save g) into ws m = in_world (o.save g (held o.ksmps (res_rate g) (operand 0 ws)) m.world) m
-acts o (act.Start opcode u) into ws m = in_world (o.start opcode into.rate u (first_values ws) m.world) m
+acts o (act.Start opcode u) into ws m = in_world (o.start opcode (rate_at into) u (first_values ws) m.world) m
 acts o (act.Unit opcode u reach) into ws m =
-    written o.ksmps opcode into (o.does opcode into.rate u reach ws m.world) m
+    written o.ksmps opcode into (o.does opcode (rate_at into) u reach ws m.world) m
 acts o act.Seek into ws m = in_world (o.seek (first_values ws) m.world) m
-acts o (act.Store reach) into ws m = in_world (o.store into.rate reach ws m.world) m
+acts o (act.Store reach) into ws m = in_world (o.store (rate_at into) reach ws m.world) m
 acts o (act.Zak opcode reach) into ws m = written o.ksmps opcode into (o.zak opcode reach ws m.world) m
 acts o (act.Jump to) into ws m = record m { next = to }
 acts o (act.Unless to) into ws m = record m { next = if holds (operand 0 ws 0) then m.next else to }

@@ -1,13 +1,15 @@
 -- The registers that an op reads.
-use Rattle.std.specs.Prelude.{List, []}
+use Rattle.std.specs.Prelude.{◌<◌, ◌≤◌, List, length, take}
 use Rattle.cs_ir.specs.declared.operands.Stored.{Stored}
 use Rattle.cs_ir.specs.declared.operands.Stored.TheVariants as stored
 use Rattle.cs_ir.specs.declared.register.Reg.{Reg}
 
 -- what operands are as a list, wherever they are stored
 abbrev pub registers : Stored → List Reg
-registers stored.Nothing = []
-registers (stored.One xs) = xs
-registers (stored.Two xs) = xs
-registers (stored.Three xs) = xs
+registers (stored.Few count xs) = take count xs
 registers (stored.More v) = v.items
+
+-- three of them at most stand in the op itself, more of them in a vector
+abbrev pub IsStored : Stored → Type 0
+IsStored (stored.Few count xs) = count ≤ 3
+IsStored (stored.More v) = 3 < length v.items

@@ -1,14 +1,58 @@
--- Where registers end, by rate.
-use Rattle.std.specs.Prelude.{ℕ, ◌+◌, max, List, [], ◌∷◌, if◌then◌else◌}
-use Rattle.cs_base.specs.Rates.{same_rate}
+-- Registers by their kinds: how often what one holds changes, how many there are, and where those end that are named.
+use Rattle.std.specs.Prelude.{ℕ, Bool, ◌+◌, ◌^◌, ◌==◌, max, min, List, [], ◌∷◌, slice_index_or, if◌then◌else◌}
 use Rattle.cs_base.specs.declared.resource.Rate.{Rate}
+use Rattle.cs_base.specs.declared.resource.Rate.TheVariants as rate
+use Rattle.cs_ir.specs.declared.register.Kind.{Kind}
+use Rattle.cs_ir.specs.declared.register.Kind.TheVariants as kind
 use Rattle.cs_ir.specs.declared.register.Reg.{Reg}
+use Rattle.cs_ir.specs.declared.register.RegisterCounts.{RegisterCounts}
 
--- one more than the number of a register of a rate; 0 of any other
-abbrev pub reg_limit : Rate → Reg → ℕ
-reg_limit r q = if same_rate q.rate r then q.index + 1 else 0
+-- what holds a local variable of a rate, and what holds a temporary of one
+abbrev pub local : Rate → Kind
+local rate.Init = kind.LocalInit
+local rate.Control = kind.LocalControl
+local rate.Audio = kind.LocalAudio
 
--- one more than the greatest number of a register of a rate in a list
-abbrev pub regs_limit : Rate → List Reg → ℕ
-regs_limit r [] = 0
-regs_limit r (q ∷ qs) = max (reg_limit r q) (regs_limit r qs)
+abbrev pub temporary : Rate → Kind
+temporary rate.Init = kind.TemporaryInit
+temporary rate.Control = kind.TemporaryControl
+temporary rate.Audio = kind.TemporaryAudio
+
+-- how often what a register holds changes
+abbrev pub rate_of : Kind → Rate
+rate_of kind.LocalInit = rate.Init
+rate_of kind.LocalControl = rate.Control
+rate_of kind.Kept = rate.Init
+rate_of kind.TemporaryInit = rate.Init
+rate_of kind.TemporaryControl = rate.Control
+rate_of kind.LocalAudio = rate.Audio
+rate_of kind.TemporaryAudio = rate.Audio
+
+abbrev pub rate_at : Reg → Rate
+rate_at q = rate_of q.kind
+
+-- the kinds by number: those of rate Audio last
+abbrev pub kind_number : Kind → ℕ
+kind_number kind.LocalInit = 0
+kind_number kind.LocalControl = 1
+kind_number kind.Kept = 2
+kind_number kind.TemporaryInit = 3
+kind_number kind.TemporaryControl = 4
+kind_number kind.LocalAudio = 5
+kind_number kind.TemporaryAudio = 6
+
+abbrev pub same_kind : Kind → Kind → Bool
+same_kind k j = kind_number k == kind_number j
+
+-- how many registers of a kind there are; their numbers have 32 bits
+abbrev pub at_kind : RegisterCounts → Kind → ℕ
+at_kind counts k = min (slice_index_or counts.counts (kind_number k) 0) (2 ^ 32)
+
+-- one more than the number of a register of a kind; 0 of any other
+abbrev pub reg_limit : Kind → Reg → ℕ
+reg_limit k q = if same_kind q.kind k then q.offset + 1 else 0
+
+-- one more than the greatest number of a register of a kind in a list
+abbrev pub regs_limit : Kind → List Reg → ℕ
+regs_limit k [] = 0
+regs_limit k (q ∷ qs) = max (reg_limit k q) (regs_limit k qs)

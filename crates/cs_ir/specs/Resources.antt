@@ -67,21 +67,21 @@ abbrev pub zak_writes : Stock → Opcode → Reach → List Res
 zak_writes stock opcode r = if writes_places (row_of opcode).shape then zak_uses stock opcode r else []
 
 -- What is asked of what may be touched: what may be read or written, or what may be written alone.
-pub data Touch : Type 0 where
-  may_use : Touch
-  may_write : Touch
+pub data Access : Type 0 where
+  may_use : Access
+  may_write : Access
 
 -- what is read and not written is used alone
-abbrev pub read_only : Touch → List Res → List Res
+abbrev pub read_only : Access → List Res → List Res
 read_only may_use rs = rs
 read_only may_write rs = []
 
-abbrev pub zak_touches : Touch → Stock → Opcode → Reach → List Res
+abbrev pub zak_touches : Access → Stock → Opcode → Reach → List Res
 zak_touches may_use stock opcode r = zak_uses stock opcode r
 zak_touches may_write stock opcode r = zak_writes stock opcode r
 
 -- what an op may touch
-abbrev pub act_touches : Touch → Stock → Act → List Res
+abbrev pub act_touches : Access → Stock → Act → List Res
 act_touches t stock (act.Load g) = read_only t (g ∷ [])
 act_touches t stock (act.Save g) = g ∷ []
 act_touches t stock (act.Unit opcode u r) = read_only t (unit_uses stock opcode r)
@@ -89,7 +89,7 @@ act_touches t stock (act.Store r) = tables_within stock r
 act_touches t stock (act.Zak opcode r) = zak_touches t stock opcode r
 act_touches t stock _ = []
 
-abbrev pub ops_touch : Touch → Stock → List Op → List Res
+abbrev pub ops_touch : Access → Stock → List Op → List Res
 ops_touch t stock ops = flat_map (λ o. act_touches t stock o.act) ops
 
 -- what ops may read or write, and what they may write

@@ -1,8 +1,9 @@
 -- Which codes can be run: what an op names is there, and what it reads is what its act takes.
-use Rattle.std.specs.Prelude.{ℕ, Bool, true, false, not, ◌&&◌, ◌||◌, ◌==◌, ◌+◌, ◌∷◌, [], List, length, nat_lt, nat_le}
+use Rattle.std.specs.Prelude.{ℕ, Bool, true, false, not, ◌&&◌, ◌||◌, ◌==◌, ◌+◌, ◌∷◌, [], List, length}
+use Rattle.std.specs.Prelude.{nat_lt, nat_le}
 use Rattle.std.specs.Prelude.{if◌then◌else◌}
 use Rattle.std.specs.List.{list_all, list_any}
-use Rattle.cs_base.specs.Rates.{at_rate, is_init, is_control, is_audio, same_rate, within, res_rate}
+use Rattle.cs_base.specs.Rates.{is_init, is_control, is_audio, same_rate, within, res_rate}
 use Rattle.cs_base.specs.declared.resource.Rate.{Rate}
 use Rattle.cs_base.specs.declared.resource.Rate.TheVariants as rate
 use Rattle.cs_base.specs.declared.resource.Res.{Res}
@@ -14,6 +15,7 @@ use Rattle.cs_words.specs.declared.sign.BinOp.{BinOp}
 use Rattle.cs_words.specs.declared.word.Func.{Func}
 use Rattle.cs_words.specs.declared.word.Func.TheVariants as func
 use Rattle.cs_ir.specs.Machine.{gives}
+use Rattle.cs_ir.specs.Registers.{at_kind, rate_at}
 use Rattle.cs_ir.specs.Units.{is_unit, is_zak}
 use Rattle.cs_ir.specs.declared.op.Act.{Act}
 use Rattle.cs_ir.specs.declared.op.Act.TheVariants as act
@@ -22,9 +24,9 @@ use Rattle.cs_ir.specs.declared.op.Op.{Op}
 use Rattle.cs_ir.specs.declared.register.Counts.{Counts}
 use Rattle.cs_ir.specs.declared.register.Reg.{Reg}
 
--- whether a register is one of those that there are of its rate
+-- whether a register is one of those that there are of its kind
 abbrev pub has_register : Counts → Reg → Bool
-has_register counts q = nat_lt q.index (at_rate counts.registers q.rate)
+has_register counts q = nat_lt q.offset (at_kind counts.registers q.kind)
 
 -- whether an act writes its op's register; of `Start`, of a store and of an opcode without a result it tells the rate
 -- alone
@@ -72,12 +74,12 @@ bound_at row r = if result_count row == 0 then rate.Audio else r
 -- letters take what these registers hold, one each
 abbrev pub take_all : List Letter → Rate → List Reg → Bool
 take_all [] bound [] = true
-take_all (l ∷ ls) bound (x ∷ xs) = takes l bound x.rate && take_all ls bound xs
+take_all (l ∷ ls) bound (x ∷ xs) = takes l bound (rate_at x) && take_all ls bound xs
 take_all _ bound _ = false
 
 -- what doesn't change after the note has begun
 abbrev pub is_still : Reg → Bool
-is_still x = is_init x.rate
+is_still x = is_init (rate_at x)
 
 -- a unit is started with settled values
 abbrev pub starts_with : Row → Rate → List Reg → Bool
@@ -91,7 +93,7 @@ runs_with row r xs = take_all (moving_letters row) (bound_at row r) xs && may_ru
 -- a table is stored to sample by sample where the store and all that it takes are sounds, or else at values that are
 -- held
 abbrev pub as_sounds : Rate → Reg → Bool
-as_sounds r x = if is_audio r then is_audio x.rate else not (is_audio x.rate)
+as_sounds r x = if is_audio r then is_audio (rate_at x) else not (is_audio (rate_at x))
 
 -- a store takes a value, an index, and the number of a table, which doesn't change
 abbrev pub stores_with : Rate → List Reg → Bool
@@ -109,23 +111,23 @@ abbrev pub takes_from : Act → Rate → List Reg → Bool
 takes_from (act.Const n) r [] = true
 takes_from (act.Field k) r [] = true
 takes_from (act.Head h) r [] = true
-takes_from act.Copy r (x ∷ []) = within x.rate r
-takes_from act.Neg r (x ∷ []) = within x.rate r
-takes_from (act.Pair b) r (x ∷ y ∷ []) = within x.rate r && within y.rate r && suits_operator b r
+takes_from act.Copy r (x ∷ []) = within (rate_at x) r
+takes_from act.Neg r (x ∷ []) = within (rate_at x) r
+takes_from (act.Pair b) r (x ∷ y ∷ []) = within (rate_at x) r && within (rate_at y) r && suits_operator b r
 takes_from act.Pick r (c ∷ x ∷ y ∷ []) =
-    not (is_audio c.rate) && within c.rate r && within x.rate r && within y.rate r
-takes_from (act.Call f) r (x ∷ []) = suits_function f r x.rate
+    not (is_audio (rate_at c)) && within (rate_at c) r && within (rate_at x) r && within (rate_at y) r
+takes_from (act.Call f) r (x ∷ []) = suits_function f r (rate_at x)
 takes_from (act.Load g) r [] = has_value g && within r (res_rate g)
-takes_from (act.Save g) r (x ∷ []) = has_value g && within x.rate (res_rate g)
+takes_from (act.Save g) r (x ∷ []) = has_value g && within (rate_at x) (res_rate g)
 takes_from (act.Start opcode u) r xs = starts_with (row_of opcode) r xs
 takes_from (act.Unit opcode u reach) r xs = is_unit (row_of opcode).shape && runs_with (row_of opcode) r xs
 takes_from act.Seek r (x ∷ []) = is_still x
 takes_from (act.Store reach) r xs = stores_with r xs
 takes_from (act.Zak opcode reach) r xs = is_zak (row_of opcode).shape && runs_with (row_of opcode) r xs
 takes_from (act.Jump to) r [] = true
-takes_from (act.Unless to) r (x ∷ []) = not (is_audio x.rate)
-takes_from (act.Out c) r (x ∷ []) = is_audio x.rate
-takes_from act.OutAt r (x ∷ y ∷ []) = not (is_audio x.rate) && is_audio y.rate
+takes_from (act.Unless to) r (x ∷ []) = not (is_audio (rate_at x))
+takes_from (act.Out c) r (x ∷ []) = is_audio (rate_at x)
+takes_from act.OutAt r (x ∷ y ∷ []) = not (is_audio (rate_at x)) && is_audio (rate_at y)
 takes_from act.Turnoff r [] = true
 takes_from act.Ask r xs = nat_le 3 (length xs) && list_all is_still xs
 takes_from _ r xs = false
@@ -137,7 +139,7 @@ is_fine counts end place op =
     (not (writes op.act) || has_register counts op.into)
     && list_all (has_register counts) op.from
     && finds counts end place op.act
-    && takes_from op.act op.into.rate op.from
+    && takes_from op.act (rate_at op.into) op.from
 
 -- the ops from a place on
 abbrev pub fine_from : Counts → ℕ → ℕ → List Op → Bool

@@ -1,2 +1,6 @@
 -- What private clauses alone cite.
-pub mod Touching
+pub mod Fine
+pub mod Naming
+pub mod Reaching
+pub mod Steps
+pub mod Windows

@@ -1,65 +1,180 @@
 // Codes that are being made.
-ghost use Rattle.std.specs.Prelude.{◌≡◌, ◌++◌, ◌∷◌, [], length, IfOk, OnOk};
-ghost use Rattle.cs_ir.specs.Codes.{aim, aimed};
+ghost use Rattle.std.specs.Prelude.{◌≡◌, ◌++◌, ℕ, ◌∷◌, [], length, true, IfOk, IfSome, IsNone, OnOk};
+ghost use Rattle.cs_ir.specs.Codes.{aimed, is_unaimed};
+ghost use Rattle.cs_ir.specs.Drafts.{Aimed, Grew, IsAt, drafted, library_of};
+ghost use Rattle.cs_ir.specs.Flat.{are_within, is_within, moved_ops, ops_at, window_of};
+ghost use Rattle.cs_ir.specs.Routines.{AreRoutines, IsRoutineOf, library_in, ops_in};
+ghost use Rattle.cs_ir.specs.declared.step.Step.TheVariants as step;
+ghost use Rattle.cs_ir.specs.inner.Steps.{aim_step, aimed_step};
 
-use crate::{Act, Op, Ops};
+use crate::{Act, Call, Op, Routine, Step};
 use cs_base::OutOfMemory;
 use std::alloc::Global;
 use std::marker::Model;
 
-/// A code that is being made. Contracts see the list of its ops.
+/// A code that is being made, behind routines that it may invoke. Contracts see the steps of both, and speak of the
+/// ops that these stand for (`drafted`).
 #[derive(Drop)]
-pub struct CodeDraft {
-    ops: Vec<Op>,
+pub struct CodeDraft<'r> {
+    routines: &'r [Routine],
+    steps: Vec<Step>,
 }
 
-impl Model for CodeDraft {
-    ghost use Rattle.std.specs.Prelude.{List};
-    ghost use Rattle.cs_ir.specs.declared.op.Op.{Op};
+impl<'r> Model for CodeDraft<'r> {
+    ghost use Rattle.std.specs.Prelude.{◌≡◌, length, map, true};
+    ghost use Rattle.cs_ir.specs.Drafts.{Draft};
+    ghost use Rattle.cs_ir.specs.Flat.{are_within};
+    ghost use Rattle.cs_ir.specs.Routines.{AreRoutines, steps_of};
 
-    ghost Value = { List Op };
+    ghost Value = { Draft };
 
-    ghost view = { λ d. d.ops.items };
+    ghost view = { λ d. record { routines = map steps_of d.routines.now; steps = d.steps.items } };
+
+    ghost invariant = { λ d. AreRoutines d.routines.now
+        × (are_within (length d.steps.items) d.steps.items ≡ true) };
 }
 
-impl CodeDraft {
+/// An op of a draft. Contracts see the number of its step.
+#[derive(Clone, Copy)]
+pub struct Mark {
+    step: usize,
+}
+
+impl Model for Mark {
+    ghost use Rattle.std.specs.Prelude.{ℕ};
+
+    ghost Value = { ℕ };
+
+    ghost view = { λ m. m.step };
+
+    ghost inverse = { λ n. record { step = n } };
+}
+
+impl<'r> CodeDraft<'r> {
     /// A code without ops.
-    pub fn new(alloc: Global) -> CodeDraft
-        ensures { result ≡ [] }
+    pub fn new(alloc: Global, routines: &'r [Routine]) -> CodeDraft<'r>
+        requires { AreRoutines routines.now }
+        ensures ops { drafted result ≡ [] }
+        ensures routines { library_of result ≡ library_in routines.now }
     {
         CodeDraft {
-            ops: Vec::new(alloc),
+            routines,
+            steps: Vec::new(alloc),
         }
     }
 
-    pub fn len(&self) -> usize
-        ensures { result ≡ length self.now }
-    {
-        self.ops.len()
-    }
-
+    /// Appends an op. A jump's place is 0 until it is aimed.
     pub fn push(&mut self, op: Op) -> Result<(), OutOfMemory>
-        ensures { OnOk result (self.new ≡ self.old ++ op ∷ []) }
+        requires { is_unaimed op.act ≡ true }
+        ensures { OnOk result (Grew self.old self.new (op ∷ [])) }
     {
-        self.ops.push(op)?;
+        self.push_step(Step::Do(op))?;
         Ok(())
     }
 
-    /// Lets the jump at a place, if one stands there, go to another.
-    #[tactic(auto, using(crate::proofs::Aiming::aim_set, crate::proofs::Aiming::aim_none))]
-    pub fn aim(&mut self, place: usize, to: usize)
-        ensures { self.new ≡ aim place to self.old }
+    /// Appends a jump that is to be aimed.
+    pub fn jump(&mut self, op: Op) -> Result<Mark, OutOfMemory>
+        requires { is_unaimed op.act ≡ true }
+        ensures more { IfOk result (λ _. Grew self.old self.new (op ∷ [])) }
+        ensures mark { IfOk result (λ m. IsAt self.new m (length (drafted self.old))) }
     {
-        if let Some(op) = self.ops.get_mut(place) {
-            op.act = aimed(op.act, to);
-        }
+        let mark = Mark {
+            step: self.steps.len(),
+        };
+        self.push_step(Step::Do(op))?;
+        Ok(mark)
     }
 
-    /// The ops that were drafted.
-    pub fn end(self) -> Result<Ops, OutOfMemory>
-        ensures { IfOk result (λ o. o ≡ self) }
+    /// Appends the ops of a routine.
+    pub fn invoke(&mut self, call: Call) -> Result<(), OutOfMemory>
+        ensures { OnOk result (Grew self.old self.new
+            (moved_ops (window_of call) (length (drafted self.old)) (ops_at (library_of self.old) call.routine))) }
     {
-        Ops::of(self.ops)
+        if let Some(call) = called(self.routines, call)? {
+            self.push_step(Step::Invoke(call))?;
+        }
+        Ok(())
+    }
+
+    fn push_step(&mut self, step: Step) -> Result<(), OutOfMemory>
+        requires { is_within (length self.old.steps) step ≡ true }
+        ensures more { OnOk result (self.new ≡ record self.old { steps = self.old.steps ++ step ∷ [] }) }
+        ensures within { are_within (length self.old.steps) self.old.steps ≡ true }
+    {
+        self.steps.push(step)?;
+        Ok(())
+    }
+
+    /// Lets a jump go to the end of what is drafted.
+    pub fn aim(&mut self, mark: Mark)
+        ensures { (place : ℕ) → IsAt self.old mark place → Aimed self.old self.new place }
+    {
+        let end = self.steps.len();
+        aim_step(&mut self.steps, mark.step, end);
+    }
+
+    /// The code that was drafted.
+    pub fn end(self) -> Result<Routine, OutOfMemory>
+        ensures ops { IfOk result (λ r. ops_in (library_of self.entry) r ≡ drafted self.entry) }
+        ensures is { IfOk result (λ r. IsRoutineOf (library_of self.entry) r) }
+    {
+        Routine::of(self.routines, self.steps)
+    }
+}
+
+/// What is invoked in place of a call: nothing where its routine has no steps; and where that calls another routine and
+/// does nothing else, the other one. So routines nest no deeper than ops and calls stand beside one another.
+fn called(routines: &[Routine], call: Call) -> Result<Option<Call>, OutOfMemory>
+    ensures some { IfOk result (λ found. IfSome found (λ c. (place : ℕ)
+        → moved_ops (window_of c) place (ops_at (library_in routines.now) c.routine)
+        ≡ moved_ops (window_of call) place (ops_at (library_in routines.now) call.routine))) }
+    ensures none { IfOk result (λ found. IsNone found → ops_at (library_in routines.now) call.routine ≡ []) }
+{
+    let Some(routine) = routines.get(call.routine as usize) else {
+        return Ok(None);
+    };
+    let steps = routine.steps();
+    if steps.is_empty() {
+        return Ok(None);
+    }
+    let Some(inner) = only_call(steps) else {
+        return Ok(Some(call));
+    };
+    if inner.routine >= call.routine {
+        return Ok(Some(call));
+    }
+    match call.further(&inner) {
+        Some(both) => Ok(Some(both)),
+        None => Err(OutOfMemory),
+    }
+}
+
+/// The call that steps consist of, where they are one.
+fn only_call(steps: &[Step]) -> Option<Call>
+    ensures { IfSome result (λ c. steps.now ≡ step.Invoke c ∷ []) }
+{
+    match steps {
+        [Step::Invoke(call)] => Some(*call),
+        _ => None,
+    }
+}
+
+/// Lets the jump at a number, if one is there, go to another step.
+#[tactic(auto, using(crate::proofs::Drafting::step_set, crate::proofs::Drafting::step_none))]
+fn aim_step(steps: &mut Vec<Step>, number: usize, to: usize)
+    ensures { steps.new.items ≡ aim_step number to steps.old.items }
+{
+    if let Some(step) = steps.get_mut(number) {
+        aim_one(step, to);
+    }
+}
+
+fn aim_one(step: &mut Step, to: usize)
+    ensures { step.new ≡ aimed_step to step.old }
+{
+    match step {
+        Step::Do(op) => op.act = aimed(op.act, to),
+        Step::Invoke(_) => {}
     }
 }
 

@@ -6,8 +6,9 @@
 //! what notes share it may touch is specs/Resources.antt. How operands and what ops touch are stored and how
 //! instruments are kept may be changed without anyone above noticing.
 //!
-//! To be read in this order: `register`, `operands`, `op` (what code is made of), `loads` and `touching` (what ops
-//! touch of what notes share), `ops` (a code as a whole), `draft` (how a code is made), `validity` (which code can be
+//! To be read in this order: `register`, `operands`, `op` (what code is made of), `step` (ops and calls of routines),
+//! `window` (where a routine's registers and units begin), `touches` (what ops touch of what notes share), `routine`
+//! (steps that are made once), `ops` (a code as a whole), `draft` (how a code is made), `validity` (which code can be
 //! run), `instrument` (codes under numbers), `resources` (tables and zak places by number), `ask` (a note that a note
 //! asks for), `value` (operators and functions), `laws`.
 #![tactic(auto)]
@@ -16,26 +17,30 @@ mod ask;
 mod draft;
 mod instrument;
 mod laws;
-mod loads;
 mod op;
 mod operands;
 mod ops;
 mod register;
 mod resources;
-mod touching;
+mod routine;
+mod step;
+mod touches;
 mod validity;
 mod value;
+mod window;
 
 pub use ask::Ask;
-pub use draft::CodeDraft;
+pub use draft::{CodeDraft, Mark};
 pub use instrument::{Body, Instrument, Instruments};
 pub use laws::{valid_code_is_fine, worked_examples};
-pub use loads::Loads;
 pub use op::{Act, Code, Op, Reach};
 pub use operands::Operands;
 pub use ops::Ops;
-pub use register::{Counts, Reg};
+pub use register::{Counts, HELD_KINDS, KINDS, Kind, Reg, RegisterCounts};
 pub use resources::{places_of, zak_place};
-pub use touching::Touching;
+pub use routine::Routine;
+pub use step::{Call, Step};
+pub use touches::{Touch, Touches};
 pub use validity::ValidCode;
 pub use value::{apply, combine, holds, negate, truth};
+pub use window::{OpAt, Reads, Window};

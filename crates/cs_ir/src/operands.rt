@@ -1,19 +1,25 @@
 // Operands: the registers that an op reads.
-ghost use Rattle.std.specs.Prelude.{◌≡◌, [], ◌∷◌};
+ghost use Rattle.std.specs.Prelude.{◌≡◌, ◌≤◌, [], ◌∷◌, length, take};
 
-use crate::Reg;
+use crate::{Kind, Reg};
 use std::marker::Model;
 
 /// Up to three registers stand in the op itself, more of them in a vector: what most ops read is found without
 /// following a pointer.
 #[derive(Drop)]
 enum Stored {
-    Nothing,
-    One([Reg; 1]),
-    Two([Reg; 2]),
-    Three([Reg; 3]),
+    /// So many of these.
+    Few(u32, [Reg; FEW]),
     More(Vec<Reg>),
 }
+
+const FEW: usize = 3;
+
+/// What stands behind the last of few registers.
+const UNREAD: Reg = Reg {
+    kind: Kind::TemporaryInit,
+    offset: 0,
+};
 
 /// The registers that an op reads, in order. Contracts see the list of them.
 #[derive(Drop)]
@@ -23,45 +29,48 @@ pub struct Operands {
 
 impl Model for Operands {
     ghost use Rattle.std.specs.Prelude.{List};
-    ghost use Rattle.cs_ir.specs.Operands.{registers};
+    ghost use Rattle.cs_ir.specs.Operands.{IsStored, registers};
     ghost use Rattle.cs_ir.specs.declared.register.Reg.{Reg};
 
     ghost Value = { List Reg };
 
     ghost view = { λ o. registers o.stored };
+
+    ghost invariant = { λ o. IsStored o.stored };
 }
 
 impl Operands {
     pub fn none() -> Operands
         ensures { result ≡ [] }
     {
+        Operands::few(0, [UNREAD; FEW])
+    }
+
+    fn few(count: u32, registers: [Reg; FEW]) -> Operands
+        requires { count ≤ 3 }
+        ensures { result ≡ take count registers }
+    {
         Operands {
-            stored: Stored::Nothing,
+            stored: Stored::Few(count, registers),
         }
     }
 
     pub fn one(x: Reg) -> Operands
         ensures { result ≡ x ∷ [] }
     {
-        Operands {
-            stored: Stored::One([x]),
-        }
+        Operands::few(1, [x, UNREAD, UNREAD])
     }
 
     pub fn two(x: Reg, y: Reg) -> Operands
         ensures { result ≡ x ∷ y ∷ [] }
     {
-        Operands {
-            stored: Stored::Two([x, y]),
-        }
+        Operands::few(2, [x, y, UNREAD])
     }
 
     pub fn three(x: Reg, y: Reg, z: Reg) -> Operands
         ensures { result ≡ x ∷ y ∷ z ∷ [] }
     {
-        Operands {
-            stored: Stored::Three([x, y, z]),
-        }
+        Operands::few(3, [x, y, z])
     }
 
     /// The registers of a vector, which is kept where there are more than three of them.
@@ -79,15 +88,49 @@ impl Operands {
         }
     }
 
+    #[inline(always)]
     pub fn as_slice(&self) -> &[Reg]
         ensures { result.now ≡ self.now }
     {
         match &self.stored {
-            Stored::Nothing => &[],
-            Stored::One(registers) => registers,
-            Stored::Two(registers) => registers,
-            Stored::Three(registers) => registers,
+            Stored::Few(count, registers) => &registers[..*count as usize],
             Stored::More(registers) => registers,
+        }
+    }
+
+    /// The one register.
+    #[inline(always)]
+    pub fn only(&self) -> Reg
+        requires { length self.now ≡ 1 }
+        ensures { self.now ≡ result ∷ [] }
+    {
+        match &self.stored {
+            Stored::Few(_, registers) => registers[0],
+            Stored::More(_) => unreachable!(),
+        }
+    }
+
+    /// The two registers.
+    #[inline(always)]
+    pub fn pair(&self) -> (Reg, Reg)
+        requires { length self.now ≡ 2 }
+        ensures { self.now ≡ result.0 ∷ result.1 ∷ [] }
+    {
+        match &self.stored {
+            Stored::Few(_, registers) => (registers[0], registers[1]),
+            Stored::More(_) => unreachable!(),
+        }
+    }
+
+    /// The three registers.
+    #[inline(always)]
+    pub fn triple(&self) -> (Reg, Reg, Reg)
+        requires { length self.now ≡ 3 }
+        ensures { self.now ≡ result.0 ∷ result.1 ∷ result.2 ∷ [] }
+    {
+        match &self.stored {
+            Stored::Few(_, registers) => (registers[0], registers[1], registers[2]),
+            Stored::More(_) => unreachable!(),
         }
     }
 }

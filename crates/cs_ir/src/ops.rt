@@ -1,63 +1,72 @@
 // The ops of a code as a whole.
-ghost use Rattle.std.specs.Prelude.{◌≡◌, Bool, length, IfOk, Option};
-ghost use Rattle.std.specs.List.{list_any};
-ghost use Rattle.cs_base.specs.declared.resource.Res.{Res};
-ghost use Rattle.cs_ir.specs.Touching.{AsksFor, IsOfShared, answers};
-ghost use Rattle.cs_ir.specs.declared.op.Act.{Act};
+ghost use Rattle.std.specs.Prelude.{◌≡◌, ◌≤◌, ◌^◌, length};
+ghost use Rattle.cs_ir.specs.Flat.{flat};
+ghost use Rattle.cs_ir.specs.Limits.{ops_limit};
+ghost use Rattle.cs_ir.specs.Registers.{at_kind};
+ghost use Rattle.cs_ir.specs.Resources.{NameTheSame, Stock, ops_use, ops_write};
+ghost use Rattle.cs_ir.specs.Routines.{AreRoutines, IsRoutineOf, library_in, ops_in};
+ghost use Rattle.cs_ir.specs.Touched.{named};
+ghost use Rattle.cs_ir.specs.declared.register.Kind.{Kind};
 
-use crate::touching::touching_of;
-use crate::{Op, Touching};
-use cs_base::OutOfMemory;
+use crate::{RegisterCounts, Routine, Step, Touches};
+use std::alloc::Global;
 use std::marker::Model;
+use std::sync::Arc;
 
-/// The ops of a code. Contracts see the list of them.
+/// The ops of a code: its steps, and the routines that they invoke, which codes share. Contracts see the flat list of
+/// ops.
 #[derive(Drop)]
 pub struct Ops {
-    ops: Vec<Op>,
-    /// What they touch of what notes share.
-    touching: Touching,
+    routines: Arc<Vec<Routine>, Global>,
+    body: Routine,
 }
 
 impl Model for Ops {
-    ghost use Rattle.std.specs.Prelude.{List};
+    ghost use Rattle.std.specs.Prelude.{◌≤◌, ◌^◌, List, length};
+    ghost use Rattle.cs_ir.specs.Routines.{AreRoutines, IsRoutineOf, library_in, ops_in};
     ghost use Rattle.cs_ir.specs.declared.op.Op.{Op};
 
     ghost Value = { List Op };
 
-    ghost use Rattle.cs_ir.specs.inner.Touching.{AreTouched};
+    ghost view = { λ o. ops_in (library_in o.routines.value.items) o.body };
 
-    ghost view = { λ o. o.ops.items };
-
-    ghost invariant = { λ o. AreTouched o.touching o.ops.items };
+    ghost invariant = { λ o. AreRoutines o.routines.value.items
+        × (length o.routines.value.items ≤ 2 ^ 31)
+        × IsRoutineOf (library_in o.routines.value.items) o.body };
 }
 
 impl Ops {
-    /// The ops of a vector.
-    pub(crate) fn of(mut ops: Vec<Op>) -> Result<Ops, OutOfMemory>
-        ensures { IfOk result (λ o. o ≡ ops.items) }
+    /// The ops of steps that invoke these routines.
+    pub fn new(routines: Arc<Vec<Routine>, Global>, body: Routine) -> Ops
+        requires routines { AreRoutines routines.value.items }
+        requires few { length routines.value.items ≤ 2 ^ 31 }
+        requires body { IsRoutineOf (library_in routines.value.items) body }
+        ensures { result ≡ ops_in (library_in routines.value.items) body }
     {
-        ops.shrink_to_fit();
-        let touching = touching_of(*ops.allocator(), &ops)?;
-        Ok(Ops { ops, touching })
+        Ops { routines, body }
     }
 
-    pub fn len(&self) -> usize
-        ensures { result ≡ length self.now }
+    /// The routines that the steps invoke, and the steps.
+    #[inline(always)]
+    pub fn parts(&self) -> (&[Routine], &[Step])
+        ensures ops { flat (library_in result.0.now) result.1.now ≡ self.now }
+        ensures few { length result.0.now ≤ 2 ^ 31 }
     {
-        self.ops.len()
+        (&self.routines, self.body.steps())
     }
 
-    pub fn as_slice(&self) -> &[Op]
-        ensures { result.now ≡ self.now }
+    /// Where the registers end that the ops name.
+    pub fn limits(&self) -> RegisterCounts
+        ensures { (k : Kind) → at_kind result k ≡ ops_limit k self.now }
     {
-        &self.ops
+        self.body.limits()
     }
 
     /// What the ops touch of what notes share. It is at hand at once.
-    pub fn touching(&self) -> &Touching
-        ensures { (asks : Act → Bool) (q : Option Res) → IsOfShared asks → AsksFor asks q
-            → answers asks q result.now ≡ list_any (λ o. asks o.act) self.now }
+    pub fn touches(&self) -> &Touches
+        ensures used { (stock : Stock) → NameTheSame (named stock result.now.used.items) (ops_use stock self.now) }
+        ensures written { (stock : Stock) → NameTheSame (named stock result.now.written.items) (ops_write stock self.now) }
     {
-        &self.touching
+        self.body.touches()
     }
 }

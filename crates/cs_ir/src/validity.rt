@@ -1,16 +1,20 @@
 // Which codes can be run.
-ghost use Rattle.std.specs.Prelude.{◌≡◌, true, false, IfOk, IfErr, ◌&&◌, ◌||◌, filter};
+ghost use Rattle.std.specs.Prelude.{◌≡◌, ◌+◌, ◌≤◌, ℕ, true, false, IfOk, IfErr, ◌&&◌, ◌||◌, filter, length, map};
 ghost use Rattle.std.specs.List.{list_all, list_any};
 ghost use Rattle.cs_words.specs.Catalogue.{is_moving, row_of};
 ghost use Rattle.cs_base.specs.Rates.{same_rate};
+ghost use Rattle.cs_ir.specs.Flat.{flat, further, leaves_room, moved_act, moved_op, moved_ops, moved_reg, ops_at};
+ghost use Rattle.cs_ir.specs.Flat.{IsLow, window_of};
+ghost use Rattle.cs_ir.specs.Routines.{library_in};
 ghost use Rattle.cs_ir.specs.Units.{is_unit, is_zak};
-ghost use Rattle.cs_ir.specs.Validity.{has_register, writes, finds, suits_operator, suits_function};
+ghost use Rattle.cs_ir.specs.Validity.{has_register, writes, suits_operator, suits_function};
 ghost use Rattle.cs_ir.specs.Validity.{may_run_at, bound_at, take_all, as_sounds, stores_with, starts_with};
 ghost use Rattle.cs_ir.specs.Validity.{runs_with, is_still};
-ghost use Rattle.cs_ir.specs.Validity.{has_value, takes_from, is_fine, valid};
+ghost use Rattle.cs_ir.specs.Validity.{has_value, takes_from, fine_from, valid};
+ghost use Rattle.cs_ir.specs.inner.Fine.{finds_unit, goes_later, suits};
 ghost use Rattle.cs_ir.specs.declared.register.Reg.{Reg};
 
-use crate::{Act, Code, Counts, Op, Reg};
+use crate::{Act, Call, Code, Counts, Op, Reg, Routine, Step, Window};
 use cs_base::{Rate, Res};
 use cs_words::{BinOp, Func, Letter, Opcode, Shape, Signature, signature_of};
 use std::marker::Model;
@@ -51,15 +55,53 @@ impl Code {
     fn is_valid(&self) -> bool
         ensures { result ≡ valid self.now }
     {
-        let end = self.ops.len();
-        let mut place: usize = 0;
-        for op in self.ops.as_slice() {
-            if !op.is_fine(self.counts, end, place) {
-                return false;
+        let (routines, steps) = self.ops.parts();
+        are_fine(routines, steps, &Window::whole(), &self.counts)
+    }
+}
+
+/// Whether each op that steps stand for in a window is fine, wherever they stand in a code.
+#[cycle(fine)]
+fn are_fine(routines: &[Routine], steps: &[Step], window: &Window, counts: &Counts) -> bool
+    requires { IsLow (length routines.now) window.now }
+    ensures { (end place : ℕ) → place + length (flat (library_in routines.now) steps.now) ≤ end
+        → result ≡ fine_from counts.now end place
+        (moved_ops window.now place (flat (library_in routines.now) steps.now)) }
+{
+    for at in 0..steps.len() {
+        match &steps[at] {
+            Step::Do(op) => {
+                if !is_fine(op, at, window, counts) {
+                    return false;
+                }
             }
-            place += 1;
+            Step::Invoke(call) => {
+                if !is_call_fine(routines, call, window, counts) {
+                    return false;
+                }
+            }
         }
-        true
+    }
+    true
+}
+
+/// Whether each op of a routine is fine where it is invoked.
+#[cycle(fine)]
+fn is_call_fine(routines: &[Routine], call: &Call, window: &Window, counts: &Counts) -> bool
+    requires { IsLow (length routines.now) window.now }
+    ensures { (end place : ℕ) → place + length (ops_at (library_in routines.now) call.now.routine) ≤ end
+        → result ≡ fine_from counts.now end place (moved_ops (further window.now (window_of call.now)) place
+        (ops_at (library_in routines.now) call.now.routine)) }
+{
+    let number = call.routine as usize;
+    match routines.get(number) {
+        Some(routine) => are_fine(
+            &routines[..number],
+            routine.steps(),
+            &window.further(call),
+            counts,
+        ),
+        None => true,
     }
 }
 
@@ -81,29 +123,56 @@ impl ValidCode {
     }
 }
 
-impl Op {
-    fn is_fine(&self, counts: Counts, end: usize, place: usize) -> bool
-        ensures { result ≡ is_fine counts end place self.now }
-    {
-        let from = self.from.as_slice();
-        (!self.act.writes() || counts.has(self.into))
-            && counts.has_all(from)
-            && self.act.finds(counts, end, place)
-            && self.act.takes_from(self.into.rate, from)
-    }
+/// Whether an op is fine in a window as a step: a jump goes to a later step.
+fn is_fine(op: &Op, at: usize, window: &Window, counts: &Counts) -> bool
+    requires { leaves_room window.now ≡ true }
+    ensures { result ≡ (goes_later at op.now.act && suits counts.now (moved_op window.now 0 op.now)) }
+{
+    op.act.goes_later(at) && suits(op, window, counts)
+}
+
+/// Whether an op is fine in a window, but for where a jump goes.
+fn suits(op: &Op, window: &Window, counts: &Counts) -> bool
+    requires { leaves_room window.now ≡ true }
+    ensures { result ≡ suits counts.now (moved_op window.now 0 op.now) }
+{
+    let from = op.from.as_slice();
+    (!op.act.writes() || counts.has(window, op.into))
+        && counts.has_all(window, from)
+        && counts.has_unit(window, op.act)
+        && op.act.takes_from(op.into.rate(), from)
 }
 
 impl Counts {
-    fn has(self, register: Reg) -> bool
-        ensures { result ≡ has_register self register }
+    /// Whether a register is there that is named in a window.
+    fn has(&self, window: &Window, register: Reg) -> bool
+        requires { leaves_room window.now ≡ true }
+        ensures { result ≡ has_register self.now (moved_reg window.now register) }
     {
-        (register.index as usize) < self.registers.of(register.rate)
+        window.begin(register.kind) + (register.offset as usize) < self.registers.of(register.kind)
     }
 
-    fn has_all(self, registers: &[Reg]) -> bool
-        ensures { result ≡ list_all (has_register self) registers.now }
+    fn has_all(&self, window: &Window, registers: &[Reg]) -> bool
+        requires { leaves_room window.now ≡ true }
+        ensures { result ≡ list_all (has_register self.now) (map (moved_reg window.now) registers.now) }
     {
-        registers.iter().all(|register| self.has(*register))
+        for register in registers {
+            if !self.has(window, *register) {
+                return false;
+            }
+        }
+        true
+    }
+
+    /// Whether the unit of an act is there, where it names one.
+    fn has_unit(&self, window: &Window, act: Act) -> bool
+        requires { leaves_room window.now ≡ true }
+        ensures { result ≡ finds_unit self.now (moved_act window.now 0 act) }
+    {
+        match act {
+            Act::Start(_, unit) | Act::Unit(_, unit, _) => window.unit(unit) < self.units,
+            _ => true,
+        }
     }
 }
 
@@ -123,12 +192,12 @@ impl Act {
         }
     }
 
-    fn finds(self, counts: Counts, end: usize, place: usize) -> bool
-        ensures { result ≡ finds counts end place self }
+    /// Whether it is no jump, or one to a step behind its own. One past the last goes to the end.
+    fn goes_later(self, at: usize) -> bool
+        ensures { result ≡ goes_later at self }
     {
         match self {
-            Act::Start(_, unit) | Act::Unit(_, unit, _) => (unit as usize) < counts.units,
-            Act::Jump(to) | Act::Unless(to) => place < to && to <= end,
+            Act::Jump(to) | Act::Unless(to) => at < to,
             _ => true,
         }
     }
@@ -140,26 +209,26 @@ impl Act {
             (Act::Const(_) | Act::Field(_) | Act::Head(_), []) => true,
             (Act::Jump(_) | Act::Turnoff, []) => true,
             (Act::Load(res), []) => has_value(res) && rate.within(res.rate()),
-            (Act::Copy | Act::Neg, [x]) => x.rate.within(rate),
-            (Act::Call(function), [x]) => suits_function(function, rate, x.rate),
-            (Act::Save(res), [x]) => has_value(res) && x.rate.within(res.rate()),
-            (Act::Unless(_), [x]) => !x.rate.is_audio(),
-            (Act::Out(_), [x]) => x.rate.is_audio(),
-            (Act::OutAt, [x, y]) => !x.rate.is_audio() && y.rate.is_audio(),
+            (Act::Copy | Act::Neg, [x]) => x.rate().within(rate),
+            (Act::Call(function), [x]) => suits_function(function, rate, x.rate()),
+            (Act::Save(res), [x]) => has_value(res) && x.rate().within(res.rate()),
+            (Act::Unless(_), [x]) => !x.rate().is_audio(),
+            (Act::Out(_), [x]) => x.rate().is_audio(),
+            (Act::OutAt, [x, y]) => !x.rate().is_audio() && y.rate().is_audio(),
             (Act::Pair(operator), [x, y]) => {
-                x.rate.within(rate) && y.rate.within(rate) && suits_operator(operator, rate)
+                x.rate().within(rate) && y.rate().within(rate) && suits_operator(operator, rate)
             }
             (Act::Pick, [c, x, y]) => {
-                !c.rate.is_audio()
-                    && c.rate.within(rate)
-                    && x.rate.within(rate)
-                    && y.rate.within(rate)
+                !c.rate().is_audio()
+                    && c.rate().within(rate)
+                    && x.rate().within(rate)
+                    && y.rate().within(rate)
             }
             (Act::Start(opcode, _), _) => starts_with(opcode, rate, from),
             (Act::Unit(opcode, _, _), _) => {
                 is_unit(signature_of(opcode).shape()) && runs_with(opcode, rate, from)
             }
-            (Act::Seek, [x]) => x.rate.is_init(),
+            (Act::Seek, [x]) => x.rate().is_init(),
             (Act::Store(_), _) => stores_with(rate, from),
             (Act::Zak(opcode, _), _) => {
                 is_zak(signature_of(opcode).shape()) && runs_with(opcode, rate, from)
@@ -196,7 +265,7 @@ fn suits_function(function: Func, rate: Rate, x: Rate) -> bool
 fn are_init(registers: &[Reg]) -> bool
     ensures { result ≡ list_all is_still registers.now }
 {
-    registers.iter().all(|register| register.rate.is_init())
+    registers.iter().all(|register| register.rate().is_init())
 }
 
 fn starts_with(opcode: Opcode, rate: Rate, from: &[Reg]) -> bool
@@ -221,7 +290,7 @@ fn stores_with(rate: Rate, from: &[Reg]) -> bool
 {
     match from {
         [value, index, table] => {
-            is_as_sound(rate, *value) && is_as_sound(rate, *index) && table.rate.is_init()
+            is_as_sound(rate, *value) && is_as_sound(rate, *index) && table.rate().is_init()
         }
         _ => false,
     }
@@ -275,7 +344,7 @@ fn take_all(letters: &[Letter], bound: Rate, from: &[Reg]) -> bool
             let Some(register) = from.get(place) else {
                 return false;
             };
-            if !letter.takes(bound, register.rate) {
+            if !letter.takes(bound, register.rate()) {
                 return false;
             }
             place += 1;
@@ -288,8 +357,8 @@ fn is_as_sound(rate: Rate, register: Reg) -> bool
     ensures { result ≡ as_sounds rate register }
 {
     if rate.is_audio() {
-        register.rate.is_audio()
+        register.rate().is_audio()
     } else {
-        !register.rate.is_audio()
+        !register.rate().is_audio()
     }
 }

@@ -5,6 +5,7 @@ use Rattle.cs_base.specs.declared.resource.Rate.{Rate}
 use Rattle.cs_typed.specs.TypedTree.{Expression, number, var, field, head, neg, pair, pick, apply}
 use Rattle.cs_typed.specs.declared.tree.Var.{Var as Variable}
 use Rattle.cs_typed.specs.declared.tree.Var.TheVariants.{Local, Global}
+use Rattle.cs_ir.specs.Registers.{local}
 use Rattle.cs_ir.specs.Machine.{put}
 use Rattle.cs_ir.specs.Values.{negated, applied}
 use Rattle.cs_ir.specs.Waves.{Wave, held, constant, both, chosen, if_init, silence}
@@ -32,7 +33,7 @@ pub record Note (W : Type 0) : Type 0 where
   pub world : W
 
 abbrev pub reg : Rate → ℕ → Reg
-reg r n = record { rate = r; index = n }
+reg r n = record { kind = local r; offset = n }
 
 -- a note that begins: all its variables are 0
 abbrev pub new_note : {W : Type 0} → W → Note W

@@ -7,7 +7,7 @@ use Rattle.cs_base.specs.declared.resource.Res.{Res}
 use Rattle.cs_typed.specs.TypedTree.{Expression, number, var, field, head, neg, pair, pick, apply}
 use Rattle.cs_typed.specs.declared.tree.Var.{Var as Variable}
 use Rattle.cs_typed.specs.declared.tree.Var.TheVariants.{Local, Global}
-use Rattle.cs_ir.specs.Resources.{Stock, Touch, may_use, may_write, read_only, tables_within, unit_uses, zak_touches}
+use Rattle.cs_ir.specs.Resources.{Stock, Access, may_use, may_write, read_only, tables_within, unit_uses, zak_touches}
 use Rattle.cs_ir.specs.Waves.{if_init}
 use Rattle.cs_meaning.specs.Core.{Stmt, Block, Arms, set, unit, zak, store, out, out_at, ask, turnoff, nothing, choose}
 use Rattle.cs_meaning.specs.Core.{no_stmt, andthen, otherwise, arm}
@@ -61,7 +61,7 @@ exprs_used w es = flat_map (expr_used w) es
 
 -- What statements may touch, in any branch. Whatever is written counts as used.
 abbrev mutual
-  pub stmt_touched : Touch → When → Stock → Stmt → List Res
+  pub stmt_touched : Access → When → Stock → Stmt → List Res
   stmt_touched t w stock (set r v e) =
       let moving = read_only t (expr_used w e) in
       done_at w r (read_only t (expr_reads e) ++ var_uses v) moving (moving ++ var_uses v)
@@ -86,11 +86,11 @@ abbrev mutual
   stmt_touched t w stock nothing = []
   stmt_touched t w stock (choose r arms) = arms_touched t w stock arms
 
-  pub block_touched : Touch → When → Stock → Block → List Res
+  pub block_touched : Access → When → Stock → Block → List Res
   block_touched t w stock no_stmt = []
   block_touched t w stock (andthen s b) = stmt_touched t w stock s ++ block_touched t w stock b
 
-  pub arms_touched : Touch → When → Stock → Arms → List Res
+  pub arms_touched : Access → When → Stock → Arms → List Res
   arms_touched t w stock (otherwise b) = block_touched t w stock b
   arms_touched t w stock (arm c b rest) =
       read_only t (expr_used w c) ++ (block_touched t w stock b ++ arms_touched t w stock rest)

@@ -21,9 +21,9 @@ use Rattle.cs_ir.specs.declared.op.Op.{Op}
 use Rattle.cs_ir.specs.declared.op.Reach.{Reach}
 use Rattle.cs_ir.specs.declared.op.Reach.TheVariants as reach
 use Rattle.cs_rwset.specs.Footprints.{is_among, place_count, places_holding, stock_of, table_number}
-use Rattle.cs_rwset.specs.inner.Named.{covers, resources}
-use Rattle.cs_rwset.specs.declared.named.Named.{Named}
-use Rattle.cs_rwset.specs.declared.named.Named.TheVariants as named
+use Rattle.cs_ir.specs.Touched.{covers, resources}
+use Rattle.cs_ir.specs.declared.touches.Touch.{Touch}
+use Rattle.cs_ir.specs.declared.touches.Touch.TheVariants as touch
 use Rattle.cs_rwset.proofs.Placed.{exact_places, places_exact, among_contains, contains_among, contains_none}
 use Rattle.cs_rwset.proofs.Placed.{contains_first, contains_rest, contains_filter, filter_contains, map_contains}
 use Rattle.cs_rwset.proofs.Placed.{contains_map, contains_range, range_contains, same_tests}
@@ -148,56 +148,54 @@ module _ (areas : List Area) (place : ℕ) (g : Res) (h : HasPlace areas g place
   abbrev pub stock : Stock
   stock = stock_of areas
 
-  covered_is_named : (n : Named) (r : Res) → r ≡ g → covers stock.spaces n r ≡ true → Contains (resources stock n) r
-  covered_is_named named.Nothing r e c = absurd cc
-  covered_is_named (named.One o) r e c = among_contains (o ∷ []) r (only_one r o c)
-  covered_is_named (named.Tables reach) (res.Table n) e c =
+  covered_is_named : (n : Touch) (r : Res) → r ≡ g → covers stock.spaces n r ≡ true → Contains (resources stock n) r
+  covered_is_named (touch.One o) r e c = among_contains (o ∷ []) r (only_one r o c)
+  covered_is_named (touch.Tables reach) (res.Table n) e c =
       named_table stock reach n (table_is_live areas n place (h.0, h.1, h.2 ∙ sym e)) c
-  covered_is_named (named.Places space.Control reach) (res.ZakK n) e c =
+  covered_is_named (touch.Places space.Control reach) (res.ZakK n) e c =
       let b = and_parts (nat_lt n stock.spaces.control) (reaches reach n) c in
       let b0 = b.0 in named_place stock space.Control reach n (grind (arith, nat_tests)) b.1
-  covered_is_named (named.Places space.Audio reach) (res.ZakA n) e c =
+  covered_is_named (touch.Places space.Audio reach) (res.ZakA n) e c =
       let b = and_parts (nat_lt n stock.spaces.audio) (reaches reach n) c in
       let b0 = b.0 in named_place stock space.Audio reach n (grind (arith, nat_tests)) b.1
-  covered_is_named (named.Tables reach) (res.Gi n) e c = absurd cc
-  covered_is_named (named.Tables reach) (res.Gk n) e c = absurd cc
-  covered_is_named (named.Tables reach) (res.Ga n) e c = absurd cc
-  covered_is_named (named.Tables reach) (res.ZakK n) e c = absurd cc
-  covered_is_named (named.Tables reach) (res.ZakA n) e c = absurd cc
-  covered_is_named (named.Tables reach) (res.Control n) e c = absurd cc
-  covered_is_named (named.Tables reach) (res.Sound n) e c = absurd cc
-  covered_is_named (named.Places space.Control reach) (res.Gi n) e c = absurd cc
-  covered_is_named (named.Places space.Control reach) (res.Gk n) e c = absurd cc
-  covered_is_named (named.Places space.Control reach) (res.Ga n) e c = absurd cc
-  covered_is_named (named.Places space.Control reach) (res.ZakA n) e c = absurd cc
-  covered_is_named (named.Places space.Control reach) (res.Control n) e c = absurd cc
-  covered_is_named (named.Places space.Control reach) (res.Sound n) e c = absurd cc
-  covered_is_named (named.Places space.Control reach) (res.Table n) e c = absurd cc
-  covered_is_named (named.Places space.Audio reach) (res.Gi n) e c = absurd cc
-  covered_is_named (named.Places space.Audio reach) (res.Gk n) e c = absurd cc
-  covered_is_named (named.Places space.Audio reach) (res.Ga n) e c = absurd cc
-  covered_is_named (named.Places space.Audio reach) (res.ZakK n) e c = absurd cc
-  covered_is_named (named.Places space.Audio reach) (res.Control n) e c = absurd cc
-  covered_is_named (named.Places space.Audio reach) (res.Sound n) e c = absurd cc
-  covered_is_named (named.Places space.Audio reach) (res.Table n) e c = absurd cc
+  covered_is_named (touch.Tables reach) (res.Gi n) e c = absurd cc
+  covered_is_named (touch.Tables reach) (res.Gk n) e c = absurd cc
+  covered_is_named (touch.Tables reach) (res.Ga n) e c = absurd cc
+  covered_is_named (touch.Tables reach) (res.ZakK n) e c = absurd cc
+  covered_is_named (touch.Tables reach) (res.ZakA n) e c = absurd cc
+  covered_is_named (touch.Tables reach) (res.Control n) e c = absurd cc
+  covered_is_named (touch.Tables reach) (res.Sound n) e c = absurd cc
+  covered_is_named (touch.Places space.Control reach) (res.Gi n) e c = absurd cc
+  covered_is_named (touch.Places space.Control reach) (res.Gk n) e c = absurd cc
+  covered_is_named (touch.Places space.Control reach) (res.Ga n) e c = absurd cc
+  covered_is_named (touch.Places space.Control reach) (res.ZakA n) e c = absurd cc
+  covered_is_named (touch.Places space.Control reach) (res.Control n) e c = absurd cc
+  covered_is_named (touch.Places space.Control reach) (res.Sound n) e c = absurd cc
+  covered_is_named (touch.Places space.Control reach) (res.Table n) e c = absurd cc
+  covered_is_named (touch.Places space.Audio reach) (res.Gi n) e c = absurd cc
+  covered_is_named (touch.Places space.Audio reach) (res.Gk n) e c = absurd cc
+  covered_is_named (touch.Places space.Audio reach) (res.Ga n) e c = absurd cc
+  covered_is_named (touch.Places space.Audio reach) (res.ZakK n) e c = absurd cc
+  covered_is_named (touch.Places space.Audio reach) (res.Control n) e c = absurd cc
+  covered_is_named (touch.Places space.Audio reach) (res.Sound n) e c = absurd cc
+  covered_is_named (touch.Places space.Audio reach) (res.Table n) e c = absurd cc
 
-  named_is_covered : (n : Named) (r : Res) → Contains (resources stock n) r → covers stock.spaces n r ≡ true
-  named_is_covered named.Nothing r k = absurd (contains_none r k)
-  named_is_covered (named.One o) r k = let x = contains_among (o ∷ []) r k in one_only r o x
-  named_is_covered (named.Tables reach) r k =
-      let t = table_named stock reach r k in subst (λ q. covers stock.spaces (named.Tables reach) q ≡ true) t.3 t.2
-  named_is_covered (named.Places space.Control reach) r k =
+  named_is_covered : (n : Touch) (r : Res) → Contains (resources stock n) r → covers stock.spaces n r ≡ true
+  named_is_covered (touch.One o) r k = let x = contains_among (o ∷ []) r k in one_only r o x
+  named_is_covered (touch.Tables reach) r k =
+      let t = table_named stock reach r k in subst (λ q. covers stock.spaces (touch.Tables reach) q ≡ true) t.3 t.2
+  named_is_covered (touch.Places space.Control reach) r k =
       let t = place_named stock space.Control reach r k in
       let l = t.1 in
-      subst (λ q. covers stock.spaces (named.Places space.Control reach) q ≡ true) t.3
+      subst (λ q. covers stock.spaces (touch.Places space.Control reach) q ≡ true) t.3
       (and_from (nat_lt t.0 stock.spaces.control) (reaches reach t.0) (grind (arith, nat_tests)) t.2)
-  named_is_covered (named.Places space.Audio reach) r k =
+  named_is_covered (touch.Places space.Audio reach) r k =
       let t = place_named stock space.Audio reach r k in
       let l = t.1 in
-      subst (λ q. covers stock.spaces (named.Places space.Audio reach) q ≡ true) t.3
+      subst (λ q. covers stock.spaces (touch.Places space.Audio reach) q ≡ true) t.3
       (and_from (nat_lt t.0 stock.spaces.audio) (reaches reach t.0) (grind (arith, nat_tests)) t.2)
 
-  pub covers_named : (n : Named) → covers stock.spaces n g ≡ is_among (resources stock n) g
+  pub covers_named : (n : Touch) → covers stock.spaces n g ≡ is_among (resources stock n) g
   covers_named n =
       same_tests (covers stock.spaces n g) (is_among (resources stock n) g)
       (λ c. contains_among (resources stock n) g (covered_is_named n g refl c))

@@ -4,7 +4,6 @@ pub mod Holding
 pub mod Marking
 pub mod Placed
 pub mod Spans
-pub mod Touched
 pub mod ZoneSteps
 pub mod ZonesCover
 pub mod ZonesLaid

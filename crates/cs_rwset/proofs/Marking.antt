@@ -1,12 +1,11 @@
 -- Marks that are set one by one.
 use Rattle.std.proofs.Common.{◌≡◌, ◌<◌, ◌≤◌, ◌+◌, ◌++◌, ℕ, zero, suc, List, [], ◌∷◌, length, get_or, set, take, drop}
 use Rattle.std.proofs.Common.{slice_get, replicate, Some, Bool, true, false, ◌||◌, refl, sym, ◌∙◌, ap, subst, arith}
-use Rattle.std.specs.List.{filter, flat_map, range_with_len}
-use Rattle.std.proofs.lemmas.List.{append-nil, append_assoc, length-append, length-drop, length-map, length-take-le}
-use Rattle.std.proofs.lemmas.List.{take_more}
-use Rattle.std.proofs.lemmas.List.Concat.{flat_map-append}
+use Rattle.std.specs.List.{filter, range_with_len}
+use Rattle.std.proofs.lemmas.List.{append-nil, append_assoc, get_or_default, length-append, length-drop, length-map, length-take-le}
 use Rattle.cs_base.specs.declared.spaces.Spaces.{Spaces}
-use Rattle.cs_ir.specs.declared.op.Act.{Act}
+use Rattle.cs_ir.proofs.Naming.{flat_next}
+use Rattle.cs_ir.specs.Resources.{NameTheSame}
 use Rattle.std.proofs.lemmas.List.Elements.{filter-append}
 use Rattle.std.proofs.lemmas.Bool.{cond-true, cond-false, false_from_ne_true}
 use Rattle.std.proofs.lemmas.List.Folds.{list_any-append}
@@ -18,9 +17,10 @@ use Rattle.cs_cells.specs.declared.footprint.Area.{Area}
 use Rattle.cs_rwset.specs.Footprints.{is_among, is_of_one, is_place, place_count, places_holding, stock_of}
 use Rattle.cs_words.specs.declared.catalogue.Space.{Space}
 use Rattle.std.proofs.lemmas.List.Sums.{count_by_more_yes, count_by_more_no}
-use Rattle.cs_rwset.specs.inner.Named.{covers, resources}
-use Rattle.cs_rwset.specs.declared.named.Named.{Named}
+use Rattle.cs_ir.specs.Touched.{covers, named, resources}
+use Rattle.cs_ir.specs.declared.touches.Touch.{Touch}
 use Rattle.cs_rwset.proofs.Covering.{covers_named}
+use Rattle.cs_rwset.proofs.Placed.{among_alike}
 use Rattle.cs_rwset.specs.inner.Marks.{marked, marked_by, marks_of}
 use Rattle.std.proofs.lemmas.Option.{slice_get_within}
 
@@ -114,23 +114,17 @@ more_marks areas rs xs Q h =
     same_marks (λ r. is_among rs r || Q r) (is_among (rs ++ xs)) areas
     (λ place a e. ap (λ b. is_among rs a.res || b) (h place a e) ∙ sym (list_any-append (same_res a.res) rs xs))
 
--- what an act marks, where what it names covers the areas of what it may use
-pub act_marks : (areas : List Area) (rs xs : List Res) (wide names : Named) → resources (stock_of areas) wide ≡ xs
-    → ((r : Res) → covers (stock_of areas).spaces names r ≡ covers (stock_of areas).spaces wide r)
-    → marked_by (λ r. is_among rs r || covers (stock_of areas).spaces names r) areas ≡ marks_of areas (rs ++ xs)
-act_marks areas rs xs wide names is same =
-    more_marks areas rs xs (covers (stock_of areas).spaces names)
-    (λ place a e. same a.res ∙ covers_named areas place a.res (a, e, refl) wide ∙ ap (λ l. is_among l a.res) is)
+-- what is touched marks the areas of its resources
+pub touch_marks : (areas : List Area) (rs : List Res) (spaces : Spaces) (t : Touch) → spaces ≡ (stock_of areas).spaces
+    → marked_by (λ r. is_among rs r || covers spaces t r) areas ≡ marks_of areas (rs ++ resources (stock_of areas) t)
+touch_marks areas rs spaces t sized =
+    more_marks areas rs (resources (stock_of areas) t) (covers spaces t)
+    (λ place a e. ap (λ s. covers s t a.res) sized ∙ covers_named areas place a.res (a, e, refl) t)
 
-pub op_marks : (areas : List Area) (rs xs : List Res) (spaces : Spaces) (wide names : Named)
-    → spaces ≡ (stock_of areas).spaces → resources (stock_of areas) wide ≡ xs
-    → ((r : Res) → covers spaces names r ≡ covers spaces wide r)
-    → marked_by (λ r. is_among rs r || covers spaces names r) areas ≡ marks_of areas (rs ++ xs)
-op_marks areas rs xs spaces wide names sized is =
-    subst
-    (λ s. ((r : Res) → covers s names r ≡ covers s wide r)
-    → marked_by (λ r. is_among rs r || covers s names r) areas ≡ marks_of areas (rs ++ xs))
-    (sym sized) (act_marks areas rs xs wide names is)
+-- resources that are named in another order, or again
+pub alike_marks : (areas : List Area) (xs ys : List Res) → NameTheSame xs ys → marks_of areas xs ≡ marks_of areas ys
+alike_marks areas xs ys same =
+    same_marks (is_among xs) (is_among ys) areas (λ k a e. among_alike xs ys same a.res)
 
 -- before the first op nothing is marked
 pub none_marked : (areas : List Area) (n : ℕ) → n ≡ length areas → replicate n false ≡ marks_of areas []
@@ -160,20 +154,15 @@ rewritten_long n old new k long is =
     let t = length-take-le n (new ++ drop (length new) old) (omega (arith, a, d, long)) in
     omega (arith, t, long, is)
 
--- what an element of a list more gives
-list_more : {X Y : Type 0} (f : X → List Y) (xs : List X) (i : ℕ) (d : X) → i < length xs
-    → flat_map f (take i xs) ++ f (get_or xs i d) ≡ flat_map f (take (i + 1) xs)
-list_more f xs i d l =
-    sym (ap (flat_map f) (take_more xs i d l) ∙ flat_map-append f (take i xs) (get_or xs i d ∷ [])
-    ∙ ap (λ t. flat_map f (take i xs) ++ t) (append-nil (f (get_or xs i d))))
-
--- what one more act names
-pub list_step : (areas : List Area) (f : Act → List Res) (rs : List Res) (acts : List Act) (i : ℕ) (a : Act)
-    → a ≡ get_or acts i a → i < length acts
-    → marks_of areas ((rs ++ flat_map f (take i acts)) ++ f a) ≡ marks_of areas (rs ++ flat_map f (take (i + 1) acts))
-list_step areas f rs acts i a is l =
-    ap (marks_of areas) (append_assoc rs (flat_map f (take i acts)) (f a)
-    ∙ ap (λ y. rs ++ (flat_map f (take i acts) ++ f y)) is ∙ ap (λ t. rs ++ t) (list_more f acts i a l))
+-- what is touched by one more
+pub touch_step : (areas : List Area) (rs : List Res) (touches : List Touch) (i : ℕ) (d : Touch) → i < length touches
+    → marks_of areas ((rs ++ named (stock_of areas) (take i touches)) ++ resources (stock_of areas) (get_or touches i d))
+    ≡ marks_of areas (rs ++ named (stock_of areas) (take (i + 1) touches))
+touch_step areas rs touches i d low =
+    let stock = stock_of areas in
+    let t = get_or touches i d in
+    ap (marks_of areas) (append_assoc rs (named stock (take i touches)) (resources stock t)
+    ∙ ap (λ l. rs ++ l) (flat_next (resources stock) touches i t low (get_or_default touches i d t low)))
 
 -- one more area is counted, or isn't
 pub get_at : (areas : List Area) (i : ℕ) (a : Area) → slice_get areas i ≡ Some a → get_or areas i a ≡ a

@@ -12,11 +12,11 @@ use Rattle.cs_cells.specs.declared.footprint.Area.{Area}
 use Rattle.cs_ir.specs.Resources.{places_of, places_within, reaches, zak_place}
 use Rattle.cs_ir.specs.declared.op.Reach.{Reach}
 use Rattle.cs_rwset.specs.Footprints.{is_among, stock_of}
-use Rattle.cs_rwset.specs.declared.named.Named.TheVariants as named
+use Rattle.cs_ir.specs.declared.touches.Touch.TheVariants as touch
 use Rattle.cs_rwset.specs.declared.runs.Run.{Run}
 use Rattle.cs_rwset.specs.declared.runs.Runs.{Runs}
 use Rattle.cs_rwset.specs.inner.Marks.{marked_by}
-use Rattle.cs_rwset.specs.inner.Named.{covers}
+use Rattle.cs_ir.specs.Touched.{covers}
 use Rattle.cs_rwset.specs.inner.Runs.{AreInOrder, AreRuns, IsRun, begin_of}
 use Rattle.cs_rwset.proofs.Covering.{covers_named, named_place, place_named}
 use Rattle.cs_rwset.proofs.Marking.{or_here, or_not, same_marks}
@@ -65,7 +65,7 @@ module _ (areas : List Area) (s : Space) (begin : ℕ) (laid : IsLaid areas)
   count = places_of (stock_of areas).spaces s
 
   abbrev pub test : Res → Bool
-  test = covers (stock_of areas).spaces (named.Places s r)
+  test = covers (stock_of areas).spaces (touch.Places s r)
 
   -- an area that is covered stands where its number says
   covered_at : (k : ℕ) (a : Area) → slice_get areas k ≡ Some a → test a.res ≡ true
@@ -73,7 +73,7 @@ module _ (areas : List Area) (s : Space) (begin : ℕ) (laid : IsLaid areas)
   covered_at k a g c =
       let within = places_within (stock_of areas) s r in
       let among : is_among within a.res ≡ true =
-      sym (covers_named areas k a.res (a, g, refl) (named.Places s r)) ∙ c in
+      sym (covers_named areas k a.res (a, g, refl) (touch.Places s r)) ∙ c in
       let t = place_named (stock_of areas) s r a.res (among_contains within a.res among) in
       (t.0, t.1, t.2, laid.apart k (begin + t.0) (zak_place s t.0) (a, g, sym t.3) (order.each t.0 t.1))
 
@@ -84,7 +84,7 @@ module _ (areas : List Area) (s : Space) (begin : ℕ) (laid : IsLaid areas)
       let p = order.each n l in
       let there : slice_get areas k ≡ Some p.0 = ap (slice_get areas) e ∙ p.1 in
       let same : p.0.res ≡ a.res = let f = sym there ∙ g in cc in
-      covers_named areas k a.res (a, g, refl) (named.Places s r)
+      covers_named areas k a.res (a, g, refl) (touch.Places s r)
       ∙ contains_among within a.res
       (subst (Contains within) (sym p.2 ∙ same) (named_place (stock_of areas) s r n l h))
 
@@ -125,10 +125,10 @@ pub placed_is : (areas : List Area) (s : Space) (spaces : Spaces) (count begin :
     → ((n : ℕ) → n < count → reaches r n ≡ true → (numbers.from ≤ n) × (n < numbers.to))
     → ((n : ℕ) → numbers.from ≤ n → n < numbers.to → reaches r n ≡ true) → numbers.to ≤ count
     → numbers.from ≤ numbers.to → run.from ≡ begin + numbers.from → run.to ≡ begin + numbers.to
-    → IsRun areas (covers spaces (named.Places s r)) run
+    → IsRun areas (covers spaces (touch.Places s r)) run
 placed_is areas s spaces count begin r laid sized counted order numbers run within all few ordered from to =
     let same : count ≡ places_of (stock_of areas).spaces s = counted ∙ ap (λ z. places_of z s) sized in
-    subst (λ z. IsRun areas (covers z (named.Places s r)) run) (sym sized)
+    subst (λ z. IsRun areas (covers z (touch.Places s r)) run) (sym sized)
     (placed_run areas s begin laid (subst (λ m. AreInOrder areas s m begin) same order) r numbers run
     (λ n l. within n (omega (arith, l, same))) all (omega (arith, few, same)) ordered from to)
 

@@ -1,6 +1,6 @@
 -- A small layout, and the footprints of single ops in it.
 use Rattle.std.specs.Prelude.{ℕ, List, [], ◌∷◌, map}
-use Rattle.cs_base.specs.declared.resource.Rate.TheVariants as rate
+use Rattle.cs_ir.specs.declared.register.Kind.TheVariants as kind
 use Rattle.cs_base.specs.declared.resource.Res.TheVariants.{Gk, Control, ZakK, Table}
 use Rattle.cs_cells.specs.declared.footprint.Area.{Area}
 use Rattle.cs_ir.specs.Resources.{ops_use, ops_write}
@@ -23,7 +23,7 @@ seven_areas =
 
 -- ops that do these acts
 abbrev ops_of : List Act → List Op
-ops_of acts = map (λ a. record { act = a; into = record { rate = rate.Control; index = 0 }; from = [] }) acts
+ops_of acts = map (λ a. record { act = a; into = record { kind = kind.LocalControl; offset = 0 }; from = [] }) acts
 
 -- what ops that do these acts may use there, and what they may write
 abbrev pub used : List Act → List ℕ

@@ -1,4 +1,3 @@
 pub mod Marks
-pub mod Named
 pub mod Runs
 pub mod Zoning

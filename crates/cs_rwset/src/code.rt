@@ -1,18 +1,14 @@
 // What a code may touch, as marks of the areas.
-ghost use Rattle.std.specs.Prelude.{◌≡◌, ◌++◌, List, length, IfOk};
-ghost use Rattle.std.specs.List.{flat_map};
-ghost use Rattle.cs_base.specs.declared.resource.Res.{Res};
-ghost use Rattle.cs_cells.specs.Areas.{IsLaid};
-ghost use Rattle.cs_ir.specs.Resources.{act_uses, act_writes, ops_use, ops_write};
+ghost use Rattle.std.specs.Prelude.{◌≡◌, IfOk};
+ghost use Rattle.cs_ir.specs.Resources.{ops_use, ops_write};
 ghost use Rattle.cs_rwset.specs.Footprints.{stock_of};
 ghost use Rattle.cs_rwset.specs.inner.Marks.{marks_of};
-ghost use Rattle.cs_rwset.specs.inner.Runs.{AreRuns};
 
-use crate::marks::{mark_act, mark_loads};
+use crate::marks::mark_all;
 use crate::runs::Runs;
 use cs_base::OutOfMemory;
 use cs_cells::Layout;
-use cs_ir::{Act, Ops};
+use cs_ir::Ops;
 use std::alloc::Global;
 
 /// Of each area, whether a code may use it, and whether it may write it.
@@ -37,26 +33,8 @@ pub(crate) fn marks_of(alloc: Global, ops: &Ops, layout: &Layout) -> Result<Mark
     };
     // No two areas are of one resource.
     let _ = layout.words();
-    let touching = ops.touching();
-    marks.add_acts(layout, &runs, &touching.acts);
-    mark_loads(&mut marks.uses, layout, &touching.loads);
+    let touches = ops.touches();
+    mark_all(&mut marks.uses, layout, &runs, &touches.used);
+    mark_all(&mut marks.writes, layout, &runs, &touches.written);
     Ok(marks)
-}
-
-impl Marks {
-    /// Marks what acts may use, and what they may write.
-    fn add_acts(&mut self, layout: &Layout, runs: &Runs, acts: &[Act])
-        requires laid { IsLaid layout.now }
-        requires runs { AreRuns layout.now runs.now }
-        requires uses { length self.old.uses.items ≡ length layout.now }
-        requires writes { length self.old.writes.items ≡ length layout.now }
-        ensures uses { (rs : List Res) → self.old.uses.items ≡ marks_of layout.now rs
-            → self.new.uses.items ≡ marks_of layout.now (rs ++ flat_map (act_uses (stock_of layout.now)) acts.now) }
-        ensures writes { (rs : List Res) → self.old.writes.items ≡ marks_of layout.now rs
-            → self.new.writes.items ≡ marks_of layout.now (rs ++ flat_map (act_writes (stock_of layout.now)) acts.now) }
-    {
-        for act in acts {
-            mark_act(&mut self.uses, &mut self.writes, layout, runs, act);
-        }
-    }
 }

@@ -3,65 +3,63 @@ ghost use Rattle.std.specs.Prelude.{◌≡◌, ◌≤◌, ◌-◌, ◌||◌, ◌
 ghost use Rattle.cs_base.specs.Rates.{same_res};
 ghost use Rattle.cs_base.specs.declared.resource.Res.{Res};
 ghost use Rattle.cs_cells.specs.Areas.{IsLaid};
-ghost use Rattle.cs_ir.specs.Resources.{act_uses, act_writes};
-ghost use Rattle.cs_ir.specs.Touching.{has};
 ghost use Rattle.cs_rwset.specs.Footprints.{stock_of};
 ghost use Rattle.cs_rwset.specs.inner.Marks.{marked, marked_by, marks_of};
-ghost use Rattle.cs_rwset.specs.inner.Named.{covers};
+ghost use Rattle.cs_ir.specs.Touched.{covers, named};
 ghost use Rattle.cs_rwset.specs.inner.Runs.{AreRuns};
 
-use crate::named::{Named, names_of, writes};
 use crate::runs::{Run, Runs};
 use cs_base::{OutOfMemory, Places, Res, Spaces};
 use cs_cells::Layout;
-use cs_ir::{Act, Loads};
+use cs_ir::{Reach, Touch, places_of, zak_place};
 use std::alloc::Global;
 
-/// Marks what an act may use, and what it may write.
-pub fn mark_act(uses: &mut [bool], written: &mut [bool], layout: &Layout, runs: &Runs, act: &Act)
+/// Marks each area whose resource is among what is touched.
+pub fn mark_all(marks: &mut [bool], layout: &Layout, runs: &Runs, touches: &[Touch])
     requires laid { IsLaid layout.now }
     requires runs { AreRuns layout.now runs.now }
-    requires uses { length uses.old ≡ length layout.now }
-    requires writes { length written.old ≡ length layout.now }
-    ensures uses { (rs : List Res) → uses.old ≡ marks_of layout.now rs
-        → uses.new ≡ marks_of layout.now (rs ++ act_uses (stock_of layout.now) act.now) }
-    ensures writes { (rs : List Res) → written.old ≡ marks_of layout.now rs
-        → written.new ≡ marks_of layout.now (rs ++ act_writes (stock_of layout.now) act.now) }
+    requires long { length marks.old ≡ length layout.now }
+    ensures { (rs : List Res) → marks.old ≡ marks_of layout.now rs
+        → marks.new ≡ marks_of layout.now (rs ++ named (stock_of layout.now) touches.now) }
 {
-    let named = names_of(*act);
-    let names = named.narrowed(runs.spaces);
-    mark(uses, layout, runs, names);
-    if writes(*act) {
-        mark(written, layout, runs, names);
+    for touch in touches {
+        mark(marks, layout, runs, *touch);
     }
 }
 
-/// Marks each area whose resource is named.
-fn mark(marks: &mut [bool], layout: &Layout, runs: &Runs, names: Named)
+/// Marks each area whose resource is touched.
+fn mark(marks: &mut [bool], layout: &Layout, runs: &Runs, touch: Touch)
     requires laid { IsLaid layout.now }
     requires runs { AreRuns layout.now runs.now }
     requires long { length marks.old ≡ length layout.now }
     ensures { (P : Res → Bool) → marks.old ≡ marked_by P layout.now
-        → marks.new ≡ marked_by (λ r. P r || covers runs.now.spaces names r) layout.now }
+        → marks.new ≡ marked_by (λ r. P r || covers runs.now.spaces touch r) layout.now }
 {
-    match names {
-        Named::Nothing => {}
-        Named::One(res) => mark_one(marks, layout, res),
-        _ => mark_many(marks, layout, runs, names),
+    match touch {
+        Touch::One(res) => mark_one(marks, layout, res),
+        Touch::Tables(Reach::Span(first, last)) if first == last => {
+            mark_one(marks, layout, Res::Table(first as usize));
+        }
+        Touch::Places(space, Reach::Span(first, last)) if first == last => {
+            if first < places_of(runs.spaces, space) {
+                mark_one(marks, layout, zak_place(space, first as usize));
+            }
+        }
+        _ => mark_many(marks, layout, runs, touch),
     }
 }
 
 /// Marks each area whose resource is named, at once where they lie side by side.
-fn mark_many(marks: &mut [bool], layout: &Layout, runs: &Runs, names: Named)
+fn mark_many(marks: &mut [bool], layout: &Layout, runs: &Runs, touch: Touch)
     requires laid { IsLaid layout.now }
     requires runs { AreRuns layout.now runs.now }
     requires long { length marks.old ≡ length layout.now }
     ensures { (P : Res → Bool) → marks.old ≡ marked_by P layout.now
-        → marks.new ≡ marked_by (λ r. P r || covers runs.now.spaces names r) layout.now }
+        → marks.new ≡ marked_by (λ r. P r || covers runs.now.spaces touch r) layout.now }
 {
-    match runs.run(names) {
+    match runs.run(touch) {
         Some(run) => mark_run(marks, run),
-        None => mark_all(marks, layout, runs.spaces, names),
+        None => mark_each(marks, layout, runs.spaces, touch),
     }
 }
 
@@ -88,26 +86,13 @@ fn mark_one(marks: &mut [bool], layout: &Layout, res: Res)
 }
 
 /// Marks each area whose resource is named, by a look at every area.
-fn mark_all(marks: &mut [bool], layout: &Layout, spaces: Spaces, names: Named)
+fn mark_each(marks: &mut [bool], layout: &Layout, spaces: Spaces, touch: Touch)
     requires long { length marks.old ≡ length layout.now }
     ensures { (P : Res → Bool) → marks.old ≡ marked_by P layout.now
-        → marks.new ≡ marked_by (λ r. P r || covers spaces names r) layout.now }
+        → marks.new ≡ marked_by (λ r. P r || covers spaces touch r) layout.now }
 {
     for place in 0..layout.len() {
-        if names.covers(spaces, layout.area(place).res) {
-            marks[place as usize] = true;
-        }
-    }
-}
-
-/// Marks each area whose resource is in a set of variables.
-pub fn mark_loads(marks: &mut [bool], layout: &Layout, loads: &Loads)
-    requires long { length marks.old ≡ length layout.now }
-    ensures { (P : Res → Bool) → marks.old ≡ marked_by P layout.now
-        → marks.new ≡ marked_by (λ r. P r || has loads.now r) layout.now }
-{
-    for place in 0..layout.len() {
-        if loads.contains(layout.area(place).res) {
+        if touch.covers(spaces, layout.area(place).res) {
             marks[place as usize] = true;
         }
     }

@@ -6,14 +6,13 @@ ghost use Rattle.cs_cells.specs.declared.footprint.Area.{Area};
 ghost use Rattle.cs_ir.specs.Resources.{places_of, reaches, zak_place};
 ghost use Rattle.cs_ir.specs.declared.op.Reach.TheVariants as reach;
 ghost use Rattle.cs_rwset.specs.Footprints.{is_place, place_count, stock_of};
-ghost use Rattle.cs_rwset.specs.declared.named.Named.TheVariants as named;
-ghost use Rattle.cs_rwset.specs.inner.Named.{covers};
+ghost use Rattle.cs_ir.specs.declared.touches.Touch.TheVariants as touched;
+ghost use Rattle.cs_ir.specs.Touched.{covers};
 ghost use Rattle.cs_rwset.specs.inner.Runs.{AreInOrder, AreRuns, Finds, IsRun, begin_of, is_told};
 
-use crate::named::Named;
 use cs_base::{Res, Spaces};
 use cs_cells::Layout;
-use cs_ir::{Reach, places_of, zak_place};
+use cs_ir::{Reach, Touch, places_of, zak_place};
 use cs_words::Space;
 
 /// Places or numbers from one up to another, which isn't among them.
@@ -53,14 +52,14 @@ impl Runs {
     }
 
     /// The areas whose resources are named; None where no run tells them.
-    pub fn run(&self, names: Named) -> Option<Run>
+    pub fn run(&self, touch: Touch) -> Option<Run>
         ensures run { IfSome result (λ run. (areas : List Area) → IsLaid areas → AreRuns areas self.now
-            → IsRun areas (covers self.now.spaces names) run) }
-        ensures told { is_some result ≡ is_told self.now names }
+            → IsRun areas (covers self.now.spaces touch) run) }
+        ensures told { is_some result ≡ is_told self.now touch }
     {
-        match names {
-            Named::Tables(Reach::Any) => self.tables,
-            Named::Places(space, reach) => self.places(space, reach),
+        match touch {
+            Touch::Tables(Reach::Any) => self.tables,
+            Touch::Places(space, reach) => self.places(space, reach),
             _ => None,
         }
     }
@@ -68,7 +67,7 @@ impl Runs {
     /// The areas of the places of a zak space within a reach; None where no run tells them.
     fn places(&self, space: Space, reach: Reach) -> Option<Run>
         ensures run { IfSome result (λ run. (areas : List Area) → IsLaid areas → AreRuns areas self.now
-            → IsRun areas (covers self.now.spaces (named.Places space reach)) run) }
+            → IsRun areas (covers self.now.spaces (touched.Places space reach)) run) }
         ensures told { is_some result ≡ is_some (begin_of self.now space) }
     {
         match self.begin(space) {
@@ -92,7 +91,7 @@ impl Runs {
 fn placed(begin: u32, count: u32, reach: Reach) -> Run
     ensures { (areas : List Area) (s : Space) (spaces : Spaces) → IsLaid areas → length areas ≤ most_resources
         → spaces ≡ (stock_of areas).spaces → count ≡ places_of spaces s → AreInOrder areas s count begin
-        → IsRun areas (covers spaces (named.Places s reach)) result }
+        → IsRun areas (covers spaces (touched.Places s reach)) result }
 {
     let numbers = numbers_within(reach, count);
     Run {
@@ -151,7 +150,7 @@ fn first_place(layout: &Layout, space: Space) -> u32
 
 /// The areas of tables, if they lie side by side.
 fn find_tables(layout: &Layout, spaces: Spaces) -> Option<Run>
-    ensures { Finds (IsRun layout.now (covers spaces (named.Tables reach.Any))) result }
+    ensures { Finds (IsRun layout.now (covers spaces (touched.Tables reach.Any))) result }
 {
     let from = next_table(layout, spaces, 0);
     let to = next_other(layout, spaces, from);
@@ -167,12 +166,12 @@ fn next_table(layout: &Layout, spaces: Spaces, from: u32) -> u32
     requires { from ≤ length layout.now }
     ensures within { (from ≤ result) × (result ≤ length layout.now) }
     ensures here { (a : Area) → slice_get layout.now result ≡ Some a
-        → covers spaces (named.Tables reach.Any) a.res ≡ true }
+        → covers spaces (touched.Tables reach.Any) a.res ≡ true }
     ensures before { (place : ℕ) (a : Area) → slice_get layout.now place ≡ Some a → from ≤ place → place < result
-        → covers spaces (named.Tables reach.Any) a.res ≡ false }
+        → covers spaces (touched.Tables reach.Any) a.res ≡ false }
 {
     for place in from..layout.len() {
-        if Named::Tables(Reach::Any).covers(spaces, layout.area(place).res) {
+        if Touch::Tables(Reach::Any).covers(spaces, layout.area(place).res) {
             return place;
         }
     }
@@ -184,12 +183,12 @@ fn next_other(layout: &Layout, spaces: Spaces, from: u32) -> u32
     requires { from ≤ length layout.now }
     ensures within { (from ≤ result) × (result ≤ length layout.now) }
     ensures here { (a : Area) → slice_get layout.now result ≡ Some a
-        → covers spaces (named.Tables reach.Any) a.res ≡ false }
+        → covers spaces (touched.Tables reach.Any) a.res ≡ false }
     ensures before { (place : ℕ) (a : Area) → slice_get layout.now place ≡ Some a → from ≤ place → place < result
-        → covers spaces (named.Tables reach.Any) a.res ≡ true }
+        → covers spaces (touched.Tables reach.Any) a.res ≡ true }
 {
     for place in from..layout.len() {
-        if !Named::Tables(Reach::Any).covers(spaces, layout.area(place).res) {
+        if !Touch::Tables(Reach::Any).covers(spaces, layout.area(place).res) {
             return place;
         }
     }

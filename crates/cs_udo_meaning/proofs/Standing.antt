@@ -5,9 +5,8 @@ use Rattle.std.specs.Str.{bytes_eq as same_path}
 use Rattle.std.proofs.lemmas.Bool.{and_parts}
 use Rattle.std.proofs.lemmas.Bool.Decides.{nat_tests}
 use Rattle.std.proofs.lemmas.Slice.Eq.{bytes_eq-Decides}
-use Rattle.cs_base.proofs.Rates.{same_rate_is}
 use Rattle.cs_base.proofs.Tests.{some_is}
-use Rattle.cs_base.specs.Rates.{same_rate, res_rate}
+use Rattle.cs_base.specs.Rates.{res_rate}
 use Rattle.cs_base.specs.declared.resource.Rate.{Rate}
 use Rattle.cs_base.specs.declared.resource.Rate.TheVariants as rate
 use Rattle.cs_base.specs.declared.resource.Res.{Res}
@@ -25,7 +24,9 @@ use Rattle.cs_typing.specs.Expressions.{rate_of}
 use Rattle.cs_typing.specs.Known.{Shared, place_in, global, channel_of}
 use Rattle.cs_typing.specs.declared.known.Channel.{Channel}
 use Rattle.cs_typing.specs.declared.known.Channel.TheVariants as channel
+use Rattle.cs_ir.proofs.RegisterKinds.{kind_is}
 use Rattle.cs_ir.specs.Machine.{same_reg, put}
+use Rattle.cs_ir.specs.Registers.{local, rate_of as kind_rate, same_kind}
 use Rattle.cs_ir.specs.Waves.{Wave, held}
 use Rattle.cs_ir.specs.Worlds.{World}
 use Rattle.cs_meaning.specs.Core.{core_stmt}
@@ -60,9 +61,17 @@ same_truth true c p q = sym (p refl)
 same_truth false true p q = q refl
 same_truth false false p q = refl
 
+local_rate : (r : Rate) → kind_rate (local r) ≡ r
+local_rate rate.Init = refl
+local_rate rate.Control = refl
+local_rate rate.Audio = refl
+
 same_reg_is : (r s : Rate) (n m : ℕ) → same_reg (reg r n) (reg s m) ≡ true → (r ≡ s) × (n ≡ m)
 same_reg_is r s n m h =
-    let parts = and_parts (same_rate r s) (n == m) h in (same_rate_is r s parts.0, equal_tests n m parts.1)
+    let parts = and_parts (same_kind (local r) (local s)) (n == m) h in (
+      sym (local_rate r) ∙ ap kind_rate (kind_is (local r) (local s) parts.0) ∙ local_rate s,
+      equal_tests n m parts.1,
+    )
 
 same_reg_here : (r s : Rate) (n m : ℕ) → r ≡ s → n ≡ m → same_reg (reg r n) (reg s m) ≡ true
 same_reg_here r s n m e f =

@@ -8,11 +8,11 @@ use Rattle.cs_cells.specs.declared.footprint.Area.{Area}
 use Rattle.cs_ir.specs.Resources.{places_of, zak_place}
 use Rattle.cs_ir.specs.declared.op.Reach.TheVariants as reach
 use Rattle.cs_rwset.specs.Footprints.{stock_of}
-use Rattle.cs_rwset.specs.declared.named.Named.{Named}
-use Rattle.cs_rwset.specs.declared.named.Named.TheVariants as named
+use Rattle.cs_ir.specs.declared.touches.Touch.{Touch}
+use Rattle.cs_ir.specs.declared.touches.Touch.TheVariants as touch
 use Rattle.cs_rwset.specs.declared.runs.Run.{Run}
 use Rattle.cs_rwset.specs.declared.runs.Runs.{Runs}
-use Rattle.cs_rwset.specs.inner.Named.{covers}
+use Rattle.cs_ir.specs.Touched.{covers}
 use Rattle.cs_words.specs.declared.catalogue.Space.{Space}
 use Rattle.cs_words.specs.declared.catalogue.Space.TheVariants as space
 
@@ -43,11 +43,11 @@ begin_of runs space.Audio = runs.audio
 pub record AreRuns (areas : List Area) (runs : Runs) : Type 0 where
   pub few : length areas ≤ most_resources
   pub spaces : runs.spaces ≡ (stock_of areas).spaces
-  pub tables : Finds (IsRun areas (covers runs.spaces (named.Tables reach.Any))) runs.tables
+  pub tables : Finds (IsRun areas (covers runs.spaces (touch.Tables reach.Any))) runs.tables
   pub places : (s : Space) → Finds (AreInOrder areas s (places_of runs.spaces s)) (begin_of runs s)
 
 -- whether runs tell what is named: all tables, or places of a zak space, where that lies side by side
-abbrev pub is_told : Runs → Named → Bool
-is_told runs (named.Tables reach.Any) = is_some runs.tables
-is_told runs (named.Places s r) = is_some (begin_of runs s)
+abbrev pub is_told : Runs → Touch → Bool
+is_told runs (touch.Tables reach.Any) = is_some runs.tables
+is_told runs (touch.Places s r) = is_some (begin_of runs s)
 is_told runs _ = false

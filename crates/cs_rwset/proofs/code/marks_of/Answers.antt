@@ -1,42 +1,33 @@
-use Rattle.std.proofs.Common.{◌∙◌, [], ap, arith, length}
-use Rattle.std.specs.List.{flat_map}
-use Rattle.std.proofs.lemmas.List.{length-map}
-use Rattle.cs_ir.specs.Resources.{act_uses, act_writes, ops_use}
-use Rattle.cs_rwset.specs.Footprints.{is_among, stock_of}
+use Rattle.std.proofs.Common.{◌∙◌, [], ap, arith}
+use Rattle.cs_ir.specs.Resources.{ops_use, ops_write}
+use Rattle.cs_ir.specs.Touched.{named}
+use Rattle.cs_rwset.specs.Footprints.{stock_of}
 use Rattle.cs_rwset.specs.inner.Marks.{marks_of}
-use Rattle.cs_rwset.proofs.Marking.{none_marked, rewritten}
-use Rattle.cs_rwset.proofs.Touched.{marks_used, marks_written}
+use Rattle.cs_rwset.proofs.Marking.{alike_marks, none_marked, rewritten}
 use Rattle.cs_rwset.proofs.code.marks_of.Goals as goal
-
-pub mark_loads-requires : goal.mark_loads-requires
-mark_loads-requires c =
-    let areas = c.args.layout.now in
-    let listed = flat_map (act_uses (stock_of areas)) c.deref.result.now in record {
-      long = ap length (c.deref_mut.ensures.value
-          ∙ c.add_acts.ensures.uses [] (c.in_ok-vec.ensures.items_if_clones_equal (λ y h. h)
-          ∙ none_marked areas _ c.len-areas.ensures))
-          ∙ length-map areas (λ a. is_among listed a.res);
-    }
 
 pub returns-clause-uses : goal.returns-clause-uses
 returns-clause-uses c =
     let areas = c.args.layout.now in
     let stock = stock_of areas in
-    let touching = c.touching-touching.result.now in
-    let listed = flat_map (act_uses stock) touching.acts.items in
-    let marks = c.add_acts.new.self.uses in
-    let before = c.add_acts.ensures.uses [] (c.in_ok-vec.ensures.items_if_clones_equal (λ y h. h)
-    ∙ none_marked areas _ c.len-areas.ensures)
-    ∙ ap (λ l. marks_of areas (flat_map (act_uses stock) l)) c.deref.ensures.value in
-    rewritten areas listed (ops_use stock c.args.ops.now) marks.len marks.items c.mark_loads.new.marks before
+    let marks = c.in_ok-vec.field-0 in
+    let before = c.in_ok-vec.ensures.items_if_clones_equal (λ y h. h) ∙ none_marked areas _ c.len-areas.ensures in
+    rewritten areas [] (ops_use stock c.args.ops.now) marks.len marks.items c.mark_all.new.marks before
     (omega (arith, marks.ok))
-    (c.mark_loads.ensures (is_among listed) (c.deref_mut.ensures.value ∙ before)
-    ∙ marks_used areas touching c.args.ops.now c.touching-touching.ensures)
+    (c.mark_all.ensures [] (c.deref_mut.ensures.value ∙ before)
+    ∙ ap (λ l. marks_of areas (named stock l)) c.deref.ensures.value
+    ∙ alike_marks areas (named stock c.touches-touches.result.now.used.items) (ops_use stock c.args.ops.now)
+    (c.touches-touches.ensures.used stock))
 
 pub returns-clause-writes : goal.returns-clause-writes
 returns-clause-writes c =
     let areas = c.args.layout.now in
-    c.add_acts.ensures.writes [] (c.in_ok-vec-2.ensures.items_if_clones_equal (λ y h. h)
-    ∙ none_marked areas _ c.len-areas.ensures)
-    ∙ ap (λ l. marks_of areas (flat_map (act_writes (stock_of areas)) l)) c.deref.ensures.value
-    ∙ marks_written areas c.touching-touching.result.now c.args.ops.now c.touching-touching.ensures
+    let stock = stock_of areas in
+    let marks = c.in_ok-vec-2.field-0 in
+    let before = c.in_ok-vec-2.ensures.items_if_clones_equal (λ y h. h) ∙ none_marked areas _ c.len-areas.ensures in
+    rewritten areas [] (ops_write stock c.args.ops.now) marks.len marks.items c.mark_all-2.new.marks before
+    (omega (arith, marks.ok))
+    (c.mark_all-2.ensures [] (c.deref_mut-2.ensures.value ∙ before)
+    ∙ ap (λ l. marks_of areas (named stock l)) c.deref-2.ensures.value
+    ∙ alike_marks areas (named stock c.touches-touches.result.now.written.items) (ops_write stock c.args.ops.now)
+    (c.touches-touches.ensures.written stock))

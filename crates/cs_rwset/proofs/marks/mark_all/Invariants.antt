@@ -1,12 +1,12 @@
-use Rattle.std.proofs.Common.{◌≡◌, length, Bool}
+use Rattle.std.proofs.Common.{◌≡◌, ◌++◌, List, length, take}
 use Rattle.cs_base.specs.declared.resource.Res.{Res}
-use Rattle.cs_rwset.specs.inner.Marks.{marked_by}
-use Rattle.cs_rwset.specs.inner.Named.{covers}
-use Rattle.cs_rwset.proofs.Marking.{half}
+use Rattle.cs_ir.specs.Touched.{named}
+use Rattle.cs_rwset.specs.Footprints.{stock_of}
+use Rattle.cs_rwset.specs.inner.Marks.{marks_of}
 use Rattle.cs_rwset.proofs.marks.mark_all.Given as goal
 
-abbrev pub invariant-loop-place : goal.invariant-loop-place
-invariant-loop-place l =
+abbrev pub invariant-loop-touch : goal.invariant-loop-touch
+invariant-loop-touch l =
     (length l.marks ≡ length l.layout)
-    × ((P : Res → Bool) → l.initial.marks ≡ marked_by P l.layout
-    → l.marks ≡ half P (covers l.spaces l.names) l.place l.layout)
+    × ((rs : List Res) → l.initial.marks ≡ marks_of l.layout rs
+    → l.marks ≡ marks_of l.layout (rs ++ named (stock_of l.layout) (take l.touch-index l.touches)))

@@ -1,5 +1,5 @@
 use Rattle.std.proofs.Common.{◌∙◌, ◌-◌, ap, arith}
-use Rattle.cs_rwset.specs.inner.Named.{covers}
+use Rattle.cs_ir.specs.Touched.{covers}
 use Rattle.cs_rwset.proofs.Spans.{marked_run, set_from}
 use Rattle.cs_rwset.proofs.marks.mark_many.Goals as goal
 
@@ -16,5 +16,5 @@ returns-in-Some c P e =
     let areas = c.args.layout.now in
     let run = c.in-Some.run' in
     c.mark_run.ensures ∙ ap (set_from run.from (run.to - run.from) run.to) e
-    ∙ marked_run P (covers c.args.runs.now.spaces c.args.names) areas run
+    ∙ marked_run P (covers c.args.runs.now.spaces c.args.touch) areas run
     (c.in-Some.ensures.run areas c.requires.laid c.requires.runs)

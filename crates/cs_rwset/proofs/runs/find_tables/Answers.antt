@@ -1,7 +1,7 @@
 use Rattle.std.proofs.Common.{arith}
 use Rattle.cs_ir.specs.declared.op.Reach.TheVariants as reach
-use Rattle.cs_rwset.specs.declared.named.Named.TheVariants as named
-use Rattle.cs_rwset.specs.inner.Named.{covers}
+use Rattle.cs_ir.specs.declared.touches.Touch.TheVariants as touch
+use Rattle.cs_ir.specs.Touched.{covers}
 use Rattle.cs_rwset.proofs.Spans.{no_run}
 use Rattle.cs_rwset.proofs.runs.find_tables.Goals as goal
 
@@ -13,7 +13,7 @@ returns-else-next_table-len c =
     let onward = next.ensures.within in
     let last = onward.1 in (
       tt,
-      no_run c.args.layout.now (covers c.args.spaces (named.Tables reach.Any)) from.result to.result next.result
+      no_run c.args.layout.now (covers c.args.spaces (touch.Tables reach.Any)) from.result to.result next.result
           from.ensures.here to.ensures.here next.ensures.here to.ensures.within.0 onward.0
           (omega (arith, last, c.if-next_table-len.false, c.len.ensures)),
     )

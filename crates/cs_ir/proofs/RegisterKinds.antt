@@ -1,0 +1,57 @@
+-- Kinds of registers, known by their numbers.
+use Rattle.std.proofs.Common.{◌≡◌, ◌∙◌, ◌<◌, ◌^◌, ℕ, zero, suc, true, List, [], ◌∷◌, arith, eqb-true, ltb-true, refl}
+use Rattle.std.proofs.Common.{sym, ap}
+use Rattle.std.specs.List.{list_all}
+use Rattle.std.proofs.lemmas.Bool.{and_from, and_parts}
+use Rattle.std.proofs.lemmas.Bool.Decides.{nat_tests}
+use Rattle.cs_ir.specs.Flat.{is_small}
+use Rattle.cs_ir.specs.Registers.{at_kind, kind_number, same_kind}
+use Rattle.cs_ir.specs.Validity.{has_register}
+use Rattle.cs_ir.specs.declared.register.Counts.{Counts}
+use Rattle.cs_ir.specs.declared.register.Kind.{Kind}
+use Rattle.cs_ir.specs.declared.register.Kind.TheVariants as kind
+use Rattle.cs_ir.specs.declared.register.Reg.{Reg}
+
+kind_at : ℕ → Kind
+kind_at zero = kind.LocalInit
+kind_at (suc zero) = kind.LocalControl
+kind_at (suc (suc zero)) = kind.Kept
+kind_at (suc (suc (suc zero))) = kind.TemporaryInit
+kind_at (suc (suc (suc (suc zero)))) = kind.TemporaryControl
+kind_at (suc (suc (suc (suc (suc zero))))) = kind.LocalAudio
+kind_at (suc (suc (suc (suc (suc (suc n)))))) = kind.TemporaryAudio
+
+number_back : (k : Kind) → kind_at (kind_number k) ≡ k
+unfolding kind_at
+number_back kind.LocalInit = refl
+number_back kind.LocalControl = refl
+number_back kind.Kept = refl
+number_back kind.TemporaryInit = refl
+number_back kind.TemporaryControl = refl
+number_back kind.LocalAudio = refl
+number_back kind.TemporaryAudio = refl
+
+pub kind_is : (j k : Kind) → same_kind j k ≡ true → j ≡ k
+kind_is j k h =
+    sym (number_back j) ∙ ap kind_at (eqb-true (kind_number j) (kind_number k) h) ∙ number_back k
+
+pub kind_same : (k : Kind) → same_kind k k ≡ true
+kind_same kind.LocalInit = refl
+kind_same kind.LocalControl = refl
+kind_same kind.Kept = refl
+kind_same kind.TemporaryInit = refl
+kind_same kind.TemporaryControl = refl
+kind_same kind.LocalAudio = refl
+kind_same kind.TemporaryAudio = refl
+
+-- registers that there are have numbers of 32 bits
+pub there_small : (c : Counts) (q : Reg) → has_register c q ≡ true → is_small q ≡ true
+there_small c q there =
+    let low : q.offset < at_kind c.registers q.kind = ltb-true _ _ there in
+    let small : q.offset < 2 ^ 32 = omega (arith, low) in grind (arith, nat_tests)
+
+pub all_small : (c : Counts) (qs : List Reg) → list_all (has_register c) qs ≡ true → list_all is_small qs ≡ true
+all_small c [] h = refl
+all_small c (q ∷ qs) h =
+    let parts = and_parts (has_register c q) (list_all (has_register c) qs) h in
+    and_from _ _ (there_small c q parts.0) (all_small c qs parts.1)

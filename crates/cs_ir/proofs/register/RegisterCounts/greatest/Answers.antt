@@ -1,0 +1,12 @@
+use Rattle.std.proofs.Common.{arith, rules}
+use Rattle.cs_ir.specs.declared.register.Kind.TheVariants as kind
+use Rattle.cs_ir.proofs.register.RegisterCounts.greatest.Goals as goal
+
+pub returns : goal.returns
+returns c kind.LocalInit = search (rules, arith)
+returns c kind.LocalControl = search (rules, arith)
+returns c kind.Kept = search (rules, arith)
+returns c kind.TemporaryInit = search (rules, arith)
+returns c kind.TemporaryControl = search (rules, arith)
+returns c kind.LocalAudio = search (rules, arith)
+returns c kind.TemporaryAudio = search (rules, arith)

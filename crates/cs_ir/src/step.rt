@@ -1,0 +1,42 @@
+// Steps: what a code consists of, ops and calls of routines.
+ghost use Rattle.std.specs.Prelude.{◌≡◌, IfSome};
+ghost use Rattle.cs_ir.specs.Flat.{further, window_of};
+
+use crate::Op;
+use cs_base::PerRate;
+
+/// A call of a routine: its number, and where its local variables of each rate, its kept values and its units begin
+/// behind those of what invokes it.
+#[derive(Clone, Copy)]
+pub struct Call {
+    pub routine: u32,
+    pub locals: PerRate<u32>,
+    pub kept: u32,
+    pub unit: u32,
+}
+
+/// What is done next: an op, of which a jump goes to a later step of the same list; or the steps of a routine.
+#[derive(Drop)]
+pub enum Step {
+    Do(Op),
+    Invoke(Call),
+}
+
+impl Call {
+    /// A call of what its routine calls: the two at once.
+    pub fn further(&self, call: &Call) -> Option<Call>
+        ensures window { IfSome result (λ c. window_of c ≡ further (window_of self.now) (window_of call.now)) }
+        ensures routine { IfSome result (λ c. c.routine ≡ call.now.routine) }
+    {
+        Some(Call {
+            routine: call.routine,
+            locals: PerRate {
+                init: self.locals.init.checked_add(call.locals.init)?,
+                control: self.locals.control.checked_add(call.locals.control)?,
+                audio: self.locals.audio.checked_add(call.locals.audio)?,
+            },
+            kept: self.kept.checked_add(call.kept)?,
+            unit: self.unit.checked_add(call.unit)?,
+        })
+    }
+}

@@ -1,0 +1,186 @@
+// Windows: where the registers and units of a routine begin as its steps are done; and ops in them.
+ghost use Rattle.std.specs.Prelude.{◌≡◌, ◌+◌, ◌<◌, ◌∷◌, [], ℕ, length, slice_get, true};
+ghost use Rattle.std.specs.List.{list_all};
+ghost use Rattle.cs_ir.specs.Placed.{regs_read, there};
+ghost use Rattle.cs_ir.specs.Flat.{IsLow, begin_of, further, is_small, leaves_room, moved_reg, no_window, window_of};
+
+use crate::{Call, KINDS, Kind, Op, Reg};
+use std::marker::Model;
+
+/// Where the registers of each kind and the units of a routine begin among those of a note. Contracts see where its
+/// local variables of each rate, its kept values and its units begin; temporaries are no routine's own.
+#[derive(Clone, Copy)]
+pub struct Window {
+    /// By kind; 0 of temporaries.
+    begins: [usize; KINDS],
+    unit: usize,
+}
+
+impl Model for Window {
+    ghost use Rattle.std.specs.Prelude.{◌≡◌};
+    ghost use Rattle.cs_ir.specs.Flat.{Begins};
+    ghost use Rattle.cs_ir.specs.inner.Windows.{numbers, seen};
+
+    ghost Value = { Begins };
+
+    ghost view = { λ w. seen w.begins w.unit };
+
+    ghost inverse = { λ w. record { begins = numbers w; unit = w.unit } };
+
+    ghost invariant = { λ w. w.begins ≡ numbers (seen w.begins w.unit) };
+}
+
+impl Window {
+    /// The window of a code as a whole.
+    pub fn whole() -> Window
+        ensures { result ≡ no_window }
+    {
+        Window {
+            begins: [0; KINDS],
+            unit: 0,
+        }
+    }
+
+    /// The window of what a call in it invokes.
+    pub fn further(&self, call: &Call) -> Window
+        requires { leaves_room self.now ≡ true }
+        ensures window { result ≡ further self.now (window_of call.now) }
+        ensures low { (depth inner : ℕ) → IsLow depth self.now → inner < depth → IsLow inner result }
+    {
+        Window {
+            begins: [
+                self.begins[0] + call.locals.init as usize,
+                self.begins[1] + call.locals.control as usize,
+                self.begins[2] + call.kept as usize,
+                0,
+                0,
+                self.begins[5] + call.locals.audio as usize,
+                0,
+            ],
+            unit: self.unit + call.unit as usize,
+        }
+    }
+
+    /// Where the registers of a kind begin.
+    pub(crate) fn begin(&self, kind: Kind) -> usize
+        ensures { result ≡ begin_of self.now kind }
+    {
+        self.begins[kind as usize]
+    }
+
+    /// A register that a routine's op names.
+    #[inline(always)]
+    pub fn register(&self, register: Reg) -> Reg
+        requires { is_small (moved_reg self.now register) ≡ true }
+        ensures { result ≡ moved_reg self.now register }
+    {
+        let offset = self.begin(register.kind) + register.offset as usize;
+        Reg {
+            kind: register.kind,
+            offset: offset as u32,
+        }
+    }
+
+    /// A unit that a routine's op names.
+    #[inline(always)]
+    pub fn unit(&self, number: u32) -> usize
+        requires { leaves_room self.now ≡ true }
+        ensures { result ≡ self.now.unit + number }
+    {
+        self.unit + number as usize
+    }
+}
+
+/// An op where it is done: what it names is found in a window. Contracts speak of the op with all numbers moved
+/// (`there`).
+#[derive(Clone, Copy)]
+pub struct OpAt<'o> {
+    pub op: &'o Op,
+    pub window: &'o Window,
+}
+
+impl<'o> OpAt<'o> {
+    /// The register that it writes, where its act writes one.
+    #[inline(always)]
+    pub fn writes(&self) -> Reg
+        requires { is_small (there self.now).into ≡ true }
+        ensures { result ≡ (there self.now).into }
+    {
+        self.window.register(self.op.into)
+    }
+
+    /// The registers that it reads.
+    #[inline(always)]
+    pub fn reads(&self) -> Reads<'o>
+        ensures { regs_read result ≡ (there self.now).from }
+    {
+        Reads {
+            registers: self.op.from.as_slice(),
+            window: self.window,
+        }
+    }
+
+    /// The one register that it reads.
+    #[inline(always)]
+    pub fn only(&self) -> Reg
+        requires one { length (there self.now).from ≡ 1 }
+        requires small { list_all is_small (there self.now).from ≡ true }
+        ensures { (there self.now).from ≡ result ∷ [] }
+    {
+        self.window.register(self.op.from.only())
+    }
+
+    /// The two registers that it reads.
+    #[inline(always)]
+    pub fn pair(&self) -> (Reg, Reg)
+        requires two { length (there self.now).from ≡ 2 }
+        requires small { list_all is_small (there self.now).from ≡ true }
+        ensures { (there self.now).from ≡ result.0 ∷ result.1 ∷ [] }
+    {
+        let (x, y) = self.op.from.pair();
+        (self.window.register(x), self.window.register(y))
+    }
+
+    /// The three registers that it reads.
+    #[inline(always)]
+    pub fn triple(&self) -> (Reg, Reg, Reg)
+        requires three { length (there self.now).from ≡ 3 }
+        requires small { list_all is_small (there self.now).from ≡ true }
+        ensures { (there self.now).from ≡ result.0 ∷ result.1 ∷ result.2 ∷ [] }
+    {
+        let (x, y, z) = self.op.from.triple();
+        (
+            self.window.register(x),
+            self.window.register(y),
+            self.window.register(z),
+        )
+    }
+}
+
+/// The registers that an op reads, found in a window. Contracts speak of the list of them, moved (`regs_read`).
+#[derive(Clone, Copy)]
+pub struct Reads<'o> {
+    registers: &'o [Reg],
+    window: &'o Window,
+}
+
+impl<'o> Reads<'o> {
+    #[inline(always)]
+    pub fn len(&self) -> usize
+        ensures { result ≡ length (regs_read self.now) }
+    {
+        self.registers.len()
+    }
+
+    /// The register at a place, counted from 0.
+    #[inline(always)]
+    pub fn get(&self, place: usize) -> Option<Reg>
+        requires { list_all is_small (regs_read self.now) ≡ true }
+        ensures { result ≡ slice_get (regs_read self.now) place }
+    {
+        match self.registers.get(place) {
+            Some(register) => Some(self.window.register(*register)),
+            None => None,
+        }
+    }
+}
