@@ -1,27 +1,31 @@
 -- Arms one after another whose jumps are aimed once their end is known.
-use Rattle.std.proofs.Common.{◌≡◌, ◌∙◌, ◌+◌, ◌++◌, ℕ, true, false, List, [], ◌∷◌, length, arith, refl, sym, ap}
+use Rattle.std.proofs.Common.{◌≡◌, ◌∙◌, ◌+◌, ◌++◌, ℕ, true, false, List, [], ◌∷◌, length, arith, refl, sym, ap, subst}
+use Rattle.std.specs.List.{AllZip}
 use Rattle.std.proofs.lemmas.List.{append_assoc, length-append}
 use Rattle.cs_base.specs.declared.resource.Rate.{Rate}
+use Rattle.cs_ir.proofs.Drafting.{grew_on}
 use Rattle.cs_ir.specs.Codes.{aim, aimed}
+use Rattle.cs_ir.specs.Drafts.{Aimed, Draft, Grew, IsAt, drafted}
 use Rattle.cs_ir.specs.declared.op.Act.TheVariants as act
 use Rattle.cs_ir.specs.declared.op.Op.{Op}
 use Rattle.cs_ir.specs.declared.register.Reg.{Reg}
-use Rattle.cs_meaning.specs.Core.{Block, choose}
-use Rattle.cs_code.specs.declared.frame.Progress.{Progress}
-use Rattle.cs_code.specs.inner.Kept.{past, past_parts, past_block, past_arms}
+use Rattle.cs_meaning.specs.Core.{choose}
 use Rattle.cs_typed.specs.TypedTree as typed
-use Rattle.cs_typed.specs.TypedTree.{Expression}
-use Rattle.cs_typed.specs.declared.tree.TypedArm.{TypedArm, out-TypedArm}
+use Rattle.cs_typed.specs.declared.tree.TypedArm.{TypedArm}
 use Rattle.cs_typed.specs.declared.tree.TypedStmt.{TypedStmt}
 use Rattle.cs_code.specs.declared.frame.Pass.{Pass}
-use Rattle.cs_code.specs.inner.Branches.{Branch, past_branch, after, chain, joined, opened, jump_at, jumps}
-use Rattle.cs_code.specs.inner.Branches.{aim_all, condition_of, body_of, past_arm, past_list, branch_of, branches}
-use Rattle.cs_code.specs.inner.Code.{pass_block_code, chosen_code, cond_code}
-use Rattle.cs_code.specs.inner.Code.{all_code, arm_code, init_block_code}
-use Rattle.cs_code.specs.inner.Emitted.{Scope, block_in, core_in, arms_in}
-use Rattle.cs_code.specs.inner.Emitted.{takes_all}
-use Rattle.cs_code.specs.inner.Frames.{Frame, op_of}
+use Rattle.cs_code.specs.declared.frame.Progress.{Progress}
+use Rattle.cs_code.specs.inner.Branches.{AllAimed, Branch, past_branch, after, aim_all, body_of, branch_of, branches}
+use Rattle.cs_code.specs.inner.Branches.{chain, condition_of, each_code, joined, jump_at, jumps, opened, past_arm}
+use Rattle.cs_code.specs.inner.Branches.{past_list}
+use Rattle.cs_code.specs.inner.Code.{all_code, arm_code, chosen_code, init_block_code, keep_code}
+use Rattle.cs_code.specs.inner.Code.{pass_block_code}
+use Rattle.cs_code.specs.inner.Emitted.{Scope, arms_in, block_in, core_in, each_arm_code, takes_all}
+use Rattle.cs_code.specs.inner.Kept.{past, past_parts, past_block, past_arms}
+use Rattle.cs_code.specs.inner.Spots.{op_of}
 use Rattle.cs_code.proofs.Chains.{all_taken, alone_code, one_taken, taken_pass}
+use Rattle.cs_code.proofs.Growing.{grew_long}
+use Rattle.cs_code.proofs.Lists.{zip_one, zip_still}
 
 -- ---- one jump that is aimed
 
@@ -116,15 +120,15 @@ closed end place pre (b ∷ bs) els at is =
 
 -- ---- the arms of the tree
 
-chosen_list : (way : Pass) (f : Frame) (o : Scope) (place : ℕ) (p : Progress) (list : List TypedArm)
+chosen_list : (way : Pass) (o : Scope) (place : ℕ) (p : Progress) (list : List TypedArm)
     (els : typed.Block)
-    → chain place (branches way f o place p list)
-    (pass_block_code way f (after place (branches way f o place p list)) (past_list o p list) (core_in o els))
-    ≡ chosen_code way f place p (arms_in o els list)
-chosen_list way f o place p [] els = refl
-chosen_list way f o place p (a ∷ rest) els =
-    let b : Branch = branch_of way f o place p a in
-    ap (arm_code place b.cond b.q b.body) (chosen_list way f o (past_branch place b) (past_arm o p a) rest els)
+    → chain place (branches way o place p list)
+    (pass_block_code way (after place (branches way o place p list)) (past_list o p list) (core_in o els))
+    ≡ chosen_code way place p (arms_in o els list)
+chosen_list way o place p [] els = refl
+chosen_list way o place p (a ∷ rest) els =
+    let b : Branch = branch_of way o place p a in
+    ap (arm_code place b.cond b.q b.body) (chosen_list way o (past_branch place b) (past_arm o p a) rest els)
 
 pub past_chosen : (o : Scope) (p : Progress) (list : List TypedArm) (els : typed.Block)
     → past_block (past_list o p list) (core_in o els) ≡ past_arms p (arms_in o els list)
@@ -132,13 +136,13 @@ past_chosen o p [] els = refl
 past_chosen o p (a ∷ rest) els = past_chosen o (past_arm o p a) rest els
 
 -- an arm is made: its condition, a test, its body, and a jump; then the test is aimed past the jump
-pub arm_made : (old first tested filled jumped new cond body : List Op) (q : Reg) (test past : ℕ) → first ≡ old ++ cond
+arm_ops : (old first tested filled jumped new cond body : List Op) (q : Reg) (test past : ℕ) → first ≡ old ++ cond
     → test ≡ length first
     → tested ≡ first ++ (op_of (act.Unless 0) q (q ∷ []) ∷ []) → filled ≡ tested ++ body
     → jumped ≡ filled ++ (op_of (act.Jump 0) q [] ∷ [])
     → past ≡ length jumped → new ≡ aim test past jumped
     → new ≡ old ++ joined (length old) (record { cond = cond; q = q; body = body }) 0
-arm_made old first tested filled jumped new cond body q test past a b c d e g h =
+arm_ops old first tested filled jumped new cond body q test past a b c d e g h =
     let none : Op = op_of (act.Unless 0) q (q ∷ []) in
     let jump : Op = op_of (act.Jump 0) q [] in
     let b0 : Branch = record { cond = cond; q = q; body = body } in
@@ -163,89 +167,125 @@ arm_made old first tested filled jumped new cond body q test past a b c d e g h 
     ∙ ap (λ n. (old ++ cond) ++ (op_of (act.Unless n) q (q ∷ []) ∷ (body ++ (jump ∷ [])))) long
     ∙ append_assoc old cond (op_of (act.Unless (past_branch (length old) b0)) q (q ∷ []) ∷ (body ++ (jump ∷ [])))
 
--- where its body begins, after the op of its test; and its body
-pub body_made : (old first tested cond : List Op) (test : Op) → first ≡ old ++ cond → tested ≡ first ++ (test ∷ [])
-    → length tested ≡ length old + length cond + 1
-body_made old first tested cond test a b =
-    omega (arith, ap length a, ap length b, length-append old cond, length-append first (test ∷ []))
+module _ (old first tested filled jumped new : Draft) (cond body : List Op) (q : Reg) (test : ℕ)
+    (begun : Grew old first cond) (tests : Grew first tested (op_of (act.Unless 0) q (q ∷ []) ∷ []))
+    (marked : IsAt tested test (length (drafted first))) (fills : Grew tested filled body)
+    (jumps_on : Grew filled jumped (op_of (act.Jump 0) q [] ∷ []))
+    (aims : (place : ℕ) → IsAt jumped test place → Aimed jumped new place) where
+  aimed_test : Aimed jumped new (length (drafted first))
+  aimed_test =
+      aims (length (drafted first))
+      (jumps_on.marks test (length (drafted first)) (fills.marks test (length (drafted first)) marked))
 
-pub body_filled : (way : Pass) (f : Frame) (o : Scope) (old first tested filled : List Op) (p : Progress)
-    (a : TypedArm) (test : Op) (n : ℕ) (stmts : List TypedStmt)
-    → first ≡ old ++ cond_code way f p.part (condition_of o a)
-    → tested ≡ first ++ (test ∷ [])
-    → filled ≡ tested ++ pass_block_code way f (length tested) (past_parts n p) (block_in o stmts)
-    → stmts ≡ (out-TypedArm a).body.items → n ≡ past p.part (condition_of o a)
-    → filled ≡ tested ++ (branch_of way f o (length old) p a).body
-body_filled way f o old first tested filled p a test n stmts begun at made is next =
-    let cond : List Op = cond_code way f p.part (condition_of o a) in
-    made
-    ∙ ap (λ xs. tested ++ pass_block_code way f (length tested) (past_parts n p) (block_in o xs)) is
-    ∙ ap (λ k. tested ++ pass_block_code way f k (past_parts n p) (body_of o a))
-    (body_made old first tested cond test begun at)
-    ∙ ap (λ k. tested ++ pass_block_code way f (length old + length cond + 1) (past_parts k p) (body_of o a)) next
+  pub arm_made : Grew old new (joined (length (drafted old)) (record { cond = cond; q = q; body = body }) 0)
+  arm_made = record {
+    ops = arm_ops (drafted old) (drafted first) (drafted tested) (drafted filled) (drafted jumped) (drafted new) cond body
+        q (length (drafted first)) (length (drafted jumped)) begun.ops refl tests.ops fills.ops jumps_on.ops refl
+        aimed_test.ops;
+    routines = aimed_test.routines ∙ jumps_on.routines ∙ fills.routines ∙ tests.routines ∙ begun.routines;
+    marks = λ mark place h. aimed_test.marks mark place (jumps_on.marks mark place (fills.marks mark place
+        (tests.marks mark place (begun.marks mark place h))));
+  }
 
--- where the jump of an arm stands once its body is made
-pub jump_placed : (old tested filled cond body : List Op) → length tested ≡ length old + length cond + 1
-    → filled ≡ tested ++ body → length filled ≡ length old + length cond + 1 + length body
-jump_placed old tested filled cond body begins made = omega (arith, begins, ap length made, length-append tested body)
+  -- what its jump's mark stands for
+  pub arm_marked : (end : ℕ) → IsAt jumped end (length (drafted filled)) → (ends places : List ℕ)
+      → AllZip (IsAt old) ends places
+      → AllZip (IsAt new) (ends ++ end ∷ [])
+      (places ++ jump_at (length (drafted old)) (record { cond = cond; q = q; body = body }) ∷ [])
+  arm_marked end there ends places h =
+      let place : ℕ = jump_at (length (drafted old)) (record { cond = cond; q = q; body = body }) in
+      let here : length (drafted filled) ≡ place =
+      omega (arith, grew_long old first cond begun, grew_long first tested _ tests, grew_long tested filled body fills)
+      in
+      zip_one (IsAt new) ends places end place
+      (zip_still (IsAt old) (IsAt new) arm_made.marks ends places h)
+      (subst (IsAt new end) here (aimed_test.marks end (length (drafted filled)) there))
 
--- the code of an arm that is initialised whatever its condition is
-pub one_made : (f : Frame) (old kept cond : List Op) (q : Progress) (b : Block) → kept ≡ old ++ cond
-    → kept ++ init_block_code f (length kept) q b ≡ old ++ (cond ++ init_block_code f (length old + length cond) q b)
-one_made f old kept cond q b made =
-    ap (λ l. l ++ init_block_code f (length l) q b) made
-    ∙ ap (λ n. (old ++ cond) ++ init_block_code f n q b) (length-append old cond)
-    ∙ append_assoc old cond (init_block_code f (length old + length cond) q b)
+-- where its body begins, after the op of its test
+pub body_begins : (old first tested : Draft) (cond : List Op) (test : Op) → Grew old first cond
+    → Grew first tested (test ∷ []) → length (drafted tested) ≡ length (drafted old) + length cond + 1
+body_begins old first tested cond test begun tests =
+    omega (arith, grew_long old first cond begun, grew_long first tested (test ∷ []) tests)
 
--- one arm more
-pub arms_more : (way : Pass) (f : Frame) (o : Scope) (ops new total : List Op) (ends now all : List ℕ)
-    (p q last : Progress) (a : TypedArm) (rest : List TypedArm)
-    → new ≡ ops ++ joined (length ops) (branch_of way f o (length ops) p a) 0
-    → now ≡ ends ++ (jump_at (length ops) (branch_of way f o (length ops) p a) ∷ [])
-    → q ≡ past_arm o p a
-    → ops ++ opened (length ops) (branches way f o (length ops) p (a ∷ rest)) ≡ total
-    → ends ++ jumps (length ops) (branches way f o (length ops) p (a ∷ rest)) ≡ all
-    → past_list o p (a ∷ rest) ≡ last
-    → (new ++ opened (length new) (branches way f o (length new) q rest) ≡ total)
-    × (now ++ jumps (length new) (branches way f o (length new) q rest) ≡ all)
-    × (past_list o q rest ≡ last)
-arms_more way f o ops new total ends now all p q last a rest made kept at was ends_were last_was =
-    let b : Branch = branch_of way f o (length ops) p a in
-    let next : ℕ = past_branch (length ops) b in
-    let bs : List Branch = branches way f o next (past_arm o p a) rest in
-    let long : length new ≡ next =
-    omega (arith, ap length made, length-append ops (joined (length ops) b 0), joined_long (length ops) 0 b) in (
-      ap (λ n. new ++ opened n (branches way f o n q rest)) long
-          ∙ ap (λ k. new ++ opened next (branches way f o next k rest)) at
-          ∙ ap (λ l. l ++ opened next bs) made
-          ∙ append_assoc ops (joined (length ops) b 0) (opened next bs)
-          ∙ was,
-      ap (λ n. now ++ jumps n (branches way f o n q rest)) long
-          ∙ ap (λ k. now ++ jumps next (branches way f o next k rest)) at
-          ∙ ap (λ l. l ++ jumps next bs) kept
-          ∙ append_assoc ends (jump_at (length ops) b ∷ []) (jumps next bs)
-          ∙ ends_were,
-      ap (λ k. past_list o k rest) at ∙ last_was,
-    )
+-- how long an arm is, and how long one is that is initialised whatever its condition is
+pub arm_long : (way : Pass) (o : Scope) (place : ℕ) (p : Progress) (a : TypedArm)
+    → place + length (joined place (branch_of way o place p a) 0) ≡ past_branch place (branch_of way o place p a)
+arm_long way o place p a = joined_long place 0 (branch_of way o place p a)
+
+-- one arm more, in the loop that makes them: from where the ops end then
+pub opened_more : (way : Pass) (o : Scope) (place next : ℕ) (p q : Progress) (arms : List TypedArm) (a : TypedArm)
+    (rest : List TypedArm) → arms ≡ a ∷ rest → q ≡ past_arm o p a
+    → next ≡ place + length (joined place (branch_of way o place p a) 0)
+    → opened place (branches way o place p arms)
+    ≡ joined place (branch_of way o place p a) 0 ++ opened next (branches way o next q rest)
+opened_more way o place next p q arms a rest split on at =
+    let one : List Op = joined place (branch_of way o place p a) 0 in
+    ap (λ xs. opened place (branches way o place p xs)) split
+    ∙ sym (ap (λ k. one ++ opened (past_branch place (branch_of way o place p a))
+    (branches way o (past_branch place (branch_of way o place p a)) k rest)) on)
+    ∙ sym (ap (λ n. one ++ opened n (branches way o n q rest)) (at ∙ arm_long way o place p a))
+
+pub jumps_more : (way : Pass) (o : Scope) (place next : ℕ) (p q : Progress) (arms : List TypedArm) (a : TypedArm)
+    (rest : List TypedArm) → arms ≡ a ∷ rest → q ≡ past_arm o p a
+    → next ≡ place + length (joined place (branch_of way o place p a) 0)
+    → jumps place (branches way o place p arms)
+    ≡ jump_at place (branch_of way o place p a) ∷ jumps next (branches way o next q rest)
+jumps_more way o place next p q arms a rest split on at =
+    let one : ℕ = jump_at place (branch_of way o place p a) in
+    ap (λ xs. jumps place (branches way o place p xs)) split
+    ∙ sym (ap (λ k. one ∷ jumps (past_branch place (branch_of way o place p a))
+    (branches way o (past_branch place (branch_of way o place p a)) k rest)) on)
+    ∙ sym (ap (λ n. one ∷ jumps n (branches way o n q rest)) (at ∙ arm_long way o place p a))
+
+pub each_more : (o : Scope) (place next : ℕ) (p q : Progress) (arms : List TypedArm) (a : TypedArm)
+    (rest : List TypedArm) → arms ≡ a ∷ rest → q ≡ past_arm o p a
+    → next ≡ place + length (each_arm_code place p (condition_of a) (body_of o a))
+    → each_code o place p arms ≡ each_arm_code place p (condition_of a) (body_of o a) ++ each_code o next q rest
+each_more o place next p q arms a rest split on at =
+    let one : List Op = each_arm_code place p (condition_of a) (body_of o a) in
+    ap (each_code o place p) split
+    ∙ sym (ap (λ k. one ++ each_code o (place + length one) k rest) on)
+    ∙ sym (ap (λ n. one ++ each_code o n q rest) at)
+
+-- arms that are all initialised, and the statements after `else`
+each_all : (o : Scope) (place : ℕ) (p : Progress) (list : List TypedArm) (els : typed.Block)
+    → all_code place p (arms_in o els list)
+    ≡ each_code o place p list
+    ++ init_block_code (place + length (each_code o place p list)) (past_list o p list) (core_in o els)
+each_all o place p [] els = ap (λ n. init_block_code n p (core_in o els)) (let e : place ≡ place + 0 = omega arith in e)
+each_all o place p (a ∷ rest) els =
+    let cond : List Op = keep_code p.part (condition_of a) in
+    let q : Progress = past_parts (past p.part (condition_of a)) p in
+    let body : List Op = init_block_code (place + length cond) q (body_of o a) in
+    let one : List Op = cond ++ body in
+    let next : Progress = past_arm o p a in
+    let more : List Op = each_code o (place + length one) next rest in
+    let long : place + length cond + length body ≡ place + length one = omega (arith, length-append cond body) in
+    let end : place + length one + length more ≡ place + length (one ++ more) = omega (arith, length-append one more) in
+    sym (append_assoc cond body (all_code (place + length cond + length body) next (arms_in o els rest)))
+    ∙ ap (λ n. one ++ all_code n next (arms_in o els rest)) long
+    ∙ ap (λ l. one ++ l) (each_all o (place + length one) next rest els)
+    ∙ sym (append_assoc one more
+    (init_block_code (place + length one + length more) (past_list o next rest) (core_in o els)))
+    ∙ ap (λ n. (one ++ more) ++ init_block_code n (past_list o next rest) (core_in o els)) end
 
 -- all arms are made, then the statements after `else`, and then the jumps are aimed
-pub chosen_made : (way : Pass) (f : Frame) (o : Scope) (old mid last new : List Op) (ends : List ℕ) (p q : Progress)
-    (list : List TypedArm) (els : typed.Block)
-    → mid ≡ old ++ opened (length old) (branches way f o (length old) p list)
-    → ends ≡ jumps (length old) (branches way f o (length old) p list)
-    → q ≡ past_list o p list → last ≡ mid ++ pass_block_code way f (length mid) q (core_in o els)
-    → new ≡ aim_all ends (length last) last
-    → new ≡ old ++ chosen_code way f (length old) p (arms_in o els list)
-chosen_made way f o old mid last new ends p q list els made at on done closing =
-    let bs : List Branch = branches way f o (length old) p list in
+chosen_ops : (way : Pass) (o : Scope) (old mid last new : List Op) (p q : Progress) (list : List TypedArm)
+    (els : typed.Block)
+    → mid ≡ old ++ opened (length old) (branches way o (length old) p list)
+    → q ≡ past_list o p list → last ≡ mid ++ pass_block_code way (length mid) q (core_in o els)
+    → new ≡ aim_all (jumps (length old) (branches way o (length old) p list)) (length last) last
+    → new ≡ old ++ chosen_code way (length old) p (arms_in o els list)
+chosen_ops way o old mid last new p q list els made on done closing =
+    let bs : List Branch = branches way o (length old) p list in
     let begins : ℕ = after (length old) bs in
-    let rest : List Op = pass_block_code way f begins (past_list o p list) (core_in o els) in
+    let rest : List Op = pass_block_code way begins (past_list o p list) (core_in o els) in
     let there : length mid ≡ begins =
     omega (arith, ap length made, length-append old (opened (length old) bs), opened_long (length old) bs) in
     let all : last ≡ old ++ (opened (length old) bs ++ rest) =
     done
-    ∙ ap (λ n. mid ++ pass_block_code way f n q (core_in o els)) there
-    ∙ ap (λ k. mid ++ pass_block_code way f begins k (core_in o els)) on
+    ∙ ap (λ n. mid ++ pass_block_code way n q (core_in o els)) there
+    ∙ ap (λ k. mid ++ pass_block_code way begins k (core_in o els)) on
     ∙ ap (λ l. l ++ rest) made
     ∙ append_assoc old (opened (length old) bs) rest in
     let end : length last ≡ begins + length rest =
@@ -253,68 +293,83 @@ chosen_made way f o old mid last new ends p q list els made at on done closing =
       arith,
       ap length all,
       length-append old (opened (length old) bs ++ rest),
-      length-append
-          (opened (length old) bs) rest,
+      length-append (opened (length old) bs) rest,
       opened_long (length old) bs,
     ) in
     closing
-    ∙ ap (λ ns. aim_all ns (length last) last) at
     ∙ ap (aim_all (jumps (length old) bs) (length last)) all
     ∙ closed (length last) (length old) old bs rest refl end
-    ∙ ap (λ l. old ++ l) (chosen_list way f o (length old) p list els)
+    ∙ ap (λ l. old ++ l) (chosen_list way o (length old) p list els)
+
+chosen_made : (way : Pass) (o : Scope) (old mid last new : Draft) (ends : List ℕ) (p q : Progress)
+    (list : List TypedArm) (els : typed.Block)
+    → Grew old mid (opened (length (drafted old)) (branches way o (length (drafted old)) p list))
+    → AllZip (IsAt mid) ends (jumps (length (drafted old)) (branches way o (length (drafted old)) p list))
+    → q ≡ past_list o p list
+    → Grew mid last (pass_block_code way (length (drafted mid)) q (core_in o els))
+    → ((places : List ℕ) → AllZip (IsAt last) ends places → AllAimed last new places)
+    → Grew old new (chosen_code way (length (drafted old)) p (arms_in o els list))
+chosen_made way o old mid last new ends p q list els made marked on done closing =
+    let places : List ℕ = jumps (length (drafted old)) (branches way o (length (drafted old)) p list) in
+    let aims : AllAimed last new places =
+    closing places (zip_still (IsAt mid) (IsAt last) done.marks ends places marked) in record {
+      ops = chosen_ops way o (drafted old) (drafted mid) (drafted last) (drafted new) p q list els made.ops on done.ops
+          aims.ops;
+      routines = aims.routines ∙ done.routines ∙ made.routines;
+      marks = λ mark place h. aims.marks mark place (done.marks mark place (made.marks mark place h));
+    }
 
 -- an `if` as the tree has it, whatever holds its arms and the statements after `else`: the code of all its arms, that
 -- of one of them, and the progress behind it
-pub all_choice : (way : Pass) (f : Frame) (o : Scope) (old mid : List Op) (p q : Progress) (line : ℕ) (r : Rate)
-    (s : typed.Block) (arms list : List TypedArm) (stmts els : List TypedStmt)
-    → s ≡ typed.alone (typed.choose line r (typed.arms o.routines (typed.block o.routines els) list))
-    → takes_all way r ≡ true → arms ≡ list → stmts ≡ els
-    → ((rest : typed.Block) → mid ++ init_block_code f (length mid) q (core_in o rest)
-    ≡ old ++ all_code f (length old) p (arms_in o rest arms))
-    → mid ++ pass_block_code way f (length mid) q (block_in o stmts)
-    ≡ old ++ pass_block_code way f (length old) p (core_in o s)
-all_choice way f o old mid p q line r s arms list stmts els seen taken are rest_are made =
-    let last : typed.Block = typed.block o.routines els in
-    ap (λ xs. mid ++ pass_block_code way f (length mid) q (block_in o xs)) rest_are
-    ∙ ap (λ w. mid ++ pass_block_code w f (length mid) q (core_in o last)) (taken_pass way r taken)
-    ∙ made last
-    ∙ ap (λ xs. old ++ all_code f (length old) p (arms_in o last xs)) are
-    ∙ sym (ap (λ l. old ++ l) (all_taken way f (length old) p r (arms_in o last list) taken))
-    ∙ sym (ap (λ l. old ++ l) (alone_code way f (length old) p (choose r (arms_in o last list))))
-    ∙ sym (ap (λ x. old ++ pass_block_code way f (length old) p (core_in o x)) seen)
+module _ (o : Scope) (line : ℕ) (r : Rate) (s : typed.Block) (arms list : List TypedArm) (stmts els : List TypedStmt)
+    (seen : s ≡ typed.alone (typed.choose line r (typed.arms o.routines (typed.block o.routines els) list)))
+    (are : arms ≡ list) (rest_are : stmts ≡ els) (p q : Progress) (on : q ≡ past_list o p arms) where
+  here : s ≡ typed.alone (typed.choose line r (typed.arms o.routines (typed.block o.routines stmts) arms))
+  here = seen
+      ∙ sym (ap (λ xs. typed.alone (typed.choose line r (typed.arms o.routines (typed.block o.routines xs) list))) rest_are)
+      ∙ sym (ap (λ xs. typed.alone (typed.choose line r (typed.arms o.routines (typed.block o.routines stmts) xs))) are)
 
-pub one_choice : (way : Pass) (f : Frame) (o : Scope) (old mid last new : List Op) (none now ends : List ℕ)
-    (p q : Progress) (line : ℕ) (r : Rate) (s : typed.Block) (arms list : List TypedArm)
-    (stmts els : List TypedStmt)
-    → s ≡ typed.alone (typed.choose line r (typed.arms o.routines (typed.block o.routines els) list))
-    → takes_all way r ≡ false → arms ≡ list → stmts ≡ els → none ≡ [] → ends ≡ now
-    → mid ≡ old ++ opened (length old) (branches way f o (length old) p arms)
-    → now ≡ none ++ jumps (length old) (branches way f o (length old) p arms)
-    → q ≡ past_list o p arms
-    → last ≡ mid ++ pass_block_code way f (length mid) q (block_in o stmts)
-    → new ≡ aim_all ends (length last) last
-    → new ≡ old ++ pass_block_code way f (length old) p (core_in o s)
-one_choice way f o old mid last new none now ends p q line r s arms list stmts els seen taken are rest_are empty same
-    made kept at done closing =
-    chosen_made way f o old mid last new now p q arms (typed.block o.routines stmts) made
-    (kept ∙ ap (λ ns. ns ++ jumps (length old) (branches way f o (length old) p arms)) empty) at done
-    (closing ∙ ap (λ ns. aim_all ns (length last) last) same)
-    ∙ ap (λ xs. old ++ chosen_code way f (length old) p (arms_in o (typed.block o.routines xs) arms)) rest_are
-    ∙ ap (λ xs. old ++ chosen_code way f (length old) p (arms_in o (typed.block o.routines els) xs)) are
-    ∙ sym (ap (λ l. old ++ l)
-    (one_taken way f (length old) p r (arms_in o (typed.block o.routines els) list) taken))
-    ∙ sym (ap (λ l. old ++ l)
-    (alone_code way f (length old) p (choose r (arms_in o (typed.block o.routines els) list))))
-    ∙ sym (ap (λ x. old ++ pass_block_code way f (length old) p (core_in o x)) seen)
+  pub all_choice : (way : Pass) → takes_all way r ≡ true → (old mid new : Draft)
+      → Grew old mid (each_code o (length (drafted old)) p arms)
+      → Grew mid new (pass_block_code way (length (drafted mid)) q (block_in o stmts))
+      → Grew old new (pass_block_code way (length (drafted old)) p (core_in o s))
+  all_choice way taken old mid new made done =
+      let place : ℕ = length (drafted old) in
+      let each : List Op = each_code o place p arms in
+      let last : typed.Block = typed.block o.routines stmts in
+      let is : each ++ pass_block_code way (length (drafted mid)) q (core_in o last)
+      ≡ pass_block_code way place p (core_in o s) =
+      ap (λ n. each ++ pass_block_code way n q (core_in o last)) (grew_long old mid each made)
+      ∙ ap (λ w. each ++ pass_block_code w (place + length each) q (core_in o last)) (taken_pass way r taken)
+      ∙ ap (λ k. each ++ init_block_code (place + length each) k (core_in o last)) on
+      ∙ sym (each_all o place p arms last)
+      ∙ sym (all_taken way place p r (arms_in o last arms) taken)
+      ∙ sym (alone_code way place p (choose r (arms_in o last arms)))
+      ∙ sym (ap (λ x. pass_block_code way place p (core_in o x)) here) in
+      subst (Grew old new) is (grew_on old mid new each _ made done)
 
-pub past_choice : (o : Scope) (p q : Progress) (line : ℕ) (r : Rate) (s : typed.Block)
-    (arms list : List TypedArm) (stmts els : List TypedStmt)
-    → s ≡ typed.alone (typed.choose line r (typed.arms o.routines (typed.block o.routines els) list)) → arms ≡ list
-    → stmts ≡ els
-    → ((rest : typed.Block) → past_block q (core_in o rest) ≡ past_arms p (arms_in o rest arms))
-    → past_block q (block_in o stmts) ≡ past_block p (core_in o s)
-past_choice o p q line r s arms list stmts els seen are rest_are next =
-    ap (λ xs. past_block q (block_in o xs)) rest_are
-    ∙ next (typed.block o.routines els)
-    ∙ ap (λ xs. past_arms p (arms_in o (typed.block o.routines els) xs)) are
-    ∙ sym (ap (λ x. past_block p (core_in o x)) seen)
+  pub one_choice : (way : Pass) → takes_all way r ≡ false → (old mid last new : Draft) (none ends now : List ℕ)
+      → none ≡ [] → now ≡ ends
+      → Grew old mid (opened (length (drafted old)) (branches way o (length (drafted old)) p arms))
+      → ((places : List ℕ) → AllZip (IsAt old) none places → AllZip (IsAt mid) ends
+      (places ++ jumps (length (drafted old)) (branches way o (length (drafted old)) p arms)))
+      → Grew mid last (pass_block_code way (length (drafted mid)) q (block_in o stmts))
+      → ((places : List ℕ) → AllZip (IsAt last) now places → AllAimed last new places)
+      → Grew old new (pass_block_code way (length (drafted old)) p (core_in o s))
+  one_choice way taken old mid last new none ends now empty same made marked done closing =
+      let place : ℕ = length (drafted old) in
+      let then : typed.Block = typed.block o.routines stmts in
+      let is : chosen_code way place p (arms_in o then arms) ≡ pass_block_code way place p (core_in o s) =
+      sym (one_taken way place p r (arms_in o then arms) taken)
+      ∙ sym (alone_code way place p (choose r (arms_in o then arms)))
+      ∙ sym (ap (λ x. pass_block_code way place p (core_in o x)) here) in
+      subst (Grew old new) is
+      (chosen_made way o old mid last new now p q arms then made
+      (subst (λ l. AllZip (IsAt mid) l (jumps place (branches way o place p arms))) (sym same)
+      (marked [] (subst (λ l. AllZip (IsAt old) l []) (sym empty) tt))) on done closing)
+
+  pub past_choice : past_block q (block_in o stmts) ≡ past_block p (core_in o s)
+  past_choice =
+      ap (λ k. past_block k (block_in o stmts)) on
+      ∙ past_chosen o p arms (typed.block o.routines stmts)
+      ∙ sym (ap (λ x. past_block p (core_in o x)) here)

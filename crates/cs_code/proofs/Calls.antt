@@ -1,11 +1,9 @@
 -- What calls are short for, by their shapes.
 use Rattle.std.proofs.Common.{◌≡◌, ◌++◌, ◌∷◌, ◌∙◌, ℕ, Bool, true, false, true≢false, List, [], Option, Some, None, refl}
-use Rattle.std.proofs.Common.{sym, ap, ap₂}
-use Rattle.std.proofs.lemmas.List.{append_assoc}
+use Rattle.std.proofs.Common.{sym, ap}
 use Rattle.cs_base.specs.declared.resource.Rate.{Rate}
 use Rattle.cs_base.specs.declared.resource.Rate.TheVariants as rate
 use Rattle.cs_base.specs.declared.spaces.Spaces.{Spaces}
-use Rattle.cs_ir.specs.declared.op.Op.{Op}
 use Rattle.cs_ir.specs.declared.register.Reg.{Reg}
 use Rattle.cs_meaning.specs.Core.{Stmt, core_call, set, choose}
 use Rattle.cs_meaning.specs.When.{cycle}
@@ -19,10 +17,9 @@ use Rattle.cs_code.specs.declared.frame.Pass.{Pass}
 use Rattle.cs_code.specs.declared.frame.Pass.TheVariants as pass
 use Rattle.cs_code.specs.declared.simple.Sending.{Sending}
 use Rattle.cs_code.specs.declared.simple.Sending.TheVariants as sending
-use Rattle.cs_code.specs.inner.Code.{pass_code}
-use Rattle.cs_code.specs.inner.Code.{perf_code, operands_code}
+use Rattle.cs_code.specs.inner.Code.{operands_code, pass_code, perf_code}
 use Rattle.cs_code.specs.inner.Emitted.{Assigned, assigned, set_of, effect, when_of, sent_as, sent_ops}
-use Rattle.cs_code.specs.inner.Frames.{Frame, spots}
+use Rattle.cs_code.specs.inner.Spots.{spots}
 
 -- a call is the assignment that it is short for, or else an effect
 abbrev pub either_of : Option Assigned → Stmt → Stmt
@@ -131,41 +128,37 @@ call_simple o r vs op sh args =
     ap is_choice (by_assigned o r vs op sh args)
     ∙ either_simple (assigned sh r vs args) (effect o r vs op sh args) (effect_simple o r vs op sh args)
 
-anywhere : (way : Pass) (f : Frame) (place : ℕ) (p : Progress) (s : Stmt) → is_choice s ≡ false
-    → pass_code way f 0 p s ≡ pass_code way f place p s
-anywhere way f place p (choose r arms) h = absurd (true≢false h)
-anywhere way f place p _ h = refl
+anywhere : (way : Pass) (place : ℕ) (p : Progress) (s : Stmt) → is_choice s ≡ false
+    → pass_code way 0 p s ≡ pass_code way place p s
+anywhere way place p (choose r arms) h = absurd (true≢false h)
+anywhere way place p _ h = refl
 
-pub set_anywhere : (way : Pass) (f : Frame) (place : ℕ) (p : Progress) (r : Rate) (v : Variable) (e : Expression)
-    → pass_code way f place p (set r v e)
-    ≡ pass_code way f 0 p (set r v e)
-set_anywhere way f place p r v e = refl
+pub set_anywhere : (way : Pass) (place : ℕ) (p : Progress) (r : Rate) (v : Variable) (e : Expression)
+    → pass_code way place p (set r v e)
+    ≡ pass_code way 0 p (set r v e)
+set_anywhere way place p r v e = refl
 
-pub call_anywhere : (way : Pass) (f : Frame) (place : ℕ) (p : Progress) (o : Spaces) (r : Rate) (vs : List Variable)
+pub call_anywhere : (way : Pass) (place : ℕ) (p : Progress) (o : Spaces) (r : Rate) (vs : List Variable)
     (op : Opcode) (sh : Shape)
-    (args : List Argument) → pass_code way f place p (core_call o r vs op sh args) ≡ pass_code way f 0 p
+    (args : List Argument) → pass_code way place p (core_call o r vs op sh args) ≡ pass_code way 0 p
     (core_call o r vs op sh args)
-call_anywhere way f place p o r vs op sh args =
-    sym (anywhere way f place p (core_call o r vs op sh args) (call_simple o r vs op sh args))
+call_anywhere way place p o r vs op sh args =
+    sym (anywhere way place p (core_call o r vs op sh args) (call_simple o r vs op sh args))
 
 -- the code of an assignment and of a call is the same at each place
 pub ruleset at_each_place = (set_anywhere, call_anywhere)
 
 -- values that go out in a cycle
-sent_in_cycle : (f : Frame) (place : ℕ) (p : Progress) (how : Sending) (r : Rate) (es : List Expression)
-    → perf_code f place p (sent_as how r es) ≡ operands_code f cycle p.part es 0
-    ++ sent_ops how (spots f cycle p.part es 0)
-sent_in_cycle f place p sending.InTurn r es = refl
-sent_in_cycle f place p sending.ByNumber r es = refl
+sent_in_cycle : (place : ℕ) (p : Progress) (how : Sending) (r : Rate) (es : List Expression)
+    → perf_code place p (sent_as how r es) ≡ operands_code cycle p.part es 0
+    ++ sent_ops how (spots cycle p.part es 0)
+sent_in_cycle place p sending.InTurn r es = refl
+sent_in_cycle place p sending.ByNumber r es = refl
 
-pub sent_pass : (way : Pass) (f : Frame) (p : Progress) (how : Sending) (es : List Expression) (old mid new : List Op)
-    (qs regs : List Reg)
-    → way ≡ pass.Performance → mid ≡ old ++ operands_code f (when_of way) p.part es 0
-    → regs ≡ spots f (when_of way) p.part es 0 → qs ≡ regs
-    → new ≡ mid ++ sent_ops how qs → new ≡ old ++ pass_code way f 0 p (sent_as how rate.Audio es)
-sent_pass pass.Initialisation f p how es old mid new qs regs h made spots_are is all = absurd (cc)
-sent_pass pass.Performance f p how es old mid new qs regs h made spots_are is all =
-    all
-    ∙ ap₂ (λ xs ys. xs ++ sent_ops how ys) made (is ∙ spots_are)
-    ∙ append_assoc old (operands_code f cycle p.part es 0) (sent_ops how (spots f cycle p.part es 0))
-    ∙ ap (λ l. old ++ l) (sym (sent_in_cycle f 0 p how rate.Audio es))
+pub sent_pass : (way : Pass) (p : Progress) (how : Sending) (es : List Expression) (qs regs : List Reg)
+    → way ≡ pass.Performance → regs ≡ spots (when_of way) p.part es 0 → qs ≡ regs
+    → operands_code (when_of way) p.part es 0 ++ sent_ops how qs ≡ pass_code way 0 p (sent_as how rate.Audio es)
+sent_pass pass.Initialisation p how es qs regs h spots_are is = absurd (cc)
+sent_pass pass.Performance p how es qs regs h spots_are is =
+    ap (λ ys. operands_code cycle p.part es 0 ++ sent_ops how ys) (is ∙ spots_are)
+    ∙ sym (sent_in_cycle 0 p how rate.Audio es)

@@ -1,5 +1,5 @@
 -- What the rules of rates say of the core of a block.
-use Rattle.std.proofs.Common.{◌≡◌, ℕ, zero, suc, ◌+◌, ◌-◌, ◌%◌, ◌<◌, ◌≤◌, Bool, true, false, not, ◌&&◌, ◌==◌, List, []}
+use Rattle.std.proofs.Common.{ap₂, ◌≡◌, ℕ, zero, suc, ◌+◌, ◌-◌, ◌%◌, ◌<◌, ◌≤◌, Bool, true, false, not, ◌&&◌, ◌==◌, List, []}
 use Rattle.std.proofs.Common.{◌∷◌, length, nat_le, if◌then◌else◌, refl, sym, ◌∙◌, ap, subst, arith, leb-true, eqb-true}
 use Rattle.std.proofs.Common.{eq-eqb, ne_eqb, ltb-false}
 use Rattle.std.specs.List.{All, list_all, list_any}
@@ -32,6 +32,7 @@ use Rattle.cs_typed.specs.declared.tree.Var.{Var as Variable}
 use Rattle.cs_typed.specs.declared.tree.Var.TheVariants.{Local, Global}
 use Rattle.cs_code.proofs.Letters.{take_rates, stills, is_run, run_fits, may_run, same_bound, store_fits}
 use Rattle.cs_code.proofs.Named.{Narrow, NarrowBlock, NarrowArms}
+use Rattle.cs_code.proofs.Runs.{local_rate}
 use Rattle.cs_code.proofs.Ranked.{holds_value, Ranked, AllRanked, AllInit, AllSound, Paired, rated, RankedSet, GivenTo}
 use Rattle.cs_code.proofs.Ranked.{RankedRun, RankedUnit, RankedStore, RankedStmt, RankedBlock, RankedArms}
 use Rattle.cs_code.proofs.Rated.{init_is}
@@ -318,7 +319,7 @@ take_rated : (ls : List Letter) (bound : Rate) (es : List Expression)
 take_rated [] bound [] = refl
 take_rated [] bound (e ∷ es) = refl
 take_rated (l ∷ ls) bound [] = refl
-take_rated (l ∷ ls) bound (e ∷ es) = ap (λ b. takes l bound (node_rate e) && b) (take_rated ls bound es)
+take_rated (l ∷ ls) bound (e ∷ es) = ap₂ ◌&&◌ (ap (takes l bound) (local_rate (node_rate e))) (take_rated ls bound es)
 
 run_ranked : (s : Setting) (r : Rate) (vs : List Variable) (opcode : Opcode) (args : List typed.Argument)
     → is_run (row_of opcode).shape ≡ true

@@ -1,151 +1,106 @@
 -- The codes of a block are what is promised of an instrument, and instruments are added in the order of the text.
-use Rattle.std.proofs.Common.{◌≡◌, ℕ, ◌+◌, ◌<◌, ◌≤◌, max, true, List, [], ◌∷◌, ◌++◌, length, map, take, get_or, refl}
-use Rattle.std.proofs.Common.{sym, ◌∙◌, ap, ap₂, subst, arith, append_assoc, append-nil}
+use Rattle.std.proofs.Common.{◌≡◌, ◌∙◌, ◌+◌, ◌<◌, ◌≤◌, ◌++◌, ℕ, true, List, [], ◌∷◌, length, map, max, take}
+use Rattle.std.proofs.Common.{get_or, append_assoc, append-nil, arith, refl, sym, ap, ap₂, subst}
 use Rattle.std.specs.List.{All, AllZip, Contains}
 use Rattle.std.proofs.lemmas.Grind.{flat_map-append}
 use Rattle.std.proofs.lemmas.List.{map_more, map-append, get_or-map, length-map}
-use Rattle.cs_base.specs.Rates.{at_rate}
-use Rattle.cs_base.specs.declared.per_rate.PerRate.{PerRate}
-use Rattle.cs_base.specs.declared.resource.Rate.{Rate}
-use Rattle.cs_base.specs.declared.resource.Rate.TheVariants as rate
 use Rattle.cs_base.specs.declared.resource.Res.{Res}
+use Rattle.cs_base.specs.declared.spaces.Spaces.{Spaces}
 use Rattle.cs_ir.specs.Cycles.{are_of_cycle}
 use Rattle.cs_ir.specs.Instruments.{Numbered, numbers_of}
-use Rattle.cs_base.specs.declared.spaces.Spaces.{Spaces}
+use Rattle.cs_ir.specs.Limits.{ops_limit}
+use Rattle.cs_ir.specs.Registers.{at_kind}
 use Rattle.cs_ir.specs.Resources.{NameTheSame, ops_touch}
 use Rattle.cs_ir.specs.Validity.{fine_from}
 use Rattle.cs_ir.specs.declared.op.Code.{Code}
 use Rattle.cs_ir.specs.declared.op.Op.{Op}
 use Rattle.cs_ir.specs.declared.register.Counts.{Counts}
+use Rattle.cs_ir.specs.declared.register.Kind.{Kind}
 use Rattle.cs_meaning.specs.Core.{core}
-use Rattle.cs_code.specs.declared.frame.Pass.TheVariants as pass
-use Rattle.cs_code.specs.inner.Kept.{start, past_block}
 use Rattle.cs_meaning.specs.Uses.{block_touched}
 use Rattle.cs_meaning.specs.When.{beginning, cycle}
 use Rattle.cs_typed.specs.TypedTree as typed
-use Rattle.cs_typed.specs.Variables.{IsCounted, EachInBlock}
 use Rattle.cs_typed.specs.WellRated.{IsRatedBlock}
 use Rattle.cs_typed.specs.declared.setting.Setting.{Setting}
 use Rattle.cs_typed.specs.declared.tree.TypedInstr.{TypedInstr}
 use Rattle.cs_code.specs.Lowered.{IsCodeOf, IsNumberedCode, numbered_with, bodies, all_numbers}
 use Rattle.cs_code.specs.Means.{Means}
 use Rattle.cs_code.specs.Names.{block_units, AllNamed}
+use Rattle.cs_code.specs.declared.frame.Pass.TheVariants as pass
 use Rattle.cs_code.specs.inner.Code.{init_block_code, perf_block_code}
-use Rattle.cs_code.specs.inner.Counted.{reached, no_registers}
-use Rattle.cs_code.specs.inner.Frames.{Frame, frame_for}
-use Rattle.cs_ir.specs.Limits.{ops_limit}
-use Rattle.cs_code.proofs.Means.{means_its_tree}
-use Rattle.cs_code.proofs.Resources.{block_touch}
+use Rattle.cs_code.specs.inner.Kept.{start, past_block}
 use Rattle.cs_code.proofs.FromRates.{narrow_block}
+use Rattle.cs_code.proofs.Lists.{zip_one}
+use Rattle.cs_code.proofs.Means.{means_its_tree}
 use Rattle.cs_code.proofs.Named.{names_of, perf_cycles}
-use Rattle.cs_code.proofs.Validity.{units_counted, code_valid}
-
--- counts that reach two codes reach each of them
-reaches_first : (units : ℕ) (g h : Rate → ℕ) (r : Rate)
-    → g r ≤ at_rate (reached (no_registers units) (λ q. max (g q) (h q))).registers r
-reaches_first units g h rate.Init = omega arith
-reaches_first units g h rate.Control = omega arith
-reaches_first units g h rate.Audio = omega arith
-
-reaches_second : (units : ℕ) (g h : Rate → ℕ) (r : Rate)
-    → h r ≤ at_rate (reached (no_registers units) (λ q. max (g q) (h q))).registers r
-reaches_second units g h rate.Init = omega arith
-reaches_second units g h rate.Control = omega arith
-reaches_second units g h rate.Audio = omega arith
+use Rattle.cs_code.proofs.Resources.{block_touch}
+use Rattle.cs_code.proofs.Validity.{code_valid, units_counted}
 
 -- one list names what it names
 alike : (xs ys : List Res) → xs ≡ ys → NameTheSame xs ys
 alike xs ys e g = (subst (λ l. Contains l g) e, subst (λ l. Contains l g) (sym e))
 
--- What the making of two codes of a block with these local variables answers.
-pub record Made (spaces : Spaces) (locals : PerRate ℕ) (t : typed.Block) (counts : Counts) (init perf : List Op) : Type
-    0 where
-  pub init_is : init ≡ init_block_code (frame_for locals (core spaces t)) 0 start (core spaces t)
-  pub perf_is : perf ≡ perf_block_code (frame_for locals (core spaces t)) 0 start (core spaces t)
-  pub counts_are : counts ≡ reached (no_registers (past_block start (core spaces t)).unit)
-      (λ r. max (ops_limit r init) (ops_limit r perf))
+-- What the making of two codes of a block answers.
+pub record Made (spaces : Spaces) (t : typed.Block) (counts : Counts) (init perf : List Op) : Type 0 where
+  pub init_is : init ≡ init_block_code 0 start (core spaces t)
+  pub perf_is : perf ≡ perf_block_code 0 start (core spaces t)
+  pub units_are : counts.units ≡ (past_block start (core spaces t)).unit
+  pub reached : (k : Kind) → at_kind counts.registers k ≡ max (ops_limit k init) (ops_limit k perf)
 
-module _ (spaces : Spaces) (locals : PerRate ℕ) (s : Setting) (t : typed.Block) (rated : IsRatedBlock s t)
-    (counts : Counts) (init perf : List Op)
-    (made : Made spaces locals t counts init perf) where
-  abbrev f : Frame
-  f = frame_for locals (core spaces t)
-
-  units_are : counts.units ≡ (past_block start (core spaces t)).unit
-  units_are = ap (λ (c : Counts). c.units) made.counts_are
-
-  init_reached : (r : Rate) → ops_limit r init ≤ at_rate counts.registers r
-  init_reached r =
-      subst (λ (c : Counts). ops_limit r init ≤ at_rate c.registers r) (sym made.counts_are)
-      (reaches_first (past_block start (core spaces t)).unit (λ q. ops_limit q init) (λ q. ops_limit q perf) r)
-
-  perf_reached : (r : Rate) → ops_limit r perf ≤ at_rate counts.registers r
-  perf_reached r =
-      subst (λ (c : Counts). ops_limit r perf ≤ at_rate c.registers r) (sym made.counts_are)
-      (reaches_second (past_block start (core spaces t)).unit (λ q. ops_limit q init) (λ q. ops_limit q perf) r)
+module _ (spaces : Spaces) (s : Setting) (t : typed.Block) (rated : IsRatedBlock s t) (counts : Counts)
+    (init perf : List Op) (made : Made spaces t counts init perf) where
+  units_reached : (past_block start (core spaces t)).unit ≤ counts.units
+  units_reached = let e = made.units_are in omega arith
 
   pub made_init_valid : fine_from counts (length init) 0 init ≡ true
   made_init_valid =
-      let units : (past_block start (core spaces t)).unit ≤ counts.units = (let e = units_are in omega arith) in
       subst (λ ops. fine_from counts (length ops) 0 ops ≡ true) (sym made.init_is)
-      (code_valid pass.Initialisation spaces s t rated f counts units
-      (λ r. subst (λ ops. ops_limit r ops ≤ at_rate counts.registers r) made.init_is (init_reached r)))
+      (code_valid pass.Initialisation spaces s t rated counts units_reached
+      (λ k. subst (λ ops. ops_limit k ops ≤ at_kind counts.registers k) made.init_is
+      (let e = made.reached k in omega arith)))
 
   pub made_perf_valid : fine_from counts (length perf) 0 perf ≡ true
   made_perf_valid =
-      let units : (past_block start (core spaces t)).unit ≤ counts.units = (let e = units_are in omega arith) in
       subst (λ ops. fine_from counts (length ops) 0 ops ≡ true) (sym made.perf_is)
-      (code_valid pass.Performance spaces s t rated f counts units
-      (λ r. subst (λ ops. ops_limit r ops ≤ at_rate counts.registers r) made.perf_is (perf_reached r)))
+      (code_valid pass.Performance spaces s t rated counts units_reached
+      (λ k. subst (λ ops. ops_limit k ops ≤ at_kind counts.registers k) made.perf_is
+      (let e = made.reached k in omega arith)))
 
-  made_means : EachInBlock (IsCounted locals) t → Means (core spaces t) init perf
-  made_means counted =
+  made_means : Means (core spaces t) init perf
+  made_means =
       subst (λ ops. Means (core spaces t) ops perf) (sym made.init_is)
-      (subst (λ ops. Means (core spaces t) (init_block_code f 0 start (core spaces t)) ops) (sym made.perf_is)
-      (means_its_tree spaces s locals t rated counted))
+      (subst (λ ops. Means (core spaces t) (init_block_code 0 start (core spaces t)) ops) (sym made.perf_is)
+      (means_its_tree spaces s t rated))
 
   -- the promise of an instrument, of any two codes with these ops and counts
-  pub made_code : EachInBlock (IsCounted locals) t → (a b : Code) → a.ops ≡ init → a.counts ≡ counts
+  pub made_code : (a b : Code) → a.ops ≡ init → a.counts ≡ counts
       → b.ops ≡ perf → b.counts ≡ counts → IsCodeOf spaces s.channels t a b
-  made_code counted a b ops_a counts_a ops_b counts_b = record {
+  made_code a b ops_a counts_a ops_b counts_b = record {
     means = subst (λ ops. Means (core spaces t) ops b.ops) (sym ops_a)
-        (subst (λ ops. Means (core spaces t) init ops) (sym ops_b) (made_means counted));
+        (subst (λ ops. Means (core spaces t) init ops) (sym ops_b) made_means);
     runs = record {
       init_valid = ap (λ c. fine_from c (length a.ops) 0 a.ops) counts_a
           ∙ ap (λ ops. fine_from counts (length ops) 0 ops) ops_a ∙ made_init_valid;
       perf_valid = ap (λ c. fine_from c (length b.ops) 0 b.ops) counts_b
           ∙ ap (λ ops. fine_from counts (length ops) 0 ops) ops_b ∙ made_perf_valid;
       counts = counts_a ∙ sym counts_b;
-      count = ap (λ (c : Counts). c.units) counts_a ∙ units_are ∙ units_counted (core spaces t);
+      count = ap (λ (c : Counts). c.units) counts_a ∙ made.units_are ∙ units_counted (core spaces t);
       init_names = subst (AllNamed s.channels (block_units (core spaces t))) (sym (ops_a ∙ made.init_is))
-          (names_of pass.Initialisation s.channels f (core spaces t) (narrow_block spaces s t rated));
+          (names_of pass.Initialisation s.channels (core spaces t) (narrow_block spaces s t rated));
       perf_names = subst (AllNamed s.channels (block_units (core spaces t))) (sym (ops_b ∙ made.perf_is))
-          (names_of pass.Performance s.channels f (core spaces t) (narrow_block spaces s t rated));
+          (names_of pass.Performance s.channels (core spaces t) (narrow_block spaces s t rated));
       perf_cycle = ap are_of_cycle (ops_b ∙ made.perf_is)
-          ∙ perf_cycles s.channels f (core spaces t) (narrow_block spaces s t rated);
+          ∙ perf_cycles s.channels (core spaces t) (narrow_block spaces s t rated);
     };
     touches = record {
       begins = λ way stock. alike (ops_touch way stock a.ops) (block_touched way beginning stock (core spaces t))
           (ap (ops_touch way stock) (ops_a ∙ made.init_is)
-          ∙ block_touch way stock f pass.Initialisation 0 start (core spaces t));
+          ∙ block_touch way stock pass.Initialisation 0 start (core spaces t));
       cycles = λ way stock. alike (ops_touch way stock b.ops) (block_touched way cycle stock (core spaces t))
           (ap (ops_touch way stock) (ops_b ∙ made.perf_is)
-          ∙ block_touch way stock f pass.Performance 0 start (core spaces t));
+          ∙ block_touch way stock pass.Performance 0 start (core spaces t));
     };
   }
-
--- ---- lists side by side
-
-module _ {A B : Type 0} (R : A → B → Type 0) where
-  pub zip_append : (xs ys : List A) (us bs : List B) → AllZip R xs us → AllZip R ys bs → AllZip R (xs ++ ys) (us ++ bs)
-  zip_append [] ys [] bs h k = k
-  zip_append [] ys (a ∷ us) bs h k = absurd h
-  zip_append (x ∷ xs) ys [] bs h k = absurd h
-  zip_append (x ∷ xs) ys (a ∷ us) bs h k = (h.0, zip_append xs ys us bs h.1 k)
-
-  pub zip_one : (xs : List A) (us : List B) (x : A) (a : B) → AllZip R xs us → R x a
-      → AllZip R (xs ++ x ∷ []) (us ++ a ∷ [])
-  zip_one xs us x a h k = zip_append xs (x ∷ []) us (a ∷ []) h (k, tt)
 
 -- ---- instruments in the order of the text
 

@@ -33,6 +33,7 @@ use Rattle.cs_typed.specs.WellRated.{node_rate, var_rate, fit_letters, bound_by,
 use Rattle.cs_typed.specs.WellRated.{is_variable, IsRatedCall}
 use Rattle.cs_typed.specs.declared.setting.Setting.{Setting}
 use Rattle.cs_typed.specs.declared.tree.Var.{Var}
+use Rattle.cs_code.proofs.Runs.{local_rate}
 use Rattle.cs_code.proofs.Ranked.{rated}
 
 -- letters take values of these rates, one each
@@ -338,7 +339,12 @@ store_fits r (a ∷ []) c l h e = absurd (cc)
 store_fits r (a ∷ b ∷ []) c l h e = absurd (cc)
 store_fits r (typed.value x ∷ typed.value y ∷ typed.value z ∷ []) c l h e =
     let init : is_init (node_rate z) ≡ true = (and_parts (is_init (node_rate z)) true l).0 in
-    record { stores = even r (node_rate x) (node_rate y) (node_rate z) h init e; still = l; single = refl }
+    record {
+      stores = rw (local_rate (node_rate x), local_rate (node_rate y), local_rate (node_rate z))
+          (even r (node_rate x) (node_rate y) (node_rate z) h init e);
+      still = l;
+      single = refl;
+    }
 store_fits r (typed.text v ∷ b ∷ c' ∷ []) c l h e = absurd (cc)
 store_fits r (typed.value x ∷ typed.text v ∷ c' ∷ []) c l h e = absurd (cc)
 store_fits r (typed.value x ∷ typed.value y ∷ typed.text v ∷ []) c l h e = absurd (cc)

@@ -1,29 +1,28 @@
--- Lists of expressions and arguments.
+-- Lists of expressions and arguments, and lists side by side.
 use Rattle.std.proofs.Common.{◌≡◌, ◌∙◌, ◌+◌, ◌<◌, ◌++◌, ◌∷◌, drop, get_or, ℕ, Bool, true, false, not, cond, List, []}
-use Rattle.std.proofs.Common.{length, map, refl, sym, ap}
+use Rattle.std.proofs.Common.{length, refl, sym, ap}
 use Rattle.std.proofs.lemmas.List.{append_assoc, append-nil, drop_more}
 use Rattle.std.specs.Borrow.{Bor}
+use Rattle.std.specs.List.{AllZip}
 use Rattle.cs_meaning.specs.Core.{settled, moving, values_of}
 use Rattle.cs_meaning.specs.When.{When}
 use Rattle.cs_code.specs.inner.Kept.{past}
-use Rattle.cs_typed.specs.TypedTree.{Expression, Argument, value, text}
+use Rattle.cs_typed.specs.TypedTree.{Argument, Expression, expression, text, value}
 use Rattle.cs_typed.specs.declared.tree.TypedExpr.{TypedExpr}
 use Rattle.cs_words.specs.Catalogue.{Row, letter_at, is_settled}
-use Rattle.cs_ir.specs.declared.op.Op.{Op}
 use Rattle.cs_ir.specs.declared.register.Reg.{Reg}
 use Rattle.cs_code.specs.inner.Code.{operand_code, operands_code, keep_code, keep_all_code}
-use Rattle.cs_code.specs.declared.frame.Bases.{Bases}
-use Rattle.cs_code.specs.inner.Emitted.{taken, expression_of, expressions_of}
-use Rattle.cs_code.specs.inner.Frames.{Frame, spot, spots}
+use Rattle.cs_code.specs.inner.Emitted.{expressions_of, taken}
+use Rattle.cs_code.specs.inner.Spots.{spot, spots}
 
 pub append_nothing : {A : Type 0} (xs : List A) → xs ++ [] ≡ xs
 append_nothing xs = append-nil xs
 
 -- one value more
-pub expressions_more : (b : Bases) (es : List (Bor TypedExpr)) (e : Bor TypedExpr)
-    → expressions_of b (es ++ e ∷ []) ≡ expressions_of b es ++ expression_of b e.now ∷ []
-expressions_more b [] e = refl
-expressions_more b (x ∷ es) e = ap (λ l. expression_of b x.now ∷ l) (expressions_more b es e)
+pub expressions_more : (es : List (Bor TypedExpr)) (e : Bor TypedExpr)
+    → expressions_of (es ++ e ∷ []) ≡ expressions_of es ++ expression e.now ∷ []
+expressions_more [] e = refl
+expressions_more (x ∷ es) e = ap (λ l. expression x.now ∷ l) (expressions_more es e)
 
 -- the first argument, and those that follow
 taken_or : (b : Bool) (e : Expression) (xs : List Expression) → cond b (e ∷ xs) xs ≡ cond b (e ∷ []) [] ++ xs
@@ -86,48 +85,53 @@ values_more args a rest es new total split made was =
     ∙ was
 
 -- one value more, in the loops that make code
-pub operands_more : (f : Frame) (when : When) (ops new total : List Op) (at now d next : ℕ) (es : List Expression)
+pub operands_more : (when : When) (at now d next : ℕ) (es : List Expression) (e : Expression) (rest : List Expression)
+    → es ≡ e ∷ rest → now ≡ past at e → next ≡ d + 1
+    → operands_code when at es d ≡ operand_code when at e d ++ operands_code when now rest next
+operands_more when at now d next es e rest split past_it on =
+    ap (λ k. operands_code when at k d) split
+    ∙ sym (ap (λ k. operand_code when at e d ++ operands_code when k rest (d + 1)) past_it)
+    ∙ sym (ap (λ k. operand_code when at e d ++ operands_code when now rest k) on)
+
+pub spots_more : (when : When) (regs new total : List Reg) (at now d next : ℕ) (es : List Expression)
     (e : Expression) (rest : List Expression)
-    → es ≡ e ∷ rest → new ≡ ops ++ operand_code f when at e d → now ≡ past at e → next ≡ d + 1
-    → ops ++ operands_code f when at es d ≡ total
-    → new ++ operands_code f when now rest next ≡ total
-operands_more f when ops new total at now d next es e rest split made past_it on was =
-    ap (λ k. new ++ operands_code f when k rest next) past_it
-    ∙ ap (λ k. new ++ operands_code f when (past at e) rest k) on
-    ∙ ap (λ k. k ++ operands_code f when (past at e) rest (d + 1)) made
-    ∙ append_assoc ops (operand_code f when at e d) (operands_code f when (past at e) rest (d + 1))
-    ∙ ap (λ k. ops ++ operands_code f when at k d) (sym split)
+    → es ≡ e ∷ rest → new ≡ regs ++ spot when at e d ∷ [] → now ≡ past at e → next ≡ d + 1
+    → regs ++ spots when at es d ≡ total
+    → new ++ spots when now rest next ≡ total
+spots_more when regs new total at now d next es e rest split made past_it on was =
+    ap (λ k. new ++ spots when k rest next) past_it
+    ∙ ap (λ k. new ++ spots when (past at e) rest k) on
+    ∙ ap (λ k. k ++ spots when (past at e) rest (d + 1)) made
+    ∙ append_assoc regs (spot when at e d ∷ []) (spots when (past at e) rest (d + 1))
+    ∙ ap (λ k. regs ++ spots when at k d) (sym split)
     ∙ was
 
-pub spots_more : (f : Frame) (when : When) (regs new total : List Reg) (at now d next : ℕ) (es : List Expression)
-    (e : Expression) (rest : List Expression)
-    → es ≡ e ∷ rest → new ≡ regs ++ spot f when at e d ∷ [] → now ≡ past at e → next ≡ d + 1
-    → regs ++ spots f when at es d ≡ total
-    → new ++ spots f when now rest next ≡ total
-spots_more f when regs new total at now d next es e rest split made past_it on was =
-    ap (λ k. new ++ spots f when k rest next) past_it
-    ∙ ap (λ k. new ++ spots f when (past at e) rest k) on
-    ∙ ap (λ k. k ++ spots f when (past at e) rest (d + 1)) made
-    ∙ append_assoc regs (spot f when at e d ∷ []) (spots f when (past at e) rest (d + 1))
-    ∙ ap (λ k. regs ++ spots f when at k d) (sym split)
-    ∙ was
-
-pub keep_more : (f : Frame) (ops new total : List Op) (at now : ℕ) (es : List Expression) (e : Expression)
-    (rest : List Expression)
-    → es ≡ e ∷ rest → new ≡ ops ++ keep_code f at e → now ≡ past at e → ops ++ keep_all_code f at es ≡ total
-    → new ++ keep_all_code f now rest ≡ total
-keep_more f ops new total at now es e rest split made past_it was =
-    ap (λ k. new ++ keep_all_code f k rest) past_it
-    ∙ ap (λ k. k ++ keep_all_code f (past at e) rest) made
-    ∙ append_assoc ops (keep_code f at e) (keep_all_code f (past at e) rest)
-    ∙ ap (λ k. ops ++ keep_all_code f at k) (sym split)
-    ∙ was
-
-pub map_twice : {A B C : Type 0} (g : B → C) (f : A → B) (xs : List A) → map g (map f xs) ≡ map (λ x. g (f x)) xs
-map_twice g f [] = refl
-map_twice g f (x ∷ xs) = ap (λ l. g (f x) ∷ l) (map_twice g f xs)
+pub keep_more : (at now : ℕ) (es : List Expression) (e : Expression) (rest : List Expression)
+    → es ≡ e ∷ rest → now ≡ past at e → keep_all_code at es ≡ keep_code at e ++ keep_all_code now rest
+keep_more at now es e rest split past_it =
+    ap (keep_all_code at) split ∙ sym (ap (λ k. keep_code at e ++ keep_all_code k rest) past_it)
 
 -- what is left of a list, and what is left after its first
 pub dropped : {A : Type 0} (xs : List A) (i : ℕ) (x : A) → i < length xs → x ≡ get_or xs i x
     → drop i xs ≡ x ∷ drop (i + 1) xs
 dropped xs i x lt e = drop_more xs i x lt ∙ ap (λ y. y ∷ drop (i + 1) xs) (sym e)
+
+-- ---- lists side by side
+
+module _ {A B : Type 0} (R : A → B → Type 0) where
+  pub zip_append : (xs ys : List A) (us bs : List B) → AllZip R xs us → AllZip R ys bs → AllZip R (xs ++ ys) (us ++ bs)
+  zip_append [] ys [] bs h k = k
+  zip_append [] ys (a ∷ us) bs h k = absurd h
+  zip_append (x ∷ xs) ys [] bs h k = absurd h
+  zip_append (x ∷ xs) ys (a ∷ us) bs h k = (h.0, zip_append xs ys us bs h.1 k)
+
+  pub zip_one : (xs : List A) (us : List B) (x : A) (a : B) → AllZip R xs us → R x a
+      → AllZip R (xs ++ x ∷ []) (us ++ a ∷ [])
+  zip_one xs us x a h k = zip_append xs (x ∷ []) us (a ∷ []) h (k, tt)
+
+pub zip_still : {A B : Type 0} (R S : A → B → Type 0) → ((x : A) (a : B) → R x a → S x a) → (xs : List A)
+    (us : List B) → AllZip R xs us → AllZip S xs us
+zip_still R S still [] [] h = h
+zip_still R S still [] (a ∷ us) h = absurd h
+zip_still R S still (x ∷ xs) [] h = absurd h
+zip_still R S still (x ∷ xs) (a ∷ us) h = (still x a h.0, zip_still R S still xs us h.1)

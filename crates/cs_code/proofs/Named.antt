@@ -10,6 +10,7 @@ use Rattle.cs_base.specs.Rates.{same_rate}
 use Rattle.cs_base.specs.declared.resource.Rate.{Rate}
 use Rattle.cs_base.specs.declared.resource.Rate.TheVariants as rate
 use Rattle.cs_ir.specs.Cycles.{are_of_cycle, is_of_cycle}
+use Rattle.cs_ir.specs.Registers.{rate_at}
 use Rattle.cs_ir.specs.Waves.{if_init}
 use Rattle.cs_ir.specs.declared.op.Act.{Act}
 use Rattle.cs_ir.specs.declared.op.Act.TheVariants as act
@@ -28,12 +29,13 @@ use Rattle.cs_typed.specs.WellRated.{node_rate}
 use Rattle.cs_typed.specs.declared.tree.Var.{Var as Variable}
 use Rattle.cs_typed.specs.declared.tree.Var.TheVariants.{Local, Global}
 use Rattle.cs_code.specs.Names.{UnitKind, stmt_units, block_units, arms_units, Names, AllNamed}
-use Rattle.cs_code.specs.inner.Frames.{Frame, op_of, kept_reg, temp, direct, spot, spots}
+use Rattle.cs_code.specs.inner.Spots.{op_of, kept_reg, temp, direct, spot, spots}
 use Rattle.cs_code.specs.inner.Code.{unless_there, copied, own, code, operand_code, operands_code, kept_code, keep_code}
 use Rattle.cs_code.specs.inner.Code.{keep_all_code, set_code, target, given_code, on_code, run_code, start_code}
 use Rattle.cs_code.specs.inner.Code.{unit_code, zak_code, seek_code, store_code, out_ops, out_at_ops, arm_code}
 use Rattle.cs_code.specs.inner.Code.{cond_code, cond_reg, choice_code, pass_code, pass_block_code}
 use Rattle.cs_code.specs.inner.Code.{chosen_code, all_code}
+use Rattle.cs_code.proofs.Runs.{local_rate, temp_rate}
 
 -- ---- places in lists
 
@@ -121,19 +123,19 @@ abbrev mutual
   NarrowArms channels (arm c b rest) = NarrowBlock channels b × NarrowArms channels rest
 
 -- a unit's result is written at the unit's rate
-pub target_rate : (f : Frame) (r : Rate) (vs : List Variable) → (target f r vs).rate ≡ r
-target_rate f r [] = refl
-target_rate f r (Global g ∷ vs) = refl
-target_rate f r (Local q x ∷ vs) = into (same_rate q r) refl
+pub target_rate : (r : Rate) (vs : List Variable) → rate_at (target r vs) ≡ r
+target_rate r [] = temp_rate r
+target_rate r (Global g ∷ vs) = temp_rate r
+target_rate r (Local q x ∷ vs) = into (same_rate q r) refl
   where
-    into : (b : Bool) → same_rate q r ≡ b → (if b then reg q x else temp f r 0).rate ≡ r
-    into true e = same_rate_is q r e
-    into false e = refl
+    into : (b : Bool) → same_rate q r ≡ b → rate_at (if b then reg q x else temp r 0) ≡ r
+    into true e = local_rate q ∙ same_rate_is q r e
+    into false e = temp_rate r
 
-length_spots : (f : Frame) (when : When) (at : ℕ) (es : List Expression) (d : ℕ)
-    → length (spots f when at es d) ≡ length es
-length_spots f when at [] d = refl
-length_spots f when at (e ∷ es) d = ap suc (length_spots f when (past at e) es (d + 1))
+length_spots : (when : When) (at : ℕ) (es : List Expression) (d : ℕ)
+    → length (spots when at es d) ≡ length es
+length_spots when at [] d = refl
+length_spots when at (e ∷ es) d = ap suc (length_spots when (past at e) es (d + 1))
 
 -- what is done in a cycle starts no unit, looks for no table and asks for no note; as a note begins anything is done
 abbrev pub suits : Bool → Act → Bool
@@ -143,14 +145,14 @@ module _ (cycles : Bool) (channels : ℕ) (units : List UnitKind) where
   -- each op names what there is, and is done where it may be
   abbrev pub Each : List Op → Type 0
   Each [] = Unit {0}
-  Each (op ∷ ops) = (Names channels units op.act op.into.rate × (suits cycles op.act ≡ true)) × Each ops
+  Each (op ∷ ops) = (Names channels units op.act (rate_at op.into) × (suits cycles op.act ≡ true)) × Each ops
 
   each_all : (ops : List Op) → Each ops → AllNamed channels units ops
   each_all [] h = λ k d low. absurd (omega arith)
   each_all (op ∷ ops) h = at (each_all ops h.1)
     where
       at : AllNamed channels units ops → (k : ℕ) (d : Op) → k < length (op ∷ ops)
-          → Names channels units (slice_index_or (op ∷ ops) k d).act (slice_index_or (op ∷ ops) k d).into.rate
+          → Names channels units (slice_index_or (op ∷ ops) k d).act (rate_at (slice_index_or (op ∷ ops) k d).into)
       at rest zero d low = h.0.0
       at rest (suc k) d low = rest k d (omega arith)
 
@@ -158,129 +160,129 @@ module _ (cycles : Bool) (channels : ℕ) (units : List UnitKind) where
   both [] b h k = k
   both (op ∷ a) b h k = (h.0, both a b h.1 k)
 
-  operand_by : (f : Frame) (when : When) (e : Expression) (at d : ℕ) → ((x : Reg) → Each (own f when at e x d))
-      → Each (operand_code f when at e d)
-  operand_by f when e at d h = by (direct f when at e)
+  operand_by : (when : When) (e : Expression) (at d : ℕ) → ((x : Reg) → Each (own when at e x d))
+      → Each (operand_code when at e d)
+  operand_by when e at d h = by (direct when at e)
     where
-      by : (there : Option Reg) → Each (unless_there there (own f when at e (temp f (node_rate e) d) d))
+      by : (there : Option Reg) → Each (unless_there there (own when at e (temp (node_rate e) d) d))
       by (Some q) = tt
-      by None = h (temp f (node_rate e) d)
+      by None = h (temp (node_rate e) d)
 
   copied_named : (there : Option Reg) (x : Reg) (ops : List Op) → Each ops → Each (copied there x ops)
   copied_named (Some q) x ops h = ((tt, refl), tt)
   copied_named None x ops h = h
 
-  own_named : (f : Frame) (when : When) (e : Expression) (at : ℕ) (x : Reg) (d : ℕ) → Each (own f when at e x d)
-  own_named f when (number r n) at x d = ((tt, refl), tt)
-  own_named f when (var r (Local q n)) at x d = ((tt, refl), tt)
-  own_named f when (var r (Global g)) at x d = ((tt, refl), tt)
-  own_named f when (field r k) at x d = ((tt, refl), tt)
-  own_named f when (head r k) at x d = ((tt, refl), tt)
-  own_named f when (neg r a) at x d =
-      both (operand_code f when at a d) (op_of act.Neg x (spot f when at a d ∷ []) ∷ [])
-      (operand_by f when a at d (λ q. own_named f when a at q d)) ((tt, refl), tt)
-  own_named f when (pair r o a b) at x d =
-      let last : List Op = op_of (act.Pair o) x (spots f when at (a ∷ b ∷ []) d) ∷ [] in
-      let second : List Op = operand_code f when (past at a) b (d + 1) in
-      both (operand_code f when at a d) (second ++ last) (operand_by f when a at d (λ q. own_named f when a at q d))
-      (both second last (operand_by f when b (past at a) (d + 1) (λ q. own_named f when b (past at a) q (d + 1)))
+  own_named : (when : When) (e : Expression) (at : ℕ) (x : Reg) (d : ℕ) → Each (own when at e x d)
+  own_named when (number r n) at x d = ((tt, refl), tt)
+  own_named when (var r (Local q n)) at x d = ((tt, refl), tt)
+  own_named when (var r (Global g)) at x d = ((tt, refl), tt)
+  own_named when (field r k) at x d = ((tt, refl), tt)
+  own_named when (head r k) at x d = ((tt, refl), tt)
+  own_named when (neg r a) at x d =
+      both (operand_code when at a d) (op_of act.Neg x (spot when at a d ∷ []) ∷ [])
+      (operand_by when a at d (λ q. own_named when a at q d)) ((tt, refl), tt)
+  own_named when (pair r o a b) at x d =
+      let last : List Op = op_of (act.Pair o) x (spots when at (a ∷ b ∷ []) d) ∷ [] in
+      let second : List Op = operand_code when (past at a) b (d + 1) in
+      both (operand_code when at a d) (second ++ last) (operand_by when a at d (λ q. own_named when a at q d))
+      (both second last (operand_by when b (past at a) (d + 1) (λ q. own_named when b (past at a) q (d + 1)))
       ((tt, refl), tt))
-  own_named f when (pick r c a b) at x d =
-      let last : List Op = op_of act.Pick x (spots f when at (c ∷ a ∷ b ∷ []) d) ∷ [] in
+  own_named when (pick r c a b) at x d =
+      let last : List Op = op_of act.Pick x (spots when at (c ∷ a ∷ b ∷ []) d) ∷ [] in
       let next : ℕ = past (past at c) a in
-      let second : List Op = operand_code f when (past at c) a (d + 1) in
-      let third : List Op = operand_code f when next b (d + 1 + 1) in
-      both (operand_code f when at c d) (second ++ (third ++ last))
-      (operand_by f when c at d (λ q. own_named f when c at q d))
+      let second : List Op = operand_code when (past at c) a (d + 1) in
+      let third : List Op = operand_code when next b (d + 1 + 1) in
+      both (operand_code when at c d) (second ++ (third ++ last))
+      (operand_by when c at d (λ q. own_named when c at q d))
       (both second (third ++ last)
-      (operand_by f when a (past at c) (d + 1) (λ q. own_named f when a (past at c) q (d + 1)))
-      (both third last (operand_by f when b next (d + 1 + 1) (λ q. own_named f when b next q (d + 1 + 1)))
+      (operand_by when a (past at c) (d + 1) (λ q. own_named when a (past at c) q (d + 1)))
+      (both third last (operand_by when b next (d + 1 + 1) (λ q. own_named when b next q (d + 1 + 1)))
       ((tt, refl), tt)))
-  own_named f when (apply r g a) at x d =
-      both (operand_code f when at a d) (op_of (act.Call g) x (spot f when at a d ∷ []) ∷ [])
-      (operand_by f when a at d (λ q. own_named f when a at q d)) ((tt, refl), tt)
+  own_named when (apply r g a) at x d =
+      both (operand_code when at a d) (op_of (act.Call g) x (spot when at a d ∷ []) ∷ [])
+      (operand_by when a at d (λ q. own_named when a at q d)) ((tt, refl), tt)
 
-  code_named : (f : Frame) (when : When) (e : Expression) (at : ℕ) (x : Reg) (d : ℕ) → Each (code f when at e x d)
-  code_named f when e at x d = copied_named (direct f when at e) x (own f when at e x d) (own_named f when e at x d)
+  code_named : (when : When) (e : Expression) (at : ℕ) (x : Reg) (d : ℕ) → Each (code when at e x d)
+  code_named when e at x d = copied_named (direct when at e) x (own when at e x d) (own_named when e at x d)
 
-  operand_named : (f : Frame) (when : When) (e : Expression) (at d : ℕ) → Each (operand_code f when at e d)
-  operand_named f when e at d = operand_by f when e at d (λ q. own_named f when e at q d)
+  operand_named : (when : When) (e : Expression) (at d : ℕ) → Each (operand_code when at e d)
+  operand_named when e at d = operand_by when e at d (λ q. own_named when e at q d)
 
-  operands_named : (f : Frame) (when : When) (es : List Expression) (at d : ℕ) → Each (operands_code f when at es d)
-  operands_named f when [] at d = tt
-  operands_named f when (e ∷ es) at d =
-      both (operand_code f when at e d) (operands_code f when (past at e) es (d + 1)) (operand_named f when e at d)
-      (operands_named f when es (past at e) (d + 1))
+  operands_named : (when : When) (es : List Expression) (at d : ℕ) → Each (operands_code when at es d)
+  operands_named when [] at d = tt
+  operands_named when (e ∷ es) at d =
+      both (operand_code when at e d) (operands_code when (past at e) es (d + 1)) (operand_named when e at d)
+      (operands_named when es (past at e) (d + 1))
 
   when_init : (r : Rate) (once each : List Op) → Each once → Each each → Each (if_init r once each)
   when_init rate.Init once each h k = h
   when_init rate.Control once each h k = k
   when_init rate.Audio once each h k = k
 
-  kept_named : (f : Frame) (at : ℕ) (e : Expression) → Each (kept_code f at e)
-  kept_named f at e = code_named f beginning e 0 (kept_reg f at) 0
+  kept_named : (at : ℕ) (e : Expression) → Each (kept_code at e)
+  kept_named at e = code_named beginning e 0 (kept_reg at) 0
 
-  keep_named : (f : Frame) (e : Expression) (at : ℕ) → Each (keep_code f at e)
-  keep_named f (number r n) at = when_init r (kept_code f at (number r n)) [] (kept_named f at (number r n)) tt
-  keep_named f (var r v) at = when_init r (kept_code f at (var r v)) [] (kept_named f at (var r v)) tt
-  keep_named f (field r k) at = when_init r (kept_code f at (field r k)) [] (kept_named f at (field r k)) tt
-  keep_named f (head r k) at = when_init r (kept_code f at (head r k)) [] (kept_named f at (head r k)) tt
-  keep_named f (neg r a) at =
-      when_init r (kept_code f at (neg r a)) (keep_code f at a) (kept_named f at (neg r a)) (keep_named f a at)
-  keep_named f (pair r b y z) at =
-      when_init r (kept_code f at (pair r b y z)) (keep_code f at y ++ keep_code f (past at y) z)
-      (kept_named f at (pair r b y z))
-      (both (keep_code f at y) (keep_code f (past at y) z) (keep_named f y at) (keep_named f z (past at y)))
-  keep_named f (pick r c y z) at =
-      when_init r (kept_code f at (pick r c y z))
-      (keep_code f at c ++ (keep_code f (past at c) y ++ keep_code f (past (past at c) y) z))
-      (kept_named f at (pick r c y z))
-      (both (keep_code f at c) (keep_code f (past at c) y ++ keep_code f (past (past at c) y) z) (keep_named f c at)
-      (both (keep_code f (past at c) y) (keep_code f (past (past at c) y) z) (keep_named f y (past at c))
-      (keep_named f z (past (past at c) y))))
-  keep_named f (apply r g a) at =
-      when_init r (kept_code f at (apply r g a)) (keep_code f at a) (kept_named f at (apply r g a)) (keep_named f a at)
+  keep_named : (e : Expression) (at : ℕ) → Each (keep_code at e)
+  keep_named (number r n) at = when_init r (kept_code at (number r n)) [] (kept_named at (number r n)) tt
+  keep_named (var r v) at = when_init r (kept_code at (var r v)) [] (kept_named at (var r v)) tt
+  keep_named (field r k) at = when_init r (kept_code at (field r k)) [] (kept_named at (field r k)) tt
+  keep_named (head r k) at = when_init r (kept_code at (head r k)) [] (kept_named at (head r k)) tt
+  keep_named (neg r a) at =
+      when_init r (kept_code at (neg r a)) (keep_code at a) (kept_named at (neg r a)) (keep_named a at)
+  keep_named (pair r b y z) at =
+      when_init r (kept_code at (pair r b y z)) (keep_code at y ++ keep_code (past at y) z)
+      (kept_named at (pair r b y z))
+      (both (keep_code at y) (keep_code (past at y) z) (keep_named y at) (keep_named z (past at y)))
+  keep_named (pick r c y z) at =
+      when_init r (kept_code at (pick r c y z))
+      (keep_code at c ++ (keep_code (past at c) y ++ keep_code (past (past at c) y) z))
+      (kept_named at (pick r c y z))
+      (both (keep_code at c) (keep_code (past at c) y ++ keep_code (past (past at c) y) z) (keep_named c at)
+      (both (keep_code (past at c) y) (keep_code (past (past at c) y) z) (keep_named y (past at c))
+      (keep_named z (past (past at c) y))))
+  keep_named (apply r g a) at =
+      when_init r (kept_code at (apply r g a)) (keep_code at a) (kept_named at (apply r g a)) (keep_named a at)
 
-  keep_all_named : (f : Frame) (es : List Expression) (at : ℕ) → Each (keep_all_code f at es)
-  keep_all_named f [] at = tt
-  keep_all_named f (e ∷ es) at =
-      both (keep_code f at e) (keep_all_code f (past at e) es) (keep_named f e at) (keep_all_named f es (past at e))
+  keep_all_named : (es : List Expression) (at : ℕ) → Each (keep_all_code at es)
+  keep_all_named [] at = tt
+  keep_all_named (e ∷ es) at =
+      both (keep_code at e) (keep_all_code (past at e) es) (keep_named e at) (keep_all_named es (past at e))
 
-  set_named : (f : Frame) (when : When) (at : ℕ) (v : Variable) (e : Expression) → Each (set_code f when at v e)
-  set_named f when at (Local q n) e = by_rate (same_rate (node_rate e) q)
+  set_named : (when : When) (at : ℕ) (v : Variable) (e : Expression) → Each (set_code when at v e)
+  set_named when at (Local q n) e = by_rate (same_rate (node_rate e) q)
     where
-      by_rate : (b : Bool) → Each (if b then code f when at e (reg q n) 0
-          else operand_code f when at e 0 ++ (op_of act.Copy (reg q n) (spot f when at e 0 ∷ []) ∷ []))
-      by_rate true = code_named f when e at (reg q n) 0
+      by_rate : (b : Bool) → Each (if b then code when at e (reg q n) 0
+          else operand_code when at e 0 ++ (op_of act.Copy (reg q n) (spot when at e 0 ∷ []) ∷ []))
+      by_rate true = code_named when e at (reg q n) 0
       by_rate false =
-          both (operand_code f when at e 0) (op_of act.Copy (reg q n) (spot f when at e 0 ∷ []) ∷ [])
-          (operand_named f when e at 0) ((tt, refl), tt)
-  set_named f when at (Global g) e =
-      both (operand_code f when at e 0) (op_of (act.Save g) (spot f when at e 0) (spot f when at e 0 ∷ []) ∷ [])
-      (operand_named f when e at 0) ((tt, refl), tt)
+          both (operand_code when at e 0) (op_of act.Copy (reg q n) (spot when at e 0 ∷ []) ∷ [])
+          (operand_named when e at 0) ((tt, refl), tt)
+  set_named when at (Global g) e =
+      both (operand_code when at e 0) (op_of (act.Save g) (spot when at e 0) (spot when at e 0 ∷ []) ∷ [])
+      (operand_named when e at 0) ((tt, refl), tt)
 
-  given_named : (f : Frame) (r : Rate) (vs : List Variable) → Each (given_code f r vs)
-  given_named f r [] = tt
-  given_named f r (Local q n ∷ vs) = by_rate (same_rate q r)
+  given_named : (r : Rate) (vs : List Variable) → Each (given_code r vs)
+  given_named r [] = tt
+  given_named r (Local q n ∷ vs) = by_rate (same_rate q r)
     where
-      by_rate : (b : Bool) → Each (if b then [] else op_of act.Copy (reg q n) (temp f r 0 ∷ []) ∷ [])
+      by_rate : (b : Bool) → Each (if b then [] else op_of act.Copy (reg q n) (temp r 0 ∷ []) ∷ [])
       by_rate true = tt
       by_rate false = ((tt, refl), tt)
-  given_named f r (Global g ∷ vs) = ((tt, refl), tt)
+  given_named r (Global g ∷ vs) = ((tt, refl), tt)
 
   -- an op that names what there is, on values
-  on_named : (f : Frame) (when : When) (at : ℕ) (a : Act) (into : Reg) (es : List Expression)
-      → Names channels units a into.rate → suits cycles a ≡ true → Each (on_code f when at a into es)
-  on_named f when at a into es here done =
-      both (operands_code f when at es 0) (op_of a into (spots f when at es 0) ∷ []) (operands_named f when es at 0)
+  on_named : (when : When) (at : ℕ) (a : Act) (into : Reg) (es : List Expression)
+      → Names channels units a (rate_at into) → suits cycles a ≡ true → Each (on_code when at a into es)
+  on_named when at a into es here done =
+      both (operands_code when at es 0) (op_of a into (spots when at es 0) ∷ []) (operands_named when es at 0)
       ((here, done), tt)
 
-  run_named : (f : Frame) (when : When) (at : ℕ) (a : Act) (r : Rate) (vs : List Variable) (xs : List Expression)
-      → Names channels units a r → suits cycles a ≡ true → Each (run_code f when at a r vs xs)
-  run_named f when at a r vs xs here done =
-      both (operands_code f when at xs 0) (op_of a (target f r vs) (spots f when at xs 0) ∷ given_code f r vs)
-      (operands_named f when xs at 0)
-      ((subst (Names channels units a) (sym (target_rate f r vs)) here, done), given_named f r vs)
+  run_named : (when : When) (at : ℕ) (a : Act) (r : Rate) (vs : List Variable) (xs : List Expression)
+      → Names channels units a r → suits cycles a ≡ true → Each (run_code when at a r vs xs)
+  run_named when at a r vs xs here done =
+      both (operands_code when at xs 0) (op_of a (target r vs) (spots when at xs 0) ∷ given_code r vs)
+      (operands_named when xs at 0)
+      ((subst (Names channels units a) (sym (target_rate r vs)) here, done), given_named r vs)
 
   out_named : (c : ℕ) (qs : List Reg) → c + length qs ≤ channels → Each (out_ops c qs)
   out_named c [] h = tt
@@ -303,9 +305,9 @@ module _ (cycles : Bool) (channels : ℕ) (units : List UnitKind) where
   Begins pass.Initialisation = not cycles ≡ true
   Begins pass.Performance = Unit {0}
 
-  cond_named : (way : Pass) (f : Frame) (at : ℕ) (c : Expression) → Each (cond_code way f at c)
-  cond_named pass.Initialisation f at c = keep_named f c at
-  cond_named pass.Performance f at c = operand_named f cycle c at 0
+  cond_named : (way : Pass) (at : ℕ) (c : Expression) → Each (cond_code way at c)
+  cond_named pass.Initialisation at c = keep_named c at
+  cond_named pass.Performance at c = operand_named cycle c at 0
 
   choice_named : (way : Pass) (r : Rate) (one all : List Op) → Each one → (Begins pass.Initialisation → Each all)
       → Begins way → Each (choice_code way r one all)
@@ -313,100 +315,101 @@ module _ (cycles : Bool) (channels : ℕ) (units : List UnitKind) where
   choice_named pass.Performance r one all h k begin = h
 
   mutual
-    stmt_named : (way : Pass) → Begins way → (f : Frame) (place : ℕ) (p : Progress) (s : Stmt)
-        → At units p.unit (stmt_units s) → Narrow channels s → Each (pass_code way f place p s)
-    stmt_named way begin f place p (choose r arms) h n =
-        choice_named way r (chosen_code way f place p arms) (all_code f place p arms)
-        (chosen_named way begin f place p arms h n) (λ b. all_named b f place p arms h n) begin
-    stmt_named pass.Initialisation begin f place p (set r v e) h n =
-        when_init r (set_code f beginning 0 v e) (keep_code f p.part e) (set_named f beginning 0 v e)
-        (keep_named f e p.part)
-    stmt_named pass.Initialisation begin f place p (unit r vs opcode reach xs is) h n =
+    stmt_named : (way : Pass) → Begins way → (place : ℕ) (p : Progress) (s : Stmt)
+        → At units p.unit (stmt_units s) → Narrow channels s → Each (pass_code way place p s)
+    stmt_named way begin place p (choose r arms) h n =
+        choice_named way r (chosen_code way place p arms) (all_code place p arms)
+        (chosen_named way begin place p arms h n) (λ b. all_named b place p arms h n) begin
+    stmt_named pass.Initialisation begin place p (set r v e) h n =
+        when_init r (set_code beginning 0 v e) (keep_code p.part e) (set_named beginning 0 v e)
+        (keep_named e p.part)
+    stmt_named pass.Initialisation begin place p (unit r vs opcode reach xs is) h n =
         let here = at_one units p.unit (record { opcode = opcode; rate = r }) h in
-        let starts : List Op = start_code f r opcode p.unit is in
-        let runs : List Op = unit_code f beginning 0 r vs opcode p.unit reach xs in
-        when_init r (starts ++ runs) (keep_all_code f p.part xs ++ starts)
-        (both starts runs (on_named f beginning 0 (act.Start opcode p.unit) (reg r 0) is here begin)
-        (run_named f beginning 0 (act.Unit opcode p.unit reach) r vs xs here refl))
-        (both (keep_all_code f p.part xs) starts (keep_all_named f xs p.part)
-        (on_named f beginning 0 (act.Start opcode p.unit) (reg r 0) is here begin))
-    stmt_named pass.Initialisation begin f place p (zak r vs opcode reach xs) h n =
-        when_init r (zak_code f beginning 0 r vs opcode reach xs) (keep_all_code f p.part xs)
-        (run_named f beginning 0 (act.Zak opcode reach) r vs xs tt refl)
-        (keep_all_named f xs p.part)
-    stmt_named pass.Initialisation begin f place p (store r reach es is) h n =
-        let seeks : List Op = seek_code f is in
-        let stores : List Op = store_code f beginning 0 r reach es in
-        let sought = on_named f beginning 0 act.Seek (reg rate.Init 0) is tt begin in
-        when_init r (seeks ++ stores) (keep_all_code f p.part es ++ seeks)
-        (both seeks stores sought (on_named f beginning 0 (act.Store reach) (reg r 0) es tt refl))
-        (both (keep_all_code f p.part es) seeks (keep_all_named f es p.part) sought)
-    stmt_named pass.Initialisation begin f place p (out r es) h n = keep_all_named f es p.part
-    stmt_named pass.Initialisation begin f place p (out_at r es) h n = keep_all_named f es p.part
-    stmt_named pass.Initialisation begin f place p (ask es) h n =
-        on_named f beginning 0 act.Ask (reg rate.Init 0) es tt begin
-    stmt_named pass.Performance begin f place p (set r v e) h n =
-        when_init r [] (set_code f cycle p.part v e) tt (set_named f cycle p.part v e)
-    stmt_named pass.Performance begin f place p (unit r vs opcode reach xs is) h n =
-        when_init r [] (unit_code f cycle p.part r vs opcode p.unit reach xs) tt
-        (run_named f cycle p.part (act.Unit opcode p.unit reach) r vs xs
+        let begins = subst (Names channels units (act.Start opcode p.unit)) (sym (temp_rate r)) here in
+        let starts : List Op = start_code r opcode p.unit is in
+        let runs : List Op = unit_code beginning 0 r vs opcode p.unit reach xs in
+        when_init r (starts ++ runs) (keep_all_code p.part xs ++ starts)
+        (both starts runs (on_named beginning 0 (act.Start opcode p.unit) (temp r 0) is begins begin)
+        (run_named beginning 0 (act.Unit opcode p.unit reach) r vs xs here refl))
+        (both (keep_all_code p.part xs) starts (keep_all_named xs p.part)
+        (on_named beginning 0 (act.Start opcode p.unit) (temp r 0) is begins begin))
+    stmt_named pass.Initialisation begin place p (zak r vs opcode reach xs) h n =
+        when_init r (zak_code beginning 0 r vs opcode reach xs) (keep_all_code p.part xs)
+        (run_named beginning 0 (act.Zak opcode reach) r vs xs tt refl)
+        (keep_all_named xs p.part)
+    stmt_named pass.Initialisation begin place p (store r reach es is) h n =
+        let seeks : List Op = seek_code is in
+        let stores : List Op = store_code beginning 0 r reach es in
+        let sought = on_named beginning 0 act.Seek (temp rate.Init 0) is tt begin in
+        when_init r (seeks ++ stores) (keep_all_code p.part es ++ seeks)
+        (both seeks stores sought (on_named beginning 0 (act.Store reach) (temp r 0) es tt refl))
+        (both (keep_all_code p.part es) seeks (keep_all_named es p.part) sought)
+    stmt_named pass.Initialisation begin place p (out r es) h n = keep_all_named es p.part
+    stmt_named pass.Initialisation begin place p (out_at r es) h n = keep_all_named es p.part
+    stmt_named pass.Initialisation begin place p (ask es) h n =
+        on_named beginning 0 act.Ask (temp rate.Init 0) es tt begin
+    stmt_named pass.Performance begin place p (set r v e) h n =
+        when_init r [] (set_code cycle p.part v e) tt (set_named cycle p.part v e)
+    stmt_named pass.Performance begin place p (unit r vs opcode reach xs is) h n =
+        when_init r [] (unit_code cycle p.part r vs opcode p.unit reach xs) tt
+        (run_named cycle p.part (act.Unit opcode p.unit reach) r vs xs
         (at_one units p.unit (record { opcode = opcode; rate = r }) h) refl)
-    stmt_named pass.Performance begin f place p (zak r vs opcode reach xs) h n =
-        when_init r [] (zak_code f cycle p.part r vs opcode reach xs) tt
-        (run_named f cycle p.part (act.Zak opcode reach) r vs xs tt refl)
-    stmt_named pass.Performance begin f place p (store r reach es is) h n =
-        when_init r [] (store_code f cycle p.part r reach es) tt
-        (on_named f cycle p.part (act.Store reach) (reg r 0) es tt refl)
-    stmt_named pass.Performance begin f place p (out r es) h n =
-        both (operands_code f cycle p.part es 0) (out_ops 0 (spots f cycle p.part es 0))
-        (operands_named f cycle es p.part 0)
-        (out_named 0 (spots f cycle p.part es 0) (let l = length_spots f cycle p.part es 0 in omega arith))
-    stmt_named pass.Performance begin f place p (out_at r es) h n =
-        both (operands_code f cycle p.part es 0) (out_at_ops (spots f cycle p.part es 0))
-        (operands_named f cycle es p.part 0)
-        (out_at_named (spots f cycle p.part es 0))
-    stmt_named pass.Performance begin f place p (turnoff r) h n = ((tt, refl), tt)
-    stmt_named pass.Initialisation begin f place p _ h n = tt
-    stmt_named pass.Performance begin f place p _ h n = tt
+    stmt_named pass.Performance begin place p (zak r vs opcode reach xs) h n =
+        when_init r [] (zak_code cycle p.part r vs opcode reach xs) tt
+        (run_named cycle p.part (act.Zak opcode reach) r vs xs tt refl)
+    stmt_named pass.Performance begin place p (store r reach es is) h n =
+        when_init r [] (store_code cycle p.part r reach es) tt
+        (on_named cycle p.part (act.Store reach) (temp r 0) es tt refl)
+    stmt_named pass.Performance begin place p (out r es) h n =
+        both (operands_code cycle p.part es 0) (out_ops 0 (spots cycle p.part es 0))
+        (operands_named cycle es p.part 0)
+        (out_named 0 (spots cycle p.part es 0) (let l = length_spots cycle p.part es 0 in omega arith))
+    stmt_named pass.Performance begin place p (out_at r es) h n =
+        both (operands_code cycle p.part es 0) (out_at_ops (spots cycle p.part es 0))
+        (operands_named cycle es p.part 0)
+        (out_at_named (spots cycle p.part es 0))
+    stmt_named pass.Performance begin place p (turnoff r) h n = ((tt, refl), tt)
+    stmt_named pass.Initialisation begin place p _ h n = tt
+    stmt_named pass.Performance begin place p _ h n = tt
 
-    pub block_named : (way : Pass) → Begins way → (f : Frame) (place : ℕ) (p : Progress) (b : Block)
-        → At units p.unit (block_units b) → NarrowBlock channels b → Each (pass_block_code way f place p b)
-    block_named way begin f place p no_stmt h n = tt
-    block_named way begin f place p (andthen s b) h n =
-        let next : ℕ = place + length (pass_code way f place p s) in
-        both (pass_code way f place p s) (pass_block_code way f next (past_stmt p s) b)
-        (stmt_named way begin f place p s (at_front units p.unit (stmt_units s) (block_units b) h) n.0)
-        (block_named way begin f next (past_stmt p s) b
+    pub block_named : (way : Pass) → Begins way → (place : ℕ) (p : Progress) (b : Block)
+        → At units p.unit (block_units b) → NarrowBlock channels b → Each (pass_block_code way place p b)
+    block_named way begin place p no_stmt h n = tt
+    block_named way begin place p (andthen s b) h n =
+        let next : ℕ = place + length (pass_code way place p s) in
+        both (pass_code way place p s) (pass_block_code way next (past_stmt p s) b)
+        (stmt_named way begin place p s (at_front units p.unit (stmt_units s) (block_units b) h) n.0)
+        (block_named way begin next (past_stmt p s) b
         (at_back units p.unit (past_stmt p s).unit (stmt_units s) (block_units b) (stmt_count p s) h) n.1)
 
-    chosen_named : (way : Pass) → Begins way → (f : Frame) (place : ℕ) (p : Progress) (arms : Arms)
-        → At units p.unit (arms_units arms) → NarrowArms channels arms → Each (chosen_code way f place p arms)
-    chosen_named way begin f place p (otherwise b) h n = block_named way begin f place p b h n
-    chosen_named way begin f place p (arm c b rest) h n =
-        let before : List Op = cond_code way f p.part c in
+    chosen_named : (way : Pass) → Begins way → (place : ℕ) (p : Progress) (arms : Arms)
+        → At units p.unit (arms_units arms) → NarrowArms channels arms → Each (chosen_code way place p arms)
+    chosen_named way begin place p (otherwise b) h n = block_named way begin place p b h n
+    chosen_named way begin place p (arm c b rest) h n =
+        let before : List Op = cond_code way p.part c in
         let q : Progress = past_parts (past p.part c) p in
-        let body : List Op = pass_block_code way f (place + length before + 1) q b in
+        let body : List Op = pass_block_code way (place + length before + 1) q b in
         let next : ℕ = place + length before + 1 + length body + 1 in
-        arm_named place before (cond_reg way f p.part c) body (chosen_code way f next (past_block q b) rest)
-        (cond_named way f p.part c)
-        (block_named way begin f (place + length before + 1) q b
+        arm_named place before (cond_reg way p.part c) body (chosen_code way next (past_block q b) rest)
+        (cond_named way p.part c)
+        (block_named way begin (place + length before + 1) q b
         (at_front units p.unit (block_units b) (arms_units rest) h) n.0)
-        (chosen_named way begin f next (past_block q b) rest
+        (chosen_named way begin next (past_block q b) rest
         (at_back units p.unit (past_block q b).unit (block_units b) (arms_units rest) (block_count q b) h) n.1)
 
-    all_named : Begins pass.Initialisation → (f : Frame) (place : ℕ) (p : Progress) (arms : Arms)
-        → At units p.unit (arms_units arms) → NarrowArms channels arms → Each (all_code f place p arms)
-    all_named begin f place p (otherwise b) h n = block_named pass.Initialisation begin f place p b h n
-    all_named begin f place p (arm c b rest) h n =
-        let before : List Op = keep_code f p.part c in
+    all_named : Begins pass.Initialisation → (place : ℕ) (p : Progress) (arms : Arms)
+        → At units p.unit (arms_units arms) → NarrowArms channels arms → Each (all_code place p arms)
+    all_named begin place p (otherwise b) h n = block_named pass.Initialisation begin place p b h n
+    all_named begin place p (arm c b rest) h n =
+        let before : List Op = keep_code p.part c in
         let q : Progress = past_parts (past p.part c) p in
-        let body : List Op = pass_block_code pass.Initialisation f (place + length before) q b in
+        let body : List Op = pass_block_code pass.Initialisation (place + length before) q b in
         let next : ℕ = place + length before + length body in
-        let others : List Op = all_code f next (past_block q b) rest in
-        both before (body ++ others) (keep_named f c p.part)
-        (both body others (block_named pass.Initialisation begin f (place + length before) q b
+        let others : List Op = all_code next (past_block q b) rest in
+        both before (body ++ others) (keep_named c p.part)
+        (both body others (block_named pass.Initialisation begin (place + length before) q b
         (at_front units p.unit (block_units b) (arms_units rest) h) n.0)
-        (all_named begin f next (past_block q b) rest
+        (all_named begin next (past_block q b) rest
         (at_back units p.unit (past_block q b).unit (block_units b) (arms_units rest) (block_count q b) h) n.1))
 
 pub whole_at : (units : List UnitKind) → At units 0 units
@@ -418,18 +421,18 @@ of_cycles pass.Initialisation = false
 of_cycles pass.Performance = true
 
 -- the code of statements by its pass
-pub whole_named : (way : Pass) (channels : ℕ) (f : Frame) (b : Block) → NarrowBlock channels b
-    → Each (of_cycles way) channels (block_units b) (pass_block_code way f 0 start b)
-whole_named pass.Initialisation channels f b narrow =
-    block_named false channels (block_units b) pass.Initialisation refl f 0 start b (whole_at (block_units b)) narrow
-whole_named pass.Performance channels f b narrow =
-    block_named true channels (block_units b) pass.Performance tt f 0 start b (whole_at (block_units b)) narrow
+pub whole_named : (way : Pass) (channels : ℕ) (b : Block) → NarrowBlock channels b
+    → Each (of_cycles way) channels (block_units b) (pass_block_code way 0 start b)
+whole_named pass.Initialisation channels b narrow =
+    block_named false channels (block_units b) pass.Initialisation refl 0 start b (whole_at (block_units b)) narrow
+whole_named pass.Performance channels b narrow =
+    block_named true channels (block_units b) pass.Performance tt 0 start b (whole_at (block_units b)) narrow
 
-pub names_of : (way : Pass) (channels : ℕ) (f : Frame) (b : Block) → NarrowBlock channels b
-    → AllNamed channels (block_units b) (pass_block_code way f 0 start b)
-names_of way channels f b narrow =
-    each_all (of_cycles way) channels (block_units b) (pass_block_code way f 0 start b)
-    (whole_named way channels f b narrow)
+pub names_of : (way : Pass) (channels : ℕ) (b : Block) → NarrowBlock channels b
+    → AllNamed channels (block_units b) (pass_block_code way 0 start b)
+names_of way channels b narrow =
+    each_all (of_cycles way) channels (block_units b) (pass_block_code way 0 start b)
+    (whole_named way channels b narrow)
 
 or_none : (b : Bool) → (b || false) ≡ true → b ≡ true
 or_none true h = refl
@@ -443,8 +446,8 @@ in_cycle channels units (op ∷ ops) h =
     (in_cycle channels units ops h.1)
 
 -- the performance of statements starts no unit, looks for no table and asks for no note
-pub perf_cycles : (channels : ℕ) (f : Frame) (b : Block) → NarrowBlock channels b
-    → are_of_cycle (pass_block_code pass.Performance f 0 start b) ≡ true
-perf_cycles channels f b narrow =
-    in_cycle channels (block_units b) (pass_block_code pass.Performance f 0 start b)
-    (whole_named pass.Performance channels f b narrow)
+pub perf_cycles : (channels : ℕ) (b : Block) → NarrowBlock channels b
+    → are_of_cycle (pass_block_code pass.Performance 0 start b) ≡ true
+perf_cycles channels b narrow =
+    in_cycle channels (block_units b) (pass_block_code pass.Performance 0 start b)
+    (whole_named pass.Performance channels b narrow)

@@ -1,24 +1,21 @@
 -- Kept values have numbers of their own, and units are numbered by those in front of them.
-use Rattle.std.proofs.Common.{◌≡◌, ◌∙◌, ℕ, zero, suc, ◌+◌, ◌<◌, ◌≤◌, List, [], ◌∷◌, ◌++◌, Option, Some, None, refl, sym}
+use Rattle.std.proofs.Common.{◌≡◌, ◌∙◌, ℕ, zero, suc, ◌+◌, ◌<◌, ◌≤◌, List, [], ◌∷◌, ◌++◌, Option, Some, refl, sym}
 use Rattle.std.proofs.Common.{ap, arith, le_trans, add-zero, append-nil}
 use Rattle.std.proofs.lemmas.Option.{none-some}
 use Rattle.cs_base.proofs.Tests.{some_is}
-use Rattle.cs_base.specs.declared.per_rate.PerRate.{PerRate}
 use Rattle.cs_base.specs.declared.resource.Rate.{Rate}
 use Rattle.cs_base.specs.declared.resource.Rate.TheVariants as rate
-use Rattle.cs_base.specs.Rates.{at_rate}
 use Rattle.cs_ir.specs.Waves.{if_init}
 use Rattle.cs_meaning.specs.Core.{Stmt, Block, Arms, set, unit, zak, store, out, out_at, ask, turnoff, nothing, choose}
 use Rattle.cs_meaning.specs.Core.{no_stmt, andthen, otherwise, arm}
 use Rattle.cs_meaning.specs.Notes.{Path, next, unit_past, unit_past_block, unit_past_arms}
 use Rattle.cs_typed.specs.TypedTree.{Expression, number, var, field, head, neg, pair, pick, apply}
 use Rattle.cs_typed.specs.WellRated.{node_rate}
-use Rattle.cs_code.specs.inner.Frames.{frame_for, parts_of}
 use Rattle.cs_code.specs.declared.frame.Progress.{Progress}
 use Rattle.cs_code.specs.inner.Kept.{start, past, past_all, past_parts, past_stmt, past_block, past_arms, itself}
 use Rattle.cs_code.specs.inner.Kept.{nowhere, parts, numbers, all_numbers, stmt_numbers, block_numbers, arms_numbers}
-use Rattle.cs_code.specs.inner.Kept.{inward, register_from, registers}
-use Rattle.cs_code.proofs.Inside.{Fits, LaysOn, behind, behind_is}
+use Rattle.cs_code.specs.inner.Kept.{inward, registers}
+use Rattle.cs_code.proofs.Inside.{AreApart, LaysOn, behind, behind_is}
 
 -- ---- numbers grow
 
@@ -223,52 +220,19 @@ same_inward p q e = sym (outward_again p) ∙ ap (λ r. inward r []) e ∙ outwa
 
 -- ---- the registers of a block
 
-record IsPlaced (first : ℕ) (x : Option ℕ) (n : ℕ) : Type 0 where
-  number : ℕ
-  found : x ≡ Some number
-  is : first + number ≡ n
-
-placed_is : (first : ℕ) (x : Option ℕ) (n : ℕ) → register_from first x ≡ Some n → IsPlaced first x n
-placed_is first None n e = absurd (none-some n e)
-placed_is first (Some k) n e = record { number = k; found = refl; is = some_is (first + k) n e }
-
 -- what a block keeps has its registers
-pub registers_lay : (first : ℕ) (b : Block) → LaysOn first (registers first b) (0 ∷ []) (block_numbers start b)
-registers_lay first b k q =
-    ap (λ p. register_from first (block_numbers start b p))
+pub registers_lay : (b : Block) → LaysOn (registers b) (0 ∷ []) (block_numbers start b)
+registers_lay b k q =
+    ap (block_numbers start b)
     (inward_twice q (behind k (0 ∷ [])) [] ∙ ap (inward (behind k (0 ∷ []))) (append-nil q) ∙ at_front k 0 q
     ∙ ap (λ j. j ∷ q) (add-zero k))
   where
     at_front : (k n : ℕ) (q : Path) → inward (behind k (n ∷ [])) q ≡ (k + n) ∷ q
     at_front k n q = ap (λ p. inward p q) (behind_is k n [])
 
--- the frame of a block has room for it
-pub frame_fits : (counts : PerRate ℕ) (b : Block) → Fits (frame_for counts b) (at_rate counts) (registers counts.init b)
-frame_fits counts b = record { locals = locals; room = room; apart = apart }
-  where
-    all : Ranged 0 (parts_of b) (block_numbers start b)
-    all = block_ranged start b
-
-    locals : (r : Rate) → at_rate counts r ≤ (frame_for counts b).base r
-    locals rate.Init = omega arith
-    locals rate.Control = omega arith
-    locals rate.Audio = omega arith
-
-    room : (p : Path) (n : ℕ) → registers counts.init b p ≡ Some n
-        → (at_rate counts rate.Init ≤ n) × (n < (frame_for counts b).base rate.Init)
-    room p n e =
-        let k = placed_is counts.init (block_numbers start b (inward p [])) n e in
-        let high : k.number < parts_of b = (all.range (inward p []) k.number k.found).1 in
-        let is : counts.init + k.number ≡ n = k.is in
-        (omega arith, omega arith)
-
-    apart : (p q : Path) (n : ℕ) → registers counts.init b p ≡ Some n → registers counts.init b q ≡ Some n → p ≡ q
-    apart p q n e f =
-        let k = placed_is counts.init (block_numbers start b (inward p [])) n e in
-        let j = placed_is counts.init (block_numbers start b (inward q [])) n f in
-        let same : j.number ≡ k.number =
-        (let x : counts.init + k.number ≡ n = k.is in let y : counts.init + j.number ≡ n = j.is in omega arith) in
-        same_inward p q (all.apart (inward p []) (inward q []) k.number k.found (j.found ∙ ap (λ i. Some i) same))
+-- and no two values have the same
+pub registers_apart : (b : Block) → AreApart (registers b)
+registers_apart b p q n e f = same_inward p q ((block_ranged start b).apart (inward p []) (inward q []) n e f)
 
 -- ---- a condition that is kept as a whole
 

@@ -13,7 +13,7 @@ use Rattle.cs_ir.specs.declared.register.Reg.{Reg}
 use Rattle.cs_meaning.specs.Core.{Stmt, Block, Arms, set, unit, zak, store, out, out_at, ask, turnoff, nothing, choose}
 use Rattle.cs_meaning.specs.Core.{no_stmt, andthen, otherwise, arm}
 use Rattle.cs_meaning.specs.Notes as meaning
-use Rattle.cs_meaning.specs.Notes.{Note, Path, next, inside, inside_arm, past_arm, reg, moved_to, assign, given, done}
+use Rattle.cs_meaning.specs.Notes.{Note, Path, next, inside, inside_arm, past_arm, moved_to, assign, given, done}
 use Rattle.cs_meaning.specs.Notes.{value, values, sent, sent_at}
 use Rattle.cs_code.specs.declared.frame.Progress.{Progress}
 use Rattle.cs_code.specs.inner.Kept.{past, past_parts, past_stmt, past_block, nowhere, parts, numbers}
@@ -24,13 +24,12 @@ use Rattle.cs_typed.specs.TypedTree.{Expression}
 use Rattle.cs_typed.specs.declared.tree.Var.{Var as Variable}
 use Rattle.cs_typed.specs.declared.tree.Var.TheVariants.{Local, Global}
 use Rattle.cs_code.specs.Means.{StandsInMachine}
-use Rattle.cs_code.specs.inner.Frames.{Frame, op_of, spot, spots}
+use Rattle.cs_code.specs.inner.Spots.{op_of, spot, spots, temp}
 use Rattle.cs_code.specs.inner.Code.{operand_code, operands_code, set_code, unit_code, zak_code, store_code, out_ops}
 use Rattle.cs_code.specs.inner.Code.{out_at_ops, arm_code, perf_code, perf_block_code, perf_arms_code}
 use Rattle.cs_code.proofs.Arms.{Agrees, agrees_live, arm_runs}
 use Rattle.cs_code.proofs.Expressions.{live_same, stands_same, operands_run, operand_runs}
-use Rattle.cs_code.proofs.Inside.{Fits, plan_of, Lays, LaysOn, lays_on, stands_at, InsideAll, InsideStmt, InsideBlock}
-use Rattle.cs_code.proofs.Inside.{InsideArms}
+use Rattle.cs_code.proofs.Inside.{AreApart, Lays, LaysOn, lays_on, stands_at, SuitsStmt, SuitsBlock, SuitsArms}
 use Rattle.cs_code.proofs.Numbers.{stmt_unit, block_unit}
 use Rattle.cs_code.proofs.Parts.{Quiet, Reached, moved_stands, set_runs, unit_runs, zak_runs, store_runs}
 use Rattle.cs_code.proofs.Runs.{Live, run_append, live_step}
@@ -137,43 +136,43 @@ module _ {W : Type 0} (o : World W) (quiet : Quiet o) where
       ap (run o (place + 1) (out_at_ops qs)) (live_step o place (op_of act.OutAt q (k ∷ q ∷ [])) m l)
       ∙ out_at_ops_run qs (place + 1) n live
 
-module _ {W : Type 0} (o : World W) (quiet : Quiet o) (f : Frame) (lim : Rate → ℕ) (placed : Path → Option ℕ)
-    (fits : Fits f lim placed) where
-  reached : (t s : Note W) (place : ℕ) (ops : List Op) (m n : Machine W) → Live o place m → Reached lim placed s m n
-      → Agrees lim placed (place + length ops) s n
+module _ {W : Type 0} (o : World W) (quiet : Quiet o) (placed : Path → Option ℕ)
+    (distinct : AreApart placed) where
+  reached : (t s : Note W) (place : ℕ) (ops : List Op) (m n : Machine W) → Live o place m → Reached placed s m n
+      → Agrees placed (place + length ops) s n
   reached t s place ops m n l h = record { stands = h.stands; next = (let e = h.next in let k = l.next in omega arith) }
 
   -- operands, and then ops that move the world alone
   sent_from : (es : List Expression) (last : List Op) (send : List Wave → W → W) (t : Note W) (at : ℕ) (path : Path)
       (place : ℕ) (m : Machine W)
-      → ((n : Machine W) → Live o (place + length (operands_code f cycle at es 0)) n
-      → run o (place + length (operands_code f cycle at es 0)) last n ≡ in_world
-      (send (map n.regs (spots f cycle at es 0)) n.world) n)
-      → StandsInMachine (plan_of lim placed) t m → Live o place m → InsideAll lim es
-      → LaysOn f.kept placed path (all_numbers at es)
-      → Reached lim placed (moved_to (send (values o t cycle path es) t.world) t) m
-      (run o place (operands_code f cycle at es 0 ++ last) m)
-  sent_from es last send t at path place m does s l inside lays =
-      let ops : List Op = operands_code f cycle at es 0 in
+      → ((n : Machine W) → Live o (place + length (operands_code cycle at es 0)) n
+      → run o (place + length (operands_code cycle at es 0)) last n ≡ in_world
+      (send (map n.regs (spots cycle at es 0)) n.world) n)
+      → StandsInMachine placed t m → Live o place m
+      → LaysOn placed path (all_numbers at es)
+      → Reached placed (moved_to (send (values o t cycle path es) t.world) t) m
+      (run o place (operands_code cycle at es 0 ++ last) m)
+  sent_from es last send t at path place m does s l lays =
+      let ops : List Op = operands_code cycle at es 0 in
       let n : Machine W = run o place ops m in
-      let ready = operands_run o f lim placed fits t es cycle at path 0 place m s l inside lays in
-      let live : Live o (place + length ops) n = live_same o f 0 place (length ops) m n l ready.same in
+      let ready = operands_run o placed t es cycle at path 0 place m s l lays in
+      let live : Live o (place + length ops) n = live_same o 0 place (length ops) m n l ready.same in
       let x : W = send (values o t cycle path es) t.world in
       let is : run o place (ops ++ last) m ≡ in_world x n =
       run_append o place ops last m ∙ does n live
       ∙ ap (λ ws. in_world (send ws n.world) n) ready.here
       ∙ ap (λ y. in_world (send (values o t cycle path es) y) n) (ready.same.world ∙ s.world) in
-      subst (Reached lim placed (moved_to x t) m) (sym is) (record {
-        stands = moved_stands o f lim placed fits t x m (in_world x n) s refl
-            (λ p low. ready.same.regs p (omega arith));
+      subst (Reached placed (moved_to x t) m) (sym is) (record {
+        stands = moved_stands o placed distinct t x m (in_world x n) s refl
+            (λ p low. ready.same.regs p low);
         next = ready.same.next;
       })
 
   each_cycle : (r : Rate) (t s : Note W) (place : ℕ) (path : Path) (n : Path → Option ℕ) (ops : List Op) (m : Machine W)
-      → Agrees lim placed place t m
-      → Lays f.kept placed path (if_init r nowhere n)
-      → (Lays f.kept placed path n → Agrees lim placed (place + length ops) s (run o place ops m))
-      → Agrees lim placed (place + length (if_init r [] ops)) (if_init r t s) (run o place (if_init r [] ops) m)
+      → Agrees placed place t m
+      → Lays placed path (if_init r nowhere n)
+      → (Lays placed path n → Agrees placed (place + length ops) s (run o place ops m))
+      → Agrees placed (place + length (if_init r [] ops)) (if_init r t s) (run o place (if_init r [] ops) m)
   each_cycle rate.Init t s place path n ops m h lays does =
       record { stands = h.stands; next = le_trans h.next (omega arith) }
   each_cycle rate.Control t s place path n ops m h lays does = does lays
@@ -181,137 +180,137 @@ module _ {W : Type 0} (o : World W) (quiet : Quiet o) (f : Frame) (lim : Rate �
 
   mutual
     pub perf_runs : (s : Stmt) (path : Path) (p : Progress) (place : ℕ) (t : Note W) (m : Machine W)
-        → Agrees lim placed place t m
-        → o.refused t.world ≡ false → InsideStmt lim s → Lays f.kept placed path (stmt_numbers p s)
-        → Agrees lim placed (place + length (perf_code f place p s)) (perf_stmt o (stands_at path p) s t)
-        (run o place (perf_code f place p s) m)
-    perf_runs (set r v e) path p place t m h going inside lays =
-        let ops : List Op = set_code f cycle p.part v e in
-        let live = agrees_live o lim placed place t m h going in
+        → Agrees placed place t m
+        → o.refused t.world ≡ false → SuitsStmt s → Lays placed path (stmt_numbers p s)
+        → Agrees placed (place + length (perf_code place p s)) (perf_stmt o (stands_at path p) s t)
+        (run o place (perf_code place p s) m)
+    perf_runs (set r v e) path p place t m h going suits lays =
+        let ops : List Op = set_code cycle p.part v e in
+        let live = agrees_live o placed place t m h going in
         let s : Note W = assign o v (value o t cycle (0 ∷ path) e) t in
         each_cycle r t s place path (parts (numbers p.part e) nowhere) ops m h lays (λ b.
         reached t s place ops m (run o place ops m) live
-        (set_runs o f lim placed fits v cycle p.part (0 ∷ path) e t place m h.stands live inside.0 inside.1
+        (set_runs o placed distinct v cycle p.part (0 ∷ path) e t place m h.stands live
         (λ q. b (0 ∷ q))))
-    perf_runs (unit r vs opcode reach xs is) path p place t m h going inside lays =
-        let ops : List Op = unit_code f cycle p.part r vs opcode p.unit reach xs in
-        let live = agrees_live o lim placed place t m h going in
+    perf_runs (unit r vs opcode reach xs is) path p place t m h going suits lays =
+        let ops : List Op = unit_code cycle p.part r vs opcode p.unit reach xs in
+        let live = agrees_live o placed place t m h going in
         let s : Note W = done o r vs (o.does opcode r p.unit reach (values o t cycle (0 ∷ path) xs) t.world) t in
         each_cycle r t s place path (all_numbers p.part xs) ops m h lays (λ b.
         reached t s place ops m (run o place ops m) live
-        (unit_runs o f lim placed fits quiet cycle p.part (0 ∷ path) r vs opcode p.unit reach xs t place m h.stands live
-        inside.0 inside.1
-        (lays_on f.kept placed path (all_numbers p.part xs) b)))
-    perf_runs (zak r vs opcode reach xs) path p place t m h going inside lays =
-        let ops : List Op = zak_code f cycle p.part r vs opcode reach xs in
-        let live = agrees_live o lim placed place t m h going in
+        (unit_runs o placed distinct quiet cycle p.part (0 ∷ path) r vs opcode p.unit reach xs t place m h.stands live
+        suits
+        (lays_on placed path (all_numbers p.part xs) b)))
+    perf_runs (zak r vs opcode reach xs) path p place t m h going suits lays =
+        let ops : List Op = zak_code cycle p.part r vs opcode reach xs in
+        let live = agrees_live o placed place t m h going in
         let s : Note W = done o r vs (o.zak opcode reach (values o t cycle (0 ∷ path) xs) t.world) t in
         each_cycle r t s place path (all_numbers p.part xs) ops m h lays (λ b.
         reached t s place ops m (run o place ops m) live
-        (zak_runs o f lim placed fits quiet cycle p.part (0 ∷ path) r vs opcode reach xs t place m h.stands live
-        inside.0 inside.1
-        (lays_on f.kept placed path (all_numbers p.part xs) b)))
-    perf_runs (store r reach es is) path p place t m h going inside lays =
-        let ops : List Op = store_code f cycle p.part r reach es in
-        let live = agrees_live o lim placed place t m h going in
+        (zak_runs o placed distinct quiet cycle p.part (0 ∷ path) r vs opcode reach xs t place m h.stands live
+        suits
+        (lays_on placed path (all_numbers p.part xs) b)))
+    perf_runs (store r reach es is) path p place t m h going suits lays =
+        let ops : List Op = store_code cycle p.part r reach es in
+        let live = agrees_live o placed place t m h going in
         let s : Note W = moved_to (o.store r reach (values o t cycle (0 ∷ path) es) t.world) t in
         each_cycle r t s place path (all_numbers p.part es) ops m h lays (λ b.
         reached t s place ops m (run o place ops m) live
-        (store_runs o f lim placed fits cycle p.part (0 ∷ path) r reach es t place m h.stands live inside.0
-        (lays_on f.kept placed path (all_numbers p.part es) b)))
-    perf_runs (out r es) path p place t m h going inside lays =
-        let ops : List Op = operands_code f cycle p.part es 0 in
-        let last : List Op = out_ops 0 (spots f cycle p.part es 0) in
-        let live = agrees_live o lim placed place t m h going in
+        (store_runs o placed distinct cycle p.part (0 ∷ path) r reach es t place m h.stands live
+        (lays_on placed path (all_numbers p.part es) b)))
+    perf_runs (out r es) path p place t m h going suits lays =
+        let ops : List Op = operands_code cycle p.part es 0 in
+        let last : List Op = out_ops 0 (spots cycle p.part es 0) in
+        let live = agrees_live o placed place t m h going in
         reached t (moved_to (sent o 0 (values o t cycle (0 ∷ path) es) t.world) t) place (ops ++ last) m
         (run o place (ops ++ last) m) live
         (sent_from es last (sent o 0) t p.part (0 ∷ path) place m
-        (λ n l. out_ops_run o quiet 0 (spots f cycle p.part es 0) (place + length ops) n l) h.stands live inside
-        (lays_on f.kept placed path (all_numbers p.part es) lays))
-    perf_runs (out_at r es) path p place t m h going inside lays =
-        let ops : List Op = operands_code f cycle p.part es 0 in
-        let last : List Op = out_at_ops (spots f cycle p.part es 0) in
-        let live = agrees_live o lim placed place t m h going in
+        (λ n l. out_ops_run o quiet 0 (spots cycle p.part es 0) (place + length ops) n l) h.stands live
+        (lays_on placed path (all_numbers p.part es) lays))
+    perf_runs (out_at r es) path p place t m h going suits lays =
+        let ops : List Op = operands_code cycle p.part es 0 in
+        let last : List Op = out_at_ops (spots cycle p.part es 0) in
+        let live = agrees_live o placed place t m h going in
         reached t (moved_to (sent_at o (values o t cycle (0 ∷ path) es) t.world) t) place (ops ++ last) m
         (run o place (ops ++ last) m) live
         (sent_from es last (sent_at o) t p.part (0 ∷ path) place m
-        (λ n l. out_at_ops_run o quiet (spots f cycle p.part es 0) (place + length ops) n l) h.stands live inside
-        (lays_on f.kept placed path (all_numbers p.part es) lays))
-    perf_runs (ask es) path p place t m h going inside lays =
+        (λ n l. out_at_ops_run o quiet (spots cycle p.part es 0) (place + length ops) n l) h.stands live
+        (lays_on placed path (all_numbers p.part es) lays))
+    perf_runs (ask es) path p place t m h going suits lays =
         record { stands = h.stands; next = le_trans h.next (omega arith) }
-    perf_runs (turnoff r) path p place t m h going inside lays =
-        let op : Op = op_of act.Turnoff (reg rate.Init 0) [] in
-        let live = agrees_live o lim placed place t m h going in
+    perf_runs (turnoff r) path p place t m h going suits lays =
+        let op : Op = op_of act.Turnoff (temp rate.Init 0) [] in
+        let live = agrees_live o placed place t m h going in
         let x : W = o.turnoff t.world in
         let is : run o place (op ∷ []) m ≡ in_world x m =
         live_step o place op m live ∙ ap (λ y. in_world (o.turnoff y) m) h.stands.world in
-        subst (Agrees lim placed (place + 1) (moved_to x t)) (sym is) (record {
-          stands = moved_stands o f lim placed fits t x m (in_world x m) h.stands refl (λ q low. refl);
+        subst (Agrees placed (place + 1) (moved_to x t)) (sym is) (record {
+          stands = moved_stands o placed distinct t x m (in_world x m) h.stands refl (λ q low. refl);
           next = le_trans h.next (omega arith);
         })
-    perf_runs nothing path p place t m h going inside lays =
+    perf_runs nothing path p place t m h going suits lays =
         record { stands = h.stands; next = le_trans h.next (omega arith) }
-    perf_runs (choose r arms) path p place t m h going inside lays =
-        perf_arms_runs arms (0 ∷ path) p place t m h going inside.1
-        (lays_on f.kept placed path (arms_numbers p arms) lays)
+    perf_runs (choose r arms) path p place t m h going suits lays =
+        perf_arms_runs arms (0 ∷ path) p place t m h going suits.1
+        (lays_on placed path (arms_numbers p arms) lays)
 
     pub perf_block_runs : (b : Block) (path : Path) (p : Progress) (place : ℕ) (t : Note W) (m : Machine W)
-        → Agrees lim placed place t m
-        → o.refused t.world ≡ false → InsideBlock lim b → LaysOn f.kept placed path (block_numbers p b)
-        → Agrees lim placed (place + length (perf_block_code f place p b)) (perf_block o (stands_at path p) b t)
-        (run o place (perf_block_code f place p b) m)
-    perf_block_runs no_stmt path p place t m h going inside lays =
+        → Agrees placed place t m
+        → o.refused t.world ≡ false → SuitsBlock b → LaysOn placed path (block_numbers p b)
+        → Agrees placed (place + length (perf_block_code place p b)) (perf_block o (stands_at path p) b t)
+        (run o place (perf_block_code place p b) m)
+    perf_block_runs no_stmt path p place t m h going suits lays =
         record { stands = h.stands; next = le_trans h.next (omega arith) }
-    perf_block_runs (andthen s b) path p place t m h going inside lays =
-        let ops : List Op = perf_code f place p s in
-        let rest : List Op = perf_block_code f (place + length ops) (past_stmt p s) b in
+    perf_block_runs (andthen s b) path p place t m h going suits lays =
+        let ops : List Op = perf_code place p s in
+        let rest : List Op = perf_block_code (place + length ops) (past_stmt p s) b in
         let u : Note W = perf_stmt o (stands_at path p) s t in
-        let first = perf_runs s path p place t m h going inside.0 (λ q. lays 0 q) in
+        let first = perf_runs s path p place t m h going suits.0 (λ q. lays 0 q) in
         let more = perf_block_runs b (next path) (past_stmt p s) (place + length ops) u (run o place ops m) first
-        (stmt_quiet o quiet (stands_at path p) s t ∙ going) inside.1 (λ k q. lays (suc k) q) in
+        (stmt_quiet o quiet (stands_at path p) s t ∙ going) suits.1 (λ k q. lays (suc k) q) in
         let far : place + length ops + length rest ≡ place + length (ops ++ rest) =
         (let l = length-append ops rest in omega arith) in
-        subst (λ n. Agrees lim placed n (perf_block o (stands_at path p) (andthen s b) t) (run o place (ops ++ rest) m))
+        subst (λ n. Agrees placed n (perf_block o (stands_at path p) (andthen s b) t) (run o place (ops ++ rest) m))
         far
-        (subst (Agrees lim placed (place + length ops + length rest) (perf_block o (stands_at path p) (andthen s b) t))
+        (subst (Agrees placed (place + length ops + length rest) (perf_block o (stands_at path p) (andthen s b) t))
         (sym (run_append o place ops rest m))
-        (subst (λ (n : ℕ). Agrees lim placed (place + length ops + length rest)
+        (subst (λ (n : ℕ). Agrees placed (place + length ops + length rest)
         (perf_block o (record { path = next path; unit = n }) b u)
         (run o (place + length ops) rest (run o place ops m))) (stmt_unit p s) more))
 
     pub perf_arms_runs : (arms : Arms) (path : Path) (p : Progress) (place : ℕ) (t : Note W) (m : Machine W)
-        → Agrees lim placed place t m
-        → o.refused t.world ≡ false → InsideArms lim arms → LaysOn f.kept placed path (arms_numbers p arms)
-        → Agrees lim placed (place + length (perf_arms_code f place p arms)) (perf_arms o (stands_at path p) arms t)
-        (run o place (perf_arms_code f place p arms) m)
-    perf_arms_runs (otherwise b) path p place t m h going inside lays =
-        perf_block_runs b (0 ∷ path) p place t m h going inside
-        (lays_on f.kept placed path (block_numbers p b) (λ q. lays 0 q))
-    perf_arms_runs (arm c b rest) path p place t m h going inside lays =
-        let before : List Op = operand_code f cycle p.part c 0 in
+        → Agrees placed place t m
+        → o.refused t.world ≡ false → SuitsArms arms → LaysOn placed path (arms_numbers p arms)
+        → Agrees placed (place + length (perf_arms_code place p arms)) (perf_arms o (stands_at path p) arms t)
+        (run o place (perf_arms_code place p arms) m)
+    perf_arms_runs (otherwise b) path p place t m h going suits lays =
+        perf_block_runs b (0 ∷ path) p place t m h going suits
+        (lays_on placed path (block_numbers p b) (λ q. lays 0 q))
+    perf_arms_runs (arm c b rest) path p place t m h going suits lays =
+        let before : List Op = operand_code cycle p.part c 0 in
         let q : Progress = past_parts (past p.part c) p in
         let at : ℕ = place + length before + 1 in
-        let body : List Op = perf_block_code f at q b in
-        let others : List Op = perf_arms_code f (at + length body + 1) (past_block q b) rest in
-        let holder : Reg = spot f cycle p.part c 0 in
-        let live = agrees_live o lim placed place t m h going in
-        let ready = operand_runs o f lim placed fits t c cycle p.part (0 ∷ path) 0 place m h.stands live inside.0
+        let body : List Op = perf_block_code at q b in
+        let others : List Op = perf_arms_code (at + length body + 1) (past_block q b) rest in
+        let holder : Reg = spot cycle p.part c 0 in
+        let live = agrees_live o placed place t m h going in
+        let ready = operand_runs o placed t c cycle p.part (0 ∷ path) 0 place m h.stands live
         (λ k. lays 0 (0 ∷ k)) in
         let n : Machine W = run o place before m in
-        let there : Agrees lim placed (place + length before) t n = record {
-          stands = stands_same o f lim placed fits t 0 m n h.stands ready.same;
+        let there : Agrees placed (place + length before) t n = record {
+          stands = stands_same o placed t 0 m n h.stands ready.same;
           next = (let e = ready.same.next in let k = h.next in omega arith);
         } in
-        subst (λ far. Agrees lim placed far (perf_arms o (stands_at path p) (arm c b rest) t)
+        subst (λ far. Agrees placed far (perf_arms o (stands_at path p) (arm c b rest) t)
         (run o place (arm_code place before holder body others) m))
         (arm_length place before holder body others)
-        (arm_runs o lim placed place before holder body others t (perf_block o (stands_at (0 ∷ 1 ∷ path) q) b t)
+        (arm_runs o placed place before holder body others t (perf_block o (stands_at (0 ∷ 1 ∷ path) q) b t)
         (perf_arms o (past_arm (stands_at path p) b) rest t) (value o t cycle (0 ∷ path) c) m
         there going ready.here
-        (λ k a. perf_block_runs b (0 ∷ 1 ∷ path) q at t k a going inside.1
-        (lays_on f.kept placed (1 ∷ path) (block_numbers q b) (λ j. lays 0 (1 ∷ j))))
-        (λ k a. subst (λ (u : ℕ). Agrees lim placed (at + length body + 1 + length others)
+        (λ k a. perf_block_runs b (0 ∷ 1 ∷ path) q at t k a going suits.0
+        (lays_on placed (1 ∷ path) (block_numbers q b) (λ j. lays 0 (1 ∷ j))))
+        (λ k a. subst (λ (u : ℕ). Agrees placed (at + length body + 1 + length others)
         (perf_arms o (record { path = next path; unit = u }) rest t)
         (run o (at + length body + 1) others k)) (block_unit q b)
-        (perf_arms_runs rest (next path) (past_block q b) (at + length body + 1) t k a going inside.2
+        (perf_arms_runs rest (next path) (past_block q b) (at + length body + 1) t k a going suits.1
         (λ i j. lays (suc i) j))))

@@ -8,7 +8,7 @@ use Rattle.cs_base.specs.Rates.{same_rate}
 use Rattle.cs_base.specs.declared.resource.Rate.{Rate}
 use Rattle.cs_base.specs.declared.resource.Rate.TheVariants as rate
 use Rattle.cs_base.specs.declared.resource.Res.{Res}
-use Rattle.cs_ir.specs.Resources.{Stock, Touch, may_use, may_write, act_touches, ops_touch, read_only}
+use Rattle.cs_ir.specs.Resources.{Access, Stock, may_use, may_write, act_touches, ops_touch, read_only}
 use Rattle.cs_ir.specs.Resources.{tables_within, unit_uses, zak_touches}
 use Rattle.cs_ir.specs.Waves.{if_init}
 use Rattle.cs_ir.specs.declared.op.Act.{Act}
@@ -29,7 +29,7 @@ use Rattle.cs_typed.specs.TypedTree.{Expression, number, var, field, head, neg, 
 use Rattle.cs_typed.specs.WellRated.{node_rate}
 use Rattle.cs_typed.specs.declared.tree.Var.{Var as Variable}
 use Rattle.cs_typed.specs.declared.tree.Var.TheVariants.{Local, Global}
-use Rattle.cs_code.specs.inner.Frames.{Frame, op_of, kept_reg, temp, kept_or, direct, spot, spots}
+use Rattle.cs_code.specs.inner.Spots.{op_of, kept_reg, temp, kept_or, direct, spot, spots}
 use Rattle.cs_code.specs.inner.Code.{unless_there, own, code, copied, operand_code, operands_code, kept_code, keep_code}
 use Rattle.cs_code.specs.inner.Code.{keep_all_code, set_code, target, given_code, on_code, run_code, start_code}
 use Rattle.cs_code.specs.inner.Code.{unit_code, zak_code, seek_code, store_code, out_ops, out_at_ops, arm_code}
@@ -57,7 +57,7 @@ own_reads w (pair r o a b) = reads w a ++ reads w b
 own_reads w (pick r c a b) = reads w c ++ (reads w a ++ reads w b)
 own_reads w (apply r g a) = reads w a
 
-module _ (t : Touch) (stock : Stock) (f : Frame) where
+module _ (t : Access) (stock : Stock) where
   abbrev touch : List Op → List Res
   touch ops = ops_touch t stock ops
 
@@ -65,11 +65,11 @@ module _ (t : Touch) (stock : Stock) (f : Frame) where
   two : (a b : List Op) (x y : List Res) → touch a ≡ x → touch b ≡ y → touch (a ++ b) ≡ x ++ y
   two a b x y h k = flat_map-append (λ o. act_touches t stock o.act) a b ∙ ap₂ ◌++◌ h k
 
-  no_reads : (s : Touch) → read_only s [] ≡ []
+  no_reads : (s : Access) → read_only s [] ≡ []
   no_reads may_use = refl
   no_reads may_write = refl
 
-  two_reads : (s : Touch) (x y : List Res) → read_only s x ++ read_only s y ≡ read_only s (x ++ y)
+  two_reads : (s : Access) (x y : List Res) → read_only s x ++ read_only s y ≡ read_only s (x ++ y)
   two_reads may_use x y = refl
   two_reads may_write x y = refl
 
@@ -78,14 +78,14 @@ module _ (t : Touch) (stock : Stock) (f : Frame) where
   -- what stands already is read no more: nothing that is made of it touches anything
   by_rate : (r : Rate) (at : ℕ) (make : Option Reg → List Op) (here : Option Reg) (u : List Res)
       → ((q : Reg) → touch (make (Some q)) ≡ []) → touch (make here) ≡ read_only t u
-      → touch (make (kept_or f cycle r at here)) ≡ read_only t (if_init r [] u)
-  by_rate rate.Init at make here u none h = none (kept_reg f at) ∙ sym (no_reads t)
+      → touch (make (kept_or cycle r at here)) ≡ read_only t (if_init r [] u)
+  by_rate rate.Init at make here u none h = none (kept_reg at) ∙ sym (no_reads t)
   by_rate rate.Control at make here u none h = h
   by_rate rate.Audio at make here u none h = h
 
   by_there : (w : When) (e : Expression) (at : ℕ) (make : Option Reg → List Op)
       → ((q : Reg) → touch (make (Some q)) ≡ []) → touch (make None) ≡ read_only t (own_reads w e)
-      → touch (make (direct f w at e)) ≡ read_only t (reads w e)
+      → touch (make (direct w at e)) ≡ read_only t (reads w e)
   by_there beginning (number r n) at make none h = h
   by_there beginning (var r (Local q n)) at make none h = none (reg q n) ∙ sym (no_reads t)
   by_there beginning (var r (Global g)) at make none h = h
@@ -107,15 +107,15 @@ module _ (t : Touch) (stock : Stock) (f : Frame) where
   by_there cycle (apply r g a) at make none h = by_rate r at make None (own_reads cycle (apply r g a)) none h
 
   operand_by : (w : When) (e : Expression) (at d : ℕ)
-      → ((x : Reg) → touch (own f w at e x d) ≡ read_only t (own_reads w e))
-      → touch (operand_code f w at e d) ≡ read_only t (reads w e)
+      → ((x : Reg) → touch (own w at e x d) ≡ read_only t (own_reads w e))
+      → touch (operand_code w at e d) ≡ read_only t (reads w e)
   operand_by w e at d h =
-      by_there w e at (λ q. unless_there q (own f w at e (temp f (node_rate e) d) d)) (λ q. refl)
-      (h (temp f (node_rate e) d))
+      by_there w e at (λ q. unless_there q (own w at e (temp (node_rate e) d) d)) (λ q. refl)
+      (h (temp (node_rate e) d))
 
-  code_by : (w : When) (e : Expression) (at : ℕ) (x : Reg) → touch (own f w at e x 0) ≡ read_only t (own_reads w e)
-      → touch (code f w at e x 0) ≡ read_only t (reads w e)
-  code_by w e at x h = by_there w e at (λ q. copied q x (own f w at e x 0)) (λ q. refl) h
+  code_by : (w : When) (e : Expression) (at : ℕ) (x : Reg) → touch (own w at e x 0) ≡ read_only t (own_reads w e)
+      → touch (code w at e x 0) ≡ read_only t (reads w e)
+  code_by w e at x h = by_there w e at (λ q. copied q x (own w at e x 0)) (λ q. refl) h
 
   -- the op of a node touches nothing by itself
   last : (a : List Op) (op : Op) (u : List Res) → act_touches t stock op.act ≡ [] → touch a ≡ u
@@ -123,29 +123,29 @@ module _ (t : Touch) (stock : Stock) (f : Frame) where
   last a op u none h = two a (op ∷ []) u [] h (ap (λ l. l ++ []) none) ∙ append-nil u
 
   own_touch : (w : When) (e : Expression) (at : ℕ) (x : Reg) (d : ℕ)
-      → touch (own f w at e x d) ≡ read_only t (own_reads w e)
+      → touch (own w at e x d) ≡ read_only t (own_reads w e)
   own_touch w (number r n) at x d = sym (no_reads t)
   own_touch w (var r (Local q n)) at x d = sym (no_reads t)
   own_touch w (var r (Global g)) at x d = append-nil (read_only t (g ∷ []))
   own_touch w (field r k) at x d = sym (no_reads t)
   own_touch w (head r k) at x d = sym (no_reads t)
   own_touch w (neg r a) at x d =
-      last (operand_code f w at a d) (op_of act.Neg x (spot f w at a d ∷ [])) (read_only t (reads w a)) refl
+      last (operand_code w at a d) (op_of act.Neg x (spot w at a d ∷ [])) (read_only t (reads w a)) refl
       (operand_by w a at d (λ q. own_touch w a at q d))
   own_touch w (pair r o a b) at x d =
-      let op : Op = op_of (act.Pair o) x (spots f w at (a ∷ b ∷ []) d) in
-      let second : List Op = operand_code f w (past at a) b (d + 1) in
-      two (operand_code f w at a d) (second ++ (op ∷ [])) (read_only t (reads w a)) (read_only t (reads w b))
+      let op : Op = op_of (act.Pair o) x (spots w at (a ∷ b ∷ []) d) in
+      let second : List Op = operand_code w (past at a) b (d + 1) in
+      two (operand_code w at a d) (second ++ (op ∷ [])) (read_only t (reads w a)) (read_only t (reads w b))
       (operand_by w a at d (λ q. own_touch w a at q d))
       (last second op (read_only t (reads w b)) refl
       (operand_by w b (past at a) (d + 1) (λ q. own_touch w b (past at a) q (d + 1))))
       ∙ two_reads t (reads w a) (reads w b)
   own_touch w (pick r c a b) at x d =
-      let op : Op = op_of act.Pick x (spots f w at (c ∷ a ∷ b ∷ []) d) in
+      let op : Op = op_of act.Pick x (spots w at (c ∷ a ∷ b ∷ []) d) in
       let next : ℕ = past (past at c) a in
-      let second : List Op = operand_code f w (past at c) a (d + 1) in
-      let third : List Op = operand_code f w next b (d + 1 + 1) in
-      two (operand_code f w at c d) (second ++ (third ++ (op ∷ []))) (read_only t (reads w c))
+      let second : List Op = operand_code w (past at c) a (d + 1) in
+      let third : List Op = operand_code w next b (d + 1 + 1) in
+      two (operand_code w at c d) (second ++ (third ++ (op ∷ []))) (read_only t (reads w c))
       (read_only t (reads w a) ++ read_only t (reads w b))
       (operand_by w c at d (λ q. own_touch w c at q d))
       (two second (third ++ (op ∷ [])) (read_only t (reads w a)) (read_only t (reads w b))
@@ -155,21 +155,21 @@ module _ (t : Touch) (stock : Stock) (f : Frame) where
       ∙ ap (λ l. read_only t (reads w c) ++ l) (two_reads t (reads w a) (reads w b))
       ∙ two_reads t (reads w c) (reads w a ++ reads w b)
   own_touch w (apply r g a) at x d =
-      last (operand_code f w at a d) (op_of (act.Call g) x (spot f w at a d ∷ [])) (read_only t (reads w a)) refl
+      last (operand_code w at a d) (op_of (act.Call g) x (spot w at a d ∷ [])) (read_only t (reads w a)) refl
       (operand_by w a at d (λ q. own_touch w a at q d))
 
   operand_touch : (w : When) (at : ℕ) (e : Expression) (d : ℕ)
-      → touch (operand_code f w at e d) ≡ read_only t (reads w e)
+      → touch (operand_code w at e d) ≡ read_only t (reads w e)
   operand_touch w at e d = operand_by w e at d (λ q. own_touch w e at q d)
 
-  code_touch : (w : When) (at : ℕ) (e : Expression) (x : Reg) → touch (code f w at e x 0) ≡ read_only t (reads w e)
+  code_touch : (w : When) (at : ℕ) (e : Expression) (x : Reg) → touch (code w at e x 0) ≡ read_only t (reads w e)
   code_touch w at e x = code_by w e at x (own_touch w e at x 0)
 
   operands_touch : (w : When) (at : ℕ) (es : List Expression) (d : ℕ)
-      → touch (operands_code f w at es d) ≡ read_only t (flat_map (reads w) es)
+      → touch (operands_code w at es d) ≡ read_only t (flat_map (reads w) es)
   operands_touch w at [] d = sym (no_reads t)
   operands_touch w at (e ∷ es) d =
-      two (operand_code f w at e d) (operands_code f w (past at e) es (d + 1)) (read_only t (reads w e))
+      two (operand_code w at e d) (operands_code w (past at e) es (d + 1)) (read_only t (reads w e))
       (read_only t (flat_map (reads w) es)) (operand_touch w at e d) (operands_touch w (past at e) es (d + 1))
       ∙ two_reads t (reads w e) (flat_map (reads w) es)
 
@@ -183,27 +183,27 @@ module _ (t : Touch) (stock : Stock) (f : Frame) where
 
   -- of what is kept as a whole, or by its parts
   keeps : (at : ℕ) (e : Expression) (r : Rate) (parts : List Op) (v : List Res) → touch parts ≡ read_only t v
-      → touch (if_init r (kept_code f at e) parts) ≡ read_only t (if_init r (expr_reads e) v)
-  keeps at e rate.Init parts v k = code_touch beginning 0 e (kept_reg f at)
+      → touch (if_init r (kept_code at e) parts) ≡ read_only t (if_init r (expr_reads e) v)
+  keeps at e rate.Init parts v k = code_touch beginning 0 e (kept_reg at)
   keeps at e rate.Control parts v k = k
   keeps at e rate.Audio parts v k = k
 
-  keep_touch : (at : ℕ) (e : Expression) → touch (keep_code f at e) ≡ read_only t (expr_used beginning e)
+  keep_touch : (at : ℕ) (e : Expression) → touch (keep_code at e) ≡ read_only t (expr_used beginning e)
   keep_touch at (number r n) = keeps at (number r n) r [] [] (sym (no_reads t)) ∙ ap (read_only t) (nothing_read r)
   keep_touch at (var r v) = keeps at (var r v) r [] [] (sym (no_reads t))
   keep_touch at (field r k) = keeps at (field r k) r [] [] (sym (no_reads t)) ∙ ap (read_only t) (nothing_read r)
   keep_touch at (head r k) = keeps at (head r k) r [] [] (sym (no_reads t)) ∙ ap (read_only t) (nothing_read r)
-  keep_touch at (neg r a) = keeps at (neg r a) r (keep_code f at a) (expr_used beginning a) (keep_touch at a)
+  keep_touch at (neg r a) = keeps at (neg r a) r (keep_code at a) (expr_used beginning a) (keep_touch at a)
   keep_touch at (pair r o a b) =
       let kept : Expression → List Res = expr_used beginning in
-      keeps at (pair r o a b) r (keep_code f at a ++ keep_code f (past at a) b) (kept a ++ kept b)
-      (two (keep_code f at a) (keep_code f (past at a) b) (read_only t (kept a)) (read_only t (kept b))
+      keeps at (pair r o a b) r (keep_code at a ++ keep_code (past at a) b) (kept a ++ kept b)
+      (two (keep_code at a) (keep_code (past at a) b) (read_only t (kept a)) (read_only t (kept b))
       (keep_touch at a) (keep_touch (past at a) b) ∙ two_reads t (kept a) (kept b))
   keep_touch at (pick r c a b) =
       let kept : Expression → List Res = expr_used beginning in
-      let first : List Op = keep_code f at c in
-      let second : List Op = keep_code f (past at c) a in
-      let third : List Op = keep_code f (past (past at c) a) b in
+      let first : List Op = keep_code at c in
+      let second : List Op = keep_code (past at c) a in
+      let third : List Op = keep_code (past (past at c) a) b in
       keeps at (pick r c a b) r (first ++ (second ++ third)) (kept c ++ (kept a ++ kept b))
       (two first (second ++ third) (read_only t (kept c)) (read_only t (kept a) ++ read_only t (kept b))
       (keep_touch at c)
@@ -211,63 +211,63 @@ module _ (t : Touch) (stock : Stock) (f : Frame) where
       (keep_touch (past (past at c) a) b))
       ∙ ap (λ l. read_only t (kept c) ++ l) (two_reads t (kept a) (kept b))
       ∙ two_reads t (kept c) (kept a ++ kept b))
-  keep_touch at (apply r g a) = keeps at (apply r g a) r (keep_code f at a) (expr_used beginning a) (keep_touch at a)
+  keep_touch at (apply r g a) = keeps at (apply r g a) r (keep_code at a) (expr_used beginning a) (keep_touch at a)
 
   keep_all_touch : (at : ℕ) (es : List Expression)
-      → touch (keep_all_code f at es) ≡ read_only t (exprs_used beginning es)
+      → touch (keep_all_code at es) ≡ read_only t (exprs_used beginning es)
   keep_all_touch at [] = sym (no_reads t)
   keep_all_touch at (e ∷ es) =
-      two (keep_code f at e) (keep_all_code f (past at e) es) (read_only t (expr_used beginning e))
+      two (keep_code at e) (keep_all_code (past at e) es) (read_only t (expr_used beginning e))
       (read_only t (exprs_used beginning es)) (keep_touch at e) (keep_all_touch (past at e) es)
       ∙ two_reads t (expr_used beginning e) (exprs_used beginning es)
 
   -- ---- parts of statements
 
   set_touch : (w : When) (at : ℕ) (v : Variable) (e : Expression)
-      → touch (set_code f w at v e) ≡ read_only t (reads w e) ++ var_uses v
+      → touch (set_code w at v e) ≡ read_only t (reads w e) ++ var_uses v
   set_touch w at (Local q n) e = by_same (same_rate (node_rate e) q)
     where
       copy : List Op
-      copy = operand_code f w at e 0 ++ (op_of act.Copy (reg q n) (spot f w at e 0 ∷ []) ∷ [])
+      copy = operand_code w at e 0 ++ (op_of act.Copy (reg q n) (spot w at e 0 ∷ []) ∷ [])
 
-      by_same : (b : Bool) → touch (if b then code f w at e (reg q n) 0 else copy) ≡ read_only t (reads w e) ++ []
+      by_same : (b : Bool) → touch (if b then code w at e (reg q n) 0 else copy) ≡ read_only t (reads w e) ++ []
       by_same true = code_touch w at e (reg q n) ∙ sym (append-nil (read_only t (reads w e)))
       by_same false =
-          two (operand_code f w at e 0) (op_of act.Copy (reg q n) (spot f w at e 0 ∷ []) ∷ [])
+          two (operand_code w at e 0) (op_of act.Copy (reg q n) (spot w at e 0 ∷ []) ∷ [])
           (read_only t (reads w e)) [] (operand_touch w at e 0) refl
   set_touch w at (Global g) e =
-      two (operand_code f w at e 0) (op_of (act.Save g) (spot f w at e 0) (spot f w at e 0 ∷ []) ∷ [])
+      two (operand_code w at e 0) (op_of (act.Save g) (spot w at e 0) (spot w at e 0 ∷ []) ∷ [])
       (read_only t (reads w e)) (g ∷ []) (operand_touch w at e 0) refl
 
-  given_touch : (r : Rate) (vs : List Variable) → touch (given_code f r vs) ≡ vars_use vs
+  given_touch : (r : Rate) (vs : List Variable) → touch (given_code r vs) ≡ vars_use vs
   given_touch r [] = refl
   given_touch r (Local q n ∷ vs) = by_same (same_rate q r)
     where
-      by_same : (b : Bool) → touch (if b then [] else op_of act.Copy (reg q n) (temp f r 0 ∷ []) ∷ []) ≡ []
+      by_same : (b : Bool) → touch (if b then [] else op_of act.Copy (reg q n) (temp r 0 ∷ []) ∷ []) ≡ []
       by_same true = refl
       by_same false = refl
   given_touch r (Global g ∷ vs) = refl
 
   -- an op on values, and what is left to do with its result
   on_touch : (w : When) (at : ℕ) (a : Act) (into : Reg) (es : List Expression)
-      → touch (on_code f w at a into es) ≡ read_only t (flat_map (reads w) es) ++ act_touches t stock a
+      → touch (on_code w at a into es) ≡ read_only t (flat_map (reads w) es) ++ act_touches t stock a
   on_touch w at a into es =
-      two (operands_code f w at es 0) (op_of a into (spots f w at es 0) ∷ []) (read_only t (flat_map (reads w) es))
+      two (operands_code w at es 0) (op_of a into (spots w at es 0) ∷ []) (read_only t (flat_map (reads w) es))
       (act_touches t stock a) (operands_touch w at es 0) (append-nil (act_touches t stock a))
 
   -- one that touches nothing by itself
   alone : (a : Act) (into : Reg) (es : List Expression) → act_touches t stock a ≡ []
-      → touch (on_code f beginning 0 a into es) ≡ read_only t (exprs_read es)
+      → touch (on_code beginning 0 a into es) ≡ read_only t (exprs_read es)
   alone a into es none =
-      last (operands_code f beginning 0 es 0) (op_of a into (spots f beginning 0 es 0)) (read_only t (exprs_read es))
+      last (operands_code beginning 0 es 0) (op_of a into (spots beginning 0 es 0)) (read_only t (exprs_read es))
       none
       (operands_touch beginning 0 es 0)
 
   run_touch : (w : When) (at : ℕ) (a : Act) (r : Rate) (vs : List Variable) (xs : List Expression)
-      → touch (run_code f w at a r vs xs)
+      → touch (run_code w at a r vs xs)
       ≡ read_only t (flat_map (reads w) xs) ++ (act_touches t stock a ++ vars_use vs)
   run_touch w at a r vs xs =
-      two (operands_code f w at xs 0) (op_of a (target f r vs) (spots f w at xs 0) ∷ given_code f r vs)
+      two (operands_code w at xs 0) (op_of a (target r vs) (spots w at xs 0) ∷ given_code r vs)
       (read_only t (flat_map (reads w) xs)) (act_touches t stock a ++ vars_use vs) (operands_touch w at xs 0)
       (ap (λ l. act_touches t stock a ++ l) (given_touch r vs))
 
@@ -282,9 +282,9 @@ module _ (t : Touch) (stock : Stock) (f : Frame) where
 
   -- values, and ops on them that touch nothing
   sent : (at : ℕ) (es : List Expression) (ops : List Op) → touch ops ≡ []
-      → touch (operands_code f cycle at es 0 ++ ops) ≡ read_only t (exprs_used cycle es)
+      → touch (operands_code cycle at es 0 ++ ops) ≡ read_only t (exprs_used cycle es)
   sent at es ops none =
-      two (operands_code f cycle at es 0) ops (read_only t (exprs_used cycle es)) [] (operands_touch cycle at es 0) none
+      two (operands_code cycle at es 0) ops (read_only t (exprs_used cycle es)) [] (operands_touch cycle at es 0) none
       ∙ append-nil (read_only t (exprs_used cycle es))
 
   arm_touch : (place : ℕ) (before : List Op) (q : Reg) (body rest : List Op) (u v w : List Res) → touch before ≡ u
@@ -297,7 +297,7 @@ module _ (t : Touch) (stock : Stock) (f : Frame) where
   -- ---- statements, by the pass
 
   cond_touch : (way : Pass) (at : ℕ) (c : Expression)
-      → touch (cond_code way f at c) ≡ read_only t (expr_used (when_of way) c)
+      → touch (cond_code way at c) ≡ read_only t (expr_used (when_of way) c)
   cond_touch pass.Initialisation at c = keep_touch at c
   cond_touch pass.Performance at c = operand_touch cycle at c 0
 
@@ -310,101 +310,101 @@ module _ (t : Touch) (stock : Stock) (f : Frame) where
 
   mutual
     stmt_touch : (way : Pass) (place : ℕ) (p : Progress) (s : Stmt)
-        → touch (pass_code way f place p s) ≡ stmt_touched t (when_of way) stock s
+        → touch (pass_code way place p s) ≡ stmt_touched t (when_of way) stock s
     stmt_touch way place p (choose r arms) =
-        choice_touch way r (chosen_code way f place p arms) (all_code f place p arms)
+        choice_touch way r (chosen_code way place p arms) (all_code place p arms)
         (arms_touched t (when_of way) stock arms) (chosen_touch way place p arms)
-        (λ is. subst (λ w. touch (all_code f place p arms) ≡ arms_touched t (when_of w) stock arms) (sym is)
+        (λ is. subst (λ w. touch (all_code place p arms) ≡ arms_touched t (when_of w) stock arms) (sym is)
         (all_touch place p arms))
     stmt_touch pass.Initialisation place p (set r v e) =
-        either r (set_code f beginning 0 v e) (keep_code f p.part e) (read_only t (expr_reads e) ++ var_uses v)
+        either r (set_code beginning 0 v e) (keep_code p.part e) (read_only t (expr_reads e) ++ var_uses v)
         (read_only t (expr_used beginning e)) (set_touch beginning 0 v e) (keep_touch p.part e)
     stmt_touch pass.Initialisation place p (unit r vs opcode reach xs is) =
-        let started : List Op = start_code f r opcode p.unit is in
-        let once : List Op = unit_code f beginning 0 r vs opcode p.unit reach xs in
-        let kept : List Op = keep_all_code f p.part xs in
+        let started : List Op = start_code r opcode p.unit is in
+        let once : List Op = unit_code beginning 0 r vs opcode p.unit reach xs in
+        let kept : List Op = keep_all_code p.part xs in
         let settled : List Res = read_only t (exprs_read is) in
         let moving : List Res = read_only t (exprs_used beginning xs) in
         let touched : List Res = read_only t (unit_uses stock opcode reach) ++ vars_use vs in
         let runs : List Res = read_only t (exprs_read xs) ++ touched in
-        let starts = alone (act.Start opcode p.unit) (reg r 0) is refl in
+        let starts = alone (act.Start opcode p.unit) (temp r 0) is refl in
         either r (started ++ once) (kept ++ started) (settled ++ runs) (moving ++ settled)
         (two started once settled runs starts (run_touch beginning 0 (act.Unit opcode p.unit reach) r vs xs))
         (two kept started moving settled (keep_all_touch p.part xs) starts)
     stmt_touch pass.Initialisation place p (zak r vs opcode reach xs) =
-        either r (zak_code f beginning 0 r vs opcode reach xs) (keep_all_code f p.part xs)
+        either r (zak_code beginning 0 r vs opcode reach xs) (keep_all_code p.part xs)
         (read_only t (exprs_read xs) ++ (zak_touches t stock opcode reach ++ vars_use vs))
         (read_only t (exprs_used beginning xs)) (run_touch beginning 0 (act.Zak opcode reach) r vs xs)
         (keep_all_touch p.part xs)
     stmt_touch pass.Initialisation place p (store r reach es is) =
-        let sought : List Op = seek_code f is in
-        let once : List Op = store_code f beginning 0 r reach es in
-        let kept : List Op = keep_all_code f p.part es in
+        let sought : List Op = seek_code is in
+        let once : List Op = store_code beginning 0 r reach es in
+        let kept : List Op = keep_all_code p.part es in
         let settled : List Res = read_only t (exprs_read is) in
         let moving : List Res = read_only t (exprs_used beginning es) in
         let stores : List Res = read_only t (exprs_read es) ++ tables_within stock reach in
-        let seeks = alone act.Seek (reg rate.Init 0) is refl in
+        let seeks = alone act.Seek (temp rate.Init 0) is refl in
         either r (sought ++ once) (kept ++ sought) (settled ++ stores) (moving ++ settled)
-        (two sought once settled stores seeks (on_touch beginning 0 (act.Store reach) (reg r 0) es))
+        (two sought once settled stores seeks (on_touch beginning 0 (act.Store reach) (temp r 0) es))
         (two kept sought moving settled (keep_all_touch p.part es) seeks)
     stmt_touch pass.Initialisation place p (out r es) = keep_all_touch p.part es
     stmt_touch pass.Initialisation place p (out_at r es) = keep_all_touch p.part es
-    stmt_touch pass.Initialisation place p (ask es) = alone act.Ask (reg rate.Init 0) es refl
+    stmt_touch pass.Initialisation place p (ask es) = alone act.Ask (temp rate.Init 0) es refl
     stmt_touch pass.Performance place p (set r v e) =
-        either r [] (set_code f cycle p.part v e) [] (read_only t (expr_used cycle e) ++ var_uses v) refl
+        either r [] (set_code cycle p.part v e) [] (read_only t (expr_used cycle e) ++ var_uses v) refl
         (set_touch cycle p.part v e)
     stmt_touch pass.Performance place p (unit r vs opcode reach xs is) =
-        either r [] (unit_code f cycle p.part r vs opcode p.unit reach xs) []
+        either r [] (unit_code cycle p.part r vs opcode p.unit reach xs) []
         (read_only t (exprs_used cycle xs) ++ (read_only t (unit_uses stock opcode reach) ++ vars_use vs)) refl
         (run_touch cycle p.part (act.Unit opcode p.unit reach) r vs xs)
     stmt_touch pass.Performance place p (zak r vs opcode reach xs) =
-        either r [] (zak_code f cycle p.part r vs opcode reach xs) []
+        either r [] (zak_code cycle p.part r vs opcode reach xs) []
         (read_only t (exprs_used cycle xs) ++ (zak_touches t stock opcode reach ++ vars_use vs)) refl
         (run_touch cycle p.part (act.Zak opcode reach) r vs xs)
     stmt_touch pass.Performance place p (store r reach es is) =
-        either r [] (store_code f cycle p.part r reach es) []
+        either r [] (store_code cycle p.part r reach es) []
         (read_only t (exprs_used cycle es) ++ tables_within stock reach) refl
-        (on_touch cycle p.part (act.Store reach) (reg r 0) es)
+        (on_touch cycle p.part (act.Store reach) (temp r 0) es)
     stmt_touch pass.Performance place p (out r es) =
-        sent p.part es (out_ops 0 (spots f cycle p.part es 0)) (out_touch 0 (spots f cycle p.part es 0))
+        sent p.part es (out_ops 0 (spots cycle p.part es 0)) (out_touch 0 (spots cycle p.part es 0))
     stmt_touch pass.Performance place p (out_at r es) =
-        sent p.part es (out_at_ops (spots f cycle p.part es 0)) (out_at_touch (spots f cycle p.part es 0))
+        sent p.part es (out_at_ops (spots cycle p.part es 0)) (out_at_touch (spots cycle p.part es 0))
     stmt_touch pass.Initialisation place p _ = refl
     stmt_touch pass.Performance place p _ = refl
 
     -- the ops of a note's beginning and of a control cycle touch what its statements do then
     pub block_touch : (way : Pass) (place : ℕ) (p : Progress) (b : Block)
-        → touch (pass_block_code way f place p b) ≡ block_touched t (when_of way) stock b
+        → touch (pass_block_code way place p b) ≡ block_touched t (when_of way) stock b
     block_touch way place p no_stmt = refl
     block_touch way place p (andthen s b) =
-        let next : ℕ = place + length (pass_code way f place p s) in
-        two (pass_code way f place p s) (pass_block_code way f next (past_stmt p s) b)
+        let next : ℕ = place + length (pass_code way place p s) in
+        two (pass_code way place p s) (pass_block_code way next (past_stmt p s) b)
         (stmt_touched t (when_of way) stock s) (block_touched t (when_of way) stock b) (stmt_touch way place p s)
         (block_touch way next (past_stmt p s) b)
 
     chosen_touch : (way : Pass) (place : ℕ) (p : Progress) (arms : Arms)
-        → touch (chosen_code way f place p arms) ≡ arms_touched t (when_of way) stock arms
+        → touch (chosen_code way place p arms) ≡ arms_touched t (when_of way) stock arms
     chosen_touch way place p (otherwise b) = block_touch way place p b
     chosen_touch way place p (arm c b rest) =
-        let before : List Op = cond_code way f p.part c in
+        let before : List Op = cond_code way p.part c in
         let q : Progress = past_parts (past p.part c) p in
-        let body : List Op = pass_block_code way f (place + length before + 1) q b in
+        let body : List Op = pass_block_code way (place + length before + 1) q b in
         let next : ℕ = place + length before + 1 + length body + 1 in
-        arm_touch place before (cond_reg way f p.part c) body (chosen_code way f next (past_block q b) rest)
+        arm_touch place before (cond_reg way p.part c) body (chosen_code way next (past_block q b) rest)
         (read_only t (expr_used (when_of way) c)) (block_touched t (when_of way) stock b)
         (arms_touched t (when_of way) stock rest)
         (cond_touch way p.part c) (block_touch way (place + length before + 1) q b)
         (chosen_touch way next (past_block q b) rest)
 
     all_touch : (place : ℕ) (p : Progress) (arms : Arms)
-        → touch (all_code f place p arms) ≡ arms_touched t beginning stock arms
+        → touch (all_code place p arms) ≡ arms_touched t beginning stock arms
     all_touch place p (otherwise b) = block_touch pass.Initialisation place p b
     all_touch place p (arm c b rest) =
-        let before : List Op = keep_code f p.part c in
+        let before : List Op = keep_code p.part c in
         let q : Progress = past_parts (past p.part c) p in
-        let body : List Op = pass_block_code pass.Initialisation f (place + length before) q b in
+        let body : List Op = pass_block_code pass.Initialisation (place + length before) q b in
         let next : ℕ = place + length before + length body in
-        let others : List Op = all_code f next (past_block q b) rest in
+        let others : List Op = all_code next (past_block q b) rest in
         two before (body ++ others) (read_only t (expr_used beginning c))
         (block_touched t beginning stock b ++ arms_touched t beginning stock rest) (keep_touch p.part c)
         (two body others (block_touched t beginning stock b) (arms_touched t beginning stock rest)

@@ -3,16 +3,22 @@ use Rattle.std.proofs.Common.{◌≡◌, ℕ, ◌+◌, ◌<◌, ◌≤◌, ◌�
 use Rattle.std.proofs.Common.{map, nat_le, nat_lt, if◌then◌else◌, refl, sym, ◌∙◌, ap, arith, add-zero, le-leb, ne_eqb}
 use Rattle.std.proofs.Common.{eq-eqb, append_assoc}
 use Rattle.std.proofs.lemmas.Bool.Decides.{nat_tests}
-use Rattle.cs_base.proofs.Rates.{same_rate_is, same_rate_here}
+use Rattle.std.proofs.Common.{eqb, eqb-true, subst}
+use Rattle.std.proofs.lemmas.Bool.{and_parts}
 use Rattle.cs_base.proofs.Tests.{by_test}
-use Rattle.cs_base.specs.Rates.{same_rate}
 use Rattle.cs_base.specs.declared.resource.Rate.{Rate}
 use Rattle.cs_base.specs.declared.resource.Rate.TheVariants as rate
+use Rattle.cs_ir.proofs.RegisterKinds.{kind_is, kind_same}
 use Rattle.cs_ir.specs.Machine.{Machine, same_reg, put, acts, step, run}
 use Rattle.cs_ir.specs.Waves.{Wave, held}
 use Rattle.cs_ir.specs.Worlds.{World}
 use Rattle.cs_ir.specs.declared.op.Op.{Op}
+use Rattle.cs_ir.specs.Registers.{local, rate_of, same_kind, temporary}
+use Rattle.cs_ir.specs.declared.register.Kind.{Kind}
+use Rattle.cs_ir.specs.declared.register.Kind.TheVariants as kind
 use Rattle.cs_ir.specs.declared.register.Reg.{Reg}
+use Rattle.cs_meaning.specs.Notes.{reg}
+use Rattle.cs_code.specs.inner.Spots.{kept_reg, temp}
 
 above : (a b : ℕ) → b < a → nat_le a b ≡ false
 above a b h = grind (arith, nat_tests)
@@ -62,14 +68,88 @@ module _ {W : Type 0} (o : World W) where
 
 -- ---- registers
 
-pub apart : (p q : Reg) → (p.rate ≡ q.rate → p.index ≢ q.index) → same_reg p q ≡ false
-apart p q h = by_test (same_rate p.rate q.rate)
-    (λ e. rw (e, ne_eqb p.index q.index (h (same_rate_is p.rate q.rate e))) refl)
+-- a register that is no temporary, or one below a number
+abbrev pub UnderOf : ℕ → Kind → ℕ → Type 0
+UnderOf d kind.TemporaryInit n = n < d
+UnderOf d kind.TemporaryControl n = n < d
+UnderOf d kind.TemporaryAudio n = n < d
+UnderOf d _ n = Unit {0}
+
+abbrev pub Under : ℕ → Reg → Type 0
+Under d q = UnderOf d q.kind q.offset
+
+under_of : (d e : ℕ) (k : Kind) (n : ℕ) → d ≤ e → UnderOf d k n → UnderOf e k n
+under_of d e kind.TemporaryInit n low h = omega (arith, low, h)
+under_of d e kind.TemporaryControl n low h = omega (arith, low, h)
+under_of d e kind.TemporaryAudio n low h = omega (arith, low, h)
+under_of d e kind.LocalInit n low h = tt
+under_of d e kind.LocalControl n low h = tt
+under_of d e kind.LocalAudio n low h = tt
+under_of d e kind.Kept n low h = tt
+
+pub under_more : (d e : ℕ) (q : Reg) → d ≤ e → Under d q → Under e q
+under_more d e q low h = under_of d e q.kind q.offset low h
+
+pub under_temp : (r : Rate) (d e : ℕ) → d < e → Under e (temp r d)
+under_temp rate.Init d e h = h
+under_temp rate.Control d e h = h
+under_temp rate.Audio d e h = h
+
+pub temp_rate : (r : Rate) → rate_of (temporary r) ≡ r
+temp_rate rate.Init = refl
+temp_rate rate.Control = refl
+temp_rate rate.Audio = refl
+
+pub local_rate : (r : Rate) → rate_of (local r) ≡ r
+local_rate rate.Init = refl
+local_rate rate.Control = refl
+local_rate rate.Audio = refl
+
+pub under_local : (r : Rate) (n d : ℕ) → Under d (reg r n)
+under_local rate.Init n d = tt
+under_local rate.Control n d = tt
+under_local rate.Audio n d = tt
+
+pub apart : (p q : Reg) → (p.kind ≡ q.kind → p.offset ≢ q.offset) → same_reg p q ≡ false
+apart p q h = by_test (same_kind p.kind q.kind)
+    (λ e. rw (e, ne_eqb p.offset q.offset (h (kind_is p.kind q.kind e))) refl)
     (λ e. rw e refl)
 
-pub same_reg_here : (q : Reg) → same_reg q q ≡ true
-same_reg_here q = rw (same_rate_here q.rate, eq-eqb q.index q.index refl) refl
+pub same_reg_is : (p q : Reg) → same_reg p q ≡ true → p ≡ q
+same_reg_is p q h =
+    let both = and_parts (same_kind p.kind q.kind) (eqb p.offset q.offset) h in
+    let k = kind_is p.kind q.kind both.0 in
+    let n = eqb-true p.offset q.offset both.1 in
+    λ i. record { kind = k i; offset = n i }
 
+pub same_reg_here : (q : Reg) → same_reg q q ≡ true
+same_reg_here q = rw (kind_same q.kind, eq-eqb q.offset q.offset refl) refl
+
+-- below a temporary nothing is it
+under_temporary : (d : ℕ) (r : Rate) (n : ℕ) → UnderOf d (temporary r) n → n < d
+under_temporary d rate.Init n h = h
+under_temporary d rate.Control n h = h
+under_temporary d rate.Audio n h = h
+
+under_apart_of : (d : ℕ) (r : Rate) (k : Kind) (n : ℕ) → UnderOf d k n → k ≡ temporary r → n ≢ d
+under_apart_of d r k n h e same =
+    absurd (let low = under_temporary d r n (subst (λ x. UnderOf d x n) e h) in omega (arith, low, same))
+
+pub under_apart : (d : ℕ) (r : Rate) (p : Reg) → Under d p → same_reg p (temp r d) ≡ false
+under_apart d r p h = apart p (temp r d) (under_apart_of d r p.kind p.offset h)
+
+-- a local variable is no kept value, and locals of different rates are apart
+pub local_not_kept : (r : Rate) (n at : ℕ) → same_reg (reg r n) (kept_reg at) ≡ false
+local_not_kept rate.Init n at = refl
+local_not_kept rate.Control n at = refl
+local_not_kept rate.Audio n at = refl
+
+pub kept_not_local : (r : Rate) (n at : ℕ) → same_reg (kept_reg at) (reg r n) ≡ false
+kept_not_local rate.Init n at = refl
+kept_not_local rate.Control n at = refl
+kept_not_local rate.Audio n at = refl
+
+-- a register's writing
 pub put_here : (g : Reg → Wave) (q : Reg) (w : Wave) → put g q w q ≡ w
 put_here g q w = rw (same_reg_here q) refl
 

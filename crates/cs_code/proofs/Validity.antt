@@ -1,11 +1,11 @@
 -- The codes of a well rated block are valid, and name what there is.
 use Rattle.std.proofs.Common.{◌≡◌, ◌≤◌, true, List, length, arith}
-use Rattle.cs_base.specs.Rates.{at_rate}
-use Rattle.cs_base.specs.declared.resource.Rate.{Rate}
 use Rattle.cs_base.specs.declared.spaces.Spaces.{Spaces}
 use Rattle.cs_ir.specs.Validity.{fine_from}
 use Rattle.cs_ir.specs.declared.op.Op.{Op}
+use Rattle.cs_ir.specs.Registers.{at_kind}
 use Rattle.cs_ir.specs.declared.register.Counts.{Counts}
+use Rattle.cs_ir.specs.declared.register.Kind.{Kind}
 use Rattle.cs_meaning.specs.Core.{Block, core}
 use Rattle.cs_code.specs.declared.frame.Pass.{Pass}
 use Rattle.cs_code.specs.inner.Kept.{start, past_block}
@@ -14,7 +14,6 @@ use Rattle.cs_typed.specs.WellRated.{IsRatedBlock}
 use Rattle.cs_typed.specs.declared.setting.Setting.{Setting}
 use Rattle.cs_code.specs.Names.{block_units}
 use Rattle.cs_code.specs.inner.Code.{pass_block_code}
-use Rattle.cs_code.specs.inner.Frames.{Frame}
 use Rattle.cs_ir.specs.Limits.{ops_limit}
 use Rattle.cs_code.proofs.FromRates.{block_ranked, narrow_block}
 use Rattle.cs_code.proofs.Named.{block_count, of_cycles, whole_named}
@@ -24,15 +23,15 @@ use Rattle.cs_code.proofs.Valid.{fine_valid, block_fine}
 pub units_counted : (b : Block) → (past_block start b).unit ≡ length (block_units b)
 units_counted b = let h = block_count start b in omega arith
 
-pub code_valid : (way : Pass) (spaces : Spaces) (s : Setting) (t : typed.Block) → IsRatedBlock s t → (f : Frame)
-    (counts : Counts) → (past_block start (core spaces t)).unit ≤ counts.units
-    → ((r : Rate) → ops_limit r (pass_block_code way f 0 start (core spaces t)) ≤ at_rate counts.registers r)
-    → fine_from counts (length (pass_block_code way f 0 start (core spaces t))) 0
-    (pass_block_code way f 0 start (core spaces t)) ≡ true
-code_valid way spaces s t rated f counts units limits =
+pub code_valid : (way : Pass) (spaces : Spaces) (s : Setting) (t : typed.Block) → IsRatedBlock s t
+    → (counts : Counts) → (past_block start (core spaces t)).unit ≤ counts.units
+    → ((k : Kind) → ops_limit k (pass_block_code way 0 start (core spaces t)) ≤ at_kind counts.registers k)
+    → fine_from counts (length (pass_block_code way 0 start (core spaces t))) 0
+    (pass_block_code way 0 start (core spaces t)) ≡ true
+code_valid way spaces s t rated counts units limits =
     let b : Block = core spaces t in
-    let ops : List Op = pass_block_code way f 0 start b in
+    let ops : List Op = pass_block_code way 0 start b in
     let counted = units_counted b in
     fine_valid (of_cycles way) counts s.channels (block_units b) (length ops) 0 ops (omega arith) limits
-    (whole_named way s.channels f b (narrow_block spaces s t rated))
-    (block_fine (length ops) way f 0 start b (block_ranked spaces s t rated) (omega arith))
+    (whole_named way s.channels b (narrow_block spaces s t rated))
+    (block_fine (length ops) way 0 start b (block_ranked spaces s t rated) (omega arith))

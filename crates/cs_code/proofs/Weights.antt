@@ -1,12 +1,7 @@
--- How much there is to do in statements: a number that falls from each part of the tree to the parts in it, and from a
--- routine to those in front of it.
-use Rattle.std.proofs.Common.{◌≡◌, ◌<◌, ◌≤◌, ◌+◌, ◌*◌, ◌∷◌, [], ℕ, zero, suc, List, Some, length, take, get_or}
+-- How much there is to do in statements: a number that falls from each part of the tree to the parts in it.
+use Rattle.std.proofs.Common.{◌≡◌, ◌<◌, ◌≤◌, ◌+◌, ◌∷◌, [], ℕ, zero, suc, List, length, get_or}
 use Rattle.std.proofs.Common.{arith}
 use Rattle.std.proofs.Common.{refl, ap}
-use Rattle.std.specs.List.{slice_get}
-use Rattle.std.specs.Global.{Vec}
-use Rattle.std.proofs.lemmas.Option.{none-some}
-use Rattle.cs_base.proofs.Tests.{some_is}
 use Rattle.cs_base.specs.declared.resource.Rate.{Rate}
 use Rattle.cs_typed.specs.TypedTree as typed
 use Rattle.cs_typed.specs.declared.tree.TypedArm.{TypedArm, out-TypedArm}
@@ -99,26 +94,3 @@ choice_weighs s line r els arms e =
     arms_and_else (typed.block [] els) arms in
     let same : block_weight s ≡ suc (arms_weight (typed.arms [] (typed.block [] els) arms)) + 0 = ap block_weight e in
     omega (arith, same, more)
-
--- ---- routines
-
-abbrev pub routines_weight : List (Vec TypedStmt) → ℕ
-routines_weight [] = 0
-routines_weight (r ∷ rs) = (4 * all_weight r.items + 4) + routines_weight rs
-
-pub weight_falls : (list : List (Vec TypedStmt)) (k : ℕ) (r : Vec TypedStmt) → slice_get list k ≡ Some r
-    → routines_weight (take k list) + (4 * all_weight r.items + 4) ≤ routines_weight list
-weight_falls [] k r e = absurd (none-some r e)
-weight_falls (x ∷ list) zero r e =
-    let front : routines_weight (take zero (x ∷ list)) ≡ 0 = refl in
-    let all : routines_weight (x ∷ list) ≡ (4 * all_weight x.items + 4) + routines_weight list = refl in
-    let same : all_weight x.items ≡ all_weight r.items =
-    ap (λ (y : Vec TypedStmt). all_weight y.items) (some_is x r e) in
-    omega (arith, front, all, same)
-weight_falls (x ∷ list) (suc k) r e =
-    let front : routines_weight (take (suc k) (x ∷ list))
-    ≡ (4 * all_weight x.items + 4) + routines_weight (take k list) = refl in
-    let all : routines_weight (x ∷ list) ≡ (4 * all_weight x.items + 4) + routines_weight list = refl in
-    let more : routines_weight (take k list) + (4 * all_weight r.items + 4) ≤ routines_weight list =
-    weight_falls list k r e in
-    omega (arith, front, all, more)

@@ -10,7 +10,9 @@ use Rattle.cs_ir.specs.declared.op.Act.TheVariants as act
 use Rattle.cs_ir.specs.declared.op.Code.{Code}
 use Rattle.cs_ir.specs.declared.op.Op.{Op}
 use Rattle.cs_ir.specs.declared.op.Reach.TheVariants as reach
+use Rattle.cs_ir.specs.Registers.{local, temporary}
 use Rattle.cs_ir.specs.declared.register.Counts.{Counts}
+use Rattle.cs_ir.specs.declared.register.Kind.TheVariants as kind
 use Rattle.cs_ir.specs.declared.register.Reg.{Reg}
 use Rattle.cs_typed.specs.TypedTree as typed
 use Rattle.cs_typed.specs.declared.tree.Var.TheVariants.{Local}
@@ -41,50 +43,62 @@ terms =
     typed.andthen (typed.set 1 rate.Control (Local rate.Control 0) (plus (plus (plus first second) first) second))
     typed.no_stmt
 
+-- a local variable's register, that of a kept value, and a temporary
 abbrev at : Rate → ℕ → Reg
-at r n = record { rate = r; index = n }
+at r n = record { kind = local r; offset = n }
+
+abbrev kept : ℕ → Reg
+kept n = record { kind = kind.Kept; offset = n }
+
+abbrev between : Rate → ℕ → Reg
+between r n = record { kind = temporary r; offset = n }
+
+-- so many registers: locals of rates Init and Control, kept values, temporaries of both rates, and of rate Audio locals
+-- and temporaries
+abbrev counts_of : List ℕ → ℕ → Counts
+counts_of registers units = record { registers = record { counts = registers }; units = units }
 
 abbrev op : Act → Reg → List Reg → Op
 op a into from = record { act = a; into = into; from = from }
 
 -- As a note begins the 1 is kept, and in each cycle it is added.
 abbrev pub counter_init : List Op
-counter_init = op (act.Const one) (at rate.Init 0) [] ∷ []
+counter_init = op (act.Const one) (kept 0) [] ∷ []
 
 abbrev pub counter_perf : List Op
-counter_perf = op (act.Pair sign.Add) (at rate.Control 0) (at rate.Control 0 ∷ at rate.Init 0 ∷ []) ∷ []
+counter_perf = op (act.Pair sign.Add) (at rate.Control 0) (at rate.Control 0 ∷ kept 0 ∷ []) ∷ []
 
 abbrev pub counter_counts : Counts
-counter_counts = record { registers = record { init = 1; control = 1; audio = 0 }; units = 0 }
+counter_counts = counts_of (0 ∷ 1 ∷ 1 ∷ 0 ∷ 0 ∷ 0 ∷ 0 ∷ []) 0
 
--- Nothing is kept, and one register beside the two variables takes each sum in turn.
+-- Nothing is kept, and one temporary takes each sum in turn.
 abbrev pub terms_perf : List Op
 terms_perf =
-    op (act.Pair sign.Add) (at rate.Control 2) (at rate.Control 0 ∷ at rate.Control 1 ∷ [])
-    ∷ op (act.Pair sign.Add) (at rate.Control 2) (at rate.Control 2 ∷ at rate.Control 0 ∷ [])
-    ∷ op (act.Pair sign.Add) (at rate.Control 0) (at rate.Control 2 ∷ at rate.Control 1 ∷ [])
+    op (act.Pair sign.Add) (between rate.Control 0) (at rate.Control 0 ∷ at rate.Control 1 ∷ [])
+    ∷ op (act.Pair sign.Add) (between rate.Control 0) (between rate.Control 0 ∷ at rate.Control 0 ∷ [])
+    ∷ op (act.Pair sign.Add) (at rate.Control 0) (between rate.Control 0 ∷ at rate.Control 1 ∷ [])
     ∷ []
 
 abbrev pub terms_counts : Counts
-terms_counts = record { registers = record { init = 0; control = 3; audio = 0 }; units = 0 }
+terms_counts = counts_of (0 ∷ 2 ∷ 0 ∷ 0 ∷ 1 ∷ 0 ∷ 0 ∷ []) 0
 
 -- As a note begins the frequency is kept and the unit started on its table, and in each cycle the unit runs and its
 -- sound goes out.
 abbrev pub tone_init : List Op
 tone_init =
-    op (act.Const (pos 440 *ℤ one)) (at rate.Init 0) []
-    ∷ op (act.Const one) (at rate.Init 1) []
-    ∷ op (act.Start opcode.Oscili 0) (at rate.Audio 0) (at rate.Init 1 ∷ [])
+    op (act.Const (pos 440 *ℤ one)) (kept 0) []
+    ∷ op (act.Const one) (between rate.Init 0) []
+    ∷ op (act.Start opcode.Oscili 0) (between rate.Audio 0) (between rate.Init 0 ∷ [])
     ∷ []
 
 abbrev pub tone_perf : List Op
 tone_perf =
-    op (act.Unit opcode.Oscili 0 (reach.Span 1 1)) (at rate.Audio 0) (at rate.Control 0 ∷ at rate.Init 0 ∷ [])
+    op (act.Unit opcode.Oscili 0 (reach.Span 1 1)) (at rate.Audio 0) (at rate.Control 0 ∷ kept 0 ∷ [])
     ∷ op (act.Out 0) (at rate.Audio 0) (at rate.Audio 0 ∷ [])
     ∷ []
 
 abbrev pub tone_counts : Counts
-tone_counts = record { registers = record { init = 2; control = 1; audio = 1 }; units = 1 }
+tone_counts = counts_of (0 ∷ 1 ∷ 1 ∷ 1 ∷ 0 ∷ 1 ∷ 1 ∷ []) 1
 
 -- a code with these ops, over these registers and units
 abbrev pub IsMadeOf : List Op → Counts → Code → Type 0

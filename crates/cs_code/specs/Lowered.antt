@@ -5,7 +5,7 @@ use Rattle.std.specs.List.Sorted.{IsPermutation, IsStrictlyIncreasing}
 use Rattle.cs_ir.specs.Cycles.{are_of_cycle}
 use Rattle.cs_ir.specs.Instruments.{Numbered, numbers_of}
 use Rattle.cs_base.specs.declared.spaces.Spaces.{Spaces}
-use Rattle.cs_ir.specs.Resources.{NameTheSame, Stock, Touch, ops_touch}
+use Rattle.cs_ir.specs.Resources.{Access, NameTheSame, Stock, ops_touch}
 use Rattle.cs_ir.specs.Validity.{valid}
 use Rattle.cs_ir.specs.declared.op.Code.{Code}
 use Rattle.cs_meaning.specs.Core.{Block, core}
@@ -29,9 +29,9 @@ pub record CanBeRun (channels : ℕ) (units : List UnitKind) (init perf : Code) 
 -- Two codes use and may write the same resources as statements do, in whatever order: the initialisation those of the
 -- note's beginning, and the performance those of a cycle.
 pub record TouchAlike (body : Block) (init perf : Code) : Type 0 where
-  pub begins : (t : Touch) (stock : Stock)
+  pub begins : (t : Access) (stock : Stock)
       → NameTheSame (ops_touch t stock init.ops) (block_touched t beginning stock body)
-  pub cycles : (t : Touch) (stock : Stock)
+  pub cycles : (t : Access) (stock : Stock)
       → NameTheSame (ops_touch t stock perf.ops) (block_touched t cycle stock body)
 
 -- The two codes of a block, in a piece with these zak spaces and this number of channels: they mean its statements, can

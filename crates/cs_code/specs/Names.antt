@@ -3,6 +3,7 @@ use Rattle.std.specs.Prelude.{ℕ, ◌≡◌, ◌<◌, ◌++◌, List, [], ◌�
 use Rattle.std.specs.List.{All}
 use Rattle.cs_base.specs.declared.resource.Rate.{Rate}
 use Rattle.cs_words.specs.declared.catalogue.Opcode.{Opcode}
+use Rattle.cs_ir.specs.Registers.{rate_at}
 use Rattle.cs_ir.specs.declared.op.Act.{Act}
 use Rattle.cs_ir.specs.declared.op.Act.TheVariants as act
 use Rattle.cs_ir.specs.declared.op.Op.{Op}
@@ -45,4 +46,4 @@ Names channels units _ r = Unit {0}
 
 -- Each op of a code names what there is: each unit has one opcode and one rate, those of its place in the text.
 abbrev pub AllNamed : ℕ → List UnitKind → List Op → Type 0
-AllNamed channels units ops = All (λ o. Names channels units o.act o.into.rate) ops
+AllNamed channels units ops = All (λ o. Names channels units o.act (rate_at o.into)) ops

@@ -1,13 +1,14 @@
 // The values among a call's arguments, and their code. The catalogue's letters say which are settled at note start.
 ghost use Rattle.std.specs.Prelude.{◌≡◌, ◌++◌, map, not, true, IfOk, OnOk};
+ghost use Rattle.cs_ir.specs.Codes.{is_unaimed};
+ghost use Rattle.cs_ir.specs.Drafts.{Grew};
 ghost use Rattle.cs_meaning.specs.Core.{settled, moving, values_of};
 ghost use Rattle.cs_code.specs.inner.Kept.{past_all};
 ghost use Rattle.cs_words.specs.Catalogue.{is_settled, row_of};
 ghost use Rattle.cs_code.specs.inner.Code.{operands_code, on_code, keep_all_code};
-ghost use Rattle.cs_code.specs.inner.Emitted.{frame_of, when_of, argument_of, arguments_of, expressions_of};
-ghost use Rattle.cs_code.specs.inner.Emitted.{taken};
-ghost use Rattle.cs_code.specs.declared.frame.Bases.{Bases};
-ghost use Rattle.cs_code.specs.inner.Frames.{spots};
+ghost use Rattle.cs_code.specs.inner.Emitted.{arguments_of, expressions_of, taken, when_of};
+ghost use Rattle.cs_typed.specs.TypedTree as typed;
+ghost use Rattle.cs_code.specs.inner.Spots.{spots};
 ghost use Rattle.cs_code.specs.declared.frame.Pass.TheVariants as pass;
 
 use crate::expr::{keep, operand};
@@ -38,10 +39,10 @@ impl<'t> Parted<'t> {
     // One argument more, of an opcode that takes it by this letter.
     #[tactic(auto, using(crate::proofs::Lists::expressions_more, crate::proofs::Lists::append_nothing))]
     fn add(&mut self, letter: Letter, arg: &'t TypedArg) -> Result<(), OutOfMemory>
-        ensures settled { OnOk result ((b : Bases) → expressions_of b self.new.settled.items
-            ≡ expressions_of b self.old.settled.items ++ taken (is_settled letter) (argument_of b arg.now)) }
-        ensures moving { OnOk result ((b : Bases) → expressions_of b self.new.moving.items
-            ≡ expressions_of b self.old.moving.items ++ taken (not (is_settled letter)) (argument_of b arg.now)) }
+        ensures settled { OnOk result (expressions_of self.new.settled.items
+            ≡ expressions_of self.old.settled.items ++ taken (is_settled letter) (typed.argument arg.now)) }
+        ensures moving { OnOk result (expressions_of self.new.moving.items
+            ≡ expressions_of self.old.moving.items ++ taken (not (is_settled letter)) (typed.argument arg.now)) }
     {
         match arg {
             TypedArg::Value(e) => {
@@ -59,10 +60,10 @@ impl<'t> Parted<'t> {
 
 /// The values among the arguments of a call, by whether the opcode's letters let them move.
 pub fn parted_values<'t>(alloc: Global, call: &Call<'t>) -> Result<Parted<'t>, OutOfMemory>
-    ensures settled { IfOk result (λ p. (b : Bases) → expressions_of b p.settled.items
-        ≡ settled (row_of call.now.opcode) 0 (arguments_of b call.now)) }
-    ensures moving { IfOk result (λ p. (b : Bases) → expressions_of b p.moving.items
-        ≡ moving (row_of call.now.opcode) 0 (arguments_of b call.now)) }
+    ensures settled { IfOk result (λ p. expressions_of p.settled.items
+        ≡ settled (row_of call.now.opcode) 0 (arguments_of call.now)) }
+    ensures moving { IfOk result (λ p. expressions_of p.moving.items
+        ≡ moving (row_of call.now.opcode) 0 (arguments_of call.now)) }
 {
     let mut parted = Parted {
         settled: Vec::new(alloc),
@@ -74,12 +75,12 @@ pub fn parted_values<'t>(alloc: Global, call: &Call<'t>) -> Result<Parted<'t>, O
 
 // The same, to values that are appended.
 fn part_args<'t>(parted: &mut Parted<'t>, call: &Call<'t>) -> Result<(), OutOfMemory>
-    ensures settled { OnOk result ((b : Bases) → expressions_of b parted.new.settled.items ≡ expressions_of b
+    ensures settled { OnOk result (expressions_of parted.new.settled.items ≡ expressions_of
         parted.old.settled.items
-        ++ settled (row_of call.now.opcode) 0 (arguments_of b call.now)) }
-    ensures moving { OnOk result ((b : Bases) → expressions_of b parted.new.moving.items ≡ expressions_of b
+        ++ settled (row_of call.now.opcode) 0 (arguments_of call.now)) }
+    ensures moving { OnOk result (expressions_of parted.new.moving.items ≡ expressions_of
         parted.old.moving.items
-        ++ moving (row_of call.now.opcode) 0 (arguments_of b call.now)) }
+        ++ moving (row_of call.now.opcode) 0 (arguments_of call.now)) }
 {
     let row = signature_of(call.opcode);
     let mut place: usize = 0;
@@ -92,7 +93,7 @@ fn part_args<'t>(parted: &mut Parted<'t>, call: &Call<'t>) -> Result<(), OutOfMe
 
 /// All values among the arguments of a call, in order.
 pub fn values<'t>(alloc: Global, call: &Call<'t>) -> Result<Vec<&'t TypedExpr>, OutOfMemory>
-    ensures { IfOk result (λ v. (b : Bases) → expressions_of b v.items ≡ values_of (arguments_of b call.now)) }
+    ensures { IfOk result (λ v. expressions_of v.items ≡ values_of (arguments_of call.now)) }
 {
     let mut values = Vec::new(alloc);
     add_values(&mut values, call.args)?;
@@ -101,8 +102,8 @@ pub fn values<'t>(alloc: Global, call: &Call<'t>) -> Result<Vec<&'t TypedExpr>, 
 
 // The same, to values that are appended.
 fn add_values<'t>(values: &mut Vec<&'t TypedExpr>, args: &'t [TypedArg]) -> Result<(), OutOfMemory>
-    ensures { OnOk result ((b : Bases) → expressions_of b values.new.items
-        ≡ expressions_of b values.old.items ++ values_of (map (argument_of b) args.now)) }
+    ensures { OnOk result (expressions_of values.new.items
+        ≡ expressions_of values.old.items ++ values_of (map typed.argument args.now)) }
 {
     for arg in args {
         add_value(values, arg)?;
@@ -112,8 +113,8 @@ fn add_values<'t>(values: &mut Vec<&'t TypedExpr>, args: &'t [TypedArg]) -> Resu
 
 #[tactic(auto, using(crate::proofs::Lists::expressions_more, crate::proofs::Lists::append_nothing))]
 fn add_value<'t>(values: &mut Vec<&'t TypedExpr>, arg: &'t TypedArg) -> Result<(), OutOfMemory>
-    ensures { OnOk result ((b : Bases) → expressions_of b values.new.items
-        ≡ expressions_of b values.old.items ++ taken true (argument_of b arg.now)) }
+    ensures { OnOk result (expressions_of values.new.items
+        ≡ expressions_of values.old.items ++ taken true (typed.argument arg.now)) }
 {
     if let TypedArg::Value(e) = arg {
         values.push(e)?;
@@ -130,17 +131,16 @@ pub struct Gathered {
 
 /// The code of values, into temporaries from 0 on where they stand nowhere yet.
 pub fn operands(
-    ops: &mut CodeDraft,
+    ops: &mut CodeDraft<'_>,
     context: Context,
     at: u32,
     values: &[&TypedExpr],
 ) -> Result<Gathered, OutOfMemory>
-    ensures ops { OnOk result (ops.new ≡ ops.old
-        ++ operands_code (frame_of context.bases) (when_of context.pass) at
-        (expressions_of context.bases values.now) 0) }
+    ensures ops { OnOk result (Grew ops.old ops.new (operands_code (when_of context.pass) at (expressions_of
+        values.now) 0)) }
     ensures regs { IfOk result (λ g. g.regs.items
-        ≡ spots (frame_of context.bases) (when_of context.pass) at (expressions_of context.bases values.now) 0) }
-    ensures next { IfOk result (λ g. g.next ≡ past_all at (expressions_of context.bases values.now)) }
+        ≡ spots (when_of context.pass) at (expressions_of values.now) 0) }
+    ensures next { IfOk result (λ g. g.next ≡ past_all at (expressions_of values.now)) }
 {
     let mut regs = Vec::new(context.alloc);
     let next = gather(ops, &mut regs, context, at, values)?;
@@ -149,18 +149,17 @@ pub fn operands(
 
 // The same, to registers that are appended.
 fn gather(
-    ops: &mut CodeDraft,
+    ops: &mut CodeDraft<'_>,
     regs: &mut Vec<Reg>,
     context: Context,
     at: u32,
     values: &[&TypedExpr],
 ) -> Result<u32, OutOfMemory>
-    ensures ops { OnOk result (ops.new ≡ ops.old
-        ++ operands_code (frame_of context.bases) (when_of context.pass) at
-        (expressions_of context.bases values.now) 0) }
+    ensures ops { OnOk result (Grew ops.old ops.new (operands_code (when_of context.pass) at (expressions_of
+        values.now) 0)) }
     ensures regs { OnOk result (regs.new.items ≡ regs.old.items
-        ++ spots (frame_of context.bases) (when_of context.pass) at (expressions_of context.bases values.now) 0) }
-    ensures next { IfOk result (λ n. n ≡ past_all at (expressions_of context.bases values.now)) }
+        ++ spots (when_of context.pass) at (expressions_of values.now) 0) }
+    ensures next { IfOk result (λ n. n ≡ past_all at (expressions_of values.now)) }
 {
     let mut next = at;
     let mut d = 0;
@@ -174,18 +173,19 @@ fn gather(
 }
 
 /// An op on values, after their code. Returns the number of the next kept value.
+#[tactic(auto, using(crate::proofs::Growing::growing))]
 pub fn push_on(
-    ops: &mut CodeDraft,
+    ops: &mut CodeDraft<'_>,
     context: Context,
     at: u32,
     act: Act,
     into: Reg,
     values: &[&TypedExpr],
 ) -> Result<u32, OutOfMemory>
-    ensures ops { OnOk result (ops.new ≡ ops.old
-        ++ on_code (frame_of context.bases) (when_of context.pass) at act into
-        (expressions_of context.bases values.now)) }
-    ensures next { IfOk result (λ n. n ≡ past_all at (expressions_of context.bases values.now)) }
+    requires { is_unaimed act ≡ true }
+    ensures ops { OnOk result (Grew ops.old ops.new (on_code (when_of context.pass) at act into (expressions_of
+        values.now))) }
+    ensures next { IfOk result (λ n. n ≡ past_all at (expressions_of values.now)) }
 {
     let found = operands(ops, context, at, values)?;
     let next = found.next;
@@ -195,15 +195,14 @@ pub fn push_on(
 
 /// The parts of values that are kept. Returns the number of the next kept value.
 pub fn keep_all(
-    ops: &mut CodeDraft,
+    ops: &mut CodeDraft<'_>,
     context: Context,
     at: u32,
     values: &[&TypedExpr],
 ) -> Result<u32, OutOfMemory>
     requires { context.pass ≡ pass.Initialisation }
-    ensures ops { OnOk result (ops.new ≡ ops.old
-        ++ keep_all_code (frame_of context.bases) at (expressions_of context.bases values.now)) }
-    ensures next { IfOk result (λ n. n ≡ past_all at (expressions_of context.bases values.now)) }
+    ensures ops { OnOk result (Grew ops.old ops.new (keep_all_code at (expressions_of values.now))) }
+    ensures next { IfOk result (λ n. n ≡ past_all at (expressions_of values.now)) }
 {
     let mut next = at;
     for e in values {

@@ -1,14 +1,13 @@
 // The code of calls, for either pass, by what a call is short for.
-ghost use Rattle.std.specs.Prelude.{◌≡◌, ◌++◌, IfOk, OnOk};
+ghost use Rattle.std.specs.Prelude.{◌≡◌, IfOk, OnOk};
+ghost use Rattle.cs_ir.specs.Drafts.{Grew};
 ghost use Rattle.cs_base.specs.declared.resource.Rate.TheVariants as rate;
 ghost use Rattle.cs_meaning.specs.Core.{ask, unit_call, store_call, zak_call, values_of};
 ghost use Rattle.cs_code.specs.inner.Code.{pass_code};
 ghost use Rattle.cs_code.specs.inner.Kept.{start, past_stmt};
 ghost use Rattle.cs_words.specs.Catalogue.{row_of};
 ghost use Rattle.cs_words.specs.declared.catalogue.Shape.TheVariants as shape;
-ghost use Rattle.cs_code.specs.inner.Emitted.{frame_of};
-ghost use Rattle.cs_code.specs.inner.Emitted.{IsAssignmentOf, put_shape};
-ghost use Rattle.cs_code.specs.inner.Emitted.{arguments_of, call_of, effect_of, sent_as, variables_of};
+ghost use Rattle.cs_code.specs.inner.Emitted.{IsAssignmentOf, arguments_of, call_of, effect_of, put_shape, sent_as};
 
 use crate::args::{Call, parted_values, values};
 use crate::frame::{Context, Progress};
@@ -102,18 +101,16 @@ fn assigned<'t>(call: &Call<'t>) -> Option<Assignment<'t>>
 
 // A unit, over the values among its arguments.
 fn unit_call(
-    ops: &mut CodeDraft,
+    ops: &mut CodeDraft<'_>,
     context: Context,
     p: Progress,
     call: &Call<'_>,
 ) -> Result<Progress, OutOfMemory>
-    ensures ops { OnOk result (ops.new
-        ≡ ops.old ++ pass_code context.pass (frame_of context.bases) 0 p
-        (unit_call call.now.rate (variables_of context.bases call.now.results.now) call.now.opcode
-        (arguments_of context.bases call.now))) }
+    ensures ops { OnOk result (Grew ops.old ops.new (pass_code context.pass 0 p (unit_call call.now.rate
+        call.now.results.now call.now.opcode (arguments_of call.now)))) }
     ensures next { IfOk result (λ q. q
-        ≡ past_stmt p (unit_call call.now.rate (variables_of context.bases call.now.results.now) call.now.opcode
-        (arguments_of context.bases call.now))) }
+        ≡ past_stmt p (unit_call call.now.rate call.now.results.now call.now.opcode
+        (arguments_of call.now))) }
 {
     let values = parted_values(context.alloc, call)?;
     let reach = unit_reach(call.opcode, &values.settled);
@@ -122,16 +119,15 @@ fn unit_call(
 
 // A store, over all values among its arguments, of which the settled one is the number of its table.
 fn store_call(
-    ops: &mut CodeDraft,
+    ops: &mut CodeDraft<'_>,
     context: Context,
     p: Progress,
     call: &Call<'_>,
 ) -> Result<Progress, OutOfMemory>
-    ensures ops { OnOk result (ops.new
-        ≡ ops.old ++ pass_code context.pass (frame_of context.bases) 0 p
-        (store_call call.now.rate call.now.opcode (arguments_of context.bases call.now))) }
+    ensures ops { OnOk result (Grew ops.old ops.new (pass_code context.pass 0 p (store_call call.now.rate
+        call.now.opcode (arguments_of call.now)))) }
     ensures next { IfOk result (λ q. q
-        ≡ past_stmt p (store_call call.now.rate call.now.opcode (arguments_of context.bases call.now))) }
+        ≡ past_stmt p (store_call call.now.rate call.now.opcode (arguments_of call.now))) }
 {
     let all = values(context.alloc, call)?;
     let parted = parted_values(context.alloc, call)?;
@@ -140,19 +136,16 @@ fn store_call(
 
 // What reads or writes zak places, over its values.
 fn zak_call(
-    ops: &mut CodeDraft,
+    ops: &mut CodeDraft<'_>,
     context: Context,
     p: Progress,
     call: &Call<'_>,
 ) -> Result<Progress, OutOfMemory>
-    ensures ops { OnOk result (ops.new
-        ≡ ops.old ++ pass_code context.pass (frame_of context.bases) 0 p
-        (zak_call context.spaces call.now.rate (variables_of context.bases call.now.results.now) call.now.opcode
-        (row_of call.now.opcode).shape
-        (arguments_of context.bases call.now))) }
+    ensures ops { OnOk result (Grew ops.old ops.new (pass_code context.pass 0 p (zak_call context.spaces
+        call.now.rate call.now.results.now call.now.opcode (row_of call.now.opcode).shape (arguments_of call.now)))) }
     ensures next { IfOk result (λ q. q ≡ past_stmt p (zak_call context.spaces call.now.rate
-        (variables_of context.bases call.now.results.now) call.now.opcode (row_of call.now.opcode).shape
-        (arguments_of context.bases call.now))) }
+        call.now.results.now call.now.opcode (row_of call.now.opcode).shape
+        (arguments_of call.now))) }
 {
     let values = parted_values(context.alloc, call)?;
     let shape = signature_of(call.opcode).shape();
@@ -162,27 +155,25 @@ fn zak_call(
 
 // Values go out.
 fn out(
-    ops: &mut CodeDraft,
+    ops: &mut CodeDraft<'_>,
     context: Context,
     p: Progress,
     sending: Sending,
     call: &Call<'_>,
 ) -> Result<Progress, OutOfMemory>
-    ensures ops { OnOk result (ops.new ≡ ops.old
-        ++ pass_code context.pass (frame_of context.bases) 0 p
-        (sent_as sending rate.Audio (values_of (arguments_of context.bases call.now)))) }
+    ensures ops { OnOk result (Grew ops.old ops.new (pass_code context.pass 0 p (sent_as sending rate.Audio
+        (values_of (arguments_of call.now))))) }
     ensures next { IfOk result (λ q. q
-        ≡ past_stmt p (sent_as sending rate.Audio (values_of (arguments_of context.bases call.now)))) }
+        ≡ past_stmt p (sent_as sending rate.Audio (values_of (arguments_of call.now)))) }
 {
     let values = values(context.alloc, call)?;
     send(ops, context, p, sending, &values)
 }
 
 // Asks for a note.
-fn schedule(ops: &mut CodeDraft, context: Context, call: &Call<'_>) -> Result<(), OutOfMemory>
-    ensures { OnOk result (ops.new ≡ ops.old
-        ++ pass_code context.pass (frame_of context.bases) 0 start (ask (values_of
-        (arguments_of context.bases call.now)))) }
+fn schedule(ops: &mut CodeDraft<'_>, context: Context, call: &Call<'_>) -> Result<(), OutOfMemory>
+    ensures { OnOk result (Grew ops.old ops.new (pass_code context.pass 0 start (ask (values_of (arguments_of
+        call.now))))) }
 {
     let values = values(context.alloc, call)?;
     ask(ops, context, &values)
@@ -190,16 +181,15 @@ fn schedule(ops: &mut CodeDraft, context: Context, call: &Call<'_>) -> Result<()
 
 // A call that is no assignment.
 fn effect(
-    ops: &mut CodeDraft,
+    ops: &mut CodeDraft<'_>,
     context: Context,
     p: Progress,
     call: &Call<'_>,
 ) -> Result<Progress, OutOfMemory>
-    ensures ops { OnOk result (ops.new ≡ ops.old
-        ++ pass_code context.pass (frame_of context.bases) 0 p (effect_of context.spaces context.bases call.now
-        (row_of call.now.opcode).shape)) }
+    ensures ops { OnOk result (Grew ops.old ops.new (pass_code context.pass 0 p (effect_of context.spaces call.now
+        (row_of call.now.opcode).shape))) }
     ensures next { IfOk result (λ q. q
-        ≡ past_stmt p (effect_of context.spaces context.bases call.now (row_of call.now.opcode).shape)) }
+        ≡ past_stmt p (effect_of context.spaces call.now (row_of call.now.opcode).shape)) }
 {
     match signature_of(call.opcode).shape() {
         Shape::Out => out(ops, context, p, Sending::InTurn, call),
@@ -223,16 +213,15 @@ fn effect(
 
 /// The code of a call. Returns what was met before its end.
 pub fn call(
-    ops: &mut CodeDraft,
+    ops: &mut CodeDraft<'_>,
     context: Context,
     p: Progress,
     call: &Call<'_>,
 ) -> Result<Progress, OutOfMemory>
-    ensures ops { OnOk result (ops.new ≡ ops.old
-        ++ pass_code context.pass (frame_of context.bases) 0 p (call_of context.spaces context.bases
-        call.now (row_of call.now.opcode).shape)) }
+    ensures ops { OnOk result (Grew ops.old ops.new (pass_code context.pass 0 p (call_of context.spaces call.now
+        (row_of call.now.opcode).shape))) }
     ensures next { IfOk result (λ q. q
-        ≡ past_stmt p (call_of context.spaces context.bases call.now (row_of call.now.opcode).shape)) }
+        ≡ past_stmt p (call_of context.spaces call.now (row_of call.now.opcode).shape)) }
 {
     match assigned(call) {
         Some(assignment) => assign(ops, context, p, &assignment),

@@ -1,16 +1,16 @@
 // The code of expressions, and of what variables take. Each call appends to `ops`.
-ghost use Rattle.std.specs.Prelude.{◌≡◌, ◌+◌, ◌++◌, IfOk, OnOk};
+ghost use Rattle.std.specs.Prelude.{◌≡◌, ◌+◌, IfOk, OnOk};
+ghost use Rattle.cs_ir.specs.Drafts.{Grew};
 ghost use Rattle.cs_code.specs.inner.Kept.{past};
-ghost use Rattle.cs_typed.specs.TypedTree.{var};
+ghost use Rattle.cs_typed.specs.TypedTree as typed;
 ghost use Rattle.cs_typed.specs.declared.tree.Var.TheVariants.{Local};
 ghost use Rattle.cs_code.specs.inner.Code.{own, code, operand_code, look_code, keep_code};
 ghost use Rattle.cs_code.specs.inner.Code.{kept_code, set_code};
-ghost use Rattle.cs_code.specs.inner.Emitted.{expression_of, frame_of, parts_code, parts_past, value_of};
-ghost use Rattle.cs_code.specs.inner.Emitted.{variable_of, when_of};
-ghost use Rattle.cs_code.specs.inner.Frames.{spot, kept_reg};
+ghost use Rattle.cs_code.specs.inner.Emitted.{parts_code, parts_past, value_of, when_of};
+ghost use Rattle.cs_code.specs.inner.Spots.{spot, kept_reg};
 ghost use Rattle.cs_code.specs.declared.frame.Pass.TheVariants as pass;
 
-use crate::frame::{Bases, Context, ValueSpot, add, kept_reg, local, next_of, push, temp};
+use crate::frame::{Context, ValueSpot, add, kept_reg, local, next_of, push, temp};
 use crate::value::{Value, direct, rate_of};
 use cs_base::{Num, OutOfMemory, Rate};
 use cs_ir::{Act, CodeDraft, Operands, Reg};
@@ -18,17 +18,12 @@ use cs_typed::{TypedExpr, TypedPart, Var};
 use cs_words::BinOp;
 
 // A variable's value into a register.
-fn look(ops: &mut CodeDraft, bases: Bases, v: Var, into: Reg) -> Result<(), OutOfMemory>
-    ensures { OnOk result (ops.new ≡ ops.old ++ look_code (variable_of bases v) into) }
+fn look(ops: &mut CodeDraft<'_>, v: Var, into: Reg) -> Result<(), OutOfMemory>
+    ensures { OnOk result (Grew ops.old ops.new (look_code v into)) }
 {
     match v {
         Var::Local(rate, index) => {
-            push(
-                ops,
-                Act::Copy,
-                into,
-                Operands::one(local(bases, rate, index)?),
-            )
+            push(ops, Act::Copy, into, Operands::one(local(rate, index)?))
         }
         Var::Global(res) => push(ops, Act::Load(res), into, Operands::none()),
     }
@@ -37,17 +32,17 @@ fn look(ops: &mut CodeDraft, bases: Bases, v: Var, into: Reg) -> Result<(), OutO
 // The value of an expression that stands nowhere yet, into a register; `d` is the first free temporary. Returns the
 // number of the next kept value.
 #[cycle(expr)]
+#[tactic(auto, using(crate::proofs::Growing::growing))]
 fn own(
-    ops: &mut CodeDraft,
+    ops: &mut CodeDraft<'_>,
     context: Context,
     at: u32,
     e: &TypedExpr,
     into: Reg,
     d: u32,
 ) -> Result<u32, OutOfMemory>
-    ensures ops { OnOk result (ops.new ≡ ops.old
-        ++ own (frame_of context.bases) (when_of context.pass) at (expression_of context.bases e.now) into d) }
-    ensures next { IfOk result (λ n. n ≡ past at (expression_of context.bases e.now)) }
+    ensures ops { OnOk result (Grew ops.old ops.new (own (when_of context.pass) at (typed.expression e.now) into d)) }
+    ensures next { IfOk result (λ n. n ≡ past at (typed.expression e.now)) }
 {
     match &e.what {
         TypedPart::Number(value) => {
@@ -55,7 +50,7 @@ fn own(
             next_of(e.rate, at, at)
         }
         TypedPart::Var(v) => {
-            look(ops, context.bases, *v, into)?;
+            look(ops, *v, into)?;
             next_of(e.rate, at, at)
         }
         TypedPart::Field(field) => {
@@ -95,19 +90,19 @@ fn own(
 
 /// Returns the register that holds `e`, and emits code into temporary `d` of its rate where `e` isn't in one already.
 #[cycle(expr)]
-#[tactic(auto, using(crate::proofs::Nodes::rate_of_moved, crate::proofs::Nodes::nodes))]
+#[tactic(auto, using(crate::proofs::Nodes::rate_of_part, crate::proofs::Nodes::nodes, crate::proofs::Growing::growing))]
 pub fn operand(
-    ops: &mut CodeDraft,
+    ops: &mut CodeDraft<'_>,
     context: Context,
     at: u32,
     e: &TypedExpr,
     d: u32,
 ) -> Result<ValueSpot, OutOfMemory>
-    ensures ops { OnOk result (ops.new ≡ ops.old
-        ++ operand_code (frame_of context.bases) (when_of context.pass) at (expression_of context.bases e.now) d) }
+    ensures ops { OnOk result (Grew ops.old ops.new (operand_code (when_of context.pass) at (typed.expression e.now)
+        d)) }
     ensures spot { IfOk result (λ s. s.reg
-        ≡ spot (frame_of context.bases) (when_of context.pass) at (expression_of context.bases e.now) d) }
-    ensures next { IfOk result (λ s. s.next ≡ past at (expression_of context.bases e.now)) }
+        ≡ spot (when_of context.pass) at (typed.expression e.now) d) }
+    ensures next { IfOk result (λ s. s.next ≡ past at (typed.expression e.now)) }
 {
     match direct(context, at, &Value::Of(e))? {
         Some(reg) => Ok(ValueSpot {
@@ -115,7 +110,7 @@ pub fn operand(
             next: next_of(e.rate, at, at)?,
         }),
         None => {
-            let reg = temp(context.bases, e.rate, d)?;
+            let reg = temp(e.rate, d);
             let next = own(ops, context, at, e, reg, d)?;
             Ok(ValueSpot { reg, next })
         }
@@ -123,39 +118,38 @@ pub fn operand(
 }
 
 /// The register that holds `e` once its code has run.
-#[tactic(auto, using(crate::proofs::Nodes::rate_of_moved, crate::proofs::Nodes::nodes))]
+#[tactic(auto, using(crate::proofs::Nodes::rate_of_part, crate::proofs::Nodes::nodes))]
 pub fn operand_reg(context: Context, at: u32, e: &TypedExpr, d: u32) -> Result<Reg, OutOfMemory>
     ensures { IfOk result (λ q. q
-        ≡ spot (frame_of context.bases) (when_of context.pass) at (expression_of context.bases e.now) d) }
+        ≡ spot (when_of context.pass) at (typed.expression e.now) d) }
 {
     match direct(context, at, &Value::Of(e))? {
         Some(reg) => Ok(reg),
-        None => temp(context.bases, e.rate, d),
+        None => Ok(temp(e.rate, d)),
     }
 }
 
 // What makes a variable's value stand somewhere.
-#[tactic(auto, using(crate::proofs::Nodes::nodes))]
+#[tactic(auto, using(crate::proofs::Nodes::nodes, crate::proofs::Growing::growing))]
 fn variable(
-    ops: &mut CodeDraft,
+    ops: &mut CodeDraft<'_>,
     context: Context,
     at: u32,
     rate: Rate,
     v: Var,
     d: u32,
 ) -> Result<ValueSpot, OutOfMemory>
-    ensures ops { OnOk result (ops.new ≡ ops.old
-        ++ operand_code (frame_of context.bases) (when_of context.pass) at (var rate (variable_of context.bases v)) d) }
+    ensures ops { OnOk result (Grew ops.old ops.new (operand_code (when_of context.pass) at (typed.var rate v) d)) }
     ensures spot { IfOk result (λ s. s.reg
-        ≡ spot (frame_of context.bases) (when_of context.pass) at (var rate (variable_of context.bases v)) d) }
-    ensures next { IfOk result (λ s. s.next ≡ past at (var rate (variable_of context.bases v))) }
+        ≡ spot (when_of context.pass) at (typed.var rate v) d) }
+    ensures next { IfOk result (λ s. s.next ≡ past at (typed.var rate v)) }
 {
     let next = next_of(rate, at, at)?;
     match direct(context, at, &Value::Read(rate, v))? {
         Some(reg) => Ok(ValueSpot { reg, next }),
         None => {
-            let reg = temp(context.bases, rate, d)?;
-            look(ops, context.bases, v, reg)?;
+            let reg = temp(rate, d);
+            look(ops, v, reg)?;
             Ok(ValueSpot { reg, next })
         }
     }
@@ -163,21 +157,20 @@ fn variable(
 
 // A value that stands nowhere yet, into a register.
 fn made(
-    ops: &mut CodeDraft,
+    ops: &mut CodeDraft<'_>,
     context: Context,
     at: u32,
     value: &Value<'_>,
     into: Reg,
     d: u32,
 ) -> Result<u32, OutOfMemory>
-    ensures ops { OnOk result (ops.new ≡ ops.old
-        ++ own (frame_of context.bases) (when_of context.pass) at (value_of context.bases value.now) into d) }
-    ensures next { IfOk result (λ n. n ≡ past at (value_of context.bases value.now)) }
+    ensures ops { OnOk result (Grew ops.old ops.new (own (when_of context.pass) at (value_of value.now) into d)) }
+    ensures next { IfOk result (λ n. n ≡ past at (value_of value.now)) }
 {
     match value {
         Value::Of(e) => own(ops, context, at, e, into, d),
         Value::Read(rate, v) => {
-            look(ops, context.bases, *v, into)?;
+            look(ops, *v, into)?;
             next_of(*rate, at, at)
         }
         Value::Mixed(v, e) => {
@@ -199,18 +192,17 @@ fn made(
 }
 
 /// What makes a value stand somewhere: nothing, or its code into the first temporary of its rate.
-#[tactic(auto, using(crate::proofs::Nodes::nodes))]
+#[tactic(auto, using(crate::proofs::Nodes::nodes, crate::proofs::Growing::growing))]
 pub fn spot_of(
-    ops: &mut CodeDraft,
+    ops: &mut CodeDraft<'_>,
     context: Context,
     at: u32,
     value: &Value<'_>,
 ) -> Result<ValueSpot, OutOfMemory>
-    ensures ops { OnOk result (ops.new ≡ ops.old
-        ++ operand_code (frame_of context.bases) (when_of context.pass) at (value_of context.bases value.now) 0) }
+    ensures ops { OnOk result (Grew ops.old ops.new (operand_code (when_of context.pass) at (value_of value.now) 0)) }
     ensures spot { IfOk result (λ s. s.reg
-        ≡ spot (frame_of context.bases) (when_of context.pass) at (value_of context.bases value.now) 0) }
-    ensures next { IfOk result (λ s. s.next ≡ past at (value_of context.bases value.now)) }
+        ≡ spot (when_of context.pass) at (value_of value.now) 0) }
+    ensures next { IfOk result (λ s. s.next ≡ past at (value_of value.now)) }
 {
     match direct(context, at, value)? {
         Some(reg) => Ok(ValueSpot {
@@ -218,7 +210,7 @@ pub fn spot_of(
             next: next_of(rate_of(value), at, at)?,
         }),
         None => {
-            let reg = temp(context.bases, rate_of(value), 0)?;
+            let reg = temp(rate_of(value), 0);
             let next = made(ops, context, at, value, reg, 0)?;
             Ok(ValueSpot { reg, next })
         }
@@ -228,15 +220,14 @@ pub fn spot_of(
 /// A value into a register, by a copy where it stands already. Returns the number of the next kept value.
 #[tactic(auto, using(crate::proofs::Nodes::copies))]
 pub fn code(
-    ops: &mut CodeDraft,
+    ops: &mut CodeDraft<'_>,
     context: Context,
     at: u32,
     value: &Value<'_>,
     into: Reg,
 ) -> Result<u32, OutOfMemory>
-    ensures ops { OnOk result (ops.new ≡ ops.old
-        ++ code (frame_of context.bases) (when_of context.pass) at (value_of context.bases value.now) into 0) }
-    ensures next { IfOk result (λ n. n ≡ past at (value_of context.bases value.now)) }
+    ensures ops { OnOk result (Grew ops.old ops.new (code (when_of context.pass) at (value_of value.now) into 0)) }
+    ensures next { IfOk result (λ n. n ≡ past at (value_of value.now)) }
 {
     match direct(context, at, value)? {
         Some(reg) => {
@@ -249,17 +240,16 @@ pub fn code(
 
 // A value that doesn't change is worked out as a whole and kept.
 fn kept(
-    ops: &mut CodeDraft,
+    ops: &mut CodeDraft<'_>,
     context: Context,
     at: u32,
     value: &Value<'_>,
 ) -> Result<u32, OutOfMemory>
     requires { context.pass ≡ pass.Initialisation }
-    ensures ops { OnOk result (ops.new ≡ ops.old
-        ++ kept_code (frame_of context.bases) at (value_of context.bases value.now)) }
+    ensures ops { OnOk result (Grew ops.old ops.new (kept_code at (value_of value.now))) }
     ensures next { IfOk result (λ n. n ≡ at + 1) }
 {
-    code(ops, context, 0, value, kept_reg(context.bases, at)?)?;
+    code(ops, context, 0, value, kept_reg(at))?;
     add(at, 1)
 }
 
@@ -267,15 +257,14 @@ fn kept(
 #[cycle(keep)]
 #[tactic(auto, using(crate::proofs::Nodes::splits))]
 pub fn keep(
-    ops: &mut CodeDraft,
+    ops: &mut CodeDraft<'_>,
     context: Context,
     at: u32,
     e: &TypedExpr,
 ) -> Result<u32, OutOfMemory>
     requires { context.pass ≡ pass.Initialisation }
-    ensures ops { OnOk result (ops.new ≡ ops.old
-        ++ keep_code (frame_of context.bases) at (expression_of context.bases e.now)) }
-    ensures next { IfOk result (λ n. n ≡ past at (expression_of context.bases e.now)) }
+    ensures ops { OnOk result (Grew ops.old ops.new (keep_code at (typed.expression e.now))) }
+    ensures next { IfOk result (λ n. n ≡ past at (typed.expression e.now)) }
 {
     match e.rate {
         Rate::Init => kept(ops, context, at, &Value::Of(e)),
@@ -285,16 +274,16 @@ pub fn keep(
 
 // Emits the kept parts inside an expression that itself changes.
 #[cycle(keep)]
+#[tactic(auto, using(crate::proofs::Growing::growing))]
 fn keep_parts(
-    ops: &mut CodeDraft,
+    ops: &mut CodeDraft<'_>,
     context: Context,
     at: u32,
     e: &TypedExpr,
 ) -> Result<u32, OutOfMemory>
     requires { context.pass ≡ pass.Initialisation }
-    ensures ops { OnOk result (ops.new ≡ ops.old
-        ++ parts_code (frame_of context.bases) at (expression_of context.bases e.now)) }
-    ensures next { IfOk result (λ n. n ≡ parts_past at (expression_of context.bases e.now)) }
+    ensures ops { OnOk result (Grew ops.old ops.new (parts_code at (typed.expression e.now))) }
+    ensures next { IfOk result (λ n. n ≡ parts_past at (typed.expression e.now)) }
 {
     match &e.what {
         TypedPart::Number(_) | TypedPart::Var(_) | TypedPart::Field(_) | TypedPart::Head(_) => {
@@ -314,16 +303,16 @@ fn keep_parts(
 }
 
 /// The kept parts of a value. Returns the number of the next kept value.
+#[tactic(auto, using(crate::proofs::Growing::growing))]
 pub fn keep_value(
-    ops: &mut CodeDraft,
+    ops: &mut CodeDraft<'_>,
     context: Context,
     at: u32,
     value: &Value<'_>,
 ) -> Result<u32, OutOfMemory>
     requires { context.pass ≡ pass.Initialisation }
-    ensures ops { OnOk result (ops.new ≡ ops.old
-        ++ keep_code (frame_of context.bases) at (value_of context.bases value.now)) }
-    ensures next { IfOk result (λ n. n ≡ past at (value_of context.bases value.now)) }
+    ensures ops { OnOk result (Grew ops.old ops.new (keep_code at (value_of value.now))) }
+    ensures next { IfOk result (λ n. n ≡ past at (value_of value.now)) }
 {
     match value {
         Value::Of(e) => keep(ops, context, at, e),
@@ -334,23 +323,19 @@ pub fn keep_value(
 }
 
 /// A variable takes a value. Returns the number of the next kept value.
+#[tactic(auto, using(crate::proofs::Growing::growing))]
 pub fn set(
-    ops: &mut CodeDraft,
+    ops: &mut CodeDraft<'_>,
     context: Context,
     at: u32,
     to: Var,
     value: &Value<'_>,
 ) -> Result<u32, OutOfMemory>
-    ensures ops { OnOk result (ops.new ≡ ops.old
-        ++ set_code (frame_of context.bases) (when_of context.pass) at (variable_of context.bases to)
-        (value_of context.bases value.now)) }
-    ensures next { IfOk result (λ n. n ≡ past at (value_of context.bases value.now)) }
+    ensures ops { OnOk result (Grew ops.old ops.new (set_code (when_of context.pass) at to (value_of value.now))) }
+    ensures next { IfOk result (λ n. n ≡ past at (value_of value.now)) }
 {
     match to {
-        Var::Local(own, index) => {
-            let to = local(context.bases, own, index)?;
-            set_local(ops, context, at, to, value)
-        }
+        Var::Local(own, index) => set_local(ops, context, at, own, index, value),
         Var::Global(res) => {
             let spot = spot_of(ops, context, at, value)?;
             push(ops, Act::Save(res), spot.reg, Operands::one(spot.reg))?;
@@ -360,18 +345,19 @@ pub fn set(
 }
 
 fn set_local(
-    ops: &mut CodeDraft,
+    ops: &mut CodeDraft<'_>,
     context: Context,
     at: u32,
-    to: Reg,
+    own: Rate,
+    index: usize,
     value: &Value<'_>,
 ) -> Result<u32, OutOfMemory>
-    ensures ops { OnOk result (ops.new ≡ ops.old
-        ++ set_code (frame_of context.bases) (when_of context.pass) at (Local to.rate to.index)
-        (value_of context.bases value.now)) }
-    ensures next { IfOk result (λ n. n ≡ past at (value_of context.bases value.now)) }
+    ensures ops { OnOk result (Grew ops.old ops.new (set_code (when_of context.pass) at (Local own index)
+        (value_of value.now))) }
+    ensures next { IfOk result (λ n. n ≡ past at (value_of value.now)) }
 {
-    if rate_of(value).same(to.rate) {
+    let to = local(own, index)?;
+    if rate_of(value).same(own) {
         code(ops, context, at, value, to)
     } else {
         let spot = spot_of(ops, context, at, value)?;

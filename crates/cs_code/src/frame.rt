@@ -1,26 +1,14 @@
 // Where a note's values stand among the registers, and the ops that are appended.
-ghost use Rattle.std.specs.Prelude.{◌≡◌, ◌+◌, ◌++◌, [], ◌∷◌, IfOk, OnOk, Some};
-ghost use Rattle.cs_base.specs.Rates.{at_rate};
+ghost use Rattle.std.specs.Prelude.{◌≡◌, ◌+◌, [], ◌∷◌, length, true, IfOk, OnOk};
+ghost use Rattle.cs_ir.specs.Codes.{is_unaimed};
+ghost use Rattle.cs_ir.specs.Drafts.{Grew, IsAt, drafted};
 ghost use Rattle.cs_ir.specs.Waves.{if_init};
 ghost use Rattle.cs_meaning.specs.Notes.{reg};
-ghost use Rattle.cs_code.specs.inner.Emitted.{frame_of};
-ghost use Rattle.cs_code.specs.inner.Frames.{op_of, kept_reg, temp};
+ghost use Rattle.cs_code.specs.inner.Spots.{op_of, kept_reg, temp};
 
-use cs_base::{OutOfMemory, PerRate, Rate, Spaces};
-use cs_ir::{Act, CodeDraft, Op, Operands, Reg};
+use cs_base::{OutOfMemory, Rate, Spaces};
+use cs_ir::{Act, CodeDraft, Kind, Mark, Op, Operands, Reg};
 use std::alloc::Global;
-
-/// Where values stand among the registers: local variables from 0 on, then, at rate Init, the kept values, then
-/// temporaries.
-#[derive(Clone, Copy)]
-pub struct Bases {
-    /// The registers of the first local variables of the routine at hand, by rate.
-    pub locals: PerRate<u32>,
-    /// The register of the first kept value.
-    pub kept: u32,
-    /// The first temporary of each rate.
-    pub temporaries: PerRate<u32>,
-}
 
 /// Which of a note's two codes is made.
 #[derive(Clone, Copy)]
@@ -34,7 +22,6 @@ pub enum Pass {
 pub struct Context {
     pub alloc: Global,
     pub pass: Pass,
-    pub bases: Bases,
     pub spaces: Spaces,
 }
 
@@ -47,13 +34,6 @@ pub struct Progress {
 
 /// Where a code begins.
 pub const START: Progress = Progress { part: 0, unit: 0 };
-
-/// The local variables of a block that nothing invokes are the first registers.
-pub const NO_LOCALS: PerRate<u32> = PerRate {
-    init: 0,
-    control: 0,
-    audio: 0,
-};
 
 /// Where a value stands, and the number of the next kept value after its own.
 #[derive(Clone, Copy)]
@@ -85,33 +65,33 @@ pub fn narrow(number: usize) -> Result<u32, OutOfMemory>
 }
 
 /// The register of a local variable.
-pub fn local(bases: Bases, rate: Rate, index: usize) -> Result<Reg, OutOfMemory>
-    ensures { IfOk result (λ q. q ≡ reg rate (at_rate bases.locals rate + index)) }
+pub fn local(rate: Rate, index: usize) -> Result<Reg, OutOfMemory>
+    ensures { IfOk result (λ q. q ≡ reg rate index) }
 {
     Ok(Reg {
-        rate,
-        index: add(bases.locals.of(rate), narrow(index)?)?,
+        kind: Kind::local(rate),
+        offset: narrow(index)?,
     })
 }
 
 /// The register of a kept value.
-pub fn kept_reg(bases: Bases, at: u32) -> Result<Reg, OutOfMemory>
-    ensures { IfOk result (λ q. q ≡ kept_reg (frame_of bases) at) }
+pub fn kept_reg(at: u32) -> Reg
+    ensures { result ≡ kept_reg at }
 {
-    Ok(Reg {
-        rate: Rate::Init,
-        index: add(bases.kept, at)?,
-    })
+    Reg {
+        kind: Kind::Kept,
+        offset: at,
+    }
 }
 
 /// Temporary number `d` of a rate.
-pub fn temp(bases: Bases, rate: Rate, d: u32) -> Result<Reg, OutOfMemory>
-    ensures { IfOk result (λ q. q ≡ temp (frame_of bases) rate d) }
+pub fn temp(rate: Rate, d: u32) -> Reg
+    ensures { result ≡ temp rate d }
 {
-    Ok(Reg {
-        rate,
-        index: add(bases.temporaries.of(rate), d)?,
-    })
+    Reg {
+        kind: Kind::temporary(rate),
+        offset: d,
+    }
 }
 
 /// The number of the next kept value: one more at rate Init, else what its parts leave.
@@ -124,9 +104,24 @@ pub fn next_of(rate: Rate, at: u32, parts: u32) -> Result<u32, OutOfMemory>
     }
 }
 
-/// Appends an op.
-pub fn push(ops: &mut CodeDraft, act: Act, into: Reg, from: Operands) -> Result<(), OutOfMemory>
-    ensures { OnOk result (ops.new ≡ ops.old ++ op_of act into from ∷ []) }
+/// Appends an op that is no jump.
+pub fn push(ops: &mut CodeDraft<'_>, act: Act, into: Reg, from: Operands) -> Result<(), OutOfMemory>
+    requires { is_unaimed act ≡ true }
+    ensures { OnOk result (Grew ops.old ops.new (op_of act into from ∷ [])) }
 {
     ops.push(Op { act, into, from })
+}
+
+/// Appends a jump that is to be aimed.
+pub fn jump(
+    ops: &mut CodeDraft<'_>,
+    act: Act,
+    into: Reg,
+    from: Operands,
+) -> Result<Mark, OutOfMemory>
+    requires { is_unaimed act ≡ true }
+    ensures more { IfOk result (λ _. Grew ops.old ops.new (op_of act into from ∷ [])) }
+    ensures mark { IfOk result (λ m. IsAt ops.new m (length (drafted ops.old))) }
+{
+    ops.jump(Op { act, into, from })
 }

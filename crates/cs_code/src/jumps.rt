@@ -1,15 +1,16 @@
 // Jumps whose end is not known yet when they are made.
-ghost use Rattle.std.specs.Prelude.{◌≡◌, length};
-ghost use Rattle.cs_code.specs.inner.Branches.{aim_all};
+ghost use Rattle.std.specs.Prelude.{ℕ, List};
+ghost use Rattle.std.specs.List.{AllZip};
+ghost use Rattle.cs_code.specs.inner.Branches.{AllAimed};
+ghost use Rattle.cs_ir.specs.Drafts.{IsAt};
 
-use cs_ir::CodeDraft;
+use cs_ir::{CodeDraft, Mark};
 
 /// Lets the jumps at some places go to the end of the ops.
-pub fn aim_all(ops: &mut CodeDraft, places: &[usize])
-    ensures { ops.new ≡ aim_all places.now (length ops.old) ops.old }
+pub fn aim_all(ops: &mut CodeDraft<'_>, marks: &[Mark])
+    ensures { (places : List ℕ) → AllZip (IsAt ops.old) marks.now places → AllAimed ops.old ops.new places }
 {
-    let end = ops.len();
-    for place in places {
-        ops.aim(*place, end);
+    for mark in marks {
+        ops.aim(*mark);
     }
 }

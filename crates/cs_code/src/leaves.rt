@@ -1,8 +1,9 @@
 // The code of what is no `if` and invokes nothing: assignments, calls, and the conditions of arms.
-ghost use Rattle.std.specs.Prelude.{◌≡◌, ◌++◌, length, map, IfOk, OnOk};
+ghost use Rattle.std.specs.Prelude.{◌≡◌, length, map, IfOk, OnOk};
+ghost use Rattle.cs_ir.specs.Drafts.{Grew, drafted};
 ghost use Rattle.cs_typed.specs.TypedTree as typed;
 ghost use Rattle.cs_code.specs.inner.Code.{cond_code, cond_reg, pass_block_code};
-ghost use Rattle.cs_code.specs.inner.Emitted.{alone_in, expression_of, frame_of};
+ghost use Rattle.cs_code.specs.inner.Emitted.{alone_in};
 ghost use Rattle.cs_code.specs.inner.Kept.{past, past_block};
 
 use crate::args::Call;
@@ -17,18 +18,17 @@ use cs_typed::{TypedExpr, Var};
 
 /// A variable takes the value of an expression, as often as the rate says. Returns what was met before the end.
 pub fn assign(
-    ops: &mut CodeDraft,
+    ops: &mut CodeDraft<'_>,
     context: Context,
     p: Progress,
     done: Rate,
     to: Var,
     e: &TypedExpr,
 ) -> Result<Progress, OutOfMemory>
-    ensures ops { OnOk result (ops.new ≡ ops.old
-        ++ pass_block_code context.pass (frame_of context.bases) (length ops.old) p
-        (alone_in context.spaces context.bases (typed.set 0 done to (typed.expression e.now)))) }
+    ensures ops { OnOk result (Grew ops.old ops.new (pass_block_code context.pass (length (drafted ops.old)) p
+        (alone_in context.spaces (typed.set 0 done to (typed.expression e.now))))) }
     ensures next { IfOk result (λ q. q
-        ≡ past_block p (alone_in context.spaces context.bases (typed.set 0 done to (typed.expression e.now)))) }
+        ≡ past_block p (alone_in context.spaces (typed.set 0 done to (typed.expression e.now)))) }
 {
     let assignment = Assignment {
         done,
@@ -40,17 +40,16 @@ pub fn assign(
 
 /// The code of a call. Returns what was met before its end.
 pub fn called(
-    ops: &mut CodeDraft,
+    ops: &mut CodeDraft<'_>,
     context: Context,
     p: Progress,
     made: &Call<'_>,
 ) -> Result<Progress, OutOfMemory>
-    ensures ops { OnOk result (ops.new ≡ ops.old
-        ++ pass_block_code context.pass (frame_of context.bases) (length ops.old) p
-        (alone_in context.spaces context.bases (typed.call 0 made.now.rate made.now.results.now made.now.opcode
-        (map typed.argument made.now.args.now)))) }
+    ensures ops { OnOk result (Grew ops.old ops.new (pass_block_code context.pass (length (drafted ops.old)) p
+        (alone_in context.spaces (typed.call 0 made.now.rate made.now.results.now made.now.opcode (map typed.argument
+        made.now.args.now))))) }
     ensures next { IfOk result (λ q. q
-        ≡ past_block p (alone_in context.spaces context.bases (typed.call 0 made.now.rate made.now.results.now
+        ≡ past_block p (alone_in context.spaces (typed.call 0 made.now.rate made.now.results.now
         made.now.opcode (map typed.argument made.now.args.now)))) }
 {
     call::call(ops, context, p, made)
@@ -58,16 +57,15 @@ pub fn called(
 
 /// The code of a condition, and where it stands.
 pub fn condition(
-    ops: &mut CodeDraft,
+    ops: &mut CodeDraft<'_>,
     context: Context,
     at: u32,
     e: &TypedExpr,
 ) -> Result<ValueSpot, OutOfMemory>
-    ensures ops { OnOk result (ops.new ≡ ops.old
-        ++ cond_code context.pass (frame_of context.bases) at (expression_of context.bases e.now)) }
-    ensures reg { IfOk result (λ s. s.reg ≡ cond_reg context.pass (frame_of context.bases) at
-        (expression_of context.bases e.now)) }
-    ensures next { IfOk result (λ s. s.next ≡ past at (expression_of context.bases e.now)) }
+    ensures ops { OnOk result (Grew ops.old ops.new (cond_code context.pass at (typed.expression e.now))) }
+    ensures reg { IfOk result (λ s. s.reg ≡ cond_reg context.pass at
+        (typed.expression e.now)) }
+    ensures next { IfOk result (λ s. s.next ≡ past at (typed.expression e.now)) }
 {
     Ok(ValueSpot {
         reg: tested_reg(context, at, e)?,
@@ -77,10 +75,14 @@ pub fn condition(
 
 // What is tested of a condition. Returns the number of the next kept value.
 #[tactic(auto, using(crate::proofs::Chains::tested))]
-fn tested(ops: &mut CodeDraft, context: Context, at: u32, e: &TypedExpr) -> Result<u32, OutOfMemory>
-    ensures ops { OnOk result (ops.new ≡ ops.old
-        ++ cond_code context.pass (frame_of context.bases) at (expression_of context.bases e.now)) }
-    ensures next { IfOk result (λ n. n ≡ past at (expression_of context.bases e.now)) }
+fn tested(
+    ops: &mut CodeDraft<'_>,
+    context: Context,
+    at: u32,
+    e: &TypedExpr,
+) -> Result<u32, OutOfMemory>
+    ensures ops { OnOk result (Grew ops.old ops.new (cond_code context.pass at (typed.expression e.now))) }
+    ensures next { IfOk result (λ n. n ≡ past at (typed.expression e.now)) }
 {
     match context.pass {
         Pass::Initialisation => keep(ops, context, at, e),
@@ -93,11 +95,11 @@ fn tested(ops: &mut CodeDraft, context: Context, at: u32, e: &TypedExpr) -> Resu
 
 // Where a condition stands that is tested.
 fn tested_reg(context: Context, at: u32, e: &TypedExpr) -> Result<Reg, OutOfMemory>
-    ensures { IfOk result (λ q. q ≡ cond_reg context.pass (frame_of context.bases) at
-        (expression_of context.bases e.now)) }
+    ensures { IfOk result (λ q. q ≡ cond_reg context.pass at
+        (typed.expression e.now)) }
 {
     match context.pass {
-        Pass::Initialisation => kept_reg(context.bases, at),
+        Pass::Initialisation => Ok(kept_reg(at)),
         Pass::Performance => operand_reg(context, at, e, 0),
     }
 }

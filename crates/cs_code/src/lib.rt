@@ -5,18 +5,17 @@
 //! (specs/Means.antt) in every piece, use and write what it does, and are valid (specs/Lowered.antt). Which ops are
 //! made is the crate's own (specs/inner/Code.antt) and may be changed without anyone above noticing.
 //!
-//! To be read in this order: `frame` (where values stand among the registers), `value` and `expr` (expressions),
-//! `args`, `reach` and `run` (the values of calls, and ops on them), `simple` (simple statements in either pass),
-//! `call` (what a call is short for), `leaves` (what is no `if` and invokes nothing), `jumps` (jumps that are aimed once
-//! their end is known), `stmt` (statements, blocks, arms, and routines wherever they are invoked), `counts` (registers
-//! in use), `codes` (both codes of a block), `orchestra` (`lower`: valid codes, and instruments by number), `laws`
-//! (codes worked by hand).
+//! To be read in this order: `frame` (which register holds what, and ops that are appended), `value` and `expr`
+//! (expressions), `args`, `reach` and `run` (the values of calls, and ops on them), `simple` (simple statements in
+//! either pass), `call` (what a call is short for), `leaves` (what is no `if` and invokes nothing), `jumps` (jumps that
+//! are aimed once their end is known), `stmt` (statements, blocks, arms, and calls of routines), `routines` (each
+//! routine's code, made once), `codes` (both codes of a block), `orchestra` (`lower`: valid codes, and instruments by
+//! number), `laws` (codes worked by hand).
 #![tactic(auto)]
 
 mod args;
 mod call;
 mod codes;
-mod counts;
 mod expr;
 mod frame;
 mod jumps;
@@ -24,6 +23,7 @@ mod laws;
 mod leaves;
 mod orchestra;
 mod reach;
+mod routines;
 mod run;
 mod simple;
 mod stmt;

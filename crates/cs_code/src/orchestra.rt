@@ -5,15 +5,15 @@ ghost use Rattle.cs_base.specs.declared.spaces.Spaces.{Spaces};
 ghost use Rattle.cs_ir.specs.Validity.{fine_from};
 ghost use Rattle.cs_typed.specs.TypedTree as typed;
 ghost use Rattle.cs_typed.specs.Places.{inside};
-ghost use Rattle.cs_typed.specs.Variables.{IsCounted, EachInBlock};
 ghost use Rattle.cs_typed.specs.WellRated.{IsWellRated, IsRatedBlock};
 ghost use Rattle.cs_typed.specs.declared.setting.Setting.{Setting};
 ghost use Rattle.cs_code.specs.Lowered.{IsCodeOf, IsNumberedCode, AreInstrumentsOf};
 ghost use Rattle.cs_code.specs.Lowered.{all_numbers, numbered_with, bodies};
 ghost use Rattle.cs_code.specs.inner.Rated.{IsRatedSomewhere};
+ghost use Rattle.cs_code.specs.inner.Served.{IsLibraryOf};
 
-use crate::codes::{Codes, codes_of};
-use cs_base::{OutOfMemory, PerRate};
+use crate::codes::{Codes, Library, codes_of, library_of};
+use cs_base::OutOfMemory;
 use cs_ir::{Body, Code, Instrument, Instruments, ValidCode};
 use cs_typed::{TypedInstr, TypedOrc, TypedStmt};
 use std::alloc::Global;
@@ -37,41 +37,49 @@ pub fn lower(alloc: Global, orc: &TypedOrc) -> Result<Lowered, OutOfMemory>
         (typed.block (typed.routines orc.now.routines.items) orc.now.zero.items) l.zero.init l.zero.perf) }
     ensures instruments { IfOk result (λ l. AreInstrumentsOf (typed.orchestra orc.now) l.instruments) }
 {
-    let zero = zero_of(alloc, orc)?;
-    let instruments = instruments_of(alloc, orc)?;
+    let library = library_of(alloc, orc)?;
+    let zero = zero_of(alloc, orc, &library)?;
+    let instruments = instruments_of(alloc, orc, &library)?;
     Ok(Lowered { zero, instruments })
 }
 
 // The instrument of what stands outside of all.
-fn zero_of(alloc: Global, orc: &TypedOrc) -> Result<Instrument, OutOfMemory>
+fn zero_of(alloc: Global, orc: &TypedOrc, library: &Library) -> Result<Instrument, OutOfMemory>
+    requires library { IsLibraryOf orc.now library.now }
     requires rated { IsWellRated (typed.orchestra orc.now) }
     ensures number { IfOk result (λ i. i.number ≡ 0) }
     ensures code { IfOk result (λ i. IsCodeOf orc.now.spaces orc.now.head.nchnls
         (typed.block (typed.routines orc.now.routines.items) orc.now.zero.items) i.init i.perf) }
 {
-    let body = body_of(alloc, orc, orc.zero_locals, &orc.zero)?;
+    let body = body_of(alloc, orc, library, &orc.zero)?;
     Instrument::new(0, &body)
 }
 
 // The instruments of an orchestra.
-fn instruments_of(alloc: Global, orc: &TypedOrc) -> Result<Instruments, OutOfMemory>
+fn instruments_of(
+    alloc: Global,
+    orc: &TypedOrc,
+    library: &Library,
+) -> Result<Instruments, OutOfMemory>
+    requires library { IsLibraryOf orc.now library.now }
     requires rated { IsWellRated (typed.orchestra orc.now) }
     requires distinct { IsDistinct eqb (all_numbers (typed.orchestra orc.now).instrs) }
     ensures { IfOk result (λ l. AreInstrumentsOf (typed.orchestra orc.now) l) }
 {
-    let list = in_text(alloc, orc)?;
+    let list = in_text(alloc, orc, library)?;
     Ok(Instruments::of(list))
 }
 
 // The instruments in the order of the text.
-fn in_text(alloc: Global, orc: &TypedOrc) -> Result<Vec<Instrument>, OutOfMemory>
+fn in_text(alloc: Global, orc: &TypedOrc, library: &Library) -> Result<Vec<Instrument>, OutOfMemory>
+    requires library { IsLibraryOf orc.now library.now }
     requires rated { IsWellRated (typed.orchestra orc.now) }
     ensures { IfOk result (λ v. AllZip (IsNumberedCode orc.now.spaces orc.now.head.nchnls)
         (bodies (typed.orchestra orc.now).instrs) v.items) }
 {
     let mut list = Vec::new(alloc);
     for instr in &orc.instrs {
-        add_instr(alloc, orc, instr, &mut list)?;
+        add_instr(alloc, orc, library, instr, &mut list)?;
     }
     Ok(list)
 }
@@ -80,12 +88,12 @@ fn in_text(alloc: Global, orc: &TypedOrc) -> Result<Vec<Instrument>, OutOfMemory
 fn add_instr(
     alloc: Global,
     orc: &TypedOrc,
+    library: &Library,
     instr: &TypedInstr,
     list: &mut Vec<Instrument>,
 ) -> Result<(), OutOfMemory>
+    requires library { IsLibraryOf orc.now library.now }
     requires rated { IsRatedSomewhere (typed.instrument (typed.routines orc.now.routines.items) instr.now).body }
-    requires counted { EachInBlock (IsCounted instr.now.locals) (typed.instrument
-        (typed.routines orc.now.routines.items) instr.now).body }
     ensures { OnOk result ((channels : ℕ) (ps : List (ℕ × typed.Block))
         → IsRatedBlock (inside channels) (typed.instrument (typed.routines orc.now.routines.items) instr.now).body
         → AllZip (IsNumberedCode orc.now.spaces channels) ps list.old.items
@@ -93,7 +101,7 @@ fn add_instr(
         (ps ++ numbered_with (typed.instrument
         (typed.routines orc.now.routines.items) instr.now).body instr.now.numbers) list.new.items) }
 {
-    let body = body_of(alloc, orc, instr.locals, &instr.body)?;
+    let body = body_of(alloc, orc, library, &instr.body)?;
     add_numbers(&body, instr.numbers.as_slice(), list)
 }
 
@@ -119,17 +127,17 @@ fn add_numbers(
 fn body_of(
     alloc: Global,
     orc: &TypedOrc,
-    locals: PerRate<usize>,
+    library: &Library,
     stmts: &[TypedStmt],
 ) -> Result<Arc<Body, Global>, OutOfMemory>
+    requires library { IsLibraryOf orc.now library.now }
     requires rated { IsRatedSomewhere (typed.block (typed.routines orc.now.routines.items) stmts.now) }
-    requires counted { EachInBlock (IsCounted locals) (typed.block (typed.routines orc.now.routines.items) stmts.now) }
     ensures { IfOk result (λ b. (s : Setting) → IsRatedBlock s (typed.block
         (typed.routines orc.now.routines.items) stmts.now)
         → IsCodeOf orc.now.spaces s.channels (typed.block
         (typed.routines orc.now.routines.items) stmts.now) b.value.init b.value.perf) }
 {
-    let codes = codes_of(alloc, orc, locals, stmts)?;
+    let codes = codes_of(alloc, orc, library, stmts)?;
     Ok(Arc::new(alloc, valid_body(codes))?)
 }
 

@@ -1,9 +1,9 @@
 // Which tables, or which zak places, an op may touch, by the literals among its values.
 ghost use Rattle.std.specs.Prelude.{◌≡◌};
 ghost use Rattle.cs_meaning.specs.Core.{unit_reach, table_reach, whole_part, zak_reach};
-ghost use Rattle.cs_code.specs.declared.frame.Bases.{Bases};
 ghost use Rattle.cs_code.specs.inner.Emitted.{known_at, known_of, table_known, expressions_of};
-ghost use Rattle.cs_code.specs.inner.Emitted.{place_known, span_known, zak_known, expression_of};
+ghost use Rattle.cs_code.specs.inner.Emitted.{place_known, span_known, zak_known};
+ghost use Rattle.cs_typed.specs.TypedTree as typed;
 
 use cs_base::{Num, Spaces};
 use cs_ir::{Reach, places_of};
@@ -21,7 +21,7 @@ pub enum KnownArgument {
 
 /// Which tables a unit of an opcode may touch, by its settled values: none where it takes none.
 pub fn unit_reach(opcode: Opcode, settled: &[&TypedExpr]) -> Reach
-    ensures { (b : Bases) → result ≡ unit_reach opcode (expressions_of b settled.now) }
+    ensures { result ≡ unit_reach opcode (expressions_of settled.now) }
 {
     if signature_of(opcode).takes_table() {
         table_reach(settled)
@@ -33,7 +33,7 @@ pub fn unit_reach(opcode: Opcode, settled: &[&TypedExpr]) -> Reach
 /// Which tables may be touched, by settled values of which the first is the number of a table.
 #[tactic(auto, using(crate::proofs::Reaches::table_by))]
 pub fn table_reach(settled: &[&TypedExpr]) -> Reach
-    ensures { (b : Bases) → result ≡ table_reach (expressions_of b settled.now) }
+    ensures { result ≡ table_reach (expressions_of settled.now) }
 {
     table_of(known_first(settled))
 }
@@ -41,7 +41,7 @@ pub fn table_reach(settled: &[&TypedExpr]) -> Reach
 /// Which zak places may be touched, by the values of an opcode of this shape.
 #[tactic(auto, using(crate::proofs::Reaches::zak_by_known))]
 pub fn zak_reach(spaces: Spaces, shape: Shape, values: &[&TypedExpr]) -> Reach
-    ensures { (b : Bases) → result ≡ zak_reach spaces shape (expressions_of b values.now) }
+    ensures { result ≡ zak_reach spaces shape (expressions_of values.now) }
 {
     zak_by(spaces, shape, known_first(values), known_second(values))
 }
@@ -100,7 +100,7 @@ fn span_of(places: u32, first: KnownArgument, last: KnownArgument) -> Reach
 
 // What is known of the first of some values, and of the second.
 fn known_first(values: &[&TypedExpr]) -> KnownArgument
-    ensures { (b : Bases) → result ≡ known_at (expressions_of b values.now) 0 }
+    ensures { result ≡ known_at (expressions_of values.now) 0 }
 {
     match values {
         [e, ..] => known_of(e),
@@ -109,7 +109,7 @@ fn known_first(values: &[&TypedExpr]) -> KnownArgument
 }
 
 fn known_second(values: &[&TypedExpr]) -> KnownArgument
-    ensures { (b : Bases) → result ≡ known_at (expressions_of b values.now) 1 }
+    ensures { result ≡ known_at (expressions_of values.now) 1 }
 {
     match values {
         [_, rest @ ..] => known_first(rest),
@@ -118,7 +118,7 @@ fn known_second(values: &[&TypedExpr]) -> KnownArgument
 }
 
 fn known_of(e: &TypedExpr) -> KnownArgument
-    ensures { (b : Bases) → result ≡ known_of (expression_of b e.now) }
+    ensures { result ≡ known_of (typed.expression e.now) }
 {
     match &e.what {
         TypedPart::Number(value) => KnownArgument::Literal(whole_part(*value)),

@@ -1,35 +1,37 @@
 // The code of what gives results: units, and what reads or writes zak places.
-ghost use Rattle.std.specs.Prelude.{◌≡◌, ◌+◌, ◌++◌, [], IfOk, OnOk};
+ghost use Rattle.std.specs.Prelude.{◌≡◌, true, IfOk, OnOk};
+ghost use Rattle.cs_ir.specs.Codes.{is_unaimed};
+ghost use Rattle.cs_ir.specs.Drafts.{Grew};
 ghost use Rattle.cs_code.specs.inner.Kept.{past_all};
 ghost use Rattle.cs_code.specs.inner.Code.{run_code, target, given_code};
-ghost use Rattle.cs_code.specs.inner.Emitted.{frame_of, expressions_of, variables_of, when_of};
+ghost use Rattle.cs_code.specs.inner.Emitted.{expressions_of, when_of};
 
 use crate::args::{Call, push_on};
-use crate::frame::{Bases, Context, local, push, temp};
+use crate::frame::{Context, local, push, temp};
 use cs_base::{OutOfMemory, Rate};
 use cs_ir::{Act, CodeDraft, Operands, Reg};
 use cs_typed::{TypedExpr, Var};
 
 // Where a result goes.
-fn target(bases: Bases, rate: Rate, results: &[Var]) -> Result<Reg, OutOfMemory>
-    ensures { IfOk result (λ q. q ≡ target (frame_of bases) rate (variables_of bases results.now)) }
+fn target(rate: Rate, results: &[Var]) -> Result<Reg, OutOfMemory>
+    ensures { IfOk result (λ q. q ≡ target rate results.now) }
 {
     match results {
         [Var::Local(own, index), ..] => {
             if own.same(rate) {
-                local(bases, *own, *index)
+                local(*own, *index)
             } else {
-                temp(bases, rate, 0)
+                Ok(temp(rate, 0))
             }
         }
-        _ => temp(bases, rate, 0),
+        _ => Ok(temp(rate, 0)),
     }
 }
 
 // What is left to do once a result is there.
-fn give(ops: &mut CodeDraft, bases: Bases, rate: Rate, results: &[Var]) -> Result<(), OutOfMemory>
-    ensures { OnOk result (ops.new ≡ ops.old
-        ++ given_code (frame_of bases) rate (variables_of bases results.now)) }
+#[tactic(auto, using(crate::proofs::Growing::growing))]
+fn give(ops: &mut CodeDraft<'_>, rate: Rate, results: &[Var]) -> Result<(), OutOfMemory>
+    ensures { OnOk result (Grew ops.old ops.new (given_code rate results.now)) }
 {
     match results {
         [] => Ok(()),
@@ -37,12 +39,12 @@ fn give(ops: &mut CodeDraft, bases: Bases, rate: Rate, results: &[Var]) -> Resul
             if own.same(rate) {
                 Ok(())
             } else {
-                let into = local(bases, *own, *index)?;
-                push(ops, Act::Copy, into, Operands::one(temp(bases, rate, 0)?))
+                let into = local(*own, *index)?;
+                push(ops, Act::Copy, into, Operands::one(temp(rate, 0)))
             }
         }
         [Var::Global(res), ..] => {
-            let from = temp(bases, rate, 0)?;
+            let from = temp(rate, 0);
             push(ops, Act::Save(*res), from, Operands::one(from))
         }
     }
@@ -50,21 +52,22 @@ fn give(ops: &mut CodeDraft, bases: Bases, rate: Rate, results: &[Var]) -> Resul
 
 /// An op on values that gives a result where its opcode has one, and what is left to do then. Returns the number of the
 /// next kept value.
+#[tactic(auto, using(crate::proofs::Growing::growing))]
 pub fn run(
-    ops: &mut CodeDraft,
+    ops: &mut CodeDraft<'_>,
     context: Context,
     at: u32,
     act: Act,
     call: &Call<'_>,
     values: &[&TypedExpr],
 ) -> Result<u32, OutOfMemory>
-    ensures ops { OnOk result (ops.new ≡ ops.old
-        ++ run_code (frame_of context.bases) (when_of context.pass) at act call.now.rate
-        (variables_of context.bases call.now.results.now) (expressions_of context.bases values.now)) }
-    ensures next { IfOk result (λ n. n ≡ past_all at (expressions_of context.bases values.now)) }
+    requires { is_unaimed act ≡ true }
+    ensures ops { OnOk result (Grew ops.old ops.new (run_code (when_of context.pass) at act call.now.rate
+        call.now.results.now (expressions_of values.now))) }
+    ensures next { IfOk result (λ n. n ≡ past_all at (expressions_of values.now)) }
 {
-    let into = target(context.bases, call.rate, call.results)?;
+    let into = target(call.rate, call.results)?;
     let next = push_on(ops, context, at, act, into, values)?;
-    give(ops, context.bases, call.rate, call.results)?;
+    give(ops, call.rate, call.results)?;
     Ok(next)
 }

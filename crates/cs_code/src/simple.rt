@@ -1,19 +1,18 @@
 // The code of simple statements, for either pass: what is done once or kept as the note begins, and what is done in
 // each cycle.
-ghost use Rattle.std.specs.Prelude.{◌≡◌, ◌++◌, IfOk, OnOk};
+ghost use Rattle.std.specs.Prelude.{◌≡◌, IfOk, OnOk};
 ghost use Rattle.cs_base.specs.declared.resource.Rate.TheVariants as rate;
+ghost use Rattle.cs_ir.specs.Drafts.{Grew};
 ghost use Rattle.cs_meaning.specs.Core.{unit, zak, store, table_reach, ask, turnoff};
-ghost use Rattle.cs_meaning.specs.Notes.{reg};
 ghost use Rattle.cs_code.specs.inner.Kept.{start, past_stmt};
-ghost use Rattle.cs_code.specs.inner.Code.{pass_code};
-ghost use Rattle.cs_code.specs.inner.Code.{start_code, seek_code, out_ops, out_at_ops};
+ghost use Rattle.cs_code.specs.inner.Code.{pass_code, start_code, seek_code, out_ops, out_at_ops};
 ghost use Rattle.cs_code.specs.declared.frame.Pass.TheVariants as pass;
-ghost use Rattle.cs_code.specs.inner.Emitted.{frame_of, expressions_of};
-ghost use Rattle.cs_code.specs.inner.Emitted.{assignment_of, set_of, sent_as, sent_ops, variables_of};
+ghost use Rattle.cs_code.specs.inner.Emitted.{assignment_of, expressions_of, set_of, sent_as, sent_ops};
+ghost use Rattle.cs_code.specs.inner.Spots.{temp};
 
 use crate::args::{Call, Parted, keep_all, operands, push_on};
 use crate::expr::{keep_value, set};
-use crate::frame::{Context, Pass, Progress, add, push};
+use crate::frame::{Context, Pass, Progress, add, push, temp};
 use crate::reach::table_reach;
 use crate::run::run;
 use crate::value::Value;
@@ -39,15 +38,15 @@ pub struct Assignment<'t> {
 }
 
 /// A variable takes a value: once, or in each cycle, for which the parts that don't change are kept.
+#[tactic(auto, using(crate::proofs::Growing::growing))]
 pub fn assign(
-    ops: &mut CodeDraft,
+    ops: &mut CodeDraft<'_>,
     context: Context,
     p: Progress,
     it: &Assignment<'_>,
 ) -> Result<Progress, OutOfMemory>
-    ensures ops { OnOk result (ops.new ≡ ops.old
-        ++ pass_code context.pass (frame_of context.bases) 0 p (set_of (assignment_of context.bases it.now))) }
-    ensures next { IfOk result (λ q. q ≡ past_stmt p (set_of (assignment_of context.bases it.now))) }
+    ensures ops { OnOk result (Grew ops.old ops.new (pass_code context.pass 0 p (set_of (assignment_of it.now)))) }
+    ensures next { IfOk result (λ q. q ≡ past_stmt p (set_of (assignment_of it.now))) }
 {
     match (context.pass, it.done) {
         (Pass::Initialisation, Rate::Init) => {
@@ -67,23 +66,22 @@ pub fn assign(
 }
 
 /// A unit: started as the note begins, and run then where it is done once, else in each cycle.
+#[tactic(auto, using(crate::proofs::Growing::growing))]
 pub fn unit(
-    ops: &mut CodeDraft,
+    ops: &mut CodeDraft<'_>,
     context: Context,
     p: Progress,
     reach: Reach,
     call: &Call<'_>,
     values: &Parted<'_>,
 ) -> Result<Progress, OutOfMemory>
-    ensures ops { OnOk result (ops.new ≡ ops.old
-        ++ pass_code context.pass (frame_of context.bases) 0 p (unit call.now.rate
-        (variables_of context.bases call.now.results.now)
-        call.now.opcode reach (expressions_of context.bases values.now.moving.items)
-        (expressions_of context.bases values.now.settled.items))) }
+    ensures ops { OnOk result (Grew ops.old ops.new (pass_code context.pass 0 p (unit call.now.rate
+        call.now.results.now call.now.opcode reach (expressions_of values.now.moving.items) (expressions_of
+        values.now.settled.items)))) }
     ensures next { IfOk result (λ q. q
-        ≡ past_stmt p (unit call.now.rate (variables_of context.bases call.now.results.now) call.now.opcode reach
-        (expressions_of context.bases values.now.moving.items)
-        (expressions_of context.bases values.now.settled.items))) }
+        ≡ past_stmt p (unit call.now.rate call.now.results.now call.now.opcode reach
+        (expressions_of values.now.moving.items)
+        (expressions_of values.now.settled.items))) }
 {
     let unit = add(p.unit, 1)?;
     let act = Act::Unit(call.opcode, p.unit, reach);
@@ -108,16 +106,15 @@ pub fn unit(
 
 // A unit is started with its settled values.
 fn start(
-    ops: &mut CodeDraft,
+    ops: &mut CodeDraft<'_>,
     context: Context,
     unit: u32,
     call: &Call<'_>,
     settled: &[&TypedExpr],
 ) -> Result<(), OutOfMemory>
     requires { context.pass ≡ pass.Initialisation }
-    ensures { OnOk result (ops.new ≡ ops.old
-        ++ start_code (frame_of context.bases) call.now.rate call.now.opcode unit
-        (expressions_of context.bases settled.now)) }
+    ensures { OnOk result (Grew ops.old ops.new (start_code call.now.rate call.now.opcode unit (expressions_of
+        settled.now))) }
 {
     let act = Act::Start(call.opcode, unit);
     push_on(ops, context, 0, act, unwritten(call.rate), settled)?;
@@ -126,27 +123,26 @@ fn start(
 
 // The register of an op that writes none; it tells a rate.
 fn unwritten(rate: Rate) -> Reg
-    ensures { result ≡ reg rate 0 }
+    ensures { result ≡ temp rate 0 }
 {
-    Reg { rate, index: 0 }
+    temp(rate, 0)
 }
 
 /// Zak places are read or written: once, or in each cycle.
+#[tactic(auto, using(crate::proofs::Growing::growing))]
 pub fn zak(
-    ops: &mut CodeDraft,
+    ops: &mut CodeDraft<'_>,
     context: Context,
     p: Progress,
     reach: Reach,
     call: &Call<'_>,
     values: &[&TypedExpr],
 ) -> Result<Progress, OutOfMemory>
-    ensures ops { OnOk result (ops.new ≡ ops.old
-        ++ pass_code context.pass (frame_of context.bases) 0 p (zak call.now.rate
-        (variables_of context.bases call.now.results.now)
-        call.now.opcode reach (expressions_of context.bases values.now))) }
+    ensures ops { OnOk result (Grew ops.old ops.new (pass_code context.pass 0 p (zak call.now.rate
+        call.now.results.now call.now.opcode reach (expressions_of values.now)))) }
     ensures next { IfOk result (λ q. q ≡ past_stmt p (zak call.now.rate
-        (variables_of context.bases call.now.results.now)
-        call.now.opcode reach (expressions_of context.bases values.now))) }
+        call.now.results.now
+        call.now.opcode reach (expressions_of values.now))) }
 {
     let act = Act::Zak(call.opcode, reach);
     match (context.pass, call.rate) {
@@ -167,21 +163,20 @@ pub fn zak(
 }
 
 /// A store: as the note begins its table must be there, and it stores then where it is done once, else in each cycle.
+#[tactic(auto, using(crate::proofs::Growing::growing))]
 pub fn store(
-    ops: &mut CodeDraft,
+    ops: &mut CodeDraft<'_>,
     context: Context,
     p: Progress,
     rate: Rate,
     values: &[&TypedExpr],
     settled: &[&TypedExpr],
 ) -> Result<Progress, OutOfMemory>
-    ensures ops { OnOk result (ops.new ≡ ops.old
-        ++ pass_code context.pass (frame_of context.bases) 0 p (store rate
-        (table_reach (expressions_of context.bases settled.now)) (expressions_of context.bases values.now)
-        (expressions_of context.bases settled.now))) }
+    ensures ops { OnOk result (Grew ops.old ops.new (pass_code context.pass 0 p (store rate (table_reach
+        (expressions_of settled.now)) (expressions_of values.now) (expressions_of settled.now)))) }
     ensures next { IfOk result (λ q. q ≡ past_stmt p (store rate
-        (table_reach (expressions_of context.bases settled.now)) (expressions_of context.bases values.now)
-        (expressions_of context.bases settled.now))) }
+        (table_reach (expressions_of settled.now)) (expressions_of values.now)
+        (expressions_of settled.now))) }
 {
     let act = Act::Store(table_reach(settled));
     let into = unwritten(rate);
@@ -205,18 +200,21 @@ pub fn store(
 }
 
 // The table that settled values name is looked for.
-fn seek(ops: &mut CodeDraft, context: Context, settled: &[&TypedExpr]) -> Result<(), OutOfMemory>
+fn seek(
+    ops: &mut CodeDraft<'_>,
+    context: Context,
+    settled: &[&TypedExpr],
+) -> Result<(), OutOfMemory>
     requires { context.pass ≡ pass.Initialisation }
-    ensures { OnOk result (ops.new ≡ ops.old ++ seek_code (frame_of context.bases)
-        (expressions_of context.bases settled.now)) }
+    ensures { OnOk result (Grew ops.old ops.new (seek_code (expressions_of settled.now))) }
 {
     push_on(ops, context, 0, Act::Seek, unwritten(Rate::Init), settled)?;
     Ok(())
 }
 
 // Values to the channels from one on.
-fn out_ops(ops: &mut CodeDraft, regs: &[Reg]) -> Result<(), OutOfMemory>
-    ensures { OnOk result (ops.new ≡ ops.old ++ out_ops 0 regs.now) }
+fn out_ops(ops: &mut CodeDraft<'_>, regs: &[Reg]) -> Result<(), OutOfMemory>
+    ensures { OnOk result (Grew ops.old ops.new (out_ops 0 regs.now)) }
 {
     let mut channel: usize = 0;
     for reg in regs {
@@ -227,8 +225,8 @@ fn out_ops(ops: &mut CodeDraft, regs: &[Reg]) -> Result<(), OutOfMemory>
 }
 
 // Pairs of a channel's number and a value for it.
-fn out_at_ops(ops: &mut CodeDraft, regs: &[Reg]) -> Result<(), OutOfMemory>
-    ensures { OnOk result (ops.new ≡ ops.old ++ out_at_ops regs.now) }
+fn out_at_ops(ops: &mut CodeDraft<'_>, regs: &[Reg]) -> Result<(), OutOfMemory>
+    ensures { OnOk result (Grew ops.old ops.new (out_at_ops regs.now)) }
 {
     let mut channel = None;
     for reg in regs {
@@ -244,8 +242,8 @@ fn out_at_ops(ops: &mut CodeDraft, regs: &[Reg]) -> Result<(), OutOfMemory>
 }
 
 // Values in registers go out.
-fn send_regs(ops: &mut CodeDraft, sending: Sending, regs: &[Reg]) -> Result<(), OutOfMemory>
-    ensures { OnOk result (ops.new ≡ ops.old ++ sent_ops sending regs.now) }
+fn send_regs(ops: &mut CodeDraft<'_>, sending: Sending, regs: &[Reg]) -> Result<(), OutOfMemory>
+    ensures { OnOk result (Grew ops.old ops.new (sent_ops sending regs.now)) }
 {
     match sending {
         Sending::InTurn => out_ops(ops, regs),
@@ -255,17 +253,16 @@ fn send_regs(ops: &mut CodeDraft, sending: Sending, regs: &[Reg]) -> Result<(), 
 
 /// Values go out: their parts that don't change are kept as the note begins, and each cycle sends them.
 pub fn send(
-    ops: &mut CodeDraft,
+    ops: &mut CodeDraft<'_>,
     context: Context,
     p: Progress,
     sending: Sending,
     values: &[&TypedExpr],
 ) -> Result<Progress, OutOfMemory>
-    ensures ops { OnOk result (ops.new ≡ ops.old
-        ++ pass_code context.pass (frame_of context.bases) 0 p
-        (sent_as sending rate.Audio (expressions_of context.bases values.now))) }
+    ensures ops { OnOk result (Grew ops.old ops.new (pass_code context.pass 0 p (sent_as sending rate.Audio
+        (expressions_of values.now)))) }
     ensures next { IfOk result (λ q. q
-        ≡ past_stmt p (sent_as sending rate.Audio (expressions_of context.bases values.now))) }
+        ≡ past_stmt p (sent_as sending rate.Audio (expressions_of values.now))) }
 {
     match context.pass {
         Pass::Initialisation => {
@@ -284,9 +281,13 @@ pub fn send(
 }
 
 /// Asks for a note, as the note begins.
-pub fn ask(ops: &mut CodeDraft, context: Context, values: &[&TypedExpr]) -> Result<(), OutOfMemory>
-    ensures { OnOk result (ops.new ≡ ops.old
-        ++ pass_code context.pass (frame_of context.bases) 0 start (ask (expressions_of context.bases values.now))) }
+#[tactic(auto, using(crate::proofs::Growing::growing))]
+pub fn ask(
+    ops: &mut CodeDraft<'_>,
+    context: Context,
+    values: &[&TypedExpr],
+) -> Result<(), OutOfMemory>
+    ensures { OnOk result (Grew ops.old ops.new (pass_code context.pass 0 start (ask (expressions_of values.now)))) }
 {
     match context.pass {
         Pass::Initialisation => {
@@ -298,9 +299,9 @@ pub fn ask(ops: &mut CodeDraft, context: Context, values: &[&TypedExpr]) -> Resu
 }
 
 /// Ends the note with this cycle.
-pub fn turnoff(ops: &mut CodeDraft, context: Context) -> Result<(), OutOfMemory>
-    ensures { OnOk result (ops.new ≡ ops.old
-        ++ pass_code context.pass (frame_of context.bases) 0 start (turnoff rate.Audio)) }
+#[tactic(auto, using(crate::proofs::Growing::growing))]
+pub fn turnoff(ops: &mut CodeDraft<'_>, context: Context) -> Result<(), OutOfMemory>
+    ensures { OnOk result (Grew ops.old ops.new (pass_code context.pass 0 start (turnoff rate.Audio))) }
 {
     match context.pass {
         Pass::Initialisation => Ok(()),

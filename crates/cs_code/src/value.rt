@@ -1,11 +1,11 @@
 // What a variable takes, and where a value stands already.
 ghost use Rattle.std.specs.Prelude.{◌≡◌, IfOk};
+ghost use Rattle.cs_typed.specs.TypedTree as typed;
 ghost use Rattle.cs_typed.specs.WellRated.{node_rate};
-ghost use Rattle.cs_code.specs.inner.Emitted.{expression_of, frame_of, value_of, when_of};
-ghost use Rattle.cs_code.specs.declared.frame.Bases.{Bases};
-ghost use Rattle.cs_code.specs.inner.Frames.{local_of, direct};
+ghost use Rattle.cs_code.specs.inner.Emitted.{value_of, when_of};
+ghost use Rattle.cs_code.specs.inner.Spots.{local_of, direct};
 
-use crate::frame::{Bases, Context, Pass, kept_reg, local};
+use crate::frame::{Context, Pass, kept_reg, local};
 use cs_base::{OutOfMemory, Rate};
 use cs_ir::Reg;
 use cs_typed::{TypedExpr, TypedPart, Var};
@@ -24,9 +24,9 @@ pub enum Value<'t> {
 }
 
 /// How often a value changes.
-#[tactic(auto, using(crate::proofs::Nodes::rate_of_moved))]
+#[tactic(auto, using(crate::proofs::Nodes::rate_of_part))]
 pub fn rate_of(value: &Value<'_>) -> Rate
-    ensures { (b : Bases) → result ≡ node_rate (value_of b value.now) }
+    ensures { result ≡ node_rate (value_of value.now) }
 {
     match value {
         Value::Of(e) => e.rate,
@@ -37,32 +37,32 @@ pub fn rate_of(value: &Value<'_>) -> Rate
 }
 
 // The register of a local variable.
-fn local_of(bases: Bases, value: &Value<'_>) -> Result<Option<Reg>, OutOfMemory>
-    ensures { IfOk result (λ q. q ≡ local_of (value_of bases value.now)) }
+fn local_of(value: &Value<'_>) -> Result<Option<Reg>, OutOfMemory>
+    ensures { IfOk result (λ q. q ≡ local_of (value_of value.now)) }
 {
     match value {
-        Value::Of(e) => local_in(bases, e),
-        Value::Read(_, Var::Local(rate, index)) => Ok(Some(local(bases, *rate, *index)?)),
+        Value::Of(e) => local_in(e),
+        Value::Read(_, Var::Local(rate, index)) => Ok(Some(local(*rate, *index)?)),
         _ => Ok(None),
     }
 }
 
-fn local_in(bases: Bases, e: &TypedExpr) -> Result<Option<Reg>, OutOfMemory>
-    ensures { IfOk result (λ q. q ≡ local_of (expression_of bases e.now)) }
+fn local_in(e: &TypedExpr) -> Result<Option<Reg>, OutOfMemory>
+    ensures { IfOk result (λ q. q ≡ local_of (typed.expression e.now)) }
 {
     match &e.what {
-        TypedPart::Var(Var::Local(rate, index)) => Ok(Some(local(bases, *rate, *index)?)),
+        TypedPart::Var(Var::Local(rate, index)) => Ok(Some(local(*rate, *index)?)),
         _ => Ok(None),
     }
 }
 
 /// Where a value stands already.
 pub fn direct(context: Context, at: u32, value: &Value<'_>) -> Result<Option<Reg>, OutOfMemory>
-    ensures { IfOk result (λ q. q ≡ direct (frame_of context.bases) (when_of context.pass) at
-        (value_of context.bases value.now)) }
+    ensures { IfOk result (λ q. q ≡ direct (when_of context.pass) at
+        (value_of value.now)) }
 {
     match (context.pass, rate_of(value)) {
-        (Pass::Performance, Rate::Init) => Ok(Some(kept_reg(context.bases, at)?)),
-        _ => local_of(context.bases, value),
+        (Pass::Performance, Rate::Init) => Ok(Some(kept_reg(at))),
+        _ => local_of(value),
     }
 }

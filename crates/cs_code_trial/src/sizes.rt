@@ -1,7 +1,7 @@
 // How many ops instruments have: of each rate-i part that is kept, each argument that is settled and each unit that is
 // started one as the note begins, and of each operator, unit, output and assignment one a cycle.
 use crate::reading::{instrument_of, lower_text};
-use cs_ir::Instrument;
+use cs_ir::{Code, Instrument};
 use std::alloc::Global;
 
 /// How many ops an instrument's note runs as it begins, and how many in a cycle; of number 0 those outside of
@@ -15,7 +15,12 @@ fn sizes(alloc: Global, source: &[u8], number: u32) -> Option<(usize, usize)> {
 }
 
 fn sizes_of(instrument: &Instrument) -> (usize, usize) {
-    (instrument.init().ops.len(), instrument.perf().ops.len())
+    (steps_of(instrument.init()), steps_of(instrument.perf()))
+}
+
+/// Without opcodes of the text's own each step is an op.
+fn steps_of(code: &Code) -> usize {
+    code.ops.parts().1.len()
 }
 
 const DEMO: &str = "sr = 8000

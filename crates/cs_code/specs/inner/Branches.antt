@@ -1,19 +1,20 @@
 -- Arms of an `if` of which one is done, one after another, and the jumps past the others.
-use Rattle.std.specs.Prelude.{ℕ, ◌+◌, ◌++◌, List, [], ◌∷◌, length}
+use Rattle.std.specs.Prelude.{ℕ, ◌≡◌, ◌+◌, ◌++◌, List, [], ◌∷◌, length}
 use Rattle.cs_ir.specs.Codes.{aim}
+use Rattle.cs_ir.specs.Drafts.{Draft, IsAt, drafted, library_of}
 use Rattle.cs_ir.specs.declared.op.Act.TheVariants as act
 use Rattle.cs_ir.specs.declared.op.Op.{Op}
 use Rattle.cs_ir.specs.declared.register.Reg.{Reg}
 use Rattle.cs_meaning.specs.Core.{Block}
 use Rattle.cs_code.specs.declared.frame.Progress.{Progress}
 use Rattle.cs_code.specs.inner.Kept.{past, past_parts, past_block}
+use Rattle.cs_typed.specs.TypedTree as typed
 use Rattle.cs_typed.specs.TypedTree.{Expression}
 use Rattle.cs_typed.specs.declared.tree.TypedArm.{TypedArm, out-TypedArm}
 use Rattle.cs_code.specs.declared.frame.Pass.{Pass}
-use Rattle.cs_code.specs.inner.Code.{pass_block_code, cond_code, cond_reg}
-use Rattle.cs_code.specs.inner.Code.{arm_code}
-use Rattle.cs_code.specs.inner.Emitted.{Scope, block_in, expression_in}
-use Rattle.cs_code.specs.inner.Frames.{Frame, op_of}
+use Rattle.cs_code.specs.inner.Code.{pass_block_code, cond_code, cond_reg, arm_code}
+use Rattle.cs_code.specs.inner.Emitted.{Scope, block_in, each_arm_code}
+use Rattle.cs_code.specs.inner.Spots.{op_of}
 
 -- An arm: the code of its condition, where the condition stands, the code of its body.
 pub record Branch : Type 0 where
@@ -57,30 +58,42 @@ abbrev pub aim_all : List ℕ → ℕ → List Op → List Op
 aim_all [] end ops = ops
 aim_all (n ∷ ns) end ops = aim_all ns end (aim n end ops)
 
+-- The jumps at some places go to the end of what is drafted, and all else is as it was.
+pub record AllAimed (old new : Draft) (places : List ℕ) : Type 0 where
+  pub ops : drafted new ≡ aim_all places (length (drafted old)) (drafted old)
+  pub routines : library_of new ≡ library_of old
+  pub marks : (mark place : ℕ) → IsAt old mark place → IsAt new mark place
+
 -- the condition and the body of an arm of the tree, and what was met before its end
-abbrev pub condition_of : Scope → TypedArm → Expression
-condition_of o a = expression_in o (out-TypedArm a).cond
+abbrev pub condition_of : TypedArm → Expression
+condition_of a = typed.expression (out-TypedArm a).cond
 
 abbrev pub body_of : Scope → TypedArm → Block
 body_of o a = block_in o (out-TypedArm a).body.items
 
 abbrev pub past_arm : Scope → Progress → TypedArm → Progress
-past_arm o p a = past_block (past_parts (past p.part (condition_of o a)) p) (body_of o a)
+past_arm o p a = past_block (past_parts (past p.part (condition_of a)) p) (body_of o a)
 
 abbrev pub past_list : Scope → Progress → List TypedArm → Progress
 past_list o p [] = p
 past_list o p (a ∷ rest) = past_list o (past_arm o p a) rest
 
 -- the codes of an arm at a place, and of arms one after another
-abbrev pub branch_of : Pass → Frame → Scope → ℕ → Progress → TypedArm → Branch
-branch_of way f o place p a = let c = condition_of o a in record {
-  cond = cond_code way f p.part c;
-  q = cond_reg way f p.part c;
-  body = pass_block_code way f (place + length (cond_code way f p.part c) + 1) (past_parts (past p.part c) p)
+abbrev pub branch_of : Pass → Scope → ℕ → Progress → TypedArm → Branch
+branch_of way o place p a = let c = condition_of a in record {
+  cond = cond_code way p.part c;
+  q = cond_reg way p.part c;
+  body = pass_block_code way (place + length (cond_code way p.part c) + 1) (past_parts (past p.part c) p)
       (body_of o a);
 }
 
-abbrev pub branches : Pass → Frame → Scope → ℕ → Progress → List TypedArm → List Branch
-branches way f o place p [] = []
-branches way f o place p (a ∷ rest) = let b = branch_of way f o place p a in
-    b ∷ branches way f o (past_branch place b) (past_arm o p a) rest
+abbrev pub branches : Pass → Scope → ℕ → Progress → List TypedArm → List Branch
+branches way o place p [] = []
+branches way o place p (a ∷ rest) = let b = branch_of way o place p a in
+    b ∷ branches way o (past_branch place b) (past_arm o p a) rest
+
+-- the code of arms that are all initialised
+abbrev pub each_code : Scope → ℕ → Progress → List TypedArm → List Op
+each_code o place p [] = []
+each_code o place p (a ∷ rest) = let one = each_arm_code place p (condition_of a) (body_of o a) in
+    one ++ each_code o (place + length one) (past_arm o p a) rest

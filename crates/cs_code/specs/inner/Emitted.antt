@@ -2,9 +2,8 @@
 use Rattle.std.specs.Prelude.{◌≡◌, ℕ, Bool, false, not, zero, suc, ◌+◌, ◌-◌, ◌&&◌, ◌++◌, List, [], ◌∷◌, length, min}
 use Rattle.std.specs.Prelude.{nat_lt, nat_le, Option, Some, None, map, if◌then◌else◌, pos}
 use Rattle.std.specs.Borrow.{Bor}
-use Rattle.std.specs.Global.{Vec}
 use Rattle.std.specs.Option.{option_map}
-use Rattle.cs_base.specs.Rates.{at_rate, is_init}
+use Rattle.cs_base.specs.Rates.{is_init}
 use Rattle.cs_base.specs.declared.per_rate.PerRate.{PerRate}
 use Rattle.cs_base.specs.declared.resource.Rate.{Rate}
 use Rattle.cs_base.specs.declared.resource.Rate.TheVariants as rate
@@ -19,9 +18,7 @@ use Rattle.cs_meaning.specs.Core.{Arms, set, out, out_at, ask, turnoff, nothing,
 use Rattle.cs_meaning.specs.When.{When, beginning, cycle}
 use Rattle.cs_code.specs.inner.Kept.{past, past_parts}
 use Rattle.cs_typed.specs.TypedTree as typed
-use Rattle.cs_typed.specs.TypedTree.{Expression, number, var, neg, pair, pick, apply, moved_variable, moved_expression}
-use Rattle.cs_typed.specs.TypedTree.{moved_argument}
-use Rattle.cs_typed.specs.declared.tree.TypedArg.{TypedArg}
+use Rattle.cs_typed.specs.TypedTree.{Expression, number, var, neg, pair, pick, apply}
 use Rattle.cs_typed.specs.declared.tree.TypedArm.{TypedArm}
 use Rattle.cs_typed.specs.declared.tree.TypedExpr.{TypedExpr}
 use Rattle.cs_typed.specs.declared.tree.TypedStmt.{TypedStmt}
@@ -32,8 +29,6 @@ use Rattle.cs_words.specs.declared.catalogue.Shape.TheVariants as shape
 use Rattle.cs_code.specs.declared.args.Call.{Call}
 use Rattle.cs_code.specs.declared.call.Putting.{Putting}
 use Rattle.cs_code.specs.declared.call.Putting.TheVariants as putting
-use Rattle.cs_code.specs.declared.frame.Bases.{Bases}
-use Rattle.cs_code.specs.declared.frame.Context.{Context}
 use Rattle.cs_code.specs.declared.frame.Pass.{Pass}
 use Rattle.cs_code.specs.declared.frame.Pass.TheVariants as pass
 use Rattle.cs_code.specs.declared.frame.Progress.{Progress}
@@ -45,27 +40,16 @@ use Rattle.cs_code.specs.declared.simple.Sending.TheVariants as sending
 use Rattle.cs_code.specs.declared.value.Value.{Value}
 use Rattle.cs_code.specs.declared.value.Value.TheVariants as value
 use Rattle.cs_code.specs.inner.Code.{keep_code, pass_block_code, out_ops, out_at_ops}
-use Rattle.cs_code.specs.inner.Frames.{Frame}
 
-abbrev pub frame_of : Bases → Frame
-frame_of b = record { kept = b.kept; base = at_rate b.temporaries }
+-- what is lowered: expressions that are lent, and what a variable takes
+abbrev pub expressions_of : List (Bor TypedExpr) → List Expression
+expressions_of es = map (λ e. typed.expression e.now) es
 
--- what is lowered, its local variables numbered on from where those of the routine at hand begin: variables, an
--- expression, expressions that are lent, and what a variable takes
-abbrev pub variable_of : Bases → Variable → Variable
-variable_of b v = moved_variable b.locals v
-
-abbrev pub expression_of : Bases → TypedExpr → Expression
-expression_of b e = moved_expression b.locals (typed.expression e)
-
-abbrev pub expressions_of : Bases → List (Bor TypedExpr) → List Expression
-expressions_of b es = map (λ e. expression_of b e.now) es
-
-abbrev pub value_of : Bases → Value → Expression
-value_of b (value.Of e) = expression_of b e.now
-value_of b (value.Read r v) = var r (variable_of b v)
-value_of b (value.Mixed v e) = plus rate.Audio (variable_of b v) (expression_of b e.now)
-value_of b value.Zero = number rate.Init (pos 0)
+abbrev pub value_of : Value → Expression
+value_of (value.Of e) = typed.expression e.now
+value_of (value.Read r v) = var r v
+value_of (value.Mixed v e) = plus rate.Audio v (typed.expression e.now)
+value_of value.Zero = number rate.Init (pos 0)
 
 -- an assignment: how often it is done, the variable, and what it takes
 pub record Assigned : Type 0 where
@@ -73,19 +57,19 @@ pub record Assigned : Type 0 where
   pub to : Variable
   pub value : Expression
 
-abbrev pub assignment_of : Bases → Assignment → Assigned
-assignment_of b a = record { done = a.done; to = variable_of b a.to; value = value_of b a.value }
+abbrev pub assignment_of : Assignment → Assigned
+assignment_of a = record { done = a.done; to = a.to; value = value_of a.value }
 
 abbrev pub set_of : Assigned → Stmt
 set_of a = set a.done a.to a.value
 
 -- the code of the kept parts of an expression that changes, and the number after theirs
-abbrev pub parts_code : Frame → ℕ → Expression → List Op
-parts_code f at (neg r a) = keep_code f at a
-parts_code f at (pair r b y z) = keep_code f at y ++ keep_code f (past at y) z
-parts_code f at (pick r c y z) = keep_code f at c ++ (keep_code f (past at c) y ++ keep_code f (past (past at c) y) z)
-parts_code f at (apply r g a) = keep_code f at a
-parts_code f at _ = []
+abbrev pub parts_code : ℕ → Expression → List Op
+parts_code at (neg r a) = keep_code at a
+parts_code at (pair r b y z) = keep_code at y ++ keep_code (past at y) z
+parts_code at (pick r c y z) = keep_code at c ++ (keep_code (past at c) y ++ keep_code (past (past at c) y) z)
+parts_code at (apply r g a) = keep_code at a
+parts_code at _ = []
 
 abbrev pub parts_past : ℕ → Expression → ℕ
 parts_past at (neg r a) = past at a
@@ -94,42 +78,29 @@ parts_past at (pick r c a b) = past (past (past at c) a) b
 parts_past at (apply r f a) = past at a
 parts_past at _ = at
 
--- the arguments of a call, and its results
-abbrev pub argument_of : Bases → TypedArg → typed.Argument
-argument_of b a = moved_argument b.locals (typed.argument a)
-
-abbrev pub arguments_of : Bases → Call → List typed.Argument
-arguments_of b k = map (argument_of b) k.args.now
-
-abbrev pub variables_of : Bases → List Variable → List Variable
-variables_of b vs = map (variable_of b) vs
+-- the arguments of a call
+abbrev pub arguments_of : Call → List typed.Argument
+arguments_of k = map typed.argument k.args.now
 
 -- an argument, where it is taken
 abbrev pub taken : Bool → typed.Argument → List Expression
 taken b (typed.value e) = if b then e ∷ [] else []
 taken b (typed.text v) = []
 
--- what statements are lowered in: the zak spaces of the piece, how many local variables stand before those of the
--- routine at hand, and the routines that it may invoke
+-- what statements are lowered in: the zak spaces of the piece, and the routines that they may invoke
 pub record Scope : Type 0 where
   pub spaces : Spaces
-  pub locals : PerRate ℕ
   pub routines : List typed.Block
 
-abbrev pub scope_of : Spaces → Bases → List (Vec TypedStmt) → Scope
-scope_of spaces b list = record { spaces = spaces; locals = b.locals; routines = typed.routines list }
+abbrev pub scope_of : Spaces → List typed.Block → Scope
+scope_of spaces routines = record { spaces = spaces; routines = routines }
 
--- what the statements of a routine are lowered in whose local variables are numbered from a base on
-abbrev pub invoked : Context → PerRate ℕ → Context
-invoked c base = record c { bases = record c.bases { locals = typed.counts_with c.bases.locals base } }
-
--- a block of the tree as it is lowered; a statement that stands alone; statements, one of them, and what the routine
--- of a number does
+-- a block of the tree as it is lowered; a statement that stands alone; statements, and one of them
 abbrev pub core_in : Scope → typed.Block → Block
-core_in o b = core o.spaces (typed.moved_block o.locals b)
+core_in o b = core o.spaces b
 
-abbrev pub alone_in : Spaces → Bases → typed.Statement → Block
-alone_in spaces b x = core spaces (typed.moved_block b.locals (typed.alone x))
+abbrev pub alone_in : Spaces → typed.Statement → Block
+alone_in spaces x = core spaces (typed.alone x)
 
 abbrev pub block_in : Scope → List TypedStmt → Block
 block_in o stmts = core_in o (typed.block o.routines stmts)
@@ -137,15 +108,13 @@ block_in o stmts = core_in o (typed.block o.routines stmts)
 abbrev pub statement_in : Scope → TypedStmt → Block
 statement_in o s = core_in o (typed.statement o.routines s)
 
-abbrev pub routine_in : Scope → ℕ → Block
-routine_in o n = core_in o (typed.routine_at o.routines n)
+-- what the routine of a number does, its local variables numbered from a base on
+abbrev pub invoked_in : Scope → ℕ → PerRate ℕ → Block
+invoked_in o k base = core_in o (typed.moved_block base (typed.routine_at o.routines k))
 
--- a condition; and arms, with the statements after `else`
-abbrev pub expression_in : Scope → TypedExpr → Expression
-expression_in o e = moved_expression o.locals (typed.expression e)
-
+-- arms, with the statements after `else`
 abbrev pub arms_in : Scope → typed.Block → List TypedArm → Arms
-arms_in o els arms = core_arms o.spaces (typed.moved_arms o.locals (typed.arms o.routines els arms))
+arms_in o els arms = core_arms o.spaces (typed.arms o.routines els arms)
 
 -- when a code runs
 abbrev pub when_of : Pass → When
@@ -153,10 +122,10 @@ when_of pass.Initialisation = beginning
 when_of pass.Performance = cycle
 
 -- an arm that is initialised whatever its condition is
-abbrev pub each_arm_code : Frame → ℕ → Progress → Expression → Block → List Op
-each_arm_code f place p c b =
-    keep_code f p.part c
-    ++ pass_block_code pass.Initialisation f (place + length (keep_code f p.part c)) (past_parts (past p.part c) p) b
+abbrev pub each_arm_code : ℕ → Progress → Expression → Block → List Op
+each_arm_code place p c b =
+    keep_code p.part c
+    ++ pass_block_code pass.Initialisation (place + length (keep_code p.part c)) (past_parts (past p.part c) p) b
 
 -- what is known of one of some expressions, counted from 0: of a literal the whole number below it
 abbrev pub known_of : Expression → KnownArgument
@@ -192,8 +161,8 @@ zak_known spaces (shape.ZakClear s) x y = span_known (places_of spaces s) x y
 zak_known spaces _ x y = reach.Nothing
 
 -- what a call is short for by a shape
-abbrev pub call_of : Spaces → Bases → Call → Shape → Stmt
-call_of o b k sh = core_call o k.rate (variables_of b k.results.now) k.opcode sh (arguments_of b k)
+abbrev pub call_of : Spaces → Call → Shape → Stmt
+call_of o k sh = core_call o k.rate k.results.now k.opcode sh (arguments_of k)
 
 -- whether the arms of an `if` are all initialised, while nothing is chosen yet
 abbrev pub takes_all : Pass → Rate → Bool
@@ -213,8 +182,8 @@ assigned _ r vs args = None
 
 -- what is found is the assignment that a call is short for by a shape, or that there is none
 abbrev pub IsAssignmentOf : Option Assignment → Shape → Call → Type 0
-IsAssignmentOf found sh k = (b : Bases)
-    → option_map (assignment_of b) found ≡ assigned sh k.rate (variables_of b k.results.now) (arguments_of b k)
+IsAssignmentOf found sh k =
+    option_map assignment_of found ≡ assigned sh k.rate k.results.now (arguments_of k)
 
 -- the shape of a call that puts a value into a channel
 abbrev pub put_shape : Putting → Shape
@@ -235,8 +204,8 @@ effect o r vs opcode shape.Turnoff args = turnoff r
 effect o r vs opcode shape.Ask args = ask (values_of args)
 effect o r vs opcode _ args = nothing
 
-abbrev pub effect_of : Spaces → Bases → Call → Shape → Stmt
-effect_of o b k sh = effect o k.rate (variables_of b k.results.now) k.opcode sh (arguments_of b k)
+abbrev pub effect_of : Spaces → Call → Shape → Stmt
+effect_of o k sh = effect o k.rate k.results.now k.opcode sh (arguments_of k)
 
 -- values go out, to the channels in turn or each to that of its number
 abbrev pub sent_as : Sending → Rate → List Expression → Stmt

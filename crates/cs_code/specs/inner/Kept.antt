@@ -110,11 +110,6 @@ abbrev pub inward : Path → Path → Path
 inward [] p = p
 inward (k ∷ q) p = inward q (k ∷ p)
 
--- a number as that of a register, from a first one on
-abbrev pub register_from : ℕ → Option ℕ → Option ℕ
-register_from first None = None
-register_from first (Some n) = Some (first + n)
-
--- the registers of what a block keeps
-abbrev pub registers : ℕ → Block → Path → Option ℕ
-registers first b p = register_from first (block_numbers start b (inward p []))
+-- the numbers of what a block keeps
+abbrev pub registers : Block → Path → Option ℕ
+registers b p = block_numbers start b (inward p [])

@@ -1,21 +1,17 @@
 use Rattle.std.proofs.Common.{◌≡◌, ◌++◌, drop}
-use Rattle.cs_code.specs.inner.Kept.{past_all}
 use Rattle.cs_code.specs.inner.Code.{operands_code}
-use Rattle.cs_code.specs.inner.Emitted.{frame_of, expressions_of, when_of}
-use Rattle.cs_code.specs.inner.Frames.{spots}
+use Rattle.cs_code.specs.inner.Emitted.{expressions_of, when_of}
+use Rattle.cs_code.specs.inner.Kept.{past_all}
+use Rattle.cs_code.specs.inner.Spots.{spots}
+use Rattle.cs_code.proofs.Growing.{Leads}
 use Rattle.cs_code.proofs.args.gather.Given as goal
 
 -- what is made, and what the rest will make
 abbrev pub invariant-loop-e : goal.invariant-loop-e
 invariant-loop-e l =
-    (l.ops ++ operands_code (frame_of l.context.bases) (when_of l.context.pass) l.next
-    (expressions_of l.context.bases (drop l.e-index l.values)) l.d
-    ≡ l.initial.ops ++ operands_code (frame_of l.context.bases) (when_of l.context.pass) l.at
-    (expressions_of l.context.bases l.values) 0)
-    × (l.regs.items ++ spots (frame_of l.context.bases) (when_of l.context.pass) l.next
-    (expressions_of l.context.bases (drop l.e-index l.values)) l.d
-    ≡ l.initial.regs.items ++ spots (frame_of l.context.bases) (when_of l.context.pass) l.at
-    (expressions_of l.context.bases l.values)
-    0)
-    × (past_all l.next (expressions_of l.context.bases (drop l.e-index l.values)) ≡ past_all l.at
-    (expressions_of l.context.bases l.values))
+    Leads l.initial.ops l.ops
+    (operands_code (when_of l.context.pass) l.next (expressions_of (drop l.e-index l.values)) l.d)
+    (operands_code (when_of l.context.pass) l.at (expressions_of l.values) 0)
+    × (l.regs.items ++ spots (when_of l.context.pass) l.next (expressions_of (drop l.e-index l.values)) l.d
+    ≡ l.initial.regs.items ++ spots (when_of l.context.pass) l.at (expressions_of l.values) 0)
+    × (past_all l.next (expressions_of (drop l.e-index l.values)) ≡ past_all l.at (expressions_of l.values))

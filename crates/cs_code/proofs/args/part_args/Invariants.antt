@@ -1,19 +1,19 @@
 use Rattle.std.proofs.Common.{◌≡◌, ◌++◌, drop, map}
 use Rattle.cs_meaning.specs.Core.{settled, moving}
+use Rattle.cs_typed.specs.TypedTree.{argument}
 use Rattle.cs_words.specs.Catalogue.{row_of}
-use Rattle.cs_code.specs.declared.frame.Bases.{Bases}
-use Rattle.cs_code.specs.inner.Emitted.{argument_of, expressions_of}
+use Rattle.cs_code.specs.inner.Emitted.{expressions_of}
 use Rattle.cs_code.proofs.args.part_args.Given as goal
 
 -- what is parted, and what the rest will give
 abbrev pub invariant-loop-arg : goal.invariant-loop-arg
 invariant-loop-arg l =
     (l.place ≡ l.arg-index)
-    × ((b : Bases) → expressions_of b l.parted.settled.items
-    ++ settled (row_of l.call.opcode) l.place (map (argument_of b) (drop l.arg-index l.call.args.now))
-    ≡ expressions_of b l.initial.parted.settled.items
-    ++ settled (row_of l.call.opcode) 0 (map (argument_of b) l.call.args.now))
-    × ((b : Bases) → expressions_of b l.parted.moving.items
-    ++ moving (row_of l.call.opcode) l.place (map (argument_of b) (drop l.arg-index l.call.args.now))
-    ≡ expressions_of b l.initial.parted.moving.items
-    ++ moving (row_of l.call.opcode) 0 (map (argument_of b) l.call.args.now))
+    × (expressions_of l.parted.settled.items
+    ++ settled (row_of l.call.opcode) l.place (map argument (drop l.arg-index l.call.args.now))
+    ≡ expressions_of l.initial.parted.settled.items
+    ++ settled (row_of l.call.opcode) 0 (map argument l.call.args.now))
+    × (expressions_of l.parted.moving.items
+    ++ moving (row_of l.call.opcode) l.place (map argument (drop l.arg-index l.call.args.now))
+    ≡ expressions_of l.initial.parted.moving.items
+    ++ moving (row_of l.call.opcode) 0 (map argument l.call.args.now))

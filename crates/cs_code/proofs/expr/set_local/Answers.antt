@@ -1,25 +1,27 @@
-use Rattle.std.proofs.Common.{◌≡◌, ◌∙◌, ◌++◌, [], ◌∷◌, false, if◌then◌else◌, sym, ap, ap₂, append_assoc}
+use Rattle.std.proofs.Common.{◌≡◌, ◌∙◌, ◌++◌, [], ◌∷◌, false, if◌then◌else◌, sym, ap, ap₂, subst}
 use Rattle.cs_base.specs.Rates.{same_rate}
+use Rattle.cs_ir.proofs.Drafting.{grew_on}
+use Rattle.cs_ir.specs.Drafts.{Grew}
 use Rattle.cs_ir.specs.declared.op.Act.TheVariants as act
+use Rattle.cs_meaning.specs.Notes.{reg}
 use Rattle.cs_typed.specs.WellRated.{node_rate}
 use Rattle.cs_code.specs.inner.Code.{code, operand_code}
-use Rattle.cs_code.specs.inner.Emitted.{frame_of, value_of, when_of}
-use Rattle.cs_code.specs.inner.Frames.{op_of, spot}
+use Rattle.cs_code.specs.inner.Emitted.{value_of, when_of}
+use Rattle.cs_code.specs.inner.Spots.{op_of, spot}
 use Rattle.cs_code.proofs.expr.set_local.Goals as goal
 
 pub returns-in_ok-push-clause-ops : goal.returns-in_ok-push-clause-ops
 returns-in_ok-push-clause-ops c =
-    let f = frame_of c.args.context.bases in
-    let e = value_of c.args.context.bases c.args.value.now in
-    let to = c.args.to in
-    let old = c.args.ops.now in
-    let made = operand_code f (when_of c.args.context.pass) c.args.at e 0 in
-    let copy = op_of act.Copy to (spot f (when_of c.args.context.pass) c.args.at e 0 ∷ []) ∷ [] in
-    let other : same_rate (node_rate e) to.rate ≡ false =
-    sym (ap (λ r. same_rate r to.rate) (c.rate_of.ensures c.args.context.bases)) ∙ sym c.same.ensures
-    ∙ c.if-same.false in
-    c.in_ok-push.ensures
-    ∙ ap₂ (λ xs ys. xs ++ (op_of act.Copy to ys ∷ [])) c.in_ok-spot.ensures.ops
+    let e = value_of c.args.value.now in
+    let when = when_of c.args.context.pass in
+    let own = c.args.own in
+    let to = reg own c.args.index in
+    let made = operand_code when c.args.at e 0 in
+    let copy = op_of act.Copy to (spot when c.args.at e 0 ∷ []) ∷ [] in
+    let other : same_rate (node_rate e) own ≡ false =
+    sym (ap (λ r. same_rate r own) c.rate_of.ensures) ∙ sym c.same.ensures ∙ c.if-same.false in
+    subst (Grew c.args.ops.now c.push.new.ops)
+    (ap₂ (λ q ys. made ++ op_of act.Copy q ys ∷ []) c.in_ok-to.ensures
     (c.one.ensures ∙ ap (λ q. q ∷ []) c.in_ok-spot.ensures.spot)
-    ∙ append_assoc old made copy
-    ∙ sym (ap (λ b. old ++ (if b then code f (when_of c.args.context.pass) c.args.at e to 0 else made ++ copy)) other)
+    ∙ sym (ap (λ b. if b then code when c.args.at e to 0 else made ++ copy) other))
+    (grew_on c.args.ops.now c.spot_of.new.ops c.push.new.ops made _ c.in_ok-spot.ensures.ops c.in_ok-push.ensures)

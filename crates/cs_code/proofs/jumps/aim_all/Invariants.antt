@@ -1,8 +1,10 @@
-use Rattle.std.proofs.Common.{◌≡◌, drop}
-use Rattle.cs_code.specs.inner.Branches.{aim_all}
+use Rattle.std.proofs.Common.{ℕ, List, drop}
+use Rattle.std.specs.List.{AllZip}
+use Rattle.cs_ir.specs.Drafts.{IsAt}
+use Rattle.cs_code.proofs.Closing.{Closing}
 use Rattle.cs_code.proofs.jumps.aim_all.Given as goal
 
--- what is aimed, and what the rest will aim
-abbrev pub invariant-loop-place : goal.invariant-loop-place
-invariant-loop-place l =
-    aim_all (drop l.place-index l.places) l.end l.ops ≡ aim_all l.places l.end l.initial.ops
+abbrev pub invariant-loop-mark : goal.invariant-loop-mark
+invariant-loop-mark l =
+    (places : List ℕ) → AllZip (IsAt l.initial.ops) l.marks places
+    → Closing l.initial.ops l.ops (drop l.mark-index l.marks) places

@@ -2,7 +2,6 @@ use Rattle.std.proofs.Common.{map, take, sym, subst}
 use Rattle.std.specs.List.{All, AllZip}
 use Rattle.cs_typed.specs.Places.{inside}
 use Rattle.cs_typed.specs.TypedTree as typed
-use Rattle.cs_typed.specs.Variables.{IsCounted, EachInBlock}
 use Rattle.cs_typed.specs.WellRated.{IsRatedBlock}
 use Rattle.cs_code.specs.Lowered.{IsNumberedCode, bodies}
 use Rattle.cs_code.proofs.Instruments.{at_instrument, bodies_more}
@@ -20,14 +19,8 @@ add_instr-requires-clause-rated c =
           c.loop-instr-test.true c.instr-item.is,
     )
 
-pub add_instr-requires-clause-counted : goal.add_instr-requires-clause-counted
-add_instr-requires-clause-counted c =
-    let P = λ (i : typed.Instrument). EachInBlock (IsCounted i.locals) i.body in
-    let xs = c.deref-instr-items.result.now in
-    at_instrument (typed.routines c.args.orc.now.routines.items) P xs c.loop-instr.instr-index c.instr-item.result
-    (subst (λ l. All P (map (typed.instrument (typed.routines c.args.orc.now.routines.items)) l))
-    (sym c.deref-instr-items.ensures.value) c.requires.rated.locals)
-    c.loop-instr-test.true c.instr-item.is
+pub add_instr-requires-clause-library : goal.add_instr-requires-clause-library
+add_instr-requires-clause-library c = c.requires.library
 
 pub loop-instr-preserved : goal.loop-instr-preserved
 loop-instr-preserved c =

@@ -1,15 +1,15 @@
-use Rattle.std.proofs.Common.{◌∙◌, ◌++◌, ap}
+use Rattle.std.proofs.Common.{◌∙◌, ap, subst}
+use Rattle.cs_ir.specs.Drafts.{Grew}
 use Rattle.cs_ir.specs.declared.op.Act.TheVariants as act
 use Rattle.cs_meaning.specs.When.{beginning}
 use Rattle.cs_code.specs.inner.Code.{on_code}
-use Rattle.cs_code.specs.inner.Emitted.{frame_of, expressions_of, when_of}
+use Rattle.cs_code.specs.inner.Emitted.{expressions_of, when_of}
 use Rattle.cs_code.proofs.simple.seek.Goals as goal
 
 pub returns : goal.returns
 returns c =
-    let f = frame_of c.args.context.bases in
-    let old = c.args.ops.now in
-    let es = expressions_of c.args.context.bases c.args.settled.now in
+    let es = expressions_of c.args.settled.now in
+    subst (Grew c.args.ops.now c.push_on.new.ops)
+    (ap (λ w. on_code (when_of w) 0 act.Seek c.unwritten.result es) c.requires
+    ∙ ap (λ q. on_code beginning 0 act.Seek q es) c.unwritten.ensures)
     c.in_ok-push_on.ensures.ops
-    ∙ ap (λ w. old ++ on_code f (when_of w) 0 act.Seek c.unwritten.result es) c.requires
-    ∙ ap (λ q. old ++ on_code f beginning 0 act.Seek q es) c.unwritten.ensures

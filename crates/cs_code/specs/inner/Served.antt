@@ -1,0 +1,37 @@
+-- Routines, made once, as they serve those who invoke them.
+use Rattle.std.specs.Prelude.{◌≡◌, ◌+◌, ◌≤◌, ◌^◌, List, length, map}
+use Rattle.cs_base.specs.declared.spaces.Spaces.{Spaces}
+use Rattle.cs_ir.specs.Routines.{AreRoutines, library_in}
+use Rattle.cs_ir.specs.declared.op.Op.{Op}
+use Rattle.cs_meaning.specs.Core.{core}
+use Rattle.cs_typed.specs.TypedTree as typed
+use Rattle.cs_typed.specs.declared.tree.TypedOrc.{TypedOrc}
+use Rattle.cs_code.specs.declared.codes.Library.{Library}
+use Rattle.cs_code.specs.declared.frame.Pass.{Pass}
+use Rattle.cs_code.specs.declared.frame.Pass.TheVariants as pass
+use Rattle.cs_code.specs.declared.frame.Progress.{Progress}
+use Rattle.cs_code.specs.declared.routines.Routines.{Routines}
+use Rattle.cs_code.specs.inner.Code.{pass_block_code}
+use Rattle.cs_code.specs.inner.Kept.{start, past_block}
+
+-- so much further in a text
+abbrev pub further_on : Progress → Progress → Progress
+further_on p q = record { part = p.part + q.part; unit = p.unit + q.unit }
+
+-- Routines serve a code: each has its own code, from the first register and the first place on, and it is known how
+-- many values each keeps and how many units it meets.
+pub record Serve (way : Pass) (spaces : Spaces) (rs : List typed.Block) (made : List (List Op))
+    (known : List Progress) : Type 0 where
+  pub code : made ≡ map (λ b. pass_block_code way 0 start (core spaces b)) rs
+  pub extents : known ≡ map (λ b. past_block start (core spaces b)) rs
+
+-- Routines of an orchestra as one of a note's codes has them.
+pub record AreMade (way : Pass) (spaces : Spaces) (rs : List typed.Block) (m : Routines) : Type 0 where
+  pub serve : Serve way spaces rs (library_in m.list.value.items) m.extents.items
+  pub are : AreRoutines m.list.value.items
+  pub few : length m.list.value.items ≤ 2 ^ 31
+
+-- The routines of an orchestra as both codes have them.
+pub record IsLibraryOf (orc : TypedOrc) (l : Library) : Type 0 where
+  pub init : AreMade pass.Initialisation orc.spaces (typed.routines orc.routines.items) l.init
+  pub perf : AreMade pass.Performance orc.spaces (typed.routines orc.routines.items) l.perf
