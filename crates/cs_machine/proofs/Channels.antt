@@ -12,7 +12,7 @@ use Rattle.cs_machine.specs.Outputs.{ChannelFile, IsGiven, outs, refilled}
 use Rattle.cs_machine.specs.Rows.{HasFrames, row_of, row_wave}
 use Rattle.cs_machine.specs.inner.Kept.{AreRows}
 use Rattle.cs_machine.proofs.Frames.{apart, at_or_past, row_again, zeros_silent}
-use Rattle.cs_machine.proofs.Putting.{rows_kept, set_at_place}
+use Rattle.cs_machine.proofs.Putting.{lengths_kept, set_at_place}
 use Rattle.cs_signal.specs.Operands.{argument}
 use Rattle.cs_words.specs.declared.sign.BinOp.TheVariants as op
 
@@ -86,9 +86,9 @@ all_cleared rows k far done m = by_test (nat_lt m k)
 pub length_kept : (rows : List (List ℤ)) (n k : ℕ) (row : List ℤ) → k < length rows
     → row ≡ replicate (length (slice_index_or rows k [])) (pos 0)
     → AreRows n rows → AreRows n (slice_set rows k row)
-length_kept rows n k row low is all =
-    rows_kept n rows k row all low
-    (ap length is ∙ length-replicate (length (slice_index_or rows k [])) (pos 0) ∙ all k low)
+length_kept rows n k row low is all m less =
+    lengths_kept rows k row low (ap length is ∙ length-replicate (length (slice_index_or rows k [])) (pos 0)) m
+    ∙ all m (let e : length (slice_set rows k row) ≡ length rows = length-set rows k row in omega (arith, e, less))
 
 -- what follows where there is none
 pub if_none : {A P Q : Type 0} (o : Option A) → (P → Q) → IfNone o P → IfNone o Q

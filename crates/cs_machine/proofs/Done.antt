@@ -1,5 +1,6 @@
 -- What an act leaves of a state: the same room, and one register that was written.
 use Rattle.std.proofs.Common.{◌≡◌, ℕ, ℤ, List, length, map, Option, None, slice_index_or, sym, ◌∙◌, ap}
+use Rattle.cs_ir.specs.Registers.{rate_at}
 use Rattle.cs_ir.specs.Machine.{acts, put, write}
 use Rattle.cs_ir.specs.Waves.{Wave, held}
 use Rattle.cs_ir.specs.declared.op.Act.{Act}
@@ -59,7 +60,7 @@ pub written_machine : (ksmps : ℕ) (old new : State) (into : Reg) (w : Wave) �
     → (next : ℕ) (asks : List (List ℤ)) (cause : Option Cause)
     → machine_of new after next asks cause ≡ write ksmps into w (machine_of old before next asks cause)
 written_machine ksmps old new into w rest frames written before after same next asks cause = λ i. record {
-  regs = (written.values ∙ ap (λ n. put (values old.regs) into (held n into.rate w)) frames) i;
+  regs = (written.values ∙ ap (λ n. put (values old.regs) into (held n (rate_at into) w)) frames) i;
   next = next;
   world = record {
     shared = same i;

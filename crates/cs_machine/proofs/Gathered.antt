@@ -1,9 +1,11 @@
 -- Arguments that stand for registers give a unit what the registers are.
 use Rattle.std.proofs.Common.{◌≡◌, ℕ, zero, suc, ◌+◌, ◌<◌, ◌≤◌, true, List, [], ◌∷◌, ◌++◌, length, map}
-use Rattle.std.proofs.Common.{nat_le, take, get_or, ℤ, refl, sym, subst, arith}
-use Rattle.std.specs.List.{All}
+use Rattle.std.proofs.Common.{nat_le, take, get_or, slice_get, ℤ, Bool, Some, None, refl, sym, ◌∙◌, ap, subst, arith}
+use Rattle.std.specs.List.{All, list_all}
+use Rattle.std.proofs.lemmas.Bool.{and_parts}
 use Rattle.std.proofs.lemmas.Bool.Decides.{nat_tests}
-use Rattle.std.proofs.lemmas.List.Elements.{All-cons, All-head, All-nil, All-tail}
+use Rattle.std.proofs.lemmas.List.Elements.{All-cons, All-nil}
+use Rattle.cs_base.proofs.Tests.{some_is}
 use Rattle.cs_words.proofs.EachOpcode.{of_all}
 use Rattle.cs_words.specs.declared.catalogue.Opcode.{Opcode}
 use Rattle.cs_ir.specs.Waves.{Wave}
@@ -22,11 +24,18 @@ few_test = of_all (λ o. nat_le (moving_count o) 7) refl
 pub few : (k : UnitState) (n : ℕ) → n ≡ moving_count (opcode_of k) → n ≤ 7
 few k n e = subst (λ m. m ≤ 7) (sym e) (let h = few_test (opcode_of k) in grind (arith, nat_tests))
 
--- what stands at a place of a list doesn't hang on what is read past its end
-default : {A : Type 0} (xs : List A) (j : ℕ) (d e : A) → j < length xs → get_or xs j d ≡ get_or xs j e
-default [] j d e low = absurd (omega (arith, low))
-default (x ∷ xs) zero d e low = refl
-default (x ∷ xs) (suc j) d e low = default xs j d e (omega (arith, low))
+-- what stands at a place of a list is one of it
+pub each_read : {A : Type 0} (p : A → Bool) (xs : List A) (n : ℕ) (x : A) → list_all p xs ≡ true
+    → slice_get xs n ≡ Some x → p x ≡ true
+each_read p [] n x all is = absurd (cc)
+each_read p (y ∷ xs) zero x all is = ap p (sym (some_is y x is)) ∙ (and_parts (p y) (list_all p xs) all).0
+each_read p (y ∷ xs) (suc n) x all is = each_read p xs n x (and_parts (p y) (list_all p xs) all).1 is
+
+-- nothing is missing before the end
+pub none_past : {A : Type 0} (xs : List A) (n : ℕ) → slice_get xs n ≡ None → length xs ≤ n
+none_past [] n is = omega arith
+none_past (y ∷ xs) zero is = absurd (cc)
+none_past (y ∷ xs) (suc n) is = let far = none_past xs n is in omega (arith, far)
 
 -- each of seven operands stands for its register
 pub seven_stand : (f : Reg → Wave) (rs : List Reg) (a b c d e g h : Operand)
@@ -67,9 +76,6 @@ three_first f rs a b c x0 x1 x2 most (suc zero) low = x1 low
 three_first f rs a b c x0 x1 x2 most (suc (suc zero)) low = x2 low
 three_first f rs a b c x0 x1 x2 most (suc (suc (suc j))) low = absurd (omega (arith, low, most))
 
-pub three_last : (P : Operand → Type 0) (a b c : Operand) → P a → P b → P c → All P (a ∷ b ∷ c ∷ [])
-three_last P a b c x0 x1 x2 = All-cons P a (b ∷ c ∷ []) x0 (All-cons P b (c ∷ []) x1 (All-cons P c [] x2 (All-nil P)))
-
 pub seven_last : (P : Operand → Type 0) (a b c d e g h : Operand) → P a → P b → P c → P d → P e → P g → P h
     → All P (a ∷ b ∷ c ∷ d ∷ e ∷ g ∷ h ∷ [])
 seven_last P a b c d e g h x0 x1 x2 x3 x4 x5 x6 =
@@ -77,13 +83,6 @@ seven_last P a b c d e g h x0 x1 x2 x3 x4 x5 x6 =
     (All-cons P b (c ∷ d ∷ e ∷ g ∷ h ∷ []) x1 (All-cons P c (d ∷ e ∷ g ∷ h ∷ []) x2
     (All-cons P d (e ∷ g ∷ h ∷ []) x3
     (All-cons P e (g ∷ h ∷ []) x4 (All-cons P g (h ∷ []) x5 (All-cons P h [] x6 (All-nil P)))))))
-
--- the first so many of elements of which all have something
-pub all_taken : {A : Type 0} (P : A → Type 0) (n : ℕ) (xs : List A) → All P xs → All P (take n xs)
-all_taken P zero xs all = All-nil P
-all_taken P (suc n) [] all = All-nil P
-all_taken P (suc n) (x ∷ xs) all =
-    All-cons P x (take n xs) (All-head P x xs all) (all_taken P n xs (All-tail P x xs all))
 
 -- operands that stand for registers, as many of them, are what the registers are
 pub same_inputs : (f : Reg → Wave) (os : List Operand) (rs : List Reg) (points : List ℤ) → length rs ≤ length os

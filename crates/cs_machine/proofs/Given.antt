@@ -1,10 +1,6 @@
 -- States of which a channel was given a row.
 use Rattle.std.proofs.Common.{◌≡◌, ℕ, ℤ, ◌-◌, ◌&&◌, Bool, true, false, List, length, map, nat_le, Option, Some, None}
-use Rattle.std.proofs.Common.{if◌then◌else◌, refl, sym, ◌∙◌, ap}
-use Rattle.std.proofs.lemmas.Bool.{false≢true}
-use Rattle.cs_base.specs.Rates.{is_audio}
-use Rattle.cs_base.specs.declared.resource.Rate.{Rate}
-use Rattle.cs_base.specs.declared.resource.Rate.TheVariants as rate
+use Rattle.std.proofs.Common.{if◌then◌else◌, sym, ◌∙◌, ap}
 use Rattle.cs_base.proofs.Tests.{some_is}
 use Rattle.cs_ir.specs.Machine.{Machine, acts, in_world}
 use Rattle.cs_ir.specs.Waves.{Wave}
@@ -15,7 +11,7 @@ use Rattle.cs_cells.specs.declared.footprint.Area.{Area}
 use Rattle.cs_meaning.specs.Model.{Cause, out_to, out_to_numbered}
 use Rattle.cs_meaning.specs.Pieces.{Piece}
 use Rattle.cs_machine.specs.Outputs.{IsGiven}
-use Rattle.cs_machine.specs.Registers.{reg, values}
+use Rattle.cs_machine.specs.Registers.{values}
 use Rattle.cs_voice_meaning.specs.Follows.{Kinds}
 use Rattle.cs_voice_meaning.specs.VoiceWorld.{VoiceState, voice_world}
 use Rattle.cs_machine.specs.declared.state.State.{State}
@@ -69,15 +65,6 @@ gives_to areas piece kinds counts act into from c w old new cells rest state giv
     row = ap (λ r. length r.items) rest.row ∙ state.row ∙ sym state.frames;
   }) state;
 }
-
--- a register of sound, by its number
-pub sound_register : (x : Reg) → is_audio x.rate ≡ true → reg rate.Audio x.index ≡ x
-sound_register x h = at x.rate x.index h
-  where
-    at : (r : Rate) (n : ℕ) → is_audio r ≡ true → reg rate.Audio n ≡ reg r n
-    at rate.Audio n h = refl
-    at rate.Init n h = absurd (false≢true h)
-    at rate.Control n h = absurd (false≢true h)
 
 -- what is given to the channel of a number, and nothing where there is no such channel
 pub numbered_channel : (channels : ℕ) (number : Option ℕ) (c : ℕ) (w : Wave) (x : VoiceState)

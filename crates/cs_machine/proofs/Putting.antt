@@ -1,24 +1,28 @@
--- One register written in a list of registers.
-use Rattle.std.proofs.Common.{◌≡◌, ℕ, ℤ, pos, ◌<◌, ◌≤◌, ◌==◌, Bool, true, false, List, [], length, map, replicate}
-use Rattle.std.proofs.Common.{nat_lt, slice_set, slice_index_or, if◌then◌else◌, refl, sym, ◌∙◌, ap, subst, arith}
-use Rattle.std.proofs.Common.{ltb-true}
+-- One register written among those of its kind.
+use Rattle.std.proofs.Common.{◌≡◌, ℕ, ℤ, pos, zero, suc, ◌<◌, ◌≤◌, ◌+◌, ◌-◌, ◌==◌, ◌&&◌, Bool, true, false, List, []}
+use Rattle.std.proofs.Common.{◌∷◌, length, map, replicate, nat_lt, slice_set, slice_index_or, if◌then◌else◌, refl, sym}
+use Rattle.std.proofs.Common.{◌∙◌, ap, subst, arith, ltb-true}
 use Rattle.std.specs.List.{range_with_len}
 use Rattle.std.proofs.lemmas.Bool.{eqb-true}
 use Rattle.std.proofs.lemmas.Bool.Decides.{nat_tests}
 use Rattle.std.proofs.lemmas.List.{get_or-set_same, get_or-set_other, get_or_past, get_or-map, length-map, map-set}
 use Rattle.std.proofs.lemmas.List.{length-set, length-replicate, get_or-replicate, ext_get_or}
 use Rattle.std.proofs.lemmas.List.FromFn.{get_or-map-range_with_len, length-map-range_with_len}
-use Rattle.cs_base.specs.Rates.{at_rate, is_audio}
+use Rattle.cs_base.specs.Rates.{is_audio}
 use Rattle.cs_base.specs.declared.resource.Rate.{Rate}
 use Rattle.cs_base.specs.declared.resource.Rate.TheVariants as rate
 use Rattle.cs_base.proofs.Tests.{by_test}
 use Rattle.cs_ir.specs.Machine.{put}
+use Rattle.cs_ir.specs.Registers.{at_kind, kind_number, rate_at, rate_of}
 use Rattle.cs_ir.specs.Validity.{has_register}
 use Rattle.cs_ir.specs.Values.{holds}
 use Rattle.cs_ir.specs.Waves.{Wave, chosen, held, silence, constant}
 use Rattle.cs_ir.specs.declared.register.Counts.{Counts}
+use Rattle.cs_ir.specs.declared.register.Kind.{Kind}
+use Rattle.cs_ir.specs.declared.register.Kind.TheVariants as kind
 use Rattle.cs_ir.specs.declared.register.Reg.{Reg}
-use Rattle.cs_machine.specs.Registers.{RegisterFile, IsWritten, regs_of, held_at, reg, values, filled}
+use Rattle.cs_machine.specs.Registers.{RegisterFile, IsWritten, filled, held_at, held_kinds, one_of, register, regs_of}
+use Rattle.cs_machine.specs.Registers.{row_in, sound_kinds, values}
 use Rattle.cs_machine.specs.Rows.{HasFrames, row_wave, row_of}
 use Rattle.cs_machine.specs.inner.Kept.{AreKept, AreRows}
 use Rattle.cs_machine.proofs.Frames.{apart, held_row, row_held, zeros_silent, row_again}
@@ -36,148 +40,436 @@ through : {A B : Type 0} (f : A → B) (b : Bool) (x y : A) → f (if b then x e
 through f true x y = refl
 through f false x y = refl
 
-pub put_init : (is ks : List ℤ) (rows : List (List ℤ)) (n : ℕ) (z : ℤ) → n < length is
-    → regs_of (slice_set is n z) ks rows ≡ put (regs_of is ks rows) (reg rate.Init n) (constant z)
-put_init is ks rows n z low = λ i q. at q.rate q.index i
+-- an item of a list of lists that was set in one of them
+pub set_in : {A : Type 0} (rows : List (List A)) (k n : ℕ) (x d : A) → k < length rows
+    → n < length (slice_index_or rows k []) → (j m : ℕ)
+    → slice_index_or (slice_index_or (slice_set rows k (slice_set (slice_index_or rows k []) n x)) j []) m d
+    ≡ (if j == k && m == n then x else slice_index_or (slice_index_or rows j []) m d)
+set_in rows k n x d row low j m =
+    let own = slice_index_or rows k [] in
+    let list = set_at_place rows k (slice_set own n x) [] row j in
+    by_test (j == k)
+    (λ yes. let same : j ≡ k = eqb-true j k yes in
+    ap (λ l. slice_index_or l m d) (list ∙ ap (λ b. if b then slice_set own n x else slice_index_or rows j []) yes)
+    ∙ set_at_place own n x d low m
+    ∙ ap (λ i. if m == n then x else slice_index_or (slice_index_or rows i []) m d) (sym same)
+    ∙ ap (λ b. if b && m == n then x else slice_index_or (slice_index_or rows j []) m d) (sym yes))
+    (λ no. ap (λ l. slice_index_or l m d)
+    (list ∙ ap (λ b. if b then slice_set own n x else slice_index_or rows j []) no)
+    ∙ ap (λ b. if b && m == n then x else slice_index_or (slice_index_or rows j []) m d) (sym no))
+
+-- the kinds that hold one number are the first five
+pub held_kind : (k : Kind) → is_audio (rate_of k) ≡ false → kind_number k < 5
+held_kind kind.LocalInit h = omega arith
+held_kind kind.LocalControl h = omega arith
+held_kind kind.Kept h = omega arith
+held_kind kind.TemporaryInit h = omega arith
+held_kind kind.TemporaryControl h = omega arith
+held_kind kind.LocalAudio h = absurd (cc)
+held_kind kind.TemporaryAudio h = absurd (cc)
+
+pub sound_kind : (k : Kind) → is_audio (rate_of k) ≡ true → kind_number k ≡ kind_number k - 5 + 5
+sound_kind kind.LocalInit h = absurd (cc)
+sound_kind kind.LocalControl h = absurd (cc)
+sound_kind kind.Kept h = absurd (cc)
+sound_kind kind.TemporaryInit h = absurd (cc)
+sound_kind kind.TemporaryControl h = absurd (cc)
+sound_kind kind.LocalAudio h = refl
+sound_kind kind.TemporaryAudio h = refl
+
+pub sound_number : (k : Kind) → is_audio (rate_of k) ≡ true → kind_number k - 5 < 2
+sound_number kind.LocalInit h = absurd (cc)
+sound_number kind.LocalControl h = absurd (cc)
+sound_number kind.Kept h = absurd (cc)
+sound_number kind.TemporaryInit h = absurd (cc)
+sound_number kind.TemporaryControl h = absurd (cc)
+sound_number kind.LocalAudio h = omega arith
+sound_number kind.TemporaryAudio h = omega arith
+
+-- ---- a number written
+
+module _ (ones : List (List ℤ)) (rows : List (List (List ℤ))) (q : Reg) (z : ℤ) where
+  abbrev new_ones : List (List ℤ)
+  new_ones = slice_set ones (kind_number q.kind) (slice_set (slice_index_or ones (kind_number q.kind) []) q.offset z)
+
+  pub put_held : is_audio (rate_at q) ≡ false → kind_number q.kind < length ones
+      → q.offset < length (slice_index_or ones (kind_number q.kind) [])
+      → regs_of new_ones rows ≡ put (regs_of ones rows) q (constant z)
+  put_held slow kind_there low = λ i p. at p.kind p.offset i
+    where
+      k : ℕ
+      k = kind_number q.kind
+
+      first : k < 5
+      first = held_kind q.kind slow
+
+      one : (j m : ℕ) → one_of new_ones j m ≡ (if j == k && m == q.offset then constant z else one_of ones j m)
+      one j m = ap constant (set_in ones k q.offset z (pos 0) kind_there low j m)
+          ∙ through constant (j == k && m == q.offset) z (argument (slice_index_or ones j []) m)
+
+      other : (j m : ℕ) → 5 ≤ j → row_in rows (j - 5) m
+          ≡ (if j == k && m == q.offset then constant z else row_in rows (j - 5) m)
+      other j m far =
+          let no : (j == k) ≡ false = grind (arith, nat_tests) in
+          sym (ap (λ b. if b && m == q.offset then constant z else row_in rows (j - 5) m) no)
+
+      at : (j : Kind) (m : ℕ) → held_at new_ones rows j m ≡ put (regs_of ones rows) q (constant z) (register j m)
+      at kind.LocalInit m = one 0 m
+      at kind.LocalControl m = one 1 m
+      at kind.Kept m = one 2 m
+      at kind.TemporaryInit m = one 3 m
+      at kind.TemporaryControl m = one 4 m
+      at kind.LocalAudio m = other 5 m (omega arith)
+      at kind.TemporaryAudio m = other 6 m (omega arith)
+
+-- ---- a row written
+
+module _ (ones : List (List ℤ)) (rows : List (List (List ℤ))) (q : Reg) (row : List ℤ) where
+  abbrev new_rows : List (List (List ℤ))
+  new_rows = slice_set rows (kind_number q.kind - 5)
+      (slice_set (slice_index_or rows (kind_number q.kind - 5) []) q.offset row)
+
+  pub put_sound : is_audio (rate_at q) ≡ true → kind_number q.kind - 5 < length rows
+      → q.offset < length (slice_index_or rows (kind_number q.kind - 5) [])
+      → regs_of ones new_rows ≡ put (regs_of ones rows) q (row_wave row)
+  put_sound sound kind_there low = λ i p. at p.kind p.offset i
+    where
+      k : ℕ
+      k = kind_number q.kind - 5
+
+      behind : kind_number q.kind ≡ k + 5
+      behind = sound_kind q.kind sound
+
+      one : (j m : ℕ) → row_in new_rows j m
+          ≡ (if j + 5 == kind_number q.kind && m == q.offset then row_wave row else row_in rows j m)
+      one j m =
+          let same : (j == k) ≡ (j + 5 == kind_number q.kind) = grind (arith, nat_tests, behind) in
+          ap row_wave (set_in rows k q.offset row [] kind_there low j m)
+          ∙ through row_wave (j == k && m == q.offset) row (slice_index_or (slice_index_or rows j []) m [])
+          ∙ ap (λ b. if b && m == q.offset then row_wave row else row_in rows j m) same
+
+      other : (j m : ℕ) → j < 5 → one_of ones j m
+          ≡ (if j == kind_number q.kind && m == q.offset then row_wave row else one_of ones j m)
+      other j m near =
+          let no : (j == kind_number q.kind) ≡ false = grind (arith, nat_tests, behind) in
+          sym (ap (λ b. if b && m == q.offset then row_wave row else one_of ones j m) no)
+
+      at : (j : Kind) (m : ℕ) → held_at ones new_rows j m ≡ put (regs_of ones rows) q (row_wave row) (register j m)
+      at kind.LocalInit m = other 0 m (omega arith)
+      at kind.LocalControl m = other 1 m (omega arith)
+      at kind.Kept m = other 2 m (omega arith)
+      at kind.TemporaryInit m = other 3 m (omega arith)
+      at kind.TemporaryControl m = other 4 m (omega arith)
+      at kind.LocalAudio m = one 0 m
+      at kind.TemporaryAudio m = one 1 m
+
+-- ---- registers that were just made
+
+pub zeros_held : (n m : ℕ) → constant (argument (replicate n (pos 0)) m) ≡ silence
+zeros_held n m = ap constant (ap (λ f. f m) (zeros_silent n))
+
+pub zeros_sound : (n ksmps m : ℕ) → row_wave (slice_index_or (replicate n (replicate ksmps (pos 0))) m []) ≡ silence
+zeros_sound n ksmps m = by_test (nat_lt m n)
+    (λ yes. let low : m < n = grind (arith, nat_tests) in
+    ap row_wave (get_or-replicate n m (replicate ksmps (pos 0)) [] low) ∙ zeros_silent ksmps)
+    (λ no. let far : n ≤ m = grind (arith, nat_tests) in
+    ap row_wave (get_or_past (replicate n (replicate ksmps (pos 0))) m []
+    (let e : length (replicate n (replicate ksmps (pos 0))) ≡ n =
+    length-replicate n (replicate ksmps (pos 0)) in omega (arith, far, e))))
+
+abbrev pub zeros_of : Counts → List Kind → List (List ℤ)
+zeros_of counts kinds = map (λ k. replicate (at_kind counts.registers k) (pos 0)) kinds
+
+abbrev pub rows_of_zeros : Counts → ℕ → List Kind → List (List (List ℤ))
+rows_of_zeros counts ksmps kinds =
+    map (λ k. replicate (at_kind counts.registers k) (replicate ksmps (pos 0))) kinds
+
+-- zeros in every register are silence
+pub new_silent : (counts : Counts) (ksmps : ℕ)
+    → regs_of (zeros_of counts held_kinds) (rows_of_zeros counts ksmps sound_kinds) ≡ (λ q. silence)
+new_silent counts ksmps = λ t q. at q.kind q.offset t
   where
-    at : (r : Rate) (m : ℕ) → held_at (slice_set is n z) ks rows r m ≡ put (regs_of is ks rows) (reg rate.Init n)
-        (constant z) (reg r m)
-    at rate.Init m = ap constant (set_at_place is n z (pos 0) low m) ∙ through constant (m == n) z (argument is m)
-    at rate.Control m = refl
-    at rate.Audio m = refl
+    n : Kind → ℕ
+    n k = at_kind counts.registers k
 
-pub put_control : (is ks : List ℤ) (rows : List (List ℤ)) (n : ℕ) (z : ℤ) → n < length ks
-    → regs_of is (slice_set ks n z) rows ≡ put (regs_of is ks rows) (reg rate.Control n) (constant z)
-put_control is ks rows n z low = λ i q. at q.rate q.index i
+    at : (k : Kind) (m : ℕ)
+        → held_at (zeros_of counts held_kinds) (rows_of_zeros counts ksmps sound_kinds) k m ≡ silence
+    at kind.LocalInit m = zeros_held (at_kind counts.registers kind.LocalInit) m
+    at kind.LocalControl m = zeros_held (at_kind counts.registers kind.LocalControl) m
+    at kind.Kept m = zeros_held (at_kind counts.registers kind.Kept) m
+    at kind.TemporaryInit m = zeros_held (at_kind counts.registers kind.TemporaryInit) m
+    at kind.TemporaryControl m = zeros_held (at_kind counts.registers kind.TemporaryControl) m
+    at kind.LocalAudio m = zeros_sound (at_kind counts.registers kind.LocalAudio) ksmps m
+    at kind.TemporaryAudio m = zeros_sound (at_kind counts.registers kind.TemporaryAudio) ksmps m
+
+-- ---- as many registers as there were
+
+-- the lists of a list are as long as they were where one is set to one as long
+pub lengths_kept : {A : Type 0} (rows : List (List A)) (k : ℕ) (own : List A) → k < length rows
+    → length own ≡ length (slice_index_or rows k []) → (j : ℕ)
+    → length (slice_index_or (slice_set rows k own) j []) ≡ length (slice_index_or rows j [])
+lengths_kept rows k own there long j =
+    ap length (set_at_place rows k own [] there j) ∙ through length (j == k) own (slice_index_or rows j [])
+    ∙ by_test (j == k)
+    (λ yes. ap (λ b. if b then length own else length (slice_index_or rows j [])) yes ∙ long
+    ∙ ap (λ i. length (slice_index_or rows i [])) (sym (eqb-true j k yes)))
+    (λ no. ap (λ b. if b then length own else length (slice_index_or rows j [])) no)
+
+pub held_kept : (ones : List (List ℤ)) (rows : List (List (List ℤ))) (counts : Counts) (ksmps : ℕ) (q : Reg) (z : ℤ)
+    → AreKept ones rows counts ksmps → is_audio (rate_at q) ≡ false
+    → AreKept (slice_set ones (kind_number q.kind) (slice_set (slice_index_or ones (kind_number q.kind) []) q.offset z))
+    rows counts ksmps
+held_kept ones rows counts ksmps q z kept slow = record {
+  kinds = length-set ones k own ∙ kept.kinds;
+  sound_kinds = kept.sound_kinds;
+  held = λ j s. lengths_kept ones k own there long (kind_number j) ∙ kept.held j s;
+  sounds = kept.sounds;
+  long = kept.long;
+}
   where
-    at : (r : Rate) (m : ℕ) → held_at is (slice_set ks n z) rows r m ≡ put (regs_of is ks rows) (reg rate.Control n)
-        (constant z) (reg r m)
-    at rate.Init m = refl
-    at rate.Control m = ap constant (set_at_place ks n z (pos 0) low m) ∙ through constant (m == n) z (argument ks m)
-    at rate.Audio m = refl
+    k : ℕ
+    k = kind_number q.kind
 
-pub put_audio : (is ks : List ℤ) (rows : List (List ℤ)) (n : ℕ) (row : List ℤ) → n < length rows
-    → regs_of is ks (slice_set rows n row) ≡ put (regs_of is ks rows) (reg rate.Audio n) (row_wave row)
-put_audio is ks rows n row low = λ i q. at q.rate q.index i
+    own : List ℤ
+    own = slice_set (slice_index_or ones k []) q.offset z
+
+    there : k < length ones
+    there = let low = held_kind q.kind slow in omega (arith, low, kept.kinds)
+
+    long : length own ≡ length (slice_index_or ones k [])
+    long = length-set (slice_index_or ones k []) q.offset z
+
+pub sound_kept : (ones : List (List ℤ)) (rows : List (List (List ℤ))) (counts : Counts) (ksmps : ℕ) (q : Reg)
+    (row : List ℤ)
+    → AreKept ones rows counts ksmps → is_audio (rate_at q) ≡ true → length row ≡ ksmps
+    → q.offset < length (slice_index_or rows (kind_number q.kind - 5) [])
+    → AreKept ones (slice_set rows (kind_number q.kind - 5)
+    (slice_set (slice_index_or rows (kind_number q.kind - 5) []) q.offset row)) counts ksmps
+sound_kept ones rows counts ksmps q row kept sound full low = record {
+  kinds = kept.kinds;
+  sound_kinds = length-set rows k own ∙ kept.sound_kinds;
+  held = kept.held;
+  sounds = λ j s. lengths_kept rows k own there long (kind_number j - 5) ∙ kept.sounds j s;
+  long = λ j m less. ap length (set_in rows k q.offset row [] there low j m)
+      ∙ through length (j == k && m == q.offset) row (slice_index_or (slice_index_or rows j []) m [])
+      ∙ either (j == k && m == q.offset) (slice_index_or (slice_index_or rows j []) m [])
+      (kept.long j m (let e = lengths_kept rows k own there long j in omega (arith, e, less)));
+}
   where
-    at : (r : Rate) (m : ℕ) → held_at is ks (slice_set rows n row) r m ≡ put (regs_of is ks rows) (reg rate.Audio n)
-        (row_wave row) (reg r m)
-    at rate.Init m = refl
-    at rate.Control m = refl
-    at rate.Audio m = ap row_wave (set_at_place rows n row [] low m)
-        ∙ through row_wave (m == n) row (slice_index_or rows m [])
+    k : ℕ
+    k = kind_number q.kind - 5
 
--- rows keep their length when one is set to a row of that length
-pub rows_kept : (ksmps : ℕ) (rows : List (List ℤ)) (n : ℕ) (row : List ℤ) → AreRows ksmps rows → n < length rows
-    → length row ≡ ksmps
-    → AreRows ksmps (slice_set rows n row)
-rows_kept ksmps rows n row all low long m h =
-    ap length (set_at_place rows n row [] low m) ∙ through length (m == n) row (slice_index_or rows m [])
-    ∙ either (m == n) (all m
-    (let e : length (slice_set rows n row) ≡ length rows = length-set rows n row in omega (arith, h, e)))
+    own : List (List ℤ)
+    own = slice_set (slice_index_or rows k []) q.offset row
+
+    there : k < length rows
+    there = let low = sound_number q.kind sound in omega (arith, low, kept.sound_kinds)
+
+    long : length own ≡ length (slice_index_or rows k [])
+    long = length-set (slice_index_or rows k []) q.offset row
+
+    either : (b : Bool) (other : List ℤ) → length other ≡ ksmps → (if b then length row else length other) ≡ ksmps
+    either true other o = full
+    either false other o = o
+
+pub new_kept : (counts : Counts) (ksmps : ℕ)
+    → AreKept (zeros_of counts held_kinds) (rows_of_zeros counts ksmps sound_kinds) counts ksmps
+new_kept counts ksmps = record {
+  kinds = refl;
+  sound_kinds = refl;
+  held = ones;
+  sounds = rows;
+  long = long;
+}
   where
-    either : (b : Bool) → length (slice_index_or rows m []) ≡ ksmps
-        → (if b then length row else length (slice_index_or rows m [])) ≡ ksmps
-    either true o = long
-    either false o = o
+    n : Kind → ℕ
+    n k = at_kind counts.registers k
 
--- zeros at every rate are silence
-pub new_silent : (i k a ksmps : ℕ)
-    → regs_of (replicate i (pos 0)) (replicate k (pos 0)) (replicate a (replicate ksmps (pos 0))) ≡ (λ q. silence)
-new_silent i k a ksmps = λ t q. at q.rate q.index t
-  where
-    zero_at : (n m : ℕ) → argument (replicate n (pos 0)) m ≡ pos 0
-    zero_at n m = ap (λ f. f m) (zeros_silent n)
+    ones : (k : Kind) → is_audio (rate_of k) ≡ false
+        → length (slice_index_or (zeros_of counts held_kinds) (kind_number k) []) ≡ n k
+    ones kind.LocalInit s = length-replicate (n kind.LocalInit) (pos 0)
+    ones kind.LocalControl s = length-replicate (n kind.LocalControl) (pos 0)
+    ones kind.Kept s = length-replicate (n kind.Kept) (pos 0)
+    ones kind.TemporaryInit s = length-replicate (n kind.TemporaryInit) (pos 0)
+    ones kind.TemporaryControl s = length-replicate (n kind.TemporaryControl) (pos 0)
+    ones kind.LocalAudio s = absurd (cc)
+    ones kind.TemporaryAudio s = absurd (cc)
 
-    row_at : (n m : ℕ) → row_wave (slice_index_or (replicate n (replicate ksmps (pos 0))) m []) ≡ silence
-    row_at n m = by_test (nat_lt m n)
-        (λ yes. let low : m < n =
-        grind (arith, nat_tests) in ap row_wave (get_or-replicate n m (replicate ksmps (pos 0)) [] low)
-        ∙ zeros_silent ksmps)
-        (λ no. let far : n ≤ m =
-        grind (arith, nat_tests) in ap row_wave
-        (get_or_past (replicate n (replicate ksmps (pos 0))) m []
-        (let e : length (replicate n (replicate ksmps (pos 0))) ≡ n =
-        length-replicate n (replicate ksmps (pos 0)) in omega (arith, far, e))))
+    rows : (k : Kind) → is_audio (rate_of k) ≡ true
+        → length (slice_index_or (rows_of_zeros counts ksmps sound_kinds) (kind_number k - 5) []) ≡ n k
+    rows kind.LocalInit s = absurd (cc)
+    rows kind.LocalControl s = absurd (cc)
+    rows kind.Kept s = absurd (cc)
+    rows kind.TemporaryInit s = absurd (cc)
+    rows kind.TemporaryControl s = absurd (cc)
+    rows kind.LocalAudio s = length-replicate (n kind.LocalAudio) (replicate ksmps (pos 0))
+    rows kind.TemporaryAudio s = length-replicate (n kind.TemporaryAudio) (replicate ksmps (pos 0))
 
-    at : (r : Rate) (m : ℕ) → held_at (replicate i (pos 0)) (replicate k (pos 0))
-        (replicate a (replicate ksmps (pos 0))) r m ≡ silence
-    at rate.Init m = ap constant (zero_at i m)
-    at rate.Control m = ap constant (zero_at k m)
-    at rate.Audio m = row_at a m
+    all_long : (count : ℕ) → AreRows ksmps (replicate count (replicate ksmps (pos 0)))
+    all_long count m low =
+        let e = length-replicate count (replicate ksmps (pos 0)) in
+        ap length (get_or-replicate count m (replicate ksmps (pos 0)) [] (omega (arith, e, low)))
+        ∙ length-replicate ksmps (pos 0)
 
--- what holds values is known by them
-pub filled_again : (f : RegisterFile) → AreKept f.i f.k f.a f.counts f.ksmps → filled f (values f) ≡ f
-filled_again f h = λ t. record f
-    { i = helds f.i f.counts.registers.init h.i t; k = helds f.k f.counts.registers.control h.k t; a = all t }
-  where
-    helds : (xs : List ℤ) (n : ℕ) → length xs ≡ n → map (λ m. argument xs m) (range_with_len 0 n) ≡ xs
-    helds xs n long = row_again n xs long
+    long : (k : ℕ) → AreRows ksmps (slice_index_or (rows_of_zeros counts ksmps sound_kinds) k [])
+    long zero m low = all_long (n kind.LocalAudio) m low
+    long (suc zero) m low = all_long (n kind.TemporaryAudio) m low
+    long (suc (suc k)) m low = absurd (omega (arith, low))
 
-    row_at : (n : ℕ) → n < length f.a → row_of f.ksmps (row_wave (slice_index_or f.a n [])) ≡ slice_index_or f.a n []
-    row_at n low = row_again f.ksmps (slice_index_or f.a n []) (h.long n low)
+-- rows and numbers made for the registers of each kind
+pub five_made : (counts : Counts) (a b c d e : List ℤ)
+    → a ≡ replicate (at_kind counts.registers kind.LocalInit) (pos 0)
+    → b ≡ replicate (at_kind counts.registers kind.LocalControl) (pos 0)
+    → c ≡ replicate (at_kind counts.registers kind.Kept) (pos 0)
+    → d ≡ replicate (at_kind counts.registers kind.TemporaryInit) (pos 0)
+    → e ≡ replicate (at_kind counts.registers kind.TemporaryControl) (pos 0)
+    → a ∷ b ∷ c ∷ d ∷ e ∷ [] ≡ zeros_of counts held_kinds
+five_made counts a b c d e x y z v w = λ i. x i ∷ y i ∷ z i ∷ v i ∷ w i ∷ []
 
-    rows : List (List ℤ)
-    rows = map (λ n. row_of f.ksmps (row_wave (slice_index_or f.a n []))) (range_with_len 0 f.counts.registers.audio)
+pub two_made : (counts : Counts) (ksmps : ℕ) (a b : List (List ℤ))
+    → a ≡ replicate (at_kind counts.registers kind.LocalAudio) (replicate ksmps (pos 0))
+    → b ≡ replicate (at_kind counts.registers kind.TemporaryAudio) (replicate ksmps (pos 0))
+    → a ∷ b ∷ [] ≡ rows_of_zeros counts ksmps sound_kinds
+two_made counts ksmps a b x y = λ i. x i ∷ y i ∷ []
 
-    long : length rows ≡ f.counts.registers.audio
-    long = length-map-range_with_len (λ n. row_of f.ksmps (row_wave (slice_index_or f.a n []))) 0
-        f.counts.registers.audio
+pub made_silent : (counts : Counts) (ksmps : ℕ) (ones : List (List ℤ)) (rows : List (List (List ℤ)))
+    → ones ≡ zeros_of counts held_kinds → rows ≡ rows_of_zeros counts ksmps sound_kinds
+    → regs_of ones rows ≡ (λ q. silence)
+made_silent counts ksmps ones rows e h = (λ i. regs_of (e i) (h i)) ∙ new_silent counts ksmps
 
-    all : rows ≡ f.a
-    all = ext_get_or [] rows f.a (long ∙ sym h.a)
-        (λ n low. get_or-map-range_with_len (λ m. row_of f.ksmps (row_wave (slice_index_or f.a m []))) 0
-        f.counts.registers.audio n n [] (omega (arith, low, long)) (omega arith)
-        ∙ row_at n (omega (arith, low, long, h.a)))
+pub made_kept : (counts : Counts) (ksmps : ℕ) (ones : List (List ℤ)) (rows : List (List (List ℤ)))
+    → ones ≡ zeros_of counts held_kinds → rows ≡ rows_of_zeros counts ksmps sound_kinds
+    → AreKept ones rows counts ksmps
+made_kept counts ksmps ones rows e h =
+    subst (λ o. AreKept o rows counts ksmps) (sym e)
+    (subst (λ r. AreKept (zeros_of counts held_kinds) r counts ksmps) (sym h) (new_kept counts ksmps))
+
+-- ---- what holds values is known by them
+
+two : {A : Type 0} (xs : List A) (d : A) → length xs ≡ 2 → slice_index_or xs 0 d ∷ slice_index_or xs 1 d ∷ [] ≡ xs
+two [] d h = absurd (omega (arith, h))
+two (a ∷ []) d h = absurd (omega (arith, h))
+two (a ∷ b ∷ []) d h = refl
+two (a ∷ b ∷ c ∷ xs) d h = absurd (omega (arith, h))
+
+five : {A : Type 0} (xs : List A) (d : A) → length xs ≡ 5
+    → slice_index_or xs 0 d ∷ slice_index_or xs 1 d ∷ slice_index_or xs 2 d ∷ slice_index_or xs 3 d
+    ∷ slice_index_or xs 4 d ∷ [] ≡ xs
+five [] d h = absurd (omega (arith, h))
+five (a ∷ []) d h = absurd (omega (arith, h))
+five (a ∷ b ∷ []) d h = absurd (omega (arith, h))
+five (a ∷ b ∷ c ∷ []) d h = absurd (omega (arith, h))
+five (a ∷ b ∷ c ∷ e ∷ []) d h = absurd (omega (arith, h))
+five (a ∷ b ∷ c ∷ e ∷ f ∷ []) d h = refl
+five (a ∷ b ∷ c ∷ e ∷ f ∷ g ∷ xs) d h = absurd (omega (arith, h))
+
+module _ (f : RegisterFile) (h : AreKept f.held f.sounds f.counts f.ksmps) where
+  ones_again : (k : Kind) → is_audio (rate_of k) ≡ false
+      → map (λ m. argument (slice_index_or f.held (kind_number k) []) m)
+      (range_with_len 0 (at_kind f.counts.registers k))
+      ≡ slice_index_or f.held (kind_number k) []
+  ones_again k slow =
+      row_again (at_kind f.counts.registers k) (slice_index_or f.held (kind_number k) []) (h.held k slow)
+
+  rows_again : (k : Kind) → is_audio (rate_of k) ≡ true
+      → map (λ m. row_of f.ksmps (row_in f.sounds (kind_number k - 5) m))
+      (range_with_len 0 (at_kind f.counts.registers k))
+      ≡ slice_index_or f.sounds (kind_number k - 5) []
+  rows_again k sound =
+      let n : ℕ = at_kind f.counts.registers k in
+      let own : List (List ℤ) = slice_index_or f.sounds (kind_number k - 5) [] in
+      let row : ℕ → List ℤ = λ m. row_of f.ksmps (row_in f.sounds (kind_number k - 5) m) in
+      let long : length (map row (range_with_len 0 n)) ≡ n = length-map-range_with_len row 0 n in
+      let has : length own ≡ n = h.sounds k sound in
+      ext_get_or [] (map row (range_with_len 0 n)) own (long ∙ sym has)
+      (λ m low. get_or-map-range_with_len row 0 n m m [] (omega (arith, low, long)) (omega arith)
+      ∙ row_again f.ksmps (slice_index_or own m [])
+      (h.long (kind_number k - 5) m (omega (arith, low, long, has))))
+
+  pub filled_again : filled f (values f) ≡ f
+  filled_again = λ t. record f { held = helds t; sounds = all t }
+    where
+      helds : map (λ k. map (λ n. values f (register k n) 0) (range_with_len 0 (at_kind f.counts.registers k)))
+          held_kinds ≡ f.held
+      helds = (λ t. ones_again kind.LocalInit refl t ∷ ones_again kind.LocalControl refl t
+          ∷ ones_again kind.Kept refl t ∷ ones_again kind.TemporaryInit refl t
+          ∷ ones_again kind.TemporaryControl refl t ∷ []) ∙ five f.held [] h.kinds
+
+      all : map (λ k. map (λ n. row_of f.ksmps (values f (register k n)))
+          (range_with_len 0 (at_kind f.counts.registers k))) sound_kinds ≡ f.sounds
+      all = (λ t. rows_again kind.LocalAudio refl t ∷ rows_again kind.TemporaryAudio refl t ∷ [])
+          ∙ two f.sounds [] h.sound_kinds
 
 -- ---- one register written, in the words of the contract
 
-pub wrote_init : (f : RegisterFile) (q : Reg) (z : ℤ) → q.rate ≡ rate.Init → q.index < length f.i
-    → IsWritten f q (constant z) (record f { i = slice_set f.i q.index z })
-wrote_init f q z e low =
-    subst (λ r. IsWritten f (reg r q.index) (constant z) (record f { i = slice_set f.i q.index z })) (sym e)
-    (record { values = put_init f.i f.k f.a q.index z low; counts = refl; ksmps = refl })
-
-pub wrote_control : (f : RegisterFile) (q : Reg) (z : ℤ) → q.rate ≡ rate.Control → q.index < length f.k
-    → IsWritten f q (constant z) (record f { k = slice_set f.k q.index z })
-wrote_control f q z e low =
-    subst (λ r. IsWritten f (reg r q.index) (constant z) (record f { k = slice_set f.k q.index z })) (sym e)
-    (record { values = put_control f.i f.k f.a q.index z low; counts = refl; ksmps = refl })
-
-pub wrote_audio : (f : RegisterFile) (n : ℕ) (row : List ℤ) → length row ≡ f.ksmps → n < length f.a
-    → IsWritten f (reg rate.Audio n) (row_wave row) (record f { a = slice_set f.a n row })
-wrote_audio f n row long low = record {
-  values = put_audio f.i f.k f.a n row low ∙ ap (put (values f) (reg rate.Audio n)) (sym (held_row f.ksmps row long));
+pub wrote_held : (f : RegisterFile) (q : Reg) (z : ℤ) → is_audio (rate_at q) ≡ false
+    → kind_number q.kind < length f.held → q.offset < length (slice_index_or f.held (kind_number q.kind) [])
+    → IsWritten f q (constant z) (record f {
+      held = slice_set f.held (kind_number q.kind)
+          (slice_set (slice_index_or f.held (kind_number q.kind) []) q.offset z);
+    })
+wrote_held f q z slow there low = record {
+  values = put_held f.held f.sounds q z slow there low ∙ ap (put (values f) q) (constant_held (rate_at q) slow);
   counts = refl;
   ksmps = refl;
 }
+  where
+    constant_held : (r : Rate) → is_audio r ≡ false → constant z ≡ held f.ksmps r (constant z)
+    constant_held rate.Init s = refl
+    constant_held rate.Control s = refl
+    constant_held rate.Audio s = absurd (cc)
+
+pub wrote_sound : (f : RegisterFile) (q : Reg) (row : List ℤ) → is_audio (rate_at q) ≡ true → length row ≡ f.ksmps
+    → kind_number q.kind - 5 < length f.sounds
+    → q.offset < length (slice_index_or f.sounds (kind_number q.kind - 5) [])
+    → IsWritten f q (row_wave row) (record f {
+      sounds = slice_set f.sounds (kind_number q.kind - 5)
+          (slice_set (slice_index_or f.sounds (kind_number q.kind - 5) []) q.offset row);
+    })
+wrote_sound f q row sound long there low = record {
+  values = put_sound f.held f.sounds q row sound there low ∙ ap (put (values f) q) (row_is_held (rate_at q) sound);
+  counts = refl;
+  ksmps = refl;
+}
+  where
+    row_is_held : (r : Rate) → is_audio r ≡ true → row_wave row ≡ held f.ksmps r (row_wave row)
+    row_is_held rate.Init s = absurd (cc)
+    row_is_held rate.Control s = absurd (cc)
+    row_is_held rate.Audio s = sym (held_row f.ksmps row long)
 
 -- a row that has a value's frames was swapped in: the register holds the value
-pub wrote_frames : (f g : RegisterFile) (q : Reg) (w : Wave) (row : List ℤ) → q.rate ≡ rate.Audio → length row ≡ f.ksmps
-    → HasFrames w row
-    → IsWritten f (reg rate.Audio q.index) (row_wave row) g → IsWritten f q w g
-wrote_frames f g q w row e long frames wrote = subst (λ r. IsWritten f (reg r q.index) w g) (sym e)
-    (record {
-      values = wrote.values ∙ ap (put (values f) (reg rate.Audio q.index))
-          (held_row f.ksmps row long ∙ row_held f.ksmps w row long frames);
-      counts = wrote.counts;
-      ksmps = wrote.ksmps;
-    })
+pub wrote_frames : (f g : RegisterFile) (q : Reg) (w : Wave) (row : List ℤ) → is_audio (rate_at q) ≡ true
+    → length row ≡ f.ksmps → HasFrames w row → IsWritten f q (row_wave row) g → IsWritten f q w g
+wrote_frames f g q w row sound long frames wrote = record {
+  values = wrote.values ∙ ap (put (values f) q) (as_held (rate_at q) sound);
+  counts = wrote.counts;
+  ksmps = wrote.ksmps;
+}
+  where
+    as_held : (r : Rate) → is_audio r ≡ true → held f.ksmps r (row_wave row) ≡ held f.ksmps r w
+    as_held rate.Init s = absurd (cc)
+    as_held rate.Control s = absurd (cc)
+    as_held rate.Audio s = held_row f.ksmps row long ∙ row_held f.ksmps w row long frames
 
-pub wrote_row : (f g : RegisterFile) (q : Reg) (w : Wave) (swapped row : List ℤ) → swapped ≡ row → q.rate ≡ rate.Audio
-    → length row ≡ f.ksmps → HasFrames w row
-    → IsWritten f (reg rate.Audio q.index) (row_wave swapped) g → IsWritten f q w g
-wrote_row f g q w swapped row same e long frames wrote =
-    wrote_frames f g q w row e long frames (subst (λ r. IsWritten f (reg rate.Audio q.index) (row_wave r) g) same wrote)
+pub wrote_row : (f g : RegisterFile) (q : Reg) (w : Wave) (swapped row : List ℤ) → swapped ≡ row
+    → is_audio (rate_at q) ≡ true → length row ≡ f.ksmps → HasFrames w row
+    → IsWritten f q (row_wave swapped) g → IsWritten f q w g
+wrote_row f g q w swapped row same sound long frames wrote =
+    wrote_frames f g q w row sound long frames (subst (λ r. IsWritten f q (row_wave r) g) same wrote)
 
 -- a held register is the same at each frame
-pub held_still : (f : RegisterFile) (q : Reg) → is_audio q.rate ≡ false → (j : ℕ) → values f q j ≡ values f q 0
-held_still f q slow j = at q.rate slow
+pub held_still : (f : RegisterFile) (q : Reg) → is_audio (rate_at q) ≡ false → (j : ℕ) → values f q j ≡ values f q 0
+held_still f q slow j = at q.kind slow
   where
-    at : (r : Rate) → is_audio r ≡ false → held_at f.i f.k f.a r q.index j ≡ held_at f.i f.k f.a r q.index 0
-    at rate.Init s = refl
-    at rate.Control s = refl
-    at rate.Audio s = absurd (cc)
+    at : (k : Kind) → is_audio (rate_of k) ≡ false
+        → held_at f.held f.sounds k q.offset j ≡ held_at f.held f.sounds k q.offset 0
+    at kind.LocalInit s = refl
+    at kind.LocalControl s = refl
+    at kind.Kept s = refl
+    at kind.TemporaryInit s = refl
+    at kind.TemporaryControl s = refl
+    at kind.LocalAudio s = absurd (cc)
+    at kind.TemporaryAudio s = absurd (cc)
 
 -- of a condition that is held, one of the two is chosen throughout
 pub chosen_first : (c w v : Wave) → ((j : ℕ) → c j ≡ c 0) → holds (c 0) ≡ true → w ≡ chosen c w v
@@ -187,10 +479,10 @@ pub chosen_second : (c w v : Wave) → ((j : ℕ) → c j ≡ c 0) → holds (c 
 chosen_second c w v still it = λ i j. sym (ap (λ b. if b then w j else v j) (ap holds (still j) ∙ it)) i
 
 -- at a rate that is held a value's first frame is all of it
-pub wrote_first : (f g : RegisterFile) (q : Reg) (w : Wave) (z : ℤ) → is_audio q.rate ≡ false → z ≡ w 0
+pub wrote_first : (f g : RegisterFile) (q : Reg) (w : Wave) (z : ℤ) → is_audio (rate_at q) ≡ false → z ≡ w 0
     → IsWritten f q (constant z) g → IsWritten f q w g
 wrote_first f g q w z slow first wrote = record {
-  values = wrote.values ∙ ap (put (values f) q) (held_first q.rate slow);
+  values = wrote.values ∙ ap (put (values f) q) (held_first (rate_at q) slow);
   counts = wrote.counts;
   ksmps = wrote.ksmps;
 }
@@ -200,73 +492,125 @@ wrote_first f g q w z slow first wrote = record {
     held_first rate.Control s = λ i j. first i
     held_first rate.Audio s = absurd (cc)
 
--- ---- the same of the lists in memory, whose rows lie each in a vector
+-- ---- places of registers that are there
 
-pub set_init : (is ks : List ℤ) (rows : List (List ℤ)) (counts : Counts) (ksmps : ℕ) (f : RegisterFile) (q : Reg)
-    (z : ℤ)
-    → record { i = is; k = ks; a = rows; counts = counts; ksmps = ksmps } ≡ f → q.rate ≡ rate.Init → q.index < length is
-    → IsWritten f q (constant z)
-    (record { i = slice_set is q.index z; k = ks; a = rows; counts = counts; ksmps = ksmps })
-set_init is ks rows counts ksmps f q z same e low =
-    let old : RegisterFile = record { i = is; k = ks; a = rows; counts = counts; ksmps = ksmps } in
-    let new : RegisterFile = record { i = slice_set is q.index z; k = ks; a = rows; counts = counts; ksmps = ksmps } in
-    subst (λ g. IsWritten g q (constant z) new) same (wrote_init old q z e low)
+pub held_low : (ones : List (List ℤ)) (rows : List (List (List ℤ))) (counts : Counts) (ksmps : ℕ) (q : Reg)
+    → AreKept ones rows counts ksmps → has_register counts q ≡ true → is_audio (rate_at q) ≡ false
+    → q.offset < length (slice_index_or ones (kind_number q.kind) [])
+held_low ones rows counts ksmps q kept there slow =
+    let low : q.offset < at_kind counts.registers q.kind = ltb-true _ _ there in
+    omega (arith, low, kept.held q.kind slow)
 
-pub set_control : (is ks : List ℤ) (rows : List (List ℤ)) (counts : Counts) (ksmps : ℕ) (f : RegisterFile) (q : Reg)
-    (z : ℤ)
-    → record { i = is; k = ks; a = rows; counts = counts; ksmps = ksmps } ≡ f → q.rate ≡ rate.Control
-    → q.index < length ks
-    → IsWritten f q (constant z)
-    (record { i = is; k = slice_set ks q.index z; a = rows; counts = counts; ksmps = ksmps })
-set_control is ks rows counts ksmps f q z same e low =
-    let old : RegisterFile = record { i = is; k = ks; a = rows; counts = counts; ksmps = ksmps } in
-    let new : RegisterFile = record { i = is; k = slice_set ks q.index z; a = rows; counts = counts; ksmps = ksmps } in
-    subst (λ g. IsWritten g q (constant z) new) same (wrote_control old q z e low)
+pub sound_low : (ones : List (List ℤ)) (rows : List (List (List ℤ))) (counts : Counts) (ksmps : ℕ) (q : Reg)
+    → AreKept ones rows counts ksmps → has_register counts q ≡ true → is_audio (rate_at q) ≡ true
+    → q.offset < length (slice_index_or rows (kind_number q.kind - 5) [])
+sound_low ones rows counts ksmps q kept there sound =
+    let low : q.offset < at_kind counts.registers q.kind = ltb-true _ _ there in
+    omega (arith, low, kept.sounds q.kind sound)
 
-module _ {A : Type 0} (f : A → List ℤ) where
-  -- a row in memory has its length
-  pub row_long : (ksmps : ℕ) (rows : List A) (n : ℕ) (x : A) → AreRows ksmps (map f rows) → n < length rows
-      → x ≡ slice_index_or rows n x → length (f x) ≡ ksmps
-  row_long ksmps rows n x all low is =
-      ap (λ y. length (f y)) is ∙ sym (ap length (get_or-map f rows n x [] low))
-      ∙ all n (let e : length (map f rows) ≡ length rows = length-map rows f in omega (arith, e, low))
+-- ---- the same of the lists in memory, each of which lies in a vector
 
-  pub swapped_kept : (is ks : List ℤ) (rows : List A) (counts : Counts) (ksmps n : ℕ) (new row : A)
-      → AreKept is ks (map f rows) counts ksmps
-      → new ≡ row → length (f row) ≡ ksmps → n < length rows → AreKept is ks (map f (slice_set rows n new)) counts ksmps
-  swapped_kept is ks rows counts ksmps n new row h e long low =
-      let there : n < length (map f rows) =
-      (let l : length (map f rows) ≡ length rows = length-map rows f in omega (arith, l, low)) in
-      subst (λ l. AreKept is ks l counts ksmps) (sym (map-set f rows n new)) (record {
-        i = h.i;
-        k = h.k;
-        a = length-set (map f rows) n (f new) ∙ h.a;
-        long = rows_kept ksmps (map f rows) n (f new) h.long there (ap (λ y. length (f y)) e ∙ long);
-      })
+-- a list of lists where one of them was set in its vector
+set_in_memory : {A B : Type 0} (f : A → List B) (xs : List A) (k j n : ℕ) (x new : A) (z : B) → k ≡ j → k < length xs
+    → f new ≡ slice_set (f (slice_index_or xs k x)) n z
+    → map f (slice_set xs k new) ≡ slice_set (map f xs) j (slice_set (slice_index_or (map f xs) j []) n z)
+set_in_memory f xs k j n x new z same low is =
+    map-set f xs k new ∙ ap (slice_set (map f xs) k) (is ∙ ap (λ l. slice_set l n z) (sym (get_or-map f xs k x [] low)))
+    ∙ ap (λ i. slice_set (map f xs) i (slice_set (slice_index_or (map f xs) i []) n z)) same
 
-  pub swapped_written : (is ks : List ℤ) (rows : List A) (counts : Counts) (ksmps : ℕ) (old : RegisterFile) (n : ℕ)
-      (new row : A)
-      → record { i = is; k = ks; a = map f rows; counts = counts; ksmps = ksmps } ≡ old → new ≡ row
-      → length (f row) ≡ ksmps → n < length rows
-      → IsWritten old (reg rate.Audio n) (row_wave (f row))
-      (record { i = is; k = ks; a = map f (slice_set rows n new); counts = counts; ksmps = ksmps })
-  swapped_written is ks rows counts ksmps old n new row same e long low =
-      let there : n < length (map f rows) =
-      (let l : length (map f rows) ≡ length rows = length-map rows f in omega (arith, l, low)) in
-      let before : RegisterFile = record { i = is; k = ks; a = map f rows; counts = counts; ksmps = ksmps } in
-      let after : List (List ℤ) → RegisterFile = λ l. record before { a = l } in
-      subst (λ g. IsWritten g (reg rate.Audio n) (row_wave (f row)) (after (map f (slice_set rows n new)))) same
-      (subst (λ l. IsWritten before (reg rate.Audio n) (row_wave (f row)) (after l))
-      (sym (map-set f rows n new ∙ ap (λ y. slice_set (map f rows) n (f y)) e))
-      (wrote_audio before n (f row) long there))
+-- a list of them is as long as what it stands for
+low_in_memory : {A B : Type 0} (f : A → List B) (xs : List A) (k j n : ℕ) (x : A) → k ≡ j → k < length xs
+    → n < length (slice_index_or (map f xs) j []) → n < length (f (slice_index_or xs k x))
+low_in_memory f xs k j n x same low less =
+    subst (λ l. n < length l) (ap (λ i. slice_index_or (map f xs) i []) (sym same) ∙ get_or-map f xs k x [] low) less
 
-  -- a place among as many registers as there are
-  pub place_low : (rows : List A) (count n : ℕ) → length (map f rows) ≡ count → n < count → n < length rows
-  place_low rows count n e low = let l : length (map f rows) ≡ length rows =
-      length-map rows f in omega (arith, e, l, low)
+there_inside : (inside old : Counts) (q : Reg) → inside ≡ old → has_register old q ≡ true
+    → has_register inside q ≡ true
+there_inside inside old q same there = ap (λ c. has_register c q) same ∙ there
 
--- a register that is there is one of its rate's
-pub audio_low : (counts : Counts) (q : Reg) → has_register counts q ≡ true → q.rate ≡ rate.Audio
-    → q.index < counts.registers.audio
-audio_low counts q h e =
-    ltb-true q.index counts.registers.audio (sym (ap (λ r. nat_lt q.index (at_rate counts.registers r)) e) ∙ h)
+module _ {A : Type 0} (f : A → List ℤ) (ones : List A) (rows : List (List (List ℤ))) (counts : Counts) (ksmps : ℕ)
+    (old : RegisterFile) (q : Reg) (k : ℕ)
+    (same : record { held = map f ones; sounds = rows; counts = counts; ksmps = ksmps } ≡ old)
+    (kept : AreKept (map f ones) rows counts ksmps) (there : has_register old.counts q ≡ true)
+    (slow : is_audio (rate_at q) ≡ false) (is : k ≡ kind_number q.kind) where
+  held_there : has_register counts q ≡ true
+  held_there = there_inside counts old.counts q (ap (λ r. r.counts) same) there
+
+  held_row_there : k < length ones
+  held_row_there =
+      let low = held_kind q.kind slow in
+      let long = length-map ones f in omega (arith, is, low, long, kept.kinds)
+
+  pub held_place : (x : A) → q.offset < length (f (slice_index_or ones k x))
+  held_place x = low_in_memory f ones k (kind_number q.kind) q.offset x is held_row_there
+      (held_low (map f ones) rows counts ksmps q kept held_there slow)
+
+  pub held_set : (x new : A) (z : ℤ) → f new ≡ slice_set (f (slice_index_or ones k x)) q.offset z
+      → AreKept (map f (slice_set ones k new)) rows counts ksmps
+  held_set x new z set = subst (λ l. AreKept l rows counts ksmps)
+      (sym (set_in_memory f ones k (kind_number q.kind) q.offset x new z is held_row_there set))
+      (held_kept (map f ones) rows counts ksmps q z kept slow)
+
+  pub held_written : (x new : A) (z : ℤ) → f new ≡ slice_set (f (slice_index_or ones k x)) q.offset z
+      → IsWritten old q (constant z)
+      (record { held = map f (slice_set ones k new); sounds = rows; counts = counts; ksmps = ksmps })
+  held_written x new z set =
+      let before : RegisterFile = record { held = map f ones; sounds = rows; counts = counts; ksmps = ksmps } in
+      let low = held_low (map f ones) rows counts ksmps q kept held_there slow in
+      let first = held_kind q.kind slow in
+      subst (λ g. IsWritten g q (constant z) (record before { held = map f (slice_set ones k new) })) same
+      (subst (λ l. IsWritten before q (constant z) (record before { held = l }))
+      (sym (set_in_memory f ones k (kind_number q.kind) q.offset x new z is held_row_there set))
+      (wrote_held before q z slow (omega (arith, first, kept.kinds)) low))
+
+module _ {A : Type 0} (f : A → List (List ℤ)) (ones : List (List ℤ)) (rows : List A) (counts : Counts) (ksmps : ℕ)
+    (old : RegisterFile) (q : Reg) (k : ℕ)
+    (same : record { held = ones; sounds = map f rows; counts = counts; ksmps = ksmps } ≡ old)
+    (kept : AreKept ones (map f rows) counts ksmps) (there : has_register old.counts q ≡ true)
+    (sound : is_audio (rate_at q) ≡ true) (is : k ≡ kind_number q.kind - 5) where
+  sound_there : has_register counts q ≡ true
+  sound_there = there_inside counts old.counts q (ap (λ r. r.counts) same) there
+
+  sound_row_there : k < length rows
+  sound_row_there =
+      let low = sound_number q.kind sound in
+      let long = length-map rows f in omega (arith, is, low, long, kept.sound_kinds)
+
+  sound_low_there : q.offset < length (slice_index_or (map f rows) (kind_number q.kind - 5) [])
+  sound_low_there = sound_low ones (map f rows) counts ksmps q kept sound_there sound
+
+  pub sound_place : {B : Type 0} (g : A → List B) → ((x : A) → length (f x) ≡ length (g x)) → (x : A)
+      → q.offset < length (g (slice_index_or rows k x))
+  sound_place g long x =
+      let low : q.offset < length (f (slice_index_or rows k x)) =
+      low_in_memory f rows k (kind_number q.kind - 5) q.offset x is sound_row_there sound_low_there in
+      omega (arith, low, long (slice_index_or rows k x))
+
+  -- the row of a register is as long as a cycle
+  pub sound_long : (x : A) (row : List ℤ) → row ≡ slice_index_or (f (slice_index_or rows k x)) q.offset []
+      → length row ≡ old.ksmps
+  sound_long x row at =
+      ap length (at ∙ ap (λ l. slice_index_or l q.offset []) (sym (get_or-map f rows k x [] sound_row_there)))
+      ∙ kept.long k q.offset (subst (λ j. q.offset < length (slice_index_or (map f rows) j [])) (sym is)
+      sound_low_there)
+      ∙ ap (λ r. r.ksmps) same
+
+  pub sound_set : (x new : A) (row : List ℤ) → length row ≡ old.ksmps
+      → f new ≡ slice_set (f (slice_index_or rows k x)) q.offset row
+      → AreKept ones (map f (slice_set rows k new)) counts ksmps
+  sound_set x new row long set = subst (λ l. AreKept ones l counts ksmps)
+      (sym (set_in_memory f rows k (kind_number q.kind - 5) q.offset x new row is sound_row_there set))
+      (sound_kept ones (map f rows) counts ksmps q row kept sound (long ∙ sym (ap (λ r. r.ksmps) same)) sound_low_there)
+
+  pub sound_written : (x new : A) (row : List ℤ) → length row ≡ old.ksmps
+      → f new ≡ slice_set (f (slice_index_or rows k x)) q.offset row
+      → IsWritten old q (row_wave row)
+      (record { held = ones; sounds = map f (slice_set rows k new); counts = counts; ksmps = ksmps })
+  sound_written x new row long set =
+      let before : RegisterFile = record { held = ones; sounds = map f rows; counts = counts; ksmps = ksmps } in
+      let first = sound_number q.kind sound in
+      subst (λ g. IsWritten g q (row_wave row) (record before { sounds = map f (slice_set rows k new) })) same
+      (subst (λ l. IsWritten before q (row_wave row) (record before { sounds = l }))
+      (sym (set_in_memory f rows k (kind_number q.kind - 5) q.offset x new row is sound_row_there set))
+      (wrote_sound before q row sound (long ∙ sym (ap (λ r. r.ksmps) same)) (omega (arith, first, kept.sound_kinds))
+      sound_low_there))

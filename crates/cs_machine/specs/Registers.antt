@@ -1,49 +1,68 @@
 -- Registers: what each of a note's registers holds over a control cycle.
-use Rattle.std.specs.Prelude.{ℕ, ◌≡◌, ℤ, List, [], map, slice_index_or}
+use Rattle.std.specs.Prelude.{ℕ, ◌≡◌, ℤ, List, [], ◌∷◌, map, slice_index_or}
 use Rattle.std.specs.List.{range_with_len}
-use Rattle.cs_base.specs.declared.resource.Rate.{Rate}
-use Rattle.cs_base.specs.declared.resource.Rate.TheVariants as rate
 use Rattle.cs_ir.specs.Machine.{put}
+use Rattle.cs_ir.specs.Registers.{at_kind, rate_at}
 use Rattle.cs_ir.specs.Waves.{Wave, constant, held}
 use Rattle.cs_ir.specs.declared.register.Counts.{Counts}
+use Rattle.cs_ir.specs.declared.register.Kind.{Kind}
+use Rattle.cs_ir.specs.declared.register.Kind.TheVariants as kind
 use Rattle.cs_ir.specs.declared.register.Reg.{Reg}
 use Rattle.cs_machine.specs.Rows.{row_wave, row_of}
 use Rattle.cs_signal.specs.Operands.{argument}
 
--- The numbers that are held at the rates of initialisation and control, a row for each register of sounds, how many
--- there are of each, and how many frames a cycle has.
+-- The numbers that are held by the registers of each kind that isn't of rate Audio, a row for each register of the
+-- kinds that are, how many there are of each kind, and how many frames a cycle has.
 pub record RegisterFile : Type 0 where
-  pub i : List ℤ
-  pub k : List ℤ
-  pub a : List (List ℤ)
+  pub held : List (List ℤ)
+  pub sounds : List (List (List ℤ))
   pub counts : Counts
   pub ksmps : ℕ
 
-abbrev pub reg : Rate → ℕ → Reg
-reg r n = record { rate = r; index = n }
+abbrev pub register : Kind → ℕ → Reg
+register k n = record { kind = k; offset = n }
 
--- what the register of a rate and a number holds: one number that is the same at each frame, or a row of them
-abbrev pub held_at : List ℤ → List ℤ → List (List ℤ) → Rate → ℕ → Wave
-held_at i k a rate.Init n = constant (argument i n)
-held_at i k a rate.Control n = constant (argument k n)
-held_at i k a rate.Audio n = row_wave (slice_index_or a n [])
+-- what a register holds: one number that is the same at each frame
+abbrev pub one_of : List (List ℤ) → ℕ → ℕ → Wave
+one_of held k n = constant (argument (slice_index_or held k []) n)
 
-abbrev pub regs_of : List ℤ → List ℤ → List (List ℤ) → Reg → Wave
-regs_of i k a q = held_at i k a q.rate q.index
+-- or a row of them
+abbrev pub row_in : List (List (List ℤ)) → ℕ → ℕ → Wave
+row_in sounds k n = row_wave (slice_index_or (slice_index_or sounds k []) n [])
+
+abbrev pub held_at : List (List ℤ) → List (List (List ℤ)) → Kind → ℕ → Wave
+held_at held sounds kind.LocalInit n = one_of held 0 n
+held_at held sounds kind.LocalControl n = one_of held 1 n
+held_at held sounds kind.Kept n = one_of held 2 n
+held_at held sounds kind.TemporaryInit n = one_of held 3 n
+held_at held sounds kind.TemporaryControl n = one_of held 4 n
+held_at held sounds kind.LocalAudio n = row_in sounds 0 n
+held_at held sounds kind.TemporaryAudio n = row_in sounds 1 n
+
+abbrev pub regs_of : List (List ℤ) → List (List (List ℤ)) → Reg → Wave
+regs_of held sounds q = held_at held sounds q.kind q.offset
 
 abbrev pub values : RegisterFile → Reg → Wave
-values f = regs_of f.i f.k f.a
+values f = regs_of f.held f.sounds
 
 -- one register was written: it holds the value as its rate keeps it, and no other register has changed
 pub record IsWritten (old : RegisterFile) (into : Reg) (w : Wave) (new : RegisterFile) : Type 0 where
-  pub values : values new ≡ put (values old) into (held old.ksmps into.rate w)
+  pub values : values new ≡ put (values old) into (held old.ksmps (rate_at into) w)
   pub counts : new.counts ≡ old.counts
   pub ksmps : new.ksmps ≡ old.ksmps
+
+-- the kinds of registers that hold one number, and those of sounds
+abbrev pub held_kinds : List Kind
+held_kinds =
+    kind.LocalInit ∷ kind.LocalControl ∷ kind.Kept ∷ kind.TemporaryInit ∷ kind.TemporaryControl ∷ []
+
+abbrev pub sound_kinds : List Kind
+sound_kinds = kind.LocalAudio ∷ kind.TemporaryAudio ∷ []
 
 -- as many registers as a file has, that hold these values
 abbrev pub filled : RegisterFile → (Reg → Wave) → RegisterFile
 filled f w = record f {
-  i = map (λ n. w (reg rate.Init n) 0) (range_with_len 0 f.counts.registers.init);
-  k = map (λ n. w (reg rate.Control n) 0) (range_with_len 0 f.counts.registers.control);
-  a = map (λ n. row_of f.ksmps (w (reg rate.Audio n))) (range_with_len 0 f.counts.registers.audio);
+  held = map (λ k. map (λ n. w (register k n) 0) (range_with_len 0 (at_kind f.counts.registers k))) held_kinds;
+  sounds = map (λ k. map (λ n. row_of f.ksmps (w (register k n))) (range_with_len 0 (at_kind f.counts.registers k)))
+      sound_kinds;
 }

@@ -1,6 +1,7 @@
 // What operators and functions make of registers. Each call writes one register, as it is kept at its rate.
 ghost use Rattle.std.specs.Prelude.{◌≡◌, false, true, length};
 ghost use Rattle.cs_base.specs.Rates.{is_audio};
+ghost use Rattle.cs_ir.specs.Registers.{rate_at};
 ghost use Rattle.cs_ir.specs.Validity.{has_register};
 ghost use Rattle.cs_ir.specs.Values.{applied, negated};
 ghost use Rattle.cs_ir.specs.Waves.{both, chosen};
@@ -9,12 +10,13 @@ ghost use Rattle.cs_machine.specs.Registers.{IsWritten, values};
 use crate::pairs::{combine_row, negate_row};
 use crate::registers::Registers;
 use crate::rows::{apply_row, copy};
-use cs_base::{Num, Rate};
+use cs_base::Num;
 use cs_ir::{Reg, apply, combine, holds, negate};
 use cs_words::{BinOp, Func};
 
 impl Registers {
     /// A register as it is. `row` is room for a row, and is so afterwards.
+    #[inline(always)]
     pub fn copy(&mut self, into: Reg, x: Reg, row: &mut Vec<Num>)
         requires into { has_register self.old.counts into ≡ true }
         requires x { has_register self.old.counts x ≡ true }
@@ -22,16 +24,16 @@ impl Registers {
         ensures values { IsWritten self.old into (values self.old x) self.new }
         ensures row { length row.new.items ≡ self.old.ksmps }
     {
-        match into.rate {
-            Rate::Audio => {
-                copy(&self.operand(x), row);
-                self.swap(into.index as usize, row);
-            }
-            _ => self.set(into, self.first(x)),
+        if into.is_audio() {
+            copy(&self.operand(x), row);
+            self.swap(into, row);
+        } else {
+            self.set(into, self.first(x));
         }
     }
 
     /// The negative of a register.
+    #[inline(always)]
     pub fn negate(&mut self, into: Reg, x: Reg, row: &mut Vec<Num>)
         requires into { has_register self.old.counts into ≡ true }
         requires x { has_register self.old.counts x ≡ true }
@@ -39,16 +41,16 @@ impl Registers {
         ensures values { IsWritten self.old into (λ j. negated (values self.old x j)) self.new }
         ensures row { length row.new.items ≡ self.old.ksmps }
     {
-        match into.rate {
-            Rate::Audio => {
-                negate_row(&self.operand(x), row);
-                self.swap(into.index as usize, row);
-            }
-            _ => self.set(into, negate(self.first(x))),
+        if into.is_audio() {
+            negate_row(&self.operand(x), row);
+            self.swap(into, row);
+        } else {
+            self.set(into, negate(self.first(x)));
         }
     }
 
     /// What a function makes of a register.
+    #[inline(always)]
     pub fn apply(&mut self, function: Func, into: Reg, x: Reg, row: &mut Vec<Num>)
         requires into { has_register self.old.counts into ≡ true }
         requires x { has_register self.old.counts x ≡ true }
@@ -56,16 +58,16 @@ impl Registers {
         ensures values { IsWritten self.old into (λ j. applied function (values self.old x j)) self.new }
         ensures row { length row.new.items ≡ self.old.ksmps }
     {
-        match into.rate {
-            Rate::Audio => {
-                apply_row(function, &self.operand(x), row);
-                self.swap(into.index as usize, row);
-            }
-            _ => self.set(into, apply(function, self.first(x))),
+        if into.is_audio() {
+            apply_row(function, &self.operand(x), row);
+            self.swap(into, row);
+        } else {
+            self.set(into, apply(function, self.first(x)));
         }
     }
 
     /// What an operator makes of two registers.
+    #[inline(always)]
     pub fn combine(&mut self, operator: BinOp, into: Reg, x: Reg, y: Reg, row: &mut Vec<Num>)
         requires into { has_register self.old.counts into ≡ true }
         requires x { has_register self.old.counts x ≡ true }
@@ -74,20 +76,20 @@ impl Registers {
         ensures values { IsWritten self.old into (both operator (values self.old x) (values self.old y)) self.new }
         ensures row { length row.new.items ≡ self.old.ksmps }
     {
-        match into.rate {
-            Rate::Audio => {
-                combine_row(operator, &self.operand(x), &self.operand(y), row);
-                self.swap(into.index as usize, row);
-            }
-            _ => self.set(into, combine(operator, self.first(x), self.first(y))),
+        if into.is_audio() {
+            combine_row(operator, &self.operand(x), &self.operand(y), row);
+            self.swap(into, row);
+        } else {
+            self.set(into, combine(operator, self.first(x), self.first(y)));
         }
     }
 
     /// The second register where the first holds, else the third.
+    #[inline(always)]
     pub fn pick(&mut self, into: Reg, condition: Reg, x: Reg, y: Reg, row: &mut Vec<Num>)
         requires into { has_register self.old.counts into ≡ true }
         requires condition { has_register self.old.counts condition ≡ true }
-        requires held { is_audio condition.rate ≡ false }
+        requires held { is_audio (rate_at condition) ≡ false }
         requires x { has_register self.old.counts x ≡ true }
         requires y { has_register self.old.counts y ≡ true }
         requires row { length row.old.items ≡ self.old.ksmps }

@@ -2,6 +2,7 @@
 ghost use Rattle.std.specs.Prelude.{◌≡◌, ◌<◌, ◌≤◌, ℕ, [], ◌∷◌, length, map, slice_index_or, true};
 ghost use Rattle.std.specs.List.{All, list_all};
 ghost use Rattle.cs_cells.specs.Cells.{cell};
+ghost use Rattle.cs_ir.specs.Placed.{regs_read};
 ghost use Rattle.cs_ir.specs.Validity.{has_register};
 ghost use Rattle.cs_machine.specs.Players.{CanRead, SamePlayer, stepped};
 ghost use Rattle.cs_machine.specs.Registers.{values};
@@ -13,7 +14,7 @@ use crate::Registers;
 use crate::player::Player;
 use cs_base::Num;
 use cs_cells::Bank;
-use cs_ir::Reg;
+use cs_ir::Reads;
 use cs_signal::Operand;
 
 /// How many arguments a unit takes at a step at most, and how many all units but one take.
@@ -22,54 +23,67 @@ const MOST_INPUTS: usize = 7;
 const FEW_INPUTS: usize = 3;
 
 /// A step for each frame of `row`.
+#[inline(always)]
 pub fn block<B: Bank>(
     player: &mut Player,
     regs: &Registers,
-    from: &[Reg],
+    from: Reads<'_>,
     bank: &mut B,
     row: &mut [Num],
 )
-    requires there { list_all (has_register regs.now.counts) from.now ≡ true }
+    requires there { list_all (has_register regs.now.counts) (regs_read from) ≡ true }
     requires row { length row.old ≡ regs.now.ksmps }
     requires unit { IsUnitOpcode (opcode_of player.old.state) }
-    requires count { length from.now ≡ moving_count (opcode_of player.old.state) }
+    requires count { length (regs_read from) ≡ moving_count (opcode_of player.old.state) }
     requires read { CanRead (B.can_get (B.rest bank.old)) (length (B.cells bank.old)) player.old }
     ensures value { (player.new.state, row.new)
-        ≡ stepped player.old (map (values regs.now) from.now) (cell (B.cells bank.old)) (length row.old) }
+        ≡ stepped player.old (map (values regs.now) (regs_read from.entry)) (cell (B.cells bank.old)) (length row.old) }
     ensures player { SamePlayer player.old player.new }
     ensures same { B.cells bank.new ≡ B.cells bank.old }
     ensures rest { B.rest bank.new ≡ B.rest bank.old }
 {
     if from.len() <= FEW_INPUTS {
-        let inputs = few_operands(regs, from);
+        let inputs = [
+            operand_at(regs, from, 0),
+            operand_at(regs, from, 1),
+            operand_at(regs, from, 2),
+        ];
         player.block(&inputs[..from.len()], bank, row);
     } else {
-        let inputs = operands(regs, from);
-        player.block(&inputs[..from.len()], bank, row);
+        block_on_many(player, regs, from, bank, row);
     }
 }
 
-/// What registers are to a unit over a cycle, and 0 behind the last: for the units that take few.
-#[inline(always)]
-fn few_operands<'r>(regs: &'r Registers, from: &[Reg]) -> [Operand<'r>; FEW_INPUTS]
-    requires there { list_all (has_register regs.now.counts) from.now ≡ true }
-    requires few { length from.now ≤ 3 }
-    ensures stand { (j : ℕ) → j < length from.now → StandsAt (values regs.now) result from.now j }
-    ensures last { All (Lasts regs.now.ksmps) result }
-    ensures long { length result ≡ 3 }
+/// A step for each frame of `row`, of a unit that takes many.
+#[inline(never)]
+fn block_on_many<B: Bank>(
+    player: &mut Player,
+    regs: &Registers,
+    from: Reads<'_>,
+    bank: &mut B,
+    row: &mut [Num],
+)
+    requires there { list_all (has_register regs.now.counts) (regs_read from) ≡ true }
+    requires row { length row.old ≡ regs.now.ksmps }
+    requires unit { IsUnitOpcode (opcode_of player.old.state) }
+    requires count { length (regs_read from) ≡ moving_count (opcode_of player.old.state) }
+    requires read { CanRead (B.can_get (B.rest bank.old)) (length (B.cells bank.old)) player.old }
+    ensures value { (player.new.state, row.new)
+        ≡ stepped player.old (map (values regs.now) (regs_read from.entry)) (cell (B.cells bank.old)) (length row.old) }
+    ensures player { SamePlayer player.old player.new }
+    ensures same { B.cells bank.new ≡ B.cells bank.old }
+    ensures rest { B.rest bank.new ≡ B.rest bank.old }
 {
-    [
-        operand_at(regs, from, 0),
-        operand_at(regs, from, 1),
-        operand_at(regs, from, 2),
-    ]
+    let inputs = operands(regs, from);
+    player.block(&inputs[..from.len()], bank, row);
 }
 
 /// What registers are to a unit over a cycle, and 0 behind the last.
-fn operands<'r>(regs: &'r Registers, from: &[Reg]) -> [Operand<'r>; MOST_INPUTS]
-    requires there { list_all (has_register regs.now.counts) from.now ≡ true }
-    requires few { length from.now ≤ 7 }
-    ensures stand { (j : ℕ) → j < length from.now → StandsAt (values regs.now) result from.now j }
+fn operands<'r>(regs: &'r Registers, from: Reads<'_>) -> [Operand<'r>; MOST_INPUTS]
+    requires there { list_all (has_register regs.now.counts) (regs_read from) ≡ true }
+    requires few { length (regs_read from) ≤ 7 }
+    ensures stand { (j : ℕ) → j < length (regs_read from.entry)
+        → StandsAt (values regs.now) result (regs_read from.entry) j }
     ensures last { All (Lasts regs.now.ksmps) result }
     ensures long { length result ≡ 7 }
 {
@@ -85,75 +99,88 @@ fn operands<'r>(regs: &'r Registers, from: &[Reg]) -> [Operand<'r>; MOST_INPUTS]
 }
 
 #[inline(always)]
-fn operand_at<'r>(regs: &'r Registers, from: &[Reg], place: usize) -> Operand<'r>
-    requires { list_all (has_register regs.now.counts) from.now ≡ true }
-    ensures stands { place < length from.now → HoldsOperand (values regs.now) result
-        (slice_index_or from.now place no_register) }
+fn operand_at<'r>(regs: &'r Registers, from: Reads<'_>, place: usize) -> Operand<'r>
+    requires { list_all (has_register regs.now.counts) (regs_read from) ≡ true }
+    ensures stands { place < length (regs_read from.entry) → HoldsOperand (values regs.now) result
+        (slice_index_or (regs_read from.entry) place no_register) }
     ensures lasts { Lasts regs.now.ksmps result }
 {
     match from.get(place) {
-        Some(register) => regs.operand(*register),
+        Some(register) => regs.operand(register),
         None => Operand::Held(Num::exact(0)),
     }
 }
 
 /// One step, on what the registers are at the first frame.
-pub fn step<B: Bank>(player: &mut Player, regs: &Registers, from: &[Reg], bank: &mut B) -> Num
-    requires there { list_all (has_register regs.now.counts) from.now ≡ true }
+#[inline(always)]
+pub fn step<B: Bank>(player: &mut Player, regs: &Registers, from: Reads<'_>, bank: &mut B) -> Num
+    requires there { list_all (has_register regs.now.counts) (regs_read from) ≡ true }
     requires unit { IsUnitOpcode (opcode_of player.old.state) }
-    requires count { length from.now ≡ moving_count (opcode_of player.old.state) }
+    requires count { length (regs_read from) ≡ moving_count (opcode_of player.old.state) }
     requires read { CanRead (B.can_get (B.rest bank.old)) (length (B.cells bank.old)) player.old }
     ensures value { (player.new.state, result ∷ [])
-        ≡ stepped player.old (map (values regs.now) from.now) (cell (B.cells bank.old)) 1 }
+        ≡ stepped player.old (map (values regs.now) (regs_read from.entry)) (cell (B.cells bank.old)) 1 }
     ensures player { SamePlayer player.old player.new }
     ensures same { B.cells bank.new ≡ B.cells bank.old }
     ensures rest { B.rest bank.new ≡ B.rest bank.old }
 {
     if from.len() <= FEW_INPUTS {
-        let inputs = few_firsts(regs, from);
+        let inputs = [
+            first_at(regs, from, 0),
+            first_at(regs, from, 1),
+            first_at(regs, from, 2),
+        ];
         player.step(&inputs[..from.len()], bank)
     } else {
-        let inputs = firsts(regs, from);
-        player.step(&inputs[..from.len()], bank)
+        step_on_many(player, regs, from, bank)
     }
 }
 
-/// What registers are at the first frame, and 0 behind the last: for the units that take few.
-#[inline(always)]
-fn few_firsts(regs: &Registers, from: &[Reg]) -> [Num; FEW_INPUTS]
-    requires there { list_all (has_register regs.now.counts) from.now ≡ true }
-    requires few { length from.now ≤ 3 }
-    ensures first { (j : ℕ) → j < length from.now → IsFirstAt (values regs.now) result from.now j }
-    ensures long { length result ≡ 3 }
+/// One step of a unit that takes many.
+#[inline(never)]
+fn step_on_many<B: Bank>(
+    player: &mut Player,
+    regs: &Registers,
+    from: Reads<'_>,
+    bank: &mut B,
+) -> Num
+    requires there { list_all (has_register regs.now.counts) (regs_read from) ≡ true }
+    requires unit { IsUnitOpcode (opcode_of player.old.state) }
+    requires count { length (regs_read from) ≡ moving_count (opcode_of player.old.state) }
+    requires read { CanRead (B.can_get (B.rest bank.old)) (length (B.cells bank.old)) player.old }
+    ensures value { (player.new.state, result ∷ [])
+        ≡ stepped player.old (map (values regs.now) (regs_read from.entry)) (cell (B.cells bank.old)) 1 }
+    ensures player { SamePlayer player.old player.new }
+    ensures same { B.cells bank.new ≡ B.cells bank.old }
+    ensures rest { B.rest bank.new ≡ B.rest bank.old }
 {
-    [
-        first_at(regs, from, 0),
-        first_at(regs, from, 1),
-        first_at(regs, from, 2),
-    ]
+    let inputs = firsts(regs, from);
+    player.step(&inputs[..from.len()], bank)
 }
 
 #[inline(always)]
-fn first_at(regs: &Registers, from: &[Reg], place: usize) -> Num
-    requires { list_all (has_register regs.now.counts) from.now ≡ true }
-    ensures { place < length from.now → result ≡ values regs.now (slice_index_or from.now place no_register) 0 }
+fn first_at(regs: &Registers, from: Reads<'_>, place: usize) -> Num
+    requires { list_all (has_register regs.now.counts) (regs_read from) ≡ true }
+    ensures { place < length (regs_read from.entry)
+        → result ≡ values regs.now (slice_index_or (regs_read from.entry) place no_register) 0 }
 {
     match from.get(place) {
-        Some(register) => regs.first(*register),
+        Some(register) => regs.first(register),
         None => Num::exact(0),
     }
 }
 
 /// What registers are at the first frame, and 0 behind the last.
-fn firsts(regs: &Registers, from: &[Reg]) -> [Num; MOST_INPUTS]
-    requires there { list_all (has_register regs.now.counts) from.now ≡ true }
-    requires few { length from.now ≤ 7 }
-    ensures first { (j : ℕ) → j < length from.now → IsFirstAt (values regs.now) result from.now j }
+fn firsts(regs: &Registers, from: Reads<'_>) -> [Num; MOST_INPUTS]
+    requires there { list_all (has_register regs.now.counts) (regs_read from) ≡ true }
+    requires few { length (regs_read from) ≤ 7 }
+    ensures first { (j : ℕ) → j < length (regs_read from.entry)
+        → IsFirstAt (values regs.now) result (regs_read from.entry) j }
     ensures long { length result ≡ 7 }
 {
     let mut inputs = [Num::exact(0); MOST_INPUTS];
     for j in 0..from.len() {
-        inputs[j] = regs.first(from[j]);
+        inputs[j] = first_at(regs, from, j);
     }
     inputs
 }

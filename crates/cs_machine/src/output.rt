@@ -1,6 +1,7 @@
 // Acts that give to the output channels, and the end of a note.
 ghost use Rattle.std.specs.Prelude.{◌≡◌, ◌<◌, [], ◌∷◌, length, true};
 ghost use Rattle.cs_base.specs.Rates.{is_audio};
+ghost use Rattle.cs_ir.specs.Registers.{rate_at};
 ghost use Rattle.cs_ir.specs.Validity.{has_register};
 ghost use Rattle.cs_ir.specs.declared.op.Act.TheVariants as act;
 ghost use Rattle.cs_ir.specs.declared.register.Reg.{Reg};
@@ -15,27 +16,29 @@ use cs_ir::Reg;
 
 impl State<'_> {
     /// Adds a register of sound to a channel, counted from 0: the act `Out`.
+    #[inline(always)]
     pub fn send(&mut self, channel: usize, x: Reg)
         requires channel { channel < length self.old.outs.rows }
         requires x { has_register self.old.regs.counts x ≡ true }
-        requires sound { is_audio x.rate ≡ true }
+        requires sound { is_audio (rate_at x) ≡ true }
         requires room { HasRoom self.old }
         ensures { (into : Reg) → DoesAnywhere (act.Out channel) into (x ∷ []) self.old self.new }
     {
-        self.outs.give(channel, self.regs.row(x.index as usize));
+        self.outs.give(channel, self.regs.row(x));
     }
 
     /// Adds a register of sound to the channel that another one names, counted from 1; where there is no such channel
     /// it adds it to none: the act `OutAt`.
+    #[inline(always)]
     pub fn send_at(&mut self, number: Reg, x: Reg)
         requires number { has_register self.old.regs.counts number ≡ true }
         requires x { has_register self.old.regs.counts x ≡ true }
-        requires sound { is_audio x.rate ≡ true }
+        requires sound { is_audio (rate_at x) ≡ true }
         requires room { HasRoom self.old }
         ensures { (into : Reg) → DoesAnywhere act.OutAt into (number ∷ x ∷ []) self.old self.new }
     {
         if let Some(below) = channel_below(self.regs.first(number), self.outs.len()) {
-            self.outs.give(below, self.regs.row(x.index as usize));
+            self.outs.give(below, self.regs.row(x));
         }
     }
 

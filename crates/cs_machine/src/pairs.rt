@@ -4,7 +4,7 @@
 // multiplies the lower 32 bits of the factors, which is vector code, and joins the sizes of all factors. If these have
 // more than 32 bits, the loop of the definition makes the products anew.
 ghost use Rattle.std.specs.Prelude.{◌≡◌, ◌<◌, ◌≤◌, ◌^◌, ◌*ℤ◌, ℕ, length, true, unsigned_abs};
-ghost use Rattle.cs_base.specs.Numbers.{IsRaw, floor_div, one, product_of};
+ghost use Rattle.cs_base.specs.Numbers.{IsRaw, product_of};
 ghost use Rattle.cs_ir.specs.Values.{negated};
 ghost use Rattle.cs_ir.specs.Waves.{both};
 ghost use Rattle.cs_machine.specs.Rows.{HasFrames};

@@ -95,6 +95,7 @@ impl<'t> Player<'t> {
     }
 
     /// A step for each frame of `row`.
+    #[inline(always)]
     pub fn block<B: Bank>(&mut self, inputs: &[Operand], bank: &mut B, row: &mut [Num])
         requires count { length inputs.now ≡ moving_count (opcode_of self.old.state) }
         requires last { All (Lasts (length row.old)) inputs.now }
@@ -118,6 +119,7 @@ impl<'t> Player<'t> {
     }
 
     /// One step.
+    #[inline(always)]
     pub fn step<B: Bank>(&mut self, inputs: &[Num], bank: &mut B) -> Num
         requires count { length inputs.now ≡ moving_count (opcode_of self.old.state) }
         requires read { CanRead (B.can_get (B.rest bank.old)) (length (B.cells bank.old)) self.old }

@@ -1,16 +1,17 @@
 // Registers: held values, and a row for each register of sounds.
-ghost use Rattle.std.specs.Prelude.{◌≡◌, ◌<◌, ℕ, length, map, replicate, pos, IfOk, false, true};
+ghost use Rattle.std.specs.Prelude.{◌≡◌, ◌<◌, ◌-◌, ℕ, [], length, map, replicate, slice_index_or, slice_set, pos, IfOk};
+ghost use Rattle.std.specs.Prelude.{false, true};
 ghost use Rattle.cs_base.specs.Rates.{is_audio};
-ghost use Rattle.cs_base.specs.declared.resource.Rate.TheVariants as rate;
+ghost use Rattle.cs_ir.specs.Registers.{kind_number, rate_at, rate_of};
 ghost use Rattle.cs_ir.specs.Validity.{has_register};
 ghost use Rattle.cs_ir.specs.Waves.{constant, silence};
-ghost use Rattle.cs_machine.specs.Registers.{IsWritten, filled, reg, values};
+ghost use Rattle.cs_machine.specs.Registers.{IsWritten, filled, values};
 ghost use Rattle.cs_machine.specs.Rows.{HasFrames, row_wave};
 ghost use Rattle.cs_signal.specs.Operands.{Lasts, operand_at};
 
 use crate::rows::{copy, fill};
-use cs_base::{Num, OutOfMemory, Rate};
-use cs_ir::{Counts, Reg};
+use cs_base::{Num, OutOfMemory};
+use cs_ir::{Counts, HELD_KINDS, KINDS, Kind, Reg};
 use cs_signal::Operand;
 use std::alloc::Global;
 use std::marker::Model;
@@ -20,9 +21,10 @@ use std::mem;
 /// one number. Contracts see what each register is at each frame.
 #[derive(Drop)]
 pub struct Registers {
-    i: Vec<Num>,
-    k: Vec<Num>,
-    a: Vec<Vec<Num>>,
+    /// The registers that hold one number, those of each kind.
+    held: [Vec<Num>; HELD_KINDS],
+    /// The registers of sounds, those of each kind behind these.
+    sounds: [Vec<Vec<Num>>; KINDS - HELD_KINDS],
     counts: Counts,
     ksmps: usize,
 }
@@ -35,14 +37,14 @@ impl Model for Registers {
     ghost Value = { RegisterFile };
 
     ghost view = { λ r. record {
-      i = r.i.items;
-      k = r.k.items;
-      a = map (λ row. row.items) r.a.items;
+      held = map (λ ones. ones.items) r.held;
+      sounds = map (λ rows. map (λ row. row.items) rows.items) r.sounds;
       counts = r.counts;
       ksmps = r.ksmps;
     } };
 
-    ghost invariant = { λ r. AreKept r.i.items r.k.items (map (λ row. row.items) r.a.items) r.counts r.ksmps };
+    ghost invariant = { λ r. AreKept (map (λ ones. ones.items) r.held)
+        (map (λ rows. map (λ row. row.items) rows.items) r.sounds) r.counts r.ksmps };
 }
 
 impl Registers {
@@ -52,10 +54,19 @@ impl Registers {
         ensures counts { IfOk result (λ r. r.counts ≡ counts) }
         ensures ksmps { IfOk result (λ r. r.ksmps ≡ ksmps) }
     {
+        let registers = &counts.registers;
         Ok(Registers {
-            i: zeros(alloc, counts.registers.init)?,
-            k: zeros(alloc, counts.registers.control)?,
-            a: rows(alloc, counts.registers.audio, ksmps)?,
+            held: [
+                zeros(alloc, registers.of(Kind::LocalInit))?,
+                zeros(alloc, registers.of(Kind::LocalControl))?,
+                zeros(alloc, registers.of(Kind::Kept))?,
+                zeros(alloc, registers.of(Kind::TemporaryInit))?,
+                zeros(alloc, registers.of(Kind::TemporaryControl))?,
+            ],
+            sounds: [
+                rows(alloc, registers.of(Kind::LocalAudio), ksmps)?,
+                rows(alloc, registers.of(Kind::TemporaryAudio), ksmps)?,
+            ],
             counts,
             ksmps,
         })
@@ -69,16 +80,26 @@ impl Registers {
         self.counts
     }
 
+    /// What a register that isn't of rate Audio holds.
+    #[inline(always)]
+    fn held(&self, register: Reg) -> Num
+        requires there { has_register self.now.counts register ≡ true }
+        requires held { is_audio (rate_at register) ≡ false }
+        ensures { (frame : ℕ) → result ≡ values self.now register frame }
+    {
+        self.held[held_number(register.kind)][register.offset as usize]
+    }
+
     /// What a register is at the first frame.
     #[inline(always)]
     pub fn first(&self, register: Reg) -> Num
         requires { has_register self.now.counts register ≡ true }
         ensures { result ≡ values self.now register 0 }
     {
-        match register.rate {
-            Rate::Init => self.i[register.index as usize],
-            Rate::Control => self.k[register.index as usize],
-            Rate::Audio => first_of(&self.a[register.index as usize]),
+        if register.is_audio() {
+            first_of(self.row(register))
+        } else {
+            self.held(register)
         }
     }
 
@@ -89,21 +110,22 @@ impl Registers {
         ensures value { (frame : ℕ) → operand_at result frame ≡ values self.now register frame }
         ensures lasts { Lasts self.now.ksmps result }
     {
-        match register.rate {
-            Rate::Init => Operand::Held(self.i[register.index as usize]),
-            Rate::Control => Operand::Held(self.k[register.index as usize]),
-            Rate::Audio => Operand::Row(&self.a[register.index as usize]),
+        if register.is_audio() {
+            Operand::Row(self.row(register))
+        } else {
+            Operand::Held(self.held(register))
         }
     }
 
     /// The row of a register of rate Audio.
     #[inline(always)]
-    pub fn row(&self, index: usize) -> &[Num]
-        requires { index < self.now.counts.registers.audio }
-        ensures value { row_wave result.now ≡ values self.now (reg rate.Audio index) }
+    pub fn row(&self, register: Reg) -> &[Num]
+        requires there { has_register self.now.counts register ≡ true }
+        requires sound { is_audio (rate_at register) ≡ true }
+        ensures value { row_wave result.now ≡ values self.now register }
         ensures long { length result.now ≡ self.now.ksmps }
     {
-        &self.a[index]
+        &self.sounds[sound_number(register.kind)][register.offset as usize]
     }
 
     /// Fills a row with what a register is at each frame.
@@ -120,44 +142,90 @@ impl Registers {
     #[inline(always)]
     pub fn set(&mut self, register: Reg, value: Num)
         requires there { has_register self.old.counts register ≡ true }
-        requires held { is_audio register.rate ≡ false }
+        requires held { is_audio (rate_at register) ≡ false }
         ensures { IsWritten self.old register (constant value) self.new }
     {
-        match register.rate {
-            Rate::Init => self.i[register.index as usize] = value,
-            Rate::Control => self.k[register.index as usize] = value,
-            Rate::Audio => {}
-        }
+        set_in(
+            &mut self.held[held_number(register.kind)],
+            register.offset as usize,
+            value,
+        );
     }
 
     /// A register of rate Audio takes a row, and its own row comes in its place.
     #[inline(always)]
-    pub fn swap(&mut self, index: usize, row: &mut Vec<Num>)
-        requires there { index < self.old.counts.registers.audio }
+    pub fn swap(&mut self, register: Reg, row: &mut Vec<Num>)
+        requires there { has_register self.old.counts register ≡ true }
+        requires sound { is_audio (rate_at register) ≡ true }
         requires row { length row.old.items ≡ self.old.ksmps }
-        ensures values { IsWritten self.old (reg rate.Audio index) (row_wave row.old.items) self.new }
+        ensures values { IsWritten self.old register (row_wave row.old.items) self.new }
         ensures row { length row.new.items ≡ self.old.ksmps }
     {
-        mem::swap(&mut self.a[index], row);
+        swap_in(
+            &mut self.sounds[sound_number(register.kind)],
+            register.offset as usize,
+            row,
+        );
     }
 
     /// A register of any rate takes one number for the whole cycle.
+    #[inline(always)]
     pub fn hold(&mut self, register: Reg, value: Num, row: &mut Vec<Num>)
         requires there { has_register self.old.counts register ≡ true }
         requires row { length row.old.items ≡ self.old.ksmps }
         ensures values { IsWritten self.old register (constant value) self.new }
         ensures row { length row.new.items ≡ self.old.ksmps }
     {
-        match register.rate {
-            Rate::Audio => {
-                fill(value, row);
-                self.swap(register.index as usize, row);
-            }
-            _ => self.set(register, value),
+        if register.is_audio() {
+            fill(value, row);
+            self.swap(register, row);
+        } else {
+            self.set(register, value);
         }
     }
 }
 
+/// Which of the vectors of numbers has the registers of a kind.
+#[inline(always)]
+fn held_number(kind: Kind) -> usize
+    requires { is_audio (rate_of kind) ≡ false }
+    ensures number { result ≡ kind_number kind }
+    ensures low { result < 5 }
+{
+    kind as usize
+}
+
+/// Which of the vectors of rows has the registers of a kind.
+#[inline(always)]
+fn sound_number(kind: Kind) -> usize
+    requires { is_audio (rate_of kind) ≡ true }
+    ensures number { result ≡ kind_number kind - 5 }
+    ensures low { result < 2 }
+{
+    kind as usize - HELD_KINDS
+}
+
+/// One of some numbers is another from now on.
+#[inline(always)]
+fn set_in(ones: &mut Vec<Num>, place: usize, value: Num)
+    requires { place < length ones.old.items }
+    ensures { ones.new.items ≡ slice_set ones.old.items place value }
+{
+    ones[place] = value;
+}
+
+/// One of some rows is exchanged for another.
+#[inline(always)]
+fn swap_in(rows: &mut Vec<Vec<Num>>, place: usize, row: &mut Vec<Num>)
+    requires { place < length rows.old.items }
+    ensures rows { map (λ row. row.items) rows.new.items
+        ≡ slice_set (map (λ row. row.items) rows.old.items) place row.old.items }
+    ensures row { row.new.items ≡ slice_index_or (map (λ row. row.items) rows.old.items) place [] }
+{
+    mem::swap(&mut rows[place], row);
+}
+
+#[inline(always)]
 fn first_of(row: &[Num]) -> Num
     ensures { result ≡ row_wave row.now 0 }
 {

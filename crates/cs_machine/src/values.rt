@@ -14,6 +14,7 @@ use cs_words::HeadName;
 
 impl State<'_> {
     /// Gives a number: the act `Const`.
+    #[inline(always)]
     pub fn number(&mut self, into: Reg, value: Num)
         requires into { has_register self.old.regs.counts into ≡ true }
         requires room { HasRoom self.old }
@@ -23,6 +24,7 @@ impl State<'_> {
     }
 
     /// Gives a p-field, counted from 1, and 0 past the last: the act `Field`.
+    #[inline(always)]
     pub fn field(&mut self, at: &NoteSetting<'_>, into: Reg, field: u32)
         requires into { has_register self.old.regs.counts into ≡ true }
         requires room { HasRoom self.old }
@@ -33,6 +35,7 @@ impl State<'_> {
     }
 
     /// Gives what the header says: the act `Head`.
+    #[inline(always)]
     pub fn header(&mut self, at: &NoteSetting<'_>, into: Reg, name: HeadName)
         requires into { has_register self.old.regs.counts into ≡ true }
         requires room { HasRoom self.old }
@@ -44,6 +47,7 @@ impl State<'_> {
 }
 
 /// A p-field by its number, of those from p1 on.
+#[inline(always)]
 fn field_of(fields: &[Num], field: u32) -> Num
     ensures { result ≡ argument fields.now (field - 1) }
 {

@@ -7,6 +7,7 @@ use Rattle.std.proofs.lemmas.Bool.Decides.{nat_tests}
 use Rattle.cs_base.specs.Rates.{res_rate}
 use Rattle.cs_base.specs.declared.resource.Rate.{Rate}
 use Rattle.cs_base.specs.declared.resource.Res.{Res}
+use Rattle.cs_ir.specs.Registers.{rate_at}
 use Rattle.cs_ir.specs.Machine.{Machine, new_machine, again, run}
 use Rattle.cs_ir.specs.Resources.{Stock}
 use Rattle.cs_ir.specs.Waves.{Wave}
@@ -19,7 +20,7 @@ use Rattle.cs_cells.specs.Cells.{Cells, cell, in_area}
 use Rattle.cs_cells.specs.declared.footprint.Area.{Area}
 use Rattle.cs_cells.proofs.Laid.{area_within}
 use Rattle.cs_meaning.specs.Core.{Block}
-use Rattle.cs_meaning.specs.Notes.{Note}
+use Rattle.cs_meaning.specs.Notes.{Note, reg}
 use Rattle.cs_meaning.specs.Plain.{Piece, Plain, Cause, plain, fresh, next_cycle}
 use Rattle.cs_code.specs.Means.{RegisterPlan, StandsInMachine, Means, MeansIn}
 use Rattle.cs_voice_meaning.specs.Placing.{area_of, wave_of, HasArea}
@@ -74,7 +75,7 @@ pub ops_wider : (stock : Stock) (kinds : Kinds) (N M : Res → Type 0) → ((g :
     → OpsNamed stock kinds N ops → OpsNamed stock kinds M ops
 ops_wider stock kinds N M wide [] h = tt
 ops_wider stock kinds N M wide (op ∷ ops) h =
-    (act_wider stock kinds N M wide op.act op.into.rate h.0, ops_wider stock kinds N M wide ops h.1)
+    (act_wider stock kinds N M wide op.act (rate_at op.into) h.0, ops_wider stock kinds N M wide ops h.1)
 
 -- ---- the cells that a cycle leaves
 
@@ -112,7 +113,7 @@ module _ (s : Sheet) (playable : IsPlayable s) where
     voice_stands t m n earlier a st plays =
         let w : Same earlier m.world t.world = subst (λ w. Same earlier m.world w) st.world a.world in record {
           sheet = refl;
-          locals = λ q below. at m.regs n.regs a.regs q ∙ st.locals q below;
+          locals = λ r k. at m.regs n.regs a.regs (reg r k) ∙ st.locals r k;
           kept = λ p k is. at m.regs n.regs a.regs _ ∙ st.kept p k is;
           units = w.units;
           delays = w.delays;

@@ -1,21 +1,19 @@
 -- Marks of tables, set one after another.
 use Rattle.std.proofs.Common.{◌≡◌, ℕ, ◌+◌, ◌<◌, Bool, true, false, ◌||◌, List, [], ◌∷◌, length, get_or, replicate}
-use Rattle.std.proofs.Common.{take, Option, None, ⊎_elim, arith, refl, sym, ◌∙◌, ap}
+use Rattle.std.proofs.Common.{take, ⊎_elim, arith, refl, sym, ◌∙◌, ap}
 use Rattle.std.specs.List.{flat_map, list_any}
 use Rattle.std.proofs.lemmas.Bool.{cases_lt}
 use Rattle.std.proofs.lemmas.List.{get_or-replicate, get_or_past, length-replicate}
 use Rattle.std.proofs.lemmas.List.Folds.{list_any-append, list_any_more}
 use Rattle.cs_base.specs.Rates.{same_res}
-use Rattle.cs_base.specs.declared.resource.Res.{Res}
 use Rattle.cs_base.specs.declared.resource.Res.TheVariants as res
-use Rattle.cs_ir.proofs.Touches.{touches_none, touches_unit}
-use Rattle.cs_ir.specs.Resources.{may_write}
-use Rattle.cs_ir.specs.Touching.{AsksFor, IsOfShared, answers}
-use Rattle.cs_ir.specs.declared.op.Act.{Act}
+use Rattle.cs_ir.specs.Resources.{NameTheSame, Stock, act_writes, ops_write}
+use Rattle.cs_ir.specs.Touched.{named, resources}
 use Rattle.cs_ir.specs.declared.op.Op.{Op}
-use Rattle.cs_ir.specs.declared.touching.Touching.{Touching}
+use Rattle.cs_ir.specs.declared.touches.Touch.{Touch}
 use Rattle.cs_piece.specs.Tables.{only}
-use Rattle.cs_piece.specs.inner.Marked.{act_stores, ops_store}
+use Rattle.cs_piece.specs.inner.Marked.{ops_store, touch_stores}
+use Rattle.cs_rwset.proofs.Placed.{among_alike}
 
 pub or_three : (a b c : Bool) → ((a || b) || c) ≡ (a || (b || c))
 or_three true b c = refl
@@ -44,22 +42,12 @@ all_are xs count n d e = ap (λ l. get_or l n d) e ∙ ⊎_elim
     (λ g. get_or_past (replicate count d) n d (omega (arith, length-replicate count d, g)))
     (cases_lt n count)
 
--- ---- by the acts of ops that touch what notes share
+-- ---- by what ops touch
 
-or_nothing : (b : Bool) → b ≡ (b || false)
-or_nothing true = refl
-or_nothing false = refl
-
-stores_shared : (n : ℕ) → IsOfShared (act_stores n)
-stores_shared n = record {
-  none = λ a h. ap (list_any (same_res (res.Table n))) (touches_none may_write (only n) a h);
-  unit = λ a. ap (list_any (same_res (res.Table n))) (touches_unit may_write (only n) a);
-}
-
-pub stores_touched : (touching : Touching) (ops : List Op)
-    → ((asks : Act → Bool) (q : Option Res) → IsOfShared asks → AsksFor asks q
-    → answers asks q touching ≡ list_any (λ (o : Op). asks o.act) ops)
-    → (n : ℕ) → list_any (act_stores n) touching.acts.items ≡ ops_store n ops
-stores_touched touching ops h n =
-    or_nothing (list_any (act_stores n) touching.acts.items)
-    ∙ h (act_stores n) None (stores_shared n) (λ r. refl)
+pub stores_touched : (touches : List Touch) (ops : List Op)
+    → ((stock : Stock) → NameTheSame (named stock touches) (ops_write stock ops))
+    → (n : ℕ) → list_any (touch_stores n) touches ≡ ops_store n ops
+stores_touched touches ops h n =
+    any_of_parts (same_res (res.Table n)) (resources (only n)) touches
+    ∙ among_alike (named (only n) touches) (ops_write (only n) ops) (h (only n)) (res.Table n)
+    ∙ sym (any_of_parts (same_res (res.Table n)) (λ (o : Op). act_writes (only n) o.act) ops)

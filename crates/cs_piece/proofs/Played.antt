@@ -8,6 +8,7 @@ use Rattle.std.proofs.lemmas.List.Elements.{All-head, All-tail}
 use Rattle.cs_base.specs.declared.resource.Rate.{Rate}
 use Rattle.cs_base.specs.declared.resource.Res.{Res}
 use Rattle.cs_typed.specs.TypedTree as typed
+use Rattle.cs_ir.specs.Registers.{rate_at}
 use Rattle.cs_ir.specs.Resources.{Stock, act_uses, act_writes, ops_use, ops_write}
 use Rattle.cs_ir.proofs.Shapes.{started_shape}
 use Rattle.cs_ir.specs.Cycles.{are_of_cycle}
@@ -60,11 +61,11 @@ saves_value g r (x ∷ []) h = (and_parts (has_value g) _ h).0
 saves_value g r (x ∷ y ∷ xs) h = absurd (cc)
 
 fine_takes : (counts : Counts) (end place : ℕ) (op : Op) → is_fine counts end place op ≡ true
-    → takes_from op.act op.into.rate op.from ≡ true
+    → takes_from op.act (rate_at op.into) op.from ≡ true
 fine_takes counts end place op h =
     let own : Bool = not (writes op.act) || has_register counts op.into in
     (and_parts (own && list_all (has_register counts) op.from && finds counts end place op.act)
-    (takes_from op.act op.into.rate op.from) h).1
+    (takes_from op.act (rate_at op.into) op.from) h).1
 
 act_named : (stock : Stock) (channels : ℕ) (units : List UnitKind) (N : Res → Type 0) (a : Act) (r : Rate)
     (xs : List Reg) → Names channels units a r → takes_from a r xs ≡ true
@@ -124,9 +125,9 @@ channels_there : (channels : ℕ) (units : List UnitKind) (ops : List Op) → Al
 channels_there channels units [] names = refl
 channels_there channels units (op ∷ ops) names =
     and_from (has_channel channels op.act) (have_channels channels ops)
-    (act_channel channels units op.act op.into.rate
-    (All-head (λ o. Names channels units o.act o.into.rate) op ops names))
-    (channels_there channels units ops (All-tail (λ o. Names channels units o.act o.into.rate) op ops names))
+    (act_channel channels units op.act (rate_at op.into)
+    (All-head (λ o. Names channels units o.act (rate_at o.into)) op ops names))
+    (channels_there channels units ops (All-tail (λ o. Names channels units o.act (rate_at o.into)) op ops names))
 
 ops_named : (stock : Stock) (channels : ℕ) (units : List UnitKind) (N : Res → Type 0) (counts : Counts) (end place : ℕ)
     (ops : List Op) → AllNamed channels units ops
@@ -135,11 +136,11 @@ ops_named stock channels units N counts end place [] names fine h = tt
 ops_named stock channels units N counts end place (op ∷ ops) names fine h =
     let parts = all_split N (act_uses stock op.act) (ops_use stock ops) h in
     let both = and_parts (is_fine counts end place op) (fine_from counts end (place + 1) ops) fine in (
-      act_named stock channels units N op.act op.into.rate op.from
-          (All-head (λ o. Names channels units o.act o.into.rate) op ops names) (fine_takes counts end place op both.0)
-          parts.0,
+      act_named stock channels units N op.act (rate_at op.into) op.from
+          (All-head (λ o. Names channels units o.act (rate_at o.into)) op ops names)
+          (fine_takes counts end place op both.0) parts.0,
       ops_named stock channels units N counts end (place + 1) ops
-          (All-tail (λ o. Names channels units o.act o.into.rate) op ops names) both.1 parts.1,
+          (All-tail (λ o. Names channels units o.act (rate_at o.into)) op ops names) both.1 parts.1,
     )
 
 ops_written : (stock : Stock) (N : Res → Type 0) (ops : List Op) → AreNamed N (ops_write stock ops)

@@ -1,10 +1,10 @@
 -- What it is for a voice to perform a note.
-use Rattle.std.specs.Prelude.{ℕ, ℤ, ◌≡◌, ◌<◌, ◌≤◌, List, length, Some, None}
+use Rattle.std.specs.Prelude.{ℕ, ℤ, ◌≡◌, ◌≤◌, List, length, Some, None}
 use Rattle.cs_base.specs.Rates.{res_rate}
-use Rattle.cs_base.specs.declared.resource.Rate.TheVariants as rate
+use Rattle.cs_base.specs.declared.resource.Rate.{Rate}
 use Rattle.cs_base.specs.declared.resource.Res.{Res}
 use Rattle.cs_ir.specs.Waves.{Wave, constant}
-use Rattle.cs_ir.specs.declared.register.Reg.{Reg}
+use Rattle.cs_ir.specs.declared.register.Kind.TheVariants as kind
 use Rattle.cs_cells.specs.Areas.{word_count}
 use Rattle.cs_cells.specs.Cells.{Cells, cell}
 use Rattle.cs_cells.specs.declared.footprint.Area.{Area}
@@ -34,8 +34,9 @@ Hold areas cells shared = (g : Res) → HasArea areas g → wave_of (area_of are
 -- far bring it, and the same output.
 pub record IsVoiceOf (s : Sheet) (plan : RegisterPlan) (kinds : Kinds) (v : Sounding) (t : Note Plain) : Type 0 where
   pub sheet : v.sheet ≡ s
-  pub locals : (q : Reg) → q.index < plan.locals q.rate → v.regs q ≡ t.locals q
-  pub kept : (p : Path) (n : ℕ) → plan.kept p ≡ Some n → v.regs (reg rate.Init n) ≡ constant (t.kept p)
+  pub locals : (r : Rate) (n : ℕ) → v.regs (reg r n) ≡ t.locals (reg r n)
+  pub kept : (p : Path) (n : ℕ) → plan p ≡ Some n
+      → v.regs (record { kind = kind.Kept; offset = n }) ≡ constant (t.kept p)
   pub units : (u : ℕ) → SameUnit (pace_of s.piece.head) (kinds u) (v.units u) (t.world.units u)
   pub delays : v.delays ≡ t.world.delays
   pub outs : v.outs ≡ t.world.outs

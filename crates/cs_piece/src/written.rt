@@ -2,11 +2,11 @@
 ghost use Rattle.std.specs.Prelude.{◌≡◌, ◌<◌, ◌||◌, ℕ, false, length, nat_le, ◌&&◌, IfOk, slice_index_or};
 ghost use Rattle.std.specs.List.{list_any};
 ghost use Rattle.cs_ir.specs.Resources.{reaches};
-ghost use Rattle.cs_piece.specs.inner.Marked.{act_stores, codes_store, is_marked, numbers_end, ops_store};
+ghost use Rattle.cs_piece.specs.inner.Marked.{codes_store, is_marked, numbers_end, ops_store, touch_stores};
 
 use crate::tables::NUMBERS_END;
 use cs_base::{OutOfMemory, Res};
-use cs_ir::{Act, Instrument, Ops, Reach};
+use cs_ir::{Instrument, Ops, Reach, Touch};
 use std::alloc::Global;
 use std::marker::Model;
 
@@ -71,30 +71,29 @@ impl Written {
     }
 
     /// Marks what ops may write.
-    #[tactic(auto, using(crate::proofs::Marks::stores_touched))]
     fn mark_ops(&mut self, ops: &Ops)
         ensures { (n : ℕ) → n < numbers_end → is_marked self.new n ≡ (is_marked self.old n || ops_store n ops.now) }
     {
-        self.mark_acts(&ops.touching().acts);
+        self.mark_touches(&ops.touches().written);
     }
 
-    /// Marks what acts may write.
-    fn mark_acts(&mut self, acts: &[Act])
+    /// Marks the tables among what is touched.
+    fn mark_touches(&mut self, touches: &[Touch])
         ensures { (n : ℕ) → n < numbers_end → is_marked self.new n
-            ≡ (is_marked self.old n || list_any (act_stores n) acts.now) }
+            ≡ (is_marked self.old n || list_any (touch_stores n) touches.now) }
     {
-        for act in acts {
-            self.mark_act(*act);
+        for touch in touches {
+            self.mark_touch(*touch);
         }
     }
 
-    /// Marks what an act may write.
-    fn mark_act(&mut self, act: Act)
-        ensures { (n : ℕ) → n < numbers_end → is_marked self.new n ≡ (is_marked self.old n || act_stores n act) }
+    /// Marks what is touched, as far as it is a table.
+    fn mark_touch(&mut self, touch: Touch)
+        ensures { (n : ℕ) → n < numbers_end → is_marked self.new n ≡ (is_marked self.old n || touch_stores n touch) }
     {
-        match act {
-            Act::Save(Res::Table(number)) => mark_span(&mut self.numbers, number, number),
-            Act::Store(reach) => self.mark(reach),
+        match touch {
+            Touch::One(Res::Table(number)) => mark_span(&mut self.numbers, number, number),
+            Touch::Tables(reach) => self.mark(reach),
             _ => {}
         }
     }

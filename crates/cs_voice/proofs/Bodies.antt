@@ -4,6 +4,7 @@ use Rattle.std.specs.List.{AllByRecursion}
 use Rattle.cs_base.specs.declared.resource.Rate.{Rate}
 use Rattle.cs_base.specs.declared.resource.Res.{Res}
 use Rattle.cs_words.specs.Catalogue.{row_of}
+use Rattle.cs_ir.specs.Registers.{rate_at}
 use Rattle.cs_ir.specs.Resources.{Stock, act_writes, tables_within, unit_uses, writes_places, zak_uses}
 use Rattle.cs_ir.specs.declared.op.Act.{Act}
 use Rattle.cs_ir.specs.declared.op.Act.TheVariants as act
@@ -66,7 +67,10 @@ module _ (s : Sheet) (can_get can_set : ℕ → Type 0) (count : ℕ) (get : (a 
       → OpsWritten stock (IsWritten s) ops
       → AllByRecursion (λ (op : Op). CanDo can_get can_set count s.areas stock op.act) ops
   can_all stock kinds [] h w = tt
-  can_all stock kinds (op ∷ ops) h w = (can_do stock kinds op.act op.into.rate h.0 w.0, can_all stock kinds ops h.1 w.1)
+  can_all stock kinds (op ∷ ops) h w = (
+    can_do stock kinds op.act (rate_at op.into) h.0 w.0,
+    can_all stock kinds ops h.1 w.1,
+  )
 
 -- what a voice uses has its area
 module _ (s : Sheet) where
@@ -90,4 +94,7 @@ module _ (s : Sheet) where
   pub all_areas : (stock : Stock) (kinds : Kinds) (ops : List Op) → OpsNamed stock kinds (IsUsed s) ops
       → OpsNamed stock kinds (HasArea s.areas) ops
   all_areas stock kinds [] h = tt
-  all_areas stock kinds (op ∷ ops) h = (act_area stock kinds op.act op.into.rate h.0, all_areas stock kinds ops h.1)
+  all_areas stock kinds (op ∷ ops) h = (
+    act_area stock kinds op.act (rate_at op.into) h.0,
+    all_areas stock kinds ops h.1,
+  )

@@ -1,15 +1,25 @@
 -- What an op of a valid code has: its registers, as many operands as its act takes, and their rates.
 use Rattle.std.proofs.Common.{◌≡◌, ℕ, Bool, true, false, not, ◌&&◌, ◌||◌, List, [], ◌∷◌, refl, sym, ◌∙◌}
-use Rattle.std.proofs.Common.{ap, subst}
+use Rattle.std.proofs.Common.{ap, subst, ℤ, ◌+◌, ◌<◌, ◌++◌, length, map, take, slice_get, Some}
 use Rattle.std.specs.List.{list_all}
 use Rattle.std.proofs.lemmas.Bool.{and_parts}
+use Rattle.std.proofs.lemmas.List.{map-append, map_more}
+use Rattle.std.proofs.lemmas.Option.{get_or_from_slice_get, slice_get_within}
 use Rattle.cs_base.specs.declared.resource.Rate.{Rate}
+use Rattle.cs_words.specs.declared.catalogue.Opcode.{Opcode}
+use Rattle.cs_ir.proofs.RegisterKinds.{all_small, there_small}
+use Rattle.cs_ir.specs.Flat.{is_small, moved_act}
+use Rattle.cs_ir.specs.Placed.{there}
+use Rattle.cs_ir.specs.Registers.{rate_at}
 use Rattle.cs_ir.specs.Validity.{finds, has_register, is_fine, takes_from, writes}
+use Rattle.cs_ir.specs.Waves.{Wave, first_values}
 use Rattle.cs_ir.specs.declared.op.Act.{Act}
 use Rattle.cs_ir.specs.declared.op.Act.TheVariants as act
 use Rattle.cs_ir.specs.declared.op.Op.{Op}
+use Rattle.cs_ir.specs.declared.op.Reach.{Reach}
 use Rattle.cs_ir.specs.declared.register.Counts.{Counts}
 use Rattle.cs_ir.specs.declared.register.Reg.{Reg}
+use Rattle.cs_ir.specs.declared.window.OpAt.{OpAt}
 use Rattle.cs_machine.specs.declared.state.NoteSetting.{NoteSetting}
 use Rattle.cs_machine.specs.declared.state.State.{State}
 use Rattle.cs_machine.specs.States.{DoesAnywhere, DoesAt}
@@ -20,7 +30,7 @@ use Rattle.cs_voice.specs.Ready.{IsFit}
 pub record Parts (counts : Counts) (op : Op) : Type 0 where
   pub into : writes op.act ≡ true → has_register counts op.into ≡ true
   pub from : list_all (has_register counts) op.from ≡ true
-  pub takes : takes_from op.act op.into.rate op.from ≡ true
+  pub takes : takes_from op.act (rate_at op.into) op.from ≡ true
 
 written_there : (w b : Bool) → (not w || b) ≡ true → w ≡ true → b ≡ true
 written_there true b h e = h
@@ -29,7 +39,7 @@ written_there false b h e = absurd (cc)
 pub parts : (counts : Counts) (end place : ℕ) (op : Op) → is_fine counts end place op ≡ true → Parts counts op
 parts counts end place op h =
     let abc = and_parts ((not (writes op.act) || has_register counts op.into) && list_all (has_register counts) op.from
-    && finds counts end place op.act) (takes_from op.act op.into.rate op.from) h in
+    && finds counts end place op.act) (takes_from op.act (rate_at op.into) op.from) h in
     let ab = and_parts ((not (writes op.act) || has_register counts op.into) && list_all (has_register counts) op.from)
     (finds counts end place op.act) abc.0 in
     let a = and_parts (not (writes op.act) || has_register counts op.into) (list_all (has_register counts) op.from)
@@ -44,7 +54,7 @@ pub found : (counts : Counts) (end place : ℕ) (op : Op) → is_fine counts end
     → finds counts end place op.act ≡ true
 found counts end place op h =
     let abc = and_parts ((not (writes op.act) || has_register counts op.into) && list_all (has_register counts) op.from
-    && finds counts end place op.act) (takes_from op.act op.into.rate op.from) h in
+    && finds counts end place op.act) (takes_from op.act (rate_at op.into) op.from) h in
     (and_parts ((not (writes op.act) || has_register counts op.into) && list_all (has_register counts) op.from)
     (finds counts end place op.act) abc.0).1
 
@@ -95,25 +105,62 @@ no_operands (act.Load g) r [] b h = refl
 no_operands (act.Load g) r (x ∷ xs) b h = absurd (cc)
 no_operands a r xs b h = absurd (cc)
 
+-- ---- an op where it is done
+
+-- it does there what it does, with its unit counted from where the window's begin
+pub acts_there : (o : OpAt) {a : Act} → o.op.now.act ≡ a → (there o).act ≡ moved_act o.window.now 0 a
+acts_there o is = ap (moved_act o.window.now 0) is
+
+pub unit_there : (o : OpAt) (n : ℕ) {opcode : Opcode} {u : ℕ} {reach : Reach} → o.op.now.act ≡ act.Unit opcode u reach
+    → n ≡ o.window.now.unit + u → (there o).act ≡ act.Unit opcode n reach
+unit_there o n {opcode} {u} {reach} is counted = acts_there o is ∙ ap (λ k. act.Unit opcode k reach) (sym counted)
+
+-- the registers that it names are there, so that their numbers have 32 bits
+pub reads_there : (o : Op) (s : State) → IsFit o s → list_all (has_register s.regs.counts) o.from ≡ true
+reads_there o s fit = (parts s.regs.counts fit.end fit.place o fit.fine).from
+
+pub reads_small : (o : Op) (s : State) → IsFit o s → list_all is_small o.from ≡ true
+reads_small o s fit = all_small s.regs.counts o.from (reads_there o s fit)
+
+pub writes_there : (o : Op) (s : State) (a : Act) → IsFit o s → o.act ≡ a → writes a ≡ true
+    → has_register s.regs.counts o.into ≡ true
+writes_there o s a fit e w = (parts s.regs.counts fit.end fit.place o fit.fine).into (ap writes e ∙ w)
+
+pub writes_small : (o : Op) (s : State) (a : Act) → IsFit o s → o.act ≡ a → writes a ≡ true → is_small o.into ≡ true
+writes_small o s a fit e w = there_small s.regs.counts o.into (writes_there o s a fit e w)
+
+-- one register that it reads more
+pub one_read : (f : Reg → Wave) (xs : List Reg) (i : ℕ) (q : Reg) (before after : List ℤ) → slice_get xs i ≡ Some q
+    → before ≡ first_values (map f (take i xs)) → after ≡ before ++ f q 0 ∷ []
+    → after ≡ first_values (map f (take (i + 1) xs))
+one_read f xs i q before after at was grown =
+    let low : i < length xs = slice_get_within xs i q at in
+    grown ∙ ap (λ l. l ++ f q 0 ∷ []) was
+    ∙ sym (map-append (λ (w : Wave). w 0) (map f (take i xs)) (f q ∷ []))
+    ∙ sym (ap first_values (map_more f xs i q low
+    ∙ ap (λ x. map f (take i xs) ++ f x ∷ []) (get_or_from_slice_get xs i q q at)))
+
 -- ---- an op that does an act
 
-pub does_at : (at : NoteSetting) (a b : Act) (into : Reg) (xs ys : List Reg) (old new : State) → a ≡ b → xs ≡ ys
-    → DoesAt at b into ys old new → DoesAt at a into xs old new
-does_at at a b into xs ys old new e f h =
-    subst (λ d. DoesAt at d into xs old new) (sym e) (subst (λ l. DoesAt at b into l old new) (sym f) h)
+pub does_at : (at : NoteSetting) (o : Op) (b : Act) (into : Reg) (ys : List Reg) (old new : State) → o.act ≡ b
+    → into ≡ o.into → o.from ≡ ys → DoesAt at b into ys old new → DoesAt at o.act o.into o.from old new
+does_at at o b into ys old new e g f h =
+    subst (λ d. DoesAt at d o.into o.from old new) (sym e)
+    (subst (λ l. DoesAt at b o.into l old new) (sym f) (subst (λ q. DoesAt at b q ys old new) g h))
 
-pub does_anywhere : (at : NoteSetting) (a b : Act) (into : Reg) (xs ys : List Reg) (old new : State) → a ≡ b → xs ≡ ys
-    → DoesAnywhere b into ys old new → DoesAt at a into xs old new
-does_anywhere at a b into xs ys old new e f h =
-    does_at at a b into xs ys old new e f
+pub does_anywhere : (at : NoteSetting) (o : Op) (b : Act) (into : Reg) (ys : List Reg) (old new : State) → o.act ≡ b
+    → into ≡ o.into → o.from ≡ ys → DoesAnywhere b into ys old new → DoesAt at o.act o.into o.from old new
+does_anywhere at o b into ys old new e g f h =
+    does_at at o b into ys old new e g f
     (λ areas piece kinds counts cells setting state. h areas piece kinds counts cells state)
 
 -- an op whose act is known takes what the act takes
-pub takes_as : (op : Op) (a : Act) → op.act ≡ a → takes_from op.act op.into.rate op.from ≡ true
-    → takes_from a op.into.rate op.from ≡ true
-takes_as op a e h = ap (λ b. takes_from b op.into.rate op.from) (sym e) ∙ h
+pub takes_as : (op : Op) (a : Act) → op.act ≡ a → takes_from op.act (rate_at op.into) op.from ≡ true
+    → takes_from a (rate_at op.into) op.from ≡ true
+takes_as op a e h = ap (λ b. takes_from b (rate_at op.into) op.from) (sym e) ∙ h
 
 -- an op whose act takes no operand has none
 pub bare_from : (op : Op) (s : State) (a : Act) → IsFit op s → op.act ≡ a → is_bare a ≡ true → op.from ≡ []
 bare_from op s a fit e b =
-    no_operands a op.into.rate op.from b (takes_as op a e (parts s.regs.counts fit.end fit.place op fit.fine).takes)
+    no_operands a (rate_at op.into) op.from b (takes_as op a e (parts s.regs.counts fit.end fit.place op
+    fit.fine).takes)

@@ -1,5 +1,5 @@
 -- A code that is done from place to place, in a control cycle or as a note begins.
-use Rattle.std.proofs.Common.{◌≡◌, ℕ, ℤ, zero, suc, ◌+◌, ◌<◌, ◌≤◌, inl, inr, Bool, true, false, List, [], ◌∷◌, length}
+use Rattle.std.proofs.Common.{◌≡◌, ℕ, ℤ, zero, suc, ◌+◌, ◌<◌, ◌≤◌, inl, inr, Bool, true, List, [], ◌∷◌, length}
 use Rattle.std.proofs.Common.{map, get_or, slice_get, Option, Some, None, refl, sym, ◌∙◌, ap, subst, arith}
 use Rattle.cs_ir.specs.Cycles.{is_of_cycle}
 use Rattle.cs_ir.specs.Validity.{is_fine}
@@ -12,13 +12,14 @@ use Rattle.cs_machine.specs.Registers.{values}
 use Rattle.cs_machine.specs.declared.state.NoteSetting.{NoteSetting}
 use Rattle.cs_machine.specs.declared.state.State.{State}
 use Rattle.cs_voice_meaning.specs.Voices.{Sheet}
-use Rattle.cs_voice.specs.Codes.{CanDoHere, CanGo, CanStart, Finding}
-use Rattle.cs_voice.specs.Cycles.{CanRun, CanStep, Context, HasStepped}
+use Rattle.cs_voice.specs.Codes.{CanDoHere, CanGo, CanStart, Finding, HasStarted}
+use Rattle.cs_voice.specs.Cycles.{CanRun, CanStep, Context, HasRun}
 use Rattle.cs_voice.specs.Passing.{CanDoOp, CanPass, IsDone, Passes}
 use Rattle.cs_voice.specs.Ready.{CanBeDone, DoesOp, is_here}
 use Rattle.cs_voice.specs.declared.begin.StartRefusal.{StartRefusal}
 use Rattle.cs_voice.specs.declared.tables.Finds.{Finds}
-use Rattle.cs_voice.specs.inner.Jumps.{GoesOn, is_jump, is_start}
+use Rattle.cs_voice.specs.inner.Coming.{HasGoneOn, IsDoneTo, IsOfNoCycle, Outset}
+use Rattle.cs_voice.specs.inner.Jumps.{GoesOn, is_start}
 use Rattle.cs_voice.proofs.Ops.{fine_here}
 use Rattle.cs_voice.proofs.Passed as passed
 use Rattle.cs_voice.proofs.Steps as steps
@@ -30,18 +31,15 @@ starts_not act.Seek h s = absurd cc
 starts_not act.Ask h s = absurd cc
 starts_not _ h s = absurd cc
 
-pub here_if : (t : Act) → is_jump t ≡ false → is_start t ≡ false → is_here t ≡ true
-here_if (act.Jump to) j s = absurd cc
-here_if (act.Unless to) j s = absurd cc
-here_if (act.Start o u) j s = absurd cc
-here_if act.Seek j s = absurd cc
-here_if act.Ask j s = absurd cc
-here_if _ j s = refl
-
 item_of : (ops : List Op) (n : ℕ) (op : Op) → slice_get ops n ≡ Some op → op ≡ get_or ops n op
 item_of [] n op e = absurd cc
 item_of (x ∷ ops) zero op e = cc
 item_of (x ∷ ops) (suc n) op e = item_of ops n op e
+
+low_of : (ops : List Op) (n : ℕ) (op : Op) → slice_get ops n ≡ Some op → n < length ops
+low_of [] n op e = absurd cc
+low_of (x ∷ ops) zero op e = omega arith
+low_of (x ∷ ops) (suc n) op e = let h = low_of ops n op e in omega (arith, h)
 
 -- ---- one op
 
@@ -73,142 +71,151 @@ module _ (get set : ℕ → Type 0) (count : ℕ) (at : NoteSetting) (op : Op) (
 
 -- ---- a code
 
--- A code was done up to a place, as one of a control cycle; and as one of a sheet that begins.
-abbrev pub ComesTo : (get set : ℕ → Type 0) → ℕ → NoteSetting → List Op → State → (ℕ → ℤ) → ℕ → State → (ℕ → ℤ) → Type 0
-ComesTo get set count at ops first before place now cells = (c : Context) → CanRun get set count at c ops first
-    → steps.HasComeTo at.layout.now c ops place first before now cells
-
-abbrev pub PassesTo : (get set : ℕ → Type 0) → ℕ → NoteSetting → Finding → List Op → State → (ℕ → ℤ) → List Ask → ℕ
-    → State
-    → (ℕ → ℤ) → List Ask → Type 0
-PassesTo get set count at finding ops first before asked place now cells given =
-    (f : Finds) (ms : List Bool) (code : Code) (s : Sheet)
-    → finding ≡ Some (f, ms) → f.at ≡ at → code.ops ≡ ops → CanPass get set count f ms code s first
-    → passed.IsPassed s first before asked place now cells given
-
-module _ {R : Type 0} (get set : R → ℕ → Type 0) {r q : R} {n m : ℕ} (rest : q ≡ r) (long : m ≡ n) {at : NoteSetting}
-    {finding : Finding} {ops : List Op}
-    {first : State} {before : ℕ → ℤ} {asked : List Ask} {place : ℕ} {now : State} {cells : ℕ → ℤ} {given : List Ask}
-    (comes : ComesTo (get r) (set r) n at ops first before place now cells)
-    (goes : PassesTo (get r) (set r) n at finding ops first before asked place now cells given)
-    {here : List Op} {op : Op} (read : here ≡ ops) (there : place < length here)
-    (is_here : slice_get here place ≡ Some op) where
-  low : place < length ops
-  low = subst (λ (xs : List Op). place < length xs) read there
-
-  is : slice_get ops place ≡ Some op
-  is = subst (λ (xs : List Op). slice_get xs place ≡ Some op) read is_here
+module _ {R : Type 0} (get set : R → ℕ → Type 0) {r q : R} {n m : ℕ} (rest : q ≡ r) (long : m ≡ n) (at : NoteSetting)
+    (finding : Finding) (o : Outset) (place : ℕ) (now : State) (cells : ℕ → ℤ) (given : List Ask)
+    (done : IsDoneTo (get r) (set r) n at finding o place now cells given)
+    (op : Op) (is : slice_get o.ops place ≡ Some op) where
+  low : place < length o.ops
+  low = low_of o.ops place op is
 
   -- the op there can be done in a cycle, over what the bank was and over what it is
-  step_first : (c : Context) → CanRun (get r) (set r) n at c ops first
-      → CanStep (get r) (set r) n at c (length ops) place op now
-  step_first c can = steps.can_step (get r) (set r) n at c ops now place op
-      (steps.can_go_on (get r) (set r) n at c ops first now can (comes c can).state) low (item_of ops place op is)
+  step_first : (c : Context) → CanRun (get r) (set r) n at c o.ops o.first
+      → CanStep (get r) (set r) n at c (length o.ops) place op now
+  step_first c can = steps.can_step (get r) (set r) n at c o.ops now place op
+      (steps.can_go_on (get r) (set r) n at c o.ops o.first now can (done.cycle c can).state) low
+      (item_of o.ops place op is)
 
-  pub step_now : (c : Context) → CanRun (get r) (set r) n at c ops first
-      → CanStep (get q) (set q) m at c (length ops) place op now
-  step_now c can = steps.can_step (get q) (set q) m at c ops now place op
-      (steps.runs_again get set r q n m rest long at c ops now
-      (steps.can_go_on (get r) (set r) n at c ops first now can (comes c can).state)) low (item_of ops place op is)
+  step_now : (c : Context) → CanRun (get r) (set r) n at c o.ops o.first
+      → CanStep (get q) (set q) m at c (length o.ops) place op now
+  step_now c can = steps.can_step (get q) (set q) m at c o.ops now place op
+      (steps.runs_again get set r q n m rest long at c o.ops now
+      (steps.can_go_on (get r) (set r) n at c o.ops o.first now can (done.cycle c can).state)) low
+      (item_of o.ops place op is)
 
   -- and as one of a sheet that begins
-  pub op_now : (f : Finds) (ms : List Bool) (code : Code) (s : Sheet) → finding ≡ Some (f, ms) → f.at ≡ at
-      → code.ops ≡ ops
-      → CanPass (get r) (set r) n f ms code s first → CanDoOp (get q) (set q) m f ms op s now
+  op_now : (f : Finds) (ms : List Bool) (code : Code) (s : Sheet) → finding ≡ Some (f, ms) → f.at ≡ at
+      → code.ops ≡ o.ops
+      → CanPass (get r) (set r) n f ms code s o.first → CanDoOp (get q) (set q) m f ms op s now
   op_now f ms code s found same eq can =
-      passed.able_again get set r q n m f ms code s first before asked place now cells given op rest long can
-      (goes f ms code s found same eq can)
+      passed.able_again get set r q n m f ms code s o.first o.before o.asked place now cells given op rest long can
+      (done.passes f ms code s found same eq can)
       (ap (λ xs. slice_get xs place) eq ∙ is)
 
-  pub can_here : CanGo (get r) (set r) n at finding ops first → CanDoHere (get q) (set q) m at finding op now
+  pub can_here : CanGo (get r) (set r) n at finding o.ops o.first → CanDoHere (get q) (set q) m at finding op now
   can_here can = by finding refl can
     where
-      by : (x : Finding) → finding ≡ x → CanGo (get r) (set r) n at x ops first
+      by : (x : Finding) → finding ≡ x → CanGo (get r) (set r) n at x o.ops o.first
           → CanDoHere (get q) (set q) m at x op now
-      by x e (inl (c, h)) = inl (c, length ops, place, step_now c h)
+      by x e (inl (c, h)) = inl (c, length o.ops, place, step_now c h)
       by None e (inr h) = absurd h
       by (Some f) e (inr (code, s, same, eq, h)) = inr (s, same, op_now f.0 f.1 code s e same eq h)
 
-  pub fine_now : CanGo (get r) (set r) n at finding ops first
+  pub fine_now : CanGo (get r) (set r) n at finding o.ops o.first
       → (end : ℕ) × (is_fine now.regs.counts end place op ≡ true)
   fine_now can = by finding refl can
     where
-      by : (x : Finding) → finding ≡ x → CanGo (get r) (set r) n at x ops first
+      by : (x : Finding) → finding ≡ x → CanGo (get r) (set r) n at x o.ops o.first
           → (end : ℕ) × (is_fine now.regs.counts end place op ≡ true)
-      by x e (inl (c, h)) = (length ops, (step_first c h).fine)
+      by x e (inl (c, h)) = (length o.ops, (step_first c h).fine)
       by None e (inr h) = absurd h
       by (Some f) e (inr (code, s, same, eq, h)) =
-          let u = goes f.0 f.1 code s e same eq h in (
+          let u = done.passes f.0 f.1 code s e same eq h in (
             length code.ops,
             subst (λ k. is_fine k (length code.ops) place op ≡ true) (sym (u.counted ∙ h.counts))
                 (fine_here code place op h.valid (ap (λ xs. slice_get xs place) eq ∙ is)),
           )
 
   -- a jump
-  pub comes_jump : (to : ℕ) → place < to → GoesOn op.act (map (values now.regs) op.from) place to
-      → ComesTo (get r) (set r) n at ops first before to now cells
-  comes_jump to later on c can =
-      steps.came_on at.layout.now c ops first before place to op now now cells cells low (item_of ops place op is) later
-      (comes c can)
-      (steps.jump_step (get r) (set r) n at c now (length ops) place op (step_first c can) cells to on)
+  pub done_jump : (to : ℕ) → place < to → GoesOn op.act (map (values now.regs) op.from) place to
+      → IsDoneTo (get r) (set r) n at finding o to now cells given
+  done_jump to later on = record {
+    cycle = λ c can. steps.came_on at.layout.now c o.ops o.first o.before place to op now now cells cells low
+        (item_of o.ops place op is) later (done.cycle c can)
+        (steps.jump_step (get r) (set r) n at c now (length o.ops) place op (step_first c can) cells to on);
+    passes = λ f ms code s found same eq can. passed.passed_jump s o.first o.before o.asked place to now cells given op
+        (done.passes f ms code s found same eq can) (ap (λ xs. slice_get xs place) (can.same ∙ eq) ∙ is) later on;
+  }
 
-  pub passes_jump : (to : ℕ) → place < to → GoesOn op.act (map (values now.regs) op.from) place to
-      → PassesTo (get r) (set r) n at finding ops first before asked to now cells given
-  passes_jump to later on f ms code s found same eq can =
-      passed.passed_jump s first before asked place to now cells given op (goes f ms code s found same eq can)
-      (ap (λ xs. slice_get xs place) (can.same ∙ eq) ∙ is) later on
+  -- an op that was done over cells
+  pub done_act : (new : State) (after : ℕ → ℤ) → is_here op.act ≡ true
+      → DoesOp (get q) (set q) m at op now cells new after
+      → IsDoneTo (get r) (set r) n at finding o (place + 1) new after given
+  done_act new after here does = record {
+    cycle = λ c can. steps.came_on at.layout.now c o.ops o.first o.before place (place + 1) op now new cells after low
+        (item_of o.ops place op is) (omega arith) (done.cycle c can)
+        (steps.does_step (get q) (set q) m at c now (length o.ops) place op (step_now c can) cells new after does);
+    passes = λ f ms code s found same eq can. passed.passed_one s o.first o.before o.asked place now new cells after
+        given given op can.begin.playable (done.passes f ms code s found same eq can)
+        (ap (λ xs. slice_get xs place) (can.same ∙ eq) ∙ is)
+        (acted (get q) (set q) m at op now f ms s new cells after given same
+        (op_now f ms code s found same eq can) here does);
+  }
 
-  -- an op that was done
-  pub comes_one : (new : State) (after : ℕ → ℤ)
-      → ((c : Context) (end p : ℕ) → CanStep (get q) (set q) m at c end p op now
-      → HasStepped at.layout.now c op p (p + 1) now cells new after)
-      → ComesTo (get r) (set r) n at ops first before (place + 1) new after
-  comes_one new after did c can =
-      steps.came_on at.layout.now c ops first before place (place + 1) op now new cells after low
-      (item_of ops place op is) (omega arith) (comes c can)
-      (did c (length ops) place (step_now c can))
+  -- one that only a code has that begins a note is in no control cycle
+  pub never : is_start op.act ≡ true → IsOfNoCycle (get r) (set r) n at o
+  never st c can = starts_not op.act (step_first c can).acts st
 
-  pub passes_one : (new : State) (after : ℕ → ℤ) (asks_new : List Ask)
-      → ((f : Finds) (ms : List Bool) (s : Sheet) → finding ≡ Some (f, ms) → f.at ≡ at
-      → CanDoOp (get q) (set q) m f ms op s now
-      → IsDone s op now cells given new after asks_new None)
-      → PassesTo (get r) (set r) n at finding ops first before asked (place + 1) new after asks_new
-  passes_one new after asks_new did f ms code s found same eq can =
-      passed.passed_one s first before asked place now new cells after given asks_new op can.begin.playable
-      (goes f ms code s found same eq can)
-      (ap (λ xs. slice_get xs place) (can.same ∙ eq) ∙ is)
-      (did f ms s found same (op_now f ms code s found same eq can))
+  -- and what it does as a note begins, to its end or to what was refused
+  pub done_start : (new : State) (asks : List Ask) (refused : Option StartRefusal) → is_start op.act ≡ true
+      → HasStarted finding op now given new asks refused
+      → HasGoneOn (get r) (set r) n at finding o (place + 1) new cells asks refused
+  done_start new asks refused st started = by refused did
+    where
+      did : (f : Finds) (ms : List Bool) (code : Code) (s : Sheet) → finding ≡ Some (f, ms) → f.at ≡ at
+          → code.ops ≡ o.ops → CanPass (get r) (set r) n f ms code s o.first
+          → IsDone s op now cells given new cells asks refused
+      did f ms code s found same eq can =
+          let h = op_now f ms code s found same eq can in
+          (subst (λ x. HasStarted x op now given new asks refused) found started) s cells (record {
+            found = h.begin.found;
+            playable = h.begin.playable;
+            fine = h.fine;
+            state = h.begin.state;
+          })
 
-  -- what was refused
-  pub passes_refused : (new : State) (after : ℕ → ℤ) (asks_new : List Ask) (refused : StartRefusal)
-      → ((f : Finds) (ms : List Bool) (s : Sheet) → finding ≡ Some (f, ms) → f.at ≡ at
-      → CanDoOp (get q) (set q) m f ms op s now
-      → IsDone s op now cells given new after asks_new (Some refused))
+      by : (x : Option StartRefusal) → ((f : Finds) (ms : List Bool) (code : Code) (s : Sheet)
+          → finding ≡ Some (f, ms) → f.at ≡ at → code.ops ≡ o.ops
+          → CanPass (get r) (set r) n f ms code s o.first → IsDone s op now cells given new cells asks x)
+          → HasGoneOn (get r) (set r) n at finding o (place + 1) new cells asks x
+      by None did = record {
+        cycle = λ c can. absurd (never st c can);
+        passes = λ f ms code s found same eq can. passed.passed_one s o.first o.before o.asked place now new cells
+            cells given asks op can.begin.playable (done.passes f ms code s found same eq can)
+            (ap (λ xs. slice_get xs place) (can.same ∙ eq) ∙ is) (did f ms code s found same eq can);
+      }
+      by (Some x) did = record {
+        cycle = never st;
+        passes = λ f ms code s found same eq can. passed.passed_refused s o.first o.before o.asked place now new cells
+            cells given asks op x (done.passes f ms code s found same eq can)
+            (ap (λ xs. slice_get xs place) (can.same ∙ eq) ∙ is) (did f ms code s found same eq can);
+      }
+
+-- ---- the whole of a code
+
+module _ (get set : ℕ → Type 0) (count : ℕ) (at : NoteSetting) (finding : Finding) (o : Outset) where
+  -- nothing has been done
+  pub done_none : IsDoneTo get set count at finding o 0 o.first o.before o.asked
+  done_none = record {
+    cycle = λ c can. steps.begun at.layout.now c o.ops o.first o.before can.state;
+    passes = λ f ms code s found same eq can. passed.passed_none s o.first o.before o.asked can.begin.state;
+  }
+
+  -- all has, or nothing more was after what was refused
+  pub all_cycle : (place : ℕ) (now : State) (cells : ℕ → ℤ) (given : List Ask) (refused : Option StartRefusal)
+      → length o.ops ≤ place → HasGoneOn get set count at finding o place now cells given refused
+      → (c : Context) → CanRun get set count at c o.ops o.first
+      → (refused ≡ None) × HasRun at.layout.now c o.ops o.first o.before now cells
+  all_cycle place now cells given None far done c can =
+      (refl, steps.ended at.layout.now c o.ops o.first o.before place now cells far (done.cycle c can))
+  all_cycle place now cells given (Some x) far done c can = absurd (done.cycle c can)
+
+  pub all_passed : (place : ℕ) (now : State) (cells : ℕ → ℤ) (given : List Ask) (refused : Option StartRefusal)
+      → length o.ops ≤ place → HasGoneOn get set count at finding o place now cells given refused
       → (f : Finds) (ms : List Bool) (code : Code) (s : Sheet) → finding ≡ Some (f, ms) → f.at ≡ at
-      → code.ops ≡ ops
-      → CanPass (get r) (set r) n f ms code s first → Passes s first before asked new after asks_new (Some refused)
-  passes_refused new after asks_new refused did f ms code s found same eq can =
-      passed.passed_refused s first before asked place now new cells after given asks_new op refused
-      (goes f ms code s found same eq can)
-      (ap (λ xs. slice_get xs place) (can.same ∙ eq) ∙ is)
-      (did f ms s found same (op_now f ms code s found same eq can))
-
--- the end of a code
-pub passes_all : (get set : ℕ → Type 0) (count : ℕ) (at : NoteSetting) (finding : Finding) (ops : List Op)
-    (first : State)
-    (before : ℕ → ℤ) (asked : List Ask)
-    (place : ℕ) (now : State) (cells : ℕ → ℤ) (given : List Ask)
-    → PassesTo get set count at finding ops first before asked place now cells given → length ops ≤ place
-    → (f : Finds) (ms : List Bool) (code : Code) (s : Sheet) → finding ≡ Some (f, ms) → f.at ≡ at → code.ops ≡ ops
-    → CanPass get set count f ms code s first → Passes s first before asked now cells given None
-passes_all get set count at finding ops first before asked place now cells given goes far f ms code s found same eq
-    can =
-    passed.passed_all s first before asked place now cells given (goes f ms code s found same eq can)
-    (let e : length s.init ≡ length ops = ap length (can.same ∙ eq) in omega (arith, far, e))
-
--- where nothing was refused, nothing was
-pub not_refused : {A : Type 0} {X : Type 0} (o : Option A) (x : A) → o ≡ Some x → o ≡ None → X
-not_refused o x e h = absurd (none (sym e ∙ h))
-  where
-    none : Some x ≡ None → ⊥
-    none p = absurd cc
+      → code.ops ≡ o.ops → CanPass get set count f ms code s o.first
+      → Passes s o.first o.before o.asked now cells given refused
+  all_passed place now cells given None far done f ms code s found same eq can =
+      passed.passed_all s o.first o.before o.asked place now cells given (done.passes f ms code s found same eq can)
+      (let e : length s.init ≡ length o.ops = ap length (can.same ∙ eq) in omega (arith, far, e))
+  all_passed place now cells given (Some x) far done f ms code s found same eq can =
+      done.passes f ms code s found same eq can

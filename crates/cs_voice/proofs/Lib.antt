@@ -11,6 +11,7 @@ pub mod Began
 pub mod Ops
 pub mod Passed
 pub mod Going
+pub mod Coming
 pub mod Running
 pub mod Starting
 pub mod Tabled

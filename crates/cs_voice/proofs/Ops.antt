@@ -4,6 +4,7 @@ use Rattle.std.proofs.Common.{length, nat_lt, nat_le, slice_get, Some, if◌then
 use Rattle.std.specs.List.{list_all, AllByRecursion}
 use Rattle.std.proofs.lemmas.Bool.{and_parts}
 use Rattle.std.proofs.lemmas.Bool.Decides.{nat_tests}
+use Rattle.cs_ir.specs.Registers.{rate_at}
 use Rattle.cs_ir.specs.Resources.{Stock, act_uses, act_writes, writes_places, zak_uses}
 use Rattle.cs_ir.specs.Validity.{finds, has_register, is_fine, takes_from, valid, writes}
 use Rattle.cs_ir.specs.declared.op.Act.{Act}
@@ -58,7 +59,7 @@ op_of s code counts n op playable same fine counted at = record {
   end = length code.ops;
   place = n;
   fine = subst (λ c. is_fine c (length code.ops) n op ≡ true) (sym counted) (fine_here code n op fine at);
-  named = λ p. all_at (λ x. ActNamed p.stock p.kinds (HasArea s.areas) x.act x.into.rate) s.init n op p.init_uses
+  named = λ p. all_at (λ x. ActNamed p.stock p.kinds (HasArea s.areas) x.act (rate_at x.into)) s.init n op p.init_uses
       (ap (λ ops. slice_get ops n) same ∙ at);
   channel = each_at (λ x. has_channel s.piece.head.nchnls x.act) s.init n op playable.init_channels
       (ap (λ ops. slice_get ops n) same ∙ at);
@@ -69,15 +70,15 @@ pub names_of : (counts : Counts) (end place : ℕ) (op : Op) → is_fine counts 
 names_of counts end place op fine =
     let own : Bool = not (writes op.act) || has_register counts op.into in
     let outer = and_parts (own && list_all (has_register counts) op.from && finds counts end place op.act)
-    (takes_from op.act op.into.rate op.from) fine in
+    (takes_from op.act (rate_at op.into) op.from) fine in
     (and_parts (own && list_all (has_register counts) op.from) (finds counts end place op.act) outer.0).1
 
 pub takes_of : (counts : Counts) (end place : ℕ) (op : Op) → is_fine counts end place op ≡ true
-    → takes_from op.act op.into.rate op.from ≡ true
+    → takes_from op.act (rate_at op.into) op.from ≡ true
 takes_of counts end place op fine =
     let own : Bool = not (writes op.act) || has_register counts op.into in
     (and_parts (own && list_all (has_register counts) op.from && finds counts end place op.act)
-    (takes_from op.act op.into.rate op.from) fine).1
+    (takes_from op.act (rate_at op.into) op.from) fine).1
 
 -- Over a bank of all cells each op may be done.
 module _ (allowed : ℕ → Type 0) (count : ℕ) (areas : List Area) (laid : IsLaid areas)

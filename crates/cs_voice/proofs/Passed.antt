@@ -4,7 +4,9 @@ use Rattle.std.proofs.Common.{◌++◌, length, map, slice_get, Option, Some, No
 use Rattle.std.proofs.Common.{subst, append_assoc, arith}
 use Rattle.std.specs.Option.{option_map}
 use Rattle.std.proofs.lemmas.Bool.Decides.{nat_tests}
+use Rattle.cs_base.specs.declared.resource.Rate.{Rate}
 use Rattle.cs_words.specs.declared.catalogue.Opcode.{Opcode}
+use Rattle.cs_ir.specs.Registers.{rate_at}
 use Rattle.cs_ir.specs.Asks.{ask_of}
 use Rattle.cs_ir.specs.Cycles.{are_of_cycle, is_of_cycle}
 use Rattle.cs_ir.specs.Machine.{Machine, acts, in_world}
@@ -41,9 +43,10 @@ use Rattle.cs_voice.specs.Starting.{Starts, cause_of}
 use Rattle.cs_voice.specs.declared.begin.StartRefusal.{StartRefusal}
 use Rattle.cs_voice.specs.declared.tables.Finds.{Finds}
 use Rattle.cs_voice.specs.inner.Begun.{Seeks}
+use Rattle.cs_voice.specs.inner.Coming.{IsPassed, IsUpTo}
 use Rattle.cs_voice.specs.inner.Jumps.{GoesOn}
 use Rattle.cs_voice.proofs.Ops.{can_do, names_of, op_of, takes_of}
-use Rattle.cs_voice.proofs.Running.{IsUpTo, begins, ends, jumps, one_more, refuses}
+use Rattle.cs_voice.proofs.Running.{begins, ends, jumps, one_more, refuses}
 
 none_more : {A : Type 0} (xs : List A) → xs ++ [] ≡ xs
 none_more [] = refl
@@ -91,10 +94,11 @@ module _ (get set : ℕ → Type 0) (count : ℕ) (finds : Finds) (ms : List Boo
     end = fine.end;
     place = fine.place;
     fine = fine.fine;
-    named = subst (λ areas. ActNamed p.stock p.kinds (HasArea areas) op.act op.into.rate) here (fine.named p);
+    named = subst (λ areas. ActNamed p.stock p.kinds (HasArea areas) op.act (rate_at op.into)) here (fine.named p);
     channel = fine.channel;
     can = subst (λ areas. CanDo get set count areas p.stock op.act) here
-        (can_do get set count s.areas p.stock p.kinds op.act op.into.rate p.placed.laid gets sets long (fine.named p));
+        (can_do get set count s.areas p.stock p.kinds op.act (rate_at op.into) p.placed.laid gets sets long
+        (fine.named p));
   }
 
   pub can_be_done : IsPlayable s → CanBeDone get set count finds.at op old
@@ -141,7 +145,7 @@ done_ask s op old cells asked is state = record {
 pub done_start : (s : Sheet) (op : Op) (o : Opcode) (u : ℕ) (areas : List Area) (old new : State) (cells : ℕ → ℤ)
     (asked : List Ask) (refused : Option StartRefusal)
     → op.act ≡ act.Start o u → areas ≡ s.areas → IsPlayable s
-    → ((p : IsPlayable s) → Starts areas s.piece p.kinds old.regs.counts o op.into.rate u
+    → ((p : IsPlayable s) → Starts areas s.piece p.kinds old.regs.counts o (rate_at op.into) u
     (first_values (map (values old.regs) op.from)) old new refused)
     → IsDone s op old cells asked new cells asked refused
 done_start s op o u areas old new cells asked refused is same p starts = record {
@@ -155,21 +159,11 @@ done_start s op o u areas old new cells asked refused is same p starts = record 
 }
   where
     own : (q : IsPlayable s)
-        → Starts s.areas s.piece q.kinds old.regs.counts o op.into.rate u (first_values (map (values old.regs) op.from))
+        → Starts s.areas s.piece q.kinds old.regs.counts o (rate_at op.into) u (first_values (map (values old.regs)
+        op.from))
         old new refused
-    own q = subst (λ x. Starts x s.piece q.kinds old.regs.counts o op.into.rate u
+    own q = subst (λ x. Starts x s.piece q.kinds old.regs.counts o (rate_at op.into) u
         (first_values (map (values old.regs) op.from)) old new refused) same (starts q)
-
--- The code is done up to a place.
-pub record IsPassed (s : Sheet) (first : State) (before : ℕ → ℤ) (asked : List Ask) (place : ℕ) (now : State)
-    (cells : ℕ → ℤ) (given : List Ask) : Type 0 where
-  pub next : ℕ
-  pub more : List (List ℤ)
-  pub asks : given ≡ asked ++ map ask_of more
-  pub up : IsUpTo (voice_world s.areas s.piece) s.init (machine_of first before 0 [] None) place
-      (machine_of now cells next more None)
-  pub counted : now.regs.counts ≡ first.regs.counts
-  pub state : IsStateOf s first.regs.counts now
 
 pub passed_none : (s : Sheet) (first : State) (before : ℕ → ℤ) (asked : List Ask) → IsStateOf s first.regs.counts first
     → IsPassed s first before asked 0 first before asked
@@ -291,28 +285,34 @@ start_there counts end place u o op fine is =
 pub start_takes : (counts : Counts) (end place u : ℕ) (o : Opcode) (op : Op) → is_fine counts end place op ≡ true
     → op.act ≡ act.Start o u → IsUnitOpcode o
 start_takes counts end place u o op fine is =
-    started_shape o op.into.rate op.from
-    (subst (λ t. takes_from t op.into.rate op.from ≡ true) is (takes_of counts end place op fine))
+    started_shape o (rate_at op.into) op.from
+    (subst (λ t. takes_from t (rate_at op.into) op.from ≡ true) is (takes_of counts end place op fine))
 
 -- a start, and an ask, as they are done
-pub started_op : (finds : Finds) (ms : List Bool) (s : Sheet) (op : Op) (o : Opcode) (u : ℕ) (settled : List ℤ)
-    (old new : State) (cells : ℕ → ℤ) (asked : List Ask) (refused : Option StartRefusal)
-    → op.act ≡ act.Start o u → IsFound finds ms s → IsPlayable s → IsOpOf s old.regs.counts op
+pub started_op : (finds : Finds) (ms : List Bool) (s : Sheet) (op : Op) (o : Opcode) (u v : ℕ) (r : Rate)
+    (settled : List ℤ) (old new : State) (cells : ℕ → ℤ) (asked : List Ask) (refused : Option StartRefusal)
+    → op.act ≡ act.Start o u → v ≡ u → r ≡ rate_at op.into → IsFound finds ms s → IsPlayable s → IsOpOf s
+    old.regs.counts op
     → IsStateOf s old.regs.counts old
     → settled ≡ first_values (map (values old.regs) op.from)
     → ((piece : Piece) (kinds : Kinds) (counts : Counts) → piece.head ≡ header_of_head finds.at.head.now
     → piece.tables ≡ tables_of finds.tables.now ms
-    → kinds u ≡ (o, op.into.rate) → IsStateIn finds.at.layout.now piece kinds counts old
-    → Starts finds.at.layout.now piece kinds counts o op.into.rate u settled old new refused)
+    → kinds v ≡ (o, r) → IsStateIn finds.at.layout.now piece kinds counts old
+    → Starts finds.at.layout.now piece kinds counts o r v settled old new refused)
     → IsDone s op old cells asked new cells asked refused
-started_op finds ms s op o u settled old new cells asked refused is found playable fine state same starts =
+started_op finds ms s op o u v r settled old new cells asked refused is unit_is rate_is found playable fine state same
+    starts =
     done_start s op o u finds.at.layout.now old new cells asked refused is found.setting.layout playable
-    (λ p. subst (λ xs. Starts finds.at.layout.now s.piece p.kinds old.regs.counts o op.into.rate u xs old new refused)
+    (λ p. subst (λ xs. Starts finds.at.layout.now s.piece p.kinds old.regs.counts o (rate_at op.into) u xs old new
+    refused)
     same
+    (subst (λ w. Starts finds.at.layout.now s.piece p.kinds old.regs.counts o w u settled old new refused) rate_is
+    (subst (λ k. Starts finds.at.layout.now s.piece p.kinds old.regs.counts o r k settled old new refused) unit_is
     (starts s.piece p.kinds old.regs.counts found.setting.head found.tables
-    (subst (λ t. ActNamed p.stock p.kinds (HasArea s.areas) t op.into.rate) is (fine.named p)).0
+    (ap p.kinds unit_is ∙ (subst (λ t. ActNamed p.stock p.kinds (HasArea s.areas) t (rate_at op.into)) is
+    (fine.named p)).0 ∙ ap (λ w. (o, w)) (sym rate_is))
     (subst (λ areas. IsStateIn areas s.piece p.kinds old.regs.counts old) (sym found.setting.layout)
-    (state.in_piece p))))
+    (state.in_piece p))))))
 
 -- a look for a table
 sought : (s : Sheet) (old : State) (cells : ℕ → ℤ) (next : ℕ) (earlier : List (List ℤ)) (is : List ℤ)

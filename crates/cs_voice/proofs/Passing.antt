@@ -5,6 +5,7 @@ use Rattle.std.proofs.lemmas.Bool.Decides.{nat_tests}
 use Rattle.cs_ir.specs.Machine.{Machine, acts, step, run}
 use Rattle.cs_ir.specs.Worlds.{World}
 use Rattle.cs_ir.specs.declared.op.Op.{Op}
+use Rattle.cs_voice.specs.inner.Coming.{run_from}
 
 module _ {W : Type 0} (o : World W) where
   skipped : (place : ℕ) (op : Op) (m : Machine W) → place < m.next → step o place op m ≡ m
@@ -32,10 +33,6 @@ module _ {W : Type 0} (o : World W) where
       let n : Machine W = acts o op.act op.into (map m.regs op.from) m in
       ap (λ b. if b && not (o.refused m.world) then n else m) e ∙ ap (λ b. if not b then n else m) goes
 
-  -- the run of the ops from a place on
-  abbrev pub run_from : ℕ → List Op → Machine W → Machine W
-  run_from place ops m = run o place (drop place ops) m
-
   dropped : (ops : List Op) (place : ℕ) (op : Op) (rest : List Op) → drop place ops ≡ op ∷ rest
       → drop (place + 1) ops ≡ rest
   dropped [] zero op rest e = absurd (cc)
@@ -47,7 +44,7 @@ module _ {W : Type 0} (o : World W) where
 
   pub one_on : (ops : List Op) (place : ℕ) (op : Op) (rest : List Op) (m : Machine W) → drop place ops ≡ op ∷ rest
       → m.next ≤ place → o.refused m.world ≡ false
-      → run_from place ops m ≡ run_from (place + 1) ops (acts o op.act op.into (map m.regs op.from) m)
+      → run_from o place ops m ≡ run_from o (place + 1) ops (acts o op.act op.into (map m.regs op.from) m)
   one_on ops place op rest m e near goes =
       ap (λ l. run o place l m) e
       ∙ ap (run o (place + 1) rest) (done_here place op m near goes)
@@ -62,7 +59,7 @@ module _ {W : Type 0} (o : World W) where
 
   -- to a later place
   pub on_to : (ops : List Op) (place to : ℕ) (m : Machine W) → place ≤ to → m.next ≡ to
-      → run_from place ops m ≡ run_from to ops m
+      → run_from o place ops m ≡ run_from o to ops m
   on_to ops place to m later e =
       let k : ℕ = to - place in
       let there : place + k ≡ to = omega (arith, later) in
@@ -71,7 +68,7 @@ module _ {W : Type 0} (o : World W) where
       ∙ ap (λ n. run o n (drop n ops) m) there
 
   -- behind the last op nothing is done
-  pub at_end : (ops : List Op) (place : ℕ) (m : Machine W) → length ops ≤ place → run_from place ops m ≡ m
+  pub at_end : (ops : List Op) (place : ℕ) (m : Machine W) → length ops ≤ place → run_from o place ops m ≡ m
   at_end [] zero m far = refl
   at_end [] (suc place) m far = refl
   at_end (op ∷ ops) zero m far = absurd (omega arith)

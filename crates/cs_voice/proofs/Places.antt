@@ -1,8 +1,11 @@
 -- Zak places: what their opcodes do at the place that a value names.
 use Rattle.std.proofs.Common.{◌≡◌, ℕ, ℤ, pos, ◌≤◌, ◌&&◌, Bool, true, false, not, List, [], ◌∷◌, length, nat_lt, Option}
 use Rattle.std.proofs.Common.{Some, None, if◌then◌else◌, refl, sym, ◌∙◌, ap, subst, arith}
+use Rattle.std.proofs.Common.{ltb-true}
+use Rattle.std.proofs.lemmas.Bool.{and_parts}
 use Rattle.std.proofs.lemmas.Bool.Decides.{nat_tests}
 use Rattle.std.proofs.lemmas.List.{get_or_past}
+use Rattle.std.proofs.lemmas.Option.{none-some}
 use Rattle.cs_base.specs.Rates.{res_rate}
 use Rattle.cs_base.specs.declared.resource.Rate.TheVariants as rate
 use Rattle.cs_base.specs.declared.resource.Res.{Res}
@@ -30,7 +33,9 @@ use Rattle.cs_machine.specs.Rows.{row_wave}
 use Rattle.cs_voice_meaning.specs.Placing.{area_of, wave_in, wave_of, with_wave}
 use Rattle.cs_voice_meaning.specs.VoiceWorld.{VoiceState, read_cells, voice_model, voice_world}
 use Rattle.cs_machine.proofs.Writing.{frame_past}
+use Rattle.cs_voice.specs.Cells.{MayReach}
 use Rattle.cs_voice.specs.inner.Zak.{reached}
+use Rattle.cs_machine.specs.Access.{CanTouch}
 use Rattle.cs_machine.specs.declared.state.NoteSetting.{NoteSetting}
 
 -- ---- the acts, by the shapes of their opcodes
@@ -147,6 +152,22 @@ reached_value at s reach k g h = let p =
     place_value : (s : Space) (n : ℕ) → has_value (zak_place s n) ≡ true
     place_value space.Control n = refl
     place_value space.Audio n = refl
+
+-- it may be touched where all within reach may be
+pub reached_touched : (allowed : ℕ → Type 0) (count : ℕ) (at : NoteSetting) (s : Space) (reach : Reach) (k : Option ℕ)
+    (g : Res) (area : Area)
+    → MayReach allowed count at s reach → reached at s reach k ≡ Some g → area_of at.layout.now g ≡ Some area
+    → CanTouch allowed count area
+reached_touched allowed count at s reach None g area may h there = absurd cc
+reached_touched allowed count at s reach (Some n) g area may h there =
+    by_test (nat_lt n (places_of at.spaces s) && reaches reach n)
+    (λ yes. let both = and_parts (nat_lt n (places_of at.spaces s)) (reaches reach n) yes in
+    let same : zak_place s n ≡ g =
+    some_is (zak_place s n) g (ap (λ b. if b then Some (zak_place s n) else None) (sym yes) ∙ h) in
+    let found = may n (ltb-true n (places_of at.spaces s) both.0) both.1 in
+    subst (CanTouch allowed count) (some_is found.0 area (sym found.1 ∙ ap (area_of at.layout.now) same ∙ there))
+    found.2)
+    (λ no. absurd (none-some g (ap (λ b. if b then Some (zak_place s n) else None) (sym no) ∙ h)))
 
 pub reached_sound : (at : NoteSetting) (reach : Reach) (k : Option ℕ) (g : Res)
     → reached at space.Audio reach k ≡ Some g

@@ -1,19 +1,22 @@
 -- The steps of a unit in a cycle, at the rate of the register that its result goes into.
-use Rattle.std.proofs.Common.{◌≡◌, ℕ, ℤ, List, [], ◌∷◌, refl, ◌∙◌, ap}
+use Rattle.std.proofs.Common.{◌≡◌, ℕ, ℤ, true, false, List, [], ◌∷◌, Option, Some, None, if◌then◌else◌, sym}
+use Rattle.std.proofs.Common.{◌∙◌, ap}
+use Rattle.cs_base.specs.Rates.{is_audio}
 use Rattle.cs_base.specs.declared.resource.Rate.{Rate}
 use Rattle.cs_base.specs.declared.resource.Rate.TheVariants as rate
 use Rattle.cs_signal.specs.Operands.{argument}
 use Rattle.cs_ugen.specs.declared.unit.UnitState.{UnitState}
-use Rattle.cs_ir.specs.Waves.{Wave, constant}
+use Rattle.cs_ir.specs.Waves.{Wave, constant, silence}
+use Rattle.cs_ir.specs.declared.op.Reach.{Reach}
 use Rattle.cs_meaning.specs.Pieces.{step_at}
 use Rattle.cs_machine.specs.Players.{PlayerData, SamePlayer, stepped}
 use Rattle.cs_machine.specs.Rows.{HasFrames}
-use Rattle.cs_voice.specs.Units.{cycled}
+use Rattle.cs_voice.specs.Units.{cycled, may_play, unit_after, unit_gives}
 
 -- a step a frame
 pub audio_frames : (ksmps n : ℕ) (r : Rate) (ws : List Wave) (cells : ℕ → ℤ) (p : PlayerData) (k : UnitState)
     (row : List ℤ)
-    → r ≡ rate.Audio → n ≡ ksmps
+    → is_audio r ≡ true → n ≡ ksmps
     → (k, row) ≡ stepped p ws cells n → HasFrames (λ j. argument (cycled ksmps r ws cells p).1 (step_at r j)) row
 audio_frames ksmps n rate.Audio ws cells p k row e long is j low =
     ap (λ (d : UnitState × List ℤ). argument d.1 j) is ∙ ap (λ m. argument (stepped p ws cells m).1 j) long
@@ -22,18 +25,47 @@ audio_frames ksmps n rate.Init ws cells p k row e long is j low = absurd (cc)
 
 -- one step, whose result is held
 pub held_gives : (ksmps : ℕ) (r : Rate) (ws : List Wave) (cells : ℕ → ℤ) (p : PlayerData) (k : UnitState) (z : ℤ)
-    → ¬ (r ≡ rate.Audio)
+    → is_audio r ≡ false
     → (k, z ∷ []) ≡ stepped p ws cells 1 → constant z ≡ (λ j. argument (cycled ksmps r ws cells p).1 (step_at r j))
-held_gives ksmps rate.Audio ws cells p k z slow is = absurd (slow refl)
+held_gives ksmps rate.Audio ws cells p k z slow is = absurd (cc)
 held_gives ksmps rate.Control ws cells p k z slow is = λ i j. ap (λ (d : UnitState × List ℤ). argument d.1 0) is i
 held_gives ksmps rate.Init ws cells p k z slow is = λ i j. ap (λ (d : UnitState × List ℤ). argument d.1 0) is i
 
 pub held_state : (ksmps : ℕ) (r : Rate) (ws : List Wave) (cells : ℕ → ℤ) (p : PlayerData) (k : UnitState) (z : ℤ)
-    → ¬ (r ≡ rate.Audio)
+    → is_audio r ≡ false
     → (k, z ∷ []) ≡ stepped p ws cells 1 → k ≡ (cycled ksmps r ws cells p).0
-held_state ksmps rate.Audio ws cells p k z slow is = absurd (slow refl)
+held_state ksmps rate.Audio ws cells p k z slow is = absurd (cc)
 held_state ksmps rate.Control ws cells p k z slow is = ap (λ (d : UnitState × List ℤ). d.0) is
 held_state ksmps rate.Init ws cells p k z slow is = ap (λ (d : UnitState × List ℤ). d.0) is
+
+-- a unit whose table is within reach
+pub plays_within : (ksmps : ℕ) (r : Rate) (reach : Reach) (ws : List Wave) (cells : ℕ → ℤ) (o : Option PlayerData)
+    (p : PlayerData) → o ≡ Some p → may_play reach p ≡ true
+    → (Some (record p { state = (cycled ksmps r ws cells p).0 }) ≡ unit_after ksmps r reach ws cells o)
+    × ((λ j. argument (cycled ksmps r ws cells p).1 (step_at r j)) ≡ unit_gives ksmps r reach ws cells o)
+plays_within ksmps r reach ws cells o p is within = (
+  sym (ap (unit_after ksmps r reach ws cells) is
+      ∙ ap (λ b. Some (if b then record p { state = (cycled ksmps r ws cells p).0 } else p)) within),
+  sym (ap (unit_gives ksmps r reach ws cells) is
+      ∙ ap (λ b. if b then (λ j. argument (cycled ksmps r ws cells p).1 (step_at r j)) else silence) within),
+)
+
+-- any other
+pub rests_beyond : (ksmps : ℕ) (r : Rate) (reach : Reach) (ws : List Wave) (cells : ℕ → ℤ) (o : Option PlayerData)
+    (p : PlayerData) → o ≡ Some p → may_play reach p ≡ false
+    → (Some p ≡ unit_after ksmps r reach ws cells o) × (silence ≡ unit_gives ksmps r reach ws cells o)
+rests_beyond ksmps r reach ws cells o p is beyond = (
+  sym (ap (unit_after ksmps r reach ws cells) is
+      ∙ ap (λ b. Some (if b then record p { state = (cycled ksmps r ws cells p).0 } else p)) beyond),
+  sym (ap (unit_gives ksmps r reach ws cells) is
+      ∙ ap (λ b. if b then (λ j. argument (cycled ksmps r ws cells p).1 (step_at r j)) else silence) beyond),
+)
+
+-- no unit
+pub rests_none : (ksmps : ℕ) (r : Rate) (reach : Reach) (ws : List Wave) (cells : ℕ → ℤ) (o : Option PlayerData)
+    → o ≡ None → (None ≡ unit_after ksmps r reach ws cells o) × (silence ≡ unit_gives ksmps r reach ws cells o)
+rests_none ksmps r reach ws cells o is =
+    (sym (ap (unit_after ksmps r reach ws cells) is), sym (ap (unit_gives ksmps r reach ws cells) is))
 
 -- all but the state of a unit is what it was
 pub same_data : (p q : PlayerData) (k : UnitState) → SamePlayer p q → q.state ≡ k → q ≡ record p { state = k }

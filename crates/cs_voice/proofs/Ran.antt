@@ -11,6 +11,7 @@ use Rattle.cs_signal.specs.Operands.{argument}
 use Rattle.cs_signal.specs.Steps.{run}
 use Rattle.cs_ugen.specs.Units.{IsUnitOpcode, opcode_of, unit_step}
 use Rattle.cs_ugen.specs.declared.unit.UnitState.{UnitState}
+use Rattle.cs_ir.specs.Registers.{rate_at}
 use Rattle.cs_ir.specs.Machine.{Machine, acts, gives, in_world, put, write, written}
 use Rattle.cs_ir.specs.Resources.{Stock}
 use Rattle.cs_ir.specs.Waves.{Wave, held, silence}
@@ -119,7 +120,7 @@ run_machine : (ksmps : ℕ) (old new : State) (u : ℕ) (q : Option PlayerData) 
     ≡ (let m : Machine VoiceState =
     machine_of old before next asks cause in write ksmps into w (in_world (answers u q w m.world).0 m))
 run_machine ksmps old new u q into w ran frames low before after same next asks cause = λ i. record {
-  regs = (ran.regs.values ∙ ap (λ n. put (values old.regs) into (held n into.rate w)) frames) i;
+  regs = (ran.regs.values ∙ ap (λ n. put (values old.regs) into (held n (rate_at into) w)) frames) i;
   next = next;
   world = record {
     shared = same i;
@@ -196,17 +197,17 @@ unit_machine ksmps u q into w m = write ksmps into w (in_world (answers u q w m.
 acts_as : (areas : List Area) (stock : Stock) (piece : Piece) (opcode : Opcode) (u : ℕ) (reach : Reach) (into : Reg)
     (ws : List Wave) (m : Machine VoiceState) (o : Option PlayerData)
     → IsUnitOpcode opcode → IsPlaced areas stock piece → m.world.units u ≡ option_map playing o
-    → ((p : PlayerData) → o ≡ Some p → IsPlayerOf areas piece (opcode, into.rate) p)
+    → ((p : PlayerData) → o ≡ Some p → IsPlayerOf areas piece (opcode, (rate_at into)) p)
     → acts (voice_world areas piece) (act.Unit opcode u reach) into ws m
-    ≡ unit_machine piece.head.ksmps u (unit_after piece.head.ksmps into.rate reach ws m.world.shared o) into
-    (unit_gives piece.head.ksmps into.rate reach ws m.world.shared o) m
+    ≡ unit_machine piece.head.ksmps u (unit_after piece.head.ksmps (rate_at into) reach ws m.world.shared o) into
+    (unit_gives piece.head.ksmps (rate_at into) reach ws m.world.shared o) m
 acts_as areas stock piece opcode u reach into ws m o unit placed at is =
     ap (λ d. written piece.head.ksmps opcode into d m)
-    (ap (λ k. unit_does (voice_model areas piece) opcode into.rate u reach ws k m.world) at
-    ∙ plays_as areas stock piece opcode into.rate reach u ws m.world placed o at is)
+    (ap (λ k. unit_does (voice_model areas piece) opcode (rate_at into) u reach ws k m.world) at
+    ∙ plays_as areas stock piece opcode (rate_at into) reach u ws m.world placed o at is)
     ∙ given (gives opcode) (unit_result opcode unit).some
-    (answers u (unit_after piece.head.ksmps into.rate reach ws m.world.shared o)
-    (unit_gives piece.head.ksmps into.rate reach ws m.world.shared o) m.world)
+    (answers u (unit_after piece.head.ksmps (rate_at into) reach ws m.world.shared o)
+    (unit_gives piece.head.ksmps (rate_at into) reach ws m.world.shared o) m.world)
   where
     given : (b : Bool) → b ≡ true → (d : VoiceState × Wave)
         → (if b then write piece.head.ksmps into d.1 (in_world d.0 m) else in_world d.0 m) ≡ write piece.head.ksmps into
@@ -216,12 +217,12 @@ acts_as areas stock piece opcode u reach into ws m o unit placed at is =
 
 pub unit_done : (areas : List Area) (piece : Piece) (stock : Stock) (kinds : Kinds) (counts : Counts) (opcode : Opcode)
     (u : ℕ) (reach : Reach) (into : Reg) (from : List Reg)
-    (old new : State) (before after : ℕ → ℤ) → IsUnitOpcode opcode → kinds u ≡ (opcode, into.rate)
+    (old new : State) (before after : ℕ → ℤ) → IsUnitOpcode opcode → kinds u ≡ (opcode, (rate_at into))
     → IsPlaced areas stock piece → IsStateIn areas piece kinds counts old
     → u < length old.players.items → after ≡ before
-    → HasRun old u (unit_after old.regs.ksmps into.rate reach (map (values old.regs) from) before
+    → HasRun old u (unit_after old.regs.ksmps (rate_at into) reach (map (values old.regs) from) before
     (slice_index_or old.players.items u None)) into
-    (unit_gives old.regs.ksmps into.rate reach (map (values old.regs) from) before
+    (unit_gives old.regs.ksmps (rate_at into) reach (map (values old.regs) from) before
     (slice_index_or old.players.items u None)) new
     → Does areas piece kinds counts (act.Unit opcode u reach) into from old before new after
 unit_done areas piece stock kinds counts opcode u reach into from old new before after unit kind placed state low same
@@ -229,9 +230,11 @@ unit_done areas piece stock kinds counts opcode u reach into from old new before
       machine = λ next asks cause.
           run_machine piece.head.ksmps old new u _ into _ ran state.frames low before after same next asks cause
           ∙ ap (λ n. unit_machine piece.head.ksmps u
-          (unit_after n into.rate reach (map (values old.regs) from) before (slice_index_or old.players.items u None))
+          (unit_after n (rate_at into) reach (map (values old.regs) from) before (slice_index_or old.players.items u
+          None))
           into
-          (unit_gives n into.rate reach (map (values old.regs) from) before (slice_index_or old.players.items u None))
+          (unit_gives n (rate_at into) reach (map (values old.regs) from) before (slice_index_or old.players.items u
+          None))
           (machine_of old before next asks cause)) state.frames
           ∙ sym (acts_as areas stock piece opcode u reach into (map (values old.regs) from)
           (machine_of old before next asks cause) (slice_index_or old.players.items u None) unit placed refl
@@ -243,7 +246,7 @@ unit_done areas piece stock kinds counts opcode u reach into from old new before
         channel_frames = ap (λ f. f.ksmps) ran.outs ∙ state.channel_frames;
         units = ap length ran.players ∙ length-set old.players.items u _ ∙ state.units;
         row = ran.row ∙ state.frames;
-        players = λ v p at. players_run areas piece kinds old.players.items u old.regs.ksmps into.rate reach
+        players = λ v p at. players_run areas piece kinds old.players.items u old.regs.ksmps (rate_at into) reach
             (map (values old.regs) from) before low state.players v p
             (ap (λ l. slice_index_or l v None) (sym ran.players) ∙ at);
       };

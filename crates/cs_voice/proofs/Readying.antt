@@ -14,6 +14,7 @@ use Rattle.cs_words.specs.declared.catalogue.Shape.{Shape}
 use Rattle.cs_words.specs.declared.catalogue.Shape.TheVariants as shape
 use Rattle.cs_words.specs.declared.catalogue.Space.{Space}
 use Rattle.cs_ugen.specs.Units.{IsUnitOpcode, moving_count}
+use Rattle.cs_ir.specs.Registers.{rate_at}
 use Rattle.cs_ir.specs.Resources.{Stock, act_uses, act_writes, places_within, shape_uses, writes_places}
 use Rattle.cs_ir.specs.Units.{is_unit, is_zak}
 use Rattle.cs_ir.proofs.Shapes.{run_shape}
@@ -37,6 +38,7 @@ use Rattle.cs_voice.specs.Cells.{AreSized, CanReach, DoesOver, MayReach, MayStor
 use Rattle.cs_voice.specs.Ready.{DoesOp, IsFit, IsReady}
 use Rattle.cs_voice.specs.Units.{DoesUnit, MayPlay}
 use Rattle.cs_voice.proofs.Fitting.{Parts, found, parts, takes_as}
+use Rattle.cs_voice.proofs.Points.{unit_result}
 use Rattle.cs_voice.proofs.Touching.{may_reach, may_run, may_store}
 
 -- ---- what each op has
@@ -73,15 +75,16 @@ module _ {can_get can_set : ℕ → Type 0} {count : ℕ} {at : NoteSetting} {pi
   pub writes_of : {a : Act} → o.act ≡ a → AreNamed (MayTouch can_set count at.layout.now) (act_writes stock a)
   writes_of {a} e = subst (λ b. AreNamed (MayTouch can_set count at.layout.now) (act_writes stock b)) e r.can.writes
 
-  pub takes_of : {a : Act} → o.act ≡ a → takes_from a o.into.rate o.from ≡ true
+  pub takes_of : {a : Act} → o.act ≡ a → takes_from a (rate_at o.into) o.from ≡ true
   takes_of {a} e = takes_as o a e (parts s.regs.counts r.end r.place o r.fine).takes
 
   pub into_of : {a : Act} → o.act ≡ a → writes a ≡ true → has_register s.regs.counts o.into ≡ true
   into_of {a} e w = (parts s.regs.counts r.end r.place o r.fine).into (ap writes e ∙ w)
 
   pub kind_of : {opcode : Opcode} {u : ℕ} {reach : Reach} → o.act ≡ act.Unit opcode u reach
-      → kinds u ≡ (opcode, o.into.rate)
-  kind_of {opcode} {u} {reach} e = (subst (λ a. ActNamed stock kinds (HasArea at.layout.now) a o.into.rate) e r.named).0
+      → kinds u ≡ (opcode, (rate_at o.into))
+  kind_of {opcode} {u} {reach} e = (subst (λ a. ActNamed stock kinds (HasArea at.layout.now) a (rate_at o.into)) e
+      r.named).0
 
   pub number_of : {opcode : Opcode} {u : ℕ} {reach : Reach} → o.act ≡ act.Unit opcode u reach
       → u < length s.players.items
@@ -92,9 +95,10 @@ module _ {can_get can_set : ℕ → Type 0} {count : ℕ} {at : NoteSetting} {pi
   -- the players of a unit
   pub player_of : {opcode : Opcode} {u : ℕ} {reach : Reach} → o.act ≡ act.Unit opcode u reach → (p : PlayerData)
       → slice_index_or s.players.items u None ≡ Some p
-      → IsPlayerOf at.layout.now piece (opcode, o.into.rate) p
+      → IsPlayerOf at.layout.now piece (opcode, (rate_at o.into)) p
   player_of {opcode} {u} {reach} e p is = subst (λ k. IsPlayerOf at.layout.now piece k p)
-      (subst (λ a. ActNamed stock kinds (HasArea at.layout.now) a o.into.rate) e r.named).0 (r.state.players u p is)
+      (subst (λ a. ActNamed stock kinds (HasArea at.layout.now) a (rate_at o.into)) e r.named).0 (r.state.players u
+      p is)
 
 -- ---- operands of units, of stores and of acts on zak places
 
@@ -103,7 +107,7 @@ take_count [] bound [] h = refl
 take_count [] bound (x ∷ xs) h = absurd (cc)
 take_count (l ∷ ls) bound [] h = absurd (cc)
 take_count (l ∷ ls) bound (x ∷ xs) h =
-    ap (λ n. suc n) (take_count ls bound xs (and_parts (takes l bound x.rate) (take_all ls bound xs) h).1)
+    ap (λ n. suc n) (take_count ls bound xs (and_parts (takes l bound (rate_at x)) (take_all ls bound xs) h).1)
 
 run_takes : (o : Opcode) (r : Rate) (xs : List Reg) → runs_with (row_of o) r xs ≡ true
     → take_all (moving_letters (row_of o)) (bound_at (row_of o) r) xs ≡ true
@@ -161,13 +165,13 @@ mixes _ h = absurd (cc)
 
 pub mix_sounds : (o : Opcode) (reach : Reach) (r : Rate) (xs : List Reg) (x n : Reg)
     → takes_from (act.Zak o reach) r xs ≡ true → (row_of o).shape ≡ shape.ZakMix
-    → xs ≡ x ∷ n ∷ [] → is_audio x.rate ≡ true
+    → xs ≡ x ∷ n ∷ [] → is_audio (rate_at x) ≡ true
 mix_sounds o reach r xs x n h mix e =
     let is : o ≡ op.Zawm = mixes o mix in
     let all : take_all (moving_letters (row_of op.Zawm)) (bound_at (row_of op.Zawm) r) (x ∷ n ∷ []) ≡ true =
     ap (λ q. take_all (moving_letters (row_of q)) (bound_at (row_of q) r) (x ∷ n ∷ [])) (sym is)
     ∙ ap (take_all (moving_letters (row_of o)) (bound_at (row_of o) r)) (sym e) ∙ zak_takes o reach r xs h in
-    (and_parts (is_audio x.rate) (take_all (letter.Place ∷ []) (bound_at (row_of op.Zawm) r) (n ∷ [])) all).0
+    (and_parts (is_audio (rate_at x)) (take_all (letter.Place ∷ []) (bound_at (row_of op.Zawm) r) (n ∷ [])) all).0
 
 -- a store takes three operands
 pub store_long : (r : Rate) (xs : List Reg) → stores_with r xs ≡ true → length xs ≡ 3
@@ -177,28 +181,37 @@ store_long r (x ∷ y ∷ []) h = absurd (cc)
 store_long r (x ∷ y ∷ n ∷ []) h = refl
 store_long r (x ∷ y ∷ n ∷ z ∷ xs) h = absurd (cc)
 
+-- the register that a unit's result goes into is there
+pub unit_into : {can_get can_set : ℕ → Type 0} {count : ℕ} {at : NoteSetting} {piece : Piece} {kinds : Kinds}
+    {stock : Stock} {o : Op} {s : State}
+    → IsReady can_get can_set count at piece kinds stock o s → {opcode : Opcode} {u : ℕ} {reach : Reach}
+    → o.act ≡ act.Unit opcode u reach → has_register s.regs.counts o.into ≡ true
+unit_into {can_get} {can_set} {count} {at} {piece} {kinds} {stock} {o} {s} r {opcode} {u} {reach} e =
+    into_of r e (unit_result opcode (is_a_unit opcode u reach (rate_at o.into) o.from (takes_of r e))).some
+
 -- ---- an op that is done
 
-pub does_op : {can_get can_set : ℕ → Type 0} {count : ℕ} {at : NoteSetting} {o : Op} {b : Act} {ys : List Reg}
-    {old : State}
-    {before : ℕ → ℤ} {new : State} {after : ℕ → ℤ}
-    → o.act ≡ b → o.from ≡ ys → DoesOver at b o.into ys old before new after
+pub does_op : {can_get can_set : ℕ → Type 0} {count : ℕ} {at : NoteSetting} {o : Op} {b : Act} {into : Reg}
+    {ys : List Reg} {old : State} {before : ℕ → ℤ} {new : State} {after : ℕ → ℤ}
+    → o.act ≡ b → into ≡ o.into → o.from ≡ ys → DoesOver at b into ys old before new after
     → DoesOp can_get can_set count at o old before new after
-does_op {can_get} {can_set} {count} {at} {o} {b} {ys} {old} {before} {new} {after} e f h piece kinds stock r =
+does_op {can_get} {can_set} {count} {at} {o} {b} {into} {ys} {old} {before} {new} {after} e g f h piece kinds stock r =
     subst (λ d. Does at.layout.now piece kinds old.regs.counts d o.into o.from old before new after) (sym e)
     (subst (λ l. Does at.layout.now piece kinds old.regs.counts b o.into l old before new after) (sym f)
-    (h at.layout.now piece stock kinds old.regs.counts r.setting r.placed r.state))
+    (subst (λ q. Does at.layout.now piece kinds old.regs.counts b q ys old before new after) g
+    (h at.layout.now piece stock kinds old.regs.counts r.setting r.placed r.state)))
 
 pub does_op_unit : {can_get can_set : ℕ → Type 0} {count : ℕ} {at : NoteSetting} {o : Op} {opcode : Opcode} {u : ℕ}
-    {reach : Reach} {ys : List Reg} {old : State} {before : ℕ → ℤ} {new : State} {after : ℕ → ℤ}
-    → o.act ≡ act.Unit opcode u reach → o.from ≡ ys → IsUnitOpcode opcode
-    → DoesUnit u reach o.into ys old before new after → DoesOp can_get can_set count at o old before new after
-does_op_unit {can_get} {can_set} {count} {at} {o} {opcode} {u} {reach} {ys} {old} {before} {new} {after} e f is h piece
-    kinds stock r =
+    {reach : Reach} {into : Reg} {ys : List Reg} {old : State} {before : ℕ → ℤ} {new : State} {after : ℕ → ℤ}
+    → o.act ≡ act.Unit opcode u reach → into ≡ o.into → o.from ≡ ys → IsUnitOpcode opcode
+    → DoesUnit u reach into ys old before new after → DoesOp can_get can_set count at o old before new after
+does_op_unit {can_get} {can_set} {count} {at} {o} {opcode} {u} {reach} {into} {ys} {old} {before} {new} {after} e g f is
+    h piece kinds stock r =
     subst (λ d. Does at.layout.now piece kinds old.regs.counts d o.into o.from old before new after) (sym e)
     (subst (λ l. Does at.layout.now piece kinds old.regs.counts (act.Unit opcode u reach) o.into l old before new after)
     (sym f)
-    (h at.layout.now piece stock kinds old.regs.counts opcode is
+    (subst (λ q. DoesUnit u reach q ys old before new after) g h at.layout.now piece stock kinds old.regs.counts
+    opcode is
     (kind_of r e) r.placed r.state))
 
 pub does_op_plain : {can_get can_set : ℕ → Type 0} {count : ℕ} {at : NoteSetting} {o : Op} {old : State} {cells : ℕ → ℤ}
@@ -248,9 +261,9 @@ pub unit_may_play : {can_get can_set : ℕ → Type 0} {count : ℕ} {at : NoteS
     → (p : PlayerData) → slice_index_or s.players.items u None ≡ Some p → MayPlay can_get count reach o.from p
 unit_may_play {can_get} {can_set} {count} {at} {piece} {kinds} {stock} {o} {s} r {opcode} {u} {reach} e p is =
     let takes = takes_of r e in
-    may_run can_get count at.layout.now stock piece opcode o.into.rate reach o.from p
-    (is_a_unit opcode u reach o.into.rate o.from takes)
-    (unit_count opcode u reach o.into.rate o.from takes)
+    may_run can_get count at.layout.now stock piece opcode (rate_at o.into) reach o.from p
+    (is_a_unit opcode u reach (rate_at o.into) o.from takes)
+    (unit_count opcode u reach (rate_at o.into) o.from takes)
     r.placed (uses_of r e) (player_of r e p is)
 
 pub op_may_store : {can_get can_set : ℕ → Type 0} {count : ℕ} {at : NoteSetting} {piece : Piece} {kinds : Kinds}

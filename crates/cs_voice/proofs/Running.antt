@@ -5,6 +5,7 @@ use Rattle.std.proofs.lemmas.Bool.Decides.{nat_tests}
 use Rattle.cs_ir.specs.Machine.{Machine, acts, is_done, run}
 use Rattle.cs_ir.specs.Worlds.{World}
 use Rattle.cs_ir.specs.declared.op.Op.{Op}
+use Rattle.cs_voice.specs.inner.Coming.{IsUpTo}
 
 none_left : (ops : List Op) (n : ℕ) → length ops ≤ n → drop n ops ≡ []
 none_left [] zero h = refl
@@ -58,11 +59,6 @@ stopped_if false true e = refl
 stopped_if b false e = absurd cc
 
 module _ {W : Type 0} (o : World W) where
-  -- Up to a place of a code a machine has become another: which goes on there, and comes to the same end.
-  pub record IsUpTo (ops : List Op) (first : Machine W) (place : ℕ) (m : Machine W) : Type 0 where
-    pub next : m.next ≤ place
-    pub same : run o 0 ops first ≡ run o place (drop place ops) m
-
   -- ops that a jump goes past, and those after a refusal, do nothing
   left_out : (ops : List Op) (place k : ℕ) (m : Machine W) → m.next ≡ place + k
       → run o place ops m ≡ run o (place + k) (drop k ops) m
@@ -88,11 +84,11 @@ module _ {W : Type 0} (o : World W) where
       (stopped_if (nat_le m.next place) (o.refused m.world) e))
       ∙ stops ops (place + 1) m e
 
-  pub begins : (ops : List Op) (m : Machine W) → m.next ≡ 0 → IsUpTo ops m 0 m
+  pub begins : (ops : List Op) (m : Machine W) → m.next ≡ 0 → IsUpTo o ops m 0 m
   begins ops m e = record { next = omega arith; same = refl }
 
   -- the run from the place of an op on: the op, and the run from the next place on
-  op_done : (ops : List Op) (first : Machine W) (place : ℕ) (op : Op) (m : Machine W) → IsUpTo ops first place m
+  op_done : (ops : List Op) (first : Machine W) (place : ℕ) (op : Op) (m : Machine W) → IsUpTo o ops first place m
       → slice_get ops place ≡ Some op
       → o.refused m.world ≡ false
       → run o 0 ops first ≡ run o (place + 1) (drop (place + 1) ops) (acts o op.act op.into (map m.regs op.from) m)
@@ -103,20 +99,22 @@ module _ {W : Type 0} (o : World W) where
       (done_if m.next place (o.refused m.world) u.next goes))
 
   -- an op is done, and the next is at the next place
-  pub one_more : (ops : List Op) (first : Machine W) (place : ℕ) (op : Op) (m n : Machine W) → IsUpTo ops first place m
+  pub one_more : (ops : List Op) (first : Machine W) (place : ℕ) (op : Op) (m n : Machine W) → IsUpTo o ops first
+      place m
       → slice_get ops place ≡ Some op
       → o.refused m.world ≡ false → n ≡ acts o op.act op.into (map m.regs op.from) m → n.next ≤ place + 1
-      → IsUpTo ops first (place + 1) n
+      → IsUpTo o ops first (place + 1) n
   one_more ops first place op m n u at goes e h = record {
     next = h;
     same = op_done ops first place op m u at goes ∙ ap (run o (place + 1) (drop (place + 1) ops)) (sym e);
   }
 
   -- or it is at a later place
-  pub jumps : (ops : List Op) (first : Machine W) (place to : ℕ) (op : Op) (m n : Machine W) → IsUpTo ops first place m
+  pub jumps : (ops : List Op) (first : Machine W) (place to : ℕ) (op : Op) (m n : Machine W) → IsUpTo o ops first
+      place m
       → slice_get ops place ≡ Some op
       → o.refused m.world ≡ false → n ≡ acts o op.act op.into (map m.regs op.from) m → n.next ≡ to → place < to
-      → IsUpTo ops first to n
+      → IsUpTo o ops first to n
   jumps ops first place to op m n u at goes e there later = let k = gap place to later in record {
     next = omega arith;
     same = op_done ops first place op m u at goes ∙ ap (run o (place + 1) (drop (place + 1) ops)) (sym e)
@@ -131,11 +129,11 @@ module _ {W : Type 0} (o : World W) where
       gap (suc p) (suc q) h = let r = gap p q (omega arith) in (r.0, let e = r.1 in omega arith)
 
   -- the end of the code; or a refusal before it
-  pub ends : (ops : List Op) (first : Machine W) (place : ℕ) (m : Machine W) → IsUpTo ops first place m
+  pub ends : (ops : List Op) (first : Machine W) (place : ℕ) (m : Machine W) → IsUpTo o ops first place m
       → length ops ≤ place → run o 0 ops first ≡ m
   ends ops first place m u h = u.same ∙ ap (λ rest. run o place rest m) (none_left ops place h)
 
-  pub refuses : (ops : List Op) (first : Machine W) (place : ℕ) (op : Op) (m n : Machine W) → IsUpTo ops first place m
+  pub refuses : (ops : List Op) (first : Machine W) (place : ℕ) (op : Op) (m n : Machine W) → IsUpTo o ops first place m
       → slice_get ops place ≡ Some op
       → o.refused m.world ≡ false → n ≡ acts o op.act op.into (map m.regs op.from) m → o.refused n.world ≡ true
       → run o 0 ops first ≡ n

@@ -7,34 +7,34 @@ use Rattle.cs_base.specs.Rates.{is_audio}
 use Rattle.cs_base.specs.declared.resource.Rate.{Rate}
 use Rattle.cs_base.specs.declared.resource.Rate.TheVariants as rate
 use Rattle.cs_base.specs.declared.resource.Res.{Res}
+use Rattle.cs_ir.specs.Registers.{rate_at}
 use Rattle.cs_ir.specs.Waves.{Wave, constant, held}
 use Rattle.cs_ir.specs.declared.register.Reg.{Reg}
 use Rattle.cs_cells.specs.declared.footprint.Area.{Area}
-use Rattle.cs_machine.specs.Registers.{RegisterFile, IsWritten, reg, values}
+use Rattle.cs_machine.specs.Registers.{RegisterFile, IsWritten, values}
 use Rattle.cs_machine.specs.Rows.{HasFrames, row_wave}
 use Rattle.cs_machine.proofs.Frames.{held_row}
 use Rattle.cs_machine.proofs.Putting.{wrote_first, wrote_row}
 use Rattle.cs_voice_meaning.specs.Placing.{area_of, cell_count, wave_in, with_wave}
-use Rattle.cs_machine.proofs.Given.{sound_register}
+
+is_sound : (q : Rate) → is_audio q ≡ true → q ≡ rate.Audio
+is_sound rate.Audio h = refl
+is_sound rate.Init h = absurd (false≢true h)
+is_sound rate.Control h = absurd (false≢true h)
 
 -- an area of sound was read into a row that was swapped in
 pub read_sound : (f g : RegisterFile) (into : Reg) (r : Rate) (area : Area) (cells : ℕ → ℤ) (swapped row : List ℤ)
     → swapped ≡ row
-    → is_audio r ≡ true → is_audio into.rate ≡ true → length row ≡ f.ksmps
+    → is_audio r ≡ true → is_audio (rate_at into) ≡ true → length row ≡ f.ksmps
     → HasFrames (wave_in rate.Audio area cells) row
-    → IsWritten f (reg rate.Audio into.index) (row_wave swapped) g → IsWritten f into (wave_in r area cells) g
+    → IsWritten f into (row_wave swapped) g → IsWritten f into (wave_in r area cells) g
 read_sound f g into r area cells swapped row same sound fast long frames wrote =
     subst (λ q. IsWritten f into (wave_in q area cells) g) (sym (is_sound r sound))
-    (wrote_row f g into (wave_in rate.Audio area cells) swapped row same (is_sound into.rate fast) long frames wrote)
-  where
-    is_sound : (q : Rate) → is_audio q ≡ true → q ≡ rate.Audio
-    is_sound rate.Audio h = refl
-    is_sound rate.Init h = absurd (false≢true h)
-    is_sound rate.Control h = absurd (false≢true h)
+    (wrote_row f g into (wave_in rate.Audio area cells) swapped row same fast long frames wrote)
 
 -- what is held at one rate or the other was read from the first cell
 pub read_held : (f g : RegisterFile) (into : Reg) (r : Rate) (area : Area) (cells : ℕ → ℤ) (z : ℤ)
-    → (is_audio r ≡ true → is_audio into.rate ≡ false)
+    → (is_audio r ≡ true → is_audio (rate_at into) ≡ false)
     → 0 < area.length → z ≡ cells area.first → IsWritten f into (constant z) g
     → IsWritten f into (wave_in r area cells) g
 read_held f g into rate.Init area cells z slow some is wrote =
@@ -57,11 +57,9 @@ some_cell ksmps rate.Control n frames e = omega (arith, e)
 some_cell ksmps rate.Audio n frames e = omega (arith, e, frames)
 
 -- a register of sound is its row, for a cycle
-pub row_is : (f : RegisterFile) (x : Reg) (row : List ℤ) → is_audio x.rate ≡ true → length row ≡ f.ksmps
-    → row_wave row ≡ values f (reg rate.Audio x.index) → row_wave row ≡ held f.ksmps rate.Audio (values f x)
-row_is f x row sound long is =
-    let own : row_wave row ≡ values f x = is ∙ ap (values f) (sound_register x sound) in
-    sym (held_row f.ksmps row long) ∙ ap (held f.ksmps rate.Audio) own
+pub row_is : (f : RegisterFile) (x : Reg) (row : List ℤ) → length row ≡ f.ksmps → row_wave row ≡ values f x
+    → row_wave row ≡ held f.ksmps rate.Audio (values f x)
+row_is f x row long is = sym (held_row f.ksmps row long) ∙ ap (held f.ksmps rate.Audio) is
 
 -- what the act of saving makes of cells
 pub saved_here : (areas : List Area) (g : Res) (area : Area) (r : Rate) (w : Wave) (m n : ℕ) (before after : ℕ → ℤ)

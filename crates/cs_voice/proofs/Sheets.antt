@@ -10,6 +10,7 @@ use Rattle.cs_words.specs.Catalogue.{row_of, takes_table}
 use Rattle.cs_words.specs.declared.catalogue.Opcode.{Opcode}
 use Rattle.cs_words.specs.declared.catalogue.Shape.{Shape}
 use Rattle.cs_words.specs.declared.catalogue.Shape.TheVariants as shape
+use Rattle.cs_ir.specs.Registers.{rate_at}
 use Rattle.cs_ir.specs.Cycles.{is_of_cycle, are_of_cycle}
 use Rattle.cs_ir.specs.Machine.{Machine, acts, in_world, is_done, step, run, written}
 use Rattle.cs_ir.specs.Resources.{reaches}
@@ -93,9 +94,9 @@ module _ (areas : List Area) (piece : Piece) (g : Generators) where
   acts_same act.Ask into ws m h = absurd (cc)
   acts_same (act.Unit opcode k reach) into ws m h =
       ap (λ done. written piece.head.ksmps opcode into done m)
-      (plays_same opcode into.rate k reach ws (m.world.units k) m.world)
+      (plays_same opcode (rate_at into) k reach ws (m.world.units k) m.world)
   acts_same (act.Store reach) into ws m h =
-      ap (λ x. in_world x m) (store_same into.rate reach ws (index (operand 2 ws 0)) m.world)
+      ap (λ x. in_world x m) (store_same (rate_at into) reach ws (index (operand 2 ws 0)) m.world)
   acts_same (act.Zak opcode reach) into ws m h =
       ap (λ done. written piece.head.ksmps opcode into done m) (zak_same (row_of opcode).shape reach ws m.world)
   acts_same _ into ws m h = refl

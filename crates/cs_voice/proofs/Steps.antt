@@ -24,7 +24,8 @@ use Rattle.cs_machine.specs.declared.state.NoteSetting.{NoteSetting}
 use Rattle.cs_voice.specs.Ready.{CanBeDone, DoesOp}
 use Rattle.cs_voice.specs.inner.Jumps.{GoesOn}
 use Rattle.cs_voice.specs.Cycles.{CanRun, CanStep, Context, HasMoved, HasRun, HasStepped}
-use Rattle.cs_voice.proofs.Passing.{run_from, one_on, on_to, at_end}
+use Rattle.cs_voice.specs.inner.Coming.{HasComeTo, run_from}
+use Rattle.cs_voice.proofs.Passing.{one_on, on_to, at_end}
 
 -- ---- one op of a code
 
@@ -159,15 +160,6 @@ module _ (can_get can_set : ℕ → Type 0) (count : ℕ) (at : NoteSetting) (c 
       (subst (λ n. IsStateIn at.layout.now c.piece c.kinds n s) h.counts h.ready.state) g
 
 -- ---- the loop
-
--- A code has been run up to a place: what is left of it does the rest.
-pub record HasComeTo (areas : List Area) (c : Context) (ops : List Op) (place : ℕ) (old : State) (before : ℕ → ℤ)
-    (s : State) (cells : ℕ → ℤ) : Type 0 where
-  pub next : ℕ
-  pub below : next ≤ place
-  pub left : run_from (voice_world areas c.piece) place ops (machine_of s cells next [] None) ≡ run
-      (voice_world areas c.piece) 0 ops (machine_of old before 0 [] None)
-  pub state : IsStateIn areas c.piece c.kinds c.counts s
 
 module _ (areas : List Area) (c : Context) (ops : List Op) (old : State) (before : ℕ → ℤ) where
   pub begun : IsStateIn areas c.piece c.kinds c.counts old → HasComeTo areas c ops 0 old before old before

@@ -5,6 +5,7 @@ use Rattle.std.specs.Option.{is_some}
 use Rattle.cs_base.specs.declared.resource.Rate.{Rate}
 use Rattle.cs_base.specs.declared.resource.Rate.TheVariants as rate
 use Rattle.cs_base.specs.declared.resource.Res.TheVariants as res
+use Rattle.cs_ir.specs.Registers.{rate_at}
 use Rattle.cs_ir.specs.Resources.{Stock, reaches}
 use Rattle.cs_ir.specs.Waves.{Wave, operand}
 use Rattle.cs_ir.specs.declared.op.Act.TheVariants as act
@@ -114,16 +115,16 @@ module _ (areas : List Area) (stock : Stock) (piece : Piece) (r : Rate) (ws : Li
 pub store_done : (areas : List Area) (piece : Piece) (stock : Stock) (kinds : Kinds) (counts : Counts) (reach : Reach)
     (into signal place table : Reg)
     (s : State) (before after : ℕ → ℤ) → IsPlaced areas stock piece → IsStateIn areas piece kinds counts s
-    → Stores (stored_area areas reach (index (values s.regs table 0))) (steps_of s.regs.ksmps into.rate)
+    → Stores (stored_area areas reach (index (values s.regs table 0))) (steps_of s.regs.ksmps (rate_at into))
     (values s.regs signal) (values s.regs place) before after
     → Does areas piece kinds counts (act.Store reach) into (signal ∷ place ∷ table ∷ []) s before s after
 store_done areas piece stock kinds counts reach into signal place table s before after placed state h = record {
   machine = λ next asks cause i. record (machine_of s before next asks cause) {
-    world = (stored_as areas stock piece into.rate
+    world = (stored_as areas stock piece (rate_at into)
         (values s.regs signal ∷ values s.regs place ∷ values s.regs table ∷ [])
         (machine_of s before next asks cause).world placed
         reach (index (values s.regs table 0)) after
-        (subst (λ n. Stores (stored_area areas reach (index (values s.regs table 0))) (steps_of n into.rate)
+        (subst (λ n. Stores (stored_area areas reach (index (values s.regs table 0))) (steps_of n (rate_at into))
         (values s.regs signal) (values s.regs place) before after) state.frames h)) i;
   };
   state = state;

@@ -4,6 +4,7 @@ use Rattle.std.specs.List.{range_with_len}
 use Rattle.std.proofs.lemmas.List.FromFn.{length-map-range_with_len}
 use Rattle.std.proofs.lemmas.List.{get_or_past}
 use Rattle.cs_base.specs.declared.resource.Rate.TheVariants as rate
+use Rattle.cs_ir.specs.Registers.{rate_at}
 use Rattle.cs_ir.specs.Validity.{has_register}
 use Rattle.cs_ir.specs.Waves.{held}
 use Rattle.cs_cells.specs.Cells.{Cells}
@@ -26,8 +27,8 @@ pub fits : (d : VoiceData) → IsVoice d → VoiceFits d.code.counts (sounding d
 fits d h = record {
   regs = λ q no. sym (ap (λ f. values f q) h.all_registers)
       ∙ filled_past d.regs (values d.regs) q (ap (λ n. has_register n q) h.counts ∙ no);
-  keeps = λ q. subst (λ n. held n q.rate (values d.regs q) ≡ values d.regs q) h.frames
-      (subst (λ f. held d.regs.ksmps q.rate (values f q) ≡ values f q) h.all_registers
+  keeps = λ q. subst (λ n. held n (rate_at q) (values d.regs q) ≡ values d.regs q) h.frames
+      (subst (λ f. held d.regs.ksmps (rate_at q) (values f q) ≡ values f q) h.all_registers
       (filled_keeps d.regs (values d.regs) q));
   units = λ u no. get_or_past d.units u None (subst (λ k. k ≤ u) (sym h.units) (at_or_past u d.code.counts.units no));
   outs = λ c no. sym (ap (λ f. outs f c) h.all_channels)
@@ -43,7 +44,7 @@ module _ (d : VoiceData) (h : IsVoice d) (v : Sounding)
   regs_taken : values (filled d.regs v.regs) ≡ v.regs
   regs_taken = filled_has d.regs v.regs
       (λ q no. f.regs q (sym (ap (λ n. has_register n q) h.counts) ∙ no))
-      (λ q. subst (λ n. held n q.rate (v.regs q) ≡ v.regs q) (sym h.frames) (f.keeps q))
+      (λ q. subst (λ n. held n (rate_at q) (v.regs q) ≡ v.regs q) (sym h.frames) (f.keeps q))
 
   outs_taken : outs (refilled d.outs v.outs) ≡ v.outs
   outs_taken = refilled_has d.outs v.outs

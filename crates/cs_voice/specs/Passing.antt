@@ -2,6 +2,7 @@
 use Rattle.std.specs.Prelude.{ℕ, ℤ, Bool, ◌≡◌, ◌≤◌, ◌<◌, ◌++◌, true, List, [], length, map, Option, None}
 use Rattle.std.specs.Option.{option_map}
 use Rattle.cs_base.specs.Limits.{most_delay_samples}
+use Rattle.cs_ir.specs.Registers.{rate_at}
 use Rattle.cs_ir.specs.Asks.{ask_of}
 use Rattle.cs_ir.specs.Machine.{acts, new_machine, run}
 use Rattle.cs_ir.specs.Validity.{is_fine, valid}
@@ -47,7 +48,7 @@ pub record IsOpOf (s : Sheet) (counts : Counts) (op : Op) : Type 0 where
   pub end : ℕ
   pub place : ℕ
   pub fine : is_fine counts end place op ≡ true
-  pub named : (p : IsPlayable s) → ActNamed p.stock p.kinds (HasArea s.areas) op.act op.into.rate
+  pub named : (p : IsPlayable s) → ActNamed p.stock p.kinds (HasArea s.areas) op.act (rate_at op.into)
   pub channel : has_channel s.piece.head.nchnls op.act ≡ true
 
 -- A note of a sheet can begin: what it finds is what the sheet says, the sheet can be played, the state is one of its

@@ -1,5 +1,6 @@
 -- When an op may be done on a state over a bank.
 use Rattle.std.specs.Prelude.{ℕ, ℤ, ◌≡◌, Bool, true, false, length}
+use Rattle.cs_ir.specs.Registers.{rate_at}
 use Rattle.cs_ir.specs.Resources.{Stock}
 use Rattle.cs_ir.specs.Validity.{is_fine}
 use Rattle.cs_ir.specs.declared.op.Act.{Act}
@@ -38,7 +39,7 @@ pub record IsReady (can_get can_set : ℕ → Type 0) (count : ℕ) (at : NoteSe
   pub end : ℕ
   pub place : ℕ
   pub fine : is_fine s.regs.counts end place op ≡ true
-  pub named : ActNamed stock kinds (HasArea at.layout.now) op.act op.into.rate
+  pub named : ActNamed stock kinds (HasArea at.layout.now) op.act (rate_at op.into)
   pub channel : has_channel piece.head.nchnls op.act ≡ true
   pub can : CanDo can_get can_set count at.layout.now stock op.act
 

@@ -6,6 +6,7 @@ use Rattle.cs_words.specs.declared.catalogue.Opcode.{Opcode}
 use Rattle.cs_signal.specs.Operands.{argument}
 use Rattle.cs_ugen.specs.Units.{IsUnitOpcode, moving_count, opcode_of}
 use Rattle.cs_ugen.specs.declared.unit.UnitState.{UnitState}
+use Rattle.cs_ir.specs.Registers.{rate_at}
 use Rattle.cs_ir.specs.Resources.{Stock, reaches}
 use Rattle.cs_ir.specs.Waves.{Wave, silence}
 use Rattle.cs_ir.specs.declared.op.Act.TheVariants as act
@@ -51,6 +52,6 @@ unit_gives ksmps r reach ws cells (Some p) =
 -- of the op's register, as its unit of this number.
 abbrev pub DoesUnit : ℕ → Reach → Reg → List Reg → State → (ℕ → ℤ) → State → (ℕ → ℤ) → Type 0
 DoesUnit u reach into from old before new after = (areas : List Area) (piece : Piece) (stock : Stock) (kinds : Kinds)
-    (counts : Counts) (opcode : Opcode) → IsUnitOpcode opcode → kinds u ≡ (opcode, into.rate)
+    (counts : Counts) (opcode : Opcode) → IsUnitOpcode opcode → kinds u ≡ (opcode, rate_at into)
     → IsPlaced areas stock piece → IsStateIn areas piece kinds counts old
     → Does areas piece kinds counts (act.Unit opcode u reach) into from old before new after

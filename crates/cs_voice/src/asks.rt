@@ -1,13 +1,14 @@
 // Notes that a note asks for as it begins.
 ghost use Rattle.std.specs.Prelude.{◌≡◌, ◌++◌, ◌∷◌, [], map, true, OnOk};
 ghost use Rattle.std.specs.List.{list_all};
+ghost use Rattle.cs_ir.specs.Placed.{regs_read};
 ghost use Rattle.cs_ir.specs.Asks.{ask_of};
 ghost use Rattle.cs_ir.specs.Validity.{has_register};
 ghost use Rattle.cs_ir.specs.Waves.{first_values};
 ghost use Rattle.cs_machine.specs.Registers.{values};
 
 use cs_base::{Num, OutOfMemory};
-use cs_ir::{Ask, Reg};
+use cs_ir::{Ask, Reads};
 use cs_machine::Registers;
 use std::alloc::Global;
 
@@ -21,13 +22,20 @@ pub(crate) fn ask(alloc: Global, asks: &mut Vec<Ask>, values: &[Num]) -> Result<
 }
 
 /// What registers are as the note begins, in place of what `into` held.
-pub(crate) fn gather(regs: &Registers, from: &[Reg], into: &mut Vec<Num>) -> Result<(), OutOfMemory>
-    requires { list_all (has_register regs.now.counts) from.now ≡ true }
-    ensures { OnOk result (into.new.items ≡ first_values (map (values regs.now) from.now)) }
+pub(crate) fn gather(
+    regs: &Registers,
+    from: Reads<'_>,
+    into: &mut Vec<Num>,
+) -> Result<(), OutOfMemory>
+    requires { list_all (has_register regs.now.counts) (regs_read from) ≡ true }
+    ensures { OnOk result (into.new.items ≡ first_values (map (values regs.now) (regs_read from.entry))) }
 {
     into.clear();
-    for register in from {
-        into.push(regs.first(*register))?;
+    for place in 0..from.len() {
+        let Some(register) = from.get(place) else {
+            unreachable!()
+        };
+        into.push(regs.first(register))?;
     }
     Ok(())
 }

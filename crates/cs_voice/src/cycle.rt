@@ -3,32 +3,10 @@ ghost use Rattle.std.specs.Prelude.{◌≡◌, length};
 ghost use Rattle.cs_cells.specs.Cells.{cell};
 ghost use Rattle.cs_voice.specs.Cycles.{CanRun, Context, HasRun};
 
-use crate::begin::StartRefusal;
-use crate::run::{Starter, run};
-use cs_base::OutOfMemory;
+use crate::run::run;
 use cs_cells::Bank;
-use cs_ir::{Op, Ops};
+use cs_ir::Ops;
 use cs_machine::{NoteSetting, State};
-
-/// A control cycle starts nothing and asks for nothing, so nothing of it is ever done here.
-#[derive(Drop)]
-struct NoStarter;
-
-impl<'p> Starter<'p> for NoStarter {
-    ghost use Rattle.std.specs.Prelude.{[], None};
-
-    ghost finds = { λ starter. None };
-
-    ghost asked = { λ starter. [] };
-
-    fn start(
-        &mut self,
-        state: &mut State<'p>,
-        op: &Op,
-    ) -> Result<Option<StartRefusal>, OutOfMemory> {
-        Ok(None)
-    }
-}
 
 /// Runs a code over a cycle.
 pub(crate) fn perform<B: Bank>(state: &mut State<'_>, at: &NoteSetting<'_>, ops: &Ops, bank: &mut B)
@@ -42,7 +20,7 @@ pub(crate) fn perform<B: Bank>(state: &mut State<'_>, at: &NoteSetting<'_>, ops:
     ensures long { length (B.cells bank.new) ≡ length (B.cells bank.old) }
     ensures rest { B.rest bank.new ≡ B.rest bank.old }
 {
-    match run(state, at, ops, &mut NoStarter, bank) {
+    match run(state, at, ops, &mut None, bank) {
         Ok(_) => {}
         Err(_) => unreachable!(),
     }

@@ -10,10 +10,11 @@
 //! voices are added may be changed without anyone above noticing.
 //!
 //! Modules in reading order: `shared` (what notes share, by resource and rate), `zak` (zak places), `unit` (units),
-//! `store` (stores into tables), `any` (the act of any op), `jumps` (where an op goes on), `run` (a code from place to
-//! place); `stage` (what all notes of a piece play in), `cycle` (the second code, once a control cycle), `body`,
-//! `voice` (the note and its run as a job), `laws`; `tables` (what a note finds), `begin` (units), `asks`, `pass` (the
-//! first code), `note` (how a note begins); `adding` (what voices give together).
+//! `store` (stores into tables), `any` (the act of any op); `tables` (what a note finds), `begin` (units), `asks`,
+//! `starter` (what only a code has that begins a note), `run` (steps, and the routines that they invoke); `stage`
+//! (what all notes of a piece play in), `cycle` (the second code, once a control cycle), `body`, `voice` (the note and
+//! its run as a job), `laws`; `pass` (the first code), `note` (how a note begins); `adding` (what voices give
+//! together).
 #![tactic(auto)]
 
 mod adding;
@@ -22,13 +23,13 @@ mod asks;
 mod begin;
 mod body;
 mod cycle;
-mod jumps;
 mod laws;
 mod note;
 mod pass;
 mod run;
 mod shared;
 mod stage;
+mod starter;
 mod store;
 mod tables;
 mod unit;

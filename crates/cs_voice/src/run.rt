@@ -1,81 +1,142 @@
-// A code from place to place, in a control cycle or as a note begins.
-ghost use Rattle.std.specs.Prelude.{◌≡◌, ◌<◌, ◌+◌, ℕ, Bool, false, true, length, slice_get, List, Some, None};
+// A code from step to step, in a control cycle or as a note begins.
+ghost use Rattle.std.specs.Prelude.{◌≡◌, ◌<◌, Bool, true, length, map, slice_get, List, Some, None};
 ghost use Rattle.std.specs.Prelude.{IfOk, IsErr};
+ghost use Rattle.std.specs.List.{list_all};
 ghost use Rattle.cs_cells.specs.Cells.{cell};
+ghost use Rattle.cs_ir.specs.Flat.{IsLow, flat, further, moved_op, ops_at, window_of};
+ghost use Rattle.cs_ir.specs.Placed.{there};
+ghost use Rattle.cs_ir.specs.Routines.{library_in};
+ghost use Rattle.cs_ir.specs.Validity.{has_register};
+ghost use Rattle.cs_ir.specs.Values.{holds};
+ghost use Rattle.cs_ir.specs.Waves.{operand};
 ghost use Rattle.cs_ir.specs.declared.op.Code.{Code};
+ghost use Rattle.cs_machine.specs.Registers.{values};
 ghost use Rattle.cs_voice_meaning.specs.Voices.{Sheet};
-ghost use Rattle.cs_voice.specs.Cycles.{CanRun, CanStep, Context, HasRun, HasStepped};
-ghost use Rattle.cs_voice.specs.Passing.{CanDoOp, CanPass, IsDone, Passes};
-ghost use Rattle.cs_voice.specs.Codes.{CanDoHere, CanGo};
+ghost use Rattle.cs_voice.specs.Cycles.{CanRun, Context, HasRun};
+ghost use Rattle.cs_voice.specs.Passing.{CanPass, Passes};
+ghost use Rattle.cs_voice.specs.Codes.{CanGo};
 ghost use Rattle.cs_voice.specs.declared.tables.Finds.{Finds};
-ghost use Rattle.cs_voice.specs.inner.Jumps.{is_jump, is_start};
+ghost use Rattle.cs_voice.specs.inner.Coming.{AreOfNoCycle, CanDoOps, DoesOps};
+ghost use Rattle.cs_voice.specs.inner.Starters.{asked, finding};
 
 use crate::any::act;
 use crate::begin::StartRefusal;
-use crate::jumps::jump;
+use crate::starter::{Starter, start};
 use cs_base::OutOfMemory;
 use cs_cells::Bank;
-use cs_ir::{Act, Op, Ops};
-use cs_machine::{NoteSetting, State};
-
-/// Does what only a code that begins a note does: it starts units, looks for tables and asks for notes.
-pub(crate) trait Starter<'p> {
-    ghost use Rattle.std.specs.Prelude.{◌≡◌, List, true, IfOk};
-    ghost use Rattle.cs_ir.specs.declared.ask.Ask.{Ask};
-    ghost use Rattle.cs_voice.specs.Codes.{CanStart, Finding, HasStarted};
-    ghost use Rattle.cs_voice.specs.inner.Jumps.{is_start};
-
-    /// What the note finds, with which of its tables have been made by now; None in a control cycle.
-    ghost finds: { Self → Finding };
-
-    /// What has been asked for.
-    ghost asked: { Self → List Ask };
-
-    /// Does a start, a look for a table or an ask.
-    fn start(&mut self, state: &mut State<'p>, op: &Op) -> Result<Option<StartRefusal>, OutOfMemory>
-        requires here { is_start op.now.act ≡ true }
-        requires able { CanStart (finds self.old) op.now state.old }
-        ensures does { IfOk result (λ refused. HasStarted (finds self.old) op.now state.old (asked self.old) state.new
-            (asked self.new) refused) }
-        ensures same { finds self.new ≡ finds self.old };
-}
+use cs_ir::{Act, Call, Op, OpAt, Ops, Routine, Step, Window, holds};
+use cs_machine::{NoteSetting, Registers, State};
 
 /// Does a code from place to place, up to its end or up to what the starter refuses. What a jump passes over costs
 /// nothing.
-pub(crate) fn run<'p, S: Starter<'p>, B: Bank>(
+pub(crate) fn run<'p, B: Bank>(
     state: &mut State<'p>,
     at: &NoteSetting<'_>,
     ops: &Ops,
-    starter: &mut S,
+    starter: &mut Option<Starter<'_, '_, '_, 'p>>,
     bank: &mut B,
 ) -> Result<Option<StartRefusal>, OutOfMemory>
     requires { CanGo (B.can_get (B.rest bank.old)) (B.can_set (B.rest bank.old)) (length (B.cells bank.old)) at.now
-        (S.finds starter.old) ops.now state.old }
+        (finding starter.old) ops.now state.old }
     ensures cycle { IfOk result (λ refused. (c : Context) → CanRun (B.can_get (B.rest bank.old))
         (B.can_set (B.rest bank.old))
         (length (B.cells bank.old)) at.now c ops.now state.old
         → (refused ≡ None) × HasRun at.now.layout.now c ops.now state.old (cell (B.cells bank.old)) state.new
         (cell (B.cells bank.new))) }
     ensures passes { IfOk result (λ refused. (f : Finds) (ms : List Bool) (code : Code) (s : Sheet)
-        → S.finds starter.old ≡ Some (f, ms) → f.at ≡ at.now → code.ops ≡ ops.now
+        → finding starter.old ≡ Some (f, ms) → f.at ≡ at.now → code.ops ≡ ops.now
         → CanPass (B.can_get (B.rest bank.old)) (B.can_set (B.rest bank.old)) (length (B.cells bank.old)) f ms code s
         state.old
-        → Passes s state.old (cell (B.cells bank.old)) (S.asked starter.old) state.new (cell (B.cells bank.new))
-        (S.asked starter.new) refused) }
+        → Passes s state.old (cell (B.cells bank.old)) (asked starter.old) state.new (cell (B.cells bank.new))
+        (asked starter.new) refused) }
     ensures memory { IsErr result → (c : Context) → CanRun (B.can_get (B.rest bank.old)) (B.can_set (B.rest bank.old))
         (length (B.cells bank.old)) at.now c ops.now state.old → ⊥ }
     ensures long { length (B.cells bank.new) ≡ length (B.cells bank.old) }
     ensures rest { B.rest bank.new ≡ B.rest bank.old }
 {
-    let list = ops.as_slice();
-    let end = list.len();
+    let (routines, steps) = ops.parts();
+    let code = Invoked {
+        routines,
+        steps,
+        window: Window::whole(),
+    };
+    steps_in(state, at, &code, starter, bank)
+}
+
+/// Steps that are done in a window, and the routines that they may invoke.
+#[derive(Clone, Copy)]
+struct Invoked<'c> {
+    routines: &'c [Routine],
+    steps: &'c [Step],
+    window: Window,
+}
+
+impl<'c> Invoked<'c> {
+    /// One of its ops, where it is done.
+    #[inline(always)]
+    fn op<'o>(&'o self, op: &'o Op) -> OpAt<'o>
+        ensures op { there result ≡ moved_op self.now.window 0 op.now }
+        ensures window { result.window.now ≡ self.now.window }
+    {
+        OpAt {
+            op,
+            window: &self.window,
+        }
+    }
+}
+
+/// Does steps, up to their end or up to what the starter refuses.
+#[cycle(run)]
+fn steps_in<'p, B: Bank>(
+    state: &mut State<'p>,
+    at: &NoteSetting<'_>,
+    code: &Invoked<'_>,
+    starter: &mut Option<Starter<'_, '_, '_, 'p>>,
+    bank: &mut B,
+) -> Result<Option<StartRefusal>, OutOfMemory>
+    requires low { IsLow (length code.now.routines.now) code.now.window }
+    requires able { CanDoOps (B.can_get (B.rest bank.old)) (B.can_set (B.rest bank.old)) (length (B.cells bank.old))
+        at.now (finding starter.old) code.now.window (flat (library_in code.now.routines.now) code.now.steps.now)
+        state.old (cell (B.cells bank.old)) (asked starter.old) }
+    ensures does { IfOk result (λ refused. DoesOps (B.can_get (B.rest bank.old)) (B.can_set (B.rest bank.old))
+        (length (B.cells bank.old)) at.now (finding starter.old) code.now.window
+        (flat (library_in code.now.routines.now) code.now.steps.now) state.old (cell (B.cells bank.old))
+        (asked starter.old) state.new (cell (B.cells bank.new)) (asked starter.new) refused) }
+    ensures memory { IsErr result → AreOfNoCycle (B.can_get (B.rest bank.old)) (B.can_set (B.rest bank.old))
+        (length (B.cells bank.old)) at.now (finding starter.old) code.now.window
+        (flat (library_in code.now.routines.now) code.now.steps.now) state.old (cell (B.cells bank.old))
+        (asked starter.old) }
+    ensures same { finding starter.new ≡ finding starter.old }
+    ensures long { length (B.cells bank.new) ≡ length (B.cells bank.old) }
+    ensures rest { B.rest bank.new ≡ B.rest bank.old }
+{
+    let steps = code.steps;
     let mut place: usize = 0;
-    while place < end {
-        let op = op_at(list, place);
-        match jump(&state.regs, op, place) {
-            Some(to) => place = to,
-            None => {
-                let refused = one(state, at, op, starter, bank)?;
+    while place < steps.len() {
+        match step_at(steps, place) {
+            Step::Do(op) => match op.act {
+                Act::Jump(to) => place = to,
+                Act::Unless(to) => {
+                    if condition(&state.regs, code.op(op)) {
+                        place += 1;
+                    } else {
+                        place = to;
+                    }
+                }
+                Act::Start(_, _) | Act::Seek | Act::Ask => {
+                    let refused = start(starter, state, code.op(op))?;
+                    if let Some(refused) = refused {
+                        return Ok(Some(refused));
+                    }
+                    place += 1;
+                }
+                _ => {
+                    act(state, at, code.op(op), bank);
+                    place += 1;
+                }
+            },
+            Step::Invoke(call) => {
+                let refused = invoke(state, at, code, call, starter, bank)?;
                 if let Some(refused) = refused {
                     return Ok(Some(refused));
                 }
@@ -86,56 +147,62 @@ pub(crate) fn run<'p, S: Starter<'p>, B: Bank>(
     Ok(None)
 }
 
-/// The op at a place of a code.
-fn op_at(ops: &[Op], place: usize) -> &Op
-    requires { place < length ops.now }
-    ensures { slice_get ops.now place ≡ Some result.now }
-{
-    &ops[place]
-}
-
-/// Does an op that isn't a jump.
-#[inline(always)]
-fn one<'p, S: Starter<'p>, B: Bank>(
+/// Does the steps of a routine that is called; nothing where there is none.
+#[cycle(run)]
+fn invoke<'p, B: Bank>(
     state: &mut State<'p>,
     at: &NoteSetting<'_>,
-    op: &Op,
-    starter: &mut S,
+    code: &Invoked<'_>,
+    call: &Call,
+    starter: &mut Option<Starter<'_, '_, '_, 'p>>,
     bank: &mut B,
 ) -> Result<Option<StartRefusal>, OutOfMemory>
-    requires able { CanDoHere (B.can_get (B.rest bank.old)) (B.can_set (B.rest bank.old)) (length (B.cells bank.old))
-        at.now
-        (S.finds starter.old) op.now state.old }
-    requires here { is_jump op.now.act ≡ false }
-    ensures cycle { IfOk result (λ refused. (c : Context) (end place : ℕ) → CanStep (B.can_get (B.rest bank.old))
-        (B.can_set (B.rest bank.old)) (length (B.cells bank.old)) at.now c end place op.now state.old
-        → (refused ≡ None) × HasStepped at.now.layout.now c op.now place (place + 1) state.old
-        (cell (B.cells bank.old)) state.new
-        (cell (B.cells bank.new))) }
-    ensures passes { IfOk result (λ refused. (f : Finds) (ms : List Bool) (s : Sheet) → S.finds starter.old ≡ Some
-        (f, ms)
-        → f.at ≡ at.now → CanDoOp (B.can_get (B.rest bank.old)) (B.can_set (B.rest bank.old))
-        (length (B.cells bank.old)) f ms
-        op.now s state.old
-        → IsDone s op.now state.old (cell (B.cells bank.old)) (S.asked starter.old) state.new (cell (B.cells bank.new))
-        (S.asked starter.new) refused) }
-    ensures memory { IsErr result → (c : Context) (end place : ℕ) → CanStep (B.can_get (B.rest bank.old))
-        (B.can_set (B.rest bank.old)) (length (B.cells bank.old)) at.now c end place op.now state.old → ⊥ }
-    ensures same { S.finds starter.new ≡ S.finds starter.old }
+    requires low { IsLow (length code.now.routines.now) code.now.window }
+    requires able { CanDoOps (B.can_get (B.rest bank.old)) (B.can_set (B.rest bank.old)) (length (B.cells bank.old))
+        at.now (finding starter.old) (further code.now.window (window_of call.now))
+        (ops_at (library_in code.now.routines.now) call.now.routine) state.old (cell (B.cells bank.old))
+        (asked starter.old) }
+    ensures does { IfOk result (λ refused. DoesOps (B.can_get (B.rest bank.old)) (B.can_set (B.rest bank.old))
+        (length (B.cells bank.old)) at.now (finding starter.old) (further code.now.window (window_of call.now))
+        (ops_at (library_in code.now.routines.now) call.now.routine) state.old (cell (B.cells bank.old))
+        (asked starter.old) state.new (cell (B.cells bank.new)) (asked starter.new) refused) }
+    ensures memory { IsErr result → AreOfNoCycle (B.can_get (B.rest bank.old)) (B.can_set (B.rest bank.old))
+        (length (B.cells bank.old)) at.now (finding starter.old) (further code.now.window (window_of call.now))
+        (ops_at (library_in code.now.routines.now) call.now.routine) state.old (cell (B.cells bank.old))
+        (asked starter.old) }
+    ensures same { finding starter.new ≡ finding starter.old }
     ensures long { length (B.cells bank.new) ≡ length (B.cells bank.old) }
     ensures rest { B.rest bank.new ≡ B.rest bank.old }
 {
-    if is_start(op.act) {
-        let refused = starter.start(state, op)?;
-        Ok(refused)
-    } else {
-        act(state, at, op, bank);
-        Ok(None)
+    let number = call.routine as usize;
+    match code.routines.get(number) {
+        Some(routine) => {
+            let inner = Invoked {
+                routines: &code.routines[..number],
+                steps: routine.steps(),
+                window: code.window.further(call),
+            };
+            steps_in(state, at, &inner, starter, bank)
+        }
+        None => Ok(None),
     }
 }
 
-fn is_start(act: Act) -> bool
-    ensures { result ≡ is_start act }
+/// The step at a place of a list.
+#[inline(always)]
+fn step_at(steps: &[Step], place: usize) -> &Step
+    requires { place < length steps.now }
+    ensures { slice_get steps.now place ≡ Some result.now }
 {
-    matches!(act, Act::Start(_, _) | Act::Seek | Act::Ask)
+    &steps[place]
+}
+
+/// Whether the condition of an op holds.
+#[inline(always)]
+fn condition(regs: &Registers, op: OpAt<'_>) -> bool
+    requires one { length (there op).from ≡ 1 }
+    requires there { list_all (has_register regs.now.counts) (there op).from ≡ true }
+    ensures { result ≡ holds (operand 0 (map (values regs.now) (there op.entry).from) 0) }
+{
+    holds(regs.first(op.only()))
 }

@@ -88,9 +88,9 @@ pub(crate) fn read<B: Bank>(
     ensures same { B.cells bank.new ≡ B.cells bank.old }
     ensures rest { B.rest bank.new ≡ B.rest bank.old }
 {
-    if rate.is_audio() && into.rate.is_audio() {
+    if rate.is_audio() && into.is_audio() {
         read_row(bank, area, row);
-        regs.swap(into.index as usize, row);
+        regs.swap(into, row);
     } else {
         regs.hold(into, first_cell(bank, area), row);
     }
@@ -146,11 +146,10 @@ fn write_frames<B: Bank>(regs: &Registers, row: &mut Vec<Num>, x: Reg, area: Are
     ensures long { length (B.cells bank.new) ≡ length (B.cells bank.old) }
     ensures rest { B.rest bank.new ≡ B.rest bank.old }
 {
-    match x.rate {
-        Rate::Audio => write_row(bank, area, regs.row(x.index as usize)),
-        _ => {
-            regs.frames(x, row);
-            write_row(bank, area, row);
-        }
+    if x.is_audio() {
+        write_row(bank, area, regs.row(x));
+    } else {
+        regs.frames(x, row);
+        write_row(bank, area, row);
     }
 }

@@ -2,6 +2,7 @@
 ghost use Rattle.std.specs.Prelude.{◌≡◌, ◌+◌, ◌≤◌, [], ◌∷◌, length, true, IfSome};
 ghost use Rattle.cs_voice.specs.Cells.{DoesOver, MayStore, stored_area};
 ghost use Rattle.cs_cells.specs.Cells.{cell};
+ghost use Rattle.cs_ir.specs.Registers.{rate_at};
 ghost use Rattle.cs_ir.specs.Validity.{has_register};
 ghost use Rattle.cs_ir.specs.declared.op.Act.TheVariants as act;
 ghost use Rattle.cs_ir.specs.declared.register.Reg.{Reg};
@@ -37,7 +38,7 @@ pub(crate) fn store_points<B: Bank>(
     requires table { has_register state.now.regs.counts storing.table ≡ true }
     requires room { HasRoom state.now }
     requires write { MayStore (B.can_set (B.rest bank.old)) (length (B.cells bank.old)) at.now.layout.now reach }
-    ensures does { (into : Reg) → into.rate ≡ storing.rate
+    ensures does { (into : Reg) → rate_at into ≡ storing.rate
         → DoesOver at.now (act.Store reach) into (storing.signal ∷ storing.index ∷ storing.table ∷ []) state.now
         (cell (B.cells bank.old)) state.now (cell (B.cells bank.new)) }
     ensures long { length (B.cells bank.new) ≡ length (B.cells bank.old) }

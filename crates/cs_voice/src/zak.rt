@@ -5,6 +5,7 @@ ghost use Rattle.cs_voice.specs.Cells.{CanReach, DoesZak, MayReach};
 ghost use Rattle.cs_voice.specs.inner.Zak.{reached};
 ghost use Rattle.cs_base.specs.Rates.{is_audio};
 ghost use Rattle.cs_cells.specs.Cells.{cell};
+ghost use Rattle.cs_ir.specs.Registers.{rate_at};
 ghost use Rattle.cs_ir.specs.Resources.{places_of};
 ghost use Rattle.cs_ir.specs.Validity.{has_register};
 ghost use Rattle.cs_ir.specs.declared.register.Reg.{Reg};
@@ -95,7 +96,7 @@ pub(crate) fn zak_mix<B: Bank>(
     bank: &mut B,
 )
     requires x { has_register state.old.regs.counts x ≡ true }
-    requires sound { is_audio x.rate ≡ true }
+    requires sound { is_audio (rate_at x) ≡ true }
     requires read { MayReach (B.can_get (B.rest bank.old)) (length (B.cells bank.old)) at.now space.Audio reach }
     requires able { CanReach (B.can_set (B.rest bank.old)) (length (B.cells bank.old)) at.now space.Audio reach number
         state.old }
@@ -106,7 +107,7 @@ pub(crate) fn zak_mix<B: Bank>(
 {
     if let Some(res) = place(at, Space::Audio, reach, state.regs.first(number)) {
         let area = area_in(at.layout, res);
-        mix_row(bank, area, state.regs.row(x.index as usize));
+        mix_row(bank, area, state.regs.row(x));
     }
 }
 

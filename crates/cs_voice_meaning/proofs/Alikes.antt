@@ -4,6 +4,7 @@ use Rattle.std.proofs.Common.{refl, ◌∙◌, ap, subst}
 use Rattle.cs_base.specs.Rates.{res_rate}
 use Rattle.cs_base.specs.declared.resource.Rate.{Rate}
 use Rattle.cs_base.specs.declared.resource.Res.{Res}
+use Rattle.cs_ir.specs.Registers.{rate_at}
 use Rattle.cs_ir.specs.Values.{holds, negated, applied}
 use Rattle.cs_ir.specs.Machine.{Machine, put, write, gives, acts, is_done, step, run}
 use Rattle.cs_ir.specs.Validity.{has_value}
@@ -66,17 +67,17 @@ module _ {V W : Type 0} (stock : Stock) (kinds : Kinds) (N : Res → Type 0) (o 
   moved m n x y r a = record { regs = a.regs; next = a.next; world = r }
 
   write_alike : (into : Reg) (w v : Wave) (m : Machine V) (n : Machine W)
-      → held o.ksmps into.rate w ≡ held o.ksmps into.rate v → Alike R m n
+      → held o.ksmps (rate_at into) w ≡ held o.ksmps (rate_at into) v → Alike R m n
       → Alike R (write o.ksmps into w m) (write u.ksmps into v n)
   write_alike into w v m n e a = record {
-    regs = ap (λ g. put g into (held o.ksmps into.rate w)) a.regs ∙ ap (λ z. put n.regs into z) e
-        ∙ ap (λ k. put n.regs into (held k into.rate v)) f.ksmps;
+    regs = ap (λ g. put g into (held o.ksmps (rate_at into) w)) a.regs ∙ ap (λ z. put n.regs into z) e
+        ∙ ap (λ k. put n.regs into (held k (rate_at into) v)) f.ksmps;
     next = a.next;
     world = a.world;
   }
 
   written_alike : (b : Bool) (into : Reg) (p : V × Wave) (q : W × Wave) (m : Machine V) (n : Machine W) → R p.0 q.0
-      → held o.ksmps into.rate p.1 ≡ held o.ksmps into.rate q.1
+      → held o.ksmps (rate_at into) p.1 ≡ held o.ksmps (rate_at into) q.1
       → Alike R m n
       → Alike R (if b then write o.ksmps into p.1 (record m { world = p.0 }) else record m { world = p.0 })
       (if b then write u.ksmps into q.1 (record n { world = q.0 }) else record n { world = q.0 })
@@ -85,14 +86,14 @@ module _ {V W : Type 0} (stock : Stock) (kinds : Kinds) (N : Res → Type 0) (o 
   written_alike false into p q m n r e a = moved m n p.0 q.0 r a
 
   acts_alike : (a : Act) (into : Reg) (ws : List Wave) (m : Machine V) (n : Machine W)
-      → ActNamed stock kinds N a into.rate → Alike R m n → Alike R (acts o a into ws m) (acts u a into ws n)
+      → ActNamed stock kinds N a (rate_at into) → Alike R m n → Alike R (acts o a into ws m) (acts u a into ws n)
   acts_alike (act.Const z) into ws m n h a = write_alike into (constant z) (constant z) m n refl a
   acts_alike (act.Field k) into ws m n h a =
       write_alike into (constant (o.field k)) (constant (u.field k)) m n
-      (ap (λ g. held o.ksmps into.rate (constant (g k))) f.field) a
+      (ap (λ g. held o.ksmps (rate_at into) (constant (g k))) f.field) a
   acts_alike (act.Head k) into ws m n h a =
       write_alike into (constant (o.head k)) (constant (u.head k)) m n
-      (ap (λ g. held o.ksmps into.rate (constant (g k))) f.head) a
+      (ap (λ g. held o.ksmps (rate_at into) (constant (g k))) f.head) a
   acts_alike act.Copy into ws m n h a = write_alike into (operand 0 ws) (operand 0 ws) m n refl a
   acts_alike act.Neg into ws m n h a =
       write_alike into (λ j. negated (operand 0 ws j)) (λ j. negated (operand 0 ws j)) m n refl a
@@ -105,24 +106,24 @@ module _ {V W : Type 0} (stock : Stock) (kinds : Kinds) (N : Res → Type 0) (o 
       write_alike into (λ j. applied g (operand 0 ws j)) (λ j. applied g (operand 0 ws j)) m n refl a
   acts_alike (act.Load g) into ws m n h a =
       write_alike into (o.load g m.world) (u.load g n.world) m n
-      (ap (λ w. held o.ksmps into.rate w) (f.load g m.world n.world h a.world)) a
+      (ap (λ w. held o.ksmps (rate_at into) w) (f.load g m.world n.world h a.world)) a
   acts_alike (act.Save g) into ws m n h a =
       let w : Wave = operand 0 ws in
       moved m n _ _ (subst (λ k. R (o.save g (held o.ksmps (res_rate g) w) m.world)
       (u.save g (held k (res_rate g) w) n.world)) f.ksmps (f.save g w m.world n.world h.0 h.1 a.world)) a
   acts_alike (act.Start opcode k) into ws m n h a =
-      moved m n _ _ (f.start opcode into.rate k (first_values ws) m.world n.world h.0 h.1 a.world) a
+      moved m n _ _ (f.start opcode (rate_at into) k (first_values ws) m.world n.world h.0 h.1 a.world) a
   acts_alike (act.Unit opcode k reach) into ws m n h a =
-      let d = f.does opcode into.rate k reach ws m.world n.world h.0 h.1 a.world in
-      written_alike (gives opcode) into (o.does opcode into.rate k reach ws m.world)
-      (u.does opcode into.rate k reach ws n.world) m n d.0 d.1 a
+      let d = f.does opcode (rate_at into) k reach ws m.world n.world h.0 h.1 a.world in
+      written_alike (gives opcode) into (o.does opcode (rate_at into) k reach ws m.world)
+      (u.does opcode (rate_at into) k reach ws n.world) m n d.0 d.1 a
   acts_alike act.Seek into ws m n h a = moved m n _ _ (f.seek (first_values ws) m.world n.world a.world) a
   acts_alike (act.Store reach) into ws m n h a =
-      moved m n _ _ (f.store into.rate reach ws m.world n.world h a.world) a
+      moved m n _ _ (f.store (rate_at into) reach ws m.world n.world h a.world) a
   acts_alike (act.Zak opcode reach) into ws m n h a =
       let d = f.zak opcode reach ws m.world n.world h a.world in
       written_alike (gives opcode) into (o.zak opcode reach ws m.world) (u.zak opcode reach ws n.world) m n d.0
-      (ap (held o.ksmps into.rate) d.1) a
+      (ap (held o.ksmps (rate_at into)) d.1) a
   acts_alike (act.Jump to) into ws m n h a = record { regs = a.regs; next = refl; world = a.world }
   acts_alike (act.Unless to) into ws m n h a =
       record { regs = a.regs; next = ap (λ k. if holds (operand 0 ws 0) then k else to) a.next; world = a.world }
@@ -132,7 +133,7 @@ module _ {V W : Type 0} (stock : Stock) (kinds : Kinds) (N : Res → Type 0) (o 
   acts_alike act.Turnoff into ws m n h a = moved m n _ _ (f.turnoff m.world n.world a.world) a
   acts_alike act.Ask into ws m n h a = moved m n _ _ (f.ask (first_values ws) m.world n.world a.world) a
 
-  step_alike : (place : ℕ) (op : Op) (m : Machine V) (n : Machine W) → ActNamed stock kinds N op.act op.into.rate
+  step_alike : (place : ℕ) (op : Op) (m : Machine V) (n : Machine W) → ActNamed stock kinds N op.act (rate_at op.into)
       → Alike R m n → Alike R (step o place op m) (step u place op n)
   step_alike place op m n h a =
       let done : is_done o place m ≡ is_done u place n =

@@ -6,11 +6,10 @@ use Rattle.std.specs.List.{list_all}
 use Rattle.std.proofs.lemmas.Bool.{and_parts}
 use Rattle.std.proofs.lemmas.Bool.Decides.{nat_tests}
 use Rattle.cs_base.specs.Limits.{most_delay_samples}
-use Rattle.cs_base.specs.Rates.{is_audio, same_rate}
+use Rattle.cs_base.specs.Rates.{is_audio}
 use Rattle.cs_base.specs.declared.resource.Rate.{Rate}
 use Rattle.cs_base.specs.declared.resource.Rate.TheVariants as rate
 use Rattle.cs_base.specs.declared.resource.Res.{Res}
-use Rattle.cs_base.proofs.Rates.{same_rate_is}
 use Rattle.cs_words.specs.Catalogue.{row_of, takes_table}
 use Rattle.cs_words.specs.declared.catalogue.Opcode.{Opcode}
 use Rattle.cs_words.specs.declared.catalogue.Shape.{Shape}
@@ -18,6 +17,8 @@ use Rattle.cs_words.specs.declared.catalogue.Shape.TheVariants as shape
 use Rattle.cs_words.specs.declared.catalogue.Space.{Space}
 use Rattle.cs_words.specs.declared.catalogue.Space.TheVariants as space
 use Rattle.cs_signal.specs.Delay.{delay_length}
+use Rattle.cs_ir.proofs.RegisterKinds.{kind_is}
+use Rattle.cs_ir.specs.Registers.{rate_at, same_kind}
 use Rattle.cs_ir.specs.Machine.{Machine, same_reg, write, acts, is_done, step, run, gives, new_machine}
 use Rattle.cs_ir.specs.Validity.{has_register, writes, finds, takes_from, is_fine, fine_from}
 use Rattle.cs_ir.specs.Resources.{reaches}
@@ -46,10 +47,10 @@ use Rattle.cs_voice_meaning.specs.Room.{FitsIn, VoiceFits}
 
 same_reg_is : (p q : Reg) → same_reg p q ≡ true → p ≡ q
 same_reg_is p q h =
-    let both = and_parts (same_rate p.rate q.rate) (eqb p.index q.index) h in
-    let r = same_rate_is p.rate q.rate both.0 in
-    let i = eqb-true p.index q.index both.1 in
-    ap (λ r. record { rate = r; index = p.index }) r ∙ ap (λ n. record { rate = q.rate; index = n }) i
+    let both = and_parts (same_kind p.kind q.kind) (eqb p.offset q.offset) h in
+    let k = kind_is p.kind q.kind both.0 in
+    let n = eqb-true p.offset q.offset both.1 in
+    λ i. record { kind = k i; offset = n i }
 
 twice : (b : Bool) (x : ℤ) → (if b then (if b then x else pos 0) else pos 0) ≡ (if b then x else pos 0)
 twice true x = refl
@@ -123,19 +124,21 @@ module _ (areas : List Area) (piece : Piece) (counts : Counts) where
       ap (has_register counts) same ∙ there in cc)
   put_other false q into w v e there past h = h
 
-  put_held : (b : Bool) (q into : Reg) (w v : Wave) → same_reg q into ≡ b → held piece.head.ksmps q.rate v ≡ v
-      → held piece.head.ksmps q.rate
-      (if b then held piece.head.ksmps into.rate w else v) ≡ (if b then held piece.head.ksmps into.rate w else v)
+  put_held : (b : Bool) (q into : Reg) (w v : Wave) → same_reg q into ≡ b → held piece.head.ksmps (rate_at q) v ≡ v
+      → held piece.head.ksmps (rate_at q)
+      (if b then held piece.head.ksmps (rate_at into) w else v)
+      ≡ (if b then held piece.head.ksmps (rate_at into) w else v)
   put_held true q into w v e h =
-      subst (λ (p : Reg). held piece.head.ksmps p.rate (held piece.head.ksmps into.rate w) ≡ held piece.head.ksmps
-      into.rate w) (sym (same_reg_is q into e)) (held_twice piece.head.ksmps into.rate w)
+      subst (λ (p : Reg). held piece.head.ksmps (rate_at p) (held piece.head.ksmps (rate_at into) w)
+      ≡ held piece.head.ksmps (rate_at into) w)
+      (sym (same_reg_is q into e)) (held_twice piece.head.ksmps (rate_at into) w)
   put_held false q into w v e h = h
 
   write_fits : (into : Reg) (w : Wave) (m : Machine VoiceState) → has_register counts into ≡ true → Fits m
       → Fits (write piece.head.ksmps into w m)
   write_fits into w m there f = record {
-    regs = λ q past. put_other (same_reg q into) q into (held piece.head.ksmps into.rate w) (m.regs q) refl there past
-        (f.regs q past);
+    regs = λ q past. put_other (same_reg q into) q into (held piece.head.ksmps (rate_at into) w) (m.regs q) refl there
+        past (f.regs q past);
     keeps = λ q. put_held (same_reg q into) q into w (m.regs q) refl (f.keeps q);
     units = f.units;
     outs = f.outs;
@@ -245,8 +248,8 @@ module _ (areas : List Area) (piece : Piece) (counts : Counts) where
       when_room (nat_le 1 n && nat_le n piece.head.nchnls) (out_to (n - 1) w x) x
       (λ there. out_room (n - 1) w x (channel_below n piece.head.nchnls there) sound k) k
 
-  reg_sound : (m : Machine VoiceState) (x : Reg) → Fits m → is_audio x.rate ≡ true → Sound (m.regs x)
-  reg_sound m x f h = subst (λ r. held piece.head.ksmps r (m.regs x) ≡ m.regs x) (audio_is x.rate h) (f.keeps x)
+  reg_sound : (m : Machine VoiceState) (x : Reg) → Fits m → is_audio (rate_at x) ≡ true → Sound (m.regs x)
+  reg_sound m x f h = subst (λ r. held piece.head.ksmps r (m.regs x) ≡ m.regs x) (audio_is (rate_at x) h) (f.keeps x)
 
   -- what a valid op sends out is a sound
   out_sound : (m : Machine VoiceState) (c : ℕ) (r : Rate) (from : List Reg) → takes_from (act.Out c) r from ≡ true
@@ -259,7 +262,8 @@ module _ (areas : List Area) (piece : Piece) (counts : Counts) where
       → Sound (operand 1 (map m.regs from))
   out_at_sound m r [] h f = absurd (cc)
   out_at_sound m r (x ∷ []) h f = absurd (cc)
-  out_at_sound m r (x ∷ y ∷ []) h f = reg_sound m y f (and_parts (not (is_audio x.rate)) (is_audio y.rate) h).1
+  out_at_sound m r (x ∷ y ∷ []) h f =
+      reg_sound m y f (and_parts (not (is_audio (rate_at x))) (is_audio (rate_at y)) h).1
   out_at_sound m r (x ∷ y ∷ z ∷ from) h f = absurd (cc)
 
   written_there : (b c : Bool) → (not b || c) ≡ true → b ≡ true → c ≡ true
@@ -274,7 +278,7 @@ module _ (areas : List Area) (piece : Piece) (counts : Counts) where
 
   acts_fit : (t : Act) (into : Reg) (from : List Reg) (end place : ℕ) (m : Machine VoiceState)
       → (writes t ≡ true → has_register counts into ≡ true) → finds counts end place t ≡ true
-      → takes_from t into.rate from ≡ true → has_channel piece.head.nchnls t ≡ true → Fits m
+      → takes_from t (rate_at into) from ≡ true → has_channel piece.head.nchnls t ≡ true → Fits m
       → Fits (acts (voice_world areas piece) t into (map m.regs from) m)
   acts_fit (act.Const z) into from end place m w fi ta ch f = write_fits into _ m (w refl) f
   acts_fit (act.Field k) into from end place m w fi ta ch f = write_fits into _ m (w refl) f
@@ -289,17 +293,17 @@ module _ (areas : List Area) (piece : Piece) (counts : Counts) where
       in_room m (acts (voice_world areas piece) (act.Save g) into (map m.regs from) m).world f (room_of m f)
   acts_fit (act.Start opcode k) into from end place m w fi ta ch f =
       in_room m (acts (voice_world areas piece) (act.Start opcode k) into (map m.regs from) m).world f
-      (starts_room opcode into.rate k (first_values (map m.regs from)) m.world fi (room_of m f))
+      (starts_room opcode (rate_at into) k (first_values (map m.regs from)) m.world fi (room_of m f))
   acts_fit (act.Unit opcode k reach) into from end place m w fi ta ch f =
       written_fits (gives opcode) into
-      (unit_does model opcode into.rate k reach (map m.regs from) (m.world.units k) m.world) m w
-      (unit_room opcode into.rate k reach (map m.regs from) (m.world.units k) m.world fi (room_of m f)) f
+      (unit_does model opcode (rate_at into) k reach (map m.regs from) (m.world.units k) m.world) m w
+      (unit_room opcode (rate_at into) k reach (map m.regs from) (m.world.units k) m.world fi (room_of m f)) f
   acts_fit act.Seek into from end place m w fi ta ch f =
       in_room m (acts (voice_world areas piece) act.Seek into (map m.regs from) m).world f
       (either_room (lacks_table model (first_values (map m.regs from))) _ m.world (room_of m f) (room_of m f))
   acts_fit (act.Store reach) into from end place m w fi ta ch f =
       in_room m (acts (voice_world areas piece) (act.Store reach) into (map m.regs from) m).world f
-      (store_room into.rate reach (map m.regs from) (index (operand 2 (map m.regs from) 0)) m.world (room_of m f))
+      (store_room (rate_at into) reach (map m.regs from) (index (operand 2 (map m.regs from) 0)) m.world (room_of m f))
   acts_fit (act.Zak opcode reach) into from end place m w fi ta ch f =
       written_fits (gives opcode) into (zak_does model (row_of opcode).shape reach (map m.regs from) m.world) m w
       (zak_room (row_of opcode).shape reach (map m.regs from) m.world (room_of m f)) f
@@ -309,11 +313,11 @@ module _ (areas : List Area) (piece : Piece) (counts : Counts) where
       record { regs = f.regs; keeps = f.keeps; units = f.units; outs = f.outs; frames = f.frames }
   acts_fit (act.Out c) into from end place m w fi ta ch f =
       in_room m (acts (voice_world areas piece) (act.Out c) into (map m.regs from) m).world f
-      (out_room c (operand 0 (map m.regs from)) m.world ch (out_sound m c into.rate from ta f) (room_of m f))
+      (out_room c (operand 0 (map m.regs from)) m.world ch (out_sound m c (rate_at into) from ta f) (room_of m f))
   acts_fit act.OutAt into from end place m w fi ta ch f =
       in_room m (acts (voice_world areas piece) act.OutAt into (map m.regs from) m).world f
       (out_at_room (index (operand 0 (map m.regs from) 0)) (operand 1 (map m.regs from)) m.world
-      (out_at_sound m into.rate from ta f) (room_of m f))
+      (out_at_sound m (rate_at into) from ta f) (room_of m f))
   acts_fit act.Turnoff into from end place m w fi ta ch f =
       in_room m (acts (voice_world areas piece) act.Turnoff into (map m.regs from) m).world f (room_of m f)
   acts_fit act.Ask into from end place m w fi ta ch f =
@@ -330,7 +334,7 @@ module _ (areas : List Area) (piece : Piece) (counts : Counts) where
       let own : Bool = not (writes op.act) || has_register counts op.into in
       let reads : Bool = list_all (has_register counts) op.from in
       let names : Bool = finds counts end place op.act in
-      let takes : Bool = takes_from op.act op.into.rate op.from in
+      let takes : Bool = takes_from op.act (rate_at op.into) op.from in
       let outer = and_parts (own && reads && names) takes fine in
       let middle = and_parts (own && reads) names outer.0 in
       let into = and_parts own reads middle.0 in
@@ -367,7 +371,7 @@ begins_fitting s counts cells playable fine =
     playable.init_channels
     (record {
       regs = λ q past. refl;
-      keeps = λ q. silent_held s.piece.head.ksmps q.rate;
+      keeps = λ q. silent_held s.piece.head.ksmps (rate_at q);
       units = λ u past. refl;
       outs = λ c past. refl;
       frames = λ c. silent_held s.piece.head.ksmps rate.Audio;

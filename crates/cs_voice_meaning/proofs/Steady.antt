@@ -3,6 +3,7 @@ use Rattle.std.proofs.Common.{◌≡◌, ℕ, ℤ, ◌+◌, Bool, true, false, L
 use Rattle.std.proofs.Common.{◌∙◌, ap}
 use Rattle.std.proofs.lemmas.Bool.{and_parts}
 use Rattle.cs_words.specs.Catalogue.{row_of}
+use Rattle.cs_ir.specs.Registers.{rate_at}
 use Rattle.cs_ir.specs.Cycles.{is_of_cycle, are_of_cycle}
 use Rattle.cs_ir.specs.Machine.{Machine, acts, is_done, step, run, gives, write}
 use Rattle.cs_ir.specs.Waves.{Wave, operand}
@@ -50,12 +51,12 @@ module _ {S U : Type 0} (model : WorldModel S U) where
   acts_steady (act.Save g) into ws m h = refl
   acts_steady (act.Start opcode k) into ws m h = absurd (cc)
   acts_steady (act.Unit opcode k reach) into ws m h =
-      written_steady (gives opcode) into (unit_does model opcode into.rate k reach ws (m.world.units k) m.world) m
+      written_steady (gives opcode) into (unit_does model opcode (rate_at into) k reach ws (m.world.units k) m.world) m
       m.world
-      (ap settled_of (unit_rest model opcode into.rate k reach ws (m.world.units k) m.world))
+      (ap settled_of (unit_rest model opcode (rate_at into) k reach ws (m.world.units k) m.world))
   acts_steady act.Seek into ws m h = absurd (cc)
   acts_steady (act.Store reach) into ws m h =
-      ap settled_of (store_rest model into.rate reach ws (index (operand 2 ws 0)) m.world)
+      ap settled_of (store_rest model (rate_at into) reach ws (index (operand 2 ws 0)) m.world)
   acts_steady (act.Zak opcode reach) into ws m h =
       written_steady (gives opcode) into (zak_does model (row_of opcode).shape reach ws m.world) m m.world
       (ap settled_of (zak_rest model (row_of opcode).shape reach ws m.world))

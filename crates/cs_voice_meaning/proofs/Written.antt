@@ -19,6 +19,7 @@ use Rattle.cs_words.specs.declared.catalogue.Shape.TheVariants as shape
 use Rattle.cs_words.specs.declared.catalogue.Space.{Space}
 use Rattle.cs_words.specs.declared.catalogue.Space.TheVariants as space
 use Rattle.cs_signal.specs.Delay.{delay_length}
+use Rattle.cs_ir.specs.Registers.{rate_at}
 use Rattle.cs_ir.specs.Machine.{Machine, acts, is_done, step, run, gives, write}
 use Rattle.cs_ir.specs.Resources.{Stock, reaches, shape_uses, writes_places, act_writes, tables_within, places_within}
 use Rattle.cs_ir.specs.Resources.{zak_place}
@@ -227,14 +228,14 @@ module _ (areas : List Area) (stock : Stock) (piece : Piece) (a : ℕ) (placed :
   acts_keep (act.Load g) into ws m h = refl
   acts_keep (act.Save g) into ws m h =
       kept_by_wave (area_of areas g) (held piece.head.ksmps (res_rate g) (operand 0 ws)) m.world.shared h.0
-  acts_keep (act.Start opcode k) into ws m h = starts_keep opcode into.rate k (first_values ws) m.world
+  acts_keep (act.Start opcode k) into ws m h = starts_keep opcode (rate_at into) k (first_values ws) m.world
   acts_keep (act.Unit opcode k reach) into ws m h =
-      written_keeps (gives opcode) into (unit_does model opcode into.rate k reach ws (m.world.units k) m.world) m
+      written_keeps (gives opcode) into (unit_does model opcode (rate_at into) k reach ws (m.world.units k) m.world) m
       (m.world.shared a)
-      (unit_keeps opcode into.rate k reach ws (m.world.units k) m.world)
+      (unit_keeps opcode (rate_at into) k reach ws (m.world.units k) m.world)
   acts_keep act.Seek into ws m h =
       same_cell (lacks_table model (first_values ws)) _ m.world (m.world.shared a) (λ e. refl) refl
-  acts_keep (act.Store reach) into ws m h = store_keeps into.rate reach ws (index (operand 2 ws 0)) m.world h
+  acts_keep (act.Store reach) into ws m h = store_keeps (rate_at into) reach ws (index (operand 2 ws 0)) m.world h
   acts_keep (act.Zak opcode reach) into ws m h =
       written_keeps (gives opcode) into (zak_does model (row_of opcode).shape reach ws m.world) m (m.world.shared a)
       (zak_keeps (row_of opcode).shape reach ws m.world h)

@@ -2,7 +2,7 @@
 -- channel.
 use Rattle.std.specs.Prelude.{ℕ, ℤ, pos, ◌*◌, List, [], ◌∷◌, map, replicate, None, true}
 use Rattle.std.specs.List.{range_with_len}
-use Rattle.cs_base.specs.declared.resource.Rate.TheVariants as rate
+use Rattle.cs_ir.specs.declared.register.Kind.TheVariants as kind
 use Rattle.cs_base.specs.declared.resource.Res.TheVariants as res
 use Rattle.cs_words.specs.declared.catalogue.Opcode.TheVariants as op
 use Rattle.cs_words.specs.declared.sign.BinOp.TheVariants as sign
@@ -46,13 +46,13 @@ cells_of gk first second = gk ∷ first ∷ second ∷ replicate 4 (pos 0)
 
 -- registers, and an op that does an act
 abbrev i : ℕ → Reg
-i n = record { rate = rate.Init; index = n }
+i n = record { kind = kind.LocalInit; offset = n }
 
 abbrev k : ℕ → Reg
-k n = record { rate = rate.Control; index = n }
+k n = record { kind = kind.LocalControl; offset = n }
 
 abbrev a : ℕ → Reg
-a n = record { rate = rate.Audio; index = n }
+a n = record { kind = kind.LocalAudio; offset = n }
 
 abbrev op_of : Act → Reg → List Reg → Op
 op_of what into from = record { act = what; into = into; from = from }

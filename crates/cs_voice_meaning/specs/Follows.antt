@@ -6,6 +6,7 @@ use Rattle.cs_base.specs.declared.resource.Res.{Res}
 use Rattle.cs_words.specs.declared.catalogue.Opcode.{Opcode}
 use Rattle.cs_signal.specs.Pace.{Pace}
 use Rattle.cs_ugen.specs.Units.{IsUnitOpcode, Stands}
+use Rattle.cs_ir.specs.Registers.{rate_at}
 use Rattle.cs_ir.specs.Machine.{Machine, run}
 use Rattle.cs_ir.specs.Validity.{has_value}
 use Rattle.cs_ir.specs.Resources.{Stock, tables_within, unit_uses, zak_uses}
@@ -38,7 +39,7 @@ ActNamed stock kinds N (act.Zak opcode reach) r = AreNamed N (zak_uses stock opc
 ActNamed stock kinds N _ r = Unit {0}
 
 abbrev pub OpsNamed : Stock → Kinds → (Res → Type 0) → List Op → Type 0
-OpsNamed stock kinds N ops = AllByRecursion (λ op. ActNamed stock kinds N op.act op.into.rate) ops
+OpsNamed stock kinds N ops = AllByRecursion (λ op. ActNamed stock kinds N op.act (rate_at op.into)) ops
 
 -- two machines in related states: the same registers and the same next op
 pub record Alike {V W : Type 0} (R : V → W → Type 0) (m : Machine V) (n : Machine W) : Type 0 where

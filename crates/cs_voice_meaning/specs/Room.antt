@@ -1,6 +1,7 @@
 -- How much room a voice takes.
 use Rattle.std.specs.Prelude.{ℕ, ◌≡◌, false, Option, None, nat_lt}
 use Rattle.cs_base.specs.declared.resource.Rate.TheVariants as rate
+use Rattle.cs_ir.specs.Registers.{rate_at}
 use Rattle.cs_ir.specs.Validity.{has_register}
 use Rattle.cs_ir.specs.Waves.{Wave, held, silence}
 use Rattle.cs_ir.specs.declared.register.Counts.{Counts}
@@ -13,7 +14,7 @@ use Rattle.cs_voice_meaning.specs.Voices.{Sounding}
 pub record FitsIn (counts : Counts) (ksmps channels : ℕ) (r : Reg → Wave) (us : ℕ → Option Playing)
     (o : ℕ → Wave) : Type 0 where
   pub regs : (q : Reg) → has_register counts q ≡ false → r q ≡ silence
-  pub keeps : (q : Reg) → held ksmps q.rate (r q) ≡ r q
+  pub keeps : (q : Reg) → held ksmps (rate_at q) (r q) ≡ r q
   pub units : (u : ℕ) → nat_lt u counts.units ≡ false → us u ≡ None
   pub outs : (c : ℕ) → nat_lt c channels ≡ false → o c ≡ silence
   pub frames : (c : ℕ) → held ksmps rate.Audio (o c) ≡ o c

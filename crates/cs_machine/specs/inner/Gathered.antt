@@ -1,6 +1,6 @@
 -- Arguments of a unit that stand for registers.
 use Rattle.std.specs.Prelude.{ℕ, ℤ, ◌≡◌, List, pos, slice_index_or}
-use Rattle.cs_base.specs.declared.resource.Rate.TheVariants as rate
+use Rattle.cs_ir.specs.declared.register.Kind.TheVariants as kind
 use Rattle.cs_ir.specs.Waves.{Wave}
 use Rattle.cs_ir.specs.declared.register.Reg.{Reg}
 use Rattle.cs_signal.specs.Operands.{operand_at}
@@ -9,7 +9,7 @@ use Rattle.cs_signal.specs.declared.operand.Operand.TheVariants as operand
 
 -- what is read past the end of a list, which no op does
 abbrev pub no_register : Reg
-no_register = record { rate = rate.Init; index = 0 }
+no_register = record { kind = kind.TemporaryInit; offset = 0 }
 
 abbrev pub no_operand : Operand
 no_operand = operand.Held (pos 0)

@@ -1,7 +1,11 @@
 -- What is always so of registers and channels as they lie in memory.
-use Rattle.std.specs.Prelude.{◌≡◌, ◌<◌, ◌≤◌, ℕ, pos, ℤ, Bool, true, false, List, [], length, replicate, slice_index_or}
+use Rattle.std.specs.Prelude.{◌≡◌, ◌<◌, ◌≤◌, ◌-◌, ℕ, pos, ℤ, Bool, true, false, List, [], length, replicate}
+use Rattle.std.specs.Prelude.{slice_index_or}
+use Rattle.cs_base.specs.Rates.{is_audio}
 use Rattle.cs_signal.specs.Operands.{argument}
+use Rattle.cs_ir.specs.Registers.{at_kind, kind_number, rate_of}
 use Rattle.cs_ir.specs.declared.register.Counts.{Counts}
+use Rattle.cs_ir.specs.declared.register.Kind.{Kind}
 
 -- each of these rows has a number a frame
 abbrev pub AreRows : ℕ → List (List ℤ) → Type 0
@@ -11,11 +15,15 @@ AreRows ksmps rows = (n : ℕ) → n < length rows → length (slice_index_or ro
 abbrev pub Ends : ℕ → List ℤ → List ℤ → Type 0
 Ends j before after = (i : ℕ) → j ≤ i → argument after i ≡ argument before i
 
-pub record AreKept (is ks : List ℤ) (rows : List (List ℤ)) (counts : Counts) (ksmps : ℕ) : Type 0 where
-  pub i : length is ≡ counts.registers.init
-  pub k : length ks ≡ counts.registers.control
-  pub a : length rows ≡ counts.registers.audio
-  pub long : AreRows ksmps rows
+-- as many registers of each kind as are counted, and each row of sounds with a number a frame
+pub record AreKept (ones : List (List ℤ)) (rows : List (List (List ℤ))) (counts : Counts) (ksmps : ℕ) : Type 0 where
+  pub kinds : length ones ≡ 5
+  pub sound_kinds : length rows ≡ 2
+  pub held : (k : Kind) → is_audio (rate_of k) ≡ false
+      → length (slice_index_or ones (kind_number k) []) ≡ at_kind counts.registers k
+  pub sounds : (k : Kind) → is_audio (rate_of k) ≡ true
+      → length (slice_index_or rows (kind_number k - 5) []) ≡ at_kind counts.registers k
+  pub long : (k : ℕ) → AreRows ksmps (slice_index_or rows k [])
 
 -- what a channel has: its row where anything was given to it, else zeros
 abbrev pub shown : Bool → List ℤ → List ℤ

@@ -7,8 +7,10 @@ use Rattle.cs_base.specs.declared.resource.Res.TheVariants as res
 use Rattle.cs_gen.specs.Faults.{table_fault}
 use Rattle.cs_ir.specs.Instruments.{Numbered}
 use Rattle.cs_ir.specs.Resources.{act_writes}
+use Rattle.cs_ir.specs.Touched.{resources}
 use Rattle.cs_ir.specs.declared.op.Act.{Act}
 use Rattle.cs_ir.specs.declared.op.Op.{Op}
+use Rattle.cs_ir.specs.declared.touches.Touch.{Touch}
 use Rattle.cs_score.specs.Ranges.{IsTableNumber}
 use Rattle.cs_meaning.specs.Plain.{Table}
 use Rattle.cs_piece.specs.Tables.{Given, firsts, only, table_given, times_given}
@@ -59,6 +61,10 @@ act_stores n a = list_any (same_res (res.Table n)) (act_writes (only n) a)
 
 abbrev pub ops_store : ℕ → List Op → Bool
 ops_store n ops = list_any (λ o. act_stores n o.act) ops
+
+-- whether a table is among what is touched
+abbrev pub touch_stores : ℕ → Touch → Bool
+touch_stores n t = list_any (same_res (res.Table n)) (resources (only n) t)
 
 -- whether the codes of an instrument may
 abbrev pub codes_store : ℕ → Numbered → Bool

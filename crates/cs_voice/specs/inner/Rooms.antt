@@ -5,16 +5,19 @@ use Rattle.std.proofs.Common.{zero-add}
 use Rattle.std.specs.List.{range_with_len}
 use Rattle.std.proofs.lemmas.List.{get_or_past}
 use Rattle.std.proofs.lemmas.List.FromFn.{get_or-map-range_with_len, length-map-range_with_len}
-use Rattle.cs_base.specs.declared.resource.Rate.{Rate}
 use Rattle.cs_base.specs.declared.resource.Rate.TheVariants as rate
 use Rattle.cs_base.proofs.Tests.{by_test}
 use Rattle.cs_ir.specs.Validity.{has_register}
 use Rattle.cs_ir.specs.Waves.{Wave, constant, held, silence}
+use Rattle.cs_ir.specs.Registers.{at_kind, rate_at, rate_of}
+use Rattle.cs_ir.specs.declared.register.Kind.{Kind}
+use Rattle.cs_ir.specs.declared.register.Kind.TheVariants as kind
 use Rattle.cs_ir.specs.declared.register.Reg.{Reg}
 use Rattle.cs_machine.specs.Outputs.{ChannelFile, outs, refilled}
-use Rattle.cs_machine.specs.Registers.{RegisterFile, filled, reg, values}
+use Rattle.cs_machine.specs.Registers.{RegisterFile, filled, register, values}
 use Rattle.cs_machine.specs.Rows.{row_of, row_wave}
 use Rattle.cs_machine.proofs.Frames.{at_or_past, held_row, row_held}
+use Rattle.cs_signal.specs.Operands.{argument}
 
 module _ {A : Type 0} (f : ℕ → A) (n : ℕ) where
   -- a list of what a function has at the first numbers
@@ -37,43 +40,73 @@ pub row_is_held : (n : ℕ) (w : Wave) → row_wave (row_of n w) ≡ held n rate
 row_is_held n w = row_held n w (row_of n w) (length-map-range_with_len w 0 n)
     (λ j low. listed_at w n (pos 0) j (subst (λ k. j < k) (length-map-range_with_len w 0 n) low))
 
+module _ (f : RegisterFile) (w : Reg → Wave) where
+  -- registers that hold one number, and those of sounds, of a kind of which there are so many
+  ones : Kind → List ℤ
+  ones k = map (λ m. w (register k m) 0) (range_with_len 0 (at_kind f.counts.registers k))
+
+  rows : Kind → List (List ℤ)
+  rows k = map (λ m. row_of f.ksmps (w (register k m))) (range_with_len 0 (at_kind f.counts.registers k))
+
+  module _ (past : (q : Reg) → has_register f.counts q ≡ false → w q ≡ silence) where
+    one_has : (k : Kind) (n : ℕ) → constant (w (register k n) 0) ≡ w (register k n)
+        → constant (argument (ones k) n) ≡ w (register k n)
+    unfolding ones
+    one_has k n keeps = ap constant (listed_all (λ m. w (register k m) 0) (at_kind f.counts.registers k) (pos 0) n
+        (λ no. ap (λ v. v 0) (past (register k n) no))) ∙ keeps
+
+    row_has : (k : Kind) (n : ℕ) → held f.ksmps rate.Audio (w (register k n)) ≡ w (register k n)
+        → row_wave (slice_index_or (rows k) n []) ≡ w (register k n)
+    unfolding rows
+    row_has k n keeps = by_test (nat_lt n (at_kind f.counts.registers k))
+        (λ yes. ap row_wave (listed_at (λ m. row_of f.ksmps (w (register k m))) (at_kind f.counts.registers k) [] n
+        (ltb-true n (at_kind f.counts.registers k) yes))
+        ∙ row_is_held f.ksmps (w (register k n)) ∙ keeps)
+        (λ no. ap row_wave (listed_past (λ m. row_of f.ksmps (w (register k m))) (at_kind f.counts.registers k) [] n
+        (at_or_past n (at_kind f.counts.registers k) no)) ∙ sym (past (register k n) no))
+
+  one_past : (k : Kind) (n : ℕ) → nat_lt n (at_kind f.counts.registers k) ≡ false
+      → constant (argument (ones k) n) ≡ silence
+  unfolding ones
+  one_past k n past = ap constant (listed_past (λ m. w (register k m) 0) (at_kind f.counts.registers k) (pos 0) n
+      (at_or_past n (at_kind f.counts.registers k) past))
+
+  row_past : (k : Kind) (n : ℕ) → nat_lt n (at_kind f.counts.registers k) ≡ false
+      → row_wave (slice_index_or (rows k) n []) ≡ silence
+  unfolding rows
+  row_past k n past = ap row_wave (listed_past (λ m. row_of f.ksmps (w (register k m)))
+      (at_kind f.counts.registers k) [] n (at_or_past n (at_kind f.counts.registers k) past))
+
 -- registers that were filled with values that fit in them have them
 pub filled_has : (f : RegisterFile) (w : Reg → Wave) → ((q : Reg) → has_register f.counts q ≡ false → w q ≡ silence)
-    → ((q : Reg) → held f.ksmps q.rate (w q) ≡ w q) → values (filled f w) ≡ w
-filled_has f w past keeps = λ t q. at q.rate q.index t
+    → ((q : Reg) → held f.ksmps (rate_at q) (w q) ≡ w q) → values (filled f w) ≡ w
+unfolding ones rows
+filled_has f w past keeps = λ t q. at q.kind q.offset t
   where
-    at : (r : Rate) (n : ℕ) → values (filled f w) (reg r n) ≡ w (reg r n)
-    at rate.Init n =
-        ap constant (listed_all (λ m. w (reg rate.Init m) 0) f.counts.registers.init (pos 0) n
-        (λ no. ap (λ v. v 0) (past (reg rate.Init n) no)))
-        ∙ keeps (reg rate.Init n)
-    at rate.Control n =
-        ap constant (listed_all (λ m. w (reg rate.Control m) 0) f.counts.registers.control (pos 0) n
-        (λ no. ap (λ v. v 0) (past (reg rate.Control n) no)))
-        ∙ keeps (reg rate.Control n)
-    at rate.Audio n = by_test (nat_lt n f.counts.registers.audio)
-        (λ yes. ap row_wave (listed_at (λ m. row_of f.ksmps (w (reg rate.Audio m))) f.counts.registers.audio [] n
-        (ltb-true n f.counts.registers.audio yes))
-        ∙ row_is_held f.ksmps (w (reg rate.Audio n)) ∙ keeps (reg rate.Audio n))
-        (λ no. ap row_wave (listed_past (λ m. row_of f.ksmps (w (reg rate.Audio m))) f.counts.registers.audio [] n
-        (at_or_past n f.counts.registers.audio no))
-        ∙ sym (past (reg rate.Audio n) no))
+    at : (k : Kind) (n : ℕ) → values (filled f w) (register k n) ≡ w (register k n)
+    at kind.LocalInit n = one_has f w past kind.LocalInit n (keeps (register kind.LocalInit n))
+    at kind.LocalControl n = one_has f w past kind.LocalControl n (keeps (register kind.LocalControl n))
+    at kind.Kept n = one_has f w past kind.Kept n (keeps (register kind.Kept n))
+    at kind.TemporaryInit n = one_has f w past kind.TemporaryInit n (keeps (register kind.TemporaryInit n))
+    at kind.TemporaryControl n = one_has f w past kind.TemporaryControl n (keeps (register kind.TemporaryControl n))
+    at kind.LocalAudio n = row_has f w past kind.LocalAudio n (keeps (register kind.LocalAudio n))
+    at kind.TemporaryAudio n = row_has f w past kind.TemporaryAudio n (keeps (register kind.TemporaryAudio n))
 
 -- what they have then fits in them
 pub filled_past : (f : RegisterFile) (w : Reg → Wave) (q : Reg) → has_register f.counts q ≡ false
     → values (filled f w) q ≡ silence
-filled_past f w q past = at q.rate q.index past
+unfolding ones rows
+filled_past f w q past = at q.kind q.offset past
   where
-    at : (r : Rate) (n : ℕ) → has_register f.counts (reg r n) ≡ false → values (filled f w) (reg r n) ≡ silence
-    at rate.Init n past = ap constant
-        (listed_past (λ m. w (reg rate.Init m) 0) f.counts.registers.init (pos 0) n
-        (at_or_past n f.counts.registers.init past))
-    at rate.Control n past =
-        ap constant (listed_past (λ m. w (reg rate.Control m) 0) f.counts.registers.control (pos 0) n
-        (at_or_past n f.counts.registers.control past))
-    at rate.Audio n past = ap row_wave
-        (listed_past (λ m. row_of f.ksmps (w (reg rate.Audio m))) f.counts.registers.audio [] n
-        (at_or_past n f.counts.registers.audio past))
+    at : (k : Kind) (n : ℕ) → has_register f.counts (register k n) ≡ false
+        → values (filled f w) (register k n) ≡ silence
+    at kind.LocalInit n past = one_past f w kind.LocalInit n past
+    at kind.LocalControl n past = one_past f w kind.LocalControl n past
+    at kind.Kept n past = one_past f w kind.Kept n past
+    at kind.TemporaryInit n past = one_past f w kind.TemporaryInit n past
+    at kind.TemporaryControl n past = one_past f w kind.TemporaryControl n past
+    at kind.LocalAudio n past = row_past f w kind.LocalAudio n past
+    at kind.TemporaryAudio n past = row_past f w kind.TemporaryAudio n past
 
 zero_held : (b : Bool) → (if b then pos 0 else pos 0) ≡ pos 0
 zero_held true = refl
@@ -97,17 +130,27 @@ listed_rows : (f : ℕ → Wave) (n k : ℕ) (m : ℕ) → m < k
 listed_rows f n k m low = ap length (listed_at (λ c. row_of n (f c)) k [] m low) ∙ length-map-range_with_len (f m) 0 n
 
 pub filled_keeps : (f : RegisterFile) (w : Reg → Wave) (q : Reg)
-    → held f.ksmps q.rate (values (filled f w) q) ≡ values (filled f w) q
-filled_keeps f w q = at q.rate q.index
+    → held f.ksmps (rate_at q) (values (filled f w) q) ≡ values (filled f w) q
+unfolding rows
+filled_keeps f w q = at q.kind q.offset
   where
-    at : (r : Rate) (n : ℕ) → held f.ksmps r (values (filled f w) (reg r n)) ≡ values (filled f w) (reg r n)
-    at rate.Init n = refl
-    at rate.Control n = refl
-    at rate.Audio n = rows_held
-        (map (λ m. row_of f.ksmps (w (reg rate.Audio m))) (range_with_len 0 f.counts.registers.audio)) f.ksmps
-        f.counts.registers.audio n
-        (length-map-range_with_len (λ m. row_of f.ksmps (w (reg rate.Audio m))) 0 f.counts.registers.audio)
-        (listed_rows (λ m. w (reg rate.Audio m)) f.ksmps f.counts.registers.audio)
+    row : (k : Kind) (n : ℕ) → held f.ksmps rate.Audio (row_wave (slice_index_or (rows f w k) n []))
+        ≡ row_wave (slice_index_or (rows f w k) n [])
+    row k n = rows_held
+        (map (λ m. row_of f.ksmps (w (register k m))) (range_with_len 0 (at_kind f.counts.registers k))) f.ksmps
+        (at_kind f.counts.registers k) n
+        (length-map-range_with_len (λ m. row_of f.ksmps (w (register k m))) 0 (at_kind f.counts.registers k))
+        (listed_rows (λ m. w (register k m)) f.ksmps (at_kind f.counts.registers k))
+
+    at : (k : Kind) (n : ℕ) → held f.ksmps (rate_of k) (values (filled f w) (register k n))
+        ≡ values (filled f w) (register k n)
+    at kind.LocalInit n = refl
+    at kind.LocalControl n = refl
+    at kind.Kept n = refl
+    at kind.TemporaryInit n = refl
+    at kind.TemporaryControl n = refl
+    at kind.LocalAudio n = row kind.LocalAudio n
+    at kind.TemporaryAudio n = row kind.TemporaryAudio n
 
 -- channels that were filled with values that fit in them have them
 pub refilled_has : (f : ChannelFile) (w : ℕ → Wave) → ((c : ℕ) → nat_lt c (length f.rows) ≡ false → w c ≡ silence)

@@ -1,34 +1,28 @@
-use Rattle.std.proofs.Common.{◌∙◌, ◌≤◌, ℤ, List, ap, arith, length}
+use Rattle.std.proofs.Common.{◌∙◌, ◌≤◌, ℤ, List, [], ◌∷◌, ◌++◌, ap, arith, length, take}
 use Rattle.cs_cells.specs.Cells.{cell}
+use Rattle.cs_ir.specs.Placed.{regs_read}
+use Rattle.cs_ir.specs.declared.register.Reg.{Reg}
 use Rattle.cs_machine.specs.Players.{PlayerData, curve_at}
 use Rattle.cs_machine.specs.Registers.{values}
-use Rattle.cs_machine.proofs.Gathered.{few, same_inputs}
+use Rattle.cs_machine.proofs.Gathered.{same_inputs, three_stand}
 use Rattle.cs_signal.specs.Steps.{run}
-use Rattle.cs_ugen.specs.Units.{unit_step}
+use Rattle.cs_signal.specs.declared.operand.Operand.{Operand}
+use Rattle.cs_ugen.specs.Units.{inputs_at, unit_step}
 use Rattle.cs_machine.proofs.gather.block.Goals as goal
 
-pub operands-inputs-requires-clause-few : goal.operands-inputs-requires-clause-few
-operands-inputs-requires-clause-few g c = few c.args.player.now.state (length c.args.from.now) c.requires.count
-
-pub returns-then-from-le-FEW_INPUTS-clause-value : goal.returns-then-from-le-FEW_INPUTS-clause-value
-returns-then-from-le-FEW_INPUTS-clause-value g c =
+pub returns-then-len-le-FEW_INPUTS-clause-value : goal.returns-then-len-le-FEW_INPUTS-clause-value
+returns-then-len-le-FEW_INPUTS-clause-value g c =
     let p : PlayerData = c.args.player.now in
     let points : List ℤ = curve_at p.points p.area (cell (g.B.Bank.cells c.args.bank.now)) in
-    let long : length c.args.from.now ≤ length c.few_operands-inputs.result =
-    omega (arith, c.if-from-le-FEW_INPUTS.true, c.few_operands-inputs.ensures.long) in
+    let from : List Reg = regs_read c.args.from in
+    let few : length from ≤ 3 = omega (arith, c.len.ensures, c.if-len-le-FEW_INPUTS.true) in
+    let a : Operand = c.operand_at.result in
+    let b : Operand = c.operand_at-then-len-le-FEW_INPUTS.result in
+    let d : Operand = c.operand_at-then-len-le-FEW_INPUTS-2.result in
     c.block.ensures.value
+    ∙ ap (λ n. run unit_step (λ j. inputs_at (take n (a ∷ b ∷ d ∷ [])) j ++ points) p.state 0 (length c.args.row.now))
+    c.len-then-len-le-FEW_INPUTS.ensures
     ∙ ap (λ at. run unit_step at p.state 0 (length c.args.row.now))
-    (same_inputs (values c.args.regs.now) c.few_operands-inputs.result c.args.from.now points long
-    c.few_operands-inputs.ensures.stand)
-
-pub returns-else-from-le-FEW_INPUTS-clause-value : goal.returns-else-from-le-FEW_INPUTS-clause-value
-returns-else-from-le-FEW_INPUTS-clause-value g c =
-    let p : PlayerData = c.args.player.now in
-    let points : List ℤ = curve_at p.points p.area (cell (g.B.Bank.cells c.args.bank.now)) in
-    let most : length c.args.from.now ≤ 7 = few p.state (length c.args.from.now) c.requires.count in
-    let long : length c.args.from.now ≤ length c.operands-inputs.result =
-    omega (arith, most, c.operands-inputs.ensures.long) in
-    c.block-else-from-le-FEW_INPUTS.ensures.value
-    ∙ ap (λ at. run unit_step at p.state 0 (length c.args.row.now))
-    (same_inputs (values c.args.regs.now) c.operands-inputs.result c.args.from.now points long
-    c.operands-inputs.ensures.stand)
+    (same_inputs (values c.args.regs.now) (a ∷ b ∷ d ∷ []) from points few
+    (three_stand (values c.args.regs.now) from a b d c.operand_at.ensures.stands
+    c.operand_at-then-len-le-FEW_INPUTS.ensures.stands c.operand_at-then-len-le-FEW_INPUTS-2.ensures.stands few))

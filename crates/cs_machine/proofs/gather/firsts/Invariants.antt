@@ -1,4 +1,5 @@
 use Rattle.std.proofs.Common.{◌≡◌, ℕ, ◌<◌, length}
+use Rattle.cs_ir.specs.Placed.{regs_read}
 use Rattle.cs_machine.specs.Registers.{values}
 use Rattle.cs_machine.specs.inner.Gathered.{IsFirstAt}
 use Rattle.cs_machine.proofs.gather.firsts.Given as goal
@@ -6,6 +7,6 @@ use Rattle.cs_machine.proofs.gather.firsts.Given as goal
 -- the numbers before this one are those of their registers
 abbrev pub invariant-loop-j : goal.invariant-loop-j
 invariant-loop-j l = record {
-  first : (i : ℕ) → i < l.j → IsFirstAt (values l.regs) l.inputs l.from i;
+  first : (i : ℕ) → i < l.j → IsFirstAt (values l.regs) l.inputs (regs_read l.from) i;
   long : length l.inputs ≡ 7;
 }

@@ -1,4 +1,4 @@
-use Rattle.std.proofs.Common.{◌≡◌, ◌*ℤ◌, ◌∙◌, FitsSigned, ap, rules, subst, sym, w64}
+use Rattle.std.proofs.Common.{◌*ℤ◌, ◌∙◌, FitsSigned, ap, rules, subst, sym, w64}
 use Rattle.std.proofs.lemmas.Int.{to_z-of_z}
 use Rattle.cs_base.specs.Numbers.{IsRaw, clamp, floor_div, one}
 use Rattle.cs_machine.proofs.Quotients.{quotient_in_range, quotient_is}

@@ -1,40 +1,52 @@
-use Rattle.std.proofs.Common.{◌≡◌, ◌∙◌, length, refl, subst, sym, true}
+use Rattle.std.proofs.Common.{◌≡◌, ◌∙◌, ap, length, refl, subst, sym, true}
 use Rattle.std.specs.List.{list_all}
+use Rattle.cs_ir.proofs.RegisterKinds.{there_small}
+use Rattle.cs_ir.specs.Placed.{there}
+use Rattle.cs_ir.specs.Registers.{rate_at}
 use Rattle.cs_ir.specs.Validity.{has_register}
 use Rattle.cs_ir.specs.declared.op.Act.TheVariants as act
-use Rattle.cs_voice.proofs.Fitting.{bare_from}
-use Rattle.cs_voice.proofs.Points.{unit_result}
-use Rattle.cs_voice.proofs.Readying.{does_op, does_op_plain, does_op_unit, fit_of, into_of, is_a_unit, number_of}
-use Rattle.cs_voice.proofs.Readying.{parts_of, room_of, takes_of, unit_may_play}
+use Rattle.cs_voice.proofs.Fitting.{acts_there, bare_from, first_there, reads_small, unit_there}
+use Rattle.cs_voice.proofs.Readying.{does_op, does_op_plain, does_op_unit, fit_of, is_a_unit, number_of, parts_of}
+use Rattle.cs_voice.proofs.Readying.{room_of, takes_of, unit_into, unit_may_play}
 use Rattle.cs_voice.specs.Units.{MayPlay}
 use Rattle.cs_voice.proofs.any.act.Goals as goal
 
 pub returns-in-Load-clause-does : goal.returns-in-Load-clause-does
-returns-in-Load-clause-does g c = does_op c.in-Load.is
-    (bare_from c.args.op.now c.args.state.now (act.Load c.in-Load.res) (fit_of c.requires.ready.ready) c.in-Load.is
-    refl) c.load.ensures.does
+returns-in-Load-clause-does g c = does_op (acts_there c.args.op c.in-Load.is) c.writes.ensures
+    (bare_from (there c.args.op) c.args.state.now (act.Load c.in-Load.res) (fit_of c.requires.ready.ready)
+    (acts_there c.args.op c.in-Load.is) refl) c.load.ensures.does
+
+pub only-requires-clause-small : goal.only-requires-clause-small
+only-requires-clause-small g c = reads_small (there c.args.op) c.args.state.now (fit_of c.requires.ready.ready)
+
+pub save-requires-clause-x : goal.save-requires-clause-x
+save-requires-clause-x g c =
+    first_there c.args.state.now.regs.counts (parts_of c.requires.ready.ready).from c.only.ensures
 
 pub returns-in-Save-clause-does : goal.returns-in-Save-clause-does
-returns-in-Save-clause-does g c = does_op c.in-Save.is (sym c.as_slice.ensures ∙ c.one.ensures)
-    (c.save.ensures.does c.args.op.now.into)
+returns-in-Save-clause-does g c = does_op (acts_there c.args.op c.in-Save.is) refl c.only.ensures
+    (c.save.ensures.does (there c.args.op).into)
 
 pub returns-in_default-clause-does : goal.returns-in_default-clause-does
 returns-in_default-clause-does g c = does_op_plain c.plain.ensures
 
+pub writes-requires-in-Unit : goal.writes-requires-in-Unit
+writes-requires-in-Unit g c =
+    there_small c.args.state.now.regs.counts (there c.args.op).into
+    (unit_into c.requires.ready.ready (acts_there c.args.op c.in-Unit.is))
+
 pub run_unit-requires-clause-into : goal.run_unit-requires-clause-into
-run_unit-requires-clause-into g c =
-    into_of c.requires.ready.ready c.in-Unit.is
-    (unit_result c.in-Unit.opcode
-    (is_a_unit c.in-Unit.opcode c.in-Unit.number c.in-Unit.reach c.args.op.now.into.rate c.args.op.now.from
-    (takes_of c.requires.ready.ready c.in-Unit.is))).some
+run_unit-requires-clause-into g c = ap (has_register c.args.state.now.regs.counts) c.writes-in-Unit.ensures
+    ∙ unit_into c.requires.ready.ready (acts_there c.args.op c.in-Unit.is)
 
 pub run_unit-requires-clause-from : goal.run_unit-requires-clause-from
 run_unit-requires-clause-from g c =
-    subst (λ l. list_all (has_register c.args.state.now.regs.counts) l ≡ true) (sym c.as_slice-in-Unit.ensures)
+    subst (λ l. list_all (has_register c.args.state.now.regs.counts) l ≡ true) (sym c.reads.ensures)
     (parts_of c.requires.ready.ready).from
 
 pub run_unit-requires-clause-number : goal.run_unit-requires-clause-number
-run_unit-requires-clause-number g c = number_of c.requires.ready.ready c.in-Unit.is
+run_unit-requires-clause-number g c = number_of c.requires.ready.ready
+    (unit_there c.args.op c.unit.result c.in-Unit.is c.unit.ensures)
 
 pub run_unit-requires-clause-room : goal.run_unit-requires-clause-room
 run_unit-requires-clause-room g c = room_of c.requires.ready.ready
@@ -42,11 +54,12 @@ run_unit-requires-clause-room g c = room_of c.requires.ready.ready
 pub run_unit-requires-clause-unit : goal.run_unit-requires-clause-unit
 run_unit-requires-clause-unit g c =
     λ p is. subst (λ l. MayPlay (g.B.Bank.can_get (g.B.Bank.rest c.args.bank.now))
-    (length (g.B.Bank.cells c.args.bank.now)) c.in-Unit.reach l p) (sym c.as_slice-in-Unit.ensures)
-    (unit_may_play c.requires.ready.ready c.in-Unit.is p is)
+    (length (g.B.Bank.cells c.args.bank.now)) c.in-Unit.reach l p) (sym c.reads.ensures)
+    (unit_may_play c.requires.ready.ready (unit_there c.args.op c.unit.result c.in-Unit.is c.unit.ensures) p is)
 
 pub returns-in-Unit-clause-does : goal.returns-in-Unit-clause-does
 returns-in-Unit-clause-does g c =
-    does_op_unit c.in-Unit.is (sym c.as_slice-in-Unit.ensures)
-    (is_a_unit c.in-Unit.opcode c.in-Unit.number c.in-Unit.reach c.args.op.now.into.rate c.args.op.now.from
-    (takes_of c.requires.ready.ready c.in-Unit.is)) c.run_unit.ensures.does
+    let e = unit_there c.args.op c.unit.result c.in-Unit.is c.unit.ensures in
+    does_op_unit e c.writes-in-Unit.ensures (sym c.reads.ensures)
+    (is_a_unit c.in-Unit.opcode c.unit.result c.in-Unit.reach (rate_at (there c.args.op).into) (there c.args.op).from
+    (takes_of c.requires.ready.ready e)) c.run_unit.ensures.does

@@ -1,63 +1,174 @@
-use Rattle.std.proofs.Common.{◌∙◌, [], ◌∷◌, refl, sym}
+use Rattle.std.proofs.Common.{◌∙◌, [], ◌∷◌, ap, refl}
+use Rattle.cs_ir.specs.Placed.{there}
+use Rattle.cs_ir.specs.Validity.{has_register}
 use Rattle.cs_ir.specs.declared.op.Act.TheVariants as act
-use Rattle.cs_voice.proofs.Fitting.{bare_from, does_anywhere, does_at}
+use Rattle.cs_voice.proofs.Fitting.{acts_there, bare_from, does_anywhere, does_at, first_there, reads_small}
+use Rattle.cs_voice.proofs.Fitting.{reads_there}
+use Rattle.cs_voice.proofs.Fitting.{second_there, third_there, writes_small, writes_there}
 use Rattle.cs_voice.proofs.any.plain.Goals as goal
 
+-- ---- what is written and read is there
+
+pub writes-requires : goal.writes-requires
+writes-requires c = writes_small (there c.args.op) c.args.state.now (act.Const c.in-Const.value) c.requires.fit
+    (acts_there c.args.op c.in-Const.is) refl
+
+pub writes-requires-in-Field : goal.writes-requires-in-Field
+writes-requires-in-Field c = writes_small (there c.args.op) c.args.state.now (act.Field c.in-Field.field) c.requires.fit
+    (acts_there c.args.op c.in-Field.is) refl
+
+pub writes-requires-in-Head : goal.writes-requires-in-Head
+writes-requires-in-Head c = writes_small (there c.args.op) c.args.state.now (act.Head c.in-Head.name) c.requires.fit
+    (acts_there c.args.op c.in-Head.is) refl
+
+pub writes-requires-in-Copy : goal.writes-requires-in-Copy
+writes-requires-in-Copy c = writes_small (there c.args.op) c.args.state.now act.Copy c.requires.fit
+    (acts_there c.args.op c.in-Copy.is) refl
+
+pub writes-requires-in-Neg : goal.writes-requires-in-Neg
+writes-requires-in-Neg c = writes_small (there c.args.op) c.args.state.now act.Neg c.requires.fit
+    (acts_there c.args.op c.in-Neg.is) refl
+
+pub writes-requires-in-Call : goal.writes-requires-in-Call
+writes-requires-in-Call c = writes_small (there c.args.op) c.args.state.now (act.Call c.in-Call.function) c.requires.fit
+    (acts_there c.args.op c.in-Call.is) refl
+
+pub writes-requires-in-Pair : goal.writes-requires-in-Pair
+writes-requires-in-Pair c = writes_small (there c.args.op) c.args.state.now (act.Pair c.in-Pair.operator) c.requires.fit
+    (acts_there c.args.op c.in-Pair.is) refl
+
+pub writes-requires-in-Pick : goal.writes-requires-in-Pick
+writes-requires-in-Pick c = writes_small (there c.args.op) c.args.state.now act.Pick c.requires.fit
+    (acts_there c.args.op c.in-Pick.is) refl
+
+pub only-requires-clause-small : goal.only-requires-clause-small
+only-requires-clause-small c = reads_small (there c.args.op) c.args.state.now c.requires.fit
+
+pub only-requires-in-Neg-clause-small : goal.only-requires-in-Neg-clause-small
+only-requires-in-Neg-clause-small c = reads_small (there c.args.op) c.args.state.now c.requires.fit
+
+pub only-requires-in-Call-clause-small : goal.only-requires-in-Call-clause-small
+only-requires-in-Call-clause-small c = reads_small (there c.args.op) c.args.state.now c.requires.fit
+
+pub only-requires-in-Out-clause-small : goal.only-requires-in-Out-clause-small
+only-requires-in-Out-clause-small c = reads_small (there c.args.op) c.args.state.now c.requires.fit
+
+pub pair-requires-clause-small : goal.pair-requires-clause-small
+pair-requires-clause-small c = reads_small (there c.args.op) c.args.state.now c.requires.fit
+
+pub pair-requires-in-OutAt-clause-small : goal.pair-requires-in-OutAt-clause-small
+pair-requires-in-OutAt-clause-small c = reads_small (there c.args.op) c.args.state.now c.requires.fit
+
+pub triple-requires-clause-small : goal.triple-requires-clause-small
+triple-requires-clause-small c = reads_small (there c.args.op) c.args.state.now c.requires.fit
+
+pub apply-requires-clause-x : goal.apply-requires-clause-x
+apply-requires-clause-x c = first_there c.args.state.now.regs.counts
+    (reads_there (there c.args.op) c.args.state.now c.requires.fit) c.only-in-Call.ensures
+
+pub combine-requires-clause-into : goal.combine-requires-clause-into
+combine-requires-clause-into c = ap (has_register c.args.state.now.regs.counts) c.writes-in-Pair.ensures
+    ∙ writes_there (there c.args.op) c.args.state.now (act.Pair c.in-Pair.operator) c.requires.fit
+    (acts_there c.args.op c.in-Pair.is) refl
+
+pub combine-requires-clause-x : goal.combine-requires-clause-x
+combine-requires-clause-x c = first_there c.args.state.now.regs.counts
+    (reads_there (there c.args.op) c.args.state.now c.requires.fit) c.pair.ensures
+
+pub combine-requires-clause-y : goal.combine-requires-clause-y
+combine-requires-clause-y c = second_there c.args.state.now.regs.counts
+    (reads_there (there c.args.op) c.args.state.now c.requires.fit) c.pair.ensures
+
+pub pick-requires-clause-into : goal.pick-requires-clause-into
+pick-requires-clause-into c = ap (has_register c.args.state.now.regs.counts) c.writes-in-Pick.ensures
+    ∙ writes_there (there c.args.op) c.args.state.now act.Pick c.requires.fit
+    (acts_there c.args.op c.in-Pick.is) refl
+
+pub pick-requires-clause-condition : goal.pick-requires-clause-condition
+pick-requires-clause-condition c = first_there c.args.state.now.regs.counts
+    (reads_there (there c.args.op) c.args.state.now c.requires.fit) c.triple.ensures
+
+pub pick-requires-clause-x : goal.pick-requires-clause-x
+pick-requires-clause-x c = second_there c.args.state.now.regs.counts
+    (reads_there (there c.args.op) c.args.state.now c.requires.fit) c.triple.ensures
+
+pub pick-requires-clause-y : goal.pick-requires-clause-y
+pick-requires-clause-y c = third_there c.args.state.now.regs.counts
+    (reads_there (there c.args.op) c.args.state.now c.requires.fit) c.triple.ensures
+
+pub send_at-requires-clause-number : goal.send_at-requires-clause-number
+send_at-requires-clause-number c = first_there c.args.state.now.regs.counts
+    (reads_there (there c.args.op) c.args.state.now c.requires.fit) c.pair-in-OutAt.ensures
+
+pub send_at-requires-clause-x : goal.send_at-requires-clause-x
+send_at-requires-clause-x c = second_there c.args.state.now.regs.counts
+    (reads_there (there c.args.op) c.args.state.now c.requires.fit) c.pair-in-OutAt.ensures
+
+-- ---- what is done
+
 pub returns-in-Const : goal.returns-in-Const
-returns-in-Const c = does_anywhere c.args.at.now c.args.op.now.act (act.Const c.in-Const.value) c.args.op.now.into
-    c.args.op.now.from [] c.args.state.now _
-    c.in-Const.is (bare_from c.args.op.now c.args.state.now (act.Const c.in-Const.value) c.requires.fit c.in-Const.is
-    refl) c.number.ensures
+returns-in-Const c = does_anywhere c.args.at.now (there c.args.op) (act.Const c.in-Const.value) c.writes.result []
+    c.args.state.now _
+    (acts_there c.args.op c.in-Const.is) c.writes.ensures
+    (bare_from (there c.args.op) c.args.state.now (act.Const c.in-Const.value) c.requires.fit (acts_there c.args.op
+    c.in-Const.is) refl)
+    c.number.ensures
 
 pub returns-in-Field : goal.returns-in-Field
-returns-in-Field c = does_at c.args.at.now c.args.op.now.act (act.Field c.in-Field.field) c.args.op.now.into
-    c.args.op.now.from [] c.args.state.now _
-    c.in-Field.is (bare_from c.args.op.now c.args.state.now (act.Field c.in-Field.field) c.requires.fit c.in-Field.is
-    refl) c.field.ensures
+returns-in-Field c = does_at c.args.at.now (there c.args.op) (act.Field c.in-Field.field) c.writes-in-Field.result
+    [] c.args.state.now _
+    (acts_there c.args.op c.in-Field.is) c.writes-in-Field.ensures
+    (bare_from (there c.args.op) c.args.state.now (act.Field c.in-Field.field) c.requires.fit (acts_there c.args.op
+    c.in-Field.is) refl)
+    c.field.ensures
 
 pub returns-in-Head : goal.returns-in-Head
-returns-in-Head c = does_at c.args.at.now c.args.op.now.act (act.Head c.in-Head.name) c.args.op.now.into
-    c.args.op.now.from [] c.args.state.now _
-    c.in-Head.is (bare_from c.args.op.now c.args.state.now (act.Head c.in-Head.name) c.requires.fit c.in-Head.is refl)
+returns-in-Head c = does_at c.args.at.now (there c.args.op) (act.Head c.in-Head.name) c.writes-in-Head.result []
+    c.args.state.now _
+    (acts_there c.args.op c.in-Head.is) c.writes-in-Head.ensures
+    (bare_from (there c.args.op) c.args.state.now (act.Head c.in-Head.name) c.requires.fit (acts_there c.args.op
+    c.in-Head.is) refl)
     c.header.ensures
 
 pub returns-in-Copy : goal.returns-in-Copy
-returns-in-Copy c = does_anywhere c.args.at.now c.args.op.now.act act.Copy c.args.op.now.into c.args.op.now.from
-    (c.one.result ∷ []) c.args.state.now _
-    c.in-Copy.is (sym c.as_slice-from.ensures ∙ c.one.ensures) c.copy.ensures
+returns-in-Copy c = does_anywhere c.args.at.now (there c.args.op) act.Copy c.writes-in-Copy.result
+    (c.only.result ∷ []) c.args.state.now _
+    (acts_there c.args.op c.in-Copy.is) c.writes-in-Copy.ensures c.only.ensures c.copy.ensures
 
 pub returns-in-Neg : goal.returns-in-Neg
-returns-in-Neg c = does_anywhere c.args.at.now c.args.op.now.act act.Neg c.args.op.now.into c.args.op.now.from
-    (c.one-in-Neg.result ∷ []) c.args.state.now _
-    c.in-Neg.is (sym c.as_slice-from.ensures ∙ c.one-in-Neg.ensures) c.negate.ensures
+returns-in-Neg c = does_anywhere c.args.at.now (there c.args.op) act.Neg c.writes-in-Neg.result
+    (c.only-in-Neg.result ∷ []) c.args.state.now _
+    (acts_there c.args.op c.in-Neg.is) c.writes-in-Neg.ensures c.only-in-Neg.ensures c.negate.ensures
 
 pub returns-in-Call : goal.returns-in-Call
-returns-in-Call c = does_anywhere c.args.at.now c.args.op.now.act (act.Call c.in-Call.function) c.args.op.now.into
-    c.args.op.now.from (c.one-in-Call.result ∷ []) c.args.state.now _
-    c.in-Call.is (sym c.as_slice-from.ensures ∙ c.one-in-Call.ensures) c.apply.ensures
+returns-in-Call c = does_anywhere c.args.at.now (there c.args.op) (act.Call c.in-Call.function) c.writes-in-Call.result
+    (c.only-in-Call.result ∷ []) c.args.state.now _
+    (acts_there c.args.op c.in-Call.is) c.writes-in-Call.ensures c.only-in-Call.ensures c.apply.ensures
 
 pub returns-in-Pair : goal.returns-in-Pair
-returns-in-Pair c = does_anywhere c.args.at.now c.args.op.now.act (act.Pair c.in-Pair.operator) c.args.op.now.into
-    c.args.op.now.from (c.two.result.0 ∷ c.two.result.1 ∷ []) c.args.state.now _
-    c.in-Pair.is (sym c.as_slice-from.ensures ∙ c.two.ensures) c.combine.ensures
+returns-in-Pair c = does_anywhere c.args.at.now (there c.args.op) (act.Pair c.in-Pair.operator) c.writes-in-Pair.result
+    (c.pair.result.0 ∷ c.pair.result.1 ∷ []) c.args.state.now _
+    (acts_there c.args.op c.in-Pair.is) c.writes-in-Pair.ensures c.pair.ensures c.combine.ensures
 
 pub returns-in-Pick : goal.returns-in-Pick
-returns-in-Pick c = does_anywhere c.args.at.now c.args.op.now.act act.Pick c.args.op.now.into c.args.op.now.from
-    (c.three.result.0 ∷ c.three.result.1 ∷ c.three.result.2 ∷ []) c.args.state.now _
-    c.in-Pick.is (sym c.as_slice-from.ensures ∙ c.three.ensures) c.pick.ensures
+returns-in-Pick c = does_anywhere c.args.at.now (there c.args.op) act.Pick c.writes-in-Pick.result
+    (c.triple.result.0 ∷ c.triple.result.1 ∷ c.triple.result.2 ∷ []) c.args.state.now _
+    (acts_there c.args.op c.in-Pick.is) c.writes-in-Pick.ensures c.triple.ensures c.pick.ensures
 
 pub returns-in-Out : goal.returns-in-Out
-returns-in-Out c = does_anywhere c.args.at.now c.args.op.now.act (act.Out c.in-Out.channel) c.args.op.now.into
-    c.args.op.now.from (c.one-in-Out.result ∷ []) c.args.state.now _
-    c.in-Out.is (sym c.as_slice-from.ensures ∙ c.one-in-Out.ensures) (c.send.ensures c.args.op.now.into)
+returns-in-Out c = does_anywhere c.args.at.now (there c.args.op) (act.Out c.in-Out.channel) (there c.args.op).into
+    (c.only-in-Out.result ∷ []) c.args.state.now _
+    (acts_there c.args.op c.in-Out.is) refl c.only-in-Out.ensures (c.send.ensures (there c.args.op).into)
 
 pub returns-in-OutAt : goal.returns-in-OutAt
-returns-in-OutAt c = does_anywhere c.args.at.now c.args.op.now.act act.OutAt c.args.op.now.into c.args.op.now.from
-    (c.two-in-OutAt.result.0 ∷ c.two-in-OutAt.result.1 ∷ []) c.args.state.now _
-    c.in-OutAt.is (sym c.as_slice-from.ensures ∙ c.two-in-OutAt.ensures) (c.send_at.ensures c.args.op.now.into)
+returns-in-OutAt c = does_anywhere c.args.at.now (there c.args.op) act.OutAt (there c.args.op).into
+    (c.pair-in-OutAt.result.0 ∷ c.pair-in-OutAt.result.1 ∷ []) c.args.state.now _
+    (acts_there c.args.op c.in-OutAt.is) refl c.pair-in-OutAt.ensures (c.send_at.ensures (there c.args.op).into)
 
 pub returns-in-Turnoff : goal.returns-in-Turnoff
-returns-in-Turnoff c = does_anywhere c.args.at.now c.args.op.now.act act.Turnoff c.args.op.now.into c.args.op.now.from
-    [] c.args.state.now _
-    c.in-Turnoff.is (bare_from c.args.op.now c.args.state.now act.Turnoff c.requires.fit c.in-Turnoff.is refl)
-    (c.turn_off.ensures c.args.op.now.into)
+returns-in-Turnoff c = does_anywhere c.args.at.now (there c.args.op) act.Turnoff (there c.args.op).into []
+    c.args.state.now _
+    (acts_there c.args.op c.in-Turnoff.is) refl
+    (bare_from (there c.args.op) c.args.state.now act.Turnoff c.requires.fit (acts_there c.args.op c.in-Turnoff.is)
+    refl)
+    (c.turn_off.ensures (there c.args.op).into)

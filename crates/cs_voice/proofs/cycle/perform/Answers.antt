@@ -1,5 +1,5 @@
-use Rattle.std.proofs.Common.{inl, refl}
+use Rattle.std.proofs.Common.{inl}
 use Rattle.cs_voice.proofs.cycle.perform.Goals as goal
 
 pub run-requires : goal.run-requires
-run-requires g c k = ((refl, tt), inl c.requires)
+run-requires g c = inl c.requires

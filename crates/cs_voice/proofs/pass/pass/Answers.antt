@@ -1,4 +1,4 @@
-use Rattle.std.proofs.Common.{length, inr, refl, rules, subst}
+use Rattle.std.proofs.Common.{length, inr, refl, rules, subst, sym}
 use Rattle.cs_cells.specs.Cells.{cell}
 use Rattle.cs_voice.specs.Passing.{Passes}
 use Rattle.cs_voice.specs.Starts.{sheet_for}
@@ -6,17 +6,14 @@ use Rattle.cs_voice.proofs.Began.{can_pass}
 use Rattle.cs_voice.proofs.pass.pass.Goals as goal
 
 pub run-passed-requires : goal.run-passed-requires
-run-passed-requires g c k = (
-  (refl, tt),
-  inr (
-    c.init-code.result.now,
-    sheet_for c.args.note.now c.args.finds.now.at.fields.now,
-    refl,
-    refl,
-    can_pass (g.B.Bank.can_get (g.B.Bank.rest c.args.bank.now)) (g.B.Bank.can_set (g.B.Bank.rest c.args.bank.now))
-        (length (g.B.Bank.cells c.args.bank.now)) c.args.finds.now c.args.note.now c.args.finds.now.at.fields.now
-        c.init-code.result.now c.args.state.now c.init-code.ensures.same c.init-code.ensures.valid c.requires,
-  ),
+run-passed-requires g c = inr (
+  c.init-code.result.now,
+  sheet_for c.args.note.now c.args.finds.now.at.fields.now,
+  refl,
+  refl,
+  can_pass (g.B.Bank.can_get (g.B.Bank.rest c.args.bank.now)) (g.B.Bank.can_set (g.B.Bank.rest c.args.bank.now))
+      (length (g.B.Bank.cells c.args.bank.now)) c.args.finds.now c.args.note.now c.args.finds.now.at.fields.now
+      c.init-code.result.now c.args.state.now c.init-code.ensures.same c.init-code.ensures.valid c.requires,
 )
 
 pub returns-clause-passes : goal.returns-clause-passes
@@ -24,13 +21,15 @@ returns-clause-passes g c fields given =
     let before = cell (g.B.Bank.cells c.args.bank.now) in
     let after = cell (g.B.Bank.cells c.run-passed.new.bank) in
     let passes : Passes (sheet_for c.args.note.now fields) c.args.state.now before c.swap.new.y.items
-    c.run-passed.new.state after c.run-passed.new.starter.asks.items c.in_ok-refused.refused =
+    c.run-passed.new.state after c.give_asks.new.asks.items c.in_ok-refused.refused =
     subst (λ f. Passes (sheet_for c.args.note.now f) c.args.state.now before c.swap.new.y.items
-    c.run-passed.new.state after c.run-passed.new.starter.asks.items c.in_ok-refused.refused)
+    c.run-passed.new.state after c.give_asks.new.asks.items c.in_ok-refused.refused)
     given
+    (subst (λ asks. Passes (sheet_for c.args.note.now c.args.finds.now.at.fields.now) c.args.state.now before
+    c.swap.new.y.items c.run-passed.new.state after asks c.in_ok-refused.refused) (sym c.give_asks.ensures)
     (c.in_ok-refused.ensures.passes c.args.finds.now c.args.note.now.made.now c.init-code.result.now
     (sheet_for c.args.note.now c.args.finds.now.at.fields.now) refl refl refl
     (can_pass (g.B.Bank.can_get (g.B.Bank.rest c.args.bank.now)) (g.B.Bank.can_set (g.B.Bank.rest c.args.bank.now))
     (length (g.B.Bank.cells c.args.bank.now)) c.args.finds.now c.args.note.now c.args.finds.now.at.fields.now
-    c.init-code.result.now c.args.state.now c.init-code.ensures.same c.init-code.ensures.valid c.requires)) in
+    c.init-code.result.now c.args.state.now c.init-code.ensures.same c.init-code.ensures.valid c.requires))) in
     search rules

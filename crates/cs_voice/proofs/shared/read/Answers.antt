@@ -2,6 +2,7 @@ use Rattle.std.proofs.Common.{◌≡◌, ◌∙◌, true, false, ap, length, sym
 use Rattle.std.proofs.lemmas.Bool.{false≢true}
 use Rattle.cs_base.specs.Rates.{is_audio}
 use Rattle.cs_cells.specs.Cells.{cell}
+use Rattle.cs_ir.specs.Registers.{rate_at}
 use Rattle.cs_machine.proofs.Frames.{all_written}
 use Rattle.cs_voice.proofs.Sharing.{read_held, read_sound, some_cell}
 use Rattle.cs_voice.proofs.shared.read.Goals as goal
@@ -20,7 +21,7 @@ returns-then-is_audio-2-clause-values g c =
 
 pub returns-else-is_audio-clause-values : goal.returns-else-is_audio-clause-values
 returns-else-is_audio-clause-values g c =
-    let slow : is_audio c.args.rate ≡ true → is_audio c.args.into.rate ≡ false = elim c.else-is_audio.branch [
+    let slow : is_audio c.args.rate ≡ true → is_audio (rate_at c.args.into) ≡ false = elim c.else-is_audio.branch [
       | else-is_audio-via-then-is_audio+else-is_audio-2 w ↦ λ h. sym w.is_audio-then-is_audio.ensures
           ∙ w.if-is_audio-2.false
       | else-is_audio-via-else-is_audio w ↦ λ h. absurd (false≢true (sym w.if-is_audio.false ∙ c.is_audio.ensures ∙ h))

@@ -1,6 +1,7 @@
 use Rattle.std.proofs.Common.{arith, ◌≡◌, ◌∙◌, Some, None, ap, refl, subst, sym}
 use Rattle.cs_cells.specs.Cells.{cell}
 use Rattle.cs_meaning.specs.Pieces.{index, steps_of}
+use Rattle.cs_ir.specs.Registers.{rate_at}
 use Rattle.cs_machine.specs.Registers.{values}
 use Rattle.cs_signal.specs.Operands.{operand_at}
 use Rattle.cs_voice.specs.Cells.{stored_area}
@@ -31,9 +32,10 @@ returns-in-Some-clause-does g c = λ into same areas piece stock kinds counts at
     ∙ sym c.stored_area.ensures.value ∙ c.in-Some.is in
     store_done areas piece stock kinds counts c.args.reach into by.signal by.index by.table s before after placed
     state
-    (subst (λ o. Stores o (steps_of s.regs.ksmps into.rate) (values s.regs by.signal) (values s.regs by.index) before
+    (subst (λ o. Stores o (steps_of s.regs.ksmps (rate_at into)) (values s.regs by.signal) (values s.regs by.index)
+    before
     after) (sym there)
-    (stores_same c.in-Some.area c.steps-steps.result (steps_of s.regs.ksmps into.rate)
+    (stores_same c.in-Some.area c.steps-steps.result (steps_of s.regs.ksmps (rate_at into))
     (operand_at c.operand-signal.result) (values s.regs by.signal)
     (operand_at c.operand-index.result) (values s.regs by.index) before after
     (c.steps-steps.ensures ∙ ap (λ n. steps_of n by.rate)
@@ -53,5 +55,6 @@ returns-in_default-clause-does g c = λ into same areas piece stock kinds counts
     ∙ sym c.stored_area.ensures.value ∙ c.in_default.is in
     store_done areas piece stock kinds counts c.args.reach into by.signal by.index by.table s before before
     placed state
-    (subst (λ o. Stores o (steps_of s.regs.ksmps into.rate) (values s.regs by.signal) (values s.regs by.index) before
+    (subst (λ o. Stores o (steps_of s.regs.ksmps (rate_at into)) (values s.regs by.signal) (values s.regs by.index)
+    before
     before) (sym none) refl)

@@ -1,6 +1,8 @@
-use Rattle.std.proofs.Common.{◌∙◌, ap, length, map, subst}
+use Rattle.std.proofs.Common.{◌∙◌, ap, length, map, subst, sym}
 use Rattle.cs_cells.specs.Cells.{cell}
 use Rattle.cs_meaning.specs.Pieces.{step_at}
+use Rattle.cs_ir.specs.Placed.{regs_read}
+use Rattle.cs_ir.specs.Registers.{rate_at}
 use Rattle.cs_machine.proofs.Frames.{all_written}
 use Rattle.cs_machine.proofs.Putting.{wrote_row}
 use Rattle.cs_machine.specs.Registers.{IsWritten, values}
@@ -9,30 +11,34 @@ use Rattle.cs_voice.specs.Units.{cycled}
 use Rattle.cs_voice.proofs.Playing.{audio_frames, held_gives, held_state, same_data}
 use Rattle.cs_voice.proofs.unit.play.Goals as goal
 
-pub returns-in-Audio-clause-values : goal.returns-in-Audio-clause-values
-returns-in-Audio-clause-values g c =
-    let ws = map (values c.args.regs.now) c.args.from.now in
+pub returns-then-is_audio-clause-values : goal.returns-then-is_audio-clause-values
+returns-then-is_audio-clause-values g c =
+    let ws = map (values c.args.regs.now) (regs_read c.args.from) in
     let cells = cell (g.B.Bank.cells c.args.bank.now) in
     wrote_row c.args.regs.now c.swap.new.self c.args.into
-    (λ j. argument (cycled c.args.regs.now.ksmps c.args.into.rate ws cells c.args.player.now).1
-    (step_at c.args.into.rate j)) _ c.block.new.row
+    (λ j. argument (cycled c.args.regs.now.ksmps (rate_at c.args.into) ws cells c.args.player.now).1
+    (step_at (rate_at c.args.into) j)) _ c.block.new.row
     (all_written c.args.row.now.len c.block.new.row c.args.row.now.items (c.block.auto.row ∙ c.deref_mut.ensures.len))
-    c.in-Audio.is (c.block.auto.row ∙ ap length c.deref_mut.ensures.value ∙ c.requires.row)
-    (audio_frames c.args.regs.now.ksmps (length c.deref_mut.result.now) c.args.into.rate ws cells c.args.player.now
+    (sym c.is_audio.ensures ∙ c.if-is_audio.true)
+    (c.block.auto.row ∙ ap length c.deref_mut.ensures.value ∙ c.requires.row)
+    (audio_frames c.args.regs.now.ksmps (length c.deref_mut.result.now) (rate_at c.args.into) ws cells c.args.player.now
     c.block.new.player.state c.block.new.row
-    c.in-Audio.is (ap length c.deref_mut.ensures.value ∙ c.requires.row) c.block.ensures.value)
+    (sym c.is_audio.ensures ∙ c.if-is_audio.true)
+    (ap length c.deref_mut.ensures.value ∙ c.requires.row) c.block.ensures.value)
     c.swap.ensures.values
 
-pub returns-in_default-clause-unit : goal.returns-in_default-clause-unit
-returns-in_default-clause-unit g c =
+pub returns-else-is_audio-clause-unit : goal.returns-else-is_audio-clause-unit
+returns-else-is_audio-clause-unit g c =
     same_data c.args.player.now c.step-value.new.player _ c.step-value.ensures.player
-    (held_state c.args.regs.now.ksmps c.args.into.rate (map (values c.args.regs.now) c.args.from.now)
+    (held_state c.args.regs.now.ksmps (rate_at c.args.into) (map (values c.args.regs.now) (regs_read c.args.from))
     (cell (g.B.Bank.cells c.args.bank.now)) c.args.player.now
-    c.step-value.new.player.state c.step-value.result c.in_default.not-Audio c.step-value.ensures.value)
+    c.step-value.new.player.state c.step-value.result
+    (sym c.is_audio.ensures ∙ c.if-is_audio.false) c.step-value.ensures.value)
 
-pub returns-in_default-clause-values : goal.returns-in_default-clause-values
-returns-in_default-clause-values g c =
+pub returns-else-is_audio-clause-values : goal.returns-else-is_audio-clause-values
+returns-else-is_audio-clause-values g c =
     subst (λ w. IsWritten c.args.regs.now c.args.into w c.set.new.self)
-    (held_gives c.args.regs.now.ksmps c.args.into.rate (map (values c.args.regs.now) c.args.from.now)
+    (held_gives c.args.regs.now.ksmps (rate_at c.args.into) (map (values c.args.regs.now) (regs_read c.args.from))
     (cell (g.B.Bank.cells c.args.bank.now)) c.args.player.now
-    c.step-value.new.player.state c.step-value.result c.in_default.not-Audio c.step-value.ensures.value) c.set.ensures
+    c.step-value.new.player.state c.step-value.result
+    (sym c.is_audio.ensures ∙ c.if-is_audio.false) c.step-value.ensures.value) c.set.ensures

@@ -1,30 +1,78 @@
-use Rattle.std.proofs.Common.{◌≡◌, ◌∙◌, ap, map, refl, subst, slice_index_or, slice_set, None}
+use Rattle.std.proofs.Common.{◌≡◌, ◌∙◌, ap, map, refl, subst, sym, slice_index_or, slice_set, Some, None, List, Option}
 use Rattle.std.proofs.lemmas.List.{get_or_read}
 use Rattle.cs_cells.specs.Cells.{cell}
+use Rattle.cs_ir.specs.Placed.{regs_read}
+use Rattle.cs_ir.specs.Registers.{rate_at}
+use Rattle.cs_ir.specs.Waves.{constant}
+use Rattle.cs_machine.specs.Players.{PlayerData}
 use Rattle.cs_machine.specs.Registers.{IsWritten, values}
-use Rattle.cs_voice.specs.Units.{unit_after, unit_gives}
+use Rattle.cs_voice.proofs.Playing.{plays_within, rests_beyond, rests_none}
 use Rattle.cs_voice.proofs.Ran.{unit_done}
 use Rattle.cs_voice.proofs.unit.run_unit.Goals as goal
 
-pub returns-clause-does : goal.returns-clause-does
-returns-clause-does g c = λ areas piece stock kinds counts opcode shaped kind placed state.
+pub returns-then-may_touch-clause-does : goal.returns-then-may_touch-clause-does
+returns-then-may_touch-clause-does g c = λ areas piece stock kinds counts opcode shaped kind placed state.
     let old = c.args.state.now in
-    let ws = map (values c.args.state.now.regs) c.args.from.now in
-    let before = cell (g.B.Bank.cells c.args.bank.now) in
-    let there : c.index_mut-unit.result.now ≡ slice_index_or c.args.state.now.players.items c.args.number None =
-    get_or_read c.args.state.now.players.items _ _ c.requires.number c.index_mut-unit.ensures.value None in
-    unit_done areas piece stock kinds counts opcode c.args.number c.args.reach c.args.into c.args.from.now old _ before
-    (cell (g.B.Bank.cells c.run.new.bank))
-    shaped kind placed state c.requires.number (ap cell c.run.ensures.same)
+    let units : List (Option PlayerData) = old.players.items in
+    let is : slice_index_or units c.args.number None ≡ Some c.in-Some.player =
+    sym (get_or_read units _ _ c.requires.number c.index_mut.ensures.value None) ∙ c.in-Some.is in
+    let ran = plays_within old.regs.ksmps (rate_at c.args.into) c.args.reach (map (values old.regs) (regs_read
+    c.args.from))
+    (cell (g.B.Bank.cells c.args.bank.now)) (slice_index_or units c.args.number None) c.in-Some.player is
+    (sym c.may_touch.ensures ∙ c.if-may_touch.true) in
+    unit_done areas piece stock kinds counts opcode c.args.number c.args.reach c.args.into (regs_read c.args.from) old _
+    (cell (g.B.Bank.cells c.args.bank.now)) (cell (g.B.Bank.cells c.play.new.bank))
+    shaped kind placed state c.requires.number (ap cell c.play.ensures.same)
     (record {
-      regs = subst (λ o. IsWritten c.args.state.now.regs c.args.into
-          (unit_gives c.args.state.now.regs.ksmps c.args.into.rate c.args.reach ws before o) c.run.new.regs) there
-          c.run.ensures.values;
-      players = ap (slice_set c.args.state.now.players.items c.args.number)
-          (c.run.ensures.unit ∙ ap (unit_after c.args.state.now.regs.ksmps c.args.into.rate c.args.reach ws before)
-          there);
+      regs = subst (λ w. IsWritten old.regs c.args.into w c.play.new.regs) ran.1 c.play.ensures.values;
+      players = ap (slice_set units c.args.number) (ap Some c.play.ensures.unit ∙ ran.0);
       outs = refl;
       delays = refl;
       ended = refl;
-      row = c.run.ensures.row;
+      row = c.play.ensures.row;
+    })
+
+pub returns-else-may_touch-clause-does : goal.returns-else-may_touch-clause-does
+returns-else-may_touch-clause-does g c = λ areas piece stock kinds counts opcode shaped kind placed state.
+    let old = c.args.state.now in
+    let units : List (Option PlayerData) = old.players.items in
+    let is : slice_index_or units c.args.number None ≡ Some c.in-Some.player =
+    sym (get_or_read units _ _ c.requires.number c.index_mut.ensures.value None) ∙ c.in-Some.is in
+    let ran = rests_beyond old.regs.ksmps (rate_at c.args.into) c.args.reach (map (values old.regs) (regs_read
+    c.args.from))
+    (cell (g.B.Bank.cells c.args.bank.now)) (slice_index_or units c.args.number None) c.in-Some.player is
+    (sym c.may_touch.ensures ∙ c.if-may_touch.false) in
+    unit_done areas piece stock kinds counts opcode c.args.number c.args.reach c.args.into (regs_read c.args.from) old _
+    (cell (g.B.Bank.cells c.args.bank.now)) (cell (g.B.Bank.cells c.args.bank.now))
+    shaped kind placed state c.requires.number refl
+    (record {
+      regs = subst (λ w. IsWritten old.regs c.args.into w c.hold.new.self) (ap constant c.exact.ensures ∙ ran.1)
+          c.hold.ensures.values;
+      players = ap (slice_set units c.args.number) ran.0;
+      outs = refl;
+      delays = refl;
+      ended = refl;
+      row = c.hold.ensures.row;
+    })
+
+pub returns-in-None-clause-does : goal.returns-in-None-clause-does
+returns-in-None-clause-does g c = λ areas piece stock kinds counts opcode shaped kind placed state.
+    let old = c.args.state.now in
+    let units : List (Option PlayerData) = old.players.items in
+    let is : slice_index_or units c.args.number None ≡ None =
+    sym (get_or_read units _ _ c.requires.number c.index_mut.ensures.value None) ∙ c.in-None.is in
+    let ran = rests_none old.regs.ksmps (rate_at c.args.into) c.args.reach (map (values old.regs) (regs_read
+    c.args.from))
+    (cell (g.B.Bank.cells c.args.bank.now)) (slice_index_or units c.args.number None) is in
+    unit_done areas piece stock kinds counts opcode c.args.number c.args.reach c.args.into (regs_read c.args.from) old _
+    (cell (g.B.Bank.cells c.args.bank.now)) (cell (g.B.Bank.cells c.args.bank.now))
+    shaped kind placed state c.requires.number refl
+    (record {
+      regs = subst (λ w. IsWritten old.regs c.args.into w c.hold-in-None.new.self)
+          (ap constant c.exact-in-None.ensures ∙ ran.1) c.hold-in-None.ensures.values;
+      players = ap (slice_set units c.args.number) (c.in-None.is ∙ ran.0);
+      outs = refl;
+      delays = refl;
+      ended = refl;
+      row = c.hold-in-None.ensures.row;
     })

@@ -1,4 +1,4 @@
-use Rattle.std.proofs.Common.{◌∙◌, [], ◌∷◌, ap, refl, sym}
+use Rattle.std.proofs.Common.{◌∙◌, [], ◌∷◌, length, ap, refl, sym}
 use Rattle.cs_cells.specs.Cells.{cell}
 use Rattle.cs_ir.specs.Machine.{in_world}
 use Rattle.cs_ir.specs.declared.op.Act.TheVariants as act
@@ -9,11 +9,32 @@ use Rattle.cs_meaning.specs.Model.{saved}
 use Rattle.cs_voice_meaning.specs.VoiceWorld.{read_cells, voice_model}
 use Rattle.cs_machine.specs.States.{machine_of}
 use Rattle.cs_machine.proofs.Done.{changes}
-use Rattle.cs_machine.proofs.Given.{sound_register}
 use Rattle.cs_words.specs.declared.catalogue.Space.TheVariants as space
 use Rattle.cs_voice.specs.inner.Zak.{reached}
-use Rattle.cs_voice.proofs.Places.{at_reached, mixed_here, mixing, not_reached, reached_sound, reached_value}
+use Rattle.cs_voice.proofs.Places.{at_reached, mixed_here, mixing, not_reached, reached_sound, reached_touched}
+use Rattle.cs_voice.proofs.Places.{reached_value}
 use Rattle.cs_voice.proofs.zak.zak_mix.Goals as goal
+
+pub mix_row-requires-clause-row : goal.mix_row-requires-clause-row
+mix_row-requires-clause-row g c =
+    let here = sym c.place.ensures ∙ c.in-Some.is in
+    let k = index c.first.result in
+    c.row.ensures.long
+    ∙ sym (c.requires.able.sized.cells c.in-Some.res c.area_in-area.result c.area_in-area.ensures.value
+    (reached_value c.args.at.now space.Audio c.args.reach k c.in-Some.res here)
+    ∙ ap (cell_count c.args.state.now.regs.ksmps) (reached_sound c.args.at.now c.args.reach k c.in-Some.res here))
+
+pub mix_row-requires-clause-read : goal.mix_row-requires-clause-read
+mix_row-requires-clause-read g c =
+    reached_touched (g.B.Bank.can_get (g.B.Bank.rest c.args.bank.now)) (length (g.B.Bank.cells c.args.bank.now))
+    c.args.at.now space.Audio c.args.reach (index c.first.result) c.in-Some.res c.area_in-area.result
+    c.requires.read (sym c.place.ensures ∙ c.in-Some.is) c.area_in-area.ensures.value
+
+pub mix_row-requires-clause-write : goal.mix_row-requires-clause-write
+mix_row-requires-clause-write g c =
+    reached_touched (g.B.Bank.can_set (g.B.Bank.rest c.args.bank.now)) (length (g.B.Bank.cells c.args.bank.now))
+    c.args.at.now space.Audio c.args.reach (index c.first.result) c.in-Some.res c.area_in-area.result
+    c.requires.able.places (sym c.place.ensures ∙ c.in-Some.is) c.area_in-area.ensures.value
 
 pub returns-in-Some-clause-does : goal.returns-in-Some-clause-does
 returns-in-Some-clause-does g c = λ into opcode shaped areas piece stock kinds counts at placed state.
@@ -42,7 +63,7 @@ returns-in-Some-clause-does g c = λ into opcode shaped areas piece stock kinds 
     (c.requires.able.sized.cells res c.area_in-area.result c.area_in-area.ensures.value
     (reached_value c.args.at.now space.Audio c.args.reach (index (v 0)) res here) ∙ ap (cell_count ksmps) sound)
     c.row.ensures.long state.frames
-    (c.row.ensures.value ∙ ap (values c.args.state.now.regs) (sound_register c.args.x c.requires.sound))
+    c.row.ensures.value
     c.mix_row.ensures.cells))
 
 pub returns-in_default-clause-does : goal.returns-in_default-clause-does

@@ -1,4 +1,4 @@
-use Rattle.std.proofs.Common.{◌≡◌, ◌∙◌, [], ◌∷◌, Some, ap, refl, subst, sym}
+use Rattle.std.proofs.Common.{◌≡◌, ◌∙◌, [], ◌∷◌, length, Some, ap, refl, subst, sym}
 use Rattle.cs_base.specs.Rates.{res_rate}
 use Rattle.cs_cells.specs.Cells.{cell}
 use Rattle.cs_ir.specs.Machine.{in_world}
@@ -12,7 +12,7 @@ use Rattle.cs_voice_meaning.specs.VoiceWorld.{voice_model}
 use Rattle.cs_machine.specs.States.{machine_of}
 use Rattle.cs_machine.proofs.Done.{changes}
 use Rattle.cs_voice.specs.inner.Zak.{reached}
-use Rattle.cs_voice.proofs.Places.{at_reached, not_reached, putting, reached_value}
+use Rattle.cs_voice.proofs.Places.{at_reached, not_reached, putting, reached_touched, reached_value}
 use Rattle.cs_voice.proofs.Sharing.{saved_here}
 use Rattle.cs_voice.proofs.zak.zak_put.Goals as goal
 
@@ -22,6 +22,12 @@ write-requires-clause-size g c =
     (reached_value c.args.at.now c.args.within.space c.args.within.reach (index c.first.result) c.in-Some.res
     (sym c.place.ensures ∙ c.in-Some.is))
     ∙ ap (cell_count c.args.state.now.regs.ksmps) (sym c.rate.ensures)
+
+pub write-requires-clause-write : goal.write-requires-clause-write
+write-requires-clause-write g c =
+    reached_touched (g.B.Bank.can_set (g.B.Bank.rest c.args.bank.now)) (length (g.B.Bank.cells c.args.bank.now))
+    c.args.at.now c.args.within.space c.args.within.reach (index c.first.result) c.in-Some.res c.area_in-area.result
+    c.requires.able.places (sym c.place.ensures ∙ c.in-Some.is) c.area_in-area.ensures.value
 
 pub returns-in-Some-clause-does : goal.returns-in-Some-clause-does
 returns-in-Some-clause-does g c = λ into opcode shaped areas piece stock kinds counts at placed state.

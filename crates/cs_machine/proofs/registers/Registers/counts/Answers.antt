@@ -6,11 +6,9 @@ use Rattle.cs_machine.proofs.registers.Registers.counts.Goals as goal
 pub returns-clause-whole : goal.returns-clause-whole
 returns-clause-whole c =
     let f : RegisterFile = record {
-      i = c.self.inside.i.items;
-      k = c.self.inside.k.items;
-      a = map (λ row. row.items) c.self.inside.a.items;
-      counts =
-          c.self.inside.counts;
+      held = map (λ ones. ones.items) c.self.inside.held;
+      sounds = map (λ rows. map (λ row. row.items) rows.items) c.self.inside.sounds;
+      counts = c.self.inside.counts;
       ksmps = c.self.inside.ksmps;
     } in
     subst (λ g. filled g (values g) ≡ g) c.self.view_is (filled_again f c.self.invariant)

@@ -1,13 +1,19 @@
-use Rattle.std.proofs.Common.{rules, map}
-use Rattle.cs_machine.proofs.Putting.{set_init, set_control}
+use Rattle.cs_machine.proofs.Putting.{held_place, held_set, held_written}
 use Rattle.cs_machine.proofs.registers.Registers.set.Goals as goal
 
-pub returns-in-Init : goal.returns-in-Init
-returns-in-Init c = set_init c.self.inside.i.items c.self.inside.k.items (map (λ row. row.items) c.self.inside.a.items)
-    c.self.inside.counts c.self.inside.ksmps
-    c.args.self.now c.args.register c.args.value c.self.view_is (search rules) (search rules)
+pub set_in-requires : goal.set_in-requires
+set_in-requires c = held_place (λ ones. ones.items) c.self.inside.held _ c.self.inside.counts c.self.inside.ksmps
+    c.args.self.now c.args.register c.held_number.result c.self.view_is c.self.invariant c.requires.there
+    c.requires.held c.held_number.ensures.number _
 
-pub returns-in-Control : goal.returns-in-Control
-returns-in-Control c = set_control c.self.inside.i.items c.self.inside.k.items
-    (map (λ row. row.items) c.self.inside.a.items) c.self.inside.counts c.self.inside.ksmps
-    c.args.self.now c.args.register c.args.value c.self.view_is (search rules) (search rules)
+pub invariant_of-self : goal.invariant_of-self
+invariant_of-self c = held_set (λ ones. ones.items) c.self.inside.held _ c.self.inside.counts c.self.inside.ksmps
+    c.args.self.now c.args.register c.held_number.result c.self.view_is c.self.invariant c.requires.there
+    c.requires.held c.held_number.ensures.number _ _ c.args.value
+    c.set_in.ensures
+
+pub returns : goal.returns
+returns c = held_written (λ ones. ones.items) c.self.inside.held _ c.self.inside.counts c.self.inside.ksmps
+    c.args.self.now c.args.register c.held_number.result c.self.view_is c.self.invariant c.requires.there
+    c.requires.held c.held_number.ensures.number _ _ c.args.value
+    c.set_in.ensures

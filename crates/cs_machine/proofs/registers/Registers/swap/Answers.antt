@@ -1,32 +1,36 @@
-use Rattle.std.proofs.Common.{◌∙◌, ◌<◌, ap, length, sym, subst}
-use Rattle.cs_machine.proofs.Putting.{place_low, row_long, swapped_kept, swapped_written}
+use Rattle.std.proofs.Common.{map}
+use Rattle.std.proofs.lemmas.List.{length-map}
+use Rattle.cs_machine.proofs.Putting.{sound_long, sound_place, sound_set, sound_written}
 use Rattle.cs_machine.proofs.registers.Registers.swap.Goals as goal
 
+pub swap_in-requires : goal.swap_in-requires
+swap_in-requires c =
+    sound_place (λ rows. map (λ row. row.items) rows.items) _ c.self.inside.sounds c.self.inside.counts
+    c.self.inside.ksmps
+    c.args.self.now c.args.register c.sound_number.result c.self.view_is c.self.invariant c.requires.there
+    c.requires.sound c.sound_number.ensures.number
+    (λ rows. rows.items) (λ rows. length-map rows.items (λ row. row.items)) _
+
 pub invariant_of-self : goal.invariant_of-self
-invariant_of-self c = swapped_kept (λ row. row.items) c.self.inside.i.items c.self.inside.k.items c.self.inside.a.items
-    c.self.inside.counts c.self.inside.ksmps
-    c.args.index c.swap.new.x c.args.row.now c.self.invariant c.swap.ensures.x_after
-    (c.requires.row ∙ sym (ap (λ r. r.ksmps) c.self.view_is))
-    (place_low (λ row. row.items) c.self.inside.a.items c.self.inside.counts.registers.audio c.args.index
-    c.self.invariant.a (subst (λ n. c.args.index < n) (sym (ap (λ r. r.counts.registers.audio) c.self.view_is))
-    c.requires.there))
+invariant_of-self c =
+    sound_set (λ rows. map (λ row. row.items) rows.items) _ c.self.inside.sounds c.self.inside.counts
+    c.self.inside.ksmps
+    c.args.self.now c.args.register c.sound_number.result c.self.view_is c.self.invariant c.requires.there
+    c.requires.sound c.sound_number.ensures.number _ _
+    c.args.row.now.items c.requires.row c.swap_in.ensures.rows
 
 pub returns-clause-values : goal.returns-clause-values
 returns-clause-values c =
-    swapped_written (λ row. row.items) c.self.inside.i.items c.self.inside.k.items c.self.inside.a.items
-    c.self.inside.counts c.self.inside.ksmps
-    c.args.self.now c.args.index c.swap.new.x c.args.row.now c.self.view_is c.swap.ensures.x_after
-    (c.requires.row ∙ sym (ap (λ r. r.ksmps) c.self.view_is))
-    (place_low (λ row. row.items) c.self.inside.a.items c.self.inside.counts.registers.audio c.args.index
-    c.self.invariant.a (subst (λ n. c.args.index < n) (sym (ap (λ r. r.counts.registers.audio) c.self.view_is))
-    c.requires.there))
+    sound_written (λ rows. map (λ row. row.items) rows.items) _ c.self.inside.sounds c.self.inside.counts
+    c.self.inside.ksmps
+    c.args.self.now c.args.register c.sound_number.result c.self.view_is c.self.invariant c.requires.there
+    c.requires.sound c.sound_number.ensures.number _ _
+    c.args.row.now.items c.requires.row c.swap_in.ensures.rows
 
 pub returns-clause-row : goal.returns-clause-row
 returns-clause-row c =
-    ap (λ v. length v.items) c.swap.ensures.y_after
-    ∙ row_long (λ row. row.items) c.self.inside.ksmps c.self.inside.a.items c.args.index c.index_mut.result.now
-    c.self.invariant.long
-    (place_low (λ row. row.items) c.self.inside.a.items c.self.inside.counts.registers.audio c.args.index
-    c.self.invariant.a (subst (λ n. c.args.index < n) (sym (ap (λ r. r.counts.registers.audio) c.self.view_is))
-    c.requires.there)) c.index_mut.ensures.value
-    ∙ ap (λ r. r.ksmps) c.self.view_is
+    sound_long (λ rows. map (λ row. row.items) rows.items) _ c.self.inside.sounds c.self.inside.counts
+    c.self.inside.ksmps
+    c.args.self.now c.args.register c.sound_number.result c.self.view_is c.self.invariant c.requires.there
+    c.requires.sound c.sound_number.ensures.number _
+    c.swap_in.new.row.items c.swap_in.ensures.row

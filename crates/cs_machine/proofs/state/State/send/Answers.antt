@@ -1,8 +1,8 @@
-use Rattle.std.proofs.Common.{[], ◌∷◌, ◌∙◌, ap, refl, subst}
+use Rattle.std.proofs.Common.{[], ◌∷◌, refl, subst}
 use Rattle.cs_ir.specs.declared.op.Act.TheVariants as act
 use Rattle.cs_machine.specs.Outputs.{IsGiven}
 use Rattle.cs_machine.specs.Registers.{values}
-use Rattle.cs_machine.proofs.Given.{gives_to, sound_register}
+use Rattle.cs_machine.proofs.Given.{gives_to}
 use Rattle.cs_machine.proofs.state.State.send.Goals as goal
 
 pub returns : goal.returns
@@ -11,5 +11,5 @@ returns c = λ into areas piece kinds counts cells state. gives_to areas piece k
     (values c.args.self.now.regs c.args.x) c.args.self.now _ cells
     (record { regs = refl; players = refl; delays = refl; ended = refl; row = refl }) state
     (subst (λ w. IsGiven c.args.self.now.outs c.args.channel w c.give.new.self)
-    (c.row.ensures.value ∙ ap (values c.args.self.now.regs) (sound_register c.args.x c.requires.sound)) c.give.ensures)
+    c.row.ensures.value c.give.ensures)
     (λ m. refl)

@@ -5,7 +5,7 @@ use Rattle.cs_meaning.specs.Pieces.{index}
 use Rattle.cs_machine.specs.Outputs.{IsGiven}
 use Rattle.cs_machine.specs.Registers.{values}
 use Rattle.cs_machine.specs.inner.Channels.{channel_below}
-use Rattle.cs_machine.proofs.Given.{gives_to, numbered_channel, sound_register}
+use Rattle.cs_machine.proofs.Given.{gives_to, numbered_channel}
 use Rattle.cs_machine.proofs.state.State.send_at.Goals as goal
 
 pub returns-in-Some : goal.returns-in-Some
@@ -14,7 +14,7 @@ returns-in-Some c = λ into areas piece kinds counts cells state.
     (values c.args.self.now.regs c.args.x) c.args.self.now _ cells
     (record { regs = refl; players = refl; delays = refl; ended = refl; row = refl }) state
     (subst (λ w. IsGiven c.args.self.now.outs c.in-Some.below w c.give.new.self)
-    (c.row.ensures.value ∙ ap (values c.args.self.now.regs) (sound_register c.args.x c.requires.sound)) c.give.ensures)
+    c.row.ensures.value c.give.ensures)
     (λ m. ap (λ x. in_world x m)
     (numbered_channel piece.head.nchnls (index (values c.args.self.now.regs c.args.number 0)) c.in-Some.below
     (values c.args.self.now.regs c.args.x) m.world

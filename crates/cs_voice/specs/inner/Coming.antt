@@ -1,0 +1,122 @@
+-- A code that has been done up to a place, by whatever it can be done as, and ops of it that are done from there on.
+use Rattle.std.specs.Prelude.{ℕ, ℤ, Bool, ◌≡◌, ◌+◌, ◌<◌, ◌≤◌, ◌++◌, List, [], Option, Some, None, drop, length, map}
+use Rattle.std.specs.Prelude.{slice_get}
+use Rattle.cs_cells.specs.declared.footprint.Area.{Area}
+use Rattle.cs_ir.specs.Asks.{ask_of}
+use Rattle.cs_ir.specs.Flat.{Begins, moved_ops}
+use Rattle.cs_ir.specs.Machine.{Machine, run}
+use Rattle.cs_ir.specs.Worlds.{World}
+use Rattle.cs_ir.specs.declared.ask.Ask.{Ask}
+use Rattle.cs_ir.specs.declared.op.Code.{Code}
+use Rattle.cs_ir.specs.declared.op.Op.{Op}
+use Rattle.cs_machine.specs.States.{IsStateIn, machine_of}
+use Rattle.cs_machine.specs.declared.state.NoteSetting.{NoteSetting}
+use Rattle.cs_machine.specs.declared.state.State.{State}
+use Rattle.cs_voice_meaning.specs.VoiceWorld.{voice_world}
+use Rattle.cs_voice_meaning.specs.Voices.{Sheet}
+use Rattle.cs_voice.specs.Codes.{CanGo, Finding}
+use Rattle.cs_voice.specs.Cycles.{CanRun, Context}
+use Rattle.cs_voice.specs.Passing.{CanPass, IsStateOf, Passes}
+use Rattle.cs_voice.specs.declared.begin.StartRefusal.{StartRefusal}
+use Rattle.cs_voice.specs.declared.tables.Finds.{Finds}
+
+-- the run of the ops from a place on
+abbrev pub run_from : {W : Type 0} → World W → ℕ → List Op → Machine W → Machine W
+run_from o place ops m = run o place (drop place ops) m
+
+-- ---- in a control cycle
+
+-- A code has been run up to a place: what is left of it does the rest.
+pub record HasComeTo (areas : List Area) (c : Context) (ops : List Op) (place : ℕ) (old : State) (before : ℕ → ℤ)
+    (s : State) (cells : ℕ → ℤ) : Type 0 where
+  pub next : ℕ
+  pub below : next ≤ place
+  pub left : run_from (voice_world areas c.piece) place ops (machine_of s cells next [] None) ≡ run
+      (voice_world areas c.piece) 0 ops (machine_of old before 0 [] None)
+  pub state : IsStateIn areas c.piece c.kinds c.counts s
+
+-- ---- as a note begins
+
+module _ {W : Type 0} (o : World W) where
+  -- Up to a place of a code a machine has become another, which goes on there, and comes to the same end.
+  pub record IsUpTo (ops : List Op) (first : Machine W) (place : ℕ) (m : Machine W) : Type 0 where
+    pub next : m.next ≤ place
+    pub same : run o 0 ops first ≡ run_from o place ops m
+
+-- the code of a sheet has been done up to a place
+pub record IsPassed (s : Sheet) (first : State) (before : ℕ → ℤ) (asked : List Ask) (place : ℕ) (now : State)
+    (cells : ℕ → ℤ) (given : List Ask) : Type 0 where
+  pub next : ℕ
+  pub more : List (List ℤ)
+  pub asks : given ≡ asked ++ map ask_of more
+  pub up : IsUpTo (voice_world s.areas s.piece) s.init (machine_of first before 0 [] None) place
+      (machine_of now cells next more None)
+  pub counted : now.regs.counts ≡ first.regs.counts
+  pub state : IsStateOf s first.regs.counts now
+
+-- ---- as either
+
+-- What is being done: the ops of a code, and the state, the cells and what had been asked for as it began.
+pub record Outset : Type 0 where
+  pub ops : List Op
+  pub first : State
+  pub before : ℕ → ℤ
+  pub asked : List Ask
+
+-- It has been done up to a place: as whatever code of a control cycle it can be run, and as the code of whatever sheet
+-- it can begin a note.
+pub record IsDoneTo (get set : ℕ → Type 0) (count : ℕ) (at : NoteSetting) (finding : Finding) (o : Outset) (place : ℕ)
+    (now : State) (cells : ℕ → ℤ) (given : List Ask) : Type 0 where
+  pub cycle : (c : Context) → CanRun get set count at c o.ops o.first
+      → HasComeTo at.layout.now c o.ops place o.first o.before now cells
+  pub passes : (f : Finds) (ms : List Bool) (code : Code) (s : Sheet) → finding ≡ Some (f, ms) → f.at ≡ at
+      → code.ops ≡ o.ops → CanPass get set count f ms code s o.first
+      → IsPassed s o.first o.before o.asked place now cells given
+
+-- it is no code of a control cycle
+abbrev pub IsOfNoCycle : (get set : ℕ → Type 0) → ℕ → NoteSetting → Outset → Type 0
+IsOfNoCycle get set count at o = (c : Context) → CanRun get set count at c o.ops o.first → ⊥
+
+-- Something was refused, so nothing more of it is done. In a control cycle nothing is.
+pub record IsRefused (get set : ℕ → Type 0) (count : ℕ) (at : NoteSetting) (finding : Finding) (o : Outset)
+    (now : State) (cells : ℕ → ℤ) (given : List Ask) (refused : StartRefusal) : Type 0 where
+  pub cycle : IsOfNoCycle get set count at o
+  pub passes : (f : Finds) (ms : List Bool) (code : Code) (s : Sheet) → finding ≡ Some (f, ms) → f.at ≡ at
+      → code.ops ≡ o.ops → CanPass get set count f ms code s o.first
+      → Passes s o.first o.before o.asked now cells given (Some refused)
+
+abbrev pub HasGoneOn : (get set : ℕ → Type 0) → ℕ → NoteSetting → Finding → Outset → ℕ → State → (ℕ → ℤ) → List Ask
+    → Option StartRefusal → Type 0
+HasGoneOn get set count at finding o place now cells given None =
+    IsDoneTo get set count at finding o place now cells given
+HasGoneOn get set count at finding o place now cells given (Some refused) =
+    IsRefused get set count at finding o now cells given refused
+
+-- ---- some ops of it, of a routine in a window
+
+-- some ops lie in a code from a place on
+abbrev pub LieFrom : List Op → ℕ → List Op → Type 0
+LieFrom whole place ops = (n : ℕ) → n < length ops → slice_get whole (place + n) ≡ slice_get ops n
+
+-- They can be done: they lie in something that can be, and that has been done up to there.
+pub record CanDoOps (get set : ℕ → Type 0) (count : ℕ) (at : NoteSetting) (finding : Finding) (window : Begins)
+    (ops : List Op) (now : State) (cells : ℕ → ℤ) (given : List Ask) : Type 0 where
+  pub outset : Outset
+  pub place : ℕ
+  pub lie : LieFrom outset.ops place (moved_ops window place ops)
+  pub can : CanGo get set count at finding outset.ops outset.first
+  pub done : IsDoneTo get set count at finding outset place now cells given
+
+-- They were: wherever they lie in something that had been done up to there, it has gone on behind them.
+pub record DoesOps (get set : ℕ → Type 0) (count : ℕ) (at : NoteSetting) (finding : Finding) (window : Begins)
+    (ops : List Op) (old : State) (before : ℕ → ℤ) (asked : List Ask) (new : State) (after : ℕ → ℤ) (given : List Ask)
+    (refused : Option StartRefusal) : Type 0 where
+  pub goes : (o : Outset) (place : ℕ) → LieFrom o.ops place (moved_ops window place ops)
+      → IsDoneTo get set count at finding o place old before asked
+      → HasGoneOn get set count at finding o (place + length ops) new after given refused
+
+-- They can't be those of a control cycle.
+pub record AreOfNoCycle (get set : ℕ → Type 0) (count : ℕ) (at : NoteSetting) (finding : Finding) (window : Begins)
+    (ops : List Op) (old : State) (before : ℕ → ℤ) (asked : List Ask) : Type 0 where
+  pub never : (o : Outset) (place : ℕ) → LieFrom o.ops place (moved_ops window place ops)
+      → IsDoneTo get set count at finding o place old before asked → IsOfNoCycle get set count at o
