@@ -66,10 +66,6 @@ def shown_forms(row):
     return list(dict.fromkeys(shown.split(" // ")[0] for shown, _ in row.forms()))
 
 
-def kinds(row):
-    return ", ".join(sorted(row.one("kind").split(", "), key=int))
-
-
 def bound(row):
     if "within" in row and float(row.one("within")) > BOUND:
         return f" (within {row.one('within')} %)"
@@ -95,7 +91,7 @@ def instead(row):
 def cells(row):
     """The cells of a row in the page."""
     if row.is_refused():
-        return [", ".join(map(span, shown_forms(row))), kinds(row), instead(row)]
+        return [", ".join(map(span, shown_forms(row))), instead(row)]
     lines = [it for line in row.all("line") for it in line.split(" // ")]
     written = row.one("text", "").replace("|", "\\|") or ", ".join(map(span, lines))
     return [row.one("what", ""), written, row.one("here"), row.one("there")]
@@ -113,7 +109,7 @@ def tables():
             made[place] = ["\n".join(f"- {it.one('what')}" for it in shown)]
             continue
         forms = shown[0].is_refused()
-        head = ["written", "kind", "here"] if forms else ["what", "written", "here", "in Csound"]
+        head = ["written", "here"] if forms else ["what", "written", "here", "in Csound"]
         lines = [f"| {' | '.join(head)} |", f"|{'---|' * len(head)}"]
         lines += [f"| {' | '.join(cells(it))} |" for it in shown]
         heading = f"#### {title}\n\n" if forms and title else ""

@@ -1,10 +1,10 @@
-"""Makes the man page of csplay from docs/LANGUAGE.md: its sections on options and on how a run ends, and on what to do
-about a refusal."""
+"""Makes the man page of csplay from docs/LANGUAGE.md: its sections on options, on how a run ends and on limits, and
+what to do about each kind of refusal."""
 import re
 
 import pages
 
-SECTIONS = ("Options, names and the demo", "How a run ends", "What to do about a refusal", "Limits")
+SECTIONS = ("Options, names and the demo", "How a run ends", "Limits")
 HEAD = """.TH CSPLAY 1 "" "csplay {version}"
 .SH NAME
 csplay \\- renders a piece of Csound's profile to a WAV file
@@ -53,4 +53,8 @@ def made(version):
         section = text.partition(f"\n## {name}\n")[2].partition("\n## ")[0].strip()
         lines.append(f".SH {plain(name.upper())}")
         lines += [line for part in re.split(r"\n{2,}", section) for line in block(part)]
+    lines.append(".SH KINDS OF REFUSALS")
+    for (head, kind), what in pages.advices().items():
+        if head == "kind":
+            lines += [".TP", plain(kind), plain(what)]
     return HEAD.format(version=version) + "\n".join(lines) + "\n" + TAIL

@@ -5,7 +5,6 @@ import os
 import re
 
 DOCS = f"{os.path.dirname(os.path.dirname(os.path.realpath(__file__)))}/docs"
-SECTION = "## What to do about a refusal\n"
 # Words, numbers, signs of two and three bytes, and single signs of a line of either text.
 TOKEN = re.compile(
     r"0dbfs\b|\d*\.?\d+(?:[eE][-+]?\d+)?|[A-Za-z_]\w*|<=|>=|==|!=|&&|\|\||<<|>>|\+=|-=|\*=|/=|</?\w+>?|\S"
@@ -25,15 +24,22 @@ def cells(row):
     return [it.strip().replace("\\|", "|") for it in re.split(r"(?<!\\)\|", row)[1:-1]]
 
 
+@functools.cache
+def advices():
+    """The last cell of each row of docs/LANGUAGE.md's tables whose last column says what to do, by the head of the
+    first column (`kind`, `limit`, `status`, `the report says`) and the row's first cell."""
+    found, head = {}, None
+    for line in page("LANGUAGE").split("\n"):
+        row = cells(line) if line.startswith("|") else None
+        if row is None or head is None:
+            head = row
+        elif head[-1] == "what to do" and row[0].strip("-") and row[-1]:
+            found[head[0], row[0]] = row[-1]
+    return found
+
+
 def advice(table, kind):
-    """The cell beside this kind in the table of this head, in the section on refusals; None if there is none."""
-    section = page("LANGUAGE").partition(SECTION)[2].partition("\n## ")[0]
-    rows = section.partition(f"| {table} | what to do |\n")[2].partition("\n\n")[0]
-    for row in rows.split("\n"):
-        found = cells(row)
-        if len(found) == 2 and kind in ([found[0]] if " " in kind else found[0].split(", ")):
-            return found[1]
-    return None
+    return advices().get((table, kind))
 
 
 def listed(before, after="\n\n"):
@@ -93,8 +99,8 @@ def rows(place):
     found = []
     for row in text.split("\n"):
         parts = cells(row) if row.startswith("| `") else []
-        if len(parts) == 3:
-            found.append((re.findall(r"`([^`]*)`", parts[0]), parts[2]))
+        if len(parts) == 2:
+            found.append((re.findall(r"`([^`]*)`", parts[0]), parts[1]))
     return found
 
 

@@ -11,13 +11,13 @@ import pages
 import scores
 from options import names_in
 
-# What the line of each status looks like, and the head of its table in docs/LANGUAGE.md.
+# What the line of each status looks like, and the first head of its tables in docs/LANGUAGE.md.
 FAULT = r" line (?P<line>\d+): (?P<kind>\d+ \w+)"
 TOLD = {
-    4: ("orchestra", f"orchestra{FAULT}"),
-    5: ("score", f"score{FAULT}"),
+    4: ("kind", f"orchestra{FAULT}"),
+    5: ("kind", f"score{FAULT}"),
     6: ("limit", r"limit L(?P<kind>\d+) passed at line (?P<line>\d+)"),
-    11: ("file with both texts", f"csd{FAULT}"),
+    11: ("kind", f"csd{FAULT}"),
 }
 # Those limits that are passed at a line of the score. Of the others that have a line it is one of the orchestra.
 OF_SCORE = ("5", "6", "7")
