@@ -1,5 +1,6 @@
 use Rattle.std.proofs.Common.{◌≡◌, ℕ, List, [], ◌∷◌, ◌++◌, Option, None, Some, Result, Ok, Err, OnOk, OnErr, refl, ap}
 use Rattle.std.proofs.Common.{subst, sym, ◌∙◌, append_assoc, append-nil, ◌+◌}
+use Rattle.std.specs.Prelude.{IfOk, IsOk}
 use Rattle.std.proofs.lemmas.List.{replicate-append-replicate}
 use Rattle.cs_edge.specs.declared.moves.Move.{Move}
 use Rattle.cs_edge.specs.declared.moves.Move.TheVariants.{Begin}
@@ -74,11 +75,33 @@ front_all l = ([], sym (append-nil l))
 pub front_more : {A : Type 0} (front whole more : List A) → IsFront front whole → IsFront front (whole ++ more)
 front_more front whole more f = (f.0 ++ more, ap (λ (l : List _). l ++ more) f.1 ∙ append_assoc front f.0 more)
 
+pub front_of_front : {A : Type 0} (a b c : List A) → IsFront a b → IsFront b c → IsFront a c
+front_of_front a b c f g =
+    (f.0 ++ g.0, g.1 ∙ ap (λ (l : List _). l ++ g.0) f.1 ∙ append_assoc a f.0 g.0)
+
 -- what follows from what a call promises
 pub ok_then : {T E P Q : Type 0} (r : Result T E) → OnOk r P → (P → Q) → OnOk r Q
 ok_then (Ok x) p f = f p
 ok_then (Err e) p f = tt
 
+-- and from what it promises of a count
+pub ok_with : {T E P Q S : Type 0} (r : Result T E) → OnOk r P → (IsOk r → S) → (P → S → Q) → OnOk r Q
+ok_with (Ok x) p s f = f p (s refl)
+ok_with (Err e) p s f = tt
+
 pub err_then : {T E P Q : Type 0} (r : Result T E) → OnErr r P → (P → Q) → OnErr r Q
 err_then (Ok x) p f = tt
 err_then (Err e) p f = f p
+
+-- what holds in any case
+pub if_any : {T E : Type 0} (P : T → Type 0) → ((x : T) → P x) → (r : Result T E) → IfOk r P
+if_any P always (Ok x) = always x
+if_any P always (Err e) = tt
+
+pub ok_any : {T E P : Type 0} (r : Result T E) → P → OnOk r P
+ok_any (Ok x) p = p
+ok_any (Err e) p = tt
+
+pub err_any : {T E P : Type 0} (r : Result T E) → P → OnErr r P
+err_any (Ok x) p = tt
+err_any (Err e) p = p

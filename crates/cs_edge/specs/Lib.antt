@@ -4,6 +4,7 @@ pub mod MemSink
 pub mod Memory
 pub mod Mirror
 pub mod Moves
+pub mod Open
 pub mod Taps
 pub mod Told
 pub mod inner

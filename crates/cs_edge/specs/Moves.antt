@@ -1,7 +1,7 @@
 use Rattle.std.specs.Prelude.{ℕ, ◌≡◌, ◌≤◌, ◌⊎◌, Bool, true, false, List, [], ◌∷◌, ◌++◌, replicate, Option, None, Some}
 use Rattle.cs_edge.specs.declared.moves.Move.{Move}
 use Rattle.cs_edge.specs.declared.moves.Move.TheVariants.{Begin, Write, End}
-use Rattle.cs_edge.specs.Told.{Follows, IsFront}
+use Rattle.cs_edge.specs.Told.{Follows, IsFront, Rose}
 
 -- the list has grown by this move
 abbrev pub GrownBy : Move → List Move → List Move → Type 0
@@ -59,23 +59,33 @@ pub record SinkTold : Type 0 where
   pub moves : Option (List Move)
   pub faults : ℕ
 
--- A sink has taken these bytes more, in some number of writes.
+-- A sink has taken these bytes more, in some number of writes, of which none failed.
 pub record WroteMore (before now : SinkTold) (bytes : List ℕ) : Type 0 where
   pub taken : Follows before.held now.held (TakenMore bytes)
   pub made : Follows before.moves now.moves (Grown (AreAll Write))
+  pub same : now.faults ≡ before.faults
+
+-- A sink has taken the front of these bytes, in some number of writes, and failed.
+pub record WrotePart (before now : SinkTold) (bytes : List ℕ) : Type 0 where
+  pub front : List ℕ
+  pub is_front : IsFront front bytes
+  pub taken : Follows before.held now.held (TakenMore front)
+  pub made : Follows before.moves now.moves (Grown (AreAll Write))
+  pub rose : Rose before.faults now.faults
   pub later : before.faults ≤ now.faults
 
--- A sink was begun with this name, has since taken exactly these bytes, in some number of writes, and wasn't ended.
+-- A sink was begun with this name, has since taken exactly these bytes, in some number of writes, and wasn't ended. No
+-- call failed.
 pub record Wrote (before now : SinkTold) (name bytes : List ℕ) : Type 0 where
   pub taken : Follows before.held now.held (λ _ held. held ≡ open_file name bytes)
   pub made : Follows before.moves now.moves (Grown (IsRun name Write))
-  pub later : before.faults ≤ now.faults
+  pub same : now.faults ≡ before.faults
 
--- A sink was begun with this name, has taken exactly these bytes, and was ended.
+-- A sink was begun with this name, has taken exactly these bytes, and was ended. No call failed.
 pub record Finished (before now : SinkTold) (name bytes : List ℕ) : Type 0 where
   pub taken : Follows before.held now.held (λ _ held. held ≡ ended_file name bytes)
   pub made : Follows before.moves now.moves (Grown (IsWhole name))
-  pub later : before.faults ≤ now.faults
+  pub same : now.faults ≡ before.faults
 
 -- what a sink holds that was begun with this name, where its begin failed, its writes stopped somewhere in these bytes,
 -- or its end failed

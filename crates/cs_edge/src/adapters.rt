@@ -1,18 +1,24 @@
-// The trusted edge: files and standard output behind the traits. Each keeps a count of its faults, counts every
-// error of the system as one, and tells nothing of what a file or a terminal holds.
-ghost use Rattle.std.specs.Prelude.{None};
+// The edge: files and a writer of text behind the traits. Each keeps a count of its faults, counts every error as one,
+// and tells nothing of what a file or a terminal holds. Clauses say what is done to an open file and to a writer; that
+// a begin opens or makes the file of its name is trusted.
+ghost use Rattle.std.specs.Prelude.{◌≡◌, ◌<◌, ◌≤◌, [], length, None, IfOk, IfSome, OnOk};
+ghost use Rattle.std.specs.Io.Buffered.{writer_buffer, writer_contents};
+ghost use Rattle.std.specs.Io.KnownBytes.{Appends, Keeps, ReadConsumes, WriteAppends, append_known};
+ghost use Rattle.cs_edge.specs.Open.{known_of};
+ghost use Rattle.cs_edge.specs.Told.{HasCause, Rose};
 
 use crate::line_buffer::LineBuffer;
 use crate::{Failed, Shelf, Sink};
 use std::alloc::Global;
+use std::fs;
 use std::io::{BufWriter, Read, Write};
 use std::rt::Files;
-use std::{fs, io};
 
 /// Capacity in bytes of the buffer in front of a sound file.
 const FILE_ROOM: usize = 65536;
 
-/// Files of the system to read from; a part of the trusted edge. A file that can't be opened is a fault.
+/// Files of the system to read from. A file that can't be opened is a fault. That a begin opens the file of its name
+/// is trusted.
 #[derive(Drop)]
 pub struct FileShelf<'a, R: Files> {
     rt: &'a R,
@@ -40,31 +46,31 @@ impl<'a, R: Files> Shelf for FileShelf<'a, R> {
                 self.file = Some(file);
                 Ok(true)
             }
-            Err(_) => {
-                self.faults = self.faults.saturating_add(1);
-                Err(Failed)
-            }
+            Err(_) => Err(failed(&mut self.faults)),
         }
     }
 
-    fn read(&mut self, buf: &mut [u8]) -> Result<usize, Failed> {
-        let Some(file) = &mut self.file else {
-            return Ok(0);
-        };
-        match file.read(buf) {
-            Ok(n) => Ok(n),
-            Err(_) => {
-                self.faults = self.faults.saturating_add(1);
-                Err(Failed)
-            }
+    fn read(&mut self, buf: &mut [u8]) -> Result<usize, Failed>
+        requires { 0 < length buf.old }
+        ensures count { IfOk result (λ n. n ≤ length buf.old) }
+        ensures read { ReadConsumes (known_of R.File.remaining self.old.file)
+            (known_of R.File.remaining self.new.file) result buf.new }
+        ensures cause { HasCause self.old.faults self.new.faults result }
+    {
+        match &mut self.file {
+            Some(file) => match file.read(buf) {
+                Ok(count) => Ok(count),
+                Err(_) => Err(failed(&mut self.faults)),
+            },
+            None => Ok(0),
         }
     }
 }
 
-/// A file of the system to write to; a part of the trusted edge. The bytes go through a buffer, which is written when
-/// it is full, at the end, and when the sink is dropped. So a full disk may be told by a later call or by the end; what
-/// the file has is always a front of what was taken. A device that takes nothing is a fault, and so is a begin that is
-/// out of memory for the buffer.
+/// A file of the system to write to. The bytes go through a buffer, which is written when it is full, at the end, and
+/// when the sink is dropped. So a full disk may be told by a later call or by the end; what the file has is always a
+/// front of what was taken. A device that takes nothing is a fault, and so is a begin that is out of memory for the
+/// buffer. That a begin makes the file of its name is trusted.
 #[derive(Drop)]
 pub struct FileSink<'a, R: Files> {
     rt: &'a R,
@@ -96,73 +102,101 @@ impl<'a, R: Files> Sink for FileSink<'a, R> {
                 return Ok(());
             }
         }
-        self.faults = self.faults.saturating_add(1);
-        Err(Failed)
+        Err(failed(&mut self.faults))
     }
 
-    fn write(&mut self, piece: &[u8]) -> Result<usize, Failed> {
-        if let Some(file) = &mut self.file {
-            match file.write(piece) {
-                Ok(n) if n > 0 => return Ok(n),
-                _ => {}
-            }
+    fn write(&mut self, piece: &[u8]) -> Result<usize, Failed>
+        requires { 0 < length piece.now }
+        ensures count { IfOk result (λ n. (0 < n) × (n ≤ length piece.now)) }
+        ensures taken { WriteAppends (known_of (writer_contents R.File.contents) self.old.file)
+            (known_of (writer_contents R.File.contents) self.new.file) result piece.now }
+        ensures cause { HasCause self.old.faults self.new.faults result }
+    {
+        match &mut self.file {
+            Some(file) => match file.write(piece) {
+                Ok(n) if n > 0 => Ok(n),
+                _ => Err(failed(&mut self.faults)),
+            },
+            None => Err(failed(&mut self.faults)),
         }
-        self.faults = self.faults.saturating_add(1);
-        Err(Failed)
     }
 
-    fn end(&mut self) -> Result<(), Failed> {
-        if let Some(file) = &mut self.file {
-            if file.flush().is_ok() {
-                self.file = None;
-                return Ok(());
-            }
+    // The file stays open until the next begin, or until the sink is dropped.
+    fn end(&mut self) -> Result<(), Failed>
+        ensures kept { Keeps (known_of (writer_contents R.File.contents) self.old.file)
+            (known_of (writer_contents R.File.contents) self.new.file) }
+        ensures written { OnOk result (IfSome self.new.file (λ file. writer_buffer file ≡ [])) }
+        ensures cause { HasCause self.old.faults self.new.faults result }
+    {
+        match &mut self.file {
+            Some(file) => match file.flush() {
+                Ok(()) => Ok(()),
+                Err(_) => Err(failed(&mut self.faults)),
+            },
+            None => Err(failed(&mut self.faults)),
         }
-        self.faults = self.faults.saturating_add(1);
-        Err(Failed)
     }
 }
 
-/// Standard output; a part of the trusted edge. A begin does nothing there. A line is written whole, by the call that
-/// takes its line feed; an end writes what has none.
+/// Text that is written to standard output, or to any other writer. A begin does nothing there. A line is written
+/// whole, by the call that takes its line feed; an end writes what has none.
 #[derive(Drop)]
-pub struct TalkOut<'a, P: Print> {
-    rt: &'a P,
+pub struct TalkOut<W> {
+    out: W,
     line: LineBuffer,
     faults: u64,
 }
 
-impl<'a, P: Print> TalkOut<'a, P> {
+impl<W: Write> TalkOut<W> {
     /// It takes no memory, and keeps `alloc` for the pieces of a line.
-    pub fn new(rt: &'a P, alloc: Global) -> TalkOut<'a, P> {
+    pub fn new(out: W, alloc: Global) -> TalkOut<W> {
         TalkOut {
-            rt,
+            out,
             line: LineBuffer::new(alloc),
             faults: 0,
         }
     }
 }
 
-impl<'a, P: Print> Sink for TalkOut<'a, P> {
+impl<W: Write> Sink for TalkOut<W> {
     ghost tells = { λ s. record { held = None; moves = None; faults = s.faults } };
 
     fn begin(&mut self, _name: &str) -> Result<(), Failed> {
         Ok(())
     }
 
-    fn write(&mut self, piece: &[u8]) -> Result<usize, Failed> {
-        if self.line.put(&mut io::writer(self.rt), piece).is_ok() {
-            return Ok(piece.len());
+    fn write(&mut self, piece: &[u8]) -> Result<usize, Failed>
+        requires { 0 < length piece.now }
+        ensures count { IfOk result (λ n. (0 < n) × (n ≤ length piece.now)) }
+        ensures whole { IfOk result (λ n. n ≡ length piece.now) }
+        // The writer's bytes with the buffer behind them have grown by the piece.
+        ensures taken { OnOk result (Appends (append_known (W.contents self.old.out) self.old.line)
+            (append_known (W.contents self.new.out) self.new.line) piece.now) }
+        ensures cause { HasCause self.old.faults self.new.faults result }
+    {
+        match self.line.put(&mut self.out, piece) {
+            Ok(()) => Ok(piece.len()),
+            Err(_) => Err(failed(&mut self.faults)),
         }
-        self.faults = self.faults.saturating_add(1);
-        Err(Failed)
     }
 
-    fn end(&mut self) -> Result<(), Failed> {
-        if self.line.flush(&mut io::writer(self.rt)).is_ok() {
-            return Ok(());
+    fn end(&mut self) -> Result<(), Failed>
+        ensures written { OnOk result (Appends (W.contents self.old.out) (W.contents self.new.out) self.old.line) }
+        ensures none { self.new.line ≡ [] }
+        ensures cause { HasCause self.old.faults self.new.faults result }
+    {
+        match self.line.flush(&mut self.out) {
+            Ok(()) => Ok(()),
+            Err(_) => Err(failed(&mut self.faults)),
         }
-        self.faults = self.faults.saturating_add(1);
-        Err(Failed)
     }
+}
+
+/// Counts a fault.
+fn failed(faults: &mut u64) -> Failed
+    ensures rose { Rose faults.old faults.new }
+    ensures later { faults.old ≤ faults.new }
+{
+    *faults = faults.saturating_add(1);
+    Failed
 }

@@ -56,7 +56,7 @@ fn after(out: &Counted, said: Result<(), Failed>) -> (bool, u64, u64) {
 /// What is so after each of three pieces of text and after an end, where one write fails.
 fn said(alloc: Global, failing: u64, pieces: [&str; 3]) -> [(bool, u64, u64); 4] {
     let out = Counted::new(failing);
-    let mut talk = TalkOut::new(&out, alloc);
+    let mut talk = TalkOut::new(io::writer(&out), alloc);
     let first = write_all(&mut talk, pieces[0].as_bytes());
     let first = after(&out, first);
     let second = write_all(&mut talk, pieces[1].as_bytes());

@@ -2,7 +2,8 @@
 // says. The program makes none of them.
 //
 // In reading order: `script` (which calls are to fail), `kept`, `lookup`, `mem_shelf`, `sure_shelf`, `taken`,
-// `portion`, `mem_sink`, `sure_sink`, `sure` (the law of those that never fail), `mirror` (a meter that keeps what it is told).
+// `portion`, `mem_sink`, `sure_sink`, `sure` (the law of those that never fail), `mirror` (a meter that keeps what it
+// is told).
 
 mod kept;
 mod lookup;

@@ -1,23 +1,20 @@
-use Rattle.std.proofs.Common.{subst, refl, ◌∙◌, ℕ, List, take}
+use Rattle.std.proofs.Common.{subst, refl, ℕ, List}
 use Rattle.cs_edge.specs.Moves.{WroteMore}
 use Rattle.cs_edge.proofs.Lists.{take_on, taken_within, take_front}
-use Rattle.cs_edge.proofs.Stories.{more_on, more_failed}
+use Rattle.cs_edge.proofs.Stories.{more_on, part_failed}
 use Rattle.cs_edge.proofs.writing.write_all.Goals as goal
 
 pub loop-at-preserved : goal.loop-at-preserved
 loop-at-preserved g c =
     let l : List ℕ = c.args.piece.now in
     let more = more_on _ _ _ _ _ c.loop-at.invariant.1 c.in-Ok.ensures.taken c.in-Ok.ensures.moves
-    c.in-Ok.ensures.cause.later in (
+    (c.in-Ok.ensures.cause.same refl) in (
       taken_within c.loop-at.at c.in-Ok.n l c.loop-at.invariant.0 c.in-Ok.ensures.count.1,
       subst (λ (bytes : List ℕ). WroteMore (g.K.Sink.tells c.args.sink.now) (g.K.Sink.tells c.write.new.self) bytes)
           (take_on c.loop-at.at c.in-Ok.n l) more,
-      c.in-Ok.ensures.cause.same refl ∙ c.loop-at.invariant.2,
     )
 
-pub returns-in-Err-clause-stopped : goal.returns-in-Err-clause-stopped
-returns-in-Err-clause-stopped g c = (
-  take c.loop-at.at c.args.piece.now,
-  take_front c.loop-at.at c.args.piece.now,
-  more_failed _ _ _ _ c.loop-at.invariant.1 c.in-Err.ensures.failed c.in-Err.ensures.moves c.in-Err.ensures.cause.later,
-)
+pub returns-in-Err-clause-part : goal.returns-in-Err-clause-part
+returns-in-Err-clause-part g c =
+    part_failed _ _ _ _ _ c.loop-at.invariant.1 (take_front c.loop-at.at c.args.piece.now) c.in-Err.ensures.failed
+    c.in-Err.ensures.moves (c.in-Err.ensures.cause.rose refl) c.in-Err.ensures.cause.later

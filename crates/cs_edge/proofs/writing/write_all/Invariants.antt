@@ -1,12 +1,11 @@
-use Rattle.std.proofs.Common.{◌≡◌, ◌≤◌, ◌-◌, length, take}
+use Rattle.std.proofs.Common.{◌≤◌, ◌-◌, length, take}
 use Rattle.cs_edge.specs.Moves.{WroteMore}
 use Rattle.cs_edge.proofs.writing.write_all.Given as goal
 
--- so many bytes have been written, and no write failed
+-- so many bytes have been written
 abbrev pub invariant-loop-at : goal.invariant-loop-at
 invariant-loop-at g l =
     (l.at ≤ length l.piece) × WroteMore (g.K.Sink.tells l.initial.sink) (g.K.Sink.tells l.sink) (take l.at l.piece)
-    × ((g.K.Sink.tells l.sink).faults ≡ (g.K.Sink.tells l.initial.sink).faults)
 
 abbrev pub decreases-loop-at : goal.decreases-loop-at
 decreases-loop-at g l = length l.piece - l.at
