@@ -1,9 +1,9 @@
 -- Areas that follow one another: how such a list grows, and that no two of them share a cell.
 use Rattle.std.proofs.Common.{◌≡◌, ℕ, zero, suc, ◌+◌, ◌<◌, ◌≤◌, List, [], ◌∷◌, ◌++◌, length, take, slice_get, get_or}
-use Rattle.std.proofs.Common.{Some, None, Option, true, ◌⊎◌, inl, inr, ⊎_elim, refl, sym, ◌∙◌, ap, subst, arith}
+use Rattle.std.proofs.Common.{Some, None, Option, true, ◌⊎◌, inl, inr, ⊎_elim, refl, sym, ◌∙◌, ap, arith}
 use Rattle.std.proofs.Common.{ltb-true, leb-true, nat_lt, nat_le}
 use Rattle.std.proofs.lemmas.List.{take_at, take-append-le}
-use Rattle.std.proofs.lemmas.Bool.{and_parts, or_cases, or_left, or_right, cases_order}
+use Rattle.std.proofs.lemmas.Bool.{and_parts, or_cases, cases_order}
 use Rattle.std.proofs.lemmas.List.Sums.{sum_by-cons, sum_by_more_le}
 use Rattle.std.proofs.lemmas.Option.{get_or_from_slice_get, slice_get_within}
 use Rattle.cs_cells.specs.declared.footprint.Area.{Area}
@@ -103,16 +103,6 @@ covered_place areas (place ∷ places) x h = ⊎_elim
     (λ here. (0, place, refl, here))
     (λ later. let rest = covered_place areas places x later in (suc rest.0, rest.1, rest.2, rest.3))
     (or_cases (in_area (slice_get areas place) x) (covers areas places x) h)
-
-pub covers_place : (areas : List Area) (places : List ℕ) (i place x : ℕ) → slice_get places i ≡ Some place
-    → in_area (slice_get areas place) x ≡ true
-    → covers areas places x ≡ true
-covers_place areas [] i place x at h = absurd (cc)
-covers_place areas (y ∷ places) zero place x at h =
-    or_left (in_area (slice_get areas y) x) (covers areas places x)
-    (let e : y ≡ place = cc in subst (λ z. in_area (slice_get areas z) x ≡ true) (sym e) h)
-covers_place areas (y ∷ places) (suc i) place x at h =
-    or_right (in_area (slice_get areas y) x) (covers areas places x) (covers_place areas places i place x at h)
 
 -- a covered address is one of the layout's
 pub covered_below : (areas : List Area) (places : List ℕ) (x : ℕ) → IsLaid areas → covers areas places x ≡ true

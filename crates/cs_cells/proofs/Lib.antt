@@ -1,3 +1,4 @@
 mod Areas
 pub mod Laid
 pub mod SerialRun
+pub mod Rows

@@ -1,5 +1,5 @@
-use Rattle.std.specs.Prelude.{◌≡◌, ℕ, ℤ, pos, List, [], ◌∷◌, map, length, ◌+◌, Bool, false, ◌&&◌, ◌||◌, nat_le, nat_lt}
-use Rattle.std.specs.Prelude.{Option, Some, None, slice_get, slice_index_or}
+use Rattle.std.specs.Prelude.{◌≡◌, ℕ, ℤ, pos, List, [], ◌∷◌, map, length, ◌+◌, ◌-◌, if◌then◌else◌, Bool, false}
+use Rattle.std.specs.Prelude.{◌&&◌, ◌||◌, nat_le, nat_lt, Option, Some, None, slice_get, slice_index_or}
 use Rattle.std.specs.Int.{cast_signed, w64}
 use Rattle.cs_base.specs.Numbers.{clamp}
 use Rattle.cs_cells.specs.declared.footprint.Area.{Area}
@@ -17,6 +17,10 @@ Cells = List ℤ
 
 abbrev pub cell : Cells → ℕ → ℤ
 cell c a = slice_index_or c a (pos 0)
+
+-- the cells after n of them, from an address on, took what a row has
+abbrev pub with_row : ℕ → ℕ → (ℕ → ℤ) → (ℕ → ℤ) → ℕ → ℤ
+with_row first n row cells a = if nat_le first a && nat_lt a (first + n) then row (a - first) else cells a
 
 abbrev pub in_area : Option Area → ℕ → Bool
 in_area None a = false

@@ -1,6 +1,7 @@
 // A row of cells behind addresses.
-ghost use Rattle.std.specs.Prelude.{◌≡◌, ℕ, ℤ, pos, List, ◌<◌, length, slice_index_or, slice_set};
-ghost use Rattle.cs_cells.specs.Cells.{values};
+ghost use Rattle.std.specs.Prelude.{◌≡◌, ℕ, ℤ, pos, List, ◌<◌, ◌≤◌, ◌+◌, length, map, slice_index_or, slice_set};
+ghost use Rattle.std.specs.List.{range_with_len};
+ghost use Rattle.cs_cells.specs.Cells.{cell, with_row, values};
 
 use cs_base::Num;
 
@@ -28,6 +29,34 @@ pub trait Bank {
         requires { can_set (rest self.old) addr }
         ensures cells { cells self.new ≡ slice_set (cells self.old) addr value }
         ensures rest { rest self.new ≡ rest self.old };
+
+    /// Reads the cells from an address on into a row, one a place.
+    fn get_row(&mut self, first: u32, row: &mut [Num])
+        requires get { (j : ℕ) → j < length row.old → can_get (rest self.old) (first + j) }
+        requires there { (j : ℕ) → j < length row.old → first + j < length (cells self.old) }
+        requires small { first + length row.old ≤ 65536 }
+        ensures row { row.new ≡ map (cell (cells self.old)) (range_with_len first (length row.old)) }
+        ensures cells { cells self.new ≡ cells self.old }
+        ensures rest { rest self.new ≡ rest self.old }
+    {
+        for j in 0..row.len() {
+            row[j] = self.get(first + j as u32);
+        }
+    }
+
+    /// Sets the cells from an address on to what a row has, one a place.
+    fn set_row(&mut self, first: u32, row: &[Num])
+        requires set { (j : ℕ) → j < length row.now → can_set (rest self.old) (first + j) }
+        requires there { (j : ℕ) → j < length row.now → first + j < length (cells self.old) }
+        requires small { first + length row.now ≤ 65536 }
+        ensures cells { cell (cells self.new) ≡ with_row first (length row.now) (cell row.now) (cell (cells self.old)) }
+        ensures long { length (cells self.new) ≡ length (cells self.old) }
+        ensures rest { rest self.new ≡ rest self.old }
+    {
+        for j in 0..row.len() {
+            self.set(first + j as u32, row[j]);
+        }
+    }
 }
 
 /// A bank over a vector of words, one cell a word: its raw number in two's complement. Each may be read and set.

@@ -1,4 +1,8 @@
+// Areas and footprints.
+ghost use Rattle.std.specs.Prelude.{◌≡◌, true, IfOk};
+
 use cs_base::{Places, Res};
+use std::alloc::{AllocError, Global};
 
 /// A resource's cells in a layout: `length` cells from the address `first` on.
 #[derive(Clone, Copy)]
@@ -14,4 +18,29 @@ pub struct Area {
 pub struct Footprint {
     pub uses: Places,
     pub writes: Places,
+}
+
+impl Footprint {
+    /// The same, in memory of its own.
+    pub fn copy(&self, alloc: Global) -> Result<Footprint, AllocError>
+        ensures { IfOk result (λ copy. copy ≡ self.now) }
+    {
+        let uses = copied(alloc, &self.uses)?;
+        let writes = copied(alloc, &self.writes)?;
+        Ok(Footprint { uses, writes })
+    }
+
+    /// Whether another names the same places.
+    pub fn is(&self, other: &Footprint) -> bool
+        ensures { result ≡ true → self.now ≡ other.now }
+    {
+        self.uses.as_slice() == other.uses.as_slice()
+            && self.writes.as_slice() == other.writes.as_slice()
+    }
+}
+
+fn copied(alloc: Global, places: &Places) -> Result<Places, AllocError>
+    ensures { IfOk result (λ copy. copy ≡ places.now) }
+{
+    Ok(Places::from_vec(places.as_slice().to_vec(alloc)?))
 }

@@ -6,9 +6,12 @@ ghost use Rattle.cs_cells.specs.Serial.{serial_cells, serial_jobs, before, AllVa
 
 use crate::Job;
 
-/// The laws of the serial run, of any jobs and any cells: the two on which any order of running
-/// rests, and what no run changes. It does nothing: its clauses are the laws.
+/// The laws of the serial run, of any jobs and any cells: that each job runs once, the two on which any
+/// order of running rests, and what no run changes. It does nothing: its clauses are the laws.
 pub fn serial_laws<J: Job>()
+    // Each job ends as by one run, over the cells that all earlier jobs left.
+    ensures once { (js : List J) (c : Cells) (t : ℕ) (j : J) → slice_get js t ≡ Some j
+        → slice_get (serial_jobs J.means js c) t ≡ Some (J.means.after j (before J.means js c t)) }
     ensures last_writer { (js : List J) (c : Cells) → AllValid J.means js
         → LastWriter J.means js c }
     ensures as_serial { (js : List J) (c : Cells) (t : ℕ) (j : J) (d : Cells)

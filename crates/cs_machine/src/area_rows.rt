@@ -6,14 +6,15 @@ ghost use Rattle.cs_base.specs.declared.resource.Rate.TheVariants as rate;
 ghost use Rattle.cs_cells.specs.Cells.{cell};
 ghost use Rattle.cs_ir.specs.Waves.{constant, silence};
 ghost use Rattle.cs_meaning.specs.Pieces.{added};
-ghost use Rattle.cs_signal.specs.Operands.{argument};
 ghost use Rattle.cs_voice_meaning.specs.Placing.{wave_in, with_wave};
 
+use crate::outputs::add_row;
 use cs_base::Num;
 use cs_cells::{Area, Bank};
 
-/// Reads an area into a row: a cell a frame, and 0 beyond the area.
+/// Reads an area into a row of as many places.
 pub fn read_row<B: Bank>(bank: &mut B, area: Area, row: &mut [Num])
+    requires row { length row.old ≡ area.length }
     requires read { CanTouch (B.can_get (B.rest bank.old)) (length (B.cells bank.old)) area }
     requires small { area.first + area.length ≤ 65536 }
     ensures frames { HasFrames (wave_in rate.Audio area (cell (B.cells bank.old))) row.new }
@@ -21,9 +22,7 @@ pub fn read_row<B: Bank>(bank: &mut B, area: Area, row: &mut [Num])
     ensures same { B.cells bank.new ≡ B.cells bank.old }
     ensures rest { B.rest bank.new ≡ B.rest bank.old }
 {
-    for j in 0..row.len() {
-        row[j] = at_frame(bank, area, j);
-    }
+    bank.get_row(area.first, row);
 }
 
 /// Writes a row into an area of as many cells.
@@ -35,9 +34,7 @@ pub fn write_row<B: Bank>(bank: &mut B, area: Area, row: &[Num])
     ensures long { length (B.cells bank.new) ≡ length (B.cells bank.old) }
     ensures rest { B.rest bank.new ≡ B.rest bank.old }
 {
-    for j in 0..row.len() {
-        set_frame(bank, area, j, number_at(row, j));
-    }
+    bank.set_row(area.first, row);
 }
 
 /// Writes one value into an area of one cell.
@@ -52,21 +49,22 @@ pub fn write_value<B: Bank>(bank: &mut B, area: Area, value: Num)
     set_frame(bank, area, 0, value);
 }
 
-/// Adds a row to what an area of as many cells holds.
-pub fn mix_row<B: Bank>(bank: &mut B, area: Area, row: &[Num])
+/// Adds a row to what an area of as many cells holds. `room` is room for a row, and what it holds means nothing.
+pub fn mix_row<B: Bank>(bank: &mut B, area: Area, row: &[Num], room: &mut [Num])
     requires row { length row.now ≡ area.length }
+    requires room { length room.old ≡ area.length }
     requires read { CanTouch (B.can_get (B.rest bank.old)) (length (B.cells bank.old)) area }
     requires write { CanTouch (B.can_set (B.rest bank.old)) (length (B.cells bank.old)) area }
     requires small { area.first + area.length ≤ 65536 }
     ensures cells { cell (B.cells bank.new) ≡ with_wave (Some area)
         (added (wave_in rate.Audio area (cell (B.cells bank.old))) (row_wave row.now)) (cell (B.cells bank.old)) }
+    ensures room { length room.new ≡ length room.old }
     ensures long { length (B.cells bank.new) ≡ length (B.cells bank.old) }
     ensures rest { B.rest bank.new ≡ B.rest bank.old }
 {
-    for j in 0..row.len() {
-        let before = at_frame(bank, area, j);
-        set_frame(bank, area, j, before.add(number_at(row, j)));
-    }
+    read_row(bank, area, room);
+    add_row(row, room);
+    write_row(bank, area, room);
 }
 
 /// Sets each cell of an area to 0.
@@ -79,22 +77,6 @@ pub(crate) fn clear<B: Bank>(bank: &mut B, area: Area)
 {
     for j in 0..area.length as usize {
         set_frame(bank, area, j, Num::exact(0));
-    }
-}
-
-/// What an area holds at a frame, 0 beyond it.
-#[inline(always)]
-fn at_frame<B: Bank>(bank: &mut B, area: Area, frame: usize) -> Num
-    requires read { CanTouch (B.can_get (B.rest bank.old)) (length (B.cells bank.old)) area }
-    requires small { area.first + area.length ≤ 65536 }
-    ensures value { result ≡ wave_in rate.Audio area (cell (B.cells bank.old)) frame }
-    ensures same { B.cells bank.new ≡ B.cells bank.old }
-    ensures rest { B.rest bank.new ≡ B.rest bank.old }
-{
-    if frame < area.length as usize {
-        get_frame(bank, area, frame)
-    } else {
-        Num::exact(0)
     }
 }
 
@@ -131,13 +113,4 @@ fn address(area: Area, frame: usize) -> u32
     ensures { result ≡ area.first + frame }
 {
     area.first + frame as u32
-}
-
-/// The number of a row at a frame.
-#[inline(always)]
-fn number_at(row: &[Num], frame: usize) -> Num
-    requires { frame < length row.now }
-    ensures { result ≡ argument row.now frame }
-{
-    row[frame]
 }

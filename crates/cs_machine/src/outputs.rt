@@ -178,7 +178,7 @@ fn first(x: Num) -> Num
 }
 
 /// A further row of a channel.
-fn add_row(row: &[Num], channel: &mut [Num])
+pub(crate) fn add_row(row: &[Num], channel: &mut [Num])
     requires { length row.now ≡ length channel.old }
     ensures frames { HasFrames (both op.Add (row_wave channel.old) (row_wave row.now)) channel.new }
     ensures long { length channel.new ≡ length channel.old }

@@ -1,4 +1,4 @@
--- Whole numbers that values name, as the code looks at them, and areas that are worked on from the front.
+-- Whole numbers that values name, as the code looks at them.
 use Rattle.std.specs.Prelude.{ℕ, ℤ, pos, Bool, false, ◌+◌, ◌&&◌, List, nat_le, nat_lt, Option, Some, None}
 use Rattle.std.specs.Prelude.{if◌then◌else◌}
 use Rattle.cs_base.specs.declared.resource.Res.{Res}
@@ -29,7 +29,3 @@ clears s reach from end g = false
 -- the cells after those of these places were cleared
 abbrev pub cleared_in : List Area → (Res → Bool) → (ℕ → ℤ) → ℕ → ℤ
 cleared_in areas test cells = λ a. if lies_cleared areas test a then pos 0 else cells a
-
--- the first so many cells of an area
-abbrev pub front : Area → ℕ → Area
-front area n = record area { length = n }

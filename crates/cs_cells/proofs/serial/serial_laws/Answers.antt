@@ -1,5 +1,9 @@
-use Rattle.cs_cells.proofs.SerialRun.{last_writer, as_serial, foot-serial_jobs, areas-serial_jobs, length-serial_cells}
+use Rattle.cs_cells.proofs.SerialRun.{job_at, last_writer, as_serial, foot-serial_jobs, areas-serial_jobs}
+use Rattle.cs_cells.proofs.SerialRun.{length-serial_cells}
 use Rattle.cs_cells.proofs.serial.serial_laws.Goals as goal
+
+pub returns-clause-once : goal.returns-clause-once
+returns-clause-once g c js c' t j at = job_at g.J.Job.means js c' t j at
 
 pub returns-clause-last_writer : goal.returns-clause-last_writer
 returns-clause-last_writer g c js c' s = last_writer g.J.Job.means g.met.J.Job.frames js c' s

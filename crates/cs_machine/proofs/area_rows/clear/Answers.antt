@@ -1,13 +1,17 @@
 use Rattle.std.proofs.Common.{◌∙◌, ◌+◌, ◌<◌, ap, arith, length, refl, sym, subst}
 use Rattle.std.proofs.lemmas.List.{length-set}
-use Rattle.cs_cells.specs.Cells.{cell}
+use Rattle.cs_cells.specs.Cells.{cell, with_row}
+use Rattle.cs_cells.proofs.Rows.{with_row_none, with_row_more}
 use Rattle.cs_ir.specs.Waves.{silence}
-use Rattle.cs_machine.proofs.Writing.{touch_again, within_here, none_written, one_written, all_written}
+use Rattle.cs_machine.proofs.Writing.{touch_again, within_here}
 use Rattle.cs_machine.proofs.area_rows.clear.Goals as goal
 
 pub loop-j-init : goal.loop-j-init
-loop-j-init g c = record
-    { cells = none_written c.args.area (silence) (cell (g.B.Bank.cells c.args.bank.now)); long = refl; rest = refl }
+loop-j-init g c = record {
+  cells = with_row_none c.args.area.first silence (cell (g.B.Bank.cells c.args.bank.now));
+  long = refl;
+  rest = refl;
+}
 
 pub set_frame-requires-clause-write : goal.set_frame-requires-clause-write
 set_frame-requires-clause-write g c =
@@ -22,8 +26,8 @@ loop-j-preserved g c =
     c.args.area c.loop-j.j c.requires.write low in
     record {
       cells = ap cell c.set_frame.ensures.cells
-          ∙ one_written (g.B.Bank.cells c.loop-j.bank) (cell (g.B.Bank.cells c.args.bank.now)) c.args.area (silence)
-          c.loop-j.j c.exact.result c.loop-j.invariant.cells
+          ∙ with_row_more (g.B.Bank.cells c.loop-j.bank) (cell (g.B.Bank.cells c.args.bank.now)) c.args.area.first
+          c.loop-j.j silence c.exact.result c.loop-j.invariant.cells
           (subst (λ n. c.args.area.first + c.loop-j.j < n) (sym c.loop-j.invariant.long) long) c.exact.ensures;
       long = ap length c.set_frame.ensures.cells
           ∙ length-set (g.B.Bank.cells c.loop-j.bank) (c.args.area.first + c.loop-j.j) c.exact.result
@@ -33,5 +37,6 @@ loop-j-preserved g c =
 
 pub returns-clause-cells : goal.returns-clause-cells
 returns-clause-cells g c =
-    all_written c.args.area c.loop-j.j (silence) (cell (g.B.Bank.cells c.args.bank.now))
-    (cell (g.B.Bank.cells c.loop-j.bank)) (omega (arith, c.loop-j-test.false)) c.loop-j.invariant.cells
+    c.loop-j.invariant.cells
+    ∙ ap (λ n. with_row c.args.area.first n silence (cell (g.B.Bank.cells c.args.bank.now)))
+    (omega (arith, c.loop-j-test.false))

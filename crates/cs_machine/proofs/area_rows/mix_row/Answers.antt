@@ -1,59 +1,35 @@
-use Rattle.std.proofs.Common.{◌∙◌, ◌+◌, ◌<◌, ap, arith, length, refl, sym, subst}
-use Rattle.std.proofs.lemmas.List.{length-set}
+use Rattle.std.proofs.Common.{◌∙◌, Some, ap, arith, length, sym}
+use Rattle.cs_base.specs.Numbers.{sum_of}
 use Rattle.cs_base.specs.declared.resource.Rate.TheVariants as rate
 use Rattle.cs_cells.specs.Cells.{cell}
 use Rattle.cs_meaning.specs.Pieces.{added}
-use Rattle.cs_voice_meaning.specs.Placing.{wave_in}
+use Rattle.cs_signal.specs.Operands.{argument}
+use Rattle.cs_voice_meaning.specs.Placing.{wave_in, with_wave}
 use Rattle.cs_machine.specs.Rows.{row_wave}
-use Rattle.cs_machine.proofs.Writing.{touch_again, within_here, none_written, one_written, all_written, mixed}
+use Rattle.cs_machine.proofs.Writing.{same_wave, touch_again}
 use Rattle.cs_machine.proofs.area_rows.mix_row.Goals as goal
 
-pub loop-j-init : goal.loop-j-init
-loop-j-init g c = record {
-  cells = none_written c.args.area
-      (added (wave_in rate.Audio c.args.area (cell (g.B.Bank.cells c.args.bank.now))) (row_wave c.args.row.now))
-      (cell (g.B.Bank.cells c.args.bank.now));
-  long = refl;
-  rest = refl;
-}
+pub add_row-requires : goal.add_row-requires
+add_row-requires g c = c.requires.row ∙ sym c.requires.room ∙ sym c.read_row.ensures.row
 
-pub at_frame-before-requires-clause-read : goal.at_frame-before-requires-clause-read
-at_frame-before-requires-clause-read g c =
-    touch_again g.B.Bank.can_get (g.B.Bank.rest c.args.bank.now) (g.B.Bank.rest c.loop-j.bank)
-    (length (g.B.Bank.cells c.args.bank.now)) (length (g.B.Bank.cells c.loop-j.bank)) c.args.area
-    c.loop-j.invariant.rest c.loop-j.invariant.long c.requires.read
+pub write_row-requires-clause-row : goal.write_row-requires-clause-row
+write_row-requires-clause-row g c = c.add_row.ensures.long ∙ c.read_row.ensures.row ∙ c.requires.room
 
-pub set_frame-requires-clause-write : goal.set_frame-requires-clause-write
-set_frame-requires-clause-write g c =
-    touch_again g.B.Bank.can_set (g.B.Bank.rest c.args.bank.now) (g.B.Bank.rest c.at_frame-before.new.bank)
-    (length (g.B.Bank.cells c.args.bank.now)) (length (g.B.Bank.cells c.at_frame-before.new.bank)) c.args.area
-    (c.at_frame-before.ensures.rest ∙ c.loop-j.invariant.rest)
-    (ap length c.at_frame-before.ensures.same ∙ c.loop-j.invariant.long) c.requires.write
-
-pub loop-j-preserved : goal.loop-j-preserved
-loop-j-preserved g c =
-    let low : c.loop-j.j < c.args.area.length = omega (arith, c.requires.row) in
-    let long = within_here (g.B.Bank.can_set (g.B.Bank.rest c.args.bank.now)) (length (g.B.Bank.cells c.args.bank.now))
-    c.args.area c.loop-j.j c.requires.write low in
-    record {
-      cells = ap cell c.set_frame.ensures.cells
-          ∙ one_written (g.B.Bank.cells c.at_frame-before.new.bank) (cell (g.B.Bank.cells c.args.bank.now)) c.args.area
-          (added (wave_in rate.Audio c.args.area (cell (g.B.Bank.cells c.args.bank.now))) (row_wave c.args.row.now))
-          c.loop-j.j c.add.result (ap cell c.at_frame-before.ensures.same ∙ c.loop-j.invariant.cells)
-          (subst (λ n. c.args.area.first + c.loop-j.j < n)
-          (sym (ap length c.at_frame-before.ensures.same ∙ c.loop-j.invariant.long)) long)
-          (mixed c.args.area (cell (g.B.Bank.cells c.loop-j.bank)) (cell (g.B.Bank.cells c.args.bank.now))
-          c.args.row.now c.loop-j.j c.at_frame-before.result c.number_at.result c.add.result low
-          c.loop-j.invariant.cells c.at_frame-before.ensures.value c.number_at.ensures c.add.ensures);
-      long = ap length c.set_frame.ensures.cells
-          ∙ length-set (g.B.Bank.cells c.at_frame-before.new.bank) (c.args.area.first + c.loop-j.j) c.add.result
-          ∙ ap length c.at_frame-before.ensures.same ∙ c.loop-j.invariant.long;
-      rest = c.set_frame.ensures.rest ∙ c.at_frame-before.ensures.rest ∙ c.loop-j.invariant.rest;
-    }
+pub write_row-requires-clause-write : goal.write_row-requires-clause-write
+write_row-requires-clause-write g c =
+    touch_again g.B.Bank.can_set (g.B.Bank.rest c.args.bank.now) (g.B.Bank.rest c.read_row.new.bank)
+    (length (g.B.Bank.cells c.args.bank.now)) (length (g.B.Bank.cells c.read_row.new.bank)) c.args.area
+    c.read_row.ensures.rest (ap length c.read_row.ensures.same) c.requires.write
 
 pub returns-clause-cells : goal.returns-clause-cells
 returns-clause-cells g c =
-    all_written c.args.area c.loop-j.j
-    (added (wave_in rate.Audio c.args.area (cell (g.B.Bank.cells c.args.bank.now))) (row_wave c.args.row.now))
-    (cell (g.B.Bank.cells c.args.bank.now)) (cell (g.B.Bank.cells c.loop-j.bank))
-    (omega (arith, c.requires.row, c.loop-j-test.false)) c.loop-j.invariant.cells
+    let cells = cell (g.B.Bank.cells c.args.bank.now) in
+    let room = row_wave c.add_row.new.channel in
+    let frames = c.read_row.ensures.row in
+    let all = c.add_row.ensures.long in
+    c.write_row.ensures.cells
+    ∙ ap (λ l. with_wave (Some c.args.area) room (cell l)) c.read_row.ensures.same
+    ∙ same_wave c.args.area room (added (wave_in rate.Audio c.args.area cells) (row_wave c.args.row.now)) cells
+    (λ j low. c.add_row.ensures.frames j (omega (arith, low, frames, all, c.requires.room))
+    ∙ ap (λ z. sum_of z (argument c.args.row.now j))
+    (c.read_row.ensures.frames j (omega (arith, low, frames, c.requires.room))))

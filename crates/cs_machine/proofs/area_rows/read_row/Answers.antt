@@ -1,27 +1,33 @@
-use Rattle.std.proofs.Common.{◌∙◌, ap, arith, length, rules}
-use Rattle.cs_base.specs.declared.resource.Rate.TheVariants as rate
+use Rattle.std.proofs.Common.{◌∙◌, ◌+◌, ◌<◌, ap, arith, length, map, refl, subst}
+use Rattle.std.proofs.lemmas.List.FromFn.{length-map-range_with_len}
+use Rattle.std.specs.List.{range_with_len}
 use Rattle.cs_cells.specs.Cells.{cell}
-use Rattle.cs_voice_meaning.specs.Placing.{wave_in}
-use Rattle.cs_machine.proofs.Writing.{touch_again, one_more, all_done}
+use Rattle.cs_machine.proofs.Writing.{can_here, frame_read, within_here}
 use Rattle.cs_machine.proofs.area_rows.read_row.Goals as goal
 
-pub at_frame-requires-clause-read : goal.at_frame-requires-clause-read
-at_frame-requires-clause-read g c =
-    touch_again g.B.Bank.can_get (g.B.Bank.rest c.args.bank.now) (g.B.Bank.rest c.loop-j.bank)
-    (length (g.B.Bank.cells c.args.bank.now)) (length (g.B.Bank.cells c.loop-j.bank)) c.args.area
-    c.loop-j.invariant.rest (ap length c.loop-j.invariant.same) c.requires.read
+pub get_row-requires-clause-get : goal.get_row-requires-clause-get
+get_row-requires-clause-get g c = λ j low.
+    can_here (g.B.Bank.can_get (g.B.Bank.rest c.args.bank.now)) (length (g.B.Bank.cells c.args.bank.now)) c.args.area j
+    (c.args.area.first + j) c.requires.read (subst (λ n. j < n) c.requires.row low) refl
 
-pub loop-j-preserved : goal.loop-j-preserved
-loop-j-preserved g c = record {
-  frames = one_more (wave_in rate.Audio c.args.area (cell (g.B.Bank.cells c.args.bank.now))) c.loop-j.row c.loop-j.j
-      c.at_frame.result (omega arith) c.loop-j.invariant.frames
-      (c.at_frame.ensures.value ∙ ap (λ l. wave_in rate.Audio c.args.area (cell l) c.loop-j.j) c.loop-j.invariant.same);
-  row = search rules;
-  same = c.at_frame.ensures.same ∙ c.loop-j.invariant.same;
-  rest = c.at_frame.ensures.rest ∙ c.loop-j.invariant.rest;
-}
+pub get_row-requires-clause-there : goal.get_row-requires-clause-there
+get_row-requires-clause-there g c = λ j low.
+    within_here (g.B.Bank.can_get (g.B.Bank.rest c.args.bank.now)) (length (g.B.Bank.cells c.args.bank.now)) c.args.area
+    j c.requires.read (subst (λ n. j < n) c.requires.row low)
+
+pub get_row-requires-clause-small : goal.get_row-requires-clause-small
+get_row-requires-clause-small g c = omega (arith, c.requires.row, c.requires.small)
 
 pub returns-clause-frames : goal.returns-clause-frames
-returns-clause-frames g c =
-    all_done (wave_in rate.Audio c.args.area (cell (g.B.Bank.cells c.args.bank.now))) c.loop-j.row c.loop-j.j
-    (length c.args.row.now) c.loop-j.invariant.row (omega arith) c.loop-j.invariant.frames
+returns-clause-frames g c = λ j low.
+    let cells = cell (g.B.Bank.cells c.args.bank.now) in
+    let read = c.get_row.ensures.row in
+    let long = ap length read ∙ length-map-range_with_len cells c.args.area.first (length c.args.row.now) in
+    frame_read c.args.area (g.B.Bank.cells c.args.bank.now) c.get_row.new.row j
+    (omega (arith, low, long, c.requires.row))
+    (read ∙ ap (λ n. map cells (range_with_len c.args.area.first n)) c.requires.row)
+
+pub returns-clause-row : goal.returns-clause-row
+returns-clause-row g c =
+    ap length c.get_row.ensures.row
+    ∙ length-map-range_with_len (cell (g.B.Bank.cells c.args.bank.now)) c.args.area.first (length c.args.row.now)
