@@ -6,6 +6,7 @@ pub mod Operands
 pub mod Pieces
 pub mod Ramps
 pub mod Rings
+pub mod Rises
 pub mod Walks
 pub mod Ways
 pub mod Slopes

@@ -1,12 +1,11 @@
 -- A straight line before its end: its values lie between its ends.
-use Rattle.std.proofs.Common.{◌≡◌, ℕ, suc, ◌+◌, ◌*◌, ◌<◌, ◌≤◌, inl, inr, ⊎_elim, ℤ, pos, negsuc, ◌+ℤ◌, ◌-ℤ◌, ◌*ℤ◌, ◌≤ℤ◌}
-use Rattle.std.proofs.Common.{unsigned_abs, to_z, of_z, w64, ◌^◌, refl, ap, sym, ◌∙◌, subst, arith}
+use Rattle.std.proofs.Common.{◌≡◌, ℕ, suc, ◌+◌, ◌*◌, ◌<◌, ◌≤◌, ⊎_elim, ℤ, pos, negsuc, ◌+ℤ◌, ◌-ℤ◌, ◌*ℤ◌, ◌≤ℤ◌}
+use Rattle.std.proofs.Common.{to_z, of_z, w64, refl, subst, arith}
 use Rattle.std.proofs.lemmas.Bool.{cases_lt}
 use Rattle.std.proofs.lemmas.Int.{ints}
 use Rattle.std.proofs.lemmas.Nat.{mul-le}
-use Rattle.cs_base.proofs.Arithmetic.{clamp_same}
-use Rattle.cs_base.specs.Numbers.{IsRaw, clamp}
-use Rattle.cs_signal.specs.inner.Ramp.{IsAdvanced, IsParted}
+use Rattle.cs_base.specs.Numbers.{IsRaw}
+use Rattle.cs_signal.specs.inner.Ramp.{IsParted}
 
 -- a is at least b, where b + 1 times d is more than a times d and a rest
 at_most : (a b d rest : ℕ) → b * d ≤ a * d + rest → rest < d → b ≤ a
@@ -56,41 +55,11 @@ pub on_way : (from to whole : ℤ) (m d rest : ℕ) → IsRaw from → IsRaw to 
     → IsParted ((to -ℤ from) *ℤ pos m) d whole rest → IsRaw (from +ℤ whole)
 on_way from to whole m d rest f t h p = between from to whole (to -ℤ from) m d rest f t h refl p
 
--- the same of a value and its distance from the first
-pub value_on_way : (from to value : ℤ) (m d rest : ℕ) → IsRaw from → IsRaw to → m ≤ d
-    → IsParted ((to -ℤ from) *ℤ pos m) d (value -ℤ from) rest → IsRaw value
-value_on_way from to value m d rest f t h p =
-    let e : from +ℤ (value -ℤ from) ≡ value = omega (arith, ints) in
-    subst IsRaw e (on_way from to (value -ℤ from) m d rest f t h p)
-
 pub parts_of_value : (z from whole value : ℤ) (d rest : ℕ) → value ≡ from +ℤ whole → IsParted z d whole rest
     → IsParted z d (value -ℤ from) rest
 parts_of_value z from whole value d rest e p =
     let same : whole ≡ value -ℤ from = omega (arith, ints) in subst (λ w. IsParted z d w rest) same p
 
--- a value in range from the first one
-pub raw_clamped : (from value : ℤ) → IsRaw value → value ≡ clamp (from +ℤ (value -ℤ from))
-raw_clamped from value h =
-    let e : from +ℤ (value -ℤ from) ≡ value = omega (arith, ints) in
-    sym (ap clamp e ∙ clamp_same value h)
-
 -- a value in range by its bits
 pub same_bits : (z : ℤ) → IsRaw z → to_z w64 (of_z w64 z) ≡ z
 same_bits z h = let low = h.0 in let high = h.1 in omega (arith, ints)
-
--- a step of the value is one of its distance from the first
-pub from_first : (from value value' whole : ℤ) (d rest by rest' : ℕ) → IsAdvanced d value rest whole by value' rest' →
-    IsAdvanced d (value -ℤ from) rest whole by (value' -ℤ from) rest'
-from_first from value value' whole d rest by rest' (inl h) = let e = h.1 in inl (h.0, omega (arith, ints), h.2)
-from_first from value value' whole d rest by rest' (inr h) = let e = h.1 in inr (h.0, omega (arith, ints), h.2)
-
--- two values in range are near each other
-pub near : (from value : ℤ) → IsRaw from → IsRaw value → unsigned_abs (value -ℤ from) < 2 ^ 49
-near from value f v = let f0 = f.0 in let f1 = f.1 in let v0 = v.0 in let v1 = v.1 in omega (arith, ints)
-
--- what a step adds to the distance
-pub step_bound : (d rest by rest' : ℕ) (w whole w' : ℤ) → IsAdvanced d w rest whole by w' rest'
-    → unsigned_abs whole < 2 ^ 48 →
-    unsigned_abs w' ≤ unsigned_abs w + 2 ^ 49
-step_bound d rest by rest' w whole w' (inl h) small = let e = h.1 in omega (arith, ints)
-step_bound d rest by rest' w whole w' (inr h) small = let e = h.1 in omega (arith, ints)

@@ -1,5 +1,5 @@
 -- What a unit is given: its arguments, and these over a control cycle.
-use Rattle.std.specs.Prelude.{ℕ, ◌≡◌, List, length, map, ℤ, pos, slice_index_or}
+use Rattle.std.specs.Prelude.{ℕ, ◌≡◌, ◌<◌, List, length, map, ℤ, pos, slice_index_or}
 use Rattle.cs_signal.specs.declared.operand.Operand.{Operand}
 use Rattle.cs_signal.specs.declared.operand.Operand.TheVariants.{Held, Row}
 
@@ -16,6 +16,11 @@ operand_at (Row values) j = argument values.now j
 abbrev pub Lasts : ℕ → Operand → Type 0
 Lasts n (Held value) = Unit {0}
 Lasts n (Row values) = length values.now ≡ n
+
+-- an operand has a value for frame j
+abbrev pub Reaches : ℕ → Operand → Type 0
+Reaches j (Held value) = Unit {0}
+Reaches j (Row values) = j < length values.now
 
 -- the inputs of a step at frame j, by its operands
 abbrev pub inputs_at : List Operand → ℕ → List ℤ

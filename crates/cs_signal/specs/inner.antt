@@ -3,3 +3,4 @@ pub mod Level
 pub mod Pieces
 pub mod Ramp
 pub mod Ring
+pub mod Short

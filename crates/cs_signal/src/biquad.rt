@@ -4,7 +4,8 @@ ghost use Rattle.std.specs.Prelude.{unsigned_abs};
 ghost use Rattle.std.specs.Int.{int_div_euclid};
 ghost use Rattle.cs_base.specs.Numbers.{IsRaw, clamp, floor_div, quotient_by_zero};
 ghost use Rattle.cs_signal.specs.Biquad.{all_held, biquad_step, filtered, inputs_by, ratio, values_at};
-ghost use Rattle.cs_signal.specs.Operands.{operand_at, Lasts};
+ghost use Rattle.cs_signal.specs.Operands.{argument, operand_at, Lasts};
+ghost use Rattle.cs_signal.specs.inner.Short.{AreShort, AreSmall, IsShort, IsSmall};
 ghost use Rattle.cs_signal.specs.Steps.{run};
 
 use crate::Operand;
@@ -61,21 +62,29 @@ impl Biquad {
     fn step(&mut self, x: Num, by: &Coefficients<Num>) -> Num
         ensures { (self.new, result) ≡ biquad_step self.old (inputs_by x by.now) }
     {
-        self.step_by(x, by, None)
+        let y = self.filtered(x, by);
+        self.follow(x, y);
+        y
     }
 
-    // A step, where `a0` may be known as a divisor.
+    // The result of a step.
     #[inline(always)]
-    fn step_by(&mut self, x: Num, by: &Coefficients<Num>, divisor: Option<Divisor>) -> Num
-        requires { IfSome divisor (λ d. d.value ≡ by.now.a0) }
-        ensures { (self.new, result) ≡ biquad_step self.old (inputs_by x by.now) }
+    fn filtered(&self, x: Num, by: &Coefficients<Num>) -> Num
+        ensures { let s = self.now in
+            result ≡ filtered (inputs_by x by.now) s.x1 s.x2 s.y1 s.y2 }
     {
-        let y = self.answer(x, by, divisor);
+        ratio(self.wide_sum(x, by), by.a0.raw())
+    }
+
+    // What it keeps after a step of this input and result.
+    #[inline(always)]
+    fn follow(&mut self, x: Num, y: Num)
+        ensures { self.new ≡ record { x1 = x; x2 = self.old.x1; y1 = y; y2 = self.old.y1 } }
+    {
         self.x2 = self.x1;
         self.x1 = x;
         self.y2 = self.y1;
         self.y1 = y;
-        y
     }
 
     // A step for each frame of `out`.
@@ -86,27 +95,30 @@ impl Biquad {
         ensures { (self.new, out.new) ≡ run biquad_step (λ j. inputs_by (operand_at x.now j) (values_at by.now j))
             self.old 0 (length out.old) }
     {
-        match held_values(by) {
-            Some(values) => self.held(x, &values, above_zero(values.a0), out),
-            None => self.moving(x, by, out),
+        match (x, held_values(by)) {
+            (Operand::Row(row), Some(values)) => self.held(row, &values, out),
+            _ => self.moving(x, by, out),
         }
     }
 
-    // A step for each frame, by coefficients that stay.
-    fn held(
-        &mut self,
-        x: &Operand,
-        by: &Coefficients<Num>,
-        divisor: Option<Divisor>,
-        out: &mut [Num],
-    )
-        requires { IfSome divisor (λ d. d.value ≡ by.now.a0) }
-        ensures { (self.new, out.new) ≡ run biquad_step (λ j. inputs_by (operand_at x.now j) by.now)
+    // A step for each frame, by coefficients that stay. While all signals are short, sums are of 64 bits.
+    #[inline(never)]
+    fn held(&mut self, x: &[Num], by: &Coefficients<Num>, out: &mut [Num])
+        requires x { length x.now ≡ length out.old }
+        requires above { pos 1 ≤ℤ by.now.a0 }
+        ensures { (self.new, out.new) ≡ run biquad_step (λ j. inputs_by (argument x.now j) by.now)
             self.old 0 (length out.old) }
     {
+        let divisor = Divisor::of(by.a0.raw());
         let mut unit = self.copied();
+        let mut near = unit.is_near(by);
         for j in 0..out.len() {
-            out[j] = unit.step_by(x.at(j), by, divisor);
+            let here = x[j];
+            let short = and_short(near, here);
+            let y = unit.answer(here, by, divisor, short);
+            near = and_short(short, y);
+            unit.follow(here, y);
+            out[j] = y;
         }
         *self = unit;
     }
@@ -122,17 +134,34 @@ impl Biquad {
         }
     }
 
-    // The result of a step.
+    // The result of a step, by an `a0` that is known as a divisor.
     #[inline(always)]
-    fn answer(&self, x: Num, by: &Coefficients<Num>, divisor: Option<Divisor>) -> Num
-        requires { IfSome divisor (λ d. d.value ≡ by.now.a0) }
+    fn answer(&self, x: Num, by: &Coefficients<Num>, divisor: Divisor, near: bool) -> Num
+        requires small { near ≡ true → AreSmall by.now }
+        requires short { near ≡ true → IsShort x × AreShort self.now }
+        requires known { divisor.value ≡ by.now.a0 }
         ensures { let s = self.now in
             result ≡ filtered (inputs_by x by.now) s.x1 s.x2 s.y1 s.y2 }
     {
-        match self.near_sum(x, by) {
-            Some(sum) => near_ratio(sum, by.a0, divisor),
-            None => ratio_by(self.wide_sum(x, by), by.a0, divisor),
+        if near {
+            divided(self.short_sum(x, by), by.a0, divisor)
+        } else {
+            ratio_by(self.wide_sum(x, by), by.a0, divisor)
         }
+    }
+
+    // Whether sums are of 64 bits, if the input is short too.
+    fn is_near(&self, by: &Coefficients<Num>) -> bool
+        ensures { result ≡ true → AreSmall by.now × AreShort self.now }
+    {
+        are_small(by) && self.is_short()
+    }
+
+    // Whether all that it keeps is short.
+    fn is_short(&self) -> bool
+        ensures { result ≡ true → AreShort self.now }
+    {
+        is_short(self.x1) && is_short(self.x2) && is_short(self.y1) && is_short(self.y2)
     }
 
     // What is divided.
@@ -151,29 +180,10 @@ impl Biquad {
 
     // The same, where all factors are below 2,048 and all signals below 32,768, so that no sum has over 61 bits.
     #[inline(always)]
-    fn near_sum(&self, x: Num, by: &Coefficients<Num>) -> Option<i64>
-        ensures value { let s = self.now in IfSome result (λ sum.
-            sum ≡ ((by.now.b0 *ℤ x +ℤ by.now.b1 *ℤ s.x1) +ℤ by.now.b2 *ℤ s.x2)
-            -ℤ (by.now.a1 *ℤ s.y1 +ℤ by.now.a2 *ℤ s.y2)) }
-        ensures bounded { IfSome result (λ sum. unsigned_abs sum < 2 ^ 61) }
-    {
-        if are_small(by.b0, by.b1, by.b2, by.a1, by.a2)
-            && are_short(x, self.x1, self.x2, self.y1, self.y2)
-        {
-            Some(self.short_sum(x, by))
-        } else {
-            None
-        }
-    }
-
-    #[inline(always)]
     fn short_sum(&self, x: Num, by: &Coefficients<Num>) -> i64
-        requires zeros { (unsigned_abs by.now.b0 ≤ 2 ^ 27) × (unsigned_abs by.now.b1 ≤ 2 ^ 27)
-            × (unsigned_abs by.now.b2 ≤ 2 ^ 27) }
-        requires poles { (unsigned_abs by.now.a1 ≤ 2 ^ 27) × (unsigned_abs by.now.a2 ≤ 2 ^ 27) }
-        requires inputs { let s = self.now in
-            (unsigned_abs x ≤ 2 ^ 31) × (unsigned_abs s.x1 ≤ 2 ^ 31) × (unsigned_abs s.x2 ≤ 2 ^ 31) }
-        requires results { (unsigned_abs self.now.y1 ≤ 2 ^ 31) × (unsigned_abs self.now.y2 ≤ 2 ^ 31) }
+        requires small { AreSmall by.now }
+        requires input { IsShort x }
+        requires short { AreShort self.now }
         ensures value { let s = self.now in
             result ≡ ((by.now.b0 *ℤ x +ℤ by.now.b1 *ℤ s.x1) +ℤ by.now.b2 *ℤ s.x2)
             -ℤ (by.now.a1 *ℤ s.y1 +ℤ by.now.a2 *ℤ s.y2) }
@@ -248,9 +258,10 @@ fn values_at(by: &Coefficients<Operand>, frame: usize) -> Coefficients<Num>
     }
 }
 
-// The values of coefficients, where all of them are held.
+// The values of coefficients, where all of them are held and `a0` is above 0.
 fn held_values(by: &Coefficients<Operand>) -> Option<Coefficients<Num>>
-    ensures { IfSome result (λ values. by.now ≡ all_held values) }
+    ensures held { IfSome result (λ values. by.now ≡ all_held values) }
+    ensures above { IfSome result (λ values. pos 1 ≤ℤ values.a0) }
 {
     match (&by.b0, &by.b1, &by.b2, &by.a0, &by.a1, &by.a2) {
         (
@@ -260,7 +271,7 @@ fn held_values(by: &Coefficients<Operand>) -> Option<Coefficients<Num>>
             Operand::Held(a0),
             Operand::Held(a1),
             Operand::Held(a2),
-        ) => Some(Coefficients {
+        ) => above_zero(Coefficients {
             b0: *b0,
             b1: *b1,
             b2: *b2,
@@ -272,27 +283,23 @@ fn held_values(by: &Coefficients<Operand>) -> Option<Coefficients<Num>>
     }
 }
 
-// A divisor that is above 0.
-fn above_zero(value: Num) -> Option<Divisor>
-    ensures { IfSome result (λ d. d.value ≡ value) }
+// Coefficients of which `a0` is above 0.
+fn above_zero(by: Coefficients<Num>) -> Option<Coefficients<Num>>
+    ensures same { IfSome result (λ values. by ≡ values) }
+    ensures above { IfSome result (λ values. pos 1 ≤ℤ values.a0) }
 {
-    if value.raw() > 0 {
-        Some(Divisor::of(value.raw()))
-    } else {
-        None
-    }
+    if by.a0.raw() > 0 { Some(by) } else { None }
 }
 
-// The quotient, rounded down and brought into range; where the divisor is known and the number fits into 62 bits,
-// without a division.
+// The quotient, rounded down and brought into range; where the number fits into 62 bits, without a division.
 #[inline(always)]
-fn ratio_by(n: i128, a0: Num, divisor: Option<Divisor>) -> Num
+fn ratio_by(n: i128, a0: Num, divisor: Divisor) -> Num
     requires bounded { unsigned_abs n < 2 ^ 97 }
-    requires known { IfSome divisor (λ d. d.value ≡ a0) }
+    requires known { divisor.value ≡ a0 }
     ensures { result ≡ ratio n a0 }
 {
     if -(1 << 61) < n && n < 1 << 61 {
-        near_ratio(n as i64, a0, divisor)
+        divided(n as i64, a0, divisor)
     } else {
         ratio(n, a0.raw())
     }
@@ -316,43 +323,38 @@ fn back(a1: Num, y1: Num, a2: Num, y2: Num) -> i128
 }
 
 // Whether coefficients are below 2,048.
-#[inline(always)]
-fn are_small(b0: Num, b1: Num, b2: Num, a1: Num, a2: Num) -> bool
-    ensures zeros { result ≡ true
-        → (unsigned_abs b0 ≤ 2 ^ 27) × (unsigned_abs b1 ≤ 2 ^ 27) × (unsigned_abs b2 ≤ 2 ^ 27) }
-    ensures poles { result ≡ true → (unsigned_abs a1 ≤ 2 ^ 27) × (unsigned_abs a2 ≤ 2 ^ 27) }
+fn are_small(by: &Coefficients<Num>) -> bool
+    ensures { result ≡ true → AreSmall by.now }
 {
-    is_small(b0) && is_small(b1) && is_small(b2) && is_small(a1) && is_small(a2)
+    is_small(by.b0) && is_small(by.b1) && is_small(by.b2) && is_small(by.a1) && is_small(by.a2)
 }
 
-#[inline(always)]
 fn is_small(c: Num) -> bool
-    ensures { result ≡ true → unsigned_abs c ≤ 2 ^ 27 }
+    ensures { result ≡ true → IsSmall c }
 {
     -(1 << 27) <= c.raw() && c.raw() <= 1 << 27
 }
 
-// Whether signals are below 32,768.
-#[inline(always)]
-fn are_short(x: Num, x1: Num, x2: Num, y1: Num, y2: Num) -> bool
-    ensures inputs { result ≡ true
-        → (unsigned_abs x ≤ 2 ^ 31) × (unsigned_abs x1 ≤ 2 ^ 31) × (unsigned_abs x2 ≤ 2 ^ 31) }
-    ensures results { result ≡ true → (unsigned_abs y1 ≤ 2 ^ 31) × (unsigned_abs y2 ≤ 2 ^ 31) }
-{
-    is_short(x) && is_short(x1) && is_short(x2) && is_short(y1) && is_short(y2)
-}
-
+// Whether a signal is below 32,768.
 #[inline(always)]
 fn is_short(x: Num) -> bool
-    ensures { result ≡ true → unsigned_abs x ≤ 2 ^ 31 }
+    ensures { result ≡ true → IsShort x }
 {
-    -(1 << 31) <= x.raw() && x.raw() <= 1 << 31
+    -(1 << 31) <= x.raw() && x.raw() < 1 << 31
+}
+
+// The same, and so were all before.
+#[inline(always)]
+fn and_short(near: bool, x: Num) -> bool
+    ensures { result ≡ true → (near ≡ true) × IsShort x }
+{
+    near && is_short(x)
 }
 
 #[inline(always)]
 fn near_forward(b0: Num, x: Num, b1: Num, x1: Num, b2: Num, x2: Num) -> i64
-    requires coefficients { (unsigned_abs b0 ≤ 2 ^ 27) × (unsigned_abs b1 ≤ 2 ^ 27) × (unsigned_abs b2 ≤ 2 ^ 27) }
-    requires signals { (unsigned_abs x ≤ 2 ^ 31) × (unsigned_abs x1 ≤ 2 ^ 31) × (unsigned_abs x2 ≤ 2 ^ 31) }
+    requires coefficients { IsSmall b0 × IsSmall b1 × IsSmall b2 }
+    requires signals { IsShort x × IsShort x1 × IsShort x2 }
     ensures value { result ≡ (b0 *ℤ x +ℤ b1 *ℤ x1) +ℤ b2 *ℤ x2 }
     ensures bounded { unsigned_abs result ≤ 2 ^ 60 }
 {
@@ -364,8 +366,8 @@ fn near_forward(b0: Num, x: Num, b1: Num, x1: Num, b2: Num, x2: Num) -> i64
 
 #[inline(always)]
 fn near_back(a1: Num, y1: Num, a2: Num, y2: Num) -> i64
-    requires coefficients { (unsigned_abs a1 ≤ 2 ^ 27) × (unsigned_abs a2 ≤ 2 ^ 27) }
-    requires signals { (unsigned_abs y1 ≤ 2 ^ 31) × (unsigned_abs y2 ≤ 2 ^ 31) }
+    requires coefficients { IsSmall a1 × IsSmall a2 }
+    requires signals { IsShort y1 × IsShort y2 }
     ensures value { result ≡ a1 *ℤ y1 +ℤ a2 *ℤ y2 }
     ensures bounded { unsigned_abs result ≤ 2 ^ 59 }
 {
@@ -374,8 +376,8 @@ fn near_back(a1: Num, y1: Num, a2: Num, y2: Num) -> i64
 
 #[inline(always)]
 fn near_times(c: Num, x: Num) -> i64
-    requires coefficient { unsigned_abs c ≤ 2 ^ 27 }
-    requires signal { unsigned_abs x ≤ 2 ^ 31 }
+    requires coefficient { IsSmall c }
+    requires signal { IsShort x }
     ensures value { result ≡ c *ℤ x }
     ensures bounded { unsigned_abs result ≤ 2 ^ 58 }
 {
@@ -384,8 +386,8 @@ fn near_times(c: Num, x: Num) -> i64
 
 #[inline(always)]
 fn near_product(c: i64, x: i64) -> i64
-    requires coefficient { unsigned_abs c ≤ 2 ^ 27 }
-    requires signal { unsigned_abs x ≤ 2 ^ 31 }
+    requires coefficient { IsSmall c }
+    requires signal { IsShort x }
     ensures value { result ≡ c *ℤ x }
     ensures bounded { unsigned_abs result ≤ 2 ^ 58 }
 {
@@ -413,18 +415,6 @@ fn near_less(x: i64, y: i64) -> i64
 }
 
 #[inline(always)]
-fn near_ratio(n: i64, a0: Num, divisor: Option<Divisor>) -> Num
-    requires bounded { unsigned_abs n < 2 ^ 61 }
-    requires known { IfSome divisor (λ d. d.value ≡ a0) }
-    ensures { result ≡ ratio n a0 }
-{
-    match divisor {
-        Some(divisor) => divided(n, a0, divisor),
-        None => ratio(i128::from(n), a0.raw()),
-    }
-}
-
-#[inline(always)]
 fn divided(n: i64, a0: Num, divisor: Divisor) -> Num
     requires bounded { unsigned_abs n < 2 ^ 61 }
     requires known { divisor.value ≡ a0 }
@@ -433,12 +423,12 @@ fn divided(n: i64, a0: Num, divisor: Divisor) -> Num
     bounded(divisor.divide(n))
 }
 
-// A quotient brought into range, which it seldom leaves: a test, since the next step waits for it.
+// A quotient brought into range. Mostly it is short: a test, since the next step waits for it.
 #[inline(always)]
 fn bounded(quotient: i64) -> Num
     ensures { result ≡ clamp quotient }
 {
-    if -(1 << 47) <= quotient && quotient < 1 << 47 {
+    if -(1 << 31) <= quotient && quotient < 1 << 31 {
         Num::exact(quotient)
     } else {
         far(quotient)

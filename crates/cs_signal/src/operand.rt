@@ -1,6 +1,6 @@
 // What a unit is given over a control cycle.
 ghost use Rattle.std.specs.Prelude.{◌≡◌, ◌<◌, length};
-ghost use Rattle.cs_signal.specs.Operands.{argument, operand_at, Lasts};
+ghost use Rattle.cs_signal.specs.Operands.{argument, operand_at, Lasts, Reaches};
 
 use cs_base::Num;
 
@@ -22,6 +22,18 @@ impl Operand<'_> {
             Operand::Row(values) => argument(values, frame),
         }
     }
+
+    /// Its value at a frame that it has a value for.
+    #[inline(always)]
+    pub fn value(&self, frame: usize) -> Num
+        requires { Reaches frame self.now }
+        ensures { result ≡ operand_at self.now frame }
+    {
+        match self {
+            Operand::Held(value) => *value,
+            Operand::Row(values) => row_value(values, frame),
+        }
+    }
 }
 
 impl<'r> Operand<'r> {
@@ -35,6 +47,15 @@ impl<'r> Operand<'r> {
             Operand::Row(values) => Operand::Row(*values),
         }
     }
+}
+
+// The value of a row at a frame that it has.
+#[inline(always)]
+fn row_value(values: &[Num], frame: usize) -> Num
+    requires { frame < length values.now }
+    ensures { result ≡ argument values.now frame }
+{
+    values[frame]
 }
 
 /// An argument by its place, counted from 0; one that is missing is 0.

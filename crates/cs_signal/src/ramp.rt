@@ -1,9 +1,9 @@
 // A straight line through many steps, by sums alone.
-ghost use Rattle.std.specs.Prelude.{◌≡◌, ◌<◌, ◌≤◌, ◌+◌, ◌^◌, length, pos, ◌+ℤ◌, ◌-ℤ◌, ◌*ℤ◌, unsigned_abs};
+ghost use Rattle.std.specs.Prelude.{◌≡◌, ◌<◌, ◌≤◌, ◌+◌, ◌*◌, ◌^◌, length, pos, ◌+ℤ◌, ◌-ℤ◌, ◌*ℤ◌, unsigned_abs};
 ghost use Rattle.std.specs.Int.{int_rem_euclid};
-ghost use Rattle.cs_base.specs.Numbers.{IsRaw, clamp};
+ghost use Rattle.cs_base.specs.Numbers.{IsRaw, clamp, floor_div};
 ghost use Rattle.cs_signal.specs.Pace.{last_number};
-ghost use Rattle.cs_signal.specs.inner.Ramp.{IsAdvanced, IsParted, ramp_of};
+ghost use Rattle.cs_signal.specs.inner.Ramp.{IsAdvanced, IsInverse, IsParted, ramp_of};
 
 use crate::line::{quotient, raised, rise, times};
 use cs_base::Num;
@@ -21,26 +21,109 @@ pub(crate) fn ramp(from: Num, to: Num, n: u64, d: u64, out: &mut [Num])
     requires number { n ≤ last_number }
     ensures { out.new ≡ ramp_of from to n d (length out.old) }
 {
-    if n <= d && (out.len() as u64).saturating_sub(1) <= d - n {
+    let count = out.len() as u64;
+    if n <= d && count <= 4096 && d <= 1 << 26 && n + count <= d + 1 {
         between_ends(from, to, n, d, out);
     } else {
         anywhere(from, to, n, d, out);
     }
 }
 
-// The same up to the end of the way: each value lies between the two, so that nothing is brought into range.
+// The same up to the end of a way of at most 2^26 steps: each value lies between the two, so that nothing is brought
+// into range, and sums in 2^64ths come near enough.
 fn between_ends(from: Num, to: Num, n: u64, d: u64, out: &mut [Num])
     requires some { 1 ≤ d }
+    requires short { d ≤ 2 ^ 26 }
     requires number { n ≤ last_number }
     requires begun { n ≤ d }
     requires room { n + length out.old ≤ d + 1 }
+    requires few { length out.old ≤ 4096 }
     ensures { out.new ≡ ramp_of from to n d (length out.old) }
 {
-    let step = near_rise(from, to, d);
-    let mut at = risen(from, part_of(from, to, n, d));
+    let inverse = inverse_of(d);
+    let step = told(near_rise(from, to, d), inverse);
+    let mut at = told(risen(from, part_of(from, to, n, d)), inverse);
     for j in 0..out.len() {
-        out[j] = Num::exact(at.whole);
-        at = next(at, step, d);
+        out[j] = value(at);
+        at = next(at, step);
+    }
+}
+
+// How many 2^64ths the inverse of a number is, rounded up.
+fn inverse_of(d: u64) -> u128
+    requires { 1 ≤ d }
+    ensures near { IsInverse d result }
+    ensures small { result ≤ 2 ^ 64 }
+{
+    u128::from(u64::MAX / d) + 1
+}
+
+// A number in 2^64ths.
+#[derive(Clone, Copy)]
+struct Fine {
+    parts: i128,
+}
+
+// A number in 2^64ths, its rest by the inverse of the divisor.
+fn told(number: Near, inverse: u128) -> Fine
+    requires whole { unsigned_abs number.whole < 2 ^ 48 }
+    requires rest { number.rest < 2 ^ 26 }
+    requires inverse { inverse ≤ 2 ^ 64 }
+    ensures value { result.parts ≡ (number.whole *ℤ pos 18446744073709551616) +ℤ pos (number.rest * inverse) }
+    ensures bounded { unsigned_abs result.parts < 2 ^ 113 }
+{
+    Fine {
+        parts: plus(lifted(number.whole), product(number.rest, inverse)),
+    }
+}
+
+// A whole number in 2^64ths.
+fn lifted(whole: i64) -> i128
+    requires { unsigned_abs whole < 2 ^ 48 }
+    ensures value { result ≡ whole *ℤ pos 18446744073709551616 }
+    ensures bounded { unsigned_abs result < 2 ^ 112 }
+{
+    i128::from(whole) * 18_446_744_073_709_551_616
+}
+
+// The exact product.
+fn product(rest: u64, inverse: u128) -> i128
+    requires rest { rest < 2 ^ 26 }
+    requires inverse { inverse ≤ 2 ^ 64 }
+    ensures value { result ≡ pos (rest * inverse) }
+    ensures bounded { unsigned_abs result ≤ 2 ^ 90 }
+{
+    (u128::from(rest) * inverse) as i128
+}
+
+// The value of a step.
+#[inline(always)]
+fn value(at: Fine) -> Num
+    requires bounded { unsigned_abs at.parts ≤ 2 ^ 125 }
+    requires range { IsRaw (floor_div at.parts (pos 18446744073709551616)) }
+    ensures { result ≡ floor_div at.parts (pos 18446744073709551616) }
+{
+    Num::exact(whole(at.parts))
+}
+
+// How many wholes a number in 2^64ths has.
+#[inline(always)]
+fn whole(parts: i128) -> i64
+    requires { unsigned_abs parts ≤ 2 ^ 125 }
+    ensures { result ≡ floor_div parts (pos 18446744073709551616) }
+{
+    (parts >> 64) as i64
+}
+
+// A number of a ramp one step on.
+#[inline(always)]
+fn next(at: Fine, by: Fine) -> Fine
+    requires at { unsigned_abs at.parts < 2 ^ 125 }
+    requires by { unsigned_abs by.parts < 2 ^ 113 }
+    ensures { result.parts ≡ at.parts +ℤ by.parts }
+{
+    Fine {
+        parts: plus(at.parts, by.parts),
     }
 }
 
@@ -85,29 +168,6 @@ fn sum(from: i64, whole: i128) -> i64
     ensures { result ≡ from +ℤ whole }
 {
     (i128::from(from) + whole) as i64
-}
-
-// A value of a ramp one step on.
-#[inline(always)]
-fn next(at: Near, by: Near, d: u64) -> Near
-    requires at { at.rest < d }
-    requires by { by.rest < d }
-    requires range { IsRaw at.whole }
-    requires near { unsigned_abs by.whole < 2 ^ 48 }
-    ensures { IsAdvanced d at.whole at.rest by.whole by.rest result.whole result.rest }
-{
-    let left = d - by.rest;
-    if at.rest < left {
-        Near {
-            whole: at.whole + by.whole,
-            rest: at.rest + by.rest,
-        }
-    } else {
-        Near {
-            whole: at.whole + by.whole + 1,
-            rest: at.rest - left,
-        }
-    }
 }
 
 // The same wherever the parts lie.
@@ -203,8 +263,8 @@ fn advanced(at: Parts, by: Parts, d: u64) -> Parts
 
 #[inline(always)]
 fn plus(x: i128, y: i128) -> i128
-    requires x { unsigned_abs x < 2 ^ 121 }
-    requires y { unsigned_abs y < 2 ^ 48 }
+    requires x { unsigned_abs x < 2 ^ 125 }
+    requires y { unsigned_abs y < 2 ^ 113 }
     ensures value { result ≡ x +ℤ y }
     ensures bounded { unsigned_abs result ≤ unsigned_abs x + unsigned_abs y }
 {

@@ -34,33 +34,39 @@ pub(crate) fn step_by_step<S: Stepper>(unit: &mut S, inputs: &[Operand], out: &m
     };
 }
 
-#[inline(always)]
+#[inline(never)]
 fn by_one<S: Stepper>(start: S, x: &Operand, out: &mut [Num]) -> S
+    requires { Lasts (length out.old) x.now }
     ensures { (result, out.new) ≡ run S.stepped (λ j. operand_at x.now j ∷ []) start 0 (length out.old) }
 {
     let x = x.copied();
     let mut unit = start;
     for j in 0..out.len() {
-        out[j] = unit.step(&[x.at(j)]);
+        out[j] = unit.step(&[x.value(j)]);
     }
     unit
 }
 
-#[inline(always)]
+#[inline(never)]
 fn by_two<S: Stepper>(start: S, x: &Operand, y: &Operand, out: &mut [Num]) -> S
+    requires x { Lasts (length out.old) x.now }
+    requires y { Lasts (length out.old) y.now }
     ensures { (result, out.new)
         ≡ run S.stepped (λ j. operand_at x.now j ∷ operand_at y.now j ∷ []) start 0 (length out.old) }
 {
     let (x, y) = (x.copied(), y.copied());
     let mut unit = start;
     for j in 0..out.len() {
-        out[j] = unit.step(&[x.at(j), y.at(j)]);
+        out[j] = unit.step(&[x.value(j), y.value(j)]);
     }
     unit
 }
 
-#[inline(always)]
+#[inline(never)]
 fn by_three<S: Stepper>(start: S, x: &Operand, y: &Operand, z: &Operand, out: &mut [Num]) -> S
+    requires x { Lasts (length out.old) x.now }
+    requires y { Lasts (length out.old) y.now }
+    requires z { Lasts (length out.old) z.now }
     ensures { (result, out.new)
         ≡ run S.stepped (λ j. operand_at x.now j ∷ operand_at y.now j ∷ operand_at z.now j ∷ []) start 0
         (length out.old) }
@@ -68,7 +74,7 @@ fn by_three<S: Stepper>(start: S, x: &Operand, y: &Operand, z: &Operand, out: &m
     let (x, y, z) = (x.copied(), y.copied(), z.copied());
     let mut unit = start;
     for j in 0..out.len() {
-        out[j] = unit.step(&[x.at(j), y.at(j), z.at(j)]);
+        out[j] = unit.step(&[x.value(j), y.value(j), z.value(j)]);
     }
     unit
 }

@@ -9,11 +9,6 @@ pub step_at : {S : Type 0} (step : S → List ℤ → S × ℤ) (s : S) (x x' : 
     result ≡ step s (x ∷ points) → x ≡ x' → points ≡ points' → result ≡ step s (x' ∷ points')
 step_at step s x x' points points' result e p q = cc
 
-pub step_at_both : {S : Type 0} (step : S → List ℤ → S × ℤ) (s : S) (x x' y y' : ℤ) (points points' : List ℤ)
-    (result : S × ℤ) →
-    result ≡ step s (x ∷ y ∷ points) → x ≡ x' → y ≡ y' → points ≡ points' → result ≡ step s (x' ∷ y' ∷ points')
-step_at_both step s x x' y y' points points' result e p q r = cc
-
 -- a block whose frequency is held: before its first step
 pub held_none : (step : Turning → List ℤ → Turning × ℤ) (at : ℕ → List ℤ) (t : Turning) (phase : ℕ) (out : List ℤ)
     → phase ≡ t.phase →

@@ -127,7 +127,7 @@ fn play<R: Reading, C: Curve>(
             }
         }
         (Operand::Row(amp), Operand::Held(cps)) => shaped::<R, C>(unit, amp, *cps, curve, out),
-        _ => along::<R, C>(unit, amp, cps, curve, out),
+        (_, Operand::Row(cps)) => along::<R, C>(unit, amp, cps, curve, out),
     }
 }
 
@@ -178,24 +178,31 @@ fn shaped<R: Reading, C: Curve>(
     unit.phase.set(phase);
 }
 
-// The frequency changes from frame to frame.
-#[inline(always)]
+// The frequency changes from frame to frame. It stands alone: its many constants would take the registers of the other
+// loops.
+#[inline(never)]
 fn along<R: Reading, C: Curve>(
     unit: &mut Oscillator,
     amp: &Operand,
-    cps: &Operand,
+    cps: &[Num],
     curve: &mut C,
     out: &mut [Num],
 )
+    requires amp { Lasts (length out.old) amp.now }
+    requires cps { length cps.now ≡ length out.old }
     ensures value { (unit.new, out.new) ≡ run (wave_step R.on_turn)
-        (λ j. operand_at amp.now j ∷ operand_at cps.now j ∷ C.points curve.old) unit.old 0 (length out.old) }
+        (λ j. operand_at amp.now j ∷ argument cps.now j ∷ C.points curve.old) unit.old 0 (length out.old) }
     ensures same { C.points curve.new ≡ C.points curve.old }
     ensures kept { C.kept curve.old curve.new }
 {
-    let (amp, cps) = (amp.copied(), cps.copied());
+    let amp = amp.copied();
+    let turning = unit.phase.copied();
+    let mut phase = turning.get();
     for j in 0..out.len() {
-        out[j] = unit.step_on::<R, C>(amp.at(j), cps.at(j), curve);
+        out[j] = wave::<R, C>(amp.value(j), curve, phase);
+        phase = moved(phase, turning.parts_at(cps[j]));
     }
+    unit.phase.set(phase);
 }
 
 // The amplitude times the curve at a phase.

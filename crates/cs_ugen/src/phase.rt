@@ -74,10 +74,35 @@ impl Phase {
         ensures same { self.new ≡ self.old }
     {
         if cps.raw() != self.cps.raw() {
-            self.parts = parts_of(self.rate, self.sr, self.ksmps, cps, self.divisor);
+            self.parts = self.parts_at(cps);
             self.cps = cps;
         }
         self.parts
+    }
+
+    /// The same, where the frequency mostly is another one at each step.
+    #[inline(always)]
+    pub(crate) fn parts_at(&self, cps: Num) -> Angle
+        ensures value { result ≡ within_turn (increment self.now.rate self.now.pace cps) }
+        ensures small { result < turn }
+    {
+        parts_of(self.rate, self.sr, self.ksmps, cps, self.divisor)
+    }
+
+    /// The same phase, for a loop.
+    #[inline(always)]
+    pub(crate) fn copied(&self) -> Phase
+        ensures { result ≡ self.now }
+    {
+        Phase {
+            rate: self.rate,
+            sr: self.sr,
+            ksmps: self.ksmps,
+            phase: self.phase,
+            cps: self.cps,
+            parts: self.parts,
+            divisor: self.divisor,
+        }
     }
 
     /// The phase of the next step.
@@ -110,20 +135,18 @@ fn parts_of(rate: Rate, sr: u32, ksmps: u32, cps: Num, divisor: Divisor) -> Angl
     ensures small { result < turn }
 {
     match rate {
-        Rate::Audio => parts(cps, 256, sr, divisor),
-        Rate::Init | Rate::Control => parts(cps, 256 * ksmps, sr, divisor),
+        Rate::Audio => within_turn(i128::from(divisor.divide(scaled(cps)))),
+        Rate::Init | Rate::Control => within_turn(floored(times(cps, 256 * ksmps), sr, divisor)),
     }
 }
 
+// 256 times a frequency, which is within 56 bits.
 #[inline(always)]
-fn parts(cps: Num, factor: u32, sr: u32, divisor: Divisor) -> Angle
-    requires some { 1 ≤ sr }
-    requires divisor { divisor.value ≡ pos sr }
-    requires few { factor ≤ 2 ^ 20 }
-    ensures value { result ≡ within_turn (floor_div (cps *ℤ pos factor) (pos sr)) }
-    ensures small { result < turn }
+fn scaled(cps: Num) -> i64
+    ensures value { result ≡ cps *ℤ pos 256 }
+    ensures bounded { unsigned_abs result ≤ 2 ^ 61 }
 {
-    within_turn(floored(times(cps, factor), sr, divisor))
+    cps.raw() * 256
 }
 
 // The exact product.

@@ -86,14 +86,19 @@ fn held(unit: &mut Phasor, cps: Num, out: &mut [Num])
     unit.phase.set(phase);
 }
 
+#[inline(never)]
 fn along(unit: &mut Phasor, cps: &[Num], out: &mut [Num])
     requires { length cps.now ≡ length out.old }
     ensures { (unit.new, out.new)
         ≡ run phasor_step (λ j. argument cps.now j ∷ []) unit.old 0 (length out.old) }
 {
+    let turning = unit.phase.copied();
+    let mut phase = turning.get();
     for j in 0..out.len() {
-        out[j] = unit.step(cps[j]);
+        out[j] = ramp(phase);
+        phase = moved(phase, turning.parts_at(cps[j]));
     }
+    unit.phase.set(phase);
 }
 
 // A phase in 65,536ths of a turn.

@@ -71,7 +71,7 @@ impl TableReader {
     {
         let ndx = ndx.copied();
         for j in 0..out.len() {
-            out[j] = self.step_on::<R, C>(ndx.at(j), curve);
+            out[j] = self.step_on::<R, C>(ndx.value(j), curve);
         }
     }
 }

@@ -27,3 +27,18 @@ pub record HasRamped (from to : ℤ) (n d count j : ℕ) (whole : ℤ) (rest : �
   pub done : take j out ≡ ramp_of from to n d j
   pub parts : IsParted ((to -ℤ from) *ℤ pos (n + j)) d whole rest
   pub bound : unsigned_abs whole ≤ 2 ^ 111 + 2 ^ 49 * j
+
+-- about how many 2^64ths the inverse of a divisor is: rounded up
+abbrev pub IsInverse : ℕ → ℕ → Type 0
+IsInverse d inverse = (18446744073709551616 ≤ inverse * d) × (inverse * d < 18446744073709551616 + d)
+
+-- of a ramp the first j values stand, and `at` tells the next one in 2^64ths: `whole`, and `over` parts of the divisor
+pub record HasRisen (from to : ℤ) (n d inverse count j : ℕ) (at : ℤ) (out : List ℤ) : Type 0 where
+  pub long : length out ≡ count
+  pub done : take j out ≡ ramp_of from to n d j
+  pub whole : ℤ
+  pub over : ℕ
+  pub told : at ≡ (whole *ℤ pos 18446744073709551616) +ℤ pos (over * inverse)
+  pub sum : (to -ℤ from) *ℤ pos (n + j) ≡ ((whole -ℤ from) *ℤ pos d) +ℤ pos over
+  pub few : over < (j + 1) * d
+  pub bound : unsigned_abs at < 2 ^ 113 * (j + 1)

@@ -1,11 +1,16 @@
-use Rattle.std.proofs.Common.{◌∷◌, [], length, refl, ap, ◌∙◌}
-use Rattle.cs_signal.specs.Operands.{operand_at}
+use Rattle.std.proofs.Common.{◌∷◌, [], length, refl, ap, sym, ◌∙◌, subst}
+use Rattle.cs_signal.specs.Operands.{Reaches, operand_at}
+use Rattle.cs_signal.proofs.Operands.{reaches}
 use Rattle.cs_signal.proofs.Walks.{HasRun_none, HasRun_step, HasRun_end}
 use Rattle.cs_signal.proofs.stepwise.by_one.Goals as goal
 
 pub loop-j-init : goal.loop-j-init
 loop-j-init g c = HasRun_none g.S.Stepper.stepped (λ j. operand_at c.args.x.now j ∷ []) c.args.start
     (length c.args.out.now) c.args.out.now refl
+
+pub value-requires : goal.value-requires
+value-requires g c = subst (Reaches c.loop-j.j) (sym c.copied-x.ensures)
+    (reaches (length c.args.out.now) c.loop-j.j c.args.x.now c.requires c.loop-j-test.true)
 
 pub loop-j-preserved : goal.loop-j-preserved
 loop-j-preserved g c =
@@ -14,7 +19,7 @@ loop-j-preserved g c =
     c.loop-j.invariant c.loop-j-test.true
     (c.step.ensures
     ∙ ap (λ z. g.S.Stepper.stepped c.loop-j.unit (z ∷ []))
-    (c.at.ensures ∙ ap (λ o. operand_at o c.loop-j.j) c.copied-x.ensures))
+    (c.value.ensures ∙ ap (λ o. operand_at o c.loop-j.j) c.copied-x.ensures))
 
 pub returns : goal.returns
 returns g c =

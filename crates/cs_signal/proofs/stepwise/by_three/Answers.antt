@@ -1,5 +1,6 @@
-use Rattle.std.proofs.Common.{◌∷◌, [], length, refl, ap, ◌∙◌}
-use Rattle.cs_signal.specs.Operands.{operand_at}
+use Rattle.std.proofs.Common.{◌∷◌, [], length, refl, ap, sym, ◌∙◌, subst}
+use Rattle.cs_signal.specs.Operands.{Reaches, operand_at}
+use Rattle.cs_signal.proofs.Operands.{reaches}
 use Rattle.cs_signal.proofs.Walks.{HasRun_none, HasRun_step, HasRun_end}
 use Rattle.cs_signal.proofs.stepwise.by_three.Goals as goal
 
@@ -9,6 +10,18 @@ loop-j-init g c =
     (λ j. operand_at c.args.x.now j ∷ operand_at c.args.y.now j ∷ operand_at c.args.z.now j ∷ [])
     c.args.start (length c.args.out.now) c.args.out.now refl
 
+pub value-requires : goal.value-requires
+value-requires g c = subst (Reaches c.loop-j.j) (sym c.copied-x.ensures)
+    (reaches (length c.args.out.now) c.loop-j.j c.args.x.now c.requires.x c.loop-j-test.true)
+
+pub value-requires-in-loop-j : goal.value-requires-in-loop-j
+value-requires-in-loop-j g c = subst (Reaches c.loop-j.j) (sym c.copied-y.ensures)
+    (reaches (length c.args.out.now) c.loop-j.j c.args.y.now c.requires.y c.loop-j-test.true)
+
+pub value-requires-in-loop-j-2 : goal.value-requires-in-loop-j-2
+value-requires-in-loop-j-2 g c = subst (Reaches c.loop-j.j) (sym c.copied-z.ensures)
+    (reaches (length c.args.out.now) c.loop-j.j c.args.z.now c.requires.z c.loop-j-test.true)
+
 pub loop-j-preserved : goal.loop-j-preserved
 loop-j-preserved g c =
     HasRun_step g.S.Stepper.stepped
@@ -16,14 +29,14 @@ loop-j-preserved g c =
     c.args.start (length c.args.out.now) c.loop-j.j c.loop-j.unit c.step.new.self c.loop-j.out c.step.result
     c.loop-j.invariant c.loop-j-test.true
     (c.step.ensures
-    ∙ ap (λ z. g.S.Stepper.stepped c.loop-j.unit (z ∷ c.at-in-loop-j.result ∷ c.at-in-loop-j-2.result ∷ []))
-    (c.at.ensures ∙ ap (λ o. operand_at o c.loop-j.j) c.copied-x.ensures)
+    ∙ ap (λ z. g.S.Stepper.stepped c.loop-j.unit (z ∷ c.value-in-loop-j.result ∷ c.value-in-loop-j-2.result ∷ []))
+    (c.value.ensures ∙ ap (λ o. operand_at o c.loop-j.j) c.copied-x.ensures)
     ∙ ap (λ z. g.S.Stepper.stepped c.loop-j.unit
-    (operand_at c.args.x.now c.loop-j.j ∷ z ∷ c.at-in-loop-j-2.result ∷ []))
-    (c.at-in-loop-j.ensures ∙ ap (λ o. operand_at o c.loop-j.j) c.copied-y.ensures)
+    (operand_at c.args.x.now c.loop-j.j ∷ z ∷ c.value-in-loop-j-2.result ∷ []))
+    (c.value-in-loop-j.ensures ∙ ap (λ o. operand_at o c.loop-j.j) c.copied-y.ensures)
     ∙ ap (λ z. g.S.Stepper.stepped c.loop-j.unit
     (operand_at c.args.x.now c.loop-j.j ∷ operand_at c.args.y.now c.loop-j.j ∷ z ∷ []))
-    (c.at-in-loop-j-2.ensures ∙ ap (λ o. operand_at o c.loop-j.j) c.copied-z.ensures))
+    (c.value-in-loop-j-2.ensures ∙ ap (λ o. operand_at o c.loop-j.j) c.copied-z.ensures))
 
 pub returns : goal.returns
 returns g c =

@@ -1,40 +1,61 @@
-use Rattle.std.proofs.Common.{◌∷◌, ℕ, length, refl, ap, ◌∙◌}
-use Rattle.cs_ugen.specs.Oscil.{wave_step}
-use Rattle.cs_signal.specs.Operands.{operand_at}
-use Rattle.cs_signal.proofs.Walks.{HasRun_none, HasRun_step, HasRun_end}
-use Rattle.cs_ugen.proofs.Loops.{step_at_both}
+use Rattle.std.proofs.Common.{ℕ, ◌≡◌, ◌∷◌, length, refl, ap, sym, subst, ◌∙◌, arith}
+use Rattle.cs_ugen.specs.Phases.{at_phase, increment, within_turn}
+use Rattle.cs_base.specs.Numbers.{product_of}
+use Rattle.cs_ugen.specs.Oscil.{wave_by, wave_step}
+use Rattle.cs_signal.proofs.Operands.{reaches}
+use Rattle.cs_signal.proofs.Walks.{read}
+use Rattle.cs_signal.specs.Operands.{Reaches, argument, operand_at}
+use Rattle.cs_ugen.proofs.Loops.{held_none, held_more, held_end}
 use Rattle.cs_ugen.proofs.oscillator.along.Goals as goal
 
 pub loop-j-init : goal.loop-j-init
-loop-j-init g c = (
-  HasRun_none (wave_step g.R.Reading.on_turn)
-      (λ (j : ℕ). operand_at c.args.amp.now j ∷ operand_at c.args.cps.now j ∷ g.C.Curve.points c.args.curve.now)
-      c.args.unit.now (length c.args.out.now) c.args.out.now refl,
-  refl,
-  g.met.C.Curve.stays c.args.curve.now,
-)
+loop-j-init g c =
+    let same = c.get-phase.ensures.value ∙ ap (λ p. p.phase) (c.copied-turning.ensures ∙ c.unit.view_is) in (
+      held_none (wave_step g.R.Reading.on_turn)
+          (λ (j : ℕ). operand_at c.args.amp.now j ∷ argument c.args.cps.now j ∷ g.C.Curve.points c.args.curve.now)
+          c.args.unit.now c.get-phase.result c.args.out.now same,
+      c.get-phase.ensures.small,
+      refl,
+      g.met.C.Curve.stays c.args.curve.now,
+    )
+
+pub value-requires : goal.value-requires
+value-requires g c = subst (Reaches c.loop-j.j) (sym c.copied-amp.ensures)
+    (reaches (length c.args.out.now) c.loop-j.j c.args.amp.now c.requires.amp c.loop-j-test.true)
 
 pub loop-j-preserved : goal.loop-j-preserved
 loop-j-preserved g c =
+    let t = c.args.unit.now in
+    let j = c.loop-j.j in
     let so_far = c.loop-j.invariant in
-    let step = c.step_on.ensures in (
-      HasRun_step (wave_step g.R.Reading.on_turn)
-          (λ (j : ℕ). operand_at c.args.amp.now j ∷ operand_at c.args.cps.now j ∷ g.C.Curve.points c.args.curve.now)
-          c.args.unit.now (length c.args.out.now) c.loop-j.j c.loop-j.unit c.step_on.new.self c.loop-j.out
-          c.step_on.result so_far.0 c.loop-j-test.true
-          (step_at_both (wave_step g.R.Reading.on_turn) c.loop-j.unit c.at.result _ c.at-in-loop-j.result _ _ _ _
-          step.value (c.at.ensures ∙ ap (λ o. operand_at o c.loop-j.j) c.copied-amp.ensures)
-          (c.at-in-loop-j.ensures ∙ ap (λ o. operand_at o c.loop-j.j) c.copied-cps.ensures) so_far.1),
-      step.same ∙ so_far.1,
-      g.met.C.Curve.chain c.args.curve.now c.loop-j.curve c.step_on.new.curve so_far.2 step.kept,
+    let long = c.requires.cps in
+    let cps = read c.args.cps.now j c.index-cps-j.result c.index-cps-j.is (omega arith) in
+    let parts = c.parts_at.ensures.value
+    ∙ ap (λ p. within_turn (increment p.rate p.pace c.index-cps-j.result)) (c.copied-turning.ensures ∙ c.unit.view_is)
+    ∙ ap (λ z. within_turn (increment t.rate t.pace z)) cps in
+    let amp = c.value.ensures ∙ ap (λ o. operand_at o j) c.copied-amp.ensures in
+    let inputs = operand_at c.args.amp.now j ∷ argument c.args.cps.now j ∷ g.C.Curve.points c.args.curve.now in
+    let now : c.wave.result ≡ wave_by g.R.Reading.on_turn c.loop-j.phase inputs =
+    c.wave.ensures.value ∙ ap (λ a. product_of a (g.R.Reading.on_turn (g.C.Curve.points c.loop-j.curve) c.loop-j.phase))
+    amp ∙ ap (λ ps. product_of (operand_at c.args.amp.now j) (g.R.Reading.on_turn ps c.loop-j.phase)) so_far.2 in (
+      held_more (wave_step g.R.Reading.on_turn)
+          (λ (j : ℕ). operand_at c.args.amp.now j ∷ argument c.args.cps.now j ∷ g.C.Curve.points c.args.curve.now) t
+          (argument c.args.cps.now j) (length c.args.out.now) j c.parts_at.result c.loop-j.phase c.moved-phase.result
+          c.loop-j.out c.wave.result (wave_by g.R.Reading.on_turn c.loop-j.phase inputs) so_far.0
+          c.loop-j-test.true parts c.moved-phase.ensures.value now refl,
+      c.moved-phase.ensures.small,
+      c.wave.ensures.same ∙ so_far.2,
+      g.met.C.Curve.chain c.args.curve.now c.loop-j.curve c.wave.new.curve so_far.3 c.wave.ensures.kept,
     )
 
 pub returns : goal.returns
 returns g c =
-    let done = c.loop-j.invariant in record {
-      value = HasRun_end (wave_step g.R.Reading.on_turn)
-          (λ (j : ℕ). operand_at c.args.amp.now j ∷ operand_at c.args.cps.now j ∷ g.C.Curve.points c.args.curve.now)
-          c.args.unit.now (length c.args.out.now) c.loop-j.j c.loop-j.unit c.loop-j.out done.0 c.loop-j-test.false;
-      same = done.1;
-      kept = done.2;
+    let so_far = c.loop-j.invariant in
+    record {
+      value = held_end (wave_step g.R.Reading.on_turn)
+          (λ (j : ℕ). operand_at c.args.amp.now j ∷ argument c.args.cps.now j ∷ g.C.Curve.points c.args.curve.now)
+          c.args.unit.now c.set.new.self (length c.args.out.now) c.loop-j.j c.loop-j.phase c.loop-j.out so_far.0
+          c.loop-j-test.false (c.set.ensures ∙ ap (λ p. at_phase p c.loop-j.phase) c.unit.view_is);
+      same = so_far.2;
+      kept = so_far.3;
     }

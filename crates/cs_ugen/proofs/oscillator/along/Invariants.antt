@@ -1,12 +1,13 @@
-use Rattle.std.proofs.Common.{◌≡◌, ◌∷◌, length}
+use Rattle.std.proofs.Common.{◌≡◌, ◌∷◌, ◌<◌, length}
 use Rattle.cs_ugen.specs.Oscil.{wave_step}
-use Rattle.cs_signal.specs.Operands.{operand_at}
+use Rattle.cs_ugen.specs.Phases.{at_phase, turn}
+use Rattle.cs_signal.specs.Operands.{argument, operand_at}
 use Rattle.cs_signal.specs.Walk.{HasRun}
 use Rattle.cs_ugen.proofs.oscillator.along.Given as goal
 
 abbrev pub invariant-loop-j : goal.invariant-loop-j
 invariant-loop-j g l =
     HasRun (wave_step g.R.Reading.on_turn)
-    (λ j. operand_at l.fn.amp j ∷ operand_at l.fn.cps j ∷ g.C.Curve.points l.fn.curve) l.fn.unit
-    (length l.fn.out) l.j l.unit l.out
-    × (g.C.Curve.points l.curve ≡ g.C.Curve.points l.fn.curve) × g.C.Curve.kept l.fn.curve l.curve
+    (λ j. operand_at l.fn.amp j ∷ argument l.fn.cps j ∷ g.C.Curve.points l.fn.curve) l.fn.unit
+    (length l.fn.out) l.j (at_phase l.fn.unit l.phase) l.out
+    × (l.phase < turn) × (g.C.Curve.points l.curve ≡ g.C.Curve.points l.fn.curve) × g.C.Curve.kept l.fn.curve l.curve

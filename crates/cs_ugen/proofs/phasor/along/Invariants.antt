@@ -1,8 +1,11 @@
-use Rattle.std.proofs.Common.{◌∷◌, [], length}
+use Rattle.std.proofs.Common.{◌∷◌, [], ◌<◌, length}
+use Rattle.cs_ugen.specs.Phases.{at_phase, turn}
 use Rattle.cs_ugen.specs.Phasor.{phasor_step}
 use Rattle.cs_signal.specs.Operands.{argument}
 use Rattle.cs_signal.specs.Walk.{HasRun}
 use Rattle.cs_ugen.proofs.phasor.along.Given as goal
 
 abbrev pub invariant-loop-j : goal.invariant-loop-j
-invariant-loop-j l = HasRun phasor_step (λ j. argument l.cps j ∷ []) l.fn.unit (length l.fn.out) l.j l.unit l.out
+invariant-loop-j l =
+    HasRun phasor_step (λ j. argument l.cps j ∷ []) l.fn.unit (length l.fn.out) l.j (at_phase l.fn.unit l.phase) l.out
+    × (l.phase < turn)

@@ -1,6 +1,7 @@
-use Rattle.std.proofs.Common.{ℕ, ◌∷◌, length, refl, ap, ◌∙◌}
+use Rattle.std.proofs.Common.{ℕ, ◌∷◌, length, refl, ap, sym, subst, ◌∙◌}
 use Rattle.cs_ugen.specs.Table.{index_step}
-use Rattle.cs_signal.specs.Operands.{operand_at}
+use Rattle.cs_signal.specs.Operands.{Reaches, operand_at}
+use Rattle.cs_signal.proofs.Operands.{reaches}
 use Rattle.cs_signal.proofs.Walks.{HasRun_none, HasRun_step, HasRun_end}
 use Rattle.cs_ugen.proofs.Loops.{step_at}
 use Rattle.cs_ugen.proofs.table.TableReader.block_on.Goals as goal
@@ -15,6 +16,10 @@ loop-j-init g c = (
   g.met.C.Curve.stays c.args.curve.now,
 )
 
+pub value-requires : goal.value-requires
+value-requires g c = subst (Reaches c.loop-j.j) (sym c.copied-ndx.ensures)
+    (reaches (length c.args.out.now) c.loop-j.j c.args.ndx.now c.requires c.loop-j-test.true)
+
 pub loop-j-preserved : goal.loop-j-preserved
 loop-j-preserved g c =
     let so_far = c.loop-j.invariant in
@@ -23,8 +28,8 @@ loop-j-preserved g c =
           (λ (j : ℕ). operand_at c.args.ndx.now j ∷ g.C.Curve.points c.args.curve.now) c.args.self.now
           (length c.args.out.now) c.loop-j.j c.loop-j.self c.step_on.new.self c.loop-j.out c.step_on.result
           so_far.0 c.loop-j-test.true
-          (step_at (index_step g.R.Reading.on_index) c.loop-j.self c.at.result _ _ _ _ step.value
-          (c.at.ensures ∙ ap (λ o. operand_at o c.loop-j.j) c.copied-ndx.ensures) so_far.1),
+          (step_at (index_step g.R.Reading.on_index) c.loop-j.self c.value.result _ _ _ _ step.value
+          (c.value.ensures ∙ ap (λ o. operand_at o c.loop-j.j) c.copied-ndx.ensures) so_far.1),
       step.same ∙ so_far.1,
       g.met.C.Curve.chain c.args.curve.now c.loop-j.curve c.step_on.new.curve so_far.2 step.kept,
     )

@@ -1,0 +1,27 @@
+-- What products and sums of 64 bits need: small coefficients and short signals.
+use Rattle.std.specs.Prelude.{◌≤◌, ◌^◌, ℤ, unsigned_abs}
+use Rattle.cs_signal.specs.Biquad.{BiquadState}
+use Rattle.cs_signal.specs.declared.biquad.Coefficients.{Coefficients}
+
+-- a coefficient of at most 2,048
+abbrev pub IsSmall : ℤ → Type 0
+IsSmall c = unsigned_abs c ≤ 2 ^ 27
+
+-- a signal of at most 32,768
+abbrev pub IsShort : ℤ → Type 0
+IsShort x = unsigned_abs x ≤ 2 ^ 31
+
+-- all factors of signals are small
+pub record AreSmall (by : Coefficients ℤ) : Type 0 where
+  pub b0 : IsSmall by.b0
+  pub b1 : IsSmall by.b1
+  pub b2 : IsSmall by.b2
+  pub a1 : IsSmall by.a1
+  pub a2 : IsSmall by.a2
+
+-- all that a filter keeps is short
+pub record AreShort (s : BiquadState) : Type 0 where
+  pub x1 : IsShort s.x1
+  pub x2 : IsShort s.x2
+  pub y1 : IsShort s.y1
+  pub y2 : IsShort s.y2
