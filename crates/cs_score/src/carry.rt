@@ -8,11 +8,12 @@ ghost use Rattle.cs_score.specs.inner.State.{Ends, IsKept, IsLast, NoteAnswers, 
 ghost use Rattle.cs_score.specs.inner.State.{instr_read, note_read, note_with, p1_before};
 ghost use Rattle.cs_score.specs.inner.Values.{AreValues};
 
+use crate::SharedNums;
 use crate::field::{Field, InstrumentNumber};
 use crate::last::{LastNote, NoteRead};
 use crate::note::{Times, check_count, field_at, gap, p1, p2, timed, values_or, what};
 use crate::statement_fault::StatementFault;
-use cs_base::{Items, Nums};
+use cs_base::Items;
 use std::alloc::{AllocError, Global};
 
 /// Reads an `i` statement by its written fields, after the statements that gave `base` and `last`.
@@ -92,7 +93,7 @@ fn valued(
     let Carried { fields, taken } = carried;
     let more = values_or(alloc, taken, fields.as_slice())?;
     check_count(instr, fields.len())?;
-    let what = what(instr, times, more.to_items(alloc)?);
+    let what = what(instr, times, more.share()?);
     Ok(NoteRead {
         what,
         last: kept(instr, p2, fields, more),
@@ -109,7 +110,7 @@ fn is_same(instr: InstrumentNumber, last: Option<InstrumentNumber>) -> bool
     }
 }
 
-fn kept(instr: InstrumentNumber, p2: u64, fields: Items<Field>, more: Nums) -> LastNote
+fn kept(instr: InstrumentNumber, p2: u64, fields: Items<Field>, more: SharedNums) -> LastNote
     requires instr { IsInstrument instr.number }
     requires p2 { p2 < beats_end }
     requires more { AreValues fields more }
@@ -130,7 +131,7 @@ fn kept(instr: InstrumentNumber, p2: u64, fields: Items<Field>, more: Nums) -> L
 pub struct Carried {
     pub fields: Items<Field>,
     /// The values from p4 on, where all of them are those of the statement before.
-    pub taken: Option<Nums>,
+    pub taken: Option<SharedNums>,
     ghost taken_are_values: { IfSome taken (AreValues fields) } by { Prim.hlevel props },
 }
 

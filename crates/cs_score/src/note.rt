@@ -11,9 +11,9 @@ ghost use Rattle.cs_score.specs.Notes.{fewest, counted, note_by};
 ghost use Rattle.cs_score.specs.inner.State.{Answers, Ends, p1_before};
 ghost use Rattle.cs_score.specs.inner.Values.{AreValues};
 
-use crate::ScoreWhat;
 use crate::field::{Field, InstrumentNumber, Signed};
 use crate::statement_fault::StatementFault;
+use crate::{ScoreWhat, SharedNums};
 use cs_base::{Decimal, GREATEST_FIELD, GREATEST_INSTRUMENT, Items, Nums, ScoreKind};
 use std::alloc::Global;
 
@@ -176,7 +176,7 @@ pub fn values(alloc: Global, dot: ScoreKind, fields: &[Field]) -> Result<Nums, S
     ensures value { Answers result (values_of dot fields.now) }
     ensures len { IfOk result (λ values. length values ≡ length fields.now) }
 {
-    let mut values = Nums::new(alloc);
+    let mut values = Nums::from_vec(Vec::with_capacity(alloc, fields.len())?);
     for field in fields {
         let n = field.number(dot)?;
         values.push(n.num())?;
@@ -187,16 +187,19 @@ pub fn values(alloc: Global, dot: ScoreKind, fields: &[Field]) -> Result<Nums, S
 /// The values of the fields from p4 on, which may be `taken` from the statement before.
 pub fn values_or(
     alloc: Global,
-    taken: Option<Nums>,
+    taken: Option<SharedNums>,
     fields: &[Field],
-) -> Result<Nums, StatementFault>
+) -> Result<SharedNums, StatementFault>
     requires { IfSome taken (AreValues fields.now) }
     ensures value { Answers result (values_of NothingToCarry (drop 3 fields.now)) }
     ensures values { IfOk result (AreValues fields.now) }
 {
     match taken {
         Some(more) => Ok(more),
-        None => values(alloc, ScoreKind::NothingToCarry, rest(fields, 3)),
+        None => {
+            let more = values(alloc, ScoreKind::NothingToCarry, rest(fields, 3))?;
+            Ok(SharedNums::of(more)?)
+        }
     }
 }
 
@@ -216,7 +219,7 @@ pub fn check_count(instr: InstrumentNumber, count: usize) -> Result<(), ScoreKin
 }
 
 /// A stop by its p1, a held note by its p3, or a note.
-pub fn what(instr: InstrumentNumber, times: Times, more: Nums) -> ScoreWhat
+pub fn what(instr: InstrumentNumber, times: Times, more: SharedNums) -> ScoreWhat
     requires instr { IsInstrument instr.number }
     requires at { times.at < beats_end }
     requires ends { Ends instr times.at times.p3 }

@@ -1,9 +1,9 @@
 // The events of a section, at their control cycles.
-ghost use Rattle.std.specs.Prelude.{◌≡◌, ℕ, List, ◌≤◌, ◌<◌, ◌+◌, ◌-◌, ◌*◌, ◌^◌, ◌++◌, ◌∷◌, [], map, length, pos, IfOk};
+ghost use Rattle.std.specs.Prelude.{◌≡◌, ℕ, List, ◌≤◌, ◌<◌, ◌+◌, ◌-◌, ◌*◌, ◌^◌, ◌++◌, [], map, length, pos, IfOk};
 ghost use Rattle.std.specs.Prelude.{OnOk, IfSome};
 ghost use Rattle.std.specs.List.{All};
 ghost use Rattle.cs_score.specs.Ranges.{IsInRange, HasRange, IsInstrument, beats_end};
-ghost use Rattle.cs_tempo.specs.Time.{time_of, seconds_of};
+ghost use Rattle.cs_tempo.specs.Time.{seconds_of};
 ghost use Rattle.cs_tempo.specs.Sections.{reach_of, end_of, cycle_at};
 ghost use Rattle.cs_tempo.specs.Order.{beat_of, in_order};
 ghost use Rattle.cs_tempo.specs.declared.plot.EventAct.{EventAct};
@@ -11,13 +11,14 @@ ghost use Rattle.cs_tempo.specs.Plot.{fields_of, length_in_seconds, held_until, 
 ghost use Rattle.cs_tempo.specs.inner.Events.{in_section, HasEnd, IsTurnIn, Acts};
 
 use crate::clock::Clock;
+use crate::fields::NoteFields;
 use crate::order::in_order;
 use crate::pairing::{StopsByInstrument, stops_by_instrument, take_turn};
 use crate::plot::{Event, EventAct};
 use crate::section::end_of;
 use crate::time::seconds_of;
-use cs_base::{Num, Nums, OutOfMemory};
-use cs_score::{ScoreStmt, ScoreWhat};
+use cs_base::{Num, OutOfMemory};
+use cs_score::{ScoreStmt, ScoreWhat, SharedNums};
 use std::alloc::Global;
 use std::cmp::max;
 
@@ -59,7 +60,7 @@ fn add_events(
     let mut queues = stops_by_instrument(alloc, order)?;
     for statement in order {
         let stop = take_turn(&mut queues, &statement.what);
-        let act = act_of(alloc, clock, cycles, stop, &statement.what)?;
+        let act = act_of(clock, cycles, stop, &statement.what)?;
         push_event(events, clock, offset, cycles, statement, act)?;
     }
     Ok(())
@@ -111,7 +112,6 @@ fn beat_of(what: &ScoreWhat) -> u64
 // What a turn does, where `stop` is the beat of the stop that ends it.
 #[tactic(auto, unfolding(crate::specs::Plot::acts_of))]
 fn act_of(
-    alloc: Global,
     clock: &Clock,
     cycles: u32,
     stop: Option<u64>,
@@ -130,7 +130,7 @@ fn act_of(
             at,
             length,
             more,
-        } => Ok(Some(note(alloc, clock, *instr, *at, *length, more.as_slice())?)),
+        } => Ok(Some(note(clock, *instr, *at, *length, more)?)),
         ScoreWhat::Hold {
             instr,
             at,
@@ -138,7 +138,7 @@ fn act_of(
             more,
         } => {
             let cycles = held_cycles(clock, cycles, *at, stop);
-            let fields = fields_of(alloc, clock, *instr, *at, *given, more.as_slice())?;
+            let fields = fields_of(clock, *instr, *at, *given, more)?;
             Ok(Some(EventAct::Start {
                 instr: *instr,
                 cycles,
@@ -155,7 +155,7 @@ fn act_of(
             number: *number,
             size: *size,
             gen_: *gen_,
-            args: args.to_items(alloc)?,
+            args: args.share()?,
         })),
         ScoreWhat::Stop { .. } => Ok(None),
         ScoreWhat::Extend { .. } => Ok(None),
@@ -166,12 +166,11 @@ fn act_of(
 
 // The start of a note whose length is 0 or more.
 fn note(
-    alloc: Global,
     clock: &Clock,
     instr: u32,
     at: u64,
     length: u64,
-    more: &[Num],
+    more: &SharedNums,
 ) -> Result<EventAct, OutOfMemory>
     requires instr { IsInstrument instr }
     requires end { at + length < beats_end }
@@ -183,7 +182,7 @@ fn note(
         (length_in_seconds clock.now.tempo at length) more.now)) }
 {
     let p3 = seconds_of(clock.span(at, at + length));
-    let fields = fields_of(alloc, clock, instr, at, Num::of_raw(p3), more)?;
+    let fields = fields_of(clock, instr, at, Num::of_raw(p3), more)?;
     let cycles = (end_of(clock, at, length) - clock.cycle(at)) as u32;
     Ok(EventAct::Start {
         instr,
@@ -210,23 +209,18 @@ fn held_cycles(clock: &Clock, cycles: u32, at: u64, stop: Option<u64>) -> u32
 
 // A note's fields: p1, p2 and p3, and those that the score gives beyond.
 fn fields_of(
-    alloc: Global,
     clock: &Clock,
     instr: u32,
     at: u64,
     p3: Num,
-    more: &[Num],
-) -> Result<Nums, OutOfMemory>
+    more: &SharedNums,
+) -> Result<NoteFields, OutOfMemory>
     requires instr { IsInstrument instr }
     requires at { at < beats_end }
     ensures { IfOk result (λ fields. fields ≡ fields_of clock.now.tempo instr at p3 more.now) }
 {
-    let mut fields = Vec::new(alloc);
-    fields.push(p1(instr))?;
-    fields.push(Num::of_raw(seconds_of(clock.time(at))))?;
-    fields.push(p3)?;
-    fields.extend_from_slice(more)?;
-    Ok(Nums::from_vec(fields))
+    let p2 = Num::of_raw(seconds_of(clock.time(at)));
+    Ok(NoteFields::new(p1(instr), p2, p3, more.share()?))
 }
 
 fn p1(instr: u32) -> Num

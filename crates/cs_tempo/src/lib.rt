@@ -6,12 +6,13 @@
 //! noticing.
 //!
 //! To be read in this order: `time` (beats to nanoseconds to cycles), `clock`, `section`,
-//! `order`, `pairing`, `plot` (the types), `events`, `limits`, `active`, `scheduling`, `laws`.
+//! `order`, `pairing`, `fields` and `plot` (the types), `events`, `limits`, `active`, `scheduling`, `laws`.
 #![tactic(auto)]
 
 mod active;
 mod clock;
 mod events;
+mod fields;
 mod laws;
 mod limits;
 mod order;
@@ -21,6 +22,7 @@ mod scheduling;
 mod section;
 mod time;
 
+pub use fields::NoteFields;
 pub use laws::{
     orders_worked_by_hand, pairings_worked_by_hand, plot_worked_by_hand, plots_are_in_order,
     ramps_are_rounded_down, scores_within_limits_are_performable, time_never_falls,

@@ -2,7 +2,7 @@
 ghost use Rattle.std.specs.Prelude.{◌≡◌, ◌≢◌, ◌==◌, ℕ, List, ◌+◌, ◌-◌, ◌<◌, ◌^◌, ◌++◌, ◌∷◌, [], map, drop, length};
 ghost use Rattle.std.specs.Prelude.{slice_get, nat_eq, IfOk, OnOk, Option, Some, None, if◌then◌else◌};
 ghost use Rattle.std.specs.HashMap.{get};
-ghost use Rattle.cs_tempo.specs.inner.Counted.{own_stop, sounding, sounding_after, stops_of};
+ghost use Rattle.cs_tempo.specs.inner.Counted.{own_stop, sounding, sounding_after};
 ghost use Rattle.cs_tempo.specs.inner.Stops.{Shows, AreQueues, ending};
 ghost use Rattle.cs_tempo.specs.inner.Queue.{Queue};
 

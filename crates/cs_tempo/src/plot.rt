@@ -1,5 +1,7 @@
 // What the plot of a piece consists of.
-use cs_base::{Items, Nums};
+use crate::fields::NoteFields;
+use cs_base::Items;
+use cs_score::SharedNums;
 
 /// What an event does.
 #[derive(Drop)]
@@ -10,14 +12,14 @@ pub enum EventAct {
     Start {
         instr: u32,
         cycles: u32,
-        fields: Nums,
+        fields: NoteFields,
     },
     /// Makes table `number`.
     Table {
         number: u32,
         size: i64,
         gen_: i64,
-        args: Nums,
+        args: SharedNums,
     },
 }
 

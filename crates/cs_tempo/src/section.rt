@@ -1,42 +1,23 @@
 // The sections of a score: where each ends, its tempo, and its length in control cycles.
-ghost use Rattle.std.specs.Prelude.{◌≡◌, ◌≤◌, ◌<◌, ◌+◌, ◌^◌, ◌∷◌, [], length, map, take, drop, IfOk};
+ghost use Rattle.std.specs.Prelude.{◌≡◌, ◌≤◌, ◌<◌, ◌+◌, ◌^◌, ◌∷◌, [], length, take, drop};
 ghost use Rattle.std.specs.List.{All};
 ghost use Rattle.cs_score.specs.Ranges.{IsInRange, HasRange, beats_end};
 ghost use Rattle.cs_tempo.specs.Sections.{sections_of, own_points, or_else, tempo_of, end_of, reach_of, length_of};
-ghost use Rattle.cs_tempo.specs.Sections.{cycle_at};
 
 use crate::clock::Clock;
-use cs_base::OutOfMemory;
 use cs_score::{ScoreStmt, ScoreWhat, TempoPoint};
-use std::alloc::Global;
 use std::cmp::max;
 
-/// The sections of a score: the statements up to each `s`, and those after the last.
-pub fn sections(alloc: Global, score: &[ScoreStmt]) -> Result<Vec<&[ScoreStmt]>, OutOfMemory>
-    ensures { IfOk result (λ sections. map (λ s. s.now) sections.items ≡ sections_of score.now) }
-{
-    let mut sections = Vec::new(alloc);
-    let mut left = score;
-    loop {
-        let end = section_end(left);
-        sections.push(&left[..end])?;
-        if end == left.len() {
-            return Ok(sections);
-        }
-        left = behind(left, end);
-    }
-}
-
-// The statements behind one.
-fn behind(score: &[ScoreStmt], end: usize) -> &[ScoreStmt]
+/// The statements behind one.
+pub fn behind(score: &[ScoreStmt], end: usize) -> &[ScoreStmt]
     requires { end < length score.now }
     ensures { result.now ≡ drop (end + 1) score.now }
 {
     &score[end + 1..]
 }
 
-// The number of statements before the first `s`, or of all.
-fn section_end(score: &[ScoreStmt]) -> usize
+/// The number of statements before the first `s`, or of all.
+pub fn section_end(score: &[ScoreStmt]) -> usize
     ensures within { result ≤ length score.now }
     ensures ended { result < length score.now
         → sections_of score.now ≡ take result score.now ∷ sections_of (drop (result + 1) score.now) }

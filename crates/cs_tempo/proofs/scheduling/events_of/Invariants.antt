@@ -1,10 +1,17 @@
-use Rattle.std.proofs.Common.{◌≡◌, ◌++◌, map, take, drop, sum}
+use Rattle.std.proofs.Common.{◌≡◌, ◌+◌, ◌≤◌, ◌++◌, ◌^◌, map, sum, length}
+use Rattle.std.specs.List.{All}
+use Rattle.cs_score.specs.Ranges.{IsInRange}
 use Rattle.cs_tempo.specs.Plot.{events_from}
+use Rattle.cs_tempo.specs.Sections.{length_of, sections_of}
 use Rattle.cs_tempo.proofs.scheduling.events_of.Given as goal
 
-abbrev pub invariant-loop-k : goal.invariant-loop-k
-invariant-loop-k l = record {
-  events : l.events.items ++ events_from l.head l.offset (map (λ s. s.now) (drop l.k l.sections)) ≡ events_from l.head 0
-      (map (λ s. s.now) l.sections);
-  offset : l.offset ≡ sum (take l.k l.lengths);
+abbrev pub invariant-loop-events : goal.invariant-loop-events
+invariant-loop-events l = record {
+  events : l.events.items ++ events_from l.head l.offset (sections_of l.left)
+      ≡ events_from l.head 0 (sections_of l.score);
+  short : l.offset + sum (map (length_of l.head) (sections_of l.left)) ≤ 2 ^ 30;
+  range : All IsInRange l.left;
 }
+
+abbrev pub decreases-loop-events : goal.decreases-loop-events
+decreases-loop-events l = length l.left
