@@ -179,8 +179,8 @@ module _ (old first tested filled jumped new : Draft) (cond body : List Op) (q :
 
   pub arm_made : Grew old new (joined (length (drafted old)) (record { cond = cond; q = q; body = body }) 0)
   arm_made = record {
-    ops = arm_ops (drafted old) (drafted first) (drafted tested) (drafted filled) (drafted jumped) (drafted new) cond body
-        q (length (drafted first)) (length (drafted jumped)) begun.ops refl tests.ops fills.ops jumps_on.ops refl
+    ops = arm_ops (drafted old) (drafted first) (drafted tested) (drafted filled) (drafted jumped) (drafted new) cond
+        body q (length (drafted first)) (length (drafted jumped)) begun.ops refl tests.ops fills.ops jumps_on.ops refl
         aimed_test.ops;
     routines = aimed_test.routines ∙ jumps_on.routines ∙ fills.routines ∙ tests.routines ∙ begun.routines;
     marks = λ mark place h. aimed_test.marks mark place (jumps_on.marks mark place (fills.marks mark place
@@ -326,7 +326,8 @@ module _ (o : Scope) (line : ℕ) (r : Rate) (s : typed.Block) (arms list : List
     (are : arms ≡ list) (rest_are : stmts ≡ els) (p q : Progress) (on : q ≡ past_list o p arms) where
   here : s ≡ typed.alone (typed.choose line r (typed.arms o.routines (typed.block o.routines stmts) arms))
   here = seen
-      ∙ sym (ap (λ xs. typed.alone (typed.choose line r (typed.arms o.routines (typed.block o.routines xs) list))) rest_are)
+      ∙ sym (ap (λ xs. typed.alone (typed.choose line r (typed.arms o.routines (typed.block o.routines xs) list)))
+      rest_are)
       ∙ sym (ap (λ xs. typed.alone (typed.choose line r (typed.arms o.routines (typed.block o.routines stmts) xs))) are)
 
   pub all_choice : (way : Pass) → takes_all way r ≡ true → (old mid new : Draft)

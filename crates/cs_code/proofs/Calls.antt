@@ -9,17 +9,21 @@ use Rattle.cs_meaning.specs.Core.{Stmt, core_call, set, choose}
 use Rattle.cs_meaning.specs.When.{cycle}
 use Rattle.cs_typed.specs.TypedTree.{Expression, Argument, value, text}
 use Rattle.cs_typed.specs.declared.tree.Var.{Var as Variable}
+use Rattle.cs_words.specs.Catalogue.{row_of}
 use Rattle.cs_words.specs.declared.catalogue.Opcode.{Opcode}
 use Rattle.cs_words.specs.declared.catalogue.Shape.{Shape}
 use Rattle.cs_words.specs.declared.catalogue.Shape.TheVariants as shape
+use Rattle.cs_code.specs.declared.args.Call.{Call}
 use Rattle.cs_code.specs.declared.frame.Progress.{Progress}
 use Rattle.cs_code.specs.declared.frame.Pass.{Pass}
 use Rattle.cs_code.specs.declared.frame.Pass.TheVariants as pass
 use Rattle.cs_code.specs.declared.simple.Sending.{Sending}
 use Rattle.cs_code.specs.declared.simple.Sending.TheVariants as sending
-use Rattle.cs_code.specs.inner.Code.{operands_code, pass_code, perf_code}
-use Rattle.cs_code.specs.inner.Emitted.{Assigned, assigned, set_of, effect, when_of, sent_as, sent_ops}
+use Rattle.cs_code.specs.inner.Code.{operands_code, pass_block_code, pass_code, perf_code}
+use Rattle.cs_code.specs.inner.Emitted.{Assigned, alone_in, arguments_of, assigned, called, set_of, effect, when_of}
+use Rattle.cs_code.specs.inner.Emitted.{sent_as, sent_ops}
 use Rattle.cs_code.specs.inner.Spots.{spots}
+use Rattle.cs_code.proofs.Chains.{alone_code}
 
 -- a call is the assignment that it is short for, or else an effect
 abbrev pub either_of : Option Assigned → Stmt → Stmt
@@ -144,6 +148,15 @@ pub call_anywhere : (way : Pass) (place : ℕ) (p : Progress) (o : Spaces) (r : 
     (core_call o r vs op sh args)
 call_anywhere way place p o r vs op sh args =
     sym (anywhere way place p (core_call o r vs op sh args) (call_simple o r vs op sh args))
+
+-- a call that stands alone
+pub call_alone : (way : Pass) (place : ℕ) (p : Progress) (o : Spaces) (k : Call)
+    → pass_code way 0 p (core_call o k.rate k.results.now k.opcode (row_of k.opcode).shape (arguments_of k))
+    ≡ pass_block_code way place p (alone_in o (called k))
+call_alone way place p o k =
+    let sh = (row_of k.opcode).shape in
+    sym (call_anywhere way place p o k.rate k.results.now k.opcode sh (arguments_of k))
+    ∙ sym (alone_code way place p (core_call o k.rate k.results.now k.opcode sh (arguments_of k)))
 
 -- the code of an assignment and of a call is the same at each place
 pub ruleset at_each_place = (set_anywhere, call_anywhere)

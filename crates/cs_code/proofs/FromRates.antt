@@ -1,6 +1,7 @@
 -- What the rules of rates say of the core of a block.
-use Rattle.std.proofs.Common.{ap₂, ◌≡◌, ℕ, zero, suc, ◌+◌, ◌-◌, ◌%◌, ◌<◌, ◌≤◌, Bool, true, false, not, ◌&&◌, ◌==◌, List, []}
-use Rattle.std.proofs.Common.{◌∷◌, length, nat_le, if◌then◌else◌, refl, sym, ◌∙◌, ap, subst, arith, leb-true, eqb-true}
+use Rattle.std.proofs.Common.{ap₂, ◌≡◌, ℕ, zero, suc, ◌+◌, ◌-◌, ◌%◌, ◌<◌, ◌≤◌, Bool, true, false, not, ◌&&◌, ◌==◌, List}
+use Rattle.std.proofs.Common.{[], ◌∷◌, length, nat_le, if◌then◌else◌, refl, sym, ◌∙◌, ap, subst, arith, leb-true}
+use Rattle.std.proofs.Common.{eqb-true}
 use Rattle.std.proofs.Common.{eq-eqb, ne_eqb, ltb-false}
 use Rattle.std.specs.List.{All, list_all, list_any}
 use Rattle.std.proofs.lemmas.Bool.{and_parts}
@@ -32,7 +33,7 @@ use Rattle.cs_typed.specs.declared.tree.Var.{Var as Variable}
 use Rattle.cs_typed.specs.declared.tree.Var.TheVariants.{Local, Global}
 use Rattle.cs_code.proofs.Letters.{take_rates, stills, is_run, run_fits, may_run, same_bound, store_fits}
 use Rattle.cs_code.proofs.Named.{Narrow, NarrowBlock, NarrowArms}
-use Rattle.cs_code.proofs.Runs.{local_rate}
+use Rattle.cs_ir.proofs.RegisterKinds.{local_rate}
 use Rattle.cs_code.proofs.Ranked.{holds_value, Ranked, AllRanked, AllInit, AllSound, Paired, rated, RankedSet, GivenTo}
 use Rattle.cs_code.proofs.Ranked.{RankedRun, RankedUnit, RankedStore, RankedStmt, RankedBlock, RankedArms}
 use Rattle.cs_code.proofs.Rated.{init_is}

@@ -1,5 +1,5 @@
--- What the simulation asks of registers and of statements: kept values in registers of their own, results where an opcode
--- gives one, and conditions that are kept where an `if` is done once.
+-- What the simulation asks of registers and of statements: kept values in registers of their own, results where an
+-- opcode gives one, and conditions that are kept where an `if` is done once.
 use Rattle.std.proofs.Common.{◌≡◌, ◌∙◌, ℕ, zero, suc, ◌+◌, true, List, [], ◌∷◌, Option, Some}
 use Rattle.std.proofs.Common.{sym, ap, subst, arith, add-zero}
 use Rattle.cs_base.specs.declared.resource.Rate.TheVariants as rate

@@ -9,12 +9,12 @@ use Rattle.std.specs.List.{slice_get}
 use Rattle.cs_base.proofs.Tests.{some_is}
 use Rattle.cs_base.specs.declared.per_rate.PerRate.{PerRate}
 use Rattle.cs_base.specs.declared.spaces.Spaces.{Spaces}
-use Rattle.cs_ir.specs.Flat.{flat, flat_routines, more_routines, moved_ops, ops_at, window_of}
-use Rattle.cs_ir.specs.Routines.{AreRoutinesFrom, IsRoutineOf, library_in, ops_in, steps_of}
+use Rattle.cs_ir.proofs.Libraries.{library_more}
+use Rattle.cs_ir.specs.Flat.{moved_ops, ops_at, window_of}
+use Rattle.cs_ir.specs.Routines.{library_in, ops_in}
 use Rattle.cs_ir.specs.declared.op.Op.{Op}
 use Rattle.cs_ir.specs.declared.routine.Routine.{Routine}
 use Rattle.cs_ir.specs.declared.step.Call.{Call}
-use Rattle.cs_ir.specs.declared.step.Step.{Step}
 use Rattle.cs_meaning.specs.Core.{core}
 use Rattle.cs_typed.specs.TypedTree as typed
 use Rattle.cs_code.specs.declared.frame.Pass.{Pass}
@@ -26,22 +26,6 @@ use Rattle.cs_code.specs.inner.Served.{Serve, further_on}
 use Rattle.cs_code.proofs.Moved.{routine_moved, routine_past}
 
 -- ---- one routine more
-
-more_end : (before : List (List Op)) (list : List (List Step)) (steps : List Step)
-    → more_routines before (list ++ steps ∷ []) ≡ more_routines before list
-    ++ flat (more_routines before list) steps ∷ []
-more_end before [] steps = refl
-more_end before (x ∷ list) steps = more_end (before ++ flat before x ∷ []) list steps
-
-pub library_more : (made : List Routine) (r : Routine)
-    → library_in (made ++ r ∷ []) ≡ library_in made ++ ops_in (library_in made) r ∷ []
-library_more made r =
-    ap flat_routines (map-append steps_of made (r ∷ [])) ∙ more_end [] (map steps_of made) (steps_of r)
-
-pub routines_more : (before : List (List Op)) (made : List Routine) (r : Routine) → AreRoutinesFrom before made
-    → IsRoutineOf (more_routines before (map steps_of made)) r → AreRoutinesFrom before (made ++ r ∷ [])
-routines_more before [] r h is = (is, tt)
-routines_more before (x ∷ made) r h is = (h.0, routines_more (before ++ ops_in before x ∷ []) made r h.1 is)
 
 pub serve_more : (way : Pass) (spaces : Spaces) (rs : List typed.Block) (b : typed.Block) (made : List Routine)
     (r : Routine) (extents : List Progress) (e : Progress) → Serve way spaces rs (library_in made) extents

@@ -33,7 +33,7 @@ use Rattle.cs_typed.specs.WellRated.{node_rate, var_rate, fit_letters, bound_by,
 use Rattle.cs_typed.specs.WellRated.{is_variable, IsRatedCall}
 use Rattle.cs_typed.specs.declared.setting.Setting.{Setting}
 use Rattle.cs_typed.specs.declared.tree.Var.{Var}
-use Rattle.cs_code.proofs.Runs.{local_rate}
+use Rattle.cs_ir.proofs.RegisterKinds.{local_rate}
 use Rattle.cs_code.proofs.Ranked.{rated}
 
 -- letters take values of these rates, one each

@@ -33,7 +33,8 @@ use Rattle.cs_code.specs.declared.frame.Progress.{Progress}
 use Rattle.cs_code.specs.inner.Code.{unless_there, copied, own, code, operand_code, operands_code, kept_code}
 use Rattle.cs_code.specs.inner.Code.{keep_code, keep_all_code, set_code, target, given_code, on_code, run_code}
 use Rattle.cs_code.specs.inner.Code.{start_code, unit_code, seek_code, store_code, out_ops, out_at_ops, arm_code}
-use Rattle.cs_code.specs.inner.Code.{cond_code, cond_reg, choice_code, pass_code, pass_block_code, chosen_code, all_code}
+use Rattle.cs_code.specs.inner.Code.{cond_code, cond_reg, choice_code, pass_code, pass_block_code, chosen_code}
+use Rattle.cs_code.specs.inner.Code.{all_code}
 use Rattle.cs_code.specs.inner.Kept.{start, past, past_parts, past_stmt, past_block}
 use Rattle.cs_code.specs.inner.Served.{further_on}
 use Rattle.cs_code.specs.inner.Spots.{op_of, direct, kept_or, kept_reg, local_of, reg_or, temp, spot, spots}
@@ -157,7 +158,8 @@ module _ (w : Begins) (origin : ℕ) where
   abbrev Counts : When → ℕ → ℕ → Type 0
   Counts when at at' = Reads when (at' ≡ w.kept + at)
 
-  counts_on : (when : When) (e : Expression) (at at' : ℕ) → Counts when at at' → Counts when (past at e) (past at' (E e))
+  counts_on : (when : When) (e : Expression) (at at' : ℕ) → Counts when at at'
+      → Counts when (past at e) (past at' (E e))
   counts_on beginning e at at' h = tt
   counts_on cycle e at at' h = past_grown l e w.kept at at' h
 
@@ -246,7 +248,8 @@ module _ (w : Begins) (origin : ℕ) where
       subst (λ o. Same (code when at e x d) (copied o x' (own when at' (E e) x' d))) (sym (direct_is when e at at' h))
       (by (direct when at e))
     where
-      by : (o : Option Reg) → Same (copied o x (own when at e x d)) (copied (option_map m o) x' (own when at' (E e) x' d))
+      by : (o : Option Reg)
+          → Same (copied o x (own when at e x d)) (copied (option_map m o) x' (own when at' (E e) x' d))
       by (Some q) = one (ap (λ y. op_of act.Copy y (m q ∷ [])) i)
       by None = own_is when e at at' h x x' i d
 
@@ -323,8 +326,8 @@ module _ (w : Begins) (origin : ℕ) where
   start_is : (r : Rate) (opcode : Opcode) (u u' : ℕ) (is : List Expression) → u' ≡ w.unit + u
       → Same (start_code r opcode u is) (start_code r opcode u' (map E is))
   start_is r opcode u u' is h =
-      on_is beginning (act.Start opcode u) (act.Start opcode u') (temp r 0) (temp r 0) is 0 0 tt (ap (act.Start opcode) h)
-      (temp_moved r 0)
+      on_is beginning (act.Start opcode u) (act.Start opcode u') (temp r 0) (temp r 0) is 0 0 tt
+      (ap (act.Start opcode) h) (temp_moved r 0)
 
   unit_is : (when : When) (r : Rate) (vs : List Variable) (opcode : Opcode) (u u' : ℕ) (reach : Reach)
       (xs : List Expression) (at at' : ℕ) → Counts when at at' → u' ≡ w.unit + u
@@ -454,8 +457,8 @@ module _ (w : Begins) (origin : ℕ) where
         let own = stmt_is way at at' p p' s b in
         let q = past_stmt p s in let q' = past_stmt p' (moved_stmt l s) in
         join own
-        (block_is way (at + length (pass_code way at p s)) (at' + length (pass_code way at' p' (moved_stmt l s))) q q' rest
-        (both_on p p' q q' at at' own (stmt_further l _ p p' s b.text) b))
+        (block_is way (at + length (pass_code way at p s)) (at' + length (pass_code way at' p' (moved_stmt l s))) q q'
+        rest (both_on p p' q q' at at' own (stmt_further l _ p p' s b.text) b))
 
     chosen_is : (way : Pass) (at at' : ℕ) (p p' : Progress) (arms : Arms) → Both p p' at at'
         → Same (chosen_code way at p arms) (chosen_code way at' p' (moved_arms l arms))
@@ -498,8 +501,8 @@ module _ (w : Begins) (origin : ℕ) where
         let b₂ = both_on q q' z z' (at + long) (at' + long') body (block_further l _ q q' y b₁.text) b₁ in
         join cond (join body (all_are (at + long + on) (at' + long' + on') z z' rest b₂))
 
--- The code of what a routine does that is invoked, at its place in a text and with its own local variables: the routine's
--- own code, moved.
+-- The code of what a routine does that is invoked, at its place in a text and with its own local variables: the
+-- routine's own code, moved.
 pub routine_moved : (way : Pass) (spaces : Spaces) (base : PerRate ℕ) (place : ℕ) (p : Progress) (x : typed.Block)
     → pass_block_code way place p (core spaces (typed.moved_block base x))
     ≡ moved_ops (record { locals = base; kept = p.part; unit = p.unit }) place

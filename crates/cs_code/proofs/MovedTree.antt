@@ -154,10 +154,6 @@ module _ (l : PerRate ℕ) where
         (block_further n p q b
         (record { part = past_grown c n.part x.part y.part h.part; unit = h.unit }))
 
-  pub stmt_past : (p : Progress) (s : Stmt) → past_stmt p (moved_stmt l s) ≡ further_on p (past_stmt start s)
-  stmt_past p s =
-      advanced_is p (past_stmt start s) (past_stmt p (moved_stmt l s)) (stmt_further p start p s (from_start p))
-
   pub stmts_past : (p : Progress) (b : Block) → past_block p (moved_stmts l b) ≡ further_on p (past_block start b)
   stmts_past p b =
       advanced_is p (past_block start b) (past_block p (moved_stmts l b)) (block_further p start p b (from_start p))

@@ -35,7 +35,8 @@ use Rattle.cs_code.specs.inner.Code.{keep_all_code, set_code, target, given_code
 use Rattle.cs_code.specs.inner.Code.{unit_code, zak_code, seek_code, store_code, out_ops, out_at_ops, arm_code}
 use Rattle.cs_code.specs.inner.Code.{cond_code, cond_reg, choice_code, pass_code, pass_block_code}
 use Rattle.cs_code.specs.inner.Code.{chosen_code, all_code}
-use Rattle.cs_code.proofs.Runs.{local_rate, temp_rate}
+use Rattle.cs_ir.proofs.RegisterKinds.{local_rate}
+use Rattle.cs_code.proofs.Runs.{temp_rate}
 
 -- ---- places in lists
 

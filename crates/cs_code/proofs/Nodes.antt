@@ -135,7 +135,8 @@ made_pick when at next last d one two r e v y z x o p q from old first second th
     let last_is : last ≡ past (past at v) y = past_y ∙ ap (λ n. past n y) past_v in
     let two_is : two ≡ d + 1 + 1 = on_more ∙ ap (λ n. n + 1) on in
     let second_at : p ≡ spot when (past at v) y (d + 1) = p_is ∙ (λ i. spot when (past_v i) y (on i)) in
-    let third_at : q ≡ spot when (past (past at v) y) z (d + 1 + 1) = q_is ∙ (λ i. spot when (last_is i) z (two_is i)) in
+    let third_at : q ≡ spot when (past (past at v) y) z (d + 1 + 1) =
+    q_is ∙ (λ i. spot when (last_is i) z (two_is i)) in
     let regs : from ≡ spot when at v d ∷ spot when (past at v) y (d + 1) ∷ spot when (past (past at v) y) z (d + 1 + 1)
     ∷ [] =
     all ∙ (λ i. o_is i ∷ second_at i ∷ third_at i ∷ []) in

@@ -1,6 +1,6 @@
 -- Values that go out, one register after another.
 use Rattle.std.proofs.Common.{◌≡◌, ◌∙◌, ◌+◌, ◌<◌, ◌++◌, ◌∷◌, [], ℕ, List, Option, Some, None, drop, get_or, length}
-use Rattle.std.proofs.Common.{ap, option_to_list, refl, subst, sym}
+use Rattle.std.proofs.Common.{ap, option_to_list, subst, sym}
 use Rattle.std.proofs.lemmas.List.{drop_more}
 use Rattle.cs_ir.specs.Drafts.{Draft, Grew}
 use Rattle.cs_ir.specs.declared.op.Act.TheVariants as act

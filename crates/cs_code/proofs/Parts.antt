@@ -35,9 +35,9 @@ use Rattle.cs_code.specs.inner.Code.{store_code, ask_code}
 use Rattle.cs_code.proofs.Expressions.{Wrote, live_same, stands_same, operands_run, operand_runs, code_runs}
 use Rattle.cs_code.proofs.Named.{target_rate}
 use Rattle.cs_code.proofs.Inside.{AreApart, Lays, LaysOn, Reads, Takes}
-use Rattle.cs_code.proofs.Runs.{Live, run_append, live_step, run_snoc, apart, same_reg_is, put_here, put_other}
-use Rattle.cs_code.proofs.Runs.{held_again, Under, under_local, under_apart, local_not_kept, kept_not_local, local_rate}
-use Rattle.cs_code.proofs.Runs.{temp_rate}
+use Rattle.cs_ir.proofs.RegisterKinds.{local_rate, same_reg_is}
+use Rattle.cs_code.proofs.Runs.{Live, run_append, live_step, run_snoc, apart, put_here, put_other, held_again}
+use Rattle.cs_code.proofs.Runs.{Under, under_local, under_apart, local_not_kept, kept_not_local, temp_rate}
 
 -- What a note can do in a world without being refused: only the start of a unit, the search for a table, and a note
 -- that it asks for, may be refused.
@@ -81,7 +81,8 @@ module _ {W : Type 0} (o : World W) (placed : Path → Option ℕ) (distinct : A
   local_wrote t r x w m n s h = record {
     locals = λ q k. by_test (same_reg (reg q k) (reg r x))
         (λ e. subst (λ p. n.regs p ≡ w) (sym (same_reg_is (reg q k) (reg r x) e)) h.here ∙ rw e refl)
-        (λ e. h.others (reg q k) e (under_local q k 0) ∙ s.locals q k ∙ sym (put_other t.locals (reg r x) w (reg q k) e));
+        (λ e. h.others (reg q k) e (under_local q k 0) ∙ s.locals q k
+        ∙ sym (put_other t.locals (reg r x) w (reg q k) e));
     kept = λ p k is. h.others (kept_reg k) (kept_not_local r x k) tt ∙ s.kept p k is;
     world = h.world ∙ s.world;
   }
@@ -157,7 +158,8 @@ module _ {W : Type 0} (o : World W) (placed : Path → Option ℕ) (distinct : A
       → Live o place m → node_rate e ≡ rate.Init
       → Wrote (kept_reg at) 0 (constant (first_value o t e)) m (run o place (kept_code at e) m)
   once_wrote t e at place m s l is =
-      subst (λ r. Wrote (kept_reg at) 0 (held o.ksmps r (value o t beginning [] e)) m (run o place (kept_code at e) m)) is
+      subst
+      (λ r. Wrote (kept_reg at) 0 (held o.ksmps r (value o t beginning [] e)) m (run o place (kept_code at e) m)) is
       (code_runs o placed t e beginning 0 [] (kept_reg at) (sym is) 0 place m s l tt)
 
   kept_self : (t : Note W) (m : Machine W) → StandsInMachine placed t m → Kept placed t m m
@@ -282,8 +284,8 @@ module _ {W : Type 0} (o : World W) (placed : Path → Option ℕ) (distinct : A
       → StandsInMachine placed t m → Live o place m
       → Reached placed (sought o is t) m (run o place (seek_code is) m)
   seek_runs is t place m s l =
-      on_runs beginning 0 [] act.Seek (temp rate.Init 0) is (λ ws x. o.seek (first_values ws) x) t place m (λ ws n. refl)
-      s l
+      on_runs beginning 0 [] act.Seek (temp rate.Init 0) is (λ ws x. o.seek (first_values ws) x) t place m
+      (λ ws n. refl) s l
       tt
 
   pub store_runs : (when : When) (at : ℕ) (path : Path) (r : Rate) (reach : Reach)
@@ -301,8 +303,8 @@ module _ {W : Type 0} (o : World W) (placed : Path → Option ℕ) (distinct : A
       → Reached placed (moved_to (o.ask (first_values (values o t beginning [] es)) t.world) t) m
       (run o place (ask_code es) m)
   ask_runs es t place m s l =
-      on_runs beginning 0 [] act.Ask (temp rate.Init 0) es (λ ws x. o.ask (first_values ws) x) t place m (λ ws n. refl) s
-      l tt
+      on_runs beginning 0 [] act.Ask (temp rate.Init 0) es (λ ws x. o.ask (first_values ws) x) t place m
+      (λ ws n. refl) s l tt
 
   -- ---- what gives a result runs: a unit, or what reads or writes zak places
 

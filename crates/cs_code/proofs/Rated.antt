@@ -1,6 +1,6 @@
 -- A well rated tree meets what the simulation asks.
-use Rattle.std.proofs.Common.{◌≡◌, Bool, true, false, List, [], ◌∷◌, length, if◌then◌else◌, refl, sym, subst, arith, ne_eqb}
-use Rattle.std.proofs.Common.{Option, Some, None}
+use Rattle.std.proofs.Common.{◌≡◌, Bool, true, false, List, [], ◌∷◌, length, if◌then◌else◌, refl, sym, subst, arith}
+use Rattle.std.proofs.Common.{ne_eqb, Option, Some, None}
 use Rattle.std.proofs.lemmas.Bool.{and_parts}
 use Rattle.cs_base.specs.Rates.{is_init}
 use Rattle.cs_base.specs.declared.resource.Rate.{Rate}

@@ -33,7 +33,8 @@ use Rattle.cs_code.specs.inner.Spots.{op_of, kept_reg, temp, kept_or, direct, sp
 use Rattle.cs_code.specs.inner.Code.{unless_there, own, code, copied, operand_code, operands_code, kept_code, keep_code}
 use Rattle.cs_code.specs.inner.Code.{keep_all_code, set_code, target, given_code, on_code, run_code, start_code}
 use Rattle.cs_code.specs.inner.Code.{unit_code, zak_code, seek_code, store_code, out_ops, out_at_ops, arm_code}
-use Rattle.cs_code.specs.inner.Code.{cond_code, cond_reg, choice_code, pass_code, pass_block_code, chosen_code, all_code}
+use Rattle.cs_code.specs.inner.Code.{cond_code, cond_reg, choice_code, pass_code, pass_block_code, chosen_code}
+use Rattle.cs_code.specs.inner.Code.{all_code}
 use Rattle.cs_code.specs.inner.Emitted.{when_of}
 
 nothing_read : (r : Rate) → if_init {A = List Res} r [] [] ≡ []

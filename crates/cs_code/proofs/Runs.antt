@@ -1,19 +1,17 @@
 -- The run of a code: in parts, where ops are passed over, and what is written.
 use Rattle.std.proofs.Common.{◌≡◌, ℕ, ◌+◌, ◌<◌, ◌≤◌, ◌≢◌, pos, Bool, true, false, ◌&&◌, List, [], ◌∷◌, ◌++◌, length}
 use Rattle.std.proofs.Common.{map, nat_le, nat_lt, if◌then◌else◌, refl, sym, ◌∙◌, ap, arith, add-zero, le-leb, ne_eqb}
-use Rattle.std.proofs.Common.{eq-eqb, append_assoc}
+use Rattle.std.proofs.Common.{append_assoc, subst}
 use Rattle.std.proofs.lemmas.Bool.Decides.{nat_tests}
-use Rattle.std.proofs.Common.{eqb, eqb-true, subst}
-use Rattle.std.proofs.lemmas.Bool.{and_parts}
 use Rattle.cs_base.proofs.Tests.{by_test}
 use Rattle.cs_base.specs.declared.resource.Rate.{Rate}
 use Rattle.cs_base.specs.declared.resource.Rate.TheVariants as rate
-use Rattle.cs_ir.proofs.RegisterKinds.{kind_is, kind_same}
+use Rattle.cs_ir.proofs.RegisterKinds.{kind_is, same_reg_here}
 use Rattle.cs_ir.specs.Machine.{Machine, same_reg, put, acts, step, run}
 use Rattle.cs_ir.specs.Waves.{Wave, held}
 use Rattle.cs_ir.specs.Worlds.{World}
 use Rattle.cs_ir.specs.declared.op.Op.{Op}
-use Rattle.cs_ir.specs.Registers.{local, rate_of, same_kind, temporary}
+use Rattle.cs_ir.specs.Registers.{rate_of, same_kind, temporary}
 use Rattle.cs_ir.specs.declared.register.Kind.{Kind}
 use Rattle.cs_ir.specs.declared.register.Kind.TheVariants as kind
 use Rattle.cs_ir.specs.declared.register.Reg.{Reg}
@@ -100,11 +98,6 @@ temp_rate rate.Init = refl
 temp_rate rate.Control = refl
 temp_rate rate.Audio = refl
 
-pub local_rate : (r : Rate) → rate_of (local r) ≡ r
-local_rate rate.Init = refl
-local_rate rate.Control = refl
-local_rate rate.Audio = refl
-
 pub under_local : (r : Rate) (n d : ℕ) → Under d (reg r n)
 under_local rate.Init n d = tt
 under_local rate.Control n d = tt
@@ -114,16 +107,6 @@ pub apart : (p q : Reg) → (p.kind ≡ q.kind → p.offset ≢ q.offset) → sa
 apart p q h = by_test (same_kind p.kind q.kind)
     (λ e. rw (e, ne_eqb p.offset q.offset (h (kind_is p.kind q.kind e))) refl)
     (λ e. rw e refl)
-
-pub same_reg_is : (p q : Reg) → same_reg p q ≡ true → p ≡ q
-same_reg_is p q h =
-    let both = and_parts (same_kind p.kind q.kind) (eqb p.offset q.offset) h in
-    let k = kind_is p.kind q.kind both.0 in
-    let n = eqb-true p.offset q.offset both.1 in
-    λ i. record { kind = k i; offset = n i }
-
-pub same_reg_here : (q : Reg) → same_reg q q ≡ true
-same_reg_here q = rw (kind_same q.kind, eq-eqb q.offset q.offset refl) refl
 
 -- below a temporary nothing is it
 under_temporary : (d : ℕ) (r : Rate) (n : ℕ) → UnderOf d (temporary r) n → n < d

@@ -11,7 +11,7 @@ use Rattle.cs_base.specs.declared.resource.Rate.TheVariants as rate
 use Rattle.cs_words.specs.Catalogue.{row_of, takes, moving_letters, unit_takes}
 use Rattle.cs_words.specs.declared.catalogue.Letter.{Letter}
 use Rattle.cs_words.specs.declared.catalogue.Opcode.{Opcode}
-use Rattle.cs_ir.proofs.RegisterKinds.{kind_same}
+use Rattle.cs_ir.proofs.RegisterKinds.{kind_same, local_rate}
 use Rattle.cs_ir.specs.Units.{is_unit, is_zak}
 use Rattle.cs_ir.specs.Validity.{takes_from, suits_operator, suits_function, take_all, as_sounds, stores_with, is_still}
 use Rattle.cs_ir.specs.Validity.{may_run_at, bound_at, has_value, runs_with, has_register, writes, finds, is_fine}
@@ -49,7 +49,7 @@ use Rattle.cs_code.proofs.Named.{Each, target_rate}
 use Rattle.cs_code.proofs.Performs.{arm_length}
 use Rattle.cs_code.proofs.Ranked.{Ranked, AllRanked, AllInit, AllSound, Paired, rated, RankedSet, GivenTo, RankedRun}
 use Rattle.cs_code.proofs.Ranked.{RankedUnit, RankedStore, RankedStmt, RankedBlock, RankedArms}
-use Rattle.cs_code.proofs.Runs.{local_rate, temp_rate}
+use Rattle.cs_code.proofs.Runs.{temp_rate}
 
 -- where an act goes on: later, and not beyond the end
 abbrev pub Lands : ℕ → ℕ → Act → Type 0
@@ -676,7 +676,8 @@ has_all counts (q ∷ qs) h =
     (has_all counts qs (λ k. let m = h k in omega arith))
 
 -- a code is valid where its ops are fine, and there are as many registers and units as it names
-pub fine_valid : (cycles : Bool) (counts : Counts) (channels : ℕ) (units : List UnitKind) (end place : ℕ) (ops : List Op) → length units ≤ counts.units
+pub fine_valid : (cycles : Bool) (counts : Counts) (channels : ℕ) (units : List UnitKind) (end place : ℕ)
+    (ops : List Op) → length units ≤ counts.units
     → ((k : Kind) → ops_limit k ops ≤ at_kind counts.registers k) → Each cycles channels units ops → Fine end place ops
     → fine_from counts end place ops ≡ true
 fine_valid cycles counts channels units end place [] low limits named fine = refl

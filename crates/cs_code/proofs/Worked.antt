@@ -24,7 +24,8 @@ use Rattle.cs_code.proofs.Instruments.{made_code}
 counter_rated : IsRatedBlock (inside 1) counter
 counter_rated = ((refl, refl, refl, refl, (refl, refl, (refl, refl), refl)), tt)
 
-counter_reached : (k : Kind) → at_kind counter_counts.registers k ≡ max (ops_limit k counter_init) (ops_limit k counter_perf)
+counter_reached : (k : Kind)
+    → at_kind counter_counts.registers k ≡ max (ops_limit k counter_init) (ops_limit k counter_perf)
 counter_reached kind.LocalInit = refl
 counter_reached kind.LocalControl = refl
 counter_reached kind.Kept = refl

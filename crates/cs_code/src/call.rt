@@ -1,13 +1,14 @@
 // The code of calls, for either pass, by what a call is short for.
-ghost use Rattle.std.specs.Prelude.{◌≡◌, IfOk, OnOk};
-ghost use Rattle.cs_ir.specs.Drafts.{Grew};
+ghost use Rattle.std.specs.Prelude.{◌≡◌, length, IfOk, OnOk};
+ghost use Rattle.cs_ir.specs.Drafts.{Grew, drafted};
 ghost use Rattle.cs_base.specs.declared.resource.Rate.TheVariants as rate;
 ghost use Rattle.cs_meaning.specs.Core.{ask, unit_call, store_call, zak_call, values_of};
-ghost use Rattle.cs_code.specs.inner.Code.{pass_code};
-ghost use Rattle.cs_code.specs.inner.Kept.{start, past_stmt};
+ghost use Rattle.cs_code.specs.inner.Code.{pass_block_code, pass_code};
+ghost use Rattle.cs_code.specs.inner.Kept.{start, past_block, past_stmt};
 ghost use Rattle.cs_words.specs.Catalogue.{row_of};
 ghost use Rattle.cs_words.specs.declared.catalogue.Shape.TheVariants as shape;
-ghost use Rattle.cs_code.specs.inner.Emitted.{IsAssignmentOf, arguments_of, call_of, effect_of, put_shape, sent_as};
+ghost use Rattle.cs_code.specs.inner.Emitted.{IsAssignmentOf, alone_in, arguments_of, called, effect_of, put_shape};
+ghost use Rattle.cs_code.specs.inner.Emitted.{sent_as};
 
 use crate::args::{Call, parted_values, values};
 use crate::frame::{Context, Progress};
@@ -218,10 +219,9 @@ pub fn call(
     p: Progress,
     call: &Call<'_>,
 ) -> Result<Progress, OutOfMemory>
-    ensures ops { OnOk result (Grew ops.old ops.new (pass_code context.pass 0 p (call_of context.spaces call.now
-        (row_of call.now.opcode).shape))) }
-    ensures next { IfOk result (λ q. q
-        ≡ past_stmt p (call_of context.spaces call.now (row_of call.now.opcode).shape)) }
+    ensures ops { OnOk result (Grew ops.old ops.new (pass_block_code context.pass (length (drafted ops.old)) p
+        (alone_in context.spaces (called call.now)))) }
+    ensures next { IfOk result (λ q. q ≡ past_block p (alone_in context.spaces (called call.now))) }
 {
     match assigned(call) {
         Some(assignment) => assign(ops, context, p, &assignment),

@@ -1,13 +1,11 @@
-// The code of what is no `if` and invokes nothing: assignments, calls, and the conditions of arms.
-ghost use Rattle.std.specs.Prelude.{◌≡◌, length, map, IfOk, OnOk};
+// The code of assignments, and of the conditions of arms.
+ghost use Rattle.std.specs.Prelude.{◌≡◌, length, IfOk, OnOk};
 ghost use Rattle.cs_ir.specs.Drafts.{Grew, drafted};
 ghost use Rattle.cs_typed.specs.TypedTree as typed;
 ghost use Rattle.cs_code.specs.inner.Code.{cond_code, cond_reg, pass_block_code};
 ghost use Rattle.cs_code.specs.inner.Emitted.{alone_in};
 ghost use Rattle.cs_code.specs.inner.Kept.{past, past_block};
 
-use crate::args::Call;
-use crate::call;
 use crate::expr::{keep, operand, operand_reg};
 use crate::frame::{Context, Pass, Progress, ValueSpot, kept_reg};
 use crate::simple::{self, Assignment};
@@ -36,23 +34,6 @@ pub fn assign(
         value: Value::Of(e),
     };
     simple::assign(ops, context, p, &assignment)
-}
-
-/// The code of a call. Returns what was met before its end.
-pub fn called(
-    ops: &mut CodeDraft<'_>,
-    context: Context,
-    p: Progress,
-    made: &Call<'_>,
-) -> Result<Progress, OutOfMemory>
-    ensures ops { OnOk result (Grew ops.old ops.new (pass_block_code context.pass (length (drafted ops.old)) p
-        (alone_in context.spaces (typed.call 0 made.now.rate made.now.results.now made.now.opcode (map typed.argument
-        made.now.args.now))))) }
-    ensures next { IfOk result (λ q. q
-        ≡ past_block p (alone_in context.spaces (typed.call 0 made.now.rate made.now.results.now
-        made.now.opcode (map typed.argument made.now.args.now)))) }
-{
-    call::call(ops, context, p, made)
 }
 
 /// The code of a condition, and where it stands.

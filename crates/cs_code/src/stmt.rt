@@ -13,9 +13,10 @@ ghost use Rattle.cs_code.specs.inner.Served.{Serve};
 ghost use Rattle.cs_code.specs.declared.frame.Pass.TheVariants as pass;
 
 use crate::args;
+use crate::call::call;
 use crate::frame::{Context, Pass, Progress, add, jump, narrow};
 use crate::jumps::aim_all;
-use crate::leaves::{assign, called, condition};
+use crate::leaves::{assign, condition};
 use cs_base::{OutOfMemory, PerRate, Rate};
 use cs_ir::{Act, Call, CodeDraft, Mark, Operands};
 use cs_typed::{TypedArm, TypedStmt, TypedWhat};
@@ -68,7 +69,7 @@ fn stmt(
                 opcode: *opcode,
                 args,
             };
-            called(ops, context, p, &made)
+            call(ops, context, p, &made)
         }
         TypedWhat::Choose(arms, els) => {
             if takes_all(context.pass, s.rate) {

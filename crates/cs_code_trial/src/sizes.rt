@@ -158,7 +158,7 @@ endin
 /// A text, the number of an instrument, and its ops as a note begins and in a cycle; none where the text is refused.
 type Row = (&'static str, u32, Option<(usize, usize)>);
 
-/// The instruments of docs/SPEED.md, and what stands outside of instruments, which is done once.
+/// The instruments of bench/RESULTS.md, and what stands outside of instruments, which is done once.
 static ROWS: [Row; 19] = [
     (DEMO, 1, Some((4, 2))),
     (DEMO, 2, Some((4, 4))),

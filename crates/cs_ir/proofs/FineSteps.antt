@@ -1,5 +1,6 @@
 -- Ops of steps are fine where a routine's window is, wherever they stand in a code.
-use Rattle.std.proofs.Common.{◌≡◌, ◌∙◌, ◌+◌, ◌<◌, ◌≤◌, ◌++◌, ◌&&◌, ◌||◌, not, ℕ, zero, suc, Bool, true, false, List, [], ◌∷◌}
+use Rattle.std.proofs.Common.{◌≡◌, ◌∙◌, ◌+◌, ◌<◌, ◌≤◌, ◌++◌, ◌&&◌, ◌||◌, not, ℕ, zero, suc, Bool, true, false}
+use Rattle.std.proofs.Common.{List, [], ◌∷◌}
 use Rattle.std.proofs.Common.{drop, length, map, nat_le, nat_lt, slice_get, Some, arith, refl, sym, ap, ltb-true}
 use Rattle.std.specs.List.{list_all}
 use Rattle.std.proofs.lemmas.Bool.Decides.{nat_tests}
@@ -256,8 +257,8 @@ module _ (w : Begins) where
   suits_when c op written read unit =
       let does = writes_moved 0 op.act in
       let takes = takes_moved 0 op.act (rate_at op.into) op.from in
-      sym ((λ i. (not (does i) || has_register c (moved_reg w op.into)) && list_all (has_register c) (map (moved_reg w) op.from)
-      && finds_unit c (moved_act w 0 op.act) && takes i)
+      sym ((λ i. (not (does i) || has_register c (moved_reg w op.into))
+      && list_all (has_register c) (map (moved_reg w) op.from) && finds_unit c (moved_act w 0 op.act) && takes i)
       ∙ (λ i. written i && read i && unit i && takes_from op.act (rate_at op.into) op.from))
 
 -- ---- the steps from a number on

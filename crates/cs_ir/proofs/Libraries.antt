@@ -101,18 +101,8 @@ pub each_routine : (list : List Routine) (n : ℕ) (r : Routine) → AreRoutines
     → IsRoutineOf (library_in (take n list)) r
 each_routine list n r h is = each_from [] list n r h is
 
--- the first ones of some routines
-pub first_from : (before : List (List Op)) (list : List Routine) (n : ℕ) → AreRoutinesFrom before list
-    → AreRoutinesFrom before (take n list)
-first_from before list zero h = tt
-first_from before [] (suc n) h = tt
-first_from before (x ∷ list) (suc n) h = (h.0, first_from (before ++ ops_in before x ∷ []) list n h.1)
-
-pub first_routines : (list : List Routine) (n : ℕ) → AreRoutines list → AreRoutines (take n list)
-first_routines list n h = first_from [] list n h
-
 -- one routine more
-pub more_from : (before : List (List Op)) (list : List Routine) (r : Routine) → AreRoutinesFrom before list
+more_from : (before : List (List Op)) (list : List Routine) (r : Routine) → AreRoutinesFrom before list
     → IsRoutineOf (more_routines before (map steps_of list)) r → AreRoutinesFrom before (list ++ r ∷ [])
 more_from before [] r h is = (is, tt)
 more_from before (x ∷ list) r h is = (h.0, more_from (before ++ ops_in before x ∷ []) list r h.1 is)

@@ -1,6 +1,7 @@
 -- Lists that name the same resources; and what steps touch, by their own ops and by the routines that they invoke.
 use Rattle.std.proofs.Common.{◌≡◌, ◌∙◌, ◌+◌, ◌<◌, ◌≤◌, ◌++◌, ◌↔◌, ℕ, zero, suc, List, [], ◌∷◌, length, map, take}
-use Rattle.std.proofs.Common.{Bool, true, Some, ◌&&◌, eqb-true, get_or, slice_get, arith, refl, sym, ap, subst, nat_eq, ⊎_elim}
+use Rattle.std.proofs.Common.{Bool, true, Some, ◌&&◌, eqb-true, get_or, slice_get, arith, refl, sym, ap}
+use Rattle.std.proofs.Common.{subst, nat_eq, ⊎_elim}
 use Rattle.std.specs.Cmp.{IsEquivalence}
 use Rattle.std.proofs.lemmas.Cmp.{and_equiv, nat_eq_equiv, on_equiv}
 use Rattle.std.specs.List.{Contains, dedup, filter, flat_map, range_with_len}
@@ -202,7 +203,8 @@ module _ (t : Access) (stock : Stock) (rs : List (List Op)) where
       (same_is ((act_touches t stock op.act ++ own) ++ routines) (act_touches t stock op.act ++ (own ++ routines))
       (append_assoc (act_touches t stock op.act) own routines))
       (same_both (act_touches t stock op.act) (act_touches t stock (placed f op.act)) (own ++ routines) rest
-      (same_is (act_touches t stock op.act) (act_touches t stock (placed f op.act)) (sym (placed_touch t stock f op.act)))
+      (same_is (act_touches t stock op.act) (act_touches t stock (placed f op.act))
+      (sym (placed_touch t stock f op.act)))
       (steps_name_from f (p + 1) ss))
   steps_name_from f p (step.Invoke c ∷ ss) =
       let own = own_touches t stock ss in
@@ -217,7 +219,8 @@ module _ (t : Access) (stock : Stock) (rs : List (List Op)) where
       (ops_touch t stock (moved_ops (window_of c) p ops ++ rest))
       (same_both (ops_touch t stock ops) (ops_touch t stock ops) (own ++ routines) (ops_touch t stock rest)
       (same_itself (ops_touch t stock ops)) (steps_name_from f q ss))
-      (same_is (ops_touch t stock ops ++ ops_touch t stock rest) (ops_touch t stock (moved_ops (window_of c) p ops ++ rest))
+      (same_is (ops_touch t stock ops ++ ops_touch t stock rest)
+      (ops_touch t stock (moved_ops (window_of c) p ops ++ rest))
       (ap (λ l. l ++ ops_touch t stock rest) (sym (moved_touches t stock (window_of c) p ops))
       ∙ sym (flat_map-append (λ (o : Op). act_touches t stock o.act) (moved_ops (window_of c) p ops) rest))))
 
@@ -282,7 +285,8 @@ pub same_all : (t : Access) (stock : Stock) (rs : List (List Op)) (ss : List Ste
 same_all t stock rs ss ns own now is numbers same =
     let routines = routines_touch t stock rs (invoked ss) in
     same_then now (own ++ routines_touch t stock rs ns) (ops_touch t stock (flat rs ss)) same
-    (same_then (own ++ routines_touch t stock rs ns) (own_touches t stock ss ++ routines) (ops_touch t stock (flat rs ss))
+    (same_then (own ++ routines_touch t stock rs ns) (own_touches t stock ss ++ routines)
+    (ops_touch t stock (flat rs ss))
     (same_both own (own_touches t stock ss) (routines_touch t stock rs ns) routines
     (same_is own (own_touches t stock ss) is)
     (same_given (λ k. ops_touch t stock (ops_at rs k)) ns (invoked ss) numbers))

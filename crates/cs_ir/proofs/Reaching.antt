@@ -5,14 +5,14 @@ use Rattle.std.proofs.lemmas.List.{take_more}
 use Rattle.cs_base.proofs.Tests.{by_test}
 use Rattle.cs_ir.proofs.Libraries.{each_routine, routine_at, routine_none}
 use Rattle.cs_ir.proofs.RegisterKinds.{kind_is}
-use Rattle.cs_ir.specs.Flat.{Begins, begin_of, flat, flat_from, flat_step, moved_op, moved_ops, moved_reg, ops_at, place_of, size}
+use Rattle.cs_ir.specs.Flat.{Begins, begin_of, flat, flat_from, flat_step, moved_op, moved_ops, moved_reg, ops_at}
+use Rattle.cs_ir.specs.Flat.{place_of, size}
 use Rattle.cs_ir.specs.Flat.{window_of}
 use Rattle.cs_ir.specs.Limits.{op_limit, ops_limit}
 use Rattle.cs_ir.specs.Registers.{at_kind, reg_limit, regs_limit, same_kind}
 use Rattle.cs_ir.specs.Routines.{AreRoutines, library_in}
 use Rattle.cs_ir.specs.declared.op.Op.{Op}
 use Rattle.cs_ir.specs.declared.register.Kind.{Kind}
-use Rattle.cs_ir.specs.declared.register.Kind.TheVariants as kind
 use Rattle.cs_ir.specs.declared.register.Reg.{Reg}
 use Rattle.cs_ir.specs.declared.routine.Routine.{Routine}
 use Rattle.cs_ir.specs.declared.step.Call.{Call}
@@ -159,13 +159,3 @@ pub more_limit : (old sum here all before new : ℕ) → new ≡ max before here
     → max sum here ≡ all → new ≡ max old all
 more_limit old sum here all before new is was more =
     is ∙ ap (λ n. max n here) was ∙ max_assoc old sum here ∙ ap (max old) more
-
--- no registers
-pub no_limit : (k : Kind) → at_kind (record { counts = 0 ∷ 0 ∷ 0 ∷ 0 ∷ 0 ∷ 0 ∷ 0 ∷ [] }) k ≡ 0
-no_limit kind.LocalInit = refl
-no_limit kind.LocalControl = refl
-no_limit kind.Kept = refl
-no_limit kind.TemporaryInit = refl
-no_limit kind.TemporaryControl = refl
-no_limit kind.LocalAudio = refl
-no_limit kind.TemporaryAudio = refl

@@ -1,11 +1,14 @@
 -- Kinds of registers, known by their numbers.
 use Rattle.std.proofs.Common.{◌≡◌, ◌∙◌, ◌<◌, ◌^◌, ℕ, zero, suc, true, List, [], ◌∷◌, arith, eqb-true, ltb-true, refl}
-use Rattle.std.proofs.Common.{sym, ap}
+use Rattle.std.proofs.Common.{sym, ap, eqb, eq-eqb}
 use Rattle.std.specs.List.{list_all}
 use Rattle.std.proofs.lemmas.Bool.{and_from, and_parts}
 use Rattle.std.proofs.lemmas.Bool.Decides.{nat_tests}
+use Rattle.cs_base.specs.declared.resource.Rate.{Rate}
+use Rattle.cs_base.specs.declared.resource.Rate.TheVariants as rate
 use Rattle.cs_ir.specs.Flat.{is_small}
-use Rattle.cs_ir.specs.Registers.{at_kind, kind_number, same_kind}
+use Rattle.cs_ir.specs.Machine.{same_reg}
+use Rattle.cs_ir.specs.Registers.{at_kind, kind_number, local, rate_of, same_kind}
 use Rattle.cs_ir.specs.Validity.{has_register}
 use Rattle.cs_ir.specs.declared.register.Counts.{Counts}
 use Rattle.cs_ir.specs.declared.register.Kind.{Kind}
@@ -36,13 +39,24 @@ kind_is j k h =
     sym (number_back j) ∙ ap kind_at (eqb-true (kind_number j) (kind_number k) h) ∙ number_back k
 
 pub kind_same : (k : Kind) → same_kind k k ≡ true
-kind_same kind.LocalInit = refl
-kind_same kind.LocalControl = refl
-kind_same kind.Kept = refl
-kind_same kind.TemporaryInit = refl
-kind_same kind.TemporaryControl = refl
-kind_same kind.LocalAudio = refl
-kind_same kind.TemporaryAudio = refl
+kind_same k = eq-eqb (kind_number k) (kind_number k) refl
+
+-- a register is known by its kind and its number
+pub same_reg_is : (p q : Reg) → same_reg p q ≡ true → p ≡ q
+same_reg_is p q h =
+    let both = and_parts (same_kind p.kind q.kind) (eqb p.offset q.offset) h in
+    let k = kind_is p.kind q.kind both.0 in
+    let n = eqb-true p.offset q.offset both.1 in
+    λ i. record { kind = k i; offset = n i }
+
+pub same_reg_here : (q : Reg) → same_reg q q ≡ true
+same_reg_here q = rw (kind_same q.kind, eq-eqb q.offset q.offset refl) refl
+
+-- how often a local variable's register changes
+pub local_rate : (r : Rate) → rate_of (local r) ≡ r
+local_rate rate.Init = refl
+local_rate rate.Control = refl
+local_rate rate.Audio = refl
 
 -- registers that there are have numbers of 32 bits
 pub there_small : (c : Counts) (q : Reg) → has_register c q ≡ true → is_small q ≡ true

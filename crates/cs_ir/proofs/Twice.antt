@@ -21,13 +21,15 @@ begin_further w v kind.TemporaryAudio n = omega arith
 reg_twice : (w v : Begins) (q : Reg) → moved_reg w (moved_reg v q) ≡ moved_reg (further w v) q
 reg_twice w v q = λ i. record { kind = q.kind; offset = begin_further w v q.kind q.offset i }
 
-regs_twice : (w v : Begins) (qs : List Reg) → map (moved_reg w) (map (moved_reg v) qs) ≡ map (moved_reg (further w v)) qs
+regs_twice : (w v : Begins) (qs : List Reg)
+    → map (moved_reg w) (map (moved_reg v) qs) ≡ map (moved_reg (further w v)) qs
 regs_twice w v [] = refl
 regs_twice w v (q ∷ qs) =
     let one = reg_twice w v q in let rest = regs_twice w v qs in λ i. one i ∷ rest i
 
 act_twice : (w v : Begins) (p q : ℕ) (a : Act) → moved_act w p (moved_act v q a) ≡ moved_act (further w v) (p + q) a
-act_twice w v p q (act.Start o u) = let e : w.unit + (v.unit + u) ≡ w.unit + v.unit + u = omega arith in ap (act.Start o) e
+act_twice w v p q (act.Start o u) =
+    let e : w.unit + (v.unit + u) ≡ w.unit + v.unit + u = omega arith in ap (act.Start o) e
 act_twice w v p q (act.Unit o u r) =
     let e : w.unit + (v.unit + u) ≡ w.unit + v.unit + u = omega arith in ap (λ n. act.Unit o n r) e
 act_twice w v p q (act.Jump to) = let e : p + (q + to) ≡ p + q + to = omega arith in ap act.Jump e

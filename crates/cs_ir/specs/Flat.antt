@@ -1,5 +1,6 @@
 -- Steps and routines, and the flat list of ops that they stand for.
-use Rattle.std.specs.Prelude.{ℕ, zero, suc, Bool, true, ◌&&◌, ◌+◌, ◌*◌, ◌≤◌, ◌++◌, ◌^◌, List, [], ◌∷◌, length, map, nat_le}
+use Rattle.std.specs.Prelude.{ℕ, zero, suc, Bool, true, ◌&&◌, ◌+◌, ◌*◌, ◌≤◌, ◌++◌, ◌^◌, List, [], ◌∷◌, length, map}
+use Rattle.std.specs.Prelude.{nat_le}
 use Rattle.std.specs.Prelude.{nat_lt, slice_index_or}
 use Rattle.std.specs.List.{list_all}
 use Rattle.cs_base.specs.Rates.{at_rate}
@@ -138,7 +139,8 @@ leaves_room w =
     nat_le w.locals.init (2 ^ 63) && nat_le w.locals.control (2 ^ 63) && nat_le w.locals.audio (2 ^ 63)
     && nat_le w.kept (2 ^ 63) && nat_le w.unit (2 ^ 63)
 
--- A window of a routine that nests so deep at most: what each level adds, a number of 32 bits, leaves room for the next.
+-- A window of a routine that nests so deep at most: what each level adds, a number of 32 bits, leaves room for the
+-- next.
 pub record IsLow (depth : ℕ) (w : Begins) : Type 0 where
   pub locals : (r : Rate) → at_rate w.locals r + depth * 2 ^ 32 ≤ 2 ^ 63
   pub kept : w.kept + depth * 2 ^ 32 ≤ 2 ^ 63

@@ -46,17 +46,11 @@ fn more_of(values: &[Num]) -> &[Num]
 fn readable(values: &[Num]) -> &[Num]
     ensures { result.now ≡ take greatest_field values.now }
 {
-    if values.len() <= GREATEST_FIELD {
-        return values;
-    }
-    &values[..GREATEST_FIELD]
+    &values[..values.len().min(GREATEST_FIELD)]
 }
 
 fn value_at(values: &[Num], place: usize) -> Num
     ensures { result ≡ value_at values.now place }
 {
-    match values.get(place) {
-        Some(value) => *value,
-        None => Num::exact(0),
-    }
+    values.get(place).copied().unwrap_or(Num::exact(0))
 }

@@ -65,7 +65,8 @@ impl Ops {
     /// What the ops touch of what notes share. It is at hand at once.
     pub fn touches(&self) -> &Touches
         ensures used { (stock : Stock) → NameTheSame (named stock result.now.used.items) (ops_use stock self.now) }
-        ensures written { (stock : Stock) → NameTheSame (named stock result.now.written.items) (ops_write stock self.now) }
+        ensures written { (stock : Stock) → NameTheSame (named stock result.now.written.items)
+            (ops_write stock self.now) }
     {
         self.body.touches()
     }

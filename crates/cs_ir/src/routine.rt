@@ -1,5 +1,5 @@
 // Routines: steps that codes and later routines invoke, with what they reach and touch.
-ghost use Rattle.std.specs.Prelude.{◌≡◌, ◌<◌, ◌^◌, max, IfOk, OnOk, if◌then◌else◌};
+ghost use Rattle.std.specs.Prelude.{◌≡◌, max, IfOk, OnOk, if◌then◌else◌};
 ghost use Rattle.cs_ir.specs.Flat.{begin_of, flat, window_of};
 ghost use Rattle.cs_ir.specs.Limits.{op_limit, ops_limit};
 ghost use Rattle.cs_ir.specs.Registers.{at_kind, reg_limit, regs_limit, same_kind};

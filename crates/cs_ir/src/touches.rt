@@ -2,12 +2,14 @@
 ghost use Rattle.std.specs.Prelude.{ℕ, ◌≡◌, ◌++◌, ◌↔◌, [], IfOk, OnOk, if◌then◌else◌};
 ghost use Rattle.std.specs.List.{Contains};
 ghost use Rattle.cs_ir.specs.Flat.{flat, ops_at};
-ghost use Rattle.cs_ir.specs.Resources.{NameTheSame, Stock, act_uses, act_writes, may_use, may_write, ops_use, ops_write};
+ghost use Rattle.cs_ir.specs.Resources.{NameTheSame, Stock, act_uses, act_writes, may_use, may_write};
+ghost use Rattle.cs_ir.specs.Resources.{ops_use, ops_write};
 ghost use Rattle.cs_ir.specs.Resources.{shape_uses, unit_uses, writes_places};
 ghost use Rattle.cs_ir.specs.Routines.{AreRoutines, library_in};
 ghost use Rattle.cs_ir.specs.Touched.{covers, named, named_by};
 ghost use Rattle.cs_ir.specs.declared.touches.Touch.{Touch};
-ghost use Rattle.cs_ir.specs.inner.Naming.{invoked as invoked_by, key_of, own_touches, reach_key, routines_touch, within};
+ghost use Rattle.cs_ir.specs.inner.Naming.{invoked as invoked_by, key_of, own_touches, reach_key};
+ghost use Rattle.cs_ir.specs.inner.Naming.{routines_touch, within};
 
 use crate::{Act, Reach, Routine, Step};
 use cs_base::{OutOfMemory, Res, Spaces};

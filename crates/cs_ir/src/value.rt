@@ -101,13 +101,7 @@ fn bounded(octave: i64) -> usize
     ensures value { result ≡ unsigned_abs (int_max (pos 0) (int_min octave (pos 20))) }
     ensures small { result ≤ 20 }
 {
-    if octave < 0 {
-        return 0;
-    }
-    if octave > 20 {
-        return 20;
-    }
-    octave as usize
+    octave.clamp(0, 20).unsigned_abs() as usize
 }
 
 // Thousandths of a hertz of a semitone in the octave of middle C.

@@ -2,7 +2,8 @@
 use Rattle.std.proofs.Common.{◌≡◌, ◌<◌, ◌≤◌, ◌+◌, ◌++◌, ℕ, zero, suc, List, [], ◌∷◌, length, get_or, set, take, drop}
 use Rattle.std.proofs.Common.{slice_get, replicate, Some, Bool, true, false, ◌||◌, refl, sym, ◌∙◌, ap, subst, arith}
 use Rattle.std.specs.List.{filter, range_with_len}
-use Rattle.std.proofs.lemmas.List.{append-nil, append_assoc, get_or_default, length-append, length-drop, length-map, length-take-le}
+use Rattle.std.proofs.lemmas.List.{append-nil, append_assoc, get_or_default, length-append, length-drop, length-map}
+use Rattle.std.proofs.lemmas.List.{length-take-le}
 use Rattle.cs_base.specs.declared.spaces.Spaces.{Spaces}
 use Rattle.cs_ir.proofs.Naming.{flat_next}
 use Rattle.cs_ir.specs.Resources.{NameTheSame}
@@ -156,7 +157,8 @@ rewritten_long n old new k long is =
 
 -- what is touched by one more
 pub touch_step : (areas : List Area) (rs : List Res) (touches : List Touch) (i : ℕ) (d : Touch) → i < length touches
-    → marks_of areas ((rs ++ named (stock_of areas) (take i touches)) ++ resources (stock_of areas) (get_or touches i d))
+    → marks_of areas
+    ((rs ++ named (stock_of areas) (take i touches)) ++ resources (stock_of areas) (get_or touches i d))
     ≡ marks_of areas (rs ++ named (stock_of areas) (take (i + 1) touches))
 touch_step areas rs touches i d low =
     let stock = stock_of areas in

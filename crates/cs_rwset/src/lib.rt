@@ -6,8 +6,8 @@
 //! place alone, a computed one all that may be reached (`reach_of_numbers`).
 //!
 //! How areas are marked, and whether more than neighbours are one zone, may be changed without anyone above noticing.
-//! To be read in this order: `runs` (where the areas of what has numbers lie side by side),
-//! `marks`, `code`, `zones`, `laws` (what holds of the places of resources, and worked examples).
+//! To be read in this order: `runs` (where the areas of what has numbers lie side by side), `marks`, `code`, `zones`,
+//! `laws` (what holds of the places of resources, and worked examples).
 #![tactic(auto)]
 
 mod code;

@@ -29,9 +29,9 @@ pub struct Zoned {
 
 /// Zones: neighbouring areas that each of these codes may use together, or not at all, and so with what it may write,
 /// as one; and what each code may touch of them. So a footprint has a place for each zone, however many areas a
-/// computed number may name. For each code it takes as long as the list of the acts by which its ops touch what notes
-/// share, and as the layout has areas; for an act whose reach is over many numbers as long again as it names areas,
-/// where those lie side by side, and else as the layout has areas. The one error is out of memory.
+/// computed number may name. For each code it takes as long as the list of what its ops touch of what notes share, and
+/// as the layout has areas; for a reach over many numbers as long again as it names areas, where those lie side by
+/// side, and else as the layout has areas. The one error is out of memory.
 pub fn find_zones(
     alloc: Global,
     layout: &Layout,

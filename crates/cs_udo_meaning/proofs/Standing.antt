@@ -24,7 +24,7 @@ use Rattle.cs_typing.specs.Expressions.{rate_of}
 use Rattle.cs_typing.specs.Known.{Shared, place_in, global, channel_of}
 use Rattle.cs_typing.specs.declared.known.Channel.{Channel}
 use Rattle.cs_typing.specs.declared.known.Channel.TheVariants as channel
-use Rattle.cs_ir.proofs.RegisterKinds.{kind_is}
+use Rattle.cs_ir.proofs.RegisterKinds.{kind_is, local_rate, same_reg_here}
 use Rattle.cs_ir.specs.Machine.{same_reg, put}
 use Rattle.cs_ir.specs.Registers.{local, rate_of as kind_rate, same_kind}
 use Rattle.cs_ir.specs.Waves.{Wave, held}
@@ -47,9 +47,6 @@ use Rattle.cs_udo_meaning.proofs.Paths.{inward}
 equal_tests : (i j : ℕ) → (i == j) ≡ true → i ≡ j
 equal_tests i j h = grind (arith, nat_tests)
 
-test_here : (i : ℕ) → (i == i) ≡ true
-test_here i = grind (arith, nat_tests)
-
 same_paths : (p q : Path) → same_path p q ≡ true → p ≡ q
 same_paths p q h = (bytes_eq-Decides p q).0 h
 
@@ -61,26 +58,16 @@ same_truth true c p q = sym (p refl)
 same_truth false true p q = q refl
 same_truth false false p q = refl
 
-local_rate : (r : Rate) → kind_rate (local r) ≡ r
-local_rate rate.Init = refl
-local_rate rate.Control = refl
-local_rate rate.Audio = refl
-
-same_reg_is : (r s : Rate) (n m : ℕ) → same_reg (reg r n) (reg s m) ≡ true → (r ≡ s) × (n ≡ m)
-same_reg_is r s n m h =
+same_local_is : (r s : Rate) (n m : ℕ) → same_reg (reg r n) (reg s m) ≡ true → (r ≡ s) × (n ≡ m)
+same_local_is r s n m h =
     let parts = and_parts (same_kind (local r) (local s)) (n == m) h in (
       sym (local_rate r) ∙ ap kind_rate (kind_is (local r) (local s) parts.0) ∙ local_rate s,
       equal_tests n m parts.1,
     )
 
-same_reg_here : (r s : Rate) (n m : ℕ) → r ≡ s → n ≡ m → same_reg (reg r n) (reg s m) ≡ true
-same_reg_here r s n m e f =
-    ap (λ q. same_reg (reg q n) (reg s m)) e ∙ ap (λ k. same_reg (reg s k) (reg s m)) f ∙ here s m
-  where
-    here : (q : Rate) (k : ℕ) → same_reg (reg q k) (reg q k) ≡ true
-    here rate.Init k = test_here k
-    here rate.Control k = test_here k
-    here rate.Audio k = test_here k
+same_local_here : (r s : Rate) (n m : ℕ) → r ≡ s → n ≡ m → same_reg (reg r n) (reg s m) ≡ true
+same_local_here r s n m e f =
+    ap (λ q. same_reg (reg q n) (reg s m)) e ∙ ap (λ k. same_reg (reg s k) (reg s m)) f ∙ same_reg_here (reg s m)
 
 -- ---- variables of a frame
 
@@ -231,17 +218,17 @@ module _ {W : Type 0} (o : World W) (way : Way) (clear : IsClear way) (flat own 
       there : same_reg (reg (name_rate y) (flat (own_name f y))) (reg (name_rate x) (flat (own_name f x))) ≡ true
           → same_reg (reg (name_rate y) (own y)) (reg (name_rate x) (own x)) ≡ true
       there e =
-          let k = same_reg_is (name_rate y) (name_rate x) (flat (own_name f y)) (flat (own_name f x)) e in
+          let k = same_local_is (name_rate y) (name_rate x) (flat (own_name f y)) (flat (own_name f x)) e in
           let names = tf (own_name f y) (own_name f x) (own_rate f y ∙ k.0 ∙ sym (own_rate f x)) k.1 in
           let one = (own_apart f f y x ey ex fy fx names).1 in
-          same_reg_here (name_rate y) (name_rate x) (own y) (own x) k.0 (ap own one)
+          same_local_here (name_rate y) (name_rate x) (own y) (own x) k.0 (ap own one)
 
       back : same_reg (reg (name_rate y) (own y)) (reg (name_rate x) (own x)) ≡ true
           → same_reg (reg (name_rate y) (flat (own_name f y))) (reg (name_rate x) (flat (own_name f x))) ≡ true
       back e =
-          let k = same_reg_is (name_rate y) (name_rate x) (own y) (own x) e in
+          let k = same_local_is (name_rate y) (name_rate x) (own y) (own x) e in
           let one = to y x k.0 k.1 in
-          same_reg_here (name_rate y) (name_rate x) (flat (own_name f y)) (flat (own_name f x)) k.0
+          same_local_here (name_rate y) (name_rate x) (flat (own_name f y)) (flat (own_name f x)) k.0
           (ap (λ z. flat (own_name f z)) one)
 
   others_put : (t s : Note W) → View t s → (x : List ℕ) → is_global x ≡ false → Fits f x
@@ -258,7 +245,7 @@ module _ {W : Type 0} (o : World W) (way : Way) (clear : IsClear way) (flat own 
           → (if c then a else t.locals (reg (name_rate y) (flat (own_name g y)))) ≡ u.frames q
           (reg (name_rate y) (own y))
       by true e =
-          let k = same_reg_is (name_rate y) (name_rate x) (flat (own_name g y)) (flat (own_name f x)) e in
+          let k = same_local_is (name_rate y) (name_rate x) (flat (own_name g y)) (flat (own_name f x)) e in
           let names = tf (own_name g y) (own_name f x) (own_rate g y ∙ k.0 ∙ sym (own_rate f x)) k.1 in
           let one = (own_apart g f y x ey ex fy fx names).0 in
           let same : q ≡ p = some_is q p (sym there ∙ ap way.frame one ∙ at) in

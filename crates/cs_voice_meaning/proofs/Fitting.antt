@@ -1,7 +1,7 @@
 -- A voice stays in the room that its codes' counts give it.
 use Rattle.std.proofs.Common.{◌≡◌, ℕ, ℤ, pos, ◌+◌, ◌-◌, ◌&&◌, ◌||◌, ◌==◌, Bool, true, false, not, List, [], ◌∷◌, map}
 use Rattle.std.proofs.Common.{length, nat_lt, nat_le, slice_index_or, Option, Some, None, if◌then◌else◌, refl, sym, ◌∙◌}
-use Rattle.std.proofs.Common.{ap, subst, arith, eqb, eqb-true}
+use Rattle.std.proofs.Common.{ap, subst, arith, eqb-true}
 use Rattle.std.specs.List.{list_all}
 use Rattle.std.proofs.lemmas.Bool.{and_parts}
 use Rattle.std.proofs.lemmas.Bool.Decides.{nat_tests}
@@ -17,8 +17,8 @@ use Rattle.cs_words.specs.declared.catalogue.Shape.TheVariants as shape
 use Rattle.cs_words.specs.declared.catalogue.Space.{Space}
 use Rattle.cs_words.specs.declared.catalogue.Space.TheVariants as space
 use Rattle.cs_signal.specs.Delay.{delay_length}
-use Rattle.cs_ir.proofs.RegisterKinds.{kind_is}
-use Rattle.cs_ir.specs.Registers.{rate_at, same_kind}
+use Rattle.cs_ir.proofs.RegisterKinds.{same_reg_is}
+use Rattle.cs_ir.specs.Registers.{rate_at}
 use Rattle.cs_ir.specs.Machine.{Machine, same_reg, write, acts, is_done, step, run, gives, new_machine}
 use Rattle.cs_ir.specs.Validity.{has_register, writes, finds, takes_from, is_fine, fine_from}
 use Rattle.cs_ir.specs.Resources.{reaches}
@@ -44,13 +44,6 @@ use Rattle.cs_voice_meaning.specs.Voices.{performed, has_channel, have_channels}
 use Rattle.cs_voice_meaning.specs.Room.{FitsIn, VoiceFits}
 
 -- ---- registers and frames
-
-same_reg_is : (p q : Reg) → same_reg p q ≡ true → p ≡ q
-same_reg_is p q h =
-    let both = and_parts (same_kind p.kind q.kind) (eqb p.offset q.offset) h in
-    let k = kind_is p.kind q.kind both.0 in
-    let n = eqb-true p.offset q.offset both.1 in
-    λ i. record { kind = k i; offset = n i }
 
 twice : (b : Bool) (x : ℤ) → (if b then (if b then x else pos 0) else pos 0) ≡ (if b then x else pos 0)
 twice true x = refl

@@ -13,7 +13,7 @@ use Rattle.cs_ir.specs.declared.op.Op.{Op}
 use Rattle.cs_ir.specs.declared.op.Reach.{Reach}
 use Rattle.cs_ir.specs.declared.op.Reach.TheVariants as reach
 use Rattle.cs_ir.specs.declared.register.Reg.{Reg}
-use Rattle.cs_meaning.specs.Core.{plus, core_call, whole_part, values_of, unit_call, store_call, zak_call, Stmt, Block}
+use Rattle.cs_meaning.specs.Core.{plus, whole_part, values_of, unit_call, store_call, zak_call, Stmt, Block}
 use Rattle.cs_meaning.specs.Core.{Arms, set, out, out_at, ask, turnoff, nothing, core, core_arms}
 use Rattle.cs_meaning.specs.When.{When, beginning, cycle}
 use Rattle.cs_code.specs.inner.Kept.{past, past_parts}
@@ -160,9 +160,9 @@ zak_known spaces shape.ZakMix x y = place_known spaces.audio y
 zak_known spaces (shape.ZakClear s) x y = span_known (places_of spaces s) x y
 zak_known spaces _ x y = reach.Nothing
 
--- what a call is short for by a shape
-abbrev pub call_of : Spaces → Call → Shape → Stmt
-call_of o k sh = core_call o k.rate k.results.now k.opcode sh (arguments_of k)
+-- a call as a statement of the tree
+abbrev pub called : Call → typed.Statement
+called k = typed.call 0 k.rate k.results.now k.opcode (arguments_of k)
 
 -- whether the arms of an `if` are all initialised, while nothing is chosen yet
 abbrev pub takes_all : Pass → Rate → Bool

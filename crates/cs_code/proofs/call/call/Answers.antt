@@ -1,19 +1,23 @@
-use Rattle.std.proofs.Common.{◌≡◌, sym, subst, IfOk, OnOk}
-use Rattle.cs_ir.specs.Drafts.{Grew}
+use Rattle.std.proofs.Common.{◌≡◌, ◌∙◌, length, sym, subst, ap, IfOk, OnOk}
+use Rattle.cs_ir.specs.Drafts.{Grew, drafted}
 use Rattle.cs_words.specs.Catalogue.{row_of}
 use Rattle.cs_code.specs.inner.Code.{pass_code}
 use Rattle.cs_code.specs.inner.Emitted.{assignment_of, arguments_of}
 use Rattle.cs_code.specs.inner.Kept.{past_stmt}
-use Rattle.cs_code.proofs.Calls.{call_assigned, call_effect}
+use Rattle.cs_code.proofs.Calls.{call_alone, call_assigned, call_effect}
 use Rattle.cs_code.proofs.call.call.Goals as goal
 
 pub returns-in-Some-clause-ops : goal.returns-in-Some-clause-ops
 returns-in-Some-clause-ops c =
     let k = c.args.call.now in
-    subst (λ s. OnOk c.assign.result (Grew c.args.ops.now c.assign.new.ops
-    (pass_code c.args.context.pass 0 c.args.p s)))
-    (sym (call_assigned c.args.context.spaces k.rate k.results.now k.opcode (row_of k.opcode).shape (arguments_of k)
+    let way = c.args.context.pass in
+    let sp = c.args.context.spaces in
+    let old = c.args.ops.now in
+    subst (λ y. OnOk c.assign.result (Grew old c.assign.new.ops y))
+    (ap (pass_code way 0 c.args.p)
+    (sym (call_assigned sp k.rate k.results.now k.opcode (row_of k.opcode).shape (arguments_of k)
     (assignment_of c.in-Some.assignment) (sym c.in-Some.ensures)))
+    ∙ call_alone way (length (drafted old)) c.args.p sp k)
     c.assign.ensures.ops
 
 pub returns-in-Some-clause-next : goal.returns-in-Some-clause-next
@@ -27,10 +31,14 @@ returns-in-Some-clause-next c =
 pub returns-in-None-clause-ops : goal.returns-in-None-clause-ops
 returns-in-None-clause-ops c =
     let k = c.args.call.now in
-    subst (λ s. OnOk c.effect.result (Grew c.args.ops.now c.effect.new.ops
-    (pass_code c.args.context.pass 0 c.args.p s)))
-    (sym (call_effect c.args.context.spaces k.rate k.results.now k.opcode (row_of k.opcode).shape (arguments_of k)
+    let way = c.args.context.pass in
+    let sp = c.args.context.spaces in
+    let old = c.args.ops.now in
+    subst (λ y. OnOk c.effect.result (Grew old c.effect.new.ops y))
+    (ap (pass_code way 0 c.args.p)
+    (sym (call_effect sp k.rate k.results.now k.opcode (row_of k.opcode).shape (arguments_of k)
     (sym c.in-None.ensures)))
+    ∙ call_alone way (length (drafted old)) c.args.p sp k)
     c.effect.ensures.ops
 
 pub returns-in-None-clause-next : goal.returns-in-None-clause-next

@@ -37,8 +37,8 @@ returns c = λ s rated.
     let codes = c.in_ok-codes.codes in
     let is = c.in_ok-codes.ensures in
     let same = c.in_ok-new.ensures.ok in
-    made_code c.args.orc.now.spaces s (typed.block (typed.routines c.args.orc.now.routines.items) c.args.stmts.now) rated
-    codes.counts codes.init codes.perf
+    made_code c.args.orc.now.spaces s (typed.block (typed.routines c.args.orc.now.routines.items) c.args.stmts.now)
+    rated codes.counts codes.init codes.perf
     (record {
       init_is = is.init;
       perf_is = is.perf;

@@ -1,5 +1,6 @@
 use Rattle.std.proofs.Common.{◌≡◌, ◌∙◌, ◌+◌, ◌++◌, ◌∷◌, [], length, arith, ap, sym, subst}
 use Rattle.std.proofs.lemmas.List.{drop_all, length-append}
+use Rattle.cs_ir.proofs.Libraries.{one_more_routine}
 use Rattle.cs_ir.specs.Routines.{AreRoutines, IsRoutineOf, library_in, ops_in}
 use Rattle.cs_typed.specs.TypedTree as typed
 use Rattle.cs_code.specs.inner.Code.{pass_block_code}
@@ -8,7 +9,7 @@ use Rattle.cs_code.specs.inner.Kept.{past_block, start}
 use Rattle.cs_code.specs.inner.Served.{Serve}
 use Rattle.cs_code.proofs.Growing.{serve_as}
 use Rattle.cs_code.proofs.Lists.{dropped}
-use Rattle.cs_code.proofs.Invoked.{routines_more, serve_more}
+use Rattle.cs_code.proofs.Invoked.{serve_more}
 use Rattle.cs_code.proofs.routines.add_routines.Goals as goal
 
 pub code_of-requires-clause-are : goal.code_of-requires-clause-are
@@ -39,7 +40,7 @@ loop-stmts-preserved c =
     let is = subst (λ l. IsRoutineOf (library_in l) r) there c.in_ok-code.ensures.is in
     let grown : c.push.new.self.items ≡ made ++ r ∷ [] = c.in_ok-push.ensures.items in
     let longer : c.push-in-loop-stmts.new.self.items ≡ extents ++ e ∷ [] = c.in_ok-push-2.ensures.items in (
-      subst AreRoutines (sym grown) (routines_more [] made r was.0 is),
+      subst AreRoutines (sym grown) (one_more_routine made r was.0 is),
       omega (arith, was.1, ap length grown, length-append made (r ∷ [])),
       λ rs serve. let seen = was.2 rs serve in
           let now = seen.0 in

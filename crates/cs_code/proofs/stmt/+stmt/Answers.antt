@@ -1,5 +1,5 @@
-use Rattle.std.proofs.Common.{◌≡◌, ◌∙◌, ◌+◌, ◌*◌, ◌<◌, ◌≤◌, ◌++◌, ◌∷◌, [], arith, rules, drop, length, map, sym, ap, subst}
-use Rattle.std.proofs.Common.{IfOk, OnOk, append-nil}
+use Rattle.std.proofs.Common.{◌≡◌, ◌∙◌, ◌+◌, ◌*◌, ◌<◌, ◌≤◌, ◌++◌, ◌∷◌, [], arith, rules, drop, length, map, sym, ap}
+use Rattle.std.proofs.Common.{subst, IfOk, OnOk, append-nil}
 use Rattle.std.specs.List.{AllZip}
 use Rattle.std.proofs.lemmas.List.{append_assoc, drop_all}
 use Rattle.std.proofs.lemmas.Result.{on_ok_weaker}
@@ -96,7 +96,8 @@ stmt-returns-in_ok-next-in-Choose-clause-next t c = λ rs serve.
     (typed.arms rs (typed.block rs c.in-Choose.els.items) c.in-Choose.arms.items)) =
     search (rules, the_lemmas, typed_block_is rs, typed_arms_is rs, c.in-Choose.is) in
     let made = c.in_ok-next-in-Choose.ensures in
-    let serves = serve_on way sp rs c.args.extents.now c.args.ops.now c.each_arm.new.ops (made.ops rs serve).routines serve in
+    let serves = serve_on way sp rs c.args.extents.now c.args.ops.now c.each_arm.new.ops (made.ops rs serve).routines
+    serve in
     subst (λ y. IfOk c.block.result (λ q. q ≡ y))
     (past_choice (scope_of sp rs) _ _ _ _ _ _ _ seen c.deref-then-takes_all.ensures.value
     c.deref-then-takes_all-2.ensures.value c.args.p c.in_ok-next-in-Choose.next (made.next rs serve))
@@ -129,7 +130,8 @@ stmt-returns-in_ok-done-in-Choose-clause-next t c = λ rs serve.
     (typed.arms rs (typed.block rs c.in-Choose.els.items) c.in-Choose.arms.items)) =
     search (rules, the_lemmas, typed_block_is rs, typed_arms_is rs, c.in-Choose.is) in
     let made = c.in_ok-last-in-Choose.ensures in
-    let serves = serve_on way sp rs c.args.extents.now c.args.ops.now c.arms_of.new.ops (made.ops rs serve).routines serve in
+    let serves = serve_on way sp rs c.args.extents.now c.args.ops.now c.arms_of.new.ops (made.ops rs serve).routines
+    serve in
     c.in_ok-done-in-Choose.ensures.next rs serves
     ∙ past_choice (scope_of sp rs) _ _ _ _ _ _ _ seen c.deref-else-takes_all.ensures.value
     c.deref-else-takes_all-2.ensures.value c.args.p c.in_ok-last-in-Choose.last (made.next rs serve)
@@ -166,13 +168,13 @@ stmt-returns-in-Call-clause-ops t c = λ rs serve.
     let seen : typed.statement rs c.args.s.now
     ≡ typed.alone (typed.call c.args.s.now.line r vs k (map typed.argument c.in-Call.args.items)) =
     search (rules, c.in-Call.is) in
-    subst (λ y. OnOk c.called.result (Grew old c.called.new.ops y))
+    subst (λ y. OnOk c.call.result (Grew old c.call.new.ops y))
     (ap (λ us. pass_block_code way (length (drafted old)) p
     (core_in o (typed.alone (typed.call 0 r us k (map typed.argument c.deref.result.now))))) c.as_slice.ensures
     ∙ ap (λ xs. pass_block_code way (length (drafted old)) p
     (core_in o (typed.alone (typed.call 0 r vs k (map typed.argument xs))))) c.deref.ensures.value
     ∙ sym (ap (λ x. pass_block_code way (length (drafted old)) p (core_in o x)) seen))
-    c.called.ensures.ops
+    c.call.ensures.ops
 
 pub stmt-returns-in-Call-clause-next : goal.stmt-returns-in-Call-clause-next
 stmt-returns-in-Call-clause-next t c = λ rs serve.
@@ -184,13 +186,13 @@ stmt-returns-in-Call-clause-next t c = λ rs serve.
     let seen : typed.statement rs c.args.s.now
     ≡ typed.alone (typed.call c.args.s.now.line r vs k (map typed.argument c.in-Call.args.items)) =
     search (rules, c.in-Call.is) in
-    subst (λ y. IfOk c.called.result (λ q. q ≡ y))
+    subst (λ y. IfOk c.call.result (λ q. q ≡ y))
     (ap (λ us. past_block p (core_in o (typed.alone (typed.call 0 r us k (map typed.argument c.deref.result.now)))))
     c.as_slice.ensures
     ∙ ap (λ xs. past_block p (core_in o (typed.alone (typed.call 0 r vs k (map typed.argument xs)))))
     c.deref.ensures.value
     ∙ sym (ap (λ x. past_block p (core_in o x)) seen))
-    c.called.ensures.next
+    c.call.ensures.next
 
 pub stmt-returns-in-Invoke-clause-ops : goal.stmt-returns-in-Invoke-clause-ops
 stmt-returns-in-Invoke-clause-ops t c = λ rs serve.

@@ -1,14 +1,10 @@
-use Rattle.std.proofs.Common.{◌≤◌, length, sym, arith}
-use Rattle.std.proofs.lemmas.List.{length-take-le, take_all}
+use Rattle.std.proofs.Common.{◌≡◌, ◌∙◌, arith, ap, length, min, take}
+use Rattle.std.proofs.lemmas.List.{take_min}
 use Rattle.cs_base.specs.Limits.{greatest_field}
 use Rattle.cs_ir.proofs.ask.readable.Goals as goal
 
-pub returns-then-values-le-GREATEST_FIELD : goal.returns-then-values-le-GREATEST_FIELD
-returns-then-values-le-GREATEST_FIELD c =
-    let few : length c.args.values.now ≤ 100 = omega (arith, c.if-values-le-GREATEST_FIELD.true) in
-    sym (take_all greatest_field c.args.values.now few)
-
-pub slice_bounds-result-end : goal.slice_bounds-result-end
-slice_bounds-result-end c =
-    let many : 100 ≤ length c.args.values.now = omega (arith, c.if-values-le-GREATEST_FIELD.false) in
-    sym (length-take-le 100 c.args.values.now many)
+pub returns : goal.returns
+returns c =
+    let values = c.args.values.now in
+    let end : c.min.result ≡ min 100 (length values) = omega (arith, c.min.ensures) in
+    ap (λ n. take n values) end ∙ take_min greatest_field values

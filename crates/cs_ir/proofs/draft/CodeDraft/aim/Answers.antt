@@ -26,7 +26,7 @@ returns c place h =
     c.aim_step.ensures ∙ ap (λ n. aim_step n c.len-end.result c.self.inside.steps.items) c.mark.view_is
     ∙ ap (λ n. aim_step c.args.mark n c.self.inside.steps.items) long
     ∙ ap (λ (d : Draft). aim_step c.args.mark (length d.steps) d.steps) c.self.view_is in
-    subst (λ (l : List Step). Aimed old (record { routines = map steps_of c.self.inside.routines.now; steps = l }) place)
-    (sym aimed)
+    subst (λ (l : List Step).
+    Aimed old (record { routines = map steps_of c.self.inside.routines.now; steps = l }) place) (sym aimed)
     (subst (λ (d : Draft). Aimed old (record d { steps = aim_step c.args.mark (length old.steps) old.steps }) place)
     (sym c.self.view_is) (aimed_so old c.args.mark place h))

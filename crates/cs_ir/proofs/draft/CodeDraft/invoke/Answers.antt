@@ -11,7 +11,8 @@ use Rattle.cs_ir.proofs.draft.CodeDraft.invoke.Goals as goal
 pub returns-in_ok-push_step : goal.returns-in_ok-push_step
 returns-in_ok-push_step c =
     subst (λ (d : Draft). Grew c.args.self.now d target) (sym c.in_ok-push_step.ensures.more)
-    (subst (Grew c.args.self.now (record c.args.self.now { steps = c.args.self.now.steps ++ step.Invoke c.in-Some.call ∷ [] }))
+    (subst (Grew c.args.self.now
+    (record c.args.self.now { steps = c.args.self.now.steps ++ step.Invoke c.in-Some.call ∷ [] }))
     (same (length (drafted c.args.self.now)))
     (draft_call c.args.self.now c.in-Some.call c.in_ok-push_step.ensures.within))
   where
@@ -20,7 +21,8 @@ returns-in_ok-push_step c =
         (ops_at (library_of c.args.self.now) c.args.call.routine)
 
     found : (place : ℕ)
-        → moved_ops (window_of c.in-Some.call) place (ops_at (library_in c.self.inside.routines.now) c.in-Some.call.routine)
+        → moved_ops (window_of c.in-Some.call) place
+        (ops_at (library_in c.self.inside.routines.now) c.in-Some.call.routine)
         ≡ moved_ops (window_of c.args.call) place (ops_at (library_in c.self.inside.routines.now) c.args.call.routine)
     found = subst (λ o. IfSome o (λ (x : Call). (place : ℕ)
         → moved_ops (window_of x) place (ops_at (library_in c.self.inside.routines.now) x.routine)

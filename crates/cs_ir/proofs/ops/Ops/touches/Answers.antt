@@ -8,7 +8,8 @@ use Rattle.cs_ir.proofs.ops.Ops.touches.Goals as goal
 
 pub returns-clause-used : goal.returns-clause-used
 returns-clause-used c stock =
-    subst (λ (ops : List Op). NameTheSame (named stock c.touches.result.now.used.items) (ops_use stock ops)) c.self.view_is
+    subst (λ (ops : List Op). NameTheSame (named stock c.touches.result.now.used.items) (ops_use stock ops))
+    c.self.view_is
     (subst (λ (t : Touches). NameTheSame (named stock t.used.items)
     (ops_use stock (ops_in (library_in c.self.inside.routines.value.items) c.self.inside.body)))
     (sym c.touches.ensures) (c.self.invariant.2.used stock))
