@@ -1,6 +1,6 @@
-// The graph of a control cycle's jobs.
+// The graph of a control cycle's jobs, by their footprints.
 ghost use Rattle.cs_base.specs.Limits.{most_notes};
-ghost use Rattle.std.specs.Prelude.{◌≡◌, ◌*◌, ◌+◌, ◌<◌, ◌≤◌, ◌↔◌, ℕ, List, map, length, slice_index};
+ghost use Rattle.std.specs.Prelude.{◌≡◌, ◌*◌, ◌+◌, ◌<◌, ◌≤◌, ◌↔◌, ℕ, List, length, slice_index};
 ghost use Rattle.std.specs.Prelude.{IfOk, IfSome, IfNone};
 ghost use Rattle.std.specs.List.{AllPairs};
 ghost use Rattle.cs_graph.specs.Graph.{IsGraphOf, IsFit, IsLevelled, Edge, ComesBefore, LeadsForward, StandTogether};
@@ -12,7 +12,7 @@ use crate::chains::chained;
 use crate::cover::count_chains;
 use crate::growing::{Growing, grow};
 use cs_base::OutOfMemory;
-use cs_cells::Job;
+use cs_cells::Footprint;
 use std::alloc::Global;
 use std::marker::Model;
 use std::ops::Range;
@@ -48,16 +48,16 @@ impl Model for Graph {
 }
 
 impl Graph {
-    /// The graph of jobs in serial order, as many as a cycle may have notes.
-    pub fn of_jobs<J: Job>(alloc: Global, jobs: &[J]) -> Result<Graph, OutOfMemory>
-        requires { length jobs.now ≤ most_notes }
-        ensures graph { IfOk result (λ graph. IsGraphOf (map J.means.foot jobs.now) graph) }
+    /// The graph of jobs with these footprints, in serial order, as many as a cycle may have notes.
+    pub fn of_feet(alloc: Global, feet: &[Footprint]) -> Result<Graph, OutOfMemory>
+        requires { length feet.now ≤ most_notes }
+        ensures graph { IfOk result (IsGraphOf feet.now) }
         // Each edge is a conflict, and each conflict is reached along edges.
-        ensures fit { IfOk result (λ graph. IsFit (map J.means.foot jobs.now) graph.edges) }
+        ensures fit { IfOk result (λ graph. IsFit feet.now graph.edges) }
         // The levels by the rule on the earlier conflicting notes.
-        ensures levelled { IfOk result (λ graph. IsLevelled (map J.means.foot jobs.now) graph.levels) }
+        ensures levelled { IfOk result (λ graph. IsLevelled feet.now graph.levels) }
     {
-        let graph = Graph::link(alloc, grow(alloc, jobs)?)?;
+        let graph = Graph::link(alloc, grow(alloc, feet)?)?;
         Ok(graph)
     }
 

@@ -1,13 +1,13 @@
 // A graph as far as it is built, note by note.
 ghost use Rattle.cs_base.specs.Limits.{most_notes};
-ghost use Rattle.std.specs.Prelude.{◌≡◌, ◌+◌, ◌<◌, ◌≤◌, map, length, IfOk, OnOk};
+ghost use Rattle.std.specs.Prelude.{◌≡◌, ◌+◌, ◌<◌, ◌≤◌, length, IfOk, OnOk};
 ghost use Rattle.cs_graph.specs.inner.Growing.{IsGrown};
 
 use crate::draw::add_edges;
 use crate::nearest::{Known, nearest};
 use crate::touched::{SharersByPlace, meet};
 use cs_base::OutOfMemory;
-use cs_cells::Job;
+use cs_cells::Footprint;
 use std::alloc::Global;
 use std::collections::HashMap;
 
@@ -23,13 +23,13 @@ pub struct Growing {
 }
 
 impl Growing {
-    fn add_note<J: Job>(&mut self, jobs: &[J], note: u32) -> Result<(), OutOfMemory>
+    fn add_note(&mut self, feet: &[Footprint], note: u32) -> Result<(), OutOfMemory>
         requires small { note < most_notes }
-        requires within { note < length jobs.now }
-        requires grown { IsGrown (map J.means.foot jobs.now) note self.old }
-        ensures { OnOk result (IsGrown (map J.means.foot jobs.now) (note + 1) self.new) }
+        requires within { note < length feet.now }
+        requires grown { IsGrown feet.now note self.old }
+        ensures { OnOk result (IsGrown feet.now (note + 1) self.new) }
     {
-        let met = meet(&mut self.by_place, jobs, note)?;
+        let met = meet(&mut self.by_place, feet, note)?;
         let found = nearest(&met, note, &self.known);
         let first = self.edges.len() as u32;
         add_edges(&mut self.edges, &found.near, note)?;
@@ -41,9 +41,9 @@ impl Growing {
 }
 
 /// What is known once all notes are taken in.
-pub fn grow<J: Job>(alloc: Global, jobs: &[J]) -> Result<Growing, OutOfMemory>
-    requires { length jobs.now ≤ most_notes }
-    ensures { IfOk result (IsGrown (map J.means.foot jobs.now) (length jobs.now)) }
+pub fn grow(alloc: Global, feet: &[Footprint]) -> Result<Growing, OutOfMemory>
+    requires { length feet.now ≤ most_notes }
+    ensures { IfOk result (IsGrown feet.now (length feet.now)) }
 {
     let mut growing = Growing {
         by_place: HashMap::new(alloc),
@@ -52,8 +52,8 @@ pub fn grow<J: Job>(alloc: Global, jobs: &[J]) -> Result<Growing, OutOfMemory>
         levels: Vec::new(alloc),
         into: Vec::new(alloc),
     };
-    for note in 0..jobs.len() as u32 {
-        growing.add_note(jobs, note)?;
+    for note in 0..feet.len() as u32 {
+        growing.add_note(feet, note)?;
     }
     Ok(growing)
 }

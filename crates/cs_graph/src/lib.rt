@@ -3,7 +3,7 @@
 //!
 //! The one contract: the edges of a `Graph` are exactly the nearest conflicts, those that no longer
 //! chain of conflicts joins, in the order of the later note; along them each conflict is reached
-//! (`Graph::of_jobs`). The look-ups cost the note's own edges alone, and a graph serves as long as
+//! (`Graph::of_feet`). The look-ups cost the note's own edges alone, and a graph serves as long as
 //! the same notes are active.
 //!
 //! How conflicts are found, how farther ones are dropped and how edges are chained may change

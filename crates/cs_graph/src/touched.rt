@@ -1,6 +1,6 @@
 // The notes so far that use and that write each place.
 ghost use Rattle.cs_base.specs.Limits.{most_notes};
-ghost use Rattle.std.specs.Prelude.{◌≡◌, ◌==◌, ◌≢◌, ◌&&◌, ◌||◌, ◌↔◌, ◌+◌, ℕ, ◌<◌, true, false, map, length, IfOk, OnOk};
+ghost use Rattle.std.specs.Prelude.{◌≡◌, ◌==◌, ◌≢◌, ◌&&◌, ◌||◌, ◌↔◌, ◌+◌, ℕ, ◌<◌, true, false, length, IfOk, OnOk};
 ghost use Rattle.std.specs.List.{list_any};
 ghost use Rattle.cs_graph.specs.Conflict.{Clash, foot};
 ghost use Rattle.cs_graph.specs.inner.Sets.{has};
@@ -8,7 +8,7 @@ ghost use Rattle.cs_graph.specs.inner.Touched.{uses_so_far, writes_so_far, meets
 
 use crate::note_set::NoteSet;
 use cs_base::OutOfMemory;
-use cs_cells::Job;
+use cs_cells::Footprint;
 use std::collections::HashMap;
 
 /// The notes so far that use a place (whatever is written is used), and those that write it.
@@ -101,20 +101,19 @@ fn touch_places(
 }
 
 /// Takes in the next note, and answers the earlier notes that it conflicts with.
-pub fn meet<J: Job>(
+pub fn meet(
     by_place: &mut SharersByPlace,
-    jobs: &[J],
+    feet: &[Footprint],
     note: u32,
 ) -> Result<NoteSet, OutOfMemory>
     requires small { note < most_notes }
-    requires within { note < length jobs.now }
-    requires by_place { IsTouchedBy (map J.means.foot jobs.now) note by_place.old }
-    ensures by_place { OnOk result (IsTouchedBy (map J.means.foot jobs.now) (note + 1)
-        by_place.new) }
+    requires within { note < length feet.now }
+    requires by_place { IsTouchedBy feet.now note by_place.old }
+    ensures by_place { OnOk result (IsTouchedBy feet.now (note + 1) by_place.new) }
     ensures met { IfOk result (λ met. (p : ℕ) → p < note → (has met p ≡ true)
-        ↔ Clash (foot (map J.means.foot jobs.now) p) (foot (map J.means.foot jobs.now) note)) }
+        ↔ Clash (foot feet.now p) (foot feet.now note)) }
 {
-    let foot = jobs[note as usize].footprint();
+    let foot = &feet[note as usize];
     let mut met = NoteSet::new();
     touch_places(by_place, foot.uses.as_slice(), false, note, &mut met)?;
     touch_places(by_place, foot.writes.as_slice(), true, note, &mut met)?;

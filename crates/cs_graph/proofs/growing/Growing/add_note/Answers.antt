@@ -1,5 +1,4 @@
-use Rattle.std.proofs.Common.{◌≡◌, ◌∙◌, ◌<◌, ℕ, map, ap, length, length-append, ◌∷◌, [], subst, arith}
-use Rattle.std.proofs.lemmas.List.{length-map}
+use Rattle.std.proofs.Common.{◌≡◌, ◌∙◌, ◌<◌, ℕ, ap, length, length-append, ◌∷◌, [], subst, arith}
 use Rattle.cs_graph.proofs.ConflictLemmas.{IsClosed-known, known_push, level_push, drawn_more}
 use Rattle.cs_graph.proofs.EdgeLemmas.{all_before, ranges_more}
 use Rattle.cs_graph.specs.inner.Growing.{AreDrawnTo}
@@ -7,21 +6,21 @@ use Rattle.cs_graph.specs.inner.Nearest.{IsFound}
 use Rattle.cs_graph.proofs.growing.Growing.add_note.Goals as goal
 
 pub nearest-found-requires-clause-closed : goal.nearest-found-requires-clause-closed
-nearest-found-requires-clause-closed g c =
+nearest-found-requires-clause-closed c =
     rw c.deref.ensures.value
-    (IsClosed-known (map g.J.Job.means.foot c.args.jobs.now) c.args.note c.args.self.now.known.items
+    (IsClosed-known c.args.feet.now c.args.note c.args.self.now.known.items
     c.requires.grown.known)
 
 pub add_edges-requires-clause-before : goal.add_edges-requires-clause-before
-add_edges-requires-clause-before g c =
+add_edges-requires-clause-before c =
     all_before c.args.self.now.edges.items c.args.note (λ e a b h. (c.requires.grown.drawn.each a b (e, h)).0)
 
 pub returns : goal.returns
-returns g c =
+returns c =
     let r = c.requires.grown in
-    let feet = map g.J.Job.means.foot c.args.jobs.now in
+    let feet = c.args.feet.now in
     let t : ℕ = c.args.note in
-    let within : t < length feet = omega (arith, c.requires.within, length-map c.args.jobs.now g.J.Job.means.foot) in
+    let within : t < length feet = c.requires.within in
     let known = c.args.self.now.known.items in
     let levels = c.args.self.now.levels.items in
     let into = c.args.self.now.into.items in

@@ -1,0 +1,49 @@
+-- The front of one list before the rest of another, of the same length; and what is true at a place.
+use Rattle.std.proofs.Common.{◌≡◌, ℕ, zero, suc, ◌<◌, List, [], ◌∷◌, ◌++◌, length, take, drop, slice_get, slice_set}
+use Rattle.std.proofs.Common.{Some}
+use Rattle.std.proofs.Common.{refl, sym, ap, ◌∙◌, get_or, arith, subst}
+use Rattle.std.proofs.lemmas.Option.{get_or_from_slice_get, slice_get-get_or, slice_get_within}
+use Rattle.std.specs.List.{All}
+
+module _ {A : Type 0} where
+  -- Of two lists of one length: the front of the first before the rest of the second.
+  pub middle : (ys js : List A) (n : ℕ) → length ys ≡ length js → n < length js
+      → slice_get (take n ys ++ drop n js) n ≡ slice_get js n
+  middle ys [] n e l = absurd (omega arith)
+  middle [] (j ∷ js) n e l = absurd (omega (arith, e))
+  middle (y ∷ ys) (j ∷ js) zero e l = refl
+  middle (y ∷ ys) (j ∷ js) (suc n) e l = middle ys js n (omega (arith, e)) (omega (arith, l))
+
+  pub middle_below : (ys js : List A) (n : ℕ) → length ys ≡ length js → n < length js
+      → n < length (take n ys ++ drop n js)
+  middle_below ys [] n e l = absurd (omega arith)
+  middle_below [] (j ∷ js) n e l = absurd (omega (arith, e))
+  middle_below (y ∷ ys) (j ∷ js) zero e l = omega arith
+  middle_below (y ∷ ys) (j ∷ js) (suc n) e l =
+      let r = middle_below ys js n (omega (arith, e)) (omega (arith, l)) in
+      omega (arith, r)
+
+  pub next_set : (ys js : List A) (n : ℕ) (x : A) → length ys ≡ length js → n < length js → slice_get ys n ≡ Some x
+      → slice_set (take n ys ++ drop n js) n x ≡ take (suc n) ys ++ drop (suc n) js
+  next_set ys [] n x e l at = absurd (omega arith)
+  next_set [] (j ∷ js) n x e l at = absurd (omega (arith, e))
+  next_set (y ∷ ys) (j ∷ js) zero x e l at = let same : x ≡ y = cc in ap (λ z. z ∷ js) same
+  next_set (y ∷ ys) (j ∷ js) (suc n) x e l at =
+      ap (λ zs. y ∷ zs) (next_set ys js n x (omega (arith, e)) (omega (arith, l)) at)
+
+  pub all_of : (ys js : List A) → length ys ≡ length js → take (length js) ys ++ drop (length js) js ≡ ys
+  all_of [] [] e = refl
+  all_of [] (j ∷ js) e = absurd (omega (arith, e))
+  all_of (y ∷ ys) [] e = absurd (omega (arith, e))
+  all_of (y ∷ ys) (j ∷ js) e = ap (λ zs. y ∷ zs) (all_of ys js (omega (arith, e)))
+
+  -- the next of the rest
+  pub next_here : (ys js zs : List A) (n : ℕ) (d : A) → length ys ≡ length js → n < length js
+      → zs ≡ take n ys ++ drop n js → slice_get js n ≡ Some (get_or zs n d)
+  next_here ys js zs n d e l parts =
+      sym (middle ys js n e l) ∙ sym (ap (λ (xs : List A). slice_get xs n) parts)
+      ∙ slice_get-get_or zs n d (subst (λ (xs : List A). n < length xs) (sym parts) (middle_below ys js n e l))
+
+  -- what is true of all is true of the one at a place
+  pub all_at : (P : A → Type 0) (xs : List A) (k : ℕ) (x : A) → All P xs → slice_get xs k ≡ Some x → P x
+  all_at P xs k x all at = subst P (get_or_from_slice_get xs k x x at) (all k x (slice_get_within xs k x at))

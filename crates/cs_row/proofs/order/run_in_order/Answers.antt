@@ -1,0 +1,88 @@
+use Rattle.std.proofs.Common.{ℕ, suc, ◌<◌, ◌+◌, ◌≡◌, ◌++◌, List, length, take, drop, slice_get, slice_set, Some, sym}
+use Rattle.std.proofs.Common.{ap, ◌∙◌, subst, get_or, arith}
+use Rattle.cs_cells.specs.Serial.{serial_jobs, before}
+use Rattle.cs_cells.proofs.SerialRun.{before-suc, job_at, before-all, length-serial_jobs, length-before}
+use Rattle.cs_row.proofs.Fronts.{next_here, next_set, all_of}
+use Rattle.cs_row.proofs.order.run_in_order.Goals as goal
+
+pub run-requires-clause-get : goal.run-requires-clause-get
+run-requires-clause-get g c a u =
+    let M = g.J.Job.means in
+    let js : List g.row.J.Denot = c.args.jobs.now in
+    let start = g.B.Bank.cells c.args.bank.now in
+    let inv = c.loop-at.invariant in
+    let low : c.loop-at.at < length js = omega (arith, c.loop-at-test.true) in
+    let there = next_here (serial_jobs M js start) js c.loop-at.jobs c.loop-at.at c.index-jobs-at.result
+    (length-serial_jobs M js start) low inv.jobs in
+    subst (λ r. g.B.Bank.can_get r a) (sym inv.rest)
+    (c.requires.get c.loop-at.at a (get_or c.loop-at.jobs c.loop-at.at c.index-jobs-at.result) there u)
+
+pub run-requires-clause-set : goal.run-requires-clause-set
+run-requires-clause-set g c a w =
+    let M = g.J.Job.means in
+    let js : List g.row.J.Denot = c.args.jobs.now in
+    let start = g.B.Bank.cells c.args.bank.now in
+    let inv = c.loop-at.invariant in
+    let low : c.loop-at.at < length js = omega (arith, c.loop-at-test.true) in
+    let there = next_here (serial_jobs M js start) js c.loop-at.jobs c.loop-at.at c.index-jobs-at.result
+    (length-serial_jobs M js start) low inv.jobs in
+    subst (λ r. g.B.Bank.can_set r a) (sym inv.rest)
+    (c.requires.set c.loop-at.at a (get_or c.loop-at.jobs c.loop-at.at c.index-jobs-at.result) there w)
+
+pub run-requires-clause-cells : goal.run-requires-clause-cells
+run-requires-clause-cells g c a u =
+    let M = g.J.Job.means in
+    let js : List g.row.J.Denot = c.args.jobs.now in
+    let start = g.B.Bank.cells c.args.bank.now in
+    let inv = c.loop-at.invariant in
+    let low : c.loop-at.at < length js = omega (arith, c.loop-at-test.true) in
+    let there = next_here (serial_jobs M js start) js c.loop-at.jobs c.loop-at.at c.index-jobs-at.result
+    (length-serial_jobs M js start) low inv.jobs in
+    let near = c.requires.cells c.loop-at.at a (get_or c.loop-at.jobs c.loop-at.at c.index-jobs-at.result) there u in
+    let long = ap length inv.cells ∙ length-before M g.met.J.Job.frames js start c.loop-at.at in
+    subst (λ n. a < n) (sym long) near
+
+pub loop-at-preserved : goal.loop-at-preserved
+loop-at-preserved g c =
+    let M = g.J.Job.means in
+    let js : List g.row.J.Denot = c.args.jobs.now in
+    let start = g.B.Bank.cells c.args.bank.now in
+    let ys : List g.row.J.Denot = serial_jobs M js start in
+    let n : ℕ = c.loop-at.at in
+    let inv = c.loop-at.invariant in
+    let job : g.row.J.Denot = get_or c.loop-at.jobs n c.index-jobs-at.result in
+    let low : n < length js = omega (arith, c.loop-at-test.true) in
+    let long : length ys ≡ length js = length-serial_jobs M js start in
+    let more : n + 1 ≡ suc n = omega arith in
+    let there : slice_get js n ≡ Some job = next_here ys js c.loop-at.jobs n c.index-jobs-at.result
+    long low inv.jobs in
+    let ran : c.run.new.self ≡ M.after job (before M js start n) = c.run.ensures.job ∙ ap (M.after job) inv.cells in
+    record {
+      low = omega (arith, low);
+      jobs = ap (λ l. slice_set l n c.run.new.self) inv.jobs
+          ∙ next_set ys js n c.run.new.self long low (job_at M js start n job there ∙ ap Some (sym ran))
+          ∙ ap (λ k. take k ys ++ drop k js) (sym more);
+      cells = c.run.ensures.cells ∙ ap (M.leaves job) inv.cells ∙ sym (before-suc M js start n job there)
+          ∙ ap (before M js start) (sym more);
+      rest = c.run.ensures.rest ∙ inv.rest;
+      place = omega (arith, inv.place);
+    }
+
+pub returns-clause-jobs : goal.returns-clause-jobs
+returns-clause-jobs g c =
+    let M = g.J.Job.means in
+    let js : List g.row.J.Denot = c.args.jobs.now in
+    let start = g.B.Bank.cells c.args.bank.now in
+    let ys : List g.row.J.Denot = serial_jobs M js start in
+    let inv = c.loop-at.invariant in
+    let all : c.loop-at.at ≡ length js = omega (arith, c.loop-at-test.false, inv.low) in
+    inv.jobs ∙ ap (λ k. take k ys ++ drop k js) all ∙ all_of ys js (length-serial_jobs M js start)
+
+pub returns-clause-cells : goal.returns-clause-cells
+returns-clause-cells g c =
+    let M = g.J.Job.means in
+    let js : List g.row.J.Denot = c.args.jobs.now in
+    let start = g.B.Bank.cells c.args.bank.now in
+    let inv = c.loop-at.invariant in
+    let all : c.loop-at.at ≡ length js = omega (arith, c.loop-at-test.false, inv.low) in
+    inv.cells ∙ ap (before M js start) all ∙ before-all M js start

@@ -1,0 +1,54 @@
+-- Rows of jobs that are heard, with the sum of what these give.
+use Rattle.std.specs.Prelude.{◌≡◌, ◌≤◌, ◌*◌, ◌≤ℤ◌, ℕ, ℤ, pos, neg_ℤ, List, length, map, slice_index_or}
+use Rattle.std.specs.List.{All, range_with_len}
+use Rattle.cs_base.specs.Limits.{most_notes}
+use Rattle.cs_base.specs.Numbers.{total}
+use Rattle.cs_cells.specs.Meaning.{Meaning}
+use Rattle.cs_cells.specs.Serial.{serial_cells, serial_jobs}
+use Rattle.cs_row.specs.Rows.{IsRow, row_areas, row_foot}
+
+-- as far from 0 as the sum of so many numbers of the profile may be
+pub record IsSumOf (n : ℕ) (z : ℤ) : Type 0 where
+  pub low : neg_ℤ (pos (n * 140737488355328)) ≤ℤ z
+  pub high : z ≤ℤ pos (n * 140737488355328)
+
+abbrev pub AreSumsOf : ℕ → List ℤ → Type 0
+AreSumsOf n block = (at : ℕ) → IsSumOf n (slice_index_or block at (pos 0))
+
+-- jobs of a row, and a number at each place of a block
+pub record HeardRow (J : Type 0) : Type 0 where
+  pub jobs : List J
+  pub sum : List ℤ
+
+module _ {J : Type 0} (gives : J → ℕ → ℤ) where
+  -- what jobs give together at a place: the plain sum, without bounds
+  abbrev pub sum_at : List J → ℕ → ℤ
+  sum_at js at = total (map (λ j. gives j at) js)
+
+  -- and at each place of a block of this length
+  abbrev pub sums : ℕ → List J → List ℤ
+  sums n js = map (sum_at js) (range_with_len 0 n)
+
+  -- these jobs, and what they give
+  abbrev pub with_sums : ℕ → List J → HeardRow J
+  with_sums n js = record { jobs = js; sum = sums n js }
+
+module _ {J : Type 0} (M : Meaning J) (shape : J → ℕ × ℕ) where
+  -- at most 512 jobs of a row, of one shape: so many frames and channels, of which the block has a number each
+  pub record IsHeardRow (r : HeardRow J) : Type 0 where
+    pub row : IsRow M r.jobs
+    pub few : length r.jobs ≤ most_notes
+    pub frames : ℕ
+    pub channels : ℕ
+    pub alike : All (λ j. shape j ≡ (frames, channels)) r.jobs
+    pub long : length r.sum ≡ frames * channels
+
+  -- a row as a job: its jobs run in order, and what they give is summed
+  abbrev pub heard_job : (J → ℕ → ℤ) → Meaning (HeardRow J)
+  heard_job gives = record {
+    areas = λ r. row_areas M r.jobs;
+    foot = λ r. row_foot M r.jobs;
+    after = λ r c. with_sums gives (length r.sum) (serial_jobs M r.jobs c);
+    leaves = λ r c. serial_cells M r.jobs c;
+    valid = IsHeardRow;
+  }

@@ -1,0 +1,30 @@
+-- The rows that are kept from cycle to cycle, and what they can be filled with.
+use Rattle.std.specs.Prelude.{◌≡◌, ◌≤◌, ℕ, List, length}
+use Rattle.std.specs.List.{All}
+use Rattle.std.specs.Vec.{vec_capacity}
+use Rattle.cs_cells.specs.Meaning.{Meaning}
+use Rattle.cs_cells.specs.declared.job.Job as job
+use Rattle.cs_row.specs.Cuts.{AreFilling}
+use Rattle.cs_row.specs.Rooms.{IsWide}
+use Rattle.cs_row.specs.declared.heard.Heard as heard
+use Rattle.cs_row.specs.declared.rows.Rows.{Rows}
+
+module _ {J G : Type 0} {h : heard.Ghosts J} {g : job.Ghosts J} where
+  abbrev pub cuts : Rows J G h g → List ℕ
+  cuts rows = rows.cuts.items
+
+  -- how they were cut, and the values of a block
+  pub record CutAlike (rows other : Rows J G h g) : Type 0 where
+    pub block : rows.block ≡ other.block
+    pub most : rows.most ≡ other.most
+    pub lengths : cuts rows ≡ cuts other
+
+  -- there is memory for each row that was cut, as long as it may be
+  pub record HasMemory (rows : Rows J G h g) : Type 0 where
+    pub enough : length (cuts rows) ≤ length rows.rooms.items
+    pub places : length (cuts rows) ≤ vec_capacity rows.rows
+    pub wide : All (IsWide rows.most) rows.rooms.items
+
+  -- these notes can be parted as the rows were cut
+  abbrev pub IsFillable : (M : Meaning J) → (J → ℕ × ℕ) → Rows J G h g → List J → Type 0
+  IsFillable M shape rows notes = AreFilling M rows.most shape rows.block (cuts rows) notes

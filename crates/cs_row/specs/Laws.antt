@@ -1,0 +1,36 @@
+-- What the run of rows is for their jobs.
+use Rattle.std.specs.Prelude.{◌≡◌, ◌<◌, ℕ, ℤ, List, length, map}
+use Rattle.std.specs.List.{All}
+use Rattle.cs_cells.specs.Cells.{Cells}
+use Rattle.cs_cells.specs.Meaning.{Meaning}
+use Rattle.cs_cells.specs.Serial.{serial_cells, serial_jobs}
+use Rattle.cs_graph.specs.Conflict.{Conflict}
+use Rattle.cs_row.specs.Heard.{HeardRow, heard_job, sums}
+use Rattle.cs_row.specs.Rows.{notes_in, row_at, row_foot}
+
+module _ {J : Type 0} where
+  -- the jobs of rows that have sums
+  abbrev pub jobs_of : List (HeardRow J) → List (List J)
+  jobs_of rows = map (λ (r : HeardRow J). r.jobs) rows
+
+  abbrev pub all_notes : List (HeardRow J) → List J
+  all_notes rows = notes_in (jobs_of rows)
+
+module _ {J : Type 0} (M : Meaning J) where
+  -- two jobs conflict exactly where their rows do; so none conflicts with another of its row
+  pub record ConflictByRow (rows : List (List J)) (p t : ℕ) : Type 0 where
+    pub rows_do : Conflict (map M.foot (notes_in rows)) p t
+        → Conflict (map (row_foot M) rows) (row_at rows p) (row_at rows t)
+    pub notes_do : t < length (notes_in rows)
+        → Conflict (map (row_foot M) rows) (row_at rows p) (row_at rows t)
+        → Conflict (map M.foot (notes_in rows)) p t
+
+  -- the serial run of rows is that of their jobs, and the sums are those of what the jobs give afterwards
+  pub record RunsAsNotes (shape : J → ℕ × ℕ) (gives : J → ℕ → ℤ) (rows : List (HeardRow J)) (c : Cells) : Type
+      0 where
+    pub jobs : all_notes (serial_jobs (heard_job M shape gives) rows c) ≡ serial_jobs M (all_notes rows) c
+    pub cells : serial_cells (heard_job M shape gives) rows c ≡ serial_cells M (all_notes rows) c
+    -- a row keeps the number of its jobs, and of its sum's values
+    pub lengths : map length (jobs_of (serial_jobs (heard_job M shape gives) rows c)) ≡ map length (jobs_of rows)
+    pub blocks : map (λ r. length r.sum) (serial_jobs (heard_job M shape gives) rows c) ≡ map (λ r. length r.sum) rows
+    pub summed : All (λ r. r.sum ≡ sums gives (length r.sum) r.jobs) (serial_jobs (heard_job M shape gives) rows c)

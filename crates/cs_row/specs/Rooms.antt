@@ -1,0 +1,14 @@
+-- The memory of a row.
+use Rattle.std.specs.Prelude.{◌≡◌, ◌≤◌, ℕ, [], length}
+use Rattle.std.specs.Vec.{vec_capacity}
+use Rattle.cs_row.specs.declared.row.RowRoom.{RowRoom}
+
+module _ {J : Type 0} where
+  -- without notes, with a block of so many values
+  pub record IsEmptied (block : ℕ) (room : RowRoom J) : Type 0 where
+    pub notes : room.notes.items ≡ []
+    pub sum : length room.sum.items ≡ block
+
+  -- there is memory for so many notes
+  abbrev pub IsWide : ℕ → RowRoom J → Type 0
+  IsWide most room = most ≤ vec_capacity room.notes

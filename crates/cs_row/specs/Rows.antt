@@ -1,0 +1,60 @@
+-- Rows of jobs that follow one another and touch the same, each row run as one job.
+use Rattle.std.specs.Prelude.{◌≡◌, ◌<◌, ◌-◌, ℕ, suc, List, [], ◌∷◌, length, nat_lt, if◌then◌else◌, slice_get, Some}
+use Rattle.std.specs.List.{All, flat_map}
+use Rattle.cs_cells.specs.Meaning.{Meaning}
+use Rattle.cs_cells.specs.Serial.{serial_cells, serial_jobs}
+use Rattle.cs_cells.specs.declared.footprint.Area.{Area}
+use Rattle.cs_cells.specs.declared.footprint.Footprint.{Footprint}
+
+-- touches nothing
+abbrev pub no_foot : Footprint
+no_foot = record { uses = []; writes = [] }
+
+module _ {J : Type 0} where
+  -- the jobs of rows, row behind row
+  abbrev pub notes_in : List (List J) → List J
+  notes_in rows = flat_map (λ row. row) rows
+
+  -- the row in which the job lies that has this place among all
+  abbrev pub row_at : List (List J) → ℕ → ℕ
+  row_at [] t = 0
+  row_at (row ∷ rows) t = if nat_lt t (length row) then 0 else suc (row_at rows (t - length row))
+
+  -- whatever a job touches so, Q is true of
+  abbrev pub EachWithin : (J → ℕ → Type 0) → (ℕ → Type 0) → List J → Type 0
+  EachWithin Touch Q js = (t a : ℕ) (j : J) → slice_get js t ≡ Some j → Touch j a → Q a
+
+module _ {J : Type 0} (M : Meaning J) where
+  -- the layout and the footprint of a row are those of its first job
+  abbrev pub row_areas : List J → List Area
+  row_areas [] = []
+  row_areas (j ∷ js) = M.areas j
+
+  abbrev pub row_foot : List J → Footprint
+  row_foot [] = no_foot
+  row_foot (j ∷ js) = M.foot j
+
+  -- a job that code holds, with this layout and this footprint
+  pub record Touches (areas : List Area) (foot : Footprint) (j : J) : Type 0 where
+    pub areas_are : M.areas j ≡ areas
+    pub foot_is : M.foot j ≡ foot
+    pub valid : M.valid j
+
+  -- one job or more, which touch the same
+  pub record IsRow (js : List J) : Type 0 where
+    pub some : 0 < length js
+    pub alike : All (Touches (row_areas js) (row_foot js)) js
+
+  -- a row as a job: its jobs run in order
+  abbrev pub row_job : Meaning (List J)
+  row_job = record {
+    areas = row_areas;
+    foot = row_foot;
+    after = serial_jobs M;
+    leaves = serial_cells M;
+    valid = IsRow;
+  }
+
+  -- several jobs of a row write nothing, so that none of them conflicts with another
+  abbrev pub IsFree : List J → Type 0
+  IsFree row = 1 < length row → (row_foot row).writes ≡ []

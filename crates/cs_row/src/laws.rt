@@ -1,0 +1,19 @@
+// What the run of rows is for their notes.
+ghost use Rattle.std.specs.Prelude.{◌≡◌, ◌<◌, ℕ, List, map, All};
+ghost use Rattle.cs_base.specs.Numbers.{total};
+ghost use Rattle.cs_cells.specs.Cells.{Cells};
+ghost use Rattle.cs_row.specs.Heard.{HeardRow, sum_at};
+ghost use Rattle.cs_row.specs.Laws.{ConflictByRow, RunsAsNotes};
+ghost use Rattle.cs_row.specs.Rows.{IsFree, IsRow, notes_in};
+
+use crate::heard::Heard;
+
+/// The laws of rows: their serial run is that of their notes, two notes conflict exactly where their rows do, and what
+/// rows give is what their notes give. It does nothing: its clauses are the laws.
+pub fn row_laws<J: Heard>()
+    ensures run { (rows : List (HeardRow J)) (c : Cells) → RunsAsNotes J.Job.means J.shape J.gives rows c }
+    ensures conflicts { (rows : List (List J)) (p t : ℕ) → All (IsRow J.Job.means) rows
+        → All (IsFree J.Job.means) rows → p < t → ConflictByRow J.Job.means rows p t }
+    ensures sums { (rows : List (List J)) (at : ℕ)
+        → sum_at J.gives (notes_in rows) at ≡ total (map (λ row. sum_at J.gives row at) rows) }
+{}
