@@ -5,30 +5,31 @@ ghost use Rattle.cs_board.specs.inner.Sittings.{HasTried};
 ghost use Rattle.cs_board.specs.declared.view.View.{View};
 
 use crate::board::{Board, BoardSeat};
-use crate::{AVAILABLE, DONE};
+use crate::{AVAILABLE, WAITING};
 use cs_base::Steps;
 use cs_cells::Job;
 use std::{hint, thread};
 
-/// How long a seat that finds no note to claim looks for one: so many looks at all notes, the first
-/// of which follow at once, and the others after other threads were let run.
+/// How long a seat that finds no note to claim looks for one, while notes wait: so many looks at all notes, the
+/// first of which follow at once, and the others after other threads were let run.
 #[derive(Clone, Copy, Debug, PartialEq, Eq)]
 pub struct Patience {
     pub looks: u32,
     pub brisk: u32,
 }
 
-/// What a look at all notes found: one that can be claimed; none, and all before this one Done, which they stay;
-/// or all Done. It may have changed since.
+/// What a look at all notes found: one that can be claimed; none, and this one the first that waits; or none that
+/// waits either, so that there will be nothing to claim. It may have changed since, though a note that doesn't wait
+/// won't wait again.
 #[derive(Clone, Copy, PartialEq, Eq)]
 enum Outlook {
     Available,
-    Busy(u32),
-    Done,
+    Waiting(u32),
+    Begun,
 }
 
 impl<J: Job> Board<J> {
-    /// Claims a note that is Available, as `claim` does, or looks for one until all are Done or its
+    /// Claims a note that is Available, as `claim` does, or looks for one until all have begun or its
     /// patience is at an end. None only ever comes after a claim that tried each note and found it
     /// otherwise.
     pub fn await_claim(&self, seat: &mut BoardSeat<J>, patience: Patience) -> Option<u32>
@@ -51,10 +52,10 @@ impl<J: Job> Board<J> {
         let mut from = 0;
         for look in 0..patience.looks {
             let seen = self.outlook(from);
-            if seen == Outlook::Done {
+            if seen == Outlook::Begun {
                 return None;
             }
-            if let Outlook::Busy(note) = seen {
+            if let Outlook::Waiting(note) = seen {
                 from = note;
             }
             let won = self.claim_seen(seat, seen);
@@ -98,16 +99,16 @@ impl<J: Job> Board<J> {
         None
     }
 
-    /// Looks at the status of each note from this one on, without a step on any. All before it are Done.
+    /// Looks at the status of each note from this one on, without a step on any. None before it waits.
     fn outlook(&self, from: u32) -> Outlook {
-        let mut outlook = Outlook::Done;
+        let mut outlook = Outlook::Begun;
         for note in from..self.notes {
             let status = self.frame.table.shared.peek(self.status_word(note));
             if status == AVAILABLE {
                 return Outlook::Available;
             }
-            if status != DONE && outlook == Outlook::Done {
-                outlook = Outlook::Busy(note);
+            if status == WAITING && outlook == Outlook::Begun {
+                outlook = Outlook::Waiting(note);
             }
         }
         outlook

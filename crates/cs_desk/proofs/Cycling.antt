@@ -8,7 +8,7 @@ use Rattle.cs_desk.specs.Cycles.{WasPlayed}
 use Rattle.cs_desk.specs.Desk.{areas, cells, note_room, word_room}
 use Rattle.cs_desk.specs.declared.desk.Desk.{Desk}
 
-pub was_played : {J : Type 0} (M : Meaning J) (desk : Desk J) (given played : List J) (rested : Desk J)
+pub was_played : {J K : Type 0} (M : Meaning K) (desk : Desk J) (given played : List K) (rested : Desk J)
     → map M.foot (serial_jobs M given (cells desk)) ≡ map M.foot given
     → map M.areas (serial_jobs M given (cells desk)) ≡ map M.areas given
     → length (serial_cells M given (cells desk)) ≡ length (cells desk)
@@ -28,7 +28,7 @@ was_played M desk given played rested feet layouts long jobs left over notes wor
 }
 
 -- a cycle over a desk that has the same cells, layout and room is one over the desk itself
-pub played_over : {J : Type 0} (M : Meaning J) (desk same : Desk J) (given played : List J) (rested : Desk J)
+pub played_over : {J K : Type 0} (M : Meaning K) (desk same : Desk J) (given played : List K) (rested : Desk J)
     → cells same ≡ cells desk → areas same ≡ areas desk
     → note_room same ≡ note_room desk → word_room same ≡ word_room desk
     → WasPlayed M same given played rested → WasPlayed M desk given played rested

@@ -4,6 +4,5 @@ pub mod Ending
 pub mod Opening
 pub mod Reached
 pub mod Making
-pub mod Feet
 pub mod Cycling
 pub mod Plainly

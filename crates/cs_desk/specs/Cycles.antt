@@ -7,13 +7,13 @@ use Rattle.cs_desk.specs.Desk.{areas, cells, note_room, word_room, HasRoom}
 use Rattle.cs_desk.specs.declared.desk.Desk.{Desk}
 use Rattle.cs_graph.specs.Graph.{Dependencies, IsFit}
 
-module _ {J : Type 0} (M : Meaning J) where
+module _ {J K : Type 0} (M : Meaning K) where
   -- The desk's layout is that of each of these jobs.
-  abbrev pub AreOver : Desk J → List J → Type 0
+  abbrev pub AreOver : Desk J → List K → Type 0
   AreOver desk given = All (λ j. M.areas j ≡ areas desk) given
 
   -- These jobs, in serial order, can be played as a cycle over the desk, in the order of this graph.
-  pub record IsCycle (graph : Dependencies) (desk : Desk J) (given : List J) : Type 0 where
+  pub record IsCycle (graph : Dependencies) (desk : Desk J) (given : List K) : Type 0 where
     pub notes : length graph.levels ≡ length given
     pub fit : IsFit (map M.foot given) graph.edges
     pub over : AreOver desk given
@@ -22,7 +22,7 @@ module _ {J : Type 0} (M : Meaning J) where
 
   -- The cycle of the jobs `given` was played over the desk, as if they had run one by one in serial order: `played` are
   -- the jobs afterwards, and `rested` is the desk.
-  pub record WasPlayed (desk : Desk J) (given played : List J) (rested : Desk J) : Type 0 where
+  pub record WasPlayed (desk : Desk J) (given played : List K) (rested : Desk J) : Type 0 where
     pub jobs_are : played ≡ serial_jobs M given (cells desk)
     pub cells_are : cells rested ≡ serial_cells M given (cells desk)
     -- what stays, so that the next cycle can follow

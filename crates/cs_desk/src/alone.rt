@@ -6,6 +6,7 @@ use crate::plain::numbers_of;
 use crate::receipt::Receipt;
 use cs_cells::Job;
 use cs_edge::Gate;
+use cs_row::run_in_order;
 use std::alloc::Global;
 
 /// How many cells may be moved into plain memory for each cycle in a row that was the caller's alone: each has to go
@@ -21,19 +22,21 @@ impl<J: Job> Desk<J> {
     /// board: nothing is claimed, laid or cleared, and nobody is waited for. Where cycle after cycle is run so
     /// the cells come to lie in plain memory, unless there is none: then they stay where they are.
     /// `gate` is called with `cycle` and the note's place before each note is run.
-    pub fn run_alone<G: Gate>(
+    pub fn run_alone<K: Job, G: Gate>(
         &mut self,
         cycle: u32,
         notes: u32,
-        jobs: Vec<J>,
+        jobs: Vec<K>,
         gate: &G,
-    ) -> Receipt<J>
+    ) -> Receipt<K>
         requires notes { notes ≡ length jobs.items }
-        requires over { AreOver J.means self.old jobs.items }
-        ensures { WasPlayed J.means self.old jobs.items result self.new }
+        requires over { AreOver K.means self.old jobs.items }
+        ensures { WasPlayed K.means self.old jobs.items result self.new }
     {
         self.loosen(*jobs.allocator());
-        self.run_each(cycle, notes, jobs, gate)
+        let mut jobs = jobs;
+        run_in_order(&mut jobs, self, gate, cycle, 0);
+        Receipt { notes, jobs }
     }
 
     /// One cycle more in a row is the caller's alone; after enough of them, by the number of cells, these are moved
@@ -54,30 +57,5 @@ impl<J: Job> Desk<J> {
         if let Ok(numbers) = numbers_of(alloc, &mut self.resting, count) {
             self.plain = Some(numbers);
         }
-    }
-
-    /// Runs the notes, wherever the cells lie.
-    fn run_each<G: Gate>(&mut self, cycle: u32, notes: u32, jobs: Vec<J>, gate: &G) -> Receipt<J>
-        requires notes { notes ≡ length jobs.items }
-        requires over { AreOver J.means self.old jobs.items }
-        ensures { WasPlayed J.means self.old jobs.items result self.new }
-    {
-        let mut jobs = jobs;
-        for note in 0..notes {
-            gate.before(cycle, note);
-            self.run_job(&mut jobs[note as usize]);
-        }
-        Receipt { notes, jobs }
-    }
-
-    /// Runs one job over the desk's cells.
-    fn run_job(&mut self, job: &mut J)
-        requires areas { J.means.areas job.old ≡ areas self.old }
-        ensures job { job.new ≡ J.means.after job.old (cells self.old) }
-        ensures cells { cells self.new ≡ J.means.leaves job.old (cells self.old) }
-        ensures areas { areas self.new ≡ areas self.old }
-        ensures room { (note_room self.new ≡ note_room self.old) × (word_room self.new ≡ word_room self.old) }
-    {
-        job.run(self);
     }
 }

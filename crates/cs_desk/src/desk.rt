@@ -1,8 +1,9 @@
 // What stands between two cycles.
-ghost use Rattle.std.specs.Prelude.{◌≡◌, length, IfOk};
+ghost use Rattle.std.specs.Prelude.{◌≡◌, ◌≤◌, ◌<◌, ◌+◌, ℕ, length, map, IfOk};
+ghost use Rattle.std.specs.List.{range_with_len};
 ghost use Rattle.std.specs.Option.{ForSome};
 ghost use Rattle.cs_cells.specs.Areas.{word_count};
-ghost use Rattle.cs_cells.specs.Cells.{values};
+ghost use Rattle.cs_cells.specs.Cells.{cell, values, with_row};
 ghost use Rattle.cs_desk.specs.inner.Tables.{layout_of};
 
 use crate::plain::numbers_in;
@@ -98,5 +99,44 @@ impl<J: Job> Bank for Desk<J> {
             Some(numbers) => numbers[addr as usize] = value,
             None => self.resting.set(addr, value),
         }
+    }
+
+    fn get_row(&mut self, first: u32, row: &mut [Num]) {
+        match &self.plain {
+            Some(numbers) => copy_from(numbers, first as usize, row),
+            None => self.resting.get_row(first, row),
+        }
+    }
+
+    fn set_row(&mut self, first: u32, row: &[Num]) {
+        match &mut self.plain {
+            Some(numbers) => copy_into(numbers, first as usize, row),
+            None => self.resting.set_row(first, row),
+        }
+    }
+}
+
+/// A row takes the numbers from a place on.
+#[inline(always)]
+fn copy_from(numbers: &[Num], first: usize, row: &mut [Num])
+    requires there { (j : ℕ) → j < length row.old → first + j < length numbers.now }
+    requires small { first + length row.old ≤ 65536 }
+    ensures { row.new ≡ map (cell numbers.now) (range_with_len first (length row.old)) }
+{
+    for j in 0..row.len() {
+        row[j] = numbers[first + j];
+    }
+}
+
+/// The numbers from a place on become those of a row.
+#[inline(always)]
+fn copy_into(numbers: &mut [Num], first: usize, row: &[Num])
+    requires there { (j : ℕ) → j < length row.now → first + j < length numbers.old }
+    requires small { first + length row.now ≤ 65536 }
+    ensures cells { cell numbers.new ≡ with_row first (length row.now) (cell row.now) (cell numbers.old) }
+    ensures long { length numbers.new ≡ length numbers.old }
+{
+    for j in 0..row.len() {
+        numbers[first + j] = row[j];
     }
 }

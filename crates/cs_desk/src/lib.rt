@@ -21,7 +21,7 @@ mod rest;
 mod resting;
 mod room;
 
-pub use course::Course;
+pub use course::{Course, feet_of};
 pub use desk::Desk;
 pub use receipt::{Receipt, Tally};
 pub use room::make_room;

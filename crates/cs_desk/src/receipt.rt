@@ -1,7 +1,11 @@
 // What a cycle leaves, and how many cycles and notes there were.
-ghost use Rattle.std.specs.Prelude.{◌≡◌, ◌+◌, ◌≤◌, ◌^◌, length};
+ghost use Rattle.std.specs.Prelude.{◌≡◌, ◌+◌, ◌≤◌, ◌<◌, ◌^◌, [], length, All};
+ghost use Rattle.std.specs.Vec.{vec_capacity};
+ghost use Rattle.cs_row.specs.Kept.{CutAlike};
+ghost use Rattle.cs_row.specs.Laws.{all_notes};
 
 use cs_cells::Job;
+use cs_row::{Heard, Row, Rows};
 use std::marker::Model;
 
 /// The jobs of a cycle after all its notes, in serial order. `Desk::rest` and `Desk::run_alone` alone make one.
@@ -34,6 +38,29 @@ impl<J> Receipt<J> {
         ensures { result.now ≡ self.now }
     {
         &self.jobs
+    }
+}
+
+impl<'g, J: Heard + Drop, G> Receipt<Row<'g, J, G>> {
+    /// The receipt of the notes of these rows. They come into `notes`, where there is room for them, and the memory of
+    /// the rows into `kept`.
+    pub fn unrow(self, mut notes: Vec<J>, kept: &mut Rows<'g, J, G>) -> Receipt<J>
+        requires empty { notes.items ≡ [] }
+        requires room { length (all_notes self) ≤ vec_capacity notes }
+        requires few { length (all_notes self) < 2 ^ 32 }
+        requires sums { All (λ r. length r.sum ≡ kept.old.block) self }
+        ensures notes { result ≡ all_notes self.entry }
+        ensures same { CutAlike kept.new kept.old }
+    {
+        let Receipt {
+            notes: _,
+            jobs: rows,
+        } = self;
+        kept.empty(rows, &mut notes);
+        Receipt {
+            notes: notes.len() as u32,
+            jobs: notes,
+        }
     }
 }
 

@@ -1,5 +1,5 @@
 -- Each kind of step on a mailbox keeps its rule, and tells what it promises.
-use Rattle.std.proofs.Common.{◌≡◌, ◌≢◌, ◌⊎◌, ◌+◌, ℕ, inl, inr, ⊎_elim, List, [], ◌∷◌, ◌++◌, Option, Some, None, refl}
+use Rattle.std.proofs.Common.{◌≡◌, ◌≢◌, ◌⊎◌, ℕ, inl, inr, ⊎_elim, List, [], ◌∷◌, ◌++◌, Option, Some, None, refl}
 use Rattle.std.proofs.Common.{sym, ap, ◌∙◌, subst, arith, slice_index, slice_set, eqb, eq-eqb, ne_eqb}
 use Rattle.std.specs.Prelude.{MatchOption}
 use Rattle.std.specs.Arc.{arc_value}
@@ -13,7 +13,7 @@ use Rattle.atomic_table.specs.Table.{Splits, opening}
 use Rattle.cs_board.specs.declared.board.BoardSeat.{BoardSeat}
 use Rattle.cs_cells.specs.Meaning.{Meaning}
 use Rattle.cs_pool.specs.Working.{IsDone, IsThrough}
-use Rattle.cs_pool.specs.Letters.{errand_of, caller, helper}
+use Rattle.cs_pool.specs.Letters.{errand_of, caller, helper, no_tasks, one_given, one_served}
 use Rattle.cs_pool.specs.inner.Exchange.{beginning, IsGiven, IsBack, IsHome, IsAbroad, Facts, Always}
 use Rattle.cs_pool.specs.inner.Telling.{Sat, fetched, gave, gave_back, closed, took, collected, withdrew}
 use Rattle.cs_pool.specs.declared.letter.MailboxLetter.{MailboxLetter}
@@ -23,6 +23,7 @@ use Rattle.cs_pool.specs.declared.letter.Task.{Task}
 use Rattle.cs_pool.specs.declared.view.Errand.{Errand}
 use Rattle.cs_pool.specs.declared.view.Knows.{Knows}
 use Rattle.cs_pool.specs.declared.view.Role.TheVariants.{Maker, Holder}
+use Rattle.cs_pool.specs.declared.view.Tasks.{Tasks}
 use Rattle.cs_pool.proofs.Ends.{OfCaller, OfHelper, of_caller, of_helper, of_maker, of_holder}
 
 -- the two cases of an exchange
@@ -110,18 +111,18 @@ module _ {J : Type 0} (M : Meaning J) where
       )
 
   -- the helper's end is split off
-  pub parts : (id : ℕ) → Splits (Always M) id (beginning Holder) (caller 0 None) (helper None)
+  pub parts : (id : ℕ) → Splits (Always M) id (beginning Holder) (caller no_tasks None) (helper None)
   parts id s a here =
       let b = of_holder M s id (beginning Holder) refl a here in
       inr (inr (record {
         word = EMPTY;
         home = none;
-        caller = caller 0 None;
+        caller = caller no_tasks None;
         helper = helper None;
         words = b.1.words;
         homes = b.1.homes;
-        views = ap (λ i. slice_set s.views i (caller 0 None) ++ helper None ∷ []) b.0
-            ∙ ap (λ vs. slice_set vs 0 (caller 0 None) ++ helper None ∷ []) b.1.views;
+        views = ap (λ i. slice_set s.views i (caller no_tasks None) ++ helper None ∷ []) b.0
+            ∙ ap (λ vs. slice_set vs 0 (caller no_tasks None) ++ helper None ∷ []) b.1.views;
         facts = record {
           roles = (refl, refl);
           out = record { word = inl refl; home = refl };
@@ -131,12 +132,12 @@ module _ {J : Type 0} (M : Meaning J) where
       }))
 
   -- a task is handed out
-  pub hands_out : (n id k : ℕ) (t : Task J) → IsDone M (arc_value t.board) t.seat
+  pub hands_out : (n id : ℕ) (k : Tasks) (t : Task J) → IsDone M (arc_value t.board) t.seat
       → Allows (Always M) n id (caller k None, (0, letter.Task t) ∷ []) 0 (λ _. GIVEN)
       (λ _. gave (step n 0 GIVEN 0 none) (caller k None, (0, letter.Task t) ∷ []) GIVEN)
   hands_out n id k t done s a long here fits =
       let c = of_caller M s id (caller k None) refl a here in
-      let v' : Knows J = caller k (Some (errand_of t)) in (
+      let v' : Knows J = caller (one_given k) (Some (errand_of t)) in (
         v',
         gives,
         tt,
@@ -238,7 +239,7 @@ module _ {J : Type 0} (M : Meaning J) where
 
   -- Where the caller finds the word that it looks for, it takes what lies in the slot, and nothing is out any more;
   -- else nothing changes.
-  takes_back : (n id k k' old : ℕ) (e : Errand J) (told : ℕ → Sat J → Type 0) → old ≢ TAKEN
+  takes_back : (n id : ℕ) (k k' : Tasks) (old : ℕ) (e : Errand J) (told : ℕ → Sat J → Type 0) → old ≢ TAKEN
       → ((w : ℕ) (h : maybe.Option (MailboxLetter J)) → w ≡ old → IsAbroad M w h e
       → (l : MailboxLetter J) × (h ≡ some l) × told w (caller k' None, (0, l) ∷ []))
       → ((w : ℕ) → w ≢ old → told w (caller k (Some e), []))
@@ -274,18 +275,18 @@ module _ {J : Type 0} (M : Meaning J) where
       word_is = sym (ap (λ ws. slice_index ws 0) c.words)
 
   -- the answer is taken, or there is none
-  pub collects : (n id k : ℕ) (e : Errand J)
+  pub collects : (n id : ℕ) (k : Tasks) (e : Errand J)
       → Allows (Always M) n id (caller k (Some e), []) 0 (λ y. either (eqb y BACK) EMPTY y)
       (collected M (step n 0 BACK EMPTY none) (caller k (Some e), []))
   collects n id k e =
-      takes_back n id k (k + 1) BACK e (collected M (step n 0 BACK EMPTY none) (caller k (Some e), []))
+      takes_back n id k (one_served k) BACK e (collected M (step n 0 BACK EMPTY none) (caller k (Some e), []))
       (λ z. omega (arith, z))
       (λ w h is out. let b = back_abroad w h e is out in
       (letter.Answer b.answer, b.home, ((λ y. (b.answer, refl, b.through)), (λ y. absurd (y is)))))
       (λ w miss. ((λ y. absurd (miss y)), (λ y. refl)))
 
   -- the task is taken back, or the helper has it
-  pub withdraws : (n id k : ℕ) (e : Errand J)
+  pub withdraws : (n id : ℕ) (k : Tasks) (e : Errand J)
       → Allows (Always M) n id (caller k (Some e), []) 0 (λ y. either (eqb y GIVEN) EMPTY y)
       (withdrew M (step n 0 GIVEN EMPTY none) (caller k (Some e), []))
   withdraws n id k e =
@@ -299,7 +300,7 @@ module _ {J : Type 0} (M : Meaning J) where
       (λ w miss. ((λ y. absurd (miss y)), (λ y. refl)))
 
   -- there is no further task
-  pub ends : (n id k : ℕ) (l : List (ℕ × MailboxLetter J))
+  pub ends : (n id : ℕ) (k : Tasks) (l : List (ℕ × MailboxLetter J))
       → Allows (Always M) n id (caller k None, l) 0 (λ _. OVER)
       (λ _. closed (step n 0 OVER 0 none) (caller k None, l) OVER)
   ends n id k l s a long here fits =

@@ -25,10 +25,10 @@ module _ {J : Type 0} (M : Meaning J) where
     home = tt;
     none = λ b s h. record {
       table = table ∙ h.table;
-      me = me ∙ h.me ∙ ap (λ k. (caller k (Some (errand b s)), [])) (sym (ap (λ m. m.0.served) me));
+      me = me ∙ h.me ∙ ap (λ k. (caller k (Some (errand b s)), [])) (sym (ap (λ m. m.0.tasks) me));
     };
     counted = tt;
-    same = ap (λ m. m.0.served) me;
+    same = ap (λ m. m.0.tasks) me;
   }
 
   -- where nothing was found, what was out is out
@@ -44,6 +44,7 @@ module _ {J : Type 0} (M : Meaning J) where
     some = λ p s h. m.some p s (l.none p s h);
     home = m.home;
     none = λ p s h. m.none p s (l.none p s h);
-    counted = at_some found (λ r e. e ∙ ap (λ n. n + from_bool r.begun) l.same) m.counted;
+    counted = at_some found
+        (λ r e. (e.0 ∙ ap (λ n. n.served + from_bool r.begun) l.same, e.1 ∙ ap (λ n. n.given) l.same)) m.counted;
     same = at_none found (λ e. e ∙ l.same) m.same;
   }

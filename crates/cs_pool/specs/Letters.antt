@@ -1,5 +1,5 @@
 -- What the two ends of a mailbox know.
-use Rattle.std.specs.Prelude.{ℕ, List, [], ◌∷◌, Option, Some, None}
+use Rattle.std.specs.Prelude.{ℕ, ◌+◌, List, [], ◌∷◌, Option, Some, None}
 use Rattle.std.specs.Arc.{arc_value}
 use Rattle.cs_board.specs.declared.board.Board.{Board}
 use Rattle.cs_board.specs.declared.board.BoardSeat.{BoardSeat}
@@ -9,6 +9,17 @@ use Rattle.cs_pool.specs.declared.letter.Task.{Task}
 use Rattle.cs_pool.specs.declared.view.Errand.{Errand}
 use Rattle.cs_pool.specs.declared.view.Knows.{Knows}
 use Rattle.cs_pool.specs.declared.view.Role.TheVariants.{Caller, Helper}
+use Rattle.cs_pool.specs.declared.view.Tasks.{Tasks}
+
+-- the tasks of a helper that was given none, and after it was given one more, and has served one more
+abbrev pub no_tasks : Tasks
+no_tasks = record { given = 0; served = 0 }
+
+abbrev pub one_given : Tasks → Tasks
+one_given n = record { given = n.given + 1; served = n.served }
+
+abbrev pub one_served : Tasks → Tasks
+one_served n = record { given = n.given; served = n.served + 1 }
 
 module _ {J : Type 0} where
   -- this seat of this board
@@ -26,10 +37,10 @@ module _ {J : Type 0} where
   task_in ((k, letter.Task task) ∷ xs) = Some (errand_of task)
   task_in ((k, letter.Answer seat) ∷ xs) = None
 
-  -- the caller's view: so many tasks were served, and this is out, or nothing
-  abbrev pub caller : ℕ → Option (Errand J) → Knows J
-  caller n lent = record { role = Caller; out = lent; served = n }
+  -- the caller's view: these were the tasks so far, and this is out, or nothing
+  abbrev pub caller : Tasks → Option (Errand J) → Knows J
+  caller n lent = record { role = Caller; out = lent; tasks = n }
 
   -- the helper's view: it is on duty with this, or free
   abbrev pub helper : Option (Errand J) → Knows J
-  helper duty = record { role = Helper; out = duty; served = 0 }
+  helper duty = record { role = Helper; out = duty; tasks = no_tasks }

@@ -12,23 +12,30 @@ use Rattle.cs_pool.specs.declared.mailbox.CallerEnd.{CallerEnd}
 use Rattle.cs_pool.specs.declared.mailbox.HelperEnd.{HelperEnd}
 use Rattle.cs_pool.specs.declared.mailbox.Mailbox.{Mailbox}
 use Rattle.cs_pool.specs.declared.mailbox.Returned.{Returned}
+use Rattle.cs_pool.specs.declared.view.Tasks.{Tasks}
 use Rattle.cs_pool.specs.Working.{IsThrough}
 
 module _ {J : Type 0} where
-  -- how many tasks the helper has begun and given back, as the caller's end knows; one that was taken back doesn't
-  -- count
+  -- the helper's tasks so far, as the caller's end knows
+  abbrev pub tasks : CallerEnd J → Tasks
+  tasks end = end.seat.me.0.tasks
+
+  -- how many it was given, and how many of them it has begun and given back; one that was taken back isn't served
+  abbrev pub given : CallerEnd J → ℕ
+  given end = (tasks end).given
+
   abbrev pub served : CallerEnd J → ℕ
-  served end = end.seat.me.0.served
+  served end = (tasks end).served
 
   -- the caller's end of this mailbox: nothing is out, and it has the slot, so that it can give at once
   pub record HasNothingOut (box : Mailbox J) (end : CallerEnd J) : Type 0 where
     pub table : end.seat.table_id ≡ box.table.shared.table_id
-    pub me : end.seat.me ≡ (caller (served end) None, (0, Nothing) ∷ [])
+    pub me : end.seat.me ≡ (caller (tasks end) None, (0, Nothing) ∷ [])
 
   -- the caller's end of this mailbox: this seat of this board is out
   pub record HasOut (box : Mailbox J) (end : CallerEnd J) (board : Board J) (seat : BoardSeat J) : Type 0 where
     pub table : end.seat.table_id ≡ box.table.shared.table_id
-    pub me : end.seat.me ≡ (caller (served end) (Some (errand board seat)), [])
+    pub me : end.seat.me ≡ (caller (tasks end) (Some (errand board seat)), [])
 
   -- the caller's end of this mailbox: some seat of some board is out
   pub record HasSomethingOut (box : Mailbox J) (end : CallerEnd J) : Type 0 where
@@ -53,6 +60,6 @@ module _ {J : Type 0} (M : Meaning J) where
     pub some : (b : Board J) (s : BoardSeat J) → HasOut box end b s → IfSome found (λ r. IsThrough M b s r.seat)
     pub home : IfSome found (λ _. HasNothingOut box' end')
     pub none : (b : Board J) (s : BoardSeat J) → HasOut box end b s → IfNone found (HasOut box' end' b s)
-    -- one task more was served where the helper had begun it
-    pub counted : IfSome found (λ r. served end' ≡ served end + from_bool r.begun)
-    pub same : IfNone found (served end' ≡ served end)
+    -- one task more was served where the helper had begun it, and none was given
+    pub counted : IfSome found (λ r. (served end' ≡ served end + from_bool r.begun) × (given end' ≡ given end))
+    pub same : IfNone found (tasks end' ≡ tasks end)

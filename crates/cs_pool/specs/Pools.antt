@@ -1,9 +1,9 @@
 -- What a standing crew promises of itself, and which cycles it offers to its helpers.
-use Rattle.std.specs.Prelude.{◌≡◌, ◌⊎◌, ℕ, ◌+◌, ◌-◌, ◌<◌, ◌≤◌, ◌^◌, List, min, length}
+use Rattle.std.specs.Prelude.{◌≡◌, ◌⊎◌, ℕ, ◌+◌, ◌-◌, ◌<◌, ◌≤◌, ◌^◌, List, min, length, false}
 use Rattle.cs_board.specs.Counts.{total}
 use Rattle.cs_graph.specs.Cover.{HasCover}
 use Rattle.cs_pool.specs.Alone.{alone_after}
-use Rattle.cs_pool.specs.Mailboxes.{served}
+use Rattle.cs_pool.specs.Mailboxes.{given, served}
 use Rattle.cs_pool.specs.declared.line.Line.{Line}
 use Rattle.cs_pool.specs.declared.pool.Pool.{Pool}
 
@@ -17,6 +17,10 @@ module _ {J : Type 0} where
   abbrev pub served_by : List (Line J) → ℕ
   served_by lines = total (λ line. served line.end) lines
 
+  -- how many tasks they were given
+  abbrev pub given_to : List (Line J) → ℕ
+  given_to lines = total (λ line. given line.end) lines
+
 module _ {J R G : Type 0} where
   -- how many helpers it has beside the caller
   abbrev pub helpers : Pool J R G → ℕ
@@ -29,6 +33,22 @@ module _ {J R G : Type 0} where
   -- how many tasks its helpers have begun and given back
   abbrev pub tasks_served : Pool J R G → ℕ
   tasks_served pool = served_by pool.lines.items
+
+  -- how many tasks its helpers were given: a seat of a cycle's board each
+  abbrev pub tasks_given : Pool J R G → ℕ
+  tasks_given pool = given_to pool.lines.items
+
+  -- so many helpers were given a part of the cycle, or fewer, where memory for a part was refused
+  pub record GivesParts (n : ℕ) (before after : Pool J R G) : Type 0 where
+    pub most : tasks_given after ≤ tasks_given before + n
+    pub all : after.starved ≡ false → tasks_given after ≡ tasks_given before + n
+
+  -- The notes of a cycle, so many, are parted into chains along the edges, of each of which one note can run at once:
+  -- beside the caller a helper for each further chain was given a part, or each helper.
+  pub record IsShared (edges : List (ℕ × ℕ)) (notes : ℕ) (before after : Pool J R G) : Type 0 where
+    pub chains : ℕ
+    pub cover : HasCover edges notes chains
+    pub parts : GivesParts (min (chains - 1) (helpers before)) before after
 
   -- how many of its next cycles are the caller's alone
   abbrev pub cycles_alone : Pool J R G → ℕ

@@ -1,12 +1,13 @@
 // One control cycle.
-ghost use Rattle.std.specs.Prelude.{◌≡◌, ◌<◌, ◌≤◌, ◌-◌, ◌⊎◌, ◌↔◌, ℕ, length, All, true, false};
-ghost use Rattle.cs_base.specs.Limits.{most_notes};
+ghost use Rattle.std.specs.Prelude.{◌≡◌, ◌<◌, ◌≤◌, ◌+◌, ◌-◌, ◌⊎◌, ◌↔◌, ℕ, length, min, All, true, false};
 ghost use Rattle.std.specs.Arc.{arc_value};
 ghost use Rattle.cs_board.specs.Board.{plan, name, view, IsSeatOf};
-ghost use Rattle.cs_desk.specs.Cycles.{AreOver, IsCycle, WasPlayed};
+ghost use Rattle.cs_desk.specs.Cycles.{IsCycle, WasPlayed};
 ghost use Rattle.cs_pool.specs.Working.{IsReady, IsDone};
 ghost use Rattle.cs_pool.specs.Numbered.{IsFirst};
+ghost use Rattle.cs_graph.specs.Cover.{HasCover};
 ghost use Rattle.cs_pool.specs.Pools.{helpers, ended, next_cycle, cycles_alone, tasks_served, served_by};
+ghost use Rattle.cs_pool.specs.Pools.{tasks_given, given_to, GivesParts, IsShared};
 ghost use Rattle.cs_pool.specs.Pools.{HasMissed, Learns, LearnsNothing, NeedsNoHelper};
 ghost use Rattle.cs_pool.specs.inner.Lines.{IsIdle};
 ghost use Rattle.cs_board.specs.Views.{opening_view};
@@ -16,7 +17,7 @@ use crate::line::Line;
 use crate::mailbox::Returned;
 use crate::pool::Pool;
 use crate::worker::work;
-use cs_board::{Board, BoardSeat};
+use cs_board::{Board, BoardSeat, Patience};
 use cs_cells::{Job, serial_laws};
 use cs_desk::{Desk, Receipt};
 use cs_edge::Gate;
@@ -25,14 +26,21 @@ use std::alloc::Global;
 use std::sync::{Arc, Wait};
 use std::thread;
 
+/// How long the caller looks for a note where it finds none to claim and notes wait, before it asks for the seats that
+/// are out.
+const PATIENCE: Patience = Patience {
+    looks: 1_000,
+    brisk: 100,
+};
+
 impl<'e, J: Job + Drop, R: Wait, G: Gate> Pool<'e, J, R, G> {
     /// Runs the notes of one control cycle, and answers a receipt with their jobs, the desk, and
     /// the graph, as if the notes had run one by one in serial order over the desk's cells.
     ///
     /// `graph` is that of the jobs, which stand in serial order; it serves as many cycles as the
     /// same notes are active. The desk's layout is that of each job, and it has room for the cycle.
-    /// No more helpers get a part than can have a note at once beside the caller, who works too, and
-    /// where none is to get one the caller runs the notes without a board.
+    /// As many helpers get a part as can have a note at once beside the caller, who works too, or all
+    /// helpers, and where none is to get one the caller runs the notes without a board.
     /// The gate is called with `cycle` and the note's place before each note is run. It can't fail:
     /// where there is no memory for the parts of further helpers, those with a part and the caller
     /// run all notes.
@@ -48,6 +56,7 @@ impl<'e, J: Job + Drop, R: Wait, G: Gate> Pool<'e, J, R, G> {
         ensures graph { result.2.value ≡ graph.value }
         ensures ended { ended self.new ≡ next_cycle (ended self.old) }
         ensures helpers { helpers self.new ≡ helpers self.old }
+        ensures shared { IsShared graph.value.edges (length graph.value.levels) self.old self.new }
         // What it tells of the cycles that are to be offered next.
         ensures learned { Learns self.old self.new
             ⊎ (NeedsNoHelper (helpers self.old) graph.value.edges (length graph.value.levels)
@@ -57,6 +66,7 @@ impl<'e, J: Job + Drop, R: Wait, G: Gate> Pool<'e, J, R, G> {
         serial_laws::<J>();
         self.ended = self.ended.saturating_add(1);
         if others == 0 {
+            self.starved = false;
             let mut desk = desk;
             let receipt = desk.run_alone(cycle, graph.len(), jobs, self.gate);
             return (receipt, desk, graph);
@@ -69,55 +79,53 @@ impl<'e, J: Job + Drop, R: Wait, G: Gate> Pool<'e, J, R, G> {
     /// Whether the next cycle is offered to the helpers: where there are any, unless it is one of those
     /// that are the caller's alone. So the first cycle is offered; after each one that was offered and that
     /// no helper began before the caller was done 1, 2, 4 and so on up to 128 are the caller's alone, and
-    /// none after one that a helper began (`cycle`). For a cycle that isn't offered there is `alone`, which
-    /// needs no graph of its notes.
+    /// none after one that a helper began (`cycle`). A cycle that isn't offered needs no graph of its notes: the
+    /// caller runs them (`Desk::run_alone`) and tells the crew (`pass`).
     pub fn offers(&self) -> bool
         ensures { (result ≡ true) ↔ ((0 < helpers self.now) × (cycles_alone self.now ≡ 0)) }
     {
         !self.lines.is_empty() && self.sparing.alone == 0
     }
 
-    /// Runs the notes of one control cycle by the caller alone, one by one in serial order over the
-    /// desk's cells, and answers a receipt with their jobs, and the desk. They are at most 512, and
-    /// the desk's layout is that of each. The gate is called as in `cycle`. It can't fail.
-    pub fn alone(&mut self, cycle: u32, desk: Desk<J>, jobs: Vec<J>) -> (Receipt<J>, Desk<J>)
-        requires few { length jobs.items ≤ most_notes }
-        requires over { AreOver J.means desk jobs.items }
-        ensures played { WasPlayed J.means desk jobs.items result.0 result.1 }
+    /// How many workers it has, the caller among them.
+    pub fn workers(&self) -> u32
+        ensures { result ≡ helpers self.now + 1 }
+    {
+        self.lines.len() as u32 + 1
+    }
+
+    /// One cycle more was played, by the caller alone.
+    pub fn pass(&mut self)
         ensures ended { ended self.new ≡ next_cycle (ended self.old) }
         ensures helpers { helpers self.new ≡ helpers self.old }
+        ensures given { tasks_given self.new ≡ tasks_given self.old }
         ensures served { tasks_served self.new ≡ tasks_served self.old }
         ensures alone { cycles_alone self.new ≡ cycles_alone self.old - 1 }
         ensures missed { (misses : ℕ) → HasMissed misses self.old → HasMissed misses self.new }
     {
-        let mut desk = desk;
-        let notes = jobs.len() as u32;
         self.ended = self.ended.saturating_add(1);
         self.sparing.pass();
-        let receipt = desk.run_alone(cycle, notes, jobs, self.gate);
-        (receipt, desk)
     }
 
     /// How many helpers are to get a part in a cycle of this graph.
-    fn wanted(&self, graph: &Graph) -> u32
-        ensures { result ≡ 0
-            → NeedsNoHelper (helpers self.now) graph.now.edges (length graph.now.levels) }
+    fn wanted(&self, graph: &Graph) -> usize
+        ensures { (chains : ℕ) × HasCover graph.now.edges (length graph.now.levels) chains
+            × (result ≡ min (chains - 1) (helpers self.now)) }
     {
-        if self.lines.is_empty() {
-            return 0;
-        }
-        graph.useful_workers().saturating_sub(1)
+        let chains = graph.useful_workers();
+        parts_of(chains, self.lines.len())
     }
 
-    /// The cycle on its board, by the caller and so many others, or as many as there are. It answers
-    /// the board, of which nobody else has a share any more, and the first seat.
+    /// The cycle on its board, by the caller and so many others. It answers the board, of which nobody
+    /// else has a share any more, and the first seat.
     fn play(
         &mut self,
         board: Board<J>,
         mut first: BoardSeat<J>,
-        others: u32,
+        others: usize,
         cycle: u32,
     ) -> (Board<J>, BoardSeat<J>)
+        requires few { others ≤ helpers self.old }
         requires first { IsSeatOf J.means (plan board) (name board) first }
         requires opening { view first ≡ opening_view (plan board) }
         ensures board { result.0 ≡ board }
@@ -125,6 +133,7 @@ impl<'e, J: Job + Drop, R: Wait, G: Gate> Pool<'e, J, R, G> {
         ensures alone { IsFirst 0 (view result.1) }
         ensures ended { ended self.new ≡ ended self.old }
         ensures helpers { helpers self.new ≡ helpers self.old }
+        ensures parts { GivesParts others self.old self.new }
         ensures learned { Learns self.old self.new }
     {
         match Arc::new(self.alloc, board) {
@@ -136,18 +145,27 @@ impl<'e, J: Job + Drop, R: Wait, G: Gate> Pool<'e, J, R, G> {
                     cycle,
                 };
                 let lines = self.lines.as_mut_slice();
-                let begun = share(&shift, lines, others, &board, &mut first);
-                self.sparing.learn(begun);
+                let shared = share(&shift, lines, others, &board, &mut first);
+                self.starved = shared.refused;
+                self.sparing.learn(shared.begun);
                 (sole(self.rt, board), first)
             }
             Err(refused) => {
                 let board = refused.value;
-                work(self.rt, &board, &mut first, cycle, self.gate);
+                work(self.rt, &board, &mut first, cycle, self.gate, PATIENCE);
+                self.starved = true;
                 self.sparing.learn(false);
                 (board, first)
             }
         }
     }
+}
+
+/// How many of so many helpers are of use beside the caller, where no more notes than chains run at once.
+fn parts_of(chains: u32, helpers: usize) -> usize
+    ensures { result ≡ min (chains - 1) helpers }
+{
+    (chains.saturating_sub(1) as usize).min(helpers)
 }
 
 /// What each worker of a cycle works with, and whence a helper's part has its memory.
@@ -159,36 +177,52 @@ struct Shift<'a, R, G> {
     cycle: u32,
 }
 
-/// The caller and `others` helpers work at the board, or as many helpers as there are: each of these
-/// gets a seat of its own and gives it back. Returns whether one of them had begun its part before the
-/// caller asked for it back.
+/// What became of the helpers' parts in a cycle.
+#[derive(Clone, Copy)]
+struct Shared {
+    /// Whether a helper had begun its part before the caller asked for it back.
+    begun: bool,
+    /// Whether memory for a part was refused.
+    refused: bool,
+}
+
+/// The caller and `others` helpers work at the board: each of these gets a seat of its own and gives it back.
+/// Where memory for a part is refused, no further helper gets one.
 fn share<J: Job + Drop, R: Wait, G: Gate>(
     shift: &Shift<'_, R, G>,
     lines: &mut [Line<J>],
-    others: u32,
+    others: usize,
     board: &Arc<Board<J>, Global>,
     first: &mut BoardSeat<J>,
-) -> bool
+) -> Shared
     requires idle { All (λ line. IsIdle line) lines.old }
     requires ready { IsReady J.means (arc_value board.now) first.old }
     requires leads { IsFirst (view first.old).made (view first.old) }
+    requires few { others ≤ length lines.old }
     ensures idle { All (λ line. IsIdle line) lines.new }
     ensures done { IsDone J.means (arc_value board.now) first.new }
     ensures leads { IsFirst (view first.old).made (view first.new) }
-    ensures begun { result ≡ true → served_by lines.old < served_by lines.new }
-    ensures missed { result ≡ false → served_by lines.new ≡ served_by lines.old }
+    ensures begun { result.begun ≡ true → served_by lines.old < served_by lines.new }
+    ensures missed { result.begun ≡ false → served_by lines.new ≡ served_by lines.old }
+    ensures most { given_to lines.new ≤ given_to lines.old + others }
+    ensures all { result.refused ≡ false → given_to lines.new ≡ given_to lines.old + others }
 {
     if others == 0 {
-        work(shift.rt, board, first, shift.cycle, shift.gate);
-        return false;
+        work(shift.rt, board, first, shift.cycle, shift.gate, PATIENCE);
+        return Shared {
+            begun: false,
+            refused: false,
+        };
     }
     let Some((line, rest)) = lines.split_first_mut() else {
-        work(shift.rt, board, first, shift.cycle, shift.gate);
-        return false;
+        unreachable!()
     };
     let Ok((part, member)) = line.part_in(shift.alloc, board) else {
-        work(shift.rt, board, first, shift.cycle, shift.gate);
-        return false;
+        work(shift.rt, board, first, shift.cycle, shift.gate, PATIENCE);
+        return Shared {
+            begun: false,
+            refused: true,
+        };
     };
     let seat = board.split(first);
     line.give(Task {
@@ -197,11 +231,14 @@ fn share<J: Job + Drop, R: Wait, G: Gate>(
         cycle: shift.cycle,
         member,
     });
-    let others_begun = share(shift, rest, others - 1, board, first);
+    let shared = share(shift, rest, others - 1, board, first);
     let returned = line.await_seat(shift.rt);
     let Returned { seat, begun } = returned;
     board.join(first, seat);
-    begun | others_begun
+    Shared {
+        begun: begun | shared.begun,
+        refused: shared.refused,
+    }
 }
 
 /// The board, once nobody else has a share of it. Each helper let its share go before it gave its

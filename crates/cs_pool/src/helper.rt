@@ -6,6 +6,7 @@ use crate::letter::{GIVEN, OVER, Task};
 use crate::mailbox::{HelperEnd, Mailbox};
 use crate::worker::work;
 use crossbeam_utils::sync::Parker;
+use cs_board::Patience;
 use cs_cells::Job;
 use cs_edge::Gate;
 use std::alloc::Global;
@@ -26,22 +27,21 @@ const BRISK_LOOKS: u32 = 2_000;
 /// notes and cells that wander between processors would cost more than such a cycle takes.
 const HESITATION: u32 = 32_000;
 
-/// How often it looks for each note of the last cycle that it took part in, some 0.9 microseconds together:
-/// what sharing costs goes by the note.
+/// How often it looks for each note of the task's cycle, some 0.9 microseconds together: what sharing costs goes
+/// by the note.
 const LOOKS_A_NOTE: u32 = 800;
 
 /// How many tasks a helper takes at once after one that outlasted its hesitation. Then it hesitates
 /// again.
 const EAGER_TASKS: u32 = 32;
 
-/// How a helper goes about its next tasks.
-#[derive(Clone, Copy)]
-struct Pace {
-    /// How many of them it takes at once.
-    eager: u32,
-    /// How often it looks whether a task still lies there, where it isn't eager.
-    hesitation: u32,
-}
+/// How long a helper that has taken a task and finds no note to claim looks for one, while notes wait. It never lets
+/// other threads go first: the caller can't take the task back any more, so whoever keeps this helper from the
+/// processor then holds up the cycle.
+const PATIENCE: Patience = Patience {
+    looks: 10_000,
+    brisk: 10_000,
+};
 
 /// Takes part in each cycle for which there is a task in the mailbox, until there will be none.
 pub(crate) fn help<J: Job + Drop, G: Gate, R: Wait>(
@@ -53,13 +53,10 @@ pub(crate) fn help<J: Job + Drop, G: Gate, R: Wait>(
 )
     requires { IsFree (arc_value mailbox) end }
 {
-    let mut pace = Pace {
-        eager: 0,
-        hesitation: HESITATION,
-    };
+    let mut eager = 0;
     for _ in rt.forever() {
         match await_word(rt, &mailbox, &parker) {
-            GIVEN => pace = serve(rt, gate, &mailbox, &mut end, pace),
+            GIVEN => eager = serve(rt, gate, &mailbox, &mut end, eager),
             OVER => return,
             _ => {}
         }
@@ -95,23 +92,23 @@ pub(crate) fn pause(look: u32, brisk: u32) {
 }
 
 /// One task, unless the caller has taken it back: the helper works at its seat, lets its share of
-/// the board go, gives the seat back, and leaves the group, in this order. Returns its pace for the next
-/// task.
+/// the board go, gives the seat back, and leaves the group, in this order. It takes so many tasks, this
+/// one first, without hesitation, and returns how many of those that follow.
 fn serve<J: Job + Drop, G: Gate, R: Wait>(
     rt: &R,
     gate: &G,
     mailbox: &Mailbox<J>,
     end: &mut HelperEnd<J>,
-    pace: Pace,
-) -> Pace
+    eager: u32,
+) -> u32
     requires { IsFree mailbox.now end.old }
     ensures { IsFree mailbox.now end.new }
 {
-    if pace.eager == 0 {
-        hesitate(mailbox, pace.hesitation);
+    if eager == 0 {
+        hesitate(mailbox);
     }
     let Some(task) = mailbox.take(end) else {
-        return Pace { eager: 0, ..pace };
+        return 0;
     };
     let Task {
         board,
@@ -119,27 +116,18 @@ fn serve<J: Job + Drop, G: Gate, R: Wait>(
         cycle,
         member,
     } = task;
-    work(rt, &board, &mut seat, cycle, gate);
-    let next = pace.after(board.notes());
+    work(rt, &board, &mut seat, cycle, gate, PATIENCE);
     drop(board);
     mailbox.give_back(end, seat);
     member.leave(mailbox, end);
-    next
+    eager.checked_sub(1).unwrap_or(EAGER_TASKS)
 }
 
-impl Pace {
-    /// The pace after a task of a cycle of so many notes.
-    fn after(self, notes: u32) -> Pace {
-        Pace {
-            eager: self.eager.checked_sub(1).unwrap_or(EAGER_TASKS),
-            hesitation: notes.saturating_mul(LOOKS_A_NOTE).max(HESITATION),
-        }
-    }
-}
-
-/// Lets the caller take a task back that it plays itself within a short while. The looks follow one another at once:
-/// a pause of the processor, which takes from 4 to 60 nanoseconds, would make them as long as a heavy cycle.
-fn hesitate<J: Job + Drop>(mailbox: &Mailbox<J>, looks: u32) {
+/// Lets the caller take a task back that it plays itself within a short while, by the notes of the task that lies
+/// there. The looks follow one another at once: a pause of the processor, which takes from 4 to 60 nanoseconds, would
+/// make them as long as a heavy cycle.
+fn hesitate<J: Job + Drop>(mailbox: &Mailbox<J>) {
+    let looks = mailbox.notes().saturating_mul(LOOKS_A_NOTE).max(HESITATION);
     for _ in 0..looks {
         if mailbox.word() != GIVEN {
             return;

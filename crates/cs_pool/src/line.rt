@@ -5,7 +5,8 @@ ghost use Rattle.std.specs.Arc.{arc_value};
 ghost use Rattle.cs_board.specs.declared.board.Board.{Board};
 ghost use Rattle.cs_board.specs.declared.board.BoardSeat.{BoardSeat};
 ghost use Rattle.cs_pool.specs.Working.{IsDone, IsThrough};
-ghost use Rattle.cs_pool.specs.Mailboxes.{HasNothingOut, IsFree, LooksFor, served};
+ghost use Rattle.cs_pool.specs.Letters.{one_given};
+ghost use Rattle.cs_pool.specs.Mailboxes.{HasNothingOut, IsFree, LooksFor, given, served, tasks};
 ghost use Rattle.cs_pool.specs.inner.Lines.{IsIdle, IsLent, IsBusy};
 
 use crate::helper::{help, pause};
@@ -86,7 +87,7 @@ impl<J: Job + Drop> Line<J> {
         requires { IsIdle self.old }
         ensures idle { IsIdle self.new }
         ensures share { IfOk result (λ r. arc_value r.0 ≡ arc_value board.now) }
-        ensures served { served self.new.end ≡ served self.old.end }
+        ensures tasks { tasks self.new.end ≡ tasks self.old.end }
     {
         let share = Arc::try_clone(board)?;
         let member = joined(alloc, &mut self.group)?;
@@ -98,7 +99,7 @@ impl<J: Job + Drop> Line<J> {
         requires idle { IsIdle self.old }
         requires task { IsDone J.means (arc_value task.board) task.seat }
         ensures lent { IsLent self.new (arc_value task.board) task.seat }
-        ensures served { served self.new.end ≡ served self.old.end }
+        ensures tasks { tasks self.new.end ≡ one_given (tasks self.old.end) }
     {
         self.mailbox.give(&mut self.end, task);
         self.unparker.unpark();
@@ -113,6 +114,7 @@ impl<J: Job + Drop> Line<J> {
         ensures seat { (b : Board J.row.Denot) (s : BoardSeat J.row.Denot)
             → IsLent self.old b s → IsThrough J.means b s result.seat }
         ensures served { served self.new.end ≡ served self.old.end + from_bool result.begun }
+        ensures given { given self.new.end ≡ given self.old.end }
     {
         if let Some(returned) = self.look() {
             return returned;

@@ -14,6 +14,7 @@ use atomic_table::{Seat, Table};
 use cs_board::BoardSeat;
 use cs_cells::Job;
 use std::alloc::{AllocError, Global};
+use std::sync::atomic::{AtomicU32, Ordering};
 
 /// What one end of a mailbox steps with.
 pub(crate) type End<J> = Seat<MailboxLetter<J>, Knows<J>>;
@@ -22,6 +23,8 @@ pub(crate) type End<J> = Seat<MailboxLetter<J>, Knows<J>>;
 #[derive(Drop)]
 pub(crate) struct Mailbox<J: Job> {
     pub(crate) table: Table<MailboxLetter<J>, Knows<J>, (), MailboxRule, Global>,
+    /// How many notes the cycle of the last task has. No promise rests on it.
+    notes: AtomicU32,
     ghost sized: { (table.shared.table_id.words ≡ 1) × (table.shared.table_id.slots ≡ 1) },
 }
 
@@ -47,7 +50,8 @@ pub(crate) struct Returned<J: Job> {
 
 impl<J: Job + Drop> Mailbox<J> {
     ghost use Rattle.cs_pool.specs.Mailboxes.{HasNothingOut, HasOut, HasSomethingOut, IsFree, IsOnDuty};
-    ghost use Rattle.cs_pool.specs.Mailboxes.{LooksFor, served};
+    ghost use Rattle.cs_pool.specs.Letters.{one_given};
+    ghost use Rattle.cs_pool.specs.Mailboxes.{LooksFor, tasks};
 
     /// A mailbox and its two ends. It fails only for want of memory.
     pub(crate) fn new(alloc: Global) -> Result<(Mailbox<J>, CallerEnd<J>, HelperEnd<J>), AllocError>
@@ -62,7 +66,10 @@ impl<J: Job + Drop> Mailbox<J> {
         table.shared.load::<Fetch>(&mut seat, 0);
         let other = table.shared.split_seat::<SplitOff>(&mut seat);
         Ok((
-            Mailbox { table },
+            Mailbox {
+                table,
+                notes: AtomicU32::new(0),
+            },
             CallerEnd { seat },
             HelperEnd { seat: other },
         ))
@@ -73,8 +80,9 @@ impl<J: Job + Drop> Mailbox<J> {
         requires end { HasNothingOut self.now end.old }
         requires task { IsDone J.means (arc_value task.board) task.seat }
         ensures out { HasOut self.now end.new (arc_value task.board) task.seat }
-        ensures served { served end.new ≡ served end.old }
+        ensures tasks { tasks end.new ≡ one_given (tasks end.old) }
     {
+        self.notes.store(task.board.notes(), Ordering::SeqCst);
         let shared = &self.table.shared;
         let held = shared.exchange(&mut end.seat, 0, MailboxLetter::Task(task));
         drop(held);
@@ -141,6 +149,11 @@ impl<J: Job + Drop> Mailbox<J> {
     /// A look at the word, one of those of `letter`. It may have changed since.
     pub(crate) fn word(&self) -> u64 {
         self.table.shared.peek(0)
+    }
+
+    /// How many notes the cycle has whose task lies there. It may have changed since.
+    pub(crate) fn notes(&self) -> u32 {
+        self.notes.load(Ordering::SeqCst)
     }
 
     /// The helper takes the task that was handed out, or answers None where there is none.

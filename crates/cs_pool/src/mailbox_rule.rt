@@ -29,9 +29,9 @@ pub(crate) struct SplitOff;
 
 impl<J: Job> Split<Knows<J>> for SplitOff {
     ghost use Rattle.std.specs.Prelude.{None};
-    ghost use Rattle.cs_pool.specs.Letters.{caller, helper};
+    ghost use Rattle.cs_pool.specs.Letters.{caller, helper, no_tasks};
 
-    ghost left = { λ _. caller 0 None };
+    ghost left = { λ _. caller no_tasks None };
 
     ghost right = { λ _. helper None };
 }

@@ -20,7 +20,10 @@ pub struct Pool<'e, J: Job, R, G> {
     pub(crate) lines: Vec<Line<J>>,
     pub(crate) ended: u64,
     pub(crate) sparing: Sparing,
+    /// Whether memory for a helper's part in the last cycle was refused.
+    pub(crate) starved: bool,
     ghost idle: { All (λ line. IsIdle line) lines.items },
+    ghost few: { length lines.items < 32 },
 }
 
 impl<'e, J: Job + Send + Drop, R: Threads + Wait + Sync, G: Gate + Sync> Pool<'e, J, R, G> {
@@ -51,6 +54,7 @@ impl<'e, J: Job + Send + Drop, R: Threads + Wait + Sync, G: Gate + Sync> Pool<'e
             lines: start_all(rt, scope, alloc, workers - 1, gate),
             ended: 0,
             sparing: Sparing::new(),
+            starved: false,
         }
     }
 
@@ -66,6 +70,7 @@ impl<'e, J: Job + Send + Drop, R: Threads + Wait + Sync, G: Gate + Sync> Pool<'e
             lines,
             ended,
             sparing: _,
+            starved: _,
         } = self;
         close_all(rt, lines);
         ended

@@ -18,12 +18,19 @@ pub(crate) struct Errand<J: Job> {
     pub(crate) seat: BoardSeat<J>,
 }
 
+/// How many tasks the caller gave to the helper, and how many of them the helper has begun and given back. One that
+/// was taken back isn't served.
+pub(crate) struct Tasks {
+    pub(crate) given: u64,
+    pub(crate) served: u64,
+}
+
 /// What one end of a mailbox knows.
 pub(crate) struct Knows<J: Job> {
     pub(crate) role: Role,
     /// In the caller's view what is out at the helper, and in the helper's view what it is on duty
     /// with.
     pub(crate) out: Option<Errand<J>>,
-    /// In the caller's view how many tasks the helper has begun and given back.
-    pub(crate) served: u64,
+    /// In the caller's view the tasks so far.
+    pub(crate) tasks: Tasks,
 }

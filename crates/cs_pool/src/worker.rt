@@ -6,14 +6,8 @@ use cs_cells::Job;
 use cs_edge::Gate;
 use std::sync::Wait;
 
-/// How long a worker that finds no note to claim looks for one before it leaves.
-const PATIENCE: Patience = Patience {
-    looks: 1_000,
-    brisk: 100,
-};
-
-/// Claims a note, calls the gate, runs the note and finishes it, and so on until all notes are
-/// Done, or until it has looked for one in vain so long that it leaves. Whoever leaves does no note
+/// Claims a note, calls the gate, runs the note and finishes it, and so on until all notes have
+/// begun, or until it has looked for one in vain so long that it leaves. Whoever leaves does no note
 /// and owes none.
 pub(crate) fn work<J: Job, G: Gate, R: Wait>(
     rt: &R,
@@ -21,12 +15,13 @@ pub(crate) fn work<J: Job, G: Gate, R: Wait>(
     seat: &mut BoardSeat<J>,
     cycle: u32,
     gate: &G,
+    patience: Patience,
 )
     requires { IsReady J.means board.now seat.old }
     ensures { IsThrough J.means board.now seat.old seat.new }
 {
     for _ in rt.forever() {
-        let Some(note) = board.await_claim(seat, PATIENCE) else {
+        let Some(note) = board.await_claim(seat, patience) else {
             return;
         };
         gate.before(cycle, note);

@@ -8,7 +8,7 @@ use Rattle.atomic_table.specs.Table.{State}
 use Rattle.cs_board.specs.declared.board.BoardSeat.{BoardSeat}
 use Rattle.cs_cells.specs.Meaning.{Meaning}
 use Rattle.cs_pool.specs.Working.{IsDone, IsThrough}
-use Rattle.cs_pool.specs.Letters.{errand_of}
+use Rattle.cs_pool.specs.Letters.{errand_of, no_tasks}
 use Rattle.cs_pool.specs.declared.letter.MailboxLetter.{MailboxLetter}
 use Rattle.cs_pool.specs.declared.letter.MailboxLetter.TheVariants as letter
 use Rattle.cs_pool.specs.declared.letter.TheConstants.{EMPTY, GIVEN, TAKEN, BACK, OVER}
@@ -21,7 +21,7 @@ use Rattle.cs_pool.specs.declared.view.Role.TheVariants.{Maker, Holder, Caller, 
 module _ {J : Type 0} where
   -- the view of a mailbox's first end: it is being made
   abbrev pub beginning : Role → Knows J
-  beginning r = record { role = r; out = None; served = 0 }
+  beginning r = record { role = r; out = None; tasks = no_tasks }
 
 module _ {J : Type 0} (M : Meaning J) where
   -- The task lies in the slot, and nobody has begun it: its seat and its board are those that are out, and the seat

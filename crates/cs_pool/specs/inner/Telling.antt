@@ -1,13 +1,13 @@
 -- What each kind of step on a mailbox tells the end that makes it.
 -- st is the step, m the end before it, r the word that was found, n the end after it; e is what is out, t a task, s a
 -- seat. M is what jobs mean.
-use Rattle.std.specs.Prelude.{◌≡◌, ◌≢◌, ◌+◌, ℕ, [], ◌∷◌, Some, None, IfSome}
+use Rattle.std.specs.Prelude.{◌≡◌, ◌≢◌, ℕ, [], ◌∷◌, Some, None, IfSome}
 use Rattle.std.specs.Arc.{arc_value}
 use Rattle.atomic_table.specs.Table.{Me, Step}
 use Rattle.cs_board.specs.declared.board.BoardSeat.{BoardSeat}
 use Rattle.cs_cells.specs.Meaning.{Meaning}
 use Rattle.cs_pool.specs.Working.{IsDone, IsThrough}
-use Rattle.cs_pool.specs.Letters.{errand_of, task_in, caller, helper}
+use Rattle.cs_pool.specs.Letters.{errand_of, task_in, caller, helper, one_given, one_served}
 use Rattle.cs_pool.specs.inner.Exchange.{beginning}
 use Rattle.cs_pool.specs.declared.letter.MailboxLetter.{MailboxLetter}
 use Rattle.cs_pool.specs.declared.letter.MailboxLetter.TheVariants as letter
@@ -28,9 +28,9 @@ module _ {J : Type 0} where
   abbrev pub fetched : Tells J
   fetched st m r n = n ≡ (beginning Holder, (0, letter.Nothing) ∷ [])
 
-  -- the task that the caller has written into the slot is out
+  -- the task that the caller has written into the slot is out, one more that was given
   abbrev pub gave : Tells J
-  gave st m r n = n ≡ (caller m.0.served (task_in m.1), [])
+  gave st m r n = n ≡ (caller (one_given m.0.tasks) (task_in m.1), [])
 
   -- the helper's answer lies in the slot, and it is free again
   abbrev pub gave_back : Tells J
@@ -51,13 +51,13 @@ module _ {J : Type 0} (M : Meaning J) where
   -- the caller found the seat that was out, after its work, so that one task more was served, or found no answer
   abbrev pub collected : Tells J
   collected st m r n =
-      (r ≡ BACK → (s : BoardSeat J) × (n ≡ (caller (m.0.served + 1) None, (0, letter.Answer s) ∷ []))
+      (r ≡ BACK → (s : BoardSeat J) × (n ≡ (caller (one_served m.0.tasks) None, (0, letter.Answer s) ∷ []))
       × IfSome m.0.out (λ e. IsThrough M e.board e.seat s))
       × (r ≢ BACK → n ≡ m)
 
   -- the caller found the task as it was given, or found it taken
   abbrev pub withdrew : Tells J
   withdrew st m r n =
-      (r ≡ GIVEN → (t : Task J) × (n ≡ (caller m.0.served None, (0, letter.Task t) ∷ []))
+      (r ≡ GIVEN → (t : Task J) × (n ≡ (caller m.0.tasks None, (0, letter.Task t) ∷ []))
       × IfSome m.0.out (λ e. (t.seat ≡ e.seat) × IsDone M e.board e.seat))
       × (r ≢ GIVEN → n ≡ m)

@@ -1,7 +1,8 @@
-use Rattle.std.proofs.Common.{ℕ, suc, ◌<◌, ◌+◌, ◌≡◌, ◌++◌, List, length, take, drop, slice_set, Some, sym, ap, ◌∙◌, arith}
+use Rattle.std.proofs.Common.{ℕ, suc, ◌<◌, ◌+◌, ◌≡◌, ◌++◌, List, length, take, drop, slice_set, Some, sym, ap, ◌∙◌}
+use Rattle.std.proofs.Common.{arith}
 use Rattle.std.proofs.lemmas.Option.{slice_get-get_or}
 use Rattle.std.specs.Prelude.{ℤ}
-use Rattle.cs_desk.proofs.Reached.{next_set, all_of}
+use Rattle.cs_row.proofs.Fronts.{next_set, all_of}
 use Rattle.cs_desk.proofs.plain.fill.Goals as goal
 
 pub loop-addr-preserved : goal.loop-addr-preserved

@@ -1,13 +1,14 @@
-use Rattle.std.proofs.Common.{◌≡◌, ◌<◌, ◌∷◌, rules, ◌+◌, ap, sym, ◌∙◌, subst}
+use Rattle.std.proofs.Common.{◌≡◌, ◌≢◌, ◌<◌, ◌∷◌, suc, length, rules, ◌+◌, ap, sym, ◌∙◌, subst, arith}
 use Rattle.std.specs.Int.{from_bool}
 use Rattle.std.proofs.lemmas.List.Elements.{All-cons, All-tail}
 use Rattle.std.specs.Arc.{arc_value}
 use Rattle.std.specs.List.{All}
 use Rattle.cs_board.specs.Board.{plan, name, view, IsSeatOf}
 use Rattle.cs_pool.proofs.Missed.{more_served, none_served}
+use Rattle.cs_pool.proofs.Given.{all_given, most_given, none_given}
 use Rattle.cs_pool.proofs.Seats.{ready_kept, leads_kept, leads_joined}
-use Rattle.cs_pool.specs.Mailboxes.{served}
-use Rattle.cs_pool.specs.Pools.{served_by}
+use Rattle.cs_pool.specs.Mailboxes.{given, served}
+use Rattle.cs_pool.specs.Pools.{given_to, served_by}
 use Rattle.cs_pool.specs.declared.line.Line.{Line}
 use Rattle.cs_pool.specs.inner.Lines.{IsIdle}
 use Rattle.cs_pool.proofs.cycle.+share.Goals as goal
@@ -21,13 +22,15 @@ returns-in_default-part_in-clause-idle g t c =
 
 pub returns-in_default-part_in-clause-missed : goal.returns-in_default-part_in-clause-missed
 returns-in_default-part_in-clause-missed g t c =
-    λ _. ap (λ n. n + served_by c.in-Some.rest.now) c.part_in.ensures.served
+    λ _. ap (λ n. n.served + served_by c.in-Some.rest.now) c.part_in.ensures.tasks
     ∙ sym (ap served_by c.in-Some.ensures.cases.0)
 
-pub share-others_begun-requires : goal.share-others_begun-requires
-share-others_begun-requires g t c κs within =
+pub share-shared-requires : goal.share-shared-requires
+share-shared-requires g t c κs within =
     let P : Line g.row.J.Denot → Type 0 = λ line. IsIdle line in
     let before = view c.args.first.now in
+    let some : c.args.others ≢ 0 = c.if-others-eq0.false in
+    let many : length c.args.lines.now ≡ suc (length c.in-Some.rest.now) = ap length c.in-Some.ensures.cases.0 in
     let of = subst (λ b. IsSeatOf g.J.Job.means (plan b) (name b) c.split-seat.new.seat) c.deref-2.ensures
     c.split-seat.ensures.seat in (
       search rules,
@@ -43,7 +46,10 @@ share-others_begun-requires g t c κs within =
               (
                 ready_kept g.J.Job.means (arc_value c.args.board.now) c.args.first.now c.split-seat.new.seat
                     c.requires.ready of c.split-seat.ensures.view,
-                leads_kept before (view c.split-seat.new.seat) c.requires.leads c.split-seat.ensures.view,
+                (
+                  leads_kept before (view c.split-seat.new.seat) c.requires.leads c.split-seat.ensures.view,
+                  omega (arith, some, many, c.requires.few),
+                ),
               ),
             ),
           ),
@@ -58,11 +64,11 @@ returns-clause-begun g t c = λ is.
     let one : served c.await_seat-returned.new.self.end ≡ served l.end + from_bool c.await_seat-returned.result.begun =
     c.await_seat-returned.ensures.served
     ∙ ap (λ n. n + from_bool c.await_seat-returned.result.begun)
-    (c.give.ensures.served ∙ c.part_in.ensures.served) in
-    subst (λ n. n < served_by (c.await_seat-returned.new.self ∷ c.share-others_begun.new.lines))
+    (ap (λ n. n.served) c.give.ensures.tasks ∙ ap (λ n. n.served) c.part_in.ensures.tasks) in
+    subst (λ n. n < served_by (c.await_seat-returned.new.self ∷ c.share-shared.new.lines))
     (sym (ap served_by c.in-Some.ensures.cases.0))
-    (more_served c.await_seat-returned.result.begun c.share-others_begun.result (served l.end) (served_by rest) _ _ one
-    c.share-others_begun.ensures.begun c.share-others_begun.ensures.missed is)
+    (more_served c.await_seat-returned.result.begun c.share-shared.result.begun (served l.end) (served_by rest) _ _ one
+    c.share-shared.ensures.begun c.share-shared.ensures.missed is)
 
 pub returns-clause-missed : goal.returns-clause-missed
 returns-clause-missed g t c = λ is.
@@ -71,15 +77,37 @@ returns-clause-missed g t c = λ is.
     let one : served c.await_seat-returned.new.self.end ≡ served l.end + from_bool c.await_seat-returned.result.begun =
     c.await_seat-returned.ensures.served
     ∙ ap (λ n. n + from_bool c.await_seat-returned.result.begun)
-    (c.give.ensures.served ∙ c.part_in.ensures.served) in
-    none_served c.await_seat-returned.result.begun c.share-others_begun.result (served l.end) (served_by rest) _ _ one
-    c.share-others_begun.ensures.begun c.share-others_begun.ensures.missed is
+    (ap (λ n. n.served) c.give.ensures.tasks ∙ ap (λ n. n.served) c.part_in.ensures.tasks) in
+    none_served c.await_seat-returned.result.begun c.share-shared.result.begun (served l.end) (served_by rest) _ _ one
+    c.share-shared.ensures.begun c.share-shared.ensures.missed is
     ∙ sym (ap served_by c.in-Some.ensures.cases.0)
 
 pub returns-clause-leads : goal.returns-clause-leads
 returns-clause-leads g t c =
     let through = c.await_seat-returned.ensures.seat (arc_value c.in-Ok.part) c.split-seat.result c.give.ensures.lent in
-    leads_joined (view c.args.first.now) (view c.split-seat.new.seat) (view c.share-others_begun.new.first)
+    leads_joined (view c.args.first.now) (view c.split-seat.new.seat) (view c.share-shared.new.first)
     (view c.await_seat-returned.result.seat) (view c.join.new.seat)
-    c.split-seat.ensures.view c.share-others_begun.ensures.leads
+    c.split-seat.ensures.view c.share-shared.ensures.leads
     (through.seat.number ∙ ap (λ v. v.number) c.split-seat.ensures.new) c.join.ensures.view
+
+pub returns-in_default-part_in-clause-most : goal.returns-in_default-part_in-clause-most
+returns-in_default-part_in-clause-most g t c =
+    none_given c.args.others (given c.in-Some.line.now.end) (given_to c.in-Some.rest.now)
+    (given c.part_in.new.self.end) (given_to c.args.lines.now) (ap given_to c.in-Some.ensures.cases.0)
+    (ap (λ n. n.given) c.part_in.ensures.tasks)
+
+pub returns-clause-most : goal.returns-clause-most
+returns-clause-most g t c =
+    most_given c.args.others (given c.in-Some.line.now.end) (given_to c.in-Some.rest.now) _ _ _
+    c.if-others-eq0.false (ap given_to c.in-Some.ensures.cases.0)
+    (c.await_seat-returned.ensures.given ∙ ap (λ n. n.given) c.give.ensures.tasks
+    ∙ ap (λ n. n.given + 1) c.part_in.ensures.tasks)
+    c.share-shared.ensures.most
+
+pub returns-clause-all : goal.returns-clause-all
+returns-clause-all g t c = λ is.
+    all_given c.args.others (given c.in-Some.line.now.end) (given_to c.in-Some.rest.now) _ _ _
+    c.if-others-eq0.false (ap given_to c.in-Some.ensures.cases.0)
+    (c.await_seat-returned.ensures.given ∙ ap (λ n. n.given) c.give.ensures.tasks
+    ∙ ap (λ n. n.given + 1) c.part_in.ensures.tasks)
+    (c.share-shared.ensures.all is)

@@ -1,14 +1,65 @@
-use Rattle.std.proofs.Common.{◌≡◌, sym, subst}
-use Rattle.std.specs.List.{All}
-use Rattle.cs_desk.proofs.Cycling.{played_over}
+use Rattle.std.proofs.Common.{◌≡◌, ◌∙◌, List, ap, arith, length, slice_get, subst, sym}
+use Rattle.std.proofs.lemmas.List.{length-map, with_items_is}
+use Rattle.cs_board.specs.Resting.{areas_in, known_in}
+use Rattle.cs_board.specs.Views.{cells_laid}
+use Rattle.cs_cells.specs.Areas.{word_count}
+use Rattle.cs_cells.specs.Cells.{values, signed}
+use Rattle.cs_cells.specs.Serial.{serial_cells, serial_jobs}
+use Rattle.cs_cells.proofs.SerialRun.{foot-serial_jobs, areas-serial_jobs, length-serial_cells, length-serial_jobs}
+use Rattle.cs_desk.specs.Cycles.{WasPlayed}
+use Rattle.cs_desk.specs.Desk.{cells}
+use Rattle.cs_desk.proofs.Cycling.{played_over, was_played}
+use Rattle.cs_desk.proofs.Plainly.{long_now}
+use Rattle.cs_desk.proofs.Reached.{used_below, written_below}
+use Rattle.cs_row.proofs.Fronts.{all_at}
 use Rattle.cs_desk.proofs.desk.Desk.run_alone.Goals as goal
 
-pub run_each-requires-clause-over : goal.run_each-requires-clause-over
-run_each-requires-clause-over g c =
-    subst (λ a. All (λ j. g.J.Job.means.areas j ≡ a) c.args.jobs.items) (sym c.loosen.ensures.areas) c.requires.over
+pub run_in_order-requires-clause-get : goal.run_in_order-requires-clause-get
+run_in_order-requires-clause-get g c t a j at u =
+    let M = g.K.Job.means in
+    let r = c.loosen.new.self.resting in
+    let over = all_at (λ i. M.areas i ≡ areas_in c.args.self.now.resting.seat) c.args.jobs.items t j c.requires.over
+    (sym (ap (λ l. slice_get l t) c.deref_mut.ensures.value) ∙ at) in
+    used_below M (areas_in r.seat) j a r.rests.laid (over ∙ sym c.loosen.ensures.areas) u
+
+pub run_in_order-requires-clause-set : goal.run_in_order-requires-clause-set
+run_in_order-requires-clause-set g c t a j at w =
+    let M = g.K.Job.means in
+    let r = c.loosen.new.self.resting in
+    let over = all_at (λ i. M.areas i ≡ areas_in c.args.self.now.resting.seat) c.args.jobs.items t j c.requires.over
+    (sym (ap (λ l. slice_get l t) c.deref_mut.ensures.value) ∙ at) in
+    written_below M (areas_in r.seat) j a r.rests.laid (over ∙ sym c.loosen.ensures.areas) w
+
+pub run_in_order-requires-clause-cells : goal.run_in_order-requires-clause-cells
+run_in_order-requires-clause-cells g c t a j at u =
+    let M = g.K.Job.means in
+    let r = c.loosen.new.self.resting in
+    let over = all_at (λ i. M.areas i ≡ areas_in c.args.self.now.resting.seat) c.args.jobs.items t j c.requires.over
+    (sym (ap (λ l. slice_get l t) c.deref_mut.ensures.value) ∙ at) in
+    let near = used_below M (areas_in r.seat) j a r.rests.laid (over ∙ sym c.loosen.ensures.areas) u in
+    let laid = cells_laid (areas_in r.seat) (known_in r.seat) in
+    let long = long_now c.loosen.new.self.plain (values laid) (word_count (areas_in r.seat)) c.loosen.new.self.long
+    (length-map laid signed ∙ r.rests.cleared.long) in
+    omega (arith, near, long)
 
 pub returns : goal.returns
 returns g c =
+    let M = g.K.Job.means in
+    let F = g.met.K.Job.frames in
     let l = c.loosen.ensures in
-    played_over g.J.Job.means c.args.self.now c.loosen.new.self c.args.jobs.items c.run_each.result c.run_each.new.self
-    l.cells l.areas l.room.0 l.room.1 c.run_each.ensures
+    let told = c.run_in_order.ensures in
+    let js : List g.row.K.Denot = c.args.jobs.items in
+    let start = cells c.loosen.new.self in
+    let value = c.deref_mut.ensures.value in
+    let jobs_are : c.run_in_order.new.jobs ≡ serial_jobs M js start =
+    told.jobs ∙ ap (λ (ks : List g.row.K.Denot). serial_jobs M ks start) value in
+    let cells_are = told.cells ∙ ap (λ (ks : List g.row.K.Denot). serial_cells M ks start) value in
+    let long = ap length told.jobs ∙ length-serial_jobs M c.deref_mut.result.now start ∙ c.deref_mut.ensures.len in
+    subst (λ (played : List g.row.K.Denot). WasPlayed M c.args.self.now js played c.run_in_order.new.bank)
+    (sym (with_items_is c.args.jobs c.run_in_order.new.jobs long))
+    (played_over M c.args.self.now c.loosen.new.self js c.run_in_order.new.jobs c.run_in_order.new.bank
+    l.cells l.areas l.room.0 l.room.1
+    (was_played M c.loosen.new.self js c.run_in_order.new.jobs c.run_in_order.new.bank
+    (foot-serial_jobs M F js start) (areas-serial_jobs M F js start) (length-serial_cells M F js start)
+    jobs_are cells_are (ap (λ s. s.areas) told.rest) (ap (λ s. s.table.slots) told.rest)
+    (ap (λ s. s.table.words) told.rest)))

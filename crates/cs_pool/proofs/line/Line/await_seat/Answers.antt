@@ -10,8 +10,12 @@ returns-in-Some-collect-clause-seat g c = λ b s lent.
 
 pub returns-in-Some-collect-clause-served : goal.returns-in-Some-collect-clause-served
 returns-in-Some-collect-clause-served g c =
-    c.in-Some-collect.ensures.looked.counted
-    ∙ ap (λ n. n + from_bool c.in-Some-collect.returned.begun) c.loop.invariant.3.same
+    c.in-Some-collect.ensures.looked.counted.0
+    ∙ ap (λ n. n.served + from_bool c.in-Some-collect.returned.begun) c.loop.invariant.3.same
+
+pub returns-in-Some-collect-clause-given : goal.returns-in-Some-collect-clause-given
+returns-in-Some-collect-clause-given g c =
+    c.in-Some-collect.ensures.looked.counted.1 ∙ ap (λ n. n.given) c.loop.invariant.3.same
 
 pub loop-preserved : goal.loop-preserved
 loop-preserved g c =

@@ -1,5 +1,5 @@
-use Rattle.std.proofs.Common.{None, refl, sym, subst}
-use Rattle.cs_pool.proofs.Found.{found_nothing, still_out}
+use Rattle.std.proofs.Common.{sym, subst}
+use Rattle.cs_pool.proofs.Found.{still_out}
 use Rattle.cs_pool.specs.Mailboxes.{HasSomethingOut, LooksFor}
 use Rattle.std.specs.Arc.{arc_value}
 use Rattle.cs_pool.proofs.line.Line.collect.Goals as goal

@@ -1,7 +1,7 @@
 use Rattle.std.proofs.Common.{[], ◌∷◌, sym, subst, arith}
 use mathlib.Core.Option.{none}
 use Rattle.atomic_table.specs.Table.{step, Allows}
-use Rattle.cs_pool.specs.Mailboxes.{served}
+use Rattle.cs_pool.specs.Mailboxes.{tasks}
 use Rattle.cs_pool.specs.inner.Exchange.{Always}
 use Rattle.cs_pool.specs.inner.Telling.{closed}
 use Rattle.cs_pool.specs.declared.letter.MailboxLetter.TheVariants as letter
@@ -17,5 +17,5 @@ store-requires g c =
       c.requires.table,
       omega (arith, c.args.self.now.sized.0),
       subst (λ m. Allows (Always M) n id m 0 (λ _. OVER) (λ _. closed (step n 0 OVER 0 none) m OVER))
-          (sym c.requires.me) (ends M n id (served c.args.end.now) ((0, letter.Nothing) ∷ [])),
+          (sym c.requires.me) (ends M n id (tasks c.args.end.now) ((0, letter.Nothing) ∷ [])),
     )

@@ -1,9 +1,9 @@
-use Rattle.std.proofs.Common.{◌+◌, None, sym, ◌∙◌, subst, arith, eqb}
+use Rattle.std.proofs.Common.{None, sym, ◌∙◌, subst, arith, eqb}
 use mathlib.Core.Option.{none}
 use prog.Atomic.{either}
 use Rattle.atomic_table.specs.Table.{step, Allows}
-use Rattle.cs_pool.specs.Letters.{caller, errand}
-use Rattle.cs_pool.specs.Mailboxes.{served}
+use Rattle.cs_pool.specs.Letters.{caller, errand, one_served}
+use Rattle.cs_pool.specs.Mailboxes.{tasks}
 use Rattle.cs_pool.specs.inner.Exchange.{Always}
 use Rattle.cs_pool.specs.inner.Telling.{collected}
 use Rattle.cs_pool.specs.declared.letter.MailboxLetter.TheVariants as letter
@@ -21,7 +21,7 @@ compare_exchange-found-requires g c =
       omega (arith, c.args.self.now.sized.0),
       subst (λ m. Allows (Always M) n id m 0 (λ y. either (eqb y BACK) EMPTY y)
           (collected M (step n 0 BACK EMPTY none) m)) (sym c.requires.out.me)
-          (collects M n id (served c.args.end.now) e),
+          (collects M n id (tasks c.args.end.now) e),
     )
 
 pub exchange-letter-requires : goal.exchange-letter-requires
@@ -29,6 +29,6 @@ exchange-letter-requires g c =
     let s = c.compare_exchange-found.ensures.2.0 c.if-found-ne-BACK.false in (
       c.compare_exchange-found.ensures.0
           ∙ c.requires.out.table,
-      has_slot c.compare_exchange-found.new.seat.me (caller (served c.args.end.now + 1) None)
+      has_slot c.compare_exchange-found.new.seat.me (caller (one_served (tasks c.args.end.now)) None)
           (letter.Answer s.0) s.1,
     )
