@@ -8,7 +8,7 @@ use Rattle.cs_cells.specs.Cells.{Cells}
 use Rattle.cs_piece_meaning.specs.Course.{begins, moment_at, performed}
 use Rattle.cs_piece_meaning.specs.Heard.{mix_in, sum_at as sum_of_notes}
 use Rattle.cs_piece_meaning.specs.Moments.{Composition, Active, Moment}
-use Rattle.cs_voice.specs.Mixing.{mixed, sum_at as sum_of_voices}
+use Rattle.cs_voice.specs.Mixing.{mixed, shape, sum_at as sum_of_voices}
 use Rattle.cs_machine.specs.Outputs.{outs}
 use Rattle.cs_piece.specs.Ready.{IsStageOf}
 use Rattle.cs_typed.specs.Places.{Header}
@@ -40,24 +40,23 @@ heard c life voices cells n s =
     (range_with_len 0 c.head.ksmps))
     (λ i frame channel. sums frame channel i)
 
--- each voice has a number for each frame of the cycle
-frames_of : (c : Composition) (stage : Stage) (flags : List Bool) (voices : List VoiceData) (active : List Active)
-    → IsStageOf c stage
-    → AllZip (Plays c stage flags) voices active → All (λ (v : VoiceData). v.outs.ksmps ≡ c.head.ksmps) voices
-frames_of c stage flags [] [] is p = All-nil (λ (v : VoiceData). v.outs.ksmps ≡ c.head.ksmps)
-frames_of c stage flags [] (a ∷ active) is p = absurd p
-frames_of c stage flags (v ∷ voices) [] is p = absurd p
-frames_of c stage flags (v ∷ voices) (a ∷ active) is p =
-    let here : v.outs.ksmps ≡ c.head.ksmps =
-    p.0.valid.channel_frames
-    ∙ (ap (λ (h : Header). h.ksmps) (sym p.0.on.head) ∙ ap (λ (h : Header). h.ksmps) is.head) in
-    All-cons (λ (x : VoiceData). x.outs.ksmps ≡ c.head.ksmps) v voices here
-    (frames_of c stage flags voices active is p.1)
+-- each voice has a number for each channel at each frame of the cycle
+shapes_of : (c : Composition) (stage : Stage) (flags : List Bool) (voices : List VoiceData) (active : List Active)
+    → IsStageOf c stage → AllZip (Plays c stage flags) voices active
+    → All (λ (v : VoiceData). shape v ≡ (c.head.ksmps, c.head.nchnls)) voices
+shapes_of c stage flags [] [] is p = All-nil (λ (v : VoiceData). shape v ≡ (c.head.ksmps, c.head.nchnls))
+shapes_of c stage flags [] (a ∷ active) is p = absurd p
+shapes_of c stage flags (v ∷ voices) [] is p = absurd p
+shapes_of c stage flags (v ∷ voices) (a ∷ active) is p =
+    let head : v.head ≡ c.head = sym p.0.on.head ∙ is.head in
+    let frames : v.outs.ksmps ≡ c.head.ksmps = p.0.valid.channel_frames ∙ ap (λ (h : Header). h.ksmps) head in
+    All-cons (λ (x : VoiceData). shape x ≡ (c.head.ksmps, c.head.nchnls)) v voices
+    (λ i. (frames i, (head i).nchnls)) (shapes_of c stage flags voices active is p.1)
 
-pub frames : (c : Composition) (life : Life) (voices : List VoiceData) (cells : Cells) (m : Moment)
+pub shapes : (c : Composition) (life : Life) (voices : List VoiceData) (cells : Cells) (m : Moment)
     → StandsFor c life voices cells m
-    → All (λ (v : VoiceData). v.outs.ksmps ≡ c.head.ksmps) voices
-frames c life voices cells m s = frames_of c life.stage life.made.items voices m.active s.stand.stage_is s.stand.play
+    → All (λ (v : VoiceData). shape v ≡ (c.head.ksmps, c.head.nchnls)) voices
+shapes c life voices cells m s = shapes_of c life.stage life.made.items voices m.active s.stand.stage_is s.stand.play
 
 -- as many voices as notes
 pub as_many : (c : Composition) (life : Life) (voices : List VoiceData) (cells : Cells) (m : Moment)

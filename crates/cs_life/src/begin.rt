@@ -13,7 +13,7 @@ ghost use Rattle.cs_tempo.specs.declared.plot.Event.{Event};
 
 use crate::leaving::Leaving;
 use crate::life::Life;
-use cs_base::{MOST_ASKS, Nums, OutOfMemory};
+use cs_base::{MOST_ASKS, OutOfMemory};
 use cs_cells::Bank;
 use cs_piece::GivenTable;
 use cs_sched::Due;
@@ -127,12 +127,12 @@ impl<'t> Life<'t> {
                 cycles,
                 fields,
             } => {
-                let fields = fields.as_slice().to_vec(alloc)?;
+                let fields = fields.to_nums(alloc)?;
                 let note = Due {
                     cycle: event.cycle,
                     cycles: *cycles,
                     number: i64::from(*instr),
-                    fields: Nums::from_vec(fields),
+                    fields,
                 };
                 self.start_note(alloc, note, voices, bank)
             }

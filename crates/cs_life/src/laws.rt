@@ -9,7 +9,7 @@ ghost use Rattle.cs_piece_meaning.specs.Heard.{mix_in};
 ghost use Rattle.cs_piece_meaning.specs.Moments.{Composition, Moment};
 ghost use Rattle.cs_life.specs.Standing.{StandsFor};
 ghost use Rattle.cs_life.specs.declared.life.Life.{Life};
-ghost use Rattle.cs_voice.specs.Mixing.{mixed};
+ghost use Rattle.cs_voice.specs.Mixing.{mixed, shape};
 ghost use Rattle.cs_cells.specs.Areas.{IsFootprint};
 ghost use Rattle.cs_voice.specs.VoiceData.{VoiceData};
 ghost use Rattle.cs_voice.specs.VoiceMeaning.{voice_job};
@@ -41,9 +41,9 @@ pub fn voices_are_heard()
         → StandsFor c life voices cells (performed c (begins c n (moment_at c n)))
         → mixed c.head.ksmps c.head.nchnls voices ≡ mix_in c n }
     // What the sum of voices asks for, and how many notes they are.
-    ensures frames { (c : Composition) (life : Life) (voices : List VoiceData) (cells : Cells) (m : Moment)
+    ensures shapes { (c : Composition) (life : Life) (voices : List VoiceData) (cells : Cells) (m : Moment)
         → StandsFor c life voices cells m
-        → All (λ (v : VoiceData). v.outs.ksmps ≡ c.head.ksmps) voices }
+        → All (λ (v : VoiceData). shape v ≡ (c.head.ksmps, c.head.nchnls)) voices }
     ensures notes { (c : Composition) (life : Life) (voices : List VoiceData) (cells : Cells) (m : Moment)
         → StandsFor c life voices cells m
         → length voices ≡ length m.active }

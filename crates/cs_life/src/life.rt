@@ -9,7 +9,7 @@ ghost use Rattle.cs_piece.specs.Ready.{IsStageOf};
 ghost use Rattle.cs_piece.specs.Setups.{composition_of};
 
 use cs_base::OutOfMemory;
-use cs_cells::Bank;
+use cs_cells::{Bank, Layout};
 use cs_piece::{Playable, Setup};
 use cs_sched::Pending;
 use cs_voice::{NewNote, Stage, start};
@@ -54,6 +54,13 @@ impl<'t> Life<'t> {
             started: 0,
             not_started: 0,
         })
+    }
+
+    /// The layout of which the notes' footprints name areas.
+    pub fn zones(&self) -> &'t Layout
+        ensures { result.now ≡ self.now.stage.zones.now }
+    {
+        self.stage.zones
     }
 
     /// How many starts there were that started a note, also those of no cycle.

@@ -1,40 +1,48 @@
 -- A cycle from the moment before it to the moment after it.
-use Rattle.std.proofs.Common.{◌≡◌, ◌≤◌, ◌<◌, ℕ, suc, ◌+◌, ◌*◌, ◌^◌, ℤ, Bool, List, [], ◌∷◌, length, refl, ap, sym, ◌∙◌}
-use Rattle.std.proofs.Common.{subst, arith}
+use Rattle.std.proofs.Common.{◌≡◌, ◌≤◌, ◌<◌, ℕ, suc, ◌+◌, ◌*◌, ◌^◌, ℤ, Bool, List, [], ◌∷◌, length, ap, sym, ◌∙◌}
+use Rattle.std.proofs.Common.{arith}
 use Rattle.std.proofs.Math.Nat.{mul-le-mul, mul-le-mul_left}
-use Rattle.std.specs.List.{count_by}
+use Rattle.std.specs.List.{AllZip, count_by}
 use Rattle.std.proofs.lemmas.List.Sums.{count_by-le-length}
 use Rattle.cs_base.specs.Limits.{most_notes, most_wav_bytes}
 use Rattle.cs_base.specs.Widths.{bytes_of}
-use Rattle.cs_base.specs.declared.resource.Res.{Res}
 use Rattle.cs_base.specs.declared.width.SampleWidth.{SampleWidth}
 use Rattle.cs_base.specs.declared.width.SampleWidth.TheVariants.{TwoBytes, ThreeBytes}
 use Rattle.cs_cells.specs.Cells.{Cells}
-use Rattle.cs_piece_meaning.specs.Course.{begins, moment_at, next, performed, played_in, serial, turned_off}
+use Rattle.cs_piece_meaning.specs.Course.{begins, moment_at, performed, played_in, turned_off}
 use Rattle.cs_piece_meaning.specs.Heard.{frames_before, mix_in}
-use Rattle.cs_piece_meaning.specs.Moments.{Active, Composition, Moment}
-use Rattle.cs_ir.specs.Waves.{Wave}
+use Rattle.cs_piece_meaning.specs.Moments.{Active, Composition}
 use Rattle.cs_life.proofs.Heard.{heard}
-use Rattle.cs_life.specs.Standing.{StandsFor}
+use Rattle.cs_life.specs.Standing.{Plays, StandsFor}
 use Rattle.cs_life.specs.declared.life.Life.{Life}
 use Rattle.cs_voice.specs.VoiceData.{VoiceData}
-use Rattle.cs_perform.specs.Counted.{AreHeardIn, CountsOn, Receipts}
+use Rattle.cs_voice.specs.declared.stage.Stage.{Stage}
+use Rattle.cs_perform.specs.Counted.{AreHeardIn, CountsOn, IsHeardAs, Receipts}
 use Rattle.cs_perform.specs.inner.Stands.{CountsCycle}
-use Rattle.cs_perform.proofs.Frames.{count_by_both, frames_before_more, length-frames_before, length-mix_in}
+use Rattle.cs_perform.proofs.Frames.{count_by_both, frames_before_more, length-frames_before}
 
 -- the moment after a cycle is the one before the next
 pub moment_after : (c : Composition) (n : ℕ)
     → turned_off (performed c (begins c n (moment_at c n))) ≡ moment_at c (n + 1)
 moment_after c n = ap (moment_at c) (let e : suc n ≡ n + 1 = omega arith in e)
 
+-- voices that play are heard as their notes
+all_heard : (c : Composition) (stage : Stage) (flags : List Bool) (voices : List VoiceData) (notes : List Active)
+    → AllZip (Plays c stage flags) voices notes → AllZip IsHeardAs voices notes
+all_heard c stage flags [] [] h = tt
+all_heard c stage flags [] (a ∷ notes) h = absurd h
+all_heard c stage flags (v ∷ voices) [] h = absurd h
+all_heard c stage flags (v ∷ voices) (a ∷ notes) h =
+    let p : Plays c stage flags v a = h.0 in (
+      record { number = p.number; ends = p.until; channels = p.note.outs; ended = p.note.ended },
+      all_heard c stage flags voices notes h.1,
+    )
+
 -- the voices of a cycle are heard in it
 pub heard_in : (c : Composition) (n : ℕ) (life : Life) (voices : List VoiceData) (cells : Cells)
     → StandsFor c life voices cells (performed c (begins c n (moment_at c n))) → AreHeardIn c n voices
 heard_in c n life voices cells st = record {
-  stage = life.stage;
-  flags = life.made.items;
-  cells = cells;
-  stand = st.stand;
+  notes = all_heard c life.stage life.made.items voices (played_in c n) st.stand.play;
   heard = heard c life voices cells n st;
 }
 

@@ -1,42 +1,20 @@
 -- The bytes that a sink has taken, where it is written: piece behind piece, up to the whole file.
-use Rattle.std.proofs.Common.{◌≡◌, ◌≤◌, ◌<◌, ℕ, zero, suc, ◌+◌, ◌*◌, ◌-◌, ◌^◌, ℤ, List, [], ◌∷◌, ◌++◌, length}
-use Rattle.std.proofs.Common.{replicate, refl, ap, sym, ◌∙◌, subst, inl, inr, arith, append_assoc, append-nil}
-use Rattle.std.proofs.Common.{if◌then◌else◌, ⊎_elim, ◌⊎◌, Some, Err}
+use Rattle.std.proofs.Common.{◌≡◌, ℕ, List, [], ◌++◌, refl, ap, sym, ◌∙◌, subst, inl, inr, append_assoc, append-nil}
+use Rattle.std.proofs.Common.{◌⊎◌, Some, Err}
 use Rattle.std.specs.Result.{IsErrOf}
-use Rattle.std.proofs.lemmas.List.{replicate-append-replicate}
-use Rattle.cs_base.specs.declared.head.Head.{Head}
-use Rattle.cs_edge.specs.declared.moves.Move.{Move}
-use Rattle.cs_edge.specs.declared.moves.Move.TheVariants.{Write}
 use Rattle.cs_edge.specs.Told.{Follows, IsFront, Rose}
-use Rattle.cs_edge.specs.Moves.{SinkTold, Held, AreAll, Grown, TakenMore, WroteMore, Wrote, Stopped, Finished}
-use Rattle.cs_edge.specs.Moves.{open_file}
-use Rattle.cs_edge.proofs.Chains.{follows_as, follows_on, grown_on, front_more}
-use Rattle.cs_edge.proofs.Stories.{more_none, more_twice, wrote_on, stopped_writes, stopped_untouched}
+use Rattle.cs_edge.specs.Moves.{SinkTold, Held, TakenMore, WroteMore, WrotePart, Wrote, Stopped, open_file}
+use Rattle.cs_edge.proofs.Chains.{follows_as, follows_on, front_more, front_of_front}
+use Rattle.cs_edge.proofs.Stories.{more_both, more_none, wrote_on, stopped_part, stopped_untouched, stopped_writes}
 use Rattle.cs_perform.specs.Hearing.{IfWritten}
 use Rattle.cs_perform.specs.Performances.{HasAtLeast}
 use Rattle.cs_perform.specs.declared.order.Output.{Output}
 use Rattle.cs_perform.specs.declared.order.Output.TheVariants.{SoundFile, Nothing}
 
-all_both : (move : Move) (x y : List Move) → AreAll move x → AreAll move y → AreAll move (x ++ y)
-all_both move x y p q = (p.0 + q.0, rw (p.1, q.1) (replicate-append-replicate p.0 q.0 move))
-
-pub more_both : (a b c : SinkTold) (xs ys : List ℕ) → WroteMore a b xs → WroteMore b c ys → WroteMore a c (xs ++ ys)
-more_both a b c xs ys w m = record {
-  taken = follows_on (TakenMore xs) (TakenMore ys) (TakenMore (xs ++ ys)) (more_twice xs ys) a.held b.held c.held
-      w.taken m.taken;
-  made = follows_on (Grown (AreAll Write)) (Grown (AreAll Write)) (Grown (AreAll Write))
-      (grown_on (AreAll Write) (AreAll Write) (AreAll Write) (all_both Write)) a.moves b.moves c.moves w.made m.made;
-  later = omega (arith, w.later, m.later);
-}
-
 -- FRONTS
 
 pub front_all : (l : List ℕ) → IsFront l l
 front_all l = ([], sym (append-nil l))
-
-pub front_of_front : (a b c : List ℕ) → IsFront a b → IsFront b c → IsFront a c
-front_of_front a b c f g =
-    (f.0 ++ g.0, g.1 ∙ ap (λ (l : List ℕ). l ++ g.0) f.1 ∙ append_assoc a f.0 g.0)
 
 pub front_behind : (before front bytes : List ℕ) → IsFront front bytes → IsFront (before ++ front) (before ++ bytes)
 front_behind before front bytes f =
@@ -62,6 +40,18 @@ keeps_still a b c name least k same =
     let P : Held → Type 0 = λ held. (held.name ≡ Some name) × IsFront least held.bytes in
     follows_on (λ _ held. P held) (λ before now. now ≡ before) (λ _ held. P held) (λ x y z p q. subst P (sym q) p)
     a.held b.held c.held k same
+
+-- a piece that was written in part
+pub keeps_part : (a b c : SinkTold) (name least ys : List ℕ) → HasAtLeast name least a b → WrotePart b c ys
+    → HasAtLeast name least a c
+keeps_part a b c name least ys k p =
+    follows_on (λ _ held. (held.name ≡ Some name) × IsFront least held.bytes) (TakenMore p.front)
+    (λ _ held. (held.name ≡ Some name) × IsFront least held.bytes)
+    (λ x y z h e. (
+      ap (λ (l : Held). l.name) e ∙ h.0,
+      subst (λ (l : List ℕ). IsFront least l) (sym (ap (λ (l : Held). l.bytes) e))
+          (front_more least y.bytes p.front h.1),
+    )) a.held b.held c.held k p.taken
 
 pub keeps_less : (a b : SinkTold) (name less least : List ℕ) → IsFront less least → HasAtLeast name least a b
     → HasAtLeast name less a b
@@ -115,21 +105,36 @@ module _ {W : Type 0} (tells : W → SinkTold) where
   file_kept SoundFile a b name least bytes p f = wrote_keeps (tells a) (tells b) name least bytes p f
   file_kept Nothing a b name least bytes p f = p
 
-  -- the count of faults doesn't fall meanwhile
-  pub faults_after : (w : Output) (a b : W) (bytes : List ℕ) → IfWritten tells w a b (λ x y. WroteMore x y bytes)
-      → (tells a).faults ≤ (tells b).faults
-  faults_after SoundFile a b bytes p = p.later
-  faults_after Nothing a b bytes p =
-      let same : (tells b).faults ≡ (tells a).faults = ap (λ (x : W). (tells x).faults) p in omega (arith, same)
+  -- a piece that was written in part, behind the file so far
+  pub file_part : (w : Output) (a b c : W) (name xs ys whole : List ℕ)
+      → IfWritten tells w a b (λ x y. Wrote x y name xs) → IfWritten tells w b c (λ x y. WrotePart x y ys)
+      → IsFront (xs ++ ys) whole → IfWritten tells w a c (λ x y. Stopped x y name whole)
+  file_part SoundFile a b c name xs ys whole p q f = stopped_part (tells a) (tells b) (tells c) name xs ys whole p q f
+  file_part Nothing a b c name xs ys whole p q f = q ∙ p
 
-  pub faults_begun : (w : Output) (a b : W) (name bytes : List ℕ) → IfWritten tells w a b (λ x y. Wrote x y name bytes)
-      → (tells a).faults ≤ (tells b).faults
-  faults_begun SoundFile a b name bytes p = p.later
-  faults_begun Nothing a b name bytes p =
-      let same : (tells b).faults ≡ (tells a).faults = ap (λ (x : W). (tells x).faults) p in omega (arith, same)
+  pub part_kept : (w : Output) (a b c : W) (name least xs ys : List ℕ)
+      → IfWritten tells w a b (λ x y. Wrote x y name xs) → IfWritten tells w b c (λ x y. WrotePart x y ys)
+      → IsFront least xs → IfWritten tells w a c (HasAtLeast name least)
+  part_kept SoundFile a b c name least xs ys p q f =
+      keeps_part (tells a) (tells b) (tells c) name least ys (wrote_keeps (tells a) (tells b) name least xs p f) q
+  part_kept Nothing a b c name least xs ys p q f = q ∙ p
 
-pub rose_later : (a b c : ℕ) → a ≤ b → Rose b c → Rose a c
-rose_later a b c h r = ⊎_elim (λ x. inl (let lt : a < c = omega (arith, x) in lt)) (λ x. inr x) r
+  -- the count of faults stays meanwhile
+  pub same_after : (w : Output) (a b : W) (bytes : List ℕ) → IfWritten tells w a b (λ x y. WroteMore x y bytes)
+      → (tells b).faults ≡ (tells a).faults
+  same_after SoundFile a b bytes p = p.same
+  same_after Nothing a b bytes p = ap (λ (x : W). (tells x).faults) p
+
+  pub same_begun : (w : Output) (a b : W) (name bytes : List ℕ) → IfWritten tells w a b (λ x y. Wrote x y name bytes)
+      → (tells b).faults ≡ (tells a).faults
+  same_begun SoundFile a b name bytes p = p.same
+  same_begun Nothing a b name bytes p = ap (λ (x : W). (tells x).faults) p
+
+  -- and rises where a piece is written in part
+  pub rose_in_part : (w : Output) (a b : W) (bytes : List ℕ) → w ≡ SoundFile
+      → IfWritten tells w a b (λ x y. WrotePart x y bytes) → Rose (tells a).faults (tells b).faults
+  rose_in_part SoundFile a b bytes e p = p.rose
+  rose_in_part Nothing a b bytes e p = absurd (cc)
 
 -- the same error of another call
 pub error_as : {A B E : Type 0} (x y : E) → IsErrOf {T = A} (Err x) y → IsErrOf {T = B} (Err x) y

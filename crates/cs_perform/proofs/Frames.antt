@@ -1,12 +1,11 @@
 -- The frames and notes of the first cycles, and of one more.
-use Rattle.std.proofs.Common.{◌≡◌, ◌≤◌, ℕ, zero, suc, ◌+◌, ◌*◌, ◌-◌, ℤ, Bool, List, [], ◌∷◌, ◌++◌, length, map, sum}
-use Rattle.std.proofs.Common.{refl, ap, sym, ◌∙◌, subst, arith, append_assoc, append-nil, zero-add, cond}
-use Rattle.std.specs.List.{count_by, flat_map, range_with_len, sum_by}
+use Rattle.std.proofs.Common.{◌≡◌, ℕ, zero, suc, ◌+◌, ◌*◌, ◌-◌, ℤ, Bool, List, [], ◌∷◌, ◌++◌, length, map}
+use Rattle.std.proofs.Common.{refl, ap, ◌∙◌, arith, append-nil, cond}
+use Rattle.std.specs.List.{count_by, flat_map, range_with_len}
 use Rattle.std.proofs.lemmas.List.{length-append}
 use Rattle.std.proofs.lemmas.List.Concat.{flat_map-append}
 use Rattle.std.proofs.lemmas.List.FromFn.{length-map-range_with_len}
 use Rattle.std.proofs.lemmas.List.Sums.{sum_by-append}
-use Rattle.cs_base.specs.Limits.{most_notes}
 use Rattle.cs_piece_meaning.specs.Course.{played_in}
 use Rattle.cs_piece_meaning.specs.Heard.{frames_before, mix_in, sum_at}
 use Rattle.cs_piece_meaning.specs.Moments.{Composition}

@@ -5,6 +5,9 @@ pub mod Frames
 pub mod Loans
 pub mod Performing
 pub mod Pieces
+pub mod Ran
+pub mod Readying
+pub mod Rows
 pub mod Standings
 pub mod Starting
 pub mod Tallies

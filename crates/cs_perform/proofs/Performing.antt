@@ -1,23 +1,19 @@
 -- A performance grows cycle by cycle.
-use Rattle.std.proofs.Common.{◌≡◌, ◌≤◌, ◌<◌, ℕ, ◌+◌, ◌-◌, ℤ, List, [], ◌∷◌, ◌++◌, refl, ap, sym, ◌∙◌}
-use Rattle.std.proofs.Common.{subst, arith, Err, append_assoc, append-nil}
+use Rattle.std.proofs.Common.{◌≡◌, ◌≤◌, ◌<◌, ℕ, ◌+◌, ℤ, List, [], ◌∷◌, ◌++◌, refl, ap, sym, ◌∙◌, subst}
+use Rattle.std.proofs.Common.{append_assoc, append-nil}
 use Rattle.std.specs.List.{AllZip, range_with_len}
-use Rattle.std.specs.Result.{IsErrOf}
 use Rattle.cs_base.specs.declared.width.SampleWidth.{SampleWidth}
 use Rattle.cs_piece_meaning.specs.Heard.{frames_before, mix_in}
 use Rattle.cs_piece_meaning.specs.Moments.{Composition}
-use Rattle.cs_edge.specs.Told.{IsFront}
-use Rattle.cs_edge.specs.Moves.{WroteMore}
+use Rattle.cs_edge.specs.Moves.{WroteMore, WrotePart}
 use Rattle.cs_wav.specs.Wav.{samples_of}
 use Rattle.cs_wav.proofs.Files.{samples_of-nil, samples_of-append}
 use Rattle.cs_perform.specs.Counted.{AreHeardIn, CountsOn}
 use Rattle.cs_perform.specs.Hearing.{Told, IfWritten}
 use Rattle.cs_perform.specs.Performances.{Lent, LentSight, Performed, Request}
-use Rattle.cs_perform.specs.declared.order.PlayFault.{PlayFault}
-use Rattle.cs_perform.specs.declared.order.PlayFault.TheVariants as fault
-use Rattle.cs_perform.specs.inner.Plays.{BreaksCycle, PausedOn, PlayedOn, PlayedInPart, PlaysCycle, samples_for}
+use Rattle.cs_perform.specs.inner.Plays.{BreaksCycle, BrokeOn, PausedOn, PlayedOn, PlaysCycle, samples_for}
 use Rattle.cs_perform.specs.inner.Stands.{CountsCycle}
-use Rattle.cs_perform.proofs.Files.{front_all, front_behind, more_written, none_written}
+use Rattle.cs_perform.proofs.Files.{more_written, none_written}
 use Rattle.cs_perform.proofs.Frames.{frames_before_more, numbers_more}
 use Rattle.cs_perform.proofs.Telling.{told_nothing, told_twice}
 
@@ -84,18 +80,6 @@ pub samples_more : (c : Composition) (width : SampleWidth) (dbfs : ℤ) (n : ℕ
 samples_more c width dbfs n =
     ap (samples_of width dbfs) (frames_before_more c n) ∙ samples_of-append width dbfs (frames_before c n) (mix_in c n)
 
--- the samples of all cycles but the last stand in front of those of all
-sounds_before : (c : Composition) (width : SampleWidth) (dbfs : ℤ) (n : ℕ) → 1 ≤ n
-    → IsFront (samples_of width dbfs (frames_before c (n - 1))) (samples_of width dbfs (frames_before c n))
-sounds_before c width dbfs n some =
-    let more : List ℕ = samples_of width dbfs (mix_in c (n - 1)) in
-    let again : n - 1 + 1 ≡ n = omega arith in (
-      more,
-      subst (λ (k : ℕ). samples_of width dbfs (frames_before c k) ≡ samples_of width dbfs (frames_before c (n - 1))
-          ++ more) again
-          (samples_more c width dbfs (n - 1)),
-    )
-
 module _ {T W C : Type 0} (see : LentSight T W C) (request : Request) where
   abbrev c : Composition
   c = request.piece
@@ -103,7 +87,7 @@ module _ {T W C : Type 0} (see : LentSight T W C) (request : Request) where
   abbrev samples : ℕ → List ℕ
   samples n = samples_for request (frames_before c n)
 
-  pub played_none : (a : Lent T W C) → PlayedOn see request 0 a a (samples 0)
+  pub played_none : (a : Lent T W C) → PlayedOn see request 0 a a
   played_none a =
       let P : List ℕ → Type 0 =
       λ bytes. IfWritten see.wav request.order.output a.wav a.wav (λ x y. WroteMore x y bytes) in
@@ -113,9 +97,8 @@ module _ {T W C : Type 0} (see : LentSight T W C) (request : Request) where
             (none_written see.wav request.order.output a.wav);
       }
 
-  pub played_more : (n : ℕ) (a b d : Lent T W C) → PlayedOn see request n a b (samples n)
-      → PlaysCycle see request n b d (samples_for request (mix_in c n))
-      → PlayedOn see request (n + 1) a d (samples (n + 1))
+  pub played_more : (n : ℕ) (a b d : Lent T W C) → PlayedOn see request n a b → PlaysCycle see request n b d
+      → PlayedOn see request (n + 1) a d
   played_more n a b d p more =
       let P : List ℕ → Type 0 =
       λ bytes. IfWritten see.wav request.order.output a.wav d.wav (λ x y. WroteMore x y bytes) in
@@ -128,50 +111,18 @@ module _ {T W C : Type 0} (see : LentSight T W C) (request : Request) where
       }
 
   -- the sink failed in this cycle
-  pub played_stopped : (n : ℕ) (a b d : Lent T W C) → n < c.cycles → PlayedOn see request n a b (samples n)
-      → BreaksCycle see request n b d → PlayedInPart see request a d
-  played_stopped n a b d lt p s = record {
-    cycles = n + 1;
-    within = omega arith;
-    front = samples n ++ s.front;
-    is_front = subst (IsFront (samples n ++ s.front)) (sym (samples_more c request.order.width request.head.dbfs n))
-        (front_behind (samples n) s.front (samples_for request (mix_in c n)) s.is_front);
-    kept = λ some. let last : n + 1 - 1 ≡ n =
-        omega arith in subst (λ (k : ℕ). IsFront (samples k) (samples n ++ s.front)) (sym last) (s.front, refl);
-    played = record {
-      performed = performed_more see c n a b d p.performed s.played.told s.played.counted;
-      written = more_written see.wav request.order.output a.wav b.wav d.wav (samples n) s.front p.written
-          s.played.written;
-    };
-  }
+  pub broke_after : (n : ℕ) (a b d : Lent T W C) → n < c.cycles → PlayedOn see request n a b
+      → BreaksCycle see request n b d → BrokeOn see request a d
+  broke_after n a b d lt p s = record { cycles = n; within = lt; between = b; played = p; broke = s }
 
   -- memory was refused before this cycle
-  played_before : (n : ℕ) (a b d : Lent T W C) → n ≤ c.cycles → d ≡ b → PlayedOn see request n a b (samples n)
-      → PlayedInPart see request a d
-  played_before n a b d le same p = record {
-    cycles = n;
-    within = le;
-    front = samples n;
-    is_front = front_all (samples n);
-    kept = λ some. sounds_before c request.order.width request.head.dbfs n some;
-    played = subst (λ (l : Lent T W C). PlayedOn see request n a l (samples n)) (sym same) p;
-  }
-
-  pub paused_before : (n : ℕ) (a b d : Lent T W C) → n ≤ c.cycles → d ≡ b → PlayedOn see request n a b (samples n)
+  pub paused_before : (n : ℕ) (a b d : Lent T W C) → n ≤ c.cycles → d ≡ b → PlayedOn see request n a b
       → PausedOn see request a d
   paused_before n a b d le same p = record {
     cycles = n;
     within = le;
-    played = subst (λ (l : Lent T W C). PlayedOn see request n a l (samples n)) (sym same) p;
+    played = subst (λ (l : Lent T W C). PlayedOn see request n a l) (sym same) p;
   }
-
-  -- whatever stopped this cycle
-  pub part_stopped : {A : Type 0} (f : PlayFault) (n : ℕ) (a b d : Lent T W C) → n < c.cycles
-      → PlayedOn see request n a b (samples n)
-      → (IsErrOf {T = A} (Err f) fault.Sink → BreaksCycle see request n b d)
-      → (IsErrOf {T = A} (Err f) fault.OutOfMemory → d ≡ b) → PlayedInPart see request a d
-  part_stopped fault.Sink n a b d lt p broken same = played_stopped n a b d lt p (broken refl)
-  part_stopped fault.OutOfMemory n a b d lt p broken same = played_before n a b d (omega arith) (same refl) p
 
 -- A cycle, by what its notes, the taps and the sink did.
 module _ {T W C : Type 0} (see : LentSight T W C) (request : Request) (dbfs : ℤ) (n : ℕ) (mix : List ℤ)
@@ -181,17 +132,26 @@ module _ {T W C : Type 0} (see : LentSight T W C) (request : Request) (dbfs : �
   samples_are : samples_of request.order.width dbfs mix ≡ samples_for request (mix_in request.piece n)
   samples_are = ap (λ (d : ℤ). samples_of request.order.width d mix) same ∙ ap (samples_for request) is
 
-  plays : (bytes : List ℕ) → IfWritten see.wav request.order.output a.wav b.wav (λ x y. WroteMore x y bytes)
-      → PlaysCycle see request n a b bytes
-  plays bytes wrote = record { told = subst (Told see.stands a.taps b.taps) is told; counted = counts; written = wrote }
-
   pub plays_cycle : IfWritten see.wav request.order.output a.wav b.wav
       (λ x y. WroteMore x y (samples_of request.order.width dbfs mix))
-      → PlaysCycle see request n a b (samples_for request (mix_in request.piece n))
-  plays_cycle wrote = subst (PlaysCycle see request n a b) samples_are
-      (plays (samples_of request.order.width dbfs mix) wrote)
+      → PlaysCycle see request n a b
+  plays_cycle wrote =
+      let P : List ℕ → Type 0 =
+      λ bytes. IfWritten see.wav request.order.output a.wav b.wav (λ x y. WroteMore x y bytes) in
+      record {
+        told = subst (Told see.stands a.taps b.taps) is told;
+        counted = counts;
+        written = subst P samples_are wrote;
+      }
 
-  pub breaks_cycle : (front : List ℕ) × IsFront front (samples_of request.order.width dbfs mix)
-      × IfWritten see.wav request.order.output a.wav b.wav (λ x y. WroteMore x y front)
+  pub breaks_cycle : IfWritten see.wav request.order.output a.wav b.wav
+      (λ x y. WrotePart x y (samples_of request.order.width dbfs mix))
       → BreaksCycle see request n a b
-  breaks_cycle s = record { front = s.0; is_front = subst (IsFront s.0) samples_are s.1; played = plays s.0 s.2 }
+  breaks_cycle part =
+      let P : List ℕ → Type 0 =
+      λ bytes. IfWritten see.wav request.order.output a.wav b.wav (λ x y. WrotePart x y bytes) in
+      record {
+        told = subst (Told see.stands a.taps b.taps) is told;
+        counted = counts;
+        written = subst P samples_are part;
+      }

@@ -1,6 +1,6 @@
 -- What is kept of a performance, from step to step.
-use Rattle.std.proofs.Common.{◌≡◌, ◌≤◌, ◌<◌, ℕ, zero, suc, ℤ, pos, List, [], ◌∷◌, length, map, replicate, refl, ap, sym}
-use Rattle.std.proofs.Common.{◌∙◌, subst, arith}
+use Rattle.std.proofs.Common.{◌≡◌, ℕ, zero, suc, ℤ, pos, List, ◌∷◌, length, replicate, refl, ap, sym}
+use Rattle.std.proofs.Common.{◌∙◌, subst}
 use Rattle.std.specs.List.{All}
 use Rattle.std.specs.Prelude.{Result, Ok, Err, OnOk}
 use Rattle.cs_cells.specs.Areas.{word_count, IsFootprint}
@@ -21,13 +21,6 @@ use Rattle.cs_desk.specs.Courses.{IsCourseOf}
 use Rattle.cs_perform.specs.declared.order.PerformanceOrder.{PerformanceOrder}
 use Rattle.cs_perform.specs.declared.recording.Recording.{Recording}
 use Rattle.cs_perform.specs.inner.Recordings.{IsRecordingOf}
-
--- as many cells as the layout has
-pub count_cells : (s : SetupData) (life : Life) (voices : List VoiceData) (cells : Cells) (m : Moment)
-    → life.setup.now ≡ s
-    → StandsFor (composition_of s) life voices cells m → length cells ≡ word_count s.layout
-count_cells s life voices cells m is st =
-    st.stand.long ∙ ap word_count (st.layout ∙ ap (λ (t : SetupData). t.layout) is)
 
 -- a step that is told of the life's own setup
 pub of_setup : (s : SetupData) (life : Life) (voices : List VoiceData) (cells : Cells) (m : Moment) → life.setup.now ≡ s
@@ -127,14 +120,3 @@ pub still_recorded : {A E : Type 0} (r : Result A E) (s : SetupData) (order : Pe
     → IsRecordingOf s order n recording → OnOk r (IsRecordingOf s order n recording)
 still_recorded (Ok x) s order n recording is = is
 still_recorded (Err e) s order n recording is = tt
-
--- the footprints of voices that are the same
-pub feet_stay : (voices after : List VoiceData) (feet : List Footprint) → after ≡ voices
-    → map (λ (v : VoiceData). v.foot) voices ≡ feet → map (λ (v : VoiceData). v.foot) after ≡ feet
-feet_stay voices after feet same is = ap (map (λ (v : VoiceData). v.foot)) same ∙ is
-
--- and of those that have played a cycle
-pub feet_played : (voices played after : List VoiceData) (feet : List Footprint) → after ≡ played
-    → map (λ (v : VoiceData). v.foot) played ≡ map (λ (v : VoiceData). v.foot) voices
-    → map (λ (v : VoiceData). v.foot) voices ≡ feet → map (λ (v : VoiceData). v.foot) after ≡ feet
-feet_played voices played after feet same stay is = ap (map (λ (v : VoiceData). v.foot)) same ∙ stay ∙ is

@@ -1,5 +1,5 @@
 -- The counts of starts, which 64 bits hold.
-use Rattle.std.proofs.Common.{◌≡◌, ◌≤◌, ◌+◌, ◌*◌, ◌^◌, ◌∙◌, ℕ, ap, arith}
+use Rattle.std.proofs.Common.{◌≡◌, ◌≤◌, ◌+◌, ◌*◌, ◌∙◌, ℕ, ap, arith}
 use Rattle.cs_base.specs.Limits.{most_asks, most_events, most_statements}
 use Rattle.cs_life.specs.Standing.{kept_count}
 use Rattle.cs_piece_meaning.specs.Course.{begins, closing, moment_at}

@@ -1,22 +1,21 @@
 -- What a tally has counted that counts the first cycles of a piece.
-use Rattle.std.proofs.Common.{◌≡◌, ◌∙◌, ℕ, ◌+◌, List, [], ◌∷◌, ◌++◌, length, map, sum, refl, ap, sym, arith}
+use Rattle.std.proofs.Common.{◌≡◌, ◌∙◌, ℕ, ◌+◌, List, [], ◌∷◌, ◌++◌, length, map, sum, refl, ap, sym}
 use Rattle.std.specs.List.{AllZip, range_with_len}
 use Rattle.std.proofs.lemmas.List.{length-append, map-append}
 use Rattle.std.proofs.lemmas.List.Sums.{sum_by-append}
 use Rattle.std.proofs.lemmas.Slice.Zip.{AllZip-long}
 use Rattle.cs_desk.specs.declared.receipt.Tally.{Tally}
-use Rattle.cs_life.specs.Standing.{Plays}
-use Rattle.cs_piece_meaning.specs.Course.{begins, moment_at, performed, played_in}
+use Rattle.cs_piece_meaning.specs.Course.{played_in}
 use Rattle.cs_piece_meaning.specs.Heard.{notes_before}
-use Rattle.cs_piece_meaning.specs.Moments.{Active, Composition}
+use Rattle.cs_piece_meaning.specs.Moments.{Composition}
 use Rattle.cs_voice.specs.VoiceData.{VoiceData}
-use Rattle.cs_perform.specs.Counted.{AreHeardBefore, AreHeardIn, CountsOn, IsTallyOf, Receipts}
+use Rattle.cs_perform.specs.Counted.{AreHeardBefore, AreHeardIn, CountsOn, IsHeardAs, IsTallyOf, Receipts}
 use Rattle.cs_perform.proofs.Frames.{length-range}
 
 -- as many voices are heard in a cycle as notes were performed in it
 as_many : (c : Composition) (n : ℕ) (voices : List VoiceData) → AreHeardIn c n voices
     → length voices ≡ length (played_in c n)
-as_many c n voices h = sym (AllZip-long (Plays c h.stage h.flags) voices (played_in c n) h.stand.play)
+as_many c n voices h = sym (AllZip-long IsHeardAs voices (played_in c n) h.notes)
 
 numbers_of : (c : Composition) (cycles : List ℕ) (receipts : Receipts) → AllZip (AreHeardIn c) cycles receipts
     → map length receipts ≡ map (λ (k : ℕ). length (played_in c k)) cycles

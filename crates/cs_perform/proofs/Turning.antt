@@ -1,7 +1,7 @@
 -- The levels of a course are the turns of the notes that play.
-use Rattle.std.proofs.Common.{◌≡◌, ℕ, ◌+◌, Bool, List, [], ◌∷◌, ◌++◌, length, map, refl, ap, sym, ◌∙◌, subst}
+use Rattle.std.proofs.Common.{◌≡◌, ℕ, ◌+◌, Bool, List, [], ◌∷◌, ◌++◌, map, refl, ap, sym, ◌∙◌, subst}
 use Rattle.std.proofs.Common.{append_assoc, append-nil}
-use Rattle.std.specs.List.{AllZip, flat_map, range_with_len}
+use Rattle.std.specs.List.{AllZip}
 use Rattle.cs_cells.specs.declared.footprint.Area.{Area}
 use Rattle.cs_cells.specs.declared.footprint.Footprint.{Footprint}
 use Rattle.cs_piece_meaning.specs.Moments.{Active, Composition}
@@ -43,9 +43,6 @@ feet_of_notes c stage flags areas zones (v ∷ voices) (a ∷ rest) e f p =
 pub told_both : (lines : TurnLines) (xs ys : List ℕ) → if_told lines xs ++ if_told lines ys ≡ if_told lines (xs ++ ys)
 told_both Told xs ys = refl
 told_both Untold xs ys = refl
-
-pub nothing_told : (lines : TurnLines) (line start : List ℕ) → lines ≡ Untold → start ≡ start ++ if_told lines line
-nothing_told lines line start is = sym (append-nil start) ∙ ap (λ (l : TurnLines). start ++ if_told l line) (sym is)
 
 pub lines_more : (c : Composition) (n : ℕ)
     → turn_lines_before c (n + 1) ≡ turn_lines_before c n ++ line_of n (turns_in c (notes_in c n))

@@ -1,6 +1,6 @@
 -- The whole file, and its fronts.
 use Rattle.std.proofs.Common.{◌≡◌, ◌≤◌, ◌<◌, ℕ, zero, suc, ◌+◌, ◌*◌, ◌-◌, ◌%◌, ◌==◌, Bool, true, false, ℤ, Result, Ok}
-use Rattle.std.proofs.Common.{Err, OnOk, List, [], ◌∷◌, ◌++◌, length, replicate, refl, ap, sym, ◌∙◌, subst, arith}
+use Rattle.std.proofs.Common.{Err, OnOk, List, [], ◌++◌, length, replicate, refl, ap, sym, ◌∙◌, subst, arith}
 use Rattle.std.proofs.Common.{append_assoc, append-nil, if◌then◌else◌}
 use Rattle.std.proofs.Math.Nat.{mul_assoc}
 use Rattle.std.proofs.lemmas.Bool.{eqb-true, eq-eqb}
@@ -11,11 +11,13 @@ use Rattle.cs_base.specs.declared.width.SampleWidth.{SampleWidth}
 use Rattle.cs_piece_meaning.specs.Heard.{frames_before, frames_of, mix_in}
 use Rattle.cs_piece_meaning.specs.Moments.{Composition}
 use Rattle.cs_edge.specs.Told.{IsFront, Rose}
-use Rattle.cs_edge.specs.Moves.{SinkTold, WroteMore, Wrote, Stopped, Finished}
+use Rattle.cs_edge.specs.Moves.{SinkTold, Wrote, Stopped, Finished}
+use Rattle.cs_edge.proofs.Chains.{front_of_front}
+use Rattle.cs_edge.proofs.Stories.{rose_after}
 use Rattle.cs_wav.specs.Wav.{header_bytes, samples_of, size_of, wav_of}
 use Rattle.cs_wav.proofs.Files.{samples_of-append}
 use Rattle.cs_perform.specs.Hearing.{IfWritten}
-use Rattle.cs_perform.specs.Performances.{HasAtLeast, IsPart, IsPaused, IsWholePerformance, Lent, LentSight, Performed}
+use Rattle.cs_perform.specs.Performances.{HasAtLeast, IsPart, IsPaused, Lent, LentSight, Performed}
 use Rattle.cs_perform.specs.Performances.{Performs}
 use Rattle.cs_perform.specs.Performances.{Request}
 use Rattle.cs_perform.specs.Performances.{file_after, front_after}
@@ -25,12 +27,13 @@ use Rattle.cs_perform.specs.declared.order.Output.TheVariants.{SoundFile, Nothin
 use Rattle.cs_perform.specs.declared.order.PlayFault.{PlayFault}
 use Rattle.cs_perform.specs.declared.order.PlayFault.TheVariants as fault
 use Rattle.cs_perform.specs.inner.Ends.{Breaks, Closes, Finishes, Stops, padding}
-use Rattle.cs_perform.specs.inner.Plays.{PausedOn, PlayedInPart, PlayedOn}
-use Rattle.cs_perform.proofs.Files.{error_as, faults_after, faults_begun, file_kept, file_paused, file_stopped}
-use Rattle.cs_perform.proofs.Files.{file_unbegun, file_untouched, file_written, front_all, front_behind, front_of_front}
-use Rattle.cs_perform.proofs.Files.{keeps_less, rose_later}
+use Rattle.cs_perform.specs.inner.Plays.{BrokeOn, PausedOn, PlayedOn}
+use Rattle.cs_perform.proofs.Files.{error_as, file_kept, file_part, file_paused, file_stopped, file_unbegun}
+use Rattle.cs_perform.proofs.Files.{file_untouched, file_written, front_all, front_behind, keeps_less, part_kept}
+use Rattle.cs_perform.proofs.Files.{rose_in_part, same_after, same_begun}
 use Rattle.cs_perform.proofs.Frames.{frames_before_more, length-frames_before}
-use Rattle.cs_perform.proofs.Performing.{performed_from, performed_none, performed_until}
+use Rattle.cs_perform.proofs.Performing.{performed_from, performed_more, performed_none, performed_until}
+use Rattle.cs_perform.proofs.Performing.{samples_more}
 
 -- the byte 0 behind samples of odd size
 one_or_none : (r : ℕ) → r < 2 → padding (r == 1) ≡ replicate r 0
@@ -98,18 +101,32 @@ frames_front c n (suc k) =
           ∙ append_assoc (frames_before c n) p.rest (mix_in c (n + k));
     }
 
-front_of_all : (c : Composition) (head : Head) (width : SampleWidth) (n : ℕ) → n ≤ c.cycles
-    → IsFront (front_after c head width n) (front_after c head width c.cycles)
-front_of_all c head width n le =
+front_of_more : (c : Composition) (head : Head) (width : SampleWidth) (n m : ℕ) → n ≤ m
+    → IsFront (front_after c head width n) (front_after c head width m)
+front_of_more c head width n m le =
     let opening : List ℕ = header_bytes width (length (frames_of c) * bytes_of width) head in
-    let p : FramesFront c n c.cycles =
-    subst (FramesFront c n) (let e : n + (c.cycles - n) ≡ c.cycles = omega arith in e)
-    (frames_front c n (c.cycles - n)) in
-    front_behind opening (samples_of width head.dbfs (frames_before c n)) (samples_of width head.dbfs (frames_of c)) (
+    let p : FramesFront c n m =
+    subst (FramesFront c n) (let e : n + (m - n) ≡ m = omega arith in e)
+    (frames_front c n (m - n)) in
+    front_behind opening (samples_of width head.dbfs (frames_before c n))
+    (samples_of width head.dbfs (frames_before c m)) (
       samples_of width head.dbfs p.rest,
       ap (samples_of width head.dbfs) p.split
           ∙ samples_of-append width head.dbfs (frames_before c n) p.rest,
     )
+
+front_of_all : (c : Composition) (head : Head) (width : SampleWidth) (n : ℕ) → n ≤ c.cycles
+    → IsFront (front_after c head width n) (front_after c head width c.cycles)
+front_of_all c head width n le = front_of_more c head width n c.cycles le
+
+-- header and samples, and those of one cycle more
+front_one_more : (c : Composition) (head : Head) (width : SampleWidth) (n : ℕ)
+    → front_after c head width (n + 1) ≡ front_after c head width n ++ samples_of width head.dbfs (mix_in c n)
+front_one_more c head width n =
+    let opening : List ℕ = header_bytes width (length (frames_of c) * bytes_of width) head in
+    ap (λ (l : List ℕ). opening ++ l) (samples_more c width head.dbfs n)
+    ∙ sym (append_assoc opening (samples_of width head.dbfs (frames_before c n))
+    (samples_of width head.dbfs (mix_in c n)))
 
 -- and so is the file after any number of cycles
 file_front_by : (c : Composition) (head : Head) (width : SampleWidth) (n : ℕ) (b : Bool) → n ≤ c.cycles
@@ -139,20 +156,6 @@ pub header_is : (c : Composition) (head : Head) (width : SampleWidth) (frames : 
     → first ≡ header_bytes width (length (frames_of c) * bytes_of width) head
 header_is c head width frames first e f is =
     is ∙ ap (λ (k : ℕ). header_bytes width (k * bytes_of width) head) (values_are c frames head.nchnls e f)
-
--- all of them, and header and samples stand in the file
-pub all_written : {W : Type 0} (tells : W → SinkTold) (c : Composition) (head : Head) (order : PerformanceOrder)
-    (name first : List ℕ) (w0 w1 w2 : W)
-    → first ≡ header_bytes order.width (length (frames_of c) * bytes_of order.width) head
-    → IfWritten tells order.output w0 w1 (λ before now. Wrote before now name first)
-    → IfWritten tells order.output w1 w2
-    (λ before now. WroteMore before now (samples_of order.width head.dbfs (frames_of c)))
-    → IfWritten tells order.output w0 w2 (λ before now. Wrote before now name (front_after c head order.width c.cycles))
-all_written tells c head order name first w0 w1 w2 is begun more =
-    let sounds : List ℕ = samples_of order.width head.dbfs (frames_of c) in
-    let P : List ℕ → Type 0 =
-    λ l. IfWritten tells order.output w0 w2 (λ before now. Wrote before now name (l ++ sounds)) in
-    subst P is (file_written tells order.output w0 w1 w2 name first sounds begun more)
 
 -- the end of a file, by its last bytes
 module _ {W : Type 0} (tells : W → SinkTold) (c : Composition) (head : Head) (width : SampleWidth) where
@@ -294,65 +297,98 @@ module _ {T W C : Type 0} (see : LentSight T W C) (request : Request) where
     }
 
     module _ (begun : IfWritten see.wav order.output a.wav b.wav (λ x y. Wrote x y name first)) (d : Lent T W C) where
-      later : (see.wav a.wav).faults ≤ (see.wav b.wav).faults
-      later = faults_begun see.wav order.output a.wav b.wav name first begun
+      -- no call failed so far
+      calm : (see.wav b.wav).faults ≡ (see.wav a.wav).faults
+      calm = same_begun see.wav order.output a.wav b.wav name first begun
 
-      -- some cycles were played
-      part_played : PlayedInPart see request b d → IsPart see request a d
-      part_played p =
-          let sounds : List ℕ = samples_of order.width head.dbfs (frames_before c p.cycles) in
-          let front : IsFront (first ++ p.front) (first ++ sounds) = front_behind first p.front sounds p.is_front in
+      -- the file after so many cycles
+      written_so_far : (n : ℕ) (e : Lent T W C) → PlayedOn see request n b e
+          → IfWritten see.wav order.output a.wav e.wav (λ x y. Wrote x y name (front_after c head order.width n))
+      written_so_far n e p =
+          let sounds : List ℕ = samples_of order.width head.dbfs (frames_before c n) in
+          let P : List ℕ → Type 0 =
+          λ l. IfWritten see.wav order.output a.wav e.wav (λ x y. Wrote x y name (l ++ sounds)) in
+          subst P is (file_written see.wav order.output a.wav b.wav e.wav name first sounds begun p.written)
+
+      -- and the sink failed in the next one
+      part_broke : BrokeOn see request b d → IsPart see request a d
+      part_broke p =
+          let n : ℕ = p.cycles in
+          let mix : List ℕ = samples_of order.width head.dbfs (mix_in c n) in
+          let wrote = written_so_far n p.between p.played in
+          let last : n + 1 - 1 ≡ n = omega arith in
           record {
-            cycles = p.cycles;
-            within = p.within;
-            performed = performed_from see c p.cycles a b d taps tally p.played.performed;
-            written = file_stopped see.wav order.output a.wav d.wav name (first ++ p.front)
-                (file_after c head order.width p.cycles)
-                (file_written see.wav order.output a.wav b.wav d.wav name first p.front begun p.played.written)
-                (front_of_front (first ++ p.front) (front_after c head order.width p.cycles)
-                (file_after c head order.width p.cycles)
-                (subst (λ (l : List ℕ). IsFront (first ++ p.front) (l ++ sounds)) is front)
-                (front_in_file c head order.width p.cycles));
-            kept = λ some. let before : List ℕ = samples_of order.width head.dbfs (frames_before c (p.cycles - 1)) in
-                file_kept see.wav order.output a.wav d.wav name (front_after c head order.width (p.cycles - 1))
-                (first ++ p.front)
-                (file_written see.wav order.output a.wav b.wav d.wav name first p.front begun p.played.written)
-                (subst (λ (l : List ℕ). IsFront (l ++ before) (first ++ p.front)) is
-                (front_behind first before p.front (p.kept some)));
+            cycles = n + 1;
+            within = omega (arith, p.within);
+            performed = performed_more see c n a p.between d
+                (performed_from see c n a b p.between taps tally p.played.performed) p.broke.told p.broke.counted;
+            written = file_part see.wav order.output a.wav p.between.wav d.wav name (front_after c head order.width n)
+                mix (file_after c head order.width (n + 1)) wrote p.broke.written
+                (subst (λ (l : List ℕ). IsFront l (file_after c head order.width (n + 1)))
+                (front_one_more c head order.width n)
+                (front_in_file c head order.width (n + 1)));
+            kept = λ some. subst (λ (k : ℕ). IfWritten see.wav order.output a.wav d.wav
+                (HasAtLeast name (front_after c head order.width k))) (sym last)
+                (part_kept see.wav order.output a.wav p.between.wav d.wav name (front_after c head order.width n)
+                (front_after c head order.width n) mix wrote p.broke.written
+                (front_all (front_after c head order.width n)));
           }
 
-      -- and memory was refused between two of them
-      paused_between : PausedOn see request b d
-          → IsPaused see request a d
+      -- or memory was refused between two of them
+      paused_between : PausedOn see request b d → IsPaused see request a d
       paused_between p =
-          let sounds : List ℕ = samples_of order.width head.dbfs (frames_before c p.cycles) in
           record {
             cycles = p.cycles;
             within = p.within;
             performed = performed_from see c p.cycles a b d taps tally p.played.performed;
             written = file_paused see.wav order.output a.wav d.wav name (front_after c head order.width p.cycles) _
-                (subst (λ (l : List ℕ). IfWritten see.wav order.output a.wav d.wav
-                (λ x y. Wrote x y name (l ++ sounds)))
-                is
-                (file_written see.wav order.output a.wav b.wav d.wav name first sounds begun p.played.written));
+                (written_so_far p.cycles d p.played);
           }
 
+      part_paused : PausedOn see request b d → IsPart see request a d
+      part_paused p =
+          let wrote = written_so_far p.cycles d p.played in
+          record {
+            cycles = p.cycles;
+            within = p.within;
+            performed = performed_from see c p.cycles a b d taps tally p.played.performed;
+            written = file_stopped see.wav order.output a.wav d.wav name (front_after c head order.width p.cycles)
+                (file_after c head order.width p.cycles) wrote (front_in_file c head order.width p.cycles);
+            kept = λ some. file_kept see.wav order.output a.wav d.wav name
+                (front_after c head order.width (p.cycles - 1)) (front_after c head order.width p.cycles) wrote
+                (front_of_more c head order.width (p.cycles - 1) p.cycles (omega arith));
+          }
+
+      rose_behind : (x y : ℕ) → x ≡ (see.wav b.wav).faults → Rose x y → Rose (see.wav a.wav).faults y
+      rose_behind x y same rose = rose_after (see.wav a.wav).faults x y (same ∙ calm) rose
+
+      broke_rose : order.output ≡ SoundFile → BrokeOn see request b d
+          → Rose (see.wav a.wav).faults (see.wav d.wav).faults
+      broke_rose told p =
+          rose_behind (see.wav p.between.wav).faults (see.wav d.wav).faults
+          (same_after see.wav order.output b.wav p.between.wav _ p.played.written)
+          (rose_in_part see.wav order.output p.between.wav d.wav _ told p.broke.written)
+
       pub performs_in_part : {A B : Type 0} (f : PlayFault)
-          → PlayedInPart see request b d
+          → (IsErrOf {T = A} (Err f) fault.Sink → BrokeOn see request b d)
           → (IsErrOf {T = A} (Err f) fault.OutOfMemory → PausedOn see request b d)
-          → (IsErrOf {T = A} (Err f) fault.Sink
-          → (order.output ≡ SoundFile) × Rose (see.wav b.wav).faults (see.wav d.wav).faults)
+          → (IsErrOf {T = A} (Err f) fault.Sink → order.output ≡ SoundFile)
           → Performs see request a d (let r : Result B PlayFault = Err f in r)
-      performs_in_part f part memory sink = record {
+      performs_in_part fault.Sink broke memory sink = record {
         whole = tt;
-        part = part_played part;
-        memory = λ e. paused_between (memory (error_as f fault.OutOfMemory e));
-        sink = λ e. let told = sink (error_as f fault.Sink e) in (told.0, rose_later _ _ _ later told.1);
+        part = part_broke (broke refl);
+        memory = λ e. absurd (not_memory e);
+        sink = λ e. (sink refl, broke_rose (sink refl) (broke refl));
+      }
+      performs_in_part fault.OutOfMemory broke memory sink = record {
+        whole = tt;
+        part = part_paused (memory refl);
+        memory = λ e. paused_between (memory refl);
+        sink = λ e. absurd (not_sink e);
       }
 
       -- all cycles were played, and it was closed, or not
-      module _ (all : PlayedOn see request c.cycles b d (samples_of order.width head.dbfs (frames_of c)))
-          (z : Lent T W C)
+      module _ (all : PlayedOn see request c.cycles b d) (z : Lent T W C)
           (taps' : z.taps ≡ d.taps) (tally' : z.tally ≡ d.tally) where
         performed : Performed see c c.cycles a z
         performed = performed_until see c c.cycles a d z taps' tally'
@@ -360,7 +396,7 @@ module _ {T W C : Type 0} (see : LentSight T W C) (request : Request) where
 
         wrote : IfWritten see.wav order.output a.wav d.wav
             (λ x y. Wrote x y name (front_after c head order.width c.cycles))
-        wrote = all_written see.wav c head order name first a.wav b.wav d.wav is begun all.written
+        wrote = written_so_far c.cycles d all
 
         pub performs_closed : {A : Type 0} (r : Result A PlayFault)
             → OnOk r (IfWritten see.wav order.output d.wav z.wav (Closes c head order.width))
@@ -388,10 +424,11 @@ module _ {T W C : Type 0} (see : LentSight T W C) (request : Request) where
                 (broken refl);
           };
           memory = λ e. absurd (not_memory e);
-          sink = λ e. let told = sink refl in
-              let more : (see.wav b.wav).faults ≤ (see.wav d.wav).faults =
-              faults_after see.wav order.output b.wav d.wav _ all.written in
-              (told.0, rose_later _ _ _ (omega (arith, later, more)) told.1);
+          sink = λ e. let told = sink refl in (
+            told.0,
+            rose_behind (see.wav d.wav).faults (see.wav z.wav).faults
+                (same_after see.wav order.output b.wav d.wav _ all.written) told.1,
+          );
         }
         performs_closed (Err fault.OutOfMemory) ended broken sink same =
             let still : IfWritten see.wav order.output a.wav z.wav

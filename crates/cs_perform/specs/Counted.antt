@@ -1,28 +1,30 @@
 -- What whoever counts cycles by their receipts has counted: the voices of each cycle.
-use Rattle.std.specs.Prelude.{ℕ, ◌≡◌, ◌-◌, ◌^◌, List, ◌++◌, length, map, max, sum}
+use Rattle.std.specs.Prelude.{ℕ, pos, ◌≡◌, ◌-◌, ◌^◌, List, ◌++◌, length, map, max, sum}
 use Rattle.std.specs.List.{AllZip, range_with_len}
-use Rattle.std.specs.Prelude.{Bool}
-use Rattle.cs_cells.specs.Cells.{Cells}
 use Rattle.cs_desk.specs.declared.receipt.Tally.{Tally}
-use Rattle.cs_life.specs.Standing.{VoicesStand}
-use Rattle.cs_piece_meaning.specs.Course.{begins, moment_at, performed}
+use Rattle.cs_machine.specs.Outputs.{outs}
+use Rattle.cs_piece_meaning.specs.Course.{played_in}
 use Rattle.cs_piece_meaning.specs.Heard.{mix_in}
-use Rattle.cs_piece_meaning.specs.Moments.{Composition}
+use Rattle.cs_piece_meaning.specs.Moments.{Active, Composition}
 use Rattle.cs_voice.specs.Mixing.{mixed}
 use Rattle.cs_voice.specs.VoiceData.{VoiceData}
-use Rattle.cs_voice.specs.declared.stage.Stage.{Stage}
 
 -- the receipts of cycles, one after another: the voices of each, as it left them
 abbrev pub Receipts : Type 0
 Receipts = List (List VoiceData)
 
--- The voices of a cycle: they stand at the moment when its notes have been performed, each for the note at its place,
--- and together they give what is heard of it.
+-- A voice as a note was heard: the same instrument, the cycle in which it has ended, what it gave to each channel, and
+-- whether it was turned off.
+pub record IsHeardAs (v : VoiceData) (a : Active) : Type 0 where
+  pub number : a.number ≡ pos v.number
+  pub ends : v.until ≡ a.ends
+  pub channels : outs v.outs ≡ a.note.world.outs
+  pub ended : v.ended ≡ a.note.world.ended
+
+-- The voices of a cycle: each is heard as the note at its place that was performed, and together they give what is
+-- heard of the cycle.
 pub record AreHeardIn (c : Composition) (n : ℕ) (voices : List VoiceData) : Type 0 where
-  pub stage : Stage
-  pub flags : List Bool
-  pub cells : Cells
-  pub stand : VoicesStand c stage flags voices cells (performed c (begins c n (moment_at c n)))
+  pub notes : AllZip IsHeardAs voices (played_in c n)
   pub heard : mixed c.head.ksmps c.head.nchnls voices ≡ mix_in c n
 
 -- one receipt for each of the first `n` cycles, in their order

@@ -3,4 +3,5 @@ pub mod Crews
 pub mod Ends
 pub mod Plays
 pub mod Recordings
+pub mod Rows
 pub mod Stands

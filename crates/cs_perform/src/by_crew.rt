@@ -10,23 +10,18 @@ use crate::order::{Outcome, Performance, PlayFault};
 use crate::performance::go_on;
 use crate::sounder::Ensemble;
 use crate::start::PerformanceStart;
-use cs_edge::{Gate, Sink, Tap};
+use cs_edge::{Gate, OpenGate, Sink, Tap};
 use cs_pool::{Crew, Pool};
 use std::sync::Wait;
 use std::thread;
 use std::thread::{Scope, Threads};
 
+/// The gate that the crew calls before each row of notes, which itself calls the caller's gate before each note.
+static OPEN: OpenGate = OpenGate {};
+
 /// The performance by a crew, to which sink, taps and tally are lent.
-pub(crate) fn play_by_crew<
-    'a,
-    'e,
-    't,
-    K: Sink,
-    C: Counter,
-    R: Threads + Wait + Sync,
-    G: Gate + Sync,
->(
-    performance: &Performance<'t>,
+pub(crate) fn play_by_crew<'a, 'e, K: Sink, C: Counter, R: Threads + Wait + Sync, G: Gate + Sync>(
+    performance: &Performance<'_>,
     crew: &Crew<'e, R, G>,
     wav: &'a mut K,
     taps: &'a mut Vec<Box<dyn Tap>>,
@@ -37,7 +32,12 @@ pub(crate) fn play_by_crew<
         (request_of performance.now) (lent wav.old taps.old.items tally.old) (lent wav.new taps.new.items tally.new)
         result }
 {
-    let Ok(start) = PerformanceStart::new(performance) else {
+    let Ok(start) = PerformanceStart::new(
+        performance.alloc,
+        performance.setup,
+        performance.order,
+        crew.gate,
+    ) else {
         return Err(PlayFault::OutOfMemory);
     };
     let loan = Loan { wav, taps, tally };
@@ -49,8 +49,8 @@ pub(crate) fn play_by_crew<
 
 /// By a crew in a scope of its own.
 fn play_in_scope<'a, 'e, 't, K: Sink, C: Counter, R: Threads + Wait + Sync, G: Gate + Sync>(
-    performance: &Performance<'t>,
-    start: PerformanceStart<'t>,
+    performance: &Performance<'_>,
+    start: PerformanceStart<'t, G>,
     crew: &Crew<'e, R, G>,
     loan: Loan<'a, K, C>,
 ) -> (Result<Outcome, PlayFault>, Loan<'a, K, C>)
@@ -81,8 +81,8 @@ fn play_in_scope<'a, 'e, 't, K: Sink, C: Counter, R: Threads + Wait + Sync, G: G
 /// By a crew whose helpers are threads of this scope and have ended when it returns.
 fn play_loan<'a, 's, 'e, 't: 's, K: Sink, C: Counter, R: Threads + Wait + Sync, G: Gate + Sync>(
     scope: &'s Scope<'s, &'e ()>,
-    performance: &Performance<'t>,
-    start: PerformanceStart<'t>,
+    performance: &Performance<'_>,
+    start: PerformanceStart<'t, G>,
     crew: &Crew<'e, R, G>,
     loan: Loan<'a, K, C>,
 ) -> (Result<Outcome, PlayFault>, Loan<'a, K, C>)
@@ -95,10 +95,10 @@ fn play_loan<'a, 's, 'e, 't: 's, K: Sink, C: Counter, R: Threads + Wait + Sync, 
         (lent result.1.wav.now result.1.taps.now.items result.1.tally.now) result.0 }
 {
     let mut loan = loan;
-    let mut pool = Pool::new(crew.rt, scope, performance.alloc, crew.workers, crew.gate);
+    let mut pool = Pool::new(crew.rt, scope, performance.alloc, crew.workers, &OPEN);
     let PerformanceStart { stand, recording } = start;
     let ensemble = Ensemble {
-        runner: &mut pool,
+        pool: &mut pool,
         stand,
     };
     let played = go_on(performance, ensemble, recording, &mut loan);

@@ -11,9 +11,8 @@
 //!
 //! Modules in reading order: `order` (what is asked for, and what comes of it), `performance`, `start` (what a
 //! performance begins with), `counter` (who counts its cycles), `loan` (what is lent to it), `by_crew` (in a scope of
-//! threads), `runner` (who runs the notes), `sounder` (who makes the sound of the cycles), `cycle`, `performers` (by
-//! whom a cycle is performed), `stand` (what is kept from cycle to cycle), `recording`, `taps`, `turns`, `sizes`,
-//! `writing`; `laws`.
+//! threads), `sounder` (who makes the sound of the cycles), `cycle`, `stand` (what is kept from cycle to cycle),
+//! `recording`, `taps`, `turns`, `sizes`, `writing`; `laws`.
 #![tactic(auto)]
 
 mod by_crew;
@@ -23,9 +22,7 @@ mod laws;
 mod loan;
 mod order;
 mod performance;
-mod performers;
 mod recording;
-mod runner;
 mod sizes;
 mod sounder;
 mod stand;

@@ -1,16 +1,15 @@
 // A piece is performed into a sink, to taps, and counted.
-ghost use Rattle.std.specs.Prelude.{◌≡◌, ◌*◌, ◌≤◌, ◌^◌, IfOk, OnOk, OnErr, IsErrOf};
+ghost use Rattle.std.specs.Prelude.{◌≡◌, ◌*◌, ◌≤◌, ◌^◌, IfOk, OnOk, IsErrOf};
 ghost use Rattle.cs_base.specs.Limits.{most_wav_bytes};
 ghost use Rattle.cs_base.specs.Widths.{bytes_of};
 ghost use Rattle.cs_piece_meaning.specs.Course.{moment_at, opening};
-ghost use Rattle.cs_piece_meaning.specs.Heard.{frames_of};
 ghost use Rattle.cs_edge.specs.Told.{Rose};
 ghost use Rattle.cs_perform.specs.Hearing.{IfWritten};
 ghost use Rattle.cs_perform.specs.Performances.{Performs, PerformsPiece, lent, lent_sight, request_of};
 ghost use Rattle.cs_perform.specs.declared.order.Output.TheVariants.{SoundFile};
 ghost use Rattle.cs_perform.specs.inner.Crews.{HasPlace};
 ghost use Rattle.cs_perform.specs.inner.Ends.{AreStartsOf, Breaks, Closes};
-ghost use Rattle.cs_perform.specs.inner.Plays.{PausedOn, PlayedInPart, PlayedOn, samples_for};
+ghost use Rattle.cs_perform.specs.inner.Plays.{BrokeOn, PausedOn, PlayedOn};
 ghost use Rattle.cs_perform.specs.inner.Recordings.{IsRecordingOf};
 ghost use Rattle.cs_piece.specs.Setups.{composition_of};
 
@@ -20,9 +19,8 @@ use crate::cycle::play_cycle;
 use crate::loan::{Loan, take_back};
 use crate::order::{Outcome, Performance, PlayFault};
 use crate::recording::Recording;
-use crate::runner::OneWorker;
 use crate::sizes::{ends_odd, first_bytes, frames_in};
-use crate::sounder::{Ensemble, Sounder};
+use crate::sounder::{Soloist, Sounder};
 use crate::stand::Starts;
 use crate::start::PerformanceStart;
 use crate::writing::{begin, finish};
@@ -93,17 +91,17 @@ pub fn perform_alone<K: Sink, C: Counter, G: Gate>(
         (request_of performance.now) (lent wav.old taps.old.items tally.old) (lent wav.new taps.new.items tally.new)
         result }
 {
-    let Ok(start) = PerformanceStart::new(performance) else {
+    let Ok(start) = PerformanceStart::new(
+        performance.alloc,
+        performance.setup,
+        performance.order,
+        gate,
+    ) else {
         return Err(PlayFault::OutOfMemory);
     };
     let PerformanceStart { stand, recording } = start;
-    let mut worker = OneWorker { gate };
-    let ensemble = Ensemble {
-        runner: &mut worker,
-        stand,
-    };
     let mut loan = Loan { wav, taps, tally };
-    let played = go_on(performance, ensemble, recording, &mut loan);
+    let played = go_on(performance, Soloist { stand }, recording, &mut loan);
     let Loan { wav, taps, tally } = loan;
     take_back(wav, taps, tally);
     played
@@ -179,21 +177,19 @@ fn play_all<K: Sink, C: Counter, S: Sounder>(
         (moment_at (composition_of performance.now.setup.now) performance.now.setup.now.plot.cycles)) }
     ensures recorded { OnOk result (IsRecordingOf performance.now.setup.now performance.now.order
         performance.now.setup.now.plot.cycles recording.new) }
-    ensures played { let request = request_of performance.now in
-        OnOk result (PlayedOn (lent_sight (λ t h. stands_for t h) K.tells C.has_counted) request request.piece.cycles
-        (lent loan.old.wav.now loan.old.taps.now.items loan.old.tally.now)
-        (lent loan.new.wav.now loan.new.taps.now.items loan.new.tally.now)
-        (samples_for request (frames_of request.piece))) }
-    ensures part { OnErr result (PlayedInPart (lent_sight (λ t h. stands_for t h) K.tells C.has_counted)
-        (request_of performance.now)
+    ensures played { OnOk result (PlayedOn (lent_sight (λ t h. stands_for t h) K.tells C.has_counted)
+        (request_of performance.now) performance.now.setup.now.plot.cycles
         (lent loan.old.wav.now loan.old.taps.now.items loan.old.tally.now)
         (lent loan.new.wav.now loan.new.taps.now.items loan.new.tally.now)) }
+    ensures broke { IsErrOf result PlayFault.Sink
+        → BrokeOn (lent_sight (λ t h. stands_for t h) K.tells C.has_counted) (request_of performance.now)
+        (lent loan.old.wav.now loan.old.taps.now.items loan.old.tally.now)
+        (lent loan.new.wav.now loan.new.taps.now.items loan.new.tally.now) }
     ensures memory { IsErrOf result PlayFault.OutOfMemory
         → PausedOn (lent_sight (λ t h. stands_for t h) K.tells C.has_counted) (request_of performance.now)
         (lent loan.old.wav.now loan.old.taps.now.items loan.old.tally.now)
         (lent loan.new.wav.now loan.new.taps.now.items loan.new.tally.now) }
-    ensures sink { IsErrOf result PlayFault.Sink → (performance.now.order.output ≡ SoundFile)
-        × Rose (K.tells loan.old.wav.now).faults (K.tells loan.new.wav.now).faults }
+    ensures sink { IsErrOf result PlayFault.Sink → performance.now.order.output ≡ SoundFile }
     ensures same { (loan.new.wav.ghost_name ≡ loan.old.wav.ghost_name)
         × (loan.new.taps.ghost_name ≡ loan.old.taps.ghost_name)
         × (loan.new.tally.ghost_name ≡ loan.old.tally.ghost_name) }

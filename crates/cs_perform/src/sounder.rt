@@ -11,13 +11,15 @@ ghost use Rattle.cs_perform.specs.inner.Stands.{CountsCycle, IsAt};
 ghost use Rattle.cs_turns.specs.Turns.{line_of, notes_in, turns_in};
 
 use crate::counter::Counter;
-use crate::cycle::sound_cycle;
+use crate::cycle::prepare;
 use crate::order::Performance;
 use crate::recording::Recording;
-use crate::runner::Runner;
-use crate::stand::{Stand, Starts};
+use crate::stand::{NoteRow, Stand, Starts};
 use cs_base::OutOfMemory;
+use cs_edge::{Gate, OpenGate};
+use cs_pool::Pool;
 use std::alloc::Global;
+use std::sync::Wait;
 
 /// Makes the sound of the cycles, one after another. The rest of a performance is written over this trait, whose bounds
 /// name no lifetime: a function can't have such a bound and meters together.
@@ -61,14 +63,14 @@ pub(crate) trait Sounder: Drop {
             × (n.not_started ≡ kept_count (begins (composition_of s) cycle m).not_started)) };
 }
 
-/// What is kept from cycle to cycle, and who runs the notes.
+/// A crew, and what is kept from cycle to cycle.
 #[derive(Drop)]
-pub(crate) struct Ensemble<'r, 't, P> {
-    pub runner: &'r mut P,
-    pub stand: Stand<'t>,
+pub(crate) struct Ensemble<'r, 'e, 't, R, G: Gate> {
+    pub pool: &'r mut Pool<'e, NoteRow<'t, G>, R, OpenGate>,
+    pub stand: Stand<'t, G>,
 }
 
-impl<'r, 't, P: Runner<'t>> Sounder for Ensemble<'r, 't, P> {
+impl<'r, 'e, 't, R: Wait, G: Gate> Sounder for Ensemble<'r, 'e, 't, R, G> {
     ghost is_at = { λ s e m. IsAt s e.stand m };
 
     fn sound<C: Counter>(
@@ -78,15 +80,50 @@ impl<'r, 't, P: Runner<'t>> Sounder for Ensemble<'r, 't, P> {
         recording: &mut Recording,
         tally: &mut C,
     ) -> Result<Self, OutOfMemory> {
-        let Ensemble { runner, stand } = self;
-        match sound_cycle(performance, runner, cycle, stand, recording, tally) {
-            Ok(stand) => Ok(Ensemble { runner, stand }),
-            Err(refused) => Err(refused),
-        }
+        let Ensemble { pool, mut stand } = self;
+        let Ok(()) = prepare(performance, cycle, &mut stand, &mut recording.turns) else {
+            drop(stand);
+            return Err(OutOfMemory);
+        };
+        let mut stand = stand.run(pool, performance.alloc, cycle, tally, &mut recording.mix);
+        stand.end();
+        Ok(Ensemble { pool, stand })
     }
 
     fn close(self, alloc: Global, cycle: u32) -> Result<Starts, OutOfMemory> {
-        let Ensemble { runner: _, stand } = self;
+        let Ensemble { pool: _, stand } = self;
+        stand.close(alloc, cycle)
+    }
+}
+
+/// The caller alone, who waits for nobody, and what is kept from cycle to cycle.
+#[derive(Drop)]
+pub(crate) struct Soloist<'t, G: Gate> {
+    pub stand: Stand<'t, G>,
+}
+
+impl<'t, G: Gate> Sounder for Soloist<'t, G> {
+    ghost is_at = { λ s e m. IsAt s e.stand m };
+
+    fn sound<C: Counter>(
+        self,
+        performance: &Performance<'_>,
+        cycle: u32,
+        recording: &mut Recording,
+        tally: &mut C,
+    ) -> Result<Self, OutOfMemory> {
+        let Soloist { mut stand } = self;
+        let Ok(()) = prepare(performance, cycle, &mut stand, &mut recording.turns) else {
+            drop(stand);
+            return Err(OutOfMemory);
+        };
+        let mut stand = stand.run_alone(cycle, tally, &mut recording.mix);
+        stand.end();
+        Ok(Soloist { stand })
+    }
+
+    fn close(self, alloc: Global, cycle: u32) -> Result<Starts, OutOfMemory> {
+        let Soloist { stand } = self;
         stand.close(alloc, cycle)
     }
 }

@@ -1,44 +1,56 @@
 // All that is kept of a performance from cycle to cycle.
-ghost use Rattle.std.specs.Prelude.{◌≡◌, ◌+◌, ◌*◌, ◌≤◌, ◌<◌, ℕ, [], ◌∷◌, length, map, pos, replicate, true, IfOk, OnOk};
+ghost use Rattle.std.specs.Prelude.{◌≡◌, ◌+◌, ◌*◌, ◌≤◌, ◌<◌, ℕ, [], ◌∷◌, length, pos, replicate, true, All, IfOk, OnOk};
 ghost use Rattle.cs_base.specs.Limits.{most_notes};
 ghost use Rattle.cs_cells.specs.Areas.{word_count};
 ghost use Rattle.cs_piece_meaning.specs.Course.{begins, moment_at, opening, performed, turned_off};
 ghost use Rattle.cs_piece_meaning.specs.Heard.{mix_in};
 ghost use Rattle.cs_piece_meaning.specs.Moments.{Moment};
 ghost use Rattle.cs_desk.specs.Desk.{areas, cells};
-ghost use Rattle.cs_life.specs.Standing.{kept_count};
+ghost use Rattle.cs_life.specs.Standing.{StandsFor, kept_count};
 ghost use Rattle.cs_perform.specs.Counted.{CountsOn};
-ghost use Rattle.cs_perform.specs.declared.performers.Performers.TheVariants.{Crew};
-ghost use Rattle.cs_perform.specs.inner.Stands.{IsAt, IsReady};
+ghost use Rattle.cs_perform.specs.inner.Stands.{InRows, IsAt, IsReady};
 ghost use Rattle.cs_piece.specs.Setups.{SetupData, composition_of};
+ghost use Rattle.cs_row.specs.Heard.{sums};
+ghost use Rattle.cs_voice.specs.Mixing.{gives, shape};
 ghost use Rattle.cs_voice.specs.VoiceData.{VoiceData};
 
 use crate::counter::Counter;
-use crate::performers::Performers;
-use crate::runner::Runner;
-use cs_base::{Head, OutOfMemory};
-use cs_cells::Layout;
+use cs_base::OutOfMemory;
+use cs_cells::{Job, Layout};
 use cs_desk::{Course, Desk, make_room};
+use cs_edge::{Gate, OpenGate};
 use cs_life::{Life, serial_runs_perform, voices_are_heard};
 use cs_piece::Setup;
-use cs_voice::{Voice, mix};
+use cs_pool::Pool;
+use cs_row::{Heard, Row, Rows, row_laws, sum_rows};
+use cs_voice::Voice;
 use std::alloc::Global;
+use std::sync::Wait;
 
 /// The number of notes for which there is room at first.
 const FIRST_NOTES: u32 = 16;
 /// The number of edges for which there is room at first.
 const FIRST_EDGES: u32 = 32;
 
+/// Notes that run as one job.
+pub(crate) type NoteRow<'t, G> = Row<'t, Voice<'t>, G>;
+
 /// What is kept of a performance: its life, the notes that play, in the order of performing, the cells that they
 /// share, and the course of their cycle.
 #[derive(Drop)]
-pub(crate) struct Stand<'t> {
+pub(crate) struct Stand<'t, G: Gate> {
     pub life: Life<'t>,
+    /// It is called before each note.
+    pub gate: &'t G,
     pub voices: Vec<Voice<'t>>,
-    pub desk: Desk<Voice<'t>>,
+    pub desk: Desk<NoteRow<'t, G>>,
+    /// That of the rows.
     pub course: Course,
-    /// Whether no note has begun or left since the course became that of those that play.
+    pub rows: Rows<'t, Voice<'t>, G>,
+    /// Whether no note has begun or left since the rows were cut and the course became theirs.
     pub current: bool,
+    /// That of the notes, where turns are told.
+    pub turns: Course,
 }
 
 /// How many starts there were: those that started a note, and those that started nothing.
@@ -48,28 +60,26 @@ pub(crate) struct Starts {
     pub not_started: u64,
 }
 
-impl<'t> Stand<'t> {
+impl<'t, G: Gate> Stand<'t, G> {
     /// At the opening of a performance.
-    pub fn new(alloc: Global, setup: &'t Setup) -> Result<Stand<'t>, OutOfMemory>
+    pub fn new(alloc: Global, setup: &'t Setup, gate: &'t G) -> Result<Stand<'t, G>, OutOfMemory>
         ensures { IfOk result (λ stand. IsAt setup.now stand (opening (composition_of setup.now))) }
     {
-        let course = Course::of_jobs::<Voice<'t>>(alloc, &[])?;
-        // The zones have as many cells as the layout.
-        setup.facts();
-        let mut desk = first_desk(alloc, setup.zones())?;
-        match Life::new(alloc, setup, &mut desk) {
-            Ok(life) => Ok(Stand {
-                life,
-                voices: Vec::new(alloc),
-                desk,
-                course,
-                current: false,
-            }),
-            Err(refused) => {
-                drop((desk, course));
-                Err(refused)
-            }
-        }
+        let course = Course::of_feet(alloc, Vec::new(alloc))?;
+        let turns = Course::of_feet(alloc, Vec::new(alloc))?;
+        let head = &setup.orchestra().head;
+        let block = head.ksmps as usize * head.nchnls as usize;
+        let (life, desk) = open_desk(alloc, setup)?;
+        Ok(Stand {
+            life,
+            gate,
+            voices: Vec::new(alloc),
+            desk,
+            course,
+            rows: Rows::new(alloc, block),
+            current: false,
+            turns,
+        })
     }
 
     /// The notes of a cycle begin.
@@ -78,107 +88,172 @@ impl<'t> Stand<'t> {
         ensures begun { OnOk result ((s : SetupData) (m : Moment) → IsAt s self.old m
             → IsAt s self.new (begins (composition_of s) cycle m)) }
     {
-        let same = self
-            .life
-            .begin_cycle(alloc, cycle, &mut self.voices, &mut self.desk)?;
+        let same = begin_notes(
+            &mut self.life,
+            alloc,
+            cycle,
+            &mut self.voices,
+            &mut self.desk,
+        )?;
         self.current = is_still_so(self.current, same);
         Ok(())
     }
 
-    /// The course becomes that of the notes that play, where notes have begun or left since it was.
-    fn find_course(&mut self, alloc: Global) -> Result<(), OutOfMemory>
+    /// The notes are cut into rows for so many workers, and the course is that of the rows, unless they are so still.
+    fn cut_rows(&mut self, alloc: Global, workers: u32) -> Result<(), OutOfMemory>
         requires at { (s : SetupData) × (m : Moment) × IsAt s self.old m }
-        ensures at { OnOk result ((s : SetupData) (m : Moment) → IsAt s self.old m → IsAt s self.new m) }
-        ensures feet { OnOk result
-            (map (λ (v : VoiceData). v.foot) self.new.voices.items ≡ self.new.course.feet.items) }
+        requires workers { 1 ≤ workers }
+        ensures at { (s : SetupData) (m : Moment) → IsAt s self.old m → IsAt s self.new m }
+        ensures rows { OnOk result (InRows self.new) }
     {
         if self.current {
             return Ok(());
         }
-        self.course.follow(alloc, &self.voices)?;
+        serial_runs_perform();
+        self.rows.cut(&self.voices, workers)?;
+        let feet = self.rows.feet(alloc, &self.voices)?;
+        self.course.follow(alloc, feet)?;
         self.current = true;
         Ok(())
     }
 
-    /// The course becomes that of the notes that play, and the desk has room for their cycle.
-    pub fn make_ready(&mut self, alloc: Global, layout: &Layout) -> Result<(), OutOfMemory>
-        requires at { (s : SetupData) × (m : Moment) × IsAt s self.old m × (s.zones ≡ layout.now) }
-        ensures at { OnOk result ((s : SetupData) (m : Moment) → IsAt s self.old m → IsAt s self.new m) }
+    /// All is made ready for so many workers: the rows and their course, memory for these, and room for their cycle.
+    fn make_ready(&mut self, alloc: Global, workers: u32) -> Result<(), OutOfMemory>
+        requires at { (s : SetupData) × (m : Moment) × IsAt s self.old m }
+        requires workers { 1 ≤ workers }
+        ensures at { (s : SetupData) (m : Moment) → IsAt s self.old m → IsAt s self.new m }
         ensures ready { OnOk result (IsReady self.new) }
     {
-        self.find_course(alloc)?;
-        let (notes, edges) = (self.course.graph.len(), self.course.graph.edge_count());
-        make_room(alloc, layout, &mut self.desk, notes, edges)
+        self.cut_rows(alloc, workers)?;
+        self.rows.take_memory(alloc)?;
+        let (rows, edges) = (self.course.graph.len(), self.course.graph.edge_count());
+        make_room(alloc, self.life.zones(), &mut self.desk, rows, edges)
     }
 
-    /// The notes that play perform the cycle, and `tally` counts it by their receipt: by the caller alone, whether or
-    /// not the course is theirs, or by the crew.
-    pub fn run<P: Runner<'t>, C: Counter>(
-        self,
-        runner: &mut P,
-        by: Performers,
+    /// The notes that play perform the cycle, and `tally` counts it by their receipt: in rows by the crew, where the
+    /// cycle is offered to it, they are several and there is memory for that, else by the caller alone. What they give
+    /// together is in the block.
+    pub fn run<R: Wait, C: Counter>(
+        mut self,
+        pool: &mut Pool<'_, NoteRow<'t, G>, R, OpenGate>,
+        alloc: Global,
         cycle: u32,
         tally: &mut C,
-    ) -> Stand<'t>
+        block: &mut [i64],
+    ) -> Stand<'t, G>
         requires at { (s : SetupData) × (m : Moment) × IsAt s self m }
-        requires ready { by ≡ Crew → IsReady self }
+        requires block { length block.old ≡ self.rows.block }
         requires room { most_notes < C.room tally.old }
         ensures performed { (s : SetupData) (m : Moment) → IsAt s self.entry m
             → IsAt s result (performed (composition_of s) m) }
+        ensures heard { (s : SetupData) (n : ℕ)
+            → IsAt s self.entry (begins (composition_of s) n (moment_at (composition_of s) n))
+            → block.new ≡ mix_in (composition_of s) n }
         ensures counted { CountsOn C.has_counted tally.old tally.new (result.voices.items ∷ []) }
         ensures room { C.room tally.old ≤ C.room tally.new + (most_notes + 1) }
     {
-        let Stand {
-            life,
-            voices,
-            desk,
-            course,
-            current,
-        } = self;
-        serial_runs_perform();
-        match by {
-            Performers::Caller => {
-                let (receipt, desk) = runner.run_alone(cycle, desk, voices);
-                let voices = tally.count(receipt);
-                Stand {
-                    life,
-                    voices,
-                    desk,
-                    course,
-                    current,
-                }
-            }
-            Performers::Crew => {
-                let Course { graph, feet } = course;
-                let (receipt, desk, graph) = runner.run(cycle, graph, desk, voices);
-                let played = tally.count(receipt);
-                Stand {
-                    life,
-                    voices: played,
-                    desk,
-                    course: Course { graph, feet },
-                    current,
-                }
+        if !pool.offers() || self.voices.len() < 2 {
+            pool.pass();
+            return self.run_alone(cycle, tally, block);
+        }
+        match self.make_ready(alloc, pool.workers()) {
+            Ok(()) => self.run_shared(pool, cycle, tally, block),
+            Err(OutOfMemory) => {
+                pool.pass();
+                self.run_alone(cycle, tally, block)
             }
         }
     }
 
-    /// What the notes that played give together.
-    pub fn mix_into(&self, head: &Head, block: &mut [i64])
-        requires at { (s : SetupData) × (m : Moment) × IsAt s self.now m × (s.orchestra.head ≡ head.now) }
-        requires block { length block.old ≡ head.now.ksmps * head.now.nchnls }
-        ensures { (s : SetupData) (n : ℕ)
-            → IsAt s self.now (performed (composition_of s)
-            (begins (composition_of s) n (moment_at (composition_of s) n)))
-            → s.orchestra.head ≡ head.now → block.new ≡ mix_in (composition_of s) n }
+    /// By the caller alone.
+    pub fn run_alone<C: Counter>(self, cycle: u32, tally: &mut C, block: &mut [i64]) -> Stand<'t, G>
+        requires at { (s : SetupData) × (m : Moment) × IsAt s self m }
+        requires block { length block.old ≡ self.rows.block }
+        requires room { most_notes < C.room tally.old }
+        ensures performed { (s : SetupData) (m : Moment) → IsAt s self.entry m
+            → IsAt s result (performed (composition_of s) m) }
+        ensures heard { (s : SetupData) (n : ℕ)
+            → IsAt s self.entry (begins (composition_of s) n (moment_at (composition_of s) n))
+            → block.new ≡ mix_in (composition_of s) n }
+        ensures counted { CountsOn C.has_counted tally.old tally.new (result.voices.items ∷ []) }
+        ensures room { C.room tally.old ≤ C.room tally.new + (most_notes + 1) }
     {
+        serial_runs_perform();
         voices_are_heard();
-        mix(
-            &self.voices,
-            head.ksmps as usize,
-            head.nchnls as usize,
-            block,
-        );
+        let Stand {
+            life,
+            gate,
+            voices,
+            mut desk,
+            course,
+            rows,
+            current,
+            turns,
+        } = self;
+        let notes = voices.len() as u32;
+        let receipt = desk.run_alone(cycle, notes, voices, gate);
+        let voices = tally.count(receipt);
+        sum_notes(&voices, block);
+        Stand {
+            life,
+            gate,
+            voices,
+            desk,
+            course,
+            rows,
+            current,
+            turns,
+        }
+    }
+
+    /// In rows, by the crew.
+    fn run_shared<R: Wait, C: Counter>(
+        self,
+        pool: &mut Pool<'_, NoteRow<'t, G>, R, OpenGate>,
+        cycle: u32,
+        tally: &mut C,
+        block: &mut [i64],
+    ) -> Stand<'t, G>
+        requires at { (s : SetupData) × (m : Moment) × IsAt s self m }
+        requires ready { IsReady self }
+        requires block { length block.old ≡ self.rows.block }
+        requires room { most_notes < C.room tally.old }
+        ensures performed { (s : SetupData) (m : Moment) → IsAt s self.entry m
+            → IsAt s result (performed (composition_of s) m) }
+        ensures heard { (s : SetupData) (n : ℕ)
+            → IsAt s self.entry (begins (composition_of s) n (moment_at (composition_of s) n))
+            → block.new ≡ mix_in (composition_of s) n }
+        ensures counted { CountsOn C.has_counted tally.old tally.new (result.voices.items ∷ []) }
+        ensures room { C.room tally.old ≤ C.room tally.new + (most_notes + 1) }
+    {
+        serial_runs_perform();
+        voices_are_heard();
+        row_laws::<Voice<'t>>();
+        let Stand {
+            life,
+            gate,
+            mut voices,
+            desk,
+            course,
+            mut rows,
+            current,
+            turns,
+        } = self;
+        let Course { graph, feet } = course;
+        let filled = rows.fill(&mut voices, gate, cycle);
+        let (receipt, desk, graph) = pool.cycle(cycle, graph, desk, filled);
+        sum_rows(receipt.jobs(), block);
+        let voices = tally.count(receipt.unrow(voices, &mut rows));
+        Stand {
+            life,
+            gate,
+            voices,
+            desk,
+            course: Course { graph, feet },
+            rows,
+            current,
+            turns,
+        }
     }
 
     /// The notes that were turned off leave.
@@ -219,8 +294,61 @@ fn is_still_so(before: bool, now: bool) -> bool
     before && now
 }
 
+/// Writes what notes of one shape give together into the block.
+fn sum_notes(voices: &[Voice<'_>], block: &mut [i64])
+    requires few { length voices.now ≤ most_notes }
+    requires long { (frames : ℕ) × (channels : ℕ) × All (λ (v : VoiceData). shape v ≡ (frames, channels)) voices.now
+        × (length block.old ≡ frames * channels) }
+    ensures { block.new ≡ sums gives (length block.old) voices.now }
+{
+    if voices.is_empty() {
+        block.fill(0);
+        return;
+    }
+    Voice::sum(voices, block);
+}
+
+/// The opening of a performance: its life, over the cells of a desk, whatever that runs.
+fn open_desk<'t, J: Job + Drop>(
+    alloc: Global,
+    setup: &'t Setup,
+) -> Result<(Life<'t>, Desk<J>), OutOfMemory>
+    ensures stands { IfOk result (λ o. StandsFor (composition_of setup.now) o.0 [] (cells o.1)
+        (opening (composition_of setup.now))) }
+    ensures setup { IfOk result (λ o. o.0.setup.now ≡ setup.now) }
+    ensures areas { IfOk result (λ o. areas o.1 ≡ setup.now.zones) }
+{
+    // The zones have as many cells as the layout.
+    setup.facts();
+    let mut desk = first_desk(alloc, setup.zones())?;
+    let life = Life::new(alloc, setup, &mut desk)?;
+    Ok((life, desk))
+}
+
+/// The notes of a cycle begin over the cells of a desk. Returns whether the same notes play as before.
+fn begin_notes<'t, J: Job>(
+    life: &mut Life<'t>,
+    alloc: Global,
+    cycle: u32,
+    voices: &mut Vec<Voice<'t>>,
+    desk: &mut Desk<J>,
+) -> Result<bool, OutOfMemory>
+    requires stands { (m : Moment) × StandsFor (composition_of life.old.setup.now) life.old voices.old.items
+        (cells desk.old) m }
+    requires words { word_count life.old.setup.now.layout ≡ word_count (areas desk.old) }
+    ensures begun { OnOk result ((m : Moment) → StandsFor
+        (composition_of life.old.setup.now) life.old voices.old.items (cells desk.old) m
+        → StandsFor (composition_of life.old.setup.now) life.new voices.new.items (cells desk.new)
+        (begins (composition_of life.old.setup.now) cycle m)) }
+    ensures same { IfOk result (λ stay. stay ≡ true → voices.new.items ≡ voices.old.items) }
+    ensures setup { life.new.setup.now ≡ life.old.setup.now }
+    ensures areas { areas desk.new ≡ areas desk.old }
+{
+    life.begin_cycle(alloc, cycle, voices, desk)
+}
+
 /// A desk whose cells are all 0.
-fn first_desk<'t>(alloc: Global, layout: &Layout) -> Result<Desk<Voice<'t>>, OutOfMemory>
+fn first_desk<J: Job>(alloc: Global, layout: &Layout) -> Result<Desk<J>, OutOfMemory>
     ensures areas { IfOk result (λ d. areas d ≡ layout.now) }
     ensures cells { IfOk result (λ d. cells d ≡ replicate (word_count layout.now) (pos 0)) }
 {

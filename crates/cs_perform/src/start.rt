@@ -2,27 +2,35 @@
 ghost use Rattle.std.specs.Prelude.{IfOk};
 ghost use Rattle.cs_perform.specs.inner.Stands.{IsStart};
 
-use crate::order::Performance;
+use crate::order::PerformanceOrder;
 use crate::recording::Recording;
 use crate::stand::Stand;
 use cs_base::OutOfMemory;
+use cs_edge::Gate;
+use cs_piece::Setup;
+use std::alloc::Global;
 
 /// All that is made before the sink is begun: what is kept from cycle to cycle, at the opening, and a recording of no
 /// cycle.
 #[derive(Drop)]
-pub(crate) struct PerformanceStart<'t> {
-    pub stand: Stand<'t>,
+pub(crate) struct PerformanceStart<'t, G: Gate> {
+    pub stand: Stand<'t, G>,
     pub recording: Recording,
 }
 
-impl<'t> PerformanceStart<'t> {
+impl<'t, G: Gate> PerformanceStart<'t, G> {
     /// The start of a piece.
-    pub fn new(performance: &Performance<'t>) -> Result<PerformanceStart<'t>, OutOfMemory>
-        ensures { IfOk result (IsStart performance.now.setup.now performance.now.order) }
+    pub fn new(
+        alloc: Global,
+        setup: &'t Setup,
+        order: PerformanceOrder,
+        gate: &'t G,
+    ) -> Result<PerformanceStart<'t, G>, OutOfMemory>
+        ensures { IfOk result (IsStart setup.now order) }
     {
-        let head = &performance.setup.orchestra().head;
-        let recording = Recording::new(performance.alloc, head, performance.order.width)?;
-        let stand = Stand::new(performance.alloc, performance.setup)?;
+        let head = &setup.orchestra().head;
+        let recording = Recording::new(alloc, head, order.width)?;
+        let stand = Stand::new(alloc, setup, gate)?;
         Ok(PerformanceStart { stand, recording })
     }
 }

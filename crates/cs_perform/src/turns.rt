@@ -2,25 +2,28 @@
 ghost use Rattle.std.specs.Prelude.{◌≡◌, ◌++◌, OnOk};
 ghost use Rattle.cs_piece_meaning.specs.Moments.{Moment};
 ghost use Rattle.cs_perform.specs.Performances.{if_told};
-ghost use Rattle.cs_perform.specs.inner.Stands.{IsAt, IsReady};
+ghost use Rattle.cs_perform.specs.inner.Stands.{IsAt};
 ghost use Rattle.cs_piece.specs.Setups.{composition_of};
 ghost use Rattle.cs_turns.specs.Turns.{line_of, turns_in};
 
 use crate::order::{Performance, TurnLines};
 use crate::stand::Stand;
 use cs_base::OutOfMemory;
+use cs_desk::feet_of;
+use cs_edge::Gate;
 use cs_turns::{add_turns, layouts_have_the_stock, turns_are_levels};
 
 /// Adds the line of a cycle whose notes have begun, where it is told.
-pub(crate) fn tell_turns(
+pub(crate) fn tell_turns<G: Gate>(
     performance: &Performance<'_>,
     cycle: u32,
-    stand: &Stand<'_>,
+    stand: &mut Stand<'_, G>,
     turns: &mut Vec<u8>,
 ) -> Result<(), OutOfMemory>
-    requires at { (m : Moment) × IsAt performance.now.setup.now stand.now m }
-    requires ready { IsReady stand.now }
-    ensures { OnOk result ((m : Moment) → IsAt performance.now.setup.now stand.now m
+    requires { (m : Moment) × IsAt performance.now.setup.now stand.old m }
+    ensures at { OnOk result ((m : Moment) → IsAt performance.now.setup.now stand.old m
+        → IsAt performance.now.setup.now stand.new m) }
+    ensures told { OnOk result ((m : Moment) → IsAt performance.now.setup.now stand.old m
         → turns.new.items ≡ turns.old.items ++ if_told performance.now.order.turns
         (line_of cycle (turns_in (composition_of performance.now.setup.now) m.active))) }
 {
@@ -30,19 +33,23 @@ pub(crate) fn tell_turns(
     }
 }
 
-fn add_line(
+fn add_line<G: Gate>(
     performance: &Performance<'_>,
     cycle: u32,
-    stand: &Stand<'_>,
+    stand: &mut Stand<'_, G>,
     turns: &mut Vec<u8>,
 ) -> Result<(), OutOfMemory>
-    requires { IsReady stand.now }
-    ensures { OnOk result ((m : Moment) → IsAt performance.now.setup.now stand.now m
+    requires { (m : Moment) × IsAt performance.now.setup.now stand.old m }
+    ensures at { OnOk result ((m : Moment) → IsAt performance.now.setup.now stand.old m
+        → IsAt performance.now.setup.now stand.new m) }
+    ensures told { OnOk result ((m : Moment) → IsAt performance.now.setup.now stand.old m
         → turns.new.items ≡ turns.old.items
         ++ line_of cycle (turns_in (composition_of performance.now.setup.now) m.active)) }
 {
     performance.setup.facts();
     layouts_have_the_stock();
     turns_are_levels();
-    add_turns(performance.alloc, turns, cycle, &stand.course.graph)
+    let feet = feet_of(performance.alloc, &stand.voices)?;
+    stand.turns.follow(performance.alloc, feet)?;
+    add_turns(performance.alloc, turns, cycle, &stand.turns.graph)
 }

@@ -1,7 +1,7 @@
 // The bytes of the sound file, where it is written.
 ghost use Rattle.std.specs.Prelude.{◌≡◌, ℕ, List, ◌++◌, OnOk, OnErr};
-ghost use Rattle.cs_edge.specs.Told.{HasCause, IsFront};
-ghost use Rattle.cs_edge.specs.Moves.{WroteMore, Wrote, Stopped};
+ghost use Rattle.cs_edge.specs.Told.{HasCause};
+ghost use Rattle.cs_edge.specs.Moves.{WroteMore, WrotePart, Wrote, Stopped};
 ghost use Rattle.cs_perform.specs.Hearing.{IfWritten};
 ghost use Rattle.cs_perform.specs.declared.order.Output.TheVariants.{SoundFile};
 ghost use Rattle.cs_perform.specs.inner.Ends.{Finishes, Stops, padding};
@@ -43,8 +43,7 @@ fn begin_file<K: Sink>(wav: &mut K, name: &str, first: &[u8]) -> Result<(), Fail
 /// Writes more bytes, where the sink is written.
 pub(crate) fn put<K: Sink>(output: Output, wav: &mut K, bytes: &[u8]) -> Result<(), Failed>
     ensures written { OnOk result (IfWritten K.tells output wav.old wav.new (λ b n. WroteMore b n bytes.now)) }
-    ensures stopped { OnErr result ((front : List ℕ) × IsFront front bytes.now
-        × IfWritten K.tells output wav.old wav.new (λ b n. WroteMore b n front)) }
+    ensures part { OnErr result (IfWritten K.tells output wav.old wav.new (λ b n. WrotePart b n bytes.now)) }
     ensures told { OnErr result (output ≡ SoundFile) }
     ensures cause { HasCause (K.tells wav.old).faults (K.tells wav.new).faults result }
 {

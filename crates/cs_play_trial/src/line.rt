@@ -47,9 +47,13 @@ pub enum CaseLine<'a> {
     Twice,
     /// Two notes of a cycle meet, of those from this one on, or the line says that they didn't.
     Meet(u32),
-    /// Two notes meet in ten cycles, of those from this one on; the line says in how many they did, and how many calls
-    /// there were.
-    Gather(u32),
+    /// Two notes meet in so many cycles, of those from this one on; the line says in how many they did, and how many
+    /// calls there were.
+    Gather { from: u32, meetings: u32 },
+    /// So many notes are at the gate at once, or as many as there are processors.
+    Crowd(u32),
+    /// The gate sums the squares of its calls' numbers, of so many notes a cycle.
+    Sum(u32),
     /// The gate counts its calls, of so many notes a cycle.
     Count(u32),
     /// A mirror with room for so many values is told the mix too.
@@ -90,7 +94,9 @@ fn line_of_word(line: &[u8]) -> CaseLine<'_> {
         b"report" => CaseLine::Show(Shown::Report),
         b"twice" => CaseLine::Twice,
         b"meet" => CaseLine::Meet(number_of(rest)),
-        b"gather" => CaseLine::Gather(number_of(rest)),
+        b"gather" => gather_of(rest),
+        b"crowd" => CaseLine::Crowd(number_of(rest)),
+        b"sum" => CaseLine::Sum(number_of(rest)),
         b"count" => CaseLine::Count(number_of(rest)),
         b"mirror" => CaseLine::Mirror(number_of(rest)),
         b"wide" => CaseLine::Wide,
@@ -105,6 +111,14 @@ fn comment_or_wrong(word: &[u8]) -> CaseLine<'_> {
     match word {
         [b'#', ..] => CaseLine::Nothing,
         _ => CaseLine::Wrong,
+    }
+}
+
+fn gather_of(rest: &[u8]) -> CaseLine<'_> {
+    let (from, meetings) = parted(rest);
+    CaseLine::Gather {
+        from: number_of(from),
+        meetings: number_of(meetings),
     }
 }
 

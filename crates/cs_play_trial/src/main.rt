@@ -29,7 +29,7 @@ use std::io::Write;
 use std::rt::Files;
 use std::sync::Wait;
 use std::thread::Threads;
-use std::{env, fs, io};
+use std::{env, fs, io, thread};
 
 fn main(rt: HostRuntime) -> io::Result<()> {
     let names: Vec<String> = env::args(&rt)?.skip(1).collect(rt.alloc())?;
@@ -83,7 +83,11 @@ fn follow<R: Files + Print + AllocGlobal + Threads + Wait + Sync>(
         CaseLine::Show(what) => desk.once.show(what),
         CaseLine::Twice => desk.once.twice = true,
         CaseLine::Meet(from) => desk.once.task = Task::Meeting(from),
-        CaseLine::Gather(from) => desk.once.task = Task::Gathering(from),
+        CaseLine::Gather { from, meetings } => {
+            desk.once.task = Task::Gathering { from, meetings };
+        }
+        CaseLine::Crowd(all) => desk.once.task = Task::Crowding(at_once(rt, all)),
+        CaseLine::Sum(notes) => desk.once.task = Task::Summing(notes),
         CaseLine::Count(notes) => desk.once.task = Task::Counting(notes),
         CaseLine::Mirror(room) => desk.once.mirror = room,
         CaseLine::Wide => desk.once.wide = true,
@@ -96,6 +100,14 @@ fn follow<R: Files + Print + AllocGlobal + Threads + Wait + Sync>(
         CaseLine::Wrong => say_wrong(rt, line)?,
     }
     Ok(())
+}
+
+// How many of so many notes can be at work at once: no more than there are processors, where the system says that.
+fn at_once<R: Threads>(rt: &R, notes: u32) -> u32 {
+    match thread::available_parallelism(rt) {
+        Ok(count) => u32::try_from(count.get()).unwrap_or(notes).min(notes),
+        Err(_) => notes,
+    }
 }
 
 // Adds the bytes of a file; no path adds nothing.

@@ -78,13 +78,22 @@ fn add_gate(out: &mut String, task: Task, gate: &CaseGate) -> Result<(), AllocEr
     match task {
         Task::Nothing => Ok(()),
         Task::Meeting(_) => out.push_str(if gate.has_met() { "; met" } else { "; not met" }),
-        Task::Gathering(_) => {
+        Task::Crowding(_) => out.push_str(if gate.has_met() {
+            "; as many at once as workers"
+        } else {
+            "; fewer at once than workers"
+        }),
+        Task::Gathering { .. } => {
             let (cycles, calls) = gate.gathered();
             out.push_str("; met in ")?;
             add_number(out, cycles)?;
             out.push_str(" cycles, ")?;
             add_number(out, calls)?;
             out.push_str(" calls")
+        }
+        Task::Summing(_) => {
+            out.push_str("; squares of the calls' numbers: ")?;
+            add_number(out, gate.summed())
         }
         Task::Counting(_) => match gate.counted() {
             Some(calls) => {

@@ -13,7 +13,7 @@ use crate::loaded::Loaded;
 use cs_base::MOST_NOTES;
 use cs_board::{Board, BoardSeat};
 use cs_cells::{Bank, Footprint, Job, Layout};
-use cs_desk::Desk;
+use cs_desk::{Desk, feet_of};
 use cs_graph::Graph;
 use std::alloc::{AllocError, Global};
 use std::sync::Arc;
@@ -98,7 +98,8 @@ pub fn graph_of<J: Job>(alloc: Global, layout: &Layout, jobs: &[J]) -> Option<Gr
     if !are_orderly(jobs, layout.len()) || jobs.len() > MOST_NOTES {
         return None;
     }
-    Graph::of_jobs(alloc, jobs).ok()
+    let feet = feet_of(alloc, jobs).ok()?;
+    Graph::of_feet(alloc, &feet).ok()
 }
 
 fn are_orderly<J: Job>(jobs: &[J], areas: u32) -> bool

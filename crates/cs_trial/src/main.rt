@@ -4,8 +4,8 @@
 //!
 //! In reading order: `covers`, `mini` (a note with registers and shared code), `parts` (what such notes are made of),
 //! `fixtures`, `loaded` and `boards` (a board for them), `players` (one seat or two that play it), `orders` (small
-//! graphs by every order), `tries` (as many notes as may be), `rows` (small cycles call by call), `single` (one cycle by
-//! a crew of its own).
+//! graphs by every order), `tries` (as many notes as may be), `rows` (small cycles call by call), `gates` and `flagged`
+//! (what workers do), `single` (one cycle by a crew of its own).
 #![tactic(auto)]
 
 ghost use Rattle.std.specs.Prelude.{◌≤◌};
@@ -13,6 +13,8 @@ ghost use Rattle.std.specs.Prelude.{◌≤◌};
 mod boards;
 mod covers;
 mod fixtures;
+mod flagged;
+mod gates;
 mod loaded;
 mod mini;
 mod orders;
@@ -24,7 +26,7 @@ mod tries;
 
 use crate::orders::{SMALL, serial_graphs};
 use crate::rows::{edges_of, one_before_one, one_before_two, three_on_one_cell};
-use crate::single::in_one_cycle;
+use crate::single::{calls_before, four_at_once, in_one_cycle};
 use crate::tries::{MOST_TRIES, each_its_own, in_a_row, on_their_own};
 use cs_base::MOST_NOTES;
 use std::io;
@@ -49,7 +51,21 @@ fn main(rt: HostRuntime) -> io::Result<()> {
     single_cycle(&rt, 2)?;
     single_cycle(&rt, 4)?;
     single_cycle(&rt, 32)?;
-    println!(rt; "(the first word, the last, how many notes the receipt has)")
+    println!(rt; "(the first word, the last, how many notes the receipt has)")?;
+    at_the_gate(&rt)
+}
+
+// What a gate sees of a cycle.
+fn at_the_gate<R: Print + AllocGlobal + Threads + Wait + Sync>(rt: &R) -> io::Result<()> {
+    let four = four_at_once(rt, rt.alloc());
+    println!(rt; "4 notes with 4 workers at once: {four:?}")?;
+    let (one, two) = (
+        calls_before(rt, rt.alloc(), 1),
+        calls_before(rt, rt.alloc(), 2),
+    );
+    println!(rt;
+        "calls of the gate for 2 notes, and those after the note ran: {one:?} by 1, {two:?} by 2"
+    )
 }
 
 // Small cycles, what each call brought its seat to, and the word at the end; and the edges of notes in a row.

@@ -6,6 +6,8 @@ use Rattle.std.specs.List.{list_all}
 use Rattle.std.proofs.lemmas.Bool.{and_parts}
 use Rattle.std.proofs.lemmas.Bool.Decides.{nat_tests}
 use Rattle.std.proofs.lemmas.List.{length-map}
+use Rattle.std.proofs.lemmas.Option.{slice_get-map}
+use Rattle.std.specs.Option.{option_map}
 use Rattle.cs_base.proofs.Tests.{by_test}
 use Rattle.cs_ir.proofs.Places.{place_end, place_later, place_next, step_long, steps_long}
 use Rattle.cs_ir.proofs.Twice.{ops_twice, whole_ops}
@@ -59,21 +61,11 @@ got_before (x ∷ xs) ys (suc n) low = got_before xs ys n (omega (arith, low))
 -- one of a list, after each was changed
 got_mapped : {A B : Type 0} (f : A → B) (xs : List A) (n : ℕ) (x : A) → slice_get xs n ≡ Some x
     → slice_get (map f xs) n ≡ Some (f x)
-got_mapped f [] n x is = absurd (cc)
-got_mapped f (y ∷ xs) zero x is = let same : y ≡ x = cc in ap (λ z. Some (f z)) same
-got_mapped f (y ∷ xs) (suc n) x is = got_mapped f xs n x is
+got_mapped f xs n x is = slice_get-map f xs n ∙ ap (option_map f) is
 
-got_there : {A : Type 0} (xs : List A) (n : ℕ) → n < length xs → (x : A) × (slice_get xs n ≡ Some x)
-got_there [] n low = absurd (omega arith)
-got_there (x ∷ xs) zero low = (x, refl)
-got_there (x ∷ xs) (suc n) low = got_there xs n (omega (arith, low))
-
-mapped_both : {A B : Type 0} (f : A → B) (xs ys : List A) (k n : ℕ) → n < length ys
-    → ((i : ℕ) → i < length ys → slice_get xs (k + i) ≡ slice_get ys i)
+mapped_both : {A B : Type 0} (f : A → B) (xs ys : List A) (k n : ℕ) → slice_get xs (k + n) ≡ slice_get ys n
     → slice_get (map f xs) (k + n) ≡ slice_get (map f ys) n
-mapped_both f xs ys k n low same =
-    let y = got_there ys n low in
-    got_mapped f xs (k + n) y.0 (same n low ∙ y.1) ∙ sym (got_mapped f ys n y.0 y.1)
+mapped_both f xs ys k n same = slice_get-map f xs (k + n) ∙ ap (option_map f) same ∙ sym (slice_get-map f ys n)
 
 -- ---- what lies in a code where steps are done
 
@@ -145,13 +137,12 @@ module _ (rs : List (List Op)) where
         let high = room (step.Invoke c) is in
         let all : length (moved_ops w p (flat rs ss)) ≡ length (flat rs ss) = length-map (flat rs ss) (moved_op w p) in
         let on : p + q + n ≡ p + (q + n) = omega arith in
-        let as_long : length inner ≡ length ops = length-map ops (moved_op (window_of c) q) in
         ap (slice_get whole) on
         ∙ lie (q + n) (omega (arith, low, short, high, all))
-        ∙ mapped_both (moved_op w p) (flat rs ss) inner q n (omega (arith, low, short, as_long))
-        (λ i little. step_lies (λ to. place_of rs to ss) 0 ss at (step.Invoke c) i is (omega (arith, little, as_long))
+        ∙ mapped_both (moved_op w p) (flat rs ss) inner q n
+        (step_lies (λ to. place_of rs to ss) 0 ss at (step.Invoke c) n is (omega (arith, low, short))
         ∙ (let none : 0 + q ≡ q = omega arith in
-        ap (λ k. slice_get (moved_ops (window_of c) k ops) i) none))
+        ap (λ k. slice_get (moved_ops (window_of c) k ops) n) none))
         ∙ ap (λ l. slice_get l n) (ops_twice w (window_of c) p q ops)
 
 -- ---- where a step is behind another

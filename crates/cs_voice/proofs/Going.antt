@@ -1,6 +1,6 @@
 -- A code that is done from place to place, in a control cycle or as a note begins.
-use Rattle.std.proofs.Common.{◌≡◌, ℕ, ℤ, zero, suc, ◌+◌, ◌<◌, ◌≤◌, inl, inr, Bool, true, List, [], ◌∷◌, length}
-use Rattle.std.proofs.Common.{map, get_or, slice_get, Option, Some, None, refl, sym, ◌∙◌, ap, subst, arith}
+use Rattle.std.proofs.Common.{◌≡◌, ℕ, ℤ, ◌+◌, ◌<◌, ◌≤◌, inl, inr, Bool, true, List, length}
+use Rattle.std.proofs.Common.{map, slice_get, Option, Some, None, refl, sym, ◌∙◌, ap, subst, arith}
 use Rattle.cs_ir.specs.Cycles.{is_of_cycle}
 use Rattle.cs_ir.specs.Validity.{is_fine}
 use Rattle.cs_ir.specs.declared.ask.Ask.{Ask}
@@ -30,16 +30,6 @@ starts_not (act.Start o u) h s = absurd cc
 starts_not act.Seek h s = absurd cc
 starts_not act.Ask h s = absurd cc
 starts_not _ h s = absurd cc
-
-item_of : (ops : List Op) (n : ℕ) (op : Op) → slice_get ops n ≡ Some op → op ≡ get_or ops n op
-item_of [] n op e = absurd cc
-item_of (x ∷ ops) zero op e = cc
-item_of (x ∷ ops) (suc n) op e = item_of ops n op e
-
-low_of : (ops : List Op) (n : ℕ) (op : Op) → slice_get ops n ≡ Some op → n < length ops
-low_of [] n op e = absurd cc
-low_of (x ∷ ops) zero op e = omega arith
-low_of (x ∷ ops) (suc n) op e = let h = low_of ops n op e in omega (arith, h)
 
 -- ---- one op
 
@@ -75,22 +65,17 @@ module _ {R : Type 0} (get set : R → ℕ → Type 0) {r q : R} {n m : ℕ} (re
     (finding : Finding) (o : Outset) (place : ℕ) (now : State) (cells : ℕ → ℤ) (given : List Ask)
     (done : IsDoneTo (get r) (set r) n at finding o place now cells given)
     (op : Op) (is : slice_get o.ops place ≡ Some op) where
-  low : place < length o.ops
-  low = low_of o.ops place op is
-
   -- the op there can be done in a cycle, over what the bank was and over what it is
   step_first : (c : Context) → CanRun (get r) (set r) n at c o.ops o.first
       → CanStep (get r) (set r) n at c (length o.ops) place op now
   step_first c can = steps.can_step (get r) (set r) n at c o.ops now place op
-      (steps.can_go_on (get r) (set r) n at c o.ops o.first now can (done.cycle c can).state) low
-      (item_of o.ops place op is)
+      (steps.can_go_on (get r) (set r) n at c o.ops o.first now can (done.cycle c can).state) is
 
   step_now : (c : Context) → CanRun (get r) (set r) n at c o.ops o.first
       → CanStep (get q) (set q) m at c (length o.ops) place op now
   step_now c can = steps.can_step (get q) (set q) m at c o.ops now place op
       (steps.runs_again get set r q n m rest long at c o.ops now
-      (steps.can_go_on (get r) (set r) n at c o.ops o.first now can (done.cycle c can).state)) low
-      (item_of o.ops place op is)
+      (steps.can_go_on (get r) (set r) n at c o.ops o.first now can (done.cycle c can).state)) is
 
   -- and as one of a sheet that begins
   op_now : (f : Finds) (ms : List Bool) (code : Code) (s : Sheet) → finding ≡ Some (f, ms) → f.at ≡ at
@@ -129,8 +114,8 @@ module _ {R : Type 0} (get set : R → ℕ → Type 0) {r q : R} {n m : ℕ} (re
   pub done_jump : (to : ℕ) → place < to → GoesOn op.act (map (values now.regs) op.from) place to
       → IsDoneTo (get r) (set r) n at finding o to now cells given
   done_jump to later on = record {
-    cycle = λ c can. steps.came_on at.layout.now c o.ops o.first o.before place to op now now cells cells low
-        (item_of o.ops place op is) later (done.cycle c can)
+    cycle = λ c can. steps.came_on at.layout.now c o.ops o.first o.before place to op now now cells cells is later
+        (done.cycle c can)
         (steps.jump_step (get r) (set r) n at c now (length o.ops) place op (step_first c can) cells to on);
     passes = λ f ms code s found same eq can. passed.passed_jump s o.first o.before o.asked place to now cells given op
         (done.passes f ms code s found same eq can) (ap (λ xs. slice_get xs place) (can.same ∙ eq) ∙ is) later on;
@@ -141,8 +126,8 @@ module _ {R : Type 0} (get set : R → ℕ → Type 0) {r q : R} {n m : ℕ} (re
       → DoesOp (get q) (set q) m at op now cells new after
       → IsDoneTo (get r) (set r) n at finding o (place + 1) new after given
   done_act new after here does = record {
-    cycle = λ c can. steps.came_on at.layout.now c o.ops o.first o.before place (place + 1) op now new cells after low
-        (item_of o.ops place op is) (omega arith) (done.cycle c can)
+    cycle = λ c can. steps.came_on at.layout.now c o.ops o.first o.before place (place + 1) op now new cells after is
+        (omega arith) (done.cycle c can)
         (steps.does_step (get q) (set q) m at c now (length o.ops) place op (step_now c can) cells new after does);
     passes = λ f ms code s found same eq can. passed.passed_one s o.first o.before o.asked place now new cells after
         given given op can.begin.playable (done.passes f ms code s found same eq can)

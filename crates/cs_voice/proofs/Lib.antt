@@ -8,6 +8,7 @@ pub mod Sharing
 pub mod Stored
 pub mod Touching
 pub mod Began
+pub mod Blocks
 pub mod Ops
 pub mod Passed
 pub mod Going
@@ -20,7 +21,6 @@ pub mod Sums
 pub mod Bodies
 pub mod Cycled
 pub mod Made
-pub mod Passing
 pub mod Sheets
 pub mod Steps
 pub mod Voices

@@ -26,20 +26,20 @@ use Rattle.cs_voice_meaning.specs.Voices.{Sheet, IsPlayable, has_channel}
 use Rattle.cs_voice_meaning.proofs.Placed.{area_at}
 use Rattle.cs_machine.specs.States.{CanDo, MayTouch}
 use Rattle.cs_voice.specs.Passing.{IsOpOf}
-use Rattle.cs_voice.proofs.Running.{no_op}
 
 same_op : (x y : Op) → Some x ≡ Some y → x ≡ y
 same_op x y e = cc
 
 -- one of all
-all_at : (P : Op → Type 0) (ops : List Op) (n : ℕ) (op : Op) → AllByRecursion P ops → slice_get ops n ≡ Some op → P op
-all_at P [] n op h e = absurd (no_op n op e)
+pub all_at : (P : Op → Type 0) (ops : List Op) (n : ℕ) (op : Op) → AllByRecursion P ops → slice_get ops n ≡ Some op
+    → P op
+all_at P [] n op h e = absurd cc
 all_at P (x ∷ ops) zero op h e = subst P (same_op x op e) h.0
 all_at P (x ∷ ops) (suc n) op h e = all_at P ops n op h.1 e
 
-each_at : (f : Op → Bool) (ops : List Op) (n : ℕ) (op : Op) → list_all f ops ≡ true → slice_get ops n ≡ Some op
+pub each_at : (f : Op → Bool) (ops : List Op) (n : ℕ) (op : Op) → list_all f ops ≡ true → slice_get ops n ≡ Some op
     → f op ≡ true
-each_at f [] n op h e = absurd (no_op n op e)
+each_at f [] n op h e = absurd cc
 each_at f (x ∷ ops) zero op h e = let p =
     and_parts (f x) (list_all f ops) h in subst (λ y. f y ≡ true) (same_op x op e) p.0
 each_at f (x ∷ ops) (suc n) op h e = let p = and_parts (f x) (list_all f ops) h in each_at f ops n op p.1 e

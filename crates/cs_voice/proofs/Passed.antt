@@ -1,5 +1,5 @@
 -- The code that begins a note, op by op.
-use Rattle.std.proofs.Common.{◌≡◌, ℕ, ℤ, ◌+◌, ◌<◌, ◌≤◌, ◌⊎◌, inl, inr, Bool, true, false, not, ◌&&◌, List, [], ◌∷◌}
+use Rattle.std.proofs.Common.{◌≡◌, ℕ, ℤ, ◌+◌, ◌<◌, ◌≤◌, Bool, true, not, ◌&&◌, List, [], ◌∷◌}
 use Rattle.std.proofs.Common.{◌++◌, length, map, slice_get, Option, Some, None, if◌then◌else◌, refl, sym, ◌∙◌, ap}
 use Rattle.std.proofs.Common.{subst, append_assoc, arith}
 use Rattle.std.specs.Option.{option_map}
@@ -13,15 +13,13 @@ use Rattle.cs_ir.specs.Machine.{Machine, acts, in_world}
 use Rattle.cs_ugen.specs.Units.{IsUnitOpcode}
 use Rattle.cs_ir.proofs.Shapes.{started_shape}
 use Rattle.cs_ir.specs.Validity.{finds, is_fine, takes_from}
-use Rattle.cs_ir.specs.Values.{holds}
-use Rattle.cs_ir.specs.Waves.{Wave, first_values, operand}
+use Rattle.cs_ir.specs.Waves.{first_values}
 use Rattle.cs_ir.specs.declared.ask.Ask.{Ask}
 use Rattle.cs_ir.specs.declared.op.Act.{Act}
 use Rattle.cs_ir.specs.declared.op.Act.TheVariants as act
 use Rattle.cs_ir.specs.declared.op.Code.{Code}
 use Rattle.cs_ir.specs.declared.op.Op.{Op}
 use Rattle.cs_ir.specs.declared.register.Counts.{Counts}
-use Rattle.cs_ir.specs.declared.register.Reg.{Reg}
 use Rattle.cs_voice.specs.Ready.{CanBeDone, DoesOp, IsReady, is_here}
 use Rattle.cs_machine.specs.Access.{AreSpaces, spaces_of}
 use Rattle.cs_cells.specs.Areas.{word_count}
@@ -43,10 +41,10 @@ use Rattle.cs_voice.specs.Starting.{Starts, cause_of}
 use Rattle.cs_voice.specs.declared.begin.StartRefusal.{StartRefusal}
 use Rattle.cs_voice.specs.declared.tables.Finds.{Finds}
 use Rattle.cs_voice.specs.inner.Begun.{Seeks}
-use Rattle.cs_voice.specs.inner.Coming.{IsPassed, IsUpTo}
+use Rattle.cs_voice.specs.inner.Coming.{IsPassed}
 use Rattle.cs_voice.specs.inner.Jumps.{GoesOn}
 use Rattle.cs_voice.proofs.Ops.{can_do, names_of, op_of, takes_of}
-use Rattle.cs_voice.proofs.Running.{begins, ends, jumps, one_more, refuses}
+use Rattle.cs_voice.proofs.Running.{begins, ends, goes_on, jumped, refuses}
 
 none_more : {A : Type 0} (xs : List A) → xs ++ [] ≡ xs
 none_more [] = refl
@@ -177,48 +175,23 @@ passed_none s first before asked state = record {
 }
 
 -- a jump
-jumped : (s : Sheet) (now : State) (cells : ℕ → ℤ) (next : ℕ) (more : List (List ℤ)) (t : Act) (into : Reg)
-    (ws : List Wave) (place to : ℕ) → GoesOn t ws place to
-    → (n : ℕ) × (machine_of now cells n more None ≡ acts (voice_world s.areas s.piece) t into ws
-    (machine_of now cells next more None)) × (((n ≡ next) × (to ≡ place + 1)) ⊎ (n ≡ to))
-jumped s now cells next more (act.Jump later) into ws place to g = (later, refl, inr (sym g))
-jumped s now cells next more (act.Unless later) into ws place to g = by (holds (operand 0 ws 0)) g
-  where
-    by : (b : Bool) → to ≡ (if b then place + 1 else later)
-        → (n : ℕ) × (machine_of now cells n more None ≡ record (machine_of now cells next more None)
-        { next = if b then next else later }) × (((n ≡ next) × (to ≡ place + 1)) ⊎ (n ≡ to))
-    by true h = (next, refl, inl (refl, h))
-    by false h = (later, refl, inr (sym h))
-jumped s now cells next more _ into ws place to g = absurd g
-
 pub passed_jump : (s : Sheet) (first : State) (before : ℕ → ℤ) (asked : List Ask) (place to : ℕ) (now : State)
     (cells : ℕ → ℤ) (asks : List Ask) (op : Op)
     → IsPassed s first before asked place now cells asks → slice_get s.init place ≡ Some op → place < to
     → GoesOn op.act (map (values now.regs) op.from) place to → IsPassed s first before asked to now cells asks
 passed_jump s first before asked place to now cells asks op u at later g =
-    let j = jumped s now cells u.next u.more op.act op.into (map (values now.regs) op.from) place to g in
+    let k = jumped s.areas s.piece now cells u.more op.act op.into (map (values now.regs) op.from) place to g u.next
+    u.up.next in
     record {
-      next = j.0;
+      next = k.next;
       more = u.more;
       asks = u.asks;
-      up = up_by j.0 j.1 j.2;
+      up = goes_on (voice_world s.areas s.piece) s.init (machine_of first before 0 [] None) place to op
+          (machine_of now cells u.next u.more None) (machine_of now cells k.next u.more None) u.up at refl k.machine
+          later k.below k.there;
       counted = u.counted;
       state = u.state;
     }
-  where
-    up_by : (n : ℕ) → machine_of now cells n u.more None ≡ acts (voice_world s.areas s.piece) op.act op.into
-        (map (values now.regs) op.from) (machine_of now cells u.next u.more None)
-        → (((n ≡ u.next) × (to ≡ place + 1)) ⊎ (n ≡ to))
-        → IsUpTo (voice_world s.areas s.piece) s.init (machine_of first before 0 [] None) to
-        (machine_of now cells n u.more None)
-    up_by n e (inl h) =
-        let below : n ≤ place + 1 = let q = h.0 in let r = u.up.next in omega arith in
-        subst (λ k. IsUpTo (voice_world s.areas s.piece) s.init (machine_of first before 0 [] None) k
-        (machine_of now cells n u.more None)) (sym h.1)
-        (one_more (voice_world s.areas s.piece) s.init (machine_of first before 0 [] None) place op
-        (machine_of now cells u.next u.more None) (machine_of now cells n u.more None) u.up at refl e below)
-    up_by n e (inr h) = jumps (voice_world s.areas s.piece) s.init (machine_of first before 0 [] None) place to op
-        (machine_of now cells u.next u.more None) (machine_of now cells n u.more None) u.up at refl e h later
 
 more_asked : (asked now new : List Ask) (some more : List (List ℤ)) → now ≡ asked ++ map ask_of some
     → new ≡ now ++ map ask_of more → new ≡ asked ++ map ask_of (some ++ more)
@@ -235,9 +208,10 @@ passed_one s first before asked place now new cells after asks asks_new op p u a
   next = u.next;
   more = u.more ++ d.more;
   asks = more_asked asked asks asks_new u.more d.more u.asks d.asks;
-  up = one_more (voice_world s.areas s.piece) s.init (machine_of first before 0 [] None) place op
+  up = goes_on (voice_world s.areas s.piece) s.init (machine_of first before 0 [] None) place (place + 1) op
       (machine_of now cells u.next u.more None) (machine_of new after u.next (u.more ++ d.more) None)
-      u.up at refl (d.machine u.next u.more) (let r = u.up.next in omega arith);
+      u.up at refl (d.machine u.next u.more) (omega arith) (let r = u.up.next in omega arith)
+      (λ far. absurd (omega (arith, far)));
   counted = (d.state.in_piece p).registers ∙ u.counted;
   state = subst (λ c. IsStateOf s c new) u.counted d.state;
 }

@@ -1,142 +1,133 @@
 -- A code that is run op by op, past those that jumps leave out.
-use Rattle.std.proofs.Common.{◌≡◌, ℕ, zero, suc, ◌+◌, ◌<◌, ◌≤◌, Bool, true, false, not, ◌&&◌, List, [], ◌∷◌, length}
-use Rattle.std.proofs.Common.{drop, map, nat_le, slice_get, Some, if◌then◌else◌, refl, sym, ◌∙◌, ap, arith}
+use Rattle.std.proofs.Common.{◌≡◌, ℕ, ℤ, zero, suc, ◌+◌, ◌-◌, ◌<◌, ◌≤◌, Bool, true, false, not, ◌&&◌, List, [], ◌∷◌}
+use Rattle.std.proofs.Common.{length, drop, map, nat_le, slice_get, Some, None, if◌then◌else◌, refl, sym, ◌∙◌, ap}
+use Rattle.std.proofs.Common.{arith}
 use Rattle.std.proofs.lemmas.Bool.Decides.{nat_tests}
-use Rattle.cs_ir.specs.Machine.{Machine, acts, is_done, run}
+use Rattle.std.proofs.lemmas.List.{drop-drop, drop_all, drop_more}
+use Rattle.std.proofs.lemmas.Option.{get_or_from_slice_get, slice_get_within}
+use Rattle.cs_ir.specs.Machine.{Machine, acts, run, step}
+use Rattle.cs_ir.specs.Values.{holds}
+use Rattle.cs_ir.specs.Waves.{Wave, operand}
 use Rattle.cs_ir.specs.Worlds.{World}
+use Rattle.cs_ir.specs.declared.op.Act.{Act}
+use Rattle.cs_ir.specs.declared.op.Act.TheVariants as act
 use Rattle.cs_ir.specs.declared.op.Op.{Op}
+use Rattle.cs_ir.specs.declared.register.Reg.{Reg}
+use Rattle.cs_cells.specs.declared.footprint.Area.{Area}
+use Rattle.cs_meaning.specs.Pieces.{Piece}
+use Rattle.cs_machine.specs.States.{machine_of}
+use Rattle.cs_machine.specs.declared.state.State.{State}
+use Rattle.cs_voice_meaning.specs.VoiceWorld.{voice_world}
+use Rattle.cs_voice.specs.Cycles.{HasMoved}
 use Rattle.cs_voice.specs.inner.Coming.{IsUpTo}
-
-none_left : (ops : List Op) (n : ℕ) → length ops ≤ n → drop n ops ≡ []
-none_left [] zero h = refl
-none_left [] (suc n) h = refl
-none_left (x ∷ ops) zero h = absurd (omega arith)
-none_left (x ∷ ops) (suc n) h = none_left ops n (omega arith)
-
-pub no_op : (n : ℕ) (op : Op) → slice_get [] n ≡ Some op → ⊥
-no_op n op e = cc
+use Rattle.cs_voice.specs.inner.Jumps.{GoesOn}
 
 -- the ops from the place of one of them on
 from_op : (ops : List Op) (n : ℕ) (op : Op) → slice_get ops n ≡ Some op → drop n ops ≡ op ∷ drop (n + 1) ops
-from_op [] n op e = absurd (no_op n op e)
-from_op (x ∷ ops) zero op e = let same : x ≡ op = cc in ap (λ y. y ∷ ops) same
-from_op (x ∷ ops) (suc n) op e = let more : suc (n + 1) ≡ suc n + 1 =
-    omega arith in from_op ops n op e ∙ ap (λ k. op ∷ drop k (x ∷ ops)) more
-
-further_on : (ops : List Op) (n k : ℕ) → drop k (drop n ops) ≡ drop (n + k) ops
-further_on ops zero k = let e : k ≡ zero + k = omega arith in ap (λ j. drop j ops) e
-further_on [] (suc n) zero = let e : suc n ≡ suc n + zero = omega arith in ap (λ j. drop j []) e
-further_on [] (suc n) (suc k) = sym (none_left [] (suc n + suc k) (omega arith))
-further_on (x ∷ ops) (suc n) k = let e : suc (n + k) ≡ suc n + k =
-    omega arith in further_on ops n k ∙ ap (λ j. drop j (x ∷ ops)) e
-
-if_true : {A : Type 0} (b : Bool) (x y : A) → b ≡ true → (if b then x else y) ≡ x
-if_true true x y e = refl
-if_true false x y e = absurd cc
-
-if_false : {A : Type 0} (b : Bool) (x y : A) → b ≡ false → (if b then x else y) ≡ y
-if_false true x y e = absurd cc
-if_false false x y e = refl
-
-done_if : (next place : ℕ) (refused : Bool) → next ≤ place → refused ≡ false → (nat_le next place && not refused) ≡ true
-done_if next place true h e = absurd cc
-done_if next place false h e = past (nat_le next place) (grind (arith, nat_tests))
-  where
-    past : (b : Bool) → b ≡ true → (b && true) ≡ true
-    past true f = refl
-    past false f = absurd cc
-
-left_if : (next place : ℕ) (refused : Bool) → place < next → (nat_le next place && not refused) ≡ false
-left_if next place refused h = past (nat_le next place) (grind (arith, nat_tests))
-  where
-    past : (b : Bool) → b ≡ false → (b && not refused) ≡ false
-    past true f = absurd cc
-    past false f = refl
-
-stopped_if : (b refused : Bool) → refused ≡ true → (b && not refused) ≡ false
-stopped_if true true e = refl
-stopped_if false true e = refl
-stopped_if b false e = absurd cc
+from_op ops n op e =
+    drop_more ops n op (slice_get_within ops n op e)
+    ∙ ap (λ x. x ∷ drop (n + 1) ops) (get_or_from_slice_get ops n op op e)
 
 module _ {W : Type 0} (o : World W) where
-  -- ops that a jump goes past, and those after a refusal, do nothing
-  left_out : (ops : List Op) (place k : ℕ) (m : Machine W) → m.next ≡ place + k
+  skipped : (place : ℕ) (op : Op) (m : Machine W) → place < m.next → step o place op m ≡ m
+  skipped place op m far =
+      let e : nat_le m.next place ≡ false = grind (arith, nat_tests) in
+      ap (λ b. if b && not (o.refused m.world) then acts o op.act op.into (map m.regs op.from) m else m) e
+
+  -- ops that a jump goes past do nothing
+  left_out : (k place : ℕ) (ops : List Op) (m : Machine W) → (0 < k → m.next ≡ place + k)
       → run o place ops m ≡ run o (place + k) (drop k ops) m
-  left_out [] place zero m e = refl
-  left_out [] place (suc k) m e = refl
-  left_out (x ∷ ops) place zero m e = let here : place ≡ place + zero =
-      omega arith in ap (λ p. run o p (x ∷ ops) m) here
-  left_out (x ∷ ops) place (suc k) m e =
-      let before : place < m.next = omega arith in
-      let further : m.next ≡ (place + 1) + k = omega arith in
-      let there : (place + 1) + k ≡ place + suc k = omega arith in
-      ap (run o (place + 1) ops)
-      (if_false (is_done o place m) (acts o x.act x.into (map m.regs x.from) m) m
-      (left_if m.next place (o.refused m.world) before))
-      ∙ left_out ops (place + 1) k m further
+  left_out zero place ops m h = ap (λ p. run o p ops m) (let here : place ≡ place + 0 = omega arith in here)
+  left_out (suc k) place [] m h = refl
+  left_out (suc k) place (x ∷ ops) m h =
+      let next : m.next ≡ place + suc k = h (omega arith) in
+      let before : place < m.next = omega (arith, next) in
+      let there : place + 1 + k ≡ place + suc k = omega arith in
+      ap (run o (place + 1) ops) (skipped place x m before)
+      ∙ left_out k (place + 1) ops m (λ some. let e : m.next ≡ place + 1 + k = omega (arith, next) in e)
       ∙ ap (λ p. run o p (drop k ops) m) there
 
+  past : (ops : List Op) (place to : ℕ) (m : Machine W) → place ≤ to → (place < to → m.next ≡ to)
+      → run o place (drop place ops) m ≡ run o to (drop to ops) m
+  past ops place to m later there =
+      let k : ℕ = to - place in
+      let sum : place + k ≡ to = omega (arith, later) in
+      left_out k place (drop place ops) m (λ some. there (omega (arith, some, sum)) ∙ sym sum)
+      ∙ ap (λ l. run o (place + k) l m) (drop-drop k place ops)
+      ∙ ap (λ p. run o p (drop p ops) m) sum
+
+  -- nor do those after a refusal
   stops : (ops : List Op) (place : ℕ) (m : Machine W) → o.refused m.world ≡ true → run o place ops m ≡ m
   stops [] place m e = refl
   stops (x ∷ ops) place m e =
+      let n : Machine W = acts o x.act x.into (map m.regs x.from) m in
       ap (run o (place + 1) ops)
-      (if_false (is_done o place m) (acts o x.act x.into (map m.regs x.from) m) m
-      (stopped_if (nat_le m.next place) (o.refused m.world) e))
+      (ap (λ b. if nat_le m.next place && not b then n else m) e
+      ∙ ap (λ b. if b then n else m) (never (nat_le m.next place)))
       ∙ stops ops (place + 1) m e
+    where
+      never : (b : Bool) → (b && false) ≡ false
+      never true = refl
+      never false = refl
+
+  -- an op that isn't passed over is done, where nothing was refused
+  done_here : (place : ℕ) (op : Op) (m : Machine W) → m.next ≤ place → o.refused m.world ≡ false
+      → step o place op m ≡ acts o op.act op.into (map m.regs op.from) m
+  done_here place op m near goes =
+      let e : nat_le m.next place ≡ true = grind (arith, nat_tests) in
+      let n : Machine W = acts o op.act op.into (map m.regs op.from) m in
+      ap (λ b. if b && not (o.refused m.world) then n else m) e ∙ ap (λ b. if not b then n else m) goes
 
   pub begins : (ops : List Op) (m : Machine W) → m.next ≡ 0 → IsUpTo o ops m 0 m
   begins ops m e = record { next = omega arith; same = refl }
 
   -- the run from the place of an op on: the op, and the run from the next place on
-  op_done : (ops : List Op) (first : Machine W) (place : ℕ) (op : Op) (m : Machine W) → IsUpTo o ops first place m
-      → slice_get ops place ≡ Some op
-      → o.refused m.world ≡ false
-      → run o 0 ops first ≡ run o (place + 1) (drop (place + 1) ops) (acts o op.act op.into (map m.regs op.from) m)
-  op_done ops first place op m u at goes =
+  op_done : (ops : List Op) (first : Machine W) (place : ℕ) (op : Op) (m n : Machine W) → IsUpTo o ops first place m
+      → slice_get ops place ≡ Some op → o.refused m.world ≡ false → n ≡ acts o op.act op.into (map m.regs op.from) m
+      → run o 0 ops first ≡ run o (place + 1) (drop (place + 1) ops) n
+  op_done ops first place op m n u at goes e =
       u.same ∙ ap (λ rest. run o place rest m) (from_op ops place op at)
-      ∙ ap (run o (place + 1) (drop (place + 1) ops))
-      (if_true (is_done o place m) (acts o op.act op.into (map m.regs op.from) m) m
-      (done_if m.next place (o.refused m.world) u.next goes))
+      ∙ ap (run o (place + 1) (drop (place + 1) ops)) (done_here place op m u.next goes ∙ sym e)
 
-  -- an op is done, and the next is at the next place
-  pub one_more : (ops : List Op) (first : Machine W) (place : ℕ) (op : Op) (m n : Machine W) → IsUpTo o ops first
-      place m
-      → slice_get ops place ≡ Some op
-      → o.refused m.world ≡ false → n ≡ acts o op.act op.into (map m.regs op.from) m → n.next ≤ place + 1
-      → IsUpTo o ops first (place + 1) n
-  one_more ops first place op m n u at goes e h = record {
-    next = h;
-    same = op_done ops first place op m u at goes ∙ ap (run o (place + 1) (drop (place + 1) ops)) (sym e);
-  }
-
-  -- or it is at a later place
-  pub jumps : (ops : List Op) (first : Machine W) (place to : ℕ) (op : Op) (m n : Machine W) → IsUpTo o ops first
-      place m
-      → slice_get ops place ≡ Some op
-      → o.refused m.world ≡ false → n ≡ acts o op.act op.into (map m.regs op.from) m → n.next ≡ to → place < to
+  -- an op is done, and the run goes on behind it or where it leads
+  pub goes_on : (ops : List Op) (first : Machine W) (place to : ℕ) (op : Op) (m n : Machine W)
+      → IsUpTo o ops first place m → slice_get ops place ≡ Some op → o.refused m.world ≡ false
+      → n ≡ acts o op.act op.into (map m.regs op.from) m → place < to → n.next ≤ to → (place + 1 < to → n.next ≡ to)
       → IsUpTo o ops first to n
-  jumps ops first place to op m n u at goes e there later = let k = gap place to later in record {
-    next = omega arith;
-    same = op_done ops first place op m u at goes ∙ ap (run o (place + 1) (drop (place + 1) ops)) (sym e)
-        ∙ left_out (drop (place + 1) ops) (place + 1) k.0 n (there ∙ k.1)
-        ∙ ap (λ rest. run o ((place + 1) + k.0) rest n) (further_on ops (place + 1) k.0)
-        ∙ ap (λ p. run o p (drop p ops) n) (sym k.1);
+  goes_on ops first place to op m n u at goes e later near there = record {
+    next = near;
+    same = op_done ops first place op m n u at goes e ∙ past ops (place + 1) to n (omega (arith, later)) there;
   }
-    where
-      gap : (p q : ℕ) → p < q → (k : ℕ) × (q ≡ (p + 1) + k)
-      gap p zero h = absurd (omega arith)
-      gap zero (suc q) h = (q, omega arith)
-      gap (suc p) (suc q) h = let r = gap p q (omega arith) in (r.0, let e = r.1 in omega arith)
 
   -- the end of the code; or a refusal before it
   pub ends : (ops : List Op) (first : Machine W) (place : ℕ) (m : Machine W) → IsUpTo o ops first place m
       → length ops ≤ place → run o 0 ops first ≡ m
-  ends ops first place m u h = u.same ∙ ap (λ rest. run o place rest m) (none_left ops place h)
+  ends ops first place m u h = u.same ∙ ap (λ rest. run o place rest m) (drop_all place ops h)
 
   pub refuses : (ops : List Op) (first : Machine W) (place : ℕ) (op : Op) (m n : Machine W) → IsUpTo o ops first place m
       → slice_get ops place ≡ Some op
       → o.refused m.world ≡ false → n ≡ acts o op.act op.into (map m.regs op.from) m → o.refused n.world ≡ true
       → run o 0 ops first ≡ n
   refuses ops first place op m n u at goes e stopped =
-      op_done ops first place op m u at goes ∙ ap (run o (place + 1) (drop (place + 1) ops)) (sym e)
-      ∙ stops (drop (place + 1) ops) (place + 1) n stopped
+      op_done ops first place op m n u at goes e ∙ stops (drop (place + 1) ops) (place + 1) n stopped
+
+-- a jump changes neither state nor cells
+module _ (areas : List Area) (piece : Piece) (s : State) (cells : ℕ → ℤ) (more : List (List ℤ)) where
+  pub jumped : (t : Act) (into : Reg) (ws : List Wave) (place to : ℕ) → GoesOn t ws place to → (next : ℕ) → next ≤ place
+      → HasMoved place to more (acts (voice_world areas piece) t into ws (machine_of s cells next more None)) s cells
+  jumped (act.Jump later) into ws place to g next near =
+      record { next = later; machine = refl; below = omega (arith, g); there = λ far. sym g }
+  jumped (act.Unless later) into ws place to g next near = by (holds (operand 0 ws 0)) g
+    where
+      by : (b : Bool) → to ≡ (if b then place + 1 else later)
+          → HasMoved place to more (record (machine_of s cells next more None) { next = if b then next else later }) s
+          cells
+      by true h = record {
+        next = next;
+        machine = refl;
+        below = omega (arith, near, h);
+        there =
+            λ far. absurd (omega (arith, far, h));
+      }
+      by false h = record { next = later; machine = refl; below = omega (arith, h); there = λ far. sym h }
+  jumped _ into ws place to g next near = absurd g

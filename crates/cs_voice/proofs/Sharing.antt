@@ -56,6 +56,10 @@ some_cell ksmps rate.Init n frames e = omega (arith, e)
 some_cell ksmps rate.Control n frames e = omega (arith, e)
 some_cell ksmps rate.Audio n frames e = omega (arith, e, frames)
 
+-- an area of sound has a cell a frame
+pub sound_cells : (ksmps : ℕ) (r : Rate) → is_audio r ≡ true → cell_count ksmps r ≡ ksmps
+sound_cells ksmps r sound = ap (cell_count ksmps) (is_sound r sound)
+
 -- a register of sound is its row, for a cycle
 pub row_is : (f : RegisterFile) (x : Reg) (row : List ℤ) → length row ≡ f.ksmps → row_wave row ≡ values f x
     → row_wave row ≡ held f.ksmps rate.Audio (values f x)

@@ -12,7 +12,7 @@ use Rattle.cs_machine.proofs.Frames.{at_or_past}
 use Rattle.cs_wav.specs.Wav.{TakesMore, added}
 use Rattle.cs_voice.specs.VoiceData.{VoiceData}
 use Rattle.cs_voice.specs.Mixing.{sum_at}
-use Rattle.cs_voice.specs.inner.Places.{IsSumOf}
+use Rattle.cs_row.specs.Heard.{IsSumOf}
 
 -- one voice more
 pub sum_more : (voices : List VoiceData) (v : VoiceData) (frame channel : ℕ)

@@ -1,5 +1,5 @@
 -- The tables that a note finds, by their numbers.
-use Rattle.std.proofs.Common.{◌≡◌, ℕ, ℤ, zero, suc, ◌+◌, ◌<◌, ◌≤◌, ◌==◌, Bool, true, false, not, ◌&&◌, List, [], ◌∷◌}
+use Rattle.std.proofs.Common.{◌≡◌, ℕ, ℤ, zero, suc, ◌+◌, ◌<◌, ◌==◌, Bool, true, false, not, ◌&&◌, List, [], ◌∷◌}
 use Rattle.std.proofs.Common.{length, drop, get_or, unsigned_abs, Option, Some, if◌then◌else◌, refl, sym, ◌∙◌, ap}
 use Rattle.std.proofs.Common.{arith}
 use Rattle.std.specs.Int.{is_negative}
@@ -52,15 +52,3 @@ found_later tables made number n t h long e here before =
     before ∙ ap (λ ts. find_table ts number) (from_place tables made n t m h (omega arith) e refl)
     ∙ not_this (not (is_negative number) && t.number == unsigned_abs number) (table_at t m)
     (find_table (tables_of (drop (n + 1) tables) (drop (n + 1) made)) number) here
-
-no_made : (tables : List PieceTable) → tables_of tables [] ≡ []
-no_made [] = refl
-no_made (t ∷ tables) = refl
-
-none_left : (tables : List PieceTable) (made : List Bool) (n : ℕ) → length tables ≤ n
-    → tables_of (drop n tables) (drop n made) ≡ []
-none_left [] made zero h = refl
-none_left [] made (suc n) h = refl
-none_left (x ∷ tables) made zero h = absurd (omega arith)
-none_left (x ∷ tables) [] (suc n) h = no_made (drop n tables)
-none_left (x ∷ tables) (y ∷ made) (suc n) h = none_left tables made n (omega arith)

@@ -53,9 +53,10 @@ pub record CanRun (can_get can_set : ℕ → Type 0) (count : ℕ) (at : NoteSet
 
 -- The machine after the op at a place is this state over these cells, and the next op that is done is at another place:
 -- the one behind, or the one that the op jumps to.
-pub record HasMoved (place result : ℕ) (m : Machine VoiceState) (new : State) (after : ℕ → ℤ) : Type 0 where
+pub record HasMoved (place result : ℕ) (asked : List (List ℤ)) (m : Machine VoiceState) (new : State) (after : ℕ → ℤ)
+    : Type 0 where
   pub next : ℕ
-  pub machine : machine_of new after next [] None ≡ m
+  pub machine : machine_of new after next asked None ≡ m
   pub below : next ≤ result
   pub there : place + 1 < result → next ≡ result
 
@@ -63,7 +64,7 @@ pub record HasMoved (place result : ℕ) (m : Machine VoiceState) (new : State) 
 pub record HasStepped (areas : List Area) (c : Context) (op : Op) (place result : ℕ) (old : State) (before : ℕ → ℤ)
     (new : State)
     (after : ℕ → ℤ) : Type 0 where
-  pub moved : (next : ℕ) → next ≤ place → HasMoved place result
+  pub moved : (next : ℕ) → next ≤ place → HasMoved place result []
       (acts (voice_world areas c.piece) op.act op.into (map (values old.regs) op.from)
       (machine_of old before next [] None)) new after
   pub state : IsStateIn areas c.piece c.kinds c.counts new

@@ -1,9 +1,11 @@
 -- What voices give together.
-use Rattle.std.specs.Prelude.{ℕ, ℤ, List, map}
+use Rattle.std.specs.Prelude.{ℕ, ℤ, ◌/◌, ◌%◌, List, map, refl}
 use Rattle.std.specs.List.{flat_map, range_with_len}
 use Rattle.cs_base.specs.Numbers.{total}
 use Rattle.cs_machine.specs.Outputs.{outs}
 use Rattle.cs_voice.specs.VoiceData.{VoiceData}
+use Rattle.cs_voice.specs.VoiceMeaning.{voice_job}
+use Rattle.cs_row.specs.HeardFrames.{KeepsShape}
 
 -- to a channel at a frame: the plain sum, without bounds
 abbrev pub sum_at : List VoiceData → ℕ → ℕ → ℤ
@@ -13,3 +15,14 @@ sum_at voices frame channel = total (map (λ (v : VoiceData). outs v.outs channe
 abbrev pub mixed : ℕ → ℕ → List VoiceData → List ℤ
 mixed ksmps nchnls voices =
     flat_map (λ frame. map (sum_at voices frame) (range_with_len 0 nchnls)) (range_with_len 0 ksmps)
+
+-- how many frames and channels a voice has
+abbrev pub shape : VoiceData → ℕ × ℕ
+shape v = (v.outs.ksmps, v.head.nchnls)
+
+-- what it gives at each place of a block
+abbrev pub gives : VoiceData → ℕ → ℤ
+gives v at = outs v.outs (at % v.head.nchnls) (at / v.head.nchnls)
+
+pub keeps_shape : KeepsShape voice_job shape
+keeps_shape v c = refl

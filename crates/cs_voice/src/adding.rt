@@ -6,6 +6,7 @@ ghost use Rattle.cs_machine.specs.Outputs.{outs};
 ghost use Rattle.cs_signal.specs.Operands.{argument};
 ghost use Rattle.cs_voice.specs.Mixing.{mixed, sum_at};
 ghost use Rattle.cs_voice.specs.VoiceData.{VoiceData};
+ghost use Rattle.cs_row.specs.Heard.{IsSumOf};
 ghost use Rattle.cs_voice.specs.inner.Places.{HasRoom, place};
 
 use crate::Voice;
@@ -22,7 +23,9 @@ pub fn mix(voices: &[Voice<'_>], frames: usize, channels: usize, out: &mut [i64]
     requires voices { All (λ (v : VoiceData). v.outs.ksmps ≡ frames) voices.now }
     requires few { length voices.now ≤ most_notes }
     requires long { length out.old ≡ frames * channels }
-    ensures { out.new ≡ mixed frames channels voices.now }
+    ensures sums { out.new ≡ mixed frames channels voices.now }
+    ensures small { (j c : ℕ) → j < frames → c < channels
+        → IsSumOf (length voices.now) (sum_at voices.now j c) }
 {
     for channel in 0..channels {
         mix_channel(voices, frames, channel, channels, out);
@@ -42,6 +45,7 @@ fn mix_channel(
     requires channel { channel < channels }
     requires long { length out.old ≡ frames * channels }
     ensures sums { (j : ℕ) → j < frames → place channels out.new j channel ≡ sum_at voices.now j channel }
+    ensures small { (j : ℕ) → j < frames → IsSumOf (length voices.now) (sum_at voices.now j channel) }
     ensures others { (j c : ℕ) → c < channels → c ≢ channel → place channels out.new j c ≡ place channels out.old j c }
     ensures long { length out.new ≡ length out.old }
 {
@@ -66,6 +70,7 @@ fn mix_part(
     requires channel { channel < channels }
     requires long { length out.old ≡ frames * channels }
     ensures sums { (j : ℕ) → from ≤ j → j < result → place channels out.new j channel ≡ sum_at voices.now j channel }
+    ensures small { (j : ℕ) → from ≤ j → j < result → IsSumOf (length voices.now) (sum_at voices.now j channel) }
     ensures before { (j : ℕ) → j < from → place channels out.new j channel ≡ place channels out.old j channel }
     ensures others { (j c : ℕ) → c < channels → c ≢ channel → place channels out.new j c ≡ place channels out.old j c }
     ensures long { length out.new ≡ length out.old }
@@ -89,6 +94,8 @@ fn sum_voices(voices: &[Voice<'_>], frames: usize, from: usize, channel: usize, 
     requires silent { (j : ℕ) → slice_index_or sums.old j (pos 0) ≡ pos 0 }
     ensures sums { (j : ℕ) → j < length sums.old → slice_index_or sums.new j (pos 0) ≡ sum_at voices.now (from + j)
         channel }
+    ensures small { (j : ℕ) → j < length sums.old
+        → IsSumOf (length voices.now) (sum_at voices.now (from + j) channel) }
     ensures long { length sums.new ≡ length sums.old }
 {
     for voice in voices {

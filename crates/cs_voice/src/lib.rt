@@ -23,6 +23,7 @@ mod asks;
 mod begin;
 mod body;
 mod cycle;
+mod heard;
 mod laws;
 mod note;
 mod pass;

@@ -3,10 +3,11 @@ ghost use Rattle.std.specs.Prelude.{◌≡◌, length, IfOk, IfSome, IfNone};
 ghost use Rattle.cs_ir.specs.Waves.{silence};
 ghost use Rattle.cs_machine.specs.Outputs.{outs};
 ghost use Rattle.cs_machine.specs.Rows.{row_wave};
+ghost use Rattle.cs_typed.specs.TypedTree.{header_of_head};
 ghost use Rattle.cs_voice.specs.Memory.{MakeVoice, data_of};
 
 use crate::body::VoiceBody;
-use cs_base::{Num, OutOfMemory};
+use cs_base::{Head, Num, OutOfMemory};
 use cs_cells::{Bank, Footprint, Job};
 use std::alloc::Global;
 use std::marker::Model;
@@ -65,6 +66,14 @@ impl<'p> Voice<'p> {
         ensures { result ≡ self.now.until }
     {
         self.body.until
+    }
+
+    /// The header of the piece in which it plays.
+    pub(crate) fn head(&self) -> &Head
+        ensures head { header_of_head result.now ≡ self.now.head }
+        ensures frames { self.now.outs.ksmps ≡ result.now.ksmps }
+    {
+        self.body.stage.head
     }
 
     /// Whether it was turned off: it ends with this cycle.

@@ -107,7 +107,7 @@ pub(crate) fn zak_mix<B: Bank>(
 {
     if let Some(res) = place(at, Space::Audio, reach, state.regs.first(number)) {
         let area = area_in(at.layout, res);
-        mix_row(bank, area, state.regs.row(x));
+        mix_row(bank, area, state.regs.row(x), &mut state.row);
     }
 }
 

@@ -1,8 +1,7 @@
 -- What cycles do to what is lent to a performance.
-use Rattle.std.specs.Prelude.{ℕ, ◌-◌, ◌≤◌, ℤ, List}
+use Rattle.std.specs.Prelude.{ℕ, ◌<◌, ◌≤◌, ℤ, List}
 use Rattle.cs_piece_meaning.specs.Heard.{frames_before, mix_in}
-use Rattle.cs_edge.specs.Told.{IsFront}
-use Rattle.cs_edge.specs.Moves.{WroteMore}
+use Rattle.cs_edge.specs.Moves.{WroteMore, WrotePart}
 use Rattle.cs_wav.specs.Wav.{samples_of}
 use Rattle.cs_perform.specs.Hearing.{IfWritten, Told}
 use Rattle.cs_perform.specs.Performances.{Lent, LentSight, Performed, Request}
@@ -13,35 +12,36 @@ abbrev pub samples_for : Request → List ℤ → List ℕ
 samples_for request frames = samples_of request.order.width request.head.dbfs frames
 
 module _ {T W C : Type 0} (see : LentSight T W C) (request : Request) where
-  -- A cycle was told and counted, and these bytes more were written, where the sink is written.
-  pub record PlaysCycle (n : ℕ) (before now : Lent T W C) (bytes : List ℕ) : Type 0 where
+  -- A cycle was told and counted, and its samples were written, where the sink is written.
+  pub record PlaysCycle (n : ℕ) (before now : Lent T W C) : Type 0 where
     pub told : Told see.stands before.taps now.taps (mix_in request.piece n)
     pub counted : CountsCycle see.counted request.piece n before.tally now.tally
-    pub written : IfWritten see.wav request.order.output before.wav now.wav (λ x y. WroteMore x y bytes)
+    pub written : IfWritten see.wav request.order.output before.wav now.wav
+        (λ x y. WroteMore x y (samples_for request (mix_in request.piece n)))
 
-  -- A cycle was told and counted, and a front of its samples was written.
+  -- A cycle was told and counted, and its samples were written in part, where the sink is written.
   pub record BreaksCycle (n : ℕ) (before now : Lent T W C) : Type 0 where
-    pub front : List ℕ
-    pub is_front : IsFront front (samples_for request (mix_in request.piece n))
-    pub played : PlaysCycle n before now front
+    pub told : Told see.stands before.taps now.taps (mix_in request.piece n)
+    pub counted : CountsCycle see.counted request.piece n before.tally now.tally
+    pub written : IfWritten see.wav request.order.output before.wav now.wav
+        (λ x y. WrotePart x y (samples_for request (mix_in request.piece n)))
 
-  -- The first `n` cycles were told and counted, and these bytes more were written, where the sink is written.
-  pub record PlayedOn (n : ℕ) (before now : Lent T W C) (bytes : List ℕ) : Type 0 where
+  -- The first `n` cycles were told and counted, and their samples were written, where the sink is written.
+  pub record PlayedOn (n : ℕ) (before now : Lent T W C) : Type 0 where
     pub performed : Performed see request.piece n before now
-    pub written : IfWritten see.wav request.order.output before.wav now.wav (λ x y. WroteMore x y bytes)
+    pub written : IfWritten see.wav request.order.output before.wav now.wav
+        (λ x y. WroteMore x y (samples_for request (frames_before request.piece n)))
 
-  -- Some number of the cycles were told and counted, and a front of their samples was written, with those of all cycles
-  -- but the last in it.
-  pub record PlayedInPart (before now : Lent T W C) : Type 0 where
-    pub cycles : ℕ
-    pub within : cycles ≤ request.piece.cycles
-    pub front : List ℕ
-    pub is_front : IsFront front (samples_for request (frames_before request.piece cycles))
-    pub kept : 1 ≤ cycles → IsFront (samples_for request (frames_before request.piece (cycles - 1))) front
-    pub played : PlayedOn cycles before now front
-
-  -- Some number of the cycles were told and counted, and exactly their samples were written.
+  -- Some number of the cycles were.
   pub record PausedOn (before now : Lent T W C) : Type 0 where
     pub cycles : ℕ
     pub within : cycles ≤ request.piece.cycles
-    pub played : PlayedOn cycles before now (samples_for request (frames_before request.piece cycles))
+    pub played : PlayedOn cycles before now
+
+  -- Some number of the cycles were, and then one more, of which the samples were written in part.
+  pub record BrokeOn (before now : Lent T W C) : Type 0 where
+    pub cycles : ℕ
+    pub within : cycles < request.piece.cycles
+    pub between : Lent T W C
+    pub played : PlayedOn cycles before between
+    pub broke : BreaksCycle cycles between now

@@ -1,11 +1,16 @@
 -- How all that is kept of a performance stands.
-use Rattle.std.specs.Prelude.{ℕ, ◌≡◌, [], ◌∷◌, List, length, map, true}
+use Rattle.std.specs.Prelude.{ℕ, ◌≡◌, ◌*◌, [], ◌∷◌, List, length, map, true}
 use Rattle.cs_piece_meaning.specs.Course.{opening}
 use Rattle.cs_piece_meaning.specs.Moments.{Composition, Moment}
+use Rattle.cs_cells.specs.declared.footprint.Footprint.{Footprint}
 use Rattle.cs_desk.specs.Desk.{areas, cells, HasRoom}
 use Rattle.cs_life.specs.Standing.{StandsFor}
 use Rattle.cs_piece.specs.Setups.{SetupData, composition_of}
+use Rattle.cs_row.specs.Cuts.{AreRowsOf}
+use Rattle.cs_row.specs.Kept.{HasMemory, cuts}
+use Rattle.cs_row.specs.Rows.{row_foot}
 use Rattle.cs_voice.specs.VoiceData.{VoiceData}
+use Rattle.cs_voice.specs.VoiceMeaning.{voice_job}
 use Rattle.cs_perform.specs.Counted.{AreHeardIn, CountsOn, Receipts}
 use Rattle.cs_perform.specs.declared.order.PerformanceOrder.{PerformanceOrder}
 use Rattle.cs_perform.specs.declared.stand.Stand.{Stand}
@@ -14,20 +19,34 @@ use Rattle.cs_desk.specs.Courses.{IsCourseOf}
 use Rattle.cs_perform.specs.inner.Crews.{HasPlace}
 use Rattle.cs_perform.specs.inner.Recordings.{IsRecordingOf}
 
--- What is kept stands at a moment of a setup's performance, and the course is one: that of the notes that play, unless
--- notes have begun or left since it was.
-pub record IsAt (s : SetupData) (stand : Stand) (m : Moment) : Type 0 where
-  pub setup : stand.life.setup.now ≡ s
-  pub stands : StandsFor (composition_of s) stand.life stand.voices.items (cells stand.desk) m
-  pub areas : areas stand.desk ≡ s.zones
-  pub course : IsCourseOf stand.course.feet.items stand.course
-  pub current : stand.current ≡ true
-      → map (λ (v : VoiceData). v.foot) stand.voices.items ≡ stand.course.feet.items
+-- voices are cut into rows of these lengths, of no more than `most`, and these are the footprints of the rows
+pub record IsInRows (voices : List VoiceData) (most : ℕ) (cuts : List ℕ) (feet : List Footprint) : Type 0 where
+  pub rows : List (List VoiceData)
+  pub of : AreRowsOf voice_job most voices rows
+  pub lengths : map length rows ≡ cuts
+  pub feet_are : map (row_foot voice_job) rows ≡ feet
 
--- the course is that of the notes that play, and the desk has room for their cycle
-pub record IsReady (stand : Stand) : Type 0 where
-  pub feet : map (λ (v : VoiceData). v.foot) stand.voices.items ≡ stand.course.feet.items
-  pub room : HasRoom stand.desk (length stand.voices.items) (length stand.course.graph.value.edges)
+module _ {G : Type 0} where
+  -- the rows are those of the notes that play, and the course is that of the rows
+  abbrev pub InRows : Stand G → Type 0
+  InRows stand = IsInRows stand.voices.items stand.rows.most (cuts stand.rows) stand.course.feet.items
+
+  -- and there is memory for the rows, and room for their cycle
+  pub record IsReady (stand : Stand G) : Type 0 where
+    pub rows : InRows stand
+    pub memory : HasMemory stand.rows
+    pub room : HasRoom stand.desk (length (cuts stand.rows)) (length stand.course.graph.value.edges)
+
+  -- What is kept stands at a moment of a setup's performance. The rows are those of the notes that play, and the course
+  -- is that of the rows, unless notes have begun or left since they were.
+  pub record IsAt (s : SetupData) (stand : Stand G) (m : Moment) : Type 0 where
+    pub setup : stand.life.setup.now ≡ s
+    pub stands : StandsFor (composition_of s) stand.life stand.voices.items (cells stand.desk) m
+    pub areas : areas stand.desk ≡ s.zones
+    pub block : stand.rows.block ≡ s.orchestra.head.ksmps * s.orchestra.head.nchnls
+    pub course : IsCourseOf stand.course.feet.items stand.course
+    pub turns : IsCourseOf stand.turns.feet.items stand.turns
+    pub current : stand.current ≡ true → InRows stand
 
 -- a cycle more was counted, by the voices that were heard in it
 pub record CountsCycle {C : Type 0} (has_counted : C → Receipts → Type 0) (c : Composition) (n : ℕ)
@@ -36,12 +55,13 @@ pub record CountsCycle {C : Type 0} (has_counted : C → Receipts → Type 0) (c
   pub heard : AreHeardIn c n voices
   pub counted : CountsOn has_counted before now (voices ∷ [])
 
--- what a performance begins with: all that is kept stands at the opening, and nothing is recorded
-pub record IsStart (s : SetupData) (order : PerformanceOrder) (start : PerformanceStart) : Type 0 where
-  pub at : IsAt s start.stand (opening (composition_of s))
-  pub recorded : IsRecordingOf s order 0 start.recording
+module _ {G : Type 0} where
+  -- what a performance begins with: all that is kept stands at the opening, and nothing is recorded
+  pub record IsStart (s : SetupData) (order : PerformanceOrder) (start : PerformanceStart G) : Type 0 where
+    pub at : IsAt s start.stand (opening (composition_of s))
+    pub recorded : IsRecordingOf s order 0 start.recording
 
--- what it may go on from: there is place for all that comes, and it has been begun
-pub record MayGoOn (s : SetupData) (order : PerformanceOrder) (room : ℕ) (start : PerformanceStart) : Type 0 where
-  pub place : HasPlace s order room
-  pub begun : IsStart s order start
+  -- what it may go on from: there is place for all that comes, and it has been begun
+  pub record MayGoOn (s : SetupData) (order : PerformanceOrder) (room : ℕ) (start : PerformanceStart G) : Type 0 where
+    pub place : HasPlace s order room
+    pub begun : IsStart s order start

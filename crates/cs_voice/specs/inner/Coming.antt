@@ -20,28 +20,23 @@ use Rattle.cs_voice.specs.Passing.{CanPass, IsStateOf, Passes}
 use Rattle.cs_voice.specs.declared.begin.StartRefusal.{StartRefusal}
 use Rattle.cs_voice.specs.declared.tables.Finds.{Finds}
 
--- the run of the ops from a place on
-abbrev pub run_from : {W : Type 0} → World W → ℕ → List Op → Machine W → Machine W
-run_from o place ops m = run o place (drop place ops) m
-
--- ---- in a control cycle
-
--- A code has been run up to a place: what is left of it does the rest.
-pub record HasComeTo (areas : List Area) (c : Context) (ops : List Op) (place : ℕ) (old : State) (before : ℕ → ℤ)
-    (s : State) (cells : ℕ → ℤ) : Type 0 where
-  pub next : ℕ
-  pub below : next ≤ place
-  pub left : run_from (voice_world areas c.piece) place ops (machine_of s cells next [] None) ≡ run
-      (voice_world areas c.piece) 0 ops (machine_of old before 0 [] None)
-  pub state : IsStateIn areas c.piece c.kinds c.counts s
-
--- ---- as a note begins
-
 module _ {W : Type 0} (o : World W) where
   -- Up to a place of a code a machine has become another, which goes on there, and comes to the same end.
   pub record IsUpTo (ops : List Op) (first : Machine W) (place : ℕ) (m : Machine W) : Type 0 where
     pub next : m.next ≤ place
-    pub same : run o 0 ops first ≡ run_from o place ops m
+    pub same : run o 0 ops first ≡ run o place (drop place ops) m
+
+-- ---- in a control cycle
+
+-- a code has been run up to a place
+pub record HasComeTo (areas : List Area) (c : Context) (ops : List Op) (place : ℕ) (old : State) (before : ℕ → ℤ)
+    (s : State) (cells : ℕ → ℤ) : Type 0 where
+  pub next : ℕ
+  pub up : IsUpTo (voice_world areas c.piece) ops (machine_of old before 0 [] None) place
+      (machine_of s cells next [] None)
+  pub state : IsStateIn areas c.piece c.kinds c.counts s
+
+-- ---- as a note begins
 
 -- the code of a sheet has been done up to a place
 pub record IsPassed (s : Sheet) (first : State) (before : ℕ → ℤ) (asked : List Ask) (place : ℕ) (now : State)

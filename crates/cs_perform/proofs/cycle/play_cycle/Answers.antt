@@ -1,4 +1,4 @@
-use Rattle.std.proofs.Common.{◌≡◌, ◌≤◌, ◌<◌, ◌*◌, ◌+◌, ◌^◌, ℕ, ℤ, Bool, List, [], length, refl, ap, sym, ◌∙◌, arith}
+use Rattle.std.proofs.Common.{◌≡◌, ◌≤◌, ◌<◌, ◌*◌, ◌+◌, ◌^◌, ℕ, ℤ, Bool, [], length, ap, sym, ◌∙◌, arith}
 use Rattle.std.specs.List.{count_by}
 use Rattle.std.proofs.lemmas.List.Sums.{count_by-le-length}
 use Rattle.cs_base.specs.Widths.{bytes_of}
@@ -54,11 +54,10 @@ returns-in_default-pour-clause-broken g c e =
     (request_of c.args.performance.now) c.orchestra.result.now.head.dbfs
     c.args.cycle c.deref.result.now _ _ (c.deref.ensures.value ∙ c.in-Ok.ensures.heard)
     (ap (λ (o : TypedOrc). o.head.dbfs) c.orchestra.ensures)
-    c.in_default-pour.ensures.told c.in-Ok.ensures.counted c.in_default-pour.ensures.stopped
+    c.in_default-pour.ensures.told c.in-Ok.ensures.counted c.in_default-pour.ensures.part
 
 pub returns-in_default-pour-clause-sink : goal.returns-in_default-pour-clause-sink
-returns-in_default-pour-clause-sink g c e =
-    (c.in_default-pour.ensures.ordered, c.in_default-pour.ensures.cause.rose refl)
+returns-in_default-pour-clause-sink g c e = c.in_default-pour.ensures.ordered
 
 pub overflow_add-recording : goal.overflow_add-recording
 overflow_add-recording g c =

@@ -54,4 +54,4 @@ returns-in-Err-clause-performed g c =
     (lent c.begin.new.wav c.args.loan.now.taps.now.items c.args.loan.now.tally.now) refl refl
     c.first_bytes-first.ensures
     c.in-Ok.ensures.begun (lent c.play_all.new.loan.wav.now c.play_all.new.loan.taps.now.items
-    c.play_all.new.loan.tally.now) c.in-Err.fault c.in-Err.ensures.part c.in-Err.ensures.memory c.in-Err.ensures.sink
+    c.play_all.new.loan.tally.now) c.in-Err.fault c.in-Err.ensures.broke c.in-Err.ensures.memory c.in-Err.ensures.sink

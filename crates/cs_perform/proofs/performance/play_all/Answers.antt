@@ -1,16 +1,16 @@
 use Rattle.std.proofs.Common.{◌≡◌, ◌≤◌, ◌+◌, ◌*◌, ◌^◌, ℕ, refl, ap, subst, ◌∙◌, arith}
 use Rattle.cs_base.specs.Limits.{most_notes}
 use Rattle.cs_piece_meaning.specs.Course.{moment_at}
-use Rattle.cs_piece_meaning.specs.Heard.{frames_before}
 use Rattle.cs_piece.specs.Setups.{composition_of}
 use Rattle.cs_tempo.specs.declared.plot.Plot.{Plot}
 use Rattle.cs_perform.specs.Performances.{lent, lent_sight, request_of}
 use Rattle.cs_perform.specs.declared.order.PlayFault.TheVariants.{OutOfMemory, Sink}
-use Rattle.cs_perform.specs.inner.Plays.{PlayedOn, samples_for}
+use Rattle.cs_perform.specs.inner.Plays.{PlayedOn}
 use Rattle.cs_perform.specs.inner.Recordings.{IsRecordingOf}
 use Rattle.cs_perform.proofs.Cycles.{room_kept, room_left}
-use Rattle.cs_perform.proofs.Files.{error_as, faults_after, rose_later}
-use Rattle.cs_perform.proofs.Performing.{part_stopped, paused_before, played_more, played_none}
+use Rattle.cs_perform.proofs.Files.{error_as}
+use Rattle.cs_perform.proofs.Performing.{broke_after, paused_before, played_more, played_none}
+use Rattle.cs_perform.proofs.Wholes.{not_ok}
 use Rattle.cs_perform.proofs.performance.play_all.Goals as goal
 
 pub loop-cycle-init : goal.loop-cycle-init
@@ -32,15 +32,18 @@ play_cycle-requires-clause-room g c =
     c.loop-cycle.invariant.6 in
     room_left (g.C.Counter.room c.loop-cycle.loan.tally.now) c.loop-cycle.cycle (omega arith) room
 
-pub returns-in-Err-clause-part : goal.returns-in-Err-clause-part
-returns-in-Err-clause-part g c =
+pub returns-in-Err-clause-broke : goal.returns-in-Err-clause-broke
+returns-in-Err-clause-broke g c e =
     let all : c.plot.result.now.cycles ≡ c.args.performance.now.setup.now.plot.cycles =
     ap (λ (p : Plot). p.cycles) c.plot.ensures in
-    part_stopped (lent_sight (λ b h. (goal.Tap-dyn g (b.vtable, b.value)).stands_for b.value h) g.K.Sink.tells
+    broke_after (lent_sight (λ b h. (goal.Tap-dyn g (b.vtable, b.value)).stands_for b.value h) g.K.Sink.tells
     g.C.Counter.has_counted)
     (request_of c.args.performance.now)
-    c.in-Err.fault c.loop-cycle.cycle _ _ _ (omega (arith, c.loop-cycle-test.true, all)) c.loop-cycle.invariant.2
-    c.in-Err.ensures.broken c.in-Err.ensures.memory
+    c.loop-cycle.cycle _ _ _ (omega (arith, c.loop-cycle-test.true, all)) c.loop-cycle.invariant.2
+    (c.in-Err.ensures.broken (error_as c.in-Err.fault Sink e))
+
+pub returns-clause-broke : goal.returns-clause-broke
+returns-clause-broke g c e = absurd (not_ok _ _ e)
 
 pub returns-in-Err-clause-memory : goal.returns-in-Err-clause-memory
 returns-in-Err-clause-memory g c e =
@@ -53,13 +56,7 @@ returns-in-Err-clause-memory g c e =
     (c.in-Err.ensures.memory (error_as c.in-Err.fault OutOfMemory e)) c.loop-cycle.invariant.2
 
 pub returns-in-Err-clause-sink : goal.returns-in-Err-clause-sink
-returns-in-Err-clause-sink g c e =
-    let told = c.in-Err.ensures.sink (error_as c.in-Err.fault Sink e) in (
-      told.0,
-      rose_later _ _ _ (faults_after g.K.Sink.tells c.args.performance.now.order.output c.args.loan.now.wav.now
-          c.loop-cycle.loan.wav.now _
-          c.loop-cycle.invariant.2.written) told.1,
-    )
+returns-in-Err-clause-sink g c e = c.in-Err.ensures.sink (error_as c.in-Err.fault Sink e)
 
 pub loop-cycle-preserved : goal.loop-cycle-preserved
 loop-cycle-preserved g c = (
@@ -106,7 +103,5 @@ returns-clause-played g c =
     g.C.Counter.has_counted)
     (request_of c.args.performance.now) k
     (lent c.args.loan.now.wav.now c.args.loan.now.taps.now.items c.args.loan.now.tally.now)
-    (lent c.loop-cycle.loan.wav.now c.loop-cycle.loan.taps.now.items c.loop-cycle.loan.tally.now)
-    (samples_for (request_of c.args.performance.now)
-    (frames_before (composition_of c.args.performance.now.setup.now) k)) in
+    (lent c.loop-cycle.loan.wav.now c.loop-cycle.loan.taps.now.items c.loop-cycle.loan.tally.now) in
     subst P end c.loop-cycle.invariant.2

@@ -1,9 +1,8 @@
 use Rattle.std.proofs.Common.{◌≡◌, ◌≤◌, ◌+◌, ◌*◌, ◌^◌}
 use Rattle.cs_base.specs.Limits.{most_notes}
 use Rattle.cs_piece_meaning.specs.Course.{moment_at}
-use Rattle.cs_piece_meaning.specs.Heard.{frames_before}
 use Rattle.cs_perform.specs.Performances.{lent, lent_sight, request_of}
-use Rattle.cs_perform.specs.inner.Plays.{PlayedOn, samples_for}
+use Rattle.cs_perform.specs.inner.Plays.{PlayedOn}
 use Rattle.cs_perform.specs.inner.Recordings.{IsRecordingOf}
 use Rattle.cs_piece.specs.Setups.{composition_of}
 use Rattle.cs_perform.proofs.performance.play_all.Given as goal
@@ -17,7 +16,6 @@ invariant-loop-cycle g l =
     g.C.Counter.has_counted)
     (request_of l.performance) l.cycle (lent l.fn.loan.wav.now l.fn.loan.taps.now.items l.fn.loan.tally.now)
     (lent l.loan.wav.now l.loan.taps.now.items l.loan.tally.now)
-    (samples_for (request_of l.performance) (frames_before (composition_of l.performance.setup.now) l.cycle))
     × (l.loan.wav.ghost_name ≡ l.fn.loan.wav.ghost_name) × (l.loan.taps.ghost_name ≡ l.fn.loan.taps.ghost_name)
     × (l.loan.tally.ghost_name ≡ l.fn.loan.tally.ghost_name)
     × (2 ^ 42 ≤ g.C.Counter.room l.loan.tally.now + l.cycle * (most_notes + 1))

@@ -1,4 +1,4 @@
-use Rattle.std.proofs.Common.{◌≡◌, ◌≤◌, ◌*◌, ℕ, refl, ap, sym, subst, ◌∙◌}
+use Rattle.std.proofs.Common.{◌≤◌, ◌*◌, ℕ, refl, ap, sym, subst, ◌∙◌}
 use Rattle.cs_base.specs.Widths.{bytes_of}
 use Rattle.cs_base.specs.Limits.{most_wav_bytes}
 use Rattle.cs_base.specs.declared.head.Head.{Head}

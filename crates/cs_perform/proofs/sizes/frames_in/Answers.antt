@@ -1,4 +1,4 @@
-use Rattle.std.proofs.Common.{◌≡◌, ◌≤◌, ◌*◌, ℕ, ap, ◌∙◌, arith}
+use Rattle.std.proofs.Common.{◌≡◌, ◌≤◌, ◌*◌, ap, ◌∙◌, arith}
 use Rattle.cs_base.specs.Limits.{most_wav_bytes}
 use Rattle.cs_tempo.specs.declared.plot.Plot.{Plot}
 use Rattle.cs_typed.specs.declared.tree.TypedOrc.{TypedOrc}

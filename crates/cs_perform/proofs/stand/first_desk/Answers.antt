@@ -1,4 +1,4 @@
-use Rattle.std.proofs.Common.{◌≡◌, ℕ, ℤ, pos, List, replicate, ap, ◌∙◌}
+use Rattle.std.proofs.Common.{◌≡◌, ℕ, pos, replicate, ap, ◌∙◌}
 use Rattle.std.proofs.lemmas.Result.{IfOk-weaker}
 use Rattle.cs_cells.specs.Areas.{word_count}
 use Rattle.cs_cells.specs.Cells.{values}
@@ -7,7 +7,7 @@ use Rattle.cs_perform.proofs.Standings.{zero_cells}
 use Rattle.cs_perform.proofs.stand.first_desk.Goals as goal
 
 pub returns-clause-cells : goal.returns-clause-cells
-returns-clause-cells c =
+returns-clause-cells g c =
     let n : ℕ = word_count c.args.layout.now in
     let zeros : values c.deref.result.now ≡ replicate n (pos 0) =
     ap values (c.deref.ensures.value ∙ c.in_ok-words.ensures.items_if_clones_equal (λ y e. e))

@@ -1,5 +1,6 @@
-use Rattle.std.proofs.lemmas.Result.{on_err_weaker}
-use Rattle.cs_edge.proofs.Stories.{begun, stopped_begin}
+use Rattle.std.proofs.Common.{[], refl}
+use Rattle.std.proofs.lemmas.Result.{on_err_weaker, on_ok_weaker}
+use Rattle.cs_edge.proofs.Stories.{begun, stopped_begin, wrote_on}
 use Rattle.cs_perform.proofs.Pieces.{begun_in_part}
 use Rattle.cs_perform.proofs.writing.begin_file.Goals as goal
 
@@ -11,5 +12,12 @@ pub returns-clause-stopped : goal.returns-clause-stopped
 returns-clause-stopped g c =
     on_err_weaker c.write_all.result
     (begun_in_part _ _ _ c.args.name.now c.args.first.now
-    (begun _ _ _ c.in_default.ensures.begun c.in_default.ensures.moves c.in_default.ensures.cause.later))
-    c.write_all.ensures.stopped
+    (begun _ _ _ c.in_default.ensures.begun c.in_default.ensures.moves (c.in_default.ensures.cause.same refl)))
+    c.write_all.ensures.part
+
+pub returns-clause-begun : goal.returns-clause-begun
+returns-clause-begun g c =
+    on_ok_weaker c.write_all.result
+    (wrote_on _ _ _ c.args.name.now [] c.args.first.now
+    (begun _ _ _ c.in_default.ensures.begun c.in_default.ensures.moves (c.in_default.ensures.cause.same refl)))
+    c.write_all.ensures.written

@@ -1,4 +1,5 @@
 use Rattle.std.proofs.Common.{◌≡◌, ℕ, ◌<◌, ◌*◌, length}
+use Rattle.cs_row.specs.Heard.{IsSumOf}
 use Rattle.cs_voice.specs.Mixing.{sum_at}
 use Rattle.cs_voice.specs.inner.Places.{place}
 use Rattle.cs_voice.proofs.adding.mix.Given as goal
@@ -7,5 +8,6 @@ use Rattle.cs_voice.proofs.adding.mix.Given as goal
 abbrev pub invariant-loop-channel : goal.invariant-loop-channel
 invariant-loop-channel l = record {
   sums : (j c : ℕ) → j < l.frames → c < l.channel → place l.channels l.out j c ≡ sum_at l.voices j c;
+  small : (j c : ℕ) → j < l.frames → c < l.channel → IsSumOf (length l.voices) (sum_at l.voices j c);
   long : length l.out ≡ l.frames * l.channels;
 }

@@ -11,6 +11,9 @@ loop-from-preserved c =
           (λ yes. let early = ltb-true j c.loop-from.from yes in part.before j early
           ∙ c.loop-from.invariant.sums j early)
           (λ no. part.sums j (at_or_past j c.loop-from.from no) low);
+      small = λ j low. by_test (nat_lt j c.loop-from.from)
+          (λ yes. c.loop-from.invariant.small j (ltb-true j c.loop-from.from yes))
+          (λ no. part.small j (at_or_past j c.loop-from.from no) low);
       others = λ j d high other. part.others j d high other ∙ c.loop-from.invariant.others j d high other;
       long = part.long ∙ c.loop-from.invariant.long;
     }

@@ -1,5 +1,5 @@
 use Rattle.std.proofs.Common.{◌<◌, ℕ, ◌+◌, ◌+ℤ◌, arith, get_or, length, pos, sym, ◌∙◌, ap, subst}
-use Rattle.cs_voice.specs.inner.Places.{IsSumOf}
+use Rattle.cs_row.specs.Heard.{IsSumOf}
 use Rattle.cs_machine.specs.Outputs.{outs}
 use Rattle.cs_voice.specs.VoiceData.{VoiceData}
 use Rattle.cs_voice.proofs.Sums.{one_more, sum_so_far}

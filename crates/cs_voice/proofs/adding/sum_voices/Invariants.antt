@@ -1,6 +1,6 @@
 use Rattle.std.proofs.Common.{◌≡◌, ℕ, ◌+◌, ◌<◌, get_or, pos, take, length}
 use Rattle.cs_voice.specs.Mixing.{sum_at}
-use Rattle.cs_voice.specs.inner.Places.{IsSumOf}
+use Rattle.cs_row.specs.Heard.{IsSumOf}
 use Rattle.cs_voice.proofs.adding.sum_voices.Given as goal
 
 -- the frames have the sums of the voices so far

@@ -4,10 +4,16 @@ use Rattle.cs_base.specs.Rates.{is_audio}
 use Rattle.cs_cells.specs.Cells.{cell}
 use Rattle.cs_ir.specs.Registers.{rate_at}
 use Rattle.cs_machine.proofs.Frames.{all_written}
-use Rattle.cs_voice.proofs.Sharing.{read_held, read_sound, some_cell}
+use Rattle.cs_voice.proofs.Sharing.{read_held, read_sound, some_cell, sound_cells}
 use Rattle.cs_voice.proofs.shared.read.Goals as goal
 use Rattle.cs_voice.proofs.shared.read.Goals.{else-is_audio-via-then-is_audio+else-is_audio-2}
 use Rattle.cs_voice.proofs.shared.read.Goals.{else-is_audio-via-else-is_audio}
+
+pub read_row-requires-clause-row : goal.read_row-requires-clause-row
+read_row-requires-clause-row g c =
+    ap length c.deref_mut.ensures.value ∙ c.requires.row
+    ∙ sym (c.requires.size
+    ∙ sound_cells c.args.regs.now.ksmps c.args.rate (sym c.is_audio.ensures ∙ c.if-is_audio.true))
 
 pub returns-then-is_audio-2-clause-values : goal.returns-then-is_audio-2-clause-values
 returns-then-is_audio-2-clause-values g c =

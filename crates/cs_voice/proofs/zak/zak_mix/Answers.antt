@@ -9,6 +9,7 @@ use Rattle.cs_meaning.specs.Model.{saved}
 use Rattle.cs_voice_meaning.specs.VoiceWorld.{read_cells, voice_model}
 use Rattle.cs_machine.specs.States.{machine_of}
 use Rattle.cs_machine.proofs.Done.{changes}
+use Rattle.cs_machine.proofs.Frames.{all_written}
 use Rattle.cs_words.specs.declared.catalogue.Space.TheVariants as space
 use Rattle.cs_voice.specs.inner.Zak.{reached}
 use Rattle.cs_voice.proofs.Places.{at_reached, mixed_here, mixing, not_reached, reached_sound, reached_touched}
@@ -20,6 +21,15 @@ mix_row-requires-clause-row g c =
     let here = sym c.place.ensures ∙ c.in-Some.is in
     let k = index c.first.result in
     c.row.ensures.long
+    ∙ sym (c.requires.able.sized.cells c.in-Some.res c.area_in-area.result c.area_in-area.ensures.value
+    (reached_value c.args.at.now space.Audio c.args.reach k c.in-Some.res here)
+    ∙ ap (cell_count c.args.state.now.regs.ksmps) (reached_sound c.args.at.now c.args.reach k c.in-Some.res here))
+
+pub mix_row-requires-clause-room : goal.mix_row-requires-clause-room
+mix_row-requires-clause-room g c =
+    let here = sym c.place.ensures ∙ c.in-Some.is in
+    let k = index c.first.result in
+    ap length c.deref_mut.ensures.value ∙ c.requires.able.room.row
     ∙ sym (c.requires.able.sized.cells c.in-Some.res c.area_in-area.result c.area_in-area.ensures.value
     (reached_value c.args.at.now space.Audio c.args.reach k c.in-Some.res here)
     ∙ ap (cell_count c.args.state.now.regs.ksmps) (reached_sound c.args.at.now c.args.reach k c.in-Some.res here))
@@ -44,6 +54,8 @@ returns-in-Some-clause-does g c = λ into opcode shaped areas piece stock kinds 
     let w = values c.args.state.now.regs c.args.x in
     let res = c.in-Some.res in
     let ksmps = c.args.state.now.regs.ksmps in
+    let written = all_written c.args.state.now.row.len c.mix_row.new.room c.args.state.now.row.items
+    (c.mix_row.ensures.room ∙ c.deref_mut.ensures.len) in
     let here =
     ap (λ z. reached c.args.at.now space.Audio c.args.reach (index z)) (sym c.first.ensures) ∙ sym c.place.ensures
     ∙ c.in-Some.is in
@@ -51,7 +63,7 @@ returns-in-Some-clause-does g c = λ into opcode shaped areas piece stock kinds 
     changes areas piece kinds counts (act.Zak opcode c.args.reach) into (c.args.x ∷ c.args.number ∷ [])
     c.args.state.now _ before after
     (record { regs = refl; rest = record { players = refl; outs = refl; delays = refl; ended = refl } }) state
-    (state.row ∙ sym state.frames)
+    (ap length written ∙ c.mix_row.ensures.room ∙ ap length c.deref_mut.ensures.value ∙ c.requires.able.room.row)
     (λ next asks cause. let m = machine_of c.args.state.now before next asks cause in
     mixing areas piece opcode c.args.reach into m w v shaped
     ∙ ap (λ x. in_world x m)

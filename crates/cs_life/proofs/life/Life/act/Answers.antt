@@ -24,20 +24,19 @@ make_table-requires g c =
       table = table_given (composition_of c.args.self.now.setup.now) c.args.event.now.act c.in-Table.number
           c.in-Table.size c.in-Table.gen_
           (to_z w64 (of_z w64 c.in-Table.size)) (to_z w64 (of_z w64 c.in-Table.gen_)) c.in-Table.args
-          c.as_slice-in-Table.result.now c.in-Table.is s k
-          c.as_slice-in-Table.ensures c.requires.event;
+          c.as_slice.result.now c.in-Table.is s k
+          c.as_slice.ensures c.requires.event;
     }
 
 pub returns-in_ok-fields-in-Start-clause-done : goal.returns-in_ok-fields-in-Start-clause-done
 returns-in_ok-fields-in-Start-clause-done g c =
-    let same : c.from_vec.result ≡ c.in-Start.fields = search rules in
     let number : to_z w64 (of_z w64 c.from.result) ≡ pos c.in-Start.instr = search rules in
     on_ok_weaker c.start_note.result
     (λ started. note_done c.args.self.now c.start_note.new.self c.args.voices.now.items c.start_note.new.voices.items
     (g.B.Bank.cells c.args.bank.now)
     (g.B.Bank.cells c.start_note.new.bank) c.args.event.now.cycle c.in-Start.instr c.in-Start.cycles
-    (to_z w64 (of_z w64 c.from.result))
-    c.from_vec.result c.in-Start.fields c.args.event.now.act c.in-Start.is number same started)
+    (to_z w64 (of_z w64 c.from.result)) c.in_ok-fields-in-Start.fields c.in-Start.fields c.args.event.now.act
+    c.in-Start.is number c.in_ok-fields-in-Start.ensures started)
     c.start_note.ensures.started
 
 pub returns-in-Table-clause-grown : goal.returns-in-Table-clause-grown

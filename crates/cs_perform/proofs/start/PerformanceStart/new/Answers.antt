@@ -6,13 +6,13 @@ use Rattle.cs_perform.proofs.Turning.{no_lines}
 use Rattle.cs_perform.proofs.start.PerformanceStart.new.Goals as goal
 
 pub returns : goal.returns
-returns c = record {
+returns g c = record {
   at = c.in_ok-stand.ensures;
   recorded = record {
-    blocks = subst (λ (o : TypedOrc). HasBlocks o.head c.args.performance.now.order.width c.in_ok-recording.recording)
+    blocks = subst (λ (o : TypedOrc). HasBlocks o.head c.args.order.width c.in_ok-recording.recording)
         c.orchestra.ensures c.in_ok-recording.ensures.blocks;
     out_of_range = c.in_ok-recording.ensures.none.0;
     turns = c.in_ok-recording.ensures.none.1
-        ∙ no_lines c.args.performance.now.order.turns (composition_of c.args.performance.now.setup.now) [];
+        ∙ no_lines c.args.order.turns (composition_of c.args.setup.now) [];
   };
 }
