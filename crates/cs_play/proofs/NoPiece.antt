@@ -45,7 +45,8 @@ module _ {F : Type 0} (tells : F → ShelfTold) (words : List Text) (before now 
         → now ≡ before
         → Says talk talk' (message_of r []) → Ends r
     by_unread unasked.Usage r e none same says = ends_as r status.Usage [] e (none refl, same) says
-    by_unread unasked.OutOfMemory r e none same says = ends_as r status.OutOfMemory [] e tt says
+    by_unread unasked.OutOfMemory r e none same says =
+        ends_as r status.OutOfMemory [] e (ap (λ (s : F). (tells s).faults) same) says
 
     -- a refusal is the cause of its status
     by_refusal : (r : Refusal) (name : List ℕ) → IsRefused tells r words before now
@@ -57,21 +58,27 @@ module _ {F : Type 0} (tells : F → ShelfTold) (words : List Text) (before now 
 
     -- a source that isn't read, or is refused
     module _ (asked : Asked) (e : reading words ≡ Some asked) where
+      abbrev Refuses : Refusal → Type 0
+      Refuses r = IsLoaded (tells before) (tells now) asked.width asked.piece (Err r)
+
       by_cause : (s : LoadFault)
-          → ((r : Refusal) → s ≡ unloaded.Refused r → IsLoaded (tells before) (tells now) asked.width asked.piece (Err r))
+          → ((r : Refusal) → s ≡ unloaded.Refused r → Refuses r)
           → ((name : _) → s ≡ unloaded.Unread name → CannotRead (tells before) (tells now) asked.piece name.now)
+          → (s ≡ unloaded.OutOfMemory → (tells now).faults ≡ (tells before).faults)
           → HasNoPiece tells (load_status s) (name_in s) words before now
-      by_cause (unloaded.Unread name) means unread = (asked, e, unread name refl)
-      by_cause (unloaded.Refused r) means unread = by_refusal r [] (asked, e, means r refl)
-      by_cause unloaded.OutOfMemory means unread = tt
+      by_cause (unloaded.Unread name) means unread calm = (asked, e, unread name refl)
+      by_cause (unloaded.Refused r) means unread calm = by_refusal r [] (asked, e, means r refl)
+      by_cause unloaded.OutOfMemory means unread calm = calm refl
 
       pub by_stop : (s : LoadFault) (r : Status) → IsNotLoaded s r talk talk'
-          → ((q : Refusal) → s ≡ unloaded.Refused q → IsLoaded (tells before) (tells now) asked.width asked.piece (Err q))
+          → ((q : Refusal) → s ≡ unloaded.Refused q → Refuses q)
           → ((name : _) → s ≡ unloaded.Unread name → CannotRead (tells before) (tells now) asked.piece name.now)
+          → (s ≡ unloaded.OutOfMemory → (tells now).faults ≡ (tells before).faults)
           → IsUnprepared tells r words before now talk talk'
-      by_stop s r h means unread =
+      by_stop s r h means unread calm =
           let P : Status → Type 0 = λ x. Says talk talk' (message_of x (name_in s)) in
-          ends_as r (load_status s) (name_in s) h.status_is (by_cause s means unread) (subst P (sym h.status_is) h.line)
+          ends_as r (load_status s) (name_in s) h.status_is (by_cause s means unread calm)
+          (subst P (sym h.status_is) h.line)
 
 -- words that aren't read: the shelf had no call
 pub unasked_ends : {F : Type 0} (tells : F → ShelfTold) (words : List Text) (shelf : F) (talk talk' : SinkTold)

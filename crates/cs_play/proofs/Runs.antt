@@ -1,6 +1,6 @@
 -- How a run ends: one lemma for each way out.
 use Rattle.std.proofs.Common.{◌≡◌, ◌++◌, ◌*◌, ℕ, List, [], Bool, true, false, Result, Some, Ok, Err, refl, ap, sym}
-use Rattle.std.proofs.Common.{subst, ◌∙◌, inl, inr}
+use Rattle.std.proofs.Common.{subst, ◌∙◌, inl, inr, if◌then◌else◌}
 use Rattle.std.specs.List.{count_by, flat_map}
 use Rattle.std.specs.Result.{IfErr, IfOk, OnOk}
 use Rattle.cs_base.specs.declared.head.Head.{Head}
@@ -8,18 +8,17 @@ use Rattle.cs_piece.specs.Setups.{composition_of}
 use Rattle.cs_piece_meaning.specs.Course.{closing}
 use Rattle.cs_piece_meaning.specs.Heard.{frames_of}
 use Rattle.cs_piece_meaning.specs.Moments.{Composition}
-use Rattle.cs_edge.specs.Moves.{SinkTold, WroteMore}
+use Rattle.cs_edge.specs.Moves.{WroteMore, WrotePart}
 use Rattle.cs_edge.specs.Told.{Rose}
 use Rattle.cs_perform.specs.Performances.{IsOutcomeOf, IsPart, IsPaused, IsWholePerformance, Lent, Request, if_told}
 use Rattle.cs_perform.specs.Performances.{lent}
 use Rattle.cs_perform.specs.declared.order.Outcome.{Outcome}
 use Rattle.cs_perform.specs.declared.order.Output.TheVariants.{SoundFile}
-use Rattle.cs_perform.specs.declared.order.TurnLines.{TurnLines}
 use Rattle.cs_perform.specs.declared.order.PlayFault.{PlayFault}
 use Rattle.cs_perform.specs.declared.order.PlayFault.TheVariants as fault
 use Rattle.cs_play.specs.Endings.{EndsBy, IsUnplayed, IsUntouched, lines_of, output_of, sees_lent, request_in}
 use Rattle.cs_play.specs.Preparing.{IsPrepared, IsReadFor, IsUnprepared}
-use Rattle.cs_play.specs.Report.{counts_of, report_of}
+use Rattle.cs_play.specs.Report.{counts_of, meter_lines, report_of}
 use Rattle.cs_play.specs.Runs.{IsProgramRun}
 use Rattle.cs_play.specs.Scene.{Scene, Sight, scene}
 use Rattle.cs_play.specs.inner.Sounding.{HasPlayed, HasReported, HasSaid, counts_told}
@@ -28,7 +27,7 @@ use Rattle.cs_play.specs.declared.player.Played.TheVariants as what
 use Rattle.cs_play.specs.declared.preparing.Prepared.{Prepared}
 use Rattle.cs_play.specs.inner.Faulted.{fault_status}
 use Rattle.cs_report.specs.Report.{count_lines, counts_in, line_room}
-use Rattle.cs_report.specs.Talk.{Says, SaysPart, message_of}
+use Rattle.cs_report.specs.Talk.{Says, message_of}
 use Rattle.cs_report.specs.declared.status.Status.{Status}
 use Rattle.cs_report.specs.declared.status.Status.TheVariants as status
 use Rattle.cs_arguments.specs.Orders.{asked_in}
@@ -53,6 +52,11 @@ same_counts c width o is =
     (closing c).not_started (count_by (is_out_of_range width c.head.dbfs) (frames_of c))
     is.frames is.cycles is.started is.not_started is.out_of_range
 
+-- the lines of turns, where they are asked for
+told_lines : (turns : Bool) (bytes : List ℕ) → if_told (lines_of turns) bytes ≡ (if turns then bytes else [])
+told_lines true bytes = refl
+told_lines false bytes = refl
+
 not_silent : (silent : Bool) → output_of silent ≡ SoundFile → silent ≡ false
 not_silent true e = absurd (cc)
 not_silent false e = refl
@@ -74,7 +78,7 @@ module _ {F K T B C : Type 0} (see : Sight F K T B C) where
     ends_unplayed status.TalkFault h = absurd h.cause
     ends_unplayed status.SinkFault h = absurd h.cause
     ends_unplayed status.OutOfMemory h =
-        record { performed = inl (untouched shelf shelf' wav talk talk' taps tally); line = h.line }
+        record { calm = h.cause; performed = inl (untouched shelf shelf' wav talk talk' taps tally); line = h.line }
     ends_unplayed status.Usage h = unplayed status.Usage h
     ends_unplayed status.ShelfFault h = unplayed status.ShelfFault h
     ends_unplayed (status.OrcRefused f) h = unplayed (status.OrcRefused f) h
@@ -85,13 +89,15 @@ module _ {F K T B C : Type 0} (see : Sight F K T B C) where
   -- A COMPOSITION, which was performed
 
   -- the report as it was written
-  report_is : (c : Composition) (width : SampleWidth) (turns : TurnLines) (o : Outcome) (taps : List B)
-      → IsOutcomeOf c width o → o.turns ≡ if_told turns (turn_lines_of c)
+  report_is : (c : Composition) (asked : Asked) (o : Outcome) (taps : List B) → IsOutcomeOf c asked.width o
+      → o.turns ≡ if_told (lines_of asked.turns) (turn_lines_of c)
       → counts_in (counts_told o) ++ flat_map (λ tap. see.line tap line_room) taps
-      ++ o.turns ≡ report_of see.line c width turns taps
-  report_is c width turns o taps is lines =
-      ap (λ (l : List ℕ). l ++ flat_map (λ tap. see.line tap line_room) taps ++ o.turns) (same_counts c width o is)
-      ∙ ap (λ (l : List ℕ). counts_of c width ++ flat_map (λ tap. see.line tap line_room) taps ++ l) lines
+      ++ o.turns ≡ report_of c asked (meter_lines see.line taps)
+  report_is c asked o taps is lines =
+      ap (λ (l : List ℕ). l ++ flat_map (λ tap. see.line tap line_room) taps ++ o.turns)
+      (same_counts c asked.width o is)
+      ∙ ap (λ (l : List ℕ). counts_of c asked.width ++ flat_map (λ tap. see.line tap line_room) taps ++ l)
+      (lines ∙ told_lines asked.turns (turn_lines_of c))
 
   -- The piece of a source that was performed. The shelf has no part in its performance.
   module _ (words : List Text) (asked : Asked) (c : Composition) (head : Head) (shelf shelf' : F) (wav wav' : K)
@@ -122,18 +128,18 @@ module _ {F K T B C : Type 0} (see : Sight F K T B C) where
             c = c;
             loaded = loaded;
             performed = record { head = head; head_is = same; whole = whole };
-            report = subst P (report_is c asked.width (lines_of asked.turns) o taps' is lines) wrote;
+            report = subst P (report_is c asked o taps' is lines) wrote;
           },
         )
     whole_ends o status.TalkFault whole is lines part =
-        let P : List ℕ → Type 0 = λ l. SaysPart (see.talk talk) (see.talk talk') l in (
+        let P : List ℕ → Type 0 = λ l. WrotePart (see.talk talk) (see.talk talk') l in (
           asked,
           e,
           record {
             c = c;
             loaded = loaded;
             performed = record { head = head; head_is = same; whole = whole };
-            report = subst P (report_is c asked.width (lines_of asked.turns) o taps' is lines) part;
+            report = subst P (report_is c asked o taps' is lines) part;
           },
         )
     whole_ends o status.Usage whole is lines never = absurd never
@@ -164,6 +170,7 @@ module _ {F K T B C : Type 0} (see : Sight F K T B C) where
       },
     )
     part_ends fault.OutOfMemory part paused cause says = record {
+      calm = loaded.same;
       performed = inr (
         asked,
         e,

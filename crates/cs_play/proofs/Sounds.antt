@@ -8,7 +8,8 @@ use Rattle.cs_edge.specs.Moves.{Finished, Held, HoldsFront, SinkTold, Stopped, W
 use Rattle.cs_edge.specs.Told.{Follows, IsFront}
 use Rattle.cs_perform.specs.Hearing.{IfWritten}
 use Rattle.cs_perform.specs.Performances.{file_after, front_after}
-use Rattle.cs_perform.proofs.Files.{front_all, front_of_front}
+use Rattle.cs_edge.proofs.Chains.{front_of_front}
+use Rattle.cs_perform.proofs.Files.{front_all}
 use Rattle.cs_perform.proofs.Wholes.{front_in_file}
 use Rattle.cs_piece_meaning.specs.Heard.{frames_of}
 use Rattle.cs_piece_meaning.specs.Moments.{Composition}
@@ -79,7 +80,7 @@ AreFronts = (c : Composition) (head : Head) (width : SampleWidth) (n : ℕ) → 
     → IsFront (file_after c head width n) (wav_of (frames_of c) head width)
 
 -- the header and the samples of the first cycles are a front of it
-front_is : AreFronts → (c : Composition) (head : Head) (width : SampleWidth) (n : ℕ) → n ≤ c.cycles
+pub front_is : AreFronts → (c : Composition) (head : Head) (width : SampleWidth) (n : ℕ) → n ≤ c.cycles
     → IsFront (front_after c head width n) (wav_of (frames_of c) head width)
 front_is fronts c head width n le =
     front_of_front (front_after c head width n) (file_after c head width n) (wav_of (frames_of c) head width)

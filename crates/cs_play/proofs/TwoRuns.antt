@@ -1,6 +1,6 @@
 -- What two runs have in common.
-use Rattle.std.proofs.Common.{◌≡◌, ◌≢◌, ℕ, ℤ, List, Bool, true, false, ◌++◌, Option, Result, Some, None, Ok, Err, refl}
-use Rattle.std.proofs.Common.{ap, sym, subst, ◌∙◌, ⊎_elim}
+use Rattle.std.proofs.Common.{◌≡◌, ◌≢◌, ℕ, ℤ, List, [], Bool, true, false, ◌++◌, Option, Result, Some, None, Ok, Err}
+use Rattle.std.proofs.Common.{ap, sym, subst, ◌∙◌, ⊎_elim, if◌then◌else◌}
 use Rattle.cs_base.specs.declared.head.Head.{Head}
 use Rattle.cs_base.specs.declared.width.SampleWidth.{SampleWidth}
 use Rattle.cs_piece_meaning.specs.Heard.{frames_of}
@@ -10,10 +10,9 @@ use Rattle.cs_edge.specs.Moves.{Finished, Held, SinkTold, WroteMore, ended_file}
 use Rattle.cs_edge.specs.Told.{Follows}
 use Rattle.cs_edge.specs.declared.files.NamedBytes.{NamedBytes}
 use Rattle.cs_perform.specs.Hearing.{IfWritten}
-use Rattle.cs_perform.specs.Performances.{if_told}
 use Rattle.cs_turns.specs.Turns.{turn_lines_of}
 use Rattle.cs_play.specs.Alike.{AskAlike, HadNoFault, HoldAlike, SoundAlike, TellAlike}
-use Rattle.cs_play.specs.Endings.{IsOk, WasPerformed, lines_of, output_of, report_in}
+use Rattle.cs_play.specs.Endings.{IsOk, WasPerformed, output_of, report_in}
 use Rattle.cs_play.specs.Report.{counts_of, meter_lines}
 use Rattle.cs_play.specs.Runs.{IsProgramRun}
 use Rattle.cs_play.specs.Scene.{Scene, Sight}
@@ -106,7 +105,7 @@ module _ {F K T B C F' K' T' B' C' : Type 0} (see : Sight F K T B C) (see' : Sig
       → a.turns ≡ b.turns
       → meter_lines see.line now.taps ≡ meter_lines see'.line now'.taps
       → report_in see a c now ≡ report_in see' b c now'
-  one_report a b c now now' w t m = λ i. counts_of c (w i) ++ m i ++ if_told (lines_of (t i)) (turn_lines_of c)
+  one_report a b c now now' w t m = λ i. counts_of c (w i) ++ m i ++ (if t i then turn_lines_of c else [])
 
   both_ok : OneMeaning → OnePair → (a b : Asked) (before now : Scene F K T B C) (before' now' : Scene F' K' T' B' C')
       → AskAlike a b

@@ -2,7 +2,7 @@
 use Rattle.std.specs.Prelude.{ℕ, ◌≡◌, ◌⊎◌, Bool, true, false, List, [], Result, Ok}
 use Rattle.cs_base.specs.declared.head.Head.{Head}
 use Rattle.cs_piece_meaning.specs.Moments.{Composition}
-use Rattle.cs_edge.specs.Moves.{WroteMore}
+use Rattle.cs_edge.specs.Moves.{WroteMore, WrotePart}
 use Rattle.cs_edge.specs.Told.{Rose}
 use Rattle.cs_perform.specs.Performances.{IsPart, IsPaused, IsWholePerformance, Lent, LentSight, Request, lent}
 use Rattle.cs_perform.specs.Performances.{lent_sight}
@@ -12,9 +12,9 @@ use Rattle.cs_perform.specs.declared.order.Output.TheVariants.{SoundFile, Nothin
 use Rattle.cs_perform.specs.declared.order.TurnLines.{TurnLines}
 use Rattle.cs_perform.specs.declared.order.TurnLines.TheVariants.{Told, Untold}
 use Rattle.cs_play.specs.Preparing.{IsUnprepared, Reads}
-use Rattle.cs_play.specs.Report.{report_of}
+use Rattle.cs_play.specs.Report.{meter_lines, report_of}
 use Rattle.cs_play.specs.Scene.{Scene, Sight}
-use Rattle.cs_report.specs.Talk.{Says, SaysPart, message_of}
+use Rattle.cs_report.specs.Talk.{Says, message_of}
 use Rattle.cs_report.specs.declared.status.Status.{Status}
 use Rattle.cs_report.specs.declared.status.Status.TheVariants as status
 use Rattle.cs_arguments.specs.Reading.{Asked, Text}
@@ -79,7 +79,7 @@ module _ {F K T B C : Type 0} (see : Sight F K T B C) where
 
   -- the report, with the lines of the meters as they are now
   abbrev pub report_in : Asked → Composition → Scene F K T B C → List ℕ
-  report_in asked c now = report_of see.line c asked.width (lines_of asked.turns) now.taps
+  report_in asked c now = report_of c asked (meter_lines see.line now.taps)
 
   -- Talk has the line of a status, where this is the name that can't be read; or the front of it where its count rose.
   abbrev pub HasLine : Status → List ℕ → Scene F K T B C → Scene F K T B C → Type 0
@@ -97,7 +97,7 @@ module _ {F K T B C : Type 0} (see : Sight F K T B C) where
     pub c : Composition
     pub loaded : HasLoaded asked before now (Ok c)
     pub performed : WasPerformed asked c before now
-    pub report : SaysPart (see.talk before.talk) (see.talk now.talk) (report_in asked c now)
+    pub report : WrotePart (see.talk before.talk) (see.talk now.talk) (report_in asked c now)
 
   -- SinkFault: the source means a composition, of which some cycles were performed when the sound file failed.
   pub record IsSinkFault (asked : Asked) (before now : Scene F K T B C) : Type 0 where
@@ -114,8 +114,9 @@ module _ {F K T B C : Type 0} (see : Sight F K T B C) where
     pub loaded : HasLoaded asked before now (Ok c)
     pub performed : WasPaused asked c before now
 
-  -- OutOfMemory: nothing was performed, or some cycles of a composition.
+  -- OutOfMemory: nothing was performed, or some cycles of a composition. No call of the shelf or the sound file failed.
   pub record IsStarved (words : List Text) (before now : Scene F K T B C) : Type 0 where
+    pub calm : (see.shelf now.shelf).faults ≡ (see.shelf before.shelf).faults
     pub performed : IsUntouched before now ⊎ Reads words (λ asked. IsCutShort asked before now)
     pub line : HasLine status.OutOfMemory [] before now
 

@@ -1,5 +1,6 @@
 pub mod Alike
 pub mod Endings
+pub mod Page
 pub mod Preparing
 pub mod Report
 pub mod Runs

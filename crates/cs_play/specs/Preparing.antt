@@ -1,5 +1,5 @@
 -- What the words and the source that they ask for come to before anything is performed: a piece, or why there is none.
-use Rattle.std.specs.Prelude.{ℕ, ◌≡◌, ◌⊎◌, List, Some, None, Ok, Err, ⊤}
+use Rattle.std.specs.Prelude.{ℕ, ◌≡◌, ◌⊎◌, List, Some, None, Ok, Err}
 use Rattle.cs_base.specs.declared.refusal.Refusal.TheVariants as why
 use Rattle.cs_edge.specs.Files.{ShelfTold}
 use Rattle.cs_edge.specs.Moves.{SinkTold}
@@ -35,7 +35,7 @@ module _ {F : Type 0} (tells : F → ShelfTold) where
 
   -- Why there is no piece, by the status that says so, and the name that can't be read where that is why: the words ask
   -- for nothing, and the shelf had no call; the name can't be read, the one begun last; the source means a refusal.
-  -- Memory may be refused at any time.
+  -- Memory may be refused at any time; no call of the shelf failed then.
   abbrev pub HasNoPiece : Status → List ℕ → List Text → F → F → Type 0
   HasNoPiece status.Usage name words before now = (reading words ≡ None) × (now ≡ before)
   HasNoPiece status.ShelfFault name words before now =
@@ -44,7 +44,7 @@ module _ {F : Type 0} (tells : F → ShelfTold) where
   HasNoPiece (status.ScoreRefused f) name words before now = IsRefused (why.Score f) words before now
   HasNoPiece (status.Limit h) name words before now = IsRefused (why.Limit h) words before now
   HasNoPiece (status.CsdRefused f) name words before now = IsRefused (why.Csd f) words before now
-  HasNoPiece status.OutOfMemory name words before now = ⊤
+  HasNoPiece status.OutOfMemory name words before now = (tells now).faults ≡ (tells before).faults
   HasNoPiece _ name words before now = ⊥
 
   -- There is no piece, and talk has the line of the status, or the front of it where its count rose.

@@ -1,12 +1,11 @@
 -- The report of a composition: its counts, the line of each meter, and the turns of its notes where they are asked
 -- for.
-use Rattle.std.specs.Prelude.{ℕ, List, ◌++◌, ◌*◌, count_by, flat_map}
+use Rattle.std.specs.Prelude.{ℕ, List, [], ◌++◌, ◌*◌, if◌then◌else◌, count_by, flat_map}
+use Rattle.cs_arguments.specs.Reading.{Asked}
 use Rattle.cs_base.specs.declared.width.SampleWidth.{SampleWidth}
 use Rattle.cs_piece_meaning.specs.Course.{closing}
 use Rattle.cs_piece_meaning.specs.Heard.{frames_of}
 use Rattle.cs_piece_meaning.specs.Moments.{Composition}
-use Rattle.cs_perform.specs.Performances.{if_told}
-use Rattle.cs_perform.specs.declared.order.TurnLines.{TurnLines}
 use Rattle.cs_report.specs.Report.{count_lines, line_room}
 use Rattle.cs_turns.specs.Turns.{turn_lines_of}
 use Rattle.cs_wav.specs.Wav.{is_out_of_range}
@@ -21,7 +20,6 @@ counts_of c width =
 abbrev pub meter_lines : {B : Type 0} → (B → ℕ → List ℕ) → List B → List ℕ
 meter_lines line taps = flat_map (λ tap. line tap line_room) taps
 
--- the whole report, with the lines of these meters, and with the lines of turns where they are asked for
-abbrev pub report_of : {B : Type 0} → (B → ℕ → List ℕ) → Composition → SampleWidth → TurnLines → List B → List ℕ
-report_of line c width turns taps =
-    counts_of c width ++ meter_lines line taps ++ if_told turns (turn_lines_of c)
+-- the whole report, with these lines of meters, and with the lines of turns where they are asked for
+abbrev pub report_of : Composition → Asked → List ℕ → List ℕ
+report_of c asked meters = counts_of c asked.width ++ meters ++ (if asked.turns then turn_lines_of c else [])

@@ -1,10 +1,15 @@
 -- What a run of the program promises.
 use Rattle.std.specs.Prelude.{List}
 use Rattle.cs_play.specs.Endings.{EndsBy}
+use Rattle.cs_play.specs.Page.{Outside}
 use Rattle.cs_play.specs.Preparing.{IsReadFor}
 use Rattle.cs_play.specs.Scene.{Scene, Sight}
 use Rattle.cs_report.specs.declared.status.Status.{Status}
 use Rattle.cs_arguments.specs.Reading.{Text}
+
+-- what the objects tell of what lies outside
+abbrev pub told_in : {F K T B C : Type 0} → Sight F K T B C → Scene F K T B C → Outside
+told_in see s = record { shelf = see.shelf s.shelf; file = see.wav s.wav; talk = see.talk s.talk }
 
 -- A run of the program over these words ended with this status.
 pub record IsProgramRun {F K T B C : Type 0} (see : Sight F K T B C) (words : List Text) (s : Status)

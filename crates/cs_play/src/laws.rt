@@ -6,8 +6,10 @@ ghost use Rattle.cs_piece_meaning.specs.Moments.{Composition};
 ghost use Rattle.cs_edge.specs.Moves.{Held};
 ghost use Rattle.cs_edge.specs.Told.{Rose};
 ghost use Rattle.cs_play.specs.Alike.{AreTexts, AskAlike, HadNoFault, SoundAlike, TellAlike};
+ghost use Rattle.cs_play.specs.Page.{Ends};
 ghost use Rattle.cs_play.specs.Preparing.{Reads};
-ghost use Rattle.cs_play.specs.Runs.{IsProgramRun};
+ghost use Rattle.cs_play.specs.Report.{meter_lines};
+ghost use Rattle.cs_play.specs.Runs.{IsProgramRun, told_in};
 ghost use Rattle.cs_play.specs.Scene.{Scene, sight};
 ghost use Rattle.cs_play.specs.Sounds.{HoldsSoundFront};
 ghost use Rattle.cs_report.specs.Status.{refusal};
@@ -37,6 +39,38 @@ pub fn texts_have_one_sound_or_refusal()
         → Mean width t (Err r) → ⊥ }
 {
     texts_of_a_source_mean_one();
+}
+
+/// THE PAGE. Whatever comes of a run stands on one page (`Ends`, specs/Page), over what its objects tell: real files,
+/// which tell how often a call on them failed, and objects that tell all.
+pub fn runs_are_as_the_page_says<F: Shelf, K: Sink, T: Sink, C: Counter>(_taps: &[Box<dyn Tap>])
+    ensures { (words : List Text) (s : Status) (before now : Scene F K T _ C)
+        → IsProgramRun (sight F.tells K.tells T.tells C.has_counted (λ t h. stands_for t h)
+        (λ t room. text t room)) words s before now
+        → Ends words (meter_lines (λ t room. text t room) now.taps)
+        (told_in (sight F.tells K.tells T.tells C.has_counted (λ t h. stands_for t h) (λ t room. text t room)) before)
+        (told_in (sight F.tells K.tells T.tells C.has_counted (λ t h. stands_for t h) (λ t room. text t room)) now) s }
+{
+    early_stops_are_fronts();
+}
+
+/// Where a count of faults changed, that decides the end, whatever else came: the shelf's ends as ShelfFault, the sound
+/// file's as SinkFault, and after one of talk the run isn't Ok.
+pub fn failures_decide<F: Shelf, K: Sink, T: Sink, C: Counter>(_taps: &[Box<dyn Tap>])
+    ensures shelf { (words : List Text) (s : Status) (before now : Scene F K T _ C)
+        → IsProgramRun (sight F.tells K.tells T.tells C.has_counted (λ t h. stands_for t h)
+        (λ t room. text t room)) words s before now
+        → (F.tells now.shelf).faults ≢ (F.tells before.shelf).faults → s ≡ status.ShelfFault }
+    ensures wav { (words : List Text) (s : Status) (before now : Scene F K T _ C)
+        → IsProgramRun (sight F.tells K.tells T.tells C.has_counted (λ t h. stands_for t h)
+        (λ t room. text t room)) words s before now
+        → (K.tells now.wav).faults ≢ (K.tells before.wav).faults → s ≡ status.SinkFault }
+    ensures talk { (words : List Text) (s : Status) (before now : Scene F K T _ C)
+        → IsProgramRun (sight F.tells K.tells T.tells C.has_counted (λ t h. stands_for t h)
+        (λ t room. text t room)) words s before now
+        → (T.tells now.talk).faults ≢ (T.tells before.talk).faults → s ≢ status.Ok }
+{
+    early_stops_are_fronts();
 }
 
 /// THE HEADLINE. The texts of a run are known: those of the files that the shelf tells, or the demo's; and the sound

@@ -1,5 +1,7 @@
 //! The program as one call: the words behind its name in, a sound file and a report out.
 //!
+//! What comes of every run stands on one page (`Ends`, specs/Page), and `runs_are_as_the_page_says` shows it.
+//!
 //! The one contract: `csplay` ends as `IsProgramRun` says (specs/Runs): each status by what has come about (`EndsBy`,
 //! specs/Endings), over what shelf, sound file, talk and meters tell before and after; and the shelf was read by the
 //! source that the words ask for, or not at all. What comes before the performance is `prepare`, which has no runtime:
@@ -22,8 +24,9 @@ mod top;
 
 pub use cs_report::Status;
 pub use laws::{
-    lacking_decides, refusals_decide, same_bytes, same_status, sound_files_hold_sounds,
-    sounds_decide, texts_have_one_sound_or_refusal, words_decide,
+    failures_decide, lacking_decides, refusals_decide, runs_are_as_the_page_says, same_bytes,
+    same_status, sound_files_hold_sounds, sounds_decide, texts_have_one_sound_or_refusal,
+    words_decide,
 };
-pub use preparing::{Prepared, prepare};
+pub use preparing::{Prepared, asks_for_one, prepare};
 pub use top::{csplay, csplay_alone};

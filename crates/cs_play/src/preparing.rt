@@ -1,7 +1,7 @@
 // What comes before a performance: words and texts are read, and compiled or refused.
-ghost use Rattle.std.specs.Prelude.{◌≡◌, List, Ok, Some, IfErr, IfOk, OnOk};
+ghost use Rattle.std.specs.Prelude.{◌≡◌, List, Ok, Some, false, true, IfErr, IfOk, OnOk};
 ghost use Rattle.cs_arguments.specs.Orders.{asked_in, piece_in};
-ghost use Rattle.cs_arguments.specs.Reading.{Text, reading};
+ghost use Rattle.cs_arguments.specs.Reading.{Asked, Text, reading};
 ghost use Rattle.cs_command.specs.Words.{texts};
 ghost use Rattle.cs_play.specs.Preparing.{IsPrepared, IsReadFor, IsUnprepared};
 ghost use Rattle.cs_play.specs.inner.Faulted.{IsNotLoaded, unread_status};
@@ -23,6 +23,19 @@ pub struct Prepared<'w> {
     pub order: Order<'w>,
     /// What the piece needs to be performed.
     pub setup: Setup,
+}
+
+/// Whether one worker does what the words ask for: they ask for one that doesn't stay, or have no reading. False too
+/// where memory is refused. A run by `csplay_alone` is the whole run then.
+pub fn asks_for_one(alloc: Global, words: &[String]) -> bool
+    ensures { result ≡ true → (asked : Asked) → reading (texts words.now) ≡ Some asked
+        → (asked.workers ≡ 1) × (asked.pool ≡ false) }
+{
+    match read(alloc, words) {
+        Ok(order) => order.workers.number() == 1 && !order.pool,
+        Err(Unread::Usage) => true,
+        Err(Unread::OutOfMemory) => false,
+    }
 }
 
 /// All that comes before a performance: reads the words behind the program's name, takes the piece that they ask for

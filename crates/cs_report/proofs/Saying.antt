@@ -1,15 +1,11 @@
 -- A text that is written piece by piece.
 use Rattle.std.proofs.Common.{◌≡◌, ◌<◌, ◌≤◌, ℕ, ◌+◌, List, [], ◌∷◌, ◌++◌, length, take, drop, get_or, codes, ap, subst}
-use Rattle.std.proofs.Common.{sym, ◌∙◌, inl, inr, arith, append_assoc, append-nil}
+use Rattle.std.proofs.Common.{sym, refl, ◌∙◌, append_assoc, append-nil}
 use Rattle.std.specs.List.{flat_map}
-use Rattle.std.proofs.lemmas.List.{take_more, take-append-drop, take_all, replicate-append-replicate}
+use Rattle.std.proofs.lemmas.List.{take_more, take-append-drop, take_all}
 use Rattle.std.proofs.lemmas.Grind.{flat_map-append}
-use Rattle.cs_edge.specs.declared.moves.Move.{Move}
-use Rattle.cs_edge.specs.declared.moves.Move.TheVariants.{Write}
-use Rattle.cs_edge.specs.Told.{Rose, IsFront}
-use Rattle.cs_edge.specs.Moves.{SinkTold, Grown, AreAll, TakenMore, WroteMore}
-use Rattle.cs_edge.proofs.Chains.{follows_on, front_more, grown_on}
-use Rattle.cs_edge.proofs.Stories.{more_twice}
+use Rattle.cs_edge.specs.Moves.{SinkTold, WroteMore, WrotePart}
+use Rattle.cs_edge.proofs.Stories.{more_both, part_behind, part_longer}
 use Rattle.std.specs.Fmt.{decimal}
 use Rattle.cs_base.specs.Limits.{limit_number}
 use Rattle.cs_base.specs.declared.limit.LimitHit.{LimitHit}
@@ -18,20 +14,7 @@ use Rattle.std.specs.Prelude.{Result, OnOk, OnErr}
 use Rattle.cs_edge.specs.declared.moves.Failed.{Failed}
 use Rattle.cs_report.specs.Report.{count_lines, counts_in}
 use Rattle.cs_report.specs.declared.counts.PerformanceCounts.{PerformanceCounts}
-use Rattle.cs_report.specs.Talk.{joined, Says, SaysPart, fault_message, limit_message, message_of}
-
-all_twice : (move : Move) (x y : List Move) → AreAll move x → AreAll move y → AreAll move (x ++ y)
-all_twice move x y p q = (p.0 + q.0, rw (p.1, q.1) (replicate-append-replicate p.0 q.0 move))
-
--- some bytes and then others
-pub wrote_twice : (a b c : SinkTold) (xs ys : List ℕ) → WroteMore a b xs → WroteMore b c ys → WroteMore a c (xs ++ ys)
-wrote_twice a b c xs ys p q = record {
-  taken = follows_on (TakenMore xs) (TakenMore ys) (TakenMore (xs ++ ys)) (more_twice xs ys) a.held b.held c.held
-      p.taken q.taken;
-  made = follows_on (Grown (AreAll Write)) (Grown (AreAll Write)) (Grown (AreAll Write))
-      (grown_on (AreAll Write) (AreAll Write) (AreAll Write) (all_twice Write)) a.moves b.moves c.moves p.made q.made;
-  later = omega (arith, p.later, q.later);
-}
+use Rattle.cs_report.specs.Talk.{joined, Says, fault_message, limit_message, message_of}
 
 -- the pieces so far
 abbrev pub so_far : {X : Type 0} → (X → List ℕ) → List X → ℕ → List ℕ
@@ -52,32 +35,21 @@ pub said_more : {X : Type 0} (f : X → List ℕ) (pieces : List X) (i : ℕ) (d
     → WroteMore a c (so_far f pieces (i + 1))
 said_more f pieces i d text a b c lt e p q =
     let P : List ℕ → Type 0 = λ l. WroteMore a c l in
-    subst P (so_far_more f pieces i d text lt e) (wrote_twice a b c (so_far f pieces i) text p q)
-
-rose_since : (a b c : ℕ) → a ≤ b → Rose b c → Rose a c
-rose_since a b c h (inl r) = inl (omega arith)
-rose_since a b c h (inr r) = inr r
+    subst P (so_far_more f pieces i d text lt e) (more_both a b c (so_far f pieces i) text p q)
 
 -- a part of one more was written
 pub said_part : {X : Type 0} (f : X → List ℕ) (pieces : List X) (i : ℕ) (d : X) (text : List ℕ) (a b c : SinkTold)
     → i < length pieces
-    → text ≡ f (get_or pieces i d) → WroteMore a b (so_far f pieces i)
-    → (front : List ℕ) × IsFront front text × WroteMore b c front
-    → Rose b.faults c.faults → SaysPart a c (flat_map f pieces)
-said_part f pieces i d text a b c lt e p s rose =
+    → text ≡ f (get_or pieces i d) → WroteMore a b (so_far f pieces i) → WrotePart b c text
+    → WrotePart a c (flat_map f pieces)
+said_part f pieces i d text a b c lt e p s =
     let rest : List ℕ = flat_map f (drop (i + 1) pieces) in
-    let whole : flat_map f pieces ≡ (so_far f pieces i ++ s.0) ++ (s.1.0 ++ rest) =
+    let whole : flat_map f pieces ≡ (so_far f pieces i ++ text) ++ rest =
     ap (flat_map f) (sym (take-append-drop (i + 1) pieces))
     ∙ (flat_map-append f (take (i + 1) pieces) (drop (i + 1) pieces)
-    ∙ (ap (λ (l : List ℕ). l ++ rest)
-    (sym (so_far_more f pieces i d text lt e) ∙ ap (λ (l : List ℕ). so_far f pieces i ++ l) s.1.1)
-    ∙ simp append_assoc)) in
-    record {
-      rose = rose_since a.faults b.faults c.faults p.later rose;
-      front = so_far f pieces i ++ s.0;
-      is_front = (s.1.0 ++ rest, whole);
-      wrote = wrote_twice a b c (so_far f pieces i) s.0 p s.2;
-    }
+    ∙ ap (λ (l : List ℕ). l ++ rest) (sym (so_far_more f pieces i d text lt e))) in
+    part_longer a c (so_far f pieces i ++ text) (flat_map f pieces) (rest, whole)
+    (part_behind a b c (so_far f pieces i) text p s)
 
 -- all was written
 pub said_all : {X : Type 0} (f : X → List ℕ) (pieces : List X) (i : ℕ) (a b : SinkTold) → length pieces ≤ i
@@ -86,23 +58,6 @@ pub said_all : {X : Type 0} (f : X → List ℕ) (pieces : List X) (i : ℕ) (a 
 said_all f pieces i a b h p =
     let P : List _ → Type 0 = λ l. WroteMore a b (flat_map f l) in
     subst P (take_all i pieces h) p
-
--- a first text was written in part, or whole and then a second text in part
-pub first_in_part : (a b : SinkTold) (xs ys : List ℕ) → SaysPart a b xs → SaysPart a b (xs ++ ys)
-first_in_part a b xs ys p = record {
-  rose = p.rose;
-  front = p.front;
-  is_front = front_more p.front xs ys p.is_front;
-  wrote = p.wrote;
-}
-
-pub second_in_part : (a b c : SinkTold) (xs ys : List ℕ) → WroteMore a b xs → SaysPart b c ys → SaysPart a c (xs ++ ys)
-second_in_part a b c xs ys w p = record {
-  rose = rose_since a.faults b.faults c.faults w.later p.rose;
-  front = xs ++ p.front;
-  is_front = (p.is_front.0, ap (λ (l : List ℕ). xs ++ l) p.is_front.1 ∙ sym (append_assoc xs p.front p.is_front.0));
-  wrote = wrote_twice a b c xs p.front w p.wrote;
-}
 
 -- a status says its line
 pub says_message : (a b : SinkTold) (s t : Status) (name text : List ℕ) → s ≡ t → text ≡ message_of t name
@@ -169,9 +124,9 @@ pub other_text : (a b : SinkTold) (r : Result (Unit {0}) Failed) (x y : List ℕ
     → OnOk r (WroteMore a b y)
 other_text a b r x y e h = let P : List ℕ → Type 0 = λ l. OnOk r (WroteMore a b l) in subst P e h
 
-pub other_part : (a b : SinkTold) (r : Result (Unit {0}) Failed) (x y : List ℕ) → x ≡ y → OnErr r (SaysPart a b x)
-    → OnErr r (SaysPart a b y)
-other_part a b r x y e h = let P : List ℕ → Type 0 = λ l. OnErr r (SaysPart a b l) in subst P e h
+pub other_part : (a b : SinkTold) (r : Result (Unit {0}) Failed) (x y : List ℕ) → x ≡ y → OnErr r (WrotePart a b x)
+    → OnErr r (WrotePart a b y)
+other_part a b r x y e h = let P : List ℕ → Type 0 = λ l. OnErr r (WrotePart a b l) in subst P e h
 
 -- one more item's text was written, or the front of it
 pub item_said : {X : Type 0} (f : X → List ℕ) (items : List X) (i : ℕ) (x : X) (a b c : SinkTold) → i < length items
@@ -181,27 +136,21 @@ item_said f items i x a b c lt is p q = said_more f items i x (f x) a b c lt (ap
 
 pub item_said_in_part : {X : Type 0} (f : X → List ℕ) (items : List X) (i : ℕ) (x : X) (a b c : SinkTold)
     → i < length items → x ≡ get_or items i x
-    → WroteMore a b (so_far f items i) → (front : List ℕ) × IsFront front (f x) × WroteMore b c front
-    → Rose b.faults c.faults → SaysPart a c (flat_map f items)
-item_said_in_part f items i x a b c lt is p s rose = said_part f items i x (f x) a b c lt (ap f is) p s rose
+    → WroteMore a b (so_far f items i) → WrotePart b c (f x) → WrotePart a c (flat_map f items)
+item_said_in_part f items i x a b c lt is p s = said_part f items i x (f x) a b c lt (ap f is) p s
 
--- what a sink took of a text where it failed is a part of it
-pub part_of_text : (a b : SinkTold) (xs : List ℕ) → Rose a.faults b.faults
-    → (front : List ℕ) × IsFront front xs × WroteMore a b front → SaysPart a b xs
-part_of_text a b xs rose s = record { rose = rose; front = s.0; is_front = s.1; wrote = s.2 }
+-- three texts: the first two whole, the third in part; the first whole, the second in part; the first in part
+pub third_in_part : (a b c d : SinkTold) (xs ys zs : List ℕ) → WroteMore a b xs → WroteMore b c ys → WrotePart c d zs
+    → WrotePart a d (xs ++ ys ++ zs)
+third_in_part a b c d xs ys zs p q r = part_behind a c d (xs ++ ys) zs (more_both a b c xs ys p q) r
 
--- three texts: the first whole, the second in part; the first two whole, the third in part
-pub third_in_part : (a b c d : SinkTold) (xs ys zs : List ℕ) → WroteMore a b xs → WroteMore b c ys → SaysPart c d zs
-    → SaysPart a d (xs ++ ys ++ zs)
-third_in_part a b c d xs ys zs p q r = second_in_part a c d (xs ++ ys) zs (wrote_twice a b c xs ys p q) r
+pub two_in_part : (a b c : SinkTold) (xs ys zs : List ℕ) → WroteMore a b xs → WrotePart b c ys
+    → WrotePart a c (xs ++ ys ++ zs)
+two_in_part a b c xs ys zs p q = part_longer a c (xs ++ ys) (xs ++ ys ++ zs) (zs, refl) (part_behind a b c xs ys p q)
 
-pub two_in_part : (a b c : SinkTold) (xs ys zs : List ℕ) → WroteMore a b xs → SaysPart b c ys
-    → SaysPart a c (xs ++ ys ++ zs)
-two_in_part a b c xs ys zs p q = first_in_part a c (xs ++ ys) zs (second_in_part a b c xs ys p q)
-
-pub one_in_part : (a b : SinkTold) (xs ys zs : List ℕ) → SaysPart a b xs → SaysPart a b (xs ++ ys ++ zs)
-one_in_part a b xs ys zs p = first_in_part a b (xs ++ ys) zs (first_in_part a b xs ys p)
+pub one_in_part : (a b : SinkTold) (xs ys zs : List ℕ) → WrotePart a b xs → WrotePart a b (xs ++ ys ++ zs)
+one_in_part a b xs ys zs p = part_longer a b xs (xs ++ ys ++ zs) (ys ++ zs, append_assoc xs ys zs) p
 
 pub wrote_thrice : (a b c d : SinkTold) (xs ys zs : List ℕ) → WroteMore a b xs → WroteMore b c ys → WroteMore c d zs
     → WroteMore a d (xs ++ ys ++ zs)
-wrote_thrice a b c d xs ys zs p q r = wrote_twice a c d (xs ++ ys) zs (wrote_twice a b c xs ys p q) r
+wrote_thrice a b c d xs ys zs p q r = more_both a c d (xs ++ ys) zs (more_both a b c xs ys p q) r

@@ -4,8 +4,7 @@ use Rattle.cs_base.specs.Faults.{csd_kind_number, csd_kind_name, orc_kind_number
 use Rattle.cs_base.specs.Faults.{score_kind_number, score_kind_name}
 use Rattle.cs_base.specs.Limits.{limit_number}
 use Rattle.cs_base.specs.declared.limit.LimitHit.{LimitHit}
-use Rattle.cs_edge.specs.Moves.{SinkTold, WroteMore}
-use Rattle.cs_edge.specs.Told.{Rose, IsFront}
+use Rattle.cs_edge.specs.Moves.{SinkTold, WroteMore, WrotePart}
 use Rattle.cs_report.specs.declared.status.Status.{Status}
 use Rattle.cs_report.specs.declared.status.Status.TheVariants.{Ok, Usage, ShelfFault, OrcRefused, ScoreRefused, Limit}
 use Rattle.cs_report.specs.declared.status.Status.TheVariants.{SinkFault, OutOfMemory, TalkFault, CsdRefused}
@@ -43,13 +42,6 @@ message_of TalkFault name = []
 message_of (CsdRefused fault) name =
     fault_message (codes "csd") fault.line (csd_kind_number fault.kind) (csd_kind_name fault.kind)
 
--- Where its count of faults rose, a sink has taken the front of a text alone, in writes.
-pub record SaysPart (before now : SinkTold) (text : List ℕ) : Type 0 where
-  pub rose : Rose before.faults now.faults
-  pub front : List ℕ
-  pub is_front : IsFront front text
-  pub wrote : WroteMore before now front
-
--- A sink has taken this text, or where its count of faults rose the front of it, in writes alone.
+-- A sink has taken this text, or failed and has the front of it, in writes alone.
 abbrev pub Says : SinkTold → SinkTold → List ℕ → Type 0
-Says before now text = WroteMore before now text ⊎ SaysPart before now text
+Says before now text = WroteMore before now text ⊎ WrotePart before now text

@@ -1,9 +1,7 @@
 // The report of a performance.
-ghost use Rattle.std.specs.Prelude.{ℕ, List, ◌++◌, flat_map, OnErr, OnOk};
-ghost use Rattle.cs_edge.specs.Moves.{WroteMore};
-ghost use Rattle.cs_edge.specs.Told.{HasCause, IsFront};
+ghost use Rattle.std.specs.Prelude.{◌++◌, flat_map, OnErr, OnOk};
+ghost use Rattle.cs_edge.specs.Moves.{WroteMore, WrotePart};
 ghost use Rattle.cs_report.specs.Report.{counts_in, line_room};
-ghost use Rattle.cs_report.specs.Talk.{SaysPart};
 
 use crate::talk::say;
 use cs_edge::{Failed, Sink, Tap, write_all};
@@ -33,7 +31,7 @@ pub fn report<T: Sink>(
 ) -> Result<(), Failed>
     ensures whole { OnOk result (WroteMore (T.tells talk.old) (T.tells talk.new)
         (counts_in counts.now ++ flat_map (λ t. text t line_room) taps.now ++ turns.now)) }
-    ensures part { OnErr result (SaysPart (T.tells talk.old) (T.tells talk.new)
+    ensures part { OnErr result (WrotePart (T.tells talk.old) (T.tells talk.new)
         (counts_in counts.now ++ flat_map (λ t. text t line_room) taps.now ++ turns.now)) }
 {
     if let Err(failed) = report_counts(talk, counts) {
@@ -47,7 +45,7 @@ pub fn report<T: Sink>(
 
 fn report_counts<T: Sink>(talk: &mut T, counts: &PerformanceCounts) -> Result<(), Failed>
     ensures whole { OnOk result (WroteMore (T.tells talk.old) (T.tells talk.new) (counts_in counts.now)) }
-    ensures part { OnErr result (SaysPart (T.tells talk.old) (T.tells talk.new) (counts_in counts.now)) }
+    ensures part { OnErr result (WrotePart (T.tells talk.old) (T.tells talk.new) (counts_in counts.now)) }
 {
     say(
         talk,
@@ -69,7 +67,7 @@ fn report_counts<T: Sink>(talk: &mut T, counts: &PerformanceCounts) -> Result<()
 
 fn report_turns<T: Sink>(talk: &mut T, turns: &[u8]) -> Result<(), Failed>
     ensures whole { OnOk result (WroteMore (T.tells talk.old) (T.tells talk.new) turns.now) }
-    ensures part { OnErr result (SaysPart (T.tells talk.old) (T.tells talk.new) turns.now) }
+    ensures part { OnErr result (WrotePart (T.tells talk.old) (T.tells talk.new) turns.now) }
 {
     write_all(talk, turns)
 }
@@ -77,7 +75,7 @@ fn report_turns<T: Sink>(talk: &mut T, turns: &[u8]) -> Result<(), Failed>
 fn report_meters<T: Sink>(talk: &mut T, taps: &[Box<dyn Tap>]) -> Result<(), Failed>
     ensures whole { OnOk result (WroteMore (T.tells talk.old) (T.tells talk.new)
         (flat_map (λ t. text t line_room) taps.now)) }
-    ensures part { OnErr result (SaysPart (T.tells talk.old) (T.tells talk.new)
+    ensures part { OnErr result (WrotePart (T.tells talk.old) (T.tells talk.new)
         (flat_map (λ t. text t line_room) taps.now)) }
 {
     for tap in taps {
@@ -89,10 +87,8 @@ fn report_meters<T: Sink>(talk: &mut T, taps: &[Box<dyn Tap>]) -> Result<(), Fai
 }
 
 fn report_meter<T: Sink>(talk: &mut T, tap: &Box<dyn Tap>) -> Result<(), Failed>
-    ensures written { OnOk result (WroteMore (T.tells talk.old) (T.tells talk.new) (text tap.now line_room)) }
-    ensures stopped { OnErr result ((front : List ℕ) × IsFront front (text tap.now line_room)
-        × WroteMore (T.tells talk.old) (T.tells talk.new) front) }
-    ensures cause { HasCause (T.tells talk.old).faults (T.tells talk.new).faults result }
+    ensures whole { OnOk result (WroteMore (T.tells talk.old) (T.tells talk.new) (text tap.now line_room)) }
+    ensures part { OnErr result (WrotePart (T.tells talk.old) (T.tells talk.new) (text tap.now line_room)) }
 {
     let mut line = [0u8; 64];
     let used = tap.line(&mut line);

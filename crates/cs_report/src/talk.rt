@@ -1,7 +1,7 @@
 // The line that says how a run ended.
 ghost use Rattle.std.specs.Prelude.{◌≡◌, flat_map, OnErr, OnOk};
-ghost use Rattle.cs_edge.specs.Moves.{WroteMore};
-ghost use Rattle.cs_report.specs.Talk.{Says, SaysPart, fault_message, limit_message, message_of};
+ghost use Rattle.cs_edge.specs.Moves.{WroteMore, WrotePart};
+ghost use Rattle.cs_report.specs.Talk.{Says, fault_message, limit_message, message_of};
 
 use crate::status::Status;
 use cs_arguments::usage_line;
@@ -94,7 +94,7 @@ fn say_line<T: Sink>(talk: &mut T, pieces: &[&str])
 pub fn say<T: Sink>(talk: &mut T, pieces: &[&str]) -> Result<(), Failed>
     ensures whole { OnOk result (WroteMore (T.tells talk.old) (T.tells talk.new)
         (flat_map (λ piece. piece.now) pieces.now)) }
-    ensures part { OnErr result (SaysPart (T.tells talk.old) (T.tells talk.new)
+    ensures part { OnErr result (WrotePart (T.tells talk.old) (T.tells talk.new)
         (flat_map (λ piece. piece.now) pieces.now)) }
 {
     for piece in pieces {

@@ -158,7 +158,8 @@ source_means before width piece text r a m =
 -- and where no more of it was read, it is loaded
 pub source_loaded : (before now : ShelfTold) (width : SampleWidth) (piece : AskedPiece) (text : SourceText)
     (r : Result Composition Refusal)
-    → AreRead before.files piece text → LeavesUnread before now piece → MeansAsRead width text r
+    → AreRead before.files piece text → LeavesUnread before now piece → now.faults ≡ before.faults
+    → MeansAsRead width text r
     → IsLoaded before now width piece r
-source_loaded before now width piece text r read rest m =
-    record { means = source_means before width piece text r read m; rest = rest }
+source_loaded before now width piece text r read rest same m =
+    record { means = source_means before width piece text r read m; rest = rest; same = same }

@@ -1,5 +1,5 @@
 -- The texts of a source have a meaning, and a composition that they mean has a head.
-use Rattle.std.proofs.Common.{◌≡◌, Bool, true, false, ℕ, List, Result, Ok, Err, length, nat_lt, refl, sym, subst}
+use Rattle.std.proofs.Common.{◌≡◌, Bool, true, false, ℕ, List, Result, Ok, Err, length, nat_lt, refl}
 use Rattle.cs_base.specs.Faults.{passed}
 use Rattle.cs_base.specs.Limits.{most_csd_bytes}
 use Rattle.cs_base.specs.Lines.{Excerpt, whole_file}

@@ -22,7 +22,7 @@ pub read_none : (a : ShelfTold) → ReadMore a a []
 read_none a = record {
   taken = none_taken a.left;
   made = follows_same (Grown (AreAll Read)) (all_none Read) a.moves a.moves refl;
-  later = omega arith;
+  calm = refl;
   same = refl;
 }
 
@@ -40,12 +40,12 @@ more_taken (Some left) b c bytes buf n r t =
 
 -- and these bytes more
 pub read_on : (a b c : ShelfTold) (bytes buf : List ℕ) (n : ℕ) → ReadMore a b bytes → TakesFront b.left c.left buf n
-    → Follows b.moves c.moves (GrownBy Read) → b.faults ≤ c.faults → c.files ≡ b.files
+    → Follows b.moves c.moves (GrownBy Read) → c.faults ≡ b.faults → c.files ≡ b.files
     → ReadMore a c (bytes ++ take n buf)
-read_on a b c bytes buf n r t moves later files = record {
+read_on a b c bytes buf n r t moves calm files = record {
   taken = more_taken a.left b.left c.left bytes buf n r.taken t;
   made = all_on Read a.moves b.moves c.moves r.made moves;
-  later = omega (arith, r.later);
+  calm = calm ∙ r.calm;
   same = files ∙ r.same;
 }
 
@@ -82,7 +82,7 @@ block_on most k a b c text longer any h r e o =
     let size = ap length o.added ∙ length-append text (take n o.block) in (
       omega (arith, size, length-take n o.block, o.within.0, o.within.1, e),
       subst (λ (l : List ℕ). ReadMore a c l) (sym o.added)
-          (read_on a b c text o.block n r o.taken o.made o.later o.same),
+          (read_on a b c text o.block n r o.taken o.made o.calm o.same),
     )
 
 -- the last read, which gave none

@@ -80,12 +80,13 @@ IsLeftWhereTold (Some files) piece before now = (texts : Texts) × Have files pi
 abbrev pub LeavesUnread : ShelfTold → ShelfTold → AskedPiece → Type 0
 LeavesUnread before now piece = IsLeftWhereTold before.files piece before.left now.left
 
--- The source of a piece was read and means this: texts mean it which, where the shelf tells its files, are theirs. What
--- the shelf has left of them is what is over one byte more than a text may have.
+-- The source of a piece was read, by calls of which none failed, and means this: texts mean it which, where the shelf
+-- tells its files, are theirs. What the shelf has left of them is what is over one byte more than a text may have.
 pub record IsLoaded (before now : ShelfTold) (width : SampleWidth) (piece : AskedPiece) (r : Result Composition Refusal)
     : Type 0 where
   pub means : SourceMeans before width piece r
   pub rest : LeavesUnread before now piece
+  pub same : now.faults ≡ before.faults
 
 -- the last begin is of this name, where the moves are told: after it come reads alone
 abbrev pub IsLastBegun : Option (List Move) → List ℕ → Type 0

@@ -1,14 +1,13 @@
 // The piece of a source, read and compiled.
-ghost use Rattle.std.specs.Prelude.{◌≡◌, Err, IfOk, Ok};
+ghost use Rattle.std.specs.Prelude.{◌≡◌, Err, IfOk, IsErrOf, Ok};
 ghost use Rattle.cs_arguments.specs.Orders.{piece_in};
 ghost use Rattle.cs_piece.specs.Setups.{composition_of};
 ghost use Rattle.cs_source.specs.Loaded.{CannotRead, FitsFile, IsLoaded, WasRead};
 ghost use Rattle.cs_source.specs.declared.loading.LoadFault.TheVariants as unloaded;
 ghost use Rattle.cs_base.specs.declared.refusal.Refusal.{Refusal};
-ghost use Rattle.cs_source.specs.inner.Read.{MeansAsRead};
 
 use crate::meaning::compile_source;
-use crate::source::{SourceText, read_source};
+use crate::source::read_source;
 use cs_arguments::Source;
 use cs_base::{Or, Refusal, SampleWidth};
 use cs_edge::Shelf;
@@ -26,9 +25,8 @@ pub enum LoadFault<'a> {
 }
 
 /// What the piece of a source needs to be performed, in samples of this width; or the first refusal of its texts, or
-/// the name that can't be read; or out of memory, which alone has no clause of its own. Texts are read before any is
-/// refused, but the score isn't begun behind an orchestra of more than 1,048,576 bytes. The demo leaves the shelf as it
-/// was.
+/// the name that can't be read; or out of memory. Texts are read before any is refused, but the score isn't begun
+/// behind an orchestra of more than 1,048,576 bytes. The demo leaves the shelf as it was.
 pub fn load<'a, F: Shelf>(
     alloc: Global,
     shelf: &mut F,
@@ -43,6 +41,9 @@ pub fn load<'a, F: Shelf>(
         → IsLoaded (F.tells shelf.old) (F.tells shelf.new) width (piece_in source.now) (Err r) }
     ensures unread { (name : _) → result ≡ Err (unloaded.Unread name)
         → CannotRead (F.tells shelf.old) (F.tells shelf.new) (piece_in source.now) name.now }
+    // Where memory was refused no call of the shelf had failed.
+    ensures starved { IsErrOf result LoadFault.OutOfMemory
+        → (F.tells shelf.new).faults ≡ (F.tells shelf.old).faults }
     ensures shelf { WasRead (F.tells shelf.old) (F.tells shelf.new) (piece_in source.now) }
     ensures files { (F.tells shelf.new).files ≡ (F.tells shelf.old).files }
 {

@@ -32,6 +32,9 @@ pub fn read_text<F: Shelf>(
         → Rose (F.tells shelf.old).faults (F.tells shelf.new).faults
         ⊎ Lacks (F.tells shelf.old).files name.now }
     ensures later { (F.tells shelf.old).faults ≤ (F.tells shelf.new).faults }
+    ensures calm { OnOk result ((F.tells shelf.new).faults ≡ (F.tells shelf.old).faults) }
+    ensures starved { IsErrOf result ReadFault.OutOfMemory
+        → (F.tells shelf.new).faults ≡ (F.tells shelf.old).faults }
     ensures moves { Follows (F.tells shelf.old).moves (F.tells shelf.new).moves (Grown (IsRun name.now Read)) }
     ensures files { (F.tells shelf.new).files ≡ (F.tells shelf.old).files }
 {
@@ -47,6 +50,9 @@ fn read_begun<F: Shelf>(alloc: Global, shelf: &mut F, most: usize) -> Result<Vec
     ensures most { IfOk result (λ text. length text.items ≤ most) }
     ensures fault { IsErrOf result ReadFault.Shelf → Rose (F.tells shelf.old).faults (F.tells shelf.new).faults }
     ensures later { (F.tells shelf.old).faults ≤ (F.tells shelf.new).faults }
+    ensures calm { OnOk result ((F.tells shelf.new).faults ≡ (F.tells shelf.old).faults) }
+    ensures starved { IsErrOf result ReadFault.OutOfMemory
+        → (F.tells shelf.new).faults ≡ (F.tells shelf.old).faults }
     ensures moves { Follows (F.tells shelf.old).moves (F.tells shelf.new).moves (Grown (AreAll Read)) }
     ensures files { (F.tells shelf.new).files ≡ (F.tells shelf.old).files }
 {
@@ -64,6 +70,9 @@ fn fill<F: Shelf>(shelf: &mut F, text: &mut Vec<u8>, most: usize) -> Result<(), 
     ensures most { OnOk result (length text.new.items ≤ most) }
     ensures fault { IsErrOf result ReadFault.Shelf → Rose (F.tells shelf.old).faults (F.tells shelf.new).faults }
     ensures later { (F.tells shelf.old).faults ≤ (F.tells shelf.new).faults }
+    ensures calm { OnOk result ((F.tells shelf.new).faults ≡ (F.tells shelf.old).faults) }
+    ensures starved { IsErrOf result ReadFault.OutOfMemory
+        → (F.tells shelf.new).faults ≡ (F.tells shelf.old).faults }
     ensures moves { Follows (F.tells shelf.old).moves (F.tells shelf.new).moves (Grown (AreAll Read)) }
     ensures files { (F.tells shelf.new).files ≡ (F.tells shelf.old).files }
 {
@@ -88,6 +97,9 @@ fn read_block<F: Shelf>(shelf: &mut F, text: &mut Vec<u8>, most: usize) -> Resul
         (F.tells shelf.new) most text.old.items text.new.items more) }
     ensures fault { IsErrOf result ReadFault.Shelf → Rose (F.tells shelf.old).faults (F.tells shelf.new).faults }
     ensures later { (F.tells shelf.old).faults ≤ (F.tells shelf.new).faults }
+    ensures calm { OnOk result ((F.tells shelf.new).faults ≡ (F.tells shelf.old).faults) }
+    ensures starved { IsErrOf result ReadFault.OutOfMemory
+        → (F.tells shelf.new).faults ≡ (F.tells shelf.old).faults }
     ensures moves { Follows (F.tells shelf.old).moves (F.tells shelf.new).moves (GrownBy Read) }
     ensures files { (F.tells shelf.new).files ≡ (F.tells shelf.old).files }
 {

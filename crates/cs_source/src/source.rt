@@ -1,7 +1,8 @@
 // The texts of a source, as far as they are read.
-ghost use Rattle.std.specs.Prelude.{◌≡◌, IfErr, IfOk, OnOk};
+ghost use Rattle.std.specs.Prelude.{◌≡◌, IfErr, IfOk, IsErrOf, OnOk};
 ghost use Rattle.cs_arguments.specs.Orders.{piece_in};
 ghost use Rattle.cs_arguments.specs.Reading.{one_file, two_files};
+ghost use Rattle.cs_base.specs.declared.fault.Or.TheVariants as or;
 ghost use Rattle.cs_source.specs.Loaded.{CannotRead, LeavesUnread, WasRead};
 ghost use Rattle.cs_source.specs.Texts.{demo_notes};
 ghost use Rattle.cs_source.specs.inner.Read.{AreRead, IfFault, IsReadOf};
@@ -33,6 +34,8 @@ pub fn read_source<'a, F: Shelf>(
     ensures unread { IfErr result (λ e. IfFault e (λ name. CannotRead (F.tells shelf.old) (F.tells shelf.new)
         (piece_in source.now) name.now)) }
     ensures shelf { WasRead (F.tells shelf.old) (F.tells shelf.new) (piece_in source.now) }
+    ensures calm { OnOk result ((F.tells shelf.new).faults ≡ (F.tells shelf.old).faults) }
+    ensures starved { IsErrOf result or.OutOfMemory → (F.tells shelf.new).faults ≡ (F.tells shelf.old).faults }
     ensures files { (F.tells shelf.new).files ≡ (F.tells shelf.old).files }
 {
     match *source {
@@ -57,6 +60,8 @@ fn read_files<'a, F: Shelf>(
     ensures unread { IfErr result (λ e. IfFault e (λ name. CannotRead (F.tells shelf.old) (F.tells shelf.new)
         (two_files orc.now sco.now) name.now)) }
     ensures shelf { WasRead (F.tells shelf.old) (F.tells shelf.new) (two_files orc.now sco.now) }
+    ensures calm { OnOk result ((F.tells shelf.new).faults ≡ (F.tells shelf.old).faults) }
+    ensures starved { IsErrOf result or.OutOfMemory → (F.tells shelf.new).faults ≡ (F.tells shelf.old).faults }
     ensures files { (F.tells shelf.new).files ≡ (F.tells shelf.old).files }
 {
     let orchestra = match read_text(alloc, shelf, orc, MOST_ORCHESTRA_BYTES + 1) {
@@ -86,6 +91,8 @@ fn read_file<'a, F: Shelf>(
     ensures unread { IfErr result (λ e. IfFault e (λ name. CannotRead (F.tells shelf.old) (F.tells shelf.new)
         (one_file csd.now) name.now)) }
     ensures shelf { WasRead (F.tells shelf.old) (F.tells shelf.new) (one_file csd.now) }
+    ensures calm { OnOk result ((F.tells shelf.new).faults ≡ (F.tells shelf.old).faults) }
+    ensures starved { IsErrOf result or.OutOfMemory → (F.tells shelf.new).faults ≡ (F.tells shelf.old).faults }
     ensures files { (F.tells shelf.new).files ≡ (F.tells shelf.old).files }
 {
     match read_text(alloc, shelf, csd, MOST_CSD_BYTES + 1) {

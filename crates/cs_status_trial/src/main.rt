@@ -24,7 +24,7 @@ fn played<R: Env + Files + Print + AllocGlobal>(rt: &R, words: &[String]) -> Sta
         words,
         &mut FileShelf::new(rt),
         &mut FileSink::new(rt, rt.alloc()),
-        &mut TalkOut::new(rt, rt.alloc()),
+        &mut TalkOut::new(io::writer(rt), rt.alloc()),
         &mut Vec::new(rt.alloc()),
         &OpenGate::new(),
         &mut Tally::new(),

@@ -1,10 +1,11 @@
 //! The program: on a thread with a stack of its own it makes the objects of the edge and calls `csplay` with the words
-//! behind its name; it ends with the status's number. All that it promises is the contract of that call.
+//! behind its name, or `csplay_alone` where they ask for one worker; it ends with the status's number. All that it
+//! promises is the contract that these calls have.
 #![tactic(auto)]
 
 use cs_desk::Tally;
 use cs_edge::{Failed, FileShelf, FileSink, OpenGate, PeakTap, Sink, TalkOut, Tap, write_all};
-use cs_play::{Status, csplay};
+use cs_play::{Status, asks_for_one, csplay, csplay_alone};
 use std::alloc::AllocError;
 use std::process::ExitCode;
 use std::rt::{Env, Files};
@@ -68,25 +69,59 @@ fn metered<R: Files + Print + AllocGlobal + Threads + Wait + Sync>(
     }
 }
 
-/// Calls `csplay` over the system's files and standard output, and writes what waits there for its line feed.
+/// Follows the words over the system's files and standard output, and writes what waits there for its line feed. Where
+/// they ask for one worker the call has no runtime, so it waits for nobody.
 fn play<R: Files + Print + AllocGlobal + Threads + Wait + Sync>(
     rt: &R,
     words: &[String],
     taps: &mut Vec<Box<dyn Tap>>,
 ) -> Status {
-    let mut talk = TalkOut::new(rt, rt.alloc());
-    let status = csplay(
+    let mut talk = TalkOut::new(io::writer(rt), rt.alloc());
+    let status = if asks_for_one(rt.alloc(), words) {
+        play_alone(rt, words, &mut talk, taps)
+    } else {
+        play_by_crew(rt, words, &mut talk, taps)
+    };
+    ended(status, talk.end())
+}
+
+/// Calls `csplay`.
+fn play_by_crew<R: Files + AllocGlobal + Threads + Wait + Sync, T: Sink>(
+    rt: &R,
+    words: &[String],
+    talk: &mut T,
+    taps: &mut Vec<Box<dyn Tap>>,
+) -> Status {
+    csplay(
         rt,
         rt.alloc(),
         words,
         &mut FileShelf::new(rt),
         &mut FileSink::new(rt, rt.alloc()),
-        &mut talk,
+        talk,
         taps,
         &OpenGate::new(),
         &mut Tally::new(),
-    );
-    ended(status, talk.end())
+    )
+}
+
+/// Calls `csplay_alone`.
+fn play_alone<R: Files + AllocGlobal, T: Sink>(
+    rt: &R,
+    words: &[String],
+    talk: &mut T,
+    taps: &mut Vec<Box<dyn Tap>>,
+) -> Status {
+    csplay_alone(
+        rt.alloc(),
+        words,
+        &mut FileShelf::new(rt),
+        &mut FileSink::new(rt, rt.alloc()),
+        talk,
+        taps,
+        &OpenGate::new(),
+        &mut Tally::new(),
+    )
 }
 
 /// The status of a run whose talk ended so: a report that isn't written to its end is a TalkFault.
@@ -99,7 +134,10 @@ fn ended(status: Status, last: Result<(), Failed>) -> Status {
 
 /// Memory was refused before the call.
 fn starved<R: Print + AllocGlobal>(rt: &R) -> Status {
-    match write_all(&mut TalkOut::new(rt, rt.alloc()), b"out of memory\n") {
+    match write_all(
+        &mut TalkOut::new(io::writer(rt), rt.alloc()),
+        b"out of memory\n",
+    ) {
         Ok(()) | Err(_) => Status::OutOfMemory,
     }
 }

@@ -1,7 +1,7 @@
 -- What a performance and its report come to, by the status that they end with.
 use Rattle.std.specs.Prelude.{ℕ, ◌≡◌, ◌++◌, List, [], Result, Ok, Err, flat_map}
 use Rattle.cs_arguments.specs.Orders.{asked_in}
-use Rattle.cs_edge.specs.Moves.{SinkTold, WroteMore}
+use Rattle.cs_edge.specs.Moves.{SinkTold, WroteMore, WrotePart}
 use Rattle.cs_perform.specs.Performances.{Lent, LentSight, PerformsPiece}
 use Rattle.cs_perform.specs.declared.order.Outcome.{Outcome}
 use Rattle.cs_piece.specs.Setups.{composition_of}
@@ -11,7 +11,7 @@ use Rattle.cs_play.specs.declared.player.Played.TheVariants as what
 use Rattle.cs_play.specs.declared.preparing.Prepared.{Prepared}
 use Rattle.cs_play.specs.inner.Faulted.{fault_status}
 use Rattle.cs_report.specs.Report.{counts_in, line_room}
-use Rattle.cs_report.specs.Talk.{Says, SaysPart, message_of}
+use Rattle.cs_report.specs.Talk.{Says, message_of}
 use Rattle.cs_report.specs.declared.counts.PerformanceCounts.{PerformanceCounts}
 use Rattle.cs_report.specs.declared.status.Status.{Status}
 use Rattle.cs_report.specs.declared.status.Status.TheVariants as status
@@ -37,7 +37,7 @@ HasPlayed see _ before now _ = ⊥
 -- talk has a report: the whole at Ok, the front of it at TalkFault
 abbrev pub HasReported : SinkTold → SinkTold → List ℕ → Status → Type 0
 HasReported before now text status.Ok = WroteMore before now text
-HasReported before now text status.TalkFault = SaysPart before now text
+HasReported before now text status.TalkFault = WrotePart before now text
 HasReported before now text _ = ⊥
 
 -- What came of a performance was said: the report, with the lines of these meters, or the line of the status, which for

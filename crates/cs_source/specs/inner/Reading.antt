@@ -11,11 +11,11 @@ abbrev pub ReadSoFar : Option (List ℕ) → Option (List ℕ) → List ℕ → 
 ReadSoFar None now text = ⊤
 ReadSoFar (Some left) now text = (rest : List ℕ) × (now ≡ Some rest) × (left ≡ text ++ rest)
 
--- A shelf has given these bytes more, in some number of reads.
+-- A shelf has given these bytes more, in some number of reads, of which none failed.
 pub record ReadMore (before now : ShelfTold) (bytes : List ℕ) : Type 0 where
   pub taken : ReadSoFar before.left now.left bytes
   pub made : Follows before.moves now.moves (Grown (AreAll Read))
-  pub later : before.faults ≤ now.faults
+  pub calm : now.faults ≡ before.faults
   pub same : now.files ≡ before.files
 
 -- A shelf has given some bytes in one read, `most` at most, which stand behind the text; and whether it gave any.
@@ -26,7 +26,7 @@ pub record ReadOnce (before now : ShelfTold) (most : ℕ) (text longer : List �
   pub within : (count ≤ length block) × (count ≤ most)
   pub taken : TakesFront before.left now.left block count
   pub made : Follows before.moves now.moves (GrownBy Read)
-  pub later : before.faults ≤ now.faults
+  pub calm : now.faults ≡ before.faults
   pub same : now.files ≡ before.files
   pub any_is : any ≡ nat_lt 0 count
 

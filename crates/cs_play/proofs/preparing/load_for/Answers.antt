@@ -10,3 +10,4 @@ returns-in-Err-clause-unprepared g c = λ words e.
     c.say_fault_of_load.ensures
     (λ r h. c.in-Err.ensures.refused r (ap (λ (s : LoadFault). Err s) h))
     (λ name h. c.in-Err.ensures.unread name (ap (λ (s : LoadFault). Err s) h))
+    (λ h. c.in-Err.ensures.starved (ap (λ (s : LoadFault). Err s) h))

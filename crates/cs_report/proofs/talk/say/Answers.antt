@@ -1,4 +1,3 @@
-use Rattle.std.proofs.Common.{refl}
 use Rattle.cs_report.proofs.Saying.{said_more, said_part}
 use Rattle.cs_report.proofs.talk.say.Goals as goal
 
@@ -6,7 +5,7 @@ pub returns-in-Err-clause-part : goal.returns-in-Err-clause-part
 returns-in-Err-clause-part g c =
     said_part (λ piece. piece.now) c.args.pieces.now c.loop-piece.piece-index _ c.as_bytes.result.now _ _ _
     c.loop-piece-test.true
-    c.as_bytes.ensures.value c.loop-piece.invariant c.in-Err.ensures.stopped (c.in-Err.ensures.cause.rose refl)
+    c.as_bytes.ensures.value c.loop-piece.invariant c.in-Err.ensures.part
 
 pub loop-piece-preserved : goal.loop-piece-preserved
 loop-piece-preserved g c =

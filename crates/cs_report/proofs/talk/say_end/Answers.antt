@@ -1,7 +1,12 @@
-use Rattle.std.proofs.Common.{refl}
-use Rattle.cs_report.specs.declared.status.Status.TheVariants.{ShelfFault, SinkFault, OutOfMemory}
+use Rattle.std.proofs.Common.{ℕ, List, ◌++◌, codes, ap, refl}
+use Rattle.cs_report.specs.declared.status.Status.TheVariants.{Usage, ShelfFault, SinkFault, OutOfMemory}
 use Rattle.cs_report.proofs.Saying.{says_message}
 use Rattle.cs_report.proofs.talk.say_end.Goals as goal
+
+pub returns-in-Usage-clause-line : goal.returns-in-Usage-clause-line
+returns-in-Usage-clause-line g c =
+    says_message _ _ c.args.status Usage c.args.name.now _ c.in-Usage.is
+    (ap (λ (l : List ℕ). l ++ codes "\n") c.usage_line.ensures) c.say_line.ensures
 
 pub returns-in-ShelfFault-clause-line : goal.returns-in-ShelfFault-clause-line
 returns-in-ShelfFault-clause-line g c =
