@@ -2,11 +2,9 @@
 use Rattle.std.proofs.Common.{◌≡◌, ℕ, suc, ◌+◌, ◌<◌, ◌≤◌, true, false, not, List, [], ◌∷◌, length, drop, get_or, arith}
 use Rattle.std.proofs.Common.{ap, sym, ◌∙◌, refl, codes, nat_lt, if◌then◌else◌}
 use Rattle.std.specs.List.{list_any}
-use Rattle.std.proofs.lemmas.List.{drop_more, length-append, length-drop}
-use Rattle.std.proofs.lemmas.Bool.Decides.{nat_tests}
+use Rattle.std.proofs.lemmas.{List.drop_more, List.length-append, List.length-drop, Bool.Decides.nat_tests}
 use Rattle.cs_base.specs.Comments.{tails, closes, close_of}
-use Rattle.cs_base.proofs.Tests.{by_test}
-use Rattle.cs_base.proofs.Texts.{front_is}
+use Rattle.cs_base.proofs.{Tests.by_test, Texts.front_is}
 
 pub close_later : (b : ℕ) (rest : List ℕ) → closes (b ∷ rest) ≡ false → close_of (b ∷ rest) ≡ 1 + close_of rest
 close_later b rest h = rw h refl
@@ -20,12 +18,6 @@ any_later b rest h = rw h refl
 
 any_at_once : (b : ℕ) (rest : List ℕ) → closes (b ∷ rest) ≡ true → list_any closes (tails (b ∷ rest)) ≡ true
 any_at_once b rest h = rw h refl
-
-pub close_within : (text : List ℕ) → close_of text ≤ length text
-close_within [] = omega arith
-close_within (b ∷ rest) = by_test (closes (b ∷ rest))
-    (λ h. omega (arith, close_at_once b rest h))
-    (λ h. omega (arith, close_later b rest h, close_within rest))
 
 first_in : (n : ℕ) → nat_lt 0 (suc n) ≡ true
 first_in n = grind (arith, nat_tests)

@@ -1,11 +1,10 @@
 -- A quotient that is guessed by a product with the divisor's inverse.
-use Rattle.std.proofs.Common.{◌≡◌, ℕ, ◌+◌, ◌-◌, ◌*◌, ◌/◌, ◌%◌, ◌^◌, ◌<◌, ◌≤◌, ℤ, pos, negsuc, ◌*ℤ◌, unsigned_abs}
-use Rattle.std.proofs.Common.{◌-ℤ◌, FitsSigned, of_z, to_z, w64, ap, sym, ◌∙◌, subst, arith}
+use Rattle.std.proofs.Common.{◌≡◌, ℕ, ◌+◌, ◌-◌, ◌*◌, ◌/◌, ◌%◌, ◌^◌, ◌<◌, ◌≤◌, ℤ, pos, negsuc, ◌*ℤ◌, unsigned_abs, ◌-ℤ◌}
+use Rattle.std.proofs.Common.{FitsSigned, of_z, to_z, w64, ap, sym, ◌∙◌, subst, arith}
 use Rattle.std.proofs.lemmas.Int.{fits_signed_from_abs, ints, to_z-of_z, unsigned_abs-mul}
 use Rattle.std.proofs.lemmas.Nat.{div-add-mod', mul-le}
 use Rattle.std.proofs.Math.Nat.{mul-add, mul_assoc, mul_comm}
-use Rattle.cs_base.specs.Numbers.{floor_div}
-use Rattle.cs_base.specs.inner.Inverses.{IsInverse}
+use Rattle.cs_base.specs.{Numbers.floor_div, inner.Inverses.IsInverse}
 
 once_more : (k d : ℕ) → (k + 1) * d ≡ k * d + d
 once_more k d =

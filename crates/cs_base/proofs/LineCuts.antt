@@ -6,8 +6,7 @@ use Rattle.std.proofs.lemmas.List.{append_assoc, length-append, take_at}
 use Rattle.std.proofs.lemmas.List.Elements.{All-nil, All-cons, All-tail}
 use Rattle.cs_base.specs.Lines.{Line, is_feed, is_line_byte, line, line_after, lines_of, with_byte, lines_from}
 use Rattle.cs_base.specs.Lines.{next_len}
-use Rattle.cs_base.proofs.Tests.{by_test}
-use Rattle.cs_base.proofs.Texts.{count_by-append}
+use Rattle.cs_base.proofs.{Tests.by_test, Texts.count_by-append}
 
 abbrev pub line_len : List ℕ → ℕ
 line_len text = prefix_len is_line_byte text

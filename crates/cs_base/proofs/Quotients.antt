@@ -1,8 +1,7 @@
 -- Quotients rounded down, by a divisor above 0.
 use Rattle.std.proofs.Common.{◌≡◌, ℕ, suc, ◌+◌, ◌-◌, ◌*◌, ◌/◌, ◌<◌, ◌≤◌, ℤ, pos, negsuc, ◌+ℤ◌, ◌-ℤ◌, ◌*ℤ◌, ◌≤ℤ◌, ◌<ℤ◌}
 use Rattle.std.proofs.Common.{ap, sym, ◌∙◌, arith}
-use Rattle.std.proofs.lemmas.Int.{ints}
-use Rattle.std.proofs.lemmas.Nat.{div-mul-add, div_below, le-div}
+use Rattle.std.proofs.lemmas.{Int.ints, Nat.div-mul-add, Nat.div_below, Nat.le-div}
 use Rattle.cs_base.specs.Numbers.{floor_div}
 
 -- a multiple of a divisor, and a rest below it: the quotient is how often

@@ -1,10 +1,8 @@
 -- Line feeds and fronts of texts.
 use Rattle.std.proofs.Common.{◌≡◌, ℕ, ◌+◌, ◌-◌, ◌≤◌, Bool, true, List, ◌++◌, length, take, drop, count_by, nat_eq}
 use Rattle.std.proofs.Common.{arith, ap, sym, ◌∙◌, refl, if◌then◌else◌}
-use Rattle.std.proofs.lemmas.Bool.Decides.{Decides-eqb}
-use Rattle.std.proofs.lemmas.Slice.Eq.{starts_is}
+use Rattle.std.proofs.lemmas.{Bool.Decides.Decides-eqb, Slice.Eq.starts_is, List.Sums.sum_by-append}
 use Rattle.std.proofs.lemmas.List.{drop-take, take-append-drop, take-take}
-use Rattle.std.proofs.lemmas.List.Sums.{sum_by-append}
 use Rattle.cs_base.specs.Lines.{begins_with, is_feed, line_after}
 
 pub count_by-append : {A : Type 0} (p : A → Bool) (xs ys : List A)

@@ -1,10 +1,7 @@
 -- Decimals as a text writes them: their form, their parts, and the number that each is.
 use Rattle.std.specs.Prelude.{ℕ, ℤ, pos, List, Bool, length, take, ◌+◌, ◌-◌, ◌*◌, ◌/◌, ◌^◌, ◌==◌, ◌&&◌, nat_le, nat_lt}
-use Rattle.std.specs.Prelude.{Option, Some, None, if◌then◌else◌}
-use Rattle.std.specs.List.{before_first, after_first, list_all}
-use Rattle.std.specs.Char.{is_ascii_digit}
-use Rattle.std.specs.Str.{byte}
-use Rattle.std.specs.Str.Parse.{digits_value}
+use Rattle.std.specs.{Prelude.Option, Prelude.Some, Prelude.None, Prelude.if◌then◌else◌, List.before_first}
+use Rattle.std.specs.{List.after_first, List.list_all, Char.is_ascii_digit, Str.byte, Str.Parse.digits_value}
 use Rattle.cs_base.specs.declared.decimal.Decimal.{Decimal}
 
 abbrev pub is_point : ℕ → Bool

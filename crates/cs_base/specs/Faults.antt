@@ -1,15 +1,12 @@
 -- The kinds of faults by number and name, and faults told as refusals.
 use Rattle.std.specs.Prelude.{ℕ, List, Result, Ok, Err, codes}
-use Rattle.cs_base.specs.declared.fault.Or.{Or}
-use Rattle.cs_base.specs.declared.fault.Or.TheVariants as or
-use Rattle.cs_base.specs.declared.limit.Limit.{Limit}
-use Rattle.cs_base.specs.declared.refusal.Refusal.{Refusal}
-use Rattle.cs_base.specs.declared.refusal.Refusal.TheVariants as refusal
-use Rattle.cs_base.specs.declared.fault.CsdKind.{CsdKind}
-use Rattle.cs_base.specs.declared.fault.CsdKind.TheVariants as csd
-use Rattle.cs_base.specs.declared.fault.OrcKind.{OrcKind}
-use Rattle.cs_base.specs.declared.fault.OrcKind.TheVariants as orc
+use Rattle.cs_base.specs.{declared.fault.Or.Or, declared.limit.Limit.Limit, declared.refusal.Refusal.Refusal}
+use Rattle.cs_base.specs.{declared.fault.CsdKind.CsdKind, declared.fault.OrcKind.OrcKind}
 use Rattle.cs_base.specs.declared.fault.ScoreKind.{ScoreKind}
+use Rattle.cs_base.specs.declared.fault.Or.TheVariants as or
+use Rattle.cs_base.specs.declared.refusal.Refusal.TheVariants as refusal
+use Rattle.cs_base.specs.declared.fault.CsdKind.TheVariants as csd
+use Rattle.cs_base.specs.declared.fault.OrcKind.TheVariants as orc
 use Rattle.cs_base.specs.declared.fault.ScoreKind.TheVariants as score
 
 -- the number of a kind of fault of an orchestra, as a refusal prints it

@@ -1,8 +1,7 @@
 -- The bytes of all texts that no token and no field has: blanks and line feeds; how a text begins, and its lines. Lines
 -- are those of a file and count from 1, whichever part of the file a text is.
 use Rattle.std.specs.Prelude.{ℕ, Bool, false, List, [], ◌∷◌, ◌+◌, ◌||◌, ◌==◌, not, nat_eq, count_by, length, min}
-use Rattle.std.specs.Prelude.{if◌then◌else◌}
-use Rattle.std.specs.List.{prefix_len, starts_with}
+use Rattle.std.specs.{Prelude.if◌then◌else◌, List.prefix_len, List.starts_with}
 
 abbrev pub space : ℕ
 space = 32

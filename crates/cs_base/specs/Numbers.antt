@@ -1,8 +1,7 @@
 -- The numbers of the profile, whole 65,536ths, and each operation as a formula over whole numbers without bounds.
 use Rattle.std.specs.Prelude.{ℤ, List, [], ◌∷◌, pos, negsuc, ◌≤ℤ◌, ◌+ℤ◌, ◌-ℤ◌, ◌*ℤ◌, neg_ℤ, suc, if◌then◌else◌}
-use Rattle.std.specs.Prelude.{unsigned_abs}
+use Rattle.std.specs.{Prelude.unsigned_abs, Ordering.int_eq}
 use Rattle.std.specs.Int.{int_max, int_min, int_div_euclid, is_positive, is_negative}
-use Rattle.std.specs.Ordering.{int_eq}
 
 -- the least raw value: -2^47
 abbrev pub least : ℤ

@@ -5,7 +5,7 @@
 //! computes, and how a decimal or a comment is read, may be changed without anyone above noticing; the definitions in
 //! specs/ may not.
 //!
-//! To be read in this order: `number` (arithmetic), `divisor` (many quotients by one number), `laws` (what holds of the
+//! In reading order: `number` (arithmetic), `divisor` (many quotients by one number), `laws` (what holds of the
 //! definitions, and worked examples), `decimal` (numbers as a text writes them), `excerpt` (a text in a file), `lines`
 //! and `comments` (what both languages have between their words), `fault`, `limit` and `refusal` (what a text is refused
 //! for), `head`, `resource` (rates, and what notes share), `per_rate`, `spaces`, `width` (the width of a sample),

@@ -1,15 +1,12 @@
 -- What the getters answer where the matches hold uses.
 use Rattle.std.proofs.Common.{◌≡◌, ◌∙◌, ◌≤◌, ◌<◌, ℕ, Bool, true, false, List, Option, Some, None, Result, is_some}
 use Rattle.std.proofs.Common.{option_map, refl, ap, codes, bytes_eq, arith, true≢false}
-use Rattle.std.specs.Option.{unwrap_or}
-use Rattle.std.specs.Str.Parse.{ParsesUnsigned}
+use Rattle.std.specs.{Option.unwrap_or, Str.Parse.ParsesUnsigned}
 use Rattle.std.proofs.lemmas.Slice.Eq.{bytes_eq-Decides}
 use Rattle.clap.specs.Matches.{ReadsOne, found_of, one_text}
 use Rattle.clap.specs.declared.parser.matches.ArgMatches.{ArgMatches}
 use Rattle.cs_arguments.specs.Reading.{AskedPiece, Text, Use, asked_by, asked_of, has_use, number_of, piece_of}
-use Rattle.cs_arguments.specs.Reading.{value_of}
-use Rattle.cs_arguments.specs.Reading.{width_of}
-use Rattle.cs_arguments.specs.Ranges.{most_workers, most_demo_notes}
+use Rattle.cs_arguments.specs.{Reading.value_of, Reading.width_of, Ranges.most_workers, Ranges.most_demo_notes}
 use Rattle.cs_base.specs.declared.width.SampleWidth.{SampleWidth}
 use Rattle.cs_arguments.proofs.Values.{IsCounted, IsFlag, flag_is, number_for, number_in, number_is}
 use Rattle.cs_command.specs.inner.Matched.{Holds}

@@ -3,23 +3,17 @@ use Rattle.std.proofs.Common.{◌≡◌, ◌∙◌, ◌∷◌, inl, inr, Bool, t
 use Rattle.std.proofs.Common.{Ok, Err, IfOk, is_some, option_and_then, All, IsUtf8, get_or, refl, sym, ap, subst}
 use Rattle.std.proofs.Common.{string_bytes, String, true≢false}
 use Rattle.std.specs.Global.{Global}
-use Rattle.std.proofs.lemmas.Str.{IsUtf8-string_bytes}
-use Rattle.std.proofs.lemmas.List.Elements.{All-map}
-use Rattle.clap.specs.Faults.{fault_of, is_simple_and_free}
+use Rattle.std.proofs.lemmas.{Str.IsUtf8-string_bytes, List.Elements.All-map}
+use Rattle.clap.specs.{Faults.fault_of, Faults.is_simple_and_free, Values.kind_of, declared.error.Error.Error}
+use Rattle.clap.specs.{declared.error.kind.ErrorKind.ErrorKind, declared.parser.matches.ArgMatches.ArgMatches}
 use Rattle.clap.specs.Kinds.{FailsBy, HasKind, IsAmong, Kinds}
 use Rattle.clap.specs.Simple.{App, HasMatchesOf, is_simple, matches_of}
-use Rattle.clap.specs.Values.{kind_of}
-use Rattle.clap.specs.declared.error.Error.{Error}
-use Rattle.clap.specs.declared.error.kind.ErrorKind.{ErrorKind}
-use Rattle.clap.specs.declared.error.kind.ErrorKind.TheVariants as kind
-use Rattle.clap.specs.declared.parser.matches.ArgMatches.{ArgMatches}
 use Rattle.cs_arguments.specs.Reading.{Said, Text, asked, asked_by, reading, said, start}
 use Rattle.cs_arguments.specs.Command.{the_app}
 use Rattle.cs_arguments.specs.Taken.{accepted, good, is_taken, uses_in, uses_or}
-use Rattle.cs_arguments.proofs.Walking.{clear}
-use Rattle.cs_arguments.proofs.Ends.{finds, is_free, is_plain, refuses}
-use Rattle.cs_command.specs.Words.{texts}
-use Rattle.cs_command.specs.inner.Matched.{IsMatched}
+use Rattle.cs_arguments.proofs.{Walking.clear, Ends.finds, Ends.is_free, Ends.is_plain, Ends.refuses}
+use Rattle.cs_command.specs.{Words.texts, inner.Matched.IsMatched}
+use Rattle.clap.specs.declared.error.kind.ErrorKind.TheVariants as kind
 
 utf8_texts : (words : List (String Global)) → All IsUtf8 (texts words)
 utf8_texts words = All-map IsUtf8 (λ (w : String Global). string_bytes w) words

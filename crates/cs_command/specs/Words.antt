@@ -1,11 +1,8 @@
 -- The words as texts, and what a result says of them.
 use Rattle.std.specs.Prelude.{◌≡◌, List, map, Some, None, Result, Ok, Err, String, string_bytes}
 use Rattle.std.specs.Global.{Global}
-use Rattle.cs_arguments.specs.Orders.{asked_in}
-use Rattle.cs_arguments.specs.Reading.{Text, reading}
-use Rattle.cs_arguments.specs.declared.order.Order.{Order}
-use Rattle.cs_command.specs.declared.reading.Unread.{Unread}
-use Rattle.cs_command.specs.declared.reading.Unread.TheVariants.{Usage}
+use Rattle.cs_arguments.specs.{Orders.asked_in, Reading.Text, Reading.reading, declared.order.Order.Order}
+use Rattle.cs_command.specs.{declared.reading.Unread.Unread, declared.reading.Unread.TheVariants.Usage}
 
 abbrev pub texts : List (String Global) → List Text
 texts words = map (λ w. string_bytes w) words

@@ -1,19 +1,15 @@
 -- What a unit, a store and an act on zak places leave as it is, in the world of any model.
 use Rattle.std.proofs.Common.{◌≡◌, ℕ, ℤ, pos, ◌-◌, ◌&&◌, Bool, true, false, List, nat_le, Option, Some, None}
 use Rattle.std.proofs.Common.{if◌then◌else◌, refl}
-use Rattle.cs_base.specs.declared.resource.Rate.{Rate}
-use Rattle.cs_base.specs.declared.resource.Res.{Res}
+use Rattle.cs_base.specs.{declared.resource.Rate.Rate, declared.resource.Res.Res}
 use Rattle.cs_words.specs.declared.catalogue.Opcode.{Opcode}
-use Rattle.cs_words.specs.declared.catalogue.Shape.{Shape}
-use Rattle.cs_words.specs.declared.catalogue.Shape.TheVariants as shape
-use Rattle.cs_words.specs.declared.catalogue.Space.{Space}
-use Rattle.cs_words.specs.declared.catalogue.Space.TheVariants as space
-use Rattle.cs_ir.specs.Resources.{reaches}
-use Rattle.cs_ir.specs.Waves.{Wave, operand, silence}
-use Rattle.cs_ir.specs.declared.op.Reach.{Reach}
+use Rattle.cs_words.specs.{declared.catalogue.Shape.Shape, declared.catalogue.Space.Space}
+use Rattle.cs_ir.specs.{Resources.reaches, Waves.Wave, Waves.operand, Waves.silence, declared.op.Reach.Reach}
 use Rattle.cs_meaning.specs.Model.{Cause, State, WorldModel, with_value, unit_points, has_run, unit_does, store_into}
 use Rattle.cs_meaning.specs.Model.{store_at, zak_does, out_to, out_to_numbered}
 use Rattle.cs_meaning.specs.Pieces.{Table, find_table, is_live, index, may_touch, at_place, has_place}
+use Rattle.cs_words.specs.declared.catalogue.Shape.TheVariants as shape
+use Rattle.cs_words.specs.declared.catalogue.Space.TheVariants as space
 
 -- of a note's state all but what notes share, its units and its output
 pub record Rest : Type 0 where

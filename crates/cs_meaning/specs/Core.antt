@@ -1,21 +1,17 @@
 -- What each statement of the typed tree is short for.
 use Rattle.std.specs.Prelude.{ℕ, ℤ, pos, ◌&&◌, ◌+◌, ◌-◌, List, [], ◌∷◌, nat_lt, nat_le, min, unsigned_abs}
 use Rattle.std.specs.Prelude.{if◌then◌else◌}
-use Rattle.cs_base.specs.Numbers.{whole_below}
-use Rattle.cs_base.specs.declared.resource.Rate.{Rate}
-use Rattle.cs_base.specs.declared.resource.Rate.TheVariants as rate
+use Rattle.cs_base.specs.{Numbers.whole_below, declared.resource.Rate.Rate, declared.spaces.Spaces.Spaces}
 use Rattle.cs_words.specs.Catalogue.{Row, row_of, letter_at, is_settled, takes_table}
-use Rattle.cs_words.specs.declared.catalogue.Opcode.{Opcode}
-use Rattle.cs_words.specs.declared.catalogue.Shape.{Shape}
+use Rattle.cs_words.specs.{declared.catalogue.Opcode.Opcode, declared.catalogue.Shape.Shape}
+use Rattle.cs_typed.specs.TypedTree.{Expression, number, var, pair}
+use Rattle.cs_typed.specs.declared.tree.Var.{Var as Variable}
+use Rattle.cs_ir.specs.{Resources.places_of, declared.op.Reach.Reach}
+use Rattle.cs_base.specs.declared.resource.Rate.TheVariants as rate
 use Rattle.cs_words.specs.declared.catalogue.Shape.TheVariants as shape
 use Rattle.cs_words.specs.declared.catalogue.Space.TheVariants as space
 use Rattle.cs_words.specs.declared.sign.BinOp.TheVariants as op
 use Rattle.cs_typed.specs.TypedTree as typed
-use Rattle.cs_typed.specs.TypedTree.{Expression, number, var, pair}
-use Rattle.cs_typed.specs.declared.tree.Var.{Var as Variable}
-use Rattle.cs_base.specs.declared.spaces.Spaces.{Spaces}
-use Rattle.cs_ir.specs.Resources.{places_of}
-use Rattle.cs_ir.specs.declared.op.Reach.{Reach}
 use Rattle.cs_ir.specs.declared.op.Reach.TheVariants as reach
 
 -- The core of the language. A statement of rate Init is done once, as the note begins; any other in each control cycle.

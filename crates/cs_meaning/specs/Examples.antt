@@ -1,25 +1,19 @@
 -- Small pieces, as typed trees, that are worked out from the definitions: eight frames a second, four a control cycle.
 use Rattle.std.specs.Prelude.{ℕ, ℤ, pos, Bool, Option, ◌*◌, ◌*ℤ◌, unsigned_abs, List, [], ◌∷◌, map}
 use Rattle.std.specs.List.{range_with_len}
-use Rattle.cs_base.specs.Numbers.{sum_of, floor_div}
-use Rattle.cs_base.specs.Numbers.{one as scale}
-use Rattle.cs_base.specs.declared.resource.Rate.TheVariants as rate
-use Rattle.cs_base.specs.declared.resource.Res.{Res}
-use Rattle.cs_base.specs.declared.resource.Res.TheVariants as res
-use Rattle.cs_words.specs.declared.catalogue.Opcode.TheVariants as op
-use Rattle.cs_words.specs.declared.sign.BinOp.TheVariants as sign
+use Rattle.cs_base.specs.{Numbers.sum_of, Numbers.floor_div, Numbers.one as scale, declared.resource.Res.Res}
 use Rattle.cs_typed.specs.TypedTree.{Expression, number, var, field, pair, value, Statement, set, call, choose, Block}
 use Rattle.cs_typed.specs.TypedTree.{no_stmt, andthen, otherwise, arm}
 use Rattle.cs_typed.specs.declared.tree.Var.{Var as Variable}
 use Rattle.cs_typed.specs.declared.tree.Var.TheVariants.{Local, Global}
-use Rattle.cs_ir.specs.Resources.{Stock}
-use Rattle.cs_ir.specs.Waves.{Wave, silence}
-use Rattle.cs_meaning.specs.Core.{core}
-use Rattle.cs_meaning.specs.Initialising.{init_block}
-use Rattle.cs_meaning.specs.Notes.{Note, Path, new_note, moved_to, start}
-use Rattle.cs_meaning.specs.Performing.{perf_block}
-use Rattle.cs_meaning.specs.Uses.{block_uses, block_writes}
+use Rattle.cs_ir.specs.{Resources.Stock, Waves.Wave, Waves.silence}
+use Rattle.cs_meaning.specs.{Core.core, Initialising.init_block, Notes.Note, Notes.Path, Notes.new_note, Notes.moved_to}
+use Rattle.cs_meaning.specs.{Notes.start, Performing.perf_block, Uses.block_uses, Uses.block_writes}
 use Rattle.cs_meaning.specs.Plain.{Cause, Plain, Piece, plain, fresh, next_cycle}
+use Rattle.cs_base.specs.declared.resource.Rate.TheVariants as rate
+use Rattle.cs_base.specs.declared.resource.Res.TheVariants as res
+use Rattle.cs_words.specs.declared.catalogue.Opcode.TheVariants as op
+use Rattle.cs_words.specs.declared.sign.BinOp.TheVariants as sign
 
 -- samples of a time in raw seconds, eight a second
 abbrev eighths : ℤ → ℕ

@@ -5,16 +5,11 @@ use Rattle.cs_base.specs.declared.resource.Rate.{Rate}
 use Rattle.cs_words.specs.declared.catalogue.Opcode.{Opcode}
 use Rattle.cs_typed.specs.TypedTree.{Expression, number, var, field, head, neg, pair, pick, apply}
 use Rattle.cs_typed.specs.declared.tree.Var.{Var as Variable}
-use Rattle.cs_ir.specs.Values.{holds}
-use Rattle.cs_ir.specs.Waves.{if_init, first_values}
-use Rattle.cs_ir.specs.Worlds.{World}
-use Rattle.cs_ir.specs.declared.op.Reach.{Reach}
+use Rattle.cs_ir.specs.{Values.holds, Waves.if_init, Waves.first_values, Worlds.World, declared.op.Reach.Reach}
 use Rattle.cs_meaning.specs.Core.{Stmt, Block, Arms, set, unit, zak, store, out, out_at, ask, turnoff, nothing, choose}
-use Rattle.cs_meaning.specs.Core.{no_stmt, andthen, otherwise, arm}
+use Rattle.cs_meaning.specs.{Core.no_stmt, Core.andthen, Core.otherwise, Core.arm, When.beginning}
 use Rattle.cs_meaning.specs.Notes.{Note, Path, StatementPlace, moved_to, next, inside, inside_arm, past_stmt, past_arm}
-use Rattle.cs_meaning.specs.Notes.{assign}
-use Rattle.cs_meaning.specs.Notes.{value, values, first_value, done}
-use Rattle.cs_meaning.specs.When.{beginning}
+use Rattle.cs_meaning.specs.Notes.{assign, value, values, first_value, done}
 
 -- once something was refused nothing more is done
 abbrev pub going : {W : Type 0} → World W → Note W → Note W → Note W

@@ -2,21 +2,18 @@
 use Rattle.std.specs.Prelude.{ℕ, ℤ, pos, List, [], ◌∷◌, map, None, true}
 use Rattle.std.specs.List.{range_with_len}
 use Rattle.cs_base.specs.declared.resource.Rate.{Rate}
-use Rattle.cs_base.specs.declared.resource.Rate.TheVariants as rate
-use Rattle.cs_base.specs.declared.resource.Res.TheVariants as res
-use Rattle.cs_words.specs.declared.catalogue.Opcode.{Opcode}
-use Rattle.cs_words.specs.declared.catalogue.Opcode.TheVariants as op
-use Rattle.cs_words.specs.declared.sign.BinOp.{BinOp}
-use Rattle.cs_words.specs.declared.sign.BinOp.TheVariants as sign
-use Rattle.cs_words.specs.declared.word.Func.{Func}
-use Rattle.cs_words.specs.declared.word.Func.TheVariants as func
+use Rattle.cs_words.specs.{declared.catalogue.Opcode.Opcode, declared.sign.BinOp.BinOp, declared.word.Func.Func}
 use Rattle.cs_typed.specs.TypedTree.{Expression, number, var, field, neg, pair, pick, apply, Argument, value, text}
 use Rattle.cs_typed.specs.TypedTree.{Statement, set, call, choose, Block, no_stmt, andthen, otherwise, arm}
 use Rattle.cs_typed.specs.declared.tree.Var.TheVariants.{Global}
 use Rattle.cs_ir.specs.Waves.{silence}
 use Rattle.cs_meaning.specs.Examples.{small_piece, begun, lit, one, k, a, read, out}
-use Rattle.cs_meaning.specs.Notes.{first_value, new_note}
-use Rattle.cs_meaning.specs.Plain.{Piece, plain, fresh}
+use Rattle.cs_meaning.specs.{Notes.first_value, Notes.new_note, Plain.Piece, Plain.plain, Plain.fresh}
+use Rattle.cs_base.specs.declared.resource.Rate.TheVariants as rate
+use Rattle.cs_base.specs.declared.resource.Res.TheVariants as res
+use Rattle.cs_words.specs.declared.catalogue.Opcode.TheVariants as op
+use Rattle.cs_words.specs.declared.sign.BinOp.TheVariants as sign
+use Rattle.cs_words.specs.declared.word.Func.TheVariants as func
 
 -- statements one after another
 abbrev pub all : List Statement → Block

@@ -3,23 +3,18 @@
 use Rattle.std.specs.Prelude.{ℕ, ℤ, pos, Bool, true, false, not, ◌&&◌, ◌+◌, ◌-◌, ◌==◌, ◌++◌, List, [], ◌∷◌, nat_le}
 use Rattle.std.specs.Prelude.{slice_index_or, Option, Some, None, if◌then◌else◌}
 use Rattle.std.specs.Option.{is_some}
-use Rattle.cs_base.specs.Limits.{most_delay_samples}
-use Rattle.cs_base.specs.Rates.{res_rate}
+use Rattle.cs_base.specs.{Limits.most_delay_samples, Rates.res_rate, declared.resource.Res.Res}
 use Rattle.cs_base.specs.declared.resource.Rate.{Rate}
-use Rattle.cs_base.specs.declared.resource.Res.{Res}
-use Rattle.cs_base.specs.declared.resource.Res.TheVariants as res
 use Rattle.cs_words.specs.Catalogue.{row_of, takes_table}
-use Rattle.cs_words.specs.declared.catalogue.Opcode.{Opcode}
-use Rattle.cs_words.specs.declared.catalogue.Shape.{Shape}
-use Rattle.cs_words.specs.declared.catalogue.Shape.TheVariants as shape
-use Rattle.cs_words.specs.declared.catalogue.Space.TheVariants as space
-use Rattle.cs_ir.specs.Resources.{reaches}
+use Rattle.cs_words.specs.{declared.catalogue.Opcode.Opcode, declared.catalogue.Shape.Shape}
+use Rattle.cs_ir.specs.{Resources.reaches, Worlds.World, declared.op.Reach.Reach}
 use Rattle.cs_ir.specs.Waves.{Wave, held, silence, operand}
-use Rattle.cs_ir.specs.Worlds.{World}
-use Rattle.cs_ir.specs.declared.op.Reach.{Reach}
 use Rattle.cs_meaning.specs.Pieces.{Piece, Table, head_value, index, added, steps_of, table_number, find_table}
 use Rattle.cs_meaning.specs.Pieces.{is_there, read_points, is_live, stored, places_of_indices, may_touch, is_delay}
 use Rattle.cs_meaning.specs.Pieces.{at_place, is_cleared}
+use Rattle.cs_base.specs.declared.resource.Res.TheVariants as res
+use Rattle.cs_words.specs.declared.catalogue.Shape.TheVariants as shape
+use Rattle.cs_words.specs.declared.catalogue.Space.TheVariants as space
 
 -- why a note doesn't start
 pub data Cause : Type 0 where

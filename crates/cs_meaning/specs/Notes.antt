@@ -1,16 +1,12 @@
 -- A note in its world, and what its expressions are worth.
 use Rattle.std.specs.Prelude.{ℕ, ℤ, pos, suc, ◌+◌, List, [], ◌∷◌}
-use Rattle.cs_base.specs.Rates.{res_rate}
-use Rattle.cs_base.specs.declared.resource.Rate.{Rate}
+use Rattle.cs_base.specs.{Rates.res_rate, declared.resource.Rate.Rate}
 use Rattle.cs_typed.specs.TypedTree.{Expression, number, var, field, head, neg, pair, pick, apply}
 use Rattle.cs_typed.specs.declared.tree.Var.{Var as Variable}
 use Rattle.cs_typed.specs.declared.tree.Var.TheVariants.{Local, Global}
-use Rattle.cs_ir.specs.Registers.{local}
-use Rattle.cs_ir.specs.Machine.{put}
+use Rattle.cs_ir.specs.{Registers.local, Machine.put, Worlds.World, declared.register.Reg.Reg}
 use Rattle.cs_ir.specs.Values.{negated, applied}
 use Rattle.cs_ir.specs.Waves.{Wave, held, constant, both, chosen, if_init, silence}
-use Rattle.cs_ir.specs.Worlds.{World}
-use Rattle.cs_ir.specs.declared.register.Reg.{Reg}
 use Rattle.cs_meaning.specs.Core.{Stmt, Block, Arms, set, unit, zak, store, out, out_at, ask, turnoff, nothing, choose}
 use Rattle.cs_meaning.specs.Core.{no_stmt, andthen, otherwise, arm}
 use Rattle.cs_meaning.specs.When.{When, beginning, cycle}

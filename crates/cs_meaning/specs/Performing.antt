@@ -1,14 +1,10 @@
 -- What a note does in a control cycle.
 use Rattle.std.specs.Prelude.{◌∷◌, if◌then◌else◌}
-use Rattle.cs_ir.specs.Values.{holds}
-use Rattle.cs_ir.specs.Waves.{if_init}
-use Rattle.cs_ir.specs.Worlds.{World}
+use Rattle.cs_ir.specs.{Values.holds, Waves.if_init, Worlds.World}
 use Rattle.cs_meaning.specs.Core.{Stmt, Block, Arms, set, unit, zak, store, out, out_at, ask, turnoff, nothing, choose}
-use Rattle.cs_meaning.specs.Core.{no_stmt, andthen, otherwise, arm}
+use Rattle.cs_meaning.specs.{Core.no_stmt, Core.andthen, Core.otherwise, Core.arm, When.cycle}
 use Rattle.cs_meaning.specs.Notes.{Note, StatementPlace, moved_to, inside, inside_arm, past_stmt, past_arm, assign}
-use Rattle.cs_meaning.specs.Notes.{value}
-use Rattle.cs_meaning.specs.Notes.{values, done, sent, sent_at}
-use Rattle.cs_meaning.specs.When.{cycle}
+use Rattle.cs_meaning.specs.Notes.{value, values, done, sent, sent_at}
 
 -- Performance: every statement of another rate than Init, in the order of the text. An `if` takes the first arm whose
 -- condition holds.

@@ -2,30 +2,19 @@
 -- state do.
 use Rattle.std.specs.Prelude.{ℕ, ℤ, pos, Bool, true, false, not, ◌&&◌, ◌||◌, ◌*◌, ◌==◌, zero, suc, List, [], ◌∷◌, map}
 use Rattle.std.specs.Prelude.{nat_lt, unsigned_abs, slice_index_or, int_lt, Option, Some, None, if◌then◌else◌}
-use Rattle.std.specs.Int.{is_negative}
-use Rattle.std.specs.List.{range_with_len}
-use Rattle.std.specs.Option.{is_some}
-use Rattle.cs_base.specs.Numbers.{whole_below, sum_of, quotient_of}
-use Rattle.cs_base.specs.declared.resource.Rate.{Rate}
-use Rattle.cs_base.specs.declared.resource.Rate.TheVariants as rate
-use Rattle.cs_base.specs.declared.resource.Res.{Res}
-use Rattle.cs_base.specs.declared.resource.Res.TheVariants as res
-use Rattle.cs_base.specs.declared.spaces.Spaces.{Spaces}
-use Rattle.cs_words.specs.Catalogue.{takes_table}
-use Rattle.cs_words.specs.Generators.{Generators}
-use Rattle.cs_words.specs.declared.catalogue.Opcode.{Opcode}
-use Rattle.cs_words.specs.declared.catalogue.Opcode.TheVariants as op
-use Rattle.cs_words.specs.declared.catalogue.Space.{Space}
-use Rattle.cs_words.specs.declared.catalogue.Space.TheVariants as space
-use Rattle.cs_words.specs.declared.word.HeadName.{HeadName}
-use Rattle.cs_words.specs.declared.word.HeadName.TheVariants as head
-use Rattle.cs_gen.specs.Places.{place_of_index}
-use Rattle.cs_gen.specs.Points.{len_of}
-use Rattle.cs_gen.specs.Tables.{curve_of}
-use Rattle.cs_base.specs.Heads.{Header}
+use Rattle.std.specs.{Int.is_negative, List.range_with_len, Option.is_some}
+use Rattle.cs_base.specs.{Numbers.whole_below, Numbers.sum_of, Numbers.quotient_of, declared.resource.Rate.Rate}
+use Rattle.cs_base.specs.{declared.resource.Res.Res, declared.spaces.Spaces.Spaces, Heads.Header}
+use Rattle.cs_words.specs.{Catalogue.takes_table, Generators.Generators, declared.catalogue.Opcode.Opcode}
+use Rattle.cs_words.specs.{declared.catalogue.Space.Space, declared.word.HeadName.HeadName}
+use Rattle.cs_gen.specs.{Places.place_of_index, Points.len_of, Tables.curve_of}
 use Rattle.cs_ir.specs.Resources.{places_of, zak_place, reaches}
-use Rattle.cs_ir.specs.Waves.{Wave}
-use Rattle.cs_ir.specs.declared.op.Reach.{Reach}
+use Rattle.cs_ir.specs.{Waves.Wave, declared.op.Reach.Reach}
+use Rattle.cs_base.specs.declared.resource.Rate.TheVariants as rate
+use Rattle.cs_base.specs.declared.resource.Res.TheVariants as res
+use Rattle.cs_words.specs.declared.catalogue.Opcode.TheVariants as op
+use Rattle.cs_words.specs.declared.catalogue.Space.TheVariants as space
+use Rattle.cs_words.specs.declared.word.HeadName.TheVariants as head
 
 -- A table: its number, its size, its points where they are frozen, and whether it has been made by now.
 pub record Table : Type 0 where

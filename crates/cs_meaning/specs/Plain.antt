@@ -1,12 +1,9 @@
 -- The plain world: what notes share as one map of values, and each unit as the list of all its inputs so far.
 use Rattle.std.specs.Prelude.{ℕ, ℤ, Bool, ◌+◌, ◌++◌, List, [], map, if◌then◌else◌}
 use Rattle.std.specs.List.{range_with_len}
-use Rattle.cs_base.specs.Rates.{same_res}
-use Rattle.cs_base.specs.declared.resource.Rate.{Rate}
-use Rattle.cs_base.specs.declared.resource.Res.{Res}
+use Rattle.cs_base.specs.{Rates.same_res, declared.resource.Rate.Rate, declared.resource.Res.Res}
 use Rattle.cs_words.specs.declared.catalogue.Opcode.{Opcode}
-use Rattle.cs_ir.specs.Waves.{Wave, silence}
-use Rattle.cs_ir.specs.Worlds.{World}
+use Rattle.cs_ir.specs.{Waves.Wave, Waves.silence, Worlds.World}
 use Rattle.cs_meaning.specs.Model.{State, WorldModel, fresh_state, world_of}
 pub use Rattle.cs_meaning.specs.Model.{Cause, no_table, delay_too_long, out_to, out_to_numbered}
 pub use Rattle.cs_meaning.specs.Pieces.{Piece, Table, head_value, index, added, steps_of, step_at, table_number}

@@ -1,9 +1,6 @@
 -- Which of what notes share a note may read or write, as it begins and in a control cycle, in the order of the text.
-use Rattle.std.specs.Prelude.{List, [], ◌∷◌, ◌++◌}
-use Rattle.std.specs.List.{flat_map}
-use Rattle.cs_base.specs.declared.resource.Rate.{Rate}
-use Rattle.cs_base.specs.declared.resource.Rate.TheVariants as rate
-use Rattle.cs_base.specs.declared.resource.Res.{Res}
+use Rattle.std.specs.{Prelude.List, Prelude.[], Prelude.◌∷◌, Prelude.◌++◌, List.flat_map}
+use Rattle.cs_base.specs.{declared.resource.Rate.Rate, declared.resource.Res.Res}
 use Rattle.cs_typed.specs.TypedTree.{Expression, number, var, field, head, neg, pair, pick, apply}
 use Rattle.cs_typed.specs.declared.tree.Var.{Var as Variable}
 use Rattle.cs_typed.specs.declared.tree.Var.TheVariants.{Local, Global}
@@ -11,6 +8,7 @@ use Rattle.cs_ir.specs.Resources.{Stock, Access, may_use, may_write, read_only, 
 use Rattle.cs_ir.specs.Waves.{if_init}
 use Rattle.cs_meaning.specs.Core.{Stmt, Block, Arms, set, unit, zak, store, out, out_at, ask, turnoff, nothing, choose}
 use Rattle.cs_meaning.specs.Core.{no_stmt, andthen, otherwise, arm}
+use Rattle.cs_base.specs.declared.resource.Rate.TheVariants as rate
 pub use Rattle.cs_meaning.specs.When.{When, beginning, cycle}
 
 -- Of what is done at a rate: as the note begins all of it where it is done once, else what is kept of it; and in a

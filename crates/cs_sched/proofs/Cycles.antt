@@ -1,25 +1,18 @@
 -- Waiting notes that are kept by their cycle, with one put in or taken out.
 use Rattle.std.proofs.Common.{◌≡◌, ◌≢◌, ◌∙◌, ◌++◌, ◌+◌, ◌≤◌, ◌==◌, ℕ, Bool, true, false, List, [], ◌∷◌, refl, sym, ap}
-use Rattle.std.proofs.Common.{subst}
-use Rattle.std.proofs.Common.{arith, append-nil, cond}
+use Rattle.std.proofs.Common.{subst, arith, append-nil, cond}
 use Rattle.std.specs.Prelude.{if◌then◌else◌, Option, Some, None, option_to_list}
 use Rattle.std.specs.BTreeMap.{BTreeMap, IsOrdered, UpdatesBy, get, is_at}
-use Rattle.std.specs.Cmp.{eq_by_cmp_equiv, nat_cmp_total}
-use Rattle.std.specs.List.{All}
-use Rattle.std.specs.List.Sorted.{IsStrictlySortedBy}
-use Rattle.std.specs.Map.{keys_of, lookup}
-use Rattle.std.specs.Option.{MatchOption, unwrap_or}
-use Rattle.std.specs.Ordering.{nat_cmp}
-use Rattle.std.proofs.lemmas.Bool.{eqb-true}
+use Rattle.std.specs.{Cmp.eq_by_cmp_equiv, Cmp.nat_cmp_total, List.All, List.Sorted.IsStrictlySortedBy, Map.keys_of}
+use Rattle.std.specs.{Map.lookup, Option.MatchOption, Option.unwrap_or, Ordering.nat_cmp}
+use Rattle.std.proofs.lemmas.{Bool.eqb-true, Map.lookup-none, Map.Entries.none_past_head}
 use Rattle.std.proofs.lemmas.List.Elements.{All-append, All-head, All-tail, filter-append}
-use Rattle.std.proofs.lemmas.Map.{lookup-none}
-use Rattle.std.proofs.lemmas.Map.Entries.{none_past_head}
 use Rattle.std.proofs.lemmas.Map.Keys.{IsDistinct-from_sorted, sorted_tail}
 use Rattle.cs_base.specs.Limits.{most_asks}
 use Rattle.cs_sched.specs.Waiting.{IsTaken, those_in, waiting, with_answer}
-use Rattle.cs_sched.specs.declared.pending.Added.TheVariants as added
 use Rattle.cs_sched.specs.declared.due.Due.{Due}
 use Rattle.cs_sched.specs.inner.ByCycle.{AreByCycle, Puts, all_dues, at_cycle}
+use Rattle.cs_sched.specs.declared.pending.Added.TheVariants as added
 
 abbrev pub Entries : Type 0
 Entries = List (ℕ × List Due)
@@ -69,7 +62,8 @@ those_at ((k, ds) ∷ es) ordered own c =
     at_key = grind arith
 
     here : All (λ d. d.cycle ≡ k) ds
-    here = subst (λ b. All (λ d. d.cycle ≡ k) (unwrap_or (cond b (Some ds) (lookup (is_at (nat_cmp k)) es)) [])) at_key (own k)
+    here = subst (λ b. All (λ d. d.cycle ≡ k) (unwrap_or (cond b (Some ds) (lookup (is_at (nat_cmp k)) es)) []))
+        at_key (own k)
 
     head : found ((k, ds) ∷ es) k ≡ ds
     head = ap (λ b. unwrap_or (cond b (Some ds) (lookup (is_at (nat_cmp k)) es)) []) at_key
@@ -84,7 +78,8 @@ those_at ((k, ds) ∷ es) ordered own c =
       where
         by : (b : Bool) → (q == k) ≡ b → All (λ d. d.cycle ≡ q) (found es q)
         by true e = rw (eqb-true q k e) (rw absent (λ j d lt. absurd (omega arith)))
-        by false e = subst (λ b. All (λ d. d.cycle ≡ q) (unwrap_or (cond b (Some ds) (lookup (is_at (nat_cmp q)) es)) []))
+        by false e =
+            subst (λ b. All (λ d. d.cycle ≡ q) (unwrap_or (cond b (Some ds) (lookup (is_at (nat_cmp q)) es)) []))
             (apart q k e) (own q)
 
     both : (b : Bool) → (c == k) ≡ b → (if b then ds else []) ++ found es c ≡ found ((k, ds) ∷ es) c

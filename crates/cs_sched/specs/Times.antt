@@ -1,10 +1,7 @@
 -- When a note that was asked for begins, how long it lasts, and its p-fields.
 use Rattle.std.specs.Prelude.{ℕ, ℤ, pos, ◌+◌, ◌-◌, ◌*◌, ◌/◌, ◌^◌, ◌*ℤ◌, ◌∷◌, List, max, min, unsigned_abs}
-use Rattle.std.specs.Prelude.{if◌then◌else◌}
-use Rattle.std.specs.Int.{int_max}
-use Rattle.std.specs.Ordering.{int_eq}
-use Rattle.cs_base.specs.Numbers.{clamp, sum_of}
-use Rattle.cs_base.specs.declared.head.Head.{Head}
+use Rattle.std.specs.{Prelude.if◌then◌else◌, Int.int_max, Ordering.int_eq}
+use Rattle.cs_base.specs.{Numbers.clamp, Numbers.sum_of, declared.head.Head.Head}
 use Rattle.cs_ir.specs.declared.ask.Ask.{Ask}
 use Rattle.cs_tempo.specs.Time.{cycle_of}
 use Rattle.cs_sched.specs.declared.due.Due.{Due}

@@ -1,12 +1,9 @@
 -- Which notes wait, and what becomes of one that is asked for.
-use Rattle.std.specs.Prelude.{ℕ, ◌≡◌, ◌≢◌, ◌+◌, ◌==◌, List, [], ◌∷◌, ◌++◌, filter, nat_le, Option, None}
-use Rattle.std.specs.Prelude.{option_to_list, if◌then◌else◌}
-use Rattle.std.specs.Int.{is_negative}
+use Rattle.std.specs.Prelude.{ℕ, ◌≡◌, ◌≢◌, ◌+◌, ◌==◌, List, [], ◌∷◌, ◌++◌, filter, nat_le, Option, None, option_to_list}
+use Rattle.std.specs.{Prelude.if◌then◌else◌, Int.is_negative}
 use Rattle.cs_base.specs.Limits.{most_asks}
 use Rattle.cs_ir.specs.declared.ask.Ask.{Ask}
-use Rattle.cs_sched.specs.Times.{Clock, begins_in}
-use Rattle.cs_sched.specs.declared.due.Due.{Due}
-use Rattle.cs_sched.specs.declared.pending.Added.{Added}
+use Rattle.cs_sched.specs.{Times.Clock, Times.begins_in, declared.due.Due.Due, declared.pending.Added.Added}
 use Rattle.cs_sched.specs.declared.pending.Added.TheVariants as added
 
 -- The notes that begin in each cycle, in the order in which they were kept; and how many have been kept in all.

@@ -1,17 +1,13 @@
 -- Each row of each table is found as itself, by computation.
 use Rattle.std.proofs.Common.{◌≡◌, ℕ, List, [], ◌∷◌, Bool, true, false, Option, Some, None, map, refl, sym, ap, subst}
 use Rattle.std.proofs.Common.{if◌then◌else◌}
-use Rattle.std.specs.Str.{bytes_eq}
-use Rattle.std.specs.List.{All, list_all}
-use Rattle.std.proofs.lemmas.Slice.Eq.{bytes_eq-Decides}
-use Rattle.std.proofs.lemmas.List.Elements.{All-cons, All-nil}
+use Rattle.std.specs.{Str.bytes_eq, List.All, List.list_all}
+use Rattle.std.proofs.lemmas.{Slice.Eq.bytes_eq-Decides, List.Elements.All-cons, List.Elements.All-nil}
 use Rattle.cs_words.specs.Catalogue.{row_of, opcodes, named, catalogued}
-use Rattle.cs_words.specs.Signs.{signs, sign_of}
+use Rattle.cs_words.specs.{Signs.signs, Signs.sign_of, declared.catalogue.Opcode.Opcode, declared.word.Word.Word}
 use Rattle.cs_words.specs.Words.{words, foreign_words, listed_word, is_foreign, word_of}
-use Rattle.cs_words.specs.declared.catalogue.Opcode.{Opcode}
-use Rattle.cs_words.specs.declared.word.Word.{Word}
-use Rattle.cs_words.specs.declared.word.Word.TheVariants as word
 use Rattle.cs_words.proofs.EachOpcode.{opcode_found, of_all}
+use Rattle.cs_words.specs.declared.word.Word.TheVariants as word
 
 -- a word is this opcode, by its name
 is_opcode : Opcode → Word → Bool

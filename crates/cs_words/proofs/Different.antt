@@ -1,16 +1,10 @@
 -- Different names behind references, with an index of their places.
 use Rattle.std.proofs.Common.{◌≡◌, ◌∙◌, ◌++◌, ◌||◌, ℕ, suc, Bool, true, false, Bor, List, [], ◌∷◌, map, not, cond, refl}
 use Rattle.std.proofs.Common.{sym, ap, length, Option, Some, None, if◌then◌else◌, ◌+◌, arith}
-use Rattle.std.proofs.lemmas.List.{length-map}
-use Rattle.std.proofs.lemmas.Map.Text.{btree_map_updates_str}
-use Rattle.std.proofs.lemmas.Slice.Eq.{bytes_eq-Decides}
+use Rattle.std.proofs.lemmas.{List.length-map, Map.Text.btree_map_updates_str, Slice.Eq.bytes_eq-Decides}
 use Rattle.std.specs.BTreeMap.{BTreeMap, UpdatesBy, get_by}
-use Rattle.std.specs.Cmp.Lexicographic.{slice_cmp}
-use Rattle.std.specs.Option.{is_some, option_map, unwrap_or}
-use Rattle.std.specs.Prelude.{Err, Ok, OnOk, Result}
-use Rattle.std.specs.Result.{is_err}
-use Rattle.std.specs.Ordering.{nat_cmp}
-use Rattle.std.specs.Str.{bytes_eq}
+use Rattle.std.specs.{Cmp.Lexicographic.slice_cmp, Option.is_some, Option.option_map, Option.unwrap_or, Prelude.Err}
+use Rattle.std.specs.{Prelude.Ok, Prelude.OnOk, Prelude.Result, Result.is_err, Ordering.nat_cmp, Str.bytes_eq}
 use Rattle.cs_words.specs.NameSets.{has, place_of, seen}
 use Rattle.cs_words.specs.inner.Indexes.{IsIndex, place_among}
 
@@ -83,7 +77,8 @@ last_place : (ns : List (List ℕ)) (x name : List ℕ) → has ns x ≡ false
     → (if bytes_eq x name then Some (length ns) else place_among ns name) ≡ place_among (ns ++ x ∷ []) name
 last_place [] x name new = ap (λ b. if b then Some 0 else None) (both_ways x name)
 last_place (n ∷ ns) x name new =
-    let apart = none_of (bytes_eq x n) (has ns x) new in by (bytes_eq x name) refl apart.0 (last_place ns x name apart.1)
+    let apart = none_of (bytes_eq x n) (has ns x) new in
+    by (bytes_eq x name) refl apart.0 (last_place ns x name apart.1)
   where
     by : (b : Bool) → bytes_eq x name ≡ b → bytes_eq x n ≡ false
         → (if bytes_eq x name then Some (length ns) else place_among ns name) ≡ place_among (ns ++ x ∷ []) name

@@ -1,7 +1,6 @@
 -- What a computation over the catalogue shows of each opcode. An opcode more adds nothing here.
 use Rattle.std.proofs.Common.{◌≡◌, ℕ, List, [], ◌∷◌, Bool, true, false, not, ◌||◌, Some, refl, if◌then◌else◌}
-use Rattle.std.specs.Str.{bytes_eq}
-use Rattle.std.specs.List.{list_all}
+use Rattle.std.specs.{Str.bytes_eq, List.list_all}
 use Rattle.std.proofs.lemmas.Bool.{and_parts}
 use Rattle.cs_words.specs.Catalogue.{row_of, opcodes, named, catalogued}
 use Rattle.cs_words.specs.declared.catalogue.Opcode.{Opcode}

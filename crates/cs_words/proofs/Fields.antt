@@ -1,18 +1,11 @@
 -- What a word that is read as a name or as a field looks like.
 use Rattle.std.proofs.Common.{◌≡◌, ◌≤◌, ◌&&◌, ◌==◌, ◌+◌, ◌*◌, ℕ, List, [], ◌∷◌, Bool, true, false, Option, Some, None}
 use Rattle.std.proofs.Common.{◌≢◌, refl, ap, ◌∙◌, sym, if◌then◌else◌, nat_le, codes, arith}
-use Rattle.std.specs.List.{list_all}
-use Rattle.std.proofs.lemmas.Bool.Decides.{nat_tests}
-use Rattle.std.specs.Str.{byte, bytes_eq}
-use Rattle.std.specs.Char.{is_ascii_digit}
-use Rattle.std.proofs.lemmas.Bool.{and_parts}
-use Rattle.cs_words.specs.Names.{is_name}
-use Rattle.cs_words.specs.Catalogue.{catalogued}
-use Rattle.cs_words.specs.Tables.{looked_up}
+use Rattle.std.specs.{List.list_all, Str.byte, Str.bytes_eq, Char.is_ascii_digit}
+use Rattle.std.proofs.lemmas.{Bool.Decides.nat_tests, Bool.and_parts}
+use Rattle.cs_words.specs.{Names.is_name, Catalogue.catalogued, Tables.looked_up, Words.is_foreign, Words.word_of}
+use Rattle.cs_words.specs.{declared.catalogue.Opcode.Opcode, declared.word.Word.Word}
 use Rattle.cs_words.specs.Words.{words, listed_word, first_of, field_of, field_or, is_leading, digit, plain_word}
-use Rattle.cs_words.specs.Words.{is_foreign, word_of}
-use Rattle.cs_words.specs.declared.catalogue.Opcode.{Opcode}
-use Rattle.cs_words.specs.declared.word.Word.{Word}
 use Rattle.cs_words.specs.declared.word.Word.TheVariants as word
 
 -- a word of the list is no name and no field

@@ -1,20 +1,15 @@
 -- The catalogue: what each opcode is called, what it takes and gives, and how it is performed.
 use Rattle.std.specs.Prelude.{ℕ, Bool, true, false, not, List, [], ◌∷◌, ◌-◌, ◌%◌, ◌&&◌, ◌||◌, ◌==◌, codes, length}
 use Rattle.std.specs.Prelude.{filter, nat_le, slice_get, Option, Some, None, if◌then◌else◌}
-use Rattle.std.specs.List.{list_any}
-use Rattle.std.specs.Str.{bytes_eq}
-use Rattle.std.specs.Option.{unwrap_or}
-use Rattle.cs_base.specs.Rates.{within, is_init, is_audio}
-use Rattle.cs_base.specs.declared.resource.Rate.{Rate}
+use Rattle.std.specs.{List.list_any, Str.bytes_eq, Option.unwrap_or}
+use Rattle.cs_base.specs.{Rates.within, Rates.is_init, Rates.is_audio, declared.resource.Rate.Rate}
+use Rattle.cs_words.specs.{declared.catalogue.Opcode.Opcode, declared.catalogue.Letter.Letter}
+use Rattle.cs_words.specs.{declared.catalogue.More.More, declared.catalogue.Shape.Shape}
 use Rattle.cs_base.specs.declared.resource.Rate.TheVariants as rate
-use Rattle.cs_words.specs.declared.catalogue.Opcode.{Opcode}
 use Rattle.cs_words.specs.declared.catalogue.Opcode.TheVariants as op
-use Rattle.cs_words.specs.declared.catalogue.Letter.{Letter}
 use Rattle.cs_words.specs.declared.catalogue.Letter.TheVariants as letter
-use Rattle.cs_words.specs.declared.catalogue.More.{More}
 use Rattle.cs_words.specs.declared.catalogue.More.TheVariants as more
 use Rattle.cs_words.specs.declared.catalogue.Space.TheVariants as space
-use Rattle.cs_words.specs.declared.catalogue.Shape.{Shape}
 use Rattle.cs_words.specs.declared.catalogue.Shape.TheVariants as shape
 
 -- what the catalogue says of an opcode: its name, the rates that its result may have (none: it has no result), the

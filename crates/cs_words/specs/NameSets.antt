@@ -1,7 +1,6 @@
 -- Different names in the order in which they were first seen.
 use Rattle.std.specs.Prelude.{ℕ, Bool, List, [], ◌∷◌, ◌++◌, if◌then◌else◌}
-use Rattle.std.specs.Str.{bytes_eq}
-use Rattle.std.specs.List.{list_any, position_or_len}
+use Rattle.std.specs.{Str.bytes_eq, List.list_any, List.position_or_len}
 
 -- a name is among these
 abbrev pub has : List (List ℕ) → List ℕ → Bool

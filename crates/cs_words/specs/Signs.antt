@@ -1,10 +1,8 @@
 -- What each sign is.
 use Rattle.std.specs.Prelude.{ℕ, Bool, true, false, List, [], ◌∷◌, codes}
 use Rattle.std.specs.Option.{unwrap_or}
-use Rattle.cs_words.specs.Tables.{looked_up}
-use Rattle.cs_words.specs.declared.sign.BinOp.{BinOp}
+use Rattle.cs_words.specs.{Tables.looked_up, declared.sign.BinOp.BinOp, declared.sign.Sign.Sign}
 use Rattle.cs_words.specs.declared.sign.BinOp.TheVariants as op
-use Rattle.cs_words.specs.declared.sign.Sign.{Sign}
 use Rattle.cs_words.specs.declared.sign.Sign.TheVariants as sign
 
 -- what each sign is

@@ -1,17 +1,11 @@
 -- What each word is.
 use Rattle.std.specs.Prelude.{ℕ, Bool, List, [], ◌∷◌, ◌+◌, ◌-◌, ◌*◌, ◌&&◌, ◌==◌, codes, Option, Some, None}
-use Rattle.std.specs.Prelude.{if◌then◌else◌, nat_le}
-use Rattle.std.specs.Str.{bytes_eq, byte}
-use Rattle.std.specs.List.{list_any}
-use Rattle.std.specs.Char.{is_ascii_digit}
-use Rattle.cs_words.specs.Catalogue.{catalogued}
-use Rattle.cs_words.specs.Names.{is_name}
-use Rattle.cs_words.specs.Tables.{looked_up}
+use Rattle.std.specs.{Prelude.if◌then◌else◌, Prelude.nat_le, Str.bytes_eq, Str.byte, List.list_any, Char.is_ascii_digit}
+use Rattle.cs_words.specs.{Catalogue.catalogued, Names.is_name, Tables.looked_up, declared.word.Word.Word}
 use Rattle.cs_words.specs.declared.catalogue.Opcode.{Opcode}
 use Rattle.cs_words.specs.declared.word.Keyword.TheVariants as key
 use Rattle.cs_words.specs.declared.word.HeadName.TheVariants as head
 use Rattle.cs_words.specs.declared.word.Func.TheVariants as func
-use Rattle.cs_words.specs.declared.word.Word.{Word}
 use Rattle.cs_words.specs.declared.word.Word.TheVariants as word
 
 -- keywords, which no variable and no opcode may be called; what a header line sets; functions that an expression may

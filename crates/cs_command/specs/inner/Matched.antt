@@ -1,10 +1,7 @@
 -- What is known of clap's matches.
 use Rattle.std.specs.Prelude.{◌≡◌, List, Option, Some, None, true, false}
-use Rattle.clap.specs.Matches.{found_of}
-use Rattle.clap.specs.Walk.{rows_of}
-use Rattle.clap.specs.declared.parser.matches.ArgMatches.{ArgMatches}
-use Rattle.cs_arguments.specs.Reading.{Text, Use}
-use Rattle.cs_arguments.specs.Taken.{ends, good, is_taken, uses_in}
+use Rattle.clap.specs.{Matches.found_of, Walk.rows_of, declared.parser.matches.ArgMatches.ArgMatches}
+use Rattle.cs_arguments.specs.{Reading.Text, Reading.Use, Taken.ends, Taken.good, Taken.is_taken, Taken.uses_in}
 
 -- the matches hold these uses, which stand together
 abbrev pub Holds : List Use → ArgMatches → Type 0

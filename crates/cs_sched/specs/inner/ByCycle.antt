@@ -1,9 +1,6 @@
 -- The notes that wait, as they are kept: for each cycle those that begin in it.
 use Rattle.std.specs.Prelude.{ℕ, ◌≡◌, ◌≤◌, ◌==◌, List, [], ◌∷◌, ◌++◌, if◌then◌else◌}
-use Rattle.std.specs.BTreeMap.{BTreeMap, IsOrdered, get}
-use Rattle.std.specs.List.{All}
-use Rattle.std.specs.Option.{unwrap_or}
-use Rattle.std.specs.Ordering.{nat_cmp}
+use Rattle.std.specs.{BTreeMap.BTreeMap, BTreeMap.IsOrdered, BTreeMap.get, List.All, Option.unwrap_or, Ordering.nat_cmp}
 use Rattle.cs_base.specs.Limits.{most_asks}
 use Rattle.cs_sched.specs.declared.due.Due.{Due}
 

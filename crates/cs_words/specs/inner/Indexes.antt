@@ -1,11 +1,7 @@
 -- The places of names in a list, as an ordered index has them.
 use Rattle.std.specs.Prelude.{ℕ, suc, ◌≡◌, List, [], ◌∷◌, Option, Some, None, if◌then◌else◌}
 use Rattle.std.specs.BTreeMap.{BTreeMap, get_by}
-use Rattle.std.specs.Borrow.{Bor}
-use Rattle.std.specs.Cmp.Lexicographic.{slice_cmp}
-use Rattle.std.specs.Option.{option_map}
-use Rattle.std.specs.Ordering.{nat_cmp}
-use Rattle.std.specs.Str.{bytes_eq}
+use Rattle.std.specs.{Borrow.Bor, Cmp.Lexicographic.slice_cmp, Option.option_map, Ordering.nat_cmp, Str.bytes_eq}
 
 -- the place of a name, if it is in the list
 abbrev pub place_among : List (List ℕ) → List ℕ → Option ℕ

@@ -1,8 +1,7 @@
 -- The rows of the catalogue as the code has them.
 use Rattle.std.specs.Prelude.{ℕ, List, [], ◌∷◌, Option, Some, None, if◌then◌else◌}
 use Rattle.std.specs.Str.{bytes_eq}
-use Rattle.cs_words.specs.Catalogue.{Row, row}
-use Rattle.cs_words.specs.declared.catalogue.Entry.{Entry}
+use Rattle.cs_words.specs.{Catalogue.Row, Catalogue.row, declared.catalogue.Entry.Entry}
 use Rattle.cs_words.specs.declared.catalogue.Opcode.{Opcode}
 
 abbrev pub row_in : Entry → Row

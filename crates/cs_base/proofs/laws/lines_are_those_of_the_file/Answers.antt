@@ -1,5 +1,4 @@
-use Rattle.cs_base.proofs.LineCuts.{lines_numbered}
-use Rattle.cs_base.proofs.Texts.{line_behind}
+use Rattle.cs_base.proofs.{LineCuts.lines_numbered, Texts.line_behind}
 use Rattle.cs_base.proofs.laws.lines_are_those_of_the_file.Goals as goal
 
 pub returns-clause-numbers : goal.returns-clause-numbers

@@ -1,7 +1,6 @@
 use Rattle.std.proofs.Common.{◌∙◌, sym, ap, refl, codes, option_map}
 use Rattle.clap.specs.Words.{found_of}
-use Rattle.cs_arguments.specs.Orders.{piece_in}
-use Rattle.cs_arguments.specs.Reading.{asked_of}
+use Rattle.cs_arguments.specs.{Orders.piece_in, Reading.asked_of}
 use Rattle.cs_arguments.proofs.Values.{text_is}
 use Rattle.cs_command.proofs.Getters.{all_given, flag_given, piece_given, pool_flag, silent_flag, turns_flag, wide_flag}
 use Rattle.cs_command.proofs.given.order_of.Goals as goal

@@ -1,6 +1,5 @@
 use Rattle.std.proofs.Common.{◌≡◌, drop}
-use Rattle.cs_words.specs.Tables.{looked_up}
-use Rattle.cs_words.specs.inner.Tables.{rows}
+use Rattle.cs_words.specs.{Tables.looked_up, inner.Tables.rows}
 use Rattle.cs_words.proofs.table.looked_up.Given as goal
 
 abbrev pub invariant-loop-spelling : goal.invariant-loop-spelling

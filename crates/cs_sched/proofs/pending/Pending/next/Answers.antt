@@ -1,8 +1,6 @@
 use Rattle.std.proofs.Common.{◌≡◌, ◌∙◌, ◌++◌, [], ap, arith, rules, sym}
-use Rattle.std.specs.Option.{unwrap_or}
-use Rattle.std.specs.Prelude.{Some, option_to_list}
-use Rattle.std.proofs.lemmas.Bool.Decides.{nat_tests}
-use Rattle.std.proofs.lemmas.List.{nil_from_length}
+use Rattle.std.specs.{Option.unwrap_or, Prelude.Some, Prelude.option_to_list}
+use Rattle.std.proofs.lemmas.{Bool.Decides.nat_tests, List.nil_from_length}
 use Rattle.cs_sched.proofs.Cycles.{none_left, none_taken, popped, puts, puts_again, taken}
 use Rattle.cs_sched.proofs.pending.Pending.next.Goals as goal
 
