@@ -1,15 +1,13 @@
 -- The row of all words: what is found at each place, and what it is once a word is set.
+use Rattle.std.proofs.lemmas.Grind.{common_steps}
 use Rattle.std.proofs.Common.{◌≡◌, ℕ, suc, ◌+◌, ◌<◌, List, [], ◌∷◌, ◌++◌, length, set, sym, ap, ◌∙◌, arith, zero-add}
 use Rattle.std.proofs.lemmas.List.{get_or_append_left, get_or-append-add, set-append_left, length-set}
-use Rattle.cs_board.specs.Plans.{edge_count, area_count}
+use Rattle.cs_board.specs.{Plans.edge_count, Plans.area_count, declared.view.Plan.Plan}
 use Rattle.cs_board.specs.Words.{Words, at, all_words, IsSized, status_at, watch_at, own_at, turn_at, cell_at}
-use Rattle.cs_board.specs.declared.view.Plan.{Plan}
 
 set-append-add : (xs ys : List ℕ) (i x : ℕ) → set (xs ++ ys) (length xs + i) x ≡ xs ++ set ys i x
 set-append-add [] ys i x = ap (λ j. set ys j x) (zero-add i)
-set-append-add (y ∷ xs) ys i x =
-    let e : suc (length xs) + i ≡ suc (length xs + i) = omega arith in
-    ap (λ j. set (y ∷ xs ++ ys) j x) e ∙ ap (λ r. y ∷ r) (set-append-add xs ys i x)
+set-append-add (y ∷ xs) ys i x = grind (arith, common_steps, set-append-add xs ys i x)
 
 -- past a part of n words
 past_get : (xs ys : List ℕ) (n i : ℕ) → length xs ≡ n → at (xs ++ ys) (n + i) ≡ at ys i
@@ -61,9 +59,6 @@ module _ {J : Type 0} (k : Plan J) (w : Words) (s : IsSized k w) where
   pub get_status : (t : ℕ) → t < k.notes → at (all_words w) (status_at k t) ≡ at w.status t
   get_status t low = to_turns t ∙ get_or_append_left w.status after_status 0 t (omega (arith, s.status))
 
-  pub get_own : (t : ℕ) → t < k.notes → at (all_words w) (own_at k t) ≡ at w.own t
-  get_own t low = to_status t ∙ get_or_append_left w.own after_own 0 t (omega (arith, s.own))
-
   pub get_watch : (e : ℕ) → e < edge_count k → at (all_words w) (watch_at k e) ≡ at w.watch e
   get_watch e low = to_own e ∙ get_or_append_left w.watch w.spare 0 e (omega (arith, s.watch))
 
@@ -106,67 +101,23 @@ module _ {J : Type 0} (k : Plan J) (w : Words) (s : IsSized k w) where
 
   pub set_own : (t x : ℕ) → t < k.notes
       → set (all_words w) (own_at k t) x ≡ all_words (record w { own = set w.own t x })
-  set_own t x low = set_past_status t x
-      ∙ ap (λ r. 0 ∷ w.cells ++ (w.turns ++ (w.status ++ r)))
-      (set-append_left w.own after_own t x (omega (arith, s.own)))
+  set_own t x low = grind (arith, common_steps, set-append_left, set_past_status)
 
   pub set_watch : (e x : ℕ) → e < edge_count k
       → set (all_words w) (watch_at k e) x ≡ all_words (record w { watch = set w.watch e x })
-  set_watch e x low = set_past_own e x
-      ∙ ap (λ r. 0 ∷ w.cells ++ (w.turns ++ (w.status ++ (w.own ++ r))))
-      (set-append_left w.watch w.spare e x (omega (arith, s.watch)))
+  set_watch e x low = grind (arith, common_steps, set-append_left, set_past_own)
 
   pub sized_cell : (a x : ℕ) → IsSized k (record w { cells = set w.cells a x })
-  sized_cell a x = record {
-    cells = length-set w.cells a x ∙ s.cells;
-    turns = s.turns;
-    status = s.status;
-    own =
-        s.own;
-    watch = s.watch;
-    spare = s.spare;
-  }
+  sized_cell a x = grind (arith, common_steps, length-set)
 
   pub sized_turn : (r x : ℕ) → IsSized k (record w { turns = set w.turns r x })
-  sized_turn r x = record {
-    cells = s.cells;
-    turns = length-set w.turns r x ∙ s.turns;
-    status = s.status;
-    own =
-        s.own;
-    watch = s.watch;
-    spare = s.spare;
-  }
+  sized_turn r x = grind (arith, common_steps, length-set)
 
   pub sized_status : (t x : ℕ) → IsSized k (record w { status = set w.status t x })
-  sized_status t x = record {
-    cells = s.cells;
-    turns = s.turns;
-    status = length-set w.status t x ∙ s.status;
-    own = s.own;
-    watch =
-        s.watch;
-    spare = s.spare;
-  }
+  sized_status t x = grind (arith, common_steps, length-set)
 
   pub sized_own : (t x : ℕ) → IsSized k (record w { own = set w.own t x })
-  sized_own t x = record {
-    cells = s.cells;
-    turns = s.turns;
-    status = s.status;
-    own =
-        length-set w.own t x ∙ s.own;
-    watch = s.watch;
-    spare = s.spare;
-  }
+  sized_own t x = grind (arith, common_steps, length-set)
 
   pub sized_watch : (e x : ℕ) → IsSized k (record w { watch = set w.watch e x })
-  sized_watch e x = record {
-    cells = s.cells;
-    turns = s.turns;
-    status = s.status;
-    own = s.own;
-    watch =
-        length-set w.watch e x ∙ s.watch;
-    spare = s.spare;
-  }
+  sized_watch e x = grind (arith, common_steps, length-set)

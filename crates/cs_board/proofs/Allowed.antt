@@ -1,43 +1,30 @@
 -- Each kind of step on a word keeps the rule, and tells what it promises.
+use Rattle.std.proofs.lemmas.{Grind.common_steps, Bool.cases_eq, List.set-get_or}
 use Rattle.std.proofs.Common.{◌≡◌, ◌≢◌, ℕ, ◌+◌, ◌<◌, ◌≤◌, ⊎_elim, List, length, set, true, false, Some, None, refl, sym}
 use Rattle.std.proofs.Common.{ap, ◌∙◌, subst, arith, slice_index, slice_set, eqb, eq-eqb, ne_eqb}
-use Rattle.std.proofs.lemmas.Bool.{cases_eq}
-use Rattle.std.proofs.lemmas.List.{set-get_or}
 use Rattle.std.proofs.lemmas.Option.{same_Some, slice_get_within}
-use mathlib.Core.Option as maybe
 use mathlib.Core.Option.{some, none}
 use prog.Atomic.{either}
 use lib.ListN.{get_elem?}
 use Rattle.atomic_table.specs.Table.{State, Act, keeps, stepped, step, Valid, carried_after, Allows}
-use Rattle.cs_cells.specs.Cells.{signed}
-use Rattle.cs_cells.specs.Meaning.{Meaning, Frames}
+use Rattle.cs_cells.specs.{Cells.signed, Meaning.Meaning, Meaning.Frames}
 use Rattle.cs_graph.specs.Graph.{Edge}
-use Rattle.cs_board.specs.Counts.{listed}
+use Rattle.cs_board.specs.{Counts.listed, Rule.Facts, Rule.Holds, declared.view.Berth.Berth, declared.view.Doing.Doing}
+use Rattle.cs_board.specs.{declared.view.Plan.Plan, declared.view.View.View}
 use Rattle.cs_board.specs.Facts.{turned_in, Pictured}
 use Rattle.cs_board.specs.Plans.{uses_at, places_used, places_written, writers_before, area_count, edge_count}
-use Rattle.cs_board.specs.Rule.{Facts, Holds}
 use Rattle.cs_board.specs.Plays.{Sat, finished, closed, watched, opens, claimed, looked, looked_status, looked_turn}
 use Rattle.cs_board.specs.Views.{began, missed, ended, shut, settled, passed, opened}
 use Rattle.cs_board.specs.Words.{Words, at, all_words, IsSized, status_at, watch_at, turn_at, cell_at}
-use Rattle.cs_board.specs.declared.view.Berth.{Berth}
-use Rattle.cs_board.specs.declared.view.Doing.{Doing}
-use Rattle.cs_board.specs.declared.view.Plan.{Plan}
-use Rattle.cs_board.specs.declared.view.View.{View}
-use Rattle.cs_board.proofs.Begins.{facts_began, facts_missed}
-use Rattle.cs_board.proofs.Ends.{facts_ended, facts_shut}
-use Rattle.cs_board.proofs.Lists.{set_again, within_of}
+use Rattle.cs_board.proofs.{Begins.facts_began, Begins.facts_missed, Ends.facts_ended, Ends.facts_shut, Lists.set_again}
+use Rattle.cs_board.proofs.{Lists.within_of, AllWords.sized_watch, Does.busy, Turns.looks_turn}
 use Rattle.cs_board.proofs.Moves.{facts_settled, facts_passed, facts_opened}
 use Rattle.cs_board.proofs.AllWords.{get_status, get_watch, get_turn, get_cell, set_status, set_watch, sized_status}
-use Rattle.cs_board.proofs.AllWords.{sized_watch}
-use Rattle.cs_board.proofs.Does.{busy}
-use Rattle.cs_board.proofs.Turns.{looks_turn}
+use mathlib.Core.Option as maybe
 
 -- the two cases of an exchange
 exchanged : (n old new : ℕ) (P : ℕ → Type 0) → (n ≡ old → P new) → (n ≢ old → P n) → P (either (eqb n old) new n)
-exchanged n old new P hit miss = ⊎_elim
-    (λ e. subst (λ b. P (either b new n)) (sym (eq-eqb n old e)) (hit e))
-    (λ ne. subst (λ b. P (either b new n)) (sym (ne_eqb n old ne)) (miss ne))
-    (cases_eq n old)
+exchanged n old new P hit miss = grind (arith, common_steps, cases_eq, either, eq-eqb, ne_eqb)
 
 module _ {J : Type 0} (M : Meaning J) (k : Plan J) where
   -- the rule after a step, from the words' parts and the facts
@@ -46,15 +33,7 @@ module _ {J : Type 0} (M : Meaning J) (k : Plan J) where
       → ws ≡ all_words p → IsSized k p → length hs ≡ length s.homes
       → ((i : ℕ) → k.notes ≤ i → get_elem? hs i ≡ get_elem? s.homes i)
       → Facts M k p hs vs → Holds M k (record { words = ws; homes = hs; views = vs })
-  holds_after s h ws p hs vs words sized deep past facts = record {
-    plan = h.plan;
-    parts = p;
-    words = words;
-    sized = sized;
-    deep = omega (arith, deep, h.deep);
-    vacant = λ i far near. past i far ∙ h.vacant i far (omega (arith, deep));
-    facts = facts;
-  }
+  holds_after s h ws p hs vs words sized deep past facts = grind (arith, common_steps)
 
   pub word_kept : (s : State (Berth J) (View J)) (h : Holds M k s) (i : ℕ)
       → slice_set s.words i (slice_index s.words i) ≡ all_words h.parts
@@ -98,6 +77,7 @@ module _ {J : Type 0} (M : Meaning J) (k : Plan J) where
         → Allows (Holds M k) n id m (status_at k t) (λ y. either (eqb y 1) 2 y)
         (claimed M (step n (status_at k t) 1 2 none) m)
     claims t low idle no_closing no_moving live s h deep here fits =
+        let x : ℕ = slice_index s.words (status_at k t) in
         exchanged x 1 2 (λ y. (w : View J) × (a : Act (Berth J)) × Valid s.homes m.1 a
         × Holds M k (stepped s (status_at k t) y id m.1 w a)
         × claimed M (step n (status_at k t) 1 2 none) m x (w, carried_after m.1 a))
@@ -125,16 +105,11 @@ module _ {J : Type 0} (M : Meaning J) (k : Plan J) where
           λ u e. let same_ : t ≡ u =
               one_status m.0.plan t u plan e in ((λ y. absurd (miss y)), (λ y. ap (λ z. (missed m.0 z, m.1)) same_)),
         ))
-      where
-        x : ℕ
-        x = slice_index s.words (status_at k t)
 
     -- a load that changes nothing
     rule_again : (s : State (Berth J) (View J)) (h : Holds M k s) (i : ℕ) → get_elem? s.views id ≡ some m.0
         → Holds M k (stepped s i (slice_index s.words i) id m.1 m.0 keeps)
-    rule_again s h i here = holds_after s h (slice_set s.words i (slice_index s.words i)) h.parts s.homes
-        (set s.views id m.0) (word_kept s h i) h.sized refl (λ i far. refl)
-        (subst (Facts M k h.parts s.homes) (sym (set_again s.views id m.0 here)) h.facts)
+    rule_again s h i here = grind (arith, common_steps, holds_after, set_again, slice_index, word_kept)
 
     pub looks : (a : ℕ) → Allows (Holds M k) n id m (cell_at a) (λ y. y) (looked M (step n (cell_at a) 0 0 none) m)
     looks a s h deep here fits = (
@@ -250,6 +225,8 @@ module _ {J : Type 0} (M : Meaning J) (k : Plan J) where
         → Allows (Holds M k) n id m (watch_at k e) (λ y. either (eqb y 0) 1 y)
         (watched (step n (watch_at k e) 0 1 none) m)
     watches_edge e q t i edge moving low first live s h deep here fits =
+        let x : ℕ = slice_index s.words (watch_at k e) in
+        let near : e < edge_count k = slice_get_within k.edges e (q, t) edge in
         exchanged x 0 1 (λ y. (w : View J) × (a : Act (Berth J)) × Valid s.homes m.1 a
         × Holds M k (stepped s (watch_at k e) y id m.1 w a)
         × watched (step n (watch_at k e) 0 1 none) m x (w, carried_after m.1 a))
@@ -281,12 +258,6 @@ module _ {J : Type 0} (M : Meaning J) (k : Plan J) where
                 (λ y. ap (λ z. (passed m.0 z e, m.1)) both.1 ∙ ap (λ z. (passed m.0 t' z, m.1)) same_e),
               ),
         ))
-      where
-        x : ℕ
-        x = slice_index s.words (watch_at k e)
-
-        near : e < edge_count k
-        near = slice_get_within k.edges e (q, t) edge
 
     pub opens_note : (t i : ℕ) → t < k.notes → m.0.moving ≡ Some (record { note = t; from = i })
         → ((g r : ℕ) → Edge k.edges g r t → g < i) → m.0.spent ≡ false

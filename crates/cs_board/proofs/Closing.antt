@@ -1,35 +1,28 @@
 -- No note is lost, and what lies on the board at the end is the serial run.
-use Rattle.std.proofs.Common.{◌≡◌, ◌≢◌, ℕ, zero, suc, ◌+◌, ◌-◌, ◌<◌, ◌≤◌, ◌⊎◌, inl, inr, ⊎_elim, pos, List, [], ◌∷◌}
-use Rattle.std.proofs.Common.{◌++◌, map, length, get_or, take, drop, replicate, true, false, Some, None, refl, sym, ap}
-use Rattle.std.proofs.Common.{◌∙◌, subst, arith, ◌==◌, ◌&&◌, not, slice_get, ext_get_or, eq-eqb}
+use Rattle.std.proofs.lemmas.{Grind.common_steps, Bool.cases_Bool, Bool.cases_eq, Bool.and_right, List.length-map}
+use Rattle.std.proofs.Common.{◌≡◌, ◌≢◌, ℕ, zero, suc, ◌+◌, ◌-◌, ◌<◌, ◌≤◌, ◌⊎◌, ⊎_elim, pos, List, [], ◌∷◌, ◌++◌, map}
+use Rattle.std.proofs.Common.{length, get_or, take, drop, replicate, true, false, Some, None, refl, sym, ap, ◌∙◌, arith}
+use Rattle.std.proofs.Common.{◌==◌, ◌&&◌, not, slice_get, ext_get_or, eq-eqb}
 use Rattle.std.proofs.Math.Seq.{take-append_seam}
-use Rattle.std.proofs.lemmas.Bool.{cases_Bool, cases_eq, and_right}
-use Rattle.std.proofs.lemmas.List.{length-map}
 use Rattle.std.proofs.lemmas.Option.{same_Some, slice_get_within, slice_get-get_or}
-use mathlib.Core.Option as maybe
 use mathlib.Core.Option.{some, some-injective}
 use lib.ListN.{get_elem?}
 use Rattle.atomic_table.specs.Table.{State}
-use Rattle.cs_cells.specs.Cells.{cell, signed, values}
-use Rattle.cs_cells.specs.Meaning.{Meaning, Frames}
+use Rattle.cs_cells.specs.{Cells.cell, Cells.signed, Cells.values, Meaning.Meaning, Meaning.Frames}
 use Rattle.cs_cells.specs.Serial.{serial_cells, serial_jobs}
 use Rattle.cs_cells.proofs.SerialRun.{before-all, length-before, job_at, length-serial_jobs}
 use Rattle.cs_board.specs.Counts.{one, same, total, times, listed}
 use Rattle.cs_board.specs.Ending.{IsLast, HasLast, AllDone, AllMine, IsSerial, IsOver, cells_in}
 use Rattle.cs_board.specs.Facts.{has_done, turned_in, turned_on, done_writers, spot_on, spot_by, doing_on, does_note}
-use Rattle.cs_board.specs.Facts.{closes_by, moves, owed, is_first, numbered, names, Waits, Kept, job_if}
+use Rattle.cs_board.specs.Facts.{closes_by, moves, owed, numbered, names, Waits, Kept, job_if}
 use Rattle.cs_board.specs.Plans.{IsPlan, writes_at, before_at, area_count, places_written}
 use Rattle.cs_board.specs.Rule.{Facts, Holds, home_in, stillness}
-use Rattle.cs_board.specs.Views.{slot_row}
+use Rattle.cs_board.specs.{Views.slot_row, declared.view.Berth.Berth, declared.view.Plan.Plan, declared.view.View.View}
 use Rattle.cs_board.specs.Words.{Words, at, all_words, IsSized, status_at}
-use Rattle.cs_board.specs.declared.view.Berth.{Berth}
 use Rattle.cs_board.specs.declared.view.Berth.TheVariants.{Vacant, Full}
-use Rattle.cs_board.specs.declared.view.Plan.{Plan}
-use Rattle.cs_board.specs.declared.view.View.{View}
 use Rattle.cs_board.proofs.Lists.{total_le, total_two, total_none, total_only}
-use Rattle.cs_board.proofs.Opening.{count_none}
-use Rattle.cs_board.proofs.AllWords.{get_status}
-use Rattle.cs_board.proofs.Stores.{quiet}
+use Rattle.cs_board.proofs.{Opening.count_none, AllWords.get_status, Stores.quiet}
+use mathlib.Core.Option as maybe
 
 -- the slots by what is found in each: a job for each of these, and no other
 pub row_of : {J : Type 0} (hs : List (maybe.Option (Berth J))) (js : List J) (n : ℕ) → length hs ≡ length js + n
@@ -57,17 +50,10 @@ module _ {J : Type 0} (M : Meaning J) (F : Frames M) (k : Plan J) (plan : IsPlan
     (id : ℕ) (v : View J) (here : get_elem? vs id ≡ some v) (last : IsLast v) where
   -- another seat isn't the first one
   follows : (j : ℕ) (w : View J) → j ≢ id → get_elem? vs j ≡ some w → w.first ≡ false
-  follows j w n at_ = ⊎_elim
-      (λ (e : w.first ≡ true). absurd
-      (omega (arith, ap one e, ap one last.first, total_two is_first vs j id w v n at_ here, f.seats.leading)))
-      (λ e. e)
-      (cases_Bool w.first)
+  follows j w n at_ = grind (arith, common_steps, cases_Bool, total_two)
 
   no_out : (j : ℕ) (w : View J) → get_elem? vs j ≡ some w → w.out ≡ []
-  no_out j w at_ = ⊎_elim
-      (λ (e : j ≡ id). ap (λ x. x.out) (some-injective _ _ (sym at_ ∙ ap (get_elem? vs) e ∙ here)) ∙ last.out)
-      (λ (n : j ≢ id). (f.sane j w at_).follower (follows j w n at_))
-      (cases_eq j id)
+  no_out j w at_ = grind (arith, common_steps, cases_eq, follows, some-injective)
 
   -- every other seat was joined
   pub spent : (j : ℕ) (w : View J) → j ≢ id → get_elem? vs j ≡ some w → w.spent ≡ true
@@ -84,14 +70,7 @@ module _ {J : Type 0} (M : Meaning J) (F : Frames M) (k : Plan J) (plan : IsPlan
 
   module _ (j : ℕ) (w : View J) (at_ : get_elem? vs j ≡ some w) where
     pub idle : (w.doing ≡ None) × (w.closing ≡ None) × (w.moving ≡ None) × (w.owes ≡ [])
-    idle = ⊎_elim
-        (λ (e : j ≡ id). let s : v ≡ w = some-injective _ _ (sym here ∙ ap (get_elem? vs) (sym e) ∙ at_) in
-        subst (λ x. (x.doing ≡ None) × (x.closing ≡ None) × (x.moving ≡ None) × (x.owes ≡ [])) s
-        (last.doing, last.closing, last.moving, last.owes))
-        (λ (n : j ≢ id). let o = sym ((f.sane j w at_).over (spent j w n at_)) in
-        subst (λ x. (x.doing ≡ None) × (x.closing ≡ None) × (x.moving ≡ None) × (x.owes ≡ [])) o
-        (refl, refl, refl, refl))
-        (cases_eq j id)
+    idle = grind (arith, common_steps, cases_eq, some-injective, spent)
 
   none_does : (t : ℕ) → total (does_note t) vs ≡ 0
   none_does t = total_none (does_note t) vs (λ j w a. ap (doing_on t) (idle j w a).0)
@@ -106,16 +85,7 @@ module _ {J : Type 0} (M : Meaning J) (F : Frames M) (k : Plan J) (plan : IsPlan
   none_owes t = total_none (owed t) vs (λ j w a. ap (times t) (idle j w a).3)
 
   still_or_done : (t : ℕ) → (at p.status t ≡ 0) ⊎ (at p.status t ≡ 3)
-  still_or_done t = ⊎_elim (λ z. inl z) (λ n. inr (rest n)) (cases_eq (at p.status t) 0)
-    where
-      not_one : at p.status t ≢ 1
-      not_one e = omega (arith, f.tallied.owing t e, none_owes t)
-
-      not_two : at p.status t ≢ 2
-      not_two e = let s : same (at p.status t) 2 ≡ 1 = ap (λ n. same n 2) e in omega (arith, f.doers t, none_does t)
-
-      rest : at p.status t ≢ 0 → at p.status t ≡ 3
-      rest n = omega (arith, f.gates.statuses t, not_one, not_two)
+  still_or_done t = grind (arith, common_steps, cases_eq, none_does, none_owes)
 
   -- a Waiting note would watch an edge from an earlier one that isn't Done
   all_done : (n t : ℕ) → t < n → t < k.notes → at p.status t ≡ 3

@@ -1,22 +1,14 @@
 -- Notes that share a resource: what the plan and the words say of them.
+use Rattle.std.proofs.lemmas.{Grind.common_steps, Option.slice_get_within, Option.get_or_from_slice_get}
 use Rattle.std.proofs.Common.{◌≡◌, ◌≢◌, ℕ, zero, suc, ◌<◌, inl, inr, ⊎_elim, List, [], ◌∷◌, map, length, get_or, true}
 use Rattle.std.proofs.Common.{Option, Some, None, refl, sym, ap, subst, arith, slice_get, eq-eqb, eqb-true, ◌==◌}
 use Rattle.std.proofs.lemmas.Bool.{cases_order, or_cases, or_left, or_right}
-use Rattle.std.proofs.lemmas.Option.{slice_get_within, get_or_from_slice_get}
-use Rattle.std.specs.List.{Contains}
-use Rattle.std.specs.List.Sorted.{IsStrictlyIncreasing}
-use Rattle.cs_cells.specs.Areas.{IsLaid}
-use Rattle.cs_cells.specs.Cells.{covers, in_area}
-use Rattle.cs_cells.specs.Meaning.{Meaning}
-use Rattle.cs_cells.specs.declared.footprint.Area.{Area}
+use Rattle.std.specs.{List.Contains, List.Sorted.IsStrictlyIncreasing}
+use Rattle.cs_cells.specs.{Areas.IsLaid, Cells.covers, Cells.in_area, Meaning.Meaning, declared.footprint.Area.Area}
 use Rattle.cs_cells.proofs.Laid.{covered_place, one_place, covered_below}
-use Rattle.cs_graph.specs.Conflict.{Conflict, foot}
-use Rattle.cs_graph.specs.Graph.{Reaches, step, onward}
-use Rattle.cs_board.specs.Counts.{listed}
-use Rattle.cs_board.specs.Facts.{Gates}
+use Rattle.cs_graph.specs.{Conflict.Conflict, Conflict.foot, Graph.Reaches, Graph.step, Graph.onward}
+use Rattle.cs_board.specs.{Counts.listed, Facts.Gates, Words.at, declared.view.Plan.Plan}
 use Rattle.cs_board.specs.Plans.{IsPlan, feet, uses_of, writes_of, uses_at, writes_at, places_used, places_written}
-use Rattle.cs_board.specs.Words.{at}
-use Rattle.cs_board.specs.declared.view.Plan.{Plan}
 
 pub contains_at : (xs : List ℕ) (i x : ℕ) → slice_get xs i ≡ Some x → Contains xs x
 contains_at xs i x e = (i, slice_get_within xs i x e, get_or_from_slice_get xs i x x e)
@@ -39,11 +31,7 @@ listed_of xs x c = contains_listed xs c.0 x c.1 c.2
 -- an address that two lists of places cover lies in a place of both
 shared : (areas : List Area) (P Q : List ℕ) (a : ℕ) → IsLaid areas → covers areas P a ≡ true → covers areas Q a ≡ true
     → (r : ℕ) × Contains P r × Contains Q r
-shared areas P Q a laid p q =
-    let x = covered_place areas P a p in
-    let y = covered_place areas Q a q in
-    let one_ : x.1 ≡ y.1 = one_place areas x.1 y.1 a laid x.3 y.3 in
-    (y.1, subst (Contains P) one_ (contains_at P x.0 x.1 x.2), contains_at Q y.0 y.1 y.2)
+shared areas P Q a laid p q = grind (arith, common_steps, contains_at, covered_place, one_place)
 
 module _ {J : Type 0} (M : Meaning J) where
   foot_at : (js : List J) (p : ℕ) (j : J) → slice_get js p ≡ Some j
@@ -177,9 +165,7 @@ module _ {J : Type 0} (M : Meaning J) where
       -- two notes of which one writes a place or a cell that the other uses: both begun and not Done, they are one
       both : (p t : ℕ) → (p < t → Conflict (feet M k) p t) → (t < p → Conflict (feet M k) t p) → at st p ≢ 0
           → at st p ≢ 3 → at st t ≢ 0 → at st t ≢ 3 → p ≡ t
-      both p t f b p0 p3 t0 t3 =
-          ⊎_elim (λ e. e) (λ apart. absurd (⊎_elim (λ l. p3 (past p t (f l) t0)) (λ l. t3 (past t p (b l) p0)) apart))
-          (cases_order p t)
+      both p t f b p0 p3 t0 t3 = grind (arith, common_steps, cases_order, past)
 
       pub begun_at : (p t a : ℕ) → writes_at M k p a ≡ true → uses_at M k t a ≡ true → at st p ≢ 0 → at st p ≢ 3
           → at st t ≢ 0 → at st t ≢ 3 → p ≡ t

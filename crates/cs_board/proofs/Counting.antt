@@ -1,10 +1,9 @@
 -- Counting tests below a number, and the places of an ascending list one by one.
+use Rattle.std.proofs.lemmas.{Grind.common_steps, Bool.cases_eq, Bool.or_right}
 use Rattle.std.proofs.Common.{◌≡◌, ◌≢◌, ℕ, zero, suc, ◌+◌, ◌-◌, ◌<◌, ◌≤◌, ⊎_elim, List, [], ◌∷◌, length, take, Bool}
 use Rattle.std.proofs.Common.{true, false, ◌==◌, ◌||◌, refl, sym, ap, ◌∙◌, arith, eq-eqb, ne_eqb}
-use Rattle.std.proofs.lemmas.Bool.{cases_eq, or_right}
 use Rattle.std.specs.List.Sorted.{IsStrictlyIncreasing}
-use Rattle.cs_board.specs.Counts.{one, listed, count_below}
-use Rattle.cs_board.specs.Words.{at}
+use Rattle.cs_board.specs.{Counts.one, Counts.listed, Counts.count_below, Words.at}
 
 pub count_same : (P Q : ℕ → Bool) (n : ℕ) → ((u : ℕ) → u < n → P u ≡ Q u) → count_below P n ≡ count_below Q n
 count_same P Q zero h = refl
@@ -38,19 +37,12 @@ count_cut P Q t (suc n) l h f = ⊎_elim
 
 pub count_le : (P : ℕ → Bool) (n : ℕ) → count_below P n ≤ n
 count_le P zero = omega arith
-count_le P (suc n) = let a : count_below P n ≤ n = count_le P n in let b : one (P n) ≤ 1 = one_le (P n) in omega arith
-  where
-    one_le : (b : Bool) → one b ≤ 1
-    one_le true = omega arith
-    one_le false = omega arith
+count_le P (suc n) = grind (arith, common_steps, count_le P n)
 
 -- an ascending list rises from each place to each later one
 pub rises : (xs : List ℕ) → IsStrictlyIncreasing xs → (i d : ℕ) → i + suc d < length xs → at xs i < at xs (i + suc d)
 rises xs h i zero l = let a : at xs i < at xs (i + 1) = h i (omega arith) in a
-rises xs h i (suc d) l =
-    let a : at xs i < at xs (i + suc d) = rises xs h i d (omega arith) in
-    let b : at xs (i + suc d) < at xs (i + suc d + 1) = h (i + suc d) (omega arith) in
-    let c : at xs (i + suc d + 1) ≡ at xs (i + suc (suc d)) = ap (at xs) (omega arith) in omega arith
+rises xs h i (suc d) l = grind (arith, common_steps, rises xs h i d (omega arith))
 
 -- the first i + 1 places list one more than the first i
 pub listed_more : (xs : List ℕ) (i r : ℕ) → i < length xs → at xs i ≢ r
@@ -85,9 +77,6 @@ listed_fresh xs h i l = go i (at xs i) (omega arith) (λ j m. differ j m)
         let a : at xs j < at xs (j + suc (i - suc j)) = rises xs h j (i - suc j) (omega arith) in
         let b : at xs (j + suc (i - suc j)) ≡ at xs i = ap (at xs) (omega arith) in omega arith
 
-    zero_listed : (xs : List ℕ) (r : ℕ) → listed (take zero xs) r ≡ false
-    zero_listed xs r = refl
-
     go : (n r : ℕ) → n ≤ length xs → ((j : ℕ) → j < n → at xs j ≢ r) → listed (take n xs) r ≡ false
     go zero r low n = refl
     go (suc n) r low d =
@@ -103,12 +92,10 @@ increasing_few xs n h below = go (length xs) refl
     low : (i : ℕ) → i < length xs → i ≤ at xs i
     low zero l = omega arith
     low (suc i) l =
+        let plus : (i : ℕ) → i + 1 ≡ suc i = λ i. omega arith in
         let a : i ≤ at xs i = low i (omega arith) in
         let b : at xs i < at xs (i + 1) = h i (omega arith) in
         let c : at xs (i + 1) ≡ at xs (suc i) = ap (at xs) (plus i) in omega arith
-      where
-        plus : (i : ℕ) → i + 1 ≡ suc i
-        plus i = omega arith
 
     go : (m : ℕ) → length xs ≡ m → length xs ≤ n
     go zero e = omega arith

@@ -1,14 +1,11 @@
 -- Who does a note: no two views do one, and a note that a view does is InProgress.
+use Rattle.std.proofs.lemmas.Grind.{common_steps}
 use Rattle.std.proofs.Common.{◌≡◌, ◌≢◌, ℕ, ◌+◌, ◌<◌, ◌≤◌, ⊎_elim, List, length, set, Some, refl, sym, ap, ◌∙◌, arith}
 use Rattle.std.proofs.Common.{◌==◌}
 use mathlib.Core.Option.{some}
 use lib.ListN.{get_elem?}
-use Rattle.cs_board.specs.Counts.{total}
-use Rattle.cs_board.specs.Facts.{doing_on, does_note, Doers}
-use Rattle.cs_board.specs.Words.{at}
-use Rattle.cs_board.specs.declared.view.Doing.{Doing}
-use Rattle.cs_board.specs.declared.view.Plan.{Plan}
-use Rattle.cs_board.specs.declared.view.View.{View}
+use Rattle.cs_board.specs.{Counts.total, Facts.doing_on, Facts.does_note, Facts.Doers, Words.at}
+use Rattle.cs_board.specs.{declared.view.Doing.Doing, declared.view.Plan.Plan, declared.view.View.View}
 use Rattle.cs_board.proofs.Lists.{same_yes, same_cases, put_cases, total_le, total_two}
 
 module _ {J : Type 0} (k : Plan J) (st : List ℕ) (vs : List (View J)) (D : Doers k st vs) where
@@ -33,7 +30,4 @@ module _ {J : Type 0} (k : Plan J) (st : List ℕ) (vs : List (View J)) (D : Doe
 -- a status that is set to another number on the same side of Done
 pub alike : (st : List ℕ) (t x a : ℕ) → t < length st → at st t ≡ a → (x == 3) ≡ (a == 3) → (u : ℕ)
     → (at (set st t x) u == 3) ≡ (at st u == 3)
-alike st t x a low is side u = ⊎_elim
-    (λ h. ap (λ z. z == 3) h.1 ∙ side ∙ ap (λ z. z == 3) (sym is ∙ ap (at st) (sym h.0)))
-    (λ h. ap (λ z. z == 3) h.1)
-    (put_cases st t x u low)
+alike st t x a low is side u = grind (arith, common_steps, put_cases)

@@ -1,50 +1,38 @@
 -- A note is Done, and its watchers move on: these steps keep the facts.
+use Rattle.std.proofs.lemmas.{Grind.common_steps, Bool.cases_eq, Bool.cases_lt}
 use Rattle.std.proofs.Common.{◌≡◌, ◌≢◌, ℕ, ◌+◌, ◌<◌, ◌≤◌, ◌⊎◌, inl, inr, ⊎_elim, List, length, set, Bool, true, false}
 use Rattle.std.proofs.Common.{cond, Some, None, refl, sym, ap, ◌∙◌, subst, arith, ◌==◌, ◌&&◌, nat_le, slice_get, eq-eqb}
 use Rattle.std.proofs.Common.{ne_eqb, le-leb}
-use Rattle.std.proofs.lemmas.Bool.{cases_eq, cases_lt}
 use Rattle.std.proofs.lemmas.Option.{same_Some, slice_get_within}
-use mathlib.Core.Option as maybe
 use mathlib.Core.Option.{some}
 use lib.ListN.{get_elem?}
 use Rattle.cs_cells.specs.Meaning.{Meaning, Frames}
 use Rattle.cs_graph.specs.Graph.{Edge}
 use Rattle.cs_board.specs.Counts.{one, same, times, total}
-use Rattle.cs_board.specs.Facts.{doing_on, ran_on, spot_on, spot_by, spot_at, turned_in, does_note, ran_note, closes}
-use Rattle.cs_board.specs.Facts.{closes_by, moves, moves_at, has_done, is_first, numbered, Gates, IsSane, Waits}
-use Rattle.cs_board.specs.Facts.{Watches}
-use Rattle.cs_board.specs.Plans.{IsPlan, places_written}
-use Rattle.cs_board.specs.Rule.{Facts}
-use Rattle.cs_board.specs.Views.{ended, shut}
-use Rattle.cs_board.specs.Words.{Words, at, IsSized}
-use Rattle.cs_board.specs.declared.view.Berth.{Berth}
-use Rattle.cs_board.specs.declared.view.Doing.{Doing}
-use Rattle.cs_board.specs.declared.view.Plan.{Plan}
-use Rattle.cs_board.specs.declared.view.Spot.{Spot}
-use Rattle.cs_board.specs.declared.view.View.{View}
-use Rattle.cs_board.proofs.Does.{busy}
+use Rattle.cs_board.specs.Facts.{doing_on, ran_on, spot_on, spot_by, spot_at, turned_in, closes, closes_by, moves}
+use Rattle.cs_board.specs.Facts.{moves_at, is_first, numbered, Gates, IsSane, Waits, Watches}
+use Rattle.cs_board.specs.{Plans.IsPlan, Plans.places_written, Rule.Facts, Views.ended, Views.shut, Words.Words}
+use Rattle.cs_board.specs.{Words.at, Words.IsSized, declared.view.Berth.Berth, declared.view.Doing.Doing}
+use Rattle.cs_board.specs.{declared.view.Plan.Plan, declared.view.Spot.Spot, declared.view.View.View}
+use Rattle.cs_board.proofs.{Does.busy, Lists.times-snoc, Lists.within_of, Slots.slots_step, Slots.slots_done}
+use Rattle.cs_board.proofs.{Spots.closing_on, Turns.turned_still, Turns.turned_done}
 use Rattle.cs_board.proofs.Groups.{gates_status, gates_watch, sane_live, sane_step, doers_step, waits_still}
 use Rattle.cs_board.proofs.Groups.{watches_step, tallied_step, seats_step, owned_step, total_keeps}
-use Rattle.cs_board.proofs.Lists.{same_yes, same_no, same_cases, put_cases, total-set, total_le, total_more}
-use Rattle.cs_board.proofs.Lists.{total_tight, times-snoc, within_of}
-use Rattle.cs_board.proofs.Slots.{slots_step, slots_done}
+use Rattle.cs_board.proofs.Lists.{same_cases, put_cases, put_counts, total-set, total_le, total_more, total_tight}
 use Rattle.cs_board.proofs.Spots.{on_here, on_else, by_else, by_later, at_here, at_else, at_from, at_less, closing_by}
-use Rattle.cs_board.proofs.Spots.{closing_on}
 use Rattle.cs_board.proofs.Stores.{stored_step, stored_done}
-use Rattle.cs_board.proofs.Turns.{turned_still, turned_done}
+use mathlib.Core.Option as maybe
 
-one_zero : (a b : Bool) → a ≡ false → one (a && b) ≡ 0
-one_zero a b e = ap (λ x. one (x && b)) e
+one_and : (b : Bool) → one (b && true) ≡ one b
+one_and true = refl
+one_and false = refl
 
 module _ {J : Type 0} (M : Meaning J) (F : Frames M) (k : Plan J) (plan : IsPlan M k) (p : Words) (sized : IsSized k p)
     (hs : List (maybe.Option (Berth J))) (vs : List (View J)) (id : ℕ) (v : View J) (here : get_elem? vs id ≡ some v)
     (f : Facts M k p hs vs) where
   -- a view that has a spot does no note
   pub not_doing : (s : Spot) → (v.closing ≡ Some s) ⊎ (v.moving ≡ Some s) → v.doing ≡ None
-  not_doing s h = ⊎_elim (λ none. none)
-      (λ both. absurd (⊎_elim (λ c. let e : Some s ≡ None = sym c ∙ both.0 in cc)
-      (λ m. let e : Some s ≡ None = sym m ∙ both.1 in cc) h))
-      ((f.sane id v here).one_duty)
+  not_doing s h = grind (arith, common_steps)
 
   pub free_to_close : (d : Doing) → v.doing ≡ Some d → (v.closing ≡ None) × (v.moving ≡ None)
   free_to_close d doing = ⊎_elim (λ none. absurd (let e : Some d ≡ None = sym doing ∙ none in cc)) (λ both. both)
@@ -54,97 +42,59 @@ module _ {J : Type 0} (M : Meaning J) (F : Frames M) (k : Plan J) (plan : IsPlan
   pub facts_ended : (d : Doing) → v.plan ≡ k → v.doing ≡ Some d → d.held ≡ false
       → d.phase ≡ 1 + length (places_written M k d.note) → v.spent ≡ false
       → Facts M k (record p { status = set p.status d.note 3 }) hs (set vs id (ended v d.note))
-  facts_ended d v_plan doing free phase live = record {
-    gates = gates_status k st p.watch d.note 3 near f.gates (omega arith)
-        (λ n e q edge. f.gates.closed e q d.note edge (λ z. omega (arith, running))) (λ z. refl);
-    sane = sane_step k vs id v w here (λ s. sane_live k v w live refl refl refl refl refl (inl refl) s.owes_in s)
-        f.sane;
-    doers = doers_step k vs id v w here st st'
-        (λ u. let mine : does_note u v ≡ same d.note u = ap (doing_on u) doing in ⊎_elim
-        (λ h. let a : same d.note u ≡ 1 = same_yes d.note u (sym h.0) in
-        let b : same (at st u) 2 ≡ 1 = ap (λ n. same n 2) (ap (at st) h.0 ∙ running) in
-        let c : same (at st' u) 2 ≡ 0 = ap (λ n. same n 2) h.1 in omega arith)
-        (λ h. let a : same d.note u ≡ 0 = same_no d.note u (λ z. h.0 (sym z)) in
-        let c : same (at st' u) 2 ≡ same (at st u) 2 = ap (λ n. same n 2) h.1 in omega arith)
-        (put_cases st d.note 3 u near)) f.doers;
-    watches = watches_step k vs id v w here st st' p.watch p.watch
-        (λ q. let low : closes q w ≤ same d.note q = closing_on v.plan.edges d.note 0 q in
-        let none : closes q v ≡ 0 = ap (spot_on q) duty.0 in ⊎_elim
-        (λ h. let a : same d.note q ≡ 1 = same_yes d.note q (sym h.0) in
-        let b : same (at st q) 3 ≡ 0 = ap (λ n. same n 3) (ap (at st) h.0 ∙ running) in
-        let c : same (at st' q) 3 ≡ 1 = ap (λ n. same n 3) h.1 in omega arith)
-        (λ h. let a : same d.note q ≡ 0 = same_no d.note q (λ z. h.0 (sym z)) in
-        let c : same (at st' q) 3 ≡ same (at st q) 3 = ap (λ n. same n 3) h.1 in omega arith)
-        (put_cases st d.note 3 q near))
-        (λ e q t edge z. ⊎_elim
-        (λ h. let edge' : Edge v.plan.edges e d.note t =
-        subst (λ x. Edge x e d.note t) (sym (ap (λ y. y.edges) v_plan)) (subst (λ x. Edge k.edges e x t) h.0 edge) in
-        inr (inl (subst (λ x. 0 < closes_by x e w) (sym h.0)
-        (omega (arith, closing_by v.plan.edges e d.note t 0 edge' (omega arith))))))
-        (λ h. inr (inr (sym h.1 ∙ z, λ c. c, omega (arith, ap (spot_by q e) duty.0))))
-        (put_cases st d.note 3 q near))
-        (λ t low z. waits_still k vs id v w here p.watch t refl
-        (f.watches.waits t low (⊎_elim (λ h. absurd (omega (arith, h.1, z))) (λ h. sym h.1 ∙ z)
-        (put_cases st d.note 3 t near))))
-        (λ t n. total_keeps k vs id v w here (moves t) refl ∙ f.watches.calm t (λ z. ⊎_elim
-        (λ h. let a : at st t ≡ 2 = ap (at st) h.0 ∙ running in omega arith)
-        (λ h. n (h.1 ∙ z))
-        (put_cases st d.note 3 t near)))
-        (λ t n. total_keeps k vs id v w here (moves t) refl ∙ f.watches.moving_in t n)
-        f.watches;
-    tallied = tallied_step k vs id v w here st st'
-        (λ u z. ⊎_elim (λ h. absurd (omega (arith, h.1, z))) (λ h. inr (sym h.1 ∙ z, omega arith))
-        (put_cases st d.note 3 u near))
-        (λ u q l root. inl q)
-        (λ u z. ⊎_elim (λ h. omega (arith, h.1)) (λ h. omega (arith, h.1)) (put_cases st d.note 3 u near))
-        (λ u. let more : has_done u w ≡ has_done u v + same d.note u = times-snoc u v.mine d.note in ⊎_elim
-        (λ h. let a : same d.note u ≡ 1 = same_yes d.note u (sym h.0) in
-        let b : same (at st u) 3 ≡ 0 = ap (λ n. same n 3) (ap (at st) h.0 ∙ running) in
-        let c : same (at st' u) 3 ≡ 1 = ap (λ n. same n 3) h.1 in omega arith)
-        (λ h. let a : same d.note u ≡ 0 = same_no d.note u (λ z. h.0 (sym z)) in
-        let c : same (at st' u) 3 ≡ same (at st u) 3 = ap (λ n. same n 3) h.1 in omega arith)
-        (put_cases st d.note 3 u near))
-        f.tallied;
-    seats = seats_step k vs id v w here refl (λ x. refl) refl refl f.seats;
-    owned = owned_step k vs id v w here st st' p.own p.own
-        (λ u. let mine : ran_note u v ≡ one (d.note == u && nat_le 1 d.phase) = ap (ran_on u) doing in ⊎_elim
-        (λ h. let a : one (d.note == u && nat_le 1 d.phase) ≡ 1 =
-        ap (λ b. one (b && nat_le 1 d.phase)) (eq-eqb d.note u (sym h.0)) ∙ ap one has_run in
-        let b : same (at st u) 3 ≡ 0 = ap (λ n. same n 3) (ap (at st) h.0 ∙ running) in
-        let c : same (at st' u) 3 ≡ 1 = ap (λ n. same n 3) h.1 in omega arith)
-        (λ h. let a : one (d.note == u && nat_le 1 d.phase) ≡ 0 =
-        one_zero (d.note == u) (nat_le 1 d.phase) (ne_eqb d.note u (λ z. h.0 (sym z))) in
-        let c : same (at st' u) 3 ≡ same (at st u) 3 = ap (λ n. same n 3) h.1 in omega arith)
-        (put_cases st d.note 3 u near)) f.owned;
-    slots = slots_done M k vs id v w here st hs d near running doing free has_run refl f.slots;
-    stored = stored_done M F k plan st p.watch p.cells vs id v w here f.gates d f.doers doing (omega arith) refl near
-        within f.stored;
-    turned = turned_done M k st vs id v w here p.turns d doing refl running near within phase f.turned;
-  }
-    where
-      w : View J
-      w = ended v d.note
-
-      st : List ℕ
-      st = p.status
-
-      st' : List ℕ
-      st' = set p.status d.note 3
-
-      running : at p.status d.note ≡ 2
-      running = busy k p.status vs f.doers id v d here doing
-
-      near : d.note < length p.status
-      near = within_of p.status d.note (λ z. omega (arith, running))
-
-      within : d.note < k.notes
-      within = omega (arith, near, sized.status)
-
-      duty : (v.closing ≡ None) × (v.moving ≡ None)
-      duty = free_to_close d doing
-
-      has_run : nat_le 1 d.phase ≡ true
-      has_run = le-leb 1 d.phase (omega arith)
+  facts_ended d v_plan doing free phase live =
+      let w : View J = ended v d.note in
+      let st : List ℕ = p.status in
+      let st' : List ℕ = set p.status d.note 3 in
+      let running : at p.status d.note ≡ 2 = busy k p.status vs f.doers id v d here doing in
+      let near : d.note < length p.status = within_of p.status d.note (λ z. omega (arith, running)) in
+      let within : d.note < k.notes = omega (arith, near, sized.status) in
+      let duty : (v.closing ≡ None) × (v.moving ≡ None) = free_to_close d doing in
+      let has_run : nat_le 1 d.phase ≡ true = le-leb 1 d.phase (omega arith) in
+      record {
+        gates = gates_status k st p.watch d.note 3 near f.gates (omega arith)
+            (λ n e q edge. f.gates.closed e q d.note edge (λ z. omega (arith, running))) (λ z. refl);
+        sane = sane_step k vs id v w here (λ s. sane_live k v w live refl refl refl refl refl (inl refl) s.owes_in s)
+            f.sane;
+        doers = doers_step k vs id v w here st st'
+            (λ u. omega (arith, put_counts st d.note 3 2 2 u near running, ap (doing_on u) doing)) f.doers;
+        watches = watches_step k vs id v w here st st' p.watch p.watch
+            (λ q. let low = closing_on v.plan.edges d.note 0 q in
+            omega (arith, put_counts st d.note 3 2 3 q near running, low, ap (spot_on q) duty.0))
+            (λ e q t edge z. ⊎_elim
+            (λ h. let edge' : Edge v.plan.edges e d.note t =
+            subst (λ x. Edge x e d.note t) (sym (ap (λ y. y.edges) v_plan)) (subst
+            (λ x. Edge k.edges e x t) h.0 edge) in
+            inr (inl (subst (λ x. 0 < closes_by x e w) (sym h.0)
+            (omega (arith, closing_by v.plan.edges e d.note t 0 edge' (omega arith))))))
+            (λ h. inr (inr (sym h.1 ∙ z, λ c. c, omega (arith, ap (spot_by q e) duty.0))))
+            (put_cases st d.note 3 q near))
+            (λ t low z. waits_still k vs id v w here p.watch t refl
+            (f.watches.waits t low (⊎_elim (λ h. absurd (omega (arith, h.1, z))) (λ h. sym h.1 ∙ z)
+            (put_cases st d.note 3 t near))))
+            (λ t n. total_keeps k vs id v w here (moves t) refl ∙ f.watches.calm t (λ z. ⊎_elim
+            (λ h. let a : at st t ≡ 2 = ap (at st) h.0 ∙ running in omega arith)
+            (λ h. n (h.1 ∙ z))
+            (put_cases st d.note 3 t near)))
+            (λ t n. total_keeps k vs id v w here (moves t) refl ∙ f.watches.moving_in t n)
+            f.watches;
+        tallied = tallied_step k vs id v w here st st'
+            (λ u z. ⊎_elim (λ h. absurd (omega (arith, h.1, z))) (λ h. inr (sym h.1 ∙ z, omega arith))
+            (put_cases st d.note 3 u near))
+            (λ u q l root. inl q)
+            (λ u z. ⊎_elim (λ h. omega (arith, h.1)) (λ h. omega (arith, h.1)) (put_cases st d.note 3 u near))
+            (λ u. omega (arith, put_counts st d.note 3 2 3 u near running, times-snoc u v.mine d.note))
+            f.tallied;
+        seats = seats_step k vs id v w here refl (λ x. refl) refl refl f.seats;
+        owned = owned_step k vs id v w here st st' p.own p.own
+            (λ u. let mine = ap (ran_on u) doing ∙ ap (λ b. one (d.note == u && b)) has_run ∙ one_and (d.note == u) in
+            omega (arith, put_counts st d.note 3 2 3 u near running, mine)) f.owned;
+        slots = slots_done M k vs id v w here st hs d near running doing free has_run refl f.slots;
+        stored = stored_done M F k plan st p.watch p.cells vs id v w here f.gates d f.doers doing
+            (omega arith) refl near
+            within f.stored;
+        turned = turned_done M k st vs id v w here p.turns d doing refl running near within phase f.turned;
+      }
 
   -- a step that changes one watch word, and what the view closes or moves
   pub facts_aside : (w : View J) (wt' : List ℕ) → v.doing ≡ None → w.doing ≡ None → w.owes ≡ v.owes → w.found ≡ v.found
@@ -209,9 +159,7 @@ module _ {J : Type 0} (M : Meaning J) (F : Frames M) (k : Plan J) (plan : IsPlan
     mine = ap (spot_on t) moving ∙ on_here t i
 
     pub moved_waits : at p.status t ≡ 0
-    moved_waits = ⊎_elim (λ e. e)
-        (λ n. absurd (omega (arith, f.watches.calm t n, total_le (moves t) vs id v here, mine)))
-        (cases_eq (at p.status t) 0)
+    moved_waits = grind (arith, common_steps, cases_eq, mine, total_le)
 
     pub moved_in : t < k.notes
     moved_in = ⊎_elim (λ l. l)
@@ -228,11 +176,7 @@ module _ {J : Type 0} (M : Meaning J) (F : Frames M) (k : Plan J) (plan : IsPlan
         h.who
 
     pub others_moves : (u j : ℕ) → u ≢ t → (moves u v ≡ 0) × (moves_at u j v ≡ 0)
-    others_moves u j n = (
-      ap (spot_on u) moving ∙ on_else t u i (λ z. n (sym z)),
-      ap (spot_at u j) moving
-          ∙ at_else t u i j (λ z. n (sym z)),
-    )
+    others_moves u j n = grind (arith, common_steps, at_else, on_else)
 
   -- edge e of the note that is being closed is Closed
   pub facts_shut : (e q t i : ℕ) → Edge k.edges e q t → v.plan ≡ k → v.closing ≡ Some (record { note = q; from = i })
@@ -381,47 +325,45 @@ module _ {J : Type 0} (M : Meaning J) (F : Frames M) (k : Plan J) (plan : IsPlan
           }
 
           found : at p.watch e ≡ 1 → Waits k p.watch vs t → Waits k (set p.watch e 2) (set vs id w) t
-          found c h = record {
-            edge = e + 1;
-            before = λ g r edge' l. ⊎_elim (λ y. y.1)
-                (λ y. let n = y.0 in y.1 ∙ h.before g r edge' (omega (arith, edge_is))) (put_cases p.watch e 2 g near);
-            after = λ g r edge' l x. ⊎_elim (λ y. omega (arith, y.0))
-                (λ y. h.after g r edge' (omega (arith, edge_is)) (sym y.1 ∙ x)) (put_cases p.watch e 2 g near);
-            who = inr (
-              (λ r edge' x. ⊎_elim (λ y. omega (arith, y.0))
-                  (λ y. h.after (e + 1) r edge' (omega (arith, edge_is)) (sym y.1 ∙ x))
-                  (put_cases p.watch e 2 (e + 1) near)),
-              omega (
-                arith,
-                total-set (moves t) vs id v w here,
-                none,
-                no_move t,
-                ap (spot_on t) (found_move c),
-                on_here
-                    t (e + 1),
-              ),
-              omega (
-                arith,
-                total-set (moves_at t (e + 1)) vs id v w here,
-                total_more (moves_at t (e + 1)) (moves t) vs
-                    (λ x. at_less t (e + 1) x.moving),
-                none,
-                no_move_at t (e + 1),
-                ap (spot_at t (e + 1)) (found_move c),
-                at_here t (e + 1),
-              ),
-            );
-            some_edge = h.some_edge;
-          }
-            where
-              edge_is : h.edge ≡ e
-              edge_is = ⊎_elim
-                  (λ l. absurd (h.after e q edge l c))
-                  (λ l. ⊎_elim (λ m. absurd (omega (arith, h.before e q edge m))) (λ m. omega arith)
-                  (cases_lt e h.edge))
-                  (cases_lt h.edge e)
-
-              none : total (moves t) vs ≡ 0
-              none = ⊎_elim (λ a. a.3)
-                  (λ b. absurd (b.0 q (subst (λ x. Edge k.edges x q t) (sym edge_is) edge)
-                  (ap (at p.watch) edge_is ∙ c))) h.who
+          found c h =
+              let edge_is : h.edge ≡ e = ⊎_elim
+              (λ l. absurd (h.after e q edge l c))
+              (λ l. ⊎_elim (λ m. absurd (omega (arith, h.before e q edge m))) (λ m. omega arith)
+              (cases_lt e h.edge))
+              (cases_lt h.edge e) in
+              let none : total (moves t) vs ≡ 0 = ⊎_elim (λ a. a.3)
+              (λ b. absurd (b.0 q (subst (λ x. Edge k.edges x q t) (sym edge_is) edge)
+              (ap (at p.watch) edge_is ∙ c))) h.who in
+              record {
+                edge = e + 1;
+                before = λ g r edge' l. ⊎_elim (λ y. y.1)
+                    (λ y. let n = y.0 in y.1
+                    ∙ h.before g r edge' (omega (arith, edge_is))) (put_cases p.watch e 2 g near);
+                after = λ g r edge' l x. ⊎_elim (λ y. omega (arith, y.0))
+                    (λ y. h.after g r edge' (omega (arith, edge_is)) (sym y.1 ∙ x)) (put_cases p.watch e 2 g near);
+                who = inr (
+                  (λ r edge' x. ⊎_elim (λ y. omega (arith, y.0))
+                      (λ y. h.after (e + 1) r edge' (omega (arith, edge_is)) (sym y.1 ∙ x))
+                      (put_cases p.watch e 2 (e + 1) near)),
+                  omega (
+                    arith,
+                    total-set (moves t) vs id v w here,
+                    none,
+                    no_move t,
+                    ap (spot_on t) (found_move c),
+                    on_here
+                        t (e + 1),
+                  ),
+                  omega (
+                    arith,
+                    total-set (moves_at t (e + 1)) vs id v w here,
+                    total_more (moves_at t (e + 1)) (moves t) vs
+                        (λ x. at_less t (e + 1) x.moving),
+                    none,
+                    no_move_at t (e + 1),
+                    ap (spot_at t (e + 1)) (found_move c),
+                    at_here t (e + 1),
+                  ),
+                );
+                some_edge = h.some_edge;
+              }

@@ -1,13 +1,10 @@
 -- The edges of a note that is closed, one by one.
+use Rattle.std.proofs.lemmas.Grind.{common_steps}
 use Rattle.std.proofs.Common.{◌≡◌, ℕ, zero, suc, ◌-◌, ◌<◌, List, [], ◌∷◌, false, cond, Option, Some, None, refl, sym}
 use Rattle.std.proofs.Common.{ap, ◌∙◌, subst, arith, ◌||◌, ne_eqb, IfNone, IfSome, MatchOption}
 use Rattle.cs_board.specs.inner.Sittings.{Beside, ClosesAt}
-use Rattle.cs_graph.specs.Graph.{IsNextOut, NoneOut}
-use Rattle.cs_graph.specs.Graph.{Edge}
-use Rattle.cs_board.specs.Plans.{leads_out}
-use Rattle.cs_board.specs.Views.{closing_from}
-use Rattle.cs_board.specs.declared.view.Plan.{Plan}
-use Rattle.cs_board.specs.declared.view.View.{View}
+use Rattle.cs_graph.specs.Graph.{IsNextOut, NoneOut, Edge}
+use Rattle.cs_board.specs.{Plans.leads_out, Views.closing_from, declared.view.Plan.Plan, declared.view.View.View}
 use Rattle.cs_board.proofs.Spots.{leads_out_here}
 
 -- how many edges are ahead
@@ -31,38 +28,14 @@ closing_none es p i h = ap (λ b. cond b (Some (record { note = p; from = i })) 
 
 pub closing_some : {J : Type 0} (k : Plan J) (v : View J) (p i e : ℕ) → v.closing ≡ closing_from k.edges p i
     → IsNextOut k.edges p i e → ClosesAt k v p e
-closing_some k v p i e c n = (
-  i,
-  c ∙ ap (λ b. cond b (Some (record { note = p; from = i })) None)
-      (leads_out_here k.edges e p n.edge.0 i n.edge.1 n.low),
-  n,
-)
+closing_some k v p i e c n = grind (arith, common_steps, leads_out_here)
 
 module _ {J : Type 0} where
   pub beside_same : (v : View J) → Beside v v
-  beside_same v = record {
-    doing = refl;
-    tries = refl;
-    found = refl;
-    mine = refl;
-    seat =
-        record { first = refl; number = refl; out = refl; made = refl };
-  }
+  beside_same v = grind (arith, common_steps)
 
   pub beside_join : (u v w : View J) → Beside u v → Beside v w → Beside u w
-  beside_join u v w a b = record {
-    doing = b.doing ∙ a.doing;
-    tries = b.tries ∙ a.tries;
-    found = b.found ∙ a.found;
-    mine = b.mine ∙ a.mine;
-    seat = record {
-      first = b.seat.first ∙ a.seat.first;
-      number = b.seat.number ∙ a.seat.number;
-      out =
-          b.seat.out ∙ a.seat.out;
-      made = b.seat.made ∙ a.seat.made;
-    };
-  }
+  beside_join u v w a b = grind (arith, common_steps)
 
   pub closing_next : (k : Plan J) (v : View J) (edges : List (ℕ × ℕ)) (p i : ℕ) (o : Option ℕ) → k.edges ≡ edges
       → v.closing ≡ closing_from k.edges p i

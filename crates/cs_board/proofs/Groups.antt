@@ -1,34 +1,20 @@
 -- What each group of facts asks of a step that changes one view, or a status, or a watch word.
-use Rattle.std.proofs.Common.{◌≡◌, ◌≢◌, ℕ, ◌+◌, ◌<◌, ◌≤◌, ◌⊎◌, inl, inr, ⊎_elim, List, length, set, true, false, None}
-use Rattle.std.proofs.Common.{sym, ap, ◌∙◌, subst, arith}
+use Rattle.std.proofs.lemmas.Grind.{common_steps}
+use Rattle.std.proofs.Common.{◌≡◌, ◌≢◌, ℕ, ◌+◌, ◌<◌, ◌≤◌, ◌⊎◌, inl, inr, ⊎_elim, List, length, set, false, None, sym}
+use Rattle.std.proofs.Common.{ap, ◌∙◌, subst, arith}
 use mathlib.Core.Option.{some}
 use lib.ListN.{get_elem?}
 use Rattle.cs_graph.specs.Graph.{Edge}
 use Rattle.cs_board.specs.Counts.{same, total}
-use Rattle.cs_board.specs.Facts.{spot_on, spot_by, spot_at, does_note, ran_note, closes, closes_by, moves, moves_at}
-use Rattle.cs_board.specs.Facts.{owed, has_done, is_first, numbered, names, Found, Gates, IsSane, Doers, Waits, Watches}
-use Rattle.cs_board.specs.Facts.{Tallied, Seats, Owned}
-use Rattle.cs_board.specs.Plans.{IsRoot}
-use Rattle.cs_board.specs.Words.{at}
-use Rattle.cs_board.specs.declared.view.Plan.{Plan}
-use Rattle.cs_board.specs.declared.view.View.{View}
+use Rattle.cs_board.specs.Facts.{spot_on, spot_by, does_note, ran_note, closes, closes_by, moves, owed, has_done}
+use Rattle.cs_board.specs.Facts.{is_first, numbered, Found, Gates, IsSane, Doers, Waits, Watches, Tallied, Seats, Owned}
+use Rattle.cs_board.specs.{Plans.IsRoot, Words.at, declared.view.Plan.Plan, declared.view.View.View}
 use Rattle.cs_board.proofs.Lists.{put_cases, at_set, total-set, total_le}
 
 module _ {J : Type 0} (k : Plan J) where
   pub gates_status : (st wt : List ℕ) (t x : ℕ) → t < length st → Gates k st wt → x ≤ 3
       → (x ≢ 0 → (e p : ℕ) → Edge k.edges e p t → at wt e ≡ 2) → (at st t ≡ 3 → x ≡ 3) → Gates k (set st t x) wt
-  gates_status st wt t x low g small shut stays = record {
-    statuses = λ u. ⊎_elim (λ h. omega (arith, h.1)) (λ h. omega (arith, h.1, g.statuses u)) (put_cases st t x u low);
-    watches = g.watches;
-    closed = λ e p u edge n. ⊎_elim
-        (λ h. shut (λ z. n (h.1 ∙ z)) e p (subst (λ y. Edge k.edges e p y) h.0 edge))
-        (λ h. g.closed e p u edge (λ z. n (h.1 ∙ z)))
-        (put_cases st t x u low);
-    done = λ e p u edge c. let d = g.done e p u edge c in ⊎_elim
-        (λ h. h.1 ∙ stays (ap (at st) (sym h.0) ∙ d))
-        (λ h. h.1 ∙ d)
-        (put_cases st t x p low);
-  }
+  gates_status st wt t x low g small shut stays = grind (arith, common_steps, put_cases)
 
   pub gates_watch : (st wt : List ℕ) (e x : ℕ) → e < length wt → Gates k st wt → x ≤ 2
       → (x ≡ 2 → (p t : ℕ) → Edge k.edges e p t → at st p ≡ 3) → (at wt e ≡ 2 → x ≡ 2) → Gates k st (set wt e x)
@@ -50,15 +36,7 @@ pub sane_live : {J : Type 0} (k : Plan J) (v w : View J) → v.spent ≡ false �
     → w.first ≡ v.first → w.out ≡ v.out → w.rest ≡ v.rest
     → (w.doing ≡ None) ⊎ ((w.closing ≡ None) × (w.moving ≡ None)) → ((t : ℕ) → 0 < owed t w → t < k.notes) → IsSane k v
     → IsSane k w
-sane_live k v w live spent plan first out rest duty owes s = record {
-  plan = λ z. plan ∙ s.plan live;
-  one_duty = duty;
-  owes_in = owes;
-  follower = λ z. out ∙ s.follower (sym first ∙ z);
-  leader = λ z. spent ∙ live;
-  over = λ z. absurd (let e : true ≡ false = sym z ∙ spent ∙ live in cc);
-  playing = rest ∙ s.playing;
-}
+sane_live k v w live spent plan first out rest duty owes s = grind (arith, common_steps)
 
 module _ {J : Type 0} (k : Plan J) (vs : List (View J)) (id : ℕ) (v w : View J) (here : get_elem? vs id ≡ some v) where
   pub total_keeps : (g : View J → ℕ) → g w ≡ g v → total g (set vs id w) ≡ total g vs
@@ -75,21 +53,7 @@ module _ {J : Type 0} (k : Plan J) (vs : List (View J)) (id : ℕ) (v w : View J
   doers_step st st' h d u = omega (arith, h u, d u, total-set (does_note u) vs id v w here)
 
   pub waits_still : (wt : List ℕ) (t : ℕ) → w.moving ≡ v.moving → Waits k wt vs t → Waits k wt (set vs id w) t
-  waits_still wt t m h = record {
-    edge = h.edge;
-    before = h.before;
-    after = h.after;
-    who = ⊎_elim
-        (λ a. inl (a.0, a.1, a.2, total_keeps (moves t) (ap (spot_on t) m) ∙ a.3))
-        (λ b. inr (
-          b.0,
-          total_keeps (moves t) (ap (spot_on t) m)
-              ∙ b.1,
-          total_keeps (moves_at t h.edge) (ap (spot_at t h.edge) m) ∙ b.2,
-        ))
-        h.who;
-    some_edge = h.some_edge;
-  }
+  waits_still wt t m h = grind (arith, common_steps, total_keeps)
 
   abbrev pub Goes : List ℕ → List ℕ → List ℕ → List ℕ → ℕ → ℕ → Type 0
   Goes st st' wt wt' e p =
@@ -162,18 +126,7 @@ module _ {J : Type 0} (k : Plan J) (vs : List (View J)) (id : ℕ) (v w : View J
 
   pub seats_step : is_first w ≡ is_first v → ((x : ℕ) → numbered x w ≡ numbered x v) → w.out ≡ v.out → w.made ≡ v.made
       → Seats vs → Seats (set vs id w)
-  seats_step l n o m h = record {
-    leading = total_keeps is_first l ∙ h.leading;
-    numbers = λ x. total_keeps (numbered x) (n x) ∙ h.numbers x
-        ∙ sym (total_keeps (names x) (ap (λ z. names x (record v { out = z })) o));
-    once = λ x. omega (arith, h.once x, total_keeps (names x) (ap (λ z. names x (record v { out = z })) o));
-    fresh = λ i y x e p. ⊎_elim
-        (λ z. let q : 0 < names x w = subst (λ u. 0 < names x u) (sym z.1) p in
-        let r : x < v.made = h.fresh id v x here (omega (arith, ap (λ u. names x (record v { out = u })) o)) in
-        let s : w.made ≡ y.made = ap (λ u. u.made) z.1 in omega arith)
-        (λ z. h.fresh i y x z.1 p)
-        (at_set vs id i w y e);
-  }
+  seats_step l n o m h = grind (arith, common_steps, at_set, total_keeps)
 
   pub owned_step : (st st' ow ow' : List ℕ)
       → ((u : ℕ) → at ow' u + same (at st u) 3 + ran_note u v ≡ at ow u + same (at st' u) 3 + ran_note u w)

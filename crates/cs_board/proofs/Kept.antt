@@ -5,19 +5,14 @@ use prog.Atomic.{either}
 use Rattle.atomic_table.specs.Table.{step, Allows, Splits, Joins}
 use Rattle.cs_cells.specs.Meaning.{Meaning, Frames}
 use Rattle.cs_graph.specs.Graph.{Edge}
-use Rattle.cs_board.specs.Facts.{job_if}
-use Rattle.cs_board.specs.Plans.{places_written, before_at, writers_before, writes_at}
+use Rattle.cs_board.specs.{Facts.job_if, Plans.places_written, Plans.before_at, Plans.writers_before, Plans.writes_at}
+use Rattle.cs_board.specs.{Plays.finished, Plays.closed, Plays.watched, Plays.opens, Rule.Always, Views.kept_view}
+use Rattle.cs_board.specs.{Views.given_view, Views.joined, Views.spent_view, declared.view.Berth.TheVariants.Full}
+use Rattle.cs_board.specs.{declared.view.Doing.Doing, declared.view.Plan.Plan, declared.view.View.View}
 use Rattle.cs_board.specs.Plays.{Sat, claimed, took, gave, looked, looked_status, set_cell, looked_turn, turned}
-use Rattle.cs_board.specs.Plays.{finished, closed, watched, opens}
-use Rattle.cs_board.specs.Rule.{Always}
-use Rattle.cs_board.specs.Views.{kept_view, given_view, joined, spent_view}
 use Rattle.cs_board.specs.Words.{at, status_at, watch_at, own_at, turn_at, cell_at}
-use Rattle.cs_board.specs.declared.view.Berth.TheVariants.{Full}
-use Rattle.cs_board.specs.declared.view.Doing.{Doing}
-use Rattle.cs_board.specs.declared.view.Plan.{Plan}
-use Rattle.cs_board.specs.declared.view.View.{View}
-use Rattle.cs_board.proofs.Allowed as one
 use Rattle.cs_board.proofs.Rests.{lift, lift_split, lift_join}
+use Rattle.cs_board.proofs.Allowed as one
 use Rattle.cs_board.proofs.Running as run
 use Rattle.cs_board.proofs.Seating as seat
 

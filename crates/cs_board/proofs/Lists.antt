@@ -1,12 +1,10 @@
 -- Plain lists: one element changed, what elements weigh together, how often a number stands in a list.
-use Rattle.std.proofs.Common.{◌≡◌, ◌≢◌, ℕ, zero, suc, ◌+◌, ◌<◌, ◌≤◌, ◌⊎◌, inl, inr, ⊎_elim, List, [], ◌∷◌, ◌++◌, length}
-use Rattle.std.proofs.Common.{get_or, set, Bool, true, false, cond, refl, sym, ap, ◌∙◌, arith, eq-eqb, ne_eqb, zero-add}
-use Rattle.std.proofs.lemmas.Bool.{cases_eq}
-use Rattle.std.proofs.lemmas.List.{get_or-set_same, get_or-set_other}
+use Rattle.std.proofs.lemmas.{Grind.common_steps, Bool.cases_eq, List.get_or-set_same, List.get_or-set_other}
+use Rattle.std.proofs.Common.{◌≡◌, ◌≢◌, ℕ, zero, suc, ◌+◌, ◌*◌, ◌<◌, ◌≤◌, ◌⊎◌, inl, inr, ⊎_elim, List, [], ◌∷◌, ◌++◌}
+use Rattle.std.proofs.Common.{length, set, refl, sym, ap, arith, eq-eqb, ne_eqb, zero-add}
 use mathlib.Core.Option.{some, some-injective, some-ne-none}
 use lib.ListN.{get_elem?}
-use Rattle.cs_board.specs.Counts.{one, same, total, times, without}
-use Rattle.cs_board.specs.Words.{at}
+use Rattle.cs_board.specs.{Counts.one, Counts.same, Counts.total, Counts.times, Counts.without, Words.at}
 
 pub same_yes : (a b : ℕ) → a ≡ b → same a b ≡ 1
 same_yes a b e = ap one (eq-eqb a b e)
@@ -20,10 +18,12 @@ same_cases a b = ⊎_elim (λ e. inl (e, same_yes a b e)) (λ n. inr (n, same_no
 -- a number after one was set
 pub put_cases : (xs : List ℕ) (i x u : ℕ) → i < length xs
     → ((u ≡ i) × (at (set xs i x) u ≡ x)) ⊎ ((u ≢ i) × (at (set xs i x) u ≡ at xs u))
-put_cases xs i x u low = ⊎_elim
-    (λ e. inl (e, ap (λ j. get_or (set xs i x) j 0) e ∙ get_or-set_same xs i x 0 low))
-    (λ n. inr (n, get_or-set_other xs i u x 0 n))
-    (cases_eq u i)
+put_cases xs i x u low = grind (arith, common_steps, cases_eq, get_or-set_other, get_or-set_same)
+
+-- how often a number stands at a place before and after one was set there
+pub put_counts : (xs : List ℕ) (i x a n u : ℕ) → i < length xs → at xs i ≡ a
+    → same (at (set xs i x) u) n + same i u * same a n ≡ same (at xs u) n + same i u * same x n
+put_counts xs i x a n u low is = grind (arith, common_steps, put_cases, same_no, same_yes)
 
 module _ {A : Type 0} where
   -- an element after one was set
@@ -102,10 +102,7 @@ module _ {A : Type 0} where
   pub total_tight : (f g : A → ℕ) (l : List A) (j : ℕ) (v : A) → ((x : A) → f x ≤ g x) → total f l ≡ total g l
       → get_elem? l j ≡ some v → f v ≡ g v
   total_tight f g [] j v h s e = absurd (some-ne-none v (sym e))
-  total_tight f g (x ∷ xs) zero v h s e =
-      let a : f x ≤ g x = h x in let b : total f xs ≤ total g xs = total_more f g xs h in
-      let c : f x ≡ g x = omega arith in
-      let i : x ≡ v = some-injective x v e in sym (ap f i) ∙ c ∙ ap g i
+  total_tight f g (x ∷ xs) zero v h s e = grind (arith, common_steps, some-injective, total_more)
   total_tight f g (x ∷ xs) (suc j) v h s e =
       let a : f x ≤ g x = h x in let b : total f xs ≤ total g xs = total_more f g xs h in
       total_tight f g xs j v h (omega arith) e
@@ -114,10 +111,7 @@ module _ {A : Type 0} where
   pub total_gap : (f g : A → ℕ) (l : List A) (j : ℕ) (v : A) → ((x : A) → f x ≤ g x) → get_elem? l j ≡ some v
       → total f l + g v ≤ total g l + f v
   total_gap f g [] j v h e = absurd (some-ne-none v (sym e))
-  total_gap f g (x ∷ xs) zero v h e =
-      let b : total f xs ≤ total g xs = total_more f g xs h in
-      let i : x ≡ v = some-injective x v e in
-      let c : f x ≡ f v = ap f i in let d : g x ≡ g v = ap g i in omega arith
+  total_gap f g (x ∷ xs) zero v h e = grind (arith, common_steps, some-injective, total_more)
   total_gap f g (x ∷ xs) (suc j) v h e =
       let a : f x ≤ g x = h x in let b : total f xs + g v ≤ total g xs + f v = total_gap f g xs j v h e in omega arith
 
@@ -150,35 +144,16 @@ module _ {A : Type 0} where
 pub times-snoc : (x : ℕ) (l : List ℕ) (y : ℕ) → times x (l ++ y ∷ []) ≡ times x l + same y x
 times-snoc x l y = total-snoc (λ z. same z x) l y
 
-choose : {A : Type 0} → (b : Bool) (x y : A) → (P : A → Type 0) → (b ≡ true → P x) → (b ≡ false → P y) → P (cond b x y)
-choose true x y P h k = h refl
-choose false x y P h k = k refl
-
 pub times-without : (x t : ℕ) (l : List ℕ) → x ≢ t → times x (without t l) ≡ times x l
 times-without x t [] n = refl
-times-without x t (y ∷ ys) n =
-    let rest : times x (without t ys) ≡ times x ys = times-without x t ys n in
-    ⊎_elim
-    (λ e. let s : same y x ≡ 0 = same_no y x (λ f. n (sym f ∙ e)) in
-    ap (λ b. times x (cond b (without t ys) (y ∷ without t ys))) (eq-eqb y t e) ∙ (omega arith))
-    (λ d. ap (λ b. times x (cond b (without t ys) (y ∷ without t ys))) (ne_eqb y t d) ∙ (omega arith))
-    (cases_eq y t)
+times-without x t (y ∷ ys) n = grind (arith, common_steps, cases_eq, eq-eqb, ne_eqb, same_no, times-without x t ys n)
 
 pub times-without_same : (t : ℕ) (l : List ℕ) → times t (without t l) ≡ 0
 times-without_same t [] = refl
-times-without_same t (y ∷ ys) =
-    let rest : times t (without t ys) ≡ 0 = times-without_same t ys in
-    ⊎_elim
-    (λ e. ap (λ b. times t (cond b (without t ys) (y ∷ without t ys))) (eq-eqb y t e) ∙ rest)
-    (λ d. let s : same y t ≡ 0 =
-    same_no y t d in ap (λ b. times t (cond b (without t ys) (y ∷ without t ys))) (ne_eqb y t d) ∙ (omega arith))
-    (cases_eq y t)
+times-without_same t (y ∷ ys) = grind (arith, common_steps, cases_eq, eq-eqb, ne_eqb, same_no, times-without_same t ys)
 
 pub times-without_le : (x t : ℕ) (l : List ℕ) → times x (without t l) ≤ times x l
-times-without_le x t l = ⊎_elim
-    (λ e. let z : times x (without t l) ≡ 0 = ap (λ y. times y (without t l)) e ∙ times-without_same t l in omega arith)
-    (λ n. let z : times x (without t l) ≡ times x l = times-without x t l n in omega arith)
-    (cases_eq x t)
+times-without_le x t l = grind (arith, common_steps, cases_eq, times-without, times-without_same)
 
 -- a list in which nothing stands is empty
 pub empty_from_times : (l : List ℕ) → ((x : ℕ) → times x l ≡ 0) → l ≡ []

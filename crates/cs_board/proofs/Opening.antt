@@ -1,29 +1,22 @@
 -- The board at the opening keeps the rule.
-use Rattle.std.proofs.Common.{◌≡◌, ◌≢◌, ℕ, zero, suc, ◌+◌, ◌<◌, ◌≤◌, ◌⊎◌, inl, inr, ⊎_elim, List, [], ◌∷◌, ◌++◌, length}
-use Rattle.std.proofs.Common.{take, Bool, true, false, cond, Some, refl, sym, ap, ◌∙◌, subst, arith, ◌==◌, ◌&&◌, ◌||◌}
-use Rattle.std.proofs.Common.{slice_get, eq-eqb, eqb-true, length-append}
+use Rattle.std.proofs.lemmas.{Grind.common_steps, Option.slice_get_within, Option.get_or_from_slice_get}
+use Rattle.std.proofs.Common.{◌≡◌, ◌≢◌, ℕ, zero, suc, ◌+◌, ◌<◌, ◌≤◌, ◌⊎◌, inl, ⊎_elim, List, [], ◌∷◌, length, take}
+use Rattle.std.proofs.Common.{Bool, true, false, cond, Some, refl, sym, ap, ◌∙◌, arith, ◌==◌, ◌||◌, slice_get, eq-eqb}
+use Rattle.std.proofs.Common.{eqb-true, length-append}
 use Rattle.std.proofs.lemmas.Bool.{cases_Bool, cases_eq, cases_lt, or_right}
 use Rattle.std.proofs.lemmas.List.{length-map, get_or_past, get_or_append_left, get_or_at}
-use Rattle.std.proofs.lemmas.Option.{slice_get_within, get_or_from_slice_get}
-use mathlib.Core.Option as maybe
 use mathlib.Core.Option.{some, some-injective}
 use lib.ListN.{get_elem?}
-use Rattle.cs_cells.specs.Cells.{cell, signed, values}
-use Rattle.cs_cells.specs.Meaning.{Meaning}
+use Rattle.cs_cells.specs.{Cells.values, Meaning.Meaning}
 use Rattle.cs_graph.specs.Graph.{Edge}
-use Rattle.cs_board.specs.Counts.{one, same, total, times, listed, count_below}
-use Rattle.cs_board.specs.Facts.{IsSane, Waits, done_writers, job_if, Found, does_note, ran_note, closes, moves, owed}
-use Rattle.cs_board.specs.Facts.{has_done, is_first, numbered, names, turned_on}
-use Rattle.cs_board.specs.Opening.{each_below, first_status, later_end, first_watch, opening_words}
-use Rattle.cs_board.specs.Plans.{IsRoot, leads_in, edge_count, area_count, before_at, places_written}
-use Rattle.cs_board.specs.Rule.{Facts}
+use Rattle.cs_board.specs.Counts.{one, same, total, times, count_below}
+use Rattle.cs_board.specs.{Facts.Waits, Facts.moves, Plans.leads_in, Plans.edge_count, Rule.Facts, Words.Words}
+use Rattle.cs_board.specs.{Words.at, Words.IsSized, declared.view.Berth.Berth, declared.view.Berth.TheVariants.Full}
+use Rattle.cs_board.specs.{declared.view.Plan.Plan, declared.view.View.View}
+use Rattle.cs_board.specs.Opening.{each_below, first_status, first_watch, opening_words}
 use Rattle.cs_board.specs.Views.{roots_below, opening_view, spent_view}
-use Rattle.cs_board.specs.Words.{Words, at, IsSized}
-use Rattle.cs_board.specs.declared.view.Berth.{Berth}
-use Rattle.cs_board.specs.declared.view.Berth.TheVariants.{Full}
-use Rattle.cs_board.specs.declared.view.Plan.{Plan}
-use Rattle.cs_board.specs.declared.view.View.{View}
 use Rattle.cs_board.proofs.Lists.{same_yes, same_no, total_only}
+use mathlib.Core.Option as maybe
 
 -- a list of the values below a number
 pub length-each_below : (f : ℕ → ℕ) (n : ℕ) → length (each_below f n) ≡ n
@@ -43,10 +36,7 @@ past_each_below : (f : ℕ → ℕ) (n i : ℕ) → n ≤ i → at (each_below f
 past_each_below f n i l = get_or_past (each_below f n) i 0 (omega (arith, length-each_below f n))
 
 zeros : (n i : ℕ) → at (each_below (λ t. 0) n) i ≡ 0
-zeros n i = ⊎_elim
-    (λ (l : i < n). at_each_below (λ t. 0) n i l)
-    (λ (l : n ≤ i). past_each_below (λ t. 0) n i l)
-    (cases_lt i n)
+zeros n i = grind (arith, common_steps, at_each_below, cases_lt, past_each_below)
 
 -- an edge that leads to a note, and the first one
 pub leads_by : (edges : List (ℕ × ℕ)) (e p t : ℕ) → Edge edges e p t → leads_in edges t ≡ true
@@ -92,14 +82,7 @@ root_in edges (suc n) t l h = ⊎_elim
 
 root_out : (edges : List (ℕ × ℕ)) (n t : ℕ) → n ≤ t → times t (roots_below edges n) ≡ 0
 root_out edges zero t l = refl
-root_out edges (suc n) t l =
-    let r : times t (roots_below edges n) ≡ 0 = root_out edges n t (omega arith) in
-    ⊎_elim
-    (λ b. ap (λ z. times t (cond z (roots_below edges n) (n ∷ roots_below edges n))) b ∙ r)
-    (λ b. let s : same n t ≡ 0 = same_no n t (λ z. omega arith) in
-    ap (λ z. times t (cond z (roots_below edges n) (n ∷ roots_below edges n))) b
-    ∙ (let c : same n t + times t (roots_below edges n) ≡ 0 = omega arith in c))
-    (cases_Bool (leads_in edges n))
+root_out edges (suc n) t l = grind (arith, common_steps, cases_Bool, same_no, root_out edges n t (omega arith))
 
 pub count_none : (P : ℕ → Bool) (n : ℕ) → ((u : ℕ) → P u ≡ false) → count_below P n ≡ 0
 count_none P zero h = refl
@@ -126,24 +109,10 @@ module _ {J : Type 0} (M : Meaning J) (k : Plan J) (ws spare : List ℕ) (same_v
   only g none = total_only g vs id (opening_view k) here (λ j w n e. ap g (others j w n e) ∙ none)
 
   pub opening_sized : IsSized k begins
-  opening_sized = record {
-    status = length-each_below (first_status k.edges) k.notes;
-    watch = length-each_below (first_watch k.edges) (edge_count k);
-    own = length-each_below (λ t. 0) k.notes;
-    turns = length-each_below (λ r. 0) (area_count k);
-    cells = sym (length-map ws signed) ∙ ap length same_values;
-    spare = long;
-  }
+  opening_sized = grind (arith, common_steps, length-each_below, length-map)
 
   status_is : (t : ℕ) → (at st t ≡ 0) ⊎ ((at st t ≡ 1) × (t < k.notes) × (leads_in k.edges t ≡ false))
-  status_is t = ⊎_elim
-      (λ (l : t < k.notes). let a : at st t ≡ first_status k.edges t =
-      at_each_below (first_status k.edges) k.notes t l in ⊎_elim
-      (λ b. inl (a ∙ ap (λ z. cond z 0 1) b))
-      (λ b. inr (a ∙ ap (λ z. cond z 0 1) b, l, b))
-      (cases_Bool (leads_in k.edges t)))
-      (λ (l : k.notes ≤ t). inl (past_each_below (first_status k.edges) k.notes t l))
-      (cases_lt t k.notes)
+  status_is t = grind (arith, common_steps, at_each_below, cases_Bool, cases_lt, past_each_below)
 
   status_low : (t : ℕ) → at st t ≤ 1
   status_low t = ⊎_elim (λ a. omega (arith, a)) (λ a. omega (arith, a.0)) (status_is t)
@@ -163,22 +132,10 @@ module _ {J : Type 0} (M : Meaning J) (k : Plan J) (ws spare : List ℕ) (same_v
       ∙ ap (λ z. cond (leads_in (take e k.edges) z.1) 0 1) (get_or_from_slice_get k.edges e (p, t) (0, 0) h)
 
   watch_low : (e : ℕ) → at wt e ≤ 1
-  watch_low e = ⊎_elim
-      (λ (l : e < edge_count k). let a : at wt e ≡ first_watch k.edges e =
-      at_each_below (first_watch k.edges) (edge_count k) e l in
-      ⊎_elim
-      (λ b. let c : first_watch k.edges e ≡ 0 = ap (λ z. cond z 0 1) b in omega arith)
-      (λ b. let c : first_watch k.edges e ≡ 1 = ap (λ z. cond z 0 1) b in omega arith)
-      (cases_Bool (leads_in (take e k.edges) (later_end k.edges e))))
-      (λ (l : edge_count k ≤ e). omega (arith, past_each_below (first_watch k.edges) (edge_count k) e l))
-      (cases_lt e (edge_count k))
+  watch_low e = grind (arith, common_steps, at_each_below, cases_Bool, cases_lt, past_each_below)
 
   led : (t : ℕ) → t < k.notes → at st t ≡ 0 → leads_in k.edges t ≡ true
-  led t low z = ⊎_elim
-      (λ b. b)
-      (λ b. absurd (let o : at st t ≡ 1 =
-      at_each_below (first_status k.edges) k.notes t low ∙ ap (λ y. cond y 0 1) b in omega arith))
-      (cases_Bool (leads_in k.edges t))
+  led t low z = grind (arith, common_steps, at_each_below, cases_Bool)
 
   opening_waits : (t : ℕ) → t < k.notes → at st t ≡ 0 → Waits k wt vs t
   opening_waits t low z = let f = first_edge k.edges t (led t low z) in record {
@@ -190,134 +147,36 @@ module _ {J : Type 0} (M : Meaning J) (k : Plan J) (ws spare : List ℕ) (same_v
     some_edge = (f.0, f.1, f.2);
   }
 
-  root_free : (t : ℕ) → IsRoot k t → leads_in k.edges t ≡ false
-  root_free t root = ⊎_elim (λ b. absurd (let f = first_edge k.edges t b in root f.0 f.1 f.2)) (λ b. b)
-      (cases_Bool (leads_in k.edges t))
-
   pub opening_facts : Facts M k begins hs vs
-  opening_facts = record {
-    gates = record {
-      statuses = λ t. omega (arith, status_low t);
-      watches = λ e. omega (arith, watch_low e);
-      closed = λ e p t h n. absurd (⊎_elim
-          (λ z. n z)
-          (λ o. let b : true ≡ false = sym (leads_by k.edges e p t h) ∙ o.2 in cc)
-          (status_is t));
-      done = λ e p t h c. absurd (omega (arith, watch_low e, c));
-    };
-    sane = λ i v e. sane_one i v e;
-    doers = λ t. only (does_note t) refl ∙ sym (same_none t 2 (omega arith));
-    watches = record {
-      closing = λ p. omega (arith, only (closes p) refl);
-      left = λ e p t h d. absurd (open_ p 3 d (omega arith));
-      waits = opening_waits;
-      calm = λ t n. only (moves t) refl;
-      moving_in = λ t l. only (moves t) refl;
-    };
-    tallied = record {
-      owing = λ t o. ⊎_elim
-          (λ z. absurd (omega (arith, z, o)))
-          (λ a. let r : 0 < times t (roots_below k.edges k.notes) =
-          root_in k.edges k.notes t a.1 a.2 in omega (arith, only (owed t) refl))
-          (status_is t);
-      finding = λ i v t e f. absurd (none_found i v t e f);
-      having = λ t. only (has_done t) refl ∙ sym (same_none t 3 (omega arith));
-    };
-    seats = record {
-      leading = only is_first refl;
-      numbers = λ x. only (numbered x) refl ∙ sym (only (names x) refl);
-      once = λ x. omega (arith, only (names x) refl);
-      fresh = λ i v x e l. absurd (none_out i v x e l);
-    };
-    owned = λ t. omega (arith, zeros k.notes t, same_none t 3 (omega arith), only (ran_note t) refl);
-    slots = record {
-      home = λ t j h n. home t j h ∙ ap (λ b. some (some (Full (job_if M k b t j)))) (sym (not_done t));
-      resting = λ i v d j e is. absurd (none_doing i v d e is);
-      away = λ i v d e is. absurd (none_doing i v d e is);
-    };
-    stored = record {
-      values = λ a l. record {
-        upto = 0;
-        within = omega arith;
-        done = λ t m. absurd (omega arith);
-        later = λ t m n w d. open_ t 3 d (omega arith);
-        value = λ q. value a l;
-      };
-      images = λ i v d e is. absurd (none_doing i v d e is);
-    };
-    turned = λ r l. zeros (area_count k) r ∙ sym (let c : done_writers M k st r ≡ 0
-        = count_none (λ u. at st u == 3 && listed (places_written M k u) r) k.notes
-        (λ u. ap (λ b. b && listed (places_written M k u) r) (not_done u)) in
-        omega (arith, only (turned_on M k r) refl));
-  }
-    where
-      -- a view is the first one's, or a spent one
-      each : (P : View J → Type 0) → P (opening_view k) → P spent_view → (i : ℕ) (v : View J) → get_elem? vs i ≡ some v
-          → P v
-      each P first spent i v e = ⊎_elim
-          (λ (s : i ≡ id). subst P (some-injective _ _ (sym here ∙ ap (get_elem? vs) (sym s) ∙ e)) first)
-          (λ (n : i ≢ id). subst P (sym (others i v n e)) spent)
-          (cases_eq i id)
-
-      sane_one : (i : ℕ) (v : View J) → get_elem? vs i ≡ some v → IsSane k v
-      sane_one = each (IsSane k)
-          (record {
-            plan = λ s. refl;
-            one_duty = inl refl;
-            owes_in = λ t l. ⊎_elim
-                (λ (m : t < k.notes). m)
-                (λ (m : k.notes ≤ t). absurd (omega (arith, l, root_out k.edges k.notes t m)))
-                (cases_lt t k.notes);
-            follower = λ s. absurd (cc);
-            leader = λ s. refl;
-            over = λ s. absurd (cc);
-            playing = refl;
-          })
-          (record {
-            plan = λ z. absurd (cc);
-            one_duty = inl refl;
-            owes_in = λ t z. absurd (omega arith);
-            follower = λ z. refl;
-            leader = λ z. absurd (cc);
-            over = λ z. refl;
-            playing = refl;
-          })
-
-      empty_found : List (ℕ × ℕ)
-      empty_found = []
-
-      none_found : (i : ℕ) (v : View J) (t : ℕ) → get_elem? vs i ≡ some v → Found v t → ⊥
-      none_found i v t = each (λ x. Found x t → ⊥)
-          (λ f. let q : slice_get (opening_view k).found f.0 ≡ Some (t, f.1) = f.2 in cc)
-          (λ f. let q : slice_get (empty_found) f.0 ≡ Some (t, f.1) = f.2 in cc) i v
-
-      none_out : (i : ℕ) (v : View J) (x : ℕ) → get_elem? vs i ≡ some v → 0 < times x v.out → ⊥
-      none_out i v x = each (λ y. 0 < times x y.out → ⊥) (λ l. omega arith) (λ l. omega arith) i v
-
-      none_doing : (i : ℕ) (v : View J) (d : _) → get_elem? vs i ≡ some v → v.doing ≡ Some d → ⊥
-      none_doing i v d = each (λ x. x.doing ≡ Some d → ⊥) (λ is. cc) (λ is. cc) i v
-
-      value : (a : ℕ) → a < length k.cells → signed (at ws a) ≡ cell (before_at M k 0) a
-      value a l = sym (map_at ws a (omega (arith, l, ap length same_values, length-map ws signed)))
-          ∙ ap (λ c. cell c a) same_values
-        where
-          map_at : (xs : List ℕ) (i : ℕ) → i < length xs → cell (values xs) i ≡ signed (at xs i)
-          map_at [] i m = absurd (omega arith)
-          map_at (x ∷ xs) zero m = refl
-          map_at (x ∷ xs) (suc i) m = map_at xs i (omega arith)
-
--- what the code finds of an edge's and a note's first word
-pub each_more : (f : ℕ → ℕ) (n : ℕ) → each_below f (n + 1) ≡ each_below f n ++ f n ∷ []
-each_more f n = let e : n + 1 ≡ suc n = omega arith in ap (each_below f) e
+  opening_facts =
+      grind (
+        arith,
+        common_steps,
+        cases_eq,
+        cases_lt,
+        count_none,
+        leads_by,
+        length-map,
+        not_done,
+        only,
+        open_,
+        opening_waits,
+        root_in,
+        root_out,
+        same_none,
+        some,
+        some-injective,
+        status_is,
+        status_low,
+        watch_low,
+        zeros,
+      )
 
 pub status_waits : (edges : List (ℕ × ℕ)) (e p t : ℕ) → Edge edges e p t → 0 ≡ first_status edges t
 status_waits edges e p t h = ap (λ b. cond b 0 1) (sym (leads_by edges e p t h))
 
 pub status_free : (edges : List (ℕ × ℕ)) (t : ℕ) → ((e p : ℕ) → ¬ (Edge edges e p t)) → 1 ≡ first_status edges t
-status_free edges t none = ⊎_elim
-    (λ b. absurd (let f = first_edge edges t b in none f.0 f.1 f.2))
-    (λ b. ap (λ z. cond z 0 1) (sym b))
-    (cases_Bool (leads_in edges t))
+status_free edges t none = grind (arith, common_steps, cases_Bool, first_edge)
 
 taken : (edges : List (ℕ × ℕ)) (e f : ℕ) (x : ℕ × ℕ) → slice_get (take e edges) f ≡ Some x
     → (f < e) × (slice_get edges f ≡ Some x)
@@ -343,7 +202,4 @@ watch_first edges e q t at_ none = ⊎_elim
 
 -- a note among those that wait for none is one of the cycle's
 pub roots_within : (edges : List (ℕ × ℕ)) (n t : ℕ) → 0 < times t (roots_below edges n) → t < n
-roots_within edges n t h = ⊎_elim
-    (λ (l : t < n). l)
-    (λ (l : n ≤ t). absurd (omega (arith, h, root_out edges n t l)))
-    (cases_lt t n)
+roots_within edges n t h = grind (arith, common_steps, cases_lt, root_out)

@@ -1,22 +1,14 @@
 -- A view whose image alone changed, and the note that has run.
-use Rattle.std.proofs.Common.{◌≡◌, ℕ, suc, ◌+◌, [], Option, Some, None, refl, sym, ap, ◌∙◌, subst, arith, slice_get}
-use Rattle.std.proofs.Common.{true, ◌||◌}
+use Rattle.std.proofs.lemmas.{Grind.common_steps, Option.same_Some}
+use Rattle.std.proofs.Common.{◌≡◌, ℕ, suc, ◌+◌, Option, Some, sym, ap, ◌∙◌, subst, arith, slice_get, true, ◌||◌}
 use Rattle.atomic_table.specs.declared.shared.Seat.{Seat}
-use Rattle.std.proofs.lemmas.Option.{same_Some}
-use Rattle.cs_board.specs.inner.Banks.{bare, imageless, frame_of, IsAtWork}
-use Rattle.cs_board.specs.Board.{plan, IsViewOf}
-use Rattle.cs_board.specs.inner.Sittings.{deed, deed_in, IsSittingOf}
-use Rattle.cs_board.specs.declared.board.Board.{Board}
-use Rattle.cs_cells.specs.Cells.{Cells}
-use Rattle.cs_cells.specs.Meaning.{Meaning, Uses, Writes}
+use Rattle.cs_board.specs.inner.Banks.{imageless, frame_of, IsAtWork}
+use Rattle.cs_board.specs.{Board.plan, Board.IsViewOf, inner.Sittings.deed, inner.Sittings.IsSittingOf}
+use Rattle.cs_board.specs.{declared.board.Board.Board, Views.does, declared.view.Berth.Berth, declared.view.Doing.Doing}
+use Rattle.cs_board.specs.{declared.view.Plan.Plan, declared.view.View.View}
+use Rattle.cs_cells.specs.{Cells.Cells, Cells.covers, Meaning.Meaning, Meaning.Uses, Meaning.Writes}
 use Rattle.cs_cells.proofs.SerialRun.{before-suc}
-use Rattle.cs_cells.specs.Cells.{covers}
 use Rattle.cs_board.specs.Plans.{IsPlan, before_at, uses_at, writes_at, uses_of, writes_of}
-use Rattle.cs_board.specs.Views.{does}
-use Rattle.cs_board.specs.declared.view.Berth.{Berth}
-use Rattle.cs_board.specs.declared.view.Doing.{Doing}
-use Rattle.cs_board.specs.declared.view.Plan.{Plan}
-use Rattle.cs_board.specs.declared.view.View.{View}
 
 module _ {J : Type 0} where
   same_but : (v w : View J) (o : Option Doing) → w.doing ≡ o → imageless w ≡ imageless v → w ≡ record v { doing = o }
@@ -24,17 +16,7 @@ module _ {J : Type 0} where
 
   pub reimage : (v w : View J) (d : Doing) (X : Cells) → v.doing ≡ Some d → imageless w ≡ imageless v
       → (deed w).image ≡ X → w ≡ does v (record d { image = X })
-  reimage v w d X doing h image = go w.doing refl
-    where
-      go : (o : Option Doing) → w.doing ≡ o → w ≡ does v (record d { image = X })
-      go None e = absurd (let z : None ≡ Some (record d { image = [] }) =
-          sym (ap bare e) ∙ ap (λ y. y.doing) h ∙ ap bare doing in cc)
-      go (Some f) e =
-          let z : record f { image = [] } ≡ record d { image = [] } =
-          same_Some _ _ (sym (ap bare e) ∙ ap (λ y. y.doing) h ∙ ap bare doing) in
-          let pic : f.image ≡ X = sym (ap (λ y. (deed_in y).image) e) ∙ image in
-          let f_is : f ≡ record d { image = X } = λ i. record (z i) { image = pic i } in
-          same_but v w (Some f) e h ∙ ap (λ y. does v y) f_is
+  reimage v w d X doing h image = grind (arith, common_steps, same_Some, same_but)
 
   -- a view that knows the board's plan knows it whatever its image is
   pub view_bare : (k : Plan J) (v : View J) → IsViewOf k v → IsViewOf k (imageless v)
@@ -44,12 +26,7 @@ module _ {J : Type 0} where
 pub works_at : {J : Type 0} (M : Meaning J) (board : Board J) (sitting : Seat (Berth J) (View J)) (name : ℕ) (d : Doing)
     → IsSittingOf M board sitting
     → sitting.me.0.doing ≡ Some d → IsAtWork M (frame_of board sitting name)
-works_at M board sitting name d h doing = let e = ap bare doing in record {
-  whole = h.whole;
-  table = h.table;
-  knows = view_bare (plan board) sitting.me.0 h.knows;
-  doing = e ∙ ap (λ o. Some (deed_in o)) (sym e);
-}
+works_at M board sitting name d h doing = grind (arith, common_steps, view_bare)
 
 module _ {J : Type 0} (M : Meaning J) (k : Plan J) (whole : IsPlan M k) (t : ℕ) (j : J)
     (at_ : slice_get k.jobs t ≡ Some j) where

@@ -1,21 +1,12 @@
 -- A note that a seat does, and the notes that seats finished.
-use Rattle.std.proofs.Common.{◌≡◌, ℕ, false, ⊎_elim, sym, subst, ap, ◌∙◌, arith}
-use Rattle.std.proofs.lemmas.Bool.{both_ways, cases_Bool, cases_eq}
-use Rattle.std.proofs.lemmas.List.{length-map}
+use Rattle.std.proofs.Common.{◌≡◌, false, ⊎_elim, sym, subst, ap, ◌∙◌, arith}
+use Rattle.std.proofs.lemmas.{Bool.both_ways, Bool.cases_Bool, Bool.cases_eq, List.length-map}
 use Rattle.atomic_table.specs.Table.{State}
 use Rattle.cs_cells.specs.Meaning.{Meaning, Frames}
-use Rattle.cs_board.specs.Counts.{same}
-use Rattle.cs_board.specs.Laws.{DoneOnce, EarlierDone, SeenBefore}
-use Rattle.cs_board.specs.Rule.{Holds}
-use Rattle.cs_board.specs.Words.{at}
-use Rattle.cs_board.specs.declared.view.Berth.{Berth}
-use Rattle.cs_board.specs.declared.view.Plan.{Plan}
-use Rattle.cs_board.specs.declared.view.View.{View}
-use Rattle.cs_board.proofs.Allowed.{status_is}
-use Rattle.cs_board.specs.Plans.{writes_at}
+use Rattle.cs_board.specs.{Counts.same, Laws.DoneOnce, Laws.EarlierDone, Laws.SeenBefore, Rule.Holds, Words.at}
+use Rattle.cs_board.specs.{declared.view.Berth.Berth, declared.view.Plan.Plan, declared.view.View.View, Plans.writes_at}
+use Rattle.cs_board.proofs.{Allowed.status_is, Does.busy, Does.apart, Stores.used_before}
 use Rattle.cs_board.proofs.Conflicts.{alone_at, past, used_within}
-use Rattle.cs_board.proofs.Does.{busy, apart}
-use Rattle.cs_board.proofs.Stores.{used_before}
 
 module _ {J : Type 0} (M : Meaning J) (k : Plan J) (s : State (Berth J) (View J)) (h : Holds M k s) where
   pub done_once : DoneOnce k s

@@ -1,35 +1,26 @@
 -- The rule of a whole performance: the steps of a cycle keep it, and so do those of a board that rests, the beginning
 -- of a cycle and its end.
+use Rattle.std.proofs.lemmas.{Grind.common_steps, Bool.cases_eq, Option.same_Some}
 use Rattle.std.proofs.Common.{◌≡◌, ◌≢◌, ℕ, zero, suc, ◌+◌, ◌<◌, ◌≤◌, inl, inr, ⊎_elim, List, [], ◌∷◌, map, length, set}
-use Rattle.std.proofs.Common.{replicate, true, false, Option, Some, None, refl, sym, ap, ◌∙◌, subst, arith, slice_get}
+use Rattle.std.proofs.Common.{replicate, false, Option, Some, None, refl, sym, ap, ◌∙◌, subst, arith, slice_get}
 use Rattle.std.proofs.Common.{slice_index, slice_set, eqb, eq-eqb, ne_eqb, zero-add}
-use Rattle.std.proofs.lemmas.Bool.{cases_eq}
 use Rattle.std.proofs.lemmas.List.{length-map, length-replicate, map-set, set-get_or}
-use Rattle.std.proofs.lemmas.Option.{same_Some}
-use mathlib.Core.Option as maybe
 use mathlib.Core.Option.{some, none, some-injective, some-ne-none}
 use prog.Atomic.{either}
 use lib.ListN.{get_elem?}
 use Rattle.atomic_table.specs.Table.{State, keeps, takes, gives, step, put_back, Allows, Splits, Joins, opening}
-use Rattle.cs_cells.specs.Cells.{values}
-use Rattle.cs_cells.specs.Meaning.{Meaning, Frames}
+use Rattle.cs_cells.specs.{Cells.values, Meaning.Meaning, Meaning.Frames}
 use Rattle.cs_graph.specs.Graph.{Dependencies}
-use Rattle.cs_board.specs.Ending.{IsLast, IsOver}
-use Rattle.cs_board.specs.Plans.{IsPlan}
+use Rattle.cs_board.specs.{Ending.IsLast, Ending.IsOver, Plans.IsPlan, Views.resting_view, Words.at, Words.all_words}
+use Rattle.cs_board.specs.{Opening.opening_words, declared.view.Berth.Berth, declared.view.Plan.Plan}
+use Rattle.cs_board.specs.{declared.view.Still.Still, declared.view.View.View}
 use Rattle.cs_board.specs.Plays.{Sat, lays, reads, reaches, leaves, begins, ends}
-use Rattle.cs_board.specs.Rule.{Holds, Resting, Always, home_in, stillness}
+use Rattle.cs_board.specs.Rule.{Holds, Always, home_in, stillness}
 use Rattle.cs_board.specs.Views.{spent_view, laid, with_word, with_home, graph_told, slot_row, plan_laid, opening_view}
-use Rattle.cs_board.specs.Views.{resting_view}
-use Rattle.cs_board.specs.Words.{at, all_words}
-use Rattle.cs_board.specs.Opening.{opening_words}
-use Rattle.cs_board.specs.declared.view.Berth.{Berth}
 use Rattle.cs_board.specs.declared.view.Berth.TheVariants.{Vacant, Full}
-use Rattle.cs_board.specs.declared.view.Plan.{Plan}
-use Rattle.cs_board.specs.declared.view.Still.{Still}
-use Rattle.cs_board.specs.declared.view.View.{View}
-use Rattle.cs_board.proofs.Closing.{ends_over, spent}
-use Rattle.cs_board.proofs.Lists.{set_here, set_else}
+use Rattle.cs_board.proofs.{Closing.ends_over, Closing.spent, Lists.set_here, Lists.set_else}
 use Rattle.cs_board.proofs.Opening.{opening_facts, opening_sized}
+use mathlib.Core.Option as maybe
 
 within_get : {A : Type 0} (l : List A) (i : ℕ) (a : A) → get_elem? l i ≡ some a → i < length l
 within_get [] i a e = absurd (some-ne-none a (sym e))
@@ -62,10 +53,7 @@ module _ {J : Type 0} where
   row_vacant (x ∷ js) n (suc i) far near = row_vacant js n i (omega arith) (omega arith)
 
   row_length : (js : List J) (n : ℕ) → length (slot_row 0 js n) ≡ length js + n
-  row_length [] n = length-replicate n empty ∙ sym (zero-add n)
-    where
-      empty : Option (Berth J)
-      empty = Some Vacant
+  row_length [] n = grind (arith, common_steps, length-replicate, zero-add)
   row_length (x ∷ js) n = let h : length (slot_row 0 js n) ≡ length js + n = row_length js n in omega arith
 
   vacant_homes : (n : ℕ) (b : Berth J) → map home_in (map some (replicate n b)) ≡ replicate n (Some b)
@@ -77,14 +65,7 @@ module _ {J : Type 0} (M : Meaning J) where
       (live : v.spent ≡ false) where
     -- a board whose view plays is being played
     playing : v.rest ≡ None → Always M s → (k : Plan J) × Holds M k s
-    playing rest a = ⊎_elim
-        (λ h. h)
-        (λ (r : Resting s). absurd (⊎_elim
-        (λ (e : id ≡ r.id). let z : v ≡ r.view = some-injective _ _ (sym here ∙ ap (get_elem? s.views) e ∙ r.here) in
-        let y : None ≡ Some (stillness s) = sym rest ∙ ap (λ x. x.rest) z ∙ r.knows in cc)
-        (λ (n : id ≢ r.id). let z : true ≡ false = ap (λ x. x.spent) (sym (r.others id v n here)) ∙ live in cc)
-        (cases_eq id r.id)))
-        a
+    playing rest a = grind (arith, common_steps, cases_eq, some-injective, spent)
 
     pub plays : (k : Plan J) → v.rest ≡ None → v.plan ≡ k → Always M s → Holds M k s
     plays k rest plan a = let h = playing rest a in
@@ -93,14 +74,7 @@ module _ {J : Type 0} (M : Meaning J) where
     -- a board whose view rests is at rest, and the view knows it
     rests : (w : Still J) → v.rest ≡ Some w → Always M s
         → (w ≡ stillness s) × ((j : ℕ) (x : View J) → j ≢ id → get_elem? s.views j ≡ some x → x ≡ spent_view)
-    rests w rest a = ⊎_elim
-        (λ h. absurd (let z : None ≡ Some w = sym ((h.1.facts.sane id v here).playing) ∙ rest in cc))
-        (λ (r : Resting s). ⊎_elim
-        (λ (e : id ≡ r.id). let z : v ≡ r.view = some-injective _ _ (sym here ∙ ap (get_elem? s.views) e ∙ r.here) in
-        (same_Some _ _ (sym rest ∙ ap (λ x. x.rest) z ∙ r.knows), λ j x n at_. r.others j x (λ q. n (q ∙ sym e)) at_))
-        (λ (n : id ≢ r.id). absurd (let z : true ≡ false = ap (λ x. x.spent) (sym (r.others id v n here)) ∙ live in cc))
-        (cases_eq id r.id))
-        a
+    rests w rest a = grind (arith, common_steps, cases_eq, playing, same_Some, some-injective, spent)
 
     -- the board rests after a step of the view
     resting : (ws : List ℕ) (hs : List (maybe.Option (Berth J))) (v' : View J) → v'.spent ≡ false
@@ -288,15 +262,4 @@ module _ {J : Type 0} (M : Meaning J) where
   pub starts : (v : View J) (ws : List ℕ) (n : ℕ) → v.spent ≡ false
       → v.rest ≡ Some (record { words = ws; homes = replicate n (Some Vacant) })
       → Always M (opening ws (replicate n Vacant) v)
-  starts v ws n live rest = inr (record {
-    id = 0;
-    view = v;
-    here = refl;
-    live = live;
-    knows = rest ∙ ap (λ z. Some (record { words = ws; homes = z })) (sym (vacant_homes n Vacant));
-    others = λ j x d at_. absurd (alone j x d at_);
-  })
-    where
-      alone : (j : ℕ) (x : View J) → j ≢ 0 → get_elem? (v ∷ []) j ≡ some x → ⊥
-      alone zero x d at_ = d refl
-      alone (suc j) x d at_ = some-ne-none x (sym at_)
+  starts v ws n live rest = grind (arith, common_steps, some, some-ne-none, vacant_homes)

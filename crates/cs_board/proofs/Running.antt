@@ -2,38 +2,27 @@
 use Rattle.std.proofs.Common.{◌≡◌, ◌≢◌, ℕ, zero, suc, ◌+◌, ◌-◌, ◌<◌, ◌≤◌, ⊎_elim, List, [], ◌∷◌, length, get_or, set}
 use Rattle.std.proofs.Common.{take, Bool, true, false, Option, Some, None, refl, sym, ap, ◌∙◌, subst, arith, ◌==◌, ◌&&◌}
 use Rattle.std.proofs.Common.{nat_le, slice_get, slice_index, slice_set, eq-eqb, ne_eqb, le-leb}
-use Rattle.std.proofs.lemmas.Option.{same_Some}
-use Rattle.std.proofs.lemmas.List.{length-set}
+use Rattle.std.proofs.lemmas.{Option.same_Some, List.length-set}
 use Rattle.std.specs.List.{Contains}
-use mathlib.Core.Option as maybe
 use mathlib.Core.Option.{some, none}
 use lib.ListN.{get_elem?}
 use Rattle.atomic_table.specs.Table.{State, keeps, takes, gives, step, put_back, rest, Allows}
-use Rattle.cs_cells.specs.Cells.{signed}
-use Rattle.cs_cells.specs.Meaning.{Meaning, Frames}
-use Rattle.cs_board.specs.Counts.{one, same, listed, total}
+use Rattle.cs_cells.specs.{Cells.signed, Meaning.Meaning, Meaning.Frames}
+use Rattle.cs_board.specs.{Counts.one, Counts.same, Counts.listed, Counts.total, Rule.Holds, Plays.Sat, Plays.took}
+use Rattle.cs_board.specs.{Plays.gave, Plays.set_cell, Plays.turned, Views.does, Views.set_image, Views.next_phase}
+use Rattle.cs_board.specs.{declared.view.Berth.Berth, declared.view.Berth.TheVariants.Full, declared.view.Doing.Doing}
+use Rattle.cs_board.specs.{declared.view.Plan.Plan, declared.view.View.View}
 use Rattle.cs_board.specs.Facts.{job_if, doing_on, ran_on, turned_in, turned_on, does_note, ran_note, Pictured, Slots}
 use Rattle.cs_board.specs.Plans.{writes_at, places_used, places_written, before_at, writers_before, area_count}
-use Rattle.cs_board.specs.Rule.{Holds}
-use Rattle.cs_board.specs.Plays.{Sat, took, gave, set_cell, turned}
-use Rattle.cs_board.specs.Views.{does, set_image, next_phase}
 use Rattle.cs_board.specs.Words.{Words, at, own_at, turn_at, cell_at}
-use Rattle.cs_board.specs.declared.view.Berth.{Berth}
-use Rattle.cs_board.specs.declared.view.Berth.TheVariants.{Full}
-use Rattle.cs_board.specs.declared.view.Doing.{Doing}
-use Rattle.cs_board.specs.declared.view.Plan.{Plan}
-use Rattle.cs_board.specs.declared.view.View.{View}
 use Rattle.cs_board.proofs.Allowed.{holds_after, word_kept, word_set, one_cell}
-use Rattle.cs_board.proofs.Begins.{facts_does}
+use Rattle.cs_board.proofs.{Begins.facts_does, Counting.listed_fresh, Does.busy, Does.does_one, Groups.owned_step}
+use Rattle.cs_board.proofs.{Slots.slots_moved, Slots.slots_still, Stores.stored_step, Stores.stored_set}
 use Rattle.cs_board.proofs.Conflicts.{listed_of, written_rises, written_used, written_used_at, used_place, used_within}
-use Rattle.cs_board.proofs.Counting.{listed_fresh}
-use Rattle.cs_board.proofs.Does.{busy, does_one}
-use Rattle.cs_board.proofs.Groups.{owned_step}
 use Rattle.cs_board.proofs.Lists.{put_cases, set_else, total_gap, within_of}
 use Rattle.cs_board.proofs.AllWords.{set_own, set_turn, set_cell_word, sized_own, sized_turn, sized_cell}
-use Rattle.cs_board.proofs.Slots.{slots_moved, slots_still}
-use Rattle.cs_board.proofs.Stores.{stored_step, stored_set}
 use Rattle.cs_board.proofs.Turns.{turned_still, turned_more, looks_turn}
+use mathlib.Core.Option as maybe
 
 one_less : (a b : Bool) → one (a && b) ≤ one a
 one_less true true = omega arith

@@ -1,20 +1,15 @@
 -- The slots: a note's job is home, or out with the seat that runs it.
-use Rattle.std.proofs.Common.{◌≡◌, ◌≢◌, ℕ, ◌<◌, ⊎_elim, List, length, set, true, false, Some, None, refl, sym, ap, ◌∙◌}
-use Rattle.std.proofs.Common.{◌==◌, nat_le, slice_get}
-use Rattle.std.proofs.lemmas.Option.{same_Some}
-use mathlib.Core.Option as maybe
+use Rattle.std.proofs.Common.{arith, ◌≡◌, ◌≢◌, ℕ, ◌<◌, ⊎_elim, List, length, set, true, false, Some, None, refl, sym}
+use Rattle.std.proofs.Common.{ap, ◌∙◌, ◌==◌, nat_le, slice_get}
+use Rattle.std.proofs.lemmas.{Grind.common_steps, Option.same_Some}
 use mathlib.Core.Option.{some, none}
 use lib.ListN.{get_elem?}
 use Rattle.cs_cells.specs.Meaning.{Meaning}
 use Rattle.cs_board.specs.Facts.{Slots, job_if, Doers}
-use Rattle.cs_board.specs.Words.{at}
-use Rattle.cs_board.specs.declared.view.Berth.{Berth}
-use Rattle.cs_board.specs.declared.view.Berth.TheVariants.{Full}
-use Rattle.cs_board.specs.declared.view.Doing.{Doing}
-use Rattle.cs_board.specs.declared.view.Plan.{Plan}
-use Rattle.cs_board.specs.declared.view.View.{View}
-use Rattle.cs_board.proofs.Lists.{put_cases, at_set, set_here, set_else}
-use Rattle.cs_board.proofs.Does.{busy, apart}
+use Rattle.cs_board.specs.{Words.at, declared.view.Berth.Berth, declared.view.Berth.TheVariants.Full}
+use Rattle.cs_board.specs.{declared.view.Doing.Doing, declared.view.Plan.Plan, declared.view.View.View}
+use Rattle.cs_board.proofs.{Lists.put_cases, Lists.at_set, Lists.set_here, Lists.set_else, Does.busy, Does.apart}
+use mathlib.Core.Option as maybe
 
 module _ {J : Type 0} (M : Meaning J) (k : Plan J) (vs : List (View J)) (id : ℕ) (v w : View J)
     (here : get_elem? vs id ≡ some v) where
@@ -48,16 +43,7 @@ module _ {J : Type 0} (M : Meaning J) (k : Plan J) (vs : List (View J)) (id : �
       → get_elem? hs d.note ≡ some (some (Full (job_if M k (nat_le 1 d.phase) d.note j))))
       → ((d : Doing) → w.doing ≡ Some d → d.held ≡ true → get_elem? hs d.note ≡ some none)
       → Slots M k st hs vs → Slots M k (set st t x) hs (set vs id w)
-  slots_status st hs t x a low is two side mine out s = slots_step st (set st t x) hs hs
-      (λ u j at_ n. ⊎_elim
-      (λ h. s.home u j at_ (λ z. two (sym is ∙ ap (at st) (sym h.0) ∙ z))
-      ∙ ap (λ b. some (some (Full (job_if M k b u j))))
-      (ap (λ z. z == 3) (ap (at st) h.0 ∙ is) ∙ sym side ∙ ap (λ z. z == 3) (sym h.1)))
-      (λ h. s.home u j at_ (λ z. n (h.1 ∙ z)) ∙ ap (λ z. some (some (Full (job_if M k (z == 3) u j)))) (sym h.1))
-      (put_cases st t x u low))
-      mine out
-      (λ i y d n e is_. refl)
-      s
+  slots_status st hs t x a low is two side mine out s = grind (arith, common_steps, put_cases, slots_step, some)
 
   -- a note is Done, while its job is home
   pub slots_done : (st : List ℕ) (hs : Homes) (d : Doing) → d.note < length st → at st d.note ≡ 2 → v.doing ≡ Some d

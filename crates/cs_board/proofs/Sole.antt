@@ -1,11 +1,8 @@
 -- The one seat of a board that rests knows all of it, and carries nothing.
-use Rattle.std.proofs.Common.{◌≡◌, ℕ, List, [], ◌∷◌, length, true, false, Option, Some, None, refl, arith, is_some}
-use Rattle.atomic_table.specs.Seated.{TableId}
-use Rattle.atomic_table.specs.declared.shared.Seat.{Seat}
+use Rattle.std.proofs.Common.{◌≡◌, List, [], ◌∷◌, length, true, false, Option, Some, None, refl, arith, is_some}
+use Rattle.atomic_table.specs.{Seated.TableId, declared.shared.Seat.Seat}
 use Rattle.cs_board.specs.Resting.{IsSole, still_in, known_in}
-use Rattle.cs_board.specs.declared.view.Berth.{Berth}
-use Rattle.cs_board.specs.declared.view.Still.{Still}
-use Rattle.cs_board.specs.declared.view.View.{View}
+use Rattle.cs_board.specs.{declared.view.Berth.Berth, declared.view.Still.Still, declared.view.View.View}
 
 abbrev Sits : Type 0 → Type 0
 Sits J = Seat (Berth J) (View J)

@@ -1,13 +1,10 @@
 -- Where a view is among the edges of a note.
-use Rattle.std.proofs.Common.{◌≡◌, ◌≢◌, ℕ, zero, suc, ◌<◌, ◌≤◌, ⊎_elim, List, [], ◌∷◌, Bool, true, false, cond, Option}
-use Rattle.std.proofs.Common.{Some, None, refl, ap, ◌∙◌, arith, ◌==◌, ◌&&◌, nat_le, slice_get, eq-eqb, ne_eqb, le-leb}
-use Rattle.std.proofs.lemmas.Option.{same_Some}
+use Rattle.std.proofs.lemmas.{Grind.common_steps, Option.same_Some}
+use Rattle.std.proofs.Common.{◌≡◌, ◌≢◌, ℕ, zero, suc, ◌<◌, ◌≤◌, ⊎_elim, List, [], ◌∷◌, Bool, true, false, Option, Some}
+use Rattle.std.proofs.Common.{None, refl, ap, ◌∙◌, arith, ◌==◌, ◌&&◌, nat_le, slice_get, eq-eqb, ne_eqb, le-leb}
 use Rattle.std.proofs.lemmas.Bool.{cases_eq, lt-leb, or_left, or_right}
-use Rattle.cs_board.specs.Counts.{one, same}
+use Rattle.cs_board.specs.{Counts.one, Counts.same, Plans.leads_out, Views.closing_from, declared.view.Spot.Spot}
 use Rattle.cs_board.specs.Facts.{spot_on, spot_by, spot_at}
-use Rattle.cs_board.specs.Plans.{leads_out}
-use Rattle.cs_board.specs.Views.{closing_from}
-use Rattle.cs_board.specs.declared.view.Spot.{Spot}
 use Rattle.cs_board.proofs.Lists.{same_yes, same_no}
 
 pub leads_out_here : (es : List (ℕ × ℕ)) (e p t i : ℕ) → slice_get es e ≡ Some (p, t) → i ≤ e → leads_out es p i ≡ true
@@ -69,13 +66,7 @@ at_less p j (Some s) = one_less (s.note == p) (s.from == j)
 -- what a view closes from edge i on
 pub closing_by : (es : List (ℕ × ℕ)) (e p t i : ℕ) → slice_get es e ≡ Some (p, t) → i ≤ e
     → spot_by p e (closing_from es p i) ≡ 1
-closing_by es e p t i h l =
-    ap (λ b. spot_by p e (cond b (Some (record { note = p; from = i })) None)) (leads_out_here es e p t i h l)
-    ∙ by_here p i e l
+closing_by es e p t i h l = grind (arith, common_steps, by_here, leads_out_here)
 
 pub closing_on : (es : List (ℕ × ℕ)) (p i q : ℕ) → spot_on q (closing_from es p i) ≤ same p q
-closing_on es p i q = go (leads_out es p i)
-  where
-    go : (b : Bool) → spot_on q (cond b (Some (record { note = p; from = i })) None) ≤ same p q
-    go true = omega arith
-    go false = omega arith
+closing_on es p i q = grind (arith, common_steps)

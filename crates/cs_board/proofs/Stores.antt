@@ -1,24 +1,18 @@
 -- The cells: each has the value of the serial run at some note, and an image has the cells that its note uses.
+use Rattle.std.proofs.lemmas.{Grind.common_steps, Option.same_Some, Bool.both_ways, Bool.cases_Bool, Bool.cases_eq}
+use Rattle.std.proofs.lemmas.{Bool.cases_lt, List.get_or-set_same, List.get_or-set_other, List.length-set}
 use Rattle.std.proofs.Common.{◌≡◌, ◌≢◌, ℕ, ◌+◌, ◌-◌, ◌<◌, ◌≤◌, ⊎_elim, pos, List, length, set, slice_set, true, false}
 use Rattle.std.proofs.Common.{Some, None, sym, ap, ◌∙◌, subst, arith, ◌==◌, slice_get}
-use Rattle.std.proofs.lemmas.Option.{same_Some}
-use Rattle.std.proofs.lemmas.Bool.{both_ways, cases_Bool, cases_eq, cases_lt}
-use Rattle.std.proofs.lemmas.List.{get_or-set_same, get_or-set_other, length-set}
 use mathlib.Core.Option.{some}
 use lib.ListN.{get_elem?}
-use Rattle.cs_cells.specs.Cells.{cell, signed, covers}
-use Rattle.cs_cells.specs.Meaning.{Meaning, Frames}
+use Rattle.cs_cells.specs.{Cells.cell, Cells.signed, Cells.covers, Meaning.Meaning, Meaning.Frames}
 use Rattle.cs_cells.proofs.SerialRun.{passed_by_all, length-before}
 use Rattle.cs_board.specs.Facts.{Gates, Doers, Kept, Pictured, Stored}
 use Rattle.cs_board.specs.Plans.{IsPlan, uses_at, writes_at, writes_of, before_at}
 use Rattle.cs_board.specs.Views.{set_image, fresh}
-use Rattle.cs_board.specs.Words.{at}
-use Rattle.cs_board.specs.declared.view.Doing.{Doing}
-use Rattle.cs_board.specs.declared.view.Plan.{Plan}
-use Rattle.cs_board.specs.declared.view.View.{View}
+use Rattle.cs_board.specs.{Words.at, declared.view.Doing.Doing, declared.view.Plan.Plan, declared.view.View.View}
 use Rattle.cs_board.proofs.Conflicts.{writer_user_at, user_writer_at, written_used_at, past, begun_at, alone_at}
-use Rattle.cs_board.proofs.Does.{busy, apart}
-use Rattle.cs_board.proofs.Lists.{put_cases, at_set}
+use Rattle.cs_board.proofs.{Does.busy, Does.apart, Lists.put_cases, Lists.at_set}
 
 module _ {J : Type 0} (M : Meaning J) (F : Frames M) (k : Plan J) (plan : IsPlan M k) where
   writes_job : (t a : ℕ) (j : J) → slice_get k.jobs t ≡ Some j → covers (M.areas j) (M.foot j).writes a ≡ true
@@ -32,8 +26,8 @@ module _ {J : Type 0} (M : Meaning J) (F : Frames M) (k : Plan J) (plan : IsPlan
   quiet p t a low h = passed_by_all M F k.jobs k.cells plan.valid p a (t - p) t (omega arith)
       (λ q j l m e w. both_ways _ (h q l m) (writes_job q a j e w))
 
-  -- a note has begun and isn't Done: a cell that it uses and that no note InProgress writes is as before it in the serial
-  -- run
+  -- a note has begun and isn't Done: a cell that it uses and that no note InProgress writes is as before it in the
+  -- serial run
   pub used_before : (st wt cw : List ℕ) → Gates k st wt → (t a : ℕ) → t < k.notes → at st t ≢ 0 → at st t ≢ 3
       → uses_at M k t a ≡ true → ((u : ℕ) → u < k.notes → at st u ≡ 2 → writes_at M k u a ≡ false) → Kept M k st cw a
       → signed (at cw a) ≡ cell (before_at M k t) a
@@ -59,16 +53,16 @@ module _ {J : Type 0} (M : Meaning J) (F : Frames M) (k : Plan J) (plan : IsPlan
     kept_still : (st' : List ℕ) (a : ℕ) → ((u : ℕ) → (at st' u == 3) ≡ (at st u == 3))
         → ((u : ℕ) → at st u ≡ 2 → at st' u ≡ 2) → Kept M k st cw a
         → Kept M k st' cw a
-    kept_still st' a alike runs h = record {
-      upto = h.upto;
-      within = h.within;
-      done = λ u l x. from_true (at st' u) (alike u ∙ ap (λ z. z == 3) (h.done u l x));
-      later = λ u l m x z. h.later u l m x (from_true (at st u) (sym (alike u) ∙ ap (λ y. y == 3) z));
-      value = λ q. h.value (λ u l e. q u l (runs u e));
-    }
-      where
-        from_true : (n : ℕ) → (n == 3) ≡ true → n ≡ 3
-        from_true n e = grind (arith, Rattle.std.proofs.lemmas.Bool.eqb-true)
+    kept_still st' a alike runs h =
+        let from_true : (n : ℕ) → (n == 3) ≡ true
+        → n ≡ 3 = λ n e. grind (arith, Rattle.std.proofs.lemmas.Bool.eqb-true) in
+        record {
+          upto = h.upto;
+          within = h.within;
+          done = λ u l x. from_true (at st' u) (alike u ∙ ap (λ z. z == 3) (h.done u l x));
+          later = λ u l m x z. h.later u l m x (from_true (at st u) (sym (alike u) ∙ ap (λ y. y == 3) z));
+          value = λ q. h.value (λ u l e. q u l (runs u e));
+        }
 
     pub stored_step : (st' : List ℕ) → ((u : ℕ) → (at st' u == 3) ≡ (at st u == 3))
         → ((u : ℕ) → at st u ≡ 2 → at st' u ≡ 2)
@@ -81,26 +75,7 @@ module _ {J : Type 0} (M : Meaning J) (F : Frames M) (k : Plan J) (plan : IsPlan
 
     -- a note begins: the cells that it uses are those before it in the serial run
     pub pictured_fresh : (t : ℕ) → t < k.notes → at st t ≡ 1 → Stored M k st cw vs → Pictured M k cw (fresh M k t)
-    pictured_fresh t low is s = record {
-      long = length-before M F k.jobs k.cells t;
-      seen = λ a l u. used_before st wt cw g t a low begun open_ u (none_running a u) (s.values a l);
-      after = λ z. absurd (omega arith);
-    }
-      where
-        begun : at st t ≢ 0
-        begun z = omega arith
-
-        open_ : at st t ≢ 3
-        open_ z = omega arith
-
-        none_running : (a : ℕ) → uses_at M k t a ≡ true → (u : ℕ) → u < k.notes → at st u ≡ 2
-            → writes_at M k u a ≡ false
-        none_running a used u l e = ⊎_elim
-            (λ x. absurd (let z : u ≡ t =
-            begun_at M k plan st wt g u t a x used (λ y. omega arith) (λ y. omega arith) begun open_ in
-            let y : at st u ≡ at st t = ap (at st) z in omega arith))
-            (λ x. x)
-            (cases_Bool (writes_at M k u a))
+    pictured_fresh t low is s = grind (arith, common_steps, begun_at, cases_Bool, length-before, used_before)
 
     -- a cell is set by the note that writes it
     pub stored_set : (d : Doing) (a x : ℕ) → Doers k st vs → v.doing ≡ Some d → d.phase ≡ 0
@@ -108,29 +83,8 @@ module _ {J : Type 0} (M : Meaning J) (F : Frames M) (k : Plan J) (plan : IsPlan
         → length cw ≡ length k.cells
         → d.note < k.notes → writes_at M k d.note a ≡ true → Stored M k st cw vs
         → Stored M k st (set cw a x) (set vs id w)
-    stored_set d a x D doing zero_ doing' low long within writes s = record {
-      values = λ b l. let h = s.values b l in record {
-        upto = h.upto;
-        within = h.within;
-        done = h.done;
-        later = h.later;
-        value = λ q. ⊎_elim
-            (λ (e : b ≡ a). absurd (both_ways _
-            (subst (λ c. writes_at M k d.note c ≡ false) e (q d.note within running)) writes))
-            (λ (n : b ≢ a). ap signed (get_or-set_other cw a b x 0 n) ∙ h.value q)
-            (cases_eq b a);
-      };
-      images = λ i y e at_ is. ⊎_elim
-          (λ z. subst (Pictured M k (set cw a x)) (same_Some _ _ (sym doing' ∙ ap (λ u. u.doing) z.1 ∙ is)) mine)
-          (λ z. others i y e z.0 z.1 is (s.images i y e z.1 is))
-          (at_set vs id i w y at_);
-    }
-      where
-        running : at st d.note ≡ 2
-        running = busy k st vs D id v d here doing
-
-        mine : Pictured M k (set cw a x) (set_image d a (signed x))
-        mine = let p = s.images id v d here doing in record {
+    stored_set d a x D doing zero_ doing' low long within writes s =
+        let mine : Pictured M k (set cw a x) (set_image d a (signed x)) = let p = s.images id v d here doing in record {
           long = length-set d.image a (signed x) ∙ p.long;
           seen = λ b l u. ⊎_elim
               (λ (e : b ≡ a). ap (λ c. signed (at (set cw a x) c)) e ∙ ap signed (get_or-set_same cw a x 0 low)
@@ -140,7 +94,27 @@ module _ {J : Type 0} (M : Meaning J) (F : Frames M) (k : Plan J) (plan : IsPlan
               ∙ sym (get_or-set_other d.image a b (signed x) (pos 0) n))
               (cases_eq b a);
           after = λ z. absurd (omega arith);
+        } in
+        record {
+          values = λ b l. let h = s.values b l in record {
+            upto = h.upto;
+            within = h.within;
+            done = h.done;
+            later = h.later;
+            value = λ q. ⊎_elim
+                (λ (e : b ≡ a). absurd (both_ways _
+                (subst (λ c. writes_at M k d.note c ≡ false) e (q d.note within running)) writes))
+                (λ (n : b ≢ a). ap signed (get_or-set_other cw a b x 0 n) ∙ h.value q)
+                (cases_eq b a);
+          };
+          images = λ i y e at_ is. ⊎_elim
+              (λ z. subst (Pictured M k (set cw a x)) (same_Some _ _ (sym doing' ∙ ap (λ u. u.doing) z.1 ∙ is)) mine)
+              (λ z. others i y e z.0 z.1 is (s.images i y e z.1 is))
+              (at_set vs id i w y at_);
         }
+      where
+        running : at st d.note ≡ 2
+        running = busy k st vs D id v d here doing
 
         others : (i : ℕ) (y : View J) (e : Doing) → i ≢ id → get_elem? vs i ≡ some y → y.doing ≡ Some e
             → Pictured M k cw e → Pictured M k (set cw a x) e

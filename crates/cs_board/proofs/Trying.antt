@@ -3,14 +3,10 @@ use Rattle.std.proofs.Common.{◌≡◌, ◌≢◌, ℕ, zero, suc, ◌+◌, ◌
 use Rattle.std.proofs.Common.{true, false, Option, Some, None, refl, sym, ap, ◌∙◌, subst, arith, slice_get, IfNone}
 use Rattle.std.proofs.Common.{is_some}
 use Rattle.std.proofs.lemmas.Bool.{cases_eq}
-use Rattle.cs_board.specs.Board.{IsIdle, IsViewOf, FoundSince}
-use Rattle.cs_board.specs.inner.Sittings.{HasClaimed, HasTried, Tries, AllTried, tried}
+use Rattle.cs_board.specs.{Board.IsIdle, Board.IsViewOf, Board.FoundSince, Counts.times, Counts.without, Facts.owed}
+use Rattle.cs_board.specs.{Views.began, Views.missed, declared.view.Plan.Plan, declared.view.View.View}
+use Rattle.cs_board.specs.inner.Sittings.{HasTried, Tries, AllTried, tried}
 use Rattle.cs_cells.specs.Meaning.{Meaning}
-use Rattle.cs_board.specs.Counts.{times, without}
-use Rattle.cs_board.specs.Facts.{owed}
-use Rattle.cs_board.specs.Views.{began, missed, fresh}
-use Rattle.cs_board.specs.declared.view.Plan.{Plan}
-use Rattle.cs_board.specs.declared.view.View.{View}
 use Rattle.cs_board.proofs.Lists.{times-without_le, times-without_same, empty_from_times}
 
 get_longer : {X : Type 0} (xs ys : List X) (i : ℕ) (x : X) → slice_get xs i ≡ Some x → slice_get (xs ++ ys) i ≡ Some x
@@ -102,17 +98,8 @@ module _ {J : Type 0} (M : Meaning J) where
       ))
       (cases_eq x t)
 
-  pub steps_more : (v : View J) (b : Bool) (t : ℕ) → (tried M b v t).tries ≡ v.tries + 1
-  steps_more v true t = refl
-  steps_more v false t = refl
-
   pub idle_missed : (v : View J) (t : ℕ) → IsIdle v → IsIdle (missed v t)
   idle_missed v t h = record { doing = h.doing; closing = h.closing; moving = h.moving }
-
-  pub has_began : (k : Plan J) (v : View J) (t : ℕ) → t < k.notes → v.plan ≡ k → IsIdle v
-      → HasClaimed M k (began M v t) t
-  has_began k v t low plan h =
-      record { within = low; doing = ap (λ z. Some (fresh M z t)) plan; closing = h.closing; moving = h.moving }
 
 module _ {J : Type 0} (k : Plan J) where
   -- tries in vain, and then tries in vain again

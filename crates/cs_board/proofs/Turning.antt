@@ -1,20 +1,14 @@
 -- The places of a note's footprint, one by one.
+use Rattle.std.proofs.lemmas.{Grind.common_steps, Option.slice_get_within, Option.get_or_from_slice_get}
 use Rattle.cs_base.specs.Limits.{most_resources}
 use Rattle.std.proofs.Common.{◌≡◌, ℕ, zero, suc, ◌+◌, ◌-◌, ◌<◌, ◌≤◌, List, [], ◌∷◌, length, get_or, take, true, Option}
 use Rattle.std.proofs.Common.{Some, None, refl, sym, ap, ◌∙◌, subst, arith, slice_get}
-use Rattle.std.proofs.lemmas.Option.{slice_get_within, get_or_from_slice_get}
-use Rattle.std.specs.List.{Contains}
-use Rattle.std.specs.List.Sorted.{IsStrictlyIncreasing}
-use Rattle.cs_board.specs.inner.Sittings.{deed, deed_in, ran_out}
+use Rattle.std.specs.{List.Contains, List.Sorted.IsStrictlyIncreasing}
+use Rattle.cs_board.specs.inner.Sittings.{deed, ran_out}
 use Rattle.cs_cells.specs.Meaning.{Meaning}
-use Rattle.cs_board.specs.Counts.{one, listed}
-use Rattle.cs_board.specs.Facts.{turned_in}
+use Rattle.cs_board.specs.{Counts.one, Counts.listed, Facts.turned_in, Views.does, Words.at, declared.view.Doing.Doing}
+use Rattle.cs_board.specs.{declared.view.Plan.Plan, declared.view.View.View}
 use Rattle.cs_board.specs.Plans.{IsPlan, area_count, places_used, places_written, uses_of, writers_before}
-use Rattle.cs_board.specs.Views.{does}
-use Rattle.cs_board.specs.Words.{at}
-use Rattle.cs_board.specs.declared.view.Doing.{Doing}
-use Rattle.cs_board.specs.declared.view.Plan.{Plan}
-use Rattle.cs_board.specs.declared.view.View.{View}
 use Rattle.cs_board.proofs.Conflicts.{contains_at, listed_of, used_place, written_used, written_rises}
 use Rattle.cs_board.proofs.Counting.{count_le, increasing_few, listed_fresh}
 
@@ -65,10 +59,7 @@ module _ {J : Type 0} (M : Meaning J) (k : Plan J) (whole : IsPlan M k) (t : ℕ
   pub look_before : (v : View J) (r x : ℕ) → v.doing ≡ Some (ran_out M k t 0)
       → x ≡ writers_before M k (deed v).note r + turned_in M k r v.doing
       → x ≡ writers_before M k t r
-  look_before v r x e h =
-      let a : writers_before M k (deed v).note r + turned_in M k r v.doing ≡ writers_before M k t r + 0 =
-      ap (λ o. writers_before M k (deed_in o).note r + turned_in M k r o) e in
-      omega arith
+  look_before v r x e h = grind (arith, common_steps)
 
   -- and so it does before the note's turn there
   pub look_next : (v : View J) (r x : ℕ) → v.doing ≡ Some (deed v) → (deed v).note ≡ t

@@ -1,34 +1,25 @@
 -- The turn words: how many notes that write a resource have run.
+use Rattle.std.proofs.lemmas.{Grind.common_steps, List.take_all}
 use Rattle.std.proofs.Common.{◌≡◌, ◌≢◌, ℕ, zero, suc, ◌+◌, ◌-◌, ◌<◌, ◌≤◌, ⊎_elim, List, [], ◌∷◌, length, set, take}
 use Rattle.std.proofs.Common.{Bool, true, false, Option, Some, None, refl, sym, ap, ◌∙◌, arith, ◌==◌, ◌&&◌, ◌||◌}
 use Rattle.std.proofs.Common.{eq-eqb, eqb-true}
 use Rattle.std.proofs.lemmas.Bool.{and_parts, and_right, cases_Bool, cases_eq}
-use Rattle.std.proofs.lemmas.List.{take_all}
-use Rattle.std.specs.List.{Contains}
-use Rattle.std.specs.List.Sorted.{IsStrictlyIncreasing}
+use Rattle.std.specs.{List.Contains, List.Sorted.IsStrictlyIncreasing}
 use mathlib.Core.Option.{some}
 use lib.ListN.{get_elem?}
 use Rattle.cs_cells.specs.Meaning.{Meaning}
-use Rattle.cs_board.specs.Counts.{one, listed}
+use Rattle.cs_board.specs.{Counts.one, Counts.listed, Views.next_phase, Words.at, declared.view.Doing.Doing}
+use Rattle.cs_board.specs.{declared.view.Plan.Plan, declared.view.View.View}
 use Rattle.cs_board.specs.Facts.{Gates, Doers, turned_in, turned_on, done_writers, Turned}
 use Rattle.cs_board.specs.Plans.{IsPlan, places_used, places_written, writers_before, area_count}
-use Rattle.cs_board.specs.Views.{next_phase}
-use Rattle.cs_board.specs.Words.{at}
-use Rattle.cs_board.specs.declared.view.Doing.{Doing}
-use Rattle.cs_board.specs.declared.view.Plan.{Plan}
-use Rattle.cs_board.specs.declared.view.View.{View}
 use Rattle.cs_board.proofs.Conflicts.{listed_contains, writer_user, user_writer, past, alone_on}
 use Rattle.cs_board.proofs.Counting.{count_same, count_more, count_cut, listed_more, listed_here, listed_fresh}
-use Rattle.cs_board.proofs.Does.{busy, apart}
-use Rattle.cs_board.proofs.Lists.{put_cases, total-set, total_only}
+use Rattle.cs_board.proofs.{Does.busy, Does.apart, Lists.put_cases, Lists.total-set, Lists.total_only}
 
 module _ {J : Type 0} (M : Meaning J) (k : Plan J) where
   done_same : (st st' : List ℕ) (r : ℕ) → ((u : ℕ) → (at st' u == 3) ≡ (at st u == 3))
       → done_writers M k st' r ≡ done_writers M k st r
-  done_same st st' r alike =
-      count_same (λ u. at st' u == 3 && listed (places_written M k u) r)
-      (λ u. at st u == 3 && listed (places_written M k u) r) k.notes
-      (λ u l. ap (λ b. b && listed (places_written M k u) r) (alike u))
+  done_same st st' r alike = grind (arith, common_steps, count_same)
 
   module _ (st : List ℕ) (vs : List (View J)) (id : ℕ) (v w : View J) (here : get_elem? vs id ≡ some v) where
     -- the same notes are Done, and the view weighs on each turn word what it did
@@ -46,6 +37,8 @@ module _ {J : Type 0} (M : Meaning J) (k : Plan J) where
         → x ≡ at tw r0 + 1
         → Turned M k st tw vs → Turned M k st (set tw r0 x) (set vs id w)
     turned_more tw d i r0 x doing doing' phase up low is within new h r l =
+        let less : d.phase - 1 ≡ i = omega arith in
+        let more : d.phase + 1 - 1 ≡ i + 1 = omega arith in
         let W : List ℕ = places_written M k d.note in
         let before_ : turned_on M k r v ≡ one (listed (take i W) r) =
         ap (turned_in M k r) doing ∙ ap (λ n. one (listed (take n W) r)) less in
@@ -63,12 +56,6 @@ module _ {J : Type 0} (M : Meaning J) (k : Plan J) where
         ap one (listed_more W i r low (λ e. z.0 (sym e ∙ is))) in
         omega (arith, z.1, h r l, sum))
         (put_cases tw r0 x r within)
-      where
-        less : d.phase - 1 ≡ i
-        less = omega arith
-
-        more : d.phase + 1 - 1 ≡ i + 1
-        more = omega arith
 
     -- a note whose turns are all made is Done
     pub turned_done : (tw : List ℕ) (d : Doing) → v.doing ≡ Some d → w.doing ≡ None → at st d.note ≡ 2
@@ -76,6 +63,9 @@ module _ {J : Type 0} (M : Meaning J) (k : Plan J) where
         → d.phase ≡ 1 + length (places_written M k d.note)
         → Turned M k st tw vs → Turned M k (set st d.note 3) tw (set vs id w)
     turned_done tw d doing over is low within phase h r l =
+        let less : d.phase - 1 ≡ length (places_written M k d.note) = omega arith in
+        let here_ : at (set st d.note 3) d.note ≡ 3 =
+        ⊎_elim (λ z. z.1) (λ z. absurd (z.0 refl)) (put_cases st d.note 3 d.note low) in
         let W : List ℕ = places_written M k d.note in
         let before_ : turned_on M k r v ≡ one (listed W r) =
         ap (turned_in M k r) doing ∙ ap (λ n. one (listed (take n W) r)) less
@@ -90,12 +80,6 @@ module _ {J : Type 0} (M : Meaning J) (k : Plan J) where
         ap (λ n. one (n == 3 && listed W r)) here_ in
         omega (arith, h r l, total-set (turned_on M k r) vs id v w here)
       where
-        less : d.phase - 1 ≡ length (places_written M k d.note)
-        less = omega arith
-
-        here_ : at (set st d.note 3) d.note ≡ 3
-        here_ = ⊎_elim (λ z. z.1) (λ z. absurd (z.0 refl)) (put_cases st d.note 3 d.note low)
-
         others : (u : ℕ) → u ≢ d.note
             → (at (set st d.note 3) u == 3 && listed (places_written M k u) r)
             ≡ (at st u == 3 && listed (places_written M k u) r)

@@ -1,20 +1,13 @@
 -- What the calls of a board promise of its seats.
 use Rattle.std.specs.Prelude.{◌≡◌, ℕ, ◌+◌, ◌<◌, ◌≤◌, List, [], ◌∷◌, length, true, false, Option, Some, None}
-use Rattle.std.specs.Prelude.{MatchOption, slice_get}
-use Rattle.std.specs.List.{sum_by}
-use Rattle.std.specs.Vec.{vec_capacity}
+use Rattle.std.specs.{Prelude.MatchOption, Prelude.slice_get, List.sum_by, Vec.vec_capacity}
 use Rattle.atomic_table.specs.Seated.{TableId}
 use Rattle.cs_cells.specs.Meaning.{Meaning}
-use Rattle.cs_board.specs.Seen.{plan_seen}
-use Rattle.cs_board.specs.declared.board.Board.{Board}
-use Rattle.cs_board.specs.declared.board.BoardSeat.{BoardSeat}
+use Rattle.cs_board.specs.{Seen.plan_seen, declared.board.Board.Board, declared.board.BoardSeat.BoardSeat, Facts.owed}
+use Rattle.cs_board.specs.{declared.view.Doing.Doing, declared.view.Plan.Plan, declared.view.View.View}
 use Rattle.cs_graph.specs.Graph.{Dependencies}
-use Rattle.cs_board.specs.Facts.{owed}
 use Rattle.cs_board.specs.Plans.{IsPlan, before_at, places_used, places_written, writers_before}
 use Rattle.cs_board.specs.Views.{newcomer, no_plan, fresh}
-use Rattle.cs_board.specs.declared.view.Doing.{Doing}
-use Rattle.cs_board.specs.declared.view.Plan.{Plan}
-use Rattle.cs_board.specs.declared.view.View.{View}
 
 abbrev pub note_in : Option Doing → ℕ
 note_in None = 0

@@ -1,9 +1,7 @@
 -- How a board's parts fit its plan.
 use Rattle.std.specs.Prelude.{◌≡◌, ℕ, ◌+◌, ◌≤◌, length}
 use Rattle.cs_graph.specs.Graph.{Dependencies}
-use Rattle.cs_board.specs.Plans.{area_count}
-use Rattle.cs_board.specs.Words.{word_total}
-use Rattle.cs_board.specs.declared.view.Plan.{Plan}
+use Rattle.cs_board.specs.{Plans.area_count, Words.word_total, declared.view.Plan.Plan}
 
 -- the board's numbers are those of its plan, and its table has room for it
 pub record IsBuilt {J : Type 0} (k : Plan J) (graph : Dependencies)

@@ -4,19 +4,11 @@ use Rattle.std.specs.Prelude.{◌≡◌, ℕ, ◌<◌, List, [], map, length, ta
 use mathlib.Core.Option.{some}
 use lib.ListN.{get_elem?}
 use Rattle.atomic_table.specs.Table.{State}
-use Rattle.cs_cells.specs.Cells.{values}
-use Rattle.cs_cells.specs.Meaning.{Meaning}
-use Rattle.cs_cells.specs.Serial.{serial_cells, serial_jobs}
-use Rattle.cs_board.specs.Counts.{times, listed}
-use Rattle.cs_board.specs.Plans.{area_count, places_written}
-use Rattle.cs_board.specs.Rule.{home_in}
-use Rattle.cs_board.specs.Views.{slot_row}
+use Rattle.cs_cells.specs.{Cells.values, Meaning.Meaning, Serial.serial_cells, Serial.serial_jobs}
+use Rattle.cs_board.specs.{Counts.times, Counts.listed, Plans.area_count, Plans.places_written, Rule.home_in}
+use Rattle.cs_board.specs.{Views.slot_row, declared.view.Berth.Berth, declared.view.Still.Still}
+use Rattle.cs_board.specs.{declared.view.Plan.Plan, declared.view.View.View, declared.words.TheConstants.DONE}
 use Rattle.cs_board.specs.Words.{Words, at, all_words, IsSized, status_at}
-use Rattle.cs_board.specs.declared.view.Berth.{Berth}
-use Rattle.cs_board.specs.declared.view.Still.{Still}
-use Rattle.cs_board.specs.declared.view.Plan.{Plan}
-use Rattle.cs_board.specs.declared.view.View.{View}
-use Rattle.cs_board.specs.declared.words.TheConstants.{DONE}
 
 -- the first seat, when it runs nothing, has nothing to finish or to try, and has taken in each other seat
 pub record IsLast {J : Type 0} (v : View J) : Type 0 where

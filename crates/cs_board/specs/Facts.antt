@@ -4,23 +4,17 @@
 -- resource.
 use Rattle.std.specs.Prelude.{◌≡◌, ◌≢◌, ℕ, ◌+◌, ◌-◌, ◌<◌, ◌≤◌, ◌⊎◌, List, [], length, take, Bool, true, false, cond}
 use Rattle.std.specs.Prelude.{Option, Some, None, ◌==◌, ◌&&◌, not, nat_le, slice_get}
-use mathlib.Core.Option as maybe
 use mathlib.Core.Option.{some, none}
 use lib.ListN.{get_elem?}
-use Rattle.cs_cells.specs.Cells.{cell, signed}
-use Rattle.cs_cells.specs.Meaning.{Meaning}
+use Rattle.cs_cells.specs.{Cells.cell, Cells.signed, Meaning.Meaning}
 use Rattle.cs_graph.specs.Graph.{Edge}
 use Rattle.cs_board.specs.Counts.{one, same, total, times, listed, count_below}
-use Rattle.cs_board.specs.Views.{spent_view}
-use Rattle.cs_board.specs.declared.view.Berth.{Berth}
+use Rattle.cs_board.specs.{Views.spent_view, declared.view.Berth.Berth, Words.at, declared.view.Doing.Doing}
+use Rattle.cs_board.specs.{declared.view.Plan.Plan, declared.view.Spot.Spot, declared.view.View.View}
 use Rattle.cs_board.specs.declared.view.Berth.TheVariants.{Full}
 use Rattle.cs_board.specs.Plans.{IsRoot, area_count, uses_at, writes_at, places_written, before_at}
-use Rattle.cs_board.specs.Words.{at}
-use Rattle.cs_board.specs.declared.view.Doing.{Doing}
-use Rattle.cs_board.specs.declared.view.Plan.{Plan}
-use Rattle.cs_board.specs.declared.view.Spot.{Spot}
-use Rattle.cs_board.specs.declared.view.View.{View}
 use Rattle.cs_board.specs.declared.words.TheConstants.{WAITING, AVAILABLE, IN_PROGRESS, DONE, WATCHED, CLOSED}
+use mathlib.Core.Option as maybe
 
 -- 1 where the spot is at note p, where it is there at edge i or before, and where it is there at edge i
 abbrev pub spot_on : ℕ → Option Spot → ℕ

@@ -1,9 +1,7 @@
 -- The view of the first seat, from what the table was made of.
 use Rattle.std.specs.Prelude.{Some, replicate}
-use Rattle.cs_board.specs.Views.{resting_view}
-use Rattle.cs_board.specs.declared.plays.Key.{Key}
+use Rattle.cs_board.specs.{Views.resting_view, declared.plays.Key.Key, declared.view.View.View}
 use Rattle.cs_board.specs.declared.view.Berth.TheVariants.{Vacant}
-use Rattle.cs_board.specs.declared.view.View.{View}
 
 -- it rests, with so many vacant slots
 abbrev pub first_view : {J : Type 0} → Key → View J

@@ -1,21 +1,15 @@
 -- What follows from the rule for the notes that seats do, and for those that they finished. k is a plan, s the state of
--- the board; i and j are seats, v and w their views, d and e what they do, t is a note and p an earlier one, a an address.
+-- the board; i and j are seats, v and w their views, d and e what they do, t is a note and p an earlier one, a an
+-- address.
 use Rattle.std.specs.Prelude.{◌≡◌, ℕ, ◌<◌, Some, slice_index, true, false}
 use mathlib.Core.Option.{some}
 use lib.ListN.{get_elem?}
 use Rattle.atomic_table.specs.Table.{State}
-use Rattle.cs_cells.specs.Cells.{cell}
-use Rattle.cs_cells.specs.Meaning.{Meaning}
+use Rattle.cs_cells.specs.{Cells.cell, Meaning.Meaning}
 use Rattle.cs_graph.specs.Conflict.{Conflict}
-use Rattle.cs_board.specs.Counts.{same, total}
-use Rattle.cs_board.specs.Facts.{has_done}
-use Rattle.cs_board.specs.Plans.{feet, uses_at, writes_at, before_at}
-use Rattle.cs_board.specs.Words.{status_at}
-use Rattle.cs_board.specs.declared.view.Berth.{Berth}
-use Rattle.cs_board.specs.declared.view.Doing.{Doing}
-use Rattle.cs_board.specs.declared.view.Plan.{Plan}
-use Rattle.cs_board.specs.declared.view.View.{View}
-use Rattle.cs_board.specs.declared.words.TheConstants.{DONE}
+use Rattle.cs_board.specs.{Counts.same, Counts.total, Facts.has_done, Plans.feet, Plans.uses_at, Plans.writes_at}
+use Rattle.cs_board.specs.{Plans.before_at, Words.status_at, declared.view.Berth.Berth, declared.view.Doing.Doing}
+use Rattle.cs_board.specs.{declared.view.Plan.Plan, declared.view.View.View, declared.words.TheConstants.DONE}
 
 module _ {J : Type 0} (k : Plan J) (s : State (Berth J) (View J)) where
   -- No note is done by two seats. Each Done note is among the notes of one seat, once, and no other note is.

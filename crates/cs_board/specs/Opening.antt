@@ -1,8 +1,6 @@
 -- The words with which a cycle begins. k is a plan, t a note, e an edge, r the place of a resource.
 use Rattle.std.specs.Prelude.{ℕ, zero, suc, List, [], ◌∷◌, ◌++◌, take, cond, slice_index_or}
-use Rattle.cs_board.specs.Plans.{leads_in, edge_count, area_count}
-use Rattle.cs_board.specs.Words.{Words}
-use Rattle.cs_board.specs.declared.view.Plan.{Plan}
+use Rattle.cs_board.specs.{Plans.leads_in, Plans.edge_count, Plans.area_count, Words.Words, declared.view.Plan.Plan}
 use Rattle.cs_board.specs.declared.words.TheConstants.{WAITING, AVAILABLE, IDLE, WATCHED}
 
 -- f of each number below n, in order

@@ -4,14 +4,10 @@
 use Rattle.std.specs.Prelude.{◌≡◌, ℕ, zero, suc, ◌≤◌, List, [], ◌∷◌, map, length, Bool, false, ◌==◌, ◌||◌, Option, Some}
 use Rattle.std.specs.Prelude.{None, slice_get}
 use Rattle.cs_base.specs.Limits.{most_resources}
-use Rattle.cs_cells.specs.Areas.{IsFootprint, IsLaid, word_count}
-use Rattle.cs_cells.specs.Cells.{Cells, covers}
-use Rattle.cs_cells.specs.Meaning.{Meaning}
-use Rattle.cs_cells.specs.Serial.{before, AllValid}
-use Rattle.cs_cells.specs.declared.footprint.Footprint.{Footprint}
+use Rattle.cs_cells.specs.{Areas.IsFootprint, Areas.IsLaid, Areas.word_count, Cells.Cells, Cells.covers}
+use Rattle.cs_cells.specs.{Meaning.Meaning, Serial.before, Serial.AllValid, declared.footprint.Footprint.Footprint}
 use Rattle.cs_graph.specs.Graph.{Edge, LeadsForward, StandTogether, IsFit}
-use Rattle.cs_board.specs.Counts.{listed, count_below}
-use Rattle.cs_board.specs.declared.view.Plan.{Plan}
+use Rattle.cs_board.specs.{Counts.listed, Counts.count_below, declared.view.Plan.Plan}
 
 -- some edge leads to note t
 abbrev pub leads_in : List (ℕ × ℕ) → ℕ → Bool

@@ -4,21 +4,14 @@
 use Rattle.std.specs.Prelude.{◌≡◌, ◌≢◌, ℕ, ◌+◌, ◌<◌, [], ◌∷◌, length, Some, None, true, false, slice_get}
 use mathlib.Core.Option.{some}
 use Rattle.atomic_table.specs.Table.{Me, Step, rest}
-use Rattle.cs_cells.specs.Cells.{cell, signed}
-use Rattle.cs_cells.specs.Meaning.{Meaning}
+use Rattle.cs_cells.specs.{Cells.cell, Cells.signed, Meaning.Meaning}
 use Rattle.cs_graph.specs.Graph.{Edge, Dependencies}
-use Rattle.cs_board.specs.Facts.{turned_in}
+use Rattle.cs_board.specs.{Facts.turned_in, Counts.listed, Words.at, Words.status_at, Words.watch_at, Words.turn_at}
+use Rattle.cs_board.specs.{Words.cell_at, declared.view.Doing.Doing, Ending.IsOver, declared.view.Berth.Berth}
+use Rattle.cs_board.specs.{declared.view.Berth.TheVariants.Full, declared.view.Still.Still, declared.view.View.View}
 use Rattle.cs_board.specs.Plans.{uses_at, places_used, writers_before, area_count}
 use Rattle.cs_board.specs.Views.{does, set_image, next_phase, began, missed, ended, shut, settled, passed, opened, laid}
 use Rattle.cs_board.specs.Views.{with_word, with_home, graph_told, plan_laid, opening_view, resting_view}
-use Rattle.cs_board.specs.Counts.{listed}
-use Rattle.cs_board.specs.Words.{at, status_at, watch_at, turn_at, cell_at}
-use Rattle.cs_board.specs.declared.view.Doing.{Doing}
-use Rattle.cs_board.specs.Ending.{IsOver}
-use Rattle.cs_board.specs.declared.view.Berth.{Berth}
-use Rattle.cs_board.specs.declared.view.Berth.TheVariants.{Full}
-use Rattle.cs_board.specs.declared.view.Still.{Still}
-use Rattle.cs_board.specs.declared.view.View.{View}
 use Rattle.cs_board.specs.declared.words.TheConstants.{AVAILABLE, IDLE}
 
 -- a seat's view and the slots that it has taken, and what a step tells of it before, of the number found and of it

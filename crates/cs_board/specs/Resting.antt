@@ -1,20 +1,12 @@
--- A board that rests between two cycles: its one seat, and how the next cycle is laid out on it.
--- k is the plan of the cycle that begins, w what is known of the board; t is a note, e an edge, r the place of a
--- resource.
+-- A board that rests between two cycles: its one seat, and how the next cycle is laid out on it. k is the plan of the
+-- cycle that begins, w what is known of the board; t is a note, e an edge, r the place of a resource.
 use Rattle.std.specs.Prelude.{◌≡◌, ℕ, ◌+◌, ◌<◌, ◌≤◌, List, [], drop, length, is_some, true, false, Option, Some, None}
-use Rattle.atomic_table.specs.Seated.{TableId}
-use Rattle.atomic_table.specs.declared.shared.Seat.{Seat}
-use Rattle.cs_cells.specs.Areas.{word_count}
-use Rattle.cs_cells.specs.Cells.{values}
-use Rattle.cs_cells.specs.declared.footprint.Area.{Area}
-use Rattle.cs_board.specs.Plans.{area_count, edge_count}
-use Rattle.cs_board.specs.Views.{slot_row}
+use Rattle.atomic_table.specs.{Seated.TableId, declared.shared.Seat.Seat}
+use Rattle.cs_cells.specs.{Areas.word_count, Cells.values, declared.footprint.Area.Area}
+use Rattle.cs_board.specs.{Plans.area_count, Plans.edge_count, Views.slot_row, declared.view.Berth.Berth}
+use Rattle.cs_board.specs.{declared.view.Plan.Plan, declared.view.Still.Still, declared.view.View.View}
 use Rattle.cs_board.specs.Words.{Words, at, all_words, IsSized}
 use Rattle.cs_board.specs.Opening.{each_below, first_status, first_watch}
-use Rattle.cs_board.specs.declared.view.Berth.{Berth}
-use Rattle.cs_board.specs.declared.view.Plan.{Plan}
-use Rattle.cs_board.specs.declared.view.Still.{Still}
-use Rattle.cs_board.specs.declared.view.View.{View}
 
 -- how many words a cycle of so many notes and edges needs
 abbrev pub wide : List Area → ℕ → ℕ → ℕ

@@ -1,21 +1,15 @@
--- The rule of the board: what holds between any two steps of a whole performance, whatever the interleaving.
--- M is what jobs mean, k the plan of a cycle, w the words, s the state of the board; v and w are views, i and j slots
--- or seats.
+-- The rule of the board: what holds between any two steps of a whole performance, whatever the interleaving. M is what
+-- jobs mean, k the plan of a cycle, w the words, s the state of the board; v and w are views, i and j slots or seats.
 use Rattle.std.specs.Prelude.{◌≡◌, ◌≢◌, ℕ, ◌<◌, ◌≤◌, ◌⊎◌, List, map, length, false, Option, Some, None}
-use mathlib.Core.Option as maybe
 use mathlib.Core.Option.{some, none}
 use lib.ListN.{get_elem?}
 use Rattle.atomic_table.specs.Table.{State}
 use Rattle.cs_cells.specs.Meaning.{Meaning}
 use Rattle.cs_board.specs.Facts.{Gates, IsSane, Doers, Watches, Tallied, Seats, Owned, Slots, Stored, Turned}
-use Rattle.cs_board.specs.Plans.{IsPlan}
-use Rattle.cs_board.specs.Views.{spent_view}
-use Rattle.cs_board.specs.Words.{Words, all_words, IsSized}
-use Rattle.cs_board.specs.declared.view.Berth.{Berth}
-use Rattle.cs_board.specs.declared.view.Berth.TheVariants.{Vacant}
-use Rattle.cs_board.specs.declared.view.Plan.{Plan}
-use Rattle.cs_board.specs.declared.view.Still.{Still}
-use Rattle.cs_board.specs.declared.view.View.{View}
+use Rattle.cs_board.specs.{Plans.IsPlan, Views.spent_view, Words.Words, Words.all_words, Words.IsSized}
+use Rattle.cs_board.specs.{declared.view.Berth.Berth, declared.view.Berth.TheVariants.Vacant, declared.view.Plan.Plan}
+use Rattle.cs_board.specs.{declared.view.Still.Still, declared.view.View.View}
+use mathlib.Core.Option as maybe
 
 module _ {J : Type 0} (M : Meaning J) (k : Plan J) where
   pub record Facts (w : Words) (homes : List (maybe.Option (Berth J))) (views : List (View J)) : Type 0 where

@@ -1,9 +1,7 @@
 -- The plan of a board's cycle, as its first seat saw it.
 use Rattle.std.specs.Prelude.{List, [], ◌∷◌}
 use Rattle.atomic_table.specs.declared.badge.Badge.{Badge}
-use Rattle.cs_board.specs.Views.{no_plan}
-use Rattle.cs_board.specs.declared.view.Plan.{Plan}
-use Rattle.cs_board.specs.declared.view.View.{View}
+use Rattle.cs_board.specs.{Views.no_plan, declared.view.Plan.Plan, declared.view.View.View}
 
 module _ {J : Type 0} where
   abbrev pub plan_in : List (View J) → Plan J

@@ -3,21 +3,12 @@
 -- a seat, a an address and z a value. M is what jobs mean.
 use Rattle.std.specs.Prelude.{ℕ, zero, suc, ◌+◌, ◌-◌, ℤ, List, [], ◌∷◌, ◌++◌, map, length, take, drop, replicate, true}
 use Rattle.std.specs.Prelude.{false, cond, Option, Some, None, ◌==◌, slice_set}
-use Rattle.cs_cells.specs.Areas.{word_count}
-use Rattle.cs_cells.specs.Cells.{values}
-use Rattle.cs_cells.specs.Meaning.{Meaning}
-use Rattle.cs_cells.specs.declared.footprint.Area.{Area}
-use Rattle.cs_board.specs.Counts.{without}
-use Rattle.cs_board.specs.Plans.{leads_in, leads_out, before_at}
+use Rattle.cs_cells.specs.{Areas.word_count, Cells.values, Meaning.Meaning, declared.footprint.Area.Area}
+use Rattle.cs_board.specs.{Counts.without, Plans.leads_in, Plans.leads_out, Plans.before_at, declared.view.Berth.Berth}
+use Rattle.cs_board.specs.{declared.view.Doing.Doing, declared.view.Plan.Plan, declared.view.Spot.Spot}
+use Rattle.cs_board.specs.{declared.view.Still.Still, declared.view.View.View, declared.words.TheConstants.WATCHED}
 use Rattle.cs_graph.specs.Graph.{Dependencies}
-use Rattle.cs_board.specs.declared.view.Berth.{Berth}
 use Rattle.cs_board.specs.declared.view.Berth.TheVariants.{Vacant, Full, Told}
-use Rattle.cs_board.specs.declared.view.Doing.{Doing}
-use Rattle.cs_board.specs.declared.view.Plan.{Plan}
-use Rattle.cs_board.specs.declared.view.Spot.{Spot}
-use Rattle.cs_board.specs.declared.view.Still.{Still}
-use Rattle.cs_board.specs.declared.view.View.{View}
-use Rattle.cs_board.specs.declared.words.TheConstants.{WATCHED}
 
 -- the notes below n to which no edge leads
 abbrev pub roots_below : List (ℕ × ℕ) → ℕ → List ℕ

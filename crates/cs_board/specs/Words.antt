@@ -1,8 +1,7 @@
 -- The words of the board: k is the plan of the cycle, w the words, t a note, e an edge, r the place of a resource, a an
 -- address.
 use Rattle.std.specs.Prelude.{◌≡◌, ℕ, ◌+◌, List, ◌∷◌, ◌++◌, length, slice_index}
-use Rattle.cs_board.specs.Plans.{edge_count, area_count}
-use Rattle.cs_board.specs.declared.view.Plan.{Plan}
+use Rattle.cs_board.specs.{Plans.edge_count, Plans.area_count, declared.view.Plan.Plan}
 
 -- A status is WAITING, AVAILABLE, IN_PROGRESS or DONE; a watch word is IDLE, WATCHED or CLOSED.
 pub record Words : Type 0 where

@@ -20,8 +20,7 @@ impl<J: Job> Board<J> {
         requires used { uses_at J.means (plan self.now) (deed sitting.old.me.0).note addr ≡ true }
         ensures value { result ≡ cell (deed sitting.old.me.0).image addr }
         ensures me { sitting.new.me ≡ sitting.old.me }
-        ensures seat { (sitting.new.table_id ≡ sitting.old.table_id) × (sitting.new.id
-            ≡ sitting.old.id) }
+        ensures seat { (sitting.new.table_id ≡ sitting.old.table_id) × (sitting.new.id ≡ sitting.old.id) }
     {
         let word = self.cell_word(addr);
         let found = self.frame.table.shared.load::<Look>(sitting, word);
@@ -34,16 +33,14 @@ impl<J: Job> Board<J> {
         requires doing { sitting.old.me.0.doing ≡ Some (deed sitting.old.me.0) }
         requires held { (deed sitting.old.me.0).held ≡ true }
         requires phase { (deed sitting.old.me.0).phase ≡ 0 }
-        requires writes { writes_at J.means (plan self.now) (deed sitting.old.me.0).note addr
-            ≡ true }
+        requires writes { writes_at J.means (plan self.now) (deed sitting.old.me.0).note addr ≡ true }
         ensures me { sitting.new.me
             ≡ (
               does sitting.old.me.0 (set_image
                   (deed sitting.old.me.0) addr value),
               sitting.old.me.1,
             ) }
-        ensures seat { (sitting.new.table_id ≡ sitting.old.table_id) × (sitting.new.id
-            ≡ sitting.old.id) }
+        ensures seat { (sitting.new.table_id ≡ sitting.old.table_id) × (sitting.new.id ≡ sitting.old.id) }
     {
         let word = self.cell_word(addr);
         self.frame
@@ -53,8 +50,7 @@ impl<J: Job> Board<J> {
     }
 }
 
-/// The board's cells, through a seat that does a note. Each look and each set is one step on one
-/// word.
+/// The board's cells, through a seat that does a note. Each look and each set is one step on one word.
 #[derive(Drop)]
 struct BoardBank<'b, J: Job> {
     board: &'b Board<J>,
@@ -89,11 +85,9 @@ impl<J: Job> Board<J> {
     fn run_job(&self, sitting: &mut Sitting<J>, job: &mut J, note: u32)
         requires sitting { IsSittingOf J.means self.now sitting.old }
         requires job { slice_get (plan self.now).jobs note ≡ Some job.old }
-        requires doing { sitting.old.me.0.doing
-            ≡ Some (record (fresh J.means (plan self.now) note) { held = true }) }
+        requires doing { sitting.old.me.0.doing ≡ Some (record (fresh J.means (plan self.now) note) { held = true }) }
         ensures job { job.new ≡ J.means.after job.old (deed sitting.old.me.0).image }
-        ensures image { (deed sitting.new.me.0).image
-            ≡ J.means.leaves job.old (deed sitting.old.me.0).image }
+        ensures image { (deed sitting.new.me.0).image ≡ J.means.leaves job.old (deed sitting.old.me.0).image }
         ensures view { imageless sitting.new.me.0 ≡ imageless sitting.old.me.0 }
         ensures seat { (sitting.new.me.1 ≡ sitting.old.me.1) × (sitting.new.table_id
             ≡ sitting.old.table_id)
@@ -110,8 +104,7 @@ impl<J: Job> Board<J> {
     pub(crate) fn perform(&self, sitting: &mut Sitting<J>, job: &mut J, note: u32)
         requires sitting { IsSittingOf J.means self.now sitting.old }
         requires job { slice_get (plan self.now).jobs note ≡ Some job.old }
-        requires doing { sitting.old.me.0.doing
-            ≡ Some (record (fresh J.means (plan self.now) note) { held = true }) }
+        requires doing { sitting.old.me.0.doing ≡ Some (record (fresh J.means (plan self.now) note) { held = true }) }
         ensures sitting { IsSittingOf J.means self.now sitting.new }
         ensures job { job.new ≡ J.means.after job.old (before_at J.means (plan self.now) note) }
         ensures me { sitting.new.me

@@ -26,9 +26,8 @@ pub struct Parts<J: Job> {
 }
 
 impl<J: Job> Board<J> {
-    /// The board of the cycle that is laid out on a table, and its first seat. `graph` says which
-    /// note waits for which, `areas` and `cells` are the numbers of the layout, and `room` is empty
-    /// and has room for the jobs at the end.
+    /// The board of the cycle that is laid out on a table, and its first seat. `graph` says which note waits for which,
+    /// `areas` and `cells` are the numbers of the layout, and `room` is empty and has room for the jobs at the end.
     pub fn begin(
         table: Berths<J>,
         mut seat: Sitting<J>,
@@ -73,9 +72,8 @@ impl<J: Job> Board<J> {
         (board, seat)
     }
 
-    /// The cycle ends: the seat knows all of the board, which is what the serial run leaves. It is
-    /// the first seat, whose last claim answered None and which has joined every other seat. Beside
-    /// it comes the room for the jobs.
+    /// The cycle ends: the seat knows all of the board, which is what the serial run leaves. It is the first seat,
+    /// whose last claim answered None and which has joined every other seat. Beside it comes the room for the jobs.
     pub fn end(&self, seat: BoardSeat<J>) -> (Sitting<J>, Vec<J>)
         requires seat { IsSeatOf J.means (plan self.now) (name self.now) seat }
         requires idle { IsIdle (view seat) }
@@ -153,14 +151,7 @@ fn begin_cycle<J: Job>(
     requires laid { IsLaying (plan_laid (areas_in seat.old) (known_in seat.old) graph.value)
         0 (length graph.value.edges) (known_in seat.old) }
     ensures table { seat.new.table_id ≡ seat.old.table_id }
-    ensures me { seat.new.me
-        ≡ (
-          opening_view (plan_laid
-              (areas_in seat.old)
-              (known_in seat.old)
-              graph.value),
-          [],
-        ) }
+    ensures me { seat.new.me ≡ (opening_view (plan_laid (areas_in seat.old) (known_in seat.old) graph.value), []) }
     ensures graph { result.value ≡ graph.value }
 {
     let told = Berth::Told(graph);

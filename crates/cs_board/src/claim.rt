@@ -24,11 +24,9 @@ impl<J: Job> Board<J> {
         ensures sitting { IsSittingOf J.means self.now sitting.new }
         ensures carries { sitting.new.me.1 ≡ sitting.old.me.1 }
         ensures some { IfSome result (HasClaimed J.means (plan self.now) sitting.new.me.0) }
-        ensures none { IfNone result (IsIdle sitting.new.me.0
-            × AllTried sitting.old.me.0 sitting.new.me.0 from to) }
+        ensures none { IfNone result (IsIdle sitting.new.me.0 × AllTried sitting.old.me.0 sitting.new.me.0 from to) }
         ensures tries { Tries sitting.old.me.0 sitting.new.me.0 }
-        ensures steps { steps.new.count + sitting.old.me.0.tries
-            ≡ steps.old.count + sitting.new.me.0.tries }
+        ensures steps { steps.new.count + sitting.old.me.0.tries ≡ steps.old.count + sitting.new.me.0.tries }
         ensures few { steps.new.count ≤ steps.old.count + (to - from) }
     {
         for note in from..to {
@@ -56,14 +54,11 @@ impl<J: Job> Board<J> {
         ensures sitting { IsSittingOf J.means self.now sitting.new }
         ensures carries { sitting.new.me.1 ≡ sitting.old.me.1 }
         ensures some { IfSome result (HasClaimed J.means (plan self.now) sitting.new.me.0) }
-        ensures none { IfNone result (IsIdle sitting.new.me.0
-            × AllBut but sitting.old.me.0 sitting.new.me.0 from to) }
+        ensures none { IfNone result (IsIdle sitting.new.me.0 × AllBut but sitting.old.me.0 sitting.new.me.0 from to) }
         ensures tries { Tries sitting.old.me.0 sitting.new.me.0 }
-        ensures steps { steps.new.count + sitting.old.me.0.tries
-            ≡ steps.old.count + sitting.new.me.0.tries }
+        ensures steps { steps.new.count + sitting.old.me.0.tries ≡ steps.old.count + sitting.new.me.0.tries }
         ensures few { steps.new.count ≤ steps.old.count + (to - from) }
-        ensures fewer { from ≤ but → but < to
-            → steps.new.count + 1 ≤ steps.old.count + (to - from) }
+        ensures fewer { from ≤ but → but < to → steps.new.count + 1 ≤ steps.old.count + (to - from) }
     {
         if but < from || to <= but {
             return self.try_range(sitting, from, to, steps);
@@ -75,32 +70,7 @@ impl<J: Job> Board<J> {
         self.try_range(sitting, but + 1, to, steps)
     }
 
-    /// Tries a note, if it is one.
-    fn try_first(&self, sitting: &mut Sitting<J>, note: u32, steps: &mut Steps) -> bool
-        requires sitting { IsSittingOf J.means self.now sitting.old }
-        requires idle { IsIdle sitting.old.me.0 }
-        requires steps { steps.old.count ≤ 2 ^ 63 }
-        ensures sitting { IsSittingOf J.means self.now sitting.new }
-        ensures carries { sitting.new.me.1 ≡ sitting.old.me.1 }
-        ensures won { result ≡ true → HasClaimed J.means (plan self.now) sitting.new.me.0 note }
-        ensures lost { result ≡ false → IsIdle sitting.new.me.0
-            × (note < (plan self.now).notes
-            → AllTried sitting.old.me.0 sitting.new.me.0 note (note + 1)) }
-        ensures tries { Tries sitting.old.me.0 sitting.new.me.0 }
-        ensures steps { steps.new.count + sitting.old.me.0.tries
-            ≡ steps.old.count + sitting.new.me.0.tries }
-        ensures few { (note < (plan self.now).notes → steps.new.count ≡ steps.old.count + 1)
-            × ((plan self.now).notes ≤ note → steps.new.count ≡ steps.old.count) }
-    {
-        if note >= self.notes {
-            return false;
-        }
-        steps.tick();
-        self.try_note(sitting, note)
-    }
-
-    /// Tries all notes once: first this one, if it is a note, then those from one on, and then
-    /// those before it.
+    /// Tries all notes once: first this one, if it is a note, then those from one on, and then those before it.
     fn try_round(
         &self,
         sitting: &mut Sitting<J>,
@@ -118,12 +88,14 @@ impl<J: Job> Board<J> {
         ensures none { IfNone result (IsIdle sitting.new.me.0
             × AllTried sitting.old.me.0 sitting.new.me.0 0 (plan self.now).notes) }
         ensures tries { Tries sitting.old.me.0 sitting.new.me.0 }
-        ensures steps { steps.new.count + sitting.old.me.0.tries
-            ≡ steps.old.count + sitting.new.me.0.tries }
+        ensures steps { steps.new.count + sitting.old.me.0.tries ≡ steps.old.count + sitting.new.me.0.tries }
         ensures few { steps.new.count ≤ steps.old.count + (plan self.now).notes }
     {
-        if self.try_first(sitting, opened, steps) {
-            return Some(opened);
+        let from = opened.min(self.notes);
+        let to = opened.saturating_add(1).min(self.notes);
+        let first = self.try_range(sitting, from, to, steps);
+        if first.is_some() {
+            return first;
         }
         let won = self.try_others(sitting, next, self.notes, opened, steps);
         if won.is_some() {
@@ -146,8 +118,7 @@ impl<J: Job> Board<J> {
         ensures none { IfNone result (IsIdle (view seat.new) × ((view seat.new).owes ≡ [])
             × ((t : ℕ) → t < (plan self.now).notes
             → FoundSince (view seat.old).tries (view seat.new) t)) }
-        ensures tries { steps.new.count + (view seat.old).tries
-            ≡ steps.old.count + (view seat.new).tries }
+        ensures tries { steps.new.count + (view seat.old).tries ≡ steps.old.count + (view seat.new).tries }
         ensures few { steps.new.count ≤ steps.old.count + (plan self.now).notes }
         ensures mine { (view seat.new).mine ≡ (view seat.old).mine }
         ensures same { SameSeat (view seat.old) (view seat.new) }
@@ -163,8 +134,7 @@ impl<J: Job> Board<J> {
 }
 
 impl<J> BoardSeat<J> {
-    /// The note that it claimed. Its round goes on behind that note, unless it had opened the note
-    /// itself.
+    /// The note that it claimed. Its round goes on behind that note, unless it had opened the note itself.
     fn remember(&mut self, won: Option<u32>, opened: u32)
         ensures note { IfSome won (λ t. self.new.note ≡ t) }
         ensures room { self.new.room ≡ self.old.room }

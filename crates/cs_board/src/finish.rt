@@ -33,8 +33,7 @@ impl<J: Job> Board<J> {
         true
     }
 
-    /// Closes an edge from the note, and moves its watcher on. It answers the watcher, if that was
-    /// opened.
+    /// Closes an edge from the note, and moves its watcher on. It answers the watcher, if that was opened.
     fn close_one(&self, sitting: &mut Sitting<J>, edge: u32, note: u32) -> Option<u32>
         requires sitting { IsSittingOf J.means self.now sitting.old }
         requires closing { ClosesAt (plan self.now) sitting.old.me.0 note edge }
@@ -42,8 +41,7 @@ impl<J: Job> Board<J> {
         ensures sitting { IsSittingOf J.means self.now sitting.new }
         ensures carries { sitting.new.me.1 ≡ sitting.old.me.1 }
         ensures moving { sitting.new.me.0.moving ≡ None }
-        ensures closing { sitting.new.me.0.closing
-            ≡ closing_from (plan self.now).edges note (edge + 1) }
+        ensures closing { sitting.new.me.0.closing ≡ closing_from (plan self.now).edges note (edge + 1) }
         ensures beside { Beside sitting.old.me.0 sitting.new.me.0 }
     {
         let (_, watcher) = self.graph().ends(edge);
@@ -100,8 +98,7 @@ impl<J: Job> Board<J> {
         opened
     }
 
-    /// The note that has run is Done. Each note that waited for it alone becomes Available and is
-    /// owed by this seat.
+    /// The note that has run is Done. Each note that waited for it alone becomes Available and is owed by this seat.
     pub fn finish(&self, seat: &mut BoardSeat<J>)
         requires seat { IsSeatOf J.means (plan self.now) (name self.now) seat.old }
         requires ran { HasRun J.means (view seat.old) }

@@ -12,14 +12,10 @@ use cs_cells::Job;
 
 /// The laws of the rule, of any plan and any state. It does nothing: its clauses are the laws.
 pub fn rule_laws<J: Job>()
-    ensures earlier_done { (k : Plan J) (s : State (Berth J) (View J)) → Holds J.means k s
-        → EarlierDone k s J.means }
-    ensures seen_before { (k : Plan J) (s : State (Berth J) (View J)) → Holds J.means k s
-        → SeenBefore k s J.means }
-    ensures done_once { (k : Plan J) (s : State (Berth J) (View J)) → Holds J.means k s
-        → DoneOnce k s }
-    ensures nothing_lost { (k : Plan J) (s : State (Berth J) (View J)) → Holds J.means k s
-        → HasLast s → AllDone k s }
+    ensures earlier_done { (k : Plan J) (s : State (Berth J) (View J)) → Holds J.means k s → EarlierDone k s J.means }
+    ensures seen_before { (k : Plan J) (s : State (Berth J) (View J)) → Holds J.means k s → SeenBefore k s J.means }
+    ensures done_once { (k : Plan J) (s : State (Berth J) (View J)) → Holds J.means k s → DoneOnce k s }
+    ensures nothing_lost { (k : Plan J) (s : State (Berth J) (View J)) → Holds J.means k s → HasLast s → AllDone k s }
     ensures mine { (k : Plan J) (s : State (Berth J) (View J)) (id : ℕ) (v : View J) → Holds J.means k s
         → get_elem? s.views id ≡ some v → IsLast v → AllMine k v }
     ensures serial { (k : Plan J) (s : State (Berth J) (View J)) → Holds J.means k s → HasLast s

@@ -4,8 +4,7 @@ use atomic_table::{Join, Play, Split as Cut, TableRule};
 use cs_cells::{Job, Layout};
 use std::snapshot::Snapshot;
 
-/// What the table is told when it is made: the layout, the words, and the number of slots. It has
-/// no bytes.
+/// What the table is told when it is made: the layout, the words, and the number of slots. It has no bytes.
 #[derive(Drop)]
 pub struct Key {
     pub layout: Snapshot<Layout>,

@@ -47,8 +47,7 @@ impl<J: Job> Board<J> {
         requires job { (j : J) × (slice_get (plan self.now).jobs note ≡ Some j)
             × (job ≡ J.means.after j (before_at J.means (plan self.now) note)) }
         ensures sitting { IsSittingOf J.means self.now sitting.new }
-        ensures me { sitting.new.me
-            ≡ (does sitting.old.me.0 (record (deed sitting.old.me.0) { held = false }), []) }
+        ensures me { sitting.new.me ≡ (does sitting.old.me.0 (record (deed sitting.old.me.0) { held = false }), []) }
     {
         let held = self
             .frame
@@ -85,8 +84,7 @@ impl<J: Job> Board<J> {
         requires next { slice_get (places_written J.means (plan self.now)
             (deed sitting.old.me.0).note) ((deed sitting.old.me.0).phase - 1) ≡ Some area }
         ensures sitting { IsSittingOf J.means self.now sitting.new }
-        ensures me { sitting.new.me
-            ≡ (does sitting.old.me.0 (next_phase (deed sitting.old.me.0)), sitting.old.me.1) }
+        ensures me { sitting.new.me ≡ (does sitting.old.me.0 (next_phase (deed sitting.old.me.0)), sitting.old.me.1) }
     {
         let found = self.look_turn(sitting, area);
         self.turn_to(sitting, area, found + 1);
@@ -95,8 +93,7 @@ impl<J: Job> Board<J> {
     /// The turns of the note on all resources that it writes.
     fn turn_all(&self, sitting: &mut Sitting<J>, job: &J, note: u32)
         requires sitting { IsSittingOf J.means self.now sitting.old }
-        requires foot { (J.means.foot job.now).writes
-            ≡ places_written J.means (plan self.now) note }
+        requires foot { (J.means.foot job.now).writes ≡ places_written J.means (plan self.now) note }
         requires doing { sitting.old.me.0.doing ≡ Some (ran_out J.means (plan self.now) note 1) }
         ensures sitting { IsSittingOf J.means self.now sitting.new }
         ensures me { sitting.new.me ≡ (
@@ -121,8 +118,7 @@ impl<J: Job> Board<J> {
         ensures turns { result ≡ turns_before J.means (plan self.now) (note_of (view seat.old)) }
         ensures tries { ((view seat.new).tries ≡ (view seat.old).tries)
             × ((view seat.new).found ≡ (view seat.old).found) }
-        ensures owes { ((view seat.new).owes ≡ (view seat.old).owes)
-            × ((view seat.new).mine ≡ (view seat.old).mine) }
+        ensures owes { ((view seat.new).owes ≡ (view seat.old).owes) × ((view seat.new).mine ≡ (view seat.old).mine) }
         ensures same { SameSeat (view seat.old) (view seat.new) }
     {
         let note = seat.note;

@@ -60,8 +60,7 @@ impl<J: Job> Board<J> {
         }
     }
 
-    /// The first seat takes in another, which runs nothing and owes nothing, as after a claim that
-    /// answered None.
+    /// The first seat takes in another, which runs nothing and owes nothing, as after a claim that answered None.
     pub fn join(&self, seat: &mut BoardSeat<J>, other: BoardSeat<J>)
         requires seat { IsSeatOf J.means (plan self.now) (name self.now) seat.old }
         requires first { (view seat.old).first ≡ true }

@@ -57,8 +57,7 @@ impl<J: Job> Board<J> {
         requires idle { IsIdle sitting.old.me.0 }
         requires note { note < (plan self.now).notes }
         ensures sitting { IsSittingOf J.means self.now sitting.new }
-        ensures me { sitting.new.me
-            ≡ (tried J.means result sitting.old.me.0 note, sitting.old.me.1) }
+        ensures me { sitting.new.me ≡ (tried J.means result sitting.old.me.0 note, sitting.old.me.1) }
     {
         if !self.look_status(sitting, note) {
             return false;
@@ -83,8 +82,7 @@ impl<J: Job> Board<J> {
         requires idle { IsIdle sitting.old.me.0 }
         requires note { note < (plan self.now).notes }
         ensures sitting { IsSittingOf J.means self.now sitting.new }
-        ensures me { sitting.new.me
-            ≡ (tried J.means result sitting.old.me.0 note, sitting.old.me.1) }
+        ensures me { sitting.new.me ≡ (tried J.means result sitting.old.me.0 note, sitting.old.me.1) }
     {
         let word = self.status_word(note);
         self.frame
@@ -115,9 +113,7 @@ impl<J: Job> Board<J> {
         requires sitting { IsSittingOf J.means self.now sitting.old }
         requires area { area < area_count (plan self.now) }
         requires doing { sitting.old.me.0.doing ≡ Some (deed sitting.old.me.0) }
-        requires used { listed (places_used J.means (plan self.now)
-            (deed sitting.old.me.0).note) area
-            ≡ true }
+        requires used { listed (places_used J.means (plan self.now) (deed sitting.old.me.0).note) area ≡ true }
         ensures sitting { IsSittingOf J.means self.now sitting.new }
         ensures me { sitting.new.me ≡ sitting.old.me }
         ensures value { result
@@ -141,8 +137,7 @@ impl<J: Job> Board<J> {
         self.frame.table.shared.store::<Turn>(sitting, word, 1);
     }
 
-    /// The next turn of the note, on a resource that it writes, whose turn word has this value
-    /// after it.
+    /// The next turn of the note, on a resource that it writes, whose turn word has this value after it.
     pub(crate) fn turn_to(&self, sitting: &mut Sitting<J>, area: u32, value: u64)
         requires sitting { IsSittingOf J.means self.now sitting.old }
         requires area { area < area_count (plan self.now) }
@@ -151,11 +146,9 @@ impl<J: Job> Board<J> {
         requires begun { 1 ≤ (deed sitting.old.me.0).phase }
         requires next { slice_get (places_written J.means (plan self.now)
             (deed sitting.old.me.0).note) ((deed sitting.old.me.0).phase - 1) ≡ Some area }
-        requires value { value
-            ≡ writers_before J.means (plan self.now) (deed sitting.old.me.0).note area + 1 }
+        requires value { value ≡ writers_before J.means (plan self.now) (deed sitting.old.me.0).note area + 1 }
         ensures sitting { IsSittingOf J.means self.now sitting.new }
-        ensures me { sitting.new.me
-            ≡ (does sitting.old.me.0 (next_phase (deed sitting.old.me.0)), sitting.old.me.1) }
+        ensures me { sitting.new.me ≡ (does sitting.old.me.0 (next_phase (deed sitting.old.me.0)), sitting.old.me.1) }
     {
         let word = self.turn_word(area);
         self.frame.table.shared.store::<Turn>(sitting, word, value);
@@ -174,8 +167,7 @@ impl<J: Job> Board<J> {
                   (plan self.now) note)),
             ) ∷ []) }
         ensures sitting { IsSittingOf J.means self.now sitting.new }
-        ensures me { sitting.new.me
-            ≡ (does sitting.old.me.0 (record (deed sitting.old.me.0) { held = false }), []) }
+        ensures me { sitting.new.me ≡ (does sitting.old.me.0 (record (deed sitting.old.me.0) { held = false }), []) }
     {
         self.frame.table.shared.load::<Give>(sitting, 0);
     }
@@ -205,8 +197,7 @@ impl<J: Job> Board<J> {
         requires closing { ClosesAt (plan self.now) sitting.old.me.0 note edge }
         requires moving { sitting.old.me.0.moving ≡ None }
         ensures sitting { IsSittingOf J.means self.now sitting.new }
-        ensures me { sitting.new.me
-            ≡ (shut sitting.old.me.0 edge note watcher result, sitting.old.me.1) }
+        ensures me { sitting.new.me ≡ (shut sitting.old.me.0 edge note watcher result, sitting.old.me.1) }
     {
         let word = self.watch_word(edge);
         self.frame.table.shared.swap::<Close>(sitting, word, CLOSED)
@@ -217,8 +208,7 @@ impl<J: Job> Board<J> {
         requires sitting { IsSittingOf J.means self.now sitting.old }
         requires moving { MovesAt (plan self.now) sitting.old.me.0 note edge }
         ensures sitting { IsSittingOf J.means self.now sitting.new }
-        ensures me { sitting.new.me
-            ≡ (stopped result sitting.old.me.0 note edge, sitting.old.me.1) }
+        ensures me { sitting.new.me ≡ (stopped result sitting.old.me.0 note edge, sitting.old.me.1) }
     {
         let word = self.watch_word(edge);
         self.frame

@@ -1,5 +1,4 @@
-// What a worker knows of a control cycle. No value of these types is made: only contracts speak of
-// them.
+// What a worker knows of a control cycle. No value of these types is made: only contracts speak of them.
 use cs_cells::Area;
 use cs_graph::Graph;
 use std::alloc::Global;
@@ -15,8 +14,7 @@ pub enum Berth<J> {
     Told(Arc<Graph, Global>),
 }
 
-/// With what a cycle begins: its notes in serial order, which waits for which, the layout, the jobs
-/// and the cells.
+/// With what a cycle begins: its notes in serial order, which waits for which, the layout, the jobs and the cells.
 pub struct Plan<J> {
     pub notes: u64,
     /// Each from an earlier note to a later one, in the order of the later note.
@@ -31,13 +29,11 @@ pub struct Plan<J> {
 /// The note that a worker does.
 pub struct Doing {
     pub note: u64,
-    /// How many turn steps it has made: the note's own turn first, then one for each resource that
-    /// it writes.
+    /// How many turn steps it has made: the note's own turn first, then one for each resource that it writes.
     pub phase: u64,
     /// The worker has the note's job out of its slot.
     pub held: bool,
-    /// The cells as the note sees them: those before it in the serial run, with what it has set so
-    /// far.
+    /// The cells as the note sees them: those before it in the serial run, with what it has set so far.
     pub image: LinkedList<i64>,
 }
 
@@ -59,8 +55,7 @@ pub struct View<J> {
     pub doing: Option<Doing>,
     /// A note that is Done and whose watch words are being closed.
     pub closing: Option<Spot>,
-    /// A waiting note that was found watching, and that now has to watch another edge or to be
-    /// opened.
+    /// A waiting note that was found watching, and that now has to watch another edge or to be opened.
     pub moving: Option<Spot>,
     /// Notes that this seat made Available, or had at the opening, and hasn't tried since.
     pub owes: LinkedList<u64>,

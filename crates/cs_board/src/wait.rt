@@ -29,9 +29,8 @@ enum Outlook {
 }
 
 impl<J: Job> Board<J> {
-    /// Claims a note that is Available, as `claim` does, or looks for one until all have begun or its
-    /// patience is at an end. None only ever comes after a claim that tried each note and found it
-    /// otherwise.
+    /// Claims a note that is Available, as `claim` does, or looks for one until all have begun or its patience is at an
+    /// end. None only ever comes after a claim that tried each note and found it otherwise.
     pub fn await_claim(&self, seat: &mut BoardSeat<J>, patience: Patience) -> Option<u32>
         requires seat { IsSeatOf J.means (plan self.now) (name self.now) seat.old }
         requires idle { IsIdle (view seat.old) }

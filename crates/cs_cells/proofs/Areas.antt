@@ -1,16 +1,13 @@
 -- Resources by number: a number stands for one resource, and its index among the areas is the resource's place.
+use Rattle.std.proofs.lemmas.{Grind.common_steps, List.map_more, List.length-map, Option.slice_get-get_or}
 use Rattle.std.proofs.Common.{◌≡◌, ℕ, zero, suc, ◌+◌, ◌<◌, List, [], ◌∷◌, ◌++◌, length, take, get_or, slice_get, Some}
-use Rattle.std.proofs.Common.{Bool, true, false, ◌&&◌, nat_eq, refl, sym, ◌∙◌, ap, subst, arith, if◌then◌else◌, eq-eqb}
-use Rattle.std.proofs.Common.{⊎_elim}
+use Rattle.std.proofs.Common.{Bool, true, false, ◌&&◌, nat_eq, refl, sym, subst, arith, eq-eqb, if◌then◌else◌, ⊎_elim}
 use Rattle.std.specs.List.{list_any, position}
-use Rattle.std.proofs.lemmas.List.{map_more, length-map}
 use Rattle.std.proofs.lemmas.List.Quantifiers.{position-Some}
 use Rattle.std.proofs.lemmas.Bool.{and_from, cond-false, or_left, or_right, or_cases, false_from_ne_true}
-use Rattle.std.proofs.lemmas.Option.{slice_get-get_or}
 use Rattle.cs_base.specs.declared.resource.Res.{Res}
 use Rattle.cs_base.proofs.Rates.{same_res_is}
-use Rattle.cs_cells.specs.declared.footprint.Area.{Area}
-use Rattle.cs_cells.specs.Areas.{HasPlace, IsLaid}
+use Rattle.cs_cells.specs.{declared.footprint.Area.Area, Areas.HasPlace, Areas.IsLaid}
 use Rattle.cs_cells.specs.inner.Index.{key, keys_of}
 
 abbrev pub same : ℕ × ℕ → ℕ × ℕ → Bool
@@ -20,10 +17,7 @@ key_is : (r s : Res) → same (key r) (key s) ≡ true → s ≡ r
 key_is r s h = sym (same_res_is r s h)
 
 same_self : (r s : Res) → s ≡ r → same (key r) (key s) ≡ true
-same_self r s e =
-    and_from (nat_eq (key r).0 (key s).0) (nat_eq (key r).1 (key s).1)
-    (eq-eqb (key r).0 (key s).0 (ap (λ x. (key x).0) (sym e)))
-    (eq-eqb (key r).1 (key s).1 (ap (λ x. (key x).1) (sym e)))
+same_self r s e = grind (arith, common_steps, and_from, eq-eqb, nat_eq)
 
 at_place : (areas : List Area) (place : ℕ) (d : ℕ × ℕ) → place < length areas
     → (a : Area) × (slice_get areas place ≡ Some a) × (get_or (keys_of areas) place d ≡ key a.res)
@@ -42,9 +36,7 @@ place_found areas r place h =
 pub any_place : (areas : List Area) (r : Res) (place : ℕ) → HasPlace areas r place
     → list_any (same (key r)) (keys_of areas) ≡ true
 any_place [] r place h = absurd (let at = h.1 in cc)
-any_place (a ∷ rest) r zero h =
-    let at : a.res ≡ r = let e = h.1 in let f = h.2 in cc in
-    or_left (same (key r) (key a.res)) (list_any (same (key r)) (keys_of rest)) (same_self r a.res at)
+any_place (a ∷ rest) r zero h = grind (arith, common_steps, or_left, same_self)
 any_place (a ∷ rest) r (suc place) h =
     or_right (same (key r) (key a.res)) (list_any (same (key r)) (keys_of rest)) (any_place rest r place h)
 
@@ -83,11 +75,4 @@ pub keys_more : (areas : List Area) (i : ℕ) (d : Area) (k : ℕ × ℕ) (ks mo
     → k ≡ key (get_or areas i d).res → ks ≡ keys_of (take i areas)
     → more ≡ (if list_any (same k) ks then ks else ks ++ k ∷ [])
     → more ≡ keys_of (take (i + 1) areas)
-keys_more areas i d k ks more laid l is front grown =
-    grown
-    ∙ cond-false (list_any (same k) ks) ks (ks ++ k ∷ [])
-    (ap (λ x. list_any (same x) ks) is ∙ ap (λ xs. list_any (same (key (get_or areas i d).res)) xs) front
-    ∙ next_is_new areas i d laid l)
-    ∙ ap (λ xs. xs ++ k ∷ []) front
-    ∙ ap (λ x. keys_of (take i areas) ++ x ∷ []) is
-    ∙ sym (map_more (λ a. key a.res) areas i d l)
+keys_more areas i d k ks more laid l is front grown = grind (arith, common_steps, cond-false, map_more, next_is_new)

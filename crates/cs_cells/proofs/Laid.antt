@@ -1,14 +1,12 @@
 -- Areas that follow one another: how such a list grows, and that no two of them share a cell.
+use Rattle.std.proofs.lemmas.{Grind.common_steps, List.take_at, List.take-append-le, Bool.and_parts, Bool.or_cases}
+use Rattle.std.proofs.lemmas.{Bool.cases_order, List.Sums.sum_by-cons, List.Sums.sum_by_more_le}
 use Rattle.std.proofs.Common.{◌≡◌, ℕ, zero, suc, ◌+◌, ◌<◌, ◌≤◌, List, [], ◌∷◌, ◌++◌, length, take, slice_get, get_or}
-use Rattle.std.proofs.Common.{Some, None, Option, true, ◌⊎◌, inl, inr, ⊎_elim, refl, sym, ◌∙◌, ap, arith}
-use Rattle.std.proofs.Common.{ltb-true, leb-true, nat_lt, nat_le}
-use Rattle.std.proofs.lemmas.List.{take_at, take-append-le}
-use Rattle.std.proofs.lemmas.Bool.{and_parts, or_cases, cases_order}
-use Rattle.std.proofs.lemmas.List.Sums.{sum_by-cons, sum_by_more_le}
+use Rattle.std.proofs.Common.{Some, None, Option, true, ◌⊎◌, inl, inr, ⊎_elim, refl, sym, ◌∙◌, ap, arith, ltb-true}
+use Rattle.std.proofs.Common.{leb-true, nat_lt, nat_le}
 use Rattle.std.proofs.lemmas.Option.{get_or_from_slice_get, slice_get_within}
-use Rattle.cs_cells.specs.declared.footprint.Area.{Area}
+use Rattle.cs_cells.specs.{declared.footprint.Area.Area, Cells.in_area, Cells.covers}
 use Rattle.cs_cells.specs.Areas.{HasPlace, IsLaid, word_count}
-use Rattle.cs_cells.specs.Cells.{in_area, covers}
 
 pub at_push : {X : Type 0} (xs : List X) (x : X) (k : ℕ) (y : X) → slice_get (xs ++ x ∷ []) k ≡ Some y
     → ((slice_get xs k ≡ Some y) × (k < length xs)) ⊎ ((k ≡ length xs) × (y ≡ x))
@@ -19,18 +17,14 @@ at_push (z ∷ xs) x (suc k) y at =
     ⊎_elim (λ front. inl (front.0, omega arith)) (λ last. inr (ap suc last.0, last.1)) (at_push xs x k y at)
 
 pub laid_none : IsLaid []
-laid_none = record {
-  follows = λ place area at. absurd (cc);
-  apart = λ p q res h k. absurd (let at = h.1 in cc);
-}
+laid_none = grind (arith, common_steps)
 
 pub laid_more : (areas : List Area) (area : Area) → IsLaid areas → area.first ≡ word_count areas
     → ((place : ℕ) → ¬ (HasPlace areas area.res place))
     → IsLaid (areas ++ area ∷ [])
 laid_more areas area laid first new = record {
   follows = λ place a at. ⊎_elim
-      (λ front. let low : place ≤ length areas =
-      omega (arith, front.1) in laid.follows place a front.0
+      (λ front. let low : place ≤ length areas = omega (arith, front.1) in laid.follows place a front.0
       ∙ ap word_count (sym (take-append-le place areas (area ∷ []) low)))
       (λ last. ap (λ x. x.first) last.1 ∙ first ∙ ap word_count (sym (take_at areas (area ∷ []) place (sym last.0))))
       (at_push areas area place a at);
@@ -51,19 +45,9 @@ area_before : (areas : List Area) (p q : ℕ) (a : Area) → p < q → slice_get
     → word_count (take p areas) + a.length ≤ word_count (take q areas)
 area_before [] p q a l at = absurd (cc)
 area_before (b ∷ rest) p zero a l at = absurd (omega arith)
-area_before (b ∷ rest) zero (suc q) a l at =
-    let long : b.length ≡ a.length = cc in
-    let front : word_count (b ∷ take q rest) ≡ b.length + word_count (take q rest) =
-    sum_by-cons (λ x. x.length) b (take q rest) in
-    omega arith
+area_before (b ∷ rest) zero (suc q) a l at = grind (arith, common_steps, sum_by-cons)
 area_before (b ∷ rest) (suc p) (suc q) a l at =
-    let later : word_count (take p rest) + a.length ≤ word_count (take q rest) =
-    area_before rest p q a (omega arith) at in
-    let front_p : word_count (b ∷ take p rest) ≡ b.length + word_count (take p rest) =
-    sum_by-cons (λ x. x.length) b (take p rest) in
-    let front_q : word_count (b ∷ take q rest) ≡ b.length + word_count (take q rest) =
-    sum_by-cons (λ x. x.length) b (take q rest) in
-    omega arith
+    grind (arith, common_steps, sum_by-cons, area_before rest p q a (omega arith) at)
 
 pub area_within : (areas : List Area) (p : ℕ) (a : Area) → IsLaid areas → slice_get areas p ≡ Some a
     → a.first + a.length ≤ word_count areas
@@ -107,7 +91,4 @@ covered_place areas (place ∷ places) x h = ⊎_elim
 -- a covered address is one of the layout's
 pub covered_below : (areas : List Area) (places : List ℕ) (x : ℕ) → IsLaid areas → covers areas places x ≡ true
     → x < word_count areas
-covered_below areas places x laid h =
-    let at = covered_place areas places x h in
-    let a = in_some (slice_get areas at.1) x at.3 in
-    omega (arith, area_within areas at.1 a.0 laid a.1, a.3)
+covered_below areas places x laid h = grind (arith, common_steps, area_within, covered_place, in_some)

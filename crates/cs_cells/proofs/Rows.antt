@@ -1,10 +1,8 @@
 -- Cells read into a row and set from a row, one by one.
-use Rattle.std.proofs.Common.{◌≡◌, ◌≢◌, ℕ, ◌+◌, ◌-◌, ◌<◌, ◌≤◌, ◌==◌, ◌&&◌, Bool, true, false, List, [], ◌∷◌, ◌++◌}
-use Rattle.std.proofs.Common.{length, map, take, ℤ, pos, set, slice_set, nat_le, nat_lt, if◌then◌else◌, refl, ap, sym}
-use Rattle.std.proofs.Common.{◌∙◌, arith}
+use Rattle.std.proofs.lemmas.{Grind.common_steps, Bool.eqb-true, Bool.and_from, Bool.Decides.nat_tests}
+use Rattle.std.proofs.Common.{◌≡◌, ◌≢◌, ℕ, ◌+◌, ◌-◌, ◌<◌, ◌≤◌, ◌==◌, ◌&&◌, true, false, List, if◌then◌else◌, length}
+use Rattle.std.proofs.Common.{map, take, ℤ, set, slice_set, nat_le, nat_lt, ap, sym, ◌∙◌, arith}
 use Rattle.std.specs.List.{range_with_len}
-use Rattle.std.proofs.lemmas.Bool.{eqb-true, and_from}
-use Rattle.std.proofs.lemmas.Bool.Decides.{nat_tests}
 use Rattle.std.proofs.lemmas.List.{take_more_set, take_all, get_or-set_same, get_or-set_other}
 use Rattle.std.proofs.lemmas.List.FromFn.{map-range_with_len_more}
 use Rattle.cs_base.proofs.Tests.{by_test}
@@ -14,15 +12,11 @@ use Rattle.cs_cells.specs.Cells.{cell, with_row}
 pub read_more : (f : ℕ → ℤ) (row : List ℤ) (first j : ℕ) (z : ℤ) → j < length row
     → take j row ≡ map f (range_with_len first j) → z ≡ f (first + j)
     → take (j + 1) (set row j z) ≡ map f (range_with_len first (j + 1))
-read_more f row first j z below so_far is =
-    take_more_set row j z below ∙ ap (λ l. l ++ z ∷ []) so_far ∙ ap (λ y. map f (range_with_len first j) ++ y ∷ []) is
-    ∙ sym (map-range_with_len_more f first j (first + j) refl)
+read_more f row first j z below so_far is = grind (arith, common_steps, map-range_with_len_more, take_more_set)
 
 pub read_all : (f : ℕ → ℤ) (row : List ℤ) (first n j : ℕ) → length row ≡ n → n ≤ j → j ≤ n
     → take j row ≡ map f (range_with_len first j) → row ≡ map f (range_with_len first n)
-read_all f row first n j long done within so_far =
-    let e : j ≡ n = omega (arith, done, within) in
-    sym (take_all j row (omega (arith, long, done))) ∙ so_far ∙ ap (λ k. map f (range_with_len first k)) e
+read_all f row first n j long done within so_far = grind (arith, common_steps, take_all)
 
 -- a test of an address, and what it tells of the cell there
 apart : (m n : ℕ) → (m == n) ≡ false → m ≢ n
@@ -30,43 +24,24 @@ apart m n h = grind (arith, nat_tests)
 
 pub set_cell : (c : List ℤ) (k : ℕ) (z : ℤ) (a : ℕ) → k < length c
     → cell (slice_set c k z) a ≡ (if a == k then z else cell c a)
-set_cell c k z a low = by_test (a == k)
-    (λ yes. let e : a ≡ k = eqb-true a k yes in
-    ap (cell (slice_set c k z)) e ∙ get_or-set_same c k z (pos 0) low ∙ sym (ap (λ b. if b then z else cell c a) yes))
-    (λ no. get_or-set_other c k a z (pos 0) (apart a k no) ∙ sym (ap (λ b. if b then z else cell c a) no))
+set_cell c k z a low = grind (arith, common_steps, apart, by_test, eqb-true, get_or-set_other, get_or-set_same)
 
 -- no address is among none
 not_among : (f a : ℕ) → (nat_le f a && nat_lt a (f + 0)) ≡ false
-not_among f a = by_test (nat_le f a)
-    (λ low. let far : nat_lt a (f + 0) ≡ false =
-    grind (arith, nat_tests) in ap (λ b. nat_le f a && b) far ∙ and_false (nat_le f a))
-    (λ no. ap (λ b. b && nat_lt a (f + 0)) no)
-  where
-    and_false : (b : Bool) → (b && false) ≡ false
-    and_false true = refl
-    and_false false = refl
+not_among f a = grind (arith, common_steps, by_test, nat_le, nat_lt, nat_tests)
 
 pub with_row_none : (first : ℕ) (w cells : ℕ → ℤ) → cells ≡ with_row first 0 w cells
 with_row_none first w cells = λ i a. sym (ap (λ b. if b then w (a - first) else cells a) (not_among first a)) i
 
 -- one cell more
 beyond : (m a : ℕ) → a ≢ m → m ≤ a → m + 1 ≤ a
-beyond m a n l = by_test (m == a)
-    (λ yes. absurd (n (sym (eqb-true m a yes))))
-    (λ no. grind (arith, nat_tests))
+beyond m a n l = grind (arith, common_steps, by_test, eqb-true, nat_tests)
 
 further : (f j a : ℕ) → a ≢ f + j → nat_lt a (f + j) ≡ false → nat_lt a (f + (j + 1)) ≡ false
-further f j a n far =
-    let past : f + j ≤ a = grind (arith, nat_tests) in
-    let after : f + j + 1 ≤ a = beyond (f + j) a n past in
-    grind (arith, nat_tests)
+further f j a n far = grind (arith, common_steps, beyond, nat_tests)
 
 more_in : (f j a : ℕ) → a ≢ f + j → (nat_le f a && nat_lt a (f + j)) ≡ (nat_le f a && nat_lt a (f + (j + 1)))
-more_in f j a n = by_test (nat_lt a (f + j))
-    (λ low. let more : nat_lt a (f + (j + 1)) ≡ true =
-    grind (arith, nat_tests) in ap (λ b. nat_le f a && b) (low ∙ sym more))
-    (λ far. let more : nat_lt a (f + (j + 1)) ≡ false =
-    further f j a n far in ap (λ b. nat_le f a && b) (far ∙ sym more))
+more_in f j a n = grind (arith, common_steps, by_test, further, nat_le, nat_lt, nat_tests)
 
 last_in : (f j a : ℕ) → a ≡ f + j → (nat_le f a && nat_lt a (f + (j + 1))) ≡ true
 last_in f j a e = and_from (nat_le f a) (nat_lt a (f + (j + 1))) (grind (arith, nat_tests))

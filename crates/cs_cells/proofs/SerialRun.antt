@@ -1,4 +1,5 @@
 -- What follows from the frame law alone, for any kind of job.
+use Rattle.std.proofs.lemmas.Grind.{common_steps}
 use Rattle.std.proofs.Common.{◌≡◌, ℕ, zero, suc, ◌+◌, ◌-◌, ◌<◌, ◌≤◌, List, [], ◌∷◌, map, length, slice_get, Some, refl}
 use Rattle.std.proofs.Common.{sym, ◌∙◌, ap, subst, arith}
 use Rattle.cs_cells.specs.Cells.{Cells, cell, Agree}
@@ -35,15 +36,11 @@ module _ {J : Type 0} (M : Meaning J) (F : Frames M) where
   -- a serial run leaves the footprints and the areas of its jobs, and the number of cells
   pub foot-serial_jobs : (js : List J) (c : Cells) → map M.foot (serial_jobs M js c) ≡ map M.foot js
   foot-serial_jobs [] c = refl
-  foot-serial_jobs (x ∷ js) c =
-      ap (λ f. f ∷ map M.foot (serial_jobs M js (M.leaves x c))) (F.foot_after x c)
-      ∙ ap (λ fs. M.foot x ∷ fs) (foot-serial_jobs js (M.leaves x c))
+  foot-serial_jobs (x ∷ js) c = grind (arith, common_steps, foot-serial_jobs js (M.leaves x c))
 
   pub areas-serial_jobs : (js : List J) (c : Cells) → map M.areas (serial_jobs M js c) ≡ map M.areas js
   areas-serial_jobs [] c = refl
-  areas-serial_jobs (x ∷ js) c =
-      ap (λ f. f ∷ map M.areas (serial_jobs M js (M.leaves x c))) (F.areas_after x c)
-      ∙ ap (λ fs. M.areas x ∷ fs) (areas-serial_jobs js (M.leaves x c))
+  areas-serial_jobs (x ∷ js) c = grind (arith, common_steps, areas-serial_jobs js (M.leaves x c))
 
   pub length-serial_cells : (js : List J) (c : Cells) → length (serial_cells M js c) ≡ length c
   length-serial_cells [] c = refl

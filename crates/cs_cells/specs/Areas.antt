@@ -1,13 +1,9 @@
 use Rattle.std.specs.Prelude.{◌≡◌, ◌<◌, ℕ, List, length, take, sum_by, nat_lt, Option, Some, None, slice_get}
-use Rattle.std.specs.Prelude.{if◌then◌else◌}
-use Rattle.std.specs.List.{Contains}
-use Rattle.std.specs.List.Sorted.{IsStrictlyIncreasing}
-use Rattle.cs_base.specs.declared.resource.Res.{Res}
+use Rattle.std.specs.{Prelude.if◌then◌else◌, List.Contains, List.Sorted.IsStrictlyIncreasing}
+use Rattle.cs_base.specs.{declared.resource.Res.Res, declared.limit.LimitHit.LimitHit}
 use Rattle.cs_base.specs.Limits.{most_resources, most_words}
+use Rattle.cs_cells.specs.{declared.footprint.Area.Area, declared.footprint.Footprint.Footprint}
 use Rattle.cs_base.specs.declared.limit.Limit.TheVariants as limit
-use Rattle.cs_base.specs.declared.limit.LimitHit.{LimitHit}
-use Rattle.cs_cells.specs.declared.footprint.Area.{Area}
-use Rattle.cs_cells.specs.declared.footprint.Footprint.{Footprint}
 
 -- the area at this place is the resource's
 abbrev pub HasPlace : List Area → Res → ℕ → Type 0

@@ -1,6 +1,5 @@
 use Rattle.std.specs.Prelude.{◌≡◌, ◌||◌, ℕ, List, length, true}
-use Rattle.cs_cells.specs.declared.footprint.Area.{Area}
-use Rattle.cs_cells.specs.declared.footprint.Footprint.{Footprint}
+use Rattle.cs_cells.specs.{declared.footprint.Area.Area, declared.footprint.Footprint.Footprint}
 use Rattle.cs_cells.specs.Cells.{Cells, cell, covers, Agree}
 
 -- What a kind of job means: the layout and the footprint of each, the job and the cells after its run, and what is true

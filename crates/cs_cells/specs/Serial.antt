@@ -1,6 +1,5 @@
 use Rattle.std.specs.Prelude.{◌≡◌, ℕ, zero, suc, ◌<◌, ◌≤◌, List, [], ◌∷◌, slice_get, Some}
-use Rattle.cs_cells.specs.Cells.{Cells, cell, Agree}
-use Rattle.cs_cells.specs.Meaning.{Meaning, Uses, Writes}
+use Rattle.cs_cells.specs.{Cells.Cells, Cells.cell, Cells.Agree, Meaning.Meaning, Meaning.Uses, Meaning.Writes}
 
 module _ {J : Type 0} (M : Meaning J) where
   -- the cells after all the jobs ran in order

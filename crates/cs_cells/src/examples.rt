@@ -14,6 +14,5 @@ pub fn layout_examples()
     ensures covered { map (covers three_areas (0 ∷ 2 ∷ [])) (0 ∷ 1 ∷ 2 ∷ 5 ∷ 6 ∷ [])
         ≡ true ∷ false ∷ true ∷ true ∷ false ∷ [] }
     ensures most { limit_passed (one_area 65536) ≡ None }
-    ensures more { limit_passed (one_area 65537)
-        ≡ Some (record { limit = limit.Words; line = 0 }) }
+    ensures more { limit_passed (one_area 65537) ≡ Some (record { limit = limit.Words; line = 0 }) }
 {}

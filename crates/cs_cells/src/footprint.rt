@@ -12,8 +12,7 @@ pub struct Area {
     pub length: u32,
 }
 
-/// What a note may touch, as places of areas in a layout, ascending, each once. Whatever is written
-/// counts as used.
+/// What a note may touch, as places of areas in a layout, ascending, each once. Whatever is written counts as used.
 #[derive(Drop)]
 pub struct Footprint {
     pub uses: Places,

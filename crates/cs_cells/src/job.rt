@@ -15,8 +15,7 @@ pub trait Job {
         ensures foot { result.now ≡ means.foot self.now }
         ensures valid { means.valid self.now };
 
-    /// Runs once. The bank must have each cell that the job uses, and let each be set that it
-    /// writes.
+    /// Runs once. The bank must have each cell that the job uses, and let each be set that it writes.
     fn run<B: Bank>(&mut self, bank: &mut B)
         requires get { (a : ℕ) → Uses means self.old a → B.can_get (B.rest bank.old) a }
         requires set { (a : ℕ) → Writes means self.old a → B.can_set (B.rest bank.old) a }

@@ -10,8 +10,7 @@ use indexmap::IndexSet;
 use std::alloc::{AllocFailed, Global};
 use std::marker::Model;
 
-/// Where each resource's cells are. Contracts see the list of its areas; a resource's place is its
-/// index there.
+/// Where each resource's cells are. Contracts see the list of its areas; a resource's place is its index there.
 #[derive(Drop)]
 pub struct Layout {
     areas: Vec<Area>,
@@ -33,9 +32,8 @@ impl Model for Layout {
 }
 
 impl Layout {
-    /// Lays out areas that follow one another from address 0 without gaps, each of another
-    /// resource. More of them than 4,096 pass the limit on resources, and then more than 65,536
-    /// words in all that on words, at line 0.
+    /// Lays out areas that follow one another from address 0 without gaps, each of another resource. More of them than
+    /// 4,096 pass the limit on resources, and then more than 65,536 words in all that on words, at line 0.
     pub fn build(alloc: Global, areas: &[Area]) -> Result<Layout, Or<LimitHit>>
         requires { IsLaid areas.now }
         ensures areas { IfOk result (λ l. l ≡ areas.now) }

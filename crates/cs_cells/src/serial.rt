@@ -12,15 +12,11 @@ pub fn serial_laws<J: Job>()
     // Each job ends as by one run, over the cells that all earlier jobs left.
     ensures once { (js : List J) (c : Cells) (t : ℕ) (j : J) → slice_get js t ≡ Some j
         → slice_get (serial_jobs J.means js c) t ≡ Some (J.means.after j (before J.means js c t)) }
-    ensures last_writer { (js : List J) (c : Cells) → AllValid J.means js
-        → LastWriter J.means js c }
+    ensures last_writer { (js : List J) (c : Cells) → AllValid J.means js → LastWriter J.means js c }
     ensures as_serial { (js : List J) (c : Cells) (t : ℕ) (j : J) (d : Cells)
         → AllValid J.means js → slice_get js t ≡ Some j
         → Agree (Uses J.means j) d (before J.means js c t) → AsSerial J.means js c t j d }
-    ensures footprints { (js : List J) (c : Cells)
-        → map J.means.foot (serial_jobs J.means js c) ≡ map J.means.foot js }
-    ensures areas { (js : List J) (c : Cells)
-        → map J.means.areas (serial_jobs J.means js c) ≡ map J.means.areas js }
-    ensures count { (js : List J) (c : Cells)
-        → length (serial_cells J.means js c) ≡ length c }
+    ensures footprints { (js : List J) (c : Cells) → map J.means.foot (serial_jobs J.means js c) ≡ map J.means.foot js }
+    ensures areas { (js : List J) (c : Cells) → map J.means.areas (serial_jobs J.means js c) ≡ map J.means.areas js }
+    ensures count { (js : List J) (c : Cells) → length (serial_cells J.means js c) ≡ length c }
 {}

@@ -1,22 +1,15 @@
 -- The end of a cycle: what a board at rest has, and what the next cycle finds.
+use Rattle.std.proofs.lemmas.{Grind.common_steps, Option.same_Some, Option.slice_get_within, Option.slice_get-get_or}
 use Rattle.std.proofs.Common.{◌≡◌, ℕ, zero, suc, ◌+◌, ◌<◌, ◌≤◌, List, [], ◌∷◌, ◌++◌, map, length, get_or, take, drop}
 use Rattle.std.proofs.Common.{false, Some, None, refl, sym, ap, ◌∙◌, subst, arith, slice_get}
-use Rattle.std.proofs.lemmas.Option.{same_Some, slice_get_within, slice_get-get_or}
 use Rattle.std.specs.List.{Contains}
-use Rattle.atomic_table.specs.Seated.{TableId}
-use Rattle.atomic_table.specs.declared.shared.Seat.{Seat}
+use Rattle.atomic_table.specs.{Seated.TableId, declared.shared.Seat.Seat}
 use Rattle.cs_board.specs.Resting.{IsSole, areas_in, known_in}
 use Rattle.cs_desk.specs.inner.Resting.{IsResting, IsCleared}
-use Rattle.cs_base.specs.Limits.{most_resources}
-use Rattle.cs_cells.specs.Areas.{IsLaid, word_count}
-use Rattle.cs_cells.specs.Meaning.{Meaning, Frames}
-use Rattle.cs_cells.specs.Serial.{serial_jobs}
+use Rattle.cs_cells.specs.{Meaning.Meaning, Meaning.Frames, Serial.serial_jobs}
 use Rattle.cs_cells.proofs.SerialRun.{foot-serial_jobs, length-serial_jobs}
-use Rattle.cs_board.specs.Counts.{listed}
+use Rattle.cs_board.specs.{Counts.listed, declared.view.Berth.Berth, declared.view.Plan.Plan, declared.view.View.View}
 use Rattle.cs_board.specs.Plans.{IsPlan, area_count, writes_of, places_written}
-use Rattle.cs_board.specs.declared.view.Berth.{Berth}
-use Rattle.cs_board.specs.declared.view.Plan.{Plan}
-use Rattle.cs_board.specs.declared.view.View.{View}
 use Rattle.cs_board.proofs.Conflicts.{used_place, written_used}
 use Rattle.cs_desk.proofs.Laying.{drop_one}
 
@@ -88,11 +81,4 @@ module _ {J : Type 0} (M : Meaning J) (F : Frames M) (k : Plan J) (whole : IsPla
 pub rests_again : {J : Type 0} (M : Meaning J) (k : Plan J) (r c : ℕ) (id : TableId) (s : Seat (Berth J) (View J))
     → IsPlan M k → IsSole id s → areas_in s ≡ k.areas
     → area_count k ≡ r → length k.cells ≡ c → IsCleared k.areas id.words id.slots (known_in s) → IsResting r c id s
-rests_again M k r c id s whole sole areas areas_made cells_made cleared = record {
-  sole = sole;
-  laid = subst IsLaid (sym areas) whole.laid;
-  few = subst (λ z. length z ≤ most_resources) (sym areas) whole.few;
-  areas = ap length areas ∙ areas_made;
-  cells = ap word_count areas ∙ sym whole.cells ∙ cells_made;
-  cleared = subst (λ z. IsCleared z id.words id.slots (known_in s)) (sym areas) cleared;
-}
+rests_again M k r c id s whole sole areas areas_made cells_made cleared = grind (arith, common_steps)

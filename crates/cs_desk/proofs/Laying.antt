@@ -1,34 +1,24 @@
 -- A cycle is laid out on a board that rests, and its jobs and turns are cleared away after it.
+use Rattle.std.proofs.lemmas.{Grind.common_steps, Bool.cases_Bool, Bool.cases_eq, Bool.or_cases, Option.same_Some}
 use Rattle.std.proofs.Common.{◌≡◌, ◌≢◌, ℕ, zero, suc, ◌+◌, ◌-◌, ◌<◌, ◌≤◌, inl, inr, ⊎_elim, List, [], ◌∷◌, ◌++◌, map}
 use Rattle.std.proofs.Common.{length, take, drop, set, replicate, true, false, Option, Some, refl, sym, ap, ◌∙◌, arith}
 use Rattle.std.proofs.Common.{◌==◌, slice_get, eqb-true, ext_get_or, length-append}
-use Rattle.std.proofs.lemmas.Bool.{cases_Bool, cases_eq, or_cases}
 use Rattle.std.proofs.lemmas.List.{length-map, length-replicate, length-set, take-append-drop, length-take-le}
 use Rattle.std.proofs.lemmas.List.{length-drop, replicate-append-replicate}
-use Rattle.std.proofs.lemmas.Option.{same_Some}
 use Rattle.std.proofs.Math.Seq.{take-append_seam}
 use Rattle.cs_desk.proofs.Sole.{cleared_of, cleared_homes}
-use Rattle.cs_board.specs.Resting.{IsLaying, wide}
+use Rattle.cs_board.specs.{Resting.IsLaying, Resting.wide, Counts.listed, Plans.area_count, Plans.edge_count}
+use Rattle.cs_board.specs.{Plans.places_written, Opening.each_below, Opening.first_status, Opening.first_watch}
+use Rattle.cs_board.specs.{declared.view.Berth.Berth, declared.view.Plan.Plan, declared.view.Still.Still}
 use Rattle.cs_desk.specs.inner.Resting.{IsCleared, others_laid, IsClearing, ClearsTurns, plan_over}
-use Rattle.cs_cells.specs.Areas.{word_count}
-use Rattle.cs_cells.specs.Cells.{values, signed}
-use Rattle.cs_cells.specs.Meaning.{Meaning}
-use Rattle.cs_cells.specs.Serial.{serial_cells, serial_jobs}
+use Rattle.cs_cells.specs.{Areas.word_count, Cells.signed, Meaning.Meaning, Serial.serial_jobs}
 use Rattle.cs_cells.specs.declared.footprint.Area.{Area}
 use Rattle.cs_graph.specs.Graph.{Dependencies}
-use Rattle.cs_board.specs.Counts.{listed}
-use Rattle.cs_board.specs.Ending.{IsOver}
-use Rattle.cs_board.specs.Plans.{area_count, edge_count, places_written}
 use Rattle.cs_board.specs.Views.{slot_row, jobs_laid, cells_laid, plan_laid, with_word, with_home}
 use Rattle.cs_board.specs.Words.{Words, all_words, IsSized, status_at, own_at, watch_at, turn_at, word_total}
-use Rattle.cs_board.specs.Opening.{each_below, first_status, first_watch}
-use Rattle.cs_board.specs.declared.view.Berth.{Berth}
 use Rattle.cs_board.specs.declared.view.Berth.TheVariants.{Vacant, Full}
-use Rattle.cs_board.specs.declared.view.Plan.{Plan}
-use Rattle.cs_board.specs.declared.view.Still.{Still}
 use Rattle.cs_board.proofs.AllWords.{set_status, set_own, set_watch, set_turn, sized_status, sized_own, sized_watch}
-use Rattle.cs_board.proofs.Lists.{put_cases}
-use Rattle.cs_board.proofs.Opening.{length-each_below, at_each_below}
+use Rattle.cs_board.proofs.{Lists.put_cases, Opening.length-each_below, Opening.at_each_below}
 
 module _ {A : Type 0} where
   -- what lies behind t equal elements
@@ -60,9 +50,7 @@ module _ {J : Type 0} where
   after js n = map (λ j. Some (Full j)) js ++ replicate n empty
 
   row_next : (t : ℕ) (js : List J) (n : ℕ) → slot_row (t + 1) js n ≡ replicate t empty ++ empty ∷ after js n
-  row_next t js n =
-      let s : t + 1 ≡ suc t = omega arith in
-      ap (λ i. replicate i empty ++ after js n) s ∙ one_more t empty (after js n)
+  row_next t js n = grind (arith, common_steps, one_more, replicate)
 
   -- the slot before the jobs is vacant, and has the next one then
   pub row_vacant : (t : ℕ) (js : List J) (n : ℕ) → slice_get (slot_row (t + 1) js n) t ≡ Some (Some Vacant)
@@ -109,14 +97,7 @@ module _ {J : Type 0} where
 pub words_long : (w : Words)
     → length (all_words w)
     ≡ 1 + (length w.cells + (length w.turns + (length w.status + (length w.own + (length w.watch + length w.spare)))))
-words_long w = omega (
-  arith,
-  length-append w.cells (w.turns ++ (w.status ++ (w.own ++ (w.watch ++ w.spare)))),
-  length-append w.turns (w.status ++ (w.own ++ (w.watch ++ w.spare))),
-  length-append w.status (w.own ++ (w.watch ++ w.spare)),
-  length-append w.own (w.watch ++ w.spare),
-  length-append w.watch w.spare,
-)
+words_long w = grind (arith, common_steps, length-append)
 
 module _ {J : Type 0} (k : Plan J) where
   pub sized_long : (p : Words) → IsSized k p → length (all_words p) ≡ word_total k + k.spare
@@ -167,45 +148,12 @@ module _ {J : Type 0} (k : Plan J) where
         homes = ap (λ l. set l t (Some (Full j))) h.homes ∙ row_filled t k.jobs h.left j at_;
       }
 
-  pub vacant_next : (t e : ℕ) (w : Still J) → IsLaying k (t + 1) e w → slice_get w.homes t ≡ Some (Some Vacant)
-  vacant_next t e w h = ap (λ l. slice_get l t) h.homes ∙ row_vacant t (drop (t + 1) k.jobs) h.left
-
   -- the plan that is laid out is the cycle's
   pub laid_plan : (e : ℕ) (w : Still J) (areas : List Area) (graph : Dependencies) → IsLaying k 0 e w → k.areas ≡ areas
       → k.edges ≡ graph.edges → length k.jobs ≡ k.notes
       → length k.cells ≡ word_count areas → plan_laid areas w graph ≡ k
-  laid_plan e w areas graph h areas_is edges_is jobs_is cells_is = λ i. record {
-    notes = notes_ i;
-    edges = sym edges_is i;
-    areas = sym areas_is i;
-    jobs = jobs_ i;
-    cells = cells_ i;
-    spare = spare_ i;
-  }
-    where
-      jobs_ : jobs_laid w.homes ≡ k.jobs
-      jobs_ = ap jobs_laid h.homes ∙ laid_row k.jobs h.left
-
-      notes_ : length (jobs_laid w.homes) ≡ k.notes
-      notes_ = ap length jobs_ ∙ jobs_is
-
-      cells_ : values (cells_laid areas w) ≡ k.cells
-      cells_ = ap (λ ws. values (take (word_count areas) (drop 1 ws))) h.words
-          ∙ ap (λ n. values (take n (drop 1 (all_words h.parts)))) (sym cells_is ∙ sym h.sized.cells)
-          ∙ ap values (take-append_seam h.parts.cells
-          (h.parts.turns ++ (h.parts.status ++ (h.parts.own ++ (h.parts.watch ++ h.parts.spare)))))
-          ∙ h.cells
-
-      spare_ : length w.words - wide areas (length (jobs_laid w.homes)) (length graph.edges) ≡ k.spare
-      spare_ = omega (
-        arith,
-        ap length h.words,
-        sized_long h.parts h.sized,
-        notes_,
-        ap length edges_is,
-        ap length areas_is,
-        cells_is,
-      )
+  laid_plan e w areas graph h areas_is edges_is jobs_is cells_is =
+      grind (arith, common_steps, laid_row, sized_long, take-append_seam)
 
 -- what is cleared can be laid out
 module _ {J : Type 0} (areas : List Area) (w : Still J) (graph : Dependencies) (jobs : List J)
@@ -221,37 +169,41 @@ module _ {J : Type 0} (areas : List Area) (w : Still J) (graph : Dependencies) (
   m = length graph.edges
 
   pub starts_laying : IsLaying (plan_over areas w graph jobs) (length jobs) 0 w
-  starts_laying = record {
-    parts = p;
-    words = h.words ∙ ap (λ l. 0 ∷ cells_laid areas w ++ (each_below (λ r. 0) (length areas) ++ l)) split;
-    sized = record {
-      cells = sym (length-map (cells_laid areas w) signed);
-      turns = length-each_below (λ r. 0) (length areas);
-      status = length-take-le n (others_laid areas w) (omega (arith, long));
-      own = length-take-le n (drop n (others_laid areas w)) (omega (arith, long, rest1));
-      watch = length-take-le m (drop n (drop n (others_laid areas w))) (omega (arith, long, rest1, rest2));
-      spare = omega (arith, rest3, rest2, rest1, total, long, h.long);
-    };
-    cells = refl;
-    turns = refl;
-    status = λ u l o. absurd (omega arith);
-    own = λ u l o. absurd (omega arith);
-    watch = λ f l o. absurd (omega arith);
-    left = slots_made - n;
-    homes = cleared_homes w slots_made h.vacant h.slots
-        ∙ sym (row_none jobs (slots_made - n) slots_made (omega (arith, slots)));
-  }
-    where
-      p : Words
-      p = record {
+  starts_laying =
+      let p : Words = record {
         cells = cells_laid areas w;
         turns = each_below (λ r. 0) (length areas);
         status = take n (others_laid areas w);
         own = take n (drop n (others_laid areas w));
         watch = take m (drop n (drop n (others_laid areas w)));
         spare = drop m (drop n (drop n (others_laid areas w)));
+      } in
+      let long : n + (n + m) ≤ length (others_laid areas w) = omega (arith, total, h.count, h.long, words) in
+      let rest1 : length (drop n (others_laid areas w)) ≡ length (others_laid areas w) - n =
+      length-drop n (others_laid areas w) in
+      let rest2 : length (drop n (drop n (others_laid areas w))) ≡ length (drop n (others_laid areas w)) - n =
+      length-drop n (drop n (others_laid areas w)) in
+      record {
+        parts = p;
+        words = h.words ∙ ap (λ l. 0 ∷ cells_laid areas w ++ (each_below (λ r. 0) (length areas) ++ l)) split;
+        sized = record {
+          cells = sym (length-map (cells_laid areas w) signed);
+          turns = length-each_below (λ r. 0) (length areas);
+          status = length-take-le n (others_laid areas w) (omega (arith, long));
+          own = length-take-le n (drop n (others_laid areas w)) (omega (arith, long, rest1));
+          watch = length-take-le m (drop n (drop n (others_laid areas w))) (omega (arith, long, rest1, rest2));
+          spare = omega (arith, rest3, rest2, rest1, total, long, h.long);
+        };
+        cells = refl;
+        turns = refl;
+        status = λ u l o. absurd (omega arith);
+        own = λ u l o. absurd (omega arith);
+        watch = λ f l o. absurd (omega arith);
+        left = slots_made - n;
+        homes = cleared_homes w slots_made h.vacant h.slots
+            ∙ sym (row_none jobs (slots_made - n) slots_made (omega (arith, slots)));
       }
-
+    where
       total : length w.words ≡ 1 + (length (cells_laid areas w) + (length areas + length (others_laid areas w)))
       total = ap length h.words ∙ omega (
         arith,
@@ -259,15 +211,6 @@ module _ {J : Type 0} (areas : List Area) (w : Still J) (graph : Dependencies) (
         length-append (each_below (λ r. 0) (length areas)) (others_laid areas w),
         length-each_below (λ r. 0) (length areas),
       )
-
-      long : n + (n + m) ≤ length (others_laid areas w)
-      long = omega (arith, total, h.count, h.long, words)
-
-      rest1 : length (drop n (others_laid areas w)) ≡ length (others_laid areas w) - n
-      rest1 = length-drop n (others_laid areas w)
-
-      rest2 : length (drop n (drop n (others_laid areas w))) ≡ length (drop n (others_laid areas w)) - n
-      rest2 = length-drop n (drop n (others_laid areas w))
 
       rest3 : length (drop m (drop n (drop n (others_laid areas w))))
           ≡ length (drop n (drop n (others_laid areas w))) - m
@@ -314,17 +257,6 @@ module _ {J : Type 0} (M : Meaning J) (k : Plan J) where
   abbrev left_jobs : List J
   left_jobs = serial_jobs M k.jobs k.cells
 
-  pub starts_clearing : (w : Still J) → IsOver k M w → IsClearing M k 0 w
-  starts_clearing w h = record {
-    parts = h.parts;
-    words = h.words;
-    sized = h.sized;
-    cells = h.cells;
-    turns = λ r low none. h.turns r low (λ t. none t (omega arith));
-    left = h.vacant;
-    homes = h.homes;
-  }
-
   -- one more note is cleared
   pub clears_note : (t : ℕ) (j : J) (w w' : Still J) → slice_get left_jobs t ≡ Some j
       → ClearsTurns k (places_written M k t) [] (with_home w t (Some Vacant)) w'
@@ -363,6 +295,11 @@ module _ {J : Type 0} (M : Meaning J) (k : Plan J) where
       → ((u r : ℕ) → length left_jobs ≤ u → listed (places_written M k u) r ≡ false)
       → IsCleared k.areas words_made slots_made w
   all_cleared w words_made slots_made h cells words slots none =
+      let turns : h.parts.turns ≡ each_below (λ r. 0) (length k.areas) =
+      ext_get_or 0 h.parts.turns (each_below (λ r. 0) (length k.areas))
+      (h.sized.turns ∙ sym (length-each_below (λ r. 0) (length k.areas)))
+      (λ i l. h.turns i (omega (arith, l, h.sized.turns)) (λ u m. none u i m)
+      ∙ sym (at_each_below (λ r. 0) (length k.areas) i (omega (arith, l, h.sized.turns)))) in
       (cleared_of k.areas words_made slots_made w h.parts.cells
       (h.parts.status ++ (h.parts.own ++ (h.parts.watch ++ h.parts.spare)))
       (h.words ∙ ap (λ z. 0 ∷ h.parts.cells
@@ -377,17 +314,3 @@ module _ {J : Type 0} (M : Meaning J) (k : Plan J) where
         row_long (length left_jobs) (drop (length left_jobs) left_jobs) h.left,
         length-drop (length left_jobs) left_jobs,
       )))).1
-    where
-      turns : h.parts.turns ≡ each_below (λ r. 0) (length k.areas)
-      turns = ext_get_or 0 h.parts.turns (each_below (λ r. 0) (length k.areas))
-          (h.sized.turns ∙ sym (length-each_below (λ r. 0) (length k.areas)))
-          (λ i l. h.turns i (omega (arith, l, h.sized.turns)) (λ u m. none u i m)
-          ∙ sym (at_each_below (λ r. 0) (length k.areas) i (omega (arith, l, h.sized.turns))))
-
-  pub clearing_cells : (t : ℕ) (w : Still J) → IsClearing M k t w → length k.cells ≡ word_count k.areas
-      → values (cells_laid k.areas w) ≡ serial_cells M k.jobs k.cells
-  clearing_cells t w h cells = ap (λ ws. values (take (word_count k.areas) (drop 1 ws))) h.words
-      ∙ ap (λ n. values (take n (drop 1 (all_words h.parts)))) (sym cells ∙ sym h.sized.cells)
-      ∙ ap values (take-append_seam h.parts.cells
-      (h.parts.turns ++ (h.parts.status ++ (h.parts.own ++ (h.parts.watch ++ h.parts.spare)))))
-      ∙ h.cells

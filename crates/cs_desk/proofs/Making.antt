@@ -1,37 +1,20 @@
 -- A desk as it is made.
-use Rattle.std.proofs.Common.{◌≡◌, ℕ, ◌+◌, ◌<◌, ◌≤◌, ⊎_elim, List, [], ◌∷◌, ◌++◌, length, replicate, Some, None, nat_lt}
-use Rattle.std.proofs.Common.{refl, sym, ap, ◌∙◌, subst, arith, if◌then◌else◌, is_some, length-append}
-use Rattle.std.proofs.lemmas.Bool.{cases_lt, lt-ltb}
-use Rattle.atomic_table.specs.Seated.{TableId}
-use Rattle.atomic_table.specs.Table.{opening}
-use Rattle.atomic_table.specs.declared.shared.Seat.{Seat}
-use Rattle.cs_base.specs.Limits.{most_resources, most_words}
-use Rattle.cs_base.specs.declared.limit.Limit.TheVariants as limit
-use Rattle.cs_board.specs.Resting.{still_in, wide}
+use Rattle.std.proofs.lemmas.{Grind.common_steps, Bool.cases_lt, Bool.lt-ltb}
+use Rattle.std.proofs.Common.{◌≡◌, ℕ, ◌+◌, ◌≤◌, List, [], ◌∷◌, ◌++◌, length, replicate, Some, None, nat_lt, refl, sym}
+use Rattle.std.proofs.Common.{ap, ◌∙◌, subst, arith, is_some, length-append}
+use Rattle.atomic_table.specs.{Seated.TableId, Table.opening, declared.shared.Seat.Seat}
+use Rattle.cs_base.specs.Limits.{most_resources}
+use Rattle.cs_board.specs.{Resting.still_in, Resting.wide, Rule.Always, Views.resting_view, Opening.each_below}
+use Rattle.cs_board.specs.{declared.view.Berth.Berth, declared.view.Berth.TheVariants.Vacant, declared.view.View.View}
 use Rattle.cs_desk.specs.inner.Resting.{IsResting, IsCleared}
 use Rattle.cs_desk.proofs.Sole.{cleared_of}
 use Rattle.cs_cells.specs.Areas.{IsLaid, limit_passed, word_count}
-use Rattle.cs_cells.specs.Meaning.{Meaning}
-use Rattle.cs_cells.specs.declared.footprint.Area.{Area}
-use Rattle.cs_board.specs.Rule.{Always}
-use Rattle.cs_board.specs.Views.{resting_view}
-use Rattle.cs_board.specs.Opening.{each_below}
-use Rattle.cs_board.specs.declared.view.Berth.{Berth}
-use Rattle.cs_board.specs.declared.view.Berth.TheVariants.{Vacant}
-use Rattle.cs_board.specs.declared.view.View.{View}
-use Rattle.cs_board.proofs.Opening.{length-each_below}
-use Rattle.cs_board.proofs.Rests.{starts}
+use Rattle.cs_cells.specs.{Meaning.Meaning, declared.footprint.Area.Area}
+use Rattle.cs_board.proofs.{Opening.length-each_below, Rests.starts}
+use Rattle.cs_base.specs.declared.limit.Limit.TheVariants as limit
 
 few_areas : (areas : List Area) → limit_passed areas ≡ None → length areas ≤ most_resources
-few_areas areas h = ⊎_elim
-    (λ (l : most_resources < length areas). absurd (
-    let e : limit_passed areas ≡ Some (record { limit = limit.Resources; line = 0 }) =
-    ap (λ b. if b then Some (record { limit = limit.Resources; line = 0 }) else
-    (if nat_lt most_words (word_count areas) then Some (record { limit = limit.Words; line = 0 }) else None))
-    (lt-ltb most_resources (length areas) l) in
-    let n : None ≡ Some (record { limit = limit.Resources; line = 0 }) = sym h ∙ e in cc))
-    (λ (l : length areas ≤ most_resources). l)
-    (cases_lt most_resources (length areas))
+few_areas areas h = grind (arith, common_steps, cases_lt, lt-ltb, nat_lt)
 
 pub desk_starts : {J : Type 0} (M : Meaning J) (areas : List Area) (ws ws' : List ℕ) (slots : List (Berth J)) (n n' : ℕ)
     → ws ≡ ws' → slots ≡ replicate n Vacant → n' ≡ n
@@ -47,14 +30,7 @@ desk_starts M areas ws ws' slots n n' same_words vacant count =
 
 pub row_long : (areas : List Area) (cells : List ℕ) (n m : ℕ) → length cells ≡ word_count areas
     → length (0 ∷ cells ++ (each_below (λ r. 0) (length areas) ++ each_below (λ r. 0) (n + (n + m)))) ≡ wide areas n m
-row_long areas cells n m long = omega (
-  arith,
-  long,
-  length-append cells (each_below (λ r. 0) (length areas) ++ each_below (λ r. 0) (n + (n + m))),
-  length-append (each_below (λ r. 0) (length areas)) (each_below (λ r. 0) (n + (n + m))),
-  length-each_below (λ r. 0) (length areas),
-  length-each_below (λ r. 0) (n + (n + m)),
-)
+row_long areas cells n m long = grind (arith, common_steps, length-append, length-each_below)
 
 pub desk_rests : {J : Type 0} (areas : List Area) (ws cells others : List ℕ) (n r c : ℕ) (id : TableId)
     (s : Seat (Berth J) (View J)) → s.table_id ≡ id

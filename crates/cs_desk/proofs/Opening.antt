@@ -1,25 +1,17 @@
 -- What is known of the plan of a cycle that a desk opens.
+use Rattle.std.proofs.lemmas.{Grind.common_steps, List.append_assoc, List.length-map}
 use Rattle.std.proofs.Common.{◌≡◌, ℕ, ◌-◌, ◌≤◌, List, [], ◌∷◌, ◌++◌, map, length, drop, Some, refl, sym, ap, ◌∙◌, subst}
-use Rattle.std.proofs.Common.{arith, slice_get}
-use Rattle.std.proofs.Math.Seq.{drop-append_seam}
-use Rattle.std.proofs.lemmas.List.{append_assoc, length-map}
+use Rattle.std.proofs.{Common.arith, Common.slice_get, Math.Seq.drop-append_seam}
 use Rattle.std.proofs.lemmas.Option.{slice_get_within, get_or_from_slice_get}
 use Rattle.std.specs.List.{All}
 use Rattle.cs_base.specs.Limits.{most_resources}
-use Rattle.cs_board.specs.Built.{IsBuilt}
-use Rattle.cs_board.specs.Resting.{IsLaying, wide}
+use Rattle.cs_board.specs.{Built.IsBuilt, Resting.IsLaying, Resting.wide, Plans.IsPlan, Views.cells_laid}
+use Rattle.cs_board.specs.{Views.plan_laid, declared.view.Plan.Plan, declared.view.Still.Still}
 use Rattle.cs_desk.specs.inner.Resting.{plan_over}
 use Rattle.cs_desk.proofs.Laying.{laid_plan}
 use Rattle.cs_cells.specs.Areas.{IsLaid, word_count, IsFootprint}
-use Rattle.cs_cells.specs.Cells.{values, signed}
-use Rattle.cs_cells.specs.Meaning.{Meaning}
-use Rattle.cs_cells.specs.Serial.{AllValid}
-use Rattle.cs_cells.specs.declared.footprint.Area.{Area}
+use Rattle.cs_cells.specs.{Cells.values, Cells.signed, Meaning.Meaning, Serial.AllValid, declared.footprint.Area.Area}
 use Rattle.cs_graph.specs.Graph.{Dependencies, IsFit, LeadsForward, StandTogether}
-use Rattle.cs_board.specs.Plans.{IsPlan}
-use Rattle.cs_board.specs.Views.{cells_laid, plan_laid}
-use Rattle.cs_board.specs.declared.view.Plan.{Plan}
-use Rattle.cs_board.specs.declared.view.Still.{Still}
 
 all_at : {A : Type 0} (P : A → Type 0) (xs : List A) (t : ℕ) (x : A) → All P xs → slice_get xs t ≡ Some x → P x
 all_at P xs t x h at_ = subst P (get_or_from_slice_get xs t x x at_) (h t x (slice_get_within xs t x at_))
@@ -53,11 +45,7 @@ got (z ∷ xs) ys x = got xs ys x
 
 pub popped : {A : Type 0} (X jobs others : List A) (job : A) → (jobs ++ job ∷ []) ++ others ≡ X
     → (jobs ++ drop (length jobs) X ≡ X) × (slice_get X (length jobs) ≡ Some job)
-popped X jobs others job e =
-    let is : jobs ++ job ∷ others ≡ X = sym (append_assoc jobs (job ∷ []) others) ∙ e in (
-      ap (λ l. jobs ++ l) (ap (drop (length jobs)) (sym is) ∙ drop-append_seam jobs (job ∷ others)) ∙ is,
-      ap (λ l. slice_get l (length jobs)) (sym is) ∙ got jobs others job,
-    )
+popped X jobs others job e = grind (arith, common_steps, append_assoc, drop-append_seam, got)
 
 module _ {J : Type 0} where
   -- the plan of a desk with so many words
@@ -94,14 +82,4 @@ module _ {J : Type 0} where
       → length areas ≡ r → word_count areas ≡ c
       → length jobs ≤ slots → wide areas (length jobs) (length graph.edges) ≤ words → IsBuilt k graph n r c words slots
   begin_built areas w words slots graph jobs k n r c is cells levels n_is r_is c_is slots_are words_are =
-      let long : length (values (cells_laid areas w)) ≡ word_count areas =
-      length-map (cells_laid areas w) signed ∙ cells in
-      subst (λ z. IsBuilt z graph n r c words slots) (sym is) (record {
-        notes = sym levels ∙ sym n_is;
-        levels = sym n_is;
-        edges = refl;
-        areas = r_is;
-        cells = long ∙ c_is;
-        words = omega (arith, words_are, long);
-        slots = omega (arith, slots_are, levels, n_is);
-      })
+      grind (arith, common_steps, length-map)

@@ -1,8 +1,6 @@
 -- Cells that lie in plain memory, or in the words of the table.
 use Rattle.std.proofs.Common.{◌≡◌, ◌<◌, ℕ, zero, suc, List, [], ◌∷◌, length, Option, Some, None, slice_get, refl, arith}
-use Rattle.std.specs.Global.{Vec}
-use Rattle.std.specs.Option.{ForSome}
-use Rattle.std.specs.Prelude.{ℤ, slice_index}
+use Rattle.std.specs.{Global.Vec, Option.ForSome, Prelude.ℤ, Prelude.slice_index}
 use Rattle.cs_cells.specs.Cells.{Cells, signed, values}
 use Rattle.cs_desk.specs.Kept.{cells_now}
 

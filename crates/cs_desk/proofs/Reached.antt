@@ -1,21 +1,15 @@
 -- Jobs that run one by one over a desk's cells.
-use Rattle.std.proofs.Common.{◌≡◌, ℕ, ◌<◌, ◌||◌, List, true, subst, ⊎_elim}
-use Rattle.std.proofs.lemmas.Bool.{or_cases}
-use Rattle.cs_cells.specs.Areas.{IsLaid, word_count}
-use Rattle.cs_cells.specs.Cells.{covers}
+use Rattle.std.proofs.Common.{arith, ◌≡◌, ℕ, ◌<◌, List, true, subst}
+use Rattle.std.proofs.lemmas.{Grind.common_steps, Bool.or_cases}
+use Rattle.cs_cells.specs.{Areas.IsLaid, Areas.word_count, Cells.covers, declared.footprint.Area.Area}
 use Rattle.cs_cells.specs.Meaning.{Meaning, Uses, Writes}
-use Rattle.cs_cells.specs.declared.footprint.Area.{Area}
 use Rattle.cs_cells.proofs.Laid.{covered_below}
 
 module _ {J : Type 0} (M : Meaning J) where
   -- what a job uses or writes lies among the cells of its layout
   pub used_below : (areas : List Area) (j : J) (a : ℕ) → IsLaid areas → M.areas j ≡ areas → Uses M j a
       → a < word_count areas
-  used_below areas j a laid e u = ⊎_elim
-      (λ h. covered_below areas (M.foot j).uses a laid h)
-      (λ h. covered_below areas (M.foot j).writes a laid h)
-      (or_cases (covers areas (M.foot j).uses a) (covers areas (M.foot j).writes a)
-      (subst (λ z. (covers z (M.foot j).uses a || covers z (M.foot j).writes a) ≡ true) e u))
+  used_below areas j a laid e u = grind (arith, common_steps, covered_below, or_cases)
 
   pub written_below : (areas : List Area) (j : J) (a : ℕ) → IsLaid areas → M.areas j ≡ areas → Writes M j a
       → a < word_count areas

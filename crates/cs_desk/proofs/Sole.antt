@@ -1,30 +1,20 @@
 -- The one seat of a board that rests, after a step.
+use Rattle.std.proofs.lemmas.{Grind.common_steps, List.length-replicate, List.length-set, List.map-set}
 use Rattle.std.proofs.Common.{◌≡◌, ℕ, zero, suc, ◌+◌, ◌<◌, ◌≤◌, List, [], ◌∷◌, ◌++◌, length, set, take, drop, replicate}
-use Rattle.std.proofs.Common.{true, false, Option, Some, None, refl, sym, ap, ◌∙◌, subst, arith, slice_get}
-use Rattle.std.proofs.Common.{length-append, drop-drop, drop_at, is_some}
-use Rattle.std.proofs.lemmas.List.{get_or_append_left, length-replicate, length-set, map-set}
-use Rattle.std.proofs.Math.Seq.{take-append_seam}
+use Rattle.std.proofs.Common.{true, false, Option, Some, None, refl, sym, ap, ◌∙◌, subst, arith, slice_get, drop-drop}
+use Rattle.std.proofs.{Common.drop_at, Common.is_some, Math.Seq.take-append_seam}
 use mathlib.Core.Option.{none}
-use Rattle.atomic_table.specs.Seated.{TableId}
-use Rattle.atomic_table.specs.Table.{step, rest}
-use Rattle.atomic_table.specs.declared.shared.Seat.{Seat}
-pub use Rattle.cs_board.proofs.Sole.{sole_knows, sole_carries}
+use Rattle.atomic_table.specs.{Seated.TableId, Table.step, Table.rest, declared.shared.Seat.Seat}
 use Rattle.cs_board.specs.Resting.{IsSole, still_in, areas_in, known_in}
 use Rattle.cs_desk.specs.inner.Resting.{IsResting, IsCleared, all_vacant, others_laid}
 use Rattle.cs_base.specs.Limits.{most_resources}
-use Rattle.cs_cells.specs.Areas.{IsLaid, word_count}
-use Rattle.cs_cells.specs.Cells.{values, signed, cell}
-use Rattle.cs_cells.specs.declared.footprint.Area.{Area}
-use Rattle.cs_board.specs.Plays.{Sat, lays, reads, reaches, leaves}
+use Rattle.cs_cells.specs.{Areas.IsLaid, Areas.word_count, Cells.values, Cells.signed, declared.footprint.Area.Area}
+use Rattle.cs_board.specs.{Plays.Sat, Plays.lays, Plays.reaches, Plays.leaves, Opening.each_below}
+use Rattle.cs_board.specs.{declared.view.Berth.Berth, declared.view.Still.Still, declared.view.View.View}
 use Rattle.cs_board.specs.Views.{laid, with_word, with_home, cells_laid}
-use Rattle.cs_board.specs.Words.{at}
-use Rattle.cs_board.specs.Opening.{each_below}
-use Rattle.cs_board.specs.declared.view.Berth.{Berth}
 use Rattle.cs_board.specs.declared.view.Berth.TheVariants.{Vacant, Full, Told}
-use Rattle.cs_board.specs.declared.view.Still.{Still}
-use Rattle.cs_board.specs.declared.view.View.{View}
-use Rattle.cs_board.proofs.AllWords.{one_get, one_set}
-use Rattle.cs_board.proofs.Opening.{length-each_below}
+use Rattle.cs_board.proofs.{AllWords.one_set, Opening.length-each_below}
+pub use Rattle.cs_board.proofs.Sole.{sole_knows, sole_carries}
 
 past_drop : (xs ys : List ℕ) (n i : ℕ) → length xs ≡ n → drop (n + i) (xs ++ ys) ≡ drop i ys
 past_drop xs ys n i l = sym (drop-drop i n (xs ++ ys)) ∙ ap (drop i) (drop_at xs ys n l)
@@ -33,11 +23,6 @@ set-append_front : (xs ys : List ℕ) (i x : ℕ) → i < length xs → set (xs 
 set-append_front [] ys i x l = absurd (omega arith)
 set-append_front (y ∷ xs) ys zero x l = refl
 set-append_front (y ∷ xs) ys (suc i) x l = ap (λ r. y ∷ r) (set-append_front xs ys i x (omega arith))
-
-map_at : (xs : List ℕ) (i : ℕ) → i < length xs → cell (values xs) i ≡ signed (at xs i)
-map_at [] i l = absurd (omega arith)
-map_at (x ∷ xs) zero l = refl
-map_at (x ∷ xs) (suc i) l = map_at xs i (omega arith)
 
 module _ {A : Type 0} where
   pub set_twice : (l : List A) (t : ℕ) (x y : A) → set (set l t x) t y ≡ set l t y
@@ -59,20 +44,7 @@ module _ {J : Type 0} where
 
   pub sole_after : (id : TableId) (s s' : Sits J) (w : Still J) → IsSole id s → s'.table_id ≡ s.table_id
       → s'.me ≡ (laid s.me.0 w, []) → IsSole id s'
-  sole_after id s s' w h table me = record {
-    table = table ∙ h.table;
-    live = ap (λ z. z.0.spent) me ∙ h.live;
-    knows = ap (λ z. is_some z.0.rest) me;
-    carries = ap (λ z. length z.1) me;
-  }
-
-  pub sole_same : (id : TableId) (s s' : Sits J) → IsSole id s → s'.table_id ≡ s.table_id → s'.me ≡ s.me → IsSole id s'
-  sole_same id s s' h table me = record {
-    table = table ∙ h.table;
-    live = ap (λ z. z.0.spent) me ∙ h.live;
-    knows = ap (λ z. is_some z.0.rest) me ∙ h.knows;
-    carries = ap (λ z. length z.1) me ∙ h.carries;
-  }
+  sole_after id s s' w h table me = grind (arith, common_steps, is_some)
 
   -- what is vacant is a row of vacant slots
   pub cleared_homes : (w : Still J) (slots : ℕ) → all_vacant w.homes ≡ true → length w.homes ≡ slots
@@ -138,18 +110,6 @@ module _ {J : Type 0} where
       (length-set w.words (1 + a) x ∙ h.count)
       (cleared_homes w slots h.vacant h.slots)
 
-  -- a desk's seat that knows what it knew, or one cell otherwise
-  pub resting_same : (r c : ℕ) (id : TableId) (s s' : Sits J) → IsResting r c id s → IsSole id s' → s'.me ≡ s.me
-      → IsResting r c id s'
-  resting_same r c id s s' h sole me = record {
-    sole = sole;
-    laid = subst (λ z. IsLaid z.0.plan.areas) (sym me) h.laid;
-    few = subst (λ z. length z.0.plan.areas ≤ most_resources) (sym me) h.few;
-    areas = ap (λ z. length z.0.plan.areas) me ∙ h.areas;
-    cells = ap (λ z. word_count z.0.plan.areas) me ∙ h.cells;
-    cleared = subst (λ z. IsCleared z.0.plan.areas id.words id.slots (still_in z.0.rest)) (sym me) h.cleared;
-  }
-
   pub resting_set : (r c : ℕ) (id : TableId) (s s' : Sits J) (a x : ℕ) → IsResting r c id s → IsSole id s'
       → areas_in s' ≡ areas_in s
       → known_in s' ≡ with_word (known_in s) (1 + a) x → a < word_count (areas_in s) → IsResting r c id s'
@@ -164,43 +124,17 @@ module _ {J : Type 0} where
         ((cleared_set (areas_in s) id.words id.slots (known_in s) a x h.cleared low).1));
   }
 
-  -- a word of the cells is the cell's
-  pub reads_cell : (areas : List Area) (words slots : ℕ) (w : Still J) (a : ℕ) → IsCleared areas words slots w
-      → a < word_count areas → signed (at w.words (1 + a)) ≡ cell (values (cells_laid areas w)) a
-  reads_cell areas words slots w a h low = ap (λ ws. signed (at ws (1 + a))) h.words
-      ∙ ap signed (one_get 0 (cells_laid areas w ++ (each_below (λ r. 0) (length areas) ++ others_laid areas w)) a
-      ∙ get_or_append_left (cells_laid areas w) (each_below (λ r. 0) (length areas) ++ others_laid areas w) 0 a
-      (omega (arith, h.long, low))) ∙ sym (map_at (cells_laid areas w) a (omega (arith, h.long, low)))
-
   pub sets_cell : (areas : List Area) (words slots : ℕ) (w : Still J) (a x : ℕ) → IsCleared areas words slots w
       → a < word_count areas
       → values (cells_laid areas (with_word w (1 + a) x)) ≡ set (values (cells_laid areas w)) a (signed x)
   sets_cell areas words slots w a x h low =
       ap values (cleared_set areas words slots w a x h low).0 ∙ map-set signed (cells_laid areas w) a x
 
-  pub within_words : (areas : List Area) (words slots : ℕ) (w : Still J) → IsCleared areas words slots w
-      → 1 + (word_count areas + length areas) ≤ words
-  within_words areas words slots w h = omega (
-    arith,
-    h.count,
-    ap length h.words,
-    h.long,
-    length-append (cells_laid areas w) (each_below (λ r. 0) (length areas) ++ others_laid areas w),
-    length-append (each_below (λ r. 0) (length areas)) (others_laid areas w),
-    length-each_below (λ r. 0) (length areas),
-  )
-
 -- What the steps of a board that rests tell. s is the seat before them, n the seat after a step.
 module _ {J : Type 0} (id : TableId) (s : Seat (Berth J) (View J)) (h : IsSole id s) where
   pub told_laid : (n : Sat J) (slots i x : ℕ) → lays (step slots i x 0 none) s.me x n
       → n ≡ (laid s.me.0 (with_word (known_in s) i x), [])
-  told_laid n slots i x told =
-      told (known_in s) (sole_knows id s h)
-      ∙ ap (λ z. (laid s.me.0 (with_word (known_in s) i x), z)) (sole_carries id s h)
-
-  pub told_read : (n : Sat J) (slots i r : ℕ) → reads (step slots i 0 0 none) s.me r n
-      → (n ≡ s.me) × (r ≡ at (known_in s).words i)
-  told_read n slots i r told = (told.0, told.1 (known_in s) (sole_knows id s h))
+  told_laid n slots i x told = grind (arith, common_steps)
 
   module _ (t : ℕ) (b : Berth J) (lies : slice_get (known_in s).homes t ≡ Some (Some b)) where
     abbrev taken : Still J
@@ -215,14 +149,7 @@ module _ {J : Type 0} (id : TableId) (s : Seat (Berth J) (View J)) (h : IsSole i
       -- what was in the slot, and what the seat carries then
       pub swapped : (x y : Berth J) (m : Sat J) → n.1 ≡ (t, x) ∷ rest n.1 → m ≡ (n.0, (t, y) ∷ rest n.1)
           → (x ≡ b) × (m ≡ (laid s.me.0 taken, (t, y) ∷ []))
-      swapped x y m found given = (
-        ap (λ l. berth_of b l) (sym found ∙ ap (λ z. z.1) reached),
-        given ∙ ap (λ z. (z.0, (t, y) ∷ rest z.1)) reached,
-      )
-        where
-          berth_of : Berth J → List (ℕ × Berth J) → Berth J
-          berth_of d [] = d
-          berth_of d (z ∷ zs) = z.1
+      swapped x y m found given = grind (arith, common_steps)
 
     module _ (m : Sat J) (x : Berth J) (held : m ≡ (laid s.me.0 taken, (t, x) ∷ [])) where
       pub held_live : m.0.spent ≡ false
@@ -236,13 +163,12 @@ module _ {J : Type 0} (id : TableId) (s : Seat (Berth J) (View J)) (h : IsSole i
 
       pub told_left : (n : Sat J) (slots r : ℕ) → leaves (step slots 0 0 0 none) m r n
           → n ≡ (laid s.me.0 (with_home (known_in s) t (Some x)), [])
-      told_left n slots r told = told taken t x held_knows held_carries
+      told_left n slots r told =
+          let no_slot : List (ℕ × Berth J) = [] in
+          told taken t x held_knows held_carries
           ∙ ap (λ z. (laid z.0 (with_home taken t (Some x)), no_slot)) held
           ∙ ap (λ l. (laid s.me.0 (record { words = (known_in s).words; homes = l }), no_slot))
           (set_twice (known_in s).homes t None (Some x))
-        where
-          no_slot : List (ℕ × Berth J)
-          no_slot = []
 
     -- a slot that is reached, has its berth exchanged for y, and is left
     pub exchanged : (n m p : Sat J) (slots r q : ℕ) (x y : Berth J) → reaches (step slots t 0 0 none) s.me r n

@@ -1,10 +1,7 @@
 -- What the jobs of a control cycle have to meet, and what has become of them and of the desk when they have run.
 use Rattle.std.specs.Prelude.{◌≡◌, List, map, length, All}
-use Rattle.cs_cells.specs.Areas.{IsFootprint}
-use Rattle.cs_cells.specs.Meaning.{Meaning}
-use Rattle.cs_cells.specs.Serial.{serial_cells, serial_jobs}
-use Rattle.cs_desk.specs.Desk.{areas, cells, note_room, word_room, HasRoom}
-use Rattle.cs_desk.specs.declared.desk.Desk.{Desk}
+use Rattle.cs_cells.specs.{Areas.IsFootprint, Meaning.Meaning, Serial.serial_cells, Serial.serial_jobs}
+use Rattle.cs_desk.specs.{Desk.areas, Desk.cells, Desk.note_room, Desk.word_room, Desk.HasRoom, declared.desk.Desk.Desk}
 use Rattle.cs_graph.specs.Graph.{Dependencies, IsFit}
 
 module _ {J K : Type 0} (M : Meaning K) where

@@ -1,14 +1,10 @@
 -- What stands between two cycles: the cells, the layout, and how much room there is.
 use Rattle.std.specs.Prelude.{ℕ, ◌≤◌, List}
-pub use Rattle.cs_desk.specs.Kept.{Standing}
-use Rattle.cs_desk.specs.Kept.{cells_now, plan_of}
-use Rattle.cs_desk.specs.declared.desk.Desk.{Desk}
-use Rattle.cs_board.specs.Resting.{areas_in, known_in, wide}
-use Rattle.cs_cells.specs.Cells.{Cells, values}
-use Rattle.cs_cells.specs.declared.footprint.Area.{Area}
+use Rattle.cs_desk.specs.{Kept.cells_now, Kept.plan_of, declared.desk.Desk.Desk}
+use Rattle.cs_board.specs.{Resting.areas_in, Resting.known_in, Resting.wide, Views.cells_laid, declared.view.Plan.Plan}
+use Rattle.cs_cells.specs.{Cells.Cells, Cells.values, declared.footprint.Area.Area}
 use Rattle.cs_graph.specs.Graph.{Dependencies}
-use Rattle.cs_board.specs.Views.{cells_laid}
-use Rattle.cs_board.specs.declared.view.Plan.{Plan}
+pub use Rattle.cs_desk.specs.Kept.{Standing}
 
 module _ {J : Type 0} where
   -- the layout of the cells

@@ -2,10 +2,8 @@
 use Rattle.std.specs.Prelude.{ℕ, ℤ, ◌-◌, List, length, Option, Some, None}
 use Rattle.std.specs.Global.{Vec}
 use Rattle.atomic_table.specs.Seated.{TableId}
-use Rattle.cs_board.specs.Resting.{wide}
-use Rattle.cs_board.specs.declared.view.Plan.{Plan}
-use Rattle.cs_cells.specs.Cells.{Cells}
-use Rattle.cs_cells.specs.declared.footprint.Area.{Area}
+use Rattle.cs_board.specs.{Resting.wide, declared.view.Plan.Plan}
+use Rattle.cs_cells.specs.{Cells.Cells, declared.footprint.Area.Area}
 use Rattle.cs_graph.specs.Graph.{Dependencies}
 
 -- which table, and the layout of its cells

@@ -9,9 +9,9 @@ use cs_edge::Gate;
 use cs_row::run_in_order;
 use std::alloc::Global;
 
-/// How many cells may be moved into plain memory for each cycle in a row that was the caller's alone: each has to go
-/// back by an atomic store before the next board.
-const CELLS_A_CYCLE: u32 = 16;
+/// How many cells may be moved into plain memory for each note that the caller ran alone since the last board: each has
+/// to go back by an atomic store before the next board.
+const CELLS_A_NOTE: u32 = 16;
 
 impl<J: Job> Desk<J> {
     ghost use Rattle.cs_desk.specs.Cycles.{AreOver, WasPlayed};
@@ -33,15 +33,15 @@ impl<J: Job> Desk<J> {
         requires over { AreOver K.means self.old jobs.items }
         ensures { WasPlayed K.means self.old jobs.items result self.new }
     {
-        self.loosen(*jobs.allocator());
+        self.loosen(*jobs.allocator(), notes);
         let mut jobs = jobs;
         run_in_order(&mut jobs, self, gate, cycle, 0);
         Receipt { notes, jobs }
     }
 
-    /// One cycle more in a row is the caller's alone; after enough of them, by the number of cells, these are moved
-    /// into plain memory.
-    fn loosen(&mut self, alloc: Global)
+    /// So many notes more in a row are the caller's alone; after enough of them, by the number of cells, the cells are
+    /// moved into plain memory.
+    fn loosen(&mut self, alloc: Global, notes: u32)
         ensures cells { cells self.new ≡ cells self.old }
         ensures areas { areas self.new ≡ areas self.old }
         ensures room { (note_room self.new ≡ note_room self.old) × (word_room self.new ≡ word_room self.old) }
@@ -49,9 +49,9 @@ impl<J: Job> Desk<J> {
         if self.plain.is_some() {
             return;
         }
-        self.alone = self.alone.saturating_add(1);
+        self.alone = self.alone.saturating_add(notes);
         let count = self.resting.cells;
-        if self.alone < count / CELLS_A_CYCLE {
+        if self.alone < count / CELLS_A_NOTE {
             return;
         }
         if let Ok(numbers) = numbers_of(alloc, &mut self.resting, count) {

@@ -19,7 +19,7 @@ use std::alloc::Global;
 pub struct Desk<J: Job> {
     pub(crate) resting: RestingTable<J>,
     pub(crate) plain: Option<Vec<Num>>,
-    /// How many cycles in a row were the caller's alone while the cells lay in the table's words.
+    /// How many notes in a row the caller ran alone while the cells lay in the table's words.
     pub(crate) alone: u32,
     ghost long: { ForSome plain (λ numbers. length numbers.items ≡ word_count (layout_of resting)) },
 }
@@ -28,8 +28,7 @@ impl<J: Job> Desk<J> {
     ghost use Rattle.cs_board.specs.Resting.{wide};
     ghost use Rattle.cs_desk.specs.Desk.{areas, cells, note_room, word_room};
 
-    /// A desk over this layout, with one word for each cell, and with room for cycles of so many
-    /// notes and edges.
+    /// A desk over this layout, with one word for each cell, and with room for cycles of so many notes and edges.
     pub fn new(
         alloc: Global,
         layout: &Layout,

@@ -1,6 +1,5 @@
-//! What stands between two control cycles. A desk owns the words and slots of a whole performance
-//! with the cells of the piece; it opens a board for each cycle, and the board comes to rest as a
-//! desk again.
+//! What stands between two control cycles. A desk owns the words and slots of a whole performance with the cells of the
+//! piece; it opens a board for each cycle, and the board comes to rest as a desk again.
 //!
 //! The one contract: a cycle leaves the jobs, and a desk with the cells, that its notes leave when they run one
 //! by one in serial order, by a board (`Desk::open`, `Desk::rest`) or without one (`Desk::run_alone`). `open`

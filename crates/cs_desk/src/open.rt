@@ -15,11 +15,9 @@ ghost use Rattle.cs_board.specs.Opening.{first_status, first_watch};
 
 use crate::desk::Desk;
 use crate::plain::fill;
-use crate::resting::{RestingTable, lay};
+use crate::resting::{RestingTable, lay, swap};
 use cs_base::Num;
-use cs_board::{
-    AVAILABLE, Berth, Berths, Board, BoardSeat, IDLE, Leave, Reach, Sitting, WAITING, WATCHED,
-};
+use cs_board::{AVAILABLE, Berth, Berths, Board, BoardSeat, IDLE, Sitting, WAITING, WATCHED};
 use cs_cells::Job;
 use cs_graph::Graph;
 use std::alloc::Global;
@@ -39,8 +37,7 @@ impl<J: Job> Desk<J> {
         ensures seat { IsSeatOf J.means (plan result.0) (name result.0) result.1 }
         ensures view { view result.1 ≡ opening_view (plan result.0) }
         ensures graph { graph_of result.0 ≡ graph.value }
-        ensures room { ((name result.0).slots ≡ note_room self) × ((name result.0).words
-            ≡ word_room self) }
+        ensures room { ((name result.0).slots ≡ note_room self) × ((name result.0).words ≡ word_room self) }
     {
         hear(&jobs);
         let _ = graph.edges();
@@ -81,8 +78,7 @@ impl<J: Job> RestingTable<J> {
         ensures seat { IsSeatOf J.means (plan result.0) (name result.0) result.1 }
         ensures view { view result.1 ≡ opening_view (plan result.0) }
         ensures graph { graph_of result.0 ≡ graph.value }
-        ensures room { ((name result.0).slots ≡ slots_in self) × ((name result.0).words
-            ≡ words_in self) }
+        ensures room { ((name result.0).slots ≡ slots_in self) × ((name result.0).words ≡ words_in self) }
     {
         let RestingTable {
             table,
@@ -111,8 +107,7 @@ fn lay_cycle<J: Job>(
         (length jobs.items) 0 (known_in seat.old) }
     requires first { first ≡ 1 + (word_count (areas_in seat.old) + length (areas_in seat.old)) }
     requires small { first ≤ 2 ^ 40 }
-    requires words { first + (2 * length jobs.items + length graph.now.edges)
-        ≤ table.now.shared.table_id.words }
+    requires words { first + (2 * length jobs.items + length graph.now.edges) ≤ table.now.shared.table_id.words }
     requires slots { length jobs.items ≤ table.now.shared.table_id.words }
     requires cells { word_count (areas_in seat.old)
         ≡ length (plan_over (areas_in seat.old) (known_in seat.old) graph.now jobs.items).cells }
@@ -173,10 +168,8 @@ fn put_job<J: Job>(table: &Berths<J>, seat: &mut Sitting<J>, note: u32, job: J)
     ensures areas { areas_in seat.new ≡ areas_in seat.old }
     ensures known { known_in seat.new ≡ with_home (known_in seat.old) note (Some (Full job)) }
 {
-    table.shared.load::<Reach>(seat, note as usize);
-    let held = table.shared.exchange(seat, note as usize, Berth::Full(job));
+    let held = swap(table, seat, note, Berth::Full(job));
     let Berth::Vacant = held else { unreachable!() };
-    table.shared.load::<Leave>(seat, 0);
 }
 
 /// Available for a note that waits for none, else Waiting.

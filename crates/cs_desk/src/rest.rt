@@ -11,8 +11,8 @@ ghost use Rattle.cs_board.specs.declared.view.Berth.TheVariants.{Vacant, Full};
 
 use crate::desk::Desk;
 use crate::receipt::Receipt;
-use crate::resting::{RestingTable, lay};
-use cs_board::{Berth, Berths, Board, BoardSeat, Leave, Parts, Reach, Sitting};
+use crate::resting::{RestingTable, lay, swap};
+use cs_board::{Berth, Berths, Board, BoardSeat, Parts, Sitting};
 use cs_cells::Job;
 use cs_graph::Graph;
 use std::alloc::Global;
@@ -21,9 +21,8 @@ use std::sync::Arc;
 impl<J: Job> Desk<J> {
     ghost use Rattle.cs_desk.specs.Desk.{areas, cells, note_room, word_room};
 
-    /// The jobs of the whole cycle, as the serial run leaves them, the desk with the cells as it
-    /// leaves these, and the cycle's graph. The seat is the first one, whose last claim answered None
-    /// and which has joined every other seat.
+    /// The jobs of the whole cycle, as the serial run leaves them, the desk with the cells as it leaves these, and the
+    /// cycle's graph. The seat is the first one, whose last claim answered None and which has joined every other seat.
     pub fn rest(board: Board<J>, seat: BoardSeat<J>) -> (Receipt<J>, Desk<J>, Arc<Graph, Global>)
         requires seat { IsSeatOf J.means (plan board) (name board) seat }
         requires idle { IsIdle (view seat) }
@@ -90,12 +89,10 @@ fn fetch<J: Job>(table: &Berths<J>, seat: &mut Sitting<J>, note: u32) -> J
     ensures areas { areas_in seat.new ≡ areas_in seat.old }
     ensures known { known_in seat.new ≡ with_home (known_in seat.old) note (Some Vacant) }
 {
-    table.shared.load::<Reach>(seat, note as usize);
-    let held = table.shared.exchange(seat, note as usize, Berth::Vacant);
+    let held = swap(table, seat, note, Berth::Vacant);
     let Berth::Full(job) = held else {
         unreachable!()
     };
-    table.shared.load::<Leave>(seat, 0);
     job
 }
 

@@ -1,15 +1,17 @@
 // The table of a performance at rest, with its one seat.
-ghost use Rattle.std.specs.Prelude.{◌≡◌, ◌+◌, ◌<◌, ◌++◌, ◌∷◌, [], length, replicate, slice_index, IfOk, OnOk};
+ghost use Rattle.std.specs.Prelude.{◌≡◌, ◌+◌, ◌<◌, ◌++◌, ◌∷◌, [], length, replicate, slice_index, Some, IfOk};
+ghost use Rattle.std.specs.Prelude.{OnOk, slice_get};
 ghost use Rattle.cs_board.specs.Resting.{IsSole, known_in, areas_in};
 ghost use Rattle.cs_desk.specs.inner.Resting.{IsResting};
 ghost use Rattle.cs_cells.specs.Areas.{word_count};
-ghost use Rattle.cs_board.specs.Views.{laid, with_word};
+ghost use Rattle.cs_board.specs.Views.{laid, with_home, with_word};
+ghost use Rattle.cs_board.specs.declared.view.Berth.{Berth};
 ghost use Rattle.cs_board.specs.declared.view.Berth.TheVariants.{Vacant};
 ghost use Rattle.cs_board.specs.Opening.{each_below};
 
 use atomic_table::{Refused, Table};
 use cs_base::{Num, OutOfMemory};
-use cs_board::{Berth, Berths, Key, Lay, Read, Sitting};
+use cs_board::{Berth, Berths, Key, Lay, Leave, Reach, Read, Sitting};
 use cs_cells::{Bank, Job, Layout};
 use std::alloc::Global;
 use std::snapshot::Snapshot;
@@ -160,4 +162,25 @@ impl<J: Job> Bank for RestingTable<J> {
             value.raw().cast_unsigned(),
         );
     }
+}
+
+/// The berth in a slot gives way to another while the board rests, and comes back.
+pub(crate) fn swap<J: Job>(
+    table: &Berths<J>,
+    seat: &mut Sitting<J>,
+    note: u32,
+    berth: Berth<J>,
+) -> Berth<J>
+    requires sole { IsSole table.now.shared.table_id seat.old }
+    requires lies { (b : Berth J) × (slice_get (known_in seat.old).homes note ≡ Some (Some b)) }
+    requires word { note < table.now.shared.table_id.words }
+    ensures was { slice_get (known_in seat.old).homes note ≡ Some (Some result) }
+    ensures sole { IsSole table.now.shared.table_id seat.new }
+    ensures areas { areas_in seat.new ≡ areas_in seat.old }
+    ensures known { known_in seat.new ≡ with_home (known_in seat.old) note (Some berth) }
+{
+    table.shared.load::<Reach>(seat, note as usize);
+    let held = table.shared.exchange(seat, note as usize, berth);
+    table.shared.load::<Leave>(seat, 0);
+    held
 }

@@ -1,5 +1,6 @@
 -- Text that a writer has, and text that waits in front of it.
-use Rattle.std.proofs.Common.{◌≡◌, ℕ, List, [], ◌++◌, Option, None, Some, ap, ◌∙◌, append_assoc, append-nil}
+use Rattle.std.proofs.Common.{arith, ◌≡◌, ℕ, List, [], ◌++◌, Option, None, Some, ◌∙◌, append_assoc, append-nil}
+use Rattle.std.proofs.lemmas.Grind.{common_steps}
 use Rattle.std.specs.Io.KnownBytes.{Appends, append_known}
 
 -- text was added, and all was written
@@ -20,6 +21,4 @@ all_put None b c before between after lines rest piece p none q e = tt
 all_put (Some x) None c before between after lines rest piece p none q e = absurd p
 all_put (Some x) (Some y) None before between after lines rest piece p none q e = absurd q
 all_put (Some x) (Some y) (Some z) before between after lines rest piece p none q e =
-    let empty : y ++ between ≡ y = ap (λ (l : List ℕ). y ++ l) none ∙ append-nil y in
-    q ∙ (ap (λ (l : List ℕ). l ++ rest) (empty ∙ p)
-    ∙ (append_assoc (x ++ before) lines rest ∙ ap (λ (l : List ℕ). (x ++ before) ++ l) e))
+    grind (arith, common_steps, append-nil, append_assoc)

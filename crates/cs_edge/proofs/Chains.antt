@@ -1,10 +1,8 @@
-use Rattle.std.proofs.Common.{◌≡◌, ℕ, List, [], ◌∷◌, ◌++◌, Option, None, Some, Result, Ok, Err, OnOk, OnErr, refl, ap}
-use Rattle.std.proofs.Common.{subst, sym, ◌∙◌, append_assoc, append-nil, ◌+◌}
+use Rattle.std.proofs.Common.{arith, ◌≡◌, ℕ, List, [], ◌∷◌, ◌++◌, Option, None, Some, Result, Ok, Err, OnOk, OnErr}
+use Rattle.std.proofs.Common.{refl, ap, subst, sym, ◌∙◌, append_assoc, append-nil, ◌+◌}
+use Rattle.std.proofs.lemmas.{Grind.common_steps, List.replicate-append-replicate}
 use Rattle.std.specs.Prelude.{IfOk, IsOk}
-use Rattle.std.proofs.lemmas.List.{replicate-append-replicate}
-use Rattle.cs_edge.specs.declared.moves.Move.{Move}
-use Rattle.cs_edge.specs.declared.moves.Move.TheVariants.{Begin}
-use Rattle.cs_edge.specs.Told.{Follows, IsFront}
+use Rattle.cs_edge.specs.{declared.moves.Move.Move, declared.moves.Move.TheVariants.Begin, Told.Follows, Told.IsFront}
 use Rattle.cs_edge.specs.Moves.{GrownBy, Grown, AreAll, IsRun}
 
 -- two calls after one another
@@ -51,11 +49,7 @@ all_more move x y p e = (p.0 + 1, rw (p.1, e) (replicate-append-replicate p.0 1 
 -- some number of the same move, and one more call
 pub all_on : (move : Move) (a b c : Option (List Move)) → Follows a b (Grown (AreAll move))
     → Follows b c (GrownBy move) → Follows a c (Grown (AreAll move))
-all_on move a b c p q =
-    follows_on (Grown (AreAll move)) (GrownBy move) (Grown (AreAll move))
-    (λ x y z g e. grown_on (AreAll move) (λ more. more ≡ move ∷ []) (AreAll move) (all_more move) x y z g
-    (grown_by move y z e))
-    a b c p q
+all_on move a b c p q = grind (arith, common_steps, all_more, follows_on, grown_by, grown_on)
 
 -- a begin is a run, and goes on with the run's moves
 pub run_begun : (name : List ℕ) (move : Move) (a b : Option (List Move)) → Follows a b (GrownBy (Begin name))

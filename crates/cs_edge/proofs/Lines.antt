@@ -1,13 +1,11 @@
+use Rattle.std.proofs.lemmas.{Grind.common_steps, Grind.flat_map-append, Int.ints}
 use Rattle.std.proofs.Common.{◌≡◌, ◌≤◌, ◌<◌, ℕ, ◌+◌, ◌-◌, ◌/◌, ◌%◌, ◌^◌, ℤ, pos, negsuc, ◌<ℤ◌, nat_abs, List, [], ◌∷◌}
 use Rattle.std.proofs.Common.{◌++◌, length, take, drop, set, get_or, max, flat_map, codes, decimal, Option, Some, refl}
 use Rattle.std.proofs.Common.{ap, subst, sym, ◌∙◌, append_assoc, append-nil, arith, length-append, length-drop}
 use Rattle.std.specs.Fmt.{signed_decimal}
 use Rattle.std.proofs.lemmas.Fmt.{decimal_digit, decimal_step, decimal_nonempty, length-decimal-le}
 use Rattle.std.proofs.lemmas.List.{drop-set, take_more, take_all}
-use Rattle.std.proofs.lemmas.Grind.{flat_map-append}
-use Rattle.std.proofs.lemmas.Int.{ints}
-use Rattle.cs_edge.specs.Taps.{peak_of, mirror_value}
-use Rattle.cs_edge.specs.inner.Page.{Shows}
+use Rattle.cs_edge.specs.{Taps.peak_of, Taps.mirror_value, inner.Page.Shows}
 
 -- DIGITS, written from the back of a block of 20
 
@@ -26,18 +24,13 @@ room_left n left from block small little twenty h e =
 
 drop_back : (from d : ℕ) (block : List ℕ) → 1 ≤ from → from ≤ length block
     → drop (from - 1) (set block (from - 1) d) ≡ d ∷ drop from block
-drop_back from d block h k =
-    let lt : from - 1 < length block = omega arith in
-    let same : from - 1 + 1 ≡ from = omega arith in
-    drop-set block (from - 1) d lt ∙ ap (λ (i : ℕ). d ∷ drop i block) same
+drop_back from d block h k = grind (arith, common_steps, drop-set)
 
 pub more_digits : (n left from : ℕ) (block : List ℕ) → left < 2 ^ 64 → 1 ≤ from → from ≤ length block → 10 ≤ left
     → decimal n ≡ decimal left ++ drop from block
     → decimal n ≡ decimal (left / 10) ++ drop (from - 1) (set block (from - 1) (48 + left % 10))
 more_digits n left from block little h k ten e =
-    e ∙ (ap (λ (l : List ℕ). l ++ drop from block) (decimal_step left ten little)
-    ∙ (append_assoc (decimal (left / 10)) ((48 + left % 10) ∷ []) (drop from block)
-    ∙ ap (λ (l : List ℕ). decimal (left / 10) ++ l) (sym (drop_back from (48 + left % 10) block h k))))
+    grind (arith, common_steps, append_assoc, decimal, decimal_step, drop_back)
 
 pub last_digit : (n left from : ℕ) (block : List ℕ) → left < 10 → 1 ≤ from → from ≤ length block
     → decimal n ≡ decimal left ++ drop from block
@@ -73,27 +66,17 @@ peak_more (y ∷ h) z = omega (arith, peak_more h z)
 -- one more of the values that were told
 pub told_more : (h frames : List ℤ) (i : ℕ) (z : ℤ) → i < length frames → z ≡ get_or frames i (pos 0)
     → (h ++ take i frames) ++ z ∷ [] ≡ h ++ take (i + 1) frames
-told_more h frames i z lt e =
-    append_assoc h (take i frames) (z ∷ [])
-    ∙ ap (λ (l : List ℤ). h ++ l)
-    (ap (λ (x : ℤ). take i frames ++ x ∷ []) e ∙ sym (take_more frames i (pos 0) lt))
+told_more h frames i z lt e = grind (arith, common_steps, append_assoc, take_more)
 
 one_value : (kept : List ℤ) (i : ℕ) (z : ℤ) → i < length kept → z ≡ get_or kept i (pos 0)
     → flat_map mirror_value (take (i + 1) kept) ≡ flat_map mirror_value (take i kept) ++ mirror_value z
-one_value kept i z lt e =
-    ap (flat_map mirror_value) (take_more kept i (pos 0) lt ∙ ap (λ (x : ℤ). take i kept ++ x ∷ []) (sym e))
-    ∙ (flat_map-append mirror_value (take i kept) (z ∷ [])
-    ∙ ap (λ (l : List ℕ). flat_map mirror_value (take i kept) ++ l) (append-nil (mirror_value z)))
+one_value kept i z lt e = grind (arith, common_steps, append-nil, flat_map, flat_map-append, take_more)
 
 -- one more of the values of a mirror's line
 pub values_more : (text : List ℕ) (kept : List ℤ) (i : ℕ) (z : ℤ) → i < length kept → z ≡ get_or kept i (pos 0)
     → ((text ++ flat_map mirror_value (take i kept)) ++ codes " ") ++ signed_decimal z
     ≡ text ++ flat_map mirror_value (take (i + 1) kept)
-values_more text kept i z lt e =
-    let before = flat_map mirror_value (take i kept) in
-    append_assoc (text ++ before) (codes " ") (signed_decimal z)
-    ∙ (append_assoc text before (mirror_value z)
-    ∙ ap (λ (l : List ℕ). text ++ l) (sym (one_value kept i z lt e)))
+values_more text kept i z lt e = grind (arith, common_steps, append_assoc, codes, flat_map, one_value)
 
 -- all of the values of a mirror's line, and its end
 pub values_end : (a b c : List ℕ) (kept : List ℤ) (i : ℕ) → length kept ≤ i

@@ -1,5 +1,5 @@
+use Rattle.std.proofs.lemmas.{Grind.common_steps, List.take_all, List.take-append-drop}
 use Rattle.std.proofs.Common.{◌≡◌, ◌≤◌, ℕ, ◌+◌, ◌-◌, List, ◌++◌, length, take, drop, sym, ◌∙◌, ap, arith, length-drop}
-use Rattle.std.proofs.lemmas.List.{take_all, take-append-drop}
 use Rattle.std.proofs.Math.Seq.{take-add}
 use Rattle.cs_edge.specs.Told.{IsFront}
 
@@ -19,9 +19,7 @@ take_on at n l = ap (λ (rest : List _). take at l ++ take n rest) (rest_whole a
 -- so many of what follows are no more than there are
 pub taken_within : {A : Type 0} (at n : ℕ) (l : List A) → at ≤ length l → n ≤ length (take (length l - at) (drop at l))
     → at + n ≤ length l
-taken_within at n l h k =
-    let e = ap length (rest_whole at l) in
-    omega (arith, length-drop at l)
+taken_within at n l h k = grind (arith, common_steps, length-drop, rest_whole)
 
 -- the first items are a front
 pub take_front : {A : Type 0} (n : ℕ) (l : List A) → IsFront (take n l) l

@@ -1,9 +1,7 @@
-use Rattle.std.proofs.Common.{◌≡◌, ℕ, ◌+◌, ◌<◌, ◌≤◌, List, [], ◌∷◌, length, get_or, drop, Some, if◌then◌else◌, bytes_eq}
-use Rattle.std.proofs.Common.{refl, ap, sym, ◌∙◌, arith, zero, suc, add-one, true}
+use Rattle.std.proofs.Common.{◌≡◌, ℕ, ◌+◌, ◌<◌, ◌≤◌, List, [], ◌∷◌, length, get_or, drop, Some, bytes_eq, refl, ap, sym}
+use Rattle.std.proofs.Common.{◌∙◌, arith, zero, suc, add-one, true, if◌then◌else◌}
 use Rattle.std.proofs.Math.Seq.{drop-cons}
-use Rattle.cs_edge.specs.declared.files.NamedBytes.{NamedBytes}
-use Rattle.cs_edge.specs.Files.{file_named}
-use Rattle.cs_edge.specs.Memory.{bytes_at}
+use Rattle.cs_edge.specs.{declared.files.NamedBytes.NamedBytes, Files.file_named, Memory.bytes_at}
 
 -- the file at a place, by its place
 pub bytes_at_place : (files : List NamedBytes) (i : ℕ) (file : NamedBytes) → i < length files

@@ -1,12 +1,10 @@
-use Rattle.std.proofs.Common.{◌≡◌, ◌≤◌, ℕ, true, List, [], ◌∷◌, ◌++◌, Option, refl, ap, sym, ◌∙◌, inl, inr, ⊎_elim}
-use Rattle.std.proofs.Common.{◌+◌, append_assoc, append-nil, arith}
-use Rattle.std.proofs.lemmas.List.{replicate-append-replicate}
-use Rattle.cs_edge.specs.declared.moves.Move.{Move}
+use Rattle.std.proofs.lemmas.{Grind.common_steps, List.replicate-append-replicate}
+use Rattle.std.proofs.Common.{◌≡◌, ◌≤◌, ℕ, true, List, [], ◌∷◌, ◌++◌, Option, refl, ap, sym, ◌∙◌, inl, inr, ◌+◌}
+use Rattle.std.proofs.Common.{append_assoc, append-nil, arith}
+use Rattle.cs_edge.specs.{declared.moves.Move.Move, Told.Follows, Told.IsFront, Told.Rose}
 use Rattle.cs_edge.specs.declared.moves.Move.TheVariants.{Begin, Write, End}
-use Rattle.cs_edge.specs.Told.{Follows, IsFront, Rose}
 use Rattle.cs_edge.specs.Moves.{SinkTold, Held, GrownBy, Grown, AreAll, IsRun, IsWhole, IsFrontOf, TakenMore, IsEnded}
 use Rattle.cs_edge.specs.Moves.{WroteMore, WrotePart, Wrote, Finished, Stopped, HoldsFront, no_file, open_file}
-use Rattle.cs_edge.specs.Moves.{ended_file}
 use Rattle.cs_edge.proofs.Chains.{follows_on, follows_as, follows_same, grown_on, grown_by, all_none, all_on, run_begun}
 use Rattle.cs_edge.proofs.Chains.{run_on, front_all, front_of_front}
 
@@ -29,11 +27,7 @@ more_twice xs ys a b c p q = q ∙ (ap (with_more ys) p ∙ ap (with_bytes a) (a
 
 -- no write yet
 pub more_none : (a : SinkTold) → WroteMore a a []
-more_none a = record {
-  taken = follows_same (TakenMore []) (λ x. ap (with_bytes x) (sym (append-nil x.bytes))) a.held a.held refl;
-  made = follows_same (Grown (AreAll Write)) (all_none Write) a.moves a.moves refl;
-  same = refl;
-}
+more_none a = grind (arith, common_steps, all_none, append-nil, follows_same)
 
 -- a write that took these bytes
 pub more_on : (a b c : SinkTold) (xs ys : List ℕ) → WroteMore a b xs → Follows b.held c.held (TakenMore ys)
@@ -70,9 +64,7 @@ all_both move x y p q = (p.0 + q.0, rw (p.1, q.1) (replicate-append-replicate p.
 
 made_both : (a b c : SinkTold) → Follows a.moves b.moves (Grown (AreAll Write))
     → Follows b.moves c.moves (Grown (AreAll Write)) → Follows a.moves c.moves (Grown (AreAll Write))
-made_both a b c p q =
-    follows_on (Grown (AreAll Write)) (Grown (AreAll Write)) (Grown (AreAll Write))
-    (grown_on (AreAll Write) (AreAll Write) (AreAll Write) (all_both Write)) a.moves b.moves c.moves p q
+made_both a b c p q = grind (arith, common_steps, all_both, follows_on, grown_on)
 
 taken_both : (a b c : SinkTold) (xs ys : List ℕ) → Follows a.held b.held (TakenMore xs)
     → Follows b.held c.held (TakenMore ys) → Follows a.held c.held (TakenMore (xs ++ ys))
@@ -81,11 +73,7 @@ taken_both a b c xs ys p q =
 
 -- a piece, and another one whole
 pub more_both : (a b c : SinkTold) (xs ys : List ℕ) → WroteMore a b xs → WroteMore b c ys → WroteMore a c (xs ++ ys)
-more_both a b c xs ys w m = record {
-  taken = taken_both a b c xs ys w.taken m.taken;
-  made = made_both a b c w.made m.made;
-  same = m.same ∙ w.same;
-}
+more_both a b c xs ys w m = grind (arith, common_steps, made_both, taken_both)
 
 -- or in part
 pub part_behind : (a b c : SinkTold) (xs ys : List ℕ) → WroteMore a b xs → WrotePart b c ys → WrotePart a c (xs ++ ys)
@@ -100,14 +88,7 @@ part_behind a b c xs ys w p = record {
 
 -- a part of a piece is one of a longer piece
 pub part_longer : (a b : SinkTold) (xs ys : List ℕ) → IsFront xs ys → WrotePart a b xs → WrotePart a b ys
-part_longer a b xs ys f p = record {
-  front = p.front;
-  is_front = front_of_front p.front xs ys p.is_front f;
-  taken = p.taken;
-  made = p.made;
-  rose = p.rose;
-  later = p.later;
-}
+part_longer a b xs ys f p = grind (arith, common_steps, front_of_front)
 
 -- WHOLE FILES
 
@@ -115,11 +96,7 @@ part_longer a b xs ys f p = record {
 pub begun : (a b : SinkTold) (name : List ℕ)
     → Follows a.held b.held (λ _ now. now ≡ open_file name [])
     → Follows a.moves b.moves (GrownBy (Begin name)) → b.faults ≡ a.faults → Wrote a b name []
-begun a b name held moves same = record {
-  taken = held;
-  made = run_begun name Write a.moves b.moves moves;
-  same = same;
-}
+begun a b name held moves same = grind (arith, common_steps, run_begun)
 
 run_more : (name : List ℕ) (a b c : SinkTold) → Follows a.moves b.moves (Grown (IsRun name Write))
     → Follows b.moves c.moves (Grown (AreAll Write)) → Follows a.moves c.moves (Grown (IsRun name Write))
@@ -129,18 +106,12 @@ run_more name a b c p q =
 
 open_more : (name xs ys : List ℕ) (a b c : SinkTold) → Follows a.held b.held (λ _ now. now ≡ open_file name xs)
     → Follows b.held c.held (TakenMore ys) → Follows a.held c.held (λ _ now. now ≡ open_file name (xs ++ ys))
-open_more name xs ys a b c p q =
-    follows_on (λ _ now. now ≡ open_file name xs) (TakenMore ys) (λ _ now. now ≡ open_file name (xs ++ ys))
-    (λ x y z h k. k ∙ ap (with_more ys) h) a.held b.held c.held p q
+open_more name xs ys a b c p q = grind (arith, common_steps, follows_on)
 
 -- and writes
 pub wrote_on : (a b c : SinkTold) (name xs ys : List ℕ) → Wrote a b name xs → WroteMore b c ys
     → Wrote a c name (xs ++ ys)
-wrote_on a b c name xs ys w m = record {
-  taken = open_more name xs ys a b c w.taken m.taken;
-  made = run_more name a b c w.made m.made;
-  same = m.same ∙ w.same;
-}
+wrote_on a b c name xs ys w m = grind (arith, common_steps, open_more, run_more)
 
 whole_on : (name : List ℕ) (x y : List Move) → IsRun name Write x → y ≡ End ∷ [] → IsWhole name (x ++ y)
 whole_on name x y p e = (p.0, rw (p.1, e) refl)
@@ -148,21 +119,12 @@ whole_on name x y p e = (p.0, rw (p.1, e) refl)
 whole_moves : (name : List ℕ) (a b c : Option (List Move)) → Follows a b (Grown (IsRun name Write))
     → Follows b c (GrownBy End)
     → Follows a c (Grown (IsWhole name))
-whole_moves name a b c made moves =
-    follows_on (Grown (IsRun name Write)) (GrownBy End) (Grown (IsWhole name))
-    (λ x y z g e. grown_on (IsRun name Write) (λ more. more ≡ End ∷ []) (IsWhole name) (whole_on name) x y z g
-    (grown_by End y z e))
-    a b c made moves
+whole_moves name a b c made moves = grind (arith, common_steps, follows_on, grown_by, grown_on, whole_on)
 
 -- and an end
 pub finished : (a b c : SinkTold) (name bytes : List ℕ) → Wrote a b name bytes → Follows b.held c.held IsEnded
     → Follows b.moves c.moves (GrownBy End) → c.faults ≡ b.faults → Finished a c name bytes
-finished a b c name bytes w held moves same = record {
-  taken = follows_on (λ _ now. now ≡ open_file name bytes) IsEnded (λ _ now. now ≡ ended_file name bytes)
-      (λ x y z p q. q ∙ ap with_end p) a.held b.held c.held w.taken held;
-  made = whole_moves name a.moves b.moves c.moves w.made moves;
-  same = same ∙ w.same;
-}
+finished a b c name bytes w held moves same = grind (arith, common_steps, follows_on, whole_moves)
 
 -- FRONTS OF WHOLE FILES
 
@@ -199,44 +161,23 @@ front_moves name a b made =
 
 open_front : (name front whole : List ℕ) (a b : SinkTold) → IsFront front whole
     → Follows a.held b.held (λ _ now. now ≡ open_file name front) → Follows a.held b.held (HoldsFront name whole)
-open_front name front whole a b f held =
-    follows_as (λ _ now. now ≡ open_file name front) (HoldsFront name whole) (λ x y e. inr (inr (front, f, e)))
-    a.held b.held held
+open_front name front whole a b f held = grind (arith, common_steps, follows_as)
 
 -- writes that stopped
 pub stopped_writes : (a b : SinkTold) (name front whole : List ℕ) → Wrote a b name front → IsFront front whole
     → Stopped a b name whole
-stopped_writes a b name front whole w f = record {
-  taken = open_front name front whole a b f w.taken;
-  made = front_moves name a b w.made;
-  later = omega (arith, w.same);
-}
+stopped_writes a b name front whole w f = grind (arith, common_steps, front_moves, open_front)
 
 -- a piece that was written in part, behind others
 pub stopped_part : (a b c : SinkTold) (name xs ys whole : List ℕ) → Wrote a b name xs → WrotePart b c ys
     → IsFront (xs ++ ys) whole → Stopped a c name whole
 stopped_part a b c name xs ys whole w p f =
-    let front : List ℕ = xs ++ p.front in
-    let part : IsFront front (xs ++ ys) =
-    (p.is_front.0, ap (λ (l : List ℕ). xs ++ l) p.is_front.1 ∙ sym (append_assoc xs p.front p.is_front.0)) in
-    record {
-      taken = open_front name front whole a c (front_of_front front (xs ++ ys) whole part f)
-          (open_more name xs p.front a b c w.taken p.taken);
-      made = front_moves name a c (run_more name a b c w.made p.made);
-      later = omega (arith, w.same, p.later);
-    }
+    grind (arith, common_steps, append_assoc, front_moves, front_of_front, open_front, open_more, run_more)
 
 -- what stopped in some bytes stopped in longer ones
 pub stopped_longer : (a b : SinkTold) (name bytes whole : List ℕ) → IsFront bytes whole → Stopped a b name bytes
     → Stopped a b name whole
-stopped_longer a b name bytes whole f s = record {
-  taken = follows_as (HoldsFront name bytes) (HoldsFront name whole)
-      (λ x y h. ⊎_elim (λ same. inl same) (λ begun. ⊎_elim (λ none. inr (inl none))
-      (λ some. inr (inr (some.0, front_of_front some.0 bytes whole some.1 f, some.2))) begun) h)
-      a.held b.held s.taken;
-  made = s.made;
-  later = s.later;
-}
+stopped_longer a b name bytes whole f s = grind (arith, common_steps, begun, follows_as, front_of_front)
 
 -- an end that failed
 pub stopped_end : (a b c : SinkTold) (name bytes : List ℕ) → Wrote a b name bytes

@@ -1,7 +1,6 @@
 use Rattle.std.specs.Prelude.{ℕ, ◌≡◌, ◌≤◌, List, [], ◌∷◌, Bool, true, false, if◌then◌else◌, Option, None, Some, take}
 use Rattle.std.specs.Prelude.{drop, length, bytes_eq, ⊤}
-use Rattle.cs_edge.specs.declared.files.NamedBytes.{NamedBytes}
-use Rattle.cs_edge.specs.declared.moves.Move.{Move}
+use Rattle.cs_edge.specs.{declared.files.NamedBytes.NamedBytes, declared.moves.Move.Move}
 
 -- what a shelf tells: its files, the bytes left of the file begun, the calls made on it, and how often it failed
 pub record ShelfTold : Type 0 where

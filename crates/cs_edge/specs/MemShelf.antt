@@ -1,9 +1,6 @@
 use Rattle.std.specs.Prelude.{List, Some, drop}
-use Rattle.cs_edge.specs.declared.moves.Move.{Move}
-use Rattle.cs_edge.specs.declared.fakes.script.Script.{Script}
-use Rattle.cs_edge.specs.declared.fakes.mem_shelf.MemShelf.{MemShelf}
-use Rattle.cs_edge.specs.Files.{ShelfTold}
-use Rattle.cs_edge.specs.Memory.{bytes_at, told_moves}
+use Rattle.cs_edge.specs.{declared.moves.Move.Move, Files.ShelfTold, Memory.bytes_at, Memory.told_moves}
+use Rattle.cs_edge.specs.{declared.fakes.script.Script.Script, declared.fakes.mem_shelf.MemShelf.MemShelf}
 
 -- what a shelf in memory tells: its files, what is left of the file begun, its moves as long as they are kept, its
 -- faults

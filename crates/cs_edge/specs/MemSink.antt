@@ -1,9 +1,6 @@
 use Rattle.std.specs.Prelude.{ℕ, List}
-use Rattle.cs_edge.specs.declared.moves.Move.{Move}
-use Rattle.cs_edge.specs.declared.fakes.script.Script.{Script}
-use Rattle.cs_edge.specs.declared.fakes.mem_sink.MemSink.{MemSink}
-use Rattle.cs_edge.specs.Moves.{SinkTold}
-use Rattle.cs_edge.specs.Memory.{told_moves, told_taken}
+use Rattle.cs_edge.specs.{declared.moves.Move.Move, declared.fakes.script.Script.Script}
+use Rattle.cs_edge.specs.{declared.fakes.mem_sink.MemSink.MemSink, Moves.SinkTold, Memory.told_moves, Memory.told_taken}
 
 -- what a sink in memory tells: what it holds and its moves, each as long as it is kept, and its faults
 abbrev pub sink_told : MemSink → SinkTold

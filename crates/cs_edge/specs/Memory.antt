@@ -1,11 +1,8 @@
 use Rattle.std.specs.Prelude.{ℕ, ◌≡◌, ◌+◌, ◌-◌, ◌^◌, ◌↔◌, min, List, [], ◌∷◌, if◌then◌else◌, Option, None, Some, Result}
 use Rattle.std.specs.Prelude.{IsErr, Contains, zero, suc}
 use Rattle.cs_edge.specs.declared.files.NamedBytes.{NamedBytes}
-use Rattle.cs_edge.specs.declared.moves.Move.{Move}
-use Rattle.cs_edge.specs.declared.fakes.script.Script.{Script}
-use Rattle.cs_edge.specs.declared.fakes.kept.Kept.{Kept}
-use Rattle.cs_edge.specs.declared.fakes.taken.Taken.{Taken}
-use Rattle.cs_edge.specs.Moves.{Held}
+use Rattle.cs_edge.specs.{declared.moves.Move.Move, declared.fakes.script.Script.Script, declared.fakes.kept.Kept.Kept}
+use Rattle.cs_edge.specs.{declared.fakes.taken.Taken.Taken, Moves.Held}
 
 -- the number of the call after so many, from 1; it stays at its last value
 abbrev pub next_call : ℕ → ℕ

@@ -1,7 +1,6 @@
 use Rattle.std.specs.Prelude.{ℕ, ◌≡◌, ◌≤◌, ◌⊎◌, Bool, true, false, List, [], ◌∷◌, ◌++◌, replicate, Option, None, Some}
-use Rattle.cs_edge.specs.declared.moves.Move.{Move}
+use Rattle.cs_edge.specs.{declared.moves.Move.Move, Told.Follows, Told.IsFront, Told.Rose}
 use Rattle.cs_edge.specs.declared.moves.Move.TheVariants.{Begin, Write, End}
-use Rattle.cs_edge.specs.Told.{Follows, IsFront, Rose}
 
 -- the list has grown by this move
 abbrev pub GrownBy : Move → List Move → List Move → Type 0

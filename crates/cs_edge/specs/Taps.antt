@@ -1,7 +1,6 @@
-use Rattle.std.specs.Prelude.{ℕ, ◌≡◌, ◌-◌, ◌*◌, ◌/◌, ◌%◌, ◌^◌, max, min, nat_le, ℤ, nat_abs, List, [], ◌∷◌}
-use Rattle.std.specs.Prelude.{◌++◌, length, take, replicate, flat_map, codes, decimal, if◌then◌else◌}
-use Rattle.std.specs.Fmt.{signed_decimal}
-use Rattle.std.specs.Str.{byte}
+use Rattle.std.specs.Prelude.{ℕ, ◌≡◌, ◌-◌, ◌*◌, ◌/◌, ◌%◌, ◌^◌, max, min, nat_le, ℤ, nat_abs, List, [], ◌∷◌, ◌++◌}
+use Rattle.std.specs.Prelude.{length, take, replicate, flat_map, codes, decimal, if◌then◌else◌}
+use Rattle.std.specs.{Fmt.signed_decimal, Str.byte}
 
 -- the greatest absolute value of a list, 0 for none
 abbrev pub peak_of : List ℤ → ℕ

@@ -16,8 +16,7 @@ pub trait Sink {
     fn begin(&mut self, name: &str) -> Result<(), Failed>
         ensures begun { OnOk result (Follows (tells self.old).held (tells self.new).held
             (λ _ now. now ≡ open_file name.now [])) }
-        ensures failed { OnErr result (Follows (tells self.old).held (tells self.new).held
-            (λ _ now. now ≡ no_file)) }
+        ensures failed { OnErr result (Follows (tells self.old).held (tells self.new).held (λ _ now. now ≡ no_file)) }
         ensures cause { HasCause (tells self.old).faults (tells self.new).faults result }
         ensures moves { Follows (tells self.old).moves (tells self.new).moves (GrownBy (Begin name.now)) };
 

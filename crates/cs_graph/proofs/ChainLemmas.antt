@@ -1,71 +1,42 @@
 -- The edges of a cycle, chained by the note that they leave.
-use Rattle.std.proofs.Common.{◌≡◌, ◌≢◌, ℕ, ◌+◌, ◌<◌, ⊎_elim, List, length, get_or, set, replicate, sym, ap, ◌∙◌, subst}
-use Rattle.std.proofs.Common.{arith, slice_get, get_or-set_same, get_or-set_other}
-use Rattle.std.proofs.lemmas.Bool.{cases_eq}
-use Rattle.std.proofs.lemmas.List.{get_or-replicate, length-replicate, length-set}
+use Rattle.std.proofs.lemmas.{Grind.common_steps, Bool.cases_eq, List.length-set}
+use Rattle.std.proofs.Common.{◌≡◌, ◌≢◌, ℕ, ◌+◌, ◌<◌, ⊎_elim, List, length, get_or, set, sym, ap, ◌∙◌, subst, arith}
+use Rattle.std.proofs.Common.{slice_get, get_or-set_same, get_or-set_other}
 use Rattle.std.proofs.lemmas.Option.{same_Some, slice_get_within}
-use Rattle.cs_graph.specs.Graph.{Edge}
-use Rattle.cs_graph.specs.inner.Index.{IsChained, Points}
-
--- at first no edge is chained
-pub starts_chained : (edges : List (ℕ × ℕ)) (n : ℕ)
-    → IsChained edges (length edges) (replicate n (length edges)) (replicate (length edges) (length edges))
-starts_chained edges n = record {
-  each = length-replicate (length edges) (length edges);
-  first = λ p low. points p (get_or (replicate n (length edges)) p 0)
-      (get_or-replicate n p (length edges) 0 (omega (arith, length-replicate n (length edges), low)));
-  next = λ e p t low at_. absurd (omega (arith, slice_get_within edges e (p, t) at_));
-}
-  where
-    points : (p x : ℕ) → x ≡ length edges → Points edges p (length edges) x
-    points p x is = record { some = λ l. absurd (omega arith); none = λ l f t at_. slice_get_within edges f (p, t) at_ }
+use Rattle.cs_graph.specs.{Graph.Edge, inner.Index.IsChained, inner.Index.Points}
 
 module _ (edges : List (ℕ × ℕ)) (i from to : ℕ) (edge : Edge edges i from to) (first next : List ℕ)
     (low : from < length first)
     (chained : IsChained edges (i + 1) first next) where
   -- another note's first edge stays
   points_on : (p x : ℕ) → p ≢ from → Points edges p (i + 1) x → Points edges p i x
-  points_on p x n h = record {
-    some = λ l. let s = h.some l in record {
-      low = omega (arith, s.low);
-      below = l;
-      edge = s.edge;
-      first = λ f t at_ m. s.first f t at_ (omega (arith, m, passes f t at_));
-    };
-    none = λ l f t at_. omega (arith, h.none l f t at_, passes f t at_);
-  }
-    where
-      passes : (f t : ℕ) → Edge edges f p t → f ≢ i
-      passes f t at_ e = n (ap (λ z. z.0) (same_Some _ _ (sym at_ ∙ ap (slice_get edges) e ∙ edge)))
+  points_on p x n h = grind (arith, common_steps, same_Some)
 
   pub links : IsChained edges i (set first from i) (set next i (get_or first from 0))
-  links = record {
-    each = length-set next i (get_or first from 0) ∙ chained.each;
-    first = λ p l. ⊎_elim
-        (λ (e : p ≡ from). subst (Points edges p i)
-        (sym (ap (λ z. get_or (set first from i) z 0) e ∙ get_or-set_same first from i 0 low))
-        (subst (λ z. Points edges z i i) (sym e) here))
-        (λ (n : p ≢ from). subst (Points edges p i) (sym (get_or-set_other first from p i 0 n))
-        (points_on p (get_or first p 0) n (chained.first p (omega (arith, l, length-set first from i)))))
-        (cases_eq p from);
-    next = λ e p t l at_. ⊎_elim
-        (λ (z : e ≡ i). let same_ : p ≡ from =
-        ap (λ y. y.0) (same_Some _ _ (sym at_ ∙ ap (slice_get edges) z ∙ edge)) in
-        subst (Points edges p (e + 1))
-        (sym (ap (λ y. get_or (set next i (get_or first from 0)) y 0) z
-        ∙ get_or-set_same next i (get_or first from 0) 0 within))
-        (subst (λ y. Points edges y (e + 1) (get_or first from 0)) (sym same_)
-        (subst (λ y. Points edges from (y + 1) (get_or first from 0)) (sym z) (chained.first from low))))
-        (λ (n : e ≢ i). subst (Points edges p (e + 1)) (sym (get_or-set_other next i e (get_or first from 0) 0 n))
-        (chained.next e p t (omega arith) at_))
-        (cases_eq e i);
-  }
-    where
-      within : i < length next
-      within = omega (arith, chained.each, slice_get_within edges i (from, to) edge)
-
-      here : Points edges from i i
-      here = record {
+  links =
+      let within : i < length next = omega (arith, chained.each, slice_get_within edges i (from, to) edge) in
+      let here : Points edges from i i = record {
         some = λ l. record { low = omega arith; below = l; edge = (to, edge); first = λ f t at_ m. m };
         none = λ l. absurd (omega (arith, slice_get_within edges i (from, to) edge));
+      } in
+      record {
+        each = length-set next i (get_or first from 0) ∙ chained.each;
+        first = λ p l. ⊎_elim
+            (λ (e : p ≡ from). subst (Points edges p i)
+            (sym (ap (λ z. get_or (set first from i) z 0) e ∙ get_or-set_same first from i 0 low))
+            (subst (λ z. Points edges z i i) (sym e) here))
+            (λ (n : p ≢ from). subst (Points edges p i) (sym (get_or-set_other first from p i 0 n))
+            (points_on p (get_or first p 0) n (chained.first p (omega (arith, l, length-set first from i)))))
+            (cases_eq p from);
+        next = λ e p t l at_. ⊎_elim
+            (λ (z : e ≡ i). let same_ : p ≡ from =
+            ap (λ y. y.0) (same_Some _ _ (sym at_ ∙ ap (slice_get edges) z ∙ edge)) in
+            subst (Points edges p (e + 1))
+            (sym (ap (λ y. get_or (set next i (get_or first from 0)) y 0) z
+            ∙ get_or-set_same next i (get_or first from 0) 0 within))
+            (subst (λ y. Points edges y (e + 1) (get_or first from 0)) (sym same_)
+            (subst (λ y. Points edges from (y + 1) (get_or first from 0)) (sym z) (chained.first from low))))
+            (λ (n : e ≢ i). subst (Points edges p (e + 1)) (sym (get_or-set_other next i e (get_or first from 0) 0 n))
+            (chained.next e p t (omega arith) at_))
+            (cases_eq e i);
       }

@@ -1,17 +1,14 @@
 -- Chains of conflicts, and what the sets at a note say of them.
+use Rattle.std.proofs.lemmas.{Grind.common_steps, Bool.cases_eq, Bool.cases_lt}
 use Rattle.std.proofs.Common.{◌≡◌, ◌⊎◌, ◌↔◌, ℕ, zero, suc, ◌+◌, ◌<◌, ◌≤◌, true, List, [], ◌∷◌, ◌++◌, length, get_or}
-use Rattle.std.proofs.Common.{refl, sym, ◌∙◌, subst, inl, inr, ⊎_elim, arith, length-append}
-use Rattle.std.proofs.lemmas.Bool.{cases_eq, cases_lt}
+use Rattle.std.proofs.Common.{refl, sym, subst, inl, inr, ⊎_elim, arith, length-append}
 use Rattle.std.proofs.lemmas.List.{get_or_push, get_or_append_left}
 use Rattle.cs_cells.specs.declared.footprint.Footprint.{Footprint}
-use Rattle.cs_graph.specs.inner.Sets.{has}
+use Rattle.cs_graph.specs.{inner.Sets.has, inner.Growing.IsKnown, inner.Growing.IsDrawn, inner.Index.HasEdge}
+use Rattle.cs_graph.specs.{declared.nearest.Known.Known, declared.nearest.Found.Found}
 use Rattle.cs_graph.specs.Conflict.{foot, Clash, Conflict, Leads, direct, beyond, Near, Chain, alone, further, IsLevel}
 use Rattle.cs_graph.specs.Graph.{Reaches, step, onward, IsFit, IsLevelled}
-use Rattle.cs_graph.specs.inner.Growing.{IsKnown, IsDrawn}
-use Rattle.cs_graph.specs.inner.Index.{HasEdge}
 use Rattle.cs_graph.specs.inner.Nearest.{known_at, Has, IsClosed, IsFound}
-use Rattle.cs_graph.specs.declared.nearest.Known.{Known}
-use Rattle.cs_graph.specs.declared.nearest.Found.{Found}
 
 module _ (feet : List Footprint) where
   pub Leads-earlier : (p t : ℕ) → Leads feet p t → p < t
@@ -43,10 +40,7 @@ module _ (feet : List Footprint) where
     met-conflict p c = (meets p c.earlier).1 c.clash
 
     pub found-near : (p : ℕ) → Has found.near p → Near feet p t
-    found-near p h = let w = f.near p h in record {
-      conflict = conflict-met p w.1 w.2;
-      no_longer_way = λ q l c. w.3 q c.earlier (met-conflict q c) ((k.leads p q c.earlier).1 l);
-    }
+    found-near p h = grind (arith, common_steps, conflict-met, met-conflict)
 
     pub found-rest : (p : ℕ) → Conflict feet p t → Has found.near p ⊎ ((q : ℕ) × Leads feet p q × Conflict feet q t)
     found-rest p c = ⊎_elim (λ h. inl h) (λ w. inr (w.0, (k.leads p w.0 w.1).0 w.3, conflict-met w.0 w.1 w.2))
@@ -104,11 +98,8 @@ module _ (feet : List Footprint) where
     pub level_push : (levels : List ℕ) → length levels ≡ t
         → ((q : ℕ) → q < t → get_or levels q 0 ≡ (known_at known q).level)
         → (q : ℕ) → q < t + 1 → get_or (levels ++ found.known.level ∷ []) q 0 ≡ (known_at more q).level
-    level_push levels long same q low = ⊎_elim
-        (λ (here : q ≡ t). rw (here, new_past) (get_or_push levels found.known.level 0 t long))
-        (λ apart. let below : q < t = omega arith in
-        rw (old_past q below) (get_or_append_left levels (found.known.level ∷ []) 0 q (omega arith) ∙ same q below))
-        (cases_eq q t)
+    level_push levels long same q low =
+        grind (arith, common_steps, cases_eq, get_or_append_left, get_or_push, new_past, old_past)
 
     pub drawn_more : (old edges : List (ℕ × ℕ)) → IsDrawn feet t old
         → ((a b : ℕ) → HasEdge edges a b ↔ (HasEdge old a b ⊎ ((b ≡ t) × (a < t) × Has found.near a)))

@@ -1,14 +1,13 @@
 -- The notes parted into chains, one by one, and how many may run at once.
-use Rattle.std.proofs.Common.{◌≡◌, ◌≢◌, ◌⊎◌, ℕ, suc, ◌+◌, ◌<◌, ◌≤◌, Bool, true, false, List, length, get_or, set}
-use Rattle.std.proofs.Common.{replicate, cond, eqb, refl, sym, ap, ◌∙◌, subst, inl, inr, ⊎_elim, arith, get_or-set_same}
+use Rattle.std.proofs.lemmas.{Grind.common_steps, Option.same_Some}
+use Rattle.std.proofs.Common.{◌≡◌, ◌≢◌, ◌⊎◌, ℕ, ◌+◌, ◌<◌, ◌≤◌, Bool, true, false, List, length, get_or, set, replicate}
+use Rattle.std.proofs.Common.{cond, eqb, refl, sym, ap, ◌∙◌, subst, inl, inr, ⊎_elim, arith, get_or-set_same}
 use Rattle.std.proofs.Common.{get_or-set_other}
 use Rattle.std.proofs.lemmas.Bool.{both_ways, cases_eq, cases_lt, eq-eqb, ne_eqb}
 use Rattle.std.proofs.lemmas.List.{get_or-replicate, get_or_past, length-replicate}
-use Rattle.std.proofs.lemmas.Option.{same_Some}
-use Rattle.cs_graph.specs.Cover.{HasLater, HasEarlier, IsCover, HasCover, AreApart}
+use Rattle.cs_graph.specs.{Cover.IsCover, Cover.AreApart, inner.Index.AreInto}
 use Rattle.cs_graph.specs.Graph.{Edge, Reaches, step, onward, LeadsForward}
 use Rattle.cs_graph.specs.inner.Covering.{goes_on, IsCoveredTo, ArePartedTo, IsFree, AreTaken}
-use Rattle.cs_graph.specs.inner.Index.{AreInto}
 use Rattle.cs_graph.proofs.Pigeonhole.{pigeonhole}
 
 -- f with the value c at k
@@ -24,20 +23,10 @@ unfolding put
 put_else f k c i n = ap (λ b. cond b c (f i)) (ne_eqb i k n)
 
 none_goes_on : (n p : ℕ) → goes_on (replicate n false) p ≡ false
-none_goes_on n p = ⊎_elim
-    (λ low. get_or-replicate n p false false low)
-    (λ high. get_or_past (replicate n false) p false (omega (arith, high, length-replicate n false)))
-    (cases_lt p n)
+none_goes_on n p = grind (arith, common_steps, cases_lt, get_or-replicate, get_or_past, length-replicate, replicate)
 
 pub covered_none : (edges : List (ℕ × ℕ)) (n : ℕ) → IsCoveredTo edges 0 (replicate n false) 0 (λ t. t)
-covered_none edges n = record {
-  within = λ t l. absurd (omega (arith, l));
-  filled = λ k l. absurd (omega (arith, l));
-  linked = λ p t l m e. absurd (omega (arith, m));
-  last = λ p q l m free same. absurd (omega (arith, l));
-  later = λ p taken. absurd (both_ways _ (none_goes_on n p) taken);
-  joined = λ e p t l at_. absurd (omega (arith, l));
-}
+covered_none edges n = grind (arith, common_steps, both_ways, none_goes_on)
 
 module _ (edges : List (ℕ × ℕ)) (m count : ℕ) (continued : List Bool) (chain : ℕ → ℕ)
     (c : IsCoveredTo edges m continued count chain) where
@@ -58,8 +47,7 @@ module _ (edges : List (ℕ × ℕ)) (m count : ℕ) (continued : List Bool) (ch
         (λ n. let w = c.filled k (omega (arith, l, n)) in (w.0, omega (arith, w.1), stays count w.0 w.1 ∙ w.2))
         (cases_eq k count);
     linked = λ p t l h same. ⊎_elim
-        (λ (e : t ≡ m). let low : p < m =
-        omega (arith, l, e) in absurd
+        (λ (e : t ≡ m). let low : p < m = omega (arith, l, e) in absurd
         (omega (arith, stays count p low, put_here chain m count t e, same, c.within p low)))
         (λ n. let low : t < m = omega (arith, h, n) in let far : p < m =
         omega (arith, low, l) in c.linked p t l low (sym (stays count p far) ∙ same ∙ stays count t low))
@@ -116,8 +104,7 @@ module _ (edges : List (ℕ × ℕ)) (m count : ℕ) (continued : List Bool) (ch
               (cases_eq t m);
           filled = λ k l. let w = c.filled k l in (w.0, omega (arith, w.1), stays x w.0 w.1 ∙ w.2);
           linked = λ q t l h same. ⊎_elim
-              (λ (e : t ≡ m). let low : q < m =
-              omega (arith, l, e) in subst (λ z. Reaches edges q z) (sym e)
+              (λ (e : t ≡ m). let low : q < m = omega (arith, l, e) in subst (λ z. Reaches edges q z) (sym e)
               (reaches q low (sym (stays x q low) ∙ same ∙ put_here chain m x t e)))
               (λ n. let low : t < m = omega (arith, h, n) in let far : q < m =
               omega (arith, low, l) in c.linked q t l low (sym (stays x q far) ∙ same ∙ stays x t low))
@@ -185,12 +172,7 @@ module _ (edges : List (ℕ × ℕ)) (m count first end_ : ℕ) (into : AreInto 
 -- all notes are parted
 pub covers : (edges : List (ℕ × ℕ)) (n count : ℕ) (continued : List Bool) (chain : ℕ → ℕ) → LeadsForward edges n
     → IsCoveredTo edges n continued count chain → IsCover edges n count chain
-covers edges n count continued chain forward c = record {
-  within = c.within;
-  filled = c.filled;
-  linked = c.linked;
-  joined = λ e p t at_. ⊎_elim (λ k. inl (c.later p k)) (λ k. inr k) (c.joined e p t (forward e p t at_).1 at_);
-}
+covers edges n count continued chain forward c = grind (arith, common_steps)
 
 -- notes that may run at once are in different chains
 module _ (edges : List (ℕ × ℕ)) (n count : ℕ) (chain : ℕ → ℕ) (c : IsCover edges n count chain) (notes : List ℕ)

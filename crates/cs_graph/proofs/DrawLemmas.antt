@@ -1,14 +1,11 @@
 -- The edges to one note, drawn one by one.
 use Rattle.std.proofs.Common.{◌≡◌, ℕ, zero, suc, ◌+◌, ◌-◌, ◌*◌, ◌/◌, ◌<◌, ◌≤◌, min, true, false, List, [], ◌∷◌, ◌++◌}
 use Rattle.std.proofs.Common.{length, length-append, refl, sym, subst, inl, inr, ⊎_elim, arith}
-use Rattle.std.proofs.lemmas.Bool.{both_ways, cases_eq}
+use Rattle.std.proofs.lemmas.{Bool.both_ways, Bool.cases_eq, List.Quantifiers.all_pairs_push}
 use Rattle.std.proofs.lemmas.List.Elements.{All-weaker, All-push}
-use Rattle.std.proofs.lemmas.List.Quantifiers.{all_pairs_push}
-use Rattle.std.specs.List.{All, AllPairs}
+use Rattle.std.specs.List.{All}
 use Rattle.cs_graph.proofs.EdgeLemmas.{edge_kept, edge_new, edge_cases}
-use Rattle.cs_graph.specs.Graph.{ComesBefore, Edge}
-use Rattle.cs_graph.specs.inner.Growing.{AreDrawnTo}
-use Rattle.cs_graph.specs.inner.Sets.{has}
+use Rattle.cs_graph.specs.{Graph.ComesBefore, Graph.Edge, inner.Growing.AreDrawnTo, inner.Sets.has}
 
 before_more : (p t : ℕ) (xs : List (ℕ × ℕ)) → All (λ e. ComesBefore e (p, t)) xs
     → All (λ e. ComesBefore e (p + 1, t)) xs
@@ -16,17 +13,6 @@ before_more p t xs h = All-weaker (λ e. ComesBefore e (p, t)) (λ e. ComesBefor
     (λ e k. ⊎_elim (λ l. inl l) (λ l. inr (l.0, omega (arith, l.1))) k) xs h
 
 module _ (old : List (ℕ × ℕ)) (near : List ℕ) (t : ℕ) where
-  pub drawn_none : AllPairs ComesBefore old → All (λ e. e.1 < t) old → AreDrawnTo old near t 0 old
-  drawn_none ordered before = record {
-    ends = λ a b. (λ h. inl h, λ h. ⊎_elim (λ k. k) (λ k. absurd (omega (arith, k.1))) h);
-    kept = λ e a b h. h;
-    behind = λ e a b h. inl h;
-    before = All-weaker (λ e. e.1 < t) (λ e. ComesBefore e (0, t)) (λ e k. inl k) old before;
-    ordered = ordered;
-    few = omega arith;
-    long = omega arith;
-  }
-
   pub drawn_skip : (edges : List (ℕ × ℕ)) (p : ℕ) → has near p ≡ false → AreDrawnTo old near t p edges
       → AreDrawnTo old near t (p + 1) edges
   drawn_skip edges p no_ d = record {

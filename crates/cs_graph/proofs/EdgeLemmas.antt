@@ -1,13 +1,10 @@
 -- Edges that are added at the end of a list of edges, and edges in order.
 use Rattle.std.proofs.Common.{◌≡◌, ◌⊎◌, ℕ, zero, suc, ◌+◌, ◌<◌, ◌≤◌, List, [], ◌∷◌, ◌++◌, length, get_or, refl, sym, ap}
 use Rattle.std.proofs.Common.{◌∙◌, subst, inl, inr, ⊎_elim, arith, slice_get}
-use Rattle.std.proofs.lemmas.Bool.{cases_eq}
-use Rattle.std.proofs.lemmas.List.{get_or_push, get_or_append_left}
+use Rattle.std.proofs.lemmas.{Bool.cases_eq, List.get_or_push, List.get_or_append_left, Option.get_or_from_slice_get}
 use Rattle.std.proofs.lemmas.Option.{none-some, some_pair_parts, same_Some, slice_get_within, slice_get-get_or}
-use Rattle.std.proofs.lemmas.Option.{get_or_from_slice_get}
 use Rattle.std.specs.List.{All, AllPairs}
-use Rattle.cs_graph.specs.Graph.{Edge, ComesBefore, StandTogether}
-use Rattle.cs_graph.specs.inner.Growing.{AreDrawnTo}
+use Rattle.cs_graph.specs.{Graph.Edge, Graph.ComesBefore, Graph.StandTogether, inner.Growing.AreDrawnTo}
 use Rattle.cs_graph.specs.inner.Index.{AreInto, range_at, AreEnds}
 use Rattle.cs_graph.proofs.ReadAt.{read_at}
 

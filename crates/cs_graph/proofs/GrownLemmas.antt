@@ -4,9 +4,7 @@ use Rattle.cs_base.specs.Limits.{most_notes}
 use Rattle.cs_cells.specs.declared.footprint.Footprint.{Footprint}
 use Rattle.cs_graph.proofs.ConflictLemmas.{levelled_known, IsLevel-levelled, IsFit-drawn}
 use Rattle.cs_graph.specs.Graph.{IsGraphOf, IsFit, IsLevelled}
-use Rattle.cs_graph.specs.inner.Growing.{IsGrown}
-use Rattle.cs_graph.specs.inner.Index.{AreEnds}
-use Rattle.cs_graph.specs.declared.growing.Growing.{Growing}
+use Rattle.cs_graph.specs.{inner.Growing.IsGrown, inner.Index.AreEnds, declared.growing.Growing.Growing}
 
 module _ (feet : List Footprint) (g : Growing) (r : IsGrown feet (length feet) g) where
   pub grown_levelled : IsLevelled feet g.levels.items

@@ -1,60 +1,14 @@
-use Rattle.std.proofs.Common.{◌≡◌, ◌==◌, ◌||◌, ◌&&◌, not, ℕ, zero, suc, ◌+◌, ◌-◌, ◌*◌, ◌/◌, ◌<◌, ◌≤◌, min, max, true}
-use Rattle.std.proofs.Common.{false, List, refl, sym, ◌∙◌, subst, inl, inr, ⊎_elim, arith}
+use Rattle.std.proofs.lemmas.{Grind.common_steps, Bool.or_right, Bool.Decides.nat_tests}
+use Rattle.std.proofs.Common.{◌≡◌, ◌==◌, ◌||◌, ◌&&◌, not, ℕ, ◌+◌, ◌-◌, ◌<◌, ◌≤◌, max, true, false, List, refl, sym, ◌∙◌}
+use Rattle.std.proofs.Common.{inl, inr, ⊎_elim, arith}
 use Rattle.std.proofs.lemmas.Bool.{and_parts, both_ways, cases_eq, cases_lt, eqb-true, not-true, or_cases, or_left}
-use Rattle.std.proofs.lemmas.Bool.{or_right}
-use Rattle.std.proofs.lemmas.Bool.Decides.{nat_tests}
-use Rattle.cs_graph.specs.inner.Sets.{has}
+use Rattle.cs_graph.specs.{inner.Sets.has, declared.nearest.Known.Known, declared.nearest.Found.Found}
 use Rattle.cs_graph.specs.inner.Nearest.{known_at, Has, LeadsIn, IsClosed, IsFound}
-use Rattle.cs_graph.specs.declared.nearest.Known.{Known}
-use Rattle.cs_graph.specs.declared.nearest.Found.{Found}
 
 module _ (met : List ℕ) (known : List Known) (t : ℕ) where
   pub found_none : (found : Found) → ((p : ℕ) → has found.near p ≡ false) → ((p : ℕ) → has found.known.reach p ≡ false)
       → found.known.level ≡ 0 → IsFound met known t t found
-  found_none found near reach level = record {
-    near = λ p h. absurd (both_ways _ (near p) h);
-    rest = λ p a b h. absurd (omega arith);
-    reach = λ p h. absurd (both_ways _ (reach p) h);
-    all = λ p q a b h k. absurd (omega arith);
-    above = λ q a b h. absurd (omega arith);
-    greatest = λ h. absurd (omega arith);
-    low = omega arith;
-  }
-
-  pub found_skip : (q : ℕ) (found : Found) → has met q ≡ false → IsFound met known (q + 1) t found
-      → IsFound met known q t found
-  found_skip q found not_met f = record {
-    near = λ p h. let w = f.near p h in (omega arith, w.1, w.2, w.3);
-    rest = λ p a b h. ⊎_elim (λ (same : p ≡ q). absurd (both_ways _ not_met (rw (← same) h)))
-        (λ apart. f.rest p (omega arith) b h) (cases_eq p q);
-    reach = λ p h. let w = f.reach p h in (w.0, omega (arith, w.1), w.2, w.3, w.4);
-    all = λ p r a b h k. ⊎_elim (λ (same : r ≡ q). absurd (both_ways _ not_met (rw (← same) h)))
-        (λ apart. f.all p r (omega arith) b h k) (cases_eq r q);
-    above = λ r a b h. ⊎_elim (λ (same : r ≡ q). absurd (both_ways _ not_met (rw (← same) h)))
-        (λ apart. f.above r (omega arith) b h) (cases_eq r q);
-    greatest = λ h. let w = f.greatest h in (w.0, omega (arith, w.1), w.2, w.3, w.4);
-    low = f.low;
-  }
-
-  -- a block of notes of which none is met
-  pub found_past : (q n : ℕ) (found : Found) → ((i : ℕ) → q ≤ i → i < q + n → has met i ≡ false)
-      → IsFound met known (q + n) t found → IsFound met known q t found
-  found_past q zero found none f = subst (λ p. IsFound met known p t found) (let e : q + 0 ≡ q = omega arith in e) f
-  found_past q (suc n) found none f =
-      found_past q n found (λ i low high. none i low (omega (arith, high)))
-      (found_skip (q + n) found (none (q + n) (omega arith) (omega arith))
-      (subst (λ p. IsFound met known p t found) (let e : q + suc n ≡ (q + n) + 1 = omega arith in e) f))
-
-  pub found_clear : (block : ℕ) (found : Found) → block * 64 < t → ((i : ℕ) → i / 64 ≡ block → has met i ≡ false)
-      → IsFound met known (min t ((block + 1) * 64)) t found → IsFound met known (min t (block * 64)) t found
-  found_clear block found low clear f =
-      let n : ℕ = min t ((block + 1) * 64) - block * 64 in
-      let a : block * 64 ≡ min t (block * 64) = omega (arith, low) in
-      let e : min t ((block + 1) * 64) ≡ block * 64 + n = omega (arith, low) in
-      subst (λ q. IsFound met known q t found) a
-      (found_past (block * 64) n found
-      (λ i from to. clear i (let q : i / 64 ≡ block = omega (arith, from, to) in q))
-      (subst (λ q. IsFound met known q t found) e f))
+  found_none found near reach level = grind (arith, common_steps, both_ways)
 
   module _ (closed : IsClosed known t) (q : ℕ) (old new : Found) (within : q < t) (is_met : Has met q)
       (f : IsFound met known (q + 1) t old) where
@@ -69,9 +23,7 @@ module _ (met : List ℕ) (known : List Known) (t : ℕ) where
       levels_low = let a : (known_at known q).level ≤ q = closed.low q within in omega (arith, f.low)
 
       levels_above : (r : ℕ) → q ≤ r → r < t → Has met r → (known_at known r).level < new.known.level
-      levels_above r a b h = ⊎_elim (λ (same : r ≡ q). rw same (omega arith))
-          (λ apart. let k : (known_at known r).level < old.known.level = f.above r (omega arith) b h in omega arith)
-          (cases_eq r q)
+      levels_above r a b h = grind (arith, common_steps, cases_eq)
 
       levels_greatest : 0 < new.known.level
           → (r : ℕ) × (q ≤ r) × (r < t) × Has met r × (new.known.level ≡ (known_at known r).level + 1)

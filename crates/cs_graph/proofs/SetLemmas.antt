@@ -1,14 +1,11 @@
+use Rattle.std.proofs.lemmas.{Grind.common_steps, Bool.Decides.nat_tests, List.get_or_past, Nat.Bits.bit_at_set_other}
 use Rattle.cs_base.specs.Limits.{most_notes}
 use Rattle.std.proofs.Common.{◌≡◌, ◌||◌, ℕ, zero, suc, ◌*◌, ◌/◌, ◌%◌, ◌^◌, ◌<◌, max, false, List, [], ◌∷◌, length}
 use Rattle.std.proofs.Common.{get_or, set, refl, ap, ⊎_elim, arith, eqb, w64, get_or-set_same, get_or-set_other}
-use Rattle.std.specs.Int.{bit_at}
-use Rattle.std.specs.Int.RustNames.{bit_or}
+use Rattle.std.specs.{Int.bit_at, Int.RustNames.bit_or}
 use lib.Bits.{bit_and}
 use Rattle.std.proofs.lemmas.Bool.{cases_eq, cases_lt}
-use Rattle.std.proofs.lemmas.Bool.Decides.{nat_tests}
-use Rattle.std.proofs.lemmas.List.{get_or_past}
 use Rattle.std.proofs.lemmas.Nat.Bits.{bit_at-zero, bit_at-lt, bit_at_or, shr_and_one, bit_at_set_same}
-use Rattle.std.proofs.lemmas.Nat.Bits.{bit_at_set_other}
 use Rattle.cs_graph.specs.inner.Sets.{has}
 
 -- the test of a bit, as code makes it
@@ -72,10 +69,4 @@ bit-join a b j = let low : bit_at a j < 2 = bit_at-lt a j in let low' : bit_at b
 pub has-join : (ws us vs : List ℕ) (i : ℕ) → length ws ≡ 8 → length us ≡ 8 → length vs ≡ 8
     → ((k : ℕ) → k < 8 → get_or ws k 0 ≡ bit_or (get_or us k 0) (get_or vs k 0)) → has ws i ≡ (has us i || has vs i)
 unfolding has
-has-join ws us vs i long long' long'' each = ⊎_elim
-    (λ within. rw (each (i / 64) within) (bit-join (get_or us (i / 64) 0) (get_or vs (i / 64) 0) (i % 64)))
-    (λ known. let w : get_or ws (i / 64) 0 ≡ 0 = get_or_past ws (i / 64) 0 (omega arith) in
-    let u : get_or us (i / 64) 0 ≡ 0 = get_or_past us (i / 64) 0 (omega arith) in
-    let v : get_or vs (i / 64) 0 ≡ 0 = get_or_past vs (i / 64) 0 (omega arith) in
-    rw (w, u, v, bit_at-zero (i % 64)) refl)
-    (cases_lt (i / 64) 8)
+has-join ws us vs i long long' long'' each = grind (arith, common_steps, bit-join, bit_at-zero, cases_lt, get_or_past)

@@ -4,9 +4,8 @@ use Rattle.std.proofs.Common.{⊎_elim, arith}
 use Rattle.std.proofs.lemmas.Option.{none-some, same_Some}
 use Rattle.std.specs.List.{Contains}
 use Rattle.cs_graph.specs.Conflict.{Conflict, Leads, direct, beyond, Near, Chain, alone, further}
-use Rattle.cs_graph.specs.Examples.{small_cycle, small_graph}
+use Rattle.cs_graph.specs.{Examples.small_cycle, Examples.small_graph, inner.Index.HasEdge}
 use Rattle.cs_graph.specs.Graph.{ComesBefore, Edge, IsGraphOf}
-use Rattle.cs_graph.specs.inner.Index.{HasEdge}
 use Rattle.cs_graph.proofs.ConflictLemmas.{Leads-earlier}
 
 here : Contains {X = ℕ} (7 ∷ []) 7

@@ -1,12 +1,10 @@
 use Rattle.std.proofs.Common.{◌≡◌, ◌==◌, ◌≢◌, ◌||◌, ◌&&◌, ◌↔◌, ℕ, ◌+◌, ◌<◌, Bool, true, false, cond, List, length}
 use Rattle.std.proofs.Common.{get_or, take, nat_lt, refl, sym, ap, ◌∙◌, subst, inl, inr, ⊎_elim, arith}
-use Rattle.std.proofs.lemmas.Bool.Decides.{nat_tests}
+use Rattle.std.proofs.lemmas.{Bool.Decides.nat_tests, Bool.or_cases, Bool.or_left, Bool.or_right, Bool.eqb-true}
 use Rattle.std.proofs.lemmas.List.Folds.{Any-from_list_any, list_any-from_Any, list_any_more}
 use Rattle.std.specs.List.{list_any, Contains}
 use Rattle.cs_cells.specs.declared.footprint.Footprint.{Footprint}
-use Rattle.std.proofs.lemmas.Bool.{or_cases, or_left, or_right, eqb-true}
-use Rattle.cs_graph.specs.Conflict.{UsesResource, Clash}
-use Rattle.cs_graph.specs.inner.Touched.{lists}
+use Rattle.cs_graph.specs.{Conflict.UsesResource, Conflict.Clash, inner.Touched.lists}
 
 pub Contains-from_test : (xs : List ℕ) (r : ℕ) → lists xs r ≡ true → Contains xs r
 Contains-from_test xs r h = let a = Any-from_list_any (λ y. r == y) xs h in

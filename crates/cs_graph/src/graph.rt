@@ -17,10 +17,9 @@ use std::alloc::Global;
 use std::marker::Model;
 use std::ops::Range;
 
-/// Which notes of a control cycle wait for which: an edge leads from each note to the later ones
-/// that conflict with it and that no longer chain of conflicts joins to it. Edges are numbered by
-/// the later note, then by the earlier. It stays the same as long as the same notes are active, and
-/// can be shared meanwhile.
+/// Which notes of a control cycle wait for which: an edge leads from each note to the later ones that conflict with it
+/// and that no longer chain of conflicts joins to it. Edges are numbered by the later note, then by the earlier. It
+/// stays the same as long as the same notes are active, and can be shared meanwhile.
 #[derive(Drop)]
 pub struct Graph {
     edges: Vec<(u32, u32)>,
@@ -111,8 +110,7 @@ impl Graph {
         self.chains
     }
 
-    /// All edges, each from an earlier note to a later one, in the order of the later note and then
-    /// of the earlier one.
+    /// All edges, each from an earlier note to a later one, in the order of the later note and then of the earlier one.
     pub fn edges(&self) -> &[(u32, u32)]
         ensures edges { result.now ≡ self.now.edges }
         ensures few { length result.now ≤ most_notes * most_notes }
@@ -144,8 +142,7 @@ impl Graph {
     /// The numbers of the edges that lead to a note.
     pub fn in_edges(&self, note: u32) -> Range<u32>
         requires { note < length self.now.levels }
-        ensures { (e : ℕ) → ((result.start ≤ e) × (e < result.end))
-            ↔ ((p : ℕ) × Edge self.now.edges e p note) }
+        ensures { (e : ℕ) → ((result.start ≤ e) × (e < result.end)) ↔ ((p : ℕ) × Edge self.now.edges e p note) }
     {
         let (first, end) = self.into[note as usize];
         first..end
@@ -154,8 +151,7 @@ impl Graph {
     /// The edge after this one, if it leads to the same note; if not, none after it does.
     pub fn next_in(&self, edge: u32, note: u32) -> Option<u32>
         requires { (p : ℕ) × Edge self.now.edges edge p note }
-        ensures some { IfSome result (λ next. (next ≡ edge + 1)
-            × ((p : ℕ) × Edge self.now.edges next p note)) }
+        ensures some { IfSome result (λ next. (next ≡ edge + 1) × ((p : ℕ) × Edge self.now.edges next p note)) }
         ensures none { IfNone result (NoneIn self.now.edges note (edge + 1)) }
     {
         let (_, end) = self.into[note as usize];

@@ -1,5 +1,4 @@
-// At one note: which of the earlier notes that it meets are nearest, which lead to it, and its
-// level.
+// At one note: which of the earlier notes that it meets are nearest, which lead to it, and its level.
 ghost use Rattle.cs_base.specs.Limits.{most_notes};
 ghost use Rattle.std.specs.Prelude.{◌≡◌, ◌==◌, ◌||◌, ◌&&◌, not, ℕ, ◌<◌, ◌≤◌, ◌+◌, true, false, max, length};
 ghost use Rattle.cs_graph.specs.inner.Nearest.{IsClosed, IsFound};
@@ -38,8 +37,7 @@ impl Found {
         }
     }
 
-    // Takes in an earlier note that is met: it is nearest unless a chain leads from it to one that
-    // was taken in before.
+    // Takes in an earlier note that is met: it is nearest unless a chain leads from it to one that was taken in before.
     fn take_in(&mut self, note: u32, known: &Known)
         requires small { note < most_notes }
         requires low { known.now.level < most_notes }

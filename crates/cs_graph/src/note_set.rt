@@ -12,8 +12,7 @@ const WORDS: usize = MOST_NOTES / 64;
 /// How many notes have their bits in one word. A block of so many is passed over where it has no member.
 pub const BLOCK: u32 = 64;
 
-/// A set of the notes that a cycle may have, as bits of words. Contracts see the words, and ask for
-/// a member by `has`.
+/// A set of the notes that a cycle may have, as bits of words. Contracts see the words, and ask for a member by `has`.
 #[derive(Clone, Copy)]
 pub struct NoteSet {
     words: [u64; WORDS],

@@ -50,8 +50,7 @@ impl Sharers {
     }
 }
 
-// The note uses the place, and so meets the place's writers so far; or it writes the place, and
-// meets its users.
+// The note uses the place, and so meets the place's writers so far; or it writes the place, and meets its users.
 fn touch_place(
     by_place: &mut SharersByPlace,
     place: u32,
@@ -64,8 +63,7 @@ fn touch_place(
         ≡ (uses_so_far by_place.old r p || (r == place && p == note))) }
     ensures writers { OnOk result ((r p : ℕ) → writes_so_far by_place.new r p
         ≡ (writes_so_far by_place.old r p || (writes && (r == place && p == note)))) }
-    ensures met { OnOk result ((p : ℕ) → has met.new p
-        ≡ (has met.old p || meets_so_far writes by_place.old place p)) }
+    ensures met { OnOk result ((p : ℕ) → has met.new p ≡ (has met.old p || meets_so_far writes by_place.old place p)) }
 {
     let sharers = by_place.entry(place)?.or_insert(Sharers::new());
     if writes {

@@ -1,17 +1,11 @@
 -- The sums of rows, added up one row after another.
-use Rattle.std.proofs.Common.{◌≡◌, ◌<◌, ◌≤◌, ◌+◌, ◌+ℤ◌, get_or, ℕ, zero, suc, ℤ, pos, List, [], ◌∷◌, ◌++◌, length}
-use Rattle.std.proofs.Common.{map, take}
-use Rattle.std.proofs.Common.{sym, ap, ◌∙◌, subst, arith, append-nil, to_z, of_z, w64, false, nat_lt, ◌==◌, ◌≢◌}
+use Rattle.std.proofs.lemmas.{Grind.common_steps, Bool.Decides.nat_tests, Int.ints, List.Concat.flat_map-append}
+use Rattle.std.proofs.Common.{◌≡◌, ◌<◌, ◌≤◌, ◌+◌, ◌+ℤ◌, get_or, ℕ, zero, suc, ℤ, pos, List, [], ◌∷◌, ◌++◌, length, map}
+use Rattle.std.proofs.Common.{take, sym, ap, ◌∙◌, subst, arith, append-nil, to_z, of_z, w64, false, nat_lt, ◌==◌, ◌≢◌}
 use Rattle.std.proofs.Math.IntN.{+ℤ_assoc, +ℤ_idl, +ℤ_idr}
-use Rattle.std.proofs.lemmas.Bool.Decides.{nat_tests}
-use Rattle.std.proofs.lemmas.Int.{ints}
 use Rattle.std.proofs.lemmas.List.{length-append, map-append, take_more}
-use Rattle.std.proofs.lemmas.List.Concat.{flat_map-append}
-use Rattle.cs_base.specs.Limits.{most_notes}
-use Rattle.cs_base.specs.Numbers.{total}
-use Rattle.cs_row.specs.Heard.{HeardRow, IsSumOf}
-use Rattle.cs_row.specs.Laws.{all_notes, jobs_of}
-use Rattle.cs_row.specs.Rows.{notes_in}
+use Rattle.cs_base.specs.{Limits.most_notes, Numbers.total}
+use Rattle.cs_row.specs.{Heard.HeardRow, Heard.IsSumOf, Laws.all_notes}
 
 pub nothing_small : (n : ℕ) → IsSumOf n (pos 0)
 nothing_small n = record { low = omega (arith, ints); high = omega (arith, ints) }
@@ -44,19 +38,10 @@ module _ {J : Type 0} (rows : List (HeardRow J)) (at : ℕ) (row : HeardRow J) (
 
   pub total_more : (f : HeardRow J → ℤ)
       → total (map f (take (at + 1) rows)) ≡ total (map f (take at rows)) +ℤ f row
-  total_more f =
-      ap (λ (rs : List (HeardRow J)). total (map f rs)) more
-      ∙ ap total (map-append f (take at rows) (row ∷ [])) ∙ total_push (map f (take at rows)) (f row)
+  total_more f = grind (arith, common_steps, map-append, more, total_push)
 
   pub notes_more : length (all_notes (take (at + 1) rows)) ≡ length (all_notes (take at rows)) + length row.jobs
-  notes_more =
-      let before : List (List J) = jobs_of (take at rows) in
-      ap (λ (rs : List (HeardRow J)). length (all_notes rs)) more
-      ∙ ap (λ (rs : List (List J)). length (notes_in rs))
-      (map-append (λ (r : HeardRow J). r.jobs) (take at rows) (row ∷ []))
-      ∙ ap length (flat_map-append (λ (r : List J). r) before (row.jobs ∷ []))
-      ∙ length-append (notes_in before) (row.jobs ++ [])
-      ∙ ap (λ (js : List J). length (notes_in before) + length js) (append-nil row.jobs)
+  notes_more = grind (arith, common_steps, append-nil, flat_map-append, length-append, map-append, more)
 
   -- no more than there are in all
   pub notes_within : length (all_notes (take at rows)) + length row.jobs ≤ length (all_notes rows)

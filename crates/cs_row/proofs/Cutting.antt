@@ -1,15 +1,12 @@
 -- Notes are cut into rows one after another: a note joins the last row, or begins one.
-use Rattle.std.proofs.Common.{◌≡◌, ◌<◌, ◌≤◌, ◌+◌, ◌-◌, get_or, set, ℕ, List, [], ◌∷◌, ◌++◌, length, map, take}
-use Rattle.std.proofs.Common.{refl, sym, ap, ◌∙◌, Some, subst, arith, append_assoc, append-nil}
+use Rattle.std.proofs.lemmas.{Grind.common_steps, List.Concat.flat_map-append}
+use Rattle.std.proofs.Common.{◌≡◌, ◌<◌, ◌≤◌, ◌+◌, ◌-◌, get_or, set, ℕ, List, [], ◌∷◌, ◌++◌, length, map, take, refl}
+use Rattle.std.proofs.Common.{sym, ap, ◌∙◌, Some, subst, arith, append_assoc, append-nil}
 use Rattle.std.specs.List.{All}
 use Rattle.std.proofs.lemmas.List.{get_or-append_right, set-append_right, length-append, length-map, map-append}
-use Rattle.std.proofs.lemmas.List.{take_more}
-use Rattle.std.proofs.lemmas.List.{get_or-take, get_or_default, length-take-le}
-use Rattle.std.proofs.lemmas.List.Concat.{flat_map-append}
-use Rattle.std.proofs.lemmas.List.Elements.{All-append, All-cons, All-get_or, All-nil, All-pop, All-push}
-use Rattle.cs_cells.specs.Meaning.{Meaning}
-use Rattle.cs_cells.specs.declared.footprint.Area.{Area}
-use Rattle.cs_cells.specs.declared.footprint.Footprint.{Footprint}
+use Rattle.std.proofs.lemmas.List.{take_more, get_or-take, get_or_default, length-take-le}
+use Rattle.std.proofs.lemmas.List.Elements.{All-append, All-cons, All-get_or, All-nil, All-pop}
+use Rattle.cs_cells.specs.{Meaning.Meaning, declared.footprint.Area.Area, declared.footprint.Footprint.Footprint}
 use Rattle.cs_row.specs.Cuts.{AreRowsOf, IsCut}
 use Rattle.cs_row.specs.Rows.{IsFree, IsRow, Touches, notes_in, row_areas, row_foot}
 
@@ -28,11 +25,7 @@ module _ {A : Type 0} where
       record { front = x ∷ r.front; last = r.last; is = ap (λ (zs : List A). x ∷ zs) r.is }
 
   pub last_read : (xs : List A) (x d : A) (n : ℕ) → n ≡ length (xs ++ x ∷ []) → get_or (xs ++ x ∷ []) (n - 1) d ≡ x
-  last_read xs x d n e =
-      let long : length (xs ++ x ∷ []) ≡ length xs + 1 = length-append xs (x ∷ []) in
-      let low : length xs ≤ n - 1 = omega (arith, e, long) in
-      let none : n - 1 - length xs ≡ 0 = omega (arith, e, long) in
-      get_or-append_right xs (x ∷ []) (length xs) (n - 1) d refl low ∙ ap (λ (k : ℕ). get_or (x ∷ []) k d) none
+  last_read xs x d n e = grind (arith, common_steps, get_or-append_right, length-append)
 
   pub last_set : (xs : List A) (x y : A) (n : ℕ) → n ≡ length (xs ++ x ∷ [])
       → set (xs ++ x ∷ []) (n - 1) y ≡ xs ++ y ∷ []
@@ -46,12 +39,7 @@ module _ {A : Type 0} where
 module _ {J : Type 0} (M : Meaning J) (most : ℕ) where
   -- a note by itself is a row
   alone : (j : J) → M.valid j → IsRow M (j ∷ [])
-  alone j valid = record {
-    some = omega arith;
-    alike = All-cons (Touches M (M.areas j) (M.foot j)) j []
-        (record { areas_are = refl; foot_is = refl; valid = valid })
-        (All-nil (Touches M (M.areas j) (M.foot j)));
-  }
+  alone j valid = grind (arith, common_steps)
 
   alone_free : (j : J) → IsFree M (j ∷ [])
   alone_free j l = absurd (omega (arith, l))
@@ -59,13 +47,7 @@ module _ {J : Type 0} (M : Meaning J) (most : ℕ) where
   -- one row more
   more_rows : (notes : List J) (rows : List (List J)) (row : List J) → AreRowsOf M most notes rows → IsRow M row
       → IsFree M row → length row ≤ most → AreRowsOf M most (notes ++ row) (rows ++ row ∷ [])
-  more_rows notes rows row c is free few = record {
-    whole = flat_map-append (λ (r : List J). r) rows (row ∷ [])
-        ∙ ap (λ (l : List J). notes_in rows ++ l) (append-nil row) ∙ ap (λ (l : List J). l ++ row) c.whole;
-    are = All-push (IsRow M) rows row c.are is;
-    free = All-push (IsFree M) rows row c.free free;
-    few = All-push (λ (r : List J). length r ≤ most) rows row c.few few;
-  }
+  more_rows notes rows row c is free few = grind (arith, common_steps, append-nil, flat_map-append)
 
   -- one note more, which begins a row
   begins : (notes : List J) (cuts : List ℕ) (j : J) → IsCut M most notes cuts → M.valid j → 1 ≤ most
@@ -161,9 +143,7 @@ module _ {J : Type 0} (M : Meaning J) (most : ℕ) where
     more = sym (take_more notes at next within ∙ ap (λ (j : J). take at notes ++ j ∷ []) (sym next_is))
 
     begins_at : 1 ≤ most → IsCut M most (take (at + 1) notes) (cuts ++ 1 ∷ [])
-    begins_at room =
-        subst (λ (l : List J). IsCut M most l (cuts ++ 1 ∷ [])) more
-        (begins (take at notes) cuts next c next_valid room)
+    begins_at room = grind (arith, common_steps, begins, more, next_valid)
 
     module _ (one : J) (one_is : one ≡ get_or notes (at - 1) one) (some : 0 < at)
         (over : (areas : List Area) × All (λ j. M.areas j ≡ areas) notes) where
@@ -226,10 +206,4 @@ module _ {J : Type 0} (M : Meaning J) (most : ℕ) where
 
   pub some_cuts : (notes : List J) (at : ℕ) (cuts : List ℕ) → at < length notes → IsCut M most (take at notes) cuts
       → 0 < at → 0 < length cuts
-  some_cuts notes at cuts within c some =
-      let long : length (take at notes) ≡ at = length-take-le at notes (omega (arith, within)) in
-      let rows = some_rows c.rows
-      (subst (λ (l : List J). 0 < length l) (sym c.of.whole) (omega (arith, long, some))) in
-      let many : length (map length c.rows) ≡ length c.rows = length-map c.rows length in
-      let same : length (map length c.rows) ≡ length cuts = ap length c.lengths in
-      omega (arith, rows, many, same)
+  some_cuts notes at cuts within c some = grind (arith, common_steps, length-map, length-take-le, some_rows)

@@ -1,11 +1,9 @@
 -- The notes of rows come behind one another.
+use Rattle.std.proofs.lemmas.{Grind.common_steps, List.Elements.All-push, List.length-append, List.reverse-append}
 use Rattle.std.proofs.Common.{◌≡◌, ◌≤◌, ◌+◌, List, [], ◌∷◌, ◌++◌, length, reverse, sym, ap, ◌∙◌, arith, append_assoc}
 use Rattle.std.proofs.Common.{Bool, true, false, if◌then◌else◌}
 use Rattle.std.specs.List.{All}
-use Rattle.std.proofs.lemmas.List.Elements.{All-push}
-use Rattle.std.proofs.lemmas.List.{length-append, reverse-append}
-use Rattle.cs_row.specs.Heard.{HeardRow}
-use Rattle.cs_row.specs.Laws.{all_notes}
+use Rattle.cs_row.specs.{Heard.HeardRow, Laws.all_notes}
 
 module _ {J : Type 0} (rows left : List (HeardRow J)) (row : HeardRow J) (notes whole : List J)
     (last : rows ≡ left ++ row ∷ [])
@@ -16,16 +14,10 @@ module _ {J : Type 0} (rows left : List (HeardRow J)) (row : HeardRow J) (notes 
 
   -- there is room for those of the next
   pub room_left : length notes + length row.jobs ≤ length whole
-  room_left =
-      let one = length-append notes (row.jobs ++ all_notes (reverse left)) in
-      let two = length-append row.jobs (all_notes (reverse left)) in
-      let all = ap length parted in
-      omega (arith, one, two, all)
+  room_left = grind (arith, common_steps, length-append, parted, reverse)
 
   pub more_notes : (after : List J) → after ≡ notes ++ row.jobs → after ++ all_notes (reverse left) ≡ whole
-  more_notes after is =
-      ap (λ (l : List J). l ++ all_notes (reverse left)) is
-      ∙ append_assoc notes row.jobs (all_notes (reverse left)) ∙ parted
+  more_notes after is = grind (arith, common_steps, append_assoc, parted, reverse)
 
 -- one more, or none, of which it is true
 pub kept_or_not : {A : Type 0} (P : A → Type 0) (b : Bool) (xs : List A) (x : A) → All P xs → P x

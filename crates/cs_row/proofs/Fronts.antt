@@ -1,7 +1,7 @@
 -- The front of one list before the rest of another, of the same length; and what is true at a place.
+use Rattle.std.proofs.lemmas.Grind.{common_steps}
 use Rattle.std.proofs.Common.{◌≡◌, ℕ, zero, suc, ◌<◌, List, [], ◌∷◌, ◌++◌, length, take, drop, slice_get, slice_set}
-use Rattle.std.proofs.Common.{Some}
-use Rattle.std.proofs.Common.{refl, sym, ap, ◌∙◌, get_or, arith, subst}
+use Rattle.std.proofs.Common.{Some, refl, ap, get_or, arith, subst}
 use Rattle.std.proofs.lemmas.Option.{get_or_from_slice_get, slice_get-get_or, slice_get_within}
 use Rattle.std.specs.List.{All}
 
@@ -20,8 +20,7 @@ module _ {A : Type 0} where
   middle_below [] (j ∷ js) n e l = absurd (omega (arith, e))
   middle_below (y ∷ ys) (j ∷ js) zero e l = omega arith
   middle_below (y ∷ ys) (j ∷ js) (suc n) e l =
-      let r = middle_below ys js n (omega (arith, e)) (omega (arith, l)) in
-      omega (arith, r)
+      grind (arith, common_steps, middle_below ys js n (omega (arith, e)) (omega (arith, l)))
 
   pub next_set : (ys js : List A) (n : ℕ) (x : A) → length ys ≡ length js → n < length js → slice_get ys n ≡ Some x
       → slice_set (take n ys ++ drop n js) n x ≡ take (suc n) ys ++ drop (suc n) js
@@ -40,9 +39,7 @@ module _ {A : Type 0} where
   -- the next of the rest
   pub next_here : (ys js zs : List A) (n : ℕ) (d : A) → length ys ≡ length js → n < length js
       → zs ≡ take n ys ++ drop n js → slice_get js n ≡ Some (get_or zs n d)
-  next_here ys js zs n d e l parts =
-      sym (middle ys js n e l) ∙ sym (ap (λ (xs : List A). slice_get xs n) parts)
-      ∙ slice_get-get_or zs n d (subst (λ (xs : List A). n < length xs) (sym parts) (middle_below ys js n e l))
+  next_here ys js zs n d e l parts = grind (arith, common_steps, middle, middle_below, slice_get-get_or)
 
   -- what is true of all is true of the one at a place
   pub all_at : (P : A → Type 0) (xs : List A) (k : ℕ) (x : A) → All P xs → slice_get xs k ≡ Some x → P x

@@ -1,13 +1,11 @@
 -- In which row each note lies, and which notes conflict.
-use Rattle.std.proofs.Common.{◌≡◌, ◌<◌, ◌≤◌, ◌-◌, ◌+◌, ℕ, zero, suc, List, [], ◌∷◌, ◌++◌, length, map, nat_lt, sym}
-use Rattle.std.proofs.Common.{ap, ◌∙◌, subst, arith, ⊎_elim}
+use Rattle.std.proofs.lemmas.{Grind.common_steps, List.Elements.All-head, List.Elements.All-tail}
+use Rattle.std.proofs.Common.{◌≡◌, ◌<◌, ◌≤◌, ◌-◌, ◌+◌, ℕ, zero, suc, List, [], ◌∷◌, ◌++◌, length, map, nat_lt, sym, ap}
+use Rattle.std.proofs.Common.{◌∙◌, subst, arith, ⊎_elim}
 use Rattle.std.specs.List.{All, Contains}
 use Rattle.std.proofs.lemmas.Bool.{cases_lt, cond-true, cond-false, lt-ltb, le-ltb}
-use Rattle.std.proofs.lemmas.List.{length-append, length-map, map-append}
-use Rattle.std.proofs.lemmas.List.{get_or_append_left, get_or-append_right}
-use Rattle.std.proofs.lemmas.List.Elements.{All-head, All-tail}
-use Rattle.cs_cells.specs.Meaning.{Meaning}
-use Rattle.cs_cells.specs.declared.footprint.Footprint.{Footprint}
+use Rattle.std.proofs.lemmas.List.{length-append, length-map, map-append, get_or_append_left, get_or-append_right}
+use Rattle.cs_cells.specs.{Meaning.Meaning, declared.footprint.Footprint.Footprint}
 use Rattle.cs_graph.specs.Conflict.{Clash, foot}
 use Rattle.cs_row.specs.Laws.{ConflictByRow}
 use Rattle.cs_row.specs.Rows.{IsFree, IsRow, no_foot, notes_in, row_at, row_foot}
@@ -110,10 +108,7 @@ module _ {J : Type 0} (M : Meaning J) where
   none_written f r e w = let h : Contains [] r = subst (λ (ws : List ℕ). Contains ws r) e w in omega (arith, h.1)
 
   no_clash : (f g : Footprint) → f ≡ g → g.writes ≡ [] → Clash f g → ⊥
-  no_clash f g same e clash = ⊎_elim
-      (λ w. none_written f clash.0 (ap (λ (x : Footprint). x.writes) same ∙ e) w.0)
-      (λ w. none_written g clash.0 e w.1)
-      clash.1
+  no_clash f g same e clash = grind (arith, common_steps, none_written)
 
   pub conflict_by_row : (rows : List (List J)) (p t : ℕ) → All (IsRow M) rows → All (IsFree M) rows → p < t
       → ConflictByRow M rows p t

@@ -1,18 +1,14 @@
 -- The serial run of rows is that of their notes.
-use Rattle.std.proofs.Common.{◌≡◌, ℕ, ℤ, List, [], ◌∷◌, ◌++◌, length, map, ◌+ℤ◌, refl, sym, ap, ◌∙◌}
+use Rattle.std.proofs.Common.{arith, ◌≡◌, ℕ, ℤ, List, [], ◌∷◌, ◌++◌, length, map, ◌+ℤ◌, refl, sym, ap, ◌∙◌}
+use Rattle.std.proofs.lemmas.{Grind.common_steps, List.Elements.All-nil, List.map-append}
 use Rattle.std.specs.List.{All}
-use Rattle.std.proofs.lemmas.List.Elements.{All-cons, All-nil}
 use Rattle.std.proofs.Math.IntN.{+ℤ_assoc, +ℤ_idl}
-use Rattle.std.proofs.lemmas.List.{map-append}
 use Rattle.std.proofs.lemmas.List.FromFn.{length-map-range_with_len}
 use Rattle.cs_base.specs.Numbers.{total}
-use Rattle.cs_cells.specs.Cells.{Cells}
-use Rattle.cs_cells.specs.Meaning.{Meaning}
-use Rattle.cs_cells.specs.Serial.{serial_cells, serial_jobs}
+use Rattle.cs_cells.specs.{Cells.Cells, Meaning.Meaning, Serial.serial_cells, Serial.serial_jobs}
 use Rattle.cs_cells.proofs.SerialRun.{length-serial_jobs}
 use Rattle.cs_row.specs.Heard.{HeardRow, heard_job, sum_at, sums}
-use Rattle.cs_row.specs.Laws.{RunsAsNotes, all_notes, jobs_of}
-use Rattle.cs_row.specs.Rows.{notes_in}
+use Rattle.cs_row.specs.{Laws.RunsAsNotes, Laws.all_notes, Laws.jobs_of, Rows.notes_in}
 
 module _ {J : Type 0} (M : Meaning J) where
   -- of two lists one behind the other
@@ -36,17 +32,13 @@ module _ {J : Type 0} (M : Meaning J) where
     jobs_run : (rows : List (HeardRow J)) (c : Cells)
         → all_notes (serial_jobs (heard_job M shape gives) rows c) ≡ serial_jobs M (all_notes rows) c
     jobs_run [] c = refl
-    jobs_run (r ∷ rows) c =
-        ap (λ (zs : List J). serial_jobs M r.jobs c ++ zs) (jobs_run rows (serial_cells M r.jobs c))
-        ∙ sym (jobs_both r.jobs (all_notes rows) c)
+    jobs_run (r ∷ rows) c = grind (arith, common_steps, jobs_both, jobs_run rows (serial_cells M r.jobs c))
 
     lengths_run : (rows : List (HeardRow J)) (c : Cells)
         → map length (jobs_of (serial_jobs (heard_job M shape gives) rows c)) ≡ map length (jobs_of rows)
     lengths_run [] c = refl
     lengths_run (r ∷ rows) c =
-        ap (λ (n : ℕ). n ∷ map length (jobs_of (serial_jobs (heard_job M shape gives) rows (serial_cells M r.jobs c))))
-        (length-serial_jobs M r.jobs c)
-        ∙ ap (λ (ns : List ℕ). length r.jobs ∷ ns) (lengths_run rows (serial_cells M r.jobs c))
+        grind (arith, common_steps, length-serial_jobs, lengths_run rows (serial_cells M r.jobs c))
 
     abbrev block : HeardRow J → ℕ
     block r = length r.sum
@@ -55,30 +47,17 @@ module _ {J : Type 0} (M : Meaning J) where
         → map block (serial_jobs (heard_job M shape gives) rows c) ≡ map block rows
     blocks_run [] c = refl
     blocks_run (r ∷ rows) c =
-        ap (λ (n : ℕ). n ∷ map block (serial_jobs (heard_job M shape gives) rows (serial_cells M r.jobs c)))
-        (length-map-range_with_len (sum_at gives (serial_jobs M r.jobs c)) 0 (length r.sum))
-        ∙ ap (λ (ns : List ℕ). length r.sum ∷ ns) (blocks_run rows (serial_cells M r.jobs c))
+        grind (arith, common_steps, length-map-range_with_len, blocks_run rows (serial_cells M r.jobs c))
 
     abbrev IsSummed : HeardRow J → Type 0
     IsSummed r = r.sum ≡ sums gives (length r.sum) r.jobs
 
     summed : (rows : List (HeardRow J)) (c : Cells) → All IsSummed (serial_jobs (heard_job M shape gives) rows c)
     summed [] c = All-nil IsSummed
-    summed (r ∷ rows) c =
-        let ran : HeardRow J = (heard_job M shape gives).after r c in
-        All-cons IsSummed ran (serial_jobs (heard_job M shape gives) rows (serial_cells M r.jobs c))
-        (ap (λ (n : ℕ). sums gives n (serial_jobs M r.jobs c))
-        (sym (length-map-range_with_len (sum_at gives (serial_jobs M r.jobs c)) 0 (length r.sum))))
-        (summed rows (serial_cells M r.jobs c))
+    summed (r ∷ rows) c = grind (arith, common_steps, length-map-range_with_len, summed rows (serial_cells M r.jobs c))
 
     pub runs : (rows : List (HeardRow J)) (c : Cells) → RunsAsNotes M shape gives rows c
-    runs rows c = record {
-      jobs = jobs_run rows c;
-      cells = cells_run rows c;
-      lengths = lengths_run rows c;
-      blocks = blocks_run rows c;
-      summed = summed rows c;
-    }
+    runs rows c = grind (arith, common_steps, blocks_run, cells_run, jobs_run, lengths_run, summed)
 
 -- what rows give at a place is what their notes give
 module _ {J : Type 0} (gives : J → ℕ → ℤ) where
@@ -89,7 +68,4 @@ module _ {J : Type 0} (gives : J → ℕ → ℤ) where
   pub sum_of_rows : (rows : List (List J)) (at : ℕ)
       → sum_at gives (notes_in rows) at ≡ total (map (λ row. sum_at gives row at) rows)
   sum_of_rows [] at = refl
-  sum_of_rows (row ∷ rows) at =
-      ap total (map-append (λ (j : J). gives j at) row (notes_in rows))
-      ∙ total_both (map (λ (j : J). gives j at) row) (map (λ (j : J). gives j at) (notes_in rows))
-      ∙ ap (λ (z : ℤ). sum_at gives row at +ℤ z) (sum_of_rows rows at)
+  sum_of_rows (row ∷ rows) at = grind (arith, common_steps, map-append, total_both, sum_of_rows rows at)

@@ -1,10 +1,8 @@
 -- Rows of jobs that are heard, with the sum of what these give.
 use Rattle.std.specs.Prelude.{◌≡◌, ◌≤◌, ◌*◌, ◌≤ℤ◌, ℕ, ℤ, pos, neg_ℤ, List, length, map, slice_index_or}
 use Rattle.std.specs.List.{All, range_with_len}
-use Rattle.cs_base.specs.Limits.{most_notes}
-use Rattle.cs_base.specs.Numbers.{total}
-use Rattle.cs_cells.specs.Meaning.{Meaning}
-use Rattle.cs_cells.specs.Serial.{serial_cells, serial_jobs}
+use Rattle.cs_base.specs.{Limits.most_notes, Numbers.total}
+use Rattle.cs_cells.specs.{Meaning.Meaning, Serial.serial_cells, Serial.serial_jobs}
 use Rattle.cs_row.specs.Rows.{IsRow, row_areas, row_foot}
 
 -- as far from 0 as the sum of so many numbers of the profile may be

@@ -4,9 +4,7 @@ use Rattle.std.specs.List.{All}
 use Rattle.std.proofs.lemmas.List.Elements.{All-cons, All-head, All-tail}
 use Rattle.std.proofs.lemmas.List.FromFn.{length-map-range_with_len}
 use Rattle.cs_base.specs.Limits.{most_notes}
-use Rattle.cs_cells.specs.Cells.{Cells}
-use Rattle.cs_cells.specs.Meaning.{Meaning, Frames}
-use Rattle.cs_cells.specs.Serial.{serial_jobs}
+use Rattle.cs_cells.specs.{Cells.Cells, Meaning.Meaning, Meaning.Frames, Serial.serial_jobs}
 use Rattle.cs_cells.proofs.SerialRun.{length-serial_jobs}
 use Rattle.cs_row.specs.Heard.{HeardRow, IsHeardRow, heard_job, sum_at, with_sums}
 use Rattle.cs_row.specs.RowFrames.{row_frames}

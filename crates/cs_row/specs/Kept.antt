@@ -1,13 +1,9 @@
 -- The rows that are kept from cycle to cycle, and what they can be filled with.
-use Rattle.std.specs.Prelude.{◌≡◌, ◌≤◌, ℕ, List, length}
-use Rattle.std.specs.List.{All}
-use Rattle.std.specs.Vec.{vec_capacity}
+use Rattle.std.specs.{Prelude.◌≡◌, Prelude.◌≤◌, Prelude.ℕ, Prelude.List, Prelude.length, List.All, Vec.vec_capacity}
 use Rattle.cs_cells.specs.Meaning.{Meaning}
+use Rattle.cs_row.specs.{Cuts.AreFilling, Rooms.IsWide, declared.rows.Rows.Rows}
 use Rattle.cs_cells.specs.declared.job.Job as job
-use Rattle.cs_row.specs.Cuts.{AreFilling}
-use Rattle.cs_row.specs.Rooms.{IsWide}
 use Rattle.cs_row.specs.declared.heard.Heard as heard
-use Rattle.cs_row.specs.declared.rows.Rows.{Rows}
 
 module _ {J G : Type 0} {h : heard.Ghosts J} {g : job.Ghosts J} where
   abbrev pub cuts : Rows J G h g → List ℕ

@@ -1,12 +1,9 @@
 -- What the run of rows is for their jobs.
 use Rattle.std.specs.Prelude.{◌≡◌, ◌<◌, ℕ, ℤ, List, length, map}
 use Rattle.std.specs.List.{All}
-use Rattle.cs_cells.specs.Cells.{Cells}
-use Rattle.cs_cells.specs.Meaning.{Meaning}
-use Rattle.cs_cells.specs.Serial.{serial_cells, serial_jobs}
+use Rattle.cs_cells.specs.{Cells.Cells, Meaning.Meaning, Serial.serial_cells, Serial.serial_jobs}
 use Rattle.cs_graph.specs.Conflict.{Conflict}
-use Rattle.cs_row.specs.Heard.{HeardRow, heard_job, sums}
-use Rattle.cs_row.specs.Rows.{notes_in, row_at, row_foot}
+use Rattle.cs_row.specs.{Heard.HeardRow, Heard.heard_job, Heard.sums, Rows.notes_in, Rows.row_at, Rows.row_foot}
 
 module _ {J : Type 0} where
   -- the jobs of rows that have sums

@@ -1,6 +1,5 @@
 -- The memory of a row.
-use Rattle.std.specs.Prelude.{◌≡◌, ◌≤◌, ℕ, [], length}
-use Rattle.std.specs.Vec.{vec_capacity}
+use Rattle.std.specs.{Prelude.◌≡◌, Prelude.◌≤◌, Prelude.ℕ, Prelude.[], Prelude.length, Vec.vec_capacity}
 use Rattle.cs_row.specs.declared.row.RowRoom.{RowRoom}
 
 module _ {J : Type 0} where

@@ -3,10 +3,8 @@ use Rattle.std.proofs.Common.{◌≡◌, ◌<◌, ℕ, List, [], ◌∷◌, ◌|
 use Rattle.std.specs.List.{All}
 use Rattle.std.proofs.lemmas.List.Elements.{All-cons, All-head, All-tail}
 use Rattle.cs_cells.specs.Cells.{Cells, cell, covers, Agree}
-use Rattle.cs_cells.specs.Meaning.{Meaning, Frames}
-use Rattle.cs_cells.specs.Serial.{serial_cells, serial_jobs}
-use Rattle.cs_cells.specs.declared.footprint.Area.{Area}
-use Rattle.cs_cells.specs.declared.footprint.Footprint.{Footprint}
+use Rattle.cs_cells.specs.{Meaning.Meaning, Meaning.Frames, Serial.serial_cells, Serial.serial_jobs}
+use Rattle.cs_cells.specs.{declared.footprint.Area.Area, declared.footprint.Footprint.Footprint}
 use Rattle.cs_cells.proofs.SerialRun.{length-serial_jobs, length-serial_cells}
 use Rattle.cs_row.specs.Rows.{IsRow, Touches, row_areas, row_foot, row_job}
 

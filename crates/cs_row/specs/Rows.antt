@@ -1,10 +1,8 @@
 -- Rows of jobs that follow one another and touch the same, each row run as one job.
 use Rattle.std.specs.Prelude.{◌≡◌, ◌<◌, ◌-◌, ℕ, suc, List, [], ◌∷◌, length, nat_lt, if◌then◌else◌, slice_get, Some}
 use Rattle.std.specs.List.{All, flat_map}
-use Rattle.cs_cells.specs.Meaning.{Meaning}
+use Rattle.cs_cells.specs.{Meaning.Meaning, declared.footprint.Area.Area, declared.footprint.Footprint.Footprint}
 use Rattle.cs_cells.specs.Serial.{serial_cells, serial_jobs}
-use Rattle.cs_cells.specs.declared.footprint.Area.{Area}
-use Rattle.cs_cells.specs.declared.footprint.Footprint.{Footprint}
 
 -- touches nothing
 abbrev pub no_foot : Footprint

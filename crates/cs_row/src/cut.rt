@@ -52,8 +52,7 @@ fn hear<J: Job>(jobs: &[J])
 
 /// Whether two notes may be in one row: they touch the same, and write nothing.
 fn go_together<J: Job>(one: &J, next: &J) -> bool
-    ensures { result ≡ true → (J.means.foot one.now ≡ J.means.foot next.now)
-        × ((J.means.foot next.now).writes ≡ []) }
+    ensures { result ≡ true → (J.means.foot one.now ≡ J.means.foot next.now) × ((J.means.foot next.now).writes ≡ []) }
 {
     next.footprint().writes.as_slice().is_empty() && one.footprint().is(next.footprint())
 }

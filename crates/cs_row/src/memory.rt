@@ -1,7 +1,7 @@
 // The memory of rows, their filling and emptying.
-ghost use Rattle.std.specs.Prelude.{◌≡◌, ◌≤◌, ◌<◌, ◌+◌, ◌-◌, ◌++◌, ℕ, List, [], length, take, map, reverse, All, OnOk};
+ghost use Rattle.std.specs.Prelude.{◌≡◌, ◌≤◌, ◌<◌, ◌+◌, ◌-◌, ◌++◌, ℕ, [], length, take, map, reverse, All, OnOk};
 ghost use Rattle.std.specs.Vec.{vec_len, vec_capacity};
-ghost use Rattle.cs_row.specs.Cuts.{AreFilling, AreRowsOf};
+ghost use Rattle.cs_row.specs.Cuts.{AreFilling, AreRowsOf, IsCut};
 ghost use Rattle.cs_row.specs.Kept.{CutAlike, HasMemory, IsFillable, cuts};
 ghost use Rattle.cs_row.specs.Laws.{all_notes, jobs_of};
 ghost use Rattle.cs_row.specs.Rooms.{IsEmptied, IsWide};
@@ -102,8 +102,8 @@ fn fill_rows<'g, J: Heard, G>(
         × All (IsEmptied block) rooms.old.items × All (IsWide most) rooms.old.items }
     requires enough { length cuts.now ≤ length rooms.old.items }
     requires places { (rows.old.items ≡ []) × (length cuts.now ≤ vec_capacity rows.old) }
-    ensures rows { (most : ℕ) (filled : List (List J)) → AreRowsOf J.Job.means most notes.old.items filled
-        → map length filled ≡ cuts.now → jobs_of rows.new.items ≡ filled }
+    ensures rows { (most : ℕ) (cut : IsCut J.Job.means most notes.old.items cuts.now)
+        → jobs_of rows.new.items ≡ cut.rows }
     ensures sums { (block : ℕ) → All (IsEmptied block) rooms.old.items
         → All (λ r. length r.sum ≡ block) rows.new.items }
     ensures rooms { (block : ℕ) → All (IsEmptied block) rooms.old.items → All (IsEmptied block) rooms.new.items }

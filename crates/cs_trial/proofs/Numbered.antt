@@ -1,20 +1,15 @@
 -- Areas of the control variables 0, 1, 2 and so on, one after another.
 use Rattle.std.proofs.Common.{◌≡◌, ℕ, ◌+◌, List, [], ◌∷◌, ◌++◌, length, slice_get, Some, refl, sym, ◌∙◌, ap, ⊎_elim}
 use Rattle.std.proofs.Common.{arith}
-use Rattle.std.proofs.lemmas.List.Sums.{sum_by_push}
-use Rattle.std.proofs.lemmas.Option.{slice_get_within}
+use Rattle.std.proofs.lemmas.{List.Sums.sum_by_push, Option.slice_get_within}
 use Rattle.cs_base.specs.declared.resource.Res.TheVariants.{Gk}
-use Rattle.cs_cells.specs.declared.footprint.Area.{Area}
-use Rattle.cs_cells.specs.Areas.{IsLaid, word_count}
+use Rattle.cs_cells.specs.{declared.footprint.Area.Area, Areas.IsLaid, Areas.word_count}
 use Rattle.cs_cells.proofs.Laid.{laid_none, laid_more, at_push}
 
 pub record Numbered (areas : List Area) (first : ℕ) : Type 0 where
   pub laid : IsLaid areas
   pub end : first ≡ word_count areas
   pub named : (place : ℕ) (a : Area) → slice_get areas place ≡ Some a → a.res ≡ Gk place
-
-pub numbered_none : Numbered [] 0
-numbered_none = record { laid = laid_none; end = refl; named = λ place a at. absurd (cc) }
 
 pub numbered_more : (areas : List Area) (first n last : ℕ) → length areas ≡ n → Numbered areas first → (a : Area)
     → a.res ≡ Gk n → a.first ≡ first → last ≡ first + a.length → Numbered (areas ++ a ∷ []) last

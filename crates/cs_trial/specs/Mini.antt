@@ -1,10 +1,8 @@
 use Rattle.std.specs.Prelude.{◌≡◌, ℕ, ℤ, pos, ◌<◌, List, [], ◌∷◌, true, All, slice_set, slice_index_or, length}
 use Rattle.std.specs.Int.{int_wrapping_add, w64}
 use Rattle.cs_base.specs.Numbers.{clamp}
-use Rattle.cs_cells.specs.declared.footprint.Area.{Area}
-use Rattle.cs_cells.specs.declared.footprint.Footprint.{Footprint}
-use Rattle.cs_cells.specs.Cells.{Cells, cell, covers}
-use Rattle.cs_cells.specs.Meaning.{Meaning}
+use Rattle.cs_cells.specs.declared.{footprint.Area.Area, footprint.Footprint.Footprint}
+use Rattle.cs_cells.specs.{Cells.Cells, Cells.cell, Cells.covers, Meaning.Meaning}
 use Rattle.cs_trial.specs.declared.mini.MiniOp.{MiniOp}
 use Rattle.cs_trial.specs.declared.mini.MiniOp.TheVariants.{Read, Add, Write}
 

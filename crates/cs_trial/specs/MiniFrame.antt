@@ -1,7 +1,6 @@
 use Rattle.std.proofs.Common.{◌≡◌, ℕ, suc, ℤ, pos, ◌<◌, List, [], ◌∷◌, length, get_or, ◌≤◌, slice_set, refl, sym, ◌∙◌}
 use Rattle.std.proofs.Common.{ap, subst, arith, ⊎_elim}
-use Rattle.std.specs.List.{All}
-use Rattle.std.specs.Int.{int_wrapping_add, w64}
+use Rattle.std.specs.{List.All, Int.int_wrapping_add, Int.w64}
 use Rattle.cs_base.specs.Numbers.{clamp}
 use Rattle.std.proofs.lemmas.List.{length-set, get_or-set_same, get_or-set_other, set_past}
 use Rattle.std.proofs.lemmas.Bool.{cases_eq, cases_lt, or_left}

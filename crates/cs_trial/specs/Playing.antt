@@ -1,12 +1,10 @@
 -- Two seats that play a cycle, call by call.
 use Rattle.std.specs.Prelude.{◌≡◌, [], ◌∷◌, true, false}
 use Rattle.cs_board.specs.Board.{plan, name, view, IsSeatOf, IsIdle, IsClaimed, HasRun}
-use Rattle.cs_board.specs.declared.board.Board.{Board}
+use Rattle.cs_board.specs.declared.{board.Board.Board, view.View.View}
 use Rattle.cs_cells.specs.Meaning.{Meaning}
-use Rattle.cs_board.specs.declared.view.View.{View}
-use Rattle.cs_trial.specs.declared.players.Phase.{Phase}
+use Rattle.cs_trial.specs.declared.{players.Phase.Phase, players.Players.Players}
 use Rattle.cs_trial.specs.declared.players.Phase.TheVariants.{Free, Claimed, Ran, Over}
-use Rattle.cs_trial.specs.declared.players.Players.{Players}
 
 module _ {J : Type 0} (M : Meaning J) where
   -- what the seat may do next

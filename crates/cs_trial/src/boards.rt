@@ -1,13 +1,10 @@
 // A board for jobs whose footprints are in order.
 ghost use Rattle.std.specs.Prelude.{◌≡◌, ◌<◌, ℕ, length, map, true, All, IsSome, IfSome, IfOk, IfErr};
-ghost use Rattle.std.specs.List.{Contains};
-ghost use Rattle.std.specs.List.Sorted.{IsStrictlyIncreasing};
-ghost use Rattle.cs_board.specs.Board.{plan, name, view, IsSeatOf};
+ghost use Rattle.std.specs.{List.Contains, List.Sorted.IsStrictlyIncreasing};
+ghost use Rattle.cs_board.specs.{Board.plan, Board.name, Board.view, Board.IsSeatOf, Views.opening_view};
 ghost use Rattle.cs_desk.specs.Desk.{areas, cells, HasRoom};
-ghost use Rattle.cs_cells.specs.Areas.{word_count, IsFootprint};
-ghost use Rattle.cs_cells.specs.Cells.{values};
+ghost use Rattle.cs_cells.specs.{Areas.word_count, Areas.IsFootprint, Cells.values};
 ghost use Rattle.cs_graph.specs.Graph.{IsFit};
-ghost use Rattle.cs_board.specs.Views.{opening_view};
 
 use crate::loaded::Loaded;
 use cs_base::MOST_NOTES;
@@ -50,12 +47,10 @@ pub fn desk_for<J: Job + Drop>(
     requires words { length words.now ≡ word_count layout.now }
     ensures notes { IfSome result (λ s. length s.1.value.levels ≡ length jobs.now) }
     ensures fit { IfSome result (λ s. IsFit (map J.means.foot jobs.now) s.1.value.edges) }
-    ensures orderly { IfSome result (λ s. All (λ j. IsFootprint (length (areas s.0))
-        (J.means.foot j)) jobs.now) }
+    ensures orderly { IfSome result (λ s. All (λ j. IsFootprint (length (areas s.0)) (J.means.foot j)) jobs.now) }
     ensures areas { IfSome result (λ s. areas s.0 ≡ layout.now) }
     ensures cells { IfSome result (λ s. cells s.0 ≡ values words.now) }
-    ensures room { IfSome result (λ s. HasRoom s.0 (length jobs.now)
-        (length s.1.value.edges)) }
+    ensures room { IfSome result (λ s. HasRoom s.0 (length jobs.now) (length s.1.value.edges)) }
 {
     let graph = graph_of(alloc, layout, jobs)?;
     let (notes, edges) = (graph.len(), graph.edge_count());
@@ -89,11 +84,10 @@ fn read_words<B: Bank>(alloc: Global, bank: &mut B, count: u32) -> Result<Vec<u6
 
 /// The graph of the jobs' footprints. None where there is no memory for it, where there are more
 /// jobs than notes may be active, or where a footprint isn't in order.
-pub fn graph_of<J: Job>(alloc: Global, layout: &Layout, jobs: &[J]) -> Option<Graph>
+fn graph_of<J: Job>(alloc: Global, layout: &Layout, jobs: &[J]) -> Option<Graph>
     ensures notes { IfSome result (λ g. length g.levels ≡ length jobs.now) }
     ensures fit { IfSome result (λ g. IsFit (map J.means.foot jobs.now) g.edges) }
-    ensures orderly { IsSome result
-        → All (λ j. IsFootprint (length layout.now) (J.means.foot j)) jobs.now }
+    ensures orderly { IsSome result → All (λ j. IsFootprint (length layout.now) (J.means.foot j)) jobs.now }
 {
     if !are_orderly(jobs, layout.len()) || jobs.len() > MOST_NOTES {
         return None;
@@ -157,20 +151,9 @@ fn are_among(some: &[u32], all: &[u32]) -> bool
     ensures { result ≡ true → (r : ℕ) → Contains some.now r → Contains all.now r }
 {
     for place in some {
-        if !has(all, *place) {
+        if !all.contains(place) {
             return false;
         }
     }
     true
-}
-
-fn has(places: &[u32], place: u32) -> bool
-    ensures { result ≡ true → Contains places.now place }
-{
-    for other in places {
-        if *other == place {
-            return true;
-        }
-    }
-    false
 }

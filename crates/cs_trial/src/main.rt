@@ -3,14 +3,15 @@
 //! proves nothing of the others: what must come is a line of `stdout`.
 //!
 //! In reading order: `covers`, `mini` (a note with registers and shared code), `parts` (what such notes are made of),
-//! `fixtures`, `loaded` and `boards` (a board for them), `players` (one seat or two that play it), `orders` (small
-//! graphs by every order), `tries` (as many notes as may be), `rows` (small cycles call by call), `gates` and `flagged`
-//! (what workers do), `single` (one cycle by a crew of its own).
+//! `fixtures`, `loaded` and `boards` (a board for them), `players` (one seat or two that play it), `cases` (a cycle
+//! played and read), `orders` (small graphs by every order), `rows` (small cycles call by call, and as many notes as
+//! may be), `gates` and `flagged` (what workers do), `single` (one cycle by a crew of its own).
 #![tactic(auto)]
 
 ghost use Rattle.std.specs.Prelude.{◌≤◌};
 
 mod boards;
+mod cases;
 mod covers;
 mod fixtures;
 mod flagged;
@@ -22,12 +23,12 @@ mod parts;
 mod players;
 mod rows;
 mod single;
-mod tries;
 
 use crate::orders::{SMALL, serial_graphs};
-use crate::rows::{edges_of, one_before_one, one_before_two, three_on_one_cell};
+use crate::rows::{
+    MOST_TRIES, each_its_own, most_notes, one_before_one, one_before_two, three_on_one_cell,
+};
 use crate::single::{calls_before, four_at_once, in_one_cycle};
-use crate::tries::{MOST_TRIES, each_its_own, in_a_row, on_their_own};
 use cs_base::MOST_NOTES;
 use std::io;
 use std::sync::Wait;
@@ -40,11 +41,10 @@ fn main(rt: HostRuntime) -> io::Result<()> {
             "{notes} notes: {serial} of {graphs} graphs are serial by each of {orders} orders"
         )?;
     }
-    println!(rt;
-        "512 notes on their own: {:?}",
-        on_their_own(&rt, rt.alloc())
-    )?;
-    println!(rt; "512 notes in a row: {:?}", in_a_row(&rt, rt.alloc()))?;
+    let own = most_notes(&rt, rt.alloc(), &each_its_own());
+    let row = most_notes(&rt, rt.alloc(), &[0; MOST_NOTES]);
+    println!(rt; "512 notes on their own: {own:?}")?;
+    println!(rt; "512 notes in a row: {row:?}")?;
     println!(rt; "(the first word, the last, whether there were at most {MOST_TRIES} tries)")?;
     call_by_call(&rt)?;
     single_cycle(&rt, 1)?;
@@ -68,25 +68,16 @@ fn at_the_gate<R: Print + AllocGlobal + Threads + Wait + Sync>(rt: &R) -> io::Re
     )
 }
 
-// Small cycles, what each call brought its seat to, and the word at the end; and the edges of notes in a row.
+// Small cycles, what each call brought its seat to, and the word at the end.
 fn call_by_call<R: Print + AllocGlobal + Wait>(rt: &R) -> io::Result<()> {
-    let (one, two) = (
-        one_before_one(rt, rt.alloc()),
-        one_before_two(rt, rt.alloc()),
-    );
+    let one = one_before_one(rt, rt.alloc());
+    let two = one_before_two(rt, rt.alloc());
+    let three = three_on_one_cell(rt, rt.alloc());
     println!(rt; "note 0 before note 1: {one:?}")?;
     println!(rt;
         "note 0 before notes 1 and 2: {two:?} (whether both seats claim, and not the same)"
     )?;
-    println!(rt;
-        "three notes on a cell of 5: {:?}",
-        three_on_one_cell(rt, rt.alloc())
-    )?;
-    let (four, most) = (
-        edges_of(rt.alloc(), &[0; 4]),
-        edges_of(rt.alloc(), &[0; MOST_NOTES]),
-    );
-    println!(rt; "edges of 4 and of 512 notes in a row: {four:?}, {most:?}")
+    println!(rt; "three notes on a cell of 5: {three:?}")
 }
 
 // One cycle of 512 notes by a crew of so many workers.

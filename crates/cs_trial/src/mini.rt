@@ -93,8 +93,7 @@ impl<'t> Job for Mini<'t> {
 }
 
 fn run_op<B: Bank>(op: MiniOp, regs: &mut Vec<i64>, bank: &mut B)
-    requires { MayDo (B.can_get (B.rest bank.old)) (B.can_set (B.rest bank.old))
-        (length regs.old.items) op }
+    requires { MayDo (B.can_get (B.rest bank.old)) (B.can_set (B.rest bank.old)) (length regs.old.items) op }
     ensures regs { regs.new.items ≡ (step op (regs.old.items, B.cells bank.old)).0 }
     ensures cells { B.cells bank.new ≡ (step op (regs.old.items, B.cells bank.old)).1 }
     ensures rest { B.rest bank.new ≡ B.rest bank.old }

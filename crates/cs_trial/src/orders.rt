@@ -1,23 +1,12 @@
-// All small graphs, by every order of the calls of two seats: each leaves what the serial run
-// leaves.
-ghost use Rattle.std.specs.Prelude.{◌≡◌};
-ghost use Rattle.cs_board.specs.Board.{plan, name, view, IsSeatOf};
-ghost use Rattle.cs_board.specs.Views.{opening_view};
-
-use crate::boards::{opened, words_on};
-use crate::fixtures::{foot, laid};
-use crate::loaded::loaded_of;
+// All small graphs, by every order of the calls of two seats: each leaves what the serial run leaves.
+use crate::cases::{Turns, left_by};
+use crate::fixtures::foot;
 use crate::mini::MiniOp;
 use crate::parts::MiniPart;
-use crate::players::play_two;
-use cs_board::{Board, BoardSeat};
-use cs_cells::{Area, Job, Layout};
-use cs_desk::Tally;
 use std::alloc::{AllocError, Global};
 use std::sync::Wait;
 
-/// The pairs of four notes, each with the place of its own resource, where the second waits for the
-/// first.
+/// The pairs of four notes, each with the place of its own resource, where the second waits for the first.
 const PAIRS: [(u32, u32, u32); 6] = [
     (0, 0, 1),
     (1, 0, 2),
@@ -63,8 +52,7 @@ fn parts_of(alloc: Global, notes: u32, pairs: u32) -> Result<Vec<MiniPart>, Allo
     Ok(parts)
 }
 
-// What the serial run leaves: the later note's number in each pair's resource, and each note's in
-// its own.
+// What the serial run leaves: the later note's number in each pair's resource, and each note's in its own.
 fn serial_words(alloc: Global, notes: u32, pairs: u32) -> Result<Vec<u64>, AllocError> {
     let mut words = Vec::new(alloc);
     let mut left = pairs;
@@ -82,60 +70,21 @@ fn serial_words(alloc: Global, notes: u32, pairs: u32) -> Result<Vec<u64>, Alloc
     Ok(words)
 }
 
-/// The notes of a small graph over their cells, and the words that the serial run leaves.
-#[derive(Clone, Copy)]
-struct SmallGraph<'t> {
-    layout: &'t Layout,
-    areas: &'t [Area],
-    parts: &'t [MiniPart],
-    serial: &'t [u64],
-}
-
 // Whether the notes leave the words of the serial run by one order of calls.
-fn leaves<J: Job + Drop, R: Wait>(
+fn is_serial_by<R: Wait>(
     rt: &R,
     alloc: Global,
-    graph: SmallGraph<'_>,
-    board: Board<J>,
-    seat: BoardSeat<J>,
+    parts: &[MiniPart],
+    serial: &[u64],
     order: u32,
-) -> bool
-    requires seat { IsSeatOf J.means (plan board) (name board) seat }
-    requires opens { view seat ≡ opening_view (plan board) }
-    requires areas { (plan board).areas ≡ graph.layout.now }
-{
-    let (receipt, mut desk) = play_two(rt, board, seat, order);
-    Tally::new().add(receipt);
-    match words_on(alloc, graph.layout, &mut desk) {
-        Some(words) => words.as_slice() == graph.serial,
+) -> bool {
+    match left_by(rt, alloc, 10, &[0; 10], parts, Turns::Two(order)) {
+        Some((words, _)) => words.as_slice() == serial,
         None => false,
     }
 }
 
-fn is_serial_by<R: Wait>(rt: &R, alloc: Global, graph: SmallGraph<'_>, order: u32) -> bool
-    requires { graph.layout.now ≡ graph.areas.now }
-{
-    let Some(loaded) = loaded_of(alloc, graph.layout, graph.areas, graph.parts, &[0; 10]) else {
-        return false;
-    };
-    match opened(alloc, graph.layout, loaded) {
-        Ok((board, seat)) => leaves(rt, alloc, graph, board, seat, order),
-        Err(_) => false,
-    }
-}
-
-// Whether each of these orders of calls leaves what the serial run leaves.
-fn are_serial<R: Wait>(rt: &R, alloc: Global, graph: SmallGraph<'_>, orders: u32) -> bool
-    requires { graph.layout.now ≡ graph.areas.now }
-{
-    for order in 0..orders {
-        if !is_serial_by(rt, alloc, graph, order) {
-            return false;
-        }
-    }
-    true
-}
-
+// Whether they do by each of so many orders.
 fn is_serial<R: Wait>(rt: &R, alloc: Global, notes: u32, pairs: u32, orders: u32) -> bool {
     let (Ok(parts), Ok(serial)) = (
         parts_of(alloc, notes, pairs),
@@ -143,18 +92,12 @@ fn is_serial<R: Wait>(rt: &R, alloc: Global, notes: u32, pairs: u32, orders: u32
     ) else {
         return false;
     };
-    match laid(alloc, &[1; 10]) {
-        Some((areas, layout)) => {
-            let graph = SmallGraph {
-                layout: &layout,
-                areas: &areas,
-                parts: &parts,
-                serial: &serial,
-            };
-            are_serial(rt, alloc, graph, orders)
+    for order in 0..orders {
+        if !is_serial_by(rt, alloc, &parts, &serial, order) {
+            return false;
         }
-        None => false,
     }
+    true
 }
 
 /// Notes, the graphs that so many may have, and the orders of the claims, runs and finishes that they need.

@@ -7,7 +7,7 @@ use crate::fixtures::laid;
 use crate::flagged::with_marks;
 use crate::gates::{Gathering, Looking};
 use crate::loaded::{Loaded, loaded_of};
-use crate::tries::parts_on;
+use crate::parts::parts_on;
 use cs_base::MOST_NOTES;
 use cs_cells::{Job, Layout};
 use cs_crew::{Crew, run_cycle};
@@ -51,7 +51,7 @@ pub fn in_one_cycle<R: Threads + Wait + Sync>(
 ) -> Option<Left>
     requires { (1 ≤ workers) × (workers ≤ 32) }
 {
-    let (areas, layout) = laid(alloc, &[1; MOST_NOTES])?;
+    let (areas, layout) = laid(alloc, MOST_NOTES as u32)?;
     let parts = parts_on(alloc, places).ok()?;
     let loaded = loaded_of(alloc, &layout, &areas, &parts, &[0; MOST_NOTES])?;
     let gate = OpenGate::new();
@@ -61,7 +61,7 @@ pub fn in_one_cycle<R: Threads + Wait + Sync>(
 /// Whether four notes that share nothing are with four workers at once, and what they leave. None where there is no
 /// memory. The crew isn't cut to the processors, so this says something on any machine.
 pub fn four_at_once<R: Threads + Wait + Sync>(rt: &R, alloc: Global) -> Option<(bool, Left)> {
-    let (areas, layout) = laid(alloc, &[1; 4])?;
+    let (areas, layout) = laid(alloc, 4)?;
     let parts = parts_on(alloc, &[0, 1, 2, 3]).ok()?;
     let loaded = loaded_of(alloc, &layout, &areas, &parts, &[0; 4])?;
     let gate = Gathering::new(4);
@@ -77,7 +77,7 @@ pub fn calls_before<R: Threads + Wait + Sync>(
 ) -> Option<(u64, u64)>
     requires { (1 ≤ workers) × (workers ≤ 32) }
 {
-    let (areas, layout) = laid(alloc, &[1; 2])?;
+    let (areas, layout) = laid(alloc, 2)?;
     let parts = parts_on(alloc, &[0, 1]).ok()?;
     let Loaded { words, jobs } = loaded_of(alloc, &layout, &areas, &parts, &[0; 2])?;
     let ran = [AtomicU64::new(0), AtomicU64::new(0)];

@@ -1,9 +1,7 @@
 -- The file of a mix, for the layers that write it piece by piece.
-use Rattle.std.proofs.Common.{◌≡◌, ℕ, ◌+◌, ◌*◌, ℤ, List, [], ◌∷◌, ◌++◌, length, refl, ap, ◌∙◌, arith}
-use Rattle.std.proofs.lemmas.List.{length-append}
-use Rattle.std.proofs.lemmas.List.Concat.{flat_map-append}
-use Rattle.cs_base.specs.Widths.{bytes_of}
-use Rattle.cs_base.specs.declared.width.SampleWidth.{SampleWidth}
+use Rattle.std.proofs.lemmas.{Grind.common_steps, List.length-append, List.Concat.flat_map-append}
+use Rattle.std.proofs.Common.{◌≡◌, ◌+◌, ◌*◌, ℤ, List, [], ◌∷◌, ◌++◌, length, refl, arith}
+use Rattle.cs_base.specs.{Widths.bytes_of, declared.width.SampleWidth.SampleWidth}
 use Rattle.cs_wav.specs.Wav.{sample_bytes, samples_of}
 use Rattle.cs_wav.proofs.Samples.{length-sample_bytes}
 
@@ -24,7 +22,4 @@ pub length-samples_of : (w : SampleWidth) (dbfs : ℤ) (mix : List ℤ)
 unfolding samples_of
 length-samples_of w dbfs [] = omega arith
 length-samples_of w dbfs (x ∷ xs) =
-    length-append (sample_bytes w dbfs x) (samples_of w dbfs xs)
-    ∙ ap (λ (n : ℕ). n + length (samples_of w dbfs xs)) (length-sample_bytes w dbfs x)
-    ∙ ap (λ (n : ℕ). bytes_of w + n) (length-samples_of w dbfs xs)
-    ∙ (let more : bytes_of w + length xs * bytes_of w ≡ length (x ∷ xs) * bytes_of w = omega arith in more)
+    grind (arith, common_steps, length-append, length-sample_bytes, length-samples_of w dbfs xs)

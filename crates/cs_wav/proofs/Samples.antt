@@ -1,26 +1,21 @@
 -- A sample's bytes, and where they are written.
-use Rattle.std.proofs.Common.{◌≡◌, ◌≤◌, ◌<◌, ◌≤ℤ◌, ◌+ℤ◌, ℕ, suc, ◌+◌, ◌-◌, ◌*◌, ◌^◌, ◌%◌, ℤ, pos, negsuc, List, [], ◌∷◌}
-use Rattle.std.proofs.Common.{◌++◌, length, take, drop, get_or, of_z, w64, refl, ap, sym, ◌∙◌, arith}
-use Rattle.std.proofs.lemmas.Int.{ints}
+use Rattle.std.proofs.lemmas.{Grind.common_steps, Int.ints, List.Concat.flat_map-append}
+use Rattle.std.proofs.Common.{◌≡◌, ◌≤◌, ◌<◌, ◌≤ℤ◌, ◌+ℤ◌, ℕ, suc, ◌+◌, ◌-◌, ◌*◌, ◌^◌, ◌%◌, ℤ, pos, negsuc, List, ◌++◌}
+use Rattle.std.proofs.Common.{length, take, drop, get_or, of_z, w64, refl, arith}
 use Rattle.std.proofs.lemmas.List.{take_rest, take_more, length-take-le, length-drop, drop-drop, append-nil}
-use Rattle.std.proofs.lemmas.List.Concat.{flat_map-append}
-use Rattle.std.proofs.Math.ListN.{drop_of_length-le}
-use Rattle.std.proofs.Math.Nat.{mul-le-mul_left}
+use Rattle.std.proofs.{Math.ListN.drop_of_length-le, Math.Nat.mul-le-mul_left}
 use Rattle.std.proofs.Math.Seq.{take-append-add, take-append_seam}
 use borrow.Rule.Slice.PartMut.{put_mid}
-use Rattle.cs_base.specs.Widths.{bytes_of, greatest_of, least_of}
-use Rattle.cs_base.specs.declared.width.SampleWidth.{SampleWidth}
-use Rattle.cs_base.specs.declared.width.SampleWidth.TheVariants as width
+use Rattle.cs_base.specs.{Widths.bytes_of, Widths.greatest_of, Widths.least_of, declared.width.SampleWidth.SampleWidth}
 use Rattle.cs_wav.specs.Wav.{full_scale, complement, sample_bytes, samples_of}
+use Rattle.cs_base.specs.declared.width.SampleWidth.TheVariants as width
 
 -- a write of some bytes from a place on
 pub put_mid-front : (xs bs : List ℕ) (at n : ℕ) → at + n ≤ length xs
     → put_mid at (length xs - at) xs (bs ++ drop n (take (length xs - at) (drop at xs))) ≡ take at xs
     ++ (bs ++ drop (at + n) xs)
 put_mid-front xs bs at n h =
-    let past : drop (length xs - at) (drop at xs) ≡ [] =
-    drop_of_length-le (drop at xs) (omega (arith, length-drop at xs)) in
-    rw (take_rest, drop-drop n at xs, past, append-nil) refl
+    grind (arith, common_steps, append-nil, drop-drop, drop_of_length-le, length-drop, take_rest)
 
 -- the range of samples lies within that of 24 bits
 pub least_is : (w : SampleWidth) → negsuc 8388607 ≤ℤ least_of w
@@ -59,10 +54,7 @@ pub sound_more : (w : SampleWidth) (dbfs : ℤ) (mix : List ℤ) (i : ℕ) → i
     → samples_of w dbfs (take (i + 1) mix) ≡ samples_of w dbfs (take i mix)
     ++ sample_bytes w dbfs (get_or mix i (pos 0))
 unfolding samples_of
-sound_more w dbfs mix i h =
-    ap (samples_of w dbfs) (take_more mix i (pos 0) h)
-    ∙ flat_map-append (sample_bytes w dbfs) (take i mix) (get_or mix i (pos 0) ∷ [])
-    ∙ ap (λ (l : List ℕ). samples_of w dbfs (take i mix) ++ l) (append-nil (sample_bytes w dbfs (get_or mix i (pos 0))))
+sound_more w dbfs mix i h = grind (arith, common_steps, append-nil, flat_map-append, take_more)
 
 -- a sample written behind those that stand there
 pub take-written : (w : SampleWidth) (dbfs : ℤ) (mix : List ℤ) (out now : List ℕ) (i : ℕ) → i < length mix
@@ -72,15 +64,13 @@ pub take-written : (w : SampleWidth) (dbfs : ℤ) (mix : List ℤ) (out now : Li
     ++ (sample_bytes w dbfs (get_or mix i (pos 0)) ++ drop (i * bytes_of w + bytes_of w) out)
     → take ((i + 1) * bytes_of w) now ≡ samples_of w dbfs (take (i + 1) mix)
 take-written w dbfs mix out now i h long before e =
-    let bytes : ℕ = bytes_of w in
-    let new : List ℕ = sample_bytes w dbfs (get_or mix i (pos 0)) in
-    let front : length (take (i * bytes) out) ≡ i * bytes =
-    length-take-le (i * bytes) out (omega (arith, mul-le-mul_left {m = i} {n = length mix} bytes (omega arith))) in
-    let size : length new ≡ bytes = length-sample_bytes w dbfs (get_or mix i (pos 0)) in
-    let place : (i + 1) * bytes ≡ length (take (i * bytes) out) + length new = omega arith in
-    ap (take ((i + 1) * bytes)) e
-    ∙ ap (λ (n : ℕ). take n (take (i * bytes) out ++ (new ++ drop (i * bytes + bytes) out))) place
-    ∙ take-append-add (take (i * bytes) out) (new ++ drop (i * bytes + bytes) out) (length new)
-    ∙ ap (λ (l : List ℕ). take (i * bytes) out ++ l) (take-append_seam new (drop (i * bytes + bytes) out))
-    ∙ ap (λ (l : List ℕ). l ++ new) before
-    ∙ sym (sound_more w dbfs mix i h)
+    grind (
+      arith,
+      common_steps,
+      length-sample_bytes,
+      length-take-le,
+      mul-le-mul_left,
+      sound_more,
+      take-append-add,
+      take-append_seam,
+    )

@@ -1,18 +1,16 @@
 -- Full scale: where a mix value lies to it, its level lies to the range of samples.
+use Rattle.std.proofs.lemmas.{Grind.common_steps, Nat.mul-le}
 use Rattle.std.proofs.Common.{◌≡◌, ◌≤◌, ◌<◌, ◌≤ℤ◌, ◌<ℤ◌, ◌*ℤ◌, ℕ, ◌+◌, ◌*◌, ◌^◌, ℤ, pos, negsuc, neg_ℤ, of_z, to_z, w64}
-use Rattle.std.proofs.Common.{true, false, refl, ap, sym, subst, ◌∙◌, arith}
+use Rattle.std.proofs.Common.{true, false, refl, subst, arith}
 use Rattle.std.proofs.lemmas.Int.{ints, clamps, by_lt_z, unsigned_abs-mul, fits_signed_from_abs, to_z-of_z}
-use Rattle.std.proofs.lemmas.Nat.{mul-le}
-use Rattle.std.specs.Int.{int_div_euclid}
-use Rattle.std.specs.Int.RustNames.{FitsSigned}
+use Rattle.std.specs.{Int.int_div_euclid, Int.RustNames.FitsSigned}
 use Rattle.std.specs.Prelude.{int_lt, ◌||◌, Bool, not, unsigned_abs}
-use Rattle.cs_base.specs.Numbers.{floor_div}
-use Rattle.cs_base.specs.Widths.{greatest_of, least_of}
+use Rattle.cs_base.specs.{Numbers.floor_div, Widths.greatest_of, Widths.least_of}
 use Rattle.cs_base.specs.declared.width.SampleWidth.{SampleWidth}
-use Rattle.cs_base.specs.declared.width.SampleWidth.TheVariants as width
 use Rattle.cs_base.proofs.Quotients.{floor_div-lt, le-floor_div}
 use Rattle.cs_wav.specs.Wav.{full_scale, level, sample, is_out_of_range}
 use Rattle.cs_wav.proofs.Samples.{least_is, greatest_is, range_is}
+use Rattle.cs_base.specs.declared.width.SampleWidth.TheVariants as width
 
 or_true : (b : Bool) → (b || true) ≡ true
 or_true true = refl
@@ -34,14 +32,8 @@ lt_of_le z k h = omega (arith, ints, h)
 -- a value within full scale has its level in the range of samples
 in_range : (w : SampleWidth) (d : ℕ) (mix : ℤ) → 0 < d → neg_ℤ (pos d) ≤ℤ mix → mix <ℤ pos d
     → (least_of w ≤ℤ level w (pos d) mix) × (level w (pos d) mix ≤ℤ greatest_of w)
-in_range width.TwoBytes d mix some low high =
-    let from = le-floor_div (mix *ℤ pos 32768) (neg_ℤ (pos 32768)) d some (omega (arith, ints, low)) in
-    let under = floor_div-lt (mix *ℤ pos 32768) (pos 32768) d some (omega (arith, ints, high)) in
-    (from, le_of_lt (floor_div (mix *ℤ pos 32768) (pos d)) 32767 under)
-in_range width.ThreeBytes d mix some low high =
-    let from = le-floor_div (mix *ℤ pos 8388608) (neg_ℤ (pos 8388608)) d some (omega (arith, ints, low)) in
-    let under = floor_div-lt (mix *ℤ pos 8388608) (pos 8388608) d some (omega (arith, ints, high)) in
-    (from, le_of_lt (floor_div (mix *ℤ pos 8388608) (pos d)) 8388607 under)
+in_range width.TwoBytes d mix some low high = grind (arith, common_steps, floor_div-lt, ints, le-floor_div, le_of_lt)
+in_range width.ThreeBytes d mix some low high = grind (arith, common_steps, floor_div-lt, ints, le-floor_div, le_of_lt)
 
 -- one below it has its level below that range
 below_range : (w : SampleWidth) (d : ℕ) (mix : ℤ) → 0 < d → mix <ℤ neg_ℤ (pos d) → level w (pos d) mix <ℤ least_of w
@@ -72,24 +64,16 @@ within w (pos d) mix one low high =
 within w (negsuc d) mix one low high = absurd (omega (arith, ints, one))
 
 pub below : (w : SampleWidth) (dbfs mix : ℤ) → pos 1 ≤ℤ dbfs → mix <ℤ neg_ℤ dbfs → is_out_of_range w dbfs mix ≡ true
-below w (pos d) mix one low =
-    let at : ℤ = level w (pos d) mix in
-    let under : at <ℤ least_of w = below_range w d mix (omega (arith, ints, one)) low in
-    λ i. lt_true at (least_of w) under i || int_lt (greatest_of w) at
+below w (pos d) mix one low = grind (arith, common_steps, below_range, ints, lt_true)
 below w (negsuc d) mix one low = absurd (omega (arith, ints, one))
 
 pub above : (w : SampleWidth) (dbfs mix : ℤ) → pos 1 ≤ℤ dbfs → dbfs ≤ℤ mix → is_out_of_range w dbfs mix ≡ true
-above w (pos d) mix one high =
-    let at : ℤ = level w (pos d) mix in
-    let over : greatest_of w <ℤ at = above_range w d mix (omega (arith, ints, one)) high in
-    (λ i. int_lt at (least_of w) || lt_true (greatest_of w) at over i) ∙ or_true (int_lt at (least_of w))
+above w (pos d) mix one high = grind (arith, common_steps, above_range, ints, lt_true, or_true)
 above w (negsuc d) mix one high = absurd (omega (arith, ints, one))
 
 pub is_within : (w : SampleWidth) (dbfs mix : ℤ) → pos 1 ≤ℤ dbfs → neg_ℤ dbfs ≤ℤ mix
     → int_lt mix dbfs ≡ not (is_out_of_range w dbfs mix)
-is_within w dbfs mix one low = by_lt_z mix dbfs
-    (λ h. lt_true mix dbfs h ∙ sym (ap not (within w dbfs mix one low h).0))
-    (λ h. lt_false mix dbfs h ∙ sym (ap not (above w dbfs mix one h)))
+is_within w dbfs mix one low = grind (arith, common_steps, above, by_lt_z, lt_false, lt_true, within)
 
 -- a sample is in range, and the level of a value within full scale is small
 sample_in_range : (w : SampleWidth) (dbfs mix : ℤ)
@@ -111,15 +95,7 @@ pub near_product : (w : SampleWidth) (divisor dbfs mix : ℤ) → divisor ≡ db
     → mix <ℤ dbfs → unsigned_abs (divisor *ℤ full_scale w) ≤ 2 ^ 61
     → FitsSigned w64 (mix *ℤ full_scale w) × (unsigned_abs (mix *ℤ full_scale w) ≤ 2 ^ 61)
 near_product w divisor dbfs mix known one low high most =
-    let full : ℕ = unsigned_abs (full_scale w) in
-    let size : unsigned_abs mix ≤ unsigned_abs divisor = omega (arith, ints, known, one, low, high) in
-    let product : unsigned_abs mix * full ≤ unsigned_abs divisor * full =
-    mul-le (unsigned_abs mix) full (unsigned_abs divisor) full size (omega arith) in
-    let is : unsigned_abs (mix *ℤ full_scale w) ≡ unsigned_abs mix * full = unsigned_abs-mul mix (full_scale w) in
-    let whole : unsigned_abs (divisor *ℤ full_scale w) ≡ unsigned_abs divisor * full =
-    unsigned_abs-mul divisor (full_scale w) in
-    let small : unsigned_abs (mix *ℤ full_scale w) ≤ 2 ^ 61 = omega (arith, is, whole, product, most) in
-    (fits_signed_from_abs w64 (mix *ℤ full_scale w) (omega (arith, small)), small)
+    grind (arith, common_steps, fits_signed_from_abs, ints, mul-le, unsigned_abs-mul, w64)
 
 full_scale-fits : (w : SampleWidth) → FitsSigned w64 (full_scale w)
 full_scale-fits width.TwoBytes = fits_signed_from_abs w64 (pos 32768) (omega arith)
@@ -131,7 +107,4 @@ floor_is n (negsuc d) one = absurd (omega (arith, ints, one))
 
 pub product_is : (w : SampleWidth) (mix full : ℤ) → FitsSigned w64 mix → full ≡ full_scale w
     → to_z w64 (of_z w64 mix) *ℤ to_z w64 (of_z w64 full) ≡ mix *ℤ full_scale w
-product_is w mix full fits is =
-    let same : to_z w64 (of_z w64 full) ≡ full_scale w =
-    ap (λ z. to_z w64 (of_z w64 z)) is ∙ to_z-of_z w64 (full_scale w) (full_scale-fits w) in
-    λ i. to_z-of_z w64 mix fits i *ℤ same i
+product_is w mix full fits is = grind (arith, common_steps, full_scale-fits, of_z, to_z, to_z-of_z, w64)

@@ -1,9 +1,7 @@
 -- Two lists added value by value, from the front on.
+use Rattle.std.proofs.lemmas.{Grind.common_steps, Bool.eqb-true, Bool.Decides.nat_tests}
 use Rattle.std.proofs.Common.{◌≡◌, ℕ, zero, suc, ◌<◌, ℤ, pos, ◌+ℤ◌, List, [], ◌∷◌, ◌++◌, length, take, drop, get_or}
-use Rattle.std.proofs.Common.{set, refl, ap, arith}
-use Rattle.std.proofs.Common.{◌+◌, ◌==◌, subst, sym, ◌∙◌}
-use Rattle.std.proofs.lemmas.Bool.{eqb-true}
-use Rattle.std.proofs.lemmas.Bool.Decides.{nat_tests}
+use Rattle.std.proofs.Common.{set, refl, ap, arith, ◌+◌}
 use Rattle.cs_base.specs.Numbers.{IsRaw}
 use Rattle.cs_base.proofs.Tests.{by_test}
 use Rattle.cs_wav.specs.Wav.{added}
@@ -41,6 +39,4 @@ part_added_all (x ∷ xs) (y ∷ ys) (suc i) e h =
 -- one number more of a row is within its range
 pub raw_more : (row : List ℤ) (j : ℕ) (y : ℤ) → y ≡ get_or row j (pos 0) → IsRaw y
     → ((i : ℕ) → i < j → IsRaw (get_or row i (pos 0))) → (i : ℕ) → i < j + 1 → IsRaw (get_or row i (pos 0))
-raw_more row j y is raw done i h = by_test (i == j)
-    (λ yes. let e : i ≡ j = eqb-true i j yes in subst IsRaw (is ∙ ap (λ k. get_or row k (pos 0)) (sym e)) raw)
-    (λ no. done i (let m : i < j = grind (arith, nat_tests) in m))
+raw_more row j y is raw done i h = grind (arith, common_steps, by_test, eqb-true, nat_tests)

@@ -1,11 +1,9 @@
 -- What the sound file of a mix is. A definition that says `width` is of samples of that width.
 use Rattle.std.specs.Prelude.{◌≤ℤ◌, ℕ, suc, ◌+◌, ◌-◌, ◌*◌, ◌%◌, ◌^◌, ℤ, pos, negsuc, neg_ℤ, int_lt, ◌+ℤ◌, ◌*ℤ◌, Bool}
 use Rattle.std.specs.Prelude.{◌||◌, List, [], ◌∷◌, ◌++◌, length, codes, replicate}
-use Rattle.std.specs.Int.{int_max, int_min, int_div_euclid, bytes_low_first}
-use Rattle.std.specs.List.{flat_map}
+use Rattle.std.specs.{Int.int_max, Int.int_min, Int.int_div_euclid, Int.bytes_low_first, List.flat_map}
 use Rattle.cs_base.specs.Widths.{bytes_of, greatest_of, least_of}
-use Rattle.cs_base.specs.declared.head.Head.{Head}
-use Rattle.cs_base.specs.declared.width.SampleWidth.{SampleWidth}
+use Rattle.cs_base.specs.{declared.head.Head.Head, declared.width.SampleWidth.SampleWidth}
 
 -- full scale: half of what the bytes of a sample can tell apart
 abbrev pub full_scale : SampleWidth → ℤ

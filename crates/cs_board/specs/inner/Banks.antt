@@ -1,15 +1,10 @@
 -- The cells of the board as a job sees them.
 use Rattle.std.specs.Prelude.{◌≡◌, ℕ, List, [], Option, Some, None, true}
-use Rattle.atomic_table.specs.Seated.{TableId}
-use Rattle.atomic_table.specs.declared.shared.Seat.{Seat}
-use Rattle.cs_board.specs.Board.{plan, IsViewOf}
-use Rattle.cs_board.specs.inner.Sittings.{deed}
-use Rattle.cs_board.specs.declared.board.Board.{Board}
+use Rattle.atomic_table.specs.{Seated.TableId, declared.shared.Seat.Seat}
+use Rattle.cs_board.specs.{Board.plan, Board.IsViewOf, inner.Sittings.deed, declared.board.Board.Board}
+use Rattle.cs_board.specs.{declared.view.Berth.Berth, declared.view.Doing.Doing, declared.view.View.View}
 use Rattle.cs_cells.specs.Meaning.{Meaning}
 use Rattle.cs_board.specs.Plans.{IsPlan, uses_at, writes_at}
-use Rattle.cs_board.specs.declared.view.Berth.{Berth}
-use Rattle.cs_board.specs.declared.view.Doing.{Doing}
-use Rattle.cs_board.specs.declared.view.View.{View}
 
 abbrev pub bare : Option Doing → Option Doing
 bare None = None

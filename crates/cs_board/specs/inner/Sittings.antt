@@ -2,16 +2,11 @@
 use Rattle.std.specs.Prelude.{◌≡◌, ◌≢◌, ℕ, ◌+◌, ◌<◌, ◌≤◌, [], Bool, true, false, cond, Option, Some, None}
 use Rattle.atomic_table.specs.declared.shared.Seat.{Seat}
 use Rattle.cs_board.specs.Board.{plan, IsViewOf, IsIdle, SameSeat, FoundSince}
-use Rattle.cs_board.specs.declared.board.Board.{Board}
+use Rattle.cs_board.specs.{declared.board.Board.Board, Facts.owed, Plans.IsPlan, Plans.before_at, Views.began}
+use Rattle.cs_board.specs.{Views.missed, Views.fresh, Views.settled, Views.passed, declared.view.Berth.Berth}
+use Rattle.cs_board.specs.{declared.view.Doing.Doing, declared.view.Plan.Plan, declared.view.View.View}
 use Rattle.cs_cells.specs.Meaning.{Meaning}
 use Rattle.cs_graph.specs.Graph.{Edge, IsNextOut, NoneIn}
-use Rattle.cs_board.specs.Facts.{owed}
-use Rattle.cs_board.specs.Plans.{IsPlan, before_at}
-use Rattle.cs_board.specs.Views.{began, missed, fresh, settled, passed}
-use Rattle.cs_board.specs.declared.view.Berth.{Berth}
-use Rattle.cs_board.specs.declared.view.Doing.{Doing}
-use Rattle.cs_board.specs.declared.view.Plan.{Plan}
-use Rattle.cs_board.specs.declared.view.View.{View}
 
 abbrev pub deed_in : Option Doing → Doing
 deed_in None = record { note = 0; phase = 0; held = false; image = [] }

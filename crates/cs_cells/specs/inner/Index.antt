@@ -1,9 +1,7 @@
 -- What a layout keeps, so that a resource is found without a look at all areas.
 use Rattle.std.specs.Prelude.{◌≡◌, ℕ, List, map, None}
-use Rattle.cs_base.specs.Rates.{res_kind, res_number}
-use Rattle.cs_base.specs.declared.resource.Res.{Res}
-use Rattle.cs_cells.specs.Areas.{IsLaid, limit_passed, word_count}
-use Rattle.cs_cells.specs.declared.footprint.Area.{Area}
+use Rattle.cs_base.specs.{Rates.res_kind, Rates.res_number, declared.resource.Res.Res}
+use Rattle.cs_cells.specs.{Areas.IsLaid, Areas.limit_passed, Areas.word_count, declared.footprint.Area.Area}
 
 -- a resource's kind and its number among those of the kind
 abbrev pub key : Res → ℕ × ℕ

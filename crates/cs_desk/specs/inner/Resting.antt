@@ -1,28 +1,17 @@
--- A board that rests between two cycles: what is cleared, and what is cleared away after a cycle.
--- k is the plan of the cycle that begins or has ended, w what is known of the board; t is a note, r the place of a
--- resource.
+-- A board that rests between two cycles: what is cleared, and what is cleared away after a cycle. k is the plan of the
+-- cycle that begins or has ended, w what is known of the board; t is a note, r the place of a resource.
 use Rattle.std.specs.Prelude.{◌≡◌, ℕ, ◌+◌, ◌-◌, ◌<◌, ◌≤◌, ◌⊎◌, List, [], ◌∷◌, ◌++◌, drop, length, Bool, true, false}
 use Rattle.std.specs.Prelude.{Option, Some, None}
-use Rattle.atomic_table.specs.Seated.{TableId}
-use Rattle.atomic_table.specs.declared.shared.Seat.{Seat}
+use Rattle.atomic_table.specs.{Seated.TableId, declared.shared.Seat.Seat}
 use Rattle.cs_base.specs.Limits.{most_resources}
-use Rattle.cs_board.specs.Resting.{IsSole, areas_in, known_in, wide}
-use Rattle.cs_cells.specs.Areas.{IsLaid, word_count}
-use Rattle.cs_cells.specs.Cells.{values}
-use Rattle.cs_cells.specs.Meaning.{Meaning}
+use Rattle.cs_board.specs.{Resting.IsSole, Resting.areas_in, Resting.known_in, Resting.wide, Counts.listed}
+use Rattle.cs_board.specs.{Plans.area_count, Plans.places_written, Views.slot_row, Views.cells_laid, Words.Words}
+use Rattle.cs_board.specs.{Words.at, Words.all_words, Words.IsSized, Opening.each_below, declared.view.Berth.Berth}
+use Rattle.cs_board.specs.{declared.view.Plan.Plan, declared.view.Still.Still, declared.view.View.View}
+use Rattle.cs_cells.specs.{Areas.IsLaid, Areas.word_count, Cells.values, Meaning.Meaning, declared.footprint.Area.Area}
 use Rattle.cs_cells.specs.Serial.{serial_cells, serial_jobs}
-use Rattle.cs_cells.specs.declared.footprint.Area.{Area}
 use Rattle.cs_graph.specs.Graph.{Dependencies}
-use Rattle.cs_board.specs.Counts.{listed}
-use Rattle.cs_board.specs.Plans.{area_count, places_written}
-use Rattle.cs_board.specs.Views.{slot_row, cells_laid}
-use Rattle.cs_board.specs.Words.{Words, at, all_words, IsSized}
-use Rattle.cs_board.specs.Opening.{each_below}
-use Rattle.cs_board.specs.declared.view.Berth.{Berth}
 use Rattle.cs_board.specs.declared.view.Berth.TheVariants.{Vacant, Full, Told}
-use Rattle.cs_board.specs.declared.view.Plan.{Plan}
-use Rattle.cs_board.specs.declared.view.Still.{Still}
-use Rattle.cs_board.specs.declared.view.View.{View}
 
 module _ {J : Type 0} where
   -- each slot is vacant

@@ -1,12 +1,8 @@
 -- A table at rest: the layout, the cells in its words, and how much room there is.
 use Rattle.std.specs.Prelude.{ℕ, ◌≤◌, List}
-use Rattle.cs_board.specs.Resting.{areas_in, known_in, wide}
-use Rattle.cs_board.specs.Views.{cells_laid}
-use Rattle.cs_board.specs.declared.view.Plan.{Plan}
-use Rattle.cs_cells.specs.Cells.{Cells, values}
-use Rattle.cs_cells.specs.declared.footprint.Area.{Area}
-use Rattle.cs_desk.specs.Kept.{Standing, plan_of}
-use Rattle.cs_desk.specs.declared.resting.RestingTable.{RestingTable}
+use Rattle.cs_board.specs.{Resting.areas_in, Resting.known_in, Resting.wide, Views.cells_laid, declared.view.Plan.Plan}
+use Rattle.cs_cells.specs.{Cells.Cells, Cells.values, declared.footprint.Area.Area}
+use Rattle.cs_desk.specs.{Kept.Standing, Kept.plan_of, declared.resting.RestingTable.RestingTable}
 use Rattle.cs_graph.specs.Graph.{Dependencies}
 
 module _ {J : Type 0} where

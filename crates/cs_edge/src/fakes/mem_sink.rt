@@ -28,8 +28,7 @@ impl MemSink {
     /// It takes no memory, and keeps `alloc` for its growths.
     pub fn new(alloc: Global, failing: Calls, most: u32) -> MemSink
         requires { 1 ≤ most }
-        ensures told { sink_told result
-            ≡ record { held = Some no_file; moves = Some []; faults = 0 } }
+        ensures told { sink_told result ≡ record { held = Some no_file; moves = Some []; faults = 0 } }
         ensures script { sink_script result ≡ record { failing = failing; calls = 0; faults = 0 } }
         ensures room { write_room result ≡ most }
     {

@@ -43,8 +43,7 @@ impl Taken {
 
     /// Begins a name, with no bytes; where memory is refused, nothing is told from then on.
     pub fn begin(&mut self, name: &str)
-        ensures { Follows (told_taken self.old) (told_taken self.new)
-            (λ _ now. now ≡ open_file name.now []) }
+        ensures { Follows (told_taken self.old) (told_taken self.new) (λ _ now. now ≡ open_file name.now []) }
     {
         self.clear();
         match text_of(self.alloc, name) {

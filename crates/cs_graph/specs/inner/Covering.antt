@@ -1,7 +1,6 @@
 -- The first m notes parted into chains, as far as that is done.
 use Rattle.std.specs.Prelude.{◌≡◌, ℕ, ◌<◌, ◌≤◌, ◌⊎◌, Bool, true, false, List, slice_index_or}
-use Rattle.cs_graph.specs.Cover.{HasLater, HasEarlier}
-use Rattle.cs_graph.specs.Graph.{Edge, Reaches}
+use Rattle.cs_graph.specs.{Cover.HasLater, Cover.HasEarlier, Graph.Edge, Graph.Reaches}
 
 -- whether a later note is in the chain of note p, as far as the list says
 abbrev pub goes_on : List Bool → ℕ → Bool

@@ -4,13 +4,9 @@ use Rattle.std.specs.Prelude.{◌≡◌, ℕ, ◌+◌, ◌*◌, ◌<◌, ◌≤�
 use Rattle.std.specs.List.{All, AllPairs}
 use Rattle.cs_cells.specs.declared.footprint.Footprint.{Footprint}
 use Rattle.cs_graph.specs.Conflict.{Conflict, Leads, Near}
-use Rattle.cs_graph.specs.Graph.{Edge, ComesBefore}
+use Rattle.cs_graph.specs.{Graph.Edge, Graph.ComesBefore, inner.Nearest.known_at, inner.Nearest.LeadsIn, inner.Sets.has}
+use Rattle.cs_graph.specs.{inner.Touched.IsTouchedBy, declared.nearest.Known.Known, declared.growing.Growing.Growing}
 use Rattle.cs_graph.specs.inner.Index.{HasEdge, AreInto, range_at}
-use Rattle.cs_graph.specs.inner.Nearest.{known_at, LeadsIn}
-use Rattle.cs_graph.specs.inner.Sets.{has}
-use Rattle.cs_graph.specs.inner.Touched.{IsTouchedBy}
-use Rattle.cs_graph.specs.declared.nearest.Known.{Known}
-use Rattle.cs_graph.specs.declared.growing.Growing.{Growing}
 
 -- what is known of each of the first n notes
 pub record IsKnown (feet : List Footprint) (n : ℕ) (known : List Known) : Type 0 where

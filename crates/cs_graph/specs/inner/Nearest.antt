@@ -1,9 +1,7 @@
 -- The work at one note, over plain sets: the earlier notes that it meets, and for each earlier note those that lead to
 -- it.
 use Rattle.std.specs.Prelude.{◌≡◌, ℕ, ◌<◌, ◌≤◌, ◌+◌, ◌⊎◌, true, List, [], slice_index_or}
-use Rattle.cs_graph.specs.inner.Sets.{has}
-use Rattle.cs_graph.specs.declared.nearest.Known.{Known}
-use Rattle.cs_graph.specs.declared.nearest.Found.{Found}
+use Rattle.cs_graph.specs.{inner.Sets.has, declared.nearest.Known.Known, declared.nearest.Found.Found}
 
 abbrev pub known_at : List Known → ℕ → Known
 known_at known q = slice_index_or known q (record { reach = []; level = 0 })

@@ -1,12 +1,8 @@
 use Rattle.std.specs.Prelude.{◌≡◌, ℕ, Bool, false, cond, Option, Some, None, List, nat_eq, nat_lt, ◌==◌, ◌&&◌, ◌||◌}
-use Rattle.std.specs.declared.hash.FoldHasher.{FoldHasher}
+use Rattle.std.specs.{declared.hash.FoldHasher.FoldHasher, HashMap.get, HashMap.HashMap, List.list_any}
 use Rattle.std.specs.declared.hash.BuildHasherDefault.{BuildHasherDefault}
-use Rattle.std.specs.HashMap.{get, HashMap}
-use Rattle.std.specs.List.{list_any}
 use Rattle.cs_cells.specs.declared.footprint.Footprint.{Footprint}
-use Rattle.cs_graph.specs.Conflict.{foot}
-use Rattle.cs_graph.specs.inner.Sets.{has}
-use Rattle.cs_graph.specs.declared.touched.Sharers.{Sharers}
+use Rattle.cs_graph.specs.{Conflict.foot, inner.Sets.has, declared.touched.Sharers.Sharers}
 
 abbrev pub SharersByPlace : Type 0
 SharersByPlace = HashMap ℕ Sharers (BuildHasherDefault FoldHasher)

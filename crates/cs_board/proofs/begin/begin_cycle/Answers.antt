@@ -1,9 +1,6 @@
-use Rattle.std.proofs.Common.{Some, refl, ap, ◌∙◌}
-use Rattle.cs_board.specs.Resting.{known_in, areas_in}
-use Rattle.cs_board.proofs.Beginning.{all_laid}
-use Rattle.cs_board.proofs.Sole.{sole_knows, sole_carries}
-use Rattle.cs_board.specs.Views.{plan_laid, opening_view}
-use Rattle.cs_board.proofs.Rests.{begins_cycle}
+use Rattle.std.proofs.Common.{refl, ap, ◌∙◌}
+use Rattle.cs_board.specs.{Resting.known_in, Resting.areas_in, Views.plan_laid, Views.opening_view}
+use Rattle.cs_board.proofs.{Beginning.all_laid, Sole.sole_knows, Sole.sole_carries, Rests.begins_cycle}
 use Rattle.cs_board.proofs.begin.begin_cycle.Goals as goal
 
 pub compare_exchange_with-requires : goal.compare_exchange_with-requires

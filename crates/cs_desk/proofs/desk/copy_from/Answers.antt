@@ -1,5 +1,5 @@
-use Rattle.std.proofs.Common.{◌+◌, arith, length, pos, rules}
-use Rattle.std.proofs.lemmas.List.{get_or_read}
+use Rattle.std.proofs.lemmas.{Grind.common_steps, List.get_or_read}
+use Rattle.std.proofs.Common.{◌+◌, arith, pos, rules}
 use Rattle.cs_cells.specs.Cells.{cell}
 use Rattle.cs_cells.proofs.Rows.{read_more, read_all}
 use Rattle.cs_desk.proofs.desk.copy_from.Goals as goal
@@ -14,6 +14,4 @@ loop-j-preserved c = record {
 }
 
 pub returns : goal.returns
-returns c =
-    read_all (cell c.args.numbers.now) c.loop-j.row c.args.first (length c.args.row.now) c.loop-j.j
-    c.loop-j.invariant.long (omega arith) (omega arith) c.loop-j.invariant.filled
+returns c = grind (arith, common_steps, read_all)

@@ -1,17 +1,11 @@
+use Rattle.std.proofs.lemmas.{Grind.common_steps, List.append-nil, Option.slice_get_within}
 use Rattle.std.proofs.Common.{ℕ, ◌+◌, ◌<◌, ◌≡◌, [], ◌∷◌, ◌++◌, length, drop, Some, refl, sym, ap, ◌∙◌, subst, arith}
-use Rattle.std.proofs.Common.{length-append}
-use Rattle.std.proofs.lemmas.List.{append-nil}
-use Rattle.std.proofs.lemmas.Option.{slice_get_within}
-use Rattle.cs_board.specs.Opening.{first_status}
-use Rattle.std.proofs.Math.Seq.{drop-length}
+use Rattle.std.proofs.{Common.length-append, Math.Seq.drop-length}
+use Rattle.cs_board.specs.{Opening.first_status, Views.with_word, Views.with_home, Words.status_at}
+use Rattle.cs_board.specs.{declared.view.Berth.TheVariants.Full, declared.view.Plan.Plan}
 use Rattle.cs_board.specs.Resting.{IsLaying, areas_in, known_in}
 use Rattle.cs_desk.specs.inner.Resting.{plan_over}
-use Rattle.cs_desk.proofs.Laying.{laying_watch, laying_note}
-use Rattle.cs_desk.proofs.Opening.{popped}
-use Rattle.cs_board.specs.Views.{with_word, with_home}
-use Rattle.cs_board.specs.Words.{status_at}
-use Rattle.cs_board.specs.declared.view.Berth.TheVariants.{Full}
-use Rattle.cs_board.specs.declared.view.Plan.{Plan}
+use Rattle.cs_desk.proofs.{Laying.laying_watch, Laying.laying_note, Opening.popped}
 use Rattle.cs_desk.proofs.open.lay_cycle.Goals as goal
 
 pub loop-edge-init : goal.loop-edge-init
@@ -40,17 +34,7 @@ loop-edge-preserved g c =
     }
 
 pub loop-job-init : goal.loop-job-init
-loop-job-init g c = record {
-  jobs = ap (λ l. c.args.jobs.items ++ l) (drop-length c.args.jobs.items) ∙ append-nil c.args.jobs.items;
-  room = omega arith;
-  sole = c.loop-edge.invariant.sole;
-  areas = c.loop-edge.invariant.areas;
-  laying = subst (λ e. IsLaying
-      (plan_over (areas_in c.args.seat.now) (known_in c.args.seat.now) c.args.graph.now c.args.jobs.items)
-      (length c.args.jobs.items) e (known_in c.loop-edge.seat))
-      (omega (arith, c.loop-edge-test.false, c.loop-edge.invariant.low, c.edge_count-edge-end.ensures.count))
-      c.loop-edge.invariant.laying;
-}
+loop-job-init g c = grind (arith, common_steps, append-nil, drop-length)
 
 pub loop-job-preserved : goal.loop-job-preserved
 loop-job-preserved g c =

@@ -1,6 +1,6 @@
+use Rattle.std.proofs.lemmas.{Grind.common_steps, Option.slice_get-get_or}
 use Rattle.std.proofs.Common.{ℕ, suc, ◌<◌, ◌+◌, ◌≡◌, ◌++◌, List, length, take, drop, slice_set, Some, sym, ap, ◌∙◌}
 use Rattle.std.proofs.Common.{arith}
-use Rattle.std.proofs.lemmas.Option.{slice_get-get_or}
 use Rattle.std.specs.Prelude.{ℤ}
 use Rattle.cs_row.proofs.Fronts.{next_set, all_of}
 use Rattle.cs_desk.proofs.plain.fill.Goals as goal
@@ -26,11 +26,4 @@ loop-addr-preserved g c =
     }
 
 pub returns-clause-cells : goal.returns-clause-cells
-returns-clause-cells g c =
-    let ys : List ℤ = c.args.numbers.now in
-    let js : List ℤ = g.B.Bank.cells c.args.bank.now in
-    let all : c.loop-addr.addr ≡ length js =
-    omega (arith, c.loop-addr-test.false, c.loop-addr.invariant.low, c.requires.cells) in
-    c.loop-addr.invariant.cells
-    ∙ ap (λ k. take k ys ++ drop k js) all
-    ∙ all_of ys js (c.requires.numbers ∙ sym c.requires.cells)
+returns-clause-cells g c = grind (arith, common_steps, all_of)

@@ -4,8 +4,7 @@ use mir.Val.{SFits}
 use Rattle.std.proofs.lemmas.Int.{to_z-of_z}
 use Rattle.cs_base.specs.Numbers.{clamp}
 use Rattle.cs_cells.specs.Cells.{signed, values}
-use Rattle.cs_desk.proofs.Ending.{took}
-use Rattle.cs_desk.proofs.Plainly.{value_at}
+use Rattle.cs_desk.proofs.{Ending.took, Plainly.value_at}
 use Rattle.cs_desk.proofs.plain.numbers_in.Goals as goal
 
 pub loop-at-preserved : goal.loop-at-preserved

@@ -1,28 +1,13 @@
-use Rattle.std.proofs.Common.{ℕ, ◌<◌, ◌≡◌, List, [], ◌∷◌, ◌++◌, length, Option, Some, refl, sym, ap, ◌∙◌, subst, arith}
-use Rattle.std.proofs.Common.{slice_get, take}
-use Rattle.std.proofs.lemmas.List.{length-set}
-use Rattle.std.proofs.Math.Seq.{take-length}
-use Rattle.cs_board.specs.Board.{plan}
-use Rattle.cs_board.specs.Resting.{known_in}
+use Rattle.std.proofs.lemmas.{Grind.common_steps, List.length-set}
+use Rattle.std.proofs.Common.{ℕ, ◌<◌, ◌≡◌, List, [], ◌∷◌, ◌++◌, length, Option, Some, sym, ap, ◌∙◌, subst, arith}
+use Rattle.std.proofs.{Common.slice_get, Math.Seq.take-length}
+use Rattle.cs_board.specs.{Board.plan, Resting.known_in, Plans.places_written, declared.view.Berth.Berth}
 use Rattle.cs_desk.specs.inner.Resting.{ClearsTurns}
 use Rattle.cs_desk.proofs.Ending.{there, took, left_long, left_writes}
 use Rattle.cs_desk.proofs.Laying.{full_next, clears_note}
 use Rattle.cs_cells.specs.Serial.{serial_jobs}
-use Rattle.cs_board.specs.Plans.{places_written}
-use Rattle.cs_board.specs.declared.view.Berth.{Berth}
 use Rattle.cs_board.specs.declared.view.Berth.TheVariants.{Vacant, Full}
 use Rattle.cs_desk.proofs.rest.clear.Goals as goal
-
-pub loop-note-init : goal.loop-note-init
-loop-note-init g c = record {
-  low = omega arith;
-  jobs = c.requires.room.0;
-  room = c.requires.room.1;
-  sole = c.requires.sole;
-  areas = refl;
-  clearing = c.requires.clearing;
-  slots = refl;
-}
 
 same_full : {J : Type 0} (a b : J) → Some (Some (Full a)) ≡ Some (Some (Full b)) → a ≡ b
 same_full a b e = cc
@@ -95,15 +80,4 @@ loop-note-preserved g c =
     }
 
 pub returns-clause-jobs : goal.returns-clause-jobs
-returns-clause-jobs g c =
-    let k = plan c.args.board.now in
-    let js : List g.row.J.Denot = serial_jobs g.J.Job.means k.jobs k.cells in
-    let all : c.loop-note.note ≡ length js =
-    omega (
-      arith,
-      left_long g.J.Job.means g.met.J.Job.frames k c.requires.whole,
-      c.loop-note-test.false,
-      c.loop-note.invariant.low,
-      c.notes-note-end.ensures,
-    ) in
-    c.loop-note.invariant.jobs ∙ ap (λ n. take n js) all ∙ take-length js
+returns-clause-jobs g c = grind (arith, common_steps, left_long, take-length)

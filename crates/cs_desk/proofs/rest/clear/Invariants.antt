@@ -1,7 +1,6 @@
 use Rattle.std.proofs.Common.{◌≡◌, ◌≤◌, length, take}
 use Rattle.std.specs.Vec.{vec_capacity}
-use Rattle.cs_board.specs.Board.{plan, name}
-use Rattle.cs_board.specs.Resting.{IsSole, areas_in, known_in}
+use Rattle.cs_board.specs.{Board.plan, Board.name, Resting.IsSole, Resting.areas_in, Resting.known_in}
 use Rattle.cs_desk.specs.inner.Resting.{IsClearing}
 use Rattle.cs_cells.specs.Serial.{serial_jobs}
 use Rattle.cs_desk.proofs.rest.clear.Given as goal

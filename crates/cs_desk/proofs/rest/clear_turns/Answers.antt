@@ -1,20 +1,12 @@
-use Rattle.std.proofs.Common.{ℕ, ◌+◌, List, get_or, refl, sym, ap, ◌∙◌, subst, arith, drop}
-use Rattle.cs_board.specs.Board.{plan}
-use Rattle.cs_board.specs.Resting.{IsSole, known_in}
+use Rattle.std.proofs.lemmas.Grind.{common_steps}
+use Rattle.std.proofs.Common.{ℕ, ◌+◌, List, get_or, sym, ap, ◌∙◌, subst, arith, drop}
+use Rattle.cs_board.specs.{Board.plan, Resting.IsSole, Resting.known_in, Plans.places_written, Views.with_word}
 use Rattle.cs_desk.specs.inner.Resting.{ClearsTurns}
-use Rattle.cs_desk.proofs.Ending.{next_written}
-use Rattle.cs_desk.proofs.Laying.{clears_none, clears_more}
-use Rattle.cs_board.specs.Plans.{places_written}
-use Rattle.cs_board.specs.Views.{with_word}
+use Rattle.cs_desk.proofs.{Ending.next_written, Laying.clears_none, Laying.clears_more}
 use Rattle.cs_desk.proofs.rest.clear_turns.Goals as goal
 
 pub loop-area-init : goal.loop-area-init
-loop-area-init g c = record {
-  sole = c.requires.sole;
-  areas = refl;
-  cleared = clears_none (plan c.args.board.now) (places_written g.J.Job.means (plan c.args.board.now) c.args.note)
-      (known_in c.args.seat.now);
-}
+loop-area-init g c = grind (arith, common_steps, clears_none)
 
 pub lay-requires-clause-word : goal.lay-requires-clause-word
 lay-requires-clause-word g c =

@@ -1,8 +1,7 @@
 use Rattle.std.proofs.Common.{◌≡◌, drop}
-use Rattle.cs_board.specs.Board.{plan, name}
+use Rattle.cs_board.specs.{Board.plan, Board.name, Plans.places_written}
 use Rattle.cs_board.specs.Resting.{IsSole, areas_in, known_in}
 use Rattle.cs_desk.specs.inner.Resting.{ClearsTurns}
-use Rattle.cs_board.specs.Plans.{places_written}
 use Rattle.cs_desk.proofs.rest.clear_turns.Given as goal
 
 abbrev pub invariant-loop-area : goal.invariant-loop-area

@@ -1,6 +1,5 @@
-use Rattle.cs_board.specs.Resting.{known_in}
+use Rattle.cs_board.specs.{Resting.known_in, Views.with_word}
 use Rattle.cs_desk.proofs.Sole.{sole_knows, sole_areas, sole_after, told_laid}
-use Rattle.cs_board.specs.Views.{with_word}
 use Rattle.cs_board.proofs.Rests.{lays_word}
 use Rattle.cs_desk.proofs.resting.lay.Goals as goal
 

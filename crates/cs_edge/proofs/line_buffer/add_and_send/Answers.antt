@@ -1,5 +1,4 @@
-use Rattle.cs_edge.proofs.Buffered.{all_sent}
-use Rattle.cs_edge.proofs.Chains.{ok_then}
+use Rattle.cs_edge.proofs.{Buffered.all_sent, Chains.ok_then}
 use Rattle.cs_edge.proofs.line_buffer.add_and_send.Goals as goal
 
 pub returns-clause-written : goal.returns-clause-written

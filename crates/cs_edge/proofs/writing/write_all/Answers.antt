@@ -1,7 +1,7 @@
-use Rattle.std.proofs.Common.{subst, refl, ℕ, List}
+use Rattle.std.proofs.Common.{arith, subst, refl, ℕ, List}
+use Rattle.std.proofs.lemmas.Grind.{common_steps}
 use Rattle.cs_edge.specs.Moves.{WroteMore}
-use Rattle.cs_edge.proofs.Lists.{take_on, taken_within, take_front}
-use Rattle.cs_edge.proofs.Stories.{more_on, part_failed}
+use Rattle.cs_edge.proofs.{Lists.take_on, Lists.taken_within, Lists.take_front, Stories.more_on, Stories.part_failed}
 use Rattle.cs_edge.proofs.writing.write_all.Goals as goal
 
 pub loop-at-preserved : goal.loop-at-preserved
@@ -15,6 +15,4 @@ loop-at-preserved g c =
     )
 
 pub returns-in-Err-clause-part : goal.returns-in-Err-clause-part
-returns-in-Err-clause-part g c =
-    part_failed _ _ _ _ _ c.loop-at.invariant.1 (take_front c.loop-at.at c.args.piece.now) c.in-Err.ensures.failed
-    c.in-Err.ensures.moves (c.in-Err.ensures.cause.rose refl) c.in-Err.ensures.cause.later
+returns-in-Err-clause-part g c = grind (arith, common_steps, part_failed, take_front)

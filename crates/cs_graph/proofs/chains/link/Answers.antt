@@ -1,6 +1,5 @@
 use Rattle.std.proofs.Common.{subst, sym, ◌∙◌, slice_index_or, slice_set, arith, ◌<◌, length}
-use Rattle.std.proofs.lemmas.Option.{slice_get-get_or}
-use Rattle.std.proofs.lemmas.List.{get_or_default}
+use Rattle.std.proofs.lemmas.{Option.slice_get-get_or, List.get_or_default}
 use Rattle.cs_graph.specs.inner.Index.{IsChained}
 use Rattle.cs_graph.proofs.ChainLemmas.{links}
 use Rattle.cs_graph.proofs.chains.link.Goals as goal

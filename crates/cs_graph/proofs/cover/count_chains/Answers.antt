@@ -1,12 +1,10 @@
-use Rattle.std.proofs.Common.{rules, ◌≡◌, ◌<◌, ◌+◌, ℕ, length, true, sym, ◌∙◌, subst, arith}
-use Rattle.std.proofs.lemmas.List.{length-set}
-use Rattle.std.proofs.lemmas.Option.{slice_get_within}
+use Rattle.std.proofs.lemmas.{Grind.common_steps, List.length-set, Option.slice_get_within}
+use Rattle.std.proofs.Common.{rules, ℕ, length, true, sym, ◌∙◌, subst, arith}
 use Rattle.cs_graph.proofs.CoverLemmas.{covered_none, parted_free, parted_taken, covers}
-use Rattle.cs_graph.specs.Graph.{LeadsForward}
+use Rattle.cs_graph.specs.{Graph.LeadsForward, inner.Index.AreInto, inner.Index.range_at}
 use Rattle.cs_graph.specs.inner.Covering.{IsCoveredTo, IsFree, AreTaken}
-use Rattle.cs_graph.specs.inner.Index.{AreInto, range_at}
-use Rattle.cs_graph.proofs.cover.count_chains.Goals as goal
 use Rattle.cs_graph.proofs.cover.count_chains.Goals.{in-Some, in-None}
+use Rattle.cs_graph.proofs.cover.count_chains.Goals as goal
 
 pub loop-note-init : goal.loop-note-init
 loop-note-init c = (
@@ -55,13 +53,4 @@ loop-note-preserved c =
     ]
 
 pub returns : goal.returns
-returns c =
-    let inv = c.loop-note.invariant in
-    let all : c.loop-note.note ≡ length c.args.into.now =
-    omega (arith, c.loop-note-test.false, c.loop-note.auto.note-end) in (
-      inv.2.0,
-      covers c.args.edges.now (length c.args.into.now) c.loop-note.count c.loop-note.continued.items inv.2.0
-          c.requires.forward
-          (subst (λ k. IsCoveredTo c.args.edges.now k c.loop-note.continued.items c.loop-note.count inv.2.0) all
-          inv.2.1),
-    )
+returns c = grind (arith, common_steps, covers)

@@ -1,9 +1,8 @@
 use Rattle.std.proofs.Common.{◌≡◌, true, false, sym, ◌∙◌, ℕ, subst, arith}
 use Rattle.cs_graph.proofs.DrawLemmas.{drawn_skip, drawn_push}
-use Rattle.cs_graph.specs.inner.Growing.{AreDrawnTo}
-use Rattle.cs_graph.specs.inner.Sets.{has}
-use Rattle.cs_graph.proofs.draw.add_block.Goals as goal
+use Rattle.cs_graph.specs.{inner.Growing.AreDrawnTo, inner.Sets.has}
 use Rattle.cs_graph.proofs.draw.add_block.Goals.{then-contains+in_ok-push, else-contains}
+use Rattle.cs_graph.proofs.draw.add_block.Goals as goal
 
 pub loop-earlier-preserved : goal.loop-earlier-preserved
 loop-earlier-preserved c =

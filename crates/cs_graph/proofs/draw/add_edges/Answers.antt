@@ -1,4 +1,4 @@
-use Rattle.std.proofs.Common.{◌≡◌, ◌+◌, ◌*◌, ◌<◌, ℕ, min, sym, ◌∙◌, subst, arith}
+use Rattle.std.proofs.Common.{◌≡◌, ◌+◌, ◌*◌, ◌<◌, ℕ, min, subst, arith}
 use Rattle.cs_graph.specs.inner.Growing.{AreDrawnTo}
 use Rattle.cs_graph.proofs.DrawLemmas.{drawn_clear}
 use Rattle.cs_graph.proofs.draw.add_edges.Goals as goal

@@ -1,9 +1,7 @@
 use Rattle.std.proofs.Common.{◌≡◌, ℕ, ◌+◌, ◌-◌, ◌<◌, max, length, sym, ◌∙◌, subst, arith}
-use Rattle.cs_graph.specs.inner.Sets.{has}
-use Rattle.cs_graph.specs.inner.Nearest.{IsFound, Has, known_at}
+use Rattle.cs_graph.specs.{inner.Sets.has, inner.Nearest.IsFound, inner.Nearest.Has, inner.Nearest.known_at}
 use Rattle.cs_base.proofs.Tests.{by_test}
-use Rattle.cs_graph.proofs.ReadAt.{read_at}
-use Rattle.cs_graph.proofs.NearestLemmas.{found_reached, found_nearest}
+use Rattle.cs_graph.proofs.{ReadAt.read_at, NearestLemmas.found_reached, NearestLemmas.found_nearest}
 use Rattle.cs_graph.proofs.nearest.sort_block.Goals as goal
 
 pub loop-q-preserved-then-contains : goal.loop-q-preserved-then-contains
@@ -26,9 +24,3 @@ loop-q-preserved-then-contains c =
           c.take_in.new.self (omega arith) is_met f c.take_in.ensures.near level no_
           (λ p. rw read (c.take_in.ensures.reaches no_ p))),
     )
-
-pub returns : goal.returns
-returns c =
-    let e : c.loop-q.q ≡ c.args.from = omega (arith, c.loop-q-test.false, c.loop-q.invariant.0) in
-    subst (λ n. IsFound c.args.met.now c.args.known.now n (length c.args.known.now) c.loop-q.found) e
-    c.loop-q.invariant.1

@@ -1,7 +1,6 @@
 use Rattle.std.proofs.Common.{◌≡◌, ◌≢◌, ◌∙◌, [], sym, arith}
 use Rattle.std.proofs.lemmas.List.{get_or_default}
-use Rattle.cs_graph.specs.Conflict.{foot}
-use Rattle.cs_graph.specs.inner.Touched.{uses_so_far, writes_so_far}
+use Rattle.cs_graph.specs.{Conflict.foot, inner.Touched.uses_so_far, inner.Touched.writes_so_far}
 use Rattle.cs_graph.proofs.TouchedLemmas.{others_same, clash-met, or_with, of_earlier}
 use Rattle.cs_graph.proofs.touched.meet.Goals as goal
 

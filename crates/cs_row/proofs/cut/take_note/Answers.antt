@@ -1,6 +1,6 @@
+use Rattle.std.proofs.lemmas.{Grind.common_steps, List.get_or_read}
 use Rattle.std.proofs.Common.{◌≡◌, ◌<◌, ◌+◌, ◌-◌, ℕ, arith, get_or, length, subst, sym, take}
 use Rattle.std.specs.Prelude.{slice_set}
-use Rattle.std.proofs.lemmas.List.{get_or_read}
 use Rattle.cs_row.specs.Cuts.{IsCut}
 use Rattle.cs_row.proofs.Cutting.{next_begins, next_joins, some_cuts}
 use Rattle.cs_row.proofs.cut.take_note.Goals as goal
@@ -25,9 +25,4 @@ returns-then-go_together-clause-cut g c =
     c.if-at-gt0.true c.requires.over n many (omega (arith, looked, c.if-index-most.true)) both.0 both.1)
 
 pub returns-else-at-gt0-clause-cut : goal.returns-else-at-gt0-clause-cut
-returns-else-at-gt0-clause-cut g c =
-    let notes = c.args.notes.now in
-    let next = get_or notes c.args.at in
-    subst (IsCut g.J.Job.means c.args.most (take (c.args.at + 1) notes)) (sym c.push_reserved.ensures.items)
-    (next_begins g.J.Job.means c.args.most notes c.args.at c.args.cuts.now.items c.requires.within c.requires.valid
-    c.requires.cut c.requires.most)
+returns-else-at-gt0-clause-cut g c = grind (arith, common_steps, next_begins)

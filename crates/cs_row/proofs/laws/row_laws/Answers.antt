@@ -1,5 +1,4 @@
-use Rattle.cs_row.proofs.InRows.{conflict_by_row}
-use Rattle.cs_row.proofs.Runs.{runs, sum_of_rows}
+use Rattle.cs_row.proofs.{InRows.conflict_by_row, Runs.runs, Runs.sum_of_rows}
 use Rattle.cs_row.proofs.laws.row_laws.Goals as goal
 
 pub returns-clause-run : goal.returns-clause-run

@@ -1,10 +1,7 @@
 use Rattle.std.proofs.Common.{◌≡◌, ◌+◌, ◌++◌, ◌∙◌, List, Some, ap, arith, length, reverse, rules}
-use Rattle.std.proofs.lemmas.List.{length-append, reverse-reverse}
+use Rattle.std.proofs.lemmas.{List.length-append, List.reverse-reverse, List.Sorted.All-permutation}
 use Rattle.std.proofs.lemmas.List.Elements.{All-pop, All-same}
-use Rattle.std.proofs.lemmas.List.Sorted.{All-permutation}
-use Rattle.cs_row.specs.Heard.{HeardRow}
-use Rattle.cs_row.specs.Laws.{all_notes}
-use Rattle.cs_row.specs.Rooms.{IsEmptied}
+use Rattle.cs_row.specs.{Heard.HeardRow, Laws.all_notes, Rooms.IsEmptied}
 use Rattle.cs_row.proofs.Emptying.{kept_or_not, more_notes, room_left}
 use Rattle.cs_row.proofs.memory.empty_rows.Goals as goal
 

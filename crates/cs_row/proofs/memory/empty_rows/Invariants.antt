@@ -1,8 +1,6 @@
 use Rattle.std.proofs.Common.{◌≡◌, ◌≤◌, ◌+◌, ◌++◌, ℕ, length, reverse}
-use Rattle.std.specs.List.{All}
-use Rattle.std.specs.Vec.{vec_capacity}
-use Rattle.cs_row.specs.Rooms.{IsEmptied}
-use Rattle.cs_row.specs.Laws.{all_notes}
+use Rattle.std.specs.{List.All, Vec.vec_capacity}
+use Rattle.cs_row.specs.{Rooms.IsEmptied, Laws.all_notes}
 use Rattle.cs_row.proofs.memory.empty_rows.Given as goal
 
 -- the rows that are left stand the last one first

@@ -2,8 +2,7 @@ use Rattle.std.proofs.Common.{◌<◌, ◌∙◌, ℕ, arith, get_or, length, su
 use Rattle.std.specs.List.{All}
 use Rattle.std.proofs.lemmas.List.{length-set, take_all, take_more_set}
 use Rattle.std.proofs.lemmas.List.Elements.{All-push, All-set}
-use Rattle.cs_row.specs.declared.row.RowRoom.{RowRoom}
-use Rattle.cs_row.specs.Rooms.{IsEmptied, IsWide}
+use Rattle.cs_row.specs.{declared.row.RowRoom.RowRoom, Rooms.IsEmptied, Rooms.IsWide}
 use Rattle.cs_row.proofs.memory.widen.Goals as goal
 
 pub returns-in_err-reserve-clause-empty : goal.returns-in_err-reserve-clause-empty

@@ -1,3 +1,4 @@
+use Rattle.std.proofs.lemmas.Grind.{common_steps}
 use Rattle.std.proofs.Common.{ℕ, suc, ◌<◌, ◌+◌, ◌≡◌, ◌++◌, List, length, take, drop, slice_get, slice_set, Some, sym}
 use Rattle.std.proofs.Common.{ap, ◌∙◌, subst, get_or, arith}
 use Rattle.cs_cells.specs.Serial.{serial_jobs, before}
@@ -5,42 +6,21 @@ use Rattle.cs_cells.proofs.SerialRun.{before-suc, job_at, before-all, length-ser
 use Rattle.cs_row.proofs.Fronts.{next_here, next_set, all_of}
 use Rattle.cs_row.proofs.order.run_in_order.Goals as goal
 
-pub run-requires-clause-get : goal.run-requires-clause-get
-run-requires-clause-get g c a u =
+pub run-requires : goal.run-requires
+run-requires g c =
     let M = g.J.Job.means in
-    let js : List g.row.J.Denot = c.args.jobs.now in
     let start = g.B.Bank.cells c.args.bank.now in
     let inv = c.loop-at.invariant in
-    let low : c.loop-at.at < length js = omega (arith, c.loop-at-test.true) in
-    let there = next_here (serial_jobs M js start) js c.loop-at.jobs c.loop-at.at c.index-jobs-at.result
-    (length-serial_jobs M js start) low inv.jobs in
-    subst (λ r. g.B.Bank.can_get r a) (sym inv.rest)
-    (c.requires.get c.loop-at.at a (get_or c.loop-at.jobs c.loop-at.at c.index-jobs-at.result) there u)
-
-pub run-requires-clause-set : goal.run-requires-clause-set
-run-requires-clause-set g c a w =
-    let M = g.J.Job.means in
-    let js : List g.row.J.Denot = c.args.jobs.now in
-    let start = g.B.Bank.cells c.args.bank.now in
-    let inv = c.loop-at.invariant in
-    let low : c.loop-at.at < length js = omega (arith, c.loop-at-test.true) in
-    let there = next_here (serial_jobs M js start) js c.loop-at.jobs c.loop-at.at c.index-jobs-at.result
-    (length-serial_jobs M js start) low inv.jobs in
-    subst (λ r. g.B.Bank.can_set r a) (sym inv.rest)
-    (c.requires.set c.loop-at.at a (get_or c.loop-at.jobs c.loop-at.at c.index-jobs-at.result) there w)
-
-pub run-requires-clause-cells : goal.run-requires-clause-cells
-run-requires-clause-cells g c a u =
-    let M = g.J.Job.means in
-    let js : List g.row.J.Denot = c.args.jobs.now in
-    let start = g.B.Bank.cells c.args.bank.now in
-    let inv = c.loop-at.invariant in
-    let low : c.loop-at.at < length js = omega (arith, c.loop-at-test.true) in
-    let there = next_here (serial_jobs M js start) js c.loop-at.jobs c.loop-at.at c.index-jobs-at.result
-    (length-serial_jobs M js start) low inv.jobs in
-    let near = c.requires.cells c.loop-at.at a (get_or c.loop-at.jobs c.loop-at.at c.index-jobs-at.result) there u in
-    let long = ap length inv.cells ∙ length-before M g.met.J.Job.frames js start c.loop-at.at in
-    subst (λ n. a < n) (sym long) near
+    let n : ℕ = c.loop-at.at in
+    let job : g.row.J.Denot = get_or c.loop-at.jobs n c.index-jobs-at.result in
+    let there = next_here (serial_jobs M c.args.jobs.now start) c.args.jobs.now c.loop-at.jobs n
+    c.index-jobs-at.result (length-serial_jobs M c.args.jobs.now start) (omega (arith, c.loop-at-test.true)) inv.jobs in
+    let long = ap length inv.cells ∙ length-before M g.met.J.Job.frames c.args.jobs.now start n in
+    record {
+      get = λ a u. subst (λ r. g.B.Bank.can_get r a) (sym inv.rest) (c.requires.get n a job there u);
+      set = λ a w. subst (λ r. g.B.Bank.can_set r a) (sym inv.rest) (c.requires.set n a job there w);
+      cells = λ a u. subst (λ k. a < k) (sym long) (c.requires.cells n a job there u);
+    }
 
 pub loop-at-preserved : goal.loop-at-preserved
 loop-at-preserved g c =
@@ -69,20 +49,11 @@ loop-at-preserved g c =
     }
 
 pub returns-clause-jobs : goal.returns-clause-jobs
-returns-clause-jobs g c =
-    let M = g.J.Job.means in
-    let js : List g.row.J.Denot = c.args.jobs.now in
-    let start = g.B.Bank.cells c.args.bank.now in
-    let ys : List g.row.J.Denot = serial_jobs M js start in
-    let inv = c.loop-at.invariant in
-    let all : c.loop-at.at ≡ length js = omega (arith, c.loop-at-test.false, inv.low) in
-    inv.jobs ∙ ap (λ k. take k ys ++ drop k js) all ∙ all_of ys js (length-serial_jobs M js start)
+returns-clause-jobs g c = grind (arith, common_steps, all_of, length-serial_jobs)
 
 pub returns-clause-cells : goal.returns-clause-cells
 returns-clause-cells g c =
-    let M = g.J.Job.means in
-    let js : List g.row.J.Denot = c.args.jobs.now in
-    let start = g.B.Bank.cells c.args.bank.now in
     let inv = c.loop-at.invariant in
-    let all : c.loop-at.at ≡ length js = omega (arith, c.loop-at-test.false, inv.low) in
-    inv.cells ∙ ap (before M js start) all ∙ before-all M js start
+    let all : c.loop-at.at ≡ length c.args.jobs.now = omega (arith, c.loop-at-test.false, inv.low) in
+    inv.cells ∙ ap (before g.J.Job.means c.args.jobs.now (g.B.Bank.cells c.args.bank.now)) all
+    ∙ before-all g.J.Job.means c.args.jobs.now (g.B.Bank.cells c.args.bank.now)

@@ -1,7 +1,6 @@
-use Rattle.std.proofs.Common.{◌≡◌, ◌≢◌, ◌<◌, ◌+◌, ◌+ℤ◌, ◌==◌, ◌∙◌, ℕ, ℤ, ap, arith, get_or, length, of_z, pos, set}
-use Rattle.std.proofs.Common.{sym, subst, to_z, w64}
-use Rattle.std.proofs.lemmas.Bool.{eqb-true}
-use Rattle.std.proofs.lemmas.List.{get_or-set_same, get_or-set_other, length-set}
+use Rattle.std.proofs.Common.{◌≡◌, ◌≢◌, ◌<◌, ◌+◌, ◌+ℤ◌, ◌==◌, ◌∙◌, ℕ, ℤ, ap, arith, get_or, length, of_z, pos, set, sym}
+use Rattle.std.proofs.Common.{subst, to_z, w64}
+use Rattle.std.proofs.lemmas.{Bool.eqb-true, List.get_or-set_same, List.get_or-set_other, List.length-set}
 use Rattle.cs_base.proofs.Tests.{by_test}
 use Rattle.cs_row.specs.Heard.{IsSumOf}
 use Rattle.cs_row.proofs.Adding.{apart, both_small, read_back}

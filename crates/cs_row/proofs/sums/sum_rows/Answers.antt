@@ -1,11 +1,9 @@
 use Rattle.std.proofs.Common.{◌≡◌, ◌<◌, ◌≤◌, ◌+◌, ◌+ℤ◌, ◌∙◌, ℕ, ℤ, List, ap, arith, get_or, length, map, nat_lt, pos}
-use Rattle.std.proofs.Common.{sym, subst, take}
-use Rattle.std.proofs.Common.{ltb-true}
+use Rattle.std.proofs.Common.{sym, subst, take, ltb-true}
 use Rattle.std.proofs.lemmas.List.{get_or_past}
 use Rattle.cs_base.proofs.Tests.{by_test}
 use Rattle.cs_base.specs.Numbers.{total}
-use Rattle.cs_row.specs.Heard.{HeardRow, IsSumOf}
-use Rattle.cs_row.specs.Laws.{all_notes}
+use Rattle.cs_row.specs.{Heard.HeardRow, Heard.IsSumOf, Laws.all_notes}
 use Rattle.cs_row.proofs.Adding.{both_small, no_lower, nothing_small, notes_more, notes_within, total_more}
 use Rattle.cs_row.proofs.sums.sum_rows.Goals as goal
 

@@ -1,8 +1,7 @@
 use Rattle.std.proofs.Common.{◌≡◌, ◌≤◌, ◌<◌, ℕ, length, map, take, pos}
 use Rattle.std.specs.Prelude.{slice_index_or}
 use Rattle.cs_base.specs.Numbers.{total}
-use Rattle.cs_row.specs.Heard.{AreSumsOf}
-use Rattle.cs_row.specs.Laws.{all_notes}
+use Rattle.cs_row.specs.{Heard.AreSumsOf, Laws.all_notes}
 use Rattle.cs_row.proofs.sums.sum_rows.Given as goal
 
 abbrev pub invariant-loop-at : goal.invariant-loop-at

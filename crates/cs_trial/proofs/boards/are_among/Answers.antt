@@ -1,4 +1,4 @@
-use Rattle.std.proofs.Common.{◌<◌, subst, arith, length, get_or}
+use Rattle.std.proofs.Common.{◌<◌, subst, arith, length, get_or, rules}
 use Rattle.std.specs.List.{Contains}
 use Rattle.std.proofs.lemmas.List.{get_or_default}
 use Rattle.cs_trial.proofs.Firsts.{one_more}
@@ -16,5 +16,5 @@ loop-place-preserved c =
           (get_or c.args.some.now c.loop-place.place-index 0) low
           (get_or_default c.args.some.now c.loop-place.place-index 0 (get_or c.args.some.now c.loop-place.place-index 0)
           low)
-          (c.has.ensures c.if-not-has.false) c.loop-place.invariant.1,
+          (search rules) c.loop-place.invariant.1,
     )

@@ -1,6 +1,5 @@
 use Rattle.std.proofs.Common.{◌<◌, subst, sym, ℕ}
-use Rattle.std.specs.List.{Contains}
-use Rattle.std.specs.List.Sorted.{IsStrictlyIncreasing}
+use Rattle.std.specs.{List.Contains, List.Sorted.IsStrictlyIncreasing}
 use Rattle.cs_trial.proofs.boards.is_orderly.Goals as goal
 
 pub returns : goal.returns

@@ -1,7 +1,6 @@
 use Rattle.std.proofs.Common.{◌≡◌, subst, sym}
 use Rattle.std.specs.List.{All}
-use Rattle.cs_desk.specs.Cycles.{IsCycle}
-use Rattle.cs_desk.specs.Desk.{areas}
+use Rattle.cs_desk.specs.{Cycles.IsCycle, Desk.areas}
 use Rattle.cs_trial.proofs.boards.opened.Goals as goal
 
 pub open-requires : goal.open-requires

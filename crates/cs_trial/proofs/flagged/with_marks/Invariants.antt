@@ -1,6 +1,5 @@
 use Rattle.std.proofs.Common.{◌≡◌, List}
-use Rattle.std.specs.List.{All}
-use Rattle.std.specs.Vec.Iter.{into_iter_items}
+use Rattle.std.specs.{List.All, Vec.Iter.into_iter_items}
 use Rattle.cs_cells.specs.declared.footprint.Area.{Area}
 use Rattle.cs_trial.specs.Mini.{Small}
 use Rattle.cs_trial.proofs.flagged.with_marks.Given as goal

@@ -1,7 +1,6 @@
 use Rattle.std.proofs.Common.{◌≡◌, subst, sym}
 use Rattle.std.specs.List.{All}
-use Rattle.cs_desk.specs.Cycles.{IsCycle}
-use Rattle.cs_desk.specs.Desk.{areas}
+use Rattle.cs_desk.specs.{Cycles.IsCycle, Desk.areas}
 use Rattle.cs_trial.proofs.single.left_by.Goals as goal
 
 pub run_cycle-receipt-requires-clause-cycle : goal.run_cycle-receipt-requires-clause-cycle

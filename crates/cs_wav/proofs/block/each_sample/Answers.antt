@@ -1,34 +1,18 @@
-use Rattle.std.proofs.Common.{◌≡◌, ◌≤◌, ℕ, ◌+◌, ◌*◌, ℤ, pos, Bool, true, false, length, take, get_or, ap, sym, ◌∙◌}
-use Rattle.std.proofs.Common.{if◌then◌else◌, arith, rules, to_z, of_z, w64}
-use Rattle.std.proofs.lemmas.Int.{ints}
-use Rattle.std.proofs.lemmas.List.{length-take-le, take_all}
+use Rattle.std.proofs.lemmas.{Grind.common_steps, Int.ints, List.length-take-le, List.take_all}
+use Rattle.std.proofs.Common.{◌≡◌, ◌≤◌, ℕ, ◌+◌, ℤ, pos, Bool, true, false, length, take, get_or, sym, ◌∙◌, arith, to_z}
+use Rattle.std.proofs.Common.{if◌then◌else◌}
+use Rattle.std.proofs.{Common.of_z, Common.w64, Math.Nat.mul-le-mul_left}
 use Rattle.std.proofs.lemmas.List.Sums.{count_by-le-length, sum_by_more}
-use Rattle.std.proofs.Math.Nat.{mul-le-mul_left}
-use Rattle.std.specs.List.{count_by}
-use Rattle.cs_base.specs.Widths.{bytes_of}
 use Rattle.cs_wav.specs.Wav.{is_out_of_range, samples_of}
 use Rattle.cs_wav.proofs.Samples.{take-written}
 use Rattle.cs_wav.proofs.block.each_sample.Goals as goal
 
 pub loop-i-init : goal.loop-i-init
 unfolding samples_of
-loop-i-init c = record {
-  size = c.requires.room;
-  written =
-      ap (λ (n : ℕ). take n c.args.out.now) (let none : 0 * bytes_of c.args.scale.width ≡ 0 = omega arith in none);
-  counted =
-      search rules;
-}
+loop-i-init c = grind (arith, common_steps)
 
 pub put_value-brought_in-requires : goal.put_value-brought_in-requires
-put_value-brought_in-requires c =
-    rw c.bytes-bytes.ensures
-    (omega (
-      arith,
-      mul-le-mul_left {m = c.loop-i.i + 1} {n = length c.args.mix.now} (bytes_of c.args.scale.width)
-          (omega arith),
-      c.loop-i.invariant.size,
-    ))
+put_value-brought_in-requires c = grind (arith, common_steps, mul-le-mul_left)
 
 one_at_most : (b : Bool) (n : ℕ) → n ≡ (if b then 1 else 0) → n ≤ 1
 one_at_most true n e = omega (arith, e)
@@ -64,15 +48,7 @@ loop-i-preserved c =
     }
 
 pub returns-clause-bytes : goal.returns-clause-bytes
-returns-clause-bytes c =
-    let last : c.loop-i.i ≡ length c.args.mix.now = omega arith in
-    let place : length c.loop-i.out ≤ c.loop-i.i * bytes_of c.args.scale.width =
-    omega (arith, c.loop-i.invariant.size, ap (λ (n : ℕ). n * bytes_of c.args.scale.width) last) in
-    sym (take_all (c.loop-i.i * bytes_of c.args.scale.width) c.loop-i.out place) ∙ c.loop-i.invariant.written
-    ∙ ap (samples_of c.args.scale.width c.args.scale.dbfs) (take_all c.loop-i.i c.args.mix.now (omega arith))
+returns-clause-bytes c = grind (arith, common_steps, take_all)
 
 pub returns-clause-out_of_range : goal.returns-clause-out_of_range
-returns-clause-out_of_range c =
-    c.loop-i.invariant.counted
-    ∙ ap (count_by (is_out_of_range c.args.scale.width c.args.scale.dbfs))
-    (take_all c.loop-i.i c.args.mix.now (omega arith))
+returns-clause-out_of_range c = grind (arith, common_steps, take_all)

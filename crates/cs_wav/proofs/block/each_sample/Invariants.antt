@@ -1,7 +1,6 @@
 use Rattle.std.proofs.Common.{◌≡◌, ℕ, ◌*◌, ℤ, List, length, take}
 use Rattle.std.specs.List.{count_by}
-use Rattle.cs_base.specs.Widths.{bytes_of}
-use Rattle.cs_base.specs.declared.width.SampleWidth.{SampleWidth}
+use Rattle.cs_base.specs.{Widths.bytes_of, declared.width.SampleWidth.SampleWidth}
 use Rattle.cs_wav.specs.Wav.{is_out_of_range, samples_of}
 use Rattle.cs_wav.proofs.block.each_sample.Given as goal
 

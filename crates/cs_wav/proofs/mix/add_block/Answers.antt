@@ -1,7 +1,6 @@
 use Rattle.std.proofs.Common.{◌≡◌, ◌+◌, ◌<◌, ℕ, ℤ, ◌+ℤ◌, pos, List, get_or, length, set, to_z, of_z, w64, arith, ap}
 use Rattle.std.proofs.Common.{◌∙◌, add-one}
-use Rattle.std.proofs.lemmas.Int.{ints}
-use Rattle.std.proofs.lemmas.List.{get_or_read}
+use Rattle.std.proofs.lemmas.{Int.ints, List.get_or_read}
 use Rattle.cs_wav.specs.Wav.{TakesMore}
 use Rattle.cs_wav.proofs.Sums.{get_or-part_added, set-part_added, part_added_all, raw_more}
 use Rattle.cs_wav.proofs.mix.add_block.Goals as goal

@@ -1,5 +1,4 @@
-use Rattle.cs_board.specs.Board.{plan, name, view, IsSeatOf}
-use Rattle.cs_board.specs.inner.Sittings.{HasTried}
+use Rattle.cs_board.specs.{Board.plan, Board.name, Board.view, Board.IsSeatOf, inner.Sittings.HasTried}
 use Rattle.cs_board.proofs.board.Board.await_claim.Given as goal
 
 abbrev pub invariant-loop-look : goal.invariant-loop-look

@@ -1,10 +1,7 @@
 use Rattle.std.proofs.Common.{◌∷◌, [], length, refl, sym, ap, ◌∙◌, subst, arith}
-use Rattle.cs_board.specs.Built.{IsBuilt}
-use Rattle.cs_board.specs.Resting.{areas_in, known_in}
-use Rattle.cs_board.specs.Seen.{plan_in, plan_seen}
+use Rattle.cs_board.specs.{Built.IsBuilt, Resting.areas_in, Resting.known_in, Seen.plan_in, Seen.plan_seen}
+use Rattle.cs_board.specs.{Plans.IsPlan, Views.plan_laid, Views.opening_view}
 use Rattle.cs_board.proofs.Beginning.{first_seat}
-use Rattle.cs_board.specs.Plans.{IsPlan}
-use Rattle.cs_board.specs.Views.{plan_laid, opening_view}
 use Rattle.cs_board.proofs.board.Board.begin.Goals as goal
 
 -- the board's plan is the one that was laid out

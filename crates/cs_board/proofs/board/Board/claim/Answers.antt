@@ -1,6 +1,5 @@
 use Rattle.std.proofs.Common.{◌≡◌, ◌<◌, ℕ, [], sym, ap, ◌∙◌, subst, arith}
-use Rattle.cs_board.specs.Board.{plan, view, IsIdle, FoundSince}
-use Rattle.cs_board.specs.inner.Sittings.{AllTried}
+use Rattle.cs_board.specs.{Board.plan, Board.view, Board.IsIdle, Board.FoundSince, inner.Sittings.AllTried}
 use Rattle.cs_board.proofs.Trying.{if_none_map, owes_none}
 use Rattle.cs_board.proofs.board.Board.claim.Goals as goal
 

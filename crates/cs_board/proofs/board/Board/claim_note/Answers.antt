@@ -1,8 +1,7 @@
+use Rattle.std.proofs.lemmas.Grind.{common_steps}
 use Rattle.std.proofs.Common.{arith}
-use Rattle.cs_board.specs.Board.{plan}
-use Rattle.cs_board.specs.inner.Sittings.{tried}
-use Rattle.cs_board.proofs.Stepping.{place_after, view_tried, told_tried}
-use Rattle.cs_board.proofs.Kept.{claims}
+use Rattle.cs_board.specs.{Board.plan, inner.Sittings.tried}
+use Rattle.cs_board.proofs.{Stepping.place_after, Stepping.view_tried, Stepping.told_tried, Kept.claims}
 use Rattle.cs_board.proofs.board.Board.claim_note.Goals as goal
 
 pub compare_exchange-requires : goal.compare_exchange-requires
@@ -27,7 +26,4 @@ returns-clause-sitting g c =
     (view_tried g.J.Job.means (plan c.args.self.now) c.args.sitting.now.me.0 _ c.args.note c.requires.sitting.knows)
 
 pub returns-clause-me : goal.returns-clause-me
-returns-clause-me g c = told_tried g.J.Job.means (plan c.args.self.now)
-    c.args.self.now.frame.table.shared.table_id.slots c.args.note c.compare_exchange.result c.args.sitting.now.me
-    c.compare_exchange.new.seat.me c.requires.sitting.knows.plan
-    (rw c.status_word-word.ensures at c.compare_exchange.ensures.2)
+returns-clause-me g c = grind (arith, common_steps, told_tried)

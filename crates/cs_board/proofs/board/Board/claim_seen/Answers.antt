@@ -1,6 +1,4 @@
-use Rattle.cs_board.specs.Board.{plan, view}
-use Rattle.cs_board.specs.inner.Sittings.{HasTried}
-use Rattle.cs_board.specs.declared.view.View.{View}
+use Rattle.cs_board.specs.{Board.plan, Board.view, inner.Sittings.HasTried, declared.view.View.View}
 use Rattle.cs_board.proofs.Trying.{if_none_map, tried_again}
 use Rattle.cs_board.proofs.board.Board.claim_seen.Goals as goal
 

@@ -1,6 +1,5 @@
 use Rattle.std.proofs.Common.{◌≡◌, length, None, MatchOption}
-use Rattle.cs_board.specs.Board.{plan}
-use Rattle.cs_board.specs.inner.Sittings.{IsSittingOf, Beside, ClosesAt}
+use Rattle.cs_board.specs.{Board.plan, inner.Sittings.IsSittingOf, inner.Sittings.Beside, inner.Sittings.ClosesAt}
 use Rattle.cs_board.proofs.Finishing.{edges_left}
 use Rattle.cs_board.proofs.board.Board.close_all.Given as goal
 

@@ -1,9 +1,7 @@
 use Rattle.std.proofs.Common.{arith}
-use Rattle.cs_board.specs.Board.{plan}
-use Rattle.cs_board.proofs.Stepping.{place_after, view_shut, told_shut}
+use Rattle.cs_board.specs.{Board.plan, Views.shut}
+use Rattle.cs_board.proofs.{Stepping.place_after, Stepping.view_shut, Stepping.told_shut, Kept.closes_edge}
 use Rattle.std.proofs.lemmas.Option.{slice_get_within}
-use Rattle.cs_board.specs.Views.{shut}
-use Rattle.cs_board.proofs.Kept.{closes_edge}
 use Rattle.cs_board.proofs.board.Board.close_edge.Goals as goal
 
 pub swap-requires : goal.swap-requires

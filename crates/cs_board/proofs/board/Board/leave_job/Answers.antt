@@ -1,8 +1,5 @@
 use Rattle.std.proofs.Common.{sym, ap, arith, le-leb}
-use Rattle.cs_board.specs.Board.{plan}
-use Rattle.cs_board.specs.inner.Sittings.{deed, ran_out}
-use Rattle.cs_board.specs.Facts.{job_if}
-use Rattle.cs_board.specs.Plans.{before_at}
+use Rattle.cs_board.specs.{Board.plan, inner.Sittings.deed, inner.Sittings.ran_out, Facts.job_if, Plans.before_at}
 use Rattle.cs_board.proofs.Kept.{gives_job}
 use Rattle.cs_board.proofs.board.Board.leave_job.Goals as goal
 

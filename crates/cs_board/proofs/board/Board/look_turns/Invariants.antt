@@ -1,8 +1,6 @@
 use Rattle.std.proofs.Common.{◌≡◌, ◌*◌, ◌≤◌, take}
 use Rattle.std.specs.List.{sum_by}
-use Rattle.cs_board.specs.Board.{plan}
-use Rattle.cs_board.specs.inner.Sittings.{IsSittingOf}
-use Rattle.cs_board.specs.Plans.{places_used, writers_before}
+use Rattle.cs_board.specs.{Board.plan, inner.Sittings.IsSittingOf, Plans.places_used, Plans.writers_before}
 use Rattle.cs_board.proofs.board.Board.look_turns.Given as goal
 
 abbrev pub invariant-loop-area : goal.invariant-loop-area

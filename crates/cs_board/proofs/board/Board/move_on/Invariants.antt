@@ -1,6 +1,5 @@
 use Rattle.std.proofs.Common.{◌≡◌, ℕ, ◌+◌, ◌-◌, length, Some}
-use Rattle.cs_board.specs.Board.{plan}
-use Rattle.cs_board.specs.inner.Sittings.{IsSittingOf, Beside}
+use Rattle.cs_board.specs.{Board.plan, inner.Sittings.IsSittingOf, inner.Sittings.Beside}
 use Rattle.cs_graph.specs.Graph.{Edge}
 use Rattle.cs_board.proofs.board.Board.move_on.Given as goal
 

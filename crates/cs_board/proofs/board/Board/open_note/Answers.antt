@@ -1,9 +1,6 @@
 use Rattle.std.proofs.Common.{sym, ap, ◌∙◌, arith}
-use Rattle.cs_board.specs.Words.{status_at}
-use Rattle.cs_board.specs.Board.{plan}
-use Rattle.cs_board.proofs.Stepping.{place_after, view_opened}
-use Rattle.cs_board.specs.Views.{opened}
-use Rattle.cs_board.proofs.Kept.{opens_note}
+use Rattle.cs_board.specs.{Words.status_at, Board.plan, Views.opened}
+use Rattle.cs_board.proofs.{Stepping.place_after, Stepping.view_opened, Kept.opens_note}
 use Rattle.cs_board.proofs.board.Board.open_note.Goals as goal
 
 pub store-requires : goal.store-requires

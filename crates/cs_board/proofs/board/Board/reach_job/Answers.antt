@@ -1,10 +1,7 @@
 use Rattle.std.proofs.Common.{◌≡◌, ◌∷◌, Some, refl, sym, subst, arith, slice_get}
-use Rattle.cs_board.specs.Board.{plan}
-use Rattle.cs_board.specs.inner.Sittings.{job_out}
-use Rattle.cs_board.proofs.Stepping.{place_after, view_does, job_there}
-use Rattle.cs_board.specs.Views.{does, fresh}
+use Rattle.cs_board.specs.{Board.plan, inner.Sittings.job_out, Views.does, Views.fresh}
+use Rattle.cs_board.proofs.{Stepping.place_after, Stepping.view_does, Stepping.job_there, Kept.takes_job}
 use Rattle.cs_board.specs.declared.view.Berth.TheVariants.{Full}
-use Rattle.cs_board.proofs.Kept.{takes_job}
 use Rattle.cs_board.proofs.board.Board.reach_job.Goals as goal
 
 pub load-requires : goal.load-requires

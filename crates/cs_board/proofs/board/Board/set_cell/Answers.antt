@@ -1,8 +1,6 @@
 use Rattle.std.proofs.Common.{arith}
-use Rattle.cs_board.specs.Board.{plan}
-use Rattle.cs_board.specs.inner.Sittings.{deed}
-use Rattle.cs_board.proofs.Kept.{sets_cell}
-use Rattle.cs_board.proofs.Conflicts.{used_within, written_used_at}
+use Rattle.cs_board.specs.{Board.plan, inner.Sittings.deed}
+use Rattle.cs_board.proofs.{Kept.sets_cell, Conflicts.used_within, Conflicts.written_used_at}
 use Rattle.cs_board.proofs.board.Board.set_cell.Goals as goal
 
 pub store-requires : goal.store-requires

@@ -1,9 +1,6 @@
 use Rattle.std.proofs.Common.{refl, sym, ap, ◌∙◌, arith}
-use Rattle.cs_board.specs.Words.{status_at}
-use Rattle.cs_board.specs.Board.{plan, run_through}
-use Rattle.cs_board.proofs.Stepping.{place_after, view_ended}
-use Rattle.cs_board.specs.Views.{ended}
-use Rattle.cs_board.proofs.Kept.{finishes}
+use Rattle.cs_board.specs.{Words.status_at, Board.plan, Board.run_through, Views.ended}
+use Rattle.cs_board.proofs.{Stepping.place_after, Stepping.view_ended, Kept.finishes}
 use Rattle.cs_board.proofs.board.Board.store_done.Goals as goal
 
 pub store-requires : goal.store-requires

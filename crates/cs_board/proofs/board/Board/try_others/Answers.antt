@@ -1,7 +1,6 @@
 use Rattle.std.proofs.Common.{◌+◌, ◌<◌, ◌≤◌, sym, ◌∙◌, arith, inl, inr, ⊎_elim}
 use Rattle.std.proofs.lemmas.Bool.{cases_lt}
-use Rattle.cs_board.specs.Board.{IsIdle}
-use Rattle.cs_board.specs.inner.Sittings.{AllTried, AllBut}
+use Rattle.cs_board.specs.{Board.IsIdle, inner.Sittings.AllTried, inner.Sittings.AllBut}
 use Rattle.cs_board.proofs.Trying.{all_join, if_none_map, at_none}
 use Rattle.cs_board.proofs.board.Board.try_others.Goals as goal
 

@@ -1,8 +1,7 @@
 use Rattle.std.proofs.Common.{◌≡◌, ◌+◌, false, sym, ap, ◌∙◌, subst, arith}
-use Rattle.cs_board.specs.Board.{IsIdle}
+use Rattle.cs_board.specs.{Board.IsIdle, Views.missed}
 use Rattle.cs_board.specs.inner.Sittings.{Tries, AllTried, tried}
 use Rattle.cs_board.proofs.Trying.{tries_more, all_more, idle_missed}
-use Rattle.cs_board.specs.Views.{missed}
 use Rattle.cs_board.proofs.board.Board.try_range.Goals as goal
 
 pub returns-then-try_note-clause-tries : goal.returns-then-try_note-clause-tries

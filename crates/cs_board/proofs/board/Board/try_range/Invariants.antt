@@ -1,6 +1,5 @@
 use Rattle.std.proofs.Common.{◌≡◌, ◌+◌, ◌-◌, ◌≤◌}
-use Rattle.cs_board.specs.Board.{IsIdle}
-use Rattle.cs_board.specs.inner.Sittings.{IsSittingOf, Tries, AllTried}
+use Rattle.cs_board.specs.{Board.IsIdle, inner.Sittings.IsSittingOf, inner.Sittings.Tries, inner.Sittings.AllTried}
 use Rattle.cs_board.proofs.board.Board.try_range.Given as goal
 
 abbrev pub invariant-loop-note : goal.invariant-loop-note

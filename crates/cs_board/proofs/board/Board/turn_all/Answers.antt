@@ -1,14 +1,7 @@
-use Rattle.cs_board.specs.Board.{plan}
-use Rattle.cs_board.specs.inner.Sittings.{ran_out}
+use Rattle.std.proofs.Common.{arith}
+use Rattle.std.proofs.lemmas.Grind.{common_steps}
 use Rattle.cs_board.proofs.Turning.{does_again}
 use Rattle.cs_board.proofs.board.Board.turn_all.Goals as goal
 
 pub loop-area-init : goal.loop-area-init
-loop-area-init g c = record {
-  sitting = c.requires.sitting;
-  me = λ i. (
-    does_again c.args.sitting.now.me.0 (ran_out g.J.Job.means (plan c.args.self.now) c.args.note 1)
-        c.requires.doing i,
-    c.args.sitting.now.me.1,
-  );
-}
+loop-area-init g c = grind (arith, common_steps, does_again)

@@ -1,7 +1,5 @@
 use Rattle.std.proofs.Common.{◌≡◌, ◌+◌}
-use Rattle.cs_board.specs.Board.{plan}
-use Rattle.cs_board.specs.inner.Sittings.{IsSittingOf, ran_out}
-use Rattle.cs_board.specs.Views.{does}
+use Rattle.cs_board.specs.{Board.plan, inner.Sittings.IsSittingOf, inner.Sittings.ran_out, Views.does}
 use Rattle.cs_board.proofs.board.Board.turn_all.Given as goal
 
 abbrev pub invariant-loop-area : goal.invariant-loop-area

@@ -1,6 +1,5 @@
 use Rattle.std.proofs.Common.{refl, arith}
-use Rattle.cs_board.specs.Board.{plan}
-use Rattle.cs_board.specs.inner.Sittings.{ran_out}
+use Rattle.cs_board.specs.{Board.plan, inner.Sittings.ran_out}
 use Rattle.cs_board.proofs.Kept.{turns_own}
 use Rattle.cs_board.proofs.board.Board.turn_own.Goals as goal
 

@@ -1,8 +1,6 @@
 use Rattle.std.proofs.Common.{◌≡◌, ◌+◌, ◌-◌, ℕ, List, arith}
-use Rattle.cs_board.specs.Board.{plan}
-use Rattle.cs_board.specs.inner.Sittings.{deed}
+use Rattle.cs_board.specs.{Board.plan, inner.Sittings.deed, Plans.places_written}
 use Rattle.std.proofs.lemmas.Option.{slice_get_within, get_or_from_slice_get}
-use Rattle.cs_board.specs.Plans.{places_written}
 use Rattle.cs_board.proofs.Kept.{turns_on}
 use Rattle.cs_board.proofs.board.Board.turn_to.Goals as goal
 

@@ -1,9 +1,7 @@
+use Rattle.std.proofs.lemmas.{Grind.common_steps, Option.slice_get_within}
 use Rattle.std.proofs.Common.{arith}
 use Rattle.cs_board.specs.Board.{plan}
-use Rattle.cs_board.specs.inner.Sittings.{stopped}
-use Rattle.cs_board.proofs.Stepping.{place_after, view_stopped, told_stopped}
-use Rattle.std.proofs.lemmas.Option.{slice_get_within}
-use Rattle.cs_board.proofs.Kept.{watches_edge}
+use Rattle.cs_board.proofs.{Stepping.place_after, Stepping.view_stopped, Stepping.told_stopped, Kept.watches_edge}
 use Rattle.cs_board.proofs.board.Board.watch_edge.Goals as goal
 
 pub compare_exchange-requires : goal.compare_exchange-requires
@@ -19,12 +17,4 @@ compare_exchange-requires g c =
     )
 
 pub returns-clause-sitting : goal.returns-clause-sitting
-returns-clause-sitting g c =
-    let m = c.requires.moving in
-    place_after g.J.Job.means c.args.self.now c.args.sitting.now c.compare_exchange.new.seat
-    (stopped _ c.args.sitting.now.me.0 c.args.note c.args.edge) c.args.sitting.now.me.1 c.requires.sitting
-    c.compare_exchange.ensures.0
-    (told_stopped (plan c.args.self.now) c.args.self.now.frame.table.shared.table_id.slots c.args.edge m.edge.0
-    c.args.note c.compare_exchange.result c.args.sitting.now.me c.compare_exchange.new.seat.me
-    c.requires.sitting.knows.plan m.edge.1 (rw c.watch_word-word.ensures at c.compare_exchange.ensures.2))
-    (view_stopped (plan c.args.self.now) c.args.sitting.now.me.0 _ c.args.note c.args.edge c.requires.sitting.knows)
+returns-clause-sitting g c = grind (arith, common_steps, place_after, told_stopped, view_stopped)

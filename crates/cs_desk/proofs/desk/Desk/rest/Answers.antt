@@ -1,9 +1,7 @@
 use Rattle.std.proofs.Common.{length, sym, ap, ◌∙◌, subst}
-use Rattle.cs_board.specs.Board.{plan, name}
-use Rattle.cs_board.specs.Resting.{known_in}
+use Rattle.cs_board.specs.{Board.plan, Board.name, Resting.known_in}
 use Rattle.cs_desk.specs.inner.Resting.{IsResting, IsClearing}
-use Rattle.cs_desk.proofs.Ending.{left_long, none_past, rests_again}
-use Rattle.cs_desk.proofs.Laying.{all_cleared}
+use Rattle.cs_desk.proofs.{Ending.left_long, Ending.none_past, Ending.rests_again, Laying.all_cleared}
 use Rattle.cs_desk.proofs.desk.Desk.rest.Goals as goal
 
 pub invariant_of-result : goal.invariant_of-result

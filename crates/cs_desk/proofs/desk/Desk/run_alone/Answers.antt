@@ -1,15 +1,10 @@
 use Rattle.std.proofs.Common.{◌≡◌, ◌∙◌, List, ap, arith, length, slice_get, subst, sym}
 use Rattle.std.proofs.lemmas.List.{length-map, with_items_is}
-use Rattle.cs_board.specs.Resting.{areas_in, known_in}
-use Rattle.cs_board.specs.Views.{cells_laid}
-use Rattle.cs_cells.specs.Areas.{word_count}
-use Rattle.cs_cells.specs.Cells.{values, signed}
-use Rattle.cs_cells.specs.Serial.{serial_cells, serial_jobs}
+use Rattle.cs_board.specs.{Resting.areas_in, Resting.known_in, Views.cells_laid}
+use Rattle.cs_cells.specs.{Areas.word_count, Cells.values, Cells.signed, Serial.serial_cells, Serial.serial_jobs}
 use Rattle.cs_cells.proofs.SerialRun.{foot-serial_jobs, areas-serial_jobs, length-serial_cells, length-serial_jobs}
-use Rattle.cs_desk.specs.Cycles.{WasPlayed}
-use Rattle.cs_desk.specs.Desk.{cells}
-use Rattle.cs_desk.proofs.Cycling.{played_over, was_played}
-use Rattle.cs_desk.proofs.Plainly.{long_now}
+use Rattle.cs_desk.specs.{Cycles.WasPlayed, Desk.cells}
+use Rattle.cs_desk.proofs.{Cycling.played_over, Cycling.was_played, Plainly.long_now}
 use Rattle.cs_desk.proofs.Reached.{used_below, written_below}
 use Rattle.cs_row.proofs.Fronts.{all_at}
 use Rattle.cs_desk.proofs.desk.Desk.run_alone.Goals as goal

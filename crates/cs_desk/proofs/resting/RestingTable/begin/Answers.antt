@@ -1,10 +1,7 @@
 use Rattle.std.proofs.Common.{length, refl, sym, ◌∙◌, subst}
-use Rattle.cs_board.specs.Resting.{IsLaying, areas_in, known_in}
+use Rattle.cs_board.specs.{Resting.IsLaying, Resting.areas_in, Resting.known_in, Plans.IsPlan, Views.plan_laid}
 use Rattle.cs_desk.specs.inner.Resting.{plan_over}
-use Rattle.cs_desk.proofs.Laying.{starts_laying}
-use Rattle.cs_desk.proofs.Opening.{laid_over, begin_plan, begin_built}
-use Rattle.cs_board.specs.Plans.{IsPlan}
-use Rattle.cs_board.specs.Views.{plan_laid}
+use Rattle.cs_desk.proofs.{Laying.starts_laying, Opening.laid_over, Opening.begin_plan, Opening.begin_built}
 use Rattle.cs_desk.proofs.resting.RestingTable.begin.Goals as goal
 
 pub lay_cycle-room-requires-clause-laying : goal.lay_cycle-room-requires-clause-laying

@@ -1,11 +1,9 @@
-use Rattle.std.proofs.Common.{[], Some, ◌+◌, length, replicate, sym, ap, ◌∙◌}
-use Rattle.std.proofs.lemmas.List.{length-replicate}
+use Rattle.std.proofs.Common.{arith, [], Some, ◌+◌, length, replicate, sym, ap, ◌∙◌}
+use Rattle.std.proofs.lemmas.{Grind.common_steps, List.length-replicate}
 use Rattle.cs_desk.proofs.Making.{desk_starts, desk_rests, row_long}
 use Rattle.cs_board.proofs.Opening.{length-each_below}
-use Rattle.cs_board.specs.Views.{resting_view}
-use Rattle.cs_board.specs.Opening.{each_below}
+use Rattle.cs_board.specs.{Views.resting_view, Opening.each_below, declared.view.Berth.TheVariants.Vacant}
 use Rattle.cs_cells.specs.Areas.{word_count}
-use Rattle.cs_board.specs.declared.view.Berth.TheVariants.{Vacant}
 use Rattle.cs_desk.proofs.resting.RestingTable.new.Goals as goal
 
 pub new-requires : goal.new-requires
@@ -33,7 +31,4 @@ invariant_of-result g c =
     }
 
 pub returns-in-Ok-clause-room : goal.returns-in-Ok-clause-room
-returns-in-Ok-clause-room g c =
-    c.in-Ok.ensures.ok.0 ∙ ap length (c.deref.ensures.value ∙ c.in_ok-row.ensures)
-    ∙ row_long c.args.layout.now (each_below (λ a. 0) (word_count c.args.layout.now)) c.args.notes c.args.edges
-    (length-each_below (λ a. 0) (word_count c.args.layout.now))
+returns-in-Ok-clause-room g c = grind (arith, common_steps, length-each_below, row_long)

@@ -4,10 +4,9 @@ use Rattle.std.proofs.lemmas.Int.{to_z-of_z}
 use Rattle.std.specs.Int.{cast_signed}
 use Rattle.cs_base.specs.Numbers.{clamp}
 use Rattle.cs_base.proofs.Arithmetic.{clamp_same}
-use Rattle.cs_board.specs.Resting.{areas_in, known_in}
+use Rattle.cs_board.specs.{Resting.areas_in, Resting.known_in, Views.cells_laid}
 use Rattle.cs_desk.proofs.Sole.{resting_set, sets_cell}
 use Rattle.cs_cells.specs.Cells.{values, signed}
-use Rattle.cs_board.specs.Views.{cells_laid}
 use Rattle.cs_desk.proofs.resting.RestingTableBank.set.Goals as goal
 
 pub invariant_of-self : goal.invariant_of-self

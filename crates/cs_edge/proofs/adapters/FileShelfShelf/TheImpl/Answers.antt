@@ -1,14 +1,8 @@
-use Rattle.std.proofs.Common.{refl}
+use Rattle.std.proofs.Common.{arith}
+use Rattle.std.proofs.lemmas.Grind.{common_steps}
 use Rattle.cs_edge.proofs.Chains.{if_any}
 use Rattle.cs_edge.proofs.adapters.FileShelfShelf.TheImpl.Goals as goal
 
 -- of bytes nothing is told
 pub read-tells : goal.read-tells
-read-tells g c =
-    record {
-      count = c.ensures.count;
-      taken = if_any _ (λ n. tt) c.result;
-      cause = c.ensures.cause;
-      moves = tt;
-      files = refl;
-    }
+read-tells g c = grind (arith, common_steps, if_any)

@@ -1,5 +1,4 @@
-use Rattle.std.proofs.Common.{◌≤◌, ◌∙◌, arith}
-use Rattle.std.proofs.Math.ListN.{length-set}
+use Rattle.std.proofs.{Common.◌≤◌, Common.◌∙◌, Common.arith, Math.ListN.length-set}
 use Rattle.cs_edge.proofs.Lines.{room_left, more_digits, last_digit}
 use Rattle.cs_edge.proofs.digits.Digits.of.Goals as goal
 

@@ -1,8 +1,7 @@
-use Rattle.std.proofs.Common.{sym, ◌∙◌, ◌≡◌, bytes_eq, true}
+use Rattle.std.proofs.Common.{arith, bytes_eq}
+use Rattle.std.proofs.lemmas.Grind.{common_steps}
 use Rattle.cs_edge.proofs.Places.{named_here}
 use Rattle.cs_edge.proofs.fakes.lookup.place_in.Goals as goal
 
 pub returns-then-eq : goal.returns-then-eq
-returns-then-eq c =
-    let same : bytes_eq c.index-files-place.result.name c.args.name.now ≡ true = cc in
-    sym c.loop-place.invariant ∙ named_here _ _ _ _ c.loop-place-test.true c.index-files-place.is same
+returns-then-eq c = grind (arith, common_steps, bytes_eq, named_here)

@@ -1,6 +1,5 @@
 use Rattle.std.proofs.Common.{◌++◌, take, flat_map, decimal, codes}
-use Rattle.cs_edge.specs.Taps.{mirror_value}
-use Rattle.cs_edge.specs.inner.Page.{Shows}
+use Rattle.cs_edge.specs.{Taps.mirror_value, inner.Page.Shows}
 use Rattle.cs_edge.proofs.fakes.mirror.put_mirror.Given as goal
 
 -- the text so far: the count and so many values

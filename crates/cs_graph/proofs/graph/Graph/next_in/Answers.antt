@@ -1,7 +1,6 @@
 use Rattle.std.proofs.Common.{◌+◌, refl, arith}
 use Rattle.cs_graph.proofs.EdgeLemmas.{range_read}
-use Rattle.cs_graph.specs.Graph.{Edge}
-use Rattle.cs_graph.specs.inner.Index.{AreInto}
+use Rattle.cs_graph.specs.{Graph.Edge, inner.Index.AreInto}
 use Rattle.cs_graph.proofs.graph.Graph.next_in.Goals as goal
 
 pub returns-then-next-end-clause-some : goal.returns-then-next-end-clause-some

@@ -1,8 +1,7 @@
 use Rattle.std.proofs.Common.{◌≡◌, ◌∙◌, ◌<◌, ℕ, ap, length, length-append, ◌∷◌, [], subst, arith}
 use Rattle.cs_graph.proofs.ConflictLemmas.{IsClosed-known, known_push, level_push, drawn_more}
 use Rattle.cs_graph.proofs.EdgeLemmas.{all_before, ranges_more}
-use Rattle.cs_graph.specs.inner.Growing.{AreDrawnTo}
-use Rattle.cs_graph.specs.inner.Nearest.{IsFound}
+use Rattle.cs_graph.specs.{inner.Growing.AreDrawnTo, inner.Nearest.IsFound}
 use Rattle.cs_graph.proofs.growing.Growing.add_note.Goals as goal
 
 pub nearest-found-requires-clause-closed : goal.nearest-found-requires-clause-closed

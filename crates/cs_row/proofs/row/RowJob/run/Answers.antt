@@ -1,5 +1,5 @@
+use Rattle.std.proofs.lemmas.{Grind.common_steps, List.with_items_is}
 use Rattle.std.proofs.Common.{◌≡◌, ◌∙◌, ℕ, ℤ, List, ap, arith, length, subst, sym}
-use Rattle.std.proofs.lemmas.List.{with_items_is}
 use Rattle.cs_cells.specs.Serial.{serial_jobs}
 use Rattle.cs_row.specs.Heard.{AreSumsOf, HeardRow, IsHeardRow, sums, with_sums}
 use Rattle.cs_row.specs.HeardFrames.{heard_frames}
@@ -40,21 +40,4 @@ invariant_of-self g c =
     )
 
 pub returns-clause-job : goal.returns-clause-job
-returns-clause-job g c =
-    let M = g.J.Job.means in
-    let start = g.B.Bank.cells c.args.bank.now in
-    let notes : List g.row.J.Denot = c.self.inside.room.notes.items in
-    let block : List ℤ = c.self.inside.room.sum.items in
-    let told = c.run_and_sum.ensures in
-    let jobs_are : c.run_and_sum.new.notes ≡ serial_jobs M notes start =
-    told.notes ∙ ap (λ (js : List g.row.J.Denot). serial_jobs M js start) c.deref_mut.ensures.value in
-    let sum_is : c.run_and_sum.new.sum ≡ sums g.J.Heard.gives (length block) (serial_jobs M notes start) =
-    told.sum ∙ ap (λ (l : List ℤ). sums g.J.Heard.gives (length l) c.run_and_sum.new.notes) c.deref_mut-2.ensures.value
-    ∙ ap (sums g.J.Heard.gives (length block)) jobs_are in
-    let here = with_items_is c.self.inside.room.notes c.run_and_sum.new.notes (told.long.0 ∙ c.deref_mut.ensures.len)
-    ∙ jobs_are in
-    let summed = with_items_is c.self.inside.room.sum c.run_and_sum.new.sum (told.long.1 ∙ c.deref_mut-2.ensures.len)
-    ∙ sum_is in
-    let after : HeardRow g.row.J.Denot → HeardRow g.row.J.Denot =
-    λ r. with_sums g.J.Heard.gives (length r.sum) (serial_jobs M r.jobs start) in
-    (λ i. record { jobs = here i; sum = summed i }) ∙ ap after c.self.view_is
+returns-clause-job g c = grind (arith, common_steps, with_items_is)

@@ -1,7 +1,6 @@
-use Rattle.std.proofs.Common.{◌≡◌, ◌≤◌, List, length, map, take}
+use Rattle.std.proofs.Common.{◌≡◌, ◌≤◌, length, map, take}
 use Rattle.std.specs.Vec.{vec_capacity}
-use Rattle.cs_row.specs.Cuts.{AreRowsOf}
-use Rattle.cs_row.specs.Rows.{notes_in, row_foot}
+use Rattle.cs_row.specs.{Cuts.IsCut, Rows.notes_in, Rows.row_foot}
 use Rattle.cs_row.proofs.rows.Rows.feet.Given as goal
 
 -- the feet so far are those of the first rows, whose notes stand before the next
@@ -10,7 +9,7 @@ invariant-loop-at g l = record {
   low : l.at ≤ length l.self.cuts.items;
   room : length l.self.cuts.items ≤ vec_capacity l.feet;
   count : length l.feet.items ≡ l.at;
-  each : (rows : List (List g.row.J.Denot)) → AreRowsOf g.J.Job.means l.self.most l.notes rows
-      → map length rows ≡ l.self.cuts.items
-      → (l.feet.items ≡ map (row_foot g.J.Job.means) (take l.at rows)) × (l.first ≡ length (notes_in (take l.at rows)));
+  each : (cut : IsCut g.J.Job.means l.self.most l.notes l.self.cuts.items)
+      → (l.feet.items ≡ map (row_foot g.J.Job.means) (take l.at cut.rows))
+      × (l.first ≡ length (notes_in (take l.at cut.rows)));
 }

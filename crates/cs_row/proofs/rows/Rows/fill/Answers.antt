@@ -12,18 +12,16 @@ invariant_of-self g c = record {
 
 pub returns-clause-rows : goal.returns-clause-rows
 returns-clause-rows g c =
-    let f = c.requires.notes in
+    let cut = c.requires.notes.cut in
     subst (AreRowsOf g.J.Job.means c.args.self.now.most c.args.notes.now.items)
-    (sym (c.fill_rows.ensures.rows c.args.self.now.most f.cut.rows f.cut.of
-    (f.cut.lengths ∙ sym c.deref.ensures.value)))
-    f.cut.of
+    (sym (c.fill_rows.ensures.rows c.args.self.now.most
+    (record { rows = cut.rows; of = cut.of; lengths = cut.lengths ∙ sym c.deref.ensures.value }))) cut.of
 
 pub returns-clause-lengths : goal.returns-clause-lengths
 returns-clause-lengths g c =
-    let f = c.requires.notes in
-    ap (λ (rows : List (List g.row.J.Denot)). map length rows)
-    (c.fill_rows.ensures.rows c.args.self.now.most f.cut.rows f.cut.of (f.cut.lengths ∙ sym c.deref.ensures.value))
-    ∙ f.cut.lengths
+    let cut = c.requires.notes.cut in
+    ap (λ (rows : List (List g.row.J.Denot)). map length rows) (c.fill_rows.ensures.rows c.args.self.now.most
+    (record { rows = cut.rows; of = cut.of; lengths = cut.lengths ∙ sym c.deref.ensures.value })) ∙ cut.lengths
 
 pub returns-clause-sums : goal.returns-clause-sums
 returns-clause-sums g c = c.fill_rows.ensures.sums c.args.self.now.block c.args.self.now.empty.0

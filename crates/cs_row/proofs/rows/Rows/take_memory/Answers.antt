@@ -1,7 +1,6 @@
 use Rattle.std.proofs.Common.{◌∙◌, subst, sym}
 use Rattle.std.specs.List.{All}
-use Rattle.std.proofs.lemmas.List.Elements.{All-same}
-use Rattle.std.proofs.lemmas.List.{with_items_is}
+use Rattle.std.proofs.lemmas.{List.Elements.All-same, List.with_items_is}
 use Rattle.cs_row.specs.Rooms.{IsEmptied}
 use Rattle.cs_row.proofs.rows.Rows.take_memory.Goals as goal
 

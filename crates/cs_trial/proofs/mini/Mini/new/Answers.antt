@@ -1,10 +1,7 @@
 use Rattle.std.proofs.Common.{rules, ◌≡◌, length, subst, arith, get_or, refl}
 use Rattle.std.specs.List.{All}
-use Rattle.std.proofs.lemmas.List.{take_all}
-use Rattle.std.proofs.lemmas.List.Elements.{All-more}
-use Rattle.cs_trial.specs.declared.mini.MiniOp.{MiniOp}
-use Rattle.cs_trial.specs.declared.mini.MiniOp.TheVariants.{Read}
-use Rattle.cs_trial.specs.Mini.{FitsFootprint}
+use Rattle.std.proofs.lemmas.{List.take_all, List.Elements.All-more}
+use Rattle.cs_trial.specs.{declared.mini.MiniOp.MiniOp, declared.mini.MiniOp.TheVariants.Read, Mini.FitsFootprint}
 use Rattle.cs_trial.proofs.mini.Mini.new.Goals as goal
 
 pub loop-op-preserved : goal.loop-op-preserved

@@ -1,7 +1,6 @@
-use Rattle.std.proofs.Common.{◌≡◌, ◌≤◌, ◌<◌, ◌^◌, ◌∙◌, ◌*ℤ◌, FitsSigned, unsigned_abs, to_z, of_z, w64, ap, sym}
-use Rattle.std.proofs.Common.{subst, arith}
-use Rattle.std.proofs.lemmas.Int.{ints, to_z-of_z}
-use Rattle.std.specs.Int.{int_div_euclid}
+use Rattle.std.proofs.lemmas.{Grind.common_steps, Int.ints, Int.to_z-of_z}
+use Rattle.std.proofs.Common.{◌≡◌, ◌≤◌, ◌^◌, ◌∙◌, ◌*ℤ◌, FitsSigned, unsigned_abs, to_z, of_z, w64, ap, sym, subst}
+use Rattle.std.proofs.Common.{arith}
 use Rattle.cs_base.specs.Numbers.{floor_div}
 use Rattle.cs_wav.specs.Wav.{full_scale}
 use Rattle.cs_wav.proofs.Scales.{floor_is, level_small, near_product, product_is}
@@ -30,12 +29,7 @@ divide-requires c =
 
 pub wide_level-requires-clause-bounded : goal.wide_level-requires-clause-bounded
 wide_level-requires-clause-bounded c =
-    let scale = c.args.self.now in
-    let dbfs : to_z w64 (of_z w64 scale.dbfs) ≡ scale.dbfs = omega (arith, ints) in
-    let product = product_is scale.width c.args.value c.full_scale-in-None.result c.ranges.value
-    c.full_scale-in-None.ensures in
-    subst (λ z. unsigned_abs z < 2 ^ 62) (sym (λ i. int_div_euclid (product i) (dbfs i)))
-    (level_small scale.width scale.dbfs c.args.value scale.low c.requires.low c.requires.high)
+    grind (arith, common_steps, ints, level_small, of_z, product_is, to_z, unsigned_abs, w64)
 
 pub returns-in-Some : goal.returns-in-Some
 returns-in-Some c =

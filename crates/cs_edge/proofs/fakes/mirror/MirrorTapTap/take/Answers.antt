@@ -1,7 +1,6 @@
 use Rattle.std.proofs.Common.{ℤ, List, pos, get_or, ◌≡◌, ◌∙◌, subst, arith, to_z, of_z, w64}
 use Rattle.std.proofs.lemmas.Int.{ints}
-use Rattle.cs_edge.specs.Taps.{IsMirrorOf}
-use Rattle.cs_edge.specs.Mirror.{room_of, kept_of, count_of}
+use Rattle.cs_edge.specs.{Taps.IsMirrorOf, Mirror.room_of, Mirror.kept_of, Mirror.count_of}
 use Rattle.cs_edge.proofs.Lines.{told_more}
 use Rattle.cs_edge.proofs.fakes.mirror.MirrorTapTap.take.Goals as goal
 

@@ -1,6 +1,5 @@
 use Rattle.std.proofs.Common.{◌≡◌, ◌++◌, ℤ, List, take}
-use Rattle.cs_edge.specs.Taps.{IsMirrorOf}
-use Rattle.cs_edge.specs.Mirror.{room_of, kept_of, count_of}
+use Rattle.cs_edge.specs.{Taps.IsMirrorOf, Mirror.room_of, Mirror.kept_of, Mirror.count_of}
 use Rattle.cs_edge.proofs.fakes.mirror.MirrorTapTap.take.Given as goal
 
 -- it mirrors what was told before and the values so far
