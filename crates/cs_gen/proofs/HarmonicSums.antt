@@ -1,19 +1,14 @@
 -- GEN10: a harmonic is added place by place, and one harmonic after the other.
-use Rattle.std.proofs.Common.{◌≡◌, ℕ, ◌+◌, ◌-◌, ◌*◌, ◌%◌, ◌^◌, ◌≤◌, ◌<◌, List, [], ◌∷◌, ◌++◌, map, length, set}
-use Rattle.std.proofs.Common.{get_or, ℤ, pos, ◌+ℤ◌, ◌*ℤ◌, unsigned_abs, refl, sym, ◌∙◌, ap, subst, suc, negsuc, ◌/◌}
-use Rattle.std.proofs.Common.{arith, ⊎_elim, zero-add, ◌≤ℤ◌, FitsSigned, append-nil, drop, of_z, take, to_z, w64}
-use Rattle.std.specs.Int.{w128}
-use Rattle.std.specs.List.{All, range_with_len}
-use Rattle.std.proofs.lemmas.Bool.{cases_lt}
+use Rattle.std.proofs.Common.{◌≡◌, ℕ, ◌+◌, ◌-◌, ◌*◌, ◌%◌, ◌^◌, ◌≤◌, ◌<◌, List, [], ◌∷◌, ◌++◌, map, length, set, get_or}
+use Rattle.std.proofs.Common.{ℤ, pos, ◌+ℤ◌, ◌*ℤ◌, unsigned_abs, refl, sym, ◌∙◌, ap, subst, suc, negsuc, ◌/◌, arith}
+use Rattle.std.proofs.Common.{⊎_elim, zero-add, ◌≤ℤ◌, FitsSigned, append-nil, drop, of_z, take, to_z, w64}
+use Rattle.std.specs.{Int.w128, List.All, List.range_with_len}
+use Rattle.std.proofs.lemmas.{Bool.cases_lt, List.Elements.All-append, Int.ints, Int.to_z-of_z, Nat.mul-mod_first}
 use Rattle.std.proofs.lemmas.List.{ext_get_or, get_or-set_same, get_or-set_other, get_or_append_left, get_or_at}
 use Rattle.std.proofs.lemmas.List.{drop_all, length-append, length-set, map-append, take_all, take_more}
-use Rattle.std.proofs.lemmas.List.Elements.{All-append}
 use Rattle.std.proofs.lemmas.List.FromFn.{get_or-map-range_with_len, length-map-range_with_len, map-range_with_len_more}
-use Rattle.std.proofs.lemmas.Int.{ints, to_z-of_z}
-use Rattle.std.proofs.Math.Nat.{mod-add-mod}
-use Rattle.std.proofs.lemmas.Nat.{mul-mod_first}
-use Rattle.cs_gen.proofs.Places.{map-map}
-use Rattle.cs_gen.proofs.Quotients.{within}
+use Rattle.std.proofs.{Math.IntN.zero-*ℤ, Math.Nat.mod-add-mod}
+use Rattle.cs_gen.proofs.{Places.map-map, Quotients.within}
 use Rattle.cs_gen.specs.Faults.{argument}
 use Rattle.cs_base.specs.Numbers.{clamp, floor_div, total}
 use Rattle.cs_gen.specs.Points.{at_places, full_scale, sine, harmonics, wave}
@@ -118,12 +113,8 @@ harmonic-mod len h strength j =
     ap (λ k. floor_div (strength *ℤ wave (k * 2 ^ 24 / len)) full_scale) (mul-mod_first h j len)
 
 -- one without strength adds nothing
-no_times : (z : ℤ) → pos 0 *ℤ z ≡ pos 0
-no_times (pos n) = omega (arith, ints)
-no_times (negsuc n) = omega (arith, ints)
-
 weak : (z : ℤ) → floor_div (pos 0 *ℤ z) full_scale ≡ pos 0
-weak z = ap (λ x. floor_div x full_scale) (no_times z)
+weak z = ap (λ x. floor_div x full_scale) (zero-*ℤ z)
 
 harmonic-weak : (len h j : ℕ) → harmonic len h (pos 0) j ≡ pos 0
 unfolding harmonic
@@ -229,4 +220,5 @@ points_are len strengths n sums points s is =
     all = ext_get_or (pos 0) sums (at_places n (harmonics len strengths))
         (s.long ∙ sym (length-map-range_with_len (harmonics len strengths) 0 n))
         (λ j lt. s.each j (pos 0) (omega (arith, s.long)) ∙ first_harmonics-all len strengths j
-        ∙ sym (get_or-map-range_with_len (harmonics len strengths) 0 n j j (pos 0) (omega (arith, s.long)) (zero-add j)))
+        ∙ sym (get_or-map-range_with_len (harmonics len strengths) 0 n j j (pos 0) (omega (arith, s.long))
+        (zero-add j)))

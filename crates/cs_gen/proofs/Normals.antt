@@ -1,10 +1,8 @@
 -- The greatest absolute value of a list.
 use Rattle.std.proofs.Common.{◌≡◌, ℕ, zero, suc, ◌+◌, ◌<◌, ◌≤◌, max, List, [], ◌∷◌, ◌++◌, get_or, take, length, ℤ}
 use Rattle.std.proofs.Common.{unsigned_abs, map, drop, arith}
-use Rattle.std.proofs.lemmas.List.{take_more}
+use Rattle.std.proofs.lemmas.{List.take_more, Bool.Decides.nat_tests, Grind.common_steps}
 use Rattle.std.specs.Ordering.{ord_max, nat_cmp}
-use Rattle.std.proofs.lemmas.Bool.Decides.{nat_tests}
-use Rattle.std.proofs.lemmas.Grind.{common_steps}
 use Rattle.cs_gen.specs.Points.{greatest}
 
 greatest-snoc : (xs : List ℤ) (x : ℤ) → greatest (xs ++ x ∷ []) ≡ max (greatest xs) (unsigned_abs x)

@@ -2,12 +2,10 @@
 use Rattle.std.proofs.Common.{◌≡◌, ℕ, length, get_or, ◌-◌, ◌%◌, ◌<◌, zero-add, take, sym, subst, ◌≤ℤ◌, ◌+◌, ◌≤◌, List}
 use Rattle.std.proofs.Common.{[], ◌∷◌, ◌++◌, map, Bool, true, false, ◌||◌, ℤ, pos, unsigned_abs, ◌∙◌, ap, refl, Some}
 use Rattle.std.proofs.Common.{None, nat_le, ◌&&◌, ◌==◌, int_lt, if◌then◌else◌, arith}
-use Rattle.std.specs.List.{range_with_len, list_any, list_all}
-use Rattle.std.specs.Ordering.{int_eq}
+use Rattle.std.specs.{List.range_with_len, List.list_any, List.list_all, Ordering.int_eq}
 use Rattle.std.proofs.lemmas.List.FromFn.{map-range_with_len_more, length-map-range_with_len, get_or-map-range_with_len}
 use Rattle.std.proofs.lemmas.List.{get_or-take, get_or_append_left, get_or_at, length-append, length-take-le}
-use Rattle.std.proofs.lemmas.Int.{ints}
-use Rattle.std.proofs.lemmas.Bool.Decides.{Decides-int_eq, nat_tests}
+use Rattle.std.proofs.lemmas.{Int.ints, Bool.Decides.Decides-int_eq, Bool.Decides.nat_tests}
 use Rattle.cs_gen.specs.Faults.{lengths, is_size, is_gen, has_negative_length, table_fault}
 use Rattle.cs_gen.specs.Points.{plain_point, greatest, normalised, point, points_of, guard_place, len_of}
 use Rattle.cs_gen.specs.Tables.{IsMade}

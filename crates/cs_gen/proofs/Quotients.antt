@@ -1,9 +1,7 @@
 -- Quotients rounded down: their bounds.
 use Rattle.std.proofs.Common.{◌≡◌, ℕ, zero, suc, ◌*◌, ◌/◌, ◌<◌, ◌≤◌, ℤ, pos, negsuc, neg_ℤ, ◌+ℤ◌, ◌-ℤ◌, ◌*ℤ◌, ◌≤ℤ◌}
-use Rattle.std.proofs.Common.{unsigned_abs, arith, subst, refl}
-use Rattle.std.proofs.Math.Nat.{div-le_of_le-mul}
-use Rattle.std.proofs.lemmas.Nat.{le-div, mul-le, div_below}
-use Rattle.std.proofs.lemmas.Int.{ints, unsigned_abs-mul}
+use Rattle.std.proofs.{Common.unsigned_abs, Common.arith, Common.subst, Common.refl, Math.Nat.div-le_of_le-mul}
+use Rattle.std.proofs.lemmas.{Nat.le-div, Nat.mul-le, Nat.div_below, Int.ints, Int.unsigned_abs-mul}
 use Rattle.cs_base.specs.Numbers.{IsRaw, floor_div}
 
 -- a quotient is at most d, where the number is at most d times the divisor

@@ -1,17 +1,13 @@
 -- A walk along GEN07's segments: from one to the next, and from one place to the next.
-use Rattle.std.proofs.Common.{◌≡◌, ℕ, zero, suc, ◌+◌, ◌-◌, ◌<◌, ◌≤◌, ◌==◌, nat_lt, true, false, List, map, sum}
-use Rattle.std.proofs.Common.{length, ℤ, pos, ◌+ℤ◌, ◌-ℤ◌, ◌*ℤ◌, ◌*◌, refl, sym, ◌∙◌, ap, subst, arith}
-use Rattle.std.proofs.Common.{below_more}
+use Rattle.std.proofs.Common.{◌≡◌, ℕ, zero, suc, ◌+◌, ◌-◌, ◌<◌, ◌≤◌, ◌==◌, nat_lt, true, false, List, map, sum, length}
+use Rattle.std.proofs.Common.{ℤ, pos, ◌+ℤ◌, ◌-ℤ◌, ◌*ℤ◌, ◌*◌, refl, sym, ◌∙◌, ap, subst, arith, below_more}
 use Rattle.std.specs.List.{range_with_len}
 use Rattle.std.proofs.lemmas.List.FromFn.{map-range_with_len_more, length-range_with_len}
-use Rattle.std.proofs.lemmas.List.Sums.{position_or_len_is}
-use Rattle.std.proofs.lemmas.Bool.Decides.{nat_tests}
-use Rattle.std.proofs.lemmas.Grind.{common_steps}
-use Rattle.cs_gen.specs.Faults.{argument, segments_of}
+use Rattle.std.proofs.lemmas.{List.Sums.position_or_len_is, Bool.Decides.nat_tests, Grind.common_steps}
+use Rattle.cs_gen.specs.{Faults.argument, Faults.segments_of, inner.Walk.HasPassed, inner.Walk.HasReached}
 use Rattle.cs_base.proofs.Tests.{is_below, isnt_below, number_at}
 use Rattle.cs_base.specs.Numbers.{floor_div}
 use Rattle.cs_gen.specs.Points.{length_of, begin_of, segment_at, value_of, segments}
-use Rattle.cs_gen.specs.inner.Walk.{HasPassed, HasReached}
 
 sum-snoc : (f : ℕ → ℕ) (k : ℕ) → sum (map f (range_with_len 0 (k + 1))) ≡ sum (map f (range_with_len 0 k)) + f k
 sum-snoc f k = let more = map-range_with_len_more f 0 k k (omega arith) in rw more (grind (arith, common_steps))

@@ -1,10 +1,8 @@
 -- Which tables are refused, and for what.
 use Rattle.std.specs.Prelude.{◌≡◌, ℕ, ◌+◌, ◌-◌, ◌*◌, ◌/◌, Bool, ◌&&◌, ◌||◌, ◌==◌, List, [], ◌∷◌, length, ℤ, pos}
 use Rattle.std.specs.Prelude.{unsigned_abs, int_lt, Option, Some, None, slice_index_or, if◌then◌else◌}
-use Rattle.std.specs.List.{list_any, range_with_len}
-use Rattle.std.specs.Ordering.{int_eq}
-use Rattle.cs_base.specs.Numbers.{whole_below}
-use Rattle.cs_base.specs.declared.fault.Or.{Or}
+use Rattle.std.specs.{List.list_any, List.range_with_len, Ordering.int_eq}
+use Rattle.cs_base.specs.{Numbers.whole_below, declared.fault.Or.Or}
 use Rattle.cs_base.specs.declared.fault.Or.TheVariants.{Fault, OutOfMemory}
 use Rattle.cs_gen.specs.declared.check.GenFault.{GenFault}
 use Rattle.cs_gen.specs.declared.check.GenFault.TheVariants.{Size, Unknown, NegativeLength}

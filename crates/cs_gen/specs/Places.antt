@@ -1,6 +1,5 @@
 -- The place of an index in a table.
-use Rattle.std.specs.Prelude.{ℕ, ◌-◌, min, ℤ, pos, unsigned_abs}
-use Rattle.std.specs.Int.{int_max}
+use Rattle.std.specs.{Prelude.ℕ, Prelude.◌-◌, Prelude.min, Prelude.ℤ, Prelude.pos, Prelude.unsigned_abs, Int.int_max}
 use Rattle.cs_base.specs.Numbers.{whole_below}
 
 -- a whole number brought into 0 .. most

@@ -3,8 +3,7 @@ use Rattle.std.proofs.Common.{◌≡◌, ℕ, zero, suc, ◌+◌, ◌<◌, List,
 use Rattle.std.proofs.Common.{append_assoc, add-one}
 use Rattle.std.proofs.lemmas.List.{append-nil}
 use Rattle.cs_base.specs.declared.resource.Rate.{Rate}
-use Rattle.cs_signal.specs.Operands.{argument}
-use Rattle.cs_signal.specs.Pace.{Pace}
+use Rattle.cs_signal.specs.{Operands.argument, Pace.Pace}
 use Rattle.cs_signal.specs.Steps.{run, IsUnit, inputs_of, AnswersByFormula}
 
 one_first : (at : ℕ → List ℤ) (j n : ℕ) → inputs_of at j (suc n) ≡ at j ∷ inputs_of at (j + 1) n

@@ -4,23 +4,18 @@ use Rattle.std.proofs.Common.{true, false, cond, if◌then◌else◌, Option, So
 use Rattle.std.proofs.Common.{reverse, drop, replicate, ℤ, pos, fold, find, refl, ap, sym, ◌∙◌, arith}
 use Rattle.cs_base.specs.Numbers.{sum_of, difference_of, product_of, clamp}
 use Rattle.cs_signal.proofs.Histories.{last_of-more, reverse_one, signal_one, now_one, ago_one, length_one}
-use Rattle.cs_signal.proofs.Histories.{last_number_one, number_one}
-use Rattle.cs_signal.proofs.Ramps.{not_zero}
+use Rattle.cs_signal.proofs.{Histories.last_number_one, Histories.number_one, Ramps.not_zero}
 use Rattle.cs_signal.specs.Biquad.{biquad_of, biquad_start, biquad_step, biquad_after, results, BiquadStands}
 use Rattle.cs_signal.specs.Delay.{delay_length, delay_of, delay_start, delay_step, DelayStands}
-use Rattle.cs_signal.specs.Diff.{diff_of, diff_start, diff_step, DiffStands}
-use Rattle.cs_signal.specs.History.{signal, ago, now}
-use Rattle.cs_signal.specs.Integ.{integ_of, integ_start, integ_step, IntegStands}
+use Rattle.cs_signal.specs.{Diff.diff_of, Diff.diff_start, Diff.diff_step, Diff.DiffStands, History.signal, History.ago}
+use Rattle.cs_signal.specs.{History.now, Integ.integ_of, Integ.integ_start, Integ.integ_step, Integ.IntegStands}
+use Rattle.cs_signal.specs.{Linseg.LinsegStands, Operands.argument, Pace.number_of_last, Pace.steps_of, Steps.IsUnit}
 use Rattle.cs_signal.specs.Interp.{interp_of, interp_start, interp_step, InterpStands}
 use Rattle.cs_signal.specs.Line.{line_of, line_start, line_step, line_at, part_way, way_of, LineStands}
 use Rattle.cs_signal.specs.Linen.{linen_of, linen_start, linen_step, linen_at, up_at, down_at, LinenStands}
 use Rattle.cs_signal.specs.Linseg.{linseg_of, linseg_start, linseg_step, linseg_at, on_pieces, values_of, lengths_of}
-use Rattle.cs_signal.specs.Linseg.{LinsegStands}
-use Rattle.cs_signal.specs.Operands.{argument}
-use Rattle.cs_signal.specs.Pace.{number_of_last, steps_of}
 use Rattle.cs_signal.specs.Plain.{plain_of, plain_start, plain_step, PlainStands}
 use Rattle.cs_signal.specs.Samphold.{samphold_of, samphold_start, samphold_step, is_open, value_or_zero, SampholdStands}
-use Rattle.cs_signal.specs.Steps.{IsUnit}
 use Rattle.std.proofs.lemmas.List.Sums.{fold-append}
 use Rattle.std.proofs.lemmas.List.{append-nil, get_or-drop, get_or-reverse, reverse-append, length-append}
 use Rattle.std.proofs.lemmas.List.{length-replicate, length-map, drop-append-le, drop-drop}

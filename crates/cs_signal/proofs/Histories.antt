@@ -3,8 +3,7 @@ use Rattle.std.proofs.Common.{◌≡◌, ℕ, suc, ◌+◌, List, [], ◌∷◌,
 use Rattle.std.proofs.Common.{arith}
 use Rattle.std.proofs.lemmas.List.{reverse-append, map-append, length-append, get_or_at}
 use Rattle.cs_signal.specs.History.{signal, ago, now, last_of}
-use Rattle.cs_signal.specs.Operands.{argument}
-use Rattle.cs_signal.specs.Pace.{number_after, number_of_last}
+use Rattle.cs_signal.specs.{Operands.argument, Pace.number_after, Pace.number_of_last}
 
 pub reverse_one : {A : Type 0} (before : List A) (x : A) → reverse (before ++ x ∷ []) ≡ x ∷ reverse before
 reverse_one before x = reverse-append before (x ∷ [])

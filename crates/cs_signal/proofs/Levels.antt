@@ -3,14 +3,11 @@ use Rattle.std.proofs.Common.{◌≡◌, ℕ, zero, suc, ◌+◌, ◌<◌, ◌�
 use Rattle.std.proofs.Common.{[], ◌∷◌, ◌++◌, length, map, set, ℤ, pos, ◌-ℤ◌, ◌*ℤ◌, if◌then◌else◌, refl, ap, sym, ◌∙◌}
 use Rattle.std.proofs.Common.{arith}
 use Rattle.std.specs.List.{range_with_len}
-use Rattle.std.proofs.lemmas.Bool.Decides.{nat_tests}
+use Rattle.std.proofs.lemmas.{Bool.Decides.nat_tests, List.FromFn.map-range_with_len_more}
 use Rattle.std.proofs.lemmas.List.{take_more_set, length-set, take_all}
-use Rattle.std.proofs.lemmas.List.FromFn.{map-range_with_len_more}
 use Rattle.cs_base.specs.Numbers.{clamp, floor_div, one, product_of}
 use Rattle.cs_signal.specs.Linen.{LinenState, linen_step, up_at, down_at}
-use Rattle.cs_signal.specs.Pace.{number_after}
-use Rattle.cs_signal.specs.Steps.{run}
-use Rattle.cs_signal.specs.inner.Level.{IsLevel, HasFilled}
+use Rattle.cs_signal.specs.{Pace.number_after, Steps.run, inner.Level.IsLevel, inner.Level.HasFilled}
 use Rattle.cs_signal.proofs.Walks.{led}
 
 pub HasFilled_none : (f : ℕ → ℤ) (count : ℕ) (out : List ℤ) → length out ≡ count → HasFilled f count 0 out

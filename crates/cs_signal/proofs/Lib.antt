@@ -1,3 +1,4 @@
+pub mod Biquads
 pub mod Blocks
 pub mod Formulas
 pub mod Histories

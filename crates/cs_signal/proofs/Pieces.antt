@@ -1,18 +1,13 @@
 -- A walk along the pieces of a linseg: at each, what is left of the step's number.
-use Rattle.std.proofs.Common.{◌≡◌, ℕ, ◌+◌, ◌-◌, ◌<◌, ◌≤◌, nat_lt, true, false, List, length, ℤ, refl, sym}
-use Rattle.std.proofs.Common.{subst, arith, below_more}
-use Rattle.std.specs.List.{range_with_len}
-use Rattle.std.specs.Prelude.{slice_index}
-use Rattle.std.proofs.lemmas.List.{take_more}
+use Rattle.std.proofs.Common.{◌≡◌, ℕ, ◌+◌, ◌-◌, ◌<◌, ◌≤◌, nat_lt, true, false, List, length, ℤ, refl, sym, subst, arith}
+use Rattle.std.proofs.Common.{below_more}
+use Rattle.std.specs.{List.range_with_len, Prelude.slice_index}
+use Rattle.std.proofs.lemmas.{List.take_more, List.Sums.position_or_len_is, Grind.common_steps}
 use Rattle.std.proofs.lemmas.List.FromFn.{length-range_with_len}
-use Rattle.std.proofs.lemmas.List.Sums.{position_or_len_is}
-use Rattle.std.proofs.lemmas.Grind.{common_steps}
 use Rattle.cs_base.proofs.Tests.{is_below, isnt_below, number_at}
 use Rattle.cs_base.specs.Numbers.{clamp}
-use Rattle.cs_signal.specs.Line.{part_way}
+use Rattle.cs_signal.specs.{Line.part_way, Operands.argument, inner.Pieces.HasPassed, inner.Pieces.IsPlace}
 use Rattle.cs_signal.specs.Linseg.{begin_of, piece_at, on_pieces}
-use Rattle.cs_signal.specs.Operands.{argument}
-use Rattle.cs_signal.specs.inner.Pieces.{HasPassed, IsPlace}
 
 pub begin_of-more : (lengths : List ℕ) (k : ℕ) → k < length lengths
     → begin_of lengths (k + 1) ≡ begin_of lengths k + slice_index lengths k

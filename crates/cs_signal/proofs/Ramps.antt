@@ -1,28 +1,18 @@
 -- A straight line by sums alone: the parts of a number, of a sum, and the quotient that they give.
 use Rattle.std.proofs.Common.{◌≡◌, ℕ, zero, suc, ◌+◌, ◌-◌, ◌*◌, ◌<◌, ◌≤◌, inl, inr, List, [], ◌∷◌, ◌++◌, length, map, ℤ}
-use Rattle.std.proofs.Common.{pos, ◌+ℤ◌, ◌-ℤ◌, ◌*ℤ◌, refl, set, unsigned_abs, ◌^◌, ap, sym, ◌∙◌}
-use Rattle.std.proofs.Common.{subst, replicate, arith, Bool, false, ◌==◌, ◌%◌, if◌then◌else◌}
-use Rattle.std.proofs.lemmas.Bool.Decides.{nat_tests}
-use Rattle.std.proofs.Math.Nat.{mod_self, mod-eq_of_lt}
-use Rattle.std.proofs.lemmas.Int.{ints, unsigned_abs-mul}
-use Rattle.std.proofs.lemmas.Nat.{mul-le}
-use Rattle.std.proofs.Math.IntN.{*ℤ_comm, suc_ℤ-*ℤ}
+use Rattle.std.proofs.Common.{pos, ◌+ℤ◌, ◌-ℤ◌, ◌*ℤ◌, refl, set, unsigned_abs, ◌^◌, ap, sym, ◌∙◌, subst, replicate}
+use Rattle.std.proofs.Common.{arith, Bool, false, ◌==◌, ◌%◌, if◌then◌else◌}
+use Rattle.std.proofs.lemmas.{Bool.Decides.nat_tests, Int.ints, Int.unsigned_abs-mul, Nat.mul-le, List.take_more_set}
+use Rattle.std.proofs.lemmas.{List.length-set, List.take_all, List.FromFn.map-range_with_len_more}
+use Rattle.std.proofs.{Math.Nat.mod_self, Math.Nat.mod-eq_of_lt, Math.IntN.*ℤ_comm, Math.IntN.suc_ℤ-*ℤ}
 use Rattle.cs_base.specs.Numbers.{clamp, floor_div}
 use Rattle.cs_base.proofs.Quotients.{quotient_of_parts}
 use Rattle.cs_signal.specs.inner.Ramp.{IsParted, IsAdvanced, HasRamped, ramp_of}
-use Rattle.cs_signal.specs.Interp.{InterpState, interp_step}
-use Rattle.cs_signal.specs.Line.{LineState, line_step, part_way}
-use Rattle.std.specs.Prelude.{slice_index}
+use Rattle.cs_signal.specs.{Interp.InterpState, Interp.interp_step, Line.LineState, Line.line_step, Line.part_way}
+use Rattle.cs_signal.specs.{Operands.argument, inner.Pieces.IsPlace, Pace.number_after, Pace.last_number, Steps.run}
+use Rattle.std.specs.{Prelude.slice_index, List.range_with_len}
 use Rattle.cs_signal.specs.Linseg.{LinsegState, linseg_step, on_pieces}
-use Rattle.cs_signal.specs.Operands.{argument}
-use Rattle.cs_signal.specs.inner.Pieces.{IsPlace}
-use Rattle.cs_signal.proofs.Pieces.{HasPassed-later, last_value, on_piece}
-use Rattle.cs_signal.proofs.Walks.{led}
-use Rattle.cs_signal.specs.Pace.{number_after, last_number}
-use Rattle.cs_signal.specs.Steps.{run}
-use Rattle.std.specs.List.{range_with_len}
-use Rattle.std.proofs.lemmas.List.{take_more_set, length-set, take_all}
-use Rattle.std.proofs.lemmas.List.FromFn.{map-range_with_len_more}
+use Rattle.cs_signal.proofs.{Pieces.HasPassed-later, Pieces.last_value, Pieces.on_piece, Walks.led}
 
 pub floor_is : (z q : ℤ) (d r : ℕ) → IsParted z d q r → floor_div z (pos d) ≡ q
 floor_is z q d r h = quotient_of_parts z q d r h.sum h.below
@@ -112,16 +102,16 @@ abbrev linseg_at_step : LinsegState → ℕ → LinsegState
 linseg_at_step s m = record { values = s.values; lengths = s.lengths; number = m }
 
 -- a line's steps are a ramp, while their number stays below its end
-pub line_ramp : (s : LineState) (j n : ℕ) → s.number + n ≤ last_number →
-    run line_step (λ j. []) s j n ≡ (line_at_step s (s.number + n), ramp_of s.from s.to s.number s.way n)
-line_ramp s j zero h = ap (λ m. (line_at_step s m, [])) (omega arith)
-line_ramp s j (suc n) h =
+pub line_ramp : (at : ℕ → List ℤ) (s : LineState) (j n : ℕ) → s.number + n ≤ last_number →
+    run line_step at s j n ≡ (line_at_step s (s.number + n), ramp_of s.from s.to s.number s.way n)
+line_ramp at s j zero h = ap (λ m. (line_at_step s m, [])) (omega arith)
+line_ramp at s j (suc n) h =
     let t : LineState = line_at_step s (s.number + 1) in
     let e : number_after (s.number + 1) ≡ s.number + 1 = omega arith in
     let value : ℤ = clamp (part_way s.from s.to s.number s.way) in
     let sum : (s.number + 1) + n ≡ s.number + suc n = omega arith in
-    ap (λ m. led value (run line_step (λ j. []) (line_at_step s m) (j + 1) n)) e
-    ∙ ap (led value) (line_ramp t (j + 1) n (omega arith))
+    ap (λ m. led value (run line_step at (line_at_step s m) (j + 1) n)) e
+    ∙ ap (led value) (line_ramp at t (j + 1) n (omega arith))
     ∙ ap (λ m. (line_at_step s m, value ∷ ramp_of s.from s.to (s.number + 1) s.way n)) sum
 
 pub not_zero : (n : ℕ) → (suc n == 0) ≡ false
@@ -164,19 +154,20 @@ one_on lengths n k begin d p e room =
     }
 
 -- a linseg's steps within a piece are a ramp
-pub linseg_ramp : (s : LinsegState) (j n k begin d : ℕ) (here next : ℤ) → IsPlace s.lengths s.number k begin
-    → k < length s.lengths → d ≡ slice_index s.lengths k →
+pub linseg_ramp : (at : ℕ → List ℤ) (s : LinsegState) (j n k begin d : ℕ) (here next : ℤ)
+    → IsPlace s.lengths s.number k begin → k < length s.lengths → d ≡ slice_index s.lengths k →
     s.number + n ≤ begin + d → here ≡ argument s.values k → next ≡ argument s.values (k + 1)
     → s.number + n ≤ last_number →
-    run linseg_step (λ j. []) s j n
+    run linseg_step at s j n
     ≡ (linseg_at_step s (s.number + n), ramp_of here next (s.number - begin) d n)
-linseg_ramp s j zero k begin d here next p inside ed room eh en h = ap (λ m. (linseg_at_step s m, [])) (omega arith)
-linseg_ramp s j (suc zero) k begin d here next p inside ed room eh en h =
+linseg_ramp at s j zero k begin d here next p inside ed room eh en h =
+    ap (λ m. (linseg_at_step s m, [])) (omega arith)
+linseg_ramp at s j (suc zero) k begin d here next p inside ed room eh en h =
     let known : clamp (on_pieces s.values s.lengths s.number) ≡ clamp (part_way here next (s.number - begin) d) =
     sym (on_piece s.values s.lengths s.number k begin d here next p inside ed eh en) in
     ap (λ m. (linseg_at_step s m, clamp (on_pieces s.values s.lengths s.number) ∷ [])) (omega arith)
     ∙ ap (λ z. (linseg_at_step s (s.number + 1), z ∷ [])) known
-linseg_ramp s j (suc (suc n)) k begin d here next p inside ed room eh en h =
+linseg_ramp at s j (suc (suc n)) k begin d here next p inside ed room eh en h =
     let t : LinsegState = linseg_at_step s (s.number + 1) in
     let e : number_after (s.number + 1) ≡ s.number + 1 = omega arith in
     let value : ℤ = clamp (on_pieces s.values s.lengths s.number) in
@@ -185,8 +176,8 @@ linseg_ramp s j (suc (suc n)) k begin d here next p inside ed room eh en h =
     let known : value ≡ clamp (part_way here next (s.number - begin) d) =
     sym (on_piece s.values s.lengths s.number k begin d here next p inside ed eh en) in
     let on : (s.number + 1) - begin ≡ (s.number - begin) + 1 = omega arith in
-    ap (λ m. led value (run linseg_step (λ j. []) (linseg_at_step s m) (j + 1) (suc n))) e
-    ∙ ap (led value) (linseg_ramp t (j + 1) (suc n) k begin d here next
+    ap (λ m. led value (run linseg_step at (linseg_at_step s m) (j + 1) (suc n))) e
+    ∙ ap (led value) (linseg_ramp at t (j + 1) (suc n) k begin d here next
     (one_on s.lengths s.number k begin d p ed (omega arith)) inside ed (omega arith) eh en (omega arith))
     ∙ ap (λ m. (linseg_at_step s m, value ∷ ramp_of here next ((s.number + 1) - begin) d (suc n))) sum
     ∙ ap (λ m. (linseg_at_step s (s.number + suc (suc n)), value ∷ ramp_of here next m d (suc n))) on
@@ -196,11 +187,11 @@ linseg_ramp s j (suc (suc n)) k begin d here next p inside ed room eh en h =
     )) known
 
 -- after the last piece they are the last value
-pub linseg_holds : (s : LinsegState) (j n k begin : ℕ) (z : ℤ) → IsPlace s.lengths s.number k begin
+pub linseg_holds : (at : ℕ → List ℤ) (s : LinsegState) (j n k begin : ℕ) (z : ℤ) → IsPlace s.lengths s.number k begin
     → length s.lengths ≤ k → z ≡ argument s.values k → s.number + n ≤ last_number →
-    run linseg_step (λ j. []) s j n ≡ (linseg_at_step s (s.number + n), replicate n (clamp z))
-linseg_holds s j zero k begin z p over e h = ap (λ m. (linseg_at_step s m, [])) (omega arith)
-linseg_holds s j (suc n) k begin z p over e h =
+    run linseg_step at s j n ≡ (linseg_at_step s (s.number + n), replicate n (clamp z))
+linseg_holds at s j zero k begin z p over e h = ap (λ m. (linseg_at_step s m, [])) (omega arith)
+linseg_holds at s j (suc n) k begin z p over e h =
     let t : LinsegState = linseg_at_step s (s.number + 1) in
     let after : number_after (s.number + 1) ≡ s.number + 1 = omega arith in
     let value : ℤ = clamp (on_pieces s.values s.lengths s.number) in
@@ -210,8 +201,8 @@ linseg_holds s j (suc n) k begin z p over e h =
       real = real;
       inside = λ l. absurd (omega arith);
     } in
-    ap (λ m. led value (run linseg_step (λ j. []) (linseg_at_step s m) (j + 1) n)) after
-    ∙ ap (led value) (linseg_holds t (j + 1) n k begin z later over e (omega arith))
+    ap (λ m. led value (run linseg_step at (linseg_at_step s m) (j + 1) n)) after
+    ∙ ap (led value) (linseg_holds at t (j + 1) n k begin z later over e (omega arith))
     ∙ ap (λ m. (linseg_at_step s m, value ∷ replicate n (clamp z))) (omega arith)
     ∙ ap (λ y. (linseg_at_step s (s.number + suc n), y ∷ replicate n (clamp z)))
     (sym (last_value s.values s.lengths s.number k begin z p over e))

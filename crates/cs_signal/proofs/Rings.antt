@@ -1,16 +1,12 @@
 -- A list in a ring: as it is filled, and after a new value took the place of the oldest.
 use Rattle.std.proofs.Common.{◌≡◌, ℕ, zero, suc, ◌+◌, ◌-◌, ◌<◌, ◌≤◌, ◌⊎◌, inl, inr, List, [], ◌∷◌, ◌++◌, length, map}
 use Rattle.std.proofs.Common.{take, drop, replicate, ℤ, pos, refl, ap, sym, ◌∙◌, subst, arith, append_assoc}
-use Rattle.std.proofs.Common.{length-append, length-drop}
+use Rattle.std.proofs.{Common.length-append, Common.length-drop, Math.ListN.drop_of_length-le}
 use Rattle.std.specs.List.{range_with_len}
 use Rattle.std.proofs.lemmas.List.{append-nil, drop-drop, drop_more, length-take-le, take_all, take-append-drop}
 use Rattle.std.proofs.lemmas.List.FromFn.{length-map-range_with_len}
-use Rattle.std.proofs.Math.ListN.{drop_of_length-le}
 use Rattle.std.proofs.Math.Seq.{drop-append_seam, take-append_seam}
-use Rattle.cs_signal.specs.Delay.{delay_step}
-use Rattle.cs_signal.specs.Operands.{argument, operand_at}
-use Rattle.cs_signal.specs.Steps.{run}
-use Rattle.cs_signal.specs.Walk.{HasRun}
+use Rattle.cs_signal.specs.{Delay.delay_step, Operands.argument, Operands.operand_at, Steps.run, Walk.HasRun}
 use Rattle.cs_signal.specs.declared.operand.Operand.TheVariants.{Held}
 use Rattle.cs_signal.specs.inner.Ring.{IsWrapped, in_order, line_in}
 use Rattle.cs_signal.proofs.Walks.{HasRun_none, led}

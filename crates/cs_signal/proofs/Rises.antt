@@ -2,10 +2,8 @@
 use Rattle.std.proofs.Common.{◌≡◌, ℕ, suc, ◌+◌, ◌-◌, ◌*◌, ◌/◌, ◌%◌, ◌<◌, ◌≤◌, List, [], ◌∷◌, ◌++◌, length, map, ℤ, pos}
 use Rattle.std.proofs.Common.{◌+ℤ◌, ◌-ℤ◌, ◌*ℤ◌, refl, set, unsigned_abs, ◌^◌, ap, sym, ◌∙◌, arith}
 use Rattle.std.proofs.Math.Nat.{add-mul, lt_of_mul-lt-mul_right, mod-lt, mul-add, mul_assoc, mul_comm}
-use Rattle.std.proofs.lemmas.Int.{ints}
+use Rattle.std.proofs.lemmas.{Int.ints, List.FromFn.map-range_with_len_more, Nat.div-add-mod', Nat.mul-le, Nat.mul-lt}
 use Rattle.std.proofs.lemmas.List.{take_more_set, length-set, take_all}
-use Rattle.std.proofs.lemmas.List.FromFn.{map-range_with_len_more}
-use Rattle.std.proofs.lemmas.Nat.{div-add-mod', mul-le, mul-lt}
 use Rattle.std.specs.List.{range_with_len}
 use Rattle.cs_base.specs.Numbers.{clamp, floor_div}
 use Rattle.cs_base.proofs.Quotients.{quotient_of_parts}

@@ -1,24 +1,17 @@
 -- A linen in its rise, and in its decay: its factor is a straight line.
 use Rattle.std.proofs.Common.{◌≡◌, ℕ, zero, suc, ◌+◌, ◌-◌, ◌%◌, ◌<◌, ◌≤◌, ◌⊎◌, inl, inr, ◌==◌, ◌||◌, nat_le, nat_lt}
 use Rattle.std.proofs.Common.{false, List, [], ◌∷◌, length, map, ℤ, pos, negsuc, ◌+ℤ◌, ◌-ℤ◌, ◌*ℤ◌, if◌then◌else◌, ap}
-use Rattle.std.proofs.Common.{sym, ◌∙◌, arith}
+use Rattle.std.proofs.{Common.sym, Common.◌∙◌, Common.arith, Math.IntN.*ℤ_comm}
 use Rattle.std.specs.List.{range_with_len}
-use Rattle.std.proofs.lemmas.Bool.Decides.{nat_tests}
-use Rattle.std.proofs.lemmas.Int.{ints}
+use Rattle.std.proofs.lemmas.{Bool.Decides.nat_tests, Int.ints}
 use Rattle.std.proofs.lemmas.List.FromFn.{get_or-map-range_with_len, length-map-range_with_len}
-use Rattle.std.proofs.Math.IntN.{*ℤ_comm}
 use Rattle.cs_base.proofs.Arithmetic.{clamp_in_range, clamp_same}
 use Rattle.cs_base.specs.Numbers.{clamp, floor_div, one, product_of}
-use Rattle.cs_signal.specs.Line.{part_way}
+use Rattle.cs_signal.specs.{Line.part_way, Operands.argument, Pace.last_number, Pace.number_after, Steps.run}
+use Rattle.cs_signal.specs.{inner.Level.IsRising, inner.Level.IsFalling, inner.Ramp.IsParted, inner.Ramp.ramp_of}
 use Rattle.cs_signal.specs.Linen.{LinenState, linen_step, up_at, down_at}
-use Rattle.cs_signal.specs.Operands.{argument}
-use Rattle.cs_signal.specs.Pace.{last_number, number_after}
-use Rattle.cs_signal.specs.Steps.{run}
-use Rattle.cs_signal.specs.inner.Level.{IsRising, IsFalling}
-use Rattle.cs_signal.specs.inner.Ramp.{IsParted, ramp_of}
 use Rattle.cs_signal.proofs.Levels.{linen_at_step, not_falling, risen}
-use Rattle.cs_signal.proofs.Ramps.{floor_is, spread}
-use Rattle.cs_signal.proofs.Walks.{led}
+use Rattle.cs_signal.proofs.{Ramps.floor_is, Ramps.spread, Walks.led}
 
 -- steps whose factor is known are the amplitude by it
 linen_by : (x g : ℕ → ℤ) (s : LinenState) (j n : ℕ) → s.number + n ≤ last_number →

@@ -3,9 +3,7 @@ use Rattle.std.proofs.Common.{◌≡◌, ℕ, zero, suc, ◌+◌, ◌-◌, ◌<�
 use Rattle.std.proofs.Common.{set, get_or, ap, sym, ◌∙◌, subst, arith, append_assoc, length-append, length-drop}
 use Rattle.std.proofs.Math.Seq.{take-append_seam}
 use Rattle.std.proofs.lemmas.List.{length-take-le, take_more_set, length-set, take_all, append-nil, get_or_default}
-use Rattle.cs_signal.specs.Operands.{argument}
-use Rattle.cs_signal.specs.Steps.{run}
-use Rattle.cs_signal.specs.Walk.{HasRun}
+use Rattle.cs_signal.specs.{Operands.argument, Steps.run, Walk.HasRun}
 
 -- a run with a result before its own
 abbrev pub led : {S : Type 0} → ℤ → S × List ℤ → S × List ℤ

@@ -1,9 +1,7 @@
 -- A straight line before its end: its values lie between its ends.
-use Rattle.std.proofs.Common.{◌≡◌, ℕ, suc, ◌+◌, ◌*◌, ◌<◌, ◌≤◌, ⊎_elim, ℤ, pos, negsuc, ◌+ℤ◌, ◌-ℤ◌, ◌*ℤ◌, ◌≤ℤ◌}
-use Rattle.std.proofs.Common.{to_z, of_z, w64, refl, subst, arith}
-use Rattle.std.proofs.lemmas.Bool.{cases_lt}
-use Rattle.std.proofs.lemmas.Int.{ints}
-use Rattle.std.proofs.lemmas.Nat.{mul-le}
+use Rattle.std.proofs.Common.{◌≡◌, ℕ, suc, ◌+◌, ◌*◌, ◌<◌, ◌≤◌, ⊎_elim, ℤ, pos, negsuc, ◌+ℤ◌, ◌-ℤ◌, ◌*ℤ◌, ◌≤ℤ◌, to_z}
+use Rattle.std.proofs.Common.{of_z, w64, refl, subst, arith}
+use Rattle.std.proofs.lemmas.{Bool.cases_lt, Int.ints, Nat.mul-le}
 use Rattle.cs_base.specs.Numbers.{IsRaw}
 use Rattle.cs_signal.specs.inner.Ramp.{IsParted}
 

@@ -1,44 +1,16 @@
 -- biquad: a filter of two zeros and two poles, by whole numbers.
-use Rattle.std.specs.Prelude.{ℕ, ◌≡◌, List, [], ◌∷◌, reverse, ℤ, pos, ◌+ℤ◌, ◌-ℤ◌, ◌*ℤ◌, if◌then◌else◌}
+use Rattle.std.specs.Prelude.{◌≡◌, List, [], ◌∷◌, reverse, ℤ, pos, ◌+ℤ◌, ◌-ℤ◌, ◌*ℤ◌, if◌then◌else◌}
 use Rattle.std.specs.Ordering.{int_eq}
-use Rattle.cs_base.specs.Numbers.{clamp, floor_div, quotient_by_zero}
-use Rattle.cs_base.specs.declared.resource.Rate.{Rate}
-use Rattle.cs_signal.specs.History.{signal}
-use Rattle.cs_signal.specs.Operands.{argument, operand_at}
-use Rattle.cs_signal.specs.Pace.{Pace}
-use Rattle.cs_signal.specs.declared.biquad.Coefficients.{Coefficients}
-use Rattle.cs_signal.specs.declared.operand.Operand.{Operand}
-use Rattle.cs_signal.specs.declared.operand.Operand.TheVariants.{Held}
+use Rattle.cs_base.specs.{Numbers.clamp, Numbers.floor_div, Numbers.quotient_by_zero, declared.resource.Rate.Rate}
+use Rattle.cs_signal.specs.{History.signal, Operands.argument, Pace.Pace, declared.biquad.Coefficients.Coefficients}
 
 -- n / d rounded down and brought into range; by 0 as in a division
 abbrev pub ratio : ℤ → ℤ → ℤ
 ratio n d = if int_eq d (pos 0) then quotient_by_zero n else clamp (floor_div n d)
 
 -- the inputs of a step by its value of x and its coefficients
-abbrev pub inputs_by : ℤ → Coefficients ℤ → List ℤ
+abbrev pub inputs_by : ℤ → Coefficients → List ℤ
 inputs_by x by = x ∷ by.b0 ∷ by.b1 ∷ by.b2 ∷ by.a0 ∷ by.a1 ∷ by.a2 ∷ []
-
--- coefficients that stay for a cycle
-abbrev pub all_held : Coefficients ℤ → Coefficients Operand
-all_held by = record {
-  b0 = Held by.b0;
-  b1 = Held by.b1;
-  b2 = Held by.b2;
-  a0 = Held by.a0;
-  a1 = Held by.a1;
-  a2 = Held by.a2;
-}
-
--- coefficients at frame j of the cycle
-abbrev pub values_at : Coefficients Operand → ℕ → Coefficients ℤ
-values_at by j = record {
-  b0 = operand_at by.b0 j;
-  b1 = operand_at by.b1 j;
-  b2 = operand_at by.b2 j;
-  a0 = operand_at by.a0 j;
-  a1 = operand_at by.a1 j;
-  a2 = operand_at by.a2 j;
-}
 
 -- the result of a step: its inputs are x, b0, b1, b2, a0, a1 and a2; x1 and x2 are the two values of x before, and y1
 -- and y2 the two results before. All products are exact

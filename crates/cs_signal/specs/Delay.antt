@@ -1,9 +1,7 @@
 -- delay: its input of a fixed number of samples ago.
 use Rattle.std.specs.Prelude.{ℕ, ◌≡◌, max, List, [], ◌∷◌, ◌++◌, length, drop, replicate, ℤ, pos}
 use Rattle.cs_base.specs.declared.resource.Rate.{Rate}
-use Rattle.cs_signal.specs.History.{ago, signal}
-use Rattle.cs_signal.specs.Operands.{argument}
-use Rattle.cs_signal.specs.Pace.{Pace, samples_of}
+use Rattle.cs_signal.specs.{History.ago, History.signal, Operands.argument, Pace.Pace, Pace.samples_of}
 
 -- the length of a delay in samples: its time, and at least one
 abbrev pub delay_length : Pace → ℤ → ℕ

@@ -1,10 +1,7 @@
 -- diff: how much its input has risen since the step before.
 use Rattle.std.specs.Prelude.{◌≡◌, List, ℤ, pos}
-use Rattle.cs_base.specs.Numbers.{difference_of}
-use Rattle.cs_base.specs.declared.resource.Rate.{Rate}
-use Rattle.cs_signal.specs.History.{ago, now}
-use Rattle.cs_signal.specs.Operands.{argument}
-use Rattle.cs_signal.specs.Pace.{Pace}
+use Rattle.cs_base.specs.{Numbers.difference_of, declared.resource.Rate.Rate}
+use Rattle.cs_signal.specs.{History.ago, History.now, Operands.argument, Pace.Pace}
 
 -- the input less the input before; the input before the first is 0
 abbrev pub diff_of : Rate → Pace → List ℤ → List (List ℤ) → ℤ

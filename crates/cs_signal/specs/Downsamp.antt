@@ -1,9 +1,7 @@
 -- downsamp: a sound as a control value, by the first sample of each control cycle.
 use Rattle.std.specs.Prelude.{List, ℤ}
 use Rattle.cs_base.specs.declared.resource.Rate.{Rate}
-use Rattle.cs_signal.specs.Operands.{argument}
-use Rattle.cs_signal.specs.Pace.{Pace}
-use Rattle.cs_signal.specs.Plain.{plain_of, plain_step}
+use Rattle.cs_signal.specs.{Operands.argument, Pace.Pace, Plain.plain_of, Plain.plain_step}
 
 -- the input of a step, which is a control cycle: the cycle's first sample
 abbrev pub downsamp_value : List ℤ → ℤ

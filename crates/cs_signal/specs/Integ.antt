@@ -1,10 +1,7 @@
 -- integ: the running sum of its input.
 use Rattle.std.specs.Prelude.{◌≡◌, List, ℤ, pos, fold}
-use Rattle.cs_base.specs.Numbers.{sum_of}
-use Rattle.cs_base.specs.declared.resource.Rate.{Rate}
-use Rattle.cs_signal.specs.History.{signal}
-use Rattle.cs_signal.specs.Operands.{argument}
-use Rattle.cs_signal.specs.Pace.{Pace}
+use Rattle.cs_base.specs.{Numbers.sum_of, declared.resource.Rate.Rate}
+use Rattle.cs_signal.specs.{History.signal, Operands.argument, Pace.Pace}
 
 -- the sum of all values of the signal so far, brought into range at each step
 abbrev pub integ_of : Rate → Pace → List ℤ → List (List ℤ) → ℤ

@@ -1,11 +1,7 @@
 -- interp: a control value as a sound, on a straight line from one control cycle's value to the next.
 use Rattle.std.specs.Prelude.{ℕ, ◌≡◌, ◌+◌, ◌-◌, ◌%◌, ◌==◌, List, length, ℤ, pos, if◌then◌else◌}
-use Rattle.cs_base.specs.Numbers.{clamp}
-use Rattle.cs_base.specs.declared.resource.Rate.{Rate}
-use Rattle.cs_signal.specs.History.{ago, now}
-use Rattle.cs_signal.specs.Line.{part_way}
-use Rattle.cs_signal.specs.Operands.{argument}
-use Rattle.cs_signal.specs.Pace.{Pace}
+use Rattle.cs_base.specs.{Numbers.clamp, declared.resource.Rate.Rate}
+use Rattle.cs_signal.specs.{History.ago, History.now, Line.part_way, Operands.argument, Pace.Pace}
 
 -- sample j of a control cycle, from 0: j + 1 parts of the way from the cycle before's value, which was the input
 -- j + 1 samples ago and is 0 before the first cycle

@@ -1,11 +1,8 @@
 -- limit: its input brought between two bounds.
 use Rattle.std.specs.Prelude.{List, ℤ, pos, ◌+ℤ◌, int_lt, if◌then◌else◌}
 use Rattle.std.specs.Int.{int_max, int_min}
-use Rattle.cs_base.specs.Numbers.{floor_div}
-use Rattle.cs_base.specs.declared.resource.Rate.{Rate}
-use Rattle.cs_signal.specs.Operands.{argument}
-use Rattle.cs_signal.specs.Pace.{Pace}
-use Rattle.cs_signal.specs.Plain.{plain_of, plain_step}
+use Rattle.cs_base.specs.{Numbers.floor_div, declared.resource.Rate.Rate}
+use Rattle.cs_signal.specs.{Operands.argument, Pace.Pace, Plain.plain_of, Plain.plain_step}
 
 -- a value brought between low and high; where low is above high, the middle of the two, rounded down
 abbrev pub limited : ℤ → ℤ → ℤ → ℤ

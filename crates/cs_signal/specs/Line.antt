@@ -1,9 +1,7 @@
 -- line: a straight line through two values, without end.
 use Rattle.std.specs.Prelude.{ℕ, ◌≡◌, ◌+◌, max, List, length, ℤ, pos, ◌+ℤ◌, ◌-ℤ◌, ◌*ℤ◌}
-use Rattle.cs_base.specs.Numbers.{clamp, floor_div}
-use Rattle.cs_base.specs.declared.resource.Rate.{Rate}
-use Rattle.cs_signal.specs.Operands.{argument}
-use Rattle.cs_signal.specs.Pace.{Pace, steps_of, number_after, number_of_last}
+use Rattle.cs_base.specs.{Numbers.clamp, Numbers.floor_div, declared.resource.Rate.Rate}
+use Rattle.cs_signal.specs.{Operands.argument, Pace.Pace, Pace.steps_of, Pace.number_after, Pace.number_of_last}
 
 -- n parts of d of the way from one value to another, rounded down
 abbrev pub part_way : ℤ → ℤ → ℕ → ℕ → ℤ

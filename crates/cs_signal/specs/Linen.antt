@@ -2,8 +2,7 @@
 use Rattle.std.specs.Prelude.{ℕ, ◌≡◌, ◌+◌, ◌==◌, ◌||◌, nat_le, nat_lt, List, length, ℤ, pos, ◌-ℤ◌, ◌*ℤ◌, if◌then◌else◌}
 use Rattle.cs_base.specs.Numbers.{clamp, floor_div, one, product_of}
 use Rattle.cs_base.specs.declared.resource.Rate.{Rate}
-use Rattle.cs_signal.specs.History.{now}
-use Rattle.cs_signal.specs.Operands.{argument}
+use Rattle.cs_signal.specs.{History.now, Operands.argument}
 use Rattle.cs_signal.specs.Pace.{Pace, steps_of, number_after, number_of_last}
 
 -- the factor of the rise at step n: n parts of its steps until they are over, then one

@@ -1,11 +1,8 @@
 -- linseg: straight pieces from value to value; after the last piece the last value.
 use Rattle.std.specs.Prelude.{ℕ, ◌≡◌, ◌+◌, ◌-◌, ◌*◌, ◌/◌, nat_lt, List, length, map, take, sum, ℤ, slice_index}
-use Rattle.std.specs.Prelude.{if◌then◌else◌}
-use Rattle.std.specs.List.{position_or_len, range_with_len}
-use Rattle.cs_base.specs.Numbers.{clamp}
-use Rattle.cs_base.specs.declared.resource.Rate.{Rate}
-use Rattle.cs_signal.specs.Line.{part_way}
-use Rattle.cs_signal.specs.Operands.{argument}
+use Rattle.std.specs.{Prelude.if◌then◌else◌, List.position_or_len, List.range_with_len}
+use Rattle.cs_base.specs.{Numbers.clamp, declared.resource.Rate.Rate}
+use Rattle.cs_signal.specs.{Line.part_way, Operands.argument}
 use Rattle.cs_signal.specs.Pace.{Pace, steps_of, number_after, number_of_last}
 
 -- how many pieces the arguments give: one for each value after the first

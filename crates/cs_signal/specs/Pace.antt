@@ -1,8 +1,6 @@
 -- How long a time is in steps of a unit.
 use Rattle.std.specs.Prelude.{ℕ, ◌-◌, ◌*◌, ◌^◌, min, List, length, ℤ, pos, negsuc, ◌*ℤ◌}
-use Rattle.cs_base.specs.Numbers.{floor_div, one}
-use Rattle.cs_base.specs.Heads.{Header}
-use Rattle.cs_base.specs.declared.resource.Rate.{Rate}
+use Rattle.cs_base.specs.{Numbers.floor_div, Numbers.one, Heads.Header, declared.resource.Rate.Rate}
 use Rattle.cs_base.specs.declared.resource.Rate.TheVariants as rate
 
 -- what a unit needs of a piece's header: frames a second, and frames a control cycle

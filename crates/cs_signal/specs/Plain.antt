@@ -1,8 +1,7 @@
 -- A unit that keeps nothing: what a step gives is in the step's inputs.
 use Rattle.std.specs.Prelude.{List, ℤ}
 use Rattle.cs_base.specs.declared.resource.Rate.{Rate}
-use Rattle.cs_signal.specs.History.{last_of}
-use Rattle.cs_signal.specs.Pace.{Pace}
+use Rattle.cs_signal.specs.{History.last_of, Pace.Pace}
 
 abbrev pub plain_of : (List ℤ → ℤ) → Rate → Pace → List ℤ → List (List ℤ) → ℤ
 plain_of value rate pace init steps = value (last_of steps)

@@ -1,8 +1,7 @@
 -- samphold: its input while its gate is open, and then the last value held.
 use Rattle.std.specs.Prelude.{Bool, ◌≡◌, List, find, reverse, ℤ, pos, int_lt, Option, Some, None, if◌then◌else◌}
 use Rattle.cs_base.specs.declared.resource.Rate.{Rate}
-use Rattle.cs_signal.specs.Operands.{argument}
-use Rattle.cs_signal.specs.Pace.{Pace}
+use Rattle.cs_signal.specs.{Operands.argument, Pace.Pace}
 
 -- the gate, which is the second input, is above 0
 abbrev pub is_open : List ℤ → Bool

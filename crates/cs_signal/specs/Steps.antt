@@ -2,8 +2,7 @@
 use Rattle.std.specs.Prelude.{ℕ, ◌≡◌, ◌+◌, ◌<◌, zero, suc, List, [], ◌∷◌, ◌++◌, length, map, take, ℤ}
 use Rattle.std.specs.List.{range_with_len}
 use Rattle.cs_base.specs.declared.resource.Rate.{Rate}
-use Rattle.cs_signal.specs.Operands.{argument}
-use Rattle.cs_signal.specs.Pace.{Pace}
+use Rattle.cs_signal.specs.{Operands.argument, Pace.Pace}
 
 -- n steps from frame j on, where `at` gives the inputs of a frame: the unit afterwards, and the results in order
 abbrev pub run : {S : Type 0} → (S → List ℤ → S × ℤ) → (ℕ → List ℤ) → S → ℕ → ℕ → S × List ℤ

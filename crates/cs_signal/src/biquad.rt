@@ -1,21 +1,23 @@
 // `biquad`: a filter of two zeros and two poles, by whole numbers.
-ghost use Rattle.std.specs.Prelude.{IfSome, true, ◌≡◌, ◌≢◌, ◌<◌, ◌≤◌, ◌+◌, ◌^◌, length, pos, ◌≤ℤ◌, ◌+ℤ◌, ◌-ℤ◌, ◌*ℤ◌};
+ghost use Rattle.std.specs.Prelude.{true, ◌≡◌, ◌≢◌, ◌<◌, ◌≤◌, ◌+◌, ◌^◌, length, pos, ◌≤ℤ◌, ◌+ℤ◌, ◌-ℤ◌, ◌*ℤ◌};
 ghost use Rattle.std.specs.Prelude.{unsigned_abs};
 ghost use Rattle.std.specs.Int.{int_div_euclid};
 ghost use Rattle.cs_base.specs.Numbers.{IsRaw, clamp, floor_div, quotient_by_zero};
-ghost use Rattle.cs_signal.specs.Biquad.{all_held, biquad_step, filtered, inputs_by, ratio, values_at};
-ghost use Rattle.cs_signal.specs.Operands.{argument, operand_at, Lasts};
+ghost use Rattle.cs_signal.specs.Biquad.{biquad_step, inputs_by, ratio};
+ghost use Rattle.cs_signal.specs.Operands.{argument};
 ghost use Rattle.cs_signal.specs.inner.Short.{AreShort, AreSmall, IsShort, IsSmall};
 ghost use Rattle.cs_signal.specs.Steps.{run};
+ghost use Rattle.cs_signal.specs.Walk.{HasRun};
 
 use crate::Operand;
-use crate::generator::Generator;
+use crate::generator::{Generator, Stepper};
 use crate::operand::argument;
-use cs_base::{Divisor, Num};
+use crate::stepwise::frame_by_frame;
+use cs_base::{Divisor, Num, ONE};
 use std::marker::Model;
 
 /// A `biquad` of a note: its last two inputs and results, the later first, 0 before the first step.
-#[derive(Drop)]
+#[derive(Clone, Copy)]
 pub struct Biquad {
     x1: Num,
     x2: Num,
@@ -24,21 +26,23 @@ pub struct Biquad {
 }
 
 /// The coefficients of a step: `b0`, `b1` and `b2` of its input and the two before it, `a1` and `a2` of the two results
-/// before, and `a0`, by which the sum of the products is divided. Each is a value, or an operand over a control cycle.
+/// before, and `a0`, by which the sum of the products is divided.
 #[derive(Clone, Copy)]
-pub struct Coefficients<T> {
-    pub b0: T,
-    pub b1: T,
-    pub b2: T,
-    pub a0: T,
-    pub a1: T,
-    pub a2: T,
+pub struct Coefficients {
+    pub b0: Num,
+    pub b1: Num,
+    pub b2: Num,
+    pub a0: Num,
+    pub a1: Num,
+    pub a2: Num,
 }
 
 impl Model for Biquad {
     ghost use Rattle.cs_signal.specs.Biquad.{BiquadState};
 
     ghost Value = { BiquadState };
+
+    ghost inverse = { λ s. record { x1 = s.x1; x2 = s.x2; y1 = s.y1; y2 = s.y2 } };
 
     ghost view = { λ unit. record { x1 = unit.x1; x2 = unit.x2; y1 = unit.y1; y2 = unit.y2 } };
 }
@@ -59,21 +63,12 @@ impl Biquad {
     // One step: the sum of the products of `b0`, `b1`, `b2` with the input and the two before it, less those of `a1`
     // and `a2` with the two results before, by `a0`.
     #[inline(always)]
-    fn step(&mut self, x: Num, by: &Coefficients<Num>) -> Num
+    fn step(&mut self, x: Num, by: &Coefficients) -> Num
         ensures { (self.new, result) ≡ biquad_step self.old (inputs_by x by.now) }
     {
-        let y = self.filtered(x, by);
+        let y = ratio(self.wide_sum(x, by), by.a0.raw());
         self.follow(x, y);
         y
-    }
-
-    // The result of a step.
-    #[inline(always)]
-    fn filtered(&self, x: Num, by: &Coefficients<Num>) -> Num
-        ensures { let s = self.now in
-            result ≡ filtered (inputs_by x by.now) s.x1 s.x2 s.y1 s.y2 }
-    {
-        ratio(self.wide_sum(x, by), by.a0.raw())
     }
 
     // What it keeps after a step of this input and result.
@@ -87,71 +82,53 @@ impl Biquad {
         self.y1 = y;
     }
 
-    // A step for each frame of `out`.
-    fn block(&mut self, x: &Operand, by: &Coefficients<Operand>, out: &mut [Num])
-        requires x { Lasts (length out.old) x.now }
-        requires zeros { let n = length out.old in Lasts n by.now.b0 × Lasts n by.now.b1 × Lasts n by.now.b2 }
-        requires poles { let n = length out.old in Lasts n by.now.a0 × Lasts n by.now.a1 × Lasts n by.now.a2 }
-        ensures { (self.new, out.new) ≡ run biquad_step (λ j. inputs_by (operand_at x.now j) (values_at by.now j))
-            self.old 0 (length out.old) }
-    {
-        match (x, held_values(by)) {
-            (Operand::Row(row), Some(values)) => self.held(row, &values, out),
-            _ => self.moving(x, by, out),
-        }
-    }
-
-    // A step for each frame, by coefficients that stay. While all signals are short, sums are of 64 bits.
-    #[inline(never)]
-    fn held(&mut self, x: &[Num], by: &Coefficients<Num>, out: &mut [Num])
+    // A step for each frame, by coefficients that stay.
+    fn held(&mut self, x: &[Num], by: &Coefficients, out: &mut [Num])
         requires x { length x.now ≡ length out.old }
         requires above { pos 1 ≤ℤ by.now.a0 }
         ensures { (self.new, out.new) ≡ run biquad_step (λ j. inputs_by (argument x.now j) by.now)
             self.old 0 (length out.old) }
     {
+        let near = self.near_steps(x, by, out);
+        for j in near..out.len() {
+            out[j] = self.step(x[j], by);
+        }
+    }
+
+    // The steps up to the first signal that is long, by sums of 64 bits; the result is their number.
+    #[inline(never)]
+    fn near_steps(&mut self, x: &[Num], by: &Coefficients, out: &mut [Num]) -> usize
+        requires x { length x.now ≡ length out.old }
+        requires above { pos 1 ≤ℤ by.now.a0 }
+        ensures run { HasRun biquad_step (λ j. inputs_by (argument x.now j) by.now) self.old (length out.old)
+            result self.new out.new }
+        ensures within { result ≤ length out.old }
+    {
+        if !self.is_near(by) {
+            return 0;
+        }
         let divisor = Divisor::of(by.a0.raw());
-        let mut unit = self.copied();
-        let mut near = unit.is_near(by);
+        let mut unit = *self;
         for j in 0..out.len() {
             let here = x[j];
-            let short = and_short(near, here);
-            let y = unit.answer(here, by, divisor, short);
-            near = and_short(short, y);
+            if !is_short(here) {
+                *self = unit;
+                return j;
+            }
+            let y = divided(unit.short_sum(here, by), by.a0, divisor);
             unit.follow(here, y);
             out[j] = y;
+            if !is_short(y) {
+                *self = unit;
+                return j + 1;
+            }
         }
         *self = unit;
-    }
-
-    // A step for each frame, by coefficients that may move.
-    fn moving(&mut self, x: &Operand, by: &Coefficients<Operand>, out: &mut [Num])
-        ensures { (self.new, out.new) ≡ run biquad_step (λ j. inputs_by (operand_at x.now j) (values_at by.now j))
-            self.old 0 (length out.old) }
-    {
-        for j in 0..out.len() {
-            let here = values_at(by, j);
-            out[j] = self.step(x.at(j), &here);
-        }
-    }
-
-    // The result of a step, by an `a0` that is known as a divisor.
-    #[inline(always)]
-    fn answer(&self, x: Num, by: &Coefficients<Num>, divisor: Divisor, near: bool) -> Num
-        requires small { near ≡ true → AreSmall by.now }
-        requires short { near ≡ true → IsShort x × AreShort self.now }
-        requires known { divisor.value ≡ by.now.a0 }
-        ensures { let s = self.now in
-            result ≡ filtered (inputs_by x by.now) s.x1 s.x2 s.y1 s.y2 }
-    {
-        if near {
-            divided(self.short_sum(x, by), by.a0, divisor)
-        } else {
-            ratio_by(self.wide_sum(x, by), by.a0, divisor)
-        }
+        out.len()
     }
 
     // Whether sums are of 64 bits, if the input is short too.
-    fn is_near(&self, by: &Coefficients<Num>) -> bool
+    fn is_near(&self, by: &Coefficients) -> bool
         ensures { result ≡ true → AreSmall by.now × AreShort self.now }
     {
         are_small(by) && self.is_short()
@@ -166,21 +143,24 @@ impl Biquad {
 
     // What is divided.
     #[inline(always)]
-    fn wide_sum(&self, x: Num, by: &Coefficients<Num>) -> i128
+    fn wide_sum(&self, x: Num, by: &Coefficients) -> i128
         ensures value { let s = self.now in
             result ≡ ((by.now.b0 *ℤ x +ℤ by.now.b1 *ℤ s.x1) +ℤ by.now.b2 *ℤ s.x2)
             -ℤ (by.now.a1 *ℤ s.y1 +ℤ by.now.a2 *ℤ s.y2) }
         ensures bounded { unsigned_abs result < 2 ^ 97 }
     {
         less(
-            forward(by.b0, x, by.b1, self.x1, by.b2, self.x2),
-            back(by.a1, self.y1, by.a2, self.y2),
+            plus(
+                plus(product(by.b0, x), product(by.b1, self.x1)),
+                product(by.b2, self.x2),
+            ),
+            plus(product(by.a1, self.y1), product(by.a2, self.y2)),
         )
     }
 
     // The same, where all factors are below 2,048 and all signals below 32,768, so that no sum has over 61 bits.
     #[inline(always)]
-    fn short_sum(&self, x: Num, by: &Coefficients<Num>) -> i64
+    fn short_sum(&self, x: Num, by: &Coefficients) -> i64
         requires small { AreSmall by.now }
         requires input { IsShort x }
         requires short { AreShort self.now }
@@ -194,24 +174,10 @@ impl Biquad {
             near_back(by.a1, self.y1, by.a2, self.y2),
         )
     }
-
-    #[inline(always)]
-    fn copied(&self) -> Biquad
-        ensures { result ≡ self.now }
-    {
-        Biquad {
-            x1: self.x1,
-            x2: self.x2,
-            y1: self.y1,
-            y2: self.y2,
-        }
-    }
 }
 
-impl Generator for Biquad {
+impl Stepper for Biquad {
     ghost step = { biquad_step };
-
-    ghost moving = { 7 };
 
     fn tick(&mut self, inputs: &[Num]) -> Num {
         let by = Coefficients {
@@ -224,106 +190,42 @@ impl Generator for Biquad {
         };
         self.step(argument(inputs, 0), &by)
     }
+}
+
+impl Generator for Biquad {
+    ghost moving = { 7 };
 
     fn render(&mut self, inputs: &[Operand], out: &mut [Num]) {
         match inputs {
-            [x, b0, b1, b2, a0, a1, a2] => {
-                let by = Coefficients {
-                    b0: b0.copied(),
-                    b1: b1.copied(),
-                    b2: b2.copied(),
-                    a0: a0.copied(),
-                    a1: a1.copied(),
-                    a2: a2.copied(),
-                };
-                self.block(x, &by, out);
-            }
+            [x, b0, b1, b2, a0, a1, a2] => match (x, b0, b1, b2, a0, a1, a2) {
+                (
+                    Operand::Row(row),
+                    Operand::Held(b0),
+                    Operand::Held(b1),
+                    Operand::Held(b2),
+                    Operand::Held(a0),
+                    Operand::Held(a1),
+                    Operand::Held(a2),
+                ) if a0.raw() > 0 => {
+                    let by = Coefficients {
+                        b0: *b0,
+                        b1: *b1,
+                        b2: *b2,
+                        a0: *a0,
+                        a1: *a1,
+                        a2: *a2,
+                    };
+                    self.held(row, &by, out);
+                }
+                _ => frame_by_frame(self, inputs, out),
+            },
             _ => unreachable!(),
         }
     }
 }
 
-// Coefficients at a frame.
-#[inline(always)]
-fn values_at(by: &Coefficients<Operand>, frame: usize) -> Coefficients<Num>
-    ensures { result ≡ values_at by.now frame }
-{
-    Coefficients {
-        b0: by.b0.at(frame),
-        b1: by.b1.at(frame),
-        b2: by.b2.at(frame),
-        a0: by.a0.at(frame),
-        a1: by.a1.at(frame),
-        a2: by.a2.at(frame),
-    }
-}
-
-// The values of coefficients, where all of them are held and `a0` is above 0.
-fn held_values(by: &Coefficients<Operand>) -> Option<Coefficients<Num>>
-    ensures held { IfSome result (λ values. by.now ≡ all_held values) }
-    ensures above { IfSome result (λ values. pos 1 ≤ℤ values.a0) }
-{
-    match (&by.b0, &by.b1, &by.b2, &by.a0, &by.a1, &by.a2) {
-        (
-            Operand::Held(b0),
-            Operand::Held(b1),
-            Operand::Held(b2),
-            Operand::Held(a0),
-            Operand::Held(a1),
-            Operand::Held(a2),
-        ) => above_zero(Coefficients {
-            b0: *b0,
-            b1: *b1,
-            b2: *b2,
-            a0: *a0,
-            a1: *a1,
-            a2: *a2,
-        }),
-        _ => None,
-    }
-}
-
-// Coefficients of which `a0` is above 0.
-fn above_zero(by: Coefficients<Num>) -> Option<Coefficients<Num>>
-    ensures same { IfSome result (λ values. by ≡ values) }
-    ensures above { IfSome result (λ values. pos 1 ≤ℤ values.a0) }
-{
-    if by.a0.raw() > 0 { Some(by) } else { None }
-}
-
-// The quotient, rounded down and brought into range; where the number fits into 62 bits, without a division.
-#[inline(always)]
-fn ratio_by(n: i128, a0: Num, divisor: Divisor) -> Num
-    requires bounded { unsigned_abs n < 2 ^ 97 }
-    requires known { divisor.value ≡ a0 }
-    ensures { result ≡ ratio n a0 }
-{
-    if -(1 << 61) < n && n < 1 << 61 {
-        divided(n as i64, a0, divisor)
-    } else {
-        ratio(n, a0.raw())
-    }
-}
-
-// Products of two numbers have 94 bits, and three of them less two have 97: so all of them are in 128.
-#[inline(always)]
-fn forward(b0: Num, x: Num, b1: Num, x1: Num, b2: Num, x2: Num) -> i128
-    ensures value { result ≡ (b0 *ℤ x +ℤ b1 *ℤ x1) +ℤ b2 *ℤ x2 }
-    ensures bounded { unsigned_abs result < 2 ^ 96 }
-{
-    plus(plus(times(b0, x), times(b1, x1)), times(b2, x2))
-}
-
-#[inline(always)]
-fn back(a1: Num, y1: Num, a2: Num, y2: Num) -> i128
-    ensures value { result ≡ a1 *ℤ y1 +ℤ a2 *ℤ y2 }
-    ensures bounded { unsigned_abs result < 2 ^ 96 }
-{
-    plus(times(a1, y1), times(a2, y2))
-}
-
 // Whether coefficients are below 2,048.
-fn are_small(by: &Coefficients<Num>) -> bool
+fn are_small(by: &Coefficients) -> bool
     ensures { result ≡ true → AreSmall by.now }
 {
     is_small(by.b0) && is_small(by.b1) && is_small(by.b2) && is_small(by.a1) && is_small(by.a2)
@@ -343,14 +245,6 @@ fn is_short(x: Num) -> bool
     -(1 << 31) <= x.raw() && x.raw() < 1 << 31
 }
 
-// The same, and so were all before.
-#[inline(always)]
-fn and_short(near: bool, x: Num) -> bool
-    ensures { result ≡ true → (near ≡ true) × IsShort x }
-{
-    near && is_short(x)
-}
-
 #[inline(always)]
 fn near_forward(b0: Num, x: Num, b1: Num, x1: Num, b2: Num, x2: Num) -> i64
     requires coefficients { IsSmall b0 × IsSmall b1 × IsSmall b2 }
@@ -359,8 +253,11 @@ fn near_forward(b0: Num, x: Num, b1: Num, x1: Num, b2: Num, x2: Num) -> i64
     ensures bounded { unsigned_abs result ≤ 2 ^ 60 }
 {
     near_plus(
-        near_plus(near_times(b0, x), near_times(b1, x1)),
-        near_times(b2, x2),
+        near_plus(
+            near_product(b0.raw(), x.raw()),
+            near_product(b1.raw(), x1.raw()),
+        ),
+        near_product(b2.raw(), x2.raw()),
     )
 }
 
@@ -371,17 +268,10 @@ fn near_back(a1: Num, y1: Num, a2: Num, y2: Num) -> i64
     ensures value { result ≡ a1 *ℤ y1 +ℤ a2 *ℤ y2 }
     ensures bounded { unsigned_abs result ≤ 2 ^ 59 }
 {
-    near_plus(near_times(a1, y1), near_times(a2, y2))
-}
-
-#[inline(always)]
-fn near_times(c: Num, x: Num) -> i64
-    requires coefficient { IsSmall c }
-    requires signal { IsShort x }
-    ensures value { result ≡ c *ℤ x }
-    ensures bounded { unsigned_abs result ≤ 2 ^ 58 }
-{
-    near_product(c.raw(), x.raw())
+    near_plus(
+        near_product(a1.raw(), y1.raw()),
+        near_product(a2.raw(), y2.raw()),
+    )
 }
 
 #[inline(always)]
@@ -414,16 +304,22 @@ fn near_less(x: i64, y: i64) -> i64
     x - y
 }
 
+// The quotient, rounded down and brought into range. By one, as most filters have it, a shift does: the next step waits
+// for it.
 #[inline(always)]
 fn divided(n: i64, a0: Num, divisor: Divisor) -> Num
     requires bounded { unsigned_abs n < 2 ^ 61 }
     requires known { divisor.value ≡ a0 }
     ensures { result ≡ ratio n a0 }
 {
-    bounded(divisor.divide(n))
+    if a0.raw() == ONE {
+        Num::of_product(n)
+    } else {
+        bounded(divisor.divide(n))
+    }
 }
 
-// A quotient brought into range. Mostly it is short: a test, since the next step waits for it.
+// A quotient brought into range. Mostly it is short, so a test comes first.
 #[inline(always)]
 fn bounded(quotient: i64) -> Num
     ensures { result ≡ clamp quotient }
@@ -431,16 +327,8 @@ fn bounded(quotient: i64) -> Num
     if -(1 << 31) <= quotient && quotient < 1 << 31 {
         Num::exact(quotient)
     } else {
-        far(quotient)
+        Num::of_raw(quotient)
     }
-}
-
-#[cold]
-#[inline(never)]
-fn far(quotient: i64) -> Num
-    ensures { result ≡ clamp quotient }
-{
-    Num::of_raw(quotient)
 }
 
 // The exact sum.
@@ -465,23 +353,13 @@ fn less(x: i128, y: i128) -> i128
     x - y
 }
 
-// The exact product.
+// The exact product, of 94 bits: three of them less two have 97.
 #[inline(always)]
-fn times(x: Num, y: Num) -> i128
+fn product(x: Num, y: Num) -> i128
     ensures value { result ≡ x *ℤ y }
     ensures bounded { unsigned_abs result ≤ 2 ^ 94 }
 {
-    product(x.raw(), y.raw())
-}
-
-#[inline(always)]
-fn product(x: i64, y: i64) -> i128
-    requires x { IsRaw x }
-    requires y { IsRaw y }
-    ensures value { result ≡ x *ℤ y }
-    ensures bounded { unsigned_abs result ≤ 2 ^ 94 }
-{
-    i128::from(x) * i128::from(y)
+    i128::from(x.raw()) * i128::from(y.raw())
 }
 
 // The quotient, rounded down and brought into range; by 0 as in a division.

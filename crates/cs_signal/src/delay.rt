@@ -12,7 +12,7 @@ ghost use Rattle.cs_signal.specs.Walk.{HasRun};
 ghost use Rattle.cs_signal.specs.inner.Ring.{IsRing, IsWrapped, in_order, line_in};
 
 use crate::Operand;
-use crate::generator::Generator;
+use crate::generator::{Generator, Stepper};
 use crate::operand::argument;
 use crate::pace::delay_samples;
 use cs_base::{Head, Num};
@@ -55,15 +55,6 @@ impl Delay {
         })
     }
 
-    // One step: the oldest value, in whose place the new one comes.
-    fn step(&mut self, x: Num) -> Num
-        ensures { (self.new, result) ≡ delay_step self.old (x ∷ []) }
-    {
-        let mut out = [Num::of_raw(0)];
-        self.block(&Operand::Held(x), &mut out);
-        out[0]
-    }
-
     // A step for each frame of `out`.
     fn block(&mut self, x: &Operand, out: &mut [Num])
         requires { Lasts (length out.old) x.now }
@@ -73,14 +64,19 @@ impl Delay {
     }
 }
 
-impl Generator for Delay {
+impl Stepper for Delay {
     ghost step = { delay_step };
 
-    ghost moving = { 1 };
-
+    // One step: the oldest value, in whose place the new one comes.
     fn tick(&mut self, inputs: &[Num]) -> Num {
-        self.step(argument(inputs, 0))
+        let mut out = [Num::of_raw(0)];
+        self.block(&Operand::Held(argument(inputs, 0)), &mut out);
+        out[0]
     }
+}
+
+impl Generator for Delay {
+    ghost moving = { 1 };
 
     fn render(&mut self, inputs: &[Operand], out: &mut [Num]) {
         match inputs {

@@ -3,9 +3,9 @@ ghost use Rattle.std.specs.Prelude.{◌≡◌, pos};
 ghost use Rattle.cs_signal.specs.Diff.{diff_step};
 
 use crate::Operand;
-use crate::generator::Generator;
+use crate::generator::{Generator, Stepper};
 use crate::operand::argument;
-use crate::stepwise::{Stepper, step_by_step};
+use crate::stepwise::step_by_step;
 use cs_base::Num;
 use std::marker::Model;
 
@@ -37,11 +37,11 @@ impl Diff {
 }
 
 impl Stepper for Diff {
-    ghost stepped = { diff_step };
+    ghost step = { diff_step };
 
     // One step: this value less the one before.
     #[inline(always)]
-    fn step(&mut self, inputs: &[Num]) -> Num {
+    fn tick(&mut self, inputs: &[Num]) -> Num {
         let x = argument(inputs, 0);
         let risen = x.sub(self.before);
         self.before = x;
@@ -50,13 +50,7 @@ impl Stepper for Diff {
 }
 
 impl Generator for Diff {
-    ghost step = { diff_step };
-
     ghost moving = { 1 };
-
-    fn tick(&mut self, inputs: &[Num]) -> Num {
-        self.step(inputs)
-    }
 
     fn render(&mut self, inputs: &[Operand], out: &mut [Num]) {
         step_by_step(self, inputs, out);

@@ -3,9 +3,9 @@ ghost use Rattle.std.specs.Prelude.{◌≡◌};
 ghost use Rattle.cs_signal.specs.Downsamp.{downsamp_step};
 
 use crate::Operand;
-use crate::generator::Generator;
+use crate::generator::{Generator, Stepper};
 use crate::operand::argument;
-use crate::stepwise::{Stepper, step_by_step};
+use crate::stepwise::step_by_step;
 use cs_base::Num;
 use std::marker::Model;
 
@@ -31,23 +31,17 @@ impl Downsamp {
 }
 
 impl Stepper for Downsamp {
-    ghost stepped = { downsamp_step };
+    ghost step = { downsamp_step };
 
     // One step, which is a control cycle: `x` is the cycle's first sample, and the result.
     #[inline(always)]
-    fn step(&mut self, inputs: &[Num]) -> Num {
+    fn tick(&mut self, inputs: &[Num]) -> Num {
         argument(inputs, 0)
     }
 }
 
 impl Generator for Downsamp {
-    ghost step = { downsamp_step };
-
     ghost moving = { 1 };
-
-    fn tick(&mut self, inputs: &[Num]) -> Num {
-        self.step(inputs)
-    }
 
     fn render(&mut self, inputs: &[Operand], out: &mut [Num]) {
         step_by_step(self, inputs, out);

@@ -32,7 +32,7 @@ pub use biquad::Biquad;
 pub use delay::Delay;
 pub use diff::Diff;
 pub use downsamp::Downsamp;
-pub use generator::Generator;
+pub use generator::{Generator, Stepper};
 pub use integ::Integ;
 pub use interp::Interp;
 pub use laws::worked_examples;

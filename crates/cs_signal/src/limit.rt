@@ -1,13 +1,12 @@
 // `limit`: its input brought between two bounds.
-ghost use Rattle.std.specs.Prelude.{◌≡◌, pos, ◌+ℤ◌, ◌≤ℤ◌};
-ghost use Rattle.std.specs.Int.{int_max, int_min};
+ghost use Rattle.std.specs.Prelude.{◌≡◌, pos, ◌+ℤ◌};
 ghost use Rattle.cs_base.specs.Numbers.{IsRaw, floor_div};
 ghost use Rattle.cs_signal.specs.Limit.{limit_step, limited};
 
 use crate::Operand;
-use crate::generator::Generator;
+use crate::generator::{Generator, Stepper};
 use crate::operand::argument;
-use crate::stepwise::{Stepper, step_by_step};
+use crate::stepwise::step_by_step;
 use cs_base::Num;
 use std::marker::Model;
 
@@ -33,11 +32,11 @@ impl LimitUnit {
 }
 
 impl Stepper for LimitUnit {
-    ghost stepped = { limit_step };
+    ghost step = { limit_step };
 
     // One step: the value brought between `low` and `high`, and the middle of the two where `low` is above `high`.
     #[inline(always)]
-    fn step(&mut self, inputs: &[Num]) -> Num {
+    fn tick(&mut self, inputs: &[Num]) -> Num {
         limited(
             argument(inputs, 0),
             argument(inputs, 1),
@@ -47,13 +46,7 @@ impl Stepper for LimitUnit {
 }
 
 impl Generator for LimitUnit {
-    ghost step = { limit_step };
-
     ghost moving = { 3 };
-
-    fn tick(&mut self, inputs: &[Num]) -> Num {
-        self.step(inputs)
-    }
 
     fn render(&mut self, inputs: &[Operand], out: &mut [Num]) {
         step_by_step(self, inputs, out);
@@ -66,24 +59,12 @@ fn limited(x: Num, low: Num, high: Num) -> Num
 {
     if high.raw() < low.raw() {
         middle(low.raw(), high.raw())
+    } else if x.raw() < low.raw() {
+        low
+    } else if high.raw() < x.raw() {
+        high
     } else {
-        within(x.raw(), low.raw(), high.raw())
-    }
-}
-
-#[inline(always)]
-fn within(x: i64, low: i64, high: i64) -> Num
-    requires order { low ≤ℤ high }
-    requires low { IsRaw low }
-    requires high { IsRaw high }
-    ensures { result ≡ int_max low (int_min x high) }
-{
-    if x < low {
-        Num::exact(low)
-    } else if high < x {
-        Num::exact(high)
-    } else {
-        Num::exact(x)
+        x
     }
 }
 

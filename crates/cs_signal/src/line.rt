@@ -1,15 +1,15 @@
 // `line`: a straight line through two values, without end.
-ghost use Rattle.std.specs.Prelude.{◌≡◌, ◌<◌, ◌≤◌, ◌+◌, ◌^◌, ◌∷◌, [], length, map, pos, ◌+ℤ◌, ◌-ℤ◌, ◌*ℤ◌, unsigned_abs};
+ghost use Rattle.std.specs.Prelude.{◌≡◌, ◌<◌, ◌≤◌, ◌+◌, ◌^◌, pos, ◌+ℤ◌, ◌-ℤ◌, ◌*ℤ◌, unsigned_abs};
 ghost use Rattle.cs_base.specs.Heads.{header_of_head};
 ghost use Rattle.cs_base.specs.Numbers.{IsRaw, clamp, floor_div};
 ghost use Rattle.cs_signal.specs.Line.{LineState, line_start, line_step, part_way};
 ghost use Rattle.cs_signal.specs.Pace.{pace_of, last_number};
-ghost use Rattle.cs_signal.specs.Steps.{run};
 
-use crate::generator::Generator;
+use crate::generator::{Generator, Stepper};
 use crate::operand::{Operand, argument};
 use crate::pace::{next_number, steps};
 use crate::ramp::ramp;
+use crate::stepwise::frame_by_frame;
 use cs_base::{Head, Num, Rate};
 use std::marker::Model;
 
@@ -46,51 +46,28 @@ impl LineUnit {
             number: 0,
         }
     }
+}
 
-    // One step.
-    fn step(&mut self) -> Num
-        ensures { (self.new, result) ≡ line_step self.old [] }
-    {
+impl Stepper for LineUnit {
+    ghost step = { line_step };
+
+    fn tick(&mut self, _inputs: &[Num]) -> Num {
         let value = part_way(self.from, self.to, self.number, self.way);
         self.number = next_number(self.number);
         value
     }
+}
 
-    // A step for each frame of `out`.
-    fn block(&mut self, out: &mut [Num])
-        ensures { (self.new, out.new) ≡ run line_step (λ j. []) self.old 0 (length out.old) }
-    {
+impl Generator for LineUnit {
+    ghost moving = { 0 };
+
+    fn render(&mut self, inputs: &[Operand], out: &mut [Num]) {
         let count = out.len() as u64;
         if count <= i64::MAX as u64 - self.number {
             ramp(self.from, self.to, self.number, self.way, out);
             self.number += count;
         } else {
-            self.frames(out);
-        }
-    }
-
-    fn frames(&mut self, out: &mut [Num])
-        ensures { (self.new, out.new) ≡ run line_step (λ j. []) self.old 0 (length out.old) }
-    {
-        for j in 0..out.len() {
-            out[j] = self.step();
-        }
-    }
-}
-
-impl Generator for LineUnit {
-    ghost step = { line_step };
-
-    ghost moving = { 0 };
-
-    fn tick(&mut self, _inputs: &[Num]) -> Num {
-        self.step()
-    }
-
-    fn render(&mut self, inputs: &[Operand], out: &mut [Num]) {
-        match inputs {
-            [] => self.block(out),
-            _ => unreachable!(),
+            frame_by_frame(self, inputs, out);
         }
     }
 }
@@ -101,16 +78,16 @@ pub(crate) fn part_way(from: Num, to: Num, n: u64, d: u64) -> Num
     requires number { n ≤ last_number }
     ensures { result ≡ clamp (part_way from to n d) }
 {
-    raised(from.raw(), part(rise(from, to), n, d))
+    raised(from, quotient(times(rise(from, to), n), d))
 }
 
 // A value that is raised, brought into range.
 #[inline(always)]
-pub(crate) fn raised(from: i64, by: i128) -> Num
+pub(crate) fn raised(from: Num, by: i128) -> Num
     requires { unsigned_abs by < 2 ^ 120 }
     ensures { result ≡ clamp (from +ℤ by) }
 {
-    Num::of_wide(i128::from(from) + by)
+    Num::of_wide(i128::from(from.raw()) + by)
 }
 
 // How far it is from one value to another.
@@ -122,17 +99,7 @@ pub(crate) fn rise(from: Num, to: Num) -> i64
     to.raw() - from.raw()
 }
 
-// So many parts of a rise, rounded down: a product of 48 and 63 bits.
-fn part(rise: i64, n: u64, d: u64) -> i128
-    requires some { 1 ≤ d }
-    requires number { n ≤ last_number }
-    requires bounded { unsigned_abs rise < 2 ^ 48 }
-    ensures value { result ≡ floor_div (rise *ℤ pos n) (pos d) }
-    ensures bounded { unsigned_abs result < 2 ^ 111 }
-{
-    quotient(times(rise, n), d)
-}
-
+// So many parts of a rise: a product of 48 and 63 bits.
 pub(crate) fn times(rise: i64, n: u64) -> i128
     requires number { n ≤ last_number }
     requires bounded { unsigned_abs rise < 2 ^ 48 }

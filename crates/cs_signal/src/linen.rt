@@ -7,15 +7,15 @@ ghost use Rattle.cs_base.specs.Numbers.{IsRaw, clamp, floor_div, one, product_of
 ghost use Rattle.cs_signal.specs.Linen.{linen_start, linen_step, up_at, down_at};
 ghost use Rattle.cs_signal.specs.Operands.{argument, operand_at, Lasts};
 ghost use Rattle.cs_signal.specs.Pace.{pace_of, last_number};
-ghost use Rattle.cs_signal.specs.Steps.{run};
 ghost use Rattle.cs_signal.specs.inner.Ramp.{ramp_of};
 ghost use Rattle.cs_signal.specs.inner.Level.{IsFalling, IsLevel, IsRising};
 
 use crate::Operand;
-use crate::generator::Generator;
+use crate::generator::{Generator, Stepper};
 use crate::operand::argument;
 use crate::pace::{next_number, steps};
 use crate::ramp::ramp;
+use crate::stepwise::frame_by_frame;
 use cs_base::{Head, Num, ONE, Rate};
 use std::marker::Model;
 
@@ -59,36 +59,6 @@ impl Linen {
         }
     }
 
-    // One step.
-    fn step(&mut self, x: Num) -> Num
-        ensures { (self.new, result) ≡ linen_step self.old (x ∷ []) }
-    {
-        let up = up_at(self.rise, self.number);
-        let down = down_at(self.duration, self.decay, self.number);
-        self.number = next_number(self.number);
-        x.mul(up.mul(down))
-    }
-
-    // A step for each frame of `out`.
-    fn block(&mut self, x: &Operand, out: &mut [Num])
-        requires { Lasts (length out.old) x.now }
-        ensures { (self.new, out.new) ≡ run linen_step (λ j. operand_at x.now j ∷ []) self.old 0 (length out.old) }
-    {
-        let count = out.len() as u64;
-        if self.is_level(count) {
-            level(x, out);
-            self.number += count;
-        } else if self.rises(count) {
-            rising(x, self.number, self.rise, out);
-            self.number += count;
-        } else if self.falls(count) {
-            falling_on(x, self.number + self.decay - self.duration, self.decay, out);
-            self.number += count;
-        } else {
-            self.frames(x, out);
-        }
-    }
-
     // Whether the next `count` steps lie in the rise, and before the decay.
     fn rises(&self, count: u64) -> bool
         ensures { result ≡ true → IsRising self.now count }
@@ -117,39 +87,59 @@ impl Linen {
             && self.rise <= self.number
             && (self.decay == 0 || self.number + count + self.decay <= self.duration)
     }
+}
 
-    fn frames(&mut self, x: &Operand, out: &mut [Num])
-        ensures { (self.new, out.new) ≡ run linen_step (λ j. operand_at x.now j ∷ []) self.old 0 (length out.old) }
-    {
-        for j in 0..out.len() {
-            out[j] = self.step(x.at(j));
-        }
+impl Stepper for Linen {
+    ghost step = { linen_step };
+
+    fn tick(&mut self, inputs: &[Num]) -> Num {
+        let up = up_at(self.rise, self.number);
+        let down = down_at(self.duration, self.decay, self.number);
+        self.number = next_number(self.number);
+        argument(inputs, 0).mul(up.mul(down))
     }
 }
 
 impl Generator for Linen {
-    ghost step = { linen_step };
-
     ghost moving = { 1 };
 
-    fn tick(&mut self, inputs: &[Num]) -> Num {
-        self.step(argument(inputs, 0))
-    }
-
+    // All at once where the steps lie in one part.
     fn render(&mut self, inputs: &[Operand], out: &mut [Num]) {
+        let count = out.len() as u64;
         match inputs {
-            [x] => self.block(x, out),
-            _ => unreachable!(),
+            [x] if self.is_level(count) => {
+                level(x, out);
+                self.number += count;
+            }
+            [x] if self.rises(count) => {
+                slope(
+                    x,
+                    Num::exact(0),
+                    Num::exact(ONE),
+                    self.number,
+                    self.rise,
+                    out,
+                );
+                self.number += count;
+            }
+            [x] if self.falls(count) => {
+                let fallen = self.number + self.decay - self.duration;
+                slope(x, Num::exact(ONE), Num::exact(0), fallen, self.decay, out);
+                self.number += count;
+            }
+            _ => frame_by_frame(self, inputs, out),
         }
     }
 }
 
 // The amplitude while both factors are one.
 fn level(x: &Operand, out: &mut [Num])
+    requires { Lasts (length out.old) x.now }
     ensures { out.new ≡ map (λ j. product_of (operand_at x.now j) one) (range_with_len 0 (length out.old)) }
 {
+    let x = x.copied();
     for j in 0..out.len() {
-        out[j] = by_one(x.at(j));
+        out[j] = by_one(x.value(j));
     }
 }
 
@@ -161,36 +151,27 @@ fn by_one(x: Num) -> Num
     Num::exact(x.raw())
 }
 
-// The amplitude under the steps of the rise from `number` on.
-fn rising(x: &Operand, number: u64, rise: u64, out: &mut [Num])
-    requires some { number < rise }
-    requires wide { rise < 2 ^ 49 }
-    ensures { let ramp = ramp_of (pos 0) one number rise (length out.old) in
+// The amplitude under the steps of a straight line between two factors, from `number` on.
+fn slope(x: &Operand, from: Num, to: Num, number: u64, steps: u64, out: &mut [Num])
+    requires last { Lasts (length out.old) x.now }
+    requires some { 1 ≤ steps }
+    requires number { number ≤ last_number }
+    ensures { let ramp = ramp_of from to number steps (length out.old) in
         out.new ≡ map (λ j. product_of (operand_at x.now j) (argument ramp j)) (range_with_len 0 (length out.old)) }
 {
-    ramp(Num::exact(0), Num::exact(ONE), number, rise, out);
-    shape(x, out);
-}
-
-// The amplitude under the steps of the decay from `number` on.
-fn falling_on(x: &Operand, number: u64, decay: u64, out: &mut [Num])
-    requires some { 0 < decay }
-    requires wide { decay < 2 ^ 49 }
-    requires near { number ≤ decay }
-    ensures { let ramp = ramp_of one (pos 0) number decay (length out.old) in
-        out.new ≡ map (λ j. product_of (operand_at x.now j) (argument ramp j)) (range_with_len 0 (length out.old)) }
-{
-    ramp(Num::exact(ONE), Num::exact(0), number, decay, out);
+    ramp(from, to, number, steps, out);
     shape(x, out);
 }
 
 // The amplitude by factors, which `out` has.
 fn shape(x: &Operand, out: &mut [Num])
+    requires { Lasts (length out.old) x.now }
     ensures { out.new
         ≡ map (λ j. product_of (operand_at x.now j) (argument out.old j)) (range_with_len 0 (length out.old)) }
 {
+    let x = x.copied();
     for j in 0..out.len() {
-        out[j] = product(x.at(j), out[j]);
+        out[j] = product(x.value(j), out[j]);
     }
 }
 
@@ -264,18 +245,8 @@ fn down_at(duration: u64, decay: u64, n: u64) -> Num
     if decay == 0 || n + decay < duration {
         Num::of_raw(ONE)
     } else {
-        falling(duration, decay, n)
+        Num::of_wide(fallen(left(duration, n), decay))
     }
-}
-
-fn falling(duration: u64, decay: u64, n: u64) -> Num
-    requires some { 0 < decay }
-    requires wide_duration { duration < 2 ^ 49 }
-    requires wide_decay { decay < 2 ^ 49 }
-    requires number { n ≤ last_number }
-    ensures { result ≡ clamp (floor_div (one *ℤ (pos duration -ℤ pos n)) (pos decay)) }
-{
-    Num::of_wide(fallen(left(duration, n), decay))
 }
 
 fn left(duration: u64, n: u64) -> i128

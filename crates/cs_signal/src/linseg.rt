@@ -1,17 +1,17 @@
 // `linseg`: straight pieces from value to value; after the last piece the last value.
-ghost use Rattle.std.specs.Prelude.{◌≡◌, ◌+◌, ◌*◌, ◌<◌, ◌≤◌, [], IfOk, length};
+ghost use Rattle.std.specs.Prelude.{◌≡◌, ◌+◌, ◌*◌, ◌<◌, ◌≤◌, IfOk, length};
 ghost use Rattle.cs_base.specs.Heads.{header_of_head};
 ghost use Rattle.cs_base.specs.Numbers.{clamp};
 ghost use Rattle.cs_signal.specs.Linseg.{linseg_start, linseg_step, lengths_of, on_pieces, pieces_of, values_of};
 ghost use Rattle.cs_signal.specs.Pace.{pace_of, last_number};
-ghost use Rattle.cs_signal.specs.Steps.{run};
 ghost use Rattle.cs_signal.specs.inner.Pieces.{HasPassed, IsPlace};
 
-use crate::generator::Generator;
+use crate::generator::{Generator, Stepper};
 use crate::line::part_way;
 use crate::operand::{Operand, argument};
 use crate::pace::{next_number, steps};
 use crate::ramp::ramp;
+use crate::stepwise::frame_by_frame;
 use cs_base::{Head, Num, Rate};
 use std::alloc::{AllocError, Global};
 use std::marker::Model;
@@ -63,16 +63,6 @@ impl Linseg {
         })
     }
 
-    // One step.
-    fn step(&mut self) -> Num
-        ensures { (self.new, result) ≡ linseg_step self.old [] }
-    {
-        let value = self.value();
-        self.number = next_number(self.number);
-        self.place = place_of(&self.lengths, self.place, self.number);
-        value
-    }
-
     // The value at the step to come.
     fn value(&self) -> Num
         ensures { result ≡ clamp (on_pieces self.now.values self.now.lengths self.now.number) }
@@ -89,15 +79,28 @@ impl Linseg {
             Num::of_raw(self.values[piece].raw())
         }
     }
+}
 
-    // A step for each frame of `out`: all at once where they lie in one piece, or after the last.
-    fn block(&mut self, out: &mut [Num])
-        ensures { (self.new, out.new) ≡ run linseg_step (λ j. []) self.old 0 (length out.old) }
-    {
+impl Stepper for Linseg {
+    ghost step = { linseg_step };
+
+    fn tick(&mut self, _inputs: &[Num]) -> Num {
+        let value = self.value();
+        self.number = next_number(self.number);
+        self.place = place_of(&self.lengths, self.place, self.number);
+        value
+    }
+}
+
+impl Generator for Linseg {
+    ghost moving = { 0 };
+
+    // All at once where the steps lie in one piece, or after the last.
+    fn render(&mut self, inputs: &[Operand], out: &mut [Num]) {
         let count = out.len() as u64;
         let Place { piece, begin } = self.place;
         if count > i64::MAX as u64 - self.number {
-            self.frames(out);
+            frame_by_frame(self, inputs, out);
         } else if piece == self.lengths.len() {
             out.fill(self.value());
             self.number += count;
@@ -112,32 +115,7 @@ impl Linseg {
             self.number += count;
             self.place = place_of(&self.lengths, self.place, self.number);
         } else {
-            self.frames(out);
-        }
-    }
-
-    fn frames(&mut self, out: &mut [Num])
-        ensures { (self.new, out.new) ≡ run linseg_step (λ j. []) self.old 0 (length out.old) }
-    {
-        for j in 0..out.len() {
-            out[j] = self.step();
-        }
-    }
-}
-
-impl Generator for Linseg {
-    ghost step = { linseg_step };
-
-    ghost moving = { 0 };
-
-    fn tick(&mut self, _inputs: &[Num]) -> Num {
-        self.step()
-    }
-
-    fn render(&mut self, inputs: &[Operand], out: &mut [Num]) {
-        match inputs {
-            [] => self.block(out),
-            _ => unreachable!(),
+            frame_by_frame(self, inputs, out);
         }
     }
 }

@@ -14,14 +14,6 @@ pub(crate) fn samples(time: Num, head: &Head) -> u64
     counted(times(time, head.sr), ONE as u32)
 }
 
-/// A time in seconds as whole control cycles, rounded down; none where it is below 0.
-fn cycles(time: Num, head: &Head) -> u64
-    ensures value { result ≡ cycles_of (pace_of (header_of_head head.now)) time }
-    ensures bounded { result < 2 ^ 49 }
-{
-    counted(times(time, head.sr), ONE as u32 * head.ksmps)
-}
-
 /// A time in seconds as steps of a unit: of a sample each at audio rate, else of a control cycle each.
 pub(crate) fn steps(time: Num, rate: Rate, head: &Head) -> u64
     ensures value { result ≡ steps_of rate (pace_of (header_of_head head.now)) time }
@@ -29,7 +21,7 @@ pub(crate) fn steps(time: Num, rate: Rate, head: &Head) -> u64
 {
     match rate {
         Rate::Audio => samples(time, head),
-        Rate::Init | Rate::Control => cycles(time, head),
+        Rate::Init | Rate::Control => counted(times(time, head.sr), ONE as u32 * head.ksmps),
     }
 }
 

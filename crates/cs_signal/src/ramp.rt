@@ -210,7 +210,7 @@ fn value_at(from: Num, at: Parts) -> Num
     requires { unsigned_abs at.whole < 2 ^ 120 }
     ensures { result ≡ clamp (from +ℤ at.whole) }
 {
-    raised(from.raw(), at.whole)
+    raised(from, at.whole)
 }
 
 fn parted(n: i128, d: u64) -> Parts

@@ -3,9 +3,9 @@ ghost use Rattle.std.specs.Prelude.{◌≡◌, pos};
 ghost use Rattle.cs_signal.specs.Samphold.{samphold_step};
 
 use crate::Operand;
-use crate::generator::Generator;
+use crate::generator::{Generator, Stepper};
 use crate::operand::argument;
-use crate::stepwise::{Stepper, step_by_step};
+use crate::stepwise::step_by_step;
 use cs_base::Num;
 use std::marker::Model;
 
@@ -37,11 +37,11 @@ impl Samphold {
 }
 
 impl Stepper for Samphold {
-    ghost stepped = { samphold_step };
+    ghost step = { samphold_step };
 
     // One step: the value where the gate is above 0, else the last result.
     #[inline(always)]
-    fn step(&mut self, inputs: &[Num]) -> Num {
+    fn tick(&mut self, inputs: &[Num]) -> Num {
         if argument(inputs, 1).raw() > 0 {
             self.last = argument(inputs, 0);
         }
@@ -50,13 +50,7 @@ impl Stepper for Samphold {
 }
 
 impl Generator for Samphold {
-    ghost step = { samphold_step };
-
     ghost moving = { 2 };
-
-    fn tick(&mut self, inputs: &[Num]) -> Num {
-        self.step(inputs)
-    }
 
     fn render(&mut self, inputs: &[Operand], out: &mut [Num]) {
         step_by_step(self, inputs, out);

@@ -1,30 +1,48 @@
-// Steps one by one: for a unit whose block is no more than its steps.
-ghost use Rattle.std.specs.Prelude.{ℤ, List, ◌≡◌, ◌≤◌, ◌∷◌, [], length};
+// Steps one by one: where a block is no more than its steps.
+ghost use Rattle.std.specs.Prelude.{◌≡◌, ◌≤◌, ◌∷◌, [], length, take};
 ghost use Rattle.std.specs.List.{All};
 ghost use Rattle.cs_signal.specs.Operands.{Lasts, inputs_at, operand_at};
 ghost use Rattle.cs_signal.specs.Steps.{run};
 
 use crate::Operand;
+use crate::generator::Stepper;
 use cs_base::Num;
 
-/// A unit whose block is no more than its steps.
-pub(crate) trait Stepper: Copy {
-    /// One step on some inputs: the unit afterwards, and the result.
-    ghost stepped: { Self → List ℤ → Self × ℤ };
+/// How many moving arguments a unit has at most.
+const MOST_INPUTS: usize = 7;
 
-    /// One step; an argument that is missing is 0.
-    fn step(&mut self, inputs: &[Num]) -> Num
-        ensures { (self.new, result) ≡ stepped self.old inputs.now };
+/// A step for each frame of `out`, whatever the unit: for the cycles that it has no faster way through.
+pub(crate) fn frame_by_frame<S: Stepper>(unit: &mut S, inputs: &[Operand], out: &mut [Num])
+    requires { length inputs.now ≤ 7 }
+    ensures { (unit.new, out.new) ≡ run S.step (inputs_at inputs.now) unit.old 0 (length out.old) }
+{
+    for j in 0..out.len() {
+        let here = gathered(inputs, j);
+        out[j] = unit.tick(&here[..inputs.len()]);
+    }
+}
+
+// The inputs of a step at a frame, and what is behind them.
+fn gathered(inputs: &[Operand], frame: usize) -> [Num; MOST_INPUTS]
+    requires { length inputs.now ≤ 7 }
+    ensures first { take (length inputs.now) result ≡ inputs_at inputs.now frame }
+    ensures long { length result ≡ 7 }
+{
+    let mut here = [Num::exact(0); MOST_INPUTS];
+    for k in 0..inputs.len() {
+        here[k] = inputs[k].at(frame);
+    }
+    here
 }
 
 /// A step for each frame of `out`, by one to three moving arguments. Unit and operands are variables of the loop while
 /// it runs: what lies behind a reference would be read and written at each step.
 #[inline(always)]
-pub(crate) fn step_by_step<S: Stepper>(unit: &mut S, inputs: &[Operand], out: &mut [Num])
+pub(crate) fn step_by_step<S: Stepper + Copy>(unit: &mut S, inputs: &[Operand], out: &mut [Num])
     requires some { 1 ≤ length inputs.now }
     requires few { length inputs.now ≤ 3 }
     requires last { All (Lasts (length out.old)) inputs.now }
-    ensures { (unit.new, out.new) ≡ run S.stepped (inputs_at inputs.now) unit.old 0 (length out.old) }
+    ensures { (unit.new, out.new) ≡ run S.step (inputs_at inputs.now) unit.old 0 (length out.old) }
 {
     *unit = match inputs {
         [x] => by_one(*unit, x, out),
@@ -35,46 +53,52 @@ pub(crate) fn step_by_step<S: Stepper>(unit: &mut S, inputs: &[Operand], out: &m
 }
 
 #[inline(never)]
-fn by_one<S: Stepper>(start: S, x: &Operand, out: &mut [Num]) -> S
+fn by_one<S: Stepper + Copy>(start: S, x: &Operand, out: &mut [Num]) -> S
     requires { Lasts (length out.old) x.now }
-    ensures { (result, out.new) ≡ run S.stepped (λ j. operand_at x.now j ∷ []) start 0 (length out.old) }
+    ensures { (result, out.new) ≡ run S.step (λ j. operand_at x.now j ∷ []) start 0 (length out.old) }
 {
     let x = x.copied();
     let mut unit = start;
     for j in 0..out.len() {
-        out[j] = unit.step(&[x.value(j)]);
+        out[j] = unit.tick(&[x.value(j)]);
     }
     unit
 }
 
 #[inline(never)]
-fn by_two<S: Stepper>(start: S, x: &Operand, y: &Operand, out: &mut [Num]) -> S
+fn by_two<S: Stepper + Copy>(start: S, x: &Operand, y: &Operand, out: &mut [Num]) -> S
     requires x { Lasts (length out.old) x.now }
     requires y { Lasts (length out.old) y.now }
     ensures { (result, out.new)
-        ≡ run S.stepped (λ j. operand_at x.now j ∷ operand_at y.now j ∷ []) start 0 (length out.old) }
+        ≡ run S.step (λ j. operand_at x.now j ∷ operand_at y.now j ∷ []) start 0 (length out.old) }
 {
     let (x, y) = (x.copied(), y.copied());
     let mut unit = start;
     for j in 0..out.len() {
-        out[j] = unit.step(&[x.value(j), y.value(j)]);
+        out[j] = unit.tick(&[x.value(j), y.value(j)]);
     }
     unit
 }
 
 #[inline(never)]
-fn by_three<S: Stepper>(start: S, x: &Operand, y: &Operand, z: &Operand, out: &mut [Num]) -> S
+fn by_three<S: Stepper + Copy>(
+    start: S,
+    x: &Operand,
+    y: &Operand,
+    z: &Operand,
+    out: &mut [Num],
+) -> S
     requires x { Lasts (length out.old) x.now }
     requires y { Lasts (length out.old) y.now }
     requires z { Lasts (length out.old) z.now }
     ensures { (result, out.new)
-        ≡ run S.stepped (λ j. operand_at x.now j ∷ operand_at y.now j ∷ operand_at z.now j ∷ []) start 0
+        ≡ run S.step (λ j. operand_at x.now j ∷ operand_at y.now j ∷ operand_at z.now j ∷ []) start 0
         (length out.old) }
 {
     let (x, y, z) = (x.copied(), y.copied(), z.copied());
     let mut unit = start;
     for j in 0..out.len() {
-        out[j] = unit.step(&[x.value(j), y.value(j), z.value(j)]);
+        out[j] = unit.tick(&[x.value(j), y.value(j), z.value(j)]);
     }
     unit
 }

@@ -1,12 +1,10 @@
 -- How long a curve is.
-use Rattle.std.proofs.Common.{◌≡◌, ℕ, ◌+◌, ◌%◌, ◌≤◌, Bool, true, false, ◌||◌, ◌==◌, List, [], ◌∷◌, length, ℤ}
-use Rattle.std.proofs.Common.{pos, refl, ap, sym, arith, subst, nat_le, ◌&&◌, unsigned_abs, Some, None, if◌then◌else◌}
-use Rattle.std.specs.List.{list_any, list_all}
-use Rattle.std.specs.Ordering.{int_eq}
+use Rattle.std.proofs.Common.{◌≡◌, ℕ, ◌+◌, ◌%◌, ◌≤◌, Bool, true, false, ◌||◌, ◌==◌, List, [], ◌∷◌, length, ℤ, pos, refl}
+use Rattle.std.proofs.Common.{ap, sym, arith, subst, nat_le, ◌&&◌, unsigned_abs, Some, None, if◌then◌else◌}
+use Rattle.std.specs.{List.list_any, List.list_all, Ordering.int_eq}
 use Rattle.std.proofs.lemmas.Bool.Decides.{nat_tests, Decides-int_eq}
 use Rattle.cs_gen.specs.Faults.{lengths, is_size, is_gen, has_negative_length, table_fault}
-use Rattle.cs_gen.specs.Points.{len_of}
-use Rattle.cs_gen.specs.Tables.{IsMade, curve_of}
+use Rattle.cs_gen.specs.{Points.len_of, Tables.IsMade, Tables.curve_of}
 use Rattle.cs_gen.specs.declared.check.GenFault.TheVariants.{Size, Unknown, NegativeLength}
 use Rattle.cs_ugen.specs.Points.{curve_len, is_len, IsCurve}
 

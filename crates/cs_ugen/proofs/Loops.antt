@@ -1,8 +1,7 @@
 -- Steps of a block: their inputs were read one by one, or the frequency is held.
 use Rattle.std.proofs.Common.{◌≡◌, ℕ, ℤ, ◌+◌, ◌%◌, ◌<◌, ◌≤◌, List, ◌∷◌, length, set, refl, ap, sym, subst, ◌∙◌}
 use Rattle.cs_signal.proofs.Walks.{HasRun_none, HasRun_step, HasRun_end}
-use Rattle.cs_signal.specs.Steps.{run}
-use Rattle.cs_signal.specs.Walk.{HasRun}
+use Rattle.cs_signal.specs.{Steps.run, Walk.HasRun}
 use Rattle.cs_ugen.specs.Phases.{Turning, at_phase, increment, turn, turned, within_turn}
 
 pub step_at : {S : Type 0} (step : S → List ℤ → S × ℤ) (s : S) (x x' : ℤ) (points points' : List ℤ) (result : S × ℤ) →

@@ -1,22 +1,18 @@
 -- What turns at a frequency a step answers a formula of its phase and its last inputs.
 use Rattle.std.proofs.Common.{◌≡◌, ℤ, ℕ, List, [], ◌∷◌, ◌++◌, map, ap, sym, subst, ◌∙◌}
 use Rattle.cs_base.specs.declared.resource.Rate.{Rate}
-use Rattle.cs_signal.specs.Pace.{Pace}
-use Rattle.cs_signal.specs.Steps.{IsUnit}
-use Rattle.cs_signal.specs.History.{last_of}
-use Rattle.cs_ugen.specs.Inputs.{before_last}
-use Rattle.cs_ugen.specs.Oscil as oscil
+use Rattle.cs_signal.specs.{Pace.Pace, Steps.IsUnit, History.last_of}
+use Rattle.cs_ugen.specs.{Inputs.before_last, Phases.phase_of, Phases.Turning, Phases.HasTurned, Phases.turned}
 use Rattle.cs_ugen.specs.Oscil.{oscil_of, oscil_start, oscil_step, OscilStands}
-use Rattle.cs_ugen.specs.Oscili as oscili
 use Rattle.cs_ugen.specs.Oscili.{oscili_of, oscili_start, oscili_step, OsciliStands}
-use Rattle.cs_ugen.specs.Phases.{phase_of, Turning, HasTurned, turned}
-use Rattle.cs_ugen.specs.Phasor as phasor
 use Rattle.cs_ugen.specs.Phasor.{phasor_of, phasor_start, phasor_step, PhasorStands}
 use Rattle.cs_ugen.specs.Table.{table_of, table_start, table_step, TableStands, point_at_index}
 use Rattle.cs_ugen.specs.Tablei.{tablei_of, tablei_start, tablei_step, TableiStands, curve_at_index}
 use Rattle.cs_signal.proofs.Histories.{last_of-more}
-use Rattle.cs_ugen.proofs.Inputs.{before_last-more, map-more}
-use Rattle.cs_ugen.proofs.Phases.{HasTurned-none, HasTurned-more}
+use Rattle.cs_ugen.proofs.{Inputs.before_last-more, Inputs.map-more, Phases.HasTurned-none, Phases.HasTurned-more}
+use Rattle.cs_ugen.specs.Oscil as oscil
+use Rattle.cs_ugen.specs.Oscili as oscili
+use Rattle.cs_ugen.specs.Phasor as phasor
 
 -- a value by the phase and the last inputs
 by_phase : (value : ℕ → List ℤ → ℤ) (frequency : List ℤ → ℤ) (t : Turning) (rate : Rate) (pace : Pace) (start : ℤ)

@@ -3,8 +3,7 @@ use Rattle.std.proofs.Common.{◌≡◌, ℕ, ℤ, pos, negsuc, suc, ◌+◌, �
 use Rattle.std.proofs.Common.{map, refl, ap, sym, ◌∙◌, arith}
 use Rattle.std.proofs.Math.Nat.{mod-add-mod, add-mod-mod}
 use Rattle.std.proofs.lemmas.Int.{ints, int_rem_euclid_is}
-use Rattle.cs_base.specs.Numbers.{total}
-use Rattle.cs_base.specs.declared.resource.Rate.{Rate}
+use Rattle.cs_base.specs.{Numbers.total, declared.resource.Rate.Rate}
 use Rattle.cs_signal.specs.Pace.{Pace}
 use Rattle.cs_ugen.specs.Phases.{turn, within_turn, increment, phase_of, Turning, HasTurned, begun, turned}
 use Rattle.cs_ugen.proofs.Inputs.{map-more}

@@ -1,16 +1,11 @@
 -- The curve of points, by its places, and points that fit into 32 bits.
-use Rattle.std.proofs.Common.{◌≡◌, ℕ, ◌+◌, ◌-◌, ◌%◌, ◌<◌, ◌≤◌, ◌⊎◌, inl, inr, ⊎_elim, ◌==◌, true, false}
-use Rattle.std.proofs.Common.{if◌then◌else◌, List, [], ◌∷◌, ◌++◌, length, take, ℤ, pos, negsuc, ap, sym, ◌∙◌, subst}
-use Rattle.std.proofs.Common.{arith, length-append}
-use Rattle.std.proofs.lemmas.Bool.{cases_lt}
-use Rattle.std.proofs.lemmas.Bool.Decides.{nat_tests}
-use Rattle.std.proofs.lemmas.Int.{ints}
+use Rattle.std.proofs.Common.{◌≡◌, ℕ, ◌+◌, ◌-◌, ◌%◌, ◌<◌, ◌≤◌, ◌⊎◌, inl, inr, ⊎_elim, ◌==◌, true, false, if◌then◌else◌}
+use Rattle.std.proofs.Common.{List, [], ◌∷◌, ◌++◌, length, take, ℤ, pos, negsuc, ap, sym, ◌∙◌, subst, arith}
+use Rattle.std.proofs.{Common.length-append, Math.ListN.get_or-eq_default, Math.Seq.take-append_seam}
+use Rattle.std.proofs.lemmas.{Bool.cases_lt, Bool.Decides.nat_tests, Int.ints}
 use Rattle.std.proofs.lemmas.List.{length-take-le, take_all, take_more}
-use Rattle.std.proofs.Math.ListN.{get_or-eq_default}
-use Rattle.std.proofs.Math.Seq.{take-append_seam}
 use Rattle.cs_gen.proofs.Quotients.{on_line}
-use Rattle.cs_gen.specs.Points.{guard_place, len_of}
-use Rattle.cs_gen.specs.Tables.{curve_of}
+use Rattle.cs_gen.specs.{Points.guard_place, Points.len_of, Tables.curve_of}
 use Rattle.cs_signal.specs.Operands.{argument}
 use Rattle.cs_ugen.specs.Points.{AreShort, IsShort, between_points, curve_len, is_len}
 use Rattle.cs_ugen.proofs.Curves.{is_len-bounds}

@@ -2,15 +2,13 @@
 use Rattle.std.proofs.Common.{◌≡◌, ℕ, zero, suc, ◌+◌, ℤ, List, [], ◌∷◌, ◌++◌, refl, ap, sym, subst, ◌∙◌}
 use Rattle.cs_base.specs.declared.resource.Rate.{Rate}
 use Rattle.cs_words.specs.declared.catalogue.Opcode.{Opcode}
-use Rattle.cs_words.specs.declared.catalogue.Opcode.TheVariants as op
-use Rattle.cs_signal.proofs.Formulas as formulas
-use Rattle.cs_signal.specs.Pace.{Pace}
-use Rattle.cs_signal.specs.Steps.{IsUnit, run}
+use Rattle.cs_signal.specs.{Pace.Pace, Steps.IsUnit, Steps.run}
 use Rattle.cs_ugen.proofs.Oscillators.{oscil_is_unit, oscili_is_unit, phasor_is_unit, table_is_unit, tablei_is_unit}
 use Rattle.cs_ugen.specs.Units.{IsUnitOpcode, OfOpcode, Stands, StateStands, gen, of_opcode, of_unit, opcode_of}
 use Rattle.cs_ugen.specs.Units.{unit_start, unit_step, with_state}
-use Rattle.cs_ugen.specs.inner.Runs.{run_of, state_run}
-use Rattle.cs_ugen.specs.declared.unit.UnitState.{UnitState}
+use Rattle.cs_ugen.specs.{inner.Runs.run_of, inner.Runs.state_run, declared.unit.UnitState.UnitState}
+use Rattle.cs_words.specs.declared.catalogue.Opcode.TheVariants as op
+use Rattle.cs_signal.proofs.Formulas as formulas
 use Rattle.cs_ugen.specs.declared.unit.UnitState.TheVariants as unit
 
 abbrev HasLaw : OfOpcode → Type 0

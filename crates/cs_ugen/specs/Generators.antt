@@ -1,9 +1,8 @@
 -- The units as what opcodes with a state give in a piece.
 use Rattle.cs_words.specs.Generators.{Generators}
-use Rattle.cs_signal.specs.Delay.{delay_length}
-use Rattle.cs_signal.specs.Pace.{Pace}
-pub use Rattle.cs_signal.specs.Pace.{pace_of}
+use Rattle.cs_signal.specs.{Delay.delay_length, Pace.Pace}
 use Rattle.cs_ugen.specs.Units.{gen}
+pub use Rattle.cs_signal.specs.Pace.{pace_of}
 
 -- what opcodes give at this pace, by their formulas
 abbrev pub the_generators : Pace → Generators

@@ -1,13 +1,9 @@
 -- oscil: xamp, xcps, ifn [, iphs] reads a table as a wave, each point held until the next.
 use Rattle.std.specs.Prelude.{ℕ, ◌*◌, ◌/◌, List, drop, map, ℤ}
-use Rattle.cs_base.specs.Numbers.{product_of}
-use Rattle.cs_base.specs.declared.resource.Rate.{Rate}
-use Rattle.cs_signal.specs.Operands.{argument}
-use Rattle.cs_signal.specs.Pace.{Pace}
-use Rattle.cs_signal.specs.History.{last_of}
-use Rattle.cs_ugen.specs.Inputs.{before_last}
+use Rattle.cs_base.specs.{Numbers.product_of, declared.resource.Rate.Rate}
+use Rattle.cs_signal.specs.{Operands.argument, Pace.Pace, History.last_of}
+use Rattle.cs_ugen.specs.{Inputs.before_last, Points.curve_len}
 use Rattle.cs_ugen.specs.Phases.{Turning, HasTurned, begun, turn, turned, phase_of}
-use Rattle.cs_ugen.specs.Points.{curve_len}
 
 -- the arguments of a step: amplitude, frequency, and the points of the table
 abbrev pub amplitude : List ℤ → ℤ

@@ -1,12 +1,10 @@
 -- oscili: xamp, xcps, ifn [, iphs] reads a table as a wave, with straight lines between its points.
 use Rattle.std.specs.Prelude.{ℕ, ◌*◌, ◌/◌, ◌%◌, List, map, ℤ}
 use Rattle.cs_base.specs.declared.resource.Rate.{Rate}
-use Rattle.cs_signal.specs.Pace.{Pace}
-use Rattle.cs_signal.specs.History.{last_of}
-use Rattle.cs_ugen.specs.Inputs.{before_last}
+use Rattle.cs_signal.specs.{Pace.Pace, History.last_of}
+use Rattle.cs_ugen.specs.{Inputs.before_last, Points.curve_len, Points.between_points}
 use Rattle.cs_ugen.specs.Oscil.{frequency, place_at, start, wave_by, wave_step}
 use Rattle.cs_ugen.specs.Phases.{Turning, HasTurned, begun, turn, phase_of}
-use Rattle.cs_ugen.specs.Points.{curve_len, between_points}
 
 -- how far a phase lies behind its place, in 65,536ths of the way to the next
 abbrev pub fraction_at : List ℤ → ℕ → ℕ

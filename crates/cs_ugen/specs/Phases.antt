@@ -1,10 +1,9 @@
 -- A phase is a part of a turn of 2^24. It depends on the frequencies of all steps so far.
 use Rattle.std.specs.Prelude.{◌≡◌, ℕ, ◌+◌, ◌*◌, ◌%◌, List, map, ℤ, pos, ◌+ℤ◌, ◌*ℤ◌, unsigned_abs}
 use Rattle.std.specs.Int.{int_rem_euclid}
-use Rattle.cs_base.specs.Numbers.{floor_div, total}
-use Rattle.cs_base.specs.declared.resource.Rate.{Rate}
-use Rattle.cs_base.specs.declared.resource.Rate.TheVariants as rate
+use Rattle.cs_base.specs.{Numbers.floor_div, Numbers.total, declared.resource.Rate.Rate}
 use Rattle.cs_signal.specs.Pace.{Pace}
+use Rattle.cs_base.specs.declared.resource.Rate.TheVariants as rate
 
 -- the parts of a turn: 2^24
 abbrev pub turn : ℕ

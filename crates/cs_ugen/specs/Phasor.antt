@@ -1,8 +1,7 @@
 -- phasor: xcps [, iphs] gives a ramp from 0 to 1, once a turn.
 use Rattle.std.specs.Prelude.{ℕ, ◌/◌, List, map, ℤ, pos}
 use Rattle.cs_base.specs.declared.resource.Rate.{Rate}
-use Rattle.cs_signal.specs.Operands.{argument}
-use Rattle.cs_signal.specs.Pace.{Pace}
+use Rattle.cs_signal.specs.{Operands.argument, Pace.Pace}
 use Rattle.cs_ugen.specs.Inputs.{before_last}
 use Rattle.cs_ugen.specs.Phases.{Turning, HasTurned, begun, turned, phase_of}
 

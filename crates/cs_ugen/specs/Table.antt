@@ -2,9 +2,7 @@
 use Rattle.std.specs.Prelude.{ℕ, List, drop, ℤ}
 use Rattle.cs_base.specs.declared.resource.Rate.{Rate}
 use Rattle.cs_gen.specs.Places.{place_of_index}
-use Rattle.cs_signal.specs.Operands.{argument}
-use Rattle.cs_signal.specs.Pace.{Pace}
-use Rattle.cs_signal.specs.History.{last_of}
+use Rattle.cs_signal.specs.{Operands.argument, Pace.Pace, History.last_of}
 use Rattle.cs_ugen.specs.Points.{curve_len}
 
 -- the arguments of a step: the index, and the points of the table

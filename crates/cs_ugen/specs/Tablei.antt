@@ -3,10 +3,8 @@
 use Rattle.std.specs.Prelude.{ℕ, ◌-◌, ◌*◌, ◌/◌, ◌%◌, List, ℤ}
 use Rattle.cs_base.specs.declared.resource.Rate.{Rate}
 use Rattle.cs_gen.specs.Places.{from_zero_to}
-use Rattle.cs_signal.specs.Pace.{Pace}
-use Rattle.cs_signal.specs.History.{last_of}
-use Rattle.cs_ugen.specs.Points.{curve_len, between_points}
-use Rattle.cs_ugen.specs.Table.{index, index_step, points}
+use Rattle.cs_signal.specs.{Pace.Pace, History.last_of}
+use Rattle.cs_ugen.specs.{Points.curve_len, Points.between_points, Table.index, Table.index_step, Table.points}
 
 -- an index brought into 0 .. len * 65536 - 1, in 65,536ths of a place
 abbrev pub index_of : List ℤ → ℤ → ℕ

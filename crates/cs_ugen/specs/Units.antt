@@ -3,18 +3,17 @@ use Rattle.std.specs.Prelude.{◌≡◌, ℕ, Bool, true, false, List, length, �
 use Rattle.cs_base.specs.declared.resource.Rate.{Rate}
 use Rattle.cs_words.specs.Catalogue.{row_of, moving_letters, takes_table}
 use Rattle.cs_words.specs.declared.catalogue.Opcode.{Opcode}
+use Rattle.cs_signal.specs.{Pace.Pace, Plain.plain_of, Plain.plain_start, Plain.plain_step, Plain.PlainStands}
+use Rattle.cs_ugen.specs.declared.unit.UnitState.{UnitState}
 use Rattle.cs_words.specs.declared.catalogue.Opcode.TheVariants as op
 use Rattle.cs_words.specs.declared.catalogue.Shape.TheVariants as shape
 use Rattle.cs_signal.specs as signal
 pub use Rattle.cs_signal.specs.Operands.{inputs_at}
-use Rattle.cs_signal.specs.Pace.{Pace}
-use Rattle.cs_signal.specs.Plain.{plain_of, plain_start, plain_step, PlainStands}
 use Rattle.cs_ugen.specs.Oscil
 use Rattle.cs_ugen.specs.Oscili
 use Rattle.cs_ugen.specs.Phasor
 use Rattle.cs_ugen.specs.Table
 use Rattle.cs_ugen.specs.Tablei
-use Rattle.cs_ugen.specs.declared.unit.UnitState.{UnitState}
 use Rattle.cs_ugen.specs.declared.unit.UnitState.TheVariants as unit
 
 -- an opcode that computes its result from its arguments and its own state

@@ -118,61 +118,39 @@ fn play<R: Reading, C: Curve>(
     ensures kept { C.kept curve.old curve.new }
 {
     match (amp, cps) {
-        (Operand::Held(amp), Operand::Held(cps)) => {
+        (Operand::Held(value), Operand::Held(cps)) => {
             // Both arms are the same text: in the first the compiler knows that the amplitude fits into 32 bits.
-            if is_short(*amp) {
-                held::<R, C>(unit, *amp, *cps, curve, out);
+            if is_short(*value) {
+                held::<R, C>(unit, amp, *cps, curve, out);
             } else {
-                held::<R, C>(unit, *amp, *cps, curve, out);
+                held::<R, C>(unit, amp, *cps, curve, out);
             }
         }
-        (Operand::Row(amp), Operand::Held(cps)) => shaped::<R, C>(unit, amp, *cps, curve, out),
+        (Operand::Row(_), Operand::Held(cps)) => held::<R, C>(unit, amp, *cps, curve, out),
         (_, Operand::Row(cps)) => along::<R, C>(unit, amp, cps, curve, out),
     }
 }
 
-// Amplitude and frequency are held.
+// The frequency is held.
 #[inline(always)]
 fn held<R: Reading, C: Curve>(
     unit: &mut Oscillator,
-    amp: Num,
+    amp: &Operand,
     cps: Num,
     curve: &mut C,
     out: &mut [Num],
 )
-    ensures value { (unit.new, out.new)
-        ≡ run (wave_step R.on_turn) (λ j. amp ∷ cps ∷ C.points curve.old) unit.old 0 (length out.old) }
-    ensures same { C.points curve.new ≡ C.points curve.old }
-    ensures kept { C.kept curve.old curve.new }
-{
-    let parts = unit.phase.hold(cps);
-    let mut phase = unit.phase.get();
-    for j in 0..out.len() {
-        out[j] = wave::<R, C>(amp, curve, phase);
-        phase = moved(phase, parts);
-    }
-    unit.phase.set(phase);
-}
-
-// The frequency is held, and the amplitude changes from frame to frame.
-#[inline(always)]
-fn shaped<R: Reading, C: Curve>(
-    unit: &mut Oscillator,
-    amp: &[Num],
-    cps: Num,
-    curve: &mut C,
-    out: &mut [Num],
-)
-    requires { length amp.now ≡ length out.old }
+    requires { Lasts (length out.old) amp.now }
     ensures value { (unit.new, out.new) ≡ run (wave_step R.on_turn)
-        (λ j. argument amp.now j ∷ cps ∷ C.points curve.old) unit.old 0 (length out.old) }
+        (λ j. operand_at amp.now j ∷ cps ∷ C.points curve.old) unit.old 0 (length out.old) }
     ensures same { C.points curve.new ≡ C.points curve.old }
     ensures kept { C.kept curve.old curve.new }
 {
+    let amp = amp.copied();
     let parts = unit.phase.hold(cps);
     let mut phase = unit.phase.get();
     for j in 0..out.len() {
-        out[j] = wave::<R, C>(amp[j], curve, phase);
+        out[j] = wave::<R, C>(amp.value(j), curve, phase);
         phase = moved(phase, parts);
     }
     unit.phase.set(phase);

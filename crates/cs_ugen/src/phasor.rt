@@ -10,7 +10,7 @@ ghost use Rattle.cs_signal.specs.Steps.{run};
 use crate::angle::{Angle, moved};
 use crate::phase::Phase;
 use cs_base::{Head, Num, Rate};
-use cs_signal::{Generator, Operand, argument};
+use cs_signal::{Generator, Operand, Stepper, argument};
 use std::marker::Model;
 
 /// A `phasor` of a note.
@@ -37,13 +37,6 @@ impl Phasor {
         }
     }
 
-    // One step at this frequency.
-    fn step(&mut self, cps: Num) -> Num
-        ensures { (self.new, result) ≡ phasor_step self.old (cps ∷ []) }
-    {
-        ramp(self.phase.turn(cps))
-    }
-
     // A step for each frame of `out`.
     fn block(&mut self, cps: &Operand, out: &mut [Num])
         requires { Lasts (length out.old) cps.now }
@@ -57,14 +50,17 @@ impl Phasor {
     }
 }
 
-impl Generator for Phasor {
+impl Stepper for Phasor {
     ghost step = { phasor_step };
 
-    ghost moving = { 1 };
-
+    // One step at this frequency.
     fn tick(&mut self, inputs: &[Num]) -> Num {
-        self.step(argument(inputs, 0))
+        ramp(self.phase.turn(argument(inputs, 0)))
     }
+}
+
+impl Generator for Phasor {
+    ghost moving = { 1 };
 
     fn render(&mut self, inputs: &[Operand], out: &mut [Num]) {
         match inputs {

@@ -14,7 +14,7 @@ use crate::reading::{Interpolating, Truncating};
 use crate::table::TableReader;
 use crate::{Curve, Phasor};
 use cs_base::{Head, Num, OutOfMemory, Rate};
-use cs_signal::{Generator, Operand};
+use cs_signal::{Generator, Operand, Stepper};
 use cs_words::Opcode;
 use std::alloc::Global;
 use std::marker::Model;

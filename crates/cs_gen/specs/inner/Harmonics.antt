@@ -1,10 +1,8 @@
 -- GEN10 by its parts: one harmonic after the other is added to all points.
 use Rattle.std.specs.Prelude.{ℕ, ◌≡◌, ◌+◌, ◌-◌, ◌*◌, ◌/◌, ◌^◌, ◌<◌, ◌≤◌, List, length, map, ℤ, ◌+ℤ◌, ◌*ℤ◌, unsigned_abs}
-use Rattle.std.specs.Prelude.{slice_index_or}
-use Rattle.std.specs.List.{All, range_with_len}
+use Rattle.std.specs.{Prelude.slice_index_or, List.All, List.range_with_len}
 use Rattle.cs_base.specs.Numbers.{floor_div, total}
-use Rattle.cs_gen.specs.Faults.{argument}
-use Rattle.cs_gen.specs.Points.{full_scale, sine, wave}
+use Rattle.cs_gen.specs.{Faults.argument, Points.full_scale, Points.sine, Points.wave}
 
 -- the heights of the wave at `len` places of its turn, none beyond its crest
 pub record AreHeights (len : ℕ) (heights : List ℤ) : Type 0 where

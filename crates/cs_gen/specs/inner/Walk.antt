@@ -1,7 +1,6 @@
 -- A walk along GEN07's segments, from place to place.
 use Rattle.std.specs.Prelude.{ℕ, ◌≡◌, ◌+◌, ◌<◌, ◌≤◌, List, ℤ}
-use Rattle.cs_gen.specs.Faults.{segments_of}
-use Rattle.cs_gen.specs.Points.{begin_of}
+use Rattle.cs_gen.specs.{Faults.segments_of, Points.begin_of}
 
 -- the walk has come to segment k, which begins at place `begin`: all segments before it end at or before place j
 pub record HasPassed (args : List ℤ) (j k begin : ℕ) : Type 0 where

@@ -1,8 +1,7 @@
 -- The part of a linen between its rise and its decay, where both factors are one.
 use Rattle.std.specs.Prelude.{ℕ, ◌≡◌, ◌⊎◌, ◌+◌, ◌≤◌, ◌<◌, List, length, map, take, ℤ}
 use Rattle.std.specs.List.{range_with_len}
-use Rattle.cs_signal.specs.Linen.{LinenState}
-use Rattle.cs_signal.specs.Pace.{last_number}
+use Rattle.cs_signal.specs.{Linen.LinenState, Pace.last_number}
 
 -- the n steps to come lie after the rise and before the decay
 pub record IsLevel (s : LinenState) (n : ℕ) : Type 0 where

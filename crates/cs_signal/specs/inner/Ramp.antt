@@ -1,7 +1,6 @@
 -- A straight line, step by step without a division.
 use Rattle.std.specs.Prelude.{List, length, map, take, unsigned_abs, ◌^◌, ◌*◌, ℕ, ◌≡◌, ◌⊎◌, ◌+◌, ◌-◌, ◌<◌, ◌≤◌, ℤ, pos}
-use Rattle.std.specs.Prelude.{◌+ℤ◌, ◌-ℤ◌, ◌*ℤ◌}
-use Rattle.std.specs.List.{range_with_len}
+use Rattle.std.specs.{Prelude.◌+ℤ◌, Prelude.◌-ℤ◌, Prelude.◌*ℤ◌, List.range_with_len}
 use Rattle.cs_base.specs.Numbers.{clamp}
 use Rattle.cs_signal.specs.Line.{part_way}
 

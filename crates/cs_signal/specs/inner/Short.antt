@@ -1,7 +1,6 @@
 -- What products and sums of 64 bits need: small coefficients and short signals.
 use Rattle.std.specs.Prelude.{◌≤◌, ◌^◌, ℤ, unsigned_abs}
-use Rattle.cs_signal.specs.Biquad.{BiquadState}
-use Rattle.cs_signal.specs.declared.biquad.Coefficients.{Coefficients}
+use Rattle.cs_signal.specs.{Biquad.BiquadState, declared.biquad.Coefficients.Coefficients}
 
 -- a coefficient of at most 2,048
 abbrev pub IsSmall : ℤ → Type 0
@@ -12,7 +11,7 @@ abbrev pub IsShort : ℤ → Type 0
 IsShort x = unsigned_abs x ≤ 2 ^ 31
 
 -- all factors of signals are small
-pub record AreSmall (by : Coefficients ℤ) : Type 0 where
+pub record AreSmall (by : Coefficients) : Type 0 where
   pub b0 : IsSmall by.b0
   pub b1 : IsSmall by.b1
   pub b2 : IsSmall by.b2

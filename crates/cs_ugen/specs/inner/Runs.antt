@@ -1,8 +1,7 @@
 -- Runs of the state within a unit.
 use Rattle.std.specs.Prelude.{ℕ, List, ℤ}
 use Rattle.cs_signal.specs.Steps.{run}
-use Rattle.cs_ugen.specs.Units.{OfUnit, of_opcode, of_unit}
-use Rattle.cs_ugen.specs.declared.unit.UnitState.{UnitState}
+use Rattle.cs_ugen.specs.{Units.OfUnit, Units.of_opcode, Units.of_unit, declared.unit.UnitState.UnitState}
 use Rattle.cs_ugen.specs.declared.unit.UnitState.TheVariants as unit
 
 -- n steps of a state, where `at` gives the inputs of a step: the unit of the state afterwards, and the results

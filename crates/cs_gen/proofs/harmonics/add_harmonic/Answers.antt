@@ -1,11 +1,9 @@
-use Rattle.std.proofs.Common.{◌≡◌, ◌∙◌, ◌≤◌, ◌<◌, ◌^◌, ◌*◌, ◌/◌, ℤ, pos, ◌+ℤ◌, ap, arith, get_or, length, of_z, refl, rules, subst, sym}
-use Rattle.std.proofs.Common.{to_z, unsigned_abs, w64}
+use Rattle.std.proofs.Common.{◌≡◌, ◌∙◌, ◌≤◌, ◌<◌, ◌^◌, ◌*◌, ◌/◌, ℤ, pos, ◌+ℤ◌, ap, arith, get_or, length, of_z, refl}
+use Rattle.std.proofs.Common.{rules, subst, sym, to_z, unsigned_abs, w64}
 use Rattle.std.specs.Int.{w128}
-use Rattle.std.proofs.lemmas.Int.{to_z-of_z}
-use Rattle.std.proofs.lemmas.List.{get_or_default}
+use Rattle.std.proofs.lemmas.{Int.to_z-of_z, List.get_or_default}
 use Rattle.cs_gen.proofs.HarmonicSums.{harmonic_is, height_fits, raised-more, sum_fits}
-use Rattle.cs_gen.specs.Points.{wave}
-use Rattle.cs_gen.specs.inner.Harmonics.{harmonic}
+use Rattle.cs_gen.specs.{Points.wave, inner.Harmonics.harmonic}
 use Rattle.cs_gen.proofs.harmonics.add_harmonic.Goals as goal
 
 pub loop-sum-preserved : goal.loop-sum-preserved

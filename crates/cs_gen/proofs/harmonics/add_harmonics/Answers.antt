@@ -1,10 +1,9 @@
 use Rattle.std.proofs.Common.{◌+◌, ◌∙◌, ap, arith, length, pos, refl, rules, subst, sym, to_z, w64}
-use Rattle.std.proofs.lemmas.Int.{to_z-of_z}
-use Rattle.std.proofs.lemmas.List.{get_or_default}
+use Rattle.std.proofs.lemmas.{Int.to_z-of_z, List.get_or_default}
 use Rattle.cs_gen.specs.inner.Harmonics.{AreSums}
 use Rattle.cs_gen.proofs.HarmonicSums.{sums-more, sums-none, sums-room, sums-weak}
-use Rattle.cs_gen.proofs.harmonics.add_harmonics.Goals as goal
 use Rattle.cs_gen.proofs.harmonics.add_harmonics.Goals.{then-raw-ne0, else-raw-ne0}
+use Rattle.cs_gen.proofs.harmonics.add_harmonics.Goals as goal
 
 pub loop-k-init : goal.loop-k-init
 loop-k-init c =

@@ -1,6 +1,5 @@
 use Rattle.std.proofs.Common.{set, ap, ◌∙◌, arith, unsigned_abs}
-use Rattle.std.proofs.lemmas.List.Edits.{map_over_more}
-use Rattle.std.proofs.lemmas.List.{get_or_default}
+use Rattle.std.proofs.lemmas.{List.Edits.map_over_more, List.get_or_default}
 use Rattle.cs_gen.specs.Points.{normalised}
 use Rattle.cs_gen.proofs.Normals.{at_most_greatest, still}
 use Rattle.cs_gen.proofs.normal.normalise.Goals as goal

@@ -1,6 +1,5 @@
 use Rattle.std.proofs.Common.{◌-◌}
-use Rattle.cs_gen.specs.Faults.{segments_of}
-use Rattle.cs_gen.specs.inner.Walk.{HasPassed}
+use Rattle.cs_gen.specs.{Faults.segments_of, inner.Walk.HasPassed}
 use Rattle.cs_gen.proofs.segments.reached.Given as goal
 
 abbrev pub invariant-loop-walk : goal.invariant-loop-walk

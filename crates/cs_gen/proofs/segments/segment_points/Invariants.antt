@@ -1,7 +1,6 @@
 use Rattle.std.proofs.Common.{◌≡◌, map}
 use Rattle.std.specs.List.{range_with_len}
-use Rattle.cs_gen.specs.Points.{segments}
-use Rattle.cs_gen.specs.inner.Walk.{HasPassed}
+use Rattle.cs_gen.specs.{Points.segments, inner.Walk.HasPassed}
 use Rattle.cs_gen.proofs.segments.segment_points.Given as goal
 
 abbrev pub invariant-loop-j : goal.invariant-loop-j

@@ -1,10 +1,7 @@
 use Rattle.std.proofs.Common.{◌+◌, ◌++◌, ◌∷◌, [], length, refl, ap, ◌∙◌, arith}
 use Rattle.std.proofs.lemmas.List.{length-append}
-use Rattle.cs_signal.specs.Operands.{operand_at}
-use Rattle.cs_signal.specs.Delay.{delay_step}
-use Rattle.cs_signal.specs.inner.Ring.{line_in}
-use Rattle.cs_signal.proofs.Rings.{fills}
-use Rattle.cs_signal.proofs.Walks.{HasRun_none, HasRun_step}
+use Rattle.cs_signal.specs.{Operands.operand_at, Delay.delay_step, inner.Ring.line_in}
+use Rattle.cs_signal.proofs.{Rings.fills, Walks.HasRun_none, Walks.HasRun_step}
 use Rattle.cs_signal.proofs.delay.fill.Goals as goal
 
 pub loop-j-init : goal.loop-j-init

@@ -1,8 +1,5 @@
 use Rattle.std.proofs.Common.{◌≡◌, ◌+◌, ◌≤◌, ◌∷◌, [], length, vec_capacity}
-use Rattle.cs_signal.specs.Operands.{operand_at}
-use Rattle.cs_signal.specs.Delay.{delay_step}
-use Rattle.cs_signal.specs.Walk.{HasRun}
-use Rattle.cs_signal.specs.inner.Ring.{line_in}
+use Rattle.cs_signal.specs.{Operands.operand_at, Delay.delay_step, Walk.HasRun, inner.Ring.line_in}
 use Rattle.cs_signal.proofs.delay.fill.Given as goal
 
 abbrev pub invariant-loop-j : goal.invariant-loop-j

@@ -1,8 +1,5 @@
 use Rattle.std.proofs.Common.{◌≡◌, ◌∷◌, [], List, ℕ, ℤ, length, inl, refl, ap, sym, ◌∙◌, subst, arith}
-use Rattle.cs_signal.specs.Delay.{delay_step}
-use Rattle.cs_signal.specs.Operands.{operand_at}
-use Rattle.cs_signal.specs.Steps.{run}
-use Rattle.cs_signal.specs.Walk.{HasRun}
+use Rattle.cs_signal.specs.{Delay.delay_step, Operands.operand_at, Steps.run, Walk.HasRun}
 use Rattle.cs_signal.specs.inner.Ring.{in_order, line_in}
 use Rattle.cs_signal.proofs.Rings.{goes_round, written}
 use Rattle.cs_signal.proofs.delay.filled_on.Goals as goal

@@ -1,12 +1,9 @@
 use Rattle.std.proofs.Common.{◌≡◌, ◌<◌, ◌≤◌, ◌+◌, ◌∷◌, [], ℕ, length, map, take, drop, refl, sym, ap, ◌∙◌, subst, arith}
 use Rattle.std.proofs.Common.{length-drop}
 use Rattle.std.specs.List.{range_with_len}
-use Rattle.std.proofs.lemmas.List.{length-take-le}
-use Rattle.std.proofs.lemmas.List.FromFn.{length-map-range_with_len}
-use Rattle.cs_signal.specs.Operands.{operand_at}
-use Rattle.cs_signal.specs.Delay.{delay_step}
+use Rattle.std.proofs.lemmas.{List.length-take-le, List.FromFn.length-map-range_with_len}
+use Rattle.cs_signal.specs.{Operands.operand_at, Delay.delay_step, Walk.HasRun}
 use Rattle.cs_signal.specs.inner.Ring.{IsWrapped, in_order}
-use Rattle.cs_signal.specs.Walk.{HasRun}
 use Rattle.cs_signal.proofs.Rings.{inside_ring, passed, spliced, wraps}
 use Rattle.cs_signal.proofs.Walks.{HasRun_end, HasRun_many}
 use Rattle.cs_signal.proofs.delay.turned.Goals as goal

@@ -1,8 +1,5 @@
 use Rattle.std.proofs.Common.{◌≡◌, ◌<◌, ◌-◌, ◌∷◌, [], List, ℤ, length}
-use Rattle.cs_signal.specs.Operands.{operand_at}
-use Rattle.cs_signal.specs.Delay.{delay_step}
-use Rattle.cs_signal.specs.Walk.{HasRun}
-use Rattle.cs_signal.specs.inner.Ring.{in_order}
+use Rattle.cs_signal.specs.{Operands.operand_at, Delay.delay_step, Walk.HasRun, inner.Ring.in_order}
 use Rattle.cs_signal.proofs.delay.turned.Given as goal
 
 abbrev pub invariant-loop-frame : goal.invariant-loop-frame

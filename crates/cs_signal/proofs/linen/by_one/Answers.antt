@@ -1,8 +1,7 @@
 use Rattle.std.proofs.Common.{◌∙◌, sym, subst}
 use Rattle.cs_base.specs.Numbers.{IsRaw}
 use Rattle.cs_base.proofs.Arithmetic.{clamp_same}
-use Rattle.cs_signal.proofs.Slopes.{by_one}
-use Rattle.cs_signal.proofs.Ways.{same_bits}
+use Rattle.cs_signal.proofs.{Slopes.by_one, Ways.same_bits}
 use Rattle.cs_signal.proofs.linen.by_one.Goals as goal
 
 pub returns : goal.returns

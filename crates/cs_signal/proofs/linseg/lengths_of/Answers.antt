@@ -1,8 +1,7 @@
 use Rattle.std.proofs.Common.{ℕ, ◌*◌, ◌+◌, arith}
 use Rattle.std.proofs.lemmas.List.FromFn.{map-range_with_len_more}
 use Rattle.cs_base.specs.Heads.{header_of_head}
-use Rattle.cs_signal.specs.Operands.{argument}
-use Rattle.cs_signal.specs.Pace.{pace_of, steps_of}
+use Rattle.cs_signal.specs.{Operands.argument, Pace.pace_of, Pace.steps_of}
 use Rattle.cs_signal.proofs.linseg.lengths_of.Goals as goal
 
 pub loop-k-preserved : goal.loop-k-preserved

@@ -1,8 +1,7 @@
 use Rattle.std.proofs.Common.{◌≡◌, ◌+◌, ◌*◌, ℕ, map}
 use Rattle.std.specs.List.{range_with_len}
 use Rattle.cs_base.specs.Heads.{header_of_head}
-use Rattle.cs_signal.specs.Operands.{argument}
-use Rattle.cs_signal.specs.Pace.{pace_of, steps_of}
+use Rattle.cs_signal.specs.{Operands.argument, Pace.pace_of, Pace.steps_of}
 use Rattle.cs_signal.proofs.linseg.lengths_of.Given as goal
 
 abbrev pub invariant-loop-k : goal.invariant-loop-k

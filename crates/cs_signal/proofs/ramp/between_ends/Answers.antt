@@ -1,13 +1,10 @@
-use Rattle.std.proofs.Common.{ℤ, ◌≡◌, ◌+◌, ◌*◌, ◌+ℤ◌, ◌-ℤ◌, ◌*ℤ◌, pos, length, refl, ap, ◌∙◌, subst, sym}
-use Rattle.std.proofs.Common.{arith}
+use Rattle.std.proofs.Common.{ℤ, ◌≡◌, ◌+◌, ◌*◌, ◌+ℤ◌, ◌-ℤ◌, ◌*ℤ◌, pos, length, refl, ap, ◌∙◌, subst, sym, arith}
 use Rattle.std.proofs.lemmas.Int.{ints}
 use Rattle.cs_base.specs.Numbers.{IsRaw, clamp}
 use Rattle.cs_base.proofs.Arithmetic.{clamp_same}
-use Rattle.cs_signal.specs.inner.Ramp.{IsParted}
-use Rattle.cs_signal.specs.Line.{part_way}
-use Rattle.cs_signal.proofs.Ramps.{floor_is}
+use Rattle.cs_signal.specs.{inner.Ramp.IsParted, Line.part_way}
+use Rattle.cs_signal.proofs.{Ramps.floor_is, Ways.on_way, Ways.parts_of_value}
 use Rattle.cs_signal.proofs.Rises.{HasRisen_none, HasRisen_more, HasRisen_all, steps_told}
-use Rattle.cs_signal.proofs.Ways.{on_way, parts_of_value}
 use Rattle.cs_signal.proofs.ramp.between_ends.Goals as goal
 
 pub risen-requires-clause-range : goal.risen-requires-clause-range

@@ -1,11 +1,10 @@
 use Rattle.std.proofs.Common.{◌∷◌, [], length, refl, ap, sym, ◌∙◌, subst}
 use Rattle.cs_signal.specs.Operands.{Reaches, operand_at}
-use Rattle.cs_signal.proofs.Operands.{reaches}
-use Rattle.cs_signal.proofs.Walks.{HasRun_none, HasRun_step, HasRun_end}
+use Rattle.cs_signal.proofs.{Operands.reaches, Walks.HasRun_none, Walks.HasRun_step, Walks.HasRun_end}
 use Rattle.cs_signal.proofs.stepwise.by_one.Goals as goal
 
 pub loop-j-init : goal.loop-j-init
-loop-j-init g c = HasRun_none g.S.Stepper.stepped (λ j. operand_at c.args.x.now j ∷ []) c.args.start
+loop-j-init g c = HasRun_none g.S.Stepper.step (λ j. operand_at c.args.x.now j ∷ []) c.args.start
     (length c.args.out.now) c.args.out.now refl
 
 pub value-requires : goal.value-requires
@@ -14,14 +13,14 @@ value-requires g c = subst (Reaches c.loop-j.j) (sym c.copied-x.ensures)
 
 pub loop-j-preserved : goal.loop-j-preserved
 loop-j-preserved g c =
-    HasRun_step g.S.Stepper.stepped (λ j. operand_at c.args.x.now j ∷ []) c.args.start
-    (length c.args.out.now) c.loop-j.j c.loop-j.unit c.step.new.self c.loop-j.out c.step.result
+    HasRun_step g.S.Stepper.step (λ j. operand_at c.args.x.now j ∷ []) c.args.start
+    (length c.args.out.now) c.loop-j.j c.loop-j.unit c.tick.new.self c.loop-j.out c.tick.result
     c.loop-j.invariant c.loop-j-test.true
-    (c.step.ensures
-    ∙ ap (λ z. g.S.Stepper.stepped c.loop-j.unit (z ∷ []))
+    (c.tick.ensures
+    ∙ ap (λ z. g.S.Stepper.step c.loop-j.unit (z ∷ []))
     (c.value.ensures ∙ ap (λ o. operand_at o c.loop-j.j) c.copied-x.ensures))
 
 pub returns : goal.returns
 returns g c =
-    HasRun_end g.S.Stepper.stepped (λ j. operand_at c.args.x.now j ∷ []) c.args.start
+    HasRun_end g.S.Stepper.step (λ j. operand_at c.args.x.now j ∷ []) c.args.start
     (length c.args.out.now) c.loop-j.j c.loop-j.unit c.loop-j.out c.loop-j.invariant c.loop-j-test.false

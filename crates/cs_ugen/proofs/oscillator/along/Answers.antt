@@ -1,9 +1,7 @@
 use Rattle.std.proofs.Common.{ℕ, ◌≡◌, ◌∷◌, length, refl, ap, sym, subst, ◌∙◌, arith}
-use Rattle.cs_ugen.specs.Phases.{at_phase, increment, within_turn}
+use Rattle.cs_ugen.specs.{Phases.at_phase, Phases.increment, Phases.within_turn, Oscil.wave_by, Oscil.wave_step}
 use Rattle.cs_base.specs.Numbers.{product_of}
-use Rattle.cs_ugen.specs.Oscil.{wave_by, wave_step}
-use Rattle.cs_signal.proofs.Operands.{reaches}
-use Rattle.cs_signal.proofs.Walks.{read}
+use Rattle.cs_signal.proofs.{Operands.reaches, Walks.read}
 use Rattle.cs_signal.specs.Operands.{Reaches, argument, operand_at}
 use Rattle.cs_ugen.proofs.Loops.{held_none, held_more, held_end}
 use Rattle.cs_ugen.proofs.oscillator.along.Goals as goal

@@ -1,8 +1,6 @@
 use Rattle.std.proofs.Common.{◌≡◌, ◌∷◌, ◌<◌, length}
-use Rattle.cs_ugen.specs.Oscil.{wave_step}
-use Rattle.cs_ugen.specs.Phases.{at_phase, turn}
-use Rattle.cs_signal.specs.Operands.{argument, operand_at}
-use Rattle.cs_signal.specs.Walk.{HasRun}
+use Rattle.cs_ugen.specs.{Oscil.wave_step, Phases.at_phase, Phases.turn}
+use Rattle.cs_signal.specs.{Operands.argument, Operands.operand_at, Walk.HasRun}
 use Rattle.cs_ugen.proofs.oscillator.along.Given as goal
 
 abbrev pub invariant-loop-j : goal.invariant-loop-j

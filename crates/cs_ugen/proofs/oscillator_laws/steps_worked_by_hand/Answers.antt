@@ -1,11 +1,6 @@
 use Rattle.std.proofs.Common.{refl}
-use Rattle.cs_ugen.specs.Oscil.{oscil_of}
-use Rattle.cs_ugen.specs.Oscili.{oscili_of}
-use Rattle.cs_ugen.specs.Phases.{increment, phase_of, within_turn}
-use Rattle.cs_ugen.specs.Phasor.{phasor_of}
-use Rattle.cs_ugen.specs.Points.{between_points}
-use Rattle.cs_ugen.specs.Table.{table_of}
-use Rattle.cs_ugen.specs.Tablei.{tablei_of}
+use Rattle.cs_ugen.specs.{Oscil.oscil_of, Oscili.oscili_of, Phases.increment, Phases.phase_of, Phases.within_turn}
+use Rattle.cs_ugen.specs.{Phasor.phasor_of, Points.between_points, Table.table_of, Tablei.tablei_of}
 use Rattle.cs_ugen.proofs.oscillator_laws.steps_worked_by_hand.Goals as goal
 
 pub returns : goal.returns

@@ -1,6 +1,5 @@
 use Rattle.std.proofs.Common.{length, refl, ap, ◌∙◌, arith}
-use Rattle.cs_ugen.specs.Phases.{at_phase, increment, within_turn}
-use Rattle.cs_ugen.specs.Phasor.{phasor_step, ramp}
+use Rattle.cs_ugen.specs.{Phases.at_phase, Phases.increment, Phases.within_turn, Phasor.phasor_step, Phasor.ramp}
 use Rattle.cs_signal.proofs.Walks.{read}
 use Rattle.cs_signal.specs.Operands.{argument}
 use Rattle.cs_ugen.proofs.Loops.{held_none, held_more, held_end}

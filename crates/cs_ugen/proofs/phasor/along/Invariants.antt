@@ -1,8 +1,6 @@
 use Rattle.std.proofs.Common.{◌∷◌, [], ◌<◌, length}
-use Rattle.cs_ugen.specs.Phases.{at_phase, turn}
-use Rattle.cs_ugen.specs.Phasor.{phasor_step}
-use Rattle.cs_signal.specs.Operands.{argument}
-use Rattle.cs_signal.specs.Walk.{HasRun}
+use Rattle.cs_ugen.specs.{Phases.at_phase, Phases.turn, Phasor.phasor_step}
+use Rattle.cs_signal.specs.{Operands.argument, Walk.HasRun}
 use Rattle.cs_ugen.proofs.phasor.along.Given as goal
 
 abbrev pub invariant-loop-j : goal.invariant-loop-j

@@ -1,6 +1,5 @@
 use Rattle.std.proofs.Common.{◌∷◌, [], ◌<◌, length}
-use Rattle.cs_ugen.specs.Phases.{at_phase, turn}
-use Rattle.cs_ugen.specs.Phasor.{phasor_step}
+use Rattle.cs_ugen.specs.{Phases.at_phase, Phases.turn, Phasor.phasor_step}
 use Rattle.cs_signal.specs.Walk.{HasRun}
 use Rattle.cs_ugen.proofs.phasor.held.Given as goal
 

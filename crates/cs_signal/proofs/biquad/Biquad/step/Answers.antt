@@ -1,9 +1,13 @@
-use Rattle.std.proofs.Common.{ℤ, ap, ◌∙◌}
-use Rattle.cs_signal.specs.Biquad.{BiquadState}
+use Rattle.std.proofs.Common.{refl, ap, of_z, rules, to_z, w64, ◌∙◌}
+use Rattle.std.specs.Int.{w128}
+use Rattle.std.proofs.lemmas.Int.{to_z-of_z}
+use Rattle.cs_signal.specs.Biquad.{ratio}
+use Rattle.cs_signal.proofs.Biquads.{stepped}
 use Rattle.cs_signal.proofs.biquad.Biquad.step.Goals as goal
 
 pub returns : goal.returns
 returns c =
-    let s = c.args.self.now in
-    let after : ℤ → BiquadState × ℤ = λ z. (record { x1 = c.args.x; x2 = s.x1; y1 = z; y2 = s.y1 }, z) in
-    ap (λ t. (t, c.filtered-y.result)) c.follow.ensures ∙ ap after c.filtered-y.ensures
+    let sum = to_z w128 (of_z w128 c.wide_sum.result) in
+    stepped c.args.by.now c.args.self.now c.follow.new.self c.args.x c.args.x c.ratio-y.result sum c.follow.ensures
+    (c.ratio-y.ensures ∙ ap (ratio sum) (to_z-of_z w64 c.raw.result (search rules) ∙ c.raw.ensures.value))
+    (to_z-of_z w128 c.wide_sum.result (search rules) ∙ c.wide_sum.ensures.value) refl

@@ -1,7 +1,5 @@
 use Rattle.std.proofs.Common.{◌∷◌, [], length, ap, ◌∙◌}
-use Rattle.cs_signal.specs.Delay.{delay_step}
-use Rattle.cs_signal.specs.Operands.{operand_at}
-use Rattle.cs_signal.specs.Steps.{run}
+use Rattle.cs_signal.specs.{Delay.delay_step, Operands.operand_at, Steps.run}
 use Rattle.cs_signal.proofs.delay.Delay.block.Goals as goal
 
 pub returns : goal.returns

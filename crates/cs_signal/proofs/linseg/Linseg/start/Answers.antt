@@ -1,10 +1,7 @@
 use Rattle.std.proofs.Common.{ℕ, ◌≡◌, ◌+◌, ◌*◌, length, ap, ◌∙◌, subst, arith}
 use Rattle.std.proofs.lemmas.List.FromFn.{length-map-range_with_len}
 use Rattle.cs_base.specs.Heads.{header_of_head}
-use Rattle.cs_signal.specs.Linseg.{pieces_of}
-use Rattle.cs_signal.specs.Operands.{argument}
-use Rattle.cs_signal.specs.Pace.{pace_of, steps_of}
-use Rattle.cs_signal.specs.inner.Pieces.{IsPlace}
+use Rattle.cs_signal.specs.{Linseg.pieces_of, Operands.argument, Pace.pace_of, Pace.steps_of, inner.Pieces.IsPlace}
 use Rattle.cs_signal.proofs.linseg.Linseg.start.Goals as goal
 
 pub invariant_of-result : goal.invariant_of-result

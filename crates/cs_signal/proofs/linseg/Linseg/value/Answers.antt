@@ -2,10 +2,8 @@ use Rattle.std.proofs.Common.{◌≡◌, ℕ, ◌+◌, ◌<◌, length, ap, rule
 use Rattle.std.specs.Prelude.{slice_index}
 use Rattle.std.proofs.lemmas.List.{get_or_default}
 use Rattle.cs_base.specs.Numbers.{clamp}
-use Rattle.cs_signal.specs.Linseg.{on_pieces}
-use Rattle.cs_signal.specs.Operands.{argument}
-use Rattle.cs_signal.proofs.Pieces.{last_value, on_piece}
-use Rattle.cs_signal.proofs.Walks.{read}
+use Rattle.cs_signal.specs.{Linseg.on_pieces, Operands.argument}
+use Rattle.cs_signal.proofs.{Pieces.last_value, Pieces.on_piece, Walks.read}
 use Rattle.cs_signal.proofs.linseg.Linseg.value.Goals as goal
 
 pub returns-then-piece-len : goal.returns-then-piece-len

@@ -1,8 +1,7 @@
 use Rattle.std.proofs.Common.{ℕ, ◌∷◌, length, refl, ap, sym, subst, ◌∙◌}
 use Rattle.cs_ugen.specs.Table.{index_step}
 use Rattle.cs_signal.specs.Operands.{Reaches, operand_at}
-use Rattle.cs_signal.proofs.Operands.{reaches}
-use Rattle.cs_signal.proofs.Walks.{HasRun_none, HasRun_step, HasRun_end}
+use Rattle.cs_signal.proofs.{Operands.reaches, Walks.HasRun_none, Walks.HasRun_step, Walks.HasRun_end}
 use Rattle.cs_ugen.proofs.Loops.{step_at}
 use Rattle.cs_ugen.proofs.table.TableReader.block_on.Goals as goal
 

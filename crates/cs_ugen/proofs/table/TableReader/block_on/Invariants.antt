@@ -1,7 +1,6 @@
 use Rattle.std.proofs.Common.{◌≡◌, ◌∷◌, length}
 use Rattle.cs_ugen.specs.Table.{index_step}
-use Rattle.cs_signal.specs.Operands.{operand_at}
-use Rattle.cs_signal.specs.Walk.{HasRun}
+use Rattle.cs_signal.specs.{Operands.operand_at, Walk.HasRun}
 use Rattle.cs_ugen.proofs.table.TableReader.block_on.Given as goal
 
 abbrev pub invariant-loop-j : goal.invariant-loop-j
