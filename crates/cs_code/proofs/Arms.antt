@@ -3,17 +3,11 @@ use Rattle.std.proofs.Common.{◌≡◌, ℕ, ◌+◌, ◌≤◌, false, List, [
 use Rattle.std.proofs.Common.{◌∙◌, ap, subst, arith, le_trans}
 use Rattle.cs_base.proofs.Tests.{by_test}
 use Rattle.cs_ir.specs.Machine.{Machine, step, run}
-use Rattle.cs_ir.specs.Values.{holds}
-use Rattle.cs_ir.specs.Waves.{Wave}
-use Rattle.cs_ir.specs.Worlds.{World}
-use Rattle.cs_ir.specs.declared.op.Act.TheVariants as act
-use Rattle.cs_ir.specs.declared.op.Op.{Op}
-use Rattle.cs_ir.specs.declared.register.Reg.{Reg}
+use Rattle.cs_ir.specs.{Values.holds, Waves.Wave, Worlds.World, declared.op.Op.Op, declared.register.Reg.Reg}
 use Rattle.cs_meaning.specs.Notes.{Note, Path}
-use Rattle.cs_code.specs.Means.{StandsInMachine}
-use Rattle.cs_code.specs.inner.Spots.{op_of}
-use Rattle.cs_code.specs.inner.Code.{arm_code}
+use Rattle.cs_code.specs.{Means.StandsInMachine, inner.Spots.op_of, inner.Code.arm_code}
 use Rattle.cs_code.proofs.Runs.{Live, run_append, live_step, skip_step, run_past, run_refused}
+use Rattle.cs_ir.specs.declared.op.Act.TheVariants as act
 
 -- A machine stands as a note does, and goes on at a place or before it.
 pub record Agrees {W : Type 0} (placed : Path → Option ℕ) (place : ℕ) (t : Note W)

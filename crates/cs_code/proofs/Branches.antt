@@ -4,28 +4,21 @@ use Rattle.std.specs.List.{AllZip}
 use Rattle.std.proofs.lemmas.List.{append_assoc, length-append}
 use Rattle.cs_base.specs.declared.resource.Rate.{Rate}
 use Rattle.cs_ir.proofs.Drafting.{grew_on}
-use Rattle.cs_ir.specs.Codes.{aim, aimed}
+use Rattle.cs_ir.specs.{Codes.aim, Codes.aimed, declared.op.Op.Op, declared.register.Reg.Reg}
 use Rattle.cs_ir.specs.Drafts.{Aimed, Draft, Grew, IsAt, drafted}
-use Rattle.cs_ir.specs.declared.op.Act.TheVariants as act
-use Rattle.cs_ir.specs.declared.op.Op.{Op}
-use Rattle.cs_ir.specs.declared.register.Reg.{Reg}
 use Rattle.cs_meaning.specs.Core.{choose}
-use Rattle.cs_typed.specs.TypedTree as typed
-use Rattle.cs_typed.specs.declared.tree.TypedArm.{TypedArm}
-use Rattle.cs_typed.specs.declared.tree.TypedStmt.{TypedStmt}
-use Rattle.cs_code.specs.declared.frame.Pass.{Pass}
+use Rattle.cs_typed.specs.{declared.tree.TypedArm.TypedArm, declared.tree.TypedStmt.TypedStmt}
+use Rattle.cs_code.specs.{declared.frame.Pass.Pass, inner.Branches.past_list, inner.Spots.op_of}
 use Rattle.cs_code.specs.declared.frame.Progress.{Progress}
 use Rattle.cs_code.specs.inner.Branches.{AllAimed, Branch, past_branch, after, aim_all, body_of, branch_of, branches}
 use Rattle.cs_code.specs.inner.Branches.{chain, condition_of, each_code, joined, jump_at, jumps, opened, past_arm}
-use Rattle.cs_code.specs.inner.Branches.{past_list}
-use Rattle.cs_code.specs.inner.Code.{all_code, arm_code, chosen_code, init_block_code, keep_code}
-use Rattle.cs_code.specs.inner.Code.{pass_block_code}
+use Rattle.cs_code.specs.inner.Code.{all_code, arm_code, chosen_code, init_block_code, keep_code, pass_block_code}
 use Rattle.cs_code.specs.inner.Emitted.{Scope, arms_in, block_in, core_in, each_arm_code, takes_all}
 use Rattle.cs_code.specs.inner.Kept.{past, past_parts, past_block, past_arms}
-use Rattle.cs_code.specs.inner.Spots.{op_of}
 use Rattle.cs_code.proofs.Chains.{all_taken, alone_code, one_taken, taken_pass}
-use Rattle.cs_code.proofs.Growing.{grew_long}
-use Rattle.cs_code.proofs.Lists.{zip_one, zip_still}
+use Rattle.cs_code.proofs.{Growing.grew_long, Lists.zip_one, Lists.zip_still}
+use Rattle.cs_ir.specs.declared.op.Act.TheVariants as act
+use Rattle.cs_typed.specs.TypedTree as typed
 
 -- ---- one jump that is aimed
 

@@ -1,29 +1,22 @@
 -- What calls are short for, by their shapes.
 use Rattle.std.proofs.Common.{◌≡◌, ◌++◌, ◌∷◌, ◌∙◌, ℕ, Bool, true, false, true≢false, List, [], Option, Some, None, refl}
 use Rattle.std.proofs.Common.{sym, ap}
-use Rattle.cs_base.specs.declared.resource.Rate.{Rate}
-use Rattle.cs_base.specs.declared.resource.Rate.TheVariants as rate
-use Rattle.cs_base.specs.declared.spaces.Spaces.{Spaces}
+use Rattle.cs_base.specs.{declared.resource.Rate.Rate, declared.spaces.Spaces.Spaces}
 use Rattle.cs_ir.specs.declared.register.Reg.{Reg}
-use Rattle.cs_meaning.specs.Core.{Stmt, core_call, set, choose}
-use Rattle.cs_meaning.specs.When.{cycle}
+use Rattle.cs_meaning.specs.{Core.Stmt, Core.core_call, Core.set, Core.choose, When.cycle}
 use Rattle.cs_typed.specs.TypedTree.{Expression, Argument, value, text}
 use Rattle.cs_typed.specs.declared.tree.Var.{Var as Variable}
-use Rattle.cs_words.specs.Catalogue.{row_of}
-use Rattle.cs_words.specs.declared.catalogue.Opcode.{Opcode}
-use Rattle.cs_words.specs.declared.catalogue.Shape.{Shape}
-use Rattle.cs_words.specs.declared.catalogue.Shape.TheVariants as shape
-use Rattle.cs_code.specs.declared.args.Call.{Call}
-use Rattle.cs_code.specs.declared.frame.Progress.{Progress}
-use Rattle.cs_code.specs.declared.frame.Pass.{Pass}
-use Rattle.cs_code.specs.declared.frame.Pass.TheVariants as pass
-use Rattle.cs_code.specs.declared.simple.Sending.{Sending}
-use Rattle.cs_code.specs.declared.simple.Sending.TheVariants as sending
+use Rattle.cs_words.specs.{Catalogue.row_of, declared.catalogue.Opcode.Opcode, declared.catalogue.Shape.Shape}
+use Rattle.cs_code.specs.{declared.args.Call.Call, declared.frame.Progress.Progress, declared.frame.Pass.Pass}
+use Rattle.cs_code.specs.{declared.simple.Sending.Sending, inner.Spots.spots}
 use Rattle.cs_code.specs.inner.Code.{operands_code, pass_block_code, pass_code, perf_code}
 use Rattle.cs_code.specs.inner.Emitted.{Assigned, alone_in, arguments_of, assigned, called, set_of, effect, when_of}
 use Rattle.cs_code.specs.inner.Emitted.{sent_as, sent_ops}
-use Rattle.cs_code.specs.inner.Spots.{spots}
 use Rattle.cs_code.proofs.Chains.{alone_code}
+use Rattle.cs_base.specs.declared.resource.Rate.TheVariants as rate
+use Rattle.cs_words.specs.declared.catalogue.Shape.TheVariants as shape
+use Rattle.cs_code.specs.declared.frame.Pass.TheVariants as pass
+use Rattle.cs_code.specs.declared.simple.Sending.TheVariants as sending
 
 -- a call is the assignment that it is short for, or else an effect
 abbrev pub either_of : Option Assigned → Stmt → Stmt
@@ -32,62 +25,12 @@ either_of None s = s
 
 pub by_assigned : (o : Spaces) (r : Rate) (vs : List Variable) (op : Opcode) (sh : Shape) (args : List Argument)
     → core_call o r vs op sh args ≡ either_of (assigned sh r vs args) (effect o r vs op sh args)
-by_assigned o r [] op shape.Init args = refl
-by_assigned o r [] op shape.ChannelGet args = refl
-by_assigned o r [] op shape.ChannelPut [] = refl
-by_assigned o r [] op shape.ChannelPut (text c ∷ args) = refl
-by_assigned o r [] op shape.ChannelPut (value e ∷ []) = refl
-by_assigned o r [] op shape.ChannelPut (value e ∷ value x ∷ args) = refl
-by_assigned o r [] op shape.ChannelPut (value e ∷ text c ∷ args) = refl
-by_assigned o r [] op shape.ChannelMix [] = refl
-by_assigned o r [] op shape.ChannelMix (text c ∷ args) = refl
-by_assigned o r [] op shape.ChannelMix (value e ∷ []) = refl
-by_assigned o r [] op shape.ChannelMix (value e ∷ value x ∷ args) = refl
-by_assigned o r [] op shape.ChannelMix (value e ∷ text c ∷ args) = refl
-by_assigned o r [] op shape.ChannelClear [] = refl
-by_assigned o r [] op shape.ChannelClear (value e ∷ args) = refl
-by_assigned o r [] op shape.ChannelClear (text c ∷ args) = refl
-by_assigned o r [] op shape.Out args = refl
-by_assigned o r [] op shape.OutAt args = refl
-by_assigned o r [] op shape.Turnoff args = refl
-by_assigned o r [] op shape.ZakInit args = refl
-by_assigned o r [] op shape.Ask args = refl
-by_assigned o r [] op shape.Unit args = refl
-by_assigned o r [] op shape.Store args = refl
-by_assigned o r [] op (shape.ZakGet s) args = refl
-by_assigned o r [] op (shape.ZakPut s) args = refl
-by_assigned o r [] op shape.ZakMix args = refl
-by_assigned o r [] op (shape.ZakClear s) args = refl
-by_assigned o r (v ∷ vs) op shape.Init [] = refl
 by_assigned o r (v ∷ vs) op shape.Init (value e ∷ args) = refl
-by_assigned o r (v ∷ vs) op shape.Init (text c ∷ args) = refl
-by_assigned o r (v ∷ vs) op shape.ChannelGet [] = refl
-by_assigned o r (v ∷ vs) op shape.ChannelGet (value e ∷ args) = refl
 by_assigned o r (v ∷ vs) op shape.ChannelGet (text c ∷ args) = refl
-by_assigned o r (v ∷ vs) op shape.ChannelPut [] = refl
-by_assigned o r (v ∷ vs) op shape.ChannelPut (text c ∷ args) = refl
-by_assigned o r (v ∷ vs) op shape.ChannelPut (value e ∷ []) = refl
-by_assigned o r (v ∷ vs) op shape.ChannelPut (value e ∷ value x ∷ args) = refl
-by_assigned o r (v ∷ vs) op shape.ChannelPut (value e ∷ text c ∷ args) = refl
-by_assigned o r (v ∷ vs) op shape.ChannelMix [] = refl
-by_assigned o r (v ∷ vs) op shape.ChannelMix (text c ∷ args) = refl
-by_assigned o r (v ∷ vs) op shape.ChannelMix (value e ∷ []) = refl
-by_assigned o r (v ∷ vs) op shape.ChannelMix (value e ∷ value x ∷ args) = refl
-by_assigned o r (v ∷ vs) op shape.ChannelMix (value e ∷ text c ∷ args) = refl
-by_assigned o r (v ∷ vs) op shape.ChannelClear [] = refl
-by_assigned o r (v ∷ vs) op shape.ChannelClear (value e ∷ args) = refl
-by_assigned o r (v ∷ vs) op shape.ChannelClear (text c ∷ args) = refl
-by_assigned o r (v ∷ vs) op shape.Out args = refl
-by_assigned o r (v ∷ vs) op shape.OutAt args = refl
-by_assigned o r (v ∷ vs) op shape.Turnoff args = refl
-by_assigned o r (v ∷ vs) op shape.ZakInit args = refl
-by_assigned o r (v ∷ vs) op shape.Ask args = refl
-by_assigned o r (v ∷ vs) op shape.Unit args = refl
-by_assigned o r (v ∷ vs) op shape.Store args = refl
-by_assigned o r (v ∷ vs) op (shape.ZakGet s) args = refl
-by_assigned o r (v ∷ vs) op (shape.ZakPut s) args = refl
-by_assigned o r (v ∷ vs) op shape.ZakMix args = refl
-by_assigned o r (v ∷ vs) op (shape.ZakClear s) args = refl
+by_assigned o r vs op shape.ChannelPut (value e ∷ text c ∷ args) = refl
+by_assigned o r vs op shape.ChannelMix (value e ∷ text c ∷ args) = refl
+by_assigned o r vs op shape.ChannelClear (text c ∷ args) = refl
+by_assigned o r vs op sh args = refl
 
 pub call_assigned : (o : Spaces) (r : Rate) (vs : List Variable) (op : Opcode) (sh : Shape) (args : List Argument)
     (a : Assigned)
@@ -106,21 +49,7 @@ is_choice _ = false
 effect_simple : (o : Spaces) (r : Rate) (vs : List Variable) (op : Opcode) (sh : Shape) (args : List Argument)
     → is_choice (effect o r vs op sh args) ≡ false
 effect_simple o r vs op shape.Init args = refl
-effect_simple o r vs op shape.ChannelGet args = refl
-effect_simple o r vs op shape.ChannelPut args = refl
-effect_simple o r vs op shape.ChannelMix args = refl
-effect_simple o r vs op shape.ChannelClear args = refl
-effect_simple o r vs op shape.Out args = refl
-effect_simple o r vs op shape.OutAt args = refl
-effect_simple o r vs op shape.Turnoff args = refl
-effect_simple o r vs op shape.ZakInit args = refl
-effect_simple o r vs op shape.Ask args = refl
-effect_simple o r vs op shape.Unit args = refl
-effect_simple o r vs op shape.Store args = refl
-effect_simple o r vs op (shape.ZakGet s) args = refl
-effect_simple o r vs op (shape.ZakPut s) args = refl
-effect_simple o r vs op shape.ZakMix args = refl
-effect_simple o r vs op (shape.ZakClear s) args = refl
+effect_simple o r vs op a args = refl
 
 either_simple : (a : Option Assigned) (s : Stmt) → is_choice s ≡ false → is_choice (either_of a s) ≡ false
 either_simple (Some a) s h = refl

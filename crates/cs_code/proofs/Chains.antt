@@ -2,17 +2,16 @@
 use Rattle.std.proofs.Common.{◌≡◌, ◌∙◌, ◌+◌, ◌++◌, ℕ, true, false, true≢false, List, [], length, arith, refl, sym, ap}
 use Rattle.std.proofs.lemmas.List.{append_assoc, append-nil, length-append}
 use Rattle.cs_base.specs.declared.resource.Rate.{Rate}
-use Rattle.cs_base.specs.declared.resource.Rate.TheVariants as rate
 use Rattle.cs_ir.specs.declared.op.Op.{Op}
 use Rattle.cs_meaning.specs.Core.{Stmt, Block, Arms, no_stmt, andthen, choose, core_stmt}
-use Rattle.cs_typed.specs.TypedTree as typed
 use Rattle.cs_typed.specs.TypedTree.{Expression}
-use Rattle.cs_code.specs.declared.frame.Pass.{Pass}
-use Rattle.cs_code.specs.declared.frame.Pass.TheVariants as pass
-use Rattle.cs_code.specs.declared.frame.Progress.{Progress}
+use Rattle.cs_code.specs.{declared.frame.Pass.Pass, declared.frame.Progress.Progress}
 use Rattle.cs_code.specs.inner.Code.{all_code, chosen_code, cond_code, operand_code, pass_block_code, pass_code}
 use Rattle.cs_code.specs.inner.Emitted.{Scope, core_in, takes_all, when_of}
 use Rattle.cs_code.specs.inner.Kept.{past_block, past_stmt}
+use Rattle.cs_base.specs.declared.resource.Rate.TheVariants as rate
+use Rattle.cs_typed.specs.TypedTree as typed
+use Rattle.cs_code.specs.declared.frame.Pass.TheVariants as pass
 
 -- no statement more
 pub block_none : (way : Pass) (place : ℕ) (p : Progress) → pass_block_code way place p no_stmt ≡ []

@@ -1,9 +1,8 @@
 -- Jumps of a draft that are aimed one after another, by their marks.
 use Rattle.std.proofs.Common.{◌≡◌, ◌∙◌, ℕ, zero, suc, List, [], ◌∷◌, length, refl, ap}
 use Rattle.std.specs.List.{AllZip}
-use Rattle.cs_ir.specs.Codes.{aim}
+use Rattle.cs_ir.specs.{Codes.aim, declared.op.Op.Op}
 use Rattle.cs_ir.specs.Drafts.{Aimed, Draft, IsAt, drafted, library_of}
-use Rattle.cs_ir.specs.declared.op.Op.{Op}
 use Rattle.cs_code.specs.inner.Branches.{AllAimed, aim_all}
 use Rattle.cs_code.proofs.Lists.{zip_still}
 

@@ -1,18 +1,12 @@
 -- The code of an expression works out its value.
-use Rattle.std.proofs.Common.{◌≡◌, ℕ, ◌+◌, false, List, [], ◌∷◌, ◌++◌, length, map, Option, Some}
-use Rattle.std.proofs.Common.{None, refl, sym, ◌∙◌, ap, subst, arith, append-nil}
+use Rattle.std.proofs.Common.{◌≡◌, ℕ, ◌+◌, false, List, [], ◌∷◌, ◌++◌, length, map, Option, Some, None, refl, sym, ◌∙◌}
+use Rattle.std.proofs.Common.{ap, subst, arith, append-nil}
 use Rattle.cs_base.proofs.Tests.{some_is}
 use Rattle.cs_base.specs.declared.resource.Rate.{Rate}
-use Rattle.cs_base.specs.declared.resource.Rate.TheVariants as rate
 use Rattle.cs_ir.specs.Machine.{Machine, same_reg, acts, write, run}
-use Rattle.cs_ir.specs.Registers.{rate_at}
-use Rattle.cs_ir.specs.Values.{negated, applied}
+use Rattle.cs_ir.specs.{Registers.rate_at, Values.negated, Values.applied, Worlds.World, declared.op.Act.Act}
+use Rattle.cs_ir.specs.{declared.op.Op.Op, declared.register.Reg.Reg}
 use Rattle.cs_ir.specs.Waves.{Wave, held, constant, both, chosen, operand, if_init}
-use Rattle.cs_ir.specs.Worlds.{World}
-use Rattle.cs_ir.specs.declared.op.Act.{Act}
-use Rattle.cs_ir.specs.declared.op.Act.TheVariants as act
-use Rattle.cs_ir.specs.declared.op.Op.{Op}
-use Rattle.cs_ir.specs.declared.register.Reg.{Reg}
 use Rattle.cs_meaning.specs.Notes.{Note, Path, next, reg, part, value, values}
 use Rattle.cs_meaning.specs.When.{When, beginning, cycle}
 use Rattle.cs_code.specs.inner.Kept.{past, itself, nowhere, numbers, all_numbers}
@@ -23,9 +17,10 @@ use Rattle.cs_code.specs.Means.{StandsInMachine}
 use Rattle.cs_code.specs.inner.Spots.{op_of, kept_reg, temp, kept_or, direct, reg_or, spot, spots}
 use Rattle.cs_code.specs.inner.Code.{unless_there, copied, own, code, operand_code, operands_code}
 use Rattle.cs_code.proofs.Inside.{Lays, LaysOn, Reads, reads_on, reads_first, reads_rest}
-use Rattle.cs_code.proofs.Runs.{Live, run_append, live_step, run_snoc, put_here, put_other, held_again}
-use Rattle.cs_code.proofs.Runs.{two_lists, three_lists, Under, under_more, under_temp, under_local, under_apart}
-use Rattle.cs_code.proofs.Runs.{temp_rate}
+use Rattle.cs_code.proofs.Runs.{Live, run_append, live_step, run_snoc, put_here, put_other, held_again, two_lists}
+use Rattle.cs_code.proofs.Runs.{three_lists, Under, under_more, under_temp, under_local, under_apart, temp_rate}
+use Rattle.cs_base.specs.declared.resource.Rate.TheVariants as rate
+use Rattle.cs_ir.specs.declared.op.Act.TheVariants as act
 
 -- ---- what a run leaves as it was
 
@@ -79,10 +74,8 @@ wrote_temp r d w m n h = record {
 
 part_own : (when : When) (r : Rate) (at : ℕ) (own : Option Reg) (z : _) (w : Wave)
     → kept_or when r at own ≡ None → part when r z w ≡ w
-part_own beginning r at own z w none = refl
 part_own cycle rate.Init at own z w none = absurd (let h : Some (kept_reg at) ≡ None = none in cc)
-part_own cycle rate.Control at own z w none = refl
-part_own cycle rate.Audio at own z w none = refl
+part_own a e at own z w none = refl
 
 reads_own : (when : When) (r : Rate) (at : ℕ) (placed : Path → Option ℕ) (path : Path)
     (n : Path → Option ℕ) (own : Option Reg)
@@ -150,13 +143,11 @@ module _ {W : Type 0} (o : World W) (placed : Path → Option ℕ) (t : Note W) 
       (w : Wave) (q : Reg) → KnownArgument when path (if_init r (itself at) n) → kept_or when r at own ≡ Some q
       → (own ≡ Some q → Stood q w m)
       → Stood q (part when r (t.kept path) w) m
-  stood m s beginning r at path n own w q known is right = right is
   stood m s cycle rate.Init at path n own w q known is right =
       let place : Stood (kept_reg at) (constant (t.kept path)) m =
       record { here = s.kept path at (known []); low = tt } in
       subst (λ x. Stood x (constant (t.kept path)) m) (some_is (kept_reg at) q is) place
-  stood m s cycle rate.Control at path n own w q known is right = right is
-  stood m s cycle rate.Audio at path n own w q known is right = right is
+  stood m s a e at path n own w q known is right = right is
 
   never_there : (m : Machine W) (q : Reg) (w : Wave) → None ≡ Some q → Stood q w m
   never_there m q w h = absurd (cc)

@@ -1,50 +1,42 @@
 -- What the rules of rates say of the core of a block.
 use Rattle.std.proofs.Common.{ap₂, ◌≡◌, ℕ, zero, suc, ◌+◌, ◌-◌, ◌%◌, ◌<◌, ◌≤◌, Bool, true, false, not, ◌&&◌, ◌==◌, List}
 use Rattle.std.proofs.Common.{[], ◌∷◌, length, nat_le, if◌then◌else◌, refl, sym, ◌∙◌, ap, subst, arith, leb-true}
-use Rattle.std.proofs.Common.{eqb-true}
-use Rattle.std.proofs.Common.{eq-eqb, ne_eqb, ltb-false}
+use Rattle.std.proofs.Common.{eqb-true, eq-eqb, ne_eqb, ltb-false}
 use Rattle.std.specs.List.{All, list_all, list_any}
 use Rattle.std.proofs.lemmas.Bool.{and_parts}
 use Rattle.cs_base.proofs.Rates.{within_faster, within_chain}
 use Rattle.cs_base.specs.Rates.{is_init, is_control, is_audio, same_rate, within, faster, res_rate}
-use Rattle.cs_base.specs.declared.resource.Rate.{Rate}
-use Rattle.cs_base.specs.declared.resource.Rate.TheVariants as rate
-use Rattle.cs_base.specs.declared.resource.Res.TheVariants as res
+use Rattle.cs_base.specs.{declared.resource.Rate.Rate, declared.spaces.Spaces.Spaces}
 use Rattle.cs_words.specs.Catalogue.{Row, row_of, letter_at, takes, is_text, is_settled, takes_count, moving_letters}
-use Rattle.cs_words.specs.declared.catalogue.Letter.{Letter}
-use Rattle.cs_words.specs.declared.catalogue.Letter.TheVariants as letter
+use Rattle.cs_words.specs.{declared.catalogue.Letter.Letter, declared.catalogue.Shape.Shape}
 use Rattle.cs_words.specs.declared.catalogue.Opcode.{Opcode}
-use Rattle.cs_words.specs.declared.catalogue.Opcode.TheVariants as op
-use Rattle.cs_words.specs.declared.catalogue.Shape.{Shape}
-use Rattle.cs_words.specs.declared.catalogue.Shape.TheVariants as shape
-use Rattle.cs_words.specs.declared.word.Func.TheVariants as func
-use Rattle.cs_base.specs.declared.spaces.Spaces.{Spaces}
-use Rattle.cs_ir.specs.Units.{is_unit}
-use Rattle.cs_ir.specs.Validity.{take_all, bound_at}
+use Rattle.cs_ir.specs.{Units.is_unit, Validity.take_all, Validity.bound_at}
 use Rattle.cs_meaning.specs.Core.{ask, core, core_stmt, core_arms, core_call, values_of, settled, moving}
-use Rattle.cs_typed.specs.TypedTree as typed
-use Rattle.cs_typed.specs.TypedTree.{Expression, number, var, field, head, neg, pair, pick, apply}
+use Rattle.cs_typed.specs.TypedTree.{Expression, var, neg, pair, pick, apply}
 use Rattle.cs_typed.specs.WellRated.{node_rate, var_rate, is_variable, is_channel, is_read_once, both_sound, may_give}
 use Rattle.cs_typed.specs.WellRated.{IsRated, IsRatedArgument, IsRatedSet, IsRatedCall, IsRatedStatement, IsRatedBlock}
 use Rattle.cs_typed.specs.WellRated.{IsRatedArms, fits_letter, fit_letters, bound_by, goes_beyond, done_at}
-use Rattle.cs_typed.specs.Places.{is_starting}
-use Rattle.cs_typed.specs.declared.setting.Setting.{Setting}
-use Rattle.cs_typed.specs.declared.tree.Var.{Var as Variable}
+use Rattle.cs_typed.specs.{Places.is_starting, declared.setting.Setting.Setting, declared.tree.Var.Var as Variable}
 use Rattle.cs_typed.specs.declared.tree.Var.TheVariants.{Local, Global}
 use Rattle.cs_code.proofs.Letters.{take_rates, stills, is_run, run_fits, may_run, same_bound, store_fits}
 use Rattle.cs_code.proofs.Named.{Narrow, NarrowBlock, NarrowArms}
 use Rattle.cs_ir.proofs.RegisterKinds.{local_rate}
 use Rattle.cs_code.proofs.Ranked.{holds_value, Ranked, AllRanked, AllInit, AllSound, Paired, rated, RankedSet, GivenTo}
 use Rattle.cs_code.proofs.Ranked.{RankedRun, RankedUnit, RankedStore, RankedStmt, RankedBlock, RankedArms}
-use Rattle.cs_code.proofs.Rated.{init_is}
-use Rattle.cs_code.proofs.Valid.{within_self, init_within, two}
+use Rattle.cs_code.proofs.{Rated.init_is, Valid.within_self, Valid.init_within, Valid.two}
+use Rattle.cs_base.specs.declared.resource.Rate.TheVariants as rate
+use Rattle.cs_base.specs.declared.resource.Res.TheVariants as res
+use Rattle.cs_words.specs.declared.catalogue.Letter.TheVariants as letter
+use Rattle.cs_words.specs.declared.catalogue.Opcode.TheVariants as op
+use Rattle.cs_words.specs.declared.catalogue.Shape.TheVariants as shape
+use Rattle.cs_words.specs.declared.word.Func.TheVariants as func
+use Rattle.cs_typed.specs.TypedTree as typed
 
 -- ---- expressions
 
 audio_above : (r : Rate) → within r rate.Audio ≡ true
 audio_above rate.Init = refl
-audio_above rate.Control = refl
-audio_above rate.Audio = refl
+audio_above a = refl
 
 no_true : (b : Bool) → not b ≡ true → b ≡ false
 no_true true h = cc
@@ -55,36 +47,17 @@ within_same a r h = ap (within a) h ∙ within_self a
 
 read_once : (e : Expression) → is_read_once e ≡ true → is_control (node_rate e) ≡ true
 read_once (var r v) h = h
-read_once (number r n) h = cc
-read_once (field r k) h = cc
-read_once (head r k) h = cc
-read_once (neg r a) h = cc
-read_once (pair r o a b) h = cc
-read_once (pick r c a b) h = cc
-read_once (apply r g a) h = cc
+read_once a h = cc
 
 -- what a name stands for has a value
 variable_holds : (v : Variable) → is_variable v ≡ true → holds_value v ≡ true
-variable_holds (Local q n) h = refl
-variable_holds (Global (res.Gi n)) h = refl
-variable_holds (Global (res.Gk n)) h = refl
-variable_holds (Global (res.Ga n)) h = refl
-variable_holds (Global (res.ZakK n)) h = refl
-variable_holds (Global (res.ZakA n)) h = refl
-variable_holds (Global (res.Control n)) h = refl
-variable_holds (Global (res.Sound n)) h = refl
 variable_holds (Global (res.Table n)) h = absurd (cc)
+variable_holds a h = refl
 
 channel_holds : (v : Variable) → is_channel v ≡ true → holds_value v ≡ true
 channel_holds (Local q n) h = absurd (cc)
-channel_holds (Global (res.Gi n)) h = refl
-channel_holds (Global (res.Gk n)) h = refl
-channel_holds (Global (res.Ga n)) h = refl
-channel_holds (Global (res.ZakK n)) h = refl
-channel_holds (Global (res.ZakA n)) h = refl
-channel_holds (Global (res.Control n)) h = refl
-channel_holds (Global (res.Sound n)) h = refl
 channel_holds (Global (res.Table n)) h = absurd (cc)
+channel_holds a h = refl
 
 given_holds : (row : Row) (v : Variable) (vs : List Variable) → list_all (may_give row) (v ∷ vs) ≡ true
     → holds_value v ≡ true
@@ -102,10 +75,7 @@ ranked_var r (Local q n) k h = sym h
 ranked_var r (Global g) k h = takes_it r (Global g) k (ap (λ y. within y (res_rate g)) h ∙ within_self (res_rate g))
 
 ranked : (e : Expression) → IsRated e → Ranked e
-ranked (number r n) h = tt
 ranked (var r v) h = ranked_var r v (variable_holds v h.1) h.0
-ranked (field r k) h = tt
-ranked (head r k) h = tt
 ranked (neg r a) h = (within_same (node_rate a) r h.0, ranked a h.1)
 ranked (pair r o a b) h =
     let parts = within_faster (node_rate a) (node_rate b) in
@@ -130,6 +100,7 @@ ranked (apply r func.Int a) h = (within_same (node_rate a) r h.0, ranked a h.1)
 ranked (apply r func.Frac a) h = (within_same (node_rate a) r h.0, ranked a h.1)
 ranked (apply r func.Abs a) h = (within_same (node_rate a) r h.0, ranked a h.1)
 ranked (apply r func.Floor a) h = (within_same (node_rate a) r h.0, ranked a h.1)
+ranked e h = tt
 
 -- ---- arguments
 
@@ -194,9 +165,8 @@ out_letter zero = refl
 out_letter (suc k) = refl
 
 outs_letter : (k : ℕ) → k < 2 → letter_at (row_of op.Outs) k ≡ letter.Audio
-outs_letter zero h = refl
-outs_letter (suc zero) h = refl
 outs_letter (suc (suc k)) h = absurd (omega arith)
+outs_letter a h = refl
 
 asked : (row : Row) (bound : Rate) (n : ℕ) (args : List typed.Argument) → ((k : ℕ) → letter_at row k ≡ letter.Init)
     → fit_letters row bound n args ≡ true → AllInit (values_of args) × (length (values_of args) ≡ length args)
@@ -212,10 +182,8 @@ asked row bound n (typed.text v ∷ rest) at h =
     absurd (let no : false ≡ true = ap is_text (sym (at n)) ∙ parts.0 in cc)
 
 ask_letter : (k : ℕ) → letter_at (row_of op.Schedule) k ≡ letter.Init
-ask_letter zero = refl
-ask_letter (suc zero) = refl
-ask_letter (suc (suc zero)) = refl
 ask_letter (suc (suc (suc k))) = refl
+ask_letter k = refl
 
 ask_ranked : (bound : Rate) (args : List typed.Argument) → RankedArgs args
     → takes_count (row_of op.Schedule) (length args) ≡ true
@@ -240,12 +208,10 @@ odd_letter (suc (suc k)) h =
 
 out_pairs : (bound : Rate) (n : ℕ) (args : List typed.Argument) → n % 2 ≡ 0
     → fit_letters (row_of op.Outch) bound n args ≡ true → Paired (values_of args)
-out_pairs bound n [] even h = tt
 out_pairs bound n (typed.text v ∷ rest) even h =
     let parts = and_parts (fits_letter (letter_at (row_of op.Outch) n) bound (typed.text v))
     (fit_letters (row_of op.Outch) bound (n + 1) rest) h in
     absurd (let no : false ≡ true = ap is_text (sym (even_letter n even)) ∙ parts.0 in cc)
-out_pairs bound n (typed.value c ∷ []) even h = tt
 out_pairs bound n (typed.value c ∷ (typed.text v ∷ rest)) even h =
     let parts = and_parts (fits_letter (letter_at (row_of op.Outch) n) bound (typed.value c))
     (fit_letters (row_of op.Outch) bound (n + 1) (typed.text v ∷ rest)) h in
@@ -265,36 +231,29 @@ out_pairs bound n (typed.value c ∷ (typed.value e ∷ rest)) even h =
       sound,
       out_pairs bound (n + 1 + 1) rest (omega arith) more.1,
     )
+out_pairs bound n a even h = tt
 
 -- ---- channels
 
 channel_within : (r : Rate) (c : Variable) → is_channel c ≡ true → both_sound r (var_rate c) ≡ true
     → within r (var_rate c) ≡ true
-channel_within r (Local q n) h k = absurd (cc)
 channel_within rate.Init (Global g) h k = init_within (res_rate g)
 channel_within rate.Control (Global (res.Control n)) h k = refl
 channel_within rate.Control (Global (res.Sound n)) h k = refl
-channel_within rate.Control (Global (res.Gi n)) h k = absurd (cc)
-channel_within rate.Control (Global (res.Gk n)) h k = absurd (cc)
-channel_within rate.Control (Global (res.Ga n)) h k = absurd (cc)
-channel_within rate.Control (Global (res.ZakK n)) h k = absurd (cc)
-channel_within rate.Control (Global (res.ZakA n)) h k = absurd (cc)
-channel_within rate.Control (Global (res.Table n)) h k = absurd (cc)
 channel_within rate.Audio (Global g) h k = sound_within (res_rate g) k
   where
     sound_within : (q : Rate) → is_audio q ≡ true → within rate.Audio q ≡ true
-    sound_within rate.Init h = absurd (cc)
-    sound_within rate.Control h = absurd (cc)
     sound_within rate.Audio h = refl
+    sound_within q h = absurd (cc)
+channel_within r c h k = absurd (cc)
 
 channel_ranked : (r : Rate) (c : Variable) → is_channel c ≡ true → within r (var_rate c) ≡ true → Ranked (var r c)
 channel_ranked r (Local q n) h k = absurd (cc)
 channel_ranked r (Global g) h k = takes_it r (Global g) (channel_holds (Global g) h) k
 
 sound_above : (q r : Rate) → is_audio q ≡ true → within r q ≡ true
-sound_above rate.Init r h = absurd (cc)
-sound_above rate.Control r h = absurd (cc)
 sound_above rate.Audio r h = audio_above r
+sound_above a r h = absurd (cc)
 
 -- ---- calls
 
@@ -398,19 +357,16 @@ get_call spaces s r v vs (typed.text c ∷ rest) h =
 
 put_call : (spaces : Spaces) (s : Setting) (r : Rate) (args : List typed.Argument) → IsRatedCall s r [] op.Chnset args
     → RankedStmt (core_call spaces r [] op.Chnset shape.ChannelPut args)
-put_call spaces s r [] h = absurd (let no : false ≡ true = h.count in cc)
 put_call spaces s r (typed.text c ∷ rest) h = absurd (let no : false ≡ true = h.letters in cc)
-put_call spaces s r (typed.value e ∷ []) h = absurd (let no : false ≡ true = h.count in cc)
 put_call spaces s r (typed.value e ∷ (typed.value d ∷ rest)) h = absurd (let no : false ≡ true = h.letters in cc)
 put_call spaces s r (typed.value e ∷ (typed.text c ∷ rest)) h =
     let parts = args_ranked (typed.value e ∷ (typed.text c ∷ rest)) h.parts in
     (takes_it (node_rate e) c (channel_holds c parts.1.0) (channel_within (node_rate e) c parts.1.0 h.suits), parts.0)
+put_call spaces s r a h = absurd (let no : false ≡ true = h.count in cc)
 
 mix_call : (spaces : Spaces) (s : Setting) (r : Rate) (args : List typed.Argument) → IsRatedCall s r [] op.Chnmix args
     → RankedStmt (core_call spaces r [] op.Chnmix shape.ChannelMix args)
-mix_call spaces s r [] h = absurd (let no : false ≡ true = h.count in cc)
 mix_call spaces s r (typed.text c ∷ rest) h = absurd (let no : false ≡ true = h.letters in cc)
-mix_call spaces s r (typed.value e ∷ []) h = absurd (let no : false ≡ true = h.count in cc)
 mix_call spaces s r (typed.value e ∷ (typed.value d ∷ rest)) h =
     absurd (let no : false ≡ true = (and_parts (is_audio (node_rate e)) false h.letters).1 in cc)
 mix_call spaces s r (typed.value e ∷ (typed.text c ∷ rest)) h =
@@ -419,6 +375,7 @@ mix_call spaces s r (typed.value e ∷ (typed.text c ∷ rest)) h =
       takes_it rate.Audio c (channel_holds c parts.1.0) above,
       (refl, audio_above (node_rate e), refl, channel_ranked rate.Audio c parts.1.0 above, parts.0),
     )
+mix_call spaces s r a h = absurd (let no : false ≡ true = h.count in cc)
 
 clear_call : (spaces : Spaces) (s : Setting) (r : Rate) (args : List typed.Argument)
     → IsRatedCall s r [] op.Chnclear args
@@ -521,14 +478,10 @@ narrow_call s spaces r vs opcode shape.Out args h =
     let few = few_values args in
     let low = ltb-false s.channels (length args) h in
     omega arith
-narrow_call s spaces r vs opcode shape.OutAt args h = tt
-narrow_call s spaces r vs opcode shape.Turnoff args h = tt
-narrow_call s spaces r vs opcode shape.ZakInit args h = tt
 narrow_call s spaces r (v ∷ vs) opcode shape.ChannelGet (typed.text c ∷ args) h = tt
 narrow_call s spaces r vs opcode shape.ChannelPut (typed.value e ∷ typed.text c ∷ args) h = tt
 narrow_call s spaces r vs opcode shape.ChannelMix (typed.value e ∷ typed.text c ∷ args) h = tt
 narrow_call s spaces r vs opcode shape.ChannelClear (typed.text c ∷ args) h = tt
-narrow_call s spaces r vs opcode shape.Ask args h = tt
 narrow_call s spaces r vs opcode sh args h = tt
 
 mutual

@@ -1,14 +1,13 @@
 -- Drafts that grow: what is made so far, and what the rest will make.
-use Rattle.std.proofs.Common.{◌≡◌, ◌∙◌, ◌+◌, ◌++◌, List, [], length, refl, ap, subst, sym, OnOk, Ok, Err, Result}
+use Rattle.std.proofs.Common.{◌≡◌, ◌∙◌, ◌+◌, ◌++◌, List, [], length, refl, ap, subst, sym, IfOk, OnOk, Ok, Err, Result}
 use Rattle.std.proofs.lemmas.List.{length-append}
 use Rattle.cs_base.specs.declared.spaces.Spaces.{Spaces}
 use Rattle.cs_ir.proofs.Drafting.{grew_none, grew_on}
-use Rattle.cs_ir.specs.Drafts.{Draft, Grew, drafted, library_of}
-use Rattle.cs_ir.specs.declared.op.Op.{Op}
+use Rattle.cs_ir.specs.{Drafts.Draft, Drafts.Grew, Drafts.drafted, Drafts.library_of, declared.op.Op.Op}
+use Rattle.cs_code.specs.{declared.frame.Pass.Pass, declared.frame.Progress.Progress, inner.Served.Lowered}
+use Rattle.cs_code.specs.{inner.Served.Serve, inner.Code.pass_block_code, inner.Kept.past_block}
+use Rattle.cs_meaning.specs.Core.{Block}
 use Rattle.cs_typed.specs.TypedTree as typed
-use Rattle.cs_code.specs.declared.frame.Pass.{Pass}
-use Rattle.cs_code.specs.declared.frame.Progress.{Progress}
-use Rattle.cs_code.specs.inner.Served.{Serve}
 
 -- What grows by the rest from here has grown by the whole from the start.
 abbrev pub Leads : Draft → Draft → List Op → List Op → Type 0
@@ -33,18 +32,16 @@ pub grew_long : (a b : Draft) (more : List Op) → Grew a b more
     → length (drafted b) ≡ length (drafted a) + length more
 grew_long a b more grew = ap length grew.ops ∙ length-append (drafted a) more
 
--- routines that serve serve as the same lists too, and those of a draft as it grows
-pub serve_as : (way : Pass) (spaces : Spaces) (rs : List typed.Block) (made made' : List (List Op))
-    (extents extents' : List Progress) → made' ≡ made → extents' ≡ extents → Serve way spaces rs made extents
-    → Serve way spaces rs made' extents'
-serve_as way spaces rs made made' extents extents' e h serve =
-    record { code = e ∙ serve.code; extents = h ∙ serve.extents }
+pub ok_then : {X Y : Type 0} {P Q : X → Type 0} (r : Result X Y) → IfOk r P → ((x : X) → P x → Q x) → IfOk r Q
+ok_then (Ok x) h f = f x h
+ok_then (Err e) h f = tt
 
-pub serve_on : (way : Pass) (spaces : Spaces) (rs : List typed.Block) (extents : List Progress) (a b : Draft)
-    → library_of b ≡ library_of a → Serve way spaces rs (library_of a) extents
-    → Serve way spaces rs (library_of b) extents
-serve_on way spaces rs extents a b same serve =
-    serve_as way spaces rs (library_of a) (library_of b) extents extents same refl serve
+-- what a call told by two clauses
+pub lowered : {E : Type 0} (way : Pass) (old new : Draft) (p : Progress) (b : Block) (r : Result Progress E)
+    → OnOk r (Grew old new (pass_block_code way (length (drafted old)) p b)) → IfOk r (λ q. q ≡ past_block p b)
+    → IfOk r (λ q. Lowered way old new p q b)
+lowered way old new p b (Ok q) grew past_it = record { ops = grew; next = past_it }
+lowered way old new p b (Err e) grew past_it = tt
 
 -- ---- one after another
 
@@ -62,5 +59,18 @@ grew_three a b c d xs ys zs all one two three is =
 -- where nothing is appended
 pub grew_nothing : (a : Draft) (none : List Op) → none ≡ [] → Grew a a none
 grew_nothing a none is = subst (Grew a a) (sym is) (grew_none a)
+
+-- routines that serve serve as the same lists too, and those of a draft as it grows
+pub serve_as : (way : Pass) (spaces : Spaces) (rs : List typed.Block) (made made' : List (List Op))
+    (extents extents' : List Progress) → made' ≡ made → extents' ≡ extents → Serve way spaces rs made extents
+    → Serve way spaces rs made' extents'
+serve_as way spaces rs made made' extents extents' e h serve =
+    record { code = e ∙ serve.code; extents = h ∙ serve.extents }
+
+pub serve_on : (way : Pass) (spaces : Spaces) (rs : List typed.Block) (extents : List Progress) (a b : Draft)
+    → library_of b ≡ library_of a → Serve way spaces rs (library_of a) extents
+    → Serve way spaces rs (library_of b) extents
+serve_on way spaces rs extents a b same serve =
+    serve_as way spaces rs (library_of a) (library_of b) extents extents same refl serve
 
 pub ruleset growing = (grew_as, grew_two, grew_three, grew_nothing)

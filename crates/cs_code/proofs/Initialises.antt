@@ -1,38 +1,29 @@
 -- The code of the initialisation does what statements do as the note begins.
-use Rattle.std.proofs.Common.{◌≡◌, ℕ, suc, ◌+◌, false, List, [], ◌∷◌, ◌++◌, length, Option, Some, refl, sym, ◌∙◌}
-use Rattle.std.proofs.Common.{ap, subst, arith, length-append}
+use Rattle.std.proofs.Common.{◌≡◌, ℕ, suc, ◌+◌, false, List, [], ◌∷◌, ◌++◌, length, Option, Some, refl, sym, ◌∙◌, ap}
+use Rattle.std.proofs.Common.{subst, arith, length-append}
 use Rattle.cs_base.proofs.Tests.{by_test}
 use Rattle.cs_base.specs.declared.resource.Rate.{Rate}
-use Rattle.cs_base.specs.declared.resource.Rate.TheVariants as rate
 use Rattle.cs_words.specs.declared.catalogue.Opcode.{Opcode}
-use Rattle.cs_ir.specs.Machine.{Machine, run}
-use Rattle.cs_ir.specs.Waves.{constant, if_init, first_values}
-use Rattle.cs_ir.specs.Worlds.{World}
-use Rattle.cs_ir.specs.declared.op.Op.{Op}
-use Rattle.cs_ir.specs.declared.op.Reach.{Reach}
-use Rattle.cs_ir.specs.declared.register.Reg.{Reg}
+use Rattle.cs_ir.specs.{Machine.Machine, Machine.run, Waves.constant, Waves.if_init, Waves.first_values, Worlds.World}
+use Rattle.cs_ir.specs.{declared.op.Op.Op, declared.op.Reach.Reach, declared.register.Reg.Reg}
 use Rattle.cs_meaning.specs.Core.{Stmt, Block, Arms, set, unit, zak, store, out, out_at, ask, turnoff, nothing, choose}
-use Rattle.cs_meaning.specs.Core.{no_stmt, andthen, otherwise, arm}
+use Rattle.cs_meaning.specs.{Core.no_stmt, Core.andthen, Core.otherwise, Core.arm, When.beginning}
 use Rattle.cs_meaning.specs.Initialising.{going, keep, keep_all, started, run_once, sought, stored_once, zak_once}
 use Rattle.cs_meaning.specs.Initialising.{init_stmt, init_block, init_first, init_all}
 use Rattle.cs_meaning.specs.Notes.{Note, Path, next, past_arm, moved_to, assign, value, values}
-use Rattle.cs_meaning.specs.When.{beginning}
-use Rattle.cs_code.specs.declared.frame.Progress.{Progress}
-use Rattle.cs_code.specs.inner.Kept.{past, past_parts, past_stmt, past_block, nowhere, parts, numbers}
-use Rattle.cs_code.specs.inner.Kept.{all_numbers, stmt_numbers, block_numbers, arms_numbers}
-use Rattle.cs_typed.specs.TypedTree.{Expression}
-use Rattle.cs_typed.specs.declared.tree.Var.{Var as Variable}
-use Rattle.cs_code.specs.inner.Spots.{kept_reg}
+use Rattle.cs_code.specs.{declared.frame.Progress.Progress, inner.Spots.kept_reg}
+use Rattle.cs_code.specs.inner.Kept.{past, past_parts, past_stmt, past_block, nowhere, parts, numbers, all_numbers}
+use Rattle.cs_code.specs.inner.Kept.{stmt_numbers, block_numbers, arms_numbers}
+use Rattle.cs_typed.specs.{TypedTree.Expression, declared.tree.Var.Var as Variable}
 use Rattle.cs_code.specs.inner.Code.{keep_code, keep_all_code, set_code, start_code, unit_code, zak_code, seek_code}
 use Rattle.cs_code.specs.inner.Code.{store_code, ask_code, arm_code, init_code, init_block_code, first_code, all_code}
 use Rattle.cs_code.proofs.Arms.{Agrees, agrees_live, agrees_later, arm_runs}
 use Rattle.cs_code.proofs.Inside.{AreApart, Lays, LaysOn, lays_on, stands_at, Takes, SuitsStmt, SuitsBlock, SuitsArms}
-use Rattle.cs_code.proofs.Inside.{AllStill}
+use Rattle.cs_code.proofs.{Inside.AllStill, Performs.arm_length, Runs.Live, Runs.run_append, Runs.run_refused}
 use Rattle.cs_code.proofs.Numbers.{still_number, stmt_unit, block_unit}
 use Rattle.cs_code.proofs.Parts.{Quiet, Reached, Kept, live_kept, keep_runs, keep_all_runs, start_runs, seek_runs}
 use Rattle.cs_code.proofs.Parts.{store_runs, ask_runs, set_runs, unit_runs, zak_runs}
-use Rattle.cs_code.proofs.Performs.{arm_length}
-use Rattle.cs_code.proofs.Runs.{Live, run_append, run_refused}
+use Rattle.cs_base.specs.declared.resource.Rate.TheVariants as rate
 
 module _ {W : Type 0} (o : World W) (quiet : Quiet o) (placed : Path → Option ℕ) (distinct : AreApart placed) where
   from_reached : (s : Note W) (place : ℕ) (ops : List Op) (m n : Machine W) → Live o place m → Reached placed s m n
@@ -74,8 +65,7 @@ module _ {W : Type 0} (o : World W) (quiet : Quiet o) (placed : Path → Option 
       → (Lays placed path x → Agrees placed (place + length each) u (run o place each m))
       → Agrees placed (place + length (if_init r once each)) (if_init r s u) (run o place (if_init r once each) m)
   rate_agrees rate.Init place path x once each s u m lays first other = first
-  rate_agrees rate.Control place path x once each s u m lays first other = other lays
-  rate_agrees rate.Audio place path x once each s u m lays first other = other lays
+  rate_agrees a place path x once each s u m lays first other = other lays
 
   unit_once : (n : ℕ) (r : Rate) (vs : List Variable) (opcode : Opcode) (reach : Reach) (xs is : List Expression)
       (place : ℕ) (t : Note W) (m : Machine W)
@@ -168,8 +158,7 @@ module _ {W : Type 0} (o : World W) (quiet : Quiet o) (placed : Path → Option 
       (if_init r (init_first o (stands_at path p) arms t) (init_all o (stands_at path p) arms t))
       (run o place (if_init r (first_code place p arms) (all_code place p arms)) m)
   choose_runs rate.Init arms path p place t m still first all = first (still refl)
-  choose_runs rate.Control arms path p place t m still first all = all
-  choose_runs rate.Audio arms path p place t m still first all = all
+  choose_runs a arms path p place t m still first all = all
 
   -- what goes out in each cycle keeps its parts
   sent_runs : (es : List Expression) (path : Path) (p : Progress) (place : ℕ) (t : Note W) (m : Machine W)

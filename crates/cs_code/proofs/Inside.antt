@@ -1,19 +1,15 @@
 -- What the simulation asks of registers and of statements: kept values in registers of their own, results where an
 -- opcode gives one, and conditions that are kept where an `if` is done once.
-use Rattle.std.proofs.Common.{◌≡◌, ◌∙◌, ℕ, zero, suc, ◌+◌, true, List, [], ◌∷◌, Option, Some}
-use Rattle.std.proofs.Common.{sym, ap, subst, arith, add-zero}
-use Rattle.cs_base.specs.declared.resource.Rate.TheVariants as rate
+use Rattle.std.proofs.Common.{◌≡◌, ◌∙◌, ℕ, zero, suc, ◌+◌, true, List, [], ◌∷◌, Option, Some, sym, ap, subst, arith}
+use Rattle.std.proofs.Common.{add-zero}
 use Rattle.cs_words.specs.declared.catalogue.Opcode.{Opcode}
 use Rattle.cs_ir.specs.Machine.{gives}
-use Rattle.cs_meaning.specs.Core.{Stmt, Block, Arms, set, unit, zak, store, out, out_at, ask, turnoff, nothing, choose}
-use Rattle.cs_meaning.specs.Core.{no_stmt, andthen, otherwise, arm}
+use Rattle.cs_meaning.specs.Core.{Stmt, Block, Arms, unit, zak, choose, no_stmt, andthen, otherwise, arm}
+use Rattle.cs_meaning.specs.{Notes.Path, Notes.next, When.When, When.beginning, When.cycle}
+use Rattle.cs_typed.specs.{WellRated.node_rate, declared.tree.Var.Var as Variable}
+use Rattle.cs_code.specs.{declared.frame.Progress.Progress, inner.Kept.parts, inner.Kept.inward}
+use Rattle.cs_base.specs.declared.resource.Rate.TheVariants as rate
 use Rattle.cs_meaning.specs.Notes as meaning
-use Rattle.cs_meaning.specs.Notes.{Path, next}
-use Rattle.cs_meaning.specs.When.{When, beginning, cycle}
-use Rattle.cs_typed.specs.WellRated.{node_rate}
-use Rattle.cs_typed.specs.declared.tree.Var.{Var as Variable}
-use Rattle.cs_code.specs.declared.frame.Progress.{Progress}
-use Rattle.cs_code.specs.inner.Kept.{parts, inward}
 
 -- Kept values of different paths have different registers.
 abbrev pub AreApart : (Path → Option ℕ) → Type 0
@@ -87,13 +83,7 @@ abbrev mutual
   SuitsStmt (unit r vs opcode reach xs is) = Takes opcode vs
   SuitsStmt (zak r vs opcode reach xs) = Takes opcode vs
   SuitsStmt (choose r arms) = (r ≡ rate.Init → AllStill arms) × SuitsArms arms
-  SuitsStmt (set r v e) = Unit {0}
-  SuitsStmt (store r reach es is) = Unit {0}
-  SuitsStmt (out r es) = Unit {0}
-  SuitsStmt (out_at r es) = Unit {0}
-  SuitsStmt (ask es) = Unit {0}
-  SuitsStmt (turnoff r) = Unit {0}
-  SuitsStmt nothing = Unit {0}
+  SuitsStmt a = Unit {0}
 
   pub SuitsBlock : Block → Type 0
   SuitsBlock no_stmt = Unit {0}

@@ -1,40 +1,24 @@
 -- The codes of a block are what is promised of an instrument, and instruments are added in the order of the text.
-use Rattle.std.proofs.Common.{◌≡◌, ◌∙◌, ◌+◌, ◌<◌, ◌≤◌, ◌++◌, ℕ, true, List, [], ◌∷◌, length, map, max, take}
-use Rattle.std.proofs.Common.{get_or, append_assoc, append-nil, arith, refl, sym, ap, ap₂, subst}
+use Rattle.std.proofs.Common.{◌≡◌, ◌∙◌, ◌+◌, ◌<◌, ◌≤◌, ◌++◌, ℕ, true, List, [], ◌∷◌, length, map, max, take, get_or}
+use Rattle.std.proofs.Common.{append_assoc, append-nil, arith, refl, sym, ap, ap₂, subst}
 use Rattle.std.specs.List.{All, AllZip, Contains}
-use Rattle.std.proofs.lemmas.Grind.{flat_map-append}
-use Rattle.std.proofs.lemmas.List.{map_more, map-append, get_or-map, length-map}
-use Rattle.cs_base.specs.declared.resource.Res.{Res}
-use Rattle.cs_base.specs.declared.spaces.Spaces.{Spaces}
-use Rattle.cs_ir.specs.Cycles.{are_of_cycle}
+use Rattle.std.proofs.lemmas.{Grind.flat_map-append, List.map_more, List.map-append, List.get_or-map, List.length-map}
+use Rattle.cs_base.specs.{declared.resource.Res.Res, declared.spaces.Spaces.Spaces}
+use Rattle.cs_ir.specs.{Cycles.are_of_cycle, Limits.ops_limit, Registers.at_kind, Resources.NameTheSame}
+use Rattle.cs_ir.specs.{Resources.ops_touch, Validity.fine_from, declared.op.Code.Code, declared.op.Op.Op}
+use Rattle.cs_ir.specs.{declared.register.Counts.Counts, declared.register.Kind.Kind}
 use Rattle.cs_ir.specs.Instruments.{Numbered, numbers_of}
-use Rattle.cs_ir.specs.Limits.{ops_limit}
-use Rattle.cs_ir.specs.Registers.{at_kind}
-use Rattle.cs_ir.specs.Resources.{NameTheSame, ops_touch}
-use Rattle.cs_ir.specs.Validity.{fine_from}
-use Rattle.cs_ir.specs.declared.op.Code.{Code}
-use Rattle.cs_ir.specs.declared.op.Op.{Op}
-use Rattle.cs_ir.specs.declared.register.Counts.{Counts}
-use Rattle.cs_ir.specs.declared.register.Kind.{Kind}
-use Rattle.cs_meaning.specs.Core.{core}
-use Rattle.cs_meaning.specs.Uses.{block_touched}
-use Rattle.cs_meaning.specs.When.{beginning, cycle}
-use Rattle.cs_typed.specs.TypedTree as typed
-use Rattle.cs_typed.specs.WellRated.{IsRatedBlock}
-use Rattle.cs_typed.specs.declared.setting.Setting.{Setting}
+use Rattle.cs_meaning.specs.{Core.core, Uses.block_touched, When.beginning, When.cycle}
+use Rattle.cs_typed.specs.{WellRated.IsRatedBlock, declared.setting.Setting.Setting}
 use Rattle.cs_typed.specs.declared.tree.TypedInstr.{TypedInstr}
 use Rattle.cs_code.specs.Lowered.{IsCodeOf, IsNumberedCode, numbered_with, bodies, all_numbers}
-use Rattle.cs_code.specs.Means.{Means}
-use Rattle.cs_code.specs.Names.{block_units, AllNamed}
-use Rattle.cs_code.specs.declared.frame.Pass.TheVariants as pass
+use Rattle.cs_code.specs.{Means.Means, Names.block_units, Names.AllNamed, inner.Kept.start, inner.Kept.past_block}
 use Rattle.cs_code.specs.inner.Code.{init_block_code, perf_block_code}
-use Rattle.cs_code.specs.inner.Kept.{start, past_block}
-use Rattle.cs_code.proofs.FromRates.{narrow_block}
-use Rattle.cs_code.proofs.Lists.{zip_one}
-use Rattle.cs_code.proofs.Means.{means_its_tree}
-use Rattle.cs_code.proofs.Named.{names_of, perf_cycles}
-use Rattle.cs_code.proofs.Resources.{block_touch}
-use Rattle.cs_code.proofs.Validity.{code_valid, units_counted}
+use Rattle.cs_code.proofs.FromRates.{block_ranked, narrow_block}
+use Rattle.cs_code.proofs.{Lists.zip_one, Means.means_its_tree, Valid.names_of, Valid.perf_cycles}
+use Rattle.cs_code.proofs.{Resources.block_touch, Validity.code_valid, Validity.units_counted}
+use Rattle.cs_typed.specs.TypedTree as typed
+use Rattle.cs_code.specs.declared.frame.Pass.TheVariants as pass
 
 -- one list names what it names
 alike : (xs ys : List Res) → xs ≡ ys → NameTheSame xs ys
@@ -86,11 +70,13 @@ module _ (spaces : Spaces) (s : Setting) (t : typed.Block) (rated : IsRatedBlock
       counts = counts_a ∙ sym counts_b;
       count = ap (λ (c : Counts). c.units) counts_a ∙ made.units_are ∙ units_counted (core spaces t);
       init_names = subst (AllNamed s.channels (block_units (core spaces t))) (sym (ops_a ∙ made.init_is))
-          (names_of pass.Initialisation s.channels (core spaces t) (narrow_block spaces s t rated));
+          (names_of pass.Initialisation s.channels (core spaces t) (block_ranked spaces s t rated)
+          (narrow_block spaces s t rated));
       perf_names = subst (AllNamed s.channels (block_units (core spaces t))) (sym (ops_b ∙ made.perf_is))
-          (names_of pass.Performance s.channels (core spaces t) (narrow_block spaces s t rated));
+          (names_of pass.Performance s.channels (core spaces t) (block_ranked spaces s t rated)
+          (narrow_block spaces s t rated));
       perf_cycle = ap are_of_cycle (ops_b ∙ made.perf_is)
-          ∙ perf_cycles s.channels (core spaces t) (narrow_block spaces s t rated);
+          ∙ perf_cycles s.channels (core spaces t) (block_ranked spaces s t rated) (narrow_block spaces s t rated);
     };
     touches = record {
       begins = λ way stock. alike (ops_touch way stock a.ops) (block_touched way beginning stock (core spaces t))

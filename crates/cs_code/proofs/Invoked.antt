@@ -1,29 +1,19 @@
 -- Routines that are made, and what a routine does that is invoked.
-use Rattle.std.proofs.Common.{◌≡◌, ◌∙◌, ◌≤◌, ◌++◌, ℕ, zero, suc, true, false, List, [], ◌∷◌, Some, length, map}
-use Rattle.std.proofs.Common.{get_or, arith, refl, sym, ap, ap₂}
-use Rattle.std.proofs.Math.Dec.{ltb}
-use Rattle.std.proofs.lemmas.Bool.{ltb-true, ltb-false}
-use Rattle.std.proofs.lemmas.List.{map-append}
-use Rattle.std.proofs.lemmas.Option.{none-some, slice_get-get_or}
+use Rattle.std.proofs.Common.{◌≡◌, ◌∙◌, ◌≤◌, ◌++◌, ℕ, zero, suc, true, false, List, [], ◌∷◌, Some, length, map, get_or}
+use Rattle.std.proofs.{Common.arith, Common.refl, Common.sym, Common.ap, Common.ap₂, Math.Dec.ltb}
+use Rattle.std.proofs.lemmas.{Bool.ltb-true, Bool.ltb-false, List.map-append, Option.none-some, Option.slice_get-get_or}
 use Rattle.std.specs.List.{slice_get}
 use Rattle.cs_base.proofs.Tests.{some_is}
-use Rattle.cs_base.specs.declared.per_rate.PerRate.{PerRate}
-use Rattle.cs_base.specs.declared.spaces.Spaces.{Spaces}
+use Rattle.cs_base.specs.{declared.per_rate.PerRate.PerRate, declared.spaces.Spaces.Spaces}
 use Rattle.cs_ir.proofs.Libraries.{library_more}
-use Rattle.cs_ir.specs.Flat.{moved_ops, ops_at, window_of}
-use Rattle.cs_ir.specs.Routines.{library_in, ops_in}
-use Rattle.cs_ir.specs.declared.op.Op.{Op}
-use Rattle.cs_ir.specs.declared.routine.Routine.{Routine}
-use Rattle.cs_ir.specs.declared.step.Call.{Call}
+use Rattle.cs_ir.specs.{Flat.moved_ops, Flat.ops_at, Flat.window_of, Routines.library_in, Routines.ops_in}
+use Rattle.cs_ir.specs.{declared.op.Op.Op, declared.routine.Routine.Routine, declared.step.Call.Call}
 use Rattle.cs_meaning.specs.Core.{core}
-use Rattle.cs_typed.specs.TypedTree as typed
-use Rattle.cs_code.specs.declared.frame.Pass.{Pass}
-use Rattle.cs_code.specs.declared.frame.Progress.{Progress}
-use Rattle.cs_code.specs.inner.Code.{pass_block_code}
+use Rattle.cs_code.specs.{declared.frame.Pass.Pass, declared.frame.Progress.Progress, inner.Code.pass_block_code}
+use Rattle.cs_code.specs.{inner.Kept.start, inner.Kept.past_block, inner.Served.Serve, inner.Served.further_on}
 use Rattle.cs_code.specs.inner.Emitted.{invoked_in, scope_of}
-use Rattle.cs_code.specs.inner.Kept.{start, past_block}
-use Rattle.cs_code.specs.inner.Served.{Serve, further_on}
 use Rattle.cs_code.proofs.Moved.{routine_moved, routine_past}
+use Rattle.cs_typed.specs.TypedTree as typed
 
 -- ---- one routine more
 

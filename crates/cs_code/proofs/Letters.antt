@@ -1,40 +1,28 @@
 -- The letters of a unit's arguments: as many settled values as its row takes, and values that move as its letters say.
 use Rattle.std.proofs.Common.{◌≡◌, ◌∙◌, refl, sym, ap, subst, ℕ, zero, suc, ◌+◌, ◌-◌, ◌≤◌, ◌%◌, ◌==◌, Bool, true, false}
 use Rattle.std.proofs.Common.{not, ◌&&◌, ◌||◌, List, [], ◌∷◌, ◌++◌, length, nat_le, slice_get, if◌then◌else◌, arith}
-use Rattle.std.specs.Prelude.{filter}
-use Rattle.std.specs.List.{list_all, list_any}
-use Rattle.std.specs.Option.{unwrap_or}
+use Rattle.std.specs.{Prelude.filter, List.list_all, List.list_any, Option.unwrap_or}
 use Rattle.std.proofs.lemmas.Bool.{and_parts, and_from, or_left, or_right}
-use Rattle.std.proofs.lemmas.Bool.Decides.{nat_tests}
-use Rattle.std.proofs.lemmas.List.{append-nil}
-use Rattle.std.proofs.lemmas.List.Elements.{filter-append}
-use Rattle.cs_base.specs.Rates.{is_init, is_audio, same_rate}
-use Rattle.cs_base.specs.declared.resource.Rate.{Rate}
-use Rattle.cs_base.specs.declared.resource.Rate.TheVariants as rate
+use Rattle.std.proofs.lemmas.{Bool.Decides.nat_tests, List.append-nil, List.Elements.filter-append}
+use Rattle.cs_base.specs.{Rates.is_init, Rates.is_audio, Rates.same_rate, declared.resource.Rate.Rate}
 use Rattle.cs_words.specs.Catalogue.{Row, row_of, letter_at, further, takes, takes_count, may_follow, follows_settled}
 use Rattle.cs_words.specs.Catalogue.{unit_takes, is_text, is_settled, is_moving, settled_letters, moving_letters}
-use Rattle.cs_words.specs.Catalogue.{result_count}
-use Rattle.cs_words.specs.declared.catalogue.Letter.{Letter}
-use Rattle.cs_words.specs.declared.catalogue.Letter.TheVariants as letter
-use Rattle.cs_words.specs.declared.catalogue.More.{More}
-use Rattle.cs_words.specs.declared.catalogue.More.TheVariants as more
-use Rattle.cs_words.specs.declared.catalogue.Opcode.{Opcode}
-use Rattle.cs_words.specs.declared.catalogue.Opcode.TheVariants as op
-use Rattle.cs_words.specs.declared.catalogue.Shape.{Shape}
-use Rattle.cs_words.specs.declared.catalogue.Shape.TheVariants as shape
+use Rattle.cs_words.specs.{Catalogue.result_count, declared.catalogue.Letter.Letter, declared.catalogue.More.More}
+use Rattle.cs_words.specs.{declared.catalogue.Opcode.Opcode, declared.catalogue.Shape.Shape}
 use Rattle.cs_words.proofs.EachOpcode.{when_all}
-use Rattle.cs_ir.specs.Units.{is_unit, is_zak}
-use Rattle.cs_ir.specs.Validity.{may_run_at, bound_at, stores_with}
+use Rattle.cs_ir.specs.{Units.is_unit, Units.is_zak, Validity.may_run_at, Validity.bound_at, Validity.stores_with}
 use Rattle.cs_meaning.specs.Core.{values_of, settled, moving}
-use Rattle.cs_typed.specs.Places.{is_starting}
-use Rattle.cs_typed.specs.TypedTree as typed
-use Rattle.cs_typed.specs.TypedTree.{Expression}
+use Rattle.cs_typed.specs.{Places.is_starting, TypedTree.Expression, WellRated.is_variable, WellRated.IsRatedCall}
+use Rattle.cs_typed.specs.{declared.setting.Setting.Setting, declared.tree.Var.Var}
 use Rattle.cs_typed.specs.WellRated.{node_rate, var_rate, fit_letters, bound_by, may_give, done_at, stores_evenly}
-use Rattle.cs_typed.specs.WellRated.{is_variable, IsRatedCall}
-use Rattle.cs_typed.specs.declared.setting.Setting.{Setting}
-use Rattle.cs_typed.specs.declared.tree.Var.{Var}
 use Rattle.cs_ir.proofs.RegisterKinds.{local_rate}
 use Rattle.cs_code.proofs.Ranked.{rated}
+use Rattle.cs_base.specs.declared.resource.Rate.TheVariants as rate
+use Rattle.cs_words.specs.declared.catalogue.Letter.TheVariants as letter
+use Rattle.cs_words.specs.declared.catalogue.More.TheVariants as more
+use Rattle.cs_words.specs.declared.catalogue.Opcode.TheVariants as op
+use Rattle.cs_words.specs.declared.catalogue.Shape.TheVariants as shape
+use Rattle.cs_typed.specs.TypedTree as typed
 
 -- letters take values of these rates, one each
 abbrev pub take_rates : List Letter → Rate → List Expression → Bool
@@ -63,59 +51,34 @@ value_moves : (l : Letter) (bound : Rate) (e : Expression) (ls : List Letter) (e
     → take_rates (filter is_moving (l ∷ ls)) bound (if is_settled l then es else e ∷ es) ≡ true
 value_moves letter.Init bound e ls es h ih = ih
 value_moves letter.Table bound e ls es h ih = ih
-value_moves letter.Control bound e ls es h ih = and_from _ _ h ih
-value_moves letter.Place bound e ls es h ih = and_from _ _ h ih
-value_moves letter.Audio bound e ls es h ih = and_from _ _ h ih
-value_moves letter.Held bound e ls es h ih = and_from _ _ h ih
-value_moves letter.Any bound e ls es h ih = and_from _ _ h ih
 value_moves letter.Text bound e ls es h ih = absurd (cc)
+value_moves a bound e ls es h ih = and_from _ _ h ih
 
 text_moves : (l : Letter) (bound : Rate) (ls : List Letter) (es : List Expression) → is_text l ≡ true
     → take_rates (filter is_moving ls) bound es ≡ true → take_rates (filter is_moving (l ∷ ls)) bound es ≡ true
-text_moves letter.Init bound ls es h ih = absurd (cc)
-text_moves letter.Table bound ls es h ih = absurd (cc)
-text_moves letter.Control bound ls es h ih = absurd (cc)
-text_moves letter.Place bound ls es h ih = absurd (cc)
-text_moves letter.Audio bound ls es h ih = absurd (cc)
-text_moves letter.Held bound ls es h ih = absurd (cc)
-text_moves letter.Any bound ls es h ih = absurd (cc)
 text_moves letter.Text bound ls es h ih = ih
+text_moves a bound ls es h ih = absurd (cc)
 
 value_stays : (l : Letter) (bound : Rate) (e : Expression) (es : List Expression) → takes l bound (node_rate e) ≡ true
     → stills es ≡ true
     → stills (if is_settled l then e ∷ es else es) ≡ true
 value_stays letter.Init bound e es h ih = and_from _ _ h ih
 value_stays letter.Table bound e es h ih = and_from _ _ h ih
-value_stays letter.Control bound e es h ih = ih
-value_stays letter.Place bound e es h ih = ih
-value_stays letter.Audio bound e es h ih = ih
-value_stays letter.Held bound e es h ih = ih
-value_stays letter.Any bound e es h ih = ih
-value_stays letter.Text bound e es h ih = ih
+value_stays a bound e es h ih = ih
 
 value_counts : (l : Letter) (e : Expression) (ls : List Letter) (es : List Expression)
     → length es ≡ length (filter is_settled ls)
     → length (if is_settled l then e ∷ es else es) ≡ length (filter is_settled (l ∷ ls))
 value_counts letter.Init e ls es ih = ap suc ih
 value_counts letter.Table e ls es ih = ap suc ih
-value_counts letter.Control e ls es ih = ih
-value_counts letter.Place e ls es ih = ih
-value_counts letter.Audio e ls es ih = ih
-value_counts letter.Held e ls es ih = ih
-value_counts letter.Any e ls es ih = ih
-value_counts letter.Text e ls es ih = ih
+value_counts a e ls es ih = ih
 
 text_counts : (l : Letter) (ls : List Letter) (es : List Expression) → is_text l ≡ true
     → length es ≡ length (filter is_settled ls)
     → length es ≡ length (filter is_settled (l ∷ ls))
 text_counts letter.Init ls es h ih = absurd (cc)
 text_counts letter.Table ls es h ih = absurd (cc)
-text_counts letter.Control ls es h ih = ih
-text_counts letter.Place ls es h ih = ih
-text_counts letter.Audio ls es h ih = ih
-text_counts letter.Held ls es h ih = ih
-text_counts letter.Any ls es h ih = ih
-text_counts letter.Text ls es h ih = ih
+text_counts a ls es h ih = ih
 
 -- ---- all arguments
 
@@ -313,17 +276,12 @@ even : (r p q t : Rate) → (if is_audio p then is_audio q else not (is_audio q)
     (if is_audio p || (is_audio q || (is_audio t || false)) then rate.Audio else rate.Control))
     → ((if is_audio r then is_audio p else not (is_audio p)) && (if is_audio r then is_audio q else not (is_audio q))
     && is_init t) ≡ true
-even r p q rate.Control h i e = absurd (cc)
-even r p q rate.Audio h i e = absurd (cc)
 even r rate.Init rate.Init rate.Init h i e = rw e refl
 even r rate.Init rate.Control rate.Init h i e = rw e refl
-even r rate.Init rate.Audio rate.Init h i e = absurd (cc)
 even r rate.Control rate.Init rate.Init h i e = rw e refl
 even r rate.Control rate.Control rate.Init h i e = rw e refl
-even r rate.Control rate.Audio rate.Init h i e = absurd (cc)
-even r rate.Audio rate.Init rate.Init h i e = absurd (cc)
-even r rate.Audio rate.Control rate.Init h i e = absurd (cc)
 even r rate.Audio rate.Audio rate.Init h i e = rw e refl
+even r p q t h i e = absurd (cc)
 
 -- what a call gives a store
 pub record FitsStore (r : Rate) (args : List typed.Argument) : Type 0 where
@@ -334,9 +292,6 @@ pub record FitsStore (r : Rate) (args : List typed.Argument) : Type 0 where
 pub store_fits : (r : Rate) (args : List typed.Argument) → takes_count (row_of op.Tablew) (length args) ≡ true
     → fit_letters (row_of op.Tablew) rate.Audio 0 args ≡ true → stores_evenly shape.Store args ≡ true
     → r ≡ done_at shape.Store [] args → FitsStore r args
-store_fits r [] c l h e = absurd (cc)
-store_fits r (a ∷ []) c l h e = absurd (cc)
-store_fits r (a ∷ b ∷ []) c l h e = absurd (cc)
 store_fits r (typed.value x ∷ typed.value y ∷ typed.value z ∷ []) c l h e =
     let init : is_init (node_rate z) ≡ true = (and_parts (is_init (node_rate z)) true l).0 in
     record {
@@ -345,9 +300,7 @@ store_fits r (typed.value x ∷ typed.value y ∷ typed.value z ∷ []) c l h e 
       still = l;
       single = refl;
     }
-store_fits r (typed.text v ∷ b ∷ c' ∷ []) c l h e = absurd (cc)
-store_fits r (typed.value x ∷ typed.text v ∷ c' ∷ []) c l h e = absurd (cc)
-store_fits r (typed.value x ∷ typed.value y ∷ typed.text v ∷ []) c l h e = absurd (cc)
 store_fits r (a ∷ b ∷ c' ∷ d ∷ rest) c l h e =
     let p = and_parts (nat_le 3 (length (a ∷ b ∷ c' ∷ d ∷ rest))) (length (a ∷ b ∷ c' ∷ d ∷ rest) - 3 == 0) c in
     let n = equal (length (a ∷ b ∷ c' ∷ d ∷ rest) - 3) 0 p.1 in let no : ⊥ = omega (arith, n) in absurd no
+store_fits r args c l h e = absurd (cc)

@@ -2,18 +2,15 @@
 use Rattle.std.proofs.Common.{◌≡◌, ◌∙◌, ◌+◌, ◌<◌, ◌++◌, ◌∷◌, drop, get_or, ℕ, Bool, true, false, not, cond, List, []}
 use Rattle.std.proofs.Common.{length, refl, sym, ap}
 use Rattle.std.proofs.lemmas.List.{append_assoc, append-nil, drop_more}
-use Rattle.std.specs.Borrow.{Bor}
-use Rattle.std.specs.List.{AllZip}
-use Rattle.cs_meaning.specs.Core.{settled, moving, values_of}
-use Rattle.cs_meaning.specs.When.{When}
-use Rattle.cs_code.specs.inner.Kept.{past}
+use Rattle.std.specs.{Borrow.Bor, List.AllZip}
+use Rattle.cs_meaning.specs.{Core.settled, Core.moving, Core.values_of, When.When}
+use Rattle.cs_code.specs.{inner.Kept.past, inner.Spots.spot, inner.Spots.spots}
 use Rattle.cs_typed.specs.TypedTree.{Argument, Expression, expression, text, value}
 use Rattle.cs_typed.specs.declared.tree.TypedExpr.{TypedExpr}
 use Rattle.cs_words.specs.Catalogue.{Row, letter_at, is_settled}
 use Rattle.cs_ir.specs.declared.register.Reg.{Reg}
 use Rattle.cs_code.specs.inner.Code.{operand_code, operands_code, keep_code, keep_all_code}
 use Rattle.cs_code.specs.inner.Emitted.{expressions_of, taken}
-use Rattle.cs_code.specs.inner.Spots.{spot, spots}
 
 pub append_nothing : {A : Type 0} (xs : List A) → xs ++ [] ≡ xs
 append_nothing xs = append-nil xs

@@ -1,24 +1,15 @@
 -- The codes of a note mean its tree, in every world whose notes are refused only as they begin.
 use Rattle.std.proofs.Common.{ℕ, [], ◌∷◌, Option, refl, arith}
-use Rattle.cs_ir.specs.Machine.{new_machine, again}
+use Rattle.cs_ir.specs.{Machine.new_machine, Machine.again, Worlds.World}
 use Rattle.cs_base.specs.declared.spaces.Spaces.{Spaces}
-use Rattle.cs_ir.specs.Worlds.{World}
-use Rattle.cs_meaning.specs.Core.{Block, core}
-use Rattle.cs_meaning.specs.Notes.{Path, new_note, moved_to}
+use Rattle.cs_meaning.specs.{Core.Block, Core.core, Notes.Path, Notes.new_note, Notes.moved_to, Plain.plain}
 use Rattle.cs_code.specs.inner.Kept.{start, block_numbers, registers}
-use Rattle.cs_typed.specs.TypedTree as typed
-use Rattle.cs_typed.specs.WellRated.{IsRatedBlock}
-use Rattle.cs_typed.specs.declared.setting.Setting.{Setting}
-use Rattle.cs_meaning.specs.Plain.{plain}
-use Rattle.cs_code.specs.Means.{MeansIn, Means}
-use Rattle.cs_code.specs.inner.Code.{init_block_code, perf_block_code}
+use Rattle.cs_typed.specs.{WellRated.IsRatedBlock, declared.setting.Setting.Setting}
+use Rattle.cs_code.specs.{Means.MeansIn, Means.Means, inner.Code.init_block_code, inner.Code.perf_block_code}
 use Rattle.cs_code.proofs.Inside.{AreApart, LaysOn, SuitsBlock}
-use Rattle.cs_code.proofs.Initialises.{init_block_runs}
-use Rattle.cs_code.proofs.Numbers.{registers_apart, registers_lay}
-use Rattle.cs_code.proofs.Parts.{Quiet}
-use Rattle.cs_code.proofs.PlainWorld.{plain_quiet}
-use Rattle.cs_code.proofs.Performs.{perf_block_runs}
-use Rattle.cs_code.proofs.Rated.{block_suits}
+use Rattle.cs_code.proofs.{Initialises.init_block_runs, Numbers.registers_apart, Numbers.registers_lay, Parts.Quiet}
+use Rattle.cs_code.proofs.{PlainWorld.plain_quiet, Performs.perf_block_runs, Rated.block_suits}
+use Rattle.cs_typed.specs.TypedTree as typed
 
 pub means_in : {W : Type 0} (o : World W) → Quiet o → (placed : Path → Option ℕ) → AreApart placed → (body : Block)
     → SuitsBlock body → LaysOn placed (0 ∷ []) (block_numbers start body)

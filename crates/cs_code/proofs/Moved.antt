@@ -1,56 +1,37 @@
 -- The code of statements with other local variables, further in a text: the same code, moved.
-use Rattle.std.proofs.Common.{◌≡◌, ◌∙◌, ◌+◌, ◌++◌, ℕ, Bool, true, false, List, [], ◌∷◌, length, map}
-use Rattle.std.proofs.Common.{Option, Some, None, if◌then◌else◌, refl, sym, ap, ap₂, subst, arith}
+use Rattle.std.proofs.Common.{◌≡◌, ◌∙◌, ◌+◌, ◌++◌, ℕ, Bool, true, false, List, [], ◌∷◌, length, map, Option, Some, None}
+use Rattle.std.proofs.Common.{if◌then◌else◌, refl, sym, ap, ap₂, subst, arith}
 use Rattle.std.proofs.lemmas.List.{map-append, length-map}
 use Rattle.std.specs.Option.{option_map}
-use Rattle.cs_base.specs.Rates.{at_rate, same_rate}
+use Rattle.cs_base.specs.{Rates.at_rate, Rates.same_rate, declared.resource.Rate.Rate, declared.spaces.Spaces.Spaces}
 use Rattle.cs_base.specs.declared.per_rate.PerRate.{PerRate}
-use Rattle.cs_base.specs.declared.resource.Rate.{Rate}
-use Rattle.cs_base.specs.declared.resource.Rate.TheVariants as rate
-use Rattle.cs_base.specs.declared.spaces.Spaces.{Spaces}
 use Rattle.cs_words.specs.declared.catalogue.Opcode.{Opcode}
 use Rattle.cs_ir.specs.Flat.{Begins, begin_of, moved_act, moved_op, moved_ops, moved_reg}
-use Rattle.cs_ir.specs.Registers.{local, temporary}
-use Rattle.cs_ir.specs.Waves.{if_init}
-use Rattle.cs_ir.specs.declared.op.Act.{Act}
-use Rattle.cs_ir.specs.declared.op.Act.TheVariants as act
-use Rattle.cs_ir.specs.declared.op.Op.{Op}
-use Rattle.cs_ir.specs.declared.op.Reach.{Reach}
-use Rattle.cs_ir.specs.declared.register.Reg.{Reg}
+use Rattle.cs_ir.specs.{Registers.local, Registers.temporary, Waves.if_init, declared.op.Act.Act, declared.op.Op.Op}
+use Rattle.cs_ir.specs.{declared.op.Reach.Reach, declared.register.Reg.Reg}
 use Rattle.cs_meaning.specs.Core.{Stmt, Block, Arms, set, unit, zak, store, out, out_at, ask, turnoff, nothing, choose}
 use Rattle.cs_meaning.specs.Core.{no_stmt, andthen, otherwise, arm, core}
-use Rattle.cs_meaning.specs.Notes.{reg}
-use Rattle.cs_meaning.specs.When.{When, beginning, cycle}
-use Rattle.cs_typed.specs.TypedTree as typed
-use Rattle.cs_typed.specs.TypedTree.{Expression, number, var, field, head, neg, pair, pick, apply}
-use Rattle.cs_typed.specs.TypedTree.{moved_variable, moved_expression}
-use Rattle.cs_typed.specs.WellRated.{node_rate}
-use Rattle.cs_typed.specs.declared.tree.Var.{Var as Variable}
+use Rattle.cs_meaning.specs.{Notes.reg, When.When, When.beginning, When.cycle}
+use Rattle.cs_typed.specs.TypedTree.{Expression, number, var, field, head, neg, pair, pick, apply, moved_variable}
+use Rattle.cs_typed.specs.{TypedTree.moved_expression, WellRated.node_rate, declared.tree.Var.Var as Variable}
 use Rattle.cs_typed.specs.declared.tree.Var.TheVariants.{Local, Global}
-use Rattle.cs_code.specs.declared.frame.Pass.{Pass}
-use Rattle.cs_code.specs.declared.frame.Pass.TheVariants as pass
-use Rattle.cs_code.specs.declared.frame.Progress.{Progress}
-use Rattle.cs_code.specs.inner.Code.{unless_there, copied, own, code, operand_code, operands_code, kept_code}
-use Rattle.cs_code.specs.inner.Code.{keep_code, keep_all_code, set_code, target, given_code, on_code, run_code}
-use Rattle.cs_code.specs.inner.Code.{start_code, unit_code, seek_code, store_code, out_ops, out_at_ops, arm_code}
-use Rattle.cs_code.specs.inner.Code.{cond_code, cond_reg, choice_code, pass_code, pass_block_code, chosen_code}
-use Rattle.cs_code.specs.inner.Code.{all_code}
+use Rattle.cs_code.specs.{declared.frame.Pass.Pass, declared.frame.Progress.Progress, inner.Served.further_on}
+use Rattle.cs_code.specs.inner.Code.{unless_there, copied, own, code, operand_code, operands_code, kept_code, keep_code}
+use Rattle.cs_code.specs.inner.Code.{keep_all_code, set_code, target, given_code, on_code, run_code, start_code}
+use Rattle.cs_code.specs.inner.Code.{unit_code, seek_code, store_code, out_ops, out_at_ops, arm_code, cond_code}
+use Rattle.cs_code.specs.inner.Code.{cond_reg, choice_code, pass_code, pass_block_code, chosen_code, all_code}
 use Rattle.cs_code.specs.inner.Kept.{start, past, past_parts, past_stmt, past_block}
-use Rattle.cs_code.specs.inner.Served.{further_on}
 use Rattle.cs_code.specs.inner.Spots.{op_of, direct, kept_or, kept_reg, local_of, reg_or, temp, spot, spots}
-use Rattle.cs_code.proofs.Inside.{Reads}
-use Rattle.cs_code.proofs.MovedTree.{moved_stmt, moved_stmts, moved_arms, past_grown, core_moved, stmts_past}
-use Rattle.cs_code.proofs.MovedTree.{Further, stmt_further, block_further}
+use Rattle.cs_code.proofs.{Inside.Reads, MovedTree.stmt_further, MovedTree.block_further}
+use Rattle.cs_code.proofs.MovedTree.{moved_stmt, moved_stmts, moved_arms, past_grown, core_moved, stmts_past, Further}
+use Rattle.cs_base.specs.declared.resource.Rate.TheVariants as rate
+use Rattle.cs_ir.specs.declared.op.Act.TheVariants as act
+use Rattle.cs_typed.specs.TypedTree as typed
+use Rattle.cs_code.specs.declared.frame.Pass.TheVariants as pass
 
 rate_stays : (l : PerRate ℕ) (e : Expression) → node_rate (moved_expression l e) ≡ node_rate e
 rate_stays l (number r n) = refl
-rate_stays l (var r v) = refl
-rate_stays l (field r k) = refl
-rate_stays l (head r h) = refl
-rate_stays l (neg r a) = refl
-rate_stays l (pair r o a b) = refl
-rate_stays l (pick r c a b) = refl
-rate_stays l (apply r g a) = refl
+rate_stays l a = refl
 
 -- ops, and what they are elsewhere
 record Moves (k : Op → Op) (old new : List Op) : Type 0 where
@@ -93,8 +74,7 @@ either {k} {a} {b} {a'} {b'} t t' e h i =
 by_rate : {k : Op → Op} {a b a' b' : List Op} (r : Rate) → Moves k a a' → Moves k b b'
     → Moves k (if_init r a b) (if_init r a' b')
 by_rate rate.Init h i = h
-by_rate rate.Control h i = i
-by_rate rate.Audio h i = i
+by_rate a h i = i
 
 unless_is : {k : Op → Op} {a a' : List Op} (m : Reg → Reg) (o o' : Option Reg) → o' ≡ option_map m o → Moves k a a'
     → Moves k (unless_there o a) (unless_there o' a')
@@ -121,13 +101,11 @@ module _ (w : Begins) (origin : ℕ) where
 
   begin_local : (r : Rate) → begin_of w (local r) ≡ at_rate l r
   begin_local rate.Init = refl
-  begin_local rate.Control = refl
-  begin_local rate.Audio = refl
+  begin_local a = refl
 
   begin_temporary : (r : Rate) → begin_of w (temporary r) ≡ 0
   begin_temporary rate.Init = refl
-  begin_temporary rate.Control = refl
-  begin_temporary rate.Audio = refl
+  begin_temporary a = refl
 
   local_moved : (r : Rate) (n : ℕ) → reg r (at_rate l r + n) ≡ m (reg r n)
   local_moved r n = λ i. record { kind = local r; offset = sym (begin_local r) i + n }
@@ -144,15 +122,8 @@ module _ (w : Begins) (origin : ℕ) where
   -- ---- where values stand
 
   local_is : (e : Expression) → local_of (E e) ≡ option_map m (local_of e)
-  local_is (number r n) = refl
   local_is (var r (Local q n)) = ap Some (local_moved q n)
-  local_is (var r (Global g)) = refl
-  local_is (field r k) = refl
-  local_is (head r h) = refl
-  local_is (neg r a) = refl
-  local_is (pair r o a b) = refl
-  local_is (pick r c a b) = refl
-  local_is (apply r g a) = refl
+  local_is a = refl
 
   -- the number of the next kept value, where it is read
   abbrev Counts : When → ℕ → ℕ → Type 0
@@ -165,10 +136,8 @@ module _ (w : Begins) (origin : ℕ) where
 
   kept_or_is : (when : When) (r : Rate) (at at' : ℕ) → Counts when at at' → (here : Option Reg)
       → kept_or when r at' (option_map m here) ≡ option_map m (kept_or when r at here)
-  kept_or_is beginning r at at' h here = refl
   kept_or_is cycle rate.Init at at' h here = ap (λ n. Some (kept_reg n)) h
-  kept_or_is cycle rate.Control at at' h here = refl
-  kept_or_is cycle rate.Audio at at' h here = refl
+  kept_or_is a e at at' h here = refl
 
   direct_is : (when : When) (e : Expression) (at at' : ℕ) → Counts when at at'
       → direct when at' (E e) ≡ option_map m (direct when at e)
@@ -259,10 +228,6 @@ module _ (w : Begins) (origin : ℕ) where
   kept_is e at at' h = code_is beginning e 0 0 tt (kept_reg at) (kept_reg at') (ap kept_reg h) 0
 
   keep_is : (e : Expression) (at at' : ℕ) → at' ≡ w.kept + at → Same (keep_code at e) (keep_code at' (E e))
-  keep_is (number r n) at at' h = by_rate r (kept_is (number r n) at at' h) nothing_moves
-  keep_is (var r v) at at' h = by_rate r (kept_is (var r v) at at' h) nothing_moves
-  keep_is (field r k) at at' h = by_rate r (kept_is (field r k) at at' h) nothing_moves
-  keep_is (head r k) at at' h = by_rate r (kept_is (head r k) at at' h) nothing_moves
   keep_is (neg r a) at at' h = by_rate r (kept_is (neg r a) at at' h) (keep_is a at at' h)
   keep_is (pair r b y z) at at' h =
       by_rate r (kept_is (pair r b y z) at at' h)
@@ -273,6 +238,7 @@ module _ (w : Begins) (origin : ℕ) where
       (join (keep_is c at at' h)
       (join (keep_is y p p' on) (keep_is z (past p y) (past p' (E y)) (past_grown l y w.kept p p' on))))
   keep_is (apply r g a) at at' h = by_rate r (kept_is (apply r g a) at at' h) (keep_is a at at' h)
+  keep_is w at at' h = by_rate (node_rate w) (kept_is w at at' h) nothing_moves
 
   keep_all_is : (es : List Expression) (at at' : ℕ) → at' ≡ w.kept + at
       → Same (keep_all_code at es) (keep_all_code at' (map E es))
@@ -293,13 +259,12 @@ module _ (w : Begins) (origin : ℕ) where
       join (operand_is when e at at' h 0) (one (ap (λ y. op_of (act.Save g) y (y ∷ [])) (spot_is when e at at' h 0)))
 
   target_is : (r : Rate) (vs : List Variable) → target r (map (moved_variable l) vs) ≡ m (target r vs)
-  target_is r [] = temp_moved r 0
-  target_is r (Global g ∷ vs) = temp_moved r 0
   target_is r (Local q n ∷ vs) = by (same_rate q r)
     where
       by : (b : Bool) → (if b then reg q (at_rate l q + n) else temp r 0) ≡ m (if b then reg q n else temp r 0)
       by true = local_moved q n
       by false = temp_moved r 0
+  target_is r a = temp_moved r 0
 
   given_is : (r : Rate) (vs : List Variable) → Same (given_code r vs) (given_code r (map (moved_variable l) vs))
   given_is r [] = nothing_moves
@@ -350,9 +315,8 @@ module _ (w : Begins) (origin : ℕ) where
   out_are c (q ∷ qs) = more refl (out_are (c + 1) qs)
 
   out_at_are : (qs : List Reg) → Same (out_at_ops qs) (out_at_ops (map m qs))
-  out_at_are [] = nothing_moves
-  out_at_are (p ∷ []) = nothing_moves
   out_at_are (p ∷ (q ∷ qs)) = more refl (out_at_are qs)
+  out_at_are a = nothing_moves
 
   sent_are : (es : List Expression) (at at' : ℕ) → at' ≡ w.kept + at → (send : List Reg → List Op)
       → ((qs : List Reg) → Same (send qs) (send (map m qs)))

@@ -1,35 +1,29 @@
 -- Statements with other local variables: what they are short for, and what is met up to their ends, so many kept values
 -- and units wherever they stand.
-use Rattle.std.proofs.Common.{◌≡◌, ◌∙◌, ◌+◌, ℕ, Bool, true, false, List, [], ◌∷◌, map, arith}
-use Rattle.std.proofs.Common.{Option, Some, None, if◌then◌else◌, refl, sym, ap, ap₂}
+use Rattle.std.proofs.Common.{◌≡◌, ◌∙◌, ◌+◌, ℕ, Bool, true, false, List, [], ◌∷◌, map, arith, Option, Some, None}
+use Rattle.std.proofs.Common.{if◌then◌else◌, refl, sym, ap, ap₂}
 use Rattle.std.specs.Option.{option_map}
-use Rattle.cs_base.specs.declared.per_rate.PerRate.{PerRate}
-use Rattle.cs_base.specs.declared.resource.Rate.{Rate}
-use Rattle.cs_base.specs.declared.resource.Rate.TheVariants as rate
-use Rattle.cs_base.specs.declared.spaces.Spaces.{Spaces}
+use Rattle.cs_base.specs.{declared.per_rate.PerRate.PerRate, declared.resource.Rate.Rate, declared.spaces.Spaces.Spaces}
 use Rattle.cs_words.specs.Catalogue.{Row, row_of, letter_at, is_settled, takes_table}
 use Rattle.cs_words.specs.declared.catalogue.Opcode.{Opcode}
-use Rattle.cs_words.specs.declared.catalogue.Shape.{Shape}
-use Rattle.cs_words.specs.declared.catalogue.Shape.TheVariants as shape
-use Rattle.cs_words.specs.declared.catalogue.Space.{Space}
-use Rattle.cs_words.specs.declared.catalogue.Space.TheVariants as space
-use Rattle.cs_ir.specs.Resources.{places_of}
-use Rattle.cs_ir.specs.Waves.{if_init}
-use Rattle.cs_ir.specs.declared.op.Reach.TheVariants as reach
+use Rattle.cs_words.specs.{declared.catalogue.Shape.Shape, declared.catalogue.Space.Space}
+use Rattle.cs_ir.specs.{Resources.places_of, Waves.if_init}
 use Rattle.cs_meaning.specs.Core.{Stmt, Block, Arms, set, unit, zak, store, out, out_at, ask, turnoff, nothing, choose}
-use Rattle.cs_meaning.specs.Core.{no_stmt, andthen, otherwise, arm}
-use Rattle.cs_meaning.specs.Core.{values_of, settled, moving, table_reach, place_reach, span_reach, unit_reach}
-use Rattle.cs_meaning.specs.Core.{zak_reach}
-use Rattle.cs_meaning.specs.Core.{core, core_stmt, core_arms, core_call, unit_call, store_call, zak_call}
-use Rattle.cs_typed.specs.TypedTree as typed
-use Rattle.cs_typed.specs.TypedTree.{Expression, number, var, field, head, neg, pair, pick, apply, Argument, value}
-use Rattle.cs_typed.specs.TypedTree.{text, moved_variable, moved_expression, moved_argument}
-use Rattle.cs_typed.specs.declared.tree.Var.{Var as Variable}
-use Rattle.cs_code.specs.declared.frame.Progress.{Progress}
+use Rattle.cs_meaning.specs.Core.{no_stmt, andthen, otherwise, arm, values_of, settled, moving, table_reach}
+use Rattle.cs_meaning.specs.Core.{place_reach, span_reach, unit_reach, zak_reach, core, core_stmt, core_arms, core_call}
+use Rattle.cs_meaning.specs.Core.{unit_call, store_call, zak_call}
+use Rattle.cs_typed.specs.{WellRated.node_rate, declared.tree.Var.Var as Variable}
+use Rattle.cs_typed.specs.TypedTree.{Expression, number, neg, pair, pick, apply, Argument, value, text, moved_variable}
+use Rattle.cs_typed.specs.TypedTree.{moved_expression, moved_argument}
+use Rattle.cs_code.specs.{declared.frame.Progress.Progress, inner.Served.further_on}
 use Rattle.cs_code.specs.inner.Emitted.{Assigned, assigned, effect}
 use Rattle.cs_code.specs.inner.Kept.{start, past, past_all, past_parts, past_stmt, past_block, past_arms}
-use Rattle.cs_code.specs.inner.Served.{further_on}
 use Rattle.cs_code.proofs.Calls.{either_of, by_assigned}
+use Rattle.cs_base.specs.declared.resource.Rate.TheVariants as rate
+use Rattle.cs_words.specs.declared.catalogue.Shape.TheVariants as shape
+use Rattle.cs_words.specs.declared.catalogue.Space.TheVariants as space
+use Rattle.cs_ir.specs.declared.op.Reach.TheVariants as reach
+use Rattle.cs_typed.specs.TypedTree as typed
 
 -- statements with other local variables, one, those of a block and those of arms
 abbrev mutual
@@ -59,8 +53,7 @@ abbrev mutual
 
 if_grown : (r : Rate) (n x y x' y' : ℕ) → x' ≡ n + x → y' ≡ n + y → if_init r x' y' ≡ n + if_init r x y
 if_grown rate.Init n x y x' y' h i = h
-if_grown rate.Control n x y x' y' h i = i
-if_grown rate.Audio n x y x' y' h i = i
+if_grown a n x y x' y' h i = i
 
 one_more : (n at k : ℕ) → k ≡ n + at → k + 1 ≡ n + (at + 1)
 one_more n at k h = omega (arith, h)
@@ -87,10 +80,6 @@ module _ (l : PerRate ℕ) where
   E e = moved_expression l e
 
   pub past_grown : (e : Expression) (n at k : ℕ) → k ≡ n + at → past k (E e) ≡ n + past at e
-  past_grown (number r v) n at k h = if_grown r n (at + 1) at (k + 1) k (one_more n at k h) h
-  past_grown (var r v) n at k h = if_grown r n (at + 1) at (k + 1) k (one_more n at k h) h
-  past_grown (field r x) n at k h = if_grown r n (at + 1) at (k + 1) k (one_more n at k h) h
-  past_grown (head r x) n at k h = if_grown r n (at + 1) at (k + 1) k (one_more n at k h) h
   past_grown (neg r a) n at k h =
       if_grown r n (at + 1) (past at a) (k + 1) (past k (E a)) (one_more n at k h) (past_grown a n at k h)
   past_grown (pair r o a b) n at k h =
@@ -102,6 +91,7 @@ module _ (l : PerRate ℕ) where
       (past_grown b n (past p a) (past q (E a)) (past_grown a n p q (past_grown c n at k h)))
   past_grown (apply r g a) n at k h =
       if_grown r n (at + 1) (past at a) (k + 1) (past k (E a)) (one_more n at k h) (past_grown a n at k h)
+  past_grown w n at k h = if_grown (node_rate w) n (at + 1) at (k + 1) k (one_more n at k h) h
 
   pub all_grown : (es : List Expression) (n at k : ℕ) → k ≡ n + at → past_all k (map E es) ≡ n + past_all at es
   all_grown [] n at k h = h
@@ -134,10 +124,8 @@ module _ (l : PerRate ℕ) where
         record { part = all_grown es n.part x.part y.part h.part; unit = h.unit }
     stmt_further n x y (out_at r es) h =
         record { part = all_grown es n.part x.part y.part h.part; unit = h.unit }
-    stmt_further n x y (ask es) h = h
-    stmt_further n x y (turnoff r) h = h
-    stmt_further n x y nothing h = h
     stmt_further n x y (choose r arms) h = arms_further n x y arms h
+    stmt_further n x y a h = h
 
     pub block_further : (n x y : Progress) (b : Block) → Further n x y
         → Further n (past_block x b) (past_block y (moved_stmts l b))
@@ -192,42 +180,16 @@ module _ (l : PerRate ℕ) where
 
   -- what may be touched
   table_stays : (es : List Expression) → table_reach (map F es) ≡ table_reach es
-  table_stays [] = refl
   table_stays (number r v ∷ es) = refl
-  table_stays (var r v ∷ es) = refl
-  table_stays (field r k ∷ es) = refl
-  table_stays (head r h ∷ es) = refl
-  table_stays (neg r a ∷ es) = refl
-  table_stays (pair r o a b ∷ es) = refl
-  table_stays (pick r c a b ∷ es) = refl
-  table_stays (apply r g a ∷ es) = refl
+  table_stays es = refl
 
   place_stays : (places : ℕ) (e : Expression) → place_reach places (F e) ≡ place_reach places e
   place_stays places (number r v) = refl
-  place_stays places (var r v) = refl
-  place_stays places (field r k) = refl
-  place_stays places (head r h) = refl
-  place_stays places (neg r a) = refl
-  place_stays places (pair r o a b) = refl
-  place_stays places (pick r c a b) = refl
-  place_stays places (apply r g a) = refl
+  place_stays places a = refl
 
   span_stays : (places : ℕ) (e x : Expression) → span_reach places (F e) (F x) ≡ span_reach places e x
   span_stays places (number r v) (number q w) = refl
-  span_stays places (number r v) (var q w) = refl
-  span_stays places (number r v) (field q k) = refl
-  span_stays places (number r v) (head q h) = refl
-  span_stays places (number r v) (neg q a) = refl
-  span_stays places (number r v) (pair q o a b) = refl
-  span_stays places (number r v) (pick q c a b) = refl
-  span_stays places (number r v) (apply q g a) = refl
-  span_stays places (var r v) x = refl
-  span_stays places (field r k) x = refl
-  span_stays places (head r h) x = refl
-  span_stays places (neg r a) x = refl
-  span_stays places (pair r o a b) x = refl
-  span_stays places (pick r c a b) x = refl
-  span_stays places (apply r g a) x = refl
+  span_stays places e x = refl
 
   unit_stays : (opcode : Opcode) (es : List Expression) → unit_reach opcode (map F es) ≡ unit_reach opcode es
   unit_stays opcode es = ap (λ x. if takes_table opcode then x else reach.Nothing) (table_stays es)
@@ -239,20 +201,17 @@ module _ (l : PerRate ℕ) where
 
   put_stays : (o : Spaces) (s : Space) (es : List Expression)
       → zak_reach o (shape.ZakPut s) (map F es) ≡ zak_reach o (shape.ZakPut s) es
-  put_stays o s [] = refl
-  put_stays o s (v ∷ []) = refl
   put_stays o s (v ∷ x ∷ xs) = place_stays (places_of o s) x
+  put_stays o s a = refl
 
   mix_stays : (o : Spaces) (es : List Expression) → zak_reach o shape.ZakMix (map F es) ≡ zak_reach o shape.ZakMix es
-  mix_stays o [] = refl
-  mix_stays o (v ∷ []) = refl
   mix_stays o (v ∷ x ∷ xs) = place_stays (places_of o space.Audio) x
+  mix_stays o a = refl
 
   clear_stays : (o : Spaces) (s : Space) (es : List Expression)
       → zak_reach o (shape.ZakClear s) (map F es) ≡ zak_reach o (shape.ZakClear s) es
-  clear_stays o s [] = refl
-  clear_stays o s (x ∷ []) = refl
   clear_stays o s (x ∷ y ∷ xs) = span_stays (places_of o s) x y
+  clear_stays o s a = refl
 
   zak_moved : (o : Spaces) (r : Rate) (vs : List Variable) (opcode : Opcode) (sh : Shape) (args : List Argument)
       → ((es : List Expression) → zak_reach o sh (map F es) ≡ zak_reach o sh es)
@@ -280,22 +239,16 @@ module _ (l : PerRate ℕ) where
 
   effect_moved : (o : Spaces) (r : Rate) (vs : List Variable) (op : Opcode) (sh : Shape) (args : List Argument)
       → effect o r (map (moved_variable l) vs) op sh (map A args) ≡ moved_stmt l (effect o r vs op sh args)
-  effect_moved o r vs op shape.Init args = refl
   effect_moved o r vs op shape.Unit args = unit_moved r vs op args
   effect_moved o r vs op shape.Store args = store_moved r op args
   effect_moved o r vs op shape.Out args = ap (out r) (values_moved args)
   effect_moved o r vs op shape.OutAt args = ap (out_at r) (values_moved args)
-  effect_moved o r vs op shape.Turnoff args = refl
-  effect_moved o r vs op shape.ZakInit args = refl
   effect_moved o r vs op (shape.ZakGet s) args = zak_moved o r vs op (shape.ZakGet s) args (get_stays o s)
   effect_moved o r vs op (shape.ZakPut s) args = zak_moved o r vs op (shape.ZakPut s) args (put_stays o s)
   effect_moved o r vs op shape.ZakMix args = zak_moved o r vs op shape.ZakMix args (mix_stays o)
   effect_moved o r vs op (shape.ZakClear s) args = zak_moved o r vs op (shape.ZakClear s) args (clear_stays o s)
-  effect_moved o r vs op shape.ChannelGet args = refl
-  effect_moved o r vs op shape.ChannelPut args = refl
-  effect_moved o r vs op shape.ChannelMix args = refl
-  effect_moved o r vs op shape.ChannelClear args = refl
   effect_moved o r vs op shape.Ask args = ap ask (values_moved args)
+  effect_moved o r vs op a args = refl
 
   -- a call that is short for an assignment
   abbrev moved_assigned : Assigned → Assigned
@@ -303,38 +256,12 @@ module _ (l : PerRate ℕ) where
 
   assigned_moved : (sh : Shape) (r : Rate) (vs : List Variable) (args : List Argument)
       → assigned sh r (map (moved_variable l) vs) (map A args) ≡ option_map moved_assigned (assigned sh r vs args)
-  assigned_moved shape.Init r [] args = refl
-  assigned_moved shape.Init r (v ∷ vs) [] = refl
   assigned_moved shape.Init r (v ∷ vs) (value e ∷ args) = refl
-  assigned_moved shape.Init r (v ∷ vs) (text c ∷ args) = refl
-  assigned_moved shape.ChannelGet r [] args = refl
-  assigned_moved shape.ChannelGet r (v ∷ vs) [] = refl
-  assigned_moved shape.ChannelGet r (v ∷ vs) (value e ∷ args) = refl
   assigned_moved shape.ChannelGet r (v ∷ vs) (text c ∷ args) = refl
-  assigned_moved shape.ChannelPut r vs [] = refl
-  assigned_moved shape.ChannelPut r vs (text c ∷ args) = refl
-  assigned_moved shape.ChannelPut r vs (value e ∷ []) = refl
-  assigned_moved shape.ChannelPut r vs (value e ∷ value x ∷ args) = refl
   assigned_moved shape.ChannelPut r vs (value e ∷ text c ∷ args) = refl
-  assigned_moved shape.ChannelMix r vs [] = refl
-  assigned_moved shape.ChannelMix r vs (text c ∷ args) = refl
-  assigned_moved shape.ChannelMix r vs (value e ∷ []) = refl
-  assigned_moved shape.ChannelMix r vs (value e ∷ value x ∷ args) = refl
   assigned_moved shape.ChannelMix r vs (value e ∷ text c ∷ args) = refl
-  assigned_moved shape.ChannelClear r vs [] = refl
-  assigned_moved shape.ChannelClear r vs (value e ∷ args) = refl
   assigned_moved shape.ChannelClear r vs (text c ∷ args) = refl
-  assigned_moved shape.Out r vs args = refl
-  assigned_moved shape.OutAt r vs args = refl
-  assigned_moved shape.Turnoff r vs args = refl
-  assigned_moved shape.ZakInit r vs args = refl
-  assigned_moved shape.Ask r vs args = refl
-  assigned_moved shape.Unit r vs args = refl
-  assigned_moved shape.Store r vs args = refl
-  assigned_moved (shape.ZakGet s) r vs args = refl
-  assigned_moved (shape.ZakPut s) r vs args = refl
-  assigned_moved shape.ZakMix r vs args = refl
-  assigned_moved (shape.ZakClear s) r vs args = refl
+  assigned_moved sh r vs args = refl
 
   either_moved : (a : Option Assigned) (s : Stmt)
       → either_of (option_map moved_assigned a) (moved_stmt l s) ≡ moved_stmt l (either_of a s)

@@ -2,34 +2,22 @@
 use Rattle.std.proofs.Common.{◌≡◌, ◌∙◌, ◌+◌, ◌++◌, ◌∷◌, ℕ, List, [], Some, None, refl, ap, subst, sym}
 use Rattle.std.proofs.lemmas.Option.{none-some}
 use Rattle.cs_base.specs.declared.resource.Rate.{Rate}
-use Rattle.cs_base.specs.declared.resource.Rate.TheVariants as rate
 use Rattle.cs_ir.proofs.Drafting.{grew_on}
-use Rattle.cs_ir.specs.Drafts.{Draft, Grew}
-use Rattle.cs_ir.specs.Waves.{if_init}
-use Rattle.cs_ir.specs.declared.op.Act.TheVariants as act
-use Rattle.cs_ir.specs.declared.register.Reg.{Reg}
-use Rattle.cs_meaning.specs.When.{When, beginning, cycle}
-use Rattle.cs_code.specs.inner.Kept.{past}
-use Rattle.cs_typed.specs.TypedTree.{Expression, of_part, number, var, field, head, neg, pair, pick}
-use Rattle.cs_typed.specs.TypedTree.{apply}
-use Rattle.cs_typed.specs.WellRated.{node_rate}
-use Rattle.cs_typed.specs.declared.tree.TypedPart.{TypedPart}
-use Rattle.cs_typed.specs.declared.tree.TypedPart.TheVariants.{Number, Var, Field, Head as HeadName', Neg', Pair'}
-use Rattle.cs_typed.specs.declared.tree.TypedPart.TheVariants.{Pick', Call'}
+use Rattle.cs_ir.specs.{Drafts.Draft, Drafts.Grew, Waves.if_init, declared.register.Reg.Reg}
+use Rattle.cs_meaning.specs.When.{When, cycle}
+use Rattle.cs_code.specs.{inner.Kept.past, inner.Emitted.parts_code, inner.Emitted.parts_past}
+use Rattle.cs_typed.specs.TypedTree.{Expression, of_part, number, neg, pair, pick, apply}
+use Rattle.cs_typed.specs.{WellRated.node_rate, declared.tree.TypedPart.TypedPart}
+use Rattle.cs_typed.specs.declared.tree.TypedPart.TheVariants.{Number}
 use Rattle.cs_words.specs.declared.sign.BinOp.{BinOp}
 use Rattle.cs_code.specs.inner.Code.{own, code, operand_code, unless_there, copied, keep_code, kept_code}
-use Rattle.cs_code.specs.inner.Emitted.{parts_code, parts_past}
 use Rattle.cs_code.specs.inner.Spots.{op_of, direct, kept_or, spot, temp, reg_or}
+use Rattle.cs_base.specs.declared.resource.Rate.TheVariants as rate
+use Rattle.cs_ir.specs.declared.op.Act.TheVariants as act
 
 pub rate_of_part : (r : Rate) (w : TypedPart) → node_rate (of_part r w) ≡ r
 rate_of_part r (Number v) = refl
-rate_of_part r (Var v) = refl
-rate_of_part r (Field k) = refl
-rate_of_part r (HeadName' h) = refl
-rate_of_part r (Neg' p ra a) = refl
-rate_of_part r (Pair' op p ra a q rb c) = refl
-rate_of_part r (Pick' p rc c q ra a s rb d) = refl
-rate_of_part r (Call' f p ra a) = refl
+rate_of_part r a = refl
 
 -- a value that stands somewhere already, and one that doesn't
 pub there_code : (when : When) (at : ℕ) (e : Expression) (d : ℕ) (q : Reg) → direct when at e ≡ Some q
@@ -60,51 +48,26 @@ made_copied when at e x d h = ap (λ o. copied o x (own when at e x d)) h
 
 inner_past : (when : When) (r : Rate) (at parts : ℕ) (q : Reg) → kept_or when r at None ≡ Some q
     → if_init r (at + 1) parts ≡ if_init r (at + 1) at
-inner_past beginning r at parts q h = absurd (none-some q h)
 inner_past cycle rate.Init at parts q h = refl
-inner_past cycle rate.Control at parts q h = absurd (none-some q h)
-inner_past cycle rate.Audio at parts q h = absurd (none-some q h)
+inner_past a e at parts q h = absurd (none-some q h)
 
 pub there_past : (when : When) (at : ℕ) (e : Expression) (q : Reg) → direct when at e ≡ Some q
     → past at e ≡ if_init (node_rate e) (at + 1) at
-there_past when at (number r n) q h = refl
-there_past when at (var r v) q h = refl
-there_past when at (field r k) q h = refl
-there_past when at (head r n) q h = refl
 there_past when at (neg r a) q h = inner_past when r at (past at a) q h
 there_past when at (pair r o a b) q h = inner_past when r at (past (past at a) b) q h
 there_past when at (pick r c a b) q h = inner_past when r at (past (past (past at c) a) b) q h
 there_past when at (apply r g a) q h = inner_past when r at (past at a) q h
+there_past when at a q h = refl
 
 -- an expression is kept as a whole or by its parts
 pub keep_splits : (at : ℕ) (e : Expression)
     → keep_code at e ≡ if_init (node_rate e) (kept_code at e) (parts_code at e)
 keep_splits at (number r n) = refl
-keep_splits at (var r v) = refl
-keep_splits at (field r k) = refl
-keep_splits at (head r n) = refl
-keep_splits at (neg r a) = refl
-keep_splits at (pair r o a b) = refl
-keep_splits at (pick r c a b) = refl
-keep_splits at (apply r g a) = refl
+keep_splits at a = refl
 
 pub past_splits : (at : ℕ) (e : Expression) → past at e ≡ if_init (node_rate e) (at + 1) (parts_past at e)
 past_splits at (number r n) = refl
-past_splits at (var r v) = refl
-past_splits at (field r k) = refl
-past_splits at (head r n) = refl
-past_splits at (neg r a) = refl
-past_splits at (pair r o a b) = refl
-past_splits at (pick r c a b) = refl
-past_splits at (apply r g a) = refl
-
--- what stands somewhere already, and what is made
-pub ruleset nodes = (there_code, there_spot, there_past, made_code, made_spot)
-
-pub ruleset copies = (there_copied, made_copied, there_past)
-
--- the kept parts of an expression, by whether it changes
-pub ruleset splits = (rate_of_part, keep_splits, past_splits)
+past_splits at a = refl
 
 -- Two operands one after another, and the op on them; and three.
 pub made_pair : (when : When) (at next d one : ℕ) (r : Rate) (b : BinOp) (e y z : Expression) (x p q : Reg)
@@ -145,3 +108,11 @@ made_pick when at next last d one two r e v y z x o p q from old first second th
     ++ (operand_code when (last_is i) z (two_is i) ++ (op_of act.Pick x (regs i) ∷ []))))
     ∙ sym (ap (λ k. own when at k x d) is))
     (grew_on old first new _ _ a (grew_on first second new _ _ b (grew_on second third new _ _ c op)))
+
+-- what stands somewhere already, and what is made
+pub ruleset nodes = (there_code, there_spot, there_past, made_code, made_spot)
+
+pub ruleset copies = (there_copied, made_copied, there_past)
+
+-- the kept parts of an expression, by whether it changes
+pub ruleset splits = (rate_of_part, keep_splits, past_splits)

@@ -1,34 +1,28 @@
 -- Kept values have numbers of their own, and units are numbered by those in front of them.
-use Rattle.std.proofs.Common.{◌≡◌, ◌∙◌, ℕ, zero, suc, ◌+◌, ◌<◌, ◌≤◌, List, [], ◌∷◌, ◌++◌, Option, Some, refl, sym}
-use Rattle.std.proofs.Common.{ap, arith, le_trans, add-zero, append-nil}
+use Rattle.std.proofs.Common.{◌≡◌, ◌∙◌, ℕ, zero, suc, ◌+◌, ◌<◌, ◌≤◌, List, [], ◌∷◌, ◌++◌, Option, Some, refl, sym, ap}
+use Rattle.std.proofs.Common.{arith, le_trans, add-zero, append-nil}
 use Rattle.std.proofs.lemmas.Option.{none-some}
 use Rattle.cs_base.proofs.Tests.{some_is}
 use Rattle.cs_base.specs.declared.resource.Rate.{Rate}
-use Rattle.cs_base.specs.declared.resource.Rate.TheVariants as rate
 use Rattle.cs_ir.specs.Waves.{if_init}
-use Rattle.cs_meaning.specs.Core.{Stmt, Block, Arms, set, unit, zak, store, out, out_at, ask, turnoff, nothing, choose}
-use Rattle.cs_meaning.specs.Core.{no_stmt, andthen, otherwise, arm}
+use Rattle.cs_meaning.specs.Core.{Stmt, Block, Arms, set, unit, zak, store, out, out_at, nothing, choose, no_stmt}
+use Rattle.cs_meaning.specs.Core.{andthen, otherwise, arm}
 use Rattle.cs_meaning.specs.Notes.{Path, next, unit_past, unit_past_block, unit_past_arms}
-use Rattle.cs_typed.specs.TypedTree.{Expression, number, var, field, head, neg, pair, pick, apply}
+use Rattle.cs_typed.specs.TypedTree.{Expression, number, neg, pair, pick, apply}
 use Rattle.cs_typed.specs.WellRated.{node_rate}
-use Rattle.cs_code.specs.declared.frame.Progress.{Progress}
+use Rattle.cs_code.specs.{declared.frame.Progress.Progress, inner.Kept.inward, inner.Kept.registers}
 use Rattle.cs_code.specs.inner.Kept.{start, past, past_all, past_parts, past_stmt, past_block, past_arms, itself}
 use Rattle.cs_code.specs.inner.Kept.{nowhere, parts, numbers, all_numbers, stmt_numbers, block_numbers, arms_numbers}
-use Rattle.cs_code.specs.inner.Kept.{inward, registers}
 use Rattle.cs_code.proofs.Inside.{AreApart, LaysOn, behind, behind_is}
+use Rattle.cs_base.specs.declared.resource.Rate.TheVariants as rate
 
 -- ---- numbers grow
 
 if_grows : (r : Rate) (at n : ℕ) → at ≤ n → at ≤ if_init r (at + 1) n
 if_grows rate.Init at n h = omega arith
-if_grows rate.Control at n h = h
-if_grows rate.Audio at n h = h
+if_grows a at n h = h
 
 pub past_grows : (at : ℕ) (e : Expression) → at ≤ past at e
-past_grows at (number r n) = if_grows r at at (omega arith)
-past_grows at (var r v) = if_grows r at at (omega arith)
-past_grows at (field r k) = if_grows r at at (omega arith)
-past_grows at (head r h) = if_grows r at at (omega arith)
 past_grows at (neg r a) = if_grows r at (past at a) (past_grows at a)
 past_grows at (pair r o a b) =
     if_grows r at (past (past at a) b) (le_trans (past_grows at a) (past_grows (past at a) b))
@@ -36,6 +30,7 @@ past_grows at (pick r c a b) =
     if_grows r at (past (past (past at c) a) b)
     (le_trans (past_grows at c) (le_trans (past_grows (past at c) a) (past_grows (past (past at c) a) b)))
 past_grows at (apply r g a) = if_grows r at (past at a) (past_grows at a)
+past_grows at w = if_grows (node_rate w) at at (omega arith)
 
 pub past_all_grows : (at : ℕ) (es : List Expression) → at ≤ past_all at es
 past_all_grows at [] = omega arith
@@ -43,8 +38,7 @@ past_all_grows at (e ∷ es) = le_trans (past_grows at e) (past_all_grows (past 
 
 if_below : (r : Rate) (at n : ℕ) → at ≤ n → at ≤ if_init r at n
 if_below rate.Init at n h = omega arith
-if_below rate.Control at n h = h
-if_below rate.Audio at n h = h
+if_below a at n h = h
 
 mutual
   stmt_grows : (p : Progress) (s : Stmt) → p.part ≤ (past_stmt p s).part
@@ -54,10 +48,8 @@ mutual
   stmt_grows p (store r reach es is) = if_below r p.part (past_all p.part es) (past_all_grows p.part es)
   stmt_grows p (out r es) = past_all_grows p.part es
   stmt_grows p (out_at r es) = past_all_grows p.part es
-  stmt_grows p (ask es) = omega arith
-  stmt_grows p (turnoff r) = omega arith
-  stmt_grows p nothing = omega arith
   stmt_grows p (choose r arms) = arms_grow p arms
+  stmt_grows p a = omega arith
 
   pub block_grows : (p : Progress) (b : Block) → p.part ≤ (past_block p b).part
   block_grows p no_stmt = omega arith
@@ -120,23 +112,17 @@ last_ranged from end n low h = parts_ranged from end end n nowhere low (omega ar
 rate_ranged : (r : Rate) (at end : ℕ) (n : Path → Option ℕ) → Ranged at end n
     → Ranged at (if_init r (at + 1) end) (if_init r (itself at) n)
 rate_ranged rate.Init at end n h = itself_ranged at
-rate_ranged rate.Control at end n h = h
-rate_ranged rate.Audio at end n h = h
+rate_ranged a at end n h = h
 
 unless_ranged : (r : Rate) (at end : ℕ) (n : Path → Option ℕ) → Ranged at end n
     → Ranged at (if_init r at end) (if_init r nowhere n)
 unless_ranged rate.Init at end n h = nowhere_ranged at at
-unless_ranged rate.Control at end n h = h
-unless_ranged rate.Audio at end n h = h
+unless_ranged a at end n h = h
 
 one_ranged : (r : Rate) (at : ℕ) → Ranged at (if_init r (at + 1) at) (if_init r (itself at) nowhere)
 one_ranged r at = rate_ranged r at at nowhere (nowhere_ranged at at)
 
 ranged : (at : ℕ) (e : Expression) → Ranged at (past at e) (numbers at e)
-ranged at (number r n) = one_ranged r at
-ranged at (var r v) = one_ranged r at
-ranged at (field r k) = one_ranged r at
-ranged at (head r h) = one_ranged r at
 ranged at (neg r a) = rate_ranged r at (past at a) _
     (last_ranged at (past at a) (numbers at a) (past_grows at a) (ranged at a))
 ranged at (pair r o a b) =
@@ -158,6 +144,7 @@ ranged at (pick r c a b) =
     (last_ranged two end (numbers two b) (past_grows two b) (ranged two b))))
 ranged at (apply r g a) =
     rate_ranged r at (past at a) _ (last_ranged at (past at a) (numbers at a) (past_grows at a) (ranged at a))
+ranged at w = one_ranged (node_rate w) at
 
 all_ranged : (at : ℕ) (es : List Expression) → Ranged at (past_all at es) (all_numbers at es)
 all_ranged at [] = nowhere_ranged at at
@@ -178,10 +165,8 @@ mutual
       unless_ranged r p.part (past_all p.part es) (all_numbers p.part es) (all_ranged p.part es)
   stmt_ranged p (out r es) = all_ranged p.part es
   stmt_ranged p (out_at r es) = all_ranged p.part es
-  stmt_ranged p (ask es) = nowhere_ranged p.part p.part
-  stmt_ranged p (turnoff r) = nowhere_ranged p.part p.part
-  stmt_ranged p nothing = nowhere_ranged p.part p.part
   stmt_ranged p (choose r arms) = arms_ranged p arms
+  stmt_ranged p a = nowhere_ranged p.part p.part
 
   block_ranged : (p : Progress) (b : Block) → Ranged p.part (past_block p b).part (block_numbers p b)
   block_ranged p no_stmt = nowhere_ranged p.part p.part
@@ -241,28 +226,14 @@ still_once at r n h = ap (λ q. if_init q (itself at) n []) h
 
 pub still_number : (at : ℕ) (e : Expression) → node_rate e ≡ rate.Init → numbers at e [] ≡ Some at
 still_number at (number r n) h = still_once at r _ h
-still_number at (var r v) h = still_once at r _ h
-still_number at (field r k) h = still_once at r _ h
-still_number at (head r k) h = still_once at r _ h
-still_number at (neg r a) h = still_once at r _ h
-still_number at (pair r b x y) h = still_once at r _ h
-still_number at (pick r c x y) h = still_once at r _ h
-still_number at (apply r g x) h = still_once at r _ h
+still_number at w h = still_once at (node_rate w) _ h
 
 -- ---- units
 
 mutual
   pub stmt_unit : (p : Progress) (s : Stmt) → (past_stmt p s).unit ≡ unit_past p.unit s
-  stmt_unit p (set r v e) = refl
-  stmt_unit p (unit r vs opcode reach xs is) = refl
-  stmt_unit p (zak r vs opcode reach xs) = refl
-  stmt_unit p (store r reach es is) = refl
-  stmt_unit p (out r es) = refl
-  stmt_unit p (out_at r es) = refl
-  stmt_unit p (ask es) = refl
-  stmt_unit p (turnoff r) = refl
-  stmt_unit p nothing = refl
   stmt_unit p (choose r arms) = arms_unit p arms
+  stmt_unit p a = refl
 
   pub block_unit : (p : Progress) (b : Block) → (past_block p b).unit ≡ unit_past_block p.unit b
   block_unit p no_stmt = refl

@@ -1,14 +1,11 @@
 -- Values that go out, one register after another.
-use Rattle.std.proofs.Common.{◌≡◌, ◌∙◌, ◌+◌, ◌<◌, ◌++◌, ◌∷◌, [], ℕ, List, Option, Some, None, drop, get_or, length}
-use Rattle.std.proofs.Common.{ap, option_to_list, subst, sym}
+use Rattle.std.proofs.Common.{◌≡◌, ◌∙◌, ◌+◌, ◌<◌, ◌++◌, ◌∷◌, [], ℕ, List, Option, Some, None, drop, get_or, length, ap}
+use Rattle.std.proofs.Common.{option_to_list, subst, sym}
 use Rattle.std.proofs.lemmas.List.{drop_more}
-use Rattle.cs_ir.specs.Drafts.{Draft, Grew}
-use Rattle.cs_ir.specs.declared.op.Act.TheVariants as act
-use Rattle.cs_ir.specs.declared.op.Op.{Op}
-use Rattle.cs_ir.specs.declared.register.Reg.{Reg}
-use Rattle.cs_code.specs.inner.Code.{out_at_ops, out_ops}
-use Rattle.cs_code.specs.inner.Spots.{op_of}
+use Rattle.cs_ir.specs.{Drafts.Draft, Drafts.Grew, declared.op.Op.Op, declared.register.Reg.Reg}
+use Rattle.cs_code.specs.{inner.Code.out_at_ops, inner.Code.out_ops, inner.Spots.op_of}
 use Rattle.cs_code.proofs.Growing.{Leads, leads_on}
+use Rattle.cs_ir.specs.declared.op.Act.TheVariants as act
 
 pub out_more : (old here next : Draft) (n i : ℕ) (qs : List Reg) (d : Reg) (from : List Reg) (whole : List Op)
     → i < length qs → from ≡ get_or qs i d ∷ []

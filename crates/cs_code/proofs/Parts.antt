@@ -1,43 +1,33 @@
 -- The code of assignments, kept parts and units does what they mean.
-use Rattle.std.proofs.Common.{◌≡◌, ℕ, suc, ◌+◌, ◌≤◌, ℤ, Bool, true, false, List, [], ◌∷◌, ◌++◌, length, map}
-use Rattle.std.proofs.Common.{Option, Some, if◌then◌else◌, refl, sym, ◌∙◌, ap, subst, arith, le_trans}
-use Rattle.cs_base.proofs.Rates.{same_rate_is}
+use Rattle.std.proofs.Common.{◌≡◌, ℕ, suc, ◌+◌, ◌≤◌, ℤ, Bool, true, false, List, [], ◌∷◌, ◌++◌, length, map, Option}
+use Rattle.std.proofs.Common.{Some, if◌then◌else◌, refl, sym, ◌∙◌, ap, subst, arith, le_trans}
+use Rattle.cs_base.proofs.{Rates.same_rate_is, Tests.by_test, Tests.some_is}
 use Rattle.std.proofs.lemmas.Slice.Eq.{bytes_eq-Decides}
 use Rattle.std.specs.Str.{bytes_eq as same_path}
-use Rattle.cs_base.proofs.Tests.{by_test, some_is}
-use Rattle.cs_base.specs.Rates.{same_rate, res_rate}
-use Rattle.cs_base.specs.declared.resource.Rate.{Rate}
-use Rattle.cs_base.specs.declared.resource.Rate.TheVariants as rate
-use Rattle.cs_base.specs.declared.resource.Res.{Res}
+use Rattle.cs_base.specs.{Rates.same_rate, Rates.res_rate, declared.resource.Rate.Rate, declared.resource.Res.Res}
 use Rattle.cs_words.specs.declared.catalogue.Opcode.{Opcode}
 use Rattle.cs_ir.specs.Machine.{Machine, same_reg, put, write, written, gives, in_world, acts, step, run}
-use Rattle.cs_ir.specs.Registers.{rate_at}
+use Rattle.cs_ir.specs.{Registers.rate_at, Worlds.World, declared.op.Act.Act, declared.op.Op.Op}
+use Rattle.cs_ir.specs.{declared.op.Reach.Reach, declared.register.Reg.Reg}
 use Rattle.cs_ir.specs.Waves.{Wave, held, constant, if_init, first_values}
-use Rattle.cs_ir.specs.Worlds.{World}
-use Rattle.cs_ir.specs.declared.op.Act.{Act}
-use Rattle.cs_ir.specs.declared.op.Act.TheVariants as act
-use Rattle.cs_ir.specs.declared.op.Op.{Op}
-use Rattle.cs_ir.specs.declared.op.Reach.{Reach}
-use Rattle.cs_ir.specs.declared.register.Reg.{Reg}
 use Rattle.cs_meaning.specs.Initialising.{put_kept, keep, keep_all, started, sought}
 use Rattle.cs_meaning.specs.Notes.{Note, Path, next, reg, moved_to, assign, value, values, first_value, done}
 use Rattle.cs_meaning.specs.When.{When, beginning}
 use Rattle.cs_code.specs.inner.Kept.{past, itself, nowhere, numbers, all_numbers}
-use Rattle.cs_typed.specs.TypedTree.{Expression, number, var, field, head, neg, pair, pick, apply}
-use Rattle.cs_typed.specs.WellRated.{node_rate}
-use Rattle.cs_typed.specs.declared.tree.Var.{Var as Variable}
+use Rattle.cs_typed.specs.TypedTree.{Expression, neg, pair, pick, apply}
+use Rattle.cs_typed.specs.{WellRated.node_rate, declared.tree.Var.Var as Variable}
 use Rattle.cs_typed.specs.declared.tree.Var.TheVariants.{Local, Global}
-use Rattle.cs_code.specs.Means.{StandsInMachine}
+use Rattle.cs_code.specs.{Means.StandsInMachine, inner.Code.store_code, inner.Code.ask_code}
 use Rattle.cs_code.specs.inner.Spots.{op_of, kept_reg, temp, spot, spots}
 use Rattle.cs_code.specs.inner.Code.{code, operand_code, operands_code, kept_code, keep_code, keep_all_code, set_code}
 use Rattle.cs_code.specs.inner.Code.{target, given_code, on_code, run_code, start_code, unit_code, zak_code, seek_code}
-use Rattle.cs_code.specs.inner.Code.{store_code, ask_code}
 use Rattle.cs_code.proofs.Expressions.{Wrote, live_same, stands_same, operands_run, operand_runs, code_runs}
-use Rattle.cs_code.proofs.Named.{target_rate}
-use Rattle.cs_code.proofs.Inside.{AreApart, Lays, LaysOn, Reads, Takes}
+use Rattle.cs_code.proofs.{Named.target_rate, Inside.AreApart, Inside.Lays, Inside.LaysOn, Inside.Reads, Inside.Takes}
 use Rattle.cs_ir.proofs.RegisterKinds.{local_rate, same_reg_is}
-use Rattle.cs_code.proofs.Runs.{Live, run_append, live_step, run_snoc, apart, put_here, put_other, held_again}
-use Rattle.cs_code.proofs.Runs.{Under, under_local, under_apart, local_not_kept, kept_not_local, temp_rate}
+use Rattle.cs_code.proofs.Runs.{Live, run_append, live_step, run_snoc, apart, put_here, put_other, held_again, Under}
+use Rattle.cs_code.proofs.Runs.{under_local, under_apart, local_not_kept, kept_not_local, temp_rate}
+use Rattle.cs_base.specs.declared.resource.Rate.TheVariants as rate
+use Rattle.cs_ir.specs.declared.op.Act.TheVariants as act
 
 -- What a note can do in a world without being refused: only the start of a unit, the search for a table, and a note
 -- that it asks for, may be refused.
@@ -151,8 +141,7 @@ module _ {W : Type 0} (o : World W) (placed : Path → Option ℕ) (distinct : A
       → Kept placed (if_init r (put_kept path z t) s) m (run o place (if_init r once each) m)
   rate_runs rate.Init t s at path inner place z m once each stands lays first other =
       kept_wrote t path at z m (run o place once m) stands (lays []) (first refl)
-  rate_runs rate.Control t s at path inner place z m once each stands lays first other = other lays
-  rate_runs rate.Audio t s at path inner place z m once each stands lays first other = other lays
+  rate_runs a t s at path inner place z m once each stands lays first other = other lays
 
   once_wrote : (t : Note W) (e : Expression) (at place : ℕ) (m : Machine W) → StandsInMachine placed t m
       → Live o place m → node_rate e ≡ rate.Init
@@ -176,18 +165,6 @@ module _ {W : Type 0} (o : World W) (placed : Path → Option ℕ) (distinct : A
       → StandsInMachine placed t m → Live o place m
       → Lays placed path (numbers at e)
       → Kept placed (keep o path e t) m (run o place (keep_code at e) m)
-  keep_runs (number r z) t at path place m s l lays =
-      rate_runs r t t at path nowhere place (first_value o t (number r z)) m (kept_code at (number r z)) [] s lays
-      (once_wrote t (number r z) at place m s l) (λ b. kept_self t m s)
-  keep_runs (var r v) t at path place m s l lays =
-      rate_runs r t t at path nowhere place (first_value o t (var r v)) m (kept_code at (var r v)) [] s lays
-      (once_wrote t (var r v) at place m s l) (λ b. kept_self t m s)
-  keep_runs (field r k) t at path place m s l lays =
-      rate_runs r t t at path nowhere place (first_value o t (field r k)) m (kept_code at (field r k)) [] s lays
-      (once_wrote t (field r k) at place m s l) (λ b. kept_self t m s)
-  keep_runs (head r h) t at path place m s l lays =
-      rate_runs r t t at path nowhere place (first_value o t (head r h)) m (kept_code at (head r h)) [] s lays
-      (once_wrote t (head r h) at place m s l) (λ b. kept_self t m s)
   keep_runs (neg r a) t at path place m s l lays =
       rate_runs r t (keep o (0 ∷ path) a t) at path (all_numbers at (a ∷ [])) place (first_value o t (neg r a)) m
       (kept_code at (neg r a)) (keep_code at a) s lays
@@ -231,6 +208,9 @@ module _ {W : Type 0} (o : World W) (placed : Path → Option ℕ) (distinct : A
       (kept_code at (apply r g a)) (keep_code at a) s lays
       (once_wrote t (apply r g a) at place m s l)
       (λ b. keep_runs a t at (0 ∷ path) place m s l (λ q. b (0 ∷ q)))
+  keep_runs w t at path place m s l lays =
+      rate_runs (node_rate w) t t at path nowhere place (first_value o t w) m (kept_code at w) [] s lays
+      (once_wrote t w at place m s l) (λ b. kept_self t m s)
 
   pub keep_all_runs : (es : List Expression) (t : Note W) (at : ℕ) (path : Path) (place : ℕ) (m : Machine W)
       → StandsInMachine placed t m

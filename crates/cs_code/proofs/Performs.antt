@@ -2,37 +2,29 @@
 use Rattle.std.proofs.Common.{◌≡◌, ℕ, suc, ◌+◌, Bool, true, false, List, [], ◌∷◌, ◌++◌, length, map, Option}
 use Rattle.std.proofs.Common.{if◌then◌else◌, refl, sym, ◌∙◌, ap, subst, arith, le_trans, length-append}
 use Rattle.cs_base.specs.declared.resource.Rate.{Rate}
-use Rattle.cs_base.specs.declared.resource.Rate.TheVariants as rate
-use Rattle.cs_ir.specs.Machine.{Machine, in_world, run}
-use Rattle.cs_ir.specs.Values.{holds}
-use Rattle.cs_ir.specs.Waves.{Wave, held, if_init}
-use Rattle.cs_ir.specs.Worlds.{World}
-use Rattle.cs_ir.specs.declared.op.Act.TheVariants as act
-use Rattle.cs_ir.specs.declared.op.Op.{Op}
-use Rattle.cs_ir.specs.declared.register.Reg.{Reg}
+use Rattle.cs_ir.specs.{Machine.Machine, Machine.in_world, Machine.run, Values.holds, Waves.Wave, Waves.held}
+use Rattle.cs_ir.specs.{Waves.if_init, Worlds.World, declared.op.Op.Op, declared.register.Reg.Reg}
 use Rattle.cs_meaning.specs.Core.{Stmt, Block, Arms, set, unit, zak, store, out, out_at, ask, turnoff, nothing, choose}
 use Rattle.cs_meaning.specs.Core.{no_stmt, andthen, otherwise, arm}
-use Rattle.cs_meaning.specs.Notes as meaning
-use Rattle.cs_meaning.specs.Notes.{Note, Path, next, inside, inside_arm, past_arm, moved_to, assign, given, done}
-use Rattle.cs_meaning.specs.Notes.{value, values, sent, sent_at}
-use Rattle.cs_code.specs.declared.frame.Progress.{Progress}
-use Rattle.cs_code.specs.inner.Kept.{past, past_parts, past_stmt, past_block, nowhere, parts, numbers}
-use Rattle.cs_code.specs.inner.Kept.{all_numbers, stmt_numbers, block_numbers, arms_numbers}
+use Rattle.cs_meaning.specs.Notes.{Note, Path, next, inside, inside_arm, past_arm, moved_to, assign, given, done, value}
+use Rattle.cs_meaning.specs.{Notes.values, Notes.sent, Notes.sent_at, When.cycle}
+use Rattle.cs_code.specs.{declared.frame.Progress.Progress, Means.StandsInMachine}
+use Rattle.cs_code.specs.inner.Kept.{past, past_parts, past_stmt, past_block, nowhere, parts, numbers, all_numbers}
+use Rattle.cs_code.specs.inner.Kept.{stmt_numbers, block_numbers, arms_numbers}
 use Rattle.cs_meaning.specs.Performing.{perf_stmt, perf_block, perf_arms}
-use Rattle.cs_meaning.specs.When.{cycle}
-use Rattle.cs_typed.specs.TypedTree.{Expression}
-use Rattle.cs_typed.specs.declared.tree.Var.{Var as Variable}
+use Rattle.cs_typed.specs.{TypedTree.Expression, declared.tree.Var.Var as Variable}
 use Rattle.cs_typed.specs.declared.tree.Var.TheVariants.{Local, Global}
-use Rattle.cs_code.specs.Means.{StandsInMachine}
 use Rattle.cs_code.specs.inner.Spots.{op_of, spot, spots, temp}
 use Rattle.cs_code.specs.inner.Code.{operand_code, operands_code, set_code, unit_code, zak_code, store_code, out_ops}
 use Rattle.cs_code.specs.inner.Code.{out_at_ops, arm_code, perf_code, perf_block_code, perf_arms_code}
 use Rattle.cs_code.proofs.Arms.{Agrees, agrees_live, arm_runs}
 use Rattle.cs_code.proofs.Expressions.{live_same, stands_same, operands_run, operand_runs}
 use Rattle.cs_code.proofs.Inside.{AreApart, Lays, LaysOn, lays_on, stands_at, SuitsStmt, SuitsBlock, SuitsArms}
-use Rattle.cs_code.proofs.Numbers.{stmt_unit, block_unit}
+use Rattle.cs_code.proofs.{Numbers.stmt_unit, Numbers.block_unit, Runs.Live, Runs.run_append, Runs.live_step}
 use Rattle.cs_code.proofs.Parts.{Quiet, Reached, moved_stands, set_runs, unit_runs, zak_runs, store_runs}
-use Rattle.cs_code.proofs.Runs.{Live, run_append, live_step}
+use Rattle.cs_base.specs.declared.resource.Rate.TheVariants as rate
+use Rattle.cs_ir.specs.declared.op.Act.TheVariants as act
+use Rattle.cs_meaning.specs.Notes as meaning
 
 pub arm_length : (place : ℕ) (before : List Op) (q : Reg) (body rest : List Op)
     → place + length before + 1 + length body + 1 + length rest ≡ place + length (arm_code place before q body rest)
@@ -59,15 +51,13 @@ module _ {W : Type 0} (o : World W) (quiet : Quiet o) where
   sent_quiet c (w ∷ ws) x = sent_quiet (c + 1) ws (o.out c w x) ∙ quiet.out c w x
 
   sent_at_quiet : (ws : List Wave) (x : W) → o.refused (sent_at o ws x) ≡ o.refused x
-  sent_at_quiet [] x = refl
-  sent_at_quiet (k ∷ []) x = refl
   sent_at_quiet (k ∷ (w ∷ ws)) x = sent_at_quiet ws (o.out_at k w x) ∙ quiet.out_at k w x
+  sent_at_quiet a x = refl
 
   init_quiet : (r : Rate) (t s : Note W) → o.refused s.world ≡ o.refused t.world
       → o.refused (if_init r t s).world ≡ o.refused t.world
   init_quiet rate.Init t s h = refl
-  init_quiet rate.Control t s h = h
-  init_quiet rate.Audio t s h = h
+  init_quiet a t s h = h
 
   if_quiet : (b : Bool) (t s u : Note W) → o.refused s.world ≡ o.refused t.world → o.refused u.world ≡ o.refused t.world
       → o.refused (if b then s else u).world ≡ o.refused t.world
@@ -94,10 +84,9 @@ module _ {W : Type 0} (o : World W) (quiet : Quiet o) where
         init_quiet r t (moved_to (o.store r reach ws t.world) t) (quiet.store r reach ws t.world)
     stmt_quiet p (out r es) t = sent_quiet 0 (values o t cycle (0 ∷ p.path) es) t.world
     stmt_quiet p (out_at r es) t = sent_at_quiet (values o t cycle (0 ∷ p.path) es) t.world
-    stmt_quiet p (ask es) t = refl
     stmt_quiet p (turnoff r) t = quiet.turnoff t.world
-    stmt_quiet p nothing t = refl
     stmt_quiet p (choose r arms) t = arms_quiet (inside p) arms t
+    stmt_quiet p a t = refl
 
     pub block_quiet : (p : meaning.StatementPlace) (b : Block) (t : Note W)
         → o.refused (perf_block o p b t).world ≡ o.refused t.world
@@ -127,14 +116,13 @@ module _ {W : Type 0} (o : World W) (quiet : Quiet o) where
 
   out_at_ops_run : (qs : List Reg) (place : ℕ) (m : Machine W) → Live o place m
       → run o place (out_at_ops qs) m ≡ in_world (sent_at o (map m.regs qs) m.world) m
-  out_at_ops_run [] place m l = refl
-  out_at_ops_run (k ∷ []) place m l = refl
   out_at_ops_run (k ∷ (q ∷ qs)) place m l =
       let n : Machine W = in_world (o.out_at (m.regs k) (m.regs q) m.world) m in
       let live : Live o (place + 1) n =
       record { next = le_trans l.next (omega arith); going = quiet.out_at (m.regs k) (m.regs q) m.world ∙ l.going } in
       ap (run o (place + 1) (out_at_ops qs)) (live_step o place (op_of act.OutAt q (k ∷ q ∷ [])) m l)
       ∙ out_at_ops_run qs (place + 1) n live
+  out_at_ops_run a place m l = refl
 
 module _ {W : Type 0} (o : World W) (quiet : Quiet o) (placed : Path → Option ℕ)
     (distinct : AreApart placed) where
@@ -175,8 +163,7 @@ module _ {W : Type 0} (o : World W) (quiet : Quiet o) (placed : Path → Option 
       → Agrees placed (place + length (if_init r [] ops)) (if_init r t s) (run o place (if_init r [] ops) m)
   each_cycle rate.Init t s place path n ops m h lays does =
       record { stands = h.stands; next = le_trans h.next (omega arith) }
-  each_cycle rate.Control t s place path n ops m h lays does = does lays
-  each_cycle rate.Audio t s place path n ops m h lays does = does lays
+  each_cycle a t s place path n ops m h lays does = does lays
 
   mutual
     pub perf_runs : (s : Stmt) (path : Path) (p : Progress) (place : ℕ) (t : Note W) (m : Machine W)

@@ -3,8 +3,7 @@ use Rattle.std.proofs.Common.{◌≡◌, refl, ap}
 use Rattle.std.specs.Option.{is_some}
 use Rattle.cs_words.specs.Catalogue.{row_of}
 use Rattle.cs_ir.specs.Waves.{operand}
-use Rattle.cs_meaning.specs.Pieces.{Piece, index}
-use Rattle.cs_meaning.specs.Plain.{Plain, plain, plain_model}
+use Rattle.cs_meaning.specs.{Pieces.Piece, Pieces.index, Plain.Plain, Plain.plain, Plain.plain_model}
 use Rattle.cs_meaning.proofs.Rest.{Rest, rest, unit_rest, store_rest, zak_rest, numbered_rest}
 use Rattle.cs_code.proofs.Parts.{Quiet}
 

@@ -1,20 +1,16 @@
 -- Rates of expressions and statements, as far as their code needs them.
 use Rattle.std.proofs.Common.{◌≡◌, ◌≤◌, Bool, true, false, ◌&&◌, List, [], ◌∷◌, length, map}
-use Rattle.cs_base.specs.Rates.{is_audio, within, res_rate}
-use Rattle.cs_base.specs.declared.resource.Rate.{Rate}
-use Rattle.cs_base.specs.declared.resource.Rate.TheVariants as rate
+use Rattle.cs_base.specs.{Rates.is_audio, Rates.within, Rates.res_rate, declared.resource.Rate.Rate}
 use Rattle.cs_words.specs.Catalogue.{row_of, moving_letters, unit_takes}
 use Rattle.cs_words.specs.declared.catalogue.Opcode.{Opcode}
-use Rattle.cs_ir.specs.Units.{is_unit, is_zak}
+use Rattle.cs_ir.specs.{Units.is_unit, Units.is_zak, declared.register.Reg.Reg}
 use Rattle.cs_ir.specs.Validity.{suits_operator, suits_function, take_all, stores_with, may_run_at, bound_at, has_value}
-use Rattle.cs_ir.specs.declared.register.Reg.{Reg}
-use Rattle.cs_meaning.specs.Core.{Stmt, Block, Arms, set, unit, zak, store, out, out_at, ask, turnoff, nothing, choose}
-use Rattle.cs_meaning.specs.Core.{no_stmt, andthen, otherwise, arm}
-use Rattle.cs_meaning.specs.Notes.{reg}
-use Rattle.cs_typed.specs.TypedTree.{Expression, number, var, field, head, neg, pair, pick, apply}
-use Rattle.cs_typed.specs.WellRated.{node_rate, var_rate}
-use Rattle.cs_typed.specs.declared.tree.Var.{Var as Variable}
+use Rattle.cs_meaning.specs.Core.{Stmt, Block, Arms, set, unit, zak, store, out, out_at, ask, choose, no_stmt, andthen}
+use Rattle.cs_meaning.specs.{Core.otherwise, Core.arm, Notes.reg}
+use Rattle.cs_typed.specs.TypedTree.{Expression, number, var, neg, pair, pick, apply}
+use Rattle.cs_typed.specs.{WellRated.node_rate, WellRated.var_rate, declared.tree.Var.Var as Variable}
 use Rattle.cs_typed.specs.declared.tree.Var.TheVariants.{Local, Global}
+use Rattle.cs_base.specs.declared.resource.Rate.TheVariants as rate
 
 -- a variable of a note, or what notes share and has a value
 abbrev pub holds_value : Variable → Bool
@@ -23,11 +19,8 @@ holds_value (Global g) = has_value g
 
 -- No part changes faster than the whole, and what notes share has a value that changes as often as it is read.
 abbrev pub Ranked : Expression → Type 0
-Ranked (number r n) = Unit {0}
 Ranked (var r (Local q n)) = q ≡ r
 Ranked (var r (Global g)) = (has_value g && within r (res_rate g)) ≡ true
-Ranked (field r k) = Unit {0}
-Ranked (head r h) = Unit {0}
 Ranked (neg r a) = (within (node_rate a) r ≡ true) × Ranked a
 Ranked (pair r o a b) =
     (within (node_rate a) r ≡ true) × (within (node_rate b) r ≡ true) × (suits_operator o r ≡ true) × Ranked a
@@ -37,6 +30,7 @@ Ranked (pick r c a b) =
     × (within (node_rate b) r ≡ true)
     × Ranked c × Ranked a × Ranked b
 Ranked (apply r g a) = (suits_function g r (node_rate a) ≡ true) × Ranked a
+Ranked a = Unit {0}
 
 abbrev pub AllRanked : List Expression → Type 0
 AllRanked [] = Unit {0}
@@ -52,9 +46,8 @@ AllSound [] = Unit {0}
 AllSound (e ∷ es) = (is_audio (node_rate e) ≡ true) × AllSound es
 
 abbrev pub Paired : List Expression → Type 0
-Paired [] = Unit {0}
-Paired (c ∷ []) = Unit {0}
 Paired (c ∷ (e ∷ es)) = (is_audio (node_rate c) ≡ false) × (is_audio (node_rate e) ≡ true) × Paired es
+Paired a = Unit {0}
 
 -- a register of each one's rate
 abbrev pub rated : List Expression → List Reg
@@ -99,9 +92,8 @@ abbrev mutual
   RankedStmt (out r es) = AllSound es × AllRanked es
   RankedStmt (out_at r es) = Paired es × AllRanked es
   RankedStmt (ask es) = (3 ≤ length es) × AllInit es × AllRanked es
-  RankedStmt (turnoff r) = Unit {0}
-  RankedStmt nothing = Unit {0}
   RankedStmt (choose r arms) = RankedArms arms
+  RankedStmt a = Unit {0}
 
   pub RankedBlock : Block → Type 0
   RankedBlock no_stmt = Unit {0}

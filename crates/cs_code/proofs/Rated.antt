@@ -2,30 +2,24 @@
 use Rattle.std.proofs.Common.{◌≡◌, Bool, true, false, List, [], ◌∷◌, length, if◌then◌else◌, refl, sym, subst, arith}
 use Rattle.std.proofs.Common.{ne_eqb, Option, Some, None}
 use Rattle.std.proofs.lemmas.Bool.{and_parts}
-use Rattle.cs_base.specs.Rates.{is_init}
-use Rattle.cs_base.specs.declared.resource.Rate.{Rate}
-use Rattle.cs_base.specs.declared.resource.Rate.TheVariants as rate
-use Rattle.cs_base.specs.declared.spaces.Spaces.{Spaces}
+use Rattle.cs_base.specs.{Rates.is_init, declared.resource.Rate.Rate, declared.spaces.Spaces.Spaces}
 use Rattle.cs_words.specs.Catalogue.{row_of, result_count}
-use Rattle.cs_words.specs.declared.catalogue.Opcode.{Opcode}
-use Rattle.cs_words.specs.declared.catalogue.Shape.{Shape}
-use Rattle.cs_words.specs.declared.catalogue.Shape.TheVariants as shape
+use Rattle.cs_words.specs.{declared.catalogue.Opcode.Opcode, declared.catalogue.Shape.Shape}
 use Rattle.cs_meaning.specs.Core.{Stmt, core, core_stmt, core_arms, core_call}
-use Rattle.cs_typed.specs.TypedTree as typed
-use Rattle.cs_typed.specs.TypedTree.{Argument}
+use Rattle.cs_typed.specs.{TypedTree.Argument, declared.setting.Setting.Setting, declared.tree.Var.Var as Variable}
 use Rattle.cs_typed.specs.WellRated.{node_rate, all_still, IsRatedStatement, IsRatedBlock, IsRatedArms}
-use Rattle.cs_typed.specs.declared.setting.Setting.{Setting}
-use Rattle.cs_typed.specs.declared.tree.Var.{Var as Variable}
 use Rattle.cs_code.specs.inner.Emitted.{Assigned, assigned, effect}
 use Rattle.cs_code.proofs.Calls.{by_assigned, either_of}
 use Rattle.cs_code.proofs.Inside.{Takes, AllStill, SuitsStmt, SuitsBlock, SuitsArms}
+use Rattle.cs_base.specs.declared.resource.Rate.TheVariants as rate
+use Rattle.cs_words.specs.declared.catalogue.Shape.TheVariants as shape
+use Rattle.cs_typed.specs.TypedTree as typed
 
 -- ---- conditions that are known when the note begins
 
 pub init_is : (r : Rate) → is_init r ≡ true → r ≡ rate.Init
 init_is rate.Init h = refl
-init_is rate.Control h = absurd (cc)
-init_is rate.Audio h = absurd (cc)
+init_is a h = absurd (cc)
 
 still_if : (b : Bool) (r : Rate) → r ≡ (if b then rate.Init else rate.Control) → r ≡ rate.Init → b ≡ true
 still_if true r h k = refl

@@ -4,43 +4,32 @@ use Rattle.std.proofs.Common.{◌≡◌, ℕ, ◌+◌, Bool, true, false, List, 
 use Rattle.std.proofs.Common.{if◌then◌else◌, refl, sym, ◌∙◌, ap, ap₂, subst, append-nil}
 use Rattle.std.specs.List.{flat_map}
 use Rattle.std.proofs.lemmas.Grind.{flat_map-append}
-use Rattle.cs_base.specs.Rates.{same_rate}
-use Rattle.cs_base.specs.declared.resource.Rate.{Rate}
-use Rattle.cs_base.specs.declared.resource.Rate.TheVariants as rate
-use Rattle.cs_base.specs.declared.resource.Res.{Res}
-use Rattle.cs_ir.specs.Resources.{Access, Stock, may_use, may_write, act_touches, ops_touch, read_only}
-use Rattle.cs_ir.specs.Resources.{tables_within, unit_uses, zak_touches}
-use Rattle.cs_ir.specs.Waves.{if_init}
-use Rattle.cs_ir.specs.declared.op.Act.{Act}
-use Rattle.cs_ir.specs.declared.op.Act.TheVariants as act
-use Rattle.cs_ir.specs.declared.op.Op.{Op}
-use Rattle.cs_ir.specs.declared.register.Reg.{Reg}
-use Rattle.cs_meaning.specs.Core.{Stmt, Block, Arms, set, unit, zak, store, out, out_at, ask}
-use Rattle.cs_meaning.specs.Core.{choose, no_stmt, andthen, otherwise, arm}
-use Rattle.cs_meaning.specs.Notes.{reg}
-use Rattle.cs_code.specs.declared.frame.Pass.{Pass}
-use Rattle.cs_code.specs.declared.frame.Pass.TheVariants as pass
+use Rattle.cs_base.specs.{Rates.same_rate, declared.resource.Rate.Rate, declared.resource.Res.Res}
+use Rattle.cs_ir.specs.Resources.{Access, Stock, may_use, may_write, act_touches, ops_touch, read_only, tables_within}
+use Rattle.cs_ir.specs.Resources.{unit_uses, zak_touches}
+use Rattle.cs_ir.specs.{Waves.if_init, declared.op.Act.Act, declared.op.Op.Op, declared.register.Reg.Reg}
+use Rattle.cs_meaning.specs.Core.{Stmt, Block, Arms, set, unit, zak, store, out, out_at, ask, choose, no_stmt, andthen}
+use Rattle.cs_meaning.specs.{Core.otherwise, Core.arm, Notes.reg, When.When, When.beginning, When.cycle}
+use Rattle.cs_code.specs.{declared.frame.Pass.Pass, inner.Code.all_code, inner.Emitted.when_of}
 use Rattle.cs_code.specs.declared.frame.Progress.{Progress}
 use Rattle.cs_code.specs.inner.Kept.{past, past_parts, past_stmt, past_block}
-use Rattle.cs_meaning.specs.Uses.{arms_touched, block_touched, stmt_touched}
-use Rattle.cs_meaning.specs.Uses.{expr_reads, expr_used, exprs_read, exprs_used, var_uses, vars_use}
-use Rattle.cs_meaning.specs.When.{When, beginning, cycle}
+use Rattle.cs_meaning.specs.Uses.{arms_touched, block_touched, stmt_touched, expr_reads, expr_used, exprs_read}
+use Rattle.cs_meaning.specs.Uses.{exprs_used, var_uses, vars_use}
 use Rattle.cs_typed.specs.TypedTree.{Expression, number, var, field, head, neg, pair, pick, apply}
-use Rattle.cs_typed.specs.WellRated.{node_rate}
-use Rattle.cs_typed.specs.declared.tree.Var.{Var as Variable}
+use Rattle.cs_typed.specs.{WellRated.node_rate, declared.tree.Var.Var as Variable}
 use Rattle.cs_typed.specs.declared.tree.Var.TheVariants.{Local, Global}
 use Rattle.cs_code.specs.inner.Spots.{op_of, kept_reg, temp, kept_or, direct, spot, spots}
 use Rattle.cs_code.specs.inner.Code.{unless_there, own, code, copied, operand_code, operands_code, kept_code, keep_code}
 use Rattle.cs_code.specs.inner.Code.{keep_all_code, set_code, target, given_code, on_code, run_code, start_code}
 use Rattle.cs_code.specs.inner.Code.{unit_code, zak_code, seek_code, store_code, out_ops, out_at_ops, arm_code}
 use Rattle.cs_code.specs.inner.Code.{cond_code, cond_reg, choice_code, pass_code, pass_block_code, chosen_code}
-use Rattle.cs_code.specs.inner.Code.{all_code}
-use Rattle.cs_code.specs.inner.Emitted.{when_of}
+use Rattle.cs_base.specs.declared.resource.Rate.TheVariants as rate
+use Rattle.cs_ir.specs.declared.op.Act.TheVariants as act
+use Rattle.cs_code.specs.declared.frame.Pass.TheVariants as pass
 
 nothing_read : (r : Rate) → if_init {A = List Res} r [] [] ≡ []
 nothing_read rate.Init = refl
-nothing_read rate.Control = refl
-nothing_read rate.Audio = refl
+nothing_read a = refl
 
 -- what an expression reads: as a whole all of it, else what a cycle works out
 abbrev reads : When → Expression → List Res
@@ -49,14 +38,12 @@ reads cycle = expr_used cycle
 
 -- what it reads by its own code, where it stands nowhere yet
 abbrev own_reads : When → Expression → List Res
-own_reads w (number r n) = []
 own_reads w (var r v) = var_uses v
-own_reads w (field r k) = []
-own_reads w (head r h) = []
 own_reads w (neg r a) = reads w a
 own_reads w (pair r o a b) = reads w a ++ reads w b
 own_reads w (pick r c a b) = reads w c ++ (reads w a ++ reads w b)
 own_reads w (apply r g a) = reads w a
+own_reads w a = []
 
 module _ (t : Access) (stock : Stock) where
   abbrev touch : List Op → List Res
@@ -81,31 +68,20 @@ module _ (t : Access) (stock : Stock) where
       → ((q : Reg) → touch (make (Some q)) ≡ []) → touch (make here) ≡ read_only t u
       → touch (make (kept_or cycle r at here)) ≡ read_only t (if_init r [] u)
   by_rate rate.Init at make here u none h = none (kept_reg at) ∙ sym (no_reads t)
-  by_rate rate.Control at make here u none h = h
-  by_rate rate.Audio at make here u none h = h
+  by_rate a at make here u none h = h
 
   by_there : (w : When) (e : Expression) (at : ℕ) (make : Option Reg → List Op)
       → ((q : Reg) → touch (make (Some q)) ≡ []) → touch (make None) ≡ read_only t (own_reads w e)
       → touch (make (direct w at e)) ≡ read_only t (reads w e)
-  by_there beginning (number r n) at make none h = h
   by_there beginning (var r (Local q n)) at make none h = none (reg q n) ∙ sym (no_reads t)
-  by_there beginning (var r (Global g)) at make none h = h
-  by_there beginning (field r k) at make none h = h
-  by_there beginning (head r k) at make none h = h
-  by_there beginning (neg r a) at make none h = h
-  by_there beginning (pair r o a b) at make none h = h
-  by_there beginning (pick r c a b) at make none h = h
-  by_there beginning (apply r g a) at make none h = h
   by_there cycle (number r n) at make none h = by_rate r at make None [] none h ∙ ap (read_only t) (nothing_read r)
   by_there cycle (var r (Local q n)) at make none h =
       by_rate r at make (Some (reg q n)) [] none (none (reg q n) ∙ sym (no_reads t))
   by_there cycle (var r (Global g)) at make none h = by_rate r at make None (g ∷ []) none h
   by_there cycle (field r k) at make none h = by_rate r at make None [] none h ∙ ap (read_only t) (nothing_read r)
   by_there cycle (head r k) at make none h = by_rate r at make None [] none h ∙ ap (read_only t) (nothing_read r)
-  by_there cycle (neg r a) at make none h = by_rate r at make None (own_reads cycle (neg r a)) none h
-  by_there cycle (pair r o a b) at make none h = by_rate r at make None (own_reads cycle (pair r o a b)) none h
-  by_there cycle (pick r c a b) at make none h = by_rate r at make None (own_reads cycle (pick r c a b)) none h
-  by_there cycle (apply r g a) at make none h = by_rate r at make None (own_reads cycle (apply r g a)) none h
+  by_there beginning a at make none h = h
+  by_there cycle w at make none h = by_rate (node_rate w) at make None (own_reads cycle w) none h
 
   operand_by : (w : When) (e : Expression) (at d : ℕ)
       → ((x : Reg) → touch (own w at e x d) ≡ read_only t (own_reads w e))
@@ -125,11 +101,7 @@ module _ (t : Access) (stock : Stock) where
 
   own_touch : (w : When) (e : Expression) (at : ℕ) (x : Reg) (d : ℕ)
       → touch (own w at e x d) ≡ read_only t (own_reads w e)
-  own_touch w (number r n) at x d = sym (no_reads t)
-  own_touch w (var r (Local q n)) at x d = sym (no_reads t)
   own_touch w (var r (Global g)) at x d = append-nil (read_only t (g ∷ []))
-  own_touch w (field r k) at x d = sym (no_reads t)
-  own_touch w (head r k) at x d = sym (no_reads t)
   own_touch w (neg r a) at x d =
       last (operand_code w at a d) (op_of act.Neg x (spot w at a d ∷ [])) (read_only t (reads w a)) refl
       (operand_by w a at d (λ q. own_touch w a at q d))
@@ -158,6 +130,7 @@ module _ (t : Access) (stock : Stock) where
   own_touch w (apply r g a) at x d =
       last (operand_code w at a d) (op_of (act.Call g) x (spot w at a d ∷ [])) (read_only t (reads w a)) refl
       (operand_by w a at d (λ q. own_touch w a at q d))
+  own_touch w a at x d = sym (no_reads t)
 
   operand_touch : (w : When) (at : ℕ) (e : Expression) (d : ℕ)
       → touch (operand_code w at e d) ≡ read_only t (reads w e)
@@ -179,21 +152,16 @@ module _ (t : Access) (stock : Stock) where
   either : (r : Rate) (once each : List Op) (u v : List Res) → touch once ≡ u → touch each ≡ v
       → touch (if_init r once each) ≡ if_init r u v
   either rate.Init once each u v h k = h
-  either rate.Control once each u v h k = k
-  either rate.Audio once each u v h k = k
+  either a once each u v h k = k
 
   -- of what is kept as a whole, or by its parts
   keeps : (at : ℕ) (e : Expression) (r : Rate) (parts : List Op) (v : List Res) → touch parts ≡ read_only t v
       → touch (if_init r (kept_code at e) parts) ≡ read_only t (if_init r (expr_reads e) v)
   keeps at e rate.Init parts v k = code_touch beginning 0 e (kept_reg at)
-  keeps at e rate.Control parts v k = k
-  keeps at e rate.Audio parts v k = k
+  keeps at e a parts v k = k
 
   keep_touch : (at : ℕ) (e : Expression) → touch (keep_code at e) ≡ read_only t (expr_used beginning e)
-  keep_touch at (number r n) = keeps at (number r n) r [] [] (sym (no_reads t)) ∙ ap (read_only t) (nothing_read r)
   keep_touch at (var r v) = keeps at (var r v) r [] [] (sym (no_reads t))
-  keep_touch at (field r k) = keeps at (field r k) r [] [] (sym (no_reads t)) ∙ ap (read_only t) (nothing_read r)
-  keep_touch at (head r k) = keeps at (head r k) r [] [] (sym (no_reads t)) ∙ ap (read_only t) (nothing_read r)
   keep_touch at (neg r a) = keeps at (neg r a) r (keep_code at a) (expr_used beginning a) (keep_touch at a)
   keep_touch at (pair r o a b) =
       let kept : Expression → List Res = expr_used beginning in
@@ -213,6 +181,7 @@ module _ (t : Access) (stock : Stock) where
       ∙ ap (λ l. read_only t (kept c) ++ l) (two_reads t (kept a) (kept b))
       ∙ two_reads t (kept c) (kept a ++ kept b))
   keep_touch at (apply r g a) = keeps at (apply r g a) r (keep_code at a) (expr_used beginning a) (keep_touch at a)
+  keep_touch at w = keeps at w (node_rate w) [] [] (sym (no_reads t)) ∙ ap (read_only t) (nothing_read (node_rate w))
 
   keep_all_touch : (at : ℕ) (es : List Expression)
       → touch (keep_all_code at es) ≡ read_only t (exprs_used beginning es)
@@ -241,13 +210,12 @@ module _ (t : Access) (stock : Stock) where
       (read_only t (reads w e)) (g ∷ []) (operand_touch w at e 0) refl
 
   given_touch : (r : Rate) (vs : List Variable) → touch (given_code r vs) ≡ vars_use vs
-  given_touch r [] = refl
   given_touch r (Local q n ∷ vs) = by_same (same_rate q r)
     where
       by_same : (b : Bool) → touch (if b then [] else op_of act.Copy (reg q n) (temp r 0 ∷ []) ∷ []) ≡ []
       by_same true = refl
       by_same false = refl
-  given_touch r (Global g ∷ vs) = refl
+  given_touch r a = refl
 
   -- an op on values, and what is left to do with its result
   on_touch : (w : When) (at : ℕ) (a : Act) (into : Reg) (es : List Expression)
@@ -277,9 +245,8 @@ module _ (t : Access) (stock : Stock) where
   out_touch c (q ∷ qs) = out_touch (c + 1) qs
 
   out_at_touch : (qs : List Reg) → touch (out_at_ops qs) ≡ []
-  out_at_touch [] = refl
-  out_at_touch (p ∷ []) = refl
   out_at_touch (p ∷ (q ∷ qs)) = out_at_touch qs
+  out_at_touch a = refl
 
   -- values, and ops on them that touch nothing
   sent : (at : ℕ) (es : List Expression) (ops : List Op) → touch ops ≡ []

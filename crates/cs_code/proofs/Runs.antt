@@ -5,18 +5,14 @@ use Rattle.std.proofs.Common.{append_assoc, subst}
 use Rattle.std.proofs.lemmas.Bool.Decides.{nat_tests}
 use Rattle.cs_base.proofs.Tests.{by_test}
 use Rattle.cs_base.specs.declared.resource.Rate.{Rate}
-use Rattle.cs_base.specs.declared.resource.Rate.TheVariants as rate
 use Rattle.cs_ir.proofs.RegisterKinds.{kind_is, same_reg_here}
 use Rattle.cs_ir.specs.Machine.{Machine, same_reg, put, acts, step, run}
-use Rattle.cs_ir.specs.Waves.{Wave, held}
-use Rattle.cs_ir.specs.Worlds.{World}
-use Rattle.cs_ir.specs.declared.op.Op.{Op}
-use Rattle.cs_ir.specs.Registers.{rate_of, same_kind, temporary}
-use Rattle.cs_ir.specs.declared.register.Kind.{Kind}
-use Rattle.cs_ir.specs.declared.register.Kind.TheVariants as kind
-use Rattle.cs_ir.specs.declared.register.Reg.{Reg}
+use Rattle.cs_ir.specs.{Waves.Wave, Waves.held, Worlds.World, declared.op.Op.Op, Registers.rate_of, Registers.same_kind}
+use Rattle.cs_ir.specs.{Registers.temporary, declared.register.Kind.Kind, declared.register.Reg.Reg}
 use Rattle.cs_meaning.specs.Notes.{reg}
 use Rattle.cs_code.specs.inner.Spots.{kept_reg, temp}
+use Rattle.cs_base.specs.declared.resource.Rate.TheVariants as rate
+use Rattle.cs_ir.specs.declared.register.Kind.TheVariants as kind
 
 above : (a b : ℕ) → b < a → nat_le a b ≡ false
 above a b h = grind (arith, nat_tests)
@@ -80,28 +76,22 @@ under_of : (d e : ℕ) (k : Kind) (n : ℕ) → d ≤ e → UnderOf d k n → Un
 under_of d e kind.TemporaryInit n low h = omega (arith, low, h)
 under_of d e kind.TemporaryControl n low h = omega (arith, low, h)
 under_of d e kind.TemporaryAudio n low h = omega (arith, low, h)
-under_of d e kind.LocalInit n low h = tt
-under_of d e kind.LocalControl n low h = tt
-under_of d e kind.LocalAudio n low h = tt
-under_of d e kind.Kept n low h = tt
+under_of d e _ n low h = tt
 
 pub under_more : (d e : ℕ) (q : Reg) → d ≤ e → Under d q → Under e q
 under_more d e q low h = under_of d e q.kind q.offset low h
 
 pub under_temp : (r : Rate) (d e : ℕ) → d < e → Under e (temp r d)
 under_temp rate.Init d e h = h
-under_temp rate.Control d e h = h
-under_temp rate.Audio d e h = h
+under_temp a d e h = h
 
 pub temp_rate : (r : Rate) → rate_of (temporary r) ≡ r
 temp_rate rate.Init = refl
-temp_rate rate.Control = refl
-temp_rate rate.Audio = refl
+temp_rate a = refl
 
 pub under_local : (r : Rate) (n d : ℕ) → Under d (reg r n)
 under_local rate.Init n d = tt
-under_local rate.Control n d = tt
-under_local rate.Audio n d = tt
+under_local a n d = tt
 
 pub apart : (p q : Reg) → (p.kind ≡ q.kind → p.offset ≢ q.offset) → same_reg p q ≡ false
 apart p q h = by_test (same_kind p.kind q.kind)
@@ -111,8 +101,7 @@ apart p q h = by_test (same_kind p.kind q.kind)
 -- below a temporary nothing is it
 under_temporary : (d : ℕ) (r : Rate) (n : ℕ) → UnderOf d (temporary r) n → n < d
 under_temporary d rate.Init n h = h
-under_temporary d rate.Control n h = h
-under_temporary d rate.Audio n h = h
+under_temporary d a n h = h
 
 under_apart_of : (d : ℕ) (r : Rate) (k : Kind) (n : ℕ) → UnderOf d k n → k ≡ temporary r → n ≢ d
 under_apart_of d r k n h e same =
@@ -124,13 +113,11 @@ under_apart d r p h = apart p (temp r d) (under_apart_of d r p.kind p.offset h)
 -- a local variable is no kept value, and locals of different rates are apart
 pub local_not_kept : (r : Rate) (n at : ℕ) → same_reg (reg r n) (kept_reg at) ≡ false
 local_not_kept rate.Init n at = refl
-local_not_kept rate.Control n at = refl
-local_not_kept rate.Audio n at = refl
+local_not_kept a n at = refl
 
 pub kept_not_local : (r : Rate) (n at : ℕ) → same_reg (kept_reg at) (reg r n) ≡ false
 kept_not_local rate.Init n at = refl
-kept_not_local rate.Control n at = refl
-kept_not_local rate.Audio n at = refl
+kept_not_local a n at = refl
 
 -- a register's writing
 pub put_here : (g : Reg → Wave) (q : Reg) (w : Wave) → put g q w q ≡ w
@@ -146,9 +133,8 @@ twice true x y = refl
 twice false x y = refl
 
 pub held_again : (k : ℕ) (r : Rate) (w : Wave) → held k r (held k r w) ≡ held k r w
-held_again k rate.Init w = refl
-held_again k rate.Control w = refl
 held_again k rate.Audio w = λ i j. twice (nat_lt j k) (w j) (pos 0) i
+held_again k a w = refl
 
 -- ---- lists
 

@@ -1,23 +1,15 @@
 -- The codes of a well rated block are valid, and name what there is.
 use Rattle.std.proofs.Common.{◌≡◌, ◌≤◌, true, List, length, arith}
 use Rattle.cs_base.specs.declared.spaces.Spaces.{Spaces}
-use Rattle.cs_ir.specs.Validity.{fine_from}
-use Rattle.cs_ir.specs.declared.op.Op.{Op}
-use Rattle.cs_ir.specs.Registers.{at_kind}
-use Rattle.cs_ir.specs.declared.register.Counts.{Counts}
-use Rattle.cs_ir.specs.declared.register.Kind.{Kind}
+use Rattle.cs_ir.specs.{Validity.fine_from, declared.op.Op.Op, Registers.at_kind, declared.register.Counts.Counts}
+use Rattle.cs_ir.specs.{declared.register.Kind.Kind, Limits.ops_limit}
 use Rattle.cs_meaning.specs.Core.{Block, core}
-use Rattle.cs_code.specs.declared.frame.Pass.{Pass}
+use Rattle.cs_code.specs.{declared.frame.Pass.Pass, Names.block_units, inner.Code.pass_block_code}
 use Rattle.cs_code.specs.inner.Kept.{start, past_block}
+use Rattle.cs_typed.specs.{WellRated.IsRatedBlock, declared.setting.Setting.Setting}
+use Rattle.cs_code.proofs.{FromRates.block_ranked, FromRates.narrow_block, Named.block_count}
+use Rattle.cs_code.proofs.Valid.{fine_valid, of_cycles, whole_fine}
 use Rattle.cs_typed.specs.TypedTree as typed
-use Rattle.cs_typed.specs.WellRated.{IsRatedBlock}
-use Rattle.cs_typed.specs.declared.setting.Setting.{Setting}
-use Rattle.cs_code.specs.Names.{block_units}
-use Rattle.cs_code.specs.inner.Code.{pass_block_code}
-use Rattle.cs_ir.specs.Limits.{ops_limit}
-use Rattle.cs_code.proofs.FromRates.{block_ranked, narrow_block}
-use Rattle.cs_code.proofs.Named.{block_count, of_cycles, whole_named}
-use Rattle.cs_code.proofs.Valid.{fine_valid, block_fine}
 
 -- as many units as the text has
 pub units_counted : (b : Block) → (past_block start b).unit ≡ length (block_units b)
@@ -33,5 +25,4 @@ code_valid way spaces s t rated counts units limits =
     let ops : List Op = pass_block_code way 0 start b in
     let counted = units_counted b in
     fine_valid (of_cycles way) counts s.channels (block_units b) (length ops) 0 ops (omega arith) limits
-    (whole_named way s.channels b (narrow_block spaces s t rated))
-    (block_fine (length ops) way 0 start b (block_ranked spaces s t rated) (omega arith))
+    (whole_fine way s.channels b (block_ranked spaces s t rated) (narrow_block spaces s t rated))

@@ -1,7 +1,5 @@
 -- How much there is to do in statements: a number that falls from each part of the tree to the parts in it.
-use Rattle.std.proofs.Common.{◌≡◌, ◌<◌, ◌≤◌, ◌+◌, ◌∷◌, [], ℕ, zero, suc, List, length, get_or}
-use Rattle.std.proofs.Common.{arith}
-use Rattle.std.proofs.Common.{refl, ap}
+use Rattle.std.proofs.Common.{◌≡◌, ◌<◌, ◌≤◌, ◌+◌, ◌*◌, ◌∷◌, [], ℕ, zero, suc, List, length, get_or, arith, refl, ap}
 use Rattle.cs_base.specs.declared.resource.Rate.{Rate}
 use Rattle.cs_typed.specs.TypedTree as typed
 use Rattle.cs_typed.specs.declared.tree.TypedArm.{TypedArm, out-TypedArm}
@@ -9,9 +7,8 @@ use Rattle.cs_typed.specs.declared.tree.TypedStmt.{TypedStmt}
 
 abbrev mutual
   pub stmt_weight : typed.Statement → ℕ
-  stmt_weight (typed.set line r v e) = 0
-  stmt_weight (typed.call line r vs opcode args) = 0
   stmt_weight (typed.choose line r list) = suc (arms_weight list)
+  stmt_weight a = 0
 
   pub block_weight : typed.Block → ℕ
   block_weight typed.no_stmt = 0
@@ -35,10 +32,7 @@ abbrev pub list_weight : List TypedArm → ℕ
 list_weight arms = arms_weight (typed.arms [] typed.no_stmt arms)
 
 both_weigh : (a b : typed.Block) → block_weight (typed.then_block a b) ≡ block_weight a + block_weight b
-both_weigh typed.no_stmt b = zero_more (block_weight b)
-  where
-    zero_more : (n : ℕ) → n ≡ 0 + n
-    zero_more n = omega arith
+both_weigh typed.no_stmt b = omega arith
 both_weigh (typed.andthen s rest) b =
     let more = both_weigh rest b in
     let all : stmt_weight s + block_weight (typed.then_block rest b)
@@ -74,10 +68,7 @@ body_in_list (x ∷ arms) (suc i) a low e =
 -- an `if` weighs more than its arms and the statements after `else` together
 arms_and_else : (els : typed.Block) (arms : List TypedArm)
     → arms_weight (typed.arms [] els arms) ≡ list_weight arms + block_weight els
-arms_and_else els [] = zero_more (block_weight els)
-  where
-    zero_more : (n : ℕ) → n ≡ 0 + n
-    zero_more n = omega arith
+arms_and_else els [] = omega arith
 arms_and_else els (a ∷ arms) =
     let wider : arms_weight (typed.arms [] els (a ∷ arms))
     ≡ suc (body_weight a) + arms_weight (typed.arms [] els arms) = refl in
@@ -85,12 +76,12 @@ arms_and_else els (a ∷ arms) =
     let more : arms_weight (typed.arms [] els arms) ≡ list_weight arms + block_weight els = arms_and_else els arms in
     omega (arith, wider, all, more)
 
-pub choice_weighs : (s : typed.Block) (line : ℕ) (r : Rate) (els : List TypedStmt)
-    (arms : List TypedArm)
-    → s ≡ typed.alone (typed.choose line r (typed.arms [] (typed.block [] els) arms))
-    → block_weight s ≡ list_weight arms + all_weight els + 1
-choice_weighs s line r els arms e =
+pub choice_less : (t line : ℕ) (r : Rate) (s : TypedStmt) (els : List TypedStmt) (arms : List TypedArm)
+    → 4 * one_weight s + 2 ≡ t
+    → typed.statement [] s ≡ typed.alone (typed.choose line r (typed.arms [] (typed.block [] els) arms))
+    → (4 * list_weight arms + 1 < t) × (4 * all_weight els + 3 < t)
+choice_less t line r s els arms start e =
     let more : arms_weight (typed.arms [] (typed.block [] els) arms) ≡ list_weight arms + all_weight els =
     arms_and_else (typed.block [] els) arms in
-    let same : block_weight s ≡ suc (arms_weight (typed.arms [] (typed.block [] els) arms)) + 0 = ap block_weight e in
-    omega (arith, same, more)
+    let same : one_weight s ≡ suc (arms_weight (typed.arms [] (typed.block [] els) arms)) + 0 = ap block_weight e in
+    (omega (arith, start, same, more), omega (arith, start, same, more))

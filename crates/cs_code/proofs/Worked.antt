@@ -2,22 +2,17 @@
 use Rattle.std.proofs.Common.{◌≡◌, ◌*ℤ◌, ℤ, pos, max, List, [], ◌∷◌, refl}
 use Rattle.std.proofs.lemmas.List.Elements.{All-nil, All-cons}
 use Rattle.std.specs.List.{All}
-use Rattle.cs_base.specs.Numbers.{one}
-use Rattle.cs_base.specs.declared.resource.Rate.TheVariants as rate
-use Rattle.cs_base.specs.declared.spaces.Spaces.{Spaces}
-use Rattle.cs_ir.specs.Limits.{ops_limit}
-use Rattle.cs_ir.specs.Registers.{at_kind}
-use Rattle.cs_ir.specs.declared.op.Code.{Code}
-use Rattle.cs_ir.specs.declared.register.Kind.{Kind}
-use Rattle.cs_ir.specs.declared.register.Kind.TheVariants as kind
-use Rattle.cs_typed.specs.Places.{inside}
-use Rattle.cs_typed.specs.TypedTree as typed
+use Rattle.cs_base.specs.{Numbers.one, declared.spaces.Spaces.Spaces}
+use Rattle.cs_ir.specs.{Limits.ops_limit, Registers.at_kind, declared.op.Code.Code, declared.register.Kind.Kind}
+use Rattle.cs_typed.specs.{Places.inside, declared.tree.Var.TheVariants.Local}
 use Rattle.cs_typed.specs.WellRated.{IsRatedBlock, IsRatedArgument}
-use Rattle.cs_typed.specs.declared.tree.Var.TheVariants.{Local}
 use Rattle.cs_code.specs.Examples.{counter, counter_counts, counter_init, counter_perf, terms, terms_counts, terms_perf}
 use Rattle.cs_code.specs.Examples.{tone, tone_counts, tone_init, tone_perf, IsMadeOf}
 use Rattle.cs_code.specs.Lowered.{IsCodeOf}
 use Rattle.cs_code.proofs.Instruments.{made_code}
+use Rattle.cs_base.specs.declared.resource.Rate.TheVariants as rate
+use Rattle.cs_ir.specs.declared.register.Kind.TheVariants as kind
+use Rattle.cs_typed.specs.TypedTree as typed
 
 -- ---- k1 = k1 + 1
 
@@ -27,12 +22,7 @@ counter_rated = ((refl, refl, refl, refl, (refl, refl, (refl, refl), refl)), tt)
 counter_reached : (k : Kind)
     → at_kind counter_counts.registers k ≡ max (ops_limit k counter_init) (ops_limit k counter_perf)
 counter_reached kind.LocalInit = refl
-counter_reached kind.LocalControl = refl
-counter_reached kind.Kept = refl
-counter_reached kind.TemporaryInit = refl
-counter_reached kind.TemporaryControl = refl
-counter_reached kind.LocalAudio = refl
-counter_reached kind.TemporaryAudio = refl
+counter_reached a = refl
 
 pub counter_code : (spaces : Spaces) (init perf : Code) → IsMadeOf counter_init counter_counts init
     → IsMadeOf counter_perf counter_counts perf → IsCodeOf spaces 1 counter init perf
@@ -57,12 +47,7 @@ terms_rated = (
 
 terms_reached : (k : Kind) → at_kind terms_counts.registers k ≡ max (ops_limit k []) (ops_limit k terms_perf)
 terms_reached kind.LocalInit = refl
-terms_reached kind.LocalControl = refl
-terms_reached kind.Kept = refl
-terms_reached kind.TemporaryInit = refl
-terms_reached kind.TemporaryControl = refl
-terms_reached kind.LocalAudio = refl
-terms_reached kind.TemporaryAudio = refl
+terms_reached a = refl
 
 pub terms_code : (spaces : Spaces) (init perf : Code) → IsMadeOf [] terms_counts init
     → IsMadeOf terms_perf terms_counts perf → IsCodeOf spaces 1 terms init perf
@@ -124,12 +109,7 @@ tone_rated = (
 
 tone_reached : (k : Kind) → at_kind tone_counts.registers k ≡ max (ops_limit k tone_init) (ops_limit k tone_perf)
 tone_reached kind.LocalInit = refl
-tone_reached kind.LocalControl = refl
-tone_reached kind.Kept = refl
-tone_reached kind.TemporaryInit = refl
-tone_reached kind.TemporaryControl = refl
-tone_reached kind.LocalAudio = refl
-tone_reached kind.TemporaryAudio = refl
+tone_reached a = refl
 
 pub tone_code : (spaces : Spaces) (init perf : Code) → IsMadeOf tone_init tone_counts init
     → IsMadeOf tone_perf tone_counts perf → IsCodeOf spaces 1 tone init perf

@@ -1,21 +1,16 @@
 -- Three small instruments, and their codes worked by hand.
 use Rattle.std.specs.Prelude.{ℕ, pos, ◌*ℤ◌, ◌≡◌, List, [], ◌∷◌}
-use Rattle.cs_base.specs.Numbers.{one}
-use Rattle.cs_base.specs.declared.resource.Rate.{Rate}
+use Rattle.cs_base.specs.{Numbers.one, declared.resource.Rate.Rate}
+use Rattle.cs_ir.specs.{declared.op.Act.Act, declared.op.Code.Code, declared.op.Op.Op, Registers.local}
+use Rattle.cs_ir.specs.{Registers.temporary, declared.register.Counts.Counts, declared.register.Reg.Reg}
+use Rattle.cs_typed.specs.declared.tree.Var.TheVariants.{Local}
 use Rattle.cs_base.specs.declared.resource.Rate.TheVariants as rate
 use Rattle.cs_words.specs.declared.catalogue.Opcode.TheVariants as opcode
 use Rattle.cs_words.specs.declared.sign.BinOp.TheVariants as sign
-use Rattle.cs_ir.specs.declared.op.Act.{Act}
 use Rattle.cs_ir.specs.declared.op.Act.TheVariants as act
-use Rattle.cs_ir.specs.declared.op.Code.{Code}
-use Rattle.cs_ir.specs.declared.op.Op.{Op}
 use Rattle.cs_ir.specs.declared.op.Reach.TheVariants as reach
-use Rattle.cs_ir.specs.Registers.{local, temporary}
-use Rattle.cs_ir.specs.declared.register.Counts.{Counts}
 use Rattle.cs_ir.specs.declared.register.Kind.TheVariants as kind
-use Rattle.cs_ir.specs.declared.register.Reg.{Reg}
 use Rattle.cs_typed.specs.TypedTree as typed
-use Rattle.cs_typed.specs.declared.tree.Var.TheVariants.{Local}
 
 -- k1 = k1 + 1
 abbrev pub counter : typed.Block

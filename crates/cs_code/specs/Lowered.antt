@@ -1,19 +1,13 @@
 -- What an orchestra is performed by.
 use Rattle.std.specs.Prelude.{ℕ, true, ◌≡◌, List, length, map}
-use Rattle.std.specs.List.{AllZip, flat_map}
-use Rattle.std.specs.List.Sorted.{IsPermutation, IsStrictlyIncreasing}
-use Rattle.cs_ir.specs.Cycles.{are_of_cycle}
+use Rattle.std.specs.{List.AllZip, List.flat_map, List.Sorted.IsPermutation, List.Sorted.IsStrictlyIncreasing}
+use Rattle.cs_ir.specs.{Cycles.are_of_cycle, Validity.valid, declared.op.Code.Code}
 use Rattle.cs_ir.specs.Instruments.{Numbered, numbers_of}
 use Rattle.cs_base.specs.declared.spaces.Spaces.{Spaces}
 use Rattle.cs_ir.specs.Resources.{Access, NameTheSame, Stock, ops_touch}
-use Rattle.cs_ir.specs.Validity.{valid}
-use Rattle.cs_ir.specs.declared.op.Code.{Code}
-use Rattle.cs_meaning.specs.Core.{Block, core}
-use Rattle.cs_meaning.specs.Uses.{block_touched}
-use Rattle.cs_meaning.specs.When.{beginning, cycle}
+use Rattle.cs_meaning.specs.{Core.Block, Core.core, Uses.block_touched, When.beginning, When.cycle}
+use Rattle.cs_code.specs.{Means.Means, Names.UnitKind, Names.block_units, Names.AllNamed}
 use Rattle.cs_typed.specs.TypedTree as typed
-use Rattle.cs_code.specs.Means.{Means}
-use Rattle.cs_code.specs.Names.{UnitKind, block_units, AllNamed}
 
 -- Two codes can be run on the same registers and units, in a piece with this number of channels: both are valid, they
 -- name the units and channels that there are, and the performance starts no unit and asks for no note.

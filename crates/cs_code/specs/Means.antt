@@ -2,15 +2,10 @@
 use Rattle.std.specs.Prelude.{ℕ, false, ◌≡◌, List, Option, Some}
 use Rattle.cs_base.specs.declared.resource.Rate.{Rate}
 use Rattle.cs_ir.specs.Machine.{Machine, new_machine, again, run}
-use Rattle.cs_ir.specs.Waves.{constant}
-use Rattle.cs_ir.specs.Worlds.{World}
-use Rattle.cs_ir.specs.declared.op.Op.{Op}
-use Rattle.cs_ir.specs.declared.register.Kind.TheVariants as kind
-use Rattle.cs_meaning.specs.Core.{Block}
-use Rattle.cs_meaning.specs.Initialising.{init_block}
+use Rattle.cs_ir.specs.{Waves.constant, Worlds.World, declared.op.Op.Op}
+use Rattle.cs_meaning.specs.{Core.Block, Initialising.init_block, Performing.perf_block, Plain.Piece, Plain.plain}
 use Rattle.cs_meaning.specs.Notes.{Note, Path, reg, start, new_note, moved_to}
-use Rattle.cs_meaning.specs.Performing.{perf_block}
-use Rattle.cs_meaning.specs.Plain.{Piece, plain}
+use Rattle.cs_ir.specs.declared.register.Kind.TheVariants as kind
 
 -- Which register each kept value of a note has, by its path, if it has one; each local variable has its own.
 abbrev pub RegisterPlan : Type 0

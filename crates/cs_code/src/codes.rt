@@ -5,11 +5,11 @@ ghost use Rattle.cs_ir.specs.Registers.{at_kind};
 ghost use Rattle.cs_ir.specs.declared.register.Kind.{Kind};
 ghost use Rattle.cs_meaning.specs.Core.{core};
 ghost use Rattle.cs_typed.specs.TypedTree as typed;
-ghost use Rattle.cs_code.specs.inner.Code.{init_block_code, perf_block_code};
+ghost use Rattle.cs_code.specs.inner.Code.{init_block_code, pass_block_code, perf_block_code};
 ghost use Rattle.cs_code.specs.inner.Kept.{start, past_block};
-ghost use Rattle.cs_code.specs.inner.Served.{IsLibraryOf};
+ghost use Rattle.cs_code.specs.inner.Served.{AreMade, IsLibraryOf};
 
-use crate::frame::{Context, Pass};
+use crate::frame::{Context, Pass, Progress};
 use crate::routines::{Routines, code_of, routines_of};
 use cs_base::OutOfMemory;
 use cs_ir::{Counts, Ops};
@@ -72,17 +72,35 @@ pub fn codes_of(
         pass: Pass::Initialisation,
         spaces: orc.spaces,
     };
-    let init = code_of(context, &library.init.list, &library.init.extents, stmts)?;
+    let (init, extent) = ops_of(context, orc, &library.init, stmts)?;
     let context = Context {
         pass: Pass::Performance,
         ..context
     };
-    let perf = code_of(context, &library.perf.list, &library.perf.extents, stmts)?;
-    let registers = init.code.limits().greatest(&perf.code.limits());
-    let units = init.extent.unit as usize;
+    let (perf, _) = ops_of(context, orc, &library.perf, stmts)?;
+    let registers = init.limits().greatest(&perf.limits());
+    let units = extent.unit as usize;
     Ok(Codes {
-        init: Ops::new(Arc::try_clone(&library.init.list)?, init.code),
-        perf: Ops::new(Arc::try_clone(&library.perf.list)?, perf.code),
+        init,
+        perf,
         counts: Counts { registers, units },
     })
+}
+
+// The code of a block in a pass, and how many values it keeps and units it meets.
+fn ops_of(
+    context: Context,
+    orc: &TypedOrc,
+    routines: &Routines,
+    stmts: &[TypedStmt],
+) -> Result<(Ops, Progress), OutOfMemory>
+    requires { AreMade context.pass context.spaces (typed.routines orc.now.routines.items) routines.now }
+    ensures ops { IfOk result (λ r. r.0 ≡ pass_block_code context.pass 0 start
+        (core context.spaces (typed.block (typed.routines orc.now.routines.items) stmts.now))) }
+    ensures extent { IfOk result (λ r. r.1 ≡ past_block start
+        (core context.spaces (typed.block (typed.routines orc.now.routines.items) stmts.now))) }
+{
+    let made = code_of(context, &routines.list, &routines.extents, stmts)?;
+    let list = Arc::try_clone(&routines.list)?;
+    Ok((Ops::new(list, made.code), made.extent))
 }

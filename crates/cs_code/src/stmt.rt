@@ -1,15 +1,13 @@
 // The code of statements, blocks and arms, for either pass. Each call appends to `ops`, in which each op stands at its
 // place from the first on.
-ghost use Rattle.std.specs.Prelude.{◌≡◌, ◌++◌, ◌∷◌, [], ℕ, List, length, IfOk, OnOk};
+ghost use Rattle.std.specs.Prelude.{◌≡◌, ◌++◌, ◌∷◌, [], ℕ, List, length, IfOk};
 ghost use Rattle.std.specs.List.{AllZip};
 ghost use Rattle.cs_ir.specs.Drafts.{Grew, IsAt, drafted, library_of};
 ghost use Rattle.cs_typed.specs.TypedTree as typed;
 ghost use Rattle.cs_code.specs.inner.Branches.{body_of, branch_of, branches, condition_of, each_code, joined, jump_at};
 ghost use Rattle.cs_code.specs.inner.Branches.{jumps, opened, past_arm, past_list};
-ghost use Rattle.cs_code.specs.inner.Code.{pass_block_code};
 ghost use Rattle.cs_code.specs.inner.Emitted.{block_in, each_arm_code, invoked_in, scope_of, statement_in, takes_all};
-ghost use Rattle.cs_code.specs.inner.Kept.{past_block};
-ghost use Rattle.cs_code.specs.inner.Served.{Serve};
+ghost use Rattle.cs_code.specs.inner.Served.{Lowered, Serve};
 ghost use Rattle.cs_code.specs.declared.frame.Pass.TheVariants as pass;
 
 use crate::args;
@@ -31,11 +29,9 @@ pub fn block(
     p: Progress,
     stmts: &[TypedStmt],
 ) -> Result<Progress, OutOfMemory>
-    ensures ops { (rs : List typed.Block) → Serve context.pass context.spaces rs (library_of ops.old) extents.now
-        → OnOk result (Grew ops.old ops.new (pass_block_code context.pass (length (drafted ops.old)) p (block_in
-        (scope_of context.spaces rs) stmts.now))) }
-    ensures next { (rs : List typed.Block) → Serve context.pass context.spaces rs (library_of ops.old) extents.now
-        → IfOk result (λ q. q ≡ past_block p (block_in (scope_of context.spaces rs) stmts.now)) }
+    ensures { (rs : List typed.Block) → Serve context.pass context.spaces rs (library_of ops.old) extents.now
+        → IfOk result (λ q. Lowered context.pass ops.old ops.new p q
+        (block_in (scope_of context.spaces rs) stmts.now)) }
 {
     let mut next = p;
     for s in stmts {
@@ -54,11 +50,9 @@ fn stmt(
     p: Progress,
     s: &TypedStmt,
 ) -> Result<Progress, OutOfMemory>
-    ensures ops { (rs : List typed.Block) → Serve context.pass context.spaces rs (library_of ops.old) extents.now
-        → OnOk result (Grew ops.old ops.new (pass_block_code context.pass (length (drafted ops.old)) p (statement_in
-        (scope_of context.spaces rs) s.now))) }
-    ensures next { (rs : List typed.Block) → Serve context.pass context.spaces rs (library_of ops.old) extents.now
-        → IfOk result (λ q. q ≡ past_block p (statement_in (scope_of context.spaces rs) s.now)) }
+    ensures { (rs : List typed.Block) → Serve context.pass context.spaces rs (library_of ops.old) extents.now
+        → IfOk result (λ q. Lowered context.pass ops.old ops.new p q
+        (statement_in (scope_of context.spaces rs) s.now)) }
 {
     match &s.what {
         TypedWhat::Set(v, e) => assign(ops, context, p, s.rate, *v, e),
@@ -96,11 +90,9 @@ fn invoke(
     number: usize,
     base: PerRate<usize>,
 ) -> Result<Progress, OutOfMemory>
-    ensures ops { (rs : List typed.Block) → Serve context.pass context.spaces rs (library_of ops.old) extents.now
-        → OnOk result (Grew ops.old ops.new (pass_block_code context.pass (length (drafted ops.old)) p
-        (invoked_in (scope_of context.spaces rs) number base))) }
-    ensures next { (rs : List typed.Block) → Serve context.pass context.spaces rs (library_of ops.old) extents.now
-        → IfOk result (λ q. q ≡ past_block p (invoked_in (scope_of context.spaces rs) number base)) }
+    ensures { (rs : List typed.Block) → Serve context.pass context.spaces rs (library_of ops.old) extents.now
+        → IfOk result (λ q. Lowered context.pass ops.old ops.new p q
+        (invoked_in (scope_of context.spaces rs) number base)) }
 {
     let Some(extent) = extents.get(number) else {
         return Ok(p);
@@ -149,15 +141,13 @@ fn arms_of(
     arms: &[TypedArm],
     ends: &mut Vec<Mark>,
 ) -> Result<Progress, OutOfMemory>
-    ensures ops { (rs : List typed.Block) → Serve context.pass context.spaces rs (library_of ops.old) extents.now
-        → OnOk result (Grew ops.old ops.new (opened (length (drafted ops.old)) (branches context.pass (scope_of
-        context.spaces rs) (length (drafted ops.old)) p arms.now))) }
-    ensures ends { (rs : List typed.Block) → Serve context.pass context.spaces rs (library_of ops.old) extents.now
-        → OnOk result ((places : List ℕ) → AllZip (IsAt ops.old) ends.old.items places
-        → AllZip (IsAt ops.new) ends.new.items (places ++ jumps (length (drafted ops.old))
-        (branches context.pass (scope_of context.spaces rs) (length (drafted ops.old)) p arms.now))) }
-    ensures next { (rs : List typed.Block) → Serve context.pass context.spaces rs (library_of ops.old) extents.now
-        → IfOk result (λ q. q ≡ past_list (scope_of context.spaces rs) p arms.now) }
+    ensures { (rs : List typed.Block) → Serve context.pass context.spaces rs (library_of ops.old) extents.now
+        → let o = scope_of context.spaces rs in
+        let bs = branches context.pass o (length (drafted ops.old)) p arms.now in
+        IfOk result (λ q. Grew ops.old ops.new (opened (length (drafted ops.old)) bs)
+        × ((places : List ℕ) → AllZip (IsAt ops.old) ends.old.items places
+        → AllZip (IsAt ops.new) ends.new.items (places ++ jumps (length (drafted ops.old)) bs))
+        × (q ≡ past_list o p arms.now)) }
 {
     let mut next = p;
     for a in arms {
@@ -176,15 +166,13 @@ fn arm(
     arm: &TypedArm,
     ends: &mut Vec<Mark>,
 ) -> Result<Progress, OutOfMemory>
-    ensures ops { (rs : List typed.Block) → Serve context.pass context.spaces rs (library_of ops.old) extents.now
-        → OnOk result (Grew ops.old ops.new (joined (length (drafted ops.old)) (branch_of context.pass (scope_of
-        context.spaces rs) (length (drafted ops.old)) p arm.now) 0)) }
-    ensures ends { (rs : List typed.Block) → Serve context.pass context.spaces rs (library_of ops.old) extents.now
-        → OnOk result ((places : List ℕ) → AllZip (IsAt ops.old) ends.old.items places
-        → AllZip (IsAt ops.new) ends.new.items (places ++ jump_at (length (drafted ops.old))
-        (branch_of context.pass (scope_of context.spaces rs) (length (drafted ops.old)) p arm.now) ∷ [])) }
-    ensures next { (rs : List typed.Block) → Serve context.pass context.spaces rs (library_of ops.old) extents.now
-        → IfOk result (λ q. q ≡ past_arm (scope_of context.spaces rs) p arm.now) }
+    ensures { (rs : List typed.Block) → Serve context.pass context.spaces rs (library_of ops.old) extents.now
+        → let o = scope_of context.spaces rs in
+        let b = branch_of context.pass o (length (drafted ops.old)) p arm.now in
+        IfOk result (λ q. Grew ops.old ops.new (joined (length (drafted ops.old)) b 0)
+        × ((places : List ℕ) → AllZip (IsAt ops.old) ends.old.items places
+        → AllZip (IsAt ops.new) ends.new.items (places ++ jump_at (length (drafted ops.old)) b ∷ []))
+        × (q ≡ past_arm o p arm.now)) }
 {
     let spot = condition(ops, context, p.part, &arm.cond)?;
     let test = jump(ops, Act::Unless(0), spot.reg, Operands::one(spot.reg))?;
@@ -209,11 +197,10 @@ fn each_arm(
     arms: &[TypedArm],
 ) -> Result<Progress, OutOfMemory>
     requires { context.pass ≡ pass.Initialisation }
-    ensures ops { (rs : List typed.Block) → Serve context.pass context.spaces rs (library_of ops.old) extents.now
-        → OnOk result (Grew ops.old ops.new (each_code (scope_of context.spaces rs) (length (drafted ops.old)) p
-        arms.now)) }
-    ensures next { (rs : List typed.Block) → Serve context.pass context.spaces rs (library_of ops.old) extents.now
-        → IfOk result (λ q. q ≡ past_list (scope_of context.spaces rs) p arms.now) }
+    ensures { (rs : List typed.Block) → Serve context.pass context.spaces rs (library_of ops.old) extents.now
+        → let o = scope_of context.spaces rs in
+        IfOk result (λ q. Grew ops.old ops.new (each_code o (length (drafted ops.old)) p arms.now)
+        × (q ≡ past_list o p arms.now)) }
 {
     let mut next = p;
     for a in arms {
@@ -232,11 +219,11 @@ fn one_arm(
     arm: &TypedArm,
 ) -> Result<Progress, OutOfMemory>
     requires { context.pass ≡ pass.Initialisation }
-    ensures ops { (rs : List typed.Block) → Serve context.pass context.spaces rs (library_of ops.old) extents.now
-        → OnOk result (Grew ops.old ops.new (each_arm_code (length (drafted ops.old)) p (condition_of arm.now)
-        (body_of (scope_of context.spaces rs) arm.now))) }
-    ensures next { (rs : List typed.Block) → Serve context.pass context.spaces rs (library_of ops.old) extents.now
-        → IfOk result (λ q. q ≡ past_arm (scope_of context.spaces rs) p arm.now) }
+    ensures { (rs : List typed.Block) → Serve context.pass context.spaces rs (library_of ops.old) extents.now
+        → let o = scope_of context.spaces rs in
+        IfOk result (λ q. Grew ops.old ops.new
+        (each_arm_code (length (drafted ops.old)) p (condition_of arm.now) (body_of o arm.now))
+        × (q ≡ past_arm o p arm.now)) }
 {
     let spot = condition(ops, context, p.part, &arm.cond)?;
     let at = Progress {

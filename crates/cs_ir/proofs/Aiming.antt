@@ -1,7 +1,6 @@
 -- Jumps that are aimed.
 use Rattle.std.proofs.Common.{◌≡◌, ◌+◌, ◌++◌, ℕ, zero, suc, List, [], ◌∷◌, length, arith, ap, subst}
-use Rattle.cs_ir.specs.Codes.{aim}
-use Rattle.cs_ir.specs.declared.op.Op.{Op}
+use Rattle.cs_ir.specs.{Codes.aim, declared.op.Op.Op}
 
 -- ops behind others
 pub aim_high : (xs ys : List Op) (n to : ℕ) → aim (length xs + n) to (xs ++ ys) ≡ xs ++ aim n to ys

@@ -1,22 +1,17 @@
 -- Steps that are drafted, one behind the other, and jumps that are aimed.
-use Rattle.std.proofs.Common.{◌≡◌, ◌∙◌, ◌+◌, ◌≤◌, ◌<◌, ◌++◌, ℕ, zero, suc, true, List, [], ◌∷◌, length, Some}
-use Rattle.std.proofs.Common.{eqb-true, get_or, leb-true, nat_le, slice_get, set, arith, refl, sym, ap, subst}
-use Rattle.std.proofs.lemmas.Bool.{and_from, and_parts}
-use Rattle.std.proofs.lemmas.Bool.Decides.{nat_tests}
+use Rattle.std.proofs.Common.{◌≡◌, ◌∙◌, ◌+◌, ◌≤◌, ◌<◌, ◌++◌, ℕ, zero, suc, true, List, [], ◌∷◌, length, Some, eqb-true}
+use Rattle.std.proofs.Common.{get_or, leb-true, nat_le, slice_get, set, arith, refl, sym, ap, subst}
+use Rattle.std.proofs.lemmas.{Bool.and_from, Bool.and_parts, Bool.Decides.nat_tests, Option.slice_get_within}
 use Rattle.std.proofs.lemmas.List.{append-nil, append_assoc, length-append}
 use Rattle.cs_ir.proofs.Aiming.{aim_high}
 use Rattle.cs_ir.proofs.Places.{place_more, step_long, steps_alike, steps_both, steps_long}
-use Rattle.cs_ir.specs.Codes.{aim, aimed, is_unaimed}
+use Rattle.cs_ir.specs.{Codes.aim, Codes.aimed, Codes.is_unaimed, declared.op.Act.Act, declared.op.Op.Op}
+use Rattle.cs_ir.specs.{declared.step.Call.Call, declared.step.Step.Step, inner.Steps.aim_step, inner.Steps.aimed_step}
 use Rattle.cs_ir.specs.Drafts.{Aimed, Draft, Grew, IsAt, drafted, library_of}
 use Rattle.cs_ir.specs.Flat.{are_within, flat, flat_from, flat_step, goes_within, is_within, moved_ops, ops_at}
 use Rattle.cs_ir.specs.Flat.{place_of, placed, size, window_of}
-use Rattle.cs_ir.specs.declared.op.Act.{Act}
 use Rattle.cs_ir.specs.declared.op.Act.TheVariants as act
-use Rattle.cs_ir.specs.declared.op.Op.{Op}
-use Rattle.cs_ir.specs.declared.step.Call.{Call}
-use Rattle.cs_ir.specs.declared.step.Step.{Step}
 use Rattle.cs_ir.specs.declared.step.Step.TheVariants as step
-use Rattle.cs_ir.specs.inner.Steps.{aim_step, aimed_step}
 
 -- ---- one step more
 
@@ -42,25 +37,7 @@ unaimed_stays f (act.Jump to) first un =
 unaimed_stays f (act.Unless to) first un =
     let zero_is : to ≡ 0 = eqb-true to 0 un in
     ap act.Unless (ap f zero_is ∙ first ∙ sym zero_is)
-unaimed_stays f (act.Const v) first un = refl
-unaimed_stays f (act.Field k) first un = refl
-unaimed_stays f (act.Head h) first un = refl
-unaimed_stays f act.Copy first un = refl
-unaimed_stays f act.Neg first un = refl
-unaimed_stays f (act.Pair b) first un = refl
-unaimed_stays f act.Pick first un = refl
-unaimed_stays f (act.Call h) first un = refl
-unaimed_stays f (act.Load r) first un = refl
-unaimed_stays f (act.Save r) first un = refl
-unaimed_stays f (act.Start o u) first un = refl
-unaimed_stays f (act.Unit o u r) first un = refl
-unaimed_stays f act.Seek first un = refl
-unaimed_stays f (act.Store r) first un = refl
-unaimed_stays f (act.Zak o r) first un = refl
-unaimed_stays f (act.Out c) first un = refl
-unaimed_stays f act.OutAt first un = refl
-unaimed_stays f act.Turnoff first un = refl
-unaimed_stays f act.Ask first un = refl
+unaimed_stays f a first un = refl
 
 -- an op, whose jump isn't aimed
 pub op_more : (rs : List (List Op)) (ss : List Step) (op : Op) → are_within (length ss) ss ≡ true
@@ -88,18 +65,13 @@ slice_get_end : {A : Type 0} (xs : List A) (x : A) → slice_get (xs ++ x ∷ []
 slice_get_end [] x = refl
 slice_get_end (y ∷ xs) x = slice_get_end xs x
 
-slice_get_low : {A : Type 0} (xs : List A) (n : ℕ) (x : A) → slice_get xs n ≡ Some x → n < length xs
-slice_get_low [] n x is = absurd (cc)
-slice_get_low (y ∷ xs) zero x is = omega arith
-slice_get_low (y ∷ xs) (suc n) x is = let e = slice_get_low xs n x is in omega (arith, e)
-
 pub marks_stay : (d : Draft) (s : Step) (mark place : ℕ) → IsAt d mark place
     → IsAt (record d { steps = d.steps ++ s ∷ [] }) mark place
 marks_stay d s mark place h = record {
   op = h.op;
   is = slice_get_more d.steps (s ∷ []) mark (step.Do h.op) h.is;
   stands = h.stands ∙ sym (place_more (library_of d) mark d.steps (s ∷ [])
-      (let e = slice_get_low d.steps mark (step.Do h.op) h.is in omega (arith, e)));
+      (let e = slice_get_within d.steps mark (step.Do h.op) h.is in omega (arith, e)));
 }
 
 pub mark_there : (d : Draft) (op : Op)
@@ -130,26 +102,7 @@ grew_on a b c xs ys one two = record {
 
 aimed_placed : (f : ℕ → ℕ) (to : ℕ) (a : Act) → placed f (aimed to a) ≡ aimed (f to) (placed f a)
 aimed_placed f to (act.Jump old) = refl
-aimed_placed f to (act.Unless old) = refl
-aimed_placed f to (act.Const v) = refl
-aimed_placed f to (act.Field k) = refl
-aimed_placed f to (act.Head h) = refl
-aimed_placed f to act.Copy = refl
-aimed_placed f to act.Neg = refl
-aimed_placed f to (act.Pair b) = refl
-aimed_placed f to act.Pick = refl
-aimed_placed f to (act.Call h) = refl
-aimed_placed f to (act.Load r) = refl
-aimed_placed f to (act.Save r) = refl
-aimed_placed f to (act.Start o u) = refl
-aimed_placed f to (act.Unit o u r) = refl
-aimed_placed f to act.Seek = refl
-aimed_placed f to (act.Store r) = refl
-aimed_placed f to (act.Zak o r) = refl
-aimed_placed f to (act.Out c) = refl
-aimed_placed f to act.OutAt = refl
-aimed_placed f to act.Turnoff = refl
-aimed_placed f to act.Ask = refl
+aimed_placed f to a = refl
 
 -- ---- steps of which one is aimed
 
@@ -172,11 +125,9 @@ steps_stay (s ∷ ss) (suc n) to = ap suc (steps_stay ss n to)
 module _ (rs : List (List Op)) where
   -- the step stands for one op as before, so all stand where they did
   pub places_stay : (to n : ℕ) (ss : List Step) (i : ℕ) → place_of rs n (aim_step i to ss) ≡ place_of rs n ss
-  places_stay to zero ss i = refl
-  places_stay to (suc n) [] i = refl
   places_stay to (suc n) (step.Do op ∷ ss) zero = refl
-  places_stay to (suc n) (step.Invoke c ∷ ss) zero = refl
   places_stay to (suc n) (s ∷ ss) (suc i) = ap (λ k. size rs s + k) (places_stay to n ss i)
+  places_stay to n ss i = refl
 
   aim_from : (f : ℕ → ℕ) (to p : ℕ) (ss : List Step) (i : ℕ) (op : Op) → slice_get ss i ≡ Some (step.Do op)
       → flat_from rs f p (aim_step i to ss) ≡ aim (place_of rs i ss) (f to) (flat_from rs f p ss)
@@ -202,12 +153,9 @@ module _ (rs : List (List Op)) where
 -- an op stays an op where a jump is aimed
 op_stays : (ss : List Step) (n to m : ℕ) (op : Op) → slice_get ss m ≡ Some (step.Do op)
     → (new : Op) × (slice_get (aim_step n to ss) m ≡ Some (step.Do new))
-op_stays [] n to m op is = (op, is)
 op_stays (step.Do x ∷ ss) zero to zero op is = (record x { act = aimed to x.act }, refl)
-op_stays (step.Do x ∷ ss) zero to (suc m) op is = (op, is)
-op_stays (step.Invoke c ∷ ss) zero to m op is = (op, is)
-op_stays (s ∷ ss) (suc n) to zero op is = (op, is)
 op_stays (s ∷ ss) (suc n) to (suc m) op is = op_stays ss n to m op is
+op_stays ss n to m op is = (op, is)
 
 pub aimed_so : (d : Draft) (mark place : ℕ) → IsAt d mark place
     → Aimed d (record d { steps = aim_step mark (length d.steps) d.steps }) place
@@ -236,25 +184,7 @@ within_later n (s ∷ ss) h =
     goes_later : (a : Act) → goes_within n a ≡ true → goes_within (suc n) a ≡ true
     goes_later (act.Jump to) low = le_true to (suc n) (let e = leb-true to n low in omega (arith, e))
     goes_later (act.Unless to) low = le_true to (suc n) (let e = leb-true to n low in omega (arith, e))
-    goes_later (act.Const v) low = refl
-    goes_later (act.Field k) low = refl
-    goes_later (act.Head k) low = refl
-    goes_later act.Copy low = refl
-    goes_later act.Neg low = refl
-    goes_later (act.Pair b) low = refl
-    goes_later act.Pick low = refl
-    goes_later (act.Call k) low = refl
-    goes_later (act.Load r) low = refl
-    goes_later (act.Save r) low = refl
-    goes_later (act.Start o u) low = refl
-    goes_later (act.Unit o u r) low = refl
-    goes_later act.Seek low = refl
-    goes_later (act.Store r) low = refl
-    goes_later (act.Zak o r) low = refl
-    goes_later (act.Out c) low = refl
-    goes_later act.OutAt low = refl
-    goes_later act.Turnoff low = refl
-    goes_later act.Ask low = refl
+    goes_later a low = refl
 
     one : (s : Step) → is_within n s ≡ true → is_within (suc n) s ≡ true
     one (step.Do op) low = goes_later op.act low
@@ -278,25 +208,7 @@ within_more ss s h here =
 pub unaimed_within : (n : ℕ) (a : Act) → is_unaimed a ≡ true → goes_within n a ≡ true
 unaimed_within n (act.Jump to) un = ap (λ k. nat_le k n) (eqb-true to 0 un) ∙ le_true 0 n (omega arith)
 unaimed_within n (act.Unless to) un = ap (λ k. nat_le k n) (eqb-true to 0 un) ∙ le_true 0 n (omega arith)
-unaimed_within n (act.Const v) un = refl
-unaimed_within n (act.Field k) un = refl
-unaimed_within n (act.Head k) un = refl
-unaimed_within n act.Copy un = refl
-unaimed_within n act.Neg un = refl
-unaimed_within n (act.Pair b) un = refl
-unaimed_within n act.Pick un = refl
-unaimed_within n (act.Call k) un = refl
-unaimed_within n (act.Load r) un = refl
-unaimed_within n (act.Save r) un = refl
-unaimed_within n (act.Start o u) un = refl
-unaimed_within n (act.Unit o u r) un = refl
-unaimed_within n act.Seek un = refl
-unaimed_within n (act.Store r) un = refl
-unaimed_within n (act.Zak o r) un = refl
-unaimed_within n (act.Out c) un = refl
-unaimed_within n act.OutAt un = refl
-unaimed_within n act.Turnoff un = refl
-unaimed_within n act.Ask un = refl
+unaimed_within n a un = refl
 
 -- aimed at a step, or behind all of them
 pub aim_within : (k : ℕ) (ss : List Step) (n to : ℕ) → are_within k ss ≡ true → to ≤ k
@@ -309,25 +221,7 @@ aim_within k (step.Do op ∷ ss) zero to h low =
     by : (a : Act) → goes_within k a ≡ true → goes_within k (aimed to a) ≡ true
     by (act.Jump old) g = le_true to k low
     by (act.Unless old) g = le_true to k low
-    by (act.Const v) g = refl
-    by (act.Field j) g = refl
-    by (act.Head j) g = refl
-    by act.Copy g = refl
-    by act.Neg g = refl
-    by (act.Pair b) g = refl
-    by act.Pick g = refl
-    by (act.Call j) g = refl
-    by (act.Load r) g = refl
-    by (act.Save r) g = refl
-    by (act.Start o u) g = refl
-    by (act.Unit o u r) g = refl
-    by act.Seek g = refl
-    by (act.Store r) g = refl
-    by (act.Zak o r) g = refl
-    by (act.Out c) g = refl
-    by act.OutAt g = refl
-    by act.Turnoff g = refl
-    by act.Ask g = refl
+    by a g = refl
 aim_within k (step.Invoke c ∷ ss) zero to h low = h
 aim_within k (s ∷ ss) (suc n) to h low =
     let parts = and_parts (is_within k s) (are_within k ss) h in

@@ -2,9 +2,7 @@
 use Rattle.std.proofs.Common.{◌≡◌, refl, ap, subst, ℕ, zero, suc, ◌+◌, true, List, [], ◌∷◌, slice_get, Option, Some}
 use Rattle.std.proofs.Common.{None, arith}
 use Rattle.std.proofs.lemmas.Bool.{and_parts, and_from}
-use Rattle.cs_ir.specs.Validity.{is_fine, fine_from}
-use Rattle.cs_ir.specs.declared.op.Op.{Op}
-use Rattle.cs_ir.specs.declared.register.Counts.{Counts}
+use Rattle.cs_ir.specs.{Validity.is_fine, Validity.fine_from, declared.op.Op.Op, declared.register.Counts.Counts}
 
 or_else : Op → Option Op → Op
 or_else x None = x

@@ -1,16 +1,13 @@
 -- Routines behind others: what stands for a routine, wherever it is invoked.
 use Rattle.std.proofs.Common.{◌≡◌, ◌∙◌, ◌+◌, ◌<◌, ◌≤◌, ◌++◌, ℕ, zero, suc, List, [], ◌∷◌, length, map, take, drop, Some}
 use Rattle.std.proofs.Common.{get_or, ltb-true, nat_lt, slice_get, true, arith, refl, sym, ap, subst}
-use Rattle.std.proofs.lemmas.Option.{slice_get-get_or}
+use Rattle.std.proofs.lemmas.{Option.slice_get-get_or, List.take-append-drop}
 use Rattle.std.proofs.lemmas.List.{get_or_append_left, length-append, length-map, length-take-le, map-append}
-use Rattle.std.proofs.lemmas.List.{take-append-drop}
 use Rattle.cs_ir.proofs.Twice.{call_twice}
 use Rattle.cs_ir.specs.Flat.{flat, further, more_routines, moved_ops, ops_at, window_of}
 use Rattle.cs_ir.specs.Routines.{AreRoutines, AreRoutinesFrom, IsRoutineOf, library_in, ops_in, steps_of}
-use Rattle.cs_ir.specs.declared.op.Op.{Op}
+use Rattle.cs_ir.specs.{declared.op.Op.Op, declared.step.Call.Call, declared.step.Step.Step}
 use Rattle.cs_ir.specs.declared.routine.Routine.{Routine}
-use Rattle.cs_ir.specs.declared.step.Call.{Call}
-use Rattle.cs_ir.specs.declared.step.Step.{Step}
 use Rattle.cs_ir.specs.declared.step.Step.TheVariants as step
 
 -- ---- lists of ops, routine by routine

@@ -1,10 +1,9 @@
 -- Windows that leave room for numbers of 32 bits.
 use Rattle.std.proofs.Common.{◌≡◌, ◌+◌, ◌*◌, ◌<◌, ◌≤◌, ◌^◌, ◌&&◌, ℕ, true, nat_le, arith, le-leb}
 use Rattle.std.proofs.lemmas.Bool.{and_from}
-use Rattle.cs_base.specs.Rates.{at_rate}
-use Rattle.cs_base.specs.declared.resource.Rate.{Rate}
-use Rattle.cs_base.specs.declared.resource.Rate.TheVariants as rate
+use Rattle.cs_base.specs.{Rates.at_rate, declared.resource.Rate.Rate}
 use Rattle.cs_ir.specs.Flat.{Begins, IsLow, further, leaves_room, no_window, sums}
+use Rattle.cs_base.specs.declared.resource.Rate.TheVariants as rate
 
 module _ (n : ℕ) (w : Begins) (low : IsLow n w) where
   pub room_in : leaves_room w ≡ true
@@ -46,5 +45,4 @@ whole_low n few = record { locals = by_rate; kept = omega (arith, few); unit = o
   where
     by_rate : (r : Rate) → at_rate no_window.locals r + n * 2 ^ 32 ≤ 2 ^ 63
     by_rate rate.Init = omega (arith, few)
-    by_rate rate.Control = omega (arith, few)
-    by_rate rate.Audio = omega (arith, few)
+    by_rate a = omega (arith, few)

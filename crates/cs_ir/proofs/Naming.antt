@@ -1,40 +1,31 @@
 -- Lists that name the same resources; and what steps touch, by their own ops and by the routines that they invoke.
-use Rattle.std.proofs.Common.{◌≡◌, ◌∙◌, ◌+◌, ◌<◌, ◌≤◌, ◌++◌, ◌↔◌, ℕ, zero, suc, List, [], ◌∷◌, length, map, take}
-use Rattle.std.proofs.Common.{Bool, true, Some, ◌&&◌, eqb-true, get_or, slice_get, arith, refl, sym, ap}
-use Rattle.std.proofs.Common.{subst, nat_eq, ⊎_elim}
-use Rattle.std.specs.Cmp.{IsEquivalence}
-use Rattle.std.proofs.lemmas.Cmp.{and_equiv, nat_eq_equiv, on_equiv}
+use Rattle.std.proofs.Common.{◌≡◌, ◌∙◌, ◌+◌, ◌<◌, ◌≤◌, ◌++◌, ◌↔◌, ℕ, zero, suc, List, [], ◌∷◌, length, map, take, Bool}
+use Rattle.std.proofs.Common.{true, Some, ◌&&◌, eqb-true, get_or, slice_get, arith, refl, sym, ap, subst, nat_eq}
+use Rattle.std.proofs.Common.{⊎_elim}
+use Rattle.std.specs.{Cmp.IsEquivalence, List.Sorted.IsPermutation}
+use Rattle.std.proofs.lemmas.{Cmp.and_equiv, Cmp.nat_eq_equiv, Cmp.on_equiv, Bool.and_parts, List.append-nil}
+use Rattle.std.proofs.lemmas.{List.append_assoc, List.get_or_default, List.take_more, List.Concat.flat_map-append}
+use Rattle.std.proofs.lemmas.{List.Elements.Contains-push, List.Elements.Contains-push_cases}
+use Rattle.std.proofs.lemmas.{List.Sorted.Contains-permutation, List.Sorted.IsPermutation-sym}
 use Rattle.std.specs.List.{Contains, dedup, filter, flat_map, range_with_len}
-use Rattle.std.specs.List.Sorted.{IsPermutation}
-use Rattle.std.proofs.lemmas.Bool.{and_parts}
-use Rattle.std.proofs.lemmas.List.{append-nil, append_assoc, get_or_default, take_more}
-use Rattle.std.proofs.lemmas.List.Concat.{flat_map-append}
 use Rattle.std.proofs.lemmas.List.Elements.{Contains-append_cases, Contains-append_left, Contains-append_right}
 use Rattle.std.proofs.lemmas.List.Kept.{Contains-dedup, Contains-dedup_nat, Contains-from_dedup}
-use Rattle.std.proofs.lemmas.List.Sorted.{Contains-permutation, IsPermutation-sym}
-use Rattle.std.proofs.lemmas.List.Elements.{Contains-push, Contains-push_cases}
 use Rattle.cs_base.specs.declared.resource.Res.{Res}
-use Rattle.cs_base.specs.declared.resource.Res.TheVariants as res
 use Rattle.cs_words.specs.declared.catalogue.Space.{Space}
-use Rattle.cs_words.specs.declared.catalogue.Space.TheVariants as space
 use Rattle.cs_ir.proofs.Libraries.{each_routine, routine_at, routine_none}
-use Rattle.cs_ir.specs.Flat.{Begins, flat, flat_from, moved_act, moved_ops, ops_at, place_of, placed}
-use Rattle.cs_ir.specs.Flat.{window_of}
+use Rattle.cs_ir.specs.Flat.{Begins, flat, flat_from, moved_act, moved_ops, ops_at, place_of, placed, window_of}
 use Rattle.cs_ir.specs.Resources.{Access, NameTheSame, Stock, act_touches, may_use, may_write, ops_touch, places_of}
 use Rattle.cs_ir.specs.Resources.{places_within, reaches, tables_within, zak_place}
-use Rattle.cs_ir.specs.Routines.{AreRoutines, library_in}
-use Rattle.cs_ir.specs.Touched.{named, named_by}
-use Rattle.cs_ir.specs.declared.op.Act.{Act}
+use Rattle.cs_ir.specs.{Routines.AreRoutines, Routines.library_in, Routines.ops_in, Touched.named, Touched.named_by}
+use Rattle.cs_ir.specs.{declared.op.Act.Act, declared.op.Op.Op, declared.op.Reach.Reach}
+use Rattle.cs_ir.specs.{declared.routine.Routine.Routine, declared.step.Step.Step, declared.touches.Touch.Touch}
+use Rattle.cs_ir.specs.inner.Naming.{invoked, kept, key_of, own_touches, routines_touch, within}
+use Rattle.cs_base.specs.declared.resource.Res.TheVariants as res
+use Rattle.cs_words.specs.declared.catalogue.Space.TheVariants as space
 use Rattle.cs_ir.specs.declared.op.Act.TheVariants as act
-use Rattle.cs_ir.specs.declared.op.Op.{Op}
-use Rattle.cs_ir.specs.declared.op.Reach.{Reach}
 use Rattle.cs_ir.specs.declared.op.Reach.TheVariants as reach
-use Rattle.cs_ir.specs.declared.routine.Routine.{Routine}
-use Rattle.cs_ir.specs.declared.step.Step.{Step}
 use Rattle.cs_ir.specs.declared.step.Step.TheVariants as step
-use Rattle.cs_ir.specs.declared.touches.Touch.{Touch}
 use Rattle.cs_ir.specs.declared.touches.Touch.TheVariants as touch
-use Rattle.cs_ir.specs.inner.Naming.{invoked, key_of, own_touches, routines_touch, within}
 
 -- ---- lists that name the same
 
@@ -106,13 +97,6 @@ module _ {X Y : Type 0} (f : X → List Y) where
       ∙ sym (flat_map-append f (take i xs) (x ∷ []))
       ∙ ap (flat_map f) (ap (λ y. take i xs ++ y ∷ []) is ∙ sym (take_more xs i x low))
 
-  -- the same behind what was there before
-  pub flat_push : (before now then : List Y) (xs : List X) (i : ℕ) (x : X) → i < length xs → x ≡ get_or xs i x
-      → now ≡ before ++ flat_map f (take i xs) → then ≡ now ++ f x → then ≡ before ++ flat_map f (take (i + 1) xs)
-  flat_push before now then xs i x low is old new =
-      new ∙ ap (λ l. l ++ f x) old ∙ append_assoc before (flat_map f (take i xs)) (f x)
-      ∙ ap (λ l. before ++ l) (flat_next xs i x low is)
-
 -- ---- what is within a reach
 
 none_of : (ns : List ℕ) → filter (reaches reach.Nothing) ns ≡ []
@@ -137,49 +121,11 @@ places_named stock s reach.Any = refl
 module _ (t : Access) (stock : Stock) where
   placed_touch : (f : ℕ → ℕ) (a : Act) → act_touches t stock (placed f a) ≡ act_touches t stock a
   placed_touch f (act.Const v) = refl
-  placed_touch f (act.Field k) = refl
-  placed_touch f (act.Head h) = refl
-  placed_touch f act.Copy = refl
-  placed_touch f act.Neg = refl
-  placed_touch f (act.Pair b) = refl
-  placed_touch f act.Pick = refl
-  placed_touch f (act.Call h) = refl
-  placed_touch f (act.Load r) = refl
-  placed_touch f (act.Save r) = refl
-  placed_touch f (act.Start o u) = refl
-  placed_touch f (act.Unit o u r) = refl
-  placed_touch f act.Seek = refl
-  placed_touch f (act.Store r) = refl
-  placed_touch f (act.Zak o r) = refl
-  placed_touch f (act.Jump to) = refl
-  placed_touch f (act.Unless to) = refl
-  placed_touch f (act.Out c) = refl
-  placed_touch f act.OutAt = refl
-  placed_touch f act.Turnoff = refl
-  placed_touch f act.Ask = refl
+  placed_touch f a = refl
 
   moved_touch : (w : Begins) (p : ℕ) (a : Act) → act_touches t stock (moved_act w p a) ≡ act_touches t stock a
   moved_touch w p (act.Const v) = refl
-  moved_touch w p (act.Field k) = refl
-  moved_touch w p (act.Head h) = refl
-  moved_touch w p act.Copy = refl
-  moved_touch w p act.Neg = refl
-  moved_touch w p (act.Pair b) = refl
-  moved_touch w p act.Pick = refl
-  moved_touch w p (act.Call h) = refl
-  moved_touch w p (act.Load r) = refl
-  moved_touch w p (act.Save r) = refl
-  moved_touch w p (act.Start o u) = refl
-  moved_touch w p (act.Unit o u r) = refl
-  moved_touch w p act.Seek = refl
-  moved_touch w p (act.Store r) = refl
-  moved_touch w p (act.Zak o r) = refl
-  moved_touch w p (act.Jump to) = refl
-  moved_touch w p (act.Unless to) = refl
-  moved_touch w p (act.Out c) = refl
-  moved_touch w p act.OutAt = refl
-  moved_touch w p act.Turnoff = refl
-  moved_touch w p act.Ask = refl
+  moved_touch w p a = refl
 
   moved_touches : (w : Begins) (p : ℕ) (ops : List Op) → ops_touch t stock (moved_ops w p ops) ≡ ops_touch t stock ops
   moved_touches w p [] = refl
@@ -231,19 +177,17 @@ module _ (t : Access) (stock : Stock) (rs : List (List Op)) where
 -- ---- routines
 
 -- what a routine keeps of what it touches is what its ops touch, wherever it is invoked
-pub routine_uses : (list : List Routine) (n : ℕ) (r : Routine) (stock : Stock) → AreRoutines list
+pub routine_touches : (t : Access) (list : List Routine) (n : ℕ) (r : Routine) (stock : Stock) → AreRoutines list
     → slice_get list n ≡ Some r
-    → NameTheSame (named stock r.touches.used.items) (ops_touch may_use stock (ops_at (library_in list) n))
-routine_uses list n r stock are is =
-    subst (λ ops. NameTheSame (named stock r.touches.used.items) (ops_touch may_use stock ops))
-    (sym (routine_at list n r is)) ((each_routine list n r are is).used stock)
-
-pub routine_writes : (list : List Routine) (n : ℕ) (r : Routine) (stock : Stock) → AreRoutines list
-    → slice_get list n ≡ Some r
-    → NameTheSame (named stock r.touches.written.items) (ops_touch may_write stock (ops_at (library_in list) n))
-routine_writes list n r stock are is =
-    subst (λ ops. NameTheSame (named stock r.touches.written.items) (ops_touch may_write stock ops))
-    (sym (routine_at list n r is)) ((each_routine list n r are is).written stock)
+    → NameTheSame (named stock (kept t r.touches)) (ops_touch t stock (ops_at (library_in list) n))
+routine_touches t list n r stock are is =
+    subst (λ ops. NameTheSame (named stock (kept t r.touches)) (ops_touch t stock ops)) (sym (routine_at list n r is))
+    (by t)
+  where
+    by : (t : Access) → NameTheSame (named stock (kept t r.touches))
+        (ops_touch t stock (ops_in (library_in (take n list)) r))
+    by may_use = (each_routine list n r are is).used stock
+    by may_write = (each_routine list n r are is).written stock
 
 -- none is touched by a routine that isn't there
 pub none_added : (t : Access) (stock : Stock) (list : List Routine) (n : ℕ) (now : List Res) → length list ≤ n
@@ -318,22 +262,10 @@ touch_at (suc (suc (suc k)), a, b, c) = touch.Places space.Audio (reach_at a b c
 known : (t : Touch) → touch_at (key_of t) ≡ t
 unfolding reach_at res_at touch_at
 known (touch.One (res.Gi n)) = refl
-known (touch.One (res.Gk n)) = refl
-known (touch.One (res.Ga n)) = refl
-known (touch.One (res.ZakK n)) = refl
-known (touch.One (res.ZakA n)) = refl
-known (touch.One (res.Control n)) = refl
-known (touch.One (res.Sound n)) = refl
-known (touch.One (res.Table n)) = refl
 known (touch.Tables reach.Nothing) = refl
-known (touch.Tables (reach.Span first last)) = refl
-known (touch.Tables reach.Any) = refl
 known (touch.Places space.Control reach.Nothing) = refl
-known (touch.Places space.Control (reach.Span first last)) = refl
-known (touch.Places space.Control reach.Any) = refl
 known (touch.Places space.Audio reach.Nothing) = refl
-known (touch.Places space.Audio (reach.Span first last)) = refl
-known (touch.Places space.Audio reach.Any) = refl
+known t = refl
 
 -- whether two have the same numbers
 abbrev pub same_key : Touch → Touch → Bool

@@ -1,14 +1,11 @@
 -- Where the ops of steps come to stand.
-use Rattle.std.proofs.Common.{◌≡◌, ◌∙◌, ◌+◌, ◌≤◌, ◌++◌, ℕ, zero, suc, true, List, [], ◌∷◌, length}
-use Rattle.std.proofs.Common.{Some, slice_get, arith, refl, sym, ap, leb-true}
-use Rattle.std.proofs.lemmas.Bool.{and_parts}
-use Rattle.std.proofs.lemmas.List.{append_assoc, length-append, length-map}
-use Rattle.cs_ir.specs.Flat.{are_within, flat_from, flat_step, goes_within, is_within, moved_op, ops_at}
-use Rattle.cs_ir.specs.Flat.{place_of, placed, size, window_of}
-use Rattle.cs_ir.specs.declared.op.Act.{Act}
+use Rattle.std.proofs.Common.{◌≡◌, ◌∙◌, ◌+◌, ◌≤◌, ◌++◌, ℕ, zero, suc, true, List, [], ◌∷◌, length, Some, slice_get}
+use Rattle.std.proofs.Common.{arith, refl, sym, ap, leb-true}
+use Rattle.std.proofs.lemmas.{Bool.and_parts, List.append_assoc, List.length-append, List.length-map}
+use Rattle.cs_ir.specs.Flat.{are_within, flat_from, flat_step, goes_within, is_within, moved_op, ops_at, place_of}
+use Rattle.cs_ir.specs.Flat.{placed, size, window_of}
+use Rattle.cs_ir.specs.{declared.op.Act.Act, declared.op.Op.Op, declared.step.Step.Step}
 use Rattle.cs_ir.specs.declared.op.Act.TheVariants as act
-use Rattle.cs_ir.specs.declared.op.Op.{Op}
-use Rattle.cs_ir.specs.declared.step.Step.{Step}
 use Rattle.cs_ir.specs.declared.step.Step.TheVariants as step
 
 module _ (rs : List (List Op)) where
@@ -61,25 +58,7 @@ module _ (rs : List (List Op)) where
       → placed f a ≡ placed g a
   placed_alike f g n (act.Jump to) same low = ap act.Jump (same to (leb-true to n low))
   placed_alike f g n (act.Unless to) same low = ap act.Unless (same to (leb-true to n low))
-  placed_alike f g n (act.Const v) same low = refl
-  placed_alike f g n (act.Field k) same low = refl
-  placed_alike f g n (act.Head h) same low = refl
-  placed_alike f g n act.Copy same low = refl
-  placed_alike f g n act.Neg same low = refl
-  placed_alike f g n (act.Pair b) same low = refl
-  placed_alike f g n act.Pick same low = refl
-  placed_alike f g n (act.Call h) same low = refl
-  placed_alike f g n (act.Load r) same low = refl
-  placed_alike f g n (act.Save r) same low = refl
-  placed_alike f g n (act.Start o u) same low = refl
-  placed_alike f g n (act.Unit o u r) same low = refl
-  placed_alike f g n act.Seek same low = refl
-  placed_alike f g n (act.Store r) same low = refl
-  placed_alike f g n (act.Zak o r) same low = refl
-  placed_alike f g n (act.Out c) same low = refl
-  placed_alike f g n act.OutAt same low = refl
-  placed_alike f g n act.Turnoff same low = refl
-  placed_alike f g n act.Ask same low = refl
+  placed_alike f g n a same low = refl
 
   step_alike : (f g : ℕ → ℕ) (n p : ℕ) (s : Step) → ((to : ℕ) → to ≤ n → f to ≡ g to) → is_within n s ≡ true
       → flat_step rs f p s ≡ flat_step rs g p s

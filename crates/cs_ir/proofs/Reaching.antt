@@ -1,46 +1,53 @@
 -- How far the registers of steps reach, by those of their ops and of the routines that they invoke.
-use Rattle.std.proofs.Common.{◌≡◌, ◌∙◌, ◌+◌, ◌++◌, ◌<◌, ℕ, zero, suc, List, [], ◌∷◌, length, map, max}
-use Rattle.std.proofs.Common.{get_or, if◌then◌else◌, slice_get, take, Some, ◌≤◌, arith, refl, sym, ap}
+use Rattle.std.proofs.Common.{◌≡◌, ◌∙◌, ◌+◌, ◌++◌, ◌<◌, ℕ, zero, suc, List, [], ◌∷◌, length, map, max, get_or}
+use Rattle.std.proofs.Common.{if◌then◌else◌, slice_get, take, Some, ◌≤◌, arith, refl, sym, ap}
 use Rattle.std.proofs.lemmas.List.{take_more}
 use Rattle.cs_base.proofs.Tests.{by_test}
-use Rattle.cs_ir.proofs.Libraries.{each_routine, routine_at, routine_none}
-use Rattle.cs_ir.proofs.RegisterKinds.{kind_is}
-use Rattle.cs_ir.specs.Flat.{Begins, begin_of, flat, flat_from, flat_step, moved_op, moved_ops, moved_reg, ops_at}
-use Rattle.cs_ir.specs.Flat.{place_of, size}
-use Rattle.cs_ir.specs.Flat.{window_of}
-use Rattle.cs_ir.specs.Limits.{op_limit, ops_limit}
-use Rattle.cs_ir.specs.Registers.{at_kind, reg_limit, regs_limit, same_kind}
-use Rattle.cs_ir.specs.Routines.{AreRoutines, library_in}
-use Rattle.cs_ir.specs.declared.op.Op.{Op}
-use Rattle.cs_ir.specs.declared.register.Kind.{Kind}
-use Rattle.cs_ir.specs.declared.register.Reg.{Reg}
-use Rattle.cs_ir.specs.declared.routine.Routine.{Routine}
-use Rattle.cs_ir.specs.declared.step.Call.{Call}
-use Rattle.cs_ir.specs.declared.step.Step.{Step}
-use Rattle.cs_ir.specs.declared.step.Step.TheVariants as step
+use Rattle.cs_ir.proofs.{Libraries.each_routine, Libraries.routine_at, Libraries.routine_none, RegisterKinds.kind_is}
+use Rattle.cs_ir.specs.Flat.{Begins, begin_of, flat, flat_from, flat_step, moved_op, moved_reg, ops_at, place_of, size}
+use Rattle.cs_ir.specs.{Flat.window_of, Limits.op_limit, Limits.ops_limit, Routines.AreRoutines, Routines.library_in}
+use Rattle.cs_ir.specs.{declared.op.Op.Op, declared.register.Kind.Kind, declared.register.Reg.Reg}
+use Rattle.cs_ir.specs.{declared.routine.Routine.Routine, declared.step.Call.Call, declared.step.Step.Step}
+use Rattle.cs_ir.specs.Registers.{at_kind, most, reg_limit, regs_limit, same_kind}
 use Rattle.cs_ir.specs.inner.Reaching.{behind, call_limit, step_limit, steps_limit}
+use Rattle.cs_ir.specs.declared.step.Step.TheVariants as step
 
--- ---- numbers
+-- ---- the greatest of some numbers
 
-max_assoc : (a b c : ℕ) → max (max a b) c ≡ max a (max b c)
-max_assoc a b c = omega arith
-
-pub max_none : (n : ℕ) → max n 0 ≡ n
+max_none : (n : ℕ) → max n 0 ≡ n
 max_none n = omega arith
 
-none_max : (n : ℕ) → n ≡ max 0 n
-none_max n = omega arith
+module _ {X : Type 0} (f : X → ℕ) where
+  most_both : (xs ys : List X) → most f (xs ++ ys) ≡ max (most f xs) (most f ys)
+  most_both [] ys = omega arith
+  most_both (x ∷ xs) ys = let rest = most_both xs ys in omega (arith, rest)
 
-pub behind_max : (begin a b : ℕ) → behind begin (max a b) ≡ max (behind begin a) (behind begin b)
-behind_max begin zero b = ap (behind begin) (sym (none_max b)) ∙ none_max (behind begin b)
-behind_max begin (suc a) zero = ap (behind begin) (max_none (suc a)) ∙ sym (max_none (begin + suc a))
-behind_max begin (suc a) (suc b) = ap (behind begin) (next a b) ∙ further begin a b
-  where
-    next : (m n : ℕ) → max (suc m) (suc n) ≡ suc (max m n)
-    next m n = omega arith
+  -- one more of those that are looked at in turn
+  pub most_next : (xs : List X) (i : ℕ) (d : X) → i < length xs
+      → max (most f (take i xs)) (f (get_or xs i d)) ≡ most f (take (i + 1) xs)
+  most_next xs i d low =
+      let both = most_both (take i xs) (get_or xs i d ∷ []) in
+      let more = ap (most f) (take_more xs i d low) in omega (arith, both, more)
 
-    further : (x m n : ℕ) → x + suc (max m n) ≡ max (x + suc m) (x + suc n)
-    further x m n = omega arith
+behind_max : (begin a b : ℕ) → behind begin (max a b) ≡ max (behind begin a) (behind begin b)
+behind_max begin zero b =
+    let first : max 0 b ≡ b = omega arith in
+    let then_is : behind begin b ≡ max 0 (behind begin b) = omega arith in ap (behind begin) first ∙ then_is
+behind_max begin (suc a) zero =
+    let first : max (suc a) 0 ≡ suc a = omega arith in
+    let then_is : begin + suc a ≡ max (begin + suc a) 0 = omega arith in ap (behind begin) first ∙ then_is
+behind_max begin (suc a) (suc b) =
+    let first : max (suc a) (suc b) ≡ suc (max a b) = omega arith in
+    let then_is : begin + suc (max a b) ≡ max (begin + suc a) (begin + suc b) = omega arith in
+    ap (behind begin) first ∙ then_is
+
+most_behind : {X Y : Type 0} (begin : ℕ) (f : X → ℕ) (g : Y → ℕ) (h : Y → X)
+    → ((y : Y) → f (h y) ≡ behind begin (g y)) → (ys : List Y) → most f (map h ys) ≡ behind begin (most g ys)
+most_behind begin f g h each [] = refl
+most_behind begin f g h each (y ∷ ys) =
+    let one = each y in
+    let rest = most_behind begin f g h each ys in
+    (λ i. max (one i) (rest i)) ∙ sym (behind_max begin (g y) (most g ys))
 
 behind_one : (begin n : ℕ) → begin + n + 1 ≡ behind begin (n + 1)
 behind_one begin n =
@@ -50,7 +57,7 @@ behind_one begin n =
 
 -- ---- registers in a window
 
-pub moved_reg_limit : (w : Begins) (k : Kind) (q : Reg)
+moved_reg_limit : (w : Begins) (k : Kind) (q : Reg)
     → reg_limit k (moved_reg w q) ≡ behind (begin_of w k) (reg_limit k q)
 moved_reg_limit w k q = by_test (same_kind q.kind k)
     (λ yes. let there : q.kind ≡ k = kind_is q.kind k yes in
@@ -61,40 +68,21 @@ moved_reg_limit w k q = by_test (same_kind q.kind k)
     (λ no. ap (λ b. if b then begin_of w q.kind + q.offset + 1 else 0) no
     ∙ ap (λ b. behind (begin_of w k) (if b then q.offset + 1 else 0)) (sym no))
 
-moved_regs_limit : (w : Begins) (k : Kind) (qs : List Reg)
-    → regs_limit k (map (moved_reg w) qs) ≡ behind (begin_of w k) (regs_limit k qs)
-moved_regs_limit w k [] = refl
-moved_regs_limit w k (q ∷ qs) =
-    let one = moved_reg_limit w k q in
-    let rest = moved_regs_limit w k qs in
-    (λ i. max (one i) (rest i)) ∙ sym (behind_max (begin_of w k) (reg_limit k q) (regs_limit k qs))
-
 moved_op_limit : (w : Begins) (k : Kind) (p : ℕ) (op : Op)
     → op_limit k (moved_op w p op) ≡ behind (begin_of w k) (op_limit k op)
 moved_op_limit w k p op =
     let one = moved_reg_limit w k op.into in
-    let rest = moved_regs_limit w k op.from in
+    let rest = most_behind (begin_of w k) (reg_limit k) (reg_limit k) (moved_reg w) (moved_reg_limit w k) op.from in
     (λ i. max (one i) (rest i)) ∙ sym (behind_max (begin_of w k) (reg_limit k op.into) (regs_limit k op.from))
 
-pub moved_limit : (w : Begins) (k : Kind) (p : ℕ) (ops : List Op)
-    → ops_limit k (moved_ops w p ops) ≡ behind (begin_of w k) (ops_limit k ops)
-moved_limit w k p [] = refl
-moved_limit w k p (op ∷ ops) =
-    let one = moved_op_limit w k p op in
-    let rest = moved_limit w k p ops in
-    (λ i. max (one i) (rest i)) ∙ sym (behind_max (begin_of w k) (op_limit k op) (ops_limit k ops))
-
 -- ---- steps
-
-limit_both : (k : Kind) (xs ys : List Op) → ops_limit k (xs ++ ys) ≡ max (ops_limit k xs) (ops_limit k ys)
-limit_both k [] ys = none_max (ops_limit k ys)
-limit_both k (x ∷ xs) ys =
-    ap (max (op_limit k x)) (limit_both k xs ys) ∙ sym (max_assoc (op_limit k x) (ops_limit k xs) (ops_limit k ys))
 
 one_step : (rs : List (List Op)) (k : Kind) (f : ℕ → ℕ) (p : ℕ) (s : Step)
     → ops_limit k (flat_step rs f p s) ≡ step_limit rs k s
 one_step rs k f p (step.Do op) = max_none (op_limit k op)
-one_step rs k f p (step.Invoke c) = moved_limit (window_of c) k p (ops_at rs c.routine)
+one_step rs k f p (step.Invoke c) =
+    most_behind (begin_of (window_of c) k) (op_limit k) (op_limit k) (moved_op (window_of c) p)
+    (moved_op_limit (window_of c) k p) (ops_at rs c.routine)
 
 steps_from : (rs : List (List Op)) (k : Kind) (f : ℕ → ℕ) (p : ℕ) (ss : List Step)
     → ops_limit k (flat_from rs f p ss) ≡ steps_limit rs k ss
@@ -102,27 +90,11 @@ steps_from rs k f p [] = refl
 steps_from rs k f p (s ∷ ss) =
     let one = one_step rs k f p s in
     let rest = steps_from rs k f (p + size rs s) ss in
-    limit_both k (flat_step rs f p s) (flat_from rs f (p + size rs s) ss) ∙ (λ i. max (one i) (rest i))
+    most_both (op_limit k) (flat_step rs f p s) (flat_from rs f (p + size rs s) ss) ∙ (λ i. max (one i) (rest i))
 
 pub steps_end : (rs : List (List Op)) (k : Kind) (ss : List Step)
     → ops_limit k (flat rs ss) ≡ steps_limit rs k ss
 steps_end rs k ss = steps_from rs k (λ to. place_of rs to ss) 0 ss
-
-steps_limit_both : (rs : List (List Op)) (k : Kind) (xs ys : List Step)
-    → steps_limit rs k (xs ++ ys) ≡ max (steps_limit rs k xs) (steps_limit rs k ys)
-steps_limit_both rs k [] ys = none_max (steps_limit rs k ys)
-steps_limit_both rs k (x ∷ xs) ys =
-    ap (max (step_limit rs k x)) (steps_limit_both rs k xs ys)
-    ∙ sym (max_assoc (step_limit rs k x) (steps_limit rs k xs) (steps_limit rs k ys))
-
--- one step more of those that are looked at in turn
-pub limit_next : (rs : List (List Op)) (k : Kind) (ss : List Step) (i : ℕ) (s : Step) → i < length ss
-    → s ≡ get_or ss i s
-    → max (steps_limit rs k (take i ss)) (step_limit rs k s) ≡ steps_limit rs k (take (i + 1) ss)
-limit_next rs k ss i s low is =
-    ap (max (steps_limit rs k (take i ss))) (sym (max_none (step_limit rs k s)))
-    ∙ sym (steps_limit_both rs k (take i ss) (s ∷ []))
-    ∙ ap (steps_limit rs k) (ap (λ y. take i ss ++ y ∷ []) is ∙ sym (take_more ss i s low))
 
 -- ---- a call, by what its routine keeps
 
@@ -138,24 +110,7 @@ pub call_missing : (list : List Routine) (k : Kind) (c : Call) → length list �
 call_missing list k c far =
     ap (λ ops. behind (begin_of (window_of c) k) (ops_limit k ops)) (routine_none list c.routine far)
 
--- ---- registers that are looked at in turn
-
-regs_limit_both : (k : Kind) (xs ys : List Reg)
-    → regs_limit k (xs ++ ys) ≡ max (regs_limit k xs) (regs_limit k ys)
-regs_limit_both k [] ys = none_max (regs_limit k ys)
-regs_limit_both k (x ∷ xs) ys =
-    ap (max (reg_limit k x)) (regs_limit_both k xs ys)
-    ∙ sym (max_assoc (reg_limit k x) (regs_limit k xs) (regs_limit k ys))
-
-pub reg_next : (k : Kind) (qs : List Reg) (i : ℕ) (d : Reg) → i < length qs
-    → max (regs_limit k (take i qs)) (reg_limit k (get_or qs i d)) ≡ regs_limit k (take (i + 1) qs)
-reg_next k qs i d low =
-    ap (max (regs_limit k (take i qs))) (sym (max_none (reg_limit k (get_or qs i d))))
-    ∙ sym (regs_limit_both k (take i qs) (get_or qs i d ∷ []))
-    ∙ ap (regs_limit k) (sym (take_more qs i d low))
-
 -- one limit more of those that were added
 pub more_limit : (old sum here all before new : ℕ) → new ≡ max before here → before ≡ max old sum
     → max sum here ≡ all → new ≡ max old all
-more_limit old sum here all before new is was more =
-    is ∙ ap (λ n. max n here) was ∙ max_assoc old sum here ∙ ap (max old) more
+more_limit old sum here all before new is was more = omega (arith, is, was, more)

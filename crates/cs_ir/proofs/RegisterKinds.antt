@@ -2,18 +2,13 @@
 use Rattle.std.proofs.Common.{◌≡◌, ◌∙◌, ◌<◌, ◌^◌, ℕ, zero, suc, true, List, [], ◌∷◌, arith, eqb-true, ltb-true, refl}
 use Rattle.std.proofs.Common.{sym, ap, eqb, eq-eqb}
 use Rattle.std.specs.List.{list_all}
-use Rattle.std.proofs.lemmas.Bool.{and_from, and_parts}
-use Rattle.std.proofs.lemmas.Bool.Decides.{nat_tests}
+use Rattle.std.proofs.lemmas.{Bool.and_from, Bool.and_parts, Bool.Decides.nat_tests}
 use Rattle.cs_base.specs.declared.resource.Rate.{Rate}
-use Rattle.cs_base.specs.declared.resource.Rate.TheVariants as rate
-use Rattle.cs_ir.specs.Flat.{is_small}
-use Rattle.cs_ir.specs.Machine.{same_reg}
+use Rattle.cs_ir.specs.{Flat.is_small, Machine.same_reg, Validity.has_register, declared.register.Counts.Counts}
+use Rattle.cs_ir.specs.{declared.register.Kind.Kind, declared.register.Reg.Reg}
 use Rattle.cs_ir.specs.Registers.{at_kind, kind_number, local, rate_of, same_kind}
-use Rattle.cs_ir.specs.Validity.{has_register}
-use Rattle.cs_ir.specs.declared.register.Counts.{Counts}
-use Rattle.cs_ir.specs.declared.register.Kind.{Kind}
+use Rattle.cs_base.specs.declared.resource.Rate.TheVariants as rate
 use Rattle.cs_ir.specs.declared.register.Kind.TheVariants as kind
-use Rattle.cs_ir.specs.declared.register.Reg.{Reg}
 
 kind_at : ℕ → Kind
 kind_at zero = kind.LocalInit
@@ -27,12 +22,7 @@ kind_at (suc (suc (suc (suc (suc (suc n)))))) = kind.TemporaryAudio
 number_back : (k : Kind) → kind_at (kind_number k) ≡ k
 unfolding kind_at
 number_back kind.LocalInit = refl
-number_back kind.LocalControl = refl
-number_back kind.Kept = refl
-number_back kind.TemporaryInit = refl
-number_back kind.TemporaryControl = refl
-number_back kind.LocalAudio = refl
-number_back kind.TemporaryAudio = refl
+number_back a = refl
 
 pub kind_is : (j k : Kind) → same_kind j k ≡ true → j ≡ k
 kind_is j k h =
@@ -55,8 +45,7 @@ same_reg_here q = rw (kind_same q.kind, eq-eqb q.offset q.offset refl) refl
 -- how often a local variable's register changes
 pub local_rate : (r : Rate) → rate_of (local r) ≡ r
 local_rate rate.Init = refl
-local_rate rate.Control = refl
-local_rate rate.Audio = refl
+local_rate a = refl
 
 -- registers that there are have numbers of 32 bits
 pub there_small : (c : Counts) (q : Reg) → has_register c q ≡ true → is_small q ≡ true

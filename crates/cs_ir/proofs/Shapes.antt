@@ -4,30 +4,14 @@ use Rattle.std.specs.List.{list_all}
 use Rattle.std.proofs.lemmas.Bool.{and_parts}
 use Rattle.cs_base.specs.declared.resource.Rate.{Rate}
 use Rattle.cs_words.specs.Catalogue.{row_of, unit_takes}
-use Rattle.cs_words.specs.declared.catalogue.Opcode.{Opcode}
-use Rattle.cs_words.specs.declared.catalogue.Shape.{Shape}
-use Rattle.cs_words.specs.declared.catalogue.Shape.TheVariants as shape
-use Rattle.cs_ir.specs.Units.{is_unit}
+use Rattle.cs_words.specs.{declared.catalogue.Opcode.Opcode, declared.catalogue.Shape.Shape}
+use Rattle.cs_ir.specs.{Units.is_unit, declared.register.Reg.Reg}
 use Rattle.cs_ir.specs.Validity.{is_still, may_run_at, runs_with, starts_with}
-use Rattle.cs_ir.specs.declared.register.Reg.{Reg}
+use Rattle.cs_words.specs.declared.catalogue.Shape.TheVariants as shape
 
 pub shape_is : (s : Shape) → is_unit s ≡ true → s ≡ shape.Unit
 shape_is shape.Unit h = refl
-shape_is shape.Store h = absurd (cc)
-shape_is shape.Init h = absurd (cc)
-shape_is shape.Out h = absurd (cc)
-shape_is shape.OutAt h = absurd (cc)
-shape_is shape.Turnoff h = absurd (cc)
-shape_is shape.ZakInit h = absurd (cc)
-shape_is (shape.ZakGet s) h = absurd (cc)
-shape_is (shape.ZakPut s) h = absurd (cc)
-shape_is shape.ZakMix h = absurd (cc)
-shape_is (shape.ZakClear s) h = absurd (cc)
-shape_is shape.ChannelGet h = absurd (cc)
-shape_is shape.ChannelPut h = absurd (cc)
-shape_is shape.ChannelMix h = absurd (cc)
-shape_is shape.ChannelClear h = absurd (cc)
-shape_is shape.Ask h = absurd (cc)
+shape_is a h = absurd (cc)
 
 -- what is started, and what runs as a unit, is one
 pub started_shape : (o : Opcode) (r : Rate) (xs : List Reg) → starts_with (row_of o) r xs ≡ true

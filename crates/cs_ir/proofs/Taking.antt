@@ -2,12 +2,10 @@
 use Rattle.std.proofs.Common.{◌≡◌, ℕ, zero, suc, ◌≤◌, List, [], ◌∷◌, length, drop, nat_eq, arith, refl, ◌∙◌, subst}
 use Rattle.std.proofs.Common.{Bool}
 use Rattle.std.specs.Prelude.{filter}
-use Rattle.cs_words.specs.Catalogue.{is_moving}
-use Rattle.cs_words.specs.declared.catalogue.Letter.{Letter}
-use Rattle.std.proofs.lemmas.Bool.Decides.{nat_tests}
+use Rattle.cs_words.specs.{Catalogue.is_moving, declared.catalogue.Letter.Letter}
+use Rattle.std.proofs.lemmas.{Bool.Decides.nat_tests, List.drop_all}
 use Rattle.cs_base.specs.declared.resource.Rate.{Rate}
-use Rattle.cs_ir.specs.Validity.{take_all}
-use Rattle.cs_ir.specs.declared.register.Reg.{Reg}
+use Rattle.cs_ir.specs.{Validity.take_all, declared.register.Reg.Reg}
 
 same_suc : (m n : ℕ) → nat_eq (suc m) (suc n) ≡ nat_eq m n
 same_suc m n = grind (arith, nat_tests)
@@ -19,12 +17,6 @@ take_none bound zero [] h = refl
 take_none bound zero (x ∷ xs) h = grind (arith, nat_tests)
 take_none bound (suc n) [] h = let no : ⊥ = omega arith in absurd no
 take_none bound (suc n) (x ∷ xs) h = same_suc n (length xs) ∙ take_none bound n xs (omega (arith))
-
-drop_all : (i : ℕ) (ls : List Letter) → length ls ≤ i → drop i ls ≡ []
-drop_all zero [] h = refl
-drop_all zero (l ∷ ls) h = let no : ⊥ = omega arith in absurd no
-drop_all (suc i) [] h = refl
-drop_all (suc i) (l ∷ ls) h = drop_all i ls (omega arith)
 
 -- once all letters were gone through, all registers must have been
 pub all_taken : (ls : List Letter) (i : ℕ) (bound : Rate) (n : ℕ) (xs : List Reg) (b : Bool) → n ≤ length xs

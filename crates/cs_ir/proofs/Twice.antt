@@ -2,21 +2,13 @@
 use Rattle.std.proofs.Common.{◌≡◌, ◌∙◌, ◌+◌, ◌++◌, ℕ, List, [], ◌∷◌, map, arith, refl, sym, ap}
 use Rattle.std.proofs.lemmas.List.{append-nil}
 use Rattle.cs_ir.specs.Flat.{Begins, begin_of, further, moved_act, moved_op, moved_ops, moved_reg, no_window}
-use Rattle.cs_ir.specs.declared.op.Act.{Act}
+use Rattle.cs_ir.specs.{declared.op.Act.Act, declared.op.Op.Op, declared.register.Kind.Kind, declared.register.Reg.Reg}
 use Rattle.cs_ir.specs.declared.op.Act.TheVariants as act
-use Rattle.cs_ir.specs.declared.op.Op.{Op}
-use Rattle.cs_ir.specs.declared.register.Kind.{Kind}
 use Rattle.cs_ir.specs.declared.register.Kind.TheVariants as kind
-use Rattle.cs_ir.specs.declared.register.Reg.{Reg}
 
 begin_further : (w v : Begins) (k : Kind) (n : ℕ) → begin_of w k + (begin_of v k + n) ≡ begin_of (further w v) k + n
 begin_further w v kind.LocalInit n = omega arith
-begin_further w v kind.LocalControl n = omega arith
-begin_further w v kind.Kept n = omega arith
-begin_further w v kind.TemporaryInit n = omega arith
-begin_further w v kind.TemporaryControl n = omega arith
-begin_further w v kind.LocalAudio n = omega arith
-begin_further w v kind.TemporaryAudio n = omega arith
+begin_further w v a n = omega arith
 
 reg_twice : (w v : Begins) (q : Reg) → moved_reg w (moved_reg v q) ≡ moved_reg (further w v) q
 reg_twice w v q = λ i. record { kind = q.kind; offset = begin_further w v q.kind q.offset i }
@@ -34,23 +26,7 @@ act_twice w v p q (act.Unit o u r) =
     let e : w.unit + (v.unit + u) ≡ w.unit + v.unit + u = omega arith in ap (λ n. act.Unit o n r) e
 act_twice w v p q (act.Jump to) = let e : p + (q + to) ≡ p + q + to = omega arith in ap act.Jump e
 act_twice w v p q (act.Unless to) = let e : p + (q + to) ≡ p + q + to = omega arith in ap act.Unless e
-act_twice w v p q (act.Const n) = refl
-act_twice w v p q (act.Field k) = refl
-act_twice w v p q (act.Head h) = refl
-act_twice w v p q act.Copy = refl
-act_twice w v p q act.Neg = refl
-act_twice w v p q (act.Pair b) = refl
-act_twice w v p q act.Pick = refl
-act_twice w v p q (act.Call h) = refl
-act_twice w v p q (act.Load r) = refl
-act_twice w v p q (act.Save r) = refl
-act_twice w v p q act.Seek = refl
-act_twice w v p q (act.Store r) = refl
-act_twice w v p q (act.Zak o r) = refl
-act_twice w v p q (act.Out c) = refl
-act_twice w v p q act.OutAt = refl
-act_twice w v p q act.Turnoff = refl
-act_twice w v p q act.Ask = refl
+act_twice w v p q a = refl
 
 pub op_twice : (w v : Begins) (p q : ℕ) (op : Op) → moved_op w p (moved_op v q op) ≡ moved_op (further w v) (p + q) op
 op_twice w v p q op =
@@ -71,12 +47,7 @@ whole_reg q = λ i. record { kind = q.kind; offset = none q.kind i }
   where
     none : (k : Kind) → begin_of no_window k + q.offset ≡ q.offset
     none kind.LocalInit = omega arith
-    none kind.LocalControl = omega arith
-    none kind.Kept = omega arith
-    none kind.TemporaryInit = omega arith
-    none kind.TemporaryControl = omega arith
-    none kind.LocalAudio = omega arith
-    none kind.TemporaryAudio = omega arith
+    none a = omega arith
 
 whole_regs : (qs : List Reg) → map (moved_reg no_window) qs ≡ qs
 whole_regs [] = refl
@@ -87,23 +58,7 @@ whole_act (act.Start o u) = let e : 0 + u ≡ u = omega arith in ap (act.Start o
 whole_act (act.Unit o u r) = let e : 0 + u ≡ u = omega arith in ap (λ n. act.Unit o n r) e
 whole_act (act.Jump to) = let e : 0 + to ≡ to = omega arith in ap act.Jump e
 whole_act (act.Unless to) = let e : 0 + to ≡ to = omega arith in ap act.Unless e
-whole_act (act.Const n) = refl
-whole_act (act.Field k) = refl
-whole_act (act.Head h) = refl
-whole_act act.Copy = refl
-whole_act act.Neg = refl
-whole_act (act.Pair b) = refl
-whole_act act.Pick = refl
-whole_act (act.Call h) = refl
-whole_act (act.Load r) = refl
-whole_act (act.Save r) = refl
-whole_act act.Seek = refl
-whole_act (act.Store r) = refl
-whole_act (act.Zak o r) = refl
-whole_act (act.Out c) = refl
-whole_act act.OutAt = refl
-whole_act act.Turnoff = refl
-whole_act act.Ask = refl
+whole_act a = refl
 
 pub whole_ops : (ops : List Op) → moved_ops no_window 0 ops ≡ ops
 whole_ops [] = refl

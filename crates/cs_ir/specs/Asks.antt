@@ -1,7 +1,6 @@
 -- What a note asks for.
 use Rattle.std.specs.Prelude.{ℕ, ℤ, pos, List, drop, take, slice_index_or}
-use Rattle.cs_base.specs.Limits.{greatest_field}
-use Rattle.cs_base.specs.Numbers.{whole_below}
+use Rattle.cs_base.specs.{Limits.greatest_field, Numbers.whole_below}
 use Rattle.cs_ir.specs.declared.ask.Ask.{Ask}
 
 -- one of some values, counted from 0; one that is missing is 0

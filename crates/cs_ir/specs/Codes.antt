@@ -1,8 +1,7 @@
 -- Jumps of a code, and where they go on.
 use Rattle.std.specs.Prelude.{ℕ, zero, suc, Bool, true, ◌==◌, List, [], ◌∷◌}
-use Rattle.cs_ir.specs.declared.op.Act.{Act}
+use Rattle.cs_ir.specs.{declared.op.Act.Act, declared.op.Op.Op}
 use Rattle.cs_ir.specs.declared.op.Act.TheVariants as act
-use Rattle.cs_ir.specs.declared.op.Op.{Op}
 
 -- a jump that goes to a place
 abbrev pub aimed : ℕ → Act → Act

@@ -1,9 +1,7 @@
 -- What a note may do in each control cycle.
-use Rattle.std.specs.Prelude.{Bool, true, false, List}
-use Rattle.std.specs.List.{list_all}
-use Rattle.cs_ir.specs.declared.op.Act.{Act}
+use Rattle.std.specs.{Prelude.Bool, Prelude.true, Prelude.false, Prelude.List, List.list_all}
+use Rattle.cs_ir.specs.{declared.op.Act.Act, declared.op.Op.Op}
 use Rattle.cs_ir.specs.declared.op.Act.TheVariants as act
-use Rattle.cs_ir.specs.declared.op.Op.{Op}
 
 -- whether an act can be done in a control cycle: it starts no unit, looks for no table and asks for no note
 abbrev pub is_of_cycle : Act → Bool

@@ -1,9 +1,7 @@
 -- Codes that are being made: the ops of a draft, and what its marks stand for.
 use Rattle.std.specs.Prelude.{ℕ, ◌≡◌, ◌++◌, List, Some, length, slice_get}
-use Rattle.cs_ir.specs.Codes.{aim}
+use Rattle.cs_ir.specs.{Codes.aim, declared.op.Op.Op, declared.step.Step.Step}
 use Rattle.cs_ir.specs.Flat.{flat, flat_routines, place_of}
-use Rattle.cs_ir.specs.declared.op.Op.{Op}
-use Rattle.cs_ir.specs.declared.step.Step.{Step}
 use Rattle.cs_ir.specs.declared.step.Step.TheVariants as step
 
 -- A draft: the steps of the routines that it may invoke, by number, and its own.

@@ -1,19 +1,11 @@
 -- Steps and routines, and the flat list of ops that they stand for.
 use Rattle.std.specs.Prelude.{ℕ, zero, suc, Bool, true, ◌&&◌, ◌+◌, ◌*◌, ◌≤◌, ◌++◌, ◌^◌, List, [], ◌∷◌, length, map}
-use Rattle.std.specs.Prelude.{nat_le}
-use Rattle.std.specs.Prelude.{nat_lt, slice_index_or}
-use Rattle.std.specs.List.{list_all}
-use Rattle.cs_base.specs.Rates.{at_rate}
-use Rattle.cs_base.specs.declared.per_rate.PerRate.{PerRate}
-use Rattle.cs_base.specs.declared.resource.Rate.{Rate}
-use Rattle.cs_ir.specs.declared.op.Act.{Act}
+use Rattle.std.specs.{Prelude.nat_le, Prelude.nat_lt, Prelude.slice_index_or, List.list_all}
+use Rattle.cs_base.specs.{Rates.at_rate, declared.per_rate.PerRate.PerRate, declared.resource.Rate.Rate}
+use Rattle.cs_ir.specs.{declared.op.Act.Act, declared.op.Op.Op, declared.register.Kind.Kind, declared.register.Reg.Reg}
+use Rattle.cs_ir.specs.{declared.step.Call.Call, declared.step.Step.Step}
 use Rattle.cs_ir.specs.declared.op.Act.TheVariants as act
-use Rattle.cs_ir.specs.declared.op.Op.{Op}
-use Rattle.cs_ir.specs.declared.register.Kind.{Kind}
 use Rattle.cs_ir.specs.declared.register.Kind.TheVariants as kind
-use Rattle.cs_ir.specs.declared.register.Reg.{Reg}
-use Rattle.cs_ir.specs.declared.step.Call.{Call}
-use Rattle.cs_ir.specs.declared.step.Step.{Step}
 use Rattle.cs_ir.specs.declared.step.Step.TheVariants as step
 
 -- Where the registers and units of a routine begin: its local variables of each rate, its kept values, its units.

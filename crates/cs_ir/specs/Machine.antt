@@ -1,16 +1,11 @@
 -- The run of a code: a fold over its ops, each done where no jump has passed over it and nothing was refused.
 use Rattle.std.specs.Prelude.{ℕ, Bool, not, ◌&&◌, ◌+◌, ◌==◌, List, [], ◌∷◌, map, nat_le, if◌then◌else◌}
-use Rattle.cs_words.specs.Catalogue.{row_of, result_count}
-use Rattle.cs_words.specs.declared.catalogue.Opcode.{Opcode}
-use Rattle.cs_ir.specs.Registers.{rate_at, same_kind}
-use Rattle.cs_ir.specs.Values.{holds, negated, applied}
+use Rattle.cs_words.specs.{Catalogue.row_of, Catalogue.result_count, declared.catalogue.Opcode.Opcode}
+use Rattle.cs_ir.specs.{Registers.rate_at, Registers.same_kind, Values.holds, Values.negated, Values.applied}
+use Rattle.cs_ir.specs.{Worlds.World, declared.op.Act.Act, declared.op.Op.Op, declared.register.Reg.Reg}
 use Rattle.cs_ir.specs.Waves.{Wave, held, silence, constant, both, chosen, operand, first_values}
-use Rattle.cs_ir.specs.Worlds.{World}
-use Rattle.cs_ir.specs.declared.op.Act.{Act}
-use Rattle.cs_ir.specs.declared.op.Act.TheVariants as act
-use Rattle.cs_ir.specs.declared.op.Op.{Op}
-use Rattle.cs_ir.specs.declared.register.Reg.{Reg}
 use Rattle.cs_base.specs.Rates.{res_rate}
+use Rattle.cs_ir.specs.declared.op.Act.TheVariants as act
 
 -- whether two registers are the same
 abbrev pub same_reg : Reg → Reg → Bool

@@ -1,8 +1,7 @@
 -- The registers that an op reads.
 use Rattle.std.specs.Prelude.{◌<◌, ◌≤◌, List, length, take}
-use Rattle.cs_ir.specs.declared.operands.Stored.{Stored}
+use Rattle.cs_ir.specs.{declared.operands.Stored.Stored, declared.register.Reg.Reg}
 use Rattle.cs_ir.specs.declared.operands.Stored.TheVariants as stored
-use Rattle.cs_ir.specs.declared.register.Reg.{Reg}
 
 -- what operands are as a list, wherever they are stored
 abbrev pub registers : Stored → List Reg

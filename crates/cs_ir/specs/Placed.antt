@@ -1,10 +1,7 @@
 -- Ops where they are done, and the registers that they read there.
 use Rattle.std.specs.Prelude.{List, map}
-use Rattle.cs_ir.specs.Flat.{moved_op, moved_reg}
-use Rattle.cs_ir.specs.declared.op.Op.{Op}
-use Rattle.cs_ir.specs.declared.register.Reg.{Reg}
-use Rattle.cs_ir.specs.declared.window.OpAt.{OpAt}
-use Rattle.cs_ir.specs.declared.window.Reads.{Reads}
+use Rattle.cs_ir.specs.{Flat.moved_op, Flat.moved_reg, declared.op.Op.Op, declared.register.Reg.Reg}
+use Rattle.cs_ir.specs.{declared.window.OpAt.OpAt, declared.window.Reads.Reads}
 
 -- what an op is in its window; where it jumps is told by its own number, which counts steps
 abbrev pub there : OpAt → Op

@@ -1,11 +1,10 @@
 -- Registers by their kinds: how often what one holds changes, how many there are, and where those end that are named.
 use Rattle.std.specs.Prelude.{ℕ, Bool, ◌+◌, ◌^◌, ◌==◌, max, min, List, [], ◌∷◌, slice_index_or, if◌then◌else◌}
 use Rattle.cs_base.specs.declared.resource.Rate.{Rate}
-use Rattle.cs_base.specs.declared.resource.Rate.TheVariants as rate
-use Rattle.cs_ir.specs.declared.register.Kind.{Kind}
-use Rattle.cs_ir.specs.declared.register.Kind.TheVariants as kind
-use Rattle.cs_ir.specs.declared.register.Reg.{Reg}
+use Rattle.cs_ir.specs.{declared.register.Kind.Kind, declared.register.Reg.Reg}
 use Rattle.cs_ir.specs.declared.register.RegisterCounts.{RegisterCounts}
+use Rattle.cs_base.specs.declared.resource.Rate.TheVariants as rate
+use Rattle.cs_ir.specs.declared.register.Kind.TheVariants as kind
 
 -- what holds a local variable of a rate, and what holds a temporary of one
 abbrev pub local : Rate → Kind
@@ -52,7 +51,11 @@ at_kind counts k = min (slice_index_or counts.counts (kind_number k) 0) (2 ^ 32)
 abbrev pub reg_limit : Kind → Reg → ℕ
 reg_limit k q = if same_kind q.kind k then q.offset + 1 else 0
 
+-- the greatest of what is counted of each; 0 of none
+abbrev pub most : {X : Type 0} → (X → ℕ) → List X → ℕ
+most f [] = 0
+most f (x ∷ xs) = max (f x) (most f xs)
+
 -- one more than the greatest number of a register of a kind in a list
 abbrev pub regs_limit : Kind → List Reg → ℕ
-regs_limit k [] = 0
-regs_limit k (q ∷ qs) = max (reg_limit k q) (regs_limit k qs)
+regs_limit k qs = most (reg_limit k) qs

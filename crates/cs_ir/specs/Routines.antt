@@ -1,14 +1,8 @@
 -- Routines as they are kept: their steps, with what their ops reach and touch.
 use Rattle.std.specs.Prelude.{◌≡◌, ◌++◌, List, [], ◌∷◌, map}
-use Rattle.cs_ir.specs.Flat.{flat, flat_routines}
-use Rattle.cs_ir.specs.Limits.{ops_limit}
-use Rattle.cs_ir.specs.Registers.{at_kind}
-use Rattle.cs_ir.specs.Resources.{NameTheSame, Stock, ops_use, ops_write}
-use Rattle.cs_ir.specs.Touched.{named}
-use Rattle.cs_ir.specs.declared.op.Op.{Op}
-use Rattle.cs_ir.specs.declared.register.Kind.{Kind}
-use Rattle.cs_ir.specs.declared.routine.Routine.{Routine}
-use Rattle.cs_ir.specs.declared.step.Step.{Step}
+use Rattle.cs_ir.specs.{Flat.flat, Flat.flat_routines, Limits.ops_limit, Registers.at_kind, Resources.NameTheSame}
+use Rattle.cs_ir.specs.{Resources.Stock, Resources.ops_use, Resources.ops_write, Touched.named, declared.op.Op.Op}
+use Rattle.cs_ir.specs.{declared.register.Kind.Kind, declared.routine.Routine.Routine, declared.step.Step.Step}
 
 abbrev pub steps_of : Routine → List Step
 steps_of r = r.steps.items

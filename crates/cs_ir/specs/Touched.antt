@@ -1,13 +1,11 @@
 -- What ops touch of what notes share, as it is kept: resources, tables within a reach, places within a reach.
 use Rattle.std.specs.Prelude.{Bool, false, ◌&&◌, List, [], ◌∷◌, Option, None, Some, nat_lt}
 use Rattle.std.specs.List.{flat_map}
-use Rattle.cs_base.specs.Rates.{same_res}
-use Rattle.cs_base.specs.declared.resource.Res.{Res}
-use Rattle.cs_base.specs.declared.resource.Res.TheVariants as res
-use Rattle.cs_base.specs.declared.spaces.Spaces.{Spaces}
-use Rattle.cs_words.specs.declared.catalogue.Space.TheVariants as space
+use Rattle.cs_base.specs.{Rates.same_res, declared.resource.Res.Res, declared.spaces.Spaces.Spaces}
 use Rattle.cs_ir.specs.Resources.{Stock, places_within, reaches, tables_within}
 use Rattle.cs_ir.specs.declared.touches.Touch.{Touch}
+use Rattle.cs_base.specs.declared.resource.Res.TheVariants as res
+use Rattle.cs_words.specs.declared.catalogue.Space.TheVariants as space
 use Rattle.cs_ir.specs.declared.touches.Touch.TheVariants as touch
 
 -- the resources that are touched, in a piece that has these

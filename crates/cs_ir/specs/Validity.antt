@@ -1,28 +1,18 @@
 -- Which codes can be run: what an op names is there, and what it reads is what its act takes.
-use Rattle.std.specs.Prelude.{ℕ, Bool, true, false, not, ◌&&◌, ◌||◌, ◌==◌, ◌+◌, ◌∷◌, [], List, length}
-use Rattle.std.specs.Prelude.{nat_lt, nat_le}
-use Rattle.std.specs.Prelude.{if◌then◌else◌}
-use Rattle.std.specs.List.{list_all, list_any}
+use Rattle.std.specs.Prelude.{ℕ, Bool, true, false, not, ◌&&◌, ◌||◌, ◌==◌, ◌+◌, ◌∷◌, [], List, length, nat_lt, nat_le}
+use Rattle.std.specs.{Prelude.if◌then◌else◌, List.list_all, List.list_any}
 use Rattle.cs_base.specs.Rates.{is_init, is_control, is_audio, same_rate, within, res_rate}
-use Rattle.cs_base.specs.declared.resource.Rate.{Rate}
-use Rattle.cs_base.specs.declared.resource.Rate.TheVariants as rate
-use Rattle.cs_base.specs.declared.resource.Res.{Res}
-use Rattle.cs_base.specs.declared.resource.Res.TheVariants as res
+use Rattle.cs_base.specs.{declared.resource.Rate.Rate, declared.resource.Res.Res}
 use Rattle.cs_words.specs.Catalogue.{Row, row_of, result_count, takes, moving_letters, unit_takes}
-use Rattle.cs_words.specs.Signs.{is_arithmetic}
+use Rattle.cs_words.specs.{Signs.is_arithmetic, declared.sign.BinOp.BinOp, declared.word.Func.Func}
 use Rattle.cs_words.specs.declared.catalogue.Letter.{Letter}
-use Rattle.cs_words.specs.declared.sign.BinOp.{BinOp}
-use Rattle.cs_words.specs.declared.word.Func.{Func}
-use Rattle.cs_words.specs.declared.word.Func.TheVariants as func
-use Rattle.cs_ir.specs.Machine.{gives}
+use Rattle.cs_ir.specs.{Machine.gives, Units.is_unit, Units.is_zak, declared.op.Act.Act, declared.op.Code.Code}
+use Rattle.cs_ir.specs.{declared.op.Op.Op, declared.register.Counts.Counts, declared.register.Reg.Reg}
 use Rattle.cs_ir.specs.Registers.{at_kind, rate_at}
-use Rattle.cs_ir.specs.Units.{is_unit, is_zak}
-use Rattle.cs_ir.specs.declared.op.Act.{Act}
+use Rattle.cs_base.specs.declared.resource.Rate.TheVariants as rate
+use Rattle.cs_base.specs.declared.resource.Res.TheVariants as res
+use Rattle.cs_words.specs.declared.word.Func.TheVariants as func
 use Rattle.cs_ir.specs.declared.op.Act.TheVariants as act
-use Rattle.cs_ir.specs.declared.op.Code.{Code}
-use Rattle.cs_ir.specs.declared.op.Op.{Op}
-use Rattle.cs_ir.specs.declared.register.Counts.{Counts}
-use Rattle.cs_ir.specs.declared.register.Reg.{Reg}
 
 -- whether a register is one of those that there are of its kind
 abbrev pub has_register : Counts → Reg → Bool

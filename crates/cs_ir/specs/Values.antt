@@ -1,14 +1,11 @@
 -- What operators and functions make of numbers, in whole 65,536ths.
 use Rattle.std.specs.Prelude.{ℕ, ℤ, pos, Bool, not, ◌&&◌, ◌||◌, ◌+◌, ◌*◌, ◌^◌, ◌%◌, ◌/◌, ◌*ℤ◌, ◌+ℤ◌, List, [], ◌∷◌}
-use Rattle.std.specs.Prelude.{slice_index_or, unsigned_abs, if◌then◌else◌}
-use Rattle.std.specs.Int.{int_max, int_min, int_rem_euclid}
-use Rattle.std.specs.Ordering.{int_eq}
-use Rattle.std.specs.Prelude.{int_lt}
+use Rattle.std.specs.Prelude.{slice_index_or, unsigned_abs, if◌then◌else◌, int_lt}
+use Rattle.std.specs.{Int.int_max, Int.int_min, Int.int_rem_euclid, Ordering.int_eq}
 use Rattle.cs_base.specs.Numbers.{one, floor_div, sum_of, difference_of, product_of, quotient_of, remainder_of}
 use Rattle.cs_base.specs.Numbers.{floor_of, int_of, frac_of, abs_of}
-use Rattle.cs_words.specs.declared.sign.BinOp.{BinOp}
+use Rattle.cs_words.specs.{declared.sign.BinOp.BinOp, declared.word.Func.Func}
 use Rattle.cs_words.specs.declared.sign.BinOp.TheVariants as op
-use Rattle.cs_words.specs.declared.word.Func.{Func}
 use Rattle.cs_words.specs.declared.word.Func.TheVariants as func
 
 -- A condition is a value: 0 doesn't hold, anything else does. A comparison gives 1 or 0.

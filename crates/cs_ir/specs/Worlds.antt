@@ -1,11 +1,8 @@
 -- What notes share and what opcodes do, as code and meaning see it.
 use Rattle.std.specs.Prelude.{ℕ, ℤ, Bool, List}
-use Rattle.cs_base.specs.declared.resource.Rate.{Rate}
-use Rattle.cs_base.specs.declared.resource.Res.{Res}
-use Rattle.cs_words.specs.declared.catalogue.Opcode.{Opcode}
-use Rattle.cs_words.specs.declared.word.HeadName.{HeadName}
-use Rattle.cs_ir.specs.Waves.{Wave}
-use Rattle.cs_ir.specs.declared.op.Reach.{Reach}
+use Rattle.cs_base.specs.{declared.resource.Rate.Rate, declared.resource.Res.Res}
+use Rattle.cs_words.specs.{declared.catalogue.Opcode.Opcode, declared.word.HeadName.HeadName}
+use Rattle.cs_ir.specs.{Waves.Wave, declared.op.Reach.Reach}
 
 -- A world, by what a note can do in it. Its states W hold what notes share, the note's units, its output, whether it
 -- was turned off, what it asked for, and whether its initialisation was refused. A unit has a number, the place in the

@@ -31,7 +31,7 @@ impl Routine {
     {
         steps.shrink_to_fit();
         let limits = limits_of(routines, &steps)?;
-        let touches = touches_of(routines, &steps)?;
+        let touches = touches_of(*steps.allocator(), routines, &steps)?;
         Ok(Routine {
             steps,
             limits,

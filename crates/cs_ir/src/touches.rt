@@ -2,18 +2,18 @@
 ghost use Rattle.std.specs.Prelude.{ℕ, ◌≡◌, ◌++◌, ◌↔◌, [], IfOk, OnOk, if◌then◌else◌};
 ghost use Rattle.std.specs.List.{Contains};
 ghost use Rattle.cs_ir.specs.Flat.{flat, ops_at};
-ghost use Rattle.cs_ir.specs.Resources.{NameTheSame, Stock, act_uses, act_writes, may_use, may_write};
-ghost use Rattle.cs_ir.specs.Resources.{ops_use, ops_write};
-ghost use Rattle.cs_ir.specs.Resources.{shape_uses, unit_uses, writes_places};
+ghost use Rattle.cs_ir.specs.Resources.{NameTheSame, Stock, act_touches, act_uses, act_writes, ops_touch, ops_use};
+ghost use Rattle.cs_ir.specs.Resources.{ops_write, shape_uses, unit_uses, writes_places};
 ghost use Rattle.cs_ir.specs.Routines.{AreRoutines, library_in};
 ghost use Rattle.cs_ir.specs.Touched.{covers, named, named_by};
 ghost use Rattle.cs_ir.specs.declared.touches.Touch.{Touch};
-ghost use Rattle.cs_ir.specs.inner.Naming.{invoked as invoked_by, key_of, own_touches, reach_key};
-ghost use Rattle.cs_ir.specs.inner.Naming.{routines_touch, within};
+ghost use Rattle.cs_ir.specs.inner.Naming.{access_of, invoked as invoked_by, kept, key_of, reach_key};
+ghost use Rattle.cs_ir.specs.inner.Naming.{step_touches, within};
 
 use crate::{Act, Reach, Routine, Step};
 use cs_base::{OutOfMemory, Res, Spaces};
 use cs_words::{Opcode, Shape, Space, signature_of};
+use std::alloc::Global;
 
 /// What an op touches of what notes share.
 #[derive(Clone, Copy)]
@@ -32,90 +32,80 @@ pub struct Touches {
     pub written: Vec<Touch>,
 }
 
-/// What steps touch: their own ops, and the routines that they invoke.
-pub(crate) fn touches_of(routines: &[Routine], steps: &Vec<Step>) -> Result<Touches, OutOfMemory>
-    requires { AreRoutines routines.now }
-    ensures used { IfOk result (λ t. (stock : Stock) → NameTheSame (named stock t.used.items)
-        (ops_use stock (flat (library_in routines.now) steps.now.items))) }
-    ensures written { IfOk result (λ t. (stock : Stock) → NameTheSame (named stock t.written.items)
-        (ops_write stock (flat (library_in routines.now) steps.now.items))) }
-{
-    let alloc = *steps.allocator();
-    let mut touches = Touches {
-        used: Vec::new(alloc),
-        written: Vec::new(alloc),
-    };
-    let mut invoked = Vec::new(alloc);
-    touches.add_steps(&mut invoked, steps)?;
-    each_number_once(&mut invoked);
-    touches.add_routines(routines, &invoked)?;
-    each_touch_once(&mut touches.used);
-    each_touch_once(&mut touches.written);
-    Ok(touches)
+/// What is asked of what may be touched: what is read or written, or what is written alone.
+#[derive(Clone, Copy)]
+enum Access {
+    Use,
+    Write,
 }
 
 impl Touches {
-    /// Adds what the ops among steps touch, and tells which routines the other steps invoke.
-    fn add_steps(&mut self, invoked: &mut Vec<u32>, steps: &[Step]) -> Result<(), OutOfMemory>
-        ensures used { OnOk result ((stock : Stock) → named stock self.new.used.items
-            ≡ named stock self.old.used.items ++ own_touches may_use stock steps.now) }
-        ensures written { OnOk result ((stock : Stock) → named stock self.new.written.items
-            ≡ named stock self.old.written.items ++ own_touches may_write stock steps.now) }
-        ensures invoked { OnOk result (invoked.new.items ≡ invoked.old.items ++ invoked_by steps.now) }
+    fn by(&self, access: Access) -> &[Touch]
+        ensures { result.now ≡ kept (access_of access) self.now }
     {
-        for step in steps {
-            match step {
-                Step::Do(op) => self.add(&op.act)?,
-                Step::Invoke(call) => invoked.push(call.routine)?,
-            }
+        match access {
+            Access::Use => &self.used,
+            Access::Write => &self.written,
         }
-        Ok(())
     }
+}
 
-    /// Adds what an act touches.
-    fn add(&mut self, act: &Act) -> Result<(), OutOfMemory>
-        ensures used { OnOk result ((stock : Stock) → named stock self.new.used.items
-            ≡ named stock self.old.used.items ++ act_uses stock act.now) }
-        ensures written { OnOk result ((stock : Stock) → named stock self.new.written.items
-            ≡ named stock self.old.written.items ++ act_writes stock act.now) }
-    {
-        add_touch(&mut self.used, touch_of(act))?;
-        if writes(act) {
-            add_touch(&mut self.written, touch_of(act))?;
-        }
-        Ok(())
-    }
+/// What steps touch: their own ops, and the routines that they invoke.
+pub(crate) fn touches_of(
+    alloc: Global,
+    routines: &[Routine],
+    steps: &[Step],
+) -> Result<Touches, OutOfMemory>
+    requires { AreRoutines routines.now }
+    ensures used { IfOk result (λ t. (stock : Stock) → NameTheSame (named stock t.used.items)
+        (ops_use stock (flat (library_in routines.now) steps.now))) }
+    ensures written { IfOk result (λ t. (stock : Stock) → NameTheSame (named stock t.written.items)
+        (ops_write stock (flat (library_in routines.now) steps.now))) }
+{
+    let invoked = invoked_by(alloc, steps)?;
+    Ok(Touches {
+        used: touched(alloc, Access::Use, routines, steps, &invoked)?,
+        written: touched(alloc, Access::Write, routines, steps, &invoked)?,
+    })
+}
 
-    /// Adds what routines of these numbers touch.
-    fn add_routines(&mut self, routines: &[Routine], numbers: &[u32]) -> Result<(), OutOfMemory>
-        requires { AreRoutines routines.now }
-        ensures used { OnOk result ((stock : Stock) → NameTheSame (named stock self.new.used.items)
-            (named stock self.old.used.items
-            ++ routines_touch may_use stock (library_in routines.now) numbers.now)) }
-        ensures written { OnOk result ((stock : Stock) → NameTheSame (named stock self.new.written.items)
-            (named stock self.old.written.items
-            ++ routines_touch may_write stock (library_in routines.now) numbers.now)) }
-    {
-        for number in numbers {
-            self.add_routine(routines, *number)?;
+/// The routines that steps invoke, each number once.
+fn invoked_by(alloc: Global, steps: &[Step]) -> Result<Vec<u32>, OutOfMemory>
+    ensures { IfOk result (λ ns. (n : ℕ) → Contains ns.items n ↔ Contains (invoked_by steps.now) n) }
+{
+    let mut numbers = Vec::new(alloc);
+    for step in steps {
+        match step {
+            Step::Do(_) => {}
+            Step::Invoke(call) => numbers.push(call.routine)?,
         }
-        Ok(())
     }
+    each_number_once(&mut numbers);
+    Ok(numbers)
+}
 
-    fn add_routine(&mut self, routines: &[Routine], number: u32) -> Result<(), OutOfMemory>
-        requires { AreRoutines routines.now }
-        ensures used { OnOk result ((stock : Stock) → NameTheSame (named stock self.new.used.items)
-            (named stock self.old.used.items ++ ops_use stock (ops_at (library_in routines.now) number))) }
-        ensures written { OnOk result ((stock : Stock) → NameTheSame (named stock self.new.written.items)
-            (named stock self.old.written.items ++ ops_write stock (ops_at (library_in routines.now) number))) }
-    {
-        if let Some(routine) = routines.get(number as usize) {
-            let touches = routine.touches();
-            self.used.extend_from_slice(&touches.used)?;
-            self.written.extend_from_slice(&touches.written)?;
-        }
-        Ok(())
+/// What steps touch that invoke routines of these numbers.
+fn touched(
+    alloc: Global,
+    access: Access,
+    routines: &[Routine],
+    steps: &[Step],
+    invoked: &[u32],
+) -> Result<Vec<Touch>, OutOfMemory>
+    requires routines { AreRoutines routines.now }
+    requires invoked { (n : ℕ) → Contains invoked.now n ↔ Contains (invoked_by steps.now) n }
+    ensures { IfOk result (λ ts. (stock : Stock) → NameTheSame (named stock ts.items)
+        (ops_touch (access_of access) stock (flat (library_in routines.now) steps.now))) }
+{
+    let mut touches = Vec::new(alloc);
+    for step in steps {
+        add_touch(&mut touches, own_touch(access, step))?;
     }
+    for number in invoked {
+        add_routine(access, &mut touches, routines, *number)?;
+    }
+    each_touch_once(&mut touches);
+    Ok(touches)
 }
 
 /// Adds what is touched, where something is.
@@ -125,6 +115,33 @@ fn add_touch(touches: &mut Vec<Touch>, touch: Option<Touch>) -> Result<(), OutOf
 {
     if let Some(found) = touch {
         touches.push(found)?;
+    }
+    Ok(())
+}
+
+fn own_touch(access: Access, step: &Step) -> Option<Touch>
+    ensures { (stock : Stock) → named_by stock result ≡ step_touches (access_of access) stock step.now }
+{
+    match step {
+        Step::Do(op) => touch_of(access, &op.act),
+        Step::Invoke(_) => None,
+    }
+}
+
+/// Adds what a routine of this number touches.
+fn add_routine(
+    access: Access,
+    touches: &mut Vec<Touch>,
+    routines: &[Routine],
+    number: u32,
+) -> Result<(), OutOfMemory>
+    requires { AreRoutines routines.now }
+    ensures { OnOk result ((stock : Stock) → NameTheSame (named stock touches.new.items)
+        (named stock touches.old.items
+        ++ ops_touch (access_of access) stock (ops_at (library_in routines.now) number))) }
+{
+    if let Some(routine) = routines.get(number as usize) {
+        touches.extend_from_slice(routine.touches().by(access))?;
     }
     Ok(())
 }
@@ -187,8 +204,25 @@ fn reach_key(what: u8, reach: Reach) -> (u8, u8, usize, usize)
     }
 }
 
-/// What an act may read or write; None where that is nothing.
-fn touch_of(act: &Act) -> Option<Touch>
+/// What an act may touch; None where that is nothing.
+fn touch_of(access: Access, act: &Act) -> Option<Touch>
+    ensures { (stock : Stock) → named_by stock result ≡ act_touches (access_of access) stock act.now }
+{
+    match access {
+        Access::Use => use_of(act),
+        Access::Write => written_by(act),
+    }
+}
+
+/// What an act may write.
+fn written_by(act: &Act) -> Option<Touch>
+    ensures { (stock : Stock) → named_by stock result ≡ act_writes stock act.now }
+{
+    if writes(act) { use_of(act) } else { None }
+}
+
+/// What an act may read or write.
+fn use_of(act: &Act) -> Option<Touch>
     ensures { (stock : Stock) → named_by stock result ≡ act_uses stock act.now }
 {
     match *act {

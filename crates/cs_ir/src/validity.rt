@@ -1,22 +1,18 @@
 // Which codes can be run.
-ghost use Rattle.std.specs.Prelude.{◌≡◌, ◌+◌, ◌≤◌, ℕ, true, false, IfOk, IfErr, ◌&&◌, ◌||◌, filter, length, map};
+ghost use Rattle.std.specs.Prelude.{◌≡◌, ◌+◌, ◌≤◌, ◌||◌, ℕ, true, false, not, IfOk, IfErr, filter, length};
 ghost use Rattle.std.specs.List.{list_all, list_any};
-ghost use Rattle.cs_words.specs.Catalogue.{is_moving, row_of};
 ghost use Rattle.cs_base.specs.Rates.{same_rate};
-ghost use Rattle.cs_ir.specs.Flat.{flat, further, leaves_room, moved_act, moved_op, moved_ops, moved_reg, ops_at};
-ghost use Rattle.cs_ir.specs.Flat.{IsLow, window_of};
+ghost use Rattle.cs_words.specs.Catalogue.{is_moving};
+ghost use Rattle.cs_ir.specs.Flat.{IsLow, flat, further, leaves_room, moved_ops, moved_reg, ops_at, window_of};
 ghost use Rattle.cs_ir.specs.Routines.{library_in};
 ghost use Rattle.cs_ir.specs.Units.{is_unit, is_zak};
-ghost use Rattle.cs_ir.specs.Validity.{has_register, writes, suits_operator, suits_function};
-ghost use Rattle.cs_ir.specs.Validity.{may_run_at, bound_at, take_all, as_sounds, stores_with, starts_with};
-ghost use Rattle.cs_ir.specs.Validity.{runs_with, is_still};
-ghost use Rattle.cs_ir.specs.Validity.{has_value, takes_from, fine_from, valid};
-ghost use Rattle.cs_ir.specs.inner.Fine.{finds_unit, goes_later, suits};
-ghost use Rattle.cs_ir.specs.declared.register.Reg.{Reg};
+ghost use Rattle.cs_ir.specs.Validity.{as_sounds, fine_from, has_register, has_value, is_still, may_run_at, runs_with};
+ghost use Rattle.cs_ir.specs.Validity.{starts_with, suits_function, take_all, takes_from, valid, writes};
+ghost use Rattle.cs_ir.specs.inner.Fine.{finds_step, suits};
 
 use crate::{Act, Call, Code, Counts, Op, Reg, Routine, Step, Window};
 use cs_base::{Rate, Res};
-use cs_words::{BinOp, Func, Letter, Opcode, Shape, Signature, signature_of};
+use cs_words::{Func, Letter, Shape, Signature, signature_of};
 use std::marker::Model;
 
 /// A code that can be run: each op finds the registers, units and places that it names, and reads what its act takes.
@@ -69,17 +65,12 @@ fn are_fine(routines: &[Routine], steps: &[Step], window: &Window, counts: &Coun
         (moved_ops window.now place (flat (library_in routines.now) steps.now)) }
 {
     for at in 0..steps.len() {
-        match &steps[at] {
-            Step::Do(op) => {
-                if !is_fine(op, at, window, counts) {
-                    return false;
-                }
-            }
-            Step::Invoke(call) => {
-                if !is_call_fine(routines, call, window, counts) {
-                    return false;
-                }
-            }
+        let fine = match &steps[at] {
+            Step::Do(op) => is_fine(op, at, window, counts),
+            Step::Invoke(call) => is_call_fine(routines, call, window, counts),
+        };
+        if !fine {
+            return false;
         }
     }
     true
@@ -123,54 +114,51 @@ impl ValidCode {
     }
 }
 
-/// Whether an op is fine in a window as a step: a jump goes to a later step.
+/// Whether an op of a routine is fine in a window, as a step that stands at a place among its routine's steps.
 fn is_fine(op: &Op, at: usize, window: &Window, counts: &Counts) -> bool
     requires { leaves_room window.now ≡ true }
-    ensures { result ≡ (goes_later at op.now.act && suits counts.now (moved_op window.now 0 op.now)) }
-{
-    op.act.goes_later(at) && suits(op, window, counts)
-}
-
-/// Whether an op is fine in a window, but for where a jump goes.
-fn suits(op: &Op, window: &Window, counts: &Counts) -> bool
-    requires { leaves_room window.now ≡ true }
-    ensures { result ≡ suits counts.now (moved_op window.now 0 op.now) }
+    ensures { result ≡ suits counts.now window.now at op.now }
 {
     let from = op.from.as_slice();
-    (!op.act.writes() || counts.has(window, op.into))
+    counts.has_result(window, op)
         && counts.has_all(window, from)
-        && counts.has_unit(window, op.act)
+        && counts.finds(window, at, op.act)
         && op.act.takes_from(op.into.rate(), from)
 }
 
 impl Counts {
     /// Whether a register is there that is named in a window.
     fn has(&self, window: &Window, register: Reg) -> bool
-        requires { leaves_room window.now ≡ true }
         ensures { result ≡ has_register self.now (moved_reg window.now register) }
     {
-        window.begin(register.kind) + (register.offset as usize) < self.registers.of(register.kind)
+        let behind = self
+            .registers
+            .of(register.kind)
+            .saturating_sub(window.begin(register.kind));
+        (register.offset as usize) < behind
+    }
+
+    /// Whether the register is there that an op writes, where it writes one.
+    fn has_result(&self, window: &Window, op: &Op) -> bool
+        ensures { result ≡ (not (writes op.now.act) || has_register self.now (moved_reg window.now op.now.into)) }
+    {
+        !op.act.writes() || self.has(window, op.into)
     }
 
     fn has_all(&self, window: &Window, registers: &[Reg]) -> bool
-        requires { leaves_room window.now ≡ true }
-        ensures { result ≡ list_all (has_register self.now) (map (moved_reg window.now) registers.now) }
+        ensures { result ≡ list_all (λ q. has_register self.now (moved_reg window.now q)) registers.now }
     {
-        for register in registers {
-            if !self.has(window, *register) {
-                return false;
-            }
-        }
-        true
+        registers.iter().all(|register| self.has(window, *register))
     }
 
-    /// Whether the unit of an act is there, where it names one.
-    fn has_unit(&self, window: &Window, act: Act) -> bool
+    /// Whether the unit of an act is there, and a jump goes to a later step; one past the last goes to the end.
+    fn finds(&self, window: &Window, at: usize, act: Act) -> bool
         requires { leaves_room window.now ≡ true }
-        ensures { result ≡ finds_unit self.now (moved_act window.now 0 act) }
+        ensures { result ≡ finds_step self.now window.now at act }
     {
         match act {
             Act::Start(_, unit) | Act::Unit(_, unit, _) => window.unit(unit) < self.units,
+            Act::Jump(to) | Act::Unless(to) => at < to,
             _ => true,
         }
     }
@@ -192,16 +180,6 @@ impl Act {
         }
     }
 
-    /// Whether it is no jump, or one to a step behind its own. One past the last goes to the end.
-    fn goes_later(self, at: usize) -> bool
-        ensures { result ≡ goes_later at self }
-    {
-        match self {
-            Act::Jump(to) | Act::Unless(to) => at < to,
-            _ => true,
-        }
-    }
-
     fn takes_from(self, rate: Rate, from: &[Reg]) -> bool
         ensures { result ≡ takes_from self rate from.now }
     {
@@ -212,26 +190,32 @@ impl Act {
             (Act::Copy | Act::Neg, [x]) => x.rate().within(rate),
             (Act::Call(function), [x]) => suits_function(function, rate, x.rate()),
             (Act::Save(res), [x]) => has_value(res) && x.rate().within(res.rate()),
-            (Act::Unless(_), [x]) => !x.rate().is_audio(),
-            (Act::Out(_), [x]) => x.rate().is_audio(),
-            (Act::OutAt, [x, y]) => !x.rate().is_audio() && y.rate().is_audio(),
+            (Act::Unless(_), [x]) => !x.is_audio(),
+            (Act::Out(_), [x]) => x.is_audio(),
+            (Act::OutAt, [x, y]) => !x.is_audio() && y.is_audio(),
             (Act::Pair(operator), [x, y]) => {
-                x.rate().within(rate) && y.rate().within(rate) && suits_operator(operator, rate)
+                x.rate().within(rate)
+                    && y.rate().within(rate)
+                    && (operator.is_arithmetic() || !rate.is_audio())
             }
             (Act::Pick, [c, x, y]) => {
-                !c.rate().is_audio()
+                !c.is_audio()
                     && c.rate().within(rate)
                     && x.rate().within(rate)
                     && y.rate().within(rate)
             }
-            (Act::Start(opcode, _), _) => starts_with(opcode, rate, from),
+            (Act::Start(opcode, _), _) => starts_with(&signature_of(opcode), rate, from),
             (Act::Unit(opcode, _, _), _) => {
-                is_unit(signature_of(opcode).shape()) && runs_with(opcode, rate, from)
+                let row = signature_of(opcode);
+                is_unit(row.shape()) && runs_with(&row, rate, from)
             }
             (Act::Seek, [x]) => x.rate().is_init(),
-            (Act::Store(_), _) => stores_with(rate, from),
+            (Act::Store(_), [value, index, table]) => {
+                is_as_sound(rate, *value) && is_as_sound(rate, *index) && table.rate().is_init()
+            }
             (Act::Zak(opcode, _), _) => {
-                is_zak(signature_of(opcode).shape()) && runs_with(opcode, rate, from)
+                let row = signature_of(opcode);
+                is_zak(row.shape()) && runs_with(&row, rate, from)
             }
             (Act::Ask, _) => from.len() >= 3 && are_init(from),
             _ => false,
@@ -244,12 +228,6 @@ fn has_value(res: Res) -> bool
     ensures { result ≡ has_value res }
 {
     !matches!(res, Res::Table(_))
-}
-
-fn suits_operator(operator: BinOp, rate: Rate) -> bool
-    ensures { result ≡ suits_operator operator rate }
-{
-    operator.is_arithmetic() || !rate.is_audio()
 }
 
 fn suits_function(function: Func, rate: Rate, x: Rate) -> bool
@@ -268,32 +246,21 @@ fn are_init(registers: &[Reg]) -> bool
     registers.iter().all(|register| register.rate().is_init())
 }
 
-fn starts_with(opcode: Opcode, rate: Rate, from: &[Reg]) -> bool
-    ensures { result ≡ starts_with (row_of opcode) rate from.now }
+fn starts_with(row: &Signature, rate: Rate, from: &[Reg]) -> bool
+    ensures { result ≡ starts_with row.now rate from.now }
 {
-    let row = signature_of(opcode);
-    is_unit(row.shape())
-        && row.takes_settled(from.len())
-        && are_init(from)
-        && may_run_at(&row, rate)
+    is_unit(row.shape()) && row.takes_settled(from.len()) && are_init(from) && may_run_at(row, rate)
 }
 
-fn runs_with(opcode: Opcode, rate: Rate, from: &[Reg]) -> bool
-    ensures { result ≡ runs_with (row_of opcode) rate from.now }
+fn runs_with(row: &Signature, rate: Rate, from: &[Reg]) -> bool
+    ensures { result ≡ runs_with row.now rate from.now }
 {
-    let row = signature_of(opcode);
-    take_all(row.fixed(), bound_at(&row, rate), from) && may_run_at(&row, rate)
-}
-
-fn stores_with(rate: Rate, from: &[Reg]) -> bool
-    ensures { result ≡ stores_with rate from.now }
-{
-    match from {
-        [value, index, table] => {
-            is_as_sound(rate, *value) && is_as_sound(rate, *index) && table.rate().is_init()
-        }
-        _ => false,
-    }
+    let bound = if row.result_count() == 0 {
+        Rate::Audio
+    } else {
+        rate
+    };
+    take_all(row.fixed(), bound, from) && may_run_at(row, rate)
 }
 
 /// Whether it makes its result from a state of its own.
@@ -325,16 +292,6 @@ fn has_rate(rates: &[Rate], rate: Rate) -> bool
     rates.iter().any(|other| rate.same(*other))
 }
 
-fn bound_at(row: &Signature, rate: Rate) -> Rate
-    ensures { result ≡ bound_at row.now rate }
-{
-    if row.result_count() == 0 {
-        Rate::Audio
-    } else {
-        rate
-    }
-}
-
 fn take_all(letters: &[Letter], bound: Rate, from: &[Reg]) -> bool
     ensures { result ≡ take_all (filter is_moving letters.now) bound from.now }
 {
@@ -356,9 +313,5 @@ fn take_all(letters: &[Letter], bound: Rate, from: &[Reg]) -> bool
 fn is_as_sound(rate: Rate, register: Reg) -> bool
     ensures { result ≡ as_sounds rate register }
 {
-    if rate.is_audio() {
-        register.rate().is_audio()
-    } else {
-        !register.rate().is_audio()
-    }
+    rate.is_audio() == register.is_audio()
 }

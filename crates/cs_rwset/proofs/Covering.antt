@@ -1,32 +1,25 @@
 -- What numbers of tables and places reach, in a layout.
-use Rattle.std.proofs.Common.{◌≡◌, ◌<◌, ◌≤◌, ℕ, zero, suc, List, [], ◌∷◌, Option, Some, None, Bool, true, false, ◌||◌}
-use Rattle.std.proofs.Common.{nat_le, nat_lt, refl, sym, ◌∙◌, ap, subst, arith, ⊎_elim, if◌then◌else◌}
+use Rattle.std.proofs.Common.{◌≡◌, ◌<◌, ◌≤◌, ◌↔◌, ℕ, zero, suc, List, [], ◌∷◌, Option, Some, None, Bool, true, false}
+use Rattle.std.proofs.Common.{◌||◌, nat_le, nat_lt, refl, sym, ◌∙◌, ap, subst, arith, ⊎_elim, if◌then◌else◌}
 use Rattle.std.specs.List.{Contains, cons_option, filter, range_with_len}
-use Rattle.std.proofs.lemmas.Bool.{and_from, and_parts, or_left}
-use Rattle.std.proofs.lemmas.Bool.Decides.{nat_tests}
+use Rattle.std.proofs.lemmas.{Bool.and_from, Bool.and_parts, Bool.or_left, Bool.Decides.nat_tests}
 use Rattle.std.proofs.lemmas.List.Elements.{Contains-append_left, Contains-append_right, Contains-append_cases}
-use Rattle.cs_base.specs.Rates.{same_res}
-use Rattle.cs_base.specs.declared.resource.Res.{Res}
-use Rattle.cs_base.specs.declared.resource.Res.TheVariants as res
-use Rattle.cs_words.specs.Catalogue.{row_of}
-use Rattle.cs_words.specs.declared.catalogue.Space.{Space}
-use Rattle.cs_words.specs.declared.catalogue.Space.TheVariants as space
-use Rattle.cs_cells.specs.Areas.{HasPlace}
-use Rattle.cs_cells.specs.declared.footprint.Area.{Area}
+use Rattle.cs_base.specs.{Rates.same_res, declared.resource.Res.Res}
+use Rattle.cs_words.specs.{Catalogue.row_of, declared.catalogue.Space.Space}
+use Rattle.cs_cells.specs.{Areas.HasPlace, declared.footprint.Area.Area}
 use Rattle.cs_ir.specs.Resources.{Stock, act_uses, act_writes, ops_use, ops_write, places_of, places_within, reaches}
 use Rattle.cs_ir.specs.Resources.{tables_within, writes_places, zak_place, zak_uses}
-use Rattle.cs_ir.specs.declared.op.Act.{Act}
-use Rattle.cs_ir.specs.declared.op.Act.TheVariants as act
-use Rattle.cs_ir.specs.declared.op.Op.{Op}
-use Rattle.cs_ir.specs.declared.op.Reach.{Reach}
-use Rattle.cs_ir.specs.declared.op.Reach.TheVariants as reach
+use Rattle.cs_ir.specs.{declared.op.Act.Act, declared.op.Op.Op, declared.op.Reach.Reach, declared.touches.Touch.Touch}
 use Rattle.cs_rwset.specs.Footprints.{is_among, place_count, places_holding, stock_of, table_number}
 use Rattle.cs_ir.specs.Touched.{covers, resources}
-use Rattle.cs_ir.specs.declared.touches.Touch.{Touch}
-use Rattle.cs_ir.specs.declared.touches.Touch.TheVariants as touch
 use Rattle.cs_rwset.proofs.Placed.{exact_places, places_exact, among_contains, contains_among, contains_none}
 use Rattle.cs_rwset.proofs.Placed.{contains_first, contains_rest, contains_filter, filter_contains, map_contains}
 use Rattle.cs_rwset.proofs.Placed.{contains_map, contains_range, range_contains, same_tests}
+use Rattle.cs_base.specs.declared.resource.Res.TheVariants as res
+use Rattle.cs_words.specs.declared.catalogue.Space.TheVariants as space
+use Rattle.cs_ir.specs.declared.op.Act.TheVariants as act
+use Rattle.cs_ir.specs.declared.op.Reach.TheVariants as reach
+use Rattle.cs_ir.specs.declared.touches.Touch.TheVariants as touch
 
 -- a table that has an area is live
 number_first : (n : ℕ) (o : Option ℕ) (xs : List ℕ) → o ≡ Some n → Contains (cons_option o xs) n
@@ -80,18 +73,15 @@ pub literal_alone : (n m : ℕ) → reaches (reach.Span n n) m ≡ true → m �
 literal_alone n m h =
     let b = and_parts (nat_le n m) (nat_le m n) h in let c = b.0 in let d = b.1 in grind (arith, nat_tests)
 
--- a span reaches what lies in it, and nothing reaches none
-span_within : (first last n : ℕ) → reaches (reach.Span first last) n ≡ true → (first ≤ n) × (n ≤ last)
+-- a span reaches what lies in it
+pub span_within : (first last n : ℕ) → reaches (reach.Span first last) n ≡ true → (first ≤ n) × (n ≤ last)
 span_within first last n h =
     let b = and_parts (nat_le first n) (nat_le n last) h in let c = b.0 in let d =
     b.1 in (grind (arith, nat_tests), grind (arith, nat_tests))
 
-within_span : (first last n : ℕ) → first ≤ n → n ≤ last → reaches (reach.Span first last) n ≡ true
+pub within_span : (first last n : ℕ) → first ≤ n → n ≤ last → reaches (reach.Span first last) n ≡ true
 within_span first last n l m =
     and_from (nat_le first n) (nat_le n last) (grind (arith, nat_tests)) (grind (arith, nat_tests))
-
-reaches_none : (n : ℕ) → reaches reach.Nothing n ≡ true → ⊥
-reaches_none n h = cc
 
 -- what is written is used
 pub act_written_is_used : (stock : Stock) (a : Act) (r : Res) → Contains (act_writes stock a) r
@@ -104,24 +94,7 @@ act_written_is_used stock (act.Zak opcode reach) r h = by (writes_places (row_of
         → Contains (zak_uses stock opcode reach) r
     by true k = k
     by false k = absurd (contains_none r k)
-act_written_is_used stock (act.Unit opcode u reach) r h = absurd (contains_none r h)
-act_written_is_used stock act.Seek r h = absurd (contains_none r h)
-act_written_is_used stock (act.Const n) r h = absurd (contains_none r h)
-act_written_is_used stock (act.Field n) r h = absurd (contains_none r h)
-act_written_is_used stock (act.Head n) r h = absurd (contains_none r h)
-act_written_is_used stock act.Copy r h = absurd (contains_none r h)
-act_written_is_used stock act.Neg r h = absurd (contains_none r h)
-act_written_is_used stock (act.Pair n) r h = absurd (contains_none r h)
-act_written_is_used stock act.Pick r h = absurd (contains_none r h)
-act_written_is_used stock (act.Call n) r h = absurd (contains_none r h)
-act_written_is_used stock (act.Load n) r h = absurd (contains_none r h)
-act_written_is_used stock (act.Start n m) r h = absurd (contains_none r h)
-act_written_is_used stock (act.Jump n) r h = absurd (contains_none r h)
-act_written_is_used stock (act.Unless n) r h = absurd (contains_none r h)
-act_written_is_used stock (act.Out n) r h = absurd (contains_none r h)
-act_written_is_used stock act.OutAt r h = absurd (contains_none r h)
-act_written_is_used stock act.Turnoff r h = absurd (contains_none r h)
-act_written_is_used stock act.Ask r h = absurd (contains_none r h)
+act_written_is_used stock a r h = absurd (contains_none r h)
 
 pub ops_written_is_used : (stock : Stock) (ops : List Op) (r : Res) → Contains (ops_write stock ops) r
     → Contains (ops_use stock ops) r
@@ -158,27 +131,7 @@ module _ (areas : List Area) (place : ℕ) (g : Res) (h : HasPlace areas g place
   covered_is_named (touch.Places space.Audio reach) (res.ZakA n) e c =
       let b = and_parts (nat_lt n stock.spaces.audio) (reaches reach n) c in
       let b0 = b.0 in named_place stock space.Audio reach n (grind (arith, nat_tests)) b.1
-  covered_is_named (touch.Tables reach) (res.Gi n) e c = absurd cc
-  covered_is_named (touch.Tables reach) (res.Gk n) e c = absurd cc
-  covered_is_named (touch.Tables reach) (res.Ga n) e c = absurd cc
-  covered_is_named (touch.Tables reach) (res.ZakK n) e c = absurd cc
-  covered_is_named (touch.Tables reach) (res.ZakA n) e c = absurd cc
-  covered_is_named (touch.Tables reach) (res.Control n) e c = absurd cc
-  covered_is_named (touch.Tables reach) (res.Sound n) e c = absurd cc
-  covered_is_named (touch.Places space.Control reach) (res.Gi n) e c = absurd cc
-  covered_is_named (touch.Places space.Control reach) (res.Gk n) e c = absurd cc
-  covered_is_named (touch.Places space.Control reach) (res.Ga n) e c = absurd cc
-  covered_is_named (touch.Places space.Control reach) (res.ZakA n) e c = absurd cc
-  covered_is_named (touch.Places space.Control reach) (res.Control n) e c = absurd cc
-  covered_is_named (touch.Places space.Control reach) (res.Sound n) e c = absurd cc
-  covered_is_named (touch.Places space.Control reach) (res.Table n) e c = absurd cc
-  covered_is_named (touch.Places space.Audio reach) (res.Gi n) e c = absurd cc
-  covered_is_named (touch.Places space.Audio reach) (res.Gk n) e c = absurd cc
-  covered_is_named (touch.Places space.Audio reach) (res.Ga n) e c = absurd cc
-  covered_is_named (touch.Places space.Audio reach) (res.ZakK n) e c = absurd cc
-  covered_is_named (touch.Places space.Audio reach) (res.Control n) e c = absurd cc
-  covered_is_named (touch.Places space.Audio reach) (res.Sound n) e c = absurd cc
-  covered_is_named (touch.Places space.Audio reach) (res.Table n) e c = absurd cc
+  covered_is_named n r e c = absurd cc
 
   named_is_covered : (n : Touch) (r : Res) → Contains (resources stock n) r → covers stock.spaces n r ≡ true
   named_is_covered (touch.One o) r k = let x = contains_among (o ∷ []) r k in one_only r o x
@@ -201,106 +154,31 @@ module _ (areas : List Area) (place : ℕ) (g : Res) (h : HasPlace areas g place
       (λ c. contains_among (resources stock n) g (covered_is_named n g refl c))
       (λ c. named_is_covered n g (among_contains (resources stock n) g c))
 
--- The places of what a number names, literal or computed.
+-- ---- places of what is named by numbers
+
 module _ (areas : List Area) where
-  pub literal_table_places : (n place : ℕ)
-      → Contains (places_holding areas (tables_within (stock_of areas) (reach.Span n n))) place
-      → HasPlace areas (res.Table n) place
-  literal_table_places n place h =
-      let e = places_exact areas (tables_within (stock_of areas) (reach.Span n n)) place h in
-      let t = table_named (stock_of areas) (reach.Span n n) e.0 e.1 in
-      subst (λ r. HasPlace areas r place) (sym t.3 ∙ ap res.Table (literal_alone n t.0 t.2)) e.2
-
-  pub literal_table_placed : (n place : ℕ) → HasPlace areas (res.Table n) place
-      → Contains (places_holding areas (tables_within (stock_of areas) (reach.Span n n))) place
-  literal_table_placed n place h =
-      exact_places areas (tables_within (stock_of areas) (reach.Span n n)) place (res.Table n)
-      (named_table (stock_of areas) (reach.Span n n) n (table_is_live areas n place h) (literal_reaches n)) h
-
-  pub computed_table_places : (place : ℕ)
-      → Contains (places_holding areas (tables_within (stock_of areas) reach.Any)) place
-      → (n : ℕ) × HasPlace areas (res.Table n) place
-  computed_table_places place h =
-      let e = places_exact areas (tables_within (stock_of areas) reach.Any) place h in
-      let t = table_named (stock_of areas) reach.Any e.0 e.1 in (t.0, subst (λ r. HasPlace areas r place) (sym t.3) e.2)
-
-  pub computed_table_placed : (place : ℕ) → (n : ℕ) × HasPlace areas (res.Table n) place
-      → Contains (places_holding areas (tables_within (stock_of areas) reach.Any)) place
-  computed_table_placed place h =
-      exact_places areas (tables_within (stock_of areas) reach.Any) place (res.Table h.0)
-      (named_table (stock_of areas) reach.Any h.0 (table_is_live areas h.0 place h.1) refl) h.1
+  pub table_places : (r : Reach) (place : ℕ)
+      → Contains (places_holding areas (tables_within (stock_of areas) r)) place
+      ↔ ((n : ℕ) × (reaches r n ≡ true) × HasPlace areas (res.Table n) place)
+  table_places r place = (
+    λ h. let e = places_exact areas (tables_within (stock_of areas) r) place h in
+        let t = table_named (stock_of areas) r e.0 e.1 in
+        (t.0, t.2, subst (λ g. HasPlace areas g place) (sym t.3) e.2),
+    λ h. exact_places areas (tables_within (stock_of areas) r) place (res.Table h.0)
+        (named_table (stock_of areas) r h.0 (table_is_live areas h.0 place h.2) h.1) h.2,
+  )
 
   count_is : (s : Space) → place_count areas s ≡ places_of (stock_of areas).spaces s
   count_is space.Control = refl
   count_is space.Audio = refl
 
-  same_place : (s : Space) (m n : ℕ) (r : Res) → m ≡ n → zak_place s m ≡ r → r ≡ zak_place s n
-  same_place s m n r e f = sym f ∙ ap (zak_place s) e
-
-  pub literal_place_places : (s : Space) (n place : ℕ)
-      → Contains (places_holding areas (places_within (stock_of areas) s (reach.Span n n))) place
-      → (n < place_count areas s) × HasPlace areas (zak_place s n) place
-  literal_place_places s n place h =
-      let e = places_exact areas (places_within (stock_of areas) s (reach.Span n n)) place h in
-      let t = place_named (stock_of areas) s (reach.Span n n) e.0 e.1 in
-      let same : t.0 ≡ n = literal_alone n t.0 t.2 in (
-        subst (λ k. k < place_count areas s) same (subst (λ k. t.0 < k) (sym (count_is s)) t.1),
-        subst (λ r. HasPlace areas r place) (same_place s t.0 n e.0 same t.3) e.2,
-      )
-
-  pub literal_place_placed : (s : Space) (n place : ℕ)
-      → (n < place_count areas s) × HasPlace areas (zak_place s n) place
-      → Contains (places_holding areas (places_within (stock_of areas) s (reach.Span n n))) place
-  literal_place_placed s n place h =
-      exact_places areas (places_within (stock_of areas) s (reach.Span n n)) place (zak_place s n)
-      (named_place (stock_of areas) s (reach.Span n n) n (subst (λ k. n < k) (count_is s) h.0) (literal_reaches n)) h.1
-
-  pub span_places : (s : Space) (first last place : ℕ)
-      → Contains (places_holding areas (places_within (stock_of areas) s (reach.Span first last))) place
-      → (n : ℕ) × (first ≤ n) × (n ≤ last) × (n < place_count areas s) × HasPlace areas (zak_place s n) place
-  span_places s first last place h =
-      let e = places_exact areas (places_within (stock_of areas) s (reach.Span first last)) place h in
-      let t = place_named (stock_of areas) s (reach.Span first last) e.0 e.1 in
-      let within = span_within first last t.0 t.2 in (
-        t.0,
-        within.0,
-        within.1,
-        subst (λ k. t.0 < k) (sym (count_is s)) t.1,
-        subst (λ r. HasPlace areas r place)
-            (sym t.3) e.2,
-      )
-
-  pub span_placed : (s : Space) (first last place : ℕ)
-      → (n : ℕ) × (first ≤ n) × (n ≤ last) × (n < place_count areas s) × HasPlace areas (zak_place s n) place
-      → Contains (places_holding areas (places_within (stock_of areas) s (reach.Span first last))) place
-  span_placed s first last place h =
-      exact_places areas (places_within (stock_of areas) s (reach.Span first last)) place (zak_place s h.0)
-      (named_place (stock_of areas) s (reach.Span first last) h.0 (subst (λ k. h.0 < k) (count_is s) h.3)
-      (within_span first last h.0 h.1 h.2)) h.4
-
-  pub no_table_placed : (place : ℕ)
-      → ¬ (Contains (places_holding areas (tables_within (stock_of areas) reach.Nothing)) place)
-  no_table_placed place h =
-      let e = places_exact areas (tables_within (stock_of areas) reach.Nothing) place h in
-      let t = table_named (stock_of areas) reach.Nothing e.0 e.1 in reaches_none t.0 t.2
-
-  pub no_place_placed : (s : Space) (place : ℕ)
-      → ¬ (Contains (places_holding areas (places_within (stock_of areas) s reach.Nothing)) place)
-  no_place_placed s place h =
-      let e = places_exact areas (places_within (stock_of areas) s reach.Nothing) place h in
-      let t = place_named (stock_of areas) s reach.Nothing e.0 e.1 in reaches_none t.0 t.2
-
-  pub computed_place_places : (s : Space) (place : ℕ)
-      → Contains (places_holding areas (places_within (stock_of areas) s reach.Any)) place
-      → (n : ℕ) × (n < place_count areas s) × HasPlace areas (zak_place s n) place
-  computed_place_places s place h =
-      let e = places_exact areas (places_within (stock_of areas) s reach.Any) place h in
-      let t = place_named (stock_of areas) s reach.Any e.0 e.1 in
-      (t.0, subst (λ k. t.0 < k) (sym (count_is s)) t.1, subst (λ r. HasPlace areas r place) (sym t.3) e.2)
-
-  pub computed_place_placed : (s : Space) (place : ℕ)
-      → (n : ℕ) × (n < place_count areas s) × HasPlace areas (zak_place s n) place
-      → Contains (places_holding areas (places_within (stock_of areas) s reach.Any)) place
-  computed_place_placed s place h =
-      exact_places areas (places_within (stock_of areas) s reach.Any) place (zak_place s h.0)
-      (named_place (stock_of areas) s reach.Any h.0 (subst (λ k. h.0 < k) (count_is s) h.1) refl) h.2
+  pub zak_places : (s : Space) (r : Reach) (place : ℕ)
+      → Contains (places_holding areas (places_within (stock_of areas) s r)) place
+      ↔ ((n : ℕ) × (n < place_count areas s) × (reaches r n ≡ true) × HasPlace areas (zak_place s n) place)
+  zak_places s r place = (
+    λ h. let e = places_exact areas (places_within (stock_of areas) s r) place h in
+        let t = place_named (stock_of areas) s r e.0 e.1 in
+        (t.0, subst (λ k. t.0 < k) (sym (count_is s)) t.1, t.2, subst (λ g. HasPlace areas g place) (sym t.3) e.2),
+    λ h. exact_places areas (places_within (stock_of areas) s r) place (zak_place s h.0)
+        (named_place (stock_of areas) s r h.0 (subst (λ k. h.0 < k) (count_is s) h.1) h.2) h.3,
+  )

@@ -1,33 +1,19 @@
 -- Footprints over zones are those of codes.
-use Rattle.std.proofs.Common.{◌≡◌, ◌<◌, ℕ, suc, Bool, true, false, List, get_or, length, slice_get, Option, Some}
-use Rattle.std.proofs.Common.{sym}
-use Rattle.std.proofs.Common.{◌∙◌, ◌≤◌, None, nat_lt, if◌then◌else◌, ap, subst, arith}
-use Rattle.std.proofs.lemmas.Bool.Decides.{nat_tests}
-use Rattle.cs_base.specs.Limits.{most_resources, most_words}
-use Rattle.cs_base.specs.declared.limit.Limit.TheVariants as limit
-use Rattle.cs_base.proofs.Tests.{by_test}
-use Rattle.std.specs.List.{Contains, range_with_len}
-use Rattle.std.specs.List.Sorted.{IsStrictlyIncreasing}
-use Rattle.std.proofs.lemmas.List.{length-map}
-use Rattle.std.proofs.lemmas.List.Kept.{IsStrictlyIncreasing-filter}
-use Rattle.cs_base.specs.declared.resource.Res.{Res}
-use Rattle.cs_cells.specs.Areas.{IsLaid, limit_passed, word_count}
-use Rattle.cs_cells.specs.Cells.{covers}
-use Rattle.cs_cells.specs.declared.footprint.Area.{Area}
+use Rattle.std.proofs.Common.{◌≡◌, ◌<◌, ℕ, suc, Bool, true, false, List, get_or, length, slice_get, Option, sym, ◌∙◌}
+use Rattle.std.proofs.Common.{◌≤◌, None, ap, subst, arith}
+use Rattle.std.proofs.lemmas.{Bool.Decides.nat_tests, List.length-map, List.Kept.IsStrictlyIncreasing-filter}
+use Rattle.cs_base.specs.{Limits.most_resources, declared.resource.Res.Res}
+use Rattle.std.specs.{List.Contains, List.range_with_len, List.Sorted.IsStrictlyIncreasing}
+use Rattle.cs_cells.specs.{Areas.IsLaid, Areas.limit_passed, Cells.covers, declared.footprint.Area.Area}
 use Rattle.cs_cells.specs.declared.footprint.Footprint.{Footprint}
-use Rattle.cs_ir.specs.Resources.{ops_use, ops_write}
-use Rattle.cs_ir.specs.declared.op.Code.{Code}
+use Rattle.cs_ir.specs.{Resources.ops_use, Resources.ops_write, declared.op.Code.Code}
 use Rattle.cs_rwset.specs.Footprints.{is_among, is_of_one, places_holding, stock_of}
-use Rattle.cs_rwset.specs.Zones.{IsFootOver}
-use Rattle.cs_rwset.specs.declared.code.Marks.{Marks}
-use Rattle.cs_rwset.specs.inner.Marks.{marked, marks_of}
+use Rattle.cs_rwset.specs.{Zones.IsFootOver, declared.code.Marks.Marks, inner.Marks.marked, inner.Marks.marks_of}
 use Rattle.cs_rwset.specs.inner.Zoning.{AreBegins, AreFew, AreKept, AreMarksOf, Stay, heads, zones_of}
-use Rattle.cs_rwset.proofs.Covering.{ops_written_is_used}
-use Rattle.cs_rwset.proofs.Marking.{mark_at, marked_places_are}
+use Rattle.cs_rwset.proofs.{Covering.ops_written_is_used, Marking.mark_at, Marking.marked_places_are, Placed.one_of_is}
+use Rattle.cs_rwset.proofs.{Placed.range_ascends, Placed.range_contains, ZonesCover.zones_cover}
 use Rattle.cs_rwset.proofs.Placed.{among_contains, contains_among, contains_filter, contains_range, filter_contains}
-use Rattle.cs_rwset.proofs.Placed.{one_of_is, range_ascends, range_contains}
-use Rattle.cs_rwset.proofs.ZonesCover.{zones_cover}
-use Rattle.cs_rwset.proofs.ZonesLaid.{heads_under, zone_marks}
+use Rattle.cs_rwset.proofs.ZonesLaid.{heads_under, within_limits, zone_marks}
 
 -- marked places, by the marks
 contains_marked : (marks : List Bool) (p : ℕ) → p < length marks → get_or marks p false ≡ true
@@ -42,6 +28,19 @@ marked_contains marks p h =
     let f = filter_contains (λ q. get_or marks q false) (range_with_len 0 (length marks)) p h in
     (range_contains (length marks) p f.0, f.1)
 
+marked_ascends : (marks : List Bool) → IsStrictlyIncreasing (marked marks)
+marked_ascends marks =
+    IsStrictlyIncreasing-filter (λ q. get_or marks q false) (range_with_len 0 (length marks))
+    (range_ascends (length marks))
+
+-- as many marks as areas
+pub marks_many : (areas : List Area) (perf : Code) (m : Marks) → AreMarksOf areas perf m
+    → (length m.uses.items ≡ length areas) × (length m.writes.items ≡ length areas)
+marks_many areas perf m is = (
+  ap length is.uses ∙ length-map areas (λ a. is_among (ops_use (stock_of areas) perf.ops) a.res),
+  ap length is.writes ∙ length-map areas (λ a. is_among (ops_write (stock_of areas) perf.ops) a.res),
+)
+
 module _ (areas : List Area) (laid : IsLaid areas) (perf : Code) (m : Marks) (begins : List Bool) (foot : Footprint)
     (is : AreMarksOf areas perf m) (long : length begins ≡ length areas)
     (first : 0 < length areas → get_or begins 0 false ≡ true)
@@ -51,21 +50,18 @@ module _ (areas : List Area) (laid : IsLaid areas) (perf : Code) (m : Marks) (be
   begun : 0 < length begins → get_or begins 0 false ≡ true
   begun low = first (omega (arith, low, long))
 
-  many : (marks : List Bool) (rs : List Res) → marks ≡ marks_of areas rs → length marks ≡ length areas
-  many marks rs e = ap length e ∙ length-map areas (λ a. is_among rs a.res)
-
   used_many : length m.uses.items ≡ length areas
-  used_many = many m.uses.items (ops_use (stock_of areas) perf.ops) is.uses
+  used_many = (marks_many areas perf m is).0
 
   written_many : length m.writes.items ≡ length areas
-  written_many = many m.writes.items (ops_write (stock_of areas) perf.ops) is.writes
+  written_many = (marks_many areas perf m is).1
 
   covers_same : (marks : List Bool) (rs : List Res) (places : List ℕ) → marks ≡ marks_of areas rs
       → AreKept begins marks → places ≡ marked (heads marks begins) → (a : ℕ)
       → covers (zones_of areas begins) places a ≡ covers areas (places_holding areas rs) a
   covers_same marks rs places e kept p a =
       ap (λ l. covers (zones_of areas begins) l a) p
-      ∙ zones_cover a marks begins areas laid (many marks rs e) long begun kept
+      ∙ zones_cover a marks begins areas laid (ap length e ∙ length-map areas (λ a. is_among rs a.res)) long begun kept
       ∙ ap (λ l. covers areas (marked l) a) e ∙ ap (λ l. covers areas l a) (marked_places_are areas rs)
 
   of_more : (o : Option Area) → is_of_one (ops_write (stock_of areas) perf.ops) o ≡ true
@@ -96,13 +92,8 @@ module _ (areas : List Area) (laid : IsLaid areas) (perf : Code) (m : Marks) (be
     writes = covers_same m.writes.items (ops_write (stock_of areas) perf.ops) foot.writes is.writes
         (λ p low same. (stays p (omega (arith, low, written_many)) same).1) writes;
     places = record {
-      uses = subst IsStrictlyIncreasing (sym uses)
-          (IsStrictlyIncreasing-filter (λ q. get_or (heads m.uses.items begins) q false)
-          (range_with_len 0 (length (heads m.uses.items begins))) (range_ascends (length (heads m.uses.items begins))));
-      writes = subst IsStrictlyIncreasing (sym writes)
-          (IsStrictlyIncreasing-filter (λ q. get_or (heads m.writes.items begins) q false)
-          (range_with_len 0 (length (heads m.writes.items begins)))
-          (range_ascends (length (heads m.writes.items begins))));
+      uses = subst IsStrictlyIncreasing (sym uses) (marked_ascends (heads m.uses.items begins));
+      writes = subst IsStrictlyIncreasing (sym writes) (marked_ascends (heads m.writes.items begins));
       within = λ r h. (let c = marked_contains (heads m.uses.items begins) r (subst (λ l. Contains l r) uses h) in
           let low = c.0 in omega (arith, low, zones_used));
       written = λ r h. (let c = marked_contains (heads m.writes.items begins) r (subst (λ l. Contains l r) writes h) in
@@ -115,19 +106,8 @@ module _ (areas : List Area) (laid : IsLaid areas) (perf : Code) (m : Marks) (be
 
 -- ---- marks of a layout's areas
 
-pub marks_many : (areas : List Area) (perf : Code) (m : Marks) → AreMarksOf areas perf m
-    → (length m.uses.items ≡ length areas) × (length m.writes.items ≡ length areas)
-marks_many areas perf m is = (
-  ap length is.uses ∙ length-map areas (λ a. is_among (ops_use (stock_of areas) perf.ops) a.res),
-  ap length is.writes ∙ length-map areas (λ a. is_among (ops_write (stock_of areas) perf.ops) a.res),
-)
-
 pub few_areas : (areas : List Area) → limit_passed areas ≡ None → length areas ≤ most_resources
-few_areas areas none = by_test (nat_lt most_resources (length areas))
-    (λ yes. absurd (let e = sym (ap (λ b. if b then Some (record { limit = limit.Resources; line = 0 })
-    else (if nat_lt most_words (word_count areas) then Some (record { limit = limit.Words; line = 0 }) else None)) yes)
-    ∙ none in cc))
-    (λ few. grind (arith, nat_tests))
+few_areas areas none = let few = (within_limits areas none).0 in grind (arith, nat_tests)
 
 pub few_marks : (areas : List Area) (perf : Code) (m : Marks) → length areas ≤ most_resources
     → AreMarksOf areas perf m → AreFew m

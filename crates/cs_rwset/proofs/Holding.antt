@@ -2,13 +2,10 @@
 use Rattle.std.proofs.Common.{◌≡◌, ℕ, zero, suc, List, [], ◌∷◌, slice_get, Option, Some, None, true, refl, sym, ◌∙◌, ap}
 use Rattle.std.proofs.Common.{subst, ⊎_elim}
 use Rattle.std.specs.List.{Contains, flat_map}
-use Rattle.std.proofs.lemmas.Bool.{or_cases, or_left, or_right}
+use Rattle.std.proofs.lemmas.{Bool.or_cases, Bool.or_left, Bool.or_right, Option.slice_get-get_or}
 use Rattle.std.proofs.lemmas.List.Elements.{Contains-append_left, Contains-append_right, Contains-append_cases}
-use Rattle.std.proofs.lemmas.Option.{slice_get-get_or}
 use Rattle.cs_base.specs.declared.resource.Res.{Res}
-use Rattle.cs_cells.specs.Areas.{HasPlace}
-use Rattle.cs_cells.specs.Cells.{covers, in_area}
-use Rattle.cs_cells.specs.declared.footprint.Area.{Area}
+use Rattle.cs_cells.specs.{Areas.HasPlace, Cells.covers, Cells.in_area, declared.footprint.Area.Area}
 use Rattle.cs_ir.specs.declared.op.Op.{Op}
 use Rattle.cs_rwset.specs.Footprints.{places_holding}
 use Rattle.cs_rwset.proofs.Placed.{exact_places, places_exact, contains_none, contains_first, contains_rest}

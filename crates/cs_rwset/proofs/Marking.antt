@@ -2,28 +2,20 @@
 use Rattle.std.proofs.Common.{◌≡◌, ◌<◌, ◌≤◌, ◌+◌, ◌++◌, ℕ, zero, suc, List, [], ◌∷◌, length, get_or, set, take, drop}
 use Rattle.std.proofs.Common.{slice_get, replicate, Some, Bool, true, false, ◌||◌, refl, sym, ◌∙◌, ap, subst, arith}
 use Rattle.std.specs.List.{filter, range_with_len}
-use Rattle.std.proofs.lemmas.List.{append-nil, append_assoc, get_or_default, length-append, length-drop, length-map}
-use Rattle.std.proofs.lemmas.List.{length-take-le}
-use Rattle.cs_base.specs.declared.spaces.Spaces.{Spaces}
+use Rattle.std.proofs.lemmas.List.{append-nil, append_assoc, get_or_default, length-map}
+use Rattle.cs_base.specs.{declared.spaces.Spaces.Spaces, Rates.same_res, declared.resource.Res.Res}
 use Rattle.cs_ir.proofs.Naming.{flat_next}
-use Rattle.cs_ir.specs.Resources.{NameTheSame}
-use Rattle.std.proofs.lemmas.List.Elements.{filter-append}
+use Rattle.cs_ir.specs.{Resources.NameTheSame, declared.touches.Touch.Touch}
+use Rattle.std.proofs.lemmas.{List.Elements.filter-append, List.Folds.list_any-append, List.Sums.count_by_more_yes}
+use Rattle.std.proofs.lemmas.{List.Sums.count_by_more_no, Option.get_or_from_slice_get, Option.slice_get_within}
 use Rattle.std.proofs.lemmas.Bool.{cond-true, cond-false, false_from_ne_true}
-use Rattle.std.proofs.lemmas.List.Folds.{list_any-append}
-use Rattle.cs_base.specs.Rates.{same_res}
-use Rattle.cs_base.specs.declared.resource.Res.{Res}
 use Rattle.cs_base.proofs.Rates.{same_res_is, same_res_here}
-use Rattle.cs_cells.specs.Areas.{HasPlace, IsLaid}
-use Rattle.cs_cells.specs.declared.footprint.Area.{Area}
+use Rattle.cs_cells.specs.{Areas.HasPlace, Areas.IsLaid, declared.footprint.Area.Area}
 use Rattle.cs_rwset.specs.Footprints.{is_among, is_of_one, is_place, place_count, places_holding, stock_of}
 use Rattle.cs_words.specs.declared.catalogue.Space.{Space}
-use Rattle.std.proofs.lemmas.List.Sums.{count_by_more_yes, count_by_more_no}
 use Rattle.cs_ir.specs.Touched.{covers, named, resources}
-use Rattle.cs_ir.specs.declared.touches.Touch.{Touch}
-use Rattle.cs_rwset.proofs.Covering.{covers_named}
-use Rattle.cs_rwset.proofs.Placed.{among_alike}
+use Rattle.cs_rwset.proofs.{Covering.covers_named, Placed.among_alike}
 use Rattle.cs_rwset.specs.inner.Marks.{marked, marked_by, marks_of}
-use Rattle.std.proofs.lemmas.Option.{slice_get_within}
 
 pub or_here : (p q : Bool) → q ≡ true → true ≡ (p || q)
 or_here true q e = refl
@@ -147,14 +139,6 @@ rewritten areas rs more n old new was long is =
     let e : n ≡ length new = omega (arith, a, b, long) in
     ap (λ k. take k (new ++ drop (length new) old)) e ∙ take_front new (drop (length new) old) ∙ is
 
-pub rewritten_long : (n : ℕ) (old new : List Bool) (k : ℕ) → n ≡ length old → length old ≡ k
-    → length (take n (new ++ drop (length new) old)) ≡ k
-rewritten_long n old new k long is =
-    let a = length-append new (drop (length new) old) in
-    let d = length-drop (length new) old in
-    let t = length-take-le n (new ++ drop (length new) old) (omega (arith, a, d, long)) in
-    omega (arith, t, long, is)
-
 -- what is touched by one more
 pub touch_step : (areas : List Area) (rs : List Res) (touches : List Touch) (i : ℕ) (d : Touch) → i < length touches
     → marks_of areas
@@ -167,23 +151,18 @@ touch_step areas rs touches i d low =
     ∙ ap (λ l. rs ++ l) (flat_next (resources stock) touches i t low (get_or_default touches i d t low)))
 
 -- one more area is counted, or isn't
-pub get_at : (areas : List Area) (i : ℕ) (a : Area) → slice_get areas i ≡ Some a → get_or areas i a ≡ a
-get_at [] i a e = absurd cc
-get_at (x ∷ areas) zero a e = cc
-get_at (x ∷ areas) (suc i) a e = get_at areas i a e
-
 pub counted : (areas : List Area) (s : Space) (i : ℕ) (a : Area) → slice_get areas i ≡ Some a → is_place s a.res ≡ true
     → place_count (take (i + 1) areas) s ≡ place_count (take i areas) s + 1
 counted areas s i a e p =
     count_by_more_yes (λ b. is_place s b.res) areas i a (slice_get_within areas i a e)
-    (ap (λ b. is_place s b.res) (get_at areas i a e) ∙ p)
+    (ap (λ b. is_place s b.res) (get_or_from_slice_get areas i a a e) ∙ p)
 
 pub not_counted : (areas : List Area) (s : Space) (i : ℕ) (a : Area) → slice_get areas i ≡ Some a
     → is_place s a.res ≡ false
     → place_count (take (i + 1) areas) s ≡ place_count (take i areas) s
 not_counted areas s i a e p =
     count_by_more_no (λ b. is_place s b.res) areas i a (slice_get_within areas i a e)
-    (ap (λ b. is_place s b.res) (get_at areas i a e) ∙ p)
+    (ap (λ b. is_place s b.res) (get_or_from_slice_get areas i a a e) ∙ p)
 
 -- the places below one more
 pub range_more : (a n j : ℕ) → a + n ≡ j → range_with_len a (suc n) ≡ range_with_len a n ++ j ∷ []

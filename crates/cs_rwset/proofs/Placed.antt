@@ -1,17 +1,13 @@
 -- Which places are listed, of the areas of some resources.
 use Rattle.std.proofs.Common.{◌≡◌, ◌<◌, ◌+◌, ◌⊎◌, ℕ, zero, suc, List, [], ◌∷◌, map, length, get_or, slice_get, Option}
 use Rattle.std.proofs.Common.{Some, None, Bool, true, false, refl, sym, ap, subst, arith, ⊎_elim, inl, inr}
-use Rattle.std.specs.List.{Contains, filter, range_with_len}
-use Rattle.std.specs.List.Sorted.{IsStrictlyIncreasing}
+use Rattle.std.specs.{List.Contains, List.filter, List.range_with_len, List.Sorted.IsStrictlyIncreasing}
 use Rattle.std.proofs.lemmas.Bool.{cond_both, or_cases, or_left, or_right}
 use Rattle.std.proofs.lemmas.List.FromFn.{length-range_with_len, get_or-range_with_len}
-use Rattle.std.proofs.lemmas.List.Kept.{IsStrictlyIncreasing-filter}
-use Rattle.std.proofs.lemmas.Option.{slice_get_within}
-use Rattle.cs_base.specs.Rates.{same_res}
-use Rattle.cs_base.specs.declared.resource.Res.{Res}
+use Rattle.std.proofs.lemmas.{List.Kept.IsStrictlyIncreasing-filter, Option.slice_get_within}
+use Rattle.cs_base.specs.{Rates.same_res, declared.resource.Res.Res}
 use Rattle.cs_base.proofs.Rates.{same_res_is, same_res_here}
-use Rattle.cs_cells.specs.Areas.{HasPlace}
-use Rattle.cs_cells.specs.declared.footprint.Area.{Area}
+use Rattle.cs_cells.specs.{Areas.HasPlace, declared.footprint.Area.Area}
 use Rattle.cs_ir.specs.Resources.{NameTheSame}
 use Rattle.cs_rwset.specs.Footprints.{is_among, is_of_one, places_holding}
 

@@ -1,27 +1,21 @@
 -- Marks of neighbouring areas.
-use Rattle.std.proofs.Common.{◌≡◌, ◌<◌, ◌≤◌, ◌+◌, ◌++◌, ℕ, zero, suc, List, [], ◌∷◌, length, take, drop, replicate}
-use Rattle.std.proofs.Common.{◌-◌, slice_get, Some, Bool, true, false, ◌||◌, refl, sym, ◌∙◌, ap, subst, arith}
-use Rattle.std.proofs.Common.{⊎_elim, IfSome}
+use Rattle.std.proofs.Common.{◌≡◌, ◌<◌, ◌≤◌, ◌+◌, ◌++◌, ℕ, zero, suc, List, [], ◌∷◌, length, take, drop, replicate, ◌-◌}
+use Rattle.std.proofs.Common.{slice_get, Some, Bool, true, false, ◌||◌, refl, sym, ◌∙◌, ap, subst, arith, ⊎_elim}
+use Rattle.std.proofs.Common.{IfSome}
 use Rattle.std.specs.List.{Contains}
 use Rattle.std.proofs.lemmas.Bool.{cases_lt, false_from_ne_true, true≢false}
 use Rattle.std.proofs.lemmas.Option.{slice_get_cases, slice_get_within}
-use Rattle.cs_base.specs.declared.resource.Res.{Res}
-use Rattle.cs_base.specs.declared.spaces.Spaces.{Spaces}
-use Rattle.cs_cells.specs.Areas.{HasPlace, IsLaid}
-use Rattle.cs_cells.specs.declared.footprint.Area.{Area}
+use Rattle.cs_base.specs.{declared.resource.Res.Res, declared.spaces.Spaces.Spaces}
+use Rattle.cs_cells.specs.{Areas.HasPlace, Areas.IsLaid, declared.footprint.Area.Area}
 use Rattle.cs_ir.specs.Resources.{places_of, places_within, reaches, zak_place}
-use Rattle.cs_ir.specs.declared.op.Reach.{Reach}
+use Rattle.cs_ir.specs.{declared.op.Reach.Reach, Touched.covers}
 use Rattle.cs_rwset.specs.Footprints.{is_among, stock_of}
-use Rattle.cs_ir.specs.declared.touches.Touch.TheVariants as touch
-use Rattle.cs_rwset.specs.declared.runs.Run.{Run}
-use Rattle.cs_rwset.specs.declared.runs.Runs.{Runs}
-use Rattle.cs_rwset.specs.inner.Marks.{marked_by}
-use Rattle.cs_ir.specs.Touched.{covers}
+use Rattle.cs_rwset.specs.{declared.runs.Run.Run, declared.runs.Runs.Runs, inner.Marks.marked_by}
 use Rattle.cs_rwset.specs.inner.Runs.{AreInOrder, AreRuns, IsRun, begin_of}
-use Rattle.cs_rwset.proofs.Covering.{covers_named, named_place, place_named}
-use Rattle.cs_rwset.proofs.Marking.{or_here, or_not, same_marks}
-use Rattle.cs_rwset.proofs.Placed.{among_contains, contains_among}
+use Rattle.cs_rwset.proofs.{Covering.covers_named, Covering.named_place, Covering.place_named, Marking.or_here}
+use Rattle.cs_rwset.proofs.{Marking.or_not, Marking.same_marks, Placed.among_contains, Placed.contains_among}
 use Rattle.cs_words.specs.declared.catalogue.Space.{Space}
+use Rattle.cs_ir.specs.declared.touches.Touch.TheVariants as touch
 use Rattle.cs_words.specs.declared.catalogue.Space.TheVariants as space
 
 -- marks in whose place so many stand that are set, from one place up to another

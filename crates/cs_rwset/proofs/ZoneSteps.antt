@@ -1,17 +1,13 @@
 -- One area more, of zones and of marks.
 use Rattle.std.proofs.Common.{◌≡◌, ◌+◌, ◌-◌, ◌<◌, ◌≤◌, ◌++◌, ◌⊎◌, inl, inr, ⊎_elim, ℕ, zero, suc, Bool, true, false}
-use Rattle.std.proofs.Common.{List}
-use Rattle.std.proofs.Common.{min, slice_get, Some}
-use Rattle.std.proofs.Common.{[], ◌∷◌, drop, get_or, length, take, if◌then◌else◌, refl, sym, ◌∙◌, ap, subst, arith}
+use Rattle.std.proofs.Common.{List, min, slice_get, Some, [], ◌∷◌, drop, get_or, length, take, if◌then◌else◌, refl, sym}
+use Rattle.std.proofs.Common.{◌∙◌, ap, subst, arith}
 use Rattle.std.specs.List.{All, AllZip}
-use Rattle.std.proofs.lemmas.Bool.{cases_order}
-use Rattle.std.proofs.lemmas.List.Sums.{sum_by_more}
+use Rattle.std.proofs.lemmas.{Bool.cases_order, List.Sums.sum_by_more, List.length-append, List.take_more}
 use Rattle.std.proofs.lemmas.Option.{get_or_from_slice_get, slice_get_within}
-use Rattle.cs_cells.specs.Areas.{IsLaid, word_count}
+use Rattle.cs_cells.specs.{Areas.IsLaid, Areas.word_count, declared.footprint.Area.Area}
 use Rattle.std.proofs.lemmas.List.{append_assoc, append-nil, at_drop_all, drop_more, get_or_append_left, get_or_at}
-use Rattle.std.proofs.lemmas.List.{length-append, take_more}
 use Rattle.std.proofs.lemmas.List.Elements.{All-cons, All-nil, All-push}
-use Rattle.cs_cells.specs.declared.footprint.Area.{Area}
 use Rattle.cs_rwset.specs.declared.code.Marks.{Marks}
 use Rattle.cs_rwset.specs.inner.Zoning.{AreBegins, Stay, heads, joined, zones_from}
 

@@ -1,19 +1,15 @@
 -- Zones cover what the areas cover of which they are made.
-use Rattle.std.proofs.Common.{◌≡◌, ◌+◌, ◌<◌, ◌&&◌, ◌||◌, ℕ, zero, suc, Bool, true, false, List, [], ◌∷◌}
-use Rattle.std.proofs.Common.{get_or, length, nat_le, nat_lt, slice_get, take, Some, if◌then◌else◌, refl}
-use Rattle.std.proofs.Common.{sym, ◌∙◌, ap, subst, arith, ⊎_elim}
+use Rattle.std.proofs.Common.{◌≡◌, ◌+◌, ◌<◌, ◌&&◌, ◌||◌, ℕ, zero, suc, Bool, true, false, List, [], ◌∷◌, get_or, length}
+use Rattle.std.proofs.Common.{nat_le, nat_lt, slice_get, take, Some, if◌then◌else◌, refl, sym, ◌∙◌, ap, subst, arith}
+use Rattle.std.proofs.Common.{⊎_elim}
 use Rattle.std.specs.List.{range_with_len}
 use Rattle.std.proofs.lemmas.Bool.{and_from, and_parts, or_cases, or_left, or_right}
-use Rattle.std.proofs.lemmas.Bool.Decides.{nat_tests}
-use Rattle.std.proofs.lemmas.List.Sums.{sum_by-cons}
-use Rattle.cs_cells.specs.Areas.{IsLaid, word_count}
-use Rattle.cs_cells.specs.Cells.{covers, in_area}
-use Rattle.cs_cells.specs.declared.footprint.Area.{Area}
+use Rattle.std.proofs.lemmas.{Bool.Decides.nat_tests, List.Sums.sum_by-cons}
+use Rattle.cs_cells.specs.{Areas.IsLaid, Areas.word_count, Cells.covers, Cells.in_area, declared.footprint.Area.Area}
 use Rattle.cs_rwset.specs.inner.Marks.{marked}
 use Rattle.cs_rwset.specs.inner.Zoning.{AreKept, heads, joined, zones_from, zones_of}
 use Rattle.cs_rwset.proofs.Holding.{at_covers, covered_at, none_in}
-use Rattle.cs_rwset.proofs.Placed.{contains_filter, contains_range, filter_contains}
-use Rattle.cs_rwset.proofs.Placed.{same_tests}
+use Rattle.cs_rwset.proofs.Placed.{contains_filter, contains_range, filter_contains, same_tests}
 
 -- ---- areas, one behind the other
 
@@ -110,8 +106,7 @@ module _ (a : ℕ) where
 
   shared_out : (m i j r : Bool) → ((m && (i || j)) || r) ≡ ((m && i) || ((m && j) || r))
   shared_out true true j r = refl
-  shared_out true false j r = refl
-  shared_out false i j r = refl
+  shared_out m i j r = refl
 
   -- what is marked of zones is what is marked of areas, where no mark changes within a zone
   zone_lies : (m : Bool) (marks begins : List Bool) (z : Area) (areas : List Area)

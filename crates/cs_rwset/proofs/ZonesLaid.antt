@@ -1,23 +1,17 @@
 -- Zones are laid out as areas are.
-use Rattle.std.proofs.Common.{◌≡◌, ◌+◌, ◌<◌, ◌≤◌, ℕ, zero, suc, Bool, true, false, List, [], ◌∷◌, ◌++◌}
-use Rattle.std.proofs.Common.{get_or}
-use Rattle.std.proofs.Common.{None, nat_lt}
-use Rattle.std.proofs.Common.{length, Some, if◌then◌else◌, refl, sym, ◌∙◌, ap, subst, arith, ⊎_elim}
+use Rattle.std.proofs.Common.{◌≡◌, ◌+◌, ◌<◌, ◌≤◌, ℕ, zero, suc, Bool, true, false, List, [], ◌∷◌, ◌++◌, get_or, None}
+use Rattle.std.proofs.Common.{nat_lt, length, Some, if◌then◌else◌, refl, sym, ◌∙◌, ap, subst, arith, ⊎_elim}
 use Rattle.std.specs.List.{All}
-use Rattle.std.proofs.lemmas.List.{append_assoc}
-use Rattle.std.proofs.lemmas.List.Elements.{All-cons, All-nil}
+use Rattle.std.proofs.lemmas.{List.append_assoc, List.Elements.All-cons, List.Elements.All-nil, Bool.Decides.nat_tests}
 use Rattle.std.proofs.lemmas.List.Sums.{sum_by-append, sum_by-cons}
-use Rattle.cs_base.specs.declared.resource.Res.{Res}
-use Rattle.std.proofs.lemmas.Bool.Decides.{nat_tests}
-use Rattle.cs_base.specs.Limits.{most_resources, most_words}
-use Rattle.cs_base.specs.declared.limit.Limit.TheVariants as limit
-use Rattle.cs_base.proofs.Tests.{by_test}
+use Rattle.cs_base.specs.{declared.resource.Res.Res, Limits.most_resources, Limits.most_words}
 use Rattle.cs_cells.specs.Areas.{HasPlace, IsLaid, limit_passed, word_count}
 use Rattle.cs_cells.specs.declared.footprint.Area.{Area}
 use Rattle.cs_cells.proofs.Laid.{at_push, laid_more, laid_none}
 use Rattle.cs_rwset.specs.Zones.{AreZones}
 use Rattle.cs_rwset.specs.inner.Zoning.{heads, joined, zones_from, zones_of}
 use Rattle.cs_rwset.proofs.ZonesCover.{LaidFrom, laid_at_zero}
+use Rattle.cs_base.specs.declared.limit.Limit.TheVariants as limit
 
 -- ---- as many cells, no more zones than areas, none empty
 
@@ -138,22 +132,26 @@ are_zones (x ∷ areas) (b ∷ begins) laid e =
     }
 
 -- what is within the limits stays so
+both_within : {X : Type 0} (a b : Bool) (x y : X) → (if a then Some x else (if b then Some y else None)) ≡ None
+    → (a ≡ false) × (b ≡ false)
+both_within false false x y h = (refl, refl)
+both_within a b x y h = absurd cc
+
+pub within_limits : (areas : List Area) → limit_passed areas ≡ None
+    → (nat_lt most_resources (length areas) ≡ false) × (nat_lt most_words (word_count areas) ≡ false)
+within_limits areas none =
+    both_within (nat_lt most_resources (length areas)) (nat_lt most_words (word_count areas)) _ _ none
+
 pub zones_within : (areas zones : List Area) → AreZones areas zones → limit_passed areas ≡ None
     → limit_passed zones ≡ None
-zones_within areas zones are none = by_test (nat_lt most_resources (length areas))
-    (λ yes. absurd (let e = sym (ap (λ b. if b then Some (record { limit = limit.Resources; line = 0 })
-    else (if nat_lt most_words (word_count areas) then Some (record { limit = limit.Words; line = 0 }) else None)) yes)
-    ∙ none in cc))
-    (λ few. by_test (nat_lt most_words (word_count areas))
-    (λ yes. absurd (let e = sym (ap (λ b. if b then Some (record { limit = limit.Resources; line = 0 })
-    else (if nat_lt most_words (word_count areas) then Some (record { limit = limit.Words; line = 0 }) else None)) few
-    ∙ ap (λ b. if b then Some (record { limit = limit.Words; line = 0 }) else None) yes) ∙ none in cc))
-    (λ low. let fewer = are.few in let words = are.words in
+zones_within areas zones are none =
+    let old = within_limits areas none in
+    let few = old.0 in
+    let fewer = are.few in
     let f : nat_lt most_resources (length zones) ≡ false = grind (arith, nat_tests) in
-    let w : nat_lt most_words (word_count zones) ≡ false = ap (nat_lt most_words) words ∙ low in
-    ap (λ b. if b then Some (record { limit = limit.Resources; line = 0 })
-    else (if nat_lt most_words (word_count zones) then Some (record { limit = limit.Words; line = 0 }) else None)) f
-    ∙ ap (λ b. if b then Some (record { limit = limit.Words; line = 0 }) else None) w))
+    let w : nat_lt most_words (word_count zones) ≡ false = ap (nat_lt most_words) are.words ∙ old.1 in
+    λ i. if f i then Some (record { limit = limit.Resources; line = 0 })
+    else (if w i then Some (record { limit = limit.Words; line = 0 }) else None)
 
 -- ---- as many marks as zones
 

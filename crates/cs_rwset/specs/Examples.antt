@@ -1,12 +1,10 @@
 -- A small layout, and the footprints of single ops in it.
 use Rattle.std.specs.Prelude.{ℕ, List, [], ◌∷◌, map}
-use Rattle.cs_ir.specs.declared.register.Kind.TheVariants as kind
 use Rattle.cs_base.specs.declared.resource.Res.TheVariants.{Gk, Control, ZakK, Table}
 use Rattle.cs_cells.specs.declared.footprint.Area.{Area}
-use Rattle.cs_ir.specs.Resources.{ops_use, ops_write}
-use Rattle.cs_ir.specs.declared.op.Act.{Act}
-use Rattle.cs_ir.specs.declared.op.Op.{Op}
+use Rattle.cs_ir.specs.{Resources.ops_use, Resources.ops_write, declared.op.Act.Act, declared.op.Op.Op}
 use Rattle.cs_rwset.specs.Footprints.{stock_of, places_holding}
+use Rattle.cs_ir.specs.declared.register.Kind.TheVariants as kind
 
 -- the variable gk1, the first channel, three places of the zak space of control values, and tables 1 and 2 of four
 -- points

@@ -1,13 +1,12 @@
 -- Which areas of a layout hold what a code may touch.
 use Rattle.std.specs.Prelude.{ℕ, Bool, true, false, List, length, slice_get, Option, Some, None}
 use Rattle.std.specs.List.{count_by, filter, filter_map, list_any, range_with_len}
-use Rattle.cs_base.specs.Rates.{same_res}
-use Rattle.cs_base.specs.declared.resource.Res.{Res}
-use Rattle.cs_base.specs.declared.resource.Res.TheVariants as res
+use Rattle.cs_base.specs.{Rates.same_res, declared.resource.Res.Res}
 use Rattle.cs_words.specs.declared.catalogue.Space.{Space}
-use Rattle.cs_words.specs.declared.catalogue.Space.TheVariants as space
 use Rattle.cs_cells.specs.declared.footprint.Area.{Area}
 use Rattle.cs_ir.specs.Resources.{Stock}
+use Rattle.cs_base.specs.declared.resource.Res.TheVariants as res
+use Rattle.cs_words.specs.declared.catalogue.Space.TheVariants as space
 
 -- whether a resource is a place of a zak space
 abbrev pub is_place : Space → Res → Bool

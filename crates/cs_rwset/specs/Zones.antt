@@ -1,12 +1,8 @@
 -- Zones: neighbouring areas that every code touches together, as one; and the footprints of codes over them.
-use Rattle.std.specs.Prelude.{ℕ, ◌≡◌, ◌<◌, ◌≤◌, List, length}
-use Rattle.std.specs.List.{All}
+use Rattle.std.specs.{Prelude.ℕ, Prelude.◌≡◌, Prelude.◌<◌, Prelude.◌≤◌, Prelude.List, Prelude.length, List.All}
 use Rattle.cs_cells.specs.Areas.{IsFootprint, IsLaid, word_count}
-use Rattle.cs_cells.specs.Cells.{covers}
-use Rattle.cs_cells.specs.declared.footprint.Area.{Area}
-use Rattle.cs_cells.specs.declared.footprint.Footprint.{Footprint}
-use Rattle.cs_ir.specs.Resources.{ops_use, ops_write}
-use Rattle.cs_ir.specs.declared.op.Code.{Code}
+use Rattle.cs_cells.specs.{Cells.covers, declared.footprint.Area.Area, declared.footprint.Footprint.Footprint}
+use Rattle.cs_ir.specs.{Resources.ops_use, Resources.ops_write, declared.op.Code.Code}
 use Rattle.cs_rwset.specs.Footprints.{places_holding, stock_of}
 
 -- Zones of areas have the same cells, one behind the other, and are no more than there are areas. None is empty where

@@ -1,20 +1,15 @@
 -- Arms of an `if` of which one is done, one after another, and the jumps past the others.
 use Rattle.std.specs.Prelude.{ℕ, ◌≡◌, ◌+◌, ◌++◌, List, [], ◌∷◌, length}
-use Rattle.cs_ir.specs.Codes.{aim}
+use Rattle.cs_ir.specs.{Codes.aim, declared.op.Op.Op, declared.register.Reg.Reg}
 use Rattle.cs_ir.specs.Drafts.{Draft, IsAt, drafted, library_of}
-use Rattle.cs_ir.specs.declared.op.Act.TheVariants as act
-use Rattle.cs_ir.specs.declared.op.Op.{Op}
-use Rattle.cs_ir.specs.declared.register.Reg.{Reg}
 use Rattle.cs_meaning.specs.Core.{Block}
-use Rattle.cs_code.specs.declared.frame.Progress.{Progress}
+use Rattle.cs_code.specs.{declared.frame.Progress.Progress, declared.frame.Pass.Pass, inner.Spots.op_of}
 use Rattle.cs_code.specs.inner.Kept.{past, past_parts, past_block}
-use Rattle.cs_typed.specs.TypedTree as typed
-use Rattle.cs_typed.specs.TypedTree.{Expression}
-use Rattle.cs_typed.specs.declared.tree.TypedArm.{TypedArm, out-TypedArm}
-use Rattle.cs_code.specs.declared.frame.Pass.{Pass}
+use Rattle.cs_typed.specs.{TypedTree.Expression, declared.tree.TypedArm.TypedArm, declared.tree.TypedArm.out-TypedArm}
 use Rattle.cs_code.specs.inner.Code.{pass_block_code, cond_code, cond_reg, arm_code}
 use Rattle.cs_code.specs.inner.Emitted.{Scope, block_in, each_arm_code}
-use Rattle.cs_code.specs.inner.Spots.{op_of}
+use Rattle.cs_ir.specs.declared.op.Act.TheVariants as act
+use Rattle.cs_typed.specs.TypedTree as typed
 
 -- An arm: the code of its condition, where the condition stands, the code of its body.
 pub record Branch : Type 0 where

@@ -1,28 +1,20 @@
 -- The code of expressions and statements.
 use Rattle.std.specs.Prelude.{ℕ, ◌+◌, ◌++◌, List, [], ◌∷◌, length, Option, Some, None, if◌then◌else◌}
-use Rattle.cs_base.specs.Rates.{same_rate}
-use Rattle.cs_base.specs.declared.resource.Rate.{Rate}
-use Rattle.cs_base.specs.declared.resource.Rate.TheVariants as rate
+use Rattle.cs_base.specs.{Rates.same_rate, declared.resource.Rate.Rate}
 use Rattle.cs_words.specs.declared.catalogue.Opcode.{Opcode}
-use Rattle.cs_ir.specs.Waves.{if_init}
-use Rattle.cs_ir.specs.declared.op.Act.{Act}
-use Rattle.cs_ir.specs.declared.op.Act.TheVariants as act
-use Rattle.cs_ir.specs.declared.op.Op.{Op}
-use Rattle.cs_ir.specs.declared.op.Reach.{Reach}
+use Rattle.cs_ir.specs.{Waves.if_init, declared.op.Act.Act, declared.op.Op.Op, declared.op.Reach.Reach}
 use Rattle.cs_ir.specs.declared.register.Reg.{Reg}
-use Rattle.cs_meaning.specs.Core.{Stmt, Block, Arms, set, unit, zak, store, out, out_at, ask, turnoff, choose}
-use Rattle.cs_meaning.specs.Core.{no_stmt, andthen, otherwise, arm}
-use Rattle.cs_meaning.specs.Notes.{reg}
-use Rattle.cs_meaning.specs.When.{When, beginning, cycle}
-use Rattle.cs_code.specs.declared.frame.Pass.{Pass}
-use Rattle.cs_code.specs.declared.frame.Pass.TheVariants as pass
-use Rattle.cs_code.specs.declared.frame.Progress.{Progress}
+use Rattle.cs_meaning.specs.Core.{Stmt, Block, Arms, set, unit, zak, store, out, out_at, ask, turnoff, choose, no_stmt}
+use Rattle.cs_meaning.specs.{Core.andthen, Core.otherwise, Core.arm, Notes.reg, When.When, When.beginning, When.cycle}
+use Rattle.cs_code.specs.{declared.frame.Pass.Pass, declared.frame.Progress.Progress}
 use Rattle.cs_code.specs.inner.Kept.{past, past_parts, past_stmt, past_block}
 use Rattle.cs_typed.specs.TypedTree.{Expression, number, var, field, head, neg, pair, pick, apply}
-use Rattle.cs_typed.specs.WellRated.{node_rate}
-use Rattle.cs_typed.specs.declared.tree.Var.{Var as Variable}
+use Rattle.cs_typed.specs.{WellRated.node_rate, declared.tree.Var.Var as Variable}
 use Rattle.cs_typed.specs.declared.tree.Var.TheVariants.{Local, Global}
 use Rattle.cs_code.specs.inner.Spots.{op_of, kept_reg, temp, direct, spot, spots}
+use Rattle.cs_base.specs.declared.resource.Rate.TheVariants as rate
+use Rattle.cs_ir.specs.declared.op.Act.TheVariants as act
+use Rattle.cs_code.specs.declared.frame.Pass.TheVariants as pass
 
 -- nothing where a value stands already, else its code; and a copy of what stands already, else the code
 abbrev pub unless_there : Option Reg → List Op → List Op

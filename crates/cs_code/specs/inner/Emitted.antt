@@ -1,45 +1,31 @@
 -- What the functions that make code work on, in the words of the definitions.
 use Rattle.std.specs.Prelude.{◌≡◌, ℕ, Bool, false, not, zero, suc, ◌+◌, ◌-◌, ◌&&◌, ◌++◌, List, [], ◌∷◌, length, min}
 use Rattle.std.specs.Prelude.{nat_lt, nat_le, Option, Some, None, map, if◌then◌else◌, pos}
-use Rattle.std.specs.Borrow.{Bor}
-use Rattle.std.specs.Option.{option_map}
-use Rattle.cs_base.specs.Rates.{is_init}
+use Rattle.std.specs.{Borrow.Bor, Option.option_map}
+use Rattle.cs_base.specs.{Rates.is_init, declared.resource.Rate.Rate, declared.spaces.Spaces.Spaces}
 use Rattle.cs_base.specs.declared.per_rate.PerRate.{PerRate}
-use Rattle.cs_base.specs.declared.resource.Rate.{Rate}
-use Rattle.cs_base.specs.declared.resource.Rate.TheVariants as rate
-use Rattle.cs_base.specs.declared.spaces.Spaces.{Spaces}
-use Rattle.cs_ir.specs.Resources.{places_of}
-use Rattle.cs_ir.specs.declared.op.Op.{Op}
-use Rattle.cs_ir.specs.declared.op.Reach.{Reach}
-use Rattle.cs_ir.specs.declared.op.Reach.TheVariants as reach
-use Rattle.cs_ir.specs.declared.register.Reg.{Reg}
-use Rattle.cs_meaning.specs.Core.{plus, whole_part, values_of, unit_call, store_call, zak_call, Stmt, Block}
-use Rattle.cs_meaning.specs.Core.{Arms, set, out, out_at, ask, turnoff, nothing, core, core_arms}
+use Rattle.cs_ir.specs.{Resources.places_of, declared.op.Op.Op, declared.op.Reach.Reach, declared.register.Reg.Reg}
+use Rattle.cs_meaning.specs.Core.{plus, whole_part, values_of, unit_call, store_call, zak_call, Stmt, Block, Arms, set}
+use Rattle.cs_meaning.specs.Core.{out, out_at, ask, turnoff, nothing, core, core_arms}
 use Rattle.cs_meaning.specs.When.{When, beginning, cycle}
-use Rattle.cs_code.specs.inner.Kept.{past, past_parts}
-use Rattle.cs_typed.specs.TypedTree as typed
+use Rattle.cs_code.specs.{inner.Kept.past, inner.Kept.past_parts, declared.args.Call.Call}
+use Rattle.cs_code.specs.{declared.call.Putting.Putting, declared.frame.Pass.Pass, declared.frame.Progress.Progress}
+use Rattle.cs_code.specs.{declared.reach.KnownArgument.KnownArgument, declared.simple.Assignment.Assignment}
+use Rattle.cs_code.specs.{declared.simple.Sending.Sending, declared.value.Value.Value}
 use Rattle.cs_typed.specs.TypedTree.{Expression, number, var, neg, pair, pick, apply}
-use Rattle.cs_typed.specs.declared.tree.TypedArm.{TypedArm}
-use Rattle.cs_typed.specs.declared.tree.TypedExpr.{TypedExpr}
-use Rattle.cs_typed.specs.declared.tree.TypedStmt.{TypedStmt}
-use Rattle.cs_typed.specs.declared.tree.Var.{Var as Variable}
-use Rattle.cs_words.specs.declared.catalogue.Opcode.{Opcode}
-use Rattle.cs_words.specs.declared.catalogue.Shape.{Shape}
-use Rattle.cs_words.specs.declared.catalogue.Shape.TheVariants as shape
-use Rattle.cs_code.specs.declared.args.Call.{Call}
-use Rattle.cs_code.specs.declared.call.Putting.{Putting}
-use Rattle.cs_code.specs.declared.call.Putting.TheVariants as putting
-use Rattle.cs_code.specs.declared.frame.Pass.{Pass}
-use Rattle.cs_code.specs.declared.frame.Pass.TheVariants as pass
-use Rattle.cs_code.specs.declared.frame.Progress.{Progress}
-use Rattle.cs_code.specs.declared.reach.KnownArgument.{KnownArgument}
-use Rattle.cs_code.specs.declared.reach.KnownArgument.TheVariants as known
-use Rattle.cs_code.specs.declared.simple.Assignment.{Assignment}
-use Rattle.cs_code.specs.declared.simple.Sending.{Sending}
-use Rattle.cs_code.specs.declared.simple.Sending.TheVariants as sending
-use Rattle.cs_code.specs.declared.value.Value.{Value}
-use Rattle.cs_code.specs.declared.value.Value.TheVariants as value
+use Rattle.cs_typed.specs.{declared.tree.TypedArm.TypedArm, declared.tree.TypedExpr.TypedExpr}
+use Rattle.cs_typed.specs.{declared.tree.TypedStmt.TypedStmt, declared.tree.Var.Var as Variable}
+use Rattle.cs_words.specs.{declared.catalogue.Opcode.Opcode, declared.catalogue.Shape.Shape}
 use Rattle.cs_code.specs.inner.Code.{keep_code, pass_block_code, out_ops, out_at_ops}
+use Rattle.cs_base.specs.declared.resource.Rate.TheVariants as rate
+use Rattle.cs_ir.specs.declared.op.Reach.TheVariants as reach
+use Rattle.cs_typed.specs.TypedTree as typed
+use Rattle.cs_words.specs.declared.catalogue.Shape.TheVariants as shape
+use Rattle.cs_code.specs.declared.call.Putting.TheVariants as putting
+use Rattle.cs_code.specs.declared.frame.Pass.TheVariants as pass
+use Rattle.cs_code.specs.declared.reach.KnownArgument.TheVariants as known
+use Rattle.cs_code.specs.declared.simple.Sending.TheVariants as sending
+use Rattle.cs_code.specs.declared.value.Value.TheVariants as value
 
 -- what is lowered: expressions that are lent, and what a variable takes
 abbrev pub expressions_of : List (Bor TypedExpr) → List Expression

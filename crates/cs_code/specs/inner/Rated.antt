@@ -1,7 +1,6 @@
 -- Statements that agree with the rules of rates in some piece.
 use Rattle.cs_typed.specs.TypedTree as typed
-use Rattle.cs_typed.specs.WellRated.{IsRatedBlock}
-use Rattle.cs_typed.specs.declared.setting.Setting.{Setting}
+use Rattle.cs_typed.specs.{WellRated.IsRatedBlock, declared.setting.Setting.Setting}
 
 abbrev pub IsRatedSomewhere : typed.Block → Type 0
 IsRatedSomewhere b = (s : Setting) × IsRatedBlock s b

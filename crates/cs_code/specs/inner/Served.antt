@@ -1,18 +1,15 @@
 -- Routines, made once, as they serve those who invoke them.
 use Rattle.std.specs.Prelude.{◌≡◌, ◌+◌, ◌≤◌, ◌^◌, List, length, map}
 use Rattle.cs_base.specs.declared.spaces.Spaces.{Spaces}
+use Rattle.cs_ir.specs.{Drafts.Draft, Drafts.Grew, Drafts.drafted, declared.op.Op.Op}
 use Rattle.cs_ir.specs.Routines.{AreRoutines, library_in}
-use Rattle.cs_ir.specs.declared.op.Op.{Op}
-use Rattle.cs_meaning.specs.Core.{core}
-use Rattle.cs_typed.specs.TypedTree as typed
+use Rattle.cs_meaning.specs.Core.{Block, core}
 use Rattle.cs_typed.specs.declared.tree.TypedOrc.{TypedOrc}
-use Rattle.cs_code.specs.declared.codes.Library.{Library}
-use Rattle.cs_code.specs.declared.frame.Pass.{Pass}
-use Rattle.cs_code.specs.declared.frame.Pass.TheVariants as pass
-use Rattle.cs_code.specs.declared.frame.Progress.{Progress}
-use Rattle.cs_code.specs.declared.routines.Routines.{Routines}
-use Rattle.cs_code.specs.inner.Code.{pass_block_code}
+use Rattle.cs_code.specs.{declared.codes.Library.Library, declared.frame.Pass.Pass, declared.frame.Progress.Progress}
+use Rattle.cs_code.specs.{declared.routines.Routines.Routines, inner.Code.pass_block_code}
 use Rattle.cs_code.specs.inner.Kept.{start, past_block}
+use Rattle.cs_typed.specs.TypedTree as typed
+use Rattle.cs_code.specs.declared.frame.Pass.TheVariants as pass
 
 -- so much further in a text
 abbrev pub further_on : Progress → Progress → Progress
@@ -24,6 +21,11 @@ pub record Serve (way : Pass) (spaces : Spaces) (rs : List typed.Block) (made : 
     (known : List Progress) : Type 0 where
   pub code : made ≡ map (λ b. pass_block_code way 0 start (core spaces b)) rs
   pub extents : known ≡ map (λ b. past_block start (core spaces b)) rs
+
+-- A draft has grown by the code of a block, and this is what was met before its end.
+pub record Lowered (way : Pass) (old new : Draft) (p q : Progress) (b : Block) : Type 0 where
+  pub ops : Grew old new (pass_block_code way (length (drafted old)) p b)
+  pub next : q ≡ past_block p b
 
 -- Routines of an orchestra as one of a note's codes has them.
 pub record AreMade (way : Pass) (spaces : Spaces) (rs : List typed.Block) (m : Routines) : Type 0 where

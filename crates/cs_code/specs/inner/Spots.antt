@@ -1,18 +1,13 @@
 -- Where a note's values stand among the registers.
 use Rattle.std.specs.Prelude.{ℕ, ◌+◌, List, [], ◌∷◌, Option, Some, None}
 use Rattle.cs_base.specs.declared.resource.Rate.{Rate}
-use Rattle.cs_ir.specs.Registers.{temporary}
-use Rattle.cs_ir.specs.Waves.{if_init}
-use Rattle.cs_ir.specs.declared.op.Act.{Act}
-use Rattle.cs_ir.specs.declared.op.Op.{Op}
-use Rattle.cs_ir.specs.declared.register.Kind.TheVariants as kind
+use Rattle.cs_ir.specs.{Registers.temporary, Waves.if_init, declared.op.Act.Act, declared.op.Op.Op}
 use Rattle.cs_ir.specs.declared.register.Reg.{Reg}
-use Rattle.cs_meaning.specs.Notes.{reg}
-use Rattle.cs_meaning.specs.When.{When, beginning, cycle}
+use Rattle.cs_meaning.specs.{Notes.reg, When.When, When.beginning, When.cycle}
 use Rattle.cs_code.specs.inner.Kept.{past}
-use Rattle.cs_typed.specs.TypedTree.{Expression, var}
-use Rattle.cs_typed.specs.WellRated.{node_rate}
+use Rattle.cs_typed.specs.{TypedTree.Expression, TypedTree.var, WellRated.node_rate}
 use Rattle.cs_typed.specs.declared.tree.Var.TheVariants.{Local}
+use Rattle.cs_ir.specs.declared.register.Kind.TheVariants as kind
 
 abbrev pub op_of : Act → Reg → List Reg → Op
 op_of act into from = record { act = act; into = into; from = from }

@@ -1,28 +1,21 @@
--- What makes an op fine, apart from where a jump goes.
-use Rattle.std.specs.Prelude.{ℕ, Bool, true, not, ◌&&◌, ◌||◌, nat_lt}
+-- What makes an op of a routine fine in a window, by the steps among which it stands.
+use Rattle.std.specs.Prelude.{ℕ, Bool, true, not, ◌+◌, ◌&&◌, ◌||◌, nat_lt}
 use Rattle.std.specs.List.{list_all}
-use Rattle.cs_ir.specs.Registers.{rate_at}
-use Rattle.cs_ir.specs.Validity.{has_register, takes_from, writes}
-use Rattle.cs_ir.specs.declared.op.Act.{Act}
+use Rattle.cs_ir.specs.{Flat.Begins, Flat.moved_reg, Registers.rate_at, Validity.has_register, Validity.takes_from}
+use Rattle.cs_ir.specs.{Validity.writes, declared.op.Act.Act, declared.op.Op.Op, declared.register.Counts.Counts}
 use Rattle.cs_ir.specs.declared.op.Act.TheVariants as act
-use Rattle.cs_ir.specs.declared.op.Op.{Op}
-use Rattle.cs_ir.specs.declared.register.Counts.{Counts}
 
--- whether the unit of an act is there, where it names one
-abbrev pub finds_unit : Counts → Act → Bool
-finds_unit counts (act.Start opcode u) = nat_lt u counts.units
-finds_unit counts (act.Unit opcode u reach) = nat_lt u counts.units
-finds_unit counts a = true
+-- of a step at a place: whether the unit of its act is there, and a jump goes to a later step
+abbrev pub finds_step : Counts → Begins → ℕ → Act → Bool
+finds_step counts w at (act.Start opcode u) = nat_lt (w.unit + u) counts.units
+finds_step counts w at (act.Unit opcode u reach) = nat_lt (w.unit + u) counts.units
+finds_step counts w at (act.Jump to) = nat_lt at to
+finds_step counts w at (act.Unless to) = nat_lt at to
+finds_step counts w at _ = true
 
--- whether an act is no jump, or one to a step behind its own
-abbrev pub goes_later : ℕ → Act → Bool
-goes_later at (act.Jump to) = nat_lt at to
-goes_later at (act.Unless to) = nat_lt at to
-goes_later at a = true
-
-abbrev pub suits : Counts → Op → Bool
-suits counts op =
-    (not (writes op.act) || has_register counts op.into)
-    && list_all (has_register counts) op.from
-    && finds_unit counts op.act
+abbrev pub suits : Counts → Begins → ℕ → Op → Bool
+suits counts w at op =
+    (not (writes op.act) || has_register counts (moved_reg w op.into))
+    && list_all (λ q. has_register counts (moved_reg w q)) op.from
+    && finds_step counts w at op.act
     && takes_from op.act (rate_at op.into) op.from

@@ -1,18 +1,25 @@
 -- What steps touch, step by step; and numbers that tell apart what is touched.
 use Rattle.std.specs.Prelude.{ℕ, List, [], ◌∷◌, Option, None, Some}
 use Rattle.std.specs.List.{flat_map}
-use Rattle.cs_base.specs.Rates.{res_kind, res_number}
-use Rattle.cs_base.specs.declared.resource.Res.{Res}
+use Rattle.cs_base.specs.{Rates.res_kind, Rates.res_number, declared.resource.Res.Res}
+use Rattle.cs_ir.specs.{Flat.ops_at, declared.op.Op.Op, declared.op.Reach.Reach, declared.step.Step.Step}
+use Rattle.cs_ir.specs.{declared.touches.Touch.Touch, declared.touches.Touches.Touches}
+use Rattle.cs_ir.specs.Resources.{Access, Stock, act_touches, may_use, may_write, ops_touch}
 use Rattle.cs_words.specs.declared.catalogue.Space.TheVariants as space
-use Rattle.cs_ir.specs.Flat.{ops_at}
-use Rattle.cs_ir.specs.Resources.{Access, Stock, act_touches, ops_touch}
-use Rattle.cs_ir.specs.declared.op.Op.{Op}
-use Rattle.cs_ir.specs.declared.op.Reach.{Reach}
 use Rattle.cs_ir.specs.declared.op.Reach.TheVariants as reach
-use Rattle.cs_ir.specs.declared.step.Step.{Step}
 use Rattle.cs_ir.specs.declared.step.Step.TheVariants as step
-use Rattle.cs_ir.specs.declared.touches.Touch.{Touch}
+use Rattle.cs_ir.specs.declared.touches.Access as code
+use Rattle.cs_ir.specs.declared.touches.Access.TheVariants as access
 use Rattle.cs_ir.specs.declared.touches.Touch.TheVariants as touch
+
+abbrev pub access_of : code.Access → Access
+access_of access.Use = may_use
+access_of access.Write = may_write
+
+-- what is kept of what ops touch
+abbrev pub kept : Access → Touches → List Touch
+kept may_use t = t.used.items
+kept may_write t = t.written.items
 
 -- what is touched within a reach, where anything is within it
 abbrev pub within : Reach → Touch → Option Touch

@@ -1,11 +1,8 @@
 -- How far the registers of a routine reach where it is invoked.
-use Rattle.std.specs.Prelude.{ℕ, zero, suc, ◌+◌, max, List, [], ◌∷◌}
+use Rattle.std.specs.Prelude.{ℕ, zero, suc, ◌+◌, List}
 use Rattle.cs_ir.specs.Flat.{begin_of, ops_at, window_of}
-use Rattle.cs_ir.specs.Limits.{op_limit, ops_limit}
-use Rattle.cs_ir.specs.declared.op.Op.{Op}
-use Rattle.cs_ir.specs.declared.register.Kind.{Kind}
-use Rattle.cs_ir.specs.declared.step.Call.{Call}
-use Rattle.cs_ir.specs.declared.step.Step.{Step}
+use Rattle.cs_ir.specs.{Limits.op_limit, Limits.ops_limit, Registers.most, declared.op.Op.Op}
+use Rattle.cs_ir.specs.{declared.register.Kind.Kind, declared.step.Call.Call, declared.step.Step.Step}
 use Rattle.cs_ir.specs.declared.step.Step.TheVariants as step
 
 -- where registers end that begin at a number, by where their own numbers end: at 0 where there are none
@@ -23,5 +20,4 @@ step_limit routines k (step.Invoke c) = call_limit routines k c
 
 -- where the registers of a kind end that steps name, those of routines too
 abbrev pub steps_limit : List (List Op) → Kind → List Step → ℕ
-steps_limit routines k [] = 0
-steps_limit routines k (s ∷ steps) = max (step_limit routines k s) (steps_limit routines k steps)
+steps_limit routines k steps = most (step_limit routines k) steps

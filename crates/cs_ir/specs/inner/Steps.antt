@@ -1,7 +1,6 @@
 -- Steps of a draft as jumps are aimed.
 use Rattle.std.specs.Prelude.{ℕ, zero, suc, List, [], ◌∷◌}
-use Rattle.cs_ir.specs.Codes.{aimed}
-use Rattle.cs_ir.specs.declared.step.Step.{Step}
+use Rattle.cs_ir.specs.{Codes.aimed, declared.step.Step.Step}
 use Rattle.cs_ir.specs.declared.step.Step.TheVariants as step
 
 -- a step of which the jump, if it is one, goes to another step

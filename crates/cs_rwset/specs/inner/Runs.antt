@@ -1,19 +1,13 @@
 -- Where the areas of what has numbers lie side by side.
-use Rattle.std.specs.Prelude.{ℕ, ◌≡◌, ◌+◌, ◌<◌, ◌≤◌, Bool, true, false, List, length, slice_get, Option, Some}
-use Rattle.std.specs.Prelude.{IfNone, IfSome, is_some}
-use Rattle.cs_base.specs.Limits.{most_resources}
-use Rattle.cs_base.specs.declared.resource.Res.{Res}
-use Rattle.cs_cells.specs.Areas.{HasPlace}
-use Rattle.cs_cells.specs.declared.footprint.Area.{Area}
-use Rattle.cs_ir.specs.Resources.{places_of, zak_place}
-use Rattle.cs_ir.specs.declared.op.Reach.TheVariants as reach
-use Rattle.cs_rwset.specs.Footprints.{stock_of}
-use Rattle.cs_ir.specs.declared.touches.Touch.{Touch}
-use Rattle.cs_ir.specs.declared.touches.Touch.TheVariants as touch
-use Rattle.cs_rwset.specs.declared.runs.Run.{Run}
-use Rattle.cs_rwset.specs.declared.runs.Runs.{Runs}
-use Rattle.cs_ir.specs.Touched.{covers}
+use Rattle.std.specs.Prelude.{ℕ, ◌≡◌, ◌+◌, ◌<◌, ◌≤◌, Bool, true, false, List, length, slice_get, Option, Some, IfNone}
+use Rattle.std.specs.Prelude.{IfSome, is_some}
+use Rattle.cs_base.specs.{Limits.most_resources, declared.resource.Res.Res}
+use Rattle.cs_cells.specs.{Areas.HasPlace, declared.footprint.Area.Area}
+use Rattle.cs_ir.specs.{Resources.places_of, Resources.zak_place, declared.touches.Touch.Touch, Touched.covers}
+use Rattle.cs_rwset.specs.{Footprints.stock_of, declared.runs.Run.Run, declared.runs.Runs.Runs}
 use Rattle.cs_words.specs.declared.catalogue.Space.{Space}
+use Rattle.cs_ir.specs.declared.op.Reach.TheVariants as reach
+use Rattle.cs_ir.specs.declared.touches.Touch.TheVariants as touch
 use Rattle.cs_words.specs.declared.catalogue.Space.TheVariants as space
 
 -- what is found is what it should be, and where nothing is found there is nothing

@@ -1,14 +1,10 @@
 -- Zones as they are made: where they begin, and what comes of areas and of marks.
 use Rattle.std.specs.Prelude.{ℕ, ◌≡◌, ◌+◌, ◌<◌, ◌≤◌, suc, Bool, true, false, List, [], ◌∷◌, drop, length}
-use Rattle.std.specs.Prelude.{slice_index_or, if◌then◌else◌}
-use Rattle.std.specs.List.{All}
+use Rattle.std.specs.{Prelude.slice_index_or, Prelude.if◌then◌else◌, List.All}
 use Rattle.cs_base.specs.Limits.{most_resources}
 use Rattle.cs_cells.specs.declared.footprint.Area.{Area}
-use Rattle.cs_ir.specs.Resources.{ops_use, ops_write}
-use Rattle.cs_ir.specs.declared.op.Code.{Code}
-use Rattle.cs_rwset.specs.Footprints.{stock_of}
-use Rattle.cs_rwset.specs.declared.code.Marks.{Marks}
-use Rattle.cs_rwset.specs.inner.Marks.{marks_of}
+use Rattle.cs_ir.specs.{Resources.ops_use, Resources.ops_write, declared.op.Code.Code}
+use Rattle.cs_rwset.specs.{Footprints.stock_of, declared.code.Marks.Marks, inner.Marks.marks_of}
 
 -- an area and the one behind it, as one
 abbrev pub joined : Area → Area → Area

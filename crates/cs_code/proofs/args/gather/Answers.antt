@@ -1,11 +1,9 @@
 use Rattle.std.proofs.Common.{◌≡◌, ◌∙◌, ◌+◌, ◌++◌, ◌∷◌, [], List, drop, arith, ap, sym}
 use Rattle.std.proofs.lemmas.List.{drop_all}
 use Rattle.cs_typed.specs.TypedTree.{Expression, expression}
-use Rattle.cs_code.specs.inner.Code.{operand_code, operands_code}
+use Rattle.cs_code.specs.{inner.Code.operand_code, inner.Code.operands_code, inner.Kept.past_all}
 use Rattle.cs_code.specs.inner.Emitted.{expressions_of, when_of}
-use Rattle.cs_code.specs.inner.Kept.{past_all}
-use Rattle.cs_code.proofs.Growing.{leads_end, leads_on}
-use Rattle.cs_code.proofs.Lists.{operands_more, spots_more, dropped}
+use Rattle.cs_code.proofs.{Growing.leads_end, Growing.leads_on, Lists.operands_more, Lists.spots_more, Lists.dropped}
 use Rattle.cs_code.proofs.args.gather.Goals as goal
 
 pub loop-e-preserved : goal.loop-e-preserved

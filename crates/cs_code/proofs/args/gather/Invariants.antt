@@ -1,8 +1,6 @@
 use Rattle.std.proofs.Common.{◌≡◌, ◌++◌, drop}
-use Rattle.cs_code.specs.inner.Code.{operands_code}
+use Rattle.cs_code.specs.{inner.Code.operands_code, inner.Kept.past_all, inner.Spots.spots}
 use Rattle.cs_code.specs.inner.Emitted.{expressions_of, when_of}
-use Rattle.cs_code.specs.inner.Kept.{past_all}
-use Rattle.cs_code.specs.inner.Spots.{spots}
 use Rattle.cs_code.proofs.Growing.{Leads}
 use Rattle.cs_code.proofs.args.gather.Given as goal
 

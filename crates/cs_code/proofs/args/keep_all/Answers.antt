@@ -2,10 +2,8 @@ use Rattle.std.proofs.Common.{◌≡◌, ◌∙◌, ◌+◌, ◌∷◌, List, dr
 use Rattle.std.proofs.lemmas.List.{drop_all}
 use Rattle.cs_typed.specs.TypedTree.{Expression, expression}
 use Rattle.cs_code.specs.inner.Code.{keep_all_code, keep_code}
-use Rattle.cs_code.specs.inner.Emitted.{expressions_of}
-use Rattle.cs_code.specs.inner.Kept.{past_all}
-use Rattle.cs_code.proofs.Growing.{leads_end, leads_on}
-use Rattle.cs_code.proofs.Lists.{keep_more, dropped}
+use Rattle.cs_code.specs.{inner.Emitted.expressions_of, inner.Kept.past_all}
+use Rattle.cs_code.proofs.{Growing.leads_end, Growing.leads_on, Lists.keep_more, Lists.dropped}
 use Rattle.cs_code.proofs.args.keep_all.Goals as goal
 
 pub loop-e-preserved : goal.loop-e-preserved

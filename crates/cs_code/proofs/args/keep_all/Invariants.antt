@@ -1,7 +1,5 @@
 use Rattle.std.proofs.Common.{◌≡◌, drop}
-use Rattle.cs_code.specs.inner.Code.{keep_all_code}
-use Rattle.cs_code.specs.inner.Emitted.{expressions_of}
-use Rattle.cs_code.specs.inner.Kept.{past_all}
+use Rattle.cs_code.specs.{inner.Code.keep_all_code, inner.Emitted.expressions_of, inner.Kept.past_all}
 use Rattle.cs_code.proofs.Growing.{Leads}
 use Rattle.cs_code.proofs.args.keep_all.Given as goal
 

@@ -1,9 +1,8 @@
 use Rattle.std.proofs.Common.{◌≡◌, ◌∙◌, length, sym, subst, ap, IfOk, OnOk}
 use Rattle.cs_ir.specs.Drafts.{Grew, drafted}
 use Rattle.cs_words.specs.Catalogue.{row_of}
-use Rattle.cs_code.specs.inner.Code.{pass_code}
+use Rattle.cs_code.specs.{inner.Code.pass_code, inner.Kept.past_stmt}
 use Rattle.cs_code.specs.inner.Emitted.{assignment_of, arguments_of}
-use Rattle.cs_code.specs.inner.Kept.{past_stmt}
 use Rattle.cs_code.proofs.Calls.{call_alone, call_assigned, call_effect}
 use Rattle.cs_code.proofs.call.call.Goals as goal
 

@@ -1,8 +1,7 @@
 use Rattle.std.proofs.Common.{◌≡◌, ◌∙◌, rules}
 use Rattle.cs_typed.specs.TypedTree.{expression, pair, pick}
 use Rattle.cs_code.specs.inner.Emitted.{when_of}
-use Rattle.cs_code.proofs.Growing.{on_any}
-use Rattle.cs_code.proofs.Nodes.{made_pair, made_pick}
+use Rattle.cs_code.proofs.{Growing.on_any, Nodes.made_pair, Nodes.made_pick}
 use Rattle.cs_code.proofs.expr.+expr.Goals as goal
 
 pub own-returns-in_ok-push-in-Pair-clause-ops : goal.own-returns-in_ok-push-in-Pair-clause-ops

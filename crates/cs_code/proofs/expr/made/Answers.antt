@@ -1,10 +1,9 @@
 use Rattle.std.proofs.Common.{◌≡◌, ap}
-use Rattle.cs_base.specs.declared.resource.Rate.TheVariants as rate
 use Rattle.cs_typed.specs.TypedTree.{expression, pair, var}
-use Rattle.cs_words.specs.declared.sign.BinOp.TheVariants as op
 use Rattle.cs_code.specs.inner.Emitted.{value_of, when_of}
-use Rattle.cs_code.proofs.Growing.{on_any}
-use Rattle.cs_code.proofs.Nodes.{made_pair}
+use Rattle.cs_code.proofs.{Growing.on_any, Nodes.made_pair}
+use Rattle.cs_base.specs.declared.resource.Rate.TheVariants as rate
+use Rattle.cs_words.specs.declared.sign.BinOp.TheVariants as op
 use Rattle.cs_code.proofs.expr.made.Goals as goal
 
 pub returns-in_ok-push-in-Mixed-clause-ops : goal.returns-in_ok-push-in-Mixed-clause-ops

@@ -2,12 +2,11 @@ use Rattle.std.proofs.Common.{◌≡◌, ◌∙◌, ◌++◌, [], ◌∷◌, fal
 use Rattle.cs_base.specs.Rates.{same_rate}
 use Rattle.cs_ir.proofs.Drafting.{grew_on}
 use Rattle.cs_ir.specs.Drafts.{Grew}
-use Rattle.cs_ir.specs.declared.op.Act.TheVariants as act
 use Rattle.cs_meaning.specs.Notes.{reg}
 use Rattle.cs_typed.specs.WellRated.{node_rate}
-use Rattle.cs_code.specs.inner.Code.{code, operand_code}
+use Rattle.cs_code.specs.{inner.Code.code, inner.Code.operand_code, inner.Spots.op_of, inner.Spots.spot}
 use Rattle.cs_code.specs.inner.Emitted.{value_of, when_of}
-use Rattle.cs_code.specs.inner.Spots.{op_of, spot}
+use Rattle.cs_ir.specs.declared.op.Act.TheVariants as act
 use Rattle.cs_code.proofs.expr.set_local.Goals as goal
 
 pub returns-in_ok-push-clause-ops : goal.returns-in_ok-push-clause-ops

@@ -1,10 +1,9 @@
 use Rattle.std.proofs.Common.{map, take, sym, subst}
 use Rattle.std.specs.List.{All, AllZip}
-use Rattle.cs_typed.specs.Places.{inside}
-use Rattle.cs_typed.specs.TypedTree as typed
-use Rattle.cs_typed.specs.WellRated.{IsRatedBlock}
+use Rattle.cs_typed.specs.{Places.inside, WellRated.IsRatedBlock}
 use Rattle.cs_code.specs.Lowered.{IsNumberedCode, bodies}
 use Rattle.cs_code.proofs.Instruments.{at_instrument, bodies_more}
+use Rattle.cs_typed.specs.TypedTree as typed
 use Rattle.cs_code.proofs.orchestra.in_text.Goals as goal
 
 pub add_instr-requires-clause-rated : goal.add_instr-requires-clause-rated

@@ -2,14 +2,10 @@ use Rattle.std.proofs.Common.{◌≡◌, ◌∙◌, ◌+◌, ◌++◌, ◌∷◌
 use Rattle.std.proofs.lemmas.List.{drop_all, length-append}
 use Rattle.cs_ir.proofs.Libraries.{one_more_routine}
 use Rattle.cs_ir.specs.Routines.{AreRoutines, IsRoutineOf, library_in, ops_in}
-use Rattle.cs_typed.specs.TypedTree as typed
-use Rattle.cs_code.specs.inner.Code.{pass_block_code}
+use Rattle.cs_code.specs.{inner.Code.pass_block_code, inner.Kept.past_block, inner.Kept.start, inner.Served.Serve}
 use Rattle.cs_code.specs.inner.Emitted.{block_in, scope_of}
-use Rattle.cs_code.specs.inner.Kept.{past_block, start}
-use Rattle.cs_code.specs.inner.Served.{Serve}
-use Rattle.cs_code.proofs.Growing.{serve_as}
-use Rattle.cs_code.proofs.Lists.{dropped}
-use Rattle.cs_code.proofs.Invoked.{serve_more}
+use Rattle.cs_code.proofs.{Growing.serve_as, Lists.dropped, Invoked.serve_more}
+use Rattle.cs_typed.specs.TypedTree as typed
 use Rattle.cs_code.proofs.routines.add_routines.Goals as goal
 
 pub code_of-requires-clause-are : goal.code_of-requires-clause-are

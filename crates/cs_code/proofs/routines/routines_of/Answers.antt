@@ -1,9 +1,8 @@
 use Rattle.std.proofs.Common.{◌≤◌, ◌^◌, [], length, arith, sym, ap, subst}
 use Rattle.std.specs.Global.{Vec}
-use Rattle.cs_ir.specs.Routines.{AreRoutines, library_in}
-use Rattle.cs_ir.specs.declared.routine.Routine.{Routine}
-use Rattle.cs_typed.specs.TypedTree as typed
+use Rattle.cs_ir.specs.{Routines.AreRoutines, Routines.library_in, declared.routine.Routine.Routine}
 use Rattle.cs_code.specs.inner.Served.{Serve}
+use Rattle.cs_typed.specs.TypedTree as typed
 use Rattle.cs_code.proofs.routines.routines_of.Goals as goal
 
 pub add_routines-requires-clause-are : goal.add_routines-requires-clause-are

@@ -1,7 +1,6 @@
 use Rattle.std.proofs.Common.{arith, drop}
 use Rattle.std.proofs.lemmas.List.{drop_all}
-use Rattle.cs_code.proofs.Growing.{leads_end}
-use Rattle.cs_code.proofs.Outs.{out_at_end, out_at_number, out_at_value}
+use Rattle.cs_code.proofs.{Growing.leads_end, Outs.out_at_end, Outs.out_at_number, Outs.out_at_value}
 use Rattle.cs_code.proofs.simple.out_at_ops.Goals.{in-None, in-Some+in_ok-push-in-Some}
 use Rattle.cs_code.proofs.simple.out_at_ops.Goals as goal
 

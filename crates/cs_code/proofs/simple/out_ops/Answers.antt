@@ -1,8 +1,7 @@
 use Rattle.std.proofs.Common.{◌+◌, arith, ap}
 use Rattle.std.proofs.lemmas.List.{drop_all}
 use Rattle.cs_code.specs.inner.Code.{out_ops}
-use Rattle.cs_code.proofs.Growing.{leads_end}
-use Rattle.cs_code.proofs.Outs.{out_more}
+use Rattle.cs_code.proofs.{Growing.leads_end, Outs.out_more}
 use Rattle.cs_code.proofs.simple.out_ops.Goals as goal
 
 pub loop-reg-preserved : goal.loop-reg-preserved

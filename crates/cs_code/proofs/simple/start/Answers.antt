@@ -1,9 +1,8 @@
 use Rattle.std.proofs.Common.{◌∙◌, ap, subst}
 use Rattle.cs_ir.specs.Drafts.{Grew}
-use Rattle.cs_ir.specs.declared.op.Act.TheVariants as act
 use Rattle.cs_meaning.specs.When.{beginning}
-use Rattle.cs_code.specs.inner.Code.{on_code}
-use Rattle.cs_code.specs.inner.Emitted.{expressions_of, when_of}
+use Rattle.cs_code.specs.{inner.Code.on_code, inner.Emitted.expressions_of, inner.Emitted.when_of}
+use Rattle.cs_ir.specs.declared.op.Act.TheVariants as act
 use Rattle.cs_code.proofs.simple.start.Goals as goal
 
 pub returns : goal.returns

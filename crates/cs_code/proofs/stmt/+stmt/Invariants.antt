@@ -1,14 +1,12 @@
 use Rattle.std.proofs.Common.{◌≡◌, ◌+◌, ◌*◌, ◌++◌, ℕ, List, drop, length}
 use Rattle.std.specs.List.{AllZip}
 use Rattle.cs_ir.specs.Drafts.{IsAt, drafted, library_of}
-use Rattle.cs_typed.specs.TypedTree as typed
 use Rattle.cs_code.specs.inner.Branches.{branches, each_code, jumps, opened, past_list}
-use Rattle.cs_code.specs.inner.Code.{pass_block_code}
+use Rattle.cs_code.specs.{inner.Code.pass_block_code, inner.Kept.past_block, inner.Served.Serve}
 use Rattle.cs_code.specs.inner.Emitted.{block_in, scope_of}
-use Rattle.cs_code.specs.inner.Kept.{past_block}
-use Rattle.cs_code.specs.inner.Served.{Serve}
 use Rattle.cs_code.proofs.Growing.{Leads}
 use Rattle.cs_code.proofs.Weights.{all_weight, body_weight, list_weight, one_weight}
+use Rattle.cs_typed.specs.TypedTree as typed
 use Rattle.cs_code.proofs.stmt.+stmt.Given as goal
 
 -- what is made, and what the rest will make

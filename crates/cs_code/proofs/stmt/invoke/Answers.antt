@@ -4,29 +4,29 @@ use Rattle.cs_ir.specs.Drafts.{Grew, drafted, library_of}
 use Rattle.cs_code.proofs.Invoked.{invoked_code, invoked_past, nothing_invoked, nothing_past}
 use Rattle.cs_code.proofs.stmt.invoke.Goals as goal
 
-pub returns-clause-ops : goal.returns-clause-ops
-returns-clause-ops c = λ rs serve.
+pub returns : goal.returns
+returns c = λ rs serve.
     let old = c.args.ops.now in
-    subst (Grew old c.invoke.new.self)
-    (invoked_code c.args.context.pass c.args.context.spaces rs (library_of old) c.args.extents.now serve c.args.number
-    (length (drafted old)) c.args.p c.args.base _ c.in_ok-narrow.ensures c.in_ok-narrowed.ensures refl refl)
-    c.in_ok-invoke.ensures
+    record {
+      ops = subst (Grew old c.invoke.new.self)
+          (invoked_code c.args.context.pass c.args.context.spaces rs (library_of old) c.args.extents.now serve
+          c.args.number (length (drafted old)) c.args.p c.args.base _ c.in_ok-narrow.ensures c.in_ok-narrowed.ensures
+          refl refl)
+          c.in_ok-invoke.ensures;
+      next = invoked_past c.args.context.pass c.args.context.spaces rs (library_of old) c.args.extents.now serve
+          c.args.number c.args.p c.in-Some.extent.now _ c.args.base c.in-Some.ensures.lookup.0
+          c.in-Some.ensures.lookup.1
+          (ap₂ (λ n m. record { part = n; unit = m }) c.in_ok-add.ensures c.in_ok-add-2.ensures);
+    }
 
-pub returns-clause-next : goal.returns-clause-next
-returns-clause-next c = λ rs serve.
-    invoked_past c.args.context.pass c.args.context.spaces rs (library_of c.args.ops.now) c.args.extents.now serve
-    c.args.number c.args.p c.in-Some.extent.now _ c.args.base c.in-Some.ensures.lookup.0 c.in-Some.ensures.lookup.1
-    (ap₂ (λ n m. record { part = n; unit = m }) c.in_ok-add.ensures c.in_ok-add-2.ensures)
-
-pub returns-in_default-clause-ops : goal.returns-in_default-clause-ops
-returns-in_default-clause-ops c = λ rs serve.
+pub returns-in_default : goal.returns-in_default
+returns-in_default c = λ rs serve.
     let old = c.args.ops.now in
-    subst (Grew old old)
-    (sym (nothing_invoked c.args.context.pass c.args.context.spaces rs (library_of old) c.args.extents.now serve
-    c.args.number (length (drafted old)) c.args.p c.args.base c.in_default.ensures.lookup.0))
-    (grew_none old)
-
-pub returns-in_default-clause-next : goal.returns-in_default-clause-next
-returns-in_default-clause-next c = λ rs serve.
-    sym (nothing_past c.args.context.pass c.args.context.spaces rs (library_of c.args.ops.now) c.args.extents.now serve
-    c.args.number c.args.p c.args.base c.in_default.ensures.lookup.0)
+    record {
+      ops = subst (Grew old old)
+          (sym (nothing_invoked c.args.context.pass c.args.context.spaces rs (library_of old) c.args.extents.now serve
+          c.args.number (length (drafted old)) c.args.p c.args.base c.in_default.ensures.lookup.0))
+          (grew_none old);
+      next = sym (nothing_past c.args.context.pass c.args.context.spaces rs (library_of old) c.args.extents.now serve
+          c.args.number c.args.p c.args.base c.in_default.ensures.lookup.0);
+    }

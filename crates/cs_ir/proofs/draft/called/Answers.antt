@@ -1,17 +1,14 @@
 use Rattle.std.proofs.Common.{◌≡◌, ◌∙◌, ◌<◌, ap, arith, eqb-true, length, ltb-true, sym, List}
-use Rattle.std.proofs.lemmas.List.{nil_from_length}
+use Rattle.std.proofs.lemmas.{Bool.ltb-false, List.nil_from_length}
 use Rattle.cs_ir.proofs.Libraries.{called_once, found, routine_empty, routine_none}
-use Rattle.cs_ir.proofs.Reading.{past_end}
 use Rattle.cs_ir.specs.Flat.{further, moved_ops, ops_at, window_of}
-use Rattle.cs_ir.specs.Routines.{library_in}
-use Rattle.cs_ir.specs.declared.op.Op.{Op}
-use Rattle.cs_ir.specs.declared.routine.Routine.{Routine}
+use Rattle.cs_ir.specs.{Routines.library_in, declared.op.Op.Op, declared.routine.Routine.Routine}
 use Rattle.cs_ir.proofs.draft.called.Goals as goal
 
 pub returns-in_default-clause-none : goal.returns-in_default-clause-none
 returns-in_default-clause-none c = λ e.
     routine_none c.args.routines.now c.args.call.routine
-    (past_end c.args.call.routine (length c.args.routines.now) (sym c.in_default.ensures.lookup.0))
+    (ltb-false c.args.call.routine (length c.args.routines.now) (sym c.in_default.ensures.lookup.0))
 
 pub returns-then-is_empty-clause-none : goal.returns-then-is_empty-clause-none
 returns-then-is_empty-clause-none c = λ e.

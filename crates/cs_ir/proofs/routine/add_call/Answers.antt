@@ -1,8 +1,6 @@
-use Rattle.std.proofs.Common.{◌∙◌, ap, length, max, sym}
-use Rattle.std.proofs.lemmas.Result.{on_ok_weaker}
-use Rattle.cs_ir.proofs.Libraries.{found}
-use Rattle.cs_ir.proofs.Reaching.{call_missing, call_there, max_none}
-use Rattle.cs_ir.proofs.Reading.{past_end}
+use Rattle.std.proofs.Common.{◌∙◌, ap, arith, length, max, sym}
+use Rattle.std.proofs.lemmas.{Bool.ltb-false, Result.on_ok_weaker}
+use Rattle.cs_ir.proofs.{Libraries.found, Reaching.call_missing, Reaching.call_there}
 use Rattle.cs_ir.specs.Registers.{at_kind}
 use Rattle.cs_ir.proofs.routine.add_call.Goals as goal
 
@@ -16,6 +14,6 @@ returns-in-Some c = let h = c.in-Some.ensures.lookup in
 
 pub returns-in-None : goal.returns-in-None
 returns-in-None c = λ k.
-    sym (max_none (at_kind c.args.limits.now k)) ∙ ap (max (at_kind c.args.limits.now k))
-    (sym (call_missing c.args.routines.now k c.args.call.now (past_end c.args.call.now.routine
-    (length c.args.routines.now) (sym c.in-None.ensures.lookup.0))))
+    let none = call_missing c.args.routines.now k c.args.call.now
+    (ltb-false c.args.call.now.routine (length c.args.routines.now) (sym c.in-None.ensures.lookup.0)) in
+    omega (arith, none)

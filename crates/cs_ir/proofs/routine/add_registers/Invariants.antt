@@ -1,6 +1,5 @@
 use Rattle.std.proofs.Common.{◌≡◌, max, take}
-use Rattle.cs_ir.specs.Registers.{at_kind, regs_limit}
-use Rattle.cs_ir.specs.declared.register.Kind.{Kind}
+use Rattle.cs_ir.specs.{Registers.at_kind, Registers.regs_limit, declared.register.Kind.Kind}
 use Rattle.cs_ir.proofs.routine.add_registers.Given as goal
 
 abbrev pub invariant-loop-register : goal.invariant-loop-register

@@ -1,18 +1,18 @@
-use Rattle.std.proofs.Common.{◌∙◌, ap, arith, max, sym, List}
+use Rattle.std.proofs.Common.{◌∙◌, ap, arith, sym, List}
 use Rattle.std.proofs.lemmas.List.{take_all}
-use Rattle.cs_ir.proofs.Reaching.{limit_next, steps_end}
-use Rattle.cs_ir.specs.Routines.{library_in}
-use Rattle.cs_ir.specs.declared.op.Op.{Op}
-use Rattle.cs_ir.specs.inner.Reaching.{step_limit, steps_limit}
+use Rattle.cs_ir.proofs.Reaching.{most_next, steps_end}
+use Rattle.cs_ir.specs.{Routines.library_in, declared.op.Op.Op, inner.Reaching.step_limit, inner.Reaching.steps_limit}
 use Rattle.cs_ir.proofs.routine.limits_of.Goals as goal
 
 pub loop-step-preserved : goal.loop-step-preserved
 loop-step-preserved c = λ k.
-    let rs : List (List Op) = library_in c.args.routines.now in
-    let i = c.loop-step.step-index in
-    c.in_ok-add_step.ensures k
-    ∙ ap (λ n. max n (step_limit rs k c.step-item.result)) (c.loop-step.invariant k)
-    ∙ limit_next rs k c.args.steps.now i c.step-item.result (omega (arith, c.loop-step-test.true)) c.step-item.is
+    let reaches = step_limit (library_in c.args.routines.now) k in
+    let more = c.in_ok-add_step.ensures k in
+    let so_far = c.loop-step.invariant k in
+    let here = ap reaches c.step-item.is in
+    let next = most_next reaches c.args.steps.now c.loop-step.step-index c.step-item.result
+    (omega (arith, c.loop-step-test.true)) in
+    omega (arith, more, so_far, here, next)
 
 pub returns : goal.returns
 returns c = λ k.

@@ -1,7 +1,6 @@
 use Rattle.std.proofs.Common.{◌≡◌, ◌∙◌, [], ap, if◌then◌else◌, rules, sym, true}
 use Rattle.cs_words.specs.Catalogue.{takes_table}
-use Rattle.cs_ir.specs.Resources.{tables_within}
-use Rattle.cs_ir.specs.Touched.{named_by}
+use Rattle.cs_ir.specs.{Resources.tables_within, Touched.named_by}
 use Rattle.cs_ir.proofs.Naming.{tables_named}
 use Rattle.cs_ir.proofs.touches.unit_touch.Goals as goal
 

@@ -1,8 +1,7 @@
 use Rattle.std.proofs.Common.{◌∙◌, ap, rules, sym}
-use Rattle.cs_words.specs.declared.catalogue.Space.TheVariants as space
-use Rattle.cs_ir.specs.Resources.{shape_uses}
-use Rattle.cs_ir.specs.Touched.{named_by}
+use Rattle.cs_ir.specs.{Resources.shape_uses, Touched.named_by}
 use Rattle.cs_ir.proofs.Naming.{places_named}
+use Rattle.cs_words.specs.declared.catalogue.Space.TheVariants as space
 use Rattle.cs_ir.proofs.touches.zak_touch.Goals as goal
 
 pub returns-in-ZakMix : goal.returns-in-ZakMix

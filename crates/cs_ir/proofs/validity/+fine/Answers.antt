@@ -1,61 +1,56 @@
-use Rattle.std.proofs.Common.{◌*◌, ◌≡◌, ◌∙◌, ◌+◌, ◌<◌, ◌≤◌, Some, ap, arith, length, ltb-true, refl, slice_get}
-use Rattle.std.proofs.Common.{subst, sym, take}
-use Rattle.std.proofs.lemmas.List.{length-take-le}
-use Rattle.std.proofs.lemmas.Option.{slice_get_read}
+use Rattle.std.proofs.Common.{◌*◌, ◌≡◌, ◌∙◌, ◌+◌, ◌<◌, ◌≤◌, Some, ap, arith, length, ltb-true, refl, slice_get, subst}
+use Rattle.std.proofs.Common.{sym, take}
+use Rattle.std.proofs.lemmas.{Bool.ltb-false, List.length-take-le, Option.slice_get_read}
 use Rattle.cs_ir.specs.Flat.{flat, further, moved_ops, ops_at, window_of}
-use Rattle.cs_ir.specs.Routines.{library_in}
-use Rattle.cs_ir.specs.Validity.{fine_from}
+use Rattle.cs_ir.specs.{Routines.library_in, Validity.fine_from}
+use Rattle.cs_ir.proofs.FineSteps.{IsTurn, call_turn, op_turn, passed, passed_all, passed_none, stopped}
+use Rattle.cs_ir.proofs.{Libraries.routine_at, Libraries.routine_none, Lows.room_in}
+use Rattle.cs_ir.proofs.validity.+fine.Goals.{are_fine-in-Do, are_fine-in-Invoke}
 use Rattle.cs_ir.specs.declared.step.Step.TheVariants as step
-use Rattle.cs_ir.proofs.FineSteps.{call_passed, call_stopped, op_passed, op_stopped, passed_all, passed_none}
-use Rattle.cs_ir.proofs.Libraries.{routine_at, routine_none}
-use Rattle.cs_ir.proofs.Lows.{room_in}
-use Rattle.cs_ir.proofs.Reading.{past_end}
-use Rattle.cs_ir.proofs.validity.+fine.Goals.{are_fine-in-Do+else-not-is_fine}
-use Rattle.cs_ir.proofs.validity.+fine.Goals.{are_fine-in-Invoke+else-not-is_call_fine}
 use Rattle.cs_ir.proofs.validity.+fine.Goals as goal
 
 pub are_fine-loop-at-init : goal.are_fine-loop-at-init
 are_fine-loop-at-init t c =
     passed_none (library_in c.args.routines.now) c.args.steps.now c.args.window.now c.args.counts.now
 
-pub are_fine-is_fine-requires : goal.are_fine-is_fine-requires
-are_fine-is_fine-requires t c = room_in (length c.args.routines.now) c.args.window.now c.requires
+pub are_fine-is_fine-fine-requires : goal.are_fine-is_fine-fine-requires
+are_fine-is_fine-fine-requires t c = room_in (length c.args.routines.now) c.args.window.now c.requires
 
-pub are_fine-returns-then-not-is_fine : goal.are_fine-returns-then-not-is_fine
-are_fine-returns-then-not-is_fine t c =
+pub are_fine-returns-then-not-fine : goal.are_fine-returns-then-not-fine
+are_fine-returns-then-not-fine t c =
+    let rs = library_in c.args.routines.now in
     let ss = c.args.steps.now in
-    let i = c.loop-at.at in
-    let there : slice_get ss i ≡ Some (step.Do c.in-Do.op) =
-    slice_get_read ss (length ss) i c.index-steps-at.result refl c.loop-at-test.true c.index-steps-at.is
-    ∙ ap Some c.in-Do.is in
-    op_stopped (library_in c.args.routines.now) ss c.args.window.now c.args.counts.now i c.loop-at.invariant c.in-Do.op
-    there (sym c.is_fine.ensures ∙ c.if-not-is_fine.true)
-
-pub are_fine-returns-then-not-is_call_fine : goal.are_fine-returns-then-not-is_call_fine
-are_fine-returns-then-not-is_call_fine t c =
-    let ss = c.args.steps.now in
-    let i = c.loop-at.at in
-    let there : slice_get ss i ≡ Some (step.Invoke c.in-Invoke.call) =
-    slice_get_read ss (length ss) i c.index-steps-at.result refl c.loop-at-test.true c.index-steps-at.is
-    ∙ ap Some c.in-Invoke.is in
-    call_stopped (library_in c.args.routines.now) ss c.args.window.now c.args.counts.now i c.loop-at.invariant
-    c.in-Invoke.call there c.is_call_fine.result c.is_call_fine.ensures c.if-not-is_call_fine.true
-
-pub are_fine-loop-at-preserved : goal.are_fine-loop-at-preserved
-are_fine-loop-at-preserved t c =
-    let ss = c.args.steps.now in
+    let w = c.args.window.now in
+    let counts = c.args.counts.now in
     let i = c.loop-at.at in
     let there : slice_get ss i ≡ Some c.index-steps-at.result =
     slice_get_read ss (length ss) i c.index-steps-at.result refl c.loop-at-test.true c.index-steps-at.is in
-    elim c.match-steps-at.branch [
-      | are_fine-in-Do+else-not-is_fine w ↦
-          op_passed (library_in c.args.routines.now) ss c.args.window.now c.args.counts.now i c.loop-at.invariant
-          w.in-Do.op (there ∙ ap Some w.in-Do.is) (sym w.is_fine.ensures ∙ w.if-not-is_fine.false)
-      | are_fine-in-Invoke+else-not-is_call_fine w ↦
-          call_passed (library_in c.args.routines.now) ss c.args.window.now c.args.counts.now i c.loop-at.invariant
-          w.in-Invoke.call (there ∙ ap Some w.in-Invoke.is) w.is_call_fine.result w.is_call_fine.ensures
-          w.if-not-is_call_fine.false
-    ]
+    let turn : IsTurn rs ss w counts i c.match-steps-at.fine = elim c.match-steps-at.branch [
+      | are_fine-in-Do b ↦ subst (IsTurn rs ss w counts i) (sym (b.fine-is ∙ b.is_fine-fine.ensures))
+          (op_turn rs ss w counts i b.in-Do.op (there ∙ ap Some b.in-Do.is))
+      | are_fine-in-Invoke b ↦ subst (IsTurn rs ss w counts i) (sym b.fine-is)
+          (call_turn rs ss w counts i b.in-Invoke.call b.is_call_fine-fine.result (there ∙ ap Some b.in-Invoke.is)
+          b.is_call_fine-fine.ensures)
+    ] in
+    stopped rs ss w counts i c.match-steps-at.fine c.loop-at.invariant turn c.if-not-fine.true
+
+pub are_fine-loop-at-preserved : goal.are_fine-loop-at-preserved
+are_fine-loop-at-preserved t c =
+    let rs = library_in c.args.routines.now in
+    let ss = c.args.steps.now in
+    let w = c.args.window.now in
+    let counts = c.args.counts.now in
+    let i = c.loop-at.at in
+    let there : slice_get ss i ≡ Some c.index-steps-at.result =
+    slice_get_read ss (length ss) i c.index-steps-at.result refl c.loop-at-test.true c.index-steps-at.is in
+    let turn : IsTurn rs ss w counts i c.match-steps-at.fine = elim c.match-steps-at.branch [
+      | are_fine-in-Do b ↦ subst (IsTurn rs ss w counts i) (sym (b.fine-is ∙ b.is_fine-fine.ensures))
+          (op_turn rs ss w counts i b.in-Do.op (there ∙ ap Some b.in-Do.is))
+      | are_fine-in-Invoke b ↦ subst (IsTurn rs ss w counts i) (sym b.fine-is)
+          (call_turn rs ss w counts i b.in-Invoke.call b.is_call_fine-fine.result (there ∙ ap Some b.in-Invoke.is)
+          b.is_call_fine-fine.ensures)
+    ] in
+    passed rs ss w counts i c.match-steps-at.fine c.loop-at.invariant turn c.if-not-fine.false
 
 pub are_fine-returns : goal.are_fine-returns
 are_fine-returns t c end place room =
@@ -99,4 +94,4 @@ is_call_fine-returns-in-None t c end place room =
     let h = c.in-None.ensures.lookup in
     sym (ap (λ ops. fine_from c.args.counts.now end place
     (moved_ops (further c.args.window.now (window_of c.args.call.now)) place ops))
-    (routine_none list n (past_end n (length list) (sym h.0))))
+    (routine_none list n (ltb-false n (length list) (sym h.0))))

@@ -1,8 +1,6 @@
 use Rattle.std.proofs.Common.{◌∙◌, [], ap, arith}
-use Rattle.cs_ir.specs.Resources.{ops_use, ops_write}
-use Rattle.cs_ir.specs.Touched.{named}
-use Rattle.cs_rwset.specs.Footprints.{stock_of}
-use Rattle.cs_rwset.specs.inner.Marks.{marks_of}
+use Rattle.cs_ir.specs.{Resources.ops_use, Resources.ops_write, Touched.named}
+use Rattle.cs_rwset.specs.{Footprints.stock_of, inner.Marks.marks_of}
 use Rattle.cs_rwset.proofs.Marking.{alike_marks, none_marked, rewritten}
 use Rattle.cs_rwset.proofs.code.marks_of.Goals as goal
 

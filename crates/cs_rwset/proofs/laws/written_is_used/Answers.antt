@@ -1,7 +1,6 @@
 use Rattle.cs_rwset.specs.Footprints.{stock_of}
 use Rattle.cs_ir.specs.Resources.{ops_use, ops_write}
-use Rattle.cs_rwset.proofs.Covering.{ops_written_is_used}
-use Rattle.cs_rwset.proofs.Placed.{places_of_more}
+use Rattle.cs_rwset.proofs.{Covering.ops_written_is_used, Placed.places_of_more}
 use Rattle.cs_rwset.proofs.laws.written_is_used.Goals as goal
 
 pub returns : goal.returns

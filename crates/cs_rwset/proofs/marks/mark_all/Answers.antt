@@ -1,8 +1,7 @@
 use Rattle.std.proofs.Common.{◌∙◌, ◌++◌, ap, arith, sym, take}
 use Rattle.std.proofs.lemmas.List.{append-nil, take_all}
 use Rattle.cs_ir.specs.Touched.{named}
-use Rattle.cs_rwset.specs.Footprints.{is_among, stock_of}
-use Rattle.cs_rwset.specs.inner.Marks.{marks_of}
+use Rattle.cs_rwset.specs.{Footprints.is_among, Footprints.stock_of, inner.Marks.marks_of}
 use Rattle.cs_rwset.proofs.Marking.{touch_marks, touch_step}
 use Rattle.cs_rwset.proofs.marks.mark_all.Goals as goal
 

@@ -1,8 +1,7 @@
 use Rattle.std.proofs.Common.{◌≡◌, ◌++◌, List, length, take}
 use Rattle.cs_base.specs.declared.resource.Res.{Res}
 use Rattle.cs_ir.specs.Touched.{named}
-use Rattle.cs_rwset.specs.Footprints.{stock_of}
-use Rattle.cs_rwset.specs.inner.Marks.{marks_of}
+use Rattle.cs_rwset.specs.{Footprints.stock_of, inner.Marks.marks_of}
 use Rattle.cs_rwset.proofs.marks.mark_all.Given as goal
 
 abbrev pub invariant-loop-touch : goal.invariant-loop-touch

@@ -1,8 +1,7 @@
 use Rattle.std.proofs.Common.{◌-◌, subst}
 use Rattle.std.specs.List.{All}
 use Rattle.std.proofs.lemmas.List.{take_all}
-use Rattle.cs_rwset.specs.declared.code.Marks.{Marks}
-use Rattle.cs_rwset.specs.inner.Zoning.{Stay}
+use Rattle.cs_rwset.specs.{declared.code.Marks.Marks, inner.Zoning.Stay}
 use Rattle.cs_rwset.proofs.ZoneSteps.{all_more}
 use Rattle.cs_rwset.proofs.zones.all_stay.Goals as goal
 

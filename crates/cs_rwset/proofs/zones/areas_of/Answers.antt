@@ -1,7 +1,6 @@
 use Rattle.std.proofs.Common.{◌≡◌, ◌+◌, ◌<◌, ◌++◌, [], ◌∷◌, drop, length, take, ap, sym, ◌∙◌, arith, get_or}
 use Rattle.std.proofs.lemmas.Option.{get_or_from_slice_get}
-use Rattle.cs_cells.specs.Areas.{word_count}
-use Rattle.cs_cells.specs.declared.footprint.Area.{Area}
+use Rattle.cs_cells.specs.{Areas.word_count, declared.footprint.Area.Area}
 use Rattle.cs_cells.proofs.Laid.{area_within}
 use Rattle.cs_rwset.specs.inner.Zoning.{zones_from}
 use Rattle.cs_rwset.proofs.ZoneSteps.{words_more, zone_begins, zone_goes_on}

@@ -1,8 +1,6 @@
 use Rattle.std.proofs.Common.{◌≡◌}
 use Rattle.cs_cells.specs.declared.footprint.Footprint.{Footprint}
-use Rattle.cs_rwset.specs.declared.code.Marks.{Marks}
-use Rattle.cs_rwset.specs.inner.Marks.{marked}
-use Rattle.cs_rwset.specs.inner.Zoning.{heads}
+use Rattle.cs_rwset.specs.{declared.code.Marks.Marks, inner.Marks.marked, inner.Zoning.heads}
 use Rattle.cs_rwset.proofs.ZoneSteps.{zip_more}
 use Rattle.cs_rwset.proofs.zones.feet_over.Goals as goal
 

@@ -1,9 +1,7 @@
 use Rattle.std.proofs.Common.{◌≡◌, take}
 use Rattle.std.specs.List.{AllZip}
 use Rattle.cs_cells.specs.declared.footprint.Footprint.{Footprint}
-use Rattle.cs_rwset.specs.declared.code.Marks.{Marks}
-use Rattle.cs_rwset.specs.inner.Marks.{marked}
-use Rattle.cs_rwset.specs.inner.Zoning.{heads}
+use Rattle.cs_rwset.specs.{declared.code.Marks.Marks, inner.Marks.marked, inner.Zoning.heads}
 use Rattle.cs_rwset.proofs.zones.feet_over.Given as goal
 
 abbrev pub invariant-loop-marks : goal.invariant-loop-marks

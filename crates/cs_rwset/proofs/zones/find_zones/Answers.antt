@@ -2,13 +2,10 @@ use Rattle.std.proofs.Common.{◌≡◌, ◌<◌, suc, false, get_or, length, ap
 use Rattle.std.specs.List.{All, AllZip}
 use Rattle.cs_cells.specs.declared.footprint.Footprint.{Footprint}
 use Rattle.cs_ir.specs.Instruments.{Numbered}
-use Rattle.cs_rwset.specs.Zones.{AreZones, IsFootOver}
-use Rattle.cs_rwset.specs.declared.code.Marks.{Marks}
-use Rattle.cs_rwset.specs.inner.Marks.{marked}
+use Rattle.cs_rwset.specs.{Zones.AreZones, Zones.IsFootOver, declared.code.Marks.Marks, inner.Marks.marked}
 use Rattle.cs_rwset.specs.inner.Zoning.{AreFew, AreMarksOf, Stay, heads, zones_of}
 use Rattle.cs_rwset.proofs.Footed.{few_areas, few_marks, marks_many, one_over}
-use Rattle.cs_rwset.proofs.ZoneSteps.{zip_all, zip_both}
-use Rattle.cs_rwset.proofs.ZonesLaid.{are_zones}
+use Rattle.cs_rwset.proofs.{ZoneSteps.zip_all, ZoneSteps.zip_both, ZonesLaid.are_zones}
 use Rattle.cs_rwset.proofs.zones.find_zones.Goals as goal
 
 pub begins_of-requires-clause-each : goal.begins_of-requires-clause-each

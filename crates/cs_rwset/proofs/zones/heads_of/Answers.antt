@@ -1,5 +1,4 @@
-use Rattle.std.proofs.Common.{◌+◌, ◌<◌, ◌≤◌, ◌++◌, [], ◌∷◌, drop, false, get_or, length, ap, ◌∙◌, arith}
-use Rattle.std.proofs.Common.{subst}
+use Rattle.std.proofs.Common.{◌+◌, ◌<◌, ◌≤◌, ◌++◌, [], ◌∷◌, drop, false, get_or, length, ap, ◌∙◌, arith, subst}
 use Rattle.std.proofs.lemmas.List.{length-append}
 use Rattle.cs_rwset.specs.inner.Zoning.{heads}
 use Rattle.cs_rwset.proofs.ZoneSteps.{head_passed, head_taken, heads_done, past_either}

@@ -1,7 +1,6 @@
 use Rattle.std.proofs.Common.{◌≡◌, get_or}
 use Rattle.cs_ir.specs.Instruments.{Numbered}
-use Rattle.cs_rwset.specs.declared.code.Marks.{Marks}
-use Rattle.cs_rwset.specs.inner.Zoning.{AreMarksOf}
+use Rattle.cs_rwset.specs.{declared.code.Marks.Marks, inner.Zoning.AreMarksOf}
 use Rattle.cs_rwset.proofs.ZoneSteps.{zip_more}
 use Rattle.cs_rwset.proofs.zones.marks_of_each.Goals as goal
 

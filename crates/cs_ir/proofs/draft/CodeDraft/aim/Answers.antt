@@ -1,10 +1,7 @@
 use Rattle.std.proofs.Common.{◌≡◌, ◌∙◌, ap, arith, length, map, subst, sym, true, List}
 use Rattle.cs_ir.proofs.Drafting.{aim_within, aimed_so, steps_stay}
 use Rattle.cs_ir.specs.Drafts.{Aimed, Draft}
-use Rattle.cs_ir.specs.Flat.{are_within}
-use Rattle.cs_ir.specs.Routines.{steps_of}
-use Rattle.cs_ir.specs.declared.step.Step.{Step}
-use Rattle.cs_ir.specs.inner.Steps.{aim_step}
+use Rattle.cs_ir.specs.{Flat.are_within, Routines.steps_of, declared.step.Step.Step, inner.Steps.aim_step}
 use Rattle.cs_ir.proofs.draft.CodeDraft.aim.Goals as goal
 
 pub invariant_of-self : goal.invariant_of-self

@@ -1,9 +1,7 @@
 use Rattle.std.proofs.Common.{◌≡◌, ap, subst, IfOk}
 use Rattle.std.proofs.lemmas.Result.{IfOk-weaker}
-use Rattle.cs_ir.specs.Drafts.{Draft, drafted, library_of}
-use Rattle.cs_ir.specs.Flat.{flat}
+use Rattle.cs_ir.specs.{Drafts.Draft, Drafts.drafted, Drafts.library_of, Flat.flat, declared.routine.Routine.Routine}
 use Rattle.cs_ir.specs.Routines.{IsRoutineOf, library_in, ops_in, steps_of}
-use Rattle.cs_ir.specs.declared.routine.Routine.{Routine}
 use Rattle.cs_ir.proofs.draft.CodeDraft.end.Goals as goal
 
 pub returns-clause-ops : goal.returns-clause-ops

@@ -1,10 +1,7 @@
 use Rattle.std.proofs.Common.{◌≡◌, ◌++◌, ◌∷◌, [], ℕ, length, subst, sym, IfSome, List}
 use Rattle.cs_ir.proofs.Drafting.{draft_call}
-use Rattle.cs_ir.specs.Drafts.{Draft, Grew, drafted, library_of}
-use Rattle.cs_ir.specs.Flat.{moved_ops, ops_at, window_of}
-use Rattle.cs_ir.specs.Routines.{library_in}
-use Rattle.cs_ir.specs.declared.op.Op.{Op}
-use Rattle.cs_ir.specs.declared.step.Call.{Call}
+use Rattle.cs_ir.specs.{Drafts.Draft, Drafts.Grew, Drafts.drafted, Drafts.library_of, Flat.moved_ops, Flat.ops_at}
+use Rattle.cs_ir.specs.{Flat.window_of, Routines.library_in, declared.op.Op.Op, declared.step.Call.Call}
 use Rattle.cs_ir.specs.declared.step.Step.TheVariants as step
 use Rattle.cs_ir.proofs.draft.CodeDraft.invoke.Goals as goal
 

@@ -1,8 +1,6 @@
 use Rattle.std.proofs.Common.{◌≡◌, ap, length, subst, sym, true, List}
 use Rattle.cs_ir.proofs.Drafting.{within_more}
-use Rattle.cs_ir.specs.Drafts.{Draft}
-use Rattle.cs_ir.specs.Flat.{are_within, is_within}
-use Rattle.cs_ir.specs.declared.step.Step.{Step}
+use Rattle.cs_ir.specs.{Drafts.Draft, Flat.are_within, Flat.is_within, declared.step.Step.Step}
 use Rattle.cs_ir.proofs.draft.CodeDraft.push_step.Goals as goal
 
 pub invariant_of-self-2 : goal.invariant_of-self-2

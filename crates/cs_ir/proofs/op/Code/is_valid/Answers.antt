@@ -1,7 +1,5 @@
 use Rattle.std.proofs.Common.{◌≡◌, ◌∙◌, ap, arith, length}
-use Rattle.cs_ir.specs.Flat.{flat, moved_ops}
-use Rattle.cs_ir.specs.Routines.{library_in}
-use Rattle.cs_ir.specs.Validity.{fine_from}
+use Rattle.cs_ir.specs.{Flat.flat, Flat.moved_ops, Routines.library_in, Validity.fine_from}
 use Rattle.cs_ir.proofs.Twice.{whole_ops}
 use Rattle.cs_ir.proofs.op.Code.is_valid.Goals as goal
 

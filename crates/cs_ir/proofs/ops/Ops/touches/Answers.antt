@@ -1,9 +1,6 @@
 use Rattle.std.proofs.Common.{subst, sym, List}
-use Rattle.cs_ir.specs.Resources.{NameTheSame, ops_use, ops_write}
-use Rattle.cs_ir.specs.Routines.{library_in, ops_in}
-use Rattle.cs_ir.specs.Touched.{named}
-use Rattle.cs_ir.specs.declared.op.Op.{Op}
-use Rattle.cs_ir.specs.declared.touches.Touches.{Touches}
+use Rattle.cs_ir.specs.{Resources.NameTheSame, Resources.ops_use, Resources.ops_write, Routines.library_in}
+use Rattle.cs_ir.specs.{Routines.ops_in, Touched.named, declared.op.Op.Op, declared.touches.Touches.Touches}
 use Rattle.cs_ir.proofs.ops.Ops.touches.Goals as goal
 
 pub returns-clause-used : goal.returns-clause-used

@@ -4,9 +4,4 @@ use Rattle.cs_ir.proofs.register.RegisterCounts.greatest.Goals as goal
 
 pub returns : goal.returns
 returns c kind.LocalInit = search (rules, arith)
-returns c kind.LocalControl = search (rules, arith)
-returns c kind.Kept = search (rules, arith)
-returns c kind.TemporaryInit = search (rules, arith)
-returns c kind.TemporaryControl = search (rules, arith)
-returns c kind.LocalAudio = search (rules, arith)
-returns c kind.TemporaryAudio = search (rules, arith)
+returns c a = search (rules, arith)

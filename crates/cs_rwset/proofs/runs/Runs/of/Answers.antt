@@ -1,8 +1,6 @@
 use Rattle.cs_ir.specs.Resources.{places_of}
-use Rattle.cs_rwset.specs.declared.runs.Runs.{Runs}
-use Rattle.cs_rwset.specs.inner.Runs.{AreInOrder, Finds, begin_of}
-use Rattle.cs_rwset.proofs.Footed.{few_areas}
-use Rattle.cs_rwset.proofs.Spans.{of_each}
+use Rattle.cs_rwset.specs.{declared.runs.Runs.Runs, inner.Runs.AreInOrder, inner.Runs.Finds, inner.Runs.begin_of}
+use Rattle.cs_rwset.proofs.{Footed.few_areas, Spans.of_each}
 use Rattle.cs_rwset.proofs.runs.Runs.of.Goals as goal
 
 pub returns : goal.returns

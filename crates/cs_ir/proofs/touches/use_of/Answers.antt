@@ -1,8 +1,7 @@
 use Rattle.std.proofs.Common.{◌∙◌, ap, sym}
-use Rattle.cs_ir.specs.Resources.{act_uses}
-use Rattle.cs_ir.specs.Touched.{named_by}
+use Rattle.cs_ir.specs.{Resources.act_uses, Touched.named_by}
 use Rattle.cs_ir.proofs.Naming.{tables_named}
-use Rattle.cs_ir.proofs.touches.touch_of.Goals as goal
+use Rattle.cs_ir.proofs.touches.use_of.Goals as goal
 
 pub returns-in-Store : goal.returns-in-Store
 returns-in-Store c stock =
