@@ -1,5 +1,4 @@
 pub mod Given
-mod Growing
 mod Named
 mod NamedCore
 mod Touching

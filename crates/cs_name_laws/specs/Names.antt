@@ -2,13 +2,11 @@
 use Rattle.std.specs.Prelude.{Bool, true, false, ◌≡◌, ◌==◌, length, nat_lt}
 use Rattle.std.specs.List.{All, list_any}
 use Rattle.cs_base.specs.declared.resource.Res.{Res}
-use Rattle.cs_base.specs.declared.resource.Res.TheVariants as res
 use Rattle.cs_ir.specs.Resources.{Stock}
-use Rattle.cs_typed.specs.TypedTree as typed
-use Rattle.cs_typed.specs.TypedTree.{SharedNames}
-use Rattle.cs_typed.specs.Variables.{EachInBlock}
-use Rattle.cs_typed.specs.declared.tree.Var.{Var as Variable}
+use Rattle.cs_typed.specs.{TypedTree.SharedNames, Variables.EachInBlock, declared.tree.Var.Var as Variable}
 use Rattle.cs_typed.specs.declared.tree.Var.TheVariants.{Local, Global}
+use Rattle.cs_base.specs.declared.resource.Res.TheVariants as res
+use Rattle.cs_typed.specs.TypedTree as typed
 
 -- a global variable or a channel, of as many as have names; zak places and tables have none
 abbrev pub is_named : SharedNames → Res → Bool

@@ -1,16 +1,12 @@
 -- Typed statements that are moved: one after another, twice, and nowhere.
 use Rattle.std.proofs.Common.{◌≡◌, ◌∙◌, ℕ, ◌+◌, List, [], ◌∷◌, map, arith, refl, ap}
-use Rattle.cs_base.specs.Rates.{at_rate}
-use Rattle.cs_base.specs.declared.per_rate.PerRate.{PerRate}
-use Rattle.cs_base.specs.declared.resource.Rate.{Rate}
-use Rattle.cs_base.specs.declared.resource.Rate.TheVariants as rate
+use Rattle.cs_base.specs.{Rates.at_rate, declared.per_rate.PerRate.PerRate, declared.resource.Rate.Rate}
 use Rattle.cs_typed.specs.TypedTree.{no_counts, counts_with, moved_variable, moved_expression, moved_argument, moved}
-use Rattle.cs_typed.specs.TypedTree.{moved_block, moved_arms}
-use Rattle.cs_typed.specs.TypedTree.{Expression, number, var, field, head, neg, pair, pick, apply, Argument, value}
+use Rattle.cs_typed.specs.TypedTree.{moved_block, moved_arms, Expression, var, neg, pair, pick, apply, Argument, value}
 use Rattle.cs_typed.specs.TypedTree.{text, Statement, set, call, choose, Block, no_stmt, andthen, Arms, otherwise, arm}
-use Rattle.cs_typed.specs.TypedTree.{then_block}
-use Rattle.cs_typed.specs.declared.tree.Var.{Var as Variable}
+use Rattle.cs_typed.specs.{TypedTree.then_block, declared.tree.Var.Var as Variable}
 use Rattle.cs_typed.specs.declared.tree.Var.TheVariants.{Local, Global}
+use Rattle.cs_base.specs.declared.resource.Rate.TheVariants as rate
 
 -- ---- counts
 
@@ -29,12 +25,6 @@ pub counts_none : (a : PerRate ℕ) → counts_with a no_counts ≡ a
 counts_none a = λ i. record { init = by a.init i; control = by a.control i; audio = by a.audio i }
   where
     by : (x : ℕ) → x + 0 ≡ x
-    by x = omega arith
-
-pub none_counts : (a : PerRate ℕ) → counts_with no_counts a ≡ a
-none_counts a = λ i. record { init = by a.init i; control = by a.control i; audio = by a.audio i }
-  where
-    by : (x : ℕ) → 0 + x ≡ x
     by x = omega arith
 
 pub at_with : (a b : PerRate ℕ) (r : Rate) → at_rate (counts_with a b) r ≡ at_rate a r + at_rate b r
@@ -80,14 +70,12 @@ module _ (a b : PerRate ℕ) where
 
   pub expression_twice : (e : Expression)
       → moved_expression a (moved_expression b e) ≡ moved_expression (counts_with a b) e
-  expression_twice (number r n) = refl
   expression_twice (var r v) = ap (var r) (variable_twice v)
-  expression_twice (field r k) = refl
-  expression_twice (head r h) = refl
   expression_twice (neg r x) = ap (neg r) (expression_twice x)
   expression_twice (pair r o x y) = λ i. pair r o (expression_twice x i) (expression_twice y i)
   expression_twice (pick r c x y) = λ i. pick r (expression_twice c i) (expression_twice x i) (expression_twice y i)
   expression_twice (apply r f x) = ap (apply r f) (expression_twice x)
+  expression_twice e = refl
 
   argument_twice : (x : Argument) → moved_argument a (moved_argument b x) ≡ moved_argument (counts_with a b) x
   argument_twice (value e) = ap value (expression_twice e)
@@ -127,14 +115,12 @@ variables_stay [] = refl
 variables_stay (v ∷ vs) = λ i. variable_stays v i ∷ variables_stay vs i
 
 expression_stays : (e : Expression) → moved_expression no_counts e ≡ e
-expression_stays (number r n) = refl
 expression_stays (var r v) = ap (var r) (variable_stays v)
-expression_stays (field r k) = refl
-expression_stays (head r h) = refl
 expression_stays (neg r x) = ap (neg r) (expression_stays x)
 expression_stays (pair r o x y) = λ i. pair r o (expression_stays x i) (expression_stays y i)
 expression_stays (pick r c x y) = λ i. pick r (expression_stays c i) (expression_stays x i) (expression_stays y i)
 expression_stays (apply r f x) = ap (apply r f) (expression_stays x)
+expression_stays e = refl
 
 argument_stays : (x : Argument) → moved_argument no_counts x ≡ x
 argument_stays (value e) = ap value (expression_stays e)

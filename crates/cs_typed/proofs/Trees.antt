@@ -1,11 +1,10 @@
 -- The rows of statements and arms in the code's typed tree, read as its lists.
 use Rattle.std.proofs.Common.{◌≡◌, List, rules}
 use mathlib.Core.Former.{Count}
-use Rattle.cs_typed.specs.declared.tree.TypedArm.{TypedArm'}
+use Rattle.cs_typed.specs.{declared.tree.TypedArm.TypedArm', declared.tree.TypedWhat.TheViews.the_lemmas}
 use Rattle.cs_typed.specs.declared.tree.TypedWhat.{Row_of-TypedArm, end_of-TypedArm, more_of-TypedArm, Row_of-TypedStmt}
 use Rattle.cs_typed.specs.declared.tree.TypedWhat.{end_of-TypedStmt, more_of-TypedStmt, items-the_row-TypedStmt}
 use Rattle.cs_typed.specs.declared.tree.TypedWhat.{items-the_row-TypedArm}
-use Rattle.cs_typed.specs.declared.tree.TypedWhat.TheViews.{the_lemmas}
 use Rattle.cs_typed.specs.TypedTree.{Block, block, arms, of_block, of_arms}
 
 pub typed_block_is : (rs : List Block) (n : Count) (row : Row_of-TypedStmt n)

@@ -1,17 +1,13 @@
 -- What the rules of rates ask of a call, said once for the tree of the grammar and for the typed tree: of an argument
 -- its rate alone, which a text has none of, and of a result its rate.
 use Rattle.std.specs.Prelude.{ℕ, Bool, true, false, not, List, [], ◌∷◌, ◌&&◌, ◌+◌, length, nat_lt, Option, Some, None}
-use Rattle.std.specs.Prelude.{if◌then◌else◌}
-use Rattle.std.specs.List.{list_any, list_all}
-use Rattle.cs_base.specs.Rates.{is_init, is_audio, same_rate}
-use Rattle.cs_base.specs.declared.resource.Rate.{Rate}
-use Rattle.cs_base.specs.declared.resource.Rate.TheVariants as rate
+use Rattle.std.specs.{Prelude.if◌then◌else◌, List.list_any, List.list_all}
+use Rattle.cs_base.specs.{Rates.is_init, Rates.is_audio, Rates.same_rate, declared.resource.Rate.Rate}
 use Rattle.cs_words.specs.Catalogue.{Row, letter_at, takes, is_text}
-use Rattle.cs_words.specs.declared.catalogue.Letter.{Letter}
-use Rattle.cs_words.specs.declared.catalogue.Shape.{Shape}
+use Rattle.cs_words.specs.{declared.catalogue.Letter.Letter, declared.catalogue.Shape.Shape}
+use Rattle.cs_typed.specs.{Places.is_starting, Places.is_writing, declared.setting.Setting.Setting}
+use Rattle.cs_base.specs.declared.resource.Rate.TheVariants as rate
 use Rattle.cs_words.specs.declared.catalogue.Shape.TheVariants as shape
-use Rattle.cs_typed.specs.Places.{is_starting, is_writing}
-use Rattle.cs_typed.specs.declared.setting.Setting.{Setting}
 
 -- a value of the audio rate
 abbrev pub sounds : Option Rate → Bool

@@ -1,33 +1,23 @@
 -- The typed tree of an orchestra as the definitions see it, and what the code's tree is among it.
-use Rattle.std.specs.Prelude.{ℕ, ℤ, ◌+◌, List, [], ◌∷◌, ◌++◌, map}
-use Rattle.std.specs.Prelude.{slice_index_or}
+use Rattle.std.specs.Prelude.{ℕ, ℤ, ◌+◌, List, [], ◌∷◌, ◌++◌, map, slice_index_or}
 use Rattle.std.specs.Global.{Vec}
-use Rattle.cs_base.specs.Heads.{Header}
-pub use Rattle.cs_base.specs.Heads.{header_of_head}
-use Rattle.cs_base.specs.Rates.{at_rate}
+use Rattle.cs_base.specs.{Heads.Header, Rates.at_rate, declared.resource.Rate.Rate, declared.spaces.Spaces.Spaces}
 use Rattle.cs_base.specs.declared.per_rate.PerRate.{PerRate}
-use Rattle.cs_base.specs.declared.resource.Rate.{Rate}
-use Rattle.cs_base.specs.declared.spaces.Spaces.{Spaces}
 use Rattle.cs_words.specs.declared.catalogue.Opcode.{Opcode}
-use Rattle.cs_words.specs.declared.sign.BinOp.{BinOp}
-use Rattle.cs_words.specs.declared.word.Func.{Func}
-use Rattle.cs_words.specs.declared.word.HeadName.{HeadName}
-use Rattle.cs_typed.specs.declared.tree.Globals.{Globals}
-use Rattle.cs_typed.specs.declared.tree.TypedArg.{TypedArg}
+use Rattle.cs_words.specs.{declared.sign.BinOp.BinOp, declared.word.Func.Func, declared.word.HeadName.HeadName}
+use Rattle.cs_typed.specs.{declared.tree.Globals.Globals, declared.tree.TypedArg.TypedArg}
+use Rattle.cs_typed.specs.{declared.tree.TypedExpr.TypedExpr, declared.tree.TypedInstr.TypedInstr}
+use Rattle.cs_typed.specs.{declared.tree.TypedOrc.TypedOrc, declared.tree.TypedPart.TypedPart}
+use Rattle.cs_typed.specs.{declared.tree.TypedStmt.TypedStmt, declared.tree.Var.Var as Variable}
 use Rattle.cs_typed.specs.declared.tree.TypedArg.TheVariants.{Value, Text}
 use Rattle.cs_typed.specs.declared.tree.TypedArm.{TypedArm, TypedArm', out-TypedArm}
-use Rattle.cs_typed.specs.declared.tree.TypedExpr.{TypedExpr}
-use Rattle.cs_typed.specs.declared.tree.TypedInstr.{TypedInstr}
-use Rattle.cs_typed.specs.declared.tree.TypedOrc.{TypedOrc}
-use Rattle.cs_typed.specs.declared.tree.TypedPart.{TypedPart}
 use Rattle.cs_typed.specs.declared.tree.TypedPart.TheVariants.{Number, Var, Field, Head as HeadName', Neg', Pair'}
 use Rattle.cs_typed.specs.declared.tree.TypedPart.TheVariants.{Pick', Call'}
-use Rattle.cs_typed.specs.declared.tree.TypedStmt.{TypedStmt}
 use Rattle.cs_typed.specs.declared.tree.TypedWhat.{TypedWhat, Row_of-TypedArm, end_of-TypedArm, more_of-TypedArm}
 use Rattle.cs_typed.specs.declared.tree.TypedWhat.{Row_of-TypedStmt, end_of-TypedStmt, more_of-TypedStmt}
 use Rattle.cs_typed.specs.declared.tree.TypedWhat.TheVariants.{Set, Call, Choose', Invoke}
-use Rattle.cs_typed.specs.declared.tree.Var.{Var as Variable}
 use Rattle.cs_typed.specs.declared.tree.Var.TheVariants.{Local, Global}
+pub use Rattle.cs_base.specs.Heads.{header_of_head}
 
 -- The typed tree as the definitions see it, without boxes' addresses and vectors' capacities. An expression has its
 -- rate first.
@@ -61,11 +51,10 @@ mutual
     otherwise : Block → Arms
     arm : Expression → Block → Arms → Arms
 
--- an instrument, with the line of its `instr` and the numbers of its local variables by their rates
+-- an instrument, with the line of its `instr`
 pub record Instrument : Type 0 where
   pub line : ℕ
   pub numbers : List ℕ
-  pub locals : PerRate ℕ
   pub body : Block
 
 -- the names of what notes share, each list in the order in which they were first seen
@@ -74,12 +63,10 @@ pub record SharedNames : Type 0 where
   pub control : List (List ℕ)
   pub sound : List (List ℕ)
 
--- a typed orchestra, with the numbers of places of the two zak spaces; the statements outside instruments have local
--- variables too
+-- a typed orchestra, with the numbers of places of the two zak spaces
 pub record Orchestra : Type 0 where
   pub head : Header
   pub spaces : Spaces
-  pub zero_locals : PerRate ℕ
   pub zero : Block
   pub instrs : List Instrument
   pub globals : SharedNames
@@ -201,7 +188,7 @@ abbrev pub routines : List (Vec TypedStmt) → List Block
 routines list = more_routines [] list
 
 abbrev pub instrument : List Block → TypedInstr → Instrument
-instrument rs i = record { line = i.line; numbers = i.numbers; locals = i.locals; body = block rs i.body.items }
+instrument rs i = record { line = i.line; numbers = i.numbers; body = block rs i.body.items }
 
 abbrev pub shared_names : Globals → SharedNames
 shared_names g = record { variables = g.variables; control = g.control; sound = g.sound }
@@ -212,7 +199,6 @@ orchestra o =
     record {
       head = header_of_head o.head;
       spaces = o.spaces;
-      zero_locals = o.zero_locals;
       zero = block rs o.zero.items;
       instrs = map (instrument rs) o.instrs.items;
       globals = shared_names o.globals;

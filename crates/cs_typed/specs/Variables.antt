@@ -1,17 +1,8 @@
--- The variables and channels that a typed tree reads or gives by name, and which of them are counted.
-use Rattle.std.specs.Prelude.{ℕ, ◌<◌}
+-- The variables and channels that a typed tree reads or gives by name.
 use Rattle.std.specs.List.{All}
-use Rattle.cs_base.specs.Rates.{at_rate}
-use Rattle.cs_base.specs.declared.per_rate.PerRate.{PerRate}
 use Rattle.cs_typed.specs.TypedTree.{Expression, number, var, field, head, neg, pair, pick, apply, Argument, value}
 use Rattle.cs_typed.specs.TypedTree.{text, Statement, set, call, choose, Block, no_stmt, andthen, Arms, otherwise, arm}
 use Rattle.cs_typed.specs.declared.tree.Var.{Var as Variable}
-use Rattle.cs_typed.specs.declared.tree.Var.TheVariants.{Local, Global}
-
--- a local variable of those that are counted at its rate: they are numbered from 0
-abbrev pub IsCounted : PerRate ℕ → Variable → Type 0
-IsCounted counts (Local r n) = n < at_rate counts r
-IsCounted counts (Global g) = Unit {0}
 
 -- P holds of each variable of an expression
 abbrev pub EachInExpression : (Variable → Type 0) → Expression → Type 0

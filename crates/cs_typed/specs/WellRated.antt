@@ -1,27 +1,21 @@
 -- The rules of rates that a typed tree keeps.
-use Rattle.std.specs.Prelude.{ℕ, Bool, true, false, not, List, [], ◌∷◌, ◌≡◌, ◌≢◌, ◌+◌, ◌&&◌, ◌||◌, length, Option, Some}
-use Rattle.std.specs.Prelude.{None, if◌then◌else◌}
-use Rattle.std.specs.List.{All, list_all}
+use Rattle.std.specs.Prelude.{ℕ, Bool, true, false, not, List, ◌∷◌, ◌≡◌, ◌≢◌, ◌&&◌, ◌||◌, length, Option, Some, None}
+use Rattle.std.specs.{Prelude.if◌then◌else◌, List.All, List.list_all}
 use Rattle.cs_base.specs.Rates.{is_init, is_control, is_audio, within, faster, res_rate}
 use Rattle.cs_base.specs.declared.resource.Rate.{Rate}
+use Rattle.cs_words.specs.Catalogue.{Row, row_of, takes_count, result_count}
+use Rattle.cs_words.specs.{Signs.is_arithmetic, declared.catalogue.Letter.Letter, declared.catalogue.Shape.Shape}
+use Rattle.cs_words.specs.declared.catalogue.Opcode.{Opcode}
+use Rattle.cs_typed.specs.{declared.setting.Setting.Setting, declared.tree.Var.Var, Calls.rate_of_call}
+use Rattle.cs_typed.specs.{Calls.rate_of_choice, Places.outside, Places.inside, Places.stands_outside}
+use Rattle.cs_typed.specs.Calls.{sounds, stands_still, accepts, all_meet, bound_from, may_have, are_even, exceeds}
 use Rattle.cs_base.specs.declared.resource.Rate.TheVariants as rate
 use Rattle.cs_base.specs.declared.resource.Res.TheVariants as res
-use Rattle.cs_words.specs.Catalogue.{Row, row_of, takes_count, result_count}
-use Rattle.cs_words.specs.Signs.{is_arithmetic}
-use Rattle.cs_words.specs.declared.catalogue.Letter.{Letter}
-use Rattle.cs_words.specs.declared.catalogue.Opcode.{Opcode}
 use Rattle.cs_words.specs.declared.catalogue.Opcode.TheVariants as op
-use Rattle.cs_words.specs.declared.catalogue.Shape.{Shape}
 use Rattle.cs_words.specs.declared.catalogue.Shape.TheVariants as shape
 use Rattle.cs_words.specs.declared.word.Func.TheVariants as func
-use Rattle.cs_typed.specs.declared.setting.Setting.{Setting}
-use Rattle.cs_typed.specs.declared.tree.Var.{Var}
 use Rattle.cs_typed.specs.declared.tree.Var.TheVariants as var
-use Rattle.cs_typed.specs.Calls.{sounds, stands_still, accepts, all_meet, bound_from, may_have, are_even, exceeds}
-use Rattle.cs_typed.specs.Calls.{rate_of_call, rate_of_choice}
-use Rattle.cs_typed.specs.Places.{outside, inside, stands_outside}
 use Rattle.cs_typed.specs.TypedTree as typed
-use Rattle.cs_typed.specs.Variables.{IsCounted, EachInBlock}
 
 abbrev pub var_rate : Var → Rate
 var_rate (var.Local r k) = r
@@ -174,13 +168,10 @@ abbrev mutual
       IsRated c × (is_audio (node_rate c) ≡ false) × ((s.inside || is_init (node_rate c)) ≡ true) × IsRatedBlock s b
       × IsRatedArms s rest
 
--- An orchestra agrees with the rules of rates, outside instruments and in each instrument; and each local variable is
--- one of those that are counted there.
+-- An orchestra agrees with the rules of rates, outside instruments and in each instrument.
 pub record IsWellRated (o : typed.Orchestra) : Type 0 where
   pub zero : IsRatedBlock (outside o.head.nchnls) o.zero
-  pub zero_locals : EachInBlock (IsCounted o.zero_locals) o.zero
   pub instrs : All (λ (i : typed.Instrument). IsRatedBlock (inside o.head.nchnls) i.body) o.instrs
-  pub locals : All (λ (i : typed.Instrument). EachInBlock (IsCounted i.locals) i.body) o.instrs
 
 -- no `zakinit` among statements
 abbrev mutual

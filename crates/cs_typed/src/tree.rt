@@ -84,8 +84,6 @@ pub type TypedArms = Vec<TypedArm>;
 pub struct TypedInstr {
     pub line: u32,
     pub numbers: Numbers,
-    /// The number of its local variables of each rate: those of a rate are numbered from 0 to below it.
-    pub locals: PerRate<usize>,
     pub body: TypedStmts,
 }
 
@@ -104,8 +102,6 @@ pub struct TypedOrc {
     pub head: Head,
     /// The numbers of places of the two zak spaces.
     pub spaces: Spaces,
-    /// The number of local variables of each rate of the statements outside instruments.
-    pub zero_locals: PerRate<usize>,
     /// The statements outside instruments.
     pub zero: TypedStmts,
     pub instrs: Vec<TypedInstr>,

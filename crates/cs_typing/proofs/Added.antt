@@ -1,23 +1,18 @@
 -- A table with one more name: what it has of others, where they stand, and how many there are.
-use Rattle.std.proofs.Common.{◌≡◌, ◌∙◌, ℕ, suc, ◌+◌, Bool, cond, true, false, not, ◌||◌, if◌then◌else◌, List, [], ◌∷◌}
-use Rattle.std.proofs.Common.{◌++◌, length, arith, refl, ap}
+use Rattle.std.proofs.Common.{◌≡◌, ◌∙◌, ℕ, suc, Bool, true, false, ◌||◌, if◌then◌else◌, List, [], ◌∷◌, ◌++◌, length}
+use Rattle.std.proofs.Common.{length-append, arith, refl, ap}
 use Rattle.std.specs.Str.{bytes_eq}
-use Rattle.std.proofs.lemmas.Slice.Eq.{bytes_eq-Decides}
-use Rattle.cs_base.specs.Rates.{at_rate}
-use Rattle.cs_base.specs.declared.resource.Rate.{Rate}
-use Rattle.cs_base.specs.declared.resource.Rate.TheVariants as rate
-use Rattle.cs_words.specs.NameSets.{has, place_of, seen}
-use Rattle.cs_words.specs.Names.{name_rate}
+use Rattle.std.proofs.lemmas.{Bool.false_from_ne_true, Slice.Eq.bytes_eq-Decides}
+use Rattle.cs_base.specs.{Rates.at_rate, declared.resource.Rate.Rate}
+use Rattle.cs_words.specs.{NameSets.has, NameSets.seen, Names.name_rate}
+use Rattle.cs_words.proofs.Places.{past_all}
 use Rattle.cs_typing.specs.Known.{RateNames, counts_of, of_rate, with_name, in_table, place_in, added}
 use Rattle.cs_typing.specs.inner.Routines.{counted}
+use Rattle.cs_base.specs.declared.resource.Rate.TheVariants as rate
 
 -- two names that are told apart
 pub differ : (x y : List ℕ) → (x ≡ y → ⊥) → bytes_eq x y ≡ false
-differ x y h = by (bytes_eq x y) refl
-  where
-    by : (b : Bool) → bytes_eq x y ≡ b → b ≡ false
-    by true e = absurd (h ((bytes_eq-Decides x y).0 e))
-    by false e = refl
+differ x y h = false_from_ne_true (bytes_eq x y) (λ e. h ((bytes_eq-Decides x y).0 e))
 
 has_other : (xs : List (List ℕ)) (x y : List ℕ) → (y ≡ x → ⊥) → has (xs ++ x ∷ []) y ≡ has xs y
 has_other [] x y h = ap (λ b. b || false) (differ y x h)
@@ -33,14 +28,9 @@ seen_other xs x y h = by (has xs x)
 with_other : (q r : Rate) (t : RateNames) (x y : List ℕ) → (y ≡ x → ⊥)
     → has (of_rate r (with_name q t x)) y ≡ has (of_rate r t) y
 with_other rate.Init rate.Init t x y h = seen_other t.init x y h
-with_other rate.Init rate.Control t x y h = refl
-with_other rate.Init rate.Audio t x y h = refl
-with_other rate.Control rate.Init t x y h = refl
 with_other rate.Control rate.Control t x y h = seen_other t.control x y h
-with_other rate.Control rate.Audio t x y h = refl
-with_other rate.Audio rate.Init t x y h = refl
-with_other rate.Audio rate.Control t x y h = refl
 with_other rate.Audio rate.Audio t x y h = seen_other t.audio x y h
+with_other q r t x y h = refl
 
 pub added_other : (t : RateNames) (x y : List ℕ) → (y ≡ x → ⊥) → in_table (added t x) y ≡ in_table t y
 added_other t x y h = with_other (name_rate x) (name_rate y) t x y h
@@ -60,12 +50,9 @@ added_there t x h = with_there (name_rate x) t x h
 
 -- ---- a name that is new
 
-one_longer : (xs : List (List ℕ)) (x : List ℕ) → length (xs ++ x ∷ []) ≡ suc (length xs)
-one_longer [] x = refl
-one_longer (y ∷ xs) x = ap (λ n. suc n) (one_longer xs x)
-
 seen_new : (xs : List (List ℕ)) (x : List ℕ) → has xs x ≡ false → length (seen xs x) ≡ suc (length xs)
-seen_new xs x h = ap (λ b. length (if b then xs else xs ++ x ∷ [])) h ∙ one_longer xs x
+seen_new xs x h =
+    ap (λ b. length (if b then xs else xs ++ x ∷ [])) h ∙ omega (arith, length-append xs (x ∷ []))
 
 with_new : (q : Rate) (t : RateNames) (x : List ℕ) → has (of_rate q t) x ≡ false
     → counts_of (with_name q t x) ≡ counted q (counts_of t)
@@ -80,20 +67,10 @@ pub added_new : (t : RateNames) (x : List ℕ) → in_table t x ≡ false
     → counts_of (added t x) ≡ counted (name_rate x) (counts_of t)
 added_new t x h = with_new (name_rate x) t x h
 
-place_none : (names : List (List ℕ)) (x : List ℕ) → has names x ≡ false → place_of names x ≡ length names
-place_none [] x h = refl
-place_none (y ∷ names) x h = by (bytes_eq x y) h (place_none names x)
-  where
-    by : (b : Bool) → (b || has names x) ≡ false → (has names x ≡ false → place_of names x ≡ length names)
-        → cond (not b) (1 + place_of names x) 0 ≡ suc (length names)
-    by true k f = absurd (cc k)
-    by false k f = omega (arith, f k)
-
 counts_at : (q : Rate) (t : RateNames) → length (of_rate q t) ≡ at_rate (counts_of t) q
 counts_at rate.Init t = refl
-counts_at rate.Control t = refl
-counts_at rate.Audio t = refl
+counts_at q t = refl
 
 pub place_new : (t : RateNames) (x : List ℕ) → in_table t x ≡ false
     → place_in t x ≡ at_rate (counts_of t) (name_rate x)
-place_new t x h = place_none (of_rate (name_rate x) t) x h ∙ counts_at (name_rate x) t
+place_new t x h = past_all (of_rate (name_rate x) t) x h ∙ counts_at (name_rate x) t

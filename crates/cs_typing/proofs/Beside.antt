@@ -1,35 +1,27 @@
 -- What stands beside the routine of a call, one after another: functions of two lists, names or rates with arguments,
 -- and of the rests of both.
 use Rattle.std.proofs.Common.{◌≡◌, ◌∙◌, ◌+◌, ◌<◌, ◌≤◌, ◌⊎◌, inl, inr, ◌++◌, ℕ, min, drop, get_or, List, [], ◌∷◌, length}
-use Rattle.std.proofs.Common.{map}
-use Rattle.std.proofs.Common.{Option, None, arith, refl, sym, ap, subst}
+use Rattle.std.proofs.Common.{map, Option, None, arith, refl, sym, ap, subst}
 use Rattle.std.specs.Option.{option_or}
-use Rattle.std.proofs.lemmas.List.{append_assoc, drop_all, drop_more, get_or_default}
-use Rattle.cs_base.specs.Rates.{at_rate}
-use Rattle.cs_base.specs.declared.fault.OrcFault.{OrcFault}
+use Rattle.std.proofs.lemmas.List.{append-nil, append_assoc, drop_all, drop_more, get_or_default}
+use Rattle.cs_base.specs.{Rates.at_rate, declared.fault.OrcFault.OrcFault, declared.resource.Rate.Rate}
 use Rattle.cs_base.specs.declared.per_rate.PerRate.{PerRate}
-use Rattle.cs_base.specs.declared.resource.Rate.{Rate}
-use Rattle.cs_grammar.specs.declared.tree.Arg.{Arg}
+use Rattle.cs_grammar.specs.{declared.tree.Arg.Arg, declared.tree.Expr.Expr}
 use Rattle.cs_grammar.specs.declared.tree.Arg.TheVariants.{Value, Text}
-use Rattle.cs_grammar.specs.declared.tree.Expr.{Expr}
 use Rattle.cs_grammar.specs.Tree.{expression, argument, Argument, value, text}
-use Rattle.cs_typed.specs.TypedTree as typed
-use Rattle.cs_typed.specs.declared.setting.Setting.{Setting}
-use Rattle.cs_typed.specs.declared.tree.TypedStmt.{TypedStmt}
+use Rattle.cs_typed.specs.{declared.setting.Setting.Setting, declared.tree.TypedStmt.TypedStmt}
 use Rattle.cs_typed.specs.declared.tree.Var.TheVariants.{Local}
 use Rattle.cs_typed.proofs.Moved.{then_again}
-use Rattle.cs_typing.specs.Expressions.{expression_by}
-use Rattle.cs_typing.specs.Settings.{at}
-use Rattle.cs_typing.specs.Statements.{set_fault_by}
-use Rattle.cs_typing.specs.inner.Listed.{Adds}
+use Rattle.cs_typing.specs.{Expressions.expression_by, Settings.at, Statements.set_fault_by, inner.Listed.Adds}
 use Rattle.cs_typing.specs.inner.Routines.{Locals, KnownInBody, all_given_in, given_in, inputs_fault, known_in}
 use Rattle.cs_typing.specs.inner.Routines.{knows_in, variable_in}
 use Rattle.cs_typing.specs.inner.Slots.{given_set, one_counted, slot_numbers, slots_fault, slots_past, slots_set}
 use Rattle.cs_typing.specs.inner.Slots.{taken_fault, taken_kind, taken_set}
 use Rattle.cs_words.specs.Names.{name_rate}
 use Rattle.cs_udo.specs.Names.{slot}
-use Rattle.cs_typing.proofs.Answers.{dropped}
+use Rattle.cs_udo.proofs.Places.{dropped}
 use Rattle.cs_typing.proofs.Joined.{then_nothing}
+use Rattle.cs_typed.specs.TypedTree as typed
 
 -- a function of names and arguments, on both rests where each has a next
 pub both_next : {X R : Type 0} (f : List X → List Argument → R) (xs : List X) (as' : List Arg) (i : ℕ) (x : X) (a : Arg)
@@ -85,52 +77,34 @@ pub past_both : {X Y : Type 0} {ys : List X} {n end : ℕ} (xs : List X) (as' : 
     → ys ≡ xs → n ≡ length as' → end ≤ i → min (length xs) (length as') ≤ i
 past_both xs as' i e same count h = subst (λ m. m ≤ i) (e ∙ λ j. min (length (same j)) (count j)) h
 
--- ---- the four functions of names or rates with arguments
+-- ---- what is judged and made of names or rates with arguments
 
-pub inputs_fault_ends : (s : Setting) (k : KnownInBody) (line : ℕ)
-    → Ends (List ℕ) (Option OrcFault) (inputs_fault s k line) None
-inputs_fault_ends s k line = record {
-  none = λ as'. refl;
-  last = λ x xs. refl;
-  word = λ x xs t as'. refl;
-}
+abbrev pub InputsMade : Type 0
+InputsMade = Option OrcFault × typed.Block
 
-pub given_ends : (k : KnownInBody) (first : Locals) (line : ℕ)
-    → Ends (List ℕ) typed.Block (given_set k first line) typed.no_stmt
-given_ends k first line = record {
-  none = λ as'. refl;
-  last = λ x xs. refl;
-  word = λ x xs t as'. refl;
-}
+abbrev pub inputs_made : Setting → KnownInBody → Locals → ℕ → List (List ℕ) → List Argument → InputsMade
+inputs_made s k first line xs as' = (inputs_fault s k line xs as', given_set k first line xs as')
 
-pub slots_fault_ends : (s : Setting) (k : KnownInBody) (line : ℕ)
-    → Ends Rate (Option OrcFault) (slots_fault s k line) None
-slots_fault_ends s k line = record {
-  none = λ as'. refl;
-  last = λ x xs. refl;
-  word = λ x xs t as'. refl;
-}
+pub inputs_end : (s : Setting) (k : KnownInBody) (first : Locals) (line : ℕ)
+    → Ends (List ℕ) InputsMade (inputs_made s k first line) (None, typed.no_stmt)
+inputs_end s k first line = record { none = λ as'. refl; last = λ x xs. refl; word = λ x xs t as'. refl }
 
-pub slots_set_ends : (k : KnownInBody) (line : ℕ) → Ends Rate typed.Block (slots_set k line) typed.no_stmt
-slots_set_ends k line = record {
-  none = λ as'. refl;
-  last = λ x xs. refl;
-  word = λ x xs t as'. refl;
-}
+abbrev pub SlotsMade : Type 0
+SlotsMade = Option OrcFault × typed.Block × Locals × List ℕ
 
-pub slots_past_ends : (l : Locals) → Ends Rate Locals (slots_past l) l
-slots_past_ends l = record {
-  none = λ as'. refl;
-  last = λ x xs. refl;
-  word = λ x xs t as'. refl;
-}
+abbrev pub slots_made : Setting → KnownInBody → ℕ → List Rate → List Argument → SlotsMade
+slots_made s k line rs as' = (
+  slots_fault s k line rs as',
+  slots_set k line rs as',
+  slots_past k.locals rs as',
+  slot_numbers k.locals.counts rs as',
+)
 
-pub slot_numbers_ends : (c : PerRate ℕ) → Ends Rate (List ℕ) (slot_numbers c) []
-slot_numbers_ends c = record {
-  none = λ as'. refl;
-  last = λ x xs. refl;
-  word = λ x xs t as'. refl;
-}
+abbrev pub no_slots : KnownInBody → SlotsMade
+no_slots k = (None, typed.no_stmt, k.locals, [])
+
+pub slots_end : (s : Setting) (k : KnownInBody) (line : ℕ) → Ends Rate SlotsMade (slots_made s k line) (no_slots k)
+slots_end s k line = record { none = λ as'. refl; last = λ x xs. refl; word = λ x xs t as'. refl }
 
 -- ---- statements that were added
 
@@ -164,7 +138,31 @@ made_next rs old new is form here next whole added same split was =
     ∙ ap (λ y. typed.then_block (typed.block rs old) (typed.andthen y next)) same
     ∙ sym (ap (λ b. typed.then_block (typed.block rs old) b) split) ∙ was
 
--- ---- one slot more
+-- ---- slots
+
+module _ (s : Setting) (line : ℕ) where
+  abbrev pub Says : KnownInBody → List TypedStmt → List ℕ → List Rate → List Argument → Option OrcFault
+      → (List typed.Block → typed.Block) → KnownInBody → List ℕ → Type 0
+  Says n done slots rs as' fault made known numbers =
+      (slots_fault s n line rs as' ≡ fault)
+      × ((bs : List typed.Block) → typed.then_block (typed.block bs done) (slots_set n line rs as') ≡ made bs)
+      × (known_in n.shared (slots_past n.locals rs as') ≡ known)
+      × (slots ++ slot_numbers n.locals.counts rs as' ≡ numbers)
+
+  -- where none is left
+  pub slots_done : (k : KnownInBody) (old : List TypedStmt) (before : List ℕ) (rs : List Rate) (as' : List Argument)
+      → slots_made s k line rs as' ≡ no_slots k
+      → (fault : Option OrcFault) (made : List typed.Block → typed.Block) (known : KnownInBody) (numbers : List ℕ)
+      → Says k old before rs as' fault made known numbers
+      → (fault ≡ None) × ((bs : List typed.Block) → typed.block bs old ≡ made bs) × (k ≡ known) × (before ≡ numbers)
+  slots_done k old before rs as' none fault made known numbers was = (
+    sym was.0 ∙ ap (λ x. x.0) none,
+    λ bs. none_left bs old _ (made bs) (ap (λ x. x.1) none) (was.1 bs),
+    sym (ap (λ x. known_in k.shared x.2) none) ∙ was.2,
+    sym (append-nil before) ∙ sym (ap (λ x. before ++ x.3) none) ∙ was.3,
+  )
+
+-- one slot more
 
 module _ (s : Setting) (k m : KnownInBody) (line : ℕ) (outs rates : List Rate) (args : List Arg) (i : ℕ) (d : Rate)
     (a : Arg) (e : Expr) (old new : List TypedStmt) (before after : List ℕ) (number : ℕ) where
@@ -177,37 +175,28 @@ module _ (s : Setting) (k m : KnownInBody) (line : ℕ) (outs rates : List Rate)
   abbrev form : typed.Statement
   form = typed.set line r (Local r (at_rate k.locals.counts r)) (expression_by (variable_in k) (expression e))
 
-  abbrev Says : KnownInBody → List TypedStmt → List ℕ → List Rate → List Argument → Option OrcFault
-      → (List typed.Block → typed.Block) → KnownInBody → List ℕ → Type 0
-  Says n done slots rs as' fault made known numbers =
-      (slots_fault s n line rs as' ≡ fault)
-      × ((bs : List typed.Block) → typed.then_block (typed.block bs done) (slots_set n line rs as') ≡ made bs)
-      × (known_in n.shared (slots_past n.locals rs as') ≡ known)
-      × (slots ++ slot_numbers n.locals.counts rs as' ≡ numbers)
-
   pub slots_next : i < length outs → i < length args → rates ≡ outs → a ≡ get_or args i a → a ≡ Value e
       → at line (set_fault_by s (knows_in k) (slot 0 r) (expression e)) ≡ None → Adds old new (typed.alone form)
       → m ≡ known_in k.shared (one_counted k.locals r) → number ≡ at_rate k.locals.counts r
       → after ≡ before ++ number ∷ []
       → (fault : Option OrcFault) (made : List typed.Block → typed.Block) (known : KnownInBody) (numbers : List ℕ)
-      → Says k old before (drop i outs) (map argument (drop i args)) fault made known numbers
-      → Says m new after (drop (i + 1) outs) rest fault made known numbers
+      → Says s line k old before (drop i outs) (map argument (drop i args)) fault made known numbers
+      → Says s line m new after (drop (i + 1) outs) rest fault made known numbers
   slots_next front back same q v none added on num pushed fault made known numbers was =
       let low : i < length rates = subst (λ xs. i < length xs) (sym same) front in
-      let p : r ≡ get_or outs i r = get_or_default rates i d r low ∙ ap (λ xs. get_or xs i r) same in (
+      let p : r ≡ get_or outs i r = get_or_default rates i d r low ∙ ap (λ xs. get_or xs i r) same in
+      let next = both_next (slots_made s k line) outs args i r a e front p back q v in (
         ap (λ n. slots_fault s n line (drop (i + 1) outs) rest) on
             ∙ fault_next (at line (set_fault_by s (knows_in k) (slot 0 r) (expression e))) _ _ fault
-            (both_next (slots_fault s k line) outs args i r a e front p back q v) none was.0,
+            (ap (λ x. x.0) next) none was.0,
         λ bs. ap (λ n. typed.then_block (typed.block bs new) (slots_set n line (drop (i + 1) outs) rest)) on
-            ∙ made_next bs old new form form _ _ (made bs) added refl
-            (both_next (slots_set k line) outs args i r a e front p back q v) (was.1 bs),
+            ∙ made_next bs old new form form _ _ (made bs) added refl (ap (λ x. x.1) next) (was.1 bs),
         ap (λ n. known_in n.shared (slots_past n.locals (drop (i + 1) outs) rest)) on
-            ∙ sym (ap (known_in k.shared) (both_next (slots_past k.locals) outs args i r a e front p back q v)) ∙ was.2,
+            ∙ sym (ap (λ x. known_in k.shared x.2) next) ∙ was.2,
         ap (λ ns. ns ++ slot_numbers m.locals.counts (drop (i + 1) outs) rest) pushed
             ∙ append_assoc before (number ∷ []) (slot_numbers m.locals.counts (drop (i + 1) outs) rest)
             ∙ (λ j. before ++ num j ∷ slot_numbers (on j).locals.counts (drop (i + 1) outs) rest)
-            ∙ sym (ap (λ ns. before ++ ns)
-            (both_next (slot_numbers k.locals.counts) outs args i r a e front p back q v)) ∙ was.3,
+            ∙ sym (ap (λ x. before ++ x.3) next) ∙ was.3,
       )
 
 -- what is left of a list that is another

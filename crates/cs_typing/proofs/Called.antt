@@ -1,23 +1,17 @@
 -- A call of a defined opcode, from what stands beside its routine.
 use Rattle.std.proofs.Common.{◌≡◌, ◌∙◌, ◌<◌, ◌++◌, ℕ, List, [], ◌∷◌, Some, None, length, map, sym, ap}
 use Rattle.std.specs.Option.{option_or}
-use Rattle.cs_base.specs.declared.fault.OrcFault.{OrcFault}
-use Rattle.cs_grammar.specs.Tree.{Argument, Definition}
+use Rattle.cs_grammar.specs.{Tree.Argument, Tree.Definition, declared.tree.Callee.Callee}
 use Rattle.cs_grammar.specs.WellFormed.{WellFormedDefinition}
-use Rattle.cs_grammar.specs.declared.tree.Callee.{Callee}
-use Rattle.cs_typed.specs.TypedTree as typed
-use Rattle.cs_typed.specs.declared.setting.Setting.{Setting}
-use Rattle.cs_typed.specs.declared.tree.TypedStmt.{TypedStmt}
-use Rattle.cs_typing.specs.declared.routines.RoutineTable.{RoutineTable}
+use Rattle.cs_typed.specs.{declared.setting.Setting.Setting, declared.tree.TypedStmt.TypedStmt}
+use Rattle.cs_typing.specs.{declared.routines.RoutineTable.RoutineTable, inner.Routines.routine_of}
 use Rattle.cs_typing.specs.inner.Listed.{Adds, AddsOver, blocks_in, routines_of}
 use Rattle.cs_typing.specs.inner.Routines.{KnownInBody, Routine, Routines, call_fault_in, call_in, inputs_fault}
 use Rattle.cs_typing.specs.inner.Routines.{inputs_set, known_in, number_in, past_call, results_fault, results_set}
-use Rattle.cs_typing.specs.inner.Routines.{routine_of}
 use Rattle.cs_typing.specs.inner.Slots.{given_set, taken_fault, taken_set}
-use Rattle.cs_typing.proofs.Listed.{at_front, one_more}
+use Rattle.cs_typing.proofs.{Listed.at_front, Listed.one_more, RoutineSlots.first_locals, Walked.added_both}
 use Rattle.cs_typing.proofs.RoutineSlots.{body_numbers, call_inputs_form, call_results_fault, call_results_form}
-use Rattle.cs_typing.proofs.RoutineSlots.{first_locals}
-use Rattle.cs_typing.proofs.Walked.{added_both}
+use Rattle.cs_typed.specs.TypedTree as typed
 
 module _ (ds : List Definition) (place : ℕ) (d : Definition) (well : WellFormedDefinition d) (s : Setting)
     (k : KnownInBody) (line : ℕ) (xs : List (List ℕ)) (args : List Argument) where
@@ -29,24 +23,14 @@ module _ (ds : List Definition) (place : ℕ) (d : Definition) (well : WellForme
 
   -- ---- the first rule that it breaks
 
-  pub call_sound : (c : Callee) → inputs_fault s k line d.names args ≡ None → r.fault s k.shared ≡ None
-      → taken_fault s line xs d.outs ≡ None → call_fault_in s k line xs c args (Some r) ≡ None
-  call_sound c inputs body results =
-      ap (λ f. option_or f (option_or (r.fault s k.shared)
+  -- where its inputs and its body break none, it is that of its results
+  pub call_judged : (c : Callee) → inputs_fault s k line d.names args ≡ None → r.fault s k.shared ≡ None
+      → taken_fault s line xs d.outs ≡ call_fault_in s k line xs c args (Some r)
+  call_judged c inputs body =
+      sym (ap (λ f. option_or f (option_or (r.fault s k.shared)
       (results_fault s (r.shared k.shared) r line xs r.results))) inputs
       ∙ ap (λ f. option_or f (results_fault s (r.shared k.shared) r line xs r.results)) body
-      ∙ call_results_fault rs d well s (r.shared k.shared) line xs
-      ∙ results
-
-  pub results_break : (c : Callee) (f : OrcFault) → inputs_fault s k line d.names args ≡ None
-      → r.fault s k.shared ≡ None → taken_fault s line xs d.outs ≡ Some f
-      → call_fault_in s k line xs c args (Some r) ≡ Some f
-  results_break c f inputs body e =
-      ap (λ g. option_or g (option_or (r.fault s k.shared)
-      (results_fault s (r.shared k.shared) r line xs r.results))) inputs
-      ∙ ap (λ g. option_or g (results_fault s (r.shared k.shared) r line xs r.results)) body
-      ∙ call_results_fault rs d well s (r.shared k.shared) line xs
-      ∙ e
+      ∙ call_results_fault rs d well s (r.shared k.shared) line xs)
 
   -- ---- its typed form
 

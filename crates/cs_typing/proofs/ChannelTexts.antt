@@ -1,19 +1,14 @@
 -- A call that uses a channel has one text: the channel's name.
 use Rattle.std.proofs.Common.{◌≡◌, ◌∙◌, ℕ, suc, ◌-◌, ◌==◌, Bool, true, false, ◌&&◌, List, [], ◌∷◌, length, nat_le}
-use Rattle.std.proofs.Common.{Option}
-use Rattle.std.proofs.Common.{Some, None, arith, refl, sym, ap}
-use Rattle.std.proofs.lemmas.Bool.{and_parts}
-use Rattle.std.proofs.lemmas.Bool.Decides.{nat_tests}
-use Rattle.cs_base.specs.Rates.{is_audio}
-use Rattle.cs_base.specs.declared.resource.Rate.{Rate}
-use Rattle.cs_words.specs.Catalogue.{row_of, takes_count}
-use Rattle.cs_words.specs.declared.catalogue.Opcode.{Opcode}
-use Rattle.cs_words.specs.declared.catalogue.Opcode.TheVariants as op
+use Rattle.std.proofs.Common.{Option, Some, None, arith, refl, sym, ap}
+use Rattle.std.proofs.lemmas.{Bool.and_parts, Bool.Decides.nat_tests}
+use Rattle.cs_base.specs.{Rates.is_audio, declared.resource.Rate.Rate}
+use Rattle.cs_words.specs.{Catalogue.row_of, Catalogue.takes_count, declared.catalogue.Opcode.Opcode}
 use Rattle.cs_grammar.specs.Tree.{Argument, value, text}
 use Rattle.cs_typing.specs.Calls.{all_fit, channel_use, text_of, arguments_by}
 use Rattle.cs_typing.specs.Expressions.{is_value, rate_of, Variables, expression_by}
-use Rattle.cs_typing.specs.Known.{Shared, channel_of}
-use Rattle.cs_typing.specs.declared.known.Channel.{Channel}
+use Rattle.cs_typing.specs.{Known.Shared, Known.channel_of, declared.known.Channel.Channel}
+use Rattle.cs_words.specs.declared.catalogue.Opcode.TheVariants as op
 use Rattle.cs_typed.specs.TypedTree as typed
 
 -- each text among arguments is this
@@ -37,7 +32,7 @@ no_second k h =
     let never : false ≡ true =
     sym (past_one k) ∙ (and_parts (nat_le 1 (suc (suc k))) (suc (suc k) - 1 == 0) h).1 in absurd (cc never)
 
-no_third : {A : Type 0} (k : ℕ) → (nat_le 2 (suc (suc (suc k))) && (suc (suc (suc k)) - 2 == 0)) ≡ true → A
+pub no_third : {A : Type 0} (k : ℕ) → (nat_le 2 (suc (suc (suc k))) && (suc (suc (suc k)) - 2 == 0)) ≡ true → A
 no_third k h =
     let never : false ≡ true =
     sym (past_two k) ∙ (and_parts (nat_le 2 (suc (suc (suc k)))) (suc (suc (suc k)) - 2 == 0) h).1 in absurd (cc never)

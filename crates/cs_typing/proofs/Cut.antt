@@ -1,15 +1,12 @@
 -- Statements cut at the line of an instrument, and the parts of an orchestra one after the other.
 use Rattle.std.proofs.Common.{◌≡◌, ◌∙◌, ◌+◌, ◌<◌, ℕ, suc, Bool, true, false, List, [], ◌∷◌, map, take, drop, cond}
-use Rattle.std.proofs.Common.{length}
-use Rattle.std.proofs.Common.{nat_lt, get_or, if◌then◌else◌, refl, sym, ap, arith}
+use Rattle.std.proofs.Common.{length, nat_lt, get_or, if◌then◌else◌, refl, sym, ap, arith}
 use Rattle.std.specs.List.{prefix_len}
-use Rattle.cs_grammar.specs.declared.tree.Instr.{Instr}
-use Rattle.cs_grammar.specs.declared.tree.OrcStmt.{OrcStmt}
-use Rattle.cs_grammar.specs.declared.tree.StmtWhat.{StmtWhat}
+use Rattle.cs_grammar.specs.{declared.tree.Instr.Instr, declared.tree.OrcStmt.OrcStmt, declared.tree.StmtWhat.StmtWhat}
 use Rattle.cs_grammar.specs.declared.tree.StmtWhat.TheVariants.{Set, Call, Choose'}
-use Rattle.cs_grammar.specs.Tree as tree
-use Rattle.cs_typing.proofs.Answers.{dropped}
+use Rattle.cs_udo.proofs.Places.{dropped}
 use Rattle.cs_typing.specs.Typing.{line_of, before, from, alone, body, items}
+use Rattle.cs_grammar.specs.Tree as tree
 
 line_of_what : (line : ℕ) (w : StmtWhat) → line_of (tree.of_what line w) ≡ line
 line_of_what line (Set name e) = refl

@@ -1,34 +1,24 @@
 -- The whole orchestra: what its parts answer, put together, and that it is the answer for the expanded text.
 use Rattle.std.proofs.Common.{◌≡◌, ◌∙◌, ℕ, List, [], ◌++◌, map, Option, Some, None, Result, Ok, Err, IfOk, OnOk, sym}
-use Rattle.std.proofs.Common.{ap}
-use Rattle.std.proofs.Common.{subst}
+use Rattle.std.proofs.Common.{ap, subst}
 use Rattle.std.specs.Option.{option_or}
 use Rattle.std.proofs.lemmas.List.{append-nil}
-use Rattle.cs_base.specs.declared.fault.Or.{Or}
-use Rattle.cs_base.specs.declared.fault.Or.TheVariants as or
-use Rattle.cs_base.specs.declared.fault.OrcFault.{OrcFault}
-use Rattle.cs_grammar.specs.Tree as tree
-use Rattle.cs_grammar.specs.declared.tree.HeadLine.{HeadLine}
-use Rattle.cs_grammar.specs.declared.tree.Instr.{Instr}
-use Rattle.cs_grammar.specs.declared.tree.OrcStmt.{OrcStmt}
-use Rattle.cs_udo.specs.Expanded.{expanded_orchestra}
-use Rattle.cs_udo.specs.Library.{definitions_of}
-use Rattle.cs_udo.specs.Ready.{IsReady}
+use Rattle.cs_base.specs.{declared.fault.Or.Or, declared.fault.OrcFault.OrcFault}
+use Rattle.cs_grammar.specs.{declared.tree.HeadLine.HeadLine, declared.tree.Instr.Instr, declared.tree.OrcStmt.OrcStmt}
+use Rattle.cs_udo.specs.{Expanded.expanded_orchestra, Library.definitions_of, Ready.IsReady}
 use Rattle.cs_udo.specs.declared.library.Expansion.{Expansion}
-use Rattle.cs_typed.specs.TypedTree as typed
 use Rattle.cs_typed.specs.declared.tree.TypedOrc.{TypedOrc}
 use Rattle.cs_typing.specs.Settings.{header, settings_fault, zaks_of_block, zak_spaces}
-use Rattle.cs_typing.specs.Typing.{items, type_fault, typed_of}
-use Rattle.cs_typing.specs.declared.orc.Typing.{Typing}
-use Rattle.cs_typing.specs.declared.settle.Settings.{Settings}
-use Rattle.cs_typing.specs.inner.Held.{known_of}
-use Rattle.cs_typing.specs.inner.Listed.{blocks_in}
-use Rattle.cs_typing.specs.inner.Parts.{after_parts, begun, known_behind_all, made_from, nothing, parts_fault}
-use Rattle.cs_typing.specs.inner.Parts.{parts_of, statements_fault, typed_by}
-use Rattle.cs_typing.specs.inner.Routines.{KnownInBody}
+use Rattle.cs_typing.specs.{Typing.items, Typing.type_fault, Typing.typed_of, declared.orc.Typing.Typing}
+use Rattle.cs_typing.specs.{declared.settle.Settings.Settings, inner.Answers.HasFault, inner.Held.known_of}
+use Rattle.cs_typing.specs.{inner.Listed.blocks_in, inner.Parts.statements_fault, inner.Parts.typed_by}
+use Rattle.cs_typing.specs.{inner.Routines.KnownInBody, inner.Walk.AddsParts, inner.Walk.GivesOrc, inner.Walk.made_of}
+use Rattle.cs_typing.specs.inner.Parts.{after_parts, begun, known_behind_all, made_from, nothing, parts_fault, parts_of}
 use Rattle.cs_typing.specs.inner.Settled.{Told, settings_of, told}
-use Rattle.cs_typing.specs.inner.Walk.{AddsParts, GivesOrc, made_of}
 use Rattle.cs_typing.proofs.RoutineOrchestra.{orchestra_breaks, orchestra_forms}
+use Rattle.cs_base.specs.declared.fault.Or.TheVariants as or
+use Rattle.cs_grammar.specs.Tree as tree
+use Rattle.cs_typed.specs.TypedTree as typed
 
 -- ---- the parts of an expansion, as they are lent
 
@@ -106,10 +96,13 @@ module _ (e : Expansion) (ready : IsReady e) (lines : List HeadLine) (zero : Lis
 
 -- ---- what an answer says
 
-abbrev pub fault_of : Result TypedOrc (Or OrcFault) → Option OrcFault
-fault_of (Ok t) = None
-fault_of (Err (or.Fault f)) = Some f
-fault_of (Err or.OutOfMemory) = None
+abbrev error_of : Or OrcFault → Result TypedOrc (Or OrcFault) → Or OrcFault
+error_of e (Ok t) = e
+error_of e (Err x) = x
+
+pub fault_is : (e : Or OrcFault) (a : Option OrcFault) (f : OrcFault)
+    → ◌≡◌ {A = Result TypedOrc (Or OrcFault)} (Err e) (Err (or.Fault f)) → HasFault e a → a ≡ Some f
+fault_is e a f is h = subst (λ (x : Or OrcFault). HasFault x a) (ap (error_of e) is) h
 
 pub given_form : (r : Result TypedOrc (Or OrcFault)) (f : Option OrcFault) (a b : typed.Orchestra) → GivesOrc r f a
     → (f ≡ None → a ≡ b) → IfOk r (λ t. typed.orchestra t ≡ b)

@@ -1,23 +1,17 @@
 -- Before anything is judged no definition is typed, and no channel is used.
-use Rattle.std.proofs.Common.{◌≡◌, ◌∙◌, ℕ, List, [], length, replicate, slice_get}
-use Rattle.std.proofs.Common.{Option, Some, None, arith, sym, ap, subst}
+use Rattle.std.proofs.Common.{◌≡◌, ◌∙◌, ℕ, List, [], length, replicate, slice_get, Option, Some, None, arith, sym, ap}
+use Rattle.std.proofs.Common.{subst}
 use Rattle.std.specs.List.{All}
 use Rattle.std.proofs.lemmas.List.{get_or-replicate, length-map, length-replicate}
 use Rattle.std.proofs.lemmas.Option.{get_or_from_slice_get, none-some, slice_get_within}
 use Rattle.cs_words.specs.NameSets.{has}
-use Rattle.cs_grammar.specs.Tree.{Definition}
-use Rattle.cs_grammar.specs.Tree as tree
-use Rattle.cs_grammar.specs.WellFormed.{WellFormedDefinition}
-use Rattle.cs_udo.specs.Library.{definitions_of}
-use Rattle.cs_udo.specs.Ready.{IsReady}
-use Rattle.cs_udo.specs.declared.library.Expansion.{Expansion}
-use Rattle.cs_typing.specs.Known.{Shared}
+use Rattle.cs_grammar.specs.{Tree.Definition, WellFormed.WellFormedDefinition}
+use Rattle.cs_udo.specs.{Library.definitions_of, Ready.IsReady, declared.library.Expansion.Expansion}
+use Rattle.cs_typing.specs.{Known.Shared, inner.Held.known_of, inner.Listed.AreTyped, inner.Parts.begun}
 use Rattle.cs_typing.specs.declared.known.KnownNames.{KnownNames}
 use Rattle.cs_typing.specs.declared.routines.RoutineTable.{RoutineTable}
 use Rattle.cs_typing.specs.declared.routines.TypedDefinition.{TypedDefinition}
-use Rattle.cs_typing.specs.inner.Held.{known_of}
-use Rattle.cs_typing.specs.inner.Listed.{AreTyped}
-use Rattle.cs_typing.specs.inner.Parts.{begun}
+use Rattle.cs_grammar.specs.Tree as tree
 
 none_typed : {A : Type 0} (n k : ℕ) (it : TypedDefinition) → slice_get (replicate n None) k ≡ Some (Some it) → A
 none_typed n k it e =

@@ -1,103 +1,36 @@
 -- Which names a called opcode gives, by the places of definitions; and what each definition's mark says.
-use Rattle.std.proofs.Common.{◌≡◌, ◌∙◌, ℕ, zero, suc, ◌+◌, ◌<◌, ◌≤◌, min, Bool, cond, true, false, not, if◌then◌else◌}
-use Rattle.std.proofs.Common.{List, [], ◌∷◌, ◌++◌, length, take, set, slice_get, map, Some, None, arith, refl, sym, ap}
-use Rattle.std.proofs.Common.{subst, ◌≢◌, ⊎_elim}
-use Rattle.std.specs.Option.{option_or}
-use Rattle.std.specs.Str.{bytes_eq}
-use Rattle.std.proofs.lemmas.List.{append_assoc, length-set}
-use Rattle.std.proofs.lemmas.Bool.{cases_eq}
-use Rattle.std.proofs.lemmas.Option.{none-some, same_Some}
-use Rattle.cs_grammar.specs.WellFormed.{IsWellFormed}
-use Rattle.cs_grammar.specs.declared.tree.Callee.{Callee}
-use Rattle.cs_grammar.specs.declared.tree.Callee.TheVariants as callee
-use Rattle.cs_grammar.specs.declared.tree.Arm.{Arm as Arm', out-Arm}
-use Rattle.cs_grammar.specs.Tree as tree
-use Rattle.cs_grammar.specs.Tree.{Block, Definition, Orchestra, definition}
+use Rattle.std.proofs.Common.{◌≡◌, ◌∙◌, ℕ, zero, suc, Bool, true, List, [], ◌∷◌, ◌++◌, length, set, slice_get, map}
+use Rattle.std.proofs.Common.{Some, None, refl, sym, ap, subst, ◌≢◌, ⊎_elim}
+use Rattle.std.proofs.lemmas.{List.append_assoc, List.length-set, Bool.cases_eq, Option.same_Some}
+use Rattle.cs_grammar.specs.{WellFormed.IsWellFormed, declared.tree.Callee.Callee, declared.tree.Arm.Arm as Arm'}
+use Rattle.cs_grammar.specs.{declared.tree.Arm.out-Arm, Tree.Block, Tree.Definition, Tree.Orchestra, Tree.definition}
 use Rattle.cs_udo.specs.Expanded.{expanded_instrument, expanded_orchestra, no_opcodes}
-use Rattle.cs_udo.specs.Library.{IsFound, definitions_of, place_among}
+use Rattle.cs_udo.specs.{Library.IsFound, Library.definitions_of, declared.library.FoundDefinition.FoundDefinition}
 use Rattle.cs_udo.specs.Refused.{all_faults, faults_of_definitions, faults_of_instruments, faults_outside, first_fault}
-use Rattle.cs_udo.specs.declared.library.FoundDefinition.{FoundDefinition}
-use Rattle.cs_typing.specs.Known.{no_names}
+use Rattle.cs_typing.specs.{Known.no_names, declared.globals.Front.Front, declared.globals.GivenGlobals.GivenGlobals}
 use Rattle.cs_typing.specs.Typing.{all_globals, given_globals, globals_of_instruments}
-use Rattle.cs_typing.specs.declared.globals.Front.{Front}
-use Rattle.cs_typing.specs.declared.globals.GivenGlobals.{GivenGlobals}
 use Rattle.cs_typing.specs.inner.Globals.{Givers, Has, IsDone, Looks, called_names, givers_in, givers_of}
-use Rattle.cs_typing.specs.inner.Globals.{names_in_block}
-use Rattle.cs_typing.specs.inner.Globals.{names_in_arms, names_in_bodies}
-use Rattle.cs_typing.specs.inner.Globals.{names_in_instruments, names_of, with_giver, with_givers}
+use Rattle.cs_typing.specs.inner.Globals.{names_in_block, names_in_arms, names_in_bodies, names_given}
+use Rattle.cs_typing.specs.inner.Globals.{names_in_instruments, names_of}
+use Rattle.cs_typing.proofs.DefinitionsFound.{found, unfound}
 use Rattle.cs_typing.proofs.GlobalsHeld.{given_held, held_again, held_on}
 use Rattle.cs_typing.proofs.GlobalsWritten.{all_local_inputs, given_both, instruments_given, plain_block_given}
-use Rattle.cs_typing.proofs.RoutineBlocks.{no_first}
-use Rattle.cs_typing.proofs.RoutineOrchestra.{no_uppermost}
-
-kept : (gs : Givers) (ds : List Definition) (x : List ℕ) (xs : List (List ℕ)) → gs x ≡ Some xs
-    → with_givers gs ds x ≡ Some xs
-kept gs [] x xs e = e
-kept gs (d ∷ ds) x xs e =
-    kept (with_giver gs d) ds x xs
-    (ap (λ o. option_or o (if bytes_eq x d.name then Some (names_in_block gs d.body) else None)) e)
-
-here : (gs : Givers) (d : Definition) (x : List ℕ) → gs x ≡ None → bytes_eq x d.name ≡ true
-    → with_giver gs d x ≡ Some (names_in_block gs d.body)
-here gs d x none same =
-    ap (λ o. option_or o (if bytes_eq x d.name then Some (names_in_block gs d.body) else None)) none
-    ∙ ap (λ b. if b then Some (names_in_block gs d.body) else None) same
-
-elsewhere : (gs : Givers) (d : Definition) (x : List ℕ) → gs x ≡ None → bytes_eq x d.name ≡ false
-    → with_giver gs d x ≡ None
-elsewhere gs d x none other =
-    ap (λ o. option_or o (if bytes_eq x d.name then Some (names_in_block gs d.body) else None)) none
-    ∙ ap (λ b. if b then Some (names_in_block gs d.body) else None) other
-
--- a name that none of the first definitions has
-unfound : (gs : Givers) (ds : List Definition) (n : ℕ) (x : List ℕ) → gs x ≡ None
-    → min n (length ds) ≤ place_among ds x → with_givers gs (take n ds) x ≡ None
-unfound gs ds zero x none h = none
-unfound gs [] (suc n) x none h = none
-unfound gs (d ∷ ds) (suc n) x none h = by (bytes_eq x d.name) refl h (unfound (with_giver gs d) ds n x)
-  where
-    by : (b : Bool) → bytes_eq x d.name ≡ b → min (suc n) (suc (length ds)) ≤ cond (not b) (1 + place_among ds x) 0
-        → (with_giver gs d x ≡ None → min n (length ds) ≤ place_among ds x
-        → with_givers (with_giver gs d) (take n ds) x ≡ None) → with_givers (with_giver gs d) (take n ds) x ≡ None
-    by true e k rest = absurd (omega (arith, k))
-    by false e k rest = rest (elsewhere gs d x none e) (omega (arith, k))
-
--- a name that one of the first definitions has
-found_next : (gs : Givers) (c : Definition) (ds : List Definition) (n k : ℕ) (x : List ℕ) (d : Definition)
-    → gs x ≡ None → (b : Bool) → bytes_eq x c.name ≡ b → k ≡ cond (not b) (1 + place_among ds x) 0 → k < suc n
-    → slice_get (c ∷ ds) k ≡ Some d
-    → ((j : ℕ) → with_giver gs c x ≡ None → j ≡ place_among ds x → j < n → slice_get ds j ≡ Some d
-    → with_givers (with_giver gs c) (take n ds) x
-    ≡ Some (names_in_block (with_givers (with_giver gs c) (take j ds)) d.body))
-    → with_givers (with_giver gs c) (take n ds) x ≡ Some (names_in_block (with_givers gs (take k (c ∷ ds))) d.body)
-found_next gs c ds n zero x d none true e p lt g rest =
-    kept (with_giver gs c) (take n ds) x (names_in_block gs d.body)
-    (here gs c x none e ∙ ap (λ y. Some (names_in_block gs y.body)) (same_Some c d g))
-found_next gs c ds n (suc k) x d none true e p lt g rest = absurd (omega (arith, p))
-found_next gs c ds n zero x d none false e p lt g rest = absurd (omega (arith, p))
-found_next gs c ds n (suc k) x d none false e p lt g rest =
-    rest k (elsewhere gs c x none e) (omega (arith, p)) (omega (arith, lt)) g
-
-found : (gs : Givers) (ds : List Definition) (n k : ℕ) (x : List ℕ) (d : Definition) → gs x ≡ None
-    → k ≡ place_among ds x → k < n → slice_get ds k ≡ Some d
-    → with_givers gs (take n ds) x ≡ Some (names_in_block (with_givers gs (take k ds)) d.body)
-found gs [] n k x d none p lt g = absurd (none-some d g)
-found gs (c ∷ ds) zero k x d none p lt g = absurd (omega (arith, lt))
-found gs (c ∷ ds) (suc n) k x d none p lt g =
-    found_next gs c ds n k x d none (bytes_eq x c.name) refl p lt g (λ j. found (with_giver gs c) ds n j x d)
+use Rattle.cs_typing.proofs.{RoutineBlocks.no_first, RoutineOrchestra.no_uppermost}
+use Rattle.cs_grammar.specs.declared.tree.Callee.TheVariants as callee
+use Rattle.cs_grammar.specs.Tree as tree
 
 -- what is called, by what the library finds
 pub giver_unfound : (ds : List Definition) (visible : ℕ) (c : Callee) → IsFound ds visible c None
     → called_names (givers_of ds visible) c ≡ []
 giver_unfound ds visible (callee.Opcode o) h = refl
-giver_unfound ds visible (callee.Name x) h = ap names_of (unfound (λ name. None) ds visible x refl h)
+giver_unfound ds visible (callee.Name x) h = ap names_of (unfound names_given (λ name. None) ds visible x refl h)
 
 pub giver_found : (ds : List Definition) (visible : ℕ) (c : Callee) (f : FoundDefinition)
     → IsFound ds visible c (Some f)
     → called_names (givers_of ds visible) c ≡ names_in_block (givers_of ds f.place) (definition f.definition.now).body
 giver_found ds visible (callee.Opcode o) f h = absurd h
 giver_found ds visible (callee.Name x) f h =
-    ap names_of (found (λ name. None) ds visible f.place x (definition f.definition.now) refl h.1 h.0 h.2)
+    ap names_of (found names_given (λ name. None) ds visible f.place x (definition f.definition.now) refl h.1 h.0 h.2)
 
 -- ---- marks
 
@@ -131,11 +64,9 @@ looks_again f g c found d h at marked = record {
 }
 
 get_set_other : (xs : List Bool) (i k : ℕ) (b : Bool) → k ≢ i → slice_get (set xs i b) k ≡ slice_get xs k
-get_set_other [] i k b other = refl
 get_set_other (x ∷ xs) zero zero b other = absurd (other refl)
-get_set_other (x ∷ xs) zero (suc k) b other = refl
-get_set_other (x ∷ xs) (suc i) zero b other = refl
 get_set_other (x ∷ xs) (suc i) (suc k) b other = get_set_other xs i k b (λ e. other (ap suc e))
+get_set_other xs i k b other = refl
 
 -- what a definition gives at its first call, after which it is marked
 pub looks_first : (f inner : Front) (old made new : GivenGlobals) (c : Callee) (found : FoundDefinition)

@@ -3,27 +3,26 @@ use Rattle.std.proofs.Common.{◌≡◌, ◌∙◌, ℕ, Bool, true, false, if�
 use Rattle.std.proofs.lemmas.List.Elements.{All-nil, All-cons, All-head, All-tail, All-weaker}
 use Rattle.cs_words.specs.Names.{is_global}
 use Rattle.cs_typing.specs.Known.{RateNames, in_table, added}
-use Rattle.cs_typing.specs.Typing.{given_global, given_globals}
-use Rattle.cs_typing.specs.inner.Globals.{Has}
+use Rattle.cs_typing.specs.{Typing.given_global, Typing.given_globals, inner.Globals.Has}
 use Rattle.cs_typing.proofs.Added.{added_there}
 use Rattle.cs_typing.proofs.Later.{TableGoesOn, table_stays, table_further, added_on, added_in, in_on}
 
 abbrev Held : RateNames → List ℕ → Type 0
 Held t x = is_global x ≡ true → in_table t x ≡ true
 
-one_on : (t : RateNames) (x : List ℕ) → TableGoesOn t (given_global t x)
+pub one_on : (t : RateNames) (x : List ℕ) → TableGoesOn t (given_global t x)
 one_on t x = by (is_global x)
   where
     by : (b : Bool) → TableGoesOn t (if b then added t x else t)
     by true = added_on t x
     by false = table_stays t
 
-all_on : (t : RateNames) (xs : List (List ℕ)) → TableGoesOn t (given_globals t xs)
+pub all_on : (t : RateNames) (xs : List (List ℕ)) → TableGoesOn t (given_globals t xs)
 all_on t [] = table_stays t
 all_on t (x ∷ xs) =
     table_further t (given_global t x) (given_globals (given_global t x) xs) (one_on t x) (all_on (given_global t x) xs)
 
-one_held : (t : RateNames) (x : List ℕ) → Held (given_global t x) x
+pub one_held : (t : RateNames) (x : List ℕ) → Held (given_global t x) x
 one_held t x e = ap (λ b. in_table (if b then added t x else t) x) e ∙ added_in t x
 
 -- what is given is held

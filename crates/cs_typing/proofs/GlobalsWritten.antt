@@ -1,39 +1,27 @@
 -- The global variables that expanded statements give are those that the written ones give.
 use Rattle.std.proofs.Common.{◌≡◌, ◌∙◌, ◌++◌, ℕ, Bool, true, false, if◌then◌else◌, List, [], ◌∷◌, map, Option, Some}
-use Rattle.std.proofs.Common.{None}
-use Rattle.std.proofs.Common.{◌+◌, zero, suc, nat_lt, arith, refl, subst, sym, ap, take}
-use Rattle.std.specs.List.{All, prefix_len}
-use Rattle.std.specs.Option.{option_or}
-use Rattle.std.proofs.lemmas.List.{append_assoc}
-use Rattle.std.specs.Str.{bytes_eq}
+use Rattle.std.proofs.Common.{None, ◌+◌, zero, suc, nat_lt, arith, refl, subst, sym, ap, take}
+use Rattle.std.specs.{List.All, List.prefix_len, Option.option_or, Str.bytes_eq}
+use Rattle.std.proofs.lemmas.{List.append_assoc, List.Elements.All-head, List.Elements.All-tail}
 use Rattle.cs_base.specs.declared.resource.Rate.{Rate}
 use Rattle.cs_words.specs.Names.{is_global}
-use Rattle.cs_grammar.specs.declared.tree.Callee.{Callee}
-use Rattle.cs_grammar.specs.declared.tree.Callee.TheVariants as callee
+use Rattle.cs_grammar.specs.{declared.tree.Callee.Callee, Renaming.renamed_argument, WellFormed.WellFormedDefinition}
 use Rattle.cs_grammar.specs.Tree.{Argument, value, text, Statement, set, call, choose, Block, no_stmt, andthen, joins}
 use Rattle.cs_grammar.specs.Tree.{Arms, otherwise, arm, Definition, Instrument}
-use Rattle.cs_grammar.specs.Renaming.{renamed_argument}
-use Rattle.cs_udo.specs.Expanded.{Template, Opcodes, no_opcodes, defined, assignments, value_in, called}
-use Rattle.cs_udo.specs.Expanded.{after, after_block, expanded, expanded_block, expanded_arms, template, whole_body}
-use Rattle.cs_udo.specs.Expanded.{defining, defining_all, expanded_instrument, opcodes_before}
-use Rattle.cs_udo.specs.Library.{opcodes_of}
-use Rattle.cs_udo.specs.Names.{as_it_is, in_frame, slots}
-use Rattle.cs_udo.proofs.Places.{opcodes_here}
+use Rattle.cs_udo.specs.Expanded.{Template, Opcodes, no_opcodes, defined, assignments, value_in, called, after}
+use Rattle.cs_udo.specs.Expanded.{after_block, expanded, expanded_block, expanded_arms, template, whole_body, defining}
+use Rattle.cs_udo.specs.Expanded.{defining_all, expanded_instrument, opcodes_before}
+use Rattle.cs_udo.specs.{Library.opcodes_of, Names.as_it_is, Names.in_frame, Names.slots, Refused.faults_of_instruments}
+use Rattle.cs_udo.proofs.{Places.opcodes_here, Plain.same_block, Fresh.slot_local}
 use Rattle.cs_udo.specs.Refused.{call_faults, faults, faults_in, faults_in_arms, faults_of_definitions}
-use Rattle.cs_udo.specs.Refused.{faults_of_instruments}
-use Rattle.cs_typing.specs.Known.{RateNames, added}
+use Rattle.cs_typing.specs.{Known.RateNames, Known.added, Typing.globals_of_instruments}
 use Rattle.cs_typing.specs.Typing.{given_global, given_globals, globals, globals_of_block, globals_of_arms}
-use Rattle.cs_typing.specs.Typing.{globals_of_instruments}
 use Rattle.cs_typing.specs.inner.Globals.{Givers, names_of, called_names, names_in, names_in_block, names_in_arms}
 use Rattle.cs_typing.specs.inner.Globals.{with_giver, with_givers, givers_of, names_in_instruments}
-use Rattle.cs_typing.proofs.RoutineCalls.{ResultsFit}
-use Rattle.cs_typing.proofs.RoutineBlocks.{call_fits, no_first}
-use Rattle.cs_typing.proofs.RoutineLibrary.{body_allowed}
-use Rattle.cs_typing.proofs.RoutineNames.{frame_owns}
+use Rattle.cs_typing.proofs.{RoutineCalls.ResultsFit, RoutineBlocks.call_fits, RoutineBlocks.no_first}
+use Rattle.cs_typing.proofs.{RoutineLibrary.body_allowed, RoutineNames.frame_owns, RoutineOrchestra.none_called_block}
 use Rattle.cs_typing.proofs.RoutineSlots.{AllLocal, inputs_local}
-use Rattle.cs_udo.proofs.Fresh.{slot_local}
-use Rattle.cs_grammar.specs.WellFormed.{WellFormedDefinition}
-use Rattle.cs_typing.proofs.Named.{head_of, tail_of}
+use Rattle.cs_grammar.specs.declared.tree.Callee.TheVariants as callee
 
 -- ---- names, one after another
 
@@ -52,12 +40,10 @@ local_not_given t x h = ap (λ b. if b then added t x else t) h
 
 inputs_not_given : (t : RateNames) (line : ℕ) (xs : List (List ℕ)) (args : List Argument) → AllLocal xs
     → globals_of_block t (assignments line xs args) ≡ t
-inputs_not_given t line [] args h = refl
-inputs_not_given t line (x ∷ xs) [] h = refl
-inputs_not_given t line (x ∷ xs) (text v ∷ args) h = refl
 inputs_not_given t line (x ∷ xs) (value e ∷ args) h =
     ap (λ u. globals_of_block u (assignments line xs args)) (local_not_given t x h.0)
     ∙ inputs_not_given t line xs args h.1
+inputs_not_given t line xs args h = refl
 
 -- names that go on being global, and names of one's own
 pub record Keeps (own : List ℕ → List ℕ) : Type 0 where
@@ -233,8 +219,8 @@ AllLocalInputs (d ∷ ds) = AllLocal d.names × AllLocalInputs ds
 pub all_local_inputs : (ds : List Definition) → All WellFormedDefinition ds → AllLocalInputs ds
 all_local_inputs [] h = tt
 all_local_inputs (d ∷ ds) h = (
-  inputs_local d.names (head_of WellFormedDefinition d ds h).local,
-  all_local_inputs ds (tail_of WellFormedDefinition d ds h),
+  inputs_local d.names (All-head WellFormedDefinition d ds h).local,
+  all_local_inputs ds (All-tail WellFormedDefinition d ds h),
 )
 
 -- any number of the first definitions
@@ -258,31 +244,11 @@ all_give ds n local none = give_first no_opcodes (λ name. None) (λ name. tt) d
 plain_keeps : Keeps as_it_is
 plain_keeps = record { local = λ x. refl; shared = λ x h. refl }
 
-called_none : (c : Callee) → called_names (λ name. None) c ≡ []
-called_none (callee.Opcode o) = refl
-called_none (callee.Name name) = refl
-
-mutual
-  plain_given : (t : RateNames) (x : Statement) → globals t x ≡ given_globals t (names_in (λ name. None) x)
-  plain_given t (set line x e) = refl
-  plain_given t (call line xs c args) = ap (λ ys. given_globals t (ys ++ xs)) (sym (called_none c))
-  plain_given t (choose line list) = plain_arms_given t list
-
-  pub plain_block_given : (t : RateNames) (b : Block)
-      → globals_of_block t b ≡ given_globals t (names_in_block (λ name. None) b)
-  plain_block_given t no_stmt = refl
-  plain_block_given t (andthen x rest) =
-      ap (λ u. globals_of_block u rest) (plain_given t x)
-      ∙ plain_block_given (given_globals t (names_in (λ name. None) x)) rest
-      ∙ sym (given_both t (names_in (λ name. None) x) (names_in_block (λ name. None) rest))
-
-  plain_arms_given : (t : RateNames) (list : Arms)
-      → globals_of_arms t list ≡ given_globals t (names_in_arms (λ name. None) list)
-  plain_arms_given t (otherwise b) = plain_block_given t b
-  plain_arms_given t (arm c b rest) =
-      ap (λ u. globals_of_arms u rest) (plain_block_given t b)
-      ∙ plain_arms_given (given_globals t (names_in_block (λ name. None) b)) rest
-      ∙ sym (given_both t (names_in_block (λ name. None) b) (names_in_arms (λ name. None) rest))
+pub plain_block_given : (t : RateNames) (b : Block)
+    → globals_of_block t b ≡ given_globals t (names_in_block (λ name. None) b)
+plain_block_given t b =
+    sym (ap (globals_of_block t) (same_block 1 b))
+    ∙ block_given no_opcodes (λ name. None) (λ name. tt) plain_keeps t 1 b (none_called_block b)
 
 -- an instrument, where so many definitions stand in front of it
 instrument_given : (ds : List Definition) → AllLocalInputs ds → faults_of_definitions no_opcodes ds ≡ []

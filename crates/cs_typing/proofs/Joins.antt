@@ -2,11 +2,10 @@
 use Rattle.std.proofs.Common.{◌≡◌, ◌∙◌, Option, Some, None, refl, sym, ap}
 use Rattle.std.specs.Option.{option_or}
 use Rattle.cs_grammar.specs.Tree.{Block, no_stmt, andthen, joins}
-use Rattle.cs_typed.specs.TypedTree as typed
-use Rattle.cs_typed.specs.TypedTree.{then_block}
-use Rattle.cs_typed.specs.declared.setting.Setting.{Setting}
+use Rattle.cs_typed.specs.{TypedTree.then_block, declared.setting.Setting.Setting}
 use Rattle.cs_typing.specs.Known.{KnownHere}
 use Rattle.cs_typing.specs.Statements.{known, known_block, fault, block_fault, typed_statement, typed_block}
+use Rattle.cs_typed.specs.TypedTree as typed
 
 pub or_none : {A : Type 0} (a : Option A) → option_or a None ≡ a
 or_none None = refl

@@ -1,23 +1,21 @@
 -- What is known goes on being known.
 use Rattle.std.proofs.Common.{◌≡◌, ◌∙◌, ℕ, Bool, true, false, if◌then◌else◌, List, [], ◌∷◌, Option, Some, None, refl}
 use Rattle.std.proofs.Common.{sym, ap}
-use Rattle.cs_base.specs.declared.resource.Res.TheVariants as res
-use Rattle.cs_words.specs.Catalogue.{Row, row_of}
-use Rattle.cs_words.specs.NameSets.{seen}
-use Rattle.cs_words.specs.Names.{is_global}
+use Rattle.cs_words.specs.{Catalogue.Row, Catalogue.row_of, NameSets.seen, Names.is_global}
+use Rattle.cs_words.proofs.Places.{seen_is_there}
 use Rattle.cs_grammar.specs.declared.tree.Callee.{Callee}
-use Rattle.cs_grammar.specs.declared.tree.Callee.TheVariants as callee
 use Rattle.cs_grammar.specs.Tree.{Argument, Statement, set, call, choose, Block, no_stmt, andthen, Arms, otherwise, arm}
-use Rattle.cs_typed.specs.declared.tree.Var.TheVariants as variant
 use Rattle.cs_typing.specs.Calls.{channel_use, text_of, row_known, call_known}
 use Rattle.cs_typing.specs.Known.{RateNames, added, Shared, KnownHere, after_giving, given, given_all, used}
-use Rattle.cs_typing.specs.Known.{use_channel}
-use Rattle.cs_typing.specs.Known.{channel_of}
+use Rattle.cs_typing.specs.{Known.use_channel, Known.channel_of, declared.known.Channel.Channel}
 use Rattle.cs_typing.specs.Statements.{known, known_block, known_arms}
-use Rattle.cs_typing.specs.declared.known.Channel.{Channel}
+use Rattle.cs_typing.specs.Typing.{Item, alone, body, entered, known_item, known_items}
+use Rattle.cs_typing.proofs.Later.{GoesOn, stays, goes_further, place_on, seen_on, seen_place, TableGoesOn, table_stays}
+use Rattle.cs_typing.proofs.Later.{table_further, added_on}
+use Rattle.cs_base.specs.declared.resource.Res.TheVariants as res
+use Rattle.cs_grammar.specs.declared.tree.Callee.TheVariants as callee
+use Rattle.cs_typed.specs.declared.tree.Var.TheVariants as variant
 use Rattle.cs_typing.specs.declared.known.Channel.TheVariants as channel
-use Rattle.cs_typing.proofs.Later.{GoesOn, stays, goes_further, place_on, seen_on, seen_has, seen_place, TableGoesOn}
-use Rattle.cs_typing.proofs.Later.{table_stays, table_further, added_on}
 
 pub record SharedGoesOn (s r : Shared) : Type 0 where
   pub globals : r.globals ≡ s.globals
@@ -96,12 +94,22 @@ mutual
       later_further n (known_block n b) (known_arms (known_block n b) rest) (known_block_later n b)
       (known_arms_later (known_block n b) rest)
 
+item_later : (n : KnownHere) (x : Item) → Later n (known_item n x)
+item_later n (alone b) = known_block_later n b
+item_later n (body i) = record { shared = (known_block_later (entered n) i.body).shared; locals = table_stays n.locals }
+
+pub items_later : (n : KnownHere) (list : List Item) → Later n (known_items n list)
+items_later n [] = later_same n
+items_later n (x ∷ rest) =
+    later_further n (known_item n x) (known_items (known_item n x) rest) (item_later n x)
+    (items_later (known_item n x) rest)
+
 -- a channel that is used has its number from then on
 pub channel_same : (s r : Shared) (kind : Channel) (t : List ℕ) → SharedGoesOn (used s kind t) r
     → channel_of s kind t ≡ channel_of r kind t
 channel_same s r channel.Control t l =
     ap (λ k. variant.Global (res.Control k))
-    (sym (seen_place s.control t) ∙ sym (place_on (seen s.control t) r.control t l.control (seen_has s.control t)))
+    (sym (seen_place s.control t) ∙ sym (place_on (seen s.control t) r.control t l.control (seen_is_there s.control t)))
 channel_same s r channel.Sound t l =
     ap (λ k. variant.Global (res.Sound k))
-    (sym (seen_place s.sound t) ∙ sym (place_on (seen s.sound t) r.sound t l.sound (seen_has s.sound t)))
+    (sym (seen_place s.sound t) ∙ sym (place_on (seen s.sound t) r.sound t l.sound (seen_is_there s.sound t)))

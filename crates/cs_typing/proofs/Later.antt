@@ -2,13 +2,12 @@
 use Rattle.std.proofs.Common.{◌≡◌, ◌∙◌, ℕ, ◌+◌, Bool, cond, true, false, not, ◌||◌, if◌then◌else◌, List, [], ◌∷◌, ◌++◌}
 use Rattle.std.proofs.Common.{append_assoc, refl, sym, ap}
 use Rattle.std.specs.Str.{bytes_eq}
-use Rattle.std.proofs.lemmas.List.{append-nil}
-use Rattle.std.proofs.lemmas.Slice.Eq.{bytes_eq-Decides}
+use Rattle.std.proofs.lemmas.{List.append-nil, List.Folds.list_any-append}
 use Rattle.cs_base.specs.declared.resource.Rate.{Rate}
-use Rattle.cs_base.specs.declared.resource.Rate.TheVariants as rate
-use Rattle.cs_words.specs.NameSets.{has, place_of, seen}
-use Rattle.cs_words.specs.Names.{name_rate}
+use Rattle.cs_words.specs.{NameSets.has, NameSets.place_of, NameSets.seen, Names.name_rate}
+use Rattle.cs_words.proofs.Places.{new_place, past_all, seen_is_there}
 use Rattle.cs_typing.specs.Known.{RateNames, of_rate, with_name, in_table, place_in, added}
+use Rattle.cs_base.specs.declared.resource.Rate.TheVariants as rate
 
 -- a list goes on as another
 pub record GoesOn (xs ys : List (List ℕ)) : Type 0 where
@@ -25,13 +24,7 @@ goes_further xs ys zs a b = record {
 }
 
 has_before : (xs rest : List (List ℕ)) (x : List ℕ) → has xs x ≡ true → has (xs ++ rest) x ≡ true
-has_before [] rest x h = absurd (cc h)
-has_before (y ∷ xs) rest x h = by (bytes_eq x y) h (has_before xs rest x)
-  where
-    by : (b : Bool) → (b || has xs x) ≡ true → (has xs x ≡ true → has (xs ++ rest) x ≡ true)
-        → (b || has (xs ++ rest) x) ≡ true
-    by true k f = refl
-    by false k f = f k
+has_before xs rest x h = list_any-append (bytes_eq x) xs rest ∙ ap (λ b. b || has rest x) h
 
 place_before : (xs rest : List (List ℕ)) (x : List ℕ) → has xs x ≡ true → place_of (xs ++ rest) x ≡ place_of xs x
 place_before [] rest x h = absurd (cc h)
@@ -41,23 +34,6 @@ place_before (y ∷ xs) rest x h = by (bytes_eq x y) h (place_before xs rest x)
         → cond (not b) (1 + place_of (xs ++ rest) x) 0 ≡ cond (not b) (1 + place_of xs x) 0
     by true k f = refl
     by false k f = ap (λ n. 1 + n) (f k)
-
-place_new : (xs : List (List ℕ)) (x : List ℕ) → has xs x ≡ false → place_of (xs ++ x ∷ []) x ≡ place_of xs x
-place_new [] x h = ap (λ b. cond (not b) 1 0) ((bytes_eq-Decides x x).1 refl)
-place_new (y ∷ xs) x h = by (bytes_eq x y) h (place_new xs x)
-  where
-    by : (b : Bool) → (b || has xs x) ≡ false → (has xs x ≡ false → place_of (xs ++ x ∷ []) x ≡ place_of xs x)
-        → cond (not b) (1 + place_of (xs ++ x ∷ []) x) 0 ≡ cond (not b) (1 + place_of xs x) 0
-    by true k f = refl
-    by false k f = ap (λ n. 1 + n) (f k)
-
-has_new : (xs : List (List ℕ)) (x : List ℕ) → has (xs ++ x ∷ []) x ≡ true
-has_new [] x = ap (λ b. b || false) ((bytes_eq-Decides x x).1 refl)
-has_new (y ∷ xs) x = by (bytes_eq x y) (has_new xs x)
-  where
-    by : (b : Bool) → has (xs ++ x ∷ []) x ≡ true → (b || has (xs ++ x ∷ []) x) ≡ true
-    by true h = refl
-    by false h = h
 
 pub has_on : (xs ys : List (List ℕ)) (x : List ℕ) → GoesOn xs ys → has xs x ≡ true → has ys x ≡ true
 has_on xs ys x g h = ap (λ l. has l x) g.is ∙ has_before xs g.rest x h
@@ -72,19 +48,12 @@ seen_on xs x = by (has xs x)
     by true = stays xs
     by false = record { rest = x ∷ []; is = refl }
 
-pub seen_has : (xs : List (List ℕ)) (x : List ℕ) → has (seen xs x) x ≡ true
-seen_has xs x = by (has xs x) refl
-  where
-    by : (b : Bool) → has xs x ≡ b → has (if b then xs else xs ++ x ∷ []) x ≡ true
-    by true e = e
-    by false e = has_new xs x
-
 pub seen_place : (xs : List (List ℕ)) (x : List ℕ) → place_of (seen xs x) x ≡ place_of xs x
 seen_place xs x = by (has xs x) refl
   where
-    by : (b : Bool) → has xs x ≡ b → place_of (if b then xs else xs ++ x ∷ []) x ≡ place_of xs x
-    by true e = refl
-    by false e = place_new xs x e
+    by : (b : Bool) → has xs x ≡ b → place_of (seen xs x) x ≡ place_of xs x
+    by true e = ap (λ b. place_of (if b then xs else xs ++ x ∷ []) x) e
+    by false e = new_place xs x e ∙ sym (past_all xs x e)
 
 -- ---- names by their rates
 
@@ -100,22 +69,17 @@ table_further t u v a b =
 
 with_name_on : (q : Rate) (t : RateNames) (x : List ℕ) (r : Rate) → GoesOn (of_rate r t) (of_rate r (with_name q t x))
 with_name_on rate.Init t x rate.Init = seen_on t.init x
-with_name_on rate.Init t x rate.Control = stays t.control
-with_name_on rate.Init t x rate.Audio = stays t.audio
-with_name_on rate.Control t x rate.Init = stays t.init
 with_name_on rate.Control t x rate.Control = seen_on t.control x
-with_name_on rate.Control t x rate.Audio = stays t.audio
-with_name_on rate.Audio t x rate.Init = stays t.init
-with_name_on rate.Audio t x rate.Control = stays t.control
 with_name_on rate.Audio t x rate.Audio = seen_on t.audio x
+with_name_on q t x r = stays (of_rate r t)
 
 pub added_on : (t : RateNames) (x : List ℕ) → TableGoesOn t (added t x)
 added_on t x = record { each = with_name_on (name_rate x) t x }
 
 with_name_has : (q : Rate) (t : RateNames) (x : List ℕ) → has (of_rate q (with_name q t x)) x ≡ true
-with_name_has rate.Init t x = seen_has t.init x
-with_name_has rate.Control t x = seen_has t.control x
-with_name_has rate.Audio t x = seen_has t.audio x
+with_name_has rate.Init t x = seen_is_there t.init x
+with_name_has rate.Control t x = seen_is_there t.control x
+with_name_has rate.Audio t x = seen_is_there t.audio x
 
 with_name_place : (q : Rate) (t : RateNames) (x : List ℕ)
     → place_of (of_rate q (with_name q t x)) x ≡ place_of (of_rate q t) x

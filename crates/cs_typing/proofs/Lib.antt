@@ -3,8 +3,8 @@ pub mod Answers
 pub mod Beside
 pub mod Called
 pub mod ChannelTexts
-pub mod Counted
 pub mod Cut
+pub mod DefinitionsFound
 pub mod Ended
 pub mod FirstSound
 pub mod GlobalsFound
@@ -16,7 +16,6 @@ pub mod KnownLater
 pub mod Later
 pub mod Listed
 pub mod Named
-pub mod Naming
 pub mod NoZakinit
 pub mod Numbered
 pub mod NumbersOnce

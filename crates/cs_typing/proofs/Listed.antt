@@ -1,14 +1,12 @@
 -- Routines in a list: what stands at a place goes on standing there.
-use Rattle.std.proofs.Common.{◌≡◌, ◌∙◌, ◌+◌, ◌<◌, ◌++◌, ℕ, zero, suc, List, [], ◌∷◌, length, Vec, Global}
-use Rattle.std.proofs.Common.{refl, sym, ap, arith}
-use Rattle.cs_typed.specs.TypedTree as typed
+use Rattle.std.proofs.Common.{◌≡◌, ◌∙◌, ◌+◌, ◌<◌, ◌++◌, ℕ, zero, suc, List, [], ◌∷◌, length, Vec, Global, refl, sym, ap}
+use Rattle.std.proofs.Common.{arith}
 use Rattle.cs_typed.specs.declared.tree.TypedStmt.{TypedStmt}
-use Rattle.cs_typing.specs.inner.Routines.{Routine}
+use Rattle.cs_typing.specs.{inner.Routines.Routine, Known.Shared, inner.Listed.IsTyped}
 use Rattle.cs_typing.specs.declared.routines.TypedDefinition.{TypedDefinition}
-use Rattle.cs_typing.specs.Known.{Shared}
-use Rattle.cs_typing.specs.inner.Listed.{IsTyped}
 use Rattle.cs_typed.proofs.Moved.{then_again}
 use Rattle.cs_typing.proofs.Joined.{then_nothing}
+use Rattle.cs_typed.specs.TypedTree as typed
 
 -- statements of two lists
 pub block_both : (rs : List typed.Block) (xs ys : List TypedStmt)

@@ -1,11 +1,11 @@
 -- The names of variables in statements.
-use Rattle.std.proofs.Common.{ℕ, suc, ◌+◌, List, [], ◌∷◌, arith}
+use Rattle.std.proofs.Common.{ℕ, ◌+◌, List, [], ◌∷◌}
 use Rattle.std.specs.List.{All}
+use Rattle.std.proofs.lemmas.List.Elements.{All-head, All-tail}
 use Rattle.cs_grammar.specs.Tree.{Expression, number, var, field, head, neg, pair, pick, apply, Argument, value, text}
 use Rattle.cs_grammar.specs.Tree.{Statement, set, call, choose, Block, no_stmt, andthen, Arms, otherwise, arm}
 use Rattle.cs_grammar.specs.WellFormed.{HasNoStop, IsVariable, WellFormedExpr, WellFormedArg, WellFormedStmt}
-use Rattle.cs_grammar.specs.WellFormed.{WellFormedBlock, WellFormedArms}
-use Rattle.cs_grammar.specs.declared.scope.Place.{Place}
+use Rattle.cs_grammar.specs.{WellFormed.WellFormedBlock, WellFormed.WellFormedArms, declared.scope.Place.Place}
 
 abbrev pub Named : (List ℕ → Type 0) → Expression → Type 0
 Named P (number z) = Unit {0}
@@ -42,14 +42,12 @@ abbrev mutual
 
 module _ (P : List ℕ → Type 0) (h : (x : List ℕ) → P x) where
   pub any_named : (e : Expression) → Named P e
-  any_named (number z) = tt
   any_named (var x) = h x
-  any_named (field k) = tt
-  any_named (head q) = tt
   any_named (neg a) = any_named a
   any_named (pair o a b) = (any_named a, any_named b)
   any_named (pick c a b) = (any_named c, any_named a, any_named b)
   any_named (apply f a) = any_named a
+  any_named e = tt
 
   pub any_names : (xs : List (List ℕ)) → NamedAll P xs
   any_names [] = tt
@@ -76,35 +74,27 @@ module _ (P : List ℕ → Type 0) (h : (x : List ℕ) → P x) where
 
 -- ---- statements of a text: no name has a full stop
 
-pub head_of : {A : Type 0} (P : A → Type 0) (x : A) (xs : List A) → All P (x ∷ xs) → P x
-head_of P x xs h = h 0 x (omega arith)
-
-pub tail_of : {A : Type 0} (P : A → Type 0) (x : A) (xs : List A) → All P (x ∷ xs) → All P xs
-tail_of P x xs h = λ k d below. h (suc k) d (omega (arith, below))
-
 module _ (P : List ℕ → Type 0) (k : (x : List ℕ) → HasNoStop x → P x) where
   pub expression_named : (e : Expression) → WellFormedExpr e → Named P e
-  expression_named (number z) h = tt
   expression_named (var x) h = k x h.1
-  expression_named (field k) h = tt
-  expression_named (head q) h = tt
   expression_named (neg a) h = expression_named a h
   expression_named (pair o a b) h = (expression_named a h.0, expression_named b h.1)
   expression_named (pick c a b) h = (expression_named c h.0, expression_named a h.1, expression_named b h.2)
   expression_named (apply f a) h = expression_named a h
+  expression_named e h = tt
 
   pub names_named : (xs : List (List ℕ)) → All IsVariable xs → NamedAll P xs
   names_named [] h = tt
-  names_named (x ∷ xs) h = (k x (head_of IsVariable x xs h).1, names_named xs (tail_of IsVariable x xs h))
+  names_named (x ∷ xs) h = (k x (All-head IsVariable x xs h).1, names_named xs (All-tail IsVariable x xs h))
 
   arguments_named : (args : List Argument) → All WellFormedArg args → NamedArguments P args
   arguments_named [] h = tt
   arguments_named (value e ∷ args) h = (
-    expression_named e (head_of WellFormedArg (value e) args h),
+    expression_named e (All-head WellFormedArg (value e) args h),
     arguments_named args
-        (tail_of WellFormedArg (value e) args h),
+        (All-tail WellFormedArg (value e) args h),
   )
-  arguments_named (text t ∷ args) h = arguments_named args (tail_of WellFormedArg (text t) args h)
+  arguments_named (text t ∷ args) h = arguments_named args (All-tail WellFormedArg (text t) args h)
 
   mutual
     stmt_named : (p : Place) (own : List ℕ) (d : ℕ) (x : Statement) → WellFormedStmt p own d x → NamedStmt P x

@@ -2,20 +2,16 @@
 use Rattle.std.proofs.Common.{◌≢◌, ℕ, ◌+◌, List, [], ◌∷◌, ap}
 use Rattle.std.specs.List.{All}
 use Rattle.std.proofs.lemmas.List.Elements.{All-cons, All-nil, All-head, All-tail}
-use Rattle.cs_words.specs.declared.catalogue.Opcode.TheVariants as op
-use Rattle.cs_grammar.specs.declared.scope.Place.TheVariants as place
-use Rattle.cs_grammar.specs.declared.tree.Callee.{Callee}
-use Rattle.cs_grammar.specs.declared.tree.Callee.TheVariants as callee
+use Rattle.cs_grammar.specs.{declared.tree.Callee.Callee, Tree.Instrument, Tree.Orchestra, WellFormed.IsWellFormed}
 use Rattle.cs_grammar.specs.Tree.{Argument, Statement, set, call, choose, Block, no_stmt, andthen, Arms, otherwise, arm}
-use Rattle.cs_grammar.specs.Tree.{Instrument, Orchestra}
 use Rattle.cs_grammar.specs.WellFormed.{WellFormedStmt, WellFormedBlock, WellFormedArms, WellFormedInstrument}
-use Rattle.cs_grammar.specs.WellFormed.{IsWellFormed}
-use Rattle.cs_typing.specs.Calls.{typed_call}
-use Rattle.cs_typing.specs.Known.{KnownHere}
+use Rattle.cs_typing.specs.{Calls.typed_call, Known.KnownHere, Typing.typed_instruments, Typing.typed_of}
 use Rattle.cs_typing.specs.Statements.{known, known_block, typed_statement, typed_block, typed_arms}
 use Rattle.cs_typing.specs.Typing.{alone, body, items, before, from, entered, known_item, first_known, typed_instrument}
-use Rattle.cs_typing.specs.Typing.{typed_instruments, typed_of}
 use Rattle.cs_typed.specs.WellRated.{HasNoZakinit, BlockHasNoZakinit, ArmsHaveNoZakinit}
+use Rattle.cs_words.specs.declared.catalogue.Opcode.TheVariants as op
+use Rattle.cs_grammar.specs.declared.scope.Place.TheVariants as place
+use Rattle.cs_grammar.specs.declared.tree.Callee.TheVariants as callee
 
 call_lacks : (line : ℕ) (n : KnownHere) (c : Callee) (results : List (List ℕ)) (args : List Argument)
     → c ≢ callee.Opcode op.Zakinit → HasNoZakinit (typed_call line n c results args)

@@ -1,12 +1,9 @@
 -- Names with their numbers in a table.
 use Rattle.std.proofs.Common.{◌≡◌, ◌∙◌, ℕ, false, Bor, List, Some, sym, ap, if◌then◌else◌}
 use Rattle.std.specs.BTreeMap.{BTreeMap, UpdatesBy, get_by}
-use Rattle.std.specs.Cmp.Lexicographic.{slice_cmp}
-use Rattle.std.specs.Ordering.{nat_cmp}
-use Rattle.std.specs.Str.{bytes_eq}
+use Rattle.std.specs.{Cmp.Lexicographic.slice_cmp, Ordering.nat_cmp, Str.bytes_eq}
 use Rattle.std.proofs.lemmas.Map.Text.{btree_map_updates_str}
-use Rattle.cs_base.specs.Rates.{at_rate}
-use Rattle.cs_base.specs.declared.per_rate.PerRate.{PerRate}
+use Rattle.cs_base.specs.{Rates.at_rate, declared.per_rate.PerRate.PerRate}
 use Rattle.cs_words.specs.Names.{name_rate}
 use Rattle.cs_typing.specs.inner.Routines.{Locals, counted, has_local, with_local}
 

@@ -1,13 +1,11 @@
 -- The typed instruments of an orchestra have the numbers that the instruments of the text have.
 use Rattle.std.proofs.Common.{eqb, List, [], ◌∷◌, ◌++◌, ◌≡◌, refl, sym, ap, subst}
 use Rattle.std.specs.List.{IsDistinct, flat_map}
-use Rattle.std.proofs.lemmas.Bool.{eq-eqb, eqb-true}
-use Rattle.std.proofs.lemmas.Map.Made.{IsDistinct-from_AllPairs}
+use Rattle.std.proofs.lemmas.{Bool.eq-eqb, Bool.eqb-true, Map.Made.IsDistinct-from_AllPairs}
 use Rattle.cs_grammar.specs.Tree.{Block, Instrument, Orchestra}
 use Rattle.cs_grammar.specs.WellFormed.{IsWellFormed, all_numbers}
-use Rattle.cs_typing.specs.Known.{KnownHere}
+use Rattle.cs_typing.specs.{Known.KnownHere, Typing.typed_of}
 use Rattle.cs_typing.specs.Typing.{alone, body, items, before, from, known_item, first_known, typed_instruments}
-use Rattle.cs_typing.specs.Typing.{typed_of}
 use Rattle.cs_typed.specs.TypedTree as typed
 
 pub numbers_kept : (n : KnownHere) (outside : Block) (list : List Instrument)

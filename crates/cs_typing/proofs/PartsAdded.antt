@@ -4,16 +4,12 @@ use Rattle.std.specs.Option.{option_or}
 use Rattle.std.proofs.lemmas.List.{append_assoc}
 use Rattle.cs_base.specs.declared.fault.OrcFault.{OrcFault}
 use Rattle.cs_grammar.specs.Tree.{Definition}
-use Rattle.cs_typed.specs.TypedTree as typed
-use Rattle.cs_typing.specs.Typing.{Item}
-use Rattle.cs_typing.specs.declared.orc.Typing.{Typing}
-use Rattle.cs_typing.specs.inner.Held.{known_of}
-use Rattle.cs_typing.specs.inner.Listed.{blocks_in}
+use Rattle.cs_typing.specs.{Typing.Item, declared.orc.Typing.Typing, inner.Held.known_of, inner.Listed.blocks_in}
+use Rattle.cs_typing.specs.{inner.Parts.parts_fault, inner.Routines.KnownInBody}
 use Rattle.cs_typing.specs.inner.Parts.{MadeParts, after_part, after_parts, known_behind, known_behind_all, part_fault}
-use Rattle.cs_typing.specs.inner.Parts.{parts_fault}
-use Rattle.cs_typing.specs.inner.Routines.{KnownInBody}
 use Rattle.cs_typing.specs.inner.Walk.{AddsParts, made_of}
 use Rattle.cs_typing.proofs.Walked.{longer_still}
+use Rattle.cs_typed.specs.TypedTree as typed
 
 pub behind_both : (ds : List Definition) (k : KnownInBody) (xs ys : List Item)
     → known_behind_all ds k (xs ++ ys) ≡ known_behind_all ds (known_behind_all ds k xs) ys

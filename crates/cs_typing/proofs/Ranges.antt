@@ -2,21 +2,17 @@
 use Rattle.std.proofs.Common.{◌≡◌, ℕ, ℤ, pos, negsuc, ◌≤◌, ◌<ℤ◌, ◌%◌, ◌/◌, ◌*◌, Bool, true, false, not, ◌&&◌, ◌==◌}
 use Rattle.std.proofs.Common.{nat_le, if◌then◌else◌, List, [], ◌∷◌, ◌++◌, Option, Some, None, arith, ap, sym, subst}
 use Rattle.std.proofs.Common.{◌∙◌, refl}
-use Rattle.std.specs.List.{list_any}
-use Rattle.std.specs.Option.{option_or}
-use Rattle.std.proofs.lemmas.Bool.{and_parts}
-use Rattle.std.proofs.lemmas.Bool.Decides.{nat_tests}
+use Rattle.std.specs.{List.list_any, Option.option_or}
+use Rattle.std.proofs.lemmas.{Bool.and_parts, Bool.Decides.nat_tests}
 use Rattle.cs_base.proofs.Tests.{by_test, some_is}
-use Rattle.cs_base.specs.declared.fault.OrcFault.{OrcFault}
-use Rattle.cs_base.specs.declared.fault.OrcKind.{OrcKind}
-use Rattle.cs_base.specs.declared.fault.OrcKind.TheVariants as orc
+use Rattle.cs_base.specs.{declared.fault.OrcFault.OrcFault, declared.fault.OrcKind.OrcKind, Heads.Header}
 use Rattle.cs_words.specs.declared.word.HeadName.{HeadName}
-use Rattle.cs_words.specs.declared.word.HeadName.TheVariants as head
 use Rattle.cs_grammar.specs.declared.tree.HeadLine.{HeadLine}
-use Rattle.cs_base.specs.Heads.{Header}
 use Rattle.cs_typing.specs.Settings.{at, whole, is_whole_to, is_above_zero, in_range, same_head, header_fault}
 use Rattle.cs_typing.specs.Settings.{headers_fault, header_of, whole_or, value_or, rate_of_frames, ksmps_of, header}
 use Rattle.cs_typing.specs.Settings.{is_product, kr_agrees, kr_fault}
+use Rattle.cs_base.specs.declared.fault.OrcKind.TheVariants as orc
+use Rattle.cs_words.specs.declared.word.HeadName.TheVariants as head
 
 name_is : (a b : HeadName) → same_head a b ≡ true → a ≡ b
 name_is head.Sr head.Sr h = refl

@@ -1,42 +1,24 @@
 -- What an orchestra without a fault becomes agrees with the rules of rates.
-use Rattle.std.proofs.Common.{◌≡◌, ◌∙◌, ℕ, Bool, true, false, not, ◌&&◌, ◌||◌, if◌then◌else◌, List, [], ◌∷◌, Option}
-use Rattle.std.proofs.Common.{Some, None, refl, sym, ap}
-use Rattle.std.specs.List.{All}
-use Rattle.std.specs.Option.{option_or}
-use Rattle.std.proofs.lemmas.Bool.{and_parts}
-use Rattle.std.proofs.lemmas.List.Elements.{All-cons, All-nil}
+use Rattle.std.proofs.Common.{◌≡◌, ◌∙◌, ℕ, true, ◌&&◌, ◌||◌, if◌then◌else◌, List, [], ◌∷◌, None, refl, sym, ap}
+use Rattle.std.specs.{List.All, Option.option_or}
+use Rattle.std.proofs.lemmas.{Bool.and_parts, List.Elements.All-cons, List.Elements.All-nil}
 use Rattle.cs_base.proofs.Tests.{both_none}
 use Rattle.cs_base.specs.Rates.{within, is_init, is_audio}
-use Rattle.cs_base.specs.declared.fault.OrcKind.{OrcKind}
-use Rattle.cs_base.specs.declared.fault.OrcKind.TheVariants as orc
-use Rattle.cs_base.specs.declared.resource.Rate.TheVariants as rate
 use Rattle.cs_words.specs.Names.{name_rate}
 use Rattle.cs_grammar.specs.Tree.{Expression, Statement, set, call, choose, Block, no_stmt, andthen, Arms, otherwise}
 use Rattle.cs_grammar.specs.Tree.{arm}
-use Rattle.cs_typed.specs.Places.{outside, inside}
-use Rattle.cs_typed.specs.declared.setting.Setting.{Setting}
-use Rattle.cs_typing.specs.Calls.{call_fault}
-use Rattle.cs_typing.specs.Expressions.{is_value, is_condition, rate_of, reads_known, typed_expression}
-use Rattle.cs_typing.specs.Known.{KnownHere, variable}
-use Rattle.cs_typing.specs.Settings.{at}
-use Rattle.cs_typing.specs.Statements.{set_fault, condition_fault, fault, block_fault, arms_fault, known, known_block}
-use Rattle.cs_typing.specs.Statements.{all_init, typed_statement, typed_block, typed_arms}
+use Rattle.cs_typed.specs.{Places.outside, Places.inside, declared.setting.Setting.Setting}
+use Rattle.cs_typing.specs.{Calls.call_fault, Known.KnownHere, Known.knows, Known.variable, Settings.at}
+use Rattle.cs_typing.specs.Expressions.{is_value, is_condition, rate_of, typed_expression}
+use Rattle.cs_typing.specs.Statements.{condition_fault, fault, block_fault, arms_fault, known, known_block, all_init}
+use Rattle.cs_typing.specs.Statements.{typed_statement, typed_block, typed_arms}
 use Rattle.cs_typing.specs.Typing.{Item, alone, body, entered, known_item, item_fault, items_fault, typed_outside}
 use Rattle.cs_typing.specs.Typing.{typed_instrument, typed_instruments}
-use Rattle.cs_typed.specs.TypedTree as typed
 use Rattle.cs_typed.specs.WellRated.{node_rate, IsRatedSet, all_still, IsRatedStatement, IsRatedBlock, IsRatedArms}
 use Rattle.cs_typing.proofs.RatedExpressions.{node_is, variable_rate, no_sound, value_rated, condition_rated}
-use Rattle.cs_typing.proofs.RatedCalls.{call_rated}
-
-pub at_none : (line : ℕ) (k : Option OrcKind) → at line k ≡ None → k ≡ None
-at_none line None h = refl
-at_none line (Some k) h = absurd (cc h)
-
-no_rule_broken : (b c : Bool)
-    → (if not b then Some orc.Undefined else (if not c then Some orc.RateMismatch else None)) ≡ None → c ≡ true
-no_rule_broken true true h = refl
-no_rule_broken true false h = absurd (cc h)
-no_rule_broken false c h = absurd (cc h)
+use Rattle.cs_typing.proofs.{RatedCalls.call_rated, Rules.at_none, Rules.keeps_condition, Rules.keeps_set}
+use Rattle.cs_base.specs.declared.resource.Rate.TheVariants as rate
+use Rattle.cs_typed.specs.TypedTree as typed
 
 set_rated : (s : Setting) (n : KnownHere) (name : List ℕ) (e : Expression) → is_value e ≡ true
     → within (rate_of e) (name_rate name) ≡ true
@@ -60,9 +42,7 @@ mutual
   pub stmt_rated : (s : Setting) (n : KnownHere) (x : Statement) → fault s n x ≡ None
       → IsRatedStatement s (typed_statement n x)
   stmt_rated s n (set line name e) h =
-      let may = no_rule_broken (reads_known n e)
-      (is_value e && within (rate_of e) (name_rate name) && (s.inside || is_init (name_rate name)))
-      (at_none line (set_fault s n name e) h) in
+      let may = (keeps_set s (knows n) line name e h).1 in
       let parts = and_parts (is_value e && within (rate_of e) (name_rate name)) (s.inside || is_init (name_rate name))
       may in
       let first = and_parts (is_value e) (within (rate_of e) (name_rate name)) parts.0 in
@@ -86,8 +66,7 @@ mutual
       let parts = both_none (at line (condition_fault s n c))
       (option_or (block_fault s n b) (arms_fault s (known_block n b) line rest)) h in
       let more = both_none (block_fault s n b) (arms_fault s (known_block n b) line rest) parts.1 in
-      let may = no_rule_broken (reads_known n c) (is_condition c && (s.inside || is_init (rate_of c)))
-      (at_none line (condition_fault s n c) parts.0) in
+      let may = (keeps_condition s (knows n) line c parts.0).1 in
       let both = and_parts (is_condition c) (s.inside || is_init (rate_of c)) may in (
         condition_rated n c both.0,
         ap is_audio (node_is n c) ∙ no_sound c both.0,

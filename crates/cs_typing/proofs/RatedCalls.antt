@@ -1,44 +1,33 @@
 -- The typed form of a call without a fault agrees with the row of its opcode.
 use Rattle.std.proofs.Common.{◌≡◌, ◌∙◌, ℕ, zero, suc, ◌+◌, ◌-◌, ◌%◌, ◌==◌, Bool, true, false, not, ◌&&◌, ◌||◌, nat_lt}
 use Rattle.std.proofs.Common.{nat_le, if◌then◌else◌, List, [], ◌∷◌, length, map, slice_get, Option, Some, None, arith}
-use Rattle.std.proofs.Common.{refl, sym, ap}
-use Rattle.std.specs.List.{All, list_any, list_all}
-use Rattle.std.specs.Option.{unwrap_or}
-use Rattle.std.proofs.Math.Numerals.{add-one}
-use Rattle.std.proofs.lemmas.Bool.{and_parts, and_from}
-use Rattle.std.proofs.lemmas.Bool.Decides.{nat_tests}
-use Rattle.std.proofs.lemmas.List.{length-map}
+use Rattle.std.proofs.{Common.refl, Common.sym, Common.ap, Math.Numerals.add-one}
+use Rattle.std.specs.{List.All, List.list_any, List.list_all, Option.unwrap_or}
+use Rattle.std.proofs.lemmas.{Bool.and_parts, Bool.and_from, Bool.Decides.nat_tests, List.length-map}
 use Rattle.std.proofs.lemmas.List.Elements.{All-cons, All-nil}
-use Rattle.cs_base.specs.Rates.{same_rate, is_init, is_audio}
-use Rattle.cs_base.specs.declared.resource.Rate.{Rate}
-use Rattle.cs_base.specs.declared.resource.Rate.TheVariants as rate
+use Rattle.cs_base.specs.{Rates.same_rate, Rates.is_init, Rates.is_audio, declared.resource.Rate.Rate}
 use Rattle.cs_words.specs.Catalogue.{Row, row_of, letter_at, further, takes_count, result_count, takes, is_text}
-use Rattle.cs_words.specs.Names.{name_rate}
-use Rattle.cs_words.specs.declared.catalogue.Letter.{Letter}
-use Rattle.cs_words.specs.declared.catalogue.More.{More}
-use Rattle.cs_words.specs.declared.catalogue.More.TheVariants as more
-use Rattle.cs_words.specs.declared.catalogue.Opcode.{Opcode}
-use Rattle.cs_words.specs.declared.catalogue.Opcode.TheVariants as op
-use Rattle.cs_words.specs.declared.catalogue.Shape.{Shape}
-use Rattle.cs_words.specs.declared.catalogue.Shape.TheVariants as shape
-use Rattle.cs_grammar.specs.Tree.{Argument, value, text}
-use Rattle.cs_grammar.specs.declared.tree.Callee.{Callee}
-use Rattle.cs_grammar.specs.declared.tree.Callee.TheVariants as callee
-use Rattle.cs_typed.specs.Places.{is_starting, is_writing}
-use Rattle.cs_typed.specs.declared.setting.Setting.{Setting}
-use Rattle.cs_typing.specs.declared.known.Channel.{Channel}
-use Rattle.cs_typing.specs.declared.known.Channel.TheVariants as channel
+use Rattle.cs_words.specs.{Names.name_rate, declared.catalogue.Letter.Letter, declared.catalogue.More.More}
+use Rattle.cs_words.specs.{declared.catalogue.Opcode.Opcode, declared.catalogue.Shape.Shape}
+use Rattle.cs_grammar.specs.{Tree.Argument, Tree.value, Tree.text, declared.tree.Callee.Callee}
+use Rattle.cs_typed.specs.{Places.is_starting, Places.is_writing, declared.setting.Setting.Setting}
+use Rattle.cs_typing.specs.{declared.known.Channel.Channel, Calls.typed_call}
 use Rattle.cs_typing.specs.Calls.{fits, all_fit, bound_of, may_result, is_sound, is_even, kind_of, any_sound}
-use Rattle.cs_typing.specs.Calls.{channel_use, is_too_wide, row_fault}
-use Rattle.cs_typing.specs.Calls.{call_fault, is_still, call_rate, typed_arguments, typed_call}
+use Rattle.cs_typing.specs.Calls.{channel_use, is_too_wide, row_fault, call_fault, is_still, call_rate, typed_arguments}
 use Rattle.cs_typing.specs.Expressions.{is_value, rate_of, typed_expression}
-use Rattle.cs_typing.specs.Known.{KnownHere, Shared, variable, channel_of}
-use Rattle.cs_typed.specs.TypedTree as typed
+use Rattle.cs_typing.specs.Known.{KnownHere, Shared, knows, variable, channel_of}
 use Rattle.cs_typed.specs.WellRated.{var_rate, is_variable, is_channel, node_rate, IsRatedArgument, row_left}
 use Rattle.cs_typed.specs.WellRated.{fits_letter, fit_letters, bound_by, may_give, goes_beyond, stores_evenly}
 use Rattle.cs_typed.specs.WellRated.{suits_channel, keeps_still, is_of_sound, done_at, IsRatedCall, IsRatedStatement}
-use Rattle.cs_typing.proofs.Rules.{keeps_rules}
+use Rattle.cs_typing.proofs.{ChannelTexts.no_third, Rules.keeps_rules}
 use Rattle.cs_typing.proofs.RatedExpressions.{node_is, variable_rate, not_true, value_rated}
+use Rattle.cs_base.specs.declared.resource.Rate.TheVariants as rate
+use Rattle.cs_words.specs.declared.catalogue.More.TheVariants as more
+use Rattle.cs_words.specs.declared.catalogue.Opcode.TheVariants as op
+use Rattle.cs_words.specs.declared.catalogue.Shape.TheVariants as shape
+use Rattle.cs_grammar.specs.declared.tree.Callee.TheVariants as callee
+use Rattle.cs_typing.specs.declared.known.Channel.TheVariants as channel
+use Rattle.cs_typed.specs.TypedTree as typed
 
 -- ---- letters that take no text
 
@@ -310,42 +299,21 @@ or_none : (b : Bool) → (b || (false || false)) ≡ b
 or_none true = refl
 or_none false = refl
 
-past_two : (m : ℕ) → (suc (suc (suc m)) - 2 == 0) ≡ false
-past_two m = grind (arith, nat_tests)
-
 suits_right : (n : KnownHere) (o : Opcode) (results : List (List ℕ)) (args : List Argument)
     → takes_count (row_of o) (length args) ≡ true
     → suits_channel (row_of o).shape (map (variable n) results)
     (typed_arguments n (channel_use (row_of o).shape results args) args) ≡ true
-suits_right n op.Chnget [] args c = refl
-suits_right n op.Chnget (name ∷ names) [] c = refl
-suits_right n op.Chnget (name ∷ names) (value x ∷ rest) c = refl
 suits_right n op.Chnget (name ∷ names) (text t ∷ rest) c =
     let sound = is_audio (name_rate name) in
     sound_agrees (is_audio (var_rate (variable n name))) (is_audio (var_rate (channel_of n.shared (kind_of sound) t)))
     (channel_rate n.shared sound t ∙ sym (ap is_audio (variable_rate n name).0))
-suits_right n op.Chnset results [] c = refl
-suits_right n op.Chnset results (text t ∷ rest) c = refl
-suits_right n op.Chnset results (value x ∷ []) c = refl
-suits_right n op.Chnset results (value x ∷ value y ∷ rest) c = refl
 suits_right n op.Chnset results (value x ∷ text t ∷ []) c =
     let sound = any_sound (value x ∷ text t ∷ []) in
     sound_agrees (is_audio (node_rate (typed_expression n x)))
     (is_audio (var_rate (channel_of n.shared (kind_of sound) t)))
     (channel_rate n.shared sound t ∙ or_none (is_audio (rate_of x)) ∙ sym (ap is_audio (node_is n x)))
-suits_right n op.Chnset results (value x ∷ text t ∷ a ∷ rest) c =
-    let m = length rest in
-    let none : (suc (suc (suc m)) - 2 == 0) ≡ true =
-    (and_parts (nat_le 2 (suc (suc (suc m)))) (suc (suc (suc m)) - 2 == 0) c).1 in
-    let never : false ≡ true = sym (past_two m) ∙ none in
-    absurd (cc never)
-suits_right n op.Chnmix results [] c = refl
-suits_right n op.Chnmix results (text t ∷ rest) c = refl
-suits_right n op.Chnmix results (value x ∷ []) c = refl
-suits_right n op.Chnmix results (value x ∷ value y ∷ rest) c = refl
+suits_right n op.Chnset results (value x ∷ text t ∷ a ∷ rest) c = no_third (length rest) c
 suits_right n op.Chnmix results (value x ∷ text t ∷ rest) c = refl
-suits_right n op.Chnclear results [] c = refl
-suits_right n op.Chnclear results (value x ∷ rest) c = refl
 suits_right n op.Chnclear results (text t ∷ rest) c = refl
 suits_right n o results args c = refl
 
@@ -361,7 +329,7 @@ row_rated : (s : Setting) (n : KnownHere) (o : Opcode) (results : List (List ℕ
 row_rated s n o results args h =
     let row = row_of o in
     let role = channel_use row.shape results args in
-    let keeps = keeps_rules s n row results args h in
+    let keeps = keeps_rules s n.shared (knows n) row results args h in
     let letters = letters_right n o (bound_of results) results args keeps.args_count keeps.fit in
     record {
       done = done_right n role row.shape results args;

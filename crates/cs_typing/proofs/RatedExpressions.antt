@@ -2,28 +2,20 @@
 use Rattle.std.proofs.Common.{◌≡◌, ◌∙◌, ℕ, Bool, true, false, not, ◌&&◌, ◌||◌, if◌then◌else◌, List, refl, sym, ap}
 use Rattle.std.proofs.lemmas.Bool.{and_parts}
 use Rattle.cs_base.proofs.Tests.{by_test}
-use Rattle.cs_base.specs.Rates.{faster, is_audio, res_rate}
-use Rattle.cs_base.specs.declared.resource.Rate.{Rate}
-use Rattle.cs_base.specs.declared.resource.Rate.TheVariants as rate
-use Rattle.cs_words.specs.Signs.{is_arithmetic, is_logic}
-use Rattle.cs_words.specs.Names.{name_rate, is_global}
-use Rattle.cs_words.specs.declared.word.Func.TheVariants as func
+use Rattle.cs_base.specs.{Rates.faster, Rates.is_audio, Rates.res_rate, declared.resource.Rate.Rate}
+use Rattle.cs_words.specs.{Signs.is_arithmetic, Signs.is_logic, Names.name_rate, Names.is_global}
 use Rattle.cs_grammar.specs.Tree.{Expression, number, var, field, head, neg, pair, pick, apply}
-use Rattle.cs_typed.specs.declared.tree.Var.TheVariants as variable_of
 use Rattle.cs_typing.specs.Expressions.{is_control_name, is_value, is_condition, rate_of, typed_expression}
 use Rattle.cs_typing.specs.Known.{KnownHere, variable, global, place_in}
 use Rattle.cs_typed.specs.WellRated.{var_rate, is_variable, node_rate, is_read_once, IsRated}
+use Rattle.cs_base.specs.declared.resource.Rate.TheVariants as rate
+use Rattle.cs_words.specs.declared.word.Func.TheVariants as func
+use Rattle.cs_typed.specs.declared.tree.Var.TheVariants as variable_of
 
 -- the rate beside the typed form is that of the text
 pub node_is : (n : KnownHere) (e : Expression) → node_rate (typed_expression n e) ≡ rate_of e
 node_is n (number v) = refl
-node_is n (var name) = refl
-node_is n (field k) = refl
-node_is n (head h) = refl
-node_is n (neg a) = refl
-node_is n (pair o a b) = refl
-node_is n (pick c a b) = refl
-node_is n (apply f a) = refl
+node_is n e = refl
 
 global_rate : (r : Rate) (k : ℕ) → (res_rate (global r k) ≡ r) × (is_variable (variable_of.Global (global r k)) ≡ true)
 global_rate rate.Init k = (refl, refl)
@@ -64,13 +56,10 @@ or_not false false h = refl
 or_not false true h = absurd (cc h)
 
 not_faster : (r s : Rate) → is_audio r ≡ false → is_audio s ≡ false → is_audio (faster r s) ≡ false
-not_faster rate.Init rate.Init h k = refl
-not_faster rate.Init rate.Control h k = refl
 not_faster rate.Init rate.Audio h k = absurd (cc k)
-not_faster rate.Control rate.Init h k = refl
-not_faster rate.Control rate.Control h k = refl
 not_faster rate.Control rate.Audio h k = absurd (cc k)
 not_faster rate.Audio s h k = absurd (cc h)
+not_faster r s h k = refl
 
 -- a condition is no sound
 pub no_sound : (c : Expression) → is_condition c ≡ true → is_audio (rate_of c) ≡ false

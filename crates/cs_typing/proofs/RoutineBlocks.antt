@@ -1,55 +1,42 @@
 -- Statements that are typed where they are expanded, and typed with routines: the same is known behind them, they break
 -- the same rule first, and their typed forms differ by a base of numbers.
-use Rattle.std.proofs.Common.{◌≡◌, ◌∙◌, ℕ, ◌≤◌, ◌<◌, ◌==◌, Bool, true, false, not, ◌&&◌, ◌||◌, if◌then◌else◌}
-use Rattle.std.proofs.Common.{List, [], ◌∷◌, ◌++◌, length, map, Option, Some, None, arith, refl, sym, ap, subst}
+use Rattle.std.proofs.Common.{◌≡◌, ◌∙◌, ℕ, ◌≤◌, ◌<◌, ◌==◌, Bool, true, false, not, ◌&&◌, ◌||◌, if◌then◌else◌, List, []}
+use Rattle.std.proofs.Common.{◌∷◌, ◌++◌, length, map, Option, Some, None, arith, refl, sym, ap, subst}
 use Rattle.std.specs.Option.{option_or}
-use Rattle.std.proofs.lemmas.Bool.{and_parts}
-use Rattle.std.proofs.lemmas.Bool.Decides.{nat_tests}
+use Rattle.std.proofs.lemmas.{Bool.and_parts, Bool.Decides.nat_tests}
 use Rattle.cs_base.proofs.Tests.{both_none}
-use Rattle.cs_base.specs.Rates.{is_init}
-use Rattle.cs_base.specs.declared.fault.OrcKind.{OrcKind}
-use Rattle.cs_base.specs.declared.fault.OrcKind.TheVariants as orc
+use Rattle.cs_base.specs.{Rates.is_init, declared.fault.OrcFault.OrcFault, declared.fault.OrcKind.OrcKind}
 use Rattle.cs_base.specs.declared.per_rate.PerRate.{PerRate}
 use Rattle.cs_words.specs.Names.{is_global}
 use Rattle.cs_grammar.specs.Renaming.{renamed_expression, renamed_argument}
-use Rattle.cs_grammar.specs.declared.tree.Callee.{Callee}
-use Rattle.cs_grammar.specs.declared.tree.Callee.TheVariants as callee
-use Rattle.cs_grammar.specs.Tree.{Argument, value, text, Statement, set, call, choose, Block, no_stmt}
-use Rattle.cs_grammar.specs.Tree.{andthen, joins, Arms, otherwise, arm}
-use Rattle.cs_typed.specs.Calls.{rate_of_choice}
-use Rattle.cs_typed.specs.TypedTree.{moved_block, moved_arms}
-use Rattle.cs_typed.specs.TypedTree as typed
-use Rattle.cs_typed.specs.TypedTree.{then_block}
-use Rattle.cs_typed.specs.declared.setting.Setting.{Setting}
+use Rattle.cs_grammar.specs.{declared.tree.Callee.Callee, Tree.Arms, Tree.otherwise, Tree.arm}
+use Rattle.cs_grammar.specs.Tree.{Argument, value, text, Statement, set, call, choose, Block, no_stmt, andthen, joins}
+use Rattle.cs_typed.specs.{Calls.rate_of_choice, declared.setting.Setting.Setting}
+use Rattle.cs_typed.specs.TypedTree.{moved_block, moved_arms, then_block}
 use Rattle.cs_typed.proofs.Moved.{moved_then}
-use Rattle.cs_udo.specs.Expanded.{Template, Opcodes, defined, assignments, value_in, called, after_called}
-use Rattle.cs_udo.specs.Expanded.{after, after_block, after_arms, expanded, expanded_block, expanded_arms}
+use Rattle.cs_udo.specs.Expanded.{Template, Opcodes, defined, assignments, value_in, called, after_called, after}
+use Rattle.cs_udo.specs.Expanded.{after_block, after_arms, expanded, expanded_block, expanded_arms}
 use Rattle.cs_udo.specs.Names.{fresh, in_frame}
-use Rattle.cs_udo.specs.Refused as refused
 use Rattle.cs_udo.specs.Refused.{has_text, broken_rule, call_faults, faults, faults_in, faults_in_arms}
 use Rattle.cs_udo.proofs.Fresh.{framed_fresh, framed_global}
-use Rattle.cs_typing.specs.Calls.{call_fault_by, call_known}
+use Rattle.cs_typing.specs.{Calls.call_fault_by, Calls.call_known, Settings.at, Statements.typed_arms}
 use Rattle.cs_typing.specs.Known.{added, in_table, KnownHere, knows, given, given_all}
-use Rattle.cs_typing.specs.Settings.{at}
-use Rattle.cs_typing.specs.Statements.{set_fault_by, condition_fault_by, known_block, known_arms, block_fault}
-use Rattle.cs_typing.specs.Statements.{arms_fault}
-use Rattle.cs_typing.specs.Statements.{all_init, typed_block, typed_arms}
-use Rattle.cs_typing.specs.inner.Routines.{KnownInBody, known_in, knows_in}
-use Rattle.cs_typing.specs.inner.Routines.{Routine, Routines, routine_called, known_after, known_after_block}
-use Rattle.cs_typing.specs.inner.Routines.{known_after_arms, shared_after_call, locals_after_call, call_fault_in}
-use Rattle.cs_typing.specs.inner.Routines.{fault_in}
-use Rattle.cs_typing.specs.inner.Routines.{block_fault_in, arms_fault_in, call_in, typed_in, typed_block_in}
-use Rattle.cs_typing.specs.inner.Routines.{typed_arms_in}
-use Rattle.cs_typing.proofs.Added.{added_other}
-use Rattle.cs_typing.proofs.Joins.{or_none, known_joins, fault_joins, typed_joins}
+use Rattle.cs_typing.specs.Statements.{set_fault_by, condition_fault_by, known_block, known_arms, arms_fault, all_init}
+use Rattle.cs_typing.specs.inner.Routines.{KnownInBody, known_in, knows_in, Routine, Routines, routine_called}
+use Rattle.cs_typing.specs.inner.Routines.{known_after, known_after_block, known_after_arms, shared_after_call}
+use Rattle.cs_typing.specs.inner.Routines.{locals_after_call, call_fault_in, fault_in, block_fault_in, arms_fault_in}
+use Rattle.cs_typing.specs.inner.Routines.{call_in, typed_in, typed_block_in, typed_arms_in}
+use Rattle.cs_typing.proofs.{Added.added_other, Joins.or_none, Joins.known_joins, Joins.fault_joins, Joins.typed_joins}
+use Rattle.cs_typing.proofs.{RoutineExpressions.call_same, RoutineExpressions.call_mirrors, Rules.at_none}
+use Rattle.cs_typing.proofs.{Rules.keeps_condition, Rules.keeps_set, SameRates.KeepsRates, SameRates.rate_of_kept}
 use Rattle.cs_typing.proofs.Named.{NamedAll, NamedArguments, NamedStmt, NamedBlock, NamedArms}
-use Rattle.cs_typing.proofs.RoutineCalls.{Matches, ArgumentsFit, ResultsFit, routine_mirrors, routine_fault_same}
-use Rattle.cs_typing.proofs.RoutineCalls.{routine_typed_same}
-use Rattle.cs_typing.proofs.RoutineExpressions.{no_kind, set_read, condition_read, typed_same, set_fault_same}
-use Rattle.cs_typing.proofs.RoutineExpressions.{condition_fault_same, call_fault_same, call_same, call_mirrors}
-use Rattle.cs_typing.proofs.RoutineNames.{Owns, owns_later, Mirrors, variable_given}
-use Rattle.cs_typing.proofs.RoutineNames.{mirrors_given}
-use Rattle.cs_typing.proofs.SameRates.{KeepsRates, rate_of_kept}
+use Rattle.cs_typing.proofs.RoutineCalls.{ArgumentsFit, Matches, Meets, ResultsFit, routine_meets}
+use Rattle.cs_typing.proofs.RoutineExpressions.{typed_same, set_fault_same, condition_fault_same, call_fault_same}
+use Rattle.cs_typing.proofs.RoutineNames.{Owns, owns_later, Mirrors, variable_given, mirrors_given}
+use Rattle.cs_base.specs.declared.fault.OrcKind.TheVariants as orc
+use Rattle.cs_grammar.specs.declared.tree.Callee.TheVariants as callee
+use Rattle.cs_typed.specs.TypedTree as typed
+use Rattle.cs_udo.specs.Refused as refused
 
 -- ---- calls that aren't refused
 
@@ -164,13 +151,11 @@ given_untouched n z y h = by (is_global z) refl
 framed_untouched : (f : ℕ) (y : List ℕ) → ((x : List ℕ) → y ≡ fresh f x → ⊥) → (n : KnownHere) (line : ℕ)
     (xs : List (List ℕ)) (args : List Argument)
     → in_table (known_block n (assignments line (map (in_frame f) xs) args)).locals y ≡ in_table n.locals y
-framed_untouched f y h n line [] args = refl
-framed_untouched f y h n line (x ∷ xs) [] = refl
-framed_untouched f y h n line (x ∷ xs) (text t ∷ args) = refl
 framed_untouched f y h n line (x ∷ xs) (value e ∷ args) =
     framed_untouched f y h (given n (in_frame f x)) line xs args
     ∙ given_untouched n (in_frame f x) y
     (λ d same. h x (same ∙ framed_fresh f x (sym (framed_global f x) ∙ d)))
+framed_untouched f y h n line xs args = refl
 
 module _ {P : List ℕ → Type 0} {own : List ℕ → List ℕ} {f : ℕ} (o : Owns P own f) (y : List ℕ)
     (h : Stranger P own f y) where
@@ -184,11 +169,9 @@ module _ {P : List ℕ → Type 0} {own : List ℕ → List ℕ} {f : ℕ} (o : 
 
   results_untouched : (n : KnownHere) (line : ℕ) (xs : List (List ℕ)) (args : List Argument) → NamedAll P xs
       → in_table (known_block n (assignments line (map own xs) args)).locals y ≡ in_table n.locals y
-  results_untouched n line [] args p = refl
-  results_untouched n line (x ∷ xs) [] p = refl
-  results_untouched n line (x ∷ xs) (text t ∷ args) p = refl
   results_untouched n line (x ∷ xs) (value e ∷ args) p =
       results_untouched (given n (own x)) line xs args p.1 ∙ own_untouched n x p.0
+  results_untouched n line xs args p = refl
 
   row_untouched : (n : KnownHere) (c : Callee) (xs : List (List ℕ)) (args : List Argument) → NamedAll P xs
       → in_table (call_known n c (map own xs) args).locals y ≡ in_table n.locals y
@@ -260,182 +243,115 @@ routine_fits t r m line xs args none =
     )
 
 module _ {P : List ℕ → Type 0} {own : List ℕ → List ℕ} (base : PerRate ℕ) where
-  call_goes : (t : Option Template) (r : Option Routine) → Both t r → (f : ℕ) → Owns P own f
+  call_meets : (t : Option Template) (r : Option Routine) → Both t r → (f : ℕ) → Owns P own f
       → (n : KnownHere) (k : KnownInBody) → Mirrors P own f base n k
       → (line : ℕ) (xs : List (List ℕ)) (c : Callee) (args : List Argument) → NamedAll P xs → NamedArguments P args
       → call_faults true line xs args t ≡ []
-      → Mirrors P own (after_called f t) base (known_block n (called own f line xs c args t))
+      → Meets P own (after_called f t) base n (called own f line xs c args t)
       (known_in (shared_after_call k.shared c xs args r) (locals_after_call k.locals xs r))
-  call_goes None None m f o n k s line xs c args p a none = call_mirrors o base n k s c xs args p
-  call_goes None (Some r) m f o n k s line xs c args p a none = absurd m
-  call_goes (Some t) None m f o n k s line xs c args p a none = absurd m
-  call_goes (Some t) (Some r) m f o n k s line xs c args p a none =
+      (λ q. call_fault_in q k line xs c args r) (call_in k line xs c args r)
+  call_meets None None m f o n k s line xs c args p a none = record {
+    known = call_mirrors o base n k s c xs args p;
+    fault = λ q. or_none (at line (call_fault_by q n.shared (knows n) c (map own xs) (map (renamed_argument own) args)))
+        ∙ ap (at line) (call_fault_same o base n k s.sees q c xs args a);
+    form = λ q h. ap (λ x. typed.andthen x typed.no_stmt)
+        (call_same o base n k s q line c xs args p a
+        (at_none line (call_fault_by q k.shared (knows_in k) c xs args) h));
+  }
+  call_meets None (Some r) m f o n k s line xs c args p a none = absurd m
+  call_meets (Some t) None m f o n k s line xs c args p a none = absurd m
+  call_meets (Some t) (Some r) m f o n k s line xs c args p a none =
       let fits = routine_fits t r m line xs args none in
-      routine_mirrors o base n k s t r m line xs args p a fits.0 fits.1
+      routine_meets o base n k s t r m line xs args p a fits.0 fits.1
 
-  call_breaks : (t : Option Template) (r : Option Routine) → Both t r → (f : ℕ) → Owns P own f
-      → (n : KnownHere) (k : KnownInBody) → Mirrors P own f base n k
-      → (line : ℕ) (xs : List (List ℕ)) (c : Callee) (args : List Argument) → NamedAll P xs → NamedArguments P args
-      → call_faults true line xs args t ≡ [] → (q : Setting)
-      → block_fault q n (called own f line xs c args t) ≡ call_fault_in q k line xs c args r
-  call_breaks None None m f o n k s line xs c args p a none q =
-      or_none (at line (call_fault_by q n.shared (knows n) c (map own xs) (map (renamed_argument own) args)))
-      ∙ ap (at line) (call_fault_same o base n k s.sees q c xs args a)
-  call_breaks None (Some r) m f o n k s line xs c args p a none q = absurd m
-  call_breaks (Some t) None m f o n k s line xs c args p a none q = absurd m
-  call_breaks (Some t) (Some r) m f o n k s line xs c args p a none q =
-      let fits = routine_fits t r m line xs args none in
-      routine_fault_same o base n k s t r m line xs args p a fits.0 fits.1 q
-
-  call_forms : (t : Option Template) (r : Option Routine) → Both t r → (f : ℕ) → Owns P own f
-      → (n : KnownHere) (k : KnownInBody) → Mirrors P own f base n k
-      → (line : ℕ) (xs : List (List ℕ)) (c : Callee) (args : List Argument) → NamedAll P xs → NamedArguments P args
-      → call_faults true line xs args t ≡ [] → (q : Setting) → call_fault_in q k line xs c args r ≡ None
-      → typed_block n (called own f line xs c args t) ≡ moved_block base (call_in k line xs c args r)
-  call_forms None None m f o n k s line xs c args p a none q h =
-      ap (λ x. typed.andthen x typed.no_stmt)
-      (call_same o base n k s q line c xs args p a (no_kind line (call_fault_by q k.shared (knows_in k) c xs args) h))
-  call_forms None (Some r) m f o n k s line xs c args p a none q h = absurd m
-  call_forms (Some t) None m f o n k s line xs c args p a none q h = absurd m
-  call_forms (Some t) (Some r) m f o n k s line xs c args p a none q h =
-      let fits = routine_fits t r m line xs args none in
-      routine_typed_same o base n k s t r m line xs args p a fits.0 fits.1 q h
+-- the same of the arms of an `if`
+record ArmsMeet (P : List ℕ → Type 0) (own : List ℕ → List ℕ) (h : ℕ) (base : PerRate ℕ) (n : KnownHere) (line : ℕ)
+    (list : Arms) (k : KnownInBody) (rule : Setting → Option OrcFault) (made : typed.Arms) : Type 0 where
+  known : Mirrors P own h base (known_arms n list) k
+  fault : (s : Setting) → arms_fault s n line list ≡ rule s
+  form : (s : Setting) → rule s ≡ None → typed_arms n list ≡ moved_arms base made
 
 module _ (opcodes : Opcodes) (rs : Routines) (m : AllMatch opcodes rs) {P : List ℕ → Type 0}
     {own : List ℕ → List ℕ} (base : PerRate ℕ) where
-  mutual
-    stmt_goes : (f : ℕ) → Owns P own f → (n : KnownHere) (k : KnownInBody) → Mirrors P own f base n k
-        → (x : Statement) → NamedStmt P x → faults opcodes true x ≡ []
-        → Mirrors P own (after opcodes f x) base (known_block n (expanded opcodes own f x)) (known_after rs k x)
-    stmt_goes f o n k s (set line x e) p none = mirrors_given o base n k s x p.0
-    stmt_goes f o n k s (call line xs c args) p none =
-        call_goes base (defined opcodes c) (routine_called rs c) (at_callee opcodes rs m c) f o n k s line xs c args
-        p.0 p.1 none
-    stmt_goes f o n k s (choose line list) p none = arms_go f o n k s list p none
-
-    pub block_goes : (f : ℕ) → Owns P own f → (n : KnownHere) (k : KnownInBody) → Mirrors P own f base n k
-        → (b : Block) → NamedBlock P b → faults_in opcodes true b ≡ []
-        → Mirrors P own (after_block opcodes f b) base (known_block n (expanded_block opcodes own f b))
-        (known_after_block rs k b)
-    block_goes f o n k s no_stmt p none = s
-    block_goes f o n k s (andthen x rest) p none =
-        let g = after opcodes f x in
-        let parts = no_first (faults opcodes true x) (faults_in opcodes true rest) none in
-        subst (λ z. Mirrors P own (after_block opcodes g rest) base z (known_after_block rs k (andthen x rest)))
-        (sym (known_joins n (expanded opcodes own f x) (expanded_block opcodes own g rest)))
-        (block_goes g (owns_later P own f g (stmt_grows opcodes rs m f x) o) (known_block n (expanded opcodes own f x))
-        (known_after rs k x) (stmt_goes f o n k s x p.0 parts.0) rest p.1 parts.1)
-
-    arms_go : (f : ℕ) → Owns P own f → (n : KnownHere) (k : KnownInBody) → Mirrors P own f base n k
-        → (list : Arms) → NamedArms P list → faults_in_arms opcodes true list ≡ []
-        → Mirrors P own (after_arms opcodes f list) base (known_arms n (expanded_arms opcodes own f list))
-        (known_after_arms rs k list)
-    arms_go f o n k s (otherwise b) p none = block_goes f o n k s b p none
-    arms_go f o n k s (arm c b rest) p none =
-        let g = after_block opcodes f b in
-        let parts = no_first (faults_in opcodes true b) (faults_in_arms opcodes true rest) none in
-        arms_go g (owns_later P own f g (block_grows opcodes rs m f b) o)
-        (known_block n (expanded_block opcodes own f b)) (known_after_block rs k b)
-        (block_goes f o n k s b p.1 parts.0) rest p.2 parts.1
-
-  -- ---- the first rule that is broken
-
-  mutual
-    stmt_breaks : (q : Setting) (f : ℕ) → Owns P own f → (n : KnownHere) (k : KnownInBody) → Mirrors P own f base n k
-        → (x : Statement) → NamedStmt P x → faults opcodes true x ≡ []
-        → block_fault q n (expanded opcodes own f x) ≡ fault_in q rs k x
-    stmt_breaks q f o n k s (set line x e) p none =
-        or_none (at line (set_fault_by q (knows n) (own x) (renamed_expression own e)))
-        ∙ ap (at line) (set_fault_same o base n k s.sees q (own x) x (o.rate x) e p.1)
-    stmt_breaks q f o n k s (call line xs c args) p none =
-        call_breaks base (defined opcodes c) (routine_called rs c) (at_callee opcodes rs m c) f o n k s line xs c args
-        p.0 p.1 none q
-    stmt_breaks q f o n k s (choose line list) p none =
-        or_none (arms_fault q n line (expanded_arms opcodes own f list)) ∙ arms_break q f o n k s line list p none
-
-    pub block_breaks : (q : Setting) (f : ℕ) → Owns P own f → (n : KnownHere) (k : KnownInBody)
-        → Mirrors P own f base n k
-        → (b : Block) → NamedBlock P b → faults_in opcodes true b ≡ []
-        → block_fault q n (expanded_block opcodes own f b) ≡ block_fault_in q rs k b
-    block_breaks q f o n k s no_stmt p none = refl
-    block_breaks q f o n k s (andthen x rest) p none =
-        let g = after opcodes f x in
-        let parts = no_first (faults opcodes true x) (faults_in opcodes true rest) none in
-        let more = block_breaks q g (owns_later P own f g (stmt_grows opcodes rs m f x) o)
-        (known_block n (expanded opcodes own f x)) (known_after rs k x) (stmt_goes f o n k s x p.0 parts.0) rest p.1
-        parts.1 in
-        fault_joins q n (expanded opcodes own f x) (expanded_block opcodes own g rest)
-        ∙ λ i. option_or (stmt_breaks q f o n k s x p.0 parts.0 i) (more i)
-
-    arms_break : (q : Setting) (f : ℕ) → Owns P own f → (n : KnownHere) (k : KnownInBody) → Mirrors P own f base n k
-        → (line : ℕ) (list : Arms) → NamedArms P list → faults_in_arms opcodes true list ≡ []
-        → arms_fault q n line (expanded_arms opcodes own f list) ≡ arms_fault_in q rs k line list
-    arms_break q f o n k s line (otherwise b) p none = block_breaks q f o n k s b p none
-    arms_break q f o n k s line (arm c b rest) p none =
-        let g = after_block opcodes f b in
-        let parts = no_first (faults_in opcodes true b) (faults_in_arms opcodes true rest) none in
-        let more = arms_break q g (owns_later P own f g (block_grows opcodes rs m f b) o)
-        (known_block n (expanded_block opcodes own f b)) (known_after_block rs k b)
-        (block_goes f o n k s b p.1 parts.0) line rest p.2 parts.1 in
-        λ i. option_or (at line (condition_fault_same o base n k s.sees q c p.0 i))
-        (option_or (block_breaks q f o n k s b p.1 parts.0 i) (more i))
-
-  -- ---- the typed form
-
-  kept : (f : ℕ) → Owns P own f → KeepsRates own
-  kept f o = record { rate = o.rate }
-
   all_init_same : (f g : ℕ) → Owns P own f → (list : Arms)
       → all_init (expanded_arms opcodes own g list) ≡ all_init list
   all_init_same f g o (otherwise b) = refl
   all_init_same f g o (arm c b rest) =
-      λ i. is_init (rate_of_kept (kept f o) c i) && all_init_same f (after_block opcodes g b) o rest i
+      let kept : KeepsRates own = record { rate = o.rate } in
+      λ i. is_init (rate_of_kept kept c i) && all_init_same f (after_block opcodes g b) o rest i
 
   mutual
-    stmt_forms : (q : Setting) (f : ℕ) → Owns P own f → (n : KnownHere) (k : KnownInBody) → Mirrors P own f base n k
-        → (x : Statement) → NamedStmt P x → faults opcodes true x ≡ [] → fault_in q rs k x ≡ None
-        → typed_block n (expanded opcodes own f x) ≡ moved_block base (typed_in rs k x)
-    stmt_forms q f o n k s (set line x e) p none h =
-        let it = typed_same o base n k s.sees e p.1 (set_read q (knows_in k) line x e h) in
-        λ i. typed.andthen (typed.set line (o.rate x i) (variable_given o base n k s x p.0 i) (it i)) typed.no_stmt
-    stmt_forms q f o n k s (call line xs c args) p none h =
-        call_forms base (defined opcodes c) (routine_called rs c) (at_callee opcodes rs m c) f o n k s line xs c args
-        p.0 p.1 none q h
-    stmt_forms q f o n k s (choose line list) p none h =
-        λ i. typed.andthen
-        (typed.choose line (rate_of_choice (all_init_same f f o list i)) (arms_form q f o n k s line list p none h i))
-        typed.no_stmt
+    stmt_meets : (f : ℕ) → Owns P own f → (n : KnownHere) (k : KnownInBody) → Mirrors P own f base n k
+        → (x : Statement) → NamedStmt P x → faults opcodes true x ≡ []
+        → Meets P own (after opcodes f x) base n (expanded opcodes own f x) (known_after rs k x)
+        (λ q. fault_in q rs k x) (typed_in rs k x)
+    stmt_meets f o n k s (set line x e) p none = record {
+      known = mirrors_given o base n k s x p.0;
+      fault = λ q. or_none (at line (set_fault_by q (knows n) (own x) (renamed_expression own e)))
+          ∙ ap (at line) (set_fault_same o base n k s.sees q (own x) x (o.rate x) e p.1);
+      form = λ q h.
+          let it = typed_same o base n k s.sees e p.1 (keeps_set q (knows_in k) line x e h).0 in
+          λ i. typed.andthen (typed.set line (o.rate x i) (variable_given o base n k s x p.0 i) (it i)) typed.no_stmt;
+    }
+    stmt_meets f o n k s (call line xs c args) p none =
+        call_meets base (defined opcodes c) (routine_called rs c) (at_callee opcodes rs m c) f o n k s line xs c args
+        p.0 p.1 none
+    stmt_meets f o n k s (choose line list) p none =
+        let all = arms_meet f o n k s line list p none in
+        record {
+          known = all.known;
+          fault = λ q. or_none (arms_fault q n line (expanded_arms opcodes own f list)) ∙ all.fault q;
+          form = λ q h i. typed.andthen
+              (typed.choose line (rate_of_choice (all_init_same f f o list i)) (all.form q h i)) typed.no_stmt;
+        }
 
-    pub block_forms : (q : Setting) (f : ℕ) → Owns P own f → (n : KnownHere) (k : KnownInBody)
-        → Mirrors P own f base n k
-        → (b : Block) → NamedBlock P b → faults_in opcodes true b ≡ [] → block_fault_in q rs k b ≡ None
-        → typed_block n (expanded_block opcodes own f b) ≡ moved_block base (typed_block_in rs k b)
-    block_forms q f o n k s no_stmt p none h = refl
-    block_forms q f o n k s (andthen x rest) p none h =
+    pub block_meets : (f : ℕ) → Owns P own f → (n : KnownHere) (k : KnownInBody) → Mirrors P own f base n k
+        → (b : Block) → NamedBlock P b → faults_in opcodes true b ≡ []
+        → Meets P own (after_block opcodes f b) base n (expanded_block opcodes own f b) (known_after_block rs k b)
+        (λ q. block_fault_in q rs k b) (typed_block_in rs k b)
+    block_meets f o n k s no_stmt p none = record { known = s; fault = λ q. refl; form = λ q h. refl }
+    block_meets f o n k s (andthen x rest) p none =
         let g = after opcodes f x in
+        let front = expanded opcodes own f x in
+        let back = expanded_block opcodes own g rest in
+        let later = known_after rs k x in
         let parts = no_first (faults opcodes true x) (faults_in opcodes true rest) none in
-        let sound = both_none (fault_in q rs k x) (block_fault_in q rs (known_after rs k x) rest) h in
-        let more = block_forms q g (owns_later P own f g (stmt_grows opcodes rs m f x) o)
-        (known_block n (expanded opcodes own f x)) (known_after rs k x) (stmt_goes f o n k s x p.0 parts.0) rest p.1
-        parts.1 sound.1 in
-        typed_joins n (expanded opcodes own f x) (expanded_block opcodes own g rest)
-        ∙ (λ i. then_block (stmt_forms q f o n k s x p.0 parts.0 sound.0 i) (more i))
-        ∙ sym (moved_then base (typed_in rs k x) (typed_block_in rs (known_after rs k x) rest))
+        let first = stmt_meets f o n k s x p.0 parts.0 in
+        let last = block_meets g (owns_later P own f g (stmt_grows opcodes rs m f x) o) (known_block n front) later
+        first.known rest p.1 parts.1 in
+        record {
+          known = subst (λ z. Mirrors P own (after_block opcodes g rest) base z (known_after_block rs later rest))
+              (sym (known_joins n front back)) last.known;
+          fault = λ q. fault_joins q n front back ∙ λ i. option_or (first.fault q i) (last.fault q i);
+          form = λ q h.
+              let sound = both_none (fault_in q rs k x) (block_fault_in q rs later rest) h in
+              typed_joins n front back
+              ∙ (λ i. then_block (first.form q sound.0 i) (last.form q sound.1 i))
+              ∙ sym (moved_then base (typed_in rs k x) (typed_block_in rs later rest));
+        }
 
-    arms_form : (q : Setting) (f : ℕ) → Owns P own f → (n : KnownHere) (k : KnownInBody) → Mirrors P own f base n k
+    arms_meet : (f : ℕ) → Owns P own f → (n : KnownHere) (k : KnownInBody) → Mirrors P own f base n k
         → (line : ℕ) (list : Arms) → NamedArms P list → faults_in_arms opcodes true list ≡ []
-        → arms_fault_in q rs k line list ≡ None
-        → typed_arms n (expanded_arms opcodes own f list) ≡ moved_arms base (typed_arms_in rs k list)
-    arms_form q f o n k s line (otherwise b) p none h = ap typed.otherwise (block_forms q f o n k s b p none h)
-    arms_form q f o n k s line (arm c b rest) p none h =
+        → ArmsMeet P own (after_arms opcodes f list) base n line (expanded_arms opcodes own f list)
+        (known_after_arms rs k list) (λ q. arms_fault_in q rs k line list) (typed_arms_in rs k list)
+    arms_meet f o n k s line (otherwise b) p none =
+        let all = block_meets f o n k s b p none in
+        record { known = all.known; fault = all.fault; form = λ q h. ap typed.otherwise (all.form q h) }
+    arms_meet f o n k s line (arm c b rest) p none =
         let g = after_block opcodes f b in
-        let after_b = known_after_block rs k b in
+        let later = known_after_block rs k b in
         let parts = no_first (faults_in opcodes true b) (faults_in_arms opcodes true rest) none in
-        let sound = both_none (at line (condition_fault_by q (knows_in k) c))
-        (option_or (block_fault_in q rs k b) (arms_fault_in q rs after_b line rest)) h in
-        let inner = both_none (block_fault_in q rs k b) (arms_fault_in q rs after_b line rest) sound.1 in
-        let it = typed_same o base n k s.sees c p.0 (condition_read q (knows_in k) line c sound.0) in
-        let more = arms_form q g (owns_later P own f g (block_grows opcodes rs m f b) o)
-        (known_block n (expanded_block opcodes own f b)) after_b (block_goes f o n k s b p.1 parts.0) line rest p.2
-        parts.1 inner.1 in
-        λ i. typed.arm (it i) (block_forms q f o n k s b p.1 parts.0 inner.0 i) (more i)
+        let first = block_meets f o n k s b p.1 parts.0 in
+        let last = arms_meet g (owns_later P own f g (block_grows opcodes rs m f b) o)
+        (known_block n (expanded_block opcodes own f b)) later first.known line rest p.2 parts.1 in
+        record {
+          known = last.known;
+          fault = λ q i. option_or (at line (condition_fault_same o base n k s.sees q c p.0 i))
+              (option_or (first.fault q i) (last.fault q i));
+          form = λ q h.
+              let sound = both_none (at line (condition_fault_by q (knows_in k) c))
+              (option_or (block_fault_in q rs k b) (arms_fault_in q rs later line rest)) h in
+              let inner = both_none (block_fault_in q rs k b) (arms_fault_in q rs later line rest) sound.1 in
+              let it = typed_same o base n k s.sees c p.0 (keeps_condition q (knows_in k) line c sound.0).0 in
+              λ i. typed.arm (it i) (first.form q inner.0 i) (last.form q inner.1 i);
+        }

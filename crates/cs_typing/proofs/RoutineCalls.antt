@@ -1,23 +1,17 @@
 -- A call of a defined opcode: its expansion, typed in the caller, and its routine.
-use Rattle.std.proofs.Common.{◌≡◌, ◌∙◌, ℕ, ◌+◌, ◌≤◌, ◌<◌, Bool, true, false, if◌then◌else◌, List, [], ◌∷◌, map}
-use Rattle.std.proofs.Common.{Option, Some, None, arith, refl, sym, ap, subst}
-use Rattle.std.specs.Option.{is_some, option_or, unwrap_or}
-use Rattle.std.specs.Str.{bytes_eq}
+use Rattle.std.proofs.Common.{◌≡◌, ◌∙◌, ℕ, ◌+◌, ◌≤◌, ◌<◌, Bool, true, false, if◌then◌else◌, List, [], ◌∷◌, map, Option}
+use Rattle.std.proofs.Common.{Some, None, arith, refl, sym, ap, subst}
+use Rattle.std.specs.{Option.is_some, Option.option_or, Option.unwrap_or, Str.bytes_eq}
 use Rattle.std.proofs.lemmas.Slice.Eq.{bytes_eq-Decides}
 use Rattle.cs_base.proofs.Tests.{both_none}
-use Rattle.cs_base.specs.Rates.{at_rate}
-use Rattle.cs_base.specs.declared.per_rate.PerRate.{PerRate}
+use Rattle.cs_base.specs.{Rates.at_rate, declared.fault.OrcFault.OrcFault, declared.per_rate.PerRate.PerRate}
 use Rattle.cs_words.specs.Names.{name_rate, is_global}
 use Rattle.cs_grammar.specs.Renaming.{renamed_argument}
-use Rattle.cs_grammar.specs.Tree.{var, Argument, value, text, set, Block, andthen, joins}
-use Rattle.cs_typed.specs.TypedTree.{counts_with, moved_variable, moved_block}
-use Rattle.cs_typed.specs.TypedTree as typed
-use Rattle.cs_typed.specs.TypedTree.{then_block}
+use Rattle.cs_grammar.specs.Tree.{var, Argument, value, text, Block, joins}
+use Rattle.cs_typed.specs.TypedTree.{counts_with, moved_variable, moved_block, then_block}
 use Rattle.cs_typed.specs.declared.setting.Setting.{Setting}
-use Rattle.cs_typed.specs.declared.tree.Var.TheVariants as variant
 use Rattle.cs_typed.proofs.Moved.{counts_again, counts_none, moved_then, variable_twice, block_twice}
-use Rattle.cs_udo.specs.Expanded.{Template, assignments, value_in}
-use Rattle.cs_udo.specs.Names.{fresh, in_frame}
+use Rattle.cs_udo.specs.{Expanded.Template, Expanded.assignments, Expanded.value_in, Names.fresh, Names.in_frame}
 use Rattle.cs_udo.proofs.Fresh.{fresh_local, framed_fresh, framed_shared, framed_rate}
 use Rattle.cs_typing.specs.Known.{in_table, place_in, Shared, KnownHere, given, global}
 use Rattle.cs_typing.specs.Settings.{at}
@@ -26,12 +20,22 @@ use Rattle.cs_typing.specs.inner.Routines.{Locals, no_locals, has_local, number_
 use Rattle.cs_typing.specs.inner.Routines.{past_call, KnownInBody, known_in, knows_in, variable_in, Routine}
 use Rattle.cs_typing.specs.inner.Routines.{inputs_fault, inputs_set, results_fault, results_set}
 use Rattle.cs_typing.proofs.Joins.{known_joins, fault_joins, typed_joins}
-use Rattle.cs_typing.proofs.KnownLater.{known_block_later}
-use Rattle.cs_typing.proofs.Named.{NamedAll, NamedArguments}
-use Rattle.cs_typing.proofs.RoutineExpressions.{set_read, typed_same, set_fault_same}
-use Rattle.cs_typing.proofs.RoutineNames.{Any, Owns, owns_later, frame_owns, Sees, Mirrors}
-use Rattle.cs_typing.proofs.RoutineNames.{variable_same, variable_given, some_there, mirrors_given, sees_later}
-use Rattle.cs_typing.proofs.RoutineNames.{sees_other}
+use Rattle.cs_typing.proofs.{KnownLater.known_block_later, Named.NamedAll, Named.NamedArguments, Rules.keeps_set}
+use Rattle.cs_typing.proofs.RoutineExpressions.{typed_same, set_fault_same}
+use Rattle.cs_typing.proofs.RoutineNames.{Any, Owns, owns_later, frame_owns, Sees, Mirrors, variable_same}
+use Rattle.cs_typing.proofs.RoutineNames.{variable_given, some_there, mirrors_given, sees_later, sees_other}
+use Rattle.cs_typed.specs.TypedTree as typed
+use Rattle.cs_typed.specs.declared.tree.Var.TheVariants as variant
+
+-- ---- expanded statements and those of the text
+
+-- Behind expanded statements the same is known as behind those of the text, they break the same rule first, and where
+-- they break none their typed form is that of the text, moved.
+pub record Meets (P : List ℕ → Type 0) (own : List ℕ → List ℕ) (h : ℕ) (base : PerRate ℕ) (n : KnownHere) (b : Block)
+    (k : KnownInBody) (rule : Setting → Option OrcFault) (made : typed.Block) : Type 0 where
+  pub known : Mirrors P own h base (known_block n b) k
+  pub fault : (s : Setting) → block_fault s n b ≡ rule s
+  pub form : (s : Setting) → rule s ≡ None → typed_block n b ≡ moved_block base made
 
 -- ---- an opcode's expansion and its routine
 
@@ -43,14 +47,10 @@ pub record Matches (t : Template) (r : Routine) : Type 0 where
   pub grows : (f : ℕ) → f < t.after f
   pub untouched : (n : KnownHere) (f : ℕ) (y : List ℕ) → ((x : List ℕ) (g : ℕ) → f ≤ g → y ≡ fresh g x → ⊥)
       → in_table (known_block n (t.block f)).locals y ≡ in_table n.locals y
-  pub known : (f : ℕ) (base : PerRate ℕ) (n : KnownHere) (g : Shared)
+  pub body : (f : ℕ) (base : PerRate ℕ) (n : KnownHere) (g : Shared)
       → Mirrors Any (in_frame f) (f + 1) base n (known_in g r.first)
-      → Mirrors Any (in_frame f) (t.after f) base (known_block n (t.block f)) (known_in (r.shared g) r.last)
-  pub fault : (s : Setting) (f : ℕ) (base : PerRate ℕ) (n : KnownHere) (g : Shared)
-      → Mirrors Any (in_frame f) (f + 1) base n (known_in g r.first) → block_fault s n (t.block f) ≡ r.fault s g
-  pub form : (s : Setting) (f : ℕ) (base : PerRate ℕ) (n : KnownHere) (g : Shared)
-      → Mirrors Any (in_frame f) (f + 1) base n (known_in g r.first) → r.fault s g ≡ None
-      → typed_block n (t.block f) ≡ moved_block base (r.block g)
+      → Meets Any (in_frame f) (t.after f) base n (t.block f) (known_in (r.shared g) r.last) (λ s. r.fault s g)
+      (r.block g)
 
 -- arguments for inputs, and variables for results, one for each
 abbrev pub ArgumentsFit : List (List ℕ) → List Argument → Type 0
@@ -167,13 +167,11 @@ module _ {P : List ℕ → Type 0} {own : List ℕ → List ℕ} {f : ℕ} (o : 
         (args : List Argument) → NamedArguments P args
         → block_fault q n (assignments line (map (in_frame f) xs) (map (renamed_argument own) args))
         ≡ inputs_fault q k line xs args
-    inputs_fault_same q n s line [] args h = refl
-    inputs_fault_same q n s line (x ∷ xs) [] h = refl
-    inputs_fault_same q n s line (x ∷ xs) (text t ∷ args) h = refl
     inputs_fault_same q n s line (x ∷ xs) (value e ∷ args) h =
         let next = sees_other P own base n k s (in_frame f x) (λ y p d same. frame_other y x p d same) in
         λ i. option_or (at line (set_fault_same o base n k s q (in_frame f x) x (framed_rate f x) e h.0 i))
         (inputs_fault_same q (given n (in_frame f x)) next line xs args h.1 i)
+    inputs_fault_same q n s line xs args h = refl
 
     pub inputs_typed : (q : Setting) (n : KnownHere) → Sees P own base n k → (r : Routine) (l : Locals)
         → Mirrors Any (in_frame f) (f + 1) (counts_with base k.locals.counts) n (known_in k.shared l)
@@ -181,9 +179,6 @@ module _ {P : List ℕ → Type 0} {own : List ℕ → List ℕ} {f : ℕ} (o : 
         → r.first ≡ all_given_in l xs → inputs_fault q k line xs args ≡ None
         → typed_block n (assignments line (map (in_frame f) xs) (map (renamed_argument own) args))
         ≡ moved_block base (inputs_set k r line xs args)
-    inputs_typed q n s r l m line [] args h e none = refl
-    inputs_typed q n s r l m line (x ∷ xs) [] h e none = refl
-    inputs_typed q n s r l m line (x ∷ xs) (text t ∷ args) h e none = refl
     inputs_typed q n s r l m line (x ∷ xs) (value a ∷ args) h e none =
         let both = counts_with base k.locals.counts in
         let owned = frame_owns f (f + 1) (omega arith) in
@@ -194,9 +189,10 @@ module _ {P : List ℕ → Type 0} {own : List ℕ → List ℕ} {f : ℕ} (o : 
         ∙ ap (moved_variable both) (variable_stays k.shared l x xs
         ∙ ap (λ z. variable_in (known_in k.shared z) x) (sym e))
         ∙ sym (variable_twice base k.locals.counts (variable_in (known_in k.shared r.first) x)) in
-        let it = typed_same o base n k s a h.0 (set_read q (knows_in k) line x a parts.0) in
+        let it = typed_same o base n k s a h.0 (keeps_set q (knows_in k) line x a parts.0).0 in
         λ i. typed.andthen (typed.set line (framed_rate f x i) (here i) (it i))
         (inputs_typed q (given n (in_frame f x)) next r (given_in l x) more line xs args h.1 e parts.1 i)
+    inputs_typed q n s r l m line xs args h e none = refl
 
 -- what is known of the routine's variables behind the inputs
 pub inputs_known : (f : ℕ) (base : PerRate ℕ) (own : List ℕ → List ℕ) (n : KnownHere) (g : Shared) (l : Locals)
@@ -276,11 +272,10 @@ module _ {P : List ℕ → Type 0} {own : List ℕ → List ℕ} {f : ℕ} (o : 
 
   pub results_fault_same : (q : Setting) (n : KnownHere) → Inner n → (line : ℕ) (xs ys : List (List ℕ)) → NamedAll P xs
       → block_fault q n (assignments line (map own xs) (map (value_in f) ys)) ≡ results_fault q g r line xs ys
-  results_fault_same q n s line [] ys p = refl
-  results_fault_same q n s line (x ∷ xs) [] p = refl
   results_fault_same q n s line (x ∷ xs) (y ∷ ys) p =
       λ i. option_or (slot_fault q n s line x y i)
       (results_fault_same q (given n (own x)) (inner_given n s x p.0) line xs ys p.1 i)
+  results_fault_same q n s line xs ys p = refl
 
   pub results_known : (n : KnownHere) (l : Locals) → Mirrors P own h base n (known_in g l)
       → (line : ℕ) (xs ys : List (List ℕ)) → NamedAll P xs → ResultsFit xs ys
@@ -297,19 +292,18 @@ module _ {P : List ℕ → Type 0} {own : List ℕ → List ℕ} {f : ℕ} (o : 
       → (line : ℕ) (xs ys : List (List ℕ)) → NamedAll P xs → results_fault q g r line xs ys ≡ None
       → typed_block n (assignments line (map own xs) (map (value_in f) ys))
       ≡ moved_block base (results_set (known_in g l) c r line xs ys)
-  results_typed q n l s m line [] ys p none = refl
-  results_typed q n l s m line (x ∷ xs) [] p none = refl
   results_typed q n l s m line (x ∷ xs) (y ∷ ys) p none =
       let inside = known_in g r.last in
       let parts = both_none (at line (set_fault_by q (knows_in inside) x (var y))) (results_fault q g r line xs ys)
       none in
-      let read = set_read q (knows_in inside) line x (var y) parts.0 in
+      let read = (keeps_set q (knows_in inside) line x (var y) parts.0).0 in
       let slot = variable_same frame (counts_with base c) n inside s y tt read
       ∙ sym (variable_twice base c (variable_in inside y)) in
       λ i. typed.andthen (typed.set line (later.rate x i) (variable_given later base n (known_in g l) m x p.0 i)
       (typed.var (framed_rate f y i) (slot i)))
       (results_typed q (given n (own x)) (given_in l x) (inner_given n s x p.0)
       (mirrors_given later base n (known_in g l) m x p.0) line xs ys p.1 parts.1 i)
+  results_typed q n l s m line xs ys p none = refl
 
 -- ---- the whole call
 
@@ -353,13 +347,14 @@ module _ {P : List ℕ → Type 0} {own : List ℕ → List ℕ} {f : ℕ} (o : 
   caller_first : Sees P own base behind_inputs k
   caller_first = inputs_seen o base k n m.sees line r.inputs (map (renamed_argument own) args)
 
-  inner_last : Mirrors Any (in_frame f) (t.after f) both behind_body (known_in (r.shared k.shared) r.last)
-  inner_last = same.known f both behind_inputs k.shared inner_first
+  inner : Meets Any (in_frame f) (t.after f) both behind_inputs (t.block f) (known_in (r.shared k.shared) r.last)
+      (λ q. r.fault q k.shared) (r.block k.shared)
+  inner = same.body f both behind_inputs k.shared inner_first
 
   caller_last : Sees P own base behind_body (known_in (r.shared k.shared) k.locals)
   caller_last =
       sees_later P own base behind_inputs behind_body k (r.shared k.shared) caller_first
-      (known_block_later behind_inputs (t.block f)) inner_last.sees.shared
+      (known_block_later behind_inputs (t.block f)) inner.known.sees.shared
       (λ x p e. same.untouched behind_inputs f (own x) (λ y g le it. o.below x y g p e le it))
 
   later : Owns P own (t.after f)
@@ -371,16 +366,7 @@ module _ {P : List ℕ → Type 0} {own : List ℕ → List ℕ} {f : ℕ} (o : 
   caller_goes_on : Mirrors P own (t.after f) base behind_body
       (known_in (r.shared k.shared) (past_call k.locals r.last.counts))
   caller_goes_on =
-      goes_on f (t.after f) base behind_body (r.shared k.shared) k.locals r.last caller_last inner_last
-
-  pub routine_mirrors : Mirrors P own (t.after f) base (known_block n (whole t.inputs t.results))
-      (known_in (r.shared k.shared) (all_given_in (past_call k.locals r.last.counts) xs))
-  routine_mirrors =
-      subst (λ z. Mirrors P own (t.after f) base z
-      (known_in (r.shared k.shared) (all_given_in (past_call k.locals r.last.counts) xs)))
-      (sym (ap (known_block n) whole_is ∙ known_parts))
-      (results_known o later base k.locals.counts (r.shared k.shared) r behind_body
-      (past_call k.locals r.last.counts) caller_goes_on line xs r.results names takes)
+      goes_on f (t.after f) base behind_body (r.shared k.shared) k.locals r.last caller_last inner.known
 
   -- the first rule that is broken
   fault_parts : (q : Setting) → block_fault q n (whole r.inputs r.results)
@@ -390,17 +376,6 @@ module _ {P : List ℕ → Type 0} {own : List ℕ → List ℕ} {f : ℕ} (o : 
       fault_joins q n (given_in_frame r.inputs) (joins (t.block f) (taken r.results))
       ∙ ap (option_or (block_fault q n (given_in_frame r.inputs)))
       (fault_joins q behind_inputs (t.block f) (taken r.results))
-
-  pub routine_fault_same : (q : Setting) → block_fault q n (whole t.inputs t.results)
-      ≡ option_or (inputs_fault q k line r.inputs args)
-      (option_or (r.fault q k.shared) (results_fault q (r.shared k.shared) r line xs r.results))
-  routine_fault_same q =
-      ap (block_fault q n) whole_is
-      ∙ fault_parts q
-      ∙ λ i. option_or (inputs_fault_same o base k q n m.sees line r.inputs args reads i)
-      (option_or (same.fault q f both behind_inputs k.shared inner_first i)
-      (results_fault_same o later base k.locals.counts (r.shared k.shared) r q behind_body inner_last.sees line xs
-      r.results names i))
 
   -- the typed form
   form_parts : typed_block n (whole r.inputs r.results)
@@ -430,20 +405,33 @@ module _ {P : List ℕ → Type 0} {own : List ℕ → List ℕ} {f : ℕ} (o : 
       ∙ ap (λ b. then_block (moved_block base first_form) (then_block b (moved_block base last_form)))
       (block_twice base k.locals.counts (r.block k.shared))
 
-  pub routine_typed_same : (q : Setting)
-      → option_or (inputs_fault q k line r.inputs args)
-      (option_or (r.fault q k.shared) (results_fault q (r.shared k.shared) r line xs r.results)) ≡ None
-      → typed_block n (whole t.inputs t.results)
-      ≡ moved_block base (then_block first_form (then_block body_form last_form))
-  routine_typed_same q none =
-      let results_none = results_fault q (r.shared k.shared) r line xs r.results in
-      let parts = both_none (inputs_fault q k line r.inputs args) (option_or (r.fault q k.shared) results_none) none in
-      let more = both_none (r.fault q k.shared) results_none parts.1 in
-      ap (typed_block n) whole_is
-      ∙ form_parts
-      ∙ (λ i. then_block
-      (inputs_typed o base k q n m.sees r no_locals (begins f base n k m) line r.inputs args reads same.first parts.0 i)
-      (then_block (same.form q f both behind_inputs k.shared inner_first more.0 i)
-      (results_typed o later base k.locals.counts (r.shared k.shared) r q behind_body
-      (past_call k.locals r.last.counts) inner_last.sees caller_goes_on line xs r.results names more.1 i)))
-      ∙ sym form_moved
+  pub routine_meets : Meets P own (t.after f) base n (whole t.inputs t.results)
+      (known_in (r.shared k.shared) (all_given_in (past_call k.locals r.last.counts) xs))
+      (λ q. option_or (inputs_fault q k line r.inputs args)
+      (option_or (r.fault q k.shared) (results_fault q (r.shared k.shared) r line xs r.results)))
+      (then_block first_form (then_block body_form last_form))
+  routine_meets = record {
+    known = subst (λ z. Mirrors P own (t.after f) base z
+        (known_in (r.shared k.shared) (all_given_in (past_call k.locals r.last.counts) xs)))
+        (sym (ap (known_block n) whole_is ∙ known_parts))
+        (results_known o later base k.locals.counts (r.shared k.shared) r behind_body
+        (past_call k.locals r.last.counts) caller_goes_on line xs r.results names takes);
+    fault = λ q. ap (block_fault q n) whole_is ∙ fault_parts q
+        ∙ λ i. option_or (inputs_fault_same o base k q n m.sees line r.inputs args reads i)
+        (option_or (inner.fault q i)
+        (results_fault_same o later base k.locals.counts (r.shared k.shared) r q behind_body inner.known.sees line xs
+        r.results names i));
+    form = λ q none.
+        let results_none = results_fault q (r.shared k.shared) r line xs r.results in
+        let parts = both_none (inputs_fault q k line r.inputs args) (option_or (r.fault q k.shared) results_none)
+        none in
+        let more = both_none (r.fault q k.shared) results_none parts.1 in
+        ap (typed_block n) whole_is ∙ form_parts
+        ∙ (λ i. then_block
+        (inputs_typed o base k q n m.sees r no_locals (begins f base n k m) line r.inputs args reads same.first parts.0
+        i)
+        (then_block (inner.form q more.0 i)
+        (results_typed o later base k.locals.counts (r.shared k.shared) r q behind_body
+        (past_call k.locals r.last.counts) inner.known.sees caller_goes_on line xs r.results names more.1 i)))
+        ∙ sym form_moved;
+  }

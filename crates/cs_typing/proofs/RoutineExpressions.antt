@@ -1,72 +1,29 @@
 -- Expressions, assignments and calls of the catalogue in a body that is typed where it is called, and typed for itself.
-use Rattle.std.proofs.Common.{◌≡◌, ◌∙◌, ℕ, Bool, true, false, not, ◌&&◌, ◌||◌, if◌then◌else◌, List, [], ◌∷◌, map}
-use Rattle.std.proofs.Common.{Option}
-use Rattle.std.proofs.Common.{Some, None, refl, ap}
+use Rattle.std.proofs.Common.{◌≡◌, ◌∙◌, ℕ, true, not, ◌&&◌, ◌||◌, if◌then◌else◌, List, [], ◌∷◌, map, Option, Some, None}
+use Rattle.std.proofs.Common.{refl, ap}
 use Rattle.std.proofs.lemmas.Bool.{and_parts}
-use Rattle.cs_base.specs.Rates.{within, is_init}
-use Rattle.cs_base.specs.declared.fault.OrcKind.{OrcKind}
-use Rattle.cs_base.specs.declared.fault.OrcKind.TheVariants as orc
-use Rattle.cs_base.specs.declared.per_rate.PerRate.{PerRate}
-use Rattle.cs_words.specs.Catalogue.{Row, row_of}
-use Rattle.cs_words.specs.Names.{name_rate}
-use Rattle.cs_words.specs.declared.catalogue.Opcode.{Opcode}
-use Rattle.cs_grammar.specs.Renaming.{renamed_expression, renamed_argument}
-use Rattle.cs_grammar.specs.declared.tree.Callee.{Callee}
-use Rattle.cs_grammar.specs.declared.tree.Callee.TheVariants as callee
-use Rattle.cs_grammar.specs.Tree.{Expression, number, var, field, head, neg, pair, pick, apply, Argument, value, text}
+use Rattle.cs_base.specs.{Rates.within, Rates.is_init, declared.per_rate.PerRate.PerRate}
+use Rattle.cs_words.specs.{Catalogue.Row, Catalogue.row_of, Names.name_rate, declared.catalogue.Opcode.Opcode}
+use Rattle.cs_grammar.specs.{Renaming.renamed_expression, Renaming.renamed_argument, declared.tree.Callee.Callee}
+use Rattle.cs_grammar.specs.Tree.{Expression, var, neg, pair, pick, apply, Argument, value, text}
 use Rattle.cs_typed.specs.TypedTree.{moved_variable, moved_expression, moved_argument, moved}
-use Rattle.cs_typed.specs.TypedTree as typed
 use Rattle.cs_typed.specs.declared.setting.Setting.{Setting}
-use Rattle.cs_typing.specs.Calls.{channel_use, text_of, all_known, all_read_by, rates_agree, counts_agree, row_fault}
-use Rattle.cs_typing.specs.Calls.{row_fault_by, call_fault, call_fault_by, call_known, call_shared, call_rate}
-use Rattle.cs_typing.specs.Calls.{arguments_by, row_by, call_by, typed_row, typed_call, is_too_wide}
-use Rattle.cs_typing.specs.Expressions.{is_condition, rate_of, reads_by, reads_known, expression_by}
-use Rattle.cs_typing.specs.Expressions.{typed_expression}
+use Rattle.cs_typing.specs.Calls.{channel_use, text_of, all_known, all_read_by, row_fault, row_fault_by, call_fault}
+use Rattle.cs_typing.specs.Calls.{call_fault_by, call_known, call_shared, call_rate, arguments_by, row_by, call_by}
+use Rattle.cs_typing.specs.{Calls.typed_row, Calls.typed_call, declared.known.Channel.Channel}
+use Rattle.cs_typing.specs.Expressions.{reads_by, reads_known, expression_by, typed_expression}
 use Rattle.cs_typing.specs.Known.{Shared, KnownHere, given_all, use_channel, clashes, variable, channel_of}
-use Rattle.cs_typing.specs.Settings.{at}
-use Rattle.cs_typing.specs.Statements.{set_fault, set_fault_by, condition_fault, condition_fault_by, may_set}
-use Rattle.cs_typing.specs.declared.known.Channel.{Channel}
-use Rattle.cs_typing.specs.declared.known.Channel.TheVariants as channel
+use Rattle.cs_typing.specs.Statements.{set_fault, set_fault_by, condition_fault, condition_fault_by}
 use Rattle.cs_typing.specs.inner.Routines.{KnownInBody, known_in, knows_in, variable_in, all_given_in}
 use Rattle.cs_typing.proofs.Named.{Named, NamedAll, NamedArguments}
 use Rattle.cs_typing.proofs.RoutineNames.{Owns, Sees, Mirrors, knows_same, variable_same, variable_given, with_shared}
-use Rattle.cs_typing.proofs.RoutineNames.{mirrors_all_given}
+use Rattle.cs_typing.proofs.{RoutineNames.mirrors_all_given, Rules.keeps_rules}
 use Rattle.cs_typing.proofs.SameRates.{KeepsRates, rate_of_kept, value_kept, condition_kept, use_kept, rates_kept}
 use Rattle.cs_typing.proofs.SameRates.{wide_kept, text_kept, counts_kept, call_rate_kept}
-
--- ---- what has no fault reads what is known
-
-pub no_kind : (line : ℕ) (a : Option OrcKind) → at line a ≡ None → a ≡ None
-no_kind line None h = refl
-no_kind line (Some x) h = absurd (cc h)
-
-pub not_first : (b : Bool) (kind : OrcKind) (rest : Option OrcKind) → (if not b then Some kind else rest) ≡ None
-    → (b ≡ true) × (rest ≡ None)
-not_first true kind rest h = (refl, h)
-not_first false kind rest h = absurd (cc h)
-
-pub set_read : (s : Setting) (is_known : List ℕ → Bool) (line : ℕ) (x : List ℕ) (e : Expression)
-    → at line (set_fault_by s is_known x e) ≡ None → reads_by is_known e ≡ true
-set_read s is_known line x e h =
-    (not_first (reads_by is_known e) orc.Undefined (if not (may_set s x e) then Some orc.RateMismatch else None)
-    (no_kind line (set_fault_by s is_known x e) h)).0
-
-pub condition_read : (s : Setting) (is_known : List ℕ → Bool) (line : ℕ) (e : Expression)
-    → at line (condition_fault_by s is_known e) ≡ None → reads_by is_known e ≡ true
-condition_read s is_known line e h =
-    (not_first (reads_by is_known e) orc.Undefined
-    (if not (is_condition e && (s.inside || is_init (rate_of e))) then Some orc.RateMismatch else None)
-    (no_kind line (condition_fault_by s is_known e) h)).0
-
-row_read : (s : Setting) (g : Shared) (is_known : List ℕ → Bool) (row : Row) (xs : List (List ℕ)) (args : List Argument)
-    → row_fault_by s g is_known row xs args ≡ None → all_read_by is_known args ≡ true
-row_read s g is_known row xs args h =
-    let last = if clashes g (channel_use row.shape xs args) (text_of args) then Some orc.ChannelRate
-    else (if is_too_wide s row.shape args then Some orc.OutCount else None) in
-    let third = if not (rates_agree s row xs args) then Some orc.RateMismatch else last in
-    let second = if not (all_read_by is_known args) then Some orc.Undefined else third in
-    (not_first (all_read_by is_known args) orc.Undefined third
-    (not_first (counts_agree row xs args) orc.ArgCount second h).1).0
+use Rattle.cs_base.specs.declared.fault.OrcKind.TheVariants as orc
+use Rattle.cs_grammar.specs.declared.tree.Callee.TheVariants as callee
+use Rattle.cs_typed.specs.TypedTree as typed
+use Rattle.cs_typing.specs.declared.known.Channel.TheVariants as channel
 
 -- ---- in a body that sees the same
 
@@ -78,21 +35,16 @@ module _ {P : List ℕ → Type 0} {own : List ℕ → List ℕ} {f : ℕ} (o : 
   module _ (s : Sees P own base n k) where
     pub reads_same : (e : Expression) → Named P e
         → reads_known n (renamed_expression own e) ≡ reads_by (knows_in k) e
-    reads_same (number v) h = refl
     reads_same (var x) h = knows_same o base n k s x h
-    reads_same (field j) h = refl
-    reads_same (head j) h = refl
     reads_same (neg a) h = reads_same a h
     reads_same (pair p a b) h = λ i. reads_same a h.0 i && reads_same b h.1 i
     reads_same (pick c a b) h = λ i. reads_same c h.0 i && reads_same a h.1 i && reads_same b h.2 i
     reads_same (apply p a) h = reads_same a h
+    reads_same e h = refl
 
     pub typed_same : (e : Expression) → Named P e → reads_by (knows_in k) e ≡ true
         → typed_expression n (renamed_expression own e) ≡ moved_expression base (expression_by (variable_in k) e)
-    typed_same (number v) h r = refl
     typed_same (var x) h r = λ i. typed.var (o.rate x i) (variable_same o base n k s x h r i)
-    typed_same (field j) h r = refl
-    typed_same (head j) h r = refl
     typed_same (neg a) h r = λ i. typed.neg (rate_of_kept kept (neg a) i) (typed_same a h r i)
     typed_same (pair p a b) h r =
         let q = and_parts (reads_by (knows_in k) a) (reads_by (knows_in k) b) r in
@@ -103,6 +55,7 @@ module _ {P : List ℕ → Type 0} {own : List ℕ → List ℕ} {f : ℕ} (o : 
         λ i. typed.pick (rate_of_kept kept (pick c a b) i) (typed_same c h.0 q.0 i) (typed_same a h.1 q.1 i)
         (typed_same b h.2 j.1 i)
     typed_same (apply p a) h r = λ i. typed.apply (rate_of_kept kept (apply p a) i) p (typed_same a h r i)
+    typed_same e h r = refl
 
     pub all_read_same : (args : List Argument) → NamedArguments P args
         → all_known n (map (renamed_argument own) args) ≡ all_read_by (knows_in k) args
@@ -177,7 +130,7 @@ module _ {P : List ℕ → Type 0} {own : List ℕ → List ℕ} {f : ℕ} (o : 
         (use_kept kept row.shape xs args)
         ∙ λ i. typed.call line (call_rate_kept kept row.shape xs args i) (results_same xs g i) p
         (arguments_same m.sees (channel_use row.shape xs args) args h
-        (row_read q k.shared (knows_in k) row xs args none) i)
+        (keeps_rules q k.shared (knows_in k) row xs args none).known i)
 
     pub call_same : (q : Setting) (line : ℕ) (c : Callee) (xs : List (List ℕ)) (args : List Argument)
         → NamedAll P xs → NamedArguments P args → call_fault_by q k.shared (knows_in k) c xs args ≡ None

@@ -1,34 +1,26 @@
 -- Definitions, and instruments: routines are what expansions are typed to.
 use Rattle.std.proofs.Common.{◌≡◌, ◌∙◌, ℕ, ◌+◌, ◌≤◌, ◌<◌, Bool, true, false, if◌then◌else◌, List, [], ◌∷◌, ◌++◌, nat_lt}
 use Rattle.std.proofs.Common.{append_assoc, Option, Some, None, arith, refl, sym, ap}
-use Rattle.std.specs.Option.{option_or}
-use Rattle.std.specs.Str.{bytes_eq}
+use Rattle.std.specs.{Option.option_or, Str.bytes_eq}
 use Rattle.cs_base.specs.declared.resource.Rate.{Rate}
-use Rattle.cs_base.specs.declared.resource.Rate.TheVariants as rate
-use Rattle.cs_words.specs.NameSets.{has}
-use Rattle.cs_words.specs.Names.{name_rate}
+use Rattle.cs_words.specs.{NameSets.has, Names.name_rate}
 use Rattle.cs_grammar.specs.WellFormed.{HasNoStop}
-use Rattle.cs_grammar.specs.Tree.{Argument, value, text, Block, no_stmt, andthen, joins, Definition, Instrument}
+use Rattle.cs_grammar.specs.Tree.{Argument, value, Block, no_stmt, andthen, joins, Definition, Instrument}
 use Rattle.cs_typed.specs.TypedTree.{no_counts}
-use Rattle.cs_typed.specs.declared.setting.Setting.{Setting}
-use Rattle.cs_typed.proofs.Moved.{none_counts, block_stays}
 use Rattle.cs_udo.specs.Expanded.{Template, Opcodes, no_opcodes, assignments, after_block, whole_body, template}
 use Rattle.cs_udo.specs.Expanded.{defining, defining_all, before, opcodes_before, expanded_instrument}
 use Rattle.cs_udo.specs.Names.{fresh, in_frame, as_it_is, slots}
 use Rattle.cs_udo.specs.Refused.{faults, faults_in, faults_of_definitions}
 use Rattle.cs_udo.proofs.Fresh.{framed_fresh}
-use Rattle.cs_typing.specs.Known.{no_names, counts_of, of_rate, Shared, KnownHere, known_with}
-use Rattle.cs_typing.specs.Statements.{known_block, block_fault}
-use Rattle.cs_typing.specs.Typing.{entered, typed_instrument}
-use Rattle.cs_typing.specs.inner.Routines.{no_locals, known_in, Routine, Routines, no_routines, locals_after_block}
-use Rattle.cs_typing.specs.inner.Routines.{shared_after_block, known_after_block, block_fault_in, typed_block_in}
-use Rattle.cs_typing.specs.inner.Routines.{routine_of, with_routine, with_routines, routines_before}
-use Rattle.cs_typing.proofs.Named.{NamedBlock, any_block}
-use Rattle.cs_typing.proofs.RoutineBlocks.{Both, AllMatch, no_first, block_grows, block_untouched, block_goes}
-use Rattle.cs_typing.proofs.RoutineBlocks.{block_breaks}
-use Rattle.cs_typing.proofs.RoutineBlocks.{block_forms, Stranger}
-use Rattle.cs_typing.proofs.RoutineCalls.{Matches}
+use Rattle.cs_typing.specs.Known.{no_names, of_rate, Shared, KnownHere, known_with}
+use Rattle.cs_typing.specs.{Typing.entered, inner.Routines.routines_before}
+use Rattle.cs_typing.specs.inner.Routines.{no_locals, known_in, Routine, Routines, no_routines, known_after_block}
+use Rattle.cs_typing.specs.inner.Routines.{block_fault_in, typed_block_in, routine_of, with_routine, with_routines}
+use Rattle.cs_typing.proofs.{Named.NamedBlock, Named.any_block, RoutineBlocks.Stranger}
+use Rattle.cs_typing.proofs.RoutineBlocks.{Both, AllMatch, no_first, block_grows, block_untouched, block_meets}
+use Rattle.cs_typing.proofs.RoutineCalls.{Matches, Meets}
 use Rattle.cs_typing.proofs.RoutineNames.{Any, any, as_it_is_owns, frame_owns, Mirrors}
+use Rattle.cs_base.specs.declared.resource.Rate.TheVariants as rate
 
 -- ---- a definition
 
@@ -41,10 +33,8 @@ faults_joins opcodes (andthen x rest) b =
 
 values_allowed : (opcodes : Opcodes) (line : ℕ) (xs : List (List ℕ)) (args : List Argument)
     → faults_in opcodes true (assignments line xs args) ≡ []
-values_allowed opcodes line [] args = refl
-values_allowed opcodes line (x ∷ xs) [] = refl
-values_allowed opcodes line (x ∷ xs) (text t ∷ args) = refl
 values_allowed opcodes line (x ∷ xs) (value e ∷ args) = values_allowed opcodes line xs args
+values_allowed opcodes line xs args = refl
 
 pub body_allowed : (opcodes : Opcodes) (d : Definition) → faults_in opcodes true d.body ≡ []
     → faults_in opcodes true (whole_body d) ≡ []
@@ -80,15 +70,9 @@ definition_matches opcodes rs m d none =
       grows = λ f. from_next f ((template opcodes d).after f) (block_grows opcodes rs m (f + 1) b);
       untouched = λ n f y h.
           block_untouched opcodes rs m y (f + 1) (frame_owns f (f + 1) (omega arith)) (frame_stranger f y h) n b named;
-      known = λ f base n g s.
-          block_goes opcodes rs m base (f + 1) (frame_owns f (f + 1) (omega arith)) n (known_in g first) s b named
+      body = λ f base n g s.
+          block_meets opcodes rs m base (f + 1) (frame_owns f (f + 1) (omega arith)) n (known_in g first) s b named
           allowed_calls;
-      fault = λ q f base n g s.
-          block_breaks opcodes rs m base q (f + 1) (frame_owns f (f + 1) (omega arith)) n (known_in g first) s b named
-          allowed_calls;
-      form = λ q f base n g s h.
-          block_forms opcodes rs m base q (f + 1) (frame_owns f (f + 1) (omega arith)) n (known_in g first) s b named
-          allowed_calls h;
     }
 
 -- ---- definitions
@@ -142,60 +126,25 @@ none_has rate.Control x = refl
 none_has rate.Audio x = refl
 
 -- a body begins, which has no variables yet
-pub body_begins : (g : Shared) → Mirrors HasNoStop as_it_is 1 no_counts (known_with g no_names) (known_in g no_locals)
-body_begins g = record {
+pub body_begins : (h g : Shared) → h ≡ g
+    → Mirrors HasNoStop as_it_is 1 no_counts (known_with h no_names) (known_in g no_locals)
+body_begins h g e = record {
   sees = record {
-    shared = refl;
-    has = λ x p e. none_has (name_rate x) x;
-    place = λ x p e h. absurd (cc h);
+    shared = e;
+    has = λ x p i. none_has (name_rate x) x;
+    place = λ x p i there. absurd (cc there);
   };
   counts = refl;
-  free = λ h x le. none_has (name_rate (fresh h x)) (fresh h x);
+  free = λ j x le. none_has (name_rate (fresh j x)) (fresh j x);
 }
 
-module _ (ds : List Definition) (i : Instrument) (n : KnownHere) (sound : faults_of_definitions no_opcodes ds ≡ [])
-    (allowed_calls : faults_in (opcodes_before i.line ds) true i.body ≡ []) (named : NamedBlock HasNoStop i.body) where
-  abbrev routines : Routines
-  routines = routines_before i.line ds
-
-  abbrev body : Block
-  body = (expanded_instrument ds i).body
-
-  match : AllMatch (opcodes_before i.line ds) routines
-  match = before_match i.line ds sound
-
-  last : Mirrors HasNoStop as_it_is (after_block (opcodes_before i.line ds) 1 i.body) no_counts
-      (known_block (entered n) body) (known_after_block routines (known_in n.shared no_locals) i.body)
-  last =
-      block_goes (opcodes_before i.line ds) routines match no_counts 1 (as_it_is_owns 1) (entered n)
-      (known_in n.shared no_locals) (body_begins n.shared) i.body named allowed_calls
-
-  -- what all bodies share behind the instrument
-  pub instrument_shared : (known_block (entered n) body).shared ≡ shared_after_block routines n.shared i.body
-  instrument_shared = last.sees.shared
-
-  -- the numbers of its local variables
-  pub instrument_counts : counts_of (known_block (entered n) body).locals
-      ≡ (locals_after_block routines no_locals i.body).counts
-  instrument_counts = last.counts ∙ none_counts (locals_after_block routines no_locals i.body).counts
-
-  -- the first rule that it breaks
-  pub instrument_fault : (q : Setting) → block_fault q (entered n) body
-      ≡ block_fault_in q routines (known_in n.shared no_locals) i.body
-  instrument_fault q =
-      block_breaks (opcodes_before i.line ds) routines match no_counts q 1 (as_it_is_owns 1) (entered n)
-      (known_in n.shared no_locals) (body_begins n.shared) i.body named allowed_calls
-
-  -- its typed form
-  pub instrument_form : (q : Setting) → block_fault_in q routines (known_in n.shared no_locals) i.body ≡ None
-      → typed_instrument n (expanded_instrument ds i) ≡ record {
-        line = i.line;
-        numbers = i.numbers;
-        locals = (locals_after_block routines no_locals i.body).counts;
-        body = typed_block_in routines (known_in n.shared no_locals) i.body;
-      }
-  instrument_form q none =
-      let form = block_forms (opcodes_before i.line ds) routines match no_counts q 1 (as_it_is_owns 1) (entered n)
-      (known_in n.shared no_locals) (body_begins n.shared) i.body named allowed_calls none
-      ∙ block_stays (typed_block_in routines (known_in n.shared no_locals) i.body) in
-      λ j. record { line = i.line; numbers = i.numbers; locals = instrument_counts j; body = form j }
+pub instrument_meets : (ds : List Definition) (i : Instrument) (n : KnownHere) (g : Shared) → n.shared ≡ g
+    → faults_of_definitions no_opcodes ds ≡ [] → faults_in (opcodes_before i.line ds) true i.body ≡ []
+    → NamedBlock HasNoStop i.body
+    → Meets HasNoStop as_it_is (after_block (opcodes_before i.line ds) 1 i.body) no_counts (entered n)
+    (expanded_instrument ds i).body (known_after_block (routines_before i.line ds) (known_in g no_locals) i.body)
+    (λ q. block_fault_in q (routines_before i.line ds) (known_in g no_locals) i.body)
+    (typed_block_in (routines_before i.line ds) (known_in g no_locals) i.body)
+instrument_meets ds i n g e sound allowed named =
+    block_meets (opcodes_before i.line ds) (routines_before i.line ds) (before_match i.line ds sound) no_counts 1
+    (as_it_is_owns 1) (entered n) (known_in g no_locals) (body_begins n.shared g e) i.body named allowed

@@ -2,30 +2,24 @@
 -- the same names are known, and the numbers differ by a base.
 use Rattle.std.proofs.Common.{◌≡◌, ◌∙◌, ℕ, suc, ◌+◌, ◌≤◌, ◌<◌, Bool, true, false, if◌then◌else◌, List, [], ◌∷◌, map}
 use Rattle.std.proofs.Common.{Option, Some, None, arith, refl, sym, ap, subst}
-use Rattle.std.specs.Option.{is_some, unwrap_or}
-use Rattle.std.specs.Str.{bytes_eq}
+use Rattle.std.specs.{Option.is_some, Option.unwrap_or, Str.bytes_eq}
 use Rattle.std.proofs.lemmas.Slice.Eq.{bytes_eq-Decides}
-use Rattle.cs_base.specs.Rates.{at_rate}
-use Rattle.cs_base.specs.declared.per_rate.PerRate.{PerRate}
-use Rattle.cs_base.specs.declared.resource.Rate.{Rate}
-use Rattle.cs_base.specs.declared.resource.Rate.TheVariants as rate
+use Rattle.cs_base.specs.{Rates.at_rate, declared.per_rate.PerRate.PerRate, declared.resource.Rate.Rate}
 use Rattle.cs_words.specs.Names.{name_rate, is_global}
 use Rattle.cs_grammar.specs.WellFormed.{HasNoStop}
-use Rattle.cs_typed.specs.TypedTree.{counts_with, moved_variable}
+use Rattle.cs_typed.specs.{TypedTree.counts_with, TypedTree.moved_variable, declared.tree.Var.Var}
 use Rattle.cs_typed.proofs.Moved.{at_with}
-use Rattle.cs_typed.specs.declared.tree.Var.{Var}
-use Rattle.cs_typed.specs.declared.tree.Var.TheVariants as variant
 use Rattle.cs_udo.specs.Names.{fresh, in_frame, as_it_is}
-use Rattle.cs_udo.proofs.Fresh.{fresh_apart, stopped, framed_shared, framed_fresh, framed_rate}
-use Rattle.cs_udo.proofs.Fresh.{framed_global}
+use Rattle.cs_udo.proofs.Fresh.{fresh_apart, stopped, framed_shared, framed_fresh, framed_rate, framed_global}
 use Rattle.cs_typing.specs.Known.{RateNames, counts_of, in_table, place_in, added, Shared, KnownHere, known_with, knows}
 use Rattle.cs_typing.specs.Known.{after_giving, given, given_all, global, variable}
 use Rattle.cs_typing.specs.inner.Routines.{Locals, has_local, number_in, counted, with_local, given_in, all_given_in}
 use Rattle.cs_typing.specs.inner.Routines.{KnownInBody, known_in, knows_in, variable_in}
 use Rattle.cs_typing.proofs.Added.{added_other, added_there, added_new, place_new}
-use Rattle.cs_typing.proofs.KnownLater.{Later, given_later}
+use Rattle.cs_typing.proofs.{KnownLater.Later, KnownLater.given_later, Named.NamedAll}
 use Rattle.cs_typing.proofs.Later.{added_on, added_in, added_place, place_in_on}
-use Rattle.cs_typing.proofs.Named.{NamedAll}
+use Rattle.cs_base.specs.declared.resource.Rate.TheVariants as rate
+use Rattle.cs_typed.specs.declared.tree.Var.TheVariants as variant
 
 abbrev pub Any : List ℕ → Type 0
 Any x = Unit {0}
@@ -109,19 +103,25 @@ module _ {P : List ℕ → Type 0} {own : List ℕ → List ℕ} {f : ℕ} (o : 
   abbrev in_body : List ℕ → Var
   in_body y = variant.Local (name_rate y) (place_in n.locals y)
 
-  pub variable_same : Sees P own base n k → (x : List ℕ) → P x → knows_in k x ≡ true
+  variable_at : n.shared ≡ k.shared → (x : List ℕ)
+      → (is_global x ≡ false → place_in n.locals (own x) ≡ at_rate base (name_rate x) + number_in k.locals x)
       → variable n (own x) ≡ moved_variable base (variable_in k x)
-  variable_same s x p h =
-      ap (λ b. if b then over n (own x) else in_body (own x)) (o.local x) ∙ by (is_global x) refl h
+  variable_at shared x place =
+      ap (λ b. if b then over n (own x) else in_body (own x)) (o.local x) ∙ by (is_global x) refl
     where
-      by : (b : Bool) → is_global x ≡ b → (if b then in_table k.shared.globals x else has_local k.locals x) ≡ true
-          → (if b then over n (own x) else in_body (own x))
+      by : (b : Bool) → is_global x ≡ b → (if b then over n (own x) else in_body (own x))
           ≡ moved_variable base
           (if b then variant.Global (global (name_rate x) (place_in k.shared.globals x))
           else variant.Local (name_rate x) (number_in k.locals x))
-      by true e h = λ i. variant.Global
-          (global (name_rate (o.shared x e i)) (place_in (s.shared i).globals (o.shared x e i)))
-      by false e h = λ i. variant.Local (o.rate x i) (s.place x p e h i)
+      by true e = λ i. variant.Global
+          (global (name_rate (o.shared x e i)) (place_in (shared i).globals (o.shared x e i)))
+      by false e = λ i. variant.Local (o.rate x i) (place e i)
+
+  pub variable_same : Sees P own base n k → (x : List ℕ) → P x → knows_in k x ≡ true
+      → variable n (own x) ≡ moved_variable base (variable_in k x)
+  variable_same s x p h =
+      variable_at s.shared x
+      (λ e. s.place x p e (sym (ap (λ b. if b then in_table k.shared.globals x else has_local k.locals x) e) ∙ h))
 
 -- ---- numbers
 
@@ -136,34 +136,16 @@ some_there (Some x) d e h = refl
 pub number_new : (l : Locals) (x : List ℕ) → has_local l x ≡ false → number_in l x ≡ at_rate l.counts (name_rate x)
 number_new l x h = none_there (l.number x) (at_rate l.counts (name_rate x)) h
 
+one_further : (x y : ℕ) → suc (x + y) ≡ x + suc y
+one_further x y = omega arith
+
 counted_with : (q : Rate) (a b : PerRate ℕ) → counted q (counts_with a b) ≡ counts_with a (counted q b)
-counted_with rate.Init a b = λ i. record {
-  init = by a.init b.init i;
-  control = a.control + b.control;
-  audio = a.audio
-      + b.audio;
-}
-  where
-    by : (x y : ℕ) → suc (x + y) ≡ x + suc y
-    by x y = omega arith
-counted_with rate.Control a b = λ i. record {
-  init = a.init + b.init;
-  control = by a.control b.control i;
-  audio
-      = a.audio + b.audio;
-}
-  where
-    by : (x y : ℕ) → suc (x + y) ≡ x + suc y
-    by x y = omega arith
-counted_with rate.Audio a b = λ i. record {
-  init = a.init + b.init;
-  control = a.control + b.control;
-  audio
-      = by a.audio b.audio i;
-}
-  where
-    by : (x y : ℕ) → suc (x + y) ≡ x + suc y
-    by x y = omega arith
+counted_with rate.Init a b =
+    λ i. record { init = one_further a.init b.init i; control = a.control + b.control; audio = a.audio + b.audio }
+counted_with rate.Control a b =
+    λ i. record { init = a.init + b.init; control = one_further a.control b.control i; audio = a.audio + b.audio }
+counted_with rate.Audio a b =
+    λ i. record { init = a.init + b.init; control = a.control + b.control; audio = one_further a.audio b.audio i }
 
 module _ {P : List ℕ → Type 0} {own : List ℕ → List ℕ} {f : ℕ} (o : Owns P own f) (base : PerRate ℕ) (n : KnownHere)
     (k : KnownInBody) (m : Mirrors P own f base n k) where
@@ -185,23 +167,7 @@ module _ {P : List ℕ → Type 0} {own : List ℕ → List ℕ} {f : ℕ} (o : 
 
   -- a variable that is given, known before or not
   pub variable_given : (x : List ℕ) → P x → variable n (own x) ≡ moved_variable base (variable_in k x)
-  variable_given x p =
-      ap (λ b. if b then over (own x) else in_body (own x)) (o.local x) ∙ by (is_global x) refl
-    where
-      over : List ℕ → Var
-      over y = variant.Global (global (name_rate y) (place_in n.shared.globals y))
-
-      in_body : List ℕ → Var
-      in_body y = variant.Local (name_rate y) (place_in n.locals y)
-
-      by : (b : Bool) → is_global x ≡ b
-          → (if b then over (own x) else in_body (own x))
-          ≡ moved_variable base
-          (if b then variant.Global (global (name_rate x) (place_in k.shared.globals x))
-          else variant.Local (name_rate x) (number_in k.locals x))
-      by true e = λ i. variant.Global
-          (global (name_rate (o.shared x e i)) (place_in (m.sees.shared i).globals (o.shared x e i)))
-      by false e = λ i. variant.Local (o.rate x i) (place_same x p e i)
+  variable_given x p = variable_at o base n k m.sees.shared x (place_same x p)
 
   -- ---- one more variable
 

@@ -1,45 +1,34 @@
 -- An orchestra as it is written and the same expanded: they break the same rule first, and have one typed form.
 use Rattle.std.proofs.Common.{◌≡◌, ◌∙◌, ℕ, List, [], ◌∷◌, ◌++◌, map, nat_lt, Bool, true, false, if◌then◌else◌}
 use Rattle.std.proofs.Common.{append_assoc, Option, Some, None, refl, sym, ap, subst}
-use Rattle.std.specs.List.{All}
-use Rattle.std.specs.Option.{option_or}
-use Rattle.std.proofs.lemmas.List.{append-nil}
+use Rattle.std.specs.{List.All, Option.option_or}
+use Rattle.std.proofs.lemmas.{List.append-nil, List.Elements.All-head, List.Elements.All-tail}
 use Rattle.cs_base.proofs.Tests.{both_none}
 use Rattle.cs_base.specs.declared.fault.OrcFault.{OrcFault}
 use Rattle.cs_grammar.specs.WellFormed.{HasNoStop, WellFormedInstrument, IsWellFormed}
-use Rattle.cs_grammar.specs.declared.scope.Place.TheVariants as place
 use Rattle.cs_grammar.specs.Tree.{Statement, set, call, choose, Block, no_stmt, andthen, Arms, otherwise, arm}
 use Rattle.cs_grammar.specs.Tree.{Definition, Instrument, Orchestra}
-use Rattle.cs_grammar.specs.declared.tree.Callee.TheVariants as callee
-use Rattle.cs_typed.specs.Places.{outside, inside}
-use Rattle.cs_typed.specs.TypedTree as typed
-use Rattle.cs_typed.specs.TypedTree.{no_counts, then_block}
-use Rattle.cs_typed.specs.declared.setting.Setting.{Setting}
-use Rattle.cs_typed.proofs.Moved.{none_counts, block_stays, then_again}
+use Rattle.cs_typed.specs.{Places.outside, Places.inside, TypedTree.no_counts, TypedTree.then_block}
+use Rattle.cs_typed.proofs.Moved.{block_stays, then_again}
 use Rattle.cs_udo.specs.Expanded.{no_opcodes, after, after_block, after_arms, expanded_instrument, expanded_orchestra}
-use Rattle.cs_udo.specs.Expanded.{opcodes_before}
-use Rattle.cs_udo.specs.Names.{as_it_is}
+use Rattle.cs_udo.specs.{Expanded.opcodes_before, Names.as_it_is}
 use Rattle.cs_udo.specs.Refused.{faults, faults_in, faults_in_arms, faults_outside, faults_of_definitions}
 use Rattle.cs_udo.specs.Refused.{faults_of_instruments, all_faults, uppermost, uppermost_of, first_fault}
 use Rattle.cs_udo.proofs.Plain.{same_block}
-use Rattle.cs_typing.specs.Known.{KnownHere}
+use Rattle.cs_typing.specs.{Known.KnownHere, Typing.typed_of, inner.Parts.typed_by, inner.Settled.told}
 use Rattle.cs_typing.specs.Settings.{header, settings_fault, zaks_of_block, zak_spaces}
-use Rattle.cs_typing.specs.Statements.{known_block, block_fault, typed_block}
-use Rattle.cs_typing.specs.Typing.{Item, alone, body, items, known_item, known_items, item_fault, items_fault}
-use Rattle.cs_typing.specs.Typing.{line_of, before, from, first_known, type_fault, typed_outside, typed_instrument}
-use Rattle.cs_typing.specs.Typing.{typed_instruments, shared_names, typed_of}
+use Rattle.cs_typing.specs.Statements.{known_block, typed_block}
+use Rattle.cs_typing.specs.Typing.{Item, alone, body, items, known_item, known_items, items_fault, line_of, before}
+use Rattle.cs_typing.specs.Typing.{from, first_known, type_fault, typed_outside, typed_instruments, shared_names}
 use Rattle.cs_typing.specs.inner.Parts.{known_behind, known_behind_all, part_fault, parts_fault, instrument_in}
-use Rattle.cs_typing.specs.inner.Parts.{MadeParts, made_with, nothing, after_part, after_parts, begun, parts_of}
-use Rattle.cs_typing.specs.inner.Parts.{statements_fault, typed_by}
-use Rattle.cs_typing.specs.inner.Routines.{no_locals, KnownInBody, known_in, no_routines, shared_after_block}
-use Rattle.cs_typing.specs.inner.Routines.{known_after_block, block_fault_in, typed_block_in, routines_before}
-use Rattle.cs_typing.specs.inner.Settled.{told}
-use Rattle.cs_typing.proofs.Joined.{then_nothing}
-use Rattle.cs_typing.proofs.Named.{NamedBlock, head_of, tail_of, block_named}
-use Rattle.cs_typing.proofs.RoutineBlocks.{no_first, block_goes, block_breaks, block_forms}
-use Rattle.cs_typing.proofs.RoutineLibrary.{none_match, body_begins, instrument_shared, instrument_fault}
-use Rattle.cs_typing.proofs.RoutineLibrary.{instrument_form}
+use Rattle.cs_typing.specs.inner.Parts.{MadeParts, made_with, nothing, after_part, after_parts, begun, statements_fault}
+use Rattle.cs_typing.specs.inner.Routines.{KnownInBody, no_routines, known_after_block, block_fault_in, typed_block_in}
+use Rattle.cs_typing.proofs.{Joined.then_nothing, Named.NamedBlock, Named.block_named, RoutineCalls.Meets}
+use Rattle.cs_typing.proofs.RoutineBlocks.{no_first, block_meets}
+use Rattle.cs_typing.proofs.RoutineLibrary.{none_match, body_begins, instrument_meets}
 use Rattle.cs_typing.proofs.RoutineNames.{as_it_is_owns, Mirrors}
+use Rattle.cs_grammar.specs.declared.scope.Place.TheVariants as place
+use Rattle.cs_grammar.specs.declared.tree.Callee.TheVariants as callee
 
 -- ---- outside instruments no defined opcode is called
 
@@ -50,7 +39,7 @@ mutual
   none_called (call line xs (callee.Name name) args) = refl
   none_called (choose line list) = none_called_arms list
 
-  none_called_block : (b : Block) → faults_in no_opcodes true b ≡ []
+  pub none_called_block : (b : Block) → faults_in no_opcodes true b ≡ []
   none_called_block no_stmt = refl
   none_called_block (andthen x rest) = λ i. none_called x i ++ none_called_block rest i
 
@@ -61,10 +50,6 @@ mutual
 -- what is known outside instruments, of the text and of the expansion
 abbrev pub Stands : KnownHere → KnownInBody → Type 0
 Stands n k = Mirrors HasNoStop as_it_is 1 no_counts n k
-
--- frames are counted anew in each body
-same_frame : (f : ℕ) (n : KnownHere) (k : KnownInBody) → f ≡ 1 → Mirrors HasNoStop as_it_is f no_counts n k → Stands n k
-same_frame f n k e s = subst (λ g. Mirrors HasNoStop as_it_is g no_counts n k) e s
 
 mutual
   no_frame_stmt : (f : ℕ) (x : Statement) → after no_opcodes f x ≡ f
@@ -82,27 +67,15 @@ mutual
   no_frame_arms f (arm c b rest) =
       ap (λ g. after_arms no_opcodes g rest) (no_frame f b) ∙ no_frame_arms f rest
 
-module _ (n : KnownHere) (k : KnownInBody) (s : Stands n k) (b : Block) (named : NamedBlock HasNoStop b) where
-  outside_goes : Stands (known_block n b) (known_after_block no_routines k b)
-  outside_goes =
-      same_frame (after_block no_opcodes 1 b) (known_block n b) (known_after_block no_routines k b) (no_frame 1 b)
-      (subst (λ x. Mirrors HasNoStop as_it_is (after_block no_opcodes 1 b) no_counts (known_block n x)
-      (known_after_block no_routines k b)) (same_block 1 b)
-      (block_goes no_opcodes no_routines none_match no_counts 1 (as_it_is_owns 1) n k s b named (none_called_block b)))
-
-  outside_breaks : (q : Setting) → block_fault q n b ≡ block_fault_in q no_routines k b
-  outside_breaks q =
-      sym (ap (block_fault q n) (same_block 1 b))
-      ∙ block_breaks no_opcodes no_routines none_match no_counts q 1 (as_it_is_owns 1) n k s b named
-      (none_called_block b)
-
-  outside_forms : (q : Setting) → block_fault_in q no_routines k b ≡ None
-      → typed_block n b ≡ typed_block_in no_routines k b
-  outside_forms q none =
-      sym (ap (typed_block n) (same_block 1 b))
-      ∙ block_forms no_opcodes no_routines none_match no_counts q 1 (as_it_is_owns 1) n k s b named
-      (none_called_block b) none
-      ∙ block_stays (typed_block_in no_routines k b)
+outside_meets : (n : KnownHere) (k : KnownInBody) → Stands n k → (b : Block) → NamedBlock HasNoStop b
+    → Meets HasNoStop as_it_is 1 no_counts n b (known_after_block no_routines k b)
+    (λ q. block_fault_in q no_routines k b) (typed_block_in no_routines k b)
+outside_meets n k s b named =
+    subst (λ g. Meets HasNoStop as_it_is g no_counts n b (known_after_block no_routines k b)
+    (λ q. block_fault_in q no_routines k b) (typed_block_in no_routines k b)) (no_frame 1 b)
+    (subst (λ x. Meets HasNoStop as_it_is (after_block no_opcodes 1 b) no_counts n x (known_after_block no_routines k b)
+    (λ q. block_fault_in q no_routines k b) (typed_block_in no_routines k b)) (same_block 1 b)
+    (block_meets no_opcodes no_routines none_match no_counts 1 (as_it_is_owns 1) n k s b named (none_called_block b)))
 
 -- ---- statements in front of a line and from it on
 
@@ -126,6 +99,17 @@ rest_named P line (andthen x rest) h = by (rest_named P line rest h.1) (nat_lt (
 
 -- ---- the parts
 
+-- behind the parts the same is known, they break the same rule first, and the same is made of them
+record PartsMeet (ds : List Definition) (ch : ℕ) (n : KnownHere) (k : KnownInBody) (stmts : Block)
+    (is : List Instrument) : Type 0 where
+  known : Stands (known_items n (items stmts (map (expanded_instrument ds) is)))
+      (known_behind_all ds k (items stmts is))
+  fault : items_fault ch n (items stmts (map (expanded_instrument ds) is)) ≡ parts_fault ch ds k (items stmts is)
+  form : (m : MadeParts) → parts_fault ch ds k (items stmts is) ≡ None
+      → made_with (then_block m.zero (typed_outside n (items stmts (map (expanded_instrument ds) is))))
+      (m.instrs ++ typed_instruments n (items stmts (map (expanded_instrument ds) is)))
+      ≡ after_parts ds k m (items stmts is)
+
 module _ (ds : List Definition) (ch : ℕ) (sound : faults_of_definitions no_opcodes ds ≡ []) where
   -- an instrument of the text, whose calls are not refused
   abbrev Fits : Instrument → Type 0
@@ -138,92 +122,57 @@ module _ (ds : List Definition) (ch : ℕ) (sound : faults_of_definitions no_opc
   abbrev expanded_parts : Block → List Instrument → List Item
   expanded_parts stmts is = items stmts (map (expanded_instrument ds) is)
 
-  body_goes : (n : KnownHere) (k : KnownInBody) → Stands n k → (i : Instrument) → Fits i
-      → Stands (known_item n (body (expanded_instrument ds i))) (known_behind ds k (body i))
-  body_goes n k s i h =
-      let e = ap (λ g. shared_after_block (routines_before i.line ds) g i.body) s.sees.shared in
+  parts_meet : (n : KnownHere) (k : KnownInBody) → Stands n k → (stmts : Block) → NamedBlock HasNoStop stmts
+      → (is : List Instrument) → AllFit is → PartsMeet ds ch n k stmts is
+  parts_meet n k s stmts z [] h =
+      let all = outside_meets n k s stmts z in
       record {
-        sees = record { shared = instrument_shared ds i n sound h.0 h.1 ∙ e; has = s.sees.has; place = s.sees.place };
-        counts = s.counts;
-        free = s.free;
+        known = all.known;
+        fault = ap (λ f. option_or f None) (all.fault (outside ch));
+        form = λ m none.
+            let here = (both_none (part_fault ch ds k (alone stmts)) None none).0 in
+            let form = then_nothing (typed_block n stmts) ∙ all.form (outside ch) here
+            ∙ block_stays (typed_block_in no_routines k stmts) in
+            λ j. made_with (then_block m.zero (form j)) (append-nil m.instrs j);
       }
-
-  body_breaks : (n : KnownHere) (k : KnownInBody) → Stands n k → (i : Instrument) → Fits i
-      → item_fault ch n (body (expanded_instrument ds i)) ≡ part_fault ch ds k (body i)
-  body_breaks n k s i h =
-      instrument_fault ds i n sound h.0 h.1 (inside ch)
-      ∙ ap (λ g. block_fault_in (inside ch) (routines_before i.line ds) (known_in g no_locals) i.body) s.sees.shared
-
-  body_forms : (n : KnownHere) (k : KnownInBody) → Stands n k → (i : Instrument) → Fits i
-      → part_fault ch ds k (body i) ≡ None
-      → typed_instrument n (expanded_instrument ds i) ≡ instrument_in ds k i
-  body_forms n k s i h none =
-      instrument_form ds i n sound h.0 h.1 (inside ch)
-      (ap (λ g. block_fault_in (inside ch) (routines_before i.line ds) (known_in g no_locals) i.body) s.sees.shared
-      ∙ none)
-      ∙ ap (λ g. instrument_in ds (known_in g k.locals) i) s.sees.shared
-
-  parts_break : (n : KnownHere) (k : KnownInBody) → Stands n k → (stmts : Block) → NamedBlock HasNoStop stmts
-      → (is : List Instrument) → AllFit is
-      → items_fault ch n (expanded_parts stmts is) ≡ parts_fault ch ds k (items stmts is)
-  parts_break n k s stmts z [] h = ap (λ f. option_or f None) (outside_breaks n k s stmts z (outside ch))
-  parts_break n k s stmts z (i ∷ is) h =
-      let front = before i.line stmts in
-      let z1 = front_named HasNoStop i.line stmts z in
-      let n1 = known_block n front in
-      let k1 = known_after_block no_routines k front in
-      let s1 = outside_goes n k s front z1 in
-      let more = parts_break (known_item n1 (body (expanded_instrument ds i))) (known_behind ds k1 (body i))
-      (body_goes n1 k1 s1 i h.0) (from i.line stmts) (rest_named HasNoStop i.line stmts z) is h.1 in
-      λ j. option_or (outside_breaks n k s front z1 (outside ch) j)
-      (option_or (body_breaks n1 k1 s1 i h.0 j) (more j))
-
-  parts_go : (n : KnownHere) (k : KnownInBody) → Stands n k → (stmts : Block) → NamedBlock HasNoStop stmts
-      → (is : List Instrument) → AllFit is
-      → Stands (known_items n (expanded_parts stmts is)) (known_behind_all ds k (items stmts is))
-  parts_go n k s stmts z [] h = outside_goes n k s stmts z
-  parts_go n k s stmts z (i ∷ is) h =
-      let front = before i.line stmts in
-      let z1 = front_named HasNoStop i.line stmts z in
-      let n1 = known_block n front in
-      let k1 = known_after_block no_routines k front in
-      let s1 = outside_goes n k s front z1 in
-      parts_go (known_item n1 (body (expanded_instrument ds i))) (known_behind ds k1 (body i))
-      (body_goes n1 k1 s1 i h.0) (from i.line stmts) (rest_named HasNoStop i.line stmts z) is h.1
-
-  parts_form : (n : KnownHere) (k : KnownInBody) → Stands n k → (m : MadeParts) (stmts : Block)
-      → NamedBlock HasNoStop stmts → (is : List Instrument) → AllFit is → parts_fault ch ds k (items stmts is) ≡ None
-      → made_with (then_block m.zero (typed_outside n (expanded_parts stmts is)))
-      (m.instrs ++ typed_instruments n (expanded_parts stmts is))
-      ≡ after_parts ds k m (items stmts is)
-  parts_form n k s m stmts z [] h none =
-      let here = (both_none (part_fault ch ds k (alone stmts)) None none).0 in
-      λ j. made_with (then_block m.zero (ending here j)) (append-nil m.instrs j)
-    where
-      ending : block_fault_in (outside ch) no_routines k stmts ≡ None
-          → then_block (typed_block n stmts) typed.no_stmt ≡ typed_block_in no_routines k stmts
-      ending here = then_nothing (typed_block n stmts) ∙ outside_forms n k s stmts z (outside ch) here
-  parts_form n k s m stmts z (i ∷ is) h none =
+  parts_meet n k s stmts z (i ∷ is) h =
       let front = before i.line stmts in
       let back = from i.line stmts in
-      let z1 = front_named HasNoStop i.line stmts z in
       let n1 = known_block n front in
       let k1 = known_after_block no_routines k front in
-      let s1 = outside_goes n k s front z1 in
+      let out = outside_meets n k s front (front_named HasNoStop i.line stmts z) in
+      let own = instrument_meets ds i n1 k1.shared out.known.sees.shared sound h.0.0 h.0.1 in
       let n2 = known_item n1 (body (expanded_instrument ds i)) in
       let k2 = known_behind ds k1 (body i) in
-      let rest = parts_fault ch ds k2 (items back is) in
-      let parts = both_none (part_fault ch ds k (alone front)) (option_or (part_fault ch ds k1 (body i)) rest) none in
-      let inner = both_none (part_fault ch ds k1 (body i)) rest parts.1 in
-      let made = after_part ds k1 (after_part ds k m (alone front)) (body i) in
-      let outer = typed_outside n2 (expanded_parts back is) in
-      let instrs = typed_instruments n2 (expanded_parts back is) in
-      (λ j. made_with
-      (then_block m.zero (then_block (outside_forms n k s front z1 (outside ch) parts.0 j) outer))
-      (m.instrs ++ body_forms n1 k1 s1 i h.0 inner.0 j ∷ instrs))
-      ∙ (λ j. made_with (sym (then_again m.zero (typed_block_in no_routines k front) outer) j)
-      (sym (append_assoc m.instrs (instrument_in ds k1 i ∷ []) instrs) j))
-      ∙ parts_form n2 k2 (body_goes n1 k1 s1 i h.0) made back (rest_named HasNoStop i.line stmts z) is h.1 inner.1
+      let stands : Stands n2 k2 = record {
+        sees = record {
+          shared = own.known.sees.shared;
+          has = out.known.sees.has;
+          place = out.known.sees.place;
+        };
+        counts = out.known.counts;
+        free = out.known.free;
+      } in
+      let more = parts_meet n2 k2 stands back (rest_named HasNoStop i.line stmts z) is h.1 in
+      record {
+        known = more.known;
+        fault = λ j. option_or (out.fault (outside ch) j) (option_or (own.fault (inside ch) j) (more.fault j));
+        form = λ m none.
+            let rest = parts_fault ch ds k2 (items back is) in
+            let parts = both_none (part_fault ch ds k (alone front)) (option_or (part_fault ch ds k1 (body i)) rest)
+            none in
+            let inner = both_none (part_fault ch ds k1 (body i)) rest parts.1 in
+            let made = after_part ds k1 (after_part ds k m (alone front)) (body i) in
+            let outer = typed_outside n2 (expanded_parts back is) in
+            let instrs = typed_instruments n2 (expanded_parts back is) in
+            let first = out.form (outside ch) parts.0 ∙ block_stays (typed_block_in no_routines k front) in
+            let form = own.form (inside ch) inner.0 ∙ block_stays (instrument_in ds k1 i).body in
+            (λ j. made_with (then_block m.zero (then_block (first j) outer))
+            (m.instrs ++ record { line = i.line; numbers = i.numbers; body = form j } ∷ instrs))
+            ∙ (λ j. made_with (sym (then_again m.zero (typed_block_in no_routines k front) outer) j)
+            (sym (append_assoc m.instrs (instrument_in ds k1 i ∷ []) instrs) j))
+            ∙ more.form made inner.1;
+      }
 
 -- ---- the whole
 
@@ -240,9 +189,9 @@ instruments_fit : (ds : List Definition) (is : List Instrument) → faults_of_in
 instruments_fit ds [] none w c sound = tt
 instruments_fit ds (i ∷ is) none w c sound =
     let parts = no_first (faults_in (opcodes_before i.line ds) true i.body) (faults_of_instruments ds is) none in
-    let it = head_of WellFormedInstrument i is w in (
+    let it = All-head WellFormedInstrument i is w in (
       (parts.0, block_named HasNoStop (λ x h. h) place.Instrument [] 0 i.body it.body),
-      instruments_fit ds is parts.1 (tail_of WellFormedInstrument i is w) c sound,
+      instruments_fit ds is parts.1 (All-tail WellFormedInstrument i is w) c sound,
     )
 
 module _ (o : Orchestra) (well : IsWellFormed o) (allowed : first_fault o ≡ None) where
@@ -264,38 +213,28 @@ module _ (o : Orchestra) (well : IsWellFormed o) (allowed : first_fault o ≡ No
   fit : AllFit o.opcodes channels parted.0 o.instrs
   fit = instruments_fit o.opcodes o.instrs parted.1 well.instruments channels parted.0
 
-  first_stands : Stands (first_known (expanded_orchestra o)) (begun o)
-  first_stands = body_begins (first_known (expanded_orchestra o)).shared
+  abbrev first : KnownHere
+  first = first_known (expanded_orchestra o)
+
+  meets : PartsMeet o.opcodes channels first (begun o) o.zero o.instrs
+  meets = parts_meet o.opcodes channels parted.0 first (begun o) (body_begins first.shared first.shared refl) o.zero
+      outside_named o.instrs fit
 
   -- LEMMA: the first rule that the expansion breaks
   pub orchestra_breaks : type_fault (expanded_orchestra o)
       ≡ option_or (settings_fault o.head o.zero) (statements_fault channels o)
-  orchestra_breaks =
-      ap (option_or (settings_fault o.head o.zero))
-      (parts_break o.opcodes channels parted.0 (first_known (expanded_orchestra o)) (begun o) first_stands o.zero
-      outside_named o.instrs fit)
-
-  last_stands : Stands
-      (known_items (first_known (expanded_orchestra o)) (items o.zero (map (expanded_instrument o.opcodes) o.instrs)))
-      (known_behind_all o.opcodes (begun o) (parts_of o))
-  last_stands =
-      parts_go o.opcodes channels parted.0 (first_known (expanded_orchestra o)) (begun o) first_stands o.zero
-      outside_named o.instrs fit
+  orchestra_breaks = ap (option_or (settings_fault o.head o.zero)) meets.fault
 
   -- LEMMA: its typed form
   pub orchestra_forms : statements_fault channels o ≡ None
       → typed_of (expanded_orchestra o)
       ≡ typed_by (told (header o.head) (zak_spaces (zaks_of_block o.zero))) o
   orchestra_forms none =
-      let counts = last_stands.counts
-      ∙ none_counts (known_behind_all o.opcodes (begun o) (parts_of o)).locals.counts in
-      let made = parts_form o.opcodes channels parted.0 (first_known (expanded_orchestra o)) (begun o) first_stands
-      nothing o.zero outside_named o.instrs fit none in
+      let made = meets.form nothing none in
       λ i. record {
         head = header o.head;
         spaces = zak_spaces (zaks_of_block o.zero);
-        zero_locals = counts i;
         zero = (made i).zero;
         instrs = (made i).instrs;
-        globals = shared_names (last_stands.sees.shared i);
+        globals = shared_names (meets.known.sees.shared i);
       }

@@ -1,47 +1,36 @@
 -- What stands beside the body of a routine, by numbers alone: slots, inputs, results.
 use Rattle.std.proofs.Common.{◌≡◌, ◌∙◌, ℕ, ◌+◌, ◌≤◌, Bool, true, false, not, ◌&&◌, ◌||◌, if◌then◌else◌, List, [], ◌∷◌}
 use Rattle.std.proofs.Common.{length, map, Option, Some, None, arith, refl, sym, ap, subst}
-use Rattle.std.specs.List.{All}
-use Rattle.std.specs.Option.{is_some, option_or, unwrap_or}
-use Rattle.std.specs.Str.{bytes_eq}
-use Rattle.std.proofs.lemmas.Slice.Eq.{bytes_eq-Decides}
+use Rattle.std.specs.{List.All, Option.is_some, Option.option_or, Option.unwrap_or, Str.bytes_eq}
+use Rattle.std.proofs.lemmas.{Slice.Eq.bytes_eq-Decides, List.Elements.All-head, List.Elements.All-tail}
 use Rattle.cs_base.specs.Rates.{at_rate, is_init, within}
-use Rattle.cs_base.specs.declared.fault.OrcKind.TheVariants as orc
-use Rattle.cs_base.specs.declared.per_rate.PerRate.{PerRate}
-use Rattle.cs_base.specs.declared.resource.Rate.{Rate}
+use Rattle.cs_base.specs.{declared.per_rate.PerRate.PerRate, declared.resource.Rate.Rate}
 use Rattle.cs_words.specs.Names.{name_rate, is_global}
 use Rattle.cs_grammar.specs.WellFormed.{HasNoStop, IsVariable, WellFormedValue, WellFormedDefinition}
-use Rattle.cs_grammar.specs.declared.scope.Place.TheVariants as place
-use Rattle.cs_grammar.specs.Tree.{Expression, number, var, field, head, neg, pair, pick, apply, Argument, value, text}
-use Rattle.cs_grammar.specs.Tree.{Statement, set, call, choose, Block, no_stmt, andthen, joins, Arms, otherwise, arm}
-use Rattle.cs_grammar.specs.Tree.{Definition}
-use Rattle.cs_typed.specs.TypedTree as typed
-use Rattle.cs_typed.specs.TypedTree.{then_block, moved_variable}
-use Rattle.cs_typed.specs.declared.setting.Setting.{Setting}
-use Rattle.cs_typed.specs.declared.tree.Var.TheVariants as variant
+use Rattle.cs_grammar.specs.Tree.{Expression, var, neg, pair, pick, apply, Argument, value, text, Statement, set, call}
+use Rattle.cs_grammar.specs.Tree.{choose, Block, no_stmt, andthen, joins, Arms, otherwise, arm, Definition}
+use Rattle.cs_typed.specs.{TypedTree.then_block, TypedTree.moved_variable, declared.setting.Setting.Setting}
 use Rattle.cs_typed.proofs.Moved.{then_again}
-use Rattle.cs_udo.specs.Expanded.{assignments}
-use Rattle.cs_udo.specs.Names.{slot, slots}
+use Rattle.cs_udo.specs.{Expanded.assignments, Names.slot, Names.slots}
 use Rattle.cs_udo.proofs.Fresh.{slot_rate, slot_local, slot_apart, no_slot}
 use Rattle.cs_typing.specs.Expressions.{Variables, expression_by, is_value, rate_of, reads_by}
-use Rattle.cs_typing.specs.Known.{Shared, in_table, place_in, global}
-use Rattle.cs_typing.specs.Settings.{at}
-use Rattle.cs_typing.specs.Statements.{set_fault_by}
+use Rattle.cs_typing.specs.Known.{Shared, in_table, place_in, global, no_names}
+use Rattle.cs_typing.specs.{Settings.at, Statements.set_fault_by}
 use Rattle.cs_typing.specs.inner.Routines.{Locals, no_locals, has_local, number_in, counted, with_local, given_in}
 use Rattle.cs_typing.specs.inner.Routines.{all_given_in, past_call, KnownInBody, known_in, knows_in, variable_in}
-use Rattle.cs_typing.specs.inner.Routines.{Routine}
-use Rattle.cs_typing.specs.inner.Routines.{Routines, routine_called, inputs_set, results_fault, results_set}
+use Rattle.cs_typing.specs.inner.Routines.{Routine, Routines, routine_called, inputs_set, results_fault, results_set}
 use Rattle.cs_typing.specs.inner.Routines.{locals_after_call, locals_after, locals_after_block, locals_after_arms}
 use Rattle.cs_typing.specs.inner.Routines.{shared_after, shared_after_block, known_after, known_after_block, fault_in}
 use Rattle.cs_typing.specs.inner.Routines.{block_fault_in, typed_in, typed_block_in, routine_of}
 use Rattle.cs_typing.specs.inner.Slots.{one_counted, slots_fault, slots_set, slots_past, slot_numbers, given_set}
 use Rattle.cs_typing.specs.inner.Slots.{taken_kind, taken_fault, taken_set}
-use Rattle.cs_typing.proofs.Added.{differ}
-use Rattle.cs_typing.proofs.Joins.{or_again}
-use Rattle.cs_typing.proofs.Named.{Named, NamedAll, NamedArguments, NamedStmt, NamedBlock, NamedArms, head_of, tail_of}
-use Rattle.cs_typing.proofs.Named.{expression_named, block_named}
+use Rattle.cs_typing.proofs.{Added.differ, Joins.or_again, Named.block_named, RoutineNames.number_new}
+use Rattle.cs_typing.proofs.Named.{Named, NamedAll, NamedArguments, NamedStmt, NamedBlock, NamedArms, expression_named}
 use Rattle.cs_typing.proofs.RoutineCalls.{number_kept, has_kept}
-use Rattle.cs_typing.proofs.RoutineNames.{number_new}
+use Rattle.cs_base.specs.declared.fault.OrcKind.TheVariants as orc
+use Rattle.cs_grammar.specs.declared.scope.Place.TheVariants as place
+use Rattle.cs_typed.specs.TypedTree as typed
+use Rattle.cs_typed.specs.declared.tree.Var.TheVariants as variant
 
 -- ---- statements behind others
 
@@ -125,22 +114,17 @@ module _ (rs : Routines) where
 module _ (P : List ℕ → Type 0) where
   reads_alike : (v w : List ℕ → Bool) → ((x : List ℕ) → P x → v x ≡ w x) → (e : Expression) → Named P e
       → reads_by v e ≡ reads_by w e
-  reads_alike v w h (number z) p = refl
   reads_alike v w h (var x) p = h x p
-  reads_alike v w h (field j) p = refl
-  reads_alike v w h (head j) p = refl
   reads_alike v w h (neg a) p = reads_alike v w h a p
   reads_alike v w h (pair o a b) p = λ i. reads_alike v w h a p.0 i && reads_alike v w h b p.1 i
   reads_alike v w h (pick c a b) p =
       λ i. reads_alike v w h c p.0 i && reads_alike v w h a p.1 i && reads_alike v w h b p.2 i
   reads_alike v w h (apply f a) p = reads_alike v w h a p
+  reads_alike v w h e p = refl
 
   expression_alike : (v w : Variables) → ((x : List ℕ) → P x → v x ≡ w x) → (e : Expression) → Named P e
       → expression_by v e ≡ expression_by w e
-  expression_alike v w h (number z) p = refl
   expression_alike v w h (var x) p = ap (typed.var (name_rate x)) (h x p)
-  expression_alike v w h (field j) p = refl
-  expression_alike v w h (head j) p = refl
   expression_alike v w h (neg a) p = ap (typed.neg (rate_of (neg a))) (expression_alike v w h a p)
   expression_alike v w h (pair o a b) p =
       λ i. typed.pair (rate_of (pair o a b)) o (expression_alike v w h a p.0 i) (expression_alike v w h b p.1 i)
@@ -148,6 +132,7 @@ module _ (P : List ℕ → Type 0) where
       λ i. typed.pick (rate_of (pick c a b)) (expression_alike v w h c p.0 i) (expression_alike v w h a p.1 i)
       (expression_alike v w h b p.2 i)
   expression_alike v w h (apply f a) p = ap (typed.apply (rate_of (apply f a)) f) (expression_alike v w h a p)
+  expression_alike v w h e p = refl
 
 -- ---- slots by names and by numbers
 
@@ -223,49 +208,25 @@ AllHave l (y ∷ ys) = (has_local l y ≡ true) × AllHave l ys
 itself : (x : List ℕ) → bytes_eq x x ≡ true
 itself x = (bytes_eq-Decides x x).1 refl
 
-module _ (rs : Routines) (g : Shared) (line : ℕ) where
-  slots_break : (q : Setting) (n : ℕ) (l m : Locals) → SlotsFrom n l m → (outs : List Rate) (args : List Argument)
-      → NamedArguments HasNoStop args
-      → block_fault_in q rs (known_in g l) (assignments line (slots n outs) args)
+-- behind the assignments of slots, by names and by numbers: the first rule that is broken, the typed form, how many
+-- numbers are taken, and that each slot has its number
+record SlotsMeet (rs : Routines) (g : Shared) (line n : ℕ) (l m : Locals) (outs : List Rate) (args : List Argument)
+    : Type 0 where
+  fault : (q : Setting) → block_fault_in q rs (known_in g l) (assignments line (slots n outs) args)
       ≡ slots_fault q (known_in g m) line outs args
-  slots_break q n l m s [] args p = refl
-  slots_break q n l m s (r ∷ outs) [] p = refl
-  slots_break q n l m s (r ∷ outs) (text t ∷ args) p = refl
-  slots_break q n l m s (r ∷ outs) (value e ∷ args) p =
-      let more = slots_break q (n + 1) (given_in l (slot n r)) (one_counted m r) (slots_next n l m s r) outs args p.1 in
-      λ i. option_or (slot_fault n l m s g q line r e p.0 i) (more i)
-
-  slots_form : (n : ℕ) (l m : Locals) → SlotsFrom n l m → (outs : List Rate) (args : List Argument)
-      → NamedArguments HasNoStop args
-      → typed_block_in rs (known_in g l) (assignments line (slots n outs) args)
+  form : typed_block_in rs (known_in g l) (assignments line (slots n outs) args)
       ≡ slots_set (known_in g m) line outs args
-  slots_form n l m s [] args p = refl
-  slots_form n l m s (r ∷ outs) [] p = refl
-  slots_form n l m s (r ∷ outs) (text t ∷ args) p = refl
-  slots_form n l m s (r ∷ outs) (value e ∷ args) p =
-      let it = expression_alike HasNoStop (variable_in (known_in g l)) (variable_in (known_in g m))
-      (variable_alike n l m s g) e p.0 in
-      let more = slots_form (n + 1) (given_in l (slot n r)) (one_counted m r) (slots_next n l m s r) outs args p.1 in
-      λ i. typed.andthen (typed.set line (slot_rate n r i) (slot_variable n l m s g r i) (it i)) (more i)
+  counts : (locals_after_block rs l (assignments line (slots n outs) args)).counts ≡ (slots_past m outs args).counts
+  have : AllHave (locals_after_block rs l (assignments line (slots n outs) args)) (slots n outs)
+  numbers : map (number_in (locals_after_block rs l (assignments line (slots n outs) args))) (slots n outs)
+      ≡ slot_numbers m.counts outs args
 
-module _ (rs : Routines) (line : ℕ) where
-  slots_counted : (n : ℕ) (l m : Locals) → SlotsFrom n l m → (outs : List Rate) (args : List Argument)
-      → (locals_after_block rs l (assignments line (slots n outs) args)).counts ≡ (slots_past m outs args).counts
-  slots_counted n l m s [] args = s.counts
-  slots_counted n l m s (r ∷ outs) [] = s.counts
-  slots_counted n l m s (r ∷ outs) (text t ∷ args) = s.counts
-  slots_counted n l m s (r ∷ outs) (value e ∷ args) =
-      slots_counted (n + 1) (given_in l (slot n r)) (one_counted m r) (slots_next n l m s r) outs args
-
-  -- ---- each slot has its number at the end
-
+module _ (rs : Routines) (g : Shared) (line : ℕ) where
   values_kept : (l : Locals) (x : List ℕ) → has_local l x ≡ true → (ys : List (List ℕ)) (args : List Argument)
       → (locals_after_block rs l (assignments line ys args)).number x ≡ l.number x
-  values_kept l x h [] args = refl
-  values_kept l x h (y ∷ ys) [] = refl
-  values_kept l x h (y ∷ ys) (text t ∷ args) = refl
   values_kept l x h (y ∷ ys) (value e ∷ args) =
       values_kept (given_in l y) x (has_kept l y x h) ys args ∙ number_kept l y x h
+  values_kept l x h ys args = refl
 
   slot_number : (n : ℕ) (l m : Locals) → SlotsFrom n l m → (r : Rate)
       → (given_in l (slot n r)).number (slot n r) ≡ Some (at_rate m.counts r)
@@ -275,36 +236,29 @@ module _ (rs : Routines) (line : ℕ) where
       (itself (slot n r))
       ∙ λ i. Some (at_rate (s.counts i) (slot_rate n r i))
 
-  first_slot : (n : ℕ) (l m : Locals) → SlotsFrom n l m → (r : Rate) (outs : List Rate) (args : List Argument)
-      → (locals_after_block rs (given_in l (slot n r)) (assignments line (slots (n + 1) outs) args)).number (slot n r)
-      ≡ Some (at_rate m.counts r)
-  first_slot n l m s r outs args =
-      let here = slot_number n l m s r in
-      values_kept (given_in l (slot n r)) (slot n r) (ap (λ o. is_some o) here) (slots (n + 1) outs) args ∙ here
-
-  slots_have : (n : ℕ) (l m : Locals) → SlotsFrom n l m → (outs : List Rate) (args : List Argument)
-      → ValuesFit outs args
-      → AllHave (locals_after_block rs l (assignments line (slots n outs) args)) (slots n outs)
-  slots_have n l m s [] args fit = tt
-  slots_have n l m s (r ∷ outs) [] fit = absurd fit
-  slots_have n l m s (r ∷ outs) (text t ∷ args) fit = absurd fit
-  slots_have n l m s (r ∷ outs) (value e ∷ args) fit = (
-    ap (λ o. is_some o) (first_slot n l m s r outs args),
-    slots_have (n + 1) (given_in l (slot n r)) (one_counted m r) (slots_next n l m s r) outs args fit,
-  )
-
-  slots_numbered : (n : ℕ) (l m : Locals) → SlotsFrom n l m → (outs : List Rate) (args : List Argument)
-      → ValuesFit outs args
-      → map (number_in (locals_after_block rs l (assignments line (slots n outs) args))) (slots n outs)
-      ≡ slot_numbers m.counts outs args
-  slots_numbered n l m s [] args fit = refl
-  slots_numbered n l m s (r ∷ outs) [] fit = absurd fit
-  slots_numbered n l m s (r ∷ outs) (text t ∷ args) fit = absurd fit
-  slots_numbered n l m s (r ∷ outs) (value e ∷ args) fit =
+  slots_meet : (n : ℕ) (l m : Locals) → SlotsFrom n l m → (outs : List Rate) (args : List Argument)
+      → NamedArguments HasNoStop args → ValuesFit outs args → SlotsMeet rs g line n l m outs args
+  slots_meet n l m s [] args p fit =
+      record { fault = λ q. refl; form = refl; counts = s.counts; have = tt; numbers = refl }
+  slots_meet n l m s (r ∷ outs) [] p fit = absurd fit
+  slots_meet n l m s (r ∷ outs) (text t ∷ args) p fit = absurd fit
+  slots_meet n l m s (r ∷ outs) (value e ∷ args) p fit =
+      let more = slots_meet (n + 1) (given_in l (slot n r)) (one_counted m r) (slots_next n l m s r) outs args p.1 fit
+      in
       let last = locals_after_block rs (given_in l (slot n r)) (assignments line (slots (n + 1) outs) args) in
-      let here = ap (λ o. unwrap_or o (at_rate last.counts (name_rate (slot n r)))) (first_slot n l m s r outs args) in
-      λ i. here i
-      ∷ slots_numbered (n + 1) (given_in l (slot n r)) (one_counted m r) (slots_next n l m s r) outs args fit i
+      let own = slot_number n l m s r in
+      let here = values_kept (given_in l (slot n r)) (slot n r) (ap (λ o. is_some o) own) (slots (n + 1) outs) args
+      ∙ own in
+      let it = expression_alike HasNoStop (variable_in (known_in g l)) (variable_in (known_in g m))
+      (variable_alike n l m s g) e p.0 in
+      let number = ap (λ o. unwrap_or o (at_rate last.counts (name_rate (slot n r)))) here in
+      record {
+        fault = λ q i. option_or (slot_fault n l m s g q line r e p.0 i) (more.fault q i);
+        form = λ i. typed.andthen (typed.set line (slot_rate n r i) (slot_variable n l m s g r i) (it i)) (more.form i);
+        counts = more.counts;
+        have = (ap (λ o. is_some o) here, more.have);
+        numbers = λ i. number i ∷ more.numbers i;
+      }
 
 -- ---- results and inputs
 
@@ -317,8 +271,6 @@ module _ (r : Routine) where
   pub results_taken : (s : Setting) (g : Shared) (line : ℕ) (xs : List (List ℕ)) (n : ℕ)
       (outs : List Rate) → AllHave r.last (slots n outs)
       → results_fault s g r line xs (slots n outs) ≡ taken_fault s line xs outs
-  results_taken s g line [] n outs h = refl
-  results_taken s g line (x ∷ xs) n [] h = refl
   results_taken s g line (x ∷ xs) n (q ∷ outs) h =
       let known = ap (λ b. if b then in_table g.globals (slot n q) else has_local r.last (slot n q)) (slot_local n q)
       ∙ h.0 in
@@ -329,12 +281,11 @@ module _ (r : Routine) where
       one known = λ i. if not (known i) then Some orc.Undefined
           else (if not (within (slot_rate n q i) (name_rate x) && (s.inside || is_init (name_rate x)))
           then Some orc.RateMismatch else None)
+  results_taken s g line xs n outs h = refl
 
   pub results_form : (k : KnownInBody) (base : PerRate ℕ) (line : ℕ) (xs : List (List ℕ)) (n : ℕ) (outs : List Rate)
       → results_set k base r line xs (slots n outs)
       ≡ taken_set k base line xs outs (map (number_in r.last) (slots n outs))
-  results_form k base line [] n outs = refl
-  results_form k base line (x ∷ xs) n [] = refl
   results_form k base line (x ∷ xs) n (q ∷ outs) =
       let y = slot n q in
       let there = ap (λ b. moved_variable base
@@ -347,57 +298,57 @@ module _ (r : Routine) where
       (variant.Local (slot_rate n q i) (at_rate base (slot_rate n q i) + number_in r.last y))))
       (taken_set (known_in k.shared (given_in k.locals x)) base line xs outs
       (map (number_in r.last) (slots (n + 1) outs))))
+  results_form k base line xs n outs = refl
 
   pub inputs_form : (k : KnownInBody) (line : ℕ) (xs : List (List ℕ)) (args : List Argument) → AllLocal xs
       → inputs_set k r line xs args ≡ given_set k r.first line xs args
-  inputs_form k line [] args h = refl
-  inputs_form k line (x ∷ xs) [] h = refl
-  inputs_form k line (x ∷ xs) (text t ∷ args) h = refl
   inputs_form k line (x ∷ xs) (value e ∷ args) h =
       let there = ap (λ b. moved_variable k.locals.counts
       (if b then variant.Global (global (name_rate x) (place_in k.shared.globals x))
       else variant.Local (name_rate x) (number_in r.first x))) h.0 in
       λ i. typed.andthen (typed.set line (name_rate x) (there i) (expression_by (variable_in k) e))
       (inputs_form k line xs args h.1 i)
+  inputs_form k line xs args h = refl
 
 -- ---- a definition of a text
 
 values_named : (args : List Argument) → All WellFormedValue args → NamedArguments HasNoStop args
 values_named [] h = tt
 values_named (value e ∷ args) h = (
-  expression_named HasNoStop (λ x p. p) e (head_of WellFormedValue (value e) args h),
-  values_named args (tail_of WellFormedValue (value e) args h),
+  expression_named HasNoStop (λ x p. p) e (All-head WellFormedValue (value e) args h),
+  values_named args (All-tail WellFormedValue (value e) args h),
 )
-values_named (text t ∷ args) h = values_named args (tail_of WellFormedValue (text t) args h)
+values_named (text t ∷ args) h = values_named args (All-tail WellFormedValue (text t) args h)
 
 values_fit : (outs : List Rate) (args : List Argument) → length outs ≡ length args → All WellFormedValue args
     → ValuesFit outs args
 values_fit [] args e h = tt
 values_fit (r ∷ outs) [] e h = absurd (omega (arith, e))
-values_fit (r ∷ outs) (text t ∷ args) e h = head_of WellFormedValue (text t) args h
+values_fit (r ∷ outs) (text t ∷ args) e h = All-head WellFormedValue (text t) args h
 values_fit (r ∷ outs) (value v ∷ args) e h =
-    values_fit outs args (omega (arith, e)) (tail_of WellFormedValue (value v) args h)
+    values_fit outs args (omega (arith, e)) (All-tail WellFormedValue (value v) args h)
 
 pub inputs_local : (xs : List (List ℕ)) → All (λ x. IsVariable x × (is_global x ≡ false)) xs → AllLocal xs
 inputs_local [] h = tt
 inputs_local (x ∷ xs) h = (
-  (head_of (λ y. IsVariable y × (is_global y ≡ false)) x xs h).1,
-  inputs_local xs (tail_of (λ y. IsVariable y × (is_global y ≡ false)) x xs h),
+  (All-head (λ y. IsVariable y × (is_global y ≡ false)) x xs h).1,
+  inputs_local xs (All-tail (λ y. IsVariable y × (is_global y ≡ false)) x xs h),
 )
 
 inputs_named : (xs : List (List ℕ)) → All (λ x. IsVariable x × (is_global x ≡ false)) xs → NamedAll HasNoStop xs
 inputs_named [] h = tt
 inputs_named (x ∷ xs) h = (
-  (head_of (λ y. IsVariable y × (is_global y ≡ false)) x xs h).0.1,
-  inputs_named xs (tail_of (λ y. IsVariable y × (is_global y ≡ false)) x xs h),
+  (All-head (λ y. IsVariable y × (is_global y ≡ false)) x xs h).0.1,
+  inputs_named xs (All-tail (λ y. IsVariable y × (is_global y ≡ false)) x xs h),
 )
 
 values_assigned_shared : (rs : Routines) (g : Shared) (line : ℕ) (xs : List (List ℕ)) (args : List Argument)
     → shared_after_block rs g (assignments line xs args) ≡ g
-values_assigned_shared rs g line [] args = refl
-values_assigned_shared rs g line (x ∷ xs) [] = refl
-values_assigned_shared rs g line (x ∷ xs) (text t ∷ args) = refl
 values_assigned_shared rs g line (x ∷ xs) (value e ∷ args) = values_assigned_shared rs g line xs args
+values_assigned_shared rs g line xs args = refl
+
+abbrev nothing_shared : Shared
+nothing_shared = record { globals = no_names; control = []; sound = [] }
 
 module _ (rs : Routines) (d : Definition) (well : WellFormedDefinition d) where
   abbrev pub first_locals : Locals
@@ -409,9 +360,6 @@ module _ (rs : Routines) (d : Definition) (well : WellFormedDefinition d) where
   abbrev last : Block
   last = assignments d.line (slots 0 d.outs) d.result
 
-  named : NamedArguments HasNoStop d.result
-  named = values_named d.result well.each_value
-
   begins : SlotsFrom 0 body_locals body_locals
   begins = record {
     counts = refl;
@@ -421,11 +369,14 @@ module _ (rs : Routines) (d : Definition) (well : WellFormedDefinition d) where
         (block_named HasNoStop (λ x h. h) place.Definition d.name 0 d.body well.body) j r;
   }
 
-  fit : ValuesFit d.outs d.result
-  fit = values_fit d.outs d.result (sym well.values) well.each_value
-
   abbrev pub behind_body : Shared → KnownInBody
   behind_body g = known_in (shared_after_block rs g d.body) body_locals
+
+  -- its slots, behind its body
+  meet : (g : Shared) → SlotsMeet rs g d.line 0 body_locals body_locals d.outs d.result
+  meet g =
+      slots_meet rs g d.line 0 body_locals body_locals begins d.outs d.result (values_named d.result well.each_value)
+      (values_fit d.outs d.result (sym well.values) well.each_value)
 
   pub body_fault : (s : Setting) (g : Shared) → (routine_of rs d).fault s g
       ≡ option_or (block_fault_in s rs (known_in g first_locals) d.body)
@@ -433,7 +384,7 @@ module _ (rs : Routines) (d : Definition) (well : WellFormedDefinition d) where
   body_fault s g =
       fault_joins_in rs s (known_in g first_locals) d.body last
       ∙ ap (option_or (block_fault_in s rs (known_in g first_locals) d.body))
-      (slots_break rs (shared_after_block rs g d.body) d.line s 0 body_locals body_locals begins d.outs d.result named)
+      ((meet (shared_after_block rs g d.body)).fault s)
 
   pub body_form : (g : Shared) → (routine_of rs d).block g
       ≡ then_block (typed_block_in rs (known_in g first_locals) d.body)
@@ -441,7 +392,7 @@ module _ (rs : Routines) (d : Definition) (well : WellFormedDefinition d) where
   body_form g =
       typed_joins_in rs (known_in g first_locals) d.body last
       ∙ ap (then_block (typed_block_in rs (known_in g first_locals) d.body))
-      (slots_form rs (shared_after_block rs g d.body) d.line 0 body_locals body_locals begins d.outs d.result named)
+      (meet (shared_after_block rs g d.body)).form
 
   pub body_shared : (g : Shared) → (routine_of rs d).shared g ≡ shared_after_block rs g d.body
   body_shared g =
@@ -452,20 +403,14 @@ module _ (rs : Routines) (d : Definition) (well : WellFormedDefinition d) where
   last_is = locals_joins rs first_locals d.body last
 
   pub body_counts : (routine_of rs d).last.counts ≡ (slots_past body_locals d.outs d.result).counts
-  body_counts =
-      ap (λ z. z.counts) last_is
-      ∙ slots_counted rs d.line 0 body_locals body_locals begins d.outs d.result
+  body_counts = ap (λ z. z.counts) last_is ∙ (meet nothing_shared).counts
 
   pub body_numbers : map (number_in (routine_of rs d).last) (slots 0 d.outs)
       ≡ slot_numbers body_locals.counts d.outs d.result
-  body_numbers =
-      ap (λ z. map (number_in z) (slots 0 d.outs)) last_is
-      ∙ slots_numbered rs d.line 0 body_locals body_locals begins d.outs d.result fit
+  body_numbers = ap (λ z. map (number_in z) (slots 0 d.outs)) last_is ∙ (meet nothing_shared).numbers
 
   pub body_have : AllHave (routine_of rs d).last (slots 0 d.outs)
-  body_have =
-      subst (λ z. AllHave z (slots 0 d.outs)) (sym last_is)
-      (slots_have rs d.line 0 body_locals body_locals begins d.outs d.result fit)
+  body_have = subst (λ z. AllHave z (slots 0 d.outs)) (sym last_is) (meet nothing_shared).have
 
   -- results of a call, by their numbers
   pub call_results_fault : (s : Setting) (g : Shared) (line : ℕ) (xs : List (List ℕ))

@@ -6,28 +6,22 @@ use Rattle.std.proofs.lemmas.List.{length-map}
 use Rattle.std.specs.List.{list_any, list_all}
 use Rattle.cs_base.specs.Rates.{faster, same_rate, is_init, is_control, is_audio}
 use Rattle.cs_base.specs.declared.resource.Rate.{Rate}
-use Rattle.cs_base.specs.declared.resource.Rate.TheVariants as rate
-use Rattle.cs_words.specs.Signs.{is_arithmetic, is_logic}
+use Rattle.cs_words.specs.{Signs.is_arithmetic, Signs.is_logic, Names.name_rate, declared.catalogue.Letter.Letter}
+use Rattle.cs_words.specs.{declared.catalogue.Shape.Shape, declared.catalogue.Opcode.Opcode}
 use Rattle.cs_words.specs.Catalogue.{Row, letter_at, takes, row_of, takes_count, result_count}
-use Rattle.cs_words.specs.Names.{name_rate}
-use Rattle.cs_words.specs.declared.catalogue.Letter.{Letter}
-use Rattle.cs_words.specs.declared.catalogue.Shape.{Shape}
-use Rattle.cs_words.specs.declared.catalogue.Shape.TheVariants as shape
-use Rattle.cs_words.specs.declared.word.Func.TheVariants as func
-use Rattle.cs_grammar.specs.Tree.{Expression, number, var, field, head, neg, pair, pick, apply, Argument, value, text}
+use Rattle.cs_grammar.specs.Tree.{Expression, var, neg, pair, pick, apply, Argument, value, text}
 use Rattle.cs_typed.specs.Places.{stands_outside, is_starting, is_writing}
 use Rattle.cs_typed.specs.declared.setting.Setting.{Setting}
 use Rattle.cs_typing.specs.Calls.{fits, all_fit, bound_of, may_result, is_sound, any_sound, is_even, kind_of}
 use Rattle.cs_typing.specs.Calls.{channel_use, text_of, is_too_wide, rates_agree, counts_agree, is_still, plain_rate}
 use Rattle.cs_typing.specs.Calls.{call_rate, argument_by, arguments_by, row_by, call_by}
 use Rattle.cs_typing.specs.Expressions.{applied_rate, is_control_name, is_value, is_condition, rate_of, Variables}
-use Rattle.cs_typing.specs.Expressions.{expression_by}
-use Rattle.cs_grammar.specs.Renaming.{renamed_expression, renamed_argument}
-use Rattle.cs_words.specs.declared.catalogue.Opcode.{Opcode}
-use Rattle.cs_grammar.specs.declared.tree.Callee.{Callee}
+use Rattle.cs_typing.specs.{Expressions.expression_by, declared.known.Channel.Channel, Known.Shared}
+use Rattle.cs_grammar.specs.{Renaming.renamed_expression, Renaming.renamed_argument, declared.tree.Callee.Callee}
+use Rattle.cs_base.specs.declared.resource.Rate.TheVariants as rate
+use Rattle.cs_words.specs.declared.catalogue.Shape.TheVariants as shape
+use Rattle.cs_words.specs.declared.word.Func.TheVariants as func
 use Rattle.cs_grammar.specs.declared.tree.Callee.TheVariants as callee
-use Rattle.cs_typing.specs.declared.known.Channel.{Channel}
-use Rattle.cs_typing.specs.Known.{Shared}
 use Rattle.cs_typed.specs.TypedTree as typed
 
 -- other names of the same rates
@@ -36,54 +30,34 @@ pub record KeepsRates (own : List ℕ → List ℕ) : Type 0 where
 
 module _ {own : List ℕ → List ℕ} (same : KeepsRates own) where
   pub rate_of_kept : (e : Expression) → rate_of (renamed_expression own e) ≡ rate_of e
-  rate_of_kept (number v) = refl
   rate_of_kept (var name) = same.rate name
-  rate_of_kept (field k) = refl
-  rate_of_kept (head h) = refl
   rate_of_kept (neg a) = rate_of_kept a
   rate_of_kept (pair o a b) = λ i. faster (rate_of_kept a i) (rate_of_kept b i)
   rate_of_kept (pick c a b) =
       λ i. faster (rate_of_kept c i) (faster (rate_of_kept a i) (rate_of_kept b i))
   rate_of_kept (apply g a) = ap (applied_rate g) (rate_of_kept a)
+  rate_of_kept e = refl
 
   pub control_name_kept : (e : Expression) → is_control_name (renamed_expression own e) ≡ is_control_name e
-  control_name_kept (number v) = refl
   control_name_kept (var name) = ap is_control (same.rate name)
-  control_name_kept (field k) = refl
-  control_name_kept (head h) = refl
-  control_name_kept (neg a) = refl
-  control_name_kept (pair o a b) = refl
-  control_name_kept (pick c a b) = refl
-  control_name_kept (apply g a) = refl
+  control_name_kept e = refl
 
   mutual
     pub value_kept : (e : Expression) → is_value (renamed_expression own e) ≡ is_value e
-    value_kept (number v) = refl
-    value_kept (var name) = refl
-    value_kept (field k) = refl
-    value_kept (head h) = refl
     value_kept (neg a) = value_kept a
     value_kept (pair o a b) = λ i. is_arithmetic o && value_kept a i && value_kept b i
     value_kept (pick c a b) = λ i. condition_kept c i && value_kept a i && value_kept b i
     value_kept (apply func.I a) = control_name_kept a
     value_kept (apply func.Cpspch a) = λ i. value_kept a i && not (is_audio (rate_of_kept a i))
-    value_kept (apply func.Int a) = value_kept a
-    value_kept (apply func.Frac a) = value_kept a
-    value_kept (apply func.Abs a) = value_kept a
-    value_kept (apply func.Floor a) = value_kept a
+    value_kept (apply g a) = value_kept a
+    value_kept e = refl
 
     pub condition_kept : (e : Expression) → is_condition (renamed_expression own e) ≡ is_condition e
-    condition_kept (number v) = refl
-    condition_kept (var name) = refl
-    condition_kept (field k) = refl
-    condition_kept (head h) = refl
-    condition_kept (neg a) = refl
     condition_kept (pair o a b) = λ i. if is_logic o then condition_kept a i && condition_kept b i
         else not (is_arithmetic o)
         && (value_kept a i && value_kept b i
         && not (is_audio (faster (rate_of_kept a i) (rate_of_kept b i))))
-    condition_kept (pick c a b) = refl
-    condition_kept (apply g a) = refl
+    condition_kept e = refl
 
   pub fits_kept : (l : Letter) (q : Rate) (a : Argument) → fits l q (renamed_argument own a) ≡ fits l q a
   fits_kept l q (value e) = λ i. value_kept e i && takes l q (rate_of_kept e i)
@@ -123,44 +97,15 @@ module _ {own : List ℕ → List ℕ} (same : KeepsRates own) where
   all_still_kept (a ∷ args) = λ i. still_kept a i && all_still_kept args i
 
   pub even_kept : (sh : Shape) (args : List Argument) → is_even sh (map (renamed_argument own) args) ≡ is_even sh args
-  even_kept shape.Init args = refl
-  even_kept shape.Unit args = refl
-  even_kept shape.Store [] = refl
-  even_kept shape.Store (a ∷ []) = refl
   even_kept shape.Store (a ∷ b ∷ args) =
       λ i. if sound_kept a i then sound_kept b i else not (sound_kept b i)
-  even_kept shape.Out args = refl
-  even_kept shape.OutAt args = refl
-  even_kept shape.Turnoff args = refl
-  even_kept shape.ZakInit args = refl
-  even_kept (shape.ZakGet w) args = refl
-  even_kept (shape.ZakPut w) args = refl
-  even_kept shape.ZakMix args = refl
-  even_kept (shape.ZakClear w) args = refl
-  even_kept shape.ChannelGet args = refl
-  even_kept shape.ChannelPut args = refl
-  even_kept shape.ChannelMix args = refl
-  even_kept shape.ChannelClear args = refl
-  even_kept shape.Ask args = refl
+  even_kept sh args = refl
 
   pub use_kept : (sh : Shape) (results : List (List ℕ)) (args : List Argument)
       → channel_use sh (map own results) (map (renamed_argument own) args) ≡ channel_use sh results args
-  use_kept shape.Init results args = refl
-  use_kept shape.Unit results args = refl
-  use_kept shape.Store results args = refl
-  use_kept shape.Out results args = refl
-  use_kept shape.OutAt results args = refl
-  use_kept shape.Turnoff results args = refl
-  use_kept shape.ZakInit results args = refl
-  use_kept (shape.ZakGet w) results args = refl
-  use_kept (shape.ZakPut w) results args = refl
-  use_kept shape.ZakMix results args = refl
-  use_kept (shape.ZakClear w) results args = refl
   use_kept shape.ChannelGet results args = ap (λ q. Some (kind_of (is_audio q))) (bound_kept results)
   use_kept shape.ChannelPut results args = ap (λ b. Some (kind_of b)) (any_sound_kept args)
-  use_kept shape.ChannelMix results args = refl
-  use_kept shape.ChannelClear results args = refl
-  use_kept shape.Ask results args = refl
+  use_kept sh results args = refl
 
   pub rates_kept : (s : Setting) (row : Row) (results : List (List ℕ)) (args : List Argument)
       → rates_agree s row (map own results) (map (renamed_argument own) args) ≡ rates_agree s row results args
@@ -174,22 +119,8 @@ module _ {own : List ℕ → List ℕ} (same : KeepsRates own) where
 
   pub wide_kept : (s : Setting) (sh : Shape) (args : List Argument)
       → is_too_wide s sh (map (renamed_argument own) args) ≡ is_too_wide s sh args
-  wide_kept s shape.Init args = refl
-  wide_kept s shape.Unit args = refl
-  wide_kept s shape.Store args = refl
   wide_kept s shape.Out args = ap (nat_lt s.channels) (length-map args (renamed_argument own))
-  wide_kept s shape.OutAt args = refl
-  wide_kept s shape.Turnoff args = refl
-  wide_kept s shape.ZakInit args = refl
-  wide_kept s (shape.ZakGet w) args = refl
-  wide_kept s (shape.ZakPut w) args = refl
-  wide_kept s shape.ZakMix args = refl
-  wide_kept s (shape.ZakClear w) args = refl
-  wide_kept s shape.ChannelGet args = refl
-  wide_kept s shape.ChannelPut args = refl
-  wide_kept s shape.ChannelMix args = refl
-  wide_kept s shape.ChannelClear args = refl
-  wide_kept s shape.Ask args = refl
+  wide_kept s sh args = refl
 
   pub text_kept : (args : List Argument) → text_of (map (renamed_argument own) args) ≡ text_of args
   text_kept [] = refl
@@ -216,10 +147,7 @@ module _ {own : List ℕ → List ℕ} (same : KeepsRates own) where
   -- the typed forms: those of the first names, with the variables of the other names
   pub expression_renamed : (v : Variables) (e : Expression)
       → expression_by v (renamed_expression own e) ≡ expression_by (λ x. v (own x)) e
-  expression_renamed v (number z) = refl
   expression_renamed v (var x) = ap (λ r. typed.var r (v (own x))) (same.rate x)
-  expression_renamed v (field j) = refl
-  expression_renamed v (head h) = refl
   expression_renamed v (neg a) = λ i. typed.neg (rate_of_kept (neg a) i) (expression_renamed v a i)
   expression_renamed v (pair o a b) =
       λ i. typed.pair (rate_of_kept (pair o a b) i) o (expression_renamed v a i) (expression_renamed v b i)
@@ -227,6 +155,7 @@ module _ {own : List ℕ → List ℕ} (same : KeepsRates own) where
       λ i. typed.pick (rate_of_kept (pick c a b) i) (expression_renamed v c i) (expression_renamed v a i)
       (expression_renamed v b i)
   expression_renamed v (apply g a) = λ i. typed.apply (rate_of_kept (apply g a) i) g (expression_renamed v a i)
+  expression_renamed v e = refl
 
   argument_renamed : (shared : Shared) (v : Variables) (role : Option Channel) (a : Argument)
       → argument_by shared v role (renamed_argument own a) ≡ argument_by shared (λ x. v (own x)) role a

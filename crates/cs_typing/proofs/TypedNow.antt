@@ -1,29 +1,21 @@
 -- A definition at its first call: what its body and its slots answer, put together.
-use Rattle.std.proofs.Common.{◌≡◌, ◌∙◌, ◌<◌, ◌++◌, ℕ, List, [], ◌∷◌, Some, None, length, slice_get}
-use Rattle.std.proofs.Common.{slice_set, Vec, Global, refl, sym, ap, subst}
-use Rattle.std.specs.List.{All}
-use Rattle.std.specs.Option.{option_or}
-use Rattle.std.proofs.lemmas.List.{length-set}
-use Rattle.std.proofs.lemmas.Option.{get_or_from_slice_get, slice_get_within}
-use Rattle.cs_base.specs.declared.fault.OrcFault.{OrcFault}
-use Rattle.cs_base.specs.declared.per_rate.PerRate.{PerRate}
-use Rattle.cs_grammar.specs.Tree.{Block, Definition}
-use Rattle.cs_grammar.specs.WellFormed.{WellFormedDefinition}
-use Rattle.cs_typed.specs.Places.{inside}
-use Rattle.cs_typed.specs.TypedTree as typed
-use Rattle.cs_typed.specs.declared.setting.Setting.{Setting}
-use Rattle.cs_typed.specs.declared.tree.TypedStmt.{TypedStmt}
-use Rattle.cs_typing.specs.Known.{Shared}
-use Rattle.cs_typing.specs.declared.routines.RoutineTable.{RoutineTable}
+use Rattle.std.proofs.Common.{◌≡◌, ◌∙◌, ◌<◌, ◌++◌, ℕ, List, [], ◌∷◌, Some, None, length, slice_get, slice_set, Vec}
+use Rattle.std.proofs.Common.{Global, refl, sym, ap, subst}
+use Rattle.std.specs.{List.All, Option.option_or}
+use Rattle.std.proofs.lemmas.{List.length-set, Option.get_or_from_slice_get, Option.slice_get_within}
+use Rattle.cs_base.specs.{declared.fault.OrcFault.OrcFault, declared.per_rate.PerRate.PerRate}
+use Rattle.cs_grammar.specs.{Tree.Block, Tree.Definition, WellFormed.WellFormedDefinition}
+use Rattle.cs_typed.specs.{Places.inside, declared.setting.Setting.Setting, declared.tree.TypedStmt.TypedStmt}
+use Rattle.cs_typing.specs.{Known.Shared, declared.routines.RoutineTable.RoutineTable}
 use Rattle.cs_typing.specs.declared.routines.TypedDefinition.{TypedDefinition}
 use Rattle.cs_typing.specs.inner.Listed.{AreTyped, IsListed, IsLonger, blocks_in, routines_of}
 use Rattle.cs_typing.specs.inner.Routines.{KnownInBody, Routine, block_fault_in, known_after_block, known_in}
-use Rattle.cs_typing.specs.inner.Routines.{routine_of}
-use Rattle.cs_typing.specs.inner.Routines.{typed_block_in}
+use Rattle.cs_typing.specs.inner.Routines.{routine_of, typed_block_in}
 use Rattle.cs_typing.specs.inner.Slots.{slot_numbers, slots_fault, slots_past, slots_set}
 use Rattle.cs_typing.proofs.RoutineSlots.{behind_body, body_fault, body_locals, body_shared, first_locals}
 use Rattle.cs_typing.proofs.RoutineSteady.{Apart}
 use Rattle.cs_typing.proofs.TypedOnce.{now_fault, now_listed, now_longer, now_typed, set_here, set_other}
+use Rattle.cs_typed.specs.TypedTree as typed
 
 -- what holds of all definitions holds of the one at a place
 pub well_at : (ds : List Definition) (place : ℕ) (d : Definition) → All WellFormedDefinition ds
@@ -31,6 +23,14 @@ pub well_at : (ds : List Definition) (place : ℕ) (d : Definition) → All Well
 well_at ds place d h at =
     subst WellFormedDefinition (get_or_from_slice_get ds place d d at)
     (h place d (slice_get_within ds place d at))
+
+-- it has its routine, which is the last of a longer table, and all that is typed stays so
+pub record IsTypedThen (s : Setting) (ds : List Definition) (place : ℕ) (d : Definition) (g h : Shared)
+    (b c : RoutineTable) : Type 0 where
+  pub listed : IsListed c place (routine_of (routines_of ds place) d) g
+  pub longer : IsLonger b c
+  pub each : (channels : ℕ) → s ≡ inside channels → slice_get ds place ≡ Some d → AreTyped channels ds h b
+      → AreTyped channels ds h c
 
 module _ (s : Setting) (ds : List Definition) (place : ℕ) (d : Definition) (well : WellFormedDefinition d)
     (g : Shared) (k1 kb : KnownInBody) (start : k1 ≡ known_in g (first_locals (routines_of ds place) d well)) where
@@ -107,20 +107,16 @@ module _ (s : Setting) (ds : List Definition) (place : ℕ) (d : Definition) (we
         at : slice_get c.by_definition.items place ≡ Some (Some it)
         at = ap (λ l. slice_get l place) marks ∙ set_here b.by_definition.items place (Some it) within
 
-        pub then_listed : IsListed c place r g
-        then_listed =
-            now_listed s ds place d well g no_fault free b body [] c it made pushed refl all_counts all_numbers at
-
-        pub then_longer : IsLonger b c
-        then_longer =
-            now_longer s ds place d well g no_fault free b body [] c it made pushed refl all_counts all_numbers at
-
-        pub then_typed : (channels : ℕ) → s ≡ inside channels → slice_get ds place ≡ Some d
-            → AreTyped channels ds kb.shared b → AreTyped channels ds kb.shared c
-        then_typed channels e here was =
-            subst (λ h. AreTyped channels ds h c) (sym shared_then)
-            (now_typed s ds place d well g no_fault free b body [] c it made pushed refl all_counts all_numbers at
-            channels e
-            here (subst (λ h. AreTyped channels ds h b) shared_then was)
-            (λ k isnt. ap (λ l. slice_get l k) marks ∙ set_other b.by_definition.items place (Some it) k isnt)
-            (ap length marks ∙ length-set b.by_definition.items place (Some it)))
+        pub then_typed : IsTypedThen s ds place d g kb.shared b c
+        then_typed = record {
+          listed = now_listed s ds place d well g no_fault free b body [] c it made pushed refl all_counts all_numbers
+              at;
+          longer = now_longer s ds place d well g no_fault free b body [] c it made pushed refl all_counts all_numbers
+              at;
+          each = λ channels e here was.
+              subst (λ h. AreTyped channels ds h c) (sym shared_then)
+              (now_typed s ds place d well g no_fault free b body [] c it made pushed refl all_counts all_numbers at
+              channels e here (subst (λ h. AreTyped channels ds h b) shared_then was)
+              (λ k isnt. ap (λ l. slice_get l k) marks ∙ set_other b.by_definition.items place (Some it) k isnt)
+              (ap length marks ∙ length-set b.by_definition.items place (Some it)));
+        }

@@ -1,34 +1,24 @@
 -- A definition that is typed where it is first called, and one that was typed before.
 use Rattle.std.proofs.Common.{◌≡◌, ◌∙◌, ◌+◌, ◌<◌, ◌++◌, ◌≢◌, ◌==◌, ℕ, Bool, true, false, List, [], ◌∷◌, Option, Some}
 use Rattle.std.proofs.Common.{None, zero, suc, Bor, length, map, slice_get, slice_set, Vec, Global, refl, sym, ap}
-use Rattle.std.proofs.Common.{arith}
-use Rattle.std.proofs.Common.{IfSome, subst}
+use Rattle.std.proofs.Common.{arith, IfSome, subst}
 use Rattle.std.specs.Option.{is_some, option_or}
-use Rattle.std.proofs.lemmas.Bool.Decides.{nat_tests}
-use Rattle.std.proofs.lemmas.List.{append-nil, length-map}
-use Rattle.std.proofs.lemmas.Option.{same_Some}
+use Rattle.std.proofs.lemmas.{Bool.Decides.nat_tests, List.append-nil, List.length-map, Option.same_Some}
 use Rattle.cs_base.specs.declared.resource.Rate.{Rate}
-use Rattle.cs_grammar.specs.Tree.{Definition}
-use Rattle.cs_grammar.specs.WellFormed.{WellFormedDefinition}
-use Rattle.cs_typed.specs.Places.{inside}
-use Rattle.cs_typed.specs.TypedTree as typed
-use Rattle.cs_typed.specs.declared.setting.Setting.{Setting}
-use Rattle.cs_typed.specs.declared.tree.TypedStmt.{TypedStmt}
-use Rattle.cs_typing.specs.Known.{Shared}
-use Rattle.cs_typing.specs.declared.routines.RoutineTable.{RoutineTable}
-use Rattle.cs_typing.specs.declared.routines.Site.{Site}
-use Rattle.cs_typing.specs.declared.routines.TypedDefinition.{TypedDefinition}
+use Rattle.cs_grammar.specs.{Tree.Definition, WellFormed.WellFormedDefinition}
+use Rattle.cs_typed.specs.{Places.inside, declared.setting.Setting.Setting, declared.tree.TypedStmt.TypedStmt}
+use Rattle.cs_typing.specs.{Known.Shared, declared.routines.RoutineTable.RoutineTable, declared.routines.Site.Site}
+use Rattle.cs_typing.specs.{declared.routines.TypedDefinition.TypedDefinition, inner.Routines.typed_block_in}
 use Rattle.cs_typing.specs.inner.Listed.{AreTyped, IsListed, IsLonger, IsTyped, blocks_in, routines_of}
 use Rattle.cs_typing.specs.inner.Routines.{Routine, Routines, block_fault_in, known_in, number_in, routine_of}
-use Rattle.cs_typing.specs.inner.Routines.{typed_block_in}
 use Rattle.cs_udo.specs.Names.{slots}
 use Rattle.cs_udo.proofs.Weighed.{length_slots}
 use Rattle.cs_typing.specs.inner.Slots.{slot_numbers, slots_fault, slots_past, slots_set}
 use Rattle.cs_typing.proofs.Listed.{at_end, length_both, routines_length, routines_more, typed_on}
 use Rattle.cs_typing.proofs.RoutineSlots.{behind_body, body_counts, body_fault, body_form, body_locals, body_numbers}
-use Rattle.cs_typing.proofs.RoutineSlots.{first_locals}
-use Rattle.cs_typing.proofs.RoutineSteady.{Apart, Steady, definition_steady, first_form, first_same, first_sound}
-use Rattle.cs_typing.proofs.Walked.{first_steady}
+use Rattle.cs_typing.proofs.{RoutineSlots.first_locals, Walked.first_steady}
+use Rattle.cs_typing.proofs.RoutineSteady.{Apart, IsAgain, Steady, definition_steady, first_again}
+use Rattle.cs_typed.specs.TypedTree as typed
 
 -- where something is defined in front, a body of a piece with so many channels stands
 pub placed_inside : (s : Site) (place : ℕ) → place < s.visible → s.setting ≡ inside s.setting.channels
@@ -75,11 +65,9 @@ set_here (y ∷ xs) (suc i) x lt = set_here xs i x (omega (arith, lt))
 
 pub set_other : {A : Type 0} (xs : List A) (i : ℕ) (x : A) (k : ℕ) → k ≢ i
     → slice_get (slice_set xs i x) k ≡ slice_get xs k
-set_other [] i x k h = refl
 set_other (y ∷ xs) zero x zero h = absurd (h refl)
-set_other (y ∷ xs) zero x (suc k) h = refl
-set_other (y ∷ xs) (suc i) x zero h = refl
 set_other (y ∷ xs) (suc i) x (suc k) h = set_other xs i x k (λ e. h (ap (λ n. suc n) e))
+set_other xs i x k h = refl
 
 -- ---- typed now
 
@@ -161,12 +149,15 @@ module _ (s : Setting) (ds : List Definition) (place : ℕ) (d : Definition) (we
     pub now_longer : IsLonger b c
     now_longer = (typed.block (blocks_in b) body.items ∷ [], blocks)
 
+    again : IsAgain r s g (r.shared g)
+    again = first_again r steady s g none free
+
     here_typed : (channels : ℕ) → s ≡ inside channels → IsTyped channels (r.shared g) r it (blocks_in c)
     here_typed channels e = record {
-      fault = ap (λ q. r.fault q (r.shared g)) (sym e) ∙ first_sound r steady s g none free;
-      shared = first_same r steady s g none free;
+      fault = ap (λ q. r.fault q (r.shared g)) (sym e) ∙ again.sound;
+      shared = again.same;
       within = within;
-      block = first_form r steady s g none free ∙ sym stands;
+      block = again.form ∙ sym stands;
       locals = counted;
       slots = numbered;
     }

@@ -1,41 +1,28 @@
 -- What holds of the routines that are typed goes on holding, one statement after another.
-use Rattle.std.proofs.Common.{◌≡◌, ◌∙◌, ◌++◌, ℕ, List, [], ◌∷◌, Option, Some, None, take}
-use Rattle.std.proofs.Common.{refl, sym, ap, subst}
+use Rattle.std.proofs.Common.{◌≡◌, ◌∙◌, ◌++◌, ℕ, List, [], ◌∷◌, Option, Some, None, take, refl, sym, ap, subst}
 use Rattle.std.specs.Option.{option_or}
 use Rattle.std.proofs.lemmas.List.{append_assoc}
 use Rattle.cs_base.specs.declared.fault.OrcFault.{OrcFault}
-use Rattle.cs_grammar.specs.Tree as tree
-use Rattle.cs_grammar.specs.Tree.{Definition, Statement, Block}
+use Rattle.cs_grammar.specs.{Tree.Definition, Tree.Statement, Tree.Block, declared.tree.OrcStmt.OrcStmt}
 use Rattle.cs_grammar.specs.declared.tree.Arm.{Arm, out-Arm}
-use Rattle.cs_grammar.specs.declared.tree.OrcStmt.{OrcStmt}
-use Rattle.cs_typed.specs.Places.{inside}
-use Rattle.cs_typed.specs.TypedTree as typed
-use Rattle.cs_typed.specs.declared.setting.Setting.{Setting}
+use Rattle.cs_typed.specs.{Places.inside, declared.setting.Setting.Setting, declared.tree.TypedStmt.TypedStmt}
 use Rattle.cs_typed.specs.declared.tree.TypedArm.{TypedArm, out-TypedArm}
-use Rattle.cs_typed.specs.declared.tree.TypedStmt.{TypedStmt}
-use Rattle.cs_typing.specs.Expressions.{expression_by}
-use Rattle.cs_typing.specs.Settings.{at}
-use Rattle.cs_typing.specs.Statements.{condition_fault_by}
-use Rattle.cs_typing.specs.Known.{Shared}
-use Rattle.cs_typing.specs.declared.routines.RoutineTable.{RoutineTable}
-use Rattle.cs_typing.specs.declared.routines.Site.{Site}
-use Rattle.cs_typing.specs.declared.routines.SoFar.{SoFar}
+use Rattle.cs_typing.specs.{Expressions.expression_by, Settings.at, Statements.condition_fault_by, Known.Shared}
+use Rattle.cs_typing.specs.{declared.routines.RoutineTable.RoutineTable, declared.routines.Site.Site}
+use Rattle.cs_typing.specs.{declared.routines.SoFar.SoFar, inner.Held.known_of, inner.Routines.variable_in}
 use Rattle.cs_typing.specs.declared.routines.TypedDefinition.{TypedDefinition}
-use Rattle.cs_typing.specs.inner.Held.{known_of}
 use Rattle.cs_typing.specs.inner.Listed.{Adds, AddsOver, AreTyped, IsAhead, IsLonger, IsSound, IsTyped, blocks_in}
 use Rattle.cs_typing.specs.inner.Listed.{arm_fault_in, routines_at, routines_of}
-use Rattle.cs_typing.specs.inner.Routines.{KnownInBody, Routines, block_fault_in, fault_in}
-use Rattle.cs_typing.specs.inner.Routines.{known_after}
-use Rattle.cs_typing.specs.inner.Routines.{known_after_block, no_routines, routine_of, shared_after}
-use Rattle.cs_typing.specs.inner.Routines.{typed_block_in, typed_in, arms_fault_in, known_after_arms, knows_in}
-use Rattle.cs_typing.specs.inner.Routines.{typed_arms_in, variable_in}
-use Rattle.cs_typing.proofs.Joined.{with_arms, one_more_arm}
-use Rattle.cs_typing.proofs.KnownLater.{SharedGoesOn}
-use Rattle.cs_typing.proofs.Listed.{one_more}
+use Rattle.cs_typing.specs.inner.Routines.{KnownInBody, Routines, block_fault_in, fault_in, known_after}
+use Rattle.cs_typing.specs.inner.Routines.{known_after_block, no_routines, routine_of, shared_after, typed_block_in}
+use Rattle.cs_typing.specs.inner.Routines.{typed_in, arms_fault_in, known_after_arms, knows_in, typed_arms_in}
+use Rattle.cs_typing.proofs.{Joined.with_arms, Joined.one_more_arm, KnownLater.SharedGoesOn, Listed.one_more}
 use Rattle.cs_typed.proofs.Moved.{then_again}
-use Rattle.cs_typing.proofs.RoutineSteady.{AllSteady, Apart, Steady, again_form, again_same, again_sound, all_steady}
-use Rattle.cs_typing.proofs.RoutineSteady.{definition_steady, none_steady, stmt_apart, stmt_on}
+use Rattle.cs_typing.proofs.RoutineSteady.{AllSteady, Apart, Steady, again_from, all_steady, definition_steady}
+use Rattle.cs_typing.proofs.RoutineSteady.{none_steady, stmt_apart, stmt_on}
 use Rattle.cs_udo.specs.Library.{definitions_of}
+use Rattle.cs_grammar.specs.Tree as tree
+use Rattle.cs_typed.specs.TypedTree as typed
 
 -- ---- with more that is shared
 
@@ -49,11 +36,12 @@ pub typed_later : (channels : ℕ) (ds : List Definition) (k : ℕ) (d : Definit
 typed_later channels ds k d g h it blocks a on was =
     let r = routine_of (routines_of ds k) d in
     let m : Steady r = definition_steady (routines_of ds k) (first_steady ds k) d in
+    let again = again_from r m (inside channels) g was.fault h a was.shared on in
     record {
-      fault = again_sound r m (inside channels) g was.fault h a was.shared on;
-      shared = again_same r m (inside channels) g was.fault h a was.shared on;
+      fault = again.sound;
+      shared = again.same;
       within = was.within;
-      block = again_form r m (inside channels) g was.fault h a was.shared on ∙ was.block;
+      block = again.form ∙ was.block;
       locals = was.locals;
       slots = was.slots;
     }

@@ -1,12 +1,11 @@
 -- How much is left to do where a definition is gone through at a call of it: what stands in a definition weighs less
 -- than the definitions in front of any place behind it.
-use Rattle.std.proofs.Common.{◌≡◌, ◌+◌, ◌<◌, ℕ, zero, suc, List, [], ◌∷◌, length, slice_get, take, get_or}
-use Rattle.std.proofs.Common.{Some, ap, arith}
+use Rattle.std.proofs.Common.{◌≡◌, ◌+◌, ◌<◌, ℕ, zero, suc, List, [], ◌∷◌, length, slice_get, take, get_or, Some, ap}
+use Rattle.std.proofs.Common.{arith}
 use Rattle.std.proofs.lemmas.Option.{none-some, same_Some}
 use Rattle.cs_grammar.specs.declared.tree.Arm.{Arm as Arm', out-Arm}
-use Rattle.cs_grammar.specs.declared.tree.OrcStmt.{OrcStmt}
+use Rattle.cs_grammar.specs.{declared.tree.OrcStmt.OrcStmt, Tree.Definition}
 use Rattle.cs_grammar.specs.Tree.{Statement, set, call, choose, Block, no_stmt, andthen, Arms, otherwise, arm}
-use Rattle.cs_grammar.specs.Tree.{Definition}
 use Rattle.cs_grammar.specs.Tree as tree
 
 abbrev mutual

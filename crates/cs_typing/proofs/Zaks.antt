@@ -4,9 +4,8 @@ use Rattle.std.proofs.Common.{◌++◌, Option, Some, None, ap, ◌∙◌, refl}
 use Rattle.std.specs.Option.{option_or}
 use Rattle.std.proofs.lemmas.List.{drop_more}
 use Rattle.cs_base.specs.declared.fault.OrcFault.{OrcFault}
-use Rattle.cs_typing.specs.declared.zak.Zaks.{Zaks}
+use Rattle.cs_typing.specs.{declared.zak.Zaks.Zaks, inner.Settled.after_zak, inner.Settled.after_zaks}
 use Rattle.cs_typing.specs.Settings.{at, Zak, zak_fault, zaks_fault, sizes, no_spaces, zak_spaces}
-use Rattle.cs_typing.specs.inner.Settled.{after_zak, after_zaks}
 
 -- what is left of a list, and what is left after its first
 pub dropped : {A : Type 0} (xs : List A) (i : ℕ) (x : A) → i < length xs → x ≡ get_or xs i x

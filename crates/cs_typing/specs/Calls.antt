@@ -1,30 +1,22 @@
 -- Calls of opcodes: what may be called with what, and the typed form of a call.
-use Rattle.std.specs.Prelude.{ℕ, Bool, true, not, List, [], ◌∷◌, ◌++◌, ◌&&◌, ◌||◌, ◌==◌, length, map}
-use Rattle.std.specs.Prelude.{Option, Some, None, if◌then◌else◌}
-use Rattle.std.specs.List.{list_any, list_all}
-use Rattle.cs_base.specs.Rates.{is_audio}
-use Rattle.cs_base.specs.declared.fault.OrcKind.{OrcKind}
-use Rattle.cs_base.specs.declared.fault.OrcKind.TheVariants as orc
-use Rattle.cs_base.specs.declared.resource.Rate.{Rate}
-use Rattle.cs_base.specs.declared.resource.Rate.TheVariants as rate
+use Rattle.std.specs.Prelude.{ℕ, Bool, true, not, List, [], ◌∷◌, ◌++◌, ◌&&◌, ◌||◌, ◌==◌, length, map, Option, Some}
+use Rattle.std.specs.{Prelude.None, Prelude.if◌then◌else◌, List.list_any, List.list_all}
+use Rattle.cs_base.specs.{Rates.is_audio, declared.fault.OrcKind.OrcKind, declared.resource.Rate.Rate}
 use Rattle.cs_words.specs.Catalogue.{Row, row_of, takes_count, result_count}
-use Rattle.cs_words.specs.Names.{name_rate}
-use Rattle.cs_words.specs.declared.catalogue.Letter.{Letter}
+use Rattle.cs_words.specs.{Names.name_rate, declared.catalogue.Letter.Letter, declared.catalogue.Shape.Shape}
 use Rattle.cs_words.specs.declared.catalogue.Opcode.{Opcode}
-use Rattle.cs_words.specs.declared.catalogue.Shape.{Shape}
-use Rattle.cs_words.specs.declared.catalogue.Shape.TheVariants as shape
-use Rattle.cs_grammar.specs.Tree.{Argument, value, text}
-use Rattle.cs_grammar.specs.declared.tree.Callee.{Callee}
-use Rattle.cs_grammar.specs.declared.tree.Callee.TheVariants as callee
+use Rattle.cs_grammar.specs.{Tree.Argument, Tree.value, Tree.text, declared.tree.Callee.Callee}
 use Rattle.cs_typed.specs.Calls.{sounds, stands_still, accepts, all_meet, bound_from, may_have, are_even, exceeds}
 use Rattle.cs_typed.specs.Calls.{rate_without_result, rate_of_call}
-use Rattle.cs_typed.specs.Places.{stands_outside}
-use Rattle.cs_typed.specs.declared.setting.Setting.{Setting}
+use Rattle.cs_typed.specs.{Places.stands_outside, declared.setting.Setting.Setting}
 use Rattle.cs_typing.specs.Expressions.{is_value, rate_of, reads_by, Variables, expression_by}
 use Rattle.cs_typing.specs.Known.{KnownHere, Shared, known_with, knows, given_all, use_channel, clashes, channel_of}
-use Rattle.cs_typing.specs.Known.{variable}
+use Rattle.cs_typing.specs.{Known.variable, declared.known.Channel.Channel}
+use Rattle.cs_base.specs.declared.fault.OrcKind.TheVariants as orc
+use Rattle.cs_base.specs.declared.resource.Rate.TheVariants as rate
+use Rattle.cs_words.specs.declared.catalogue.Shape.TheVariants as shape
+use Rattle.cs_grammar.specs.declared.tree.Callee.TheVariants as callee
 use Rattle.cs_typed.specs.TypedTree as typed
-use Rattle.cs_typing.specs.declared.known.Channel.{Channel}
 use Rattle.cs_typing.specs.declared.known.Channel.TheVariants as channel
 
 -- the rate of an argument: a text has none

@@ -1,16 +1,14 @@
 -- Small orchestras that are judged by the definitions, in few signs.
 use Rattle.std.specs.Prelude.{ℕ, ◌*◌, ℤ, pos, List, [], ◌∷◌, Option, Some}
-use Rattle.cs_base.specs.declared.fault.OrcFault.{OrcFault}
-use Rattle.cs_base.specs.declared.fault.OrcKind.{OrcKind}
-use Rattle.cs_words.specs.declared.catalogue.Opcode.{Opcode}
-use Rattle.cs_words.specs.declared.catalogue.Opcode.TheVariants as opcode
-use Rattle.cs_words.specs.declared.sign.BinOp.TheVariants as op
-use Rattle.cs_words.specs.declared.word.HeadName.{HeadName}
-use Rattle.cs_words.specs.declared.word.HeadName.TheVariants as head
-use Rattle.cs_grammar.specs.declared.tree.Callee.TheVariants as callee
+use Rattle.cs_base.specs.{declared.fault.OrcFault.OrcFault, declared.fault.OrcKind.OrcKind}
+use Rattle.cs_words.specs.{declared.catalogue.Opcode.Opcode, declared.word.HeadName.HeadName}
 use Rattle.cs_grammar.specs.declared.tree.HeadLine.{HeadLine}
 use Rattle.cs_grammar.specs.Tree.{Expression, number, pair, Argument, value, Statement, call, choose, Block, no_stmt}
 use Rattle.cs_grammar.specs.Tree.{andthen, otherwise, arm, Instrument, Orchestra}
+use Rattle.cs_words.specs.declared.catalogue.Opcode.TheVariants as opcode
+use Rattle.cs_words.specs.declared.sign.BinOp.TheVariants as op
+use Rattle.cs_words.specs.declared.word.HeadName.TheVariants as head
+use Rattle.cs_grammar.specs.declared.tree.Callee.TheVariants as callee
 
 -- a header line, an instrument of one number at its line, an orchestra without definitions
 abbrev pub line : ℕ → HeadName → ℤ → HeadLine

@@ -1,16 +1,13 @@
 -- Expressions: their rates, which are values and conditions, and their typed form.
 use Rattle.std.specs.Prelude.{ℕ, Bool, true, false, not, List, ◌&&◌, if◌then◌else◌}
-use Rattle.cs_base.specs.Rates.{is_control, is_audio, faster}
-use Rattle.cs_base.specs.declared.resource.Rate.{Rate}
-use Rattle.cs_base.specs.declared.resource.Rate.TheVariants as rate
-use Rattle.cs_words.specs.Names.{name_rate}
-use Rattle.cs_words.specs.Signs.{is_arithmetic, is_logic}
-use Rattle.cs_words.specs.declared.word.Func.{Func}
-use Rattle.cs_words.specs.declared.word.Func.TheVariants as func
+use Rattle.cs_base.specs.{Rates.is_control, Rates.is_audio, Rates.faster, declared.resource.Rate.Rate}
+use Rattle.cs_words.specs.{Names.name_rate, Signs.is_arithmetic, Signs.is_logic, declared.word.Func.Func}
 use Rattle.cs_grammar.specs.Tree.{Expression, number, var, field, head, neg, pair, pick, apply}
 use Rattle.cs_typing.specs.Known.{KnownHere, knows, variable}
-use Rattle.cs_typed.specs.TypedTree as typed
 use Rattle.cs_typed.specs.declared.tree.Var.{Var}
+use Rattle.cs_base.specs.declared.resource.Rate.TheVariants as rate
+use Rattle.cs_words.specs.declared.word.Func.TheVariants as func
+use Rattle.cs_typed.specs.TypedTree as typed
 
 -- the rate of a function's value: `i` of a variable is known when the note begins
 abbrev pub applied_rate : Func → Rate → Rate

@@ -1,16 +1,13 @@
 -- What is known at a place of the text: names of variables and of channels, each with its number.
 use Rattle.std.specs.Prelude.{ℕ, Bool, false, List, [], ◌∷◌, length, Option, Some, None, if◌then◌else◌}
 use Rattle.cs_base.specs.declared.per_rate.PerRate.{PerRate}
-use Rattle.cs_base.specs.Rates.{at_rate}
-use Rattle.cs_base.specs.declared.resource.Rate.{Rate}
-use Rattle.cs_base.specs.declared.resource.Rate.TheVariants as rate
-use Rattle.cs_base.specs.declared.resource.Res.{Res}
-use Rattle.cs_base.specs.declared.resource.Res.TheVariants as res
-use Rattle.cs_words.specs.Names.{name_rate, is_global}
-use Rattle.cs_words.specs.NameSets.{has, place_of, seen}
+use Rattle.cs_base.specs.{Rates.at_rate, declared.resource.Rate.Rate, declared.resource.Res.Res}
+use Rattle.cs_words.specs.{Names.name_rate, Names.is_global, NameSets.has, NameSets.place_of, NameSets.seen}
 use Rattle.cs_typing.specs.declared.known.Channel.{Channel}
-use Rattle.cs_typing.specs.declared.known.Channel.TheVariants as channel
 use Rattle.cs_typed.specs.declared.tree.Var.{Var}
+use Rattle.cs_base.specs.declared.resource.Rate.TheVariants as rate
+use Rattle.cs_base.specs.declared.resource.Res.TheVariants as res
+use Rattle.cs_typing.specs.declared.known.Channel.TheVariants as channel
 use Rattle.cs_typed.specs.declared.tree.Var.TheVariants as var
 
 -- names of variables by their rates, each list in the order in which they were first given

@@ -1,22 +1,18 @@
 -- What holds for a whole piece: header lines and `zakinit`s, the first rule that they break, and what they say.
 use Rattle.std.specs.Prelude.{ℕ, ℤ, pos, negsuc, Bool, true, false, not, List, [], ◌∷◌, ◌++◌, ◌&&◌, ◌==◌, ◌+◌, ◌*◌, ◌/◌}
 use Rattle.std.specs.Prelude.{◌%◌, nat_le, nat_lt, Option, Some, None, if◌then◌else◌}
-use Rattle.std.specs.List.{list_any, list_all}
-use Rattle.std.specs.Option.{option_or}
+use Rattle.std.specs.{List.list_any, List.list_all, Option.option_or}
 use Rattle.cs_base.specs.Limits.{greatest_sr, greatest_ksmps, most_channels, greatest_zak_size}
 use Rattle.cs_base.specs.declared.fault.OrcFault.{OrcFault}
-use Rattle.cs_base.specs.declared.fault.OrcKind.{OrcKind}
-use Rattle.cs_base.specs.declared.fault.OrcKind.TheVariants as orc
-use Rattle.cs_base.specs.declared.spaces.Spaces.{Spaces}
-use Rattle.cs_words.specs.declared.catalogue.Opcode.TheVariants as op
+use Rattle.cs_base.specs.{declared.fault.OrcKind.OrcKind, declared.spaces.Spaces.Spaces, Heads.Header}
 use Rattle.cs_words.specs.declared.word.HeadName.{HeadName}
-use Rattle.cs_words.specs.declared.word.HeadName.TheVariants as head
-use Rattle.cs_grammar.specs.declared.tree.Callee.{Callee}
-use Rattle.cs_grammar.specs.declared.tree.Callee.TheVariants as callee
-use Rattle.cs_grammar.specs.declared.tree.HeadLine.{HeadLine}
+use Rattle.cs_grammar.specs.{declared.tree.Callee.Callee, declared.tree.HeadLine.HeadLine}
 use Rattle.cs_grammar.specs.Tree.{number, Argument, value, text, Statement, set, call, choose, Block, no_stmt, andthen}
 use Rattle.cs_grammar.specs.Tree.{Arms, otherwise, arm}
-use Rattle.cs_base.specs.Heads.{Header}
+use Rattle.cs_base.specs.declared.fault.OrcKind.TheVariants as orc
+use Rattle.cs_words.specs.declared.catalogue.Opcode.TheVariants as op
+use Rattle.cs_words.specs.declared.word.HeadName.TheVariants as head
+use Rattle.cs_grammar.specs.declared.tree.Callee.TheVariants as callee
 
 -- a kind of fault at a line
 abbrev pub at : ℕ → Option OrcKind → Option OrcFault

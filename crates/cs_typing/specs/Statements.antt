@@ -1,20 +1,16 @@
 -- Statements: the first rule that they break, what is known after them, and their typed form.
 use Rattle.std.specs.Prelude.{ℕ, Bool, true, not, List, ◌&&◌, ◌||◌, Option, Some, None, if◌then◌else◌}
 use Rattle.std.specs.Option.{option_or}
-use Rattle.cs_base.specs.Rates.{is_init, within}
+use Rattle.cs_base.specs.{Rates.is_init, Rates.within, declared.fault.OrcKind.OrcKind, declared.resource.Rate.Rate}
 use Rattle.cs_base.specs.declared.fault.OrcFault.{OrcFault}
-use Rattle.cs_base.specs.declared.fault.OrcKind.{OrcKind}
-use Rattle.cs_base.specs.declared.fault.OrcKind.TheVariants as orc
-use Rattle.cs_base.specs.declared.resource.Rate.{Rate}
 use Rattle.cs_words.specs.Names.{name_rate}
 use Rattle.cs_grammar.specs.Tree.{Expression, Statement, set, call, choose, Block, no_stmt, andthen, Arms, otherwise}
 use Rattle.cs_grammar.specs.Tree.{arm}
-use Rattle.cs_typed.specs.Calls.{rate_of_choice}
-use Rattle.cs_typed.specs.declared.setting.Setting.{Setting}
-use Rattle.cs_typing.specs.Calls.{call_fault, call_known, typed_call}
+use Rattle.cs_typed.specs.{Calls.rate_of_choice, declared.setting.Setting.Setting}
+use Rattle.cs_typing.specs.{Calls.call_fault, Calls.call_known, Calls.typed_call, Settings.at}
 use Rattle.cs_typing.specs.Expressions.{is_value, is_condition, rate_of, reads_by, typed_expression}
 use Rattle.cs_typing.specs.Known.{KnownHere, knows, given, variable}
-use Rattle.cs_typing.specs.Settings.{at}
+use Rattle.cs_base.specs.declared.fault.OrcKind.TheVariants as orc
 use Rattle.cs_typed.specs.TypedTree as typed
 
 -- a value that a variable may take

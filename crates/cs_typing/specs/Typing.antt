@@ -6,7 +6,7 @@ use Rattle.cs_words.specs.Names.{is_global}
 use Rattle.cs_grammar.specs.Tree.{Statement, set, call, choose, Block, no_stmt, andthen, Arms, otherwise, arm}
 use Rattle.cs_grammar.specs.Tree.{Instrument, Orchestra}
 use Rattle.cs_typed.specs.Places.{outside, inside}
-use Rattle.cs_typing.specs.Known.{RateNames, no_names, counts_of, added, Shared, KnownHere, known_with, first_with}
+use Rattle.cs_typing.specs.Known.{RateNames, no_names, added, Shared, KnownHere, known_with, first_with}
 use Rattle.cs_typing.specs.Settings.{header, settings_fault, zaks_of_block, zak_spaces}
 use Rattle.cs_typing.specs.Statements.{block_fault, known_block, typed_block}
 use Rattle.cs_typed.specs.TypedTree as typed
@@ -108,7 +108,6 @@ abbrev pub typed_instrument : KnownHere → Instrument → typed.Instrument
 typed_instrument n i = record {
   line = i.line;
   numbers = i.numbers;
-  locals = counts_of (known_block (entered n) i.body).locals;
   body = typed_block (entered n) i.body;
 }
 
@@ -127,7 +126,6 @@ abbrev pub typed_of : Orchestra → typed.Orchestra
 typed_of o = record {
   head = header o.head;
   spaces = zak_spaces (zaks_of_block o.zero);
-  zero_locals = counts_of (known_items (first_known o) (items o.zero o.instrs)).locals;
   zero = typed_outside (first_known o) (items o.zero o.instrs);
   instrs = typed_instruments (first_known o) (items o.zero o.instrs);
   globals = shared_names (known_items (first_known o) (items o.zero o.instrs)).shared;

@@ -219,7 +219,10 @@ pub fn row_fault<'t>(
         Some(OrcKind::Undefined)
     } else if !rates_agree(setting, row, results, args) {
         Some(OrcKind::RateMismatch)
-    } else if names.clashes(channel_use(row.shape(), results, args), text_of(args)) {
+    } else if names
+        .shared
+        .clashes(channel_use(row.shape(), results, args), text_of(args))
+    {
         Some(OrcKind::ChannelRate)
     } else if is_too_wide(setting, row.shape(), args) {
         Some(OrcKind::OutCount)
@@ -314,7 +317,10 @@ fn add_argument<'t>(
             add(made, TypedArg::Value(e))
         }
         (Arg::Text(name), Some(kind)) => {
-            add(made, TypedArg::Text(names.channel(kind, name.as_slice())))
+            add(
+                made,
+                TypedArg::Text(names.shared.channel(kind, name.as_slice())),
+            )
         }
         (Arg::Text(_), None) => Ok(()),
     }
@@ -413,7 +419,7 @@ fn noted<'t, T: Drop>(
         (all_given_in (known_of names.old).locals results.now)) }
 {
     give_all(names, results)?;
-    names.use_channel(role, channel)?;
+    names.shared.use_channel(role, channel)?;
     Ok(made)
 }
 

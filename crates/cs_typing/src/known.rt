@@ -236,7 +236,7 @@ impl<'t> NamesByRate<'t> {
 
 /// What all bodies of an orchestra know alike: global variables, and the channels that were used before.
 #[derive(Drop)]
-struct Shared<'t> {
+pub struct Shared<'t> {
     globals: NamesByRate<'t>,
     control: NameSet<'t>,
     sound: NameSet<'t>,
@@ -251,8 +251,8 @@ impl<'t> Model for Shared<'t> {
 }
 
 impl<'t> Shared<'t> {
-    // Whether a channel was used before as one of the other kind.
-    fn clashes(&self, role: Option<Channel>, name: &[u8]) -> bool
+    /// Whether a channel was used before as one of the other kind.
+    pub fn clashes(&self, role: Option<Channel>, name: &[u8]) -> bool
         ensures { result ≡ clashes self.now role name.now }
     {
         match role {
@@ -262,8 +262,8 @@ impl<'t> Shared<'t> {
         }
     }
 
-    // The channel of a name; a new one has the next number.
-    fn channel(&self, kind: Channel, name: &[u8]) -> Var
+    /// The channel of a name; a new one has the next number.
+    pub fn channel(&self, kind: Channel, name: &[u8]) -> Var
         ensures { result ≡ channel_of self.now kind name.now }
     {
         match kind {
@@ -272,8 +272,8 @@ impl<'t> Shared<'t> {
         }
     }
 
-    // Notes that a channel is used, if one is.
-    fn use_channel(&mut self, role: Option<Channel>, name: &'t [u8]) -> Result<(), OutOfMemory>
+    /// Notes that a channel is used, if one is.
+    pub fn use_channel(&mut self, role: Option<Channel>, name: &'t [u8]) -> Result<(), OutOfMemory>
         ensures { OnOk result (self.new ≡ use_channel self.old role name.now) }
     {
         match role {
@@ -283,8 +283,8 @@ impl<'t> Shared<'t> {
         }
     }
 
-    // All names, copied.
-    fn copied(&self, alloc: Global) -> Result<Globals, OutOfMemory>
+    /// All names, copied.
+    pub fn copied(&self, alloc: Global) -> Result<Globals, OutOfMemory>
         ensures { IfOk result (λ made. typed.shared_names made ≡ shared_names self.now) }
     {
         let variables = self.globals.copied(alloc)?;
@@ -302,7 +302,7 @@ impl<'t> Shared<'t> {
 #[derive(Drop)]
 pub struct KnownNames<'t> {
     alloc: Global,
-    shared: Shared<'t>,
+    pub shared: Shared<'t>,
     scope: Scope<'t>,
 }
 
@@ -347,28 +347,6 @@ impl<'t> KnownNames<'t> {
         } else {
             Var::Local(rate, self.scope.number(name))
         }
-    }
-
-    /// Whether a channel was used before as one of the other kind.
-    pub fn clashes(&self, role: Option<Channel>, name: &[u8]) -> bool
-        ensures { result ≡ clashes self.now.shared role name.now }
-    {
-        self.shared.clashes(role, name)
-    }
-
-    /// The channel of a name; a new one has the next number.
-    pub fn channel(&self, kind: Channel, name: &[u8]) -> Var
-        ensures { result ≡ channel_of self.now.shared kind name.now }
-    {
-        self.shared.channel(kind, name)
-    }
-
-    /// Notes that a channel is used, if one is.
-    pub fn use_channel(&mut self, role: Option<Channel>, name: &'t [u8]) -> Result<(), OutOfMemory>
-        ensures { OnOk result (known_of self.new
-            ≡ known_in (use_channel self.old.shared role name.now) (known_of self.old).locals) }
-    {
-        self.shared.use_channel(role, name)
     }
 
     /// Notes that a variable is given: a local one is among the body's own from now on.
@@ -425,13 +403,6 @@ impl<'t> KnownNames<'t> {
         ensures { result ≡ (known_of self.now).locals.counts }
     {
         self.scope.counts()
-    }
-
-    /// The names that all bodies share, copied.
-    pub fn shared_names(&self) -> Result<Globals, OutOfMemory>
-        ensures { IfOk result (λ made. typed.shared_names made ≡ shared_names self.now.shared) }
-    {
-        self.shared.copied(self.alloc)
     }
 }
 

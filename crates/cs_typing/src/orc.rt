@@ -166,14 +166,13 @@ impl<'t> Typing<'t> {
             (made_of (blocks_in self.old.so_far.routines) self.old.made)) }
     {
         let alloc = self.so_far.names.alloc();
-        let globals = self.so_far.names.shared_names()?;
+        let globals = self.so_far.names.shared.copied(alloc)?;
         let made = replace(&mut self.made, Done::new(alloc));
         let list = replace(&mut self.so_far.routines.list, Vec::new(alloc));
         let Done { zero, instrs } = made;
         Ok(TypedOrc {
             head: settings.head,
             spaces: settings.spaces,
-            zero_locals: self.so_far.names.local_counts(),
             zero,
             instrs,
             routines: list,
@@ -230,7 +229,6 @@ fn instrument<'t>(
     Ok(TypedInstr {
         line: i.line,
         numbers,
-        locals: around.counts(),
         body,
     })
 }

@@ -1,22 +1,15 @@
 -- The names that statements give as they are written, those that a defined opcode gives at its calls among them.
-use Rattle.std.specs.Prelude.{ℕ, true, List, [], ◌∷◌, ◌++◌, ◌≡◌, length, take, slice_get, Option, Some, None}
-use Rattle.std.specs.Prelude.{if◌then◌else◌, nat_lt}
+use Rattle.std.specs.Prelude.{ℕ, true, List, [], ◌∷◌, ◌++◌, ◌≡◌, length, take, slice_get, Option, Some, None, nat_lt}
 use Rattle.std.specs.List.{All, prefix_len}
-use Rattle.std.specs.Option.{option_or}
-use Rattle.std.specs.Str.{bytes_eq}
 use Rattle.cs_words.specs.Names.{is_global}
-use Rattle.cs_grammar.specs.declared.tree.Callee.{Callee}
-use Rattle.cs_grammar.specs.declared.tree.Callee.TheVariants as callee
+use Rattle.cs_grammar.specs.{declared.tree.Callee.Callee, Tree.Definition, Tree.Instrument, Tree.block}
 use Rattle.cs_grammar.specs.Tree.{Statement, set, call, choose, Block, no_stmt, andthen, Arms, otherwise, arm}
-use Rattle.cs_grammar.specs.Tree.{Definition}
-use Rattle.cs_grammar.specs.Tree.{Instrument}
-use Rattle.cs_grammar.specs.Tree.{block}
 use Rattle.cs_grammar.specs.declared.tree.Arm.{Arm as Arm', out-Arm}
-use Rattle.cs_typing.specs.Known.{RateNames, in_table}
-use Rattle.cs_typing.specs.Typing.{given_globals}
-use Rattle.cs_typing.specs.declared.globals.Front.{Front}
+use Rattle.cs_typing.specs.{Known.RateNames, Known.in_table, Typing.given_globals, declared.globals.Front.Front}
+use Rattle.cs_typing.specs.inner.Defined.{with_item, with_items}
 use Rattle.cs_typing.specs.declared.globals.GivenGlobals.{GivenGlobals}
 use Rattle.cs_udo.specs.Library.{definitions_of}
+use Rattle.cs_grammar.specs.declared.tree.Callee.TheVariants as callee
 
 -- the names that each defined opcode gives which may be called at a place
 abbrev pub Givers : Type 0
@@ -45,13 +38,15 @@ abbrev mutual
   names_in_arms givers (otherwise b) = names_in_block givers b
   names_in_arms givers (arm c b rest) = names_in_block givers b ++ names_in_arms givers rest
 
+-- what a definition gives
+abbrev pub names_given : Givers → Definition → List (List ℕ)
+names_given givers d = names_in_block givers d.body
+
 abbrev pub with_giver : Givers → Definition → Givers
-with_giver givers d name =
-    option_or (givers name) (if bytes_eq name d.name then Some (names_in_block givers d.body) else None)
+with_giver givers d = with_item names_given givers d
 
 abbrev pub with_givers : Givers → List Definition → Givers
-with_givers givers [] = givers
-with_givers givers (d ∷ ds) = with_givers (with_giver givers d) ds
+with_givers givers ds = with_items names_given givers ds
 
 -- what the first definitions give
 abbrev pub givers_of : List Definition → ℕ → Givers

@@ -1,9 +1,6 @@
 -- What the code's tables of names say.
-use Rattle.std.specs.BTreeMap.{get_by}
-use Rattle.std.specs.Cmp.Lexicographic.{slice_cmp}
-use Rattle.std.specs.Ordering.{nat_cmp}
-use Rattle.cs_typing.specs.declared.known.KnownNames.{KnownNames}
-use Rattle.cs_typing.specs.declared.known.Scope.{Scope}
+use Rattle.std.specs.{BTreeMap.get_by, Cmp.Lexicographic.slice_cmp, Ordering.nat_cmp}
+use Rattle.cs_typing.specs.{declared.known.KnownNames.KnownNames, declared.known.Scope.Scope}
 use Rattle.cs_typing.specs.inner.Routines.{KnownInBody, Locals, known_in}
 
 -- the local variables of a body

@@ -1,34 +1,21 @@
 -- The definitions that are typed so far, each by its routine in a list.
-use Rattle.std.specs.Prelude.{ℕ, true, false, List, ◌++◌, ◌≡◌, ◌<◌, length, map, take, slice_get, Option, Some}
-use Rattle.std.specs.Prelude.{None}
-use Rattle.std.specs.Prelude.{Result, Ok, Err}
-use Rattle.std.specs.Global.{Vec}
-use Rattle.cs_base.specs.declared.fault.Or.{Or}
-use Rattle.cs_base.specs.declared.fault.Or.TheVariants as or
-use Rattle.cs_base.specs.declared.fault.OrcFault.{OrcFault}
+use Rattle.std.specs.Prelude.{ℕ, true, false, List, ◌++◌, ◌≡◌, ◌<◌, length, map, take, slice_get, Option, Some, None}
+use Rattle.std.specs.{Prelude.Result, Prelude.Ok, Prelude.Err, Global.Vec, List.All, Option.option_or}
+use Rattle.cs_base.specs.{declared.fault.Or.Or, declared.fault.OrcFault.OrcFault}
 use Rattle.cs_words.specs.NameSets.{has}
-use Rattle.std.specs.List.{All}
-use Rattle.std.specs.Option.{option_or}
-use Rattle.cs_grammar.specs.WellFormed.{WellFormedDefinition}
-use Rattle.cs_grammar.specs.declared.tree.Arm.{Arm, out-Arm}
+use Rattle.cs_grammar.specs.{WellFormed.WellFormedDefinition, declared.tree.Arm.Arm, declared.tree.Arm.out-Arm}
 use Rattle.cs_grammar.specs.Tree.{Block, Definition, arms, block, expression}
-use Rattle.cs_typed.specs.declared.setting.Setting.{Setting}
+use Rattle.cs_typed.specs.{declared.setting.Setting.Setting, Places.inside, declared.tree.TypedStmt.TypedStmt}
 use Rattle.cs_typed.specs.declared.tree.TypedArm.{TypedArm, out-TypedArm}
-use Rattle.cs_typing.specs.Expressions.{expression_by}
-use Rattle.cs_typing.specs.Settings.{at}
-use Rattle.cs_typing.specs.Statements.{condition_fault_by}
-use Rattle.cs_typed.specs.Places.{inside}
-use Rattle.cs_typed.specs.TypedTree as typed
-use Rattle.cs_typed.specs.declared.tree.TypedStmt.{TypedStmt}
+use Rattle.cs_typing.specs.{Expressions.expression_by, Settings.at, Statements.condition_fault_by}
+use Rattle.cs_typing.specs.{inner.Answers.HasFault, Known.Shared, declared.routines.RoutineTable.RoutineTable}
+use Rattle.cs_typing.specs.{declared.routines.Site.Site, declared.routines.SoFar.SoFar}
 use Rattle.cs_udo.specs.Library.{definitions_of}
-use Rattle.cs_typing.specs.Known.{Shared}
-use Rattle.cs_typing.specs.declared.routines.RoutineTable.{RoutineTable}
-use Rattle.cs_typing.specs.declared.routines.Site.{Site}
-use Rattle.cs_typing.specs.declared.routines.SoFar.{SoFar}
 use Rattle.cs_typing.specs.declared.routines.TypedDefinition.{TypedDefinition}
 use Rattle.cs_typing.specs.inner.Routines.{Routine, Routines, no_routines, with_routines, routine_of, number_in}
 use Rattle.cs_typing.specs.inner.Routines.{KnownInBody, arms_fault_in, block_fault_in, known_after_arms}
 use Rattle.cs_typing.specs.inner.Routines.{known_after_block, knows_in, typed_arms_in, typed_block_in, variable_in}
+use Rattle.cs_typed.specs.TypedTree as typed
 
 -- the routines of the first definitions
 abbrev pub routines_of : List Definition → ℕ → Routines
@@ -89,8 +76,7 @@ AddsOver t old new b =
 abbrev pub GivesBlock : RoutineTable → Result (Vec TypedStmt) (Or OrcFault) → Option OrcFault → typed.Block → Type 0
 GivesBlock t (Ok v) fault form =
     (fault ≡ None) × ((more : List typed.Block) → typed.block (blocks_in t ++ more) v.items ≡ form)
-GivesBlock t (Err (or.Fault f)) fault form = fault ≡ Some f
-GivesBlock t (Err or.OutOfMemory) fault form = Unit {0}
+GivesBlock t (Err e) fault form = HasFault e fault
 
 -- the first rule that an arm breaks
 abbrev pub arm_fault_in : Setting → Routines → KnownInBody → ℕ → Arm → Option OrcFault
@@ -108,8 +94,7 @@ GivesArm t s rs k line a (Ok x) n =
     × ((more : List typed.Block) → typed.block (blocks_in t ++ more) (out-TypedArm x).body.items
     ≡ typed_block_in rs k (block (out-Arm a).body.items))
     × (n ≡ known_after_block rs k (block (out-Arm a).body.items))
-GivesArm t s rs k line a (Err (or.Fault f)) n = arm_fault_in s rs k line a ≡ Some f
-GivesArm t s rs k line a (Err or.OutOfMemory) n = Unit {0}
+GivesArm t s rs k line a (Err e) n = HasFault e (arm_fault_in s rs k line a)
 
 -- the arms of an `if`, whatever stands after `else`; `n` is what is known after them
 abbrev pub GivesArms : RoutineTable → Setting → Routines → KnownInBody → ℕ → List Arm
@@ -119,9 +104,7 @@ GivesArms t s rs k line list (Ok made) n =
     × ((more : List typed.Block) → typed.arms (blocks_in t ++ more) (typed_block_in rs n els) made.items
     ≡ typed_arms_in rs k (arms els list))
     × (known_after_arms rs k (arms els list) ≡ known_after_block rs n els)
-GivesArms t s rs k line list (Err (or.Fault f)) n =
-    (els : Block) → arms_fault_in s rs k line (arms els list) ≡ Some f
-GivesArms t s rs k line list (Err or.OutOfMemory) n = Unit {0}
+GivesArms t s rs k line list (Err e) n = (els : Block) → HasFault e (arms_fault_in s rs k line (arms els list))
 
 -- the routine of the definition at a place
 abbrev pub routine_here : Site → ℕ → Definition → Routine

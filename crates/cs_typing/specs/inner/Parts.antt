@@ -39,7 +39,6 @@ abbrev pub instrument_in : List Definition → KnownInBody → Instrument → ty
 instrument_in ds k i = record {
   line = i.line;
   numbers = i.numbers;
-  locals = (known_after_block (routines_before i.line ds) (entered_in k) i.body).locals.counts;
   body = typed_block_in (routines_before i.line ds) (entered_in k) i.body;
 }
 
@@ -83,7 +82,6 @@ abbrev pub made_from : Told → KnownInBody → MadeParts → typed.Orchestra
 made_from t k m = record {
   head = t.head;
   spaces = t.spaces;
-  zero_locals = k.locals.counts;
   zero = m.zero;
   instrs = m.instrs;
   globals = shared_names k.shared;

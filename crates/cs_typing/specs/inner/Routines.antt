@@ -1,30 +1,23 @@
 -- The typing of statements as they are written, each definition once: what a call of a defined opcode does is its
 -- routine, which stands in its caller with its local variables behind those that the caller has so far.
 use Rattle.std.specs.Prelude.{ℕ, suc, Bool, List, [], ◌∷◌, Option, Some, None, if◌then◌else◌}
-use Rattle.std.specs.Option.{is_some, option_or, unwrap_or}
-use Rattle.std.specs.Str.{bytes_eq}
-use Rattle.cs_base.specs.Rates.{at_rate}
-use Rattle.cs_base.specs.declared.fault.OrcFault.{OrcFault}
+use Rattle.std.specs.{Option.is_some, Option.option_or, Option.unwrap_or, Str.bytes_eq}
+use Rattle.cs_base.specs.{Rates.at_rate, declared.fault.OrcFault.OrcFault, declared.resource.Rate.Rate}
 use Rattle.cs_base.specs.declared.per_rate.PerRate.{PerRate}
-use Rattle.cs_base.specs.declared.resource.Rate.{Rate}
-use Rattle.cs_base.specs.declared.resource.Rate.TheVariants as rate
 use Rattle.cs_words.specs.Names.{name_rate, is_global}
-use Rattle.cs_grammar.specs.declared.tree.Callee.{Callee}
-use Rattle.cs_grammar.specs.declared.tree.Callee.TheVariants as callee
-use Rattle.cs_grammar.specs.Tree.{var, Argument, value, Statement, set, call, choose, Block, no_stmt, andthen}
-use Rattle.cs_grammar.specs.Tree.{Arms, otherwise, arm, Definition}
+use Rattle.cs_grammar.specs.{declared.tree.Callee.Callee, Tree.otherwise, Tree.arm, Tree.Definition}
+use Rattle.cs_grammar.specs.Tree.{var, Argument, value, Statement, set, call, choose, Block, no_stmt, andthen, Arms}
 use Rattle.cs_typed.specs.TypedTree.{no_counts, counts_with, moved_variable, moved_block}
-use Rattle.cs_typed.specs.TypedTree as typed
-use Rattle.cs_typed.specs.declared.setting.Setting.{Setting}
-use Rattle.cs_typed.specs.declared.tree.Var.{Var}
-use Rattle.cs_typed.specs.declared.tree.Var.TheVariants as variant
-use Rattle.cs_udo.specs.Expanded.{before, whole_body}
-use Rattle.cs_udo.specs.Names.{slots}
+use Rattle.cs_typed.specs.{declared.setting.Setting.Setting, declared.tree.Var.Var}
+use Rattle.cs_udo.specs.{Expanded.before, Expanded.whole_body, Names.slots}
 use Rattle.cs_typing.specs.Calls.{call_fault_by, call_shared, call_by}
-use Rattle.cs_typing.specs.Expressions.{expression_by}
+use Rattle.cs_typing.specs.{Expressions.expression_by, Settings.at, inner.Defined.with_item, inner.Defined.with_items}
 use Rattle.cs_typing.specs.Known.{Shared, in_table, place_in, global}
-use Rattle.cs_typing.specs.Settings.{at}
 use Rattle.cs_typing.specs.Statements.{set_fault_by, condition_fault_by, choice_rate}
+use Rattle.cs_base.specs.declared.resource.Rate.TheVariants as rate
+use Rattle.cs_grammar.specs.declared.tree.Callee.TheVariants as callee
+use Rattle.cs_typed.specs.TypedTree as typed
+use Rattle.cs_typed.specs.declared.tree.Var.TheVariants as variant
 
 -- ---- the variables of a body
 
@@ -258,12 +251,11 @@ routine_of rs d =
 
 -- the routines after one more definition; what is defined before stays
 abbrev pub with_routine : Routines → Definition → Routines
-with_routine rs d name = option_or (rs name) (if bytes_eq name d.name then Some (routine_of rs d) else None)
+with_routine rs d = with_item routine_of rs d
 
 -- the routines after more definitions: each may call those before it
 abbrev pub with_routines : Routines → List Definition → Routines
-with_routines rs [] = rs
-with_routines rs (d ∷ ds) = with_routines (with_routine rs d) ds
+with_routines rs ds = with_items routine_of rs ds
 
 -- the routines of what is defined in front of a line
 abbrev pub routines_before : ℕ → List Definition → Routines

@@ -3,22 +3,17 @@
 use Rattle.std.specs.Prelude.{ℕ, ◌+◌, not, List, [], ◌∷◌, ◌&&◌, ◌||◌, Option, Some, None, if◌then◌else◌}
 use Rattle.std.specs.Option.{option_or}
 use Rattle.cs_base.specs.Rates.{at_rate, is_init, within}
-use Rattle.cs_base.specs.declared.fault.OrcFault.{OrcFault}
-use Rattle.cs_base.specs.declared.fault.OrcKind.{OrcKind}
-use Rattle.cs_base.specs.declared.fault.OrcKind.TheVariants as orc
+use Rattle.cs_base.specs.{declared.fault.OrcFault.OrcFault, declared.fault.OrcKind.OrcKind, declared.resource.Rate.Rate}
 use Rattle.cs_base.specs.declared.per_rate.PerRate.{PerRate}
-use Rattle.cs_base.specs.declared.resource.Rate.{Rate}
 use Rattle.cs_words.specs.Names.{name_rate}
 use Rattle.cs_grammar.specs.Tree.{Argument, value}
-use Rattle.cs_typed.specs.TypedTree as typed
 use Rattle.cs_typed.specs.declared.setting.Setting.{Setting}
-use Rattle.cs_typed.specs.declared.tree.Var.TheVariants as variant
 use Rattle.cs_udo.specs.Names.{slot}
-use Rattle.cs_typing.specs.Expressions.{expression_by}
-use Rattle.cs_typing.specs.Settings.{at}
-use Rattle.cs_typing.specs.Statements.{set_fault_by}
+use Rattle.cs_typing.specs.{Expressions.expression_by, Settings.at, Statements.set_fault_by, inner.Routines.variable_in}
 use Rattle.cs_typing.specs.inner.Routines.{Locals, counted, given_in, KnownInBody, known_in, knows_in, number_in}
-use Rattle.cs_typing.specs.inner.Routines.{variable_in}
+use Rattle.cs_base.specs.declared.fault.OrcKind.TheVariants as orc
+use Rattle.cs_typed.specs.TypedTree as typed
+use Rattle.cs_typed.specs.declared.tree.Var.TheVariants as variant
 
 -- ---- the values of `xout`
 

@@ -1,23 +1,15 @@
 -- What is made of the parts of an orchestra so far, and what calls answer of parts.
-use Rattle.std.specs.Prelude.{ℕ, List, ◌≡◌, ◌++◌, map, Option, Some, None, Result, Ok, Err}
-use Rattle.cs_base.specs.declared.fault.Or.{Or}
-use Rattle.cs_base.specs.declared.fault.Or.TheVariants as or
-use Rattle.cs_base.specs.declared.fault.OrcFault.{OrcFault}
+use Rattle.std.specs.Prelude.{ℕ, List, ◌≡◌, ◌++◌, map, Option, None, Result, Ok, Err}
+use Rattle.cs_base.specs.{declared.fault.Or.Or, declared.fault.OrcFault.OrcFault}
 use Rattle.cs_grammar.specs.Tree.{Definition, orchestra}
-use Rattle.cs_typed.specs.declared.tree.TypedInstr.{TypedInstr}
-use Rattle.cs_typed.specs.declared.tree.TypedOrc.{TypedOrc}
-use Rattle.cs_typed.specs.TypedTree as typed
-use Rattle.cs_udo.specs.Library.{definitions_of}
-use Rattle.cs_udo.specs.declared.library.Expansion.{Expansion}
-use Rattle.cs_typing.specs.Typing.{Item}
-use Rattle.cs_typing.specs.declared.orc.Done.{Done}
-use Rattle.cs_typing.specs.declared.orc.Typing.{Typing}
-use Rattle.cs_typing.specs.inner.Held.{known_of}
+use Rattle.cs_typed.specs.{declared.tree.TypedInstr.TypedInstr, declared.tree.TypedOrc.TypedOrc}
+use Rattle.cs_udo.specs.{Library.definitions_of, declared.library.Expansion.Expansion}
+use Rattle.cs_typing.specs.{Typing.Item, declared.orc.Done.Done, declared.orc.Typing.Typing, inner.Answers.HasFault}
+use Rattle.cs_typing.specs.{inner.Held.known_of, declared.routines.SoFar.SoFar, inner.Parts.nothing}
 use Rattle.cs_typing.specs.declared.routines.RoutineTable.{RoutineTable}
-use Rattle.cs_typing.specs.declared.routines.SoFar.{SoFar}
 use Rattle.cs_typing.specs.inner.Listed.{AreTyped, IsLonger, blocks_in}
 use Rattle.cs_typing.specs.inner.Parts.{MadeParts, after_parts, begun, known_behind, known_behind_all, made_with}
-use Rattle.cs_typing.specs.inner.Parts.{nothing}
+use Rattle.cs_typed.specs.TypedTree as typed
 
 -- what is made, where these are the routines
 abbrev pub made_of : List typed.Block → Done → MadeParts
@@ -43,13 +35,12 @@ pub record AddsParts (channels : ℕ) (ds : List Definition) (old new : Typing) 
   pub longer : IsLonger old.so_far.routines new.so_far.routines
   pub sound : AreSound channels ds new.so_far
 
--- An answer: what is made of an instrument, where more routines may follow, or its fault. Out of memory says nothing.
+-- An answer: what is made of an instrument, where more routines may follow, or its fault.
 abbrev pub GivesInstrument : RoutineTable → Result TypedInstr (Or OrcFault) → Option OrcFault → typed.Instrument
     → Type 0
 GivesInstrument t (Ok x) fault form =
     (fault ≡ None) × ((more : List typed.Block) → typed.instrument (blocks_in t ++ more) x ≡ form)
-GivesInstrument t (Err (or.Fault f)) fault form = fault ≡ Some f
-GivesInstrument t (Err or.OutOfMemory) fault form = Unit {0}
+GivesInstrument t (Err e) fault form = HasFault e fault
 
 -- An instrument is judged: it is known behind, and what is typed holds on.
 pub record IsBehind (channels : ℕ) (ds : List Definition) (old new : SoFar) (x : Item) : Type 0 where
@@ -57,8 +48,7 @@ pub record IsBehind (channels : ℕ) (ds : List Definition) (old new : SoFar) (x
   pub longer : IsLonger old.routines new.routines
   pub sound : AreSound channels ds new
 
--- An answer: the typed orchestra, where there is no fault, or else the fault. Out of memory says nothing.
+-- An answer: the typed orchestra, where there is no fault, or else the fault.
 abbrev pub GivesOrc : Result TypedOrc (Or OrcFault) → Option OrcFault → typed.Orchestra → Type 0
 GivesOrc (Ok x) fault form = (fault ≡ None) × (typed.orchestra x ≡ form)
-GivesOrc (Err (or.Fault f)) fault form = fault ≡ Some f
-GivesOrc (Err or.OutOfMemory) fault form = Unit {0}
+GivesOrc (Err e) fault form = HasFault e fault

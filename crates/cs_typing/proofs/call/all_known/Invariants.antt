@@ -1,8 +1,6 @@
 use Rattle.std.proofs.Common.{◌≡◌, drop, map}
 use Rattle.cs_grammar.specs.Tree.{argument}
-use Rattle.cs_typing.specs.Calls.{all_read_by}
-use Rattle.cs_typing.specs.inner.Held.{known_of}
-use Rattle.cs_typing.specs.inner.Routines.{knows_in}
+use Rattle.cs_typing.specs.{Calls.all_read_by, inner.Held.known_of, inner.Routines.knows_in}
 use Rattle.cs_typing.proofs.call.all_known.Given as goal
 
 abbrev pub invariant-loop-arg : goal.invariant-loop-arg

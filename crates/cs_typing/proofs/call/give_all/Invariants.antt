@@ -1,6 +1,5 @@
 use Rattle.std.proofs.Common.{◌≡◌, drop}
-use Rattle.cs_typing.specs.inner.Held.{known_of}
-use Rattle.cs_typing.specs.inner.Routines.{all_given_in, known_in}
+use Rattle.cs_typing.specs.{inner.Held.known_of, inner.Routines.all_given_in, inner.Routines.known_in}
 use Rattle.cs_typing.proofs.call.give_all.Given as goal
 
 abbrev pub invariant-loop-name : goal.invariant-loop-name

@@ -1,11 +1,9 @@
 use Rattle.std.proofs.Common.{◌∙◌, ◌+◌, ◌++◌, arith, drop, map, sym, ap}
 use Rattle.std.proofs.lemmas.List.{append_assoc}
 use Rattle.cs_grammar.specs.Tree.{argument}
+use Rattle.cs_typing.specs.{Calls.argument_by, Calls.arguments_by, inner.Held.known_of, inner.Routines.variable_in}
+use Rattle.cs_udo.proofs.Places.{dropped}
 use Rattle.cs_typed.specs.TypedTree as typed
-use Rattle.cs_typing.specs.Calls.{argument_by, arguments_by}
-use Rattle.cs_typing.specs.inner.Held.{known_of}
-use Rattle.cs_typing.specs.inner.Routines.{variable_in}
-use Rattle.cs_typing.proofs.Answers.{dropped}
 use Rattle.cs_typing.proofs.call.typed_arguments.Goals as goal
 
 pub loop-arg-preserved : goal.loop-arg-preserved

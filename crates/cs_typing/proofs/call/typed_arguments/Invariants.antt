@@ -1,8 +1,6 @@
 use Rattle.std.proofs.Common.{◌≡◌, ◌++◌, drop, map}
 use Rattle.cs_grammar.specs.Tree.{argument}
-use Rattle.cs_typing.specs.Calls.{arguments_by}
-use Rattle.cs_typing.specs.inner.Held.{known_of}
-use Rattle.cs_typing.specs.inner.Routines.{variable_in}
+use Rattle.cs_typing.specs.{Calls.arguments_by, inner.Held.known_of, inner.Routines.variable_in}
 use Rattle.cs_typed.specs.TypedTree as typed
 use Rattle.cs_typing.proofs.call.typed_arguments.Given as goal
 

@@ -1,6 +1,5 @@
 use Rattle.std.proofs.Common.{◌≡◌, ◌++◌, drop, map}
-use Rattle.cs_typing.specs.inner.Held.{known_of}
-use Rattle.cs_typing.specs.inner.Routines.{variable_in}
+use Rattle.cs_typing.specs.{inner.Held.known_of, inner.Routines.variable_in}
 use Rattle.cs_typing.proofs.call.variables.Given as goal
 
 abbrev pub invariant-loop-name : goal.invariant-loop-name

@@ -1,24 +1,19 @@
 use Rattle.std.proofs.Common.{◌≡◌, ◌∙◌, ◌+◌, ◌++◌, ◌<◌, arith, drop, length, rules, OnOk, Some, refl, sym, ap, subst}
 use Rattle.std.proofs.Common.{List}
-use Rattle.std.proofs.lemmas.List.{drop_all}
-use Rattle.std.proofs.lemmas.Option.{slice_get_read, slice_get_within}
-use Rattle.cs_grammar.specs.Tree as tree
-use Rattle.cs_grammar.specs.declared.tree.Arm.{out-Arm}
-use Rattle.cs_grammar.specs.declared.tree.OrcStmt.{OrcStmt}
+use Rattle.std.proofs.lemmas.{List.drop_all, Option.slice_get_read, Option.slice_get_within}
+use Rattle.cs_grammar.specs.{declared.tree.Arm.out-Arm, declared.tree.OrcStmt.OrcStmt}
 use Rattle.cs_grammar.specs.declared.tree.StmtWhat.TheViews.{the_lemmas}
 use Rattle.cs_grammar.proofs.Rows.{block_is, arms_is}
-use Rattle.cs_typing.specs.Typing.{given_globals}
-use Rattle.cs_typing.specs.declared.globals.Front.{Front}
+use Rattle.cs_typing.specs.{Typing.given_globals, declared.globals.Front.Front}
 use Rattle.cs_typing.specs.declared.globals.GivenGlobals.{GivenGlobals}
-use Rattle.cs_typing.specs.inner.Globals.{Looks, called_names, givers_in, names_in, names_in_block}
-use Rattle.cs_typing.specs.inner.Globals.{names_in_bodies}
-use Rattle.cs_typing.proofs.Answers.{dropped, on_ok}
+use Rattle.cs_typing.specs.inner.Globals.{Looks, called_names, givers_in, names_in, names_in_block, names_in_bodies}
+use Rattle.cs_typing.proofs.{Answers.on_ok, GlobalsWritten.given_both, Weights.weight_of_bodies}
+use Rattle.cs_udo.proofs.Places.{dropped}
 use Rattle.cs_typing.proofs.GlobalsFound.{arms_names, done_at, looks_again, looks_both, looks_first, looks_given}
 use Rattle.cs_typing.proofs.GlobalsFound.{looks_unfound}
-use Rattle.cs_typing.proofs.GlobalsWritten.{given_both}
 use Rattle.cs_typing.proofs.Weights.{stmt_lighter, arm_lighter, arms_weigh, lighter, weight, weight_of}
-use Rattle.cs_typing.proofs.Weights.{weight_of_bodies}
 use Rattle.cs_udo.specs.Library.{definitions_of}
+use Rattle.cs_grammar.specs.Tree as tree
 use Rattle.cs_typing.proofs.globals.+globals.Goals as goal
 
 -- ---- what is called

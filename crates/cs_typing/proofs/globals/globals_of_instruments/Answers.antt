@@ -1,12 +1,11 @@
 use Rattle.std.proofs.Common.{◌∙◌, ◌+◌, ◌∷◌, arith, drop, map, sym, ap}
-use Rattle.std.specs.List.{prefix_len}
-use Rattle.std.specs.Prelude.{nat_lt}
+use Rattle.std.specs.{List.prefix_len, Prelude.nat_lt}
 use Rattle.std.proofs.lemmas.List.{drop_more}
-use Rattle.cs_grammar.specs.Tree as tree
 use Rattle.cs_typing.specs.Typing.{given_globals}
 use Rattle.cs_typing.specs.inner.Globals.{givers_of, names_in_block, names_in_instruments}
 use Rattle.cs_typing.proofs.GlobalsWritten.{given_both}
 use Rattle.cs_udo.specs.Library.{definitions_of}
+use Rattle.cs_grammar.specs.Tree as tree
 use Rattle.cs_typing.proofs.globals.globals_of_instruments.Goals as goal
 
 pub loop-i-preserved : goal.loop-i-preserved

@@ -1,8 +1,7 @@
 use Rattle.std.proofs.Common.{◌≡◌, drop, map}
-use Rattle.cs_grammar.specs.Tree as tree
-use Rattle.cs_typing.specs.Typing.{given_globals}
-use Rattle.cs_typing.specs.inner.Globals.{IsDone, names_in_instruments}
+use Rattle.cs_typing.specs.{Typing.given_globals, inner.Globals.IsDone, inner.Globals.names_in_instruments}
 use Rattle.cs_udo.specs.Library.{definitions_of}
+use Rattle.cs_grammar.specs.Tree as tree
 use Rattle.cs_typing.proofs.globals.globals_of_instruments.Given as goal
 
 abbrev pub invariant-loop-i : goal.invariant-loop-i

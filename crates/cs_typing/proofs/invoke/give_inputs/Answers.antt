@@ -1,47 +1,33 @@
-use Rattle.std.proofs.Common.{◌≡◌, ◌∙◌, ◌+◌, ◌<◌, ℕ, List, Option, None, get_or, length, arith}
-use Rattle.std.proofs.Common.{refl, sym, ap}
+use Rattle.std.proofs.Common.{◌≡◌, ◌∙◌, ◌+◌, ◌<◌, ℕ, List, None, get_or, length, arith, refl, sym, ap}
 use Rattle.cs_base.specs.Rates.{at_rate}
-use Rattle.cs_base.specs.declared.fault.OrcFault.{OrcFault}
 use Rattle.cs_grammar.specs.Tree.{expression}
-use Rattle.cs_typed.specs.TypedTree as typed
 use Rattle.cs_typed.specs.declared.tree.Var.TheVariants.{Local}
 use Rattle.cs_words.specs.Names.{name_rate}
-use Rattle.cs_typing.specs.Expressions.{expression_by}
-use Rattle.cs_typing.specs.Settings.{at}
-use Rattle.cs_typing.specs.Statements.{set_fault_by}
+use Rattle.cs_typing.specs.{Expressions.expression_by, Settings.at, Statements.set_fault_by, inner.Listed.Adds}
 use Rattle.cs_typing.specs.inner.Held.{known_of, locals_of}
-use Rattle.cs_typing.specs.inner.Listed.{Adds}
-use Rattle.cs_typing.specs.inner.Routines.{inputs_fault, knows_in, number_in, variable_in}
-use Rattle.cs_typing.specs.inner.Slots.{given_set}
-use Rattle.cs_typing.proofs.Beside.{at_end, at_word, both_next, fault_next, given_ends, in_both, inputs_fault_ends}
-use Rattle.cs_typing.proofs.Beside.{made_next, none_left, past_both}
+use Rattle.cs_typing.specs.inner.Routines.{knows_in, number_in, variable_in}
+use Rattle.cs_typing.proofs.Beside.{InputsMade, at_end, at_word, both_next, fault_next, in_both, inputs_end}
+use Rattle.cs_typing.proofs.Beside.{inputs_made, made_next, none_left, past_both}
 use Rattle.cs_typing.proofs.Walked.{one_added_always}
+use Rattle.cs_typed.specs.TypedTree as typed
 use Rattle.cs_typing.proofs.invoke.give_inputs.Goals as goal
 
-pub returns-in-Text-clause-fault : goal.returns-in-Text-clause-fault
-returns-in-Text-clause-fault c =
+pub returns-in-Text : goal.returns-in-Text
+returns-in-Text c =
     let it = c.args.it.now in
-    let k = known_of c.args.names.now in
-    let low = in_both it.definition.now.names it.args.now c.loop-i.i c.min-i-end.ensures c.as_slice-list.ensures refl
-    (omega (arith, c.loop-i-test.true)) in
-    sym c.loop-i.invariant.0
-    ∙ at_word (List ℕ) (Option OrcFault) (inputs_fault c.args.setting k it.line) None
-    (inputs_fault_ends c.args.setting k it.line) it.definition.now.names it.args.now c.loop-i.i c.index-it-i.result _
-    (omega (arith, low)) c.index-it-i.is
-    (c.index-it-i.is ∙ c.in-Text.is)
-
-pub returns-in-Text-clause-made : goal.returns-in-Text-clause-made
-returns-in-Text-clause-made c =
-    let it = c.args.it.now in
+    let s = c.args.setting in
     let k = known_of c.args.names.now in
     let first = locals_of c.args.inputs.now in
-    let low = in_both it.definition.now.names it.args.now c.loop-i.i c.min-i-end.ensures c.as_slice-list.ensures refl
+    let names = it.definition.now.names in
+    let low = in_both names it.args.now c.loop-i.i c.min-i-end.ensures c.as_slice-list.ensures refl
     (omega (arith, c.loop-i-test.true)) in
-    λ rs. none_left rs c.loop-i.done.items _ _
-    (at_word (List ℕ) typed.Block (given_set k first it.line) typed.no_stmt (given_ends k first it.line)
-    it.definition.now.names it.args.now c.loop-i.i c.index-it-i.result _ (omega (arith, low)) c.index-it-i.is
-    (c.index-it-i.is ∙ c.in-Text.is))
-    (c.loop-i.invariant.1 rs)
+    let none = at_word (List ℕ) InputsMade (inputs_made s k first it.line) (None, typed.no_stmt)
+    (inputs_end s k first it.line) names it.args.now c.loop-i.i c.index-it-i.result _
+    (omega (arith, low)) c.index-it-i.is (c.index-it-i.is ∙ c.in-Text.is) in
+    record {
+      fault = sym c.loop-i.invariant.0 ∙ ap (λ x. x.0) none;
+      made = λ rs. none_left rs c.loop-i.done.items _ _ (ap (λ x. x.1) none) (c.loop-i.invariant.1 rs);
+    }
 
 pub loop-i-preserved : goal.loop-i-preserved
 loop-i-preserved c =
@@ -69,6 +55,8 @@ loop-i-preserved c =
     c.in_ok-to-in-Value.ensures.var ∙ λ j. Local (rate j) (at_rate (c.requires j) (rate j) + number j) in
     let value = expression_by (variable_in k) (expression e) in
     let made = c.in_ok-set-in-Value.ensures x (sym rate_is) in
+    let next = both_next (inputs_made s k first it.line) names args i x a e front here back c.index-it-i.is
+    (c.index-it-i.is ∙ c.in-Value.is) in
     let form : typed.Statement =
     typed.set it.line (name_rate x) (Local (name_rate x) (at_rate k.locals.counts (name_rate x) + number_in first x))
     value in
@@ -77,36 +65,23 @@ loop-i-preserved c =
     one_added_always c.loop-i.done.items c.add.new.list.items c.in_ok-set-in-Value.field-0
     (typed.set it.line to.rate to.var value) c.in_ok-add-in-Value.ensures made.1 in (
       fault_next (at it.line (set_fault_by s (knows_in k) x (expression e))) _ _ _
-          (both_next (inputs_fault s k it.line) names args i x a e front here back c.index-it-i.is
-          (c.index-it-i.is ∙ c.in-Value.is))
-          made.0 c.loop-i.invariant.0,
+          (ap (λ x. x.0) next) made.0 c.loop-i.invariant.0,
       λ rs. made_next rs c.loop-i.done.items c.add.new.list.items (typed.set it.line to.rate to.var value) form _ _ _
-          added same
-          (both_next (given_set k first it.line) names args i x a e front here back c.index-it-i.is
-          (c.index-it-i.is ∙ c.in-Value.is))
-          (c.loop-i.invariant.1 rs),
+          added same (ap (λ x. x.1) next) (c.loop-i.invariant.1 rs),
     )
 
-pub returns-clause-fault : goal.returns-clause-fault
-returns-clause-fault c =
+pub returns : goal.returns
+returns c =
     let it = c.args.it.now in
-    let k = known_of c.args.names.now in
-    let past = past_both it.definition.now.names it.args.now c.loop-i.i c.min-i-end.ensures c.as_slice-list.ensures refl
-    (omega (arith, c.loop-i-test.false)) in
-    sym c.loop-i.invariant.0
-    ∙ at_end (List ℕ) (Option OrcFault) (inputs_fault c.args.setting k it.line) None
-    (inputs_fault_ends c.args.setting k it.line) it.definition.now.names it.args.now c.loop-i.i
-    past
-
-pub returns-clause-made : goal.returns-clause-made
-returns-clause-made c =
-    let it = c.args.it.now in
+    let s = c.args.setting in
     let k = known_of c.args.names.now in
     let first = locals_of c.args.inputs.now in
-    let past = past_both it.definition.now.names it.args.now c.loop-i.i c.min-i-end.ensures c.as_slice-list.ensures refl
+    let names = it.definition.now.names in
+    let past = past_both names it.args.now c.loop-i.i c.min-i-end.ensures c.as_slice-list.ensures refl
     (omega (arith, c.loop-i-test.false)) in
-    λ rs. none_left rs c.loop-i.done.items _ _
-    (at_end (List ℕ) typed.Block (given_set k first it.line) typed.no_stmt (given_ends k first it.line)
-    it.definition.now.names it.args.now c.loop-i.i
-    past)
-    (c.loop-i.invariant.1 rs)
+    let none = at_end (List ℕ) InputsMade (inputs_made s k first it.line) (None, typed.no_stmt)
+    (inputs_end s k first it.line) names it.args.now c.loop-i.i past in
+    record {
+      fault = sym c.loop-i.invariant.0 ∙ ap (λ x. x.0) none;
+      made = λ rs. none_left rs c.loop-i.done.items _ _ (ap (λ x. x.1) none) (c.loop-i.invariant.1 rs);
+    }

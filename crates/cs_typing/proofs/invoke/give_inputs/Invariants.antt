@@ -1,9 +1,8 @@
 use Rattle.std.proofs.Common.{◌≡◌, List, drop, map}
 use Rattle.cs_grammar.specs.Tree.{argument}
-use Rattle.cs_typed.specs.TypedTree as typed
 use Rattle.cs_typing.specs.inner.Held.{known_of, locals_of}
-use Rattle.cs_typing.specs.inner.Routines.{inputs_fault}
-use Rattle.cs_typing.specs.inner.Slots.{given_set}
+use Rattle.cs_typing.specs.{inner.Routines.inputs_fault, inner.Slots.given_set}
+use Rattle.cs_typed.specs.TypedTree as typed
 use Rattle.cs_typing.proofs.invoke.give_inputs.Given as goal
 
 -- the rest says what the whole says

@@ -1,22 +1,18 @@
-use Rattle.std.proofs.Common.{◌≡◌, ◌∙◌, ◌+◌, ◌<◌, ◌≤◌, List, [], ◌∷◌, drop, get_or, length, arith, sym, ap}
-use Rattle.std.proofs.Common.{subst, Vec}
+use Rattle.std.proofs.Common.{◌≡◌, ◌∙◌, ◌+◌, ◌<◌, ◌≤◌, List, [], ◌∷◌, drop, get_or, length, arith, sym, ap, subst, Vec}
 use Rattle.std.proofs.Common.{Global}
 use Rattle.std.proofs.lemmas.List.{drop_all, drop_more}
 use Rattle.cs_base.specs.Rates.{at_rate}
-use Rattle.cs_typed.specs.TypedTree as typed
-use Rattle.cs_typed.specs.declared.tree.TypedStmt.{TypedStmt}
-use Rattle.cs_typed.specs.declared.tree.Var.TheVariants.{Local}
+use Rattle.cs_typed.specs.{declared.tree.TypedStmt.TypedStmt, declared.tree.Var.TheVariants.Local}
 use Rattle.cs_words.specs.Names.{name_rate}
-use Rattle.cs_typing.specs.Settings.{at}
-use Rattle.cs_typing.specs.inner.Held.{known_of}
-use Rattle.cs_typing.specs.inner.Listed.{Adds}
+use Rattle.cs_typing.specs.{Settings.at, inner.Held.known_of, inner.Listed.Adds}
 use Rattle.cs_typing.specs.inner.Routines.{all_given_in, given_in, known_in, variable_in}
 use Rattle.cs_typing.specs.inner.Slots.{taken_fault, taken_kind, taken_set}
-use Rattle.cs_typing.proofs.Answers.{dropped}
+use Rattle.cs_udo.proofs.Places.{dropped}
 use Rattle.cs_typing.proofs.Beside.{none_left, none_taken, one_taken, shifted}
 use Rattle.cs_typing.proofs.Walked.{one_added_always}
-use Rattle.cs_typing.proofs.invoke.give_results.Goals as goal
 use Rattle.cs_typing.proofs.invoke.give_results.Goals.{then-i-rates+in_ok-from+in_ok-taken+in_ok-add, else-i-rates}
+use Rattle.cs_typed.specs.TypedTree as typed
+use Rattle.cs_typing.proofs.invoke.give_results.Goals as goal
 
 pub loop-i-preserved : goal.loop-i-preserved
 loop-i-preserved c =

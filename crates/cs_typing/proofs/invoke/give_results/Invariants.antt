@@ -1,8 +1,7 @@
 use Rattle.std.proofs.Common.{◌≡◌, List, drop}
-use Rattle.cs_typed.specs.TypedTree as typed
-use Rattle.cs_typing.specs.inner.Held.{known_of}
+use Rattle.cs_typing.specs.{inner.Held.known_of, inner.Slots.taken_fault, inner.Slots.taken_set}
 use Rattle.cs_typing.specs.inner.Routines.{all_given_in, known_in}
-use Rattle.cs_typing.specs.inner.Slots.{taken_fault, taken_set}
+use Rattle.cs_typed.specs.TypedTree as typed
 use Rattle.cs_typing.proofs.invoke.give_results.Given as goal
 
 -- the rest says what the whole says

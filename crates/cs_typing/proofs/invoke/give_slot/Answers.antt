@@ -1,30 +1,20 @@
-use Rattle.std.proofs.Common.{◌≡◌, ◌∙◌, Err, ap}
+use Rattle.std.proofs.Common.{◌≡◌, ◌∙◌, ap}
 use Rattle.cs_base.specs.Rates.{at_rate}
 use Rattle.cs_grammar.specs.Tree.{expression}
-use Rattle.cs_typed.specs.TypedTree as typed
 use Rattle.cs_typed.specs.declared.tree.Var.TheVariants.{Local}
 use Rattle.cs_udo.specs.Names.{slot}
 use Rattle.cs_udo.proofs.Fresh.{slot_rate}
-use Rattle.cs_typing.specs.Expressions.{expression_by}
-use Rattle.cs_typing.specs.Settings.{at}
-use Rattle.cs_typing.specs.Statements.{set_fault_by}
-use Rattle.cs_typing.specs.inner.Answers.{GivesOne, Judged}
-use Rattle.cs_typing.specs.inner.Held.{known_of}
-use Rattle.cs_typing.specs.inner.Routines.{knows_in, variable_in}
-use Rattle.cs_typing.proofs.Answers.{failed}
-use Rattle.cs_typing.proofs.Walked.{one_added_always}
+use Rattle.cs_typing.specs.{Expressions.expression_by, Settings.at, Statements.set_fault_by, inner.Answers.Judged}
+use Rattle.cs_typing.specs.{inner.Held.known_of, inner.Routines.knows_in, inner.Routines.variable_in}
+use Rattle.cs_typing.proofs.{Answers.failed, Walked.one_added_always}
+use Rattle.cs_typed.specs.TypedTree as typed
 use Rattle.cs_typing.proofs.invoke.give_slot.Goals as goal
 
 pub returns-in_err-set-clause-fault : goal.returns-in_err-set-clause-fault
 returns-in_err-set-clause-fault c =
-    let k = known_of c.args.names.now in
-    let e = expression c.args.e.now in
-    let f = at c.args.line (set_fault_by c.args.setting (knows_in k) (slot 0 c.args.rate) e) in
-    failed (λ r. Judged r f)
-    (λ y. GivesOne (Err y) f
-    (typed.set c.args.line c.args.rate (Local c.args.rate c.of.result) (expression_by (variable_in k) e)))
-    c.from_residual.result _ c.from_residual.ensures.1
-    (c.in_err-set.ensures (slot 0 c.args.rate) (slot_rate 0 c.args.rate)) (λ g h. h) tt
+    failed (λ r. Judged r (at c.args.line (set_fault_by c.args.setting (knows_in (known_of c.args.names.now))
+    (slot 0 c.args.rate) (expression c.args.e.now)))) c.from_residual.result _ c.from_residual.ensures.1
+    (c.in_err-set.ensures (slot 0 c.args.rate) (slot_rate 0 c.args.rate))
 
 pub returns-clause-fault : goal.returns-clause-fault
 returns-clause-fault c = (c.in_ok-set.ensures (slot 0 c.args.rate) (slot_rate 0 c.args.rate)).0

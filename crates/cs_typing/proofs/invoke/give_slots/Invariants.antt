@@ -1,9 +1,8 @@
 use Rattle.std.proofs.Common.{◌≡◌, ◌++◌, List, drop, map}
 use Rattle.cs_grammar.specs.Tree.{argument}
-use Rattle.cs_typed.specs.TypedTree as typed
-use Rattle.cs_typing.specs.inner.Held.{known_of}
-use Rattle.cs_typing.specs.inner.Routines.{known_in}
+use Rattle.cs_typing.specs.{inner.Held.known_of, inner.Routines.known_in}
 use Rattle.cs_typing.specs.inner.Slots.{slot_numbers, slots_fault, slots_past, slots_set}
+use Rattle.cs_typed.specs.TypedTree as typed
 use Rattle.cs_typing.proofs.invoke.give_slots.Given as goal
 
 -- the rest says what the whole says

@@ -1,6 +1,5 @@
 use Rattle.std.proofs.Common.{◌≡◌, drop}
-use Rattle.cs_typing.specs.inner.Held.{locals_of}
-use Rattle.cs_typing.specs.inner.Routines.{all_given_in, no_locals}
+use Rattle.cs_typing.specs.{inner.Held.locals_of, inner.Routines.all_given_in, inner.Routines.no_locals}
 use Rattle.cs_typing.proofs.invoke.inputs_of.Given as goal
 
 abbrev pub invariant-loop-name : goal.invariant-loop-name

@@ -1,15 +1,14 @@
 use Rattle.std.proofs.Common.{◌≡◌, ◌+◌, ◌++◌, List, drop}
-use Rattle.cs_grammar.specs.Tree as tree
 use Rattle.cs_grammar.specs.declared.tree.Arm.{out-Arm}
-use Rattle.cs_typed.specs.TypedTree as typed
-use Rattle.cs_typing.specs.inner.Held.{known_of}
+use Rattle.cs_typing.specs.{inner.Held.known_of, inner.Routines.typed_arms_in, inner.Routines.typed_block_in}
 use Rattle.cs_typing.specs.inner.Listed.{IsAhead, blocks_in, routines_at}
 use Rattle.cs_typing.specs.inner.Routines.{arms_fault_in, block_fault_in, known_after_arms, known_after_block}
-use Rattle.cs_typing.specs.inner.Routines.{typed_arms_in, typed_block_in}
 use Rattle.cs_typing.proofs.Joined.{with_arms}
 use Rattle.cs_typing.proofs.Weights.{weight, weight_before, weight_of, weight_of_bodies}
-use Rattle.cs_typing.proofs.stmt.+typing.Given as goal
 use Rattle.cs_udo.specs.Library.{definitions_of}
+use Rattle.cs_grammar.specs.Tree as tree
+use Rattle.cs_typed.specs.TypedTree as typed
+use Rattle.cs_typing.proofs.stmt.+typing.Given as goal
 
 -- a definition weighs less than those in front of the place of its call
 abbrev pub decreases-stmt : goal.decreases-stmt

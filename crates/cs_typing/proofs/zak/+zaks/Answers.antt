@@ -1,11 +1,9 @@
 use Rattle.std.proofs.Common.{◌≡◌, ◌∙◌, ◌+◌, arith, drop, rules, sym, ap}
-use Rattle.cs_grammar.specs.Tree as tree
-use Rattle.cs_grammar.specs.declared.tree.Arm.{out-Arm}
-use Rattle.cs_grammar.specs.declared.tree.StmtWhat.TheViews.{the_lemmas}
+use Rattle.cs_grammar.specs.{declared.tree.Arm.out-Arm, declared.tree.StmtWhat.TheViews.the_lemmas}
 use Rattle.cs_grammar.proofs.Rows.{block_is, arms_is}
-use Rattle.cs_typing.specs.Settings.{zaks, zaks_of_block, zaks_of_arms}
-use Rattle.cs_typing.specs.inner.Settled.{after_zaks}
+use Rattle.cs_typing.specs.{Settings.zaks, Settings.zaks_of_block, Settings.zaks_of_arms, inner.Settled.after_zaks}
 use Rattle.cs_typing.proofs.Zaks.{after_both, dropped}
+use Rattle.cs_grammar.specs.Tree as tree
 use Rattle.cs_typing.proofs.zak.+zaks.Goals as goal
 
 pub after_stmt-returns-in-Choose : goal.after_stmt-returns-in-Choose

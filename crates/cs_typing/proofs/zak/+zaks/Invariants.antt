@@ -1,7 +1,6 @@
 use Rattle.std.proofs.Common.{◌≡◌, drop}
+use Rattle.cs_typing.specs.{Settings.zaks_of_block, Settings.zaks_of_arms, inner.Settled.after_zaks}
 use Rattle.cs_grammar.specs.Tree as tree
-use Rattle.cs_typing.specs.Settings.{zaks_of_block, zaks_of_arms}
-use Rattle.cs_typing.specs.inner.Settled.{after_zaks}
 use Rattle.cs_typing.proofs.zak.+zaks.Given as goal
 
 -- the rest tells what the whole tells

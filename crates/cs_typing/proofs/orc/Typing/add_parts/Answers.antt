@@ -1,16 +1,12 @@
-use Rattle.std.proofs.Common.{◌∙◌, ◌+◌, [], ◌∷◌, arith, drop, map, sym, ap, subst, Err}
+use Rattle.std.proofs.Common.{◌∙◌, ◌+◌, [], ◌∷◌, arith, drop, map, sym, ap, subst}
 use Rattle.std.proofs.lemmas.List.{drop_all}
-use Rattle.cs_grammar.specs.Tree as tree
-use Rattle.cs_typing.specs.Typing.{alone, body, items}
-use Rattle.cs_typing.specs.inner.Answers.{Judged}
-use Rattle.cs_typing.specs.inner.Held.{known_of}
-use Rattle.cs_typing.specs.inner.Parts.{part_fault, parts_fault}
-use Rattle.cs_typing.specs.inner.Walk.{AddsParts}
-use Rattle.cs_typing.proofs.Answers.{failed, on_ok}
-use Rattle.cs_typing.proofs.Cut.{cut, last}
+use Rattle.cs_typing.specs.{Typing.alone, Typing.body, Typing.items, inner.Answers.Judged, inner.Held.known_of}
+use Rattle.cs_typing.specs.{inner.Parts.part_fault, inner.Parts.parts_fault, inner.Walk.AddsParts}
+use Rattle.cs_typing.proofs.{Answers.failed, Answers.fault_on, Answers.on_ok, Cut.cut, Cut.last}
 use Rattle.cs_typing.proofs.PartsAdded.{adds_both, fault_alone, fault_first, fault_next}
-use Rattle.cs_typing.proofs.orc.Typing.add_parts.Goals as goal
 use Rattle.cs_udo.specs.Library.{definitions_of}
+use Rattle.cs_grammar.specs.Tree as tree
+use Rattle.cs_typing.proofs.orc.Typing.add_parts.Goals as goal
 
 pub returns-in_err-add_outside-clause-fault : goal.returns-in_err-add_outside-clause-fault
 returns-in_err-add_outside-clause-fault c =
@@ -26,11 +22,10 @@ returns-in_err-add_outside-clause-fault c =
     let first = alone (tree.block front) in
     failed (λ r. Judged r (parts_fault ch ds (known_of c.args.self.now.so_far.names)
     (items (tree.block c.args.outside.now) (map tree.instrument c.args.instrs.now))))
-    (λ e. Judged {T = Unit {0}} (Err e) (part_fault ch ds k first))
-    c.from_residual.result _ c.from_residual.ensures.1 c.in_err-add_outside.ensures.fault
+    c.from_residual.result _ c.from_residual.ensures.1
+    (fault_on _ (part_fault ch ds k first) _ c.in_err-add_outside.ensures.fault
     (λ f h. sym c.loop-i.invariant.0 ∙ ap (parts_fault ch ds k) parts
-    ∙ fault_first ch ds k first (body (tree.instrument i) ∷ items (tree.block back) (map tree.instrument rest)) f h)
-    tt
+    ∙ fault_first ch ds k first (body (tree.instrument i) ∷ items (tree.block back) (map tree.instrument rest)) f h))
 
 pub returns-in_err-add_instrument-clause-fault : goal.returns-in_err-add_instrument-clause-fault
 returns-in_err-add_instrument-clause-fault c =
@@ -50,13 +45,11 @@ returns-in_err-add_instrument-clause-fault c =
     let added = c.in_ok-add_outside.ensures in
     failed (λ r. Judged r (parts_fault ch ds (known_of c.args.self.now.so_far.names)
     (items (tree.block c.args.outside.now) (map tree.instrument c.args.instrs.now))))
-    (λ e. Judged {T = Unit {0}} (Err e) (part_fault ch ds mid next))
     c.from_residual-in_err-add_instrument.result _ c.from_residual-in_err-add_instrument.ensures.1
-    c.in_err-add_instrument.ensures.fault
+    (fault_on _ (part_fault ch ds mid next) _ c.in_err-add_instrument.ensures.fault
     (λ f h. sym c.loop-i.invariant.0 ∙ ap (parts_fault ch ds k) parts
     ∙ sym (fault_next ch ds k mid first (next ∷ more) added.fault added.adds.known)
-    ∙ fault_first ch ds mid next more f h)
-    tt
+    ∙ fault_first ch ds mid next more f h))
 
 pub loop-i-preserved : goal.loop-i-preserved
 loop-i-preserved c =
@@ -89,24 +82,18 @@ loop-i-preserved c =
       two.adds.sound,
     )
 
-pub returns-clause-fault : goal.returns-clause-fault
-returns-clause-fault c =
+pub returns : goal.returns
+returns c =
     let ch = c.args.channels in
     let ds = definitions_of c.args.library.now in
     let k = known_of c.loop-i.self.so_far.names in
-    let part = alone (tree.block c.loop-i.rest.now) in
     let parts = last c.loop-i.rest.now (drop c.loop-i.i-index c.args.instrs.now)
     (drop_all c.loop-i.i-index c.args.instrs.now (omega arith)) in
-    subst (λ f. Judged c.add_outside-2.result f)
-    (sym (fault_alone ch ds k part) ∙ sym (ap (parts_fault ch ds k) parts) ∙ c.loop-i.invariant.0)
-    c.add_outside-2.ensures.fault
-
-pub returns-clause-adds : goal.returns-clause-adds
-returns-clause-adds c =
-    let ch = c.args.channels in
-    let ds = definitions_of c.args.library.now in
-    let parts = last c.loop-i.rest.now (drop c.loop-i.i-index c.args.instrs.now)
-    (drop_all c.loop-i.i-index c.args.instrs.now (omega arith)) in
-    on_ok c.add_outside-2.result c.add_outside-2.ensures.adds
-    (λ h. c.loop-i.invariant.1 c.add_outside-2.new.self
-    (subst (λ xs. AddsParts ch ds c.loop-i.self c.add_outside-2.new.self xs) (sym parts) h))
+    record {
+      fault = subst (λ f. Judged c.add_outside-2.result f)
+          (sym (fault_alone ch ds k (alone (tree.block c.loop-i.rest.now))) ∙ sym (ap (parts_fault ch ds k) parts)
+          ∙ c.loop-i.invariant.0) c.add_outside-2.ensures.fault;
+      adds = on_ok c.add_outside-2.result c.add_outside-2.ensures.adds
+          (λ h. c.loop-i.invariant.1 c.add_outside-2.new.self
+          (subst (λ xs. AddsParts ch ds c.loop-i.self c.add_outside-2.new.self xs) (sym parts) h));
+    }

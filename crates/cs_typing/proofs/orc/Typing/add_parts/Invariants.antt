@@ -1,12 +1,9 @@
 use Rattle.std.proofs.Common.{◌≡◌, drop, map}
-use Rattle.cs_grammar.specs.Tree as tree
-use Rattle.cs_typing.specs.Typing.{items}
-use Rattle.cs_typing.specs.declared.orc.Typing.{Typing}
-use Rattle.cs_typing.specs.inner.Held.{known_of}
-use Rattle.cs_typing.specs.inner.Parts.{parts_fault}
+use Rattle.cs_typing.specs.{Typing.items, declared.orc.Typing.Typing, inner.Held.known_of, inner.Parts.parts_fault}
 use Rattle.cs_typing.specs.inner.Walk.{AddsParts, AreSound}
-use Rattle.cs_typing.proofs.orc.Typing.add_parts.Given as goal
 use Rattle.cs_udo.specs.Library.{definitions_of}
+use Rattle.cs_grammar.specs.Tree as tree
+use Rattle.cs_typing.proofs.orc.Typing.add_parts.Given as goal
 
 -- the rest says what the whole says, and adds what the whole adds
 abbrev pub invariant-loop-i : goal.invariant-loop-i

@@ -1,10 +1,8 @@
 use Rattle.std.proofs.Common.{◌≡◌, ◌∙◌, length, refl, ap}
-use Rattle.cs_grammar.specs.Tree as tree
-use Rattle.cs_typing.specs.Known.{first_with}
-use Rattle.cs_typing.specs.inner.Held.{known_of}
-use Rattle.cs_typing.specs.inner.Parts.{begun}
+use Rattle.cs_typing.specs.{Known.first_with, inner.Held.known_of, inner.Parts.begun}
 use Rattle.cs_typing.specs.inner.Routines.{known_in, no_locals}
 use Rattle.cs_typing.proofs.FirstSound.{begun_sound}
+use Rattle.cs_grammar.specs.Tree as tree
 use Rattle.cs_typing.proofs.orc.Typing.new.Goals as goal
 
 pub returns : goal.returns

@@ -1,15 +1,9 @@
-use Rattle.std.proofs.Common.{◌∙◌, map, sym, Err}
+use Rattle.std.proofs.Common.{◌∙◌, sym}
+use Rattle.cs_typing.specs.{inner.Held.known_of, inner.Settled.settings_of, inner.Walk.GivesOrc}
+use Rattle.cs_typing.specs.inner.Parts.{statements_fault, typed_by}
+use Rattle.cs_typing.proofs.{Answers.failed, Answers.same_fault, Ended.parts_break, Ended.parts_made}
 use Rattle.cs_grammar.specs.Tree as tree
-use Rattle.cs_typing.specs.Typing.{items}
-use Rattle.cs_typing.specs.inner.Answers.{Judged}
-use Rattle.cs_typing.specs.inner.Held.{known_of}
-use Rattle.cs_typing.specs.inner.Parts.{parts_fault, statements_fault, typed_by}
-use Rattle.cs_typing.specs.inner.Settled.{settings_of}
-use Rattle.cs_typing.specs.inner.Walk.{GivesOrc}
-use Rattle.cs_typing.proofs.Answers.{failed}
-use Rattle.cs_typing.proofs.Ended.{parts_break, parts_made}
 use Rattle.cs_typing.proofs.orc.Typing.typed.Goals as goal
-use Rattle.cs_udo.specs.Library.{definitions_of}
 
 pub add_parts-requires : goal.add_parts-requires
 add_parts-requires c = record { sound = c.requires.begun.sound c.args.settings.head.nchnls }
@@ -26,9 +20,7 @@ returns-in_err-add_parts c =
     failed
     (λ r. GivesOrc r (statements_fault ch (tree.orchestra e.orc.now))
     (typed_by (settings_of c.args.settings) (tree.orchestra e.orc.now)))
-    (λ x. Judged {T = Unit {0}} (Err x)
-    (parts_fault ch (definitions_of e.library) k (items (tree.block zero) (map tree.instrument instrs))))
-    c.from_residual.result _ c.from_residual.ensures.1 c.in_err-add_parts.ensures.fault (λ f h. sym same ∙ h) tt
+    c.from_residual.result _ c.from_residual.ensures.1 (same_fault _ _ _ c.in_err-add_parts.ensures.fault same)
 
 pub returns : goal.returns
 returns c =
