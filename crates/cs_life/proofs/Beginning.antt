@@ -4,33 +4,23 @@ use Rattle.std.proofs.Common.{subst}
 use Rattle.std.specs.Prelude.{◌||◌, nat_lt, Option, Some, None, if◌then◌else◌}
 use Rattle.std.proofs.lemmas.Slice.Zip.{AllZip-long}
 use Rattle.cs_base.specs.Limits.{most_notes}
-use Rattle.cs_cells.specs.Cells.{Cells, cell}
-use Rattle.cs_cells.specs.declared.footprint.Area.{Area}
+use Rattle.cs_cells.specs.{Cells.Cells, Cells.cell, declared.footprint.Area.Area}
 use Rattle.cs_cells.specs.declared.footprint.Footprint.{Footprint}
 use Rattle.cs_piece_meaning.specs.Moments.{Composition, Active, Moment, clock_of}
 use Rattle.cs_piece_meaning.specs.Starts.{Start, all_asked, begun, has_room, in_vain, initialised, start_in, started}
 use Rattle.cs_piece_meaning.specs.Starts.{time_of}
-use Rattle.cs_ir.specs.Asks.{ask_of}
-use Rattle.cs_ir.specs.Instruments.{Numbered}
-use Rattle.cs_ir.specs.declared.ask.Ask.{Ask}
+use Rattle.cs_ir.specs.{Asks.ask_of, Instruments.Numbered, declared.ask.Ask.Ask}
 use Rattle.cs_life.proofs.Begun.{is_begun, same_asks, still_hold}
-use Rattle.cs_life.proofs.Performing.{flags_long}
-use Rattle.cs_life.proofs.Standings.{shared_so, wait_so}
-use Rattle.cs_life.proofs.Waits.{wanted_is, wanted_same}
-use Rattle.cs_life.specs.Standing.{Plays, StandsFor}
-use Rattle.cs_life.specs.declared.life.Life.{Life}
+use Rattle.cs_life.proofs.{Flags.flags_fit, Standings.shared_so, Standings.wait_so, Waits.wanted_is, Waits.wanted_same}
+use Rattle.cs_life.specs.{Standing.Plays, Standing.StandsFor, declared.life.Life.Life}
 use Rattle.cs_life.specs.inner.Starting.{IsBegun, Wait, all_wanted}
-use Rattle.cs_meaning.specs.Core.{Block}
-use Rattle.cs_meaning.specs.Notes.{Note}
-use Rattle.cs_meaning.specs.Plain.{Plain}
-use Rattle.cs_sched.specs.Times as times
+use Rattle.cs_meaning.specs.{Core.Block, Notes.Note, Plain.Plain}
 use Rattle.cs_sched.specs.Waiting.{Queue}
 use Rattle.cs_piece.specs.Ready.{IsInstrumentOf, IsStageOf}
-use Rattle.cs_voice_meaning.specs.Voices as sounding
 use Rattle.cs_voice.specs.Starts.{IsStarted, sheet_at}
-use Rattle.cs_voice.specs.declared.note.Started.{Started}
-use Rattle.cs_voice.specs.VoiceData.{VoiceData}
-use Rattle.cs_voice.specs.declared.stage.Stage.{Stage}
+use Rattle.cs_voice.specs.{declared.note.Started.Started, VoiceData.VoiceData, declared.stage.Stage.Stage}
+use Rattle.cs_sched.specs.Times as times
+use Rattle.cs_voice_meaning.specs.Voices as sounding
 
 -- what the start of a note answers and leaves
 pub record Gives (s : sounding.Sheet) (until : ℕ) (cells new : Cells) (r : Started) (asks : List Ask) : Type 0 where
@@ -63,7 +53,8 @@ module _ (c : Composition) (life : Life) (voices : List VoiceData) (cells new : 
       → (Wait life.pending life.not_started left → Wait pending not_started (all_wanted c now time asks left))
       → IsReady c life voices new now s body t r pending not_started (all_asked c now (time_of s) t.world.asks left)
   is_ready r asks time flags pending not_started room number same_flags gives long same_time waits =
-      let flags_are = flags_long c life.stage life.made.items m.made stands.stand.stage_is stands.stand.made in
+      let flags_are = flags_fit life.stage.tables.now c.tables m.made life.made.items stands.stand.stage_is.tables
+      stands.stand.made in
       let g : Gives (sheet_at i life.started foot life.stage life.made.items s.fields) (now + s.cycles) cells new r
       asks =
       subst (λ x. Gives (sheet_at i life.started foot life.stage x s.fields) (now + s.cycles) cells new r asks)

@@ -1,27 +1,19 @@
 -- What came of a note that was started is what came of the note of the definitions.
 use Rattle.std.proofs.Common.{◌≡◌, ◌∙◌, ◌+◌, ℕ, pos, Bool, List, length, sym, ap, subst}
-use Rattle.cs_cells.specs.Cells.{Cells, cell}
-use Rattle.cs_cells.specs.declared.footprint.Footprint.{Footprint}
-use Rattle.cs_piece_meaning.specs.Moments.{Composition, Moment}
-use Rattle.cs_piece_meaning.specs.Starts.{Start, begun}
-use Rattle.cs_ir.specs.Instruments.{Numbered}
-use Rattle.cs_ir.specs.Machine.{Machine}
+use Rattle.cs_cells.specs.{Cells.Cells, Cells.cell, declared.footprint.Footprint.Footprint}
+use Rattle.cs_piece_meaning.specs.{Moments.Composition, Moments.Moment, Starts.Start, Starts.begun}
+use Rattle.cs_ir.specs.{Instruments.Numbered, Machine.Machine}
 use Rattle.cs_life.proofs.Performing.{same_piece}
-use Rattle.cs_life.specs.Standing.{Plays, flags_of}
-use Rattle.cs_life.specs.inner.Starting.{IsBegun, active_of}
-use Rattle.cs_meaning.specs.Core.{Block}
-use Rattle.cs_meaning.specs.Notes.{Note}
-use Rattle.cs_meaning.specs.Plain.{Plain, delay_too_long, no_table}
+use Rattle.cs_life.specs.{Standing.Plays, Standing.flags_of, inner.Starting.IsBegun, inner.Starting.active_of}
+use Rattle.cs_meaning.specs.{Core.Block, Notes.Note, Plain.Plain, Plain.delay_too_long, Plain.no_table}
 use Rattle.cs_piece.specs.VoicesOfNotes.{Begins, Hold, IsVoiceOf, begun_note}
 use Rattle.cs_piece.specs.Ready.{IsInstrumentOf, IsStageOf}
 use Rattle.cs_voice_meaning.specs.VoiceWorld.{VoiceState}
 use Rattle.cs_voice_meaning.specs.Voices.{Sheet, Sounding, initialised, voice_of}
 use Rattle.cs_voice.specs.Starts.{IsLive, IsStarted, sheet_at}
-use Rattle.cs_voice.specs.declared.note.Started.{Started}
-use Rattle.cs_voice.specs.declared.note.Started.TheVariants as started
+use Rattle.cs_voice.specs.{declared.note.Started.Started, VoiceMeaning.IsVoice, declared.stage.Stage.Stage}
 use Rattle.cs_voice.specs.VoiceData.{VoiceData, IsOn, sounding_on}
-use Rattle.cs_voice.specs.VoiceMeaning.{IsVoice}
-use Rattle.cs_voice.specs.declared.stage.Stage.{Stage}
+use Rattle.cs_voice.specs.declared.note.Started.TheVariants as started
 
 module _ (c : Composition) (stage : Stage) (flags : List Bool) (now : ℕ) (s : Start) (i : Numbered) (foot : Footprint)
     (body : Block)

@@ -1,32 +1,20 @@
 -- Voices play on when more tables have been made.
-use Rattle.std.proofs.Common.{◌≡◌, ℕ, ℤ, pos, suc, ◌==◌, ◌&&◌, ◌||◌, Bool, true, false, not, List, [], ◌∷◌, length, map}
+use Rattle.std.proofs.Common.{◌≡◌, ℕ, ℤ, pos, suc, ◌==◌, ◌&&◌, ◌||◌, Bool, true, false, not, List, ◌∷◌, length, map, []}
 use Rattle.std.proofs.Common.{unsigned_abs, Option, Some, if◌then◌else◌, refl, sym, ◌∙◌, ap, arith}
-use Rattle.std.specs.Int.{is_negative}
-use Rattle.std.specs.Option.{is_some}
-use Rattle.std.proofs.lemmas.Bool.{and_parts}
+use Rattle.std.specs.{Int.is_negative, Option.is_some, List.AllZip, List.list_any}
 use Rattle.std.proofs.lemmas.Bool.Decides.{nat_tests}
-use Rattle.std.specs.List.{AllZip, list_any}
 use Rattle.cs_cells.specs.declared.footprint.Footprint.{Footprint}
 use Rattle.cs_ir.specs.Instruments.{Numbered}
 use Rattle.cs_piece_meaning.specs.Moments.{Composition, Active}
 use Rattle.cs_meaning.specs.Plain.{Table, find_table}
-use Rattle.cs_voice.specs.Starts.{sheet_at}
-use Rattle.cs_voice.specs.Tables.{table_at, tables_of}
-use Rattle.cs_voice.specs.Memory.{table_of}
+use Rattle.cs_voice.specs.{Starts.sheet_at, Tables.table_at, Tables.tables_of, Memory.table_of}
+use Rattle.cs_voice.specs.{declared.stage.Stage.Stage, declared.stage.PieceTable.PieceTable}
 use Rattle.cs_voice.specs.VoiceData.{VoiceData, IsOn, made}
-use Rattle.cs_voice.specs.declared.stage.Stage.{Stage}
-use Rattle.cs_voice.specs.declared.stage.PieceTable.{PieceTable}
+use Rattle.cs_life.proofs.Orders.{same_length}
 use Rattle.cs_life.specs.Standing.{Plays, flags_of}
 use Rattle.cs_life.specs.inner.Marks.{has_cells, is_in_cells, marked}
 
 -- ---- flags
-
--- the tables of a stage are those of its composition: as many, of the same numbers
-pub as_many : (ts : List PieceTable) (cs : List Table) → map table_of ts ≡ map made cs → length ts ≡ length cs
-as_many [] [] e = refl
-as_many [] (c ∷ cs) e = absurd cc
-as_many (t ∷ ts) [] e = absurd cc
-as_many (t ∷ ts) (c ∷ cs) e = let later : map table_of ts ≡ map made cs = cc in ap suc (as_many ts cs later)
 
 first_of : (t : PieceTable) (c : Table) (ts : List PieceTable) (cs : List Table)
     → map table_of (t ∷ ts) ≡ map made (c ∷ cs)
@@ -46,24 +34,22 @@ pub flags_fit : (ts : List PieceTable) (cs : List Table) (ns : List ℕ) (flags 
     → map table_of ts ≡ map made cs
     → flags ≡ flags_of cs ns
     → length flags ≡ length ts
-flags_fit ts cs ns flags e is = ap length is ∙ flags_long cs ns ∙ sym (as_many ts cs e)
+flags_fit ts cs ns flags e is = ap length is ∙ flags_long cs ns ∙ sym (same_length table_of made ts cs e)
 
 -- when those of a number have been made, the flags are those of one number more
 pub marked_flags : (ts : List PieceTable) (cs : List Table) (n : ℕ) (ns : List ℕ) → map table_of ts ≡ map made cs
     → marked n ts (flags_of cs ns) ≡ flags_of cs (n ∷ ns)
 marked_flags [] [] n ns e = refl
-marked_flags [] (c ∷ cs) n ns e = absurd cc
-marked_flags (t ∷ ts) [] n ns e = absurd cc
 marked_flags (t ∷ ts) (c ∷ cs) n ns e =
     let here : t.number ≡ c.number = ap (λ (x : Table). x.number) (first_of t c ts cs e) in
     let later = marked_flags ts cs n ns (later_of t c ts cs e) in
     λ i. ((n == here i) || list_any (λ k. k == c.number) ns) ∷ later i
+marked_flags _ _ n ns e = absurd cc
 
 pub marked_long : (n : ℕ) (ts : List PieceTable) (fs : List Bool) → length fs ≡ length ts
     → length (marked n ts fs) ≡ length ts
-marked_long n [] fs h = h
-marked_long n (t ∷ ts) [] h = h
 marked_long n (t ∷ ts) (f ∷ fs) h = ap suc (marked_long n ts fs (omega arith))
+marked_long n _ _ h = h
 
 not_negative : (n : ℕ) → not (is_negative (pos n)) ≡ true
 not_negative n = grind (arith, nat_tests)
@@ -80,8 +66,6 @@ in_branches false c o = refl
 pub cells_of_first : (ts : List PieceTable) (cs : List Table) (n : ℕ) → map table_of ts ≡ map made cs
     → has_cells ts n ≡ is_in_cells (find_table cs (pos n))
 cells_of_first [] [] n e = refl
-cells_of_first [] (c ∷ cs) n e = absurd cc
-cells_of_first (t ∷ ts) [] n e = absurd cc
 cells_of_first (t ∷ ts) (c ∷ cs) n e =
     let head = first_of t c ts cs e in
     let number : t.number ≡ c.number = ap (λ (x : Table). x.number) head in
@@ -90,15 +74,9 @@ cells_of_first (t ∷ ts) (c ∷ cs) n e =
     ∙ (λ i. if (sym (pos_test c.number n)) i then not (is_some c.frozen) else cells_of_first ts cs n
     (later_of t c ts cs e) i)
     ∙ in_branches (not (is_negative (pos n)) && c.number == n) c (find_table cs (pos n))
+cells_of_first _ _ n e = absurd cc
 
 -- ---- tables that notes find
-
-equal : (m n : ℕ) → (m == n) ≡ true → m ≡ n
-equal m n h = grind (arith, nat_tests)
-
-no_flags : (ts : List PieceTable) → tables_of ts [] ≡ []
-no_flags [] = refl
-no_flags (t ∷ ts) = refl
 
 -- once all have been made they are the same
 pub all_made : (ts : List PieceTable) (fs : List Bool) → length fs ≡ length ts
@@ -145,23 +123,8 @@ found_at (x ∷ ts) (c ∷ cs) (f ∷ flags) z t e h found =
           ap
               (λ (y : Table). y.frozen) same,
         )
-    here_or_later true false k head later is = absurd cc
-    here_or_later false true k head later is = absurd cc
     here_or_later false false k head later is = let w = later is in (w.u, w.found, w.number, w.size, w.frozen)
-
-pub found_number : (cs : List Table) (n : ℕ) (t : Table) → find_table cs (pos n) ≡ Some t → t.number ≡ n
-found_number [] n t found = absurd cc
-found_number (c ∷ cs) n t found =
-    by_test_of (not (is_negative (pos n)) && c.number == n) refl (λ later. found_number cs n t later) found
-  where
-    by_test_of : (b : Bool) → (not (is_negative (pos n)) && c.number == n) ≡ b
-        → (find_table cs (pos n) ≡ Some t → t.number ≡ n)
-        → (if b then Some c else find_table cs (pos n)) ≡ Some t → t.number ≡ n
-    by_test_of true is later h =
-        let this : c ≡ t = cc in
-        ap (λ (y : Table). y.number) (sym this)
-        ∙ equal c.number n (and_parts (not (is_negative (pos n))) (c.number == n) is).1
-    by_test_of false is later h = later h
+    here_or_later _ _ k head later is = absurd cc
 
 -- ---- voices
 
@@ -210,6 +173,5 @@ module _ (c : Composition) (stage : Stage) (fs gs : List Bool) (long : length fs
   pub all_play_on : (vs : List VoiceData) (notes : List Active) → AllZip (Plays c stage fs) vs notes
       → AllZip (Plays c stage gs) vs notes
   all_play_on [] [] h = tt
-  all_play_on [] (a ∷ notes) h = absurd h
-  all_play_on (v ∷ vs) [] h = absurd h
   all_play_on (v ∷ vs) (a ∷ notes) h = (plays_on v a h.0, all_play_on vs notes h.1)
+  all_play_on _ _ h = absurd h

@@ -1,24 +1,20 @@
 -- Each table that an event gives can be made, and has the size of the table of its number.
 use Rattle.std.proofs.Common.{◌≡◌, ℕ, ℤ, pos, zero, suc, ◌<◌, ◌==◌, ◌&&◌, ◌⊎◌, inl, inr, Bool, true, false, not, cond}
-use Rattle.std.proofs.Common.{List, [], ◌∷◌, ◌++◌, length, map, slice_index_or, unsigned_abs, Some, None, if◌then◌else◌}
+use Rattle.std.proofs.Common.{[], List, ◌∷◌, ◌++◌, length, map, slice_index_or, unsigned_abs, Some, None, if◌then◌else◌}
 use Rattle.std.proofs.Common.{refl, sym, subst, ◌∙◌, ap, arith}
-use Rattle.std.specs.Int.{is_negative}
-use Rattle.std.specs.List.{All, AllByRecursion as Each, filter}
+use Rattle.std.specs.{Int.is_negative, List.All, List.AllByRecursion as Each, List.filter}
 use Rattle.cs_gen.specs.Faults.{table_fault}
 use Rattle.cs_gen.proofs.Places.{accepted}
 use Rattle.cs_meaning.specs.Plain.{Table, find_table}
-use Rattle.cs_tempo.specs.Performable.{IsActInRange}
-use Rattle.cs_tempo.specs.declared.plot.Event.{Event}
+use Rattle.cs_tempo.specs.{Performable.IsActInRange, declared.plot.Event.Event, declared.plot.Plot.Plot}
 use Rattle.cs_tempo.specs.declared.plot.EventAct.{EventAct}
-use Rattle.cs_tempo.specs.declared.plot.EventAct.TheVariants as act
-use Rattle.cs_tempo.specs.declared.plot.Plot.{Plot}
-use Rattle.cs_typed.specs.TypedTree as typed
 use Rattle.cs_piece.proofs.Ascending.{Among, each_ascending, there}
-use Rattle.cs_piece.specs.Compositions.{composition}
-use Rattle.cs_piece.specs.Setups.{AreOfOneSize}
+use Rattle.cs_piece.specs.{Compositions.composition, Setups.AreOfOneSize}
 use Rattle.cs_piece.specs.Tables.{Given, firsts, given_by, given_in, table_in, tables_in}
 use Rattle.cs_life.specs.inner.Doing.{CanBeDone}
-use Rattle.cs_life.proofs.Flags.{found_number}
+use Rattle.cs_voice_meaning.proofs.Naming.{found_number}
+use Rattle.cs_tempo.specs.declared.plot.EventAct.TheVariants as act
+use Rattle.cs_typed.specs.TypedTree as typed
 
 -- ---- what stands among what
 
@@ -103,7 +99,7 @@ one_size o es number size gen args t sizes among fault found =
     let this : Given = record { number = number; size = size; gen = gen; args = args } in
     let w = found_given o es number t found in
     let of : w.g.number ≡ number =
-    ap (λ (x : Table). x.number) (sym w.is) ∙ found_number (tables_in o es) number t found in
+    ap (λ (x : Table). x.number) (sym w.is) ∙ found_number (tables_in o es) (pos number) t found in
     let same : w.g.size ≡ size =
     sizes w.g this (there (given_in es) w.g (among_all (given_in es) w.g w.among))
     (there (given_in es) this among) of in

@@ -1,49 +1,42 @@
 -- One thing after another is done.
-use Rattle.std.proofs.Common.{◌≡◌, ℕ, ℤ, pos, zero, suc, ◌+◌, ◌-◌, ◌<◌, ◌≤◌, ◌==◌, Bool, true, false, cond, List, []}
-use Rattle.std.proofs.Common.{◌∷◌, ◌++◌, length, length-drop, take, drop, get_or, get_or-drop, leb, ltb, refl, sym}
-use Rattle.std.proofs.Common.{◌∙◌, ap, subst, arith}
-use Rattle.std.specs.List.{All, filter}
-use Rattle.std.specs.List.Sorted.{IsPartitionPoint}
-use Rattle.std.proofs.lemmas.Bool.Decides.{nat_tests}
-use Rattle.std.proofs.lemmas.List.{take_all, take_more}
-use Rattle.cs_cells.specs.Areas.{word_count}
-use Rattle.cs_cells.specs.Cells.{Cells}
-use Rattle.cs_piece_meaning.specs.Course.{begins, events_in, still}
-use Rattle.cs_piece_meaning.specs.Moments.{Composition, Moment}
+use Rattle.std.proofs.Common.{◌≡◌, ℕ, ℤ, pos, zero, suc, ◌+◌, ◌-◌, ◌<◌, ◌≤◌, ◌==◌, Bool, true, false, cond, List, ◌∷◌}
+use Rattle.std.proofs.Common.{[], ◌++◌, length, length-drop, take, drop, get_or, get_or-drop, leb, ltb, refl, sym, ◌∙◌}
+use Rattle.std.proofs.Common.{ap, subst, arith}
+use Rattle.std.specs.{List.All, List.filter, List.Sorted.IsPartitionPoint}
+use Rattle.std.proofs.lemmas.{Bool.Decides.nat_tests, List.take_more}
+use Rattle.cs_cells.specs.{Areas.word_count, Cells.Cells}
+use Rattle.cs_piece_meaning.specs.{Course.begins, Course.events_in, Course.still, Moments.Composition, Moments.Moment}
 use Rattle.cs_piece_meaning.specs.Starts.{act_done, all_done, all_waited, made_table, start_in}
 use Rattle.cs_gen.specs.Points.{points_of}
 use Rattle.cs_piece.specs.Setups.{composition_of}
-use Rattle.cs_tempo.specs.declared.plot.Event.{Event}
-use Rattle.cs_tempo.specs.declared.plot.EventAct.{EventAct}
-use Rattle.cs_tempo.specs.declared.plot.EventAct.TheVariants as act
+use Rattle.cs_tempo.specs.{declared.plot.Event.Event, declared.plot.EventAct.EventAct}
 use Rattle.cs_voice.specs.VoiceData.{VoiceData}
-use Rattle.cs_life.specs.Standing.{StandsFor}
-use Rattle.cs_life.specs.declared.life.Life.{Life}
+use Rattle.cs_life.specs.{Standing.StandsFor, declared.life.Life.Life}
 use Rattle.cs_life.specs.inner.Doing.{CanBeDone, CanBeMade, CanGoOn, HasGoneOn}
+use Rattle.cs_tempo.specs.declared.plot.EventAct.TheVariants as act
 
-module _ {S : Type 0} (can_get can_set : S → ℕ → Type 0) (r s : S) (same : s ≡ r) (leads : Moment → Moment)
-    (life : Life) (voices : List VoiceData) (cells : Cells) (new : Life) (after : List VoiceData) (left : Cells)
-    (setup : new.setup.now ≡ life.setup.now) where
-  -- what has gone on can go on
-  pub goes_on : HasGoneOn leads life voices cells new after left → CanGoOn (can_get r) (can_set r) life voices cells
-      → CanGoOn (can_get s) (can_set s) new after left
-  goes_on done h = record {
-    moment = leads h.moment;
-    stands = subst (λ x. StandsFor (composition_of x) new after left (leads h.moment)) (sym setup)
-        (done h.moment h.stands);
-    gets = λ a lt. subst (λ x. can_get x a) (sym same) (h.gets a (subst (λ x. a < word_count x.layout) setup lt));
-    sets = λ a lt. subst (λ x. can_set x a) (sym same) (h.sets a (subst (λ x. a < word_count x.layout) setup lt));
-  }
+-- what has gone on can go on
+pub goes_on : {get set get' set' : ℕ → Type 0} {leads : Moment → Moment} {life new : Life}
+    {voices after : List VoiceData} {cells left : Cells} → get' ≡ get → set' ≡ set → new.setup.now ≡ life.setup.now
+    → HasGoneOn leads life voices cells new after left → CanGoOn get set life voices cells
+    → CanGoOn get' set' new after left
+goes_on {leads = leads} {new = new} {after = after} {left = left} same_get same_set setup done h = record {
+  moment = leads h.moment;
+  stands = subst (λ x. StandsFor (composition_of x) new after left (leads h.moment)) (sym setup)
+      (done.to h.moment h.stands);
+  gets = λ a lt. subst (λ P. P a) (sym same_get) (h.gets a (subst (λ x. a < word_count x.layout) setup lt));
+  sets = λ a lt. subst (λ P. P a) (sym same_set) (h.sets a (subst (λ x. a < word_count x.layout) setup lt));
+}
 
 -- one thing, and then another
-pub one_then : (leads follows : Moment → Moment) (life mid new : Life) (voices mids after : List VoiceData)
-    (cells middle left : Cells)
-    → mid.setup.now ≡ life.setup.now → HasGoneOn leads life voices cells mid mids middle
+pub one_then : {leads follows : Moment → Moment} {life mid new : Life} {voices mids after : List VoiceData}
+    {cells middle left : Cells} → mid.setup.now ≡ life.setup.now → HasGoneOn leads life voices cells mid mids middle
     → HasGoneOn follows mid mids middle new after left
     → HasGoneOn (λ m. follows (leads m)) life voices cells new after left
-one_then leads follows life mid new voices mids after cells middle left setup one two = λ m h.
-    subst (λ x. StandsFor (composition_of x) new after left (follows (leads m))) setup
-    (two (leads m) (subst (λ x. StandsFor (composition_of x) mid mids middle (leads m)) (sym setup) (one m h)))
+one_then {leads} {follows} {life} {mid} {new} {voices} {mids} {after} {cells} {middle} {left} setup one two = record {
+  to = λ m h. subst (λ x. StandsFor (composition_of x) new after left (follows (leads m))) setup
+      (two.to (leads m) (subst (λ x. StandsFor (composition_of x) mid mids middle (leads m)) (sym setup) (one.to m h)));
+}
 
 -- ---- events
 
@@ -53,20 +46,19 @@ done_more c [] e m = refl
 done_more c (x ∷ es) e m = done_more c es e (act_done c x.cycle x.act m)
 
 -- one event more is done
-pub event_done : (c : Composition) (es : List Event) (k : ℕ) (e : Event) (life mid new : Life)
-    (voices mids after : List VoiceData) (cells middle left : Cells)
-    → k < length es → e ≡ get_or es k e → mid.setup.now ≡ life.setup.now → c ≡ composition_of life.setup.now
-    → HasGoneOn (all_done c (take k es)) life voices cells mid mids middle
+pub event_done : (es : List Event) (k : ℕ) (e : Event) {life mid new : Life} {voices mids after : List VoiceData}
+    {cells middle left : Cells} → k < length es → e ≡ get_or es k e → mid.setup.now ≡ life.setup.now
+    → HasGoneOn (all_done (composition_of life.setup.now) (take k es)) life voices cells mid mids middle
     → HasGoneOn (act_done (composition_of mid.setup.now) e.cycle e.act) mid mids middle new after left
-    → HasGoneOn (all_done c (take (k + 1) es)) life voices cells new after left
-event_done c es k e life mid new voices mids after cells middle left below is setup same one two = λ m h.
-    let both = one_then (all_done c (take k es)) (act_done (composition_of mid.setup.now) e.cycle e.act) life mid new
-    voices mids after cells middle left setup one two m h in
+    → HasGoneOn (all_done (composition_of life.setup.now) (take (k + 1) es)) life voices cells new after left
+event_done es k e {life} {mid} {new} {voices} {mids} {after} {cells} {middle} {left} below is setup one two =
+    let c = composition_of life.setup.now in
     let here : take (k + 1) es ≡ take k es ++ e ∷ [] =
     take_more es k e below ∙ ap (λ x. take k es ++ x ∷ []) (sym is) in
-    subst (λ n. StandsFor (composition_of life.setup.now) new after left n)
-    (ap (λ x. act_done x e.cycle e.act (all_done c (take k es) m)) (ap composition_of setup ∙ sym same)
-    ∙ sym (done_more c (take k es) e m) ∙ ap (λ xs. all_done c xs m) (sym here)) both
+    subst (λ f. HasGoneOn f life voices cells new after left)
+    (λ i m. (ap (λ x. act_done x e.cycle e.act (all_done c (take k es) m)) (ap composition_of setup)
+    ∙ sym (done_more c (take k es) e m) ∙ ap (λ xs. all_done c xs m) (sym here)) i)
+    (one_then setup one two)
 
 -- those of a cycle follow one another
 module _ (p : Event → Bool) where
@@ -104,13 +96,8 @@ pub begun : (cycle : ℕ) (life mid new : Life) (voices stayed mids after : List
     → HasGoneOn (all_waited (composition_of mid.setup.now) cycle) mid mids middle new after last
     → HasGoneOn (begins (composition_of life.setup.now) cycle) life voices cells new after last
 begun cycle life mid new voices stayed mids after cells middle last same leave events wait =
-    let c = composition_of life.setup.now in
-    let follow : HasGoneOn (all_waited c cycle) mid mids middle new after last =
-    subst (λ x. HasGoneOn (all_waited (composition_of x) cycle) mid mids middle new after last) same wait in
-    let both = one_then (all_done c (events_in c cycle)) (all_waited c cycle) life mid new stayed mids after
-    cells middle last same events follow in
-    one_then (still cycle) (λ m. all_waited c cycle (all_done c (events_in c cycle) m)) life life new
-    voices stayed after cells cells last refl leave both
+    one_then refl leave (one_then same events
+    (subst (λ x. HasGoneOn (all_waited (composition_of x) cycle) mid mids middle new after last) same wait))
 
 -- ---- the events of a cycle
 
@@ -150,12 +137,6 @@ event_can life new es k e setup all below is =
     subst (λ x. CanBeDone (composition_of x) e.act) (sym setup)
     (subst (λ (x : Event). CanBeDone (composition_of life.setup.now) x.act) (sym is) (all k e below))
 
-pub all_of_them : (c : Composition) (es : List Event) (k : ℕ) (life : Life) (voices : List VoiceData) (cells : Cells)
-    (m : Moment) → length es ≤ k
-    → StandsFor c life voices cells (all_done c (take k es) m) → StandsFor c life voices cells (all_done c es m)
-all_of_them c es k life voices cells m h s =
-    subst (λ xs. StandsFor c life voices cells (all_done c xs m)) (take_all k es h) s
-
 -- a table that an event gives, by its parts as a call passes them
 pub table_given : (c : Composition) (a : EventAct) (number : ℕ) (size gen s g : ℤ) (args xs : List ℤ)
     → a ≡ act.Table number size gen args
@@ -166,25 +147,32 @@ table_given c a number size gen s g args xs is es eg exs can =
     (subst (λ x. CanBeMade c number size gen x) (sym exs) (subst (CanBeDone c) is can)))
 
 -- a note of an event has started
-pub note_done : (life new : Life) (voices after : List VoiceData) (cells left : Cells) (now instr cycles : ℕ)
-    (number : ℤ) (given fields : List ℤ) (a : EventAct)
+pub note_done : (now : ℕ) {life new : Life} {voices after : List VoiceData} {cells left : Cells} {instr cycles : ℕ}
+    {number : ℤ} {given fields : List ℤ} {a : EventAct}
     → a ≡ act.Start instr cycles fields → number ≡ pos instr → given ≡ fields
-    → HasGoneOn (start_in (composition_of life.setup.now) now
-    (record { number = number; cycles = cycles; fields = given })) life voices cells new after left
+    → ((m : Moment) → StandsFor (composition_of life.setup.now) life voices cells m
+    → StandsFor (composition_of life.setup.now) new after left (start_in (composition_of life.setup.now) now
+    (record { number = number; cycles = cycles; fields = given }) m))
     → HasGoneOn (act_done (composition_of life.setup.now) now a) life voices cells new after left
-note_done life new voices after cells left now instr cycles number given fields a is en ef h =
+note_done now {life} {new} {voices} {after} {cells} {left} {instr} {cycles} is en ef h =
     subst (λ x. HasGoneOn (act_done (composition_of life.setup.now) now x) life voices cells new after left) (sym is)
-    (subst (λ z. HasGoneOn (start_in (composition_of life.setup.now) now
-    (record { number = z; cycles = cycles; fields = fields })) life voices cells new after left) en
-    (subst (λ xs. HasGoneOn (start_in (composition_of life.setup.now) now
-    (record { number = number; cycles = cycles; fields = xs })) life voices cells new after left) ef h))
+    (record {
+      to = λ m s. subst (λ n. StandsFor (composition_of life.setup.now) new after left n)
+          (λ i. start_in (composition_of life.setup.now) now
+          (record { number = en i; cycles = cycles; fields = ef i }) m) (h m s);
+    })
 
-pub table_done : (life new : Life) (voices after : List VoiceData) (cells left : Cells) (now number : ℕ)
-    (size gen s g : ℤ) (args xs : List ℤ) (a : EventAct)
+-- and a table was made
+pub table_done : (now : ℕ) {life new : Life} {voices after : List VoiceData} {cells left : Cells} {number : ℕ}
+    {size gen s g : ℤ} {args xs : List ℤ} {a : EventAct}
     → a ≡ act.Table number size gen args → s ≡ size → g ≡ gen → xs ≡ args
-    → HasGoneOn (made_table (composition_of life.setup.now) number (points_of s g xs)) life voices cells new after left
+    → ((m : Moment) → StandsFor (composition_of life.setup.now) life voices cells m
+    → StandsFor (composition_of life.setup.now) new after left
+    (made_table (composition_of life.setup.now) number (points_of s g xs) m))
     → HasGoneOn (act_done (composition_of life.setup.now) now a) life voices cells new after left
-table_done life new voices after cells left now number size gen s g args xs a is es eg exs h =
+table_done now {life} {new} {voices} {after} {cells} {left} {number} is es eg exs h =
     subst (λ x. HasGoneOn (act_done (composition_of life.setup.now) now x) life voices cells new after left) (sym is)
-    (subst (λ ps. HasGoneOn (made_table (composition_of life.setup.now) number ps) life voices cells new after left)
-    (λ i. points_of (es i) (eg i) (exs i)) h)
+    (record {
+      to = λ m st. subst (λ n. StandsFor (composition_of life.setup.now) new after left n)
+          (λ i. made_table (composition_of life.setup.now) number (points_of (es i) (eg i) (exs i)) m) (h m st);
+    })

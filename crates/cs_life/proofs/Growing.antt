@@ -1,6 +1,6 @@
 -- Voices that are the others, or more of them.
-use Rattle.std.proofs.Common.{◌≡◌, ◌∙◌, suc, ◌+◌, Bool, true, false, cond, List, [], ◌∷◌, filter, length, refl, ap}
-use Rattle.std.proofs.Common.{arith}
+use Rattle.std.proofs.Common.{◌≡◌, ◌∙◌, suc, ◌+◌, Bool, true, false, cond, List, ◌∷◌, filter, length, refl, ap, arith}
+use Rattle.std.proofs.Common.{[]}
 use Rattle.cs_voice.specs.VoiceData.{VoiceData}
 use Rattle.cs_life.proofs.Left.{fewer}
 use Rattle.cs_life.specs.Standing.{Grew}

@@ -1,21 +1,17 @@
 -- What voices that stand at a moment give is what its notes give.
-use Rattle.std.proofs.Common.{◌≡◌, ℕ, ℤ, Bool, List, [], ◌∷◌, length, map, refl, sym, ◌∙◌, ap}
+use Rattle.std.proofs.Common.{◌≡◌, ℕ, ℤ, Bool, List, ◌∷◌, length, map, refl, sym, ◌∙◌, ap, []}
 use Rattle.std.specs.List.{All, AllZip, flat_map, range_with_len}
-use Rattle.std.proofs.lemmas.List.Elements.{All-cons, All-nil}
 use Rattle.std.proofs.lemmas.Slice.Zip.{AllZip-long}
 use Rattle.cs_base.specs.Numbers.{total}
 use Rattle.cs_cells.specs.Cells.{Cells}
-use Rattle.cs_piece_meaning.specs.Course.{begins, moment_at, performed}
-use Rattle.cs_piece_meaning.specs.Heard.{mix_in, sum_at as sum_of_notes}
-use Rattle.cs_piece_meaning.specs.Moments.{Composition, Active, Moment}
+use Rattle.cs_piece_meaning.specs.{Course.begins, Course.moment_at, Course.performed, Heard.mix_in}
+use Rattle.cs_piece_meaning.specs.{Heard.sum_at as sum_of_notes, Moments.Composition, Moments.Active, Moments.Moment}
 use Rattle.cs_voice.specs.Mixing.{mixed, shape, sum_at as sum_of_voices}
 use Rattle.cs_machine.specs.Outputs.{outs}
-use Rattle.cs_piece.specs.Ready.{IsStageOf}
 use Rattle.cs_typed.specs.Places.{Header}
-use Rattle.cs_voice.specs.VoiceData.{VoiceData}
-use Rattle.cs_voice.specs.declared.stage.Stage.{Stage}
-use Rattle.cs_life.specs.Standing.{Plays, StandsFor}
-use Rattle.cs_life.specs.declared.life.Life.{Life}
+use Rattle.cs_voice.specs.{VoiceData.VoiceData, declared.stage.Stage.Stage}
+use Rattle.cs_life.proofs.Places.{all_on_left}
+use Rattle.cs_life.specs.{Standing.Plays, Standing.StandsFor, declared.life.Life.Life}
 
 -- each voice gives what its note gives
 same_outs : (c : Composition) (stage : Stage) (flags : List Bool) (voices : List VoiceData) (active : List Active)
@@ -23,10 +19,9 @@ same_outs : (c : Composition) (stage : Stage) (flags : List Bool) (voices : List
     → map (λ (v : VoiceData). outs v.outs channel frame) voices ≡ map (λ (a : Active). a.note.world.outs channel frame)
     active
 same_outs c stage flags [] [] p frame channel = refl
-same_outs c stage flags [] (a ∷ active) p frame channel = absurd p
-same_outs c stage flags (v ∷ voices) [] p frame channel = absurd p
 same_outs c stage flags (v ∷ voices) (a ∷ active) p frame channel =
     λ i. p.0.note.outs i channel frame ∷ same_outs c stage flags voices active p.1 frame channel i
+same_outs c stage flags _ _ p frame channel = absurd p
 
 -- so the frames of a cycle are those of its notes
 pub heard : (c : Composition) (life : Life) (voices : List VoiceData) (cells : Cells) (n : ℕ)
@@ -41,22 +36,15 @@ heard c life voices cells n s =
     (λ i frame channel. sums frame channel i)
 
 -- each voice has a number for each channel at each frame of the cycle
-shapes_of : (c : Composition) (stage : Stage) (flags : List Bool) (voices : List VoiceData) (active : List Active)
-    → IsStageOf c stage → AllZip (Plays c stage flags) voices active
-    → All (λ (v : VoiceData). shape v ≡ (c.head.ksmps, c.head.nchnls)) voices
-shapes_of c stage flags [] [] is p = All-nil (λ (v : VoiceData). shape v ≡ (c.head.ksmps, c.head.nchnls))
-shapes_of c stage flags [] (a ∷ active) is p = absurd p
-shapes_of c stage flags (v ∷ voices) [] is p = absurd p
-shapes_of c stage flags (v ∷ voices) (a ∷ active) is p =
-    let head : v.head ≡ c.head = sym p.0.on.head ∙ is.head in
-    let frames : v.outs.ksmps ≡ c.head.ksmps = p.0.valid.channel_frames ∙ ap (λ (h : Header). h.ksmps) head in
-    All-cons (λ (x : VoiceData). shape x ≡ (c.head.ksmps, c.head.nchnls)) v voices
-    (λ i. (frames i, (head i).nchnls)) (shapes_of c stage flags voices active is p.1)
-
 pub shapes : (c : Composition) (life : Life) (voices : List VoiceData) (cells : Cells) (m : Moment)
     → StandsFor c life voices cells m
     → All (λ (v : VoiceData). shape v ≡ (c.head.ksmps, c.head.nchnls)) voices
-shapes c life voices cells m s = shapes_of c life.stage life.made.items voices m.active s.stand.stage_is s.stand.play
+shapes c life voices cells m s =
+    all_on_left (Plays c life.stage life.made.items) (λ v. shape v ≡ (c.head.ksmps, c.head.nchnls))
+    (λ v a p.
+    let head : v.head ≡ c.head = sym p.on.head ∙ s.stand.stage_is.head in
+    let frames : v.outs.ksmps ≡ c.head.ksmps = p.valid.channel_frames ∙ ap (λ (h : Header). h.ksmps) head in
+    λ i. (frames i, (head i).nchnls)) voices m.active s.stand.play
 
 -- as many voices as notes
 pub as_many : (c : Composition) (life : Life) (voices : List VoiceData) (cells : Cells) (m : Moment)

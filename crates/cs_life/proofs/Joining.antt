@@ -3,15 +3,12 @@ use Rattle.std.proofs.Common.{◌≡◌, ℕ, ℤ, pos, ◌≤◌, ◌<◌, Bool
 use Rattle.std.proofs.Common.{leb-true}
 use Rattle.std.specs.List.{AllWithin, AllZip, insert}
 use Rattle.std.specs.List.Sorted.{IsNonDecreasingBy, IsPartitionPoint}
-use Rattle.std.proofs.lemmas.Bool.Decides.{nat_tests}
-use Rattle.std.proofs.lemmas.List.Sorted.{IsNonDecreasingBy-insert}
-use Rattle.std.proofs.lemmas.Slice.Zip.{AllZip-long}
+use Rattle.std.proofs.lemmas.{Bool.Decides.nat_tests, List.Sorted.IsNonDecreasingBy-insert, Slice.Zip.AllZip-long}
 use Rattle.cs_piece_meaning.specs.Moments.{Composition, Active, at_most, placed}
-use Rattle.cs_life.proofs.Places.{back, front, zip_at}
-use Rattle.cs_life.specs.Standing.{Plays}
-use Rattle.cs_life.specs.inner.Starting.{Joined}
-use Rattle.cs_voice.specs.VoiceData.{VoiceData}
-use Rattle.cs_voice.specs.declared.stage.Stage.{Stage}
+use Rattle.cs_piece_meaning.proofs.Standing.{zip_at}
+use Rattle.cs_life.proofs.Places.{back, front}
+use Rattle.cs_life.specs.{Standing.Plays, inner.Starting.Joined}
+use Rattle.cs_voice.specs.{VoiceData.VoiceData, declared.stage.Stage.Stage}
 
 no_lower : (x y : ℤ) (m n : ℕ) → x ≡ pos m → y ≡ pos n → m ≤ n → at_most x y ≡ true
 no_lower x y m n e f le = rw (e, f) (grind (arith, nat_tests))
@@ -25,6 +22,7 @@ module _ (c : Composition) (stage : Stage) (flags : List Bool) (voices : List Vo
   before : (i : ℕ) → i ≤ length voices → AllWithin (λ (w : VoiceData). w.number ≤ v.number) voices 0 i
       → AllWithin (λ (a : Active). at_most a.number n.number ≡ true) active 0 i
   before i le low k e from to =
+      let long = AllZip-long (Plays c stage flags) voices active play in
       no_lower (get_or active k e).number n.number (get_or voices k v).number v.number
       (zip_at (Plays c stage flags) voices active k v e play (omega arith)).number number (low k v from to)
 

@@ -1,17 +1,14 @@
 -- Voices that stand at a moment, once some of its notes have left.
-use Rattle.std.proofs.Common.{◌≡◌, suc, ◌≤◌, Bool, true, false, not, nat_lt, cond, List, [], ◌∷◌, filter, length}
-use Rattle.std.proofs.Common.{refl, sym, ap, subst, arith}
+use Rattle.std.proofs.Common.{◌≡◌, ◌≤◌, Bool, true, false, not, nat_lt, cond, List, ◌∷◌, filter, length, refl, sym, ap}
+use Rattle.std.proofs.Common.{[], subst, arith}
 use Rattle.std.specs.List.{AllZip}
-use Rattle.std.proofs.lemmas.List.Kept.{IsNonDecreasingBy-filter}
+use Rattle.std.proofs.lemmas.{List.Filters.length-filter_both, List.Kept.IsNonDecreasingBy-filter}
 use Rattle.cs_cells.specs.Cells.{Cells}
 use Rattle.cs_piece_meaning.specs.Moments.{Composition, Active, Moment}
-use Rattle.cs_voice.specs.VoiceData.{VoiceData}
-use Rattle.cs_voice.specs.declared.stage.Stage.{Stage}
-use Rattle.cs_life.specs.Leaving.{stays, without}
+use Rattle.cs_voice.specs.{VoiceData.VoiceData, declared.stage.Stage.Stage}
+use Rattle.cs_life.specs.{Leaving.stays, Leaving.without, declared.leaving.Leaving.Leaving, declared.life.Life.Life}
 use Rattle.cs_life.specs.Standing.{Plays, StandsFor, VoicesStand}
-use Rattle.cs_life.specs.declared.leaving.Leaving.{Leaving}
 use Rattle.cs_life.specs.declared.leaving.Leaving.TheVariants as leaving
-use Rattle.cs_life.specs.declared.life.Life.{Life}
 
 module _ (c : Composition) (stage : Stage) (flags : List Bool) where
   chosen : (v : VoiceData) (a : Active) (voices : List VoiceData) (active : List Active) (b : Bool)
@@ -27,22 +24,15 @@ module _ (c : Composition) (stage : Stage) (flags : List Bool) where
     kept_play : (voices : List VoiceData) (active : List Active) → AllZip (Plays c stage flags) voices active
         → AllZip (Plays c stage flags) (filter test voices) (filter q active)
     kept_play [] [] p = tt
-    kept_play [] (a ∷ active) p = absurd p
-    kept_play (v ∷ voices) [] p = absurd p
     kept_play (v ∷ voices) (a ∷ active) p =
         subst (λ b. AllZip (Plays c stage flags) (cond b (v ∷ filter test voices) (filter test voices))
         (cond (q a) (a ∷ filter q active) (filter q active))) (sym (agree v a p.0))
         (chosen v a (filter test voices) (filter q active) (q a) p.0 (kept_play voices active p.1))
+    kept_play _ _ p = absurd p
 
 -- no more pass a test than there are
 pub fewer : (test : VoiceData → Bool) (voices : List VoiceData) → length (filter test voices) ≤ length voices
-fewer test [] = omega arith
-fewer test (v ∷ voices) = either_way (test v) (fewer test voices)
-  where
-    either_way : (b : Bool) → length (filter test voices) ≤ length voices
-        → length (cond b (v ∷ filter test voices) (filter test voices)) ≤ suc (length voices)
-    either_way true h = omega (arith, h)
-    either_way false h = omega (arith, h)
+fewer test voices = omega (arith, length-filter_both test (λ v. not (test v)) (λ v. refl) voices)
 
 -- what stands at a moment, once those have left that don't pass a test
 pub kept_stand : (c : Composition) (stage : Stage) (flags : List Bool) (test : VoiceData → Bool) (q : Active → Bool)

@@ -1,50 +1,30 @@
 -- The opening of a performance: what stands when the code outside instruments has run over cells that are all 0.
-use Rattle.std.proofs.Common.{◌≡◌, ℕ, pos, zero, suc, Bool, true, false, List, [], ◌∷◌, length, nat_lt, replicate}
-use Rattle.std.proofs.Common.{Option, Some, None, if◌then◌else◌, refl, sym, ◌∙◌, ap, subst, arith}
-use Rattle.cs_base.specs.Rates.{res_rate}
-use Rattle.cs_base.specs.declared.resource.Rate.{Rate}
-use Rattle.cs_base.specs.declared.resource.Rate.TheVariants as rate
-use Rattle.cs_ir.specs.Instruments.{Numbered}
-use Rattle.cs_ir.specs.Waves.{silence}
-use Rattle.cs_cells.specs.Areas.{word_count}
-use Rattle.cs_cells.specs.Cells.{Cells, cell}
-use Rattle.cs_cells.specs.declared.footprint.Area.{Area}
+use Rattle.std.proofs.Common.{◌≡◌, ℕ, pos, suc, Bool, false, List, ◌∷◌, length, replicate, Option, Some, None, [], refl}
+use Rattle.std.proofs.Common.{sym, ◌∙◌, ap, subst, arith}
+use Rattle.cs_base.specs.{Rates.res_rate, declared.resource.Rate.Rate}
+use Rattle.cs_ir.specs.{Instruments.Numbered, Waves.silence}
+use Rattle.cs_cells.specs.{Areas.word_count, Cells.Cells, Cells.cell, declared.footprint.Area.Area}
 use Rattle.cs_cells.specs.declared.footprint.Footprint.{Footprint}
-use Rattle.cs_meaning.specs.Initialising.{init_block}
-use Rattle.cs_meaning.specs.Notes.{new_note, start}
+use Rattle.cs_meaning.specs.{Initialising.init_block, Notes.new_note, Notes.start}
 use Rattle.cs_meaning.specs.Plain.{Table, fresh, plain}
-use Rattle.cs_voice_meaning.specs.Placing.{area_of, wave_in, wave_of}
-use Rattle.cs_voice_meaning.specs.Voices.{initialised}
-use Rattle.cs_piece.specs.VoicesOfNotes.{Hold}
-use Rattle.cs_voice.specs.Starts.{piece_at, sheet_at}
-use Rattle.cs_piece_meaning.specs.Course.{opening, outside_done}
-use Rattle.cs_piece_meaning.specs.Moments.{Composition, piece_with}
+use Rattle.cs_voice_meaning.specs.{Placing.area_of, Placing.wave_of, Voices.initialised}
+use Rattle.cs_voice_meaning.proofs.Shared.{zeros}
+use Rattle.cs_piece.specs.{VoicesOfNotes.Hold, Ready.IsInstrumentOf, Ready.IsStageOf}
+use Rattle.cs_voice.specs.{Starts.piece_at, Starts.sheet_at, declared.stage.Stage.Stage}
+use Rattle.cs_piece_meaning.specs.{Course.opening, Course.outside_done, Moments.Composition, Moments.piece_with}
 use Rattle.cs_sched.specs.Waiting.{nothing_waits, waiting}
-use Rattle.cs_voice.specs.declared.stage.Stage.{Stage}
-use Rattle.cs_piece.specs.Ready.{IsInstrumentOf, IsStageOf}
-use Rattle.cs_life.specs.Standing.{StandsFor, flags_of}
-use Rattle.cs_life.specs.declared.life.Life.{Life}
+use Rattle.cs_life.specs.{Standing.StandsFor, Standing.flags_of, declared.life.Life.Life}
 use Rattle.cs_life.proofs.Flags.{flags_fit}
 
 -- ---- cells that are all 0 hold silence
 
 zero_at : (n a : ℕ) → cell (replicate n (pos 0)) a ≡ pos 0
-zero_at zero a = refl
-zero_at (suc n) zero = refl
 zero_at (suc n) (suc a) = zero_at n a
-
-either_zero : (b : Bool) → (if b then pos 0 else pos 0) ≡ pos 0
-either_zero true = refl
-either_zero false = refl
-
-silent_in : (r : Rate) (area : Area) → wave_in r area (λ a. pos 0) ≡ silence
-silent_in rate.Init area = refl
-silent_in rate.Control area = refl
-silent_in rate.Audio area = λ i j. either_zero (nat_lt j area.length) i
+zero_at _ _ = refl
 
 silent : (o : Option Area) (r : Rate) → wave_of o r (λ a. pos 0) ≡ silence
 silent None r = refl
-silent (Some area) r = silent_in r area
+silent (Some area) r = zeros r area
 
 zeros_hold : (areas : List Area) (n : ℕ) → Hold areas (cell (replicate n (pos 0))) (λ g. silence)
 zeros_hold areas n = λ g has. (λ i. wave_of (area_of areas g) (res_rate g) (λ a. zero_at n a i))

@@ -1,14 +1,10 @@
 -- A cycle of voices that stand at a moment leaves voices that stand at the moment after it.
-use Rattle.std.proofs.Common.{◌≡◌, ℕ, suc, ℤ, ◌≤◌, ◌==◌, Bool, List, [], ◌∷◌, length, map, refl, sym, ◌∙◌, ap, subst}
-use Rattle.std.proofs.Common.{arith}
-use Rattle.std.proofs.lemmas.List.Elements.{All-cons, All-nil}
+use Rattle.std.proofs.Common.{◌≡◌, ℕ, ℤ, ◌≤◌, ◌==◌, Bool, List, ◌∷◌, length, map, refl, sym, ◌∙◌, ap, subst, arith, []}
 use Rattle.std.proofs.lemmas.List.FromFn.{length-map-range_with_len}
 use Rattle.std.specs.List.{All, AllZip, list_any}
-use Rattle.cs_base.specs.Limits.{most_notes}
-use Rattle.cs_base.specs.declared.resource.Res.{Res}
+use Rattle.cs_base.specs.{Limits.most_notes, declared.resource.Res.Res}
 use Rattle.cs_cells.proofs.SerialRun.{length-serial_jobs}
-use Rattle.cs_cells.specs.Areas.{word_count, IsFootprint}
-use Rattle.cs_cells.specs.Cells.{Cells, cell}
+use Rattle.cs_cells.specs.{Areas.word_count, Areas.IsFootprint, Cells.Cells, Cells.cell}
 use Rattle.cs_cells.specs.Serial.{serial_cells, serial_jobs}
 use Rattle.cs_piece_meaning.specs.Course.{next, performed, serial}
 use Rattle.cs_piece_meaning.specs.Moments.{Composition, Active, Moment, as_made, field_of, piece_with}
@@ -18,31 +14,27 @@ use Rattle.cs_piece.specs.VoicesOfNotes.{GoesOn, Hold, IsVoiceOf, next_note}
 use Rattle.cs_piece.specs.Ready.{IsStageOf}
 use Rattle.cs_ugen.specs.Generators.{pace_of, the_generators}
 use Rattle.cs_voice_meaning.specs.Voices.{Sheet, Sounding, left_by}
-use Rattle.cs_voice_meaning.specs.Voices as sounding
-use Rattle.cs_voice.specs.Starts.{piece_at, sheet_at}
-use Rattle.cs_voice.specs.Tables.{table_at, tables_of}
+use Rattle.cs_voice.specs.{Starts.piece_at, Starts.sheet_at, Tables.table_at, Tables.tables_of, Memory.table_of}
+use Rattle.cs_voice.specs.{declared.stage.Stage.Stage, declared.stage.PieceTable.PieceTable}
 use Rattle.cs_machine.specs.States.{header_of}
-use Rattle.cs_voice.specs.Memory.{table_of}
 use Rattle.cs_voice.specs.VoiceData.{VoiceData, IsOn, made, sounding_on}
 use Rattle.cs_voice.specs.VoiceMeaning.{IsVoice, Performs, after, leaves, voice_job}
-use Rattle.cs_voice.specs.declared.stage.Stage.{Stage}
-use Rattle.cs_voice.specs.declared.stage.PieceTable.{PieceTable}
 use Rattle.cs_life.specs.Standing.{Plays, StandsFor, VoicesStand, flags_of}
 use Rattle.cs_life.specs.declared.life.Life.{Life}
-use Rattle.cs_life.proofs.Orders.{order_over, same_length}
+use Rattle.cs_life.proofs.{Flags.flags_fit, Orders.order_over, Places.all_on_left}
+use Rattle.cs_voice_meaning.specs.Voices as sounding
 
 -- Tables as a note finds them: those of the composition as they were made, and those of the stage by their flags.
 pub same_tables : (tables : List Table) (at : List PieceTable) (numbers : List ℕ) → map table_of at ≡ map made tables
     → map (as_made numbers) tables ≡ tables_of at (flags_of tables numbers)
 same_tables [] [] numbers e = refl
-same_tables [] (t ∷ at) numbers e = absurd cc
-same_tables (t ∷ tables) [] numbers e = absurd cc
 same_tables (t ∷ tables) (x ∷ at) numbers e =
     let first : table_of x ≡ made t = cc in
     let rest : map table_of at ≡ map made tables = cc in
     let b : Bool = list_any (λ n. n == t.number) numbers in
     let here : as_made numbers t ≡ table_at x b = ap (λ (u : Table). record u { present = b }) (sym first) in
     λ i. here i ∷ same_tables tables at numbers rest i
+same_tables _ _ numbers e = absurd cc
 
 -- what a note finds
 pub same_piece : (c : Composition) (stage : Stage) (flags : List Bool) (numbers : List ℕ) (fields : List ℤ)
@@ -60,16 +52,6 @@ same_piece c stage flags numbers fields is f =
       generators = the_generators (pace_of (head i));
       fields = field_of fields;
     }
-
--- each table of the stage has its flag
-pub flags_long : (c : Composition) (stage : Stage) (flags : List Bool) (numbers : List ℕ) → IsStageOf c stage
-    → flags ≡ flags_of c.tables numbers → length flags ≡ length stage.tables.now
-flags_long c stage flags numbers is f =
-    ap length f ∙ (length_of c.tables ∙ sym (same_length table_of made stage.tables.now c.tables is.tables))
-  where
-    length_of : (tables : List Table) → length (flags_of tables numbers) ≡ length tables
-    length_of [] = refl
-    length_of (t ∷ tables) = ap suc (length_of tables)
 
 -- what is left of a step of the way through a cycle: the voice, the cells, and what notes share
 record Stepped (c : Composition) (stage : Stage) (flags : List Bool) (numbers : List ℕ) (v : VoiceData) (a : Active)
@@ -98,7 +80,8 @@ module _ (c : Composition) (stage : Stage) (flags : List Bool) (numbers : List �
       let done : Performs s v cells = law s v cells p.on p.valid in
       let enough : word_count stage.layout.now ≤ length cells = omega arith in
       let go : GoesOn s a.body p.of.plan p.of.kinds (sounding_on s v) a.note cells shared =
-      (p.of.performs v.age flags v.fields (flags_long c stage flags numbers is f)).goes_on (sounding_on s v) a.note
+      (p.of.performs v.age flags v.fields (flags_fit stage.tables.now c.tables numbers flags is.tables f)).goes_on
+      (sounding_on s v) a.note
       cells shared enough p.note hold in
       let piece : piece_with c numbers a.fields ≡ s.piece =
       same_piece c stage flags numbers a.fields is f ∙ (λ k. record s.piece { fields = λ n. p.fields n k }) in
@@ -129,13 +112,12 @@ module _ (c : Composition) (stage : Stage) (flags : List Bool) (numbers : List �
       → length cells ≡ word_count stage.layout.now → Hold stage.layout.now (cell cells) shared
       → AllZip (Plays c stage flags) voices active → Passed c stage flags numbers voices active cells shared
   all [] [] cells shared long hold p = record { play = tt; hold = hold; long = refl }
-  all [] (a ∷ active) cells shared long hold p = absurd p
-  all (v ∷ voices) [] cells shared long hold p = absurd p
   all (v ∷ voices) (a ∷ active) cells shared long hold p =
       let s : Stepped c stage flags numbers v a cells shared = one v a cells shared long hold p.0 in
       let r : Passed c stage flags numbers voices active (leaves v cells) (next c numbers shared a).note.world.shared =
       all voices active (leaves v cells) (next c numbers shared a).note.world.shared (s.long ∙ long) s.hold p.1 in
       record { play = (s.plays, r.play); hold = r.hold; long = r.long ∙ s.long }
+  all _ _ cells shared long hold p = absurd p
 
 -- a cycle doesn't change the numbers of their instruments
 same_numbers : (voices : List VoiceData) (cells : Cells)
@@ -172,32 +154,15 @@ runs_perform law c life voices cells m s =
     }
 
 -- What a run of the voices of a moment asks for: they have the same zones, and each a footprint over them.
-layouts_of : (c : Composition) (stage : Stage) (flags : List Bool) (voices : List VoiceData) (active : List Active)
-    → AllZip (Plays c stage flags) voices active → All (λ (v : VoiceData). v.zones ≡ stage.zones.now) voices
-layouts_of c stage flags [] [] p = All-nil (λ (v : VoiceData). v.zones ≡ stage.zones.now)
-layouts_of c stage flags [] (a ∷ active) p = absurd p
-layouts_of c stage flags (v ∷ voices) [] p = absurd p
-layouts_of c stage flags (v ∷ voices) (a ∷ active) p =
-    All-cons (λ (x : VoiceData). x.zones ≡ stage.zones.now) v voices (sym p.0.on.zones)
-    (layouts_of c stage flags voices active p.1)
-
 pub layouts : (c : Composition) (life : Life) (voices : List VoiceData) (cells : Cells) (m : Moment)
     → StandsFor c life voices cells m
     → All (λ (v : VoiceData). v.zones ≡ life.stage.zones.now) voices
-layouts c life voices cells m s = layouts_of c life.stage life.made.items voices m.active s.stand.play
-
-footprints_of : (c : Composition) (stage : Stage) (flags : List Bool) (voices : List VoiceData) (active : List Active)
-    → AllZip (Plays c stage flags) voices active
-    → All (λ (v : VoiceData). IsFootprint (length stage.zones.now) v.foot) voices
-footprints_of c stage flags [] [] p = All-nil (λ (v : VoiceData). IsFootprint (length stage.zones.now) v.foot)
-footprints_of c stage flags [] (a ∷ active) p = absurd p
-footprints_of c stage flags (v ∷ voices) [] p = absurd p
-footprints_of c stage flags (v ∷ voices) (a ∷ active) p =
-    All-cons (λ (x : VoiceData). IsFootprint (length stage.zones.now) x.foot) v voices
-    (subst (IsFootprint (length stage.zones.now)) p.0.on.foot p.0.of.footprint)
-    (footprints_of c stage flags voices active p.1)
+layouts c life voices cells m s = all_on_left (Plays c life.stage life.made.items) (λ v. v.zones ≡ life.stage.zones.now)
+    (λ v a p. sym p.on.zones) voices m.active s.stand.play
 
 pub footprints : (c : Composition) (life : Life) (voices : List VoiceData) (cells : Cells) (m : Moment)
     → StandsFor c life voices cells m
     → All (λ (v : VoiceData). IsFootprint (length life.stage.zones.now) v.foot) voices
-footprints c life voices cells m s = footprints_of c life.stage life.made.items voices m.active s.stand.play
+footprints c life voices cells m s = all_on_left (Plays c life.stage life.made.items)
+    (λ v. IsFootprint (length life.stage.zones.now) v.foot)
+    (λ v a p. subst (IsFootprint (length life.stage.zones.now)) p.on.foot p.of.footprint) voices m.active s.stand.play

@@ -1,10 +1,9 @@
 -- A note takes its place among those that play.
-use Rattle.std.proofs.Common.{◌≡◌, ◌∙◌, ℕ, zero, suc, ◌≤◌, ◌<◌, ◌+◌, Bool, true, false, List, [], ◌∷◌, ◌++◌, length}
-use Rattle.std.proofs.Common.{get_or, take, drop, sym, ap, refl, arith, append-nil, length-drop}
-use Rattle.std.specs.Prelude.{filter}
-use Rattle.std.specs.List.{All, AllWithin, AllZip, insert}
+use Rattle.std.proofs.Common.{◌≡◌, ◌∙◌, ℕ, suc, ◌≤◌, ◌+◌, Bool, true, false, List, ◌∷◌, ◌++◌, length, [], take, drop}
+use Rattle.std.proofs.Common.{zero, sym, ap, refl, arith, append-nil, length-drop}
+use Rattle.std.specs.{Prelude.filter, List.All, List.AllWithin, List.AllZip, List.insert}
 use Rattle.std.proofs.lemmas.List.{get_or-drop, get_or-take, length-take-le, take-append-drop}
-use Rattle.std.proofs.lemmas.List.Elements.{filter-append, All-head, All-tail}
+use Rattle.std.proofs.lemmas.List.Elements.{filter-append, All-cons, All-head, All-nil, All-tail}
 
 module _ {A : Type 0} where
   -- nothing passes a test that each fails, and all passes one that each passes
@@ -48,6 +47,13 @@ module _ {A : Type 0} where
       grind (arith, append-nil)
 
 module _ {A B : Type 0} (R : A → B → Type 0) where
+  -- what follows for what stands on the left
+  pub all_on_left : (P : A → Type 0) → ((x : A) (y : B) → R x y → P x) → (xs : List A) (ys : List B) → AllZip R xs ys
+      → All P xs
+  all_on_left P f [] [] all = All-nil P
+  all_on_left P f (x ∷ xs) (y ∷ ys) all = All-cons P x xs (f x y all.0) (all_on_left P f xs ys all.1)
+  all_on_left P f _ _ all = absurd all
+
   pub zip_insert : (xs : List A) (ys : List B) (i : ℕ) (x : A) (y : B) → AllZip R xs ys → R x y
       → AllZip R (insert xs i x) (insert ys i y)
   zip_insert xs ys zero x y all this = (this, all)
@@ -55,10 +61,3 @@ module _ {A B : Type 0} (R : A → B → Type 0) where
   zip_insert [] (b ∷ ys) (suc i) x y all this = absurd all
   zip_insert (a ∷ xs) [] (suc i) x y all this = absurd all
   zip_insert (a ∷ xs) (b ∷ ys) (suc i) x y all this = (all.0, zip_insert xs ys i x y all.1 this)
-
-  pub zip_at : (xs : List A) (ys : List B) (k : ℕ) (d : A) (e : B) → AllZip R xs ys → k < length xs
-      → R (get_or xs k d) (get_or ys k e)
-  zip_at [] ys k d e all lt = absurd (omega arith)
-  zip_at (a ∷ xs) [] k d e all lt = absurd all
-  zip_at (a ∷ xs) (b ∷ ys) zero d e all lt = all.0
-  zip_at (a ∷ xs) (b ∷ ys) (suc k) d e all lt = zip_at xs ys k d e all.1 (omega arith)

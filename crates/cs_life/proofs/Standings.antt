@@ -3,33 +3,24 @@
 use Rattle.std.proofs.Common.{◌≡◌, ◌∙◌, ◌⊎◌, ⊎_elim, inl, inr, ℕ, zero, suc, ◌≤◌, ◌<◌, ◌+◌, ◌-◌, ◌^◌, ◌==◌, Bool, true}
 use Rattle.std.proofs.Common.{false, List, length, sym, ap, refl, subst, arith}
 use Rattle.std.specs.Prelude.{min, Option, None, if◌then◌else◌}
-use Rattle.std.specs.List.{AllZip, insert}
-use Rattle.std.specs.List.Sorted.{IsNonDecreasingBy}
-use Rattle.std.proofs.lemmas.Bool.Decides.{nat_tests}
-use Rattle.std.proofs.lemmas.List.Edits.{length-insert}
-use Rattle.std.proofs.lemmas.Slice.Zip.{AllZip-long}
-use Rattle.cs_base.specs.Limits.{most_notes}
-use Rattle.cs_base.specs.declared.resource.Res.{Res}
+use Rattle.std.specs.{List.AllZip, List.insert, List.Sorted.IsNonDecreasingBy}
+use Rattle.std.proofs.lemmas.{Bool.Decides.nat_tests, List.Edits.length-insert, Slice.Zip.AllZip-long}
+use Rattle.cs_base.specs.{Limits.most_notes, declared.resource.Res.Res}
 use Rattle.cs_cells.specs.Cells.{Cells, cell}
 use Rattle.cs_piece_meaning.specs.Moments.{Composition, Active, Moment, placed}
 use Rattle.cs_piece_meaning.specs.Starts.{Start, entered, has_room, in_vain, joined}
 use Rattle.cs_ir.specs.Waves.{Wave}
 use Rattle.cs_life.proofs.Joining.{placed_is, stay_in_order}
-use Rattle.cs_life.proofs.Places.{zip_insert}
-use Rattle.cs_life.proofs.Waits.{SameOthers, count_up}
+use Rattle.cs_life.proofs.{Places.zip_insert, Waits.SameOthers, Waits.count_up}
 use Rattle.cs_life.specs.Standing.{Plays, StandsFor, flags_of, kept_count}
 use Rattle.cs_life.specs.declared.life.Life.{Life}
 use Rattle.cs_life.specs.inner.Starting.{IsBegun, IsRefused, Joined, Wait, active_of}
-use Rattle.cs_meaning.specs.Core.{Block}
-use Rattle.cs_meaning.specs.Notes.{Note}
-use Rattle.cs_meaning.specs.Plain.{Cause, Plain}
+use Rattle.cs_meaning.specs.{Core.Block, Notes.Note, Plain.Cause, Plain.Plain}
 use Rattle.cs_piece.specs.VoicesOfNotes.{Hold}
 use Rattle.cs_sched.specs.Waiting.{Queue}
 use Rattle.cs_voice.specs.declared.note.Started.{Started}
+use Rattle.cs_voice.specs.{VoiceData.VoiceData, VoiceMeaning.IsVoice, declared.stage.Stage.Stage}
 use Rattle.cs_voice.specs.declared.note.Started.TheVariants as started
-use Rattle.cs_voice.specs.VoiceData.{VoiceData}
-use Rattle.cs_voice.specs.VoiceMeaning.{IsVoice}
-use Rattle.cs_voice.specs.declared.stage.Stage.{Stage}
 
 -- a refused note has started nothing
 pub vain_so : (c : Composition) (life : Life) (voices : List VoiceData) (cells : Cells) (now : ℕ) (s : Start)
@@ -205,5 +196,4 @@ pub refused_if : (c : Composition) (stage : Stage) (flags : List Bool) (now : �
     (t : Note Plain) (r : Started)
     → ((v : VoiceData) → r ≡ started.Live v → ⊥) → IsBegun c stage flags now s body t r → IsRefused t
 refused_if c stage flags now s body t (started.Live v) other h = absurd (other v refl)
-refused_if c stage flags now s body t (started.NoTable n) other h = h
-refused_if c stage flags now s body t (started.DelayTooLong n) other h = h
+refused_if c stage flags now s body t _ other h = h

@@ -1,16 +1,14 @@
 -- Notes that wait are started one by one.
-use Rattle.std.proofs.Common.{◌≡◌, ◌≢◌, ℕ, zero, suc, ◌+◌, ◌-◌, ◌<◌, ◌≤◌, ◌==◌, true, false, List, [], ◌∷◌, Some, None}
+use Rattle.std.proofs.Common.{◌≡◌, ◌≢◌, ℕ, zero, suc, ◌+◌, ◌-◌, ◌<◌, ◌≤◌, ◌==◌, true, false, List, ◌∷◌, Some, None, []}
 use Rattle.std.proofs.Common.{cond, get_or, length, if◌then◌else◌, refl, sym, ◌∙◌, ap, subst, arith}
 use Rattle.std.proofs.lemmas.Bool.Decides.{nat_tests}
 use Rattle.cs_base.proofs.Tests.{by_test}
 use Rattle.cs_cells.specs.Cells.{Cells}
 use Rattle.cs_piece_meaning.specs.Moments.{Composition, Moment}
 use Rattle.cs_piece_meaning.specs.Starts.{first_started, start_in, start_of, taken, unless_none, waited}
-use Rattle.cs_sched.specs.Waiting.{IsTaken, Queue, those_in, waiting}
-use Rattle.cs_sched.specs.declared.due.Due.{Due}
+use Rattle.cs_sched.specs.{Waiting.IsTaken, Waiting.Queue, Waiting.those_in, Waiting.waiting, declared.due.Due.Due}
 use Rattle.cs_voice.specs.VoiceData.{VoiceData}
-use Rattle.cs_life.specs.Standing.{StandsFor}
-use Rattle.cs_life.specs.declared.life.Life.{Life}
+use Rattle.cs_life.specs.{Standing.StandsFor, declared.life.Life.Life}
 
 -- ---- what is taken out
 
@@ -21,12 +19,11 @@ unequal : (m n : ℕ) → (m == n) ≡ false → m ≢ n
 unequal m n h = grind (arith, nat_tests)
 
 -- the first is taken: the moment from which its note is started stands
-pub taken_out : (c : Composition) (life : Life) (q : Queue) (voices : List VoiceData) (cells : Cells) (m : Moment)
-    (now : ℕ) (due : Due)
-    → IsTaken now (waiting life.pending) (Some due) (waiting q) → StandsFor c life voices cells m
+pub taken_out : {c : Composition} {life : Life} {q : Queue} {voices : List VoiceData} {cells : Cells} {m : Moment}
+    {now : ℕ} {due : Due} → IsTaken now (waiting life.pending) (Some due) (waiting q) → StandsFor c life voices cells m
     → StandsFor c (record life { pending = q }) voices cells
     (record m { waiting = taken now ((waiting q).due now) m.waiting })
-taken_out c life q voices cells m now due is h = record {
+taken_out {q = q} {m = m} {now = now} is h = record {
   stand = record {
     stage_is = h.stand.stage_is;
     made = h.stand.made;
@@ -57,27 +54,14 @@ first_of (d ∷ dues) now due rest e =
     (sym e ∙ ap (λ b. cond b (d ∷ those_in dues now) (those_in dues now)) yes) ∙ equal d.cycle now yes)
     (λ no. first_of dues now due rest (sym (ap (λ b. cond b (d ∷ those_in dues now) (those_in dues now)) no) ∙ e))
 
-pub begins_now : (q p : Queue) (now : ℕ) (due : Due) → IsTaken now (waiting q) (Some due) (waiting p) → due.cycle ≡ now
-begins_now q p now due is = first_of q.dues now due ((waiting p).due now) is.first
-
--- and it waited first
-pub first_due : (c : Composition) (life : Life) (q : Queue) (voices : List VoiceData) (cells : Cells) (m : Moment)
-    (now : ℕ) (due : Due)
-    → IsTaken now (waiting life.pending) (Some due) (waiting q) → StandsFor c life voices cells m
-    → m.waiting.due now ≡ due ∷ (waiting q).due now
-first_due c life q voices cells m now due is h = sym (h.due now) ∙ is.first
-
-pub none_due : (c : Composition) (life : Life) (q : Queue) (voices : List VoiceData) (cells : Cells) (m : Moment)
-    (now : ℕ)
-    → IsTaken now (waiting life.pending) None (waiting q) → StandsFor c life voices cells m → m.waiting.due now ≡ []
-none_due c life q voices cells m now is h = sym (h.due now) ∙ is.none refl
+pub begins_now : (q p : Queue) {now : ℕ} {due : Due} → IsTaken now (waiting q) (Some due) (waiting p) → due.cycle ≡ now
+begins_now q p {now} {due} is = first_of q.dues now due ((waiting p).due now) is.first
 
 -- nothing else was changed where nothing was taken
-pub none_out : (c : Composition) (life : Life) (q : Queue) (voices : List VoiceData) (cells : Cells) (m : Moment)
-    (now : ℕ)
+none_out : {c : Composition} {life : Life} {q : Queue} {voices : List VoiceData} {cells : Cells} {m : Moment} {now : ℕ}
     → IsTaken now (waiting life.pending) None (waiting q) → StandsFor c life voices cells m
     → StandsFor c (record life { pending = q }) voices cells m
-none_out c life q voices cells m now is h = record {
+none_out {life = life} {q = q} {now = now} is h = record {
   stand = h.stand;
   layout = h.layout;
   zones = h.zones;
@@ -99,11 +83,10 @@ pub record Waits (all done : ℕ) (c : Composition) (now : ℕ) (life : Life) (v
   pub stands : StandsFor c life voices cells at
   pub left : waited all c now m ≡ waited (all - done) c now at
 
-pub none_started : (all : ℕ) (c : Composition) (now : ℕ) (life : Life) (voices : List VoiceData) (cells : Cells)
-    (m : Moment)
-    → StandsFor c life voices cells m → Waits all 0 c now life voices cells m
-none_started all c now life voices cells m h = let whole : all ≡ all - 0 = omega arith in
-    record { at = m; stands = h; left = ap (λ n. waited n c now m) whole }
+pub none_started : (all : ℕ) {c : Composition} {now : ℕ} {life : Life} {voices : List VoiceData} {cells : Cells}
+    {m : Moment} → StandsFor c life voices cells m → Waits all 0 c now life voices cells m
+none_started all {c} {now} {m = m} h =
+    let whole : all ≡ all - 0 = omega arith in record { at = m; stands = h; left = ap (λ n. waited n c now m) whole }
 
 one_waited : (n : ℕ) (c : Composition) (now : ℕ) (m : Moment) (due : Due) (rest : List Due)
     → m.waiting.due now ≡ due ∷ rest
@@ -116,39 +99,37 @@ no_more zero c now m e = refl
 no_more (suc n) c now m e = λ i. unless_none (e i) m (waited n c now (first_started c now (e i) m))
 
 -- one note more has been started
-pub one_started : (all done : ℕ) (c : Composition) (now : ℕ) (life new : Life) (q : Queue)
-    (voices after : List VoiceData) (cells left : Cells) (m : Moment)
-    (due : Due) → done < all → IsTaken now (waiting life.pending) (Some due) (waiting q)
+pub one_started : {all done : ℕ} {c : Composition} {now : ℕ} {life new : Life} {q : Queue}
+    {voices after : List VoiceData} {cells left : Cells} {m : Moment} {due : Due}
+    → done < all → IsTaken now (waiting life.pending) (Some due) (waiting q)
     → ((n : Moment) → StandsFor c (record life { pending = q }) voices cells n
     → StandsFor c new after left (start_in c now (start_of due) n))
     → Waits all done c now life voices cells m → Waits all (done + 1) c now new after left m
-one_started all done c now life new q voices after cells left m due below is starts w =
+one_started {all} {done} {c} {now} {q = q} {due = due} below is starts w =
     let more : all - done ≡ suc (all - (done + 1)) = omega arith in
     let n : Moment = record w.at { waiting = taken now ((waiting q).due now) w.at.waiting } in
     record {
       at = start_in c now (start_of due) n;
-      stands = starts n (taken_out c life q voices cells w.at now due is w.stands);
+      stands = starts n (taken_out {q = q} is w.stands);
       left = w.left ∙ ap (λ k. waited k c now w.at) more
-          ∙ one_waited (all - (done + 1)) c now w.at due ((waiting q).due now)
-          (first_due c life q voices cells w.at now due is w.stands);
+          ∙ one_waited (all - (done + 1)) c now w.at due ((waiting q).due now) (sym (w.stands.due now) ∙ is.first);
     }
 
 -- none waits any more
-pub all_started : (all done : ℕ) (c : Composition) (now : ℕ) (life : Life) (q : Queue) (voices : List VoiceData)
-    (cells : Cells) (m : Moment)
+pub all_started : {all done : ℕ} {c : Composition} {now : ℕ} {life : Life} {q : Queue} {voices : List VoiceData}
+    {cells : Cells} {m : Moment}
     → IsTaken now (waiting life.pending) None (waiting q) → Waits all done c now life voices cells m
     → StandsFor c (record life { pending = q }) voices cells (waited all c now m)
-all_started all done c now life q voices cells m is w =
+all_started {all} {done} {c} {now} {life} {q} {voices} {cells} {m} is w =
     let end : waited all c now m ≡ w.at =
-    w.left ∙ no_more (all - done) c now w.at (none_due c life q voices cells w.at now is w.stands) in
-    subst (λ n. StandsFor c (record life { pending = q }) voices cells n) (sym end)
-    (none_out c life q voices cells w.at now is w.stands)
+    w.left ∙ no_more (all - done) c now w.at (sym (w.stands.due now) ∙ is.none refl) in
+    subst (λ n. StandsFor c (record life { pending = q }) voices cells n) (sym end) (none_out {q = q} is w.stands)
 
 -- as many as may be started have been started
-pub most_started : (all done : ℕ) (c : Composition) (now : ℕ) (life : Life) (voices : List VoiceData) (cells : Cells)
-    (m : Moment)
+pub most_started : {all done : ℕ} {c : Composition} {now : ℕ} {life : Life} {voices : List VoiceData} {cells : Cells}
+    {m : Moment}
     → all ≤ done → Waits all done c now life voices cells m → StandsFor c life voices cells (waited all c now m)
-most_started all done c now life voices cells m h w =
+most_started {all} {done} {c} {now} {life} {voices} {cells} {m} h w =
     let none : all - done ≡ 0 = omega arith in
     let end : waited all c now m ≡ w.at = w.left ∙ ap (λ k. waited k c now w.at) none in
     subst (λ n. StandsFor c life voices cells n) (sym end) w.stands

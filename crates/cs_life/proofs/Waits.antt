@@ -1,16 +1,13 @@
 -- What waits after a note was asked for, and after all that a note asks for.
-use Rattle.std.proofs.Common.{◌≡◌, ◌∙◌, ℕ, ℤ, ◌+◌, ◌-◌, ◌^◌, ◌==◌, List, [], ◌∷◌, ◌++◌, sym, ap, refl, subst, arith}
+use Rattle.std.proofs.Common.{◌≡◌, ◌∙◌, ℕ, ℤ, ◌+◌, ◌-◌, ◌^◌, ◌==◌, List, ◌∷◌, ◌++◌, sym, ap, refl, subst, arith, []}
 use Rattle.std.specs.Prelude.{map, min, if◌then◌else◌}
 use Rattle.cs_piece_meaning.specs.Moments.{Composition, Moment, clock_of}
 use Rattle.cs_piece_meaning.specs.Starts.{all_asked, asked, counted}
-use Rattle.cs_ir.specs.Asks.{ask_of}
-use Rattle.cs_ir.specs.declared.ask.Ask.{Ask}
+use Rattle.cs_ir.specs.{Asks.ask_of, declared.ask.Ask.Ask}
 use Rattle.cs_life.specs.Standing.{kept_count}
 use Rattle.cs_life.specs.inner.Starting.{Wait, all_wanted, count_after}
-use Rattle.cs_sched.specs.Times.{due_of}
+use Rattle.cs_sched.specs.{Times.due_of, declared.due.Due.Due, declared.pending.Added.Added}
 use Rattle.cs_sched.specs.Waiting.{Queue, Waiting, answer_to, waiting, with_answer}
-use Rattle.cs_sched.specs.declared.due.Due.{Due}
-use Rattle.cs_sched.specs.declared.pending.Added.{Added}
 use Rattle.cs_sched.specs.declared.pending.Added.TheVariants as added
 
 -- what the values of a machine ask for
@@ -34,9 +31,7 @@ pub record SameOthers (m n : Moment) : Type 0 where
 
 counted_same : (answer : Added) (m n : Moment) → SameOthers m n → SameOthers m (counted answer n)
 counted_same added.Kept m n s = s
-counted_same added.Negative m n s = record { shared = s.shared; made = s.made; active = s.active; started = s.started }
-counted_same added.PastEnd m n s = record { shared = s.shared; made = s.made; active = s.active; started = s.started }
-counted_same added.TooMany m n s = record { shared = s.shared; made = s.made; active = s.active; started = s.started }
+counted_same _ m n s = record { shared = s.shared; made = s.made; active = s.active; started = s.started }
 
 asked_same : (c : Composition) (now : ℕ) (time : ℤ) (a : Ask) (m n : Moment) → SameOthers m n
     → SameOthers m (asked c now time a n)

@@ -1,7 +1,6 @@
 -- Which notes leave.
 use Rattle.std.specs.Prelude.{Bool, not, nat_lt}
-use Rattle.cs_piece_meaning.specs.Course.{still, turned_off}
-use Rattle.cs_piece_meaning.specs.Moments.{Moment}
+use Rattle.cs_piece_meaning.specs.{Course.still, Course.turned_off, Moments.Moment}
 use Rattle.cs_voice.specs.VoiceData.{VoiceData}
 use Rattle.cs_life.specs.declared.leaving.Leaving.{Leaving}
 use Rattle.cs_life.specs.declared.leaving.Leaving.TheVariants as leaving

@@ -1,22 +1,16 @@
 -- When what is kept of a performance stands at a moment of it.
 use Rattle.std.specs.Prelude.{ℕ, pos, ◌≡◌, ◌≤◌, ◌-◌, ◌^◌, ◌==◌, Bool, List, length, map, min}
-use Rattle.std.specs.List.{AllZip, list_any}
-use Rattle.std.specs.List.Sorted.{IsNonDecreasingBy}
+use Rattle.std.specs.{List.AllZip, List.list_any, List.Sorted.IsNonDecreasingBy}
 use Rattle.cs_base.specs.Limits.{most_notes}
-use Rattle.cs_cells.specs.Areas.{word_count}
-use Rattle.cs_cells.specs.Cells.{Cells, cell}
-use Rattle.cs_cells.specs.declared.footprint.Footprint.{Footprint}
+use Rattle.cs_cells.specs.{Areas.word_count, Cells.Cells, Cells.cell, declared.footprint.Footprint.Footprint}
 use Rattle.cs_piece_meaning.specs.Moments.{Composition, Active, Moment, field_of}
 use Rattle.cs_ir.specs.Instruments.{Numbered}
 use Rattle.cs_meaning.specs.Plain.{Table}
-use Rattle.cs_piece.specs.VoicesOfNotes.{Hold, IsVoiceOf}
+use Rattle.cs_piece.specs.{VoicesOfNotes.Hold, VoicesOfNotes.IsVoiceOf, Ready.IsInstrumentOf, Ready.IsStageOf}
 use Rattle.cs_sched.specs.Waiting.{waiting}
-use Rattle.cs_piece.specs.Ready.{IsInstrumentOf, IsStageOf}
 use Rattle.cs_signal.specs.Operands.{argument}
-use Rattle.cs_voice.specs.Starts.{sheet_at}
+use Rattle.cs_voice.specs.{Starts.sheet_at, VoiceMeaning.IsVoice, declared.stage.Stage.Stage}
 use Rattle.cs_voice.specs.VoiceData.{VoiceData, IsOn, sounding_on}
-use Rattle.cs_voice.specs.VoiceMeaning.{IsVoice}
-use Rattle.cs_voice.specs.declared.stage.Stage.{Stage}
 use Rattle.cs_life.specs.declared.life.Life.{Life}
 
 -- which tables have been made, by these numbers

@@ -3,7 +3,7 @@ ghost use Rattle.std.specs.Prelude.{◌≡◌, ◌<◌, ◌==◌, ℕ, filter, l
 ghost use Rattle.std.specs.List.{All};
 ghost use Rattle.std.specs.List.Sorted.{IsNonDecreasingBy};
 ghost use Rattle.cs_cells.specs.Areas.{word_count};
-ghost use Rattle.cs_piece_meaning.specs.Course.{begins, events_in};
+ghost use Rattle.cs_piece_meaning.specs.Course.{begins};
 ghost use Rattle.cs_piece_meaning.specs.Moments.{Moment};
 ghost use Rattle.cs_piece_meaning.specs.Starts.{act_done, all_done, all_waited};
 ghost use Rattle.cs_life.specs.Standing.{Grew, StandsFor};
@@ -49,33 +49,12 @@ impl<'t> Life<'t> {
         let playing = voices.len();
         self.leave(voices, Leaving::Over { cycle });
         let stayed = voices.len();
-        self.do_events(alloc, cycle, voices, bank)?;
-        self.start_waiting(alloc, cycle, voices, bank)?;
-        Ok(all_stay(playing, stayed, voices.len()))
-    }
-
-    /// The events of a cycle are done, one after another.
-    fn do_events<B: Bank>(
-        &mut self,
-        alloc: Global,
-        cycle: u32,
-        voices: &mut Vec<Voice<'t>>,
-        bank: &mut B,
-    ) -> Result<(), OutOfMemory>
-        requires able { CanGoOn (B.can_get (B.rest bank.old))
-            (B.can_set (B.rest bank.old)) self.old voices.old.items (B.cells bank.old) }
-        ensures done { OnOk result (HasGoneOn (all_done (composition_of self.old.setup.now)
-            (events_in (composition_of self.old.setup.now) cycle))
-            self.old voices.old.items (B.cells bank.old) self.new voices.new.items (B.cells bank.new)) }
-        ensures grown { OnOk result (Grew voices.old.items voices.new.items) }
-        ensures setup { self.new.setup.now ≡ self.old.setup.now }
-        ensures long { length (B.cells bank.new) ≡ length (B.cells bank.old) }
-        ensures rest { B.rest bank.new ≡ B.rest bank.old }
-    {
         let setup = self.setup;
         setup.facts();
         let events = events_of(setup.plot().events.as_slice(), cycle);
-        self.do_all(alloc, events, voices, bank)
+        self.do_all(alloc, events, voices, bank)?;
+        self.start_waiting(alloc, cycle, voices, bank)?;
+        Ok(all_stay(playing, stayed, voices.len()))
     }
 
     /// Events are done, one after another.

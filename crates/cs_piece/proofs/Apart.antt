@@ -1,16 +1,12 @@
 -- No two of the tables that a plot gives first have one number.
 use Rattle.std.proofs.Common.{◌≡◌, ℕ, zero, suc, ◌==◌, Bool, true, false, not, List, [], ◌∷◌, map, slice_get, Some}
 use Rattle.std.proofs.Common.{cond, refl, sym, ◌∙◌, ap, subst}
-use Rattle.std.specs.List.{filter}
-use Rattle.std.specs.Option.{is_some}
+use Rattle.std.specs.{List.filter, Option.is_some}
 use Rattle.std.proofs.lemmas.Bool.{eq-eqb}
 use Rattle.cs_base.proofs.Tests.{by_test, some_is}
-use Rattle.cs_layout.specs.Layouts.{AreApart}
-use Rattle.cs_layout.specs.declared.areas.LiveTable.{LiveTable}
+use Rattle.cs_layout.specs.{Layouts.AreApart, declared.areas.LiveTable.LiveTable}
 use Rattle.cs_meaning.specs.Plain.{Table}
-use Rattle.cs_piece.specs.Compositions.{live_in}
-use Rattle.cs_piece.specs.Tables.{Given, firsts}
-use Rattle.cs_piece.specs.inner.Marked.{Differ, NoneHas}
+use Rattle.cs_piece.specs.{Compositions.live_in, Tables.Given, Tables.firsts, inner.Marked.Differ, inner.Marked.NoneHas}
 
 module _ {X : Type 0} (f : X → ℕ) where
   none_filter : (p : X → Bool) (n : ℕ) (xs : List X) → NoneHas f n xs → NoneHas f n (filter p xs)

@@ -1,29 +1,22 @@
 -- Tables by ascending number.
 use Rattle.std.proofs.Common.{◌≡◌, ◌≢◌, ◌<◌, ◌≤◌, ◌∙◌, ◌⊎◌, inl, inr, ℕ, zero, suc, Bool, true, false, nat_lt, eqb}
 use Rattle.std.proofs.Common.{List, [], ◌∷◌, length, map, slice_index_or, refl, ap, sym, subst, arith, if◌then◌else◌}
-use Rattle.std.specs.List.{All, AllByRecursion as Each, Contains, IsDistinct}
-use Rattle.std.specs.List.Sorted.{IsNonDecreasingBy, IsPermutation}
-use Rattle.std.specs.Prelude.{AllPairs}
-use Rattle.std.proofs.lemmas.Bool.{eqb-false, ne_eqb}
-use Rattle.std.proofs.lemmas.Bool.Decides.{nat_tests}
+use Rattle.std.specs.List.{AllByRecursion as Each, Contains, IsDistinct}
+use Rattle.std.specs.{List.Sorted.IsNonDecreasingBy, List.Sorted.IsPermutation, Prelude.AllPairs}
+use Rattle.std.proofs.lemmas.{Bool.eqb-false, Bool.ne_eqb, Bool.Decides.nat_tests, List.Kept.AllPairs-cons}
 use Rattle.std.proofs.lemmas.List.Elements.{All-from_recursion, recursion_from_All}
 use Rattle.std.proofs.lemmas.List.Sorted.{Contains-permutation, IsPermutation-map, IsPermutation-sym}
 use Rattle.std.proofs.lemmas.Map.Keys.{IsDistinct-IsPermutation, IsDistinct-cons, IsDistinct-from_apart}
-use Rattle.std.proofs.lemmas.Map.Keys.{IsDistinct-head}
-use Rattle.std.proofs.lemmas.Map.Keys.{IsDistinct-tail}
-use Rattle.std.proofs.lemmas.List.Kept.{AllPairs-cons}
+use Rattle.std.proofs.lemmas.Map.Keys.{IsDistinct-head, IsDistinct-tail}
 use Rattle.cs_layout.specs.Layouts.{AreApart}
 use Rattle.cs_meaning.specs.Plain.{Table}
 use Rattle.cs_tempo.specs.declared.plot.Event.{Event}
-use Rattle.cs_typed.specs.TypedTree as typed
 use Rattle.cs_voice.specs.declared.stage.PieceTable.{PieceTable}
-use Rattle.cs_piece.specs.Compositions.{live_in}
+use Rattle.cs_piece.specs.{Compositions.live_in, declared.tables.Firsts.Firsts, declared.tables.GivenTable.GivenTable}
 use Rattle.cs_piece.specs.Tables.{Given, ascending, firsts, given_in, put_in, table_in, table_of, tables_in}
-use Rattle.cs_piece.specs.declared.tables.Firsts.{Firsts}
-use Rattle.cs_piece.specs.declared.tables.GivenTable.{GivenTable}
-use Rattle.cs_piece.specs.declared.tables.Times.{Times}
 use Rattle.cs_piece.specs.inner.Marked.{Differ, Marks, NoneHas, StandFor, given_of, table_by}
 use Rattle.cs_piece.proofs.Apart.{differ_map, firsts_differ, live_apart}
+use Rattle.cs_typed.specs.TypedTree as typed
 
 abbrev pub number_of : Table → ℕ
 number_of t = t.number
@@ -271,7 +264,7 @@ up_mapped (t ∷ ts) up i j e le l =
 -- THE TABLES OF A PLOT
 
 -- those that are made of what was given first
-by_given : (times : List Times) (w : Marks) (xs : List GivenTable)
+by_given : (times : List ℕ) (w : Marks) (xs : List GivenTable)
     → map (λ x. table_by times w (given_of x)) xs ≡ map (table_by times w) (map given_of xs)
 by_given times w [] = refl
 by_given times w (x ∷ xs) = ap (λ (l : List Table). table_by times w (given_of x) ∷ l) (by_given times w xs)

@@ -1,21 +1,17 @@
 -- The instrument of a number: among the codes and in the text.
 use Rattle.std.proofs.Common.{◌≡◌, ℕ, ℤ, pos, zero, suc, ◌<◌, ⊎_elim, Bool, true, false, List, [], ◌∷◌, ◌++◌, length}
 use Rattle.std.proofs.Common.{get_or, slice_get, Some, None, if◌then◌else◌, refl, sym, ◌∙◌, ap, subst, arith}
-use Rattle.std.specs.List.{All, AllZip}
+use Rattle.std.specs.{List.All, List.AllZip, Ordering.int_eq}
 use Rattle.std.specs.List.Sorted.{IsPermutation, IsStrictlyIncreasing}
-use Rattle.std.specs.Ordering.{int_eq}
-use Rattle.std.proofs.lemmas.Bool.{cases_order}
-use Rattle.std.proofs.lemmas.Bool.Decides.{Decides-int_eq}
-use Rattle.std.proofs.lemmas.List.Elements.{All-head, All-tail}
-use Rattle.std.proofs.lemmas.List.Kept.{AllPairs-from_increasing}
+use Rattle.std.proofs.lemmas.{Bool.cases_order, Bool.Decides.Decides-int_eq, List.Elements.All-head}
+use Rattle.std.proofs.lemmas.{List.Elements.All-tail, List.Kept.AllPairs-from_increasing, Option.slice_get-get_or}
 use Rattle.std.proofs.lemmas.List.Sorted.{All-permutation, IsPermutation-sym}
-use Rattle.std.proofs.lemmas.Option.{slice_get-get_or}
 use Rattle.cs_base.proofs.Tests.{by_test, some_is}
 use Rattle.cs_code.specs.Lowered.{AreInstrumentsOf, IsCodeOf, IsNumberedCode, bodies, numbered_with}
 use Rattle.cs_ir.specs.Instruments.{Numbered, numbers_of}
 use Rattle.cs_base.specs.declared.spaces.Spaces.{Spaces}
-use Rattle.cs_typed.specs.TypedTree as typed
 use Rattle.cs_piece.specs.Compositions.{body_of}
+use Rattle.cs_typed.specs.TypedTree as typed
 
 -- an instrument stands somewhere in a list
 abbrev pub IsIn : List Numbered → Numbered → Type 0

@@ -4,15 +4,11 @@ use Rattle.std.proofs.Common.{[], ◌∷◌, ◌++◌, length, get_or, slice_set
 use Rattle.std.specs.List.{filter}
 use Rattle.std.proofs.lemmas.Bool.{eq-eqb, eqb-false, eqb-true, ne_eqb, cases_eq}
 use Rattle.std.proofs.lemmas.List.{append-nil, get_or-set_same, get_or-set_other, map-append}
-use Rattle.std.proofs.lemmas.List.Sums.{sum_by-append}
-use Rattle.std.proofs.lemmas.List.Elements.{filter-append}
+use Rattle.std.proofs.lemmas.{List.Sums.sum_by-append, List.Elements.filter-append}
 use Rattle.cs_base.proofs.Tests.{by_test}
 use Rattle.cs_piece.specs.Tables.{Given, firsts, times_given}
-use Rattle.cs_piece.specs.declared.tables.GivenTable.{GivenTable}
-use Rattle.cs_piece.specs.declared.tables.Firsts.{Firsts}
-use Rattle.cs_piece.specs.declared.tables.Times.{Times}
-use Rattle.cs_piece.specs.declared.tables.Times.TheVariants as times
-use Rattle.cs_piece.specs.inner.Marked.{StandFor, as_times, given_of, next_times, numbers_end, times_at}
+use Rattle.cs_piece.specs.{declared.tables.GivenTable.GivenTable, declared.tables.Firsts.Firsts}
+use Rattle.cs_piece.specs.inner.Marked.{StandFor, as_times, given_of, numbers_end, times_at}
 
 -- a test whose answer is known
 cond_yes : {A : Type 0} (b : Bool) (x y : A) → b ≡ true → cond b x y ≡ x
@@ -47,11 +43,6 @@ given_else n gs g other =
 before : (n : ℕ) (x : Given) (gs : List Given)
     → times_given n (x ∷ gs) ≡ (0 + cond (x.number == n) 1 0) + times_given n gs
 before n x gs = sum_by-append (λ (h : Given). cond (h.number == n) 1 0) (x ∷ []) gs
-
-pub as_next : (n : ℕ) → as_times (suc n) ≡ next_times (as_times n)
-as_next zero = refl
-as_next (suc zero) = refl
-as_next (suc (suc n)) = refl
 
 -- a number that wasn't given before goes last
 turned : (m n : ℕ) → (m == n) ≡ false → (n == m) ≡ false
@@ -101,46 +92,36 @@ not_first (x ∷ gs) g l = by_test (x.number == g.number)
     (subst (λ m. 0 < m) (before g.number x gs) l))))
 
 -- what stands for what was given, with one table more
-pub times_more : (ts : List Times) (gs : List Given) (g : Given) → g.number < length ts
+pub times_more : (ts : List ℕ) (gs : List Given) (g : Given) → g.number < length ts
     → ((n : ℕ) → n < numbers_end → times_at ts n ≡ as_times (times_given n gs))
-    → (t : Times) → t ≡ next_times (times_at ts g.number) → g.number < numbers_end
+    → (t : ℕ) → t ≡ as_times (times_at ts g.number + 1) → g.number < numbers_end
     → (n : ℕ) → n < numbers_end → times_at (slice_set ts g.number t) n ≡ as_times (times_given n (gs ++ g ∷ []))
 times_more ts gs g within h t is low n l = ⊎_elim
     (λ (e : n ≡ g.number). subst (λ m. times_at (slice_set ts g.number t) m ≡ as_times (times_given m (gs ++ g ∷ [])))
     (sym e)
-    (get_or-set_same ts g.number t times.Never within ∙ is ∙ ap next_times (h g.number low)
-    ∙ sym (as_next (times_given g.number gs)) ∙ ap as_times (sym (given_here gs g))))
-    (λ (e : n ≡ g.number → ⊥). get_or-set_other ts g.number n t times.Never e ∙ h n l
+    (let same : t ≡ as_times (times_given g.number (gs ++ g ∷ [])) =
+    omega (arith, is, h g.number low, given_here gs g) in get_or-set_same ts g.number t 0 within ∙ same))
+    (λ (e : n ≡ g.number → ⊥). get_or-set_other ts g.number n t 0 e ∙ h n l
     ∙ ap as_times (sym (given_else n gs g (λ f. e (sym f)))))
     (cases_eq n g.number)
 
--- whether a number was given is told by how often
-never_is : (m : ℕ) → as_times m ≡ times.Never → m ≡ 0
-never_is zero e = refl
-never_is (suc zero) e = absurd cc
-never_is (suc (suc m)) e = absurd cc
-
-given_is : (m : ℕ) → (as_times m ≡ times.Never → ⊥) → 0 < m
-given_is zero e = absurd (e refl)
-given_is (suc m) e = omega arith
-
-pub firsts_more : (xs : List GivenTable) (x : GivenTable) (gs : List Given) (t : Times) → map given_of xs ≡ firsts gs
-    → t ≡ as_times (times_given (given_of x).number gs) → t ≡ times.Never
+pub firsts_more : (xs : List GivenTable) (x : GivenTable) (gs : List Given) (t : ℕ) → map given_of xs ≡ firsts gs
+    → t ≡ as_times (times_given (given_of x).number gs) → t ≡ 0
     → map given_of (xs ++ x ∷ []) ≡ firsts (gs ++ given_of x ∷ [])
 firsts_more xs x gs t same is never =
     map-append given_of xs (x ∷ []) ∙ ap (λ l. l ++ given_of x ∷ []) same
-    ∙ sym (first_now gs (given_of x) (never_is (times_given x.number gs) (sym is ∙ never)))
+    ∙ sym (first_now gs (given_of x) (omega (arith, is, never)))
 
-pub firsts_same : (xs : List GivenTable) (x : GivenTable) (gs : List Given) (t : Times) → map given_of xs ≡ firsts gs
-    → t ≡ as_times (times_given (given_of x).number gs) → (t ≡ times.Never → ⊥)
+pub firsts_same : (xs : List GivenTable) (x : GivenTable) (gs : List Given) (t : ℕ) → map given_of xs ≡ firsts gs
+    → t ≡ as_times (times_given (given_of x).number gs) → 0 < t
     → map given_of xs ≡ firsts (gs ++ given_of x ∷ [])
 firsts_same xs x gs t same is given =
-    same ∙ sym (not_first gs (given_of x) (given_is (times_given x.number gs) (λ e. given (is ∙ e))))
+    same ∙ sym (not_first gs (given_of x) (omega (arith, is, given)))
 
 -- what stands for what was given, with one table more
-module _ (old new : Firsts) (x : GivenTable) (gs : List Given) (t u : Times) (stand : StandFor gs old)
+module _ (old new : Firsts) (x : GivenTable) (gs : List Given) (t u : ℕ) (stand : StandFor gs old)
     (long : length old.times.items ≡ numbers_end) (low : x.number < numbers_end)
-    (is : t ≡ times_at old.times.items x.number) (next : u ≡ next_times t)
+    (is : t ≡ times_at old.times.items x.number) (next : u ≡ as_times (t + 1))
     (times_new : new.times.items ≡ slice_set old.times.items x.number u) where
   told : t ≡ as_times (times_given x.number gs)
   told = is ∙ stand.times_are x.number low
@@ -149,15 +130,15 @@ module _ (old new : Firsts) (x : GivenTable) (gs : List Given) (t u : Times) (st
   times_so n l =
       ap (λ ts. times_at ts n) times_new
       ∙ times_more old.times.items gs (given_of x) (omega (arith, long, low)) stand.times_are u
-      (next ∙ ap next_times is) low n l
+      (next ∙ ap (λ m. as_times (m + 1)) is) low n l
 
-  pub stand_new : new.items.items ≡ old.items.items ++ x ∷ [] → t ≡ times.Never → StandFor (gs ++ given_of x ∷ []) new
+  pub stand_new : new.items.items ≡ old.items.items ++ x ∷ [] → t ≡ 0 → StandFor (gs ++ given_of x ∷ []) new
   stand_new more never = record {
     firsts_are = ap (map given_of) more ∙ firsts_more old.items.items x gs t stand.firsts_are told never;
     times_are = times_so;
   }
 
-  pub stand_same : new.items.items ≡ old.items.items → (t ≡ times.Never → ⊥) → StandFor (gs ++ given_of x ∷ []) new
+  pub stand_same : new.items.items ≡ old.items.items → 0 < t → StandFor (gs ++ given_of x ∷ []) new
   stand_same same given = record {
     firsts_are = ap (map given_of) same ∙ firsts_same old.items.items x gs t stand.firsts_are told given;
     times_are = times_so;
@@ -168,3 +149,7 @@ pub any_default : {X : Type 0} (xs : List X) (i : ℕ) (d e : X) → i < length 
 any_default [] i d e l = absurd (omega (arith, l))
 any_default (x ∷ xs) zero d e l = refl
 any_default (x ∷ xs) (suc i) d e l = any_default xs i d e (omega (arith, l))
+
+pub some_of : (t : ℕ) → (t ≡ 0 → ⊥) → 0 < t
+some_of zero h = absurd (h refl)
+some_of (suc t) h = omega arith

@@ -2,39 +2,25 @@
 use Rattle.std.proofs.Common.{◌≡◌, ℕ, ℤ, ◌+◌, ◌<◌, ◌≤◌, length, true, false, List, [], ◌∷◌, Option, Some, None, refl}
 use Rattle.std.proofs.Common.{sym, ◌∙◌, ap, subst, arith}
 use Rattle.std.specs.Option.{is_some}
-use Rattle.std.proofs.lemmas.List.{append-nil}
-use Rattle.std.proofs.lemmas.Bool.Decides.{nat_tests}
-use Rattle.cs_base.specs.Rates.{res_rate}
-use Rattle.cs_base.specs.declared.resource.Rate.{Rate}
-use Rattle.cs_base.specs.declared.resource.Res.{Res}
-use Rattle.cs_ir.specs.Registers.{rate_at}
-use Rattle.cs_ir.specs.Machine.{Machine, new_machine, again, run}
-use Rattle.cs_ir.specs.Resources.{Stock}
-use Rattle.cs_ir.specs.Waves.{Wave}
-use Rattle.cs_ir.specs.declared.op.Act.{Act}
-use Rattle.cs_ir.specs.declared.op.Act.TheVariants as act
-use Rattle.cs_ir.specs.declared.op.Op.{Op}
-use Rattle.cs_ir.specs.declared.register.Reg.{Reg}
-use Rattle.cs_cells.specs.Areas.{word_count}
-use Rattle.cs_cells.specs.Cells.{Cells, cell, in_area}
-use Rattle.cs_cells.specs.declared.footprint.Area.{Area}
+use Rattle.std.proofs.lemmas.{List.append-nil, Bool.Decides.nat_tests}
+use Rattle.cs_base.specs.{Rates.res_rate, declared.resource.Rate.Rate, declared.resource.Res.Res}
+use Rattle.cs_ir.specs.{Registers.rate_at, Machine.Machine, Machine.new_machine, Machine.again, Machine.run}
+use Rattle.cs_ir.specs.{Resources.Stock, Waves.Wave, declared.op.Act.Act, declared.op.Op.Op, declared.register.Reg.Reg}
+use Rattle.cs_cells.specs.{Areas.word_count, Cells.Cells, Cells.cell, Cells.in_area, declared.footprint.Area.Area}
 use Rattle.cs_cells.proofs.Laid.{area_within}
-use Rattle.cs_meaning.specs.Core.{Block}
-use Rattle.cs_meaning.specs.Notes.{Note, reg}
+use Rattle.cs_meaning.specs.{Core.Block, Notes.Note, Notes.reg}
 use Rattle.cs_meaning.specs.Plain.{Piece, Plain, Cause, plain, fresh, next_cycle}
 use Rattle.cs_code.specs.Means.{RegisterPlan, StandsInMachine, Means, MeansIn}
 use Rattle.cs_voice_meaning.specs.Placing.{area_of, wave_of, HasArea}
 use Rattle.cs_ugen.specs.Generators.{pace_of, the_generators}
-use Rattle.cs_voice_meaning.specs.VoiceWorld.{VoiceState, fresh_voice}
+use Rattle.cs_voice_meaning.specs.{VoiceWorld.VoiceState, VoiceWorld.fresh_voice, Voices.performed, Voices.left_by}
 use Rattle.cs_voice_meaning.specs.Follows.{Kinds, ActNamed, AreNamed, OpsNamed, SameState, Alike}
 use Rattle.cs_voice_meaning.specs.Voices.{Sheet, Sounding, IsPlayable, IsUsed, initialised, begins, cycle, voice_of}
-use Rattle.cs_voice_meaning.specs.Voices.{performed, left_by}
 use Rattle.cs_voice_meaning.proofs.Notes.{do_alike, begins_same}
 use Rattle.cs_voice_meaning.proofs.OnAllCells.{performed_on_all, left_on_all}
-use Rattle.cs_voice_meaning.proofs.Placed.{area_at, wave_same}
-use Rattle.cs_voice_meaning.proofs.Shared.{roomy}
-use Rattle.cs_voice_meaning.proofs.Steady.{cycle_steady}
+use Rattle.cs_voice_meaning.proofs.{Placed.area_at, Placed.wave_same, Shared.roomy, Steady.cycle_steady}
 use Rattle.cs_piece.specs.VoicesOfNotes.{begun_note, next_note, Hold, IsVoiceOf, Begins, GoesOn, Perform}
+use Rattle.cs_ir.specs.declared.op.Act.TheVariants as act
 
 -- ---- the registers of a voice and of a note
 
@@ -54,22 +40,8 @@ act_wider stock kinds N M wide (act.Save g) r h = (wide g h.0, h.1)
 act_wider stock kinds N M wide (act.Unit opcode u reach) r h = (h.0, all_wider N M wide _ h.1)
 act_wider stock kinds N M wide (act.Store reach) r h = all_wider N M wide _ h
 act_wider stock kinds N M wide (act.Zak opcode reach) r h = all_wider N M wide _ h
-act_wider stock kinds N M wide act.Seek r h = tt
 act_wider stock kinds N M wide (act.Start opcode u) r h = h
-act_wider stock kinds N M wide (act.Const n) r h = tt
-act_wider stock kinds N M wide (act.Field n) r h = tt
-act_wider stock kinds N M wide (act.Head n) r h = tt
-act_wider stock kinds N M wide act.Copy r h = tt
-act_wider stock kinds N M wide act.Neg r h = tt
-act_wider stock kinds N M wide (act.Pair n) r h = tt
-act_wider stock kinds N M wide act.Pick r h = tt
-act_wider stock kinds N M wide (act.Call n) r h = tt
-act_wider stock kinds N M wide (act.Jump n) r h = tt
-act_wider stock kinds N M wide (act.Unless n) r h = tt
-act_wider stock kinds N M wide (act.Out n) r h = tt
-act_wider stock kinds N M wide act.OutAt r h = tt
-act_wider stock kinds N M wide act.Turnoff r h = tt
-act_wider stock kinds N M wide act.Ask r h = tt
+act_wider stock kinds N M wide _ r h = tt
 
 pub ops_wider : (stock : Stock) (kinds : Kinds) (N M : Res → Type 0) → ((g : Res) → N g → M g) → (ops : List Op)
     → OpsNamed stock kinds N ops → OpsNamed stock kinds M ops
@@ -97,8 +69,7 @@ module _ (s : Sheet) (playable : IsPlayable s) where
   same_wave g c d has same =
       ap (λ o. wave_of o (res_rate g) c) has.1
       ∙ wave_same (res_rate g) has.0 c d
-      (roomy s.areas playable.stock s.piece playable.kinds (HasArea s.areas) [] playable.placed (λ g h. h) g has.0
-      has.1) (λ a. same has.0 a has.1)
+      (roomy s.areas playable.stock s.piece playable.placed g has.0 has.1) (λ a. same has.0 a has.1)
       ∙ sym (ap (λ o. wave_of o (res_rate g) d) has.1)
 
   module _ (body : Block) (plan : RegisterPlan)

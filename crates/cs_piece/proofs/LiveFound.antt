@@ -1,21 +1,15 @@
 -- The live tables of a composition, as a note finds them by their numbers.
 use Rattle.std.proofs.Common.{◌≡◌, ℕ, ℤ, pos, ◌==◌, ◌&&◌, ◌||◌, Bool, true, false, not, List, [], ◌∷◌, length, map}
 use Rattle.std.proofs.Common.{Option, Some, None, cond, if◌then◌else◌, refl, sym, ◌∙◌, ap, subst, arith}
-use Rattle.std.specs.Int.{is_negative}
-use Rattle.std.specs.List.{filter, list_any}
-use Rattle.std.specs.Option.{is_some}
-use Rattle.std.proofs.lemmas.Bool.{eqb-true}
-use Rattle.std.proofs.lemmas.Bool.Decides.{nat_tests}
+use Rattle.std.specs.{Int.is_negative, List.filter, List.list_any, Option.is_some}
+use Rattle.std.proofs.lemmas.{Bool.eqb-true, Bool.Decides.nat_tests}
 use Rattle.cs_base.proofs.Tests.{by_test}
 use Rattle.cs_layout.specs.declared.areas.LiveTable.{LiveTable}
 use Rattle.cs_meaning.specs.Pieces.{Table, find_table}
 use Rattle.cs_voice_meaning.specs.Placing.{IsLiveTable}
-use Rattle.cs_voice.specs.Memory.{table_of}
-use Rattle.cs_voice.specs.Tables.{table_at, tables_of}
-use Rattle.cs_voice.specs.VoiceData.{made}
+use Rattle.cs_voice.specs.{Memory.table_of, Tables.table_at, Tables.tables_of, VoiceData.made}
 use Rattle.cs_voice.specs.declared.stage.PieceTable.{PieceTable}
-use Rattle.cs_piece.specs.Compositions.{live_in}
-use Rattle.cs_piece.specs.inner.Marked.{Differ, NoneHas}
+use Rattle.cs_piece.specs.{Compositions.live_in, inner.Marked.Differ, inner.Marked.NoneHas}
 
 abbrev as_live : Table → LiveTable
 as_live t = record { number = t.number; size = t.size }

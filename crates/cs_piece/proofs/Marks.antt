@@ -1,19 +1,15 @@
 -- Marks of tables, set one after another.
-use Rattle.std.proofs.Common.{◌≡◌, ℕ, ◌+◌, ◌<◌, Bool, true, false, ◌||◌, List, [], ◌∷◌, length, get_or, replicate}
-use Rattle.std.proofs.Common.{take, ⊎_elim, arith, refl, sym, ◌∙◌, ap}
+use Rattle.std.proofs.Common.{◌≡◌, ℕ, ◌+◌, ◌<◌, Bool, true, false, ◌||◌, List, [], ◌∷◌, length, get_or, replicate, take}
+use Rattle.std.proofs.Common.{⊎_elim, arith, refl, sym, ◌∙◌, ap}
 use Rattle.std.specs.List.{flat_map, list_any}
-use Rattle.std.proofs.lemmas.Bool.{cases_lt}
+use Rattle.std.proofs.lemmas.{Bool.cases_lt, List.Folds.list_any-append, List.Folds.list_any_more}
 use Rattle.std.proofs.lemmas.List.{get_or-replicate, get_or_past, length-replicate}
-use Rattle.std.proofs.lemmas.List.Folds.{list_any-append, list_any_more}
 use Rattle.cs_base.specs.Rates.{same_res}
-use Rattle.cs_base.specs.declared.resource.Res.TheVariants as res
 use Rattle.cs_ir.specs.Resources.{NameTheSame, Stock, act_writes, ops_write}
-use Rattle.cs_ir.specs.Touched.{named, resources}
-use Rattle.cs_ir.specs.declared.op.Op.{Op}
-use Rattle.cs_ir.specs.declared.touches.Touch.{Touch}
-use Rattle.cs_piece.specs.Tables.{only}
-use Rattle.cs_piece.specs.inner.Marked.{ops_store, touch_stores}
+use Rattle.cs_ir.specs.{Touched.named, Touched.resources, declared.op.Op.Op, declared.touches.Touch.Touch}
+use Rattle.cs_piece.specs.{Tables.only, inner.Marked.ops_store, inner.Marked.touch_stores}
 use Rattle.cs_rwset.proofs.Placed.{among_alike}
+use Rattle.cs_base.specs.declared.resource.Res.TheVariants as res
 
 pub or_three : (a b c : Bool) → ((a || b) || c) ≡ (a || (b || c))
 or_three true b c = refl

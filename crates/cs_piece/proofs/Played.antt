@@ -1,40 +1,28 @@
 -- What an instrument's codes touch lies in its areas and in its footprint.
 use Rattle.std.proofs.Common.{◌≡◌, ℕ, zero, suc, ◌<◌, ◌||◌, ◌&&◌, ◌+◌, ◌++◌, Bool, true, not, List, [], ◌∷◌, length}
 use Rattle.std.proofs.Common.{nat_lt, slice_get, Option, Some, None, refl, sym, ◌∙◌, ap, subst, arith}
-use Rattle.std.specs.List.{All, Contains, list_all}
-use Rattle.std.proofs.lemmas.Bool.{and_parts, and_from, or_left}
-use Rattle.std.proofs.lemmas.Bool.Decides.{nat_tests}
+use Rattle.std.specs.List.{Contains, list_all}
+use Rattle.std.proofs.lemmas.{Bool.and_parts, Bool.and_from, Bool.or_left, Bool.Decides.nat_tests}
 use Rattle.std.proofs.lemmas.List.Elements.{All-head, All-tail}
-use Rattle.cs_base.specs.declared.resource.Rate.{Rate}
-use Rattle.cs_base.specs.declared.resource.Res.{Res}
-use Rattle.cs_typed.specs.TypedTree as typed
-use Rattle.cs_ir.specs.Registers.{rate_at}
+use Rattle.cs_base.specs.{declared.resource.Rate.Rate, declared.resource.Res.Res}
+use Rattle.cs_ir.specs.{Registers.rate_at, Cycles.are_of_cycle, declared.op.Act.Act, declared.op.Code.Code}
+use Rattle.cs_ir.specs.{declared.op.Op.Op, declared.register.Counts.Counts, declared.register.Reg.Reg}
 use Rattle.cs_ir.specs.Resources.{Stock, act_uses, act_writes, ops_use, ops_write}
 use Rattle.cs_ir.proofs.Shapes.{started_shape}
-use Rattle.cs_ir.specs.Cycles.{are_of_cycle}
 use Rattle.cs_ir.specs.Validity.{has_value, takes_from, has_register, finds, writes, is_fine, fine_from}
-use Rattle.cs_ir.specs.declared.op.Act.{Act}
-use Rattle.cs_ir.specs.declared.op.Act.TheVariants as act
-use Rattle.cs_ir.specs.declared.op.Code.{Code}
-use Rattle.cs_ir.specs.declared.op.Op.{Op}
-use Rattle.cs_ir.specs.declared.register.Counts.{Counts}
-use Rattle.cs_ir.specs.declared.register.Reg.{Reg}
-use Rattle.cs_cells.specs.Cells.{covers, in_area}
-use Rattle.cs_cells.specs.declared.footprint.Area.{Area}
-use Rattle.cs_code.specs.Names.{UnitKind, Names, AllNamed, block_units}
-use Rattle.cs_meaning.specs.Core.{core}
-use Rattle.cs_meaning.specs.Plain.{Piece, plain}
+use Rattle.cs_cells.specs.{Cells.covers, Cells.in_area, declared.footprint.Area.Area}
+use Rattle.cs_code.specs.{Names.UnitKind, Names.Names, Names.AllNamed, Names.block_units, Means.MeansIn}
+use Rattle.cs_meaning.specs.{Core.core, Plain.Piece, Plain.plain}
 use Rattle.cs_rwset.specs.Footprints.{stock_of, places_holding}
-use Rattle.cs_rwset.proofs.Holding.{holding_covers}
-use Rattle.cs_rwset.proofs.Placed.{contains_first, contains_rest}
+use Rattle.cs_rwset.proofs.{Holding.holding_covers, Placed.contains_first, Placed.contains_rest}
 use Rattle.cs_voice_meaning.specs.Placing.{area_of, HasArea}
 use Rattle.cs_voice_meaning.specs.Follows.{ActNamed, AreNamed, OpsNamed}
 use Rattle.cs_voice_meaning.specs.Voices.{Sheet, IsUsed, IsWritten, OpsWritten, IsPlayable, has_channel, have_channels}
 use Rattle.cs_voice_meaning.proofs.Placed.{area_at}
-use Rattle.cs_code.specs.Means.{MeansIn}
-use Rattle.cs_piece.specs.VoicesOfNotes.{Perform}
+use Rattle.cs_piece.specs.{VoicesOfNotes.Perform, Sheets.kind_of, Sheets.kinds_of, Sheets.IsSheetOf}
 use Rattle.cs_piece.proofs.Joined.{perform_so}
-use Rattle.cs_piece.specs.Sheets.{kind_of, kinds_of, IsSheetOf}
+use Rattle.cs_typed.specs.TypedTree as typed
+use Rattle.cs_ir.specs.declared.op.Act.TheVariants as act
 
 -- ---- lists of resources
 
@@ -56,9 +44,8 @@ all_from M (g ∷ gs) each =
 -- ---- ops
 
 saves_value : (g : Res) (r : Rate) (xs : List Reg) → takes_from (act.Save g) r xs ≡ true → has_value g ≡ true
-saves_value g r [] h = absurd (cc)
 saves_value g r (x ∷ []) h = (and_parts (has_value g) _ h).0
-saves_value g r (x ∷ y ∷ xs) h = absurd (cc)
+saves_value g r _ h = absurd (cc)
 
 fine_takes : (counts : Counts) (end place : ℕ) (op : Op) → is_fine counts end place op ≡ true
     → takes_from op.act (rate_at op.into) op.from ≡ true
@@ -77,21 +64,7 @@ act_named stock channels units N (act.Start opcode u) r xs names takes h =
 act_named stock channels units N (act.Unit opcode u reach) r xs names takes h = (ap kind_of names, h)
 act_named stock channels units N (act.Store reach) r xs names takes h = h
 act_named stock channels units N (act.Zak opcode reach) r xs names takes h = h
-act_named stock channels units N act.Seek r xs names takes h = tt
-act_named stock channels units N (act.Const n) r xs names takes h = tt
-act_named stock channels units N (act.Field n) r xs names takes h = tt
-act_named stock channels units N (act.Head n) r xs names takes h = tt
-act_named stock channels units N act.Copy r xs names takes h = tt
-act_named stock channels units N act.Neg r xs names takes h = tt
-act_named stock channels units N (act.Pair n) r xs names takes h = tt
-act_named stock channels units N act.Pick r xs names takes h = tt
-act_named stock channels units N (act.Call n) r xs names takes h = tt
-act_named stock channels units N (act.Jump n) r xs names takes h = tt
-act_named stock channels units N (act.Unless n) r xs names takes h = tt
-act_named stock channels units N (act.Out n) r xs names takes h = tt
-act_named stock channels units N act.OutAt r xs names takes h = tt
-act_named stock channels units N act.Turnoff r xs names takes h = tt
-act_named stock channels units N act.Ask r xs names takes h = tt
+act_named stock channels units N _ r xs names takes h = tt
 
 below : (c channels : ℕ) → c < channels → nat_lt c channels ≡ true
 below c channels h = grind (arith, nat_tests)
@@ -99,26 +72,7 @@ below c channels h = grind (arith, nat_tests)
 act_channel : (channels : ℕ) (units : List UnitKind) (a : Act) (r : Rate) → Names channels units a r
     → has_channel channels a ≡ true
 act_channel channels units (act.Out c) r names = below c channels names
-act_channel channels units (act.Load g) r names = refl
-act_channel channels units (act.Save g) r names = refl
-act_channel channels units (act.Start opcode u) r names = refl
-act_channel channels units (act.Unit opcode u reach) r names = refl
-act_channel channels units act.Seek r names = refl
-act_channel channels units (act.Store reach) r names = refl
-act_channel channels units (act.Zak opcode reach) r names = refl
-act_channel channels units (act.Const n) r names = refl
-act_channel channels units (act.Field n) r names = refl
-act_channel channels units (act.Head n) r names = refl
-act_channel channels units act.Copy r names = refl
-act_channel channels units act.Neg r names = refl
-act_channel channels units (act.Pair n) r names = refl
-act_channel channels units act.Pick r names = refl
-act_channel channels units (act.Call n) r names = refl
-act_channel channels units (act.Jump n) r names = refl
-act_channel channels units (act.Unless n) r names = refl
-act_channel channels units act.OutAt r names = refl
-act_channel channels units act.Turnoff r names = refl
-act_channel channels units act.Ask r names = refl
+act_channel channels units _ r names = refl
 
 channels_there : (channels : ℕ) (units : List UnitKind) (ops : List Op) → AllNamed channels units ops
     → have_channels channels ops ≡ true

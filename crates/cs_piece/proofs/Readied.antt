@@ -1,50 +1,31 @@
 -- The instruments of a setup are ready: their notes can begin and perform what their statements say.
 use Rattle.std.proofs.Common.{◌≡◌, ℕ, ℤ, pos, zero, suc, ◌+◌, ⊎_elim, ◌<◌, ◌==◌, ◌||◌, Bool, true, false, List, [], ◌∷◌}
-use Rattle.std.proofs.Common.{◌++◌, length, nat_lt, slice_get, Option, Some, None, if◌then◌else◌, refl, sym, ◌∙◌, ap}
-use Rattle.std.proofs.Common.{subst, arith}
-use Rattle.std.specs.List.{AllZip, Contains, cons_option, filter_map, list_any}
-use Rattle.std.specs.Option.{is_some, option_map}
-use Rattle.std.proofs.lemmas.Bool.{cases_eq}
-use Rattle.std.proofs.lemmas.List.Elements.{Contains-append_left, Contains-append_right}
+use Rattle.std.proofs.Common.{◌++◌, length, nat_lt, slice_get, Some, None, if◌then◌else◌, refl, sym, ◌∙◌, ap, subst}
+use Rattle.std.proofs.Common.{arith}
+use Rattle.std.specs.{List.AllZip, List.Contains, List.cons_option, List.filter_map, List.list_any, Option.option_map}
+use Rattle.std.proofs.lemmas.{Bool.cases_eq, List.Elements.Contains-append_left, List.Elements.Contains-append_right}
 use Rattle.cs_base.proofs.Tests.{by_test, some_is}
-use Rattle.cs_base.specs.Rates.{same_res}
-use Rattle.cs_base.specs.declared.resource.Res.{Res}
-use Rattle.cs_base.specs.declared.resource.Res.TheVariants as res
-use Rattle.cs_cells.specs.declared.footprint.Area.{Area}
-use Rattle.cs_cells.specs.declared.footprint.Footprint.{Footprint}
-use Rattle.cs_code.specs.Lowered.{IsCodeOf}
-use Rattle.cs_code.specs.Means.{RegisterPlan}
-use Rattle.cs_code.specs.Names.{block_units}
+use Rattle.cs_base.specs.{Rates.same_res, declared.resource.Res.Res, declared.spaces.Spaces.Spaces}
+use Rattle.cs_cells.specs.{declared.footprint.Area.Area, declared.footprint.Footprint.Footprint, Cells.covers}
+use Rattle.cs_code.specs.{Lowered.IsCodeOf, Means.RegisterPlan, Names.block_units}
 use Rattle.cs_ir.specs.Instruments.{Numbered}
-use Rattle.cs_base.specs.declared.spaces.Spaces.{Spaces}
 use Rattle.cs_ir.specs.Resources.{Stock, may_use, may_write, ops_use, ops_write}
-use Rattle.cs_layout.proofs.Complete.{there}
-use Rattle.cs_layout.proofs.Counted.{spaces_are}
-use Rattle.cs_layout.specs.Layouts.{areas_of}
-use Rattle.cs_layout.specs.declared.areas.LiveTable.{LiveTable}
-use Rattle.cs_meaning.specs.Uses.{block_begins, block_uses, block_writes}
-use Rattle.cs_meaning.specs.Core.{Block, core}
+use Rattle.cs_layout.proofs.{Complete.there, Counted.spaces_are}
+use Rattle.cs_layout.specs.{Layouts.areas_of, declared.areas.LiveTable.LiveTable}
+use Rattle.cs_meaning.specs.{Uses.block_begins, Uses.block_uses, Uses.block_writes, Core.Block, Core.core}
 use Rattle.cs_name_laws.specs.Names.{IsNamedBlock, is_there}
-use Rattle.cs_piece.proofs.Played.{performed_from, plays_from}
-use Rattle.cs_piece.specs.Sheets.{IsSheetOf, kinds_of}
-use Rattle.cs_piece.specs.VoicesOfNotes.{Perform}
-use Rattle.cs_cells.specs.Cells.{covers}
+use Rattle.cs_piece.proofs.{Played.performed_from, Played.plays_from, Staged.some_area}
+use Rattle.cs_piece.specs.{Sheets.IsSheetOf, Sheets.kinds_of, VoicesOfNotes.Perform, Compositions.live_in}
+use Rattle.cs_piece.specs.{Ready.IsInstrumentOf, Ready.IsStageOf, Tables.tables_in}
 use Rattle.cs_rwset.proofs.Placed.{contains_first, contains_rest, places_alike}
-use Rattle.cs_rwset.specs.Zones.{IsFootOver}
-use Rattle.cs_rwset.specs.Footprints.{places_holding, stock_of, table_number}
-use Rattle.cs_voice_meaning.specs.Follows.{AreNamed}
-use Rattle.cs_voice_meaning.specs.Placing.{HasArea, area_of}
-use Rattle.cs_voice_meaning.specs.Voices.{IsPlayable}
-use Rattle.cs_voice.specs.Starts.{sheet_at}
-use Rattle.cs_typed.specs.Places.{Header}
-use Rattle.cs_typed.specs.TypedTree as typed
-use Rattle.cs_typed.specs.TypedTree.{SharedNames}
-use Rattle.cs_voice.specs.declared.stage.Stage.{Stage}
+use Rattle.cs_rwset.specs.{Zones.IsFootOver, Footprints.stock_of, Footprints.table_number}
+use Rattle.cs_voice_meaning.specs.{Follows.AreNamed, Placing.HasArea, Placing.area_of, Voices.IsPlayable}
+use Rattle.cs_voice.specs.{Starts.sheet_at, declared.stage.Stage.Stage}
+use Rattle.cs_typed.specs.{Places.Header, TypedTree.SharedNames}
 use Rattle.cs_piece.proofs.Bodies.{body_for, holds_of_body, no_body}
-use Rattle.cs_piece.specs.Compositions.{live_in}
-use Rattle.cs_piece.specs.Ready.{IsInstrumentOf, IsStageOf}
 use Rattle.cs_piece.specs.Setups.{IsSetup, SetupData, composition_of}
-use Rattle.cs_piece.specs.Tables.{tables_in}
+use Rattle.cs_base.specs.declared.resource.Res.TheVariants as res
+use Rattle.cs_typed.specs.TypedTree as typed
 
 -- all of some resources are there
 all_there : (H : Res → Type 0) (gs : List Res) → ((g : Res) → Contains gs g → H g) → AreNamed H gs
@@ -73,14 +54,8 @@ either_later false t fails e = e
 other_number : (g : Res) (n : ℕ) (ms : List ℕ) → same_res g (res.Table n) ≡ false
     → list_any (λ m. m == n) (cons_option (table_number g) ms) ≡ true
     → list_any (λ m. m == n) ms ≡ true
-other_number (res.Gi m) n ms fails e = e
-other_number (res.Gk m) n ms fails e = e
-other_number (res.Ga m) n ms fails e = e
-other_number (res.ZakK m) n ms fails e = e
-other_number (res.ZakA m) n ms fails e = e
-other_number (res.Control m) n ms fails e = e
-other_number (res.Sound m) n ms fails e = e
 other_number (res.Table m) n ms fails e = either_later (m == n) (list_any (λ k. k == n) ms) fails e
+other_number _ n ms fails e = e
 
 live_area : (areas : List Area) (n : ℕ)
     → list_any (λ m. m == n) (filter_map (λ (a : Area). table_number a.res) areas) ≡ true → HasArea areas (res.Table n)
@@ -89,10 +64,6 @@ live_area (a ∷ areas) n e = by_test (same_res a.res (res.Table n))
     (λ holds. head_area a areas (res.Table n) holds)
     (λ fails. later_area a areas (res.Table n)
     (live_area areas n (other_number a.res n (filter_map (λ (x : Area). table_number x.res) areas) fails e)))
-
-some_area : (o : Option Area) → is_some o ≡ true → (x : Area) × (o ≡ Some x)
-some_area None e = absurd cc
-some_area (Some x) e = (x, refl)
 
 -- what a piece has, has its area
 has_area : (ksmps : ℕ) (names : SharedNames) (spaces : Spaces) (live : List LiveTable) (g : Res)
@@ -254,12 +225,6 @@ foot_at areas zones (x ∷ is) (y ∷ feet) zero i foot h e f =
     subst {A = Numbered × Footprint} (λ p. IsFootOver areas zones p.0.perf p.1)
     (λ j. (some_is x i e j, some_is y foot f j)) h.0
 foot_at areas zones (x ∷ is) (y ∷ feet) (suc k) i foot h e f = foot_at areas zones is feet k i foot h.1 e f
-
-pub as_many : {X Y : Type 0} (R : X → Y → Type 0) (xs : List X) (ys : List Y) → AllZip R xs ys → length xs ≡ length ys
-as_many R [] [] h = refl
-as_many R [] (y ∷ ys) h = absurd h
-as_many R (x ∷ xs) [] h = absurd h
-as_many R (x ∷ xs) (y ∷ ys) h = ap suc (as_many R xs ys h.1)
 
 -- what is handed out of a number
 module _ (touched : TouchWhatIsThere) (s : SetupData) (h : IsSetup s) where

@@ -1,32 +1,25 @@
 -- Which tables are found by the codes and the events is what the definitions say.
-use Rattle.std.proofs.Common.{◌≡◌, ℕ, zero, suc, ◌==◌, ◌<◌, ◌≤◌, Bool, true, false, not, ◌&&◌, ◌||◌, List, [], ◌∷◌}
-use Rattle.std.proofs.Common.{◌++◌, map, cond, refl, sym, ◌∙◌, ap, arith}
+use Rattle.std.proofs.Common.{◌≡◌, ℕ, suc, ◌==◌, ◌<◌, ◌≤◌, Bool, true, false, not, ◌&&◌, ◌||◌, List, [], ◌∷◌, ◌++◌, map}
+use Rattle.std.proofs.Common.{cond, refl, sym, ◌∙◌, ap, arith}
 use Rattle.std.specs.List.{All, AllByRecursion, AllZip, filter, list_any}
-use Rattle.std.proofs.lemmas.Bool.{ne_eqb}
+use Rattle.std.proofs.lemmas.{Bool.ne_eqb, List.Sorted.list_any-IsPermutation}
 use Rattle.std.proofs.lemmas.List.Elements.{All-head, All-tail}
-use Rattle.std.proofs.lemmas.List.Sorted.{list_any-IsPermutation}
-use Rattle.cs_base.specs.Rates.{same_res}
-use Rattle.cs_base.specs.declared.resource.Res.TheVariants as res
+use Rattle.cs_base.specs.{Rates.same_res, declared.spaces.Spaces.Spaces}
 use Rattle.cs_code.specs.Lowered.{AreInstrumentsOf, IsNumberedCode, bodies}
-use Rattle.cs_ir.specs.Instruments.{Numbered}
-use Rattle.cs_base.specs.declared.spaces.Spaces.{Spaces}
+use Rattle.cs_ir.specs.{Instruments.Numbered, declared.op.Op.Op}
 use Rattle.cs_ir.specs.Resources.{act_writes, may_write, ops_write}
-use Rattle.cs_ir.specs.declared.op.Op.{Op}
-use Rattle.cs_meaning.specs.Uses.{block_begin_writes, block_writes}
-use Rattle.cs_meaning.specs.Core.{core}
-use Rattle.cs_tempo.specs.Performable.{IsActInRange}
-use Rattle.cs_tempo.specs.declared.plot.Event.{Event}
-use Rattle.cs_tempo.specs.declared.plot.EventAct.{EventAct}
-use Rattle.cs_tempo.specs.declared.plot.EventAct.TheVariants as act
-use Rattle.cs_typed.specs.TypedTree as typed
+use Rattle.cs_meaning.specs.{Uses.block_begin_writes, Uses.block_writes, Core.core}
+use Rattle.cs_tempo.specs.{Performable.IsActInRange, declared.plot.Event.Event, declared.plot.EventAct.EventAct}
 use Rattle.cs_rwset.proofs.Placed.{among_alike}
 use Rattle.cs_piece.proofs.Marks.{any_of_parts}
 use Rattle.cs_piece.specs.Tables.{Given, firsts, given_by, given_in, is_frozen, may_be_written, only, stores_into}
 use Rattle.cs_piece.specs.Tables.{table_given, table_in, times_given}
-use Rattle.cs_piece.specs.declared.tables.GivenTable.{GivenTable}
-use Rattle.cs_piece.specs.declared.tables.Firsts.{Firsts}
+use Rattle.cs_piece.specs.{declared.tables.GivenTable.GivenTable, declared.tables.Firsts.Firsts}
 use Rattle.cs_piece.specs.inner.Marked.{IsRight, Marks, StandFor, as_times, codes_store, frozen_by, given_of, is_marked}
-use Rattle.cs_piece.specs.inner.Marked.{is_once, numbers_end, ops_store, table_by}
+use Rattle.cs_piece.specs.inner.Marked.{numbers_end, ops_store, table_by}
+use Rattle.cs_base.specs.declared.resource.Res.TheVariants as res
+use Rattle.cs_tempo.specs.declared.plot.EventAct.TheVariants as act
+use Rattle.cs_typed.specs.TypedTree as typed
 
 -- what events give has a number of tables and no fault
 abbrev pub AreRight : List Given → Type 0
@@ -81,11 +74,10 @@ any_alike : (n : ℕ) (spaces : Spaces) (channels : ℕ) (ps : List (ℕ × type
     → AllZip (IsNumberedCode spaces channels) ps is
     → list_any (codes_store n) is ≡ list_any (λ (p : ℕ × typed.Block). stores_into n (core spaces p.1)) ps
 any_alike n spaces channels [] [] h = refl
-any_alike n spaces channels [] (i ∷ is) h = absurd h
-any_alike n spaces channels (p ∷ ps) [] h = absurd h
 any_alike n spaces channels (p ∷ ps) (i ∷ is) h =
     ap (λ b. b || list_any (codes_store n) is) (store_alike n spaces channels p i h.0)
     ∙ ap (λ b. stores_into n (core spaces p.1) || b) (any_alike n spaces channels ps is h.1)
+any_alike n spaces channels _ _ h = absurd h
 
 pub written_as : (o : typed.Orchestra) (l : List Numbered) (n : ℕ) → AreInstrumentsOf o l
     → list_any (codes_store n) l ≡ may_be_written o n
@@ -94,17 +86,17 @@ written_as o l n are =
     ∙ any_alike n o.spaces o.head.nchnls (bodies o.instrs) are.in_text are.each
 
 -- tables by what was found
-once_as : (m : ℕ) → is_once (as_times m) ≡ (m == 1)
-once_as zero = refl
-once_as (suc zero) = refl
-once_as (suc (suc m)) = sym (ne_eqb (suc (suc m)) 1 (λ e. omega (arith, e)))
+once_as : (m : ℕ) → (as_times m == 1) ≡ (m == 1)
+once_as (suc (suc m)) =
+    ne_eqb (as_times (suc (suc m))) 1 (λ e. omega (arith, e)) ∙ sym (ne_eqb (suc (suc m)) 1 (λ e. omega (arith, e)))
+once_as _ = refl
 
 module _ (o : typed.Orchestra) (l : List Numbered) (gs : List Given) (given : Firsts) (w : Marks)
     (are : AreInstrumentsOf o l) (stand : StandFor gs given)
     (marked : (n : ℕ) → n < numbers_end → is_marked w n ≡ list_any (codes_store n) l) where
   frozen_as : (n : ℕ) → n < numbers_end → frozen_by given.times.items w n ≡ is_frozen o gs n
   frozen_as n low =
-      ap (λ b. b && not (is_marked w n)) (ap is_once (stand.times_are n low) ∙ once_as (times_given n gs))
+      ap (λ b. b && not (is_marked w n)) (ap (λ m. m == 1) (stand.times_are n low) ∙ once_as (times_given n gs))
       ∙ ap (λ b. (times_given n gs == 1) && not b) (marked n low ∙ written_as o l n are)
 
   each_as : (g : Given) → IsRight g → table_by given.times.items w g ≡ table_in o gs g

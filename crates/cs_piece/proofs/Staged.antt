@@ -1,63 +1,41 @@
 -- The stage of a setup: its tables are those of the composition, and what its notes share is placed in its layout.
-use Rattle.std.proofs.Common.{◌≡◌, ℕ, ℤ, zero, suc, ◌<◌, ◌≤◌, ◌==◌, ◌&&◌, ◌||◌, Bool, true, false, not, List, [], ◌∷◌}
-use Rattle.std.proofs.Common.{get_or, length, map, pos, slice_get, unsigned_abs, Option, Some, None, cond}
-use Rattle.std.proofs.Common.{if◌then◌else◌, refl, sym}
-use Rattle.std.proofs.Common.{◌∙◌, ap, subst, arith}
-use Rattle.std.specs.Int.{is_negative}
-use Rattle.std.specs.List.{All, AllByRecursion, filter, list_any}
-use Rattle.std.specs.Option.{is_some}
-use Rattle.std.proofs.lemmas.Bool.{eq-eqb}
-use Rattle.std.proofs.lemmas.List.{length-map}
+use Rattle.std.proofs.lemmas.{Bool.or_left, Bool.or_right, Bool.eq-eqb, List.length-map, Option.slice_get-get_or}
+use Rattle.std.proofs.Common.{◌≡◌, ℕ, ℤ, zero, suc, ◌<◌, ◌≤◌, ◌==◌, ◌&&◌, Bool, true, false, not, List, [], ◌∷◌, get_or}
+use Rattle.std.proofs.Common.{length, map, pos, slice_get, unsigned_abs, Option, Some, None, cond, if◌then◌else◌, refl}
+use Rattle.std.proofs.Common.{sym, ◌∙◌, ap, subst, arith}
+use Rattle.std.specs.{Int.is_negative, List.All, List.AllByRecursion, List.filter, List.list_any, Option.is_some}
 use Rattle.std.proofs.lemmas.List.Elements.{All-cons, All-nil}
-use Rattle.std.proofs.lemmas.Option.{slice_get-get_or}
 use Rattle.cs_base.proofs.Tests.{some_is}
-use Rattle.cs_base.specs.Rates.{res_rate}
-use Rattle.cs_base.specs.declared.resource.Rate.{Rate}
-use Rattle.cs_base.specs.declared.resource.Rate.TheVariants as rate
-use Rattle.cs_base.specs.declared.resource.Res.{Res}
-use Rattle.cs_base.specs.declared.resource.Res.TheVariants as res
-use Rattle.cs_machine.specs.Access.{AreSpaces, spaces_of}
-use Rattle.cs_cells.specs.Areas.{IsLaid, limit_passed}
-use Rattle.cs_cells.specs.declared.footprint.Area.{Area}
+use Rattle.cs_base.specs.{Rates.res_rate, declared.resource.Rate.Rate, declared.resource.Res.Res}
+use Rattle.cs_machine.specs.{Access.AreSpaces, Access.spaces_of, States.header_of}
+use Rattle.cs_cells.specs.{Areas.IsLaid, Areas.limit_passed, declared.footprint.Area.Area}
 use Rattle.cs_gen.proofs.Places.{accepted, is_made}
-use Rattle.cs_gen.specs.Points.{len_of, points_of}
-use Rattle.cs_gen.specs.Tables.{IsMade}
+use Rattle.cs_gen.specs.{Points.len_of, Points.points_of, Tables.IsMade}
 use Rattle.cs_base.specs.declared.spaces.Spaces.{Spaces}
 use Rattle.cs_layout.proofs.Complete.{is_laid, is_placed, there}
-use Rattle.cs_layout.proofs.Counted.{spaces_are}
-use Rattle.cs_layout.proofs.ZakSpaces.{are_spaces}
-use Rattle.cs_layout.specs.Layouts.{AreApart, AreLive, areas_of}
-use Rattle.cs_layout.specs.declared.areas.LiveTable.{LiveTable}
-use Rattle.cs_meaning.specs.Plain.{Table, find_table}
+use Rattle.cs_layout.proofs.{Counted.spaces_are, ZakSpaces.are_spaces}
+use Rattle.cs_layout.specs.{Layouts.AreApart, Layouts.AreLive, Layouts.areas_of, declared.areas.LiveTable.LiveTable}
+use Rattle.cs_meaning.specs.{Plain.Table, Plain.find_table, Pieces.Piece}
 use Rattle.cs_ugen.proofs.Curves.{made_len}
 use Rattle.cs_ugen.specs.Points.{is_len}
-use Rattle.cs_rwset.specs.Zones.{AreZones}
-use Rattle.cs_rwset.specs.Footprints.{stock_of}
-use Rattle.cs_ir.specs.Resources.{Stock}
-use Rattle.cs_ir.specs.Validity.{has_value}
-use Rattle.cs_meaning.specs.Pieces.{Piece}
+use Rattle.cs_rwset.specs.{Zones.AreZones, Footprints.stock_of}
+use Rattle.cs_ir.specs.{Resources.Stock, Validity.has_value}
 use Rattle.cs_machine.proofs.Found.{own}
 use Rattle.cs_voice_meaning.proofs.Naming.{found_number}
 use Rattle.cs_voice_meaning.specs.Placing.{IsPlaced, area_of, cell_count, is_table_size}
-use Rattle.cs_voice.specs.Starts.{piece_at}
-use Rattle.cs_voice.specs.Tables.{CanAllBePlayed, table_at, tables_of}
-use Rattle.cs_machine.specs.States.{header_of}
+use Rattle.cs_voice.specs.{Starts.piece_at, Tables.CanAllBePlayed, Tables.table_at, Tables.tables_of, Memory.table_of}
+use Rattle.cs_voice.specs.{VoiceData.made, declared.stage.Stage.Stage, declared.stage.PieceTable.PieceTable}
 use Rattle.cs_tempo.specs.declared.plot.Event.{Event}
-use Rattle.cs_typed.specs.TypedTree as typed
 use Rattle.cs_typed.specs.TypedTree.{SharedNames}
-use Rattle.cs_voice.specs.Memory.{table_of}
-use Rattle.cs_voice.specs.VoiceData.{made}
-use Rattle.cs_voice.specs.declared.stage.Stage.{Stage}
-use Rattle.cs_voice.specs.declared.stage.PieceTable.{PieceTable}
-use Rattle.cs_piece.specs.Compositions.{live_in}
-use Rattle.cs_piece.specs.Ready.{IsStageOf}
+use Rattle.cs_piece.specs.{Compositions.live_in, Ready.IsStageOf, inner.Marked.IsRight}
 use Rattle.cs_piece.specs.Setups.{IsSetup, SetupData, composition_of}
-use Rattle.cs_piece.specs.Tables as pieces
 use Rattle.cs_piece.specs.Tables.{Given, firsts, given_in, is_frozen, table_given, table_in, tables_in}
-use Rattle.cs_piece.specs.inner.Marked.{IsRight}
 use Rattle.cs_piece.proofs.Ascending.{apart_in, each_ascending, tables_differ}
-use Rattle.cs_piece.proofs.LiveFound.{live_found}
-use Rattle.cs_piece.proofs.Rights.{AreRight, right_firsts, right_in}
+use Rattle.cs_piece.proofs.{LiveFound.live_found, Rights.AreRight, Rights.right_firsts, Rights.right_in}
+use Rattle.cs_base.specs.declared.resource.Rate.TheVariants as rate
+use Rattle.cs_base.specs.declared.resource.Res.TheVariants as res
+use Rattle.cs_typed.specs.TypedTree as typed
+use Rattle.cs_piece.specs.Tables as pieces
 
 -- what is asked of a table of a plot
 pub record IsSound (t : Table) : Type 0 where
@@ -143,10 +121,6 @@ found_in (x ∷ ts) (m ∷ flags) (c ∷ cs) n t e f =
         }
 
 -- where a table that isn't frozen stands among the live ones
-none_is : {X : Type 0} (o : Option X) → o ≡ None → not (is_some o) ≡ true
-none_is None e = refl
-none_is (Some x) e = absurd cc
-
 abbrev as_live : Table → LiveTable
 as_live t = record { number = t.number; size = t.size }
 
@@ -154,7 +128,7 @@ live_place : (cs : List Table) (k : ℕ) (u : Table) → slice_get cs k ≡ Some
     → (place : ℕ) × (slice_get (live_in cs) place ≡ Some (as_live u))
 live_place [] k u e none = absurd cc
 live_place (c ∷ cs) zero u e none =
-    by (not (is_some c.frozen)) (none_is c.frozen (ap (λ (t : Table). t.frozen) (some_is c u e) ∙ none))
+    by (not (is_some c.frozen)) (ap (λ o. not (is_some o)) (ap (λ (t : Table). t.frozen) (some_is c u e) ∙ none))
   where
     rest : List Table
     rest = filter (λ (t : Table). not (is_some t.frozen)) cs
@@ -192,24 +166,16 @@ sound_at (c ∷ cs) zero u h e = subst IsSound (some_is c u e) h.0
 sound_at (c ∷ cs) (suc k) u h e = sound_at cs k u h.1 e
 
 -- a live table has its area
-or_true : (a b : Bool) → a ≡ true → (a || b) ≡ true
-or_true true b e = refl
-or_true false b e = absurd cc
-
-or_later : (a b : Bool) → b ≡ true → (a || b) ≡ true
-or_later true b e = refl
-or_later false b e = e
-
 any_live : (live : List LiveTable) (place n size : ℕ) → slice_get live place ≡ Some (record { number = n; size = size })
     → list_any (λ t. t.number == n) live ≡ true
 any_live [] place n size e = absurd cc
 any_live (x ∷ live) zero n size e =
-    or_true (x.number == n) (list_any (λ t. t.number == n) live)
+    or_left (x.number == n) (list_any (λ t. t.number == n) live)
     (eq-eqb x.number n (ap (λ (t : LiveTable). t.number) (some_is x (record { number = n; size = size }) e)))
 any_live (x ∷ live) (suc place) n size e =
-    or_later (x.number == n) (list_any (λ t. t.number == n) live) (any_live live place n size e)
+    or_right (x.number == n) (list_any (λ t. t.number == n) live) (any_live live place n size e)
 
-some_area : (o : Option Area) → is_some o ≡ true → (x : Area) × (o ≡ Some x)
+pub some_area : (o : Option Area) → is_some o ≡ true → (x : Area) × (o ≡ Some x)
 some_area None e = absurd cc
 some_area (Some x) e = (x, refl)
 
@@ -250,9 +216,8 @@ some_cells areas stock piece placed k d low =
     let x = get_or areas k d in has x (own areas k x placed.laid (slice_get-get_or areas k d low))
   where
     counted : (n : ℕ) (r : Rate) → 0 < n → 0 < cell_count n r
-    counted n rate.Init h = omega arith
-    counted n rate.Control h = omega arith
     counted n rate.Audio h = h
+    counted n _ h = omega arith
 
     valued : (x : Area) (g : Res) → area_of areas g ≡ Some x → has_value g ≡ true → 0 < x.length
     valued x g is value = subst (λ n. 0 < n) (sym (placed.cells g x is value))

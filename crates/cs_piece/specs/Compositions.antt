@@ -1,18 +1,14 @@
 -- What a typed orchestra and a plot ask for.
 use Rattle.std.specs.Prelude.{ℕ, ℤ, pos, not, List, [], ◌∷◌, filter, map, Option, Some, None, if◌then◌else◌}
-use Rattle.std.specs.Option.{is_some, option_map}
-use Rattle.std.specs.Ordering.{int_eq}
+use Rattle.std.specs.{Option.is_some, Option.option_map, Ordering.int_eq}
 use Rattle.cs_cells.specs.declared.footprint.Area.{Area}
 use Rattle.cs_code.specs.Lowered.{bodies}
 use Rattle.cs_piece_meaning.specs.Moments.{Composition}
-use Rattle.cs_layout.specs.Layouts.{areas_of}
-use Rattle.cs_layout.specs.declared.areas.LiveTable.{LiveTable}
-use Rattle.cs_meaning.specs.Core.{core}
-use Rattle.cs_meaning.specs.Plain.{Table}
-use Rattle.cs_tempo.specs.declared.plot.Event.{Event}
-use Rattle.cs_tempo.specs.declared.plot.Plot.{Plot}
-use Rattle.cs_typed.specs.TypedTree as typed
+use Rattle.cs_layout.specs.{Layouts.areas_of, declared.areas.LiveTable.LiveTable}
+use Rattle.cs_meaning.specs.{Core.core, Plain.Table}
+use Rattle.cs_tempo.specs.{declared.plot.Event.Event, declared.plot.Plot.Plot}
 use Rattle.cs_piece.specs.Tables.{tables_in}
+use Rattle.cs_typed.specs.TypedTree as typed
 pub use Rattle.cs_piece.specs.Tables.{Given, given_by, given_in, firsts, is_frozen, may_be_written, only, stores_into}
 pub use Rattle.cs_piece.specs.Tables.{table_in}
 

@@ -1,28 +1,19 @@
 -- What whoever performs a piece rests on: its stage, and its instruments.
 use Rattle.std.specs.Prelude.{ℕ, ℤ, ◌≡◌, ◌<◌, Bool, List, length, map, None}
 use Rattle.std.specs.List.{All}
-use Rattle.cs_machine.specs.Access.{AreSpaces, spaces_of}
+use Rattle.cs_machine.specs.{Access.AreSpaces, Access.spaces_of, States.header_of}
 use Rattle.cs_cells.specs.Areas.{IsLaid, limit_passed, IsFootprint}
-use Rattle.cs_cells.specs.Cells.{covers}
-use Rattle.cs_cells.specs.declared.footprint.Area.{Area}
-use Rattle.cs_cells.specs.declared.footprint.Footprint.{Footprint}
+use Rattle.cs_cells.specs.{Cells.covers, declared.footprint.Area.Area, declared.footprint.Footprint.Footprint}
 use Rattle.cs_code.specs.Means.{RegisterPlan}
 use Rattle.cs_piece_meaning.specs.Moments.{Composition}
 use Rattle.cs_ir.specs.Instruments.{Numbered}
-use Rattle.cs_meaning.specs.Core.{Block}
-use Rattle.cs_meaning.specs.Uses.{block_uses, block_writes}
+use Rattle.cs_meaning.specs.{Core.Block, Uses.block_uses, Uses.block_writes}
 use Rattle.cs_piece.specs.VoicesOfNotes.{Perform}
-use Rattle.cs_rwset.specs.Footprints.{places_holding, stock_of}
-use Rattle.cs_rwset.specs.Zones.{AreZones}
-use Rattle.cs_voice_meaning.specs.Follows.{AreNamed, Kinds}
+use Rattle.cs_rwset.specs.{Footprints.places_holding, Footprints.stock_of, Zones.AreZones}
+use Rattle.cs_voice_meaning.specs.{Follows.AreNamed, Follows.Kinds, Voices.IsPlayable}
 use Rattle.cs_voice_meaning.specs.Placing.{HasArea, IsPlaced}
-use Rattle.cs_voice_meaning.specs.Voices.{IsPlayable}
-use Rattle.cs_voice.specs.Starts.{piece_at, sheet_at}
-use Rattle.cs_voice.specs.Tables.{CanAllBePlayed, tables_of}
-use Rattle.cs_machine.specs.States.{header_of}
-use Rattle.cs_voice.specs.Memory.{table_of}
-use Rattle.cs_voice.specs.VoiceData.{made}
-use Rattle.cs_voice.specs.declared.stage.Stage.{Stage}
+use Rattle.cs_voice.specs.{Starts.piece_at, Starts.sheet_at, Tables.CanAllBePlayed, Tables.tables_of, Memory.table_of}
+use Rattle.cs_voice.specs.{VoiceData.made, declared.stage.Stage.Stage}
 
 -- A stage is that of a composition: its header, zak spaces and tables, a layout in which all that notes share is
 -- placed, whichever of the tables have been made, with a cell in each area, and zones of its areas.

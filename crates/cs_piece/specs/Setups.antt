@@ -1,27 +1,21 @@
 -- What a setup is.
 use Rattle.std.specs.Prelude.{ℤ, ◌≡◌, ◌≤◌, List, map, None, Some}
-use Rattle.std.specs.List.{AllZip, Contains}
-use Rattle.std.specs.Option.{option_map}
+use Rattle.std.specs.{List.AllZip, List.Contains, Option.option_map}
 use Rattle.cs_base.specs.Limits.{most_statements}
-use Rattle.cs_cells.specs.Areas.{limit_passed}
-use Rattle.cs_cells.specs.declared.footprint.Area.{Area}
-use Rattle.cs_cells.specs.declared.footprint.Footprint.{Footprint}
+use Rattle.cs_cells.specs.{Areas.limit_passed, declared.footprint.Area.Area, declared.footprint.Footprint.Footprint}
 use Rattle.cs_code.specs.Lowered.{AreInstrumentsOf, IsCodeOf, bodies}
 use Rattle.cs_code.specs.declared.orchestra.Lowered.{Lowered}
 use Rattle.cs_meaning.specs.Core.{Block, core}
-use Rattle.cs_piece_meaning.specs.Bounded.{asks_in}
-use Rattle.cs_piece_meaning.specs.Moments.{Composition}
+use Rattle.cs_piece_meaning.specs.{Bounded.asks_in, Moments.Composition}
 use Rattle.cs_ir.specs.Instruments.{Numbered}
 use Rattle.cs_name_laws.specs.Names.{NamesWhatThereIs}
 use Rattle.cs_rwset.specs.Zones.{AreZones, IsFootOver}
-use Rattle.cs_tempo.specs.Performable.{IsPerformable}
-use Rattle.cs_tempo.specs.declared.plot.Event.{Event}
-use Rattle.cs_tempo.specs.declared.plot.Plot.{Plot}
-use Rattle.cs_typed.specs.TypedTree as typed
+use Rattle.cs_tempo.specs.{Performable.IsPerformable, declared.plot.Event.Event, declared.plot.Plot.Plot}
 use Rattle.cs_typed.specs.declared.tree.TypedOrc.{TypedOrc}
 use Rattle.cs_piece.specs.Compositions.{areas_in, body_of, composition}
 use Rattle.cs_piece.specs.Tables.{Given, given_in, table_of, tables_in}
 use Rattle.cs_voice.specs.declared.stage.PieceTable.{PieceTable}
+use Rattle.cs_typed.specs.TypedTree as typed
 
 -- tables that events give under one number have one size
 abbrev pub AreOfOneSize : List Event → Type 0

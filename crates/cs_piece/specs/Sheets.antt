@@ -1,20 +1,16 @@
 -- Which sheets a note of an instrument is played from.
 use Rattle.std.specs.Prelude.{ℕ, ◌≡◌, List, slice_get, Option, Some, None}
 use Rattle.cs_base.specs.declared.resource.Rate.{Rate}
-use Rattle.cs_base.specs.declared.resource.Rate.TheVariants as rate
 use Rattle.cs_words.specs.declared.catalogue.Opcode.{Opcode}
+use Rattle.cs_cells.specs.Cells.{covers}
+use Rattle.cs_ir.specs.{Resources.ops_use, Resources.ops_write, declared.op.Code.Code}
+use Rattle.cs_code.specs.{Lowered.IsCodeOf, Names.UnitKind}
+use Rattle.cs_rwset.specs.Footprints.{stock_of, places_holding}
+use Rattle.cs_voice_meaning.specs.{Placing.HasArea, Placing.IsPlaced, Follows.Kinds, Follows.AreNamed, Voices.Sheet}
+use Rattle.cs_ugen.specs.Generators.{pace_of, the_generators}
+use Rattle.cs_base.specs.declared.resource.Rate.TheVariants as rate
 use Rattle.cs_words.specs.declared.catalogue.Opcode.TheVariants as op
 use Rattle.cs_typed.specs.TypedTree as typed
-use Rattle.cs_cells.specs.Cells.{covers}
-use Rattle.cs_ir.specs.Resources.{ops_use, ops_write}
-use Rattle.cs_ir.specs.declared.op.Code.{Code}
-use Rattle.cs_code.specs.Lowered.{IsCodeOf}
-use Rattle.cs_code.specs.Names.{UnitKind}
-use Rattle.cs_rwset.specs.Footprints.{stock_of, places_holding}
-use Rattle.cs_voice_meaning.specs.Placing.{HasArea, IsPlaced}
-use Rattle.cs_ugen.specs.Generators.{pace_of, the_generators}
-use Rattle.cs_voice_meaning.specs.Follows.{Kinds, AreNamed}
-use Rattle.cs_voice_meaning.specs.Voices.{Sheet}
 
 -- the opcode and rate of the unit at each place of the text; past the last any
 abbrev pub kind_of : Option UnitKind → Opcode × Rate

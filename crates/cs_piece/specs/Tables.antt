@@ -1,21 +1,17 @@
 -- Which tables a piece has: those that the score gives, each once, and which of them stay as they are made.
-use Rattle.std.specs.Prelude.{ℕ, ℤ, Bool, false, not, ◌&&◌, ◌||◌, ◌==◌, List, [], ◌∷◌, filter, count_by, map}
-use Rattle.std.specs.Prelude.{nat_lt, unsigned_abs, Some, None, if◌then◌else◌}
+use Rattle.std.specs.Prelude.{ℕ, ℤ, Bool, false, not, ◌&&◌, ◌||◌, ◌==◌, List, [], ◌∷◌, filter, count_by, map, nat_lt}
+use Rattle.std.specs.Prelude.{unsigned_abs, Some, None, if◌then◌else◌}
 use Rattle.std.specs.List.{flat_map, list_any}
 use Rattle.cs_base.specs.Rates.{same_res}
-use Rattle.cs_base.specs.declared.resource.Res.TheVariants as res
 use Rattle.cs_code.specs.Lowered.{bodies}
 use Rattle.cs_gen.specs.Points.{points_of}
 use Rattle.cs_ir.specs.Resources.{Stock}
-use Rattle.cs_meaning.specs.Uses.{block_begin_writes, block_writes}
-use Rattle.cs_meaning.specs.Core.{Block, core}
-use Rattle.cs_meaning.specs.Plain.{Table}
-use Rattle.cs_tempo.specs.declared.plot.Event.{Event}
-use Rattle.cs_tempo.specs.declared.plot.EventAct.{EventAct}
+use Rattle.cs_meaning.specs.{Uses.block_begin_writes, Uses.block_writes, Core.Block, Core.core, Plain.Table}
+use Rattle.cs_tempo.specs.{declared.plot.Event.Event, declared.plot.EventAct.EventAct}
+use Rattle.cs_voice.specs.{Tables.table_at, declared.stage.PieceTable.PieceTable}
+use Rattle.cs_base.specs.declared.resource.Res.TheVariants as res
 use Rattle.cs_tempo.specs.declared.plot.EventAct.TheVariants as act
 use Rattle.cs_typed.specs.TypedTree as typed
-use Rattle.cs_voice.specs.Tables.{table_at}
-use Rattle.cs_voice.specs.declared.stage.PieceTable.{PieceTable}
 
 -- A table as an event gives it: its number, size, GEN and arguments.
 pub record Given : Type 0 where

@@ -1,23 +1,16 @@
 -- What it is for a voice to perform a note.
 use Rattle.std.specs.Prelude.{ℕ, ℤ, ◌≡◌, ◌≤◌, List, length, Some, None}
-use Rattle.cs_base.specs.Rates.{res_rate}
-use Rattle.cs_base.specs.declared.resource.Rate.{Rate}
-use Rattle.cs_base.specs.declared.resource.Res.{Res}
+use Rattle.cs_base.specs.{Rates.res_rate, declared.resource.Rate.Rate, declared.resource.Res.Res}
 use Rattle.cs_ir.specs.Waves.{Wave, constant}
-use Rattle.cs_ir.specs.declared.register.Kind.TheVariants as kind
-use Rattle.cs_cells.specs.Areas.{word_count}
-use Rattle.cs_cells.specs.Cells.{Cells, cell}
-use Rattle.cs_cells.specs.declared.footprint.Area.{Area}
-use Rattle.cs_meaning.specs.Core.{Block}
-use Rattle.cs_meaning.specs.Initialising.{init_block}
+use Rattle.cs_cells.specs.{Areas.word_count, Cells.Cells, Cells.cell, declared.footprint.Area.Area}
+use Rattle.cs_meaning.specs.{Core.Block, Initialising.init_block, Performing.perf_block}
 use Rattle.cs_meaning.specs.Notes.{Note, Path, reg, start, new_note, moved_to}
-use Rattle.cs_meaning.specs.Performing.{perf_block}
 use Rattle.cs_meaning.specs.Plain.{Piece, Plain, plain, fresh, next_cycle}
 use Rattle.cs_code.specs.Means.{RegisterPlan}
-use Rattle.cs_voice_meaning.specs.Placing.{area_of, wave_of, HasArea}
+use Rattle.cs_voice_meaning.specs.{Placing.area_of, Placing.wave_of, Placing.HasArea, Follows.Kinds, Follows.SameUnit}
 use Rattle.cs_ugen.specs.Generators.{pace_of}
-use Rattle.cs_voice_meaning.specs.Follows.{Kinds, SameUnit}
 use Rattle.cs_voice_meaning.specs.Voices.{Sheet, Sounding, initialised, voice_of, performed, left_by}
+use Rattle.cs_ir.specs.declared.register.Kind.TheVariants as kind
 
 -- A note of some statements: as it has begun over what notes share, and after its next cycle.
 abbrev pub begun_note : Piece → Block → (Res → Wave) → Note Plain

@@ -1,18 +1,15 @@
 // A piece, ready to be performed.
 ghost use Rattle.std.specs.Prelude.{◌≡◌, eqb, map, IfNone, IfOk, List, OnOk, Err, None, Some};
-ghost use Rattle.std.specs.List.{AllZip, IsDistinct};
+ghost use Rattle.std.specs.List.{IsDistinct};
 ghost use Rattle.cs_base.specs.declared.fault.Or.TheVariants as or;
 ghost use Rattle.cs_base.specs.declared.limit.LimitHit.{LimitHit};
 ghost use Rattle.cs_cells.specs.Areas.{limit_passed};
-ghost use Rattle.cs_cells.specs.declared.footprint.Footprint.{Footprint};
-ghost use Rattle.cs_code.specs.Lowered.{AreInstrumentsOf, IsCodeOf, all_numbers};
-ghost use Rattle.cs_ir.specs.Instruments.{Numbered};
+ghost use Rattle.cs_code.specs.Lowered.{all_numbers};
 ghost use Rattle.cs_layout.specs.Layouts.{AreApart, areas_of};
 ghost use Rattle.cs_name_laws.specs.Names.{NamesWhatThereIs};
 ghost use Rattle.cs_piece.specs.Compositions.{areas_in, live_in};
 ghost use Rattle.cs_piece.specs.Setups.{AreOfOneSize, AskForFew};
-ghost use Rattle.cs_rwset.specs.Zones.{AreZones, IsFootOver};
-ghost use Rattle.cs_piece.specs.Tables.{table_of, tables_in};
+ghost use Rattle.cs_piece.specs.Tables.{table_of};
 ghost use Rattle.cs_tempo.specs.Performable.{IsPerformable};
 ghost use Rattle.cs_typed.specs.TypedTree as typed;
 ghost use Rattle.cs_typed.specs.WellRated.{IsWellRated};
@@ -75,27 +72,6 @@ impl Model for Setup {
     }) };
 }
 
-/// The tables of a piece, and where its cells are.
-#[derive(Drop)]
-struct Ground {
-    tables: Vec<PieceTable>,
-    layout: Layout,
-}
-
-/// Tables and layout of a piece, and the footprints of its codes.
-#[derive(Drop)]
-struct Laid {
-    ground: Ground,
-    zoned: Zoned,
-}
-
-/// All that is made of an orchestra and a plot.
-#[derive(Drop)]
-struct Made {
-    lowered: Lowered,
-    laid: Laid,
-}
-
 impl Setup {
     /// The setup of an orchestra that breaks no rule, and of a plot that passes no limit. More resources than 4,096
     /// pass the limit on them, and then more cells than 65,536 that on words, at line 0.
@@ -112,15 +88,22 @@ impl Setup {
         ensures limit { (hit : LimitHit) → result ≡ Err (or.Fault hit)
             → limit_passed (areas_in (typed.orchestra orchestra) plot.events) ≡ Some hit }
     {
-        let made = made_of(alloc, &orchestra, &plot)?;
-        let laid = made.laid;
+        let lowered = lower(alloc, &orchestra)?;
+        let tables = tables_of(alloc, &lowered, plot.events.as_slice())?;
+        let layout = layout_of(alloc, &orchestra, &tables)?;
+        let zoned = find_zones(
+            alloc,
+            &layout,
+            lowered.zero.perf(),
+            lowered.instruments.as_slice(),
+        )?;
         Ok(Setup {
             orchestra,
             plot,
-            tables: laid.ground.tables,
-            layout: laid.ground.layout,
-            lowered: made.lowered,
-            zoned: laid.zoned,
+            tables,
+            layout,
+            lowered,
+            zoned,
         })
     }
 
@@ -151,83 +134,6 @@ impl Setup {
     {
         &self.zoned.zones
     }
-}
-
-/// What is made of an orchestra that breaks no rule, and of a plot that passes no limit.
-fn made_of(alloc: Global, orchestra: &TypedOrc, plot: &Plot) -> Result<Made, Or<LimitHit>>
-    requires rated { IsWellRated (typed.orchestra orchestra.now) }
-    requires distinct { IsDistinct eqb (all_numbers (typed.orchestra orchestra.now).instrs) }
-    requires performable { IsPerformable orchestra.now.head plot.now }
-    ensures outside { IfOk result (λ m. IsCodeOf (typed.orchestra orchestra.now).spaces orchestra.now.head.nchnls
-        (typed.orchestra orchestra.now).zero m.lowered.zero.init m.lowered.zero.perf) }
-    ensures instruments { IfOk result (λ m. AreInstrumentsOf (typed.orchestra orchestra.now) m.lowered.instruments) }
-    ensures tables { IfOk result (λ m. map table_of m.laid.ground.tables.items
-        ≡ tables_in (typed.orchestra orchestra.now) plot.now.events) }
-    ensures layout { IfOk result (λ m. m.laid.ground.layout
-        ≡ areas_in (typed.orchestra orchestra.now) plot.now.events) }
-    ensures within { OnOk result (limit_passed (areas_in (typed.orchestra orchestra.now) plot.now.events) ≡ None) }
-    ensures limit { (hit : LimitHit) → result ≡ Err (or.Fault hit)
-        → limit_passed (areas_in (typed.orchestra orchestra.now) plot.now.events) ≡ Some hit }
-    ensures zones { IfOk result (λ m. AreZones m.laid.ground.layout m.laid.zoned.zones) }
-    ensures zero_foot { IfOk result (λ m. IsFootOver m.laid.ground.layout m.laid.zoned.zones m.lowered.zero.perf
-        m.laid.zoned.outside) }
-    ensures feet { IfOk result (λ m. AllZip (λ (i : Numbered) (foot : Footprint). IsFootOver m.laid.ground.layout
-        m.laid.zoned.zones i.perf foot) m.lowered.instruments m.laid.zoned.feet.items) }
-{
-    let lowered = lower(alloc, orchestra)?;
-    let laid = laid_out(alloc, orchestra, plot, &lowered)?;
-    Ok(Made { lowered, laid })
-}
-
-/// Tables and layout of a piece with these codes, and the footprints of the codes in it.
-fn laid_out(
-    alloc: Global,
-    orchestra: &TypedOrc,
-    plot: &Plot,
-    lowered: &Lowered,
-) -> Result<Laid, Or<LimitHit>>
-    requires performable { IsPerformable orchestra.now.head plot.now }
-    requires instruments { AreInstrumentsOf (typed.orchestra orchestra.now) lowered.now.instruments }
-    ensures tables { IfOk result (λ l. map table_of l.ground.tables.items
-        ≡ tables_in (typed.orchestra orchestra.now) plot.now.events) }
-    ensures layout { IfOk result (λ l. l.ground.layout ≡ areas_in (typed.orchestra orchestra.now) plot.now.events) }
-    ensures within { OnOk result (limit_passed (areas_in (typed.orchestra orchestra.now) plot.now.events) ≡ None) }
-    ensures limit { (hit : LimitHit) → result ≡ Err (or.Fault hit)
-        → limit_passed (areas_in (typed.orchestra orchestra.now) plot.now.events) ≡ Some hit }
-    ensures zones { IfOk result (λ l. AreZones l.ground.layout l.zoned.zones) }
-    ensures zero { IfOk result (λ l. IsFootOver l.ground.layout l.zoned.zones lowered.now.zero.perf l.zoned.outside) }
-    ensures feet { IfOk result (λ l. AllZip (λ (i : Numbered) (foot : Footprint). IsFootOver l.ground.layout
-        l.zoned.zones i.perf foot) lowered.now.instruments l.zoned.feet.items) }
-{
-    let ground = ground_of(alloc, orchestra, plot, lowered)?;
-    let zoned = find_zones(
-        alloc,
-        &ground.layout,
-        lowered.zero.perf(),
-        lowered.instruments.as_slice(),
-    )?;
-    Ok(Laid { ground, zoned })
-}
-
-/// The tables of a plot, and the layout of a piece with those of them that notes may change.
-fn ground_of(
-    alloc: Global,
-    orchestra: &TypedOrc,
-    plot: &Plot,
-    lowered: &Lowered,
-) -> Result<Ground, Or<LimitHit>>
-    requires performable { IsPerformable orchestra.now.head plot.now }
-    requires instruments { AreInstrumentsOf (typed.orchestra orchestra.now) lowered.now.instruments }
-    ensures tables { IfOk result (λ g. map table_of g.tables.items
-        ≡ tables_in (typed.orchestra orchestra.now) plot.now.events) }
-    ensures layout { IfOk result (λ g. g.layout ≡ areas_in (typed.orchestra orchestra.now) plot.now.events) }
-    ensures within { OnOk result (limit_passed (areas_in (typed.orchestra orchestra.now) plot.now.events) ≡ None) }
-    ensures limit { (hit : LimitHit) → result ≡ Err (or.Fault hit)
-        → limit_passed (areas_in (typed.orchestra orchestra.now) plot.now.events) ≡ Some hit }
-{
-    let tables = tables_of(alloc, lowered, plot.events.as_slice())?;
-    let layout = layout_of(alloc, orchestra, &tables)?;
-    Ok(Ground { tables, layout })
 }
 
 /// The layout of a piece with these tables.

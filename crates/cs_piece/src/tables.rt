@@ -1,16 +1,15 @@
 // The tables of a piece: each number once, in ascending order, as the score first gives it, and frozen where nothing
 // changes it.
-ghost use Rattle.std.specs.Prelude.{◌≡◌, ◌<◌, ◌++◌, ◌∷◌, [], ℕ, List, length, map, pos, IfOk, OnOk, Some, None, true};
-ghost use Rattle.std.specs.Prelude.{false, if◌then◌else◌};
+ghost use Rattle.std.specs.Prelude.{◌≡◌, ◌<◌, ◌++◌, ◌∷◌, [], ℕ, List, length, map, pos, IfOk, OnOk, Some, None};
+ghost use Rattle.std.specs.Prelude.{if◌then◌else◌};
 ghost use Rattle.std.specs.List.{All};
 ghost use Rattle.cs_code.specs.Lowered.{AreInstrumentsOf};
 ghost use Rattle.cs_gen.specs.Faults.{table_fault};
 ghost use Rattle.cs_gen.specs.Points.{points_of};
 ghost use Rattle.cs_meaning.specs.Plain.{Table};
 ghost use Rattle.cs_piece.specs.Tables.{Given, ascending, firsts, given_by, given_in, table_given, table_of, tables_in};
-ghost use Rattle.cs_piece.specs.declared.tables.Times.TheVariants as often;
-ghost use Rattle.cs_piece.specs.inner.Marked.{Differ, IsRight, StandFor, frozen_by, given_of, is_marked, next_times};
-ghost use Rattle.cs_piece.specs.inner.Marked.{is_once, numbers_end, table_by, times_at};
+ghost use Rattle.cs_piece.specs.inner.Marked.{Differ, IsRight, StandFor, frozen_by, given_of, numbers_end, table_by};
+ghost use Rattle.cs_piece.specs.inner.Marked.{times_at};
 ghost use Rattle.cs_tempo.specs.Performable.{IsActInRange};
 ghost use Rattle.cs_typed.specs.TypedTree as typed;
 
@@ -51,21 +50,13 @@ impl GivenTable<'_> {
     }
 }
 
-/// How often a number is given.
-#[derive(Clone, Copy)]
-enum Times {
-    Never,
-    Once,
-    Again,
-}
-
 /// What events give.
 #[derive(Drop)]
 struct Firsts<'p> {
     /// Of each number the table that is given first.
     items: Vec<GivenTable<'p>>,
-    /// Of each number below 65,536.
-    times: Vec<Times>,
+    /// How often each number below 65,536 is given; 255 stands for more.
+    times: Vec<u8>,
 }
 
 /// The tables that events give, each number once, by ascending number, as it is given first; one has its points where
@@ -127,11 +118,11 @@ fn firsts_of<'p>(alloc: Global, events: &'p [Event]) -> Result<Firsts<'p>, OutOf
 }
 
 /// `count` numbers that aren't given.
-fn never(alloc: Global, count: usize) -> Result<Vec<Times>, OutOfMemory>
+fn never(alloc: Global, count: usize) -> Result<Vec<u8>, OutOfMemory>
     ensures long { IfOk result (λ v. length v.items ≡ count) }
-    ensures none { IfOk result (λ v. (n : ℕ) → times_at v.items n ≡ often.Never) }
+    ensures none { IfOk result (λ v. (n : ℕ) → times_at v.items n ≡ 0) }
 {
-    Ok(vec![in alloc; Times::Never; count]?)
+    Ok(vec![in alloc; 0u8; count]?)
 }
 
 impl<'p> Firsts<'p> {
@@ -147,27 +138,12 @@ impl<'p> Firsts<'p> {
     {
         let number = table.number as usize;
         let times = self.times[number];
-        if is_never(times) {
+        if times == 0 {
             self.items.push(table)?;
         }
-        self.times[number] = next_times(times);
+        let more = times.saturating_add(1);
+        self.times[number] = more;
         Ok(())
-    }
-}
-
-fn is_never(times: Times) -> bool
-    ensures yes { result ≡ true → times ≡ often.Never }
-    ensures no { result ≡ false → times ≡ often.Never → ⊥ }
-{
-    matches!(times, Times::Never)
-}
-
-fn next_times(times: Times) -> Times
-    ensures { result ≡ next_times times }
-{
-    match times {
-        Times::Never => Times::Once,
-        Times::Once | Times::Again => Times::Again,
     }
 }
 
@@ -175,7 +151,7 @@ fn next_times(times: Times) -> Times
 fn made_tables(
     alloc: Global,
     given: &[GivenTable<'_>],
-    times: &[Times],
+    times: &[u8],
     written: &Written,
 ) -> Result<Vec<PieceTable>, OutOfMemory>
     requires right { All (λ x. IsRight (given_of x)) given.now }
@@ -185,24 +161,11 @@ fn made_tables(
 {
     let mut tables = Vec::new(alloc);
     for first in given {
-        let frozen = is_frozen(first.number as usize, times, written);
+        let number = first.number as usize;
+        let frozen = times[number] == 1 && !written.is_marked(number);
         tables.push(table_for(alloc, first, frozen)?)?;
     }
     Ok(tables)
-}
-
-fn is_frozen(number: usize, times: &[Times], written: &Written) -> bool
-    requires number { number < numbers_end }
-    requires long { length times.now ≡ numbers_end }
-    ensures { result ≡ frozen_by times.now written.now number }
-{
-    is_once(times[number]) && !written.is_marked(number)
-}
-
-fn is_once(times: Times) -> bool
-    ensures { result ≡ is_once times }
-{
-    matches!(times, Times::Once)
 }
 
 /// A table as it is given, with its points where it is frozen.
@@ -211,26 +174,14 @@ fn table_for(alloc: Global, first: &GivenTable<'_>, frozen: bool) -> Result<Piec
     ensures { IfOk result (λ t. table_of t ≡ table_given frozen (given_of first.now)) }
 {
     accepted_tables_are_made();
-    let points = points_for(alloc, first, frozen)?;
+    let points = if frozen {
+        Some(FrozenTable::new(first.points(alloc)?)?)
+    } else {
+        None
+    };
     Ok(PieceTable {
         number: first.number as usize,
         size: first.size as u32,
         points,
     })
-}
-
-fn points_for(
-    alloc: Global,
-    first: &GivenTable<'_>,
-    frozen: bool,
-) -> Result<Option<FrozenTable>, OutOfMemory>
-    requires { table_fault first.now.size first.now.gen_ first.now.args.now ≡ None }
-    ensures { IfOk result (λ p. p ≡ (if frozen then Some
-        (points_of first.now.size first.now.gen_ first.now.args.now) else None)) }
-{
-    if !frozen {
-        return Ok(None);
-    }
-    let points = first.points(alloc)?;
-    Ok(Some(FrozenTable::new(points)?))
 }

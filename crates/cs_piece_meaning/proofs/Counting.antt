@@ -2,27 +2,16 @@
 use Rattle.std.proofs.Common.{◌≡◌, ◌≢◌, ◌≤◌, ◌<◌, ◌∙◌, ℕ, ℤ, pos, zero, suc, ◌+◌, ◌==◌, Bool, cond, true, false, nat_le}
 use Rattle.std.proofs.Common.{List, [], ◌∷◌, ◌++◌, length, is_some, slice_index_or, Option, Some, None, refl, sym, ap}
 use Rattle.std.proofs.Common.{arith, length-append, if◌then◌else◌}
-use Rattle.std.specs.Int.{is_negative}
-use Rattle.std.specs.List.{count_by}
-use Rattle.std.proofs.lemmas.Bool.Decides.{nat_tests}
-use Rattle.std.proofs.lemmas.List.FromFn.{sum_by-map-range_with_len_more}
-use Rattle.std.proofs.lemmas.List.Sums.{sum_by-cons}
+use Rattle.std.specs.{Int.is_negative, List.count_by}
+use Rattle.std.proofs.lemmas.{Bool.Decides.nat_tests, List.FromFn.sum_by-map-range_with_len_more, List.Sums.sum_by-cons}
 use Rattle.cs_base.specs.Limits.{most_asks}
-use Rattle.cs_base.specs.declared.resource.Res.TheVariants as res
 use Rattle.cs_gen.specs.Points.{points_of}
-use Rattle.cs_ir.specs.Asks.{ask_of}
-use Rattle.cs_ir.specs.declared.ask.Ask.{Ask}
-use Rattle.cs_meaning.specs.Core.{Block}
-use Rattle.cs_meaning.specs.Notes.{Note}
+use Rattle.cs_ir.specs.{Asks.ask_of, declared.ask.Ask.Ask}
+use Rattle.cs_meaning.specs.{Core.Block, Notes.Note}
 use Rattle.cs_meaning.specs.Plain.{Cause, Plain, Table, find_table, shared_with}
-use Rattle.cs_sched.specs.Times.{begins_in, due_of}
+use Rattle.cs_sched.specs.{Times.begins_in, Times.due_of, declared.due.Due.Due, declared.pending.Added.Added}
 use Rattle.cs_sched.specs.Waiting.{Waiting, answer_to, with_answer}
-use Rattle.cs_sched.specs.declared.due.Due.{Due}
-use Rattle.cs_sched.specs.declared.pending.Added.{Added}
-use Rattle.cs_sched.specs.declared.pending.Added.TheVariants as added
-use Rattle.cs_tempo.specs.declared.plot.Event.{Event}
-use Rattle.cs_tempo.specs.declared.plot.EventAct.{EventAct}
-use Rattle.cs_tempo.specs.declared.plot.EventAct.TheVariants as act
+use Rattle.cs_tempo.specs.{declared.plot.Event.Event, declared.plot.EventAct.EventAct}
 use Rattle.cs_piece_meaning.specs.Counting.{asks_of, asks_of_act, asks_of_events, asks_of_first, asks_of_waiting}
 use Rattle.cs_piece_meaning.specs.Counting.{is_start, none_without, starts_before, starts_from, starts_in, starts_note}
 use Rattle.cs_piece_meaning.specs.Course.{begins, closing, events_in, moment_at, still}
@@ -31,6 +20,9 @@ use Rattle.cs_piece_meaning.specs.Starts.{Start, act_done, all_asked, all_done, 
 use Rattle.cs_piece_meaning.specs.Starts.{first_started, has_room, in_vain, initialised, start_of, started, taken}
 use Rattle.cs_piece_meaning.specs.Starts.{time_of, unless_none, waited, with_points}
 use Rattle.cs_piece_meaning.proofs.Waits.{none_waits}
+use Rattle.cs_base.specs.declared.resource.Res.TheVariants as res
+use Rattle.cs_sched.specs.declared.pending.Added.TheVariants as added
+use Rattle.cs_tempo.specs.declared.plot.EventAct.TheVariants as act
 
 -- THE SUM of a function below a number
 
@@ -131,10 +123,8 @@ module _ (c : Composition) where
           → (if b1 then added.Negative else (if b2 then added.TooMany else (if b3 then added.PastEnd else added.Kept)))
           ≡ added.Kept
           → begins_in (clock_of c) now a < c.cycles
-      by true b2 b3 e h = absurd (cc)
-      by false true b3 e h = absurd (cc)
-      by false false true e h = absurd (cc)
       by false false false e h = grind (arith, nat_tests)
+      by _ _ _ e h = absurd (cc)
 
   asked_more : (now : ℕ) (time : ℤ) (a : Ask) (m : Moment) → total (asked c now time a m) ≡ total m + 1
   asked_more now time a m = by (answer_to (clock_of c) now a m.waiting.kept) (in_time now a m.waiting.kept)
@@ -145,9 +135,7 @@ module _ (c : Composition) where
       by : (answer : Added) → (answer ≡ added.Kept → begins_in (clock_of c) now a < c.cycles)
           → total (counted answer (record m { waiting = with_answer answer d m.waiting })) ≡ total m + 1
       by added.Kept early = let more = kept_more c.cycles d m.waiting (early refl) in omega (arith, more)
-      by added.Negative early = omega arith
-      by added.PastEnd early = omega arith
-      by added.TooMany early = omega arith
+      by _ early = omega arith
 
   all_more : (now : ℕ) (time : ℤ) (asks : List (List ℤ)) (m : Moment)
       → total (all_asked c now time asks m) ≡ total m + length asks

@@ -1,33 +1,26 @@
 -- A piece whose instruments ask for few notes has few starts.
-use Rattle.std.proofs.Common.{◌≡◌, ◌≢◌, ◌≤◌, ◌<◌, ◌∙◌, ℕ, ℤ, pos, zero, suc, ◌+◌, ◌*◌, ◌==◌, Bool, true, false, List}
-use Rattle.std.proofs.Common.{[], ◌∷◌, length, filter}
-use Rattle.std.proofs.Common.{is_some, slice_index_or, Option, Some, None, refl, sym, ap, arith, if◌then◌else◌}
+use Rattle.std.proofs.Common.{◌≡◌, ◌≤◌, ◌<◌, ℕ, ℤ, pos, zero, suc, ◌+◌, ◌*◌, ◌==◌, Bool, true, false, List, [], ◌∷◌}
+use Rattle.std.proofs.Common.{length, filter, is_some, slice_index_or, Option, Some, None, refl, arith, if◌then◌else◌}
 use Rattle.std.proofs.lemmas.Bool.Decides.{nat_tests}
 use Rattle.cs_base.specs.Limits.{most_asks, most_events, most_statements}
-use Rattle.cs_base.specs.declared.resource.Res.TheVariants as res
 use Rattle.cs_gen.specs.Points.{points_of}
-use Rattle.cs_ir.specs.Asks.{ask_of}
-use Rattle.cs_ir.specs.declared.ask.Ask.{Ask}
-use Rattle.cs_meaning.specs.Core.{Block}
-use Rattle.cs_meaning.specs.Notes.{Note}
+use Rattle.cs_ir.specs.{Asks.ask_of, declared.ask.Ask.Ask}
+use Rattle.cs_meaning.specs.{Core.Block, Notes.Note}
 use Rattle.cs_meaning.specs.Plain.{Cause, Plain, Table, find_table, shared_with}
-use Rattle.cs_sched.specs.Times.{begins_in, due_of}
+use Rattle.cs_sched.specs.{Times.begins_in, Times.due_of, declared.due.Due.Due, declared.pending.Added.Added}
 use Rattle.cs_sched.specs.Waiting.{answer_to, with_answer}
-use Rattle.cs_sched.specs.declared.due.Due.{Due}
-use Rattle.cs_sched.specs.declared.pending.Added.{Added}
-use Rattle.cs_sched.specs.declared.pending.Added.TheVariants as added
-use Rattle.cs_tempo.specs.declared.plot.Event.{Event}
-use Rattle.cs_tempo.specs.declared.plot.EventAct.{EventAct}
-use Rattle.cs_tempo.specs.declared.plot.EventAct.TheVariants as act
-use Rattle.cs_piece_meaning.specs.Bounded.{IsBounded, asks_in}
+use Rattle.cs_tempo.specs.{declared.plot.Event.Event, declared.plot.EventAct.EventAct}
+use Rattle.cs_piece_meaning.specs.Bounded.{IsBounded}
 use Rattle.cs_piece_meaning.specs.Course.{begins, closing, events_in, moment_at, still}
 use Rattle.cs_piece_meaning.specs.Moments.{Composition, Moment, clock_of, piece_with}
 use Rattle.cs_piece_meaning.specs.Starts.{Start, act_done, all_asked, all_done, asked, begun, counted, entered}
 use Rattle.cs_piece_meaning.specs.Starts.{first_started, has_room, in_vain, initialised, start_of, started, taken}
 use Rattle.cs_piece_meaning.specs.Starts.{time_of, unless_none, waited, with_points}
 use Rattle.cs_piece_meaning.proofs.Counting.{below, in_time, kept_more, taken_one, waiting_in}
-use Rattle.cs_piece_meaning.proofs.Unended.{begins_asking}
-use Rattle.cs_piece_meaning.proofs.Waits.{few_kept}
+use Rattle.cs_piece_meaning.proofs.{Unended.begins_asking, Waits.few_kept}
+use Rattle.cs_base.specs.declared.resource.Res.TheVariants as res
+use Rattle.cs_sched.specs.declared.pending.Added.TheVariants as added
+use Rattle.cs_tempo.specs.declared.plot.EventAct.TheVariants as act
 
 -- THE EVENTS of all cycles are those that there are
 
@@ -115,9 +108,7 @@ module _ (c : Composition) (bounded : IsBounded c) where
       by : (answer : Added) → (answer ≡ added.Kept → begins_in (clock_of c) now a < c.cycles)
           → Costs 1 m (counted answer (record m { waiting = with_answer answer d m.waiting }))
       by added.Kept early = let more = kept_more c.cycles d m.waiting (early refl) in omega (arith, more)
-      by added.Negative early = omega arith
-      by added.PastEnd early = omega arith
-      by added.TooMany early = omega arith
+      by _ early = omega arith
 
   all_cost : (now : ℕ) (time : ℤ) (asks : List (List ℤ)) (m : Moment)
       → Costs (length asks) m (all_asked c now time asks m)

@@ -2,20 +2,15 @@
 use Rattle.std.proofs.Common.{◌≡◌, ◌⊎◌, inl, inr, ⊎_elim, ℕ, zero, suc, ◌+◌, ◌-◌, ◌<◌, ◌≤◌, ◌==◌, Bool, true, false}
 use Rattle.std.proofs.Common.{not, nat_lt, cond, List, [], ◌∷◌, refl, sym, ap, subst, ◌∙◌, arith, true≢false, Contains}
 use Rattle.std.proofs.Common.{if◌then◌else◌}
-use Rattle.std.specs.Prelude.{filter}
-use Rattle.std.specs.List.{AllZip}
+use Rattle.std.specs.{Prelude.filter, List.AllZip}
 use Rattle.std.proofs.lemmas.Bool.Decides.{nat_tests}
 use Rattle.std.proofs.lemmas.List.Elements.{All-contains, All-contains_itself, All-filter, Contains-append_cases}
 use Rattle.std.proofs.lemmas.List.Elements.{Contains-append_left, Contains-append_right}
-use Rattle.cs_meaning.specs.Core.{Block}
-use Rattle.cs_meaning.specs.Notes.{Note}
-use Rattle.cs_meaning.specs.Plain.{Plain}
+use Rattle.cs_meaning.specs.{Core.Block, Notes.Note, Plain.Plain}
 use Rattle.cs_piece_meaning.specs.Course.{begins, moment_at, played_in, still}
 use Rattle.cs_piece_meaning.specs.Moments.{Active, Composition, Moment, at_most, placed}
-use Rattle.cs_piece_meaning.specs.Starts.{Start, joined}
-use Rattle.cs_piece_meaning.specs.Orders.{IsSameNote, notes_in}
-use Rattle.cs_piece_meaning.proofs.Standing.{in_order, same_notes}
-use Rattle.cs_piece_meaning.proofs.Steps.{Fact, Keeps, begins_keeps}
+use Rattle.cs_piece_meaning.specs.{Starts.Start, Starts.joined, Orders.IsSameNote, Orders.notes_in}
+use Rattle.cs_piece_meaning.proofs.{Standing.in_order, Standing.same_notes, Steps.Fact, Steps.Keeps, Steps.begins_keeps}
 
 module _ {A : Type 0} where
   here : (x : A) (xs : List A) → Contains (x ∷ xs) x

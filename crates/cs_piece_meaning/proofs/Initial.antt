@@ -1,26 +1,21 @@
 -- How what a note does as it begins changes its world: step by step, as its statements do.
-use Rattle.std.proofs.Common.{◌≡◌, ◌≤◌, ◌+◌, ℕ, ℤ, Bool, true, false, List, [], ◌∷◌, refl, arith, if◌then◌else◌}
-use Rattle.cs_base.specs.Rates.{res_rate}
-use Rattle.cs_base.specs.declared.resource.Rate.{Rate}
-use Rattle.cs_base.specs.declared.resource.Rate.TheVariants as rate
-use Rattle.cs_base.specs.declared.resource.Res.{Res}
+use Rattle.std.proofs.Common.{◌≡◌, ◌≤◌, ◌+◌, ℕ, ℤ, Bool, true, false, List, [], ◌∷◌, arith, if◌then◌else◌}
+use Rattle.cs_base.specs.{Rates.res_rate, declared.resource.Rate.Rate, declared.resource.Res.Res}
 use Rattle.cs_typed.specs.TypedTree.{Expression, number, var, field, head, neg, pair, pick, apply}
 use Rattle.cs_typed.specs.declared.tree.Var.{Var as Variable}
 use Rattle.cs_typed.specs.declared.tree.Var.TheVariants.{Local, Global}
 use Rattle.cs_words.specs.declared.catalogue.Opcode.{Opcode}
-use Rattle.cs_ir.specs.Values.{holds}
+use Rattle.cs_ir.specs.{Values.holds, Worlds.World, declared.op.Reach.Reach}
 use Rattle.cs_ir.specs.Waves.{Wave, held, if_init, first_values}
-use Rattle.cs_ir.specs.Worlds.{World}
-use Rattle.cs_ir.specs.declared.op.Reach.{Reach}
-use Rattle.cs_meaning.specs.Core.{Stmt, Block, Arms, set, unit, zak, store, out, out_at, ask, turnoff, nothing, choose}
-use Rattle.cs_meaning.specs.Core.{no_stmt, andthen, otherwise, arm}
-use Rattle.cs_meaning.specs.Initialising as initial
+use Rattle.cs_meaning.specs.Core.{Stmt, Block, Arms, set, unit, zak, store, out, out_at, ask, choose, no_stmt, andthen}
+use Rattle.cs_meaning.specs.{Core.otherwise, Core.arm, When.beginning}
 use Rattle.cs_meaning.specs.Initialising.{going, keep, keep_all, init_stmt, init_block, init_first, init_all, run_once}
 use Rattle.cs_meaning.specs.Initialising.{sought, started, stored_once, zak_once}
 use Rattle.cs_meaning.specs.Notes.{Note, Path, StatementPlace, next, inside, inside_arm, past_arm, past_stmt, assign}
 use Rattle.cs_meaning.specs.Notes.{first_value, given, moved_to, value, values}
-use Rattle.cs_meaning.specs.When.{beginning}
 use Rattle.cs_piece_meaning.specs.Bounded.{asks_in, asks_in_arms, asks_in_stmt}
+use Rattle.cs_base.specs.declared.resource.Rate.TheVariants as rate
+use Rattle.cs_meaning.specs.Initialising as initial
 
 pub chosen_is : {A B : Type 0} (f : A → B) (b : Bool) (x y : A) (z : B) → f x ≡ z → f y ≡ z → f (if b then x else y) ≡ z
 chosen_is f true x y z e g = e
@@ -58,8 +53,7 @@ module _ {W : Type 0} (o : World W) (S : ℕ → W → W → Type 0) (goes : Goe
 
   rate_goes : (n : ℕ) (r : Rate) (t x y : Note W) → From n t x → From n t y → From n t (if_init r x y)
   rate_goes n rate.Init t x y p q = p
-  rate_goes n rate.Control t x y p q = q
-  rate_goes n rate.Audio t x y p q = q
+  rate_goes n _ t x y p q = q
 
   going_goes : (n : ℕ) (t next : Note W) → From n t next → From n t (going o t next)
   going_goes n t next p = chosen_goes n (o.refused t.world) t t next (still n t) p
@@ -161,14 +155,13 @@ module _ {W : Type 0} (o : World W) (S : ℕ → W → W → Type 0) (goes : Goe
     stmt_goes (ask es) p t =
         let is : List ℤ = first_values (values o t beginning [] es) in
         going_goes 1 t (moved_to (o.ask is t.world) t) (goes.ask is t.world)
-    stmt_goes (turnoff r) p t = still 0 t
-    stmt_goes nothing p t = still 0 t
     stmt_goes (choose r arms) p t =
         let q : StatementPlace = inside p in
         let a : Note W = init_first o q arms t in
         let b : Note W = init_all o q arms t in
         going_goes (asks_in_arms arms) t (if_init r a b)
         (rate_goes (asks_in_arms arms) r t a b (first_goes arms q t) (all_goes arms q t))
+    stmt_goes _ p t = still 0 t
 
     pub block_goes : (b : Block) (p : StatementPlace) (t : Note W) → From (asks_in b) t (init_block o p b t)
     block_goes no_stmt p t = still 0 t

@@ -3,8 +3,7 @@ use Rattle.std.proofs.Common.{◌≡◌, zero, suc, ◌+◌, Bool, true, false, 
 use Rattle.std.proofs.Common.{arith, length-append}
 use Rattle.std.specs.Prelude.{All, AllPairs, filter, cond}
 use Rattle.std.proofs.lemmas.List.Elements.{All-append, All-cons, All-filter, All-head, All-tail}
-use Rattle.std.proofs.lemmas.List.Filters.{length-filter_both}
-use Rattle.std.proofs.lemmas.List.Kept.{AllPairs-cons, AllPairs-filter}
+use Rattle.std.proofs.lemmas.{List.Filters.length-filter_both, List.Kept.AllPairs-cons, List.Kept.AllPairs-filter}
 
 module _ {A : Type 0} (R : A → A → Type 0) where
   pub head_pairs : (x : A) (xs : List A) → AllPairs R (x ∷ xs) → All (R x) xs
@@ -38,10 +37,6 @@ module _ {A : Type 0} (R : A → A → Type 0) where
     pub pairs_across : (xs : List A) → AllPairs R xs → All (λ y. All (R y) (filter (λ z. not (p z)) xs)) (filter p xs)
     pairs_across [] h = λ k d lt. absurd (omega arith)
     pairs_across (x ∷ xs) h = all_of x xs (head_pairs x xs h) (p x) (pairs_across xs (tail_pairs x xs h))
-
--- an element between those that pass a test and those that don't
-pub one_between : {A : Type 0} → (A → Bool) → A → List A → List A
-one_between p n xs = filter p xs ++ n ∷ filter (λ z. not (p z)) xs
 
 module _ {A : Type 0} (p : A → Bool) (n : A) (xs : List A) where
   pub between_all : (P : A → Type 0) → P n → All P xs → All P (filter p xs ++ n ∷ filter (λ z. not (p z)) xs)

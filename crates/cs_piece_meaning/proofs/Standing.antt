@@ -1,20 +1,14 @@
 -- Notes stay in order through the steps of a cycle.
 use Rattle.std.proofs.Common.{◌≡◌, ◌≢◌, ◌∙◌, ◌⊎◌, inl, inr, ⊎_elim, ℕ, ℤ, zero, suc, ◌+◌, ◌<◌, ◌≤◌, ◌<ℤ◌, ◌≤ℤ◌, ◌==◌}
-use Rattle.std.proofs.Common.{Bool, true, false, not, nat_lt, List, [], ◌∷◌, length, get_or, Some, refl, sym, ap, arith}
+use Rattle.std.proofs.Common.{Bool, true, false, not, nat_lt, List, [], ◌∷◌, length, get_or, Some, refl, sym, arith}
 use Rattle.std.proofs.Common.{if◌then◌else◌}
-use Rattle.std.specs.Prelude.{All, AllPairs, filter}
-use Rattle.std.specs.List.{AllZip}
-use Rattle.std.proofs.lemmas.Bool.Decides.{nat_tests}
-use Rattle.std.proofs.lemmas.Int.{by_lt_z, ints}
+use Rattle.std.specs.{Prelude.All, Prelude.AllPairs, Prelude.filter, List.AllZip}
+use Rattle.std.proofs.lemmas.{Bool.Decides.nat_tests, Int.by_lt_z, Int.ints, List.Filters.length-filter_both}
+use Rattle.std.proofs.lemmas.{List.Kept.AllPairs-filter, Slice.Zip.AllZip-long}
 use Rattle.std.proofs.lemmas.List.Elements.{All-filter, All-weaker, filter_passes}
-use Rattle.std.proofs.lemmas.List.Filters.{length-filter_both}
-use Rattle.std.proofs.lemmas.List.Kept.{AllPairs-filter}
-use Rattle.cs_base.specs.Limits.{most_notes}
-use Rattle.cs_base.specs.declared.resource.Res.{Res}
+use Rattle.cs_base.specs.{Limits.most_notes, declared.resource.Res.Res}
 use Rattle.cs_ir.specs.Waves.{Wave}
-use Rattle.cs_meaning.specs.Core.{Block}
-use Rattle.cs_meaning.specs.Notes.{Note}
-use Rattle.cs_meaning.specs.Plain.{Plain}
+use Rattle.cs_meaning.specs.{Core.Block, Notes.Note, Plain.Plain}
 use Rattle.cs_piece_meaning.specs.Course.{begins, moment_at, next, performed, played_in, serial, still, turned_off}
 use Rattle.cs_piece_meaning.specs.Moments.{Active, Composition, Moment, at_most, placed}
 use Rattle.cs_piece_meaning.specs.Starts.{Start, joined}
@@ -193,12 +187,6 @@ zip_at R [] (y ∷ ys) k d e all lt = absurd all
 zip_at R (x ∷ xs) (y ∷ ys) zero d e all lt = all.0
 zip_at R (x ∷ xs) (y ∷ ys) (suc k) d e all lt = zip_at R xs ys k d e all.1 (omega arith)
 
-pub zip_long : {A B : Type 0} (R : A → B → Type 0) (xs : List A) (ys : List B) → AllZip R xs ys → length xs ≡ length ys
-zip_long R [] [] all = refl
-zip_long R [] (y ∷ ys) all = absurd all
-zip_long R (x ∷ xs) [] all = absurd all
-zip_long R (x ∷ xs) (y ∷ ys) all = ap suc (zip_long R xs ys all.1)
-
 before_too : (a b x y : Active) → IsSameNote a x → IsSameNote b y → StandsBefore a b → StandsBefore x y
 before_too a b x y e f h = rw (e.number, f.number, e.age, f.age) h
 
@@ -215,7 +203,7 @@ serial_same c made shared (a ∷ rest) =
 module _ (c : Composition) (P Q : Active → Type 0) (keep : (a b : Active) → IsSameNote a b → P a → Q b) where
   same_stands : (xs ys : List Active) (count : ℕ) → AllZip IsSameNote xs ys → InOrder P xs count → InOrder Q ys count
   same_stands xs ys count same h =
-      let long : length xs ≡ length ys = zip_long IsSameNote xs ys same in
+      let long : length xs ≡ length ys = sym (AllZip-long IsSameNote xs ys same) in
       record {
         order = λ i j d lt within. before_too (get_or xs i d) (get_or xs j d) (get_or ys i d) (get_or ys j d)
             (zip_at IsSameNote xs ys i d d same (omega (arith, lt, within))) (zip_at IsSameNote xs ys j d d same within)

@@ -2,9 +2,8 @@
 use Rattle.std.proofs.Common.{◌≡◌, ◌∙◌, ℕ, zero, suc, ◌≤◌, List, [], ◌∷◌, refl, sym, subst, arith}
 use Rattle.cs_base.specs.Limits.{most_asks}
 use Rattle.cs_sched.specs.declared.due.Due.{Due}
-use Rattle.cs_piece_meaning.specs.Course.{begins, events_in, moment_at, still}
-use Rattle.cs_piece_meaning.specs.Moments.{Composition, Moment}
-use Rattle.cs_piece_meaning.specs.Started.{AreStarted, nothing_due, first_due}
+use Rattle.cs_piece_meaning.specs.{Course.begins, Course.events_in, Course.moment_at, Course.still, Moments.Composition}
+use Rattle.cs_piece_meaning.specs.{Moments.Moment, Started.AreStarted, Started.nothing_due, Started.first_due}
 use Rattle.cs_piece_meaning.specs.Starts.{all_done, first_started, unless_none, waited}
 use Rattle.cs_piece_meaning.proofs.Waits.{none_waits}
 

@@ -7,20 +7,12 @@ use Rattle.std.specs.Prelude.{All}
 use Rattle.std.proofs.lemmas.Bool.Decides.{nat_tests}
 use Rattle.std.proofs.lemmas.List.Elements.{All-head, All-tail, filter_passes}
 use Rattle.cs_base.specs.Limits.{most_asks, most_notes}
-use Rattle.cs_base.specs.declared.resource.Res.TheVariants as res
-use Rattle.cs_ir.specs.Asks.{ask_of}
-use Rattle.cs_ir.specs.declared.ask.Ask.{Ask}
-use Rattle.cs_meaning.specs.Core.{Block}
-use Rattle.cs_meaning.specs.Notes.{Note}
+use Rattle.cs_ir.specs.{Asks.ask_of, declared.ask.Ask.Ask}
+use Rattle.cs_meaning.specs.{Core.Block, Notes.Note}
 use Rattle.cs_meaning.specs.Plain.{Cause, Plain, Table, find_table, shared_with}
 use Rattle.cs_sched.specs.Waiting.{Waiting, answer_to, with_answer}
-use Rattle.cs_sched.specs.Times.{due_of}
-use Rattle.cs_sched.specs.declared.due.Due.{Due}
-use Rattle.cs_sched.specs.declared.pending.Added.{Added}
-use Rattle.cs_sched.specs.declared.pending.Added.TheVariants as added
-use Rattle.cs_tempo.specs.declared.plot.Event.{Event}
-use Rattle.cs_tempo.specs.declared.plot.EventAct.{EventAct}
-use Rattle.cs_tempo.specs.declared.plot.EventAct.TheVariants as act
+use Rattle.cs_sched.specs.{Times.due_of, declared.due.Due.Due, declared.pending.Added.Added}
+use Rattle.cs_tempo.specs.{declared.plot.Event.Event, declared.plot.EventAct.EventAct}
 use Rattle.cs_gen.specs.Points.{points_of}
 use Rattle.cs_piece_meaning.specs.Course.{begins, events_in, still}
 use Rattle.cs_piece_meaning.specs.Moments.{Active, Composition, Moment, clock_of, piece_with}
@@ -28,6 +20,9 @@ use Rattle.cs_piece_meaning.specs.Starts.{Start, act_done, all_asked, all_done, 
 use Rattle.cs_piece_meaning.specs.Starts.{first_started, has_room, in_vain, initialised, joined, start_in, start_of}
 use Rattle.cs_piece_meaning.specs.Starts.{started, taken, time_of, unless_none, waited, with_points}
 use Rattle.cs_piece_meaning.proofs.Unended.{begins_unended}
+use Rattle.cs_base.specs.declared.resource.Res.TheVariants as res
+use Rattle.cs_sched.specs.declared.pending.Added.TheVariants as added
+use Rattle.cs_tempo.specs.declared.plot.EventAct.TheVariants as act
 
 -- what a note asks for leaves those that play as they are
 counted_active : (answer : Added) (m : Moment) → (counted answer m).active ≡ m.active
@@ -71,9 +66,7 @@ pub record Keeps (c : Composition) (now : ℕ) (S : Fact) : Type 0 where
 module _ (c : Composition) (now : ℕ) (S : Fact) (keeps : Keeps c now S) where
   counted_keeps : (x : ℕ) (answer : Added) (m : Moment) → At S x m → At S x (counted answer m)
   counted_keeps x added.Kept m h = h
-  counted_keeps x added.Negative m h = h
-  counted_keeps x added.PastEnd m h = h
-  counted_keeps x added.TooMany m h = h
+  counted_keeps x _ m h = h
 
   asked_keeps : (x : ℕ) (time : ℤ) (a : Ask) (m : Moment) → At S x m → At S x (asked c now time a m)
   asked_keeps x time a m h =

@@ -1,16 +1,11 @@
 -- Nothing that a note does as it begins turns it off, and it asks for no more notes than its statements do.
 use Rattle.std.proofs.Common.{◌≡◌, ◌≤◌, ◌∙◌, ℕ, ℤ, pos, ◌+◌, Bool, false, ◌&&◌, List, [], ◌∷◌, length, length-append}
 use Rattle.std.proofs.Common.{slice_index_or, refl, ap, arith, nat_le, if◌then◌else◌}
-use Rattle.cs_base.specs.Limits.{most_delay_samples}
-use Rattle.cs_base.specs.declared.resource.Rate.{Rate}
-use Rattle.cs_base.specs.declared.resource.Res.{Res}
-use Rattle.cs_words.specs.Catalogue.{row_of, takes_table}
-use Rattle.cs_words.specs.declared.catalogue.Opcode.{Opcode}
+use Rattle.cs_base.specs.{Limits.most_delay_samples, declared.resource.Rate.Rate, declared.resource.Res.Res}
+use Rattle.cs_words.specs.{Catalogue.row_of, Catalogue.takes_table, declared.catalogue.Opcode.Opcode}
 use Rattle.cs_ir.specs.Waves.{Wave, operand}
-use Rattle.cs_meaning.specs.Core.{Block}
-use Rattle.cs_meaning.specs.Initialising.{init_block}
+use Rattle.cs_meaning.specs.{Core.Block, Initialising.init_block, Notes.new_note, Notes.start}
 use Rattle.cs_meaning.specs.Model.{begun, delay_too_long, delayed, lacks_table, no_table, refused_for, starts}
-use Rattle.cs_meaning.specs.Notes.{new_note, start}
 use Rattle.cs_meaning.specs.Pieces.{Piece, index, is_delay, table_number}
 use Rattle.cs_meaning.specs.Plain.{Plain, fresh, plain, plain_model}
 use Rattle.cs_meaning.proofs.Rest.{Rest, store_rest, unit_rest, zak_rest}

@@ -2,19 +2,15 @@
 use Rattle.std.proofs.Common.{◌≡◌, ◌≢◌, ⊎_elim, ℕ, zero, suc, ◌+◌, ◌<◌, ◌≤◌, ◌==◌, Bool, true, false, nat_le, List, []}
 use Rattle.std.proofs.Common.{◌∷◌, ◌++◌, length, refl, ap, subst, arith, length-append, if◌then◌else◌}
 use Rattle.std.specs.Int.{is_negative}
-use Rattle.std.proofs.lemmas.Bool.{cases_lt}
-use Rattle.std.proofs.lemmas.Bool.Decides.{nat_tests}
+use Rattle.std.proofs.lemmas.{Bool.cases_lt, Bool.Decides.nat_tests}
 use Rattle.cs_base.specs.Limits.{most_asks}
 use Rattle.cs_ir.specs.declared.ask.Ask.{Ask}
-use Rattle.cs_sched.specs.Times.{Clock, begins_in, due_of}
-use Rattle.cs_sched.specs.Waiting.{Waiting, answer_to, with_answer}
-use Rattle.cs_sched.specs.declared.due.Due.{Due}
-use Rattle.cs_sched.specs.declared.pending.Added.{Added}
-use Rattle.cs_sched.specs.declared.pending.Added.TheVariants as added
-use Rattle.cs_piece_meaning.specs.Course.{begins, moment_at}
+use Rattle.cs_sched.specs.{Times.Clock, Times.begins_in, Times.due_of, Waiting.Waiting, Waiting.answer_to}
+use Rattle.cs_sched.specs.{Waiting.with_answer, declared.due.Due.Due, declared.pending.Added.Added}
+use Rattle.cs_piece_meaning.specs.{Course.begins, Course.moment_at, Starts.taken}
 use Rattle.cs_piece_meaning.specs.Moments.{Composition, Moment, clock_of}
-use Rattle.cs_piece_meaning.specs.Starts.{taken}
 use Rattle.cs_piece_meaning.proofs.Steps.{Fact, Keeps, begins_keeps}
+use Rattle.cs_sched.specs.declared.pending.Added.TheVariants as added
 
 -- None waits for a cycle before this one; for no cycle more wait than were kept, for this one fewer by those that were
 -- taken out.
@@ -32,9 +28,8 @@ room_of clock now a kept h =
         → (if b1 then added.Negative else (if b2 then added.TooMany else (if b3 then added.PastEnd else added.Kept)))
         ≡ added.Kept
         → kept < most_asks
-    by true b2 b3 e h = absurd cc
-    by false true b3 e h = absurd cc
     by false false b3 e h = grind (arith, nat_tests)
+    by _ _ b3 e h = absurd cc
 
 module _ (now x : ℕ) (w : Waiting) (d : Due) (h : Waits now x w) where
   kept_waits : now ≤ d.cycle → w.kept < most_asks → Waits now x (with_answer added.Kept d w)
@@ -62,9 +57,7 @@ module _ (now x : ℕ) (w : Waiting) (d : Due) (h : Waits now x w) where
   answered_waits : (answer : Added) → now ≤ d.cycle → (answer ≡ added.Kept → w.kept < most_asks)
       → Waits now x (with_answer answer d w)
   answered_waits added.Kept late room = kept_waits late (room refl)
-  answered_waits added.Negative late room = h
-  answered_waits added.PastEnd late room = h
-  answered_waits added.TooMany late room = h
+  answered_waits _ late room = h
 
   taken_waits : (rest : List Due) → w.due now ≡ d ∷ rest → Waits now (x + 1) (taken now rest w)
   taken_waits rest is =

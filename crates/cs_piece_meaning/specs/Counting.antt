@@ -1,16 +1,14 @@
 -- How many starts there are: the events that start a note, and the notes that notes ask for as they are initialised.
 use Rattle.std.specs.Prelude.{ℕ, zero, suc, pos, ◌+◌, Bool, true, false, List, [], ◌∷◌, length, map, sum, Option, Some}
-use Rattle.std.specs.Prelude.{None, if◌then◌else◌}
-use Rattle.std.specs.List.{count_by, range_with_len}
+use Rattle.std.specs.{Prelude.None, Prelude.if◌then◌else◌, List.count_by, List.range_with_len}
 use Rattle.cs_base.specs.Limits.{most_asks}
 use Rattle.cs_meaning.specs.Core.{Block}
 use Rattle.cs_sched.specs.declared.due.Due.{Due}
-use Rattle.cs_tempo.specs.declared.plot.Event.{Event}
-use Rattle.cs_tempo.specs.declared.plot.EventAct.{EventAct}
-use Rattle.cs_tempo.specs.declared.plot.EventAct.TheVariants as act
+use Rattle.cs_tempo.specs.{declared.plot.Event.Event, declared.plot.EventAct.EventAct}
 use Rattle.cs_piece_meaning.specs.Course.{events_in, moment_at, still}
 use Rattle.cs_piece_meaning.specs.Moments.{Composition, Moment}
 use Rattle.cs_piece_meaning.specs.Starts.{Start, act_done, all_done, begun, first_started, has_room, start_of, taken}
+use Rattle.cs_tempo.specs.declared.plot.EventAct.TheVariants as act
 
 -- an event that starts a note, and not one that makes a table
 abbrev pub starts_note : EventAct → Bool

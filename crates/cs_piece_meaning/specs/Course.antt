@@ -2,10 +2,8 @@
 use Rattle.std.specs.Prelude.{ℕ, zero, suc, not, ◌==◌, List, [], ◌∷◌, filter, nat_lt}
 use Rattle.cs_base.specs.declared.resource.Res.{Res}
 use Rattle.cs_ir.specs.Waves.{Wave, silence}
-use Rattle.cs_meaning.specs.Initialising.{init_block}
-use Rattle.cs_meaning.specs.Notes.{Note, moved_to, new_note, start}
-use Rattle.cs_meaning.specs.Performing.{perf_block}
-use Rattle.cs_meaning.specs.Plain.{Plain, fresh, next_cycle, plain}
+use Rattle.cs_meaning.specs.{Initialising.init_block, Notes.Note, Notes.moved_to, Notes.new_note, Notes.start}
+use Rattle.cs_meaning.specs.{Performing.perf_block, Plain.Plain, Plain.fresh, Plain.next_cycle, Plain.plain}
 use Rattle.cs_sched.specs.Waiting.{nothing_waits}
 use Rattle.cs_tempo.specs.declared.plot.Event.{Event}
 use Rattle.cs_piece_meaning.specs.Moments.{Composition, Active, Moment, piece_with}

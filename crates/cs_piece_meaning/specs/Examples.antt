@@ -2,16 +2,15 @@
 -- channel.
 use Rattle.std.specs.Prelude.{ℕ, ℤ, pos, ◌*◌, List, [], ◌∷◌, Option, Some, None, if◌then◌else◌}
 use Rattle.std.specs.Ordering.{int_eq}
-use Rattle.cs_base.specs.declared.resource.Rate.TheVariants as rate
-use Rattle.cs_words.specs.declared.catalogue.Opcode.TheVariants as op
 use Rattle.cs_typed.specs.TypedTree.{number, var, field, value, set, call, Block as Statements, no_stmt, andthen}
 use Rattle.cs_typed.specs.declared.tree.Var.TheVariants.{Local}
 use Rattle.cs_base.specs.declared.spaces.Spaces.{Spaces}
-use Rattle.cs_meaning.specs.Core.{Block, core}
-use Rattle.cs_meaning.specs.Examples.{whole}
+use Rattle.cs_meaning.specs.{Core.Block, Core.core, Examples.whole}
 use Rattle.cs_tempo.specs.declared.plot.Event.{Event}
-use Rattle.cs_tempo.specs.declared.plot.EventAct.TheVariants as act
 use Rattle.cs_piece_meaning.specs.Moments.{Composition}
+use Rattle.cs_base.specs.declared.resource.Rate.TheVariants as rate
+use Rattle.cs_words.specs.declared.catalogue.Opcode.TheVariants as op
+use Rattle.cs_tempo.specs.declared.plot.EventAct.TheVariants as act
 
 -- no zak places
 abbrev no_places : Spaces

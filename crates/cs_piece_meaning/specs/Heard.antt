@@ -2,8 +2,7 @@
 use Rattle.std.specs.Prelude.{ℕ, ℤ, List, length, map, sum}
 use Rattle.std.specs.List.{flat_map, range_with_len}
 use Rattle.cs_base.specs.Numbers.{total}
-use Rattle.cs_piece_meaning.specs.Moments.{Composition, Active}
-use Rattle.cs_piece_meaning.specs.Course.{played_in}
+use Rattle.cs_piece_meaning.specs.{Moments.Composition, Moments.Active, Course.played_in}
 
 -- what notes give together to a channel at a frame: the plain sum, without bounds
 abbrev pub sum_at : List Active → ℕ → ℕ → ℤ

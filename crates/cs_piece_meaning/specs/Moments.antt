@@ -1,16 +1,11 @@
 -- What is performed, and how it stands between two steps of a control cycle.
 use Rattle.std.specs.Prelude.{ℕ, ℤ, pos, ◌-◌, ◌==◌, Bool, not, List, ◌∷◌, ◌++◌, filter, int_lt, map, slice_index_or}
-use Rattle.std.specs.Prelude.{Option}
-use Rattle.std.specs.List.{list_any}
-use Rattle.cs_base.specs.declared.resource.Res.{Res}
+use Rattle.std.specs.{Prelude.Option, List.list_any}
+use Rattle.cs_base.specs.{declared.resource.Res.Res, declared.spaces.Spaces.Spaces}
 use Rattle.cs_typed.specs.Places.{Header}
-use Rattle.cs_base.specs.declared.spaces.Spaces.{Spaces}
 use Rattle.cs_ir.specs.Waves.{Wave}
-use Rattle.cs_meaning.specs.Core.{Block}
-use Rattle.cs_meaning.specs.Notes.{Note}
-use Rattle.cs_meaning.specs.Plain.{Piece, Plain, Table}
-use Rattle.cs_sched.specs.Times.{Clock}
-use Rattle.cs_sched.specs.Waiting.{Waiting}
+use Rattle.cs_meaning.specs.{Core.Block, Notes.Note, Plain.Piece, Plain.Plain, Plain.Table}
+use Rattle.cs_sched.specs.{Times.Clock, Waiting.Waiting}
 use Rattle.cs_ugen.specs.Generators.{pace_of, the_generators}
 use Rattle.cs_tempo.specs.declared.plot.Event.{Event}
 

@@ -1,17 +1,16 @@
 -- Small performances whose order can be heard: eight frames a second, four a control cycle, one channel.
 use Rattle.std.specs.Prelude.{ℕ, pos, negsuc, List, [], ◌∷◌, None, false}
-use Rattle.cs_base.specs.declared.resource.Rate.TheVariants as rate
-use Rattle.cs_base.specs.declared.resource.Res.TheVariants as res
-use Rattle.cs_words.specs.declared.catalogue.Opcode.TheVariants as op
-use Rattle.cs_words.specs.declared.sign.BinOp.TheVariants as sign
 use Rattle.cs_typed.specs.TypedTree.{number, var, field, pair, value, Expression, Statement, set, call, choose}
 use Rattle.cs_typed.specs.TypedTree.{Block as Statements, no_stmt, andthen, otherwise, arm}
 use Rattle.cs_typed.specs.declared.tree.Var.TheVariants.{Local, Global}
 use Rattle.cs_meaning.specs.Examples.{counting, no_code, telling, whole, zeros}
 use Rattle.cs_tempo.specs.declared.plot.Event.{Event}
+use Rattle.cs_piece_meaning.specs.{Examples.note, Examples.piece_of_two, Examples.sounding_p4, Moments.Composition}
+use Rattle.cs_base.specs.declared.resource.Rate.TheVariants as rate
+use Rattle.cs_base.specs.declared.resource.Res.TheVariants as res
+use Rattle.cs_words.specs.declared.catalogue.Opcode.TheVariants as op
+use Rattle.cs_words.specs.declared.sign.BinOp.TheVariants as sign
 use Rattle.cs_tempo.specs.declared.plot.EventAct.TheVariants as act
-use Rattle.cs_piece_meaning.specs.Examples.{note, piece_of_two, sounding_p4}
-use Rattle.cs_piece_meaning.specs.Moments.{Composition}
 
 abbrev lit : ℕ → Expression
 lit n = number rate.Init (whole n)

@@ -1,8 +1,7 @@
 -- In which order notes stand that play, and which notes a cycle has.
 use Rattle.std.specs.Prelude.{ℕ, ◌≡◌, ◌≢◌, ◌<◌, ◌≤◌, ◌<ℤ◌, ◌⊎◌, false, List, length, Some, All, AllPairs}
 use Rattle.cs_base.specs.Limits.{most_notes}
-use Rattle.cs_piece_meaning.specs.Course.{begins, moment_at}
-use Rattle.cs_piece_meaning.specs.Moments.{Active, Composition, Moment}
+use Rattle.cs_piece_meaning.specs.{Course.begins, Course.moment_at, Moments.Active, Moments.Composition, Moments.Moment}
 
 -- Notes stand by the number of their instrument, and those of one number by age: the one that was started first stands
 -- first.

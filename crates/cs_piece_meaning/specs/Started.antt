@@ -1,8 +1,7 @@
 -- Which notes that wait start in a cycle, as a rule between the moment before and the one after: no steps are counted.
 use Rattle.std.specs.Prelude.{ℕ, ◌≡◌, List, [], ◌∷◌}
 use Rattle.cs_sched.specs.declared.due.Due.{Due}
-use Rattle.cs_piece_meaning.specs.Moments.{Composition, Moment}
-use Rattle.cs_piece_meaning.specs.Starts.{start_in, start_of, taken}
+use Rattle.cs_piece_meaning.specs.{Moments.Composition, Moments.Moment, Starts.start_in, Starts.start_of, Starts.taken}
 
 -- Where none waits for the cycle nothing changes. Else the first that was kept is taken out and started, and then the
 -- rule holds of those that wait after that, with those that were kept meanwhile.

@@ -3,23 +3,17 @@ use Rattle.std.specs.Prelude.{ℕ, ℤ, pos, Bool, ◌||◌, ◌+◌, ◌==◌, 
 use Rattle.std.specs.Prelude.{slice_index_or, Option, Some, None, if◌then◌else◌}
 use Rattle.std.specs.Option.{is_some}
 use Rattle.cs_base.specs.Limits.{most_asks, most_notes}
-use Rattle.cs_base.specs.declared.resource.Res.TheVariants as res
 use Rattle.cs_gen.specs.Points.{points_of}
-use Rattle.cs_ir.specs.Asks.{ask_of}
-use Rattle.cs_ir.specs.declared.ask.Ask.{Ask}
-use Rattle.cs_meaning.specs.Core.{Block}
-use Rattle.cs_meaning.specs.Initialising.{init_block}
-use Rattle.cs_meaning.specs.Notes.{Note, new_note, start}
+use Rattle.cs_ir.specs.{Asks.ask_of, declared.ask.Ask.Ask}
+use Rattle.cs_meaning.specs.{Core.Block, Initialising.init_block, Notes.Note, Notes.new_note, Notes.start}
 use Rattle.cs_meaning.specs.Plain.{Cause, Plain, Table, find_table, fresh, plain, shared_with}
-use Rattle.cs_sched.specs.Times.{due_of}
+use Rattle.cs_sched.specs.{Times.due_of, declared.due.Due.Due, declared.pending.Added.Added}
 use Rattle.cs_sched.specs.Waiting.{Waiting, answer_to, with_answer}
-use Rattle.cs_sched.specs.declared.due.Due.{Due}
-use Rattle.cs_sched.specs.declared.pending.Added.{Added}
-use Rattle.cs_sched.specs.declared.pending.Added.TheVariants as added
-use Rattle.cs_tempo.specs.declared.plot.Event.{Event}
-use Rattle.cs_tempo.specs.declared.plot.EventAct.{EventAct}
-use Rattle.cs_tempo.specs.declared.plot.EventAct.TheVariants as act
+use Rattle.cs_tempo.specs.{declared.plot.Event.Event, declared.plot.EventAct.EventAct}
 use Rattle.cs_piece_meaning.specs.Moments.{Composition, Active, Moment, clock_of, piece_with, placed}
+use Rattle.cs_base.specs.declared.resource.Res.TheVariants as res
+use Rattle.cs_sched.specs.declared.pending.Added.TheVariants as added
+use Rattle.cs_tempo.specs.declared.plot.EventAct.TheVariants as act
 
 -- one start more that started nothing
 abbrev pub in_vain : Moment → Moment

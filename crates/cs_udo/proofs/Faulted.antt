@@ -1,20 +1,15 @@
 -- Faults, one after the other.
+use Rattle.std.proofs.lemmas.{Grind.common_steps, Bool.Decides.nat_tests, List.length-map}
 use Rattle.std.proofs.Common.{◌≡◌, ◌∙◌, ◌==◌, ◌&&◌, ◌||◌, ℕ, Bool, true, false, not, nat_le, if◌then◌else◌, List, []}
-use Rattle.std.proofs.Common.{◌∷◌, ◌++◌, length, map, Option, Some, None, arith, refl, sym, ap}
-use Rattle.std.proofs.lemmas.Bool.Decides.{nat_tests}
-use Rattle.cs_base.specs.declared.fault.OrcFault.{OrcFault}
-use Rattle.std.proofs.lemmas.List.{length-map}
-use Rattle.cs_base.specs.declared.fault.OrcKind.{OrcKind}
-use Rattle.cs_base.specs.declared.fault.OrcKind.TheVariants as orc
-use Rattle.cs_grammar.specs.declared.tree.Arg.{Arg}
-use Rattle.cs_grammar.specs.declared.tree.Udo.{Udo}
+use Rattle.std.proofs.Common.{◌∷◌, ◌++◌, length, map, Option, Some, None, arith, refl, ap}
+use Rattle.cs_base.specs.{declared.fault.OrcFault.OrcFault, declared.fault.OrcKind.OrcKind}
+use Rattle.cs_grammar.specs.{declared.tree.Arg.Arg, declared.tree.Udo.Udo}
 use Rattle.cs_grammar.specs.Tree.{argument, definition, Definition, Orchestra}
-use Rattle.cs_udo.specs.Names.{slots}
-use Rattle.cs_udo.specs.Expanded.{Opcodes, no_opcodes, template}
+use Rattle.cs_udo.specs.{Expanded.Opcodes, Expanded.no_opcodes, Expanded.template, inner.Walks.after_faults}
 use Rattle.cs_udo.specs.Refused.{has_text, broken_rule, upper, uppermost_of, uppermost, faults_outside}
 use Rattle.cs_udo.specs.Refused.{faults_of_definitions, faults_of_instruments, first_fault}
 use Rattle.cs_udo.proofs.Weighed.{length_slots}
-use Rattle.cs_udo.specs.inner.Walks.{after_faults}
+use Rattle.cs_base.specs.declared.fault.OrcKind.TheVariants as orc
 
 -- the faults of one list, and then those of another
 pub after_both : (first : Option OrcFault) (xs ys : List OrcFault)
@@ -35,23 +30,7 @@ across_not : (f g h : ℕ) → nat_le f g ≡ false → nat_le g h ≡ false →
 across_not f g h p q = grind (arith, nat_tests)
 
 upper_again : (f g h : OrcFault) → upper (upper f g) h ≡ upper f (upper g h)
-upper_again f g h = by (nat_le f.line g.line) refl (nat_le g.line h.line) refl
-  where
-    by : (a : Bool) → nat_le f.line g.line ≡ a → (b : Bool) → nat_le g.line h.line ≡ b
-        → upper (upper f g) h ≡ upper f (upper g h)
-    by true e true k =
-        ap (λ x. upper x h) (upper_by f g true e)
-        ∙ upper_by f h true (across f.line g.line h.line e k)
-        ∙ sym (ap (upper f) (upper_by g h true k) ∙ upper_by f g true e)
-    by true e false k = ap (λ x. upper x h) (upper_by f g true e) ∙ sym (ap (upper f) (upper_by g h false k))
-    by false e true k =
-        ap (λ x. upper x h) (upper_by f g false e)
-        ∙ upper_by g h true k
-        ∙ sym (ap (upper f) (upper_by g h true k) ∙ upper_by f g false e)
-    by false e false k =
-        ap (λ x. upper x h) (upper_by f g false e)
-        ∙ upper_by g h false k
-        ∙ sym (ap (upper f) (upper_by g h false k) ∙ upper_by f h false (across_not f.line g.line h.line e k))
+upper_again f g h = grind (arith, common_steps, across, across_not, nat_le, upper_by)
 
 rest_after : (f : OrcFault) (xs : List OrcFault) → after_faults (Some f) xs ≡ uppermost_of (Some f) (uppermost xs)
 rest_after f [] = refl
@@ -72,29 +51,11 @@ pub rule_is : (inside : Bool) (xs : List (List ℕ)) (args : List Arg) (u : Udo)
     → misplaced ≡ (has_text (map argument args) || not inside)
     → r ≡ (if not many then Some orc.ArgCount else (if misplaced then Some orc.RateMismatch else None))
     → r ≡ broken_rule inside xs (map argument args) (template opcodes (definition u))
-rule_is inside xs args u opcodes many misplaced r m p e =
-    e
-    ∙ ap (λ b. if not b then Some orc.ArgCount else (if misplaced then Some orc.RateMismatch else None)) m
-    ∙ ap (λ b. if not (length xs == length u.outs && length args == length u.names) then Some orc.ArgCount else
-    (if b then Some orc.RateMismatch else None)) p
-    ∙ sym (ap (λ n. if not (length xs == n && length args == length u.names) then Some orc.ArgCount else
-    (if has_text (map argument args) || not inside then Some orc.RateMismatch else None)) (length_slots 0 u.outs))
-    ∙ sym (ap (λ n. if not (length xs == length (slots 0 u.outs) && n == length u.names) then Some orc.ArgCount else
-    (if has_text (map argument args) || not inside then Some orc.RateMismatch else None)) (length-map args argument))
+rule_is inside xs args u opcodes many misplaced r m p e = grind (arith, common_steps, length-map, length_slots, not)
 
 -- ---- all faults of an orchestra
 
 pub whole_after : (o : Orchestra) (ds : List Definition) (f g h : Option OrcFault) → ds ≡ o.opcodes
     → f ≡ after_faults None (faults_outside ds o.zero) → g ≡ after_faults f (faults_of_definitions no_opcodes ds)
     → h ≡ after_faults g (faults_of_instruments ds o.instrs) → h ≡ first_fault o
-whole_after o ds f g h e first second third =
-    let a : List OrcFault = faults_outside ds o.zero in
-    let b : List OrcFault = faults_of_definitions no_opcodes ds in
-    let d : List OrcFault = faults_of_instruments ds o.instrs in
-    third
-    ∙ ap (λ x. after_faults x d) (second ∙ ap (λ x. after_faults x b) first)
-    ∙ sym (after_both (after_faults None a) b d)
-    ∙ sym (after_both None a (b ++ d))
-    ∙ all_after (a ++ (b ++ d))
-    ∙ ap (λ xs. uppermost (faults_outside xs o.zero
-    ++ (faults_of_definitions no_opcodes xs ++ faults_of_instruments xs o.instrs))) e
+whole_after o ds f g h e first second third = grind (arith, common_steps, after_both, all_after)

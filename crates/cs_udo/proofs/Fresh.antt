@@ -1,4 +1,5 @@
 -- Names of variables of frames: two variables of frames have two names, and none is a name of a text.
+use Rattle.std.proofs.lemmas.Grind.{common_steps}
 use Rattle.std.proofs.Common.{◌≡◌, ◌∙◌, ℕ, zero, suc, ◌+◌, Bool, true, false, if◌then◌else◌, List, [], ◌∷◌, ◌++◌, map}
 use Rattle.std.proofs.Common.{arith, refl, sym, ap, subst}
 use Rattle.cs_base.specs.declared.resource.Rate.{Rate}
@@ -13,9 +14,8 @@ count (false ∷ bs) = count bs + count bs
 count (true ∷ bs) = suc (count bs + count bs)
 
 count_more : (bs : List Bool) → count (one_more bs) ≡ suc (count bs)
-count_more [] = refl
-count_more (false ∷ bs) = refl
 count_more (true ∷ bs) = omega (arith, count_more bs)
+count_more _ = refl
 
 count_binary : (n : ℕ) → count (binary n) ≡ n
 count_binary zero = refl
@@ -33,10 +33,9 @@ rest [] = []
 rest (b ∷ bs) = bs
 
 digit_apart : (b c : Bool) → digit b ≡ digit c → b ≡ c
-digit_apart true true e = refl
-digit_apart false false e = refl
 digit_apart true false e = absurd (omega (arith, e))
 digit_apart false true e = absurd (omega (arith, e))
+digit_apart _ _ e = refl
 
 no_digit : {A : Type 0} (b : Bool) → digit b ≡ 46 → A
 no_digit true e = absurd (omega (arith, e))
@@ -47,24 +46,18 @@ digits_apart : (bs cs : List Bool) (x y : List ℕ) → map digit bs ++ 46 ∷ x
 digits_apart [] [] x y e = (refl, ap rest e)
 digits_apart [] (c ∷ cs) x y e = no_digit c (sym (ap first e))
 digits_apart (b ∷ bs) [] x y e = no_digit b (ap first e)
-digits_apart (b ∷ bs) (c ∷ cs) x y e =
-    let more = digits_apart bs cs x y (ap rest e) in
-    (λ i. digit_apart b c (ap first e) i ∷ more.0 i, more.1)
+digits_apart (b ∷ bs) (c ∷ cs) x y e = grind (arith, common_steps, digit_apart, digits_apart bs cs x y (ap rest e))
 
 pub fresh_apart : (n m : ℕ) (x y : List ℕ) → fresh n x ≡ fresh m y → (n ≡ m) × (x ≡ y)
-fresh_apart n m x y e =
-    let more = digits_apart (binary n) (binary m) x y (ap (λ l. rest (rest l)) e) in
-    (binary_apart n m more.0, more.1)
+fresh_apart n m x y e = grind (arith, common_steps, binary_apart, digits_apart)
 
 pub letter_of_rate : (q : Rate) (l : List ℕ) → name_rate (rate_letter q ∷ 46 ∷ l) ≡ q
 letter_of_rate rate.Init l = refl
-letter_of_rate rate.Control l = refl
-letter_of_rate rate.Audio l = refl
+letter_of_rate _ l = refl
 
 pub letter_local : (q : Rate) (l : List ℕ) → is_global (rate_letter q ∷ 46 ∷ l) ≡ false
 letter_local rate.Init l = refl
-letter_local rate.Control l = refl
-letter_local rate.Audio l = refl
+letter_local _ l = refl
 
 pub fresh_rate : (f : ℕ) (x : List ℕ) → name_rate (fresh f x) ≡ name_rate x
 fresh_rate f x = letter_of_rate (name_rate x) (numeral f ++ 46 ∷ x)
@@ -88,18 +81,10 @@ pub framed_fresh : (f : ℕ) (x : List ℕ) → is_global x ≡ false → in_fra
 framed_fresh f x e = ap (λ b. if b then x else fresh f x) e
 
 pub framed_rate : (f : ℕ) (x : List ℕ) → name_rate (in_frame f x) ≡ name_rate x
-framed_rate f x = by (is_global x)
-  where
-    by : (b : Bool) → name_rate (if b then x else fresh f x) ≡ name_rate x
-    by true = refl
-    by false = fresh_rate f x
+framed_rate f x = grind (arith, common_steps, fresh_rate)
 
 pub framed_global : (f : ℕ) (x : List ℕ) → is_global (in_frame f x) ≡ is_global x
-framed_global f x = by (is_global x) refl
-  where
-    by : (b : Bool) → is_global x ≡ b → is_global (if b then x else fresh f x) ≡ is_global x
-    by true e = refl
-    by false e = fresh_local f x ∙ sym e
+framed_global f x = grind (arith, common_steps, fresh_local)
 
 -- ---- slots
 

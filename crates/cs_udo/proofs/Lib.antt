@@ -1,3 +1,5 @@
+pub mod DefinitionsFound
+pub mod EachDefined
 pub mod Faulted
 pub mod Few
 pub mod Fresh

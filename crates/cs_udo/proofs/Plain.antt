@@ -1,24 +1,18 @@
 -- Where no opcode is defined, statements stay as they are.
 use Rattle.std.proofs.Common.{◌≡◌, ℕ, List, [], ◌∷◌, map, refl, ap}
-use Rattle.cs_grammar.specs.declared.tree.Callee.{Callee}
-use Rattle.cs_grammar.specs.declared.tree.Callee.TheVariants as callee
-use Rattle.cs_grammar.specs.Tree.{Expression, number, var, field, head, neg, pair, pick, apply, Argument, value, text}
-use Rattle.cs_grammar.specs.Tree.{Statement, set, call, choose}
-use Rattle.cs_grammar.specs.Tree.{Block, no_stmt, andthen, joins, Arms, otherwise, arm}
-use Rattle.cs_grammar.specs.Renaming.{renamed_expression, renamed_argument}
-use Rattle.cs_udo.specs.Names.{as_it_is}
+use Rattle.cs_grammar.specs.{declared.tree.Callee.Callee, Renaming.renamed_expression, Renaming.renamed_argument}
+use Rattle.cs_grammar.specs.Tree.{Expression, neg, pair, pick, apply, Argument, value, text, Statement, set, call}
+use Rattle.cs_grammar.specs.Tree.{choose, Block, no_stmt, andthen, joins, Arms, otherwise, arm}
+use Rattle.cs_udo.specs.{Names.as_it_is, Expanded.expanded_arms}
 use Rattle.cs_udo.specs.Expanded.{no_opcodes, defined, alone, called, after, after_block, expanded, expanded_block}
-use Rattle.cs_udo.specs.Expanded.{expanded_arms}
+use Rattle.cs_grammar.specs.declared.tree.Callee.TheVariants as callee
 
 same_value : (e : Expression) → renamed_expression as_it_is e ≡ e
-same_value (number v) = refl
-same_value (var x) = refl
-same_value (field k) = refl
-same_value (head h) = refl
 same_value (neg a) = ap neg (same_value a)
 same_value (pair op a b) = λ i. pair op (same_value a i) (same_value b i)
 same_value (pick c a b) = λ i. pick (same_value c i) (same_value a i) (same_value b i)
 same_value (apply f a) = ap (apply f) (same_value a)
+same_value _ = refl
 
 same_arguments : (args : List Argument) → map (renamed_argument as_it_is) args ≡ args
 same_arguments [] = refl

@@ -2,14 +2,12 @@
 use Rattle.std.specs.Prelude.{ℕ, List, [], ◌∷◌, ◌++◌, ◌+◌, length, nat_lt, Option, Some, None, if◌then◌else◌}
 use Rattle.std.specs.Option.{option_or}
 use Rattle.cs_base.specs.Limits.{most_instruments, most_statements}
-use Rattle.cs_base.specs.declared.limit.Limit.{Limit}
-use Rattle.cs_base.specs.declared.limit.Limit.TheVariants as limit
-use Rattle.cs_base.specs.declared.limit.LimitHit.{LimitHit}
-use Rattle.cs_grammar.specs.declared.tree.Callee.{Callee}
+use Rattle.cs_base.specs.{declared.limit.Limit.Limit, declared.limit.LimitHit.LimitHit}
+use Rattle.cs_grammar.specs.{declared.tree.Callee.Callee, Tree.Definition, Tree.Instrument, Tree.Orchestra}
 use Rattle.cs_grammar.specs.Tree.{Argument, Statement, set, call, choose, Block, no_stmt, andthen, Arms, otherwise, arm}
-use Rattle.cs_grammar.specs.Tree.{Definition, Instrument, Orchestra}
 use Rattle.cs_udo.specs.Names.{as_it_is}
 use Rattle.cs_udo.specs.Expanded.{Template, Opcodes, defined, opcodes_before, called, calls_of}
+use Rattle.cs_base.specs.declared.limit.Limit.TheVariants as limit
 
 -- how many statements there are, those in `if`s counted too
 abbrev mutual

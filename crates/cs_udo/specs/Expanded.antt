@@ -1,13 +1,9 @@
 -- Statements with each call of a defined opcode replaced by what the opcode does.
 use Rattle.std.specs.Prelude.{ℕ, List, [], ◌∷◌, ◌+◌, map, nat_lt, Option, Some, None, if◌then◌else◌}
-use Rattle.std.specs.Option.{option_or}
-use Rattle.std.specs.Str.{bytes_eq}
-use Rattle.cs_grammar.specs.declared.tree.Callee.{Callee}
-use Rattle.cs_grammar.specs.declared.tree.Callee.TheVariants as callee
+use Rattle.cs_grammar.specs.{declared.tree.Callee.Callee, Renaming.renamed_expression, Renaming.renamed_argument}
 use Rattle.cs_grammar.specs.Tree.{Argument, value, var, Statement, set, call, choose, Block, no_stmt, andthen, joins}
-use Rattle.cs_grammar.specs.Tree.{Arms, otherwise, arm}
-use Rattle.cs_grammar.specs.Tree.{Definition, Instrument, Orchestra}
-use Rattle.cs_grammar.specs.Renaming.{renamed_expression, renamed_argument}
+use Rattle.cs_grammar.specs.Tree.{Arms, otherwise, arm, Definition, Instrument, Orchestra}
+use Rattle.cs_udo.specs.ByName.{ByName, item_of, with_item, with_items}
 use Rattle.cs_udo.specs.Names.{in_frame, as_it_is, slots}
 
 -- What a defined opcode is to its callers: the names of its inputs and of its results, its statements in a frame of a
@@ -22,15 +18,14 @@ pub record Template : Type 0 where
 
 -- the defined opcodes that may be called at a place, by name
 abbrev pub Opcodes : Type 0
-Opcodes = List ℕ → Option Template
+Opcodes = ByName Template
 
 abbrev pub no_opcodes : Opcodes
 no_opcodes name = None
 
 -- the defined opcode that is called, if it is one: an opcode of the catalogue is none
 abbrev pub defined : Opcodes → Callee → Option Template
-defined opcodes (callee.Opcode o) = None
-defined opcodes (callee.Name name) = opcodes name
+defined opcodes c = item_of opcodes c
 
 abbrev pub alone : Statement → Block
 alone x = andthen x no_stmt
@@ -127,12 +122,11 @@ template opcodes d = record {
 
 -- the opcodes after one more definition; what is defined before stays
 abbrev pub defining : Opcodes → Definition → Opcodes
-defining opcodes d name = option_or (opcodes name) (if bytes_eq name d.name then Some (template opcodes d) else None)
+defining opcodes d = with_item template opcodes d
 
 -- the opcodes after more definitions: each may call those before it
 abbrev pub defining_all : Opcodes → List Definition → Opcodes
-defining_all opcodes [] = opcodes
-defining_all opcodes (d ∷ ds) = defining_all (defining opcodes d) ds
+defining_all opcodes ds = with_items template opcodes ds
 
 -- the definitions in front of a line
 abbrev pub before : ℕ → List Definition → List Definition

@@ -1,13 +1,10 @@
 -- What becomes of an orchestra with defined opcodes.
 use Rattle.std.specs.Prelude.{Option, Some, None, Result, Ok, Err}
-use Rattle.cs_base.specs.declared.fault.OrcFault.{OrcFault}
-use Rattle.cs_base.specs.declared.limit.LimitHit.{LimitHit}
+use Rattle.cs_base.specs.{declared.fault.OrcFault.OrcFault, declared.limit.LimitHit.LimitHit}
 use Rattle.cs_base.specs.declared.refusal.Refusal.{Refusal}
-use Rattle.cs_base.specs.declared.refusal.Refusal.TheVariants as refusal
 use Rattle.cs_grammar.specs.Tree.{Orchestra}
-use Rattle.cs_udo.specs.Expanded.{expanded_orchestra}
-use Rattle.cs_udo.specs.Refused.{first_fault}
-use Rattle.cs_udo.specs.Counted.{first_limit}
+use Rattle.cs_udo.specs.{Expanded.expanded_orchestra, Refused.first_fault, Counted.first_limit}
+use Rattle.cs_base.specs.declared.refusal.Refusal.TheVariants as refusal
 
 -- an orchestra, unless it passes a limit
 abbrev pub within : Option LimitHit → Orchestra → Result Orchestra Refusal

@@ -1,3 +1,4 @@
+pub mod ByName
 pub mod Counted
 pub mod Expanded
 pub mod Expanding

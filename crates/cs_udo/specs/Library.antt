@@ -1,12 +1,10 @@
 -- Definitions by their places.
 use Rattle.std.specs.Prelude.{ℕ, List, ◌≡◌, ◌<◌, ◌≤◌, min, length, map, take, slice_get, Option, Some, None}
 use Rattle.cs_words.specs.NameSets.{place_of}
-use Rattle.cs_grammar.specs.declared.tree.Callee.{Callee}
-use Rattle.cs_grammar.specs.declared.tree.Callee.TheVariants as callee
-use Rattle.cs_grammar.specs.Tree.{Definition, definition}
-use Rattle.cs_udo.specs.declared.library.FoundDefinition.{FoundDefinition}
-use Rattle.cs_udo.specs.declared.library.Library.{Library}
+use Rattle.cs_grammar.specs.{declared.tree.Callee.Callee, Tree.Definition, Tree.definition}
+use Rattle.cs_udo.specs.{declared.library.FoundDefinition.FoundDefinition, declared.library.Library.Library}
 use Rattle.cs_udo.specs.Expanded.{Opcodes, no_opcodes, defined, defining_all, template}
+use Rattle.cs_grammar.specs.declared.tree.Callee.TheVariants as callee
 
 -- the definitions of a library
 abbrev pub definitions_of : Library → List Definition

@@ -1,9 +1,8 @@
 -- An orchestra that can be typed: it is that of a text, and its definitions are those that are found by name.
 use Rattle.std.specs.Prelude.{◌≡◌}
-use Rattle.cs_grammar.specs.Tree as tree
 use Rattle.cs_grammar.specs.WellFormed.{IsWellFormed}
-use Rattle.cs_udo.specs.Library.{definitions_of}
-use Rattle.cs_udo.specs.declared.library.Expansion.{Expansion}
+use Rattle.cs_udo.specs.{Library.definitions_of, declared.library.Expansion.Expansion}
+use Rattle.cs_grammar.specs.Tree as tree
 
 pub record IsReady (e : Expansion) : Type 0 where
   pub well_formed : IsWellFormed (tree.orchestra e.orc.now)

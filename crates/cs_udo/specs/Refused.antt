@@ -1,14 +1,12 @@
 -- The calls of defined opcodes that are refused.
 use Rattle.std.specs.Prelude.{ℕ, Bool, true, false, not, ◌&&◌, ◌||◌, ◌==◌, nat_le, List, [], ◌∷◌, ◌++◌, length, Option}
 use Rattle.std.specs.Prelude.{Some, None, if◌then◌else◌}
-use Rattle.cs_base.specs.declared.fault.OrcFault.{OrcFault}
-use Rattle.cs_base.specs.declared.fault.OrcKind.{OrcKind}
-use Rattle.cs_base.specs.declared.fault.OrcKind.TheVariants as orc
+use Rattle.cs_base.specs.{declared.fault.OrcFault.OrcFault, declared.fault.OrcKind.OrcKind}
 use Rattle.cs_grammar.specs.Tree.{Argument, value, text, Statement, set, call, choose, Block, no_stmt, andthen, Arms}
-use Rattle.cs_grammar.specs.Tree.{otherwise, arm}
-use Rattle.cs_grammar.specs.Tree.{Definition, Instrument, Orchestra}
+use Rattle.cs_grammar.specs.Tree.{otherwise, arm, Definition, Instrument, Orchestra}
 use Rattle.cs_grammar.specs.WellFormed.{line_of}
 use Rattle.cs_udo.specs.Expanded.{Template, Opcodes, no_opcodes, defined, defining, opcodes_before}
+use Rattle.cs_base.specs.declared.fault.OrcKind.TheVariants as orc
 
 abbrev pub has_text : List Argument → Bool
 has_text [] = false

@@ -36,11 +36,7 @@ pub struct Prices<'l, 't> {
 fn capped(number: usize) -> u32
     ensures { result ≡ capped number }
 {
-    if number > MOST_STATEMENTS {
-        MOST_STATEMENTS as u32 + 1
-    } else {
-        number as u32
-    }
+    number.min(MOST_STATEMENTS + 1) as u32
 }
 
 // A sum, capped likewise.

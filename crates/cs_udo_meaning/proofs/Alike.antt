@@ -1,39 +1,30 @@
 -- Two typed statements that differ in their variables alone: in two notes where each variable has what the other's has,
 -- they do the same. Such notes may be in two worlds that differ in the numbers of what notes share.
-use Rattle.std.proofs.Common.{◌≡◌, ◌∙◌, ℕ, suc, ℤ, ◌+◌, Bool, true, false, if◌then◌else◌, List, [], ◌∷◌}
-use Rattle.std.proofs.Common.{length, arith, refl, ap, subst}
-use Rattle.cs_base.specs.declared.resource.Rate.{Rate}
-use Rattle.cs_base.specs.declared.resource.Rate.TheVariants as rate
-use Rattle.cs_base.specs.declared.resource.Res.{Res}
+use Rattle.std.proofs.lemmas.Grind.{common_steps}
+use Rattle.std.proofs.Common.{◌≡◌, ℕ, suc, ℤ, ◌+◌, Bool, true, false, if◌then◌else◌, List, ◌∷◌, length, arith, [], refl}
+use Rattle.std.proofs.Common.{ap, subst}
+use Rattle.cs_base.specs.{declared.resource.Rate.Rate, declared.resource.Res.Res, declared.spaces.Spaces.Spaces}
 use Rattle.cs_words.specs.Catalogue.{Row, row_of, letter_at, is_settled, takes_table}
-use Rattle.cs_words.specs.declared.catalogue.Opcode.{Opcode}
-use Rattle.cs_words.specs.declared.catalogue.Shape.{Shape}
-use Rattle.cs_words.specs.declared.catalogue.Shape.TheVariants as shape
-use Rattle.cs_words.specs.declared.catalogue.Space.TheVariants as space
-use Rattle.cs_words.specs.declared.sign.BinOp.{BinOp}
-use Rattle.cs_words.specs.declared.sign.BinOp.TheVariants as op
-use Rattle.cs_words.specs.declared.word.Func.{Func}
-use Rattle.cs_words.specs.declared.word.HeadName.{HeadName}
-use Rattle.cs_typed.specs.TypedTree as typed
+use Rattle.cs_words.specs.{declared.catalogue.Opcode.Opcode, declared.catalogue.Shape.Shape, declared.sign.BinOp.BinOp}
+use Rattle.cs_words.specs.{declared.word.Func.Func, declared.word.HeadName.HeadName}
 use Rattle.cs_typed.specs.TypedTree.{Expression, number, var, field, head, neg, pair, pick, apply}
 use Rattle.cs_typed.specs.declared.tree.Var.{Var as Variable}
-use Rattle.cs_base.specs.declared.spaces.Spaces.{Spaces}
-use Rattle.cs_ir.specs.Resources.{places_of}
-use Rattle.cs_ir.specs.Values.{negated, applied}
+use Rattle.cs_ir.specs.{Resources.places_of, Values.negated, Values.applied, Worlds.World, declared.op.Reach.Reach}
 use Rattle.cs_ir.specs.Waves.{Wave, held, constant, both, chosen, if_init, first_values}
-use Rattle.cs_ir.specs.Worlds.{World}
-use Rattle.cs_ir.specs.declared.op.Reach.{Reach}
-use Rattle.cs_ir.specs.declared.op.Reach.TheVariants as reach
 use Rattle.cs_meaning.specs.Core.{Stmt, set, unit, zak, store, out, out_at, ask, turnoff, nothing, choose, no_stmt}
 use Rattle.cs_meaning.specs.Core.{otherwise, values_of, settled, moving, table_reach, place_reach, span_reach}
 use Rattle.cs_meaning.specs.Core.{unit_reach, zak_reach, plus, unit_call, store_call, zak_call, core_call}
 use Rattle.cs_meaning.specs.Initialising.{going, put_kept, keep, keep_all, started, sought, init_stmt}
-use Rattle.cs_meaning.specs.Notes.{Note, Path, StatementPlace, unit_past, moved_to, look, assign, part}
-use Rattle.cs_meaning.specs.Notes.{value, values, first_value, given, done, sent, sent_at}
-use Rattle.cs_meaning.specs.Performing.{perf_stmt}
-use Rattle.cs_meaning.specs.When.{When, beginning, cycle}
-use Rattle.cs_udo_meaning.specs.Frames.{unit_of}
-use Rattle.cs_udo_meaning.specs.Renumbered.{renumbered}
+use Rattle.cs_meaning.specs.Notes.{Note, Path, StatementPlace, unit_past, moved_to, look, assign, part, value, values}
+use Rattle.cs_meaning.specs.Notes.{first_value, given, done, sent, sent_at}
+use Rattle.cs_meaning.specs.{Performing.perf_stmt, When.When, When.beginning, When.cycle}
+use Rattle.cs_udo_meaning.specs.{Frames.unit_of, Renumbered.renumbered}
+use Rattle.cs_base.specs.declared.resource.Rate.TheVariants as rate
+use Rattle.cs_words.specs.declared.catalogue.Shape.TheVariants as shape
+use Rattle.cs_words.specs.declared.catalogue.Space.TheVariants as space
+use Rattle.cs_words.specs.declared.sign.BinOp.TheVariants as op
+use Rattle.cs_typed.specs.TypedTree as typed
+use Rattle.cs_ir.specs.declared.op.Reach.TheVariants as reach
 
 -- ---- alike but for their variables
 
@@ -122,78 +113,35 @@ moving_alike row n (more_texts v w xs ys h more) = moving_alike row (n + 1) more
 
 table_alike : {V : Variable → Variable → Type 0} {xs ys : List Expression} → AlikeAll V xs ys
     → table_reach xs ≡ table_reach ys
-table_alike alike_none = refl
 table_alike (alike_more _ _ xs ys (alike_number r z) more) = refl
-table_alike (alike_more _ _ xs ys (alike_var r v w h) more) = refl
-table_alike (alike_more _ _ xs ys (alike_field r k) more) = refl
-table_alike (alike_more _ _ xs ys (alike_head r h) more) = refl
-table_alike (alike_more _ _ xs ys (alike_neg r a b h) more) = refl
-table_alike (alike_more _ _ xs ys (alike_pair r o a b c d h j) more) = refl
-table_alike (alike_more _ _ xs ys (alike_pick r a b c d e f h j k) more) = refl
-table_alike (alike_more _ _ xs ys (alike_apply r f a b h) more) = refl
+table_alike _ = refl
 
 place_alike : {V : Variable → Variable → Type 0} {a b : Expression} → (n : ℕ) → Alike V a b
     → place_reach n a ≡ place_reach n b
 place_alike n (alike_number r z) = refl
-place_alike n (alike_var r v w h) = refl
-place_alike n (alike_field r k) = refl
-place_alike n (alike_head r h) = refl
-place_alike n (alike_neg r a b h) = refl
-place_alike n (alike_pair r o a b c d h j) = refl
-place_alike n (alike_pick r a b c d e f h j k) = refl
-place_alike n (alike_apply r f a b h) = refl
+place_alike n _ = refl
 
 after_number : {V : Variable → Variable → Type 0} {a b : Expression} → (n : ℕ) (r : Rate) (z : ℤ) → Alike V a b
     → span_reach n (number r z) a ≡ span_reach n (number r z) b
 after_number n q y (alike_number r z) = refl
-after_number n q y (alike_var r v w h) = refl
-after_number n q y (alike_field r k) = refl
-after_number n q y (alike_head r h) = refl
-after_number n q y (alike_neg r a b h) = refl
-after_number n q y (alike_pair r o a b c d h j) = refl
-after_number n q y (alike_pick r a b c d e f h j k) = refl
-after_number n q y (alike_apply r f a b h) = refl
+after_number n q y _ = refl
 
 span_alike : {V : Variable → Variable → Type 0} {a b x y : Expression} → (n : ℕ) → Alike V a b → Alike V x y
     → span_reach n a x ≡ span_reach n b y
 span_alike n (alike_number r z) s = after_number n r z s
-span_alike n (alike_var r v w h) s = refl
-span_alike n (alike_field r k) s = refl
-span_alike n (alike_head r h) s = refl
-span_alike n (alike_neg r a b h) s = refl
-span_alike n (alike_pair r o a b c d h j) s = refl
-span_alike n (alike_pick r a b c d e f h j k) s = refl
-span_alike n (alike_apply r f a b h) s = refl
+span_alike n _ s = refl
 
 zak_reach_alike : {V : Variable → Variable → Type 0} {xs ys : List Expression} → (spaces : Spaces) (sh : Shape)
     → AlikeAll V xs ys
     → zak_reach spaces sh xs ≡ zak_reach spaces sh ys
-zak_reach_alike spaces (shape.ZakGet s) alike_none = refl
 zak_reach_alike spaces (shape.ZakGet s) (alike_more a b xs ys h more) = place_alike (places_of spaces s) h
-zak_reach_alike spaces (shape.ZakPut s) alike_none = refl
-zak_reach_alike spaces (shape.ZakPut s) (alike_more a b _ _ h alike_none) = refl
 zak_reach_alike spaces (shape.ZakPut s) (alike_more a b _ _ h (alike_more c d xs ys j more)) =
     place_alike (places_of spaces s) j
-zak_reach_alike spaces shape.ZakMix alike_none = refl
-zak_reach_alike spaces shape.ZakMix (alike_more a b _ _ h alike_none) = refl
 zak_reach_alike spaces shape.ZakMix (alike_more a b _ _ h (alike_more c d xs ys j more)) =
     place_alike (places_of spaces space.Audio) j
-zak_reach_alike spaces (shape.ZakClear s) alike_none = refl
-zak_reach_alike spaces (shape.ZakClear s) (alike_more a b _ _ h alike_none) = refl
 zak_reach_alike spaces (shape.ZakClear s) (alike_more a b _ _ h (alike_more c d xs ys j more)) =
     span_alike (places_of spaces s) h j
-zak_reach_alike spaces shape.Unit p = refl
-zak_reach_alike spaces shape.Store p = refl
-zak_reach_alike spaces shape.Init p = refl
-zak_reach_alike spaces shape.Out p = refl
-zak_reach_alike spaces shape.OutAt p = refl
-zak_reach_alike spaces shape.Turnoff p = refl
-zak_reach_alike spaces shape.ZakInit p = refl
-zak_reach_alike spaces shape.ChannelGet p = refl
-zak_reach_alike spaces shape.ChannelPut p = refl
-zak_reach_alike spaces shape.ChannelMix p = refl
-zak_reach_alike spaces shape.ChannelClear p = refl
-zak_reach_alike spaces shape.Ask p = refl
+zak_reach_alike spaces _ _ = refl
 
 unit_alike : {V : Variable → Variable → Type 0} {vs ws : List Variable} {xs ys : List typed.Argument}
     → (r : Rate) (o : Opcode)
@@ -235,119 +183,62 @@ pub core_alike : {V : Variable → Variable → Type 0} {vs ws : List Variable} 
     → (spaces : Spaces) (r : Rate) (o : Opcode) (sh : Shape)
     → AlikeVariables V vs ws → AlikeArguments V xs ys
     → AlikeStmt V (core_call spaces r vs o sh xs) (core_call spaces r ws o sh ys)
-core_alike spaces r o shape.Init no_variable no_argument = alike_nothing
-core_alike spaces r o shape.Init no_variable (more_values a b xs ys h more) = alike_nothing
-core_alike spaces r o shape.Init no_variable (more_texts v w xs ys h more) = alike_nothing
-core_alike spaces r o shape.Init (more_variables x y vs ws g rest) no_argument = alike_nothing
 core_alike spaces r o shape.Init (more_variables x y vs ws g rest) (more_values a b xs ys h more) =
     alike_set rate.Init x y a b g h
-core_alike spaces r o shape.Init (more_variables x y vs ws g rest) (more_texts v w xs ys h more) = alike_nothing
-core_alike spaces r o shape.ChannelGet no_variable no_argument = alike_nothing
-core_alike spaces r o shape.ChannelGet no_variable (more_values a b xs ys h more) = alike_nothing
-core_alike spaces r o shape.ChannelGet no_variable (more_texts v w xs ys h more) = alike_nothing
-core_alike spaces r o shape.ChannelGet (more_variables x y vs ws g rest) no_argument = alike_nothing
-core_alike spaces r o shape.ChannelGet (more_variables x y vs ws g rest) (more_values a b xs ys h more) = alike_nothing
 core_alike spaces r o shape.ChannelGet (more_variables x y vs ws g rest) (more_texts v w xs ys h more) =
     alike_set r x y (var r v) (var r w) g
     (alike_var r v w h)
-core_alike spaces r o shape.ChannelPut no_variable no_argument = alike_nothing
-core_alike spaces r o shape.ChannelPut (more_variables x y vs ws g rest) no_argument = alike_nothing
-core_alike spaces r o shape.ChannelPut no_variable (more_texts v w xs ys h more) = alike_nothing
-core_alike spaces r o shape.ChannelPut (more_variables x y vs ws g rest) (more_texts v w xs ys h more) = alike_nothing
-core_alike spaces r o shape.ChannelPut no_variable (more_values a b _ _ h no_argument) = alike_nothing
-core_alike spaces r o shape.ChannelPut (more_variables x y vs ws g rest) (more_values a b _ _ h no_argument) =
-    alike_nothing
-core_alike spaces r o shape.ChannelPut no_variable (more_values a b _ _ h (more_values c d xs ys j more)) =
-    alike_nothing
-core_alike spaces r o shape.ChannelPut (more_variables x y vs ws g rest)
-    (more_values a b _ _ h (more_values c d xs ys j more)) = alike_nothing
 core_alike spaces r o shape.ChannelPut no_variable (more_values a b _ _ h (more_texts v w xs ys j more)) =
     alike_set r v w a b j h
-core_alike spaces r o shape.ChannelPut (more_variables x y vs ws g rest)
+core_alike spaces r o shape.ChannelPut given
     (more_values a b _ _ h (more_texts v w xs ys j more)) = alike_set r v w a b j h
-core_alike spaces r o shape.ChannelMix no_variable no_argument = alike_nothing
-core_alike spaces r o shape.ChannelMix (more_variables x y vs ws g rest) no_argument = alike_nothing
-core_alike spaces r o shape.ChannelMix no_variable (more_texts v w xs ys h more) = alike_nothing
-core_alike spaces r o shape.ChannelMix (more_variables x y vs ws g rest) (more_texts v w xs ys h more) = alike_nothing
-core_alike spaces r o shape.ChannelMix no_variable (more_values a b _ _ h no_argument) = alike_nothing
-core_alike spaces r o shape.ChannelMix (more_variables x y vs ws g rest) (more_values a b _ _ h no_argument) =
-    alike_nothing
-core_alike spaces r o shape.ChannelMix no_variable (more_values a b _ _ h (more_values c d xs ys j more)) =
-    alike_nothing
-core_alike spaces r o shape.ChannelMix (more_variables x y vs ws g rest)
-    (more_values a b _ _ h (more_values c d xs ys j more)) = alike_nothing
 core_alike spaces r o shape.ChannelMix no_variable (more_values a b _ _ h (more_texts v w xs ys j more)) =
     alike_set r v w (plus rate.Audio v a) (plus rate.Audio w b) j
     (alike_pair rate.Audio op.Add (var rate.Audio v) (var rate.Audio w) a b (alike_var rate.Audio v w j) h)
-core_alike spaces r o shape.ChannelMix (more_variables x y vs ws g rest)
+core_alike spaces r o shape.ChannelMix given
     (more_values a b _ _ h (more_texts v w xs ys j more)) =
     alike_set r v w (plus rate.Audio v a) (plus rate.Audio w b) j
     (alike_pair rate.Audio op.Add (var rate.Audio v) (var rate.Audio w) a b (alike_var rate.Audio v w j) h)
-core_alike spaces r o shape.ChannelClear no_variable no_argument = alike_nothing
-core_alike spaces r o shape.ChannelClear (more_variables x y vs ws g rest) no_argument = alike_nothing
-core_alike spaces r o shape.ChannelClear no_variable (more_values a b xs ys h more) = alike_nothing
-core_alike spaces r o shape.ChannelClear (more_variables x y vs ws g rest) (more_values a b xs ys h more) =
-    alike_nothing
 core_alike spaces r o shape.ChannelClear no_variable (more_texts v w xs ys h more) =
     alike_set r v w _ _ h (alike_number rate.Init _)
-core_alike spaces r o shape.ChannelClear (more_variables x y vs ws g rest) (more_texts v w xs ys h more) =
+core_alike spaces r o shape.ChannelClear given (more_texts v w xs ys h more) =
     alike_set r v w _ _ h (alike_number rate.Init _)
 core_alike spaces r o shape.Out no_variable args = alike_out r _ _ (values_alike args)
-core_alike spaces r o shape.Out (more_variables x y vs ws g rest) args = alike_out r _ _ (values_alike args)
+core_alike spaces r o shape.Out given args = alike_out r _ _ (values_alike args)
 core_alike spaces r o shape.OutAt no_variable args = alike_out_at r _ _ (values_alike args)
-core_alike spaces r o shape.OutAt (more_variables x y vs ws g rest) args = alike_out_at r _ _ (values_alike args)
+core_alike spaces r o shape.OutAt given args = alike_out_at r _ _ (values_alike args)
 core_alike spaces r o shape.Turnoff no_variable args = alike_turnoff r
-core_alike spaces r o shape.Turnoff (more_variables x y vs ws g rest) args = alike_turnoff r
-core_alike spaces r o shape.ZakInit no_variable args = alike_nothing
-core_alike spaces r o shape.ZakInit (more_variables x y vs ws g rest) args = alike_nothing
+core_alike spaces r o shape.Turnoff given args = alike_turnoff r
 core_alike spaces r o shape.Ask no_variable args = alike_ask _ _ (values_alike args)
-core_alike spaces r o shape.Ask (more_variables x y vs ws g rest) args = alike_ask _ _ (values_alike args)
+core_alike spaces r o shape.Ask given args = alike_ask _ _ (values_alike args)
 core_alike spaces r o shape.Unit no_variable args = unit_alike r o no_variable args
-core_alike spaces r o shape.Unit (more_variables x y vs ws g rest) args =
-    unit_alike r o (more_variables x y vs ws g rest) args
+core_alike spaces r o shape.Unit given args = unit_alike r o given args
 core_alike spaces r o shape.Store no_variable args = store_alike r o args
-core_alike spaces r o shape.Store (more_variables x y vs ws g rest) args = store_alike r o args
+core_alike spaces r o shape.Store given args = store_alike r o args
 core_alike spaces r o (shape.ZakGet s) no_variable args = zak_alike spaces r o (shape.ZakGet s) no_variable args
-core_alike spaces r o (shape.ZakGet s) (more_variables x y vs ws g rest) args =
-    zak_alike spaces r o (shape.ZakGet s) (more_variables x y vs ws g rest) args
+core_alike spaces r o (shape.ZakGet s) given args = zak_alike spaces r o (shape.ZakGet s) given args
 core_alike spaces r o (shape.ZakPut s) no_variable args = zak_alike spaces r o (shape.ZakPut s) no_variable args
-core_alike spaces r o (shape.ZakPut s) (more_variables x y vs ws g rest) args =
-    zak_alike spaces r o (shape.ZakPut s) (more_variables x y vs ws g rest) args
+core_alike spaces r o (shape.ZakPut s) given args = zak_alike spaces r o (shape.ZakPut s) given args
 core_alike spaces r o shape.ZakMix no_variable args = zak_alike spaces r o shape.ZakMix no_variable args
-core_alike spaces r o shape.ZakMix (more_variables x y vs ws g rest) args =
-    zak_alike spaces r o shape.ZakMix (more_variables x y vs ws g rest) args
+core_alike spaces r o shape.ZakMix given args = zak_alike spaces r o shape.ZakMix given args
 core_alike spaces r o (shape.ZakClear s) no_variable args = zak_alike spaces r o (shape.ZakClear s) no_variable args
-core_alike spaces r o (shape.ZakClear s) (more_variables x y vs ws g rest) args =
-    zak_alike spaces r o (shape.ZakClear s) (more_variables x y vs ws g rest) args
+core_alike spaces r o (shape.ZakClear s) given args = zak_alike spaces r o (shape.ZakClear s) given args
+core_alike spaces r o shape.ZakInit no_variable args = alike_nothing
+core_alike spaces r o shape.ZakInit given args = alike_nothing
+core_alike spaces r o _ _ _ = alike_nothing
 
 -- ---- numbers of units
 
 pub units_alike : {V : Variable → Variable → Type 0} {x y : Stmt} → AlikeStmt V x y → (n : ℕ)
     → unit_past n x ≡ unit_past n y
 units_alike (alike_set r v w a b g h) n = refl
-units_alike (alike_unit r vs ws o k xs ys is js g h j) n = refl
-units_alike (alike_zak r vs ws o k xs ys g h) n = refl
-units_alike (alike_store r k xs ys is js h j) n = refl
-units_alike (alike_out r xs ys h) n = refl
-units_alike (alike_out_at r xs ys h) n = refl
-units_alike (alike_ask xs ys h) n = refl
-units_alike (alike_turnoff r) n = refl
-units_alike alike_nothing n = refl
-units_alike (alike_empty r) n = refl
+units_alike _ n = refl
 
 -- of statements that are alike: the number behind that of the one's unit
 pub unit_behind : {V : Variable → Variable → Type 0} {x y : Stmt} → AlikeStmt V x y → (n : ℕ)
     → unit_past n x ≡ n + length (unit_of n y)
 unit_behind (alike_set r v w a b g h) n = omega arith
-unit_behind (alike_unit r vs ws o k xs ys is js g h j) n = omega arith
-unit_behind (alike_zak r vs ws o k xs ys g h) n = omega arith
-unit_behind (alike_store r k xs ys is js h j) n = omega arith
-unit_behind (alike_out r xs ys h) n = omega arith
-unit_behind (alike_out_at r xs ys h) n = omega arith
-unit_behind (alike_ask xs ys h) n = omega arith
-unit_behind (alike_turnoff r) n = omega arith
-unit_behind alike_nothing n = omega arith
-unit_behind (alike_empty r) n = omega arith
+unit_behind _ n = omega arith
 
 -- ---- two notes alike
 
@@ -379,9 +270,8 @@ sent_there to o c (w ∷ ws) x = sent_there to o (c + 1) ws (o.out c w x)
 
 sent_at_there : {W : Type 0} (to : Res → Res) (o : World W) (ws : List Wave) (x : W)
     → sent_at o ws x ≡ sent_at (renumbered to o) ws x
-sent_at_there to o [] x = refl
-sent_at_there to o (k ∷ []) x = refl
 sent_at_there to o (k ∷ w ∷ ws) x = sent_at_there to o ws (o.out_at k w x)
+sent_at_there to o _ x = refl
 
 -- The one note is in a world, the other in one with other numbers of what notes share, or in the same.
 module _ {W : Type 0} (o : World W) (to : Res → Res) (V : Variable → Variable → Type 0) (At : Path → Path → Type 0)
@@ -442,8 +332,7 @@ module _ {W : Type 0} (o : World W) (to : Res → Res) (V : Variable → Variabl
 
   either : (r : Rate) (t u q p : Note W) → R t u → R q p → R (if_init r t q) (if_init r u p)
   either rate.Init t u q p h k = h
-  either rate.Control t u q p h k = k
-  either rate.Audio t u q p h k = k
+  either _ t u q p h k = k
 
   kept_whole : (t u : Note W) → R t u → {a b : Expression} → Alike V a b → (p q : Path) → At p q
       → R (put_kept p (first_value o t a) t) (put_kept q (first_value there u b) u)
@@ -484,12 +373,7 @@ module _ {W : Type 0} (o : World W) (to : Res → Res) (V : Variable → Variabl
       (keep_same t u h g (k ∷ p) (k ∷ q) (s.parts p q at k)) more (suc k) p q at
 
   going_same : (t u q p : Note W) → R t u → R q p → R (going o t q) (going there u p)
-  going_same t u q p h k =
-      subst (λ x. R (going o t q) (if o.refused x then u else p)) (s.world t u h) (by (o.refused t.world))
-    where
-      by : (b : Bool) → R (if b then t else q) (if b then u else p)
-      by true = h
-      by false = k
+  going_same t u q p h k = grind (arith, common_steps)
 
   given_same : (t u : Note W) → R t u → {vs ws : List Variable} → AlikeVariables V vs ws → (w : Wave)
       → R (given o vs w t) (given there ws w u)
@@ -517,41 +401,22 @@ module _ {W : Type 0} (o : World W) (to : Res → Res) (V : Variable → Variabl
   pub init_same : (t u : Note W) → R t u → {x y : Stmt} → AlikeStmt V x y → (p q : Path) → At p q → (n : ℕ)
       → R (init_stmt o (place p n) x t) (init_stmt there (place q n) y u)
   init_same t u h (alike_set r v w a b g k) p q at n =
-      going_same t u _ _ h
-      (either r _ _ _ _
-      (assigns_to t u h v w g (value o t beginning [] a) (value there u beginning [] b)
-      (value_same t u h k beginning [] [] tt))
-      (keep_same t u h k (0 ∷ p) (0 ∷ q) (s.parts p q at 0)))
+      grind (arith, common_steps, assigns_to, either, going_same, keep_same, value_same)
   init_same t u h (alike_unit r vs ws f k xs ys is js g l m) p q at n =
-      let ready = started_same t u h r f n m in
-      let a = started o r f n is t in
-      let b = started there r f n js u in
-      going_same t u _ _ h
-      (either r _ _ _ _
-      (going_same a b _ _ ready (done_same a b ready g r _ _
-      (λ i. o.does f r n k (firsts_same a b ready l i) (s.world a b ready i))))
-      (started_same (keep_all o (0 ∷ p) xs t) (keep_all there (0 ∷ q) ys u) (keep_all_same t u h l 0 p q at) r f n m))
+      grind (arith, common_steps, done_same, either, firsts_same, going_same, keep_all_same, started_same)
   init_same t u h (alike_zak r vs ws f k xs ys g l) p q at n =
       going_same t u _ _ h
       (either r _ _ _ _ (done_same t u h g r _ _ (λ i. o.zak f k (firsts_same t u h l i) (s.world t u h i)))
       (keep_all_same t u h l 0 p q at))
   init_same t u h (alike_store r k xs ys is js l m) p q at n =
-      let ready = sought_same t u h m in
-      let a = sought o is t in
-      let b = sought there js u in
-      going_same t u _ _ h
-      (either r _ _ _ _
-      (going_same a b _ _ ready
-      (moves_to a b ready _ _ (λ i. o.store r k (firsts_same a b ready l i) (s.world a b ready i))))
-      (sought_same (keep_all o (0 ∷ p) xs t) (keep_all there (0 ∷ q) ys u) (keep_all_same t u h l 0 p q at) m))
+      grind (arith, common_steps, either, firsts_same, going_same, keep_all_same, moves_to, sought_same)
   init_same t u h (alike_out r xs ys g) p q at n = going_same t u _ _ h (keep_all_same t u h g 0 p q at)
   init_same t u h (alike_out_at r xs ys g) p q at n = going_same t u _ _ h (keep_all_same t u h g 0 p q at)
   init_same t u h (alike_ask xs ys g) p q at n =
       going_same t u _ _ h
       (moves_to t u h _ _ (λ i. o.ask (first_values (firsts_same t u h g i)) (s.world t u h i)))
-  init_same t u h (alike_turnoff r) p q at n = h
-  init_same t u h alike_nothing p q at n = h
   init_same t u h (alike_empty r) p q at n = going_same t u _ _ h (either r t u t u h h)
+  init_same t u h _ p q at n = h
 
   pub perf_same : (t u : Note W) → R t u → {x y : Stmt} → AlikeStmt V x y → (p q : Path) → At p q → (n : ℕ)
       → R (perf_stmt o (place p n) x t) (perf_stmt there (place q n) y u)
@@ -568,17 +433,7 @@ module _ {W : Type 0} (o : World W) (to : Res → Res) (V : Variable → Variabl
   perf_same t u h (alike_store r k xs ys is js l m) p q at n =
       either r t u _ _ h
       (moves_to t u h _ _ (λ i. o.store r k (values_same t u h l 0 p q at i) (s.world t u h i)))
-  perf_same t u h (alike_out r xs ys g) p q at n =
-      moves_to t u h (sent o 0 (values o t cycle (0 ∷ p) xs) t.world)
-      (sent there 0 (values there u cycle (0 ∷ q) ys) u.world)
-      (sent_there to o 0 (values o t cycle (0 ∷ p) xs) t.world
-      ∙ λ i. sent there 0 (values_same t u h g 0 p q at i) (s.world t u h i))
-  perf_same t u h (alike_out_at r xs ys g) p q at n =
-      moves_to t u h (sent_at o (values o t cycle (0 ∷ p) xs) t.world)
-      (sent_at there (values there u cycle (0 ∷ q) ys) u.world)
-      (sent_at_there to o (values o t cycle (0 ∷ p) xs) t.world
-      ∙ λ i. sent_at there (values_same t u h g 0 p q at i) (s.world t u h i))
-  perf_same t u h (alike_ask xs ys g) p q at n = h
+  perf_same t u h (alike_out r xs ys g) p q at n = grind (arith, common_steps, moves_to, sent_there, values_same)
+  perf_same t u h (alike_out_at r xs ys g) p q at n = grind (arith, common_steps, moves_to, sent_at_there, values_same)
   perf_same t u h (alike_turnoff r) p q at n = moves_to t u h _ _ (λ i. o.turnoff (s.world t u h i))
-  perf_same t u h alike_nothing p q at n = h
-  perf_same t u h (alike_empty r) p q at n = h
+  perf_same t u h _ p q at n = h

@@ -1,64 +1,49 @@
 -- Expanded statements do what the statements do with frames.
-use Rattle.std.proofs.Common.{◌≡◌, ◌∙◌, ℕ, zero, suc, ◌+◌, ◌≤◌, Bool, true, false, if◌then◌else◌, List, [], ◌∷◌}
-use Rattle.std.proofs.Common.{map, length, Option, Some, None, arith, refl, sym, ap, subst}
-use Rattle.std.specs.Option.{option_or}
-use Rattle.std.specs.Str.{bytes_eq}
+use Rattle.std.proofs.Common.{◌≡◌, ◌∙◌, ℕ, zero, suc, ◌+◌, ◌≤◌, Bool, if◌then◌else◌, List, ◌∷◌, map, [], ◌++◌, length}
+use Rattle.std.proofs.Common.{Option, Some, arith, refl, sym, ap, subst}
 use Rattle.cs_base.specs.declared.resource.Rate.{Rate}
-use Rattle.cs_base.specs.declared.resource.Rate.TheVariants as rate
 use Rattle.cs_words.specs.Names.{name_rate}
-use Rattle.cs_grammar.specs.declared.tree.Callee.{Callee}
-use Rattle.cs_grammar.specs.declared.tree.Callee.TheVariants as callee
-use Rattle.cs_grammar.specs.Tree.{Expression, Argument, value, text, Statement, set, call, choose, Block, no_stmt}
-use Rattle.cs_grammar.specs.Tree.{andthen, joins, Arms, otherwise, arm, Definition}
-use Rattle.cs_typed.specs.TypedTree as typed
+use Rattle.cs_grammar.specs.{declared.tree.Callee.Callee, Tree.joins, Tree.Arms, Tree.otherwise, Tree.arm}
+use Rattle.cs_grammar.specs.Tree.{Expression, Argument, value, Statement, set, call, choose, Block, no_stmt, andthen}
 use Rattle.cs_typed.specs.declared.tree.Var.{Var as Variable}
-use Rattle.cs_typing.specs.Known.{channel_of}
-use Rattle.cs_typing.specs.Statements.{choice_rate}
-use Rattle.cs_typing.specs.declared.known.Channel.{Channel}
-use Rattle.cs_ir.specs.Values.{holds}
-use Rattle.cs_ir.specs.Waves.{Wave, if_init}
-use Rattle.cs_meaning.specs.Core as core
-use Rattle.cs_meaning.specs.Initialising as initial
-use Rattle.cs_meaning.specs.Initialising.{going, keep}
+use Rattle.cs_typing.specs.{Known.channel_of, Statements.choice_rate, declared.known.Channel.Channel}
+use Rattle.cs_ir.specs.{Values.holds, Waves.Wave, Waves.if_init}
+use Rattle.cs_meaning.specs.{Initialising.going, Initialising.keep, When.When, When.beginning, When.cycle}
 use Rattle.cs_meaning.specs.Notes.{Note, Path, StatementPlace, next, inside, inside_arm, past_stmt, unit_past_block}
-use Rattle.cs_meaning.specs.Notes.{unit_past_arms, assign}
-use Rattle.cs_meaning.specs.Notes.{past_arm as text_past_arm}
-use Rattle.cs_meaning.specs.Notes.{value as value_of}
-use Rattle.cs_meaning.specs.Performing as performing
-use Rattle.cs_meaning.specs.When.{When, beginning, cycle}
-use Rattle.cs_udo.specs.Expanded.{Template, Opcodes, no_opcodes, defined, assignments, value_in, called}
-use Rattle.cs_udo.specs.Expanded.{after, after_block, expanded, expanded_block, expanded_arms, whole_body}
-use Rattle.cs_udo.specs.Expanded.{template, defining, defining_all}
+use Rattle.cs_meaning.specs.Notes.{unit_past_arms, assign, past_arm as text_past_arm, value as value_of}
+use Rattle.cs_udo.specs.Expanded.{Template, Opcodes, assignments, value_in, called, after, after_block, expanded}
+use Rattle.cs_udo.specs.{Expanded.expanded_block, Expanded.expanded_arms, Names.in_frame}
 use Rattle.cs_grammar.specs.Renaming.{renamed_expression, renamed_argument}
-use Rattle.cs_udo.specs.Names.{in_frame}
 use Rattle.cs_udo_meaning.specs.Frames.{Framed, seen_from, put_back, Reading, variable_read, expression_read, read}
 use Rattle.cs_udo_meaning.specs.Frames.{by_pass, stmt_done, going_on, copied, copy_done, copies_done, Action, Actions}
-use Rattle.cs_udo_meaning.specs.Frames.{no_actions, action_of, values_in, call_done, any_done, frames_of_call}
-use Rattle.cs_udo_meaning.specs.Frames.{frames_of, frames_of_block, frames_of_arms, units_of_call, units_of}
-use Rattle.cs_udo_meaning.specs.Frames.{units_of_block, units_of_arms, past_arm, framed_done, block_done, init_first}
-use Rattle.cs_udo_meaning.specs.Frames.{init_all, perf_arms, action, acting, acting_all}
+use Rattle.cs_udo_meaning.specs.Frames.{values_in, call_done, any_done, frames_of_call, frames_of, frames_of_block}
+use Rattle.cs_udo_meaning.specs.Frames.{frames_of_arms, units_of_call, units_of, units_of_block, units_of_arms}
+use Rattle.cs_udo_meaning.specs.Frames.{past_arm, framed_done, block_done, init_first, init_all, perf_arms}
+use Rattle.cs_udo_meaning.specs.{Frames.typed_keepers_of_block, Numbered.arms_by}
 use Rattle.cs_udo_meaning.specs.Numbered.{Numbering, Tells, Variables, numbered, expression_by, statement_by, block_by}
-use Rattle.cs_udo_meaning.specs.Numbered.{arms_by}
 use Rattle.cs_udo_meaning.specs.Stands.{own_name, Fits, Way, IsClear, StandsForFrames}
 use Rattle.cs_udo_meaning.proofs.Alike.{Alike, AlikeStmt, Agree, Reads, place, unit_behind, value_same, keep_same}
-use Rattle.cs_udo_meaning.proofs.Alike.{init_same, perf_same}
-use Rattle.cs_udo_meaning.proofs.Fresh.{own_rate}
+use Rattle.cs_udo_meaning.proofs.{Alike.init_same, Alike.perf_same, Fresh.own_rate, Paths.Each, Paths.further}
+use Rattle.cs_udo_meaning.proofs.{OwnRates.own_rates, OwnRates.choice_kept, Ways.after_block_is}
 use Rattle.cs_udo_meaning.proofs.Laid.{Holds, first_hold, rest_hold, LaysOn, lays_on}
 use Rattle.cs_typing.proofs.Named.{Named, NamedAll, NamedArguments, NamedStmt, NamedBlock, NamedArms, any_names}
-use Rattle.cs_typing.proofs.Named.{any_arguments, any_block}
-use Rattle.cs_udo_meaning.proofs.Paths.{further}
-use Rattle.cs_udo_meaning.proofs.OwnRates.{own_rates, choice_kept}
-use Rattle.cs_typing.proofs.SameRates.{expression_renamed}
+use Rattle.cs_typing.proofs.{Named.any_arguments, SameRates.expression_renamed}
 use Rattle.cs_udo_meaning.proofs.Renamed.{set_renamed, call_renamed}
 use Rattle.cs_udo_meaning.proofs.Standing.{SameVariable, both_shared, variable_alike, channel_alike, expression_alike}
 use Rattle.cs_udo_meaning.proofs.Standing.{set_alike, call_alike, Follows, Seen, to_seen, from_seen, seen_agree}
-use Rattle.cs_udo_meaning.proofs.Ways.{Leads, nowhere, alike, parts, copies_lead, Pair, PairIf, AllPair, called_pair}
-use Rattle.cs_udo_meaning.proofs.Ways.{call_leads, stmt_leads, block_leads, arms_lead, after_is, after_block_is}
-use Rattle.cs_udo_meaning.proofs.Ways.{template_pair, with_pair, defining_pairs, all_pair, nothing_pairs}
+use Rattle.cs_udo_meaning.proofs.Ways.{Leads, nowhere, alike, parts, copies_lead, Pair, PairIf, neither, both, AllPair}
+use Rattle.cs_udo_meaning.proofs.Ways.{called_pair, call_leads, stmt_leads, block_leads, arms_lead, after_is}
+use Rattle.std.proofs.lemmas.Grind.{common_steps}
+use Rattle.cs_base.specs.declared.resource.Rate.TheVariants as rate
+use Rattle.cs_grammar.specs.declared.tree.Callee.TheVariants as callee
+use Rattle.cs_typed.specs.TypedTree as typed
+use Rattle.cs_meaning.specs.Core as core
+use Rattle.cs_meaning.specs.Initialising as initial
+use Rattle.cs_meaning.specs.Performing as performing
 
 -- ---- names of frames
 
-fits_inner : (n : ℕ) → 1 ≤ n → (x : List ℕ) → Fits n x
+pub fits_inner : (n : ℕ) → 1 ≤ n → (x : List ℕ) → Fits n x
 fits_inner n h x = λ e. absurd (omega (arith, h, e))
 
 pub inner_name : (n : ℕ) → 1 ≤ n → own_name n ≡ in_frame n
@@ -69,8 +54,19 @@ results_in : (n : ℕ) (xs : List (List ℕ)) → map (value_in n) xs ≡ map (r
 results_in n [] = refl
 results_in n (x ∷ xs) = ap (λ l. value_in n x ∷ l) (results_in n xs)
 
-module _ {W : Type 0} (m : Reading W) (flat : Numbering) (tf : Tells flat) (to : Tells m.number) (way : Way)
-    (clear : IsClear way) where
+-- An expanded text whose names have numbers, the text that it comes from as it is read, and a clear way from the one to
+-- the other.
+pub record Texts (W : Type 0) : Type 0 where
+  pub reading : Reading W
+  pub flat : Numbering
+  pub flat_tells : Tells flat
+  pub own_tells : Tells reading.number
+  pub way : Way
+  pub clear : IsClear way
+
+module _ {W : Type 0} (texts : Texts W) where
+  open texts use {reading as m, flat, flat_tells as tf, own_tells as to, way, clear}
+
   abbrev v : Variables
   v = numbered m.shared flat
 
@@ -237,17 +233,11 @@ module _ {W : Type 0} (m : Reading W) (flat : Numbering) (tf : Tells flat) (to :
   either_stands : (r : Rate) (t q : Note W) (u w : Framed W) → Stand t u → Stand q w
       → Stand (if_init r t q) (if_init r u w)
   either_stands rate.Init t q u w h k = h
-  either_stands rate.Control t q u w h k = k
-  either_stands rate.Audio t q u w h k = k
+  either_stands _ t q u w h k = k
 
   going_stands : (t q : Note W) (u w : Framed W) → Stand t u → Stand q w
       → Stand (going m.world t q) (going_on m.world u w)
-  going_stands t q u w h k =
-      subst (λ x. Stand (going m.world t q) (if m.world.refused x then u else w)) h.world (by (m.world.refused t.world))
-    where
-      by : (b : Bool) → Stand (if b then t else q) (if b then u else w)
-      by true = h
-      by false = k
+  going_stands t q u w h k = grind (arith, common_steps)
 
   -- the statement of the expanded text that gives a value of frame f to a variable of frame g
   abbrev copy_of : ℕ → ℕ → ℕ → List ℕ → Expression → Statement
@@ -287,36 +277,23 @@ module _ {W : Type 0} (m : Reading W) (flat : Numbering) (tf : Tells flat) (to :
 
   copies_unit : (line f g : ℕ) (p : StatementPlace) (xs : List (List ℕ)) (args : List Argument)
       → (past_text p (flat_block (copies_of line f g xs args))).unit ≡ p.unit
-  copies_unit line f g p [] [] = refl
-  copies_unit line f g p [] (a ∷ args) = refl
-  copies_unit line f g p (x ∷ xs) [] = refl
-  copies_unit line f g p (x ∷ xs) (text t ∷ args) = refl
   copies_unit line f g p (x ∷ xs) (value e ∷ args) =
       copies_unit line f g (past_stmt p (flat_stmt (copy_of line f g x e))) xs args
+  copies_unit line f g p _ _ = refl
 
   pub copies_lay : (line f g : ℕ) (p : StatementPlace) (q : Path) (xs : List (List ℕ)) (args : List Argument)
       (n : Leads)
       → LaysOn way p.path (copies_lead q xs args n)
       → LaysOn way (past_text p (flat_block (copies_of line f g xs args))).path n
-  copies_lay line f g p q [] [] n h = h
-  copies_lay line f g p q [] (a ∷ args) n h = h
-  copies_lay line f g p q (x ∷ xs) [] n h = h
-  copies_lay line f g p q (x ∷ xs) (text t ∷ args) n h = h
   copies_lay line f g p q (x ∷ xs) (value e ∷ args) n h =
       copies_lay line f g (past_stmt p (flat_stmt (copy_of line f g x e))) (next q) xs args n (λ k y. h (suc k) y)
+  copies_lay line f g p q _ _ n h = h
 
   copies_stand : (w : When) (line f g : ℕ) (fp gp : Path) → way.frame f ≡ Some fp → way.frame g ≡ Some gp
       → (p : StatementPlace) (q : Path) (xs : List (List ℕ)) (args : List Argument) (n : Leads)
       → LaysOn way p.path (copies_lead q xs args n)
       → (t : Note W) (u : Framed W) → NamedAll (Fits g) xs → NamedArguments (Fits f) args → Stand t u
       → Stand (text_done w p (flat_block (copies_of line f g xs args)) t) (copies_done m w fp gp q xs args u)
-  copies_stand w line f g fp gp af ag p q [] [] n lay t u fits k h = subst (λ z. Stand z u) (text_none w p t) h
-  copies_stand w line f g fp gp af ag p q [] (a ∷ args) n lay t u fits k h =
-      subst (λ z. Stand z u) (text_none w p t) h
-  copies_stand w line f g fp gp af ag p q (x ∷ xs) [] n lay t u fits k h =
-      subst (λ z. Stand z u) (text_none w p t) h
-  copies_stand w line f g fp gp af ag p q (x ∷ xs) (text e ∷ args) n lay t u fits k h =
-      subst (λ z. Stand z u) (text_none w p t) h
   copies_stand w line f g fp gp af ag p q (x ∷ xs) (value e ∷ args) n lay t u fits k h =
       let copy = flat_stmt (copy_of line f g x e) in
       let now = stmt_done w m.world p copy t in
@@ -325,30 +302,38 @@ module _ {W : Type 0} (m : Reading W) (flat : Numbering) (tf : Tells flat) (to :
       (copies_stand w line f g fp gp af ag (past_stmt p copy) (next q) xs args n (λ i y. lay (suc i) y) now
       (copy_done m w fp gp q x e u) fits.1 k.1
       (copy_stands w line f g fp gp af ag p q (λ y. lay 0 (0 ∷ y)) x e t u fits.0 k.0 h))
+  copies_stand w line f g fp gp af ag p q _ _ n lay t u fits k h = subst (λ z. Stand z u) (text_none w p t) h
 
   -- ---- what a defined opcode does
+
+  -- each part of what stands at a path leads somewhere
+  abbrev pub Led : Path → Type 0
+  Led p = (y : Path) → (q : Path) × (way.part (y ++ p) ≡ Some q)
+
+  abbrev pub AllLed : Path → Block → Type 0
+  AllLed p b = Each Led (typed_keepers_of_block p (block_by m.shared (numbered m.shared flat) b))
 
   pub record Acts (t : Template) (a : Action W) (k : Pair t a) : Type 0 where
     pub units : (n : ℕ) → 1 ≤ n → (p : StatementPlace)
         → (past_text p (flat_block (t.block n))).unit ≡ p.unit + length (a.units m p.unit)
     pub lays : (n : ℕ) → 1 ≤ n → (p : StatementPlace) (q : Path) (l : Leads) → LaysOn way p.path (k.leads q l)
         → LaysOn way (past_text p (flat_block (t.block n))).path l
+    pub led : (n : ℕ) → 1 ≤ n → (p : StatementPlace) (q : Path) (l : Leads) → LaysOn way p.path (k.leads q l)
+        → AllLed p.path (t.block n)
     pub does : (w : When) (n : ℕ) → 1 ≤ n → (p : StatementPlace) (q : Path) (l : Leads)
         → LaysOn way p.path (k.leads q l)
         → way.frame n ≡ Some q → Holds way (suc n) (a.calls q) → (s : Note W) (u : Framed W) → Stand s u
         → Stand (text_done w p (flat_block (t.block n)) s) (a.does m w (place q p.unit) u)
 
-  abbrev pub ActsIf : (t : Option Template) (a : Option (Action W)) → PairIf t a → Type 0
-  ActsIf None None k = Unit {0}
-  ActsIf None (Some a) k = Unit {0}
-  ActsIf (Some t) None k = Unit {0}
-  ActsIf (Some t) (Some a) k = Acts t a k
+  abbrev pub ActsIf : {t : Option Template} {a : Option (Action W)} → PairIf t a → Type 0
+  ActsIf neither = Unit {0}
+  ActsIf (both t a k) = Acts t a k
 
   pub record Act (opcodes : Opcodes) (env : Actions W) (k : AllPair opcodes env) : Type 0 where
-    pub each : (name : List ℕ) → ActsIf (opcodes name) (env name) (k.each name)
+    pub each : (name : List ℕ) → ActsIf (k.each name)
 
   pub acts_called : (opcodes : Opcodes) (env : Actions W) (k : AllPair opcodes env) → Act opcodes env k → (c : Callee)
-      → ActsIf (defined opcodes c) (action_of env c) (called_pair opcodes env k c)
+      → ActsIf (called_pair opcodes env k c)
   acts_called opcodes env k g (callee.Opcode o) = tt
   acts_called opcodes env k g (callee.Name name) = g.each name
 
@@ -358,15 +343,7 @@ module _ {W : Type 0} (m : Reading W) (flat : Numbering) (tf : Tells flat) (to :
       → 1 ≤ n → Pair t a
       → called (own_name f) n line xs c args (Some t)
       ≡ joins (copies_of line f n a.inputs args) (joins (t.block n) (copies_of line n f xs (values_in a.results)))
-  called_is f n line xs c args t a h k =
-      let inner_is = inner_name n h in
-      let given_results : map (value_in n) t.results ≡ map (renamed_argument (own_name n)) (values_in a.results) =
-      ap (λ l. map (value_in n) l) k.results ∙ results_in n a.results
-      ∙ ap (λ g. map (renamed_argument g) (values_in a.results)) (sym inner_is) in
-      let inputs : map (in_frame n) t.inputs ≡ map (own_name n) a.inputs =
-      ap (λ l. map (in_frame n) l) k.inputs ∙ ap (λ g. map g a.inputs) (sym inner_is) in
-      λ i. joins (assignments line (inputs i) (map (renamed_argument (own_name f)) args))
-      (joins (t.block n) (assignments line (map (own_name f) xs) (given_results i)))
+  called_is f n line xs c args t a h k = grind (arith, common_steps, inner_name, results_in)
 
   -- the place behind a call
   call_past : (f n line : ℕ) (p : StatementPlace) (xs : List (List ℕ)) (c : Callee) (args : List Argument)
@@ -400,7 +377,7 @@ module _ {W : Type 0} (m : Reading W) (flat : Numbering) (tf : Tells flat) (to :
       (xs : List (List ℕ)) (c : Callee) (args : List Argument) (t : Template) (a : Action W) (k : Pair t a)
       (l : Leads)
       → 1 ≤ n → Acts t a k
-      → LaysOn way p.path (call_leads (Some t) (Some a) k q xs args l) → Holds way n (q ∷ a.calls q)
+      → LaysOn way p.path (call_leads (both t a k) q xs args l) → Holds way n (q ∷ a.calls q)
       → NamedAll (Fits f) xs → NamedArguments (Fits f) args → (s : Note W) (u : Framed W) → Stand s u
       → Stand (text_done w p (flat_block (called (own_name f) n line xs c args (Some t))) s)
       (call_done m w fp (place q p.unit) a xs args u)
@@ -433,27 +410,21 @@ module _ {W : Type 0} (m : Reading W) (flat : Numbering) (tf : Tells flat) (to :
 
   -- a call of a defined opcode or of another
   any_unit : (f n line : ℕ) (p : StatementPlace) (xs : List (List ℕ)) (c : Callee) (args : List Argument)
-      (t : Option Template)
-      (a : Option (Action W)) (k : PairIf t a)
-      → 1 ≤ n → ActsIf t a k
+      {t : Option Template} {a : Option (Action W)} (k : PairIf t a)
+      → 1 ≤ n → ActsIf k
       → NamedAll (Fits f) xs → NamedArguments (Fits f) args
       → (past_text p (flat_block (called (own_name f) n line xs c args t))).unit
       ≡ p.unit + length (units_of_call m p.unit (call line xs c args) a)
-  any_unit f n line p xs c args None None k h acts fits named =
-      unit_behind (alike_call f line xs c args fits named) p.unit
-  any_unit f n line p xs c args None (Some a) k h acts fits named = absurd k
-  any_unit f n line p xs c args (Some t) None k h acts fits named = absurd k
-  any_unit f n line p xs c args (Some t) (Some a) k h acts fits named = call_unit f n line p xs c args t a k h acts
+  any_unit f n line p xs c args neither h acts fits named = unit_behind (alike_call f line xs c args fits named) p.unit
+  any_unit f n line p xs c args (both t a k) h acts fits named = call_unit f n line p xs c args t a k h acts
 
   any_lays : (f n line : ℕ) (p : StatementPlace) (q : Path) (xs : List (List ℕ)) (c : Callee) (args : List Argument)
-      (t : Option Template) (a : Option (Action W)) (k : PairIf t a) (l : Leads)
-      → 1 ≤ n → ActsIf t a k
-      → LaysOn way p.path (call_leads t a k q xs args l)
+      {t : Option Template} {a : Option (Action W)} (k : PairIf t a) (l : Leads)
+      → 1 ≤ n → ActsIf k
+      → LaysOn way p.path (call_leads k q xs args l)
       → LaysOn way (past_text p (flat_block (called (own_name f) n line xs c args t))).path l
-  any_lays f n line p q xs c args None None k l h acts lay = λ i y. lay (suc i) y
-  any_lays f n line p q xs c args None (Some a) k l h acts lay = absurd k
-  any_lays f n line p q xs c args (Some t) None k l h acts lay = absurd k
-  any_lays f n line p q xs c args (Some t) (Some a) k l h acts lay =
+  any_lays f n line p q xs c args neither l h acts lay = λ i y. lay (suc i) y
+  any_lays f n line p q xs c args (both t a k) l h acts lay =
       let last = copies_lead (0 ∷ 2 ∷ q) xs (values_in a.results) l in
       let ready = past_text p (flat_block (copies_of line f n a.inputs args)) in
       subst (λ (z : StatementPlace). LaysOn way z.path l) (sym (call_past f n line p xs c args t a h k))
@@ -462,18 +433,16 @@ module _ {W : Type 0} (m : Reading W) (flat : Numbering) (tf : Tells flat) (to :
       (copies_lay line f n p (0 ∷ 0 ∷ q) a.inputs args (k.leads q last) lay)))
 
   any_stands : (w : When) (f n line : ℕ) (fp : Path) → way.frame f ≡ Some fp → (p : StatementPlace) (q : Path)
-      (xs : List (List ℕ)) (c : Callee) (args : List Argument) (t : Option Template) (a : Option (Action W))
+      (xs : List (List ℕ)) (c : Callee) (args : List Argument) {t : Option Template} {a : Option (Action W)}
       (k : PairIf t a) (l : Leads)
-      → 1 ≤ n → ActsIf t a k
-      → LaysOn way p.path (call_leads t a k q xs args l) → Holds way n (frames_of_call q a)
+      → 1 ≤ n → ActsIf k
+      → LaysOn way p.path (call_leads k q xs args l) → Holds way n (frames_of_call q a)
       → NamedAll (Fits f) xs → NamedArguments (Fits f) args → (s : Note W) (u : Framed W) → Stand s u
       → Stand (text_done w p (flat_block (called (own_name f) n line xs c args t)) s)
       (any_done m w fp (place q p.unit) (call line xs c args) xs args a u)
-  any_stands w f n line fp af p q xs c args None None k l h acts lay hold fits named s u stand =
+  any_stands w f n line fp af p q xs c args neither l h acts lay hold fits named s u stand =
       alone_stands w f fp af p q (λ y. lay 0 y) _ _ s u (alike_call f line xs c args fits named) stand
-  any_stands w f n line fp af p q xs c args None (Some a) k l h acts lay hold fits named s u stand = absurd k
-  any_stands w f n line fp af p q xs c args (Some t) None k l h acts lay hold fits named s u stand = absurd k
-  any_stands w f n line fp af p q xs c args (Some t) (Some a) k l h acts lay hold fits named s u stand =
+  any_stands w f n line fp af p q xs c args (both t a k) l h acts lay hold fits named s u stand =
       call_stands w f n line fp af p q xs c args t a k l h acts lay hold fits named s u stand
 
   -- ---- statements, in the order of the text
@@ -485,11 +454,7 @@ module _ {W : Type 0} (m : Reading W) (flat : Numbering) (tf : Tells flat) (to :
 
   choose_stands : (b c : Bool) → b ≡ c → (t q : Note W) (u w : Framed W) → Stand t u → Stand q w
       → Stand (if b then t else q) (if c then u else w)
-  choose_stands b c e t q u w h k = subst (λ d. Stand (if b then t else q) (if d then u else w)) e (by b)
-    where
-      by : (d : Bool) → Stand (if d then t else q) (if d then u else w)
-      by true = h
-      by false = k
+  choose_stands b c e t q u w h k = grind (arith, common_steps)
 
   module _ (opcodes : Opcodes) (env : Actions W) (k : AllPair opcodes env) (g : Act opcodes env k) (f : ℕ) where
     abbrev text_of : ℕ → Statement → core.Block
@@ -512,8 +477,7 @@ module _ {W : Type 0} (m : Reading W) (flat : Numbering) (tf : Tells flat) (to :
           → (past_text p (text_of n x)).unit ≡ p.unit + length (units_of m env p.unit x)
       unit_stands n h p (set line x e) named = omega arith
       unit_stands n h p (call line xs c args) named =
-          any_unit f n line p xs c args (defined opcodes c) (action_of env c) (called_pair opcodes env k c) h
-          (acts_called opcodes env k g c) named.0 named.1
+          any_unit f n line p xs c args (called_pair opcodes env k c) h (acts_called opcodes env k g c) named.0 named.1
       unit_stands n h p (choose line list) named = arms_units n h p.unit list named
 
       pub block_unit : (n : ℕ) → 1 ≤ n → (p : StatementPlace) (b : Block) → NamedBlock (Fits f) b
@@ -552,11 +516,9 @@ module _ {W : Type 0} (m : Reading W) (flat : Numbering) (tf : Tells flat) (to :
       pub stmt_lays : (n : ℕ) → 1 ≤ n → (p : StatementPlace) (q : Path) (x : Statement) (l : Leads)
           → LaysOn way p.path (stmt_leads opcodes env k q x l)
           → LaysOn way (past_text p (text_of n x)).path l
-      stmt_lays n h p q (set line x e) l lay = λ i y. lay (suc i) y
       stmt_lays n h p q (call line xs c args) l lay =
-          any_lays f n line p q xs c args (defined opcodes c) (action_of env c) (called_pair opcodes env k c) l h
-          (acts_called opcodes env k g c) lay
-      stmt_lays n h p q (choose line list) l lay = λ i y. lay (suc i) y
+          any_lays f n line p q xs c args (called_pair opcodes env k c) l h (acts_called opcodes env k g c) lay
+      stmt_lays n h p q _ l lay = λ i y. lay (suc i) y
 
       pub block_lays : (n : ℕ) → 1 ≤ n → (p : StatementPlace) (q : Path) (b : Block) (l : Leads)
           → LaysOn way p.path (block_leads opcodes env k q b l)
@@ -583,6 +545,15 @@ module _ {W : Type 0} (m : Reading W) (flat : Numbering) (tf : Tells flat) (to :
     arm_lays p q b rest lay =
         lays_on way (1 ∷ p) (block_leads opcodes env k (0 ∷ 1 ∷ q) b nowhere) (λ y. lay 0 (1 ∷ y))
 
+    -- the arms of an `if`
+    record ArmsStand (fp : Path) (n : ℕ) (p : StatementPlace) (q : Path) (list : Arms) : Type 0 where
+      pub first : (t : Note W) (u : Framed W) → Stand t u
+          → Stand (initial.init_first m.world p (arms_of n list) t) (init_first m env fp (place q p.unit) list u)
+      pub all : (t : Note W) (u : Framed W) → Stand t u
+          → Stand (initial.init_all m.world p (arms_of n list) t) (init_all m env fp (place q p.unit) list u)
+      pub now : (t : Note W) (u : Framed W) → Stand t u
+          → Stand (performing.perf_arms m.world p (arms_of n list) t) (perf_arms m env fp (place q p.unit) list u)
+
     module _ (fp : Path) (af : way.frame f ≡ Some fp) where
       mutual
         stands : (w : When) (n : ℕ) → 1 ≤ n → (p : StatementPlace) (q : Path) (x : Statement) (l : Leads)
@@ -593,24 +564,20 @@ module _ {W : Type 0} (m : Reading W) (flat : Numbering) (tf : Tells flat) (to :
         stands w n h p q (set line x e) l lay hold named t u stand =
             alone_stands w f fp af p q (λ y. lay 0 y) _ _ t u (alike_set f line x e named.0 named.1) stand
         stands w n h p q (call line xs c args) l lay hold named t u stand =
-            any_stands w f n line fp af p q xs c args (defined opcodes c) (action_of env c)
-            (called_pair opcodes env k c) l
-            h (acts_called opcodes env k g c) lay hold named.0 named.1 t u stand
+            any_stands w f n line fp af p q xs c args (called_pair opcodes env k c) l h
+            (acts_called opcodes env k g c) lay hold named.0 named.1 t u stand
         stands w n h p q (choose line list) l lay hold named t u stand =
-            let made = expanded_arms opcodes (own_name f) n list in
-            let r = inside p in
+            let arms = arms_stand n h (inside p) (0 ∷ q) list
+            (lays_on way p.path (arms_lead opcodes env k (0 ∷ q) list) (λ y. lay 0 y)) hold named in
             let there = place (0 ∷ q) p.unit in
-            let inner = lays_on way p.path (arms_lead opcodes env k (0 ∷ q) list) (λ y. lay 0 y) in
             passes_stand w _ _ _ _
             (subst (λ z. Stand (initial.init_block m.world p (text_of n (choose line list)) t)
-            (going_on m.world u
-            (if_init z (init_first m env fp there list u) (init_all m env fp there list u))))
+            (going_on m.world u (if_init z (init_first m env fp there list u) (init_all m env fp there list u))))
             (choice_kept opcodes f n list)
             (going_stands t _ u _ stand
-            (either_stands (choice_rate made) _ _ _ _
-            (first_stands n h r (0 ∷ q) list inner hold named t u stand)
-            (all_stand n h r (0 ∷ q) list inner hold named t u stand))))
-            (perf_arms_stand n h r (0 ∷ q) list inner hold named t u stand)
+            (either_stands (choice_rate (expanded_arms opcodes (own_name f) n list)) _ _ _ _ (arms.first t u stand)
+            (arms.all t u stand))))
+            (arms.now t u stand)
 
         pub block_stands : (w : When) (n : ℕ) → 1 ≤ n → (p : StatementPlace) (q : Path) (b : Block) (l : Leads)
             → LaysOn way p.path (block_leads opcodes env k q b l) → Holds way n (frames_of_block env q b)
@@ -637,153 +604,50 @@ module _ {W : Type 0} (m : Reading W) (flat : Numbering) (tf : Tells flat) (to :
             (rest_hold way n i one two (after_is opcodes env k n q x) hold) named.1 now next_u
             (stands w n h p q x more lay (first_hold way n one two hold) named.0 t u stand)))
 
-        first_stands : (n : ℕ) → 1 ≤ n → (p : StatementPlace) (q : Path) (list : Arms)
+        arms_stand : (n : ℕ) → 1 ≤ n → (p : StatementPlace) (q : Path) (list : Arms)
             → LaysOn way p.path (arms_lead opcodes env k q list) → Holds way n (frames_of_arms env q list)
-            → NamedArms (Fits f) list → (t : Note W) (u : Framed W) → Stand t u
-            → Stand (initial.init_first m.world p (arms_of n list) t) (init_first m env fp (place q p.unit) list u)
-        first_stands n h p q (otherwise b) lay hold named t u stand =
-            block_stands beginning n h (inside p) (0 ∷ q) b nowhere
-            (lays_on way p.path (block_leads opcodes env k (0 ∷ q) b nowhere) (λ y. lay 0 y)) hold named t u stand
-        first_stands n h p q (arm c b rest) lay hold named t u stand =
+            → NamedArms (Fits f) list → ArmsStand fp n p q list
+        arms_stand n h p q (otherwise b) lay hold named =
+            let body = λ (w : When). block_stands w n h (inside p) (0 ∷ q) b nowhere
+            (lays_on way p.path (block_leads opcodes env k (0 ∷ q) b nowhere) (λ y. lay 0 y)) hold named in
+            record { first = body beginning; all = body beginning; now = body cycle }
+        arms_stand n h p q (arm c b rest) lay hold named =
             let flat_c = expression_by v (renamed_expression (own_name f) c) in
-            let now = keep m.world (0 ∷ p.path) flat_c t in
-            let next_u = put_back fp (keep m.world (0 ∷ q) (expression_read m c) (seen_from fp u)) u in
+            let alike_c = alike_expression f c named.0 in
             let i = after_block opcodes n b in
             let body = frames_of_block env (0 ∷ 1 ∷ q) b in
             let others = frames_of_arms env (next q) rest in
             let more = arms_lead opcodes env k (next q) rest in
             let at = condition_lays p.path q b more lay in
-            let kept_now : Stand now next_u =
-            keep_stands f fp af flat_c (expression_read m c) t u (alike_expression f c named.0) stand (0 ∷ p.path)
-            (0 ∷ q)
-            at in
-            let one = block_stands beginning n h (inside_arm p) (0 ∷ 1 ∷ q) b nowhere (arm_lays p.path q b more lay)
-            (first_hold way n body others hold) named.1 now next_u kept_now in
-            let two = subst (λ z. Stand
-            (initial.init_first m.world (text_past_arm p (texts_of n b)) (arms_of i rest) now)
-            (init_first m env fp z rest next_u))
-            (arm_behind n h p q b named.1)
-            (first_stands i (block_at_least n b h) (text_past_arm p (texts_of n b)) (next q) rest (λ j y. lay (suc j) y)
-            (rest_hold way n i body others (after_block_is opcodes env k n (0 ∷ 1 ∷ q) b) hold) named.2 now next_u
-            kept_now) in
-            choose_stands (holds (now.kept (0 ∷ p.path))) (holds (next_u.kept (0 ∷ q)))
-            (ap holds (kept_now.kept (0 ∷ p.path) (0 ∷ q) (at []))) _ _ _ _ one two
-
-        all_stand : (n : ℕ) → 1 ≤ n → (p : StatementPlace) (q : Path) (list : Arms)
-            → LaysOn way p.path (arms_lead opcodes env k q list) → Holds way n (frames_of_arms env q list)
-            → NamedArms (Fits f) list → (t : Note W) (u : Framed W) → Stand t u
-            → Stand (initial.init_all m.world p (arms_of n list) t) (init_all m env fp (place q p.unit) list u)
-        all_stand n h p q (otherwise b) lay hold named t u stand =
-            block_stands beginning n h (inside p) (0 ∷ q) b nowhere
-            (lays_on way p.path (block_leads opcodes env k (0 ∷ q) b nowhere) (λ y. lay 0 y)) hold named t u stand
-        all_stand n h p q (arm c b rest) lay hold named t u stand =
-            let flat_c = expression_by v (renamed_expression (own_name f) c) in
-            let now = keep m.world (0 ∷ p.path) flat_c t in
-            let next_u = put_back fp (keep m.world (0 ∷ q) (expression_read m c) (seen_from fp u)) u in
-            let i = after_block opcodes n b in
-            let body = frames_of_block env (0 ∷ 1 ∷ q) b in
-            let others = frames_of_arms env (next q) rest in
-            let more = arms_lead opcodes env k (next q) rest in
-            let kept_now : Stand now next_u =
-            keep_stands f fp af flat_c (expression_read m c) t u (alike_expression f c named.0) stand (0 ∷ p.path)
-            (0 ∷ q)
-            (condition_lays p.path q b more lay) in
-            let after_t = initial.init_block m.world (inside_arm p) (texts_of n b) now in
-            let after_u = block_done m env beginning fp (place (0 ∷ 1 ∷ q) p.unit) b next_u in
-            let one : Stand after_t after_u =
-            block_stands beginning n h (inside_arm p) (0 ∷ 1 ∷ q) b nowhere (arm_lays p.path q b more lay)
-            (first_hold way n body others hold) named.1 now next_u kept_now in
-            let two = subst (λ z. Stand
-            (initial.init_all m.world (text_past_arm p (texts_of n b)) (arms_of i rest) after_t)
-            (init_all m env fp z rest after_u))
-            (arm_behind n h p q b named.1)
-            (all_stand i (block_at_least n b h) (text_past_arm p (texts_of n b)) (next q) rest (λ j y. lay (suc j) y)
-            (rest_hold way n i body others (after_block_is opcodes env k n (0 ∷ 1 ∷ q) b) hold) named.2 after_t after_u
-            one) in
-            going_stands t _ u _ stand two
-
-        perf_arms_stand : (n : ℕ) → 1 ≤ n → (p : StatementPlace) (q : Path) (list : Arms)
-            → LaysOn way p.path (arms_lead opcodes env k q list) → Holds way n (frames_of_arms env q list)
-            → NamedArms (Fits f) list → (t : Note W) (u : Framed W) → Stand t u
-            → Stand (performing.perf_arms m.world p (arms_of n list) t) (perf_arms m env fp (place q p.unit) list u)
-        perf_arms_stand n h p q (otherwise b) lay hold named t u stand =
-            block_stands cycle n h (inside p) (0 ∷ q) b nowhere
-            (lays_on way p.path (block_leads opcodes env k (0 ∷ q) b nowhere) (λ y. lay 0 y)) hold named t u stand
-        perf_arms_stand n h p q (arm c b rest) lay hold named t u stand =
-            let flat_c = expression_by v (renamed_expression (own_name f) c) in
-            let i = after_block opcodes n b in
-            let body = frames_of_block env (0 ∷ 1 ∷ q) b in
-            let others = frames_of_arms env (next q) rest in
-            let more = arms_lead opcodes env k (next q) rest in
-            let a = value_of m.world t cycle (0 ∷ p.path) flat_c 0 in
-            let same = value_stands f fp af flat_c (expression_read m c) t u (alike_expression f c named.0) stand cycle
-            (0 ∷ p.path) (0 ∷ q) (condition_lays p.path q b more lay) in
-            let one = block_stands cycle n h (inside_arm p) (0 ∷ 1 ∷ q) b nowhere (arm_lays p.path q b more lay)
-            (first_hold way n body others hold) named.1 t u stand in
-            let two = subst (λ z. Stand
-            (performing.perf_arms m.world (text_past_arm p (texts_of n b)) (arms_of i rest) t)
-            (perf_arms m env fp z rest u))
-            (arm_behind n h p q b named.1)
-            (perf_arms_stand i (block_at_least n b h) (text_past_arm p (texts_of n b)) (next q) rest
-            (λ j y. lay (suc j) y)
-            (rest_hold way n i body others (after_block_is opcodes env k n (0 ∷ 1 ∷ q) b) hold) named.2 t u stand) in
-            choose_stands (holds a) (holds (value_of m.world (seen_from fp u) cycle (0 ∷ q) (expression_read m c) 0))
-            (ap (λ w. holds (w 0)) same) _ _ _ _ one two
-
-  -- ---- definitions
-
-  template_acts : (opcodes : Opcodes) (env : Actions W) (k : AllPair opcodes env) → Act opcodes env k
-      → (d : Definition) → Acts (template opcodes d) (action env d) (template_pair opcodes env k d)
-  template_acts opcodes env k g d = record {
-    units = λ n h p. named_as n h (λ own. (past_text p (body_by n own)).unit
-        ≡ p.unit + length (units_of_block m env p.unit whole))
-        (block_unit opcodes env k g n (n + 1) (more n) p whole (any_block (Fits n) (fits_inner n h) whole));
-    lays = λ n h p q l lay. named_as n h (λ own. LaysOn way (past_text p (body_by n own)).path l)
-        (block_lays opcodes env k g n (n + 1) (more n) p (0 ∷ 1 ∷ q) whole l lay);
-    does = λ w n h p q l lay at hold s u stand. named_as n h (λ own. Stand (text_done w p (body_by n own) s)
-        (block_done m env w q (place (0 ∷ 1 ∷ q) p.unit) whole u))
-        (block_stands opcodes env k g n q at w (n + 1) (more n) p (0 ∷ 1 ∷ q) whole l lay
-        (subst (λ i. Holds way i (frames_of_block env (0 ∷ 1 ∷ q) whole)) (one_further n) hold)
-        (any_block (Fits n) (fits_inner n h) whole) s u stand);
-  }
-    where
-      whole : Block
-      whole = whole_body d
-
-      body_by : ℕ → (List ℕ → List ℕ) → core.Block
-      body_by n own = flat_block (expanded_block opcodes own (n + 1) (whole_body d))
-
-      more : (n : ℕ) → 1 ≤ n + 1
-      more n = omega arith
-
-      one_further : (n : ℕ) → suc n ≡ n + 1
-      one_further n = omega arith
-
-      named_as : (n : ℕ) → 1 ≤ n → (P : (List ℕ → List ℕ) → Type 0) → P (own_name n) → P (in_frame n)
-      named_as n h P p = subst P (inner_name n h) p
-
-  with_acts : (opcodes : Opcodes) (env : Actions W) (k : AllPair opcodes env) → Act opcodes env k → (d : Definition)
-      → (t : Option Template) (a : Option (Action W)) (h : PairIf t a) → ActsIf t a h → (b : Bool)
-      → ActsIf (option_or t (if b then Some (template opcodes d) else None))
-      (option_or a (if b then Some (action env d) else None)) (with_pair opcodes env k d t a h b)
-  with_acts opcodes env k g d None None h acts true = template_acts opcodes env k g d
-  with_acts opcodes env k g d None None h acts false = tt
-  with_acts opcodes env k g d None (Some a) h acts b = absurd h
-  with_acts opcodes env k g d (Some t) None h acts b = absurd h
-  with_acts opcodes env k g d (Some t) (Some a) h acts b = acts
-
-  pub defining_acts : (opcodes : Opcodes) (env : Actions W) (k : AllPair opcodes env) → Act opcodes env k
-      → (d : Definition) → Act (defining opcodes d) (acting env d) (defining_pairs opcodes env k d)
-  defining_acts opcodes env k g d = record {
-    each = λ name. with_acts opcodes env k g d (opcodes name) (env name) (k.each name) (g.each name)
-        (bytes_eq name d.name);
-  }
-
-  pub all_act : (opcodes : Opcodes) (env : Actions W) (k : AllPair opcodes env) → Act opcodes env k
-      → (ds : List Definition) → Act (defining_all opcodes ds) (acting_all env ds) (all_pair opcodes env k ds)
-  all_act opcodes env k g [] = g
-  all_act opcodes env k g (d ∷ ds) =
-      all_act (defining opcodes d) (acting env d) (defining_pairs opcodes env k d) (defining_acts opcodes env k g d) ds
-
-  pub nothing_acts : Act no_opcodes no_actions nothing_pairs
-  nothing_acts = record { each = λ name. tt }
+            let kept = λ (t : Note W) (u : Framed W) (stand : Stand t u).
+            keep_stands f fp af flat_c (expression_read m c) t u alike_c stand (0 ∷ p.path) (0 ∷ q) at in
+            let now_t = λ (t : Note W). keep m.world (0 ∷ p.path) flat_c t in
+            let now_u = λ (u : Framed W). put_back fp (keep m.world (0 ∷ q) (expression_read m c) (seen_from fp u)) u in
+            let arm_stands = λ (w : When). block_stands w n h (inside_arm p) (0 ∷ 1 ∷ q) b nowhere
+            (arm_lays p.path q b more lay) (first_hold way n body others hold) named.1 in
+            let behind : ArmsStand fp i (text_past_arm p (texts_of n b)) (next q) rest = arms_stand i
+            (block_at_least n b h) (text_past_arm p (texts_of n b)) (next q) rest (λ j y. lay (suc j) y)
+            (rest_hold way n i body others (after_block_is opcodes env k n (0 ∷ 1 ∷ q) b) hold) named.2 in
+            let there = arm_behind n h p q b named.1 in
+            record {
+              first = λ t u stand. choose_stands (holds ((now_t t).kept (0 ∷ p.path))) (holds ((now_u u).kept (0 ∷ q)))
+                  (ap holds ((kept t u stand).kept (0 ∷ p.path) (0 ∷ q) (at []))) _ _ _ _
+                  (arm_stands beginning (now_t t) (now_u u) (kept t u stand))
+                  (subst (λ z. Stand (initial.init_first m.world (text_past_arm p (texts_of n b)) (arms_of i rest)
+                  (now_t t))
+                  (init_first m env fp z rest (now_u u))) there (behind.first (now_t t) (now_u u) (kept t u stand)));
+              all = λ t u stand. going_stands t _ u _ stand
+                  (subst (λ z. Stand
+                  (initial.init_all m.world (text_past_arm p (texts_of n b)) (arms_of i rest)
+                  (initial.init_block m.world (inside_arm p) (texts_of n b) (now_t t)))
+                  (init_all m env fp z rest
+                  (block_done m env beginning fp (place (0 ∷ 1 ∷ q) p.unit) b (now_u u)))) there
+                  (behind.all _ _ (arm_stands beginning (now_t t) (now_u u) (kept t u stand))));
+              now = λ t u stand. choose_stands (holds (value_of m.world t cycle (0 ∷ p.path) flat_c 0))
+                  (holds (value_of m.world (seen_from fp u) cycle (0 ∷ q) (expression_read m c) 0))
+                  (ap (λ w. holds (w 0))
+                  (value_stands f fp af flat_c (expression_read m c) t u alike_c stand cycle (0 ∷ p.path) (0 ∷ q) at))
+                  _ _ _ _ (arm_stands cycle t u stand)
+                  (subst (λ z. Stand (performing.perf_arms m.world (text_past_arm p (texts_of n b)) (arms_of i rest) t)
+                  (perf_arms m env fp z rest u)) there (behind.now t u stand));
+            }

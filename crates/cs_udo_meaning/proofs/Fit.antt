@@ -1,39 +1,28 @@
 -- Expanded instruments call no `zakinit`, and each number is of one instrument.
-use Rattle.std.proofs.Common.{◌≡◌, ◌≢◌, ℕ, ◌+◌, eqb, Bool, true, false, if◌then◌else◌, nat_lt, List, [], ◌∷◌, ◌++◌, map}
-use Rattle.std.proofs.Common.{Option, Some, None, Ok, refl, sym, ap, subst, ◌∙◌}
-use Rattle.std.specs.Option.{option_or}
-use Rattle.std.specs.Str.{bytes_eq}
+use Rattle.std.proofs.Common.{arith, ◌≡◌, ◌≢◌, ℕ, ◌+◌, eqb, Bool, true, false, if◌then◌else◌, nat_lt, List, ◌∷◌, ◌++◌}
+use Rattle.std.proofs.Common.{map, [], Option, Some, None, Ok, refl, sym, ap, subst, ◌∙◌}
+use Rattle.std.proofs.lemmas.{Grind.common_steps, Bool.eq-eqb, Bool.eqb-true, Map.Made.IsDistinct-from_AllPairs}
 use Rattle.std.specs.List.{All, IsDistinct, flat_map}
-use Rattle.std.proofs.lemmas.Bool.{eq-eqb, eqb-true}
 use Rattle.std.proofs.lemmas.List.Elements.{All-cons, All-nil, All-head, All-tail}
-use Rattle.std.proofs.lemmas.Map.Made.{IsDistinct-from_AllPairs}
-use Rattle.cs_words.specs.declared.catalogue.Opcode.TheVariants as op
-use Rattle.cs_base.specs.declared.fault.OrcFault.{OrcFault}
-use Rattle.cs_base.specs.declared.limit.LimitHit.{LimitHit}
-use Rattle.cs_grammar.specs.declared.scope.Place.TheVariants as place
-use Rattle.cs_grammar.specs.declared.tree.Callee.{Callee}
-use Rattle.cs_grammar.specs.declared.tree.Callee.TheVariants as callee
-use Rattle.cs_grammar.specs.Tree.{Argument, value, text, Statement, set, call, choose, Block, no_stmt, andthen, joins}
-use Rattle.cs_grammar.specs.Tree.{Arms, otherwise, arm, Definition, Instrument, Orchestra}
-use Rattle.cs_grammar.specs.WellFormed.{WellFormedStmt, WellFormedBlock, WellFormedArms, WellFormedInstrument}
+use Rattle.cs_grammar.specs.{declared.scope.Place.Place, declared.tree.Callee.Callee}
+use Rattle.cs_grammar.specs.Tree.{Argument, value, Statement, set, call, choose, Block, no_stmt, andthen, joins, Arms}
+use Rattle.cs_grammar.specs.Tree.{otherwise, arm, Definition, Instrument, Orchestra}
+use Rattle.cs_grammar.specs.WellFormed.{MayCall, WellFormedStmt, WellFormedBlock, WellFormedArms, WellFormedInstrument}
 use Rattle.cs_grammar.specs.WellFormed.{WellFormedDefinition, IsWellFormed, all_numbers}
-use Rattle.cs_grammar.specs.Renaming.{renamed_argument}
 use Rattle.cs_typing.proofs.NumbersOnce.{numbers_kept}
-use Rattle.cs_udo.specs.Names.{as_it_is, in_frame, slots}
-use Rattle.cs_udo.specs.Expanded.{Template, Opcodes, no_opcodes, defined, assignments, value_in, called, after}
-use Rattle.cs_udo.specs.Expanded.{after_block, expanded, expanded_block, expanded_arms, whole_body, template, defining}
-use Rattle.cs_udo.specs.Expanded.{defining_all, before, opcodes_before, expanded_instrument, expanded_orchestra}
-use Rattle.cs_udo.specs.Counted.{first_limit}
-use Rattle.cs_udo.specs.Refused.{first_fault}
-use Rattle.cs_udo.specs.Expanding.{within, unless, expanding}
-use Rattle.cs_typing.specs.Calls.{typed_call}
-use Rattle.cs_typing.specs.Known.{KnownHere}
+use Rattle.cs_udo.specs.{Names.as_it_is, Names.in_frame, Names.slots, Expanding.expanding}
+use Rattle.cs_udo.specs.Expanded.{Template, Opcodes, no_opcodes, defined, assignments, called, after, after_block}
+use Rattle.cs_udo.specs.Expanded.{expanded, expanded_block, expanded_arms, whole_body, template, defining, defining_all}
+use Rattle.cs_udo.specs.Expanded.{before, opcodes_before, expanded_instrument, expanded_orchestra}
+use Rattle.cs_udo.proofs.EachDefined.{Of, OfEach, of_called, of_none, one_more}
+use Rattle.cs_typing.specs.{Calls.typed_call, Known.KnownHere, Typing.typed_of, Typing.before as before_line}
 use Rattle.cs_typing.specs.Statements.{known, known_block, typed_statement, typed_block, typed_arms}
 use Rattle.cs_typing.specs.Typing.{alone, body, items, from, entered, known_item, first_known, typed_instruments}
-use Rattle.cs_typing.specs.Typing.{typed_of}
-use Rattle.cs_typing.specs.Typing.{before as before_line}
-use Rattle.cs_typed.specs.TypedTree as typed
 use Rattle.cs_typed.specs.WellRated.{HasNoZakinit, BlockHasNoZakinit, ArmsHaveNoZakinit}
+use Rattle.cs_words.specs.declared.catalogue.Opcode.TheVariants as op
+use Rattle.cs_grammar.specs.declared.scope.Place.TheVariants as place
+use Rattle.cs_grammar.specs.declared.tree.Callee.TheVariants as callee
+use Rattle.cs_typed.specs.TypedTree as typed
 
 -- ---- statements that call no `zakinit`
 
@@ -56,77 +45,52 @@ calm_joins no_stmt b h k = k
 calm_joins (andthen x rest) b h k = (h.0, calm_joins rest b h.1 k)
 
 calm_assignments : (line : ℕ) (xs : List (List ℕ)) (args : List Argument) → CalmBlock (assignments line xs args)
-calm_assignments line [] args = tt
-calm_assignments line (x ∷ xs) [] = tt
-calm_assignments line (x ∷ xs) (text t ∷ args) = tt
 calm_assignments line (x ∷ xs) (value e ∷ args) = (tt, calm_assignments line xs args)
+calm_assignments line _ _ = tt
 
 -- ---- well formed statements
 
-mutual
-  calm_in_instrument : (depth : ℕ) (x : Statement) → WellFormedStmt place.Instrument [] depth x → Calm x
-  calm_in_instrument depth (set line x e) h = tt
-  calm_in_instrument depth (call line xs c args) h = h.1.1
-  calm_in_instrument depth (choose line list) h = calm_arms_in_instrument (depth + 1) list h.1
+calm_call : (p : Place) (own : List ℕ) (c : Callee) → p ≢ place.Outside → MayCall p own c
+    → c ≢ callee.Opcode op.Zakinit
+calm_call place.Outside own c inner h = absurd (inner refl)
+calm_call place.Instrument own c inner h = h
+calm_call place.Definition own c inner h = h.0
 
-  calm_block_in_instrument : (depth : ℕ) (b : Block) → WellFormedBlock place.Instrument [] depth b → CalmBlock b
-  calm_block_in_instrument depth no_stmt h = tt
-  calm_block_in_instrument depth (andthen x rest) h =
-      (calm_in_instrument depth x h.0, calm_block_in_instrument depth rest h.1)
+module _ (p : Place) (own : List ℕ) (inner : p ≢ place.Outside) where
+  mutual
+    calm : (depth : ℕ) (x : Statement) → WellFormedStmt p own depth x → Calm x
+    calm depth (set line x e) h = tt
+    calm depth (call line xs c args) h = calm_call p own c inner h.1.1
+    calm depth (choose line list) h = calm_arms (depth + 1) list h.1
 
-  calm_arms_in_instrument : (depth : ℕ) (list : Arms) → WellFormedArms place.Instrument [] depth list → CalmArms list
-  calm_arms_in_instrument depth (otherwise b) h = calm_block_in_instrument depth b h
-  calm_arms_in_instrument depth (arm c b rest) h =
-      (calm_block_in_instrument depth b h.1, calm_arms_in_instrument depth rest h.2)
+    calm_block : (depth : ℕ) (b : Block) → WellFormedBlock p own depth b → CalmBlock b
+    calm_block depth no_stmt h = tt
+    calm_block depth (andthen x rest) h = (calm depth x h.0, calm_block depth rest h.1)
 
-mutual
-  calm_in_definition : (own : List ℕ) (depth : ℕ) (x : Statement) → WellFormedStmt place.Definition own depth x → Calm x
-  calm_in_definition own depth (set line x e) h = tt
-  calm_in_definition own depth (call line xs c args) h = h.1.1.0
-  calm_in_definition own depth (choose line list) h = calm_arms_in_definition own (depth + 1) list h.1
-
-  calm_block_in_definition : (own : List ℕ) (depth : ℕ) (b : Block) → WellFormedBlock place.Definition own depth b
-      → CalmBlock b
-  calm_block_in_definition own depth no_stmt h = tt
-  calm_block_in_definition own depth (andthen x rest) h =
-      (calm_in_definition own depth x h.0, calm_block_in_definition own depth rest h.1)
-
-  calm_arms_in_definition : (own : List ℕ) (depth : ℕ) (list : Arms) → WellFormedArms place.Definition own depth list
-      → CalmArms list
-  calm_arms_in_definition own depth (otherwise b) h = calm_block_in_definition own depth b h
-  calm_arms_in_definition own depth (arm c b rest) h =
-      (calm_block_in_definition own depth b h.1, calm_arms_in_definition own depth rest h.2)
+    calm_arms : (depth : ℕ) (list : Arms) → WellFormedArms p own depth list → CalmArms list
+    calm_arms depth (otherwise b) h = calm_block depth b h
+    calm_arms depth (arm c b rest) h = (calm_block depth b h.1, calm_arms depth rest h.2)
 
 -- ---- their expansion
 
-abbrev CalmIf : Option Template → Type 0
-CalmIf None = Unit {0}
-CalmIf (Some t) = (f : ℕ) → CalmBlock (t.block f)
+abbrev AlwaysCalm : Template → Type 0
+AlwaysCalm t = (f : ℕ) → CalmBlock (t.block f)
 
-record AllCalm (opcodes : Opcodes) : Type 0 where
-  pub each : (name : List ℕ) → CalmIf (opcodes name)
-
-called_calm : (opcodes : Opcodes) → AllCalm opcodes → (c : Callee) → CalmIf (defined opcodes c)
-called_calm opcodes k (callee.Opcode o) = tt
-called_calm opcodes k (callee.Name name) = k.each name
+abbrev AllCalm : Opcodes → Type 0
+AllCalm opcodes = OfEach AlwaysCalm opcodes
 
 calm_called : (own : List ℕ → List ℕ) (f line : ℕ) (xs : List (List ℕ)) (c : Callee) (args : List Argument)
     (found : Option Template)
-    → c ≢ callee.Opcode op.Zakinit → CalmIf found → CalmBlock (called own f line xs c args found)
+    → c ≢ callee.Opcode op.Zakinit → Of AlwaysCalm found → CalmBlock (called own f line xs c args found)
 calm_called own f line xs c args None h k = (h, tt)
-calm_called own f line xs c args (Some t) h k =
-    calm_joins (assignments line (map (in_frame f) t.inputs) (map (renamed_argument own) args))
-    (joins (t.block f) (assignments line (map own xs) (map (value_in f) t.results)))
-    (calm_assignments line (map (in_frame f) t.inputs) (map (renamed_argument own) args))
-    (calm_joins (t.block f) (assignments line (map own xs) (map (value_in f) t.results)) (k f)
-    (calm_assignments line (map own xs) (map (value_in f) t.results)))
+calm_called own f line xs c args (Some t) h k = grind (arith, common_steps, calm_assignments, calm_joins)
 
 mutual
   calm_expanded : (opcodes : Opcodes) → AllCalm opcodes → (own : List ℕ → List ℕ) (f : ℕ) (x : Statement) → Calm x
       → CalmBlock (expanded opcodes own f x)
   calm_expanded opcodes k own f (set line x e) h = (tt, tt)
   calm_expanded opcodes k own f (call line xs c args) h =
-      calm_called own f line xs c args (defined opcodes c) h (called_calm opcodes k c)
+      calm_called own f line xs c args (defined opcodes c) h (of_called AlwaysCalm opcodes k c)
   calm_expanded opcodes k own f (choose line list) h = (calm_expanded_arms opcodes k own f list h, tt)
 
   calm_expanded_block : (opcodes : Opcodes) → AllCalm opcodes → (own : List ℕ → List ℕ) (f : ℕ) (b : Block)
@@ -144,45 +108,32 @@ mutual
 
 calm_whole : (d : Definition) → WellFormedDefinition d → CalmBlock (whole_body d)
 calm_whole d h =
-    calm_joins d.body (assignments d.line (slots 0 d.outs) d.result) (calm_block_in_definition d.name 0 d.body h.body)
+    calm_joins d.body (assignments d.line (slots 0 d.outs) d.result)
+    (calm_block place.Definition d.name (λ e. absurd (cc e)) 0 d.body h.body)
     (calm_assignments d.line (slots 0 d.outs) d.result)
-
-calm_one : (o : Option Template) (b : Bool) (t : Template) → CalmIf o → ((f : ℕ) → CalmBlock (t.block f))
-    → CalmIf (option_or o (if b then Some t else None))
-calm_one (Some s) b t p q = p
-calm_one None true t p q = q
-calm_one None false t p q = tt
-
-calm_defining : (opcodes : Opcodes) → AllCalm opcodes → (d : Definition) → WellFormedDefinition d
-    → AllCalm (defining opcodes d)
-calm_defining opcodes k d h = record {
-  each = λ name. calm_one (opcodes name) (bytes_eq name d.name) (template opcodes d) (k.each name)
-      (λ f. calm_expanded_block opcodes k (in_frame f) (f + 1) (whole_body d) (calm_whole d h));
-}
 
 calm_before : (opcodes : Opcodes) → AllCalm opcodes → (line : ℕ) (ds : List Definition) → All WellFormedDefinition ds
     → AllCalm (defining_all opcodes (before line ds))
 calm_before opcodes k line [] h = k
 calm_before opcodes k line (d ∷ ds) h =
     by (nat_lt d.line line)
-    (calm_before (defining opcodes d) (calm_defining opcodes k d (All-head WellFormedDefinition d ds h)) line ds
-    (All-tail WellFormedDefinition d ds h))
+    (calm_before (defining opcodes d)
+    (one_more AlwaysCalm template opcodes k d (λ f. calm_expanded_block opcodes k (in_frame f) (f + 1) (whole_body d)
+    (calm_whole d (All-head WellFormedDefinition d ds h))))
+    line ds (All-tail WellFormedDefinition d ds h))
   where
     by : (b : Bool) → AllCalm (defining_all (defining opcodes d) (before line ds))
         → AllCalm (defining_all opcodes (if b then d ∷ before line ds else []))
     by true rest = rest
     by false rest = k
 
-calm_none : AllCalm no_opcodes
-calm_none = record { each = λ name. tt }
-
 calm_instruments : (ds : List Definition) → All WellFormedDefinition ds → (list : List Instrument)
     → All WellFormedInstrument list → All (λ (i : Instrument). CalmBlock i.body) (map (expanded_instrument ds) list)
 calm_instruments ds k [] h = All-nil (λ (i : Instrument). CalmBlock i.body)
 calm_instruments ds k (i ∷ rest) h =
     All-cons (λ (x : Instrument). CalmBlock x.body) (expanded_instrument ds i) (map (expanded_instrument ds) rest)
-    (calm_expanded_block (opcodes_before i.line ds) (calm_before no_opcodes calm_none i.line ds k) as_it_is 1 i.body
-    (calm_block_in_instrument 0 i.body (All-head WellFormedInstrument i rest h).body))
+    (calm_expanded_block (opcodes_before i.line ds) (calm_before no_opcodes (of_none AlwaysCalm) i.line ds k) as_it_is 1
+    i.body (calm_block place.Instrument [] (λ e. absurd (cc e)) 0 i.body (All-head WellFormedInstrument i rest h).body))
     (calm_instruments ds k rest (All-tail WellFormedInstrument i rest h))
 
 -- ---- their typed form
@@ -227,27 +178,18 @@ expanded_numbers ds (i ∷ rest) = ap (λ ns. i.numbers ++ ns) (expanded_numbers
 
 -- ---- orchestras
 
-made_within : (h : Option LimitHit) (o p : Orchestra) → within h o ≡ Ok p → o ≡ p
-made_within None o p e = cc
-made_within (Some h) o p e = absurd (cc)
-
-made_unless : (f : Option OrcFault) (h : Option LimitHit) (o p : Orchestra) → unless f (within h o) ≡ Ok p → o ≡ p
-made_unless None h o p e = made_within h o p e
-made_unless (Some f) h o p e = absurd (cc)
+pub expanded_is : (o made : Orchestra) → expanding o ≡ Ok made → made ≡ expanded_orchestra o
+expanded_is o made h = grind (arith, common_steps)
 
 pub expansion_lacks : (o p : Orchestra) → IsWellFormed o → expanding o ≡ Ok p
     → All (λ (i : typed.Instrument). BlockHasNoZakinit i.body) (typed_of p).instrs
-expansion_lacks o p h e =
-    subst (λ (x : Orchestra). All (λ (i : typed.Instrument). BlockHasNoZakinit i.body) (typed_of x).instrs)
-    (made_unless (first_fault o) (first_limit o) (expanded_orchestra o) p e)
-    (instruments_lack (first_known (expanded_orchestra o)) o.zero (map (expanded_instrument o.opcodes) o.instrs)
-    (calm_instruments o.opcodes h.definitions o.instrs h.instruments))
+expansion_lacks o p h e = grind (arith, common_steps, calm_instruments, expanded_is, instruments_lack)
 
 pub expansion_once : (o p : Orchestra) → IsWellFormed o → expanding o ≡ Ok p
     → IsDistinct eqb (flat_map (λ (i : typed.Instrument). i.numbers) (typed_of p).instrs)
 expansion_once o p h e =
     subst (λ (x : Orchestra). IsDistinct eqb (flat_map (λ (i : typed.Instrument). i.numbers) (typed_of x).instrs))
-    (made_unless (first_fault o) (first_limit o) (expanded_orchestra o) p e)
+    (sym (expanded_is o p e))
     (subst (IsDistinct eqb)
     (sym (numbers_kept (first_known (expanded_orchestra o)) o.zero (map (expanded_instrument o.opcodes) o.instrs)
     ∙ expanded_numbers o.opcodes o.instrs))

@@ -1,43 +1,36 @@
 -- What is known goes on being known, and the typed form of statements without a fault is that of what is known at the
--- end.
-use Rattle.std.proofs.Common.{◌≡◌, ◌∙◌, ℕ, suc, ◌==◌, Bool, true, false, not, ◌&&◌, ◌||◌, if◌then◌else◌, List, []}
-use Rattle.std.proofs.Common.{◌∷◌, length, map, Option, Some, None, arith, refl, sym, ap}
-use Rattle.std.specs.List.{list_all}
+use Rattle.std.proofs.Common.{◌≡◌, ◌∙◌, ℕ, suc, ◌==◌, Bool, true, false, not, ◌&&◌, ◌||◌, if◌then◌else◌, List, ◌∷◌, []}
+use Rattle.std.proofs.Common.{length, map, Option, Some, None, arith, refl, sym, ap}
 use Rattle.std.specs.Option.{option_or}
-use Rattle.std.proofs.lemmas.Bool.{and_parts}
-use Rattle.std.proofs.lemmas.Bool.Decides.{nat_tests}
+use Rattle.std.proofs.lemmas.{Bool.and_parts, Bool.Decides.nat_tests, Grind.common_steps}
 use Rattle.cs_base.proofs.Tests.{both_none}
-use Rattle.cs_base.specs.Rates.{within, is_init}
-use Rattle.cs_base.specs.declared.fault.OrcKind.{OrcKind}
-use Rattle.cs_base.specs.declared.fault.OrcKind.TheVariants as orc
-use Rattle.cs_base.specs.declared.resource.Rate.{Rate}
+use Rattle.cs_base.specs.{Rates.within, Rates.is_init, declared.fault.OrcKind.OrcKind, declared.resource.Rate.Rate}
 use Rattle.cs_words.specs.Catalogue.{Row, row_of, takes_count, result_count}
-use Rattle.cs_words.specs.Names.{name_rate, is_global}
-use Rattle.cs_words.specs.declared.catalogue.Opcode.{Opcode}
+use Rattle.cs_words.specs.{Names.name_rate, declared.catalogue.Opcode.Opcode}
 use Rattle.cs_grammar.specs.declared.tree.Callee.{Callee}
-use Rattle.cs_grammar.specs.declared.tree.Callee.TheVariants as callee
-use Rattle.cs_grammar.specs.Tree.{Expression, number, var, field, head, neg, pair, pick, apply, Argument, value, text}
-use Rattle.cs_grammar.specs.Tree.{Statement, set, call, choose, Block, no_stmt, andthen, Arms, otherwise, arm}
-use Rattle.cs_typed.specs.Places.{stands_outside}
-use Rattle.cs_typed.specs.TypedTree as typed
+use Rattle.cs_grammar.specs.Tree.{Expression, var, neg, pair, pick, apply, Argument, value, text, Statement, set, call}
+use Rattle.cs_grammar.specs.Tree.{choose, Block, no_stmt, andthen, Arms, otherwise, arm}
 use Rattle.cs_typed.specs.declared.setting.Setting.{Setting}
-use Rattle.cs_typed.specs.declared.tree.Var.TheVariants as variant
-use Rattle.cs_typing.specs.Calls.{all_fit, bound_of, may_result, is_even, channel_use, text_of}
-use Rattle.cs_typing.specs.Calls.{is_too_wide, all_known, rates_agree, counts_agree, row_fault, call_fault, row_known}
-use Rattle.cs_typing.specs.Calls.{call_known, call_rate, typed_arguments, typed_row, typed_call}
+use Rattle.cs_typing.specs.Calls.{all_fit, channel_use, text_of, all_known, row_fault, call_fault, row_known}
+use Rattle.cs_typing.specs.Calls.{call_known, typed_arguments, typed_row, typed_call}
 use Rattle.cs_typing.specs.Expressions.{is_value, is_condition, rate_of, reads_known, typed_expression}
-use Rattle.cs_typing.specs.Known.{RateNames, in_table, place_in, added, KnownHere, knows, after_giving, given}
-use Rattle.cs_typing.specs.Known.{given_all, used, use_channel, clashes, global, variable, channel_of}
-use Rattle.cs_typing.specs.Settings.{at}
+use Rattle.cs_typing.specs.Known.{RateNames, in_table, place_in, KnownHere, knows, after_giving, given, given_all, used}
+use Rattle.cs_typing.specs.Known.{use_channel, global, variable, channel_of}
+use Rattle.cs_typing.specs.{Settings.at, declared.known.Channel.Channel}
 use Rattle.cs_typing.specs.Statements.{set_fault, condition_fault, known, known_block, known_arms, fault, block_fault}
 use Rattle.cs_typing.specs.Statements.{arms_fault, choice_rate, typed_statement, typed_block, typed_arms}
-use Rattle.cs_typing.specs.declared.known.Channel.{Channel}
 use Rattle.cs_udo_meaning.specs.Numbered.{Numbering, numbered, expression_by, arguments_by, row_by, call_by}
 use Rattle.cs_udo_meaning.specs.Numbered.{statement_by, block_by, arms_by}
 use Rattle.cs_typing.proofs.ChannelTexts.{TextsAre, OneText, one_text}
 use Rattle.cs_typing.proofs.KnownLater.{channel_same, SharedGoesOn, Later, later_further, given_later, row_later}
 use Rattle.cs_typing.proofs.KnownLater.{known_block_later, known_arms_later}
 use Rattle.cs_typing.proofs.Later.{TableGoesOn, added_in, added_place, in_on, place_in_on}
+use Rattle.cs_base.specs.declared.fault.OrcKind.TheVariants as orc
+use Rattle.cs_grammar.specs.declared.tree.Callee.TheVariants as callee
+use Rattle.cs_typed.specs.TypedTree as typed
+use Rattle.cs_typed.specs.declared.tree.Var.TheVariants as variant
+
+-- end.
 
 -- ---- variables
 
@@ -55,42 +48,18 @@ shared_variable g h x e = ap (λ t. variant.Global (global (name_rate x) (place_
 pub variable_known : (n m : KnownHere) (s : Numbering) (x : List ℕ) → Later n m → HasPlaces s m.locals
     → knows n x ≡ true
     → variable n x ≡ numbered m.shared s x
-variable_known n m s x l p h = by (is_global x) h
-  where
-    by : (b : Bool) → (if b then in_table n.shared.globals x else in_table n.locals x) ≡ true
-        → (if b then variant.Global (global (name_rate x) (place_in n.shared.globals x)) else variant.Local
-        (name_rate x) (place_in n.locals x))
-        ≡ (if b then variant.Global (global (name_rate x) (place_in m.shared.globals x)) else variant.Local
-        (name_rate x) (s x))
-    by true k = shared_variable n.shared.globals m.shared.globals x l.shared.globals
-    by false k = ap (variant.Local (name_rate x))
-        (sym (p.each x (in_on n.locals m.locals x l.locals k) ∙ place_in_on n.locals m.locals x l.locals k))
+variable_known n m s x l p h = grind (arith, common_steps, in_on, place_in_on, shared_variable)
 
 pub variable_given : (n m : KnownHere) (s : Numbering) (x : List ℕ) → m.shared.globals ≡ n.shared.globals
     → TableGoesOn (after_giving n.locals x) m.locals
     → HasPlaces s m.locals
     → variable n x ≡ numbered m.shared s x
-variable_given n m s x e l p = by (is_global x) l
-  where
-    by : (b : Bool) → TableGoesOn (if b then n.locals else added n.locals x) m.locals
-        → (if b then variant.Global (global (name_rate x) (place_in n.shared.globals x)) else variant.Local
-        (name_rate x) (place_in n.locals x))
-        ≡ (if b then variant.Global (global (name_rate x) (place_in m.shared.globals x)) else variant.Local
-        (name_rate x) (s x))
-    by true k = shared_variable n.shared.globals m.shared.globals x e
-    by false k =
-        let there : in_table (added n.locals x) x ≡ true = added_in n.locals x in
-        ap (variant.Local (name_rate x))
-        (sym (p.each x (in_on (added n.locals x) m.locals x k there) ∙ place_in_on (added n.locals x) m.locals x k there
-        ∙ added_place n.locals x))
+variable_given n m s x e l p = grind (arith, common_steps, added_in, added_place, in_on, place_in_on, shared_variable)
 
 pub expression_same : (n m : KnownHere) (s : Numbering) (e : Expression) → Later n m → HasPlaces s m.locals
     → reads_known n e ≡ true
     → typed_expression n e ≡ expression_by (numbered m.shared s) e
-expression_same n m s (number z) l p h = refl
 expression_same n m s (var x) l p h = ap (typed.var (name_rate x)) (variable_known n m s x l p h)
-expression_same n m s (field k) l p h = refl
-expression_same n m s (head q) l p h = refl
 expression_same n m s (neg a) l p h = ap (typed.neg (rate_of (neg a))) (expression_same n m s a l p h)
 expression_same n m s (pair o a b) l p h =
     let k = and_parts (reads_known n a) (reads_known n b) h in
@@ -101,6 +70,7 @@ expression_same n m s (pick c a b) l p h =
     λ i. typed.pick (rate_of (pick c a b)) (expression_same n m s c l p k.0 i) (expression_same n m s a l p k.1 i)
     (expression_same n m s b l p j.1 i)
 expression_same n m s (apply f a) l p h = ap (typed.apply (rate_of (apply f a)) f) (expression_same n m s a l p h)
+expression_same n m s _ l p h = refl
 
 -- ---- arguments
 
@@ -165,9 +135,7 @@ no_rule_broken : (a b c d e : Bool)
     (if d then Some orc.ChannelRate else (if e then Some orc.OutCount else None))))) ≡ None
     → (a ≡ true) × (b ≡ true) × (c ≡ true)
 no_rule_broken true true true d e h = (refl, refl, refl)
-no_rule_broken true true false d e h = absurd (cc h)
-no_rule_broken true false c d e h = absurd (cc h)
-no_rule_broken false b c d e h = absurd (cc h)
+no_rule_broken _ _ _ d e h = absurd (cc h)
 
 row_same : (q : Setting) (n m : KnownHere) (s : Numbering) (line : ℕ) (o : Opcode) (results : List (List ℕ))
     (args : List Argument)
@@ -175,18 +143,7 @@ row_same : (q : Setting) (n m : KnownHere) (s : Numbering) (line : ℕ) (o : Opc
     → HasPlaces s m.locals
     → typed_row line n o (row_of o) results args ≡ row_by line m.shared (numbered m.shared s) o (row_of o) results args
 row_same q n m s line o results args h l p =
-    let row = row_of o in
-    let right = no_rule_broken (counts_agree row results args) (all_known n args) (rates_agree q row results args)
-    (clashes n.shared (channel_use row.shape results args) (text_of args)) (is_too_wide q row.shape args) h in
-    let counts = and_parts (length results == result_count row) (takes_count row (length args)) right.0 in
-    let fit = all_fit row (bound_of results) 0 args in
-    let may = list_all (may_result row) results in
-    let outer = and_parts (fit && may && is_even row.shape args) (q.inside || stands_outside row.shape) right.2 in
-    let inner = and_parts fit may (and_parts (fit && may) (is_even row.shape args) outer.0).0 in
-    let whole : Later n m = later_further n (row_known n row results args) m (row_later n row results args) l in
-    let given_on = results_same n m s row results counts.0 whole.shared.globals l.locals p in
-    let made = arguments_same n m s o (bound_of results) results args whole p counts.1 inner.0 right.1 l.shared in
-    λ i. typed.call line (call_rate row.shape results args) (given_on i) o (made i)
+    grind (arith, common_steps, and_parts, arguments_same, later_further, no_rule_broken, results_same, row_later)
 
 call_same : (q : Setting) (n m : KnownHere) (s : Numbering) (line : ℕ) (c : Callee) (results : List (List ℕ))
     (args : List Argument)

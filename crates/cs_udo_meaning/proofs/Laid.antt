@@ -1,11 +1,10 @@
 -- Where a way leads: frames whose numbers follow, and parts of the expanded text one behind another.
-use Rattle.std.proofs.Common.{◌≡◌, ◌∙◌, ℕ, zero, suc, ◌+◌, List, [], ◌∷◌, ◌++◌, length, Some, arith, sym}
-use Rattle.std.proofs.Common.{ap, subst, add-zero}
+use Rattle.std.proofs.Common.{◌≡◌, ◌∙◌, ℕ, zero, suc, ◌+◌, List, ◌∷◌, ◌++◌, length, Some, arith, sym, ap, subst, []}
+use Rattle.std.proofs.Common.{add-zero}
 use Rattle.std.specs.List.{slice_get}
 use Rattle.cs_meaning.specs.Notes.{Path, next}
 use Rattle.cs_udo_meaning.specs.Stands.{Way}
-use Rattle.cs_udo_meaning.proofs.Paths.{inward}
-use Rattle.cs_udo_meaning.proofs.Ways.{Leads}
+use Rattle.cs_udo_meaning.proofs.{Paths.inward, Ways.Leads}
 
 -- ---- frames whose numbers follow
 

@@ -1,43 +1,35 @@
 -- An instrument of an expanded and typed orchestra means the instrument with frames.
-use Rattle.std.proofs.Common.{◌≡◌, ◌∙◌, ℕ, suc, ◌+◌, ◌≤◌, List, [], ◌∷◌, ◌++◌, map, Option, Some, None, Ok, arith, refl}
-use Rattle.std.proofs.Common.{sym, ap, subst}
+use Rattle.std.proofs.Common.{◌≡◌, ◌∙◌, ℕ, suc, ◌+◌, ◌≤◌, List, ◌∷◌, ◌++◌, map, Some, None, Ok, arith, refl, sym, ap}
+use Rattle.std.proofs.Common.{[], subst}
 use Rattle.std.specs.List.{All, AllZip, slice_get}
 use Rattle.std.proofs.lemmas.Option.{slice_get-get_or}
-use Rattle.cs_base.specs.declared.fault.OrcFault.{OrcFault}
-use Rattle.cs_base.specs.declared.limit.LimitHit.{LimitHit}
 use Rattle.cs_grammar.specs.Tree.{Definition, Instrument, Orchestra}
 use Rattle.cs_grammar.specs.WellFormed.{WellFormedInstrument, IsWellFormed}
-use Rattle.cs_grammar.specs.declared.scope.Place.TheVariants as place
-use Rattle.cs_typed.specs.TypedTree as typed
-use Rattle.cs_typing.specs.Known.{Shared}
-use Rattle.cs_typing.specs.Typing.{type_fault, typed_of}
+use Rattle.cs_typing.specs.{Known.Shared, Typing.type_fault, Typing.typed_of}
 use Rattle.cs_base.specs.declared.spaces.Spaces.{Spaces}
 use Rattle.cs_ir.specs.Worlds.{World}
-use Rattle.cs_meaning.specs.Core as core
-use Rattle.cs_meaning.specs.Initialising as initial
 use Rattle.cs_meaning.specs.Notes.{Note, Path, start, new_note, moved_to}
-use Rattle.cs_meaning.specs.Performing as performing
-use Rattle.cs_meaning.specs.When.{beginning, cycle}
-use Rattle.cs_udo.specs.Expanded.{no_opcodes, before, opcodes_before, expanded_instrument, expanded_orchestra}
-use Rattle.cs_udo.specs.Expanding.{within, unless, expanding}
-use Rattle.cs_udo.specs.Refused.{first_fault}
-use Rattle.cs_udo.specs.Counted.{first_limit}
+use Rattle.cs_meaning.specs.When.{When, beginning, cycle}
+use Rattle.cs_udo.specs.Expanded.{no_opcodes, before, opcodes_before, expanded_instrument}
+use Rattle.cs_udo.specs.Expanding.{expanding}
 use Rattle.cs_udo_meaning.specs.Frames.{Framed, own_frame, new_framed, framed_in, Reading, no_actions, actions_before}
-use Rattle.cs_udo_meaning.specs.Frames.{frames_of_block, keepers_of_block, typed_keepers_of_block}
+use Rattle.cs_udo_meaning.specs.Frames.{block_done, by_pass, frames_of_block, keepers_of_block, typed_keepers_of_block}
 use Rattle.cs_udo_meaning.specs.Lives.{Cycle, goes_on, begins, performs, goes_on_framed, in_world, reading, MeansFrames}
 use Rattle.cs_udo_meaning.specs.Numbered.{Numbering, Tells, numbered, block_by}
 use Rattle.cs_udo_meaning.specs.Stands.{Fits, Way, IsClear, StandsForFrames}
 use Rattle.cs_udo_meaning.specs.Typed.{shared_of, IsNumberedInstrument}
-use Rattle.cs_udo_meaning.proofs.Expanding.{all_act, nothing_acts, block_stands}
+use Rattle.cs_udo_meaning.proofs.{Expanding.Texts, Expanding.block_stands, Fit.expanded_is, Led.read_still}
+use Rattle.cs_udo_meaning.proofs.{Led.block_led, Led.opcodes_act, Numbers.spelled_tells, TypedBy.all_numbered}
+use Rattle.cs_udo_meaning.proofs.{Untouched.all_lie, Untouched.frames_differ, Ways.block_sharp, Ways.block_kept}
 use Rattle.cs_udo_meaning.proofs.Laid.{Holds, holds_from, LaysOn, lays_on}
-use Rattle.cs_udo_meaning.proofs.Led.{read_still, block_led, all_led}
 use Rattle.cs_typing.proofs.Named.{NamedBlock, block_named}
-use Rattle.cs_udo_meaning.proofs.Numbers.{spelled_tells}
 use Rattle.cs_udo_meaning.proofs.Paths.{inward, outward_again, same_inward, one_place, each_of, all_of}
-use Rattle.cs_udo_meaning.proofs.TypedBy.{all_numbered}
-use Rattle.cs_udo_meaning.proofs.Untouched.{all_lie, nothing_lies, frames_differ}
-use Rattle.cs_udo_meaning.proofs.Ways.{Leads, nowhere, Reaches, Whole, AllPair, all_pair, nothing_pairs}
-use Rattle.cs_udo_meaning.proofs.Ways.{block_leads, block_sharp, block_kept}
+use Rattle.cs_udo_meaning.proofs.Ways.{Leads, nowhere, Reaches, Whole, AllPair, all_pair, nothing_pairs, block_leads}
+use Rattle.cs_grammar.specs.declared.scope.Place.TheVariants as place
+use Rattle.cs_typed.specs.TypedTree as typed
+use Rattle.cs_meaning.specs.Core as core
+use Rattle.cs_meaning.specs.Initialising as initial
+use Rattle.cs_meaning.specs.Performing as performing
 
 at_first : 1 ≤ 1
 at_first = omega arith
@@ -68,12 +60,11 @@ way_of W ds i = record {
 module _ (W : Type 0) (ds : List Definition) (i : Instrument) where
   way_clear : IsClear (way_of W ds i)
   way_clear =
-      let lie = all_lie no_actions nothing_lies (before i.line ds) in
       record {
         own = refl;
         frames = λ f g p e h.
             one_place (own_frame ∷ calls_of W ds i)
-            (frames_differ (actions_before W i.line ds) lie 0 [] i.body) f g p e h;
+            (frames_differ (actions_before W i.line ds) (all_lie W (before i.line ds)) 0 [] i.body) f g p e h;
         parts = λ p q r e h.
             same_inward p q
             (block_sharp (opcodes_before i.line ds) (actions_before W i.line ds) (pairs_before W i.line ds) 0 []
@@ -111,55 +102,45 @@ module _ (W : Type 0) (ds : List Definition) (i : Instrument) where
       (block_kept (opcodes_before i.line ds) (actions_before W i.line ds) (pairs_before W i.line ds) start.path i.body
       nowhere).each)
 
+  abbrev texts_of : (m : Reading W) → Tells m.number → (flat : Numbering) → Tells flat → Texts W
+  texts_of m to flat tf = record {
+    reading = m;
+    flat = flat;
+    flat_tells = tf;
+    own_tells = to;
+    way = way_of W ds i;
+    clear = way_clear;
+  }
+
   -- what keeps values in the expanded text, by any numbers of its names
   way_leads : (g : Shared) (flat : Numbering) → Tells flat
       → All (λ p. (y : Path) → (q : Path) × ((way_of W ds i).part (y ++ p) ≡ Some q))
       (typed_keepers_of_block start.path (block_by g (numbered g flat) (expanded_instrument ds i).body))
   way_leads g flat tf =
-      let m : Reading W = read_still g in
-      let way = way_of W ds i in
-      let clear = way_clear in
-      let acts = all_act m flat tf spelled_tells way clear no_opcodes no_actions nothing_pairs
-      (nothing_acts m flat tf spelled_tells way clear) (before i.line ds) in
-      let led = all_led m flat tf spelled_tells way clear no_opcodes no_actions nothing_pairs
-      (nothing_acts m flat tf spelled_tells way clear) (record { each = λ name. tt }) (before i.line ds) in
-      all_of (λ p. (y : Path) → (q : Path) × (way.part (y ++ p) ≡ Some q))
+      let texts = texts_of (read_still g) spelled_tells flat tf in
+      all_of (λ p. (y : Path) → (q : Path) × ((way_of W ds i).part (y ++ p) ≡ Some q))
       (typed_keepers_of_block start.path (block_by g (numbered g flat) (expanded_instrument ds i).body))
-      (block_led m flat tf spelled_tells way clear (opcodes_before i.line ds) (actions_before W i.line ds)
-      (pairs_before W i.line ds) acts led 0 1 at_first start start.path i.body nowhere way_lays)
+      (block_led texts (opcodes_before i.line ds) (actions_before W i.line ds) (pairs_before W i.line ds)
+      (opcodes_act texts (before i.line ds)) 0 1 at_first start start.path i.body nowhere way_lays)
+
+abbrev stands_done : {W : Type 0} → When → World W → core.Block → Note W → Note W
+stands_done w o b t = by_pass w (initial.init_block o start b t) (performing.perf_block o start b t)
 
 module _ {W : Type 0} (ds : List Definition) (i : Instrument) (well : WellFormedInstrument i) (flat : Numbering)
     (tf : Tells flat) where
   abbrev Stand : Numbering → Note W → Framed W → Type 0
   Stand own t u = StandsForFrames (way_of W ds i) flat own t u
 
-  expanded_begins : (m : Reading W) → Tells m.number → (t : Note W) (u : Framed W) → Stand m.number t u
+  expanded_does : (w : When) (m : Reading W) → Tells m.number → (t : Note W) (u : Framed W) → Stand m.number t u
       → Stand m.number
-      (initial.init_block m.world start
+      (stands_done w m.world
       (core.core m.spaces (block_by m.shared (numbered m.shared flat) (expanded_instrument ds i).body)) t)
-      (begins m ds i u)
-  expanded_begins m to t u stand =
-      let way = way_of W ds i in
-      let clear = way_clear W ds i in
-      block_stands m flat tf to way clear (opcodes_before i.line ds) (actions_before W i.line ds)
-      (pairs_before W i.line ds)
-      (all_act m flat tf to way clear no_opcodes no_actions nothing_pairs (nothing_acts m flat tf to way clear)
-      (before i.line ds)) 0 own_frame refl beginning 1 at_first start start.path i.body nowhere (way_lays W ds i)
-      (way_holds W ds i) (named_in i well) t u stand
-
-  expanded_performs : (m : Reading W) → Tells m.number → (t : Note W) (u : Framed W) → Stand m.number t u
-      → Stand m.number
-      (performing.perf_block m.world start
-      (core.core m.spaces (block_by m.shared (numbered m.shared flat) (expanded_instrument ds i).body)) t)
-      (performs m ds i u)
-  expanded_performs m to t u stand =
-      let way = way_of W ds i in
-      let clear = way_clear W ds i in
-      block_stands m flat tf to way clear (opcodes_before i.line ds) (actions_before W i.line ds)
-      (pairs_before W i.line ds)
-      (all_act m flat tf to way clear no_opcodes no_actions nothing_pairs (nothing_acts m flat tf to way clear)
-      (before i.line ds)) 0 own_frame refl cycle 1 at_first start start.path i.body nowhere (way_lays W ds i)
-      (way_holds W ds i) (named_in i well) t u stand
+      (block_done m (actions_before W i.line ds) w own_frame start i.body u)
+  expanded_does w m to t u stand =
+      let texts = texts_of W ds i m to flat tf in
+      block_stands texts (opcodes_before i.line ds) (actions_before W i.line ds) (pairs_before W i.line ds)
+      (opcodes_act texts (before i.line ds)) 0 own_frame refl w 1 at_first start start.path i.body nowhere
+      (way_lays W ds i) (way_holds W ds i) (named_in i well) t u stand
 
 moved_stands : {W : Type 0} (way : Way) (flat own : Numbering) (t : Note W) (u : Framed W) (x y : W)
     → StandsForFrames way flat own t u → x ≡ y
@@ -201,36 +182,27 @@ instrument_means W ds g i made well h = record {
   parts = way_parts W ds i;
   leads = subst (λ (b : typed.Block). All (λ p. (y : Path) → (q : Path) × ((way_of W ds i).part (y ++ p) ≡ Some q))
       (typed_keepers_of_block start.path b)) (sym h.body.is) (way_leads W ds i g flat h.body.apart);
-  begun = starts;
-  performed = goes;
+  begun = does beginning;
+  performed = does cycle;
   lived = λ o spaces own to cycles x.
       cycles_alike (way_of W ds i) (reading o spaces g own) ds i flat (core.core spaces made.body)
-      (λ w. goes w spaces own to) cycles
+      (λ w. does cycle w spaces own to) cycles
       (initial.init_block o start (core.core spaces made.body) (new_note x))
       (begins (reading o spaces g own) ds i (new_framed x))
-      (starts o spaces own to (new_note x) (new_framed x) (new_stands (way_of W ds i) flat own x));
+      (does beginning o spaces own to (new_note x) (new_framed x) (new_stands (way_of W ds i) flat own x));
 }
   where
     flat : Numbering
     flat = h.body.number
 
-    starts : (o : World W) (spaces : Spaces) (own : Numbering) → Tells own → (t : Note W) (u : Framed W)
+    does : (w : When) (o : World W) (spaces : Spaces) (own : Numbering) → Tells own → (t : Note W) (u : Framed W)
         → StandsForFrames (way_of W ds i) flat own t u
-        → StandsForFrames (way_of W ds i) flat own (initial.init_block o start (core.core spaces made.body) t)
-        (begins (reading o spaces g own) ds i u)
-    starts o spaces own to t u stand =
-        subst (λ b. StandsForFrames (way_of W ds i) flat own (initial.init_block o start (core.core spaces b) t)
-        (begins (reading o spaces g own) ds i u)) (sym h.body.is)
-        (expanded_begins ds i well flat h.body.apart (reading o spaces g own) to t u stand)
-
-    goes : (o : World W) (spaces : Spaces) (own : Numbering) → Tells own → (t : Note W) (u : Framed W)
-        → StandsForFrames (way_of W ds i) flat own t u
-        → StandsForFrames (way_of W ds i) flat own (performing.perf_block o start (core.core spaces made.body) t)
-        (performs (reading o spaces g own) ds i u)
-    goes o spaces own to t u stand =
-        subst (λ b. StandsForFrames (way_of W ds i) flat own (performing.perf_block o start (core.core spaces b) t)
-        (performs (reading o spaces g own) ds i u)) (sym h.body.is)
-        (expanded_performs ds i well flat h.body.apart (reading o spaces g own) to t u stand)
+        → StandsForFrames (way_of W ds i) flat own (stands_done w o (core.core spaces made.body) t)
+        (block_done (reading o spaces g own) (actions_before W i.line ds) w own_frame start i.body u)
+    does w o spaces own to t u stand =
+        subst (λ b. StandsForFrames (way_of W ds i) flat own (stands_done w o (core.core spaces b) t)
+        (block_done (reading o spaces g own) (actions_before W i.line ds) w own_frame start i.body u)) (sym h.body.is)
+        (expanded_does ds i well flat h.body.apart w (reading o spaces g own) to t u stand)
 
 first_of : (i : Instrument) (list : List Instrument) → All WellFormedInstrument (i ∷ list) → WellFormedInstrument i
 first_of i list h = h 0 i (omega arith)
@@ -242,20 +214,9 @@ others_of i list h = λ k d below. h (suc k) d (omega (arith, below))
 each_means : (W : Type 0) (ds : List Definition) (g : Shared) (list : List Instrument) (made : List typed.Instrument)
     → All WellFormedInstrument list
     → AllZip (IsNumberedInstrument g) (map (expanded_instrument ds) list) made → AllZip (MeansFrames W ds g) list made
-each_means W ds g [] [] well h = h
-each_means W ds g [] (t ∷ made) well h = h
-each_means W ds g (i ∷ list) [] well h = h
 each_means W ds g (i ∷ list) (t ∷ made) well h =
     (instrument_means W ds g i t (first_of i list well) h.0, each_means W ds g list made (others_of i list well) h.1)
-
-pub expanded_is : (o made : Orchestra) → expanding o ≡ Ok made → made ≡ expanded_orchestra o
-expanded_is o made h = by (first_fault o) (first_limit o) h
-  where
-    by : (f : Option OrcFault) (l : Option LimitHit) → unless f (within l (expanded_orchestra o)) ≡ Ok made
-        → made ≡ expanded_orchestra o
-    by None None e = cc e
-    by None (Some l) e = absurd (cc e)
-    by (Some f) l e = absurd (cc e)
+each_means W ds g _ _ well h = h
 
 pub calls_mean_frames : (W : Type 0) (o made : Orchestra) → IsWellFormed o → expanding o ≡ Ok made
     → type_fault made ≡ None

@@ -1,11 +1,9 @@
 -- Paths from a whole inward: parts that differ have nothing in common. And lists of paths that differ.
-use Rattle.std.proofs.Common.{◌≡◌, ◌≢◌, ◌∙◌, ℕ, zero, suc, ◌+◌, ◌≤◌, List, [], ◌∷◌, ◌++◌, length, Some}
-use Rattle.std.proofs.Common.{arith, refl, sym, ap, subst, append-nil}
+use Rattle.std.proofs.Common.{◌≡◌, ◌≢◌, ◌∙◌, ℕ, zero, suc, ◌+◌, ◌≤◌, List, ◌∷◌, ◌++◌, length, Some, arith, refl, sym}
+use Rattle.std.proofs.Common.{[], ap, subst, append-nil}
 use Rattle.std.specs.List.{All, AllPairs, slice_get}
-use Rattle.std.proofs.lemmas.List.{length-append}
+use Rattle.std.proofs.lemmas.{List.length-append, List.Kept.AllPairs-cons, Option.none-some}
 use Rattle.std.proofs.lemmas.List.Elements.{All-cons, All-nil}
-use Rattle.std.proofs.lemmas.List.Kept.{AllPairs-cons}
-use Rattle.std.proofs.lemmas.Option.{none-some}
 use Rattle.cs_base.proofs.Tests.{some_is}
 use Rattle.cs_meaning.specs.Notes.{Path}
 

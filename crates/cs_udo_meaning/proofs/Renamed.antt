@@ -1,13 +1,11 @@
 -- Statements with other names of the same rates: their typed form is theirs, with the variables of the other names.
 use Rattle.std.proofs.Common.{◌≡◌, ℕ, List, map}
-use Rattle.cs_grammar.specs.declared.tree.Callee.{Callee}
+use Rattle.cs_grammar.specs.{declared.tree.Callee.Callee, Tree.Expression, Tree.Argument, Tree.set, Tree.call}
 use Rattle.cs_grammar.specs.Renaming.{renamed_expression, renamed_argument}
-use Rattle.cs_grammar.specs.Tree.{Expression, Argument, set, call}
-use Rattle.cs_typed.specs.TypedTree as typed
-use Rattle.cs_typing.proofs.SameRates.{KeepsRates, expression_renamed}
-use Rattle.cs_typing.proofs.SameRates.{call_renamed as call_with_renamed}
+use Rattle.cs_typing.proofs.SameRates.{KeepsRates, expression_renamed, call_renamed as call_with_renamed}
 use Rattle.cs_typing.specs.Known.{Shared}
 use Rattle.cs_udo_meaning.specs.Numbered.{Variables, statement_by}
+use Rattle.cs_typed.specs.TypedTree as typed
 
 module _ {own : List ℕ → List ℕ} (same : KeepsRates own) where
   pub set_renamed : (g : Shared) (v : Variables) (line : ℕ) (x : List ℕ) (e : Expression)

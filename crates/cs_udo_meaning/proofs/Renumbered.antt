@@ -1,52 +1,40 @@
 -- The numbers of shared names: longer lists lead to those whose names they have, and by either an instrument has one
--- life.
-use Rattle.std.proofs.Common.{◌≡◌, ◌∙◌, ℕ, zero, suc, ◌+◌, Bool, cond, true, false, not, ◌||◌, if◌then◌else◌, List, []}
-use Rattle.std.proofs.Common.{◌∷◌, length, map, arith, refl, sym, ap, subst}
-use Rattle.std.specs.Str.{bytes_eq}
-use Rattle.std.proofs.lemmas.Slice.Eq.{bytes_eq-Decides}
-use Rattle.cs_base.specs.Rates.{res_rate}
-use Rattle.cs_base.specs.declared.resource.Rate.{Rate}
-use Rattle.cs_base.specs.declared.resource.Rate.TheVariants as rate
-use Rattle.cs_base.specs.declared.resource.Res.{Res}
-use Rattle.cs_base.specs.declared.resource.Res.TheVariants as res
+use Rattle.std.proofs.Common.{◌≡◌, ◌∙◌, ℕ, zero, suc, ◌+◌, Bool, true, false, not, if◌then◌else◌, List, ◌∷◌, [], length}
+use Rattle.std.proofs.Common.{map, arith, refl, sym, ap, subst}
+use Rattle.std.proofs.lemmas.{Slice.Eq.bytes_eq-Decides, Grind.common_steps}
+use Rattle.cs_base.specs.{Rates.res_rate, declared.resource.Rate.Rate, declared.resource.Res.Res}
 use Rattle.cs_base.specs.declared.spaces.Spaces.{Spaces}
-use Rattle.cs_words.specs.NameSets.{has, place_of}
-use Rattle.cs_words.specs.Names.{name_rate, is_global}
-use Rattle.cs_grammar.specs.declared.tree.Callee.{Callee}
+use Rattle.cs_words.specs.{NameSets.has, NameSets.place_of, Names.name_rate, Names.is_global}
+use Rattle.cs_grammar.specs.{declared.tree.Callee.Callee, WellFormed.WellFormedInstrument}
 use Rattle.cs_grammar.specs.Tree.{Expression, Argument, Statement, set, call, choose, Block, no_stmt, andthen, Arms}
 use Rattle.cs_grammar.specs.Tree.{otherwise, arm, Definition, Instrument}
-use Rattle.cs_grammar.specs.WellFormed.{WellFormedInstrument}
-use Rattle.cs_typed.specs.TypedTree as typed
 use Rattle.cs_typed.specs.declared.tree.Var.{Var as Variable}
 use Rattle.cs_typed.specs.declared.tree.Var.TheVariants.{Local, Global}
-use Rattle.cs_typing.specs.Known.{Shared, of_rate, place_in, global, channel_of, no_names, counts_of}
-use Rattle.cs_typing.specs.Statements.{choice_rate}
-use Rattle.cs_typing.specs.declared.known.Channel.{Channel}
-use Rattle.cs_typing.specs.declared.known.Channel.TheVariants as channel
-use Rattle.cs_ir.specs.Values.{holds}
-use Rattle.cs_ir.specs.Waves.{Wave, held, if_init}
-use Rattle.cs_ir.specs.Worlds.{World}
-use Rattle.cs_meaning.specs.Core as core
-use Rattle.cs_meaning.specs.Initialising as initial
-use Rattle.cs_meaning.specs.Initialising.{going, put_kept, keep}
+use Rattle.cs_typing.specs.Known.{Shared, of_rate, place_in, global, channel_of}
+use Rattle.cs_typing.specs.{Statements.choice_rate, declared.known.Channel.Channel}
+use Rattle.cs_ir.specs.{Values.holds, Waves.Wave, Waves.held, Waves.if_init, Worlds.World}
+use Rattle.cs_meaning.specs.{Initialising.going, Initialising.keep, Notes.value as value_of}
 use Rattle.cs_meaning.specs.Notes.{Note, Path, StatementPlace, next, inside, inside_arm, past_arm, past_stmt, unit_past}
-use Rattle.cs_meaning.specs.Notes.{unit_past_block, unit_past_arms, start, new_note, moved_to, look, assign}
-use Rattle.cs_meaning.specs.Notes.{reg}
-use Rattle.cs_meaning.specs.Notes.{value as value_of}
-use Rattle.cs_meaning.specs.Performing as performing
-use Rattle.cs_meaning.specs.When.{cycle}
+use Rattle.cs_meaning.specs.Notes.{unit_past_block, unit_past_arms, start, new_note, moved_to, look, assign, reg}
+use Rattle.cs_meaning.specs.When.{When, beginning, cycle}
+use Rattle.cs_udo_meaning.specs.{Frames.by_pass, Frames.stmt_done, Numbered.arms_by, Typed.IsNumberedInstrument}
 use Rattle.cs_udo.specs.Expanded.{expanded_instrument}
 use Rattle.cs_udo_meaning.specs.Lives.{Cycle, goes_on, life, life_with_frames, reading}
 use Rattle.cs_udo_meaning.specs.Numbered.{Numbering, Tells, spelled, numbered, expression_by, statement_by, block_by}
-use Rattle.cs_udo_meaning.specs.Numbered.{arms_by}
 use Rattle.cs_udo_meaning.specs.Renumbered.{renumbered, renumbered_cycle, LeadsTo, HasNames}
-use Rattle.cs_udo_meaning.specs.Typed.{IsNumberedInstrument}
-use Rattle.cs_udo_meaning.proofs.Alike.{Alike, AlikeStmt, Agree, units_alike, value_same, keep_same}
-use Rattle.cs_udo_meaning.proofs.Alike.{init_same, perf_same}
-use Rattle.cs_udo_meaning.proofs.Lived.{instrument_means}
+use Rattle.cs_udo_meaning.proofs.Alike.{Alike, AlikeStmt, Agree, units_alike, value_same, keep_same, init_same}
+use Rattle.cs_udo_meaning.proofs.{Alike.perf_same, Lived.instrument_means, Numbers.spelled_tells}
 use Rattle.cs_typing.proofs.Named.{any_named, any_names, any_arguments}
-use Rattle.cs_udo_meaning.proofs.Numbers.{spelled_tells}
 use Rattle.cs_udo_meaning.proofs.Standing.{expression_alike, set_alike, call_alike}
+use Rattle.cs_base.specs.declared.resource.Rate.TheVariants as rate
+use Rattle.cs_base.specs.declared.resource.Res.TheVariants as res
+use Rattle.cs_typed.specs.TypedTree as typed
+use Rattle.cs_typing.specs.declared.known.Channel.TheVariants as channel
+use Rattle.cs_meaning.specs.Core as core
+use Rattle.cs_meaning.specs.Initialising as initial
+use Rattle.cs_meaning.specs.Performing as performing
+
+-- life.
 
 -- ---- from place to place
 
@@ -58,20 +46,11 @@ led (y ∷ hs) names (suc n) = led hs names n
 
 place_none : (names : List (List ℕ)) (x : List ℕ) → has names x ≡ false → place_of names x ≡ length names
 place_none [] x h = refl
-place_none (y ∷ names) x h = by (bytes_eq x y) h (place_none names x)
-  where
-    by : (b : Bool) → (b || has names x) ≡ false → (has names x ≡ false → place_of names x ≡ length names)
-        → cond (not b) (1 + place_of names x) 0 ≡ suc (length names)
-    by true k f = absurd (cc k)
-    by false k f = omega (arith, f k)
+place_none (y ∷ names) x h = grind (arith, common_steps, not, place_none names x)
 
 none_there : (names : List (List ℕ)) (x : List ℕ) → (has names x ≡ true → false ≡ true)
     → length names ≡ place_of names x
-none_there names x h = by (has names x) refl h
-  where
-    by : (b : Bool) → has names x ≡ b → (b ≡ true → false ≡ true) → length names ≡ place_of names x
-    by true e k = absurd (cc (k refl))
-    by false e k = sym (place_none names x e)
+none_there names x h = grind (arith, common_steps, place_none)
 
 one_suc : (n : ℕ) → 1 + n ≡ suc n
 one_suc n = omega arith
@@ -79,13 +58,7 @@ one_suc n = omega arith
 led_place : (hs names : List (List ℕ)) (x : List ℕ) → (has names x ≡ true → has hs x ≡ true)
     → led hs names (place_of hs x) ≡ place_of names x
 led_place [] names x h = none_there names x h
-led_place (y ∷ hs) names x h = by (bytes_eq x y) refl h (led_place hs names x)
-  where
-    by : (b : Bool) → bytes_eq x y ≡ b → (has names x ≡ true → (b || has hs x) ≡ true)
-        → ((has names x ≡ true → has hs x ≡ true) → led hs names (place_of hs x) ≡ place_of names x)
-        → led (y ∷ hs) names (cond (not b) (1 + place_of hs x) 0) ≡ place_of names x
-    by true e k f = ap (place_of names) (sym ((bytes_eq-Decides x y).0 e))
-    by false e k f = ap (led (y ∷ hs) names) (one_suc (place_of hs x)) ∙ f k
+led_place (y ∷ hs) names x h = grind (arith, common_steps, bytes_eq-Decides, not, one_suc, led_place hs names x)
 
 -- ---- from resource to resource
 
@@ -101,13 +74,7 @@ leads h g (res.Table n) = res.Table n
 
 keeps_rate : (h g : Shared) (r : Res) → res_rate (leads h g r) ≡ res_rate r
 keeps_rate h g (res.Gi n) = refl
-keeps_rate h g (res.Gk n) = refl
-keeps_rate h g (res.Ga n) = refl
-keeps_rate h g (res.ZakK n) = refl
-keeps_rate h g (res.ZakA n) = refl
-keeps_rate h g (res.Control n) = refl
-keeps_rate h g (res.Sound n) = refl
-keeps_rate h g (res.Table n) = refl
+keeps_rate h g _ = refl
 
 variable_led : (h g : Shared) (r : Rate) (x : List ℕ)
     → (has (of_rate r g.globals) x ≡ true → has (of_rate r h.globals) x ≡ true)
@@ -178,15 +145,7 @@ module _ {W : Type 0} (to : Res → Res) (g h : Shared) (lead : LeadsTo to h g) 
       λ i. moved_to (o.save (to k) (held o.ksmps (lead.rate k i) a) (e i).world) (e i)
 
   notes_agree : Agree o other Same (λ p q. p ≡ q) (λ t u. t ≡ u)
-  notes_agree = record {
-    parts = λ p q e k. ap (λ r. k ∷ r) e;
-    kept = λ t u e p q d. λ i. (e i).kept (d i);
-    world = λ t u e. ap (λ (z : Note W). z.world) e;
-    looks = looks_same;
-    assigns = assigns_same;
-    keeps = λ t u e p q d z. λ i. put_kept (d i) z (e i);
-    moves = λ t u e x. ap (moved_to x) e;
-  }
+  notes_agree = grind (arith, common_steps, assigns_same, looks_same)
 
   -- a condition, and a statement without statements in it
   abbrev here : Expression → typed.Expression
@@ -216,15 +175,12 @@ module _ {W : Type 0} (to : Res → Res) (g h : Shared) (lead : LeadsTo to h g) 
       call_alike (numbered g number) (numbered h number) same_variable g h same_channel spaces line xs c args
       (any_names Any any xs) (any_arguments Any any args)
 
-  init_alike : (x y : core.Stmt) → AlikeStmt Same x y → (p : StatementPlace) (t : Note W)
-      → initial.init_stmt o p x t ≡ initial.init_stmt other p y t
-  init_alike x y a p t = init_same o to Same (λ q r. q ≡ r) (λ t u. t ≡ u) notes_agree t t refl a p.path p.path refl
-      p.unit
-
-  perf_alike : (x y : core.Stmt) → AlikeStmt Same x y → (p : StatementPlace) (t : Note W)
-      → performing.perf_stmt o p x t ≡ performing.perf_stmt other p y t
-  perf_alike x y a p t = perf_same o to Same (λ q r. q ≡ r) (λ t u. t ≡ u) notes_agree t t refl a p.path p.path refl
-      p.unit
+  plain_same : (w : When) (x y : core.Stmt) → AlikeStmt Same x y → (p : StatementPlace) (t : Note W)
+      → stmt_done w o p x t ≡ stmt_done w other p y t
+  plain_same beginning x y a p t =
+      init_same o to Same (λ q r. q ≡ r) (λ t u. t ≡ u) notes_agree t t refl a p.path p.path refl p.unit
+  plain_same cycle x y a p t =
+      perf_same o to Same (λ q r. q ≡ r) (λ t u. t ≡ u) notes_agree t t refl a p.path p.path refl p.unit
 
   condition_kept : (p : Path) (c : Expression) (t : Note W) → keep o p (here c) t ≡ keep other p (there c) t
   condition_kept p c t = keep_same o to Same (λ q r. q ≡ r) (λ t u. t ≡ u) notes_agree t t refl (same_expression c) p p
@@ -273,83 +229,71 @@ module _ {W : Type 0} (to : Res → Res) (g h : Shared) (lead : LeadsTo to h g) 
   past_arm_same : (b : Block) (p : StatementPlace) → past_arm p (block_here b) ≡ past_arm p (block_there b)
   past_arm_same b p = λ i. record { path = next p.path; unit = block_units_same b p.unit i }
 
-  mutual
-    init_stmt_same : (x : Statement) (p : StatementPlace) (t : Note W)
-        → initial.init_stmt o p (stmt_here x) t ≡ initial.init_stmt other p (stmt_there x) t
-    init_stmt_same (set line x e) p t = init_alike _ _ (same_set line x e) p t
-    init_stmt_same (call line xs c args) p t = init_alike _ _ (same_call line xs c args) p t
-    init_stmt_same (choose line list) p t =
-        λ i. going o t (if_init (choice_rate list) (init_first_same list (inside p) t i)
-        (init_all_same list (inside p) t i))
+  abbrev block_does : When → World W → StatementPlace → core.Block → Note W → Note W
+  block_does w k p b t = by_pass w (initial.init_block k p b t) (performing.perf_block k p b t)
 
-    init_block_same : (b : Block) (p : StatementPlace) (t : Note W)
-        → initial.init_block o p (block_here b) t ≡ initial.init_block other p (block_there b) t
-    init_block_same no_stmt p t = refl
-    init_block_same (andthen x rest) p t =
-        let now = initial.init_stmt o p (stmt_here x) t in
-        ap (λ q. initial.init_block o q (block_here rest) now) (past_same x p)
-        ∙ ap (λ z. initial.init_block o (past_stmt p (stmt_there x)) (block_here rest) z) (init_stmt_same x p t)
-        ∙ init_block_same rest (past_stmt p (stmt_there x)) (initial.init_stmt other p (stmt_there x) t)
+  block_more : (w : When) (k : World W) (p : StatementPlace) (x : core.Stmt) (b : core.Block) (t : Note W)
+      → block_does w k (past_stmt p x) b (stmt_done w k p x t) ≡ block_does w k p (core.andthen x b) t
+  block_more beginning k p x b t = refl
+  block_more cycle k p x b t = refl
 
-    init_first_same : (list : Arms) (p : StatementPlace) (t : Note W)
-        → initial.init_first o p (arms_here list) t ≡ initial.init_first other p (arms_there list) t
-    init_first_same (otherwise b) p t = init_block_same b (inside p) t
-    init_first_same (arm c b rest) p t =
-        let q = inside_arm p in
-        let at = 0 ∷ p.path in
-        let now = keep other at (there c) t in
-        ap (λ (z : Note W). if holds (z.kept at) then initial.init_block o q (block_here b) z
-        else initial.init_first o (past_arm p (block_here b)) (arms_here rest) z) (condition_kept at c t)
-        ∙ ap (λ z. if holds (now.kept at) then initial.init_block o q (block_here b) now
-        else initial.init_first o z (arms_here rest) now) (past_arm_same b p)
-        ∙ λ i. if holds (now.kept at) then init_block_same b q now i
-        else init_first_same rest (past_arm p (block_there b)) now i
-
-    init_all_same : (list : Arms) (p : StatementPlace) (t : Note W)
-        → initial.init_all o p (arms_here list) t ≡ initial.init_all other p (arms_there list) t
-    init_all_same (otherwise b) p t = init_block_same b (inside p) t
-    init_all_same (arm c b rest) p t =
-        let q = inside_arm p in
-        let at = 0 ∷ p.path in
-        let now = keep other at (there c) t in
-        let done = initial.init_block other q (block_there b) now in
-        ap (λ z. going o t (initial.init_all o (past_arm p (block_here b)) (arms_here rest)
-        (initial.init_block o q (block_here b) z))) (condition_kept at c t)
-        ∙ ap (λ z. going o t (initial.init_all o z (arms_here rest) (initial.init_block o q (block_here b) now)))
-        (past_arm_same b p)
-        ∙ ap (λ z. going o t (initial.init_all o (past_arm p (block_there b)) (arms_here rest) z))
-        (init_block_same b q now)
-        ∙ ap (λ z. going o t z) (init_all_same rest (past_arm p (block_there b)) done)
-
-  mutual
-    perf_stmt_same : (x : Statement) (p : StatementPlace) (t : Note W)
-        → performing.perf_stmt o p (stmt_here x) t ≡ performing.perf_stmt other p (stmt_there x) t
-    perf_stmt_same (set line x e) p t = perf_alike _ _ (same_set line x e) p t
-    perf_stmt_same (call line xs c args) p t = perf_alike _ _ (same_call line xs c args) p t
-    perf_stmt_same (choose line list) p t = perf_arms_same list (inside p) t
-
-    perf_block_same : (b : Block) (p : StatementPlace) (t : Note W)
-        → performing.perf_block o p (block_here b) t ≡ performing.perf_block other p (block_there b) t
-    perf_block_same no_stmt p t = refl
-    perf_block_same (andthen x rest) p t =
-        let now = performing.perf_stmt o p (stmt_here x) t in
-        ap (λ q. performing.perf_block o q (block_here rest) now) (past_same x p)
-        ∙ ap (λ z. performing.perf_block o (past_stmt p (stmt_there x)) (block_here rest) z) (perf_stmt_same x p t)
-        ∙ perf_block_same rest (past_stmt p (stmt_there x)) (performing.perf_stmt other p (stmt_there x) t)
-
-    perf_arms_same : (list : Arms) (p : StatementPlace) (t : Note W)
+  record ArmsSame (list : Arms) (p : StatementPlace) : Type 0 where
+    pub first : (t : Note W) → initial.init_first o p (arms_here list) t ≡ initial.init_first other p
+        (arms_there list) t
+    pub all : (t : Note W) → initial.init_all o p (arms_here list) t ≡ initial.init_all other p (arms_there list) t
+    pub now : (t : Note W)
         → performing.perf_arms o p (arms_here list) t ≡ performing.perf_arms other p (arms_there list) t
-    perf_arms_same (otherwise b) p t = perf_block_same b (inside p) t
-    perf_arms_same (arm c b rest) p t =
+
+  mutual
+    stmt_same : (w : When) (x : Statement) (p : StatementPlace) (t : Note W)
+        → stmt_done w o p (stmt_here x) t ≡ stmt_done w other p (stmt_there x) t
+    stmt_same w (set line x e) p t = plain_same w _ _ (same_set line x e) p t
+    stmt_same w (call line xs c args) p t = plain_same w _ _ (same_call line xs c args) p t
+    stmt_same beginning (choose line list) p t =
+        let arms = arms_same list (inside p) in
+        λ i. going o t (if_init (choice_rate list) (arms.first t i) (arms.all t i))
+    stmt_same cycle (choose line list) p t = (arms_same list (inside p)).now t
+
+    block_same : (w : When) (b : Block) (p : StatementPlace) (t : Note W)
+        → block_does w o p (block_here b) t ≡ block_does w other p (block_there b) t
+    block_same beginning no_stmt p t = refl
+    block_same cycle no_stmt p t = refl
+    block_same w (andthen x rest) p t =
+        sym (block_more w o p (stmt_here x) (block_here rest) t)
+        ∙ (λ i. block_does w o (past_same x p i) (block_here rest) (stmt_same w x p t i))
+        ∙ block_same w rest (past_stmt p (stmt_there x)) (stmt_done w other p (stmt_there x) t)
+        ∙ block_more w other p (stmt_there x) (block_there rest) t
+
+    arms_same : (list : Arms) (p : StatementPlace) → ArmsSame list p
+    arms_same (otherwise b) p = record {
+      first = block_same beginning b (inside p);
+      all = block_same beginning b (inside p);
+      now = block_same cycle b (inside p);
+    }
+    arms_same (arm c b rest) p =
         let q = inside_arm p in
         let at = 0 ∷ p.path in
-        let now = value_of other t cycle at (there c) in
-        ap (λ (z : Wave). if holds (z 0) then performing.perf_block o q (block_here b) t
-        else performing.perf_arms o (past_arm p (block_here b)) (arms_here rest) t) (condition_now at c t)
-        ∙ ap (λ z. if holds (now 0) then performing.perf_block o q (block_here b) t
-        else performing.perf_arms o z (arms_here rest) t) (past_arm_same b p)
-        ∙ λ i. if holds (now 0) then perf_block_same b q t i
-        else perf_arms_same rest (past_arm p (block_there b)) t i
+        let kept = λ (t : Note W). keep other at (there c) t in
+        let more : ArmsSame rest (past_arm p (block_there b)) = arms_same rest (past_arm p (block_there b)) in
+        record {
+          first = λ t. (λ i.
+              if holds ((condition_kept at c t i).kept at)
+              then initial.init_block o q (block_here b) (condition_kept at c t i)
+              else initial.init_first o (past_arm_same b p i) (arms_here rest) (condition_kept at c t i))
+              ∙ λ i.
+              if holds ((kept t).kept at) then block_same beginning b q (kept t) i else more.first (kept t) i;
+          all = λ t. (λ i.
+              going o t (initial.init_all o (past_arm_same b p i) (arms_here rest)
+              (initial.init_block o q (block_here b) (condition_kept at c t i))))
+              ∙ (λ i. going o t (initial.init_all o (past_arm p (block_there b)) (arms_here rest)
+              (block_same beginning b q (kept t) i)))
+              ∙ λ i. going o t (more.all (initial.init_block other q (block_there b) (kept t)) i);
+          now = λ t. (λ i.
+              if holds (condition_now at c t i 0) then performing.perf_block o q (block_here b) t
+              else performing.perf_arms o (past_arm_same b p i) (arms_here rest) t)
+              ∙ λ i.
+              if holds (value_of other t cycle at (there c) 0) then block_same cycle b q t i else more.now t i;
+        }
 
 -- ---- lives
 
@@ -366,7 +310,7 @@ module _ {W : Type 0} (to : Res → Res) (g h : Shared) (lead : LeadsTo to h g) 
   cycles_same (c ∷ more) t =
       let moved = moved_to (c.others t.world) t in
       ap (λ l. t.world ∷ l)
-      (ap (goes_on (body_by g number spaces b) more) (perf_block_same to g h lead number spaces c.world b start moved)
+      (ap (goes_on (body_by g number spaces b) more) (block_same to g h lead number spaces c.world cycle b start moved)
       ∙ cycles_same more (performing.perf_block (renumbered to c.world) start (body_by h number spaces b) moved))
 
   lives_same : (o : World W) (cycles : List (Cycle W)) (x : W)
@@ -374,7 +318,7 @@ module _ {W : Type 0} (to : Res → Res) (g h : Shared) (lead : LeadsTo to h g) 
       ≡ life (renumbered to o) (body_by h number spaces b) (map (renumbered_cycle to) cycles) x
   lives_same o cycles x =
       ap (goes_on (body_by g number spaces b) cycles)
-      (init_block_same to g h lead number spaces o b start (new_note x))
+      (block_same to g h lead number spaces o beginning b start (new_note x))
       ∙ cycles_same cycles (initial.init_block (renumbered to o) start (body_by h number spaces b) (new_note x))
 
 -- the expanded instrument, typed by these lists
@@ -382,7 +326,6 @@ abbrev made_by : List Definition → Shared → Instrument → typed.Instrument
 made_by ds g i = record {
   line = i.line;
   numbers = i.numbers;
-  locals = counts_of no_names;
   body = block_by g (numbered g spelled) (expanded_instrument ds i).body;
 }
 

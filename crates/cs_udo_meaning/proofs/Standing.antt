@@ -1,48 +1,33 @@
 -- A note that stands as one with frames does: what a statement of a frame does to the one and to the other.
-use Rattle.std.proofs.Common.{◌≡◌, ◌∙◌, ℕ, ℤ, ◌==◌, Bool, true, false, if◌then◌else◌, List, [], ◌∷◌, map, Option, Some}
+use Rattle.std.proofs.lemmas.{Grind.common_steps, Bool.and_parts, Bool.Decides.nat_tests, Slice.Eq.bytes_eq-Decides}
+use Rattle.std.proofs.Common.{◌≡◌, ◌∙◌, ℕ, ℤ, ◌==◌, Bool, true, false, if◌then◌else◌, List, ◌∷◌, map, Option, Some, []}
 use Rattle.std.proofs.Common.{None, arith, refl, sym, ap, subst}
 use Rattle.std.specs.Str.{bytes_eq as same_path}
-use Rattle.std.proofs.lemmas.Bool.{and_parts}
-use Rattle.std.proofs.lemmas.Bool.Decides.{nat_tests}
-use Rattle.std.proofs.lemmas.Slice.Eq.{bytes_eq-Decides}
 use Rattle.cs_base.proofs.Tests.{some_is}
-use Rattle.cs_base.specs.Rates.{res_rate}
-use Rattle.cs_base.specs.declared.resource.Rate.{Rate}
-use Rattle.cs_base.specs.declared.resource.Rate.TheVariants as rate
-use Rattle.cs_base.specs.declared.resource.Res.{Res}
-use Rattle.cs_base.specs.declared.spaces.Spaces.{Spaces}
-use Rattle.cs_words.specs.Catalogue.{row_of}
-use Rattle.cs_words.specs.Names.{name_rate, is_global}
-use Rattle.cs_grammar.specs.declared.tree.Callee.{Callee}
-use Rattle.cs_grammar.specs.declared.tree.Callee.TheVariants as callee
+use Rattle.cs_base.specs.{declared.resource.Rate.Rate, declared.resource.Res.Res, declared.spaces.Spaces.Spaces}
+use Rattle.cs_words.specs.{Catalogue.row_of, Names.name_rate, Names.is_global}
+use Rattle.cs_grammar.specs.{declared.tree.Callee.Callee, Tree.set, Tree.call}
 use Rattle.cs_grammar.specs.Tree.{Expression, number, var, field, head, neg, pair, pick, apply, Argument, value, text}
-use Rattle.cs_grammar.specs.Tree.{set, call}
 use Rattle.cs_typed.specs.declared.tree.Var.{Var as Variable}
 use Rattle.cs_typed.specs.declared.tree.Var.TheVariants.{Local, Global}
-use Rattle.cs_typing.specs.Calls.{channel_use, call_rate}
-use Rattle.cs_typing.specs.Expressions.{rate_of}
+use Rattle.cs_typing.specs.{Calls.channel_use, Calls.call_rate, Expressions.rate_of, declared.known.Channel.Channel}
 use Rattle.cs_typing.specs.Known.{Shared, place_in, global, channel_of}
-use Rattle.cs_typing.specs.declared.known.Channel.{Channel}
-use Rattle.cs_typing.specs.declared.known.Channel.TheVariants as channel
 use Rattle.cs_ir.proofs.RegisterKinds.{kind_is, local_rate, same_reg_here}
-use Rattle.cs_ir.specs.Machine.{same_reg, put}
-use Rattle.cs_ir.specs.Registers.{local, rate_of as kind_rate, same_kind}
-use Rattle.cs_ir.specs.Waves.{Wave, held}
-use Rattle.cs_ir.specs.Worlds.{World}
-use Rattle.cs_meaning.specs.Core.{core_stmt}
-use Rattle.cs_meaning.specs.Initialising.{put_kept}
+use Rattle.cs_ir.specs.{Machine.same_reg, Machine.put, Waves.Wave, Waves.held, Worlds.World}
+use Rattle.cs_meaning.specs.{Core.core_stmt, Initialising.put_kept}
 use Rattle.cs_meaning.specs.Notes.{Note, Path, reg, look, assign}
-use Rattle.cs_udo_meaning.specs.Frames.{Framed, seen_from, put_back}
+use Rattle.cs_udo_meaning.specs.{Frames.Framed, Frames.seen_from, Frames.put_back, Numbered.statement_by}
 use Rattle.cs_udo_meaning.specs.Numbered.{Numbering, Tells, Variables, numbered, expression_by, arguments_by}
-use Rattle.cs_udo_meaning.specs.Numbered.{statement_by}
 use Rattle.cs_udo_meaning.specs.Stands.{own_name, Fits, Way, IsClear, StandsForFrames}
 use Rattle.cs_udo_meaning.proofs.Alike.{Alike, alike_number, alike_var, alike_field, alike_head, alike_neg, alike_pair}
 use Rattle.cs_udo_meaning.proofs.Alike.{alike_pick, alike_apply, AlikeVariables, no_variable, more_variables}
 use Rattle.cs_udo_meaning.proofs.Alike.{AlikeArguments, no_argument, more_values, more_texts, AlikeStmt, alike_set}
-use Rattle.cs_udo_meaning.proofs.Alike.{alike_empty, core_alike, Agree}
+use Rattle.cs_udo_meaning.proofs.{Alike.alike_empty, Alike.core_alike, Alike.Agree, Paths.inward}
 use Rattle.cs_udo_meaning.proofs.Fresh.{own_shared, own_rate, own_local, own_apart}
 use Rattle.cs_typing.proofs.Named.{Named, NamedAll, NamedArguments}
-use Rattle.cs_udo_meaning.proofs.Paths.{inward}
+use Rattle.cs_base.specs.declared.resource.Rate.TheVariants as rate
+use Rattle.cs_grammar.specs.declared.tree.Callee.TheVariants as callee
+use Rattle.cs_typing.specs.declared.known.Channel.TheVariants as channel
 
 equal_tests : (i j : ℕ) → (i == j) ≡ true → i ≡ j
 equal_tests i j h = grind (arith, nat_tests)
@@ -59,11 +44,7 @@ same_truth false true p q = q refl
 same_truth false false p q = refl
 
 same_local_is : (r s : Rate) (n m : ℕ) → same_reg (reg r n) (reg s m) ≡ true → (r ≡ s) × (n ≡ m)
-same_local_is r s n m h =
-    let parts = and_parts (same_kind (local r) (local s)) (n == m) h in (
-      sym (local_rate r) ∙ ap kind_rate (kind_is (local r) (local s) parts.0) ∙ local_rate s,
-      equal_tests n m parts.1,
-    )
+same_local_is r s n m h = grind (arith, common_steps, and_parts, equal_tests, kind_is, local_rate)
 
 same_local_here : (r s : Rate) (n m : ℕ) → r ≡ s → n ≡ m → same_reg (reg r n) (reg s m) ≡ true
 same_local_here r s n m e f =
@@ -254,12 +235,7 @@ module _ {W : Type 0} (o : World W) (way : Way) (clear : IsClear way) (flat own 
 
   assigned : (t s : Note W) → View t s → (v w : Variable) → SameVariable flat own f v w → (a : Wave)
       → View (assign o v a t) (assign o w a s)
-  assigned t s h _ _ (both_shared g) a = record {
-    mine = h.mine;
-    others = h.others;
-    kept = h.kept;
-    world = ap (o.save g (held o.ksmps (res_rate g) a)) h.world;
-  }
+  assigned t s h _ _ (both_shared g) a = grind (arith, common_steps)
   assigned t s h _ _ (both_own x e fits) a = record {
     mine = λ y ey fy. mine_put t s h x y e ey fits fy (held o.ksmps (name_rate x) a);
     others = λ g q there apart y ey fy.

@@ -1,24 +1,22 @@
 -- The typed form of an orchestra without a fault is that of what is known at the end of its text.
-use Rattle.std.proofs.Common.{◌≡◌, ◌∙◌, ℕ, Bool, true, false, nat_lt, if◌then◌else◌, List, [], ◌∷◌, None, refl, ap}
+use Rattle.std.proofs.Common.{◌≡◌, ◌∙◌, ℕ, nat_lt, List, ◌∷◌, None, refl, [], arith}
 use Rattle.std.specs.List.{AllZip}
 use Rattle.cs_base.proofs.Tests.{both_none}
 use Rattle.cs_grammar.specs.Tree.{Block, no_stmt, andthen, Instrument, Orchestra}
 use Rattle.cs_typed.specs.Places.{outside, inside}
-use Rattle.cs_typed.specs.TypedTree as typed
 use Rattle.cs_typing.specs.Known.{Shared, KnownHere, known_with}
-use Rattle.cs_typing.specs.Settings.{header, settings_fault}
+use Rattle.cs_typing.specs.{Settings.header, Settings.settings_fault, Typing.typed_instruments, Typing.typed_of}
 use Rattle.cs_typing.specs.Statements.{block_fault, known_block, typed_block}
-use Rattle.cs_typing.specs.Typing.{line_of, before, from, Item, alone, body, items, entered, known_item, known_items}
-use Rattle.cs_typing.specs.Typing.{item_fault, items_fault, first_known, type_fault, typed_outside, typed_instrument}
-use Rattle.cs_typing.specs.Typing.{typed_instruments, typed_of}
-use Rattle.cs_udo_meaning.specs.Numbered.{Numbering, Variables, numbered, statement_by, block_by}
+use Rattle.cs_typing.specs.Typing.{before, from, Item, alone, body, items, entered, known_item, known_items, item_fault}
+use Rattle.cs_typing.specs.Typing.{items_fault, first_known, type_fault, typed_outside, typed_instrument}
+use Rattle.cs_udo_meaning.specs.Numbered.{Numbering, Variables, numbered, block_by}
 use Rattle.cs_udo_meaning.specs.Typed.{shared_of, IsNumbered, IsNumberedInstrument}
-use Rattle.cs_typing.proofs.Joined.{then_nothing}
+use Rattle.cs_typing.proofs.{Joined.then_nothing, KnownLater.known_block_later, Later.table_stays}
 use Rattle.cs_typing.proofs.KnownLater.{SharedGoesOn, shared_stays, shared_further, Later, later_same, later_further}
-use Rattle.cs_typing.proofs.KnownLater.{known_block_later}
 use Rattle.cs_udo_meaning.proofs.KnownOn.{HasPlaces, block_same}
-use Rattle.cs_typing.proofs.Later.{table_stays}
 use Rattle.cs_udo_meaning.proofs.Numbers.{number_in, number_places, number_tells}
+use Rattle.std.proofs.lemmas.Grind.{common_steps}
+use Rattle.cs_typed.specs.TypedTree as typed
 
 item_later : (n : KnownHere) (x : Item) → Later n (known_item n x)
 item_later n (alone b) = known_block_later n b
@@ -75,15 +73,7 @@ instruments_numbered channels n b (i ∷ rest) g h l =
 cut : (g : Shared) (v : Variables) (line : ℕ) (b : Block)
     → typed.then_block (block_by g v (before line b)) (block_by g v (from line b)) ≡ block_by g v b
 cut g v line no_stmt = refl
-cut g v line (andthen x rest) = by (nat_lt (line_of x) line) (cut g v line rest)
-  where
-    by : (c : Bool)
-        → typed.then_block (block_by g v (before line rest)) (block_by g v (from line rest)) ≡ block_by g v rest
-        → typed.then_block (block_by g v (if c then andthen x (before line rest) else no_stmt))
-        (block_by g v (if c then from line rest else andthen x rest))
-        ≡ typed.andthen (statement_by g v x) (block_by g v rest)
-    by true h = ap (typed.andthen (statement_by g v x)) h
-    by false h = refl
+cut g v line (andthen x rest) = grind (arith, common_steps, nat_lt, cut g v line rest)
 
 outside_same : (channels : ℕ) (n : KnownHere) (b : Block) (list : List Instrument) (m : KnownHere) (s : Numbering)
     → items_fault channels n (items b list) ≡ None

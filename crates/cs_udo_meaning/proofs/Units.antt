@@ -1,20 +1,15 @@
 -- The numbers of the units of a note with frames ascend in the order of the text.
-use Rattle.std.proofs.Common.{ℕ, ◌+◌, ◌≤◌, ◌<◌, Bool, true, false, if◌then◌else◌, List, [], ◌∷◌, ◌++◌, length}
-use Rattle.std.proofs.Common.{Option, Some, None, arith, subst}
+use Rattle.std.proofs.Common.{ℕ, ◌+◌, ◌≤◌, ◌<◌, List, ◌∷◌, ◌++◌, length, Option, Some, None, arith, subst, []}
 use Rattle.std.specs.List.{All, AllPairs}
-use Rattle.std.specs.Option.{option_or}
-use Rattle.std.specs.Str.{bytes_eq}
-use Rattle.std.proofs.lemmas.List.Elements.{All-cons, All-nil}
-use Rattle.std.proofs.lemmas.List.Kept.{AllPairs-cons}
-use Rattle.cs_grammar.specs.declared.tree.Callee.{Callee}
-use Rattle.cs_grammar.specs.declared.tree.Callee.TheVariants as callee
+use Rattle.std.proofs.lemmas.{List.Elements.All-cons, List.Elements.All-nil, List.Kept.AllPairs-cons}
 use Rattle.cs_grammar.specs.Tree.{Statement, set, call, choose, Block, no_stmt, andthen, Arms, otherwise, arm}
 use Rattle.cs_grammar.specs.Tree.{Definition}
-use Rattle.cs_meaning.specs.Core as core
 use Rattle.cs_udo.specs.Expanded.{whole_body}
-use Rattle.cs_udo_meaning.specs.Frames.{Reading, read, Action, Actions, no_actions, action_of, unit_of, units_of_call}
-use Rattle.cs_udo_meaning.specs.Frames.{units_of, units_of_block, units_of_arms, action, acting, acting_all}
+use Rattle.cs_udo_meaning.specs.Frames.{Reading, read, Action, Actions, action_of, unit_of, units_of_call, units_of}
+use Rattle.cs_udo_meaning.specs.Frames.{units_of_block, units_of_arms, actions_of, action, no_actions}
+use Rattle.cs_udo.proofs.EachDefined.{Of, OfEach, of_called, of_none, all_more}
 use Rattle.cs_udo_meaning.proofs.Paths.{further}
+use Rattle.cs_meaning.specs.Core as core
 
 -- ---- numbers that ascend within a span
 
@@ -53,40 +48,24 @@ none_rise : (n : ℕ) → n ≤ n + 0
 none_rise n = omega arith
 
 unit_rises : (n : ℕ) (s : core.Stmt) → Rise n (unit_of n s)
-unit_rises n (core.set r v e) = none_rise n
 unit_rises n (core.unit r vs o k xs is) = (omega arith, omega arith)
-unit_rises n (core.zak r vs o k xs) = none_rise n
-unit_rises n (core.store r k es is) = none_rise n
-unit_rises n (core.out r es) = none_rise n
-unit_rises n (core.out_at r es) = none_rise n
-unit_rises n (core.ask es) = none_rise n
-unit_rises n (core.turnoff r) = none_rise n
-unit_rises n core.nothing = none_rise n
-unit_rises n (core.choose r list) = none_rise n
+unit_rises n _ = none_rise n
 
 -- ---- the units of statements
 
 module _ {W : Type 0} (m : Reading W) where
-  abbrev pub Rising : Option (Action W) → Type 0
-  Rising None = Unit {0}
-  Rising (Some a) = (n : ℕ) → Rise n (a.units m n)
+  abbrev pub Rising : Action W → Type 0
+  Rising a = (n : ℕ) → Rise n (a.units m n)
 
-  pub record AllRising (env : Actions W) : Type 0 where
-    pub each : (name : List ℕ) → Rising (env name)
-
-  called_rising : (env : Actions W) → AllRising env → (c : Callee) → Rising (action_of env c)
-  called_rising env k (callee.Opcode o) = tt
-  called_rising env k (callee.Name name) = k.each name
-
-  called_rises : (n : ℕ) (x : Statement) (a : Option (Action W)) → Rising a → Rise n (units_of_call m n x a)
+  called_rises : (n : ℕ) (x : Statement) (a : Option (Action W)) → Of Rising a → Rise n (units_of_call m n x a)
   called_rises n x None h = unit_rises n (read m x)
   called_rises n x (Some a) h = h n
 
-  module _ (env : Actions W) (k : AllRising env) where
+  module _ (env : Actions W) (k : OfEach Rising env) where
     mutual
       rises : (n : ℕ) (x : Statement) → Rise n (units_of m env n x)
       rises n (set line x e) = none_rise n
-      rises n (call line xs c args) = called_rises n (call line xs c args) (action_of env c) (called_rising env k c)
+      rises n (call line xs c args) = called_rises n (call line xs c args) (action_of env c) (of_called Rising env k c)
       rises n (choose line list) = arms_rise n list
 
       block_rises : (n : ℕ) (b : Block) → Rise n (units_of_block m env n b)
@@ -101,22 +80,10 @@ module _ {W : Type 0} (m : Reading W) where
           let one = units_of_block m env n b in
           rise_on n one (units_of_arms m env (n + length one) rest) (block_rises n b) (arms_rise (n + length one) rest)
 
-    pub units_differ : (n : ℕ) (b : Block) → AllPairs (λ f g. f < g) (units_of_block m env n b)
-    units_differ n b =
-        let list = units_of_block m env n b in ascending n (n + length list) list (block_rises n b)
-
-  acting_rises : (env : Actions W) → AllRising env → (d : Definition) → AllRising (acting env d)
-  acting_rises env k d = record { each = λ name. by (env name) (k.each name) (bytes_eq name d.name) }
-    where
-      by : (a : Option (Action W)) → Rising a → (b : Bool)
-          → Rising (option_or a (if b then Some (action env d) else None))
-      by None h true = λ n. block_rises env k n (whole_body d)
-      by None h false = tt
-      by (Some a) h b = h
-
-  pub all_rise : (env : Actions W) → AllRising env → (ds : List Definition) → AllRising (acting_all env ds)
-  all_rise env k [] = k
-  all_rise env k (d ∷ ds) = all_rise (acting env d) (acting_rises env k d) ds
-
-  pub nothing_rises : AllRising no_actions
-  nothing_rises = record { each = λ name. tt }
+  pub units_differ : (ds : List Definition) (n : ℕ) (b : Block)
+      → AllPairs (λ f g. f < g) (units_of_block m (actions_of W ds) n b)
+  units_differ ds n b =
+      let list = units_of_block m (actions_of W ds) n b in
+      ascending n (n + length list) list
+      (block_rises (actions_of W ds) (all_more Rising action
+      (λ env k d n. block_rises env k n (whole_body d)) no_actions (of_none Rising) ds) n b)

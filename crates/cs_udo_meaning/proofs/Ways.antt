@@ -1,23 +1,21 @@
 -- The way from an expanded text to the text as it was written: where its statements and their parts stand there.
-use Rattle.std.proofs.Common.{◌≡◌, ◌∙◌, ℕ, zero, suc, ◌+◌, Bool, true, false, if◌then◌else◌, List, [], ◌∷◌, ◌++◌}
-use Rattle.std.proofs.Common.{length, Option, Some, None, ◌⊎◌, inl, inr, arith, refl, sym, ap}
-use Rattle.std.specs.Option.{option_or}
-use Rattle.std.specs.Str.{bytes_eq}
+use Rattle.std.proofs.Common.{◌≡◌, ◌∙◌, ℕ, zero, suc, ◌+◌, Bool, true, false, if◌then◌else◌, List, ◌∷◌, ◌++◌, length}
+use Rattle.std.proofs.Common.{[], Option, Some, None, ◌⊎◌, inl, inr, arith, refl, sym, ap}
+use Rattle.std.specs.{Option.option_or, Str.bytes_eq}
 use Rattle.std.proofs.Math.Logic.{⊎_elim}
 use Rattle.std.proofs.lemmas.Option.{none-some}
 use Rattle.cs_base.proofs.Tests.{some_is}
-use Rattle.cs_grammar.specs.declared.tree.Callee.{Callee}
-use Rattle.cs_grammar.specs.declared.tree.Callee.TheVariants as callee
-use Rattle.cs_grammar.specs.Tree.{Argument, value, text, Statement, set, call, choose, Block, no_stmt, andthen, Arms}
-use Rattle.cs_grammar.specs.Tree.{otherwise, arm, Definition}
+use Rattle.cs_grammar.specs.{declared.tree.Callee.Callee, Tree.otherwise, Tree.arm, Tree.Definition}
+use Rattle.cs_grammar.specs.Tree.{Argument, value, Statement, set, call, choose, Block, no_stmt, andthen, Arms}
 use Rattle.cs_meaning.specs.Notes.{Path, next}
 use Rattle.cs_udo.specs.Expanded.{Template, Opcodes, no_opcodes, defined, after_called, after, after_block, after_arms}
 use Rattle.cs_udo.specs.Expanded.{whole_body, template, defining, defining_all}
 use Rattle.cs_udo_meaning.specs.Frames.{Action, Actions, no_actions, action_of, values_in, frames_of_call, frames_of}
-use Rattle.cs_udo_meaning.specs.Frames.{frames_of_block, frames_of_arms, keepers_of_copies, keepers_of_call}
-use Rattle.cs_udo_meaning.specs.Frames.{keepers_of, keepers_of_block, keepers_of_arms, action, acting, acting_all}
-use Rattle.cs_udo_meaning.proofs.Paths.{inward, inward_twice, same_steps, Inside, Beyond, beyond_whole}
-use Rattle.cs_udo_meaning.proofs.Paths.{first_beyond, next_beyond, next_apart, further, Each, each_of, each_joined}
+use Rattle.cs_udo_meaning.specs.Frames.{frames_of_block, frames_of_arms, keepers_of_copies, keepers_of_call, keepers_of}
+use Rattle.cs_udo_meaning.specs.Frames.{keepers_of_block, keepers_of_arms, action, acting, acting_all}
+use Rattle.cs_udo_meaning.proofs.Paths.{inward, inward_twice, same_steps, Inside, Beyond, beyond_whole, first_beyond}
+use Rattle.cs_udo_meaning.proofs.Paths.{next_beyond, next_apart, further, Each, each_of, each_joined}
+use Rattle.cs_grammar.specs.declared.tree.Callee.TheVariants as callee
 
 -- ---- where paths lead that go inward from a place of the expanded text
 
@@ -125,15 +123,12 @@ last_within P n h = alone_within P (parts n nowhere) (part_added P n nowhere h)
 
 copies_add : (k : ℕ) (r : Path) (xs : List (List ℕ)) (args : List Argument) (behind : Leads)
     → Adds (Beyond k r) behind (copies_lead (k ∷ r) xs args behind)
-copies_add k r [] [] behind = nothing_added (Beyond k r) behind
-copies_add k r [] (a ∷ args) behind = nothing_added (Beyond k r) behind
-copies_add k r (x ∷ xs) [] behind = nothing_added (Beyond k r) behind
-copies_add k r (x ∷ xs) (text t ∷ args) behind = nothing_added (Beyond k r) behind
 copies_add k r (x ∷ xs) (value e ∷ args) behind =
     let more = copies_lead (suc k ∷ r) xs args behind in
     let own = parts (alike (k ∷ r)) nowhere in
     one_more k r behind more (parts own more) (copies_add (suc k) r xs args behind)
     (part_added (Inside (k ∷ r)) own more (last_within (Inside (k ∷ r)) (alike (k ∷ r)) (alike_within (k ∷ r))))
+copies_add k r _ _ behind = nothing_added (Beyond k r) behind
 
 -- ---- to each part of what keeps values something leads
 
@@ -187,16 +182,13 @@ alike_kept q a = part_kept (alike q) a (q ∷ []) (alike_whole q, tt)
 
 copies_kept : (q : Path) (xs : List (List ℕ)) (args : List Argument) (behind : Leads)
     → Keeps behind (copies_lead q xs args behind) (keepers_of_copies q xs args)
-copies_kept q [] [] behind = nothing_kept behind
-copies_kept q [] (a ∷ args) behind = nothing_kept behind
-copies_kept q (x ∷ xs) [] behind = nothing_kept behind
-copies_kept q (x ∷ xs) (text t ∷ args) behind = nothing_kept behind
 copies_kept q (x ∷ xs) (value e ∷ args) behind =
     let more = copies_lead (next q) xs args behind in
     let own = parts (alike q) nowhere in
     both_kept behind more (parts own more) (q ∷ []) (keepers_of_copies (next q) xs args)
     (inner_kept own more (q ∷ []) (alike_kept q nowhere).each)
     (copies_kept (next q) xs args behind)
+copies_kept q _ _ behind = nothing_kept behind
 
 -- ---- what a defined opcode is in both texts
 
@@ -210,35 +202,30 @@ pub record Pair {W : Type 0} (t : Template) (a : Action W) : Type 0 where
   pub adds : (p : Path) (behind : Leads) → Adds (Inside (1 ∷ p)) behind (leads p behind)
   pub keeps : (p : Path) (behind : Leads) → Keeps behind (leads p behind) (a.keepers p)
 
-abbrev pub PairIf : {W : Type 0} → Option Template → Option (Action W) → Type 0
-PairIf None None = Unit {0}
-PairIf None (Some a) = ⊥
-PairIf (Some t) None = ⊥
-PairIf (Some t) (Some a) = Pair t a
+-- what is defined in both texts, or in neither
+pub data PairIf {W : Type 0} : Option Template → Option (Action W) → Type 0 where
+  neither : PairIf None None
+  both : (t : Template) (a : Action W) → Pair t a → PairIf (Some t) (Some a)
 
 pub record AllPair {W : Type 0} (opcodes : Opcodes) (env : Actions W) : Type 0 where
   pub each : (name : List ℕ) → PairIf (opcodes name) (env name)
 
 abbrev pub called_pair : {W : Type 0} (opcodes : Opcodes) (env : Actions W) → AllPair opcodes env → (c : Callee)
     → PairIf (defined opcodes c) (action_of env c)
-called_pair opcodes env k (callee.Opcode o) = tt
+called_pair opcodes env k (callee.Opcode o) = neither
 called_pair opcodes env k (callee.Name name) = k.each name
 
-abbrev pub call_leads : {W : Type 0} (t : Option Template) (a : Option (Action W)) → PairIf t a → Path → List (List ℕ)
-    → List Argument → Leads → Leads
-call_leads None None h q xs args behind = parts (alike q) behind
-call_leads None (Some a) h q xs args behind = absurd h
-call_leads (Some t) None h q xs args behind = absurd h
-call_leads (Some t) (Some a) h q xs args behind =
+abbrev pub call_leads : {W : Type 0} {t : Option Template} {a : Option (Action W)} → PairIf t a → Path
+    → List (List ℕ) → List Argument → Leads → Leads
+call_leads neither q xs args behind = parts (alike q) behind
+call_leads (both t a h) q xs args behind =
     copies_lead (0 ∷ 0 ∷ q) a.inputs args (h.leads q (copies_lead (0 ∷ 2 ∷ q) xs (values_in a.results) behind))
 
-call_adds : {W : Type 0} (t : Option Template) (a : Option (Action W)) (h : PairIf t a) (q : Path)
+call_adds : {W : Type 0} {t : Option Template} {a : Option (Action W)} (h : PairIf t a) (q : Path)
     (xs : List (List ℕ)) (args : List Argument) (behind : Leads)
-    → Adds (Inside q) behind (call_leads t a h q xs args behind)
-call_adds None None h q xs args behind = part_added (Inside q) (alike q) behind (alike_within q)
-call_adds None (Some a) h q xs args behind = absurd h
-call_adds (Some t) None h q xs args behind = absurd h
-call_adds (Some t) (Some a) h q xs args behind =
+    → Adds (Inside q) behind (call_leads h q xs args behind)
+call_adds neither q xs args behind = part_added (Inside q) (alike q) behind (alike_within q)
+call_adds (both t a h) q xs args behind =
     let two = copies_lead (0 ∷ 2 ∷ q) xs (values_in a.results) behind in
     let body = h.leads q two in
     let all = copies_lead (0 ∷ 0 ∷ q) a.inputs args body in
@@ -250,13 +237,11 @@ call_adds (Some t) (Some a) h q xs args behind =
     (copies_add 0 (0 ∷ q) a.inputs args body) in
     adds_wider (Beyond 0 q) (Inside q) (beyond_whole 0 q) behind all (one_more 0 q behind body all inner inputs)
 
-call_kept : {W : Type 0} (t : Option Template) (a : Option (Action W)) (h : PairIf t a) (q : Path)
+call_kept : {W : Type 0} {t : Option Template} {a : Option (Action W)} (h : PairIf t a) (q : Path)
     (xs : List (List ℕ)) (args : List Argument) (behind : Leads)
-    → Keeps behind (call_leads t a h q xs args behind) (keepers_of_call q xs args a)
-call_kept None None h q xs args behind = alike_kept q behind
-call_kept None (Some a) h q xs args behind = absurd h
-call_kept (Some t) None h q xs args behind = absurd h
-call_kept (Some t) (Some a) h q xs args behind =
+    → Keeps behind (call_leads h q xs args behind) (keepers_of_call q xs args a)
+call_kept neither q xs args behind = alike_kept q behind
+call_kept (both t a h) q xs args behind =
     let given = values_in a.results in
     let two = copies_lead (0 ∷ 2 ∷ q) xs given behind in
     let body = h.leads q two in
@@ -272,7 +257,7 @@ module _ {W : Type 0} (opcodes : Opcodes) (env : Actions W) (k : AllPair opcodes
     pub stmt_leads : Path → Statement → Leads → Leads
     stmt_leads q (set line x e) behind = parts (alike q) behind
     stmt_leads q (call line xs c args) behind =
-        call_leads (defined opcodes c) (action_of env c) (called_pair opcodes env k c) q xs args behind
+        call_leads (called_pair opcodes env k c) q xs args behind
     stmt_leads q (choose line list) behind = parts (arms_lead (0 ∷ q) list) behind
 
     pub block_leads : Path → Block → Leads → Leads
@@ -288,7 +273,7 @@ module _ {W : Type 0} (opcodes : Opcodes) (env : Actions W) (k : AllPair opcodes
     stmt_adds : (q : Path) (x : Statement) (behind : Leads) → Adds (Inside q) behind (stmt_leads q x behind)
     stmt_adds q (set line x e) behind = part_added (Inside q) (alike q) behind (alike_within q)
     stmt_adds q (call line xs c args) behind =
-        call_adds (defined opcodes c) (action_of env c) (called_pair opcodes env k c) q xs args behind
+        call_adds (called_pair opcodes env k c) q xs args behind
     stmt_adds q (choose line list) behind =
         let arms = arms_lead (0 ∷ q) list in
         part_added (Inside q) arms behind
@@ -335,7 +320,7 @@ module _ {W : Type 0} (opcodes : Opcodes) (env : Actions W) (k : AllPair opcodes
     stmt_kept : (q : Path) (x : Statement) (behind : Leads) → Keeps behind (stmt_leads q x behind) (keepers_of env q x)
     stmt_kept q (set line x e) behind = alike_kept q behind
     stmt_kept q (call line xs c args) behind =
-        call_kept (defined opcodes c) (action_of env c) (called_pair opcodes env k c) q xs args behind
+        call_kept (called_pair opcodes env k c) q xs args behind
     stmt_kept q (choose line list) behind =
         inner_kept (arms_lead (0 ∷ q) list) behind (keepers_of_arms env (0 ∷ q) list) (arms_kept (0 ∷ q) list).each
 
@@ -366,18 +351,15 @@ module _ {W : Type 0} (opcodes : Opcodes) (env : Actions W) (k : AllPair opcodes
 
   -- ---- the frame behind statements
 
-  call_after : (t : Option Template) (a : Option (Action W)) → PairIf t a → (n : ℕ) (p : Path)
+  call_after : {t : Option Template} {a : Option (Action W)} → PairIf t a → (n : ℕ) (p : Path)
       → after_called n t ≡ n + length (frames_of_call p a)
-  call_after None None h n p = omega arith
-  call_after None (Some a) h n p = absurd h
-  call_after (Some t) None h n p = absurd h
-  call_after (Some t) (Some a) h n p = omega (arith, h.after n p)
+  call_after neither n p = omega arith
+  call_after (both t a h) n p = omega (arith, h.after n p)
 
   mutual
     pub after_is : (n : ℕ) (p : Path) (x : Statement) → after opcodes n x ≡ n + length (frames_of env p x)
     after_is n p (set line x e) = omega arith
-    after_is n p (call line xs c args) =
-        call_after (defined opcodes c) (action_of env c) (called_pair opcodes env k c) n p
+    after_is n p (call line xs c args) = call_after (called_pair opcodes env k c) n p
     after_is n p (choose line list) = after_arms_is n (0 ∷ p) list
 
     pub after_block_is : (n : ℕ) (p : Path) (b : Block)
@@ -420,20 +402,17 @@ template_pair opcodes env k d = record {
     one_more_is n = omega arith
 
 abbrev pub with_pair : {W : Type 0} (opcodes : Opcodes) (env : Actions W) (k : AllPair opcodes env) (d : Definition)
-    (t : Option Template) (a : Option (Action W))
-    → PairIf t a → (b : Bool)
+    {t : Option Template} {a : Option (Action W)} → PairIf t a → (b : Bool)
     → PairIf (option_or t (if b then Some (template opcodes d) else None))
     (option_or a (if b then Some (action env d) else None))
-with_pair opcodes env k d None None h true = template_pair opcodes env k d
-with_pair opcodes env k d None None h false = tt
-with_pair opcodes env k d None (Some a) h b = absurd h
-with_pair opcodes env k d (Some t) None h b = absurd h
-with_pair opcodes env k d (Some t) (Some a) h b = h
+with_pair opcodes env k d neither true = both (template opcodes d) (action env d) (template_pair opcodes env k d)
+with_pair opcodes env k d neither false = neither
+with_pair opcodes env k d (both t a h) b = both t a h
 
 abbrev pub defining_pairs : {W : Type 0} (opcodes : Opcodes) (env : Actions W) → AllPair opcodes env → (d : Definition)
     → AllPair (defining opcodes d) (acting env d)
 defining_pairs opcodes env k d =
-    record { each = λ name. with_pair opcodes env k d (opcodes name) (env name) (k.each name) (bytes_eq name d.name) }
+    record { each = λ name. with_pair opcodes env k d (k.each name) (bytes_eq name d.name) }
 
 abbrev pub all_pair : {W : Type 0} (opcodes : Opcodes) (env : Actions W) → AllPair opcodes env → (ds : List Definition)
     → AllPair (defining_all opcodes ds) (acting_all env ds)
@@ -441,5 +420,5 @@ all_pair opcodes env k [] = k
 all_pair opcodes env k (d ∷ ds) =
     all_pair (defining opcodes d) (acting env d) (defining_pairs opcodes env k d) ds
 
-pub nothing_pairs : {W : Type 0} → AllPair no_opcodes (no_actions {W = W})
-nothing_pairs = record { each = λ name. tt }
+abbrev pub nothing_pairs : {W : Type 0} → AllPair no_opcodes (no_actions {W = W})
+nothing_pairs = record { each = λ name. neither }

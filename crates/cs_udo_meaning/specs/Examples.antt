@@ -1,41 +1,23 @@
 -- Small instruments with defined opcodes, which are worked out by frames.
 use Rattle.std.specs.Prelude.{ℕ, ℤ, pos, ◌+◌, ◌+ℤ◌, List, [], ◌∷◌, codes, map}
 use Rattle.std.specs.List.{range_with_len}
-use Rattle.cs_base.specs.declared.resource.Rate.{Rate}
-use Rattle.cs_base.specs.declared.resource.Rate.TheVariants as rate
 use Rattle.cs_words.specs.NameSets.{place_of}
-use Rattle.cs_words.specs.declared.sign.BinOp.TheVariants as op
-use Rattle.cs_words.specs.declared.catalogue.Opcode.{Opcode}
-use Rattle.cs_words.specs.declared.catalogue.Opcode.TheVariants as opcode
-use Rattle.cs_grammar.specs.declared.tree.Callee.TheVariants as callee
-use Rattle.cs_grammar.specs.Tree.{Expression, pair, var, Argument, value, Statement, set, call, choose, otherwise, arm}
-use Rattle.cs_grammar.specs.Tree.{Definition, Instrument}
-use Rattle.cs_meaning.specs.Examples.{small_piece, whole}
-use Rattle.cs_meaning.specs.Notes.{Path, start}
+use Rattle.cs_grammar.specs.Tree.{Expression, pair, var, value, Statement, set, choose, otherwise, arm, Definition}
+use Rattle.cs_grammar.specs.Tree.{Instrument}
+use Rattle.cs_meaning.specs.{Examples.small_piece, Examples.whole, Notes.Path, Notes.start}
 use Rattle.cs_meaning.specs.Plain.{Plain, Piece, plain, fresh, next_cycle}
 use Rattle.cs_ir.specs.Waves.{silence}
 use Rattle.cs_typing.specs.Known.{Shared, no_names}
 use Rattle.cs_udo.specs.Names.{slot}
-use Rattle.cs_udo.specs.Worked.{literal, variable, statements}
+use Rattle.cs_udo.specs.Worked.{literal, variable, statements, k1, k2, k3, a1, own, known, opcode_of, of_one}
 use Rattle.cs_udo_meaning.specs.Frames.{Framed, new_framed, framed_in, Reading, frames_of_block, keepers_of_block}
-use Rattle.cs_udo_meaning.specs.Frames.{actions_of}
-use Rattle.cs_udo_meaning.specs.Lives.{begins, performs, reading}
-
--- a name of two letters
-abbrev k1 : List ℕ
-k1 = codes "k1"
-
-abbrev k2 : List ℕ
-k2 = codes "k2"
-
-abbrev k3 : List ℕ
-k3 = codes "k3"
+use Rattle.cs_udo_meaning.specs.{Frames.actions_of, Lives.begins, Lives.performs, Lives.reading}
+use Rattle.cs_base.specs.declared.resource.Rate.TheVariants as rate
+use Rattle.cs_words.specs.declared.sign.BinOp.TheVariants as op
+use Rattle.cs_words.specs.declared.catalogue.Opcode.TheVariants as opcode
 
 abbrev i1 : List ℕ
 i1 = codes "i1"
-
-abbrev a1 : List ℕ
-a1 = codes "a1"
 
 -- the pieces of cs_meaning's examples, whose notes have 7 in each field; and one whose notes have 5 in each
 abbrev pub sevens : Piece
@@ -86,13 +68,6 @@ framed ds body = frames_of_block (actions_of Plain ds) start.path (statements bo
 abbrev pub keeping : List Definition → List Statement → List Path
 keeping ds body = keepers_of_block (actions_of Plain ds) start.path (statements body)
 
--- a call of a defined opcode, and one of an opcode of the catalogue
-abbrev own : ℕ → List (List ℕ) → List ℕ → List Argument → Statement
-own line results name args = call line results (callee.Name name) args
-
-abbrev known : ℕ → List (List ℕ) → Opcode → List Argument → Statement
-known line results o args = call line results (callee.Opcode o) args
-
 -- a1 has a value and goes out
 abbrev sounds : ℕ → Expression → List Statement
 sounds line e = set line a1 e ∷ known (line + 1) [] opcode.Out (variable a1 ∷ []) ∷ []
@@ -103,18 +78,6 @@ tens_and_ones = pair op.Add (pair op.Mul (var k1) (literal 10)) (var k2)
 
 abbrev tells : List Statement
 tells = sounds 20 tens_and_ones
-
--- an opcode of one result and one input of a rate, whose body has the input by this name
-abbrev of_one : ℕ → List ℕ → Rate → List ℕ → List Statement → Argument → Definition
-of_one start name r input list given = record {
-  line = start;
-  name = name;
-  outs = r ∷ [];
-  ins = r ∷ [];
-  names = input ∷ [];
-  body = statements list;
-  result = given ∷ [];
-}
 
 -- k1 Count / k2 Count / a1 = k1 * 10 + k2 / out a1
 abbrev count_into : ℕ → List ℕ → Statement
@@ -133,15 +96,9 @@ calls_bump = set 9 k1 (literal 5) ∷ own 10 (k2 ∷ []) (codes "Bump") (variabl
 
 -- opcode Swap, kk, kk / k1, k2 xin / xout k2, k1 / endop
 abbrev pub swap : Definition
-swap = record {
-  line = 3;
-  name = codes "Swap";
-  outs = rate.Control ∷ rate.Control ∷ [];
-  ins = rate.Control ∷ rate.Control ∷ [];
-  names = k1 ∷ k2 ∷ [];
-  body = statements [];
-  result = variable k2 ∷ variable k1 ∷ [];
-}
+swap = opcode_of 3 (codes "Swap") (rate.Control ∷ rate.Control ∷ []) (rate.Control ∷ rate.Control ∷ [])
+    (k1 ∷ k2 ∷ []) []
+    (variable k2 ∷ variable k1 ∷ [])
 
 -- k1 = 1 / k2 = 2 / k1, k2 Swap k1, k2
 abbrev pub calls_swap : List Statement

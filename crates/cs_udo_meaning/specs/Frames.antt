@@ -1,31 +1,21 @@
 -- What a call of a defined opcode means: each place of a call has a frame of its own, with local variables of its own.
 use Rattle.std.specs.Prelude.{ℕ, ℤ, pos, ◌+◌, length, List, [], ◌∷◌, ◌++◌, map, Option, Some, None, if◌then◌else◌}
-use Rattle.std.specs.Option.{option_or}
-use Rattle.std.specs.Str.{bytes_eq}
 use Rattle.std.specs.Str.{bytes_eq as same_path}
 use Rattle.cs_words.specs.Names.{name_rate}
 use Rattle.cs_grammar.specs.declared.tree.Callee.{Callee}
-use Rattle.cs_grammar.specs.declared.tree.Callee.TheVariants as callee
 use Rattle.cs_grammar.specs.Tree.{Expression, var, Argument, value, Statement, set, call, choose, Block, no_stmt}
 use Rattle.cs_grammar.specs.Tree.{andthen, Arms, otherwise, arm, Definition}
-use Rattle.cs_typed.specs.TypedTree as typed
 use Rattle.cs_typed.specs.declared.tree.Var.{Var}
-use Rattle.cs_typing.specs.Known.{Shared}
-use Rattle.cs_typing.specs.Statements.{choice_rate}
+use Rattle.cs_typing.specs.{Known.Shared, Statements.choice_rate}
 use Rattle.cs_base.specs.declared.spaces.Spaces.{Spaces}
-use Rattle.cs_ir.specs.Values.{holds}
-use Rattle.cs_ir.specs.Waves.{Wave, if_init, silence}
-use Rattle.cs_ir.specs.Worlds.{World}
-use Rattle.cs_ir.specs.declared.register.Reg.{Reg}
-use Rattle.cs_meaning.specs.Core.{Stmt, unit, core_stmt}
-use Rattle.cs_meaning.specs.Initialising.{keep, init_stmt}
-use Rattle.cs_meaning.specs.Notes.{Note, Path, StatementPlace, next, inside, inside_arm, assign}
-use Rattle.cs_meaning.specs.Notes.{value as value_of}
-use Rattle.cs_meaning.specs.Performing.{perf_stmt}
-use Rattle.cs_meaning.specs.When.{When, beginning, cycle}
-use Rattle.cs_udo.specs.Expanded.{before, whole_body}
-use Rattle.cs_udo.specs.Names.{slots}
+use Rattle.cs_ir.specs.{Values.holds, Waves.Wave, Waves.if_init, Waves.silence, Worlds.World, declared.register.Reg.Reg}
+use Rattle.cs_meaning.specs.{Core.Stmt, Core.unit, Core.core_stmt, Initialising.keep, Initialising.init_stmt}
+use Rattle.cs_meaning.specs.{Performing.perf_stmt, When.When, When.beginning, When.cycle}
+use Rattle.cs_meaning.specs.Notes.{Note, Path, StatementPlace, next, inside, inside_arm, assign, value as value_of}
+use Rattle.cs_udo.specs.ByName.{ByName, item_of, with_item, with_items}
+use Rattle.cs_udo.specs.{Expanded.before, Expanded.whole_body, Names.slots}
 use Rattle.cs_udo_meaning.specs.Numbered.{Numbering, numbered, expression_by, statement_by}
+use Rattle.cs_typed.specs.TypedTree as typed
 
 -- A note with frames: the local variables of each frame, by where the call stands whose frame it is; the values that it
 -- keeps from its initialisation, by where they stand in the text; and the state of the world that it sounds in.
@@ -120,15 +110,14 @@ pub record Action (W : Type 0) : Type 0 where
 
 -- the defined opcodes that may be called, by name
 abbrev pub Actions : Type 0 → Type 0
-Actions W = List ℕ → Option (Action W)
+Actions W = ByName (Action W)
 
 abbrev pub no_actions : {W : Type 0} → Actions W
 no_actions name = None
 
 -- what the defined opcode that is called does, if it is one
 abbrev pub action_of : {W : Type 0} → Actions W → Callee → Option (Action W)
-action_of env (callee.Opcode o) = None
-action_of env (callee.Name name) = env name
+action_of env c = item_of env c
 
 -- the values of variables, as arguments
 abbrev pub values_in : List (List ℕ) → List Argument
@@ -302,11 +291,10 @@ action env d = record {
 
 -- the opcodes after one more definition, and after more: each may call those before it
 abbrev pub acting : {W : Type 0} → Actions W → Definition → Actions W
-acting env d name = option_or (env name) (if bytes_eq name d.name then Some (action env d) else None)
+acting env d = with_item action env d
 
 abbrev pub acting_all : {W : Type 0} → Actions W → List Definition → Actions W
-acting_all env [] = env
-acting_all env (d ∷ ds) = acting_all (acting env d) ds
+acting_all env ds = with_items action env ds
 
 -- the opcodes that these definitions define, and those that are defined in front of a line
 abbrev pub actions_of : (W : Type 0) → List Definition → Actions W

@@ -2,19 +2,18 @@
 use Rattle.std.specs.Prelude.{ℕ, List, [], ◌∷◌, ◌++◌, ◌≡◌, Some}
 use Rattle.std.specs.List.{All}
 use Rattle.cs_grammar.specs.Tree.{Definition, Instrument}
-use Rattle.cs_typed.specs.TypedTree as typed
 use Rattle.cs_typing.specs.Known.{Shared}
 use Rattle.cs_base.specs.declared.spaces.Spaces.{Spaces}
 use Rattle.cs_ir.specs.Worlds.{World}
-use Rattle.cs_meaning.specs.Core as core
-use Rattle.cs_meaning.specs.Initialising as initial
 use Rattle.cs_meaning.specs.Notes.{Note, Path, start, new_note, moved_to}
-use Rattle.cs_meaning.specs.Performing as performing
 use Rattle.cs_meaning.specs.When.{beginning, cycle}
 use Rattle.cs_udo_meaning.specs.Frames.{Framed, own_frame, new_framed, framed_in, Reading, actions_before, block_done}
 use Rattle.cs_udo_meaning.specs.Frames.{frames_of_block, keepers_of_block, typed_keepers_of_block}
-use Rattle.cs_udo_meaning.specs.Numbered.{Numbering, Tells}
-use Rattle.cs_udo_meaning.specs.Stands.{Way, IsClear, StandsForFrames}
+use Rattle.cs_udo_meaning.specs.{Numbered.Numbering, Numbered.Tells, Stands.Way, Stands.IsClear, Stands.StandsForFrames}
+use Rattle.cs_typed.specs.TypedTree as typed
+use Rattle.cs_meaning.specs.Core as core
+use Rattle.cs_meaning.specs.Initialising as initial
+use Rattle.cs_meaning.specs.Performing as performing
 
 -- A control cycle of a note: the world in which it is performed, and what others do to its state before.
 pub record Cycle (W : Type 0) : Type 0 where

@@ -3,10 +3,9 @@
 use Rattle.std.specs.Prelude.{ℕ, zero, suc, ◌+◌, List, [], ◌∷◌, ◌≡◌, if◌then◌else◌}
 use Rattle.cs_words.specs.Names.{name_rate, is_global}
 use Rattle.cs_grammar.specs.Tree.{Statement, set, call, choose, Block, no_stmt, andthen, Arms, otherwise, arm}
+use Rattle.cs_typing.specs.{Known.Shared, Known.place_in, Known.global, Statements.choice_rate}
 use Rattle.cs_typed.specs.TypedTree as typed
 use Rattle.cs_typed.specs.declared.tree.Var.TheVariants as variant
-use Rattle.cs_typing.specs.Known.{Shared, place_in, global}
-use Rattle.cs_typing.specs.Statements.{choice_rate}
 pub use Rattle.cs_typing.specs.Calls.{argument_by, arguments_by, row_by, call_by}
 pub use Rattle.cs_typing.specs.Expressions.{Variables, expression_by}
 

@@ -1,13 +1,11 @@
 -- What notes share under other numbers.
 use Rattle.std.specs.Prelude.{ℕ, true, List, ◌≡◌}
-use Rattle.cs_base.specs.Rates.{res_rate}
-use Rattle.cs_base.specs.declared.resource.Res.{Res}
-use Rattle.cs_base.specs.declared.resource.Res.TheVariants as res
-use Rattle.cs_words.specs.Names.{name_rate}
-use Rattle.cs_words.specs.NameSets.{has, place_of}
+use Rattle.cs_base.specs.{Rates.res_rate, declared.resource.Res.Res}
+use Rattle.cs_words.specs.{Names.name_rate, NameSets.has, NameSets.place_of}
 use Rattle.cs_ir.specs.Worlds.{World}
 use Rattle.cs_typing.specs.Known.{Shared, global, in_table, place_in}
 use Rattle.cs_udo_meaning.specs.Lives.{Cycle}
+use Rattle.cs_base.specs.declared.resource.Res.TheVariants as res
 
 -- A world that has what another has, under other numbers: a resource here is the one there to which its number leads.
 abbrev pub renumbered : {W : Type 0} → (Res → Res) → World W → World W

@@ -4,8 +4,7 @@ use Rattle.cs_words.specs.Names.{name_rate, is_global}
 use Rattle.cs_grammar.specs.WellFormed.{HasNoStop}
 use Rattle.cs_meaning.specs.Notes.{Note, Path, reg}
 use Rattle.cs_udo.specs.Names.{in_frame, as_it_is}
-use Rattle.cs_udo_meaning.specs.Frames.{Framed, own_frame}
-use Rattle.cs_udo_meaning.specs.Numbered.{Numbering}
+use Rattle.cs_udo_meaning.specs.{Frames.Framed, Frames.own_frame, Numbered.Numbering}
 
 -- The name that a variable of a frame has in the expanded text: an instrument's own variables keep theirs.
 abbrev pub own_name : ℕ → List ℕ → List ℕ

@@ -1,10 +1,9 @@
 -- What is typed is what is typed by numbers.
 use Rattle.std.specs.Prelude.{◌≡◌}
 use Rattle.cs_grammar.specs.Tree.{Block, Instrument, Orchestra}
-use Rattle.cs_typed.specs.TypedTree as typed
-use Rattle.cs_typing.specs.Known.{Shared}
-use Rattle.cs_typing.specs.Typing.{items, first_known, known_items}
+use Rattle.cs_typing.specs.{Known.Shared, Typing.items, Typing.first_known, Typing.known_items}
 use Rattle.cs_udo_meaning.specs.Numbered.{Numbering, Tells, numbered, block_by}
+use Rattle.cs_typed.specs.TypedTree as typed
 
 -- what all bodies of an orchestra know at the end of its text: global variables and channels
 abbrev pub shared_of : Orchestra → Shared

@@ -1,24 +1,17 @@
 -- Code does alike in worlds that follow one another.
-use Rattle.std.proofs.Common.{◌≡◌, ℕ, ℤ, ◌+◌, ◌&&◌, not, Bool, true, false, List, [], ◌∷◌, map, nat_le, if◌then◌else◌}
-use Rattle.std.proofs.Common.{refl, ◌∙◌, ap, subst}
-use Rattle.cs_base.specs.Rates.{res_rate}
-use Rattle.cs_base.specs.declared.resource.Rate.{Rate}
-use Rattle.cs_base.specs.declared.resource.Res.{Res}
-use Rattle.cs_ir.specs.Registers.{rate_at}
-use Rattle.cs_ir.specs.Values.{holds, negated, applied}
-use Rattle.cs_ir.specs.Machine.{Machine, put, write, gives, acts, is_done, step, run}
-use Rattle.cs_ir.specs.Validity.{has_value}
-use Rattle.cs_ir.specs.Resources.{Stock, tables_within, unit_uses, zak_uses}
+use Rattle.std.proofs.Common.{◌≡◌, ℕ, ℤ, ◌+◌, ◌&&◌, not, Bool, true, false, List, ◌∷◌, map, nat_le, if◌then◌else◌, refl}
+use Rattle.std.proofs.Common.{[], ◌∙◌, ap, subst, arith}
+use Rattle.cs_base.specs.{Rates.res_rate, declared.resource.Rate.Rate, declared.resource.Res.Res}
+use Rattle.cs_ir.specs.{Registers.rate_at, Values.holds, Values.negated, Values.applied, Validity.has_value}
+use Rattle.cs_ir.specs.{Resources.Stock, Resources.tables_within, Resources.unit_uses, Resources.zak_uses, Worlds.World}
+use Rattle.cs_ir.specs.{declared.op.Act.Act, declared.op.Op.Op, declared.op.Reach.Reach, declared.register.Reg.Reg}
+use Rattle.cs_ir.specs.Machine.{Machine, write, gives, acts, is_done, step, run}
 use Rattle.cs_ir.specs.Waves.{Wave, held, constant, both, chosen, operand, first_values}
-use Rattle.cs_ir.specs.Worlds.{World}
-use Rattle.cs_ir.specs.declared.op.Act.{Act}
-use Rattle.cs_ir.specs.declared.op.Act.TheVariants as act
-use Rattle.cs_ir.specs.declared.op.Op.{Op}
-use Rattle.cs_ir.specs.declared.op.Reach.{Reach}
-use Rattle.cs_ir.specs.declared.register.Reg.{Reg}
 use Rattle.cs_words.specs.declared.catalogue.Opcode.{Opcode}
 use Rattle.cs_ugen.specs.Units.{IsUnitOpcode}
 use Rattle.cs_voice_meaning.specs.Follows.{Kinds, AreNamed, ActNamed, OpsNamed, Alike}
+use Rattle.std.proofs.lemmas.Grind.{common_steps}
+use Rattle.cs_ir.specs.declared.op.Act.TheVariants as act
 
 -- A world follows another at the resources that are named: whatever is done in states that are related gives the same,
 -- and leaves them related.
@@ -58,8 +51,7 @@ module _ {V W : Type 0} (stock : Stock) (kinds : Kinds) (N : Res → Type 0) (o 
       → Alike R (if b then p else m) (if c then q else n)
   either_alike true true p m q n e here there = here
   either_alike false false p m q n e here there = there
-  either_alike true false p m q n e here there = absurd (cc)
-  either_alike false true p m q n e here there = absurd (cc)
+  either_alike _ _ p m q n e here there = absurd (cc)
 
   -- the world alone changes
   moved : (m : Machine V) (n : Machine W) (x : V) (y : W) → R x y → Alike R m n
@@ -69,12 +61,7 @@ module _ {V W : Type 0} (stock : Stock) (kinds : Kinds) (N : Res → Type 0) (o 
   write_alike : (into : Reg) (w v : Wave) (m : Machine V) (n : Machine W)
       → held o.ksmps (rate_at into) w ≡ held o.ksmps (rate_at into) v → Alike R m n
       → Alike R (write o.ksmps into w m) (write u.ksmps into v n)
-  write_alike into w v m n e a = record {
-    regs = ap (λ g. put g into (held o.ksmps (rate_at into) w)) a.regs ∙ ap (λ z. put n.regs into z) e
-        ∙ ap (λ k. put n.regs into (held k (rate_at into) v)) f.ksmps;
-    next = a.next;
-    world = a.world;
-  }
+  write_alike into w v m n e a = grind (arith, common_steps)
 
   written_alike : (b : Bool) (into : Reg) (p : V × Wave) (q : W × Wave) (m : Machine V) (n : Machine W) → R p.0 q.0
       → held o.ksmps (rate_at into) p.1 ≡ held o.ksmps (rate_at into) q.1

@@ -1,47 +1,30 @@
 -- A voice stays in the room that its codes' counts give it.
-use Rattle.std.proofs.Common.{◌≡◌, ℕ, ℤ, pos, ◌+◌, ◌-◌, ◌&&◌, ◌||◌, ◌==◌, Bool, true, false, not, List, [], ◌∷◌, map}
+use Rattle.std.proofs.Common.{◌≡◌, ℕ, ℤ, pos, ◌+◌, ◌-◌, ◌&&◌, ◌||◌, ◌==◌, Bool, true, false, not, List, ◌∷◌, map, []}
 use Rattle.std.proofs.Common.{length, nat_lt, nat_le, slice_index_or, Option, Some, None, if◌then◌else◌, refl, sym, ◌∙◌}
 use Rattle.std.proofs.Common.{ap, subst, arith, eqb-true}
 use Rattle.std.specs.List.{list_all}
-use Rattle.std.proofs.lemmas.Bool.{and_parts}
-use Rattle.std.proofs.lemmas.Bool.Decides.{nat_tests}
-use Rattle.cs_base.specs.Limits.{most_delay_samples}
-use Rattle.cs_base.specs.Rates.{is_audio}
-use Rattle.cs_base.specs.declared.resource.Rate.{Rate}
-use Rattle.cs_base.specs.declared.resource.Rate.TheVariants as rate
-use Rattle.cs_base.specs.declared.resource.Res.{Res}
-use Rattle.cs_words.specs.Catalogue.{row_of, takes_table}
+use Rattle.std.proofs.lemmas.{Bool.and_parts, Bool.Decides.nat_tests, Grind.common_steps}
+use Rattle.cs_base.specs.{Rates.is_audio, declared.resource.Rate.Rate, declared.resource.Res.Res}
+use Rattle.cs_words.specs.{Catalogue.row_of, declared.catalogue.Shape.Shape, declared.catalogue.Space.Space}
 use Rattle.cs_words.specs.declared.catalogue.Opcode.{Opcode}
-use Rattle.cs_words.specs.declared.catalogue.Shape.{Shape}
-use Rattle.cs_words.specs.declared.catalogue.Shape.TheVariants as shape
-use Rattle.cs_words.specs.declared.catalogue.Space.{Space}
-use Rattle.cs_words.specs.declared.catalogue.Space.TheVariants as space
-use Rattle.cs_signal.specs.Delay.{delay_length}
 use Rattle.cs_ir.proofs.RegisterKinds.{same_reg_is}
-use Rattle.cs_ir.specs.Registers.{rate_at}
+use Rattle.cs_ir.specs.{Registers.rate_at, declared.op.Act.Act, declared.op.Op.Op, declared.op.Reach.Reach}
+use Rattle.cs_ir.specs.{declared.register.Counts.Counts, declared.register.Reg.Reg}
 use Rattle.cs_ir.specs.Machine.{Machine, same_reg, write, acts, is_done, step, run, gives, new_machine}
 use Rattle.cs_ir.specs.Validity.{has_register, writes, finds, takes_from, is_fine, fine_from}
-use Rattle.cs_ir.specs.Resources.{reaches}
 use Rattle.cs_ir.specs.Waves.{Wave, held, silence, operand, first_values}
-use Rattle.cs_ir.specs.declared.op.Act.{Act}
-use Rattle.cs_ir.specs.declared.op.Act.TheVariants as act
-use Rattle.cs_ir.specs.declared.op.Op.{Op}
-use Rattle.cs_ir.specs.declared.op.Reach.{Reach}
-use Rattle.cs_ir.specs.declared.register.Counts.{Counts}
-use Rattle.cs_ir.specs.declared.register.Reg.{Reg}
-use Rattle.cs_cells.specs.Cells.{Cells, cell}
-use Rattle.cs_cells.specs.declared.footprint.Area.{Area}
-use Rattle.cs_meaning.specs.Model.{WorldModel, with_value, put_unit, unit_points, has_run, unit_does, store_into}
-use Rattle.cs_meaning.specs.Model.{store_at}
-use Rattle.cs_meaning.specs.Model.{zak_does, lacks_table, begun, delayed, starts, out_to, out_to_numbered}
-use Rattle.cs_meaning.specs.Pieces.{Piece, Table, find_table, table_number, is_there, is_delay, is_live, index}
-use Rattle.cs_meaning.specs.Pieces.{may_touch, at_place, has_place, added}
-use Rattle.cs_ugen.specs.Generators.{pace_of}
-use Rattle.cs_voice_meaning.specs.VoiceWorld.{Playing, VoiceState, played, has_played, voice_model, voice_world}
-use Rattle.cs_voice_meaning.specs.VoiceWorld.{fresh_voice}
+use Rattle.cs_cells.specs.{Cells.Cells, Cells.cell, declared.footprint.Area.Area}
+use Rattle.cs_meaning.specs.Model.{WorldModel, with_value, put_unit, unit_does, store_into, store_at, zak_does}
+use Rattle.cs_meaning.specs.Model.{lacks_table, starts, out_to, out_to_numbered}
+use Rattle.cs_meaning.specs.Pieces.{Piece, Table, is_live, index, at_place, has_place, added}
+use Rattle.cs_voice_meaning.specs.VoiceWorld.{Playing, VoiceState, voice_model, voice_world, fresh_voice}
 use Rattle.cs_voice_meaning.specs.Voices.{Sheet, Sounding, IsPlayable, IsSound, begins, seen, initialised, voice_of}
 use Rattle.cs_voice_meaning.specs.Voices.{performed, has_channel, have_channels}
 use Rattle.cs_voice_meaning.specs.Room.{FitsIn, VoiceFits}
+use Rattle.cs_base.specs.declared.resource.Rate.TheVariants as rate
+use Rattle.cs_words.specs.declared.catalogue.Shape.TheVariants as shape
+use Rattle.cs_words.specs.declared.catalogue.Space.TheVariants as space
+use Rattle.cs_ir.specs.declared.op.Act.TheVariants as act
 
 -- ---- registers and frames
 
@@ -50,9 +33,8 @@ twice true x = refl
 twice false x = refl
 
 held_twice : (ksmps : ℕ) (r : Rate) (w : Wave) → held ksmps r (held ksmps r w) ≡ held ksmps r w
-held_twice ksmps rate.Init w = refl
-held_twice ksmps rate.Control w = refl
 held_twice ksmps rate.Audio w = λ i j. twice (nat_lt j ksmps) (w j) i
+held_twice ksmps _ w = refl
 
 past_frames : (b : Bool) (x : ℤ) → (if b then x else pos 0) ≡ x → b ≡ false → x ≡ pos 0
 past_frames true x h e = absurd (cc)
@@ -67,17 +49,11 @@ zero_added x y e f = ap (λ z. added (λ j. z) (λ j. y) 0) e ∙ ap (λ z. adde
 
 added_held : (ksmps : ℕ) (w v : Wave) → held ksmps rate.Audio w ≡ w → held ksmps rate.Audio v ≡ v
     → held ksmps rate.Audio (added w v) ≡ added w v
-added_held ksmps w v h k = λ i j. at j i
-  where
-    at : (j : ℕ) → held ksmps rate.Audio (added w v) j ≡ added w v j
-    at j = kept_frames (nat_lt j ksmps) (added w v j)
-        (λ past. zero_added (w j) (v j) (past_frames (nat_lt j ksmps) (w j) (λ i. h i j) past)
-        (past_frames (nat_lt j ksmps) (v j) (λ i. k i j) past))
+added_held ksmps w v h k = grind (arith, common_steps, kept_frames, nat_lt, past_frames, zero_added)
 
 audio_is : (r : Rate) → is_audio r ≡ true → r ≡ rate.Audio
-audio_is rate.Init h = absurd (cc)
-audio_is rate.Control h = absurd (cc)
 audio_is rate.Audio h = refl
+audio_is _ h = absurd (cc)
 
 module _ (areas : List Area) (piece : Piece) (counts : Counts) where
   abbrev model : WorldModel (ℕ → ℤ) Playing
@@ -112,39 +88,25 @@ module _ (areas : List Area) (piece : Piece) (counts : Counts) where
 
   put_other : (b : Bool) (q into : Reg) (w v : Wave) → same_reg q into ≡ b → has_register counts into ≡ true
       → has_register counts q ≡ false → v ≡ silence → (if b then w else v) ≡ silence
-  put_other true q into w v e there past h =
-      absurd (let same : q ≡ into = same_reg_is q into e in let t : has_register counts q ≡ true =
-      ap (has_register counts) same ∙ there in cc)
+  put_other true q into w v e there past h = grind (arith, common_steps, same_reg_is)
   put_other false q into w v e there past h = h
 
   put_held : (b : Bool) (q into : Reg) (w v : Wave) → same_reg q into ≡ b → held piece.head.ksmps (rate_at q) v ≡ v
       → held piece.head.ksmps (rate_at q)
       (if b then held piece.head.ksmps (rate_at into) w else v)
       ≡ (if b then held piece.head.ksmps (rate_at into) w else v)
-  put_held true q into w v e h =
-      subst (λ (p : Reg). held piece.head.ksmps (rate_at p) (held piece.head.ksmps (rate_at into) w)
-      ≡ held piece.head.ksmps (rate_at into) w)
-      (sym (same_reg_is q into e)) (held_twice piece.head.ksmps (rate_at into) w)
+  put_held true q into w v e h = grind (arith, common_steps, held_twice, same_reg_is)
   put_held false q into w v e h = h
 
   write_fits : (into : Reg) (w : Wave) (m : Machine VoiceState) → has_register counts into ≡ true → Fits m
       → Fits (write piece.head.ksmps into w m)
-  write_fits into w m there f = record {
-    regs = λ q past. put_other (same_reg q into) q into (held piece.head.ksmps (rate_at into) w) (m.regs q) refl there
-        past (f.regs q past);
-    keeps = λ q. put_held (same_reg q into) q into w (m.regs q) refl (f.keeps q);
-    units = f.units;
-    outs = f.outs;
-    frames = f.frames;
-  }
+  write_fits into w m there f = grind (arith, common_steps, put_held, put_other)
 
   -- ---- a unit is put where there is one
 
   put_past : (b : Bool) (p : Playing) (o : Option Playing) (u n : ℕ) → (n == u) ≡ b → nat_lt u counts.units ≡ true
       → nat_lt n counts.units ≡ false → o ≡ None → (if b then Some p else o) ≡ None
-  put_past true p o u n e there past h =
-      absurd (let same : n ≡ u = eqb-true n u e in let t : nat_lt n counts.units ≡ true =
-      ap (λ k. nat_lt k counts.units) same ∙ there in cc)
+  put_past true p o u n e there past h = grind (arith, common_steps, eqb-true, nat_lt)
   put_past false p o u n e there past h = h
 
   put_room : (u : ℕ) (p : Playing) (x : VoiceState) → nat_lt u counts.units ≡ true → Room x → Room (put_unit u p x)
@@ -155,9 +117,7 @@ module _ (areas : List Area) (piece : Piece) (counts : Counts) where
       → nat_lt u counts.units ≡ true → Room x
       → Room (unit_does model opcode r u reach ws o x).0
   unit_room opcode r u reach ws None x there k = k
-  unit_room opcode r u reach ws (Some p) x there k =
-      let done = has_played r p (played piece.head.ksmps r p ws (unit_points model opcode p x)) in
-      either_room_of (may_touch opcode reach p.table) (has_run u done x) (x, silence) (put_room u done.0 x there k) k
+  unit_room opcode r u reach ws (Some p) x there k = grind (arith, common_steps, either_room_of, put_room)
 
   table_room : (r : Rate) (ws : List Wave) (o : Option Table) (x : VoiceState) → Room x
       → Room (store_into model r ws o x)
@@ -167,9 +127,7 @@ module _ (areas : List Area) (piece : Piece) (counts : Counts) where
   store_room : (r : Rate) (reach : Reach) (ws : List Wave) (i : Option ℕ) (x : VoiceState) → Room x
       → Room (store_at model r reach ws i x)
   store_room r reach ws None x k = k
-  store_room r reach ws (Some n) x k =
-      either_room (reaches reach n) (store_into model r ws (find_table piece.tables (pos n)) x) x
-      (table_room r ws (find_table piece.tables (pos n)) x k) k
+  store_room r reach ws (Some n) x k = grind (arith, common_steps, either_room, table_room)
 
   place_room : (sp : Space) (reach : Reach) (i : Option ℕ) (x : VoiceState) (w : Res → Wave) → Room x
       → Room (at_place piece sp reach i x (λ g. with_value model g (w g) x))
@@ -178,40 +136,19 @@ module _ (areas : List Area) (piece : Piece) (counts : Counts) where
 
   zak_room : (sh : Shape) (reach : Reach) (ws : List Wave) (x : VoiceState) → Room x
       → Room (zak_does model sh reach ws x).0
-  zak_room (shape.ZakGet sp) reach ws x k = k
   zak_room (shape.ZakPut sp) reach ws x k = place_room sp reach (index (operand 1 ws 0)) x _ k
   zak_room shape.ZakMix reach ws x k = place_room space.Audio reach (index (operand 1 ws 0)) x _ k
-  zak_room (shape.ZakClear sp) reach ws x k = k
-  zak_room shape.Unit reach ws x k = k
-  zak_room shape.Store reach ws x k = k
-  zak_room shape.Init reach ws x k = k
-  zak_room shape.Out reach ws x k = k
-  zak_room shape.OutAt reach ws x k = k
-  zak_room shape.Turnoff reach ws x k = k
-  zak_room shape.ZakInit reach ws x k = k
-  zak_room shape.ChannelGet reach ws x k = k
-  zak_room shape.ChannelPut reach ws x k = k
-  zak_room shape.ChannelMix reach ws x k = k
-  zak_room shape.ChannelClear reach ws x k = k
-  zak_room shape.Ask reach ws x k = k
+  zak_room _ reach ws x k = k
 
   starts_room : (opcode : Opcode) (r : Rate) (u : ℕ) (is : List ℤ) (x : VoiceState) → nat_lt u counts.units ≡ true
       → Room x → Room (starts model opcode r u is x)
-  starts_room opcode r u is x there k =
-      let samples : ℕ = x.delays + delay_length (pace_of piece.head) (slice_index_or is 0 (pos 0)) in
-      either_room (takes_table opcode && not (is_there (find_table piece.tables (table_number is)))) _ _ k
-      (either_room (is_delay opcode) (delayed model samples opcode r u is x) _
-      (either_room (nat_le samples most_delay_samples) (begun model opcode r u is (record x { delays = samples })) _
-      (put_room u _ (record x { delays = samples }) there k) k)
-      (put_room u _ x there k))
+  starts_room opcode r u is x there k = grind (arith, common_steps, either_room, nat_le, not, put_room, slice_index_or)
 
   -- ---- what goes out
 
   out_past : (b : Bool) (w v : Wave) (n c : ℕ) → (n == c) ≡ b → nat_lt c piece.head.nchnls ≡ true
       → nat_lt n piece.head.nchnls ≡ false → v ≡ silence → (if b then w else v) ≡ silence
-  out_past true w v n c e there past h =
-      absurd (let same : n ≡ c = eqb-true n c e in let t : nat_lt n piece.head.nchnls ≡ true =
-      ap (λ k. nat_lt k piece.head.nchnls) same ∙ there in cc)
+  out_past true w v n c e there past h = grind (arith, common_steps, eqb-true, nat_lt)
   out_past false w v n c e there past h = h
 
   either_sound : (b : Bool) (w v : Wave) → Sound w → Sound v → Sound (if b then w else v)
@@ -220,12 +157,7 @@ module _ (areas : List Area) (piece : Piece) (counts : Counts) where
 
   out_room : (c : ℕ) (w : Wave) (x : VoiceState) → nat_lt c piece.head.nchnls ≡ true → Sound w → Room x
       → Room (out_to c w x)
-  out_room c w x there sound k = (
-    k.0,
-    λ n past. out_past (n == c) (added (x.outs n) w) (x.outs n) n c refl there past (k.1 n past),
-    λ n. either_sound (n == c) (added (x.outs n) w) (x.outs n) (added_held piece.head.ksmps (x.outs n) w (k.2 n) sound)
-        (k.2 n),
-  )
+  out_room c w x there sound k = grind (arith, common_steps, added_held, either_sound, out_past)
 
   channel_below : (n channels : ℕ) → (nat_le 1 n && nat_le n channels) ≡ true → nat_lt (n - 1) channels ≡ true
   channel_below n channels h = let both = and_parts (nat_le 1 n) (nat_le n channels) h in grind (arith, nat_tests)
@@ -237,9 +169,7 @@ module _ (areas : List Area) (piece : Piece) (counts : Counts) where
   out_at_room : (i : Option ℕ) (w : Wave) (x : VoiceState) → Sound w → Room x
       → Room (out_to_numbered piece.head.nchnls i w x)
   out_at_room None w x sound k = k
-  out_at_room (Some n) w x sound k =
-      when_room (nat_le 1 n && nat_le n piece.head.nchnls) (out_to (n - 1) w x) x
-      (λ there. out_room (n - 1) w x (channel_below n piece.head.nchnls there) sound k) k
+  out_at_room (Some n) w x sound k = grind (arith, common_steps, channel_below, nat_le, out_room, when_room)
 
   reg_sound : (m : Machine VoiceState) (x : Reg) → Fits m → is_audio (rate_at x) ≡ true → Sound (m.regs x)
   reg_sound m x f h = subst (λ r. held piece.head.ksmps r (m.regs x) ≡ m.regs x) (audio_is (rate_at x) h) (f.keeps x)
@@ -247,17 +177,14 @@ module _ (areas : List Area) (piece : Piece) (counts : Counts) where
   -- what a valid op sends out is a sound
   out_sound : (m : Machine VoiceState) (c : ℕ) (r : Rate) (from : List Reg) → takes_from (act.Out c) r from ≡ true
       → Fits m → Sound (operand 0 (map m.regs from))
-  out_sound m c r [] h f = absurd (cc)
   out_sound m c r (x ∷ []) h f = reg_sound m x f h
-  out_sound m c r (x ∷ y ∷ from) h f = absurd (cc)
+  out_sound m c r _ h f = absurd (cc)
 
   out_at_sound : (m : Machine VoiceState) (r : Rate) (from : List Reg) → takes_from act.OutAt r from ≡ true → Fits m
       → Sound (operand 1 (map m.regs from))
-  out_at_sound m r [] h f = absurd (cc)
-  out_at_sound m r (x ∷ []) h f = absurd (cc)
   out_at_sound m r (x ∷ y ∷ []) h f =
       reg_sound m y f (and_parts (not (is_audio (rate_at x))) (is_audio (rate_at y)) h).1
-  out_at_sound m r (x ∷ y ∷ z ∷ from) h f = absurd (cc)
+  out_at_sound m r _ h f = absurd (cc)
 
   written_there : (b c : Bool) → (not b || c) ≡ true → b ≡ true → c ≡ true
   written_there true c h e = h
@@ -273,15 +200,6 @@ module _ (areas : List Area) (piece : Piece) (counts : Counts) where
       → (writes t ≡ true → has_register counts into ≡ true) → finds counts end place t ≡ true
       → takes_from t (rate_at into) from ≡ true → has_channel piece.head.nchnls t ≡ true → Fits m
       → Fits (acts (voice_world areas piece) t into (map m.regs from) m)
-  acts_fit (act.Const z) into from end place m w fi ta ch f = write_fits into _ m (w refl) f
-  acts_fit (act.Field k) into from end place m w fi ta ch f = write_fits into _ m (w refl) f
-  acts_fit (act.Head k) into from end place m w fi ta ch f = write_fits into _ m (w refl) f
-  acts_fit act.Copy into from end place m w fi ta ch f = write_fits into _ m (w refl) f
-  acts_fit act.Neg into from end place m w fi ta ch f = write_fits into _ m (w refl) f
-  acts_fit (act.Pair b) into from end place m w fi ta ch f = write_fits into _ m (w refl) f
-  acts_fit act.Pick into from end place m w fi ta ch f = write_fits into _ m (w refl) f
-  acts_fit (act.Call g) into from end place m w fi ta ch f = write_fits into _ m (w refl) f
-  acts_fit (act.Load g) into from end place m w fi ta ch f = write_fits into _ m (w refl) f
   acts_fit (act.Save g) into from end place m w fi ta ch f =
       in_room m (acts (voice_world areas piece) (act.Save g) into (map m.regs from) m).world f (room_of m f)
   acts_fit (act.Start opcode k) into from end place m w fi ta ch f =
@@ -315,6 +233,7 @@ module _ (areas : List Area) (piece : Piece) (counts : Counts) where
       in_room m (acts (voice_world areas piece) act.Turnoff into (map m.regs from) m).world f (room_of m f)
   acts_fit act.Ask into from end place m w fi ta ch f =
       in_room m (acts (voice_world areas piece) act.Ask into (map m.regs from) m).world f (room_of m f)
+  acts_fit _ into from end place m w fi ta ch f = write_fits into _ m (w refl) f
 
   either_fits : (b : Bool) (n m : Machine VoiceState) → Fits n → Fits m → Fits (if b then n else m)
   either_fits true n m h k = h
@@ -350,11 +269,7 @@ module _ (areas : List Area) (piece : Piece) (counts : Counts) where
 silent_held : (ksmps : ℕ) (r : Rate) → held ksmps r silence ≡ silence
 silent_held ksmps rate.Init = refl
 silent_held ksmps rate.Control = refl
-silent_held ksmps rate.Audio = λ i j. both (nat_lt j ksmps) i
-  where
-    both : (b : Bool) → (if b then pos 0 else pos 0) ≡ pos 0
-    both true = refl
-    both false = refl
+silent_held ksmps rate.Audio = grind (arith, common_steps, nat_lt)
 
 -- a voice begins so, and stays so
 pub begins_fitting : (s : Sheet) (counts : Counts) (cells : ℕ → ℤ) → IsPlayable s

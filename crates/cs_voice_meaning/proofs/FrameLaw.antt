@@ -1,14 +1,12 @@
 -- The frame law of voices.
-use Rattle.std.proofs.Common.{◌≡◌, ℕ, ℤ, pos, zero, suc, ◌+◌, ◌<◌, ◌≤◌, true, false, [], ◌∷◌, map, length, nat_lt}
+use Rattle.std.proofs.lemmas.{Grind.common_steps, List.length-map, Bool.Decides.nat_tests}
+use Rattle.std.proofs.Common.{◌≡◌, ℕ, ℤ, pos, zero, suc, ◌+◌, ◌<◌, ◌≤◌, true, false, ◌∷◌, map, length, nat_lt, []}
 use Rattle.std.proofs.Common.{if◌then◌else◌, refl, sym, ◌∙◌, ap, arith}
 use Rattle.std.specs.List.{range_with_len}
-use Rattle.std.proofs.lemmas.List.{length-map}
-use Rattle.std.proofs.lemmas.Bool.Decides.{nat_tests}
 use Rattle.cs_base.proofs.Tests.{by_test}
-use Rattle.cs_cells.specs.Cells.{Cells, cell, Agree}
-use Rattle.cs_cells.specs.Meaning.{Uses, Writes, Frames}
-use Rattle.cs_voice_meaning.specs.Voices.{Sounding, may_use, may_write, seen, cycle, voice_of, performed, left_by}
-use Rattle.cs_voice_meaning.specs.Voices.{IsSound, voice_means}
+use Rattle.cs_cells.specs.{Cells.Cells, Cells.cell, Cells.Agree, Meaning.Uses, Meaning.Writes, Meaning.Frames}
+use Rattle.cs_voice_meaning.specs.Voices.{Sounding, may_write, seen, cycle, voice_of, performed, left_by, IsSound}
+use Rattle.cs_voice_meaning.specs.Voices.{voice_means}
 
 long_range : (j n : ℕ) → length (range_with_len j n) ≡ n
 long_range j zero = refl
@@ -37,21 +35,12 @@ high a n h = grind (arith, nat_tests)
 -- what a voice sees of cells that agree where it uses them
 seen_same : (v : Sounding) (c d : Cells) → Agree (Uses voice_means v) c d
     → seen v.sheet (cell c) ≡ seen v.sheet (cell d)
-seen_same v c d same = λ i a. at a i
-  where
-    at : (a : ℕ) → seen v.sheet (cell c) a ≡ seen v.sheet (cell d) a
-    at a = by_test (may_use v.sheet a)
-        (λ yes. ap (λ b. if b then cell c a else pos 0) yes ∙ same.same a yes
-        ∙ sym (ap (λ b. if b then cell d a else pos 0) yes))
-        (λ no. ap (λ b. if b then cell c a else pos 0) no ∙ sym (ap (λ b. if b then cell d a else pos 0) no))
+seen_same v c d same = grind (arith, common_steps, by_test)
 
 pub left_at : (v : Sounding) (c : Cells) (a : ℕ) → a < length c
     → cell (left_by v c) a ≡ (if may_write v.sheet a then (cycle v (seen v.sheet (cell c))).world.shared a else cell c
     a)
-left_at v c a h =
-    let value : ℕ → ℤ = λ z. if may_write v.sheet z then (cycle v (seen v.sheet (cell c))).world.shared z else cell c
-    z in
-    tabled value 0 (length c) a h ∙ ap value (let e : 0 + a ≡ a = omega arith in e)
+left_at v c a h = grind (arith, common_steps, tabled)
 
 left_long : (v : Sounding) (c : Cells) → length (left_by v c) ≡ length c
 left_long v c = long_map
@@ -74,12 +63,7 @@ left_same v c d same a used =
     left_past v c a far ∙ sym (left_past v d a far'))
 
 left_others : (v : Sounding) (c : Cells) (a : ℕ) → ¬ (Writes voice_means v a) → cell (left_by v c) a ≡ cell c a
-left_others v c a un =
-    by_test (nat_lt a (length c))
-    (λ yes. left_at v c a (low a (length c) yes)
-    ∙ by_test (may_write v.sheet a) (λ w. absurd (un w))
-    (λ w. ap (λ b. if b then (cycle v (seen v.sheet (cell c))).world.shared a else cell c a) w))
-    (λ no. left_past v c a (high a (length c) no) ∙ sym (past_cells c a (high a (length c) no)))
+left_others v c a un = grind (arith, common_steps, by_test, high, left_at, left_past, low, nat_lt, past_cells)
 
 after_same : (v : Sounding) (c d : Cells) → Agree (Uses voice_means v) c d → performed v c ≡ performed v d
 after_same v c d same = let next : (ℕ → ℤ) → Sounding =
@@ -89,13 +73,4 @@ still_sound : (v : Sounding) (c : Cells) → IsSound v → IsSound (performed v 
 still_sound v c s = s
 
 pub voice_frames : Frames voice_means
-voice_frames = record {
-  job = λ v c d s same. after_same v c d same;
-  cells = λ v c d s same. record
-      { long = left_long v c ∙ same.long ∙ sym (left_long v d); same = left_same v c d same };
-  others = λ v c a s un. left_others v c a un;
-  long = λ v c. left_long v c;
-  valid_after = λ v c s. still_sound v c s;
-  foot_after = λ v c. refl;
-  areas_after = λ v c. refl;
-}
+voice_frames = grind (arith, common_steps, after_same, left_long, left_others, left_same, still_sound)

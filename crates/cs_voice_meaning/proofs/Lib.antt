@@ -1,6 +1,7 @@
 pub mod Alikes
 pub mod Fitting
 pub mod FrameLaw
+pub mod Models
 pub mod Naming
 pub mod Notes
 pub mod OnAllCells

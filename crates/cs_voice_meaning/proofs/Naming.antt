@@ -1,30 +1,26 @@
 -- What a unit may touch is named: its table, and its zak places.
-use Rattle.std.proofs.Common.{◌≡◌, ℕ, ℤ, zero, suc, ◌+◌, ◌<◌, ◌≤◌, ◌≢◌, Bool, true, false, not, ◌&&◌, ◌==◌, List, []}
-use Rattle.std.proofs.Common.{◌∷◌, map, nat_lt, unsigned_abs, Some, if◌then◌else◌, refl, sym, ◌∙◌, ap, subst, arith}
-use Rattle.std.proofs.Common.{ltb-true, ⊎_elim}
+use Rattle.std.proofs.lemmas.{Grind.common_steps, Bool.Decides.nat_tests}
+use Rattle.std.proofs.Common.{◌≡◌, ℕ, ℤ, zero, suc, ◌+◌, ◌<◌, ◌≤◌, ◌≢◌, Bool, true, false, not, ◌&&◌, ◌==◌, List, ◌∷◌}
+use Rattle.std.proofs.Common.{[], map, nat_lt, unsigned_abs, None, Some, if◌then◌else◌, refl, sym, ◌∙◌, ap, subst}
+use Rattle.std.proofs.Common.{arith, ltb-true, ⊎_elim}
 use Rattle.std.specs.List.{list_any, filter, range_with_len}
-use Rattle.std.specs.Int.{is_negative}
 use Rattle.std.proofs.lemmas.Bool.{and_parts, or_left, or_right, or_cases}
-use Rattle.std.proofs.lemmas.Bool.Decides.{nat_tests}
 use Rattle.cs_base.proofs.Tests.{by_test}
-use Rattle.cs_base.specs.declared.resource.Res.{Res}
+use Rattle.cs_base.specs.{declared.resource.Res.Res, declared.spaces.Spaces.Spaces}
+use Rattle.cs_cells.specs.declared.footprint.Area.{Area}
 use Rattle.cs_words.specs.declared.catalogue.Space.{Space}
+use Rattle.cs_ir.specs.{Validity.has_value, declared.op.Reach.Reach}
+use Rattle.cs_ir.specs.Resources.{Stock, places_of, zak_place, reaches, places_within, tables_within}
+use Rattle.cs_meaning.specs.Plain.{Piece, Table, find_table}
+use Rattle.cs_voice_meaning.specs.{Follows.AreNamed, Placing.IsPlaced}
+use Rattle.cs_base.specs.declared.resource.Res.TheVariants as res
 use Rattle.cs_words.specs.declared.catalogue.Space.TheVariants as space
-use Rattle.cs_ir.specs.Validity.{has_value}
-use Rattle.cs_base.specs.declared.spaces.Spaces.{Spaces}
-use Rattle.cs_ir.specs.Resources.{Stock, places_of, zak_place, reaches, places_within}
-use Rattle.cs_ir.specs.declared.op.Reach.{Reach}
-use Rattle.cs_meaning.specs.Plain.{Table, find_table}
-use Rattle.cs_voice_meaning.specs.Follows.{AreNamed}
 
 equal : (m n : ℕ) → (m == n) ≡ true → m ≡ n
 equal m n h = grind (arith, nat_tests)
 
 differ : (m n : ℕ) → (m == n) ≡ false → m ≢ n
-differ m n h e = absurd (let t : (m == n) ≡ true = ap (λ k. k == n) e ∙ self n in cc)
-  where
-    self : (n : ℕ) → (n == n) ≡ true
-    self n = grind (arith, nat_tests)
+differ m n h e = grind (arith, common_steps, nat_tests)
 
 split : (N : Res → Type 0) (f : ℕ → Res) (b : Bool) (k : ℕ) (l : List ℕ) → AreNamed N (map f (if b then k ∷ l else l))
     → (b ≡ true → N (f k)) × AreNamed N (map f l)
@@ -68,13 +64,13 @@ no_table space.Audio n = refl
 -- a table that is found has the number that was asked for
 pub found_number : (ts : List Table) (z : ℤ) (t : Table) → find_table ts z ≡ Some t → t.number ≡ unsigned_abs z
 found_number [] z t h = absurd (cc)
-found_number (x ∷ ts) z t h = by_case (found_number ts z t) (not (is_negative z) && x.number == unsigned_abs z) refl h
-  where
-    by_case : (find_table ts z ≡ Some t → t.number ≡ unsigned_abs z) → (b : Bool)
-        → (not (is_negative z) && x.number == unsigned_abs z) ≡ b → (if b then Some x else find_table ts z) ≡ Some t
-        → t.number ≡ unsigned_abs z
-    by_case later true e k =
-        let same : x ≡ t = cc in
-        ap (λ y. y.number) (sym same)
-        ∙ equal x.number (unsigned_abs z) (and_parts (not (is_negative z)) (x.number == unsigned_abs z) e).1
-    by_case later false e k = later k
+found_number (x ∷ ts) z t h = grind (arith, common_steps, and_parts, equal, not, unsigned_abs, found_number ts z t)
+
+-- a live table that is reached is named
+pub table_named : (areas : List Area) (stock : Stock) (piece : Piece) (N : Res → Type 0) → IsPlaced areas stock piece
+    → (reach : Reach) (z : ℤ) (t : Table) → AreNamed N (tables_within stock reach)
+    → reaches reach (unsigned_abs z) ≡ true → find_table piece.tables z ≡ Some t → t.frozen ≡ None
+    → N (res.Table t.number)
+table_named areas stock piece N placed reach z t named at found live =
+    named_among N res.Table reach stock.live named t.number (placed.tables z t found live).among
+    (ap (reaches reach) (found_number piece.tables z t found) ∙ at)

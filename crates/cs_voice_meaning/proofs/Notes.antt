@@ -1,17 +1,14 @@
 -- A voice that begins and runs is in the state of the note of the plain world.
-use Rattle.std.proofs.Common.{◌≡◌, ℕ, ℤ, List, [], refl}
-use Rattle.cs_base.specs.Rates.{res_rate}
-use Rattle.cs_base.specs.declared.resource.Res.{Res}
+use Rattle.std.proofs.Common.{◌≡◌, ℕ, ℤ, List, refl, []}
+use Rattle.cs_base.specs.{Rates.res_rate, declared.resource.Res.Res}
 use Rattle.cs_signal.specs.Pace.{Pace}
 use Rattle.cs_ir.specs.Waves.{Wave}
 use Rattle.cs_cells.specs.declared.footprint.Area.{Area}
 use Rattle.cs_meaning.specs.Plain.{plain, fresh}
-use Rattle.cs_voice_meaning.specs.Placing.{area_of, HasArea, wave_of}
+use Rattle.cs_voice_meaning.specs.{Placing.area_of, Placing.HasArea, Placing.wave_of, VoiceWorld.fresh_voice}
+use Rattle.cs_voice_meaning.specs.{VoiceWorld.voice_world, Follows.Kinds, Follows.SameState, Follows.DoAlike}
 use Rattle.cs_ugen.specs.Generators.{pace_of}
-use Rattle.cs_voice_meaning.specs.VoiceWorld.{fresh_voice, voice_world}
-use Rattle.cs_voice_meaning.specs.Follows.{Kinds, SameState, DoAlike}
-use Rattle.cs_voice_meaning.proofs.Alikes.{run_alike}
-use Rattle.cs_voice_meaning.proofs.VoiceFollows.{voice_follows}
+use Rattle.cs_voice_meaning.proofs.{Alikes.run_alike, VoiceFollows.voice_follows}
 
 -- over cells that have what notes share a voice begins as a note does
 pub begins_same : (N : Res → Type 0) (areas : List Area) (kinds : Kinds) (pace : Pace) (cells : ℕ → ℤ)

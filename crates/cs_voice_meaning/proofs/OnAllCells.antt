@@ -1,24 +1,27 @@
 -- What a voice does over the cells that it sees is what it does over all cells.
-use Rattle.std.proofs.Common.{◌≡◌, ℕ, ℤ, pos, ◌<◌, Bool, true, false, List, [], ◌∷◌, length, Option, if◌then◌else◌}
-use Rattle.std.proofs.Common.{refl, sym, ◌∙◌, ap}
-use Rattle.std.proofs.lemmas.Bool.{or_right}
+use Rattle.std.proofs.Common.{◌≡◌, ℕ, ℤ, pos, ◌<◌, Bool, true, false, List, ◌∷◌, length, Option, Some, None, []}
+use Rattle.std.proofs.Common.{if◌then◌else◌, refl, sym, ◌∙◌, ap, arith}
+use Rattle.std.proofs.lemmas.{Bool.or_right, Grind.common_steps}
 use Rattle.cs_base.proofs.Tests.{by_test}
 use Rattle.cs_base.specs.declared.resource.Res.{Res}
-use Rattle.cs_ir.specs.Machine.{Machine}
+use Rattle.cs_ir.specs.{Machine.Machine, Waves.Wave, declared.op.Op.Op, declared.register.Reg.Reg}
 use Rattle.cs_ir.specs.Resources.{Stock, act_writes}
-use Rattle.cs_ir.specs.Waves.{Wave}
-use Rattle.cs_ir.specs.declared.op.Op.{Op}
-use Rattle.cs_ir.specs.declared.register.Reg.{Reg}
 use Rattle.cs_cells.specs.Cells.{Cells, cell, covers, in_area}
-use Rattle.cs_voice_meaning.specs.Placing.{area_of}
+use Rattle.cs_voice_meaning.specs.{Placing.area_of, Follows.AreNamed, Follows.Alike, Follows.BothOrNone}
 use Rattle.cs_voice_meaning.specs.VoiceWorld.{Playing, VoiceState, voice_world}
-use Rattle.cs_voice_meaning.specs.Follows.{AreNamed, Alike}
 use Rattle.cs_voice_meaning.specs.Voices.{Sounding, may_use, may_write, seen, begins, cycle, voice_of, performed}
 use Rattle.cs_voice_meaning.specs.Voices.{left_by, IsWritten, OpsWritten, IsSound}
-use Rattle.cs_voice_meaning.proofs.Alikes.{run_alike}
-use Rattle.cs_voice_meaning.proofs.FrameLaw.{left_at}
+use Rattle.cs_voice_meaning.proofs.{Alikes.run_alike, FrameLaw.left_at, Written.run_keeps}
 use Rattle.cs_voice_meaning.proofs.SameWorlds.{SameSeen, IsSeen, same_follows}
-use Rattle.cs_voice_meaning.proofs.Written.{run_keeps}
+
+itself : {A : Type 0} (o : Option A) → BothOrNone (λ p q. p ≡ q) o o
+itself None = tt
+itself (Some p) = refl
+
+one_unit : {A : Type 0} (o k : Option A) → BothOrNone (λ p q. p ≡ q) o k → o ≡ k
+one_unit None None h = refl
+one_unit (Some p) (Some q) h = ap (λ z. Some z) h
+one_unit _ _ h = absurd h
 
 -- the machine that sees what the voice may use does as one that sees all
 pub cycle_seen : (v : Sounding) (c : ℕ → ℤ) → IsSound v
@@ -33,8 +36,8 @@ cycle_seen v c s =
       regs = refl;
       next = refl;
       world = record {
-        cells = λ a used. ap (λ b. if b then c a else pos 0) used;
-        units = refl;
+        shared = λ a used. ap (λ b. if b then c a else pos 0) used;
+        units = λ u. itself (v.units u);
         delays = refl;
         outs = refl;
         ended = refl;
@@ -46,11 +49,7 @@ cycle_seen v c s =
 without : (v : Sounding) (a : ℕ) → may_write v.sheet a ≡ false → (gs : List Res) → AreNamed (IsWritten v.sheet) gs
     → AreNamed (λ g. in_area (area_of v.sheet.areas g) a ≡ false) gs
 without v a un [] h = tt
-without v a un (g ∷ gs) h = (
-  by_test (in_area (area_of v.sheet.areas g) a)
-      (λ yes. absurd (let t : may_write v.sheet a ≡ true = h.0 a yes in cc)) (λ no. no),
-  without v a un gs h.1,
-)
+without v a un (g ∷ gs) h = grind (arith, common_steps, by_test, without v a un gs h.1)
 
 ops_without : (v : Sounding) (stock : Stock) (a : ℕ) → may_write v.sheet a ≡ false → (ops : List Op)
     → OpsWritten stock (IsWritten v.sheet) ops
@@ -72,12 +71,7 @@ voice_by v regs units delays outs ended =
 same_after : (v : Sounding) (m n : Machine VoiceState) → Alike (SameSeen (λ a. may_use v.sheet a ≡ true)) m n
     → voice_of v.sheet m ≡ voice_of v.sheet n
 unfolding voice_by
-same_after v m n e =
-    ap (λ r. voice_by v r m.world.units m.world.delays m.world.outs m.world.ended) e.regs
-    ∙ ap (λ u. voice_by v n.regs u m.world.delays m.world.outs m.world.ended) e.world.units
-    ∙ ap (λ d. voice_by v n.regs n.world.units d m.world.outs m.world.ended) e.world.delays
-    ∙ ap (λ o. voice_by v n.regs n.world.units n.world.delays o m.world.ended) e.world.outs
-    ∙ ap (λ b. voice_by v n.regs n.world.units n.world.delays n.world.outs b) e.world.ended
+same_after v m n e = grind (arith, common_steps, one_unit, voice_by)
 
 -- the voice after a cycle is the one that performed over all cells
 pub performed_on_all : (v : Sounding) (c : Cells) → IsSound v → performed v c ≡ voice_of v.sheet (cycle v (cell c))
@@ -90,7 +84,7 @@ left_on_all v c a s near =
     left_at v c a near
     ∙ by_test (may_write v.sheet a)
     (λ yes. ap (λ b. if b then (cycle v (seen v.sheet (cell c))).world.shared a else cell c a) yes
-    ∙ (cycle_seen v (cell c) s).world.cells a
+    ∙ (cycle_seen v (cell c) s).world.shared a
     (or_right (covers v.sheet.zones v.sheet.foot.uses a) (may_write v.sheet a) yes))
     (λ no. ap (λ b. if b then (cycle v (seen v.sheet (cell c))).world.shared a else cell c a) no
     ∙ sym (cycle_keeps v (cell c) a s no))

@@ -1,19 +1,14 @@
 -- Resources and their cells: what is written into an area is read from it, and no other resource changes.
-use Rattle.std.proofs.Common.{◌≡◌, ℕ, ℤ, pos, suc, ◌+◌, ◌-◌, ◌<◌, ◌≤◌, ◌≢◌, Bool, true, false, List, [], ◌∷◌, nat_lt}
+use Rattle.std.proofs.lemmas.{Grind.common_steps, Bool.Decides.nat_tests}
+use Rattle.std.proofs.Common.{◌≡◌, ℕ, ℤ, pos, suc, ◌+◌, ◌-◌, ◌<◌, ◌≤◌, ◌≢◌, Bool, true, false, List, ◌∷◌, nat_lt, []}
 use Rattle.std.proofs.Common.{slice_get, Some, if◌then◌else◌, sym, ◌∙◌, ap, arith, ltb-true}
-use Rattle.std.proofs.lemmas.Bool.Decides.{nat_tests}
-use Rattle.cs_base.specs.Rates.{same_res}
-use Rattle.cs_base.specs.declared.resource.Rate.{Rate}
-use Rattle.cs_base.specs.declared.resource.Rate.TheVariants as rate
-use Rattle.cs_base.specs.declared.resource.Res.{Res}
-use Rattle.cs_base.proofs.Rates.{same_res_is}
-use Rattle.cs_base.proofs.Tests.{by_test}
+use Rattle.cs_base.specs.{Rates.same_res, declared.resource.Rate.Rate, declared.resource.Res.Res}
+use Rattle.cs_base.proofs.{Rates.same_res_is, Tests.by_test}
 use Rattle.cs_ir.specs.Waves.{Wave}
-use Rattle.cs_cells.specs.Areas.{IsLaid}
-use Rattle.cs_cells.specs.Cells.{in_area}
-use Rattle.cs_cells.specs.declared.footprint.Area.{Area}
+use Rattle.cs_cells.specs.{Areas.IsLaid, Cells.in_area, declared.footprint.Area.Area}
 use Rattle.cs_cells.proofs.Laid.{one_place}
 use Rattle.cs_voice_meaning.specs.Placing.{area_of, wave_in, with_wave}
+use Rattle.cs_base.specs.declared.resource.Rate.TheVariants as rate
 
 -- ---- areas
 
@@ -53,9 +48,8 @@ apart areas g h a b x laid ha hb xa xb =
 
 -- an area has a cell to hold a value in; a sound may have none
 abbrev pub Roomy : Rate → ℕ → Type 0
-Roomy rate.Init n = 0 < n
-Roomy rate.Control n = 0 < n
 Roomy rate.Audio n = Unit {0}
+Roomy _ n = 0 < n
 
 in_front : (area : Area) (j : ℕ) → j < area.length → in_area (Some area) (area.first + j) ≡ true
 in_front area j h = grind (arith, nat_tests)
@@ -74,46 +68,26 @@ pub wave_same : (r : Rate) (area : Area) (c d : ℕ → ℤ) → Roomy r area.le
     → ((a : ℕ) → in_area (Some area) a ≡ true → c a ≡ d a) → wave_in r area c ≡ wave_in r area d
 wave_same rate.Init area c d some same = λ i j. same area.first (in_first area some) i
 wave_same rate.Control area c d some same = λ i j. same area.first (in_first area some) i
-wave_same rate.Audio area c d some same = λ i j. at j i
-  where
-    at : (j : ℕ) → wave_in rate.Audio area c j ≡ wave_in rate.Audio area d j
-    at j = by_test (nat_lt j area.length)
-        (λ yes. ap (λ b. if b then c (area.first + j) else pos 0) yes
-        ∙ same (area.first + j) (in_front area j (below j area.length yes))
-        ∙ sym (ap (λ b. if b then d (area.first + j) else pos 0) yes))
-        (λ no. ap (λ b. if b then c (area.first + j) else pos 0) no
-        ∙ sym (ap (λ b. if b then d (area.first + j) else pos 0) no))
+wave_same rate.Audio area c d some same = grind (arith, common_steps, below, by_test, in_front, nat_lt)
 
 -- a wave that an area can hold: one value, or silence beyond its cells
 abbrev pub Fits : Rate → Area → Wave → Type 0
-Fits rate.Init area w = (j : ℕ) → w j ≡ w 0
-Fits rate.Control area w = (j : ℕ) → w j ≡ w 0
 Fits rate.Audio area w = (j : ℕ) → area.length ≤ j → w j ≡ pos 0
+Fits _ area w = (j : ℕ) → w j ≡ w 0
 
 written_at : (area : Area) (w : Wave) (c : ℕ → ℤ) (j : ℕ) → j < area.length
     → with_wave (Some area) w c (area.first + j) ≡ w j
-written_at area w c j h =
-    let e : area.first + j - area.first ≡ j = omega arith in
-    ap (λ b. if b then w (area.first + j - area.first) else c (area.first + j)) (in_front area j h) ∙ ap w e
+written_at area w c j h = grind (arith, common_steps, in_front)
 
 first_written : (area : Area) (w : Wave) (c : ℕ → ℤ) → 0 < area.length → with_wave (Some area) w c area.first ≡ w 0
-first_written area w c h =
-    let e : area.first - area.first ≡ 0 = omega arith in
-    ap (λ b. if b then w (area.first - area.first) else c area.first) (in_first area h) ∙ ap w e
+first_written area w c h = grind (arith, common_steps, in_first)
 
 -- what was written is read
 pub wave_written : (r : Rate) (area : Area) (w : Wave) (c : ℕ → ℤ) → Roomy r area.length → Fits r area w
     → wave_in r area (with_wave (Some area) w c) ≡ w
 wave_written rate.Init area w c some fits = λ i j. (first_written area w c some ∙ sym (fits j)) i
 wave_written rate.Control area w c some fits = λ i j. (first_written area w c some ∙ sym (fits j)) i
-wave_written rate.Audio area w c some fits = λ i j. at j i
-  where
-    at : (j : ℕ) → wave_in rate.Audio area (with_wave (Some area) w c) j ≡ w j
-    at j = by_test (nat_lt j area.length)
-        (λ yes. ap (λ b. if b then with_wave (Some area) w c (area.first + j) else pos 0) yes
-        ∙ written_at area w c j (below j area.length yes))
-        (λ no. ap (λ b. if b then with_wave (Some area) w c (area.first + j) else pos 0) no
-        ∙ sym (fits j (at_or_past j area.length no)))
+wave_written rate.Audio area w c some fits = grind (arith, common_steps, at_or_past, below, by_test, nat_lt, written_at)
 
 -- outside the area nothing changes
 pub unwritten : (area : Area) (w : Wave) (c : ℕ → ℤ) (a : ℕ) → in_area (Some area) a ≡ false
@@ -130,6 +104,4 @@ not_in areas g h a b x laid ha hb other inside =
 pub wave_kept : (areas : List Area) (g h : Res) (a b : Area) (r : Rate) (w : Wave) (c : ℕ → ℤ) → IsLaid areas
     → area_of areas g ≡ Some a → area_of areas h ≡ Some b
     → h ≢ g → Roomy r b.length → wave_in r b (with_wave (Some a) w c) ≡ wave_in r b c
-wave_kept areas g h a b r w c laid ha hb other some =
-    wave_same r b (with_wave (Some a) w c) c some
-    (λ x inside. unwritten a w c x (not_in areas g h a b x laid ha hb other inside))
+wave_kept areas g h a b r w c laid ha hb other some = grind (arith, common_steps, not_in, unwritten, wave_same)

@@ -1,30 +1,20 @@
 -- Saving and clearing keep the voice's cells and the plain world's values the same.
-use Rattle.std.proofs.Common.{◌≡◌, ℕ, ℤ, pos, zero, suc, ◌<◌, ◌≤◌, ◌≢◌, Bool, true, false, ◌&&◌, List, [], ◌∷◌, nat_lt}
+use Rattle.std.proofs.lemmas.{Grind.common_steps, Bool.Decides.nat_tests}
+use Rattle.std.proofs.Common.{◌≡◌, ℕ, ℤ, pos, zero, suc, ◌<◌, ◌≤◌, ◌≢◌, Bool, true, false, ◌&&◌, List, ◌∷◌, nat_lt, []}
 use Rattle.std.proofs.Common.{slice_get, Some, if◌then◌else◌, refl, sym, ◌∙◌, ap, arith, ⊎_elim}
 use Rattle.std.specs.List.{list_any}
 use Rattle.std.proofs.lemmas.Bool.{and_parts, and_from, or_left, or_right, or_cases}
-use Rattle.std.proofs.lemmas.Bool.Decides.{nat_tests}
-use Rattle.cs_base.specs.Rates.{same_res, res_rate}
-use Rattle.cs_base.specs.declared.resource.Rate.{Rate}
-use Rattle.cs_base.specs.declared.resource.Rate.TheVariants as rate
-use Rattle.cs_base.specs.declared.resource.Res.{Res}
-use Rattle.cs_base.specs.declared.resource.Res.TheVariants as res
-use Rattle.cs_base.proofs.Rates.{same_res_is, same_res_here}
-use Rattle.cs_base.proofs.Tests.{by_test}
-use Rattle.cs_ir.specs.Validity.{has_value}
-use Rattle.cs_ir.specs.Resources.{Stock}
-use Rattle.cs_ir.specs.Waves.{Wave, held, silence}
-use Rattle.cs_cells.specs.Cells.{in_area}
-use Rattle.cs_cells.specs.declared.footprint.Area.{Area}
+use Rattle.cs_base.specs.{Rates.same_res, Rates.res_rate, declared.resource.Rate.Rate, declared.resource.Res.Res}
+use Rattle.cs_base.proofs.{Rates.same_res_is, Rates.same_res_here, Tests.by_test}
+use Rattle.cs_ir.specs.{Validity.has_value, Resources.Stock, Waves.Wave, Waves.held, Waves.silence}
+use Rattle.cs_cells.specs.{Cells.in_area, declared.footprint.Area.Area}
 use Rattle.cs_cells.proofs.Laid.{one_place}
-use Rattle.cs_meaning.specs.Model.{loaded, with_value, saved, cleared}
-use Rattle.cs_meaning.specs.Pieces.{Piece}
-use Rattle.cs_meaning.specs.Plain.{Plain, plain_model, shared_with}
-use Rattle.cs_voice_meaning.specs.Placing.{area_of, wave_in, wave_of, with_wave, IsPlaced}
-use Rattle.cs_ugen.specs.Generators.{pace_of}
-use Rattle.cs_voice_meaning.specs.VoiceWorld.{VoiceState, lies_cleared, voice_model}
-use Rattle.cs_voice_meaning.specs.Follows.{Kinds, SameState}
+use Rattle.cs_meaning.specs.{Pieces.Piece, Plain.shared_with, Plain.silenced}
+use Rattle.cs_voice_meaning.specs.Placing.{area_of, wave_in, wave_of, IsPlaced}
+use Rattle.cs_voice_meaning.specs.VoiceWorld.{lies_cleared, read_cells, write_cells, clear_cells}
 use Rattle.cs_voice_meaning.proofs.Placed.{Roomy, Fits, area_at, wave_same, wave_written, wave_kept}
+use Rattle.cs_base.specs.declared.resource.Rate.TheVariants as rate
+use Rattle.cs_base.specs.declared.resource.Res.TheVariants as res
 
 pub any_at : (f : Area → Bool) (areas : List Area) → list_any f areas ≡ true
     → (place : ℕ) × (area : Area) × (slice_get areas place ≡ Some area) × (f area ≡ true)
@@ -40,21 +30,17 @@ any_from f [] place area at h = absurd (cc)
 any_from f (a ∷ areas) zero area at h = let e : a ≡ area = cc in or_left (f a) (list_any f areas) (ap f e ∙ h)
 any_from f (a ∷ areas) (suc place) area at h = or_right (f a) (list_any f areas) (any_from f areas place area at h)
 
--- a wave whose cells are all 0
+-- cells that are all 0 make silence
+pub zeros : (r : Rate) (area : Area) → wave_in r area (λ a. pos 0) ≡ silence
+zeros rate.Init area = refl
+zeros rate.Control area = refl
+zeros rate.Audio area = grind (arith, common_steps, nat_lt)
+
 silent : (r : Rate) (area : Area) (c : ℕ → ℤ) → Roomy r area.length
     → ((a : ℕ) → in_area (Some area) a ≡ true → c a ≡ pos 0) → wave_in r area c ≡ silence
-silent r area c some all = wave_same r area c (λ a. pos 0) some all ∙ zeros r
-  where
-    either_zero : (b : Bool) → (if b then pos 0 else pos 0) ≡ pos 0
-    either_zero true = refl
-    either_zero false = refl
+silent r area c some all = wave_same r area c (λ a. pos 0) some all ∙ zeros r area
 
-    zeros : (r : Rate) → wave_in r area (λ a. pos 0) ≡ silence
-    zeros rate.Init = refl
-    zeros rate.Control = refl
-    zeros rate.Audio = λ i j. either_zero (nat_lt j area.length) i
-
-past_end : (j n : ℕ) → n ≤ j → nat_lt j n ≡ false
+pub past_end : (j n : ℕ) → n ≤ j → nat_lt j n ≡ false
 past_end j n h = grind (arith, nat_tests)
 
 fits_frames : (area : Area) (ksmps : ℕ) (w : Wave) → area.length ≡ ksmps
@@ -62,90 +48,54 @@ fits_frames : (area : Area) (ksmps : ℕ) (w : Wave) → area.length ≡ ksmps
 fits_frames area ksmps w e j h = let at : ksmps ≤ j =
     omega (arith, e, h) in ap (λ b. if b then w j else pos 0) (past_end j ksmps at)
 
-module _ (areas : List Area) (stock : Stock) (piece : Piece) (kinds : Kinds) (N : Res → Type 0)
-    (earlier : List (List ℤ))
-    (placed : IsPlaced areas stock piece) (has : (g : Res) → N g → (area : Area) × (area_of areas g ≡ Some area)) where
+-- what is named is read from its cells as it is shared
+abbrev pub Reads : List Area → (Res → Type 0) → (ℕ → ℤ) → (Res → Wave) → Type 0
+Reads areas N cells shared = (g : Res) → N g → read_cells areas g cells ≡ shared g
+
+module _ (areas : List Area) (stock : Stock) (piece : Piece) (placed : IsPlaced areas stock piece) where
   one_cell : (g : Res) (a : Area) (n : ℕ) → n ≡ 1 → a.length ≡ n → 0 < a.length
   one_cell g a n e h = omega (arith, e, h)
 
   pub roomy : (g : Res) (a : Area) → area_of areas g ≡ Some a → Roomy (res_rate g) a.length
   roomy (res.Gi n) a h = one_cell (res.Gi n) a 1 refl (placed.cells (res.Gi n) a h refl)
   roomy (res.Gk n) a h = one_cell (res.Gk n) a 1 refl (placed.cells (res.Gk n) a h refl)
-  roomy (res.Ga n) a h = tt
   roomy (res.ZakK n) a h = one_cell (res.ZakK n) a 1 refl (placed.cells (res.ZakK n) a h refl)
-  roomy (res.ZakA n) a h = tt
   roomy (res.Control n) a h = one_cell (res.Control n) a 1 refl (placed.cells (res.Control n) a h refl)
-  roomy (res.Sound n) a h = tt
-  roomy (res.Table n) a h = tt
+  roomy _ a h = tt
 
   pub fits_held : (g : Res) (a : Area) (w : Wave) → area_of areas g ≡ Some a → has_value g ≡ true
       → Fits (res_rate g) a (held piece.head.ksmps (res_rate g) w)
-  fits_held (res.Gi n) a w h t = λ j. refl
-  fits_held (res.Gk n) a w h t = λ j. refl
   fits_held (res.Ga n) a w h t = fits_frames a piece.head.ksmps w (placed.cells (res.Ga n) a h refl)
-  fits_held (res.ZakK n) a w h t = λ j. refl
   fits_held (res.ZakA n) a w h t = fits_frames a piece.head.ksmps w (placed.cells (res.ZakA n) a h refl)
-  fits_held (res.Control n) a w h t = λ j. refl
   fits_held (res.Sound n) a w h t = fits_frames a piece.head.ksmps w (placed.cells (res.Sound n) a h refl)
   fits_held (res.Table n) a w h t = absurd (cc)
+  fits_held _ a w h t = λ j. refl
 
+module _ (areas : List Area) (stock : Stock) (piece : Piece) (N : Res → Type 0) (placed : IsPlaced areas stock piece)
+    (has : (g : Res) → N g → (area : Area) × (area_of areas g ≡ Some area)) where
   other : (h g : Res) → same_res h g ≡ false → h ≢ g
   other h g unlike e = absurd (let t : same_res h g ≡ true = ap (λ k. same_res h k) (sym e) ∙ same_res_here h in cc)
 
-  shared_after : (g : Res) (a : Area) (w : Wave) (x : VoiceState) (y : Plain) → area_of areas g ≡ Some a
+  pub written_reads : (g : Res) (a : Area) (w : Wave) (c : ℕ → ℤ) (s : Res → Wave) → area_of areas g ≡ Some a
       → Fits (res_rate g) a w
-      → SameState N areas kinds (pace_of piece.head) earlier x y → (h : Res) → N h
-      → loaded (voice_model areas piece) h (with_value (voice_model areas piece) g w x) ≡ shared_with g w y.shared h
-  shared_after g a w x y at fits r h nh =
-      let b = has h nh in
-      by_test (same_res h g)
-      (λ yes. let e : h ≡ g = same_res_is h g yes in
-      ap (λ k. loaded (voice_model areas piece) k (with_value (voice_model areas piece) g w x)) e
-      ∙ ap (λ o. wave_of o (res_rate g) (with_wave o w x.shared)) at
-      ∙ wave_written (res_rate g) a w x.shared (roomy g a at) fits
-      ∙ sym (ap (λ t. if t then w else y.shared h) yes))
-      (λ no.
-      ap (λ o. wave_of (area_of areas h) (res_rate h) (with_wave o w x.shared)) at
-      ∙ ap (λ o. wave_of o (res_rate h) (with_wave (Some a) w x.shared)) b.1
-      ∙ wave_kept areas g h a b.0 (res_rate h) w x.shared placed.laid at b.1 (other h g no) (roomy h b.0 b.1)
-      ∙ sym (ap (λ o. wave_of o (res_rate h) x.shared) b.1)
-      ∙ r.shared h nh
-      ∙ sym (ap (λ t. if t then w else y.shared h) no))
+      → Reads areas N c s → Reads areas N (write_cells areas g w c) (shared_with g w s)
+  written_reads g a w c s at fits r h nh =
+      grind (arith, common_steps, by_test, other, roomy, same_res_is, wave_kept, wave_written)
 
-  pub saved_state : (g : Res) (a : Area) (w : Wave) (x : VoiceState) (y : Plain) → area_of areas g ≡ Some a
-      → Fits (res_rate g) a w
-      → SameState N areas kinds (pace_of piece.head) earlier x y
-      → SameState N areas kinds (pace_of piece.head) earlier (with_value (voice_model areas piece) g w x)
-      (with_value (plain_model piece) g w y)
-  saved_state g a w x y at fits r = record {
-    shared = shared_after g a w x y at fits r;
-    units = r.units;
-    delays = r.delays;
-    outs = r.outs;
-    ended = r.ended;
-    asks = r.asks;
-    cause = r.cause;
-  }
-
-  pub held_state : (g : Res) (w : Wave) (x : VoiceState) (y : Plain) → N g → has_value g ≡ true
-      → SameState N areas kinds (pace_of piece.head) earlier x y
-      → SameState N areas kinds (pace_of piece.head) earlier (saved (voice_model areas piece) g w x)
-      (saved (plain_model piece) g w y)
-  held_state g w x y n t r =
+  pub held_reads : (g : Res) (w : Wave) (c : ℕ → ℤ) (s : Res → Wave) → N g → has_value g ≡ true → Reads areas N c s
+      → Reads areas N (write_cells areas g (held piece.head.ksmps (res_rate g) w) c)
+      (shared_with g (held piece.head.ksmps (res_rate g) w) s)
+  held_reads g w c s n t r =
       let a = has g n in
-      saved_state g a.0 (held piece.head.ksmps (res_rate g) w) x y a.1 (fits_held g a.0 w a.1 t) r
+      written_reads g a.0 (held piece.head.ksmps (res_rate g) w) c s a.1
+      (fits_held areas stock piece placed g a.0 w a.1 t) r
 
   -- ---- clearing
 
   cells_cleared : (clears : Res → Bool) (g : Res) (area : Area) (c : ℕ → ℤ) → area_of areas g ≡ Some area
       → clears g ≡ true → (a : ℕ) → in_area (Some area) a ≡ true
       → (if lies_cleared areas clears a then pos 0 else c a) ≡ pos 0
-  cells_cleared clears g area c at hit a inside =
-      let place = area_at areas g area at in
-      let here : (in_area (Some area) a && clears area.res) ≡ true =
-      and_from (in_area (Some area) a) (clears area.res) inside (ap clears place.2 ∙ hit) in
-      ap (λ b. if b then pos 0 else c a)
-      (any_from (λ z. in_area (Some z) a && clears z.res) areas place.0 area place.1 here)
+  cells_cleared clears g area c at hit a inside = grind (arith, common_steps, and_from, any_from, area_at)
 
   cells_left : (clears : Res → Bool) (g : Res) (area : Area) (c : ℕ → ℤ) → area_of areas g ≡ Some area
       → clears g ≡ false → (a : ℕ) → in_area (Some area) a ≡ true
@@ -167,25 +117,16 @@ module _ (areas : List Area) (stock : Stock) (piece : Piece) (kinds : Kinds) (N 
       (λ f. f) in
       ap (λ b. if b then pos 0 else c a) none
 
-  pub cleared_state : (clears : Res → Bool) (x : VoiceState) (y : Plain)
-      → SameState N areas kinds (pace_of piece.head) earlier x y
-      → SameState N areas kinds (pace_of piece.head) earlier (cleared (voice_model areas piece) clears x)
-      (cleared (plain_model piece) clears y)
-  cleared_state clears x y r = record {
-    shared = λ g n.
-        let a = has g n in
-        let c : ℕ → ℤ = λ z. if lies_cleared areas clears z then pos 0 else x.shared z in
-        ap (λ o. wave_of o (res_rate g) c) a.1
-        ∙ by_test (clears g)
-        (λ yes. silent (res_rate g) a.0 c (roomy g a.0 a.1) (cells_cleared clears g a.0 x.shared a.1 yes)
-        ∙ sym (ap (λ b. if b then silence else y.shared g) yes))
-        (λ no. wave_same (res_rate g) a.0 c x.shared (roomy g a.0 a.1) (cells_left clears g a.0 x.shared a.1 no)
-        ∙ sym (ap (λ o. wave_of o (res_rate g) x.shared) a.1) ∙ r.shared g n
-        ∙ sym (ap (λ b. if b then silence else y.shared g) no));
-    units = r.units;
-    delays = r.delays;
-    outs = r.outs;
-    ended = r.ended;
-    asks = r.asks;
-    cause = r.cause;
-  }
+  pub cleared_reads : (clears : Res → Bool) (cells : ℕ → ℤ) (s : Res → Wave) → Reads areas N cells s
+      → Reads areas N (clear_cells areas clears cells) (silenced clears s)
+  cleared_reads clears cells s r g n =
+      let a = has g n in
+      let c : ℕ → ℤ = clear_cells areas clears cells in
+      let some = roomy areas stock piece placed g a.0 a.1 in
+      ap (λ o. wave_of o (res_rate g) c) a.1
+      ∙ by_test (clears g)
+      (λ yes. silent (res_rate g) a.0 c some (cells_cleared clears g a.0 cells a.1 yes)
+      ∙ sym (ap (λ b. if b then silence else s g) yes))
+      (λ no. wave_same (res_rate g) a.0 c cells some (cells_left clears g a.0 cells a.1 no)
+      ∙ sym (ap (λ o. wave_of o (res_rate g) cells) a.1) ∙ r g n
+      ∙ sym (ap (λ b. if b then silence else s g) no))

@@ -1,21 +1,14 @@
 -- A control cycle refuses nothing, asks for nothing, and starts no delay.
-use Rattle.std.proofs.Common.{◌≡◌, ℕ, ℤ, ◌+◌, Bool, true, false, List, [], ◌∷◌, map, Option, None, if◌then◌else◌, refl}
-use Rattle.std.proofs.Common.{◌∙◌, ap}
-use Rattle.std.proofs.lemmas.Bool.{and_parts}
-use Rattle.cs_words.specs.Catalogue.{row_of}
-use Rattle.cs_ir.specs.Registers.{rate_at}
-use Rattle.cs_ir.specs.Cycles.{is_of_cycle, are_of_cycle}
-use Rattle.cs_ir.specs.Machine.{Machine, acts, is_done, step, run, gives, write}
-use Rattle.cs_ir.specs.Waves.{Wave, operand}
-use Rattle.cs_ir.specs.declared.op.Act.{Act}
-use Rattle.cs_ir.specs.declared.op.Act.TheVariants as act
-use Rattle.cs_ir.specs.declared.op.Op.{Op}
-use Rattle.cs_ir.specs.declared.register.Reg.{Reg}
-use Rattle.cs_meaning.specs.Model.{Cause, State, WorldModel, unit_does, zak_does, world_of}
-use Rattle.cs_meaning.specs.Pieces.{index}
+use Rattle.std.proofs.Common.{arith, ◌≡◌, ℕ, ℤ, ◌+◌, Bool, true, false, List, ◌∷◌, map, Option, None, if◌then◌else◌}
+use Rattle.std.proofs.Common.{refl, ◌∙◌, [], ap}
+use Rattle.std.proofs.lemmas.{Grind.common_steps, Bool.and_parts}
+use Rattle.cs_ir.specs.{Registers.rate_at, Cycles.is_of_cycle, Cycles.are_of_cycle, Waves.Wave, Waves.operand}
+use Rattle.cs_ir.specs.{declared.op.Act.Act, declared.op.Op.Op, declared.register.Reg.Reg}
+use Rattle.cs_ir.specs.Machine.{Machine, acts, is_done, step, run, write}
+use Rattle.cs_meaning.specs.{Model.Cause, Model.State, Model.WorldModel, Model.world_of, Pieces.index}
 use Rattle.cs_meaning.proofs.Rest.{Rest, rest, unit_rest, store_rest, zak_rest, numbered_rest}
-use Rattle.cs_voice_meaning.specs.VoiceWorld.{voice_model}
-use Rattle.cs_voice_meaning.specs.Voices.{Sounding, IsSound, begins, cycle}
+use Rattle.cs_voice_meaning.specs.{VoiceWorld.voice_model, Voices.Sounding, Voices.IsSound, Voices.begins, Voices.cycle}
+use Rattle.cs_ir.specs.declared.op.Act.TheVariants as act
 
 -- what only the beginning of a voice changes
 pub record Settled : Type 0 where
@@ -39,34 +32,16 @@ module _ {S U : Type 0} (model : WorldModel S U) where
 
   acts_steady : (t : Act) (into : Reg) (ws : List Wave) (m : Machine (State S U)) → is_of_cycle t ≡ true
       → settled (acts (world_of model) t into ws m).world ≡ settled m.world
-  acts_steady (act.Const z) into ws m h = refl
-  acts_steady (act.Field k) into ws m h = refl
-  acts_steady (act.Head k) into ws m h = refl
-  acts_steady act.Copy into ws m h = refl
-  acts_steady act.Neg into ws m h = refl
-  acts_steady (act.Pair b) into ws m h = refl
-  acts_steady act.Pick into ws m h = refl
-  acts_steady (act.Call g) into ws m h = refl
-  acts_steady (act.Load g) into ws m h = refl
-  acts_steady (act.Save g) into ws m h = refl
   acts_steady (act.Start opcode k) into ws m h = absurd (cc)
-  acts_steady (act.Unit opcode k reach) into ws m h =
-      written_steady (gives opcode) into (unit_does model opcode (rate_at into) k reach ws (m.world.units k) m.world) m
-      m.world
-      (ap settled_of (unit_rest model opcode (rate_at into) k reach ws (m.world.units k) m.world))
+  acts_steady (act.Unit opcode k reach) into ws m h = grind (arith, common_steps, unit_rest, written_steady)
   acts_steady act.Seek into ws m h = absurd (cc)
   acts_steady (act.Store reach) into ws m h =
       ap settled_of (store_rest model (rate_at into) reach ws (index (operand 2 ws 0)) m.world)
-  acts_steady (act.Zak opcode reach) into ws m h =
-      written_steady (gives opcode) into (zak_does model (row_of opcode).shape reach ws m.world) m m.world
-      (ap settled_of (zak_rest model (row_of opcode).shape reach ws m.world))
-  acts_steady (act.Jump to) into ws m h = refl
-  acts_steady (act.Unless to) into ws m h = refl
-  acts_steady (act.Out c) into ws m h = refl
+  acts_steady (act.Zak opcode reach) into ws m h = grind (arith, common_steps, written_steady, zak_rest)
   acts_steady act.OutAt into ws m h =
       ap settled_of (numbered_rest model (index (operand 0 ws 0)) (operand 1 ws) m.world)
-  acts_steady act.Turnoff into ws m h = refl
   acts_steady act.Ask into ws m h = absurd (cc)
+  acts_steady _ into ws m h = refl
 
   either_steady : (b : Bool) (n m : Machine (State S U)) (z : State S U) → settled n.world ≡ settled z
       → settled m.world ≡ settled z → settled (if b then n else m).world ≡ settled z

@@ -1,52 +1,29 @@
 -- A voice changes no cell but those of what its code may write.
-use Rattle.std.proofs.Common.{◌≡◌, ℕ, ℤ, pos, zero, suc, ◌+◌, ◌-◌, ◌&&◌, Bool, true, false, not, List, [], ◌∷◌, map}
-use Rattle.std.proofs.Common.{nat_le, slice_get, slice_index_or, Option, Some, None, if◌then◌else◌, refl, sym, ◌∙◌, ap}
-use Rattle.std.proofs.Common.{subst}
-use Rattle.std.specs.Option.{is_some}
-use Rattle.std.proofs.lemmas.Bool.{and_parts}
-use Rattle.cs_base.specs.Limits.{most_delay_samples}
-use Rattle.cs_base.specs.Rates.{same_res, res_rate}
-use Rattle.cs_base.specs.declared.resource.Rate.{Rate}
-use Rattle.cs_base.specs.declared.resource.Res.{Res}
-use Rattle.cs_base.specs.declared.resource.Res.TheVariants as res
-use Rattle.cs_base.proofs.Rates.{same_res_here}
-use Rattle.cs_base.proofs.Tests.{by_test}
-use Rattle.cs_words.specs.Catalogue.{row_of, takes_table}
+use Rattle.std.proofs.Common.{arith, ◌≡◌, ℕ, ℤ, pos, zero, suc, ◌+◌, ◌-◌, ◌&&◌, Bool, true, false, not, List, ◌∷◌}
+use Rattle.std.proofs.Common.{nat_le, [], slice_get, slice_index_or, Option, Some, None, if◌then◌else◌, refl, sym, ◌∙◌}
+use Rattle.std.proofs.Common.{ap, subst}
+use Rattle.std.proofs.lemmas.{Grind.common_steps, Bool.and_parts}
+use Rattle.cs_base.specs.{Rates.same_res, Rates.res_rate, declared.resource.Rate.Rate, declared.resource.Res.Res}
+use Rattle.cs_base.proofs.{Rates.same_res_here, Tests.by_test}
 use Rattle.cs_words.specs.declared.catalogue.Opcode.{Opcode}
-use Rattle.cs_words.specs.declared.catalogue.Opcode.TheVariants as op
-use Rattle.cs_words.specs.declared.catalogue.Shape.{Shape}
-use Rattle.cs_words.specs.declared.catalogue.Shape.TheVariants as shape
-use Rattle.cs_words.specs.declared.catalogue.Space.{Space}
-use Rattle.cs_words.specs.declared.catalogue.Space.TheVariants as space
-use Rattle.cs_signal.specs.Delay.{delay_length}
-use Rattle.cs_ir.specs.Registers.{rate_at}
-use Rattle.cs_ir.specs.Machine.{Machine, acts, is_done, step, run, gives, write}
+use Rattle.cs_words.specs.{declared.catalogue.Shape.Shape, declared.catalogue.Space.Space}
+use Rattle.cs_ir.specs.{Registers.rate_at, Machine.Machine, Machine.acts, Machine.step, Machine.run, Machine.write}
+use Rattle.cs_ir.specs.{Resources.zak_place, Waves.Wave, Waves.held, Waves.operand, Waves.first_values}
+use Rattle.cs_ir.specs.{declared.op.Act.Act, declared.op.Op.Op, declared.op.Reach.Reach, declared.register.Reg.Reg}
 use Rattle.cs_ir.specs.Resources.{Stock, reaches, shape_uses, writes_places, act_writes, tables_within, places_within}
-use Rattle.cs_ir.specs.Resources.{zak_place}
-use Rattle.cs_ir.specs.Waves.{Wave, held, silence, operand, first_values}
-use Rattle.cs_ir.specs.declared.op.Act.{Act}
-use Rattle.cs_ir.specs.declared.op.Act.TheVariants as act
-use Rattle.cs_ir.specs.declared.op.Op.{Op}
-use Rattle.cs_ir.specs.declared.op.Reach.{Reach}
-use Rattle.cs_ir.specs.declared.register.Reg.{Reg}
-use Rattle.cs_cells.specs.Cells.{in_area}
-use Rattle.cs_cells.specs.declared.footprint.Area.{Area}
-use Rattle.cs_meaning.specs.Model.{WorldModel, loaded, with_value, unit_points, has_run, unit_does, store_into}
-use Rattle.cs_meaning.specs.Model.{store_at}
-use Rattle.cs_meaning.specs.Model.{cleared, zak_does, lacks_table, delayed, starts, out_to, out_to_numbered}
-use Rattle.cs_meaning.specs.Pieces.{Piece, Table, find_table, table_number, is_there, is_delay, is_live, index}
-use Rattle.cs_meaning.specs.Pieces.{is_cleared, is_between, stored, places_of_indices, steps_of, may_touch, at_place}
-use Rattle.cs_meaning.specs.Pieces.{has_place}
+use Rattle.cs_cells.specs.{Cells.in_area, declared.footprint.Area.Area}
+use Rattle.cs_meaning.specs.Model.{WorldModel, with_value, unit_does, store_into, store_at, cleared, zak_does}
+use Rattle.cs_meaning.specs.Model.{lacks_table, starts, out_to, out_to_numbered}
+use Rattle.cs_meaning.specs.Pieces.{Piece, Table, find_table, index, is_cleared, is_between, at_place, has_place}
 use Rattle.cs_voice_meaning.specs.Placing.{area_of, with_wave, IsPlaced}
-use Rattle.cs_ugen.specs.Generators.{pace_of}
-use Rattle.cs_voice_meaning.specs.VoiceWorld.{Playing, VoiceState, played, has_played, lies_cleared, voice_model}
-use Rattle.cs_voice_meaning.specs.VoiceWorld.{voice_world}
-use Rattle.cs_voice_meaning.specs.Follows.{AreNamed}
-use Rattle.cs_voice_meaning.specs.Voices.{OpsWritten}
-use Rattle.cs_voice_meaning.proofs.Naming.{place_named}
-use Rattle.cs_voice_meaning.proofs.Placed.{area_at}
-use Rattle.cs_voice_meaning.proofs.Shared.{any_at}
-use Rattle.cs_voice_meaning.proofs.UnitsPlay.{table_named}
+use Rattle.cs_voice_meaning.specs.VoiceWorld.{Playing, VoiceState, lies_cleared, voice_model, voice_world}
+use Rattle.cs_voice_meaning.specs.{Follows.AreNamed, Voices.OpsWritten}
+use Rattle.cs_voice_meaning.proofs.Naming.{place_named, table_named}
+use Rattle.cs_voice_meaning.proofs.{Placed.area_at, Shared.any_at, Models.live_is}
+use Rattle.cs_base.specs.declared.resource.Res.TheVariants as res
+use Rattle.cs_words.specs.declared.catalogue.Shape.TheVariants as shape
+use Rattle.cs_words.specs.declared.catalogue.Space.TheVariants as space
+use Rattle.cs_ir.specs.declared.op.Act.TheVariants as act
 
 -- a resource that stands at a place has an area
 some_area : (areas : List Area) (place : ℕ) (area : Area) → slice_get areas place ≡ Some area
@@ -73,20 +50,7 @@ cleared_place piece space.Control reach first last (res.ZakK n) h =
     (n, refl, (and_parts (has_place piece space.Control reach n) (is_between first last n) h).0)
 cleared_place piece space.Audio reach first last (res.ZakA n) h =
     (n, refl, (and_parts (has_place piece space.Audio reach n) (is_between first last n) h).0)
-cleared_place piece space.Control reach first last (res.Gi n) h = absurd (cc)
-cleared_place piece space.Control reach first last (res.Gk n) h = absurd (cc)
-cleared_place piece space.Control reach first last (res.Ga n) h = absurd (cc)
-cleared_place piece space.Control reach first last (res.ZakA n) h = absurd (cc)
-cleared_place piece space.Control reach first last (res.Control n) h = absurd (cc)
-cleared_place piece space.Control reach first last (res.Sound n) h = absurd (cc)
-cleared_place piece space.Control reach first last (res.Table n) h = absurd (cc)
-cleared_place piece space.Audio reach first last (res.Gi n) h = absurd (cc)
-cleared_place piece space.Audio reach first last (res.Gk n) h = absurd (cc)
-cleared_place piece space.Audio reach first last (res.Ga n) h = absurd (cc)
-cleared_place piece space.Audio reach first last (res.ZakK n) h = absurd (cc)
-cleared_place piece space.Audio reach first last (res.Control n) h = absurd (cc)
-cleared_place piece space.Audio reach first last (res.Sound n) h = absurd (cc)
-cleared_place piece space.Audio reach first last (res.Table n) h = absurd (cc)
+cleared_place piece _ reach first last _ h = absurd (cc)
 
 module _ (areas : List Area) (stock : Stock) (piece : Piece) (a : ℕ) (placed : IsPlaced areas stock piece) where
   abbrev model : WorldModel (ℕ → ℤ) Playing
@@ -108,35 +72,19 @@ module _ (areas : List Area) (stock : Stock) (piece : Piece) (a : ℕ) (placed :
 
   starts_keep : (opcode : Opcode) (r : Rate) (u : ℕ) (is : List ℤ) (x : VoiceState)
       → (starts model opcode r u is x).shared a ≡ x.shared a
-  starts_keep opcode r u is x =
-      let samples : ℕ = x.delays + delay_length (pace_of piece.head) (slice_index_or is 0 (pos 0)) in
-      same_cell (takes_table opcode && not (is_there (find_table piece.tables (table_number is)))) _ _ (x.shared a)
-      (λ e. refl)
-      (same_cell (is_delay opcode) (delayed model samples opcode r u is x) _ (x.shared a)
-      (λ e. same_cell (nat_le samples most_delay_samples) _ _ (x.shared a) (λ e. refl) refl) refl)
+  starts_keep opcode r u is x = grind (arith, common_steps, nat_le, not, same_cell, slice_index_or)
 
   unit_keeps : (opcode : Opcode) (r : Rate) (u : ℕ) (reach : Reach) (ws : List Wave) (o : Option Playing)
       (x : VoiceState)
       → (unit_does model opcode r u reach ws o x).0.shared a ≡ x.shared a
   unit_keeps opcode r u reach ws None x = refl
-  unit_keeps opcode r u reach ws (Some p) x =
-      same_cell_of (may_touch opcode reach p.table)
-      (has_run u (has_played r p (played piece.head.ksmps r p ws (unit_points model opcode p x))) x) (x, silence)
-      (x.shared a) refl refl
-
-  live_is : (f : Option (List ℤ)) → not (is_some f) ≡ true → f ≡ None
-  live_is None h = refl
-  live_is (Some points) h = absurd (cc)
+  unit_keeps opcode r u reach ws (Some p) x = grind (arith, common_steps, same_cell_of)
 
   table_keeps : (r : Rate) (ws : List Wave) (o : Option Table) (x : VoiceState)
       → ((t : Table) → o ≡ Some t → t.frozen ≡ None → in_area (area_of areas (res.Table t.number)) a ≡ false)
       → (store_into model r ws o x).shared a ≡ x.shared a
   table_keeps r ws None x named = refl
-  table_keeps r ws (Some t) x named = same_cell (is_live t) _ x (x.shared a)
-      (λ live. kept_by_wave (area_of areas (res.Table t.number))
-      (stored (places_of_indices t (operand 1 ws)) (operand 0 ws) (steps_of piece.head.ksmps r)
-      (loaded model (res.Table t.number) x)) x.shared
-      (named t refl (live_is t.frozen live))) refl
+  table_keeps r ws (Some t) x named = grind (arith, common_steps, kept_by_wave, live_is, same_cell)
 
   store_keeps : (r : Rate) (reach : Reach) (ws : List Wave) (i : Option ℕ) (x : VoiceState)
       → AreNamed (λ g. in_area (area_of areas g) a ≡ false) (tables_within stock reach)
@@ -144,8 +92,8 @@ module _ (areas : List Area) (stock : Stock) (piece : Piece) (a : ℕ) (placed :
   store_keeps r reach ws None x named = refl
   store_keeps r reach ws (Some n) x named = same_cell (reaches reach n) _ x (x.shared a)
       (λ touches. table_keeps r ws (find_table piece.tables (pos n)) x
-      (λ t found live. table_named areas stock piece (λ u. (op.Tablew, r)) (λ g. in_area (area_of areas g) a ≡ false) []
-      placed reach (pos n) t named touches found live)) refl
+      (λ t found live. table_named areas stock piece (λ g. in_area (area_of areas g) a ≡ false) placed reach (pos n) t
+      named touches found live)) refl
 
   place_keeps : (sp : Space) (reach : Reach) (i : Option ℕ) (x : VoiceState) (w : Res → Wave)
       → AreNamed (λ g. in_area (area_of areas g) a ≡ false) (places_within stock sp reach)
@@ -185,22 +133,10 @@ module _ (areas : List Area) (stock : Stock) (piece : Piece) (a : ℕ) (placed :
   zak_keeps : (sh : Shape) (reach : Reach) (ws : List Wave) (x : VoiceState)
       → AreNamed (λ g. in_area (area_of areas g) a ≡ false) (if writes_places sh then shape_uses stock sh reach else [])
       → (zak_does model sh reach ws x).0.shared a ≡ x.shared a
-  zak_keeps (shape.ZakGet sp) reach ws x named = refl
   zak_keeps (shape.ZakPut sp) reach ws x named = place_keeps sp reach (index (operand 1 ws 0)) x _ named
   zak_keeps shape.ZakMix reach ws x named = place_keeps space.Audio reach (index (operand 1 ws 0)) x _ named
   zak_keeps (shape.ZakClear sp) reach ws x named = clear_keeps sp reach (operand 0 ws 0) (operand 1 ws 0) x named
-  zak_keeps shape.Unit reach ws x named = refl
-  zak_keeps shape.Store reach ws x named = refl
-  zak_keeps shape.Init reach ws x named = refl
-  zak_keeps shape.Out reach ws x named = refl
-  zak_keeps shape.OutAt reach ws x named = refl
-  zak_keeps shape.Turnoff reach ws x named = refl
-  zak_keeps shape.ZakInit reach ws x named = refl
-  zak_keeps shape.ChannelGet reach ws x named = refl
-  zak_keeps shape.ChannelPut reach ws x named = refl
-  zak_keeps shape.ChannelMix reach ws x named = refl
-  zak_keeps shape.ChannelClear reach ws x named = refl
-  zak_keeps shape.Ask reach ws x named = refl
+  zak_keeps _ reach ws x named = refl
 
   written_keeps : (b : Bool) (into : Reg) (p : VoiceState × Wave) (m : Machine VoiceState) (z : ℤ) → p.0.shared a ≡ z
       → (if b then write piece.head.ksmps into p.1 (record m { world = p.0 }) else record m
@@ -217,34 +153,16 @@ module _ (areas : List Area) (stock : Stock) (piece : Piece) (a : ℕ) (placed :
   acts_keep : (t : Act) (into : Reg) (ws : List Wave) (m : Machine VoiceState)
       → AreNamed (λ g. in_area (area_of areas g) a ≡ false) (act_writes stock t)
       → (acts (voice_world areas piece) t into ws m).world.shared a ≡ m.world.shared a
-  acts_keep (act.Const z) into ws m h = refl
-  acts_keep (act.Field k) into ws m h = refl
-  acts_keep (act.Head k) into ws m h = refl
-  acts_keep act.Copy into ws m h = refl
-  acts_keep act.Neg into ws m h = refl
-  acts_keep (act.Pair b) into ws m h = refl
-  acts_keep act.Pick into ws m h = refl
-  acts_keep (act.Call g) into ws m h = refl
-  acts_keep (act.Load g) into ws m h = refl
   acts_keep (act.Save g) into ws m h =
       kept_by_wave (area_of areas g) (held piece.head.ksmps (res_rate g) (operand 0 ws)) m.world.shared h.0
   acts_keep (act.Start opcode k) into ws m h = starts_keep opcode (rate_at into) k (first_values ws) m.world
-  acts_keep (act.Unit opcode k reach) into ws m h =
-      written_keeps (gives opcode) into (unit_does model opcode (rate_at into) k reach ws (m.world.units k) m.world) m
-      (m.world.shared a)
-      (unit_keeps opcode (rate_at into) k reach ws (m.world.units k) m.world)
+  acts_keep (act.Unit opcode k reach) into ws m h = grind (arith, common_steps, unit_keeps, written_keeps)
   acts_keep act.Seek into ws m h =
       same_cell (lacks_table model (first_values ws)) _ m.world (m.world.shared a) (λ e. refl) refl
   acts_keep (act.Store reach) into ws m h = store_keeps (rate_at into) reach ws (index (operand 2 ws 0)) m.world h
-  acts_keep (act.Zak opcode reach) into ws m h =
-      written_keeps (gives opcode) into (zak_does model (row_of opcode).shape reach ws m.world) m (m.world.shared a)
-      (zak_keeps (row_of opcode).shape reach ws m.world h)
-  acts_keep (act.Jump to) into ws m h = refl
-  acts_keep (act.Unless to) into ws m h = refl
-  acts_keep (act.Out c) into ws m h = refl
+  acts_keep (act.Zak opcode reach) into ws m h = grind (arith, common_steps, written_keeps, zak_keeps)
   acts_keep act.OutAt into ws m h = out_at_keeps (index (operand 0 ws 0)) (operand 1 ws) m.world
-  acts_keep act.Turnoff into ws m h = refl
-  acts_keep act.Ask into ws m h = refl
+  acts_keep _ into ws m h = refl
 
   either_keeps : (b : Bool) (n m : Machine VoiceState) (z : ℤ) → n.world.shared a ≡ z → m.world.shared a ≡ z
       → (if b then n else m).world.shared a ≡ z
@@ -257,7 +175,12 @@ module _ (areas : List Area) (stock : Stock) (piece : Piece) (a : ℕ) (placed :
       → (run (voice_world areas piece) place ops m).world.shared a ≡ m.world.shared a
   run_keeps place [] m h = refl
   run_keeps place (op ∷ ops) m h =
-      run_keeps (place + 1) ops (step (voice_world areas piece) place op m) h.1
-      ∙ either_keeps (is_done (voice_world areas piece) place m)
-      (acts (voice_world areas piece) op.act op.into (map m.regs op.from) m) m (m.world.shared a)
-      (acts_keep op.act op.into (map m.regs op.from) m h.0) refl
+      grind (
+        arith,
+        common_steps,
+        acts_keep,
+        common_steps,
+        either_keeps,
+        run_keeps (place + 1) ops
+            (step (voice_world areas piece) place op m) h.1,
+      )

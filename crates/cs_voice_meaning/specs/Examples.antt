@@ -1,44 +1,30 @@
 -- Small codes that voices play, worked out from the definitions: eight frames a second, four a control cycle, one
 -- channel.
-use Rattle.std.specs.Prelude.{ℕ, ℤ, pos, ◌*◌, List, [], ◌∷◌, map, replicate, None, true}
+use Rattle.std.specs.Prelude.{ℕ, ℤ, pos, List, [], ◌∷◌, ◌++◌, map, replicate, None, true}
 use Rattle.std.specs.List.{range_with_len}
+use Rattle.cs_base.specs.declared.resource.Res.{Res}
+use Rattle.cs_ir.specs.{Machine.Machine, declared.op.Act.Act, declared.op.Op.Op, declared.register.Reg.Reg}
+use Rattle.cs_cells.specs.{Cells.Cells, declared.footprint.Area.Area}
+use Rattle.cs_meaning.specs.{Examples.small_piece, Examples.whole, Plain.Piece}
+use Rattle.cs_ugen.specs.Generators.{the_generators}
+use Rattle.cs_voice_meaning.specs.VoiceWorld.{VoiceState}
+use Rattle.cs_voice_meaning.specs.Voices.{Sheet, Sounding, initialised, voice_of, performed}
 use Rattle.cs_ir.specs.declared.register.Kind.TheVariants as kind
 use Rattle.cs_base.specs.declared.resource.Res.TheVariants as res
 use Rattle.cs_words.specs.declared.catalogue.Opcode.TheVariants as op
 use Rattle.cs_words.specs.declared.sign.BinOp.TheVariants as sign
-use Rattle.cs_ir.specs.Machine.{Machine}
-use Rattle.cs_ir.specs.declared.op.Act.{Act}
 use Rattle.cs_ir.specs.declared.op.Act.TheVariants as act
-use Rattle.cs_ir.specs.declared.op.Op.{Op}
 use Rattle.cs_ir.specs.declared.op.Reach.TheVariants as reach
-use Rattle.cs_ir.specs.declared.register.Reg.{Reg}
-use Rattle.cs_cells.specs.Cells.{Cells}
-use Rattle.cs_cells.specs.declared.footprint.Area.{Area}
-use Rattle.cs_meaning.specs.Plain.{Piece}
-use Rattle.cs_ugen.specs.Generators.{the_generators}
-use Rattle.cs_voice_meaning.specs.VoiceWorld.{VoiceState}
-use Rattle.cs_voice_meaning.specs.Voices.{Sheet, Sounding, initialised, voice_of, performed}
-
-abbrev pub whole : ℕ → ℤ
-whole n = pos (n * 65536)
 
 -- a piece with two zak places of control values, and areas of gk1, of these places and of ga1
-abbrev pub small_piece : Piece
-small_piece = record {
-  head = record { sr = 8; ksmps = 4; nchnls = 1; dbfs = whole 1 };
-  spaces = record { control = 2; audio = 0 };
-  tables = [];
-  generators = the_generators (record { sr = 8; ksmps = 4 });
-  fields = λ k. whole 7;
-}
+abbrev pub voices_piece : Piece
+voices_piece = record (small_piece 2 0) { generators = the_generators (record { sr = 8; ksmps = 4 }) }
+
+abbrev area : Res → ℕ → ℕ → Area
+area g first length = record { res = g; first = first; length = length }
 
 abbrev pub small_areas : List Area
-small_areas =
-    record { res = res.Gk 0; first = 0; length = 1 }
-    ∷ record { res = res.ZakK 0; first = 1; length = 1 }
-    ∷ record { res = res.ZakK 1; first = 2; length = 1 }
-    ∷ record { res = res.Ga 0; first = 3; length = 4 }
-    ∷ []
+small_areas = area (res.Gk 0) 0 1 ∷ area (res.ZakK 0) 1 1 ∷ area (res.ZakK 1) 2 1 ∷ area (res.Ga 0) 3 4 ∷ []
 
 -- the cells of these, of which the first have these values
 abbrev pub cells_of : ℤ → ℤ → ℤ → Cells
@@ -57,12 +43,19 @@ a n = record { kind = kind.LocalAudio; offset = n }
 abbrev op_of : Act → Reg → List Reg → Op
 op_of what into from = record { act = what; into = into; from = from }
 
+-- a whole number into a register of the note's beginning; and a register that goes out
+abbrev literal : ℕ → ℕ → Op
+literal value n = op_of (act.Const (whole value)) (i n) []
+
+abbrev sounds : Reg → List Op
+sounds q = op_of act.Copy (a 0) (q ∷ []) ∷ op_of (act.Out 0) (a 0) (a 0 ∷ []) ∷ []
+
 -- a sheet with places that may be used and written, and two codes
 abbrev sheet : List ℕ → List ℕ → List Op → List Op → Sheet
 sheet uses writes init perf = record {
   number = 1;
   age = 0;
-  piece = small_piece;
+  piece = voices_piece;
   areas = small_areas;
   zones = small_areas;
   foot = record { uses = uses; writes = writes };
@@ -83,45 +76,32 @@ heard v c = map ((performed v c).outs 0) (range_with_len 0 4)
 
 -- gk1 counts up by one
 abbrev pub counting : Sheet
-counting = sheet (0 ∷ []) (0 ∷ []) (op_of (act.Const (whole 1)) (i 0) [] ∷ [])
-    (op_of (act.Load (res.Gk 0)) (k 0) []
-    ∷ op_of (act.Pair sign.Add) (k 1) (k 0 ∷ i 0 ∷ [])
-    ∷ op_of (act.Save (res.Gk 0)) (k 1) (k 1 ∷ [])
-    ∷ [])
+counting = sheet (0 ∷ []) (0 ∷ []) (literal 1 0 ∷ []) (op_of (act.Load (res.Gk 0)) (k 0) []
+    ∷ op_of (act.Pair sign.Add) (k 1) (k 0 ∷ i 0 ∷ []) ∷ op_of (act.Save (res.Gk 0)) (k 1) (k 1 ∷ []) ∷ [])
 
 -- a zak place takes 70; and what it has is heard, by a note whose footprint has these places
 abbrev pub writing : Sheet
-writing = sheet (1 ∷ []) (1 ∷ [])
-    (op_of (act.Const (whole 70)) (i 0) [] ∷ op_of (act.Const (whole 0)) (i 1) [] ∷ [])
+writing = sheet (1 ∷ []) (1 ∷ []) (literal 70 0 ∷ literal 0 1 ∷ [])
     (op_of (act.Zak op.Zkw (reach.Span 0 0)) (k 0) (i 0 ∷ i 1 ∷ []) ∷ [])
 
 abbrev pub reading : List ℕ → Sheet
-reading uses = sheet uses [] (op_of (act.Const (whole 0)) (i 0) [] ∷ [])
-    (op_of (act.Zak op.Zkr (reach.Span 0 0)) (k 0) (i 0 ∷ [])
-    ∷ op_of act.Copy (a 0) (k 0 ∷ [])
-    ∷ op_of (act.Out 0) (a 0) (a 0 ∷ [])
-    ∷ [])
+reading uses = sheet uses [] (literal 0 0 ∷ [])
+    (op_of (act.Zak op.Zkr (reach.Span 0 0)) (k 0) (i 0 ∷ []) ∷ sounds (k 0))
 
 -- the note is turned off, and then 2 goes out twice
 abbrev pub ending : Sheet
-ending = sheet [] [] (op_of (act.Const (whole 2)) (i 0) [] ∷ [])
-    (op_of act.Turnoff (i 0) []
-    ∷ op_of act.Copy (a 0) (i 0 ∷ [])
-    ∷ op_of (act.Out 0) (a 0) (a 0 ∷ [])
-    ∷ op_of (act.Out 0) (a 0) (a 0 ∷ [])
-    ∷ [])
+ending = sheet [] [] (literal 2 0 ∷ [])
+    (op_of act.Turnoff (i 0) [] ∷ sounds (i 0) ++ op_of (act.Out 0) (a 0) (a 0 ∷ []) ∷ [])
 
 -- gk1 takes 5, a note is asked for, table 9 is asked for, and another note
 abbrev pub missing_table : Sheet
 missing_table = sheet [] []
-    (op_of (act.Const (whole 5)) (i 0) []
+    (literal 5 0
     ∷ op_of (act.Save (res.Gk 0)) (i 0) (i 0 ∷ [])
     ∷ op_of act.Ask (i 0) (i 0 ∷ i 1 ∷ i 1 ∷ [])
-    ∷ op_of (act.Const (whole 9)) (i 2) []
+    ∷ literal 9 2
     ∷ op_of (act.Start op.Oscili 0) (a 0) (i 2 ∷ [])
-    ∷ op_of act.Ask (i 0) (i 0 ∷ i 1 ∷ i 1 ∷ [])
-    ∷ [])
-    []
+    ∷ op_of act.Ask (i 0) (i 0 ∷ i 1 ∷ i 1 ∷ []) ∷ []) []
 
 -- two delays of so many raw seconds
 abbrev pub two_delays : ℤ → ℤ → Sheet
@@ -129,29 +109,19 @@ two_delays first second = sheet [] []
     (op_of (act.Const first) (i 0) []
     ∷ op_of (act.Start op.Delay 0) (a 0) (i 0 ∷ [])
     ∷ op_of (act.Const second) (i 0) []
-    ∷ op_of (act.Start op.Delay 1) (a 0) (i 0 ∷ [])
-    ∷ [])
-    []
+    ∷ op_of (act.Start op.Delay 1) (a 0) (i 0 ∷ []) ∷ []) []
 
 -- table 9 is looked for, and another note is asked for
 abbrev pub seeking : Sheet
 seeking = sheet [] []
-    (op_of (act.Const (whole 9)) (i 0) []
-    ∷ op_of act.Seek (i 0) (i 0 ∷ [])
-    ∷ op_of act.Ask (i 0) (i 0 ∷ i 0 ∷ i 0 ∷ [])
-    ∷ [])
-    []
+    (literal 9 0 ∷ op_of act.Seek (i 0) (i 0 ∷ []) ∷ op_of act.Ask (i 0) (i 0 ∷ i 0 ∷ i 0 ∷ []) ∷ []) []
 
 -- 7 is stored at place 2 of table 1, whose four points have an area of their own
 abbrev pub storing : Sheet
 storing = record (sheet (0 ∷ []) (0 ∷ [])
-    (op_of (act.Const (whole 7)) (i 0) []
-    ∷ op_of (act.Const (whole 2)) (i 1) []
-    ∷ op_of (act.Const (whole 1)) (i 2) []
-    ∷ op_of act.Seek (i 0) (i 2 ∷ [])
-    ∷ [])
+    (literal 7 0 ∷ literal 2 1 ∷ literal 1 2 ∷ op_of act.Seek (i 0) (i 2 ∷ []) ∷ [])
     (op_of (act.Store (reach.Span 1 1)) (k 0) (i 0 ∷ i 1 ∷ i 2 ∷ []) ∷ [])) {
-      piece = record small_piece { tables = record { number = 1; size = 4; frozen = None; present = true } ∷ [] };
-      areas = record { res = res.Table 1; first = 0; length = 4 } ∷ [];
-      zones = record { res = res.Table 1; first = 0; length = 4 } ∷ [];
+      piece = record voices_piece { tables = record { number = 1; size = 4; frozen = None; present = true } ∷ [] };
+      areas = area (res.Table 1) 0 4 ∷ [];
+      zones = area (res.Table 1) 0 4 ∷ [];
     }

@@ -1,24 +1,18 @@
 -- When the world of a voice is in the state of the plain one; and that codes keep it so.
 use Rattle.std.specs.Prelude.{ℕ, ℤ, ◌≡◌, true, List, ◌++◌, Option, Some, None}
 use Rattle.std.specs.List.{AllByRecursion}
-use Rattle.cs_base.specs.declared.resource.Rate.{Rate}
-use Rattle.cs_base.specs.declared.resource.Res.{Res}
+use Rattle.cs_base.specs.{declared.resource.Rate.Rate, declared.resource.Res.Res}
 use Rattle.cs_words.specs.declared.catalogue.Opcode.{Opcode}
 use Rattle.cs_signal.specs.Pace.{Pace}
-use Rattle.cs_ugen.specs.Units.{IsUnitOpcode, Stands}
-use Rattle.cs_ir.specs.Registers.{rate_at}
+use Rattle.cs_ugen.specs.{Units.IsUnitOpcode, Units.Stands, Generators.pace_of, Generators.the_generators}
+use Rattle.cs_ir.specs.{Registers.rate_at, Validity.has_value, declared.op.Act.Act, declared.op.Op.Op}
 use Rattle.cs_ir.specs.Machine.{Machine, run}
-use Rattle.cs_ir.specs.Validity.{has_value}
 use Rattle.cs_ir.specs.Resources.{Stock, tables_within, unit_uses, zak_uses}
-use Rattle.cs_ir.specs.declared.op.Act.{Act}
-use Rattle.cs_ir.specs.declared.op.Act.TheVariants as act
-use Rattle.cs_ir.specs.declared.op.Op.{Op}
 use Rattle.cs_cells.specs.declared.footprint.Area.{Area}
-use Rattle.cs_meaning.specs.Pieces.{Piece, table_number}
-use Rattle.cs_meaning.specs.Plain.{Plain, History, plain}
+use Rattle.cs_meaning.specs.{Model.State, Pieces.Piece, Pieces.table_number, Plain.Plain, Plain.History, Plain.plain}
 use Rattle.cs_voice_meaning.specs.Placing.{HasArea, IsPlaced}
-use Rattle.cs_ugen.specs.Generators.{pace_of, the_generators}
 use Rattle.cs_voice_meaning.specs.VoiceWorld.{Playing, VoiceState, read_cells, voice_world}
+use Rattle.cs_ir.specs.declared.op.Act.TheVariants as act
 
 -- each of some resources is named
 abbrev pub AreNamed : (Res → Type 0) → List Res → Type 0
@@ -55,23 +49,34 @@ pub record PlaysUnit (pace : Pace) (kind : Opcode × Rate) (p : Playing) (h : Hi
   pub unit : IsUnitOpcode kind.0
   pub stands : Stands p.state kind.0 kind.1 pace h.settled h.inputs
 
-abbrev pub SameUnit : Pace → Opcode × Rate → Option Playing → Option History → Type 0
-SameUnit pace kind None None = Unit {0}
-SameUnit pace kind (Some p) (Some h) = PlaysUnit pace kind p h
-SameUnit pace kind None (Some h) = ⊥
-SameUnit pace kind (Some p) None = ⊥
+-- both are there and so related, or neither is
+abbrev pub BothOrNone : {A B : Type 0} → (A → B → Type 0) → Option A → Option B → Type 0
+BothOrNone P None None = Unit {0}
+BothOrNone P (Some a) (Some b) = P a b
+BothOrNone P None (Some b) = ⊥
+BothOrNone P (Some a) None = ⊥
 
--- The voice's world is in the state of the plain world: what is named has the same value, each unit has come to where
--- its inputs bring it, and the rest is the same; of what it asked for, all but what it had asked for earlier.
-pub record SameState (N : Res → Type 0) (areas : List Area) (kinds : Kinds) (pace : Pace) (earlier : List (List ℤ))
-    (x : VoiceState) (y : Plain) : Type 0 where
-  pub shared : (g : Res) → N g → read_cells areas g x.shared ≡ y.shared g
-  pub units : (u : ℕ) → SameUnit pace (kinds u) (x.units u) (y.units u)
+abbrev pub SameUnit : Pace → Opcode × Rate → Option Playing → Option History → Type 0
+SameUnit pace kind p h = BothOrNone (PlaysUnit pace kind) p h
+
+-- Two worlds are in related states: what notes share is so related, and each unit, and the rest is the same; of what
+-- the one has asked for, all but what the other had asked for earlier.
+pub record AreRelated {S U T Y : Type 0} (Shares : S → T → Type 0) (Plays : ℕ → U → Y → Type 0)
+    (earlier : List (List ℤ)) (x : State S U) (y : State T Y) : Type 0 where
+  pub shared : Shares x.shared y.shared
+  pub units : (u : ℕ) → BothOrNone (Plays u) (x.units u) (y.units u)
   pub delays : x.delays ≡ y.delays
   pub outs : x.outs ≡ y.outs
   pub ended : x.ended ≡ y.ended
   pub asks : y.asks ≡ earlier ++ x.asks
   pub cause : x.cause ≡ y.cause
+
+-- The voice's world is in the state of the plain world: what is named has the same value, and each unit has come to
+-- where its inputs bring it.
+abbrev pub SameState : (Res → Type 0) → List Area → Kinds → Pace → List (List ℤ) → VoiceState → Plain → Type 0
+SameState N areas kinds pace earlier x y = AreRelated
+    (λ cells shared. (g : Res) → N g → read_cells areas g cells ≡ shared g)
+    (λ u p h. PlaysUnit pace (kinds u) p h) earlier x y
 
 -- Machines that run the same ops in the voice's world and in the plain one, from the same state, come to the same
 -- state: at all resources that have areas, where the ops touch no others.

@@ -1,21 +1,14 @@
 -- Where what notes share has its cells.
 use Rattle.std.specs.Prelude.{ℕ, ℤ, pos, ◌≡◌, ◌<◌, ◌+◌, ◌-◌, ◌==◌, Bool, true, List, [], ◌∷◌, nat_lt, Option, Some}
-use Rattle.std.specs.Prelude.{None, if◌then◌else◌}
-use Rattle.std.specs.List.{list_any}
-use Rattle.cs_base.specs.Rates.{same_res, res_rate}
-use Rattle.cs_base.specs.declared.resource.Rate.{Rate}
-use Rattle.cs_base.specs.declared.resource.Rate.TheVariants as rate
-use Rattle.cs_base.specs.declared.resource.Res.{Res}
-use Rattle.cs_base.specs.declared.resource.Res.TheVariants as res
-use Rattle.cs_ir.specs.Validity.{has_value}
-use Rattle.cs_ir.specs.Resources.{Stock}
-use Rattle.cs_ir.specs.Waves.{Wave, silence}
-use Rattle.cs_cells.specs.Areas.{IsLaid}
-use Rattle.cs_cells.specs.Cells.{in_area}
-use Rattle.cs_cells.specs.declared.footprint.Area.{Area}
+use Rattle.std.specs.{Prelude.None, Prelude.if◌then◌else◌, List.list_any}
+use Rattle.cs_base.specs.{Rates.same_res, Rates.res_rate, declared.resource.Rate.Rate, declared.resource.Res.Res}
+use Rattle.cs_ir.specs.{Validity.has_value, Resources.Stock, Waves.Wave, Waves.silence}
+use Rattle.cs_cells.specs.{Areas.IsLaid, Cells.in_area, declared.footprint.Area.Area}
 use Rattle.cs_gen.specs.Points.{len_of}
 use Rattle.cs_ugen.specs.Points.{is_len}
 use Rattle.cs_meaning.specs.Plain.{Piece, Table, find_table}
+use Rattle.cs_base.specs.declared.resource.Rate.TheVariants as rate
+use Rattle.cs_base.specs.declared.resource.Res.TheVariants as res
 
 -- the area of a resource, where it has one
 abbrev pub area_of : List Area → Res → Option Area

@@ -1,13 +1,9 @@
 -- How much room a voice takes.
 use Rattle.std.specs.Prelude.{ℕ, ◌≡◌, false, Option, None, nat_lt}
+use Rattle.cs_ir.specs.{Registers.rate_at, Validity.has_register, Waves.Wave, Waves.held, Waves.silence}
+use Rattle.cs_ir.specs.{declared.register.Counts.Counts, declared.register.Reg.Reg}
+use Rattle.cs_voice_meaning.specs.{VoiceWorld.Playing, Voices.Sounding}
 use Rattle.cs_base.specs.declared.resource.Rate.TheVariants as rate
-use Rattle.cs_ir.specs.Registers.{rate_at}
-use Rattle.cs_ir.specs.Validity.{has_register}
-use Rattle.cs_ir.specs.Waves.{Wave, held, silence}
-use Rattle.cs_ir.specs.declared.register.Counts.{Counts}
-use Rattle.cs_ir.specs.declared.register.Reg.{Reg}
-use Rattle.cs_voice_meaning.specs.VoiceWorld.{Playing}
-use Rattle.cs_voice_meaning.specs.Voices.{Sounding}
 
 -- Registers, units and channels fit in so many of each, of so many frames: past the last there is nothing, and each
 -- register holds what its rate can hold.

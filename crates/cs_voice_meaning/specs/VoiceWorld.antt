@@ -1,19 +1,11 @@
 -- The voice's world: what notes share as cells by address, and each unit as the state that it has come to.
 use Rattle.std.specs.Prelude.{ℕ, ℤ, pos, Bool, ◌&&◌, ◌++◌, List, map, Some, if◌then◌else◌}
 use Rattle.std.specs.List.{list_any}
-use Rattle.cs_base.specs.Rates.{res_rate}
-use Rattle.cs_base.specs.declared.resource.Rate.{Rate}
-use Rattle.cs_base.specs.declared.resource.Res.{Res}
-use Rattle.cs_signal.specs.Delay.{delay_length}
-use Rattle.cs_signal.specs.Operands.{argument}
-use Rattle.cs_signal.specs.Steps.{run}
-use Rattle.cs_ugen.specs.Generators.{pace_of}
-use Rattle.cs_ugen.specs.Units.{unit_start, unit_step}
-use Rattle.cs_ugen.specs.declared.unit.UnitState.{UnitState}
-use Rattle.cs_ir.specs.Waves.{Wave}
-use Rattle.cs_ir.specs.Worlds.{World}
-use Rattle.cs_cells.specs.Cells.{in_area}
-use Rattle.cs_cells.specs.declared.footprint.Area.{Area}
+use Rattle.cs_base.specs.{Rates.res_rate, declared.resource.Rate.Rate, declared.resource.Res.Res}
+use Rattle.cs_signal.specs.{Delay.delay_length, Operands.argument, Steps.run}
+use Rattle.cs_ugen.specs.{Generators.pace_of, Units.unit_start, Units.unit_step, declared.unit.UnitState.UnitState}
+use Rattle.cs_ir.specs.{Waves.Wave, Worlds.World}
+use Rattle.cs_cells.specs.{Cells.in_area, declared.footprint.Area.Area}
 use Rattle.cs_meaning.specs.Model.{State, WorldModel, fresh_state, world_of}
 use Rattle.cs_meaning.specs.Pieces.{Piece, steps_of, step_at, table_number}
 use Rattle.cs_voice_meaning.specs.Placing.{area_of, wave_of, with_wave}

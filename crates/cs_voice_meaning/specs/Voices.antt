@@ -1,24 +1,17 @@
 -- A voice as a job: what it plays from, how it begins, what a cycle makes of it, and what it leaves.
 use Rattle.std.specs.Prelude.{ℕ, ℤ, pos, ◌≡◌, ◌||◌, Bool, true, List, [], map, length, nat_lt, Option, Some, None}
-use Rattle.std.specs.Prelude.{if◌then◌else◌}
-use Rattle.std.specs.List.{list_all, range_with_len, AllByRecursion}
+use Rattle.std.specs.{Prelude.if◌then◌else◌, List.list_all, List.range_with_len, List.AllByRecursion}
 use Rattle.cs_base.specs.declared.resource.Res.{Res}
-use Rattle.cs_ir.specs.Cycles.{are_of_cycle}
+use Rattle.cs_ir.specs.{Cycles.are_of_cycle, Resources.Stock, Resources.act_writes, Waves.Wave, Waves.silence}
+use Rattle.cs_ir.specs.{declared.op.Act.Act, declared.op.Op.Op, declared.register.Reg.Reg}
 use Rattle.cs_ir.specs.Machine.{Machine, new_machine, run}
-use Rattle.cs_ir.specs.Resources.{Stock, act_writes}
-use Rattle.cs_ir.specs.Waves.{Wave, silence}
-use Rattle.cs_ir.specs.declared.op.Act.{Act}
-use Rattle.cs_ir.specs.declared.op.Act.TheVariants as act
-use Rattle.cs_ir.specs.declared.op.Op.{Op}
-use Rattle.cs_ir.specs.declared.register.Reg.{Reg}
 use Rattle.cs_cells.specs.Cells.{Cells, cell, covers, in_area}
-use Rattle.cs_cells.specs.Meaning.{Meaning}
-use Rattle.cs_cells.specs.declared.footprint.Area.{Area}
-use Rattle.cs_cells.specs.declared.footprint.Footprint.{Footprint}
+use Rattle.cs_cells.specs.{Meaning.Meaning, declared.footprint.Area.Area, declared.footprint.Footprint.Footprint}
 use Rattle.cs_meaning.specs.Plain.{Piece}
 use Rattle.cs_voice_meaning.specs.Placing.{area_of, HasArea, IsPlaced}
 use Rattle.cs_voice_meaning.specs.VoiceWorld.{Playing, VoiceState, fresh_voice, voice_world}
 use Rattle.cs_voice_meaning.specs.Follows.{Kinds, AreNamed, OpsNamed}
+use Rattle.cs_ir.specs.declared.op.Act.TheVariants as act
 
 -- What a voice plays from: the number of its instrument, its age, which is how many notes were started before it, the
 -- piece and the areas that it sounds in, the zones of these that are claimed as one, its footprint over the zones, and

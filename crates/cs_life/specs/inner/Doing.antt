@@ -1,16 +1,14 @@
 -- What is needed to do something at a moment, and what it is to have done it.
 use Rattle.std.specs.Prelude.{ℕ, ℤ, pos, ◌≡◌, ◌<◌, List, Some, None}
-use Rattle.cs_cells.specs.Areas.{word_count}
-use Rattle.cs_cells.specs.Cells.{Cells}
+use Rattle.cs_cells.specs.{Areas.word_count, Cells.Cells}
 use Rattle.cs_piece_meaning.specs.Moments.{Composition, Moment}
 use Rattle.cs_gen.specs.Faults.{table_fault}
 use Rattle.cs_meaning.specs.Plain.{Table, find_table}
 use Rattle.cs_piece.specs.Setups.{composition_of}
 use Rattle.cs_tempo.specs.declared.plot.EventAct.{EventAct}
-use Rattle.cs_tempo.specs.declared.plot.EventAct.TheVariants as act
 use Rattle.cs_voice.specs.VoiceData.{VoiceData}
-use Rattle.cs_life.specs.Standing.{StandsFor}
-use Rattle.cs_life.specs.declared.life.Life.{Life}
+use Rattle.cs_life.specs.{Standing.StandsFor, declared.life.Life.Life}
+use Rattle.cs_tempo.specs.declared.plot.EventAct.TheVariants as act
 
 -- It can go on: what is kept stands at some moment, and each cell of the piece can be read and written.
 pub record CanGoOn (get set : ℕ → Type 0) (life : Life) (voices : List VoiceData) (cells : Cells) : Type 0 where
@@ -20,10 +18,10 @@ pub record CanGoOn (get set : ℕ → Type 0) (life : Life) (voices : List Voice
   pub sets : (a : ℕ) → a < word_count life.setup.now.layout → set a
 
 -- It has gone on: wherever it stood, it stands where this leads.
-abbrev pub HasGoneOn : (Moment → Moment) → Life → List VoiceData → Cells → Life → List VoiceData → Cells → Type 0
-HasGoneOn leads life voices cells new after left =
-    (m : Moment) → StandsFor (composition_of life.setup.now) life voices cells m
-    → StandsFor (composition_of life.setup.now) new after left (leads m)
+pub record HasGoneOn (leads : Moment → Moment) (life : Life) (voices : List VoiceData) (cells : Cells) (new : Life)
+    (after : List VoiceData) (left : Cells) : Type 0 where
+  pub to : (m : Moment) → StandsFor (composition_of life.setup.now) life voices cells m
+      → StandsFor (composition_of life.setup.now) new after left (leads m)
 
 -- A table that is given has no fault, and the size of the table of its number.
 pub record CanBeMade (c : Composition) (number : ℕ) (size gen : ℤ) (args : List ℤ) : Type 0 where

@@ -1,14 +1,12 @@
 -- Flags of tables by the number of a table, and whether the points of a number's table are cells.
 use Rattle.std.specs.Prelude.{ℕ, ℤ, ◌≡◌, ◌==◌, ◌||◌, Bool, true, false, not, List, [], ◌∷◌, length, Option, Some, None}
-use Rattle.std.specs.Prelude.{if◌then◌else◌}
-use Rattle.std.specs.Option.{is_some}
+use Rattle.std.specs.{Prelude.if◌then◌else◌, Option.is_some}
 use Rattle.cs_machine.specs.Access.{row_wave}
-use Rattle.cs_base.specs.declared.resource.Res.TheVariants as res
-use Rattle.cs_cells.specs.Cells.{Cells, cell}
-use Rattle.cs_cells.specs.declared.footprint.Area.{Area}
+use Rattle.cs_cells.specs.{Cells.Cells, Cells.cell, declared.footprint.Area.Area}
 use Rattle.cs_meaning.specs.Plain.{Table}
 use Rattle.cs_voice_meaning.specs.Placing.{area_of, with_wave}
 use Rattle.cs_voice.specs.declared.stage.PieceTable.{PieceTable}
+use Rattle.cs_base.specs.declared.resource.Res.TheVariants as res
 
 -- each of these tables that has the number has been made; of further ones the flags stay
 abbrev pub marked : ℕ → List PieceTable → List Bool → List Bool

@@ -1,21 +1,15 @@
 -- Steps of a start.
 use Rattle.std.specs.Prelude.{ℕ, ℤ, ◌≡◌, ◌≤◌, ◌<◌, ◌+◌, ◌-◌, ◌^◌, Bool, List, [], ◌∷◌, length, min, Some, None}
 use Rattle.std.specs.List.{AllWithin, insert}
-use Rattle.cs_piece_meaning.specs.Moments.{Composition, Active, Moment}
-use Rattle.cs_piece_meaning.specs.Starts.{Start, asked}
+use Rattle.cs_piece_meaning.specs.{Moments.Composition, Moments.Active, Moments.Moment, Starts.Start, Starts.asked}
 use Rattle.cs_ir.specs.declared.ask.Ask.{Ask}
 use Rattle.cs_life.specs.Standing.{Plays, kept_count}
-use Rattle.cs_meaning.specs.Core.{Block}
-use Rattle.cs_meaning.specs.Notes.{Note}
-use Rattle.cs_meaning.specs.Plain.{Cause, Plain}
-use Rattle.cs_sched.specs.Waiting.{Queue, waiting}
-use Rattle.cs_sched.specs.declared.pending.Added.{Added}
-use Rattle.cs_sched.specs.declared.pending.Added.TheVariants as added
+use Rattle.cs_meaning.specs.{Core.Block, Notes.Note, Plain.Cause, Plain.Plain}
+use Rattle.cs_sched.specs.{Waiting.Queue, Waiting.waiting, declared.pending.Added.Added}
 use Rattle.cs_voice.specs.declared.note.Started.{Started}
+use Rattle.cs_voice.specs.{VoiceData.VoiceData, VoiceMeaning.IsVoice, declared.stage.Stage.Stage}
+use Rattle.cs_sched.specs.declared.pending.Added.TheVariants as added
 use Rattle.cs_voice.specs.declared.note.Started.TheVariants as started
-use Rattle.cs_voice.specs.VoiceData.{VoiceData}
-use Rattle.cs_voice.specs.VoiceMeaning.{IsVoice}
-use Rattle.cs_voice.specs.declared.stage.Stage.{Stage}
 
 -- the note of a start in a cycle, once it plays
 abbrev pub active_of : ℕ → Start → Block → Note Plain → ℕ → Active

@@ -1,18 +1,16 @@
 -- Counts, added one after the other.
-use Rattle.std.specs.Prelude.{ℕ, Bool, true, false, List, [], ◌∷◌, ◌≡◌, ◌<◌, ◌+◌, length, nat_lt, slice_get}
+use Rattle.std.specs.Prelude.{ℕ, Bool, true, false, List, [], ◌∷◌, ◌≡◌, ◌<◌, ◌+◌, length, min, nat_lt, slice_get}
 use Rattle.std.specs.Prelude.{slice_index, Option, Some, None, if◌then◌else◌}
 use Rattle.std.specs.Option.{option_or}
 use Rattle.cs_base.specs.Limits.{most_statements}
 use Rattle.cs_grammar.specs.Tree.{Argument, value, text, Definition}
-use Rattle.cs_udo.specs.Counted.{size_of}
+use Rattle.cs_udo.specs.{Counted.size_of, declared.library.Library.Library, declared.tally.RunningCount.RunningCount}
 use Rattle.cs_udo.specs.Expanded.{Opcodes, Template, template}
-use Rattle.cs_udo.specs.declared.library.Library.{Library}
-use Rattle.cs_udo.specs.declared.tally.RunningCount.{RunningCount}
 use Rattle.cs_udo.specs.Library.{definitions_of, opcodes_of}
 
 -- a number, or one more than may be where it is too much
 abbrev pub capped : ℕ → ℕ
-capped n = if nat_lt most_statements n then most_statements + 1 else n
+capped n = min n (most_statements + 1)
 
 -- the sum of counts
 abbrev pub total : List (ℕ × ℕ) → ℕ

@@ -1,9 +1,7 @@
 -- Faults, one after the other.
 use Rattle.std.specs.Prelude.{List, [], ◌∷◌, Option, Some, None}
 use Rattle.cs_base.specs.declared.fault.OrcFault.{OrcFault}
-use Rattle.cs_udo.specs.Expanded.{Opcodes}
-use Rattle.cs_udo.specs.Refused.{uppermost_of}
-use Rattle.cs_udo.specs.declared.refuse.Site.{Site}
+use Rattle.cs_udo.specs.{Expanded.Opcodes, Refused.uppermost_of, declared.refuse.Site.Site}
 use Rattle.cs_udo.specs.Library.{definitions_of, opcodes_of}
 
 -- what is defined in front of the place of a call

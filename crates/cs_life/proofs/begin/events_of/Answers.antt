@@ -1,7 +1,6 @@
 use Rattle.std.proofs.Common.{◌-◌, ltb, leb, length, take, drop, length-drop, arith, rules, ◌≤◌}
-use Rattle.std.proofs.lemmas.List.{take_all}
+use Rattle.std.proofs.lemmas.{List.take_all, List.Sorted.IsPartitionedBy-leb, List.Sorted.IsPartitionedBy-ltb}
 use Rattle.std.proofs.lemmas.List.Sorted.{IsNonDecreasingBy-drop, IsNonDecreasingBy-take, IsPartitionPoint-from_clause}
-use Rattle.std.proofs.lemmas.List.Sorted.{IsPartitionedBy-leb, IsPartitionedBy-ltb}
 use Rattle.cs_tempo.specs.declared.plot.Event.{Event}
 use Rattle.cs_life.proofs.Going.{events_between}
 use Rattle.cs_life.proofs.begin.events_of.Goals as goal

@@ -1,14 +1,10 @@
-use Rattle.std.proofs.Common.{[], ap, subst, ◌∙◌}
-use Rattle.cs_cells.specs.Areas.{word_count}
-use Rattle.cs_cells.specs.Cells.{cell}
+use Rattle.std.proofs.Common.{ap, subst, ◌∙◌, []}
+use Rattle.cs_cells.specs.{Areas.word_count, Cells.cell}
 use Rattle.cs_piece_meaning.specs.Course.{outside_done}
-use Rattle.cs_piece.specs.VoicesOfNotes.{Hold}
+use Rattle.cs_piece.specs.{VoicesOfNotes.Hold, Setups.composition_of}
 use Rattle.cs_voice_meaning.specs.Voices.{initialised}
 use Rattle.cs_voice.specs.Starts.{sheet_at}
-use Rattle.cs_piece.specs.Setups.{composition_of}
-use Rattle.cs_life.proofs.Flags.{flags_fit}
-use Rattle.cs_life.proofs.Opened.{outside_holds}
-use Rattle.cs_life.proofs.Performing.{same_piece}
+use Rattle.cs_life.proofs.{Flags.flags_fit, Opened.outside_holds, Performing.same_piece}
 use Rattle.cs_life.proofs.life.begin_outside.Goals as goal
 
 pub start-requires-clause-tables : goal.start-requires-clause-tables

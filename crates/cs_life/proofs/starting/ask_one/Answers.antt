@@ -2,8 +2,7 @@ use Rattle.std.proofs.Common.{◌∙◌, ap, subst, sym}
 use Rattle.cs_piece_meaning.specs.Starts.{asked}
 use Rattle.cs_life.proofs.Waits.{asked_waits}
 use Rattle.cs_life.specs.inner.Starting.{Wait}
-use Rattle.cs_sched.specs.Times.{Clock, due_of}
-use Rattle.cs_sched.specs.Waiting.{answer_to, waiting, with_answer}
+use Rattle.cs_sched.specs.{Times.Clock, Times.due_of, Waiting.answer_to, Waiting.waiting, Waiting.with_answer}
 use Rattle.cs_life.proofs.starting.ask_one.Goals as goal
 
 pub returns : goal.returns

@@ -1,4 +1,3 @@
-use Rattle.std.proofs.Common.{refl}
 use Rattle.std.proofs.lemmas.Result.{on_ok_weaker}
 use Rattle.cs_life.proofs.Growing.{grew_longer, grew_none}
 use Rattle.cs_life.proofs.starting.keep.Goals as goal

@@ -1,6 +1,5 @@
 use Rattle.std.proofs.Common.{◌≡◌, map, take}
-use Rattle.cs_piece.specs.Compositions.{live_in}
-use Rattle.cs_piece.specs.Tables.{table_of}
+use Rattle.cs_piece.specs.{Compositions.live_in, Tables.table_of}
 use Rattle.cs_piece.proofs.setup.live_of.Given as goal
 
 abbrev pub invariant-loop-table : goal.invariant-loop-table

@@ -1,6 +1,5 @@
 use Rattle.std.proofs.Common.{◌<◌, ◌∙◌, arith, length, refl, sym, to_z, of_z, w64}
-use Rattle.std.proofs.lemmas.Int.{to_z-of_z}
-use Rattle.std.proofs.lemmas.Option.{slice_get_read, slice_get_within}
+use Rattle.std.proofs.lemmas.{Int.to_z-of_z, Option.slice_get_read, Option.slice_get_within}
 use Rattle.cs_piece.proofs.Readied.{none_more}
 use Rattle.cs_piece.proofs.stage.place_of.Goals as goal
 

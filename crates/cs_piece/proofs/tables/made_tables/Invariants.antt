@@ -1,6 +1,5 @@
 use Rattle.std.proofs.Common.{◌≡◌, map, take}
-use Rattle.cs_piece.specs.Tables.{table_of}
-use Rattle.cs_piece.specs.inner.Marked.{given_of, table_by}
+use Rattle.cs_piece.specs.{Tables.table_of, inner.Marked.given_of, inner.Marked.table_by}
 use Rattle.cs_piece.proofs.tables.made_tables.Given as goal
 
 abbrev pub invariant-loop-first : goal.invariant-loop-first

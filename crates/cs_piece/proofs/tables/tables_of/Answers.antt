@@ -1,10 +1,8 @@
 use Rattle.std.proofs.Common.{◌∙◌, ap, map, subst, sym}
 use Rattle.std.specs.List.{list_any}
-use Rattle.cs_meaning.specs.Plain.{Table}
 use Rattle.cs_piece.specs.Tables.{ascending, given_in}
 use Rattle.cs_piece.specs.inner.Marked.{Differ, codes_store, given_of, table_by}
-use Rattle.cs_piece.proofs.Ascending.{made_differ, number_of}
-use Rattle.cs_piece.proofs.Rights.{tables_as}
+use Rattle.cs_piece.proofs.{Ascending.made_differ, Ascending.number_of, Rights.tables_as}
 use Rattle.cs_piece.proofs.tables.tables_of.Goals as goal
 
 pub by_number-requires : goal.by_number-requires

@@ -1,8 +1,7 @@
 use Rattle.std.proofs.Common.{◌≡◌, drop}
-use Rattle.cs_grammar.specs.Tree as tree
-use Rattle.cs_udo.specs.Refused.{faults_in, faults_in_arms}
+use Rattle.cs_udo.specs.{Refused.faults_in, Refused.faults_in_arms, inner.Walks.after_faults}
 use Rattle.cs_udo.specs.Library.{definitions_of, opcodes_of}
-use Rattle.cs_udo.specs.inner.Walks.{after_faults}
+use Rattle.cs_grammar.specs.Tree as tree
 use Rattle.cs_udo.proofs.refuse.+refuse.Given as goal
 
 -- the rest tells what the whole tells

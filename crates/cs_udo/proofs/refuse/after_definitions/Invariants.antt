@@ -1,8 +1,6 @@
 use Rattle.std.proofs.Common.{◌≡◌, drop}
-use Rattle.cs_udo.specs.Expanded.{no_opcodes}
-use Rattle.cs_udo.specs.Refused.{faults_of_definitions}
+use Rattle.cs_udo.specs.{Expanded.no_opcodes, Refused.faults_of_definitions, inner.Walks.after_faults}
 use Rattle.cs_udo.specs.Library.{definitions_of, opcodes_of}
-use Rattle.cs_udo.specs.inner.Walks.{after_faults}
 use Rattle.cs_udo.proofs.refuse.after_definitions.Given as goal
 
 abbrev pub invariant-loop-i : goal.invariant-loop-i

@@ -1,11 +1,8 @@
 use Rattle.std.proofs.Common.{◌∙◌, ◌+◌, arith, drop, map, true, sym, ap}
-use Rattle.cs_grammar.specs.Tree as tree
-use Rattle.cs_udo.specs.Expanded.{opcodes_before}
+use Rattle.cs_udo.specs.{Expanded.opcodes_before, Library.definitions_of, Library.opcodes_of, inner.Walks.after_faults}
 use Rattle.cs_udo.specs.Refused.{faults_in, faults_of_instruments}
-use Rattle.cs_udo.specs.Library.{definitions_of, opcodes_of}
-use Rattle.cs_udo.specs.inner.Walks.{after_faults}
-use Rattle.cs_udo.proofs.Faulted.{after_both}
-use Rattle.cs_udo.proofs.Places.{dropped, opcodes_here}
+use Rattle.cs_udo.proofs.{Faulted.after_both, Places.dropped, Places.opcodes_here}
+use Rattle.cs_grammar.specs.Tree as tree
 use Rattle.cs_udo.proofs.refuse.after_instruments.Goals as goal
 
 pub loop-i-preserved : goal.loop-i-preserved

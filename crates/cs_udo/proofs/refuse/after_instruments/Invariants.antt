@@ -1,8 +1,6 @@
 use Rattle.std.proofs.Common.{◌≡◌, drop, map}
+use Rattle.cs_udo.specs.{Refused.faults_of_instruments, Library.definitions_of, inner.Walks.after_faults}
 use Rattle.cs_grammar.specs.Tree as tree
-use Rattle.cs_udo.specs.Refused.{faults_of_instruments}
-use Rattle.cs_udo.specs.Library.{definitions_of}
-use Rattle.cs_udo.specs.inner.Walks.{after_faults}
 use Rattle.cs_udo.proofs.refuse.after_instruments.Given as goal
 
 abbrev pub invariant-loop-i : goal.invariant-loop-i

@@ -1,12 +1,9 @@
 use Rattle.std.proofs.Common.{◌∙◌, ◌+◌, arith, drop, false, sym, ap}
-use Rattle.cs_grammar.specs.Tree as tree
 use Rattle.cs_grammar.specs.WellFormed.{line_of}
-use Rattle.cs_udo.specs.Expanded.{opcodes_before}
+use Rattle.cs_udo.specs.{Expanded.opcodes_before, Library.definitions_of, inner.Walks.after_faults}
 use Rattle.cs_udo.specs.Refused.{faults, faults_outside}
-use Rattle.cs_udo.specs.Library.{definitions_of}
-use Rattle.cs_udo.specs.inner.Walks.{after_faults}
-use Rattle.cs_udo.proofs.Faulted.{after_both}
-use Rattle.cs_udo.proofs.Places.{dropped, opcodes_here, line_is}
+use Rattle.cs_udo.proofs.{Faulted.after_both, Places.dropped, Places.opcodes_here, Places.line_is}
+use Rattle.cs_grammar.specs.Tree as tree
 use Rattle.cs_udo.proofs.refuse.after_outside.Goals as goal
 
 pub loop-s-preserved : goal.loop-s-preserved

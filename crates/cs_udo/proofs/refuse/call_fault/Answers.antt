@@ -1,7 +1,6 @@
 use Rattle.std.proofs.Common.{◌∙◌, map, sym, ap}
+use Rattle.cs_udo.specs.{Refused.at, Refused.call_faults, Library.definitions_of, Library.opcodes_of}
 use Rattle.cs_grammar.specs.Tree as tree
-use Rattle.cs_udo.specs.Refused.{at, call_faults}
-use Rattle.cs_udo.specs.Library.{definitions_of, opcodes_of}
 use Rattle.cs_udo.proofs.refuse.call_fault.Goals as goal
 
 pub returns-in-Some : goal.returns-in-Some

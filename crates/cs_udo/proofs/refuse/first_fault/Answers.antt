@@ -1,9 +1,8 @@
 use Rattle.std.proofs.Common.{◌∙◌, map, None, ap}
-use Rattle.cs_grammar.specs.Tree as tree
 use Rattle.cs_udo.specs.Refused.{faults_outside, faults_of_instruments}
-use Rattle.cs_udo.specs.Library.{definitions_of}
-use Rattle.cs_udo.specs.inner.Walks.{after_faults}
+use Rattle.cs_udo.specs.{Library.definitions_of, inner.Walks.after_faults}
 use Rattle.cs_udo.proofs.Faulted.{whole_after}
+use Rattle.cs_grammar.specs.Tree as tree
 use Rattle.cs_udo.proofs.refuse.first_fault.Goals as goal
 
 pub returns : goal.returns

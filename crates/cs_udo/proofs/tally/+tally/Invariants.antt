@@ -1,8 +1,7 @@
 use Rattle.std.proofs.Common.{◌≡◌, drop, length}
-use Rattle.cs_grammar.specs.Tree as tree
-use Rattle.cs_udo.specs.Counted.{counts_in, counts_in_arms}
+use Rattle.cs_udo.specs.{Counted.counts_in, Counted.counts_in_arms, inner.Tallies.after_counts}
 use Rattle.cs_udo.specs.Library.{definitions_of, opcodes_of}
-use Rattle.cs_udo.specs.inner.Tallies.{after_counts}
+use Rattle.cs_grammar.specs.Tree as tree
 use Rattle.cs_udo.proofs.tally.+tally.Given as goal
 
 -- the rest tells what the whole tells

@@ -1,12 +1,8 @@
-use Rattle.std.proofs.Common.{◌∙◌, length, map, sym, ap}
+use Rattle.std.proofs.Common.{◌∙◌, length, map, take, sym, ap}
+use Rattle.cs_udo.specs.{Counted.size_of, Counted.counts_in, Expanded.assignments, Names.slots, Library.definitions_of}
+use Rattle.cs_udo.specs.{Library.opcodes_of, inner.Tallies.capped, inner.Tallies.after_counts}
+use Rattle.cs_udo.proofs.{Priced.none_counted, Priced.cost_is, Weighed.fair_all, Weighed.length_slots}
 use Rattle.cs_grammar.specs.Tree as tree
-use Rattle.cs_udo.specs.Counted.{size_of, counts_in}
-use Rattle.cs_udo.specs.Expanded.{assignments}
-use Rattle.cs_udo.specs.Names.{slots}
-use Rattle.cs_udo.specs.Library.{definitions_of, opcodes_of}
-use Rattle.cs_udo.specs.inner.Tallies.{capped, after_counts}
-use Rattle.cs_udo.proofs.Priced.{none_counted, cost_is}
-use Rattle.cs_udo.proofs.Weighed.{fair_of, length_slots}
 use Rattle.cs_udo.proofs.tally.cost_of.Goals as goal
 
 pub returns : goal.returns
@@ -14,7 +10,7 @@ returns c =
     let ds = definitions_of c.args.prices.now.library.now in
     let n = length c.args.prices.now.costs.now in
     let u = c.args.definition.now in
-    cost_is (opcodes_of ds n) (fair_of ds n) (tree.definition u) c.after_block-body.result c.assigned.result
+    cost_is (opcodes_of ds n) (fair_all (take n ds)) (tree.definition u) c.after_block-body.result c.assigned.result
     c.plus.result
     (c.after_block-body.ensures
     ∙ ap (λ xs. after_counts none_counted (counts_in (opcodes_of ds n) (tree.block xs))) c.deref.ensures.value)

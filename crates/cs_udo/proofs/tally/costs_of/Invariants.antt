@@ -1,6 +1,5 @@
 use Rattle.std.proofs.Common.{◌≡◌, length}
-use Rattle.cs_udo.specs.Library.{definitions_of}
-use Rattle.cs_udo.specs.inner.Tallies.{IsPriced}
+use Rattle.cs_udo.specs.{Library.definitions_of, inner.Tallies.IsPriced}
 use Rattle.cs_udo.proofs.tally.costs_of.Given as goal
 
 abbrev pub invariant-loop-definition : goal.invariant-loop-definition

@@ -1,7 +1,6 @@
 use Rattle.std.proofs.Common.{◌≡◌, drop, map}
+use Rattle.cs_udo.specs.{Counted.limits, Library.definitions_of}
 use Rattle.cs_grammar.specs.Tree as tree
-use Rattle.cs_udo.specs.Counted.{limits}
-use Rattle.cs_udo.specs.Library.{definitions_of}
 use Rattle.cs_udo.proofs.tally.first_limit.Given as goal
 
 abbrev pub invariant-loop-i : goal.invariant-loop-i

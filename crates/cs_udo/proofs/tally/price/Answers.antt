@@ -1,9 +1,7 @@
-use Rattle.std.proofs.Common.{◌∙◌, ◌+◌, length, map, min, ap}
+use Rattle.std.proofs.Common.{◌∙◌, ◌+◌, length, map, min, take, ap}
+use Rattle.cs_udo.specs.{Library.definitions_of, Library.opcodes_of, inner.Tallies.capped}
+use Rattle.cs_udo.proofs.{Priced.price_is, Weighed.fair_all}
 use Rattle.cs_grammar.specs.Tree as tree
-use Rattle.cs_udo.specs.Library.{definitions_of, opcodes_of}
-use Rattle.cs_udo.specs.inner.Tallies.{capped}
-use Rattle.cs_udo.proofs.Priced.{price_is}
-use Rattle.cs_udo.proofs.Weighed.{fair_of}
 use Rattle.cs_udo.proofs.tally.price.Goals as goal
 
 pub returns-in-Some : goal.returns-in-Some
@@ -13,7 +11,7 @@ returns-in-Some c = λ line.
     let k = c.in-Some.found.place in
     let u = c.in-Some.found.definition.now in
     let seen = c.in-Some.ensures.defined in
-    price_is (opcodes_of ds n) (opcodes_of ds k) (fair_of ds k) (tree.definition u) line c.args.results.now
+    price_is (opcodes_of ds n) (opcodes_of ds k) (fair_all (take k ds)) (tree.definition u) line c.args.results.now
     c.args.callee.now (map tree.argument c.args.args.now)
     c.assigned-given.result c.capped-taken.result _ c.plus-in-Some-2.result
     seen.2

@@ -1,28 +1,24 @@
 use Rattle.std.proofs.Common.{◌≢◌}
-use Rattle.cs_udo_meaning.specs.Frames.{acting_all, no_actions}
-use Rattle.cs_udo_meaning.proofs.Kept.{Off, all_inside, nothing_inside, block_off, texts_off}
-use Rattle.cs_udo_meaning.proofs.Paths.{of_all}
-use Rattle.cs_udo_meaning.proofs.Untouched.{all_alone, nothing_alone, calls_differ, block_kept}
-use Rattle.cs_udo_meaning.proofs.Units.{all_rise, nothing_rises, units_differ}
+use Rattle.cs_udo_meaning.proofs.{Kept.Off, Kept.kept_stays, Kept.texts_off, Paths.of_all, Units.units_differ}
+use Rattle.cs_udo_meaning.proofs.Untouched.{anywhere, calls_differ, frame_stays, statements_stay}
 use Rattle.cs_udo_meaning.proofs.laws.calls_have_frames_of_their_own.Goals as goal
 
 pub returns-clause-differ : goal.returns-clause-differ
 returns-clause-differ g c = calls_differ _
 
 pub returns-clause-units : goal.returns-clause-units
-returns-clause-units g c =
-    λ m ds n b. units_differ m (acting_all no_actions ds) (all_rise m no_actions (nothing_rises m) ds) n b
+returns-clause-units g c = units_differ
 
 pub returns-clause-alone : goal.returns-clause-alone
 returns-clause-alone g c =
     λ m ds w f h apart p b u out.
-    block_kept m (acting_all no_actions ds) (all_alone m no_actions (nothing_alone m) ds) w f h apart p b u
-    (of_all (λ k. h ≢ k) _ out)
+    statements_stay m (λ u. u.frames h) (λ k. h ≢ k) (λ k. Unit {0}) (frame_stays m h) ds w f apart p b u
+    (of_all (λ k. h ≢ k) _ out) (anywhere _)
 
 pub returns-clause-kept : goal.returns-clause-kept
 returns-clause-kept g c =
     λ m ds w f p b u q out.
-    block_off m q (acting_all no_actions ds) (all_inside m q no_actions (nothing_inside m q) ds) w f p b u
+    statements_stay m (λ u. u.kept q) (λ k. Unit {0}) (Off q) (kept_stays m q) ds w f tt p b u (anywhere _)
     (of_all (Off q) _ out)
 
 pub returns-clause-kept_in_expansions : goal.returns-clause-kept_in_expansions

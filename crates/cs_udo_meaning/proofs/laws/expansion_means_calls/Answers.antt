@@ -1,5 +1,5 @@
 use Rattle.std.proofs.Common.{ap}
-use Rattle.cs_udo_meaning.proofs.Lived.{calls_mean_frames, expanded_is}
+use Rattle.cs_udo_meaning.proofs.{Fit.expanded_is, Lived.calls_mean_frames}
 use Rattle.cs_udo_meaning.proofs.laws.expansion_means_calls.Goals as goal
 
 pub returns-clause-instruments : goal.returns-clause-instruments

@@ -1,5 +1,4 @@
-use Rattle.cs_udo_meaning.proofs.Numbers.{spelled_tells}
-use Rattle.cs_udo_meaning.proofs.TypedBy.{all_numbered, outside_numbered}
+use Rattle.cs_udo_meaning.proofs.{Numbers.spelled_tells, TypedBy.all_numbered, TypedBy.outside_numbered}
 use Rattle.cs_udo_meaning.proofs.laws.typing_is_by_numbers.Goals as goal
 
 pub returns-clause-instruments : goal.returns-clause-instruments

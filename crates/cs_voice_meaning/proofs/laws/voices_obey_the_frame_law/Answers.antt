@@ -1,5 +1,4 @@
-use Rattle.cs_voice_meaning.proofs.FrameLaw.{voice_frames}
-use Rattle.cs_voice_meaning.proofs.OnAllCells.{performed_on_all, left_on_all}
+use Rattle.cs_voice_meaning.proofs.{FrameLaw.voice_frames, OnAllCells.performed_on_all, OnAllCells.left_on_all}
 use Rattle.cs_voice_meaning.proofs.laws.voices_obey_the_frame_law.Goals as goal
 
 pub returns-clause-frames : goal.returns-clause-frames

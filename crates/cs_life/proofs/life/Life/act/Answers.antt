@@ -1,8 +1,7 @@
 use Rattle.std.proofs.Common.{◌≡◌, rules, to_z, of_z, w64, pos}
 use Rattle.std.proofs.lemmas.Result.{on_ok_weaker}
-use Rattle.cs_life.proofs.Growing.{grew_none}
+use Rattle.cs_life.proofs.{Growing.grew_none, Going.note_done, Going.table_done, Going.table_given}
 use Rattle.cs_piece.specs.Setups.{composition_of}
-use Rattle.cs_life.proofs.Going.{note_done, table_given}
 use Rattle.cs_life.proofs.life.Life.act.Goals as goal
 
 pub start_note-requires : goal.start_note-requires
@@ -32,12 +31,16 @@ pub returns-in_ok-fields-in-Start-clause-done : goal.returns-in_ok-fields-in-Sta
 returns-in_ok-fields-in-Start-clause-done g c =
     let number : to_z w64 (of_z w64 c.from.result) ≡ pos c.in-Start.instr = search rules in
     on_ok_weaker c.start_note.result
-    (λ started. note_done c.args.self.now c.start_note.new.self c.args.voices.now.items c.start_note.new.voices.items
-    (g.B.Bank.cells c.args.bank.now)
-    (g.B.Bank.cells c.start_note.new.bank) c.args.event.now.cycle c.in-Start.instr c.in-Start.cycles
-    (to_z w64 (of_z w64 c.from.result)) c.in_ok-fields-in-Start.fields c.in-Start.fields c.args.event.now.act
-    c.in-Start.is number c.in_ok-fields-in-Start.ensures started)
+    (λ started. note_done c.args.event.now.cycle c.in-Start.is number c.in_ok-fields-in-Start.ensures started)
     c.start_note.ensures.started
+
+pub returns-in-Table-clause-done : goal.returns-in-Table-clause-done
+returns-in-Table-clause-done g c =
+    let s : to_z w64 (of_z w64 c.in-Table.size) ≡ c.in-Table.size = search rules in
+    let k : to_z w64 (of_z w64 c.in-Table.gen_) ≡ c.in-Table.gen_ = search rules in
+    on_ok_weaker c.make_table.result
+    (λ made. table_done c.args.event.now.cycle c.in-Table.is s k c.as_slice.ensures
+    (made c.args.voices.now.items)) c.make_table.ensures.made
 
 pub returns-in-Table-clause-grown : goal.returns-in-Table-clause-grown
 returns-in-Table-clause-grown g c =

@@ -3,12 +3,9 @@ use Rattle.std.proofs.lemmas.Result.{on_ok_weaker}
 use Rattle.cs_cells.specs.Cells.{cell}
 use Rattle.cs_piece_meaning.specs.Moments.{Composition, Moment}
 use Rattle.cs_piece_meaning.specs.Starts.{Start, all_asked, begun, time_of}
-use Rattle.cs_ir.specs.Asks.{ask_of}
-use Rattle.cs_ir.specs.declared.ask.Ask.{Ask}
-use Rattle.cs_life.proofs.Beginning.{Gives, clock_is, is_ready}
-use Rattle.cs_life.proofs.Performing.{flags_long}
-use Rattle.cs_meaning.specs.Notes.{Note}
-use Rattle.cs_meaning.specs.Plain.{Plain}
+use Rattle.cs_ir.specs.{Asks.ask_of, declared.ask.Ask.Ask}
+use Rattle.cs_life.proofs.{Beginning.Gives, Beginning.clock_is, Beginning.is_ready, Flags.flags_fit}
+use Rattle.cs_meaning.specs.{Notes.Note, Plain.Plain}
 use Rattle.cs_piece.specs.Setups.{composition_of}
 use Rattle.cs_voice_meaning.specs.Voices.{Sheet, initialised}
 use Rattle.cs_voice.specs.Starts.{IsStarted, sheet_at}
@@ -19,7 +16,7 @@ pub start-requires-clause-tables : goal.start-requires-clause-tables
 start-requires-clause-tables g c =
     c.requires.stands.1.stand.stage_is.can_be_played c.deref-2.result.now
     (ap length c.deref-2.ensures.value
-    ∙ flags_long _ _ _ _ c.requires.stands.1.stand.stage_is c.requires.stands.1.stand.made)
+    ∙ flags_fit _ _ _ _ c.requires.stands.1.stand.stage_is.tables c.requires.stands.1.stand.made)
 
 pub returns-clause-begun : goal.returns-clause-begun
 returns-clause-begun g c =

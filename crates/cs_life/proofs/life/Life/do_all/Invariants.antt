@@ -1,8 +1,7 @@
 use Rattle.std.proofs.Common.{◌≡◌, length, take}
 use Rattle.cs_piece_meaning.specs.Starts.{all_done}
 use Rattle.cs_piece.specs.Setups.{composition_of}
-use Rattle.cs_life.specs.Standing.{Grew}
-use Rattle.cs_life.specs.inner.Doing.{CanGoOn, HasGoneOn}
+use Rattle.cs_life.specs.{Standing.Grew, inner.Doing.CanGoOn, inner.Doing.HasGoneOn}
 use Rattle.cs_life.proofs.life.Life.do_all.Given as goal
 
 abbrev pub invariant-loop-event : goal.invariant-loop-event

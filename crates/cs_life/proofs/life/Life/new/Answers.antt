@@ -1,19 +1,17 @@
 use Rattle.std.proofs.Common.{ap, length, pos, refl, subst, sym, ◌∙◌}
 use Rattle.std.proofs.lemmas.List.{length-replicate}
-use Rattle.cs_cells.specs.Areas.{word_count}
-use Rattle.cs_cells.specs.Cells.{cell}
+use Rattle.cs_cells.specs.{Areas.word_count, Cells.cell}
 use Rattle.cs_piece_meaning.specs.Course.{outside_done}
-use Rattle.cs_piece.specs.VoicesOfNotes.{Hold}
-use Rattle.cs_piece.specs.Setups.{composition_of}
-use Rattle.cs_life.proofs.Flags.{as_many}
-use Rattle.cs_life.proofs.Opened.{none_made, opened}
+use Rattle.cs_piece.specs.{VoicesOfNotes.Hold, Setups.composition_of}
+use Rattle.cs_voice.specs.{Memory.table_of, VoiceData.made}
+use Rattle.cs_life.proofs.{Orders.same_length, Opened.none_made, Opened.opened}
 use Rattle.cs_life.proofs.life.Life.new.Goals as goal
 
 pub begin_outside-requires-clause-made : goal.begin_outside-requires-clause-made
 begin_outside-requires-clause-made g c =
     c.deref.ensures.value ∙ c.in_ok-made.ensures
     ∙ none_made (composition_of c.args.setup.now).tables (length c.stage-stage.result.tables.now)
-    (as_many c.stage-stage.result.tables.now (composition_of c.args.setup.now).tables
+    (same_length table_of made c.stage-stage.result.tables.now (composition_of c.args.setup.now).tables
     c.stage-stage.ensures.stage.tables)
 
 pub returns-clause-stands : goal.returns-clause-stands
@@ -32,7 +30,7 @@ returns-clause-stands g c =
     c.stage-stage.ensures.zones
     (c.in_ok-made.ensures
     ∙ none_made (composition_of c.args.setup.now).tables (length c.stage-stage.result.tables.now)
-    (as_many c.stage-stage.result.tables.now (composition_of c.args.setup.now).tables
+    (same_length table_of made c.stage-stage.result.tables.now (composition_of c.args.setup.now).tables
     c.stage-stage.ensures.stage.tables))
     (subst (λ areas. Hold areas (cell (g.B.Bank.cells c.begin_outside.new.bank))
     (outside_done (composition_of c.args.setup.now)).world.shared)

@@ -1,22 +1,21 @@
 use Rattle.std.proofs.Common.{◌≡◌, ◌<◌, ◌∙◌, ap, arith, length, pos, refl, slice_get, None, Some, subst, sym, w64}
-use Rattle.std.proofs.lemmas.Int.{to_z-of_z}
-use Rattle.std.proofs.lemmas.Option.{slice_get_read}
+use Rattle.std.proofs.lemmas.{Int.to_z-of_z, Option.slice_get_read, Slice.Zip.AllZip-long}
 use Rattle.cs_base.proofs.Tests.{some_is}
 use Rattle.cs_cells.specs.declared.footprint.Footprint.{Footprint}
 use Rattle.cs_ir.specs.Instruments.{Numbered}
 use Rattle.cs_meaning.specs.Core.{Block}
-use Rattle.cs_piece.specs.Ready.{IsInstrumentOf, IsStageOf}
-use Rattle.cs_piece.specs.Setups.{SetupData, composition_of}
+use Rattle.cs_piece.specs.{Ready.IsInstrumentOf, Ready.IsStageOf, Setups.SetupData, Setups.composition_of}
 use Rattle.cs_rwset.specs.Zones.{IsFootOver}
-use Rattle.cs_piece.proofs.Readied.{as_many, handed_out, not_there}
+use Rattle.cs_piece.proofs.Readied.{handed_out, not_there}
 use Rattle.cs_voice.specs.declared.stage.Stage.{Stage}
 use Rattle.cs_piece.proofs.setup.Setup.instrument.Goals as goal
 
 pub index-requires : goal.index-requires
 index-requires c =
     let many : length c.self.inside.lowered.instruments ≡ length c.self.inside.zoned.feet.items =
-    as_many (λ (x : Numbered) (f : Footprint). IsFootOver c.self.inside.layout c.self.inside.zoned.zones x.perf f)
-    c.self.inside.lowered.instruments c.self.inside.zoned.feet.items c.self.invariant.touch in
+    sym (AllZip-long
+    (λ (x : Numbered) (f : Footprint). IsFootOver c.self.inside.layout c.self.inside.zoned.zones x.perf f)
+    c.self.inside.lowered.instruments c.self.inside.zoned.feet.items c.self.invariant.touch) in
     let same = ap length c.as_slice-instruments.ensures.same in
     let low : c.in-Some.place < length c.as_slice-instruments.result.now = c.in-Some.ensures.some.0 in
     omega (arith, many, same, low)
@@ -29,8 +28,9 @@ returns-in-Some c =
     let xs = c.as_slice-instruments.result.now in
     let low : place < length xs = c.in-Some.ensures.some.0 in
     let many : length c.self.inside.lowered.instruments ≡ length c.self.inside.zoned.feet.items =
-    as_many (λ (x : Numbered) (f : Footprint). IsFootOver c.self.inside.layout c.self.inside.zoned.zones x.perf f)
-    c.self.inside.lowered.instruments c.self.inside.zoned.feet.items c.self.invariant.touch in
+    sym (AllZip-long
+    (λ (x : Numbered) (f : Footprint). IsFootOver c.self.inside.layout c.self.inside.zoned.zones x.perf f)
+    c.self.inside.lowered.instruments c.self.inside.zoned.feet.items c.self.invariant.touch) in
     let same = ap length c.as_slice-instruments.ensures.same in
     let foot_low : place < length c.self.inside.zoned.feet.items = omega (arith, many, same, low) in
     let here : slice_get xs place ≡ Some i =

@@ -1,6 +1,5 @@
 use Rattle.std.proofs.Common.{◌≡◌, subst}
-use Rattle.cs_piece.specs.Setups.{SetupData, composition_of}
-use Rattle.cs_piece.specs.Ready.{IsInstrumentOf, IsStageOf}
+use Rattle.cs_piece.specs.{Setups.SetupData, Setups.composition_of, Ready.IsInstrumentOf, Ready.IsStageOf}
 use Rattle.cs_piece.proofs.Readied.{outside_is}
 use Rattle.cs_voice.specs.declared.stage.Stage.{Stage}
 use Rattle.cs_piece.proofs.setup.Setup.outside.Goals as goal
