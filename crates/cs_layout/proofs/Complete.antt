@@ -1,35 +1,27 @@
 -- The layout of a piece has what the piece has.
 use Rattle.std.proofs.Common.{◌≡◌, ℕ, zero, suc, ◌+◌, ◌<◌, ◌==◌, ◌||◌, ◌&&◌, Bool, true, false, List, [], ◌∷◌, ◌++◌}
 use Rattle.std.proofs.Common.{length, map, take, nat_lt, nat_le, arith, ap, sym, ◌∙◌, refl, subst, slice_get, Option}
-use Rattle.std.proofs.Common.{Some, None}
-use Rattle.std.specs.List.{All, filter_map, list_any, range_with_len}
-use Rattle.std.specs.Option.{is_some}
-use Rattle.std.proofs.lemmas.Bool.Decides.{nat_tests}
+use Rattle.std.proofs.{Common.Some, Common.None, Math.Bool.or-false}
+use Rattle.std.specs.{List.All, List.filter_map, List.list_any, List.range_with_len, Option.is_some}
+use Rattle.std.proofs.lemmas.{Bool.Decides.nat_tests, List.Folds.list_any-append}
 use Rattle.std.proofs.lemmas.List.Elements.{All-head, All-tail}
-use Rattle.std.proofs.lemmas.List.Folds.{list_any-append}
-use Rattle.cs_base.specs.Rates.{res_rate, same_res}
-use Rattle.cs_base.specs.declared.resource.Res.{Res}
-use Rattle.cs_base.specs.declared.resource.Res.TheVariants as res
+use Rattle.cs_base.specs.{Rates.res_rate, Rates.same_res, declared.resource.Res.Res, declared.spaces.Spaces.Spaces}
 use Rattle.cs_base.proofs.Tests.{by_test, some_is}
-use Rattle.cs_cells.specs.Areas.{IsLaid, word_count}
-use Rattle.cs_cells.specs.declared.footprint.Area.{Area}
-use Rattle.cs_base.specs.declared.spaces.Spaces.{Spaces}
+use Rattle.cs_cells.specs.{Areas.IsLaid, Areas.word_count, declared.footprint.Area.Area}
 use Rattle.cs_ir.specs.Validity.{has_value}
 use Rattle.cs_layout.specs.Layouts.{SharedCells, numbered, of_tables, shared_by, areas_of, is_shared, AreApart, AreLive}
-use Rattle.cs_layout.specs.Layouts.{AreOfPiece, IsLive}
-use Rattle.cs_layout.specs.declared.areas.GroupKind.{GroupKind}
-use Rattle.cs_layout.specs.declared.areas.GroupKind.TheVariants as kind
+use Rattle.cs_layout.specs.{Layouts.AreOfPiece, Layouts.IsLive, declared.areas.GroupKind.GroupKind, inner.Groups.res_of}
 use Rattle.cs_layout.specs.declared.areas.LiveTable.{LiveTable}
-use Rattle.cs_layout.specs.inner.Groups.{res_of}
 use Rattle.cs_layout.proofs.Laid.{laid_at, is_there, found_at}
-use Rattle.cs_layout.proofs.Sharing.{position, is_at}
-use Rattle.cs_layout.proofs.Counted.{spaces_are}
+use Rattle.cs_layout.proofs.{Sharing.position, Sharing.is_at, Counted.spaces_are}
 use Rattle.cs_layout.proofs.Tails.{from_gk, from_ga, from_control, from_sound, from_zk, from_za}
 use Rattle.cs_meaning.specs.Pieces.{Piece, Table}
 use Rattle.cs_machine.proofs.Curved.{some_points}
 use Rattle.cs_rwset.specs.Footprints.{stock_of, table_number}
 use Rattle.cs_voice_meaning.specs.Placing.{IsPlaced, IsTablePlaced, area_of, cell_count, is_table_size}
 use Rattle.cs_typed.specs.TypedTree.{SharedNames}
+use Rattle.cs_base.specs.declared.resource.Res.TheVariants as res
+use Rattle.cs_layout.specs.declared.areas.GroupKind.TheVariants as kind
 
 -- each resource has its area at its own position
 record IsAreaAt (ksmps : ℕ) (names : SharedNames) (spaces : Spaces) (live : List LiveTable) (p : ℕ) (area : Area) : Type
@@ -106,19 +98,13 @@ number_within (Some k) count = nat_lt k count
 
 by_number : (x : GroupKind) (n : ℕ) (g : Res) → same_res (res_of x n) g ≡ is_number (number_in x g) n
 by_number kind.Gi n (res.Gi m) = refl
-by_number kind.Gi n g = refl
 by_number kind.Gk n (res.Gk m) = refl
-by_number kind.Gk n g = refl
 by_number kind.Ga n (res.Ga m) = refl
-by_number kind.Ga n g = refl
 by_number kind.Control n (res.Control m) = refl
-by_number kind.Control n g = refl
 by_number kind.Sound n (res.Sound m) = refl
-by_number kind.Sound n g = refl
 by_number kind.ZakK n (res.ZakK m) = refl
-by_number kind.ZakK n g = refl
 by_number kind.ZakA n (res.ZakA m) = refl
-by_number kind.ZakA n g = refl
+by_number x n g = refl
 
 -- a resource is in a group where its number is one of the group's
 in_group : (x : GroupKind) (count cells : ℕ) (g : Res)
@@ -154,10 +140,6 @@ among_tables : (g : Res) (live : List LiveTable) → any_of g (of_tables live) �
 among_tables (res.Table n) live = one_table n live
 among_tables g live = no_table g live (λ n. refl)
 
-or_none : (b : Bool) → (b || false) ≡ b
-or_none true = refl
-or_none false = refl
-
 -- a resource is among what is shared exactly where the piece has it
 module _ (ksmps : ℕ) (names : SharedNames) (spaces : Spaces) (live : List LiveTable) where
   by_groups : (g : Res) → any_of g (shared_by ksmps names spaces live)
@@ -178,14 +160,8 @@ module _ (ksmps : ℕ) (names : SharedNames) (spaces : Spaces) (live : List Live
       (group_then kind.ZakA spaces.audio ksmps (of_tables live) g _ (among_tables g live)))))))
 
   shared_is : (g : Res) → any_of g (shared_by ksmps names spaces live) ≡ is_shared names spaces live g
-  shared_is (res.Gi k) = by_groups (res.Gi k) ∙ or_none (nat_lt k (length names.variables.init))
-  shared_is (res.Gk k) = by_groups (res.Gk k) ∙ or_none (nat_lt k (length names.variables.control))
-  shared_is (res.Ga k) = by_groups (res.Ga k) ∙ or_none (nat_lt k (length names.variables.audio))
-  shared_is (res.Control k) = by_groups (res.Control k) ∙ or_none (nat_lt k (length names.control))
-  shared_is (res.Sound k) = by_groups (res.Sound k) ∙ or_none (nat_lt k (length names.sound))
-  shared_is (res.ZakK k) = by_groups (res.ZakK k) ∙ or_none (nat_lt k spaces.control)
-  shared_is (res.ZakA k) = by_groups (res.ZakA k) ∙ or_none (nat_lt k spaces.audio)
   shared_is (res.Table k) = by_groups (res.Table k)
+  shared_is g = by_groups g ∙ or-false (is_shared names spaces live g)
 
   pub there : (g : Res) → is_some (area_of (areas_of ksmps names spaces live) g) ≡ is_shared names spaces live g
   there g = is_there 0 (shared_by ksmps names spaces live) g ∙ shared_is g
@@ -202,13 +178,7 @@ among_areas (a ∷ areas) (suc p) n area e h = later a.res refl (among_areas are
     later : (r : Res) → a.res ≡ r → list_any (λ m. n == m) (filter_map (λ b. table_number b.res) areas) ≡ true
         → list_any (λ m. n == m) (filter_map (λ b. table_number b.res) (a ∷ areas)) ≡ true
     later (res.Table k) is more = rw (ap table_number is) (rw more (by_test (n == k) (λ y. rw y refl) (λ y. rw y refl)))
-    later (res.Gi k) is more = rw (ap table_number is) more
-    later (res.Gk k) is more = rw (ap table_number is) more
-    later (res.Ga k) is more = rw (ap table_number is) more
-    later (res.Control k) is more = rw (ap table_number is) more
-    later (res.Sound k) is more = rw (ap table_number is) more
-    later (res.ZakK k) is more = rw (ap table_number is) more
-    later (res.ZakA k) is more = rw (ap table_number is) more
+    later r is more = rw (ap table_number is) more
 
 live_is_shared : (live : List LiveTable) (q n size : ℕ) → slice_get live q ≡ Some (record { number = n; size = size })
     → list_any (λ t. t.number == n) live ≡ true

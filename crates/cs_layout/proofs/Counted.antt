@@ -3,10 +3,8 @@ use Rattle.std.proofs.Common.{◌≡◌, ℕ, zero, suc, ◌+◌, Bool, true, fa
 use Rattle.std.proofs.Common.{arith, ap, sym, ◌∙◌, refl, if◌then◌else◌}
 use Rattle.std.specs.List.{range_with_len}
 use Rattle.std.proofs.lemmas.List.Sums.{sum_by-cons}
-use Rattle.cs_base.specs.declared.resource.Res.{Res}
-use Rattle.cs_base.specs.declared.resource.Res.TheVariants as res
+use Rattle.cs_base.specs.{declared.resource.Res.Res, declared.spaces.Spaces.Spaces}
 use Rattle.cs_base.proofs.Texts.{count_by-append}
-use Rattle.cs_base.specs.declared.spaces.Spaces.{Spaces}
 use Rattle.cs_ir.specs.Resources.{places_of}
 use Rattle.cs_layout.specs.Layouts.{SharedCells, numbered, of_tables, shared_by, laid_from, areas_of}
 use Rattle.cs_layout.proofs.Tails.{from_gk, from_ga, from_control, from_sound, from_zk, from_za}
@@ -14,6 +12,7 @@ use Rattle.cs_layout.specs.declared.areas.LiveTable.{LiveTable}
 use Rattle.cs_rwset.specs.Footprints.{is_place, place_count, stock_of}
 use Rattle.cs_typed.specs.TypedTree.{SharedNames}
 use Rattle.cs_words.specs.declared.catalogue.Space.{Space}
+use Rattle.cs_base.specs.declared.resource.Res.TheVariants as res
 use Rattle.cs_words.specs.declared.catalogue.Space.TheVariants as space
 
 abbrev counted : Space → List SharedCells → ℕ

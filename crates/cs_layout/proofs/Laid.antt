@@ -1,15 +1,11 @@
 -- Areas one behind the other.
 use Rattle.std.proofs.Common.{◌≡◌, ℕ, zero, suc, ◌+◌, List, [], ◌∷◌, length, take, sum_by, arith, ap, sym, ◌∙◌, refl}
 use Rattle.std.proofs.Common.{slice_get, Some}
-use Rattle.std.specs.List.{list_any}
-use Rattle.std.specs.Option.{is_some}
+use Rattle.std.specs.{List.list_any, Option.is_some}
 use Rattle.std.proofs.lemmas.List.Sums.{sum_by-cons}
-use Rattle.cs_base.specs.Rates.{same_res}
-use Rattle.cs_base.specs.declared.resource.Res.{Res}
-use Rattle.cs_base.proofs.Rates.{same_res_is}
-use Rattle.cs_base.proofs.Tests.{by_test, some_is}
-use Rattle.cs_cells.specs.Areas.{word_count}
-use Rattle.cs_cells.specs.declared.footprint.Area.{Area}
+use Rattle.cs_base.specs.{Rates.same_res, declared.resource.Res.Res}
+use Rattle.cs_base.proofs.{Rates.same_res_is, Tests.by_test, Tests.some_is}
+use Rattle.cs_cells.specs.{Areas.word_count, declared.footprint.Area.Area}
 use Rattle.cs_layout.specs.Layouts.{SharedCells, laid_from}
 use Rattle.cs_voice_meaning.specs.Placing.{area_of}
 

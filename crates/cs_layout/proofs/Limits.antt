@@ -3,12 +3,10 @@ use Rattle.std.proofs.Common.{◌≡◌, ◌<◌, ◌≤◌, true, false, List, 
 use Rattle.std.proofs.Common.{if◌then◌else◌, sym, subst, ◌∙◌, ap, arith}
 use Rattle.std.proofs.lemmas.Bool.Decides.{nat_tests}
 use Rattle.cs_base.specs.Limits.{most_resources, most_words}
-use Rattle.cs_base.specs.declared.fault.Or.{Or}
+use Rattle.cs_base.specs.{declared.fault.Or.Or, declared.limit.LimitHit.LimitHit}
+use Rattle.cs_cells.specs.{Areas.limit_passed, Areas.word_count, declared.footprint.Area.Area}
 use Rattle.cs_base.specs.declared.fault.Or.TheVariants as or
 use Rattle.cs_base.specs.declared.limit.Limit.TheVariants as limit
-use Rattle.cs_base.specs.declared.limit.LimitHit.{LimitHit}
-use Rattle.cs_cells.specs.Areas.{limit_passed, word_count}
-use Rattle.cs_cells.specs.declared.footprint.Area.{Area}
 
 abbrev pub hit_resources : LimitHit
 hit_resources = record { limit = limit.Resources; line = 0 }

@@ -1,23 +1,18 @@
 -- The areas as they are made, group by group.
 use Rattle.std.proofs.Common.{◌≡◌, ℕ, zero, suc, ◌+◌, ◌*◌, ◌<◌, List, [], ◌∷◌, ◌++◌, length, map, get_or, take, sum_by}
-use Rattle.std.proofs.Common.{arith, ap, sym, ◌∙◌, refl}
+use Rattle.std.proofs.{Common.arith, Common.ap, Common.sym, Common.◌∙◌, Common.refl, Math.Nat.suc-mul}
 use Rattle.std.specs.List.{flat_map, range_with_len}
 use Rattle.std.proofs.lemmas.List.{append-nil, append_assoc, length-append, map-append, take_more}
-use Rattle.std.proofs.lemmas.List.Concat.{flat_map-append}
-use Rattle.std.proofs.lemmas.List.FromFn.{length-map-range_with_len}
-use Rattle.std.proofs.Math.Nat.{suc-mul}
+use Rattle.std.proofs.lemmas.{List.Concat.flat_map-append, List.FromFn.length-map-range_with_len}
 use Rattle.std.proofs.lemmas.List.Sums.{sum_by-append, sum_by-cons}
-use Rattle.cs_base.specs.declared.resource.Res.{Res}
-use Rattle.cs_base.specs.declared.resource.Res.TheVariants as res
-use Rattle.cs_cells.specs.Areas.{word_count}
-use Rattle.cs_cells.specs.declared.footprint.Area.{Area}
-use Rattle.cs_base.specs.declared.spaces.Spaces.{Spaces}
+use Rattle.cs_base.specs.{declared.resource.Res.Res, declared.spaces.Spaces.Spaces}
+use Rattle.cs_cells.specs.{Areas.word_count, declared.footprint.Area.Area}
 use Rattle.cs_layout.specs.Layouts.{SharedCells, areas_of, laid_from, numbered, of_tables, shared_by}
-use Rattle.cs_layout.specs.declared.areas.Group.{Group}
-use Rattle.cs_layout.specs.declared.areas.LiveTable.{LiveTable}
+use Rattle.cs_layout.specs.{declared.areas.Group.Group, declared.areas.LiveTable.LiveTable}
 use Rattle.cs_layout.specs.inner.Groups.{groups_of, members, res_of}
 use Rattle.cs_layout.proofs.Laid.{laid, length-laid, words-laid}
 use Rattle.cs_typed.specs.TypedTree.{SharedNames}
+use Rattle.cs_base.specs.declared.resource.Res.TheVariants as res
 
 abbrev pub cells_in : List SharedCells → ℕ
 cells_in ss = sum_by (λ s. s.cells) ss

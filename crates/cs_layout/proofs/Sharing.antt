@@ -2,13 +2,8 @@
 use Rattle.std.proofs.Common.{◌≡◌, ℕ, zero, suc, ◌+◌, true, false, List, [], ◌∷◌, ◌++◌, ◌==◌, length, map, arith, ap}
 use Rattle.std.proofs.Common.{sym, ◌∙◌, refl, subst, slice_get, Some, if◌then◌else◌}
 use Rattle.std.specs.List.{range_with_len}
-use Rattle.std.proofs.lemmas.Bool.Decides.{nat_tests}
-use Rattle.std.proofs.lemmas.List.FromFn.{length-map-range_with_len}
-use Rattle.cs_base.specs.Rates.{at_rate, res_rate}
-use Rattle.cs_base.specs.declared.resource.Rate.{Rate}
-use Rattle.cs_base.specs.declared.resource.Rate.TheVariants as rate
-use Rattle.cs_base.specs.declared.resource.Res.{Res}
-use Rattle.cs_base.specs.declared.resource.Res.TheVariants as res
+use Rattle.std.proofs.lemmas.{Bool.Decides.nat_tests, List.FromFn.length-map-range_with_len}
+use Rattle.cs_base.specs.{Rates.at_rate, Rates.res_rate, declared.resource.Rate.Rate, declared.resource.Res.Res}
 use Rattle.cs_base.proofs.Tests.{by_test, some_is}
 use Rattle.cs_base.specs.declared.spaces.Spaces.{Spaces}
 use Rattle.cs_ir.specs.Validity.{has_value}
@@ -17,6 +12,8 @@ use Rattle.cs_layout.proofs.Tails.{from_gk, from_ga, from_control, from_sound, f
 use Rattle.cs_layout.specs.declared.areas.LiveTable.{LiveTable}
 use Rattle.cs_voice_meaning.specs.Placing.{cell_count}
 use Rattle.cs_typed.specs.TypedTree.{SharedNames}
+use Rattle.cs_base.specs.declared.resource.Rate.TheVariants as rate
+use Rattle.cs_base.specs.declared.resource.Res.TheVariants as res
 
 -- what holds at each place of two lists, one behind the other
 at_append : (P : ℕ → SharedCells → Type 0) (xs ys : List SharedCells)

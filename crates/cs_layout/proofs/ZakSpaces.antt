@@ -1,18 +1,16 @@
 -- The zak places of a layout.
 use Rattle.std.proofs.Common.{◌≡◌, ℕ, List, nat_lt, sym, ◌∙◌, ap}
 use Rattle.std.specs.Option.{is_some}
-use Rattle.cs_base.specs.declared.resource.Res.TheVariants as res
 use Rattle.cs_words.specs.declared.catalogue.Space.{Space}
-use Rattle.cs_words.specs.declared.catalogue.Space.TheVariants as space
 use Rattle.cs_base.specs.declared.spaces.Spaces.{Spaces}
 use Rattle.cs_ir.specs.Resources.{places_of, zak_place}
 use Rattle.cs_typed.specs.TypedTree.{SharedNames}
 use Rattle.cs_voice_meaning.specs.Placing.{area_of}
 use Rattle.cs_machine.specs.Access.{spaces_of}
-use Rattle.cs_layout.specs.Layouts.{areas_of}
-use Rattle.cs_layout.specs.declared.areas.LiveTable.{LiveTable}
-use Rattle.cs_layout.proofs.Complete.{there}
-use Rattle.cs_layout.proofs.Counted.{spaces_are}
+use Rattle.cs_layout.specs.{Layouts.areas_of, declared.areas.LiveTable.LiveTable}
+use Rattle.cs_layout.proofs.{Complete.there, Counted.spaces_are}
+use Rattle.cs_base.specs.declared.resource.Res.TheVariants as res
+use Rattle.cs_words.specs.declared.catalogue.Space.TheVariants as space
 
 -- each place of a space has its area, and no other has
 pub are_spaces : (ksmps : ℕ) (names : SharedNames) (spaces : Spaces) (live : List LiveTable) (s : Space) (n : ℕ)

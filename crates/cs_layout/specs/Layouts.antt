@@ -1,15 +1,13 @@
 -- Which cells a piece has: those of its variables, channels, zak places and live tables, one behind the other.
 use Rattle.std.specs.Prelude.{ℕ, ℤ, ◌≡◌, ◌+◌, ◌==◌, Bool, true, nat_lt, List, [], ◌∷◌, ◌++◌, length, map, slice_get}
-use Rattle.std.specs.Prelude.{Some, None}
-use Rattle.std.specs.List.{list_any, range_with_len}
-use Rattle.cs_base.specs.declared.resource.Res.{Res}
-use Rattle.cs_base.specs.declared.resource.Res.TheVariants as res
+use Rattle.std.specs.{Prelude.Some, Prelude.None, List.list_any, List.range_with_len}
+use Rattle.cs_base.specs.{declared.resource.Res.Res, declared.spaces.Spaces.Spaces}
 use Rattle.cs_cells.specs.declared.footprint.Area.{Area}
-use Rattle.cs_base.specs.declared.spaces.Spaces.{Spaces}
 use Rattle.cs_layout.specs.declared.areas.LiveTable.{LiveTable}
 use Rattle.cs_meaning.specs.Pieces.{Table, find_table}
 use Rattle.cs_typed.specs.TypedTree.{SharedNames}
 use Rattle.cs_voice_meaning.specs.Placing.{IsLiveTable}
+use Rattle.cs_base.specs.declared.resource.Res.TheVariants as res
 
 -- what notes share: a resource, and how many cells it has
 pub record SharedCells : Type 0 where

@@ -2,15 +2,13 @@
 use Rattle.std.proofs.Common.{◌≡◌, ℕ, ℤ, pos, ◌+◌, ◌<◌, ◌≤◌, ◌==◌, List, [], length, map, nat_lt, replicate, slice_set}
 use Rattle.std.proofs.Common.{slice_index_or, Option, Some, None, IfNone, if◌then◌else◌, refl, sym, ◌∙◌, ap, arith}
 use Rattle.std.proofs.Common.{ltb-true}
-use Rattle.std.proofs.lemmas.Bool.{eqb-true}
-use Rattle.std.proofs.lemmas.List.{length-set, length-replicate, get_or_past, ext_get_or}
+use Rattle.std.proofs.lemmas.{Bool.eqb-true, List.length-set, List.length-replicate, List.get_or_past, List.ext_get_or}
 use Rattle.std.specs.List.{range_with_len}
 use Rattle.std.proofs.lemmas.List.FromFn.{get_or-map-range_with_len, length-map-range_with_len}
 use Rattle.cs_base.proofs.Tests.{by_test}
 use Rattle.cs_ir.specs.Waves.{Wave, both, silence}
 use Rattle.cs_machine.specs.Outputs.{ChannelFile, IsGiven, outs, refilled}
-use Rattle.cs_machine.specs.Rows.{HasFrames, row_of, row_wave}
-use Rattle.cs_machine.specs.inner.Kept.{AreRows}
+use Rattle.cs_machine.specs.{Rows.HasFrames, Rows.row_of, Rows.row_wave, inner.Kept.AreRows}
 use Rattle.cs_machine.proofs.Frames.{apart, at_or_past, row_again, zeros_silent}
 use Rattle.cs_machine.proofs.Putting.{lengths_kept, set_at_place}
 use Rattle.cs_signal.specs.Operands.{argument}

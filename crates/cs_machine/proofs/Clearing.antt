@@ -1,46 +1,26 @@
 -- Zak places that are cleared one by one.
 use Rattle.std.proofs.Common.{◌≡◌, ℕ, ℤ, pos, negsuc, suc, ◌+◌, ◌<◌, ◌≤◌, ◌/◌, ◌==◌, Bool, true, false, not, ◌&&◌, ◌||◌}
-use Rattle.std.proofs.Common.{List, [], ◌∷◌, slice_get, Option, Some, None, nat_lt, nat_le, int_lt, if◌then◌else◌}
-use Rattle.std.proofs.Common.{refl, sym, ◌∙◌, ap, subst, arith, ltb-true}
-use Rattle.std.specs.List.{list_any}
-use Rattle.std.specs.Option.{is_some}
-use Rattle.std.proofs.lemmas.Bool.{eqb-true}
-use Rattle.std.proofs.lemmas.Bool.Decides.{nat_tests}
+use Rattle.std.proofs.Common.{List, [], ◌∷◌, slice_get, Option, Some, None, nat_lt, nat_le, int_lt, if◌then◌else◌, refl}
+use Rattle.std.proofs.Common.{sym, ◌∙◌, ap, subst, arith, ltb-true}
+use Rattle.std.specs.{List.list_any, Option.is_some}
+use Rattle.std.proofs.Math.Bool.{and-false, and-true, and-or_distrib_left}
+use Rattle.std.proofs.lemmas.{Bool.eqb-true, Bool.Decides.nat_tests}
 use Rattle.cs_base.specs.Numbers.{floor_div, one}
-use Rattle.cs_base.specs.Rates.{same_res}
-use Rattle.cs_base.specs.declared.resource.Res.{Res}
-use Rattle.cs_base.specs.declared.resource.Res.TheVariants as res
-use Rattle.cs_base.specs.declared.spaces.Spaces.{Spaces}
-use Rattle.cs_base.proofs.Rates.{same_res_is}
-use Rattle.cs_base.proofs.Tests.{by_test, some_is}
+use Rattle.cs_base.specs.{Rates.same_res, declared.resource.Res.Res, declared.spaces.Spaces.Spaces}
+use Rattle.cs_base.proofs.{Rates.same_res_is, Tests.by_test, Tests.some_is}
 use Rattle.cs_words.specs.declared.catalogue.Space.{Space}
-use Rattle.cs_words.specs.declared.catalogue.Space.TheVariants as space
 use Rattle.cs_ir.specs.Resources.{places_of, reaches, zak_place}
-use Rattle.cs_ir.specs.Waves.{silence}
-use Rattle.cs_ir.specs.declared.op.Reach.{Reach}
-use Rattle.cs_cells.specs.Areas.{IsLaid}
-use Rattle.cs_cells.specs.Cells.{in_area}
-use Rattle.cs_cells.specs.declared.footprint.Area.{Area}
+use Rattle.cs_ir.specs.{Waves.silence, declared.op.Reach.Reach}
+use Rattle.cs_cells.specs.{Areas.IsLaid, Cells.in_area, declared.footprint.Area.Area}
 use Rattle.cs_meaning.specs.Pieces.{Piece, has_place, index, is_between, is_cleared}
-use Rattle.cs_voice_meaning.specs.Placing.{HasArea, area_of, with_wave}
-use Rattle.cs_voice_meaning.specs.VoiceWorld.{lies_cleared}
+use Rattle.cs_voice_meaning.specs.{Placing.HasArea, Placing.area_of, Placing.with_wave, VoiceWorld.lies_cleared}
 use Rattle.cs_machine.specs.Access.{AreSpaces, spaces_of}
 use Rattle.cs_machine.specs.inner.Numbers.{cleared_in, clears, end_of, from_of}
 use Rattle.cs_machine.proofs.Found.{own}
+use Rattle.cs_base.specs.declared.resource.Res.TheVariants as res
+use Rattle.cs_words.specs.declared.catalogue.Space.TheVariants as space
 
 -- ---- truth values
-
-and_false : (b : Bool) → (b && false) ≡ false
-and_false true = refl
-and_false false = refl
-
-and_true : (b : Bool) → (b && true) ≡ b
-and_true true = refl
-and_true false = refl
-
-and_or : (a p q : Bool) → (a && (p || q)) ≡ ((a && p) || (a && q))
-and_or true p q = refl
-and_or false p q = refl
 
 or_four : (a b c d : Bool) → ((a || b) || (c || d)) ≡ ((a || c) || (b || d))
 or_four true b c d = refl
@@ -50,7 +30,7 @@ or_four false false c d = refl
 
 or_nothing : (x b : Bool) → x ≡ (x || (b && false))
 or_nothing true b = refl
-or_nothing false b = sym (and_false b)
+or_nothing false b = sym (and-false b)
 
 here_alone : (b : Bool) → (b && true) ≡ ((b && false) || (b && true))
 here_alone true = refl
@@ -94,7 +74,7 @@ nothing_cleared areas test cells none = λ i a. sym (at a) i
     at : (a : ℕ) → cleared_in areas test cells a ≡ cells a
     at a = ap (λ b. if b then pos 0 else cells a)
         (any_none (λ (x : Area). in_area (Some x) a && test x.res) areas
-        (λ x. ap (λ b. in_area (Some x) a && b) (none x.res) ∙ and_false (in_area (Some x) a)))
+        (λ x. ap (λ b. in_area (Some x) a && b) (none x.res) ∙ and-false (in_area (Some x) a)))
 
 -- what is cleared by one test and then by another is cleared by both
 pub cleared_twice : (areas : List Area) (p q r : Res → Bool) (cells : ℕ → ℤ) → ((g : Res) → r g ≡ (p g || q g))
@@ -104,7 +84,8 @@ cleared_twice areas p q r cells same = λ i a. at a i
     lies : (a : ℕ) → lies_cleared areas r a ≡ (lies_cleared areas p a || lies_cleared areas q a)
     lies a = any_or (λ (x : Area). in_area (Some x) a && p x.res) (λ (x : Area). in_area (Some x) a && q x.res)
         (λ (x : Area). in_area (Some x) a && r x.res) areas
-        (λ x. ap (λ b. in_area (Some x) a && b) (same x.res) ∙ and_or (in_area (Some x) a) (p x.res) (q x.res))
+        (λ x. ap (λ b. in_area (Some x) a && b) (same x.res)
+        ∙ and-or_distrib_left (in_area (Some x) a) (p x.res) (q x.res))
 
     at : (a : ℕ) → cleared_in areas q (cleared_in areas p cells) a ≡ cleared_in areas r cells a
     at a = both_cleared (lies_cleared areas p a) (lies_cleared areas q a) (cells a)
@@ -130,14 +111,14 @@ one_cleared areas g x cells laid found = λ i a. at a i
         (λ here. let same : y ≡ x = some_is y x (sym (own areas k y laid at)
         ∙ ap (area_of areas) (same_res_is y.res g here) ∙ found) in
         ap (λ (z : Area). in_area (Some z) a && same_res y.res g) same)
-        (λ other. ap (λ b. in_area (Some y) a && b) other ∙ and_false (in_area (Some y) a)
-        ∙ sym (ap (λ b. in_area (Some x) a && b) other ∙ and_false (in_area (Some x) a)))
+        (λ other. ap (λ b. in_area (Some y) a && b) other ∙ and-false (in_area (Some y) a)
+        ∙ sym (ap (λ b. in_area (Some x) a && b) other ∙ and-false (in_area (Some x) a)))
 
     lies : (a : ℕ) → lies_cleared areas (λ r. same_res r g) a ≡ in_area (Some x) a
     lies a = any_same (λ (y : Area). in_area (Some y) a && same_res y.res g)
         (λ (y : Area). in_area (Some x) a && same_res y.res g) areas (alone a)
         ∙ any_and (in_area (Some x) a) (λ (y : Area). same_res y.res g) areas
-        ∙ ap (λ b. in_area (Some x) a && b) (some_one areas g x found) ∙ and_true (in_area (Some x) a)
+        ∙ ap (λ b. in_area (Some x) a && b) (some_one areas g x found) ∙ and-true (in_area (Some x) a)
 
     at : (a : ℕ) → with_wave (Some x) silence cells a ≡ cleared_in areas (λ r. same_res r g) cells a
     at a = sym (ap (λ b. if b then pos 0 else cells a) (lies a))
@@ -162,25 +143,12 @@ has_area areas spaces s n are zak low = some_area (area_of areas (zak_place s n)
 none_between : (m n : ℕ) → (nat_le m n && nat_lt n m) ≡ false
 none_between m n = by_test (nat_lt n m)
     (λ less. let before : nat_le m n ≡ false = grind (arith, nat_tests) in λ i. before i && less i)
-    (λ more. ap (λ b. nat_le m n && b) more ∙ and_false (nat_le m n))
+    (λ more. ap (λ b. nat_le m n && b) more ∙ and-false (nat_le m n))
 
 pub none_cleared : (s : Space) (r : Reach) (m : ℕ) (g : Res) → clears s r m m g ≡ false
-none_cleared space.Control r m (res.ZakK n) = ap (λ b. reaches r n && b) (none_between m n) ∙ and_false (reaches r n)
-none_cleared space.Audio r m (res.ZakA n) = ap (λ b. reaches r n && b) (none_between m n) ∙ and_false (reaches r n)
-none_cleared space.Control r m (res.Gi n) = refl
-none_cleared space.Control r m (res.Gk n) = refl
-none_cleared space.Control r m (res.Ga n) = refl
-none_cleared space.Control r m (res.ZakA n) = refl
-none_cleared space.Control r m (res.Control n) = refl
-none_cleared space.Control r m (res.Sound n) = refl
-none_cleared space.Control r m (res.Table n) = refl
-none_cleared space.Audio r m (res.Gi n) = refl
-none_cleared space.Audio r m (res.Gk n) = refl
-none_cleared space.Audio r m (res.Ga n) = refl
-none_cleared space.Audio r m (res.ZakK n) = refl
-none_cleared space.Audio r m (res.Control n) = refl
-none_cleared space.Audio r m (res.Sound n) = refl
-none_cleared space.Audio r m (res.Table n) = refl
+none_cleared space.Control r m (res.ZakK n) = ap (λ b. reaches r n && b) (none_between m n) ∙ and-false (reaches r n)
+none_cleared space.Audio r m (res.ZakA n) = ap (λ b. reaches r n && b) (none_between m n) ∙ and-false (reaches r n)
+none_cleared s r m g = refl
 
 -- one number more
 number_more : (test : ℕ → Bool) (m n i : ℕ) → m ≤ n → (test i && (nat_le m i && nat_lt i (n + 1)))
@@ -212,20 +180,7 @@ pub clears_more : (s : Space) (r : Reach) (m n : ℕ) → m ≤ n → (g : Res)
     → clears s r m (n + 1) g ≡ (clears s r m n g || (reaches r n && same_res g (zak_place s n)))
 clears_more space.Control r m n low (res.ZakK i) = number_more (reaches r) m n i low
 clears_more space.Audio r m n low (res.ZakA i) = number_more (reaches r) m n i low
-clears_more space.Control r m n low (res.Gi i) = sym (and_false (reaches r n))
-clears_more space.Control r m n low (res.Gk i) = sym (and_false (reaches r n))
-clears_more space.Control r m n low (res.Ga i) = sym (and_false (reaches r n))
-clears_more space.Control r m n low (res.ZakA i) = sym (and_false (reaches r n))
-clears_more space.Control r m n low (res.Control i) = sym (and_false (reaches r n))
-clears_more space.Control r m n low (res.Sound i) = sym (and_false (reaches r n))
-clears_more space.Control r m n low (res.Table i) = sym (and_false (reaches r n))
-clears_more space.Audio r m n low (res.Gi i) = sym (and_false (reaches r n))
-clears_more space.Audio r m n low (res.Gk i) = sym (and_false (reaches r n))
-clears_more space.Audio r m n low (res.Ga i) = sym (and_false (reaches r n))
-clears_more space.Audio r m n low (res.ZakK i) = sym (and_false (reaches r n))
-clears_more space.Audio r m n low (res.Control i) = sym (and_false (reaches r n))
-clears_more space.Audio r m n low (res.Sound i) = sym (and_false (reaches r n))
-clears_more space.Audio r m n low (res.Table i) = sym (and_false (reaches r n))
+clears_more s r m n low g = sym (and-false (reaches r n))
 
 -- ---- the numbers that are cleared are those between the two values
 
@@ -251,7 +206,7 @@ between_is (pos x) (pos y) n =
     (λ i. not_less_is (x / 65536) n i && not_less_is n (y / 65536) i)
     ∙ sym (λ i. lies_between (index_pos x i) (index_pos y i) n)
 between_is (pos x) (negsuc y) n =
-    and_false (not (int_lt (pos n) (floor_div (pos x) one))) ∙ sym (ap (λ o. lies_between o None n) (index_pos x))
+    and-false (not (int_lt (pos n) (floor_div (pos x) one))) ∙ sym (ap (λ o. lies_between o None n) (index_pos x))
 between_is (negsuc x) (pos y) n = not_less_is n (y / 65536) ∙ sym (ap (λ o. lies_between None o n) (index_pos y))
 between_is (negsuc x) (negsuc y) n = refl
 
@@ -282,16 +237,16 @@ within_is : (count : ℕ) (first last : Option ℕ) (n : ℕ) → n < count
     → (nat_le (from_of (end_of count last) first) n && nat_lt n (end_of count last)) ≡ lies_between first last n
 unfolding lies_between
 within_is count None None n low = let none : nat_lt n 0 ≡ false = grind (arith, nat_tests) in
-    ap (λ b. nat_le 0 n && b) none ∙ and_false (nat_le 0 n)
+    ap (λ b. nat_le 0 n && b) none ∙ and-false (nat_le 0 n)
 within_is count (Some m) None n low = let none : nat_lt n 0 ≡ false = grind (arith, nat_tests) in
-    ap (λ b. nat_le (from_of 0 (Some m)) n && b) none ∙ and_false (nat_le (from_of 0 (Some m)) n)
+    ap (λ b. nat_le (from_of 0 (Some m)) n && b) none ∙ and-false (nat_le (from_of 0 (Some m)) n)
 within_is count None (Some k) n low = let first : nat_le 0 n ≡ true = grind (arith, nat_tests) in
     ap (λ b. b && nat_lt n (end_of count (Some k))) first ∙ before_end count k n low
 within_is count (Some m) (Some k) n low = by_test (nat_lt n (end_of count (Some k)))
     (λ yes. (λ i. after_from (end_of count (Some k)) m n yes i && before_end count k n low i))
     (λ no. ap (λ b. nat_le (from_of (end_of count (Some k)) (Some m)) n && b) no
-    ∙ and_false (nat_le (from_of (end_of count (Some k)) (Some m)) n)
-    ∙ sym (ap (λ b. nat_le m n && b) (sym (before_end count k n low) ∙ no) ∙ and_false (nat_le m n)))
+    ∙ and-false (nat_le (from_of (end_of count (Some k)) (Some m)) n)
+    ∙ sym (ap (λ b. nat_le m n && b) (sym (before_end count k n low) ∙ no) ∙ and-false (nat_le m n)))
 
 -- a place that has an area is one of its space
 module _ (areas : List Area) (piece : Piece) (spaces : Spaces) (are : AreSpaces areas) (zak : spaces_of areas ≡ spaces)
@@ -321,20 +276,7 @@ module _ (areas : List Area) (piece : Piece) (spaces : Spaces) (are : AreSpaces 
       → clears s r (from s first last) (end s last) g ≡ is_cleared piece s r first last g
   cleared_is space.Control r first last (res.ZakK n) a at = sym (cleared_place space.Control r first last n a at)
   cleared_is space.Audio r first last (res.ZakA n) a at = sym (cleared_place space.Audio r first last n a at)
-  cleared_is space.Control r first last (res.Gi n) a at = refl
-  cleared_is space.Control r first last (res.Gk n) a at = refl
-  cleared_is space.Control r first last (res.Ga n) a at = refl
-  cleared_is space.Control r first last (res.ZakA n) a at = refl
-  cleared_is space.Control r first last (res.Control n) a at = refl
-  cleared_is space.Control r first last (res.Sound n) a at = refl
-  cleared_is space.Control r first last (res.Table n) a at = refl
-  cleared_is space.Audio r first last (res.Gi n) a at = refl
-  cleared_is space.Audio r first last (res.Gk n) a at = refl
-  cleared_is space.Audio r first last (res.Ga n) a at = refl
-  cleared_is space.Audio r first last (res.ZakK n) a at = refl
-  cleared_is space.Audio r first last (res.Control n) a at = refl
-  cleared_is space.Audio r first last (res.Sound n) a at = refl
-  cleared_is space.Audio r first last (res.Table n) a at = refl
+  cleared_is s r first last g a at = refl
 
   -- the cells after all places were cleared
   pub all_cleared : (s : Space) (r : Reach) (first last : ℤ) (cells : ℕ → ℤ) → IsLaid areas

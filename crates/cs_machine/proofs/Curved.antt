@@ -3,9 +3,7 @@ use Rattle.std.proofs.Common.{◌≡◌, ℕ, ℤ, pos, ◌+◌, ◌-◌, ◌%�
 use Rattle.std.proofs.Common.{slice_index_or, if◌then◌else◌, sym, ◌∙◌, ap, subst, arith}
 use Rattle.std.proofs.lemmas.List.{get_or_append_left, get_or_at, get_or-take, length-append, length-take-le}
 use Rattle.std.proofs.lemmas.List.FromFn.{get_or-map-range_with_len, length-map-range_with_len}
-use Rattle.cs_base.specs.declared.resource.Rate.TheVariants as rate
-use Rattle.cs_gen.specs.Points.{guard_place, len_of}
-use Rattle.cs_gen.specs.Tables.{curve_of}
+use Rattle.cs_gen.specs.{Points.guard_place, Points.len_of, Tables.curve_of}
 use Rattle.cs_ugen.specs.Points.{IsCurve, curve_len, is_len}
 use Rattle.cs_ugen.proofs.Curves.{is_len-bounds}
 use Rattle.cs_signal.specs.Operands.{argument}
@@ -13,6 +11,7 @@ use Rattle.cs_cells.specs.declared.footprint.Area.{Area}
 use Rattle.cs_voice_meaning.specs.Placing.{wave_in}
 use Rattle.cs_machine.specs.Access.{live_points}
 use Rattle.cs_machine.proofs.Writing.{frame_in}
+use Rattle.cs_base.specs.declared.resource.Rate.TheVariants as rate
 
 -- a table has a power of two of points, or one more: at least two
 len_most : (n : ℕ) → len_of n ≤ n

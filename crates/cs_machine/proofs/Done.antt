@@ -1,20 +1,13 @@
 -- What an act leaves of a state: the same room, and one register that was written.
-use Rattle.std.proofs.Common.{◌≡◌, ℕ, ℤ, List, length, map, Option, None, slice_index_or, sym, ◌∙◌, ap}
-use Rattle.cs_ir.specs.Registers.{rate_at}
-use Rattle.cs_ir.specs.Machine.{acts, put, write}
-use Rattle.cs_ir.specs.Waves.{Wave, held}
-use Rattle.cs_ir.specs.declared.op.Act.{Act}
-use Rattle.cs_ir.specs.declared.register.Counts.{Counts}
-use Rattle.cs_ir.specs.declared.register.Reg.{Reg}
+use Rattle.std.proofs.Common.{◌≡◌, ℕ, ℤ, List, length, map, Option, None, slice_index_or, refl, sym, ◌∙◌, ap}
+use Rattle.cs_ir.specs.{Registers.rate_at, Machine.Machine, Machine.acts, Machine.put, Machine.write, Waves.Wave}
+use Rattle.cs_ir.specs.{Waves.held, declared.op.Act.Act, declared.register.Counts.Counts, declared.register.Reg.Reg}
 use Rattle.cs_cells.specs.declared.footprint.Area.{Area}
-use Rattle.cs_meaning.specs.Model.{Cause}
-use Rattle.cs_meaning.specs.Pieces.{Piece}
-use Rattle.cs_machine.specs.Outputs.{outs}
-use Rattle.cs_machine.specs.Registers.{IsWritten, values}
-use Rattle.cs_voice_meaning.specs.Follows.{Kinds}
-use Rattle.cs_voice_meaning.specs.VoiceWorld.{voice_world}
-use Rattle.cs_machine.specs.declared.state.State.{State}
-use Rattle.cs_machine.specs.States.{machine_of, unit_at, HasRoom, IsStateIn, Does}
+use Rattle.cs_meaning.specs.{Model.Cause, Pieces.Piece}
+use Rattle.cs_machine.specs.{Outputs.outs, Registers.IsWritten, Registers.values, declared.state.State.State}
+use Rattle.cs_voice_meaning.specs.{Follows.Kinds, VoiceWorld.VoiceState, VoiceWorld.voice_world}
+use Rattle.cs_machine.specs.declared.state.NoteSetting.{NoteSetting}
+use Rattle.cs_machine.specs.States.{machine_of, unit_at, HasRoom, IsSettingOf, IsStateIn, Does, DoesAt}
 
 -- as much room, and the same units
 pub record SameRoom (old new : State) : Type 0 where
@@ -86,43 +79,53 @@ written_room old new into w rest written row = record {
 }
 
 -- An act that writes one register is done by a state of which it was written.
-pub writes : (areas : List Area) (piece : Piece) (kinds : Kinds) (counts : Counts) (act : Act) (into : Reg)
-    (from : List Reg) (w : Wave)
-    (old new : State) (before after : ℕ → ℤ) → KeepsRest old new → after ≡ before
+pub writes : {areas : List Area} {piece : Piece} {kinds : Kinds} {counts : Counts} {act : Act} {into : Reg}
+    {from : List Reg} (w : Wave) {old new : State} {before after : ℕ → ℤ} → KeepsRest old new → after ≡ before
     → IsStateIn areas piece kinds counts old
     → IsWritten old.regs into w new.regs → length new.row.items ≡ old.regs.ksmps
     → ((next : ℕ) (asks : List (List ℤ)) (cause : Option Cause)
     → acts (voice_world areas piece) act into (map (values old.regs) from) (machine_of old before next asks cause)
     ≡ write piece.head.ksmps into w (machine_of old before next asks cause))
     → Does areas piece kinds counts act into from old before new after
-writes areas piece kinds counts act into from w old new before after rest same state written row does = record {
-  machine = λ next asks cause.
-      written_machine piece.head.ksmps old new into w rest state.frames written before after same next asks cause
-      ∙ sym (does next asks cause);
-  state = still_in areas piece kinds counts old new (written_room old new into w rest written row) state;
-}
+writes {areas} {piece} {kinds} {counts} {act} {into} {from} w {old} {new} {before} {after} rest same state written row
+    does = record {
+      machine = λ next asks cause.
+          written_machine piece.head.ksmps old new into w rest state.frames written before after same next asks cause
+          ∙ sym (does next asks cause);
+      state = still_in areas piece kinds counts old new (written_room old new into w rest written row) state;
+    }
+
+-- so it is in a setting, with what the setting says
+pub writes_at : {at : NoteSetting} {act : Act} {into : Reg} {from : List Reg} (w : Wave) {old new : State}
+    → KeepsRest old new → IsWritten old.regs into w new.regs → length new.row.items ≡ old.regs.ksmps
+    → ((areas : List Area) (piece : Piece) (m : Machine VoiceState) → IsSettingOf at areas piece
+    → acts (voice_world areas piece) act into (map (values old.regs) from) m ≡ write piece.head.ksmps into w m)
+    → DoesAt at act into from old new
+writes_at {at} {act} {into} {from} w {old} {new} rest written row does areas piece kinds counts cells setting state =
+    writes w rest refl state written row (λ next asks cause. does areas piece (machine_of old cells next asks cause)
+    setting)
 
 -- An act that changes cells alone is done where they change as it says.
 pub record KeepsMachine (old new : State) : Type 0 where
   pub regs : new.regs ≡ old.regs
   pub rest : KeepsRest old new
 
-pub changes : (areas : List Area) (piece : Piece) (kinds : Kinds) (counts : Counts) (act : Act) (into : Reg)
-    (from : List Reg)
-    (old new : State) (before after : ℕ → ℤ) → KeepsMachine old new → IsStateIn areas piece kinds counts old
+pub changes : {areas : List Area} {piece : Piece} {kinds : Kinds} {counts : Counts} {act : Act} {into : Reg}
+    {from : List Reg} {old new : State} {before after : ℕ → ℤ} → KeepsMachine old new
+    → IsStateIn areas piece kinds counts old
     → length new.row.items ≡ old.regs.ksmps
     → ((next : ℕ) (asks : List (List ℤ)) (cause : Option Cause)
     → acts (voice_world areas piece) act into (map (values old.regs) from) (machine_of old before next asks cause)
     ≡ machine_of old after next asks cause)
     → Does areas piece kinds counts act into from old before new after
-changes areas piece kinds counts act into from old new before after keeps state row does = record {
+changes {areas} {piece} {kinds} {counts} {act} {into} {from} {old} {new} {before} {after} kept state row does = record {
   machine = λ next asks cause. same_machine next asks cause ∙ sym (does next asks cause);
   state = still_in areas piece kinds counts old new (record {
-    counts = ap (λ r. r.counts) keeps.regs;
-    frames = ap (λ r. r.ksmps) keeps.regs;
-    channels = ap (λ o. length o.rows) keeps.rest.outs;
-    channel_frames = ap (λ o. o.ksmps) keeps.rest.outs;
-    players = keeps.rest.players;
+    counts = ap (λ r. r.counts) kept.regs;
+    frames = ap (λ r. r.ksmps) kept.regs;
+    channels = ap (λ o. length o.rows) kept.rest.outs;
+    channel_frames = ap (λ o. o.ksmps) kept.rest.outs;
+    players = kept.rest.players;
     row = row;
   }) state;
 }
@@ -130,14 +133,14 @@ changes areas piece kinds counts act into from old new before after keeps state 
     same_machine : (next : ℕ) (asks : List (List ℤ)) (cause : Option Cause)
         → machine_of new after next asks cause ≡ machine_of old after next asks cause
     same_machine next asks cause = λ i. record {
-      regs = values (keeps.regs i);
+      regs = values (kept.regs i);
       next = next;
       world = record {
         shared = after;
-        units = unit_at (keeps.rest.players i);
-        delays = keeps.rest.delays i;
-        outs = outs (keeps.rest.outs i);
-        ended = keeps.rest.ended i;
+        units = unit_at (kept.rest.players i);
+        delays = kept.rest.delays i;
+        outs = outs (kept.rest.outs i);
+        ended = kept.rest.ended i;
         asks = asks;
         cause = cause;
       };

@@ -2,26 +2,23 @@
 use Rattle.std.proofs.Common.{◌≡◌, ℕ, zero, suc, ◌+◌, ◌≤◌, Bool, true, false, List, [], ◌∷◌, length, slice_get, Option}
 use Rattle.std.proofs.Common.{Some, None, nat_lt, if◌then◌else◌, refl, sym, ◌∙◌, ap, subst, arith}
 use Rattle.std.proofs.lemmas.Bool.Decides.{nat_tests}
-use Rattle.cs_base.specs.Limits.{most_resources, most_words}
-use Rattle.cs_base.specs.Rates.{same_res}
-use Rattle.cs_base.specs.declared.limit.Limit.TheVariants as limit
-use Rattle.cs_base.specs.declared.resource.Res.{Res}
-use Rattle.cs_base.proofs.Rates.{same_res_here}
-use Rattle.cs_base.proofs.Tests.{by_test}
+use Rattle.cs_base.specs.{Limits.most_resources, Limits.most_words, Rates.same_res, declared.resource.Res.Res}
+use Rattle.cs_base.proofs.{Rates.same_res_here, Tests.by_test}
 use Rattle.cs_cells.specs.Areas.{HasPlace, IsLaid, limit_passed, word_count}
 use Rattle.cs_cells.specs.declared.footprint.Area.{Area}
 use Rattle.cs_cells.proofs.Laid.{area_within}
 use Rattle.cs_voice_meaning.specs.Placing.{area_of}
 use Rattle.cs_voice_meaning.proofs.Placed.{area_at}
+use Rattle.cs_base.specs.declared.limit.Limit.TheVariants as limit
 
--- the first area of a resource, where there is one
-at_first : (b : Bool) (x : Area) (o : Option Area) → b ≡ true → Some x ≡ (if b then Some x else o)
-at_first true x o e = refl
-at_first false x o e = absurd cc
+-- by a test that is known
+pub if_true : {A : Type 0} (b : Bool) (x y : A) → b ≡ true → (if b then x else y) ≡ x
+if_true true x y e = refl
+if_true false x y e = absurd cc
 
-not_first : (b : Bool) (x : Area) (o : Option Area) → b ≡ false → (if b then Some x else o) ≡ o
-not_first true x o e = absurd cc
-not_first false x o e = refl
+pub if_false : {A : Type 0} (b : Bool) (x y : A) → b ≡ false → (if b then x else y) ≡ y
+if_false true x y e = absurd cc
+if_false false x y e = refl
 
 -- a resource that has a place has an area
 some_first : (areas : List Area) (g : Res) (place : ℕ) → HasPlace areas g place
@@ -30,14 +27,14 @@ some_first [] g place h = absurd (let e = h.1 in cc)
 some_first (x ∷ areas) g zero h =
     let same : x.res ≡ g = let e = h.1 in let f = h.2 in cc in (
       x,
-      sym (at_first (same_res x.res g) x (area_of areas g)
-          (subst (λ r. same_res r g ≡ true) (sym same) (same_res_here g))),
+      if_true (same_res x.res g) (Some x) (area_of areas g)
+          (subst (λ r. same_res r g ≡ true) (sym same) (same_res_here g)),
     )
 some_first (x ∷ areas) g (suc place) h =
     by_test (same_res x.res g)
-    (λ here. (x, sym (at_first (same_res x.res g) x (area_of areas g) here)))
+    (λ here. (x, if_true (same_res x.res g) (Some x) (area_of areas g) here))
     (λ later. let rest = some_first areas g place
-    h in (rest.0, not_first (same_res x.res g) x (area_of areas g) later ∙ rest.1))
+    h in (rest.0, if_false (same_res x.res g) (Some x) (area_of areas g) later ∙ rest.1))
 
 at_one : (areas : List Area) (p q : ℕ) (a b : Area) → p ≡ q → slice_get areas p ≡ Some a → slice_get areas q ≡ Some b
     → a ≡ b

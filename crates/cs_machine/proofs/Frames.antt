@@ -1,19 +1,15 @@
 -- Rows that are filled place by place, and the values that they have.
 use Rattle.std.proofs.Common.{◌≡◌, ℕ, ℤ, pos, ◌+◌, ◌<◌, ◌≤◌, ◌≢◌, ◌==◌, false, List, length, take, drop, ◌++◌}
 use Rattle.std.proofs.Common.{replicate, nat_lt, slice_index_or, slice_set, if◌then◌else◌, refl, sym, ◌∙◌, ap, arith}
-use Rattle.std.proofs.Common.{ltb-true}
-use Rattle.std.proofs.lemmas.Bool.{eqb-true}
-use Rattle.std.proofs.lemmas.Bool.Decides.{nat_tests}
+use Rattle.std.proofs.{Common.subst, Common.ltb-true, Math.Seq.take-append_seam}
+use Rattle.std.proofs.lemmas.{Bool.eqb-true, Bool.Decides.nat_tests, List.get_or-replicate, List.ext_get_or}
 use Rattle.std.proofs.lemmas.List.{get_or-set_same, get_or-set_other, get_or_past, get_or_read, length-replicate}
-use Rattle.std.proofs.lemmas.List.{get_or-replicate, ext_get_or}
-use Rattle.std.proofs.Math.Seq.{take-append_seam}
 use Rattle.std.proofs.lemmas.List.FromFn.{get_or-map-range_with_len, length-map-range_with_len}
-use Rattle.cs_base.specs.declared.resource.Rate.TheVariants as rate
 use Rattle.cs_base.proofs.Tests.{by_test}
 use Rattle.cs_ir.specs.Waves.{Wave, constant, held, silence}
-use Rattle.cs_machine.specs.Rows.{Begins, HasFrames, row_wave, row_of}
-use Rattle.cs_machine.specs.inner.Kept.{Ends}
+use Rattle.cs_machine.specs.{Rows.Begins, Rows.HasFrames, Rows.row_wave, Rows.row_of, inner.Kept.Ends}
 use Rattle.cs_signal.specs.Operands.{argument}
+use Rattle.cs_base.specs.declared.resource.Rate.TheVariants as rate
 
 pub apart : (m n : ℕ) → (m == n) ≡ false → m ≢ n
 apart m n h = grind (arith, nat_tests)
@@ -92,3 +88,8 @@ item_is xs j x low is = get_or_read xs j x low is (pos 0)
 pub all_written : {A : Type 0} (n : ℕ) (new old : List A) → length new ≡ n → take n (new ++ drop (length new) old) ≡ new
 all_written n new old long =
     ap (λ k. take k (new ++ drop (length new) old)) (sym long) ∙ take-append_seam new (drop (length new) old)
+
+-- it has the frames that were written
+pub vector_frames : (w : Wave) (n : ℕ) (new old : List ℤ) → length new ≡ n → HasFrames w new
+    → HasFrames w (take n (new ++ drop (length new) old))
+vector_frames w n new old long = subst (HasFrames w) (sym (all_written n new old long))

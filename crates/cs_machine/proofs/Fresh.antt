@@ -2,11 +2,9 @@
 use Rattle.std.proofs.Common.{◌≡◌, ℕ, ◌<◌, ◌≤◌, length, replicate, nat_lt, Option, None, arith, ltb-true}
 use Rattle.std.proofs.Common.{slice_index_or}
 use Rattle.std.specs.Option.{option_map}
-use Rattle.std.proofs.lemmas.List.{get_or-replicate, get_or_past, length-replicate}
-use Rattle.std.proofs.lemmas.Bool.Decides.{nat_tests}
+use Rattle.std.proofs.lemmas.{List.get_or-replicate, List.get_or_past, List.length-replicate, Bool.Decides.nat_tests}
 use Rattle.cs_base.proofs.Tests.{by_test}
-use Rattle.cs_machine.specs.Players.{PlayerData, playing}
-use Rattle.cs_machine.specs.States.{unit_at}
+use Rattle.cs_machine.specs.{Players.PlayerData, Players.playing, States.unit_at}
 
 abbrev nothing : Option PlayerData
 nothing = None

@@ -1,22 +1,17 @@
 -- Arguments that stand for registers give a unit what the registers are.
-use Rattle.std.proofs.Common.{◌≡◌, ℕ, zero, suc, ◌+◌, ◌<◌, ◌≤◌, true, List, [], ◌∷◌, ◌++◌, length, map}
-use Rattle.std.proofs.Common.{nat_le, take, get_or, slice_get, ℤ, Bool, Some, None, refl, sym, ◌∙◌, ap, subst, arith}
+use Rattle.std.proofs.Common.{◌≡◌, ℕ, zero, suc, ◌<◌, ◌≤◌, true, List, [], ◌∷◌, ◌++◌, length, map, nat_le, take, get_or}
+use Rattle.std.proofs.Common.{slice_get, ℤ, Bool, Some, None, refl, sym, ◌∙◌, ap, subst, arith}
 use Rattle.std.specs.List.{All, list_all}
-use Rattle.std.proofs.lemmas.Bool.{and_parts}
-use Rattle.std.proofs.lemmas.Bool.Decides.{nat_tests}
-use Rattle.std.proofs.lemmas.List.{take_all}
-use Rattle.std.proofs.lemmas.List.Elements.{All-cons, All-nil}
+use Rattle.std.proofs.lemmas.{Bool.and_parts, Bool.Decides.nat_tests, List.Elements.All-cons, List.Elements.All-nil}
 use Rattle.cs_base.proofs.Tests.{some_is}
 use Rattle.cs_words.proofs.EachOpcode.{of_all}
 use Rattle.cs_words.specs.declared.catalogue.Opcode.{Opcode}
-use Rattle.cs_ir.specs.Waves.{Wave}
-use Rattle.cs_ir.specs.declared.register.Reg.{Reg}
+use Rattle.cs_ir.specs.{Waves.Wave, declared.register.Reg.Reg}
 use Rattle.cs_machine.specs.inner.Gathered.{IsFirstAt, StandsAt, HoldsOperand, no_register}
 use Rattle.cs_signal.specs.declared.operand.Operand.{Operand}
-use Rattle.cs_ugen.specs.Units as units
-use Rattle.cs_ugen.specs.Units.{moving_count, opcode_of}
-use Rattle.cs_ugen.specs.declared.unit.UnitState.{UnitState}
+use Rattle.cs_ugen.specs.{Units.moving_count, Units.opcode_of, declared.unit.UnitState.UnitState}
 use Rattle.cs_voice_meaning.specs.VoiceWorld.{inputs_at}
+use Rattle.cs_ugen.specs.Units as units
 
 -- no opcode takes more than seven moving arguments
 few_test : (o : Opcode) → nat_le (moving_count o) 7 ≡ true
@@ -58,33 +53,15 @@ seven_stand f rs a b c d e g h x0 x1 x2 x3 x4 x5 x6 most (suc (suc (suc (suc (su
 seven_stand f rs a b c d e g h x0 x1 x2 x3 x4 x5 x6 most (suc (suc (suc (suc (suc (suc (suc j))))))) low =
     absurd (omega (arith, low, most))
 
--- each of as many operands as there are registers
-pub none_stand : (f : Reg → Wave) (rs : List Reg) → length rs ≡ 0 → (j : ℕ) → j < length rs → StandsAt f [] rs j
-none_stand f rs all j low = absurd (omega (arith, low, all))
-
-pub one_stands : (f : Reg → Wave) (rs : List Reg) (a : Operand)
-    → (0 < length rs → HoldsOperand f a (get_or rs 0 no_register)) → length rs ≡ 1
-    → (j : ℕ) → j < length rs → StandsAt f (a ∷ []) rs j
-one_stands f rs a x0 all zero low = x0 low
-one_stands f rs a x0 all (suc j) low = absurd (omega (arith, low, all))
-
-pub two_stand : (f : Reg → Wave) (rs : List Reg) (a b : Operand)
-    → (0 < length rs → HoldsOperand f a (get_or rs 0 no_register))
-    → (1 < length rs → HoldsOperand f b (get_or rs 1 no_register)) → length rs ≡ 2
-    → (j : ℕ) → j < length rs → StandsAt f (a ∷ b ∷ []) rs j
-two_stand f rs a b x0 x1 all zero low = x0 low
-two_stand f rs a b x0 x1 all (suc zero) low = x1 low
-two_stand f rs a b x0 x1 all (suc (suc j)) low = absurd (omega (arith, low, all))
-
 pub three_stand : (f : Reg → Wave) (rs : List Reg) (a b c : Operand)
     → (0 < length rs → HoldsOperand f a (get_or rs 0 no_register))
     → (1 < length rs → HoldsOperand f b (get_or rs 1 no_register))
-    → (2 < length rs → HoldsOperand f c (get_or rs 2 no_register)) → length rs ≡ 3
+    → (2 < length rs → HoldsOperand f c (get_or rs 2 no_register)) → length rs ≤ 3
     → (j : ℕ) → j < length rs → StandsAt f (a ∷ b ∷ c ∷ []) rs j
-three_stand f rs a b c x0 x1 x2 all zero low = x0 low
-three_stand f rs a b c x0 x1 x2 all (suc zero) low = x1 low
-three_stand f rs a b c x0 x1 x2 all (suc (suc zero)) low = x2 low
-three_stand f rs a b c x0 x1 x2 all (suc (suc (suc j))) low = absurd (omega (arith, low, all))
+three_stand f rs a b c x0 x1 x2 most zero low = x0 low
+three_stand f rs a b c x0 x1 x2 most (suc zero) low = x1 low
+three_stand f rs a b c x0 x1 x2 most (suc (suc zero)) low = x2 low
+three_stand f rs a b c x0 x1 x2 most (suc (suc (suc j))) low = absurd (omega (arith, low, most))
 
 pub three_first : (f : Reg → Wave) (rs : List Reg) (a b c : ℤ)
     → (0 < length rs → a ≡ f (get_or rs 0 no_register) 0) → (1 < length rs → b ≡ f (get_or rs 1 no_register) 0)
@@ -115,13 +92,6 @@ same_inputs f os rs points long h = λ i j. at os rs long h j i ++ points
     at [] (r ∷ rs) long h j = absurd (omega (arith, long))
     at (o ∷ os) (r ∷ rs) long h j =
         λ i. h 0 (omega arith) j i ∷ at os rs (omega (arith, long)) (λ k low. h (suc k) (omega (arith, low))) j i
-
-pub all_inputs : (f : Reg → Wave) (os : List Operand) (rs : List Reg) (points : List ℤ) → length rs ≡ length os
-    → ((j : ℕ) → j < length rs → StandsAt f os rs j)
-    → (λ j. units.inputs_at os j ++ points) ≡ inputs_at (map f rs) points
-all_inputs f os rs points long h =
-    ap (λ l. λ j. units.inputs_at l j ++ points) (sym (take_all (length rs) os (omega (arith, long))))
-    ∙ same_inputs f os rs points (omega (arith, long)) h
 
 pub same_firsts : (f : Reg → Wave) (xs : List ℤ) (rs : List Reg) → length rs ≤ length xs
     → ((j : ℕ) → j < length rs → IsFirstAt f xs rs j)

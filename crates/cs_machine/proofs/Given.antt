@@ -3,20 +3,12 @@ use Rattle.std.proofs.Common.{◌≡◌, ℕ, ℤ, ◌-◌, ◌&&◌, Bool, true
 use Rattle.std.proofs.Common.{if◌then◌else◌, sym, ◌∙◌, ap}
 use Rattle.cs_base.proofs.Tests.{some_is}
 use Rattle.cs_ir.specs.Machine.{Machine, acts, in_world}
-use Rattle.cs_ir.specs.Waves.{Wave}
-use Rattle.cs_ir.specs.declared.op.Act.{Act}
-use Rattle.cs_ir.specs.declared.register.Counts.{Counts}
-use Rattle.cs_ir.specs.declared.register.Reg.{Reg}
+use Rattle.cs_ir.specs.{Waves.Wave, declared.op.Act.Act, declared.register.Counts.Counts, declared.register.Reg.Reg}
 use Rattle.cs_cells.specs.declared.footprint.Area.{Area}
-use Rattle.cs_meaning.specs.Model.{Cause, out_to, out_to_numbered}
-use Rattle.cs_meaning.specs.Pieces.{Piece}
-use Rattle.cs_machine.specs.Outputs.{IsGiven}
-use Rattle.cs_machine.specs.Registers.{values}
-use Rattle.cs_voice_meaning.specs.Follows.{Kinds}
-use Rattle.cs_voice_meaning.specs.VoiceWorld.{VoiceState, voice_world}
-use Rattle.cs_machine.specs.declared.state.State.{State}
-use Rattle.cs_machine.specs.States.{machine_of, unit_at, IsStateIn, Does}
-use Rattle.cs_machine.specs.inner.Channels.{channel_below}
+use Rattle.cs_meaning.specs.{Model.Cause, Model.out_to, Model.out_to_numbered, Pieces.Piece}
+use Rattle.cs_machine.specs.{Outputs.IsGiven, Registers.values, declared.state.State.State, States.machine_of}
+use Rattle.cs_machine.specs.{States.unit_at, States.IsStateIn, States.Does, inner.Channels.channel_below}
+use Rattle.cs_voice_meaning.specs.{Follows.Kinds, VoiceWorld.VoiceState, VoiceWorld.voice_world}
 use Rattle.cs_machine.proofs.Done.{still_in}
 
 -- all but the channels is what a state had

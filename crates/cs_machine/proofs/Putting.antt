@@ -3,30 +3,23 @@ use Rattle.std.proofs.Common.{◌≡◌, ℕ, ℤ, pos, zero, suc, ◌<◌, ◌�
 use Rattle.std.proofs.Common.{◌∷◌, length, map, replicate, nat_lt, slice_set, slice_index_or, if◌then◌else◌, refl, sym}
 use Rattle.std.proofs.Common.{◌∙◌, ap, subst, arith, ltb-true}
 use Rattle.std.specs.List.{range_with_len}
-use Rattle.std.proofs.lemmas.Bool.{eqb-true}
-use Rattle.std.proofs.lemmas.Bool.Decides.{nat_tests}
+use Rattle.std.proofs.lemmas.{Bool.eqb-true, Bool.Decides.nat_tests}
 use Rattle.std.proofs.lemmas.List.{get_or-set_same, get_or-set_other, get_or_past, get_or-map, length-map, map-set}
 use Rattle.std.proofs.lemmas.List.{length-set, length-replicate, get_or-replicate, ext_get_or}
 use Rattle.std.proofs.lemmas.List.FromFn.{get_or-map-range_with_len, length-map-range_with_len}
-use Rattle.cs_base.specs.Rates.{is_audio}
-use Rattle.cs_base.specs.declared.resource.Rate.{Rate}
-use Rattle.cs_base.specs.declared.resource.Rate.TheVariants as rate
+use Rattle.cs_base.specs.{Rates.is_audio, declared.resource.Rate.Rate}
 use Rattle.cs_base.proofs.Tests.{by_test}
-use Rattle.cs_ir.specs.Machine.{put}
+use Rattle.cs_ir.specs.{Machine.put, Validity.has_register, Values.holds, declared.register.Counts.Counts}
+use Rattle.cs_ir.specs.{declared.register.Kind.Kind, declared.register.Reg.Reg}
 use Rattle.cs_ir.specs.Registers.{at_kind, kind_number, rate_at, rate_of}
-use Rattle.cs_ir.specs.Validity.{has_register}
-use Rattle.cs_ir.specs.Values.{holds}
 use Rattle.cs_ir.specs.Waves.{Wave, chosen, held, silence, constant}
-use Rattle.cs_ir.specs.declared.register.Counts.{Counts}
-use Rattle.cs_ir.specs.declared.register.Kind.{Kind}
-use Rattle.cs_ir.specs.declared.register.Kind.TheVariants as kind
-use Rattle.cs_ir.specs.declared.register.Reg.{Reg}
 use Rattle.cs_machine.specs.Registers.{RegisterFile, IsWritten, filled, held_at, held_kinds, one_of, register, regs_of}
 use Rattle.cs_machine.specs.Registers.{row_in, sound_kinds, values}
-use Rattle.cs_machine.specs.Rows.{HasFrames, row_wave, row_of}
-use Rattle.cs_machine.specs.inner.Kept.{AreKept, AreRows}
+use Rattle.cs_machine.specs.{Rows.HasFrames, Rows.row_wave, Rows.row_of, inner.Kept.AreKept, inner.Kept.AreRows}
 use Rattle.cs_machine.proofs.Frames.{apart, held_row, row_held, zeros_silent, row_again}
 use Rattle.cs_signal.specs.Operands.{argument}
+use Rattle.cs_base.specs.declared.resource.Rate.TheVariants as rate
+use Rattle.cs_ir.specs.declared.register.Kind.TheVariants as kind
 
 -- an item of a list that was set at a place
 pub set_at_place : {A : Type 0} (xs : List A) (n : ℕ) (x d : A) → n < length xs → (m : ℕ)
@@ -36,7 +29,7 @@ set_at_place xs n x d low m = by_test (m == n)
     ∙ sym (ap (λ b. if b then x else slice_index_or xs m d) yes))
     (λ no. get_or-set_other xs n m x d (apart m n no) ∙ sym (ap (λ b. if b then x else slice_index_or xs m d) no))
 
-through : {A B : Type 0} (f : A → B) (b : Bool) (x y : A) → f (if b then x else y) ≡ (if b then f x else f y)
+pub through : {A B : Type 0} (f : A → B) (b : Bool) (x y : A) → f (if b then x else y) ≡ (if b then f x else f y)
 through f true x y = refl
 through f false x y = refl
 
@@ -60,31 +53,19 @@ set_in rows k n x d row low j m =
 
 -- the kinds that hold one number are the first five
 pub held_kind : (k : Kind) → is_audio (rate_of k) ≡ false → kind_number k < 5
-held_kind kind.LocalInit h = omega arith
-held_kind kind.LocalControl h = omega arith
-held_kind kind.Kept h = omega arith
-held_kind kind.TemporaryInit h = omega arith
-held_kind kind.TemporaryControl h = omega arith
 held_kind kind.LocalAudio h = absurd (cc)
 held_kind kind.TemporaryAudio h = absurd (cc)
+held_kind k h = omega arith
 
 pub sound_kind : (k : Kind) → is_audio (rate_of k) ≡ true → kind_number k ≡ kind_number k - 5 + 5
-sound_kind kind.LocalInit h = absurd (cc)
-sound_kind kind.LocalControl h = absurd (cc)
-sound_kind kind.Kept h = absurd (cc)
-sound_kind kind.TemporaryInit h = absurd (cc)
-sound_kind kind.TemporaryControl h = absurd (cc)
 sound_kind kind.LocalAudio h = refl
 sound_kind kind.TemporaryAudio h = refl
+sound_kind k h = absurd (cc)
 
 pub sound_number : (k : Kind) → is_audio (rate_of k) ≡ true → kind_number k - 5 < 2
-sound_number kind.LocalInit h = absurd (cc)
-sound_number kind.LocalControl h = absurd (cc)
-sound_number kind.Kept h = absurd (cc)
-sound_number kind.TemporaryInit h = absurd (cc)
-sound_number kind.TemporaryControl h = absurd (cc)
 sound_number kind.LocalAudio h = omega arith
 sound_number kind.TemporaryAudio h = omega arith
+sound_number k h = absurd (cc)
 
 -- ---- a number written
 
@@ -114,13 +95,9 @@ module _ (ones : List (List ℤ)) (rows : List (List (List ℤ))) (q : Reg) (z :
           sym (ap (λ b. if b && m == q.offset then constant z else row_in rows (j - 5) m) no)
 
       at : (j : Kind) (m : ℕ) → held_at new_ones rows j m ≡ put (regs_of ones rows) q (constant z) (register j m)
-      at kind.LocalInit m = one 0 m
-      at kind.LocalControl m = one 1 m
-      at kind.Kept m = one 2 m
-      at kind.TemporaryInit m = one 3 m
-      at kind.TemporaryControl m = one 4 m
       at kind.LocalAudio m = other 5 m (omega arith)
       at kind.TemporaryAudio m = other 6 m (omega arith)
+      at j m = one (kind_number j) m
 
 -- ---- a row written
 
@@ -155,13 +132,9 @@ module _ (ones : List (List ℤ)) (rows : List (List (List ℤ))) (q : Reg) (row
           sym (ap (λ b. if b && m == q.offset then row_wave row else one_of ones j m) no)
 
       at : (j : Kind) (m : ℕ) → held_at ones new_rows j m ≡ put (regs_of ones rows) q (row_wave row) (register j m)
-      at kind.LocalInit m = other 0 m (omega arith)
-      at kind.LocalControl m = other 1 m (omega arith)
-      at kind.Kept m = other 2 m (omega arith)
-      at kind.TemporaryInit m = other 3 m (omega arith)
-      at kind.TemporaryControl m = other 4 m (omega arith)
       at kind.LocalAudio m = one 0 m
       at kind.TemporaryAudio m = one 1 m
+      at j m = other (kind_number j) m (omega arith)
 
 -- ---- registers that were just made
 
@@ -189,18 +162,11 @@ pub new_silent : (counts : Counts) (ksmps : ℕ)
     → regs_of (zeros_of counts held_kinds) (rows_of_zeros counts ksmps sound_kinds) ≡ (λ q. silence)
 new_silent counts ksmps = λ t q. at q.kind q.offset t
   where
-    n : Kind → ℕ
-    n k = at_kind counts.registers k
-
     at : (k : Kind) (m : ℕ)
         → held_at (zeros_of counts held_kinds) (rows_of_zeros counts ksmps sound_kinds) k m ≡ silence
-    at kind.LocalInit m = zeros_held (at_kind counts.registers kind.LocalInit) m
-    at kind.LocalControl m = zeros_held (at_kind counts.registers kind.LocalControl) m
-    at kind.Kept m = zeros_held (at_kind counts.registers kind.Kept) m
-    at kind.TemporaryInit m = zeros_held (at_kind counts.registers kind.TemporaryInit) m
-    at kind.TemporaryControl m = zeros_held (at_kind counts.registers kind.TemporaryControl) m
     at kind.LocalAudio m = zeros_sound (at_kind counts.registers kind.LocalAudio) ksmps m
     at kind.TemporaryAudio m = zeros_sound (at_kind counts.registers kind.TemporaryAudio) ksmps m
+    at k m = zeros_held (at_kind counts.registers k) m
 
 -- ---- as many registers as there were
 
@@ -287,23 +253,15 @@ new_kept counts ksmps = record {
 
     ones : (k : Kind) → is_audio (rate_of k) ≡ false
         → length (slice_index_or (zeros_of counts held_kinds) (kind_number k) []) ≡ n k
-    ones kind.LocalInit s = length-replicate (n kind.LocalInit) (pos 0)
-    ones kind.LocalControl s = length-replicate (n kind.LocalControl) (pos 0)
-    ones kind.Kept s = length-replicate (n kind.Kept) (pos 0)
-    ones kind.TemporaryInit s = length-replicate (n kind.TemporaryInit) (pos 0)
-    ones kind.TemporaryControl s = length-replicate (n kind.TemporaryControl) (pos 0)
     ones kind.LocalAudio s = absurd (cc)
     ones kind.TemporaryAudio s = absurd (cc)
+    ones k s = length-replicate (n k) (pos 0)
 
     rows : (k : Kind) → is_audio (rate_of k) ≡ true
         → length (slice_index_or (rows_of_zeros counts ksmps sound_kinds) (kind_number k - 5) []) ≡ n k
-    rows kind.LocalInit s = absurd (cc)
-    rows kind.LocalControl s = absurd (cc)
-    rows kind.Kept s = absurd (cc)
-    rows kind.TemporaryInit s = absurd (cc)
-    rows kind.TemporaryControl s = absurd (cc)
     rows kind.LocalAudio s = length-replicate (n kind.LocalAudio) (replicate ksmps (pos 0))
     rows kind.TemporaryAudio s = length-replicate (n kind.TemporaryAudio) (replicate ksmps (pos 0))
+    rows k s = absurd (cc)
 
     all_long : (count : ℕ) → AreRows ksmps (replicate count (replicate ksmps (pos 0)))
     all_long count m low =
@@ -347,21 +305,14 @@ made_kept counts ksmps ones rows e h =
 -- ---- what holds values is known by them
 
 two : {A : Type 0} (xs : List A) (d : A) → length xs ≡ 2 → slice_index_or xs 0 d ∷ slice_index_or xs 1 d ∷ [] ≡ xs
-two [] d h = absurd (omega (arith, h))
-two (a ∷ []) d h = absurd (omega (arith, h))
 two (a ∷ b ∷ []) d h = refl
-two (a ∷ b ∷ c ∷ xs) d h = absurd (omega (arith, h))
+two xs d h = absurd (omega (arith, h))
 
 five : {A : Type 0} (xs : List A) (d : A) → length xs ≡ 5
     → slice_index_or xs 0 d ∷ slice_index_or xs 1 d ∷ slice_index_or xs 2 d ∷ slice_index_or xs 3 d
     ∷ slice_index_or xs 4 d ∷ [] ≡ xs
-five [] d h = absurd (omega (arith, h))
-five (a ∷ []) d h = absurd (omega (arith, h))
-five (a ∷ b ∷ []) d h = absurd (omega (arith, h))
-five (a ∷ b ∷ c ∷ []) d h = absurd (omega (arith, h))
-five (a ∷ b ∷ c ∷ e ∷ []) d h = absurd (omega (arith, h))
 five (a ∷ b ∷ c ∷ e ∷ f ∷ []) d h = refl
-five (a ∷ b ∷ c ∷ e ∷ f ∷ g ∷ xs) d h = absurd (omega (arith, h))
+five xs d h = absurd (omega (arith, h))
 
 module _ (f : RegisterFile) (h : AreKept f.held f.sounds f.counts f.ksmps) where
   ones_again : (k : Kind) → is_audio (rate_of k) ≡ false
@@ -415,9 +366,8 @@ wrote_held f q z slow there low = record {
 }
   where
     constant_held : (r : Rate) → is_audio r ≡ false → constant z ≡ held f.ksmps r (constant z)
-    constant_held rate.Init s = refl
-    constant_held rate.Control s = refl
     constant_held rate.Audio s = absurd (cc)
+    constant_held r s = refl
 
 pub wrote_sound : (f : RegisterFile) (q : Reg) (row : List ℤ) → is_audio (rate_at q) ≡ true → length row ≡ f.ksmps
     → kind_number q.kind - 5 < length f.sounds
@@ -433,9 +383,8 @@ wrote_sound f q row sound long there low = record {
 }
   where
     row_is_held : (r : Rate) → is_audio r ≡ true → row_wave row ≡ held f.ksmps r (row_wave row)
-    row_is_held rate.Init s = absurd (cc)
-    row_is_held rate.Control s = absurd (cc)
     row_is_held rate.Audio s = sym (held_row f.ksmps row long)
+    row_is_held r s = absurd (cc)
 
 -- a row that has a value's frames was swapped in: the register holds the value
 pub wrote_frames : (f g : RegisterFile) (q : Reg) (w : Wave) (row : List ℤ) → is_audio (rate_at q) ≡ true
@@ -447,15 +396,8 @@ wrote_frames f g q w row sound long frames wrote = record {
 }
   where
     as_held : (r : Rate) → is_audio r ≡ true → held f.ksmps r (row_wave row) ≡ held f.ksmps r w
-    as_held rate.Init s = absurd (cc)
-    as_held rate.Control s = absurd (cc)
     as_held rate.Audio s = held_row f.ksmps row long ∙ row_held f.ksmps w row long frames
-
-pub wrote_row : (f g : RegisterFile) (q : Reg) (w : Wave) (swapped row : List ℤ) → swapped ≡ row
-    → is_audio (rate_at q) ≡ true → length row ≡ f.ksmps → HasFrames w row
-    → IsWritten f q (row_wave swapped) g → IsWritten f q w g
-wrote_row f g q w swapped row same sound long frames wrote =
-    wrote_frames f g q w row sound long frames (subst (λ r. IsWritten f q (row_wave r) g) same wrote)
+    as_held r s = absurd (cc)
 
 -- a held register is the same at each frame
 pub held_still : (f : RegisterFile) (q : Reg) → is_audio (rate_at q) ≡ false → (j : ℕ) → values f q j ≡ values f q 0
@@ -463,13 +405,9 @@ held_still f q slow j = at q.kind slow
   where
     at : (k : Kind) → is_audio (rate_of k) ≡ false
         → held_at f.held f.sounds k q.offset j ≡ held_at f.held f.sounds k q.offset 0
-    at kind.LocalInit s = refl
-    at kind.LocalControl s = refl
-    at kind.Kept s = refl
-    at kind.TemporaryInit s = refl
-    at kind.TemporaryControl s = refl
     at kind.LocalAudio s = absurd (cc)
     at kind.TemporaryAudio s = absurd (cc)
+    at k s = refl
 
 -- of a condition that is held, one of the two is chosen throughout
 pub chosen_first : (c w v : Wave) → ((j : ℕ) → c j ≡ c 0) → holds (c 0) ≡ true → w ≡ chosen c w v
@@ -488,9 +426,8 @@ wrote_first f g q w z slow first wrote = record {
 }
   where
     held_first : (r : Rate) → is_audio r ≡ false → held f.ksmps r (constant z) ≡ held f.ksmps r w
-    held_first rate.Init s = λ i j. first i
-    held_first rate.Control s = λ i j. first i
     held_first rate.Audio s = absurd (cc)
+    held_first r s = λ i j. first i
 
 -- ---- places of registers that are there
 

@@ -1,11 +1,8 @@
 -- Quotients by a divisor that is held: how large they are.
 use Rattle.std.proofs.Common.{◌≡◌, ℕ, ◌+◌, ◌*◌, ◌/◌, ◌<◌, ◌≤◌, ℤ, pos, negsuc, ◌≤ℤ◌, ◌*ℤ◌, unsigned_abs, false}
-use Rattle.std.proofs.Common.{if◌then◌else◌, ap, ◌∙◌, arith}
+use Rattle.std.proofs.{Common.if◌then◌else◌, Common.ap, Common.◌∙◌, Common.arith, Math.Nat.mul-add, Math.Nat.mul_comm}
 use Rattle.std.specs.Ordering.{int_eq}
-use Rattle.std.proofs.lemmas.Bool.Decides.{nat_tests}
-use Rattle.std.proofs.lemmas.Int.{ints, unsigned_abs-mul}
-use Rattle.std.proofs.lemmas.Nat.{div_below}
-use Rattle.std.proofs.Math.Nat.{mul-add, mul_comm}
+use Rattle.std.proofs.lemmas.{Bool.Decides.nat_tests, Int.ints, Int.unsigned_abs-mul, Nat.div_below}
 use Rattle.cs_base.specs.Numbers.{IsRaw, clamp, floor_div, one, quotient_by_zero, quotient_of}
 
 once_more : (k d : ℕ) → (k + 1) * d ≡ k * d + d

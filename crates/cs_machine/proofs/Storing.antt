@@ -1,19 +1,16 @@
 -- Stores into a live table, one after another.
 use Rattle.std.proofs.Common.{◌≡◌, ℕ, ℤ, suc, ◌+◌, ◌-◌, ◌<◌, ◌==◌, true, false, List, length, Some, nat_lt, nat_le}
 use Rattle.std.proofs.Common.{slice_set, if◌then◌else◌, sym, ◌∙◌, ap, subst, arith, leb-true, ltb-true}
-use Rattle.std.proofs.lemmas.Bool.{eqb-true, and_parts}
-use Rattle.std.proofs.lemmas.Bool.Decides.{nat_tests}
-use Rattle.cs_base.specs.declared.resource.Rate.TheVariants as rate
+use Rattle.std.proofs.lemmas.{Bool.eqb-true, Bool.and_parts, Bool.Decides.nat_tests}
 use Rattle.cs_base.proofs.Tests.{by_test}
-use Rattle.cs_gen.specs.Points.{len_of}
+use Rattle.cs_gen.specs.{Points.len_of, Places.place_of_index}
 use Rattle.cs_ir.specs.Waves.{Wave}
 use Rattle.cs_cells.proofs.Rows.{set_cell}
-use Rattle.cs_cells.specs.Cells.{cell, in_area}
-use Rattle.cs_cells.specs.declared.footprint.Area.{Area}
-use Rattle.cs_gen.specs.Places.{place_of_index}
+use Rattle.cs_cells.specs.{Cells.cell, Cells.in_area, declared.footprint.Area.Area}
 use Rattle.cs_meaning.specs.Pieces.{Table, places_of_indices, stored}
 use Rattle.cs_voice_meaning.specs.Placing.{wave_in, with_wave}
 use Rattle.cs_machine.proofs.Writing.{frame_in, in_here}
+use Rattle.cs_base.specs.declared.resource.Rate.TheVariants as rate
 
 -- an address of an area is its first and a frame
 off : (area : Area) (a : ℕ) → in_area (Some area) a ≡ true

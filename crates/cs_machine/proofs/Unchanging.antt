@@ -2,8 +2,7 @@
 use Rattle.std.proofs.Common.{◌≡◌, ℕ, zero, suc, ◌+◌, List, ℤ, refl, ◌∙◌, ap}
 use Rattle.cs_signal.specs.Steps.{run}
 use Rattle.cs_ugen.proofs.Units.{opcode_stays}
-use Rattle.cs_ugen.specs.Units.{opcode_of, unit_step}
-use Rattle.cs_ugen.specs.declared.unit.UnitState.{UnitState}
+use Rattle.cs_ugen.specs.{Units.opcode_of, Units.unit_step, declared.unit.UnitState.UnitState}
 
 same_run : (at : ℕ → List ℤ) (k : UnitState) (j n : ℕ) → opcode_of (run unit_step at k j n).0 ≡ opcode_of k
 same_run at k j zero = refl

@@ -1,19 +1,16 @@
 -- Areas as they are read and written.
-use Rattle.std.proofs.Common.{◌≡◌, ℕ, ℤ, pos, ◌+◌, ◌-◌, ◌<◌, ◌≤◌, true, false, ◌&&◌, List, length, map}
-use Rattle.std.proofs.Common.{Some, nat_lt, nat_le, slice_set, if◌then◌else◌, refl, sym, ◌∙◌, ap, subst, arith}
-use Rattle.std.proofs.lemmas.Bool.{and_parts}
-use Rattle.std.proofs.lemmas.Bool.Decides.{nat_tests}
-use Rattle.std.proofs.lemmas.List.FromFn.{get_or-map-range_with_len}
+use Rattle.std.proofs.Common.{◌≡◌, ℕ, ℤ, pos, ◌+◌, ◌-◌, ◌<◌, ◌≤◌, true, false, ◌&&◌, List, length, map, Some, nat_lt}
+use Rattle.std.proofs.Common.{nat_le, slice_set, if◌then◌else◌, refl, sym, ◌∙◌, ap, subst, arith}
+use Rattle.std.proofs.lemmas.{Bool.and_parts, Bool.Decides.nat_tests, List.FromFn.get_or-map-range_with_len}
 use Rattle.std.specs.List.{range_with_len}
-use Rattle.cs_base.specs.declared.resource.Rate.TheVariants as rate
 use Rattle.cs_base.proofs.Tests.{by_test}
 use Rattle.cs_ir.specs.Waves.{Wave, constant}
-use Rattle.cs_cells.specs.Cells.{cell, in_area, with_row}
-use Rattle.cs_cells.specs.declared.footprint.Area.{Area}
+use Rattle.cs_cells.specs.{Cells.cell, Cells.in_area, Cells.with_row, declared.footprint.Area.Area}
 use Rattle.cs_cells.proofs.Rows.{with_row_none, with_row_more}
 use Rattle.cs_signal.specs.Operands.{argument}
 use Rattle.cs_voice_meaning.specs.Placing.{wave_in, with_wave}
 use Rattle.cs_machine.specs.Access.{CanTouch}
+use Rattle.cs_base.specs.declared.resource.Rate.TheVariants as rate
 
 -- what may be touched stays so as long as a bank stands on the same, with as many cells
 pub touch_again : {S : Type 0} (can : S → ℕ → Type 0) (r s : S) (m n : ℕ) (area : Area) → s ≡ r → n ≡ m

@@ -1,15 +1,13 @@
 -- What may be touched of a bank's cells, and what is there.
 use Rattle.std.specs.Prelude.{ℕ, ℤ, ◌≡◌, ◌<◌, true, nat_lt, List, map, Some}
-use Rattle.std.specs.List.{range_with_len}
-use Rattle.std.specs.Option.{is_some}
-use Rattle.cs_base.specs.declared.resource.Rate.TheVariants as rate
+use Rattle.std.specs.{List.range_with_len, Option.is_some}
 use Rattle.cs_words.specs.declared.catalogue.Space.{Space}
 use Rattle.cs_base.specs.declared.spaces.Spaces.{Spaces}
 use Rattle.cs_ir.specs.Resources.{places_of, zak_place}
-use Rattle.cs_cells.specs.Cells.{in_area}
-use Rattle.cs_cells.specs.declared.footprint.Area.{Area}
+use Rattle.cs_cells.specs.{Cells.in_area, declared.footprint.Area.Area}
 use Rattle.cs_rwset.specs.Footprints.{stock_of}
 use Rattle.cs_voice_meaning.specs.Placing.{area_of, wave_in}
+use Rattle.cs_base.specs.declared.resource.Rate.TheVariants as rate
 pub use Rattle.cs_machine.specs.Rows.{row_wave}
 
 -- Each cell of an area is one that this can be done to, and one of so many cells.

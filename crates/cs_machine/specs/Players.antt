@@ -3,14 +3,12 @@ use Rattle.std.specs.Prelude.{ℕ, ℤ, ◌≡◌, Bool, true, ◌||◌, ◌+◌
 use Rattle.std.specs.Option.{is_some}
 use Rattle.cs_machine.specs.Access.{CanTouch, live_points}
 use Rattle.cs_cells.specs.declared.footprint.Area.{Area}
-use Rattle.cs_gen.specs.Points.{len_of}
-use Rattle.cs_gen.specs.Tables.{curve_of}
+use Rattle.cs_gen.specs.{Points.len_of, Tables.curve_of}
 use Rattle.cs_ir.specs.Waves.{Wave}
-use Rattle.cs_ugen.specs.Points.{is_len}
+use Rattle.cs_ugen.specs.{Points.is_len, declared.unit.UnitState.UnitState}
 use Rattle.cs_signal.specs.Steps.{run}
 use Rattle.cs_voice_meaning.specs.VoiceWorld.{Playing, inputs_at}
 use Rattle.cs_ugen.specs.Units.{opcode_of, reads_table, unit_step}
-use Rattle.cs_ugen.specs.declared.unit.UnitState.{UnitState}
 
 -- A unit as it lies in memory: the number of the table that it was started with, its state, and where the table is: the
 -- points of a frozen one, or the area of a live one.

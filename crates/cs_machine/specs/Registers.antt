@@ -1,15 +1,12 @@
 -- Registers: what each of a note's registers holds over a control cycle.
 use Rattle.std.specs.Prelude.{ℕ, ◌≡◌, ℤ, List, [], ◌∷◌, map, slice_index_or}
 use Rattle.std.specs.List.{range_with_len}
-use Rattle.cs_ir.specs.Machine.{put}
-use Rattle.cs_ir.specs.Registers.{at_kind, rate_at}
-use Rattle.cs_ir.specs.Waves.{Wave, constant, held}
-use Rattle.cs_ir.specs.declared.register.Counts.{Counts}
-use Rattle.cs_ir.specs.declared.register.Kind.{Kind}
-use Rattle.cs_ir.specs.declared.register.Kind.TheVariants as kind
-use Rattle.cs_ir.specs.declared.register.Reg.{Reg}
+use Rattle.cs_ir.specs.{Machine.put, Waves.Wave, Waves.constant, Waves.held, declared.register.Counts.Counts}
+use Rattle.cs_ir.specs.{declared.register.Kind.Kind, declared.register.Reg.Reg}
+use Rattle.cs_ir.specs.Registers.{at_kind, kind_number, rate_at}
 use Rattle.cs_machine.specs.Rows.{row_wave, row_of}
 use Rattle.cs_signal.specs.Operands.{argument}
+use Rattle.cs_ir.specs.declared.register.Kind.TheVariants as kind
 
 -- The numbers that are held by the registers of each kind that isn't of rate Audio, a row for each register of the
 -- kinds that are, how many there are of each kind, and how many frames a cycle has.
@@ -31,13 +28,9 @@ abbrev pub row_in : List (List (List ℤ)) → ℕ → ℕ → Wave
 row_in sounds k n = row_wave (slice_index_or (slice_index_or sounds k []) n [])
 
 abbrev pub held_at : List (List ℤ) → List (List (List ℤ)) → Kind → ℕ → Wave
-held_at held sounds kind.LocalInit n = one_of held 0 n
-held_at held sounds kind.LocalControl n = one_of held 1 n
-held_at held sounds kind.Kept n = one_of held 2 n
-held_at held sounds kind.TemporaryInit n = one_of held 3 n
-held_at held sounds kind.TemporaryControl n = one_of held 4 n
 held_at held sounds kind.LocalAudio n = row_in sounds 0 n
 held_at held sounds kind.TemporaryAudio n = row_in sounds 1 n
+held_at held sounds k n = one_of held (kind_number k) n
 
 abbrev pub regs_of : List (List ℤ) → List (List (List ℤ)) → Reg → Wave
 regs_of held sounds q = held_at held sounds q.kind q.offset

@@ -1,35 +1,22 @@
 -- What a note keeps from cycle to cycle, as the machine that it stands for; and what an act makes of both.
 use Rattle.std.specs.Prelude.{ℕ, ℤ, ◌≡◌, ◌+◌, ◌-◌, ◌≤◌, true, false, List, map, length, slice_index_or, Option, Some}
-use Rattle.std.specs.Prelude.{None, if◌then◌else◌}
-use Rattle.std.specs.Option.{is_some, option_map}
-use Rattle.cs_base.specs.declared.resource.Res.{Res}
-use Rattle.cs_base.specs.declared.resource.Res.TheVariants as res
-use Rattle.cs_base.specs.declared.resource.Rate.{Rate}
-use Rattle.cs_words.specs.declared.catalogue.Opcode.{Opcode}
+use Rattle.std.specs.{Prelude.None, Prelude.if◌then◌else◌, Option.is_some, Option.option_map}
+use Rattle.cs_base.specs.{declared.resource.Res.Res, declared.resource.Rate.Rate}
+use Rattle.cs_words.specs.{declared.catalogue.Opcode.Opcode, Catalogue.takes_table}
 use Rattle.cs_typed.specs.TypedTree.{header_of_head}
-pub use Rattle.cs_typed.specs.TypedTree.{header_of_head as header_of}
 use Rattle.cs_gen.specs.Points.{len_of}
-use Rattle.cs_ugen.specs.Points.{is_len}
+use Rattle.cs_ugen.specs.{Points.is_len, Units.opcode_of}
 use Rattle.cs_signal.specs.Operands.{argument}
-use Rattle.cs_ugen.specs.Units.{opcode_of}
-use Rattle.cs_ir.specs.Machine.{Machine, acts}
-use Rattle.cs_words.specs.Catalogue.{takes_table}
-use Rattle.cs_ir.specs.Resources.{Stock, act_uses, act_writes}
-use Rattle.cs_ir.specs.declared.op.Act.{Act}
-use Rattle.cs_ir.specs.declared.register.Counts.{Counts}
-use Rattle.cs_ir.specs.declared.register.Reg.{Reg}
+use Rattle.cs_ir.specs.{Machine.Machine, Machine.acts, Resources.Stock, Resources.act_uses, Resources.act_writes}
+use Rattle.cs_ir.specs.{declared.op.Act.Act, declared.register.Counts.Counts, declared.register.Reg.Reg}
 use Rattle.cs_cells.specs.declared.footprint.Area.{Area}
-use Rattle.cs_meaning.specs.Model.{Cause}
-use Rattle.cs_meaning.specs.Pieces.{Piece, Table, find_table}
-use Rattle.cs_machine.specs.Registers.{values}
-use Rattle.cs_machine.specs.Outputs.{outs}
-use Rattle.cs_voice_meaning.specs.Placing.{area_of}
+use Rattle.cs_meaning.specs.{Model.Cause, Pieces.Piece, Pieces.Table, Pieces.find_table}
+use Rattle.cs_machine.specs.{Registers.values, Outputs.outs, Access.CanTouch, Players.PlayerData, Players.has_table}
+use Rattle.cs_machine.specs.{Players.playing, declared.state.State.State, declared.state.NoteSetting.NoteSetting}
+use Rattle.cs_voice_meaning.specs.{Placing.area_of, Follows.Kinds, Follows.AreNamed}
 use Rattle.cs_voice_meaning.specs.VoiceWorld.{Playing, VoiceState, voice_world}
-use Rattle.cs_voice_meaning.specs.Follows.{Kinds, AreNamed}
-use Rattle.cs_machine.specs.Access.{CanTouch}
-use Rattle.cs_machine.specs.Players.{PlayerData, has_table, playing}
-use Rattle.cs_machine.specs.declared.state.State.{State}
-use Rattle.cs_machine.specs.declared.state.NoteSetting.{NoteSetting}
+use Rattle.cs_base.specs.declared.resource.Res.TheVariants as res
+pub use Rattle.cs_typed.specs.TypedTree.{header_of_head as header_of}
 
 -- the unit of a number as it plays
 abbrev pub unit_at : List (Option PlayerData) → ℕ → Option Playing

@@ -42,29 +42,19 @@ pub fn block<B: Bank>(
     ensures same { B.cells bank.new ≡ B.cells bank.old }
     ensures rest { B.rest bank.new ≡ B.rest bank.old }
 {
-    match from.len() {
-        0 => player.block(&[], bank, row),
-        1 => {
-            let inputs = [operand_at(regs, from, 0)];
-            player.block(&inputs, bank, row);
-        }
-        2 => {
-            let inputs = [operand_at(regs, from, 0), operand_at(regs, from, 1)];
-            player.block(&inputs, bank, row);
-        }
-        3 => {
-            let inputs = [
-                operand_at(regs, from, 0),
-                operand_at(regs, from, 1),
-                operand_at(regs, from, 2),
-            ];
-            player.block(&inputs, bank, row);
-        }
-        _ => block_on_many(player, regs, from, bank, row),
+    if from.len() <= FEW_INPUTS {
+        let inputs = [
+            operand_at(regs, from, 0),
+            operand_at(regs, from, 1),
+            operand_at(regs, from, 2),
+        ];
+        player.block(&inputs[..from.len()], bank, row);
+    } else {
+        block_on_many(player, regs, from, bank, row);
     }
 }
 
-/// A step for each frame of `row`, of a unit that takes any number of arguments.
+/// A step for each frame of `row`, of a unit that takes many.
 #[inline(never)]
 fn block_on_many<B: Bank>(
     player: &mut Player,

@@ -13,15 +13,13 @@
 //! (an operator and two operands over the frames), `registers`, `compute` (operators and functions over registers),
 //! `outputs` (the channels); `places` (areas and numbers), `area_rows` (an area at once), `zak`, `table` (stores),
 //! `live` (reading); `player` (a unit and its table), `gather` (a player on registers); `state` (what a note keeps,
-//! and what it plays in), `values` (numbers, p-fields, the header), `operate` (operators and functions), `output`
-//! (channels, a note's end).
+//! and what it plays in), `values` (p-fields, the header), `output` (channels, a note's end).
 #![tactic(auto)]
 
 mod area_rows;
 mod compute;
 mod gather;
 mod live;
-mod operate;
 mod output;
 mod outputs;
 mod pairs;
@@ -43,4 +41,5 @@ pub use player::Player;
 pub use registers::Registers;
 pub use state::{NoteSetting, State};
 pub use table::store;
+pub use values::{field_of, head_value};
 pub use zak::clear_places;

@@ -4,7 +4,7 @@ ghost use Rattle.std.specs.Prelude.{false, true};
 ghost use Rattle.cs_base.specs.Rates.{is_audio};
 ghost use Rattle.cs_ir.specs.Registers.{kind_number, rate_at, rate_of};
 ghost use Rattle.cs_ir.specs.Validity.{has_register};
-ghost use Rattle.cs_ir.specs.Waves.{constant, silence};
+ghost use Rattle.cs_ir.specs.Waves.{Wave, constant, silence};
 ghost use Rattle.cs_machine.specs.Registers.{IsWritten, filled, values};
 ghost use Rattle.cs_machine.specs.Rows.{HasFrames, row_wave};
 ghost use Rattle.cs_signal.specs.Operands.{Lasts, operand_at};
@@ -138,12 +138,12 @@ impl Registers {
         copy(&self.operand(register), row);
     }
 
-    /// A register that isn't of rate Audio takes a number.
+    /// A register that isn't of rate Audio takes a number: what a value is at the first frame.
     #[inline(always)]
     pub fn set(&mut self, register: Reg, value: Num)
         requires there { has_register self.old.counts register ≡ true }
         requires held { is_audio (rate_at register) ≡ false }
-        ensures { IsWritten self.old register (constant value) self.new }
+        ensures { (w : Wave) → value ≡ w 0 → IsWritten self.old register w self.new }
     {
         set_in(
             &mut self.held[held_number(register.kind)],
@@ -152,13 +152,13 @@ impl Registers {
         );
     }
 
-    /// A register of rate Audio takes a row, and its own row comes in its place.
+    /// A register of rate Audio takes a row, with what a value is at each frame, and its own row comes in its place.
     #[inline(always)]
     pub fn swap(&mut self, register: Reg, row: &mut Vec<Num>)
         requires there { has_register self.old.counts register ≡ true }
         requires sound { is_audio (rate_at register) ≡ true }
         requires row { length row.old.items ≡ self.old.ksmps }
-        ensures values { IsWritten self.old register (row_wave row.old.items) self.new }
+        ensures values { (w : Wave) → HasFrames w row.old.items → IsWritten self.old register w self.new }
         ensures row { length row.new.items ≡ self.old.ksmps }
     {
         swap_in(

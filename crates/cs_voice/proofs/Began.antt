@@ -2,48 +2,33 @@
 use Rattle.std.proofs.Common.{◌≡◌, ℕ, ℤ, pos, zero, suc, ◌-◌, ◌++◌, Bool, true, List, [], ◌∷◌, length, map}
 use Rattle.std.proofs.Common.{slice_index_or, Option, Some, None, refl, sym, ◌∙◌, ap, subst, arith}
 use Rattle.std.specs.Option.{option_map}
-use Rattle.cs_ir.specs.Asks.{ask_of}
-use Rattle.cs_ir.specs.Machine.{Machine, new_machine, run}
-use Rattle.cs_ir.specs.Validity.{valid}
-use Rattle.cs_ir.specs.declared.ask.Ask.{Ask}
-use Rattle.cs_ir.specs.declared.op.Code.{Code}
-use Rattle.cs_ir.specs.declared.register.Counts.{Counts}
-use Rattle.cs_machine.specs.Access.{AreSpaces, spaces_of}
-use Rattle.cs_cells.specs.declared.footprint.Footprint.{Footprint}
-use Rattle.cs_cells.specs.declared.footprint.Area.{Area}
+use Rattle.cs_ir.specs.{Asks.ask_of, Machine.Machine, Machine.new_machine, Machine.run, Validity.valid}
+use Rattle.cs_ir.specs.{declared.ask.Ask.Ask, declared.op.Code.Code, declared.register.Counts.Counts}
+use Rattle.cs_machine.specs.{Access.AreSpaces, Access.spaces_of, Players.PlayerData, Players.playing, Registers.values}
+use Rattle.cs_machine.specs.{Outputs.outs, States.machine_of, States.IsStateIn, declared.state.State.State}
+use Rattle.cs_cells.specs.{declared.footprint.Footprint.Footprint, declared.footprint.Area.Area}
 use Rattle.cs_meaning.specs.Pieces.{Piece}
-use Rattle.cs_machine.specs.Players.{PlayerData, playing}
-use Rattle.cs_machine.specs.Registers.{values}
-use Rattle.cs_machine.specs.Outputs.{outs}
 use Rattle.cs_voice_meaning.specs.VoiceWorld.{VoiceState, fresh_voice, voice_world}
-use Rattle.cs_voice_meaning.specs.Follows.{Kinds}
-use Rattle.cs_voice_meaning.specs.Voices.{Sheet, IsPlayable, initialised, voice_of}
+use Rattle.cs_voice_meaning.specs.{Follows.Kinds, Voices.Sheet, Voices.IsPlayable, Voices.initialised, Voices.voice_of}
 use Rattle.cs_signal.specs.Operands.{argument}
 use Rattle.cs_typed.specs.TypedTree.{header_of_head}
-use Rattle.cs_machine.specs.States.{machine_of, IsStateIn}
-use Rattle.cs_machine.specs.declared.state.State.{State}
-use Rattle.cs_voice.specs.Memory.{MakeVoice, table_of, voice_in}
-use Rattle.cs_voice.specs.VoiceData.{IsOn, made, sounding_on}
-use Rattle.cs_voice.specs.declared.stage.Stage.{Stage}
-use Rattle.cs_voice.specs.declared.stage.PieceTable.{PieceTable}
+use Rattle.cs_voice.specs.{Memory.MakeVoice, Memory.table_of, Memory.voice_in, VoiceData.IsOn, VoiceData.made}
+use Rattle.cs_voice.specs.{VoiceData.sounding_on, declared.stage.Stage.Stage, declared.stage.PieceTable.PieceTable}
+use Rattle.cs_voice.specs.{Starting.cause_of, Tables.tables_of, declared.begin.StartRefusal.StartRefusal}
+use Rattle.cs_voice.specs.{declared.note.NewNote.NewNote, declared.tables.Finds.Finds}
 use Rattle.cs_voice.specs.Passing.{CanInitialise, CanPass, IsStateOf, Passes}
-use Rattle.cs_voice.specs.Starting.{cause_of}
 use Rattle.cs_voice.specs.Starts.{IsLive, IsStarted, sheet_for, started_as}
-use Rattle.cs_voice.specs.Tables.{tables_of}
-use Rattle.cs_voice.specs.declared.begin.StartRefusal.{StartRefusal}
 use Rattle.cs_voice.specs.declared.begin.StartRefusal.TheVariants as refusal
-use Rattle.cs_voice.specs.declared.note.NewNote.{NewNote}
-use Rattle.cs_voice.specs.declared.tables.Finds.{Finds}
 
 -- the tables that a voice keeps are those that it found, made
-tables_made : (tables : List PieceTable) (ms : List Bool) → length ms ≡ length tables
+pub tables_made : (tables : List PieceTable) (ms : List Bool) → length ms ≡ length tables
     → map made (tables_of tables ms) ≡ map table_of tables
 tables_made [] ms e = refl
 tables_made (t ∷ tables) [] e = absurd (omega arith)
 tables_made (t ∷ tables) (m ∷ ms) e = ap (λ ts. table_of t ∷ ts) (tables_made tables ms (omega arith))
 
 -- the units of a voice are those of its state
-units_as : (ps : List (Option PlayerData)) (u : ℕ)
+pub units_as : (ps : List (Option PlayerData)) (u : ℕ)
     → slice_index_or (map (option_map playing) ps) u None ≡ option_map playing (slice_index_or ps u None)
 units_as [] u = refl
 units_as (p ∷ ps) zero = refl
@@ -65,7 +50,7 @@ new_state s counts state fresh in_piece playable =
       },
     )
 
-module _ (s : Sheet) (first now : State) (before after : ℕ → ℤ) (asked given : List Ask) (refused : Option StartRefusal)
+module _ {s : Sheet} {first now : State} {before after : ℕ → ℤ} {asked given : List Ask} {refused : Option StartRefusal}
     (fresh : (cells : ℕ → ℤ) → machine_of first cells 0 [] None ≡ new_machine (fresh_voice cells))
     (passes : Passes s first before asked now after given refused) where
   began : initialised s before ≡ machine_of now after passes.next passes.more (option_map cause_of refused)
@@ -109,7 +94,8 @@ refused_so s until m (refusal.NoTable number) e = e
 refused_so s until m (refusal.DelayTooLong samples) e = e
 
 -- the parts of a voice that plays from an instrument's sheet
-pub made_voice : (note : NewNote) (number : ℕ) (fields : List ℤ) (perf : Code) (counts : Counts) (state : State)
+unfoldable pub made_voice : (note : NewNote) (number : ℕ) (fields : List ℤ) (perf : Code) (counts : Counts)
+    (state : State)
     → IsPlayable (sheet_for note fields) → number ≡ note.instrument.now.number → perf ≡ note.instrument.now.perf
     → length note.made.now ≡ length note.stage.tables.now
     → AreSpaces note.stage.layout.now → spaces_of note.stage.layout.now ≡ note.stage.spaces → valid perf ≡ true
@@ -136,16 +122,6 @@ made_voice note number fields perf counts state playable numbered same long plac
   state = subst (λ k. IsStateIn note.stage.layout.now (sheet_for note fields).piece playable.kinds k state) counted
       (of.in_piece playable);
 }
-
-pub on_sheet : (note : NewNote) (number : ℕ) (fields : List ℤ) (perf : Code) (counts : Counts) (state : State)
-    → IsPlayable (sheet_for note fields) → number ≡ note.instrument.now.number → perf ≡ note.instrument.now.perf
-    → length note.made.now ≡ length note.stage.tables.now
-    → AreSpaces note.stage.layout.now → spaces_of note.stage.layout.now ≡ note.stage.spaces → valid perf ≡ true
-    → counts ≡ perf.counts → IsStateOf (sheet_for note fields) counts state
-    → IsOn (sheet_for note fields) (voice_in number note.age note.until note.stage note.foot.now perf fields state)
-unfolding made_voice
-on_sheet note number fields perf counts state playable numbered same long places zak fine counted of =
-    (made_voice note number fields perf counts state playable numbered same long places zak fine counted of).parts
 
 -- the code that begins a note can be done with what it finds
 pub can_pass : (get set : ℕ → Type 0) (count : ℕ) (finds : Finds) (note : NewNote) (fields : List ℤ) (init : Code)

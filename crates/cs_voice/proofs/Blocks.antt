@@ -1,10 +1,8 @@
 -- What voices give together, by places of a block and by frames and channels.
-use Rattle.std.proofs.Common.{◌≡◌, ℕ, zero, suc, ℤ, pos, ◌+◌, ◌*◌, ◌/◌, ◌%◌, ◌<◌, ◌+ℤ◌, List, [], ◌∷◌, length}
-use Rattle.std.proofs.Common.{get_or, nat_lt, refl, ap, sym, ◌∙◌, subst, arith, ltb-true, zero-add}
+use Rattle.std.proofs.Common.{◌≡◌, ℕ, zero, suc, ℤ, pos, ◌+◌, ◌*◌, ◌/◌, ◌%◌, ◌<◌, ◌+ℤ◌, List, [], ◌∷◌, length, get_or}
+use Rattle.std.proofs.Common.{nat_lt, refl, ap, sym, ◌∙◌, subst, arith, ltb-true, zero-add}
 use Rattle.std.proofs.Math.Nat.{div-lt_iff_lt-mul, mod-lt}
-use Rattle.std.proofs.lemmas.Int.{ints}
-use Rattle.std.proofs.lemmas.List.{get_or_past}
-use Rattle.std.proofs.lemmas.List.Elements.{All-head, All-tail}
+use Rattle.std.proofs.lemmas.{Int.ints, List.get_or_past, List.Elements.All-head, List.Elements.All-tail}
 use Rattle.std.proofs.lemmas.List.FromFn.{get_or-map-range_with_len, length-map-range_with_len}
 use Rattle.std.proofs.lemmas.Nat.{div-add-mod', div-mul-add, mod-mul-add}
 use Rattle.std.specs.List.{All}
@@ -12,10 +10,9 @@ use Rattle.cs_base.proofs.Tests.{by_test}
 use Rattle.cs_machine.proofs.Frames.{at_or_past}
 use Rattle.cs_machine.specs.Outputs.{outs}
 use Rattle.cs_row.specs.Heard.{AreSumsOf, IsSumOf, sums}
-use Rattle.cs_row.specs.Heard as row
 use Rattle.cs_voice.proofs.Columns.{all_frames, within}
-use Rattle.cs_voice.specs.Mixing.{gives, mixed, shape, sum_at}
-use Rattle.cs_voice.specs.VoiceData.{VoiceData}
+use Rattle.cs_voice.specs.{Mixing.gives, Mixing.mixed, Mixing.shape, Mixing.sum_at, VoiceData.VoiceData}
+use Rattle.cs_row.specs.Heard as row
 
 module _ (frames channels : ℕ) where
   -- voices of so many frames and channels

@@ -1,19 +1,15 @@
 -- The parts of a voice: what makes one, and what a cycle makes of it.
 use Rattle.std.proofs.Common.{◌≡◌, ℕ, ◌<◌, Bool, true, false, List, [], ◌∷◌, if◌then◌else◌, ◌∙◌, ap}
 use Rattle.std.specs.List.{AllByRecursion}
-use Rattle.cs_base.specs.declared.resource.Rate.{Rate}
-use Rattle.cs_base.specs.declared.resource.Res.{Res}
+use Rattle.cs_base.specs.{declared.resource.Rate.Rate, declared.resource.Res.Res}
 use Rattle.cs_words.specs.Catalogue.{row_of}
-use Rattle.cs_ir.specs.Registers.{rate_at}
+use Rattle.cs_ir.specs.{Registers.rate_at, declared.op.Act.Act, declared.op.Op.Op}
 use Rattle.cs_ir.specs.Resources.{Stock, act_writes, tables_within, unit_uses, writes_places, zak_uses}
-use Rattle.cs_ir.specs.declared.op.Act.{Act}
-use Rattle.cs_ir.specs.declared.op.Act.TheVariants as act
-use Rattle.cs_ir.specs.declared.op.Op.{Op}
 use Rattle.cs_cells.specs.Cells.{in_area}
-use Rattle.cs_voice_meaning.specs.Follows.{ActNamed, AreNamed, OpsNamed, Kinds}
-use Rattle.cs_voice_meaning.specs.Placing.{HasArea}
+use Rattle.cs_voice_meaning.specs.{Follows.ActNamed, Follows.AreNamed, Follows.OpsNamed, Follows.Kinds, Placing.HasArea}
 use Rattle.cs_voice_meaning.specs.Voices.{Sheet, IsUsed, IsWritten, OpsWritten, may_use, may_write}
 use Rattle.cs_machine.specs.States.{CanDo, MayTouch}
+use Rattle.cs_ir.specs.declared.op.Act.TheVariants as act
 
 -- ---- what a voice may touch lets each of its ops be done
 

@@ -3,9 +3,7 @@ use Rattle.std.proofs.Common.{◌≡◌, ℕ, zero, suc, ℤ, pos, ◌+◌, ◌-
 use Rattle.std.proofs.Common.{length, get_or, map, take, drop, replicate, slice_set, refl, sym, ◌∙◌, ap, subst, arith}
 use Rattle.std.specs.List.{flat_map, range_with_len}
 use Rattle.std.proofs.Math.Nat.{mul-le-mul}
-use Rattle.std.proofs.lemmas.Bool.{eqb-true}
-use Rattle.std.proofs.lemmas.Bool.Decides.{nat_tests}
-use Rattle.std.proofs.lemmas.Nat.{div-mul-add}
+use Rattle.std.proofs.lemmas.{Bool.eqb-true, Bool.Decides.nat_tests, Nat.div-mul-add}
 use Rattle.std.proofs.lemmas.List.{get_or-set_same, get_or-set_other, get_or-take, get_or-drop, length-take}
 use Rattle.std.proofs.lemmas.List.{length-drop, take-append-drop, ext_get_or}
 use Rattle.std.proofs.lemmas.List.FromFn.{get_or-map-range_with_len, length-map-range_with_len}
@@ -110,11 +108,9 @@ part_at row from count j low = get_or-take count (drop from row) j (pos 0) low �
 
 -- zeros are zeros
 pub zeros_have : (m k j : ℕ) → get_or (take k (replicate m (pos 0))) j (pos 0) ≡ pos 0
-zeros_have zero zero j = refl
 zeros_have zero (suc k) j = refl
-zeros_have (suc m) zero j = refl
-zeros_have (suc m) (suc k) zero = refl
 zeros_have (suc m) (suc k) (suc j) = zeros_have m k j
+zeros_have m k j = refl
 
 pub all_frames : (n : ℕ) (f : ℕ → ℕ → ℤ) (frames : ℕ) (out : List ℤ) → length out ≡ frames * n
     → ((j c : ℕ) → j < frames → c < n → place n out j c ≡ f j c)

@@ -1,49 +1,30 @@
 -- The steps of a routine, done where it is invoked: what lies there in a code, and how far the code has been done.
-use Rattle.std.proofs.Common.{◌≡◌, ◌∙◌, ◌+◌, ◌≤◌, ◌<◌, ◌++◌, ◌&&◌, ℕ, ℤ, zero, suc, Bool, true, false, List, []}
-use Rattle.std.proofs.Common.{◌∷◌, length, map, nat_le, nat_lt, slice_get, Option, Some, None, if◌then◌else◌, arith}
-use Rattle.std.proofs.Common.{refl, sym, ap, subst, ltb-true, ◌⊎◌, inl, inr}
-use Rattle.std.specs.List.{list_all}
-use Rattle.std.proofs.lemmas.Bool.{and_parts}
-use Rattle.std.proofs.lemmas.Bool.Decides.{nat_tests}
-use Rattle.std.proofs.lemmas.List.{length-map}
-use Rattle.std.proofs.lemmas.Option.{slice_get-map}
-use Rattle.std.specs.Option.{option_map}
+use Rattle.std.proofs.Common.{◌≡◌, ◌∙◌, ◌+◌, ◌≤◌, ◌<◌, ◌++◌, ◌&&◌, ℕ, ℤ, zero, suc, Bool, true, false, List, [], ◌∷◌}
+use Rattle.std.proofs.Common.{length, map, nat_le, nat_lt, slice_get, Option, Some, None, if◌then◌else◌, arith, refl}
+use Rattle.std.proofs.Common.{sym, ap, subst, ltb-true, ◌⊎◌, inl, inr}
+use Rattle.std.specs.{List.list_all, Option.option_map}
+use Rattle.std.proofs.lemmas.{Bool.and_parts, Bool.Decides.nat_tests, List.length-map, Option.slice_get-map}
 use Rattle.cs_base.proofs.Tests.{by_test}
 use Rattle.cs_ir.proofs.Places.{place_end, place_later, place_next, step_long, steps_long}
 use Rattle.cs_ir.proofs.Twice.{ops_twice, whole_ops}
-use Rattle.cs_ir.specs.Flat.{Begins, flat, flat_from, flat_step, further, moved_act, moved_op}
-use Rattle.cs_ir.specs.Flat.{moved_ops, moved_reg, no_window, ops_at, place_of, placed, size, window_of}
-use Rattle.cs_ir.specs.Registers.{rate_at}
-use Rattle.cs_ir.specs.Validity.{finds, has_register, is_fine, takes_from}
-use Rattle.cs_ir.specs.Values.{holds}
-use Rattle.cs_ir.specs.Waves.{operand}
-use Rattle.cs_ir.specs.declared.ask.Ask.{Ask}
-use Rattle.cs_ir.specs.declared.op.Act.{Act}
-use Rattle.cs_ir.specs.declared.op.Act.TheVariants as act
-use Rattle.cs_ir.specs.declared.op.Code.{Code}
-use Rattle.cs_ir.specs.declared.op.Op.{Op}
-use Rattle.cs_ir.specs.declared.register.Reg.{Reg}
-use Rattle.cs_ir.specs.declared.step.Call.{Call}
-use Rattle.cs_ir.specs.declared.step.Step.{Step}
-use Rattle.cs_ir.specs.declared.step.Step.TheVariants as step
-use Rattle.cs_machine.specs.Registers.{values}
-use Rattle.cs_machine.specs.declared.state.NoteSetting.{NoteSetting}
-use Rattle.cs_machine.specs.declared.state.State.{State}
+use Rattle.cs_ir.specs.Flat.{Begins, flat, flat_from, flat_step, further, moved_act, moved_op, moved_ops, moved_reg}
+use Rattle.cs_ir.specs.Flat.{no_window, ops_at, place_of, placed, size, window_of}
+use Rattle.cs_ir.specs.{Registers.rate_at, Validity.finds, Validity.has_register, Validity.is_fine, Validity.takes_from}
+use Rattle.cs_ir.specs.{Values.holds, Waves.operand, declared.ask.Ask.Ask, declared.op.Act.Act, declared.op.Code.Code}
+use Rattle.cs_ir.specs.{declared.op.Op.Op, declared.register.Reg.Reg, declared.step.Call.Call, declared.step.Step.Step}
+use Rattle.cs_machine.specs.{Registers.values, declared.state.NoteSetting.NoteSetting, declared.state.State.State}
 use Rattle.cs_voice_meaning.specs.Voices.{Sheet}
-use Rattle.cs_voice.specs.Codes.{CanDoHere, CanGo, CanStart, Finding, HasStarted}
-use Rattle.cs_voice.specs.Cycles.{CanRun, Context, HasRun}
-use Rattle.cs_voice.specs.Passing.{CanPass, Passes}
-use Rattle.cs_voice.specs.Ready.{CanBeDone, DoesOp, is_here}
-use Rattle.cs_voice.specs.declared.begin.StartRefusal.{StartRefusal}
-use Rattle.cs_voice.specs.declared.tables.Finds.{Finds}
-use Rattle.cs_voice.specs.inner.Coming.{AreOfNoCycle, CanDoOps, DoesOps, HasGoneOn, IsDoneTo, IsOfNoCycle}
-use Rattle.cs_voice.specs.inner.Coming.{LieFrom, Outset}
-use Rattle.cs_voice.specs.inner.Jumps.{GoesOn, is_jump, is_start}
+use Rattle.cs_voice.specs.Codes.{CanGo, CanStart, Finding, HasStarted}
+use Rattle.cs_voice.specs.{Cycles.CanRun, Cycles.Context, Cycles.HasRun, Passing.CanPass, Passing.Passes}
+use Rattle.cs_voice.specs.{Ready.CanBeDone, Ready.DoesOp, Ready.is_here, declared.begin.StartRefusal.StartRefusal}
+use Rattle.cs_voice.specs.{declared.tables.Finds.Finds, inner.Coming.Outset, inner.Jumps.GoesOn, inner.Jumps.is_start}
+use Rattle.cs_voice.specs.inner.Coming.{AreOfNoCycle, CanDoOps, DoesOps, HasGoneOn, IsDoneTo, IsOfNoCycle, LieFrom}
 use Rattle.cs_words.specs.declared.catalogue.Opcode.{Opcode}
-use Rattle.cs_voice.proofs.Fitting.{found, parts}
-use Rattle.cs_voice.proofs.Going.{all_cycle, all_passed, can_act, can_here, can_start, done_act, done_jump, done_none}
-use Rattle.cs_voice.proofs.Going.{done_start, fine_now, never}
-use Rattle.cs_voice.proofs.Passed.{none_if}
+use Rattle.cs_voice.proofs.{Fitting.found, Fitting.parts, Passed.none_if}
+use Rattle.cs_voice.proofs.Going.{CanDoHere, all_cycle, all_passed, can_act, can_here, can_start, done_act, done_jump}
+use Rattle.cs_voice.proofs.Going.{done_none, done_start, fine_now, never}
+use Rattle.cs_ir.specs.declared.op.Act.TheVariants as act
+use Rattle.cs_ir.specs.declared.step.Step.TheVariants as step
 
 -- ---- lists
 
@@ -168,6 +149,11 @@ place_last rs ss at far =
 
 -- ---- an op where it is done
 
+abbrev pub is_jump : Act → Bool
+is_jump (act.Jump to) = true
+is_jump (act.Unless to) = true
+is_jump _ = false
+
 -- of an op that is no jump the place makes no difference
 placed_same : (w : Begins) (p : ℕ) (place : ℕ → ℕ) (a : Act) → is_jump a ≡ false
     → moved_act w p (placed place a) ≡ moved_act w 0 a
@@ -183,10 +169,8 @@ here_same w p place op other =
 
 -- an op is there as one of the same kind
 moved_start : (w : Begins) (a : Act) → is_start (moved_act w 0 a) ≡ is_start a
-moved_start w (act.Start opcode u) = refl
 moved_start w act.Seek = refl
-moved_start w act.Ask = refl
-moved_start w _ = refl
+moved_start w a = refl
 
 -- ops by what they are: what only a code has that begins a note, and what is done over cells
 pub is_started : (a : Act) → ((opcode : Opcode) × (u : ℕ) × (a ≡ act.Start opcode u)) ⊎ ((a ≡ act.Seek) ⊎ (a ≡ act.Ask))
@@ -244,11 +228,33 @@ module _ {R : Type 0} (get set : R → ℕ → Type 0) {r q : R} {n m : ℕ} (re
   then_so P h = subst (λ z. P (get z) (set z) n x) rest
       (subst (λ k. P (get q) (set q) k x) long (subst (λ z. P (get q) (set q) m z) same h))
 
-module _ {R : Type 0} (get set : R → ℕ → Type 0) {r q : R} {n m : ℕ} (rest : q ≡ r) (long : m ≡ n) {at : NoteSetting}
-    {x y : Finding} (same : y ≡ x) {rs : List (List Op)} {ss : List Step} {w : Begins} {old : State}
-    {before : ℕ → ℤ} {asked : List Ask}
-    (able : CanDoOps (get r) (set r) n at x w (flat rs ss) old before asked) {i : ℕ} {now : State} {cells : ℕ → ℤ}
-    {given : List Ask} (comes : Comes (get r) (set r) n at x rs ss w old before asked i now cells given None) where
+-- Steps that can be done have been, up to one of them; over what the bank is and with what is found now the same can be
+-- done as at first.
+pub record IsAt {R : Type 0} (get set : R → ℕ → Type 0) (r q : R) (n m : ℕ) (at : NoteSetting) (x y : Finding)
+    (rs : List (List Op)) (ss : List Step) (w : Begins) (old : State) (before : ℕ → ℤ) (asked : List Ask) (i : ℕ)
+    (now : State) (cells : ℕ → ℤ) (given : List Ask) : Type 0 where
+  pub able : CanDoOps (get r) (set r) n at x w (flat rs ss) old before asked
+  pub comes : Comes (get r) (set r) n at x rs ss w old before asked i now cells given None
+  pub same : y ≡ x
+  pub long : m ≡ n
+  pub rest : q ≡ r
+
+module _ {R : Type 0} {get set : R → ℕ → Type 0} {r q : R} {n m : ℕ} {at : NoteSetting} {x y : Finding}
+    {rs : List (List Op)} {ss : List Step} {w : Begins} {old : State} {before : ℕ → ℤ} {asked : List Ask} {i : ℕ}
+    {now : State} {cells : ℕ → ℤ} {given : List Ask}
+    (here : IsAt get set r q n m at x y rs ss w old before asked i now cells given) where
+  -- it goes on
+  pub goes_on : {v : R} {k : ℕ} {z : Finding} {j : ℕ} {new : State} {after : ℕ → ℤ} {asks : List Ask} → z ≡ y → k ≡ m
+      → v ≡ q → Comes (get r) (set r) n at x rs ss w old before asked j new after asks None
+      → IsAt get set r v n k at x z rs ss w old before asked j new after asks
+  goes_on found long rest comes = record {
+    able = here.able;
+    comes = comes;
+    same = found ∙ here.same;
+    long = long ∙ here.long;
+    rest = rest ∙ here.rest;
+  }
+
   -- ---- an op
 
   module _ {op : Op} (is : slice_get ss i ≡ Some (step.Do op)) where
@@ -256,96 +262,91 @@ module _ {R : Type 0} (get set : R → ℕ → Type 0) {r q : R} {n m : ℕ} (re
     abbrev there : ℕ → Op
     there p = moved_op w p (record op { act = placed (λ to. place_of rs to ss) op.act })
 
-    done : IsDoneTo (get r) (set r) n at x able.outset (able.place + place_of rs i ss) now cells given
-    done = comes.up_to able.outset able.place able.lie able.done
+    done : IsDoneTo (get r) (set r) n at x here.able.outset (here.able.place + place_of rs i ss) now cells given
+    done = here.comes.up_to here.able.outset here.able.place here.able.lie here.able.done
 
     -- is fine there
-    fine : (end : ℕ) × (is_fine now.regs.counts end (able.place + place_of rs i ss) (there able.place) ≡ true)
-    fine = fine_now get set rest long at x able.outset (able.place + place_of rs i ss) now cells given done
-        (there able.place) (op_lies rs ss w able.outset.ops able.place able.lie i op is) able.can
+    fine : (end : ℕ) × (is_fine now.regs.counts end (here.able.place + place_of rs i ss) (there here.able.place) ≡ true)
+    fine = fine_now get set here.rest here.long done (op_lies rs ss w here.able.outset.ops here.able.place
+        here.able.lie i op is)
+        here.able.can
 
     pub reads : list_all (has_register now.regs.counts) (map (moved_reg w) op.from) ≡ true
-    reads = (parts now.regs.counts fine.0 (able.place + place_of rs i ss) (there able.place) fine.1).from
+    reads = (parts now.regs.counts fine.0 (here.able.place + place_of rs i ss) (there here.able.place) fine.1).from
 
     -- a jump goes to a later step
+    goes_later : (to : ℕ) {a : Act} → op.act ≡ a
+        → finds now.regs.counts fine.0 (here.able.place + place_of rs i ss)
+        (moved_act w here.able.place (placed (λ to. place_of rs to ss) a))
+        ≡ (nat_lt (here.able.place + place_of rs i ss) (here.able.place + place_of rs to ss)
+        && nat_le (here.able.place + place_of rs to ss) fine.0) → i < to
+    goes_later to {a} is_a jumps =
+        let far = ltb-true _ _ (and_parts (nat_lt (here.able.place + place_of rs i ss) (here.able.place + place_of rs
+        to ss))
+        (nat_le (here.able.place + place_of rs to ss) fine.0)
+        (sym jumps ∙ subst (λ b. finds now.regs.counts fine.0 (here.able.place + place_of rs i ss)
+        (moved_act w here.able.place (placed (λ to. place_of rs to ss) b)) ≡ true) is_a
+        (found now.regs.counts fine.0 (here.able.place + place_of rs i ss) (there here.able.place) fine.1))).0 in
+        place_back rs ss i to (omega (arith, far))
+
     pub jump_later : (to : ℕ) → op.act ≡ act.Jump to → i < to
-    jump_later to jump = place_back rs ss i to (by_place
-        (subst (λ a. finds now.regs.counts fine.0 (able.place + place_of rs i ss)
-        (moved_act w able.place (placed (λ to. place_of rs to ss) a)) ≡ true) jump
-        (found now.regs.counts fine.0 (able.place + place_of rs i ss) (there able.place) fine.1)))
-      where
-        by_place : (nat_lt (able.place + place_of rs i ss) (able.place + place_of rs to ss)
-            && nat_le (able.place + place_of rs to ss) fine.0) ≡ true → place_of rs i ss < place_of rs to ss
-        by_place h =
-            let far = ltb-true _ _ (and_parts (nat_lt (able.place + place_of rs i ss) (able.place + place_of rs to ss))
-            (nat_le (able.place + place_of rs to ss) fine.0) h).0 in omega (arith, far)
+    jump_later to jump = goes_later to jump refl
 
     pub unless_later : (to : ℕ) → op.act ≡ act.Unless to → i < to
-    unless_later to jump = place_back rs ss i to (by_place
-        (subst (λ a. finds now.regs.counts fine.0 (able.place + place_of rs i ss)
-        (moved_act w able.place (placed (λ to. place_of rs to ss) a)) ≡ true) jump
-        (found now.regs.counts fine.0 (able.place + place_of rs i ss) (there able.place) fine.1)))
-      where
-        by_place : (nat_lt (able.place + place_of rs i ss) (able.place + place_of rs to ss)
-            && nat_le (able.place + place_of rs to ss) fine.0) ≡ true → place_of rs i ss < place_of rs to ss
-        by_place h =
-            let far = ltb-true _ _ (and_parts (nat_lt (able.place + place_of rs i ss) (able.place + place_of rs to ss))
-            (nat_le (able.place + place_of rs to ss) fine.0) h).0 in omega (arith, far)
+    unless_later to jump = goes_later to jump refl
 
     -- a condition is one register
     pub unless_one : (to : ℕ) → op.act ≡ act.Unless to → length (map (moved_reg w) op.from) ≡ 1
     unless_one to jump = one_of (map (moved_reg w) op.from)
-        (subst (λ a. takes_from (moved_act w able.place (placed (λ to. place_of rs to ss) a)) (rate_at op.into)
+        (subst (λ a. takes_from (moved_act w here.able.place (placed (λ to. place_of rs to ss) a)) (rate_at op.into)
         (map (moved_reg w) op.from) ≡ true) jump
-        (parts now.regs.counts fine.0 (able.place + place_of rs i ss) (there able.place) fine.1).takes)
+        (parts now.regs.counts fine.0 (here.able.place + place_of rs i ss) (there here.able.place) fine.1).takes)
       where
-        one_of : (xs : List Reg) → takes_from (act.Unless (able.place + place_of rs to ss)) (rate_at op.into) xs ≡ true
+        one_of : (xs : List Reg) → takes_from (act.Unless (here.able.place + place_of rs to ss)) (rate_at op.into) xs ≡
+            true
             → length xs ≡ 1
-        one_of [] h = absurd (cc)
         one_of (y ∷ []) h = refl
-        one_of (y ∷ z ∷ ys) h = absurd (cc)
+        one_of ys h = absurd (cc)
 
     next : place_of rs (suc i) ss ≡ place_of rs i ss + 1
     next = place_next rs i ss (step.Do op) is
 
+    comes_to : (goal : ℕ) → i < goal
+        → ((p : ℕ) → GoesOn (moved_act w p (placed (λ to. place_of rs to ss) op.act))
+        (map (values now.regs) (map (moved_reg w) op.from)) (p + place_of rs i ss) (p + place_of rs goal ss))
+        → Comes (get r) (set r) n at x rs ss w old before asked goal now cells given None
+    comes_to goal later goes = record {
+      up_to = λ o p lie first.
+          done_jump get set here.rest here.long (here.comes.up_to o p lie
+          first) (op_lies rs ss w o.ops p lie i op is) (p + place_of rs goal ss)
+          (let far = place_on rs ss i goal op is later in omega (arith, far)) (goes p);
+    }
+
     pub comes_jump : (to : ℕ) → op.act ≡ act.Jump to
         → Comes (get r) (set r) n at x rs ss w old before asked to now cells given None
-    comes_jump to jump = record {
-      up_to = λ o p lie first.
-          done_jump get set rest long at x o (p + place_of rs i ss) now cells given (comes.up_to o p lie first)
-          (there p)
-          (op_lies rs ss w o.ops p lie i op is) (p + place_of rs to ss)
-          (let far = place_on rs ss i to op is (jump_later to jump) in omega (arith, far))
-          (subst (λ a. GoesOn (moved_act w p (placed (λ to. place_of rs to ss) a))
-          (map (values now.regs) (map (moved_reg w) op.from)) (p + place_of rs i ss) (p + place_of rs to ss)) (sym jump)
-          refl);
-    }
+    comes_jump to jump = comes_to to (jump_later to jump)
+        (λ p. subst (λ a. GoesOn (moved_act w p (placed (λ to. place_of rs to ss) a))
+        (map (values now.regs) (map (moved_reg w) op.from)) (p + place_of rs i ss) (p + place_of rs to ss)) (sym jump)
+        refl)
 
     comes_unless : (to goal : ℕ) → op.act ≡ act.Unless to → i < goal
         → ((p : ℕ) → p + place_of rs goal ss
         ≡ (if holds (operand 0 (map (values now.regs) (map (moved_reg w) op.from)) 0) then p + place_of rs i ss + 1
         else p + place_of rs to ss))
         → Comes (get r) (set r) n at x rs ss w old before asked goal now cells given None
-    comes_unless to goal jump later goes = record {
-      up_to = λ o p lie first.
-          done_jump get set rest long at x o (p + place_of rs i ss) now cells given (comes.up_to o p lie first)
-          (there p)
-          (op_lies rs ss w o.ops p lie i op is) (p + place_of rs goal ss)
-          (let far = place_on rs ss i goal op is later in omega (arith, far))
-          (subst (λ a. GoesOn (moved_act w p (placed (λ to. place_of rs to ss) a))
-          (map (values now.regs) (map (moved_reg w) op.from)) (p + place_of rs i ss) (p + place_of rs goal ss)) (sym
-          jump)
-          (goes p));
-    }
+    comes_unless to goal jump later goes = comes_to goal later
+        (λ p. subst (λ a. GoesOn (moved_act w p (placed (λ to. place_of rs to ss) a))
+        (map (values now.regs) (map (moved_reg w) op.from)) (p + place_of rs i ss) (p + place_of rs goal ss)) (sym
+        jump) (goes p))
 
     pub comes_held : (to : ℕ) → op.act ≡ act.Unless to
         → holds (operand 0 (map (values now.regs) (map (moved_reg w) op.from)) 0) ≡ true
         → Comes (get r) (set r) n at x rs ss w old before asked (i + 1) now cells given None
     comes_held to jump held = comes_unless to (i + 1) jump (omega arith)
         (λ p. (let one : i + 1 ≡ suc i = omega arith in
-        let here : p + place_of rs (i + 1) ss ≡ p + place_of rs i ss + 1 =
+        let behind : p + place_of rs (i + 1) ss ≡ p + place_of rs i ss + 1 =
         ap (λ k. p + place_of rs k ss) one ∙ (let e : p + place_of rs (suc i) ss ≡ p + place_of rs i ss + 1 =
-        omega (arith, next) in e) in here)
+        omega (arith, next) in e) in behind)
         ∙ sym (ap (λ b. if b then p + place_of rs i ss + 1 else p + place_of rs to ss) held))
 
     pub comes_not : (to : ℕ) → op.act ≡ act.Unless to
@@ -362,12 +363,12 @@ module _ {R : Type 0} (get set : R → ℕ → Type 0) {r q : R} {n m : ℕ} (re
           ∙ ap Some (here_same w p (λ to. place_of rs to ss) op other)
 
       can_do : CanDoHere (get q) (set q) m at x (moved_op w 0 op) now
-      can_do = can_here get set rest long at x able.outset (able.place + place_of rs i ss) now cells given done
-          (moved_op w 0 op) (lies able.outset able.place able.lie) able.can
+      can_do = can_here get set here.rest here.long done (lies here.able.outset here.able.place here.able.lie)
+          here.able.can
 
       pub can_begin : is_start op.act ≡ true → {d : Op} → d ≡ moved_op w 0 op → CanStart y d now
       can_begin st is_it = subst (λ z. CanStart y z now) (sym is_it) (subst (λ z. CanStart z (moved_op w 0 op) now)
-          (sym same)
+          (sym here.same)
           (can_start (get q) (set q) m at (moved_op w 0 op) now x (moved_start w op.act ∙ st) can_do))
 
       pub can_be_done : {d : Op} → d ≡ moved_op w 0 op → CanBeDone (get q) (set q) m at d now
@@ -377,21 +378,21 @@ module _ {R : Type 0} (get set : R → ℕ → Type 0) {r q : R} {n m : ℕ} (re
       pub comes_act : {new : State} {after : ℕ → ℤ} → is_here (moved_act w 0 op.act) ≡ true → {d : Op}
           → d ≡ moved_op w 0 op → DoesOp (get q) (set q) m at d now cells new after
           → Comes (get r) (set r) n at x rs ss w old before asked (i + 1) new after given None
-      comes_act {new} {after} here is_it does = record {
+      comes_act {new} {after} is_one is_it does = record {
         up_to = λ o p lie first.
             let one : i + 1 ≡ suc i = omega arith in
             let on : p + place_of rs i ss + 1 ≡ p + place_of rs (suc i) ss = omega (arith, next) in
             subst (λ k. IsDoneTo (get r) (set r) n at x o k new after given)
             (on ∙ ap (λ k. p + place_of rs k ss) (sym one))
-            (done_act get set rest long at x o (p + place_of rs i ss) now cells given (comes.up_to o p lie first)
-            (moved_op w 0 op) (lies o p lie) new after here
+            (done_act get set here.rest here.long (here.comes.up_to o p
+            lie first) (lies o p lie) new after is_one
             (subst (λ z. DoesOp (get q) (set q) m at z now cells new after) is_it does));
       }
 
       pub never_op : is_start op.act ≡ true → AreOfNoCycle (get r) (set r) n at x w (flat rs ss) old before asked
       never_op st = record {
-        never = λ o p lie first. never get set rest long at x o (p + place_of rs i ss) now cells
-            given (comes.up_to o p lie first) (moved_op w 0 op) (lies o p lie) (moved_start w op.act ∙ st);
+        never = λ o p lie first. never get set here.rest here.long (here.comes.up_to o p lie first) (lies o p lie)
+            (moved_start w op.act ∙ st);
       }
 
       pub gone_start : {new : State} {asks : List Ask} {refused : Option StartRefusal} → is_start op.act ≡ true
@@ -403,9 +404,9 @@ module _ {R : Type 0} (get set : R → ℕ → Type 0) {r q : R} {n m : ℕ} (re
             let on : p + place_of rs i ss + 1 ≡ p + place_of rs (suc i) ss = omega (arith, next) in
             subst (λ k. HasGoneOn (get r) (set r) n at x o k new cells asks refused)
             (on ∙ ap (λ k. p + place_of rs k ss) (sym one))
-            (done_start get set rest long at x o (p + place_of rs i ss) now cells given (comes.up_to o p lie first)
-            (moved_op w 0 op) (lies o p lie) new asks refused (moved_start w op.act ∙ st)
-            (subst (λ z. HasStarted z (moved_op w 0 op) now given new asks refused) same
+            (done_start get set here.rest here.long (here.comes.up_to o p
+            lie first) (lies o p lie) new asks refused (moved_start w op.act ∙ st)
+            (subst (λ z. HasStarted z (moved_op w 0 op) now given new asks refused) here.same
             (subst (λ z. HasStarted y z now given new asks refused) is_it started)));
       }
 
@@ -414,14 +415,14 @@ module _ {R : Type 0} (get set : R → ℕ → Type 0) {r q : R} {n m : ℕ} (re
   module _ {c : Call} (is : slice_get ss i ≡ Some (step.Invoke c)) where
     pub can_call : CanDoOps (get q) (set q) m at y (further w (window_of c)) (ops_at rs c.routine) now cells given
     can_call = record {
-      outset = able.outset;
-      place = able.place + place_of rs i ss;
-      lie = call_lies rs ss w able.outset.ops able.place able.lie i c is;
-      can = now_so get set rest long x y same
-          (λ gt st k z. CanGo gt st k at z able.outset.ops able.outset.first) able.can;
-      done = now_so get set rest long x y same
-          (λ gt st k z. IsDoneTo gt st k at z able.outset (able.place + place_of rs i ss) now cells given)
-          (comes.up_to able.outset able.place able.lie able.done);
+      outset = here.able.outset;
+      place = here.able.place + place_of rs i ss;
+      lie = call_lies rs ss w here.able.outset.ops here.able.place here.able.lie i c is;
+      can = now_so get set here.rest here.long x y here.same
+          (λ gt st k z. CanGo gt st k at z here.able.outset.ops here.able.outset.first) here.able.can;
+      done = now_so get set here.rest here.long x y here.same
+          (λ gt st k z. IsDoneTo gt st k at z here.able.outset (here.able.place + place_of rs i ss) now cells given)
+          (here.comes.up_to here.able.outset here.able.place here.able.lie here.able.done);
     }
 
     pub gone_call : {new : State} {after : ℕ → ℤ} {asks : List Ask} {refused : Option StartRefusal}
@@ -433,22 +434,24 @@ module _ {R : Type 0} (get set : R → ℕ → Type 0) {r q : R} {n m : ℕ} (re
           let next = place_next rs i ss (step.Invoke c) is in
           let on : p + place_of rs i ss + length (ops_at rs c.routine) ≡ p + place_of rs (suc i) ss =
           omega (arith, next) in
-          then_so get set rest long x y same
+          then_so get set here.rest here.long x y here.same
           (λ gt st k z. HasGoneOn gt st k at z o (p + place_of rs (i + 1) ss) new after asks refused)
           (subst (λ k. HasGoneOn (get q) (set q) m at y o k new after asks refused)
           (on ∙ ap (λ k. p + place_of rs k ss) (sym one))
           (does.goes o (p + place_of rs i ss) (call_lies rs ss w o.ops p lie i c is)
-          (now_so get set rest long x y same
-          (λ gt st k z. IsDoneTo gt st k at z o (p + place_of rs i ss) now cells given) (comes.up_to o p lie first))));
+          (now_so get set here.rest here.long x y here.same
+          (λ gt st k z. IsDoneTo gt st k at z o (p + place_of rs i ss) now cells given) (here.comes.up_to o p lie
+          first))));
     }
 
     pub never_call : AreOfNoCycle (get q) (set q) m at y (further w (window_of c)) (ops_at rs c.routine) now cells given
         → AreOfNoCycle (get r) (set r) n at x w (flat rs ss) old before asked
     never_call none = record {
-      never = λ o p lie first. then_so get set rest long x y same (λ gt st k z. IsOfNoCycle gt st k at o)
+      never = λ o p lie first. then_so get set here.rest here.long x y here.same (λ gt st k z. IsOfNoCycle gt st k at o)
           (none.never o (p + place_of rs i ss) (call_lies rs ss w o.ops p lie i c is)
-          (now_so get set rest long x y same
-          (λ gt st k z. IsDoneTo gt st k at z o (p + place_of rs i ss) now cells given) (comes.up_to o p lie first)));
+          (now_so get set here.rest here.long x y here.same
+          (λ gt st k z. IsDoneTo gt st k at z o (p + place_of rs i ss) now cells given) (here.comes.up_to o p lie
+          first)));
     }
 
 -- ---- ends

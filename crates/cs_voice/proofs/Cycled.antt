@@ -1,51 +1,29 @@
 -- What a cycle makes of the parts of a voice.
-use Rattle.std.proofs.Common.{◌≡◌, ℕ, zero, suc, ℤ, pos, ◌-◌, ◌<◌, List, [], ◌∷◌, length, map, slice_index_or, Option}
-use Rattle.std.proofs.Common.{None, refl, sym, ◌∙◌, ap, subst, arith}
-use Rattle.std.specs.List.{AllByRecursion, range_with_len}
-use Rattle.std.specs.Option.{option_map}
-use Rattle.std.proofs.lemmas.List.{length-map, ext_get_or}
-use Rattle.std.proofs.lemmas.List.FromFn.{length-map-range_with_len}
+use Rattle.std.proofs.Common.{◌≡◌, ℕ, ℤ, pos, ◌-◌, ◌<◌, List, [], length, map, Option, None, refl, sym, ◌∙◌, ap, subst}
+use Rattle.std.proofs.Common.{arith}
+use Rattle.std.specs.{List.AllByRecursion, List.range_with_len, Option.option_map}
+use Rattle.std.proofs.lemmas.{List.length-map, List.ext_get_or, List.FromFn.length-map-range_with_len}
 use Rattle.cs_signal.specs.Operands.{argument}
-use Rattle.cs_ir.specs.Machine.{Machine, run}
-use Rattle.cs_ir.specs.Waves.{silence}
-use Rattle.cs_ir.specs.declared.op.Code.{Code}
-use Rattle.cs_ir.specs.declared.op.Op.{Op}
-use Rattle.cs_cells.specs.Cells.{Cells, cell}
-use Rattle.cs_cells.specs.Meaning.{Uses, Writes}
-use Rattle.cs_cells.specs.declared.footprint.Area.{Area}
+use Rattle.cs_ir.specs.{Machine.Machine, Machine.run, Waves.silence, declared.op.Code.Code, declared.op.Op.Op}
+use Rattle.cs_cells.specs.{Cells.Cells, Cells.cell, Meaning.Uses, Meaning.Writes, declared.footprint.Area.Area}
 use Rattle.cs_cells.specs.declared.footprint.Footprint.{Footprint}
-use Rattle.cs_machine.specs.Outputs.{ChannelFile, outs, refilled}
-use Rattle.cs_machine.specs.Registers.{RegisterFile, filled, values}
-use Rattle.cs_machine.specs.Rows.{row_of}
-use Rattle.cs_machine.specs.Access.{AreSpaces, spaces_of}
-use Rattle.cs_machine.specs.Players.{PlayerData, playing}
-use Rattle.cs_voice_meaning.specs.Placing.{HasArea, IsPlaced}
-use Rattle.cs_voice_meaning.specs.VoiceWorld.{VoiceState, voice_world}
-use Rattle.cs_voice_meaning.specs.Voices.{begins, cycle, performed, voice_of}
-use Rattle.cs_voice_meaning.proofs.FrameLaw.{voice_frames}
-use Rattle.cs_voice_meaning.proofs.OnAllCells.{performed_on_all, left_on_all}
-use Rattle.cs_voice_meaning.specs.Follows.{OpsNamed}
+use Rattle.cs_machine.specs.{Outputs.ChannelFile, Outputs.outs, Outputs.refilled, Registers.RegisterFile}
+use Rattle.cs_machine.specs.{Registers.filled, Registers.values, Rows.row_of, Access.AreSpaces, Access.spaces_of}
+use Rattle.cs_machine.specs.{Players.PlayerData, Players.playing, States.CanDo, States.IsStateIn, States.machine_of}
+use Rattle.cs_machine.specs.{States.unit_at, declared.state.State.State, declared.state.NoteSetting.NoteSetting}
+use Rattle.cs_voice_meaning.specs.{Placing.HasArea, Placing.IsPlaced, VoiceWorld.VoiceState, VoiceWorld.voice_world}
+use Rattle.cs_voice_meaning.specs.{Voices.begins, Voices.cycle, Voices.performed, Voices.voice_of, Follows.OpsNamed}
+use Rattle.cs_voice_meaning.proofs.{FrameLaw.voice_frames, OnAllCells.performed_on_all, OnAllCells.left_on_all}
 use Rattle.cs_typed.specs.TypedTree.{header_of_head}
-use Rattle.cs_machine.specs.States.{CanDo, IsStateIn, machine_of, unit_at}
-use Rattle.cs_machine.specs.declared.state.State.{State}
-use Rattle.cs_machine.specs.declared.state.NoteSetting.{NoteSetting}
-use Rattle.cs_voice.specs.declared.stage.Stage.{Stage}
+use Rattle.cs_voice.specs.{declared.stage.Stage.Stage, Memory.IsKept, Memory.voice_in, inner.Rooms.listed_at}
 use Rattle.cs_voice.specs.Cycles.{CanRun, Context, HasRun}
-use Rattle.cs_voice.specs.Memory.{IsKept, voice_in}
 use Rattle.cs_voice.specs.VoiceData.{VoiceData, piece_of, sheet_of, sounding, taking, units_in}
 use Rattle.cs_voice.specs.VoiceMeaning.{after, leaves, voice_job}
-use Rattle.cs_voice.proofs.Bodies.{all_areas, can_all}
-use Rattle.cs_voice.specs.inner.Rooms.{listed_at}
+use Rattle.cs_voice.proofs.{Began.units_as, Bodies.all_areas, Bodies.can_all}
 
 -- the units of a list of players
 pub units_are : (ps : List (Option PlayerData)) → units_in (map (option_map playing) ps) ≡ unit_at ps
-units_are ps = λ t u. at ps u t
-  where
-    at : (ps : List (Option PlayerData)) (u : ℕ)
-        → slice_index_or (map (option_map playing) ps) u None ≡ option_map playing (slice_index_or ps u None)
-    at [] u = refl
-    at (p ∷ ps) zero = refl
-    at (p ∷ ps) (suc u) = at ps u
+units_are ps = λ t u. units_as ps u t
 
 listed_units : (ps : List (Option PlayerData)) (n : ℕ) → length ps ≡ n
     → map (unit_at ps) (range_with_len 0 n) ≡ map (option_map playing) ps

@@ -1,29 +1,20 @@
 -- What an op of a valid code has: its registers, as many operands as its act takes, and their rates.
-use Rattle.std.proofs.Common.{◌≡◌, ℕ, Bool, true, false, not, ◌&&◌, ◌||◌, List, [], ◌∷◌, refl, sym, ◌∙◌}
-use Rattle.std.proofs.Common.{ap, subst, ℤ, ◌+◌, ◌<◌, ◌++◌, length, map, take, slice_get, Some}
+use Rattle.std.proofs.Common.{◌≡◌, ℕ, Bool, true, false, not, ◌&&◌, ◌||◌, List, [], ◌∷◌, refl, sym, ◌∙◌, ap, subst, ℤ}
+use Rattle.std.proofs.Common.{◌+◌, ◌<◌, ◌++◌, length, map, take, slice_get, Some}
 use Rattle.std.specs.List.{list_all}
-use Rattle.std.proofs.lemmas.Bool.{and_parts}
-use Rattle.std.proofs.lemmas.List.{map-append, map_more}
+use Rattle.std.proofs.lemmas.{Bool.and_parts, List.map-append, List.map_more}
 use Rattle.std.proofs.lemmas.Option.{get_or_from_slice_get, slice_get_within}
 use Rattle.cs_base.specs.declared.resource.Rate.{Rate}
 use Rattle.cs_words.specs.declared.catalogue.Opcode.{Opcode}
 use Rattle.cs_ir.proofs.RegisterKinds.{all_small, there_small}
-use Rattle.cs_ir.specs.Flat.{is_small, moved_act}
-use Rattle.cs_ir.specs.Placed.{there}
-use Rattle.cs_ir.specs.Registers.{rate_at}
+use Rattle.cs_ir.specs.{Flat.is_small, Flat.moved_act, Placed.there, Registers.rate_at, Waves.Wave, Waves.first_values}
+use Rattle.cs_ir.specs.{declared.op.Act.Act, declared.op.Op.Op, declared.op.Reach.Reach}
+use Rattle.cs_ir.specs.{declared.register.Counts.Counts, declared.register.Reg.Reg, declared.window.OpAt.OpAt}
 use Rattle.cs_ir.specs.Validity.{finds, has_register, is_fine, takes_from, writes}
-use Rattle.cs_ir.specs.Waves.{Wave, first_values}
-use Rattle.cs_ir.specs.declared.op.Act.{Act}
-use Rattle.cs_ir.specs.declared.op.Act.TheVariants as act
-use Rattle.cs_ir.specs.declared.op.Op.{Op}
-use Rattle.cs_ir.specs.declared.op.Reach.{Reach}
-use Rattle.cs_ir.specs.declared.register.Counts.{Counts}
-use Rattle.cs_ir.specs.declared.register.Reg.{Reg}
-use Rattle.cs_ir.specs.declared.window.OpAt.{OpAt}
 use Rattle.cs_machine.specs.declared.state.NoteSetting.{NoteSetting}
-use Rattle.cs_machine.specs.declared.state.State.{State}
-use Rattle.cs_machine.specs.States.{DoesAnywhere, DoesAt}
+use Rattle.cs_machine.specs.{declared.state.State.State, States.DoesAnywhere, States.DoesAt}
 use Rattle.cs_voice.specs.Ready.{IsFit}
+use Rattle.cs_ir.specs.declared.op.Act.TheVariants as act
 
 -- ---- the parts of what is fine
 
@@ -93,16 +84,8 @@ is_bare (act.Load g) = true
 is_bare _ = false
 
 pub no_operands : (a : Act) (r : Rate) (xs : List Reg) → is_bare a ≡ true → takes_from a r xs ≡ true → xs ≡ []
-no_operands (act.Const n) r [] b h = refl
-no_operands (act.Const n) r (x ∷ xs) b h = absurd (cc)
-no_operands (act.Field k) r [] b h = refl
-no_operands (act.Field k) r (x ∷ xs) b h = absurd (cc)
-no_operands (act.Head n) r [] b h = refl
-no_operands (act.Head n) r (x ∷ xs) b h = absurd (cc)
-no_operands act.Turnoff r [] b h = refl
-no_operands act.Turnoff r (x ∷ xs) b h = absurd (cc)
-no_operands (act.Load g) r [] b h = refl
-no_operands (act.Load g) r (x ∷ xs) b h = absurd (cc)
+no_operands a r [] b h = refl
+no_operands (act.Const n) r xs b h = absurd (cc)
 no_operands a r xs b h = absurd (cc)
 
 -- ---- an op where it is done
@@ -116,18 +99,18 @@ pub unit_there : (o : OpAt) (n : ℕ) {opcode : Opcode} {u : ℕ} {reach : Reach
 unit_there o n {opcode} {u} {reach} is counted = acts_there o is ∙ ap (λ k. act.Unit opcode k reach) (sym counted)
 
 -- the registers that it names are there, so that their numbers have 32 bits
-pub reads_there : (o : Op) (s : State) → IsFit o s → list_all (has_register s.regs.counts) o.from ≡ true
-reads_there o s fit = (parts s.regs.counts fit.end fit.place o fit.fine).from
+module _ {o : Op} {s : State} (fit : IsFit o s) where
+  pub reads_there : list_all (has_register s.regs.counts) o.from ≡ true
+  reads_there = (parts s.regs.counts fit.end fit.place o fit.fine).from
 
-pub reads_small : (o : Op) (s : State) → IsFit o s → list_all is_small o.from ≡ true
-reads_small o s fit = all_small s.regs.counts o.from (reads_there o s fit)
+  pub reads_small : list_all is_small o.from ≡ true
+  reads_small = all_small s.regs.counts o.from reads_there
 
-pub writes_there : (o : Op) (s : State) (a : Act) → IsFit o s → o.act ≡ a → writes a ≡ true
-    → has_register s.regs.counts o.into ≡ true
-writes_there o s a fit e w = (parts s.regs.counts fit.end fit.place o fit.fine).into (ap writes e ∙ w)
+  pub writes_there : {a : Act} → o.act ≡ a → writes a ≡ true → has_register s.regs.counts o.into ≡ true
+  writes_there e w = (parts s.regs.counts fit.end fit.place o fit.fine).into (ap writes e ∙ w)
 
-pub writes_small : (o : Op) (s : State) (a : Act) → IsFit o s → o.act ≡ a → writes a ≡ true → is_small o.into ≡ true
-writes_small o s a fit e w = there_small s.regs.counts o.into (writes_there o s a fit e w)
+  pub writes_small : {a : Act} → o.act ≡ a → writes a ≡ true → is_small o.into ≡ true
+  writes_small e w = there_small s.regs.counts o.into (writes_there e w)
 
 -- one register that it reads more
 pub one_read : (f : Reg → Wave) (xs : List Reg) (i : ℕ) (q : Reg) (before after : List ℤ) → slice_get xs i ≡ Some q
@@ -142,17 +125,16 @@ one_read f xs i q before after at was grown =
 
 -- ---- an op that does an act
 
-pub does_at : (at : NoteSetting) (o : Op) (b : Act) (into : Reg) (ys : List Reg) (old new : State) → o.act ≡ b
-    → into ≡ o.into → o.from ≡ ys → DoesAt at b into ys old new → DoesAt at o.act o.into o.from old new
-does_at at o b into ys old new e g f h =
-    subst (λ d. DoesAt at d o.into o.from old new) (sym e)
-    (subst (λ l. DoesAt at b o.into l old new) (sym f) (subst (λ q. DoesAt at b q ys old new) g h))
+pub does_at : {at : NoteSetting} {a b : Act} {into q : Reg} {xs ys : List Reg} {old new : State} → a ≡ b → into ≡ q
+    → xs ≡ ys → DoesAt at b into ys old new → DoesAt at a q xs old new
+does_at {at} {a} {b} {into} {q} {xs} {ys} {old} {new} e g f h =
+    subst (λ d. DoesAt at d q xs old new) (sym e)
+    (subst (λ l. DoesAt at b q l old new) (sym f) (subst (λ z. DoesAt at b z ys old new) g h))
 
-pub does_anywhere : (at : NoteSetting) (o : Op) (b : Act) (into : Reg) (ys : List Reg) (old new : State) → o.act ≡ b
-    → into ≡ o.into → o.from ≡ ys → DoesAnywhere b into ys old new → DoesAt at o.act o.into o.from old new
-does_anywhere at o b into ys old new e g f h =
-    does_at at o b into ys old new e g f
-    (λ areas piece kinds counts cells setting state. h areas piece kinds counts cells state)
+pub does_anywhere : {at : NoteSetting} {a b : Act} {q : Reg} {xs ys : List Reg} {old new : State} → a ≡ b → xs ≡ ys
+    → DoesAnywhere b q ys old new → DoesAt at a q xs old new
+does_anywhere {at} {a} {b} {q} {xs} {ys} {old} {new} e f h =
+    does_at e refl f (λ areas piece kinds counts cells setting state. h areas piece kinds counts cells state)
 
 -- an op whose act is known takes what the act takes
 pub takes_as : (op : Op) (a : Act) → op.act ≡ a → takes_from op.act (rate_at op.into) op.from ≡ true
@@ -160,7 +142,7 @@ pub takes_as : (op : Op) (a : Act) → op.act ≡ a → takes_from op.act (rate_
 takes_as op a e h = ap (λ b. takes_from b (rate_at op.into) op.from) (sym e) ∙ h
 
 -- an op whose act takes no operand has none
-pub bare_from : (op : Op) (s : State) (a : Act) → IsFit op s → op.act ≡ a → is_bare a ≡ true → op.from ≡ []
-bare_from op s a fit e b =
+pub bare_from : {op : Op} {s : State} {a : Act} → IsFit op s → op.act ≡ a → is_bare a ≡ true → op.from ≡ []
+bare_from {op} {s} {a} fit e b =
     no_operands a (rate_at op.into) op.from b (takes_as op a e (parts s.regs.counts fit.end fit.place op
     fit.fine).takes)

@@ -1,35 +1,34 @@
 -- A code that is done from place to place, in a control cycle or as a note begins.
-use Rattle.std.proofs.Common.{◌≡◌, ℕ, ℤ, ◌+◌, ◌<◌, ◌≤◌, inl, inr, Bool, true, List, length}
-use Rattle.std.proofs.Common.{map, slice_get, Option, Some, None, refl, sym, ◌∙◌, ap, subst, arith}
-use Rattle.cs_ir.specs.Cycles.{is_of_cycle}
-use Rattle.cs_ir.specs.Validity.{is_fine}
-use Rattle.cs_ir.specs.declared.ask.Ask.{Ask}
-use Rattle.cs_ir.specs.declared.op.Act.{Act}
-use Rattle.cs_ir.specs.declared.op.Act.TheVariants as act
-use Rattle.cs_ir.specs.declared.op.Code.{Code}
-use Rattle.cs_ir.specs.declared.op.Op.{Op}
-use Rattle.cs_machine.specs.Registers.{values}
-use Rattle.cs_machine.specs.declared.state.NoteSetting.{NoteSetting}
-use Rattle.cs_machine.specs.declared.state.State.{State}
+use Rattle.std.proofs.Common.{◌≡◌, ℕ, ℤ, ◌+◌, ◌<◌, ◌≤◌, ◌⊎◌, inl, inr, Bool, true, List, length, map, slice_get, Option}
+use Rattle.std.proofs.Common.{Some, None, refl, sym, ◌∙◌, ap, subst, arith}
+use Rattle.cs_ir.specs.{Cycles.is_of_cycle, Validity.is_fine, declared.ask.Ask.Ask, declared.op.Act.Act}
+use Rattle.cs_ir.specs.{declared.op.Code.Code, declared.op.Op.Op}
+use Rattle.cs_machine.specs.{Registers.values, declared.state.NoteSetting.NoteSetting, declared.state.State.State}
 use Rattle.cs_voice_meaning.specs.Voices.{Sheet}
-use Rattle.cs_voice.specs.Codes.{CanDoHere, CanGo, CanStart, Finding, HasStarted}
-use Rattle.cs_voice.specs.Cycles.{CanRun, CanStep, Context, HasRun}
-use Rattle.cs_voice.specs.Passing.{CanDoOp, CanPass, IsDone, Passes}
-use Rattle.cs_voice.specs.Ready.{CanBeDone, DoesOp, is_here}
-use Rattle.cs_voice.specs.declared.begin.StartRefusal.{StartRefusal}
-use Rattle.cs_voice.specs.declared.tables.Finds.{Finds}
+use Rattle.cs_voice.specs.{Codes.CanGo, Codes.CanStart, Codes.Finding, Codes.HasStarted, Cycles.CanRun, Cycles.Context}
+use Rattle.cs_voice.specs.{Cycles.HasRun, Passing.CanPass, Passing.IsDone, Passing.Passes, Ready.CanBeDone}
+use Rattle.cs_voice.specs.{Ready.DoesOp, Ready.is_here, declared.begin.StartRefusal.StartRefusal}
+use Rattle.cs_voice.specs.{declared.tables.Finds.Finds, inner.Jumps.GoesOn, inner.Jumps.is_start}
 use Rattle.cs_voice.specs.inner.Coming.{HasGoneOn, IsDoneTo, IsOfNoCycle, Outset}
-use Rattle.cs_voice.specs.inner.Jumps.{GoesOn, is_start}
-use Rattle.cs_voice.proofs.Ops.{fine_here}
+use Rattle.cs_voice.proofs.{Ops.fine_here, Passed.CanDoOp, Steps.CanStep}
+use Rattle.cs_ir.specs.declared.op.Act.TheVariants as act
 use Rattle.cs_voice.proofs.Passed as passed
 use Rattle.cs_voice.proofs.Steps as steps
 
+-- an op of a code that can be done can be, as one of a sheet that begins or as one of a control cycle
+abbrev pub CanDoBy : (get set : ℕ → Type 0) → ℕ → NoteSetting → Finding → Op → State → Type 0
+CanDoBy get set count at None op now = ⊥
+CanDoBy get set count at (Some f) op now = (s : Sheet) × (f.0.at ≡ at) × CanDoOp get set count f.0 f.1 op s now
+
+abbrev pub CanDoHere : (get set : ℕ → Type 0) → ℕ → NoteSetting → Finding → Op → State → Type 0
+CanDoHere get set count at finding op now =
+    ((c : Context) × (end : ℕ) × (place : ℕ) × CanStep get set count at c end place op now)
+    ⊎ CanDoBy get set count at finding op now
+
 -- a cycle starts nothing, looks for no table and asks for nothing
 pub starts_not : (t : Act) → is_of_cycle t ≡ true → is_start t ≡ true → ⊥
-starts_not (act.Start o u) h s = absurd cc
 starts_not act.Seek h s = absurd cc
-starts_not act.Ask h s = absurd cc
-starts_not _ h s = absurd cc
+starts_not t h s = absurd cc
 
 -- ---- one op
 
@@ -42,48 +41,32 @@ module _ (get set : ℕ → Type 0) (count : ℕ) (at : NoteSetting) (op : Op) (
       (s, record { found = h.begin.found; playable = h.begin.playable; fine = h.fine; state = h.begin.state })
 
   pub can_act : (finding : Finding) → CanDoHere get set count at finding op now → CanBeDone get set count at op now
-  can_act finding (inl (c, end, place, h)) = steps.can_be_done get set count at c now end place op h
+  can_act finding (inl (c, end, place, h)) = steps.can_be_done h
   can_act None (inr h) = absurd h
-  can_act (Some f) (inr (s, same, h)) =
-      subst (λ x. CanBeDone get set count x op now) same
-      (passed.can_be_done get set count f.0 f.1 s h.begin.found h.begin.gets h.begin.sets h.begin.long op now h.fine
-      h.begin.state h.begin.playable)
-
-  -- what was done by the acts over cells
-  pub acted : (f : Finds) (ms : List Bool) (s : Sheet) (new : State) (before after : ℕ → ℤ) (asked : List Ask)
-      → f.at ≡ at
-      → CanDoOp get set count f ms op s now → is_here op.act ≡ true → DoesOp get set count at op now before new after
-      → IsDone s op now before asked new after asked None
-  acted f ms s new before after asked same h here does =
-      passed.done_here get set count f ms s h.begin.found h.begin.gets h.begin.sets h.begin.long op now h.fine
-      h.begin.state h.begin.playable here
-      new before after asked (subst (λ x. DoesOp get set count x op now before new after) (sym same) does)
+  can_act (Some f) (inr (s, same, h)) = subst (λ x. CanBeDone get set count x op now) same (passed.can_be_done h)
 
 -- ---- a code
 
-module _ {R : Type 0} (get set : R → ℕ → Type 0) {r q : R} {n m : ℕ} (rest : q ≡ r) (long : m ≡ n) (at : NoteSetting)
-    (finding : Finding) (o : Outset) (place : ℕ) (now : State) (cells : ℕ → ℤ) (given : List Ask)
+module _ {R : Type 0} (get set : R → ℕ → Type 0) {r q : R} {n m : ℕ} (rest : q ≡ r) (long : m ≡ n) {at : NoteSetting}
+    {finding : Finding} {o : Outset} {place : ℕ} {now : State} {cells : ℕ → ℤ} {given : List Ask}
     (done : IsDoneTo (get r) (set r) n at finding o place now cells given)
-    (op : Op) (is : slice_get o.ops place ≡ Some op) where
+    {op : Op} (is : slice_get o.ops place ≡ Some op) where
   -- the op there can be done in a cycle, over what the bank was and over what it is
   step_first : (c : Context) → CanRun (get r) (set r) n at c o.ops o.first
       → CanStep (get r) (set r) n at c (length o.ops) place op now
-  step_first c can = steps.can_step (get r) (set r) n at c o.ops now place op
-      (steps.can_go_on (get r) (set r) n at c o.ops o.first now can (done.cycle c can).state) is
+  step_first c can = steps.can_step (steps.can_go_on can (done.cycle c can).state) is
 
   step_now : (c : Context) → CanRun (get r) (set r) n at c o.ops o.first
       → CanStep (get q) (set q) m at c (length o.ops) place op now
-  step_now c can = steps.can_step (get q) (set q) m at c o.ops now place op
-      (steps.runs_again get set r q n m rest long at c o.ops now
-      (steps.can_go_on (get r) (set r) n at c o.ops o.first now can (done.cycle c can).state)) is
+  step_now c can =
+      steps.can_step (steps.runs_again get set rest long (steps.can_go_on can (done.cycle c can).state)) is
 
   -- and as one of a sheet that begins
   op_now : (f : Finds) (ms : List Bool) (code : Code) (s : Sheet) → finding ≡ Some (f, ms) → f.at ≡ at
       → code.ops ≡ o.ops
       → CanPass (get r) (set r) n f ms code s o.first → CanDoOp (get q) (set q) m f ms op s now
   op_now f ms code s found same eq can =
-      passed.able_again get set r q n m f ms code s o.first o.before o.asked place now cells given op rest long can
-      (done.passes f ms code s found same eq can)
+      passed.able_again (done.passes f ms code s found same eq can) get set rest long can
       (ap (λ xs. slice_get xs place) eq ∙ is)
 
   pub can_here : CanGo (get r) (set r) n at finding o.ops o.first → CanDoHere (get q) (set q) m at finding op now
@@ -114,11 +97,9 @@ module _ {R : Type 0} (get set : R → ℕ → Type 0) {r q : R} {n m : ℕ} (re
   pub done_jump : (to : ℕ) → place < to → GoesOn op.act (map (values now.regs) op.from) place to
       → IsDoneTo (get r) (set r) n at finding o to now cells given
   done_jump to later on = record {
-    cycle = λ c can. steps.came_on at.layout.now c o.ops o.first o.before place to op now now cells cells is later
-        (done.cycle c can)
-        (steps.jump_step (get r) (set r) n at c now (length o.ops) place op (step_first c can) cells to on);
-    passes = λ f ms code s found same eq can. passed.passed_jump s o.first o.before o.asked place to now cells given op
-        (done.passes f ms code s found same eq can) (ap (λ xs. slice_get xs place) (can.same ∙ eq) ∙ is) later on;
+    cycle = λ c can. steps.came_on (done.cycle c can) is later (steps.jump_step (step_first c can) cells to on);
+    passes = λ f ms code s found same eq can. passed.passed_jump (done.passes f ms code s found same eq can) to op
+        (ap (λ xs. slice_get xs place) (can.same ∙ eq) ∙ is) later on;
   }
 
   -- an op that was done over cells
@@ -126,14 +107,11 @@ module _ {R : Type 0} (get set : R → ℕ → Type 0) {r q : R} {n m : ℕ} (re
       → DoesOp (get q) (set q) m at op now cells new after
       → IsDoneTo (get r) (set r) n at finding o (place + 1) new after given
   done_act new after here does = record {
-    cycle = λ c can. steps.came_on at.layout.now c o.ops o.first o.before place (place + 1) op now new cells after is
-        (omega arith) (done.cycle c can)
-        (steps.does_step (get q) (set q) m at c now (length o.ops) place op (step_now c can) cells new after does);
-    passes = λ f ms code s found same eq can. passed.passed_one s o.first o.before o.asked place now new cells after
-        given given op can.begin.playable (done.passes f ms code s found same eq can)
-        (ap (λ xs. slice_get xs place) (can.same ∙ eq) ∙ is)
-        (acted (get q) (set q) m at op now f ms s new cells after given same
-        (op_now f ms code s found same eq can) here does);
+    cycle = λ c can. steps.came_on (done.cycle c can) is (omega arith) (steps.does_step (step_now c can) does);
+    passes = λ f ms code s found same eq can. passed.passed_one (done.passes f ms code s found same eq can)
+        can.begin.playable (ap (λ xs. slice_get xs place) (can.same ∙ eq) ∙ is)
+        (passed.done_here (op_now f ms code s found same eq can) here
+        (subst (λ x. DoesOp (get q) (set q) m x op now cells new after) (sym same) does));
   }
 
   -- one that only a code has that begins a note is in no control cycle
@@ -164,14 +142,13 @@ module _ {R : Type 0} (get set : R → ℕ → Type 0) {r q : R} {n m : ℕ} (re
           → HasGoneOn (get r) (set r) n at finding o (place + 1) new cells asks x
       by None did = record {
         cycle = λ c can. absurd (never st c can);
-        passes = λ f ms code s found same eq can. passed.passed_one s o.first o.before o.asked place now new cells
-            cells given asks op can.begin.playable (done.passes f ms code s found same eq can)
-            (ap (λ xs. slice_get xs place) (can.same ∙ eq) ∙ is) (did f ms code s found same eq can);
+        passes = λ f ms code s found same eq can. passed.passed_one (done.passes f ms code s found same eq can)
+            can.begin.playable (ap (λ xs. slice_get xs place) (can.same ∙ eq) ∙ is)
+            (did f ms code s found same eq can);
       }
       by (Some x) did = record {
         cycle = never st;
-        passes = λ f ms code s found same eq can. passed.passed_refused s o.first o.before o.asked place now new cells
-            cells given asks op x (done.passes f ms code s found same eq can)
+        passes = λ f ms code s found same eq can. passed.passed_refused (done.passes f ms code s found same eq can)
             (ap (λ xs. slice_get xs place) (can.same ∙ eq) ∙ is) (did f ms code s found same eq can);
       }
 
@@ -191,7 +168,7 @@ module _ (get set : ℕ → Type 0) (count : ℕ) (at : NoteSetting) (finding : 
       → (c : Context) → CanRun get set count at c o.ops o.first
       → (refused ≡ None) × HasRun at.layout.now c o.ops o.first o.before now cells
   all_cycle place now cells given None far done c can =
-      (refl, steps.ended at.layout.now c o.ops o.first o.before place now cells far (done.cycle c can))
+      (refl, steps.ended (done.cycle c can) far)
   all_cycle place now cells given (Some x) far done c can = absurd (done.cycle c can)
 
   pub all_passed : (place : ℕ) (now : State) (cells : ℕ → ℤ) (given : List Ask) (refused : Option StartRefusal)
@@ -200,7 +177,7 @@ module _ (get set : ℕ → Type 0) (count : ℕ) (at : NoteSetting) (finding : 
       → code.ops ≡ o.ops → CanPass get set count f ms code s o.first
       → Passes s o.first o.before o.asked now cells given refused
   all_passed place now cells given None far done f ms code s found same eq can =
-      passed.passed_all s o.first o.before o.asked place now cells given (done.passes f ms code s found same eq can)
+      passed.passed_all (done.passes f ms code s found same eq can)
       (let e : length s.init ≡ length o.ops = ap length (can.same ∙ eq) in omega (arith, far, e))
   all_passed place now cells given (Some x) far done f ms code s found same eq can =
       done.passes f ms code s found same eq can

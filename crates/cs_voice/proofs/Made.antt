@@ -3,27 +3,17 @@ use Rattle.std.proofs.Common.{◌≡◌, ℕ, ℤ, pos, List, [], Option, Some, 
 use Rattle.std.specs.Option.{option_map}
 use Rattle.std.proofs.lemmas.List.{length-map}
 use Rattle.cs_base.specs.declared.resource.Rate.{Rate}
-use Rattle.cs_words.specs.declared.catalogue.Opcode.{Opcode}
-use Rattle.cs_ir.specs.Resources.{Stock}
-use Rattle.cs_ir.specs.declared.op.Code.{Code}
-use Rattle.cs_ir.specs.declared.register.Counts.{Counts}
-use Rattle.cs_cells.specs.declared.footprint.Area.{Area}
-use Rattle.cs_cells.specs.declared.footprint.Footprint.{Footprint}
-use Rattle.cs_words.specs.Generators.{Generators}
+use Rattle.cs_words.specs.{declared.catalogue.Opcode.Opcode, Generators.Generators}
+use Rattle.cs_ir.specs.{Resources.Stock, declared.op.Code.Code, declared.register.Counts.Counts}
+use Rattle.cs_cells.specs.{declared.footprint.Area.Area, declared.footprint.Footprint.Footprint}
 use Rattle.cs_meaning.specs.Pieces.{Piece, Table, find_table}
-use Rattle.cs_machine.specs.Outputs.{outs, refilled}
-use Rattle.cs_machine.specs.Registers.{filled, values}
-use Rattle.cs_machine.specs.Players.{PlayerData, playing}
-use Rattle.cs_voice_meaning.specs.Follows.{Kinds}
+use Rattle.cs_machine.specs.{Outputs.outs, Outputs.refilled, Registers.filled, Registers.values, Players.PlayerData}
+use Rattle.cs_machine.specs.{Players.playing, States.IsPlayerOf, States.IsStateIn, declared.state.State.State}
+use Rattle.cs_voice_meaning.specs.{Follows.Kinds, Voices.Sheet, Voices.IsPlayable}
 use Rattle.cs_voice_meaning.specs.Placing.{IsPlaced, IsTablePlaced}
-use Rattle.cs_voice_meaning.specs.Voices.{Sheet, IsPlayable}
-use Rattle.cs_machine.specs.States.{IsPlayerOf, IsStateIn}
-use Rattle.cs_machine.specs.declared.state.State.{State}
-use Rattle.cs_voice.specs.declared.stage.Stage.{Stage}
-use Rattle.cs_voice.specs.Memory.{IsKept, MakeVoice, voice_in}
+use Rattle.cs_voice.specs.{declared.stage.Stage.Stage, Memory.IsKept, Memory.MakeVoice, Memory.voice_in}
 use Rattle.cs_voice.specs.VoiceData.{VoiceData, made, piece_of, sheet_of}
-use Rattle.cs_voice.proofs.Sheets.{all_made, find_made}
-use Rattle.cs_voice.proofs.Voices.{own_sheet, its_own}
+use Rattle.cs_voice.proofs.{Sheets.all_made, Sheets.find_made, Voices.own_sheet, Voices.its_own}
 
 -- a table that is found once all have been made was there before
 made_before : (P : Table → Type 0) (o : Option Table) (t : Table) → option_map made o ≡ Some t

@@ -1,48 +1,31 @@
 -- What is so of each op of the code that begins a note.
-use Rattle.std.proofs.Common.{◌≡◌, ℕ, zero, suc, ◌+◌, ◌<◌, ◌≤◌, Bool, true, false, not, ◌&&◌, ◌||◌, List, [], ◌∷◌}
-use Rattle.std.proofs.Common.{length, nat_lt, nat_le, slice_get, Some, if◌then◌else◌, sym, ◌∙◌, ap, subst, arith}
-use Rattle.std.specs.List.{list_all, AllByRecursion}
-use Rattle.std.proofs.lemmas.Bool.{and_parts}
-use Rattle.std.proofs.lemmas.Bool.Decides.{nat_tests}
-use Rattle.cs_ir.specs.Registers.{rate_at}
+use Rattle.std.proofs.Common.{◌≡◌, ℕ, zero, suc, ◌+◌, ◌<◌, ◌≤◌, Bool, true, false, List, [], ◌∷◌, length, nat_lt}
+use Rattle.std.proofs.Common.{nat_le, slice_get, Some, if◌then◌else◌, sym, ◌∙◌, ap, subst, arith}
+use Rattle.std.specs.List.{AllByRecursion}
+use Rattle.std.proofs.lemmas.{Bool.and_parts, Bool.Decides.nat_tests}
+use Rattle.cs_ir.specs.{Registers.rate_at, Validity.is_fine, Validity.valid, declared.op.Act.Act, declared.op.Code.Code}
+use Rattle.cs_ir.specs.{declared.op.Op.Op, declared.register.Counts.Counts}
 use Rattle.cs_ir.specs.Resources.{Stock, act_uses, act_writes, writes_places, zak_uses}
-use Rattle.cs_ir.specs.Validity.{finds, has_register, is_fine, takes_from, valid, writes}
-use Rattle.cs_ir.specs.declared.op.Act.{Act}
-use Rattle.cs_ir.specs.declared.op.Act.TheVariants as act
-use Rattle.cs_ir.specs.declared.op.Code.{Code}
-use Rattle.cs_ir.specs.declared.op.Op.{Op}
-use Rattle.cs_ir.specs.declared.register.Counts.{Counts}
 use Rattle.cs_ir.proofs.Fine.{fine_at}
-use Rattle.cs_base.specs.declared.resource.Rate.{Rate}
-use Rattle.cs_base.specs.declared.resource.Res.{Res}
+use Rattle.cs_base.proofs.Tests.{some_is}
+use Rattle.cs_base.specs.{declared.resource.Rate.Rate, declared.resource.Res.Res}
 use Rattle.cs_words.specs.Catalogue.{row_of}
-use Rattle.cs_cells.specs.Areas.{IsLaid, word_count}
-use Rattle.cs_cells.specs.Cells.{in_area}
-use Rattle.cs_cells.specs.declared.footprint.Area.{Area}
+use Rattle.cs_cells.specs.{Areas.IsLaid, Areas.word_count, Cells.in_area, declared.footprint.Area.Area}
 use Rattle.cs_cells.proofs.Laid.{area_within}
-use Rattle.cs_voice_meaning.specs.Placing.{HasArea}
-use Rattle.cs_voice_meaning.specs.Follows.{ActNamed, AreNamed, Kinds}
+use Rattle.cs_voice_meaning.specs.{Placing.HasArea, Follows.ActNamed, Follows.AreNamed, Follows.Kinds}
 use Rattle.cs_voice_meaning.specs.Voices.{Sheet, IsPlayable, has_channel}
 use Rattle.cs_voice_meaning.proofs.Placed.{area_at}
+use Rattle.cs_machine.proofs.Gathered.{each_read}
 use Rattle.cs_machine.specs.States.{CanDo, MayTouch}
 use Rattle.cs_voice.specs.Passing.{IsOpOf}
-
-same_op : (x y : Op) → Some x ≡ Some y → x ≡ y
-same_op x y e = cc
+use Rattle.cs_ir.specs.declared.op.Act.TheVariants as act
 
 -- one of all
 pub all_at : (P : Op → Type 0) (ops : List Op) (n : ℕ) (op : Op) → AllByRecursion P ops → slice_get ops n ≡ Some op
     → P op
 all_at P [] n op h e = absurd cc
-all_at P (x ∷ ops) zero op h e = subst P (same_op x op e) h.0
+all_at P (x ∷ ops) zero op h e = subst P (some_is x op e) h.0
 all_at P (x ∷ ops) (suc n) op h e = all_at P ops n op h.1 e
-
-pub each_at : (f : Op → Bool) (ops : List Op) (n : ℕ) (op : Op) → list_all f ops ≡ true → slice_get ops n ≡ Some op
-    → f op ≡ true
-each_at f [] n op h e = absurd cc
-each_at f (x ∷ ops) zero op h e = let p =
-    and_parts (f x) (list_all f ops) h in subst (λ y. f y ≡ true) (same_op x op e) p.0
-each_at f (x ∷ ops) (suc n) op h e = let p = and_parts (f x) (list_all f ops) h in each_at f ops n op p.1 e
 
 -- an op of the code at its place
 pub fine_here : (code : Code) (n : ℕ) (op : Op) → valid code ≡ true → slice_get code.ops n ≡ Some op
@@ -61,24 +44,9 @@ op_of s code counts n op playable same fine counted at = record {
   fine = subst (λ c. is_fine c (length code.ops) n op ≡ true) (sym counted) (fine_here code n op fine at);
   named = λ p. all_at (λ x. ActNamed p.stock p.kinds (HasArea s.areas) x.act (rate_at x.into)) s.init n op p.init_uses
       (ap (λ ops. slice_get ops n) same ∙ at);
-  channel = each_at (λ x. has_channel s.piece.head.nchnls x.act) s.init n op playable.init_channels
+  channel = each_read (λ (x : Op). has_channel s.piece.head.nchnls x.act) s.init n op playable.init_channels
       (ap (λ ops. slice_get ops n) same ∙ at);
 }
-
-pub names_of : (counts : Counts) (end place : ℕ) (op : Op) → is_fine counts end place op ≡ true
-    → finds counts end place op.act ≡ true
-names_of counts end place op fine =
-    let own : Bool = not (writes op.act) || has_register counts op.into in
-    let outer = and_parts (own && list_all (has_register counts) op.from && finds counts end place op.act)
-    (takes_from op.act (rate_at op.into) op.from) fine in
-    (and_parts (own && list_all (has_register counts) op.from) (finds counts end place op.act) outer.0).1
-
-pub takes_of : (counts : Counts) (end place : ℕ) (op : Op) → is_fine counts end place op ≡ true
-    → takes_from op.act (rate_at op.into) op.from ≡ true
-takes_of counts end place op fine =
-    let own : Bool = not (writes op.act) || has_register counts op.into in
-    (and_parts (own && list_all (has_register counts) op.from && finds counts end place op.act)
-    (takes_from op.act (rate_at op.into) op.from) fine).1
 
 -- Over a bank of all cells each op may be done.
 module _ (allowed : ℕ → Type 0) (count : ℕ) (areas : List Area) (laid : IsLaid areas)

@@ -1,122 +1,102 @@
 -- The code that begins a note, op by op.
-use Rattle.std.proofs.Common.{◌≡◌, ℕ, ℤ, ◌+◌, ◌<◌, ◌≤◌, Bool, true, not, ◌&&◌, List, [], ◌∷◌}
-use Rattle.std.proofs.Common.{◌++◌, length, map, slice_get, Option, Some, None, if◌then◌else◌, refl, sym, ◌∙◌, ap}
-use Rattle.std.proofs.Common.{subst, append_assoc, arith}
+use Rattle.std.proofs.Common.{◌≡◌, ℕ, ℤ, ◌+◌, ◌<◌, ◌≤◌, Bool, true, not, ◌&&◌, List, [], ◌∷◌, ◌++◌, length, map}
+use Rattle.std.proofs.Common.{slice_get, Option, Some, None, if◌then◌else◌, refl, sym, ◌∙◌, ap, subst, append_assoc}
+use Rattle.std.proofs.Common.{arith}
 use Rattle.std.specs.Option.{option_map}
-use Rattle.std.proofs.lemmas.Bool.Decides.{nat_tests}
+use Rattle.std.proofs.lemmas.{Bool.Decides.nat_tests, List.append-nil, List.map-append}
 use Rattle.cs_base.specs.declared.resource.Rate.{Rate}
 use Rattle.cs_words.specs.declared.catalogue.Opcode.{Opcode}
-use Rattle.cs_ir.specs.Registers.{rate_at}
-use Rattle.cs_ir.specs.Asks.{ask_of}
-use Rattle.cs_ir.specs.Cycles.{are_of_cycle, is_of_cycle}
-use Rattle.cs_ir.specs.Machine.{Machine, acts, in_world}
+use Rattle.cs_ir.specs.{Registers.rate_at, Asks.ask_of, Cycles.are_of_cycle, Cycles.is_of_cycle, Machine.Machine}
+use Rattle.cs_ir.specs.{Machine.acts, Machine.in_world, Waves.first_values, declared.ask.Ask.Ask, declared.op.Act.Act}
+use Rattle.cs_ir.specs.{declared.op.Code.Code, declared.op.Op.Op, declared.register.Counts.Counts}
 use Rattle.cs_ugen.specs.Units.{IsUnitOpcode}
 use Rattle.cs_ir.proofs.Shapes.{started_shape}
 use Rattle.cs_ir.specs.Validity.{finds, is_fine, takes_from}
-use Rattle.cs_ir.specs.Waves.{first_values}
-use Rattle.cs_ir.specs.declared.ask.Ask.{Ask}
-use Rattle.cs_ir.specs.declared.op.Act.{Act}
-use Rattle.cs_ir.specs.declared.op.Act.TheVariants as act
-use Rattle.cs_ir.specs.declared.op.Code.{Code}
-use Rattle.cs_ir.specs.declared.op.Op.{Op}
-use Rattle.cs_ir.specs.declared.register.Counts.{Counts}
 use Rattle.cs_voice.specs.Ready.{CanBeDone, DoesOp, IsReady, is_here}
-use Rattle.cs_machine.specs.Access.{AreSpaces, spaces_of}
-use Rattle.cs_cells.specs.Areas.{word_count}
-use Rattle.cs_cells.specs.declared.footprint.Area.{Area}
+use Rattle.cs_machine.specs.{Access.AreSpaces, Access.spaces_of, Registers.values, declared.state.State.State}
+use Rattle.cs_cells.specs.{Areas.word_count, declared.footprint.Area.Area}
 use Rattle.cs_meaning.specs.Model.{no_table, refused_for, seek}
 use Rattle.cs_meaning.specs.Pieces.{Piece, find_table, is_there, table_number}
-use Rattle.cs_machine.specs.Registers.{values}
 use Rattle.cs_voice_meaning.specs.Placing.{HasArea, IsPlaced}
 use Rattle.cs_voice_meaning.specs.VoiceWorld.{VoiceState, voice_model, voice_world}
-use Rattle.cs_voice_meaning.specs.Follows.{ActNamed, Kinds}
-use Rattle.cs_voice_meaning.specs.Voices.{Sheet, IsPlayable}
+use Rattle.cs_voice_meaning.specs.{Follows.ActNamed, Follows.Kinds, Voices.Sheet, Voices.IsPlayable}
 use Rattle.cs_voice_meaning.proofs.Steady.{run_steady}
 use Rattle.cs_typed.specs.TypedTree.{header_of_head}
 use Rattle.cs_machine.specs.States.{CanDo, Does, IsStateIn, machine_of}
-use Rattle.cs_machine.specs.declared.state.State.{State}
-use Rattle.cs_voice.specs.Passing.{CanDoOp, CanPass, IsDone, IsFound, IsOpOf, IsStateOf, Passes}
-use Rattle.cs_voice.specs.Tables.{CanAllBePlayed, tables_of}
-use Rattle.cs_voice.specs.Starting.{Starts, cause_of}
+use Rattle.cs_voice.specs.Passing.{CanBegin, CanPass, IsDone, IsFound, IsOpOf, IsStateOf, Passes}
+use Rattle.cs_voice.specs.{Tables.CanAllBePlayed, Tables.tables_of, Starting.Starts, Starting.cause_of}
+use Rattle.cs_voice.specs.{declared.tables.Finds.Finds, inner.Begun.Seeks, inner.Coming.IsPassed, inner.Jumps.GoesOn}
 use Rattle.cs_voice.specs.declared.begin.StartRefusal.{StartRefusal}
-use Rattle.cs_voice.specs.declared.tables.Finds.{Finds}
-use Rattle.cs_voice.specs.inner.Begun.{Seeks}
-use Rattle.cs_voice.specs.inner.Coming.{IsPassed}
-use Rattle.cs_voice.specs.inner.Jumps.{GoesOn}
-use Rattle.cs_voice.proofs.Ops.{can_do, names_of, op_of, takes_of}
+use Rattle.cs_voice.proofs.{Fitting.found, Fitting.parts, Ops.can_do, Ops.op_of}
 use Rattle.cs_voice.proofs.Running.{begins, ends, goes_on, jumped, refuses}
-
-none_more : {A : Type 0} (xs : List A) → xs ++ [] ≡ xs
-none_more [] = refl
-none_more (x ∷ xs) = ap (λ ys. x ∷ ys) (none_more xs)
-
-map_more : {A B : Type 0} (f : A → B) (xs ys : List A) → map f (xs ++ ys) ≡ map f xs ++ map f ys
-map_more f [] ys = refl
-map_more f (x ∷ xs) ys = ap (λ zs. f x ∷ zs) (map_more f xs ys)
+use Rattle.cs_ir.specs.declared.op.Act.TheVariants as act
 
 -- what is done here starts nothing, looks for no table and asks for nothing
 steady_here : (t : Act) → is_here t ≡ true → is_of_cycle t ≡ true
 steady_here (act.Start o u) h = absurd cc
 steady_here act.Seek h = absurd cc
 steady_here act.Ask h = absurd cc
-steady_here (act.Jump to) h = refl
-steady_here (act.Unless to) h = refl
-steady_here _ h = refl
+steady_here t h = refl
 
 steady_one : (op : Op) → is_of_cycle op.act ≡ true → are_of_cycle (op ∷ []) ≡ true
 steady_one op e = ap (λ b. b && true) e
 
+-- an op of such a code as can be passed can be done
+pub record CanDoOp (get set : ℕ → Type 0) (count : ℕ) (finds : Finds) (ms : List Bool) (op : Op) (s : Sheet)
+    (now : State) : Type 0 where
+  pub begin : CanBegin get set count finds ms s now
+  pub fine : IsOpOf s now.regs.counts op
+
 -- Over a bank of all cells an op that isn't a jump, a start or an ask may be done, and what it does is what its sheet
 -- says.
-module _ (get set : ℕ → Type 0) (count : ℕ) (finds : Finds) (ms : List Bool) (s : Sheet) (found : IsFound finds ms s)
-    (gets : (a : ℕ) → a < word_count s.areas → get a) (sets : (a : ℕ) → a < word_count s.areas → set a)
-    (long : word_count s.areas ≤ count)
-    (op : Op) (old : State) (fine : IsOpOf s old.regs.counts op) (state : IsStateOf s old.regs.counts old) where
+module _ {get set : ℕ → Type 0} {count : ℕ} {finds : Finds} {ms : List Bool} {s : Sheet} {op : Op} {old : State}
+    (can : CanDoOp get set count finds ms op s old) where
   here : s.areas ≡ finds.at.layout.now
-  here = sym found.setting.layout
+  here = sym can.begin.found.setting.layout
 
   ready : (p : IsPlayable s) → IsReady get set count finds.at s.piece p.kinds p.stock op old
   unfolding here
   ready p = record {
     setting = record {
       layout = refl;
-      head = found.setting.head;
-      spaces = found.setting.spaces;
-      fields =
-          found.setting.fields;
+      head = can.begin.found.setting.head;
+      spaces = can.begin.found.setting.spaces;
+      fields = can.begin.found.setting.fields;
     };
     placed = subst (λ areas. IsPlaced areas p.stock s.piece) here p.placed;
-    spaces = subst AreSpaces here found.places;
-    zak = subst (λ areas. spaces_of areas ≡ finds.at.spaces) here (found.spaces ∙ found.setting.spaces);
-    state = subst (λ areas. IsStateIn areas s.piece p.kinds old.regs.counts old) here (state.in_piece p);
-    end = fine.end;
-    place = fine.place;
-    fine = fine.fine;
-    named = subst (λ areas. ActNamed p.stock p.kinds (HasArea areas) op.act (rate_at op.into)) here (fine.named p);
-    channel = fine.channel;
+    spaces = subst AreSpaces here can.begin.found.places;
+    zak = subst (λ areas. spaces_of areas ≡ finds.at.spaces) here
+        (can.begin.found.spaces ∙ can.begin.found.setting.spaces);
+    state = subst (λ areas. IsStateIn areas s.piece p.kinds old.regs.counts old) here (can.begin.state.in_piece p);
+    end = can.fine.end;
+    place = can.fine.place;
+    fine = can.fine.fine;
+    named = subst (λ areas. ActNamed p.stock p.kinds (HasArea areas) op.act (rate_at op.into)) here (can.fine.named p);
+    channel = can.fine.channel;
     can = subst (λ areas. CanDo get set count areas p.stock op.act) here
-        (can_do get set count s.areas p.stock p.kinds op.act (rate_at op.into) p.placed.laid gets sets long
-        (fine.named p));
+        (can_do get set count s.areas p.stock p.kinds op.act (rate_at op.into) p.placed.laid can.begin.gets
+        can.begin.sets can.begin.long (can.fine.named p));
   }
 
-  pub can_be_done : IsPlayable s → CanBeDone get set count finds.at op old
-  can_be_done p = record { piece = s.piece; kinds = p.kinds; stock = p.stock; ready = ready p }
+  pub can_be_done : CanBeDone get set count finds.at op old
+  can_be_done =
+      let p = can.begin.playable in record { piece = s.piece; kinds = p.kinds; stock = p.stock; ready = ready p }
 
-  pub done_here : IsPlayable s → is_here op.act ≡ true → (new : State) (before after : ℕ → ℤ) (asked : List Ask)
+  pub done_here : is_here op.act ≡ true → {new : State} {before after : ℕ → ℤ} {asked : List Ask}
       → DoesOp get set count finds.at op old before new after → IsDone s op old before asked new after asked None
-  done_here p at new before after asked does = record {
+  done_here at {new} {before} {after} {asked} does = record {
     more = [];
-    asks = sym (none_more asked);
-    machine = λ next earlier. ap (λ e. machine_of new after next e None) (none_more earlier)
-        ∙ (own p).machine next earlier None;
+    asks = sym (append-nil asked);
+    machine = λ next earlier. ap (λ e. machine_of new after next e None) (append-nil earlier)
+        ∙ (own can.begin.playable).machine next earlier None;
     state = record {
       in_piece = λ q. (own q).state;
       delays =
           let kept = run_steady (voice_model s.areas s.piece) 0 (op ∷ []) (machine_of old before 0 [] None)
           (steady_one op (steady_here op.act at)) in
           let same : new.delays ≡ old.delays =
-          ap (λ m. m.world.delays) ((own p).machine 0 [] None) ∙ ap (λ z. z.delays) kept in
-          let low = state.delays in
+          ap (λ m. m.world.delays) ((own can.begin.playable).machine 0 [] None) ∙ ap (λ z. z.delays) kept in
+          let low = can.begin.state.delays in
           omega arith;
     };
   }
@@ -124,7 +104,7 @@ module _ (get set : ℕ → Type 0) (count : ℕ) (finds : Finds) (ms : List Boo
       own : (q : IsPlayable s)
           → Does s.areas s.piece q.kinds old.regs.counts op.act op.into op.from old before new after
       own q = subst (λ areas. Does areas s.piece q.kinds old.regs.counts op.act op.into op.from old before new after)
-          found.setting.layout (does s.piece q.kinds q.stock (ready q))
+          can.begin.found.setting.layout (does s.piece q.kinds q.stock (ready q))
 
 -- a note is asked for
 pub done_ask : (s : Sheet) (op : Op) (old : State) (cells : ℕ → ℤ) (asked : List Ask) → op.act ≡ act.Ask
@@ -148,8 +128,8 @@ pub done_start : (s : Sheet) (op : Op) (o : Opcode) (u : ℕ) (areas : List Area
     → IsDone s op old cells asked new cells asked refused
 done_start s op o u areas old new cells asked refused is same p starts = record {
   more = [];
-  asks = sym (none_more asked);
-  machine = λ next earlier. ap (λ e. machine_of new cells next e (option_map cause_of refused)) (none_more earlier)
+  asks = sym (append-nil asked);
+  machine = λ next earlier. ap (λ e. machine_of new cells next e (option_map cause_of refused)) (append-nil earlier)
       ∙ (own p).machine cells next earlier
       ∙ ap (λ t. acts (voice_world s.areas s.piece) t op.into (map (values old.regs) op.from)
       (machine_of old cells next earlier None)) (sym is);
@@ -168,83 +148,85 @@ pub passed_none : (s : Sheet) (first : State) (before : ℕ → ℤ) (asked : Li
 passed_none s first before asked state = record {
   next = 0;
   more = [];
-  asks = sym (none_more asked);
+  asks = sym (append-nil asked);
   up = begins (voice_world s.areas s.piece) s.init (machine_of first before 0 [] None) refl;
   counted = refl;
   state = state;
 }
 
--- a jump
-pub passed_jump : (s : Sheet) (first : State) (before : ℕ → ℤ) (asked : List Ask) (place to : ℕ) (now : State)
-    (cells : ℕ → ℤ) (asks : List Ask) (op : Op)
-    → IsPassed s first before asked place now cells asks → slice_get s.init place ≡ Some op → place < to
-    → GoesOn op.act (map (values now.regs) op.from) place to → IsPassed s first before asked to now cells asks
-passed_jump s first before asked place to now cells asks op u at later g =
-    let k = jumped s.areas s.piece now cells u.more op.act op.into (map (values now.regs) op.from) place to g u.next
-    u.up.next in
-    record {
-      next = k.next;
-      more = u.more;
-      asks = u.asks;
-      up = goes_on (voice_world s.areas s.piece) s.init (machine_of first before 0 [] None) place to op
-          (machine_of now cells u.next u.more None) (machine_of now cells k.next u.more None) u.up at refl k.machine
-          later k.below k.there;
-      counted = u.counted;
-      state = u.state;
-    }
-
 more_asked : (asked now new : List Ask) (some more : List (List ℤ)) → now ≡ asked ++ map ask_of some
     → new ≡ now ++ map ask_of more → new ≡ asked ++ map ask_of (some ++ more)
 more_asked asked now new some more e f =
     f ∙ ap (λ xs. xs ++ map ask_of more) e ∙ append_assoc asked (map ask_of some) (map ask_of more)
-    ∙ ap (λ xs. asked ++ xs) (sym (map_more ask_of some more))
+    ∙ ap (λ xs. asked ++ xs) (sym (map-append ask_of some more))
 
--- an op was done
-pub passed_one : (s : Sheet) (first : State) (before : ℕ → ℤ) (asked : List Ask) (place : ℕ) (now new : State)
-    (cells after : ℕ → ℤ) (asks asks_new : List Ask) (op : Op)
-    → IsPlayable s → IsPassed s first before asked place now cells asks → slice_get s.init place ≡ Some op
-    → IsDone s op now cells asks new after asks_new None → IsPassed s first before asked (place + 1) new after asks_new
-passed_one s first before asked place now new cells after asks asks_new op p u at d = record {
-  next = u.next;
-  more = u.more ++ d.more;
-  asks = more_asked asked asks asks_new u.more d.more u.asks d.asks;
-  up = goes_on (voice_world s.areas s.piece) s.init (machine_of first before 0 [] None) place (place + 1) op
-      (machine_of now cells u.next u.more None) (machine_of new after u.next (u.more ++ d.more) None)
-      u.up at refl (d.machine u.next u.more) (omega arith) (let r = u.up.next in omega arith)
-      (λ far. absurd (omega (arith, far)));
-  counted = (d.state.in_piece p).registers ∙ u.counted;
-  state = subst (λ c. IsStateOf s c new) u.counted d.state;
-}
+module _ {s : Sheet} {first : State} {before : ℕ → ℤ} {asked : List Ask} {place : ℕ} {now : State} {cells : ℕ → ℤ}
+    {asks : List Ask} (u : IsPassed s first before asked place now cells asks) where
+  -- a jump
+  pub passed_jump : (to : ℕ) (op : Op) → slice_get s.init place ≡ Some op → place < to
+      → GoesOn op.act (map (values now.regs) op.from) place to → IsPassed s first before asked to now cells asks
+  passed_jump to op at later g =
+      let k = jumped s.areas s.piece now cells u.more op.act op.into (map (values now.regs) op.from) place to g u.next
+      u.up.next in
+      record {
+        next = k.next;
+        more = u.more;
+        asks = u.asks;
+        up = goes_on u.up at refl k.machine later k.below k.there;
+        counted = u.counted;
+        state = u.state;
+      }
 
--- the end, and a refusal
-pub passed_all : (s : Sheet) (first : State) (before : ℕ → ℤ) (asked : List Ask) (place : ℕ) (now : State)
-    (cells : ℕ → ℤ) (asks : List Ask)
-    → IsPassed s first before asked place now cells asks → length s.init ≤ place
-    → Passes s first before asked now cells asks None
-passed_all s first before asked place now cells asks u h = record {
-  next = u.next;
-  more = u.more;
-  asks = u.asks;
-  machine = ends (voice_world s.areas s.piece) s.init (machine_of first before 0 [] None) place
-      (machine_of now cells u.next u.more None) u.up h;
-  state = u.state;
-}
+  -- an op was done
+  pub passed_one : {new : State} {after : ℕ → ℤ} {asks_new : List Ask} {op : Op} → IsPlayable s
+      → slice_get s.init place ≡ Some op → IsDone s op now cells asks new after asks_new None
+      → IsPassed s first before asked (place + 1) new after asks_new
+  passed_one {new} {after} {asks_new} p at d = record {
+    next = u.next;
+    more = u.more ++ d.more;
+    asks = more_asked asked asks asks_new u.more d.more u.asks d.asks;
+    up = goes_on u.up at refl (d.machine u.next u.more) (omega arith) (let r = u.up.next in omega arith)
+        (λ far. absurd (omega (arith, far)));
+    counted = (d.state.in_piece p).registers ∙ u.counted;
+    state = subst (λ c. IsStateOf s c new) u.counted d.state;
+  }
 
-pub passed_refused : (s : Sheet) (first : State) (before : ℕ → ℤ) (asked : List Ask) (place : ℕ) (now new : State)
-    (cells after : ℕ → ℤ) (asks asks_new : List Ask) (op : Op) (refused : StartRefusal)
-    → IsPassed s first before asked place now cells asks → slice_get s.init place ≡ Some op
-    → IsDone s op now cells asks new after asks_new (Some refused)
-    → Passes s first before asked new after asks_new (Some refused)
-passed_refused s first before asked place now new cells after asks asks_new op refused u at d = record {
-  next = u.next;
-  more = u.more ++ d.more;
-  asks = more_asked asked asks asks_new u.more d.more u.asks d.asks;
-  machine = refuses (voice_world s.areas s.piece) s.init (machine_of first before 0 [] None) place op
-      (machine_of now cells u.next u.more None)
-      (machine_of new after u.next (u.more ++ d.more) (Some (cause_of refused))) u.up at refl (d.machine u.next u.more)
-      refl;
-  state = subst (λ c. IsStateOf s c new) u.counted d.state;
-}
+  -- the end, and a refusal
+  pub passed_all : length s.init ≤ place → Passes s first before asked now cells asks None
+  passed_all h = record {
+    next = u.next;
+    more = u.more;
+    asks = u.asks;
+    machine = ends u.up h;
+    state = u.state;
+  }
+
+  pub passed_refused : {new : State} {after : ℕ → ℤ} {asks_new : List Ask} {op : Op} {refused : StartRefusal}
+      → slice_get s.init place ≡ Some op → IsDone s op now cells asks new after asks_new (Some refused)
+      → Passes s first before asked new after asks_new (Some refused)
+  passed_refused {new} {after} {asks_new} at d = record {
+    next = u.next;
+    more = u.more ++ d.more;
+    asks = more_asked asked asks asks_new u.more d.more u.asks d.asks;
+    machine = refuses u.up at refl (d.machine u.next u.more) refl;
+    state = subst (λ c. IsStateOf s c new) u.counted d.state;
+  }
+
+  -- the next op can be done, over a bank that lets the same be done
+  pub able_again : {R : Type 0} (get set : R → ℕ → Type 0) {r q : R} {n m : ℕ} {finds : Finds} {ms : List Bool}
+      {code : Code} {op : Op} → q ≡ r → m ≡ n → CanPass (get r) (set r) n finds ms code s first
+      → slice_get code.ops place ≡ Some op → CanDoOp (get q) (set q) m finds ms op s now
+  able_again {R} get set {r} {q} {n} {m} {finds} {ms} {code} {op} rest long can at = record {
+    begin = record {
+      found = can.begin.found;
+      playable = can.begin.playable;
+      state = subst (λ k. IsStateOf s k now) (sym u.counted) u.state;
+      gets = λ a low. subst (λ x. get x a) (sym rest) (can.begin.gets a low);
+      sets = λ a low. subst (λ x. set x a) (sym rest) (can.begin.sets a low);
+      long = subst (λ k. word_count s.areas ≤ k) (sym long) can.begin.long;
+    };
+    fine = op_of s code now.regs.counts place op can.begin.playable can.same can.valid (u.counted ∙ can.counts) at;
+  }
 
 -- what a start names and takes
 starts_at : (counts : Counts) (end place u : ℕ) (o : Opcode) → finds counts end place (act.Start o u) ≡ true
@@ -254,13 +236,13 @@ starts_at counts end place u o f = grind (arith, nat_tests)
 pub start_there : (counts : Counts) (end place u : ℕ) (o : Opcode) (op : Op) → is_fine counts end place op ≡ true
     → op.act ≡ act.Start o u → u < counts.units
 start_there counts end place u o op fine is =
-    starts_at counts end place u o (subst (λ t. finds counts end place t ≡ true) is (names_of counts end place op fine))
+    starts_at counts end place u o (subst (λ t. finds counts end place t ≡ true) is (found counts end place op fine))
 
 pub start_takes : (counts : Counts) (end place u : ℕ) (o : Opcode) (op : Op) → is_fine counts end place op ≡ true
     → op.act ≡ act.Start o u → IsUnitOpcode o
 start_takes counts end place u o op fine is =
     started_shape o (rate_at op.into) op.from
-    (subst (λ t. takes_from t (rate_at op.into) op.from ≡ true) is (takes_of counts end place op fine))
+    (subst (λ t. takes_from t (rate_at op.into) op.from ≡ true) is (parts counts end place op fine).takes)
 
 -- a start, and an ask, as they are done
 pub started_op : (finds : Finds) (ms : List Bool) (s : Sheet) (op : Op) (o : Opcode) (u v : ℕ) (r : Rate)
@@ -317,8 +299,8 @@ pub sought_op : (finds : Finds) (ms : List Bool) (s : Sheet) (op : Op) (settled 
     → IsDone s op old cells asked old cells asked refused
 sought_op finds ms s op settled old cells asked refused is found state same seeks = record {
   more = [];
-  asks = sym (none_more asked);
-  machine = λ next earlier. ap (λ e. machine_of old cells next e (option_map cause_of refused)) (none_more earlier)
+  asks = sym (append-nil asked);
+  machine = λ next earlier. ap (λ e. machine_of old cells next e (option_map cause_of refused)) (append-nil earlier)
       ∙ sought s old cells next earlier (first_values (map (values old.regs) op.from)) refused
       (subst (λ xs. Seeks s.piece.tables (table_number xs) refused) same
       (subst (λ ts. Seeks ts (table_number settled) refused) (sym found.tables) seeks))
@@ -341,25 +323,6 @@ pub all_played : (finds : Finds) (ms : List Bool) (s : Sheet) → IsFound finds 
 all_played finds ms s found =
     subst (λ areas. CanAllBePlayed areas (tables_of finds.tables.now ms)) (sym found.setting.layout)
     (subst (λ ts. CanAllBePlayed s.areas ts) found.tables found.can_be_played)
-
--- the next op can be done
-pub able_again : {R : Type 0} (get set : R → ℕ → Type 0) (r q : R) (n m : ℕ) (finds : Finds) (ms : List Bool)
-    (code : Code) (s : Sheet) (first : State) (before : ℕ → ℤ) (asked : List Ask)
-    (place : ℕ) (now : State) (cells : ℕ → ℤ) (given : List Ask) (op : Op) → q ≡ r → m ≡ n
-    → CanPass (get r) (set r) n finds ms code s first
-    → IsPassed s first before asked place now cells given → slice_get code.ops place ≡ Some op
-    → CanDoOp (get q) (set q) m finds ms op s now
-able_again get set r q n m finds ms code s first before asked place now cells given op rest long can u at = record {
-  begin = record {
-    found = can.begin.found;
-    playable = can.begin.playable;
-    state = subst (λ k. IsStateOf s k now) (sym u.counted) u.state;
-    gets = λ a low. subst (λ x. get x a) (sym rest) (can.begin.gets a low);
-    sets = λ a low. subst (λ x. set x a) (sym rest) (can.begin.sets a low);
-    long = subst (λ k. word_count s.areas ≤ k) (sym long) can.begin.long;
-  };
-  fine = op_of s code now.regs.counts place op can.begin.playable can.same can.valid (u.counted ∙ can.counts) at;
-}
 
 pub none_if : (o : Option StartRefusal) → ((x : StartRefusal) → o ≡ Some x → ⊥) → o ≡ None
 none_if None h = refl

@@ -1,42 +1,29 @@
 -- Zak places: what their opcodes do at the place that a value names.
 use Rattle.std.proofs.Common.{◌≡◌, ℕ, ℤ, pos, ◌≤◌, ◌&&◌, Bool, true, false, not, List, [], ◌∷◌, length, nat_lt, Option}
-use Rattle.std.proofs.Common.{Some, None, if◌then◌else◌, refl, sym, ◌∙◌, ap, subst, arith}
-use Rattle.std.proofs.Common.{ltb-true}
-use Rattle.std.proofs.lemmas.Bool.{and_parts}
-use Rattle.std.proofs.lemmas.Bool.Decides.{nat_tests}
-use Rattle.std.proofs.lemmas.List.{get_or_past}
-use Rattle.std.proofs.lemmas.Option.{none-some}
-use Rattle.cs_base.specs.Rates.{res_rate}
-use Rattle.cs_base.specs.declared.resource.Rate.TheVariants as rate
-use Rattle.cs_base.specs.declared.resource.Res.{Res}
+use Rattle.std.proofs.Common.{Some, None, if◌then◌else◌, refl, sym, ◌∙◌, ap, subst, arith, ltb-true}
+use Rattle.std.proofs.lemmas.{Bool.and_parts, Bool.Decides.nat_tests, List.get_or_past, Option.none-some}
+use Rattle.cs_base.specs.{Rates.res_rate, declared.resource.Res.Res, declared.spaces.Spaces.Spaces}
 use Rattle.cs_base.proofs.Tests.{by_test, some_is}
 use Rattle.cs_words.proofs.EachOpcode.{when_all}
-use Rattle.cs_words.specs.Catalogue.{row_of}
+use Rattle.cs_words.specs.{Catalogue.row_of, declared.catalogue.Shape.Shape, declared.catalogue.Space.Space}
 use Rattle.cs_words.specs.declared.catalogue.Opcode.{Opcode}
-use Rattle.cs_words.specs.declared.catalogue.Opcode.TheVariants as op
-use Rattle.cs_words.specs.declared.catalogue.Shape.{Shape}
-use Rattle.cs_words.specs.declared.catalogue.Shape.TheVariants as shape
-use Rattle.cs_words.specs.declared.catalogue.Space.{Space}
-use Rattle.cs_words.specs.declared.catalogue.Space.TheVariants as space
 use Rattle.cs_ir.specs.Machine.{Machine, acts, gives, in_world, write, written}
-use Rattle.cs_base.specs.declared.spaces.Spaces.{Spaces}
 use Rattle.cs_ir.specs.Resources.{places_of, reaches, writes_places, zak_place}
-use Rattle.cs_ir.specs.Validity.{has_value}
+use Rattle.cs_ir.specs.{Validity.has_value, declared.op.Reach.Reach, declared.register.Reg.Reg}
 use Rattle.cs_ir.specs.Waves.{Wave, held, silence}
-use Rattle.cs_ir.specs.declared.op.Act.TheVariants as act
-use Rattle.cs_ir.specs.declared.op.Reach.{Reach}
-use Rattle.cs_ir.specs.declared.register.Reg.{Reg}
 use Rattle.cs_cells.specs.declared.footprint.Area.{Area}
 use Rattle.cs_meaning.specs.Model.{cleared, saved, zak_does}
 use Rattle.cs_meaning.specs.Pieces.{Piece, added, at_place, index, is_cleared}
-use Rattle.cs_machine.specs.Rows.{row_wave}
+use Rattle.cs_machine.proofs.{Found.if_false, Found.if_true, Writing.frame_past}
+use Rattle.cs_machine.specs.{Rows.row_wave, Access.CanTouch, declared.state.NoteSetting.NoteSetting}
 use Rattle.cs_voice_meaning.specs.Placing.{area_of, wave_in, wave_of, with_wave}
 use Rattle.cs_voice_meaning.specs.VoiceWorld.{VoiceState, read_cells, voice_model, voice_world}
-use Rattle.cs_machine.proofs.Writing.{frame_past}
-use Rattle.cs_voice.specs.Cells.{MayReach}
-use Rattle.cs_voice.specs.inner.Zak.{reached}
-use Rattle.cs_machine.specs.Access.{CanTouch}
-use Rattle.cs_machine.specs.declared.state.NoteSetting.{NoteSetting}
+use Rattle.cs_voice.specs.{Cells.MayReach, inner.Zak.reached}
+use Rattle.cs_base.specs.declared.resource.Rate.TheVariants as rate
+use Rattle.cs_words.specs.declared.catalogue.Opcode.TheVariants as op
+use Rattle.cs_words.specs.declared.catalogue.Shape.TheVariants as shape
+use Rattle.cs_words.specs.declared.catalogue.Space.TheVariants as space
+use Rattle.cs_ir.specs.declared.op.Act.TheVariants as act
 
 -- ---- the acts, by the shapes of their opcodes
 
@@ -55,16 +42,6 @@ write_gives o sh is h =
     no_result (gives o) (when_all (λ o. writes_places (row_of o).shape) (λ o. not (gives o)) refl o
     (ap writes_places is ∙ h))
 
-given : (b : Bool) → b ≡ true → (ksmps : ℕ) (into : Reg) (w : Wave) (m : Machine VoiceState)
-    → (if b then write ksmps into w (in_world m.world m) else in_world m.world m) ≡ write ksmps into w m
-given true h ksmps into w m = refl
-given false h ksmps into w m = absurd (cc)
-
-none_given : (b : Bool) → b ≡ false → (ksmps : ℕ) (into : Reg) (x : VoiceState) (m : Machine VoiceState)
-    → (if b then write ksmps into silence (in_world x m) else in_world x m) ≡ in_world x m
-none_given true h ksmps into x m = absurd (cc)
-none_given false h ksmps into x m = refl
-
 module _ (areas : List Area) (piece : Piece) (o : Opcode) (reach : Reach) (into : Reg) (m : Machine VoiceState) where
   shaped : (sh : Shape) (ws : List Wave) → (row_of o).shape ≡ sh
       → acts (voice_world areas piece) (act.Zak o reach) into ws m ≡ written piece.head.ksmps o into
@@ -77,31 +54,26 @@ module _ (areas : List Area) (piece : Piece) (o : Opcode) (reach : Reach) (into 
       ≡ write piece.head.ksmps into
       (at_place piece s reach (index (v 0)) silence (λ g. read_cells areas g m.world.shared)) m
   getting s v is = shaped (shape.ZakGet s) (v ∷ []) is
-      ∙ given (gives o) (get_gives o s is) piece.head.ksmps into
-      (at_place piece s reach (index (v 0)) silence (λ g. read_cells areas g m.world.shared)) m
+      ∙ if_true (gives o) _ _ (get_gives o s is)
 
   pub putting : (s : Space) (w v : Wave) → (row_of o).shape ≡ shape.ZakPut s
       → acts (voice_world areas piece) (act.Zak o reach) into (w ∷ v ∷ []) m
       ≡ in_world (at_place piece s reach (index (v 0)) m.world (λ g. saved (voice_model areas piece) g w m.world)) m
   putting s w v is = shaped (shape.ZakPut s) (w ∷ v ∷ []) is
-      ∙ none_given (gives o) (write_gives o (shape.ZakPut s) is refl) piece.head.ksmps into
-      (at_place piece s reach (index (v 0)) m.world (λ g. saved (voice_model areas piece) g w m.world)) m
+      ∙ if_false (gives o) _ _ (write_gives o (shape.ZakPut s) is refl)
 
   pub mixing : (w v : Wave) → (row_of o).shape ≡ shape.ZakMix
       → acts (voice_world areas piece) (act.Zak o reach) into (w ∷ v ∷ []) m
       ≡ in_world (at_place piece space.Audio reach (index (v 0)) m.world
       (λ g. saved (voice_model areas piece) g (added (read_cells areas g m.world.shared) w) m.world)) m
   mixing w v is = shaped shape.ZakMix (w ∷ v ∷ []) is
-      ∙ none_given (gives o) (write_gives o shape.ZakMix is refl) piece.head.ksmps into
-      (at_place piece space.Audio reach (index (v 0)) m.world
-      (λ g. saved (voice_model areas piece) g (added (read_cells areas g m.world.shared) w) m.world)) m
+      ∙ if_false (gives o) _ _ (write_gives o shape.ZakMix is refl)
 
   pub clearing : (s : Space) (v w : Wave) → (row_of o).shape ≡ shape.ZakClear s
       → acts (voice_world areas piece) (act.Zak o reach) into (v ∷ w ∷ []) m
       ≡ in_world (cleared (voice_model areas piece) (is_cleared piece s reach (v 0) (w 0)) m.world) m
   clearing s v w is = shaped (shape.ZakClear s) (v ∷ w ∷ []) is
-      ∙ none_given (gives o) (write_gives o (shape.ZakClear s) is refl) piece.head.ksmps into
-      (cleared (voice_model areas piece) (is_cleared piece s reach (v 0) (w 0)) m.world) m
+      ∙ if_false (gives o) _ _ (write_gives o (shape.ZakClear s) is refl)
 
 -- ---- the place that a number names
 

@@ -1,17 +1,13 @@
 -- The steps of a unit in a cycle, at the rate of the register that its result goes into.
-use Rattle.std.proofs.Common.{◌≡◌, ℕ, ℤ, true, false, List, [], ◌∷◌, Option, Some, None, if◌then◌else◌, sym}
-use Rattle.std.proofs.Common.{◌∙◌, ap}
-use Rattle.cs_base.specs.Rates.{is_audio}
-use Rattle.cs_base.specs.declared.resource.Rate.{Rate}
-use Rattle.cs_base.specs.declared.resource.Rate.TheVariants as rate
+use Rattle.std.proofs.Common.{◌≡◌, ℕ, ℤ, true, false, List, [], ◌∷◌, Option, Some, None, if◌then◌else◌, sym, ◌∙◌, ap}
+use Rattle.cs_base.specs.{Rates.is_audio, declared.resource.Rate.Rate}
 use Rattle.cs_signal.specs.Operands.{argument}
 use Rattle.cs_ugen.specs.declared.unit.UnitState.{UnitState}
-use Rattle.cs_ir.specs.Waves.{Wave, constant, silence}
-use Rattle.cs_ir.specs.declared.op.Reach.{Reach}
+use Rattle.cs_ir.specs.{Waves.Wave, Waves.constant, Waves.silence, declared.op.Reach.Reach}
 use Rattle.cs_meaning.specs.Pieces.{step_at}
-use Rattle.cs_machine.specs.Players.{PlayerData, SamePlayer, stepped}
-use Rattle.cs_machine.specs.Rows.{HasFrames}
+use Rattle.cs_machine.specs.{Players.PlayerData, Players.SamePlayer, Players.stepped, Rows.HasFrames}
 use Rattle.cs_voice.specs.Units.{cycled, may_play, unit_after, unit_gives}
+use Rattle.cs_base.specs.declared.resource.Rate.TheVariants as rate
 
 -- a step a frame
 pub audio_frames : (ksmps n : ℕ) (r : Rate) (ws : List Wave) (cells : ℕ → ℤ) (p : PlayerData) (k : UnitState)
@@ -20,23 +16,20 @@ pub audio_frames : (ksmps n : ℕ) (r : Rate) (ws : List Wave) (cells : ℕ → 
     → (k, row) ≡ stepped p ws cells n → HasFrames (λ j. argument (cycled ksmps r ws cells p).1 (step_at r j)) row
 audio_frames ksmps n rate.Audio ws cells p k row e long is j low =
     ap (λ (d : UnitState × List ℤ). argument d.1 j) is ∙ ap (λ m. argument (stepped p ws cells m).1 j) long
-audio_frames ksmps n rate.Control ws cells p k row e long is j low = absurd (cc)
-audio_frames ksmps n rate.Init ws cells p k row e long is j low = absurd (cc)
+audio_frames ksmps n r ws cells p k row e long is j low = absurd (cc)
 
 -- one step, whose result is held
 pub held_gives : (ksmps : ℕ) (r : Rate) (ws : List Wave) (cells : ℕ → ℤ) (p : PlayerData) (k : UnitState) (z : ℤ)
     → is_audio r ≡ false
     → (k, z ∷ []) ≡ stepped p ws cells 1 → constant z ≡ (λ j. argument (cycled ksmps r ws cells p).1 (step_at r j))
 held_gives ksmps rate.Audio ws cells p k z slow is = absurd (cc)
-held_gives ksmps rate.Control ws cells p k z slow is = λ i j. ap (λ (d : UnitState × List ℤ). argument d.1 0) is i
-held_gives ksmps rate.Init ws cells p k z slow is = λ i j. ap (λ (d : UnitState × List ℤ). argument d.1 0) is i
+held_gives ksmps r ws cells p k z slow is = λ i j. ap (λ (d : UnitState × List ℤ). argument d.1 0) is i
 
 pub held_state : (ksmps : ℕ) (r : Rate) (ws : List Wave) (cells : ℕ → ℤ) (p : PlayerData) (k : UnitState) (z : ℤ)
     → is_audio r ≡ false
     → (k, z ∷ []) ≡ stepped p ws cells 1 → k ≡ (cycled ksmps r ws cells p).0
 held_state ksmps rate.Audio ws cells p k z slow is = absurd (cc)
-held_state ksmps rate.Control ws cells p k z slow is = ap (λ (d : UnitState × List ℤ). d.0) is
-held_state ksmps rate.Init ws cells p k z slow is = ap (λ (d : UnitState × List ℤ). d.0) is
+held_state ksmps r ws cells p k z slow is = ap (λ (d : UnitState × List ℤ). d.0) is
 
 -- a unit whose table is within reach
 pub plays_within : (ksmps : ℕ) (r : Rate) (reach : Reach) (ws : List Wave) (cells : ℕ → ℤ) (o : Option PlayerData)

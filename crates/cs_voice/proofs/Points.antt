@@ -1,21 +1,14 @@
 -- What a unit reads of its table is what the definition reads.
 use Rattle.std.proofs.Common.{◌≡◌, ℤ, Bool, true, false, not, ◌||◌, List, [], map, unsigned_abs, Option, Some, None}
 use Rattle.std.proofs.Common.{if◌then◌else◌, refl, sym, ◌∙◌, ap}
-use Rattle.std.specs.List.{range_with_len}
-use Rattle.std.specs.Option.{is_some}
+use Rattle.std.specs.{List.range_with_len, Option.is_some}
 use Rattle.cs_base.proofs.Tests.{by_test}
 use Rattle.cs_base.specs.declared.resource.Rate.{Rate}
-use Rattle.cs_base.specs.declared.resource.Rate.TheVariants as rate
-use Rattle.cs_base.specs.declared.resource.Res.TheVariants as res
-use Rattle.cs_words.specs.declared.catalogue.Opcode.{Opcode}
+use Rattle.cs_words.specs.{declared.catalogue.Opcode.Opcode, Catalogue.row_of, Catalogue.takes_table}
 use Rattle.cs_words.proofs.EachOpcode.{when_all}
 use Rattle.cs_gen.specs.Tables.{curve_of}
 use Rattle.cs_ugen.specs.Units.{IsUnitOpcode, reads_table}
-use Rattle.cs_ir.specs.Machine.{gives}
-use Rattle.cs_ir.specs.Units.{is_unit}
-use Rattle.cs_words.specs.Catalogue.{row_of, takes_table}
-use Rattle.cs_ir.specs.Resources.{Stock, reaches}
-use Rattle.cs_ir.specs.declared.op.Reach.{Reach}
+use Rattle.cs_ir.specs.{Machine.gives, Units.is_unit, Resources.Stock, Resources.reaches, declared.op.Reach.Reach}
 use Rattle.cs_cells.specs.declared.footprint.Area.{Area}
 use Rattle.cs_meaning.specs.Model.{unit_points}
 use Rattle.cs_meaning.specs.Pieces.{Piece, Table, find_table, may_touch, points_of, read_points}
@@ -24,6 +17,8 @@ use Rattle.cs_voice_meaning.specs.Placing.{IsPlaced, area_of, wave_in, wave_of}
 use Rattle.cs_voice_meaning.specs.VoiceWorld.{VoiceState, read_cells, voice_model}
 use Rattle.cs_machine.specs.States.{IsOnTable, IsPlayerOf}
 use Rattle.cs_voice.specs.Units.{may_play}
+use Rattle.cs_base.specs.declared.resource.Rate.TheVariants as rate
+use Rattle.cs_base.specs.declared.resource.Res.TheVariants as res
 
 -- an opcode that computes a result has one, and reads a table exactly where it takes one
 pub record IsResult (o : Opcode) : Type 0 where

@@ -2,45 +2,29 @@
 use Rattle.std.proofs.Common.{◌≡◌, ℕ, ℤ, ◌<◌, ◌==◌, Bool, true, false, List, length, map, slice_index_or, slice_set}
 use Rattle.std.proofs.Common.{Option, Some, None, if◌then◌else◌, refl, sym, ◌∙◌, ap, subst}
 use Rattle.std.specs.Option.{option_map}
-use Rattle.std.proofs.lemmas.Bool.{eqb-true}
-use Rattle.std.proofs.lemmas.List.{length-set}
+use Rattle.std.proofs.lemmas.{Bool.eqb-true, List.length-set}
 use Rattle.cs_base.proofs.Tests.{by_test, some_is}
 use Rattle.cs_base.specs.declared.resource.Rate.{Rate}
 use Rattle.cs_words.specs.declared.catalogue.Opcode.{Opcode}
-use Rattle.cs_signal.specs.Operands.{argument}
-use Rattle.cs_signal.specs.Steps.{run}
-use Rattle.cs_ugen.specs.Units.{IsUnitOpcode, opcode_of, unit_step}
-use Rattle.cs_ugen.specs.declared.unit.UnitState.{UnitState}
-use Rattle.cs_ir.specs.Registers.{rate_at}
+use Rattle.cs_signal.specs.{Operands.argument, Steps.run}
+use Rattle.cs_ugen.specs.{Units.IsUnitOpcode, Units.opcode_of, Units.unit_step, declared.unit.UnitState.UnitState}
+use Rattle.cs_ir.specs.{Registers.rate_at, Resources.Stock, declared.op.Reach.Reach, declared.register.Reg.Reg}
 use Rattle.cs_ir.specs.Machine.{Machine, acts, gives, in_world, put, write, written}
-use Rattle.cs_ir.specs.Resources.{Stock}
 use Rattle.cs_ir.specs.Waves.{Wave, held, silence}
-use Rattle.cs_ir.specs.declared.op.Act.TheVariants as act
-use Rattle.cs_ir.specs.declared.op.Reach.{Reach}
-use Rattle.cs_ir.specs.declared.register.Counts.{Counts}
-use Rattle.cs_ir.specs.declared.register.Reg.{Reg}
 use Rattle.cs_cells.specs.declared.footprint.Area.{Area}
 use Rattle.cs_meaning.specs.Model.{Cause, has_run, unit_does, unit_points}
 use Rattle.cs_meaning.specs.Pieces.{Piece, steps_of, step_at}
 use Rattle.cs_machine.specs.Players.{PlayerData, curve_at, playing}
-use Rattle.cs_machine.proofs.Unchanging.{same_unit}
-use Rattle.cs_machine.specs.Outputs.{outs}
-use Rattle.cs_machine.specs.Registers.{IsWritten, values}
-use Rattle.cs_machine.proofs.Putting.{set_at_place}
-use Rattle.cs_voice_meaning.specs.Follows.{Kinds}
-use Rattle.cs_voice_meaning.specs.Placing.{IsPlaced}
+use Rattle.cs_machine.proofs.{Found.if_true, Unchanging.same_unit, Putting.set_at_place, Putting.through}
+use Rattle.cs_machine.specs.{Outputs.outs, Registers.IsWritten, Registers.values, declared.state.State.State}
+use Rattle.cs_voice_meaning.specs.{Follows.Kinds, Placing.IsPlaced, VoiceWorld.voice_world}
 use Rattle.cs_voice_meaning.specs.VoiceWorld.{Playing, VoiceState, has_played, inputs_at, played, voice_model}
-use Rattle.cs_voice_meaning.specs.VoiceWorld.{voice_world}
-use Rattle.cs_machine.specs.declared.state.State.{State}
-use Rattle.cs_machine.specs.States.{Does, IsPlayerOf, IsStateIn, machine_of, unit_at}
-use Rattle.cs_voice.specs.Units.{cycled, may_play, unit_after, unit_gives}
+use Rattle.cs_machine.specs.States.{IsPlayerOf, machine_of, unit_at}
+use Rattle.cs_voice.specs.Units.{DoesUnit, cycled, may_play, unit_after, unit_gives}
 use Rattle.cs_voice.proofs.Points.{same_points, same_reach, unit_result}
+use Rattle.cs_ir.specs.declared.op.Act.TheVariants as act
 
 -- ---- units by number
-
-through : {A B : Type 0} (f : A → B) (b : Bool) (x y : A) → f (if b then x else y) ≡ (if b then f x else f y)
-through f true x y = refl
-through f false x y = refl
 
 -- what is put at a number where the same was changes nothing
 unit_again : (units : ℕ → Option Playing) (u : ℕ) (o : Option Playing) → units u ≡ o
@@ -53,7 +37,7 @@ unit_again units u o is = λ i n. at n i
         (λ no. ap (λ b. if b then o else units n) no)
 
 -- the units of a list of which one was set
-units_set : (players : List (Option PlayerData)) (u : ℕ) (q : Option PlayerData) → u < length players
+pub units_set : (players : List (Option PlayerData)) (u : ℕ) (q : Option PlayerData) → u < length players
     → unit_at (slice_set players u q) ≡ (λ n. if n == u then option_map playing q else unit_at players n)
 units_set players u q low = λ i n. at n i
   where
@@ -167,28 +151,19 @@ still_player areas piece kind ksmps r reach ws cells (Some p) is q at =
         (steps_of ksmps r) (cycled ksmps r ws cells p).1 refl) (is p refl)
     by_reach false = is p refl
 
--- what the players are of which one has run
-players_run : (areas : List Area) (piece : Piece) (kinds : Kinds) (players : List (Option PlayerData)) (u : ℕ)
-    (ksmps : ℕ) (r : Rate) (reach : Reach) (ws : List Wave) (cells : ℕ → ℤ)
-    → u < length players → ((v : ℕ) (p : PlayerData) → slice_index_or players v None ≡ Some p
-    → IsPlayerOf areas piece (kinds v) p)
-    → (v : ℕ) (p : PlayerData)
-    → slice_index_or (slice_set players u (unit_after ksmps r reach ws cells (slice_index_or players u None))) v
-    None ≡ Some p → IsPlayerOf areas piece (kinds v) p
-players_run areas piece kinds players u ksmps r reach ws cells low are v p at = by_test (v == u)
+-- what the players are of which one was set
+pub players_set : (areas : List Area) (piece : Piece) (kinds : Kinds) (players : List (Option PlayerData)) (u : ℕ)
+    (o : Option PlayerData) → u < length players → ((p : PlayerData) → o ≡ Some p → IsPlayerOf areas piece (kinds u) p)
+    → ((v : ℕ) (p : PlayerData) → slice_index_or players v None ≡ Some p → IsPlayerOf areas piece (kinds v) p)
+    → (v : ℕ) (p : PlayerData) → slice_index_or (slice_set players u o) v None ≡ Some p
+    → IsPlayerOf areas piece (kinds v) p
+players_set areas piece kinds players u o low own are v p at = by_test (v == u)
     (λ yes. subst (λ n. IsPlayerOf areas piece (kinds n) p) (sym (eqb-true v u yes))
-    (still_player areas piece (kinds u) ksmps r reach ws cells (slice_index_or players u None) (are u) p
-    (sym (here ∙ ap (λ b. if b then unit_after ksmps r reach ws cells (slice_index_or players u None) else
-    slice_index_or players v None) yes) ∙ at)))
-    (λ no. are v p (sym (here
-    ∙ ap (λ b. if b then unit_after ksmps r reach ws cells (slice_index_or players u None) else slice_index_or players v
-    None) no) ∙ at))
+    (own p (sym (here ∙ ap (λ b. if b then o else slice_index_or players v None) yes) ∙ at)))
+    (λ no. are v p (sym (here ∙ ap (λ b. if b then o else slice_index_or players v None) no) ∙ at))
   where
-    here : slice_index_or (slice_set players u (unit_after ksmps r reach ws cells (slice_index_or players u None))) v
-        None
-        ≡ (if v == u then unit_after ksmps r reach ws cells (slice_index_or players u None) else slice_index_or players
-        v None)
-    here = set_at_place players u (unit_after ksmps r reach ws cells (slice_index_or players u None)) None low v
+    here : slice_index_or (slice_set players u o) v None ≡ (if v == u then o else slice_index_or players v None)
+    here = set_at_place players u o None low v
 
 -- the act of an opcode that computes a result, by its parts
 abbrev unit_machine : ℕ → ℕ → Option PlayerData → Reg → Wave → Machine VoiceState → Machine VoiceState
@@ -205,28 +180,17 @@ acts_as areas stock piece opcode u reach into ws m o unit placed at is =
     ap (λ d. written piece.head.ksmps opcode into d m)
     (ap (λ k. unit_does (voice_model areas piece) opcode (rate_at into) u reach ws k m.world) at
     ∙ plays_as areas stock piece opcode (rate_at into) reach u ws m.world placed o at is)
-    ∙ given (gives opcode) (unit_result opcode unit).some
-    (answers u (unit_after piece.head.ksmps (rate_at into) reach ws m.world.shared o)
-    (unit_gives piece.head.ksmps (rate_at into) reach ws m.world.shared o) m.world)
-  where
-    given : (b : Bool) → b ≡ true → (d : VoiceState × Wave)
-        → (if b then write piece.head.ksmps into d.1 (in_world d.0 m) else in_world d.0 m) ≡ write piece.head.ksmps into
-        d.1 (in_world d.0 m)
-    given true h d = refl
-    given false h d = absurd (cc)
+    ∙ if_true (gives opcode) _ _ (unit_result opcode unit).some
 
-pub unit_done : (areas : List Area) (piece : Piece) (stock : Stock) (kinds : Kinds) (counts : Counts) (opcode : Opcode)
-    (u : ℕ) (reach : Reach) (into : Reg) (from : List Reg)
-    (old new : State) (before after : ℕ → ℤ) → IsUnitOpcode opcode → kinds u ≡ (opcode, (rate_at into))
-    → IsPlaced areas stock piece → IsStateIn areas piece kinds counts old
+pub unit_done : {u : ℕ} {reach : Reach} {into : Reg} {from : List Reg} {old new : State} {before after : ℕ → ℤ}
     → u < length old.players.items → after ≡ before
     → HasRun old u (unit_after old.regs.ksmps (rate_at into) reach (map (values old.regs) from) before
     (slice_index_or old.players.items u None)) into
     (unit_gives old.regs.ksmps (rate_at into) reach (map (values old.regs) from) before
     (slice_index_or old.players.items u None)) new
-    → Does areas piece kinds counts (act.Unit opcode u reach) into from old before new after
-unit_done areas piece stock kinds counts opcode u reach into from old new before after unit kind placed state low same
-    ran = record {
+    → DoesUnit u reach into from old before new after
+unit_done {u} {reach} {into} {from} {old} {new} {before} {after} low same ran areas piece stock kinds counts opcode unit
+    kind placed state = record {
       machine = λ next asks cause.
           run_machine piece.head.ksmps old new u _ into _ ran state.frames low before after same next asks cause
           ∙ ap (λ n. unit_machine piece.head.ksmps u
@@ -246,8 +210,9 @@ unit_done areas piece stock kinds counts opcode u reach into from old new before
         channel_frames = ap (λ f. f.ksmps) ran.outs ∙ state.channel_frames;
         units = ap length ran.players ∙ length-set old.players.items u _ ∙ state.units;
         row = ran.row ∙ state.frames;
-        players = λ v p at. players_run areas piece kinds old.players.items u old.regs.ksmps (rate_at into) reach
-            (map (values old.regs) from) before low state.players v p
+        players = λ v p at. players_set areas piece kinds old.players.items u _ low
+            (still_player areas piece (kinds u) old.regs.ksmps (rate_at into) reach (map (values old.regs) from) before
+            (slice_index_or old.players.items u None) (state.players u)) state.players v p
             (ap (λ l. slice_index_or l v None) (sym ran.players) ∙ at);
       };
     }

@@ -2,103 +2,31 @@
 use Rattle.std.proofs.Common.{◌≡◌, ℕ, ℤ, ◌<◌, ◌==◌, suc, Bool, true, List, [], ◌∷◌, length, slice_index_or, Some, None}
 use Rattle.std.proofs.Common.{if◌then◌else◌, refl, sym, ◌∙◌, ap, subst, eqb-true, ltb-true}
 use Rattle.std.proofs.lemmas.Bool.{and_parts}
-use Rattle.cs_base.specs.Rates.{is_audio, res_rate}
-use Rattle.cs_base.specs.declared.resource.Rate.{Rate}
+use Rattle.cs_base.specs.{Rates.is_audio, Rates.res_rate, declared.resource.Rate.Rate}
 use Rattle.cs_words.specs.Catalogue.{moving_letters, row_of, takes}
-use Rattle.cs_words.specs.declared.catalogue.Letter.{Letter}
-use Rattle.cs_words.specs.declared.catalogue.Letter.TheVariants as letter
-use Rattle.cs_words.specs.declared.catalogue.Opcode.{Opcode}
-use Rattle.cs_words.specs.declared.catalogue.Opcode.TheVariants as op
+use Rattle.cs_words.specs.{declared.catalogue.Letter.Letter, declared.catalogue.Opcode.Opcode}
+use Rattle.cs_words.specs.{declared.catalogue.Shape.Shape, declared.catalogue.Space.Space}
 use Rattle.cs_words.proofs.EachOpcode.{when_all}
-use Rattle.cs_words.specs.declared.catalogue.Shape.{Shape}
-use Rattle.cs_words.specs.declared.catalogue.Shape.TheVariants as shape
-use Rattle.cs_words.specs.declared.catalogue.Space.{Space}
 use Rattle.cs_ugen.specs.Units.{IsUnitOpcode, moving_count}
-use Rattle.cs_ir.specs.Registers.{rate_at}
+use Rattle.cs_ir.specs.{Registers.rate_at, Units.is_unit, Units.is_zak, Validity.takes_from, Validity.writes}
+use Rattle.cs_ir.specs.{declared.op.Act.Act, declared.op.Op.Op, declared.op.Reach.Reach, declared.register.Reg.Reg}
 use Rattle.cs_ir.specs.Resources.{Stock, act_uses, act_writes, places_within, shape_uses, writes_places}
-use Rattle.cs_ir.specs.Units.{is_unit, is_zak}
 use Rattle.cs_ir.proofs.Shapes.{run_shape}
 use Rattle.cs_ir.specs.Validity.{bound_at, finds, has_register, may_run_at, runs_with, stores_with, take_all}
-use Rattle.cs_ir.specs.Validity.{takes_from, writes}
-use Rattle.cs_ir.specs.declared.op.Act.{Act}
-use Rattle.cs_ir.specs.declared.op.Act.TheVariants as act
-use Rattle.cs_ir.specs.declared.op.Op.{Op}
-use Rattle.cs_ir.specs.declared.op.Reach.{Reach}
-use Rattle.cs_ir.specs.declared.register.Reg.{Reg}
 use Rattle.cs_meaning.specs.Pieces.{Piece}
-use Rattle.cs_machine.specs.Players.{PlayerData}
+use Rattle.cs_machine.specs.{Players.PlayerData, declared.state.NoteSetting.NoteSetting, declared.state.State.State}
 use Rattle.cs_voice_meaning.specs.Follows.{ActNamed, AreNamed, Kinds}
-use Rattle.cs_voice_meaning.specs.Placing.{HasArea, cell_count}
-use Rattle.cs_voice_meaning.specs.Voices.{has_channel}
+use Rattle.cs_voice_meaning.specs.{Placing.HasArea, Placing.cell_count, Voices.has_channel}
 use Rattle.cs_machine.proofs.Done.{has_room}
 use Rattle.cs_machine.specs.States.{Does, DoesAt, HasRoom, IsPlayerOf, MayTouch}
-use Rattle.cs_machine.specs.declared.state.NoteSetting.{NoteSetting}
-use Rattle.cs_machine.specs.declared.state.State.{State}
 use Rattle.cs_voice.specs.Cells.{AreSized, CanReach, DoesOver, MayReach, MayStore}
-use Rattle.cs_voice.specs.Ready.{DoesOp, IsFit, IsReady}
-use Rattle.cs_voice.specs.Units.{DoesUnit, MayPlay}
+use Rattle.cs_voice.specs.{Ready.DoesOp, Ready.IsFit, Ready.IsReady, Units.DoesUnit, Units.MayPlay}
 use Rattle.cs_voice.proofs.Fitting.{Parts, found, parts, takes_as}
-use Rattle.cs_voice.proofs.Points.{unit_result}
-use Rattle.cs_voice.proofs.Touching.{may_reach, may_run, may_store}
-
--- ---- what each op has
-
-module _ {can_get can_set : ℕ → Type 0} {count : ℕ} {at : NoteSetting} {piece : Piece} {kinds : Kinds} {stock : Stock}
-    {o : Op} {s : State}
-    (r : IsReady can_get can_set count at piece kinds stock o s) where
-  pub room_of : HasRoom s
-  room_of = has_room at.layout.now piece kinds s.regs.counts s r.state
-
-  pub sized_of : AreSized at.layout.now s.regs.ksmps
-  sized_of = record {
-    frames = subst (λ n. 0 < n) (sym r.state.frames) r.placed.frames;
-    cells = λ g area is value. r.placed.cells g area is value
-        ∙ ap (λ n. cell_count n (res_rate g)) (sym r.state.frames);
-  }
-
-  pub fit_of : IsFit o s
-  fit_of = record {
-    end = r.end;
-    place = r.place;
-    fine = r.fine;
-    room = has_room at.layout.now piece kinds s.regs.counts s r.state;
-    channel = subst (λ n. has_channel n o.act ≡ true) (sym r.state.channels) r.channel;
-  }
-
-  pub parts_of : Parts s.regs.counts o
-  parts_of = parts s.regs.counts r.end r.place o r.fine
-
-  -- the act by its name
-  pub uses_of : {a : Act} → o.act ≡ a → AreNamed (MayTouch can_get count at.layout.now) (act_uses stock a)
-  uses_of {a} e = subst (λ b. AreNamed (MayTouch can_get count at.layout.now) (act_uses stock b)) e r.can.uses
-
-  pub writes_of : {a : Act} → o.act ≡ a → AreNamed (MayTouch can_set count at.layout.now) (act_writes stock a)
-  writes_of {a} e = subst (λ b. AreNamed (MayTouch can_set count at.layout.now) (act_writes stock b)) e r.can.writes
-
-  pub takes_of : {a : Act} → o.act ≡ a → takes_from a (rate_at o.into) o.from ≡ true
-  takes_of {a} e = takes_as o a e (parts s.regs.counts r.end r.place o r.fine).takes
-
-  pub into_of : {a : Act} → o.act ≡ a → writes a ≡ true → has_register s.regs.counts o.into ≡ true
-  into_of {a} e w = (parts s.regs.counts r.end r.place o r.fine).into (ap writes e ∙ w)
-
-  pub kind_of : {opcode : Opcode} {u : ℕ} {reach : Reach} → o.act ≡ act.Unit opcode u reach
-      → kinds u ≡ (opcode, (rate_at o.into))
-  kind_of {opcode} {u} {reach} e = (subst (λ a. ActNamed stock kinds (HasArea at.layout.now) a (rate_at o.into)) e
-      r.named).0
-
-  pub number_of : {opcode : Opcode} {u : ℕ} {reach : Reach} → o.act ≡ act.Unit opcode u reach
-      → u < length s.players.items
-  number_of {opcode} {u} {reach} e = subst (λ n. u < n) (sym r.state.units)
-      (ltb-true u s.regs.counts.units
-      (ap (finds s.regs.counts r.end r.place) (sym e) ∙ found s.regs.counts r.end r.place o r.fine))
-
-  -- the players of a unit
-  pub player_of : {opcode : Opcode} {u : ℕ} {reach : Reach} → o.act ≡ act.Unit opcode u reach → (p : PlayerData)
-      → slice_index_or s.players.items u None ≡ Some p
-      → IsPlayerOf at.layout.now piece (opcode, (rate_at o.into)) p
-  player_of {opcode} {u} {reach} e p is = subst (λ k. IsPlayerOf at.layout.now piece k p)
-      (subst (λ a. ActNamed stock kinds (HasArea at.layout.now) a (rate_at o.into)) e r.named).0 (r.state.players u
-      p is)
+use Rattle.cs_voice.proofs.{Points.unit_result, Touching.may_reach, Touching.may_run, Touching.may_store}
+use Rattle.cs_words.specs.declared.catalogue.Letter.TheVariants as letter
+use Rattle.cs_words.specs.declared.catalogue.Opcode.TheVariants as op
+use Rattle.cs_words.specs.declared.catalogue.Shape.TheVariants as shape
+use Rattle.cs_ir.specs.declared.op.Act.TheVariants as act
 
 -- ---- operands of units, of stores and of acts on zak places
 
@@ -175,19 +103,110 @@ mix_sounds o reach r xs x n h mix e =
 
 -- a store takes three operands
 pub store_long : (r : Rate) (xs : List Reg) → stores_with r xs ≡ true → length xs ≡ 3
-store_long r [] h = absurd (cc)
-store_long r (x ∷ []) h = absurd (cc)
-store_long r (x ∷ y ∷ []) h = absurd (cc)
 store_long r (x ∷ y ∷ n ∷ []) h = refl
-store_long r (x ∷ y ∷ n ∷ z ∷ xs) h = absurd (cc)
+store_long r xs h = absurd (cc)
 
--- the register that a unit's result goes into is there
-pub unit_into : {can_get can_set : ℕ → Type 0} {count : ℕ} {at : NoteSetting} {piece : Piece} {kinds : Kinds}
-    {stock : Stock} {o : Op} {s : State}
-    → IsReady can_get can_set count at piece kinds stock o s → {opcode : Opcode} {u : ℕ} {reach : Reach}
-    → o.act ≡ act.Unit opcode u reach → has_register s.regs.counts o.into ≡ true
-unit_into {can_get} {can_set} {count} {at} {piece} {kinds} {stock} {o} {s} r {opcode} {u} {reach} e =
-    into_of r e (unit_result opcode (is_a_unit opcode u reach (rate_at o.into) o.from (takes_of r e))).some
+-- ---- what each op has
+
+module _ {can_get can_set : ℕ → Type 0} {count : ℕ} {at : NoteSetting} {piece : Piece} {kinds : Kinds} {stock : Stock}
+    {o : Op} {s : State}
+    (r : IsReady can_get can_set count at piece kinds stock o s) where
+  pub room_of : HasRoom s
+  room_of = has_room at.layout.now piece kinds s.regs.counts s r.state
+
+  pub sized_of : AreSized at.layout.now s.regs.ksmps
+  sized_of = record {
+    frames = subst (λ n. 0 < n) (sym r.state.frames) r.placed.frames;
+    cells = λ g area is value. r.placed.cells g area is value
+        ∙ ap (λ n. cell_count n (res_rate g)) (sym r.state.frames);
+  }
+
+  pub fit_of : IsFit o s
+  fit_of = record {
+    end = r.end;
+    place = r.place;
+    fine = r.fine;
+    room = has_room at.layout.now piece kinds s.regs.counts s r.state;
+    channel = subst (λ n. has_channel n o.act ≡ true) (sym r.state.channels) r.channel;
+  }
+
+  pub parts_of : Parts s.regs.counts o
+  parts_of = parts s.regs.counts r.end r.place o r.fine
+
+  -- the act by its name
+  pub uses_of : {a : Act} → o.act ≡ a → AreNamed (MayTouch can_get count at.layout.now) (act_uses stock a)
+  uses_of {a} e = subst (λ b. AreNamed (MayTouch can_get count at.layout.now) (act_uses stock b)) e r.can.uses
+
+  pub writes_of : {a : Act} → o.act ≡ a → AreNamed (MayTouch can_set count at.layout.now) (act_writes stock a)
+  writes_of {a} e = subst (λ b. AreNamed (MayTouch can_set count at.layout.now) (act_writes stock b)) e r.can.writes
+
+  pub takes_of : {a : Act} → o.act ≡ a → takes_from a (rate_at o.into) o.from ≡ true
+  takes_of {a} e = takes_as o a e (parts s.regs.counts r.end r.place o r.fine).takes
+
+  pub into_of : {a : Act} → o.act ≡ a → writes a ≡ true → has_register s.regs.counts o.into ≡ true
+  into_of {a} e w = (parts s.regs.counts r.end r.place o r.fine).into (ap writes e ∙ w)
+
+  pub kind_of : {opcode : Opcode} {u : ℕ} {reach : Reach} → o.act ≡ act.Unit opcode u reach
+      → kinds u ≡ (opcode, (rate_at o.into))
+  kind_of {opcode} {u} {reach} e = (subst (λ a. ActNamed stock kinds (HasArea at.layout.now) a (rate_at o.into)) e
+      r.named).0
+
+  pub number_of : {opcode : Opcode} {u : ℕ} {reach : Reach} → o.act ≡ act.Unit opcode u reach
+      → u < length s.players.items
+  number_of {opcode} {u} {reach} e = subst (λ n. u < n) (sym r.state.units)
+      (ltb-true u s.regs.counts.units
+      (ap (finds s.regs.counts r.end r.place) (sym e) ∙ found s.regs.counts r.end r.place o r.fine))
+
+  -- the players of a unit
+  pub player_of : {opcode : Opcode} {u : ℕ} {reach : Reach} → o.act ≡ act.Unit opcode u reach → (p : PlayerData)
+      → slice_index_or s.players.items u None ≡ Some p
+      → IsPlayerOf at.layout.now piece (opcode, (rate_at o.into)) p
+  player_of {opcode} {u} {reach} e p is = subst (λ k. IsPlayerOf at.layout.now piece k p)
+      (subst (λ a. ActNamed stock kinds (HasArea at.layout.now) a (rate_at o.into)) e r.named).0 (r.state.players u
+      p is)
+
+  -- the register that a unit's result goes into is there, and its table may be read
+  pub unit_into : {opcode : Opcode} {u : ℕ} {reach : Reach} → o.act ≡ act.Unit opcode u reach
+      → has_register s.regs.counts o.into ≡ true
+  unit_into {opcode} {u} {reach} e =
+      into_of e (unit_result opcode (is_a_unit opcode u reach (rate_at o.into) o.from (takes_of e))).some
+
+  pub unit_may_play : {opcode : Opcode} {u : ℕ} {reach : Reach} → o.act ≡ act.Unit opcode u reach → (p : PlayerData)
+      → slice_index_or s.players.items u None ≡ Some p → MayPlay can_get count reach o.from p
+  unit_may_play {opcode} {u} {reach} e p is =
+      let takes = takes_of e in
+      may_run can_get count at.layout.now stock piece opcode (rate_at o.into) reach o.from p
+      (is_a_unit opcode u reach (rate_at o.into) o.from takes)
+      (unit_count opcode u reach (rate_at o.into) o.from takes)
+      r.placed (uses_of e) (player_of e p is)
+
+  pub op_may_store : {reach : Reach} → o.act ≡ act.Store reach → MayStore can_set count at.layout.now reach
+  op_may_store {reach} e = may_store can_set count at.layout.now stock piece reach r.placed (writes_of e)
+
+  -- zak places: those of the space that its shape reads, and those of the one that it writes
+  module _ {opcode : Opcode} {reach : Reach} (e : o.act ≡ act.Zak opcode reach) where
+    pub may_read : (z : Space) {sh : Shape} → (row_of opcode).shape ≡ sh
+        → ((stock : Stock) → shape_uses stock sh reach ≡ places_within stock z reach)
+        → MayReach can_get count at z reach
+    may_read z {sh} is these =
+        may_reach can_get count at stock piece z reach r.placed.spaces r.setting.spaces
+        (subst (AreNamed (MayTouch can_get count at.layout.now)) (ap (λ q. shape_uses stock q reach) is ∙ these stock)
+        (uses_of e))
+
+    pub may_write : (z : Space) {sh : Shape} → (row_of opcode).shape ≡ sh
+        → ((stock : Stock) → (if writes_places sh then shape_uses stock sh reach else []) ≡ places_within stock z reach)
+        → MayReach can_set count at z reach
+    may_write z {sh} is these =
+        may_reach can_set count at stock piece z reach r.placed.spaces r.setting.spaces
+        (subst (AreNamed (MayTouch can_set count at.layout.now))
+        (ap (λ q. if writes_places q then shape_uses stock q reach else []) is ∙ these stock)
+        (writes_of e))
+
+  -- a register may name the places that may be touched
+  pub can_reach : {allowed : ℕ → Type 0} {space : Space} {reach : Reach} {number : Reg}
+      → has_register s.regs.counts number ≡ true → MayReach allowed count at space reach
+      → CanReach allowed count at space reach number s
+  can_reach there places = record { register = there; room = room_of; sized = sized_of; places = places }
 
 -- ---- an op that is done
 
@@ -219,56 +238,3 @@ pub does_op_plain : {can_get can_set : ℕ → Type 0} {count : ℕ} {at : NoteS
     → DoesAt at o.act o.into o.from old new → DoesOp can_get can_set count at o old cells new cells
 does_op_plain {can_get} {can_set} {count} {at} {o} {old} {cells} {new} h piece kinds stock r =
     h at.layout.now piece kinds old.regs.counts cells r.setting r.state
-
--- ---- zak places of an op that is ready
-
-module _ {can_get can_set : ℕ → Type 0} {count : ℕ} {at : NoteSetting} {piece : Piece} {kinds : Kinds} {stock : Stock}
-    {o : Op} {s : State}
-    (r : IsReady can_get can_set count at piece kinds stock o s) {opcode : Opcode} {reach : Reach}
-    (e : o.act ≡ act.Zak opcode reach) where
-  -- those of the space that its shape reads, and those of the one that it writes
-  pub may_read : (z : Space) {sh : Shape} → (row_of opcode).shape ≡ sh
-      → ((stock : Stock) → shape_uses stock sh reach ≡ places_within stock z reach) → MayReach can_get count at z reach
-  may_read z {sh} is these =
-      may_reach can_get count at stock piece z reach r.placed.spaces r.setting.spaces
-      (subst (AreNamed (MayTouch can_get count at.layout.now)) (ap (λ q. shape_uses stock q reach) is ∙ these stock)
-      (uses_of r e))
-
-  pub may_write : (z : Space) {sh : Shape} → (row_of opcode).shape ≡ sh
-      → ((stock : Stock) → (if writes_places sh then shape_uses stock sh reach else []) ≡ places_within stock z reach)
-      → MayReach can_set count at z reach
-  may_write z {sh} is these =
-      may_reach can_set count at stock piece z reach r.placed.spaces r.setting.spaces
-      (subst (AreNamed (MayTouch can_set count at.layout.now))
-      (ap (λ q. if writes_places q then shape_uses stock q reach else []) is ∙ these stock)
-      (writes_of r e))
-
--- a register of an op that is ready may name the places that may be touched
-pub can_reach : {can_get can_set : ℕ → Type 0} {count : ℕ} {at : NoteSetting} {piece : Piece} {kinds : Kinds}
-    {stock : Stock}
-    {o : Op} {s : State} → IsReady can_get can_set count at piece kinds stock o s
-    → {allowed : ℕ → Type 0} {space : Space} {reach : Reach} {number : Reg}
-    → has_register s.regs.counts number ≡ true → MayReach allowed count at space reach
-    → CanReach allowed count at space reach number s
-can_reach r there places = record { register = there; room = room_of r; sized = sized_of r; places = places }
-
--- ---- tables of an op that is ready
-
-pub unit_may_play : {can_get can_set : ℕ → Type 0} {count : ℕ} {at : NoteSetting} {piece : Piece} {kinds : Kinds}
-    {stock : Stock} {o : Op} {s : State}
-    → IsReady can_get can_set count at piece kinds stock o s → {opcode : Opcode} {u : ℕ} {reach : Reach}
-    → o.act ≡ act.Unit opcode u reach
-    → (p : PlayerData) → slice_index_or s.players.items u None ≡ Some p → MayPlay can_get count reach o.from p
-unit_may_play {can_get} {can_set} {count} {at} {piece} {kinds} {stock} {o} {s} r {opcode} {u} {reach} e p is =
-    let takes = takes_of r e in
-    may_run can_get count at.layout.now stock piece opcode (rate_at o.into) reach o.from p
-    (is_a_unit opcode u reach (rate_at o.into) o.from takes)
-    (unit_count opcode u reach (rate_at o.into) o.from takes)
-    r.placed (uses_of r e) (player_of r e p is)
-
-pub op_may_store : {can_get can_set : ℕ → Type 0} {count : ℕ} {at : NoteSetting} {piece : Piece} {kinds : Kinds}
-    {stock : Stock} {o : Op} {s : State}
-    → IsReady can_get can_set count at piece kinds stock o s → {reach : Reach}
-    → o.act ≡ act.Store reach → MayStore can_set count at.layout.now reach
-op_may_store {can_get} {can_set} {count} {at} {piece} {kinds} {stock} {o} {s} r {reach} e =
-    may_store can_set count at.layout.now stock piece reach r.placed (writes_of r e)

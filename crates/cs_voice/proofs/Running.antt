@@ -1,26 +1,26 @@
 -- A code that is run op by op, past those that jumps leave out.
 use Rattle.std.proofs.Common.{◌≡◌, ℕ, ℤ, zero, suc, ◌+◌, ◌-◌, ◌<◌, ◌≤◌, Bool, true, false, not, ◌&&◌, List, [], ◌∷◌}
 use Rattle.std.proofs.Common.{length, drop, map, nat_le, slice_get, Some, None, if◌then◌else◌, refl, sym, ◌∙◌, ap}
-use Rattle.std.proofs.Common.{arith}
-use Rattle.std.proofs.lemmas.Bool.Decides.{nat_tests}
-use Rattle.std.proofs.lemmas.List.{drop-drop, drop_all, drop_more}
+use Rattle.std.proofs.{Common.arith, Math.Bool.and-false}
+use Rattle.std.proofs.lemmas.{Bool.Decides.nat_tests, List.drop-drop, List.drop_all, List.drop_more}
 use Rattle.std.proofs.lemmas.Option.{get_or_from_slice_get, slice_get_within}
-use Rattle.cs_ir.specs.Machine.{Machine, acts, run, step}
-use Rattle.cs_ir.specs.Values.{holds}
-use Rattle.cs_ir.specs.Waves.{Wave, operand}
-use Rattle.cs_ir.specs.Worlds.{World}
-use Rattle.cs_ir.specs.declared.op.Act.{Act}
-use Rattle.cs_ir.specs.declared.op.Act.TheVariants as act
-use Rattle.cs_ir.specs.declared.op.Op.{Op}
-use Rattle.cs_ir.specs.declared.register.Reg.{Reg}
+use Rattle.cs_ir.specs.{Machine.Machine, Machine.acts, Machine.run, Machine.step, Values.holds, Waves.Wave}
+use Rattle.cs_ir.specs.{Waves.operand, Worlds.World, declared.op.Act.Act, declared.op.Op.Op, declared.register.Reg.Reg}
 use Rattle.cs_cells.specs.declared.footprint.Area.{Area}
 use Rattle.cs_meaning.specs.Pieces.{Piece}
-use Rattle.cs_machine.specs.States.{machine_of}
-use Rattle.cs_machine.specs.declared.state.State.{State}
-use Rattle.cs_voice_meaning.specs.VoiceWorld.{voice_world}
-use Rattle.cs_voice.specs.Cycles.{HasMoved}
-use Rattle.cs_voice.specs.inner.Coming.{IsUpTo}
-use Rattle.cs_voice.specs.inner.Jumps.{GoesOn}
+use Rattle.cs_machine.specs.{States.machine_of, declared.state.State.State}
+use Rattle.cs_voice_meaning.specs.VoiceWorld.{VoiceState, voice_world}
+use Rattle.cs_voice.specs.{inner.Coming.IsUpTo, inner.Jumps.GoesOn}
+use Rattle.cs_ir.specs.declared.op.Act.TheVariants as act
+
+-- The machine after the op at a place is this state over these cells, and the next op that is done is at another place:
+-- the one behind, or the one that the op jumps to.
+pub record HasMoved (place result : ℕ) (asked : List (List ℤ)) (m : Machine VoiceState) (new : State) (after : ℕ → ℤ)
+    : Type 0 where
+  pub next : ℕ
+  pub machine : machine_of new after next asked None ≡ m
+  pub below : next ≤ result
+  pub there : place + 1 < result → next ≡ result
 
 -- the ops from the place of one of them on
 from_op : (ops : List Op) (n : ℕ) (op : Op) → slice_get ops n ≡ Some op → drop n ops ≡ op ∷ drop (n + 1) ops
@@ -63,12 +63,8 @@ module _ {W : Type 0} (o : World W) where
       let n : Machine W = acts o x.act x.into (map m.regs x.from) m in
       ap (run o (place + 1) ops)
       (ap (λ b. if nat_le m.next place && not b then n else m) e
-      ∙ ap (λ b. if b then n else m) (never (nat_le m.next place)))
+      ∙ ap (λ b. if b then n else m) (and-false (nat_le m.next place)))
       ∙ stops ops (place + 1) m e
-    where
-      never : (b : Bool) → (b && false) ≡ false
-      never true = refl
-      never false = refl
 
   -- an op that isn't passed over is done, where nothing was refused
   done_here : (place : ℕ) (op : Op) (m : Machine W) → m.next ≤ place → o.refused m.world ≡ false
@@ -81,35 +77,32 @@ module _ {W : Type 0} (o : World W) where
   pub begins : (ops : List Op) (m : Machine W) → m.next ≡ 0 → IsUpTo o ops m 0 m
   begins ops m e = record { next = omega arith; same = refl }
 
+module _ {W : Type 0} {o : World W} {ops : List Op} {first : Machine W} {place : ℕ} {m : Machine W}
+    (u : IsUpTo o ops first place m) where
   -- the run from the place of an op on: the op, and the run from the next place on
-  op_done : (ops : List Op) (first : Machine W) (place : ℕ) (op : Op) (m n : Machine W) → IsUpTo o ops first place m
-      → slice_get ops place ≡ Some op → o.refused m.world ≡ false → n ≡ acts o op.act op.into (map m.regs op.from) m
+  op_done : {op : Op} {n : Machine W} → slice_get ops place ≡ Some op → o.refused m.world ≡ false
+      → n ≡ acts o op.act op.into (map m.regs op.from) m
       → run o 0 ops first ≡ run o (place + 1) (drop (place + 1) ops) n
-  op_done ops first place op m n u at goes e =
+  op_done {op} at goes e =
       u.same ∙ ap (λ rest. run o place rest m) (from_op ops place op at)
-      ∙ ap (run o (place + 1) (drop (place + 1) ops)) (done_here place op m u.next goes ∙ sym e)
+      ∙ ap (run o (place + 1) (drop (place + 1) ops)) (done_here o place op m u.next goes ∙ sym e)
 
   -- an op is done, and the run goes on behind it or where it leads
-  pub goes_on : (ops : List Op) (first : Machine W) (place to : ℕ) (op : Op) (m n : Machine W)
-      → IsUpTo o ops first place m → slice_get ops place ≡ Some op → o.refused m.world ≡ false
+  pub goes_on : {to : ℕ} {op : Op} {n : Machine W} → slice_get ops place ≡ Some op → o.refused m.world ≡ false
       → n ≡ acts o op.act op.into (map m.regs op.from) m → place < to → n.next ≤ to → (place + 1 < to → n.next ≡ to)
       → IsUpTo o ops first to n
-  goes_on ops first place to op m n u at goes e later near there = record {
+  goes_on {to} {op} {n} at goes e later near there = record {
     next = near;
-    same = op_done ops first place op m n u at goes e ∙ past ops (place + 1) to n (omega (arith, later)) there;
+    same = op_done at goes e ∙ past o ops (place + 1) to n (omega (arith, later)) there;
   }
 
   -- the end of the code; or a refusal before it
-  pub ends : (ops : List Op) (first : Machine W) (place : ℕ) (m : Machine W) → IsUpTo o ops first place m
-      → length ops ≤ place → run o 0 ops first ≡ m
-  ends ops first place m u h = u.same ∙ ap (λ rest. run o place rest m) (drop_all place ops h)
+  pub ends : length ops ≤ place → run o 0 ops first ≡ m
+  ends h = u.same ∙ ap (λ rest. run o place rest m) (drop_all place ops h)
 
-  pub refuses : (ops : List Op) (first : Machine W) (place : ℕ) (op : Op) (m n : Machine W) → IsUpTo o ops first place m
-      → slice_get ops place ≡ Some op
-      → o.refused m.world ≡ false → n ≡ acts o op.act op.into (map m.regs op.from) m → o.refused n.world ≡ true
-      → run o 0 ops first ≡ n
-  refuses ops first place op m n u at goes e stopped =
-      op_done ops first place op m n u at goes e ∙ stops (drop (place + 1) ops) (place + 1) n stopped
+  pub refuses : {op : Op} {n : Machine W} → slice_get ops place ≡ Some op → o.refused m.world ≡ false
+      → n ≡ acts o op.act op.into (map m.regs op.from) m → o.refused n.world ≡ true → run o 0 ops first ≡ n
+  refuses {op} {n} at goes e stopped = op_done at goes e ∙ stops o (drop (place + 1) ops) (place + 1) n stopped
 
 -- a jump changes neither state nor cells
 module _ (areas : List Area) (piece : Piece) (s : State) (cells : ℕ → ℤ) (more : List (List ℤ)) where

@@ -1,36 +1,24 @@
 -- What notes share: what a register takes of an area, and an area of a register.
 use Rattle.std.proofs.Common.{◌≡◌, ℕ, ℤ, pos, ◌+◌, ◌<◌, true, false, List, length, nat_lt, Some, if◌then◌else◌, refl}
 use Rattle.std.proofs.Common.{sym, ◌∙◌, ap, subst, arith}
-use Rattle.std.proofs.lemmas.Bool.{false≢true}
-use Rattle.std.proofs.lemmas.Bool.Decides.{nat_tests}
-use Rattle.cs_base.specs.Rates.{is_audio}
-use Rattle.cs_base.specs.declared.resource.Rate.{Rate}
-use Rattle.cs_base.specs.declared.resource.Rate.TheVariants as rate
-use Rattle.cs_base.specs.declared.resource.Res.{Res}
-use Rattle.cs_ir.specs.Registers.{rate_at}
-use Rattle.cs_ir.specs.Waves.{Wave, constant, held}
-use Rattle.cs_ir.specs.declared.register.Reg.{Reg}
+use Rattle.std.proofs.lemmas.{Bool.false≢true, Bool.Decides.nat_tests}
+use Rattle.cs_base.specs.{Rates.is_audio, declared.resource.Rate.Rate, declared.resource.Res.Res}
+use Rattle.cs_ir.specs.{Registers.rate_at, Waves.Wave, Waves.constant, Waves.held, declared.register.Reg.Reg}
 use Rattle.cs_cells.specs.declared.footprint.Area.{Area}
 use Rattle.cs_machine.specs.Registers.{RegisterFile, IsWritten, values}
 use Rattle.cs_machine.specs.Rows.{HasFrames, row_wave}
-use Rattle.cs_machine.proofs.Frames.{held_row}
-use Rattle.cs_machine.proofs.Putting.{wrote_first, wrote_row}
+use Rattle.cs_machine.proofs.{Frames.held_row, Putting.wrote_first}
 use Rattle.cs_voice_meaning.specs.Placing.{area_of, cell_count, wave_in, with_wave}
+use Rattle.cs_base.specs.declared.resource.Rate.TheVariants as rate
 
 is_sound : (q : Rate) → is_audio q ≡ true → q ≡ rate.Audio
 is_sound rate.Audio h = refl
-is_sound rate.Init h = absurd (false≢true h)
-is_sound rate.Control h = absurd (false≢true h)
+is_sound r h = absurd (false≢true h)
 
--- an area of sound was read into a row that was swapped in
-pub read_sound : (f g : RegisterFile) (into : Reg) (r : Rate) (area : Area) (cells : ℕ → ℤ) (swapped row : List ℤ)
-    → swapped ≡ row
-    → is_audio r ≡ true → is_audio (rate_at into) ≡ true → length row ≡ f.ksmps
-    → HasFrames (wave_in rate.Audio area cells) row
-    → IsWritten f into (row_wave swapped) g → IsWritten f into (wave_in r area cells) g
-read_sound f g into r area cells swapped row same sound fast long frames wrote =
-    subst (λ q. IsWritten f into (wave_in q area cells) g) (sym (is_sound r sound))
-    (wrote_row f g into (wave_in rate.Audio area cells) swapped row same fast long frames wrote)
+-- a row has the frames of an area of sound
+pub sound_frames : (r : Rate) (area : Area) (cells : ℕ → ℤ) (row : List ℤ) → is_audio r ≡ true
+    → HasFrames (wave_in rate.Audio area cells) row → HasFrames (wave_in r area cells) row
+sound_frames r area cells row sound = subst (λ q. HasFrames (wave_in q area cells) row) (sym (is_sound r sound))
 
 -- what is held at one rate or the other was read from the first cell
 pub read_held : (f g : RegisterFile) (into : Reg) (r : Rate) (area : Area) (cells : ℕ → ℤ) (z : ℤ)
@@ -52,9 +40,8 @@ read_held f g into rate.Audio area cells z slow some is wrote =
 
 -- an area has at least one cell
 pub some_cell : (ksmps : ℕ) (r : Rate) (n : ℕ) → 0 < ksmps → n ≡ cell_count ksmps r → 0 < n
-some_cell ksmps rate.Init n frames e = omega (arith, e)
-some_cell ksmps rate.Control n frames e = omega (arith, e)
 some_cell ksmps rate.Audio n frames e = omega (arith, e, frames)
+some_cell ksmps r n frames e = omega (arith, e)
 
 -- an area of sound has a cell a frame
 pub sound_cells : (ksmps : ℕ) (r : Rate) → is_audio r ≡ true → cell_count ksmps r ≡ ksmps

@@ -1,32 +1,23 @@
 -- A code of cycles does the same in a piece whose tables have all been made.
 use Rattle.std.proofs.Common.{◌≡◌, ℕ, ℤ, pos, ◌+◌, ◌&&◌, ◌==◌, Bool, true, false, not, List, [], ◌∷◌, map, unsigned_abs}
 use Rattle.std.proofs.Common.{Option, Some, None, if◌then◌else◌, refl, ◌∙◌, ap}
-use Rattle.std.specs.Int.{is_negative}
-use Rattle.std.specs.Option.{option_map}
+use Rattle.std.specs.{Int.is_negative, Option.option_map}
 use Rattle.std.proofs.lemmas.Bool.{and_parts}
-use Rattle.cs_base.specs.declared.resource.Rate.{Rate}
-use Rattle.cs_base.specs.declared.resource.Res.{Res}
+use Rattle.cs_base.specs.{declared.resource.Rate.Rate, declared.resource.Res.Res}
 use Rattle.cs_words.specs.Catalogue.{row_of, takes_table}
-use Rattle.cs_words.specs.declared.catalogue.Opcode.{Opcode}
-use Rattle.cs_words.specs.declared.catalogue.Shape.{Shape}
-use Rattle.cs_words.specs.declared.catalogue.Shape.TheVariants as shape
-use Rattle.cs_ir.specs.Registers.{rate_at}
-use Rattle.cs_ir.specs.Cycles.{is_of_cycle, are_of_cycle}
+use Rattle.cs_words.specs.{declared.catalogue.Opcode.Opcode, declared.catalogue.Shape.Shape, Generators.Generators}
+use Rattle.cs_ir.specs.{Registers.rate_at, Cycles.is_of_cycle, Cycles.are_of_cycle, Resources.reaches}
+use Rattle.cs_ir.specs.{declared.op.Act.Act, declared.op.Op.Op, declared.op.Reach.Reach, declared.register.Reg.Reg}
 use Rattle.cs_ir.specs.Machine.{Machine, acts, in_world, is_done, step, run, written}
-use Rattle.cs_ir.specs.Resources.{reaches}
 use Rattle.cs_ir.specs.Waves.{Wave, operand, silence}
-use Rattle.cs_ir.specs.declared.op.Act.{Act}
-use Rattle.cs_ir.specs.declared.op.Act.TheVariants as act
-use Rattle.cs_ir.specs.declared.op.Op.{Op}
-use Rattle.cs_ir.specs.declared.op.Reach.{Reach}
-use Rattle.cs_ir.specs.declared.register.Reg.{Reg}
 use Rattle.cs_cells.specs.declared.footprint.Area.{Area}
 use Rattle.cs_meaning.specs.Model.{has_run, store_at, store_into, unit_does, unit_points, zak_does}
-use Rattle.cs_words.specs.Generators.{Generators}
 use Rattle.cs_meaning.specs.Pieces.{Piece, Table, find_table, index, may_touch, read_points}
 use Rattle.cs_voice_meaning.specs.VoiceWorld.{Playing, VoiceState, has_played, played, read_cells, voice_model}
 use Rattle.cs_voice_meaning.specs.VoiceWorld.{voice_world}
 use Rattle.cs_voice.specs.VoiceData.{made}
+use Rattle.cs_words.specs.declared.catalogue.Shape.TheVariants as shape
+use Rattle.cs_ir.specs.declared.op.Act.TheVariants as act
 
 found_either : (b : Bool) (t : Table) (more less : Option Table) → more ≡ option_map made less
     → (if b then Some (made t) else more) ≡ option_map made (if b then Some t else less)
@@ -81,11 +72,8 @@ module _ (areas : List Area) (piece : Piece) (g : Generators) where
 
   zak_same : (sh : Shape) (reach : Reach) (ws : List Wave) (x : VoiceState)
       → zak_does (voice_model areas (all_made g piece)) sh reach ws x ≡ zak_does (voice_model areas piece) sh reach ws x
-  zak_same (shape.ZakGet s) reach ws x = refl
-  zak_same (shape.ZakPut s) reach ws x = refl
   zak_same shape.ZakMix reach ws x = refl
-  zak_same (shape.ZakClear s) reach ws x = refl
-  zak_same _ reach ws x = refl
+  zak_same sh reach ws x = refl
 
   acts_same : (t : Act) (into : Reg) (ws : List Wave) (m : Machine VoiceState) → is_of_cycle t ≡ true
       → acts (voice_world areas (all_made g piece)) t into ws m ≡ acts (voice_world areas piece) t into ws m

@@ -1,54 +1,30 @@
 -- Units that were put into a state, and starts that were refused.
-use Rattle.std.proofs.Common.{◌≡◌, ◌≢◌, ℕ, ℤ, pos, ◌+◌, ◌<◌, ◌≤◌, ◌==◌, Bool, true, false, not, ◌&&◌, ◌||◌, List}
-use Rattle.std.proofs.Common.{length, nat_le, slice_index_or, slice_set, Option, Some, None, if◌then◌else◌, refl, sym}
-use Rattle.std.proofs.Common.{◌∙◌, ap, subst, arith}
-use Rattle.std.specs.Option.{is_some, option_map}
-use Rattle.std.proofs.lemmas.Bool.{eqb-true}
-use Rattle.std.proofs.lemmas.Bool.Decides.{nat_tests}
-use Rattle.std.proofs.lemmas.List.{get_or-set_same, get_or-set_other, length-set}
-use Rattle.cs_base.specs.Limits.{most_delay_samples}
-use Rattle.cs_base.specs.declared.resource.Rate.{Rate}
-use Rattle.cs_base.specs.declared.resource.Res.TheVariants as res
-use Rattle.cs_base.proofs.Tests.{by_test}
-use Rattle.cs_words.specs.Catalogue.{takes_table}
-use Rattle.cs_words.specs.declared.catalogue.Opcode.{Opcode}
-use Rattle.cs_words.specs.declared.catalogue.Opcode.TheVariants as op
-use Rattle.cs_signal.specs.Delay.{delay_length}
-use Rattle.cs_signal.specs.Pace.{Pace}
-use Rattle.cs_ugen.specs.Units.{IsUnitOpcode, unit_start}
-use Rattle.cs_ugen.specs.declared.unit.UnitState.{UnitState}
+use Rattle.std.proofs.Common.{◌≡◌, ℕ, ℤ, pos, ◌+◌, ◌<◌, ◌≤◌, ◌==◌, Bool, true, false, not, ◌&&◌, ◌||◌, List, length}
+use Rattle.std.proofs.Common.{nat_le, slice_index_or, Option, Some, None, if◌then◌else◌, refl, sym, ◌∙◌, ap, subst}
+use Rattle.std.proofs.Common.{arith}
+use Rattle.std.specs.Option.{is_some}
+use Rattle.std.proofs.lemmas.{Bool.Decides.nat_tests, List.length-set}
+use Rattle.cs_base.specs.{Limits.most_delay_samples, declared.resource.Rate.Rate}
+use Rattle.cs_base.proofs.Tests.{some_is}
+use Rattle.cs_words.specs.{Catalogue.takes_table, declared.catalogue.Opcode.Opcode}
+use Rattle.cs_signal.specs.{Delay.delay_length, Pace.Pace}
+use Rattle.cs_ugen.specs.{Units.IsUnitOpcode, Units.unit_start, declared.unit.UnitState.UnitState, Generators.pace_of}
 use Rattle.cs_ugen.proofs.Units.{state_starts}
-use Rattle.cs_ir.specs.Machine.{Machine, in_world}
-use Rattle.cs_ir.specs.declared.register.Counts.{Counts}
+use Rattle.cs_ir.specs.{Machine.Machine, Machine.in_world, declared.register.Counts.Counts}
 use Rattle.cs_cells.specs.declared.footprint.Area.{Area}
 use Rattle.cs_meaning.specs.Model.{Cause, delay_too_long, starts}
 use Rattle.cs_meaning.specs.Pieces.{Piece, Table, find_table, is_there, is_delay, table_number}
-use Rattle.cs_machine.specs.Registers.{values}
-use Rattle.cs_machine.specs.Outputs.{outs}
-use Rattle.cs_voice_meaning.specs.Placing.{area_of}
-use Rattle.cs_ugen.specs.Generators.{pace_of}
+use Rattle.cs_machine.proofs.Found.{if_false, if_true}
+use Rattle.cs_machine.specs.{Registers.values, Outputs.outs, Players.PlayerData, Players.playing, States.machine_of}
+use Rattle.cs_machine.specs.{States.unit_at, States.IsStateIn, States.IsPlayerOf, declared.state.State.State}
+use Rattle.cs_voice_meaning.specs.{Placing.area_of, Follows.Kinds}
 use Rattle.cs_voice_meaning.specs.VoiceWorld.{Playing, VoiceState, voice_model}
-use Rattle.cs_voice_meaning.specs.Follows.{Kinds}
-use Rattle.cs_machine.specs.Players.{PlayerData, playing}
-use Rattle.cs_machine.specs.States.{machine_of, unit_at, IsStateIn, IsPlayerOf}
-use Rattle.cs_machine.specs.declared.state.State.{State}
 use Rattle.cs_voice.specs.Starting.{HasUnit, Starts, cause_of, player_alone, player_on}
-use Rattle.cs_voice.specs.Tables.{CanBePlayed, CanAllBePlayed}
+use Rattle.cs_voice.proofs.Ran.{players_set, units_set}
+use Rattle.cs_voice.specs.{Tables.CanBePlayed, Tables.CanAllBePlayed, declared.begin.StartRefusal.StartRefusal}
 use Rattle.cs_voice.specs.inner.Begun.{BeginsDelay, BeginsOnTable, IsBegunOn}
-use Rattle.cs_voice.specs.declared.begin.StartRefusal.{StartRefusal}
-
-apart : (m n : ℕ) → (m == n) ≡ false → m ≢ n
-apart m n h = grind (arith, nat_tests)
-
--- the units of a list of which one was put
-set_at : (ps : List (Option PlayerData)) (u n : ℕ) (p : PlayerData) → u < length ps
-    → unit_at (slice_set ps u (Some p)) n ≡ (if n == u then Some (playing p) else unit_at ps n)
-set_at ps u n p low = by_test (n == u)
-    (λ yes. let e : n ≡ u = eqb-true n u yes in
-    ap (unit_at (slice_set ps u (Some p))) e ∙ ap (option_map playing) (get_or-set_same ps u (Some p) None low)
-    ∙ sym (ap (λ b. if b then Some (playing p) else unit_at ps n) yes))
-    (λ no. ap (option_map playing) (get_or-set_other ps u n (Some p) None (apart n u no))
-    ∙ sym (ap (λ b. if b then Some (playing p) else unit_at ps n) no))
+use Rattle.cs_base.specs.declared.resource.Res.TheVariants as res
+use Rattle.cs_words.specs.declared.catalogue.Opcode.TheVariants as op
 
 -- the machine of a state into which a unit was put
 unit_machine : (old new : State) (u samples : ℕ) (p : PlayerData) → HasUnit old u p samples new
@@ -72,7 +48,7 @@ unit_machine old new u samples p has low cells next asks cause = λ i. record {
   next = next;
   world = record {
     shared = cells;
-    units = λ n. (ap (λ ps. unit_at ps n) has.players ∙ set_at old.players.items u n p low) i;
+    units = (ap unit_at has.players ∙ units_set old.players.items u (Some p) low) i;
     delays = has.delays i;
     outs = outs (has.outs i);
     ended = has.ended i;
@@ -80,9 +56,6 @@ unit_machine old new u samples p has low cells next asks cause = λ i. record {
     cause = cause;
   };
 }
-
-some_same : {A : Type 0} (x y : A) → Some x ≡ Some y → x ≡ y
-some_same x y e = cc
 
 -- it still is a state of its code and piece, if the unit is one that the code runs
 unit_state : (areas : List Area) (piece : Piece) (kinds : Kinds) (counts : Counts) (old new : State) (u samples : ℕ)
@@ -97,19 +70,9 @@ unit_state areas piece kinds counts old new u samples p has low state player = r
   channel_frames = ap (λ o. o.ksmps) has.outs ∙ state.channel_frames;
   units = ap length has.players ∙ length-set old.players.items u (Some p) ∙ state.units;
   row = ap (λ v. length v.items) has.row ∙ state.row;
-  players = λ n q is. by_test (n == u)
-      (λ yes. let e : n ≡ u = eqb-true n u yes in
-      let at : slice_index_or (slice_set old.players.items u (Some p)) n None ≡ Some q =
-      ap (λ ps. slice_index_or ps n None) (sym has.players) ∙ is in
-      let here : Some p ≡ Some q =
-      sym (ap (λ k. slice_index_or (slice_set old.players.items u (Some p)) k None) e
-      ∙ get_or-set_same old.players.items u (Some p) None low) ∙ at in
-      let P : PlayerData → Type 0 = λ r. IsPlayerOf areas piece (kinds n) r in
-      let K : ℕ → Type 0 = λ k. IsPlayerOf areas piece (kinds k) p in
-      subst P (some_same p q here) (subst K (sym e) player))
-      (λ no. state.players n q
-      (sym (get_or-set_other old.players.items u n (Some p) None (apart n u no))
-      ∙ ap (λ ps. slice_index_or ps n None) (sym has.players) ∙ is));
+  players = λ n q is. players_set areas piece kinds old.players.items u (Some p) low
+      (λ r e. subst (IsPlayerOf areas piece (kinds u)) (some_is p r e) player) state.players n q
+      (ap (λ ps. slice_index_or ps n None) (sym has.players) ∙ is);
 }
 
 -- what takes a table is no delay
@@ -167,14 +130,6 @@ no_look a b e = ap (λ x. x && not b) e
 
 a_refusal : (a b : Bool) → a ≡ true → b ≡ false → (a && not b) ≡ true
 a_refusal a b e f = ap (λ x. x && not b) e ∙ ap not f
-
-if_false : {A : Type 0} (b : Bool) (x y : A) → b ≡ false → (if b then x else y) ≡ y
-if_false true x y e = absurd cc
-if_false false x y e = refl
-
-if_true : {A : Type 0} (b : Bool) (x y : A) → b ≡ true → (if b then x else y) ≡ x
-if_true true x y e = refl
-if_true false x y e = absurd cc
 
 within : (n : ℕ) → n ≤ most_delay_samples → nat_le n most_delay_samples ≡ true
 within n h = grind (arith, nat_tests)

@@ -3,26 +3,20 @@ use Rattle.std.proofs.Common.{◌≡◌, ℕ, ℤ, pos, Bool, true, false, not, 
 use Rattle.std.proofs.Common.{refl, sym, ◌∙◌, ap, subst}
 use Rattle.std.specs.Option.{is_some}
 use Rattle.cs_base.specs.declared.resource.Rate.{Rate}
-use Rattle.cs_base.specs.declared.resource.Rate.TheVariants as rate
-use Rattle.cs_base.specs.declared.resource.Res.TheVariants as res
-use Rattle.cs_ir.specs.Registers.{rate_at}
-use Rattle.cs_ir.specs.Resources.{Stock, reaches}
-use Rattle.cs_ir.specs.Waves.{Wave, operand}
-use Rattle.cs_ir.specs.declared.op.Act.TheVariants as act
-use Rattle.cs_ir.specs.declared.op.Reach.{Reach}
-use Rattle.cs_ir.specs.declared.register.Counts.{Counts}
-use Rattle.cs_ir.specs.declared.register.Reg.{Reg}
+use Rattle.cs_ir.specs.{Registers.rate_at, Resources.Stock, Resources.reaches, Waves.Wave, Waves.operand}
+use Rattle.cs_ir.specs.{declared.op.Reach.Reach, declared.register.Counts.Counts, declared.register.Reg.Reg}
 use Rattle.cs_cells.specs.declared.footprint.Area.{Area}
 use Rattle.cs_meaning.specs.Model.{store_at, store_into, with_value}
 use Rattle.cs_meaning.specs.Pieces.{Piece, Table, find_table, index, is_live, places_of_indices, steps_of, stored}
-use Rattle.cs_machine.specs.Registers.{values}
+use Rattle.cs_machine.specs.{Registers.values, declared.state.State.State}
 use Rattle.cs_machine.specs.States.{Does, IsStateIn, machine_of}
-use Rattle.cs_machine.specs.declared.state.State.{State}
 use Rattle.cs_voice_meaning.proofs.Naming.{found_number}
-use Rattle.cs_voice_meaning.specs.Follows.{Kinds}
+use Rattle.cs_voice_meaning.specs.{Follows.Kinds, VoiceWorld.VoiceState, VoiceWorld.voice_model}
 use Rattle.cs_voice_meaning.specs.Placing.{IsPlaced, area_of, wave_in, wave_of, with_wave}
-use Rattle.cs_voice_meaning.specs.VoiceWorld.{VoiceState, voice_model}
 use Rattle.cs_voice.specs.Cells.{IsStorable, MayStore, stored_area}
+use Rattle.cs_base.specs.declared.resource.Rate.TheVariants as rate
+use Rattle.cs_base.specs.declared.resource.Res.TheVariants as res
+use Rattle.cs_ir.specs.declared.op.Act.TheVariants as act
 
 -- so many steps of values were stored into an area, at the places of indices, in a table of whatever number has its
 -- size

@@ -2,16 +2,13 @@
 use Rattle.std.proofs.Common.{◌≡◌, ℕ, zero, suc, ℤ, pos, ◌+◌, ◌<◌, ◌+ℤ◌, List, [], ◌∷◌, ◌++◌, length, get_or, take}
 use Rattle.std.proofs.Common.{nat_lt, refl, sym, ◌∙◌, ap, subst, arith, ltb-true}
 use Rattle.std.proofs.Math.IntN.{+ℤ_assoc, +ℤ_idl, +ℤ_idr}
-use Rattle.std.proofs.lemmas.Int.{ints}
-use Rattle.std.proofs.lemmas.List.{get_or_past, take_more}
+use Rattle.std.proofs.lemmas.{Int.ints, List.get_or_past, List.take_more}
 use Rattle.cs_base.proofs.Tests.{by_test}
-use Rattle.cs_base.specs.Limits.{most_notes}
-use Rattle.cs_base.specs.Numbers.{IsRaw}
+use Rattle.cs_base.specs.{Limits.most_notes, Numbers.IsRaw}
 use Rattle.cs_machine.specs.Outputs.{outs}
 use Rattle.cs_machine.proofs.Frames.{at_or_past}
 use Rattle.cs_wav.specs.Wav.{TakesMore, added}
-use Rattle.cs_voice.specs.VoiceData.{VoiceData}
-use Rattle.cs_voice.specs.Mixing.{sum_at}
+use Rattle.cs_voice.specs.{VoiceData.VoiceData, Mixing.sum_at}
 use Rattle.cs_row.specs.Heard.{IsSumOf}
 
 -- one voice more
@@ -41,17 +38,15 @@ room_for_more n xs few sums j = by_test (nat_lt j (length xs))
 pub added_at : (xs ys : List ℤ) (j : ℕ) → length ys ≡ length xs
     → get_or (added xs ys) j (pos 0) ≡ get_or xs j (pos 0) +ℤ get_or ys j (pos 0)
 added_at [] [] j long = sym (+ℤ_idl (pos 0))
-added_at [] (y ∷ ys) j long = absurd (omega (arith, long))
-added_at (x ∷ xs) [] j long = absurd (omega (arith, long))
 added_at (x ∷ xs) (y ∷ ys) zero long = refl
 added_at (x ∷ xs) (y ∷ ys) (suc j) long = added_at xs ys j (omega (arith, long))
+added_at xs ys j long = absurd (omega (arith, long))
 
 pub added_long : (xs ys : List ℤ) → length ys ≡ length xs → length (added xs ys) ≡ length xs
 added_long [] [] long = refl
-added_long [] (y ∷ ys) long = absurd (omega (arith, long))
-added_long (x ∷ xs) [] long = absurd (omega (arith, long))
 added_long (x ∷ xs) (y ∷ ys) long = let e : length (added xs ys) ≡ length xs =
     added_long xs ys (omega (arith, long)) in ap suc e
+added_long xs ys long = absurd (omega (arith, long))
 
 pub nothing_raw : IsRaw (pos 0)
 nothing_raw = (omega (arith, ints), omega (arith, ints))

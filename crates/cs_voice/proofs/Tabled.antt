@@ -1,11 +1,10 @@
 -- The tables that a note finds, by their numbers.
-use Rattle.std.proofs.Common.{◌≡◌, ℕ, ℤ, zero, suc, ◌+◌, ◌<◌, ◌==◌, Bool, true, false, not, ◌&&◌, List, [], ◌∷◌}
-use Rattle.std.proofs.Common.{length, drop, get_or, unsigned_abs, Option, Some, if◌then◌else◌, refl, sym, ◌∙◌, ap}
-use Rattle.std.proofs.Common.{arith}
+use Rattle.std.proofs.Common.{◌≡◌, ℕ, ℤ, zero, suc, ◌+◌, ◌<◌, ◌==◌, Bool, true, false, not, ◌&&◌, List, [], ◌∷◌, length}
+use Rattle.std.proofs.Common.{drop, get_or, unsigned_abs, Some, refl, sym, ◌∙◌, ap, arith}
 use Rattle.std.specs.Int.{is_negative}
-use Rattle.cs_meaning.specs.Pieces.{Table, find_table}
-use Rattle.cs_voice.specs.declared.stage.PieceTable.{PieceTable}
-use Rattle.cs_voice.specs.Tables.{table_at, tables_of}
+use Rattle.cs_meaning.specs.Pieces.{find_table}
+use Rattle.cs_machine.proofs.Found.{if_false, if_true}
+use Rattle.cs_voice.specs.{declared.stage.PieceTable.PieceTable, Tables.table_at, Tables.tables_of}
 
 -- the tables from a place on
 from_place : (tables : List PieceTable) (made : List Bool) (n : ℕ) (t : PieceTable) (m : Bool) → n < length tables
@@ -20,14 +19,6 @@ from_place (x ∷ tables) (y ∷ made) (suc n) t m h k e f =
     from_place tables made n t m (omega arith) (omega arith) e f
     ∙ ap (λ j. table_at t m ∷ tables_of (drop j (x ∷ tables)) (drop j (y ∷ made))) more
 
-this_one : (b : Bool) (t : Table) (o : Option Table) → b ≡ true → Some t ≡ (if b then Some t else o)
-this_one true t o e = refl
-this_one false t o e = absurd cc
-
-not_this : (b : Bool) (t : Table) (o : Option Table) → b ≡ false → (if b then Some t else o) ≡ o
-not_this true t o e = absurd cc
-not_this false t o e = refl
-
 -- the table at a place is the one, where those before it aren't; or it is behind it
 pub found_here : (tables : List PieceTable) (made : List Bool) (number : ℤ) (n : ℕ) (t : PieceTable) → n < length tables
     → length made ≡ length tables
@@ -36,8 +27,8 @@ pub found_here : (tables : List PieceTable) (made : List Bool) (number : ℤ) (n
     → Some (table_at t (get_or made n false)) ≡ find_table (tables_of tables made) number
 found_here tables made number n t h long e here before =
     let m : Bool = get_or made n false in
-    this_one (not (is_negative number) && t.number == unsigned_abs number) (table_at t m)
-    (find_table (tables_of (drop (n + 1) tables) (drop (n + 1) made)) number) here
+    sym (if_true (not (is_negative number) && t.number == unsigned_abs number) (Some (table_at t m))
+    (find_table (tables_of (drop (n + 1) tables) (drop (n + 1) made)) number) here)
     ∙ sym (before ∙ ap (λ ts. find_table ts number) (from_place tables made n t m h (omega arith) e refl))
 
 pub found_later : (tables : List PieceTable) (made : List Bool) (number : ℤ) (n : ℕ) (t : PieceTable)
@@ -50,5 +41,5 @@ pub found_later : (tables : List PieceTable) (made : List Bool) (number : ℤ) (
 found_later tables made number n t h long e here before =
     let m : Bool = get_or made n false in
     before ∙ ap (λ ts. find_table ts number) (from_place tables made n t m h (omega arith) e refl)
-    ∙ not_this (not (is_negative number) && t.number == unsigned_abs number) (table_at t m)
+    ∙ if_false (not (is_negative number) && t.number == unsigned_abs number) (Some (table_at t m))
     (find_table (tables_of (drop (n + 1) tables) (drop (n + 1) made)) number) here

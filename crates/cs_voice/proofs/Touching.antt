@@ -4,30 +4,21 @@ use Rattle.std.proofs.Common.{unsigned_abs, Option, Some, None, if◌then◌else
 use Rattle.std.specs.Option.{is_some}
 use Rattle.std.proofs.lemmas.Bool.{and_from, lt-ltb}
 use Rattle.cs_base.proofs.Tests.{some_is}
-use Rattle.cs_base.specs.declared.resource.Rate.{Rate}
-use Rattle.cs_base.specs.declared.resource.Res.{Res}
-use Rattle.cs_base.specs.declared.resource.Res.TheVariants as res
-use Rattle.cs_words.specs.declared.catalogue.Opcode.{Opcode}
-use Rattle.cs_words.specs.declared.catalogue.Space.{Space}
+use Rattle.cs_base.specs.{declared.resource.Rate.Rate, declared.resource.Res.Res}
+use Rattle.cs_words.specs.{declared.catalogue.Opcode.Opcode, declared.catalogue.Space.Space, Catalogue.takes_table}
 use Rattle.cs_gen.specs.Points.{len_of}
-use Rattle.cs_ugen.specs.Points.{is_len}
-use Rattle.cs_ugen.specs.Units.{IsUnitOpcode, moving_count, opcode_of, reads_table}
-use Rattle.cs_words.specs.Catalogue.{takes_table}
+use Rattle.cs_ugen.specs.{Points.is_len, Units.IsUnitOpcode, Units.moving_count, Units.opcode_of, Units.reads_table}
 use Rattle.cs_ir.specs.Resources.{Stock, places_of, places_within, reaches, tables_within}
-use Rattle.cs_ir.specs.declared.op.Reach.{Reach}
-use Rattle.cs_ir.specs.declared.register.Reg.{Reg}
+use Rattle.cs_ir.specs.{declared.op.Reach.Reach, declared.register.Reg.Reg}
 use Rattle.cs_cells.specs.declared.footprint.Area.{Area}
 use Rattle.cs_meaning.specs.Pieces.{Piece}
-use Rattle.cs_machine.specs.Access.{CanTouch}
-use Rattle.cs_machine.specs.Players.{PlayerData, has_table}
+use Rattle.cs_machine.specs.{Access.CanTouch, Players.PlayerData, Players.has_table, States.IsOnTable}
+use Rattle.cs_machine.specs.{States.IsPlayerOf, States.MayTouch, declared.state.NoteSetting.NoteSetting}
 use Rattle.cs_voice_meaning.proofs.Naming.{found_number, named_among, place_named}
-use Rattle.cs_voice_meaning.specs.Follows.{AreNamed}
-use Rattle.cs_voice_meaning.specs.Placing.{IsPlaced, area_of}
-use Rattle.cs_machine.specs.States.{IsOnTable, IsPlayerOf, MayTouch}
-use Rattle.cs_machine.specs.declared.state.NoteSetting.{NoteSetting}
-use Rattle.cs_voice.specs.Cells.{MayReach, MayStore}
-use Rattle.cs_voice.specs.Units.{MayPlay, may_play}
+use Rattle.cs_voice_meaning.specs.{Follows.AreNamed, Placing.IsPlaced, Placing.area_of}
+use Rattle.cs_voice.specs.{Cells.MayReach, Cells.MayStore, Units.MayPlay, Units.may_play}
 use Rattle.cs_voice.proofs.Points.{IsLiveOn, live_table, table_taken, unit_result}
+use Rattle.cs_base.specs.declared.resource.Res.TheVariants as res
 
 -- ---- tables
 

@@ -1,29 +1,20 @@
 -- Acts over the cells of a bank.
 use Rattle.std.specs.Prelude.{ℕ, ℤ, ◌≡◌, ◌<◌, true, List, Option, Some, None, if◌then◌else◌}
-use Rattle.cs_base.specs.Rates.{res_rate}
-use Rattle.cs_base.specs.declared.resource.Res.{Res}
-use Rattle.cs_base.specs.declared.resource.Res.TheVariants as res
-use Rattle.cs_words.specs.Catalogue.{row_of}
+use Rattle.cs_base.specs.{Rates.res_rate, declared.resource.Res.Res}
+use Rattle.cs_words.specs.{Catalogue.row_of, declared.catalogue.Shape.Shape, declared.catalogue.Space.Space}
 use Rattle.cs_words.specs.declared.catalogue.Opcode.{Opcode}
-use Rattle.cs_words.specs.declared.catalogue.Shape.{Shape}
-use Rattle.cs_words.specs.declared.catalogue.Space.{Space}
 use Rattle.cs_gen.specs.Points.{len_of}
 use Rattle.cs_ugen.specs.Points.{is_len}
 use Rattle.cs_ir.specs.Resources.{Stock, places_of, reaches, zak_place}
-use Rattle.cs_ir.specs.Validity.{has_register, has_value}
-use Rattle.cs_ir.specs.declared.op.Act.{Act}
-use Rattle.cs_ir.specs.declared.op.Act.TheVariants as acts
-use Rattle.cs_ir.specs.declared.op.Reach.{Reach}
-use Rattle.cs_ir.specs.declared.register.Counts.{Counts}
-use Rattle.cs_ir.specs.declared.register.Reg.{Reg}
+use Rattle.cs_ir.specs.{Validity.has_register, Validity.has_value, declared.op.Act.Act, declared.op.Reach.Reach}
+use Rattle.cs_ir.specs.{declared.register.Counts.Counts, declared.register.Reg.Reg}
 use Rattle.cs_cells.specs.declared.footprint.Area.{Area}
 use Rattle.cs_meaning.specs.Pieces.{Piece}
-use Rattle.cs_voice_meaning.specs.Follows.{Kinds}
-use Rattle.cs_voice_meaning.specs.Placing.{IsPlaced, area_of, cell_count}
-use Rattle.cs_machine.specs.Access.{CanTouch}
+use Rattle.cs_voice_meaning.specs.{Follows.Kinds, Placing.IsPlaced, Placing.area_of, Placing.cell_count}
+use Rattle.cs_machine.specs.{Access.CanTouch, declared.state.NoteSetting.NoteSetting, declared.state.State.State}
 use Rattle.cs_machine.specs.States.{Does, HasRoom, IsSettingOf, IsStateIn, MayTouch}
-use Rattle.cs_machine.specs.declared.state.NoteSetting.{NoteSetting}
-use Rattle.cs_machine.specs.declared.state.State.{State}
+use Rattle.cs_base.specs.declared.resource.Res.TheVariants as res
+use Rattle.cs_ir.specs.declared.op.Act.TheVariants as acts
 
 -- An act makes of a state and cells what it makes in whatever piece the setting is of, whose areas are placed and whose
 -- state it is.

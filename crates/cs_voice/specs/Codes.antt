@@ -1,15 +1,11 @@
 -- A code that is done from place to place: what it needs, in a control cycle or as a note begins.
 use Rattle.std.specs.Prelude.{ℕ, ℤ, Bool, ◌≡◌, ◌⊎◌, List, Option, Some, None}
-use Rattle.cs_ir.specs.declared.ask.Ask.{Ask}
-use Rattle.cs_ir.specs.declared.op.Code.{Code}
-use Rattle.cs_ir.specs.declared.op.Op.{Op}
-use Rattle.cs_machine.specs.declared.state.NoteSetting.{NoteSetting}
-use Rattle.cs_machine.specs.declared.state.State.{State}
+use Rattle.cs_ir.specs.{declared.ask.Ask.Ask, declared.op.Code.Code, declared.op.Op.Op}
+use Rattle.cs_machine.specs.{declared.state.NoteSetting.NoteSetting, declared.state.State.State}
 use Rattle.cs_voice_meaning.specs.Voices.{Sheet, IsPlayable}
-use Rattle.cs_voice.specs.Cycles.{CanRun, CanStep, Context}
-use Rattle.cs_voice.specs.Passing.{CanDoOp, CanPass, IsDone, IsFound, IsOpOf, IsStateOf}
+use Rattle.cs_voice.specs.{Cycles.CanRun, Cycles.Context, declared.tables.Finds.Finds}
+use Rattle.cs_voice.specs.Passing.{CanPass, IsDone, IsFound, IsOpOf, IsStateOf}
 use Rattle.cs_voice.specs.declared.begin.StartRefusal.{StartRefusal}
-use Rattle.cs_voice.specs.declared.tables.Finds.{Finds}
 
 -- what a note that begins finds, with which of its tables have been made; nothing in a control cycle
 abbrev pub Finding : Type 0
@@ -42,13 +38,3 @@ CanBeginBy get set count at (Some f) ops now = (code : Code) × (s : Sheet) × (
 abbrev pub CanGo : (get set : ℕ → Type 0) → ℕ → NoteSetting → Finding → List Op → State → Type 0
 CanGo get set count at finding ops now =
     ((c : Context) × CanRun get set count at c ops now) ⊎ CanBeginBy get set count at finding ops now
-
--- so can an op of it
-abbrev pub CanDoBy : (get set : ℕ → Type 0) → ℕ → NoteSetting → Finding → Op → State → Type 0
-CanDoBy get set count at None op now = ⊥
-CanDoBy get set count at (Some f) op now = (s : Sheet) × (f.0.at ≡ at) × CanDoOp get set count f.0 f.1 op s now
-
-abbrev pub CanDoHere : (get set : ℕ → Type 0) → ℕ → NoteSetting → Finding → Op → State → Type 0
-CanDoHere get set count at finding op now =
-    ((c : Context) × (end : ℕ) × (place : ℕ) × CanStep get set count at c end place op now)
-    ⊎ CanDoBy get set count at finding op now

@@ -1,26 +1,18 @@
 -- What a cycle makes of a voice is a voice, and the frame law holds.
 use Rattle.std.proofs.Common.{◌≡◌, ◌≤◌, length, map, nat_lt, None, refl, sym, ◌∙◌, ap, subst}
 use Rattle.std.specs.List.{range_with_len}
-use Rattle.std.proofs.lemmas.List.FromFn.{length-map-range_with_len}
-use Rattle.std.proofs.lemmas.List.{get_or_past}
-use Rattle.cs_base.specs.declared.resource.Rate.TheVariants as rate
-use Rattle.cs_ir.specs.Registers.{rate_at}
-use Rattle.cs_ir.specs.Validity.{has_register}
-use Rattle.cs_ir.specs.Waves.{held}
-use Rattle.cs_cells.specs.Cells.{Cells}
-use Rattle.cs_cells.specs.Meaning.{Frames}
-use Rattle.cs_machine.specs.Outputs.{outs, refilled}
-use Rattle.cs_machine.specs.Registers.{filled, values}
-use Rattle.cs_machine.specs.Rows.{row_of}
+use Rattle.std.proofs.lemmas.{List.FromFn.length-map-range_with_len, List.get_or_past}
+use Rattle.cs_ir.specs.{Registers.rate_at, Validity.has_register, Waves.held}
+use Rattle.cs_cells.specs.{Cells.Cells, Meaning.Frames}
+use Rattle.cs_machine.specs.{Outputs.outs, Outputs.refilled, Registers.filled, Registers.values, Rows.row_of}
 use Rattle.cs_machine.proofs.Frames.{at_or_past}
-use Rattle.cs_voice_meaning.specs.Room.{VoiceFits}
-use Rattle.cs_voice_meaning.specs.Voices.{Sheet, Sounding, performed}
-use Rattle.cs_voice_meaning.proofs.Fitting.{goes_on_fitting}
-use Rattle.cs_voice_meaning.proofs.FrameLaw.{voice_frames}
+use Rattle.cs_voice_meaning.specs.{Room.VoiceFits, Voices.Sheet, Voices.Sounding, Voices.performed}
+use Rattle.cs_voice_meaning.proofs.{Fitting.goes_on_fitting, FrameLaw.voice_frames}
 use Rattle.cs_voice.specs.VoiceData.{VoiceData, sheet_of, sounding, sounding_on, taking, units_in}
 use Rattle.cs_voice.specs.VoiceMeaning.{IsVoice, after, voice_job}
 use Rattle.cs_voice.specs.inner.Rooms.{filled_has, filled_past, filled_keeps, refilled_has, refilled_past}
 use Rattle.cs_voice.specs.inner.Rooms.{refilled_keeps, refilled_long, units_have}
+use Rattle.cs_base.specs.declared.resource.Rate.TheVariants as rate
 
 -- a voice fits in the room that its code counts
 pub fits : (d : VoiceData) → IsVoice d → VoiceFits d.code.counts (sounding d)

@@ -1,21 +1,15 @@
 -- A voice as it lies in memory.
-use Rattle.std.specs.Prelude.{ℕ, ℤ, ◌≡◌, true, List, map}
-use Rattle.std.specs.Option.{option_map}
-use Rattle.cs_ir.specs.Validity.{valid}
-use Rattle.cs_ir.specs.declared.op.Code.{Code}
+use Rattle.std.specs.{Prelude.ℕ, Prelude.ℤ, Prelude.◌≡◌, Prelude.true, Prelude.List, Prelude.map, Option.option_map}
+use Rattle.cs_ir.specs.{Validity.valid, declared.op.Code.Code}
 use Rattle.cs_cells.specs.declared.footprint.Footprint.{Footprint}
 use Rattle.cs_meaning.specs.Pieces.{Table}
 use Rattle.cs_machine.specs.Access.{AreSpaces, spaces_of}
-use Rattle.cs_machine.specs.Players.{playing}
+use Rattle.cs_machine.specs.{Players.playing, States.IsStateIn, declared.state.State.State}
 use Rattle.cs_voice_meaning.specs.Voices.{Sheet, IsPlayable}
 use Rattle.cs_typed.specs.TypedTree.{header_of_head}
-use Rattle.cs_machine.specs.States.{IsStateIn}
-use Rattle.cs_machine.specs.declared.state.State.{State}
-use Rattle.cs_voice.specs.declared.body.VoiceBody.{VoiceBody}
-use Rattle.cs_voice.specs.declared.stage.Stage.{Stage}
+use Rattle.cs_voice.specs.{declared.body.VoiceBody.VoiceBody, declared.stage.Stage.Stage, VoiceMeaning.IsVoice}
 use Rattle.cs_voice.specs.declared.stage.PieceTable.{PieceTable}
 use Rattle.cs_voice.specs.VoiceData.{VoiceData, IsOn, piece_of}
-use Rattle.cs_voice.specs.VoiceMeaning.{IsVoice}
 
 -- a table as the definitions have it, once it has been made
 abbrev pub table_of : PieceTable → Table

@@ -3,8 +3,7 @@ use Rattle.std.specs.Prelude.{ℕ, ℤ, ◌/◌, ◌%◌, List, map, refl}
 use Rattle.std.specs.List.{flat_map, range_with_len}
 use Rattle.cs_base.specs.Numbers.{total}
 use Rattle.cs_machine.specs.Outputs.{outs}
-use Rattle.cs_voice.specs.VoiceData.{VoiceData}
-use Rattle.cs_voice.specs.VoiceMeaning.{voice_job}
+use Rattle.cs_voice.specs.{VoiceData.VoiceData, VoiceMeaning.voice_job}
 use Rattle.cs_row.specs.HeardFrames.{KeepsShape}
 
 -- to a channel at a frame: the plain sum, without bounds

@@ -2,31 +2,18 @@
 use Rattle.std.specs.Prelude.{ℕ, ℤ, Bool, ◌≡◌, ◌≤◌, ◌<◌, ◌++◌, true, List, [], length, map, Option, None}
 use Rattle.std.specs.Option.{option_map}
 use Rattle.cs_base.specs.Limits.{most_delay_samples}
-use Rattle.cs_ir.specs.Registers.{rate_at}
-use Rattle.cs_ir.specs.Asks.{ask_of}
+use Rattle.cs_ir.specs.{Registers.rate_at, Asks.ask_of, Validity.is_fine, Validity.valid, declared.ask.Ask.Ask}
+use Rattle.cs_ir.specs.{declared.op.Code.Code, declared.op.Op.Op, declared.register.Counts.Counts}
 use Rattle.cs_ir.specs.Machine.{acts, new_machine, run}
-use Rattle.cs_ir.specs.Validity.{is_fine, valid}
-use Rattle.cs_ir.specs.declared.ask.Ask.{Ask}
-use Rattle.cs_ir.specs.declared.op.Code.{Code}
-use Rattle.cs_ir.specs.declared.op.Op.{Op}
-use Rattle.cs_ir.specs.declared.register.Counts.{Counts}
-use Rattle.cs_cells.specs.Areas.{word_count}
-use Rattle.cs_cells.specs.declared.footprint.Area.{Area}
+use Rattle.cs_cells.specs.{Areas.word_count, declared.footprint.Area.Area}
 use Rattle.cs_meaning.specs.Pieces.{Piece}
-use Rattle.cs_machine.specs.Access.{AreSpaces, spaces_of}
-use Rattle.cs_machine.specs.Registers.{values}
-use Rattle.cs_voice_meaning.specs.Placing.{HasArea}
-use Rattle.cs_voice_meaning.specs.VoiceWorld.{fresh_voice, voice_world}
-use Rattle.cs_voice_meaning.specs.Follows.{ActNamed, Kinds}
-use Rattle.cs_voice_meaning.specs.Voices.{Sheet, IsPlayable, has_channel}
+use Rattle.cs_machine.specs.{Access.AreSpaces, Access.spaces_of, Registers.values, declared.state.State.State}
+use Rattle.cs_voice_meaning.specs.{Placing.HasArea, VoiceWorld.fresh_voice, VoiceWorld.voice_world, Follows.ActNamed}
+use Rattle.cs_voice_meaning.specs.{Follows.Kinds, Voices.Sheet, Voices.IsPlayable, Voices.has_channel}
 use Rattle.cs_machine.specs.States.{machine_of, IsSettingOf, IsStateIn}
-use Rattle.cs_machine.specs.declared.state.State.{State}
-use Rattle.cs_voice.specs.Starting.{cause_of}
-use Rattle.cs_voice.specs.Starts.{sheet_for}
-use Rattle.cs_voice.specs.Tables.{CanAllBePlayed, tables_of}
+use Rattle.cs_voice.specs.{Starting.cause_of, Starts.sheet_for, Tables.CanAllBePlayed, Tables.tables_of}
+use Rattle.cs_voice.specs.{declared.note.NewNote.NewNote, declared.tables.Finds.Finds}
 use Rattle.cs_voice.specs.declared.begin.StartRefusal.{StartRefusal}
-use Rattle.cs_voice.specs.declared.note.NewNote.{NewNote}
-use Rattle.cs_voice.specs.declared.tables.Finds.{Finds}
 
 -- What a note that begins finds is what its sheet says, and can be played on.
 pub record IsFound (finds : Finds) (ms : List Bool) (s : Sheet) : Type 0 where
@@ -62,18 +49,13 @@ pub record CanBegin (get set : ℕ → Type 0) (count : ℕ) (finds : Finds) (ms
   pub sets : (a : ℕ) → a < word_count s.areas → set a
   pub long : word_count s.areas ≤ count
 
--- so can a code of the sheet; and an op of such a code
+-- so can a code of the sheet
 pub record CanPass (get set : ℕ → Type 0) (count : ℕ) (finds : Finds) (ms : List Bool) (code : Code) (s : Sheet)
     (now : State) : Type 0 where
   pub begin : CanBegin get set count finds ms s now
   pub same : s.init ≡ code.ops
   pub valid : valid code ≡ true
   pub counts : now.regs.counts ≡ code.counts
-
-pub record CanDoOp (get set : ℕ → Type 0) (count : ℕ) (finds : Finds) (ms : List Bool) (op : Op) (s : Sheet)
-    (now : State) : Type 0 where
-  pub begin : CanBegin get set count finds ms s now
-  pub fine : IsOpOf s now.regs.counts op
 
 -- A note can begin with these p-fields, in a new state of its first code: it finds what it plays in, it can be played,
 -- its tables too, its layout has the zak places of the piece, and each cell of the piece can be read and written.

@@ -1,19 +1,13 @@
 -- When an op may be done on a state over a bank.
 use Rattle.std.specs.Prelude.{ℕ, ℤ, ◌≡◌, Bool, true, false, length}
-use Rattle.cs_ir.specs.Registers.{rate_at}
-use Rattle.cs_ir.specs.Resources.{Stock}
-use Rattle.cs_ir.specs.Validity.{is_fine}
-use Rattle.cs_ir.specs.declared.op.Act.{Act}
-use Rattle.cs_ir.specs.declared.op.Act.TheVariants as act
-use Rattle.cs_ir.specs.declared.op.Op.{Op}
+use Rattle.cs_ir.specs.{Registers.rate_at, Resources.Stock, Validity.is_fine, declared.op.Act.Act, declared.op.Op.Op}
 use Rattle.cs_meaning.specs.Pieces.{Piece}
-use Rattle.cs_machine.specs.Access.{AreSpaces, spaces_of}
+use Rattle.cs_machine.specs.{Access.AreSpaces, Access.spaces_of, declared.state.State.State}
 use Rattle.cs_voice_meaning.specs.Placing.{HasArea, IsPlaced}
-use Rattle.cs_voice_meaning.specs.Follows.{ActNamed, Kinds}
-use Rattle.cs_voice_meaning.specs.Voices.{has_channel}
+use Rattle.cs_voice_meaning.specs.{Follows.ActNamed, Follows.Kinds, Voices.has_channel}
 use Rattle.cs_machine.specs.States.{CanDo, Does, HasRoom, IsSettingOf, IsStateIn}
 use Rattle.cs_machine.specs.declared.state.NoteSetting.{NoteSetting}
-use Rattle.cs_machine.specs.declared.state.State.{State}
+use Rattle.cs_ir.specs.declared.op.Act.TheVariants as act
 
 -- The acts that are done here: all but those that go on at another op, start a unit, look for a table or ask for a
 -- note.

@@ -1,23 +1,17 @@
 -- Units that are started: what a note keeps of each, and why it isn't started.
 use Rattle.std.specs.Prelude.{ℕ, ℤ, ◌≡◌, ◌≤◌, List, slice_set, Option, Some, None, if◌then◌else◌}
 use Rattle.std.specs.Option.{is_some, option_map}
-use Rattle.cs_base.specs.Limits.{most_delay_samples}
-use Rattle.cs_base.specs.declared.resource.Rate.{Rate}
-use Rattle.cs_base.specs.declared.resource.Res.TheVariants as res
+use Rattle.cs_base.specs.{Limits.most_delay_samples, declared.resource.Rate.Rate}
 use Rattle.cs_words.specs.declared.catalogue.Opcode.{Opcode}
 use Rattle.cs_ugen.specs.declared.unit.UnitState.{UnitState}
-use Rattle.cs_ir.specs.Machine.{in_world}
-use Rattle.cs_ir.specs.declared.register.Counts.{Counts}
+use Rattle.cs_ir.specs.{Machine.in_world, declared.register.Counts.Counts}
 use Rattle.cs_cells.specs.declared.footprint.Area.{Area}
 use Rattle.cs_meaning.specs.Model.{Cause, delay_too_long, no_table, starts}
 use Rattle.cs_meaning.specs.Pieces.{Piece, Table}
-use Rattle.cs_voice_meaning.specs.Placing.{area_of}
-use Rattle.cs_voice_meaning.specs.VoiceWorld.{voice_model}
-use Rattle.cs_voice_meaning.specs.Follows.{Kinds}
-use Rattle.cs_machine.specs.Players.{PlayerData}
-use Rattle.cs_machine.specs.States.{machine_of, IsStateIn}
-use Rattle.cs_machine.specs.declared.state.State.{State}
+use Rattle.cs_voice_meaning.specs.{Placing.area_of, VoiceWorld.voice_model, Follows.Kinds}
+use Rattle.cs_machine.specs.{Players.PlayerData, States.machine_of, States.IsStateIn, declared.state.State.State}
 use Rattle.cs_voice.specs.declared.begin.StartRefusal.{StartRefusal}
+use Rattle.cs_base.specs.declared.resource.Res.TheVariants as res
 use Rattle.cs_voice.specs.declared.begin.StartRefusal.TheVariants as refusal
 
 -- the player of a unit on a table, and of one that has none

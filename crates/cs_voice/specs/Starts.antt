@@ -1,22 +1,16 @@
 -- How a note begins.
 use Rattle.std.specs.Prelude.{ℕ, ℤ, ◌≡◌, ◌-◌, Bool, List, Some, None}
 use Rattle.cs_signal.specs.Operands.{argument}
-use Rattle.cs_ir.specs.Instruments.{Numbered}
-use Rattle.cs_ir.specs.Machine.{Machine}
+use Rattle.cs_ir.specs.{Instruments.Numbered, Machine.Machine}
 use Rattle.cs_cells.specs.declared.footprint.Footprint.{Footprint}
-use Rattle.cs_meaning.specs.Model.{no_table, delay_too_long}
-use Rattle.cs_meaning.specs.Pieces.{Piece}
+use Rattle.cs_meaning.specs.{Model.no_table, Model.delay_too_long, Pieces.Piece}
 use Rattle.cs_ugen.specs.Generators.{pace_of, the_generators}
-use Rattle.cs_voice_meaning.specs.VoiceWorld.{VoiceState}
-use Rattle.cs_voice_meaning.specs.Voices.{Sheet, voice_of}
+use Rattle.cs_voice_meaning.specs.{VoiceWorld.VoiceState, Voices.Sheet, Voices.voice_of}
 use Rattle.cs_typed.specs.TypedTree.{header_of_head}
 use Rattle.cs_voice.specs.VoiceData.{VoiceData, IsOn, sounding_on}
-use Rattle.cs_voice.specs.declared.stage.Stage.{Stage}
-use Rattle.cs_voice.specs.Tables.{tables_of}
-use Rattle.cs_voice.specs.declared.begin.StartRefusal.{StartRefusal}
+use Rattle.cs_voice.specs.{declared.stage.Stage.Stage, Tables.tables_of, declared.begin.StartRefusal.StartRefusal}
+use Rattle.cs_voice.specs.{declared.note.NewNote.NewNote, declared.note.Started.Started}
 use Rattle.cs_voice.specs.declared.begin.StartRefusal.TheVariants as refusal
-use Rattle.cs_voice.specs.declared.note.NewNote.{NewNote}
-use Rattle.cs_voice.specs.declared.note.Started.{Started}
 use Rattle.cs_voice.specs.declared.note.Started.TheVariants as started
 
 -- the piece as a note of these p-fields finds it, of whose tables each has been made by now or not

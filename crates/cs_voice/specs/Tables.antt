@@ -1,13 +1,12 @@
 -- The tables that a note finds as it begins, as the meaning has them.
 use Rattle.std.specs.Prelude.{ℤ, ◌≡◌, true, Bool, List, [], ◌∷◌, length, Some, None}
-use Rattle.cs_base.specs.declared.resource.Res.TheVariants as res
 use Rattle.cs_cells.specs.declared.footprint.Area.{Area}
 use Rattle.cs_gen.specs.Points.{len_of}
 use Rattle.cs_meaning.specs.Pieces.{Table, find_table}
 use Rattle.cs_ugen.specs.Points.{is_len}
 use Rattle.cs_voice_meaning.specs.Placing.{HasArea}
-use Rattle.cs_voice.specs.Memory.{table_of}
-use Rattle.cs_voice.specs.declared.stage.PieceTable.{PieceTable}
+use Rattle.cs_voice.specs.{Memory.table_of, declared.stage.PieceTable.PieceTable}
+use Rattle.cs_base.specs.declared.resource.Res.TheVariants as res
 
 -- a table that has been made by now, or hasn't
 abbrev pub table_at : PieceTable → Bool → Table

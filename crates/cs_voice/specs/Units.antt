@@ -4,22 +4,15 @@ use Rattle.std.specs.Prelude.{if◌then◌else◌}
 use Rattle.cs_base.specs.declared.resource.Rate.{Rate}
 use Rattle.cs_words.specs.declared.catalogue.Opcode.{Opcode}
 use Rattle.cs_signal.specs.Operands.{argument}
-use Rattle.cs_ugen.specs.Units.{IsUnitOpcode, moving_count, opcode_of}
-use Rattle.cs_ugen.specs.declared.unit.UnitState.{UnitState}
-use Rattle.cs_ir.specs.Registers.{rate_at}
-use Rattle.cs_ir.specs.Resources.{Stock, reaches}
-use Rattle.cs_ir.specs.Waves.{Wave, silence}
-use Rattle.cs_ir.specs.declared.op.Act.TheVariants as act
-use Rattle.cs_ir.specs.declared.op.Reach.{Reach}
-use Rattle.cs_ir.specs.declared.register.Counts.{Counts}
-use Rattle.cs_ir.specs.declared.register.Reg.{Reg}
+use Rattle.cs_ugen.specs.{Units.IsUnitOpcode, Units.moving_count, Units.opcode_of, declared.unit.UnitState.UnitState}
+use Rattle.cs_ir.specs.{Registers.rate_at, Resources.Stock, Resources.reaches, Waves.Wave, Waves.silence}
+use Rattle.cs_ir.specs.{declared.op.Reach.Reach, declared.register.Counts.Counts, declared.register.Reg.Reg}
 use Rattle.cs_cells.specs.declared.footprint.Area.{Area}
 use Rattle.cs_meaning.specs.Pieces.{Piece, steps_of, step_at}
 use Rattle.cs_machine.specs.Players.{CanRead, PlayerData, has_table, stepped}
-use Rattle.cs_voice_meaning.specs.Follows.{Kinds}
-use Rattle.cs_voice_meaning.specs.Placing.{IsPlaced}
-use Rattle.cs_machine.specs.States.{Does, IsStateIn}
-use Rattle.cs_machine.specs.declared.state.State.{State}
+use Rattle.cs_voice_meaning.specs.{Follows.Kinds, Placing.IsPlaced}
+use Rattle.cs_machine.specs.{States.Does, States.IsStateIn, declared.state.State.State}
+use Rattle.cs_ir.specs.declared.op.Act.TheVariants as act
 
 -- whether the table of a unit is within reach, where it has one
 abbrev pub may_play : Reach → PlayerData → Bool

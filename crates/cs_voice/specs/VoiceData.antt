@@ -5,14 +5,12 @@ use Rattle.cs_typed.specs.Places.{Header}
 use Rattle.cs_signal.specs.Operands.{argument}
 use Rattle.cs_base.specs.declared.spaces.Spaces.{Spaces}
 use Rattle.cs_ir.specs.declared.op.Code.{Code}
-use Rattle.cs_cells.specs.declared.footprint.Area.{Area}
-use Rattle.cs_cells.specs.declared.footprint.Footprint.{Footprint}
+use Rattle.cs_cells.specs.{declared.footprint.Area.Area, declared.footprint.Footprint.Footprint}
 use Rattle.cs_meaning.specs.Pieces.{Piece, Table}
 use Rattle.cs_machine.specs.Outputs.{ChannelFile, outs, refilled}
 use Rattle.cs_machine.specs.Registers.{RegisterFile, filled, values}
 use Rattle.cs_ugen.specs.Generators.{pace_of, the_generators}
-use Rattle.cs_voice_meaning.specs.VoiceWorld.{Playing}
-use Rattle.cs_voice_meaning.specs.Voices.{Sheet, Sounding}
+use Rattle.cs_voice_meaning.specs.{VoiceWorld.Playing, Voices.Sheet, Voices.Sounding}
 
 -- A voice: the number of its instrument, its age, and the cycle in which its note has ended; the header, the zak
 -- spaces, the tables, the areas that it sounds in and their zones; its p-fields, its footprint and its code; and its

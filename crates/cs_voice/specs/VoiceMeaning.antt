@@ -1,10 +1,8 @@
 -- What a voice means as a job.
 use Rattle.std.specs.Prelude.{◌≡◌, true, length}
 use Rattle.cs_ir.specs.Validity.{valid}
-use Rattle.cs_cells.specs.Cells.{Cells}
-use Rattle.cs_cells.specs.Meaning.{Meaning}
-use Rattle.cs_machine.specs.Outputs.{outs, refilled}
-use Rattle.cs_machine.specs.Registers.{filled, values}
+use Rattle.cs_cells.specs.{Cells.Cells, Meaning.Meaning}
+use Rattle.cs_machine.specs.{Outputs.outs, Outputs.refilled, Registers.filled, Registers.values}
 use Rattle.cs_voice_meaning.specs.Voices.{Sheet, IsPlayable, performed, left_by}
 use Rattle.cs_voice.specs.VoiceData.{VoiceData, IsOn, sheet_of, sounding, sounding_on, taking}
 

@@ -16,7 +16,7 @@ use crate::unit::run_unit;
 use crate::zak::{Within, zak_clear, zak_get, zak_mix, zak_put};
 use cs_cells::Bank;
 use cs_ir::{Act, OpAt};
-use cs_machine::{NoteSetting, State};
+use cs_machine::{NoteSetting, State, field_of, head_value};
 use cs_words::{Opcode, Shape, signature_of};
 
 /// Does an op of a valid code on a state, over the cells of a bank: any but a jump, the start of a unit and the asking
@@ -133,19 +133,29 @@ fn plain(state: &mut State<'_>, at: &NoteSetting<'_>, op: OpAt<'_>)
     ensures { DoesAt at.now (there op.entry).act (there op.entry).into (there op.entry).from state.old state.new }
 {
     match op.op.act {
-        Act::Const(value) => state.number(op.writes(), value),
-        Act::Field(field) => state.field(at, op.writes(), field),
-        Act::Head(name) => state.header(at, op.writes(), name),
-        Act::Copy => state.copy(op.writes(), op.only()),
-        Act::Neg => state.negate(op.writes(), op.only()),
-        Act::Call(function) => state.apply(function, op.writes(), op.only()),
+        Act::Const(value) => state.regs.hold(op.writes(), value, &mut state.row),
+        Act::Field(field) => state
+            .regs
+            .hold(op.writes(), field_of(at.fields, field), &mut state.row),
+        Act::Head(name) => state
+            .regs
+            .hold(op.writes(), head_value(at.head, name), &mut state.row),
+        Act::Copy => state.regs.copy(op.writes(), op.only(), &mut state.row),
+        Act::Neg => state.regs.negate(op.writes(), op.only(), &mut state.row),
+        Act::Call(function) => state
+            .regs
+            .apply(function, op.writes(), op.only(), &mut state.row),
         Act::Pair(operator) => {
             let (x, y) = op.pair();
-            state.combine(operator, op.writes(), x, y);
+            state
+                .regs
+                .combine(operator, op.writes(), x, y, &mut state.row);
         }
         Act::Pick => {
             let (condition, x, y) = op.triple();
-            state.pick(op.writes(), condition, x, y);
+            state
+                .regs
+                .pick(op.writes(), condition, x, y, &mut state.row);
         }
         Act::Out(channel) => state.send(channel, op.only()),
         Act::OutAt => {

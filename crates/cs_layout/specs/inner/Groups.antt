@@ -1,13 +1,11 @@
 -- What a piece's notes share, group by group.
 use Rattle.std.specs.Prelude.{ℕ, List, [], ◌∷◌, length}
-use Rattle.cs_base.specs.declared.resource.Res.{Res}
-use Rattle.cs_base.specs.declared.resource.Res.TheVariants as res
-use Rattle.cs_base.specs.declared.spaces.Spaces.{Spaces}
+use Rattle.cs_base.specs.{declared.resource.Res.Res, declared.spaces.Spaces.Spaces}
 use Rattle.cs_layout.specs.Layouts.{SharedCells, numbered}
-use Rattle.cs_layout.specs.declared.areas.Group.{Group}
-use Rattle.cs_layout.specs.declared.areas.GroupKind.{GroupKind}
-use Rattle.cs_layout.specs.declared.areas.GroupKind.TheVariants as kind
+use Rattle.cs_layout.specs.{declared.areas.Group.Group, declared.areas.GroupKind.GroupKind}
 use Rattle.cs_typed.specs.TypedTree.{SharedNames}
+use Rattle.cs_base.specs.declared.resource.Res.TheVariants as res
+use Rattle.cs_layout.specs.declared.areas.GroupKind.TheVariants as kind
 
 -- a resource of a kind by its number
 abbrev pub res_of : GroupKind → ℕ → Res

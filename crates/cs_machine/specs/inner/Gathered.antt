@@ -1,10 +1,8 @@
 -- Arguments of a unit that stand for registers.
 use Rattle.std.specs.Prelude.{ℕ, ℤ, ◌≡◌, List, pos, slice_index_or}
+use Rattle.cs_ir.specs.{Waves.Wave, declared.register.Reg.Reg}
+use Rattle.cs_signal.specs.{Operands.operand_at, declared.operand.Operand.Operand}
 use Rattle.cs_ir.specs.declared.register.Kind.TheVariants as kind
-use Rattle.cs_ir.specs.Waves.{Wave}
-use Rattle.cs_ir.specs.declared.register.Reg.{Reg}
-use Rattle.cs_signal.specs.Operands.{operand_at}
-use Rattle.cs_signal.specs.declared.operand.Operand.{Operand}
 use Rattle.cs_signal.specs.declared.operand.Operand.TheVariants as operand
 
 -- what is read past the end of a list, which no op does

@@ -4,8 +4,7 @@ use Rattle.std.specs.Prelude.{slice_index_or}
 use Rattle.cs_base.specs.Rates.{is_audio}
 use Rattle.cs_signal.specs.Operands.{argument}
 use Rattle.cs_ir.specs.Registers.{at_kind, kind_number, rate_of}
-use Rattle.cs_ir.specs.declared.register.Counts.{Counts}
-use Rattle.cs_ir.specs.declared.register.Kind.{Kind}
+use Rattle.cs_ir.specs.{declared.register.Counts.Counts, declared.register.Kind.Kind}
 
 -- each of these rows has a number a frame
 abbrev pub AreRows : ℕ → List (List ℤ) → Type 0

@@ -4,10 +4,8 @@ use Rattle.cs_base.specs.Limits.{most_delay_samples}
 use Rattle.cs_ugen.specs.declared.unit.UnitState.{UnitState}
 use Rattle.cs_cells.specs.declared.footprint.Area.{Area}
 use Rattle.cs_meaning.specs.Pieces.{Table, find_table, is_there}
-use Rattle.cs_machine.specs.Players.{PlayerData}
-use Rattle.cs_machine.specs.declared.state.State.{State}
-use Rattle.cs_voice.specs.Starting.{HasUnit, player_on}
-use Rattle.cs_voice.specs.declared.begin.StartRefusal.{StartRefusal}
+use Rattle.cs_machine.specs.{Players.PlayerData, declared.state.State.State}
+use Rattle.cs_voice.specs.{Starting.HasUnit, Starting.player_on, declared.begin.StartRefusal.StartRefusal}
 use Rattle.cs_voice.specs.declared.begin.StartRefusal.TheVariants as refusal
 
 -- a unit plays on the table of a number, which has been made

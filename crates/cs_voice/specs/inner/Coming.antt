@@ -2,23 +2,14 @@
 use Rattle.std.specs.Prelude.{ℕ, ℤ, Bool, ◌≡◌, ◌+◌, ◌<◌, ◌≤◌, ◌++◌, List, [], Option, Some, None, drop, length, map}
 use Rattle.std.specs.Prelude.{slice_get}
 use Rattle.cs_cells.specs.declared.footprint.Area.{Area}
-use Rattle.cs_ir.specs.Asks.{ask_of}
-use Rattle.cs_ir.specs.Flat.{Begins, moved_ops}
-use Rattle.cs_ir.specs.Machine.{Machine, run}
-use Rattle.cs_ir.specs.Worlds.{World}
-use Rattle.cs_ir.specs.declared.ask.Ask.{Ask}
-use Rattle.cs_ir.specs.declared.op.Code.{Code}
-use Rattle.cs_ir.specs.declared.op.Op.{Op}
-use Rattle.cs_machine.specs.States.{IsStateIn, machine_of}
+use Rattle.cs_ir.specs.{Asks.ask_of, Flat.Begins, Flat.moved_ops, Machine.Machine, Machine.run, Worlds.World}
+use Rattle.cs_ir.specs.{declared.ask.Ask.Ask, declared.op.Code.Code, declared.op.Op.Op}
+use Rattle.cs_machine.specs.{States.IsStateIn, States.machine_of, declared.state.State.State}
 use Rattle.cs_machine.specs.declared.state.NoteSetting.{NoteSetting}
-use Rattle.cs_machine.specs.declared.state.State.{State}
-use Rattle.cs_voice_meaning.specs.VoiceWorld.{voice_world}
-use Rattle.cs_voice_meaning.specs.Voices.{Sheet}
-use Rattle.cs_voice.specs.Codes.{CanGo, Finding}
-use Rattle.cs_voice.specs.Cycles.{CanRun, Context}
+use Rattle.cs_voice_meaning.specs.{VoiceWorld.voice_world, Voices.Sheet}
+use Rattle.cs_voice.specs.{Codes.CanGo, Codes.Finding, Cycles.CanRun, Cycles.Context, declared.tables.Finds.Finds}
 use Rattle.cs_voice.specs.Passing.{CanPass, IsStateOf, Passes}
 use Rattle.cs_voice.specs.declared.begin.StartRefusal.{StartRefusal}
-use Rattle.cs_voice.specs.declared.tables.Finds.{Finds}
 
 module _ {W : Type 0} (o : World W) where
   -- Up to a place of a code a machine has become another, which goes on there, and comes to the same end.

@@ -1,14 +1,7 @@
--- Ops that jump, and where they go on; and those that only a code has that begins a note.
+-- Ops that only a code has that begins a note; and where ops that jump go on.
 use Rattle.std.specs.Prelude.{ℕ, ◌≡◌, ◌+◌, Bool, true, false, List, if◌then◌else◌}
-use Rattle.cs_ir.specs.Values.{holds}
-use Rattle.cs_ir.specs.Waves.{Wave, operand}
-use Rattle.cs_ir.specs.declared.op.Act.{Act}
+use Rattle.cs_ir.specs.{Values.holds, Waves.Wave, Waves.operand, declared.op.Act.Act}
 use Rattle.cs_ir.specs.declared.op.Act.TheVariants as act
-
-abbrev pub is_jump : Act → Bool
-is_jump (act.Jump to) = true
-is_jump (act.Unless to) = true
-is_jump _ = false
 
 abbrev pub is_start : Act → Bool
 is_start (act.Start opcode u) = true

@@ -5,19 +5,15 @@ use Rattle.std.proofs.Common.{zero-add}
 use Rattle.std.specs.List.{range_with_len}
 use Rattle.std.proofs.lemmas.List.{get_or_past}
 use Rattle.std.proofs.lemmas.List.FromFn.{get_or-map-range_with_len, length-map-range_with_len}
-use Rattle.cs_base.specs.declared.resource.Rate.TheVariants as rate
 use Rattle.cs_base.proofs.Tests.{by_test}
-use Rattle.cs_ir.specs.Validity.{has_register}
-use Rattle.cs_ir.specs.Waves.{Wave, constant, held, silence}
-use Rattle.cs_ir.specs.Registers.{at_kind, rate_at, rate_of}
-use Rattle.cs_ir.specs.declared.register.Kind.{Kind}
-use Rattle.cs_ir.specs.declared.register.Kind.TheVariants as kind
-use Rattle.cs_ir.specs.declared.register.Reg.{Reg}
-use Rattle.cs_machine.specs.Outputs.{ChannelFile, outs, refilled}
+use Rattle.cs_ir.specs.{Validity.has_register, Waves.Wave, Waves.constant, Waves.held, Waves.silence, Registers.at_kind}
+use Rattle.cs_ir.specs.{Registers.rate_at, Registers.rate_of, declared.register.Kind.Kind, declared.register.Reg.Reg}
+use Rattle.cs_machine.specs.{Outputs.ChannelFile, Outputs.outs, Outputs.refilled, Rows.row_of, Rows.row_wave}
 use Rattle.cs_machine.specs.Registers.{RegisterFile, filled, register, values}
-use Rattle.cs_machine.specs.Rows.{row_of, row_wave}
 use Rattle.cs_machine.proofs.Frames.{at_or_past, held_row, row_held}
 use Rattle.cs_signal.specs.Operands.{argument}
+use Rattle.cs_base.specs.declared.resource.Rate.TheVariants as rate
+use Rattle.cs_ir.specs.declared.register.Kind.TheVariants as kind
 
 module _ {A : Type 0} (f : ℕ → A) (n : ℕ) where
   -- a list of what a function has at the first numbers
@@ -84,13 +80,9 @@ unfolding ones rows
 filled_has f w past keeps = λ t q. at q.kind q.offset t
   where
     at : (k : Kind) (n : ℕ) → values (filled f w) (register k n) ≡ w (register k n)
-    at kind.LocalInit n = one_has f w past kind.LocalInit n (keeps (register kind.LocalInit n))
-    at kind.LocalControl n = one_has f w past kind.LocalControl n (keeps (register kind.LocalControl n))
-    at kind.Kept n = one_has f w past kind.Kept n (keeps (register kind.Kept n))
-    at kind.TemporaryInit n = one_has f w past kind.TemporaryInit n (keeps (register kind.TemporaryInit n))
-    at kind.TemporaryControl n = one_has f w past kind.TemporaryControl n (keeps (register kind.TemporaryControl n))
     at kind.LocalAudio n = row_has f w past kind.LocalAudio n (keeps (register kind.LocalAudio n))
     at kind.TemporaryAudio n = row_has f w past kind.TemporaryAudio n (keeps (register kind.TemporaryAudio n))
+    at k n = one_has f w past k n (keeps (register k n))
 
 -- what they have then fits in them
 pub filled_past : (f : RegisterFile) (w : Reg → Wave) (q : Reg) → has_register f.counts q ≡ false
@@ -100,13 +92,9 @@ filled_past f w q past = at q.kind q.offset past
   where
     at : (k : Kind) (n : ℕ) → has_register f.counts (register k n) ≡ false
         → values (filled f w) (register k n) ≡ silence
-    at kind.LocalInit n past = one_past f w kind.LocalInit n past
-    at kind.LocalControl n past = one_past f w kind.LocalControl n past
-    at kind.Kept n past = one_past f w kind.Kept n past
-    at kind.TemporaryInit n past = one_past f w kind.TemporaryInit n past
-    at kind.TemporaryControl n past = one_past f w kind.TemporaryControl n past
     at kind.LocalAudio n past = row_past f w kind.LocalAudio n past
     at kind.TemporaryAudio n past = row_past f w kind.TemporaryAudio n past
+    at k n past = one_past f w k n past
 
 zero_held : (b : Bool) → (if b then pos 0 else pos 0) ≡ pos 0
 zero_held true = refl
@@ -144,13 +132,9 @@ filled_keeps f w q = at q.kind q.offset
 
     at : (k : Kind) (n : ℕ) → held f.ksmps (rate_of k) (values (filled f w) (register k n))
         ≡ values (filled f w) (register k n)
-    at kind.LocalInit n = refl
-    at kind.LocalControl n = refl
-    at kind.Kept n = refl
-    at kind.TemporaryInit n = refl
-    at kind.TemporaryControl n = refl
     at kind.LocalAudio n = row kind.LocalAudio n
     at kind.TemporaryAudio n = row kind.TemporaryAudio n
+    at k n = refl
 
 -- channels that were filled with values that fit in them have them
 pub refilled_has : (f : ChannelFile) (w : ℕ → Wave) → ((c : ℕ) → nat_lt c (length f.rows) ≡ false → w c ≡ silence)

@@ -1,8 +1,7 @@
 -- What a note begins with, if one does.
 use Rattle.std.specs.Prelude.{List, [], Option, Some, None}
 use Rattle.cs_ir.specs.declared.ask.Ask.{Ask}
-use Rattle.cs_voice.specs.Codes.{Finding}
-use Rattle.cs_voice.specs.declared.starter.Starter.{Starter}
+use Rattle.cs_voice.specs.{Codes.Finding, declared.starter.Starter.Starter}
 
 -- what the note finds, with which of its tables have been made by now; nothing in a control cycle
 abbrev pub finding : Option Starter → Finding

@@ -2,8 +2,7 @@
 use Rattle.std.specs.Prelude.{ℕ, ◌&&◌, nat_lt, Option, Some, None, if◌then◌else◌}
 use Rattle.cs_base.specs.declared.resource.Res.{Res}
 use Rattle.cs_words.specs.declared.catalogue.Space.{Space}
-use Rattle.cs_ir.specs.Resources.{places_of, reaches, zak_place}
-use Rattle.cs_ir.specs.declared.op.Reach.{Reach}
+use Rattle.cs_ir.specs.{Resources.places_of, Resources.reaches, Resources.zak_place, declared.op.Reach.Reach}
 use Rattle.cs_machine.specs.declared.state.NoteSetting.{NoteSetting}
 
 -- the place of a number, where its space has it and it is within reach

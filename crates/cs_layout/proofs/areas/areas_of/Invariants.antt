@@ -1,7 +1,6 @@
 use Rattle.std.proofs.Common.{◌≡◌, ◌+◌, ◌*◌, ◌++◌, take, sum_by}
 use Rattle.std.specs.List.{flat_map}
-use Rattle.cs_layout.specs.Layouts.{laid_from, of_tables}
-use Rattle.cs_layout.specs.inner.Groups.{members}
+use Rattle.cs_layout.specs.{Layouts.laid_from, Layouts.of_tables, inner.Groups.members}
 use Rattle.cs_layout.proofs.areas.areas_of.Given as goal
 
 abbrev pub invariant-loop-group : goal.invariant-loop-group

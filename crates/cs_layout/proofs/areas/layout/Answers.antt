@@ -1,13 +1,11 @@
 use Rattle.std.proofs.Common.{◌≡◌, ◌∙◌, ap, arith, sym, subst, Err, IfNone, IfSome}
-use Rattle.cs_base.specs.declared.fault.Or.{Or}
-use Rattle.cs_base.specs.declared.fault.Or.TheVariants as or
-use Rattle.cs_base.specs.declared.limit.LimitHit.{LimitHit}
+use Rattle.cs_base.specs.{declared.fault.Or.Or, declared.limit.LimitHit.LimitHit}
 use Rattle.cs_cells.specs.Areas.{IsLaid, limit_passed}
 use Rattle.cs_layout.specs.Layouts.{areas_of}
 use Rattle.cs_typed.specs.TypedTree.{shared_names}
-use Rattle.cs_layout.proofs.Complete.{is_laid}
+use Rattle.cs_layout.proofs.{Complete.is_laid, Made.count_is, Made.made_are, Made.words_is}
 use Rattle.cs_layout.proofs.Limits.{hit_resources, hit_words, limit_told, none_passed, resources_passed, words_passed}
-use Rattle.cs_layout.proofs.Made.{count_is, made_are, words_is}
+use Rattle.cs_base.specs.declared.fault.Or.TheVariants as or
 use Rattle.cs_layout.proofs.areas.layout.Goals as goal
 
 pub returns-then-count_of-clause-limit : goal.returns-then-count_of-clause-limit

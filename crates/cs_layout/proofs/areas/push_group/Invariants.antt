@@ -1,6 +1,5 @@
 use Rattle.std.proofs.Common.{◌≡◌, ◌+◌, ◌*◌, ◌++◌}
-use Rattle.cs_layout.specs.Layouts.{laid_from, numbered}
-use Rattle.cs_layout.specs.inner.Groups.{res_of}
+use Rattle.cs_layout.specs.{Layouts.laid_from, Layouts.numbered, inner.Groups.res_of}
 use Rattle.cs_layout.proofs.areas.push_group.Given as goal
 
 abbrev pub invariant-loop-number : goal.invariant-loop-number

@@ -1,5 +1,4 @@
-use Rattle.cs_layout.proofs.Complete.{cells_of, is_laid, there}
-use Rattle.cs_layout.proofs.Counted.{spaces_are}
+use Rattle.cs_layout.proofs.{Complete.cells_of, Complete.is_laid, Complete.there, Counted.spaces_are}
 use Rattle.cs_layout.proofs.laws.layouts_are_complete.Goals as goal
 
 pub returns-clause-laid : goal.returns-clause-laid

@@ -1,5 +1,4 @@
-use Rattle.cs_layout.proofs.Counted.{spaces_are}
-use Rattle.cs_layout.proofs.ZakSpaces.{are_spaces}
+use Rattle.cs_layout.proofs.{Counted.spaces_are, ZakSpaces.are_spaces}
 use Rattle.cs_layout.proofs.laws.layouts_have_their_places.Goals as goal
 
 pub returns-clause-spaces : goal.returns-clause-spaces

@@ -1,9 +1,7 @@
 use Rattle.std.proofs.Common.{◌∙◌, ◌≤◌, ℤ, List, ◌++◌, ap, arith, length, take}
 use Rattle.cs_cells.specs.Cells.{cell}
-use Rattle.cs_ir.specs.Placed.{regs_read}
-use Rattle.cs_ir.specs.declared.register.Reg.{Reg}
-use Rattle.cs_machine.specs.Players.{PlayerData, curve_at}
-use Rattle.cs_machine.specs.Registers.{values}
+use Rattle.cs_ir.specs.{Placed.regs_read, declared.register.Reg.Reg}
+use Rattle.cs_machine.specs.{Players.PlayerData, Players.curve_at, Registers.values}
 use Rattle.cs_machine.proofs.Gathered.{few, same_inputs}
 use Rattle.cs_signal.specs.Steps.{run}
 use Rattle.cs_ugen.specs.Units.{inputs_at, unit_step}

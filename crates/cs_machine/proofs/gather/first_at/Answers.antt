@@ -1,10 +1,8 @@
 use Rattle.std.proofs.Common.{◌∙◌, ap, arith, sym}
 use Rattle.std.proofs.lemmas.Option.{get_or_from_slice_get}
 use Rattle.cs_ir.proofs.RegisterKinds.{all_small}
-use Rattle.cs_ir.specs.Placed.{regs_read}
-use Rattle.cs_ir.specs.Validity.{has_register}
-use Rattle.cs_machine.specs.Registers.{values}
-use Rattle.cs_machine.specs.inner.Gathered.{no_register}
+use Rattle.cs_ir.specs.{Placed.regs_read, Validity.has_register}
+use Rattle.cs_machine.specs.{Registers.values, inner.Gathered.no_register}
 use Rattle.cs_machine.proofs.Gathered.{each_read, none_past}
 use Rattle.cs_machine.proofs.gather.first_at.Goals as goal
 

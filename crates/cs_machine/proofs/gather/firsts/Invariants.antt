@@ -1,7 +1,6 @@
 use Rattle.std.proofs.Common.{◌≡◌, ℕ, ◌<◌, length}
 use Rattle.cs_ir.specs.Placed.{regs_read}
-use Rattle.cs_machine.specs.Registers.{values}
-use Rattle.cs_machine.specs.inner.Gathered.{IsFirstAt}
+use Rattle.cs_machine.specs.{Registers.values, inner.Gathered.IsFirstAt}
 use Rattle.cs_machine.proofs.gather.firsts.Given as goal
 
 -- the numbers before this one are those of their registers

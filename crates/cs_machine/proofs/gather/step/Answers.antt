@@ -1,12 +1,9 @@
 use Rattle.std.proofs.Common.{◌∙◌, ◌≤◌, ◌++◌, ℤ, List, [], ◌∷◌, ap, arith, length, take}
 use Rattle.cs_cells.specs.Cells.{cell}
-use Rattle.cs_ir.specs.Placed.{regs_read}
-use Rattle.cs_ir.specs.declared.register.Reg.{Reg}
-use Rattle.cs_machine.specs.Players.{PlayerData, curve_at}
-use Rattle.cs_machine.specs.Registers.{values}
+use Rattle.cs_ir.specs.{Placed.regs_read, declared.register.Reg.Reg}
+use Rattle.cs_machine.specs.{Players.PlayerData, Players.curve_at, Registers.values}
 use Rattle.cs_machine.proofs.Gathered.{same_firsts, three_first}
-use Rattle.cs_ugen.specs.Units.{unit_step}
-use Rattle.cs_ugen.specs.declared.unit.UnitState.{UnitState}
+use Rattle.cs_ugen.specs.{Units.unit_step, declared.unit.UnitState.UnitState}
 use Rattle.cs_machine.proofs.gather.step.Goals as goal
 
 pub returns-then-len-le-FEW_INPUTS-clause-value : goal.returns-then-len-le-FEW_INPUTS-clause-value

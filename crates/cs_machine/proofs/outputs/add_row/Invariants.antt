@@ -1,7 +1,6 @@
 use Rattle.std.proofs.Common.{◌≡◌, length}
 use Rattle.cs_ir.specs.Waves.{both}
-use Rattle.cs_machine.specs.Rows.{Begins, row_wave}
-use Rattle.cs_machine.specs.inner.Kept.{Ends}
+use Rattle.cs_machine.specs.{Rows.Begins, Rows.row_wave, inner.Kept.Ends}
 use Rattle.cs_words.specs.declared.sign.BinOp.TheVariants as op
 use Rattle.cs_machine.proofs.outputs.add_row.Given as goal
 

@@ -1,7 +1,6 @@
 use Rattle.std.proofs.Common.{◌≡◌, ◌<◌, ℕ, [], length, slice_index_or}
 use Rattle.cs_ir.specs.Waves.{silence}
-use Rattle.cs_machine.specs.Rows.{row_wave}
-use Rattle.cs_machine.specs.inner.Kept.{AreRows}
+use Rattle.cs_machine.specs.{Rows.row_wave, inner.Kept.AreRows}
 use Rattle.cs_machine.proofs.outputs.clear_all.Given as goal
 
 -- the channels before this one are silent

@@ -1,8 +1,7 @@
 use Rattle.std.proofs.Common.{◌∙◌, ap, arith, length, rules}
 use Rattle.std.proofs.lemmas.Nat.{le_or_l, le_or_r}
 use Rattle.cs_machine.proofs.Frames.{one_more, all_done}
-use Rattle.cs_ir.specs.Values.{combined}
-use Rattle.cs_ir.specs.Waves.{both}
+use Rattle.cs_ir.specs.{Values.combined, Waves.both}
 use Rattle.cs_words.specs.declared.sign.BinOp.TheVariants as op
 use Rattle.cs_machine.proofs.pairs.each_low.Goals as goal
 

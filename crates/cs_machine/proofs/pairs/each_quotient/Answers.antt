@@ -1,7 +1,6 @@
 use Rattle.std.proofs.Common.{◌∙◌, ap, arith, length, rules}
 use Rattle.cs_machine.proofs.Frames.{one_more, all_done}
-use Rattle.cs_ir.specs.Values.{combined}
-use Rattle.cs_ir.specs.Waves.{both}
+use Rattle.cs_ir.specs.{Values.combined, Waves.both}
 use Rattle.cs_words.specs.declared.sign.BinOp.TheVariants as op
 use Rattle.cs_machine.proofs.pairs.each_quotient.Goals as goal
 

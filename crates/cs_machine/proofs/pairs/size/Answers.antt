@@ -1,6 +1,5 @@
 use Rattle.std.proofs.Common.{◌≡◌, subst, arith, rules, ◌∙◌, to_z, of_z, w64}
-use Rattle.std.proofs.lemmas.Int.{to_z-of_z}
-use Rattle.std.proofs.lemmas.Nat.{le_or_l, le_or_r}
+use Rattle.std.proofs.lemmas.{Int.to_z-of_z, Nat.le_or_l, Nat.le_or_r}
 use mir.Val.{SFits}
 use Rattle.cs_machine.specs.inner.Narrow.{IsShort}
 use Rattle.cs_machine.proofs.pairs.size.Goals as goal

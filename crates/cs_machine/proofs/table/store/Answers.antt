@@ -1,15 +1,13 @@
 use Rattle.std.proofs.Common.{◌≡◌, ◌∙◌, ◌+◌, ◌<◌, ap, arith, length, refl, sym, subst, Some}
 use Rattle.std.proofs.lemmas.List.{length-set}
-use Rattle.cs_base.specs.declared.resource.Rate.TheVariants as rate
-use Rattle.cs_gen.specs.Points.{len_of}
+use Rattle.cs_gen.specs.{Points.len_of, Places.place_of_index}
 use Rattle.cs_signal.specs.Operands.{operand_at}
 use Rattle.cs_cells.specs.Cells.{cell}
-use Rattle.cs_gen.specs.Places.{place_of_index}
 use Rattle.cs_meaning.specs.Pieces.{stored}
 use Rattle.cs_voice_meaning.specs.Placing.{wave_in, with_wave}
-use Rattle.cs_machine.proofs.Curved.{some_points, place_within}
+use Rattle.cs_machine.proofs.{Curved.some_points, Curved.place_within, Writing.touch_again, Writing.within_here}
 use Rattle.cs_machine.proofs.Storing.{none_stored, one_stored, in_table}
-use Rattle.cs_machine.proofs.Writing.{touch_again, within_here}
+use Rattle.cs_base.specs.declared.resource.Rate.TheVariants as rate
 use Rattle.cs_machine.proofs.table.store.Goals as goal
 
 pub loop-j-init : goal.loop-j-init

@@ -1,11 +1,10 @@
 use Rattle.std.proofs.Common.{◌≡◌, length, Some}
-use Rattle.cs_base.specs.declared.resource.Rate.TheVariants as rate
-use Rattle.cs_gen.specs.Points.{len_of}
+use Rattle.cs_gen.specs.{Points.len_of, Places.place_of_index}
 use Rattle.cs_signal.specs.Operands.{operand_at}
 use Rattle.cs_cells.specs.Cells.{cell}
-use Rattle.cs_gen.specs.Places.{place_of_index}
 use Rattle.cs_meaning.specs.Pieces.{stored}
 use Rattle.cs_voice_meaning.specs.Placing.{wave_in, with_wave}
+use Rattle.cs_base.specs.declared.resource.Rate.TheVariants as rate
 use Rattle.cs_machine.proofs.table.store.Given as goal
 
 abbrev pub invariant-loop-j : goal.invariant-loop-j

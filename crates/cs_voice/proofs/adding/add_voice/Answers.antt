@@ -1,11 +1,9 @@
 use Rattle.std.proofs.Common.{◌≡◌, ◌<◌, ◌+◌, ◌-◌, ◌+ℤ◌, ℕ, ℤ, List, drop, get_or, length, pos, take, arith, sym, ◌∙◌}
-use Rattle.std.proofs.Common.{ap, subst}
+use Rattle.std.proofs.{Common.ap, Common.subst, Math.IntN.+ℤ_idr}
 use Rattle.std.proofs.lemmas.List.{length-drop, length-take-le}
-use Rattle.std.proofs.Math.IntN.{+ℤ_idr}
 use Rattle.cs_base.specs.Numbers.{IsRaw}
 use Rattle.cs_ir.specs.Waves.{Wave}
-use Rattle.cs_voice.proofs.Columns.{part_at}
-use Rattle.cs_voice.proofs.Sums.{nothing_raw}
+use Rattle.cs_voice.proofs.{Columns.part_at, Sums.nothing_raw}
 use Rattle.cs_voice.proofs.adding.add_voice.Goals as goal
 
 pub returns-in-Some-clause-sums : goal.returns-in-Some-clause-sums

@@ -1,7 +1,6 @@
 use Rattle.std.proofs.Common.{◌≡◌, ◌≢◌, ℕ, ◌<◌, ◌-◌, length}
 use Rattle.cs_row.specs.Heard.{IsSumOf}
-use Rattle.cs_voice.specs.Mixing.{sum_at}
-use Rattle.cs_voice.specs.inner.Places.{place}
+use Rattle.cs_voice.specs.{Mixing.sum_at, inner.Places.place}
 use Rattle.cs_voice.proofs.adding.mix_channel.Given as goal
 
 -- the frames before this one have their sums

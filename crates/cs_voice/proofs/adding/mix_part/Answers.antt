@@ -1,8 +1,7 @@
 use Rattle.std.proofs.Common.{◌≡◌, ◌∙◌, ◌≤◌, ℕ, length, pos, replicate, take, arith, rules}
 use Rattle.std.proofs.lemmas.List.{length-take-le}
 use Rattle.cs_row.specs.Heard.{IsSumOf}
-use Rattle.cs_voice.specs.Mixing.{sum_at}
-use Rattle.cs_voice.specs.inner.Places.{place}
+use Rattle.cs_voice.specs.{Mixing.sum_at, inner.Places.place}
 use Rattle.cs_voice.proofs.Columns.{from_frame, zeros_have}
 use Rattle.cs_voice.proofs.adding.mix_part.Goals as goal
 

@@ -1,10 +1,7 @@
 use Rattle.std.proofs.Common.{◌≡◌, ◌∙◌, ap, length, refl, subst, sym, true}
 use Rattle.std.specs.List.{list_all}
 use Rattle.cs_ir.proofs.RegisterKinds.{there_small}
-use Rattle.cs_ir.specs.Placed.{there}
-use Rattle.cs_ir.specs.Registers.{rate_at}
-use Rattle.cs_ir.specs.Validity.{has_register}
-use Rattle.cs_ir.specs.declared.op.Act.TheVariants as act
+use Rattle.cs_ir.specs.{Placed.there, Registers.rate_at, Validity.has_register}
 use Rattle.cs_voice.proofs.Fitting.{acts_there, bare_from, first_there, reads_small, unit_there}
 use Rattle.cs_voice.proofs.Readying.{does_op, does_op_plain, does_op_unit, fit_of, is_a_unit, number_of, parts_of}
 use Rattle.cs_voice.proofs.Readying.{room_of, takes_of, unit_into, unit_may_play}
@@ -13,11 +10,11 @@ use Rattle.cs_voice.proofs.any.act.Goals as goal
 
 pub returns-in-Load-clause-does : goal.returns-in-Load-clause-does
 returns-in-Load-clause-does g c = does_op (acts_there c.args.op c.in-Load.is) c.writes.ensures
-    (bare_from (there c.args.op) c.args.state.now (act.Load c.in-Load.res) (fit_of c.requires.ready.ready)
+    (bare_from (fit_of c.requires.ready.ready)
     (acts_there c.args.op c.in-Load.is) refl) c.load.ensures.does
 
 pub only-requires-clause-small : goal.only-requires-clause-small
-only-requires-clause-small g c = reads_small (there c.args.op) c.args.state.now (fit_of c.requires.ready.ready)
+only-requires-clause-small g c = reads_small (fit_of c.requires.ready.ready)
 
 pub save-requires-clause-x : goal.save-requires-clause-x
 save-requires-clause-x g c =

@@ -1,6 +1,5 @@
 use Rattle.std.proofs.Common.{refl, sym}
-use Rattle.cs_ir.specs.Placed.{there}
-use Rattle.cs_ir.specs.Registers.{rate_at}
+use Rattle.cs_ir.specs.{Placed.there, Registers.rate_at}
 use Rattle.cs_voice.proofs.Fitting.{acts_there, first_there, reads_small, second_there, third_there}
 use Rattle.cs_voice.proofs.Readying.{does_op, fit_of, op_may_store, parts_of, room_of, store_long, takes_of}
 use Rattle.cs_voice.proofs.any.store.Goals as goal
@@ -10,7 +9,7 @@ triple-requires-clause-three g c = store_long (rate_at (there c.args.op).into) (
     (takes_of c.requires.ready.ready (acts_there c.args.op c.in-Store.is))
 
 pub triple-requires-clause-small : goal.triple-requires-clause-small
-triple-requires-clause-small g c = reads_small (there c.args.op) c.args.state.now (fit_of c.requires.ready.ready)
+triple-requires-clause-small g c = reads_small (fit_of c.requires.ready.ready)
 
 pub store_points-requires-clause-signal : goal.store_points-requires-clause-signal
 store_points-requires-clause-signal g c =

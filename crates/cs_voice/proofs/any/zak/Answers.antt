@@ -1,14 +1,10 @@
 use Rattle.std.proofs.Common.{◌∙◌, ap, refl, sym}
-use Rattle.cs_ir.specs.Placed.{there}
-use Rattle.cs_ir.specs.Registers.{rate_at}
-use Rattle.cs_ir.specs.Units.{is_zak}
-use Rattle.cs_ir.specs.Validity.{has_register}
-use Rattle.cs_words.specs.declared.catalogue.Space.TheVariants as space
+use Rattle.cs_ir.specs.{Placed.there, Registers.rate_at, Units.is_zak, Validity.has_register}
 use Rattle.cs_voice.proofs.Fitting.{acts_there, first_there, reads_small, second_there}
 use Rattle.cs_voice.proofs.Places.{get_gives}
 use Rattle.cs_voice.proofs.Readying.{can_reach, does_op, fit_of, into_of, is_a_zak, may_read, may_write, mix_sounds}
-use Rattle.cs_voice.proofs.Readying.{not_zak}
-use Rattle.cs_voice.proofs.Readying.{parts_of, takes_of, zak_count, zak_long}
+use Rattle.cs_voice.proofs.Readying.{not_zak, parts_of, takes_of, zak_count, zak_long}
+use Rattle.cs_words.specs.declared.catalogue.Space.TheVariants as space
 use Rattle.cs_voice.proofs.any.zak.Goals as goal
 
 pub only-requires-clause-one : goal.only-requires-clause-one
@@ -36,17 +32,17 @@ pair-requires-in-ZakClear-clause-two g c = zak_long c.in-Zak.opcode c.in-Zak.rea
     c.in-ZakClear.is))
 
 pub only-requires-clause-small : goal.only-requires-clause-small
-only-requires-clause-small g c = reads_small (there c.args.op) c.args.state.now (fit_of c.requires.ready.ready)
+only-requires-clause-small g c = reads_small (fit_of c.requires.ready.ready)
 
 pub pair-requires-clause-small : goal.pair-requires-clause-small
-pair-requires-clause-small g c = reads_small (there c.args.op) c.args.state.now (fit_of c.requires.ready.ready)
+pair-requires-clause-small g c = reads_small (fit_of c.requires.ready.ready)
 
 pub pair-requires-in-ZakMix-clause-small : goal.pair-requires-in-ZakMix-clause-small
-pair-requires-in-ZakMix-clause-small g c = reads_small (there c.args.op) c.args.state.now (fit_of
+pair-requires-in-ZakMix-clause-small g c = reads_small (fit_of
     c.requires.ready.ready)
 
 pub pair-requires-in-ZakClear-clause-small : goal.pair-requires-in-ZakClear-clause-small
-pair-requires-in-ZakClear-clause-small g c = reads_small (there c.args.op) c.args.state.now (fit_of
+pair-requires-in-ZakClear-clause-small g c = reads_small (fit_of
     c.requires.ready.ready)
 
 pub zak_get-requires-clause-into : goal.zak_get-requires-clause-into

@@ -1,9 +1,7 @@
 use Rattle.std.proofs.Common.{◌∙◌, ◌++◌, ◌∷◌, [], ap, arith, map, sym}
 use Rattle.std.proofs.lemmas.List.{take_all}
 use Rattle.cs_ir.proofs.RegisterKinds.{all_small}
-use Rattle.cs_ir.specs.Placed.{regs_read}
-use Rattle.cs_ir.specs.Validity.{has_register}
-use Rattle.cs_ir.specs.Waves.{first_values}
+use Rattle.cs_ir.specs.{Placed.regs_read, Validity.has_register, Waves.first_values}
 use Rattle.cs_machine.specs.Registers.{values}
 use Rattle.cs_machine.proofs.Gathered.{each_read, none_past}
 use Rattle.cs_voice.proofs.Fitting.{one_read}

@@ -1,6 +1,5 @@
 use Rattle.std.proofs.Common.{◌≡◌, map, take}
-use Rattle.cs_ir.specs.Placed.{regs_read}
-use Rattle.cs_ir.specs.Waves.{first_values}
+use Rattle.cs_ir.specs.{Placed.regs_read, Waves.first_values}
 use Rattle.cs_machine.specs.Registers.{values}
 use Rattle.cs_voice.proofs.asks.gather.Given as goal
 

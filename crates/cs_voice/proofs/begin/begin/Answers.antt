@@ -4,11 +4,10 @@ use Rattle.cs_words.specs.Catalogue.{is_table}
 use Rattle.cs_meaning.specs.Pieces.{table_number}
 use Rattle.cs_base.specs.Heads.{header_of_head}
 use Rattle.cs_signal.specs.Pace.{pace_of}
-use Rattle.cs_ugen.specs.Generators as generators
 use Rattle.cs_ugen.specs.Units.{unit_start}
-use Rattle.cs_voice.specs.Tables.{CanAllBePlayed}
-use Rattle.cs_voice.specs.inner.Begun.{BeginsOnTable}
+use Rattle.cs_voice.specs.{Tables.CanAllBePlayed, inner.Begun.BeginsOnTable}
 use Rattle.cs_voice.proofs.Starting.{a_delay, alone, on_table}
+use Rattle.cs_ugen.specs.Generators as generators
 use Rattle.cs_voice.proofs.begin.begin.Goals as goal
 
 pub returns-in_ok-refused : goal.returns-in_ok-refused

@@ -1,7 +1,6 @@
 use Rattle.std.proofs.Common.{length, inr, refl, rules, subst, sym}
 use Rattle.cs_cells.specs.Cells.{cell}
-use Rattle.cs_voice.specs.Passing.{Passes}
-use Rattle.cs_voice.specs.Starts.{sheet_for}
+use Rattle.cs_voice.specs.{Passing.Passes, Starts.sheet_for}
 use Rattle.cs_voice.proofs.Began.{can_pass}
 use Rattle.cs_voice.proofs.pass.pass.Goals as goal
 

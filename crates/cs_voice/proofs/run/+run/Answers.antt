@@ -1,91 +1,58 @@
-use Rattle.std.proofs.Common.{◌≡◌, ◌∙◌, ◌+◌, ◌*◌, ◌<◌, length, map, take, slice_get, true, false, Some, arith, refl}
-use Rattle.std.proofs.Common.{sym, ap, ltb-true}
+use Rattle.std.proofs.Common.{◌≡◌, ◌∙◌, ◌+◌, ◌*◌, ◌<◌, ℕ, List, length, map, nat_lt, get_or, take, true, Some, arith}
+use Rattle.std.proofs.Common.{refl, sym, ap, ltb-true}
 use Rattle.std.specs.List.{list_all}
-use Rattle.std.proofs.lemmas.List.{length-take-le}
-use Rattle.std.proofs.lemmas.Option.{slice_get_read}
-use Rattle.std.proofs.lemmas.Result.{IfOk-weaker}
+use Rattle.std.proofs.lemmas.{List.length-take-le, Result.IfOk-weaker, Bool.ltb-false}
 use Rattle.cs_cells.specs.Cells.{cell}
-use Rattle.cs_ir.proofs.Lows.{room_in}
-use Rattle.cs_ir.proofs.Libraries.{routine_at, routine_none}
-use Rattle.cs_ir.proofs.Reading.{past_end}
+use Rattle.cs_ir.proofs.{Lows.room_in, Libraries.found, Libraries.routine_at, Libraries.routine_none}
 use Rattle.cs_ir.specs.Flat.{flat, further, leaves_room, ops_at, window_of}
-use Rattle.cs_ir.specs.Routines.{library_in}
-use Rattle.cs_ir.specs.Validity.{has_register}
-use Rattle.cs_ir.specs.Values.{holds}
-use Rattle.cs_ir.specs.Waves.{operand}
-use Rattle.cs_ir.specs.declared.op.Op.{Op}
+use Rattle.cs_ir.specs.{Routines.library_in, Routines.steps_of, Validity.has_register, Values.holds, Waves.operand}
+use Rattle.cs_ir.specs.{declared.op.Op.Op, declared.routine.Routine.Routine, declared.step.Step.Step}
 use Rattle.cs_machine.specs.Registers.{values}
-use Rattle.cs_voice.specs.Ready.{is_here}
-use Rattle.cs_voice.specs.inner.Starters.{asked, finding}
+use Rattle.cs_voice.specs.{Ready.is_here, inner.Starters.asked, inner.Starters.finding}
 use Rattle.cs_voice.proofs.Coming.{can_as, can_be_done, can_begin, can_call, comes_act, comes_held, comes_jump}
-use Rattle.cs_voice.proofs.Coming.{comes_not, comes_on, does_all, does_as, does_nothing, does_refused, gone_call}
-use Rattle.cs_voice.proofs.Coming.{gone_start, is_started, is_there, jump_later, never_as, never_call, never_op, reads}
-use Rattle.cs_voice.proofs.Coming.{start_stays, stays, unless_later, unless_one}
+use Rattle.cs_voice.proofs.Coming.{comes_not, comes_on, does_all, does_as, does_nothing, does_refused, goes_on}
+use Rattle.cs_voice.proofs.Coming.{gone_call, gone_start, is_started, is_there, jump_later, never_as, never_call}
+use Rattle.cs_voice.proofs.Coming.{never_op, reads, start_stays, stays, unless_later, unless_one}
 use Rattle.cs_voice.proofs.run.+run.Goals as goal
 
 -- ---- jumps
 
 pub steps_in-loop-place-smaller-in-Jump : goal.steps_in-loop-place-smaller-in-Jump
 steps_in-loop-place-smaller-in-Jump g t c =
-    let inv = c.loop-place.invariant in
-    let later = jump_later g.B.Bank.can_get g.B.Bank.can_set inv.rest inv.long inv.same c.requires.able inv.comes
-    (c.step_at.ensures ∙ ap Some c.in-Do.is) c.in-Jump.to c.in-Jump.is in
+    let later = jump_later c.loop-place.invariant (c.step_at.ensures ∙ ap Some c.in-Do.is) c.in-Jump.to c.in-Jump.is in
     omega (arith, later, c.loop-place-test.true)
 
 pub steps_in-loop-place-preserved-in-Jump : goal.steps_in-loop-place-preserved-in-Jump
-steps_in-loop-place-preserved-in-Jump g t c =
-    let inv = c.loop-place.invariant in record {
-      comes = comes_jump g.B.Bank.can_get g.B.Bank.can_set inv.rest inv.long inv.same c.requires.able inv.comes
-          (c.step_at.ensures ∙ ap Some c.in-Do.is) c.in-Jump.to c.in-Jump.is;
-      same = inv.same;
-      long = inv.long;
-      rest = inv.rest;
-    }
+steps_in-loop-place-preserved-in-Jump g t c = goes_on c.loop-place.invariant refl refl refl
+    (comes_jump c.loop-place.invariant (c.step_at.ensures ∙ ap Some c.in-Do.is) c.in-Jump.to c.in-Jump.is)
 
 pub steps_in-condition-requires-clause-one : goal.steps_in-condition-requires-clause-one
 steps_in-condition-requires-clause-one g t c =
-    let inv = c.loop-place.invariant in
     ap (λ (d : Op). length d.from) c.op.ensures.op
-    ∙ unless_one g.B.Bank.can_get g.B.Bank.can_set inv.rest inv.long inv.same c.requires.able inv.comes
-    (c.step_at.ensures ∙ ap Some c.in-Do.is) c.in-Unless.to c.in-Unless.is
+    ∙ unless_one c.loop-place.invariant (c.step_at.ensures ∙ ap Some c.in-Do.is) c.in-Unless.to c.in-Unless.is
 
 pub steps_in-condition-requires-clause-there : goal.steps_in-condition-requires-clause-there
 steps_in-condition-requires-clause-there g t c =
-    let inv = c.loop-place.invariant in
     ap (λ (d : Op). list_all (has_register c.loop-place.state.regs.counts) d.from) c.op.ensures.op
-    ∙ reads g.B.Bank.can_get g.B.Bank.can_set inv.rest inv.long inv.same c.requires.able inv.comes
-    (c.step_at.ensures ∙ ap Some c.in-Do.is)
+    ∙ reads c.loop-place.invariant (c.step_at.ensures ∙ ap Some c.in-Do.is)
 
 pub steps_in-loop-place-preserved-then-condition : goal.steps_in-loop-place-preserved-then-condition
-steps_in-loop-place-preserved-then-condition g t c =
-    let inv = c.loop-place.invariant in record {
-      comes = comes_held g.B.Bank.can_get g.B.Bank.can_set inv.rest inv.long inv.same c.requires.able inv.comes
-          (c.step_at.ensures ∙ ap Some c.in-Do.is) c.in-Unless.to c.in-Unless.is
-          (sym (ap (λ (d : Op). holds (operand 0 (map (values c.loop-place.state.regs) d.from) 0)) c.op.ensures.op)
-          ∙ sym c.condition.ensures ∙ c.if-condition.true);
-      same = inv.same;
-      long = inv.long;
-      rest = inv.rest;
-    }
+steps_in-loop-place-preserved-then-condition g t c = goes_on c.loop-place.invariant refl refl refl
+    (comes_held c.loop-place.invariant (c.step_at.ensures ∙ ap Some c.in-Do.is) c.in-Unless.to c.in-Unless.is
+    (sym (ap (λ (d : Op). holds (operand 0 (map (values c.loop-place.state.regs) d.from) 0)) c.op.ensures.op)
+    ∙ sym c.condition.ensures ∙ c.if-condition.true))
 
 pub steps_in-loop-place-smaller-else-condition : goal.steps_in-loop-place-smaller-else-condition
 steps_in-loop-place-smaller-else-condition g t c =
-    let inv = c.loop-place.invariant in
-    let later = unless_later g.B.Bank.can_get g.B.Bank.can_set inv.rest inv.long inv.same c.requires.able inv.comes
-    (c.step_at.ensures ∙ ap Some c.in-Do.is) c.in-Unless.to c.in-Unless.is in
+    let later = unless_later c.loop-place.invariant (c.step_at.ensures ∙ ap Some c.in-Do.is) c.in-Unless.to
+    c.in-Unless.is in
     omega (arith, later, c.loop-place-test.true)
 
 pub steps_in-loop-place-preserved-else-condition : goal.steps_in-loop-place-preserved-else-condition
-steps_in-loop-place-preserved-else-condition g t c =
-    let inv = c.loop-place.invariant in record {
-      comes = comes_not g.B.Bank.can_get g.B.Bank.can_set inv.rest inv.long inv.same c.requires.able inv.comes
-          (c.step_at.ensures ∙ ap Some c.in-Do.is) c.in-Unless.to c.in-Unless.is
-          (sym (ap (λ (d : Op). holds (operand 0 (map (values c.loop-place.state.regs) d.from) 0)) c.op.ensures.op)
-          ∙ sym c.condition.ensures ∙ c.if-condition.false);
-      same = inv.same;
-      long = inv.long;
-      rest = inv.rest;
-    }
+steps_in-loop-place-preserved-else-condition g t c = goes_on c.loop-place.invariant refl refl refl
+    (comes_not c.loop-place.invariant (c.step_at.ensures ∙ ap Some c.in-Do.is) c.in-Unless.to c.in-Unless.is
+    (sym (ap (λ (d : Op). holds (operand 0 (map (values c.loop-place.state.regs) d.from) 0)) c.op.ensures.op)
+    ∙ sym c.condition.ensures ∙ c.if-condition.false))
 
 -- ---- starts
 
@@ -96,112 +63,85 @@ steps_in-start-requires-clause-room g t c =
 
 pub steps_in-start-requires-clause-able : goal.steps_in-start-requires-clause-able
 steps_in-start-requires-clause-able g t c =
-    let inv = c.loop-place.invariant in
     let st = is_started c.in-Do.op.act c.in-Start.is in
-    can_begin g.B.Bank.can_get g.B.Bank.can_set inv.rest inv.long inv.same c.requires.able inv.comes
-    (c.step_at.ensures ∙ ap Some c.in-Do.is) (start_stays c.in-Do.op.act st) st c.op-in-Start.ensures.op
+    can_begin c.loop-place.invariant (c.step_at.ensures ∙ ap Some c.in-Do.is) (start_stays c.in-Do.op.act st) st
+    c.op-in-Start.ensures.op
 
 pub steps_in-returns-in_err-refused-in-Start-clause-memory :
     goal.steps_in-returns-in_err-refused-in-Start-clause-memory
 steps_in-returns-in_err-refused-in-Start-clause-memory g t c err =
-    let inv = c.loop-place.invariant in
     let st = is_started c.in-Do.op.act c.in-Start.is in
-    never_op g.B.Bank.can_get g.B.Bank.can_set inv.rest inv.long inv.same c.requires.able inv.comes
-    (c.step_at.ensures ∙ ap Some c.in-Do.is) (start_stays c.in-Do.op.act st) st
+    never_op c.loop-place.invariant (c.step_at.ensures ∙ ap Some c.in-Do.is) (start_stays c.in-Do.op.act st) st
 
 pub steps_in-returns-in-Some-clause-does : goal.steps_in-returns-in-Some-clause-does
 steps_in-returns-in-Some-clause-does g t c =
-    let inv = c.loop-place.invariant in
     let st = is_started c.in-Do.op.act c.in-Start.is in
     does_refused c.in-Some.is
-    (gone_start g.B.Bank.can_get g.B.Bank.can_set inv.rest inv.long inv.same c.requires.able inv.comes
-    (c.step_at.ensures ∙ ap Some c.in-Do.is) (start_stays c.in-Do.op.act st) st c.op-in-Start.ensures.op
-    c.in_ok-refused-in-Start.ensures.does)
+    (gone_start c.loop-place.invariant (c.step_at.ensures ∙ ap Some c.in-Do.is) (start_stays c.in-Do.op.act st) st
+    c.op-in-Start.ensures.op c.in_ok-refused-in-Start.ensures.does)
 
 pub steps_in-loop-place-preserved-in-Start : goal.steps_in-loop-place-preserved-in-Start
 steps_in-loop-place-preserved-in-Start g t c =
-    let inv = c.loop-place.invariant in
-    let st = is_started c.in-Do.op.act c.in-Start.is in record {
-      comes = comes_on c.in_default-refused.not-Some
-          (gone_start g.B.Bank.can_get g.B.Bank.can_set inv.rest inv.long inv.same c.requires.able inv.comes
-          (c.step_at.ensures ∙ ap Some c.in-Do.is) (start_stays c.in-Do.op.act st) st c.op-in-Start.ensures.op
-          c.in_ok-refused-in-Start.ensures.does);
-      same = c.in_ok-refused-in-Start.ensures.same ∙ inv.same;
-      long = inv.long;
-      rest = inv.rest;
-    }
+    let st = is_started c.in-Do.op.act c.in-Start.is in
+    goes_on c.loop-place.invariant c.in_ok-refused-in-Start.ensures.same refl refl
+    (comes_on c.in_default-refused.not-Some
+    (gone_start c.loop-place.invariant (c.step_at.ensures ∙ ap Some c.in-Do.is) (start_stays c.in-Do.op.act st) st
+    c.op-in-Start.ensures.op c.in_ok-refused-in-Start.ensures.does))
 
 -- ---- other ops
 
 pub steps_in-act-requires : goal.steps_in-act-requires
 steps_in-act-requires g t c =
-    let inv = c.loop-place.invariant in
     let other = c.in_default in record {
       here = ap (λ (d : Op). is_here d.act) c.op-in_default.ensures.op
           ∙ is_there c.in-Do.op.act other.not-Jump other.not-Unless c.args.code.now.window other.not-Start
           other.not-Seek other.not-Ask;
       room = ap leaves_room c.op-in_default.ensures.window
           ∙ room_in (length c.args.code.now.routines.now) c.args.code.now.window c.requires.low;
-      ready = can_be_done g.B.Bank.can_get g.B.Bank.can_set inv.rest inv.long inv.same c.requires.able inv.comes
-          (c.step_at.ensures ∙ ap Some c.in-Do.is) (stays c.in-Do.op.act other.not-Jump other.not-Unless)
-          c.op-in_default.ensures.op;
+      ready = can_be_done c.loop-place.invariant (c.step_at.ensures ∙ ap Some c.in-Do.is)
+          (stays c.in-Do.op.act other.not-Jump other.not-Unless) c.op-in_default.ensures.op;
     }
 
 pub steps_in-loop-place-preserved-in_default : goal.steps_in-loop-place-preserved-in_default
 steps_in-loop-place-preserved-in_default g t c =
-    let inv = c.loop-place.invariant in
-    let other = c.in_default in record {
-      comes = comes_act g.B.Bank.can_get g.B.Bank.can_set inv.rest inv.long inv.same c.requires.able inv.comes
-          (c.step_at.ensures ∙ ap Some c.in-Do.is) (stays c.in-Do.op.act other.not-Jump other.not-Unless)
-          (is_there c.in-Do.op.act other.not-Jump other.not-Unless c.args.code.now.window other.not-Start
-          other.not-Seek other.not-Ask) c.op-in_default.ensures.op c.act.ensures.does;
-      same = inv.same;
-      long = c.act.ensures.long ∙ inv.long;
-      rest = c.act.ensures.rest ∙ inv.rest;
-    }
+    let other = c.in_default in
+    goes_on c.loop-place.invariant refl c.act.ensures.long c.act.ensures.rest
+    (comes_act c.loop-place.invariant (c.step_at.ensures ∙ ap Some c.in-Do.is)
+    (stays c.in-Do.op.act other.not-Jump other.not-Unless)
+    (is_there c.in-Do.op.act other.not-Jump other.not-Unless c.args.code.now.window other.not-Start other.not-Seek
+    other.not-Ask) c.op-in_default.ensures.op c.act.ensures.does)
 
 -- ---- calls
 
 pub steps_in-invoke-requires : goal.steps_in-invoke-requires
 steps_in-invoke-requires g t c κs within =
-    let inv = c.loop-place.invariant in
     let whole : 2 * length c.args.code.now.routines.now + 1 ≡ t = c.decreases in
     let less : 2 * length c.args.code.now.routines.now < t = omega (arith, whole) in (
       less,
       (
         within,
-        (
-          c.requires.low,
-          can_call g.B.Bank.can_get g.B.Bank.can_set inv.rest inv.long inv.same c.requires.able inv.comes
-              (c.step_at.ensures ∙ ap Some c.in-Invoke.is),
-        ),
+        (c.requires.low, can_call c.loop-place.invariant (c.step_at.ensures ∙ ap Some c.in-Invoke.is)),
       ),
     )
 
 pub steps_in-returns-in_err-refused-in-Invoke-clause-memory :
     goal.steps_in-returns-in_err-refused-in-Invoke-clause-memory
 steps_in-returns-in_err-refused-in-Invoke-clause-memory g t c err =
-    let inv = c.loop-place.invariant in
-    never_call g.B.Bank.can_get g.B.Bank.can_set inv.rest inv.long inv.same c.requires.able inv.comes
-    (c.step_at.ensures ∙ ap Some c.in-Invoke.is) (c.in_err-refused-in-Invoke.ensures.memory refl)
+    never_call c.loop-place.invariant (c.step_at.ensures ∙ ap Some c.in-Invoke.is)
+    (c.in_err-refused-in-Invoke.ensures.memory refl)
 
 pub steps_in-returns-in-Some-refused-clause-does : goal.steps_in-returns-in-Some-refused-clause-does
 steps_in-returns-in-Some-refused-clause-does g t c =
-    let inv = c.loop-place.invariant in
     does_refused c.in-Some-refused.is
-    (gone_call g.B.Bank.can_get g.B.Bank.can_set inv.rest inv.long inv.same c.requires.able inv.comes
-    (c.step_at.ensures ∙ ap Some c.in-Invoke.is) c.in_ok-refused-in-Invoke.ensures.does)
+    (gone_call c.loop-place.invariant (c.step_at.ensures ∙ ap Some c.in-Invoke.is)
+    c.in_ok-refused-in-Invoke.ensures.does)
 
 pub steps_in-loop-place-preserved : goal.steps_in-loop-place-preserved
 steps_in-loop-place-preserved g t c =
-    let inv = c.loop-place.invariant in record {
-      comes = comes_on c.in_default-refused-2.not-Some
-          (gone_call g.B.Bank.can_get g.B.Bank.can_set inv.rest inv.long inv.same c.requires.able inv.comes
-          (c.step_at.ensures ∙ ap Some c.in-Invoke.is) c.in_ok-refused-in-Invoke.ensures.does);
-      same = c.in_ok-refused-in-Invoke.ensures.same ∙ inv.same;
-      long = c.in_ok-refused-in-Invoke.ensures.long ∙ inv.long;
-      rest = c.in_ok-refused-in-Invoke.ensures.rest ∙ inv.rest;
-    }
+    let made = c.in_ok-refused-in-Invoke.ensures in
+    goes_on c.loop-place.invariant made.same made.long made.rest
+    (comes_on c.in_default-refused-2.not-Some
+    (gone_call c.loop-place.invariant (c.step_at.ensures ∙ ap Some c.in-Invoke.is) made.does))
 
 pub steps_in-returns-clause-does : goal.steps_in-returns-clause-does
 steps_in-returns-clause-does g t c =
@@ -212,16 +152,24 @@ steps_in-returns-clause-does g t c =
 pub invoke-further-requires : goal.invoke-further-requires
 invoke-further-requires g t c = room_in (length c.args.code.now.routines.now) c.args.code.now.window c.requires.low
 
+-- the steps of a routine that is there stand for its ops
+routine_is : (list : List Routine) (n : ℕ) (r : Routine) (steps : List Step) → true ≡ nat_lt n (length list)
+    → r ≡ get_or list n r → steps ≡ steps_of r
+    → (n < length list) × (flat (library_in (take n list)) steps ≡ ops_at (library_in list) n)
+routine_is list n r steps there is same =
+    let low : n < length list = ltb-true n (length list) (sym there) in (
+      low,
+      ap (flat (library_in (take n list))) same
+          ∙ sym (routine_at list n r (found list n r there is)),
+    )
+
 pub invoke-steps_in-requires : goal.invoke-steps_in-requires
 invoke-steps_in-requires g t c κs within =
     let list = c.args.code.now.routines.now in
     let n = c.args.call.now.routine in
     let h = c.in-Some.ensures.lookup in
-    let low : n < length list = ltb-true n (length list) (sym h.0) in
-    let there : slice_get list n ≡ Some c.in-Some.routine.now =
-    slice_get_read list (length list) n c.in-Some.routine.now refl low h.1 in
-    let is : flat (library_in (take n list)) c.steps.result.now ≡ ops_at (library_in list) n =
-    ap (flat (library_in (take n list))) c.steps.ensures ∙ sym (routine_at list n c.in-Some.routine.now there) in
+    let is = routine_is list n c.in-Some.routine.now c.steps.result.now h.0 h.1 c.steps.ensures in
+    let low : n < length list = is.0 in
     let long : length (take n list) ≡ n = length-take-le n list (omega (arith, low)) in
     let whole : 2 * length list ≡ t = c.decreases in
     let less : 2 * length (take n list) + 1 < t = omega (arith, low, long, whole) in (
@@ -230,34 +178,25 @@ invoke-steps_in-requires g t c κs within =
         within,
         (
           c.further.ensures.low (length list) (length (take n list)) c.requires.low (omega (arith, low, long)),
-          can_as (sym c.further.ensures.window) (sym is) c.requires.able,
+          can_as (sym c.further.ensures.window) (sym is.1) c.requires.able,
         ),
       ),
     )
 
 pub invoke-returns-in-Some-clause-does : goal.invoke-returns-in-Some-clause-does
 invoke-returns-in-Some-clause-does g t c =
-    let list = c.args.code.now.routines.now in
-    let n = c.args.call.now.routine in
     let h = c.in-Some.ensures.lookup in
-    let low : n < length list = ltb-true n (length list) (sym h.0) in
-    let there : slice_get list n ≡ Some c.in-Some.routine.now =
-    slice_get_read list (length list) n c.in-Some.routine.now refl low h.1 in
-    let is : flat (library_in (take n list)) c.steps.result.now ≡ ops_at (library_in list) n =
-    ap (flat (library_in (take n list))) c.steps.ensures ∙ sym (routine_at list n c.in-Some.routine.now there) in
-    IfOk-weaker c.steps_in.result _ _ (λ refused does. does_as c.further.ensures.window is does) c.steps_in.ensures.does
+    let is = routine_is c.args.code.now.routines.now c.args.call.now.routine c.in-Some.routine.now c.steps.result.now
+    h.0 h.1 c.steps.ensures in
+    IfOk-weaker c.steps_in.result _ _ (λ refused does. does_as c.further.ensures.window is.1 does)
+    c.steps_in.ensures.does
 
 pub invoke-returns-in-Some-clause-memory : goal.invoke-returns-in-Some-clause-memory
 invoke-returns-in-Some-clause-memory g t c err =
-    let list = c.args.code.now.routines.now in
-    let n = c.args.call.now.routine in
     let h = c.in-Some.ensures.lookup in
-    let low : n < length list = ltb-true n (length list) (sym h.0) in
-    let there : slice_get list n ≡ Some c.in-Some.routine.now =
-    slice_get_read list (length list) n c.in-Some.routine.now refl low h.1 in
-    let is : flat (library_in (take n list)) c.steps.result.now ≡ ops_at (library_in list) n =
-    ap (flat (library_in (take n list))) c.steps.ensures ∙ sym (routine_at list n c.in-Some.routine.now there) in
-    never_as c.further.ensures.window is (c.steps_in.ensures.memory err)
+    let is = routine_is c.args.code.now.routines.now c.args.call.now.routine c.in-Some.routine.now c.steps.result.now
+    h.0 h.1 c.steps.ensures in
+    never_as c.further.ensures.window is.1 (c.steps_in.ensures.memory err)
 
 pub invoke-returns-in-None-clause-does : goal.invoke-returns-in-None-clause-does
 invoke-returns-in-None-clause-does g t c =
@@ -268,4 +207,4 @@ invoke-returns-in-None-clause-does g t c =
     (length (g.B.Bank.cells c.args.bank.now)) c.args.at.now (finding c.args.starter.now)
     (further c.args.code.now.window (window_of c.args.call.now)) (ops_at (library_in list) n) c.args.state.now
     (cell (g.B.Bank.cells c.args.bank.now)) (asked c.args.starter.now)
-    (routine_none list n (past_end n (length list) (sym h.0)))
+    (routine_none list n (ltb-false n (length list) (sym h.0)))

@@ -1,21 +1,17 @@
-use Rattle.std.proofs.Common.{◌≡◌, ◌+◌, ◌*◌, ◌-◌, length, None}
+use Rattle.std.proofs.Common.{◌+◌, ◌*◌, ◌-◌, length}
 use Rattle.cs_cells.specs.Cells.{cell}
 use Rattle.cs_ir.specs.Routines.{library_in}
 use Rattle.cs_voice.specs.inner.Starters.{asked, finding}
-use Rattle.cs_voice.proofs.Coming.{Comes}
+use Rattle.cs_voice.proofs.Coming.{IsAt}
 use Rattle.cs_voice.proofs.run.+run.Given as goal
 
 -- The code was done up to this step, by whatever it can be done as.
 abbrev pub invariant-steps_in-loop-place : goal.invariant-steps_in-loop-place
-invariant-steps_in-loop-place g l = record {
-  comes : Comes (g.B.Bank.can_get (g.B.Bank.rest l.initial.bank)) (g.B.Bank.can_set (g.B.Bank.rest l.initial.bank))
-      (length (g.B.Bank.cells l.initial.bank)) l.at (finding l.initial.starter) (library_in l.code.routines.now)
-      l.code.steps.now l.code.window l.initial.state (cell (g.B.Bank.cells l.initial.bank)) (asked l.initial.starter)
-      l.place l.state (cell (g.B.Bank.cells l.bank)) (asked l.starter) None;
-  same : finding l.starter ≡ finding l.initial.starter;
-  long : length (g.B.Bank.cells l.bank) ≡ length (g.B.Bank.cells l.initial.bank);
-  rest : g.B.Bank.rest l.bank ≡ g.B.Bank.rest l.initial.bank;
-}
+invariant-steps_in-loop-place g l = IsAt g.B.Bank.can_get g.B.Bank.can_set (g.B.Bank.rest l.initial.bank)
+    (g.B.Bank.rest l.bank) (length (g.B.Bank.cells l.initial.bank)) (length (g.B.Bank.cells l.bank)) l.at
+    (finding l.initial.starter) (finding l.starter) (library_in l.code.routines.now) l.code.steps.now l.code.window
+    l.initial.state (cell (g.B.Bank.cells l.initial.bank)) (asked l.initial.starter) l.place l.state
+    (cell (g.B.Bank.cells l.bank)) (asked l.starter)
 
 abbrev pub decreases-steps_in-loop-place : goal.decreases-steps_in-loop-place
 decreases-steps_in-loop-place g l = length l.steps - l.place

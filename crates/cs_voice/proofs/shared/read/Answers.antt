@@ -3,8 +3,9 @@ use Rattle.std.proofs.lemmas.Bool.{false≢true}
 use Rattle.cs_base.specs.Rates.{is_audio}
 use Rattle.cs_cells.specs.Cells.{cell}
 use Rattle.cs_ir.specs.Registers.{rate_at}
-use Rattle.cs_machine.proofs.Frames.{all_written}
-use Rattle.cs_voice.proofs.Sharing.{read_held, read_sound, some_cell, sound_cells}
+use Rattle.cs_machine.proofs.Frames.{vector_frames}
+use Rattle.cs_voice.proofs.Sharing.{read_held, some_cell, sound_cells, sound_frames}
+use Rattle.cs_voice_meaning.specs.Placing.{wave_in}
 use Rattle.cs_voice.proofs.shared.read.Goals as goal
 use Rattle.cs_voice.proofs.shared.read.Goals.{else-is_audio-via-then-is_audio+else-is_audio-2}
 use Rattle.cs_voice.proofs.shared.read.Goals.{else-is_audio-via-else-is_audio}
@@ -17,13 +18,13 @@ read_row-requires-clause-row g c =
 
 pub returns-then-is_audio-2-clause-values : goal.returns-then-is_audio-2-clause-values
 returns-then-is_audio-2-clause-values g c =
-    read_sound c.args.regs.now c.swap.new.self c.args.into c.args.rate c.args.area
-    (cell (g.B.Bank.cells c.args.bank.now)) _ c.read_row.new.row
-    (all_written c.args.row.now.len c.read_row.new.row c.args.row.now.items
-    (c.read_row.ensures.row ∙ c.deref_mut.ensures.len))
-    (sym c.is_audio.ensures ∙ c.if-is_audio.true) (sym c.is_audio-then-is_audio.ensures ∙ c.if-is_audio-2.true)
-    (c.read_row.ensures.row ∙ ap length c.deref_mut.ensures.value ∙ c.requires.row) c.read_row.ensures.frames
-    c.swap.ensures.values
+    let cells = cell (g.B.Bank.cells c.args.bank.now) in
+    let w = wave_in c.args.rate c.args.area cells in
+    c.swap.ensures.values w
+    (vector_frames w c.args.row.now.len c.read_row.new.row c.args.row.now.items
+    (c.read_row.ensures.row ∙ c.deref_mut.ensures.len)
+    (sound_frames c.args.rate c.args.area cells c.read_row.new.row (sym c.is_audio.ensures ∙ c.if-is_audio.true)
+    c.read_row.ensures.frames))
 
 pub returns-else-is_audio-clause-values : goal.returns-else-is_audio-clause-values
 returns-else-is_audio-clause-values g c =

@@ -1,11 +1,9 @@
-use Rattle.std.proofs.Common.{◌≡◌, ◌∙◌, [], ◌∷◌, Some, ap, refl, subst, sym}
+use Rattle.std.proofs.Common.{◌≡◌, ◌∙◌, Some, ap, refl, subst, sym}
 use Rattle.cs_base.specs.Rates.{res_rate}
 use Rattle.cs_cells.specs.Cells.{cell}
 use Rattle.cs_ir.specs.Waves.{held}
-use Rattle.cs_ir.specs.declared.op.Act.TheVariants as act
-use Rattle.cs_machine.specs.Registers.{values}
+use Rattle.cs_machine.specs.{Registers.values, States.machine_of}
 use Rattle.cs_voice_meaning.specs.Placing.{area_of, with_wave}
-use Rattle.cs_machine.specs.States.{machine_of}
 use Rattle.cs_machine.proofs.Done.{changes}
 use Rattle.cs_voice.proofs.Sharing.{saved_here}
 use Rattle.cs_voice.proofs.shared.save.Goals as goal
@@ -16,8 +14,7 @@ returns-clause-does g c = λ into areas piece stock kinds counts at placed state
     let after = cell (g.B.Bank.cells c.write.new.bank) in
     let w = values c.args.state.now.regs c.args.x in
     let ksmps = c.args.state.now.regs.ksmps in
-    changes areas piece kinds counts (act.Save c.args.res) into (c.args.x ∷ []) c.args.state.now _ before after
-    (record { regs = refl; rest = record { players = refl; outs = refl; delays = refl; ended = refl } }) state
+    changes (record { regs = refl; rest = record { players = refl; outs = refl; delays = refl; ended = refl } }) state
     c.write.ensures.row
     (λ next asks cause. ap (λ cells. machine_of c.args.state.now cells next asks cause)
     (saved_here areas c.args.res c.area_in-area.result (res_rate c.args.res) w ksmps

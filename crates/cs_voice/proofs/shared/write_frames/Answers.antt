@@ -1,8 +1,7 @@
 use Rattle.std.proofs.Common.{◌∙◌, Some, ap, length}
 use Rattle.cs_cells.specs.Cells.{cell}
 use Rattle.cs_machine.proofs.Frames.{all_written, row_held}
-use Rattle.cs_machine.specs.Registers.{values}
-use Rattle.cs_machine.specs.Rows.{row_wave}
+use Rattle.cs_machine.specs.{Registers.values, Rows.row_wave}
 use Rattle.cs_voice_meaning.specs.Placing.{with_wave}
 use Rattle.cs_voice.proofs.Sharing.{row_is}
 use Rattle.cs_voice.proofs.shared.write_frames.Goals as goal

@@ -1,17 +1,13 @@
 use Rattle.std.proofs.Common.{◌≡◌, ◌∙◌, ap, map, refl, subst, sym, slice_index_or, slice_set, Some, None, List, Option}
 use Rattle.std.proofs.lemmas.List.{get_or_read}
 use Rattle.cs_cells.specs.Cells.{cell}
-use Rattle.cs_ir.specs.Placed.{regs_read}
-use Rattle.cs_ir.specs.Registers.{rate_at}
-use Rattle.cs_ir.specs.Waves.{constant}
-use Rattle.cs_machine.specs.Players.{PlayerData}
-use Rattle.cs_machine.specs.Registers.{IsWritten, values}
-use Rattle.cs_voice.proofs.Playing.{plays_within, rests_beyond, rests_none}
-use Rattle.cs_voice.proofs.Ran.{unit_done}
+use Rattle.cs_ir.specs.{Placed.regs_read, Registers.rate_at, Waves.constant}
+use Rattle.cs_machine.specs.{Players.PlayerData, Registers.IsWritten, Registers.values}
+use Rattle.cs_voice.proofs.{Playing.plays_within, Playing.rests_beyond, Playing.rests_none, Ran.unit_done}
 use Rattle.cs_voice.proofs.unit.run_unit.Goals as goal
 
 pub returns-then-may_touch-clause-does : goal.returns-then-may_touch-clause-does
-returns-then-may_touch-clause-does g c = λ areas piece stock kinds counts opcode shaped kind placed state.
+returns-then-may_touch-clause-does g c =
     let old = c.args.state.now in
     let units : List (Option PlayerData) = old.players.items in
     let is : slice_index_or units c.args.number None ≡ Some c.in-Some.player =
@@ -20,9 +16,7 @@ returns-then-may_touch-clause-does g c = λ areas piece stock kinds counts opcod
     c.args.from))
     (cell (g.B.Bank.cells c.args.bank.now)) (slice_index_or units c.args.number None) c.in-Some.player is
     (sym c.may_touch.ensures ∙ c.if-may_touch.true) in
-    unit_done areas piece stock kinds counts opcode c.args.number c.args.reach c.args.into (regs_read c.args.from) old _
-    (cell (g.B.Bank.cells c.args.bank.now)) (cell (g.B.Bank.cells c.play.new.bank))
-    shaped kind placed state c.requires.number (ap cell c.play.ensures.same)
+    unit_done c.requires.number (ap cell c.play.ensures.same)
     (record {
       regs = subst (λ w. IsWritten old.regs c.args.into w c.play.new.regs) ran.1 c.play.ensures.values;
       players = ap (slice_set units c.args.number) (ap Some c.play.ensures.unit ∙ ran.0);
@@ -33,7 +27,7 @@ returns-then-may_touch-clause-does g c = λ areas piece stock kinds counts opcod
     })
 
 pub returns-else-may_touch-clause-does : goal.returns-else-may_touch-clause-does
-returns-else-may_touch-clause-does g c = λ areas piece stock kinds counts opcode shaped kind placed state.
+returns-else-may_touch-clause-does g c =
     let old = c.args.state.now in
     let units : List (Option PlayerData) = old.players.items in
     let is : slice_index_or units c.args.number None ≡ Some c.in-Some.player =
@@ -42,9 +36,7 @@ returns-else-may_touch-clause-does g c = λ areas piece stock kinds counts opcod
     c.args.from))
     (cell (g.B.Bank.cells c.args.bank.now)) (slice_index_or units c.args.number None) c.in-Some.player is
     (sym c.may_touch.ensures ∙ c.if-may_touch.false) in
-    unit_done areas piece stock kinds counts opcode c.args.number c.args.reach c.args.into (regs_read c.args.from) old _
-    (cell (g.B.Bank.cells c.args.bank.now)) (cell (g.B.Bank.cells c.args.bank.now))
-    shaped kind placed state c.requires.number refl
+    unit_done c.requires.number refl
     (record {
       regs = subst (λ w. IsWritten old.regs c.args.into w c.hold.new.self) (ap constant c.exact.ensures ∙ ran.1)
           c.hold.ensures.values;
@@ -56,7 +48,7 @@ returns-else-may_touch-clause-does g c = λ areas piece stock kinds counts opcod
     })
 
 pub returns-in-None-clause-does : goal.returns-in-None-clause-does
-returns-in-None-clause-does g c = λ areas piece stock kinds counts opcode shaped kind placed state.
+returns-in-None-clause-does g c =
     let old = c.args.state.now in
     let units : List (Option PlayerData) = old.players.items in
     let is : slice_index_or units c.args.number None ≡ None =
@@ -64,9 +56,7 @@ returns-in-None-clause-does g c = λ areas piece stock kinds counts opcode shape
     let ran = rests_none old.regs.ksmps (rate_at c.args.into) c.args.reach (map (values old.regs) (regs_read
     c.args.from))
     (cell (g.B.Bank.cells c.args.bank.now)) (slice_index_or units c.args.number None) is in
-    unit_done areas piece stock kinds counts opcode c.args.number c.args.reach c.args.into (regs_read c.args.from) old _
-    (cell (g.B.Bank.cells c.args.bank.now)) (cell (g.B.Bank.cells c.args.bank.now))
-    shaped kind placed state c.requires.number refl
+    unit_done c.requires.number refl
     (record {
       regs = subst (λ w. IsWritten old.regs c.args.into w c.hold-in-None.new.self)
           (ap constant c.exact-in-None.ensures ∙ ran.1) c.hold-in-None.ensures.values;

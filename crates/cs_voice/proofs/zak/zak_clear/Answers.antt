@@ -1,10 +1,8 @@
-use Rattle.std.proofs.Common.{◌∙◌, [], ◌∷◌, pos, ap, refl, sym, if◌then◌else◌}
+use Rattle.std.proofs.Common.{◌∙◌, pos, ap, refl, sym, if◌then◌else◌}
 use Rattle.cs_cells.specs.Cells.{cell}
-use Rattle.cs_ir.specs.declared.op.Act.TheVariants as act
 use Rattle.cs_meaning.specs.Pieces.{is_cleared}
-use Rattle.cs_machine.specs.Registers.{values}
+use Rattle.cs_machine.specs.{Registers.values, States.machine_of}
 use Rattle.cs_voice_meaning.specs.VoiceWorld.{lies_cleared}
-use Rattle.cs_machine.specs.States.{machine_of}
 use Rattle.cs_machine.proofs.Done.{changes}
 use Rattle.cs_voice.proofs.Places.{clearing}
 use Rattle.cs_voice.proofs.zak.zak_clear.Goals as goal
@@ -17,9 +15,7 @@ returns-clause-does g c = λ into opcode shaped areas piece stock kinds counts a
     let l = values c.args.state.now.regs c.args.last in
     let space = c.args.within.space in
     let reach = c.args.within.reach in
-    changes areas piece kinds counts (act.Zak opcode reach) into (c.args.first ∷ c.args.last ∷ []) c.args.state.now _
-    before after
-    (record { regs = refl; rest = record { players = refl; outs = refl; delays = refl; ended = refl } }) state
+    changes (record { regs = refl; rest = record { players = refl; outs = refl; delays = refl; ended = refl } }) state
     (state.row ∙ sym state.frames)
     (λ next asks cause.
     clearing areas piece opcode reach into (machine_of c.args.state.now before next asks cause) space f l shaped

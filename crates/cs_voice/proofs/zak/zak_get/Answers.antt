@@ -1,14 +1,11 @@
-use Rattle.std.proofs.Common.{◌∙◌, [], ◌∷◌, ap, refl, subst, sym}
+use Rattle.std.proofs.Common.{◌∙◌, ap, refl, subst, sym}
 use Rattle.cs_base.specs.Rates.{res_rate}
 use Rattle.cs_cells.specs.Cells.{cell}
-use Rattle.cs_ir.specs.Machine.{write}
-use Rattle.cs_ir.specs.Waves.{constant, silence}
-use Rattle.cs_ir.specs.declared.op.Act.TheVariants as act
+use Rattle.cs_ir.specs.{Machine.write, Waves.constant, Waves.silence}
 use Rattle.cs_meaning.specs.Pieces.{index}
-use Rattle.cs_machine.specs.Registers.{IsWritten, values}
+use Rattle.cs_machine.specs.{Registers.IsWritten, Registers.values, States.machine_of}
 use Rattle.cs_voice_meaning.specs.Placing.{area_of, cell_count, wave_in, wave_of}
 use Rattle.cs_voice_meaning.specs.VoiceWorld.{read_cells}
-use Rattle.cs_machine.specs.States.{machine_of}
 use Rattle.cs_machine.proofs.Done.{writes}
 use Rattle.cs_voice.specs.inner.Zak.{reached}
 use Rattle.cs_voice.proofs.Places.{at_reached, getting, not_reached, reached_value}
@@ -28,9 +25,7 @@ returns-in-Some-clause-does g c = λ opcode shaped areas piece stock kinds count
     let res = c.in-Some.res in
     let s = c.args.within.space in
     let reach = c.args.within.reach in
-    writes areas piece kinds counts (act.Zak opcode reach) c.args.into (c.args.number ∷ [])
-    (wave_in (res_rate res) c.area_in-area.result before) c.args.state.now _
-    before (cell (g.B.Bank.cells c.read.new.bank))
+    writes (wave_in (res_rate res) c.area_in-area.result before)
     (record { players = refl; outs = refl; delays = refl; ended = refl }) (ap cell c.read.ensures.same) state
     (subst (λ r. IsWritten c.args.state.now.regs c.args.into (wave_in r c.area_in-area.result before) c.read.new.regs)
     c.rate.ensures c.read.ensures.values) c.read.ensures.row
@@ -48,8 +43,7 @@ returns-in-None-clause-does g c = λ opcode shaped areas piece stock kinds count
     let v = values c.args.state.now.regs c.args.number in
     let s = c.args.within.space in
     let reach = c.args.within.reach in
-    writes areas piece kinds counts (act.Zak opcode reach) c.args.into (c.args.number ∷ []) silence
-    c.args.state.now _ before before (record { players = refl; outs = refl; delays = refl; ended = refl }) refl state
+    writes silence (record { players = refl; outs = refl; delays = refl; ended = refl }) refl state
     (subst (λ z. IsWritten c.args.state.now.regs c.args.into (constant z) c.hold.new.self) c.exact.ensures
     c.hold.ensures.values) c.hold.ensures.row
     (λ next asks cause. let m = machine_of c.args.state.now before next asks cause in

@@ -1,19 +1,14 @@
-use Rattle.std.proofs.Common.{◌∙◌, [], ◌∷◌, length, ap, refl, sym}
+use Rattle.std.proofs.Common.{◌∙◌, length, ap, refl, sym}
 use Rattle.cs_cells.specs.Cells.{cell}
 use Rattle.cs_ir.specs.Machine.{in_world}
-use Rattle.cs_ir.specs.declared.op.Act.TheVariants as act
-use Rattle.cs_meaning.specs.Pieces.{added, index}
-use Rattle.cs_machine.specs.Registers.{values}
-use Rattle.cs_voice_meaning.specs.Placing.{area_of, cell_count}
-use Rattle.cs_meaning.specs.Model.{saved}
-use Rattle.cs_voice_meaning.specs.VoiceWorld.{read_cells, voice_model}
-use Rattle.cs_machine.specs.States.{machine_of}
-use Rattle.cs_machine.proofs.Done.{changes}
-use Rattle.cs_machine.proofs.Frames.{all_written}
-use Rattle.cs_words.specs.declared.catalogue.Space.TheVariants as space
+use Rattle.cs_meaning.specs.{Pieces.added, Pieces.index, Model.saved}
+use Rattle.cs_machine.specs.{Registers.values, States.machine_of}
+use Rattle.cs_voice_meaning.specs.{Placing.area_of, Placing.cell_count, VoiceWorld.read_cells, VoiceWorld.voice_model}
+use Rattle.cs_machine.proofs.{Done.changes, Frames.all_written}
 use Rattle.cs_voice.specs.inner.Zak.{reached}
 use Rattle.cs_voice.proofs.Places.{at_reached, mixed_here, mixing, not_reached, reached_sound, reached_touched}
 use Rattle.cs_voice.proofs.Places.{reached_value}
+use Rattle.cs_words.specs.declared.catalogue.Space.TheVariants as space
 use Rattle.cs_voice.proofs.zak.zak_mix.Goals as goal
 
 pub mix_row-requires-clause-row : goal.mix_row-requires-clause-row
@@ -60,9 +55,7 @@ returns-in-Some-clause-does g c = λ into opcode shaped areas piece stock kinds 
     ap (λ z. reached c.args.at.now space.Audio c.args.reach (index z)) (sym c.first.ensures) ∙ sym c.place.ensures
     ∙ c.in-Some.is in
     let sound = reached_sound c.args.at.now c.args.reach (index (v 0)) res here in
-    changes areas piece kinds counts (act.Zak opcode c.args.reach) into (c.args.x ∷ c.args.number ∷ [])
-    c.args.state.now _ before after
-    (record { regs = refl; rest = record { players = refl; outs = refl; delays = refl; ended = refl } }) state
+    changes (record { regs = refl; rest = record { players = refl; outs = refl; delays = refl; ended = refl } }) state
     (ap length written ∙ c.mix_row.ensures.room ∙ ap length c.deref_mut.ensures.value ∙ c.requires.able.room.row)
     (λ next asks cause. let m = machine_of c.args.state.now before next asks cause in
     mixing areas piece opcode c.args.reach into m w v shaped
@@ -83,9 +76,7 @@ returns-in_default-clause-does g c = λ into opcode shaped areas piece stock kin
     let before = cell (g.B.Bank.cells c.args.bank.now) in
     let v = values c.args.state.now.regs c.args.number in
     let w = values c.args.state.now.regs c.args.x in
-    changes areas piece kinds counts (act.Zak opcode c.args.reach) into (c.args.x ∷ c.args.number ∷ [])
-    c.args.state.now _ before before
-    (record { regs = refl; rest = record { players = refl; outs = refl; delays = refl; ended = refl } }) state
+    changes (record { regs = refl; rest = record { players = refl; outs = refl; delays = refl; ended = refl } }) state
     (state.row ∙ sym state.frames)
     (λ next asks cause. let m = machine_of c.args.state.now before next asks cause in
     mixing areas piece opcode c.args.reach into m w v shaped

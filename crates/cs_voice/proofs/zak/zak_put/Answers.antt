@@ -1,15 +1,10 @@
-use Rattle.std.proofs.Common.{◌≡◌, ◌∙◌, [], ◌∷◌, length, Some, ap, refl, subst, sym}
+use Rattle.std.proofs.Common.{◌≡◌, ◌∙◌, length, Some, ap, refl, subst, sym}
 use Rattle.cs_base.specs.Rates.{res_rate}
 use Rattle.cs_cells.specs.Cells.{cell}
-use Rattle.cs_ir.specs.Machine.{in_world}
-use Rattle.cs_ir.specs.Waves.{held}
-use Rattle.cs_ir.specs.declared.op.Act.TheVariants as act
-use Rattle.cs_meaning.specs.Pieces.{index}
-use Rattle.cs_machine.specs.Registers.{values}
-use Rattle.cs_voice_meaning.specs.Placing.{area_of, cell_count, with_wave}
-use Rattle.cs_meaning.specs.Model.{saved}
-use Rattle.cs_voice_meaning.specs.VoiceWorld.{voice_model}
-use Rattle.cs_machine.specs.States.{machine_of}
+use Rattle.cs_ir.specs.{Machine.in_world, Waves.held}
+use Rattle.cs_meaning.specs.{Pieces.index, Model.saved}
+use Rattle.cs_machine.specs.{Registers.values, States.machine_of}
+use Rattle.cs_voice_meaning.specs.{Placing.area_of, Placing.cell_count, Placing.with_wave, VoiceWorld.voice_model}
 use Rattle.cs_machine.proofs.Done.{changes}
 use Rattle.cs_voice.specs.inner.Zak.{reached}
 use Rattle.cs_voice.proofs.Places.{at_reached, not_reached, putting, reached_touched, reached_value}
@@ -39,9 +34,7 @@ returns-in-Some-clause-does g c = λ into opcode shaped areas piece stock kinds 
     let s = c.args.within.space in
     let reach = c.args.within.reach in
     let ksmps = c.args.state.now.regs.ksmps in
-    changes areas piece kinds counts (act.Zak opcode reach) into (c.args.x ∷ c.args.number ∷ []) c.args.state.now _
-    before after
-    (record { regs = refl; rest = record { players = refl; outs = refl; delays = refl; ended = refl } }) state
+    changes (record { regs = refl; rest = record { players = refl; outs = refl; delays = refl; ended = refl } }) state
     c.write.ensures.row
     (λ next asks cause. let m = machine_of c.args.state.now before next asks cause in
     putting areas piece opcode reach into m s w v shaped
@@ -62,9 +55,7 @@ returns-in_default-clause-does g c = λ into opcode shaped areas piece stock kin
     let w = values c.args.state.now.regs c.args.x in
     let s = c.args.within.space in
     let reach = c.args.within.reach in
-    changes areas piece kinds counts (act.Zak opcode reach) into (c.args.x ∷ c.args.number ∷ []) c.args.state.now _
-    before before
-    (record { regs = refl; rest = record { players = refl; outs = refl; delays = refl; ended = refl } }) state
+    changes (record { regs = refl; rest = record { players = refl; outs = refl; delays = refl; ended = refl } }) state
     (state.row ∙ sym state.frames)
     (λ next asks cause. let m = machine_of c.args.state.now before next asks cause in
     putting areas piece opcode reach into m s w v shaped

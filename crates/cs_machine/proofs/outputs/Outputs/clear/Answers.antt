@@ -1,6 +1,5 @@
 use Rattle.std.proofs.Common.{◌∙◌, ap, subst, sym, [], slice_index_or}
-use Rattle.cs_machine.specs.inner.Kept.{AreRows}
-use Rattle.cs_machine.specs.Rows.{row_wave}
+use Rattle.cs_machine.specs.{inner.Kept.AreRows, Rows.row_wave}
 use Rattle.cs_machine.proofs.Frames.{all_written}
 use Rattle.cs_machine.proofs.outputs.Outputs.clear.Goals as goal
 

@@ -1,10 +1,9 @@
 use Rattle.std.proofs.Common.{◌≡◌, ◌∙◌, [], ◌<◌, ap, length, slice_index_or, slice_set, subst, sym}
 use Rattle.std.proofs.lemmas.List.{get_or_read}
 use Rattle.cs_ir.specs.Waves.{both}
-use Rattle.cs_words.specs.declared.sign.BinOp.TheVariants as op
-use Rattle.cs_machine.specs.Outputs.{ChannelFile, IsGiven}
-use Rattle.cs_machine.specs.Rows.{HasFrames, row_wave}
+use Rattle.cs_machine.specs.{Outputs.ChannelFile, Outputs.IsGiven, Rows.HasFrames, Rows.row_wave}
 use Rattle.cs_machine.proofs.Channels.{gave}
+use Rattle.cs_words.specs.declared.sign.BinOp.TheVariants as op
 use Rattle.cs_machine.proofs.outputs.Outputs.give.Goals as goal
 
 pub returns : goal.returns

@@ -1,6 +1,6 @@
 use Rattle.std.proofs.Common.{map}
 use Rattle.std.proofs.lemmas.List.{length-map}
-use Rattle.cs_machine.proofs.Putting.{sound_long, sound_place, sound_set, sound_written}
+use Rattle.cs_machine.proofs.Putting.{sound_long, sound_place, sound_set, sound_written, wrote_frames}
 use Rattle.cs_machine.proofs.registers.Registers.swap.Goals as goal
 
 pub swap_in-requires : goal.swap_in-requires
@@ -20,12 +20,13 @@ invariant_of-self c =
     c.args.row.now.items c.requires.row c.swap_in.ensures.rows
 
 pub returns-clause-values : goal.returns-clause-values
-returns-clause-values c =
-    sound_written (λ rows. map (λ row. row.items) rows.items) _ c.self.inside.sounds c.self.inside.counts
+returns-clause-values c = λ w frames. wrote_frames c.args.self.now _ c.args.register w c.args.row.now.items
+    c.requires.sound c.requires.row frames
+    (sound_written (λ rows. map (λ row. row.items) rows.items) _ c.self.inside.sounds c.self.inside.counts
     c.self.inside.ksmps
     c.args.self.now c.args.register c.sound_number.result c.self.view_is c.self.invariant c.requires.there
     c.requires.sound c.sound_number.ensures.number _ _
-    c.args.row.now.items c.requires.row c.swap_in.ensures.rows
+    c.args.row.now.items c.requires.row c.swap_in.ensures.rows)
 
 pub returns-clause-row : goal.returns-clause-row
 returns-clause-row c =

@@ -1,8 +1,7 @@
 use Rattle.std.proofs.Common.{[], ◌∷◌, refl, subst}
-use Rattle.cs_ir.specs.declared.op.Act.TheVariants as act
-use Rattle.cs_machine.specs.Outputs.{IsGiven}
-use Rattle.cs_machine.specs.Registers.{values}
+use Rattle.cs_machine.specs.{Outputs.IsGiven, Registers.values}
 use Rattle.cs_machine.proofs.Given.{gives_to}
+use Rattle.cs_ir.specs.declared.op.Act.TheVariants as act
 use Rattle.cs_machine.proofs.state.State.send.Goals as goal
 
 pub returns : goal.returns

@@ -1,11 +1,9 @@
 use Rattle.std.proofs.Common.{[], ◌∷◌, ◌∙◌, ap, refl, subst, sym}
 use Rattle.cs_ir.specs.Machine.{in_world}
-use Rattle.cs_ir.specs.declared.op.Act.TheVariants as act
 use Rattle.cs_meaning.specs.Pieces.{index}
-use Rattle.cs_machine.specs.Outputs.{IsGiven}
-use Rattle.cs_machine.specs.Registers.{values}
-use Rattle.cs_machine.specs.inner.Channels.{channel_below}
+use Rattle.cs_machine.specs.{Outputs.IsGiven, Registers.values, inner.Channels.channel_below}
 use Rattle.cs_machine.proofs.Given.{gives_to, numbered_channel}
+use Rattle.cs_ir.specs.declared.op.Act.TheVariants as act
 use Rattle.cs_machine.proofs.state.State.send_at.Goals as goal
 
 pub returns-in-Some : goal.returns-in-Some

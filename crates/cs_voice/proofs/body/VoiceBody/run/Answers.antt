@@ -1,10 +1,8 @@
 use Rattle.std.proofs.Common.{refl}
 use Rattle.cs_cells.specs.Cells.{Cells}
-use Rattle.cs_machine.specs.declared.state.NoteSetting.{NoteSetting}
-use Rattle.cs_machine.specs.declared.state.State.{State}
+use Rattle.cs_machine.specs.{declared.state.NoteSetting.NoteSetting, declared.state.State.State}
 use Rattle.cs_voice.specs.declared.body.VoiceBody.{VoiceBody}
-use Rattle.cs_voice.proofs.Cycled.{HasCycled, able, context, cycled}
-use Rattle.cs_voice.proofs.body.VoiceBody.run.Given.{Over}
+use Rattle.cs_voice.proofs.{Cycled.HasCycled, Cycled.able, Cycled.context, Cycled.cycled, body.VoiceBody.run.Given.Over}
 use Rattle.cs_voice.proofs.body.VoiceBody.run.Goals as goal
 
 pub perform-requires : goal.perform-requires

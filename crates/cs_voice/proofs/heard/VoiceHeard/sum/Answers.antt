@@ -1,6 +1,5 @@
 use Rattle.std.proofs.Common.{◌≡◌, ◌<◌, ◌∙◌, ℕ, length, ap, sym, subst}
 use Rattle.cs_typed.specs.Places.{Header}
-use Rattle.cs_row.specs.Heard.{sums}
 use Rattle.cs_voice.proofs.Blocks.{first_fits, heard_as, small_as}
 use Rattle.cs_voice.proofs.heard.VoiceHeard.sum.Goals as goal
 

@@ -1,6 +1,5 @@
 use Rattle.std.proofs.Common.{◌<◌, ◌+◌, ◌∙◌, ap, length, map, subst, sym}
-use Rattle.cs_ir.specs.Placed.{there}
-use Rattle.cs_ir.specs.Waves.{first_values}
+use Rattle.cs_ir.specs.{Placed.there, Waves.first_values}
 use Rattle.cs_machine.specs.Registers.{values}
 use Rattle.cs_voice.proofs.Fitting.{acts_there}
 use Rattle.cs_voice.proofs.Passed.{all_played, asked_op, sought_op, start_takes, start_there, started_op}

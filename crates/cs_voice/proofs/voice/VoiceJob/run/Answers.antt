@@ -1,6 +1,5 @@
 use Rattle.std.proofs.Common.{◌∙◌, ap}
-use Rattle.cs_voice.specs.Memory.{data_of}
-use Rattle.cs_voice.specs.VoiceMeaning.{after, leaves}
+use Rattle.cs_voice.specs.{Memory.data_of, VoiceMeaning.after, VoiceMeaning.leaves}
 use Rattle.cs_voice.proofs.voice.VoiceJob.run.Goals as goal
 
 pub returns-clause-job : goal.returns-clause-job
