@@ -1,23 +1,17 @@
 -- The first byte of a text and its first character.
+use Rattle.std.proofs.lemmas.{Grind.common_steps, Str.IsUtf8-past_char}
 use Rattle.std.proofs.Common.{◌≡◌, ◌==◌, ◌||◌, ◌∙◌, ◌<◌, ◌++◌, ◌∷◌, ℕ, Bool, true, false, List, [], Some, arith, refl}
-use Rattle.std.proofs.Common.{sym, ap, subst, chars, encode_utf8, encode_utf8_all, IsUtf8, slice_get, drop, length}
-use Rattle.std.proofs.Common.{eqb-true, true≢false}
+use Rattle.std.proofs.Common.{sym, ap, chars, encode_utf8, encode_utf8_all, IsUtf8, slice_get, drop, length, eqb-true}
+use Rattle.std.proofs.Common.{true≢false}
 use Rattle.std.proofs.lemmas.Str.{chars_past_char, byte_from_char, length-encode, len_utf8_ascii, encode_ascii}
-use Rattle.std.proofs.lemmas.Str.{IsUtf8-past_char}
 use Rattle.cs_arguments.specs.Reading.{Text, is_flag_letter, is_value_letter}
 
 -- a byte that is a letter of a flag is one of five
 one_more : (P : ℕ → Type 0) (y x : ℕ) (b : Bool) → ((y == x) || b) ≡ true → P y → (b ≡ true → P x) → P x
-one_more P y x b h p rest = go (y == x) refl h
-  where
-    go : (t : Bool) → (y == x) ≡ t → (t || b) ≡ true → P x
-    go true e k = subst P (eqb-true y x e) p
-    go false e k = rest k
+one_more P y x b h p rest = grind (arith, common_steps, eqb-true)
 
 pub each_flag : (P : ℕ → Type 0) (x : ℕ) → is_flag_letter x ≡ true → P 87 → P 115 → P 100 → P 110 → P 51 → P x
-each_flag P x h w s d n three =
-    one_more P 87 x _ h w (λ h. one_more P 115 x _ h s (λ h. one_more P 100 x _ h d (λ h.
-    one_more P 110 x _ h n (λ h. one_more P 51 x _ h three (λ h. absurd (true≢false (sym h)))))))
+each_flag P x h w s d n three = grind (arith, common_steps, one_more)
 
 pub each_value : (P : ℕ → Type 0) (x : ℕ) → is_value_letter x ≡ true → P 106 → P 111 → P x
 each_value P x h j o = one_more P 106 x _ h j (λ h. one_more P 111 x _ h o (λ h. absurd (true≢false (sym h))))

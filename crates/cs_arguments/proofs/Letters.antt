@@ -1,22 +1,20 @@
 -- A word of flags, by clap's walk and by the reading.
-use Rattle.std.proofs.Common.{◌≡◌, ◌==◌, ◌∙◌, ◌++◌, ◌∷◌, ◌<◌, ℕ, Bool, true, false, cond, List, [], Option, Some, None}
-use Rattle.std.proofs.Common.{refl, sym, ap, subst, codes, true≢false, length, IsUtf8, chars, slice_get, drop}
+use Rattle.std.proofs.Common.{arith, ◌≡◌, ◌==◌, ◌∙◌, ◌++◌, ◌∷◌, ◌<◌, ℕ, Bool, true, false, cond, List, Option, Some}
+use Rattle.std.proofs.Common.{None, [], refl, sym, ap, subst, codes, true≢false, length, IsUtf8, chars, slice_get, drop}
 use Rattle.std.proofs.Common.{encode_utf8}
+use Rattle.std.proofs.lemmas.{Grind.common_steps, Bool.and_left}
 use Rattle.std.specs.Bool.{⊤}
-use Rattle.std.proofs.lemmas.Bool.{and_left}
 use Rattle.clap.specs.Kinds.{Kinds, or_else}
 use Rattle.clap.specs.Faults.{react_fault, option_fault, short_fault, bundle_step_fault, flags_fault, long_fault}
 use Rattle.clap.specs.Walk.{Held, Outcome, Rule, done, waits, reacted, option_met, short_met, bundle_step, bundle_met}
 use Rattle.clap.specs.Walk.{long_met, attached_value, arg_by_short, arg_by_long}
 use Rattle.cs_arguments.specs.Reading.{Text, Use, Said, used, valued, lettered, titled, is_flag_letter, is_value_letter}
 use Rattle.cs_arguments.specs.Reading.{is_flag_name, is_value_name}
-use Rattle.cs_arguments.specs.Command.{flag_rule, option_rule}
-use Rattle.cs_arguments.specs.Taken.{good, rows}
+use Rattle.cs_arguments.specs.{Command.flag_rule, Command.option_rule, Taken.good, Taken.rows}
 use Rattle.cs_arguments.proofs.Chars.{low_flag, low_value, low_first, low_rest, low_tail, no_letter}
 use Rattle.cs_arguments.proofs.Walking.{clear, clear_nil, clear_or, bad_more, Does, Judges, option_does, flag_does}
 use Rattle.cs_arguments.proofs.Walking.{held, with_open, IsOpen, settle_clear, settled_held, react_clear, react_held}
 use Rattle.cs_arguments.proofs.Rules.{IsCommand}
-use Rattle.std.specs.Option.{option_map_or}
 
 -- what is said between words, where no value is wanted
 abbrev pub state : List Use → Said
@@ -58,29 +56,18 @@ valued_bad key (x ∷ rest) s bad = bad_more s.uses _ bad
 pub lettered_bad : (flags : Text) (s : Said) → good s.uses ≡ false → Bad (lettered flags s)
 lettered_bad [] s bad = bad
 lettered_bad (x ∷ rest) s bad =
-    go (is_flag_letter x) (is_value_letter x)
-    (lettered_bad rest (used (x ∷ []) (codes "true") s) (bad_more s.uses _ bad)) (valued_bad (x ∷ []) rest s bad)
-  where
-    go : (f v : Bool) → Bad (lettered rest (used (x ∷ []) (codes "true") s))
-        → good (valued (x ∷ []) rest s).uses ≡ false
-        → Bad (cond f (lettered rest (used (x ∷ []) (codes "true") s)) (cond v (Some (valued (x ∷ []) rest s)) None))
-    go true v flags value = flags
-    go false true flags value = value
-    go false false flags value = tt
+    grind (
+      arith,
+      common_steps,
+      bad_more,
+      codes,
+      valued_bad,
+      lettered_bad rest (used (x ∷ []) (codes "true") s) (bad_more s.uses _ bad),
+    )
 
 pub titled_bad : (name : Text) (value : Option Text) (s : Said) → good s.uses ≡ false → Bad (titled name value s)
-titled_bad name None s bad = go (is_value_name name) (is_flag_name name)
-  where
-    go : (v f : Bool) → Bad (cond v (Some (record s { wants = Some name }))
-        (cond f (Some (used name (codes "true") s)) None))
-    go true f = bad
-    go false true = bad_more s.uses _ bad
-    go false false = tt
-titled_bad name (Some value) s bad = go (is_value_name name)
-  where
-    go : (v : Bool) → Bad (cond v (Some (used name value s)) None)
-    go true = bad_more s.uses _ bad
-    go false = tt
+titled_bad name None s bad = grind (arith, common_steps, bad_more, codes)
+titled_bad name (Some value) s bad = grind (arith, common_steps, bad_more)
 
 -- ---- one flag or option
 
@@ -101,10 +88,7 @@ wait_then : (c : List Rule) (key : Text) (long : Option Text) (short index : Opt
     → Met (Some (record (state (with_open us p)) { wants = Some key }))
     (option_fault c false (option_rule key long short index) None (held us p))
     (option_met c (option_rule key long short index) None (held us p))
-wait_then c key long short index us p opened fine = (
-  settle_clear c us p opened fine,
-  λ ok. ap (λ (h : Held). (record h { pending = Some (key, []) }, waits key)) (settled_held c us p opened ok),
-)
+wait_then c key long short index us p opened fine = grind (arith, common_steps, settle_clear, settled_held)
 
 flag_alone : (c : List Rule) (a : Rule) (u : Use) (us : List Use) (p : Option Use) → Does a [] u → IsOpen c p
     → good us ≡ true
@@ -151,12 +135,7 @@ flag_then c a u us p rest does opened fine utf8 goes = go (good (with_open us p 
 -- ---- the letters of a word
 
 attached : (y : ℕ) (ys : Text) → attached_value (y ∷ ys) ≡ Some (cond (y == 61) ys (y ∷ ys))
-attached y ys = go (y == 61)
-  where
-    go : (b : Bool) → option_map_or (λ (v : Text). Some v) (cond b (Some ys) None) (Some (y ∷ ys)) ≡ Some
-        (cond b ys (y ∷ ys))
-    go true = refl
-    go false = refl
+attached y ys = grind (arith, common_steps)
 
 value_letter : (c : List Rule) (is : IsCommand c) (x : ℕ) (rest : Text) (us : List Use) (p : Option Use)
     → is_value_letter x ≡ true → IsOpen c p → good us ≡ true
@@ -179,9 +158,6 @@ one_letter : (c : List Rule) (is : IsCommand c) (x : ℕ) (rest : Text) (us : Li
     (bundle_step c (slice_get (chars (x ∷ rest)) 0) (x ∷ rest) 0 so_far (held us p) (bundle_met c (length rest)))
 one_letter c is x rest us p so_far utf8 opened fine goes = go (is_flag_letter x) refl (is_value_letter x) refl
   where
-    fault_by : (o : Option ℕ) (r : Text) → Kinds
-    fault_by o r = bundle_step_fault c false o r 0 (held us p) (flags_fault c false (length rest))
-
     fault_low : x < 128 → bundle_step_fault c false (slice_get (chars (x ∷ rest)) 0) (x ∷ rest) 0 (held us p)
         (flags_fault c false (length rest))
         ≡ short_fault c false (arg_by_short c x) rest (held us p) (flags_fault c false (length rest) rest 0)

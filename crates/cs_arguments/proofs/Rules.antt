@@ -1,7 +1,6 @@
 -- What is known of the rules: each letter, name and place leads to its rule.
-use Rattle.std.proofs.Common.{◌≡◌, ◌||◌, ◌∙◌, ◌++◌, ◌∷◌, ℕ, Bool, true, false, List, [], Some, None, refl, ap, codes}
-use Rattle.std.proofs.Common.{bytes_eq}
-use Rattle.std.proofs.lemmas.Bool.{and_right}
+use Rattle.std.proofs.Common.{arith, ◌≡◌, ◌++◌, ◌∷◌, ℕ, true, false, List, [], Some, None, refl, codes, bytes_eq}
+use Rattle.std.proofs.lemmas.{Grind.common_steps, Bool.and_right}
 use Rattle.clap.specs.Walk.{Rule, arg_by_short, arg_by_long, arg_by_index}
 use Rattle.cs_arguments.specs.Reading.{Text, Use, has_use, is_flag_letter, is_value_letter, is_flag_name, is_value_name}
 use Rattle.cs_arguments.specs.Command.{flag_rule, option_rule}
@@ -36,8 +35,4 @@ letter_key x = (and_right _ false refl, and_right _ false refl)
 -- a use of an option leaves the names as they are
 pub keeps_name : (name : Text) (us : List Use) (u : Use) → bytes_eq u.0 name ≡ false
     → has_use name (us ++ u ∷ []) ≡ has_use name us
-keeps_name name us u other = has_more name us u ∙ ap (λ b. has_use name us || b) other ∙ same (has_use name us)
-  where
-    same : (b : Bool) → (b || false) ≡ b
-    same true = refl
-    same false = refl
+keeps_name name us u other = grind (arith, common_steps, has_more)

@@ -1,23 +1,16 @@
 -- clap's turn at one word, by what the word looks like.
-use Rattle.std.proofs.Common.{◌≡◌, ◌∙◌, ◌∷◌, ℕ, Bool, true, false, cond, List, [], Option, Some, None, refl, ap, ap₂}
+use Rattle.std.proofs.Common.{arith, ◌≡◌, ◌∙◌, ◌∷◌, ℕ, Bool, true, false, cond, List, [], Option, Some, None, refl, ap}
 use Rattle.std.proofs.Common.{bytes_eq, length, IsUtf8}
-use Rattle.std.specs.Option.{option_map_or, is_some}
-use Rattle.std.proofs.lemmas.Bool.{and_left}
-use Rattle.clap.specs.Lexer.{long_of, short_of}
-use Rattle.clap.specs.Kinds.{Kinds, or_else}
+use Rattle.std.proofs.lemmas.{Grind.common_steps, Bool.and_left}
+use Rattle.std.specs.Option.{option_map_or}
+use Rattle.clap.specs.{Lexer.long_of, Lexer.short_of, Kinds.Kinds, Kinds.or_else}
 use Rattle.clap.specs.Faults.{settle_fault, react_fault, option_fault, long_fault, short_fault, bundle_step_fault}
-use Rattle.clap.specs.Faults.{flags_fault, bundle_fault, word_fault, step_fault, turn_fault, positional_fault}
-use Rattle.clap.specs.Faults.{flag_word_fault}
-use Rattle.clap.specs.Walk.{Held, Outcome, Rule, Step, Waiting, Walk, idle, option as wait_for_option, trailing, value}
-use Rattle.clap.specs.Walk.{next, after_flag, after_step, arg_by_long, arg_by_short, bundle, long_met, long_word}
-use Rattle.clap.specs.Walk.{long_or_other, plain_word, short_or_plain, short_word, walked, word_met, takes_values}
-use Rattle.clap.specs.Walk.{attached_value, to_positional, arg_by_index, reacted}
-use Rattle.cs_arguments.specs.Reading.{Text}
-use Rattle.cs_arguments.specs.Command.{shape}
-use Rattle.cs_arguments.proofs.Chars.{first_of}
-use Rattle.cs_arguments.proofs.Walking.{clear, clear_or}
-use Rattle.cs_arguments.proofs.Forms.{dashes}
-use Rattle.clap.specs.declared.error.kind.ErrorKind.TheVariants.{TooManyValues}
+use Rattle.clap.specs.Faults.{flags_fault, bundle_fault, word_fault, step_fault, turn_fault, flag_word_fault}
+use Rattle.clap.specs.Walk.{Held, Rule, Step, Waiting, Walk, idle, option as wait_for_option, trailing, value}
+use Rattle.clap.specs.Walk.{after_step, arg_by_long, arg_by_short, long_word, long_or_other, short_or_plain, walked}
+use Rattle.clap.specs.Walk.{word_met, to_positional, arg_by_index}
+use Rattle.cs_arguments.specs.{Reading.Text, Command.shape}
+use Rattle.cs_arguments.proofs.{Chars.first_of, Walking.clear, Walking.clear_or, Forms.dashes}
 
 -- where the walk stands
 abbrev pub walk_at : Held → Waiting → ℕ → Bool → Walk
@@ -68,9 +61,7 @@ met_is : (c : List Rule) (waiting : Waiting) → IsWaiting waiting → (position
     (long_of word) (short_of word)
 met_is c waiting none position word h =
     ap (λ m. cond (bytes_eq word dashes) (h, trailing position) m) (met_longer c idle word h (long_of word))
-met_is c waiting (one key) position word h =
-    ap (λ m. cond (bytes_eq word dashes) (h, trailing position) m)
-    (met_longer c (wait_for_option key) word h (long_of word))
+met_is c waiting (one key) position word h = grind (arith, common_steps, bytes_eq, dashes, met_longer)
 
 fault_is : (c : List Rule) (waiting : Waiting) → IsWaiting waiting → (word : Text) (h : Held)
     → word_fault (shape c) [] false waiting word h ≡ cond (bytes_eq word dashes) []
@@ -83,24 +74,14 @@ pub turn_is : (c : List Rule) (waiting : Waiting) → IsWaiting waiting
     → bytes_eq word dashes ≡ stop → long_of word ≡ long → short_of word ≡ letters
     → turn_fault (shape c) [] (walk_at h waiting position false) word ≡ turn_by c waiting position word h stop long
     letters
-turn_is c waiting is position word h stop long letters e f g =
-    ap₂ (λ k (m : Held × Step). or_else k (step_fault (shape c) position m.0 m.1)) (fault_is c waiting is word h)
-    (met_is c waiting is position word h)
-    ∙ ap (λ b. turn_by c waiting position word h b (long_of word) (short_of word)) e
-    ∙ ap (λ l. turn_by c waiting position word h stop l (short_of word)) f
-    ∙ ap (λ l. turn_by c waiting position word h stop long l) g
+turn_is c waiting is position word h stop long letters e f g = grind (arith, common_steps, fault_is, met_is)
 
 pub walk_is : (c : List Rule) (waiting : Waiting) → IsWaiting waiting
     → (position : ℕ) (word : Text) (h : Held) (stop : Bool) (long : Option (Text × Option Text)) (letters : Option Text)
     → bytes_eq word dashes ≡ stop → long_of word ≡ long → short_of word ≡ letters
     → walked c [] (walk_at h waiting position false) word ≡ walk_by c waiting position word h stop long letters
 unfolding walked
-walk_is c waiting is position word h stop long letters e f g =
-    ap (λ (m : Held × Step). after_step c word (walk_at h waiting position false) m.0 m.1)
-    (met_is c waiting is position word h)
-    ∙ ap (λ b. walk_by c waiting position word h b (long_of word) (short_of word)) e
-    ∙ ap (λ l. walk_by c waiting position word h stop l (short_of word)) f
-    ∙ ap (λ l. walk_by c waiting position word h stop long l) g
+walk_is c waiting is position word h stop long letters e f g = grind (arith, common_steps, met_is)
 
 -- after `--` each word is a name
 pub turn_trailing : (c : List Rule) (waiting : Waiting) (position : ℕ) (word : Text) (h : Held)
@@ -127,30 +108,14 @@ wants_option c h e a (Some v) = wants_first c h e a (v ∷ [])
 pub wants_long : (c : List Rule) (h : Held) → clear (settle_fault c false h) ≡ false
     → (o : Option Rule) (v : Option Text) → clear (long_fault c false o v h) ≡ false
 wants_long c h e None v = refl
-wants_long c h e (Some a) v = go (takes_values a) v (wants_option c h e a v) (wants_first c h e a [])
-  where
-    go : (b : Bool) (v : Option Text) → clear (option_fault c false a v h) ≡ false
-        → clear (react_fault c false a [] h) ≡ false
-        → clear (cond b (option_fault c false a v h)
-        (cond (is_some v) (TooManyValues ∷ []) (react_fault c false a [] h))) ≡ false
-    go true v f g = f
-    go false None f g = g
-    go false (Some w) f g = refl
+wants_long c h e (Some a) v = grind (arith, common_steps, clear, wants_first, wants_option)
 
 wants_short : (c : List Rule) (h : Held) → clear (settle_fault c false h) ≡ false
     → (o : Option Rule) (rest : Text) (after : Held → Kinds)
     → clear (short_fault c false o rest h after) ≡ false
 wants_short c h e None rest after = refl
 wants_short c h e (Some a) rest after =
-    go (takes_values a) (wants_option c h e a (attached_value rest))
-    (clear_or (react_fault c false a [] h) _ ∙ and_left _ _ (wants_first c h e a []))
-  where
-    go : (b : Bool) → clear (option_fault c false a (attached_value rest) h) ≡ false
-        → clear (or_else (react_fault c false a [] h) (after (reacted c a [] h))) ≡ false
-        → clear (cond b (option_fault c false a (attached_value rest) h)
-        (or_else (react_fault c false a [] h) (after (reacted c a [] h)))) ≡ false
-    go true f g = f
-    go false f g = g
+    grind (arith, common_steps, and_left, clear, clear_or, wants_first, wants_option)
 
 pub wants_letters : (c : List Rule) (h : Held) → clear (settle_fault c false h) ≡ false → (x : ℕ) (rest : Text)
     → IsUtf8 (x ∷ rest)

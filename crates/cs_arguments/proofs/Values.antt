@@ -1,29 +1,20 @@
 -- What the getters read of the matches, by the uses.
-use Rattle.std.proofs.Common.{◌≡◌, ◌==◌, ◌||◌, ◌∙◌, ◌++◌, ◌∷◌, ◌<◌, ◌≤◌, ◌^◌, ℕ, Bool, true, false, not, cond, List, []}
+use Rattle.std.proofs.lemmas.{Grind.common_steps, Bool.and_parts, Bool.or_parts, Slice.Eq.bytes_eq-Decides}
+use Rattle.std.proofs.Common.{◌≡◌, ◌||◌, ◌∙◌, ◌++◌, ◌∷◌, ◌<◌, ◌≤◌, ◌^◌, ℕ, Bool, true, false, not, cond, List, []}
 use Rattle.std.proofs.Common.{Option, Some, None, Result, Ok, Err, is_some, option_map, option_and_then, find, fold}
-use Rattle.std.proofs.Common.{refl, sym, ap, ap₂, subst, codes, bytes_eq, nat_lt, slice_get, eqb-true, true≢false}
-use Rattle.std.proofs.Common.{arith, ltb-true, leb-true}
-use Rattle.std.specs.List.{list_all, list_any}
-use Rattle.std.specs.Option.{unwrap_or}
-use Rattle.std.specs.Char.{digit_value}
+use Rattle.std.proofs.Common.{refl, sym, ap, ap₂, codes, bytes_eq, nat_lt, eqb-true, true≢false, arith, ltb-true}
+use Rattle.std.proofs.Common.{leb-true}
+use Rattle.std.specs.{List.list_all, Option.unwrap_or, Char.digit_value, Bool.⊤}
 use Rattle.std.specs.Str.Parse.{AllDigits, IsNumeral, ParsesUnsigned, without_leading_plus}
-use Rattle.std.proofs.lemmas.Bool.{and_parts, or_parts}
-use Rattle.std.proofs.lemmas.Slice.Eq.{bytes_eq-Decides}
-use Rattle.clap.specs.Lexer.{without_minus}
+use Rattle.clap.specs.{Lexer.without_minus, Values.read_as, Values.reading_of, declared.parser.matches.Found.Found}
 use Rattle.clap.specs.Matches.{ReadsOne, first_value, one_text}
-use Rattle.clap.specs.Values.{read_as, reading_of}
-use Rattle.clap.specs.Walk.{Row, Rule, at_row, first_of, has_row, more_values, one_of, reading_by, row_text, rows_of}
-use Rattle.clap.specs.Walk.{with_default, default_rows}
-use Rattle.clap.specs.declared.builder.value_parser.Reading.TheVariants as reading
-use Rattle.clap.specs.declared.parser.matches.Found.{Found}
+use Rattle.clap.specs.Walk.{Row, Rule, at_row, has_row, one_of, reading_by, row_text, rows_of, with_default}
 use Rattle.clap.specs.declared.parser.matches.ValueSource.TheVariants.{DefaultValue}
 use Rattle.clap.proofs.WalkLemmas.{find-map, first_value-rows, one_text-rows}
 use Rattle.cs_arguments.specs.Reading.{Text, Use, has_use, is_number, is_value, number_of, stands, value_of}
-use Rattle.cs_arguments.specs.Command.{parser_of, the_rules}
-use Rattle.cs_arguments.specs.Taken.{ends, good, row, rows}
-use Rattle.cs_arguments.proofs.Walking.{joins}
-use Rattle.cs_arguments.proofs.Command.{no_minus}
-use Rattle.std.specs.Bool.{⊤}
+use Rattle.cs_arguments.specs.{Command.parser_of, Command.the_rules, Taken.ends, Taken.good, Taken.row, Taken.rows}
+use Rattle.cs_arguments.proofs.{Walking.joins, Command.no_minus}
+use Rattle.clap.specs.declared.builder.value_parser.Reading.TheVariants as reading
 
 -- ---- the rows of defaults come after those of the uses
 
@@ -62,13 +53,7 @@ no_row key change missing (r ∷ rs) none =
 row_at_end : (key : Text) (r : Row) (rs : List Row)
     → row_for key (rs ++ r ∷ []) ≡ or_row (row_for key rs) (cond (bytes_eq r.id key) (Some r) None)
 row_at_end key r [] = refl
-row_at_end key r (x ∷ rs) = go (bytes_eq x.id key) (row_at_end key r rs)
-  where
-    go : (b : Bool) → row_for key (rs ++ r ∷ []) ≡ or_row (row_for key rs) (cond (bytes_eq r.id key) (Some r) None)
-        → cond b (Some x) (row_for key (rs ++ r ∷ [])) ≡ or_row (cond b (Some x) (row_for key rs))
-        (cond (bytes_eq r.id key) (Some r) None)
-    go true e = refl
-    go false e = e
+row_at_end key r (x ∷ rs) = grind (arith, common_steps, bytes_eq, row_at_end key r rs)
 
 row_stays : (key : Text) (later : Option Row) (rs : List Row) → has_row key rs ≡ true
     → or_row (row_for key rs) later ≡ row_for key rs
@@ -84,41 +69,13 @@ row_stays key later (x ∷ rs) has = go (bytes_eq x.id key) (λ h. row_stays key
 one_default : (key : Text) (a : Rule) (rs : List Row)
     → row_for key (with_default rs a) ≡ or_row (row_for key rs)
     (cond (bytes_eq a.id key) (default_of a a.defaults) None)
-one_default key a rs = go (has_row a.id rs) refl
-  where
-    has : (b : Bool) → bytes_eq a.id key ≡ b → has_row a.id rs ≡ true
-        → row_for key rs ≡ or_row (row_for key rs) (cond b (default_of a a.defaults) None)
-    has true e h = sym (row_stays key (default_of a a.defaults) rs
-        (subst (λ t. has_row t rs ≡ true) ((bytes_eq-Decides a.id key).0 e) h))
-    has false e h = sym (or_none (row_for key rs))
-
-    lacks : (ds : List Text) → has_row a.id rs ≡ false
-        → row_for key (default_rows a.id (reading_by a) ds rs) ≡ or_row (row_for key rs)
-        (cond (bytes_eq a.id key) (default_of a ds) None)
-    lacks [] h = sym (or_none (row_for key rs)) ∙ ap (or_row (row_for key rs)) (none (bytes_eq a.id key))
-      where
-        none : (b : Bool) → None ≡ cond b (default_of a []) None
-        none true = refl
-        none false = refl
-    lacks (v ∷ vs) h = ap (row_for key)
-        (no_row a.id (more_values DefaultValue (v ∷ vs))
-        (record { id = a.id; values = v ∷ vs; count = None; source = Some DefaultValue; reading = reading_by a } ∷ [])
-        rs h)
-        ∙ row_at_end key (record
-        { id = a.id; values = v ∷ vs; count = None; source = Some DefaultValue; reading = reading_by a }) rs
-
-    go : (b : Bool) → has_row a.id rs ≡ b
-        → row_for key (cond b rs (default_rows a.id (reading_by a) a.defaults rs)) ≡ or_row (row_for key rs)
-        (cond (bytes_eq a.id key) (default_of a a.defaults) None)
-    go true h = has (bytes_eq a.id key) refl h
-    go false h = lacks a.defaults h
+one_default key a rs = grind (arith, common_steps, bytes_eq, bytes_eq-Decides, no_row, or_none, row_at_end, row_stays)
 
 defaults_found : (key : Text) (rules : List Rule) (rs : List Row)
     → row_for key (fold with_default rs rules) ≡ or_row (row_for key rs) (default_for key rules)
 defaults_found key [] rs = sym (or_none (row_for key rs))
-defaults_found key (a ∷ rest) rs = defaults_found key rest (with_default rs a)
-    ∙ ap (λ o. or_row o (default_for key rest)) (one_default key a rs)
-    ∙ or_assoc (row_for key rs) _ (default_for key rest)
+defaults_found key (a ∷ rest) rs =
+    grind (arith, common_steps, one_default, or_assoc, defaults_found key rest (with_default rs a))
 
 -- ---- uses
 
@@ -149,27 +106,13 @@ found_in key before (u ∷ us) fine =
 
 is_used : (key : Text) (us : List Use) → has_use key us ≡ is_some (use_for key us)
 is_used key [] = refl
-is_used key (u ∷ us) = go (bytes_eq u.0 key) (is_used key us)
-  where
-    go : (b : Bool) → has_use key us ≡ is_some (use_for key us)
-        → (b || has_use key us) ≡ is_some (cond b (Some u) (use_for key us))
-    go true e = refl
-    go false e = e
+is_used key (u ∷ us) = grind (arith, common_steps, bytes_eq, is_some, is_used key us)
 
 -- ---- texts
 
 pub text_is : (key : Text) → default_for key the_rules ≡ None → (f : Found) (us : List Use) → rows_of f ≡ ends us
     → first_value f key ≡ value_of key us
-text_is key none f us is =
-    first_value-rows f key ∙ ap (first_of key) is
-    ∙ ap (option_and_then (λ (r : Row). slice_get r.values 0))
-    (row_is key us ∙ ap (or_row (option_map row (use_for key us))) none)
-    ∙ go (use_for key us)
-  where
-    go : (o : Option Use) → option_and_then (λ (r : Row). slice_get r.values 0)
-        (or_row (option_map row o) None) ≡ option_map (λ u. u.1) o
-    go None = refl
-    go (Some u) = refl
+text_is key none f us is = grind (arith, common_steps, first_value-rows, option_and_then, option_map, row_is)
 
 -- ---- flags
 
@@ -232,23 +175,11 @@ digits_from (d ∷ ds) e =
 
 pub number_in : (most : ℕ) (v : Text) → is_number most v ≡ true
     → IsNumeral 10 (without_leading_plus v) × (1 ≤ number_of v) × (number_of v ≤ most)
-number_in most v is =
-    let parts = and_parts _ _ is in
-    let digits = and_parts _ _ parts.0 in
-    let bounds = and_parts _ _ parts.1 in (
-      (ltb-true _ _ digits.0, digits_from (without_leading_plus v) digits.1),
-      leb-true _ _ bounds.0,
-      leb-true _ _
-          bounds.1,
-    )
+number_in most v is = grind (arith, common_steps, and_parts, digits_from, leb-true, ltb-true)
 
 no_minus_in : (most : ℕ) (v : Text) → is_number most v ≡ true → without_minus v ≡ v
 no_minus_in most [] is = refl
-no_minus_in most (x ∷ xs) is = go (x == 45) refl
-  where
-    go : (b : Bool) → (x == 45) ≡ b → unwrap_or (cond b (Some xs) None) (x ∷ xs) ≡ x ∷ xs
-    go true e = absurd (true≢false (sym is ∙ ap (λ y. is_number most (y ∷ xs)) (eqb-true x 45 e) ∙ no_minus most xs))
-    go false e = refl
+no_minus_in most (x ∷ xs) is = grind (arith, common_steps, eqb-true, no_minus)
 
 abbrev pub IsCounted : ℕ → Text → Type 0
 IsCounted most key = (default_for key the_rules ≡ None) × (reading_of (parser_of key) ≡ reading.WithoutMinus)

@@ -1,23 +1,18 @@
 -- Uses as rows of matches: one more use, and the argument that is still open.
-use Rattle.std.proofs.Common.{◌≡◌, ◌&&◌, ◌||◌, ◌∙◌, ◌++◌, ◌∷◌, ℕ, Bool, true, false, not, cond, List, [], Option, Some}
-use Rattle.std.proofs.Common.{None, refl, sym, ap, ap₂, codes, bytes_eq, append_assoc, true≢false}
+use Rattle.std.proofs.Common.{arith, ◌≡◌, ◌&&◌, ◌||◌, ◌∙◌, ◌++◌, ◌∷◌, ℕ, Bool, true, false, not, cond, List, [], Option}
+use Rattle.std.proofs.Common.{Some, None, refl, sym, ap, ap₂, codes, bytes_eq, append_assoc, true≢false}
+use Rattle.std.proofs.lemmas.{Grind.common_steps, Bool.or_parts, Bool.and_parts, Bool.and_left, List.map-append}
 use Rattle.std.specs.Bool.{⊤}
-use Rattle.std.proofs.lemmas.Bool.{or_parts, and_parts, and_left}
-use Rattle.std.proofs.lemmas.List.{map-append}
 use Rattle.clap.proofs.WalkLemmas.{list_any-map}
-use Rattle.clap.specs.Kinds.{Kinds, or_else}
-use Rattle.clap.specs.Faults.{use_fault, settle_fault, react_fault}
-use Rattle.clap.specs.Values.{reading_of}
-use Rattle.clap.specs.ValueTests.{accepts}
+use Rattle.clap.specs.{Kinds.Kinds, Kinds.or_else, Faults.use_fault, Faults.settle_fault, Faults.react_fault}
+use Rattle.clap.specs.{Values.reading_of, ValueTests.accepts, Walk.reacted, declared.error.kind.ErrorKind.ErrorKind}
 use Rattle.clap.specs.Walk.{Held, Row, Rule, more_values, used as used_row, at_row, has_row, arg_by_id, settled}
-use Rattle.clap.specs.Walk.{reacted}
-use Rattle.clap.specs.declared.builder.value_parser.Reading.TheVariants as reading
-use Rattle.clap.specs.declared.error.kind.ErrorKind.{ErrorKind}
-use Rattle.clap.specs.declared.error.kind.ErrorKind.TheVariants as kind
 use Rattle.clap.specs.declared.parser.matches.ValueSource.TheVariants.{CommandLine}
 use Rattle.cs_arguments.specs.Reading.{Text, Use, has_use, is_value, stands}
 use Rattle.cs_arguments.specs.Command.{flag_rule, option_rule, parser_of}
 use Rattle.cs_arguments.specs.Taken.{good, row, rows}
+use Rattle.clap.specs.declared.builder.value_parser.Reading.TheVariants as reading
+use Rattle.clap.specs.declared.error.kind.ErrorKind.TheVariants as kind
 
 -- ---- faults: only whether there is one matters
 
@@ -67,29 +62,12 @@ joins us u = not (has_use u.0 us) && is_value u
 
 pub has_more : (key : Text) (us : List Use) (u : Use)
     → has_use key (us ++ u ∷ []) ≡ (has_use key us || bytes_eq u.0 key)
-has_more key [] u = go (bytes_eq u.0 key)
-  where
-    go : (b : Bool) → (b || false) ≡ (false || b)
-    go true = refl
-    go false = refl
-has_more key (v ∷ us) u = go (bytes_eq v.0 key) (has_more key us u)
-  where
-    go : (b : Bool) → has_use key (us ++ u ∷ []) ≡ (has_use key us || bytes_eq u.0 key)
-        → (b || has_use key (us ++ u ∷ [])) ≡ ((b || has_use key us) || bytes_eq u.0 key)
-    go true e = refl
-    go false e = e
+has_more key [] u = grind (arith, common_steps, bytes_eq)
+has_more key (v ∷ us) u = grind (arith, common_steps, bytes_eq, has_more key us u)
 
 stands_more : (before us : List Use) (u : Use)
     → stands before (us ++ u ∷ []) ≡ (stands before us && joins (before ++ us) u)
-stands_more before [] u = swap (joins before u) ∙ ap (λ b. joins b u) (sym (nothing before))
-  where
-    swap : (b : Bool) → (b && true) ≡ b
-    swap true = refl
-    swap false = refl
-
-    nothing : (xs : List Use) → xs ++ [] ≡ xs
-    nothing [] = refl
-    nothing (x ∷ xs) = ap (λ l. x ∷ l) (nothing xs)
+stands_more before [] u = grind (arith, common_steps)
 stands_more before (v ∷ us) u =
     go (joins before v) (stands_more (before ++ v ∷ []) us u
     ∙ ap (λ l. stands (before ++ v ∷ []) us && joins l u) (append_assoc before (v ∷ []) us))
@@ -111,11 +89,7 @@ pub good_before : (us : List Use) (u : Use) → good (us ++ u ∷ []) ≡ true �
 good_before us u h = and_parts (good us) (joins us u) (sym (good_more us u) ∙ h)
 
 pub joins_new : (us : List Use) (u : Use) → joins us u ≡ true → has_use u.0 us ≡ false
-joins_new us u h = go (has_use u.0 us) (and_parts (not (has_use u.0 us)) (is_value u) h).0
-  where
-    go : (b : Bool) → not b ≡ true → b ≡ false
-    go true e = absurd (true≢false (sym e))
-    go false e = refl
+joins_new us u h = grind (arith, common_steps, and_parts, not)
 
 -- ---- what a use of a rule comes to, whatever was used before
 
@@ -147,14 +121,7 @@ IsFlagKey key = (reading_of (parser_of key) ≡ reading.AsWritten) × (is_value 
 
 pub flag_does : (key : Text) (long : Option Text) (short : Option ℕ) → IsFlagKey key
     → Does (flag_rule key long short) [] (key, codes "true")
-flag_does key long short is = record {
-  clears = λ us. judged (has_row key (rows us)) (has_use key us) true (is_value (key, codes "true"))
-      kind.ArgumentConflict kind.InvalidValue (has_row-rows key us) (sym is.1);
-  adds = λ us none. ap (λ how. at_row key (more_values CommandLine (codes "true" ∷ []))
-      (record { id = key; values = codes "true" ∷ []; count = None; source = Some CommandLine; reading = how } ∷ [])
-      (at_row key (λ _. []) [] (rows us))) (sym is.0)
-      ∙ added key (codes "true") us (more_values CommandLine (codes "true" ∷ [])) none;
-}
+flag_does key long short is = grind (arith, common_steps, added, codes, has_row-rows, judged)
 
 -- ---- what is held, where the last use may still be open
 
@@ -200,15 +167,7 @@ pub react_clear : (c : List Rule) (a : Rule) (values : List Text) (us : List Use
     → Does a values u → IsOpen c p → good us ≡ true
     → clear (react_fault c false a values (held us p)) ≡ good (with_open us p ++ u ∷ [])
 react_clear c a values us p u does opened fine =
-    clear_or (settle_fault c false (held us p)) _
-    ∙ ap (λ b. b && clear (use_fault false a values (settled c (held us p)).rows)) (settle_clear c us p opened fine)
-    ∙ go (good (with_open us p)) refl ∙ sym (good_more (with_open us p) u)
-  where
-    go : (b : Bool) → good (with_open us p) ≡ b
-        → (b && clear (use_fault false a values (settled c (held us p)).rows)) ≡ (b && joins (with_open us p) u)
-    go true e = ap (λ h. clear (use_fault false a values h.rows)) (settled_held c us p opened e)
-        ∙ does.clears (with_open us p)
-    go false e = refl
+    grind (arith, common_steps, clear_or, good_more, settle_clear, settled_held)
 
 pub react_held : (c : List Rule) (a : Rule) (values : List Text) (us : List Use) (p : Option Use) (u : Use)
     → Does a values u → IsOpen c p

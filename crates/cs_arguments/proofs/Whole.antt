@@ -1,19 +1,15 @@
 -- All the words: clap takes them where the uses that they say stand together, and its rows are those uses.
-use Rattle.std.proofs.Common.{◌≡◌, ◌==◌, ◌&&◌, ◌||◌, ◌∙◌, ◌++◌, ◌∷◌, ◌+◌, ℕ, Bool, true, false, not, cond, List, []}
-use Rattle.std.proofs.Common.{Option, Some, None, is_some, option_and_then, refl, sym, ap, ap₂, subst, codes, bytes_eq}
+use Rattle.std.proofs.Common.{arith, ◌≡◌, ◌==◌, ◌&&◌, ◌||◌, ◌∙◌, ◌++◌, ◌∷◌, ◌+◌, ℕ, Bool, true, false, not, cond, List}
+use Rattle.std.proofs.Common.{[], Option, Some, None, is_some, option_and_then, refl, sym, ap, ap₂, codes, bytes_eq}
 use Rattle.std.proofs.Common.{length, All, fold, IsUtf8, true≢false, min, nat_lt}
-use Rattle.std.specs.Bool.{⊤}
-use Rattle.std.specs.List.{list_any, before_first, after_first}
-use Rattle.std.proofs.lemmas.Bool.{and_left, and_right, or_right}
-use Rattle.std.proofs.lemmas.List.Elements.{All-head, All-tail}
-use Rattle.std.proofs.lemmas.Slice.Eq.{bytes_eq-Decides}
-use Rattle.clap.specs.Kinds.{Kinds, or_else}
+use Rattle.std.specs.{Bool.⊤, List.list_any, List.before_first, List.after_first, Option.option_map_or}
+use Rattle.std.proofs.lemmas.{Bool.and_left, Bool.and_right, Bool.or_right, List.Elements.All-head}
+use Rattle.std.proofs.lemmas.{List.Elements.All-tail, Slice.Eq.bytes_eq-Decides, Grind.common_steps}
+use Rattle.clap.specs.{Kinds.Kinds, Kinds.or_else, Faults.positional_fault, Faults.stray_fault, Faults.use_fault}
+use Rattle.clap.specs.{Walk.long_met, Walk.settled, Walk.to_positional, Walk.walked, Walk.option_word, Lexer.usize_max}
 use Rattle.clap.specs.Faults.{settle_fault, step_fault, turn_fault, walk_fault, long_fault, flags_fault}
-use Rattle.clap.specs.Faults.{positional_fault, stray_fault, use_fault}
-use Rattle.clap.specs.Walk.{Held, Outcome, Row, Rule, Step, Waiting, Walk, idle, option as wait_for_option}
-use Rattle.clap.specs.Walk.{plain as no_flag, value as to_place, next, after_flag, after_step, arg_by_id, arg_by_index}
-use Rattle.clap.specs.Walk.{arg_by_long, bundle_met, is_pending, long_met, positional_held, settled, takes_several}
-use Rattle.clap.specs.Walk.{to_positional, walked, option_word, pushed}
+use Rattle.clap.specs.Walk.{Held, Outcome, Row, Rule, Waiting, Walk, idle, option as wait_for_option, plain as no_flag}
+use Rattle.clap.specs.Walk.{value as to_place, after_flag, after_step, arg_by_id, arg_by_index, arg_by_long, bundle_met}
 use Rattle.cs_arguments.specs.Reading.{Text, Use, Said, has_use, used, named, plain, unless_wanting, dashed, worded}
 use Rattle.cs_arguments.specs.Reading.{lettered, titled, valued, is_flag_letter, is_value_letter, is_flag_name}
 use Rattle.cs_arguments.specs.Reading.{is_value_name, is_equals, title, after, said, is_value}
@@ -23,12 +19,9 @@ use Rattle.cs_arguments.proofs.Walking.{clear, clear_nil, clear_or, good_more, b
 use Rattle.cs_arguments.proofs.Walking.{IsKey, IsOpen, settle_clear, settled_held}
 use Rattle.cs_arguments.proofs.Rules.{IsCommand, IsOptionKey, letter_key, keeps_name}
 use Rattle.cs_arguments.proofs.Letters.{state, now_held, outcome_for, Met, Bad, lettered_bad, titled_bad, letters}
-use Rattle.cs_arguments.proofs.Letters.{titles, pending_for}
+use Rattle.cs_arguments.proofs.{Letters.titles, Letters.pending_for, Turns.wants_letters}
 use Rattle.cs_arguments.proofs.Forms.{Form, a_name, a_stop, a_title, some_letters, form_of}
 use Rattle.cs_arguments.proofs.Turns.{walk_at, none, one, turn_is, walk_is, turn_trailing, walk_trailing, wants_long}
-use Rattle.cs_arguments.proofs.Turns.{wants_letters}
-use Rattle.clap.specs.Lexer.{usize_max}
-use Rattle.std.specs.Option.{option_map_or}
 
 -- ---- uses that aren't good stay so, whatever follows
 
@@ -57,12 +50,7 @@ dashed_bad word (x ∷ rest) s bad =
 
 worded_bad : (word : Text) (s : Said) → good s.uses ≡ false → Bad (worded word s)
 worded_bad [] s bad = plain_bad s.wants [] s bad
-worded_bad (x ∷ rest) s bad = go (x == 45) (dashed_bad (x ∷ rest) rest s bad) (plain_bad s.wants (x ∷ rest) s bad)
-  where
-    go : (b : Bool) → Bad (dashed (x ∷ rest) rest s) → good (plain s.wants (x ∷ rest) s).uses ≡ false
-        → Bad (cond b (dashed (x ∷ rest) rest s) (Some (plain s.wants (x ∷ rest) s)))
-    go true d p = d
-    go false d p = p
+worded_bad (x ∷ rest) s bad = grind (arith, common_steps, dashed_bad, plain_bad)
 
 after_bad : (s : Said) (word : Text) → good s.uses ≡ false → Bad (after s word)
 unfolding after
@@ -74,11 +62,7 @@ after_bad s word bad = go s.only_names (worded_bad word s bad)
 
 said_bad : (words : List Text) (s : Said) → good s.uses ≡ false → accepted (said s words) ≡ false
 unfolding said
-said_bad [] s bad = go (is_some s.wants)
-  where
-    go : (b : Bool) → cond b false (good s.uses) ≡ false
-    go true = refl
-    go false = bad
+said_bad [] s bad = grind (arith, common_steps, is_some)
 said_bad (word ∷ rest) s bad = go (after s word) (after_bad s word bad) (λ t b. said_bad rest t b)
   where
     go : (o : Option Said) → Bad o → ((t : Said) → good t.uses ≡ false → accepted (said t rest) ≡ false)
@@ -135,12 +119,7 @@ now_wants c us key is plain_key = record { orc = refl; sco = refl; only = refl; 
 leaves_more : (c : List Rule) (us : List Use) (u : Use) → IsOptionKey u.0 → (o : Option Said)
     → LeavesIf c (us ++ u ∷ []) o → LeavesIf c us o
 leaves_more c us u is None l = tt
-leaves_more c us u is (Some t) l = record {
-  orc = l.orc ∙ keeps_name (codes "ORC") us u is.0;
-  sco = l.sco ∙ keeps_name (codes "SCO") us u is.1;
-  only = l.only;
-  wants = l.wants;
-}
+leaves_more c us u is (Some t) l = grind (arith, common_steps, codes, keeps_name)
 
 letters_leave : (c : List Rule) → IsCommand c → (flags : Text) (us : List Use)
     → LeavesIf c us (lettered flags (state us))
@@ -219,30 +198,14 @@ agrees_bad : (c : List Rule) (s : Said) (w : Walk) (word : Text) (rest : List Te
     → accepted (said s (word ∷ rest)) ≡ false → clear (turn_fault (shape c) [] w word) ≡ false
     → Agrees c (said s (word ∷ rest)) w (word ∷ rest)
 unfolding walk_fault
-agrees_bad c s w word rest bad faulty =
-    let turn = turn_fault (shape c) [] w word in
-    let later = walk_fault (shape c) [] (walked c [] w word) rest in
-    let fault : clear (all_faults c w (word ∷ rest)) ≡ false =
-    clear_or (or_else turn later) _ ∙ and_left _ _ (clear_or turn later ∙ and_left _ _ faulty) in
-    (fault ∙ sym bad, λ fine. absurd (true≢false (sym fine ∙ bad)))
+agrees_bad c s w word rest bad faulty = grind (arith, common_steps, and_left, clear, clear_or)
 
 goes_on : (c : List Rule) (s : Said) (w : Walk) (word : Text) (rest : List Text) (at : At)
     → after s word ≡ Some (said_at at) → clear (turn_fault (shape c) [] w word) ≡ true
     → walked c [] w word ≡ clap_at at → IsFine c at → Ahead c rest → Agrees c (said s (word ∷ rest)) w (word ∷ rest)
 unfolding said walk_fault
 goes_on c s w word rest at says fine walks is ahead =
-    let none = clear_nil (turn_fault (shape c) [] w word) fine in
-    let faults : all_faults c w (word ∷ rest) ≡ all_faults c (clap_at at) rest =
-    ap (λ k. or_else (or_else k (walk_fault (shape c) [] (walked c [] w word) rest))
-    (settle_fault c false (fold (walked c []) (walked c [] w word) rest).held)) none
-    ∙ ap (λ v. all_faults c v rest) walks in
-    let ends : (settled c (walk_end c w (word ∷ rest))).rows ≡ (settled c (walk_end c (clap_at at) rest)).rows =
-    ap (λ v. (settled c (walk_end c v rest)).rows) walks in
-    let now : option_and_then (λ t. said t rest) (after s word) ≡ said (said_at at) rest =
-    ap (option_and_then (λ t. said t rest)) says in
-    subst (λ o. AgreesBy o (all_faults c w (word ∷ rest)) (settled c (walk_end c w (word ∷ rest))).rows) (sym now)
-    (subst (λ k. AgreesBy (said (said_at at) rest) k (settled c (walk_end c w (word ∷ rest))).rows) (sym faults)
-    (subst (λ r. AgreesBy (said (said_at at) rest) (all_faults c (clap_at at) rest) r) (sym ends) (ahead at is)))
+    grind (arith, common_steps, clear_nil, fold, held, none, option_and_then)
 
 said_after : (s : Said) (word : Text) (rest : List Text) (o : Option Said) → after s word ≡ o
     → said s (word ∷ rest) ≡ option_and_then (λ t. said t rest) o
@@ -286,10 +249,7 @@ name_walk c position only word h = to_positional c (arg_by_index c position) wor
 place_fault : (c : List Rule) (position : ℕ) (h : Held) (key : Text) (index : Option ℕ)
     → arg_by_index c position ≡ Some (option_rule key None None index)
     → name_fault c position h ≡ settle_fault c false h
-place_fault c position h key index found =
-    ap (λ o. option_map_or (λ a. positional_fault c false a h) o (stray_fault (shape c))) found
-    ∙ ap (λ b. cond b [] (settle_fault c false h))
-    (and_right (is_pending (option_rule key None None index) h.pending) false refl)
+place_fault c position h key index found = grind (arith, common_steps, and_right)
 
 place_walk : (c : List Rule) (position : ℕ) (only : Bool) (word : Text) (us : List Use) (p : Option Use) (key : Text)
     (index : Option ℕ) → arg_by_index c position ≡ Some (option_rule key None None index)
@@ -297,16 +257,7 @@ place_walk : (c : List Rule) (position : ℕ) (only : Bool) (word : Text) (us : 
     → name_walk c position only word (held us p) ≡ walk_at (held (with_open us p) (Some (key, word))) idle
     (min (position + 1) usize_max) only
 place_walk c position only word us p key index found settles =
-    let a = option_rule key None None index in
-    ap (λ o. to_positional c o word (walk_at (held us p) idle position only) (held us p)) found
-    ∙ ap₂ (λ b d. walk_at (pushed key word (cond b (held us p) (settled c (held us p)))) idle
-    (min (position + 1) usize_max) d)
-    (and_right (is_pending a (held us p).pending) false refl) (same only)
-    ∙ ap (λ h. walk_at (pushed key word h) idle (min (position + 1) usize_max) only) settles
-  where
-    same : (b : Bool) → (b || false) ≡ b
-    same true = refl
-    same false = refl
+    grind (arith, common_steps, and_right, held, min, walk_at)
 
 -- a name where `us` are used and p is open
 name_on : (c : List Rule) → IsCommand c
@@ -389,9 +340,7 @@ flags_on : (c : List Rule) (us : List Use) (p : Option Use) (n : Count) (word : 
     → Met o fault met → LeavesIf c (with_open us p) o → Ahead c rest
     → Agrees c (said (state (with_open us p)) (word ∷ rest)) (clap_at (open_at us p false n)) (word ∷ rest)
 flags_on c us p n word rest None fault met counted says faults walks is_met leaves ahead =
-    agrees_bad c (state (with_open us p)) (clap_at (open_at us p false n)) word rest
-    (no_reading (state (with_open us p)) word rest says)
-    (ap clear faults ∙ clear_or fault _ ∙ and_left _ _ is_met)
+    grind (arith, common_steps, agrees_bad, and_left, clear, clear_or, no_reading, state, with_open)
 flags_on c us p n word rest (Some t) fault met counted says faults walks is_met leaves ahead = go (good t.uses) refl
   where
     onward : (w : Option Text) → t.wants ≡ w → good t.uses ≡ true → WantsKey c w
@@ -488,13 +437,7 @@ stop_on : (c : List Rule) → IsCommand c → (us : List Use) (key : Text) (n : 
     → Agrees c (said (said_at (wait_for us key n)) (word ∷ rest)) (clap_at (wait_for us key n)) (word ∷ rest)
 unfolding walk_fault
 stop_on c is us key n word rest k says faults walks =
-    let none = no_reading (said_at (wait_for us key n)) word rest says in
-    let fault : clear (all_faults c (clap_at (wait_for us key n)) (word ∷ rest)) ≡ false =
-    ap clear (ap (λ f. or_else
-    (or_else f (walk_fault (shape c) [] (walked c [] (clap_at (wait_for us key n)) word) rest))
-    (settle_fault c false (fold (walked c []) (walked c [] (clap_at (wait_for us key n)) word) rest).held)) faults
-    ∙ ap (λ v. all_faults c v rest) walks) ∙ doomed c is us key n k rest in
-    (fault ∙ sym none, λ ok. absurd (true≢false (sym ok ∙ none)))
+    grind (arith, common_steps, clear, doomed, fold, held, no_reading, none)
 
 -- ---- any word, and all of them
 

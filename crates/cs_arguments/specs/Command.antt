@@ -1,12 +1,10 @@
 -- The command that the words are read by: as it is made, and its rules as building leaves them.
-use Rattle.std.specs.Prelude.{ℕ, pos, true, if◌then◌else◌, List, [], ◌∷◌, codes, Option, Some, None, bytes_eq, fold}
-use Rattle.clap.specs.Walk.{Rule}
+use Rattle.std.specs.Prelude.{ℕ, pos, true, if◌then◌else◌, List, ◌∷◌, codes, Option, Some, None, bytes_eq, fold, []}
+use Rattle.clap.specs.{Walk.Rule, declared.builder.value_parser.ValueParser.ValueParser}
 use Rattle.clap.specs.Simple.{App, Shape, new_app, new_rule, new_shape, on_top, with_rule}
 use Rattle.clap.specs.declared.builder.action.ArgAction.TheVariants.{Set, SetTrue}
-use Rattle.clap.specs.declared.builder.value_parser.ValueParser.{ValueParser}
+use Rattle.cs_arguments.specs.{Reading.Text, Ranges.most_workers, Ranges.most_demo_notes}
 use Rattle.clap.specs.declared.builder.value_parser.ValueParser.TheVariants as vp
-use Rattle.cs_arguments.specs.Reading.{Text}
-use Rattle.cs_arguments.specs.Ranges.{most_workers, most_demo_notes}
 
 -- ---- as it is made
 
@@ -29,9 +27,6 @@ bare_app = on_top (λ s. record s {
   disable_help_flag = true;
   disable_version_flag = true;
 }) (new_app (codes "csplay"))
-
-abbrev pub app_with : List Rule → App
-app_with rules = fold with_rule bare_app rules
 
 abbrev pub letter_rules : List Rule
 letter_rules =

@@ -1,7 +1,6 @@
 -- An order, as the words ask for it.
 use Rattle.cs_arguments.specs.Reading.{Asked, AskedPiece, two_files, one_file, demo}
-use Rattle.cs_arguments.specs.declared.order.Order.{Order}
-use Rattle.cs_arguments.specs.declared.order.Source.{Source}
+use Rattle.cs_arguments.specs.{declared.order.Order.Order, declared.order.Source.Source}
 use Rattle.cs_arguments.specs.declared.order.Source.TheVariants as source
 
 abbrev pub piece_in : Source → AskedPiece

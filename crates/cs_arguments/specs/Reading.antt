@@ -2,9 +2,8 @@
 -- uses come to together.
 use Rattle.std.specs.Prelude.{ℕ, Bool, true, false, not, ◌&&◌, ◌||◌, ◌==◌, if◌then◌else◌, nat_lt, nat_le, nat_eq, List}
 use Rattle.std.specs.Prelude.{[], ◌∷◌, ◌++◌, length, codes, find, Option, Some, None, is_some, unwrap_or, option_map}
-use Rattle.std.specs.Prelude.{option_and_then, bytes_eq}
+use Rattle.std.specs.{Prelude.option_and_then, Prelude.bytes_eq, Char.digit_value}
 use Rattle.std.specs.List.{list_all, list_any, before_first, after_first, ends_with}
-use Rattle.std.specs.Char.{digit_value}
 use Rattle.std.specs.Str.Parse.{digits_value, without_leading_plus}
 use Rattle.cs_arguments.specs.Ranges.{most_workers, most_demo_notes}
 use Rattle.cs_base.specs.declared.width.SampleWidth.{SampleWidth}

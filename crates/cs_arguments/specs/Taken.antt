@@ -1,7 +1,6 @@
 -- What is left of the words for those who read the matches: the uses that stand, and clap's rows of them.
 use Rattle.std.specs.Prelude.{Bool, false, if◌then◌else◌, List, [], ◌∷◌, Option, Some, None, is_some, fold, map}
-use Rattle.clap.specs.Values.{reading_of}
-use Rattle.clap.specs.Walk.{Row, with_default}
+use Rattle.clap.specs.{Values.reading_of, Walk.Row, Walk.with_default}
 use Rattle.clap.specs.declared.parser.matches.ValueSource.TheVariants.{CommandLine}
 use Rattle.cs_arguments.specs.Reading.{Said, Text, Use, said, stands, start}
 use Rattle.cs_arguments.specs.Command.{parser_of, the_rules}

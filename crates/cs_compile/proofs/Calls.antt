@@ -1,33 +1,26 @@
 -- The instruments of a piece mean those of its text.
 use Rattle.std.proofs.Common.{◌≡◌, ℕ, ℤ, pos, Bool, true, false, List, [], ◌∷◌, Option, Some, None, Ok, refl, sym}
 use Rattle.std.proofs.Common.{subst, ap, ◌∙◌, ⊎_elim, if◌then◌else◌}
-use Rattle.std.specs.List.{AllZip, Contains}
-use Rattle.std.specs.Option.{option_map}
-use Rattle.std.specs.Ordering.{int_eq}
+use Rattle.std.specs.{List.AllZip, List.Contains, Option.option_map, Ordering.int_eq}
 use Rattle.std.proofs.lemmas.Bool.Decides.{Decides-int_eq}
-use Rattle.cs_base.specs.Lines.{Excerpt}
-use Rattle.cs_base.specs.declared.width.SampleWidth.{SampleWidth}
+use Rattle.cs_base.specs.{Lines.Excerpt, declared.width.SampleWidth.SampleWidth}
 use Rattle.cs_code.specs.Lowered.{bodies, numbered_with}
-use Rattle.cs_grammar.specs.Orchestra.{Tree}
-use Rattle.cs_grammar.specs.Tree as tree
-use Rattle.cs_grammar.specs.WellFormed.{IsWellFormed}
-use Rattle.cs_lex.specs.Lexed.{Lexed}
-use Rattle.cs_lex.specs.declared.token.Token.{Token}
+use Rattle.cs_grammar.specs.{Orchestra.Tree, WellFormed.IsWellFormed}
+use Rattle.cs_lex.specs.{Lexed.Lexed, declared.token.Token.Token}
 use Rattle.cs_meaning.specs.Core.{Block, core}
 use Rattle.cs_piece.specs.Compositions.{body_of, composition}
 use Rattle.cs_piece_meaning.specs.Moments.{Composition}
 use Rattle.cs_rwset.proofs.Holding.{each_of, of_each}
 use Rattle.cs_rwset.proofs.Placed.{contains_cases, contains_first, contains_none, contains_rest}
 use Rattle.cs_tempo.specs.declared.plot.Plot.{Plot}
-use Rattle.cs_typed.specs.TypedTree as typed
-use Rattle.cs_typing.specs.Known.{Shared}
-use Rattle.cs_typing.specs.Typing.{type_fault, typed_of}
+use Rattle.cs_typing.specs.{Known.Shared, Typing.type_fault, Typing.typed_of}
 use Rattle.cs_udo.specs.Expanding.{expanding}
-use Rattle.cs_udo_meaning.specs.Lives.{MeansFrames}
-use Rattle.cs_udo_meaning.specs.Typed.{shared_of}
+use Rattle.cs_udo_meaning.specs.{Lives.MeansFrames, Typed.shared_of}
 use Rattle.cs_compile.specs.Calls.{MeansCalls, MeansInstrument}
 use Rattle.cs_compile.specs.Meaning.{HasTokens, HasTree, IsReadAs, means}
 use Rattle.cs_compile.proofs.Pieces.{made_of, piece_is, steps}
+use Rattle.cs_grammar.specs.Tree as tree
+use Rattle.cs_typed.specs.TypedTree as typed
 
 -- THE BODY of a number: it is that of an instrument with this number
 

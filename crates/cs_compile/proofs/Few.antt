@@ -2,34 +2,25 @@
 use Rattle.std.proofs.Common.{◌≡◌, ◌≤◌, ℕ, List, [], ◌∷◌, Ok, sym, subst, arith}
 use Rattle.std.specs.List.{All, AllByRecursion as Each}
 use Rattle.std.proofs.lemmas.List.Elements.{All-contains, All-from_recursion}
-use Rattle.cs_base.specs.Limits.{most_statements}
-use Rattle.cs_base.specs.declared.resource.Rate.{Rate}
-use Rattle.cs_base.specs.declared.spaces.Spaces.{Spaces}
+use Rattle.cs_base.specs.{Limits.most_statements, declared.resource.Rate.Rate, declared.spaces.Spaces.Spaces}
 use Rattle.cs_code.specs.Lowered.{bodies}
-use Rattle.cs_grammar.specs.Tree as tree
 use Rattle.cs_grammar.specs.declared.tree.Callee.{Callee}
-use Rattle.cs_grammar.specs.declared.tree.Callee.TheVariants as callee
 use Rattle.cs_meaning.specs.Core.{Block, core, core_arms, core_call, core_stmt}
-use Rattle.cs_piece.specs.Compositions.{body_of}
-use Rattle.cs_piece.specs.Setups.{AskForFew}
+use Rattle.cs_piece.specs.{Compositions.body_of, Setups.AskForFew}
 use Rattle.cs_piece_meaning.specs.Bounded.{asks_in, asks_in_arms, asks_in_stmt}
-use Rattle.cs_typed.specs.TypedTree as typed
 use Rattle.cs_typed.specs.declared.tree.Var.{Var as Variable}
-use Rattle.cs_typing.specs.Calls.{typed_call}
-use Rattle.cs_typing.specs.Known.{KnownHere}
+use Rattle.cs_typing.specs.{Calls.typed_call, Known.KnownHere, Typing.typed_instruments, Typing.typed_of}
 use Rattle.cs_typing.specs.Statements.{known, known_block, typed_arms, typed_block, typed_statement}
 use Rattle.cs_typing.specs.Typing.{before, body, entered, first_known, from, items, known_item, type_fault}
-use Rattle.cs_typing.specs.Typing.{typed_instruments, typed_of}
-use Rattle.cs_udo.specs.Counted.{size, size_of, size_of_arms}
-use Rattle.cs_udo.specs.Expanding.{expanding}
-use Rattle.cs_words.specs.Catalogue.{row_of}
-use Rattle.cs_words.specs.declared.catalogue.Opcode.{Opcode}
-use Rattle.cs_words.specs.declared.catalogue.Shape.{Shape}
-use Rattle.cs_words.specs.declared.catalogue.Shape.TheVariants as shape
+use Rattle.cs_udo.specs.{Counted.size, Counted.size_of, Counted.size_of_arms, Expanding.expanding}
+use Rattle.cs_words.specs.{Catalogue.row_of, declared.catalogue.Opcode.Opcode, declared.catalogue.Shape.Shape}
 use Rattle.cs_udo.proofs.Few.{HasFew, few_of_expansion}
 use Rattle.cs_compile.specs.Meaning.{typed_form}
-use Rattle.cs_compile.proofs.Calls.{bodies_have, mapped, pairs_have}
-use Rattle.cs_compile.proofs.Some.{judged_ok}
+use Rattle.cs_compile.proofs.{Calls.bodies_have, Calls.mapped, Calls.pairs_have, Some.judged_ok}
+use Rattle.cs_grammar.specs.Tree as tree
+use Rattle.cs_grammar.specs.declared.tree.Callee.TheVariants as callee
+use Rattle.cs_typed.specs.TypedTree as typed
+use Rattle.cs_words.specs.declared.catalogue.Shape.TheVariants as shape
 
 -- A STATEMENT asks for one note at most, and what stands in an `if` for one a statement
 

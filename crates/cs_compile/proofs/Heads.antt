@@ -1,11 +1,9 @@
 -- A head is known by its numbers.
 use Rattle.std.proofs.Common.{◌≡◌, ◌≤◌, ◌<ℤ◌, ℕ, ℤ, pos, Ok, Err, ap, sym, subst, ◌∙◌}
-use Rattle.std.proofs.Math.Bridge.{le_prop}
-use Rattle.std.proofs.Math.Dec.{T_prop}
+use Rattle.std.proofs.{Math.Bridge.le_prop, Math.Dec.T_prop}
 use lib.Signed.{lt_z}
 use Rattle.cs_base.specs.declared.head.Head.{Head}
-use Rattle.cs_typed.specs.Places.{Header}
-use Rattle.cs_typed.specs.TypedTree.{header_of_head}
+use Rattle.cs_typed.specs.{Places.Header, TypedTree.header_of_head}
 use Rattle.cs_compile.specs.Meaning.{HasHead}
 use Rattle.cs_compile.proofs.Chains.{HasOne}
 

@@ -1,22 +1,17 @@
 -- Two texts have one meaning.
 use Rattle.std.proofs.Common.{◌≡◌, ℕ, List, Ok, Err, ap}
-use Rattle.cs_base.specs.Lines.{Excerpt}
-use Rattle.cs_base.specs.declared.fault.OrcFault.{OrcFault}
-use Rattle.cs_base.specs.declared.fault.OrcKind.{OrcKind}
-use Rattle.cs_base.specs.declared.head.Head.{Head}
-use Rattle.cs_base.specs.declared.limit.Limit.TheVariants as limit
+use Rattle.cs_base.specs.{Lines.Excerpt, declared.fault.OrcFault.OrcFault, declared.fault.OrcKind.OrcKind}
+use Rattle.cs_base.specs.{declared.head.Head.Head, declared.width.SampleWidth.SampleWidth}
 use Rattle.cs_lex.specs.declared.token.Token.{Token}
 use Rattle.cs_score.specs.Statements.{score_of}
-use Rattle.cs_typed.specs.TypedTree as typed
-use Rattle.cs_base.specs.declared.width.SampleWidth.{SampleWidth}
 use Rattle.cs_udo.specs.Expanding.{expanding}
-use Rattle.cs_compile.specs.Then.{Is}
+use Rattle.cs_compile.specs.{Then.Is, Meaning.score_means, Meaning.short_texts_mean, Meaning.typed_form}
 use Rattle.cs_compile.specs.Meaning.{HasHead, HasTokens, HasTree, IsPlayedAs, IsRead, IsReadAs, IsTypedAs, means}
 use Rattle.cs_compile.specs.Meaning.{no_longer_than, orchestra_means, orchestra_plays, piece_of, plotted, refused_as}
-use Rattle.cs_compile.specs.Meaning.{score_means, short_texts_mean, typed_form}
+use Rattle.cs_compile.proofs.{Chains.HasOne, Chains.is_one, Chains.then_one, Heads.head_one}
+use Rattle.cs_base.specs.declared.limit.Limit.TheVariants as limit
+use Rattle.cs_typed.specs.TypedTree as typed
 use Rattle.cs_base.specs.declared.refusal.Refusal.TheVariants as why
-use Rattle.cs_compile.proofs.Chains.{HasOne, is_one, then_one}
-use Rattle.cs_compile.proofs.Heads.{head_one}
 
 same_fault : (f g : OrcFault) → (f.line ≡ g.line) × (f.kind ≡ g.kind) → f ≡ g
 same_fault f g e = same_parts f.line g.line f.kind g.kind e.0 e.1

@@ -1,33 +1,24 @@
 -- What the single steps answer, and how their answers go together.
 use Rattle.std.proofs.Common.{◌≡◌, ◌∙◌, List, Option, Some, None, Result, Ok, Err, IfOk, refl, sym, ap}
-use Rattle.std.specs.Option.{option_or}
-use Rattle.std.specs.Result.{IsErrAnd}
-use Rattle.cs_base.specs.Lines.{Excerpt}
-use Rattle.cs_base.specs.declared.fault.Or.{Or}
-use Rattle.cs_base.specs.declared.fault.Or.TheVariants as or
-use Rattle.cs_base.specs.declared.fault.OrcFault.{OrcFault}
+use Rattle.std.specs.{Option.option_or, Result.IsErrAnd}
+use Rattle.cs_base.specs.{Lines.Excerpt, declared.fault.Or.Or, declared.fault.OrcFault.OrcFault}
+use Rattle.cs_base.specs.{declared.head.Head.Head, declared.limit.LimitHit.LimitHit, declared.refusal.Refusal.Refusal}
 use Rattle.cs_base.specs.declared.fault.ScoreFault.{ScoreFault}
-use Rattle.cs_base.specs.declared.head.Head.{Head}
-use Rattle.cs_base.specs.declared.limit.LimitHit.{LimitHit}
-use Rattle.cs_grammar.specs.Tree as tree
 use Rattle.cs_score.specs.Limits.{IsRefusedFor, Passes, limit_of_score}
-use Rattle.cs_score.specs.Statements.{score_of}
-use Rattle.cs_score.specs.declared.statement.ScoreStmt.{ScoreStmt}
+use Rattle.cs_score.specs.{Statements.score_of, declared.statement.ScoreStmt.ScoreStmt}
 use Rattle.cs_tempo.specs.Limits.{limit_of, limit_of_sections}
-use Rattle.cs_tempo.specs.Plot.{plot_of}
-use Rattle.cs_tempo.specs.Sections.{sections_of}
-use Rattle.cs_tempo.specs.declared.plot.Plot.{Plot}
-use Rattle.cs_typed.specs.TypedTree as typed
+use Rattle.cs_tempo.specs.{Plot.plot_of, Sections.sections_of, declared.plot.Plot.Plot}
 use Rattle.cs_typing.specs.Typing.{judged, type_fault, typed_of}
 use Rattle.cs_base.specs.declared.width.SampleWidth.{SampleWidth}
 use Rattle.cs_compile.specs.Then.{Is}
 use Rattle.cs_piece_meaning.specs.Moments.{Composition}
-use Rattle.cs_compile.specs.Meaning.{HasHead, IsPlayedAs, orchestra_means, orchestra_plays}
-use Rattle.cs_compile.specs.Meaning.{piece_of, plotted, refused_as, score_means, short_texts_mean, typed_form}
-use Rattle.cs_compile.specs.Meaning.{unless_passed}
-use Rattle.cs_base.specs.declared.refusal.Refusal.{Refusal}
-use Rattle.cs_base.specs.declared.refusal.Refusal.TheVariants as why
+use Rattle.cs_compile.specs.Meaning.{HasHead, IsPlayedAs, orchestra_means, orchestra_plays, piece_of, plotted}
+use Rattle.cs_compile.specs.Meaning.{refused_as, score_means, short_texts_mean, typed_form, unless_passed}
 use Rattle.cs_compile.proofs.Chains.{goes_on, refuses}
+use Rattle.cs_base.specs.declared.fault.Or.TheVariants as or
+use Rattle.cs_grammar.specs.Tree as tree
+use Rattle.cs_typed.specs.TypedTree as typed
+use Rattle.cs_base.specs.declared.refusal.Refusal.TheVariants as why
 
 -- RESULTS
 

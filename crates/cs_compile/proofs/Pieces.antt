@@ -1,23 +1,19 @@
 -- What a piece is made of that two texts mean.
 use Rattle.std.proofs.Common.{◌≡◌, nat_lt, length, Option, Some, None, Result, Ok, Err, sym, subst, ap, ◌∙◌}
-use Rattle.cs_base.specs.Lines.{Excerpt}
-use Rattle.cs_base.specs.Limits.{most_of}
-use Rattle.cs_base.specs.declared.head.Head.{Head}
-use Rattle.cs_base.specs.declared.limit.Limit.{Limit}
-use Rattle.cs_base.specs.declared.limit.Limit.TheVariants as limit
-use Rattle.cs_base.specs.declared.limit.LimitHit.{LimitHit}
-use Rattle.cs_base.specs.declared.width.SampleWidth.{SampleWidth}
-use Rattle.cs_grammar.specs.Tree as tree
+use Rattle.cs_base.specs.{Lines.Excerpt, Limits.most_of, declared.head.Head.Head, declared.limit.Limit.Limit}
+use Rattle.cs_base.specs.{declared.limit.LimitHit.LimitHit, declared.width.SampleWidth.SampleWidth}
 use Rattle.cs_piece.specs.Compositions.{composition}
 use Rattle.cs_piece_meaning.specs.Moments.{Composition}
 use Rattle.cs_tempo.specs.declared.plot.Plot.{Plot}
-use Rattle.cs_typed.specs.TypedTree as typed
 use Rattle.cs_typing.specs.Typing.{type_fault, typed_of}
 use Rattle.cs_udo.specs.Expanding.{expanding}
 use Rattle.cs_compile.specs.Meaning.{IsReadAs, IsTypedAs, limit_of_piece, means, no_longer_than, orchestra_means}
 use Rattle.cs_compile.specs.Meaning.{orchestra_plays, passed_if, typed_form, unless_passed}
 use Rattle.cs_compile.specs.Then.{GoesOn, Is, Then}
 use Rattle.cs_compile.proofs.Some.{judged_ok}
+use Rattle.cs_base.specs.declared.limit.Limit.TheVariants as limit
+use Rattle.cs_grammar.specs.Tree as tree
+use Rattle.cs_typed.specs.TypedTree as typed
 
 -- A CHAIN that has a value: so has each of its steps
 

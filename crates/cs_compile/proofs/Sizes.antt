@@ -3,15 +3,11 @@ use Rattle.std.proofs.Common.{◌≡◌, ℕ, ◌+◌, ℤ, List, [], ◌∷◌,
 use Rattle.std.specs.List.{All, AllByRecursion as Each}
 use Rattle.std.proofs.lemmas.List.Elements.{All-contains, All-from_recursion, recursion_from_All}
 use Rattle.cs_base.specs.declared.head.Head.{Head}
-use Rattle.cs_score.specs.Sizes.{HaveOneSize, IsOneSize}
-use Rattle.cs_score.specs.declared.statement.ScoreStmt.{ScoreStmt}
+use Rattle.cs_score.specs.{Sizes.HaveOneSize, Sizes.IsOneSize, declared.statement.ScoreStmt.ScoreStmt}
 use Rattle.cs_score.specs.declared.statement.ScoreWhat.{ScoreWhat}
 use Rattle.cs_score.specs.declared.statement.ScoreWhat.TheVariants.{Note, Hold, Stop, Table, Extend, Tempo, Section}
-use Rattle.cs_piece.specs.Compositions.{Given, given_by, given_in}
-use Rattle.cs_piece.specs.Setups.{AreOfOneSize}
-use Rattle.cs_tempo.specs.declared.plot.Event.{Event}
-use Rattle.cs_tempo.specs.Order.{in_order}
-use Rattle.cs_tempo.specs.Pairing.{stop_of}
+use Rattle.cs_piece.specs.{Compositions.Given, Compositions.given_by, Compositions.given_in, Setups.AreOfOneSize}
+use Rattle.cs_tempo.specs.{declared.plot.Event.Event, Order.in_order, Pairing.stop_of}
 use Rattle.cs_tempo.specs.Plot.{SectionSetting, acts_of, events_along, events_at, events_from, plot_of, setting_of}
 use Rattle.cs_tempo.specs.Sections.{length_of, sections_of}
 use Rattle.cs_tempo.proofs.Elements.{each_append, each_more, in_order_each, sections_each}

@@ -1,63 +1,51 @@
 -- Two small texts, read step by step by the definitions.
-use Rattle.std.proofs.Common.{◌≡◌, ◌∷◌, ◌++◌, ◌+◌, ℕ, true, pos, List, [], codes, None, Result, Ok, Err}
-use Rattle.std.proofs.Common.{refl, ap, sym, subst, arith}
-use Rattle.cs_base.specs.declared.fault.OrcFault.{OrcFault}
-use Rattle.cs_base.specs.declared.fault.OrcKind.TheVariants as orc
-use Rattle.cs_base.specs.declared.head.Head.{Head}
-use Rattle.cs_base.specs.declared.limit.Limit.TheVariants as limit
-use Rattle.cs_base.specs.declared.refusal.Refusal.{Refusal}
-use Rattle.cs_base.specs.declared.refusal.Refusal.TheVariants as why
-use Rattle.cs_base.specs.declared.width.SampleWidth.{SampleWidth}
+use Rattle.std.proofs.Common.{◌≡◌, ◌∷◌, ◌++◌, ◌+◌, ℕ, true, pos, List, [], codes, None, Result, Ok, Err, refl, ap, sym}
+use Rattle.std.proofs.Common.{subst, arith}
+use Rattle.cs_base.specs.{declared.fault.OrcFault.OrcFault, declared.head.Head.Head, declared.refusal.Refusal.Refusal}
+use Rattle.cs_base.specs.{declared.width.SampleWidth.SampleWidth, Lines.Excerpt, Lines.excerpt, Lines.whole_file}
 use Rattle.cs_base.specs.declared.width.SampleWidth.TheVariants.{TwoBytes, ThreeBytes}
-use Rattle.cs_words.specs.Catalogue.{catalogued}
-use Rattle.cs_words.specs.Signs.{sign_of}
+use Rattle.cs_words.specs.{Catalogue.catalogued, Signs.sign_of}
 use Rattle.cs_words.specs.Words.{field_of, is_foreign, listed_word, word_of}
+use Rattle.cs_lex.specs.Lexed.{LexFault, Lexed, end_of, merged, tokens_after}
+use Rattle.cs_lex.specs.declared.token.Token.{Token}
+use Rattle.cs_lex.proofs.Computed.{got, reads, refuses}
+use Rattle.cs_grammar.specs.Grammar.{ReadsArg, ReadsArgs, ReadsBlock, ReadsExpr, ReadsStmt, arg_value, args_some}
+use Rattle.cs_grammar.specs.Grammar.{binary, block_end, block_more, fact_alone, list_last, no_more, stmt_assign}
+use Rattle.cs_grammar.specs.{Grammar.stmt_bare, Lines.ReadsNumbers, Lines.last_item, Parts.atom, Parts.part_form}
+use Rattle.cs_grammar.specs.{Symbols.Symbol, Symbols.symbols, declared.expr.Level.Level, declared.symbol.Kind.Kind}
+use Rattle.cs_grammar.specs.Orchestra.{ReadsInstr, ReadsOrc, Tree, instr, orc_end, orc_header, orc_instr}
+use Rattle.cs_grammar.specs.Reading.{Scope, in_instrument, next}
+use Rattle.cs_udo.specs.Expanding.{expanding}
+use Rattle.cs_typing.specs.Typing.{typed_of}
+use Rattle.cs_score.specs.{Limits.different, Limits.first_at, Limits.numbers_of, Statements.score_of}
+use Rattle.cs_score.specs.{declared.statement.ScoreStmt.ScoreStmt, declared.statement.ScoreWhat.TheVariants.Note}
+use Rattle.cs_tempo.specs.{Order.in_order, Order.put, declared.plot.Plot.Plot}
+use Rattle.cs_tempo.specs.Plot.{acts_of, events_along, events_from}
+use Rattle.cs_tempo.specs.Sections.{cycle_at, length_of, sections_of, tempo_of}
+use Rattle.cs_tempo.specs.Time.{beat_length, cycle_of, part_of, ramp_time, seconds_of, time_along}
+use Rattle.cs_piece.specs.Compositions.{composition}
+use Rattle.cs_piece_meaning.specs.{Heard.frames_of, Moments.Composition}
+use Rattle.cs_compile.specs.Meaning.{IsPlayedAs, IsReadAs, IsTypedAs, means, orchestra_means, orchestra_plays, piece_of}
+use Rattle.cs_compile.specs.Meaning.{no_longer_than, plotted, refused_as, score_means, short_texts_mean, typed_form}
+use Rattle.cs_compile.specs.Worked.{fourth_field, note_of_100, stray_byte, whole}
+use Rattle.cs_compile.proofs.Heads.{made}
+use Rattle.cs_base.specs.declared.fault.OrcKind.TheVariants as orc
+use Rattle.cs_base.specs.declared.limit.Limit.TheVariants as limit
+use Rattle.cs_base.specs.declared.refusal.Refusal.TheVariants as why
 use Rattle.cs_words.specs.declared.catalogue.Opcode.TheVariants as op
 use Rattle.cs_words.specs.declared.sign.Sign.TheVariants as sign
 use Rattle.cs_words.specs.declared.word.HeadName.TheVariants as head
 use Rattle.cs_words.specs.declared.word.Keyword.TheVariants as key
 use Rattle.cs_words.specs.declared.word.Word.TheVariants as word
-use Rattle.cs_base.specs.Lines.{Excerpt, excerpt, whole_file}
-use Rattle.cs_lex.specs.Lexed.{LexFault, Lexed, end_of, merged, tokens_after}
-use Rattle.cs_lex.specs.declared.token.Token.{Token}
-use Rattle.cs_lex.proofs.Computed.{got, reads, refuses}
-use Rattle.cs_grammar.specs.Grammar.{ReadsArg, ReadsArgs, ReadsBlock, ReadsExpr, ReadsStmt}
-use Rattle.cs_grammar.specs.Grammar.{arg_value, args_some, binary, block_end, block_more, fact_alone, list_last}
-use Rattle.cs_grammar.specs.Grammar.{no_more, stmt_assign, stmt_bare}
-use Rattle.cs_grammar.specs.Lines.{ReadsNumbers, last_number}
-use Rattle.cs_grammar.specs.Orchestra.{ReadsInstr, ReadsOrc, Tree, instr, orc_end, orc_header, orc_instr}
-use Rattle.cs_grammar.specs.Parts.{atom, part_form}
 use Rattle.cs_grammar.specs.Parts as parts
-use Rattle.cs_grammar.specs.Reading.{Scope, in_instrument, next}
-use Rattle.cs_grammar.specs.Symbols.{Symbol, symbols}
 use Rattle.cs_grammar.specs.Tree as tree
-use Rattle.cs_grammar.specs.declared.expr.Level.{Level}
 use Rattle.cs_grammar.specs.declared.expr.Level.TheVariants as level
 use Rattle.cs_grammar.specs.declared.expr.PartForm.TheVariants as part
 use Rattle.cs_grammar.specs.declared.lists.Role.TheVariants as role
-use Rattle.cs_grammar.specs.declared.symbol.Kind.{Kind}
 use Rattle.cs_grammar.specs.declared.symbol.Kind.TheVariants as kind
 use Rattle.cs_grammar.specs.declared.tree.Callee.TheVariants as callee
-use Rattle.cs_udo.specs.Expanding.{expanding}
-use Rattle.cs_typing.specs.Typing.{typed_of}
 use Rattle.cs_typed.specs.TypedTree as typed
-use Rattle.cs_score.specs.Limits.{different, first_at, numbers_of}
-use Rattle.cs_score.specs.Statements.{score_of}
-use Rattle.cs_score.specs.declared.statement.ScoreStmt.{ScoreStmt}
-use Rattle.cs_score.specs.declared.statement.ScoreWhat.TheVariants.{Note}
-use Rattle.cs_tempo.specs.Order.{in_order, put}
-use Rattle.cs_tempo.specs.Plot.{acts_of, events_along, events_from}
-use Rattle.cs_tempo.specs.Sections.{cycle_at, length_of, sections_of, tempo_of}
-use Rattle.cs_tempo.specs.Time.{beat_length, cycle_of, part_of, ramp_time, seconds_of, time_along}
 use Rattle.cs_tempo.specs.declared.plot.EventAct.TheVariants as act
-use Rattle.cs_tempo.specs.declared.plot.Plot.{Plot}
-use Rattle.cs_piece.specs.Compositions.{composition}
-use Rattle.cs_piece_meaning.specs.Heard.{frames_of}
-use Rattle.cs_piece_meaning.specs.Moments.{Composition}
-use Rattle.cs_compile.specs.Meaning.{IsPlayedAs, IsReadAs, IsTypedAs, means, orchestra_means, orchestra_plays, piece_of}
-use Rattle.cs_compile.specs.Meaning.{no_longer_than, plotted, refused_as, score_means, short_texts_mean, typed_form}
-use Rattle.cs_compile.specs.Worked.{fourth_field, note_of_100, stray_byte, whole}
-use Rattle.cs_compile.proofs.Heads.{made}
 
 -- THE TOKENS of the orchestra, and what they are to the grammar
 
@@ -171,7 +159,7 @@ instrument = record { line = 3; numbers = 1 ∷ []; body = body }
 
 reads_number : ReadsNumbers inside [] (symbol 3 (kind.Number (whole 1)) (codes "1") ∷ feed 3 ∷ line_4)
     (Ok (1 ∷ [], feed 3 ∷ line_4))
-reads_number = last_number refl refl
+reads_number = last_item refl refl
 
 reads_instrument : ReadsInstr [] [] line_3 (Ok (instrument, stop))
 reads_instrument = instr {ns = Ok (1 ∷ [], feed 3 ∷ line_4)} {body = Ok (body, line_6)} reads_number reads_body

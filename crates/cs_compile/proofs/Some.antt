@@ -2,29 +2,24 @@
 use Rattle.std.proofs.Common.{◌≡◌, ◌⊎◌, ℕ, Bool, List, [], Option, Some, None, Result, Ok, Err, refl, subst, ⊎_elim}
 use Rattle.std.proofs.Common.{if◌then◌else◌, true, false}
 use Rattle.cs_base.proofs.Tests.{both_none}
-use Rattle.cs_base.specs.Lines.{Excerpt}
-use Rattle.cs_base.specs.declared.fault.OrcFault.{OrcFault}
-use Rattle.cs_base.specs.declared.fault.OrcKind.{OrcKind}
-use Rattle.cs_base.specs.declared.head.Head.{Head}
-use Rattle.cs_base.specs.declared.limit.Limit.TheVariants as limit
-use Rattle.cs_grammar.specs.Tree as tree
+use Rattle.cs_base.specs.{Lines.Excerpt, declared.fault.OrcFault.OrcFault, declared.fault.OrcKind.OrcKind}
+use Rattle.cs_base.specs.{declared.head.Head.Head, declared.refusal.Refusal.Refusal}
 use Rattle.cs_lex.specs.declared.token.Token.{Token}
 use Rattle.cs_score.specs.Statements.{score_of}
 use Rattle.cs_typed.specs.Places.{Header}
-use Rattle.cs_typed.specs.TypedTree as typed
 use Rattle.cs_typing.specs.Settings.{earlier, header, headers_fault, settings_fault}
 use Rattle.cs_typing.specs.Typing.{judged, type_fault, typed_of}
 use Rattle.cs_typing.proofs.Ranges.{channels_within, cycle_within, frames_within, scale_within}
 use Rattle.cs_base.specs.declared.width.SampleWidth.{SampleWidth}
 use Rattle.cs_udo.specs.Expanding.{expanding}
-use Rattle.cs_compile.specs.Then.{GoesOn, Is}
+use Rattle.cs_compile.specs.{Then.GoesOn, Then.Is, Meaning.score_means, Meaning.short_texts_mean, Meaning.typed_form}
 use Rattle.cs_compile.specs.Meaning.{HasHead, HasTokens, HasTree, IsPlayedAs, IsRead, IsReadAs, IsTypedAs, means}
 use Rattle.cs_compile.specs.Meaning.{no_longer_than, orchestra_means, orchestra_plays, piece_of, plotted, refused_as}
-use Rattle.cs_compile.specs.Meaning.{score_means, short_texts_mean, typed_form}
-use Rattle.cs_base.specs.declared.refusal.Refusal.{Refusal}
+use Rattle.cs_compile.proofs.{Chains.then_some, Heads.made}
+use Rattle.cs_base.specs.declared.limit.Limit.TheVariants as limit
+use Rattle.cs_grammar.specs.Tree as tree
+use Rattle.cs_typed.specs.TypedTree as typed
 use Rattle.cs_base.specs.declared.refusal.Refusal.TheVariants as why
-use Rattle.cs_compile.proofs.Chains.{then_some}
-use Rattle.cs_compile.proofs.Heads.{made}
 
 -- an answer of which P holds
 abbrev pub HasSome : {A E : Type 0} → (Result A E → Type 0) → Type 0

@@ -1,25 +1,20 @@
 -- What the exits of a `?` give where it tells a fault as a refusal, and pieces that are too long.
 use Rattle.std.proofs.Common.{◌≡◌, ◌≤◌, ◌*◌, Bool, true, false, nat_lt, Some, None, Result, Ok, Err, refl, sym, subst}
 use Rattle.std.proofs.Common.{ap, ◌∙◌, arith}
-use Rattle.std.specs.Option.{option_or}
-use Rattle.std.specs.Result.{IsErrAnd}
+use Rattle.std.specs.{Option.option_or, Result.IsErrAnd}
 use Rattle.std.proofs.lemmas.Bool.Decides.{nat_tests}
-use Rattle.cs_base.specs.Faults.{or_by, passed}
-use Rattle.cs_base.specs.Limits.{most_wav_bytes}
-use Rattle.cs_base.specs.declared.fault.Or.{Or}
-use Rattle.cs_base.specs.declared.fault.Or.TheVariants as or
-use Rattle.cs_base.specs.declared.head.Head.{Head}
-use Rattle.cs_base.specs.declared.limit.Limit.TheVariants as limit
-use Rattle.cs_base.specs.declared.limit.LimitHit.{LimitHit}
-use Rattle.cs_base.specs.declared.refusal.Refusal.{Refusal}
-use Rattle.cs_base.specs.declared.refusal.Refusal.TheVariants as why
+use Rattle.cs_base.specs.{Faults.or_by, Faults.passed, Limits.most_wav_bytes, declared.fault.Or.Or}
+use Rattle.cs_base.specs.{declared.head.Head.Head, declared.limit.LimitHit.LimitHit, declared.refusal.Refusal.Refusal}
 use Rattle.cs_base.specs.declared.width.SampleWidth.{SampleWidth}
 use Rattle.cs_cells.specs.Areas.{limit_passed}
 use Rattle.cs_piece.specs.Compositions.{areas_in, composition}
 use Rattle.cs_tempo.specs.declared.plot.Plot.{Plot}
-use Rattle.cs_typed.specs.TypedTree as typed
 use Rattle.cs_wav.specs.Wav.{size_of}
 use Rattle.cs_compile.specs.Meaning.{is_too_long, passed_if, piece_of, unless_passed}
+use Rattle.cs_base.specs.declared.fault.Or.TheVariants as or
+use Rattle.cs_base.specs.declared.limit.Limit.TheVariants as limit
+use Rattle.cs_base.specs.declared.refusal.Refusal.TheVariants as why
+use Rattle.cs_typed.specs.TypedTree as typed
 
 -- what holds of the refusal that a fault is told as holds of the one that leaves
 pub told : {A F : Type 0} (k : F → Refusal) (Q : Refusal → Type 0) (r : Result A (Or Refusal)) (e : Or F)

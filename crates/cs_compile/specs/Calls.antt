@@ -1,18 +1,15 @@
 -- What calls of defined opcodes in an orchestra's text mean for the piece: each of its instruments does what one of the
 -- text does whose calls have frames of their own.
-use Rattle.std.specs.Prelude.{ℕ, ℤ, pos, ◌≡◌, Ok, Some}
-use Rattle.std.specs.List.{Contains}
-use Rattle.cs_base.specs.Lines.{Excerpt}
-use Rattle.cs_base.specs.declared.spaces.Spaces.{Spaces}
+use Rattle.std.specs.{Prelude.ℕ, Prelude.ℤ, Prelude.pos, Prelude.◌≡◌, Prelude.Ok, Prelude.Some, List.Contains}
+use Rattle.cs_base.specs.{Lines.Excerpt, declared.spaces.Spaces.Spaces}
 use Rattle.cs_compile.specs.Meaning.{IsReadAs}
 use Rattle.cs_grammar.specs.Tree.{Instrument, Orchestra}
 use Rattle.cs_meaning.specs.Core.{Block, core}
 use Rattle.cs_piece_meaning.specs.Moments.{Composition}
-use Rattle.cs_typed.specs.TypedTree as typed
 use Rattle.cs_typing.specs.Known.{Shared}
 use Rattle.cs_udo.specs.Expanding.{expanding}
-use Rattle.cs_udo_meaning.specs.Lives.{MeansFrames}
-use Rattle.cs_udo_meaning.specs.Typed.{shared_of}
+use Rattle.cs_udo_meaning.specs.{Lives.MeansFrames, Typed.shared_of}
+use Rattle.cs_typed.specs.TypedTree as typed
 
 -- These statements mean an instrument of this number, as an orchestra was written: in worlds of states W they do what
 -- it does with a frame for each place of a call, where the names that notes share have their places in `shared`.

@@ -1,36 +1,26 @@
 -- What two texts mean: the composition that is performed, or the first refusal, in the order in which refusals are
 -- looked for. Each refusal has its line in the file in which its text stands.
 use Rattle.std.specs.Prelude.{ℕ, ◌≡◌, ◌*◌, Bool, nat_lt, List, length, Option, Some, None, Result, Ok, Err}
-use Rattle.std.specs.Prelude.{if◌then◌else◌}
-use Rattle.std.specs.Option.{option_or}
-use Rattle.cs_base.specs.Limits.{most_of, most_wav_bytes}
-use Rattle.cs_base.specs.Lines.{Excerpt}
-use Rattle.cs_base.specs.declared.fault.OrcKind.{OrcKind}
-use Rattle.cs_base.specs.declared.head.Head.{Head}
-use Rattle.cs_base.specs.declared.limit.Limit.{Limit}
-use Rattle.cs_base.specs.declared.limit.Limit.TheVariants as limit
-use Rattle.cs_base.specs.declared.limit.LimitHit.{LimitHit}
-use Rattle.cs_base.specs.declared.refusal.Refusal.{Refusal}
-use Rattle.cs_base.specs.declared.refusal.Refusal.TheVariants as why
-use Rattle.cs_base.specs.declared.width.SampleWidth.{SampleWidth}
+use Rattle.std.specs.{Prelude.if◌then◌else◌, Option.option_or}
+use Rattle.cs_base.specs.{Limits.most_of, Limits.most_wav_bytes, Lines.Excerpt, declared.fault.OrcKind.OrcKind}
+use Rattle.cs_base.specs.{declared.head.Head.Head, declared.limit.Limit.Limit, declared.limit.LimitHit.LimitHit}
+use Rattle.cs_base.specs.{declared.refusal.Refusal.Refusal, declared.width.SampleWidth.SampleWidth}
 use Rattle.cs_cells.specs.Areas.{limit_passed}
 use Rattle.cs_compile.specs.Then.{Is, Then}
 use Rattle.cs_piece_meaning.specs.Moments.{Composition}
 use Rattle.cs_grammar.specs.Orchestra.{ParseFault, Tree}
-use Rattle.cs_grammar.specs.Tree as tree
-use Rattle.cs_lex.specs.Lexed.{LexFault, Lexed}
-use Rattle.cs_lex.specs.declared.token.Token.{Token}
-use Rattle.cs_score.specs.Statements.{score_of}
-use Rattle.cs_score.specs.declared.statement.ScoreStmt.{ScoreStmt}
+use Rattle.cs_lex.specs.{Lexed.LexFault, Lexed.Lexed, declared.token.Token.Token}
+use Rattle.cs_score.specs.{Statements.score_of, declared.statement.ScoreStmt.ScoreStmt}
 use Rattle.cs_piece.specs.Compositions.{areas_in, composition}
-use Rattle.cs_tempo.specs.Limits.{limit_of}
-use Rattle.cs_tempo.specs.Plot.{plot_of}
-use Rattle.cs_tempo.specs.declared.plot.Plot.{Plot}
+use Rattle.cs_tempo.specs.{Limits.limit_of, Plot.plot_of, declared.plot.Plot.Plot}
 use Rattle.cs_typed.specs.Places.{Header}
-use Rattle.cs_typed.specs.TypedTree as typed
 use Rattle.cs_typing.specs.Typing.{typing}
 use Rattle.cs_udo.specs.Expanding.{expanding}
 use Rattle.cs_wav.specs.Wav.{size_of}
+use Rattle.cs_base.specs.declared.limit.Limit.TheVariants as limit
+use Rattle.cs_base.specs.declared.refusal.Refusal.TheVariants as why
+use Rattle.cs_grammar.specs.Tree as tree
+use Rattle.cs_typed.specs.TypedTree as typed
 
 -- what a part of the orchestra is read as: a value, or its first fault by line and kind
 abbrev pub IsRead : {A : Type 0} → (A → Type 0) → (ℕ → OrcKind → Type 0) → Result A Refusal → Type 0

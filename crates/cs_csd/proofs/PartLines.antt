@@ -1,18 +1,15 @@
 -- Parts begin on the lines of the file that they name.
-use Rattle.std.proofs.Common.{◌≡◌, ℕ, List, [], ◌∷◌, ◌++◌, ap, sym, ◌∙◌, refl, subst, take}
-use Rattle.std.proofs.Common.{Option, Some, None, IfSome, unwrap_or, Result, Ok, IfOk}
+use Rattle.std.proofs.Common.{◌≡◌, ℕ, List, [], ◌∷◌, ◌++◌, ap, sym, ◌∙◌, refl, subst, take, Option, Some, None, IfSome}
+use Rattle.std.proofs.Common.{unwrap_or, Result, Ok, IfOk}
 use Rattle.std.specs.List.{All}
 use Rattle.std.proofs.lemmas.List.Elements.{All-head, All-tail}
-use Rattle.cs_csd.specs.declared.line.Section.{Section}
-use Rattle.cs_csd.specs.declared.line.Section.TheVariants as section
-use Rattle.cs_base.specs.declared.fault.CsdFault.{CsdFault}
-use Rattle.cs_csd.specs.declared.part.Part.{Part}
-use Rattle.cs_csd.specs.declared.part.Parts.{Parts}
+use Rattle.cs_csd.specs.{declared.line.Section.Section, declared.part.Part.Part, declared.part.Parts.Parts}
+use Rattle.cs_base.specs.{declared.fault.CsdFault.CsdFault, Lines.Line, Lines.line_after}
 use Rattle.cs_csd.specs.declared.scan.SectionsFound.{SectionsFound}
-use Rattle.cs_base.specs.Lines.{Line, line_after}
 use Rattle.cs_csd.specs.Sections.{Between, idle, whole, stop, no_orchestra, twice, stray, unclosed, cut, Reading, begun}
 use Rattle.cs_csd.specs.Sections.{never, BeginsOnItsLine, no_text, part_between, with_section}
 use Rattle.cs_base.proofs.LineCuts.{Chained, Leads, lines_chained, lines_numbered}
+use Rattle.cs_csd.specs.declared.line.Section.TheVariants as section
 
 abbrev IsNumbered : List ℕ → Line → Type 0
 IsNumbered text l = l.number ≡ line_after 1 (take l.at text)
@@ -69,11 +66,7 @@ between text (whole s f opener inside closer ls r m h a e b) all c found =
     (one_more text s (part_between opener closer) f begins found)
 between text (stop f orc l ls m e) all c found =
     (subst (λ o. IfSome o (BeginsOnItsLine text)) e found.orc, or_no_text text f.sco found.sco)
-between text (no_orchestra f l ls m e) all c found = tt
-between text (twice s f l ls m h) all c found = tt
-between text (stray f l ls m) all c found = tt
-between text (unclosed s f opener inside m h a) all c found = tt
-between text (cut f) all c found = tt
+between text _ all c found = tt
 
 reading : (text : List ℕ) (r : Result Parts CsdFault) → Reading text r → IfOk r (AreParts text)
 reading text r (begun before start rest r' e a c b) =

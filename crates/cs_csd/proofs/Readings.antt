@@ -4,23 +4,19 @@ use Rattle.std.proofs.Common.{max, Result, Ok, Err, Option, Some, None, unwrap_o
 use Rattle.std.specs.List.{All}
 use Rattle.std.proofs.lemmas.List.{append-nil, append_assoc, drop-drop, drop_all, length-drop, take_rest}
 use Rattle.std.proofs.lemmas.List.Elements.{All-nil, All-cons, All-head, All-tail, All-append}
-use Rattle.cs_base.proofs.Tests.{by_test}
-use Rattle.cs_csd.specs.declared.line.LineMark.{LineMark}
-use Rattle.cs_csd.specs.declared.line.LineMark.TheVariants as mark
-use Rattle.cs_csd.specs.declared.line.Section.{Section}
+use Rattle.cs_base.proofs.{Tests.by_test, LineCuts.cut_at, LineCuts.line_len}
+use Rattle.cs_csd.specs.{declared.line.LineMark.LineMark, declared.line.Section.Section, declared.part.Part.Part}
+use Rattle.cs_csd.specs.{declared.part.Parts.Parts, declared.scan.ScanState.ScanState}
 use Rattle.cs_base.specs.declared.fault.CsdFault.{CsdFault}
-use Rattle.cs_base.specs.declared.fault.CsdKind.TheVariants as kind
-use Rattle.cs_csd.specs.declared.part.Part.{Part}
-use Rattle.cs_csd.specs.declared.part.Parts.{Parts}
 use Rattle.cs_csd.specs.declared.scan.SectionsFound.{SectionsFound}
-use Rattle.cs_csd.specs.declared.scan.ScanState.{ScanState}
-use Rattle.cs_csd.specs.declared.scan.ScanState.TheVariants as state
 use Rattle.cs_base.specs.Lines.{Line, line, lines_from, lines_of, next_len}
 use Rattle.cs_csd.specs.Lines.{mark_of, closes, is_start, last_line}
 use Rattle.cs_csd.specs.Sections.{Between, idle, whole, stop, no_orchestra, twice, stray, unclosed, cut, Reading, begun}
 use Rattle.cs_csd.specs.Sections.{never, fault, part_between, no_text, nothing_found, stood, with_section}
 use Rattle.cs_csd.specs.inner.Scan.{finish, onward, scan, step, marked, stopped}
-use Rattle.cs_base.proofs.LineCuts.{cut_at, line_len}
+use Rattle.cs_csd.specs.declared.line.LineMark.TheVariants as mark
+use Rattle.cs_base.specs.declared.fault.CsdKind.TheVariants as kind
+use Rattle.cs_csd.specs.declared.scan.ScanState.TheVariants as state
 
 -- a section's part where it is opened
 abbrev opens_at : Line → Part
@@ -179,9 +175,6 @@ pub record Read (text : List ℕ) (s : ScanState) (number at : ℕ) : Type 0 whe
   pub lines : number + length (lines_from number at (drop at text)) ≡ 1 + length (lines_of 1 text)
   pub scan : scan (last_line text) s (lines_from number at (drop at text)) ≡ scan (last_line text) state.Before
       (lines_of 1 text)
-
-pub nothing_read : (text : List ℕ) → Read text state.Before 1 0
-nothing_read text = record { within = omega arith; few = omega arith; some = omega arith; lines = refl; scan = refl }
 
 -- the line at a place, and those after it
 here_and_on : (text : List ℕ) (n at : ℕ) → at < length text

@@ -2,9 +2,8 @@
 use Rattle.std.specs.Prelude.{ℕ, Bool, List, ◌&&◌, ◌||◌, codes, drop, length, max, if◌then◌else◌}
 use Rattle.std.specs.List.{list_all, prefix_len}
 use Rattle.cs_base.specs.Lines.{begins_with, is_blank, lines_of}
-use Rattle.cs_csd.specs.declared.line.LineMark.{LineMark}
+use Rattle.cs_csd.specs.{declared.line.LineMark.LineMark, declared.line.Section.Section}
 use Rattle.cs_csd.specs.declared.line.LineMark.TheVariants as mark
-use Rattle.cs_csd.specs.declared.line.Section.{Section}
 use Rattle.cs_csd.specs.declared.line.Section.TheVariants as section
 
 -- the number of a text's last line; an empty text has one line

@@ -1,19 +1,14 @@
 -- How a file is read: what its sections are, or its first fault. Each file has exactly one reading.
-use Rattle.std.specs.Prelude.{◌≡◌, ℕ, Bool, true, false, List, [], ◌∷◌, ◌+◌, ◌++◌, length, Some, None, unwrap_or}
-use Rattle.std.specs.Prelude.{take, Result, Ok, Err}
-use Rattle.std.specs.List.{All}
-use Rattle.std.specs.Option.{is_some}
-use Rattle.cs_csd.specs.declared.line.LineMark.TheVariants as mark
-use Rattle.cs_csd.specs.declared.line.Section.{Section}
-use Rattle.cs_csd.specs.declared.line.Section.TheVariants as section
-use Rattle.cs_base.specs.declared.fault.CsdFault.{CsdFault}
-use Rattle.cs_base.specs.declared.fault.CsdKind.{CsdKind}
-use Rattle.cs_base.specs.declared.fault.CsdKind.TheVariants as kind
-use Rattle.cs_csd.specs.declared.part.Part.{Part}
-use Rattle.cs_csd.specs.declared.part.Parts.{Parts}
+use Rattle.std.specs.Prelude.{◌≡◌, ℕ, Bool, true, false, List, [], ◌∷◌, ◌+◌, ◌++◌, length, Some, None, unwrap_or, take}
+use Rattle.std.specs.{Prelude.Result, Prelude.Ok, Prelude.Err, List.All, Option.is_some}
+use Rattle.cs_csd.specs.{declared.line.Section.Section, declared.part.Part.Part, declared.part.Parts.Parts}
+use Rattle.cs_base.specs.{declared.fault.CsdFault.CsdFault, declared.fault.CsdKind.CsdKind}
 use Rattle.cs_csd.specs.declared.scan.SectionsFound.{SectionsFound}
 use Rattle.cs_base.specs.Lines.{Line, line_after, lines_of}
 use Rattle.cs_csd.specs.Lines.{last_line, mark_of, closes, is_start}
+use Rattle.cs_csd.specs.declared.line.LineMark.TheVariants as mark
+use Rattle.cs_csd.specs.declared.line.Section.TheVariants as section
+use Rattle.cs_base.specs.declared.fault.CsdKind.TheVariants as kind
 
 abbrev pub fault : CsdKind → ℕ → CsdFault
 fault k line = record { line = line; kind = k }

@@ -2,47 +2,33 @@
 use Rattle.std.proofs.Common.{◌≡◌, ◌≢◌, ◌∙◌, ◌&&◌, not, ℕ, Bool, true, false, List, [], ◌∷◌, Some, None, Ok, Err}
 use Rattle.std.proofs.Common.{if◌then◌else◌, refl, sym, ap, subst}
 use Rattle.std.specs.List.{All}
-use Rattle.std.proofs.lemmas.Bool.{and_parts}
-use Rattle.std.proofs.lemmas.List.Elements.{All-nil, All-cons}
-use Rattle.std.proofs.lemmas.Slice.Eq.{bytes_eq-Decides}
+use Rattle.std.proofs.lemmas.{Bool.and_parts, List.Elements.All-nil, List.Elements.All-cons, Slice.Eq.bytes_eq-Decides}
 use Rattle.cs_base.specs.declared.fault.OrcFault.{OrcFault}
-use Rattle.cs_base.specs.declared.fault.OrcKind.TheVariants as orc
 use Rattle.cs_words.specs.declared.catalogue.Opcode.{Opcode}
-use Rattle.cs_words.specs.declared.catalogue.Opcode.TheVariants as opcode
-use Rattle.cs_words.specs.declared.word.Word.{Word}
-use Rattle.cs_words.specs.declared.word.Word.TheVariants as word
-use Rattle.cs_words.specs.Catalogue.{row_of}
-use Rattle.cs_words.specs.Words.{word_of}
-use Rattle.cs_words.proofs.Fields.{name_begins, field_numbers}
-use Rattle.cs_words.proofs.Apart.{opcode_read}
-use Rattle.cs_grammar.specs.declared.symbol.Kind.{Kind}
-use Rattle.cs_grammar.specs.declared.symbol.Kind.TheVariants as kind
-use Rattle.cs_grammar.specs.declared.symbol.Expected.{Expected}
-use Rattle.cs_grammar.specs.declared.symbol.Expected.TheVariants as expected
-use Rattle.cs_grammar.specs.declared.scope.Place.{Place}
-use Rattle.cs_grammar.specs.declared.scope.Place.TheVariants as place
-use Rattle.cs_grammar.specs.declared.expr.Level.{Level}
-use Rattle.cs_grammar.specs.declared.tree.Callee.{Callee}
-use Rattle.cs_grammar.specs.declared.tree.Callee.TheVariants as callee
-use Rattle.cs_grammar.specs.declared.lists.Role.{Role}
-use Rattle.cs_grammar.specs.declared.lists.Role.TheVariants as role
-use Rattle.cs_words.specs.NameSets.{has}
-use Rattle.cs_grammar.specs.Symbols.{Symbol}
-use Rattle.cs_grammar.specs.Kinds.{is_word, is_name_kind, may_be_opcode}
+use Rattle.cs_words.specs.{declared.word.Word.Word, Catalogue.row_of, Words.word_of, NameSets.has}
+use Rattle.cs_words.proofs.{Fields.name_begins, Fields.field_numbers, Apart.opcode_read}
+use Rattle.cs_grammar.specs.{declared.symbol.Kind.Kind, declared.symbol.Expected.Expected, declared.scope.Place.Place}
+use Rattle.cs_grammar.specs.{declared.expr.Level.Level, declared.tree.Callee.Callee, declared.lists.Role.Role}
+use Rattle.cs_grammar.specs.{Symbols.Symbol, Kinds.is_word, Kinds.is_name_kind, Kinds.may_be_opcode, WellFormed.MayCall}
 use Rattle.cs_grammar.specs.Tree.{Expression, var, neg, pair, pick, apply, Argument, value}
 use Rattle.cs_grammar.specs.Reading.{next, after, Left, Reading, left, mapped, both, three, skip, next_is, Scope, fault}
 use Rattle.cs_grammar.specs.Reading.{misfit, through, ended, line_end}
 use Rattle.cs_grammar.specs.Parts.{is_variable, single, single_or, no_part, one_symbol, atom}
-use Rattle.cs_grammar.specs.Lines.{no_target, target, ReadsTargets, no_target_there, last_target, more_targets, is_own}
-use Rattle.cs_grammar.specs.Lines.{is_outside, is_other_text}
-use Rattle.cs_grammar.specs.Lines.{by_opcode, called, operation_of, operation}
+use Rattle.cs_grammar.specs.Lines.{no_target, target, ReadsRow, no_item, last_item, more_items, one_target, is_own}
+use Rattle.cs_grammar.specs.Lines.{is_outside, is_other_text, by_opcode, called, operation_of, operation}
 use Rattle.cs_grammar.specs.Grammar.{ReadsExpr, binary, expr_stop, fact_neg, fact_call, fact_group, fact_pick}
-use Rattle.cs_grammar.specs.Grammar.{fact_alone, ReadsTail, no_more, one_more}
-use Rattle.cs_grammar.specs.Grammar.{one_alone, ReadsArg, arg_text, text_result, arg_value, ReadsList, list_stop}
-use Rattle.cs_grammar.specs.Grammar.{list_last, list_more, ReadsArgs, args_stop}
-use Rattle.cs_grammar.specs.Grammar.{args_none, args_some}
+use Rattle.cs_grammar.specs.Grammar.{fact_alone, ReadsTail, no_more, one_more, one_alone, ReadsArg, arg_text}
+use Rattle.cs_grammar.specs.Grammar.{text_result, arg_value, ReadsList, list_stop, list_last, list_more, ReadsArgs}
+use Rattle.cs_grammar.specs.Grammar.{args_stop, args_none, args_some}
 use Rattle.cs_grammar.specs.WellFormed.{HasNoStop, IsCall, IsVariable, WellFormedExpr, WellFormedArg, WellFormedValue}
-use Rattle.cs_grammar.specs.WellFormed.{MayCall}
+use Rattle.cs_base.specs.declared.fault.OrcKind.TheVariants as orc
+use Rattle.cs_words.specs.declared.catalogue.Opcode.TheVariants as opcode
+use Rattle.cs_words.specs.declared.word.Word.TheVariants as word
+use Rattle.cs_grammar.specs.declared.symbol.Kind.TheVariants as kind
+use Rattle.cs_grammar.specs.declared.symbol.Expected.TheVariants as expected
+use Rattle.cs_grammar.specs.declared.scope.Place.TheVariants as place
+use Rattle.cs_grammar.specs.declared.tree.Callee.TheVariants as callee
+use Rattle.cs_grammar.specs.declared.lists.Role.TheVariants as role
 
 -- a word is what its bytes say
 abbrev pub IsWord : Symbol → Type 0
@@ -294,16 +280,16 @@ module _ (Q : List Symbol → Type 0) (closed : (ts : List Symbol) → Q ts → 
   at_target : (s : Scope) (ts us : List Symbol) (n : List ℕ) → target s ts ≡ Ok (n, us) → Q ts → IsVariable n × Q us
   at_target s ts us n e q = subst (Fine Q IsVariable) e (fine_target s ts q)
 
-  pub fine_targets : {s : Scope} {ts : List Symbol} {o : Reading (List (List ℕ))} → ReadsTargets s ts o → Q ts
-      → Fine Q (All IsVariable) o
-  fine_targets (no_target_there e) q = tt
-  fine_targets {s} (last_target {ts} {us} {n} e c) q =
+  pub fine_targets : (s : Scope) {before : List (List ℕ)} {ts : List Symbol} {o : Reading (List (List ℕ))}
+      → ReadsRow (one_target s) before ts o → Q ts → Fine Q (All IsVariable) o
+  fine_targets s (no_item e) q = tt
+  fine_targets s (last_item {ts = ts} {us = us} {x = n} e c) q =
       let h = at_target s ts us n e q in
       (All-cons IsVariable n [] h.0 (All-nil IsVariable), h.1)
-  fine_targets {s} (more_targets {ts} {us} {n} {out} e c k) q =
+  fine_targets s (more_items {ts = ts} {us = us} {x = n} {out = out} e c k) q =
       let h = at_target s ts us n e q in
       fine_mapped (All IsVariable) (All IsVariable) (λ ns. n ∷ ns) (λ ns x. All-cons IsVariable n ns h.0 x) out
-      (fine_targets k (closed us h.1))
+      (fine_targets s k (closed us h.1))
 
   -- ---- what is called
 
@@ -348,11 +334,7 @@ module _ (Q : List Symbol → Type 0) (closed : (ts : List Symbol) → Q ts → 
   fine_word s ts q (word.Opcode o) i = fine_opcode s ts q o
   fine_word s ts q (word.Keyword k) i = tt
   fine_word s ts q word.Foreign i = tt
-  fine_word s ts q (word.Header h) i = fine_called s ts (word.Header h) q i refl
-  fine_word s ts q (word.Func f) i = fine_called s ts (word.Func f) q i refl
-  fine_word s ts q (word.Field k) i = fine_called s ts (word.Field k) q i refl
-  fine_word s ts q word.Name i = fine_called s ts word.Name q i refl
-  fine_word s ts q word.Other i = fine_called s ts word.Other q i refl
+  fine_word s ts q w i = fine_called s ts w q i refl
 
   pub fine_operation : (s : Scope) (st : Left) → Kept Q st → Fine Q (IsCall s.place s.own) (operation s st)
   fine_operation s (Err f) q = tt

@@ -1,58 +1,39 @@
 -- What is read is sound: definitions, instruments, orchestras.
 use Rattle.std.proofs.Common.{◌≡◌, ◌≢◌, ◌∙◌, ◌++◌, ◌==◌, not, ℕ, suc, Bool, true, false, List, [], ◌∷◌, length, map, Ok}
-use Rattle.std.proofs.Common.{Err, nat_le}
-use Rattle.std.proofs.Common.{if◌then◌else◌, refl, arith, sym, ap, subst}
-use Rattle.std.specs.Prelude.{slice_index_or}
-use Rattle.std.specs.Str.{bytes_eq}
-use Rattle.std.proofs.lemmas.Bool.Decides.{Decides-eqb}
-use Rattle.std.specs.List.{All, AllPairs}
+use Rattle.std.proofs.Common.{Err, nat_le, if◌then◌else◌, refl, arith, sym, ap, subst}
+use Rattle.std.specs.{Prelude.slice_index_or, Str.bytes_eq, List.All, List.AllPairs}
+use Rattle.std.proofs.lemmas.{Bool.Decides.Decides-eqb, List.Kept.AllPairs-cons}
 use Rattle.std.proofs.lemmas.Bool.{and_parts, or_parts, not-true}
 use Rattle.std.proofs.lemmas.List.Elements.{All-nil, All-cons, All-head, All-tail, All-append, All-weaker}
-use Rattle.std.proofs.lemmas.List.Kept.{AllPairs-cons}
-use Rattle.cs_base.specs.declared.fault.OrcKind.TheVariants as orc
 use Rattle.cs_base.specs.declared.resource.Rate.{Rate}
-use Rattle.cs_lex.specs.declared.token.Mark.{Mark}
-use Rattle.cs_lex.specs.declared.token.Mark.TheVariants as mark
-use Rattle.cs_lex.specs.declared.token.Token.{Token}
-use Rattle.cs_words.specs.declared.word.Word.{Word}
+use Rattle.cs_lex.specs.{declared.token.Mark.Mark, declared.token.Token.Token}
+use Rattle.cs_words.specs.{declared.word.Word.Word, NameSets.has, Words.word_of, declared.word.HeadName.HeadName}
 use Rattle.cs_words.specs.Names.{is_global, name_rate, letter_rate}
-use Rattle.cs_words.specs.NameSets.{has}
-use Rattle.cs_words.specs.Words.{word_of}
-use Rattle.cs_grammar.specs.declared.symbol.Kind.{Kind}
+use Rattle.cs_grammar.specs.{declared.symbol.Kind.Kind, declared.tree.HeadLine.HeadLine, Kinds.is_word}
+use Rattle.cs_grammar.specs.{Kinds.may_be_opcode, Parts.is_variable, Lines.header_of, Lines.header_line, Headings.types}
+use Rattle.cs_grammar.specs.Symbols.{Symbol, symbols_from, kind_after, kind_of_mark, unquoted, counted, bytes_of}
+use Rattle.cs_grammar.specs.Tree.{Argument, Statement, Block, Instrument, Definition, Orchestra}
+use Rattle.cs_grammar.specs.Reading.{next, after, Left, Reading, left, both, three, Scope, outside, in_instrument}
+use Rattle.cs_grammar.specs.Reading.{in_definition, has_number, fault, misfit, through, ended}
+use Rattle.cs_grammar.specs.Headings.{Heading, heading_of, heading, new_name, no_name_kind, is_number_zero, is_letters}
+use Rattle.cs_grammar.specs.Inputs.{XinLine, one_word, more_words, is_local, texts, AreDifferent, ReadsInputs, named}
+use Rattle.cs_grammar.specs.Inputs.{misnamed, xin_alone, no_inputs, xin_missing}
+use Rattle.cs_grammar.specs.Orchestra.{instrument_of, ReadsInstr, instr, ReadsXout, xout, ReadsResult, result_stop}
+use Rattle.cs_grammar.specs.Orchestra.{no_result, xout_missing, xout_broken, xout_uneven, xout_last, xout_not_last}
+use Rattle.cs_grammar.specs.Orchestra.{definition_of, own_scope, ReadsDefinition, no_heading, udo, with_header}
+use Rattle.cs_grammar.specs.Orchestra.{with_instr, with_definition, with_stmt, defined_by, given_by, ReadsOrc, orc_stop}
+use Rattle.cs_grammar.specs.Orchestra.{orc_end, orc_header, orc_instr, orc_udo, orc_stmt}
+use Rattle.cs_grammar.specs.WellFormed.{HasNoStop, IsVariable, line_of, WellFormedStmt, WellFormedBlock}
+use Rattle.cs_grammar.specs.WellFormed.{WellFormedValue, WellFormedInstrument, WellFormedDefinition, all_numbers}
+use Rattle.cs_grammar.proofs.OneXin.{has_snoc, differs}
+use Rattle.cs_grammar.proofs.Fine.{IsWord, Fine, Kept, kept, may_be_stopless, variable_named, fine_both, fine_three}
+use Rattle.cs_grammar.proofs.Fine.{fine_through, fine_ended, fine_line, weakened, fine_list}
+use Rattle.cs_grammar.proofs.FineStmt.{fine_stmt, fine_block, NumbersFrom, fine_numbers, has_append}
+use Rattle.cs_base.specs.declared.fault.OrcKind.TheVariants as orc
+use Rattle.cs_lex.specs.declared.token.Mark.TheVariants as mark
 use Rattle.cs_grammar.specs.declared.symbol.Kind.TheVariants as kind
 use Rattle.cs_grammar.specs.declared.symbol.Expected.TheVariants as expected
 use Rattle.cs_grammar.specs.declared.scope.Place.TheVariants as place
-use Rattle.cs_grammar.specs.declared.tree.HeadLine.{HeadLine}
-use Rattle.cs_words.specs.declared.word.HeadName.{HeadName}
-use Rattle.cs_grammar.specs.Symbols.{Symbol, symbols_from, kind_after, kind_of_mark, unquoted, counted, bytes_of}
-use Rattle.cs_grammar.specs.Kinds.{is_word, may_be_opcode}
-use Rattle.cs_grammar.specs.Tree.{Argument, Statement, Block, Instrument, Definition, Orchestra}
-use Rattle.cs_grammar.specs.Reading.{next, after, Left, Reading, left, both, three, Scope, outside, in_instrument}
-use Rattle.cs_grammar.specs.Reading.{in_definition, has_number}
-use Rattle.cs_grammar.specs.Reading.{fault, misfit, through, ended}
-use Rattle.cs_grammar.specs.Parts.{is_variable}
-use Rattle.cs_grammar.specs.Lines.{header_of, header_line}
-use Rattle.cs_grammar.specs.Headings.{Heading, heading_of, heading, new_name, no_name_kind, is_number_zero, is_letters}
-use Rattle.cs_grammar.specs.Headings.{types}
-use Rattle.cs_grammar.specs.Inputs.{XinLine, one_word, more_words, is_local, texts, AreDifferent, ReadsInputs, named}
-use Rattle.cs_grammar.specs.Inputs.{misnamed, xin_alone}
-use Rattle.cs_grammar.specs.Inputs.{no_inputs, xin_missing}
-use Rattle.cs_grammar.specs.Orchestra.{instrument_of, ReadsInstr, instr, ReadsXout, xout, ReadsResult, result_stop}
-use Rattle.cs_grammar.specs.Orchestra.{no_result, xout_missing, xout_broken}
-use Rattle.cs_grammar.specs.Orchestra.{xout_uneven, xout_last, xout_not_last, definition_of, own_scope, ReadsDefinition}
-use Rattle.cs_grammar.specs.Orchestra.{no_heading, udo}
-use Rattle.cs_grammar.specs.Orchestra.{with_header, with_instr, with_definition, with_stmt, defined_by, given_by}
-use Rattle.cs_grammar.specs.Orchestra.{ReadsOrc, orc_stop, orc_end, orc_header}
-use Rattle.cs_grammar.specs.Orchestra.{orc_instr, orc_udo, orc_stmt}
-use Rattle.cs_grammar.specs.WellFormed.{HasNoStop, IsVariable, line_of, WellFormedStmt, WellFormedBlock}
-use Rattle.cs_grammar.specs.WellFormed.{WellFormedValue, WellFormedInstrument}
-use Rattle.cs_grammar.specs.WellFormed.{WellFormedDefinition}
-use Rattle.cs_grammar.specs.WellFormed.{all_numbers}
-use Rattle.cs_grammar.proofs.OneXin.{has_snoc, differs}
-use Rattle.cs_grammar.proofs.Fine.{IsWord, Fine, Kept, kept, may_be_stopless, variable_named, fine_both}
-use Rattle.cs_grammar.proofs.Fine.{fine_three}
-use Rattle.cs_grammar.proofs.Fine.{fine_through, fine_ended, fine_line, weakened, fine_list}
-use Rattle.cs_grammar.proofs.FineStmt.{fine_stmt, fine_block, NumbersFrom, fine_numbers, has_append}
 
 -- ---- the symbols of tokens are what their bytes say
 
@@ -321,7 +302,7 @@ module _ (Q : List Symbol → Type 0) (closed : (ts : List Symbol) → Q ts → 
       → Fine R (NewInstrument (next ts).line g) o
   fine_instr {d} {g} {ts} (instr {ns = ns} {body = body} n h) q =
       let s = in_instrument d in
-      let fn = fine_numbers Q closed n (closed ts q) in
+      let fn = fine_numbers Q closed (in_instrument d) n (closed ts q) in
       let fe = fine_ended Q closed good (NumbersFrom g) s ns fn in
       let fb = fine_block Q closed good R feed stop weaker h (kept Q (NumbersFrom g) (ended s ns) fe) in
       let made = both (instrument_of (next ts).line) ns body in

@@ -1,51 +1,38 @@
 -- What is read is sound: statements, numbers, the lines of a definition.
 use Rattle.std.proofs.Common.{◌≡◌, ◌≢◌, ◌∙◌, ◌≤◌, ◌<◌, ◌++◌, ◌&&◌, ◌||◌, ◌==◌, ◌%◌, ◌/◌, ℕ, ℤ, pos, Bool, true, false}
-use Rattle.std.proofs.Common.{List, [], ◌∷◌}
-use Rattle.std.proofs.Common.{Option, Some, None, Ok, Err, nat_lt, nat_le, if◌then◌else◌, refl, arith, sym, ap, subst}
+use Rattle.std.proofs.Common.{List, [], ◌∷◌, Option, Some, None, Ok, Err, nat_lt, nat_le, if◌then◌else◌, refl, arith}
+use Rattle.std.proofs.Common.{sym, ap, subst}
 use Rattle.std.specs.List.{All}
 use Rattle.std.proofs.lemmas.Bool.{and_parts, or_parts, ltb-true, leb-true}
-use Rattle.std.proofs.lemmas.Bool.Decides.{Decides-eqb}
+use Rattle.std.proofs.lemmas.{Bool.Decides.Decides-eqb, List.Kept.AllPairs-cons}
 use Rattle.std.proofs.lemmas.List.Elements.{All-nil, All-cons, All-weaker}
-use Rattle.std.proofs.lemmas.List.Kept.{AllPairs-cons}
 use Rattle.cs_base.specs.declared.fault.OrcFault.{OrcFault}
+use Rattle.cs_grammar.specs.{declared.symbol.Kind.Kind, declared.scope.Place.Place, declared.stmt.LineForm.LineForm}
+use Rattle.cs_grammar.specs.{Symbols.Symbol, Reading.fault, Reading.through, Reading.ended, Parts.is_opcode}
+use Rattle.cs_grammar.specs.{Inputs.AreDifferent, WellFormed.WellFormedBlock, WellFormed.WellFormedArms}
+use Rattle.cs_grammar.specs.Tree.{Expression, Statement, call, choose, Block, no_stmt, andthen, Arms, otherwise, arm}
+use Rattle.cs_grammar.specs.Reading.{next, after, Left, Reading, left, mapped, both, three, Scope, deeper, has_number}
+use Rattle.cs_grammar.specs.Lines.{word_form, line_form_of, line_form, target, operation, instrument_number, fresh}
+use Rattle.cs_grammar.specs.Lines.{number_at, ReadsNumbers, no_item, last_item, more_items}
+use Rattle.cs_grammar.specs.Grammar.{assign, ReadsStmt, stmt_assign, stmt_results, stmt_bare, stmt_if, stmt_beyond}
+use Rattle.cs_grammar.specs.Grammar.{stmt_misplaced, ReadsBlock, block_stop, block_end, block_more, ReadsArms, arm_more}
+use Rattle.cs_grammar.specs.Grammar.{ReadsMore, more_stop, more_elseif, more_else, more_endif}
+use Rattle.cs_grammar.specs.WellFormed.{line_of, IsVariable, WellFormedExpr, WellFormedArg, IsCall, WellFormedStmt}
+use Rattle.cs_grammar.proofs.Fine.{IsWord, Fine, Kept, kept, kept_skip, fine_mapped, fine_both, fine_three}
+use Rattle.cs_grammar.proofs.Fine.{fine_through, fine_ended, fine_line, weakened, fine_expr, fine_args, fine_target}
+use Rattle.cs_grammar.proofs.Fine.{fine_targets, fine_operation}
 use Rattle.cs_base.specs.declared.fault.OrcKind.TheVariants as orc
 use Rattle.cs_words.specs.declared.word.Keyword.TheVariants as key
 use Rattle.cs_words.specs.declared.word.Word.TheVariants as word
 use Rattle.cs_words.specs.declared.sign.Sign.TheVariants as sign
-use Rattle.cs_grammar.specs.declared.symbol.Kind.{Kind}
 use Rattle.cs_grammar.specs.declared.symbol.Kind.TheVariants as kind
 use Rattle.cs_grammar.specs.declared.symbol.Expected.TheVariants as expected
-use Rattle.cs_grammar.specs.declared.scope.Place.{Place}
-use Rattle.cs_grammar.specs.declared.stmt.LineForm.{LineForm}
 use Rattle.cs_grammar.specs.declared.stmt.LineForm.TheVariants as form
-use Rattle.cs_grammar.specs.Symbols.{Symbol}
-use Rattle.cs_grammar.specs.Tree.{Expression, Statement, call, choose, Block, no_stmt, andthen, Arms, otherwise, arm}
-use Rattle.cs_grammar.specs.Reading.{next, after, Left, Reading, left, mapped, both, three, Scope, deeper, has_number}
-use Rattle.cs_grammar.specs.Reading.{fault, through, ended}
-use Rattle.cs_grammar.specs.Parts.{is_opcode}
-use Rattle.cs_grammar.specs.Lines.{word_form, line_form_of, line_form, target, operation, instrument_number, fresh}
-use Rattle.cs_grammar.specs.Lines.{number_at, ReadsNumbers}
-use Rattle.cs_grammar.specs.Lines.{no_number, last_number, more_numbers}
-use Rattle.cs_grammar.specs.Grammar.{assign, ReadsStmt, stmt_assign, stmt_results, stmt_bare, stmt_if, stmt_beyond}
-use Rattle.cs_grammar.specs.Grammar.{stmt_misplaced, ReadsBlock, block_stop}
-use Rattle.cs_grammar.specs.Grammar.{block_end, block_more, ReadsArms, arm_more, ReadsMore, more_stop, more_elseif}
-use Rattle.cs_grammar.specs.Grammar.{more_else, more_endif}
-use Rattle.cs_grammar.specs.Inputs.{AreDifferent}
-use Rattle.cs_grammar.specs.WellFormed.{line_of, IsVariable, WellFormedExpr, WellFormedArg, IsCall, WellFormedStmt}
-use Rattle.cs_grammar.specs.WellFormed.{WellFormedBlock, WellFormedArms}
-use Rattle.cs_grammar.proofs.Fine.{IsWord, Fine, Kept, kept, kept_skip, fine_mapped, fine_both, fine_three}
-use Rattle.cs_grammar.proofs.Fine.{fine_through, fine_ended, fine_line}
-use Rattle.cs_grammar.proofs.Fine.{weakened, fine_expr, fine_args, fine_target, fine_targets, fine_operation}
 
 -- ---- an `if` stands inside at most 99 others
 
 no_if : (k : Kind) (b : Bool) → word_form k b ≡ form.Conditional → ⊥
 no_if (kind.Sign sign.Colon) b e = cc
-no_if (kind.Sign sign.Equals) b e = cc
-no_if (kind.Sign sign.PlusEquals) b e = cc
-no_if (kind.Sign sign.Comma) b e = cc
-no_if (kind.Word w) true e = cc
-no_if (kind.Word w) false e = cc
 no_if _ true e = cc
 no_if _ false e = cc
 
@@ -109,7 +96,7 @@ module _ (Q : List Symbol → Type 0) (closed : (ts : List Symbol) → Q ts → 
         ))
         (target s ts) e t v)
     fine_stmt {s} {ts} (stmt_results {names = names} {args = args} f n h) q =
-        let t = fine_targets Q closed good n q in
+        let t = fine_targets Q closed good s n q in
         let p = operation s (left names) in
         let o = fine_operation Q closed good s (left names) (kept Q (All IsVariable) names t) in
         let a = fine_args Q closed good h (kept Q (IsCall s.place s.own) p o) in
@@ -254,10 +241,10 @@ differ xs ys x n h =
     (parts.0, λ q. let k : true ≡ false = sym ((Decides-eqb n x).1 (sym q)) ∙ last.0 in cc)
 
 module _ (Q : List Symbol → Type 0) (closed : (ts : List Symbol) → Q ts → Q (after ts)) where
-  pub fine_numbers : {s : Scope} {given : List ℕ} {ts : List Symbol} {o : Reading (List ℕ)} → ReadsNumbers s given ts o
+  pub fine_numbers : (s : Scope) {given : List ℕ} {ts : List Symbol} {o : Reading (List ℕ)} → ReadsNumbers s given ts o
       → Q ts → Fine Q (NumbersFrom given) o
-  fine_numbers (no_number e) q = tt
-  fine_numbers {s} (last_number {given} {ts} {us} {n} e c) q =
+  fine_numbers s (no_item e) q = tt
+  fine_numbers s (last_item {before = given} {ts = ts} {us = us} {x = n} e c) q =
       let h = number_found Q s given ts us n (next ts).kind (closed ts q) e in (
         record {
           range = All-cons (λ n. (1 ≤ n) × (n ≤ 32767)) n [] h.range (All-nil (λ n. (1 ≤ n) × (n ≤ 32767)));
@@ -266,9 +253,9 @@ module _ (Q : List Symbol → Type 0) (closed : (ts : List Symbol) → Q ts → 
         },
         h.left_over,
       )
-  fine_numbers {s} (more_numbers {given} {ts} {us} {n} {out} e c k) q =
+  fine_numbers s (more_items {before = given} {ts = ts} {us = us} {x = n} {out = out} e c k) q =
       let h = number_found Q s given ts us n (next ts).kind (closed ts q) e in
-      more given n h.range h.apart out (fine_numbers k (closed us h.left_over))
+      more given n h.range h.apart out (fine_numbers s k (closed us h.left_over))
     where
       more : (given : List ℕ) (n : ℕ) → (1 ≤ n) × (n ≤ 32767) → has_number given n ≡ false → (out : Reading (List ℕ))
           → Fine Q (NumbersFrom (given ++ n ∷ [])) out

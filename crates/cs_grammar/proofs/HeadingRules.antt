@@ -1,20 +1,16 @@
 -- The line of `opcode`, the names of `xin` and the results of `xout`, as the parser meets them.
 use Rattle.std.proofs.Common.{◌≡◌, ◌≢◌, ◌∙◌, ◌≤◌, ◌-◌, ◌++◌, ◌&&◌, ℕ, Bool, zero, suc, true, false, List, [], ◌∷◌, Ok}
 use Rattle.std.proofs.Common.{Err, if◌then◌else◌, refl, arith, ap, sym}
-use Rattle.cs_base.specs.declared.fault.OrcFault.{OrcFault}
-use Rattle.cs_base.specs.declared.fault.OrcKind.TheVariants as orc
-use Rattle.cs_base.specs.declared.resource.Rate.{Rate}
+use Rattle.cs_base.specs.{declared.fault.OrcFault.OrcFault, declared.resource.Rate.Rate}
 use Rattle.cs_grammar.proofs.Gives.{left_through, ended_is, ended_mapped, valued}
-use Rattle.cs_grammar.specs.declared.symbol.Expected.TheVariants as expected
 use Rattle.cs_grammar.specs.Headings.{Heading, heading, heading_of, new_name, types}
-use Rattle.cs_grammar.specs.Orchestra.{behind_xout}
+use Rattle.cs_grammar.specs.{Orchestra.behind_xout, Reading.through, Symbols.Symbol, Tree.Argument}
 use Rattle.cs_grammar.specs.Reading.{Left, Reading, Scope, after, both, ended, left, mapped, next, next_is, three}
-use Rattle.cs_grammar.specs.Reading.{through}
-use Rattle.cs_grammar.specs.Symbols.{Symbol}
-use Rattle.cs_grammar.specs.Tree.{Argument}
 use Rattle.cs_grammar.specs.inner.Answers.{last_left, line_past, past, signature}
 use Rattle.cs_grammar.specs.inner.Takes.{after_first, are_inputs, are_results, at_xin, first_fits, is_input, is_none}
 use Rattle.cs_grammar.specs.inner.Takes.{last_line, results_of, words}
+use Rattle.cs_base.specs.declared.fault.OrcKind.TheVariants as orc
+use Rattle.cs_grammar.specs.declared.symbol.Expected.TheVariants as expected
 
 -- ---- the line of `opcode`
 
@@ -77,19 +73,6 @@ signature_line s ts o ws xs ys i st c d e f =
 
 -- ---- the words before `xin`, one by one
 
-pub words_more : (n : ℕ) (ts : List Symbol) → 1 ≤ n → n ≢ 1
-    → words n ts ≡ (next ts).text ∷ words (n - 1) (after (after ts))
-words_more zero ts h k = absurd (omega arith)
-words_more (suc zero) ts h k = absurd (k refl)
-words_more (suc (suc n)) ts h k =
-    ap (λ m. (next ts).text ∷ words m (after (after ts))) (let e : suc n ≡ suc (suc n) - 1 = omega arith in e)
-
-pub at_xin_more : (n : ℕ) (ts : List Symbol) → 1 ≤ n → n ≢ 1 → at_xin n ts ≡ at_xin (n - 1) (after (after ts))
-at_xin_more zero ts h k = absurd (omega arith)
-at_xin_more (suc zero) ts h k = absurd (k refl)
-at_xin_more (suc (suc n)) ts h k =
-    ap (λ m. at_xin m (after (after ts))) (let e : suc n ≡ suc (suc n) - 1 = omega arith in e)
-
 pub are_inputs_step : (s : Scope) (before : List (List ℕ)) (ins : List Rate) (n : ℕ) (ts : List Symbol) → 1 ≤ n
     → are_inputs s before ins n
     ts ≡ (first_fits s before ins (next ts) && are_inputs s (before ++ (next ts).text ∷ []) (after_first ins) (n - 1)
@@ -125,11 +108,6 @@ pub judged_is : (s : Scope) (line : ℕ) (outs : List Rate) (args : List Argumen
     → results_of s line outs (Ok (args, ts)) ≡ valued args st
 judged_is s line outs args ts st e l =
     ap (by_number s line args ts) e ∙ last_by s args ts (next_is expected.Endop ts) ∙ ap (valued args) l
-
-pub unfit_is : (s : Scope) (line : ℕ) (outs : List Rate) (args : List Argument) (ts : List Symbol)
-    → are_results args outs ≡ false
-    → results_of s line outs (Ok (args, ts)) ≡ Err (record { line = line; kind = orc.XinXout })
-unfit_is s line outs args ts e = ap (by_number s line args ts) e
 
 -- ---- the first of the inputs, where it is the last
 

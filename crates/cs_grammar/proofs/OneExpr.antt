@@ -1,32 +1,25 @@
 -- Every text has one reading as an expression of a level. A function with steps to spend computes it: it ends as the
 -- relation says, where the steps suffice.
 use Rattle.std.proofs.Common.{◌≡◌, ◌<◌, ◌≤◌, ◌+◌, ◌*◌, ◌&&◌, ◌∙◌, ℕ, zero, suc, Bool, true, false, List, [], ◌∷◌}
-use Rattle.std.proofs.Common.{length, Option, Some, None, Ok, Err, refl}
-use Rattle.std.proofs.Common.{arith, sym, ap, subst}
+use Rattle.std.proofs.Common.{length, Option, Some, None, Ok, Err, refl, arith, sym, ap, subst}
 use Rattle.cs_base.specs.declared.fault.OrcFault.{OrcFault}
-use Rattle.cs_base.specs.declared.fault.OrcKind.TheVariants as orc
 use Rattle.cs_words.specs.declared.sign.BinOp.{BinOp}
-use Rattle.cs_words.specs.declared.sign.BinOp.TheVariants as b
-use Rattle.cs_grammar.specs.declared.expr.Level.{Level}
-use Rattle.cs_grammar.specs.declared.expr.Level.TheVariants as level
-use Rattle.cs_grammar.specs.declared.symbol.Kind.{Kind}
-use Rattle.cs_grammar.specs.declared.symbol.Kind.TheVariants as kind
-use Rattle.cs_grammar.specs.declared.expr.PartForm.{PartForm}
-use Rattle.cs_grammar.specs.declared.expr.PartForm.TheVariants as part
+use Rattle.cs_grammar.specs.{declared.expr.Level.Level, declared.symbol.Kind.Kind, declared.expr.PartForm.PartForm}
+use Rattle.cs_grammar.specs.{Kinds.is_word, Parts.tighter, Reading.through, Symbols.Symbol}
 use Rattle.cs_grammar.proofs.Sizes.{size, after_size, skip_size, mapped_size, both_size, three_size, choice_size}
 use Rattle.cs_grammar.proofs.Sizes.{through_size}
+use Rattle.cs_grammar.specs.Grammar.{ReadsExpr, ReadsTail, binary, expr_stop, fact_alone, fact_call, fact_group}
+use Rattle.cs_grammar.specs.Grammar.{fact_neg, fact_pick, no_more, one_alone, one_more}
+use Rattle.cs_grammar.specs.Parts.{atom, no_part, operator, operator_of, part_form, rank, repeats, single, single_or}
+use Rattle.cs_grammar.specs.Reading.{Left, Reading, Scope, after, both, left, mapped, meets, next, next_is, skip, three}
+use Rattle.cs_grammar.specs.Tree.{Expression, apply, neg, pair, pick}
+use Rattle.cs_base.specs.declared.fault.OrcKind.TheVariants as orc
+use Rattle.cs_words.specs.declared.sign.BinOp.TheVariants as b
+use Rattle.cs_grammar.specs.declared.expr.Level.TheVariants as level
+use Rattle.cs_grammar.specs.declared.symbol.Kind.TheVariants as kind
+use Rattle.cs_grammar.specs.declared.expr.PartForm.TheVariants as part
 use Rattle.cs_grammar.specs.declared.symbol.Expected.TheVariants as expected
 use Rattle.cs_words.specs.declared.sign.Sign.TheVariants as sign
-use Rattle.cs_grammar.specs.Grammar.{ReadsExpr, ReadsTail, binary, expr_stop, fact_alone, fact_call, fact_group}
-use Rattle.cs_grammar.specs.Grammar.{fact_neg, fact_pick, no_more, one_alone}
-use Rattle.cs_grammar.specs.Grammar.{one_more}
-use Rattle.cs_grammar.specs.Kinds.{is_word}
-use Rattle.cs_grammar.specs.Parts.{atom, no_part, operator, operator_of, part_form, rank, repeats, single, single_or}
-use Rattle.cs_grammar.specs.Parts.{tighter}
-use Rattle.cs_grammar.specs.Reading.{Left, Reading, Scope, after, both, left, mapped, meets, next, next_is, skip, three}
-use Rattle.cs_grammar.specs.Reading.{through}
-use Rattle.cs_grammar.specs.Symbols.{Symbol}
-use Rattle.cs_grammar.specs.Tree.{Expression, apply, neg, pair, pick}
 
 -- what is asked for: an expression, or the operators after one
 pub data Ask : Type 0 where
@@ -165,27 +158,15 @@ rank_of None = 0
 
 rank_less : (l : Level) → rank_of (tighter l) < rank l + 2
 rank_less level.Expr = omega arith
-rank_less level.And = omega arith
-rank_less level.Cmp = omega arith
-rank_less level.Sum = omega arith
-rank_less level.Term = omega arith
-rank_less level.Fact = omega arith
+rank_less l = omega arith
 
 rank_within : (l : Level) → (2 ≤ rank l + 2) × (rank l + 2 < 8)
 rank_within level.Expr = (omega arith, omega arith)
-rank_within level.And = (omega arith, omega arith)
-rank_within level.Cmp = (omega arith, omega arith)
-rank_within level.Sum = (omega arith, omega arith)
-rank_within level.Term = (omega arith, omega arith)
-rank_within level.Fact = (omega arith, omega arith)
+rank_within l = (omega arith, omega arith)
 
 is_fact : (l : Level) → tighter l ≡ None → l ≡ level.Fact
-is_fact level.Expr e = cc
-is_fact level.And e = cc
-is_fact level.Cmp e = cc
-is_fact level.Sum e = cc
-is_fact level.Term e = cc
 is_fact level.Fact e = refl
+is_fact _ e = cc
 
 abbrev weight : Ask → ℕ
 weight (expr l st) = 8 * size st + (rank l + 2)

@@ -1,47 +1,33 @@
 -- Every text has one reading as an instrument, as a definition, as an orchestra.
 use Rattle.std.proofs.Common.{◌≡◌, ◌<◌, ◌≤◌, ◌+◌, ◌∙◌, ◌⊎◌, ◌==◌, ℕ, zero, suc, Bool, true, false, List, [], ◌∷◌}
-use Rattle.std.proofs.Common.{length, not}
-use Rattle.std.proofs.Common.{if◌then◌else◌, Ok, Err, refl, arith, inl, inr, sym, ap, map}
-use Rattle.cs_base.specs.declared.fault.OrcFault.{OrcFault}
-use Rattle.cs_base.specs.declared.fault.OrcKind.{OrcKind}
-use Rattle.cs_base.specs.declared.fault.OrcKind.TheVariants as orc
-use Rattle.cs_base.specs.declared.resource.Rate.{Rate}
+use Rattle.std.proofs.Common.{length, not, if◌then◌else◌, Ok, Err, refl, arith, inl, inr, sym, ap, map}
+use Rattle.cs_base.specs.{declared.fault.OrcFault.OrcFault, declared.fault.OrcKind.OrcKind, declared.resource.Rate.Rate}
 use Rattle.cs_lex.specs.declared.token.Token.{Token}
-use Rattle.cs_words.specs.declared.word.HeadName.{HeadName}
-use Rattle.cs_grammar.specs.declared.symbol.Kind.{Kind}
-use Rattle.cs_grammar.specs.declared.symbol.Kind.TheVariants as kind
-use Rattle.cs_grammar.specs.declared.orc.ItemForm.{ItemForm}
-use Rattle.cs_grammar.specs.declared.orc.ItemForm.TheVariants as item
+use Rattle.cs_words.specs.{declared.word.HeadName.HeadName, NameSets.has, Names.letter_rate}
+use Rattle.cs_grammar.specs.{declared.symbol.Kind.Kind, declared.orc.ItemForm.ItemForm, Headings.types, Kinds.is_word}
+use Rattle.cs_grammar.specs.{Kinds.may_be_opcode, Lines.header_line, Lines.header_of, Symbols.Symbol, Symbols.symbols}
+use Rattle.cs_grammar.specs.{Tree.Argument, Tree.Definition, Tree.Instrument, Tree.Orchestra, inner.Rows.numbers}
 use Rattle.cs_grammar.proofs.Sizes.{size, after_size, both_size, three_size, through_size, ended_size, choice_size}
 use Rattle.cs_grammar.proofs.OneRow.{numbers_less, reads_numbers, numbers_are}
-use Rattle.cs_grammar.proofs.OneXin.{reads_inputs, inputs_are, inputs_size}
+use Rattle.cs_grammar.proofs.{OneXin.reads_inputs, OneXin.inputs_are, OneXin.inputs_size, OneStmt.block_is}
 use Rattle.cs_grammar.proofs.ResultRules.{none_given, given, some_missing, uneven, even}
-use Rattle.cs_grammar.specs.declared.lists.Role.TheVariants as role
 use Rattle.cs_grammar.proofs.OneList.{the_list, reads_list, list_size, list_is}
 use Rattle.cs_grammar.proofs.OneStmt.{the_stmt, reads_stmt, stmt_less, stmt_is, the_block, reads_block, block_size}
-use Rattle.cs_grammar.proofs.OneStmt.{block_is}
-use Rattle.cs_grammar.specs.declared.symbol.Expected.TheVariants as expected
-use Rattle.cs_words.specs.NameSets.{has}
-use Rattle.cs_words.specs.Names.{letter_rate}
 use Rattle.cs_grammar.specs.Headings.{Heading, heading, heading_of, is_letters, is_number_zero, new_name, no_name_kind}
-use Rattle.cs_grammar.specs.Headings.{types}
-use Rattle.cs_grammar.specs.Kinds.{is_word, may_be_opcode}
-use Rattle.cs_grammar.specs.Lines.{header_line, header_of}
 use Rattle.cs_grammar.specs.Orchestra.{ParseFault, Parses, ReadsDefinition, ReadsInstr, ReadsOrc, ReadsResult}
-use Rattle.cs_grammar.specs.Orchestra.{ReadsXout, Tree, behind_xout, defined_by}
-use Rattle.cs_grammar.specs.Orchestra.{definition_of, given_by, instr, instrument_of, item_form, no_heading, no_result}
-use Rattle.cs_grammar.specs.Orchestra.{nothing, orc_end, orc_header}
+use Rattle.cs_grammar.specs.Orchestra.{ReadsXout, Tree, behind_xout, defined_by, definition_of, given_by, instr}
+use Rattle.cs_grammar.specs.Orchestra.{instrument_of, item_form, no_heading, no_result, nothing, orc_end, orc_header}
 use Rattle.cs_grammar.specs.Orchestra.{orc_instr, orc_stmt, orc_stop, orc_udo, own_scope, result_stop, udo}
-use Rattle.cs_grammar.specs.Orchestra.{with_definition, with_header, with_instr}
-use Rattle.cs_grammar.specs.Orchestra.{with_stmt, xout, xout_broken, xout_last, xout_missing, xout_not_last}
-use Rattle.cs_grammar.specs.Orchestra.{xout_uneven}
+use Rattle.cs_grammar.specs.Orchestra.{with_definition, with_header, with_instr, with_stmt, xout, xout_broken}
+use Rattle.cs_grammar.specs.Orchestra.{xout_last, xout_missing, xout_not_last, xout_uneven}
 use Rattle.cs_grammar.specs.Reading.{Left, Reading, Scope, after, both, ended, fault, in_definition, in_instrument}
-use Rattle.cs_grammar.specs.Reading.{left, misfit, next, next_is, outside}
-use Rattle.cs_grammar.specs.Reading.{three, through}
-use Rattle.cs_grammar.specs.Symbols.{Symbol, symbols}
-use Rattle.cs_grammar.specs.Tree.{Argument, Definition, Instrument, Orchestra}
-use Rattle.cs_grammar.specs.inner.Rows.{numbers}
+use Rattle.cs_grammar.specs.Reading.{left, misfit, next, next_is, outside, three, through}
 use Rattle.cs_grammar.specs.inner.Takes.{inputs, is_none, last_line, no_results, results_of}
+use Rattle.cs_base.specs.declared.fault.OrcKind.TheVariants as orc
+use Rattle.cs_grammar.specs.declared.symbol.Kind.TheVariants as kind
+use Rattle.cs_grammar.specs.declared.orc.ItemForm.TheVariants as item
+use Rattle.cs_grammar.specs.declared.lists.Role.TheVariants as role
+use Rattle.cs_grammar.specs.declared.symbol.Expected.TheVariants as expected
 
 -- ---- sizes
 
@@ -142,7 +128,7 @@ pub instr_is : {d : List (List ℕ)} {g : List ℕ} {ts : List Symbol} {o : Read
 unfolding the_instr the_numbers
 instr_is {d} {g} {ts} (instr {ns = ns} n h) =
     ap (λ x. ended (outside d) (through (in_instrument d) expected.Endin (both (instrument_of (next ts).line) x
-    (the_block (in_instrument d) (left (ended (in_instrument d) x)))))) (numbers_are n)
+    (the_block (in_instrument d) (left (ended (in_instrument d) x)))))) (numbers_are (in_instrument d) n)
     ∙ ap (λ b. ended (outside d) (through (in_instrument d) expected.Endin (both (instrument_of (next ts).line) ns b)))
     (block_is h)
 

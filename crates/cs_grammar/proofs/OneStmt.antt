@@ -1,36 +1,28 @@
 -- Every text has one reading as a statement, as statements, as arms.
 use Rattle.std.proofs.Common.{◌≡◌, ◌<◌, ◌≤◌, ◌+◌, ◌*◌, ◌∙◌, ℕ, zero, suc, Bool, true, false, List, [], ◌∷◌, length, Ok}
-use Rattle.std.proofs.Common.{Err, if◌then◌else◌, refl, arith, sym}
-use Rattle.std.proofs.Common.{ap}
-use Rattle.cs_base.specs.declared.fault.OrcKind.TheVariants as orc
-use Rattle.cs_words.specs.declared.catalogue.Opcode.{Opcode}
-use Rattle.cs_words.specs.declared.catalogue.Opcode.TheVariants as opcode
-use Rattle.cs_grammar.specs.declared.symbol.Kind.{Kind}
-use Rattle.cs_grammar.specs.declared.symbol.Kind.TheVariants as kind
-use Rattle.cs_grammar.specs.declared.tree.Callee.{Callee}
-use Rattle.cs_grammar.specs.declared.tree.Callee.TheVariants as callee
-use Rattle.cs_grammar.specs.declared.expr.Level.TheVariants as level
-use Rattle.cs_grammar.specs.declared.stmt.LineForm.{LineForm}
-use Rattle.cs_grammar.specs.declared.stmt.LineForm.TheVariants as form
+use Rattle.std.proofs.Common.{Err, if◌then◌else◌, refl, arith, sym, ap}
+use Rattle.cs_words.specs.{declared.catalogue.Opcode.Opcode, declared.word.Word.Word}
+use Rattle.cs_grammar.specs.{declared.symbol.Kind.Kind, declared.tree.Callee.Callee, declared.stmt.LineForm.LineForm}
+use Rattle.cs_grammar.specs.{Lines.target, Symbols.Symbol, inner.Rows.targets}
 use Rattle.cs_grammar.proofs.Sizes.{size, skip_size, mapped_size, both_size, three_size, through_size, ended_size}
-use Rattle.cs_grammar.proofs.Sizes.{choice_size}
-use Rattle.cs_grammar.proofs.OneExpr.{the_expr, reads_expr, expr_size, expr_is}
+use Rattle.cs_grammar.proofs.{Sizes.choice_size, OneExpr.the_expr, OneExpr.reads_expr, OneExpr.expr_size}
+use Rattle.cs_grammar.proofs.{OneExpr.expr_is, OneList.the_args, OneList.reads_args, OneList.args_size, OneList.args_is}
 use Rattle.cs_grammar.proofs.OneRow.{target_less, targets_less, reads_targets, targets_are}
-use Rattle.cs_grammar.proofs.OneList.{the_args, reads_args, args_size, args_is}
-use Rattle.cs_grammar.specs.declared.symbol.Expected.TheVariants as expected
-use Rattle.cs_words.specs.declared.word.Word.{Word}
-use Rattle.cs_words.specs.declared.word.Word.TheVariants as word
 use Rattle.cs_grammar.specs.Grammar.{ReadsArms, ReadsBlock, ReadsMore, ReadsStmt, arm_more, assign, block_end}
-use Rattle.cs_grammar.specs.Grammar.{block_more, block_stop, ends_block, more_else}
-use Rattle.cs_grammar.specs.Grammar.{more_elseif, more_endif, more_stop, stmt_assign, stmt_bare, stmt_beyond, stmt_if}
-use Rattle.cs_grammar.specs.Grammar.{stmt_misplaced, stmt_results}
+use Rattle.cs_grammar.specs.Grammar.{block_more, block_stop, ends_block, more_else, more_elseif, more_endif, more_stop}
+use Rattle.cs_grammar.specs.Grammar.{stmt_assign, stmt_bare, stmt_beyond, stmt_if, stmt_misplaced, stmt_results}
 use Rattle.cs_grammar.specs.Lines.{by_opcode, is_other_text, is_outside, is_own, line_form, operation, operation_of}
-use Rattle.cs_grammar.specs.Lines.{target}
 use Rattle.cs_grammar.specs.Reading.{Left, Reading, Scope, after, both, deeper, ended, fault, left, mapped, misfit}
 use Rattle.cs_grammar.specs.Reading.{next, next_is, skip, three, through}
-use Rattle.cs_grammar.specs.Symbols.{Symbol}
 use Rattle.cs_grammar.specs.Tree.{Arms, Block, Expression, Statement, andthen, arm, call, choose, no_stmt, otherwise}
-use Rattle.cs_grammar.specs.inner.Rows.{targets}
+use Rattle.cs_base.specs.declared.fault.OrcKind.TheVariants as orc
+use Rattle.cs_words.specs.declared.catalogue.Opcode.TheVariants as opcode
+use Rattle.cs_grammar.specs.declared.symbol.Kind.TheVariants as kind
+use Rattle.cs_grammar.specs.declared.tree.Callee.TheVariants as callee
+use Rattle.cs_grammar.specs.declared.expr.Level.TheVariants as level
+use Rattle.cs_grammar.specs.declared.stmt.LineForm.TheVariants as form
+use Rattle.cs_grammar.specs.declared.symbol.Expected.TheVariants as expected
+use Rattle.cs_words.specs.declared.word.Word.TheVariants as word
 
 -- ---- sizes of the parts of a line
 
@@ -58,11 +50,7 @@ operation_word : (s : Scope) (t : Symbol) (ts : List Symbol) (w : Word)
 operation_word s t ts (word.Opcode o) = operation_opcode s t ts o
 operation_word s t ts (word.Keyword k) = omega arith
 operation_word s t ts word.Foreign = omega arith
-operation_word s t ts (word.Header h) = plain_less s t ts (is_own s t.text s.place)
-operation_word s t ts (word.Func f) = plain_less s t ts (is_own s t.text s.place)
-operation_word s t ts (word.Field n) = plain_less s t ts (is_own s t.text s.place)
-operation_word s t ts word.Name = plain_less s t ts (is_own s t.text s.place)
-operation_word s t ts word.Other = plain_less s t ts (is_own s t.text s.place)
+operation_word s t ts _ = plain_less s t ts (is_own s t.text s.place)
 
 operation_by : (s : Scope) (t : Symbol) (ts : List Symbol) (k : Kind)
     → size (left (operation_of s (t ∷ ts) k)) ≤ suc (length ts)
@@ -169,7 +157,7 @@ mutual
   stmt_settles {s} {ts} (stmt_results {names = names} e n h) = settle 0 (λ m le.
       ap (stmt_by (run m) s ts) e
       ∙ ap (λ y. ended s (three (call (next ts).line) y (operation s (left y))
-      (the_args s (left (operation s (left y)))))) (targets_are n)
+      (the_args s (left (operation s (left y)))))) (targets_are s n)
       ∙ ap (λ x. ended s (three (call (next ts).line) names (operation s (left names)) x)) (args_is h))
   stmt_settles {s} {ts} (stmt_bare e h) = settle 0 (λ m le. ap (stmt_by (run m) s ts) e ∙ ap
       (λ x. ended s (both (call (next ts).line []) (operation s (Ok ts)) x)) (args_is h))

@@ -1,36 +1,24 @@
 -- Every text has one reading as the first line of a definition: what the relation says is what the steps find.
 use Rattle.std.proofs.Common.{◌≡◌, ◌≢◌, ◌∙◌, ◌≤◌, ◌+◌, ◌++◌, ◌&&◌, ◌||◌, not, ℕ, zero, suc, Bool, true, false, List, []}
-use Rattle.std.proofs.Common.{◌∷◌, length, map, Option, Some}
-use Rattle.std.proofs.Common.{None, Ok, Err, if◌then◌else◌, refl, arith, sym, ap, subst}
-use Rattle.std.specs.Prelude.{slice_index_or}
-use Rattle.std.specs.List.{All}
-use Rattle.std.specs.Str.{bytes_eq}
+use Rattle.std.proofs.Common.{◌∷◌, length, map, Option, Some, None, Ok, Err, if◌then◌else◌, refl, arith, sym, ap, subst}
+use Rattle.std.specs.{Prelude.slice_index_or, List.All, Str.bytes_eq}
 use Rattle.std.proofs.lemmas.Bool.{and_parts, and_from, or_parts, not-true, not_from_false, false_from_ne_true}
 use Rattle.std.proofs.lemmas.List.Elements.{All-nil, All-cons, All-head, All-tail, All-weaker}
-use Rattle.std.proofs.lemmas.List.Kept.{AllPairs-cons}
-use Rattle.std.proofs.lemmas.Slice.Eq.{bytes_eq-Decides}
-use Rattle.cs_base.specs.declared.fault.OrcKind.TheVariants as orc
-use Rattle.cs_base.specs.declared.resource.Rate.{Rate}
-use Rattle.cs_base.specs.Rates.{same_rate}
+use Rattle.std.proofs.lemmas.{List.Kept.AllPairs-cons, Slice.Eq.bytes_eq-Decides}
+use Rattle.cs_base.specs.{declared.resource.Rate.Rate, Rates.same_rate}
 use Rattle.cs_base.proofs.Rates.{same_rate_is, same_rate_here}
-use Rattle.cs_words.specs.declared.word.Word.{Word}
+use Rattle.cs_words.specs.{declared.word.Word.Word, Names.name_rate, NameSets.has}
+use Rattle.cs_grammar.specs.{declared.symbol.Kind.Kind, Symbols.Symbol, Kinds.is, Kinds.is_plain, Parts.is_opcode}
+use Rattle.cs_grammar.specs.{Headings.Heading, inner.Takes.taken, inner.Takes.inputs}
+use Rattle.cs_grammar.specs.Reading.{after, Reading, left, next_is, Scope, fault, ended}
+use Rattle.cs_grammar.specs.Inputs.{is_free, XinLine, one_word, more_words, is_local, texts, AreDifferent, NameInputs}
+use Rattle.cs_grammar.specs.Inputs.{ReadsInputs, named, misnamed, xin_alone, no_inputs, xin_missing}
+use Rattle.cs_grammar.specs.inner.Takes.{plus_one, input_count, words, at_xin, is_input, are_inputs, is_none, no_names}
+use Rattle.cs_grammar.proofs.Sizes.{size, after_size, ended_size, choice_size}
+use Rattle.cs_base.specs.declared.fault.OrcKind.TheVariants as orc
 use Rattle.cs_words.specs.declared.word.Word.TheVariants as word
-use Rattle.cs_words.specs.Names.{name_rate}
-use Rattle.cs_words.specs.NameSets.{has}
-use Rattle.cs_grammar.specs.declared.symbol.Kind.{Kind}
 use Rattle.cs_grammar.specs.declared.symbol.Kind.TheVariants as kind
 use Rattle.cs_grammar.specs.declared.symbol.Expected.TheVariants as expected
-use Rattle.cs_grammar.specs.Symbols.{Symbol}
-use Rattle.cs_grammar.specs.Kinds.{is, is_plain}
-use Rattle.cs_grammar.specs.Reading.{after, Reading, left, next_is, Scope, fault, ended}
-use Rattle.cs_grammar.specs.Parts.{is_opcode}
-use Rattle.cs_grammar.specs.Headings.{Heading}
-use Rattle.cs_grammar.specs.Inputs.{is_free, XinLine, one_word, more_words, is_local, texts, AreDifferent, NameInputs}
-use Rattle.cs_grammar.specs.Inputs.{ReadsInputs, named, misnamed}
-use Rattle.cs_grammar.specs.Inputs.{xin_alone, no_inputs, xin_missing}
-use Rattle.cs_grammar.specs.inner.Takes.{plus_one, input_count, words, at_xin, is_input, are_inputs, is_none, no_names}
-use Rattle.cs_grammar.specs.inner.Takes.{taken, inputs}
-use Rattle.cs_grammar.proofs.Sizes.{size, after_size, ended_size, choice_size}
 
 count : List Symbol → ℕ
 count [] = zero

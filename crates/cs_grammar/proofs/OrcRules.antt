@@ -1,40 +1,28 @@
 -- The rules of instruments, definitions and orchestras, as the parser meets them.
-use Rattle.std.proofs.Common.{◌≡◌, ◌∙◌, ◌++◌, ℕ, List, [], ◌∷◌, map, Result, Ok, Err, refl, sym, ap, subst}
+use Rattle.std.proofs.Common.{◌≡◌, ◌∙◌, ◌++◌, ℕ, List, ◌∷◌, map, Result, Ok, Err, refl, sym, ap, subst, []}
 use Rattle.std.proofs.lemmas.List.{append_assoc, append-nil}
-use Rattle.std.specs.Result.{IsErrAnd, IfOk}
-use Rattle.cs_base.specs.declared.fault.Or.{Or}
-use Rattle.cs_base.specs.declared.fault.Or.TheVariants as or
-use Rattle.cs_base.specs.declared.fault.OrcFault.{OrcFault}
-use Rattle.cs_grammar.specs.declared.orc.ItemForm.TheVariants as item
+use Rattle.std.specs.Result.{IsErrAnd}
+use Rattle.cs_base.specs.{declared.fault.Or.Or, declared.fault.OrcFault.OrcFault}
 use Rattle.cs_words.specs.declared.word.HeadName.{HeadName}
-use Rattle.cs_grammar.specs.declared.tree.HeadLine.{HeadLine}
-use Rattle.cs_grammar.specs.declared.tree.OrcStmt.{OrcStmt}
-use Rattle.cs_grammar.specs.declared.tree.Instr.{Instr}
-use Rattle.cs_grammar.specs.declared.tree.Udo.{Udo}
-use Rattle.cs_grammar.specs.declared.tree.Orc.{Orc}
-use Rattle.cs_grammar.proofs.OneRow.{reads_numbers}
-use Rattle.cs_grammar.proofs.OneXin.{reads_inputs}
+use Rattle.cs_grammar.specs.{declared.tree.HeadLine.HeadLine, declared.tree.OrcStmt.OrcStmt, declared.tree.Instr.Instr}
+use Rattle.cs_grammar.specs.{declared.tree.Udo.Udo, declared.tree.Orc.Orc, declared.symbol.Expected.Expected}
+use Rattle.cs_grammar.specs.{Grammar.ReadsBlock, Grammar.ReadsStmt, Grammar.block_stop, Headings.Heading}
+use Rattle.cs_grammar.specs.{Headings.heading, Lines.header_line, Orchestra.with_header, Orchestra.with_instr}
+use Rattle.cs_grammar.specs.{Orchestra.with_stmt, Symbols.Symbol, inner.Rows.numbers, inner.Takes.inputs}
+use Rattle.cs_grammar.proofs.{OneRow.reads_numbers, OneXin.reads_inputs}
 use Rattle.cs_grammar.proofs.Gives.{Same, both_mapped, closing_mapped, line_keeps, through_is, ended_is, valued}
-use Rattle.cs_grammar.specs.declared.symbol.Expected.TheVariants as expected
-use Rattle.cs_grammar.specs.declared.symbol.Expected.{Expected}
-use Rattle.cs_grammar.specs.Grammar.{ReadsBlock, ReadsStmt, block_stop}
-use Rattle.cs_grammar.specs.Headings.{Heading, heading}
-use Rattle.cs_grammar.specs.Lines.{header_line}
 use Rattle.cs_grammar.specs.Orchestra.{ReadsDefinition, ReadsInstr, ReadsOrc, ReadsResult, definition_of, instr}
-use Rattle.cs_grammar.specs.Orchestra.{instrument_of, item_form, no_heading}
-use Rattle.cs_grammar.specs.Orchestra.{nothing, orc_end, orc_header, orc_instr, orc_stmt, orc_stop, orc_udo, own_scope}
-use Rattle.cs_grammar.specs.Orchestra.{result_stop, udo, with_definition}
-use Rattle.cs_grammar.specs.Orchestra.{with_header, with_instr, with_stmt}
+use Rattle.cs_grammar.specs.Orchestra.{instrument_of, item_form, no_heading, nothing, orc_end, orc_header, orc_instr}
+use Rattle.cs_grammar.specs.Orchestra.{orc_stmt, orc_stop, orc_udo, own_scope, result_stop, udo, with_definition}
 use Rattle.cs_grammar.specs.Reading.{Left, Reading, Scope, after, both, ended, in_definition, in_instrument, left}
 use Rattle.cs_grammar.specs.Reading.{mapped, next, outside, three, through}
-use Rattle.cs_grammar.specs.Symbols.{Symbol}
 use Rattle.cs_grammar.specs.Tree.{Argument, Block, Definition, Instrument, Orchestra, Statement, andthen, block}
-use Rattle.cs_grammar.specs.Tree.{definition, instrument, joins, no_stmt}
-use Rattle.cs_grammar.specs.Tree.{orchestra, statement}
+use Rattle.cs_grammar.specs.Tree.{definition, instrument, joins, no_stmt, orchestra, statement}
 use Rattle.cs_grammar.specs.inner.Answers.{Gives, IsInside, IsInstrBody, IsLines, OrcSoFar, Parts, ReadsOn, joined}
 use Rattle.cs_grammar.specs.inner.Answers.{line_past, of_inside, past}
-use Rattle.cs_grammar.specs.inner.Rows.{numbers}
-use Rattle.cs_grammar.specs.inner.Takes.{inputs}
+use Rattle.cs_base.specs.declared.fault.Or.TheVariants as or
+use Rattle.cs_grammar.specs.declared.orc.ItemForm.TheVariants as item
+use Rattle.cs_grammar.specs.declared.symbol.Expected.TheVariants as expected
 
 -- ---- instruments and definitions
 
@@ -105,29 +93,42 @@ pub orc_done : (first now : List Symbol) (o : Orchestra) (d : List (List ℕ)) (
     → ReadsOrc [] [] (Ok first) (Ok (joined o nothing, now))
 orc_done first now o d g h e = h (Ok (nothing, now)) (orc_end e)
 
-pub orc_fails : (first : List Symbol) (old : List Symbol) (o : Orchestra) (d : List (List ℕ)) (g : List ℕ)
-    (f : OrcFault) → OrcSoFar first o d g old
-    → ReadsOrc d g (Ok old) (Err f) → ReadsOrc [] [] (Ok first) (Err f)
-orc_fails first old o d g f h k = h (Err f) k
-
 added : {X : Type 0} (add : X → Orchestra → Orchestra) (x : X) (o p : Orchestra) (mid : List Symbol)
     → ((q : Orchestra) → joined o (add x q) ≡ joined p q)
     → (out : Reading Orchestra) → mapped (joined o) (both add (Ok (x, mid)) out) ≡ mapped (joined p) out
 added add x o p mid e (Ok (q, ts)) = ap (λ r. Ok (r, ts)) (e q)
 added add x o p mid e (Err f) = refl
 
-module _ (first old : List Symbol) (d : List (List ℕ)) (g : List ℕ) (o : Orchestra) (s : OrcSoFar first o d g old) where
+abbrev orchestra_of : List HeadLine → List Definition → Block → List Instrument → Orchestra
+orchestra_of h u z i = record { head = h; opcodes = u; zero = z; instrs = i }
+
+-- an orchestra is read so far, and then one part more, which stands at the end of its list
+module _ (first old : List Symbol) (d : List (List ℕ)) (g : List ℕ) (o : Orc)
+    (s : OrcSoFar first (orchestra o) d g old) where
+  abbrev opcodes : List Definition
+  opcodes = map definition o.opcodes.items
+
+  abbrev zero : Block
+  zero = block o.zero.items
+
+  abbrev instrs : List Instrument
+  instrs = map instrument o.instrs.items
+
   pub header_fails : (h : HeadName) (f : OrcFault) → item_form old ≡ item.Header h
       → header_line (outside d) h old ≡ Err f → ReadsOrc [] [] (Ok first) (Err f)
   header_fails h f e k =
       s (Err f) (subst (λ r. ReadsOrc d g (Ok old) (both with_header r (Err f))) k
       (orc_header e (subst (λ r. ReadsOrc d g (left r) (Err f)) (sym k) orc_stop)))
 
-  pub header_added : (h : HeadName) (x : HeadLine) (now : List Symbol) (p : Orchestra) → item_form old ≡ item.Header h
-      → header_line (outside d) h old ≡ Ok (x, now) → ((q : Orchestra) → joined o (with_header x q) ≡ joined p q)
-      → OrcSoFar first p d g now
-  header_added h x now p e k j out r =
-      subst (ReadsOrc [] [] (Ok first)) (added with_header x o p now j out) (s (both with_header (Ok (x, now)) out)
+  pub header_added : (h : HeadName) (x : HeadLine) (now : List Symbol) (xs : List HeadLine)
+      → xs ≡ o.head.items ++ x ∷ [] → item_form old ≡ item.Header h → header_line (outside d) h old ≡ Ok (x, now)
+      → OrcSoFar first (orchestra_of xs opcodes zero instrs) d g now
+  header_added h x now xs is e k out r =
+      subst (ReadsOrc [] [] (Ok first))
+      (added with_header x (orchestra o) (orchestra_of xs opcodes zero instrs) now
+      (λ q. ap (λ t. orchestra_of t (opcodes ++ q.opcodes) (joins zero q.zero) (instrs ++ q.instrs))
+      (sym (ap (λ t. t ++ q.head) is ∙ append_assoc o.head.items (x ∷ []) q.head))) out)
+      (s (both with_header (Ok (x, now)) out)
       (subst (λ y. ReadsOrc d g (Ok old) (both with_header y out)) k
       (orc_header e (subst (λ y. ReadsOrc d g (left y) out) (sym k) r))))
 
@@ -135,62 +136,47 @@ module _ (first old : List Symbol) (d : List (List ℕ)) (g : List ℕ) (o : Orc
       → ReadsOrc [] [] (Ok first) (Err f)
   instr_fails f e k = s (Err f) (orc_instr e k orc_stop)
 
-  pub instr_added : (x : Instrument) (now : List Symbol) (p : Orchestra) → item_form old ≡ item.Instr
-      → ReadsInstr d g old (Ok (x, now))
-      → ((q : Orchestra) → joined o (with_instr x q) ≡ joined p q) → OrcSoFar first p d (g ++ x.numbers) now
-  instr_added x now p e k j out r = subst (ReadsOrc [] [] (Ok first)) (added with_instr x o p now j out)
-      (s (both with_instr (Ok (x, now)) out) (orc_instr e k r))
+  pub instr_added : (x : Instr) (now : List Symbol) (xs : List Instr) (given : List ℕ)
+      → xs ≡ o.instrs.items ++ x ∷ [] → given ≡ g ++ x.numbers
+      → item_form old ≡ item.Instr → ReadsInstr d g old (Ok (instrument x, now))
+      → OrcSoFar first (orchestra_of o.head.items opcodes zero (map instrument xs)) d given now
+  instr_added x now xs given is more e k out r =
+      subst (ReadsOrc [] [] (Ok first))
+      (added with_instr (instrument x) (orchestra o) (orchestra_of o.head.items opcodes zero (map instrument xs)) now
+      (λ q. ap (λ t. orchestra_of (o.head.items ++ q.head) (opcodes ++ q.opcodes) (joins zero q.zero) t)
+      (sym (ap (λ t. map instrument t ++ q.instrs) is ∙ map_more instrument o.instrs.items x q.instrs))) out)
+      (s (both with_instr (Ok (instrument x, now)) out)
+      (orc_instr e k (subst (λ y. ReadsOrc d y (Ok now) out) more r)))
 
   pub definition_fails : (f : OrcFault) → item_form old ≡ item.Opcode → ReadsDefinition d old (Err f)
       → ReadsOrc [] [] (Ok first) (Err f)
   definition_fails f e k = s (Err f) (orc_udo e k orc_stop)
 
-  pub definition_added : (x : Definition) (now : List Symbol) (p : Orchestra) → item_form old ≡ item.Opcode
-      → ReadsDefinition d old (Ok (x, now))
-      → ((q : Orchestra) → joined o (with_definition x q) ≡ joined p q) → OrcSoFar first p (d ++ x.name ∷ []) g now
-  definition_added x now p e k j out r = subst (ReadsOrc [] [] (Ok first)) (added with_definition x o p now j out)
-      (s (both with_definition (Ok (x, now)) out) (orc_udo e k r))
+  pub definition_added : (x : Udo) (now : List Symbol) (xs : List Udo) (names : List (List ℕ))
+      → xs ≡ o.opcodes.items ++ x ∷ [] → names ≡ d ++ x.name ∷ []
+      → item_form old ≡ item.Opcode → ReadsDefinition d old (Ok (definition x, now))
+      → OrcSoFar first (orchestra_of o.head.items (map definition xs) zero instrs) names g now
+  definition_added x now xs names is more e k out r =
+      let p = orchestra_of o.head.items (map definition xs) zero instrs in
+      subst (ReadsOrc [] [] (Ok first)) (added with_definition (definition x) (orchestra o) p now
+      (λ q. ap (λ t. orchestra_of (o.head.items ++ q.head) t (joins zero q.zero) (instrs ++ q.instrs))
+      (sym (ap (λ t. map definition t ++ q.opcodes) is ∙ map_more definition o.opcodes.items x q.opcodes))) out)
+      (s (both with_definition (Ok (definition x, now)) out)
+      (orc_udo e k (subst (λ y. ReadsOrc y g (Ok now) out) more r)))
 
   pub stmt_fails : (f : OrcFault) → item_form old ≡ item.Statement → ReadsStmt (outside d) old (Err f)
       → ReadsOrc [] [] (Ok first) (Err f)
   stmt_fails f e k = s (Err f) (orc_stmt e k orc_stop)
 
-  pub stmt_added : (x : Statement) (now : List Symbol) (p : Orchestra) → item_form old ≡ item.Statement
-      → ReadsStmt (outside d) old (Ok (x, now))
-      → ((q : Orchestra) → joined o (with_stmt x q) ≡ joined p q) → OrcSoFar first p d g now
-  stmt_added x now p e k j out r =
-      subst (ReadsOrc [] [] (Ok first)) (added with_stmt x o p now j out)
-      (s (both with_stmt (Ok (x, now)) out) (orc_stmt e k r))
-
--- ---- an orchestra with one part more at an end
-
-abbrev orchestra_of : List HeadLine → List Definition → Block → List Instrument → Orchestra
-orchestra_of h u z i = record { head = h; opcodes = u; zero = z; instrs = i }
-
-pub head_pushed : (h : List HeadLine) (x : HeadLine) (u : List Definition) (z : Block) (i : List Instrument)
-    (q : Orchestra)
-    → joined (orchestra_of h u z i) (with_header x q) ≡ joined (orchestra_of (h ++ x ∷ []) u z i) q
-head_pushed h x u z i q =
-    ap (λ k. orchestra_of k (u ++ q.opcodes) (joins z q.zero) (i ++ q.instrs)) (sym (append_assoc h (x ∷ []) q.head))
-
-pub instr_pushed : (h : List HeadLine) (u : List Definition) (z : Block) (i : List Instr) (x : Instr) (q : Orchestra)
-    → joined (orchestra_of h u z (map instrument i)) (with_instr (instrument x) q) ≡ joined
-    (orchestra_of h u z (map instrument (i ++ x ∷ []))) q
-instr_pushed h u z i x q =
-    ap (λ k. orchestra_of (h ++ q.head) (u ++ q.opcodes) (joins z q.zero) k) (sym (map_more instrument i x q.instrs))
-
-pub definition_pushed : (h : List HeadLine) (u : List Udo) (x : Udo) (z : Block) (i : List Instrument) (q : Orchestra)
-    → joined (orchestra_of h (map definition u) z i) (with_definition (definition x) q) ≡ joined
-    (orchestra_of h (map definition (u ++ x ∷ [])) z i) q
-definition_pushed h u x z i q =
-    ap (λ k. orchestra_of (h ++ q.head) k (joins z q.zero) (i ++ q.instrs)) (sym (map_more definition u x q.opcodes))
-
-pub stmt_pushed : (h : List HeadLine) (u : List Definition) (z : List OrcStmt) (x : OrcStmt) (i : List Instrument)
-    (q : Orchestra)
-    → joined (orchestra_of h u (block z) i) (with_stmt (statement x) q) ≡ joined
-    (orchestra_of h u (block (z ++ x ∷ [])) i) q
-stmt_pushed h u z x i q =
-    ap (λ k. orchestra_of (h ++ q.head) (u ++ q.opcodes) k (i ++ q.instrs)) (sym (joins_more z x q.zero))
+  pub stmt_added : (x : OrcStmt) (now : List Symbol) (xs : List OrcStmt) → xs ≡ o.zero.items ++ x ∷ []
+      → item_form old ≡ item.Statement → ReadsStmt (outside d) old (Ok (statement x, now))
+      → OrcSoFar first (orchestra_of o.head.items opcodes (block xs) instrs) d g now
+  stmt_added x now xs is e k out r =
+      subst (ReadsOrc [] [] (Ok first))
+      (added with_stmt (statement x) (orchestra o) (orchestra_of o.head.items opcodes (block xs) instrs) now
+      (λ q. ap (λ t. orchestra_of (o.head.items ++ q.head) (opcodes ++ q.opcodes) t (instrs ++ q.instrs))
+      (sym (ap (λ t. joins (block t) q.zero) is ∙ joins_more o.zero.items x q.zero))) out)
+      (s (both with_stmt (Ok (statement x, now)) out) (orc_stmt e k r))
 
 all_joined : (h : List HeadLine) (u : List Definition) (z : Block) (i : List Instrument)
     → joined (orchestra_of h u z i) nothing ≡ orchestra_of h u z i
@@ -330,24 +316,6 @@ definition_reads d ts us h o e (p, (n, b, r, i, k, j, w), l) =
     (udo_is d ts us h n b r e i k j)
 
 -- ---- what parse answers
-
-pub orc_tree : (r : Result Orc (Or OrcFault)) (rest first : List Symbol)
-    → Gives orchestra r rest (ReadsOrc [] [] (Ok first))
-    → IfOk r (λ o. (left_over : List Symbol) × ReadsOrc [] [] (Ok first) (Ok (orchestra o, left_over)))
-orc_tree (Ok o) rest first h = (rest, h)
-orc_tree (Err (or.Fault f)) rest first h = tt
-orc_tree (Err or.OutOfMemory) rest first h = tt
-
-abbrev fault_of : OrcFault → Result Orc (Or OrcFault) → OrcFault
-fault_of f (Err (or.Fault g)) = g
-fault_of f _ = f
-
-pub orc_fault : (r : Result Orc (Or OrcFault)) (rest first : List Symbol)
-    → Gives orchestra r rest (ReadsOrc [] [] (Ok first)) → (f : OrcFault)
-    → r ≡ Err (or.Fault f) → ReadsOrc [] [] (Ok first) (Err f)
-orc_fault (Ok o) rest first h f e = cc
-orc_fault (Err (or.Fault g)) rest first h f e = subst (λ x. ReadsOrc [] [] (Ok first) (Err x)) (ap (fault_of f) e) h
-orc_fault (Err or.OutOfMemory) rest first h f e = cc
 
 pub failed_orc : (U : Type 0) (r : Result Orc (Or OrcFault)) (e : Or OrcFault) (rest first : List Symbol)
     (so_far : Type 0) → IsErrAnd r (Same e)

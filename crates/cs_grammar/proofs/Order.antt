@@ -1,54 +1,40 @@
 -- The lines of what is read ascend, where those of the symbols do.
-use Rattle.std.proofs.Common.{◌≡◌, ◌∙◌, ◌≤◌, ◌<◌, ◌++◌, ℕ, suc, Bool, true, false, List, [], ◌∷◌, Ok, Err}
-use Rattle.std.proofs.Common.{if◌then◌else◌, refl, arith, sym, ap}
-use Rattle.std.proofs.Common.{subst}
+use Rattle.std.proofs.Common.{◌≡◌, ◌∙◌, ◌≤◌, ◌<◌, ◌++◌, ℕ, suc, Bool, true, false, List, ◌∷◌, Ok, Err, []}
+use Rattle.std.proofs.Common.{if◌then◌else◌, refl, arith, sym, ap, subst}
 use Rattle.std.specs.List.{All, AllPairs}
 use Rattle.std.proofs.lemmas.List.Elements.{All-nil, All-cons, All-weaker}
 use Rattle.std.proofs.lemmas.List.Kept.{AllPairs-cons}
-use Rattle.cs_base.specs.declared.fault.OrcKind.TheVariants as orc
-use Rattle.cs_words.specs.declared.sign.Sign.TheVariants as sign
 use Rattle.cs_words.specs.declared.word.HeadName.{HeadName}
-use Rattle.cs_grammar.specs.declared.symbol.Kind.{Kind}
-use Rattle.cs_grammar.specs.declared.symbol.Kind.TheVariants as kind
-use Rattle.cs_grammar.specs.declared.symbol.Expected.{Expected}
-use Rattle.cs_grammar.specs.declared.symbol.Expected.TheVariants as expected
-use Rattle.cs_grammar.specs.declared.stmt.LineForm.{LineForm}
-use Rattle.cs_grammar.specs.declared.stmt.LineForm.TheVariants as form
-use Rattle.cs_grammar.specs.declared.orc.ItemForm.{ItemForm}
-use Rattle.cs_grammar.specs.declared.orc.ItemForm.TheVariants as item
-use Rattle.cs_grammar.specs.declared.tree.HeadLine.{HeadLine}
-use Rattle.cs_grammar.specs.Symbols.{Symbol}
-use Rattle.cs_grammar.specs.Kinds.{is}
+use Rattle.cs_grammar.specs.{declared.symbol.Kind.Kind, declared.symbol.Expected.Expected}
+use Rattle.cs_grammar.specs.{declared.stmt.LineForm.LineForm, declared.orc.ItemForm.ItemForm}
+use Rattle.cs_grammar.specs.{declared.tree.HeadLine.HeadLine, Symbols.Symbol, Kinds.is, Parts.is_opcode}
+use Rattle.cs_grammar.specs.{Headings.Heading, Inputs.ReadsInputs, Orchestra.orc_instr, Orchestra.orc_udo}
+use Rattle.cs_grammar.specs.{Orchestra.orc_stmt, WellFormed.lines_of, WellFormed.orchestra_of, WellFormed.InOrder}
 use Rattle.cs_grammar.specs.Tree.{Expression, Argument, Statement, call, choose, Block, no_stmt, andthen, Arms}
-use Rattle.cs_grammar.specs.Tree.{otherwise, arm, Instrument, Definition}
-use Rattle.cs_grammar.specs.Tree.{Orchestra}
+use Rattle.cs_grammar.specs.Tree.{otherwise, arm, Instrument, Definition, Orchestra}
 use Rattle.cs_grammar.specs.Reading.{next, after, Left, Reading, left, mapped, both, three, next_is, Scope, outside}
-use Rattle.cs_grammar.specs.Reading.{in_instrument, in_definition}
-use Rattle.cs_grammar.specs.Reading.{misfit, through, ended, line_end}
-use Rattle.cs_grammar.specs.Parts.{is_opcode}
+use Rattle.cs_grammar.specs.Reading.{in_instrument, in_definition, misfit, through, ended, line_end}
 use Rattle.cs_grammar.specs.Lines.{word_form, line_form_of, line_form, target, operation, header_line}
-use Rattle.cs_grammar.specs.Headings.{Heading}
 use Rattle.cs_grammar.specs.Grammar.{assign, ReadsStmt, stmt_assign, stmt_results, stmt_bare, stmt_if, stmt_beyond}
-use Rattle.cs_grammar.specs.Grammar.{stmt_misplaced, ReadsBlock, block_stop}
-use Rattle.cs_grammar.specs.Grammar.{block_end, block_more, ReadsArms, arm_more, ReadsMore, more_stop, more_elseif}
-use Rattle.cs_grammar.specs.Grammar.{more_else, more_endif}
+use Rattle.cs_grammar.specs.Grammar.{stmt_misplaced, ReadsBlock, block_stop, block_end, block_more, ReadsArms, arm_more}
+use Rattle.cs_grammar.specs.Grammar.{ReadsMore, more_stop, more_elseif, more_else, more_endif}
 use Rattle.cs_base.specs.declared.resource.Rate.{Rate}
-use Rattle.cs_grammar.specs.Inputs.{ReadsInputs}
 use Rattle.cs_grammar.specs.Orchestra.{instrument_of, ReadsInstr, instr, ReadsResult, definition_of, own_scope}
-use Rattle.cs_grammar.specs.Orchestra.{ReadsDefinition, no_heading, udo, item_form}
-use Rattle.cs_grammar.specs.Orchestra.{item_form_of, with_header, with_instr, with_definition, with_stmt, ReadsOrc}
-use Rattle.cs_grammar.specs.Orchestra.{orc_stop}
-use Rattle.cs_grammar.specs.Orchestra.{orc_end, orc_header, orc_instr, orc_udo, orc_stmt}
+use Rattle.cs_grammar.specs.Orchestra.{ReadsDefinition, no_heading, udo, item_form, item_form_of, with_header}
+use Rattle.cs_grammar.specs.Orchestra.{with_instr, with_definition, with_stmt, ReadsOrc, orc_stop, orc_end, orc_header}
 use Rattle.cs_grammar.specs.WellFormed.{IsVariable, WellFormedExpr, WellFormedArg, IsCall, stmt_lines, block_lines}
-use Rattle.cs_grammar.specs.WellFormed.{arms_lines, Item, header_item}
-use Rattle.cs_grammar.specs.WellFormed.{opcode_item, stmt_item, instr_item, item_lines, lines_of, orchestra_of, InOrder}
+use Rattle.cs_grammar.specs.WellFormed.{arms_lines, Item, header_item, opcode_item, stmt_item, instr_item, item_lines}
 use Rattle.cs_grammar.proofs.Fine.{IsWord, Fine, Kept, kept, kept_skip, fine_both, fine_three, fine_through, fine_line}
-use Rattle.cs_grammar.proofs.Fine.{fine_expr, fine_args}
-use Rattle.cs_grammar.proofs.Fine.{fine_target, fine_targets, fine_operation}
+use Rattle.cs_grammar.proofs.Fine.{fine_expr, fine_args, fine_target, fine_targets, fine_operation}
 use Rattle.cs_grammar.proofs.FineStmt.{NumbersFrom, fine_numbers}
 use Rattle.cs_grammar.proofs.FineOrc.{Words, words_after, words_next, NewHeading, NamesFit, ValuesFit, HeaderAt}
-use Rattle.cs_grammar.proofs.FineOrc.{fine_heading, fine_inputs, fine_result}
-use Rattle.cs_grammar.proofs.FineOrc.{fine_header}
+use Rattle.cs_grammar.proofs.FineOrc.{fine_heading, fine_inputs, fine_result, fine_header}
+use Rattle.cs_base.specs.declared.fault.OrcKind.TheVariants as orc
+use Rattle.cs_words.specs.declared.sign.Sign.TheVariants as sign
+use Rattle.cs_grammar.specs.declared.symbol.Kind.TheVariants as kind
+use Rattle.cs_grammar.specs.declared.symbol.Expected.TheVariants as expected
+use Rattle.cs_grammar.specs.declared.stmt.LineForm.TheVariants as form
+use Rattle.cs_grammar.specs.declared.orc.ItemForm.TheVariants as item
 
 -- ---- symbols from a line on
 
@@ -215,14 +201,6 @@ placed_both k l r n f g (Ok (a, ts)) (Ok (b, us)) h p =
       rest = q.rest;
     }
 
-abbrev no_lines : {A : Type 0} → A → List ℕ
-no_lines a = []
-
--- what has no lines of its own is placed anywhere
-unlined : {A : Type 0} (S : A → Type 0) (n : ℕ) (o : Reading A) → Fine (P n) S o → Placed no_lines n o
-unlined S n (Ok (a, ts)) h = record { end = n; rises = omega arith; rest = h.1 }
-unlined S n (Err f) h = tt
-
 -- one line, and the next behind it
 lined : {A : Type 0} (k : A → List ℕ) (n m : ℕ) → n ≤ m → (o : Reading A) → Fine (P (suc m)) (λ a. k a ≡ m ∷ []) o
     → Placed k n o
@@ -276,7 +254,7 @@ mutual
       (target s ts) e t v))
   stmt_placed {s} {ts} (stmt_results {names = names} {args = args} f k h) n q =
       let m = (next ts).line in
-      let t = fine_targets (P m) (closed m) (good m) k (own n ts q) in
+      let t = fine_targets (P m) (closed m) (good m) s k (own n ts q) in
       let p = operation s (left names) in
       let o = fine_operation (P m) (closed m) (good m) s (left names) (kept (P m) (All IsVariable) names t) in
       let a = fine_args (P m) (closed m) (good m) h (kept (P m) (IsCall s.place s.own) p o) in
@@ -361,7 +339,7 @@ instr_placed : {d : List (List ℕ)} {g : List ℕ} {ts : List Symbol} {o : Read
 instr_placed {d} {g} {ts} (instr {ns = ns} {body = body} k h) n q e =
     let m = (next ts).line in
     let s = in_instrument d in
-    let fn = fine_numbers (P m) (closed m) k (closed m ts (own n ts q)) in
+    let fn = fine_numbers (P m) (closed m) s k (closed m ts (own n ts q)) in
     let fe = fine_line (P m) (closed m) (good m) (P (suc m)) (feed m) (stop m) (NumbersFrom g) s ns fn in
     let b = block_placed h (suc m) (kept (P (suc m)) (NumbersFrom g) (ended s ns) fe) in
     let made = both (instrument_of m) ns body in

@@ -1,24 +1,19 @@
 -- The rules of expressions, as the parser meets them: with what a call has left in place of what the rule says is left.
 use Rattle.std.proofs.Common.{◌≡◌, ◌∙◌, ◌≤◌, ◌+◌, ◌-◌, ℕ, zero, suc, Bool, true, false, List, Result, Ok, Err, Option}
 use Rattle.std.proofs.Common.{Some, None, refl, arith, sym, ap, subst}
-use Rattle.cs_base.specs.declared.fault.Or.{Or}
-use Rattle.cs_base.specs.declared.fault.Or.TheVariants as or
-use Rattle.cs_base.specs.declared.fault.OrcFault.{OrcFault}
-use Rattle.cs_words.specs.declared.sign.BinOp.{BinOp}
-use Rattle.cs_words.specs.declared.word.Func.{Func}
-use Rattle.cs_grammar.specs.declared.expr.Level.{Level}
-use Rattle.cs_grammar.specs.declared.expr.Level.TheVariants as at
-use Rattle.cs_grammar.specs.declared.expr.PartForm.TheVariants as part
+use Rattle.cs_base.specs.{declared.fault.Or.Or, declared.fault.OrcFault.OrcFault}
+use Rattle.cs_words.specs.{declared.sign.BinOp.BinOp, declared.word.Func.Func}
+use Rattle.cs_grammar.specs.{declared.expr.Level.Level, declared.symbol.Expected.Expected, Grammar.fact_pick}
+use Rattle.cs_grammar.specs.{Grammar.no_more, Grammar.one_alone, Grammar.one_more, Symbols.Symbol, Tree.Expression}
+use Rattle.cs_grammar.specs.{Tree.apply, Tree.pick, inner.Answers.Gives, inner.Answers.IsClosed, inner.Answers.past}
 use Rattle.cs_grammar.proofs.Gives.{both_mapped, left_through, through_is, through_keeps, through_mapped, valued}
-use Rattle.cs_grammar.specs.declared.symbol.Expected.{Expected}
-use Rattle.cs_grammar.specs.declared.symbol.Expected.TheVariants as expected
 use Rattle.cs_grammar.specs.Grammar.{ReadsExpr, ReadsTail, binary, expr_stop, fact_alone, fact_call, fact_group}
-use Rattle.cs_grammar.specs.Grammar.{fact_pick, no_more, one_alone, one_more}
 use Rattle.cs_grammar.specs.Parts.{atom, operator_of, part_form, rank, repeats, tighter}
 use Rattle.cs_grammar.specs.Reading.{Left, Reading, Scope, after, left, mapped, next, next_is, three, through}
-use Rattle.cs_grammar.specs.Symbols.{Symbol}
-use Rattle.cs_grammar.specs.Tree.{Expression, apply, pick}
-use Rattle.cs_grammar.specs.inner.Answers.{Gives, IsClosed, past}
+use Rattle.cs_base.specs.declared.fault.Or.TheVariants as or
+use Rattle.cs_grammar.specs.declared.expr.Level.TheVariants as at
+use Rattle.cs_grammar.specs.declared.expr.PartForm.TheVariants as part
+use Rattle.cs_grammar.specs.declared.symbol.Expected.TheVariants as expected
 
 -- ---- brackets
 
@@ -101,11 +96,7 @@ level_of _ = at.Expr
 
 of_rank : (l : Level) → level_of (rank l) ≡ l
 of_rank at.Fact = refl
-of_rank at.Term = refl
-of_rank at.Sum = refl
-of_rank at.Cmp = refl
-of_rank at.And = refl
-of_rank at.Expr = refl
+of_rank l = refl
 
 risen : {s : Scope} {st : Left} {f : OrcFault} (n : ℕ) (l m : Level) → rank l ≡ n + rank m → ReadsExpr s m st (Err f)
     → ReadsExpr s l st (Err f)
@@ -123,21 +114,6 @@ risen (suc n) at.Expr m e h = up refl (risen n at.And m (omega (arith, e)) h)
 pub raised : {s : Scope} {st : Left} {f : OrcFault} (l m : Level) → rank m ≤ rank l → ReadsExpr s m st (Err f)
     → ReadsExpr s l st (Err f)
 raised l m w h = risen (rank l - rank m) l m (omega (arith, w)) h
-
-abbrev above : Option Level → ℕ
-above (Some m) = rank m + 1
-above None = 0
-
-above_is : (l : Level) → above (tighter l) ≡ rank l
-above_is at.Fact = refl
-above_is at.Term = refl
-above_is at.Sum = refl
-above_is at.Cmp = refl
-above_is at.And = refl
-above_is at.Expr = refl
-
-pub rank_up : (l m : Level) → tighter l ≡ Some m → rank l ≡ rank m + 1
-rank_up l m e = sym (above_is l) ∙ ap above e
 
 -- ---- operators
 

@@ -1,16 +1,11 @@
 -- What stands outside instruments and definitions takes one symbol at least.
 use Rattle.std.proofs.Common.{◌≡◌, ◌<◌, ◌≤◌, ℕ, List, length, Ok, arith, subst, sym}
 use Rattle.cs_words.specs.declared.word.HeadName.{HeadName}
-use Rattle.cs_grammar.specs.declared.tree.HeadLine.{HeadLine}
-use Rattle.cs_grammar.proofs.Sizes.{size}
-use Rattle.cs_grammar.proofs.OneStmt.{stmt_less, stmt_is}
+use Rattle.cs_grammar.specs.{declared.tree.HeadLine.HeadLine, Grammar.ReadsStmt, Lines.header_line}
+use Rattle.cs_grammar.specs.{Orchestra.ReadsDefinition, Orchestra.ReadsInstr, Reading.Scope, Reading.left}
+use Rattle.cs_grammar.specs.{Symbols.Symbol, Tree.Definition, Tree.Instrument, Tree.Statement}
+use Rattle.cs_grammar.proofs.{Sizes.size, OneStmt.stmt_less, OneStmt.stmt_is}
 use Rattle.cs_grammar.proofs.OneOrc.{header_less, instr_less, instr_is, definition_less, definition_is}
-use Rattle.cs_grammar.specs.Grammar.{ReadsStmt}
-use Rattle.cs_grammar.specs.Lines.{header_line}
-use Rattle.cs_grammar.specs.Orchestra.{ReadsDefinition, ReadsInstr}
-use Rattle.cs_grammar.specs.Reading.{Scope, left}
-use Rattle.cs_grammar.specs.Symbols.{Symbol}
-use Rattle.cs_grammar.specs.Tree.{Definition, Instrument, Statement}
 
 pub header_shorter : (s : Scope) (h : HeadName) (ts : List Symbol) (x : HeadLine) (rest : List Symbol)
     → Ok (x, rest) ≡ header_line s h ts

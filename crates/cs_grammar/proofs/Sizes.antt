@@ -2,13 +2,11 @@
 -- given.
 use Rattle.std.proofs.Common.{◌≡◌, ◌<◌, ◌≤◌, ◌+◌, ◌⊎◌, ℕ, Bool, true, false, List, [], ◌∷◌, length, Ok, Err}
 use Rattle.std.proofs.Common.{if◌then◌else◌, refl, arith, inl, inr}
-use Rattle.cs_base.specs.declared.fault.OrcKind.TheVariants as orc
-use Rattle.cs_grammar.specs.declared.symbol.Kind.{Kind}
-use Rattle.cs_grammar.specs.declared.symbol.Kind.TheVariants as kind
-use Rattle.cs_grammar.specs.declared.symbol.Expected.{Expected}
+use Rattle.cs_grammar.specs.{declared.symbol.Kind.Kind, declared.symbol.Expected.Expected, Symbols.Symbol}
 use Rattle.cs_grammar.specs.Reading.{Left, Reading, Scope, after, both, ended, left, line_end, mapped, misfit, next}
 use Rattle.cs_grammar.specs.Reading.{next_is, skip, three, through}
-use Rattle.cs_grammar.specs.Symbols.{Symbol}
+use Rattle.cs_base.specs.declared.fault.OrcKind.TheVariants as orc
+use Rattle.cs_grammar.specs.declared.symbol.Kind.TheVariants as kind
 
 abbrev pub size : Left → ℕ
 size (Ok ts) = length ts + 1
@@ -17,10 +15,6 @@ size (Err f) = 0
 pub after_size : (ts : List Symbol) → length (after ts) ≤ length ts
 after_size [] = omega arith
 after_size (t ∷ ts) = omega arith
-
-pub after_less : (ts : List Symbol) → ts ≡ [] ⊎ (length (after ts) < length ts)
-after_less [] = inl refl
-after_less (t ∷ ts) = inr (omega arith)
 
 pub skip_size : (st : Left) → size (skip st) ≤ size st
 skip_size (Err f) = omega arith

@@ -3,20 +3,15 @@ use Rattle.std.proofs.Common.{◌≡◌, ◌∙◌, ◌++◌, ℕ, Bool, true, f
 use Rattle.std.proofs.Common.{if◌then◌else◌, refl, sym, ap, subst}
 use Rattle.std.proofs.lemmas.List.{append_assoc}
 use Rattle.cs_base.specs.declared.fault.OrcFault.{OrcFault}
+use Rattle.cs_grammar.specs.{declared.lists.Role.Role, declared.tree.Arg.Arg, declared.symbol.Kind.Kind, Kinds.is}
+use Rattle.cs_grammar.specs.{Parts.is_variable, Symbols.Symbol, Tree.Argument, Tree.argument}
+use Rattle.cs_grammar.specs.Grammar.{ReadsArg, ReadsList, list_last, list_more}
+use Rattle.cs_grammar.specs.Lines.{fresh, instrument_number, no_target, number_at, one_number, one_target}
+use Rattle.cs_grammar.specs.Reading.{Reading, Scope, after, both, fault, has_number, mapped, misfit, next_is}
+use Rattle.cs_grammar.specs.inner.Rows.{behind, row}
 use Rattle.cs_base.specs.declared.fault.OrcKind.TheVariants as orc
-use Rattle.cs_grammar.specs.declared.lists.Role.{Role}
-use Rattle.cs_grammar.specs.declared.tree.Arg.{Arg}
-use Rattle.cs_grammar.specs.declared.symbol.Kind.{Kind}
 use Rattle.cs_grammar.specs.declared.symbol.Kind.TheVariants as kind
 use Rattle.cs_grammar.specs.declared.symbol.Expected.TheVariants as expected
-use Rattle.cs_grammar.specs.Grammar.{ReadsArg, ReadsList, list_last, list_more}
-use Rattle.cs_grammar.specs.Kinds.{is}
-use Rattle.cs_grammar.specs.Lines.{fresh, instrument_number, no_target, number_at, one_number, target}
-use Rattle.cs_grammar.specs.Parts.{is_variable}
-use Rattle.cs_grammar.specs.Reading.{Reading, Scope, after, both, fault, has_number, mapped, misfit, next_is}
-use Rattle.cs_grammar.specs.Symbols.{Symbol}
-use Rattle.cs_grammar.specs.Tree.{Argument, argument}
-use Rattle.cs_grammar.specs.inner.Rows.{numbers, numbers_behind, targets}
 
 -- ---- a list with more in front
 
@@ -32,12 +27,73 @@ pub prefixed_more : {A : Type 0} (xs : List A) (x : A) (o : Reading (List A))
 prefixed_more xs x (Err f) = refl
 prefixed_more xs x (Ok (ys, ts)) = ap (λ zs. Ok (zs, ts)) (sym (append_assoc xs (x ∷ []) ys))
 
--- ---- targets
+-- ---- items with commas between them
 
--- what follows a target: a comma and more of them, or no more
-abbrev pub targets_behind : Scope → List Symbol → Bool → Reading (List (List ℕ))
-targets_behind s ts true = targets s (after ts)
-targets_behind s ts false = Ok ([], ts)
+-- an item is one symbol
+abbrev pub TakesOne : {A : Type 0} → (List A → List Symbol → Reading A) → Type 0
+TakesOne {A} one = (before : List A) (ts us : List Symbol) (x : A) → one before ts ≡ Ok (x, us)
+    → (t : Symbol) × (ts ≡ t ∷ us)
+
+module _ {A : Type 0} (one : List A → List Symbol → Reading A) where
+  -- what follows an item: a comma and more of them, or no more
+  abbrev pub row_behind : List A → List Symbol → Bool → Reading (List A)
+  row_behind before ts true = row one before (after ts)
+  row_behind before ts false = Ok ([], ts)
+
+  row_at : (before : List A) (t : Symbol) (us : List Symbol) (x : A) → one before (t ∷ us) ≡ Ok (x, us)
+      → row one before (t ∷ us) ≡ mapped (λ xs. x ∷ xs) (row_behind (before ++ x ∷ []) us (next_is expected.Comma us))
+  row_at before t [] x e = ap (mapped (λ y. y ∷ [])) e
+  row_at before t (c ∷ us) x e = by (is expected.Comma c.kind)
+    where
+      by : (b : Bool)
+          → (if b then behind (one before (t ∷ c ∷ us)) (λ y. row one (before ++ y ∷ []) us)
+          else mapped (λ y. y ∷ []) (one before (t ∷ c ∷ us)))
+          ≡ mapped (λ xs. x ∷ xs) (row_behind (before ++ x ∷ []) (c ∷ us) b)
+      by true = ap (λ o. behind o (λ y. row one (before ++ y ∷ []) us)) e
+      by false = ap (mapped (λ y. y ∷ [])) e
+
+  pub row_fail : (before : List A) (ts : List Symbol) (f : OrcFault) → one before ts ≡ Err f
+      → row one before ts ≡ Err f
+  row_fail before [] f e = ap (mapped (λ x. x ∷ [])) e
+  row_fail before (t ∷ []) f e = ap (mapped (λ x. x ∷ [])) e
+  row_fail before (t ∷ c ∷ us) f e = by (is expected.Comma c.kind)
+    where
+      by : (b : Bool)
+          → (if b then behind (one before (t ∷ c ∷ us)) (λ y. row one (before ++ y ∷ []) us)
+          else mapped (λ y. y ∷ []) (one before (t ∷ c ∷ us))) ≡ Err f
+      by true = ap (λ o. behind o (λ y. row one (before ++ y ∷ []) us)) e
+      by false = ap (mapped (λ y. y ∷ [])) e
+
+  -- the items that were read so far, with those from here on behind them
+  abbrev pub RowSoFar : List A → List Symbol → List A → List A → List Symbol → Type 0
+  RowSoFar first old xs before now = row one first old ≡ prefixed xs (row one before now)
+
+  pub row_begun : (first : List A) (old : List Symbol) → RowSoFar first old [] first old
+  row_begun first old = prefixed_none (row one first old)
+
+  pub row_stop : (first before : List A) (old mid : List Symbol) (xs : List A) (f : OrcFault)
+      → RowSoFar first old xs before mid → one before mid ≡ Err f → row one first old ≡ Err f
+  row_stop first before old mid xs f h e = h ∙ ap (prefixed xs) (row_fail before mid f e)
+
+module _ {A : Type 0} (one : List A → List Symbol → Reading A) (takes : TakesOne one) where
+  pub row_step : (before : List A) (ts us : List Symbol) (x : A) (b : Bool) → one before ts ≡ Ok (x, us)
+      → next_is expected.Comma us ≡ b
+      → row one before ts ≡ mapped (λ xs. x ∷ xs) (row_behind one (before ++ x ∷ []) us b)
+  row_step before ts us x b e c =
+      let w = takes before ts us x e in
+      subst (λ y. row one before y ≡ mapped (λ xs. x ∷ xs) (row_behind one (before ++ x ∷ []) us b)) (sym w.1)
+      (row_at one before w.0 us x (subst (λ y. one before y ≡ Ok (x, us)) w.1 e)
+      ∙ ap (λ d. mapped (λ xs. x ∷ xs) (row_behind one (before ++ x ∷ []) us d)) c)
+
+  module _ (first before : List A) (old mid now : List Symbol) (xs : List A) (x : A)
+      (h : RowSoFar one first old xs before mid) (e : one before mid ≡ Ok (x, now)) where
+    pub row_more : next_is expected.Comma now ≡ true
+        → RowSoFar one first old (xs ++ x ∷ []) (before ++ x ∷ []) (after now)
+    row_more c = h ∙ ap (prefixed xs) (row_step before mid now x true e c)
+        ∙ prefixed_more xs x (row one (before ++ x ∷ []) (after now))
+
+    pub row_done : next_is expected.Comma now ≡ false → row one first old ≡ Ok (xs ++ x ∷ [], now)
+    row_done c = h ∙ ap (prefixed xs) (row_step before mid now x false e c)
 
 abbrev rest_of : {A : Type 0} → Reading A → List Symbol
 rest_of (Ok (a, ts)) = ts
@@ -46,81 +102,41 @@ rest_of (Err f) = []
 abbrev chosen : {A : Type 0} → Bool → A → List Symbol → OrcFault → Reading A
 chosen b a ts f = if b then Ok (a, ts) else Err f
 
-abbrev refused : {A : Type 0} → Bool → A → List Symbol → OrcFault → Reading A
-refused b a ts f = if b then Err f else Ok (a, ts)
-
 choice_rest : {A : Type 0} (b : Bool) (a n : A) (ts r : List Symbol) (f : OrcFault) → chosen b a ts f ≡ Ok (n, r)
     → ts ≡ r
 choice_rest true a n ts r f e = ap rest_of e
 choice_rest false a n ts r f e = cc
 
-target_rest : (s : Scope) (t : Symbol) (ts r : List Symbol) (n : List ℕ) → target s (t ∷ ts) ≡ Ok (n, r) → ts ≡ r
-target_rest s t ts r n e = choice_rest (is_variable s t) t.text n ts r (misfit s (no_target t.kind) (t ∷ ts)) e
+pub target_takes : (s : Scope) → TakesOne (one_target s)
+target_takes s before [] us n e = cc
+target_takes s before (t ∷ ts) us n e =
+    (t, ap (λ r. t ∷ r) (choice_rest (is_variable s t) t.text n ts us (misfit s (no_target t.kind) (t ∷ ts)) e))
+
+fresh_rest : (given : List ℕ) (t : Symbol) (ts r : List Symbol) (o : Option ℕ) (n : ℕ)
+    → fresh given (t ∷ ts) o ≡ Ok (n, r) → ts ≡ r
+fresh_rest given t ts r None n e = cc
+fresh_rest given t ts r (Some m) n e = by (has_number given m) e
+  where
+    by : (b : Bool) → if◌then◌else◌ {A = Reading ℕ} b (Err (fault (t ∷ ts) orc.InstrTwice)) (Ok (m, ts)) ≡ Ok (n, r)
+        → ts ≡ r
+    by true e = cc
+    by false e = ap rest_of e
+
+number_rest : (s : Scope) (given : List ℕ) (t : Symbol) (ts r : List Symbol) (n : ℕ) (k : Kind)
+    → number_at s given (t ∷ ts) k ≡ Ok (n, r) → ts ≡ r
+number_rest s given t ts r n (kind.Number v) e = fresh_rest given t ts r (instrument_number v) n e
+number_rest s given t ts r n _ e = cc
+
+pub number_takes : (s : Scope) → TakesOne (one_number s)
+number_takes s given [] us n e = cc
+number_takes s given (t ∷ ts) us n e = (t, ap (λ r. t ∷ r) (number_rest s given t ts us n t.kind e))
+
+-- ---- arguments
 
 both_first : {A : Type 0} (x : A) (mid : List Symbol) (o : Reading (List A))
     → both ◌∷◌ (Ok (x, mid)) o ≡ mapped (λ ys. x ∷ ys) o
 both_first x mid (Ok (ys, ts)) = refl
 both_first x mid (Err f) = refl
-
-targets_by : (s : Scope) (n : List ℕ) (t c : Symbol) (us : List Symbol) (b : Bool)
-    → target s (t ∷ c ∷ us) ≡ Ok (n, c ∷ us)
-    → (if b then both ◌∷◌ (target s (t ∷ c ∷ us)) (targets s us) else mapped (λ n. n ∷ []) (target s (t ∷ c ∷ us)))
-    ≡ mapped (λ ns. n ∷ ns)
-    (targets_behind s (c ∷ us) b)
-targets_by s n t c us true e = ap (λ o. both ◌∷◌ o (targets s us)) e ∙ both_first n (c ∷ us) (targets s us)
-targets_by s n t c us false e = ap (mapped (λ n. n ∷ [])) e
-
-pub targets_step : (s : Scope) (ts r : List Symbol) (n : List ℕ) → target s ts ≡ Ok (n, r)
-    → targets s ts ≡ mapped (λ ns. n ∷ ns)
-    (targets_behind s r (next_is expected.Comma r))
-targets_step s [] r n e = cc
-targets_step s (t ∷ []) r n e =
-    let same = target_rest s t [] r n e in
-    subst (λ x. targets s (t ∷ []) ≡ mapped (λ ns. n ∷ ns) (targets_behind s x (next_is expected.Comma x))) same
-    (ap (mapped (λ n. n ∷ [])) (e ∙ ap (λ x. Ok (n, x)) (sym same)))
-targets_step s (t ∷ c ∷ us) r n e =
-    let same = target_rest s t (c ∷ us) r n e in
-    subst (λ x. targets s (t ∷ c ∷ us) ≡ mapped (λ ns. n ∷ ns) (targets_behind s x (next_is expected.Comma x))) same
-    (targets_by s n t c us (is expected.Comma c.kind) (e ∙ ap (λ x. Ok (n, x)) (sym same)))
-
-targets_err : (s : Scope) (ts : List Symbol) (f : OrcFault) (b : Bool) → target s ts ≡ Err f
-    → (if b then both ◌∷◌ (target s ts) (targets s (after (after ts))) else mapped (λ n. n ∷ []) (target s ts)) ≡ Err f
-targets_err s ts f true e = ap (λ o. both ◌∷◌ o (targets s (after (after ts)))) e
-targets_err s ts f false e = ap (mapped (λ n. n ∷ [])) e
-
-pub targets_fail : (s : Scope) (ts : List Symbol) (f : OrcFault) → target s ts ≡ Err f → targets s ts ≡ Err f
-targets_fail s [] f e = ap (mapped (λ n. n ∷ [])) e
-targets_fail s (t ∷ []) f e = ap (mapped (λ n. n ∷ [])) e
-targets_fail s (t ∷ c ∷ us) f e = targets_err s (t ∷ c ∷ us) f (is expected.Comma c.kind) e
-
--- the names that were read so far, with those from here on behind them
-abbrev pub TargetsSoFar : Scope → List Symbol → List (List ℕ) → List Symbol → Type 0
-TargetsSoFar s old ns now = targets s old ≡ prefixed ns (targets s now)
-
-pub targets_begun : (s : Scope) (old : List Symbol) → TargetsSoFar s old [] old
-targets_begun s old = prefixed_none (targets s old)
-
--- a name that no comma follows is the last
-pub targets_last : (s : Scope) (ts us : List Symbol) (n : List ℕ) → target s ts ≡ Ok (n, us)
-    → next_is expected.Comma us ≡ false
-    → targets s ts ≡ Ok (n ∷ [], us)
-targets_last s ts us n e c = targets_step s ts us n e ∙ ap (λ b. mapped (λ xs. n ∷ xs) (targets_behind s us b)) c
-
-module _ (s : Scope) (old mid now : List Symbol) (ns : List (List ℕ)) (n : List ℕ) (h : TargetsSoFar s old ns mid)
-    (e : target s mid ≡ Ok (n, now)) where
-  pub targets_more : next_is expected.Comma now ≡ true → TargetsSoFar s old (ns ++ n ∷ []) (after now)
-  targets_more c =
-      h ∙ ap (prefixed ns) (targets_step s mid now n e ∙ ap (λ b. mapped (λ xs. n ∷ xs) (targets_behind s now b)) c)
-      ∙ prefixed_more ns n (targets s (after now))
-
-  pub targets_done : next_is expected.Comma now ≡ false → targets s old ≡ Ok (ns ++ n ∷ [], now)
-  targets_done c = h ∙ ap (prefixed ns) (targets_last s mid now n e c)
-
-pub targets_stop : (s : Scope) (old mid : List Symbol) (ns : List (List ℕ)) (f : OrcFault) → TargetsSoFar s old ns mid
-    → target s mid ≡ Err f → targets s old ≡ Err f
-targets_stop s old mid ns f h e = h ∙ ap (prefixed ns) (targets_fail s mid f e)
-
--- ---- arguments
 
 -- however the list from here on is read, so is the whole, with what was read so far in front
 abbrev pub ListSoFar : Scope → Role → List Symbol → List Argument → List Symbol → Type 0
@@ -142,93 +158,6 @@ pub list_stop : (s : Scope) (r : Role) (old mid : List Symbol) (xs : List Argume
     → ListSoFar s r old xs mid
     → ReadsArg s r mid (Err f) → ReadsList s r (Ok old) (Err f)
 list_stop s r old mid xs f l h = l (Err f) (list_last h refl)
-
--- ---- numbers
-
--- what follows a number: a comma and more of them, which it is given for, or no more
-abbrev pub rest_numbers : Scope → List ℕ → List Symbol → Bool → Reading (List ℕ)
-rest_numbers s given ts true = numbers s given (after ts)
-rest_numbers s given ts false = Ok ([], ts)
-
-fresh_rest : (given : List ℕ) (t : Symbol) (ts r : List Symbol) (o : Option ℕ) (n : ℕ)
-    → fresh given (t ∷ ts) o ≡ Ok (n, r) → ts ≡ r
-fresh_rest given t ts r None n e = cc
-fresh_rest given t ts r (Some m) n e = refused_rest (has_number given m) m n ts r (fault (t ∷ ts) orc.InstrTwice) e
-  where
-    refused_rest : (b : Bool) (m n : ℕ) (ts r : List Symbol) (f : OrcFault) → refused b m ts f ≡ Ok (n, r) → ts ≡ r
-    refused_rest true m n ts r f e = cc
-    refused_rest false m n ts r f e = ap rest_of e
-
-number_rest : (s : Scope) (given : List ℕ) (t : Symbol) (ts r : List Symbol) (n : ℕ) (k : Kind)
-    → number_at s given (t ∷ ts) k ≡ Ok (n, r) → ts ≡ r
-number_rest s given t ts r n (kind.Number v) e = fresh_rest given t ts r (instrument_number v) n e
-number_rest s given t ts r n _ e = cc
-
-numbers_by : (s : Scope) (given : List ℕ) (n : ℕ) (t c : Symbol) (us : List Symbol) (b : Bool)
-    → one_number s given (t ∷ c ∷ us) ≡ Ok (n, c ∷ us)
-    → (if b then numbers_behind (one_number s given (t ∷ c ∷ us)) (λ n. numbers s (given ++ n ∷ []) us) else mapped
-    (λ n. n ∷ [])
-    (one_number s given (t ∷ c ∷ us))) ≡ mapped (λ ns. n ∷ ns) (rest_numbers s (given ++ n ∷ []) (c ∷ us) b)
-numbers_by s given n t c us true e = ap (λ o. numbers_behind o (λ n. numbers s (given ++ n ∷ []) us)) e
-numbers_by s given n t c us false e = ap (mapped (λ n. n ∷ [])) e
-
-pub numbers_step : (s : Scope) (given : List ℕ) (ts r : List Symbol) (n : ℕ) → one_number s given ts ≡ Ok (n, r)
-    → numbers s given ts ≡ mapped (λ ns. n ∷ ns) (rest_numbers s (given ++ n ∷ []) r (next_is expected.Comma r))
-numbers_step s given [] r n e = cc
-numbers_step s given (t ∷ []) r n e =
-    let same = number_rest s given t [] r n t.kind e in
-    subst (λ x. numbers s given (t ∷ []) ≡ mapped (λ ns. n ∷ ns)
-    (rest_numbers s (given ++ n ∷ []) x (next_is expected.Comma x))) same
-    (ap (mapped (λ n. n ∷ [])) (e ∙ ap (λ x. Ok (n, x)) (sym same)))
-numbers_step s given (t ∷ c ∷ us) r n e =
-    let same = number_rest s given t (c ∷ us) r n t.kind e in
-    subst (λ x. numbers s given (t ∷ c ∷ us) ≡ mapped (λ ns. n ∷ ns)
-    (rest_numbers s (given ++ n ∷ []) x (next_is expected.Comma x))) same
-    (numbers_by s given n t c us (is expected.Comma c.kind) (e ∙ ap (λ x. Ok (n, x)) (sym same)))
-
-numbers_err : (s : Scope) (given : List ℕ) (ts us : List Symbol) (f : OrcFault) (b : Bool)
-    → one_number s given ts ≡ Err f
-    → (if b then numbers_behind (one_number s given ts) (λ n. numbers s (given ++ n ∷ []) us) else mapped (λ n. n ∷ [])
-    (one_number s given ts)) ≡ Err f
-numbers_err s given ts us f true e = ap (λ o. numbers_behind o (λ n. numbers s (given ++ n ∷ []) us)) e
-numbers_err s given ts us f false e = ap (mapped (λ n. n ∷ [])) e
-
-pub numbers_fail : (s : Scope) (given : List ℕ) (ts : List Symbol) (f : OrcFault) → one_number s given ts ≡ Err f
-    → numbers s given ts ≡ Err f
-numbers_fail s given [] f e = ap (mapped (λ n. n ∷ [])) e
-numbers_fail s given (t ∷ []) f e = ap (mapped (λ n. n ∷ [])) e
-numbers_fail s given (t ∷ c ∷ us) f e = numbers_err s given (t ∷ c ∷ us) us f (is expected.Comma c.kind) e
-
--- the numbers that were read so far, all of them given now, with those from here on behind them
-abbrev pub NumbersSoFar : Scope → List ℕ → List Symbol → List ℕ → List ℕ → List Symbol → Type 0
-NumbersSoFar s first old ns given now = numbers s first old ≡ prefixed ns (numbers s given now)
-
-pub numbers_begun : (s : Scope) (first : List ℕ) (old : List Symbol) → NumbersSoFar s first old [] first old
-numbers_begun s first old = prefixed_none (numbers s first old)
-
--- a number that no comma follows is the last
-pub numbers_last : (s : Scope) (given : List ℕ) (ts us : List Symbol) (n : ℕ) → one_number s given ts ≡ Ok (n, us)
-    → next_is expected.Comma us ≡ false → numbers s given ts ≡ Ok (n ∷ [], us)
-numbers_last s given ts us n e c =
-    numbers_step s given ts us n e ∙ ap (λ b. mapped (λ xs. n ∷ xs) (rest_numbers s (given ++ n ∷ []) us b)) c
-
-module _ (s : Scope) (first given : List ℕ) (old mid now : List Symbol) (ns : List ℕ) (n : ℕ)
-    (h : NumbersSoFar s first old ns given mid)
-    (e : one_number s given mid ≡ Ok (n, now)) where
-  pub numbers_more : next_is expected.Comma now ≡ true
-      → NumbersSoFar s first old (ns ++ n ∷ []) (given ++ n ∷ []) (after now)
-  numbers_more c =
-      h ∙ ap (prefixed ns) (numbers_step s given mid now n e
-      ∙ ap (λ b. mapped (λ xs. n ∷ xs) (rest_numbers s (given ++ n ∷ []) now b)) c)
-      ∙ prefixed_more ns n (numbers s (given ++ n ∷ []) (after now))
-
-  pub numbers_done : next_is expected.Comma now ≡ false → numbers s first old ≡ Ok (ns ++ n ∷ [], now)
-  numbers_done c = h ∙ ap (prefixed ns) (numbers_last s given mid now n e c)
-
-pub numbers_stop : (s : Scope) (first given : List ℕ) (old mid : List Symbol) (ns : List ℕ) (f : OrcFault)
-    → NumbersSoFar s first old ns given mid
-    → one_number s given mid ≡ Err f → numbers s first old ≡ Err f
-numbers_stop s first given old mid ns f h e = h ∙ ap (prefixed ns) (numbers_fail s given mid f e)
 
 -- ---- lists in the code's tree
 

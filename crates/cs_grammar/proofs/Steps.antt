@@ -1,17 +1,13 @@
 -- Steps of the parser along the tokens.
-use Rattle.std.proofs.Common.{◌≡◌, ◌<◌, ◌≤◌, ◌+◌, ◌^◌, ◌∙◌, ℕ, suc, Bool, true, false, not, List, [], ◌∷◌}
-use Rattle.std.proofs.Common.{length, Option, Some, None, if◌then◌else◌, refl, sym, ap, subst, arith}
-use Rattle.std.specs.List.{All}
-use Rattle.std.specs.Option.{IfSome}
+use Rattle.std.proofs.Common.{◌≡◌, ◌<◌, ◌≤◌, ◌+◌, ◌^◌, ◌∙◌, ℕ, suc, Bool, true, false, not, List, [], ◌∷◌, length}
+use Rattle.std.proofs.Common.{Option, Some, None, if◌then◌else◌, refl, sym, ap, subst, arith}
+use Rattle.std.specs.{List.All, Option.IfSome}
 use Rattle.std.proofs.lemmas.List.Elements.{All-head, All-tail}
 use Rattle.cs_lex.specs.declared.token.Token.{Token}
-use Rattle.cs_grammar.specs.declared.symbol.Expected.TheVariants as expected
-use Rattle.cs_grammar.specs.Inputs.{is_free}
-use Rattle.cs_grammar.specs.Kinds.{is}
+use Rattle.cs_grammar.specs.{Inputs.is_free, Kinds.is, Symbols.Symbol, Symbols.symbols_from, Symbols.counted}
+use Rattle.cs_grammar.specs.{inner.Reached.Spanned, inner.Takes.plus_one, inner.Takes.input_count}
 use Rattle.cs_grammar.specs.Reading.{next, after, next_is, Scope}
-use Rattle.cs_grammar.specs.Symbols.{Symbol, symbols_from, counted}
-use Rattle.cs_grammar.specs.inner.Reached.{Spanned}
-use Rattle.cs_grammar.specs.inner.Takes.{plus_one, input_count}
+use Rattle.cs_grammar.specs.declared.symbol.Expected.TheVariants as expected
 
 -- the bytes of all tokens stand in the text
 pub spanned : (size : ℕ) (ts : List Token) → All (λ t. (t.from ≤ t.to) × (t.to ≤ size)) ts → Spanned size ts
@@ -34,39 +30,6 @@ short_left source place ts h = omega (arith, symbols_length source place ts, h)
 abbrev counted_by : Bool → Bool → Bool → Option ℕ → Option ℕ
 counted_by free xin comma more =
     if not free then None else (if xin then Some 1 else (if comma then plus_one more else None))
-
-pub no_word : (s : Scope) (ts : List Symbol) → is_free s (next ts) ≡ false → input_count s ts ≡ None
-no_word s [] f = refl
-no_word s (t ∷ []) f = refl
-no_word s (t ∷ c ∷ us) f =
-    ap (λ b. counted_by b (is expected.Xin c.kind) (is expected.Comma c.kind) (input_count s us)) f
-
-pub last_word : (s : Scope) (ts : List Symbol) → is_free s (next ts) ≡ true → next_is expected.Xin (after ts) ≡ true
-    → input_count s ts ≡ Some 1
-last_word s [] f x = absurd (cc x)
-last_word s (t ∷ []) f x = absurd (cc x)
-last_word s (t ∷ c ∷ us) f x =
-    ap (λ b. counted_by b (is expected.Xin c.kind) (is expected.Comma c.kind) (input_count s us)) f
-    ∙ ap (λ b. counted_by true b (is expected.Comma c.kind) (input_count s us)) x
-
-pub no_comma : (s : Scope) (ts : List Symbol) → is_free s (next ts) ≡ true → next_is expected.Xin (after ts) ≡ false
-    → next_is expected.Comma (after ts) ≡ false → input_count s ts ≡ None
-no_comma s [] f x c = refl
-no_comma s (t ∷ []) f x c = refl
-no_comma s (t ∷ d ∷ us) f x c =
-    ap (λ b. counted_by b (is expected.Xin d.kind) (is expected.Comma d.kind) (input_count s us)) f
-    ∙ ap (λ b. counted_by true b (is expected.Comma d.kind) (input_count s us)) x
-    ∙ ap (λ b. counted_by true false b (input_count s us)) c
-
-pub one_word_more : (s : Scope) (ts : List Symbol) → is_free s (next ts) ≡ true
-    → next_is expected.Xin (after ts) ≡ false
-    → next_is expected.Comma (after ts) ≡ true → input_count s ts ≡ plus_one (input_count s (after (after ts)))
-one_word_more s [] f x c = absurd (cc c)
-one_word_more s (t ∷ []) f x c = absurd (cc c)
-one_word_more s (t ∷ d ∷ us) f x c =
-    ap (λ b. counted_by b (is expected.Xin d.kind) (is expected.Comma d.kind) (input_count s us)) f
-    ∙ ap (λ b. counted_by true b (is expected.Comma d.kind) (input_count s us)) x
-    ∙ ap (λ b. counted_by true false b (input_count s us)) c
 
 pub past_comma : (ts : List Symbol) → next_is expected.Comma (after ts) ≡ true → length (after (after ts)) < length ts
 past_comma [] c = absurd (cc c)

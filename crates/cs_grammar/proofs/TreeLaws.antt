@@ -1,34 +1,22 @@
 -- Every tree is well formed, and its lines ascend.
 use Rattle.std.proofs.Common.{◌≡◌, ◌≢◌, ◌∙◌, ◌≤◌, ◌<◌, ◌++◌, ◌+◌, ◌-◌, ◌&&◌, inl, inr, codes, Option, Some, None, take}
-use Rattle.std.proofs.Common.{drop, ℕ, suc, Bool, true, false}
-use Rattle.std.proofs.Common.{List, [], ◌∷◌, length, nat_le, if◌then◌else◌, refl, arith}
-use Rattle.std.proofs.Common.{sym, ap, subst}
-use Rattle.std.specs.Prelude.{get_or}
-use Rattle.std.specs.List.{All, AllPairs}
+use Rattle.std.proofs.Common.{drop, ℕ, suc, Bool, true, false, [], List, ◌∷◌, length, nat_le, if◌then◌else◌, refl}
+use Rattle.std.proofs.Common.{arith, sym, ap, subst}
+use Rattle.std.specs.{Prelude.get_or, Prelude.slice_range, List.All, List.AllPairs, List.list_all, Str.byte}
 use Rattle.std.proofs.lemmas.List.Elements.{All-nil, All-cons, All-append, All-head, All-tail}
-use Rattle.cs_lex.specs.declared.token.Mark.{Mark}
-use Rattle.cs_lex.specs.declared.token.Mark.TheVariants as mark
-use Rattle.cs_lex.specs.declared.token.Token.{Token}
+use Rattle.cs_lex.specs.{declared.token.Mark.Mark, declared.token.Token.Token, Lexed.Lexed, Lexed.Precedes}
+use Rattle.cs_lex.specs.{Lexed.IsEndedBy, Bytes.is_letter, Bytes.is_word_byte, Rows.Fits}
 use Rattle.cs_lex.specs.Lexed.{TextPiece, text_of, AllFit, token_at, token_of, tokens_after, is_newline, merged, end_of}
-use Rattle.cs_lex.specs.Lexed.{Lexed, Precedes, IsEndedBy}
-use Rattle.cs_lex.specs.Bytes.{is_letter, is_word_byte}
-use Rattle.cs_lex.specs.Rows.{Fits}
 use Rattle.cs_base.specs.Lines.{Excerpt, begins}
-use Rattle.std.specs.Str.{byte}
-use Rattle.std.specs.Prelude.{slice_range}
-use Rattle.std.specs.List.{list_all}
-use Rattle.std.proofs.lemmas.Bool.{and_parts}
-use Rattle.std.proofs.lemmas.List.{append_assoc}
-use Rattle.cs_grammar.specs.declared.symbol.Kind.{Kind}
-use Rattle.cs_grammar.specs.declared.symbol.Kind.TheVariants as kind
-use Rattle.cs_grammar.specs.declared.symbol.Expected.TheVariants as expected
+use Rattle.std.proofs.lemmas.{Bool.and_parts, List.append_assoc}
+use Rattle.cs_grammar.specs.{declared.symbol.Kind.Kind, Kinds.is, Tree.Orchestra, Orchestra.Tree}
 use Rattle.cs_grammar.specs.Symbols.{Symbol, symbols, symbols_from, kind_after, kind_of_mark, counted, bytes_of}
-use Rattle.cs_grammar.specs.Kinds.{is}
-use Rattle.cs_grammar.specs.Tree.{Orchestra}
-use Rattle.cs_grammar.specs.Orchestra.{Tree}
 use Rattle.cs_grammar.specs.WellFormed.{HasNoStop, IsWellFormed, InOrder}
 use Rattle.cs_grammar.proofs.FineOrc.{NoStops, Words, words_after, words_next, words_from, fine_orc}
 use Rattle.cs_grammar.proofs.Order.{From, Sorted, in_order}
+use Rattle.cs_lex.specs.declared.token.Mark.TheVariants as mark
+use Rattle.cs_grammar.specs.declared.symbol.Kind.TheVariants as kind
+use Rattle.cs_grammar.specs.declared.symbol.Expected.TheVariants as expected
 
 -- ---- words have no full stop
 
@@ -121,10 +109,6 @@ tree_is_well_formed text tokens o l (rest, h) =
     }
 
 -- ---- symbols stand as their tokens do
-
-abbrev is_end_mark : Mark → Bool
-is_end_mark mark.End = true
-is_end_mark _ = false
 
 abbrev or_beyond : Bool → Kind → Kind
 or_beyond b k = if b then kind.Beyond else k

@@ -3,31 +3,25 @@
 use Rattle.std.specs.Prelude.{ℕ, Bool, true, false, List, [], ◌∷◌, ◌≡◌, ◌||◌, nat_lt, if◌then◌else◌, Some, None, Ok}
 use Rattle.std.specs.Prelude.{Err}
 use Rattle.cs_base.specs.declared.fault.OrcFault.{OrcFault}
+use Rattle.cs_words.specs.{declared.sign.BinOp.BinOp, declared.word.Func.Func}
+use Rattle.cs_grammar.specs.{declared.symbol.Kind.Kind, declared.lists.Role.Role, declared.scope.Place.Place}
+use Rattle.cs_grammar.specs.{declared.expr.Level.Level, Symbols.Symbol, Kinds.is, Kinds.ends_line}
+use Rattle.cs_grammar.specs.Tree.{Expression, var, neg, pair, pick, apply, Argument, value, text, Statement, set, call}
+use Rattle.cs_grammar.specs.Tree.{choose, Block, no_stmt, andthen, Arms, otherwise, arm}
+use Rattle.cs_grammar.specs.Reading.{next, after, Left, Reading, left, mapped, both, three, skip, next_is, meets, Scope}
+use Rattle.cs_grammar.specs.Reading.{deeper, fault, misfit, through, ended}
+use Rattle.cs_grammar.specs.Parts.{tighter, repeats, operator, part_form, atom}
+use Rattle.cs_grammar.specs.Lines.{line_form, target, ReadsTargets, operation}
 use Rattle.cs_base.specs.declared.fault.OrcKind.TheVariants as orc
-use Rattle.cs_words.specs.declared.sign.BinOp.{BinOp}
 use Rattle.cs_words.specs.declared.sign.BinOp.TheVariants as op
 use Rattle.cs_words.specs.declared.sign.Sign.TheVariants as sign
-use Rattle.cs_words.specs.declared.word.Func.{Func}
-use Rattle.cs_grammar.specs.declared.symbol.Kind.{Kind}
 use Rattle.cs_grammar.specs.declared.symbol.Kind.TheVariants as kind
 use Rattle.cs_grammar.specs.declared.symbol.Expected.TheVariants as expected
-use Rattle.cs_grammar.specs.declared.lists.Role.{Role}
 use Rattle.cs_grammar.specs.declared.lists.Role.TheVariants as role
-use Rattle.cs_grammar.specs.declared.scope.Place.{Place}
 use Rattle.cs_grammar.specs.declared.scope.Place.TheVariants as place
-use Rattle.cs_grammar.specs.declared.expr.Level.{Level}
 use Rattle.cs_grammar.specs.declared.expr.Level.TheVariants as level
 use Rattle.cs_grammar.specs.declared.expr.PartForm.TheVariants as part
 use Rattle.cs_grammar.specs.declared.stmt.LineForm.TheVariants as form
-use Rattle.cs_grammar.specs.Symbols.{Symbol}
-use Rattle.cs_grammar.specs.Tree.{Expression, var, neg, pair, pick, apply, Argument, value, text, Statement, set, call}
-use Rattle.cs_grammar.specs.Tree.{choose, Block, no_stmt, andthen}
-use Rattle.cs_grammar.specs.Tree.{Arms, otherwise, arm}
-use Rattle.cs_grammar.specs.Reading.{next, after, Left, Reading, left, mapped, both, three, skip, next_is, meets, Scope}
-use Rattle.cs_grammar.specs.Reading.{deeper, fault, misfit, through, ended}
-use Rattle.cs_grammar.specs.Kinds.{is, ends_line}
-use Rattle.cs_grammar.specs.Parts.{tighter, repeats, operator, part_form, atom}
-use Rattle.cs_grammar.specs.Lines.{line_form, target, ReadsTargets, operation}
 
 -- An expression of a level: `expr`, `and`, `cmp`, `sum`, `term` by their operators, and `fact` by how it begins.
 mutual

@@ -1,33 +1,24 @@
 -- What a line is by the words that it begins with, and the parts of lines that aren't expressions.
 use Rattle.std.specs.Prelude.{ℕ, ℤ, pos, Bool, true, false, List, [], ◌∷◌, ◌++◌, ◌≡◌, ◌/◌, ◌%◌, ◌&&◌, ◌==◌, not, codes}
-use Rattle.std.specs.Prelude.{Option, Some, None, Ok, Err}
-use Rattle.std.specs.Prelude.{if◌then◌else◌, nat_le, nat_lt}
+use Rattle.std.specs.Prelude.{Option, Some, None, Ok, Err, if◌then◌else◌, nat_le, nat_lt}
 use Rattle.std.specs.Str.{bytes_eq}
 use Rattle.cs_base.specs.Limits.{greatest_instrument, most_nested_ifs}
-use Rattle.cs_base.specs.declared.fault.OrcFault.{OrcFault}
-use Rattle.cs_base.specs.declared.fault.OrcKind.{OrcKind}
+use Rattle.cs_base.specs.{declared.fault.OrcFault.OrcFault, declared.fault.OrcKind.OrcKind}
+use Rattle.cs_words.specs.{declared.catalogue.Opcode.Opcode, declared.word.HeadName.HeadName}
+use Rattle.cs_grammar.specs.{declared.tree.Callee.Callee, declared.tree.HeadLine.HeadLine, declared.symbol.Kind.Kind}
+use Rattle.cs_grammar.specs.{declared.scope.Place.Place, declared.stmt.LineForm.LineForm, Symbols.Symbol, Kinds.is}
+use Rattle.cs_grammar.specs.{Kinds.is_word, Reading.ended, Parts.is_variable, Parts.is_opcode}
+use Rattle.cs_grammar.specs.Reading.{next, after, Left, Reading, mapped, next_is, Scope, has_number, fault, misfit}
 use Rattle.cs_base.specs.declared.fault.OrcKind.TheVariants as orc
-use Rattle.cs_words.specs.declared.catalogue.Opcode.{Opcode}
 use Rattle.cs_words.specs.declared.catalogue.Opcode.TheVariants as opcode
-use Rattle.cs_words.specs.declared.word.HeadName.{HeadName}
 use Rattle.cs_words.specs.declared.word.Keyword.TheVariants as key
 use Rattle.cs_words.specs.declared.word.Word.TheVariants as word
 use Rattle.cs_words.specs.declared.sign.Sign.TheVariants as sign
-use Rattle.cs_grammar.specs.declared.tree.Callee.{Callee}
 use Rattle.cs_grammar.specs.declared.tree.Callee.TheVariants as callee
-use Rattle.cs_grammar.specs.declared.tree.HeadLine.{HeadLine}
-use Rattle.cs_grammar.specs.declared.symbol.Kind.{Kind}
 use Rattle.cs_grammar.specs.declared.symbol.Kind.TheVariants as kind
 use Rattle.cs_grammar.specs.declared.symbol.Expected.TheVariants as expected
-use Rattle.cs_grammar.specs.declared.scope.Place.{Place}
 use Rattle.cs_grammar.specs.declared.scope.Place.TheVariants as place
-use Rattle.cs_grammar.specs.declared.stmt.LineForm.{LineForm}
 use Rattle.cs_grammar.specs.declared.stmt.LineForm.TheVariants as form
-use Rattle.cs_grammar.specs.Symbols.{Symbol}
-use Rattle.cs_grammar.specs.Kinds.{is, is_word}
-use Rattle.cs_grammar.specs.Reading.{next, after, Left, Reading, mapped, next_is, Scope, has_number, fault, misfit}
-use Rattle.cs_grammar.specs.Reading.{ended}
-use Rattle.cs_grammar.specs.Parts.{is_variable, is_opcode}
 
 -- a line that begins with a word, no keyword: by what follows it, and whether it is an opcode
 abbrev pub word_form : Kind → Bool → LineForm
@@ -61,13 +52,24 @@ abbrev pub target : Scope → List Symbol → Reading (List ℕ)
 target s ts =
     if is_variable s (next ts) then Ok ((next ts).text, after ts) else Err (misfit s (no_target (next ts).kind) ts)
 
+-- items with commas between them, each read after those before it
+pub data ReadsRow {A : Type 0} (one : List A → List Symbol → Reading A)
+    : List A → List Symbol → Reading (List A) → Type 0 where
+  no_item : {before : List A} {ts : List Symbol} {f : OrcFault} → one before ts ≡ Err f
+      → ReadsRow one before ts (Err f)
+  last_item : {before : List A} {ts us : List Symbol} {x : A} → one before ts ≡ Ok (x, us)
+      → next_is expected.Comma us ≡ false → ReadsRow one before ts (Ok (x ∷ [], us))
+  more_items : {before : List A} {ts us : List Symbol} {x : A} {out : Reading (List A)} → one before ts ≡ Ok (x, us)
+      → next_is expected.Comma us ≡ true → ReadsRow one (before ++ x ∷ []) (after us) out
+      → ReadsRow one before ts (mapped (λ xs. x ∷ xs) out)
+
+-- a variable, whatever stands before it
+abbrev pub one_target : Scope → List (List ℕ) → List Symbol → Reading (List ℕ)
+one_target s before ts = target s ts
+
 -- name { "," name }: the variables that take the results of a call
-pub data ReadsTargets (s : Scope) : List Symbol → Reading (List (List ℕ)) → Type 0 where
-  no_target_there : {ts : List Symbol} {f : OrcFault} → target s ts ≡ Err f → ReadsTargets s ts (Err f)
-  last_target : {ts us : List Symbol} {n : List ℕ} → target s ts ≡ Ok (n, us) → next_is expected.Comma us ≡ false
-      → ReadsTargets s ts (Ok (n ∷ [], us))
-  more_targets : {ts us : List Symbol} {n : List ℕ} {out : Reading (List (List ℕ))} → target s ts ≡ Ok (n, us)
-      → next_is expected.Comma us ≡ true → ReadsTargets s (after us) out → ReadsTargets s ts (mapped (λ ns. n ∷ ns) out)
+abbrev pub ReadsTargets : Scope → List Symbol → Reading (List (List ℕ)) → Type 0
+ReadsTargets s ts = ReadsRow (one_target s) [] ts
 
 -- the name of the definition that a line stands in
 abbrev pub is_own : Scope → List ℕ → Place → Bool
@@ -139,11 +141,5 @@ abbrev pub one_number : Scope → List ℕ → List Symbol → Reading ℕ
 one_number s given ts = number_at s given ts (next ts).kind
 
 -- Number { "," Number }: those before in the line are given too
-pub data ReadsNumbers (s : Scope) : List ℕ → List Symbol → Reading (List ℕ) → Type 0 where
-  no_number : {given : List ℕ} {ts : List Symbol} {f : OrcFault} → one_number s given ts ≡ Err f
-      → ReadsNumbers s given ts (Err f)
-  last_number : {given : List ℕ} {ts us : List Symbol} {n : ℕ} → one_number s given ts ≡ Ok (n, us)
-      → next_is expected.Comma us ≡ false → ReadsNumbers s given ts (Ok (n ∷ [], us))
-  more_numbers : {given : List ℕ} {ts us : List Symbol} {n : ℕ} {out : Reading (List ℕ)}
-      → one_number s given ts ≡ Ok (n, us) → next_is expected.Comma us ≡ true
-      → ReadsNumbers s (given ++ n ∷ []) (after us) out → ReadsNumbers s given ts (mapped (λ ns. n ∷ ns) out)
+abbrev pub ReadsNumbers : Scope → List ℕ → List Symbol → Reading (List ℕ) → Type 0
+ReadsNumbers s given ts = ReadsRow (one_number s) given ts

@@ -1,29 +1,22 @@
 -- Instruments, definitions and what stands outside them; the tree of a whole text, or its first fault.
 use Rattle.std.specs.Prelude.{ℕ, Bool, true, false, List, [], ◌∷◌, ◌++◌, ◌≡◌, ◌≢◌, length, Ok, Err, if◌then◌else◌}
-use Rattle.cs_base.specs.declared.fault.OrcFault.{OrcFault}
-use Rattle.cs_base.specs.declared.fault.OrcKind.{OrcKind}
-use Rattle.cs_base.specs.declared.fault.OrcKind.TheVariants as orc
-use Rattle.cs_base.specs.declared.resource.Rate.{Rate}
+use Rattle.cs_base.specs.{declared.fault.OrcFault.OrcFault, declared.fault.OrcKind.OrcKind, declared.resource.Rate.Rate}
 use Rattle.cs_lex.specs.declared.token.Token.{Token}
 use Rattle.cs_words.specs.declared.word.HeadName.{HeadName}
-use Rattle.cs_grammar.specs.declared.tree.HeadLine.{HeadLine}
-use Rattle.cs_grammar.specs.declared.symbol.Kind.{Kind}
+use Rattle.cs_grammar.specs.{declared.tree.HeadLine.HeadLine, declared.symbol.Kind.Kind, declared.orc.ItemForm.ItemForm}
+use Rattle.cs_grammar.specs.{Symbols.Symbol, Symbols.symbols, Headings.Heading, Headings.heading, Inputs.ReadsInputs}
+use Rattle.cs_grammar.specs.Tree.{Argument, Statement, Block, no_stmt, andthen, Instrument, Definition, Orchestra}
+use Rattle.cs_grammar.specs.Reading.{next, after, Left, Reading, left, both, three, next_is, Scope, outside}
+use Rattle.cs_grammar.specs.Reading.{in_instrument, in_definition, fault, misfit, through, ended}
+use Rattle.cs_grammar.specs.Lines.{header_line, ReadsNumbers}
+use Rattle.cs_grammar.specs.Grammar.{ReadsList, ReadsStmt, ReadsBlock}
+use Rattle.cs_base.specs.declared.fault.OrcKind.TheVariants as orc
 use Rattle.cs_grammar.specs.declared.symbol.Kind.TheVariants as kind
 use Rattle.cs_words.specs.declared.word.Keyword.TheVariants as key
 use Rattle.cs_words.specs.declared.word.Word.TheVariants as word
 use Rattle.cs_grammar.specs.declared.symbol.Expected.TheVariants as expected
 use Rattle.cs_grammar.specs.declared.lists.Role.TheVariants as role
-use Rattle.cs_grammar.specs.declared.orc.ItemForm.{ItemForm}
 use Rattle.cs_grammar.specs.declared.orc.ItemForm.TheVariants as item
-use Rattle.cs_grammar.specs.Symbols.{Symbol, symbols}
-use Rattle.cs_grammar.specs.Tree.{Argument, Statement, Block, no_stmt, andthen, Instrument, Definition, Orchestra}
-use Rattle.cs_grammar.specs.Reading.{next, after, Left, Reading, left, both, three, next_is, Scope, outside}
-use Rattle.cs_grammar.specs.Reading.{in_instrument, in_definition, fault, misfit}
-use Rattle.cs_grammar.specs.Reading.{through, ended}
-use Rattle.cs_grammar.specs.Lines.{header_line, ReadsNumbers}
-use Rattle.cs_grammar.specs.Headings.{Heading, heading}
-use Rattle.cs_grammar.specs.Inputs.{ReadsInputs}
-use Rattle.cs_grammar.specs.Grammar.{ReadsList, ReadsStmt, ReadsBlock}
 
 abbrev pub instrument_of : ℕ → List ℕ → Block → Instrument
 instrument_of line ns body = record { line = line; numbers = ns; body = body }

@@ -1,23 +1,19 @@
 -- Parts of expressions: levels and their operators, and what a fact may begin with.
 use Rattle.std.specs.Prelude.{ℕ, Bool, true, false, List, ◌&&◌, not, Option, Some, None, Ok, Err, if◌then◌else◌}
 use Rattle.cs_base.specs.declared.fault.OrcFault.{OrcFault}
+use Rattle.cs_words.specs.{declared.sign.BinOp.BinOp, NameSets.has}
+use Rattle.cs_grammar.specs.{declared.symbol.Kind.Kind, Kinds.is_word, Kinds.is_name_kind}
+use Rattle.cs_grammar.specs.{declared.expr.PartForm.PartForm, declared.expr.Level.Level, Symbols.Symbol}
+use Rattle.cs_grammar.specs.Tree.{Expression, number, var, field, head}
+use Rattle.cs_grammar.specs.Reading.{next, after, Left, Reading, Scope, next_is, misfit}
 use Rattle.cs_base.specs.declared.fault.OrcKind.TheVariants as orc
-use Rattle.cs_words.specs.declared.sign.BinOp.{BinOp}
 use Rattle.cs_words.specs.declared.sign.BinOp.TheVariants as op
 use Rattle.cs_words.specs.declared.sign.Sign.TheVariants as sign
 use Rattle.cs_words.specs.declared.word.Word.TheVariants as word
-use Rattle.cs_grammar.specs.declared.symbol.Kind.{Kind}
 use Rattle.cs_grammar.specs.declared.symbol.Kind.TheVariants as kind
 use Rattle.cs_grammar.specs.declared.symbol.Expected.TheVariants as expected
-use Rattle.cs_grammar.specs.Kinds.{is_word, is_name_kind}
-use Rattle.cs_grammar.specs.declared.expr.PartForm.{PartForm}
 use Rattle.cs_grammar.specs.declared.expr.PartForm.TheVariants as part
-use Rattle.cs_grammar.specs.declared.expr.Level.{Level}
 use Rattle.cs_grammar.specs.declared.expr.Level.TheVariants as level
-use Rattle.cs_grammar.specs.Symbols.{Symbol}
-use Rattle.cs_grammar.specs.Tree.{Expression, number, var, field, head}
-use Rattle.cs_words.specs.NameSets.{has}
-use Rattle.cs_grammar.specs.Reading.{next, after, Left, Reading, Scope, next_is, misfit}
 
 -- the next tighter level; a fact is the tightest
 abbrev pub tighter : Level → Option Level

@@ -1,20 +1,16 @@
 -- What a reading is: a value and the symbols that are left, or a fault; and where a line stands.
 use Rattle.std.specs.Prelude.{ℕ, Bool, false, List, [], ◌∷◌, ◌+◌, ◌==◌, Result, Ok, Err, if◌then◌else◌, nat_lt}
 use Rattle.std.specs.List.{list_any}
-use Rattle.cs_base.specs.declared.fault.OrcFault.{OrcFault}
-use Rattle.cs_base.specs.declared.fault.OrcKind.{OrcKind}
-use Rattle.cs_base.specs.declared.fault.OrcKind.TheVariants as orc
+use Rattle.cs_base.specs.{declared.fault.OrcFault.OrcFault, declared.fault.OrcKind.OrcKind}
 use Rattle.cs_words.specs.declared.word.Keyword.{Keyword}
+use Rattle.cs_grammar.specs.{declared.symbol.Kind.Kind, Kinds.is, declared.scope.Place.Place, Symbols.Symbol}
+use Rattle.cs_grammar.specs.declared.symbol.Expected.{Expected}
+use Rattle.cs_base.specs.declared.fault.OrcKind.TheVariants as orc
 use Rattle.cs_words.specs.declared.word.Keyword.TheVariants as key
 use Rattle.cs_words.specs.declared.word.Word.TheVariants as word
 use Rattle.cs_words.specs.declared.sign.Sign.TheVariants as sign
-use Rattle.cs_grammar.specs.declared.symbol.Kind.{Kind}
 use Rattle.cs_grammar.specs.declared.symbol.Kind.TheVariants as kind
-use Rattle.cs_grammar.specs.declared.symbol.Expected.{Expected}
-use Rattle.cs_grammar.specs.Kinds.{is}
-use Rattle.cs_grammar.specs.declared.scope.Place.{Place}
 use Rattle.cs_grammar.specs.declared.scope.Place.TheVariants as place
-use Rattle.cs_grammar.specs.Symbols.{Symbol}
 
 -- the first of the symbols that are left: after the last it is End
 abbrev pub next : List Symbol → Symbol

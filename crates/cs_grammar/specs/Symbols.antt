@@ -1,13 +1,11 @@
 -- The tokens of a text as the grammar sees them.
 use Rattle.std.specs.Prelude.{ℕ, List, [], ◌∷◌, ◌+◌, ◌-◌, if◌then◌else◌, nat_le, slice_range, length}
 use Rattle.cs_base.specs.Limits.{most_line_tokens}
-use Rattle.cs_lex.specs.declared.token.Mark.{Mark}
-use Rattle.cs_lex.specs.declared.token.Mark.TheVariants as mark
-use Rattle.cs_lex.specs.declared.token.Token.{Token}
+use Rattle.cs_lex.specs.{declared.token.Mark.Mark, declared.token.Token.Token}
 use Rattle.cs_grammar.specs.declared.symbol.Kind.{Kind}
+use Rattle.cs_words.specs.{Words.word_of, Signs.sign_of}
+use Rattle.cs_lex.specs.declared.token.Mark.TheVariants as mark
 use Rattle.cs_grammar.specs.declared.symbol.Kind.TheVariants as kind
-use Rattle.cs_words.specs.Words.{word_of}
-use Rattle.cs_words.specs.Signs.{sign_of}
 
 -- a token as the grammar sees it
 pub record Symbol : Type 0 where

@@ -1,23 +1,16 @@
 -- The tree of an orchestra as definitions see it: the same shapes, without boxes' addresses and vectors' capacities.
 use Rattle.std.specs.Prelude.{ℕ, ℤ, List, [], ◌∷◌, map}
 use Rattle.cs_base.specs.declared.resource.Rate.{Rate}
-use Rattle.cs_words.specs.declared.word.HeadName.{HeadName}
-use Rattle.cs_words.specs.declared.sign.BinOp.{BinOp}
-use Rattle.cs_words.specs.declared.word.Func.{Func}
-use Rattle.cs_grammar.specs.declared.tree.Expr.{Expr}
+use Rattle.cs_words.specs.{declared.word.HeadName.HeadName, declared.sign.BinOp.BinOp, declared.word.Func.Func}
+use Rattle.cs_grammar.specs.{declared.tree.Expr.Expr, declared.tree.Arg.Arg, declared.tree.Callee.Callee}
+use Rattle.cs_grammar.specs.{declared.tree.OrcStmt.OrcStmt, declared.tree.HeadLine.HeadLine, declared.tree.Instr.Instr}
+use Rattle.cs_grammar.specs.{declared.tree.Udo.Udo, declared.tree.Orc.Orc}
 use Rattle.cs_grammar.specs.declared.tree.Expr.TheVariants.{Number, Var, Field, Head, Neg', Pair', Pick', Call'}
-use Rattle.cs_grammar.specs.declared.tree.Arg.{Arg}
 use Rattle.cs_grammar.specs.declared.tree.Arg.TheVariants.{Value, Text}
-use Rattle.cs_grammar.specs.declared.tree.Callee.{Callee}
 use Rattle.cs_grammar.specs.declared.tree.StmtWhat.{StmtWhat, Row_of-Arm, end_of-Arm, more_of-Arm, Row_of-OrcStmt}
 use Rattle.cs_grammar.specs.declared.tree.StmtWhat.{end_of-OrcStmt, more_of-OrcStmt}
 use Rattle.cs_grammar.specs.declared.tree.StmtWhat.TheVariants.{Set, Call, Choose'}
-use Rattle.cs_grammar.specs.declared.tree.OrcStmt.{OrcStmt}
 use Rattle.cs_grammar.specs.declared.tree.Arm.{Arm, Arm', out-Arm}
-use Rattle.cs_grammar.specs.declared.tree.HeadLine.{HeadLine}
-use Rattle.cs_grammar.specs.declared.tree.Instr.{Instr}
-use Rattle.cs_grammar.specs.declared.tree.Udo.{Udo}
-use Rattle.cs_grammar.specs.declared.tree.Orc.{Orc}
 
 pub data Expression : Type 0 where
   number : ℤ → Expression

@@ -1,22 +1,17 @@
 -- What holds of every tree of a text: ranges, names, places of calls, and the order of lines.
 use Rattle.std.specs.Prelude.{ℕ, true, false, List, [], ◌∷◌, ◌++◌, ◌≡◌, ◌≢◌, ◌≤◌, ◌<◌, ◌+◌, length, map}
-use Rattle.std.specs.Str.{byte}
-use Rattle.std.specs.List.{All, AllPairs}
-use Rattle.cs_words.specs.declared.catalogue.Opcode.{Opcode}
-use Rattle.cs_words.specs.declared.catalogue.Opcode.TheVariants as opcode
+use Rattle.std.specs.{Str.byte, List.All, List.AllPairs}
+use Rattle.cs_words.specs.{declared.catalogue.Opcode.Opcode, Catalogue.row_of}
 use Rattle.cs_base.specs.Limits.{greatest_field, greatest_instrument, most_nested_ifs}
-use Rattle.cs_words.specs.Catalogue.{row_of}
 use Rattle.cs_words.specs.Names.{is_name, is_global, name_rate}
-use Rattle.cs_grammar.specs.declared.scope.Place.{Place}
-use Rattle.cs_grammar.specs.declared.scope.Place.TheVariants as place
-use Rattle.cs_grammar.specs.declared.tree.Callee.{Callee}
-use Rattle.cs_grammar.specs.declared.tree.Callee.TheVariants as callee
+use Rattle.cs_grammar.specs.{declared.scope.Place.Place, declared.tree.Callee.Callee, Tree.Instrument, Tree.Definition}
+use Rattle.cs_grammar.specs.{Tree.Orchestra, declared.tree.HeadLine.HeadLine, Inputs.AreDifferent}
 use Rattle.cs_grammar.specs.Tree.{Expression, number, var, field, head, neg, pair, pick, apply, Argument, value, text}
-use Rattle.cs_grammar.specs.Tree.{Statement, set, call, choose}
-use Rattle.cs_grammar.specs.Tree.{Block, no_stmt, andthen, Arms, otherwise, arm, Instrument, Definition, Orchestra}
-use Rattle.cs_grammar.specs.declared.tree.HeadLine.{HeadLine}
+use Rattle.cs_grammar.specs.Tree.{Statement, set, call, choose, Block, no_stmt, andthen, Arms, otherwise, arm}
 use Rattle.cs_grammar.specs.Orchestra.{nothing, with_header, with_instr, with_definition, with_stmt}
-use Rattle.cs_grammar.specs.Inputs.{AreDifferent}
+use Rattle.cs_words.specs.declared.catalogue.Opcode.TheVariants as opcode
+use Rattle.cs_grammar.specs.declared.scope.Place.TheVariants as place
+use Rattle.cs_grammar.specs.declared.tree.Callee.TheVariants as callee
 
 -- no full stop in a name: one that has it is no name of a text
 abbrev pub HasNoStop : List ℕ → Type 0

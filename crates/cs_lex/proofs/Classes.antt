@@ -1,13 +1,11 @@
 -- What the class of a byte means.
+use Rattle.std.proofs.lemmas.{Grind.common_steps, Bool.Decides.nat_tests}
 use Rattle.std.proofs.Common.{◌≡◌, ◌≢◌, ℕ, Bool, true, false, ◌&&◌, ◌||◌, ◌==◌, not, arith, refl, if◌then◌else◌}
 use Rattle.std.specs.Char.{is_ascii_digit}
-use Rattle.std.proofs.lemmas.Bool.Decides.{nat_tests}
-use Rattle.cs_lex.specs.declared.class.Class.{Class}
+use Rattle.cs_lex.specs.{declared.class.Class.Class, Rows.is_stray, inner.Front.class_of}
+use Rattle.cs_base.specs.Lines.{is_blank}
+use Rattle.cs_lex.specs.Bytes.{is_letter, is_allowed, is_short_sign}
 use Rattle.cs_lex.specs.declared.class.Class.TheVariants as class
-use Rattle.cs_base.specs.Lines.{is_blank, is_feed}
-use Rattle.cs_lex.specs.Bytes.{is_quote, is_letter, is_allowed, is_short_sign}
-use Rattle.cs_lex.specs.Rows.{is_stray}
-use Rattle.cs_lex.specs.inner.Front.{class_of}
 
 -- what a byte of each class is
 abbrev pub Means : Class → ℕ → Type 0
@@ -45,20 +43,4 @@ and_not true true h k = cc
 and_not false b h k = cc
 
 pub class_means : (b : ℕ) → Means (class_of b) b
-class_means b =
-    pick (is_letter b) _ _ b (λ h. h) (λ n1.
-    pick (is_ascii_digit b) _ _ b (λ h. h) (λ n2.
-    pick (is_blank b) _ _ b (λ h. h) (λ n3.
-    pick (is_feed b) _ _ b (λ h. is b 10 h) (λ n4.
-    pick (is_quote b) _ _ b (λ h. is b 34 h) (λ n5.
-    pick (b == 46) _ _ b (λ h. is b 46 h) (λ n6.
-    pick (b == 47) _ _ b (λ h. is b 47 h) (λ n7.
-    pick (b == 59) _ _ b (λ h. is b 59 h) (λ n8.
-    pick (b == 92) _ _ b (λ h. is b 92 h) (λ n9.
-    pick (is_short_sign b) _ _ b (λ h. (h, is_not b 47 n7, is_not b 59 n8)) (λ n10.
-    pick (is_allowed b) class.Stray class.Bad b
-    (λ h. and_not (is_allowed b) _ h
-    (or_false _ _ (or_false _ _
-    (or_false _ _ (or_false _ _ (or_false _ _ (or_false _ _ (or_false _ _ (or_false _ _ n1 n2) n3) n4) n5) n6) n8) n9)
-    n10))
-    (λ h. h)))))))))))
+class_means b = grind (arith, common_steps, and_not, is, is_not, or_false, pick)

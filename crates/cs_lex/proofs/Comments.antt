@@ -1,17 +1,12 @@
 -- How long a comment is.
-use Rattle.std.proofs.Common.{◌≡◌, ◌+◌, ◌<◌, ◌≤◌, ℕ, Bool, true, false, ◌&&◌, ◌||◌, not, List, ◌∷◌, length, drop, arith}
-use Rattle.std.proofs.Common.{ap, sym, ◌∙◌, refl, subst, codes, nat_lt, if◌then◌else◌}
+use Rattle.std.proofs.lemmas.{Grind.common_steps, Bool.false≢true, Bool.and_parts, Bool.Decides.nat_tests}
+use Rattle.std.proofs.lemmas.{List.length-append, List.length-drop, List.Sums.prefix_len-le-length}
+use Rattle.std.proofs.Common.{◌≡◌, ◌+◌, ◌<◌, ◌≤◌, ℕ, Bool, true, false, ◌&&◌, ◌||◌, not, List, length, drop, arith, sym}
+use Rattle.std.proofs.Common.{◌∙◌, refl, codes, nat_lt, if◌then◌else◌}
 use Rattle.std.specs.List.{list_any, prefix_len}
-use Rattle.std.proofs.lemmas.Bool.{false≢true, and_parts}
-use Rattle.std.proofs.lemmas.Bool.Decides.{nat_tests}
-use Rattle.std.proofs.lemmas.List.{length-append, length-drop}
-use Rattle.std.proofs.lemmas.List.Sums.{prefix_len-le-length}
-use Rattle.cs_base.specs.Lines.{begins_with, is_line_byte}
+use Rattle.cs_base.specs.{Lines.is_line_byte, Comments.is_open_comment, Comments.comment_len}
 use Rattle.cs_base.specs.Comments.{tails, closes, close_of, begins_line_comment, begins_block_comment, begins_comment}
-use Rattle.cs_base.specs.Comments.{is_open_comment, comment_len}
-use Rattle.cs_base.proofs.Tests.{by_test}
-use Rattle.cs_base.proofs.Texts.{front_is}
-use Rattle.cs_base.proofs.Closings.{close_fits, close_is_there}
+use Rattle.cs_base.proofs.{Tests.by_test, Texts.front_is, Closings.close_fits, Closings.close_is_there}
 
 pick_within : (line left_open block : Bool) (a b c n : ℕ) → a ≤ n → b ≤ n → (left_open ≡ false → block ≡ true → c ≤ n)
     → (if line then a else if left_open then b else if block then c else 0) ≤ n
@@ -34,9 +29,7 @@ not_and true false h k = absurd (false≢true (sym h))
 not_and false b h k = absurd (false≢true k)
 
 two_bytes : (text : List ℕ) → begins_block_comment text ≡ true → 2 ≤ length text
-two_bytes text h =
-    let long = ap length (front_is (codes "/*") text h) ∙ length-append (codes "/*") (drop 2 text) in
-    omega (arith, long)
+two_bytes text h = grind (arith, common_steps, codes, front_is, length-append)
 
 closed_within : (text : List ℕ) → is_open_comment text ≡ false → begins_block_comment text ≡ true
     → close_of (drop 2 text) + 4 ≤ length text
@@ -48,44 +41,18 @@ closed_within text h k =
 
 -- a comment lies in its text
 pub comment_within : (text : List ℕ) → comment_len text ≤ length text
-comment_within text =
-    pick_within (begins_line_comment text) (is_open_comment text) (begins_block_comment text)
-    (prefix_len is_line_byte text) (length text) (close_of (drop 2 text) + 4) (length text)
-    (prefix_len-le-length is_line_byte text) (omega arith) (closed_within text)
+comment_within text = grind (arith, common_steps, closed_within, pick_within, prefix_len-le-length)
 
 line_some : (text : List ℕ) → begins_line_comment text ≡ true → 0 < prefix_len is_line_byte text
-line_some text h = by_test (begins_with (codes ";") text)
-    (λ e. first 59 (drop 1 text) refl (front_is (codes ";") text e))
-    (λ n. first 47 (47 ∷ drop 2 text) refl
-    (front_is (codes "//") text (second (begins_with (codes ";") text) (begins_with (codes "//") text) n h)))
-  where
-    first : (b : ℕ) (rest : List ℕ) → is_line_byte b ≡ true → text ≡ b ∷ rest → 0 < prefix_len is_line_byte text
-    first b rest k e = subst (λ t. 0 < prefix_len is_line_byte t) (sym e) (rw k (omega arith))
-
-    second : (a b : Bool) → a ≡ false → (a || b) ≡ true → b ≡ true
-    second false b n h = h
-    second true b n h = absurd (false≢true (sym n))
+line_some text h = grind (arith, common_steps, by_test, codes, front_is)
 
 open_some : (text : List ℕ) → is_open_comment text ≡ true → 0 < length text
-open_some text h =
-    omega (
-      arith,
-      two_bytes text
-          (and_parts (begins_block_comment text) (not (list_any closes (tails (drop 2 text)))) h).0,
-    )
+open_some text h = grind (arith, common_steps, and_parts, not, two_bytes)
 
 -- and has a byte
 pub comment_some : (text : List ℕ) → begins_comment text ≡ true → 0 < comment_len text
-comment_some text h =
-    pick_some (begins_line_comment text) (is_open_comment text) (begins_block_comment text)
-    (prefix_len is_line_byte text) (length text) (close_of (drop 2 text) + 4) h (line_some text) (open_some text)
-    (omega arith)
+comment_some text h = grind (arith, common_steps, line_some, open_some, pick_some)
 
 -- an open comment is a comment
 pub open_begins : (text : List ℕ) → is_open_comment text ≡ true → begins_comment text ≡ true
-open_begins text h = last (begins_line_comment text) (begins_block_comment text)
-    (and_parts (begins_block_comment text) (not (list_any closes (tails (drop 2 text)))) h).0
-  where
-    last : (a b : Bool) → b ≡ true → (a || b) ≡ true
-    last true b h = refl
-    last false b h = h
+open_begins text h = grind (arith, common_steps, and_parts, not)

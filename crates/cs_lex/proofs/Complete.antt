@@ -1,43 +1,30 @@
 -- A span of a row's form is what the reader finds there, and a fault is the fault that it finds.
+use Rattle.std.proofs.lemmas.{Grind.common_steps, Bool.Decides.nat_tests, List.Folds.list_all-append}
 use Rattle.std.proofs.Common.{◌≡◌, ◌≢◌, ◌+◌, ◌<◌, ℕ, suc, Bool, true, false, ◌&&◌, ◌||◌, ◌==◌, not, List, [], ◌∷◌, ◌++◌}
 use Rattle.std.proofs.Common.{length, drop, take, arith, ap, sym, ◌∙◌, codes, refl, subst, inl, inr, ◌⊎◌, Option, Some}
 use Rattle.std.proofs.Common.{None, Result, Ok, Err, nat_le, ℤ, if◌then◌else◌}
-use Rattle.std.proofs.Math.Seq.{take-append-add}
-use Rattle.cs_base.specs.declared.decimal.Decimal.{Decimal}
-use Rattle.cs_base.specs.Numbers.{clamp}
-use Rattle.cs_base.proofs.Arithmetic.{clamp_same, decimal_in_range}
-use Rattle.std.specs.List.{list_all, list_any}
-use Rattle.std.specs.Option.{IsSomeAnd}
-use Rattle.std.specs.Char.{is_ascii_digit}
+use Rattle.std.proofs.{Math.Seq.take-append-add, Math.Bool.and-false}
+use Rattle.cs_base.specs.{declared.decimal.Decimal.Decimal, Numbers.clamp, declared.fault.OrcKind.OrcKind}
+use Rattle.cs_base.proofs.{Arithmetic.clamp_same, Arithmetic.decimal_in_range, Tests.by_test, Texts.front_is}
+use Rattle.std.specs.{List.list_all, List.list_any, Option.IsSomeAnd, Char.is_ascii_digit}
 use Rattle.std.proofs.lemmas.Bool.{and_parts, and_from, false≢true}
-use Rattle.std.proofs.lemmas.Bool.Decides.{nat_tests}
 use Rattle.std.proofs.lemmas.List.{append_assoc, append_cancel_left, length-append, drop_at, take_at}
-use Rattle.std.proofs.lemmas.List.Folds.{list_all-append}
 use Rattle.cs_base.specs.Decimals.{decimal_of, raw_of_decimal, is_numeral, whole_part, billionths_part, greatest_whole}
-use Rattle.cs_base.specs.declared.fault.OrcKind.{OrcKind}
-use Rattle.cs_base.specs.declared.fault.OrcKind.TheVariants as orc
-use Rattle.cs_lex.specs.declared.token.Mark.{Mark}
-use Rattle.cs_lex.specs.declared.token.Mark.TheVariants as mark
-use Rattle.cs_lex.specs.declared.front.Front.{Front}
-use Rattle.cs_lex.specs.declared.class.Class.{Class}
-use Rattle.cs_lex.specs.declared.class.Class.TheVariants as class
+use Rattle.cs_lex.specs.{declared.token.Mark.Mark, declared.front.Front.Front, declared.class.Class.Class}
+use Rattle.cs_lex.specs.{Bytes.is_short_sign, Bytes.is_long_sign, inner.Front.number_of, inner.Front.number_front}
 use Rattle.cs_base.specs.Lines.{is_blank, is_feed, begins, begins_with}
 use Rattle.cs_lex.specs.Bytes.{is_quote, is_letter, is_word_byte, is_allowed, is_quotable, is_text_byte, is_sign}
-use Rattle.cs_lex.specs.Bytes.{is_short_sign, is_long_sign}
 use Rattle.cs_lex.specs.inner.Front.{front_of, by_class, class_of, run, gap, comment_front, sign_front, numeral_len}
-use Rattle.cs_lex.specs.inner.Front.{number_of, number_front}
 use Rattle.cs_lex.specs.Rows.{Fits, IsFault, Longest, is_word, IsComment, IsJoin, IsSign, IsText, IsLoneBackslash}
 use Rattle.cs_lex.specs.Rows.{HasBadByte, IsBadByte, IsOpenText, IsNumber, IsBadNumber, IsFullScale, IsStray, is_stray}
 use Rattle.cs_lex.proofs.Text.{run_is, run_past, list_all_weaken, list_all_cut, longest_once, equals, split, after_run}
-use Rattle.cs_lex.proofs.Text.{first_is}
-use Rattle.std.proofs.Math.Bool.{and-false}
+use Rattle.cs_lex.proofs.{Text.first_is, Comments.open_begins, Classes.Means, Classes.class_means}
 use Rattle.cs_base.specs.Comments.{begins_block_comment, begins_comment, is_open_comment, comment_len}
-use Rattle.cs_base.proofs.Tests.{by_test}
-use Rattle.cs_base.proofs.Texts.{front_is}
-use Rattle.cs_lex.proofs.Comments.{open_begins}
-use Rattle.cs_lex.proofs.Classes.{Means, class_means}
 use Rattle.cs_lex.proofs.Numerals.{NumeralFront, digit_front_is, point_front_is, numeral_first}
 use Rattle.cs_lex.proofs.Sound.{full_scale_is, full_scale_yes, two_bytes}
+use Rattle.cs_base.specs.declared.fault.OrcKind.TheVariants as orc
+use Rattle.cs_lex.specs.declared.token.Mark.TheVariants as mark
+use Rattle.cs_lex.specs.declared.class.Class.TheVariants as class
 
 abbrev pub found : Option Mark → ℕ → Result Front OrcKind
 found m n = Ok (record { mark = m; len = n })
@@ -52,13 +39,7 @@ by_first c b rest h = ap (λ k. by_class k (b ∷ rest)) h
 -- ---- classes
 
 blank_class : (b : ℕ) → is_blank b ≡ true → class_of b ≡ class.Blank
-blank_class b h = by_test (b == 32)
-    (λ e. ap class_of (equals b 32 e))
-    (λ n1. by_test (b == 9)
-    (λ e. ap class_of (equals b 9 e))
-    (λ n2. by_test (b == 13)
-    (λ e. ap class_of (equals b 13 e))
-    (λ n3. absurd (false≢true (rw (n1, n2, n3) at h)))))
+blank_class b h = grind (arith, common_steps, by_test, equals)
 
 letter_class : (b : ℕ) → is_letter b ≡ true → class_of b ≡ class.Letter
 letter_class b h = rw h
@@ -85,17 +66,7 @@ is_sign_class _ = false
 
 sign_from : (c : Class) → is_sign_class c ≡ true → c ≡ class.Sign
 sign_from class.Sign h = refl
-sign_from class.Letter h = cc
-sign_from class.Digit h = cc
-sign_from class.Blank h = cc
-sign_from class.LineFeed h = cc
-sign_from class.Quote h = cc
-sign_from class.Point h = cc
-sign_from class.Slash h = cc
-sign_from class.Semicolon h = cc
-sign_from class.Backslash h = cc
-sign_from class.Stray h = cc
-sign_from class.Bad h = cc
+sign_from _ h = cc
 
 or_right : (a b : Bool) → a ≡ false → (a || b) ≡ true → b ≡ true
 or_right false b h k = k
@@ -106,11 +77,7 @@ or_last true b h = refl
 or_last false b h = h
 
 short_sign_class : (b : ℕ) → is_short_sign b ≡ true → b ≢ 47 → class_of b ≡ class.Sign
-short_sign_class b h slash =
-    let holds : (x : ℕ) → (x ≡ b) → (b == 47 || is_sign_class (class_of b)) ≡ true =
-    λ x e. each_of (λ x. x == 47 || is_sign_class (class_of x)) b (codes "(),=+-*/%<>?:[]{}#$^!~&|") refl h in
-    by_test (b == 47) (λ e. absurd (slash (equals b 47 e)))
-    (λ n. sign_from (class_of b) (or_right (b == 47) (is_sign_class (class_of b)) n (holds b refl)))
+short_sign_class b h slash = grind (arith, common_steps, by_test, codes, each_of, equals, or_right, sign_from)
 
 long_sign_begins : (a b : ℕ) → is_long_sign a b ≡ true → (is_short_sign a ≡ true) × (a ≢ 47) × (class_of a ≡ class.Sign)
 long_sign_begins a b h =
@@ -141,42 +108,16 @@ allowed : (c : Class) (b : ℕ) → Means c b → (c ≡ class.Bad) ⊎ (is_allo
 allowed class.Letter b h = inr (letter_allowed b h)
 allowed class.Digit b h = inr (digit_allowed b h)
 allowed class.Blank b h = inr (blank_allowed b h)
-allowed class.LineFeed b h = inr (ap is_allowed h)
-allowed class.Quote b h = inr (ap is_allowed h)
-allowed class.Point b h = inr (ap is_allowed h)
-allowed class.Slash b h = inr (ap is_allowed h)
-allowed class.Semicolon b h = inr (ap is_allowed h)
-allowed class.Backslash b h = inr (ap is_allowed h)
 allowed class.Sign b h = inr (each_of is_allowed b (codes "(),=+-*/%<>?:[]{}#$^!~&|") refl h.0)
 allowed class.Stray b h = inr (and_parts (is_allowed b) _ h).0
 allowed class.Bad b h = inl refl
+allowed _ b h = inr (ap is_allowed h)
 
 bad_class : (b : ℕ) → is_allowed b ≡ false → class_of b ≡ class.Bad
 bad_class b h = elim (allowed (class_of b) b (class_means b)) [ inl e ↦ e | inr e ↦ absurd (false≢true (sym h ∙ e)) ]
 
 stray_class : (b : ℕ) → is_stray b ≡ true → class_of b ≡ class.Stray
-stray_class b h = by (class_of b) b (class_means b) h
-  where
-    ends_false : (a b : Bool) → b ≡ true → (a && not b) ≡ false
-    ends_false true b e = ap not e
-    ends_false false b e = refl
-
-    by : (c : Class) (b : ℕ) → Means c b → is_stray b ≡ true → c ≡ class.Stray
-    by class.Letter b m h = absurd (false≢true (sym (ends_false (is_allowed b) _ (rw m)) ∙ h))
-    by class.Digit b m h = absurd
-        (false≢true (sym (ends_false (is_allowed b) _ (rw (m, or_last (is_letter b) true refl))) ∙ h))
-    by class.Blank b m h = absurd
-        (false≢true (sym (ends_false (is_allowed b) _ (rw (m, or_last (is_letter b || is_ascii_digit b) true refl)))
-        ∙ h))
-    by class.LineFeed b m h = absurd (false≢true (sym (ap is_stray m) ∙ h))
-    by class.Quote b m h = absurd (false≢true (sym (ap is_stray m) ∙ h))
-    by class.Point b m h = absurd (false≢true (sym (ap is_stray m) ∙ h))
-    by class.Slash b m h = absurd (false≢true (sym (ap is_stray m) ∙ h))
-    by class.Semicolon b m h = absurd (false≢true (sym (ap is_stray m) ∙ h))
-    by class.Backslash b m h = absurd (false≢true (sym (ap is_stray m) ∙ h))
-    by class.Sign b m h = absurd (false≢true (sym (ends_false (is_allowed b) _ (or_last _ (is_short_sign b) m.0)) ∙ h))
-    by class.Stray b m h = refl
-    by class.Bad b m h = absurd (false≢true (sym m ∙ (and_parts (is_allowed b) _ h).0))
+stray_class b h = grind (arith, common_steps, and_parts, class_means, not, or_last)
 
 -- ---- the row of each form
 
@@ -222,10 +163,7 @@ comment_is text h = by_test (begins_with (codes ";") text)
     last false true c n m h = absurd (false≢true (sym m))
 
 comment_found : (span after : List ℕ) → IsComment span after → Finds None span after
-comment_found span after h =
-    let text = span ++ after in
-    comment_is text h.begun ∙ ap (λ b. if b then Err orc.OpenComment else gap (comment_len text)) h.ended
-    ∙ ap (found None) (sym h.len)
+comment_found span after h = grind (arith, common_steps, comment_is)
 
 word_found : (span after : List ℕ) → Longest is_word span after → Finds (Some mark.Word) span after
 word_found [] after h = absurd (false≢true h.fits)
@@ -237,20 +175,10 @@ word_found (b ∷ span) after h =
     ∙ run_of_span is_word_byte (b ∷ span) after both.1 ends (Some mark.Word)
 
 full_scale_found : (after : List ℕ) → begins is_word_byte after ≡ false → Finds (Some mark.Word) (codes "0dbfs") after
-full_scale_found after h =
-    let is = full_scale_is (codes "0dbfs" ++ after) (record { after = after; whole = refl; ends = h }) in
-    rw is
+full_scale_found after h = grind (arith, common_steps, codes, full_scale_is)
 
 join_found : (span after : List ℕ) → IsJoin span → Finds None span after
-join_found span after h =
-    let text : span ++ after ≡ 92 ∷ (h.blanks ++ (10 ∷ after)) =
-    ap (λ t. t ++ after) h.whole ∙ ap (λ t. 92 ∷ t) (append_assoc h.blanks (10 ∷ []) after) in
-    let n = run_is is_blank h.blanks (10 ∷ after) h.blank refl in
-    let ends : drop (length h.blanks) (h.blanks ++ (10 ∷ after)) ≡ 10 ∷ after =
-    drop_at h.blanks (10 ∷ after) (length h.blanks) refl in
-    let long : length span ≡ length h.blanks + 2 =
-    ap length h.whole ∙ (let e = length-append h.blanks (10 ∷ []) in omega arith) in
-    ap front_of text ∙ (rw (n, ends) (ap (found None) (sym long)))
+join_found span after h = grind (arith, common_steps, append_assoc, drop_at, length-append, run_is)
 
 text_is_allowed : (b : ℕ) → is_text_byte b ≡ true → is_allowed b ≡ true
 text_is_allowed b h = (and_parts (is_allowed b) (is_quotable b) h).0
@@ -407,24 +335,10 @@ has_bad_byte_found text h =
         run is_quotable rest in rw h (let e : 1 + run is_quotable rest ≡ suc (run is_quotable rest) = omega arith in e)
 
 stray_found : (text : List ℕ) → IsStray text → front_of text ≡ Err orc.BadToken
-stray_found text h = elim h.stray [
-  | inl s ↦ ap front_of h.whole ∙ by_first class.Stray h.byte h.rest (stray_class h.byte s)
-  | inr p ↦ ap front_of (h.whole ∙ ap (λ x. x ∷ h.rest) p.0) ∙ point h.rest p.1
-]
-  where
-    point : (rest : List ℕ) → begins is_ascii_digit rest ≡ false → front_of (46 ∷ rest) ≡ Err orc.BadToken
-    point rest h = rw h
+stray_found text h = grind (arith, common_steps, by_first, stray_class)
 
 lone_backslash_found : (text : List ℕ) → IsLoneBackslash text → front_of text ≡ Err orc.BadToken
-lone_backslash_found text h =
-    let s = split is_blank h.rest in
-    let same = after_run is_blank h.rest in
-    ap front_of h.whole ∙ by_test (begins is_feed s.after)
-    (λ e.
-    let first = first_is is_feed s.after e in
-    absurd (h.joins_not s.front first.1 s.all
-    (s.whole ∙ ap (λ t. s.front ++ t) (first.2 ∙ ap (λ x. x ∷ first.1) (equals first.0 10 first.3)))))
-    (λ n. rw (same, n))
+lone_backslash_found text h = grind (arith, common_steps, after_run, by_test, equals, first_is, split)
 
 open_text_found : (text : List ℕ) → IsOpenText text → front_of text ≡ Err orc.BadToken
 open_text_found text h =

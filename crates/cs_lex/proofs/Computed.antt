@@ -1,13 +1,9 @@
 -- What a text reads as, computed: for worked examples.
-use Rattle.std.proofs.Common.{◌≡◌, ℕ, zero, suc, true, List, [], ◌∷◌, ◌++◌, drop, take, ap, sym, ◌∙◌, refl, subst}
-use Rattle.std.proofs.Common.{Result, Ok, Err}
-use Rattle.std.proofs.lemmas.List.{append_assoc, take_at, drop_at}
-use Rattle.cs_base.specs.declared.fault.OrcKind.{OrcKind}
-use Rattle.cs_lex.specs.declared.token.Token.{Token}
-use Rattle.cs_lex.specs.declared.front.Front.{Front}
-use Rattle.cs_lex.specs.Rows.{Fits, IsFault}
-use Rattle.cs_lex.specs.inner.Front.{front_of}
-use Rattle.cs_base.specs.Lines.{excerpt, line_after}
+use Rattle.std.proofs.Common.{arith, ◌≡◌, ℕ, zero, suc, true, List, [], ◌∷◌, ◌++◌, drop, take, sym, refl, subst, Result}
+use Rattle.std.proofs.Common.{Ok, Err}
+use Rattle.std.proofs.lemmas.{Grind.common_steps, List.append_assoc, List.take_at, List.drop_at}
+use Rattle.cs_base.specs.{declared.fault.OrcKind.OrcKind, Lines.excerpt, Lines.line_after}
+use Rattle.cs_lex.specs.{declared.token.Token.Token, declared.front.Front.Front, Rows.IsFault, inner.Front.front_of}
 use Rattle.cs_lex.specs.Lexed.{TextPiece, text_of, IsCut, Lexed, LexFault, tokens_after, merged, end_of}
 use Rattle.cs_lex.proofs.Sound.{Starts, Right, front_right}
 
@@ -30,19 +26,7 @@ got (suc n) (b ∷ rest) = got_on (got n) (b ∷ rest) (front_of (b ∷ rest))
 
 is_cut_on : (text : List ℕ) (f : Front) (g : Got) → Starts text f.mark f.len → IsCut (drop f.len text) g.pieces g.rest
     → IsCut text (record { mark = f.mark; span = take f.len text } ∷ g.pieces) g.rest
-is_cut_on text f g s c =
-    let span : take f.len text ≡ s.span = ap (take f.len) s.whole ∙ take_at s.span s.after f.len (sym s.len) in
-    let after : drop f.len text ≡ s.after = ap (drop f.len) s.whole ∙ drop_at s.span s.after f.len (sym s.len) in
-    let rest : s.after ≡ text_of g.pieces ++ g.rest = sym after ∙ c.whole in
-    record {
-      whole = s.whole ∙ ap (λ t. t ++ s.after) (sym span) ∙ ap (λ t. take f.len text ++ t) rest
-          ∙ sym (append_assoc (take f.len text) (text_of g.pieces) g.rest);
-      fit = (
-        subst (λ t. Fits f.mark t (text_of g.pieces ++ g.rest)) (sym span)
-            (subst (Fits f.mark s.span) rest s.fits),
-        c.fit,
-      );
-    }
+is_cut_on text f g s c = grind (arith, common_steps, append_assoc, drop_at, take_at)
 
 pub is_cut : (n : ℕ) (text : List ℕ) → IsCut text (got n text).pieces (got n text).rest
 is_cut zero text = record { whole = refl; fit = tt }

@@ -1,27 +1,17 @@
 -- Every text is cut in one way, up to its end or its first fault.
+use Rattle.std.proofs.lemmas.{Grind.common_steps, List.append_assoc, List.length-append, List.take_at, List.drop_at}
 use Rattle.std.proofs.Common.{◌≡◌, ◌<◌, ◌≤◌, ℕ, zero, suc, true, List, [], ◌∷◌, ◌++◌, length, drop, take, arith, ap}
 use Rattle.std.proofs.Common.{sym, ◌∙◌, refl, subst, inl, inr, ◌⊎◌, Option, Result, Ok, Err}
-use Rattle.std.proofs.lemmas.Bool.{false≢true}
-use Rattle.std.proofs.lemmas.List.{append_assoc, length-append, take_at, drop_at}
-use Rattle.cs_base.specs.declared.fault.OrcKind.{OrcKind}
-use Rattle.cs_base.specs.declared.fault.OrcKind.TheVariants as orc
-use Rattle.cs_base.specs.Decimals.{is_numeral}
-use Rattle.cs_lex.specs.declared.token.Mark.{Mark}
-use Rattle.cs_lex.specs.declared.token.Token.{Token}
-use Rattle.cs_lex.specs.declared.front.Front.{Front}
-use Rattle.cs_lex.specs.Rows.{Fits, IsFault}
-use Rattle.cs_lex.specs.inner.Front.{front_of}
-use Rattle.cs_base.specs.Lines.{excerpt, line_after}
+use Rattle.cs_base.specs.{declared.fault.OrcKind.OrcKind, Lines.excerpt, Lines.line_after}
+use Rattle.cs_lex.specs.{declared.token.Mark.Mark, declared.token.Token.Token, declared.front.Front.Front, Rows.Fits}
+use Rattle.cs_lex.specs.{Rows.IsFault, inner.Front.front_of}
 use Rattle.cs_lex.specs.Lexed.{TextPiece, text_of, AllFit, Lexed, LexFault, tokens_after, merged, end_of}
 use Rattle.cs_lex.proofs.Sound.{Starts, Right, front_right}
 use Rattle.cs_lex.proofs.Complete.{found, fits_found, fault_found}
+use Rattle.cs_base.specs.declared.fault.OrcKind.TheVariants as orc
 
 same_piece : (m m' : Option Mark) (n n' : ℕ) → found m n ≡ found m' n' → (m ≡ m') × (n ≡ n')
-same_piece m m' n n' e =
-    let one : Front = record { mark = m; len = n } in
-    let two : Front = record { mark = m'; len = n' } in
-    let same : one ≡ two = cc in
-    (ap (λ f. f.mark) same, ap (λ f. f.len) same)
+same_piece m m' n n' e = grind (arith, common_steps)
 
 same_span : (a b c d : List ℕ) → a ++ b ≡ c ++ d → length a ≡ length c → (a ≡ c) × (b ≡ d)
 same_span a b c d e l =
@@ -31,10 +21,7 @@ same_span a b c d e l =
 -- one text begins with one piece
 pub same_front : (m m' : Option Mark) (a b c d : List ℕ) → Fits m a b → Fits m' c d → a ++ b ≡ c ++ d
     → (m ≡ m') × (a ≡ c) × (b ≡ d)
-same_front m m' a b c d h k e =
-    let same = same_piece m m' (length a) (length c) (sym (fits_found m a b h) ∙ ap front_of e ∙ fits_found m' c d k) in
-    let spans = same_span a b c d e same.1 in
-    (same.0, spans.0, spans.1)
+same_front m m' a b c d h k e = grind (arith, common_steps, fits_found, same_piece, same_span)
 
 apart : (r : Result Front OrcKind) (f : Front) (k : OrcKind) → r ≡ Ok f → r ≡ Err k → ⊥
 apart r f k e g = cc
@@ -148,9 +135,7 @@ some_reading first source =
 
 pub one_list : (first : ℕ) (source : List ℕ) (ts us : List Token) → Lexed (excerpt first source) ts
     → Lexed (excerpt first source) us → ts ≡ us
-one_list first source ts us (ps, cp, tp) (qs, cq, tq) =
-    let same = one_cut ps qs [] [] (sym cp.whole ∙ cq.whole) cp.fit cq.fit (inl refl) (inl refl) in
-    tp ∙ ap (λ x. merged true (tokens_after first [] x) ++ end_of (excerpt first source) ∷ []) same.0 ∙ sym tq
+one_list first source ts us (ps, cp, tp) (qs, cq, tq) = grind (arith, common_steps, one_cut)
 
 abbrev failed : OrcKind → Result Front OrcKind
 failed k = Err k
@@ -158,36 +143,8 @@ failed k = Err k
 pub one_fault : (first : ℕ) (source : List ℕ) (l m : ℕ) (j k : OrcKind) → LexFault (excerpt first source) l j
     → LexFault (excerpt first source) m k
     → (l ≡ m) × (j ≡ k)
-one_fault first source l m j k (ps, r, cp, f, lp) (qs, s, cq, g, lq) =
-    let same = one_cut ps qs r s (sym cp.whole ∙ cq.whole) cp.fit cq.fit (inr (j, f)) (inr (k, g)) in (
-      lp ∙ ap (λ x. line_after first (text_of x)) same.0
-          ∙ sym lq,
-      same_kind j k (sym (fault_found r j f) ∙ ap front_of same.1 ∙ fault_found s k g),
-    )
-  where
-    same_kind : (j k : OrcKind) → failed j ≡ failed k → j ≡ k
-    same_kind j k e = cc
+one_fault first source l m j k (ps, r, cp, f, lp) (qs, s, cq, g, lq) = grind (arith, common_steps, fault_found, one_cut)
 
 pub not_both : (first : ℕ) (source : List ℕ) (ts : List Token) (l : ℕ) (k : OrcKind) → Lexed (excerpt first source) ts
     → LexFault (excerpt first source) l k → ⊥
-not_both first source ts l k (ps, cp, tp) (qs, s, cq, g, lq) =
-    let same = one_cut ps qs [] s (sym cp.whole ∙ cq.whole) cp.fit cq.fit (inl refl) (inr (k, g)) in
-    nothing k (subst (λ t. IsFault t k) (sym same.1) g)
-  where
-    no_cons : (b : ℕ) (rest : List ℕ) → [] ≡ b ∷ rest → ⊥
-    no_cons b rest e = cc
-
-    no_numeral : (span after : List ℕ) → [] ≡ span ++ after → is_numeral span ≡ true → ⊥
-    no_numeral [] after e h = false≢true h
-    no_numeral (c ∷ span) after e h = no_cons c (span ++ after) e
-
-    nothing : (k : OrcKind) → IsFault [] k → ⊥
-    nothing orc.BadByte f = elim f
-        [ inl x ↦ no_cons x.byte x.rest x.whole | inr x ↦ no_cons 34 (x.body ++ x.byte ∷ x.rest) x.whole ]
-    nothing orc.BadToken f = elim f [
-      | inl x ↦ no_cons x.byte x.rest x.whole
-      | inr x ↦ elim x [ inl x ↦ no_cons 92 x.rest x.whole | inr x ↦ no_cons 34 (x.body ++ x.after) x.whole ]
-    ]
-    nothing orc.BadNumber f = no_numeral f.span f.after f.whole f.numeral.longest.fits
-    nothing orc.OpenComment f = false≢true f
-    nothing _ f = f
+not_both first source ts l k (ps, cp, tp) (qs, s, cq, g, lq) = grind (arith, common_steps, one_cut)

@@ -1,18 +1,14 @@
 -- The decimal at the front of a text.
+use Rattle.std.proofs.lemmas.{Grind.common_steps, Bool.Decides.nat_tests, List.nil_from_length}
 use Rattle.std.proofs.Common.{◌≡◌, ◌+◌, ◌<◌, ℕ, suc, Bool, true, false, ◌&&◌, ◌||◌, ◌==◌, List, [], ◌∷◌, ◌++◌, length}
 use Rattle.std.proofs.Common.{drop, take, arith, ap, sym, ◌∙◌, refl, inl, inr, ◌⊎◌, nat_lt}
-use Rattle.std.specs.List.{list_all, position_or_len}
-use Rattle.std.specs.Char.{is_ascii_digit}
+use Rattle.std.specs.{List.list_all, List.position_or_len, Char.is_ascii_digit}
 use Rattle.std.proofs.lemmas.Bool.{and_parts, false≢true}
-use Rattle.std.proofs.lemmas.Bool.Decides.{nat_tests}
 use Rattle.std.proofs.lemmas.List.{append_assoc, length-append, append-nil, drop_at, take_at, take_all, drop_all}
-use Rattle.std.proofs.lemmas.List.{nil_from_length}
-use Rattle.std.proofs.Math.Seq.{take-append-add}
+use Rattle.std.proofs.{Math.Seq.take-append-add, Math.Bool.and-false}
 use Rattle.cs_base.specs.Decimals.{is_point, before_point, after_point, is_numeral}
 use Rattle.cs_base.specs.Lines.{begins}
-use Rattle.cs_lex.specs.inner.Front.{run, numeral_len}
-use Rattle.cs_lex.specs.Rows.{Longest}
-use Rattle.std.proofs.Math.Bool.{and-false}
+use Rattle.cs_lex.specs.{inner.Front.run, inner.Front.numeral_len, Rows.Longest}
 use Rattle.cs_base.proofs.Tests.{by_test}
 use Rattle.cs_lex.proofs.Text.{split, after_run, list_all_cut, longest_to, first_is, equals}
 
@@ -63,9 +59,7 @@ middle_false a b c h = rw h (ap (λ t. t && c) (and-false a))
 -- a text that goes on with a byte that is neither digit nor point is no decimal
 pub digits_cut : (ds : List ℕ) (c : ℕ) (more : List ℕ) → list_all is_ascii_digit ds ≡ true → is_ascii_digit c ≡ false
     → is_point c ≡ false → is_numeral (ds ++ c ∷ more) ≡ false
-digits_cut ds c more h digit point = middle_false _ _ _
-    (ap (list_all is_ascii_digit) (before_point_goes_on ds c more h point)
-    ∙ list_all_cut is_ascii_digit ds c (take (position_or_len is_point more) more) digit)
+digits_cut ds c more h digit point = grind (arith, common_steps, before_point_goes_on, list_all_cut, middle_false)
 
 last_false : (a b : Bool) → b ≡ false → (a && b) ≡ false
 last_false a b h = rw h (and-false a)
@@ -88,9 +82,7 @@ some_digits : (n : ℕ) → 0 < n → nat_lt 0 n ≡ true
 some_digits n h = grind (arith, nat_tests)
 
 plain_is : (ds : List ℕ) → list_all is_ascii_digit ds ≡ true → 0 < length ds → is_numeral ds ≡ true
-plain_is ds h some =
-    let alone = digits_alone ds h in
-    rw (alone.0, alone.1, h, some_digits (length ds + 0) (omega arith))
+plain_is ds h some = grind (arith, common_steps, digits_alone, some_digits)
 
 pointed_is : (ds es : List ℕ) → list_all is_ascii_digit ds ≡ true → list_all is_ascii_digit es ≡ true
     → 0 < length ds + length es → is_numeral (ds ++ 46 ∷ es) ≡ true
@@ -98,11 +90,7 @@ pointed_is ds es h k some =
     rw (whole_digits ds es h, part_digits ds es h, h, k, some_digits (length ds + length es) some)
 
 no_number_byte : (c : ℕ) → (is_ascii_digit c || (c == 46)) ≡ false → (is_ascii_digit c ≡ false) × (is_point c ≡ false)
-no_number_byte c h = or_parts (is_ascii_digit c) (c == 46) h
-  where
-    or_parts : (a b : Bool) → (a || b) ≡ false → (a ≡ false) × (b ≡ false)
-    or_parts true b h = cc
-    or_parts false b h = (refl, h)
+no_number_byte c h = grind (arith, common_steps)
 
 neither_begins : (after : List ℕ) → begins is_ascii_digit after ≡ false → begins is_point after ≡ false
     → begins (λ c. is_ascii_digit c || (c == 46)) after ≡ false
@@ -152,10 +140,7 @@ pointed_front text rest e some =
 
 begun : (p : ℕ → Bool) (text : List ℕ) → begins p text ≡ true → 0 < length (split p text).front
 begun p [] h = absurd (false≢true h)
-begun p (b ∷ rest) h =
-    let is = (split p (b ∷ rest)).len in
-    let more : run p (b ∷ rest) ≡ 1 + run p rest = rw h in
-    omega (arith, is, more)
+begun p (b ∷ rest) h = grind (arith, common_steps, split)
 
 -- a text that begins with a digit, or with a point and a digit, begins with a decimal
 pub digit_front_is : (text : List ℕ) → begins is_ascii_digit text ≡ true → NumeralFront text

@@ -1,20 +1,14 @@
 -- One pass over a text: what has been read, and one piece more.
-use Rattle.std.proofs.Common.{◌≡◌, ◌+◌, ◌-◌, ◌<◌, ◌≤◌, ℕ, Bool, true, ◌&&◌, List, [], ◌∷◌, ◌++◌, length, drop, take}
-use Rattle.std.proofs.Common.{arith, ap, sym, ◌∙◌, refl, subst, Option, Some, None, Result, Ok, Err, IfOk}
-use Rattle.std.proofs.Common.{if◌then◌else◌, count_by}
+use Rattle.std.proofs.lemmas.Grind.{common_steps}
+use Rattle.std.proofs.Common.{◌≡◌, ◌+◌, ◌-◌, ◌<◌, ◌≤◌, ℕ, Bool, true, List, [], ◌∷◌, ◌++◌, length, drop, take, arith}
+use Rattle.std.proofs.Common.{ap, sym, ◌∙◌, refl, subst, Option, Some, None, Result, Ok, Err, IfOk, count_by}
 use Rattle.std.proofs.lemmas.List.{append_assoc, length-append, append-nil, length-drop, length-take, take_rest}
 use Rattle.std.proofs.lemmas.List.{take_at, drop_at, drop_all, drop-drop, take-append-drop}
-use Rattle.std.proofs.lemmas.List.Sums.{count_by-le-length}
 use Rattle.cs_base.proofs.Texts.{count_by-append}
-use Rattle.cs_lex.specs.declared.token.Mark.{Mark}
-use Rattle.cs_lex.specs.declared.token.Token.{Token}
-use Rattle.cs_base.specs.Lines.{is_feed}
-use Rattle.cs_base.specs.declared.fault.OrcKind.{OrcKind}
-use Rattle.cs_lex.specs.Rows.{Fits, IsFault}
-use Rattle.cs_base.specs.Lines.{excerpt, line_after}
+use Rattle.cs_lex.specs.{declared.token.Mark.Mark, declared.token.Token.Token, Rows.Fits, Rows.IsFault}
+use Rattle.cs_lex.specs.{Lexed.is_newline, Lexed.end_of, declared.front.Front.Front}
+use Rattle.cs_base.specs.{Lines.is_feed, Lines.excerpt, Lines.line_after, declared.fault.OrcKind.OrcKind}
 use Rattle.cs_lex.specs.Lexed.{TextPiece, text_of, AllFit, Lexed, LexFault, tokens_after, token_of, token_at, merged}
-use Rattle.cs_lex.specs.Lexed.{is_newline, end_of}
-use Rattle.cs_lex.specs.declared.front.Front.{Front}
 use Rattle.cs_lex.specs.inner.Front.{front_of, given, fed_by}
 use Rattle.cs_lex.proofs.Sound.{Starts, Right, front_right}
 
@@ -24,10 +18,7 @@ fed_after fed (t ∷ ts) = fed_after (is_newline t) ts
 
 merged_on : (fed : Bool) (ts us : List Token) → merged fed (ts ++ us) ≡ merged fed ts ++ merged (fed_after fed ts) us
 merged_on fed [] us = refl
-merged_on fed (t ∷ ts) us =
-    ap (λ x. (if fed && is_newline t then [] else t ∷ []) ++ x) (merged_on (is_newline t) ts us)
-    ∙ sym (append_assoc (if fed && is_newline t then [] else t ∷ []) (merged (is_newline t) ts)
-    (merged (fed_after (is_newline t) ts) us))
+merged_on fed (t ∷ ts) us = grind (arith, common_steps, append_assoc, merged_on (is_newline t) ts us)
 
 fed_on : (fed : Bool) (ts us : List Token) → fed_after fed (ts ++ us) ≡ fed_after (fed_after fed ts) us
 fed_on fed [] us = refl
@@ -40,23 +31,14 @@ text_on (q ∷ ps) p = ap (λ t. q.span ++ t) (text_on ps p) ∙ sym (append_ass
 fit_on : (ps : List TextPiece) (p : TextPiece) (rest : List ℕ) → AllFit ps (p.span ++ rest) → Fits p.mark p.span rest
     → AllFit (ps ++ p ∷ []) rest
 fit_on [] p rest h k = (k, tt)
-fit_on (q ∷ ps) p rest h k =
-    let text : text_of ps ++ (p.span ++ rest) ≡ text_of (ps ++ p ∷ []) ++ rest =
-    sym (append_assoc (text_of ps) p.span rest) ∙ ap (λ t. t ++ rest) (sym (text_on ps p)) in
-    (subst (Fits q.mark q.span) text h.0, fit_on ps p rest h.1 k)
+fit_on (q ∷ ps) p rest h k = grind (arith, common_steps, append_assoc, text_on, fit_on ps p rest h.1 k)
 
 tokens_on : (first : ℕ) (before : List ℕ) (ps : List TextPiece) (p : TextPiece)
     → tokens_after first before (ps ++ p ∷ []) ≡ tokens_after first before ps
     ++ token_of first p.mark (before ++ text_of ps) p.span
 tokens_on first before [] p = append-nil (token_of first p.mark before p.span)
     ∙ ap (λ t. token_of first p.mark t p.span) (sym (append-nil before))
-tokens_on first before (q ∷ ps) p =
-    ap (λ t. token_of first q.mark before q.span ++ t)
-    (tokens_on first (before ++ q.span) ps p
-    ∙ ap (λ t. tokens_after first (before ++ q.span) ps ++ token_of first p.mark t p.span)
-    (append_assoc before q.span (text_of ps)))
-    ∙ sym (append_assoc (token_of first q.mark before q.span) (tokens_after first (before ++ q.span) ps)
-    (token_of first p.mark (before ++ (q.span ++ text_of ps)) p.span))
+tokens_on first before (q ∷ ps) p = grind (arith, common_steps, append_assoc, tokens_on first (before ++ q.span) ps p)
 
 -- what has been read of a text: the pieces up to a place, the line there, and the tokens so far
 pub record Read (first : ℕ) (source : List ℕ) (at line : ℕ) (fed : Bool) (tokens : List Token) : Type 0 where
@@ -151,36 +133,11 @@ pub at_line : (first : ℕ) (source : List ℕ) (at line line' : ℕ) (fed : Boo
     → Read first source at line fed tokens → Read first source at line' fed tokens
 at_line first source at line line' fed tokens e r = subst (λ x. Read first source at x fed tokens) (sym e) r
 
--- the line is at most as many lines on as there are bytes before it
-pub line_small : (first : ℕ) (source : List ℕ) (at line : ℕ) (fed : Bool) (tokens : List Token)
-    → Read first source at line fed tokens
-    → line ≤ at + first
-line_small first source at line fed tokens r =
-    omega (arith, r.line_is, r.place, count_by-le-length is_feed (text_of r.pieces))
-
 -- what was read of the whole text gives its tokens
 pub all_read : (first : ℕ) (source : List ℕ) (at line : ℕ) (fed : Bool) (tokens : List Token)
     → Read first source at line fed tokens
     → length source ≤ at → Lexed (excerpt first source) (tokens ++ end_of (excerpt first source) ∷ [])
-all_read first source at line fed tokens r l =
-    let none : drop at source ≡ [] = drop_all at source l in (
-      r.pieces,
-      record {
-        whole = r.whole ∙ ap (λ t. text_of r.pieces ++ t) none;
-        fit =
-            subst (AllFit r.pieces) none r.fit;
-      },
-      ap (λ t. t ++ end_of (excerpt first source) ∷ []) r.tokens_are,
-    )
-
--- and its last line
-pub all_lines : (first : ℕ) (source : List ℕ) (at line : ℕ) (fed : Bool) (tokens : List Token)
-    → Read first source at line fed tokens
-    → length source ≤ at → line ≡ line_after first source
-all_lines first source at line fed tokens r l =
-    let none : drop at source ≡ [] = drop_all at source l in
-    r.line_is ∙ ap (line_after first)
-    (sym (r.whole ∙ ap (λ t. text_of r.pieces ++ t) none ∙ append-nil (text_of r.pieces)))
+all_read first source at line fed tokens r l = grind (arith, common_steps, drop_all)
 
 -- a fault at the front of the rest is the first of the text
 pub fault_read : (first : ℕ) (source : List ℕ) (at line : ℕ) (fed : Bool) (tokens : List Token) (k : OrcKind)
@@ -231,9 +188,7 @@ read_any : (first : ℕ) (source : List ℕ) (at line : ℕ) (fed : Bool) (token
     → feeds ≡ count_by is_feed (take n (drop at source)) → fed' ≡ fed_by fed m
     → tokens' ≡ tokens ++ merged fed (given m at (at + n) line) → Read first source (at + n) (line + feeds) fed' tokens'
 read_any first source at line fed tokens None n feeds fed' tokens' r s g now more =
-    subst (λ b. Read first source (at + n) (line + feeds) b tokens') (sym now)
-    (subst (λ ts. Read first source (at + n) (line + feeds) fed ts) (sym (more ∙ append-nil tokens))
-    (read_gap first source at line fed tokens n feeds r s g))
+    grind (arith, common_steps, append-nil, read_gap)
 read_any first source at line fed tokens (Some m) n feeds fed' tokens' r s g now more =
     let t : Token = made m at (at + n) line in
     subst (λ b. Read first source (at + n) (line + feeds) b tokens') (sym now)

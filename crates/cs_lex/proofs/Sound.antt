@@ -1,40 +1,31 @@
 -- What the reader finds at the front of a text is of its row's form, or a fault.
+use Rattle.std.proofs.lemmas.{Grind.common_steps, Bool.Decides.nat_tests}
 use Rattle.std.proofs.Common.{if◌then◌else◌, Err, ◌≡◌, ◌≢◌, ◌+◌, ◌<◌, ℕ, Bool, true, false, ◌&&◌, ◌==◌, not, List, []}
 use Rattle.std.proofs.Common.{◌∷◌, ◌++◌, length, drop, take, arith, ap, sym, ◌∙◌, codes, refl, subst, inl, inr, ◌⊎◌}
 use Rattle.std.proofs.Common.{Option, Some, None, Result, MatchResult, nat_lt, nat_le, nat_eq}
-use Rattle.std.specs.Option.{IsSomeAnd}
-use Rattle.cs_base.specs.declared.decimal.Decimal.{Decimal}
+use Rattle.std.specs.{Option.IsSomeAnd, List.list_all, Char.is_ascii_digit}
+use Rattle.cs_base.specs.{declared.decimal.Decimal.Decimal, Numbers.clamp, declared.fault.OrcKind.OrcKind}
 use Rattle.cs_base.specs.Decimals.{decimal_of, raw_of_decimal, is_numeral, whole_part, billionths_part, greatest_whole}
-use Rattle.cs_base.specs.Numbers.{clamp}
 use Rattle.cs_base.proofs.Arithmetic.{clamp_same, decimal_in_range}
-use Rattle.cs_lex.proofs.Classes.{Means, class_means}
+use Rattle.cs_lex.proofs.{Classes.Means, Classes.class_means, Comments.comment_within, Comments.comment_some}
 use Rattle.cs_lex.proofs.Numerals.{NumeralFront, digit_front_is, point_front_is}
-use Rattle.std.specs.List.{list_all}
-use Rattle.std.specs.Char.{is_ascii_digit}
-use Rattle.cs_base.specs.declared.fault.OrcKind.{OrcKind}
-use Rattle.cs_lex.specs.declared.token.Mark.{Mark}
-use Rattle.cs_lex.specs.declared.token.Mark.TheVariants as mark
-use Rattle.cs_lex.specs.declared.front.Front.{Front}
-use Rattle.cs_lex.specs.declared.class.Class.{Class}
-use Rattle.cs_lex.specs.declared.class.Class.TheVariants as class
+use Rattle.cs_lex.specs.{declared.token.Mark.Mark, declared.front.Front.Front, declared.class.Class.Class}
+use Rattle.cs_lex.specs.{Bytes.is_long_sign, inner.Front.digit_front, inner.Front.point_front}
 use Rattle.cs_base.specs.Lines.{is_blank, is_feed, begins, begins_with}
 use Rattle.cs_lex.specs.Bytes.{is_quote, is_letter, is_word_byte, is_allowed, is_quotable, is_sign, is_short_sign}
-use Rattle.cs_lex.specs.Bytes.{is_long_sign}
 use Rattle.cs_lex.specs.inner.Front.{front_of, by_class, class_of, run, gap, token, comment_front, sign_front}
 use Rattle.cs_lex.specs.inner.Front.{slash_front, joined_front, word_front, text_front, numeral_len, number_front}
-use Rattle.cs_lex.specs.inner.Front.{digit_front, point_front}
 use Rattle.cs_lex.specs.Rows.{Fits, IsFault, is_word, HasBadByte, IsNumeral, IsFullScale}
-use Rattle.cs_base.specs.declared.fault.OrcKind.TheVariants as orc
 use Rattle.cs_base.specs.Comments.{begins_comment, is_open_comment, comment_len}
-use Rattle.cs_base.proofs.Tests.{by_test}
-use Rattle.cs_base.proofs.Texts.{front_is, front_tests}
-use Rattle.cs_lex.proofs.Comments.{comment_within, comment_some}
+use Rattle.cs_base.proofs.{Tests.by_test, Texts.front_is, Texts.front_tests}
 use Rattle.std.proofs.Math.Bool.{and-false}
 use Rattle.cs_lex.proofs.Text.{Split, split, longer, longest_to, list_all_cut, after_run, take_run, run_is, first_is}
 use Rattle.cs_lex.proofs.Text.{equals, where_fails, list_all_both, list_all_front}
 use Rattle.std.proofs.lemmas.Bool.{and_parts, and_from, false≢true}
-use Rattle.std.proofs.lemmas.Bool.Decides.{nat_tests}
 use Rattle.std.proofs.lemmas.List.{take-append-drop, length-take-le, append_assoc, length-append, drop_at, take_at}
+use Rattle.cs_lex.specs.declared.token.Mark.TheVariants as mark
+use Rattle.cs_lex.specs.declared.class.Class.TheVariants as class
+use Rattle.cs_base.specs.declared.fault.OrcKind.TheVariants as orc
 
 -- a text begins with a piece of n bytes
 pub record Starts (text : List ℕ) (m : Option Mark) (n : ℕ) : Type 0 where
@@ -133,10 +124,7 @@ two_bytes b c rest = grind (arith, nat_tests)
 sign_right : (b : ℕ) (rest : List ℕ) → is_short_sign b ≡ true → begins_comment (b ∷ rest) ≡ false
     → Right (b ∷ rest) (sign_front (b ∷ rest))
 sign_right b [] h comment = sign_one b [] h comment (λ c r e. absurd (cc))
-sign_right b (c ∷ rest) h comment = by_test (is_long_sign b c)
-    (λ long. rw (two_bytes b c rest, long) (sign_two b c rest comment long))
-    (λ short. rw (two_bytes b c rest, short)
-    (sign_one b (c ∷ rest) h comment (λ d r e. ap (is_long_sign b) (cc) ∙ short)))
+sign_right b (c ∷ rest) h comment = grind (arith, common_steps, by_test, sign_one, sign_two, two_bytes)
 
 joined_right : (rest : List ℕ) → Right (92 ∷ rest) (joined_front rest)
 joined_right rest =
@@ -183,9 +171,6 @@ open_ends : (after : List ℕ) → begins is_quotable after ≡ false → begins
     → (after ≡ []) ⊎ (begins is_feed after ≡ true)
 open_ends [] h k = inl refl
 open_ends (c ∷ rest) h k = inr (neither c h k)
-
-quoted_front : (rest : List ℕ) → List ℕ
-quoted_front rest = (split is_quotable rest).front
 
 text_right : (rest : List ℕ) → Right (34 ∷ rest) (text_front rest)
 text_right rest =
@@ -248,17 +233,11 @@ not_by false e = refl
 pub full_scale_yes : (text : List ℕ)
     → (begins_with (codes "0dbfs") text && not (begins is_word_byte (drop 5 text))) ≡ true
     → (text ≡ codes "0dbfs" ++ drop 5 text) × (begins is_word_byte (drop 5 text) ≡ false)
-full_scale_yes text h =
-    let both = and_parts (begins_with (codes "0dbfs") text) (not (begins is_word_byte (drop 5 text))) h in
-    (front_is (codes "0dbfs") text both.0, by_not (begins is_word_byte (drop 5 text)) both.1)
+full_scale_yes text h = grind (arith, common_steps, and_parts, by_not, codes, front_is, not)
 
 pub full_scale_is : (text : List ℕ) → IsFullScale text
     → (begins_with (codes "0dbfs") text && not (begins is_word_byte (drop 5 text))) ≡ true
-full_scale_is text f =
-    let after : drop 5 text ≡ f.after = ap (drop 5) f.whole in
-    and_from (begins_with (codes "0dbfs") text) (not (begins is_word_byte (drop 5 text)))
-    (front_tests (codes "0dbfs") text f.after f.whole)
-    (not_by (begins is_word_byte (drop 5 text)) (ap (begins is_word_byte) after ∙ f.ends))
+full_scale_is text f = grind (arith, common_steps, and_from, codes, front_tests, not, not_by)
 
 pub number_right : (text : List ℕ) → NumeralFront text → (IsFullScale text → ⊥) → Right text (number_front text)
 number_right text f other =

@@ -1,21 +1,17 @@
 -- Where tokens stand: each within the text, one after the other, End alone at the end.
-use Rattle.std.proofs.Common.{get_or, ◌≡◌, ◌≢◌, ◌+◌, ◌-◌, ◌<◌, ◌≤◌, ◌∙◌, refl, count_by, ℕ, suc, Bool}
-use Rattle.std.proofs.Common.{true, false, ◌&&◌, List, [], ◌∷◌, ◌++◌, length, take, arith, ap, sym, subst, Option, Some}
-use Rattle.std.proofs.Common.{None}
+use Rattle.std.proofs.lemmas.{Grind.common_steps, List.length-append, List.append-nil, List.append_assoc}
+use Rattle.std.proofs.lemmas.{List.Elements.All-cons, List.Elements.All-append, List.Kept.AllPairs-cons}
+use Rattle.std.proofs.Common.{get_or, ◌≡◌, ◌≢◌, ◌+◌, ◌-◌, ◌<◌, ◌≤◌, ◌∙◌, refl, count_by, ℕ, suc, Bool, true, false}
+use Rattle.std.proofs.Common.{◌&&◌, List, [], ◌∷◌, ◌++◌, length, take, arith, ap, sym, subst, Option, Some, None}
 use Rattle.std.proofs.Common.{if◌then◌else◌}
 use Rattle.std.specs.List.{All, AllPairs}
-use Rattle.std.proofs.lemmas.List.{length-append, append-nil, append_assoc}
-use Rattle.std.proofs.lemmas.List.Elements.{All-cons, All-append}
-use Rattle.std.proofs.lemmas.List.Kept.{AllPairs-cons}
-use Rattle.cs_lex.specs.declared.token.Mark.{Mark}
-use Rattle.cs_lex.specs.declared.token.Token.{Token}
+use Rattle.cs_lex.specs.{declared.token.Mark.Mark, declared.token.Token.Token, Rows.Fits}
 use Rattle.cs_lex.specs.Lexed.{TextPiece, text_of, Lexed, tokens_after, token_of, token_at, merged, is_newline, end_of}
 use Rattle.cs_lex.specs.Lexed.{AllFit, Precedes, IsEndedBy}
 use Rattle.cs_base.specs.Lines.{excerpt, is_feed, line_after}
 use Rattle.cs_base.proofs.Texts.{count_by-append}
-use Rattle.cs_lex.specs.declared.token.Mark.TheVariants as mark
-use Rattle.cs_lex.specs.Rows.{Fits}
 use Rattle.cs_lex.proofs.Cuts.{some_byte}
+use Rattle.cs_lex.specs.declared.token.Mark.TheVariants as mark
 
 -- a token whose span lies in a text of n bytes
 abbrev IsWithin : ℕ → Token → Type 0
@@ -133,15 +129,7 @@ Leads t u = Precedes t u × IsEndedBy t u
 
 leads : (first : ℕ) (m : Mark) (before span after : List ℕ) → Fits (Some m) span after → (u : Token)
     → IsAfter (length (before ++ span)) (line_after first (before ++ span)) u → Leads (token_at first m before span) u
-leads first m before span after fits u h = (
-  (omega (arith, h.0, length-append before span), omega (arith, h.1, line_on first before span)),
-  λ newline other. let feed : count_by is_feed span ≡ 1 =
-      one_feed m fits newline in omega (arith, h.1, line_on first before span, feed),
-)
-  where
-    one_feed : (m : Mark) → Fits (Some m) span after → m ≡ mark.NewLine → count_by is_feed span ≡ 1
-    one_feed m fits e = ap (count_by is_feed)
-        (let f : Fits (Some mark.NewLine) span after = subst (λ x. Fits (Some x) span after) e fits in f)
+leads first m before span after fits u h = grind (arith, common_steps, count_by, length-append, line_on)
 
 one_leads : (first : ℕ) (before span after : List ℕ) (m : Option Mark) (us : List Token) → Fits m span after
     → All (IsAfter (length (before ++ span)) (line_after first (before ++ span))) us → AllPairs Leads us

@@ -1,16 +1,14 @@
 -- Fronts of a text: runs, splits, and the longest span of a form.
+use Rattle.std.proofs.lemmas.{Grind.common_steps, Bool.and_parts, Bool.and_from, Bool.false≢true, List.drop_at}
+use Rattle.std.proofs.lemmas.{List.take_at, List.append-nil, List.Folds.list_all-append}
 use Rattle.std.proofs.Common.{◌≡◌, ◌≢◌, ◌+◌, ◌≤◌, ℕ, Bool, true, false, ◌&&◌, List, [], ◌∷◌, ◌++◌, length, drop, take}
 use Rattle.std.proofs.Common.{arith, ap, sym, ◌∙◌, refl, inl, inr, ◌==◌}
 use Rattle.std.specs.List.{list_all}
-use Rattle.std.proofs.lemmas.Bool.{and_parts, and_from, false≢true}
 use Rattle.std.proofs.lemmas.Bool.Decides.{leb_tells, nat_tests}
-use Rattle.std.proofs.lemmas.List.{drop_at, take_at, append-nil}
-use Rattle.std.proofs.lemmas.List.Folds.{list_all-append}
 use Rattle.cs_base.specs.Lines.{begins}
 use Rattle.std.proofs.Math.Bool.{and-false}
 use Rattle.cs_base.proofs.Tests.{by_test}
-use Rattle.cs_lex.specs.inner.Front.{run}
-use Rattle.cs_lex.specs.Rows.{Longest}
+use Rattle.cs_lex.specs.{inner.Front.run, Rows.Longest}
 
 -- a text is a run and what ends it
 pub record Split (p : ℕ → Bool) (text : List ℕ) : Type 0 where
@@ -87,9 +85,7 @@ pub split_more : (a b c d : List ℕ) → a ++ b ≡ c ++ d → length a ≤ len
     → (more : List ℕ) × (c ≡ a ++ more) × (b ≡ more ++ d)
 split_more [] b c d e l = (c, refl, e)
 split_more (x ∷ a) b [] d e l = absurd (omega arith)
-split_more (x ∷ a) b (y ∷ c) d e l =
-    let same = split_more a b c d (cc) (omega arith) in
-    (same.0, cc, same.2)
+split_more (x ∷ a) b (y ∷ c) d e l = grind (arith, common_steps, split_more a b c d (cc) (omega arith))
 
 pub by_order : {P : Type 0} (m n : ℕ) → (m ≤ n → P) → (n ≤ m → P) → P
 by_order m n f g = elim (leb_tells m n) [ inl h ↦ f h.1 | inr h ↦ g (omega arith) ]

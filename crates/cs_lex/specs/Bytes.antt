@@ -1,9 +1,6 @@
 -- What a byte of an orchestra may be.
 use Rattle.std.specs.Prelude.{ℕ, Bool, false, List, [], ◌∷◌, ◌&&◌, ◌||◌, ◌==◌, not, codes}
-use Rattle.std.specs.Char.{is_ascii_digit, is_ascii_alphabetic}
-use Rattle.std.specs.Int.{is_in_range}
-use Rattle.std.specs.List.{list_any}
-use Rattle.std.specs.Str.{byte}
+use Rattle.std.specs.{Char.is_ascii_digit, Char.is_ascii_alphabetic, Int.is_in_range, List.list_any, Str.byte}
 use Rattle.cs_base.specs.Lines.{is_feed, tab, carriage_return, line_feed}
 
 -- the quotation mark

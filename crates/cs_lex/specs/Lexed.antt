@@ -1,12 +1,9 @@
 -- The tokens of a text as a whole, or its first fault: the text falls into pieces, each of which is of a row.
 use Rattle.std.specs.Prelude.{ℕ, Bool, true, false, List, [], ◌∷◌, ◌++◌, ◌≡◌, ◌≢◌, ◌<◌, ◌≤◌, ◌+◌, ◌-◌, ◌&&◌, length}
 use Rattle.std.specs.Prelude.{take, Option, Some, None, if◌then◌else◌}
-use Rattle.cs_base.specs.declared.fault.OrcKind.{OrcKind}
-use Rattle.cs_lex.specs.declared.token.Mark.{Mark}
+use Rattle.cs_base.specs.{declared.fault.OrcKind.OrcKind, Lines.Excerpt, Lines.line_after}
+use Rattle.cs_lex.specs.{declared.token.Mark.Mark, declared.token.Token.Token, Rows.Fits, Rows.IsFault}
 use Rattle.cs_lex.specs.declared.token.Mark.TheVariants as mark
-use Rattle.cs_lex.specs.declared.token.Token.{Token}
-use Rattle.cs_base.specs.Lines.{Excerpt, line_after}
-use Rattle.cs_lex.specs.Rows.{Fits, IsFault}
 
 -- a piece of the text: a token by its mark, or what stands between tokens
 pub record TextPiece : Type 0 where

@@ -1,19 +1,14 @@
 -- The rows of the language: what a span of a text is, with what follows it, and the faults that a text may begin with.
 use Rattle.std.specs.Prelude.{ℕ, Bool, true, false, List, [], ◌∷◌, ◌++◌, ◌≡◌, ◌≢◌, ◌<◌, ◌⊎◌, ◌&&◌, ◌||◌, ◌==◌, not}
 use Rattle.std.specs.Prelude.{length, codes, Option, Some, None, ℤ}
-use Rattle.std.specs.Option.{IsSomeAnd}
-use Rattle.std.specs.List.{list_all}
-use Rattle.std.specs.Char.{is_ascii_digit}
+use Rattle.std.specs.{Option.IsSomeAnd, List.list_all, Char.is_ascii_digit, Str.byte as char}
 use Rattle.cs_base.specs.Decimals.{is_numeral, whole_part, greatest_whole, decimal_of, raw_of_decimal}
-use Rattle.cs_base.specs.declared.fault.OrcKind.{OrcKind}
-use Rattle.cs_base.specs.declared.fault.OrcKind.TheVariants as orc
-use Rattle.cs_lex.specs.declared.token.Mark.{Mark}
-use Rattle.cs_lex.specs.declared.token.Mark.TheVariants as mark
-use Rattle.std.specs.Str.{byte as char}
+use Rattle.cs_base.specs.{declared.fault.OrcKind.OrcKind, Lines.is_blank, Lines.is_feed, Lines.begins}
+use Rattle.cs_lex.specs.{declared.token.Mark.Mark, Bytes.is_short_sign}
 use Rattle.cs_base.specs.Comments.{begins_comment, is_open_comment, comment_len}
-use Rattle.cs_base.specs.Lines.{is_blank, is_feed, begins}
 use Rattle.cs_lex.specs.Bytes.{is_quote, is_letter, is_word_byte, is_allowed, is_quotable, is_text_byte, is_sign}
-use Rattle.cs_lex.specs.Bytes.{is_short_sign}
+use Rattle.cs_base.specs.declared.fault.OrcKind.TheVariants as orc
+use Rattle.cs_lex.specs.declared.token.Mark.TheVariants as mark
 
 -- a span that has the form, where no longer span from its first byte has it
 pub record Longest (form : List ℕ → Bool) (span after : List ℕ) : Type 0 where

@@ -1,18 +1,12 @@
 -- A text that is written piece by piece.
 use Rattle.std.proofs.Common.{◌≡◌, ◌<◌, ◌≤◌, ℕ, ◌+◌, List, [], ◌∷◌, ◌++◌, length, take, drop, get_or, codes, ap, subst}
 use Rattle.std.proofs.Common.{sym, refl, ◌∙◌, append_assoc, append-nil}
-use Rattle.std.specs.List.{flat_map}
-use Rattle.std.proofs.lemmas.List.{take_more, take-append-drop, take_all}
-use Rattle.std.proofs.lemmas.Grind.{flat_map-append}
-use Rattle.cs_edge.specs.Moves.{SinkTold, WroteMore, WrotePart}
+use Rattle.std.specs.{List.flat_map, Fmt.decimal, Prelude.Result, Prelude.OnOk, Prelude.OnErr}
+use Rattle.std.proofs.lemmas.{List.take_more, List.take-append-drop, List.take_all, Grind.flat_map-append}
+use Rattle.cs_edge.specs.{Moves.SinkTold, Moves.WroteMore, Moves.WrotePart, declared.moves.Failed.Failed}
 use Rattle.cs_edge.proofs.Stories.{more_both, part_behind, part_longer}
-use Rattle.std.specs.Fmt.{decimal}
-use Rattle.cs_base.specs.Limits.{limit_number}
-use Rattle.cs_base.specs.declared.limit.LimitHit.{LimitHit}
-use Rattle.cs_report.specs.declared.status.Status.{Status}
-use Rattle.std.specs.Prelude.{Result, OnOk, OnErr}
-use Rattle.cs_edge.specs.declared.moves.Failed.{Failed}
-use Rattle.cs_report.specs.Report.{count_lines, counts_in}
+use Rattle.cs_base.specs.{Limits.limit_number, declared.limit.LimitHit.LimitHit}
+use Rattle.cs_report.specs.{declared.status.Status.Status, Report.count_lines, Report.counts_in}
 use Rattle.cs_report.specs.declared.counts.PerformanceCounts.{PerformanceCounts}
 use Rattle.cs_report.specs.Talk.{joined, Says, fault_message, limit_message, message_of}
 

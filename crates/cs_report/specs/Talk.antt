@@ -1,9 +1,7 @@
 -- What the program says of its end.
 use Rattle.std.specs.Prelude.{ℕ, ◌⊎◌, List, [], ◌∷◌, ◌++◌, codes, decimal}
-use Rattle.cs_base.specs.Faults.{csd_kind_number, csd_kind_name, orc_kind_number, orc_kind_name}
-use Rattle.cs_base.specs.Faults.{score_kind_number, score_kind_name}
-use Rattle.cs_base.specs.Limits.{limit_number}
-use Rattle.cs_base.specs.declared.limit.LimitHit.{LimitHit}
+use Rattle.cs_base.specs.Faults.{csd_kind_number, csd_kind_name, orc_kind_number, orc_kind_name, score_kind_number}
+use Rattle.cs_base.specs.{Faults.score_kind_name, Limits.limit_number, declared.limit.LimitHit.LimitHit}
 use Rattle.cs_edge.specs.Moves.{SinkTold, WroteMore, WrotePart}
 use Rattle.cs_report.specs.declared.status.Status.{Status}
 use Rattle.cs_report.specs.declared.status.Status.TheVariants.{Ok, Usage, ShelfFault, OrcRefused, ScoreRefused, Limit}

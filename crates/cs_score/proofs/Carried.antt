@@ -1,25 +1,22 @@
 -- A statement's fields, filled by those of the one before.
-use Rattle.std.proofs.Common.{◌≡◌, ℕ, ℤ, zero, suc, ◌+◌, ◌<◌, ◌≤◌, min, max, Bool, true, false, List, [], ◌∷◌, ◌++◌}
-use Rattle.std.proofs.Common.{length, drop, take, map, set, get_or, arith, ap, sym, ◌∙◌, refl, append_assoc, Option}
-use Rattle.std.proofs.Common.{Some, None, Result, Ok, Err, IfOk, IsSome, subst, slice_get, unwrap_or, if◌then◌else◌}
-use Rattle.std.specs.List.{range_with_len}
+use Rattle.std.proofs.Common.{◌≡◌, ℕ, ℤ, zero, suc, ◌+◌, ◌-◌, ◌<◌, ◌≤◌, min, max, Bool, true, false, List, [], ◌∷◌}
+use Rattle.std.proofs.Common.{◌++◌, length, drop, take, map, set, get_or, arith, ap, sym, ◌∙◌, refl, append_assoc}
+use Rattle.std.proofs.Common.{Option, Some, None, Result, Ok, Err, IfOk, IsSome, subst, slice_get, unwrap_or}
+use Rattle.std.proofs.Common.{if◌then◌else◌}
+use Rattle.std.specs.{List.range_with_len, Result.IsErrAnd}
 use Rattle.std.proofs.lemmas.List.{drop_more, drop_all, get_or_at, take_more, set_at, append-nil, length-take-le}
-use Rattle.std.proofs.lemmas.List.{same_lists}
+use Rattle.std.proofs.lemmas.List.{same_lists, drop-drop, length-append, length-drop}
 use Rattle.std.proofs.lemmas.List.FromFn.{length-map-range_with_len, get_or-map-range_with_len}
-use Rattle.cs_score.specs.declared.field.Field.{Field}
-use Rattle.cs_score.specs.declared.field.Field.TheVariants.{Number, Same, After, Ahead, Foreign, Unreadable}
-use Rattle.cs_score.specs.declared.row.Row.{Row}
-use Rattle.cs_score.specs.Carry.{taken, field, count, fields, continues}
-use Rattle.cs_score.specs.Notes.{values_of}
-use Rattle.cs_base.specs.declared.fault.ScoreKind.TheVariants.{NothingToCarry}
-use Rattle.cs_score.specs.Notes.{gap_by}
+use Rattle.cs_score.specs.{declared.field.Field.Field, declared.row.Row.Row, Notes.values_of, Notes.gap_by}
+use Rattle.cs_score.specs.{Fields.raw_of, declared.field.Signed.Signed, inner.State.Answers, inner.State.IsKept}
+use Rattle.cs_score.specs.{inner.State.IsLast, inner.Values.AreValues, inner.Values.IsTakenFrom}
+use Rattle.cs_score.specs.{declared.field.InstrumentNumber.InstrumentNumber, declared.last.LastNote.LastNote}
+use Rattle.cs_score.specs.{declared.last.NoteRead.NoteRead, declared.statement_fault.StatementFault.StatementFault}
+use Rattle.cs_score.specs.declared.field.Field.TheVariants.{Number, Same}
+use Rattle.cs_score.specs.Carry.{and_then, taken, field, count, fields, continues, number_of}
+use Rattle.cs_base.specs.{declared.fault.ScoreKind.ScoreKind, declared.fault.ScoreKind.TheVariants.NothingToCarry}
 use Rattle.cs_score.specs.inner.State.{filled, filled_one, completed, fields_read, instr_read, p1_before, p2_read}
-use Rattle.cs_score.specs.inner.State.{IsKept, IsLast}
-use Rattle.cs_score.specs.inner.Values.{AreValues}
-use Rattle.cs_score.specs.declared.field.InstrumentNumber.{InstrumentNumber}
-use Rattle.cs_score.specs.declared.last.LastNote.{LastNote}
-use Rattle.cs_score.specs.declared.last.NoteRead.{NoteRead}
-use Rattle.cs_score.specs.declared.statement_fault.StatementFault.{StatementFault}
+use Rattle.cs_score.specs.declared.statement_fault.StatementFault.TheVariants as fault
 
 pub length-filled : (ws before : List Field) → length (filled ws before) ≡ max (length ws) (length before)
 length-filled [] before = omega arith
@@ -50,14 +47,106 @@ filled_rest zero (f ∷ fs) before l = absurd (omega arith)
 filled_rest (suc n) (f ∷ fs) [] l = drop_all n fs (omega arith)
 filled_rest (suc n) (f ∷ fs) (g ∷ gs) l = filled_rest n fs gs (omega arith)
 
--- and so are their values, where no field from p4 on is written
-pub taken_whole : (ws before fields : List Field) (more : List ℤ) → length ws ≤ 3 → AreValues before more
-    → fields ≡ filled ws before
-    → AreValues fields more
-taken_whole ws before fields more l v e = (
-  ap (values_of NothingToCarry) (ap (drop 3) e ∙ filled_rest 3 ws before l) ∙ v.0,
-  omega (arith, v.1, ap length e, length-filled ws before),
-)
+tail_values : (r : Result Signed ScoreKind) (s : Result (List ℤ) ScoreKind) (zs : List ℤ)
+    → and_then r (λ n. and_then s (λ ys. Ok (raw_of n ∷ ys))) ≡ Ok zs → s ≡ Ok (drop 1 zs)
+tail_values (Ok n) (Ok ys) zs e = let h : raw_of n ∷ ys ≡ zs = cc in ap (λ t. Ok (drop 1 t)) h
+tail_values (Ok n) (Err k) zs e = cc
+tail_values (Err k) s zs e = cc
+
+values_behind : (k : ℕ) (fs : List Field) (zs : List ℤ) → values_of NothingToCarry fs ≡ Ok zs
+    → values_of NothingToCarry (drop k fs) ≡ Ok (drop k zs)
+values_behind zero fs zs e = e
+values_behind (suc k) [] [] e = refl
+values_behind (suc k) [] (z ∷ zs) e = cc
+values_behind (suc k) (f ∷ fs) zs e =
+    let next : 1 + k ≡ suc k = omega arith in
+    values_behind k fs (drop 1 zs) (tail_values (number_of NothingToCarry f) (values_of NothingToCarry fs) zs e)
+    ∙ ap Ok (drop-drop k 1 zs ∙ ap (λ n. drop n zs) next)
+
+-- and so are their values
+pub taken_behind : (ws before fields : List Field) (more : List ℤ) → AreValues before more → fields ≡ filled ws before
+    → IsTakenFrom (length ws) fields more
+taken_behind ws before fields more v e =
+    let k = length ws - 3 in
+    let same : drop k (drop 3 fields) ≡ drop k (drop 3 before) =
+    ap (λ fs. drop k (drop 3 fs)) e ∙ drop-drop k 3 (filled ws before) ∙ filled_rest (3 + k) ws before (omega arith)
+    ∙ sym (drop-drop k 3 before) in
+    record {
+      within = omega (arith, ap length e, length-filled ws before);
+      values = ap (values_of NothingToCarry) same ∙ values_behind k (drop 3 before) more v.0;
+      len = omega (arith, ap length same, v.1, length-drop {A = Field}, length-drop {A = ℤ});
+    }
+
+-- all fields are written
+pub all_written : (ws : List Field) → IsTakenFrom (length ws) ws []
+all_written ws =
+    let k = length ws - 3 in
+    let none : drop k (drop 3 ws) ≡ [] = drop-drop k 3 ws ∙ drop_all (3 + k) ws (omega arith) in
+    let zs : List ℤ = [] in
+    let nil : drop k zs ≡ zs = drop_all k zs (omega arith) in
+    record {
+      within = omega arith;
+      values = ap (values_of NothingToCarry) none ∙ ap Ok (sym nil);
+      len = ap length nil ∙ sym (ap length none);
+    }
+
+parted_step : (r : Result Signed ScoreKind) (a b : Result (List ℤ) ScoreKind)
+    → and_then r (λ n. and_then (and_then a (λ xs. and_then b (λ ys. Ok (xs ++ ys)))) (λ zs. Ok (raw_of n ∷ zs)))
+    ≡ and_then (and_then r (λ n. and_then a (λ zs. Ok (raw_of n ∷ zs)))) (λ xs. and_then b (λ ys. Ok (xs ++ ys)))
+parted_step (Err k) a b = refl
+parted_step (Ok n) (Err k) b = refl
+parted_step (Ok n) (Ok xs) (Err k) = refl
+parted_step (Ok n) (Ok xs) (Ok ys) = refl
+
+with_none : (r : Result (List ℤ) ScoreKind) → r ≡ and_then r (λ ys. Ok ys)
+with_none (Ok ys) = refl
+with_none (Err k) = refl
+
+-- the values of the first fields, then those of the others
+values_parted : (k : ℕ) (fs : List Field) → values_of NothingToCarry fs ≡
+    and_then (values_of NothingToCarry (take k fs)) (λ xs. and_then (values_of NothingToCarry (drop k fs))
+    (λ ys. Ok (xs ++ ys)))
+values_parted zero fs = with_none (values_of NothingToCarry fs)
+values_parted (suc k) [] = refl
+values_parted (suc k) (f ∷ fs) =
+    let v = values_of NothingToCarry in
+    ap (λ s. and_then (number_of NothingToCarry f) (λ n. and_then s (λ zs. Ok (raw_of n ∷ zs)))) (values_parted k fs)
+    ∙ parted_step (number_of NothingToCarry f) (v (take k fs)) (v (drop k fs))
+
+-- a statement's own values, in place of the first ones of the statement before
+pub own_values : (written : ℕ) (fields : List Field) (before own : List ℤ) → IsTakenFrom written fields before
+    → values_of NothingToCarry (take (written - 3) (drop 3 fields)) ≡ Ok own → length own ≡ written - 3
+    → AreValues fields (own ++ drop (length own) before)
+own_values written fields before own t v l =
+    let k = written - 3 in
+    let rest = drop k (drop 3 fields) in (
+      values_parted k (drop 3 fields)
+          ∙ ap (λ r. and_then r (λ xs. and_then (values_of NothingToCarry rest) (λ ys. Ok (xs ++ ys)))) v
+          ∙ ap (λ r. and_then r (λ ys. Ok (own ++ ys))) t.values ∙ ap (λ n. Ok (own ++ drop n before)) (sym l),
+      let same : length (drop (length own) before) ≡ length rest = ap (λ n. length (drop n before)) l ∙ t.len in
+          omega (
+            arith,
+            t.within,
+            l,
+            same,
+            length-append own (drop (length own) before),
+            length-drop k (drop 3 fields),
+            length-drop 3 fields,
+          ),
+    )
+
+-- the first fault of its own is that of all
+pub own_fault : (k : ℕ) (fs : List Field) (r : Result (List ℤ) StatementFault) (e : StatementFault)
+    → IsErrAnd r (λ y. y ≡ e) → Answers {A = List ℤ} (Err e) (values_of NothingToCarry (take k fs))
+    → Answers r (values_of NothingToCarry fs)
+own_fault k fs (Ok x) e i h = elim i [ ]
+own_fault k fs (Err (fault.Kind g)) (fault.Kind f) i h =
+    let same : f ≡ g = cc in
+    values_parted k fs
+    ∙ ap (λ r. and_then r (λ xs. and_then (values_of NothingToCarry (drop k fs)) (λ ys. Ok (xs ++ ys)))) h
+    ∙ ap (λ x. Err x) same
+own_fault k fs (Err fault.OutOfMemory) e i h = tt
+own_fault k fs (Err (fault.Kind g)) fault.OutOfMemory i h = cc
 
 -- what the next statement may take from one is what the code keeps of it
 kept_one : (last next : LastNote) (written fields : List Field) (instr : InstrumentNumber) (p2 : ℕ)
@@ -114,20 +203,12 @@ kept_fields (row ∷ above) = completed (continues (row ∷ above)) row.fields (
 
 taken_none : (f : Option Field) → taken f None ≡ f
 taken_none None = refl
-taken_none (Some (Number n)) = refl
 taken_none (Some Same) = refl
-taken_none (Some After) = refl
-taken_none (Some (Ahead x)) = refl
-taken_none (Some Foreign) = refl
-taken_none (Some Unreadable) = refl
+taken_none f = refl
 
 taken_some : (f g : Field) → taken (Some f) (Some g) ≡ Some (filled_one f g)
 taken_some (Number n) g = refl
-taken_some Same g = refl
-taken_some After g = refl
-taken_some (Ahead x) g = refl
-taken_some Foreign g = refl
-taken_some Unreadable g = refl
+taken_some f g = refl
 
 get_of_filled : (ws before : List Field) (k : ℕ)
     → slice_get (filled ws before) k ≡ taken (slice_get ws k) (slice_get before k)

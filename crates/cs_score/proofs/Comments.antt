@@ -1,12 +1,10 @@
 -- The text without its comments: byte by byte, as the code reads it, and by its pieces.
 use Rattle.std.proofs.Common.{◌≡◌, ℕ, zero, suc, ◌+◌, ◌-◌, ◌<◌, ◌≤◌, ◌==◌, max, Bool, true, false, List, [], ◌∷◌, ◌++◌}
 use Rattle.std.proofs.Common.{length, drop, take, get_or, arith, refl, ap, sym, ◌∙◌, append_assoc, append-nil}
-use Rattle.std.proofs.Common.{if◌then◌else◌}
+use Rattle.std.proofs.{Common.if◌then◌else◌, Math.Seq.drop-nil, Math.Seq.drop-append_seam, Math.Seq.take-append_seam}
 use Rattle.std.proofs.lemmas.Bool.Decides.{nat_tests}
 use Rattle.std.proofs.lemmas.List.{drop_more, drop_all, length-append, length-drop, length-map, length-take}
-use Rattle.std.proofs.Math.Seq.{drop-nil, drop-append_seam, take-append_seam}
-use Rattle.cs_base.specs.Comments.{comment_len}
-use Rattle.cs_base.specs.Lines.{space}
+use Rattle.cs_base.specs.{Comments.comment_len, Lines.space}
 use Rattle.cs_score.specs.Plain.{AllFit, CommentOrByte, plain_by, plain_of, plain_piece, plain_pieces, spaces, text_of}
 use Rattle.cs_score.specs.inner.Hidden.{hidden_here}
 

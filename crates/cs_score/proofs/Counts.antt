@@ -2,23 +2,16 @@
 use Rattle.std.proofs.Common.{◌≡◌, ℕ, ◌+◌, ◌≤◌, Bool, true, false, cond, ◌==◌, ◌||◌, Option, Some, None, List, [], ◌∷◌}
 use Rattle.std.proofs.Common.{◌++◌, length, nat_lt, arith, refl, ap, sym, subst, ◌∙◌, ⊎_elim, append-nil, append_assoc}
 use Rattle.std.proofs.Common.{if◌then◌else◌}
-use Rattle.std.specs.List.{list_any, count_by}
-use Rattle.std.specs.Option.{is_some}
-use Rattle.std.proofs.lemmas.Bool.{cases_Bool}
-use Rattle.std.proofs.lemmas.Bool.Decides.{nat_tests}
-use Rattle.std.proofs.lemmas.List.{length_push}
-use Rattle.std.proofs.lemmas.List.Folds.{list_any-append}
-use Rattle.cs_base.specs.declared.limit.Limit.{Limit}
-use Rattle.cs_base.specs.declared.limit.Limit.TheVariants as limit
-use Rattle.cs_base.specs.declared.limit.LimitHit.{LimitHit}
+use Rattle.std.specs.{List.list_any, List.count_by, Option.is_some}
+use Rattle.std.proofs.lemmas.{Bool.cases_Bool, Bool.Decides.nat_tests, List.length_push, List.Folds.list_any-append}
+use Rattle.cs_base.specs.{declared.limit.Limit.Limit, declared.limit.LimitHit.LimitHit}
 use Rattle.cs_base.proofs.Texts.{count_by-append}
-use Rattle.cs_score.specs.declared.kept.TableNumbers.{TableNumbers}
-use Rattle.cs_score.specs.declared.kept.EventCount.{EventCount}
+use Rattle.cs_score.specs.{declared.kept.TableNumbers.TableNumbers, declared.kept.EventCount.EventCount}
+use Rattle.cs_score.specs.{declared.statement.ScoreStmt.ScoreStmt, Limits.passes_events, Limits.passes_tables}
 use Rattle.cs_score.specs.declared.kept.KeptStatements.{KeptStatements}
-use Rattle.cs_score.specs.declared.statement.ScoreStmt.{ScoreStmt}
 use Rattle.cs_score.specs.Limits.{at_statement, counts, different, first_at, is_counted, numbers_of, own_number}
-use Rattle.cs_score.specs.Limits.{passes_events, passes_tables}
 use Rattle.cs_score.specs.inner.Counts.{HasCount, HasNumbers, Holds, IsSeen}
+use Rattle.cs_base.specs.declared.limit.Limit.TheVariants as limit
 
 -- ---- the first item that passes a test, with one item more
 

@@ -1,29 +1,22 @@
 -- What the code keeps says the same as looking back.
 use Rattle.std.proofs.Common.{◌≡◌, ℕ, ℤ, Bool, true, false, ◌&&◌, List, [], ◌∷◌, ap, sym, ◌∙◌, refl, Option, Some, None}
 use Rattle.std.proofs.Common.{Result, Ok, Err, slice_get, nat_eq, if◌then◌else◌}
-use Rattle.std.specs.HashMap.{get}
-use Rattle.std.specs.Option.{option_or}
-use Rattle.cs_base.specs.declared.fault.ScoreKind.{ScoreKind}
-use Rattle.cs_base.specs.declared.fault.ScoreKind.TheVariants.{NothingToCarry}
+use Rattle.std.specs.{HashMap.get, Option.option_or}
+use Rattle.cs_base.specs.{declared.fault.ScoreKind.ScoreKind, declared.fault.ScoreKind.TheVariants.NothingToCarry}
 use Rattle.cs_gen.specs.Faults.{table_fault}
-use Rattle.cs_score.specs.declared.field.Field.{Field}
-use Rattle.cs_score.specs.declared.field.Field.TheVariants.{Number, Same, After, Ahead, Foreign, Unreadable}
-use Rattle.cs_score.specs.declared.field.InstrumentNumber.{InstrumentNumber}
-use Rattle.cs_score.specs.declared.last.LastNote.{LastNote}
-use Rattle.cs_score.specs.declared.past.Past.{Past}
-use Rattle.cs_score.specs.declared.row.StatementLetter.{StatementLetter}
-use Rattle.cs_score.specs.declared.row.StatementLetter.TheVariants as letter
-use Rattle.cs_score.specs.declared.row.Row.{Row}
-use Rattle.cs_score.specs.declared.statement.ScoreWhat.{ScoreWhat}
-use Rattle.cs_score.specs.declared.statement.ScoreWhat.TheVariants.{Note, Hold, Stop, Table, Extend, Tempo, Section}
+use Rattle.cs_score.specs.{declared.field.Field.Field, declared.field.Field.TheVariants.After}
+use Rattle.cs_score.specs.{declared.field.InstrumentNumber.InstrumentNumber, declared.last.LastNote.LastNote}
+use Rattle.cs_score.specs.{declared.past.Past.Past, declared.row.StatementLetter.StatementLetter, declared.row.Row.Row}
+use Rattle.cs_score.specs.{declared.statement.ScoreWhat.ScoreWhat, inner.State.p1_before, inner.State.p2_read}
+use Rattle.cs_score.specs.declared.statement.ScoreWhat.TheVariants.{Note, Table}
 use Rattle.cs_score.specs.Carry.{and_then, continues, fields, is_note, is_note_letter, is_same, p1, p1_by}
 use Rattle.cs_score.specs.Notes.{gap, gap_by, note, note_of, ok_or_zero, p2, p2_by}
 use Rattle.cs_score.specs.Statements.{asked, asked_by, asked_of, base_after, base_of, first_size, refusal_of, size_in}
 use Rattle.cs_score.specs.Statements.{table, table_refusal, is_other_size, unless, written_table}
 use Rattle.cs_score.specs.inner.State.{IsKept, completed, continuing, fields_read, instr_read, note_read, note_with}
-use Rattle.cs_score.specs.inner.State.{p1_before, p2_read}
 use Rattle.cs_score.specs.inner.Past.{Follows, Keeps, LastFollows, asked_after, table_read}
 use Rattle.cs_score.proofs.Carried.{field_is, fields_next}
+use Rattle.cs_score.specs.declared.row.StatementLetter.TheVariants as letter
 
 -- ---- an `i` statement
 
@@ -65,12 +58,8 @@ fields_is above past row k =
 
 no_mark : (a b c d : ℕ) (f : Option Field) → p2_by false a b f ≡ p2_by false c d f
 no_mark a b c d None = refl
-no_mark a b c d (Some (Number n)) = refl
-no_mark a b c d (Some Same) = refl
 no_mark a b c d (Some After) = refl
-no_mark a b c d (Some (Ahead x)) = refl
-no_mark a b c d (Some Foreign) = refl
-no_mark a b c d (Some Unreadable) = refl
+no_mark a b c d f = refl
 
 p2_by_same : (continuing : Bool) (a b c d : ℕ) (f : Option Field) → (continuing ≡ true → a ≡ c)
     → (continuing ≡ true → b ≡ d)
@@ -107,12 +96,7 @@ note_is above past row k =
 refusal_is : (f g : ℕ → Option ℤ) (what : ScoreWhat) → ((n : ℕ) → f n ≡ g n) → refusal_of f what ≡ refusal_of g what
 refusal_is f g (Table number at size gen args) e =
     ap (λ first. table_refusal (table_fault size gen args) (is_other_size first size)) (e number)
-refusal_is f g (Note instr at len more) e = refl
-refusal_is f g (Hold instr at given more) e = refl
-refusal_is f g (Stop instr at) e = refl
-refusal_is f g (Extend at) e = refl
-refusal_is f g (Tempo points) e = refl
-refusal_is f g Section e = refl
+refusal_is f g _ e = refl
 
 then_same : {A B E : Type 0} → (r : Result A E) (f g : A → Result B E) → ((x : A) → f x ≡ g x)
     → and_then r f ≡ and_then r g
@@ -142,26 +126,14 @@ instr_more : (above : List Row) (past : Past) (row : Row) (next : LastNote) (l :
     → LastFollows past.last row next l
     → p1_before next.instr ≡ (if is_note_letter l then p1 (row ∷ above) else Err NothingToCarry)
 instr_more above past row next letter.Note k h = sym h.is_instr ∙ instr_is above past row k
-instr_more above past row next letter.Table k h = ap p1_before h
-instr_more above past row next letter.Tempo k h = ap p1_before h
-instr_more above past row next letter.Base k h = ap p1_before h
-instr_more above past row next letter.Section k h = ap p1_before h
-instr_more above past row next letter.End k h = ap p1_before h
-instr_more above past row next letter.Other k h = ap p1_before h
-instr_more above past row next letter.Stray k h = ap p1_before h
+instr_more above past row next _ k h = ap p1_before h
 
 -- of an `i` statement its parts are kept
 kept_by : (past : Past) (row : Row) (next : LastNote) (l : StatementLetter) → LastFollows past.last row next l
     → is_note_letter l ≡ true
     → IsKept past.last row.fields next
 kept_by past row next letter.Note h e = h
-kept_by past row next letter.Table h e = absurd (let wrong : false ≡ true = e in cc)
-kept_by past row next letter.Tempo h e = absurd (let wrong : false ≡ true = e in cc)
-kept_by past row next letter.Base h e = absurd (let wrong : false ≡ true = e in cc)
-kept_by past row next letter.Section h e = absurd (let wrong : false ≡ true = e in cc)
-kept_by past row next letter.End h e = absurd (let wrong : false ≡ true = e in cc)
-kept_by past row next letter.Other h e = absurd (let wrong : false ≡ true = e in cc)
-kept_by past row next letter.Stray h e = absurd (let wrong : false ≡ true = e in cc)
+kept_by past row next _ h e = absurd (let wrong : false ≡ true = e in cc)
 
 fields_more : (above : List Row) (past : Past) (row : Row) (next : LastNote) → Keeps above past
     → IsKept past.last row.fields next

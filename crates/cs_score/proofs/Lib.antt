@@ -5,5 +5,6 @@ pub mod History
 pub mod Lines
 pub mod Pairs
 pub mod Reading
+pub mod Runs
 pub mod Words
 pub mod Sizes

@@ -3,11 +3,9 @@ use Rattle.std.proofs.Common.{◌≡◌, ℕ, ◌+◌, ◌-◌, ◌<◌, Bool, t
 use Rattle.std.proofs.Common.{arith, ap, sym, ◌∙◌, refl, subst, if◌then◌else◌}
 use Rattle.std.specs.List.{prefix_len}
 use Rattle.std.proofs.lemmas.List.{drop-drop, length-drop}
-use Rattle.cs_score.specs.declared.row.Row.{Row}
+use Rattle.cs_score.specs.{declared.row.Row.Row, Rows.row_at, Rows.row_of, Rows.rows_in, inner.Left.rows_from}
 use Rattle.cs_base.specs.Lines.{Excerpt, Line, is_blank, is_feed, line, line_after, lines_from, next_len, with_byte}
 use Rattle.cs_base.proofs.LineCuts.{Cut, cut_at, line_len}
-use Rattle.cs_score.specs.Rows.{row_at, row_of, rows_in}
-use Rattle.cs_score.specs.inner.Left.{rows_from}
 
 -- a line without its number, which is none of the text with comments
 abbrev unnumbered : Line → ℕ × List ℕ

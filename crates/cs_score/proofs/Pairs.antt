@@ -1,16 +1,12 @@
 -- The pairs of a tempo, one by one, and their ranges.
-use Rattle.std.proofs.Common.{◌≡◌, ℕ, ◌+◌, ◌<◌, ◌≤◌, ◌==◌, true, List, [], ◌∷◌, ◌++◌, length, drop, get_or, arith, ap}
+use Rattle.std.proofs.Common.{◌≡◌, ℕ, ◌+◌, ◌<◌, ◌≤◌, ◌==◌, true, List, ◌∷◌, ◌++◌, length, drop, get_or, arith, ap, []}
 use Rattle.std.proofs.Common.{sym, ◌∙◌, refl, subst, append_assoc, Option, Some, None, Result, Ok, Err, nat_le}
-use Rattle.std.proofs.lemmas.List.{drop_more, drop_all, append-nil}
-use Rattle.std.proofs.lemmas.Bool.Decides.{nat_tests}
+use Rattle.std.proofs.lemmas.{List.drop_more, List.drop_all, List.append-nil, Bool.Decides.nat_tests}
 use Rattle.cs_base.specs.declared.fault.ScoreKind.{ScoreKind}
 use Rattle.cs_base.specs.declared.fault.ScoreKind.TheVariants.{BadNumber, MissingField}
-use Rattle.cs_score.specs.declared.field.Signed.{Signed}
-use Rattle.cs_score.specs.declared.field.Field.{Field}
-use Rattle.cs_score.specs.declared.field.Field.TheVariants.{Number}
+use Rattle.cs_score.specs.{declared.field.Signed.Signed, declared.field.Field.Field}
+use Rattle.cs_score.specs.{declared.field.Field.TheVariants.Number, Carry.and_then, Carry.number_of, Notes.zero}
 use Rattle.cs_score.specs.declared.statement.TempoPoint.{TempoPoint}
-use Rattle.cs_score.specs.Carry.{and_then, number_of}
-use Rattle.cs_score.specs.Notes.{zero}
 use Rattle.cs_score.specs.Ranges.{beats_end, AreRising, AreTempoPoints}
 use Rattle.cs_score.specs.Statements.{follows, as_beat, as_tempo, points_of}
 
@@ -45,9 +41,6 @@ with_tempo beat fs tempo = and_then (points_of (Some beat) fs) (λ ps. Ok (point
 
 abbrev with_beat : Field → List Field → ℕ → Result (List TempoPoint) ScoreKind
 with_beat g fs beat = and_then (number_of BadNumber g) (λ m. and_then (as_tempo m) (with_tempo beat fs))
-
-abbrev with_first : Option ℕ → Field → Field → List Field → Result (List TempoPoint) ScoreKind
-with_first last f g fs = and_then (number_of BadNumber f) (λ n. and_then (as_beat last n) (with_beat g fs))
 
 one_pair : (last : Option ℕ) (f g : Field) (fs : List Field) (n m : Signed) (beat tempo : ℕ)
     → number_of BadNumber f ≡ Ok n

@@ -1,21 +1,14 @@
 -- One pass over the lines: what was read, and one line more.
-use Rattle.std.proofs.Common.{◌≡◌, ℕ, ◌≤◌, Bool, true, false, List, [], ◌∷◌, ◌++◌, length, ap, sym, ◌∙◌, refl}
-use Rattle.std.proofs.Common.{subst, append_assoc, Option, Some, None, Result, Ok, Err, if◌then◌else◌}
+use Rattle.std.proofs.Common.{◌≡◌, ℕ, ◌≤◌, Bool, true, false, List, [], ◌∷◌, ◌++◌, length, ap, sym, ◌∙◌, refl, subst}
+use Rattle.std.proofs.Common.{append_assoc, Option, Some, None, Result, Ok, Err, if◌then◌else◌}
 use Rattle.std.specs.Option.{option_to_list}
 use Rattle.std.proofs.lemmas.List.{append-nil, drop_all}
-use Rattle.cs_base.specs.declared.fault.ScoreFault.{ScoreFault}
+use Rattle.cs_base.specs.{declared.fault.ScoreFault.ScoreFault, Lines.Excerpt, Lines.lines_from}
 use Rattle.cs_score.specs.declared.kept.KeptStatements.{KeptStatements}
-use Rattle.cs_score.specs.declared.past.Past.{Past}
-use Rattle.cs_score.specs.declared.row.Row.{Row}
-use Rattle.cs_score.specs.declared.statement.ScoreStmt.{ScoreStmt}
-use Rattle.cs_score.specs.declared.statement.ScoreWhat.{ScoreWhat}
-use Rattle.cs_score.specs.Carry.{and_then}
-use Rattle.cs_score.specs.inner.Counts.{Holds, IsWhole}
-use Rattle.cs_score.specs.inner.Left.{rows_from}
+use Rattle.cs_score.specs.{declared.past.Past.Past, declared.row.Row.Row, declared.statement.ScoreStmt.ScoreStmt}
+use Rattle.cs_score.specs.{declared.statement.ScoreWhat.ScoreWhat, Carry.and_then, inner.Counts.Holds}
+use Rattle.cs_score.specs.{inner.Counts.IsWhole, inner.Left.rows_from, Plain.plain_of, Rows.rows_in, Rows.rows_of}
 use Rattle.cs_score.specs.inner.Past.{IsFaultOf, Keeps, LineTaken, RowRead, asked_after}
-use Rattle.cs_base.specs.Lines.{Excerpt, lines_from}
-use Rattle.cs_score.specs.Plain.{plain_of}
-use Rattle.cs_score.specs.Rows.{rows_in, rows_of}
 use Rattle.cs_score.specs.Statements.{asked, at_line, is_end, score_of, stated, statements_of, up_to_end}
 use Rattle.cs_score.proofs.History.{asked_is, row_more}
 

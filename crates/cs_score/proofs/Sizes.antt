@@ -2,34 +2,24 @@
 use Rattle.std.proofs.Common.{◌≡◌, ℕ, ℤ, zero, suc, ◌<◌, ◌==◌, not, nat_lt, Bool, true, false, List, [], ◌∷◌, ◌++◌}
 use Rattle.std.proofs.Common.{drop, length, slice_get, arith, ap, sym, ◌∙◌, refl, subst, Option, Some, None, Result, Ok}
 use Rattle.std.proofs.Common.{Err, if◌then◌else◌}
-use Rattle.std.specs.List.{All}
-use Rattle.std.specs.Option.{option_or}
-use Rattle.std.specs.Ordering.{int_eq}
+use Rattle.std.specs.{List.All, Option.option_or, Ordering.int_eq}
 use Rattle.std.proofs.lemmas.Bool.Decides.{Decides-int_eq, nat_tests}
-use Rattle.cs_base.specs.Lines.{Excerpt}
-use Rattle.cs_base.specs.declared.fault.ScoreFault.{ScoreFault}
-use Rattle.cs_base.specs.declared.fault.ScoreKind.{ScoreKind}
+use Rattle.cs_base.specs.{Lines.Excerpt, declared.fault.ScoreFault.ScoreFault, declared.fault.ScoreKind.ScoreKind}
 use Rattle.cs_base.specs.declared.fault.ScoreKind.TheVariants.{BadStatement, MissingField, NotInProfile, NothingToCarry}
-use Rattle.cs_gen.specs.declared.check.GenFault.{GenFault}
-use Rattle.cs_gen.specs.declared.check.GenFault.TheVariants as gen
-use Rattle.cs_gen.specs.Faults.{table_fault}
-use Rattle.cs_score.specs.declared.field.Field.{Field}
+use Rattle.cs_gen.specs.{declared.check.GenFault.GenFault, Faults.table_fault}
+use Rattle.cs_score.specs.{declared.field.Field.Field, declared.row.Row.Row, declared.statement.ScoreWhat.ScoreWhat}
+use Rattle.cs_score.specs.{declared.statement.ScoreStmt.ScoreStmt, Rows.rows_of, Sizes.HaveOneSize, Sizes.IsOneSize}
 use Rattle.cs_score.specs.declared.row.StatementLetter.{StatementLetter}
-use Rattle.cs_score.specs.declared.row.StatementLetter.TheVariants as letter
-use Rattle.cs_score.specs.declared.row.Row.{Row}
-use Rattle.cs_score.specs.declared.statement.ScoreWhat.{ScoreWhat}
-use Rattle.cs_score.specs.declared.statement.ScoreWhat.TheVariants.{Note, Hold, Stop, Table, Extend, Tempo, Section}
-use Rattle.cs_score.specs.declared.statement.ScoreStmt.{ScoreStmt}
+use Rattle.cs_score.specs.declared.statement.ScoreWhat.TheVariants.{Note, Hold, Stop, Table, Tempo, Section}
 use Rattle.cs_score.specs.Carry.{and_then, fields, p1}
 use Rattle.cs_score.specs.Fields.{is_negative_time, raw_of, size_of}
 use Rattle.cs_score.specs.Notes.{counted, fewest, note, note_by, note_of, p2, times_of, valued_note, values_of}
-use Rattle.cs_score.specs.Rows.{rows_of}
-use Rattle.cs_score.specs.Sizes.{HaveOneSize, IsOneSize}
 use Rattle.cs_score.specs.Statements.{asked, asked_by, at_line, base_by, base_of, ended, first_size, is_other_size, one}
 use Rattle.cs_score.specs.Statements.{points_of, refusal_of, score_of, size_by, size_for, stated, statements_of, table}
 use Rattle.cs_score.specs.Statements.{table_refusal, tempo_of, unless, up_to_end, written_table}
-use Rattle.cs_score.proofs.Pairs.{and_then_ok}
-use Rattle.cs_score.proofs.Reading.{score_is}
+use Rattle.cs_score.proofs.{Pairs.and_then_ok, Reading.score_is}
+use Rattle.cs_gen.specs.declared.check.GenFault.TheVariants as gen
+use Rattle.cs_score.specs.declared.row.StatementLetter.TheVariants as letter
 
 -- ---- lists whose items all have a property
 
@@ -96,12 +86,7 @@ table_accepted above fs (Table number at size gen args) e h =
       ap (size_for number) e
           ∙ same_number number size,
     )
-table_accepted above fs (Note instr at len more) e h = (tt, tt)
-table_accepted above fs (Hold instr at given more) e h = (tt, tt)
-table_accepted above fs (Stop instr at) e h = (tt, tt)
-table_accepted above fs (Extend at) e h = (tt, tt)
-table_accepted above fs (Tempo points) e h = (tt, tt)
-table_accepted above fs Section e h = (tt, tt)
+table_accepted above fs _ e h = (tt, tt)
 
 -- ---- no other statement is a table
 
@@ -111,12 +96,7 @@ IsNoTable _ = Unit {0}
 
 accepted_none : (first own : ℕ → Option ℤ) (w : ScoreWhat) → IsNoTable w → IsAccepted first own w
 accepted_none first own (Table number at size gen args) h = absurd h
-accepted_none first own (Note instr at len more) h = (tt, tt)
-accepted_none first own (Hold instr at given more) h = (tt, tt)
-accepted_none first own (Stop instr at) h = (tt, tt)
-accepted_none first own (Extend at) h = (tt, tt)
-accepted_none first own (Tempo points) h = (tt, tt)
-accepted_none first own Section h = (tt, tt)
+accepted_none first own _ h = (tt, tt)
 
 chosen_note : (stop held : Bool) (n at : ℕ) (given : ℤ) (len : ℕ) (more : List ℤ)
     → IsNoTable (if stop then Stop n at else if held then Hold n at given more else Note n at len more)
@@ -243,27 +223,11 @@ one_of : (first own : ℕ → Option ℤ) (w : ScoreWhat) → IsAccepted first o
     → IsFirst (λ n. option_or (first n) (own n)) u → IsOneSize w u
 one_of first own (Table m at size gen args) a (Table n at' size' gen' args') f = λ same.
     sym (f size (ap (λ k. option_or (first k) (own k)) (sym same) ∙ or_own (first m) (own m) size a.0 a.1))
-one_of first own (Table m at size gen args) a (Note instr at' len more) f = tt
-one_of first own (Table m at size gen args) a (Hold instr at' given more) f = tt
-one_of first own (Table m at size gen args) a (Stop instr at') f = tt
-one_of first own (Table m at size gen args) a (Extend at') f = tt
-one_of first own (Table m at size gen args) a (Tempo points) f = tt
-one_of first own (Table m at size gen args) a Section f = tt
-one_of first own (Note instr at len more) a u f = tt
-one_of first own (Hold instr at given more) a u f = tt
-one_of first own (Stop instr at) a u f = tt
-one_of first own (Extend at) a u f = tt
-one_of first own (Tempo points) a u f = tt
-one_of first own Section a u f = tt
+one_of first own _ a u f = tt
 
 first_back : (first own : ℕ → Option ℤ) (w : ScoreWhat) → IsFirst (λ n. option_or (first n) (own n)) w → IsFirst first w
 first_back first own (Table number at size gen args) f = λ z h. f z (or_first (first number) (own number) z h)
-first_back first own (Note instr at len more) f = tt
-first_back first own (Hold instr at given more) f = tt
-first_back first own (Stop instr at) f = tt
-first_back first own (Extend at) f = tt
-first_back first own (Tempo points) f = tt
-first_back first own Section f = tt
+first_back first own _ f = tt
 
 abbrev AreFirst : (ℕ → Option ℤ) → List ScoreStmt → Type 0
 AreFirst first = Each (λ (s : ScoreStmt). IsFirst first s.what)

@@ -1,19 +1,14 @@
 -- The words of a line, one by one.
-use Rattle.std.proofs.Common.{◌≡◌, ℕ, suc, ◌+◌, ◌<◌, true, false, not, List, [], ◌∷◌, ◌++◌, length, drop, take, map}
+use Rattle.std.proofs.Common.{◌≡◌, ℕ, suc, ◌+◌, ◌<◌, true, false, not, List, ◌∷◌, ◌++◌, length, drop, take, map, []}
 use Rattle.std.proofs.Common.{get_or, arith, ap, sym, ◌∙◌, refl, subst, append_assoc}
 use Rattle.std.specs.List.{prefix_len}
 use Rattle.std.proofs.lemmas.List.{drop_more, drop-drop}
-use Rattle.cs_score.specs.declared.field.Field.{Field}
+use Rattle.cs_score.specs.{declared.field.Field.Field, Fields.field_of, Rows.is_word_byte, Rows.words, Rows.with_first}
 use Rattle.cs_base.specs.Lines.{begins, is_blank}
 use Rattle.cs_base.proofs.Tests.{by_test}
-use Rattle.cs_score.specs.Fields.{field_of}
-use Rattle.cs_score.specs.Rows.{is_word_byte, words, with_first}
 
 abbrev pub word_len : List ℕ → ℕ
 word_len text = prefix_len is_word_byte text
-
-blank_first : (b : ℕ) (rest : List ℕ) → is_blank b ≡ true → words (b ∷ rest) ≡ words rest
-blank_first b rest h = rw h refl
 
 lone_first : (b : ℕ) (rest : List ℕ) → is_blank b ≡ false → begins is_word_byte rest ≡ false
     → words (b ∷ rest) ≡ (b ∷ []) ∷ words rest
@@ -47,10 +42,6 @@ one_word (b ∷ rest) l h =
     (word_first b rest h)
 
 -- ---- one turn of the reader
-
-pub blank_read : (line : List ℕ) (at : ℕ) → at < length line → is_blank (get_or line at 0) ≡ true
-    → words (drop at line) ≡ words (drop (at + 1) line)
-blank_read line at l h = ap words (drop_more line at 0 l) ∙ blank_first (get_or line at 0) (drop (at + 1) line) h
 
 pub word_read : (line : List ℕ) (at len : ℕ) (fields fields' : List Field) (f : Field) → at < length line
     → is_blank (get_or line at 0) ≡ false → len ≡ word_len (drop at line) → f ≡ field_of (take len (drop at line))

@@ -2,17 +2,13 @@
 use Rattle.std.specs.Prelude.{ℕ, Bool, true, false, List, [], ◌∷◌, ◌&&◌, ◌==◌, not, length, max, map, nat_le, slice_get}
 use Rattle.std.specs.Prelude.{unwrap_or, Option, Some, None, Result, Ok, Err, if◌then◌else◌}
 use Rattle.std.specs.List.{range_with_len}
-use Rattle.cs_base.specs.Limits.{greatest_instrument}
-use Rattle.cs_base.specs.declared.fault.ScoreKind.{ScoreKind}
+use Rattle.cs_base.specs.{Limits.greatest_instrument, declared.fault.ScoreKind.ScoreKind}
 use Rattle.cs_base.specs.declared.fault.ScoreKind.TheVariants.{BadNumber, NothingToCarry, NotInProfile}
 use Rattle.cs_score.specs.declared.field.InstrumentNumber.{InstrumentNumber}
-use Rattle.cs_score.specs.declared.field.Signed.{Signed}
-use Rattle.cs_score.specs.declared.field.Field.{Field}
+use Rattle.cs_score.specs.{declared.field.Signed.Signed, declared.field.Field.Field}
+use Rattle.cs_score.specs.{declared.row.StatementLetter.StatementLetter, declared.row.Row.Row, Fields.is_whole}
 use Rattle.cs_score.specs.declared.field.Field.TheVariants.{Number, Same, After, Ahead, Foreign, Unreadable}
-use Rattle.cs_score.specs.declared.row.StatementLetter.{StatementLetter}
 use Rattle.cs_score.specs.declared.row.StatementLetter.TheVariants as letter
-use Rattle.cs_score.specs.declared.row.Row.{Row}
-use Rattle.cs_score.specs.Fields.{is_whole}
 
 -- one reading after another: the first fault counts
 abbrev pub and_then : {A B E : Type 0} → Result A E → (A → Result B E) → Result B E

@@ -1,15 +1,10 @@
 -- What a field of a line says, wherever it stands.
 use Rattle.std.specs.Prelude.{ℕ, ℤ, pos, neg_ℤ, Bool, true, false, List, ◌&&◌, ◌||◌, ◌==◌, length, slice_index, drop}
 use Rattle.std.specs.Prelude.{codes, nat_lt, Option, Some, None, if◌then◌else◌}
-use Rattle.std.specs.List.{list_any}
-use Rattle.std.specs.Str.{byte}
-use Rattle.std.specs.Option.{option_map}
+use Rattle.std.specs.{List.list_any, Str.byte, Option.option_map}
 use Rattle.cs_base.specs.Decimals.{decimal_of, raw_of_decimal, millionths_of}
-use Rattle.cs_base.specs.Lines.{begins, begins_with}
-use Rattle.cs_base.specs.Numbers.{clamp}
-use Rattle.cs_base.specs.declared.decimal.Decimal.{Decimal}
-use Rattle.cs_score.specs.declared.field.Signed.{Signed}
-use Rattle.cs_score.specs.declared.field.Field.{Field}
+use Rattle.cs_base.specs.{Lines.begins, Lines.begins_with, Numbers.clamp, declared.decimal.Decimal.Decimal}
+use Rattle.cs_score.specs.{declared.field.Signed.Signed, declared.field.Field.Field}
 use Rattle.cs_score.specs.declared.field.Field.TheVariants.{Number, Same, After, Ahead, Foreign, Unreadable}
 
 -- the bytes `< > ! [ { " ( ) ~ $ @ n p`, with which fields begin that the profile leaves out

@@ -1,18 +1,14 @@
 -- The limits on table numbers and on statements, and the first of them that a score passes.
 use Rattle.std.specs.Prelude.{◌≡◌, ℕ, ◌+◌, ◌==◌, Bool, true, false, nat_lt, count_by, List, [], ◌∷◌, ◌++◌, Option, Some}
 use Rattle.std.specs.Prelude.{None, Result, Ok, Err, if◌then◌else◌}
-use Rattle.std.specs.List.{list_any}
-use Rattle.std.specs.Option.{option_or}
+use Rattle.std.specs.{List.list_any, Option.option_or}
 use Rattle.cs_base.specs.Limits.{most_events, most_tables}
-use Rattle.cs_base.specs.declared.fault.ScoreFault.{ScoreFault}
-use Rattle.cs_base.specs.declared.limit.Limit.{Limit}
-use Rattle.cs_base.specs.declared.limit.Limit.TheVariants as limit
-use Rattle.cs_base.specs.declared.limit.LimitHit.{LimitHit}
-use Rattle.cs_base.specs.declared.refusal.Refusal.{Refusal}
-use Rattle.cs_base.specs.declared.refusal.Refusal.TheVariants as refusal
-use Rattle.cs_score.specs.declared.statement.ScoreWhat.{ScoreWhat}
+use Rattle.cs_base.specs.{declared.fault.ScoreFault.ScoreFault, declared.limit.Limit.Limit}
+use Rattle.cs_base.specs.{declared.limit.LimitHit.LimitHit, declared.refusal.Refusal.Refusal}
+use Rattle.cs_score.specs.{declared.statement.ScoreWhat.ScoreWhat, declared.statement.ScoreStmt.ScoreStmt}
 use Rattle.cs_score.specs.declared.statement.ScoreWhat.TheVariants.{Table, Tempo, Section}
-use Rattle.cs_score.specs.declared.statement.ScoreStmt.{ScoreStmt}
+use Rattle.cs_base.specs.declared.limit.Limit.TheVariants as limit
+use Rattle.cs_base.specs.declared.refusal.Refusal.TheVariants as refusal
 
 -- the first item of a list at which a test on all items up to it, the earlier ones first, passes
 unfoldable pub first_at : {A : Type 0} → (List A → A → Bool) → List A → List A → Option A

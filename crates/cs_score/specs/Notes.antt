@@ -1,22 +1,16 @@
 -- An `i` statement: its fields in order, then their count, and what it asks for.
 use Rattle.std.specs.Prelude.{ℕ, ◌+◌, ℤ, Bool, false, List, [], ◌∷◌, length, drop, nat_lt, slice_get, Option, Some}
 use Rattle.std.specs.Prelude.{None, Result, Ok, Err, if◌then◌else◌}
-use Rattle.cs_base.specs.Decimals.{millionths_of}
-use Rattle.cs_base.specs.Limits.{greatest_field}
-use Rattle.cs_base.specs.declared.fault.ScoreKind.{ScoreKind}
+use Rattle.cs_base.specs.{Decimals.millionths_of, Limits.greatest_field, declared.fault.ScoreKind.ScoreKind}
 use Rattle.cs_base.specs.declared.fault.ScoreKind.TheVariants.{BadStatement, BadNumber, MissingField, NothingToCarry}
 use Rattle.cs_base.specs.declared.fault.ScoreKind.TheVariants.{NegativeTime}
 use Rattle.cs_score.specs.declared.field.InstrumentNumber.{InstrumentNumber}
-use Rattle.cs_score.specs.declared.field.Signed.{Signed}
-use Rattle.cs_score.specs.declared.field.Field.{Field}
+use Rattle.cs_score.specs.{declared.field.Signed.Signed, declared.field.Field.Field, declared.note.Times.Times}
+use Rattle.cs_score.specs.{declared.row.Row.Row, declared.statement.ScoreWhat.ScoreWhat, Ranges.beats_end}
 use Rattle.cs_score.specs.declared.field.Field.TheVariants.{Number, After, Ahead}
-use Rattle.cs_score.specs.declared.note.Times.{Times}
-use Rattle.cs_score.specs.declared.row.Row.{Row}
-use Rattle.cs_score.specs.declared.statement.ScoreWhat.{ScoreWhat}
 use Rattle.cs_score.specs.declared.statement.ScoreWhat.TheVariants.{Note, Hold, Stop}
 use Rattle.cs_score.specs.Fields.{raw_of, is_negative_time, size_of}
 use Rattle.cs_score.specs.Carry.{and_then, number_of, p1, continues, field, fields}
-use Rattle.cs_score.specs.Ranges.{beats_end}
 
 -- a time that isn't below 0, in millionths
 abbrev pub as_time : Signed → Result ℕ ScoreKind

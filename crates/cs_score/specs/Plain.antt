@@ -1,8 +1,7 @@
 -- A text without its comments. It falls into pieces, each a comment or one byte with which none begins.
 use Rattle.std.specs.Prelude.{◌≡◌, ℕ, zero, suc, Bool, false, ◌<◌, ◌++◌, List, [], ◌∷◌, drop, length, map, max, take}
 use Rattle.std.specs.Prelude.{if◌then◌else◌}
-use Rattle.cs_base.specs.Comments.{comment_len}
-use Rattle.cs_base.specs.Lines.{space}
+use Rattle.cs_base.specs.{Comments.comment_len, Lines.space}
 
 -- a space for each byte
 abbrev pub spaces : List ℕ → List ℕ

@@ -2,11 +2,9 @@
 use Rattle.std.specs.Prelude.{ℕ, ◌≡◌, ◌+◌, ◌<◌, ◌≤◌, ◌≤ℤ◌, pos, List, [], ◌∷◌, length, Option, Some, None}
 use Rattle.cs_base.specs.Limits.{greatest_instrument, greatest_table}
 use Rattle.cs_gen.specs.Faults.{table_fault}
-use Rattle.cs_score.specs.declared.field.InstrumentNumber.{InstrumentNumber}
-use Rattle.cs_score.specs.declared.statement.TempoPoint.{TempoPoint}
-use Rattle.cs_score.specs.declared.statement.ScoreWhat.{ScoreWhat}
+use Rattle.cs_score.specs.{declared.field.InstrumentNumber.InstrumentNumber, declared.statement.TempoPoint.TempoPoint}
+use Rattle.cs_score.specs.{declared.statement.ScoreWhat.ScoreWhat, declared.statement.ScoreStmt.ScoreStmt}
 use Rattle.cs_score.specs.declared.statement.ScoreWhat.TheVariants.{Note, Hold, Stop, Table, Extend, Tempo, Section}
-use Rattle.cs_score.specs.declared.statement.ScoreStmt.{ScoreStmt}
 
 -- 10,000,000 beats, in millionths: every beat lies before
 abbrev pub beats_end : ℕ

@@ -1,14 +1,10 @@
 -- The lines of a text that have a statement: its letter, its line number and its fields.
 use Rattle.std.specs.Prelude.{ℕ, Bool, List, [], ◌∷◌, ◌++◌, ◌+◌, ◌==◌, not, map, take, drop, if◌then◌else◌}
-use Rattle.std.specs.Char.{is_ascii_alphabetic}
-use Rattle.std.specs.List.{prefix_len}
-use Rattle.std.specs.Str.{byte}
+use Rattle.std.specs.{Char.is_ascii_alphabetic, List.prefix_len, Str.byte}
 use Rattle.cs_base.specs.Lines.{Excerpt, Line, begins, is_blank, line_after, lines_of}
 use Rattle.cs_score.specs.declared.row.StatementLetter.{StatementLetter}
+use Rattle.cs_score.specs.{declared.row.Row.Row, Fields.field_of, Plain.plain_of}
 use Rattle.cs_score.specs.declared.row.StatementLetter.TheVariants as letter
-use Rattle.cs_score.specs.declared.row.Row.{Row}
-use Rattle.cs_score.specs.Fields.{field_of}
-use Rattle.cs_score.specs.Plain.{plain_of}
 
 abbrev pub with_first : ℕ → List (List ℕ) → List (List ℕ)
 with_first b [] = (b ∷ []) ∷ []

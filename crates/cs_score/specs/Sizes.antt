@@ -1,8 +1,7 @@
 -- Tables of one number have one size.
 use Rattle.std.specs.Prelude.{◌≡◌, List, [], ◌∷◌, All}
-use Rattle.cs_score.specs.declared.statement.ScoreWhat.{ScoreWhat}
+use Rattle.cs_score.specs.{declared.statement.ScoreWhat.ScoreWhat, declared.statement.ScoreStmt.ScoreStmt}
 use Rattle.cs_score.specs.declared.statement.ScoreWhat.TheVariants.{Table}
-use Rattle.cs_score.specs.declared.statement.ScoreStmt.{ScoreStmt}
 
 -- two statements, where both are tables of one number, give one size
 abbrev pub IsOneSize : ScoreWhat → ScoreWhat → Type 0

@@ -1,31 +1,21 @@
 -- The statements of a score, line after line, or its first fault.
 use Rattle.std.specs.Prelude.{ℕ, ℤ, pos, Bool, true, false, List, [], ◌∷◌, ◌++◌, ◌&&◌, ◌==◌, not, length, drop, nat_le}
 use Rattle.std.specs.Prelude.{nat_lt, slice_get, Option, Some, None, Result, Ok, Err, if◌then◌else◌}
-use Rattle.std.specs.Option.{option_or}
-use Rattle.std.specs.Ordering.{int_eq}
-use Rattle.cs_base.specs.Limits.{greatest_table}
-use Rattle.cs_base.specs.Lines.{Excerpt}
+use Rattle.std.specs.{Option.option_or, Ordering.int_eq}
+use Rattle.cs_base.specs.{Limits.greatest_table, Lines.Excerpt, declared.fault.ScoreKind.ScoreKind}
 use Rattle.cs_base.specs.declared.fault.ScoreFault.{ScoreFault}
-use Rattle.cs_base.specs.declared.fault.ScoreKind.{ScoreKind}
 use Rattle.cs_base.specs.declared.fault.ScoreKind.TheVariants.{BadStatement, BadNumber, MissingField, BadTempo, BadGen}
 use Rattle.cs_base.specs.declared.fault.ScoreKind.TheVariants.{BadTableSize, TableResized, NotInProfile}
-use Rattle.cs_gen.specs.declared.check.GenFault.{GenFault}
-use Rattle.cs_gen.specs.declared.check.GenFault.TheVariants as gen
-use Rattle.cs_gen.specs.Faults.{table_fault}
-use Rattle.cs_score.specs.declared.field.Signed.{Signed}
-use Rattle.cs_score.specs.declared.field.Field.{Field}
-use Rattle.cs_score.specs.declared.row.StatementLetter.{StatementLetter}
-use Rattle.cs_score.specs.declared.row.StatementLetter.TheVariants as letter
-use Rattle.cs_score.specs.declared.row.Row.{Row}
-use Rattle.cs_score.specs.declared.statement.TempoPoint.{TempoPoint}
-use Rattle.cs_score.specs.declared.statement.ScoreWhat.{ScoreWhat}
+use Rattle.cs_gen.specs.{declared.check.GenFault.GenFault, Faults.table_fault}
+use Rattle.cs_score.specs.{declared.field.Signed.Signed, declared.field.Field.Field}
+use Rattle.cs_score.specs.{declared.row.StatementLetter.StatementLetter, declared.row.Row.Row}
+use Rattle.cs_score.specs.{declared.statement.TempoPoint.TempoPoint, declared.statement.ScoreWhat.ScoreWhat}
+use Rattle.cs_score.specs.{declared.statement.ScoreStmt.ScoreStmt, Carry.and_then, Carry.number_of, Notes.as_time}
+use Rattle.cs_score.specs.{Notes.values_of, Notes.note, Notes.ok_or_zero, Ranges.beats_end, Rows.rows_of}
 use Rattle.cs_score.specs.declared.statement.ScoreWhat.TheVariants.{Table, Extend, Tempo, Section}
-use Rattle.cs_score.specs.declared.statement.ScoreStmt.{ScoreStmt}
 use Rattle.cs_score.specs.Fields.{whole_of, size_of, is_whole, is_below_zero, is_negative_time}
-use Rattle.cs_score.specs.Carry.{and_then, number_of}
-use Rattle.cs_score.specs.Notes.{as_time, values_of, note, ok_or_zero}
-use Rattle.cs_score.specs.Ranges.{beats_end}
-use Rattle.cs_score.specs.Rows.{rows_of}
+use Rattle.cs_gen.specs.declared.check.GenFault.TheVariants as gen
+use Rattle.cs_score.specs.declared.row.StatementLetter.TheVariants as letter
 
 -- a time of `f` or `b`, below the greatest beat
 abbrev pub in_beats : ℕ → Result ℕ ScoreKind

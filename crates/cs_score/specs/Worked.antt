@@ -1,10 +1,7 @@
 -- Statements and refusals of worked examples, in short.
 use Rattle.std.specs.Prelude.{ℕ, ℤ, pos, negsuc, ◌*◌, List, [], ◌∷◌, Result, Err}
-use Rattle.cs_base.specs.Lines.{whole_file}
-use Rattle.cs_base.specs.declared.fault.ScoreFault.{ScoreFault}
-use Rattle.cs_base.specs.declared.fault.ScoreKind.{ScoreKind}
-use Rattle.cs_score.specs.Statements.{score_of}
-use Rattle.cs_score.specs.declared.statement.ScoreStmt.{ScoreStmt}
+use Rattle.cs_base.specs.{Lines.whole_file, declared.fault.ScoreFault.ScoreFault, declared.fault.ScoreKind.ScoreKind}
+use Rattle.cs_score.specs.{Statements.score_of, declared.statement.ScoreStmt.ScoreStmt}
 use Rattle.cs_score.specs.declared.statement.ScoreWhat.{ScoreWhat}
 use Rattle.cs_score.specs.declared.statement.ScoreWhat.TheVariants.{Note, Hold, Stop, Table, Section}
 

@@ -1,17 +1,17 @@
 // What an `i` statement takes from the one before: the code keeps the row of that one, filled.
-ghost use Rattle.std.specs.Prelude.{◌≡◌, ◌<◌, ◌^◌, Some, Ok, IfOk, IfSome};
+ghost use Rattle.std.specs.Prelude.{◌≡◌, ◌<◌, ◌^◌, Some, Ok, IfOk};
 ghost use Rattle.std.proofs.Props.{props};
 ghost use Rattle.cs_score.specs.Carry.{is_same};
 ghost use Rattle.cs_score.specs.Notes.{note_of, valued_note};
 ghost use Rattle.cs_score.specs.Ranges.{HasRange, IsInstrument, beats_end};
 ghost use Rattle.cs_score.specs.inner.State.{Ends, IsKept, IsLast, NoteAnswers, completed, filled, filled_one};
 ghost use Rattle.cs_score.specs.inner.State.{instr_read, note_read, note_with, p1_before};
-ghost use Rattle.cs_score.specs.inner.Values.{AreValues};
+ghost use Rattle.cs_score.specs.inner.Values.{AreValues, IsTakenFrom};
 
-use crate::SharedNums;
+use crate::NoteValues;
 use crate::field::{Field, InstrumentNumber};
 use crate::last::{LastNote, NoteRead};
-use crate::note::{Times, check_count, field_at, gap, p1, p2, timed, values_or, what};
+use crate::note::{Times, check_count, field_at, gap, more_values, p1, p2, timed, what};
 use crate::statement_fault::StatementFault;
 use cs_base::Items;
 use std::alloc::{AllocError, Global};
@@ -90,8 +90,12 @@ fn valued(
     ensures range { IfOk result (λ read. HasRange read.what) }
     ensures kept { IfOk result (λ read. IsLast instr p2 carried.fields read.last) }
 {
-    let Carried { fields, taken } = carried;
-    let more = values_or(alloc, taken, fields.as_slice())?;
+    let Carried {
+        fields,
+        written,
+        before,
+    } = carried;
+    let more = more_values(alloc, fields.as_slice(), written, &before)?;
     check_count(instr, fields.len())?;
     let what = what(instr, times, more.share()?);
     Ok(NoteRead {
@@ -110,7 +114,7 @@ fn is_same(instr: InstrumentNumber, last: Option<InstrumentNumber>) -> bool
     }
 }
 
-fn kept(instr: InstrumentNumber, p2: u64, fields: Items<Field>, more: SharedNums) -> LastNote
+fn kept(instr: InstrumentNumber, p2: u64, fields: Items<Field>, more: NoteValues) -> LastNote
     requires instr { IsInstrument instr.number }
     requires p2 { p2 < beats_end }
     requires more { AreValues fields more }
@@ -130,32 +134,30 @@ fn kept(instr: InstrumentNumber, p2: u64, fields: Items<Field>, more: SharedNums
 #[derive(Drop)]
 pub struct Carried {
     pub fields: Items<Field>,
-    /// The values from p4 on, where all of them are those of the statement before.
-    pub taken: Option<SharedNums>,
-    ghost taken_are_values: { IfSome taken (AreValues fields) } by { Prim.hlevel props },
+    /// Behind so many fields all are those of the statement before, whose values from p4 on are `before`.
+    pub written: usize,
+    pub before: NoteValues,
+    ghost taken: { IsTakenFrom written fields before } by { Prim.hlevel props },
 }
 
-// Fields up to p3: where no more are written, all from p4 on are taken.
-const UP_TO_P3: usize = 3;
-
-// The fields of a statement: from p4 on they are taken whole, with their values, where none of them is written.
 fn carry(continuing: bool, written: Items<Field>, last: LastNote) -> Result<Carried, AllocError>
     ensures { IfOk result (λ c. c.fields ≡ completed continuing written last.fields) }
 {
+    let count = written.len();
     if !continuing {
         return Ok(Carried {
             fields: written,
-            taken: None,
+            written: count,
+            before: NoteValues::none(),
         });
     }
     let LastNote { fields, more, .. } = last;
-    let taken = if written.len() <= UP_TO_P3 {
-        Some(more)
-    } else {
-        None
-    };
     let fields = filled(written.as_slice(), fields)?;
-    Ok(Carried { fields, taken })
+    Ok(Carried {
+        fields,
+        written: count,
+        before: more,
+    })
 }
 
 fn filled(written: &[Field], before: Items<Field>) -> Result<Items<Field>, AllocError>

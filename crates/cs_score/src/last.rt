@@ -4,7 +4,7 @@ ghost use Rattle.cs_score.specs.Ranges.{IsInstrument, number_or_one, beats_end};
 ghost use Rattle.cs_score.specs.inner.Values.{AreValues};
 
 use crate::field::{Field, InstrumentNumber};
-use crate::{ScoreWhat, SharedNums};
+use crate::{NoteValues, ScoreWhat};
 use cs_base::Items;
 use std::alloc::Global;
 
@@ -19,7 +19,7 @@ pub struct LastNote {
     pub gap: u64,
     pub fields: Items<Field>,
     /// The values of the fields from p4 on.
-    pub more: SharedNums,
+    pub more: NoteValues,
     ghost instr_in_range: { IsInstrument (number_or_one instr) },
     ghost p2_in_range: { p2 < beats_end },
     ghost gap_in_range: { gap < 2 ^ 62 },
@@ -36,7 +36,7 @@ impl LastNote {
             p2: 0,
             gap: 0,
             fields: Items::new(alloc),
-            more: SharedNums::none(),
+            more: NoteValues::none(),
         }
     }
 }

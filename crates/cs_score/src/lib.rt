@@ -7,7 +7,7 @@
 //! code keeps the last row, filled, and its values, and never looks back. How it does so (`comment`, `line`, `last`,
 //! `past`, `kept`, and specs/inner/) may be changed without anyone above noticing.
 //!
-//! To be read in this order: `statement` and `shared` (what comes out), `read` (the one pass), `line` and `comment`
+//! To be read in this order: `statement` and `values` (what comes out), `read` (the one pass), `line` and `comment`
 //! (the text), `row` and `field` (what a line writes), `note`, `table` and `tempo` (what statements ask for), `carry`
 //! and `last` (what an `i` takes from the one before), `past` and `statements` (what is kept from statement to
 //! statement), `kept` (the statements up to a limit), `laws`, `worked` (scores read by the definitions).
@@ -24,18 +24,18 @@ mod note;
 mod past;
 mod read;
 mod row;
-mod shared;
 mod statement;
 mod statement_fault;
 mod statements;
 mod table;
 mod tempo;
+mod values;
 mod worked;
 
 pub use laws::{comments_are_spaces, tables_keep_one_size};
 pub use read::read_score;
-pub use shared::SharedNums;
 pub use statement::{ScoreStmt, ScoreStmts, ScoreWhat, TempoPoint, TempoPoints};
+pub use values::NoteValues;
 pub use worked::{
     fields_worked_by_hand, order_of_refusals_worked_by_hand, refusals_worked_by_hand,
     starts_worked_by_hand,

@@ -9,11 +9,11 @@ ghost use Rattle.cs_score.specs.Carry.{and_then, as_instrument, p1_by};
 ghost use Rattle.cs_score.specs.Notes.{as_time, moved, p2_by, gap_by, start_of, as_length, p3_by, times_of, values_of};
 ghost use Rattle.cs_score.specs.Notes.{fewest, counted, note_by};
 ghost use Rattle.cs_score.specs.inner.State.{Answers, Ends, p1_before};
-ghost use Rattle.cs_score.specs.inner.Values.{AreValues};
+ghost use Rattle.cs_score.specs.inner.Values.{AreValues, IsTakenFrom};
 
 use crate::field::{Field, InstrumentNumber, Signed};
 use crate::statement_fault::StatementFault;
-use crate::{ScoreWhat, SharedNums};
+use crate::{NoteValues, ScoreWhat};
 use cs_base::{Decimal, GREATEST_FIELD, GREATEST_INSTRUMENT, Items, Nums, ScoreKind};
 use std::alloc::Global;
 
@@ -184,23 +184,21 @@ pub fn values(alloc: Global, dot: ScoreKind, fields: &[Field]) -> Result<Nums, S
     Ok(values)
 }
 
-/// The values of the fields from p4 on, which may be `taken` from the statement before.
-pub fn values_or(
+/// The values of the fields from p4 on, where behind the first `written` fields all are those of the statement before.
+pub fn more_values(
     alloc: Global,
-    taken: Option<SharedNums>,
     fields: &[Field],
-) -> Result<SharedNums, StatementFault>
-    requires { IfSome taken (AreValues fields.now) }
+    written: usize,
+    before: &NoteValues,
+) -> Result<NoteValues, StatementFault>
+    requires { IsTakenFrom written fields.now before.now }
     ensures value { Answers result (values_of NothingToCarry (drop 3 fields.now)) }
     ensures values { IfOk result (AreValues fields.now) }
 {
-    match taken {
-        Some(more) => Ok(more),
-        None => {
-            let more = values(alloc, ScoreKind::NothingToCarry, rest(fields, 3))?;
-            Ok(SharedNums::of(more)?)
-        }
-    }
+    let more = rest(fields, 3);
+    let own = &more[..written.saturating_sub(3)];
+    let own = values(alloc, ScoreKind::NothingToCarry, own)?;
+    Ok(NoteValues::over(alloc, own, before)?)
 }
 
 /// Checks the count of fields, which is looked at last.
@@ -219,7 +217,7 @@ pub fn check_count(instr: InstrumentNumber, count: usize) -> Result<(), ScoreKin
 }
 
 /// A stop by its p1, a held note by its p3, or a note.
-pub fn what(instr: InstrumentNumber, times: Times, more: SharedNums) -> ScoreWhat
+pub fn what(instr: InstrumentNumber, times: Times, more: NoteValues) -> ScoreWhat
     requires instr { IsInstrument instr.number }
     requires at { times.at < beats_end }
     requires ends { Ends instr times.at times.p3 }

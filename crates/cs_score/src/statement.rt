@@ -1,6 +1,6 @@
 // What a score is read into: its statements.
-use crate::SharedNums;
-use cs_base::{Items, Num};
+use crate::NoteValues;
+use cs_base::{Items, Num, Nums};
 
 /// A point of a tempo statement: from this beat on the tempo.
 #[derive(Clone, Copy)]
@@ -25,14 +25,14 @@ pub enum ScoreWhat {
         instr: u32,
         at: u64,
         length: u64,
-        more: SharedNums,
+        more: NoteValues,
     },
     /// A note that is held until a stop ends it; `given` is its p3 as a number and no beat: it is below 0 in the text.
     Hold {
         instr: u32,
         at: u64,
         given: Num,
-        more: SharedNums,
+        more: NoteValues,
     },
     /// The end of a held note of instrument `instr`.
     Stop {
@@ -45,7 +45,7 @@ pub enum ScoreWhat {
         at: u64,
         size: i64,
         gen_: i64,
-        args: SharedNums,
+        args: Nums,
     },
     /// Silence at least up to beat `at`.
     Extend {

@@ -9,11 +9,11 @@ ghost use Rattle.cs_score.specs.Statements.{extend_of, table_by, written_table, 
 ghost use Rattle.cs_score.specs.Statements.{refusal_of, base_by};
 ghost use Rattle.cs_score.specs.inner.State.{Answers, HasWrittenRange};
 
+use crate::ScoreWhat;
 use crate::field::{Field, Signed};
 use crate::note::{BEATS_END, rest, time, values};
 use crate::statement_fault::StatementFault;
-use crate::{ScoreWhat, SharedNums};
-use cs_base::{GREATEST_TABLE, ScoreKind};
+use cs_base::{GREATEST_TABLE, Nums, ScoreKind};
 use cs_gen::{GenFault, check_table};
 use std::alloc::Global;
 use std::collections::HashMap;
@@ -133,7 +133,7 @@ fn table(alloc: Global, number: u32, fields: &[Field]) -> Result<ScoreWhat, Stat
         at,
         size,
         gen_,
-        args: SharedNums::of(args)?,
+        args,
     })
 }
 
@@ -156,7 +156,7 @@ pub fn refusal(sizes: &Sizes, what: &ScoreWhat) -> Option<ScoreKind>
     }
 }
 
-fn fault(size: i64, gen_: i64, args: &SharedNums) -> Option<GenFault>
+fn fault(size: i64, gen_: i64, args: &Nums) -> Option<GenFault>
     ensures { result ≡ table_fault size gen_ args.now }
 {
     match check_table(size, gen_, args.as_slice()) {

@@ -1,24 +1,18 @@
 -- What was read of a source, and what is left.
 use Rattle.std.proofs.Common.{◌≡◌, ◌≤◌, ◌<◌, ◌⊎◌, ◌+◌, ℕ, Bool, true, false, List, [], length, take, drop, Option, None}
 use Rattle.std.proofs.Common.{Some, refl, ap, sym, subst, ◌∙◌, inl, inr, ⊎_elim, if◌then◌else◌, arith}
-use Rattle.std.proofs.lemmas.Bool.Decides.{nat_tests}
-use Rattle.std.proofs.lemmas.List.{take_all, length-take}
+use Rattle.std.proofs.lemmas.{Bool.Decides.nat_tests, List.take_all, List.length-take}
 use Rattle.std.specs.Global.{Vec}
 use Rattle.cs_base.specs.Limits.{most_orchestra_bytes, most_score_bytes}
-use Rattle.cs_edge.specs.Files.{Lacks, ShelfTold, file_named}
-use Rattle.cs_edge.specs.Moves.{Grown, IsRun}
-use Rattle.cs_edge.specs.Told.{Follows, Rose}
-use Rattle.cs_edge.specs.declared.files.NamedBytes.{NamedBytes}
-use Rattle.cs_edge.specs.declared.moves.Move.TheVariants.{Read}
+use Rattle.cs_edge.specs.{Files.Lacks, Files.ShelfTold, Files.file_named, Moves.Grown, Moves.IsRun, Told.Follows}
+use Rattle.cs_edge.specs.{Told.Rose, declared.files.NamedBytes.NamedBytes, declared.moves.Move.TheVariants.Read}
 use Rattle.cs_arguments.specs.Reading.{AskedPiece, one_file, two_files, demo}
 use Rattle.cs_source.specs.Loaded.{CannotRead, IsLeftWhereTold, LeavesUnread, WasRead, is_there_too_long}
-use Rattle.cs_source.specs.Loaded.{is_told_too_long}
+use Rattle.cs_source.specs.{Loaded.is_told_too_long, declared.source.SourceText.SourceText, inner.Read.AreRead}
+use Rattle.cs_source.specs.{inner.Read.IsReadOf, inner.Reading.IsTextOf, inner.Reading.LeavesRest}
 use Rattle.cs_source.specs.Texts.{both, csd, demo_notes, HaveWhereTold, IsScoreBehind, LackWhereTold, is_too_long}
-use Rattle.cs_source.specs.declared.source.SourceText.{SourceText}
-use Rattle.cs_source.specs.declared.source.SourceText.TheVariants as read
-use Rattle.cs_source.specs.inner.Read.{AreRead, IsReadOf}
-use Rattle.cs_source.specs.inner.Reading.{IsTextOf, LeavesRest}
 use Rattle.cs_source.proofs.Moves.{both_read, last_begun}
+use Rattle.cs_source.specs.declared.source.SourceText.TheVariants as read
 
 -- THE WHOLE TEXT behind what was read: that of the file where files are told
 

@@ -1,29 +1,24 @@
 -- What texts mean is one thing, and what was read of them means the same.
 use Rattle.std.proofs.Common.{◌≡◌, ◌≤◌, ◌<◌, ◌+◌, Bool, true, false, ℕ, List, Result, Ok, Err, length, nat_lt, take}
 use Rattle.std.proofs.Common.{refl, ap, sym, subst, ◌∙◌, arith}
-use Rattle.std.proofs.lemmas.Bool.Decides.{nat_tests}
-use Rattle.std.proofs.lemmas.List.{take_all, length-take}
+use Rattle.std.proofs.lemmas.{Bool.Decides.nat_tests, List.take_all, List.length-take}
 use Rattle.cs_base.specs.Limits.{most_csd_bytes, most_of, most_orchestra_bytes, most_score_bytes}
-use Rattle.cs_base.specs.Lines.{Excerpt, whole_file}
-use Rattle.cs_base.specs.declared.limit.Limit.{Limit}
-use Rattle.cs_base.specs.declared.limit.Limit.TheVariants as limit
+use Rattle.cs_base.specs.{Lines.Excerpt, Lines.whole_file, declared.limit.Limit.Limit, declared.refusal.Refusal.Refusal}
 use Rattle.cs_base.specs.declared.width.SampleWidth.{SampleWidth}
 use Rattle.cs_compile.specs.Meaning.{means, no_longer_than, passed_if, short_texts_mean, unless_passed}
 use Rattle.cs_compile.specs.Then.{Is, Then}
-use Rattle.cs_base.specs.declared.refusal.Refusal.{Refusal}
 use Rattle.cs_piece_meaning.specs.Moments.{Composition}
-use Rattle.cs_csd.specs.Sections.{Reading}
+use Rattle.cs_csd.specs.{Sections.Reading, declared.part.Parts.Parts}
 use Rattle.cs_base.specs.declared.fault.CsdFault.{CsdFault}
-use Rattle.cs_csd.specs.declared.part.Parts.{Parts}
-use Rattle.cs_source.specs.DemoTexts as demo_texts
 use Rattle.cs_edge.specs.Files.{ShelfTold}
 use Rattle.cs_arguments.specs.Reading.{AskedPiece}
 use Rattle.cs_source.specs.Loaded.{IsLoaded, LeavesUnread, SourceMeans}
 use Rattle.cs_source.specs.Meaning.{FileMeans, FilesMean, Mean, PartsMean, excerpt_of}
-use Rattle.cs_source.specs.Texts.{Texts, both, csd, demo_notes}
-use Rattle.cs_source.specs.declared.source.SourceText.{SourceText}
-use Rattle.cs_source.specs.declared.source.SourceText.TheVariants as read
+use Rattle.cs_source.specs.{Texts.Texts, Texts.both, Texts.csd, Texts.demo_notes, declared.source.SourceText.SourceText}
 use Rattle.cs_source.specs.inner.Read.{AreRead, IsReadOf, MeansAsRead}
+use Rattle.cs_base.specs.declared.limit.Limit.TheVariants as limit
+use Rattle.cs_source.specs.DemoTexts as demo_texts
+use Rattle.cs_source.specs.declared.source.SourceText.TheVariants as read
 
 -- ONE MEANING
 

@@ -1,22 +1,17 @@
 -- The texts of a source have a meaning, and a composition that they mean has a head.
 use Rattle.std.proofs.Common.{◌≡◌, Bool, true, false, ℕ, List, Result, Ok, Err, length, nat_lt, refl}
-use Rattle.cs_base.specs.Faults.{passed}
-use Rattle.cs_base.specs.Limits.{most_csd_bytes}
-use Rattle.cs_base.specs.Lines.{Excerpt, whole_file}
-use Rattle.cs_base.specs.declared.head.Head.{Head}
-use Rattle.cs_base.specs.declared.limit.Limit.TheVariants as limit
-use Rattle.cs_base.specs.declared.refusal.Refusal.{Refusal}
-use Rattle.cs_base.specs.declared.refusal.Refusal.TheVariants as why
+use Rattle.cs_base.specs.{Faults.passed, Limits.most_csd_bytes, Lines.Excerpt, Lines.whole_file}
+use Rattle.cs_base.specs.{declared.head.Head.Head, declared.refusal.Refusal.Refusal, declared.fault.CsdFault.CsdFault}
 use Rattle.cs_base.specs.declared.width.SampleWidth.{SampleWidth}
 use Rattle.cs_compile.specs.Meaning.{means}
-use Rattle.cs_csd.specs.Sections.{Reading}
-use Rattle.cs_base.specs.declared.fault.CsdFault.{CsdFault}
-use Rattle.cs_csd.specs.declared.part.Parts.{Parts}
+use Rattle.cs_csd.specs.{Sections.Reading, declared.part.Parts.Parts}
 use Rattle.cs_piece_meaning.specs.Moments.{Composition}
 use Rattle.cs_typed.specs.TypedTree.{header_of_head}
-use Rattle.cs_source.specs.DemoTexts as demo_texts
 use Rattle.cs_source.specs.Meaning.{FileMeans, FilesMean, Mean, PartsMean, excerpt_of}
 use Rattle.cs_source.specs.Texts.{Texts, both, csd, demo_notes}
+use Rattle.cs_base.specs.declared.limit.Limit.TheVariants as limit
+use Rattle.cs_base.specs.declared.refusal.Refusal.TheVariants as why
+use Rattle.cs_source.specs.DemoTexts as demo_texts
 
 -- something is meant
 abbrev IsMeant : (Result Composition Refusal → Type 0) → Type 0

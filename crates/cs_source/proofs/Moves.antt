@@ -2,11 +2,8 @@
 use Rattle.std.proofs.Common.{◌≡◌, ◌≤◌, ℕ, Bool, true, false, List, [], ◌∷◌, ◌++◌, Option, None, Some, refl, sym, subst}
 use Rattle.std.proofs.Common.{append-nil, arith}
 use Rattle.cs_edge.proofs.Chains.{follows_as, follows_on, follows_same, front_all, grown_on}
-use Rattle.cs_edge.specs.Files.{ShelfTold}
+use Rattle.cs_edge.specs.{Files.ShelfTold, Told.Follows, declared.files.NamedBytes.NamedBytes, declared.moves.Move.Move}
 use Rattle.cs_edge.specs.Moves.{Grown, IsFrontOf, IsRun}
-use Rattle.cs_edge.specs.Told.{Follows}
-use Rattle.cs_edge.specs.declared.files.NamedBytes.{NamedBytes}
-use Rattle.cs_edge.specs.declared.moves.Move.{Move}
 use Rattle.cs_edge.specs.declared.moves.Move.TheVariants.{Begin, Read}
 use Rattle.cs_arguments.specs.Reading.{one_file, two_files, demo}
 use Rattle.cs_source.specs.Loaded.{AreReadings, IsLastBegun, IsScoreRun, WasRead, is_told_too_long}

@@ -3,8 +3,7 @@ use Rattle.std.proofs.Common.{◌≡◌, ◌≤◌, ◌⊎◌, inl, inr, Bool, t
 use Rattle.std.proofs.Common.{ap, sym, subst, ◌∙◌, arith}
 use Rattle.std.proofs.lemmas.Bool.Decides.{nat_tests}
 use Rattle.cs_base.specs.Limits.{most_orchestra_bytes}
-use Rattle.cs_edge.specs.Files.{file_named}
-use Rattle.cs_edge.specs.declared.files.NamedBytes.{NamedBytes}
+use Rattle.cs_edge.specs.{Files.file_named, declared.files.NamedBytes.NamedBytes}
 use Rattle.cs_arguments.specs.Reading.{AskedPiece, two_files, one_file, demo}
 use Rattle.cs_source.specs.Texts.{Texts, both, csd, demo_notes, Have, IsScoreBehind, Lack, is_too_long}
 

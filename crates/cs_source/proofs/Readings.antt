@@ -3,11 +3,8 @@ use Rattle.std.proofs.Common.{true, false, refl, ap, sym, subst, ◌∙◌, appe
 use Rattle.std.proofs.lemmas.Bool.Decides.{nat_tests}
 use Rattle.std.proofs.lemmas.List.{take_all, drop_all, take-append-drop, length-take}
 use Rattle.std.proofs.Math.Seq.{take-append_seam, drop-append_seam}
-use Rattle.cs_edge.specs.declared.files.NamedBytes.{NamedBytes}
-use Rattle.cs_edge.specs.declared.moves.Move.TheVariants.{Read}
-use Rattle.cs_edge.specs.Told.{Follows}
-use Rattle.cs_edge.specs.Moves.{Grown, GrownBy, AreAll}
-use Rattle.cs_edge.specs.Files.{ShelfTold, TakesFront, Begins}
+use Rattle.cs_edge.specs.{declared.files.NamedBytes.NamedBytes, declared.moves.Move.TheVariants.Read, Told.Follows}
+use Rattle.cs_edge.specs.{Moves.Grown, Moves.GrownBy, Moves.AreAll, Files.ShelfTold, Files.TakesFront, Files.Begins}
 use Rattle.cs_edge.proofs.Chains.{follows_same, all_none, all_on}
 use Rattle.cs_source.specs.inner.Reading.{ReadSoFar, ReadMore, ReadOnce, IsFrontOf, IsTextOf, LeavesRest}
 

@@ -1,18 +1,13 @@
 -- A file with both texts that is refused in its orchestra.
 use Rattle.std.proofs.Common.{[], Result, Ok, Err, refl}
-use Rattle.cs_base.specs.Lines.{excerpt}
-use Rattle.cs_base.specs.declared.fault.OrcFault.{OrcFault}
-use Rattle.cs_base.specs.declared.fault.OrcKind.TheVariants as orc
-use Rattle.cs_base.specs.declared.refusal.Refusal.TheVariants as why
+use Rattle.cs_base.specs.{Lines.excerpt, declared.fault.OrcFault.OrcFault, declared.fault.CsdFault.CsdFault}
 use Rattle.cs_base.specs.declared.width.SampleWidth.{SampleWidth}
 use Rattle.cs_compile.proofs.SmallTexts.{first_line_refused}
 use Rattle.cs_csd.proofs.Readings.{scan_reads}
-use Rattle.cs_csd.specs.Sections.{no_text}
-use Rattle.cs_base.specs.declared.fault.CsdFault.{CsdFault}
-use Rattle.cs_csd.specs.declared.part.Parts.{Parts}
-use Rattle.cs_source.specs.Meaning.{Mean}
-use Rattle.cs_source.specs.Texts.{csd}
-use Rattle.cs_source.specs.Worked.{fault_in_line_4}
+use Rattle.cs_csd.specs.{Sections.no_text, declared.part.Parts.Parts}
+use Rattle.cs_source.specs.{Meaning.Mean, Texts.csd, Worked.fault_in_line_4}
+use Rattle.cs_base.specs.declared.fault.OrcKind.TheVariants as orc
+use Rattle.cs_base.specs.declared.refusal.Refusal.TheVariants as why
 
 abbrev fault : OrcFault
 fault = record { line = 4; kind = orc.BadToken }

@@ -1,16 +1,10 @@
 -- The sound file of two small texts.
 use Rattle.std.proofs.Common.{◌≡◌, ◌∷◌, ℕ, ℤ, List, [], Ok, refl, sym, subst, arith}
-use Rattle.cs_base.specs.Lines.{whole_file}
-use Rattle.cs_base.specs.declared.head.Head.{Head}
-use Rattle.cs_base.specs.declared.width.SampleWidth.{SampleWidth}
+use Rattle.cs_base.specs.{Lines.whole_file, declared.head.Head.Head, declared.width.SampleWidth.SampleWidth}
 use Rattle.cs_base.specs.declared.width.SampleWidth.TheVariants.{TwoBytes, ThreeBytes}
-use Rattle.cs_compile.specs.Meaning.{means}
-use Rattle.cs_compile.specs.Worked.{fourth_field, note_of_100, whole}
-use Rattle.cs_piece_meaning.specs.Heard.{frames_of}
-use Rattle.cs_piece_meaning.specs.Moments.{Composition}
-use Rattle.cs_source.specs.Sounds.{IsSoundOf}
-use Rattle.cs_source.specs.Texts.{both}
-use Rattle.cs_source.specs.Worked.{narrow_file, wide_file}
+use Rattle.cs_compile.specs.{Meaning.means, Worked.fourth_field, Worked.note_of_100, Worked.whole}
+use Rattle.cs_piece_meaning.specs.{Heard.frames_of, Moments.Composition}
+use Rattle.cs_source.specs.{Sounds.IsSoundOf, Texts.both, Worked.narrow_file, Worked.wide_file}
 use Rattle.cs_typed.specs.Places.{Header}
 use Rattle.cs_wav.specs.Wav.{header_bytes, samples_of, wav_of}
 

@@ -2,20 +2,15 @@
 use Rattle.std.specs.Prelude.{ℕ, ◌≡◌, ◌≤◌, ◌+◌, ◌*◌, ◌⊎◌, Bool, true, false, List, [], ◌++◌, drop, if◌then◌else◌}
 use Rattle.std.specs.Prelude.{Option, Some, None, Result, ⊤}
 use Rattle.cs_base.specs.Limits.{most_csd_bytes, most_orchestra_bytes, most_score_bytes, most_wav_bytes}
-use Rattle.cs_base.specs.declared.width.SampleWidth.{SampleWidth}
+use Rattle.cs_base.specs.{declared.width.SampleWidth.SampleWidth, declared.refusal.Refusal.Refusal}
 use Rattle.cs_piece.specs.Setups.{SetupData}
 use Rattle.cs_piece_meaning.specs.Moments.{Composition}
-use Rattle.cs_edge.specs.Files.{ShelfTold, file_named}
-use Rattle.cs_edge.specs.Moves.{Grown, IsFrontOf, IsRun}
-use Rattle.cs_edge.specs.Told.{Follows, Rose}
-use Rattle.cs_edge.specs.declared.files.NamedBytes.{NamedBytes}
-use Rattle.cs_edge.specs.declared.moves.Move.{Move}
-use Rattle.cs_edge.specs.declared.moves.Move.TheVariants.{Read}
+use Rattle.cs_edge.specs.{Files.ShelfTold, Files.file_named, Moves.Grown, Moves.IsFrontOf, Moves.IsRun, Told.Follows}
+use Rattle.cs_edge.specs.{Told.Rose, declared.files.NamedBytes.NamedBytes, declared.moves.Move.Move}
+use Rattle.cs_edge.specs.{declared.moves.Move.TheVariants.Read}
 use Rattle.cs_arguments.specs.Reading.{AskedPiece, two_files, one_file, demo}
-use Rattle.cs_source.specs.Meaning.{Mean}
+use Rattle.cs_source.specs.{Meaning.Mean, Texts.is_too_long}
 use Rattle.cs_source.specs.Texts.{Texts, both, csd, demo_notes, Fit, Have, HaveWhereTold, IsNameOf, LackWhereTold}
-use Rattle.cs_source.specs.Texts.{is_too_long}
-use Rattle.cs_base.specs.declared.refusal.Refusal.{Refusal}
 use Rattle.cs_wav.specs.Wav.{size_of}
 
 -- Texts of a source mean this, and where the shelf tells its files it has them.

@@ -1,20 +1,15 @@
 -- What texts mean, whichever way they come: what is performed, or the first refusal.
 use Rattle.std.specs.Prelude.{ℕ, ◌≡◌, ◌-◌, Bool, true, false, List, drop, length, nat_lt, take, Result, Ok, Err}
-use Rattle.cs_base.specs.Faults.{passed}
-use Rattle.cs_base.specs.Limits.{most_csd_bytes}
-use Rattle.cs_base.specs.declared.limit.Limit.TheVariants as limit
+use Rattle.cs_base.specs.{Faults.passed, Limits.most_csd_bytes, declared.width.SampleWidth.SampleWidth}
+use Rattle.cs_base.specs.{declared.refusal.Refusal.Refusal, declared.fault.CsdFault.CsdFault}
 use Rattle.cs_base.specs.Lines.{Excerpt, excerpt, whole_file}
-use Rattle.cs_base.specs.declared.width.SampleWidth.{SampleWidth}
 use Rattle.cs_compile.specs.Meaning.{means}
-use Rattle.cs_base.specs.declared.refusal.Refusal.{Refusal}
-use Rattle.cs_base.specs.declared.refusal.Refusal.TheVariants as why
 use Rattle.cs_piece_meaning.specs.Moments.{Composition}
-use Rattle.cs_csd.specs.Sections.{Reading}
-use Rattle.cs_base.specs.declared.fault.CsdFault.{CsdFault}
-use Rattle.cs_csd.specs.declared.part.Part.{Part}
-use Rattle.cs_csd.specs.declared.part.Parts.{Parts}
-use Rattle.cs_source.specs.DemoTexts as demo
+use Rattle.cs_csd.specs.{Sections.Reading, declared.part.Part.Part, declared.part.Parts.Parts}
 use Rattle.cs_source.specs.Texts.{Texts, both, csd, demo_notes}
+use Rattle.cs_base.specs.declared.limit.Limit.TheVariants as limit
+use Rattle.cs_base.specs.declared.refusal.Refusal.TheVariants as why
+use Rattle.cs_source.specs.DemoTexts as demo
 
 -- the text of a part
 abbrev pub part_of : List ℕ → Part → List ℕ

@@ -1,11 +1,8 @@
 -- The sound of texts: the bytes of the file that they mean, whoever performs it.
 use Rattle.std.specs.Prelude.{ℕ, ◌≡◌, List, Ok}
-use Rattle.cs_base.specs.declared.head.Head.{Head}
-use Rattle.cs_base.specs.declared.width.SampleWidth.{SampleWidth}
-use Rattle.cs_piece_meaning.specs.Heard.{frames_of}
-use Rattle.cs_piece_meaning.specs.Moments.{Composition}
-use Rattle.cs_source.specs.Meaning.{Mean}
-use Rattle.cs_source.specs.Texts.{Texts}
+use Rattle.cs_base.specs.{declared.head.Head.Head, declared.width.SampleWidth.SampleWidth}
+use Rattle.cs_piece_meaning.specs.{Heard.frames_of, Moments.Composition}
+use Rattle.cs_source.specs.{Meaning.Mean, Texts.Texts}
 use Rattle.cs_typed.specs.TypedTree.{header_of_head}
 use Rattle.cs_wav.specs.Wav.{wav_of}
 

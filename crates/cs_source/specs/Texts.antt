@@ -1,8 +1,7 @@
 -- The texts of a piece, by where they come from.
 use Rattle.std.specs.Prelude.{ℕ, ◌≡◌, ◌≤◌, ◌⊎◌, Bool, true, false, List, [], length, nat_lt, Option, Some, None, ⊤}
 use Rattle.cs_base.specs.Limits.{most_orchestra_bytes}
-use Rattle.cs_edge.specs.Files.{file_named}
-use Rattle.cs_edge.specs.declared.files.NamedBytes.{NamedBytes}
+use Rattle.cs_edge.specs.{Files.file_named, declared.files.NamedBytes.NamedBytes}
 use Rattle.cs_arguments.specs.Reading.{AskedPiece, two_files, one_file, demo}
 
 -- an orchestra and a score; one file with both; or the demo with some number of notes

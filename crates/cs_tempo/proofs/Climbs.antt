@@ -1,37 +1,23 @@
 -- The events of a score: their cycles never fall, and each note ends within the score.
 use Rattle.std.proofs.Common.{◌≡◌, ℕ, zero, suc, ◌+◌, ◌<◌, ◌≤◌, true, false, ◌==◌, List, [], ◌∷◌, ◌++◌, map, sum}
 use Rattle.std.proofs.Common.{length, get_or, Option, Some, None, arith, refl, ap, sym, subst, ⊎_elim, ◌⊎◌, inl, inr}
-use Rattle.std.specs.List.{All, AllByRecursion as Each}
-use Rattle.std.specs.Option.{IfSome}
-use Rattle.std.specs.Ordering.{is_lt, nat_cmp, ordering_then}
-use Rattle.std.specs.declared.cmp.Ordering.{Ordering}
+use Rattle.std.specs.{List.All, List.AllByRecursion as Each, Option.IfSome, Ordering.is_lt, Ordering.nat_cmp}
+use Rattle.std.specs.{Ordering.ordering_then, declared.cmp.Ordering.Ordering, List.Sorted.IsNonDecreasingBy}
 use Rattle.std.specs.declared.cmp.Ordering.TheVariants.{Less, Greater}
-use Rattle.std.specs.List.Sorted.{IsNonDecreasingBy}
-use Rattle.std.proofs.lemmas.Bool.{cases_Bool, cases_order}
-use Rattle.std.proofs.lemmas.Bool.Decides.{nat_tests}
-use Rattle.std.proofs.lemmas.List.Sums.{sum_by-cons}
+use Rattle.std.proofs.lemmas.{Bool.cases_Bool, Bool.cases_order, Bool.Decides.nat_tests, List.Sums.sum_by-cons}
+use Rattle.std.proofs.lemmas.List.Elements.{All-from_recursion, recursion_from_All}
 use Rattle.cs_base.specs.declared.head.Head.{Head}
-use Rattle.cs_score.specs.Ranges.{IsInRange, HasRange}
-use Rattle.cs_score.specs.declared.statement.TempoPoint.{TempoPoint}
-use Rattle.cs_score.specs.declared.statement.ScoreWhat.{ScoreWhat}
-use Rattle.cs_score.specs.declared.statement.ScoreWhat.TheVariants.{Note, Hold, Stop, Table, Extend, Tempo, Section}
-use Rattle.cs_score.specs.declared.statement.ScoreStmt.{ScoreStmt}
-use Rattle.cs_tempo.specs.declared.plot.Event.{Event}
-use Rattle.cs_tempo.specs.declared.plot.EventAct.{EventAct}
-use Rattle.cs_tempo.specs.Time.{IsTempo}
-use Rattle.cs_tempo.specs.inner.Clock.{Pace}
-use Rattle.cs_tempo.specs.Sections.{sections_of, own_points, or_else, tempo_of, cycle_at}
-use Rattle.cs_tempo.specs.Sections.{reach_of, greatest, length_of}
+use Rattle.cs_score.specs.{Ranges.IsInRange, Ranges.HasRange, declared.statement.TempoPoint.TempoPoint}
+use Rattle.cs_score.specs.{declared.statement.ScoreWhat.ScoreWhat, declared.statement.ScoreStmt.ScoreStmt}
+use Rattle.cs_score.specs.declared.statement.ScoreWhat.TheVariants.{Note, Hold, Table, Tempo}
+use Rattle.cs_tempo.specs.{declared.plot.Event.Event, declared.plot.EventAct.EventAct, Time.IsTempo, inner.Clock.Pace}
+use Rattle.cs_tempo.specs.{Pairing.stop_of, Limits.cycles_in, inner.Events.HasEnd, inner.Events.IsTurnIn}
+use Rattle.cs_tempo.specs.Sections.{sections_of, own_points, or_else, tempo_of, cycle_at, reach_of, greatest, length_of}
 use Rattle.cs_tempo.specs.Order.{has_turn, beat_of, order_of, put, in_order}
-use Rattle.cs_tempo.specs.Pairing.{stop_of}
 use Rattle.cs_tempo.specs.Plot.{SectionSetting, acts_of, events_along, setting_of, events_from}
-use Rattle.cs_tempo.specs.Limits.{cycles_in}
-use Rattle.cs_tempo.specs.inner.Events.{HasEnd, IsTurnIn}
-use Rattle.cs_tempo.proofs.Elements.{each_append, each_from_index, each_more, sections_each}
-use Rattle.cs_tempo.proofs.Orders.{each_at}
+use Rattle.cs_tempo.proofs.{Elements.each_append, Elements.each_more, Elements.sections_each, Times.time_grows}
+use Rattle.cs_tempo.proofs.{Times.cycles_grow, Walks.start_within, Walks.stop_within, Walks.order_each}
 use Rattle.cs_base.proofs.Tests.{is_below, isnt_below}
-use Rattle.cs_tempo.proofs.Times.{time_grows, cycles_grow}
-use Rattle.cs_tempo.proofs.Walks.{start_within, stop_within, order_each}
 
 -- a beat's cycle never falls as the beat grows
 pub cycle_grows : (head : Head) (tempo : List TempoPoint) (a b : ℕ) → IsTempo tempo → a ≤ b
@@ -118,10 +104,7 @@ unfolding acts_of
 one_act set stop (Note instr at len more) = inr (_, refl)
 one_act set stop (Hold instr at given more) = inr (_, refl)
 one_act set stop (Table number at size gen args) = inr (_, refl)
-one_act set stop (Stop instr at) = inl refl
-one_act set stop (Extend at) = inl refl
-one_act set stop (Tempo points) = inl refl
-one_act set stop Section = inl refl
+one_act set stop _ = inl refl
 
 along_climbs : (set : SectionSetting) (low m : ℕ) (earlier ss : List ScoreStmt) → IsTempo set.tempo → BeatsRise low ss →
     m ≤ set.offset + cycle_at set.head set.tempo low → Climb m (events_along set earlier ss)
@@ -153,10 +136,7 @@ act_within set None (Hold instr at given more) a r h t s e = let n = ap first_cy
 act_within set (Some b) (Hold instr at given more) a r h t s e = let n =
     ap first_cycles e in omega (arith, n, h, s.cycle)
 act_within set stop (Table number at size gen args) a r h t s e = let n = ap first_cycles e in omega (arith, n, h)
-act_within set stop (Stop instr at) a r h t s e = absurd (cc)
-act_within set stop (Extend at) a r h t s e = absurd (cc)
-act_within set stop (Tempo points) a r h t s e = absurd (cc)
-act_within set stop Section a r h t s e = absurd (cc)
+act_within set stop _ a r h t s e = absurd (cc)
 
 along_within : (set : SectionSetting) (earlier ss : List ScoreStmt)
     → Each (IsTurnIn (record { head = set.head; tempo = set.tempo }) set.cycles) ss →
@@ -178,14 +158,8 @@ along_within set earlier (s ∷ ss) t =
 either_tempo : (tempo : List TempoPoint) (w : ScoreWhat) → IsTempo tempo → HasRange w
     → IsTempo (or_else tempo (own_points w))
 either_tempo (p ∷ later) w t r = t
-either_tempo [] (Tempo []) t r = tt
 either_tempo [] (Tempo (p ∷ points)) t r = r
-either_tempo [] (Note instr at len more) t r = tt
-either_tempo [] (Hold instr at given more) t r = tt
-either_tempo [] (Stop instr at) t r = tt
-either_tempo [] (Table number at size gen args) t r = tt
-either_tempo [] (Extend at) t r = tt
-either_tempo [] Section t r = tt
+either_tempo [] _ t r = tt
 
 pub tempo_in_range : (section : List ScoreStmt) → All IsInRange section → IsTempo (tempo_of section)
 unfolding tempo_of
@@ -202,14 +176,14 @@ pub reach_all : (head : Head) (section : List ScoreStmt)
     → All (λ s. reach_of head (tempo_of section) s.what ≤ length_of head section) section
 unfolding length_of
 reach_all head section =
-    each_at (λ s. reach_of head (tempo_of section) s.what
+    All-from_recursion (λ s. reach_of head (tempo_of section) s.what
     ≤ greatest (map (λ u. reach_of head (tempo_of section) u.what) section)) section
     (reach_each (λ u. reach_of head (tempo_of section) u.what) section)
 
 pub sections_in_range : (score : List ScoreStmt) → All IsInRange score → Each (All IsInRange) (sections_of score)
 sections_in_range score r =
-    each_more (Each IsInRange) (All IsInRange) (sections_of score) (λ section e. each_at IsInRange section e)
-    (sections_each IsInRange score (each_from_index IsInRange score r))
+    each_more (Each IsInRange) (All IsInRange) (sections_of score) (λ section e. All-from_recursion IsInRange section e)
+    (sections_each IsInRange score (recursion_from_All IsInRange score r))
 
 -- the events of sections
 pub from_within : (head : Head) (offset : ℕ) (sections : List (List ScoreStmt)) → Each (All IsInRange) sections →

@@ -3,8 +3,7 @@ use Rattle.std.proofs.Common.{◌≡◌, ℕ, zero, suc, ◌+◌, ◌-◌, ◌*�
 use Rattle.std.proofs.Common.{get_or, arith, refl, sym, ◌∙◌}
 use Rattle.std.proofs.lemmas.List.{drop-drop, take_rest, get_or_read, length-drop}
 use Rattle.std.proofs.lemmas.Nat.{mul-le, div_below}
-use Rattle.cs_score.specs.Ranges.{AreRising, beats_end}
-use Rattle.cs_score.specs.declared.statement.TempoPoint.{TempoPoint}
+use Rattle.cs_score.specs.{Ranges.AreRising, Ranges.beats_end, declared.statement.TempoPoint.TempoPoint}
 use Rattle.cs_tempo.specs.Time.{part_of, time_along, time_of, Rises, cycle_of}
 use Rattle.cs_tempo.specs.inner.Clock.{point_at, IsTimed}
 use Rattle.cs_tempo.proofs.Times.{along_is, along_small, rises_on, tempo_rises}

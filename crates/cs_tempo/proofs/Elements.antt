@@ -1,7 +1,6 @@
 -- What holds of each element of a list, and of each statement of a score in its sections and in their order.
-use Rattle.std.proofs.Common.{ℕ, zero, suc, ◌<◌, List, [], ◌∷◌, ◌++◌, drop, length, get_or, arith, ⊎_elim}
-use Rattle.std.specs.List.{AllByRecursion as Each}
-use Rattle.std.specs.Ordering.{is_lt}
+use Rattle.std.proofs.Common.{ℕ, zero, suc, List, [], ◌∷◌, ◌++◌, drop, ⊎_elim}
+use Rattle.std.specs.{List.AllByRecursion as Each, Ordering.is_lt}
 use Rattle.std.proofs.lemmas.Bool.{cases_Bool}
 use Rattle.cs_score.specs.declared.statement.ScoreStmt.{ScoreStmt}
 use Rattle.cs_tempo.specs.Order.{has_turn, in_order, order_of, put}
@@ -10,11 +9,6 @@ use Rattle.cs_tempo.specs.Sections.{at_front, ends_section, sections_of}
 pub each_more : {X : Type 0} (P Q : X → Type 0) (xs : List X) → ((x : X) → P x → Q x) → Each P xs → Each Q xs
 each_more P Q [] h e = tt
 each_more P Q (x ∷ xs) h e = (h x e.0, each_more P Q xs h e.1)
-
-pub each_from_index : {X : Type 0} (P : X → Type 0) (xs : List X)
-    → ((j : ℕ) (d : X) → j < length xs → P (get_or xs j d)) → Each P xs
-each_from_index P [] h = tt
-each_from_index P (x ∷ xs) h = (h 0 x (omega arith), each_from_index P xs (λ j d l. h (suc j) d (omega arith)))
 
 pub each_append : {X : Type 0} (P : X → Type 0) (xs ys : List X) → Each P xs → Each P ys → Each P (xs ++ ys)
 each_append P [] ys e f = f

@@ -1,12 +1,9 @@
 -- The stop that ends a held note: by the notes that sound, and by counting.
 use Rattle.std.proofs.Common.{◌≡◌, ℕ, zero, suc, ◌<◌, Bool, true, false, cond, ◌==◌, ◌&&◌, List, [], ◌∷◌, ◌++◌, length}
 use Rattle.std.proofs.Common.{drop, Option, Some, None, slice_get, ℤ, arith, refl, ap, ◌∙◌, ⊎_elim, append_assoc}
-use Rattle.std.proofs.lemmas.Bool.{cases_Bool}
-use Rattle.std.proofs.lemmas.Bool.Decides.{nat_tests}
-use Rattle.std.proofs.lemmas.List.{length_push}
-use Rattle.cs_score.specs.declared.statement.ScoreWhat.{ScoreWhat}
-use Rattle.cs_score.specs.declared.statement.ScoreWhat.TheVariants.{Note, Hold, Stop, Table, Extend, Tempo, Section}
-use Rattle.cs_score.specs.declared.statement.ScoreStmt.{ScoreStmt}
+use Rattle.std.proofs.lemmas.{Bool.cases_Bool, Bool.Decides.nat_tests, List.length_push}
+use Rattle.cs_score.specs.{declared.statement.ScoreWhat.ScoreWhat, declared.statement.ScoreStmt.ScoreStmt}
+use Rattle.cs_score.specs.declared.statement.ScoreWhat.TheVariants.{Hold, Stop}
 use Rattle.cs_tempo.specs.inner.Counted.{sounding_after, sounding, own_stop, stops_of, stop_after}
 use Rattle.cs_tempo.specs.Pairing.{held_after, held, ends_here, or_later, ending_stop}
 use Rattle.std.specs.List.{AllByRecursion as Each}
@@ -18,11 +15,7 @@ one_more n index (Hold instr at given more) h =
     ⊎_elim (λ t. rw t (length_push h index)) (λ f. rw f refl) (cases_Bool (n == instr))
 one_more n index (Stop instr at) [] = ⊎_elim (λ t. rw t refl) (λ f. rw f refl) (cases_Bool (n == instr))
 one_more n index (Stop instr at) (p ∷ h) = ⊎_elim (λ t. rw t (omega arith)) (λ f. rw f refl) (cases_Bool (n == instr))
-one_more n index (Note instr at len more) h = refl
-one_more n index (Table number at size gen args) h = refl
-one_more n index (Extend at) h = refl
-one_more n index (Tempo points) h = refl
-one_more n index Section h = refl
+one_more n index _ h = refl
 
 -- as many places as notes
 held_counted : (n : ℕ) (earlier : List ScoreStmt) → length (held n earlier) ≡ sounding n earlier
@@ -46,11 +39,7 @@ lower_after n k (Hold instr at given more) h e =
 lower_after n k (Stop instr at) h e =
     let up = each_more (λ p. p < k) (λ p. p < suc k) h (λ p l. omega arith) e in
     ⊎_elim (λ t. rw t (drop_one (λ p. p < suc k) h up)) (λ f. rw f up) (cases_Bool (n == instr))
-lower_after n k (Note instr at len more) h e = each_more (λ p. p < k) (λ p. p < suc k) h (λ p l. omega arith) e
-lower_after n k (Table number at size gen args) h e = each_more (λ p. p < k) (λ p. p < suc k) h (λ p l. omega arith) e
-lower_after n k (Extend at) h e = each_more (λ p. p < k) (λ p. p < suc k) h (λ p l. omega arith) e
-lower_after n k (Tempo points) h e = each_more (λ p. p < k) (λ p. p < suc k) h (λ p l. omega arith) e
-lower_after n k Section h e = each_more (λ p. p < k) (λ p. p < suc k) h (λ p l. omega arith) e
+lower_after n k _ h e = each_more (λ p. p < k) (λ p. p < suc k) h (λ p l. omega arith) e
 
 -- every index is that of an earlier turn
 held_lower : (n : ℕ) (earlier : List ScoreStmt) → Each (λ p. p < length earlier) (held n earlier)
@@ -108,11 +97,7 @@ module _ (n index : ℕ) where
       (λ f. another (n == instr) (index == a) at (suc (length ahead)) rest later f
       (go (a ∷ ahead) behind (rw f refl) low))
       (cases_Bool (n == instr))
-  step k (Note instr at len more) ahead behind rest later low go = go ahead behind refl low
-  step k (Table number at size gen args) ahead behind rest later low go = go ahead behind refl low
-  step k (Extend at) ahead behind rest later low go = go ahead behind refl low
-  step k (Tempo points) ahead behind rest later low go = go ahead behind refl low
-  step k Section ahead behind rest later low go = go ahead behind refl low
+  step k _ ahead behind rest later low go = go ahead behind refl low
 
   counted : (ahead behind : List ℕ) (earlier later : List ScoreStmt) → held n earlier ≡ ahead ++ index ∷ behind
       → Each (λ p. p < index) ahead →

@@ -2,8 +2,7 @@
 use Rattle.std.proofs.Common.{◌≡◌, ℕ, ◌+◌, ◌<◌, ◌≤◌, Bool, true, false, cond, Some, None, List, ◌∷◌, [], ◌++◌, length}
 use Rattle.std.proofs.Common.{get_or, drop, take, refl, ap, sym, ◌∙◌}
 use Rattle.std.specs.List.{count_by}
-use Rattle.std.proofs.lemmas.List.{take_more, drop_more, drop_all}
-use Rattle.std.proofs.lemmas.List.Sums.{sum_by_more}
+use Rattle.std.proofs.lemmas.{List.take_more, List.drop_more, List.drop_all, List.Sums.sum_by_more}
 use Rattle.cs_score.specs.Limits.{first_at}
 
 module _ {A : Type 0} (passes : List A → A → Bool) (xs : List A) (k : ℕ) (x : A) (some : k < length xs)

@@ -3,12 +3,9 @@ use Rattle.std.proofs.Common.{◌≡◌, ℕ, ℤ, zero, suc, ◌+◌, ◌-◌, 
 use Rattle.std.proofs.Common.{unsigned_abs, arith, refl, ap, sym, ◌∙◌, ⊎_elim}
 use Rattle.std.specs.Int.{int_div_euclid}
 use Rattle.std.proofs.Math.Nat.{div-le_self, mul-zero}
-use Rattle.std.proofs.lemmas.Nat.{mul-le}
-use Rattle.std.proofs.lemmas.Int.{ints}
-use Rattle.std.proofs.lemmas.Bool.{cases_lt}
+use Rattle.std.proofs.lemmas.{Nat.mul-le, Int.ints, Bool.cases_lt}
 use Rattle.cs_base.specs.Numbers.{floor_div}
-use Rattle.cs_tempo.specs.Time.{ramp_time}
-use Rattle.cs_tempo.specs.inner.Ramps.{ramp_in_parts, rounded_up}
+use Rattle.cs_tempo.specs.{Time.ramp_time, inner.Ramps.ramp_in_parts, inner.Ramps.rounded_up}
 use Rattle.cs_tempo.proofs.Ramps.{ramp_up, ramp_down, ramp_grows, ramp_small, ramp_of_nothing, nothing_shared}
 use Rattle.cs_tempo.proofs.Ramps.{quotient_below, quotient_above, up_least, up_most, shorter_within}
 

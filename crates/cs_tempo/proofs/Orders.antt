@@ -1,21 +1,17 @@
 -- The order of a section's turns: sorted by their keys they are the statements in order.
-use Rattle.std.proofs.Common.{◌≡◌, ℕ, zero, suc, ◌+◌, ◌<◌, ◌≤◌, true, false, List, [], ◌∷◌, ◌++◌, length, get_or, drop}
-use Rattle.std.proofs.Common.{take, map, ℤ, arith, refl, ap, sym, ◌∙◌, ⊎_elim, append_assoc, append-nil}
-use Rattle.std.specs.Cmp.{IsTotalOrder}
+use Rattle.std.proofs.Common.{◌≡◌, ℕ, ◌+◌, ◌<◌, ◌≤◌, true, false, List, [], ◌∷◌, ◌++◌, length, get_or, drop, take, map}
+use Rattle.std.proofs.Common.{ℤ, arith, refl, ap, sym, ◌∙◌, ⊎_elim, append_assoc, append-nil}
+use Rattle.std.specs.{Cmp.IsTotalOrder, declared.cmp.Ordering.Ordering, List.AllByRecursion as Each}
 use Rattle.std.specs.Ordering.{is_lt, nat_cmp, int_cmp, ordering_then}
-use Rattle.std.specs.declared.cmp.Ordering.{Ordering}
 use Rattle.std.specs.declared.cmp.Ordering.TheVariants.{Less, Equal, Greater}
 use Rattle.std.proofs.lemmas.Cmp.{nat_cmp_total, int_cmp_total, on_total, then_total, ranked, int_ranked}
-use Rattle.std.proofs.lemmas.Bool.{cases_Bool}
-use Rattle.std.proofs.lemmas.Bool.Decides.{nat_tests}
+use Rattle.std.proofs.lemmas.{Bool.cases_Bool, Bool.Decides.nat_tests, List.Elements.All-from_recursion}
 use Rattle.std.proofs.lemmas.List.{at_drop_more, at_drop_all, drop_more, length-drop, map_push, map_more}
 use Rattle.cs_score.specs.declared.statement.ScoreStmt.{ScoreStmt}
 use Rattle.cs_tempo.specs.declared.order.SortKey.{SortKey}
 use Rattle.cs_tempo.specs.Order.{has_turn, beat_of, p1_of, p3_of, order_of, put, in_order}
 use Rattle.cs_tempo.specs.inner.Turns.{turn_of, own_turn, turns_from, turn_order, inserted, sorted}
-use Rattle.std.specs.List.{AllByRecursion as Each}
-use Rattle.cs_tempo.proofs.Elements.{each_more}
-use Rattle.cs_tempo.proofs.Sorting.{each_sorted}
+use Rattle.cs_tempo.proofs.{Elements.each_more, Sorting.each_sorted}
 
 pub turn_total : IsTotalOrder turn_order
 turn_total =
@@ -146,18 +142,12 @@ pub turn_none : (section : List ScoreStmt) (k : ℕ) (done : List SortKey) → l
 unfolding turns_from
 turn_none section k done all = ap (λ r. done ++ r) (at_drop_all (turns_from k) section k all) ∙ append-nil done
 
-pub each_at : {X : Type 0} (P : X → Type 0) (xs : List X) → Each P xs → (k : ℕ) (d : X) → k < length xs
-    → P (get_or xs k d)
-each_at P [] e k d some = absurd (omega arith)
-each_at P (x ∷ xs) e zero d some = e.0
-each_at P (x ∷ xs) e (suc k) d some = each_at P xs e.1 k d (omega arith)
-
 -- the sorted turns lie in the section
 pub turns_within : (section : List ScoreStmt) (d : ScoreStmt) (k : ℕ) (e : SortKey)
     → k < length (sorted turn_order (turns_from 0 section)) →
     (get_or (sorted turn_order (turns_from 0 section)) k e).index < length section
 turns_within section d k e some =
-    (each_at (IsFrom section d 0) _
+    (All-from_recursion (IsFrom section d 0) _
     (each_sorted turn_order turn_total (IsFrom section d 0) _ (turns_are section d 0 section refl)) k e some).within
 
 -- a walk that takes what it finds

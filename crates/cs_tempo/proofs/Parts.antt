@@ -2,10 +2,8 @@
 use Rattle.std.proofs.Common.{◌≡◌, ℕ, ◌+◌, ◌<◌, ◌≤◌, List, [], ◌∷◌, ◌++◌, drop, take, length, get_or, true, false, refl}
 use Rattle.std.proofs.Common.{ap, sym, ◌∙◌, append-nil}
 use Rattle.std.proofs.lemmas.List.{take_more, take_all, at_drop_more, at_drop_all}
-use Rattle.cs_score.specs.declared.statement.TempoPoint.{TempoPoint}
-use Rattle.cs_score.specs.declared.statement.ScoreWhat.{ScoreWhat}
-use Rattle.cs_score.specs.declared.statement.ScoreWhat.TheVariants.{Note, Hold, Stop, Table, Extend, Tempo, Section}
-use Rattle.cs_score.specs.declared.statement.ScoreStmt.{ScoreStmt}
+use Rattle.cs_score.specs.{declared.statement.TempoPoint.TempoPoint, declared.statement.ScoreWhat.ScoreWhat}
+use Rattle.cs_score.specs.{declared.statement.ScoreWhat.TheVariants.Section, declared.statement.ScoreStmt.ScoreStmt}
 use Rattle.cs_tempo.specs.Sections.{ends_section, at_front, sections_of, own_points, or_else, tempo_of}
 
 -- statements in front of the first of some sections
@@ -35,12 +33,7 @@ stops s later h = let e : ends_section s.what ≡ true = ap ends_section h in rw
 
 pub no_end : (w : ScoreWhat) → (w ≡ Section → ⊥) → ends_section w ≡ false
 no_end Section h = absurd (h refl)
-no_end (Note instr at len more) h = refl
-no_end (Hold instr at given more) h = refl
-no_end (Stop instr at) h = refl
-no_end (Table number at size gen args) h = refl
-no_end (Extend at) h = refl
-no_end (Tempo points) h = refl
+no_end _ h = refl
 
 -- a walk over the statements of a score, so far without an `s`
 pub read_on : (score : List ScoreStmt) (k : ℕ) (s : ScoreStmt) → k < length score → s ≡ get_or score k s

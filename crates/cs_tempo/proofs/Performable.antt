@@ -3,37 +3,27 @@ use Rattle.std.proofs.Common.{◌≡◌, ℕ, zero, suc, ◌+◌, ◌<◌, ◌�
 use Rattle.std.proofs.Common.{◌∷◌, ◌++◌, length, map, sum, take, get_or, Option, Some, None, IfOk, OnOk, Result, Ok}
 use Rattle.std.proofs.Common.{Err, refl, ap, sym, subst, ◌∙◌, arith, append_assoc, add-one, if◌then◌else◌, ⊎_elim}
 use Rattle.std.specs.List.{All, AllByRecursion as Each, count_by}
-use Rattle.std.specs.List.Sorted.{IsNonDecreasingBy}
-use Rattle.std.specs.Ordering.{is_lt}
-use Rattle.std.proofs.lemmas.Bool.{cases_Bool}
-use Rattle.std.proofs.lemmas.Bool.Decides.{nat_tests}
-use Rattle.std.proofs.lemmas.List.{length-append, take_all}
+use Rattle.std.specs.{List.Sorted.IsNonDecreasingBy, Ordering.is_lt}
+use Rattle.std.proofs.lemmas.{Bool.cases_Bool, Bool.Decides.nat_tests, List.length-append, List.take_all}
 use Rattle.std.proofs.lemmas.List.Sums.{sum_by-cons, sum_by_more}
+use Rattle.std.proofs.lemmas.List.Elements.{All-from_recursion, recursion_from_All}
 use Rattle.cs_base.proofs.Tests.{both_none}
-use Rattle.cs_base.specs.Limits.{most_events}
-use Rattle.cs_base.specs.declared.fault.Or.{Or}
-use Rattle.cs_base.specs.declared.head.Head.{Head}
+use Rattle.cs_base.specs.{Limits.most_events, declared.fault.Or.Or, declared.head.Head.Head, declared.limit.Limit.Limit}
 use Rattle.cs_base.specs.declared.limit.LimitHit.{LimitHit}
-use Rattle.cs_score.specs.declared.statement.ScoreStmt.{ScoreStmt}
+use Rattle.cs_score.specs.{declared.statement.ScoreStmt.ScoreStmt, Ranges.HasRange, Ranges.IsInRange}
 use Rattle.cs_score.specs.declared.statement.ScoreWhat.{ScoreWhat}
-use Rattle.cs_score.specs.declared.statement.ScoreWhat.TheVariants.{Note, Hold, Stop, Table, Extend, Tempo, Section}
+use Rattle.cs_score.specs.declared.statement.ScoreWhat.TheVariants.{Note, Hold, Table, Tempo, Section}
 use Rattle.cs_score.specs.Limits.{at_statement, counts, first_at, is_counted, passes_events, passes_tables}
-use Rattle.cs_score.specs.Ranges.{HasRange, IsInRange}
-use Rattle.cs_base.specs.declared.limit.Limit.{Limit}
-use Rattle.cs_base.specs.declared.limit.Limit.TheVariants as limit
-use Rattle.cs_tempo.specs.declared.plot.Event.{Event}
-use Rattle.cs_tempo.specs.declared.plot.EventAct.{EventAct}
-use Rattle.cs_tempo.specs.declared.plot.Plot.{Plot}
+use Rattle.cs_tempo.specs.{declared.plot.Event.Event, declared.plot.EventAct.EventAct, declared.plot.Plot.Plot}
+use Rattle.cs_tempo.specs.{Pairing.stop_of, Performable.IsActInRange, Performable.IsPerformable}
 use Rattle.cs_tempo.specs.Limits.{cycles_in, is_active, limit_of, passes_notes}
 use Rattle.cs_tempo.specs.Order.{has_turn, in_order, order_of, put}
-use Rattle.cs_tempo.specs.Pairing.{stop_of}
-use Rattle.cs_tempo.specs.Performable.{IsActInRange, IsPerformable}
 use Rattle.cs_tempo.specs.Plot.{SectionSetting, acts_of, events_along, events_from, plot_of, setting_of}
 use Rattle.cs_tempo.specs.Sections.{at_front, ends_section, length_of, sections_of}
 use Rattle.cs_tempo.proofs.Climbs.{climb_far, from_climbs, from_within, one_act, sections_in_range}
-use Rattle.cs_tempo.proofs.Orders.{each_at}
 use Rattle.cs_tempo.proofs.Shorts.{bytes_within, counts_within, notes_within}
-use Rattle.cs_tempo.proofs.Elements.{each_append, each_from_index, in_order_each}
+use Rattle.cs_tempo.proofs.Elements.{each_append, each_more, in_order_each}
+use Rattle.cs_base.specs.declared.limit.Limit.TheVariants as limit
 
 -- ---- a test that no item of a list passes
 
@@ -63,16 +53,10 @@ abbrev InOrder : List Event → Type 0
 InOrder [] = Unit {0}
 InOrder (e ∷ later) = Each (λ f. e.cycle ≤ f.cycle) later × InOrder later
 
-all_after : (e : Event) (events : List Event)
-    → ((k : ℕ) (d : Event) → k < length events → e.cycle ≤ (get_or events k d).cycle)
-    → Each (λ f. e.cycle ≤ f.cycle) events
-all_after e [] h = tt
-all_after e (x ∷ events) h = (h 0 x (omega arith), all_after e events (λ k d lt. h (suc k) d (omega arith)))
-
 ordered : (events : List Event) → IsNonDecreasingBy (λ (e : Event). e.cycle) events → InOrder events
 ordered [] h = tt
 ordered (e ∷ events) h = (
-  all_after e events (λ k d lt. h 0 (suc k) d (omega arith) (omega arith)),
+  recursion_from_All (λ f. e.cycle ≤ f.cycle) events (λ k d lt. h 0 (suc k) d (omega arith) (omega arith)),
   ordered events (λ i j d up lt. h (suc i) (suc j) d (omega arith) (omega arith)),
 )
 
@@ -81,14 +65,13 @@ all_before : (xs : List Event) (n : ℕ) (d : Event) → InOrder xs → n < leng
 all_before [] n d order lt = absurd (omega arith)
 all_before (x ∷ xs) zero d order lt = (omega arith, tt)
 all_before (x ∷ xs) (suc n) d order lt =
-    (each_at (λ f. x.cycle ≤ f.cycle) xs order.0 n d (omega arith), all_before xs n d order.1 (omega arith))
-
-then_active : (s c m end : ℕ) → m ≤ c → s ≤ m → (nat_le s c && nat_lt c end) ≡ true
-    → (nat_le s m && nat_lt m end) ≡ true
-then_active s c m end h k active = grind (arith, nat_tests)
+    (All-from_recursion (λ f. x.cycle ≤ f.cycle) xs order.0 n d (omega arith), all_before xs n d order.1 (omega arith))
 
 active_then : (c m : ℕ) (e : Event) → m ≤ c → e.cycle ≤ m → is_active c e ≡ true → is_active m e ≡ true
-active_then c m e h k active = then_active e.cycle c m (e.cycle + cycles_in e.act) h k active
+active_then c m e h k active = by e.cycle (e.cycle + cycles_in e.act) k active
+  where
+    by : (s end : ℕ) → s ≤ m → (nat_le s c && nat_lt c end) ≡ true → (nat_le s m && nat_lt m end) ≡ true
+    by s end k active = grind (arith, nat_tests)
 
 since_active : (s c end : ℕ) → (nat_le s c && nat_lt c end) ≡ true → s ≤ c
 since_active s c end active = grind (arith, nat_tests)
@@ -111,10 +94,6 @@ count_le p q (x ∷ xs) all =
       count_le p q xs all.1,
     )
 
-each_as : {X : Type 0} (P Q : X → Type 0) → ((x : X) → P x → Q x) → (xs : List X) → Each P xs → Each Q xs
-each_as P Q weaker [] h = tt
-each_as P Q weaker (x ∷ xs) h = (weaker x h.0, each_as P Q weaker xs h.1)
-
 -- an active note more is one of those that are active where it starts
 few_more : (c n : ℕ) (xs : List Event) (d : Event) → InOrder xs → n < length xs
     → nat_lt 512 (count_by (is_active (get_or xs n d).cycle) (take (suc n) xs)) ≡ false
@@ -124,8 +103,8 @@ few_more c n xs d order lt passed true e before =
     let m = (get_or xs n d).cycle in
     let since : m ≤ c = since_active m c (m + cycles_in (get_or xs n d).act) e in
     let all : Each (λ f. f.cycle ≤ m) (take (suc n) xs) = all_before xs n d order lt in
-    let all' = each_as (λ f. f.cycle ≤ m) (λ f. is_active c f ≡ true → is_active m f ≡ true)
-    (λ f k. active_then c m f since k) (take (suc n) xs) all in
+    let all' = each_more (λ f. f.cycle ≤ m) (λ f. is_active c f ≡ true → is_active m f ≡ true) (take (suc n) xs)
+    (λ f k. active_then c m f since k) all in
     let few : count_by (is_active m) (take (suc n) xs) ≤ 512 =
     not_more 512 (count_by (is_active m) (take (suc n) xs)) passed in
     omega (arith, few, count_le (is_active c) (is_active m) (take (suc n) xs) all')
@@ -179,13 +158,9 @@ put_longer s (u ∷ us) =
     ⊎_elim (λ t. rw t (ap suc (put_longer s us))) (λ f. rw f refl) (cases_Bool (is_lt (order_of u.what s.what)))
 
 turn_counts : (w : ScoreWhat) → has_turn w ≡ true → is_counted w ≡ true
-turn_counts (Note instr at len more) h = refl
-turn_counts (Hold instr at given more) h = refl
-turn_counts (Stop instr at) h = refl
-turn_counts (Table number at size gen args) h = refl
-turn_counts (Extend at) h = refl
 turn_counts (Tempo points) h = h
 turn_counts Section h = h
+turn_counts _ h = refl
 
 order_few : (section : List ScoreStmt) → length (in_order section) ≤ count_by counts section
 unfolding in_order
@@ -254,27 +229,18 @@ sections_count (s ∷ later) =
 
 -- ---- what events do
 
+one_is : {x y : EventAct} → x ∷ [] ≡ y ∷ [] → x ≡ y
+one_is e = cc
+
 act_in_range : (set : SectionSetting) (stop : Option ℕ) (w : ScoreWhat) (a : EventAct) → HasRange w
     → acts_of set stop w ≡ a ∷ [] → IsActInRange a
 unfolding acts_of
 act_in_range set stop (Note instr at len more) a r e =
     subst IsActInRange (one_is e) (r.0, omega arith, omega (arith, r.2), refl)
-  where
-    one_is : {x y : EventAct} → x ∷ [] ≡ y ∷ [] → x ≡ y
-    one_is e = cc
 act_in_range set stop (Hold instr at given more) a r e =
     subst IsActInRange (one_is e) (r.0, omega arith, omega (arith, r.3), refl)
-  where
-    one_is : {x y : EventAct} → x ∷ [] ≡ y ∷ [] → x ≡ y
-    one_is e = cc
 act_in_range set stop (Table number at size gen args) a r e = subst IsActInRange (one_is e) (r.0, r.2)
-  where
-    one_is : {x y : EventAct} → x ∷ [] ≡ y ∷ [] → x ≡ y
-    one_is e = cc
-act_in_range set stop (Stop instr at) a r e = absurd (cc)
-act_in_range set stop (Extend at) a r e = absurd (cc)
-act_in_range set stop (Tempo points) a r e = absurd (cc)
-act_in_range set stop Section a r e = absurd (cc)
+act_in_range set stop _ a r e = absurd (cc)
 
 along_in_range : (set : SectionSetting) (earlier ss : List ScoreStmt) → Each IsInRange ss
     → Each (λ (e : Event). IsActInRange e.act) (events_along set earlier ss)
@@ -293,7 +259,7 @@ from_in_range head offset [] r = tt
 from_in_range head offset (section ∷ others) r =
     each_append _ _ _
     (along_in_range (setting_of head offset section) [] (in_order section)
-    (in_order_each IsInRange section (each_from_index IsInRange section r.0)))
+    (in_order_each IsInRange section (recursion_from_All IsInRange section r.0)))
     (from_in_range head (offset + length_of head section) others r.1)
 
 -- ---- the plot
@@ -317,11 +283,12 @@ performable head score r h =
       few = λ c. few_active c events (ordered events rises) (notes_within head score h);
       within = λ k d some. omega (
         arith,
-        each_at
+        All-from_recursion
             (λ (e : Event). e.cycle + cycles_in e.act ≤ 0 + sum (map (length_of head) (sections_of score))) _
             (from_within head 0 (sections_of score) sections) k d some,
       );
-      each = each_at (λ (e : Event). IsActInRange e.act) events (from_in_range head 0 (sections_of score) sections);
+      each = All-from_recursion (λ (e : Event). IsActInRange e.act) events
+          (from_in_range head 0 (sections_of score) sections);
     }
 
 pub performable_if : (head : Head) (score : List ScoreStmt) (r : Result Plot (Or LimitHit)) → All IsInRange score →

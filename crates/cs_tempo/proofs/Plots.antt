@@ -4,9 +4,7 @@ use Rattle.std.proofs.Common.{append-nil}
 use Rattle.std.proofs.lemmas.List.Sums.{sum_by-cons}
 use Rattle.cs_base.specs.declared.head.Head.{Head}
 use Rattle.cs_score.specs.declared.statement.ScoreStmt.{ScoreStmt}
-use Rattle.cs_tempo.specs.declared.plot.Event.{Event}
-use Rattle.cs_tempo.specs.Sections.{length_of, sections_of}
-use Rattle.cs_tempo.specs.Order.{in_order}
+use Rattle.cs_tempo.specs.{declared.plot.Event.Event, Sections.length_of, Sections.sections_of, Order.in_order}
 use Rattle.cs_tempo.specs.Plot.{setting_of, events_along, events_from}
 
 -- the lengths of all sections that are left: that of the first, and those behind it

@@ -1,11 +1,9 @@
 -- Ramps: the time along one never falls, and a millionth of a beat takes at most 60,000 nanoseconds.
 use Rattle.std.proofs.Common.{◌≡◌, ℕ, zero, suc, ◌+◌, ◌-◌, ◌*◌, ◌/◌, ◌<◌, ◌≤◌, arith, ap, refl, ◌∙◌, ⊎_elim, ◌⊎◌, inl}
-use Rattle.std.proofs.Common.{inr, lit<}
+use Rattle.std.proofs.{Common.inr, Common.lit<, Math.Nat.mul-zero}
 use Rattle.std.proofs.Math.Nat.{mul-le-mul_left, mul-div-le, le_of_mul-le-mul_left, eq-or-lt_of_le, div-le_self}
-use Rattle.std.proofs.Math.Nat.{mul-zero}
 use Rattle.std.proofs.lemmas.Nat.{le-div, mul-le, mod_below, div_below, div-add-mod'}
-use Rattle.std.proofs.lemmas.Bool.{cases_lt}
-use Rattle.std.proofs.lemmas.Bool.Decides.{nat_tests, leb_tells}
+use Rattle.std.proofs.lemmas.{Bool.cases_lt, Bool.Decides.nat_tests, Bool.Decides.leb_tells}
 use Rattle.cs_tempo.specs.inner.Ramps.{ramp_in_parts, rounded_up}
 
 -- a quotient grows with its number

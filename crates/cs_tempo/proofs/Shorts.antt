@@ -1,16 +1,11 @@
 -- A score that passes no limit is short.
 use Rattle.std.proofs.Common.{◌≡◌, ℕ, ◌*◌, ◌^◌, ◌≤◌, Bool, true, false, nat_lt, Option, Some, None, List, [], map, sum}
 use Rattle.std.proofs.Common.{arith, refl, if◌then◌else◌}
-use Rattle.std.proofs.lemmas.Bool.Decides.{nat_tests}
-use Rattle.std.proofs.lemmas.Nat.{mul-le}
-use Rattle.cs_base.specs.Limits.{most_wav_bytes}
-use Rattle.cs_base.specs.declared.head.Head.{Head}
+use Rattle.std.proofs.lemmas.{Bool.Decides.nat_tests, Nat.mul-le}
+use Rattle.cs_base.specs.{Limits.most_wav_bytes, declared.head.Head.Head}
 use Rattle.cs_base.proofs.Tests.{both_none}
-use Rattle.cs_score.specs.declared.statement.ScoreStmt.{ScoreStmt}
-use Rattle.cs_score.specs.Limits.{first_at, limit_of_score}
-use Rattle.cs_tempo.specs.declared.plot.Event.{Event}
-use Rattle.cs_tempo.specs.Sections.{sections_of, length_of}
-use Rattle.cs_tempo.specs.Plot.{events_from}
+use Rattle.cs_score.specs.{declared.statement.ScoreStmt.ScoreStmt, Limits.first_at, Limits.limit_of_score}
+use Rattle.cs_tempo.specs.{declared.plot.Event.Event, Sections.sections_of, Sections.length_of, Plot.events_from}
 use Rattle.cs_tempo.specs.Limits.{at_event, bytes_hit, limit_of, limit_of_sections, passes_bytes, passes_notes}
 
 not_passed : (b : Bool) → (if b then bytes_hit else None) ≡ None → b ≡ false

@@ -1,18 +1,14 @@
 -- Sorting by a total order in which only the same value is equal: a sorted permutation is the list by insertion.
 use Rattle.std.proofs.Common.{◌≡◌, ℕ, suc, ◌<◌, ◌≤◌, Bool, true, false, cond, List, [], ◌∷◌, length, get_or, arith}
 use Rattle.std.proofs.Common.{refl, ap, sym, ◌∙◌, ⊎_elim, ◌⊎◌, inl, inr}
-use Rattle.std.specs.Cmp.{IsTotalOrder, IsStrictWeakOrder}
+use Rattle.std.specs.{Cmp.IsTotalOrder, Cmp.IsStrictWeakOrder, declared.cmp.Ordering.Ordering}
+use Rattle.std.specs.{List.AllByRecursion as Each, List.sum_by, List.Sorted.IsSorted, List.Sorted.IsPermutation}
 use Rattle.std.specs.Ordering.{is_lt, is_eq, ordering_reverse}
-use Rattle.std.specs.declared.cmp.Ordering.{Ordering}
 use Rattle.std.specs.declared.cmp.Ordering.TheVariants.{Less, Equal, Greater}
-use Rattle.std.specs.List.{AllByRecursion as Each, sum_by}
-use Rattle.std.specs.List.Sorted.{IsSorted, IsPermutation}
-use Rattle.std.proofs.lemmas.List.Sums.{sum_by-cons}
+use Rattle.std.proofs.lemmas.{List.Sums.sum_by-cons, Cmp.tied_itself, Bool.cases_Bool, List.Elements.recursion_from_All}
 use Rattle.std.proofs.lemmas.List.Sorted.{sum_by-IsPermutation, sorted_far, ranks_by}
-use Rattle.std.proofs.lemmas.Cmp.{tied_itself}
-use Rattle.std.proofs.lemmas.Bool.{cases_Bool}
 use Rattle.cs_tempo.specs.inner.Turns.{inserted, sorted}
-use Rattle.cs_tempo.proofs.Elements.{each_from_index, each_more}
+use Rattle.cs_tempo.proofs.Elements.{each_more}
 
 three_ways : (o : Ordering) → (o ≡ Less) ⊎ ((o ≡ Equal) ⊎ (o ≡ Greater))
 three_ways Less = inl refl
@@ -144,7 +140,7 @@ module _ {X : Type 0} (R : X → X → Ordering) (o : IsTotalOrder R) (same : (x
       → ((i j : ℕ) (d : X) → i ≤ j → j < length xs → is_lt (R (get_or xs j d) (get_or xs i d)) ≡ false) → Rising R o xs
   rising_from_far [] h = tt
   rising_from_far (x ∷ xs) h = (
-    each_from_index (λ y. is_lt (R y x) ≡ false) xs (λ j d l. h 0 (suc j) d (omega arith) (omega arith)),
+    recursion_from_All (λ y. is_lt (R y x) ≡ false) xs (λ j d l. h 0 (suc j) d (omega arith) (omega arith)),
     rising_from_far xs (λ i j d p l. h (suc i) (suc j) d (omega arith) (omega arith)),
   )
 

@@ -2,16 +2,14 @@
 -- order.
 use Rattle.std.proofs.Common.{◌≡◌, zero, suc, Bool, true, false, cond, List, [], ◌∷◌, filter, arith, refl, ap, sym, ◌∙◌}
 use Rattle.std.proofs.Common.{if◌then◌else◌, AllPairs}
-use Rattle.std.specs.Cmp.{IsTotalOrder}
-use Rattle.std.specs.Ordering.{is_lt, is_eq}
-use Rattle.std.specs.declared.cmp.Ordering.{Ordering}
+use Rattle.std.specs.{Cmp.IsTotalOrder, Ordering.is_lt, Ordering.is_eq, declared.cmp.Ordering.Ordering}
 use Rattle.std.specs.declared.cmp.Ordering.TheVariants.{Less, Equal, Greater}
 use Rattle.std.proofs.lemmas.Cmp.{nat_cmp_total, int_cmp_total, on_total, then_total}
+use Rattle.std.proofs.lemmas.List.Elements.{All-from_recursion}
 use Rattle.cs_base.proofs.Tests.{by_test}
 use Rattle.cs_score.specs.declared.statement.ScoreStmt.{ScoreStmt}
 use Rattle.cs_tempo.specs.Order.{has_turn, beat_of, p1_of, p3_of, order_of, put, in_order}
 use Rattle.cs_tempo.specs.inner.Turns.{inserted, sorted}
-use Rattle.cs_tempo.proofs.Orders.{each_at}
 use Rattle.cs_tempo.proofs.Sorting.{Rising, rising_sorted}
 
 what_total : IsTotalOrder order_of
@@ -89,7 +87,7 @@ module _ {X : Type 0} (R : X → X → Ordering) (o : IsTotalOrder R) where
   rising_pairs : (xs : List X) → Rising R o xs → AllPairs (λ x y. is_lt (R y x) ≡ false) xs
   rising_pairs [] r i j d l m = absurd (omega arith)
   rising_pairs (x ∷ xs) r zero zero d l m = absurd (omega arith)
-  rising_pairs (x ∷ xs) r zero (suc j) d l m = each_at (λ y. is_lt (R y x) ≡ false) xs r.0 j d (omega arith)
+  rising_pairs (x ∷ xs) r zero (suc j) d l m = All-from_recursion (λ y. is_lt (R y x) ≡ false) xs r.0 j d (omega arith)
   rising_pairs (x ∷ xs) r (suc i) zero d l m = absurd (omega arith)
   rising_pairs (x ∷ xs) r (suc i) (suc j) d l m = rising_pairs xs r.1 i j d (omega arith) (omega arith)
 

@@ -4,14 +4,12 @@ use Rattle.std.proofs.Common.{◌∷◌, ◌++◌, length, get_or, drop, take, a
 use Rattle.std.proofs.Common.{append-nil, zero-add}
 use Rattle.std.specs.List.{AllByRecursion as Each, count_by}
 use Rattle.std.specs.List.Sorted.{IsNonDecreasingBy, IsNonDecreasing, IsPermutation}
-use Rattle.std.proofs.lemmas.Bool.Decides.{nat_tests}
+use Rattle.std.proofs.lemmas.{Bool.Decides.nat_tests, List.Sorted.sum_by-IsPermutation}
 use Rattle.std.proofs.lemmas.List.{take_more, get_or-take, get_or-drop, get_or_default, length-take, length-drop}
 use Rattle.std.proofs.lemmas.List.Sums.{sum_by-cons, sum_by-append, sum_by-take-drop}
-use Rattle.std.proofs.lemmas.List.Sorted.{sum_by-IsPermutation}
-use Rattle.cs_tempo.specs.declared.plot.Event.{Event}
-use Rattle.cs_tempo.specs.Limits.{cycles_in, is_active}
+use Rattle.std.proofs.lemmas.List.Elements.{recursion_from_All}
+use Rattle.cs_tempo.specs.{declared.plot.Event.Event, Limits.cycles_in, Limits.is_active}
 use Rattle.cs_tempo.specs.inner.Sweep.{is_note, own_end, ends_of, HaveEnded}
-use Rattle.cs_tempo.proofs.Elements.{each_from_index}
 use Rattle.cs_tempo.proofs.Firsts.{count_more}
 
 abbrev has_ended : ℕ → Event → Bool
@@ -86,10 +84,10 @@ cycle_at_default xs i d e h = ap (λ (x : Event). x.cycle) (get_or_default xs i 
 past_counted : (ends : List ℕ) (c j : ℕ) → IsNonDecreasing ends → HaveEnded ends c j
     → count_by (λ m. nat_le m c) ends ≡ j
 past_counted ends c j up p =
-    let low : Each (λ m. m ≤ c) (take j ends) = each_from_index _ (take j ends) (λ i d l.
+    let low : Each (λ m. m ≤ c) (take j ends) = recursion_from_All _ (take j ends) (λ i d l.
     let l' : i < j = omega (arith, length-take j ends, p.within) in
     rw (get_or-take j ends i d l') (omega (arith, p.below i l', default_at ends i d (omega (arith, p.within))))) in
-    let high : Each (λ m. c < m) (drop j ends) = each_from_index _ (drop j ends) (λ i d l.
+    let high : Each (λ m. c < m) (drop j ends) = recursion_from_All _ (drop j ends) (λ i d l.
     let l' : j + i < length ends = omega (arith, length-drop j ends) in
     rw (get_or-drop j ends i d)
     (omega (arith, p.above (omega arith), up j (j + i) 0 (omega arith) l', default_at ends (j + i) d l'))) in
@@ -113,12 +111,12 @@ active_count events ends k j e some here up perm order past =
     let c : ℕ = e.cycle in
     let at : (get_or events k e).cycle ≡ c = ap (λ (x : Event). x.cycle) (sym here) in
     let low : Each (λ (x : Event). x.cycle ≤ c) (take (k + 1) events) =
-    each_from_index _ (take (k + 1) events) (λ i d l.
+    recursion_from_All _ (take (k + 1) events) (λ i d l.
     let l' : i < k + 1 = omega (arith, length-take (k + 1) events) in
     rw (get_or-take (k + 1) events i d l')
     (omega (arith, up i k d (omega arith) some, cycle_at_default events k d e some, at))) in
     let high : Each (λ (x : Event). c ≤ x.cycle) (drop (k + 1) events) =
-    each_from_index _ (drop (k + 1) events) (λ i d l.
+    recursion_from_All _ (drop (k + 1) events) (λ i d l.
     let l' : (k + 1) + i < length events = omega (arith, length-drop (k + 1) events) in
     rw (get_or-drop (k + 1) events i d)
     (omega (arith, up k ((k + 1) + i) d (omega arith) l', cycle_at_default events k d e some, at))) in

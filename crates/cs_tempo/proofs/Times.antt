@@ -1,15 +1,10 @@
 -- Time along the points of a tempo: it never falls, and stays small.
 use Rattle.std.proofs.Common.{◌≡◌, ℕ, ◌+◌, ◌-◌, ◌*◌, ◌/◌, ◌^◌, ◌<◌, ◌≤◌, min, List, [], ◌∷◌, drop, length, get_or}
-use Rattle.std.proofs.Common.{arith, refl, subst}
-use Rattle.std.proofs.lemmas.List.{drop_more}
-use Rattle.std.proofs.Math.Nat.{mul-le-mul_left}
-use Rattle.std.proofs.lemmas.Nat.{le-div}
-use Rattle.std.proofs.Math.Nat.{div-le_of_le-mul}
-use Rattle.cs_score.specs.Ranges.{IsTempoPoint, AreRising}
-use Rattle.cs_score.specs.declared.statement.TempoPoint.{TempoPoint}
+use Rattle.std.proofs.{Common.arith, Common.refl, Common.subst, Math.Nat.mul-le-mul_left, Math.Nat.div-le_of_le-mul}
+use Rattle.std.proofs.lemmas.{List.drop_more, Nat.le-div}
+use Rattle.cs_score.specs.{Ranges.IsTempoPoint, Ranges.AreRising, declared.statement.TempoPoint.TempoPoint}
 use Rattle.cs_tempo.specs.Time.{beat_length, ramp_time, part_of, time_along, time_of, IsTempo, Rises, cycle_of}
-use Rattle.cs_tempo.proofs.Floors.{ramp_time_grows, ramp_time_small}
-use Rattle.cs_tempo.proofs.Ramps.{div_grows, steady_small}
+use Rattle.cs_tempo.proofs.{Floors.ramp_time_grows, Floors.ramp_time_small, Ramps.div_grows, Ramps.steady_small}
 
 pub beat_slow : (t : ℕ) → 1000000 ≤ t → t ≤ 60000000000 → 1000000 ≤ beat_length t
 unfolding beat_length

@@ -2,29 +2,20 @@
 use Rattle.std.proofs.Common.{◌≡◌, ℕ, zero, suc, ◌+◌, ◌<◌, ◌≤◌, List, [], ◌∷◌, ◌++◌, drop, take, map, reverse, length}
 use Rattle.std.proofs.Common.{get_or, true, nat_eq, Option, Some, slice_get, arith, refl, ap, sym, ◌∙◌, append_assoc}
 use Rattle.std.proofs.Common.{append-nil, subst, ⊎_elim}
-use Rattle.std.specs.List.{All, AllByRecursion as Each}
-use Rattle.std.specs.Option.{IfSome}
-use Rattle.std.specs.HashMap.{get}
-use Rattle.std.proofs.lemmas.Bool.{cases_Bool}
-use Rattle.std.proofs.lemmas.Bool.Decides.{nat_tests}
+use Rattle.std.specs.{List.All, List.AllByRecursion as Each, Option.IfSome, HashMap.get}
+use Rattle.std.proofs.lemmas.{Bool.cases_Bool, Bool.Decides.nat_tests, List.get_or-map}
 use Rattle.std.proofs.lemmas.List.{drop_more, drop_all, take_more, reverse-append, length-reverse, length-take}
-use Rattle.std.proofs.lemmas.List.{get_or-map}
-use Rattle.cs_score.specs.Ranges.{IsInRange, HasRange}
-use Rattle.cs_score.specs.declared.statement.ScoreWhat.{ScoreWhat}
-use Rattle.cs_score.specs.declared.statement.ScoreWhat.TheVariants.{Note, Hold, Stop, Table, Extend, Tempo, Section}
+use Rattle.std.proofs.lemmas.List.Elements.{All-from_recursion, All-map, recursion_from_All}
+use Rattle.cs_score.specs.{Ranges.IsInRange, Ranges.HasRange, declared.statement.ScoreWhat.ScoreWhat}
+use Rattle.cs_score.specs.declared.statement.ScoreWhat.TheVariants.{Note, Hold, Stop, Table}
 use Rattle.cs_score.specs.declared.statement.ScoreStmt.{ScoreStmt}
-use Rattle.cs_tempo.specs.declared.plot.Event.{Event}
-use Rattle.cs_tempo.specs.inner.Clock.{Pace}
-use Rattle.cs_tempo.specs.Sections.{cycle_at, end_of, reach_of}
-use Rattle.cs_tempo.specs.Order.{has_turn, beat_of, in_order}
-use Rattle.cs_tempo.specs.Pairing.{ended_by, stop_of}
+use Rattle.cs_tempo.specs.{declared.plot.Event.Event, inner.Clock.Pace, Sections.cycle_at, Sections.end_of}
+use Rattle.cs_tempo.specs.{Sections.reach_of, Order.has_turn, Order.beat_of, Order.in_order, Pairing.ended_by}
+use Rattle.cs_tempo.specs.{Pairing.stop_of, inner.Queue.Queue, inner.Events.HasEnd, inner.Events.IsTurnIn}
 use Rattle.cs_tempo.specs.inner.Counted.{own_stop, sounding, sounding_after, stops_of}
 use Rattle.cs_tempo.specs.inner.Stops.{Shows, Queues, AreQueues, ending}
-use Rattle.cs_tempo.specs.inner.Queue.{Queue}
-use Rattle.cs_tempo.specs.inner.Events.{HasEnd, IsTurnIn}
 use Rattle.cs_tempo.specs.Plot.{SectionSetting, events_at, events_along}
-use Rattle.cs_tempo.proofs.Ended.{first_ended}
-use Rattle.cs_tempo.proofs.Elements.{put_each}
+use Rattle.cs_tempo.proofs.{Ended.first_ended, Elements.put_each}
 
 note_within : (pace : Pace) (cycles at len : ℕ) → end_of pace.head pace.tempo at len ≤ cycles
     → cycle_at pace.head pace.tempo at ≤ cycles
@@ -39,21 +30,14 @@ start_within pace cycles (Note instr at len more) r h t =
 start_within pace cycles (Hold instr at given more) r h t = record { beat = r.1; cycle = omega arith }
 start_within pace cycles (Stop instr at) r h t = record { beat = r.1; cycle = h }
 start_within pace cycles (Table number at size gen args) r h t = record { beat = r.1; cycle = h }
-start_within pace cycles (Extend at) r h t = absurd (cc)
-start_within pace cycles (Tempo points) r h t = absurd (cc)
-start_within pace cycles Section r h t = absurd (cc)
+start_within pace cycles _ r h t = absurd (cc)
 
 own_within : (pace : Pace) (cycles n : ℕ) (w : ScoreWhat) (later : List ℕ) → HasRange w
     → reach_of pace.head pace.tempo w ≤ cycles →
     Each (HasEnd pace cycles) later → Each (HasEnd pace cycles) (own_stop n w ++ later)
 own_within pace cycles n (Stop instr at) later r h e =
     ⊎_elim (λ t. rw t (record { beat = r.1; cycle = h }, e)) (λ f. rw f e) (cases_Bool (nat_eq n instr))
-own_within pace cycles n (Note instr at len more) later r h e = e
-own_within pace cycles n (Hold instr at given more) later r h e = e
-own_within pace cycles n (Table number at size gen args) later r h e = e
-own_within pace cycles n (Extend at) later r h e = e
-own_within pace cycles n (Tempo points) later r h e = e
-own_within pace cycles n Section later r h e = e
+own_within pace cycles n _ later r h e = e
 
 -- each stop of an instrument lies in the section
 stops_within : (pace : Pace) (cycles n : ℕ) (ss : List ScoreStmt) → Each (IsTurnIn pace cycles) ss
@@ -100,12 +84,7 @@ module _ (earlier later : List ScoreStmt) (s : ScoreStmt) where
   ending_of (Hold instr at given more) stops is e =
       ap (λ xs. slice_get xs (sounding instr earlier)) (e instr)
       ∙ sym (first_ended s instr at given more earlier later is)
-  ending_of (Note instr at len more) stops is e = refl
-  ending_of (Stop instr at) stops is e = refl
-  ending_of (Table number at size gen args) stops is e = refl
-  ending_of (Extend at) stops is e = refl
-  ending_of (Tempo points) stops is e = refl
-  ending_of Section stops is e = refl
+  ending_of _ stops is e = refl
 
   pub ending_is : ending s.what (λ n. stops_of n (s ∷ later)) (λ n. sounding n earlier) ≡ stop_of earlier later s
   unfolding stops_of
@@ -118,12 +97,7 @@ module _ (earlier later : List ScoreStmt) (s : ScoreStmt) where
       subst (λ (o : Option ℕ). IfSome o (HasEnd pace cycles)) (sym (first_ended s instr at given more earlier later is))
       (found_within (HasEnd pace cycles) (stops_of instr later) (sounding instr earlier)
       (stops_within pace cycles instr later e))
-  ended_within pace cycles (Note instr at len more) is e = tt
-  ended_within pace cycles (Stop instr at) is e = tt
-  ended_within pace cycles (Table number at size gen args) is e = tt
-  ended_within pace cycles (Extend at) is e = tt
-  ended_within pace cycles (Tempo points) is e = tt
-  ended_within pace cycles Section is e = tt
+  ended_within pace cycles _ is e = tt
 
 pub stop_within : (pace : Pace) (cycles : ℕ) (earlier later : List ScoreStmt) (s : ScoreStmt)
     → Each (IsTurnIn pace cycles) later
@@ -135,11 +109,7 @@ few_more n (Hold instr at given more) m k h =
     ⊎_elim (λ t. rw t (omega arith)) (λ f. rw f (omega arith)) (cases_Bool (nat_eq n instr))
 few_more n (Stop instr at) m k h =
     ⊎_elim (λ t. rw t (omega arith)) (λ f. rw f (omega arith)) (cases_Bool (nat_eq n instr))
-few_more n (Note instr at len more) m k h = omega arith
-few_more n (Table number at size gen args) m k h = omega arith
-few_more n (Extend at) m k h = omega arith
-few_more n (Tempo points) m k h = omega arith
-few_more n Section m k h = omega arith
+few_more n _ m k h = omega arith
 
 pub few_sound : (n : ℕ) (ss : List ScoreStmt) → sounding n ss ≤ length ss
 unfolding sounding
@@ -181,18 +151,14 @@ order_each pace cycles (s ∷ later) r h =
     (cases_Bool (has_turn s.what))
 
 pub each_map : {X Y : Type 0} (P : Y → Type 0) (f : X → Y) (xs : List X) → All (λ x. P (f x)) xs → Each P (map f xs)
-each_map P f [] a = tt
-each_map P f (x ∷ xs) a = (a 0 x (omega arith), each_map P f xs (λ k d l. a (suc k) d (omega arith)))
+each_map P f xs a = recursion_from_All P (map f xs) (All-map P f xs a)
 
-at_each : {X Y : Type 0} (P : Y → Type 0) (f : X → Y) (x : X) (xs : List X) → Each P (map f (x ∷ xs))
-    → All (λ y. P (f y)) xs →
-    All (λ y. P (f y)) (x ∷ xs)
-at_each P f x xs e rest zero d l = e.0
-at_each P f x xs e rest (suc k) d l = rest k d (omega arith)
+each_seen : {X Y : Type 0} (P : Y → Type 0) (f : X → Y) (xs : List X) → Each P (map f xs) → Each (λ x. P (f x)) xs
+each_seen P f [] e = tt
+each_seen P f (x ∷ xs) e = (e.0, each_seen P f xs e.1)
 
 pub all_map : {X Y : Type 0} (P : Y → Type 0) (f : X → Y) (xs : List X) → Each P (map f xs) → All (λ x. P (f x)) xs
-all_map P f [] e = λ k d l. absurd (omega arith)
-all_map P f (x ∷ xs) e = at_each P f x xs e (all_map P f xs e.1)
+all_map P f xs e = All-from_recursion (λ x. P (f x)) xs (each_seen P f xs e)
 
 -- an item of a list that is seen through a function
 pub seen_at : {X Y : Type 0} (f : X → Y) (xs : List X) (k : ℕ) (x : X) → k < length xs → x ≡ get_or xs k x

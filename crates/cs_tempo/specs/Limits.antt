@@ -1,18 +1,13 @@
 -- The limits on a score, in the order in which they are looked at, and the first that is passed.
 use Rattle.std.specs.Prelude.{ℕ, ◌+◌, ◌*◌, ◌&&◌, Bool, nat_lt, nat_le, count_by, map, sum, List, [], Option, Some, None}
-use Rattle.std.specs.Prelude.{if◌then◌else◌}
-use Rattle.std.specs.Option.{option_or}
+use Rattle.std.specs.{Prelude.if◌then◌else◌, Option.option_or}
 use Rattle.cs_base.specs.Limits.{most_notes, most_wav_bytes}
-use Rattle.cs_base.specs.declared.head.Head.{Head}
-use Rattle.cs_base.specs.declared.limit.Limit.TheVariants as limit
-use Rattle.cs_base.specs.declared.limit.LimitHit.{LimitHit}
-use Rattle.cs_score.specs.Limits.{first_at, limit_of_score}
-use Rattle.cs_score.specs.declared.statement.ScoreStmt.{ScoreStmt}
-use Rattle.cs_tempo.specs.declared.plot.Event.{Event}
-use Rattle.cs_tempo.specs.declared.plot.EventAct.{EventAct}
-use Rattle.cs_tempo.specs.declared.plot.EventAct.TheVariants as act
+use Rattle.cs_base.specs.{declared.head.Head.Head, declared.limit.LimitHit.LimitHit}
+use Rattle.cs_score.specs.{Limits.first_at, Limits.limit_of_score, declared.statement.ScoreStmt.ScoreStmt}
+use Rattle.cs_tempo.specs.{declared.plot.Event.Event, declared.plot.EventAct.EventAct, Plot.events_from}
 use Rattle.cs_tempo.specs.Sections.{sections_of, length_of}
-use Rattle.cs_tempo.specs.Plot.{events_from}
+use Rattle.cs_base.specs.declared.limit.Limit.TheVariants as limit
+use Rattle.cs_tempo.specs.declared.plot.EventAct.TheVariants as act
 
 -- how many cycles an event's note lasts; none for a table
 abbrev pub cycles_in : EventAct → ℕ

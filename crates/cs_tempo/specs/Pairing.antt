@@ -1,9 +1,8 @@
 -- Which stop ends which held note: a stop ends the first held note of its instrument that sounds.
 use Rattle.std.specs.Prelude.{ℕ, ◌==◌, ◌&&◌, Bool, false, List, [], ◌∷◌, ◌++◌, length, drop, Option, Some, None}
 use Rattle.std.specs.Prelude.{if◌then◌else◌}
-use Rattle.cs_score.specs.declared.statement.ScoreWhat.{ScoreWhat}
+use Rattle.cs_score.specs.{declared.statement.ScoreWhat.ScoreWhat, declared.statement.ScoreStmt.ScoreStmt}
 use Rattle.cs_score.specs.declared.statement.ScoreWhat.TheVariants.{Hold, Stop}
-use Rattle.cs_score.specs.declared.statement.ScoreStmt.{ScoreStmt}
 
 -- the held notes of an instrument that sound after one more turn, by their places in the order
 abbrev pub held_after : ℕ → ℕ → ScoreWhat → List ℕ → List ℕ

@@ -5,10 +5,8 @@ use Rattle.cs_base.specs.Limits.{greatest_field, most_events, most_notes, most_w
 use Rattle.cs_base.specs.declared.head.Head.{Head}
 use Rattle.cs_gen.specs.Faults.{table_fault}
 use Rattle.cs_score.specs.Ranges.{IsInstrument, IsTableNumber}
-use Rattle.cs_tempo.specs.declared.plot.EventAct.{EventAct}
+use Rattle.cs_tempo.specs.{declared.plot.EventAct.EventAct, declared.plot.Plot.Plot, Limits.cycles_in, Limits.is_active}
 use Rattle.cs_tempo.specs.declared.plot.EventAct.TheVariants as act
-use Rattle.cs_tempo.specs.declared.plot.Plot.{Plot}
-use Rattle.cs_tempo.specs.Limits.{cycles_in, is_active}
 
 -- a start has an instrument's number, 3 to 100 fields, and that number as p1; a table has a table's number and
 -- no fault, so its size is 2 to 65,537

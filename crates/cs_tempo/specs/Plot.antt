@@ -2,17 +2,12 @@
 use Rattle.std.specs.Prelude.{ℕ, ◌+◌, ◌-◌, ◌*◌, max, map, sum, List, [], ◌∷◌, ◌++◌, Option, Some, None, ℤ, pos}
 use Rattle.cs_base.specs.declared.head.Head.{Head}
 use Rattle.cs_score.specs.declared.statement.TempoPoint.{TempoPoint}
-use Rattle.cs_score.specs.declared.statement.ScoreWhat.{ScoreWhat}
+use Rattle.cs_score.specs.{declared.statement.ScoreWhat.ScoreWhat, declared.statement.ScoreStmt.ScoreStmt}
 use Rattle.cs_score.specs.declared.statement.ScoreWhat.TheVariants.{Note, Hold, Table}
-use Rattle.cs_score.specs.declared.statement.ScoreStmt.{ScoreStmt}
-use Rattle.cs_tempo.specs.declared.plot.Event.{Event}
-use Rattle.cs_tempo.specs.declared.plot.EventAct.{EventAct}
-use Rattle.cs_tempo.specs.declared.plot.EventAct.TheVariants as act
-use Rattle.cs_tempo.specs.declared.plot.Plot.{Plot}
-use Rattle.cs_tempo.specs.Time.{time_of, seconds_of}
+use Rattle.cs_tempo.specs.{declared.plot.Event.Event, declared.plot.EventAct.EventAct, declared.plot.Plot.Plot}
+use Rattle.cs_tempo.specs.{Time.time_of, Time.seconds_of, Order.beat_of, Order.in_order, Pairing.stop_of}
 use Rattle.cs_tempo.specs.Sections.{tempo_of, cycle_at, end_of, length_of, sections_of}
-use Rattle.cs_tempo.specs.Order.{beat_of, in_order}
-use Rattle.cs_tempo.specs.Pairing.{stop_of}
+use Rattle.cs_tempo.specs.declared.plot.EventAct.TheVariants as act
 
 -- a note's fields: p1, p2 in seconds from the start of its section, p3, and those that follow
 abbrev pub fields_of : List TempoPoint → ℕ → ℕ → ℤ → List ℤ → List ℤ

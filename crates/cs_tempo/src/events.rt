@@ -18,7 +18,7 @@ use crate::plot::{Event, EventAct};
 use crate::section::end_of;
 use crate::time::seconds_of;
 use cs_base::{Num, OutOfMemory};
-use cs_score::{ScoreStmt, ScoreWhat, SharedNums};
+use cs_score::{NoteValues, ScoreStmt, ScoreWhat};
 use std::alloc::Global;
 use std::cmp::max;
 
@@ -60,7 +60,7 @@ fn add_events(
     let mut queues = stops_by_instrument(alloc, order)?;
     for statement in order {
         let stop = take_turn(&mut queues, &statement.what);
-        let act = act_of(clock, cycles, stop, &statement.what)?;
+        let act = act_of(alloc, clock, cycles, stop, &statement.what)?;
         push_event(events, clock, offset, cycles, statement, act)?;
     }
     Ok(())
@@ -112,6 +112,7 @@ fn beat_of(what: &ScoreWhat) -> u64
 // What a turn does, where `stop` is the beat of the stop that ends it.
 #[tactic(auto, unfolding(crate::specs::Plot::acts_of))]
 fn act_of(
+    alloc: Global,
     clock: &Clock,
     cycles: u32,
     stop: Option<u64>,
@@ -155,7 +156,7 @@ fn act_of(
             number: *number,
             size: *size,
             gen_: *gen_,
-            args: args.share()?,
+            args: args.to_items(alloc)?,
         })),
         ScoreWhat::Stop { .. } => Ok(None),
         ScoreWhat::Extend { .. } => Ok(None),
@@ -170,7 +171,7 @@ fn note(
     instr: u32,
     at: u64,
     length: u64,
-    more: &SharedNums,
+    more: &NoteValues,
 ) -> Result<EventAct, OutOfMemory>
     requires instr { IsInstrument instr }
     requires end { at + length < beats_end }
@@ -213,7 +214,7 @@ fn fields_of(
     instr: u32,
     at: u64,
     p3: Num,
-    more: &SharedNums,
+    more: &NoteValues,
 ) -> Result<NoteFields, OutOfMemory>
     requires instr { IsInstrument instr }
     requires at { at < beats_end }

@@ -2,7 +2,7 @@
 ghost use Rattle.std.specs.Prelude.{◌≡◌, ◌∷◌, IfOk};
 
 use cs_base::{Num, Nums};
-use cs_score::SharedNums;
+use cs_score::NoteValues;
 use std::alloc::{AllocError, Global};
 use std::marker::Model;
 
@@ -12,7 +12,7 @@ pub struct NoteFields {
     p1: Num,
     p2: Num,
     p3: Num,
-    more: SharedNums,
+    more: NoteValues,
 }
 
 impl Model for NoteFields {
@@ -25,7 +25,7 @@ impl Model for NoteFields {
 
 impl NoteFields {
     /// p1, p2 and p3, and what follows.
-    pub fn new(p1: Num, p2: Num, p3: Num, more: SharedNums) -> NoteFields
+    pub fn new(p1: Num, p2: Num, p3: Num, more: NoteValues) -> NoteFields
         ensures { result ≡ p1 ∷ p2 ∷ p3 ∷ more }
     {
         NoteFields { p1, p2, p3, more }
@@ -35,12 +35,11 @@ impl NoteFields {
     pub fn to_nums(&self, alloc: Global) -> Result<Nums, AllocError>
         ensures { IfOk result (λ nums. nums ≡ self.now) }
     {
-        let more = self.more.as_slice();
-        let mut nums = Vec::with_capacity(alloc, more.len() + 3)?;
+        let mut nums = Vec::with_capacity(alloc, 3)?;
         nums.push(self.p1)?;
         nums.push(self.p2)?;
         nums.push(self.p3)?;
-        nums.extend_from_slice(more)?;
+        self.more.append_to(&mut nums)?;
         Ok(Nums::from_vec(nums))
     }
 }

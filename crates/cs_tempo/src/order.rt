@@ -1,6 +1,5 @@
 // The order in which a section's tables, notes and stops are taken.
-ghost use Rattle.std.specs.Prelude.{◌≡◌, ◌<◌, ◌+◌, length, map, IfOk, OnOk, Option, Some, None, ◌++◌};
-ghost use Rattle.std.specs.Prelude.{if◌then◌else◌};
+ghost use Rattle.std.specs.Prelude.{◌≡◌, ◌<◌, ◌+◌, length, map, IfOk, OnOk, Option, Some, None, ◌++◌, if◌then◌else◌};
 ghost use Rattle.std.specs.List.{All};
 ghost use Rattle.cs_score.specs.Ranges.{IsInRange, HasRange};
 ghost use Rattle.cs_tempo.specs.Order.{has_turn, in_order};

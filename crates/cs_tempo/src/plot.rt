@@ -1,7 +1,6 @@
 // What the plot of a piece consists of.
 use crate::fields::NoteFields;
-use cs_base::Items;
-use cs_score::SharedNums;
+use cs_base::{Items, Nums};
 
 /// What an event does.
 #[derive(Drop)]
@@ -19,7 +18,7 @@ pub enum EventAct {
         number: u32,
         size: i64,
         gen_: i64,
-        args: SharedNums,
+        args: Nums,
     },
 }
 

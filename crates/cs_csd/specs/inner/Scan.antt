@@ -1,19 +1,14 @@
 -- A file line by line: where one stands after each.
 use Rattle.std.specs.Prelude.{ℕ, List, [], ◌∷◌, ◌+◌, length, Option, Some, None, unwrap_or, Result, Ok, Err}
 use Rattle.std.specs.Prelude.{if◌then◌else◌}
-use Rattle.cs_csd.specs.declared.line.LineMark.{LineMark}
-use Rattle.cs_csd.specs.declared.line.LineMark.TheVariants as mark
-use Rattle.cs_csd.specs.declared.line.Section.{Section}
-use Rattle.cs_base.specs.declared.fault.CsdFault.{CsdFault}
-use Rattle.cs_base.specs.declared.fault.CsdKind.TheVariants as kind
-use Rattle.cs_csd.specs.declared.part.Part.{Part}
-use Rattle.cs_csd.specs.declared.part.Parts.{Parts}
-use Rattle.cs_csd.specs.declared.scan.SectionsFound.{SectionsFound}
-use Rattle.cs_csd.specs.declared.scan.ScanState.{ScanState}
-use Rattle.cs_csd.specs.declared.scan.ScanState.TheVariants as state
-use Rattle.cs_base.specs.Lines.{Line}
-use Rattle.cs_csd.specs.Lines.{mark_of, closes, is_start}
+use Rattle.cs_csd.specs.{declared.line.LineMark.LineMark, declared.line.Section.Section, declared.part.Part.Part}
+use Rattle.cs_csd.specs.{declared.part.Parts.Parts, declared.scan.SectionsFound.SectionsFound}
+use Rattle.cs_csd.specs.{declared.scan.ScanState.ScanState, Lines.mark_of, Lines.closes, Lines.is_start}
+use Rattle.cs_base.specs.{declared.fault.CsdFault.CsdFault, Lines.Line}
 use Rattle.cs_csd.specs.Sections.{fault, no_text, nothing_found, stood, with_section}
+use Rattle.cs_csd.specs.declared.line.LineMark.TheVariants as mark
+use Rattle.cs_base.specs.declared.fault.CsdKind.TheVariants as kind
+use Rattle.cs_csd.specs.declared.scan.ScanState.TheVariants as state
 
 -- a section is opened, whose text begins at a place, in the line after this one
 abbrev pub opened : Section → ℕ → ℕ → SectionsFound → Result ScanState CsdFault

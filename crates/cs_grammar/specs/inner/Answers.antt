@@ -1,27 +1,19 @@
 -- What calls of the parser return, as readings.
 use Rattle.std.specs.Prelude.{ℕ, List, [], ◌++◌, ◌≡◌, Result, Ok, Err, if◌then◌else◌, map}
-use Rattle.cs_base.specs.declared.fault.Or.{Or}
-use Rattle.cs_base.specs.declared.fault.Or.TheVariants as or
-use Rattle.cs_base.specs.declared.fault.OrcFault.{OrcFault}
-use Rattle.cs_base.specs.declared.fault.OrcKind.TheVariants as orc
-use Rattle.cs_base.specs.declared.resource.Rate.{Rate}
-use Rattle.cs_grammar.specs.declared.symbol.Kind.{Kind}
-use Rattle.cs_grammar.specs.declared.symbol.Kind.TheVariants as kind
-use Rattle.cs_grammar.specs.declared.symbol.Expected.{Expected}
-use Rattle.cs_grammar.specs.declared.symbol.Expected.TheVariants as expected
-use Rattle.cs_grammar.specs.declared.expr.Level.TheVariants as level
-use Rattle.cs_grammar.specs.declared.tree.StmtWhat.{StmtWhat}
-use Rattle.cs_grammar.specs.declared.definition.Inside.{Inside}
-use Rattle.cs_grammar.specs.declared.orc.Draft.{Draft}
+use Rattle.cs_base.specs.{declared.fault.Or.Or, declared.fault.OrcFault.OrcFault, declared.resource.Rate.Rate}
+use Rattle.cs_grammar.specs.{declared.symbol.Kind.Kind, declared.symbol.Expected.Expected}
+use Rattle.cs_grammar.specs.{declared.tree.StmtWhat.StmtWhat, declared.definition.Inside.Inside}
+use Rattle.cs_grammar.specs.{declared.orc.Draft.Draft, Tree.orchestra, Headings.Heading, Headings.types}
+use Rattle.cs_grammar.specs.{inner.Takes.inputs, Symbols.Symbol, Reading.Scope, Reading.outside, Reading.misfit}
 use Rattle.cs_grammar.specs.Tree.{Expression, of_what, Argument, argument, Block, block, joins, Definition, Orchestra}
-use Rattle.cs_grammar.specs.Tree.{orchestra}
-use Rattle.cs_grammar.specs.Headings.{Heading, types}
-use Rattle.cs_grammar.specs.inner.Takes.{inputs}
 use Rattle.cs_grammar.specs.Grammar.{ReadsExpr, ReadsStmt, ReadsBlock}
 use Rattle.cs_grammar.specs.Orchestra.{ReadsOrc, ReadsResult, behind_xout, definition_of}
-use Rattle.cs_grammar.specs.Symbols.{Symbol}
 use Rattle.cs_grammar.specs.Reading.{next, after, Left, Reading, left, both, three, mapped, next_is, through, ended}
-use Rattle.cs_grammar.specs.Reading.{Scope, outside, misfit}
+use Rattle.cs_base.specs.declared.fault.Or.TheVariants as or
+use Rattle.cs_base.specs.declared.fault.OrcKind.TheVariants as orc
+use Rattle.cs_grammar.specs.declared.symbol.Kind.TheVariants as kind
+use Rattle.cs_grammar.specs.declared.symbol.Expected.TheVariants as expected
+use Rattle.cs_grammar.specs.declared.expr.Level.TheVariants as level
 
 -- What a call of the parser returns: a reading of the given kind, which leaves what is left then. Out of memory says
 -- nothing.

@@ -1,9 +1,7 @@
 -- What the parser knows of the place that it has reached.
 use Rattle.std.specs.Prelude.{ℕ, List, [], ◌∷◌, ◌+◌, ◌<◌, ◌≤◌, ◌≡◌, ◌^◌, length}
 use Rattle.cs_lex.specs.declared.token.Token.{Token}
-use Rattle.cs_grammar.specs.declared.symbol.Kind.{Kind}
-use Rattle.cs_grammar.specs.Reading.{next, after}
-use Rattle.cs_grammar.specs.Symbols.{symbols_from}
+use Rattle.cs_grammar.specs.{declared.symbol.Kind.Kind, Reading.next, Reading.after, Symbols.symbols_from}
 
 -- the bytes of each token stand in a text of this length
 abbrev pub Spanned : ℕ → List Token → Type 0

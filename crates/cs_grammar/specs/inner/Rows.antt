@@ -1,35 +1,32 @@
 -- Lists of words and numbers, as the parser goes along them.
 use Rattle.std.specs.Prelude.{ℕ, List, [], ◌∷◌, ◌++◌, Ok, Err, if◌then◌else◌}
+use Rattle.cs_grammar.specs.{declared.lists.Role.Role, Symbols.Symbol, Tree.Argument, Tree.text, Kinds.is}
+use Rattle.cs_grammar.specs.Reading.{next, after, Reading, mapped, Scope, fault}
+use Rattle.cs_grammar.specs.Lines.{one_number, one_target}
 use Rattle.cs_base.specs.declared.fault.OrcKind.TheVariants as orc
 use Rattle.cs_grammar.specs.declared.symbol.Expected.TheVariants as expected
-use Rattle.cs_grammar.specs.declared.lists.Role.{Role}
 use Rattle.cs_grammar.specs.declared.lists.Role.TheVariants as role
-use Rattle.cs_grammar.specs.Symbols.{Symbol}
-use Rattle.cs_grammar.specs.Tree.{Argument, text}
-use Rattle.cs_grammar.specs.Kinds.{is}
-use Rattle.cs_grammar.specs.Reading.{next, after, Reading, mapped, both, Scope, fault, misfit}
-use Rattle.cs_grammar.specs.Lines.{target, one_number}
 
--- the variables that take the results of a call, one after the other
+-- an item, and more of them
+abbrev pub behind : {A : Type 0} → Reading A → (A → Reading (List A)) → Reading (List A)
+behind (Ok (x, ts)) more = mapped (λ xs. x ∷ xs) (more x)
+behind (Err f) more = Err f
+
+-- items with commas between them, each read after those before it
+abbrev pub row : {A : Type 0} → (List A → List Symbol → Reading A) → List A → List Symbol → Reading (List A)
+row one before [] = mapped (λ x. x ∷ []) (one before [])
+row one before (t ∷ []) = mapped (λ x. x ∷ []) (one before (t ∷ []))
+row one before (t ∷ c ∷ us) =
+    if is expected.Comma c.kind then behind (one before (t ∷ c ∷ us)) (λ x. row one (before ++ x ∷ []) us)
+    else mapped (λ x. x ∷ []) (one before (t ∷ c ∷ us))
+
+-- the variables that take the results of a call
 abbrev pub targets : Scope → List Symbol → Reading (List (List ℕ))
-targets s [] = Err (misfit s orc.Unexpected [])
-targets s (t ∷ []) = mapped (λ n. n ∷ []) (target s (t ∷ []))
-targets s (t ∷ c ∷ us) =
-    if is expected.Comma c.kind then both ◌∷◌ (target s (t ∷ c ∷ us)) (targets s us)
-    else mapped (λ n. n ∷ []) (target s (t ∷ c ∷ us))
+targets s ts = row (one_target s) [] ts
 
--- the numbers of an instrument; the number before is given for the next
-abbrev pub numbers_behind : Reading ℕ → (ℕ → Reading (List ℕ)) → Reading (List ℕ)
-numbers_behind (Ok (n, ts)) more = mapped (λ ns. n ∷ ns) (more n)
-numbers_behind (Err f) more = Err f
-
+-- the numbers of an instrument; those before are given for the next
 abbrev pub numbers : Scope → List ℕ → List Symbol → Reading (List ℕ)
-numbers s given [] = Err (misfit s orc.Unexpected [])
-numbers s given (t ∷ []) = mapped (λ n. n ∷ []) (one_number s given (t ∷ []))
-numbers s given (t ∷ c ∷ us) =
-    if is expected.Comma c.kind
-    then numbers_behind (one_number s given (t ∷ c ∷ us)) (λ n. numbers s (given ++ n ∷ []) us)
-    else mapped (λ n. n ∷ []) (one_number s given (t ∷ c ∷ us))
+numbers s given ts = row (one_number s) given ts
 
 -- a text as an argument, or in place of a result
 abbrev pub quoted : Role → List Symbol → Reading Argument

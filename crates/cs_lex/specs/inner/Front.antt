@@ -2,24 +2,16 @@
 -- reads as.
 use Rattle.std.specs.Prelude.{ℕ, Bool, List, [], ◌∷◌, ◌+◌, ◌&&◌, ◌==◌, not, length, take, drop, slice_index, nat_lt}
 use Rattle.std.specs.Prelude.{codes, Option, Some, None, Result, Ok, Err, if◌then◌else◌}
-use Rattle.std.specs.List.{list_all, prefix_len}
-use Rattle.std.specs.Char.{is_ascii_digit}
-use Rattle.cs_base.specs.Decimals.{decimal_of, raw_of_decimal}
-use Rattle.cs_base.specs.Numbers.{clamp}
-use Rattle.cs_base.specs.declared.fault.OrcKind.{OrcKind}
-use Rattle.cs_base.specs.declared.fault.OrcKind.TheVariants as orc
-use Rattle.cs_base.specs.declared.decimal.Decimal.{Decimal}
-use Rattle.cs_lex.specs.declared.token.Mark.{Mark}
-use Rattle.cs_lex.specs.declared.token.Mark.TheVariants as mark
-use Rattle.cs_lex.specs.declared.token.Token.{Token}
-use Rattle.cs_lex.specs.Lexed.{is_newline_mark}
-use Rattle.cs_lex.specs.declared.front.Front.{Front}
-use Rattle.cs_lex.specs.declared.class.Class.{Class}
-use Rattle.cs_lex.specs.declared.class.Class.TheVariants as class
-use Rattle.std.specs.Str.{byte}
-use Rattle.cs_base.specs.Comments.{begins_comment, is_open_comment, comment_len}
-use Rattle.cs_base.specs.Lines.{is_blank, is_feed, begins, begins_with}
+use Rattle.std.specs.{List.list_all, List.prefix_len, Char.is_ascii_digit, Str.byte}
+use Rattle.cs_base.specs.{Decimals.decimal_of, Decimals.raw_of_decimal, Numbers.clamp, declared.fault.OrcKind.OrcKind}
+use Rattle.cs_base.specs.{declared.decimal.Decimal.Decimal, Comments.begins_comment, Comments.is_open_comment}
+use Rattle.cs_base.specs.{Comments.comment_len, Lines.is_blank, Lines.is_feed, Lines.begins, Lines.begins_with}
+use Rattle.cs_lex.specs.{declared.token.Mark.Mark, declared.token.Token.Token, Lexed.is_newline_mark}
+use Rattle.cs_lex.specs.{declared.front.Front.Front, declared.class.Class.Class}
 use Rattle.cs_lex.specs.Bytes.{is_quote, is_letter, is_word_byte, is_allowed, is_quotable, is_short_sign, is_long_sign}
+use Rattle.cs_base.specs.declared.fault.OrcKind.TheVariants as orc
+use Rattle.cs_lex.specs.declared.token.Mark.TheVariants as mark
+use Rattle.cs_lex.specs.declared.class.Class.TheVariants as class
 
 -- what a first byte may begin
 abbrev pub class_of : ℕ → Class

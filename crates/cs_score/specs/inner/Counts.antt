@@ -1,15 +1,12 @@
 -- What is counted of the statements of a score so far, and which of them are kept.
 use Rattle.std.specs.Prelude.{◌≡◌, ℕ, ◌≤◌, ◌==◌, length, count_by, List, [], None, Ok}
 use Rattle.std.specs.List.{list_any}
-use Rattle.cs_base.specs.Limits.{most_events}
-use Rattle.cs_base.specs.Lines.{Excerpt}
-use Rattle.cs_base.specs.declared.limit.Limit.TheVariants as limit
-use Rattle.cs_score.specs.declared.kept.TableNumbers.{TableNumbers}
-use Rattle.cs_score.specs.declared.kept.EventCount.{EventCount}
+use Rattle.cs_base.specs.{Limits.most_events, Lines.Excerpt}
+use Rattle.cs_score.specs.{declared.kept.TableNumbers.TableNumbers, declared.kept.EventCount.EventCount}
+use Rattle.cs_score.specs.{declared.statement.ScoreStmt.ScoreStmt, Statements.score_of}
 use Rattle.cs_score.specs.declared.kept.KeptStatements.{KeptStatements}
-use Rattle.cs_score.specs.declared.statement.ScoreStmt.{ScoreStmt}
-use Rattle.cs_score.specs.Statements.{score_of}
 use Rattle.cs_score.specs.Limits.{at_statement, counts, different, first_at, numbers_of, passes_events, passes_tables}
+use Rattle.cs_base.specs.declared.limit.Limit.TheVariants as limit
 
 -- the numbers seen so far: those of a list, each once
 pub record IsSeen (seen numbers : List ℕ) : Type 0 where

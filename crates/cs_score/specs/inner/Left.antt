@@ -1,8 +1,7 @@
 -- The statements that are left of a text from a place on.
 use Rattle.std.specs.Prelude.{ℕ, drop, List}
 use Rattle.cs_base.specs.Lines.{Excerpt, lines_from}
-use Rattle.cs_score.specs.declared.row.Row.{Row}
-use Rattle.cs_score.specs.Rows.{rows_in}
+use Rattle.cs_score.specs.{declared.row.Row.Row, Rows.rows_in}
 
 -- the rows of the lines from a place on; `plain` is the text without its comments
 abbrev pub rows_from : Excerpt → List ℕ → ℕ → List Row

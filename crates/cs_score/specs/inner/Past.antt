@@ -1,29 +1,19 @@
 -- What the code keeps of all rows that it has read, and how one row more changes that.
-use Rattle.std.specs.Prelude.{◌≡◌, ℕ, ℤ, Bool, false, List, ◌++◌, Option, Some, None, Result, Ok, Err, nat_eq}
-use Rattle.std.specs.Prelude.{true, if◌then◌else◌}
-use Rattle.std.specs.HashMap.{get}
-use Rattle.std.specs.Option.{option_or, option_to_list}
-use Rattle.cs_base.specs.declared.fault.ScoreFault.{ScoreFault}
-use Rattle.cs_base.specs.declared.fault.ScoreKind.{ScoreKind}
+use Rattle.std.specs.Prelude.{◌≡◌, ℕ, ℤ, Bool, false, List, ◌++◌, Option, Some, None, Result, Ok, Err, nat_eq, true}
+use Rattle.std.specs.{Prelude.if◌then◌else◌, HashMap.get, Option.option_or, Option.option_to_list}
+use Rattle.cs_base.specs.{declared.fault.ScoreFault.ScoreFault, declared.fault.ScoreKind.ScoreKind}
 use Rattle.cs_base.specs.declared.fault.ScoreKind.TheVariants.{NothingToCarry}
-use Rattle.cs_score.specs.declared.field.Field.{Field}
-use Rattle.cs_score.specs.declared.kept.KeptStatements.{KeptStatements}
-use Rattle.cs_score.specs.declared.last.LastNote.{LastNote}
-use Rattle.cs_score.specs.declared.past.Past.{Past}
+use Rattle.cs_score.specs.{declared.field.Field.Field, declared.kept.KeptStatements.KeptStatements}
+use Rattle.cs_score.specs.{declared.last.LastNote.LastNote, declared.past.Past.Past}
+use Rattle.cs_score.specs.{declared.row.StatementLetter.StatementLetter, declared.row.Row.Row}
+use Rattle.cs_score.specs.{declared.statement.ScoreWhat.ScoreWhat, declared.statement.ScoreStmt.ScoreStmt}
+use Rattle.cs_score.specs.{Carry.and_then, Carry.fields, Carry.is_note, Carry.p1, Notes.gap, Notes.p2, Notes.ok_or_zero}
+use Rattle.cs_score.specs.{Ranges.HasRange, Statements.unless, Statements.written_table, inner.Counts.Holds}
 use Rattle.cs_score.specs.declared.statement_fault.StatementFault.{StatementFault}
-use Rattle.cs_score.specs.declared.statement_fault.StatementFault.TheVariants as fault
-use Rattle.cs_score.specs.declared.row.StatementLetter.{StatementLetter}
-use Rattle.cs_score.specs.declared.row.StatementLetter.TheVariants as letter
-use Rattle.cs_score.specs.declared.row.Row.{Row}
-use Rattle.cs_score.specs.declared.statement.ScoreWhat.{ScoreWhat}
-use Rattle.cs_score.specs.declared.statement.ScoreStmt.{ScoreStmt}
-use Rattle.cs_score.specs.Carry.{and_then, fields, is_note, p1}
-use Rattle.cs_score.specs.Notes.{gap, p2, ok_or_zero}
-use Rattle.cs_score.specs.Ranges.{HasRange}
-use Rattle.cs_score.specs.Statements.{asked_of, at_line, base_after, base_of, first_size, is_end, refusal_of}
-use Rattle.cs_score.specs.Statements.{size_in, unless, written_table}
-use Rattle.cs_score.specs.inner.Counts.{Holds}
+use Rattle.cs_score.specs.Statements.{asked_of, at_line, base_after, base_of, first_size, is_end, refusal_of, size_in}
 use Rattle.cs_score.specs.inner.State.{IsKept, note_read, p1_before}
+use Rattle.cs_score.specs.declared.statement_fault.StatementFault.TheVariants as fault
+use Rattle.cs_score.specs.declared.row.StatementLetter.TheVariants as letter
 
 -- a list of at most one thing, answered as one thing or none
 abbrev pub AskedAnswers : Result (Option ScoreWhat) StatementFault → Result (List ScoreWhat) ScoreKind → Type 0

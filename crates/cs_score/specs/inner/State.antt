@@ -1,22 +1,16 @@
 -- What the code keeps of the rows that it has read.
 use Rattle.std.specs.Prelude.{◌≡◌, ◌+◌, ◌<◌, ℕ, Bool, false, List, [], ◌∷◌, Option, Some, None, Result, Ok, Err}
 use Rattle.std.specs.Prelude.{slice_get, IsSome, if◌then◌else◌}
-use Rattle.cs_base.specs.declared.fault.ScoreKind.{ScoreKind}
-use Rattle.cs_base.specs.declared.fault.ScoreKind.TheVariants.{NothingToCarry}
-use Rattle.cs_score.specs.declared.last.LastNote.{LastNote}
-use Rattle.cs_score.specs.declared.last.NoteRead.{NoteRead}
+use Rattle.cs_base.specs.{declared.fault.ScoreKind.ScoreKind, declared.fault.ScoreKind.TheVariants.NothingToCarry}
+use Rattle.cs_score.specs.{declared.last.LastNote.LastNote, declared.last.NoteRead.NoteRead}
+use Rattle.cs_score.specs.{declared.field.Signed.Signed, declared.field.Field.Field}
+use Rattle.cs_score.specs.{declared.field.Field.TheVariants.Same, declared.statement.ScoreWhat.ScoreWhat}
+use Rattle.cs_score.specs.{Fields.size_of, Carry.and_then, Carry.is_same, Carry.p1_by, Notes.gap_by, Notes.note_of}
+use Rattle.cs_score.specs.{Notes.p2_by, Ranges.beats_end, Ranges.IsTableNumber}
 use Rattle.cs_score.specs.declared.field.InstrumentNumber.{InstrumentNumber}
-use Rattle.cs_score.specs.declared.field.Signed.{Signed}
-use Rattle.cs_score.specs.declared.field.Field.{Field}
-use Rattle.cs_score.specs.declared.field.Field.TheVariants.{Same}
 use Rattle.cs_score.specs.declared.statement_fault.StatementFault.{StatementFault}
-use Rattle.cs_score.specs.declared.statement_fault.StatementFault.TheVariants as fault
-use Rattle.cs_score.specs.declared.statement.ScoreWhat.{ScoreWhat}
 use Rattle.cs_score.specs.declared.statement.ScoreWhat.TheVariants.{Table, Extend}
-use Rattle.cs_score.specs.Fields.{size_of}
-use Rattle.cs_score.specs.Carry.{and_then, is_same, p1_by}
-use Rattle.cs_score.specs.Notes.{gap_by, note_of, p2_by}
-use Rattle.cs_score.specs.Ranges.{beats_end, IsTableNumber}
+use Rattle.cs_score.specs.declared.statement_fault.StatementFault.TheVariants as fault
 
 -- an answer of the code is what a definition says; out of memory may come in its place
 abbrev pub Answers : {A : Type 0} → Result A StatementFault → Result A ScoreKind → Type 0

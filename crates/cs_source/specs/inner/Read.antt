@@ -1,17 +1,15 @@
 -- What was read of a source, and what it means.
 use Rattle.std.specs.Prelude.{◌≡◌, ◌+◌, List, length, nat_lt, take, Option, Result, ⊤}
 use Rattle.cs_base.specs.Limits.{most_csd_bytes, most_orchestra_bytes, most_score_bytes}
-use Rattle.cs_base.specs.declared.fault.Or.{Or}
-use Rattle.cs_base.specs.declared.fault.Or.TheVariants as or
+use Rattle.cs_base.specs.{declared.fault.Or.Or, declared.refusal.Refusal.Refusal}
 use Rattle.cs_base.specs.declared.width.SampleWidth.{SampleWidth}
 use Rattle.cs_piece_meaning.specs.Moments.{Composition}
-use Rattle.cs_source.specs.DemoTexts as demo_texts
 use Rattle.cs_edge.specs.declared.files.NamedBytes.{NamedBytes}
 use Rattle.cs_arguments.specs.Reading.{AskedPiece}
-use Rattle.cs_source.specs.Meaning.{FileMeans, FilesMean}
+use Rattle.cs_source.specs.{Meaning.FileMeans, Meaning.FilesMean, declared.source.SourceText.SourceText}
 use Rattle.cs_source.specs.Texts.{Texts, both, csd, demo_notes, Fit, HaveWhereTold}
-use Rattle.cs_base.specs.declared.refusal.Refusal.{Refusal}
-use Rattle.cs_source.specs.declared.source.SourceText.{SourceText}
+use Rattle.cs_base.specs.declared.fault.Or.TheVariants as or
+use Rattle.cs_source.specs.DemoTexts as demo_texts
 use Rattle.cs_source.specs.declared.source.SourceText.TheVariants as read
 
 -- a fault of which P holds, or out of memory

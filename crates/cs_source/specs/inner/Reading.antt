@@ -1,10 +1,7 @@
 -- A text of a shelf, read to its end or as far as it may be read.
 use Rattle.std.specs.Prelude.{ℕ, ◌≡◌, ◌≤◌, nat_lt, Bool, List, ◌++◌, length, take, drop, Option, None, Some, ⊤}
-use Rattle.cs_edge.specs.declared.files.NamedBytes.{NamedBytes}
-use Rattle.cs_edge.specs.declared.moves.Move.TheVariants.{Read}
-use Rattle.cs_edge.specs.Told.{Follows}
-use Rattle.cs_edge.specs.Moves.{Grown, GrownBy, AreAll}
-use Rattle.cs_edge.specs.Files.{ShelfTold, TakesFront, file_named}
+use Rattle.cs_edge.specs.{declared.files.NamedBytes.NamedBytes, declared.moves.Move.TheVariants.Read, Told.Follows}
+use Rattle.cs_edge.specs.{Moves.Grown, Moves.GrownBy, Moves.AreAll, Files.ShelfTold, Files.TakesFront, Files.file_named}
 
 -- what has been read stands at the front of what was left, where that is told
 abbrev pub ReadSoFar : Option (List ℕ) → Option (List ℕ) → List ℕ → Type 0

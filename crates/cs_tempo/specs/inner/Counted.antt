@@ -1,8 +1,7 @@
 -- Which stop ends which held note, counted out: stops and held notes of one instrument are paired in their order.
 use Rattle.std.specs.Prelude.{ℕ, ◌+◌, ◌-◌, ◌==◌, List, [], ◌∷◌, ◌++◌, Option, slice_get, if◌then◌else◌}
-use Rattle.cs_score.specs.declared.statement.ScoreWhat.{ScoreWhat}
+use Rattle.cs_score.specs.{declared.statement.ScoreWhat.ScoreWhat, declared.statement.ScoreStmt.ScoreStmt}
 use Rattle.cs_score.specs.declared.statement.ScoreWhat.TheVariants.{Hold, Stop}
-use Rattle.cs_score.specs.declared.statement.ScoreStmt.{ScoreStmt}
 
 -- how many held notes of an instrument sound after one more turn: a held note sounds, and a stop ends
 -- one if any sounds

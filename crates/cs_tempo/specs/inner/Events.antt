@@ -1,12 +1,8 @@
 -- What the walk along a section's turns rests on.
 use Rattle.std.specs.Prelude.{◌≡◌, ℕ, ◌<◌, ◌≤◌, List, [], ◌∷◌, Option, Some, None, true}
-use Rattle.cs_score.specs.Ranges.{beats_end, HasRange}
-use Rattle.cs_score.specs.declared.statement.ScoreStmt.{ScoreStmt}
-use Rattle.cs_tempo.specs.declared.plot.EventAct.{EventAct}
-use Rattle.cs_tempo.specs.inner.Clock.{Pace}
+use Rattle.cs_score.specs.{Ranges.beats_end, Ranges.HasRange, declared.statement.ScoreStmt.ScoreStmt}
+use Rattle.cs_tempo.specs.{declared.plot.EventAct.EventAct, inner.Clock.Pace, Order.has_turn, Plot.SectionSetting}
 use Rattle.cs_tempo.specs.Sections.{cycle_at, reach_of}
-use Rattle.cs_tempo.specs.Order.{has_turn}
-use Rattle.cs_tempo.specs.Plot.{SectionSetting}
 
 abbrev pub in_section : Pace → ℕ → ℕ → SectionSetting
 in_section pace offset cycles =

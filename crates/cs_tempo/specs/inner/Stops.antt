@@ -1,13 +1,10 @@
 -- Each instrument of a section by its stops to come.
 use Rattle.std.specs.Prelude.{◌≡◌, ℕ, nat_eq, List, [], Option, Some, None, slice_get}
-use Rattle.std.specs.declared.hash.FoldHasher.{FoldHasher}
+use Rattle.std.specs.{declared.hash.FoldHasher.FoldHasher, HashMap.get, HashMap.HashMap}
 use Rattle.std.specs.declared.hash.BuildHasherDefault.{BuildHasherDefault}
-use Rattle.std.specs.HashMap.{get, HashMap}
-use Rattle.cs_score.specs.declared.statement.ScoreWhat.{ScoreWhat}
+use Rattle.cs_score.specs.{declared.statement.ScoreWhat.ScoreWhat, declared.statement.ScoreStmt.ScoreStmt}
 use Rattle.cs_score.specs.declared.statement.ScoreWhat.TheVariants.{Hold}
-use Rattle.cs_score.specs.declared.statement.ScoreStmt.{ScoreStmt}
-use Rattle.cs_tempo.specs.inner.Counted.{sounding, stops_of}
-use Rattle.cs_tempo.specs.inner.Queue.{Queue}
+use Rattle.cs_tempo.specs.{inner.Counted.sounding, inner.Counted.stops_of, inner.Queue.Queue}
 
 abbrev pub Queues : Type 0
 Queues = HashMap ℕ Queue (BuildHasherDefault FoldHasher)

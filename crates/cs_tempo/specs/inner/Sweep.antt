@@ -1,8 +1,7 @@
 -- The way through the events by which active notes are counted.
 use Rattle.std.specs.Prelude.{ℕ, ◌+◌, ◌<◌, ◌≤◌, ◌==◌, Bool, not, List, [], ◌∷◌, ◌++◌, length, slice_index}
 use Rattle.std.specs.Prelude.{if◌then◌else◌}
-use Rattle.cs_tempo.specs.declared.plot.Event.{Event}
-use Rattle.cs_tempo.specs.Limits.{cycles_in}
+use Rattle.cs_tempo.specs.{declared.plot.Event.Event, Limits.cycles_in}
 
 -- whether an event starts a note that lasts
 abbrev pub is_note : Event → Bool

@@ -2,10 +2,8 @@
 use Rattle.std.specs.Prelude.{ℕ, ◌+◌, List, [], ◌∷◌, ◌++◌, if◌then◌else◌}
 use Rattle.std.specs.Ordering.{nat_cmp, int_cmp, ordering_then, is_lt}
 use Rattle.std.specs.declared.cmp.Ordering.{Ordering}
-use Rattle.cs_score.specs.declared.statement.ScoreWhat.{ScoreWhat}
-use Rattle.cs_score.specs.declared.statement.ScoreStmt.{ScoreStmt}
-use Rattle.cs_tempo.specs.declared.order.SortKey.{SortKey}
-use Rattle.cs_tempo.specs.Order.{has_turn, beat_of, p1_of, p3_of}
+use Rattle.cs_score.specs.{declared.statement.ScoreWhat.ScoreWhat, declared.statement.ScoreStmt.ScoreStmt}
+use Rattle.cs_tempo.specs.{declared.order.SortKey.SortKey, Order.has_turn, Order.beat_of, Order.p1_of, Order.p3_of}
 
 -- the turn of the statement at an index of its section
 abbrev pub turn_of : ℕ → ScoreWhat → SortKey

@@ -1,8 +1,7 @@
 use Rattle.std.proofs.Common.{◌≡◌, None, refl}
 use Rattle.std.proofs.lemmas.List.Elements.{All-from_recursion}
-use Rattle.cs_arguments.specs.Reading.{after, said, reading}
+use Rattle.cs_arguments.specs.{Reading.after, Reading.said, Reading.reading, Worked.wrong_names}
 use Rattle.cs_arguments.specs.Worked.{empty_names, no_numbers, no_options, twice, unwanted_values, without_value}
-use Rattle.cs_arguments.specs.Worked.{wrong_names}
 use Rattle.cs_arguments.proofs.worked.words_without_a_reading.Goals as goal
 
 pub returns-clause-numbers : goal.returns-clause-numbers

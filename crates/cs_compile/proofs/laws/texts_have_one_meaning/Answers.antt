@@ -1,8 +1,6 @@
 use Rattle.cs_lex.specs.Lexed.{LexFault, Lexed}
 use Rattle.cs_grammar.specs.Orchestra.{ParseFault, Tree}
-use Rattle.cs_compile.proofs.Once.{means_one, read_one}
-use Rattle.cs_compile.proofs.Pieces.{head_is_there}
-use Rattle.cs_compile.proofs.Some.{means_some, read_some}
+use Rattle.cs_compile.proofs.{Once.means_one, Once.read_one, Pieces.head_is_there, Some.means_some, Some.read_some}
 use Rattle.cs_compile.proofs.laws.texts_have_one_meaning.Goals as goal
 
 pub returns-clause-some : goal.returns-clause-some

@@ -1,9 +1,8 @@
 use Rattle.std.proofs.Common.{Ok, Err, ap}
+use Rattle.cs_compile.specs.Meaning.{HasTokens, HasTree, IsReadAs}
+use Rattle.cs_compile.proofs.{Chains.goes_on, Chains.refuses, Told.told}
 use Rattle.cs_base.specs.declared.refusal.Refusal.TheVariants as why
 use Rattle.cs_grammar.specs.Tree as tree
-use Rattle.cs_compile.specs.Meaning.{HasTokens, HasTree, IsReadAs}
-use Rattle.cs_compile.proofs.Chains.{goes_on, refuses}
-use Rattle.cs_compile.proofs.Told.{told}
 use Rattle.cs_compile.proofs.orchestra.read_tree.Goals as goal
 
 pub returns-in_err-tokens-clause-refused : goal.returns-in_err-tokens-clause-refused

@@ -1,15 +1,14 @@
 use Rattle.std.proofs.Common.{◌≡◌, eqb, Err, ap, sym, subst}
 use Rattle.std.specs.List.{IsDistinct}
-use Rattle.cs_base.specs.declared.refusal.Refusal.TheVariants as why
 use Rattle.cs_code.specs.Lowered.{all_numbers}
-use Rattle.cs_grammar.specs.Tree as tree
 use Rattle.cs_name_laws.specs.Names.{NamesWhatThereIs}
-use Rattle.cs_typed.specs.TypedTree as typed
 use Rattle.cs_typed.specs.WellRated.{IsWellRated}
 use Rattle.cs_udo.specs.Expanded.{expanded_orchestra}
 use Rattle.cs_compile.specs.Meaning.{typed_form}
-use Rattle.cs_compile.proofs.Parts.{mistyped, typed_as}
-use Rattle.cs_compile.proofs.Told.{told}
+use Rattle.cs_compile.proofs.{Parts.mistyped, Parts.typed_as, Told.told}
+use Rattle.cs_base.specs.declared.refusal.Refusal.TheVariants as why
+use Rattle.cs_grammar.specs.Tree as tree
+use Rattle.cs_typed.specs.TypedTree as typed
 use Rattle.cs_compile.proofs.orchestra.typed_form.Goals as goal
 
 pub returns-in_err-typed-clause-refused : goal.returns-in_err-typed-clause-refused

@@ -1,17 +1,13 @@
 use Rattle.std.proofs.Common.{◌≡◌, ap, eqb, Err, Ok, subst, sym, ◌∙◌}
 use Rattle.std.specs.List.{IsDistinct}
 use Rattle.cs_code.specs.Lowered.{all_numbers}
-use Rattle.cs_grammar.specs.Tree as tree
 use Rattle.cs_piece.specs.Setups.{AskForFew}
-use Rattle.cs_typed.specs.TypedTree as typed
 use Rattle.cs_typing.specs.Typing.{typed_of}
-use Rattle.cs_udo.specs.Expanded.{expanded_orchestra}
-use Rattle.cs_udo.specs.Expanding.{expanding}
-use Rattle.cs_compile.specs.Meaning.{IsTypedAs, typed_form}
-use Rattle.cs_compile.specs.Then.{Is}
-use Rattle.cs_compile.proofs.Chains.{goes_on}
-use Rattle.cs_compile.proofs.Few.{asks_few}
-use Rattle.cs_compile.proofs.Parts.{if_ok}
+use Rattle.cs_udo.specs.{Expanded.expanded_orchestra, Expanding.expanding}
+use Rattle.cs_compile.specs.{Meaning.IsTypedAs, Meaning.typed_form, Then.Is}
+use Rattle.cs_compile.proofs.{Chains.goes_on, Few.asks_few, Parts.if_ok}
+use Rattle.cs_grammar.specs.Tree as tree
+use Rattle.cs_typed.specs.TypedTree as typed
 use Rattle.cs_compile.proofs.orchestra.typed_tree.Goals as goal
 
 pub typed_form-requires-clause-distinct : goal.typed_form-requires-clause-distinct

@@ -1,16 +1,13 @@
 use Rattle.std.proofs.Common.{◌≡◌, ◌≤◌, ◌*◌, false, Ok, Err, sym, subst, ap, ◌∙◌}
-use Rattle.cs_base.specs.Limits.{most_wav_bytes}
-use Rattle.cs_base.specs.declared.refusal.Refusal.{Refusal}
-use Rattle.cs_base.specs.declared.refusal.Refusal.TheVariants as why
-use Rattle.cs_piece.specs.Compositions.{composition}
-use Rattle.cs_piece.specs.Setups.{SetupData, composition_of}
+use Rattle.cs_base.specs.{Limits.most_wav_bytes, declared.refusal.Refusal.Refusal}
+use Rattle.cs_piece.specs.{Compositions.composition, Setups.SetupData, Setups.composition_of}
 use Rattle.cs_tempo.specs.declared.plot.Plot.{Plot}
-use Rattle.cs_typed.specs.TypedTree as typed
 use Rattle.cs_typed.specs.declared.tree.TypedOrc.{TypedOrc}
 use Rattle.cs_wav.specs.Wav.{size_of}
 use Rattle.cs_compile.specs.Meaning.{piece_of}
-use Rattle.cs_compile.proofs.Parts.{if_ok}
-use Rattle.cs_compile.proofs.Told.{fits, limited, short, told, too_long}
+use Rattle.cs_compile.proofs.{Parts.if_ok, Told.fits, Told.limited, Told.short, Told.told, Told.too_long}
+use Rattle.cs_base.specs.declared.refusal.Refusal.TheVariants as why
+use Rattle.cs_typed.specs.TypedTree as typed
 use Rattle.cs_compile.proofs.piece.prepared.Goals as goal
 
 pub returns-in_err-setup-clause-refused : goal.returns-in_err-setup-clause-refused

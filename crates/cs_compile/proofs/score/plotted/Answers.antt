@@ -1,8 +1,7 @@
 use Rattle.std.proofs.Common.{◌≡◌, Err, ap}
-use Rattle.cs_base.specs.declared.refusal.Refusal.TheVariants as why
 use Rattle.cs_compile.specs.Meaning.{plotted}
-use Rattle.cs_compile.proofs.Parts.{not_plotted, plotted_as}
-use Rattle.cs_compile.proofs.Told.{told}
+use Rattle.cs_compile.proofs.{Parts.not_plotted, Parts.plotted_as, Told.told}
+use Rattle.cs_base.specs.declared.refusal.Refusal.TheVariants as why
 use Rattle.cs_compile.proofs.score.plotted.Goals as goal
 
 pub returns-in_err-plot-clause-refused : goal.returns-in_err-plot-clause-refused

@@ -1,8 +1,6 @@
 use Rattle.std.proofs.Common.{◌≡◌, Ok, Err, subst}
 use Rattle.cs_piece.specs.Setups.{AreOfOneSize}
-use Rattle.cs_tempo.specs.Limits.{limit_of}
-use Rattle.cs_tempo.specs.Plot.{plot_of}
-use Rattle.cs_tempo.specs.declared.plot.Plot.{Plot}
+use Rattle.cs_tempo.specs.{Limits.limit_of, Plot.plot_of, declared.plot.Plot.Plot}
 use Rattle.cs_compile.specs.Meaning.{plotted, score_means}
 use Rattle.cs_compile.proofs.Parts.{if_ok, is_value, left_with, score_plotted, score_refused_for}
 use Rattle.cs_compile.proofs.Sizes.{sizes_kept}

@@ -1,8 +1,8 @@
-use Rattle.std.proofs.Common.{◌-◌, ◌∙◌, ap, count_by, length, take}
-use Rattle.std.proofs.lemmas.List.{take_rest}
-use Rattle.cs_base.specs.Lines.{is_feed, line_after}
-use Rattle.cs_lex.specs.declared.token.Mark.TheVariants as mark
+use Rattle.std.proofs.Common.{arith, ◌-◌, ◌∙◌, ap, count_by}
+use Rattle.std.proofs.lemmas.{Grind.common_steps, List.take_rest}
+use Rattle.cs_base.specs.Lines.{is_feed}
 use Rattle.cs_lex.proofs.Reading.{last_line, made}
+use Rattle.cs_lex.specs.declared.token.Mark.TheVariants as mark
 use Rattle.cs_lex.proofs.lexer.end_of.Goals as goal
 
 pub overflow_sub-result : goal.overflow_sub-result
@@ -13,10 +13,4 @@ overflow_sub-result c =
     (c.feeds.ensures ∙ ap (count_by is_feed) (take_rest source k))).0
 
 pub returns : goal.returns
-returns c =
-    let source = c.args.source.now in
-    let k = c.saturating_sub.result in
-    let last = last_line k source c.args.line c.feeds.result c.requires.line
-    (c.feeds.ensures ∙ ap (count_by is_feed) (take_rest source k)) in
-    ap (made mark.End (length source) (length source))
-    (last.1 ∙ ap (λ n. line_after (c.args.line - count_by is_feed source) (take n source)) c.saturating_sub.ensures)
+returns c = grind (arith, common_steps, count_by, last_line, made, take_rest)

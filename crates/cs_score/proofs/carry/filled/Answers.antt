@@ -1,9 +1,7 @@
 use Rattle.std.proofs.Common.{◌≡◌, ◌<◌, ◌-◌, ◌++◌, min, length, take, drop, get_or, arith, ap, ◌∙◌, subst}
 use Rattle.std.proofs.lemmas.List.{get_or_default, take_rest, append_assoc}
-use Rattle.cs_score.specs.declared.field.Field.{Field}
-use Rattle.cs_score.specs.inner.State.{filled, filled_one}
-use Rattle.cs_score.proofs.Pairs.{empty}
-use Rattle.cs_score.proofs.Carried.{filled_more, filled_end, now_at}
+use Rattle.cs_score.specs.{declared.field.Field.Field, inner.State.filled, inner.State.filled_one}
+use Rattle.cs_score.proofs.{Pairs.empty, Carried.filled_more, Carried.filled_end, Carried.now_at}
 use Rattle.cs_score.proofs.carry.filled.Goals as goal
 
 pub loop-k-preserved : goal.loop-k-preserved

@@ -1,6 +1,5 @@
 use Rattle.std.proofs.Common.{◌≡◌, Ok, slice_get, sym, ap, ◌∙◌}
-use Rattle.cs_score.specs.Carry.{is_same}
-use Rattle.cs_score.specs.Notes.{p2_by}
+use Rattle.cs_score.specs.{Carry.is_same, Notes.p2_by}
 use Rattle.cs_score.specs.inner.State.{completed, continuing, fields_read, p1_before, p2_read}
 use Rattle.cs_score.proofs.Carried.{kept_is}
 use Rattle.cs_score.proofs.carry.note_with.Goals as goal

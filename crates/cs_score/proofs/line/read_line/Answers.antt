@@ -1,6 +1,5 @@
 use Rattle.std.proofs.Common.{◌-◌, drop, take, length, ap, ◌∙◌}
-use Rattle.std.specs.List.{prefix_len}
-use Rattle.std.specs.Option.{option_to_list}
+use Rattle.std.specs.{List.prefix_len, Option.option_to_list}
 use Rattle.std.proofs.lemmas.List.{take_rest}
 use Rattle.cs_base.specs.Lines.{is_blank, next_len}
 use Rattle.cs_score.specs.Rows.{row_at}

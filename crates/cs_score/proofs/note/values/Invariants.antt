@@ -1,6 +1,5 @@
 use Rattle.std.proofs.Common.{◌≡◌, ◌++◌, drop, length, Ok}
-use Rattle.cs_score.specs.Carry.{and_then}
-use Rattle.cs_score.specs.Notes.{values_of}
+use Rattle.cs_score.specs.{Carry.and_then, Notes.values_of}
 use Rattle.cs_score.proofs.note.values.Given as goal
 
 abbrev pub invariant-loop-field : goal.invariant-loop-field

@@ -1,10 +1,8 @@
 use Rattle.std.proofs.Common.{◌≡◌, ◌++◌, length, arith, ap, sym, ◌∙◌, subst, Err}
 use Rattle.std.specs.Option.{option_to_list}
-use Rattle.cs_score.proofs.Comments.{length-plain}
-use Rattle.cs_score.proofs.History.{nothing_kept}
-use Rattle.cs_score.specs.Plain.{plain_of}
-use Rattle.cs_score.specs.inner.Left.{rows_from}
-use Rattle.cs_score.proofs.Reading.{all_read, nothing_read, line_read, line_fault_read}
+use Rattle.cs_score.proofs.{Comments.length-plain, History.nothing_kept}
+use Rattle.cs_score.specs.{Plain.plain_of, inner.Left.rows_from}
+use Rattle.cs_score.proofs.Reading.{all_read, last_line_read, line_fault_read, line_read, nothing_read}
 use Rattle.cs_score.proofs.read.read_all.Goals as goal
 
 pub loop-at-init : goal.loop-at-init
@@ -51,3 +49,12 @@ pub returns-clause-whole : goal.returns-clause-whole
 returns-clause-whole c =
     all_read c.args.text.now c.in_ok-plain.plain.items c.loop-at.at c.loop-at.past c.loop-at.kept
     (omega (arith, c.len.ensures, c.in_ok-plain.plain.ok, c.loop-at-test.false)) c.loop-at.invariant.read
+
+pub returns-then-ends-clause-whole : goal.returns-then-ends-clause-whole
+returns-then-ends-clause-whole c =
+    let text = c.args.text.now in
+    let read = c.in_ok-read.read in
+    let rows = subst (λ t. rows_from text t c.loop-at.at ≡ option_to_list read.row ++ rows_from text t read.next)
+    c.deref.ensures.value c.in_ok-read.ensures.row in
+    last_line_read text c.in_ok-plain.plain.items c.loop-at.at read.next c.loop-at.past _ c.loop-at.kept _ read.row
+    c.in_ok-ends.ends rows c.in_ok-ends.ensures.read c.if-ends.true c.loop-at.invariant.read

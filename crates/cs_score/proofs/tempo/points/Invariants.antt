@@ -1,6 +1,5 @@
 use Rattle.std.proofs.Common.{◌≡◌, ◌-◌, ◌++◌, drop, length, Ok, None}
-use Rattle.cs_score.specs.Carry.{and_then}
-use Rattle.cs_score.specs.Statements.{points_of}
+use Rattle.cs_score.specs.{Carry.and_then, Statements.points_of}
 use Rattle.cs_score.proofs.tempo.points.Given as goal
 
 abbrev pub invariant-loop-at : goal.invariant-loop-at

@@ -1,5 +1,4 @@
-use Rattle.cs_source.proofs.Meanings.{mean_one}
-use Rattle.cs_source.proofs.Meant.{mean_head, mean_some}
+use Rattle.cs_source.proofs.{Meanings.mean_one, Meant.mean_head, Meant.mean_some}
 use Rattle.cs_source.proofs.laws.texts_of_a_source_mean_one.Goals as goal
 
 pub returns-clause-some : goal.returns-clause-some

@@ -1,9 +1,8 @@
 use Rattle.std.proofs.Common.{Err, ap, sym, subst, ◌∙◌}
 use Rattle.cs_base.specs.Lines.{whole_file}
 use Rattle.cs_source.proofs.Meanings.{means_as}
+use Rattle.cs_source.specs.{declared.source.SourceText.SourceText, inner.Read.MeansAsRead}
 use Rattle.cs_source.proofs.meaning.compile_source.Goals as goal
-use Rattle.cs_source.specs.declared.source.SourceText.{SourceText}
-use Rattle.cs_source.specs.inner.Read.{MeansAsRead}
 
 pub returns-in-Pair-clause-refused : goal.returns-in-Pair-clause-refused
 returns-in-Pair-clause-refused c =

@@ -1,6 +1,5 @@
 use Rattle.std.proofs.Common.{ap, sym, ◌∙◌}
-use Rattle.cs_arguments.specs.Orders.{piece_in}
-use Rattle.cs_arguments.specs.Reading.{one_file, two_files, demo}
+use Rattle.cs_arguments.specs.{Orders.piece_in, Reading.one_file, Reading.two_files, Reading.demo}
 use Rattle.cs_source.proofs.Loads.{left_as, notes_left, notes_read, read_as, was_read_as}
 use Rattle.cs_source.proofs.source.read_source.Goals as goal
 

@@ -1,8 +1,7 @@
 use Rattle.std.proofs.Common.{ℕ, ◌+◌, take, length, arith, ap, sym, ◌∙◌}
 use Rattle.std.specs.List.{count_by}
 use Rattle.cs_base.proofs.Tests.{is_below, isnt_below}
-use Rattle.cs_tempo.specs.Limits.{passes_notes, at_event, is_active}
-use Rattle.cs_tempo.specs.inner.Sweep.{is_note}
+use Rattle.cs_tempo.specs.{Limits.passes_notes, Limits.at_event, Limits.is_active, inner.Sweep.is_note}
 use Rattle.cs_tempo.proofs.Firsts.{first_here, first_on, first_none, count_more}
 use Rattle.cs_tempo.proofs.Sweeps.{counted_here, ended_later}
 use Rattle.cs_tempo.proofs.active.note_hit.Goals as goal

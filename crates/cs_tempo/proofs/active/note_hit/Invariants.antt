@@ -1,9 +1,7 @@
 use Rattle.std.proofs.Common.{◌≡◌, ℕ, ◌<◌, ◌≤◌, take, drop, [], length, get_or}
 use Rattle.std.specs.List.{count_by}
-use Rattle.cs_tempo.specs.declared.plot.Event.{Event}
+use Rattle.cs_tempo.specs.{declared.plot.Event.Event, Limits.passes_notes, inner.Sweep.is_note}
 use Rattle.cs_score.specs.Limits.{first_at}
-use Rattle.cs_tempo.specs.Limits.{passes_notes}
-use Rattle.cs_tempo.specs.inner.Sweep.{is_note}
 use Rattle.cs_tempo.proofs.active.note_hit.Given as goal
 
 abbrev pub invariant-loop-event : goal.invariant-loop-event

@@ -1,5 +1,4 @@
-use Rattle.std.proofs.Common.{arith, ap}
-use Rattle.std.proofs.Common.{length}
+use Rattle.std.proofs.Common.{arith, ap, length}
 use Rattle.cs_tempo.proofs.Clocks.{first_time}
 use Rattle.cs_tempo.proofs.clock.times_of.Goals as goal
 

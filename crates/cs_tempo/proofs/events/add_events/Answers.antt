@@ -3,13 +3,10 @@ use Rattle.std.proofs.Common.{subst, ◌∙◌}
 use Rattle.std.specs.Option.{IfSome}
 use Rattle.std.proofs.lemmas.List.{length-map}
 use Rattle.cs_score.specs.declared.statement.ScoreStmt.{ScoreStmt}
-use Rattle.cs_tempo.specs.declared.plot.Event.{Event}
-use Rattle.cs_tempo.specs.Pairing.{stop_of}
-use Rattle.cs_tempo.specs.inner.Events.{in_section, HasEnd, IsTurnIn}
-use Rattle.cs_tempo.specs.Plot.{SectionSetting, acts_of, events_at, events_along}
+use Rattle.cs_tempo.specs.{declared.plot.Event.Event, Pairing.stop_of, inner.Events.in_section, inner.Events.HasEnd}
+use Rattle.cs_tempo.specs.{inner.Events.IsTurnIn, Plot.SectionSetting, Plot.acts_of, Plot.events_at, Plot.events_along}
 use Rattle.cs_tempo.proofs.Walks.{events_step, events_none, stop_within, few_queues, few_before, stop_is, lines_then}
-use Rattle.cs_tempo.proofs.Walks.{each_map, seen_at}
-use Rattle.cs_tempo.proofs.Elements.{each_drop}
+use Rattle.cs_tempo.proofs.{Walks.each_map, Walks.seen_at, Elements.each_drop}
 use Rattle.cs_tempo.proofs.events.add_events.Goals as goal
 
 pub take_turn-stop-requires : goal.take_turn-stop-requires

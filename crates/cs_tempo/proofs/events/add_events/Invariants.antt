@@ -1,7 +1,5 @@
 use Rattle.std.proofs.Common.{◌≡◌, ◌++◌, [], map, take, drop, reverse}
-use Rattle.cs_tempo.specs.inner.Stops.{AreQueues}
-use Rattle.cs_tempo.specs.inner.Events.{in_section}
-use Rattle.cs_tempo.specs.Plot.{events_along}
+use Rattle.cs_tempo.specs.{inner.Stops.AreQueues, inner.Events.in_section, Plot.events_along}
 use Rattle.cs_tempo.proofs.events.add_events.Given as goal
 
 abbrev pub invariant-loop-statement : goal.invariant-loop-statement

@@ -1,7 +1,6 @@
 use Rattle.std.proofs.Common.{◌<◌, length, map, get_or, ap, ◌∙◌, refl, pos}
 use Rattle.std.proofs.lemmas.List.{take_all, get_or_read}
-use Rattle.cs_score.specs.declared.statement.ScoreStmt.{ScoreStmt}
-use Rattle.cs_score.specs.declared.statement.ScoreWhat.TheVariants.{Section}
+use Rattle.cs_score.specs.{declared.statement.ScoreStmt.ScoreStmt, declared.statement.ScoreWhat.TheVariants.Section}
 use Rattle.cs_tempo.specs.declared.order.SortKey.{SortKey}
 use Rattle.cs_tempo.proofs.Orders.{taken_more, order_is}
 use Rattle.cs_tempo.proofs.order.in_order.Goals as goal

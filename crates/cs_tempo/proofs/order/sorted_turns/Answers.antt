@@ -1,8 +1,7 @@
 use Rattle.std.proofs.Common.{◌≡◌}
 use Rattle.cs_score.specs.declared.statement.ScoreWhat.TheVariants.{Section}
 use Rattle.cs_tempo.specs.inner.Turns.{turns_from, turn_order, sorted}
-use Rattle.cs_tempo.proofs.Sorting.{is_sorted}
-use Rattle.cs_tempo.proofs.Orders.{turn_total, turn_same, turns_within}
+use Rattle.cs_tempo.proofs.{Sorting.is_sorted, Orders.turn_total, Orders.turn_same, Orders.turns_within}
 use Rattle.cs_tempo.proofs.order.sorted_turns.Goals as goal
 
 in_turn : (c : goal.In_ok-sort) → c.sort.new.self.items ≡ sorted turn_order (turns_from 0 c.args.section.now)

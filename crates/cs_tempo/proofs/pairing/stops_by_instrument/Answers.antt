@@ -1,8 +1,7 @@
 use Rattle.std.proofs.Common.{ℕ, nat_eq, map, refl, subst, List}
 use Rattle.std.specs.HashMap.{get}
 use Rattle.std.proofs.lemmas.List.{take_all}
-use Rattle.cs_tempo.specs.inner.Counted.{stops_of, sounding}
-use Rattle.cs_tempo.specs.inner.Stops.{Shows}
+use Rattle.cs_tempo.specs.{inner.Counted.stops_of, inner.Counted.sounding, inner.Stops.Shows}
 use Rattle.cs_tempo.proofs.Pairs.{stops_step}
 use Rattle.cs_tempo.proofs.pairing.stops_by_instrument.Goals as goal
 

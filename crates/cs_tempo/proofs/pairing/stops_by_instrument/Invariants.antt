@@ -1,7 +1,6 @@
 use Rattle.std.proofs.Common.{ℕ, nat_eq, take, map}
 use Rattle.std.specs.HashMap.{get}
-use Rattle.cs_tempo.specs.inner.Counted.{stops_of}
-use Rattle.cs_tempo.specs.inner.Stops.{Shows}
+use Rattle.cs_tempo.specs.{inner.Counted.stops_of, inner.Stops.Shows}
 use Rattle.cs_tempo.proofs.pairing.stops_by_instrument.Given as goal
 
 abbrev pub invariant-loop-statement : goal.invariant-loop-statement

@@ -1,11 +1,9 @@
 use Rattle.std.proofs.Common.{◌≡◌, ◌∙◌, ◌+◌, ◌<◌, ◌≤◌, ◌^◌, ◌++◌, [], length, take, map, sum, arith, ap, sym, subst}
 use Rattle.std.specs.List.{All}
-use Rattle.std.proofs.lemmas.List.{take_all}
-use Rattle.std.proofs.lemmas.List.Elements.{All-drop}
+use Rattle.std.proofs.lemmas.{List.take_all, List.Elements.All-drop}
 use Rattle.cs_score.specs.Ranges.{IsInRange}
-use Rattle.cs_tempo.specs.Order.{in_order}
+use Rattle.cs_tempo.specs.{Order.in_order, Sections.length_of, Sections.sections_of}
 use Rattle.cs_tempo.specs.Plot.{setting_of, events_along, events_from}
-use Rattle.cs_tempo.specs.Sections.{length_of, sections_of}
 use Rattle.cs_tempo.proofs.Plots.{events_first, events_last, length_first}
 use Rattle.cs_tempo.proofs.scheduling.events_of.Goals as goal
 

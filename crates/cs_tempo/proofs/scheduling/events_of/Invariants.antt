@@ -1,8 +1,7 @@
 use Rattle.std.proofs.Common.{◌≡◌, ◌+◌, ◌≤◌, ◌++◌, ◌^◌, map, sum, length}
 use Rattle.std.specs.List.{All}
 use Rattle.cs_score.specs.Ranges.{IsInRange}
-use Rattle.cs_tempo.specs.Plot.{events_from}
-use Rattle.cs_tempo.specs.Sections.{length_of, sections_of}
+use Rattle.cs_tempo.specs.{Plot.events_from, Sections.length_of, Sections.sections_of}
 use Rattle.cs_tempo.proofs.scheduling.events_of.Given as goal
 
 abbrev pub invariant-loop-events : goal.invariant-loop-events

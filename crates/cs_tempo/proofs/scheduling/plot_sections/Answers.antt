@@ -1,7 +1,6 @@
 use Rattle.std.proofs.Common.{◌∙◌, sym, subst}
 use Rattle.std.specs.List.Sorted.{IsNonDecreasingBy}
-use Rattle.cs_tempo.specs.Sections.{sections_of}
-use Rattle.cs_tempo.specs.declared.plot.Event.{Event}
+use Rattle.cs_tempo.specs.{Sections.sections_of, declared.plot.Event.Event}
 use Rattle.cs_tempo.proofs.Climbs.{from_climbs, climb_far, sections_in_range}
 use Rattle.cs_tempo.proofs.scheduling.plot_sections.Goals as goal
 

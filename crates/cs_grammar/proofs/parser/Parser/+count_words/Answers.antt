@@ -1,8 +1,7 @@
 use Rattle.std.proofs.Common.{◌≡◌, ◌∙◌, true, arith, length, ap, sym}
-use Rattle.cs_grammar.proofs.Sizes.{after_size}
-use Rattle.cs_grammar.proofs.Steps.{few_words, past_comma}
-use Rattle.cs_grammar.proofs.parser.Parser.+count_words.Goals as goal
+use Rattle.cs_grammar.proofs.{Sizes.after_size, Steps.few_words, Steps.past_comma}
 use Rattle.cs_grammar.specs.Reading.{after, next_is}
+use Rattle.cs_grammar.proofs.parser.Parser.+count_words.Goals as goal
 use Rattle.cs_grammar.specs.declared.symbol.Expected.TheVariants as expected
 
 pub count_words-requires : goal.count_words-requires

@@ -1,14 +1,10 @@
 use Rattle.std.proofs.Common.{◌≡◌, ◌∙◌, Ok, Err, Some, None, sym, refl, ap, subst, arith, length}
-use Rattle.cs_grammar.specs.declared.expr.Level.TheVariants as at
-use Rattle.cs_grammar.proofs.Sizes.{after_size}
-use Rattle.cs_grammar.proofs.Gives.{failed, followed, made}
-use Rattle.cs_grammar.proofs.Rules.{group_is, closed_is, call_is, pick_unmet, pick_is}
-use Rattle.cs_grammar.proofs.Rules.{right_fails, alone, none_of, raised}
-use Rattle.cs_grammar.proofs.parser.Parser.+expr.Goals as goal
+use Rattle.cs_grammar.proofs.{Sizes.after_size, Gives.failed, Gives.followed, Gives.made, Rules.raised}
+use Rattle.cs_grammar.proofs.Rules.{group_is, closed_is, call_is, pick_unmet, pick_is, right_fails, alone, none_of}
 use Rattle.cs_grammar.specs.Grammar.{ReadsTail, binary, fact_group, fact_neg, no_more, one_alone, one_more}
-use Rattle.cs_grammar.specs.Parts.{operator_of}
-use Rattle.cs_grammar.specs.Reading.{next}
-use Rattle.cs_grammar.specs.Tree.{expression}
+use Rattle.cs_grammar.specs.{Parts.operator_of, Reading.next, Tree.expression}
+use Rattle.cs_grammar.specs.declared.expr.Level.TheVariants as at
+use Rattle.cs_grammar.proofs.parser.Parser.+expr.Goals as goal
 
 pub negation-returns-in_err-part-clause-reads : goal.negation-returns-in_err-part-clause-reads
 negation-returns-in_err-part-clause-reads t c =
@@ -127,14 +123,7 @@ operators-loop-op-preserved t c =
           (one_more op (sym c.if-not-repeats.ensures) c.requires (rw c.skip.ensures at c.in_ok-right.ensures.reads)
           (subst (λ v. ReadsTail c.args.scope.now c.args.level (Ok (v, c.expr.new.self)) out) c.in_ok-left.ensures.value
           k));
-      goes = omega (
-        arith,
-        c.in_ok-right.ensures.goes,
-        c.loop-op.invariant.goes,
-        ap length c.skip.ensures,
-        after_size
-            c.loop-op.self,
-      );
+      goes = omega (arith, ap length c.skip.ensures, after_size c.loop-op.self);
     }
 
 pub operators-returns-clause-reads : goal.operators-returns-clause-reads

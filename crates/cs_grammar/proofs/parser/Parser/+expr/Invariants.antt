@@ -1,9 +1,7 @@
 use Rattle.std.proofs.Common.{◌+◌, ◌*◌, ◌-◌, ◌≤◌, length, Ok}
-use Rattle.cs_grammar.proofs.parser.Parser.+expr.Given as goal
 use Rattle.cs_grammar.specs.Grammar.{ReadsExpr, ReadsTail}
-use Rattle.cs_grammar.specs.Parts.{rank}
-use Rattle.cs_grammar.specs.Reading.{Reading}
-use Rattle.cs_grammar.specs.Tree.{Expression, expression}
+use Rattle.cs_grammar.specs.{Parts.rank, Reading.Reading, Tree.Expression, Tree.expression}
+use Rattle.cs_grammar.proofs.parser.Parser.+expr.Given as goal
 
 -- by what is left, and then by the level
 abbrev pub decreases-expr : goal.decreases-expr

@@ -1,20 +1,17 @@
 use Rattle.std.proofs.Common.{◌≡◌, ◌∙◌, Ok, Err, sym, ap, subst, arith, rules, length}
-use Rattle.cs_grammar.specs.declared.tree.Arm.{Arm}
+use Rattle.cs_grammar.specs.{declared.tree.Arm.Arm, Reading.ended, Reading.next}
 use Rattle.cs_grammar.specs.declared.tree.StmtWhat.TheBlock.{hidden-the_row-OrcStmt-1, hidden-the_row-Arm-0}
 use Rattle.cs_grammar.specs.declared.tree.StmtWhat.TheViews.{the_lemmas, roll-Arm}
-use Rattle.cs_grammar.proofs.Rows.{block_is, arms_is}
-use Rattle.cs_grammar.proofs.Sizes.{after_size}
+use Rattle.cs_grammar.proofs.{Rows.block_is, Rows.arms_is, Sizes.after_size}
 use Rattle.cs_grammar.proofs.Gives.{failed, followed, unpassed, valued}
 use Rattle.cs_grammar.proofs.StmtRules.{BlockSoFar, ArmsSoFar, else_in, stmts_in, arm_in, chain_in, line_is}
-use Rattle.cs_grammar.proofs.StmtRules.{stmt_shorter, block_begun, block_grown}
-use Rattle.cs_grammar.proofs.StmtRules.{block_fails, block_done, arms_begun, arms_grown, arms_fail, arms_unended}
-use Rattle.cs_grammar.proofs.StmtRules.{arms_done, arm_unmet, arm_is}
-use Rattle.cs_grammar.proofs.StmtRules.{endif_is, else_no_line, else_no_block, else_is}
-use Rattle.cs_grammar.proofs.parser.Parser.+stmt.Goals as goal
+use Rattle.cs_grammar.proofs.StmtRules.{stmt_shorter, block_begun, block_grown, block_fails, block_done, arms_begun}
+use Rattle.cs_grammar.proofs.StmtRules.{arms_grown, arms_fail, arms_unended, arms_done, arm_unmet, arm_is, endif_is}
+use Rattle.cs_grammar.proofs.StmtRules.{else_no_line, else_no_block, else_is}
 use Rattle.cs_grammar.specs.Grammar.{ReadsStmt, stmt_beyond, stmt_if, stmt_misplaced}
-use Rattle.cs_grammar.specs.Reading.{ended, next}
 use Rattle.cs_grammar.specs.Tree.{arms, block, choose, expression, of_arms, of_block, of_what, statement}
 use Rattle.cs_grammar.specs.inner.Answers.{Gives, IsArm}
+use Rattle.cs_grammar.proofs.parser.Parser.+stmt.Goals as goal
 
 pub stmt-returns-in_err-what-clause-reads : goal.stmt-returns-in_err-what-clause-reads
 stmt-returns-in_err-what-clause-reads t c =
@@ -138,14 +135,7 @@ arms-loop-chain-preserved t c = record {
       (rw c.skip.ensures (arms_grown c.args.scope.now c.args.self.now c.loop-chain.self c.arm.new.self
       c.loop-chain.chain.items c.in_ok-arm.field-0
       c.loop-chain.invariant.reads c.in_ok-arm.ensures.reads (sym c.next_is.ensures ∙ c.if-not-next_is.false)));
-  goes = omega (
-    arith,
-    c.in_ok-arm.ensures.goes,
-    c.loop-chain.invariant.goes,
-    ap length c.skip.ensures,
-    after_size
-        c.arm.new.self,
-  );
+  goes = omega (arith, ap length c.skip.ensures, after_size c.arm.new.self);
 }
 
 pub otherwise-returns-then-not-next_is-clause-reads : goal.otherwise-returns-then-not-next_is-clause-reads

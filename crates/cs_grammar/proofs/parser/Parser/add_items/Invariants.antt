@@ -1,7 +1,6 @@
 use Rattle.std.proofs.Common.{List, length}
+use Rattle.cs_grammar.specs.{Symbols.Symbol, inner.Answers.IsDraft}
 use Rattle.cs_grammar.proofs.parser.Parser.add_items.Given as goal
-use Rattle.cs_grammar.specs.Symbols.{Symbol}
-use Rattle.cs_grammar.specs.inner.Answers.{IsDraft}
 
 abbrev pub invariant-loop-self : goal.invariant-loop-self
 invariant-loop-self l =

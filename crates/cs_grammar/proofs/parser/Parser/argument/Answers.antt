@@ -1,9 +1,7 @@
 use Rattle.std.proofs.Common.{sym}
-use Rattle.cs_grammar.proofs.Gives.{failed}
-use Rattle.cs_grammar.proofs.ListRules.{quoted_reads}
+use Rattle.cs_grammar.proofs.{Gives.failed, ListRules.quoted_reads}
+use Rattle.cs_grammar.specs.{Grammar.arg_value, Tree.argument, Tree.expression}
 use Rattle.cs_grammar.proofs.parser.Parser.argument.Goals as goal
-use Rattle.cs_grammar.specs.Grammar.{arg_value}
-use Rattle.cs_grammar.specs.Tree.{argument, expression}
 
 pub returns-then-next_is-clause-reads : goal.returns-then-next_is-clause-reads
 returns-then-next_is-clause-reads c =

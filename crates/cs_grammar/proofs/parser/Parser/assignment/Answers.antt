@@ -1,11 +1,8 @@
 use Rattle.std.proofs.Common.{Ok, Err, sym, ℕ, List}
+use Rattle.cs_grammar.proofs.{Gives.failed, Gives.made, Rules.stops, StmtRules.assign_is}
+use Rattle.cs_grammar.specs.{Reading.next, Tree.expression, Tree.of_what}
 use Rattle.cs_grammar.specs.declared.expr.Level.TheVariants as at
-use Rattle.cs_grammar.proofs.Gives.{failed, made}
-use Rattle.cs_grammar.proofs.Rules.{stops}
-use Rattle.cs_grammar.proofs.StmtRules.{assign_is}
 use Rattle.cs_grammar.proofs.parser.Parser.assignment.Goals as goal
-use Rattle.cs_grammar.specs.Reading.{next}
-use Rattle.cs_grammar.specs.Tree.{expression, of_what}
 
 pub returns-in_err-name-clause-reads : goal.returns-in_err-name-clause-reads
 returns-in_err-name-clause-reads c =

@@ -1,11 +1,7 @@
 use Rattle.std.proofs.Common.{Ok, Err, sym, map}
-use Rattle.cs_grammar.specs.declared.tree.Callee.{Callee}
-use Rattle.cs_grammar.proofs.Gives.{failed}
-use Rattle.cs_grammar.proofs.StmtRules.{args_in, bare_is}
+use Rattle.cs_grammar.specs.{declared.tree.Callee.Callee, Grammar.args_stop, Reading.next, Tree.argument, Tree.of_what}
+use Rattle.cs_grammar.proofs.{Gives.failed, StmtRules.args_in, StmtRules.bare_is}
 use Rattle.cs_grammar.proofs.parser.Parser.bare_call.Goals as goal
-use Rattle.cs_grammar.specs.Grammar.{args_stop}
-use Rattle.cs_grammar.specs.Reading.{next}
-use Rattle.cs_grammar.specs.Tree.{argument, of_what}
 
 pub returns-in_err-callee-clause-reads : goal.returns-in_err-callee-clause-reads
 returns-in_err-callee-clause-reads c =

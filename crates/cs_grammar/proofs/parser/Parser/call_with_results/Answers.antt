@@ -1,11 +1,7 @@
 use Rattle.std.proofs.Common.{ℕ, List, Ok, Err, refl, sym, map}
-use Rattle.cs_grammar.specs.declared.tree.Callee.{Callee}
-use Rattle.cs_grammar.proofs.Gives.{failed}
-use Rattle.cs_grammar.proofs.StmtRules.{args_in, results_is}
+use Rattle.cs_grammar.specs.{declared.tree.Callee.Callee, Grammar.args_stop, Reading.next, Tree.argument, Tree.of_what}
+use Rattle.cs_grammar.proofs.{Gives.failed, StmtRules.args_in, StmtRules.results_is}
 use Rattle.cs_grammar.proofs.parser.Parser.call_with_results.Goals as goal
-use Rattle.cs_grammar.specs.Grammar.{args_stop}
-use Rattle.cs_grammar.specs.Reading.{next}
-use Rattle.cs_grammar.specs.Tree.{argument, of_what}
 
 pub returns-in_err-results-clause-reads : goal.returns-in_err-results-clause-reads
 returns-in_err-results-clause-reads c =

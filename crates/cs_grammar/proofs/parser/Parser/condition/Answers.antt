@@ -1,8 +1,7 @@
 use Rattle.std.proofs.Common.{Err}
-use Rattle.cs_grammar.proofs.Gives.{failed, followed}
-use Rattle.cs_grammar.proofs.StmtRules.{condition_is, condition_line}
-use Rattle.cs_grammar.proofs.parser.Parser.condition.Goals as goal
+use Rattle.cs_grammar.proofs.{Gives.failed, Gives.followed, StmtRules.condition_is, StmtRules.condition_line}
 use Rattle.cs_grammar.specs.Tree.{expression}
+use Rattle.cs_grammar.proofs.parser.Parser.condition.Goals as goal
 
 pub returns-in_err-cond-clause-reads : goal.returns-in_err-cond-clause-reads
 returns-in_err-cond-clause-reads c =

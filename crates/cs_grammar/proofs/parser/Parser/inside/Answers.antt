@@ -1,10 +1,8 @@
 use Rattle.std.proofs.Common.{ℕ, List, Ok, Err, map}
-use Rattle.cs_grammar.proofs.Gives.{failed}
-use Rattle.cs_grammar.proofs.StmtRules.{args_in, stmts_in}
+use Rattle.cs_grammar.proofs.{Gives.failed, StmtRules.args_in, StmtRules.stmts_in}
 use Rattle.cs_grammar.proofs.OrcRules.{inside_no_names, inside_no_body, inside_is}
+use Rattle.cs_grammar.specs.{Tree.argument, Tree.block, inner.Answers.inside}
 use Rattle.cs_grammar.proofs.parser.Parser.inside.Goals as goal
-use Rattle.cs_grammar.specs.Tree.{argument, block}
-use Rattle.cs_grammar.specs.inner.Answers.{inside}
 
 pub returns-in_err-names-clause-reads : goal.returns-in_err-names-clause-reads
 returns-in_err-names-clause-reads c =

@@ -1,9 +1,7 @@
 use Rattle.std.proofs.Common.{ℕ, List, Ok, Err}
-use Rattle.cs_grammar.proofs.Gives.{failed}
-use Rattle.cs_grammar.proofs.StmtRules.{stmts_in}
-use Rattle.cs_grammar.proofs.OrcRules.{instr_no_line, instr_reads}
-use Rattle.cs_grammar.proofs.parser.Parser.instr.Goals as goal
+use Rattle.cs_grammar.proofs.{Gives.failed, StmtRules.stmts_in, OrcRules.instr_no_line, OrcRules.instr_reads}
 use Rattle.cs_grammar.specs.Tree.{block, instrument}
+use Rattle.cs_grammar.proofs.parser.Parser.instr.Goals as goal
 
 pub returns-in_err-numbers-clause-reads : goal.returns-in_err-numbers-clause-reads
 returns-in_err-numbers-clause-reads c =

@@ -1,12 +1,9 @@
 use Rattle.std.proofs.Common.{Err, refl, sym, subst}
 use Rattle.cs_grammar.proofs.Gives.{failed, followed, unpassed, valued}
-use Rattle.cs_grammar.proofs.StmtRules.{stmts_in}
-use Rattle.cs_grammar.proofs.OrcRules.{instr_body_is, instr_body_open}
-use Rattle.cs_grammar.proofs.parser.Parser.instr_body.Goals as goal
-use Rattle.cs_grammar.specs.Tree.{block}
-use Rattle.cs_grammar.specs.declared.tree.OrcStmt.{OrcStmt}
-use Rattle.cs_grammar.specs.inner.Answers.{IsInstrBody}
+use Rattle.cs_grammar.proofs.{StmtRules.stmts_in, OrcRules.instr_body_is, OrcRules.instr_body_open}
+use Rattle.cs_grammar.specs.{Tree.block, declared.tree.OrcStmt.OrcStmt, inner.Answers.IsInstrBody}
 use Rattle.std.specs.Global.{Vec}
+use Rattle.cs_grammar.proofs.parser.Parser.instr_body.Goals as goal
 
 pub returns-in_err-body-clause-reads : goal.returns-in_err-body-clause-reads
 returns-in_err-body-clause-reads c =

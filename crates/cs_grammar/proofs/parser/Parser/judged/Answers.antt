@@ -1,9 +1,7 @@
 use Rattle.std.proofs.Common.{◌∙◌, Ok, Err, sym, map}
-use Rattle.cs_grammar.proofs.Gives.{unpassed}
-use Rattle.cs_grammar.proofs.HeadingRules.{judged_is}
-use Rattle.cs_grammar.proofs.StmtRules.{args_in}
-use Rattle.cs_grammar.proofs.parser.Parser.judged.Goals as goal
+use Rattle.cs_grammar.proofs.{Gives.unpassed, HeadingRules.judged_is, StmtRules.args_in}
 use Rattle.cs_grammar.specs.Tree.{argument}
+use Rattle.cs_grammar.proofs.parser.Parser.judged.Goals as goal
 
 pub returns-in_err-last_line : goal.returns-in_err-last_line
 returns-in_err-last_line c =

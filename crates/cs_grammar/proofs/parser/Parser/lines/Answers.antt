@@ -1,9 +1,8 @@
 use Rattle.std.proofs.Common.{sym, subst}
 use Rattle.cs_grammar.proofs.Gives.{failed, followed, unpassed, valued}
 use Rattle.cs_grammar.proofs.OrcRules.{lines_fail, lines_open, lines_are}
+use Rattle.cs_grammar.specs.{inner.Answers.IsLines, inner.Answers.inside, declared.definition.Inside.Inside}
 use Rattle.cs_grammar.proofs.parser.Parser.lines.Goals as goal
-use Rattle.cs_grammar.specs.inner.Answers.{IsLines, inside}
-use Rattle.cs_grammar.specs.declared.definition.Inside.{Inside}
 
 pub returns-in_err-lines-clause-reads : goal.returns-in_err-lines-clause-reads
 returns-in_err-lines-clause-reads c =

@@ -1,10 +1,8 @@
 use Rattle.std.proofs.Common.{◌∙◌, sym, ap, subst, map, arith, length}
-use Rattle.cs_grammar.proofs.Gives.{failed}
-use Rattle.cs_grammar.proofs.Sizes.{after_size}
-use Rattle.cs_grammar.proofs.StmtRules.{args_in}
+use Rattle.cs_grammar.proofs.{Gives.failed, Sizes.after_size, StmtRules.args_in}
 use Rattle.cs_grammar.proofs.SoFar.{ListSoFar, list_begun, list_stop, args_grown, args_done}
-use Rattle.cs_grammar.proofs.parser.Parser.list.Goals as goal
 use Rattle.cs_grammar.specs.Tree.{argument}
+use Rattle.cs_grammar.proofs.parser.Parser.list.Goals as goal
 
 pub loop-args-init : goal.loop-args-init
 loop-args-init c = record {
@@ -33,12 +31,5 @@ loop-args-preserved c = record {
       c.loop-args.args.items
       c.in_ok-argument.field-0 c.loop-args.invariant.reads c.in_ok-argument.ensures.reads
       (sym c.next_is.ensures ∙ c.if-not-next_is.false)));
-  goes = omega (
-    arith,
-    c.in_ok-argument.ensures.goes,
-    c.loop-args.invariant.goes,
-    ap length c.skip.ensures,
-    after_size
-        c.argument.new.self,
-  );
+  goes = omega (arith, ap length c.skip.ensures, after_size c.argument.new.self);
 }

@@ -1,10 +1,11 @@
 use Rattle.std.proofs.Common.{◌≡◌, ◌++◌, ◌≤◌, length}
-use Rattle.cs_grammar.proofs.SoFar.{NumbersSoFar}
+use Rattle.cs_grammar.specs.Lines.{one_number}
+use Rattle.cs_grammar.proofs.SoFar.{RowSoFar}
 use Rattle.cs_grammar.proofs.parser.Parser.numbers.Given as goal
 
 abbrev pub invariant-loop-numbers : goal.invariant-loop-numbers
 invariant-loop-numbers l = record {
-  reads : NumbersSoFar l.scope l.fn.given l.fn.self l.numbers l.given l.self;
+  reads : RowSoFar (one_number l.scope) l.fn.given l.fn.self l.numbers l.given l.self;
   given : l.given ≡ l.fn.given ++ l.numbers;
   goes : length l.self ≤ length l.fn.self;
 }

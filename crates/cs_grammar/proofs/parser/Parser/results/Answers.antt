@@ -1,11 +1,9 @@
 use Rattle.std.proofs.Common.{◌≡◌, ◌∙◌, Ok, sym, subst, map}
-use Rattle.cs_grammar.proofs.Gives.{failed}
+use Rattle.cs_grammar.proofs.{Gives.failed, StmtRules.args_in, StmtRules.weaker}
 use Rattle.cs_grammar.proofs.ResultRules.{none_given, given}
-use Rattle.cs_grammar.proofs.StmtRules.{args_in, weaker}
-use Rattle.cs_grammar.proofs.parser.Parser.results.Goals as goal
-use Rattle.cs_grammar.specs.Orchestra.{ReadsResult, xout_broken}
-use Rattle.cs_grammar.specs.Tree.{argument}
+use Rattle.cs_grammar.specs.{Orchestra.ReadsResult, Orchestra.xout_broken, Tree.argument}
 use Rattle.cs_grammar.specs.inner.Takes.{no_results, results_of}
+use Rattle.cs_grammar.proofs.parser.Parser.results.Goals as goal
 
 pub returns-then-not-next_is-clause-reads : goal.returns-then-not-next_is-clause-reads
 returns-then-not-next_is-clause-reads c =

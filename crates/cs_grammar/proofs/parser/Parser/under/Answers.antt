@@ -1,13 +1,9 @@
 use Rattle.std.proofs.Common.{◌≡◌, List, [], Ok, Err}
-use Rattle.cs_grammar.proofs.Gives.{failed, made}
-use Rattle.cs_grammar.proofs.OrcRules.{definition_reads}
-use Rattle.cs_grammar.proofs.parser.Parser.under.Goals as goal
-use Rattle.cs_grammar.specs.Headings.{heading}
-use Rattle.cs_grammar.specs.Orchestra.{ReadsDefinition}
+use Rattle.cs_grammar.proofs.{Gives.failed, Gives.made, OrcRules.definition_reads}
+use Rattle.cs_grammar.specs.{Headings.heading, Orchestra.ReadsDefinition, Symbols.Symbol, Tree.definition}
 use Rattle.cs_grammar.specs.Reading.{after, in_definition, next}
-use Rattle.cs_grammar.specs.Symbols.{Symbol}
-use Rattle.cs_grammar.specs.Tree.{definition}
 use Rattle.cs_grammar.specs.inner.Answers.{inside, of_inside}
+use Rattle.cs_grammar.proofs.parser.Parser.under.Goals as goal
 
 pub returns-in_err-lines-clause-reads : goal.returns-in_err-lines-clause-reads
 returns-in_err-lines-clause-reads c =

@@ -1,9 +1,7 @@
 use Rattle.std.proofs.Common.{subst, map}
-use Rattle.cs_grammar.proofs.Gives.{failed, followed, ended_is}
-use Rattle.cs_grammar.proofs.StmtRules.{args_in}
+use Rattle.cs_grammar.proofs.{Gives.failed, Gives.followed, Gives.ended_is, StmtRules.args_in}
+use Rattle.cs_grammar.specs.{Orchestra.ReadsXout, Orchestra.xout, Tree.argument}
 use Rattle.cs_grammar.proofs.parser.Parser.values.Goals as goal
-use Rattle.cs_grammar.specs.Orchestra.{ReadsXout, xout}
-use Rattle.cs_grammar.specs.Tree.{argument}
 
 pub returns-in_err-values-clause-reads : goal.returns-in_err-values-clause-reads
 returns-in_err-values-clause-reads c =
