@@ -1,22 +1,17 @@
 -- A cycle from the moment before it to the moment after it.
-use Rattle.std.proofs.Common.{◌≡◌, ◌≤◌, ◌<◌, ℕ, suc, ◌+◌, ◌*◌, ◌^◌, ℤ, Bool, List, [], ◌∷◌, length, ap, sym, ◌∙◌}
-use Rattle.std.proofs.Common.{arith}
+use Rattle.std.proofs.Common.{◌≡◌, ◌≤◌, ◌<◌, ℕ, suc, ◌+◌, ◌*◌, ◌^◌, ℤ, Bool, List, [], ◌∷◌, length, ap, sym, ◌∙◌, arith}
 use Rattle.std.proofs.Math.Nat.{mul-le-mul, mul-le-mul_left}
 use Rattle.std.specs.List.{AllZip, count_by}
 use Rattle.std.proofs.lemmas.List.Sums.{count_by-le-length}
 use Rattle.cs_base.specs.Limits.{most_notes, most_wav_bytes}
-use Rattle.cs_base.specs.Widths.{bytes_of}
-use Rattle.cs_base.specs.declared.width.SampleWidth.{SampleWidth}
+use Rattle.cs_base.specs.{Widths.bytes_of, declared.width.SampleWidth.SampleWidth}
 use Rattle.cs_base.specs.declared.width.SampleWidth.TheVariants.{TwoBytes, ThreeBytes}
 use Rattle.cs_cells.specs.Cells.{Cells}
 use Rattle.cs_piece_meaning.specs.Course.{begins, moment_at, performed, played_in, turned_off}
-use Rattle.cs_piece_meaning.specs.Heard.{frames_before, mix_in}
-use Rattle.cs_piece_meaning.specs.Moments.{Active, Composition}
+use Rattle.cs_piece_meaning.specs.{Heard.frames_before, Heard.mix_in, Moments.Active, Moments.Composition}
 use Rattle.cs_life.proofs.Heard.{heard}
-use Rattle.cs_life.specs.Standing.{Plays, StandsFor}
-use Rattle.cs_life.specs.declared.life.Life.{Life}
-use Rattle.cs_voice.specs.VoiceData.{VoiceData}
-use Rattle.cs_voice.specs.declared.stage.Stage.{Stage}
+use Rattle.cs_life.specs.{Standing.Plays, Standing.StandsFor, declared.life.Life.Life}
+use Rattle.cs_voice.specs.{VoiceData.VoiceData, declared.stage.Stage.Stage}
 use Rattle.cs_perform.specs.Counted.{AreHeardIn, CountsOn, IsHeardAs, Receipts}
 use Rattle.cs_perform.specs.inner.Stands.{CountsCycle}
 use Rattle.cs_perform.proofs.Frames.{count_by_both, frames_before_more, length-frames_before}

@@ -6,9 +6,7 @@ use Rattle.cs_edge.specs.Told.{Follows, IsFront, Rose}
 use Rattle.cs_edge.specs.Moves.{SinkTold, Held, TakenMore, WroteMore, WrotePart, Wrote, Stopped, open_file}
 use Rattle.cs_edge.proofs.Chains.{follows_as, follows_on, front_more, front_of_front}
 use Rattle.cs_edge.proofs.Stories.{more_both, more_none, wrote_on, stopped_part, stopped_untouched, stopped_writes}
-use Rattle.cs_perform.specs.Hearing.{IfWritten}
-use Rattle.cs_perform.specs.Performances.{HasAtLeast}
-use Rattle.cs_perform.specs.declared.order.Output.{Output}
+use Rattle.cs_perform.specs.{Hearing.IfWritten, Performances.HasAtLeast, declared.order.Output.Output}
 use Rattle.cs_perform.specs.declared.order.Output.TheVariants.{SoundFile, Nothing}
 
 -- FRONTS

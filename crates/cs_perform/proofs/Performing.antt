@@ -1,21 +1,16 @@
 -- A performance grows cycle by cycle.
-use Rattle.std.proofs.Common.{◌≡◌, ◌≤◌, ◌<◌, ℕ, ◌+◌, ℤ, List, [], ◌∷◌, ◌++◌, refl, ap, sym, ◌∙◌, subst}
-use Rattle.std.proofs.Common.{append_assoc, append-nil}
+use Rattle.std.proofs.Common.{◌≡◌, ◌≤◌, ◌<◌, ℕ, ◌+◌, ℤ, List, [], ◌∷◌, ◌++◌, refl, ap, ◌∙◌, append_assoc, append-nil}
 use Rattle.std.specs.List.{AllZip, range_with_len}
 use Rattle.cs_base.specs.declared.width.SampleWidth.{SampleWidth}
-use Rattle.cs_piece_meaning.specs.Heard.{frames_before, mix_in}
-use Rattle.cs_piece_meaning.specs.Moments.{Composition}
-use Rattle.cs_edge.specs.Moves.{WroteMore, WrotePart}
+use Rattle.cs_piece_meaning.specs.{Heard.frames_before, Heard.mix_in, Moments.Composition}
+use Rattle.cs_edge.specs.Moves.{SinkTold}
 use Rattle.cs_wav.specs.Wav.{samples_of}
 use Rattle.cs_wav.proofs.Files.{samples_of-nil, samples_of-append}
-use Rattle.cs_perform.specs.Counted.{AreHeardIn, CountsOn}
-use Rattle.cs_perform.specs.Hearing.{Told, IfWritten}
+use Rattle.cs_perform.specs.{Counted.AreHeardIn, Hearing.Told, Hearing.IfWritten, inner.Stands.CountsCycle}
 use Rattle.cs_perform.specs.Performances.{Lent, LentSight, Performed, Request}
-use Rattle.cs_perform.specs.inner.Plays.{BreaksCycle, BrokeOn, PausedOn, PlayedOn, PlaysCycle, samples_for}
-use Rattle.cs_perform.specs.inner.Stands.{CountsCycle}
-use Rattle.cs_perform.proofs.Files.{more_written, none_written}
+use Rattle.cs_perform.specs.inner.Plays.{BreaksCycle, BrokeOn, PausedOn, PlayedOn, PlaysCycle, RunsCycle, samples_for}
+use Rattle.cs_perform.proofs.{Files.more_written, Files.none_written, Telling.told_nothing, Telling.told_twice}
 use Rattle.cs_perform.proofs.Frames.{frames_before_more, numbers_more}
-use Rattle.cs_perform.proofs.Telling.{told_nothing, told_twice}
 
 -- one pair more
 zip_more : {A B : Type 0} (R : A → B → Type 0) (xs : List A) (ys : List B) (x : A) (y : B) → AllZip R xs ys → R x y
@@ -29,30 +24,29 @@ module _ {T W C : Type 0} (see : LentSight T W C) (c : Composition) where
   -- no cycle yet
   pub performed_none : (a b : Lent T W C) → b.taps ≡ a.taps → b.tally ≡ a.tally → Performed see c 0 a b
   performed_none a b e f = record {
-    told = subst (λ (l : List T). Told see.stands a.taps l []) (sym e) (told_nothing see.stands a.taps);
+    told = rw e (told_nothing see.stands a.taps);
     receipts = [];
     heard = tt;
-    counted = λ h x. subst (λ (k : C). see.counted k (h ++ [])) (sym f)
-        (subst (see.counted a.tally) (sym (append-nil h)) x);
+    counted = λ h x. rw (f, append-nil h) x;
   }
 
   -- from before the sink was begun on, or until after it was ended
   pub performed_from : (n : ℕ) (a b d : Lent T W C) → b.taps ≡ a.taps → b.tally ≡ a.tally → Performed see c n b d
       → Performed see c n a d
   performed_from n a b d e f p = record {
-    told = subst (λ (l : List T). Told see.stands l d.taps (frames_before c n)) e p.told;
+    told = rw e at p.told;
     receipts = p.receipts;
     heard = p.heard;
-    counted = subst (λ (k : C). CountsOn see.counted k d.tally p.receipts) f p.counted;
+    counted = rw f at p.counted;
   }
 
   pub performed_until : (n : ℕ) (a b d : Lent T W C) → d.taps ≡ b.taps → d.tally ≡ b.tally → Performed see c n a b
       → Performed see c n a d
   performed_until n a b d e f p = record {
-    told = subst (λ (l : List T). Told see.stands a.taps l (frames_before c n)) (sym e) p.told;
+    told = rw e p.told;
     receipts = p.receipts;
     heard = p.heard;
-    counted = subst (λ (k : C). CountsOn see.counted a.tally k p.receipts) (sym f) p.counted;
+    counted = rw f p.counted;
   }
 
   -- one cycle more
@@ -63,13 +57,11 @@ module _ {T W C : Type 0} (see : LentSight T W C) (c : Composition) where
       let heard : AllZip (AreHeardIn c) (range_with_len 0 n ++ n ∷ []) (p.receipts ++ counts.voices ∷ []) =
       zip_more (AreHeardIn c) (range_with_len 0 n) p.receipts n counts.voices p.heard counts.heard in
       record {
-        told = subst (Told see.stands a.taps d.taps) (sym (frames_before_more c n))
+        told = rw (frames_before_more c n)
             (told_twice see.stands a.taps b.taps d.taps (frames_before c n) (mix_in c n) p.told told);
         receipts = p.receipts ++ counts.voices ∷ [];
-        heard = subst (λ (l : List ℕ). AllZip (AreHeardIn c) l (p.receipts ++ counts.voices ∷ []))
-            (sym (numbers_more n))
-            heard;
-        counted = λ h x. subst (see.counted d.tally) (append_assoc h p.receipts (counts.voices ∷ []))
+        heard = rw (numbers_more n) heard;
+        counted = λ h x. rw (← append_assoc h p.receipts (counts.voices ∷ []))
             (counts.counted (h ++ p.receipts) (p.counted h x));
       }
 
@@ -88,27 +80,20 @@ module _ {T W C : Type 0} (see : LentSight T W C) (request : Request) where
   samples n = samples_for request (frames_before c n)
 
   pub played_none : (a : Lent T W C) → PlayedOn see request 0 a a
-  played_none a =
-      let P : List ℕ → Type 0 =
-      λ bytes. IfWritten see.wav request.order.output a.wav a.wav (λ x y. WroteMore x y bytes) in
-      record {
-        performed = performed_none see c a a refl refl;
-        written = subst P (sym (samples_of-nil request.order.width request.head.dbfs))
-            (none_written see.wav request.order.output a.wav);
-      }
+  played_none a = record {
+    performed = performed_none see c a a refl refl;
+    written = rw (samples_of-nil request.order.width request.head.dbfs)
+        (none_written see.wav request.order.output a.wav);
+  }
 
   pub played_more : (n : ℕ) (a b d : Lent T W C) → PlayedOn see request n a b → PlaysCycle see request n b d
       → PlayedOn see request (n + 1) a d
-  played_more n a b d p more =
-      let P : List ℕ → Type 0 =
-      λ bytes. IfWritten see.wav request.order.output a.wav d.wav (λ x y. WroteMore x y bytes) in
-      record {
-        performed = performed_more see c n a b d p.performed more.told more.counted;
-        written = subst P (sym (samples_more c request.order.width request.head.dbfs n))
-            (more_written see.wav request.order.output a.wav b.wav d.wav (samples n) (samples_for request (mix_in c n))
-            p.written
-            more.written);
-      }
+  played_more n a b d p more = record {
+    performed = performed_more see c n a b d p.performed more.told more.counted;
+    written = rw (samples_more c request.order.width request.head.dbfs n)
+        (more_written see.wav request.order.output a.wav b.wav d.wav (samples n) (samples_for request (mix_in c n))
+        p.written more.written);
+  }
 
   -- the sink failed in this cycle
   pub broke_after : (n : ℕ) (a b d : Lent T W C) → n < c.cycles → PlayedOn see request n a b
@@ -118,11 +103,7 @@ module _ {T W C : Type 0} (see : LentSight T W C) (request : Request) where
   -- memory was refused before this cycle
   pub paused_before : (n : ℕ) (a b d : Lent T W C) → n ≤ c.cycles → d ≡ b → PlayedOn see request n a b
       → PausedOn see request a d
-  paused_before n a b d le same p = record {
-    cycles = n;
-    within = le;
-    played = subst (λ (l : Lent T W C). PlayedOn see request n a l) (sym same) p;
-  }
+  paused_before n a b d le same p = record { cycles = n; within = le; played = rw same p }
 
 -- A cycle, by what its notes, the taps and the sink did.
 module _ {T W C : Type 0} (see : LentSight T W C) (request : Request) (dbfs : ℤ) (n : ℕ) (mix : List ℤ)
@@ -132,26 +113,7 @@ module _ {T W C : Type 0} (see : LentSight T W C) (request : Request) (dbfs : �
   samples_are : samples_of request.order.width dbfs mix ≡ samples_for request (mix_in request.piece n)
   samples_are = ap (λ (d : ℤ). samples_of request.order.width d mix) same ∙ ap (samples_for request) is
 
-  pub plays_cycle : IfWritten see.wav request.order.output a.wav b.wav
-      (λ x y. WroteMore x y (samples_of request.order.width dbfs mix))
-      → PlaysCycle see request n a b
-  plays_cycle wrote =
-      let P : List ℕ → Type 0 =
-      λ bytes. IfWritten see.wav request.order.output a.wav b.wav (λ x y. WroteMore x y bytes) in
-      record {
-        told = subst (Told see.stands a.taps b.taps) is told;
-        counted = counts;
-        written = subst P samples_are wrote;
-      }
-
-  pub breaks_cycle : IfWritten see.wav request.order.output a.wav b.wav
-      (λ x y. WrotePart x y (samples_of request.order.width dbfs mix))
-      → BreaksCycle see request n a b
-  breaks_cycle part =
-      let P : List ℕ → Type 0 =
-      λ bytes. IfWritten see.wav request.order.output a.wav b.wav (λ x y. WrotePart x y bytes) in
-      record {
-        told = subst (Told see.stands a.taps b.taps) is told;
-        counted = counts;
-        written = subst P samples_are part;
-      }
+  pub runs_cycle : (Writes : SinkTold → SinkTold → List ℕ → Type 0)
+      → IfWritten see.wav request.order.output a.wav b.wav
+      (λ x y. Writes x y (samples_of request.order.width dbfs mix)) → RunsCycle see request Writes n a b
+  runs_cycle Writes wrote = record { told = rw is at told; counted = counts; written = rw samples_are at wrote }

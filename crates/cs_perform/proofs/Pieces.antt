@@ -1,7 +1,6 @@
 -- A sink that is written piece by piece.
 use Rattle.std.proofs.Common.{◌≡◌, ◌≤◌, ℕ, List, [], ◌++◌, refl}
-use Rattle.cs_edge.specs.declared.moves.Move.TheVariants.{End}
-use Rattle.cs_edge.specs.Told.{Follows}
+use Rattle.cs_edge.specs.{declared.moves.Move.TheVariants.End, Told.Follows}
 use Rattle.cs_edge.specs.Moves.{SinkTold, GrownBy, IsEnded, WroteMore, WrotePart, Wrote, Stopped}
 use Rattle.cs_edge.proofs.Stories.{wrote_on, stopped_end, stopped_part, finished}
 use Rattle.cs_perform.specs.inner.Ends.{Finishes, Stops}

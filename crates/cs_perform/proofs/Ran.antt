@@ -7,15 +7,11 @@ use Rattle.std.proofs.lemmas.List.{ext_get_or, length-append}
 use Rattle.std.proofs.lemmas.List.Elements.{All-cons, All-head, All-nil, All-tail}
 use Rattle.std.proofs.lemmas.List.FromFn.{get_or-map-range_with_len, length-map-range_with_len}
 use Rattle.cs_base.specs.Numbers.{total}
-use Rattle.cs_cells.specs.Cells.{Cells}
-use Rattle.cs_cells.specs.Meaning.{Meaning, Frames}
+use Rattle.cs_cells.specs.{Cells.Cells, Meaning.Meaning, Meaning.Frames, declared.footprint.Footprint.Footprint}
 use Rattle.cs_cells.specs.Serial.{serial_cells, serial_jobs}
-use Rattle.cs_cells.specs.declared.footprint.Footprint.{Footprint}
 use Rattle.cs_cells.proofs.SerialRun.{foot-serial_jobs, length-serial_jobs}
-use Rattle.cs_row.specs.Cuts.{AreRowsOf}
+use Rattle.cs_row.specs.{Cuts.AreRowsOf, Laws.all_notes, Laws.jobs_of, RowFrames.row_frames}
 use Rattle.cs_row.specs.Heard.{HeardRow, heard_job, sum_at, sums}
-use Rattle.cs_row.specs.Laws.{all_notes, jobs_of}
-use Rattle.cs_row.specs.RowFrames.{row_frames}
 use Rattle.cs_row.specs.Rows.{IsFree, IsRow, notes_in, row_foot, row_job}
 
 module _ {J : Type 0} where

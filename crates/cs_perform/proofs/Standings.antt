@@ -1,26 +1,16 @@
 -- What is kept of a performance, from step to step.
-use Rattle.std.proofs.Common.{◌≡◌, ℕ, zero, suc, ℤ, pos, List, ◌∷◌, length, replicate, refl, ap, sym}
-use Rattle.std.proofs.Common.{◌∙◌, subst}
-use Rattle.std.specs.List.{All}
-use Rattle.std.specs.Prelude.{Result, Ok, Err, OnOk}
-use Rattle.cs_cells.specs.Areas.{word_count, IsFootprint}
-use Rattle.cs_cells.specs.Cells.{Cells, values}
-use Rattle.cs_cells.specs.Serial.{serial_cells, serial_jobs}
-use Rattle.cs_cells.specs.declared.footprint.Area.{Area}
-use Rattle.cs_cells.specs.declared.footprint.Footprint.{Footprint}
-use Rattle.cs_piece_meaning.specs.Course.{begins}
-use Rattle.cs_piece_meaning.specs.Moments.{Composition, Moment}
-use Rattle.cs_graph.specs.Graph.{Dependencies, IsFit, IsLevelled}
-use Rattle.cs_life.specs.Standing.{StandsFor}
-use Rattle.cs_life.specs.declared.life.Life.{Life}
+use Rattle.std.proofs.Common.{subst, ◌≡◌, ℕ, zero, suc, ℤ, pos, List, ◌∷◌, length, replicate, refl, ap, sym, ◌∙◌}
+use Rattle.std.specs.{List.All, Prelude.Result, Prelude.Ok, Prelude.Err, Prelude.OnOk}
+use Rattle.cs_cells.specs.{Areas.word_count, Areas.IsFootprint, Cells.Cells, Cells.values, Serial.serial_cells}
+use Rattle.cs_cells.specs.{Serial.serial_jobs, declared.footprint.Area.Area, declared.footprint.Footprint.Footprint}
+use Rattle.cs_piece_meaning.specs.{Course.begins, Moments.Composition, Moments.Moment}
+use Rattle.cs_graph.specs.Graph.{Dependencies}
+use Rattle.cs_life.specs.{Standing.StandsFor, declared.life.Life.Life}
 use Rattle.cs_piece.specs.Setups.{SetupData, composition_of}
-use Rattle.cs_voice.specs.VoiceData.{VoiceData}
-use Rattle.cs_voice.specs.VoiceMeaning.{voice_job}
-use Rattle.cs_desk.specs.declared.course.Course.{Course}
-use Rattle.cs_desk.specs.Courses.{IsCourseOf}
+use Rattle.cs_voice.specs.{VoiceData.VoiceData, VoiceMeaning.voice_job}
+use Rattle.cs_desk.specs.{declared.course.Course.Course, Courses.IsCourseOf}
 use Rattle.cs_perform.specs.declared.order.PerformanceOrder.{PerformanceOrder}
-use Rattle.cs_perform.specs.declared.recording.Recording.{Recording}
-use Rattle.cs_perform.specs.inner.Recordings.{IsRecordingOf}
+use Rattle.cs_perform.specs.{declared.recording.Recording.Recording, inner.Recordings.IsRecordingOf}
 
 -- a step that is told of the life's own setup
 pub of_setup : (s : SetupData) (life : Life) (voices : List VoiceData) (cells : Cells) (m : Moment) → life.setup.now ≡ s
@@ -70,27 +60,19 @@ own_course feet course is =
 -- a course whose graph came back
 pub kept_course : (course next : Course) → next.graph.value ≡ course.graph.value → next.feet.items ≡ course.feet.items
     → IsCourseOf course.feet.items course → IsCourseOf next.feet.items next
-kept_course course next same feet is =
-    let P : Dependencies → Type 0 = λ g. IsFit course.feet.items g.edges in
-    let Q : List Footprint → Type 0 = λ l. IsFit l next.graph.value.edges in
-    let L : Dependencies → Type 0 = λ g. IsLevelled course.feet.items g.levels in
-    let R : List Footprint → Type 0 = λ l. IsLevelled l next.graph.value.levels in
-    record {
-      feet_are = refl;
-      notes = ap (λ (g : Dependencies). length g.levels) same ∙ is.notes ∙ ap length (sym feet);
-      fit = subst Q (sym feet) (subst P (sym same) is.fit);
-      levelled = subst R (sym feet) (subst L (sym same) is.levelled);
-    }
+kept_course course next same feet is = record {
+  feet_are = refl;
+  notes = ap (λ (g : Dependencies). length g.levels) same ∙ is.notes ∙ ap length (sym feet);
+  fit = rw (feet, same) is.fit;
+  levelled = rw (feet, same) is.levelled;
+}
 
 -- voices and cells that came back
 pub ran_at : (c : Composition) (life : Life) (voices voices' : List VoiceData) (cells cells' : Cells) (m : Moment)
     → voices' ≡ serial_jobs voice_job voices cells → cells' ≡ serial_cells voice_job voices cells
     → StandsFor c life (serial_jobs voice_job voices cells) (serial_cells voice_job voices cells) m
     → StandsFor c life voices' cells' m
-ran_at c life voices voices' cells cells' m jobs left st =
-    let P : List VoiceData → Type 0 = λ l. StandsFor c life l (serial_cells voice_job voices cells) m in
-    let Q : Cells → Type 0 = λ l. StandsFor c life voices' l m in
-    subst Q (sym left) (subst P (sym jobs) st)
+ran_at c life voices voices' cells cells' m jobs left st = rw (jobs, left) st
 
 -- the footprints of the voices are over the desk's areas
 pub areas_same : (s : SetupData) (life : Life) (areas : List Area) (voices : List VoiceData) (cells : Cells)
@@ -106,8 +88,7 @@ pub feet_in_areas : (s : SetupData) (life : Life) (areas : List Area) (voices : 
     → All (λ (v : VoiceData). IsFootprint (length life.stage.zones.now) v.foot) voices
     → All (λ (v : VoiceData). IsFootprint (length areas) v.foot) voices
 feet_in_areas s life areas voices cells m is e st all =
-    let P : List Area → Type 0 = λ l. All (λ (v : VoiceData). IsFootprint (length l) v.foot) voices in
-    subst P (areas_of_desk s life areas voices cells m is e st) all
+    rw (← areas_of_desk s life areas voices cells m is e st) all
 
 -- how all stands, said of what a call took
 pub stands_so : {S : Type 0} (is_at : SetupData → S → Moment → Type 0) (s : SetupData) (sounder : S) (m : Moment)

@@ -2,10 +2,8 @@
 use Rattle.std.proofs.Common.{◌≡◌, ◌≤◌, ◌+◌, ◌*◌, ◌∙◌, ℕ, ap, arith}
 use Rattle.cs_base.specs.Limits.{most_asks, most_events, most_statements}
 use Rattle.cs_life.specs.Standing.{kept_count}
-use Rattle.cs_piece_meaning.specs.Course.{begins, closing, moment_at}
-use Rattle.cs_piece_meaning.specs.Moments.{Composition}
-use Rattle.cs_perform.specs.declared.stand.Starts.{Starts}
-use Rattle.cs_perform.specs.inner.Ends.{AreStartsOf}
+use Rattle.cs_piece_meaning.specs.{Course.begins, Course.closing, Course.moment_at, Moments.Composition}
+use Rattle.cs_perform.specs.{declared.stand.Starts.Starts, inner.Ends.AreStartsOf}
 
 abbrev most : ℕ
 most = (most_events + most_asks) * (most_statements + 1)

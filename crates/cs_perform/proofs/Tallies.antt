@@ -1,13 +1,9 @@
 -- What a tally has counted that counts the first cycles of a piece.
 use Rattle.std.proofs.Common.{◌≡◌, ◌∙◌, ℕ, ◌+◌, List, [], ◌∷◌, ◌++◌, length, map, sum, refl, ap, sym}
 use Rattle.std.specs.List.{AllZip, range_with_len}
-use Rattle.std.proofs.lemmas.List.{length-append, map-append}
-use Rattle.std.proofs.lemmas.List.Sums.{sum_by-append}
-use Rattle.std.proofs.lemmas.Slice.Zip.{AllZip-long}
+use Rattle.std.proofs.lemmas.{List.length-append, List.map-append, List.Sums.sum_by-append, Slice.Zip.AllZip-long}
 use Rattle.cs_desk.specs.declared.receipt.Tally.{Tally}
-use Rattle.cs_piece_meaning.specs.Course.{played_in}
-use Rattle.cs_piece_meaning.specs.Heard.{notes_before}
-use Rattle.cs_piece_meaning.specs.Moments.{Composition}
+use Rattle.cs_piece_meaning.specs.{Course.played_in, Heard.notes_before, Moments.Composition}
 use Rattle.cs_voice.specs.VoiceData.{VoiceData}
 use Rattle.cs_perform.specs.Counted.{AreHeardBefore, AreHeardIn, CountsOn, IsHeardAs, IsTallyOf, Receipts}
 use Rattle.cs_perform.proofs.Frames.{length-range}

@@ -1,8 +1,7 @@
 -- Taps that are told one after another, and again and again.
-use Rattle.std.proofs.Common.{◌≡◌, ◌<◌, ◌+◌, ℕ, ℤ, List, [], ◌∷◌, ◌++◌, length, take, drop, set, get_or}
-use Rattle.std.proofs.Common.{sym, ap, subst, ◌∙◌, append_assoc, append-nil, arith}
+use Rattle.std.proofs.Common.{◌≡◌, ◌<◌, ◌+◌, ℕ, ℤ, List, [], ◌∷◌, ◌++◌, length, take, drop, set, get_or, sym, ap, subst}
+use Rattle.std.proofs.{Common.◌∙◌, Common.append_assoc, Common.append-nil, Common.arith, Math.Seq.take-length}
 use Rattle.std.specs.List.{AllZip}
-use Rattle.std.proofs.Math.Seq.{take-length}
 use Rattle.std.proofs.lemmas.List.{drop-drop, drop-set-lt, get_or-drop, length-set, take_more, take_more_set}
 use Rattle.std.proofs.lemmas.List.Elements.{AllZip-push}
 use Rattle.cs_perform.specs.Hearing.{Told}
@@ -38,8 +37,7 @@ told_one_more {T} S before now frames i x y lt is told r =
     take_more before i x (omega (arith, r.long)) in
     let right : take (i + 1) (set now i y) ≡ take i now ++ y ∷ [] = take_more_set now i y lt in
     record {
-      first = subst (λ l. AllZip R (take (i + 1) before) l) (sym right)
-          (subst (λ l. AllZip R l (take i now ++ y ∷ [])) (sym left) pushed);
+      first = rw (left, right) pushed;
       rest = drop-set-lt (i + 1) now i y (omega arith) ∙ sym (drop-drop 1 i now) ∙ ap (drop 1) r.rest
           ∙ drop-drop 1 i before;
       long = length-set now i y ∙ r.long;
@@ -52,7 +50,7 @@ told_all {T} S before now frames i e r =
     let R : T → T → Type 0 = λ b n. (h : List ℤ) → S b h → S n (h ++ frames) in
     let whole : take i before ≡ before = ap (λ (k : ℕ). take k before) (e ∙ r.long) ∙ take-length before in
     let whole' : take i now ≡ now = ap (λ (k : ℕ). take k now) e ∙ take-length now in
-    subst (λ l. AllZip R before l) whole' (subst (λ l. AllZip R l (take i now)) whole r.first)
+    rw (whole, whole') at r.first
 
 -- told nothing
 pub told_nothing : {T : Type 0} (S : T → List ℤ → Type 0) (taps : List T) → Told S taps taps []

@@ -1,16 +1,12 @@
 -- The levels of a course are the turns of the notes that play.
-use Rattle.std.proofs.Common.{◌≡◌, ℕ, ◌+◌, Bool, List, [], ◌∷◌, ◌++◌, map, refl, ap, sym, ◌∙◌, subst}
-use Rattle.std.proofs.Common.{append_assoc, append-nil}
+use Rattle.std.proofs.Common.{◌≡◌, ℕ, ◌+◌, Bool, List, [], ◌∷◌, ◌++◌, map, refl, ap, sym, ◌∙◌, append_assoc, append-nil}
 use Rattle.std.specs.List.{AllZip}
-use Rattle.cs_cells.specs.declared.footprint.Area.{Area}
-use Rattle.cs_cells.specs.declared.footprint.Footprint.{Footprint}
+use Rattle.cs_cells.specs.{declared.footprint.Area.Area, declared.footprint.Footprint.Footprint}
 use Rattle.cs_piece_meaning.specs.Moments.{Active, Composition}
 use Rattle.cs_life.specs.Standing.{Plays}
 use Rattle.cs_turns.specs.Turns.{IsFootOf, line_of, notes_in, turn_lines_before, turns_in}
-use Rattle.cs_voice.specs.VoiceData.{VoiceData}
-use Rattle.cs_voice.specs.declared.stage.Stage.{Stage}
-use Rattle.cs_perform.specs.Performances.{if_told}
-use Rattle.cs_perform.specs.declared.order.TurnLines.{TurnLines}
+use Rattle.cs_voice.specs.{VoiceData.VoiceData, declared.stage.Stage.Stage}
+use Rattle.cs_perform.specs.{Performances.if_told, declared.order.TurnLines.TurnLines}
 use Rattle.cs_perform.specs.declared.order.TurnLines.TheVariants.{Told, Untold}
 use Rattle.cs_perform.proofs.Frames.{rows_more}
 
@@ -21,10 +17,7 @@ foot_of : (c : Composition) (stage : Stage) (flags : List Bool) (areas zones : L
 foot_of c stage flags areas zones v a e f p =
     let here : IsFootOf stage.layout.now stage.zones.now a.body p.foot =
     record { uses = p.of.uses; writes = p.of.writes; there = p.of.there; places = p.of.footprint } in
-    let P : List Area → Type 0 = λ l. IsFootOf l stage.zones.now a.body p.foot in
-    let R : List Area → Type 0 = λ l. IsFootOf areas l a.body p.foot in
-    let Q : Footprint → Type 0 = λ g. IsFootOf areas zones a.body g in
-    subst Q p.on.foot (subst R f (subst P e here))
+    rw (← e, ← f, ← p.on.foot) here
 
 -- the footprints of voices are those of their notes
 pub feet_of_notes : (c : Composition) (stage : Stage) (flags : List Bool) (areas zones : List Area)

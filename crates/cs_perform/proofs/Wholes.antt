@@ -1,39 +1,28 @@
 -- The whole file, and its fronts.
 use Rattle.std.proofs.Common.{◌≡◌, ◌≤◌, ◌<◌, ℕ, zero, suc, ◌+◌, ◌*◌, ◌-◌, ◌%◌, ◌==◌, Bool, true, false, ℤ, Result, Ok}
 use Rattle.std.proofs.Common.{Err, OnOk, List, [], ◌++◌, length, replicate, refl, ap, sym, ◌∙◌, subst, arith}
-use Rattle.std.proofs.Common.{append_assoc, append-nil, if◌then◌else◌}
-use Rattle.std.proofs.Math.Nat.{mul_assoc}
+use Rattle.std.proofs.{Common.append_assoc, Common.append-nil, Common.if◌then◌else◌, Math.Nat.mul_assoc}
 use Rattle.std.proofs.lemmas.Bool.{eqb-true, eq-eqb}
 use Rattle.std.specs.Result.{IsErrOf}
-use Rattle.cs_base.specs.Widths.{bytes_of}
-use Rattle.cs_base.specs.declared.head.Head.{Head}
-use Rattle.cs_base.specs.declared.width.SampleWidth.{SampleWidth}
-use Rattle.cs_piece_meaning.specs.Heard.{frames_before, frames_of, mix_in}
-use Rattle.cs_piece_meaning.specs.Moments.{Composition}
-use Rattle.cs_edge.specs.Told.{IsFront, Rose}
-use Rattle.cs_edge.specs.Moves.{SinkTold, Wrote, Stopped, Finished}
-use Rattle.cs_edge.proofs.Chains.{front_of_front}
-use Rattle.cs_edge.proofs.Stories.{rose_after}
+use Rattle.cs_base.specs.{Widths.bytes_of, declared.head.Head.Head, declared.width.SampleWidth.SampleWidth}
+use Rattle.cs_piece_meaning.specs.{Heard.frames_before, Heard.frames_of, Heard.mix_in, Moments.Composition}
+use Rattle.cs_edge.specs.{Told.IsFront, Told.Rose, Moves.SinkTold, Moves.Wrote, Moves.Stopped, Moves.Finished}
+use Rattle.cs_edge.proofs.{Chains.front_of_front, Stories.rose_after}
 use Rattle.cs_wav.specs.Wav.{header_bytes, samples_of, size_of, wav_of}
 use Rattle.cs_wav.proofs.Files.{samples_of-append}
-use Rattle.cs_perform.specs.Hearing.{IfWritten}
-use Rattle.cs_perform.specs.Performances.{HasAtLeast, IsPart, IsPaused, Lent, LentSight, Performed}
-use Rattle.cs_perform.specs.Performances.{Performs}
-use Rattle.cs_perform.specs.Performances.{Request}
+use Rattle.cs_perform.specs.{Hearing.IfWritten, declared.order.Output.Output, declared.order.PlayFault.PlayFault}
+use Rattle.cs_perform.specs.Performances.{HasAtLeast, IsPart, IsPaused, Lent, LentSight, Performed, Performs, Request}
 use Rattle.cs_perform.specs.Performances.{file_after, front_after}
 use Rattle.cs_perform.specs.declared.order.PerformanceOrder.{PerformanceOrder}
-use Rattle.cs_perform.specs.declared.order.Output.{Output}
 use Rattle.cs_perform.specs.declared.order.Output.TheVariants.{SoundFile, Nothing}
-use Rattle.cs_perform.specs.declared.order.PlayFault.{PlayFault}
-use Rattle.cs_perform.specs.declared.order.PlayFault.TheVariants as fault
 use Rattle.cs_perform.specs.inner.Ends.{Breaks, Closes, Finishes, Stops, padding}
 use Rattle.cs_perform.specs.inner.Plays.{BrokeOn, PausedOn, PlayedOn}
 use Rattle.cs_perform.proofs.Files.{error_as, file_kept, file_part, file_paused, file_stopped, file_unbegun}
 use Rattle.cs_perform.proofs.Files.{file_untouched, file_written, front_all, front_behind, keeps_less, part_kept}
 use Rattle.cs_perform.proofs.Files.{rose_in_part, same_after, same_begun}
 use Rattle.cs_perform.proofs.Frames.{frames_before_more, length-frames_before}
-use Rattle.cs_perform.proofs.Performing.{performed_from, performed_more, performed_none, performed_until}
-use Rattle.cs_perform.proofs.Performing.{samples_more}
+use Rattle.cs_perform.proofs.Performing.{performed_from, performed_more, performed_none, performed_until, samples_more}
+use Rattle.cs_perform.specs.declared.order.PlayFault.TheVariants as fault
 
 -- the byte 0 behind samples of odd size
 one_or_none : (r : ℕ) → r < 2 → padding (r == 1) ≡ replicate r 0
@@ -387,73 +376,58 @@ module _ {T W C : Type 0} (see : LentSight T W C) (request : Request) where
         sink = λ e. absurd (not_sink e);
       }
 
-      -- all cycles were played, and it was closed, or not
-      module _ (all : PlayedOn see request c.cycles b d) (z : Lent T W C)
-          (taps' : z.taps ≡ d.taps) (tally' : z.tally ≡ d.tally) where
-        performed : Performed see c c.cycles a z
-        performed = performed_until see c c.cycles a d z taps' tally'
-            (performed_from see c c.cycles a b d taps tally all.performed)
+    -- all cycles were played, and it was closed, or not
+    module _ (begun : IfWritten see.wav order.output a.wav b.wav (λ x y. Wrote x y name first)) (d : Lent T W C)
+        (all : PlayedOn see request c.cycles b d) (z : Lent T W C) (taps' : z.taps ≡ d.taps)
+        (tally' : z.tally ≡ d.tally) where
+      performed : Performed see c c.cycles a z
+      performed = performed_until see c c.cycles a d z taps' tally'
+          (performed_from see c c.cycles a b d taps tally all.performed)
 
-        wrote : IfWritten see.wav order.output a.wav d.wav
-            (λ x y. Wrote x y name (front_after c head order.width c.cycles))
-        wrote = written_so_far c.cycles d all
+      wrote : IfWritten see.wav order.output a.wav d.wav
+          (λ x y. Wrote x y name (front_after c head order.width c.cycles))
+      wrote = written_so_far begun d c.cycles d all
 
-        pub performs_closed : {A : Type 0} (r : Result A PlayFault)
-            → OnOk r (IfWritten see.wav order.output d.wav z.wav (Closes c head order.width))
-            → (IsErrOf r fault.Sink → IfWritten see.wav order.output d.wav z.wav (Breaks c head order.width))
-            → (IsErrOf r fault.Sink → (order.output ≡ SoundFile) × Rose (see.wav d.wav).faults (see.wav z.wav).faults)
-            → (IsErrOf r fault.OutOfMemory → z.wav ≡ d.wav) → Performs see request a z r
-        performs_closed (Ok x) ended broken sink same = record {
-          whole = record {
-            performed = performed;
-            written =
-                file_closed see.wav c head order.width order.output a.wav d.wav z.wav name wrote ended;
-          };
-          part = tt;
-          memory = λ e. absurd (not_ok x fault.OutOfMemory e);
-          sink = λ e. absurd (not_ok x fault.Sink e);
-        }
-        performs_closed (Err fault.Sink) ended broken sink same = record {
-          whole = tt;
-          part = record {
-            cycles = c.cycles;
-            within = omega arith;
-            performed = performed;
-            written = file_broken see.wav c head order.width order.output a.wav d.wav z.wav name wrote (broken refl);
-            kept = λ some. broken_kept see.wav c head order.width order.output a.wav d.wav z.wav name wrote
-                (broken refl);
-          };
-          memory = λ e. absurd (not_memory e);
-          sink = λ e. let told = sink refl in (
-            told.0,
-            rose_behind (see.wav d.wav).faults (see.wav z.wav).faults
-                (same_after see.wav order.output b.wav d.wav _ all.written) told.1,
-          );
-        }
-        performs_closed (Err fault.OutOfMemory) ended broken sink same =
-            let still : IfWritten see.wav order.output a.wav z.wav
-            (λ x y. Wrote x y name (front_after c head order.width c.cycles)) =
-            subst (λ (w : W). IfWritten see.wav order.output a.wav w
-            (λ x y. Wrote x y name (front_after c head order.width c.cycles))) (sym (same refl)) wrote in
-            record {
-              whole = tt;
-              part = record {
-                cycles = c.cycles;
-                within = omega arith;
-                performed = performed;
-                written = file_stopped see.wav order.output a.wav z.wav name (front_after c head order.width c.cycles)
-                    (file_after c head order.width c.cycles) still
-                    (front_in_file c head order.width c.cycles);
-                kept = λ some. file_kept see.wav order.output a.wav z.wav name
-                    (front_after c head order.width (c.cycles - 1)) (front_after c head order.width c.cycles)
-                    still (front_of_all c head order.width (c.cycles - 1) (omega arith));
-              };
-              memory = λ e. record {
-                cycles = c.cycles;
-                within = omega arith;
-                performed = performed;
-                written = file_paused see.wav order.output a.wav z.wav name (front_after c head order.width c.cycles) _
-                    still;
-              };
-              sink = λ e. absurd (not_sink e);
-            }
+      paused_behind : z.wav ≡ d.wav → PausedOn see request b z
+      paused_behind same = record {
+        cycles = c.cycles;
+        within = omega arith;
+        played = record {
+          performed = performed_until see c c.cycles b d z taps' tally' all.performed;
+          written = rw same all.written;
+        };
+      }
+
+      pub performs_closed : {A : Type 0} (r : Result A PlayFault)
+          → OnOk r (IfWritten see.wav order.output d.wav z.wav (Closes c head order.width))
+          → (IsErrOf r fault.Sink → IfWritten see.wav order.output d.wav z.wav (Breaks c head order.width))
+          → (IsErrOf r fault.Sink → (order.output ≡ SoundFile) × Rose (see.wav d.wav).faults (see.wav z.wav).faults)
+          → (IsErrOf r fault.OutOfMemory → z.wav ≡ d.wav) → Performs see request a z r
+      performs_closed (Ok x) ended broken sink same = record {
+        whole = record {
+          performed = performed;
+          written = file_closed see.wav c head order.width order.output a.wav d.wav z.wav name wrote ended;
+        };
+        part = tt;
+        memory = λ e. absurd (not_ok x fault.OutOfMemory e);
+        sink = λ e. absurd (not_ok x fault.Sink e);
+      }
+      performs_closed (Err fault.Sink) ended broken sink same = record {
+        whole = tt;
+        part = record {
+          cycles = c.cycles;
+          within = omega arith;
+          performed = performed;
+          written = file_broken see.wav c head order.width order.output a.wav d.wav z.wav name wrote (broken refl);
+          kept = λ some. broken_kept see.wav c head order.width order.output a.wav d.wav z.wav name wrote (broken refl);
+        };
+        memory = λ e. absurd (not_memory e);
+        sink = λ e. let told = sink refl in (
+          told.0,
+          rose_behind begun d (see.wav d.wav).faults (see.wav z.wav).faults
+              (same_after see.wav order.output b.wav d.wav _ all.written) told.1,
+        );
+      }
+      performs_closed {A} (Err fault.OutOfMemory) ended broken sink same =
+          performs_in_part begun z {A = A} fault.OutOfMemory (λ e. absurd (not_sink e)) (λ e. paused_behind (same refl))
+          (λ e. absurd (not_sink e))

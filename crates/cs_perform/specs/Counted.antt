@@ -3,11 +3,8 @@ use Rattle.std.specs.Prelude.{ℕ, pos, ◌≡◌, ◌-◌, ◌^◌, List, ◌++
 use Rattle.std.specs.List.{AllZip, range_with_len}
 use Rattle.cs_desk.specs.declared.receipt.Tally.{Tally}
 use Rattle.cs_machine.specs.Outputs.{outs}
-use Rattle.cs_piece_meaning.specs.Course.{played_in}
-use Rattle.cs_piece_meaning.specs.Heard.{mix_in}
-use Rattle.cs_piece_meaning.specs.Moments.{Active, Composition}
-use Rattle.cs_voice.specs.Mixing.{mixed}
-use Rattle.cs_voice.specs.VoiceData.{VoiceData}
+use Rattle.cs_piece_meaning.specs.{Course.played_in, Heard.mix_in, Moments.Active, Moments.Composition}
+use Rattle.cs_voice.specs.{Mixing.mixed, VoiceData.VoiceData}
 
 -- the receipts of cycles, one after another: the voices of each, as it left them
 abbrev pub Receipts : Type 0

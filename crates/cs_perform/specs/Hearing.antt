@@ -1,6 +1,5 @@
 -- What taps and a sink have after some calls.
-use Rattle.std.specs.Prelude.{ℤ, ◌≡◌, List, ◌++◌}
-use Rattle.std.specs.List.{AllZip}
+use Rattle.std.specs.{Prelude.ℤ, Prelude.◌≡◌, Prelude.List, Prelude.◌++◌, List.AllZip}
 use Rattle.cs_edge.specs.Moves.{SinkTold}
 use Rattle.cs_perform.specs.declared.order.Output.{Output}
 use Rattle.cs_perform.specs.declared.order.Output.TheVariants.{SoundFile, Nothing}

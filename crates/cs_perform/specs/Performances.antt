@@ -1,27 +1,19 @@
 -- What a performance leaves after some of its cycles: what taps were told, what was counted, and what a sink has taken.
 use Rattle.std.specs.Prelude.{ℕ, ◌≡◌, ◌≤◌, ◌+◌, ◌-◌, ◌*◌, ◌==◌, ◌⊎◌, ℤ, List, [], ◌++◌, length, if◌then◌else◌, Some}
-use Rattle.std.specs.Prelude.{Result, IfOk, OnOk, OnErr, IsErrOf}
-use Rattle.std.specs.List.{count_by}
-use Rattle.cs_base.specs.Widths.{bytes_of}
-use Rattle.cs_base.specs.declared.head.Head.{Head}
-use Rattle.cs_base.specs.declared.width.SampleWidth.{SampleWidth}
-use Rattle.cs_piece_meaning.specs.Course.{closing}
-use Rattle.cs_piece_meaning.specs.Heard.{frames_before, frames_of}
-use Rattle.cs_piece_meaning.specs.Moments.{Composition}
+use Rattle.std.specs.{Prelude.Result, Prelude.IfOk, Prelude.OnOk, Prelude.OnErr, Prelude.IsErrOf, List.count_by}
+use Rattle.cs_base.specs.{Widths.bytes_of, declared.head.Head.Head, declared.width.SampleWidth.SampleWidth}
+use Rattle.cs_piece_meaning.specs.{Course.closing, Heard.frames_before, Heard.frames_of, Moments.Composition}
 use Rattle.cs_edge.specs.Moves.{SinkTold, Finished, Stopped, Wrote}
 use Rattle.cs_edge.specs.Told.{Follows, IsFront, Rose}
 use Rattle.cs_piece.specs.Setups.{composition_of}
 use Rattle.cs_turns.specs.Turns.{turn_lines_of}
 use Rattle.cs_wav.specs.Wav.{header_bytes, is_out_of_range, samples_of, wav_of}
 use Rattle.cs_perform.specs.Counted.{AreHeardBefore, CountsOn, Receipts}
-use Rattle.cs_perform.specs.Hearing.{Told, IfWritten}
+use Rattle.cs_perform.specs.{Hearing.Told, Hearing.IfWritten, declared.order.Outcome.Outcome}
+use Rattle.cs_perform.specs.{declared.order.Output.TheVariants.SoundFile, declared.order.Performance.Performance}
+use Rattle.cs_perform.specs.{declared.order.PlayFault.PlayFault, declared.order.TurnLines.TurnLines}
 use Rattle.cs_perform.specs.declared.order.PerformanceOrder.{PerformanceOrder}
-use Rattle.cs_perform.specs.declared.order.Outcome.{Outcome}
-use Rattle.cs_perform.specs.declared.order.Output.TheVariants.{SoundFile}
-use Rattle.cs_perform.specs.declared.order.Performance.{Performance}
-use Rattle.cs_perform.specs.declared.order.PlayFault.{PlayFault}
 use Rattle.cs_perform.specs.declared.order.PlayFault.TheVariants as fault
-use Rattle.cs_perform.specs.declared.order.TurnLines.{TurnLines}
 use Rattle.cs_perform.specs.declared.order.TurnLines.TheVariants as lines
 
 -- What is lent to a performance, at one moment: the sink of the sound file, the meters, and whoever counts the cycles.

@@ -3,22 +3,16 @@ use Rattle.std.proofs.Common.{◌≡◌, ◌⊎◌, ℕ, List, Option, Result, S
 use Rattle.std.proofs.Common.{inl, inr}
 use Rattle.cs_piece_meaning.specs.Moments.{Composition}
 use Rattle.cs_edge.specs.Told.{Rose}
-use Rattle.cs_play.specs.Alike.{AreTexts}
+use Rattle.cs_play.specs.{Alike.AreTexts, Preparing.Reads, Runs.IsProgramRun, Scene.Scene, Scene.Sight}
 use Rattle.cs_play.specs.Endings.{EndsBy, HasLoaded}
-use Rattle.cs_play.specs.Preparing.{Reads}
-use Rattle.cs_play.specs.Runs.{IsProgramRun}
-use Rattle.cs_play.specs.Scene.{Scene, Sight}
-use Rattle.cs_report.specs.Status.{refusal}
-use Rattle.cs_report.specs.declared.status.Status.{Status}
-use Rattle.cs_report.specs.declared.status.Status.TheVariants as status
+use Rattle.cs_report.specs.{Status.refusal, declared.status.Status.Status}
 use Rattle.cs_arguments.specs.Reading.{Asked, Text, reading}
-use Rattle.cs_source.specs.Loaded.{CannotRead, SourceMeans}
-use Rattle.cs_source.specs.Meaning.{Mean}
-use Rattle.cs_source.specs.Texts.{LackWhereTold, Texts}
-use Rattle.cs_base.specs.declared.refusal.Refusal.TheVariants as why
+use Rattle.cs_source.specs.{Loaded.CannotRead, Loaded.SourceMeans, Meaning.Mean, Texts.LackWhereTold, Texts.Texts}
 use Rattle.cs_base.specs.declared.refusal.Refusal.{Refusal}
 use Rattle.cs_play.proofs.Meanings.{NoneLacking, OneMeaning, OnePair, known_unread, refused_composition, same_refusal}
 use Rattle.cs_play.proofs.Meanings.{source_lacks, source_means}
+use Rattle.cs_report.specs.declared.status.Status.TheVariants as status
+use Rattle.cs_base.specs.declared.refusal.Refusal.TheVariants as why
 
 one_asked : (o : Option Asked) (a b : Asked) → o ≡ Some a → o ≡ Some b → a ≡ b
 one_asked o a b e h = cc

@@ -1,16 +1,12 @@
 -- What the texts of a run mean, where they are known.
 use Rattle.std.proofs.Common.{◌≡◌, ℕ, List, Option, Some, None, Result, Ok, Err, ap, sym, subst, ◌∙◌, ⊎_elim}
 use Rattle.cs_piece_meaning.specs.Moments.{Composition}
-use Rattle.cs_edge.specs.Files.{ShelfTold}
-use Rattle.cs_edge.specs.Told.{Rose}
-use Rattle.cs_edge.specs.declared.files.NamedBytes.{NamedBytes}
+use Rattle.cs_edge.specs.{Files.ShelfTold, Told.Rose, declared.files.NamedBytes.NamedBytes}
 use Rattle.cs_play.specs.Alike.{AreTexts, TellAlike}
 use Rattle.cs_arguments.specs.Reading.{AskedPiece, two_files, one_file, demo}
-use Rattle.cs_source.specs.Loaded.{CannotRead, SourceMeans}
-use Rattle.cs_source.specs.Meaning.{Mean}
+use Rattle.cs_source.specs.{Loaded.CannotRead, Loaded.SourceMeans, Meaning.Mean}
 use Rattle.cs_source.specs.Texts.{Texts, both, csd, demo_notes, Fit, Have, HaveWhereTold, Lack, LackWhereTold}
-use Rattle.cs_base.specs.declared.width.SampleWidth.{SampleWidth}
-use Rattle.cs_base.specs.declared.refusal.Refusal.{Refusal}
+use Rattle.cs_base.specs.{declared.width.SampleWidth.SampleWidth, declared.refusal.Refusal.Refusal}
 
 -- texts have one meaning; files have one pair of texts; and what files lack they don't have
 abbrev pub OneMeaning : Type 0

@@ -1,23 +1,18 @@
 -- How a piece comes to be prepared, or not: one lemma for each way out.
 use Rattle.std.proofs.Common.{◌≡◌, ℕ, List, [], Some, None, Ok, Err, refl, ap, sym, subst, ◌∙◌}
-use Rattle.cs_base.specs.declared.refusal.Refusal.TheVariants as why
 use Rattle.cs_base.specs.declared.refusal.Refusal.{Refusal}
-use Rattle.cs_edge.specs.Files.{ShelfTold}
-use Rattle.cs_edge.specs.Moves.{SinkTold}
+use Rattle.cs_edge.specs.{Files.ShelfTold, Moves.SinkTold}
 use Rattle.cs_piece.specs.Setups.{composition_of}
-use Rattle.cs_arguments.specs.Orders.{asked_in, piece_in}
-use Rattle.cs_arguments.specs.Reading.{Asked, Text, reading}
+use Rattle.cs_arguments.specs.{Orders.asked_in, Orders.piece_in, Reading.Asked, Reading.Text, Reading.reading}
 use Rattle.cs_command.specs.declared.reading.Unread.{Unread}
-use Rattle.cs_command.specs.declared.reading.Unread.TheVariants as unasked
 use Rattle.cs_play.specs.Preparing.{HasNoPiece, IsPrepared, IsRefused, IsUnprepared}
 use Rattle.cs_play.specs.declared.preparing.Prepared.{Prepared}
 use Rattle.cs_play.specs.inner.Faulted.{IsNotLoaded, name_in, load_status, unread_status}
-use Rattle.cs_report.specs.Status.{refusal}
-use Rattle.cs_report.specs.Talk.{Says, message_of}
-use Rattle.cs_report.specs.declared.status.Status.{Status}
+use Rattle.cs_report.specs.{Status.refusal, Talk.Says, Talk.message_of, declared.status.Status.Status}
+use Rattle.cs_source.specs.{Loaded.CannotRead, Loaded.IsLoaded, declared.loading.LoadFault.LoadFault}
+use Rattle.cs_base.specs.declared.refusal.Refusal.TheVariants as why
+use Rattle.cs_command.specs.declared.reading.Unread.TheVariants as unasked
 use Rattle.cs_report.specs.declared.status.Status.TheVariants as status
-use Rattle.cs_source.specs.Loaded.{CannotRead, IsLoaded}
-use Rattle.cs_source.specs.declared.loading.LoadFault.{LoadFault}
 use Rattle.cs_source.specs.declared.loading.LoadFault.TheVariants as unloaded
 
 module _ {F : Type 0} (tells : F → ShelfTold) (words : List Text) (before now : F) where

@@ -1,35 +1,22 @@
 -- What comes of a run stands on the page.
 use Rattle.std.proofs.Common.{◌≡◌, ◌≢◌, ◌⊎◌, ℕ, List, [], Bool, true, false, Some, Ok, Err, refl, ap, ⊎_elim, inl, inr}
 use Rattle.cs_arguments.specs.Reading.{Asked, Text, reading}
-use Rattle.cs_base.specs.declared.head.Head.{Head}
-use Rattle.cs_base.specs.declared.refusal.Refusal.{Refusal}
-use Rattle.cs_base.specs.declared.refusal.Refusal.TheVariants as why
+use Rattle.cs_base.specs.{declared.head.Head.Head, declared.refusal.Refusal.Refusal}
 use Rattle.cs_edge.proofs.Stories.{stopped_longer}
-use Rattle.cs_edge.specs.Files.{ShelfTold}
-use Rattle.cs_edge.specs.Moves.{Finished, SinkTold, Stopped, Wrote}
-use Rattle.cs_edge.specs.Told.{IsFront}
-use Rattle.cs_perform.specs.Hearing.{IfWritten}
-use Rattle.cs_perform.specs.Performances.{file_after, front_after}
-use Rattle.cs_piece_meaning.specs.Heard.{frames_of}
-use Rattle.cs_piece_meaning.specs.Moments.{Composition}
+use Rattle.cs_edge.specs.{Files.ShelfTold, Moves.Finished, Moves.SinkTold, Moves.Stopped, Moves.Wrote, Told.IsFront}
+use Rattle.cs_perform.specs.{Hearing.IfWritten, Performances.file_after, Performances.front_after}
+use Rattle.cs_piece_meaning.specs.{Heard.frames_of, Moments.Composition}
 use Rattle.cs_play.specs.Endings.{EndsBy, HasLoaded, IsCutShort, IsSinkFault, IsStarved, WasPerformed, output_of}
 use Rattle.cs_play.specs.Page.{Ends, HasRead, Outside, Sounds, played, refused, starved, unread, unsaid, unwritten}
-use Rattle.cs_play.specs.Page.{usage}
-use Rattle.cs_play.specs.Preparing.{Reads}
-use Rattle.cs_play.specs.Report.{meter_lines}
+use Rattle.cs_play.specs.{Page.usage, Preparing.Reads, Report.meter_lines, Scene.Scene, Scene.Sight}
 use Rattle.cs_play.specs.Runs.{IsProgramRun, told_in}
-use Rattle.cs_play.specs.Scene.{Scene, Sight}
-use Rattle.cs_report.specs.Status.{refusal}
-use Rattle.cs_report.specs.Talk.{Says, message_of}
-use Rattle.cs_report.specs.declared.status.Status.{Status}
-use Rattle.cs_report.specs.declared.status.Status.TheVariants as status
-use Rattle.cs_source.specs.Meaning.{Mean}
-use Rattle.cs_source.specs.Sounds.{IsSoundOf}
-use Rattle.cs_source.specs.Texts.{Texts}
+use Rattle.cs_report.specs.{Status.refusal, Talk.Says, Talk.message_of, declared.status.Status.Status}
+use Rattle.cs_source.specs.{Meaning.Mean, Sounds.IsSoundOf, Texts.Texts}
 use Rattle.cs_typed.specs.TypedTree.{header_of_head}
 use Rattle.cs_wav.specs.Wav.{wav_of}
-use Rattle.cs_play.proofs.Sounds.{AreFronts, front_is}
-use Rattle.cs_play.proofs.TwoRuns.{written_is}
+use Rattle.cs_play.proofs.{Sounds.AreFronts, Sounds.front_is, TwoRuns.written_is}
+use Rattle.cs_base.specs.declared.refusal.Refusal.TheVariants as why
+use Rattle.cs_report.specs.declared.status.Status.TheVariants as status
 
 -- the sound of texts that mean this composition
 sound_is : (t : Texts) (asked : Asked) (c : Composition) (head : Head) → Mean asked.width t (Ok c)

@@ -1,42 +1,30 @@
 -- How a run ends: one lemma for each way out.
-use Rattle.std.proofs.Common.{◌≡◌, ◌++◌, ◌*◌, ℕ, List, [], Bool, true, false, Result, Some, Ok, Err, refl, ap, sym}
-use Rattle.std.proofs.Common.{subst, ◌∙◌, inl, inr, if◌then◌else◌}
-use Rattle.std.specs.List.{count_by, flat_map}
-use Rattle.std.specs.Result.{IfErr, IfOk, OnOk}
-use Rattle.cs_base.specs.declared.head.Head.{Head}
+use Rattle.std.proofs.Common.{◌≡◌, ◌++◌, ◌*◌, ℕ, List, [], Bool, true, false, Result, Some, Ok, Err, refl, ap, ◌∙◌, inl}
+use Rattle.std.proofs.Common.{inr, if◌then◌else◌}
+use Rattle.std.specs.{List.count_by, List.flat_map, Result.IfErr, Result.IfOk, Result.OnOk}
+use Rattle.cs_base.specs.{declared.head.Head.Head, declared.width.SampleWidth.SampleWidth}
 use Rattle.cs_piece.specs.Setups.{composition_of}
-use Rattle.cs_piece_meaning.specs.Course.{closing}
-use Rattle.cs_piece_meaning.specs.Heard.{frames_of}
-use Rattle.cs_piece_meaning.specs.Moments.{Composition}
-use Rattle.cs_edge.specs.Moves.{WroteMore, WrotePart}
+use Rattle.cs_piece_meaning.specs.{Course.closing, Heard.frames_of, Moments.Composition}
 use Rattle.cs_edge.specs.Told.{Rose}
 use Rattle.cs_perform.specs.Performances.{IsOutcomeOf, IsPart, IsPaused, IsWholePerformance, Lent, Request, if_told}
-use Rattle.cs_perform.specs.Performances.{lent}
-use Rattle.cs_perform.specs.declared.order.Outcome.{Outcome}
+use Rattle.cs_perform.specs.{Performances.lent, declared.order.Outcome.Outcome, declared.order.PlayFault.PlayFault}
 use Rattle.cs_perform.specs.declared.order.Output.TheVariants.{SoundFile}
-use Rattle.cs_perform.specs.declared.order.PlayFault.{PlayFault}
-use Rattle.cs_perform.specs.declared.order.PlayFault.TheVariants as fault
 use Rattle.cs_play.specs.Endings.{EndsBy, IsUnplayed, IsUntouched, lines_of, output_of, sees_lent, request_in}
 use Rattle.cs_play.specs.Preparing.{IsPrepared, IsReadFor, IsUnprepared}
 use Rattle.cs_play.specs.Report.{counts_of, meter_lines, report_of}
-use Rattle.cs_play.specs.Runs.{IsProgramRun}
-use Rattle.cs_play.specs.Scene.{Scene, Sight, scene}
+use Rattle.cs_play.specs.{Runs.IsProgramRun, Scene.Scene, Scene.Sight, Scene.scene, declared.player.Played.Played}
+use Rattle.cs_play.specs.{declared.preparing.Prepared.Prepared, inner.Faulted.fault_status}
 use Rattle.cs_play.specs.inner.Sounding.{HasPlayed, HasReported, HasSaid, counts_told}
-use Rattle.cs_play.specs.declared.player.Played.{Played}
-use Rattle.cs_play.specs.declared.player.Played.TheVariants as what
-use Rattle.cs_play.specs.declared.preparing.Prepared.{Prepared}
-use Rattle.cs_play.specs.inner.Faulted.{fault_status}
 use Rattle.cs_report.specs.Report.{count_lines, counts_in, line_room}
-use Rattle.cs_report.specs.Talk.{Says, message_of}
-use Rattle.cs_report.specs.declared.status.Status.{Status}
-use Rattle.cs_report.specs.declared.status.Status.TheVariants as status
-use Rattle.cs_arguments.specs.Orders.{asked_in}
-use Rattle.cs_arguments.specs.Reading.{Asked, Text, reading}
+use Rattle.cs_report.specs.{Talk.Says, Talk.message_of, declared.status.Status.Status}
+use Rattle.cs_arguments.specs.{Orders.asked_in, Reading.Asked, Reading.Text, Reading.reading}
 use Rattle.cs_source.specs.Loaded.{IsLoaded}
-use Rattle.cs_base.specs.declared.width.SampleWidth.{SampleWidth}
 use Rattle.cs_turns.specs.Turns.{turn_lines_of}
 use Rattle.cs_typed.specs.TypedTree.{header_of_head}
 use Rattle.cs_wav.specs.Wav.{is_out_of_range}
+use Rattle.cs_perform.specs.declared.order.PlayFault.TheVariants as fault
+use Rattle.cs_play.specs.declared.player.Played.TheVariants as what
+use Rattle.cs_report.specs.declared.status.Status.TheVariants as status
 
 same_lines : (a b c d e a' b' c' d' e' : ℕ) → a ≡ a' → b ≡ b' → c ≡ c' → d ≡ d' → e ≡ e'
     → count_lines a b c d e ≡ count_lines a' b' c' d' e'
@@ -79,12 +67,7 @@ module _ {F K T B C : Type 0} (see : Sight F K T B C) where
     ends_unplayed status.SinkFault h = absurd h.cause
     ends_unplayed status.OutOfMemory h =
         record { calm = h.cause; performed = inl (untouched shelf shelf' wav talk talk' taps tally); line = h.line }
-    ends_unplayed status.Usage h = unplayed status.Usage h
-    ends_unplayed status.ShelfFault h = unplayed status.ShelfFault h
-    ends_unplayed (status.OrcRefused f) h = unplayed (status.OrcRefused f) h
-    ends_unplayed (status.ScoreRefused f) h = unplayed (status.ScoreRefused f) h
-    ends_unplayed (status.Limit l) h = unplayed (status.Limit l) h
-    ends_unplayed (status.CsdRefused f) h = unplayed (status.CsdRefused f) h
+    ends_unplayed s h = unplayed s h
 
   -- A COMPOSITION, which was performed
 
@@ -120,36 +103,27 @@ module _ {F K T B C : Type 0} (see : Sight F K T B C) where
         → HasReported (see.talk talk) (see.talk talk')
         (counts_in (counts_told o) ++ flat_map (λ tap. see.line tap line_room) taps' ++ o.turns) s
         → EndsBy see s words before now
-    whole_ends o status.Ok whole is lines wrote =
-        let P : List ℕ → Type 0 = λ l. WroteMore (see.talk talk) (see.talk talk') l in (
-          asked,
-          e,
-          record {
-            c = c;
-            loaded = loaded;
-            performed = record { head = head; head_is = same; whole = whole };
-            report = subst P (report_is c asked o taps' is lines) wrote;
-          },
-        )
-    whole_ends o status.TalkFault whole is lines part =
-        let P : List ℕ → Type 0 = λ l. WrotePart (see.talk talk) (see.talk talk') l in (
-          asked,
-          e,
-          record {
-            c = c;
-            loaded = loaded;
-            performed = record { head = head; head_is = same; whole = whole };
-            report = subst P (report_is c asked o taps' is lines) part;
-          },
-        )
-    whole_ends o status.Usage whole is lines never = absurd never
-    whole_ends o status.ShelfFault whole is lines never = absurd never
-    whole_ends o status.SinkFault whole is lines never = absurd never
-    whole_ends o status.OutOfMemory whole is lines never = absurd never
-    whole_ends o (status.OrcRefused f) whole is lines never = absurd never
-    whole_ends o (status.ScoreRefused f) whole is lines never = absurd never
-    whole_ends o (status.Limit h) whole is lines never = absurd never
-    whole_ends o (status.CsdRefused f) whole is lines never = absurd never
+    whole_ends o status.Ok whole is lines wrote = (
+      asked,
+      e,
+      record {
+        c = c;
+        loaded = loaded;
+        performed = record { head = head; head_is = same; whole = whole };
+        report = rw (report_is c asked o taps' is lines) at wrote;
+      },
+    )
+    whole_ends o status.TalkFault whole is lines part = (
+      asked,
+      e,
+      record {
+        c = c;
+        loaded = loaded;
+        performed = record { head = head; head_is = same; whole = whole };
+        report = rw (report_is c asked o taps' is lines) at part;
+      },
+    )
+    whole_ends o s whole is lines never = absurd never
 
     -- in part
     part_ends : (f : PlayFault) → IsPart (sees_lent see) request (lent wav taps tally) (lent wav' taps' tally')
@@ -196,24 +170,20 @@ module _ {F K T B C : Type 0} (see : Sight F K T B C) where
       → IsProgramRun see words r (scene shelf wav talk taps tally) (scene shelf' wav' talk' taps' tally')
   prepared_run words (Ok p) (what.Piece (Ok o)) r shelf shelf' wav wav' talk mid talk' taps taps' tally tally' was
       prepared quiet unprepared play said =
-      let text : List ℕ = counts_in (counts_told o) ++ flat_map (λ tap. see.line tap line_room) taps' ++ o.turns in
       record {
         ended = whole_ends words (asked_in p.order) (composition_of p.setup) p.setup.orchestra.head shelf shelf' wav
             wav' talk talk' taps taps' tally tally' prepared.asked refl prepared.loaded o r play.performed.whole
             play.outcome play.turns
-            (subst (λ t. HasReported (see.talk t) (see.talk talk') text r) quiet said);
+            (rw quiet at said);
         shelf = was;
       }
   prepared_run words (Ok p) (what.Piece (Err f)) r shelf shelf' wav wav' talk mid talk' taps taps' tally tally' was
       prepared quiet unprepared play said = record {
-        ended = subst (λ s. EndsBy see s words (scene shelf wav talk taps tally) (scene shelf' wav' talk' taps' tally'))
-            (sym said.0)
+        ended = rw said.0
             (part_ends words (asked_in p.order) (composition_of p.setup) p.setup.orchestra.head shelf shelf' wav wav'
-            talk
-            talk' taps taps' tally tally' prepared.asked refl prepared.loaded f play.performed.part
+            talk talk' taps taps' tally tally' prepared.asked refl prepared.loaded f play.performed.part
             (λ e. play.performed.memory (ap (λ (x : PlayFault). Err x) e))
-            (λ e. play.performed.sink (ap (λ (x : PlayFault). Err x) e))
-            (subst (λ t. Says (see.talk t) (see.talk talk') (message_of (fault_status f) [])) quiet said.1));
+            (λ e. play.performed.sink (ap (λ (x : PlayFault). Err x) e)) (rw quiet at said.1));
         shelf = was;
       }
   prepared_run words (Ok p) (what.Nothing t) r shelf shelf' wav wav' talk mid talk' taps taps' tally tally' was

@@ -1,36 +1,25 @@
 -- What a sink holds after a run: the sound of its texts, or a front of it.
 use Rattle.std.proofs.Common.{◌≡◌, ◌⊎◌, ◌≤◌, ℕ, Bool, true, false, List, Option, Result, Some, None, Ok, Err, refl, ap}
 use Rattle.std.proofs.Common.{sym, subst, ◌∙◌, ⊎_elim, inl, inr}
-use Rattle.cs_base.specs.declared.head.Head.{Head}
+use Rattle.cs_base.specs.{declared.head.Head.Head, declared.refusal.Refusal.Refusal}
 use Rattle.cs_base.specs.declared.width.SampleWidth.{SampleWidth}
-use Rattle.cs_base.specs.declared.refusal.Refusal.{Refusal}
 use Rattle.cs_edge.specs.Moves.{Finished, Held, HoldsFront, SinkTold, Stopped, Wrote, ended_file, open_file}
 use Rattle.cs_edge.specs.Told.{Follows, IsFront}
-use Rattle.cs_perform.specs.Hearing.{IfWritten}
-use Rattle.cs_perform.specs.Performances.{file_after, front_after}
+use Rattle.cs_perform.specs.{Hearing.IfWritten, Performances.file_after, Performances.front_after}
 use Rattle.cs_edge.proofs.Chains.{front_of_front}
-use Rattle.cs_perform.proofs.Files.{front_all}
-use Rattle.cs_perform.proofs.Wholes.{front_in_file}
-use Rattle.cs_piece_meaning.specs.Heard.{frames_of}
-use Rattle.cs_piece_meaning.specs.Moments.{Composition}
-use Rattle.cs_play.specs.Alike.{AreTexts}
+use Rattle.cs_perform.proofs.{Files.front_all, Wholes.front_in_file}
+use Rattle.cs_piece_meaning.specs.{Heard.frames_of, Moments.Composition}
+use Rattle.cs_play.specs.{Alike.AreTexts, Runs.IsProgramRun, Scene.Scene, Scene.Sight, Sounds.HoldsSoundFront}
 use Rattle.cs_play.specs.Endings.{EndsBy, HasLoaded, IsCutShort, IsOk, IsSinkFault, IsTalkFault, WasPartlyPerformed}
 use Rattle.cs_play.specs.Endings.{WasPaused, WasPerformed, output_of}
-use Rattle.cs_play.specs.Runs.{IsProgramRun}
-use Rattle.cs_play.specs.Scene.{Scene, Sight}
-use Rattle.cs_play.specs.Sounds.{HoldsSoundFront}
 use Rattle.cs_report.specs.declared.status.Status.{Status}
-use Rattle.cs_report.specs.declared.status.Status.TheVariants as status
 use Rattle.cs_arguments.specs.Reading.{Asked, Text, reading}
-use Rattle.cs_source.specs.Meaning.{Mean}
-use Rattle.cs_source.specs.Sounds.{IsSoundOf}
-use Rattle.cs_source.specs.Texts.{Texts}
+use Rattle.cs_source.specs.{Meaning.Mean, Sounds.IsSoundOf, Texts.Texts}
 use Rattle.cs_typed.specs.TypedTree.{header_of_head}
 use Rattle.cs_wav.specs.Wav.{wav_of}
-use Rattle.cs_play.proofs.Deciding.{the_asked}
+use Rattle.cs_play.proofs.{Deciding.the_asked, Meanings.same_refusal, TwoRuns.same_wav, TwoRuns.written_is}
 use Rattle.cs_play.proofs.Meanings.{OneMeaning, OnePair, known_means, refused_composition, same_composition}
-use Rattle.cs_play.proofs.Meanings.{same_refusal}
-use Rattle.cs_play.proofs.TwoRuns.{same_wav, written_is}
+use Rattle.cs_report.specs.declared.status.Status.TheVariants as status
 
 -- ONE SOUND OR ONE REFUSAL
 
@@ -231,12 +220,7 @@ module _ {F K T B C : Type 0} (see : Sight F K T B C) (pair : OnePair) (words : 
         (λ r. let one : IsCutShort see asked before now =
         the_asked words (λ a. IsCutShort see a before now) asked e r in
         paused_front one.c one.loaded one.performed) h.performed
-    front_at status.ShelfFault h = untouched h.untouched.wav
-    front_at status.Usage h = untouched h.untouched.wav
-    front_at (status.OrcRefused f) h = untouched h.untouched.wav
-    front_at (status.ScoreRefused f) h = untouched h.untouched.wav
-    front_at (status.Limit l) h = untouched h.untouched.wav
-    front_at (status.CsdRefused f) h = untouched h.untouched.wav
+    front_at s h = untouched h.untouched.wav
 
     pub holds_front : (s : Status) → IsProgramRun see words s before now → Front
     holds_front s run = front_at s run.ended

@@ -1,35 +1,26 @@
 -- What two runs have in common.
 use Rattle.std.proofs.Common.{◌≡◌, ◌≢◌, ℕ, ℤ, List, [], Bool, true, false, ◌++◌, Option, Result, Some, None, Ok, Err}
 use Rattle.std.proofs.Common.{ap, sym, subst, ◌∙◌, ⊎_elim, if◌then◌else◌}
-use Rattle.cs_base.specs.declared.head.Head.{Head}
+use Rattle.cs_base.specs.{declared.head.Head.Head, declared.refusal.Refusal.Refusal}
 use Rattle.cs_base.specs.declared.width.SampleWidth.{SampleWidth}
-use Rattle.cs_piece_meaning.specs.Heard.{frames_of}
-use Rattle.cs_piece_meaning.specs.Moments.{Composition}
-use Rattle.cs_edge.specs.Files.{ShelfTold}
-use Rattle.cs_edge.specs.Moves.{Finished, Held, SinkTold, WroteMore, ended_file}
-use Rattle.cs_edge.specs.Told.{Follows}
-use Rattle.cs_edge.specs.declared.files.NamedBytes.{NamedBytes}
+use Rattle.cs_piece_meaning.specs.{Heard.frames_of, Moments.Composition}
+use Rattle.cs_edge.specs.{Files.ShelfTold, Told.Follows, declared.files.NamedBytes.NamedBytes}
+use Rattle.cs_edge.specs.Moves.{Finished, Held, SinkTold, ended_file}
 use Rattle.cs_perform.specs.Hearing.{IfWritten}
 use Rattle.cs_turns.specs.Turns.{turn_lines_of}
 use Rattle.cs_play.specs.Alike.{AskAlike, HadNoFault, HoldAlike, SoundAlike, TellAlike}
 use Rattle.cs_play.specs.Endings.{IsOk, WasPerformed, output_of, report_in}
-use Rattle.cs_play.specs.Report.{counts_of, meter_lines}
-use Rattle.cs_play.specs.Runs.{IsProgramRun}
-use Rattle.cs_play.specs.Scene.{Scene, Sight}
-use Rattle.cs_report.specs.Status.{refusal}
-use Rattle.cs_report.specs.declared.status.Status.{Status}
-use Rattle.cs_report.specs.declared.status.Status.TheVariants as status
+use Rattle.cs_play.specs.{Report.counts_of, Report.meter_lines, Runs.IsProgramRun, Scene.Scene, Scene.Sight}
+use Rattle.cs_report.specs.{Status.refusal, declared.status.Status.Status}
 use Rattle.cs_arguments.specs.Reading.{Asked, AskedPiece, Text, demo, one_file, reading, two_files}
-use Rattle.cs_source.specs.Loaded.{CannotRead, SourceMeans}
-use Rattle.cs_source.specs.Texts.{LackWhereTold}
-use Rattle.cs_base.specs.declared.refusal.Refusal.{Refusal}
-use Rattle.cs_typed.specs.Places.{Header}
-use Rattle.cs_typed.specs.TypedTree.{header_of_head}
+use Rattle.cs_source.specs.{Loaded.CannotRead, Loaded.SourceMeans, Texts.LackWhereTold}
+use Rattle.cs_typed.specs.{Places.Header, TypedTree.header_of_head}
 use Rattle.cs_wav.specs.Wav.{header_bytes, wav_of}
 use Rattle.cs_play.proofs.Deciding.{EndedBy, by_memory, by_name, by_refusal, by_sound, by_words, ended_by, loaded}
 use Rattle.cs_play.proofs.Deciding.{no_asked, the_asked, unread}
 use Rattle.cs_play.proofs.Meanings.{NoneLacking, OneMeaning, OnePair, alike_means, refused_composition}
 use Rattle.cs_play.proofs.Meanings.{same_composition, same_refusal, source_lacks}
+use Rattle.cs_report.specs.declared.status.Status.TheVariants as status
 
 -- THE SAME FILE
 
@@ -75,10 +66,7 @@ same_wav frames width a b e =
 means_as : (told : ShelfTold) (a b : Asked) (r : Result Composition Refusal) → AskAlike a b
     → SourceMeans told b.width b.piece r
     → SourceMeans told a.width a.piece r
-means_as told a b r alike means =
-    let Q : AskedPiece → Type 0 = λ l. SourceMeans told b.width l r in
-    let W : SampleWidth → Type 0 = λ w. SourceMeans told w a.piece r in
-    subst W (sym alike.width) (subst Q (sym alike.piece) means)
+means_as told a b r alike means = rw (alike.width, alike.piece) means
 
 module _ {F K T B C F' K' T' B' C' : Type 0} (see : Sight F K T B C) (see' : Sight F' K' T' B' C') where
   one_sound : (a b : Asked) (c : Composition) (before now : Scene F K T B C) (before' now' : Scene F' K' T' B' C')
@@ -117,19 +105,15 @@ module _ {F K T B C F' K' T' B' C' : Type 0} (see : Sight F K T B C) (see' : Sig
       (alike_means m p (see.shelf before.shelf) (see'.shelf before'.shelf) a.width a.piece (Ok x.c) (Ok y.c) told
       x.loaded.means
       (means_as (see'.shelf before'.shelf) a b (Ok y.c) alike y.loaded.means)) in
-      let C : Composition → Type 0 = λ c. WasPerformed see' b c before' now' in
-      let M : Composition → Type 0 = λ c. SourceMeans (see'.shelf before'.shelf) b.width b.piece (Ok c) in
-      let R : Composition → Type 0 =
-      λ c. WroteMore (see'.talk before'.talk) (see'.talk now'.talk) (report_in see' b c now') in
-      let second : WasPerformed see' b x.c before' now' = subst C (sym same) y.performed in
+      let second : WasPerformed see' b x.c before' now' = rw same y.performed in
       record {
         c = x.c;
         means = x.loaded.means;
-        means' = subst M (sym same) y.loaded.means;
+        means' = rw same y.loaded.means;
         performed = x.performed;
         performed' = second;
         report = x.report;
-        report' = subst R (sym same) y.report;
+        report' = rw same y.report;
         same_report = one_report a b x.c now now' alike.width;
         bytes = one_sound a b x.c before now before' now' alike x.performed second;
       }
@@ -226,7 +210,7 @@ as_asked : (told : ShelfTold) (a b : Asked) (s : Status) → AskAlike a b → En
 as_asked told a b s alike (sounding c e h) = sounding c e (means_as told a b (Ok c) alike h)
 as_asked told a b s alike (refusing r e h) = refusing r e (means_as told a b (Err r) alike h)
 as_asked told a b s alike (missing name e h) =
-    missing name e (subst (λ (l : AskedPiece). LackWhereTold told.files l name) (sym alike.piece) h)
+    missing name e (rw alike.piece h)
 
 module _ {F K T B C F' K' T' B' C' : Type 0} (see : Sight F K T B C) (see' : Sight F' K' T' B' C') where
   pub end_alike : OneMeaning → OnePair → NoneLacking

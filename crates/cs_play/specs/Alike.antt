@@ -1,15 +1,10 @@
 -- What two runs have in common, and what the texts of a run are.
 use Rattle.std.specs.Prelude.{◌≡◌, false, List, Option, Some, None, Ok, ⊤}
 use Rattle.cs_piece_meaning.specs.Moments.{Composition}
-use Rattle.cs_edge.specs.Moves.{Held, WroteMore}
-use Rattle.cs_edge.specs.Told.{Rose}
-use Rattle.cs_edge.specs.declared.files.NamedBytes.{NamedBytes}
-use Rattle.cs_play.specs.Endings.{WasPerformed, report_in}
-use Rattle.cs_play.specs.Report.{meter_lines}
-use Rattle.cs_play.specs.Scene.{Scene, Sight}
+use Rattle.cs_edge.specs.{Moves.Held, Moves.WroteMore, Told.Rose, declared.files.NamedBytes.NamedBytes}
+use Rattle.cs_play.specs.{Endings.WasPerformed, Endings.report_in, Report.meter_lines, Scene.Scene, Scene.Sight}
 use Rattle.cs_arguments.specs.Reading.{Asked, AskedPiece, demo}
-use Rattle.cs_source.specs.Loaded.{SourceMeans}
-use Rattle.cs_source.specs.Texts.{Texts, Have, demo_notes}
+use Rattle.cs_source.specs.{Loaded.SourceMeans, Texts.Texts, Texts.Have, Texts.demo_notes}
 
 -- The texts of a piece: those of the demo, or those that files have which are told.
 abbrev pub AreTexts : Option (List NamedBytes) → AskedPiece → Texts → Type 0

@@ -1,26 +1,20 @@
 -- How a run of the program ends: for each status what has come about, and no more.
 use Rattle.std.specs.Prelude.{ℕ, ◌≡◌, ◌⊎◌, Bool, true, false, List, [], Result, Ok}
-use Rattle.cs_base.specs.declared.head.Head.{Head}
+use Rattle.cs_base.specs.{declared.head.Head.Head, declared.refusal.Refusal.Refusal}
 use Rattle.cs_piece_meaning.specs.Moments.{Composition}
-use Rattle.cs_edge.specs.Moves.{WroteMore, WrotePart}
-use Rattle.cs_edge.specs.Told.{Rose}
+use Rattle.cs_edge.specs.{Moves.WroteMore, Moves.WrotePart, Told.Rose}
 use Rattle.cs_perform.specs.Performances.{IsPart, IsPaused, IsWholePerformance, Lent, LentSight, Request, lent}
-use Rattle.cs_perform.specs.Performances.{lent_sight}
+use Rattle.cs_perform.specs.{Performances.lent_sight, declared.order.Output.Output, declared.order.TurnLines.TurnLines}
 use Rattle.cs_perform.specs.declared.order.PerformanceOrder.{PerformanceOrder}
-use Rattle.cs_perform.specs.declared.order.Output.{Output}
 use Rattle.cs_perform.specs.declared.order.Output.TheVariants.{SoundFile, Nothing}
-use Rattle.cs_perform.specs.declared.order.TurnLines.{TurnLines}
 use Rattle.cs_perform.specs.declared.order.TurnLines.TheVariants.{Told, Untold}
 use Rattle.cs_play.specs.Preparing.{IsUnprepared, Reads}
-use Rattle.cs_play.specs.Report.{meter_lines, report_of}
-use Rattle.cs_play.specs.Scene.{Scene, Sight}
-use Rattle.cs_report.specs.Talk.{Says, message_of}
-use Rattle.cs_report.specs.declared.status.Status.{Status}
-use Rattle.cs_report.specs.declared.status.Status.TheVariants as status
+use Rattle.cs_play.specs.{Report.meter_lines, Report.report_of, Scene.Scene, Scene.Sight}
+use Rattle.cs_report.specs.{Talk.Says, Talk.message_of, declared.status.Status.Status}
 use Rattle.cs_arguments.specs.Reading.{Asked, Text}
 use Rattle.cs_source.specs.Loaded.{IsLoaded}
-use Rattle.cs_base.specs.declared.refusal.Refusal.{Refusal}
 use Rattle.cs_typed.specs.TypedTree.{header_of_head}
+use Rattle.cs_report.specs.declared.status.Status.TheVariants as status
 
 -- the sound file is written, unless silence is asked for
 abbrev pub output_of : Bool → Output

@@ -6,19 +6,14 @@
 use Rattle.std.specs.Prelude.{ℕ, ◌≡◌, ◌⊎◌, Bool, true, false, List, [], Ok, Err, Some, None}
 use Rattle.cs_arguments.specs.Reading.{Asked, Text, reading}
 use Rattle.cs_base.specs.declared.refusal.Refusal.{Refusal}
-use Rattle.cs_edge.specs.Files.{ShelfTold}
+use Rattle.cs_edge.specs.{Files.ShelfTold, Told.IsFront, Told.Rose}
 use Rattle.cs_edge.specs.Moves.{Finished, SinkTold, Stopped, WroteMore, Wrote, WrotePart}
-use Rattle.cs_edge.specs.Told.{IsFront, Rose}
 use Rattle.cs_piece_meaning.specs.Moments.{Composition}
 use Rattle.cs_play.specs.Report.{report_of}
-use Rattle.cs_report.specs.Status.{refusal}
-use Rattle.cs_report.specs.Talk.{Says, message_of}
-use Rattle.cs_report.specs.declared.status.Status.{Status}
-use Rattle.cs_report.specs.declared.status.Status.TheVariants as status
-use Rattle.cs_source.specs.Loaded.{CannotRead}
-use Rattle.cs_source.specs.Meaning.{Mean}
-use Rattle.cs_source.specs.Sounds.{IsSoundOf}
+use Rattle.cs_report.specs.{Status.refusal, Talk.Says, Talk.message_of, declared.status.Status.Status}
+use Rattle.cs_source.specs.{Loaded.CannotRead, Meaning.Mean, Sounds.IsSoundOf}
 use Rattle.cs_source.specs.Texts.{Fit, HaveWhereTold, Texts}
+use Rattle.cs_report.specs.declared.status.Status.TheVariants as status
 
 -- What lies outside at one moment, as far as it tells: the files to read, the sound file, and what is printed on.
 pub record Outside : Type 0 where

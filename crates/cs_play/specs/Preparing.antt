@@ -1,17 +1,14 @@
 -- What the words and the source that they ask for come to before anything is performed: a piece, or why there is none.
 use Rattle.std.specs.Prelude.{ℕ, ◌≡◌, ◌⊎◌, List, Some, None, Ok, Err}
-use Rattle.cs_base.specs.declared.refusal.Refusal.TheVariants as why
-use Rattle.cs_edge.specs.Files.{ShelfTold}
-use Rattle.cs_edge.specs.Moves.{SinkTold}
+use Rattle.cs_edge.specs.{Files.ShelfTold, Moves.SinkTold}
 use Rattle.cs_piece.specs.Setups.{composition_of}
 use Rattle.cs_base.specs.declared.refusal.Refusal.{Refusal}
-use Rattle.cs_arguments.specs.Orders.{asked_in, piece_in}
-use Rattle.cs_arguments.specs.Reading.{Asked, Text, reading}
+use Rattle.cs_arguments.specs.{Orders.asked_in, Orders.piece_in, Reading.Asked, Reading.Text, Reading.reading}
 use Rattle.cs_source.specs.Loaded.{CannotRead, IsLoaded, WasRead}
-use Rattle.cs_report.specs.Talk.{Says, message_of}
-use Rattle.cs_report.specs.declared.status.Status.{Status}
-use Rattle.cs_report.specs.declared.status.Status.TheVariants as status
+use Rattle.cs_report.specs.{Talk.Says, Talk.message_of, declared.status.Status.Status}
 use Rattle.cs_play.specs.declared.preparing.Prepared.{Prepared}
+use Rattle.cs_base.specs.declared.refusal.Refusal.TheVariants as why
+use Rattle.cs_report.specs.declared.status.Status.TheVariants as status
 
 -- the words ask for something of which P holds
 abbrev pub Reads : List Text → (Asked → Type 0) → Type 0

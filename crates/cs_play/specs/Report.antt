@@ -3,9 +3,7 @@
 use Rattle.std.specs.Prelude.{ℕ, List, [], ◌++◌, ◌*◌, if◌then◌else◌, count_by, flat_map}
 use Rattle.cs_arguments.specs.Reading.{Asked}
 use Rattle.cs_base.specs.declared.width.SampleWidth.{SampleWidth}
-use Rattle.cs_piece_meaning.specs.Course.{closing}
-use Rattle.cs_piece_meaning.specs.Heard.{frames_of}
-use Rattle.cs_piece_meaning.specs.Moments.{Composition}
+use Rattle.cs_piece_meaning.specs.{Course.closing, Heard.frames_of, Moments.Composition}
 use Rattle.cs_report.specs.Report.{count_lines, line_room}
 use Rattle.cs_turns.specs.Turns.{turn_lines_of}
 use Rattle.cs_wav.specs.Wav.{is_out_of_range}

@@ -1,9 +1,6 @@
 -- What a run of the program promises.
 use Rattle.std.specs.Prelude.{List}
-use Rattle.cs_play.specs.Endings.{EndsBy}
-use Rattle.cs_play.specs.Page.{Outside}
-use Rattle.cs_play.specs.Preparing.{IsReadFor}
-use Rattle.cs_play.specs.Scene.{Scene, Sight}
+use Rattle.cs_play.specs.{Endings.EndsBy, Page.Outside, Preparing.IsReadFor, Scene.Scene, Scene.Sight}
 use Rattle.cs_report.specs.declared.status.Status.{Status}
 use Rattle.cs_arguments.specs.Reading.{Text}
 

@@ -1,7 +1,6 @@
 -- The objects that whoever calls the program hands in, at one moment, and what they tell.
 use Rattle.std.specs.Prelude.{ℕ, ℤ, List}
-use Rattle.cs_edge.specs.Files.{ShelfTold}
-use Rattle.cs_edge.specs.Moves.{SinkTold}
+use Rattle.cs_edge.specs.{Files.ShelfTold, Moves.SinkTold}
 use Rattle.cs_perform.specs.Counted.{Receipts}
 
 -- the shelf, the sound file, talk, the meters, and whoever counts the cycles

@@ -1,10 +1,8 @@
 -- What a sink holds after a run of known texts.
 use Rattle.std.specs.Prelude.{ℕ, ◌≡◌, ◌⊎◌, List, [], Option, Some, None}
-use Rattle.cs_edge.specs.Moves.{Held}
-use Rattle.cs_edge.specs.Told.{IsFront}
+use Rattle.cs_edge.specs.{Moves.Held, Told.IsFront}
 use Rattle.cs_arguments.specs.Reading.{Asked}
-use Rattle.cs_source.specs.Sounds.{IsSoundOf}
-use Rattle.cs_source.specs.Texts.{Texts}
+use Rattle.cs_source.specs.{Sounds.IsSoundOf, Texts.Texts}
 
 -- What a sink holds after a run, and what it told before: the same, where no sound file was begun; nothing, where its
 -- begin failed; or, under the name asked for, a front of the sound of the texts.

@@ -1,6 +1,6 @@
 // The case that is being made.
 use crate::gate::Task;
-use crate::line::{CaseText, Object, Shown};
+use crate::line::{CaseText, number_of, parted};
 use crate::text::add_piece;
 use std::alloc::{AllocError, Global};
 
@@ -9,7 +9,7 @@ const NAMES: &[u8] = b"a.orc\na.sco\n";
 
 /// What a line of text is added to.
 #[derive(Clone, Copy)]
-enum Filling {
+pub enum Filling {
     Orchestra,
     Score,
     Words,
@@ -21,21 +21,26 @@ pub struct Once {
     pub shelf_fails: u32,
     pub wav_fails: u32,
     pub talk_fails: u32,
+    /// The most bytes that a write takes.
     pub wav_room: u32,
     pub talk_room: u32,
     pub has_words: bool,
+    /// The line shows the sound file's bytes, in place of its samples.
     pub hex: bool,
+    /// It shows the calls made on the three objects.
     pub calls: bool,
+    /// It shows the report of a run that ended Ok.
     pub report: bool,
+    /// The case runs twice on one shelf.
     pub twice: bool,
     pub task: Task,
-    /// The room of a mirror; 0 is none.
+    /// The room of a mirror that is told the mix too; 0 is none.
     pub mirror: u32,
     /// Samples have three bytes.
     pub wide: bool,
-    /// The last meter notes its drop.
+    /// The last meter notes its drop, and the line shows each meter's.
     pub drops: bool,
-    /// The shelf and the sinks are those that never fail.
+    /// The shelf and the sinks are those that never fail and tell no calls.
     pub sure: bool,
 }
 
@@ -60,29 +65,46 @@ impl Once {
         }
     }
 
-    pub fn fail(&mut self, object: Object, call: u32) {
-        match object {
-            Object::Shelf => self.shelf_fails = call,
-            Object::Wav => self.wav_fails = call,
-            Object::Talk => self.talk_fails = call,
+    /// Does what a line says of the case. Returns whether it says such a thing.
+    pub fn take(&mut self, word: &[u8], rest: &[u8]) -> bool {
+        let (name, behind) = parted(rest);
+        let (first, second) = (number_of(name), number_of(behind));
+        match word {
+            b"fail" => return self.fail(name, second),
+            b"room" => match name {
+                b"talk" => self.talk_room = second,
+                _ => self.wav_room = first,
+            },
+            b"hex" => self.hex = true,
+            b"calls" => self.calls = true,
+            b"report" => self.report = true,
+            b"twice" => self.twice = true,
+            b"meet" => self.task = Task::Meeting(first),
+            b"gather" => {
+                self.task = Task::Gathering {
+                    from: first,
+                    meetings: second,
+                };
+            }
+            b"sum" => self.task = Task::Summing(first),
+            b"count" => self.task = Task::Counting(first),
+            b"mirror" => self.mirror = first,
+            b"wide" => self.wide = true,
+            b"drops" => self.drops = true,
+            b"sure" => self.sure = true,
+            _ => return false,
         }
+        true
     }
 
-    /// A shelf gives all that it is asked for.
-    pub fn limit(&mut self, object: Object, most: u32) {
+    fn fail(&mut self, object: &[u8], call: u32) -> bool {
         match object {
-            Object::Shelf => {}
-            Object::Wav => self.wav_room = most,
-            Object::Talk => self.talk_room = most,
+            b"shelf" => self.shelf_fails = call,
+            b"wav" => self.wav_fails = call,
+            b"talk" => self.talk_fails = call,
+            _ => return false,
         }
-    }
-
-    pub fn show(&mut self, what: Shown) {
-        match what {
-            Shown::Hex => self.hex = true,
-            Shown::Calls => self.calls = true,
-            Shown::Report => self.report = true,
-        }
+        true
     }
 }
 
@@ -108,20 +130,17 @@ impl CaseDesk {
         }
     }
 
-    pub fn begin_orchestra(&mut self) {
-        self.orchestra.clear();
-        self.filling = Filling::Orchestra;
-    }
-
-    pub fn begin_score(&mut self) {
-        self.score.clear();
-        self.filling = Filling::Score;
-    }
-
-    pub fn begin_words(&mut self) {
-        self.words.clear();
-        self.once.has_words = true;
-        self.filling = Filling::Words;
+    /// What is added from now on is the first of a new text of this kind.
+    pub fn begin(&mut self, filling: Filling) {
+        self.filling = filling;
+        match filling {
+            Filling::Orchestra => self.orchestra.clear(),
+            Filling::Score => self.score.clear(),
+            Filling::Words => {
+                self.words.clear();
+                self.once.has_words = true;
+            }
+        }
     }
 
     /// The words of the case, one a line.

@@ -5,7 +5,7 @@
 //!
 //! Nothing is proved of the answers here, only that the trials are safe.
 //!
-//! In reading order: `line` (what a line of a case file says), `text` (its escapes), `gate` (what shows how workers
+//! In reading order: `line` (the parts of a line of a case file), `text` (its escapes), `gate` (what shows how workers
 //! run), `meters` (what the meters show), `desk` (the case that is being made), `play` (the runs of a case), `sure` (a
 //! run over objects that never fail), `show` (its line) and `wave` (the samples in it).
 #![tactic(auto)]
@@ -20,9 +20,9 @@ mod sure;
 mod text;
 mod wave;
 
-use crate::desk::CaseDesk;
+use crate::desk::{CaseDesk, Filling};
 use crate::gate::Task;
-use crate::line::{CaseLine, line_of};
+use crate::line::{number_of, parted, text_of};
 use crate::play::play;
 use crate::show::add_shown;
 use std::io::Write;
@@ -66,38 +66,33 @@ fn follow<R: Files + Print + AllocGlobal + Threads + Wait + Sync>(
     line: &[u8],
     desk: &mut CaseDesk,
 ) -> io::Result<()> {
-    match line_of(line) {
-        CaseLine::Nothing => {}
-        CaseLine::Orchestra(path) => {
-            desk.begin_orchestra();
-            add_file(rt, path, &mut desk.orchestra)?;
+    if let Some(piece) = text_of(line) {
+        desk.add(piece)?;
+        return Ok(());
+    }
+    let (word, rest) = parted(line);
+    match word {
+        b"" => {}
+        [b'#', ..] => {}
+        b"orc" => {
+            desk.begin(Filling::Orchestra);
+            add_file(rt, rest, &mut desk.orchestra)?;
         }
-        CaseLine::Score(path) => {
-            desk.begin_score();
-            add_file(rt, path, &mut desk.score)?;
+        b"sco" => {
+            desk.begin(Filling::Score);
+            add_file(rt, rest, &mut desk.score)?;
         }
-        CaseLine::Words => desk.begin_words(),
-        CaseLine::Text(piece) => desk.add(piece)?,
-        CaseLine::Fail(object, call) => desk.once.fail(object, call),
-        CaseLine::Room(object, most) => desk.once.limit(object, most),
-        CaseLine::Show(what) => desk.once.show(what),
-        CaseLine::Twice => desk.once.twice = true,
-        CaseLine::Meet(from) => desk.once.task = Task::Meeting(from),
-        CaseLine::Gather { from, meetings } => {
-            desk.once.task = Task::Gathering { from, meetings };
-        }
-        CaseLine::Crowd(all) => desk.once.task = Task::Crowding(at_once(rt, all)),
-        CaseLine::Sum(notes) => desk.once.task = Task::Summing(notes),
-        CaseLine::Count(notes) => desk.once.task = Task::Counting(notes),
-        CaseLine::Mirror(room) => desk.once.mirror = room,
-        CaseLine::Wide => desk.once.wide = true,
-        CaseLine::Drops => desk.once.drops = true,
-        CaseLine::Sure => desk.once.sure = true,
-        CaseLine::Play(name) => {
-            say(rt, name, desk)?;
+        b"words" => desk.begin(Filling::Words),
+        b"crowd" => desk.once.task = Task::Crowding(at_once(rt, number_of(rest))),
+        b"play" => {
+            say(rt, rest, desk)?;
             desk.forget();
         }
-        CaseLine::Wrong => say_wrong(rt, line)?,
+        _ => {
+            if !desk.once.take(word, rest) {
+                say_wrong(rt, line)?;
+            }
+        }
     }
     Ok(())
 }

@@ -1,10 +1,8 @@
 -- Each kind of step on a mailbox keeps its rule, and tells what it promises.
-use Rattle.std.proofs.Common.{◌≡◌, ◌≢◌, ◌⊎◌, ℕ, inl, inr, ⊎_elim, List, [], ◌∷◌, ◌++◌, Option, Some, None, refl}
-use Rattle.std.proofs.Common.{sym, ap, ◌∙◌, subst, arith, slice_index, slice_set, eqb, eq-eqb, ne_eqb}
-use Rattle.std.specs.Prelude.{MatchOption}
-use Rattle.std.specs.Arc.{arc_value}
-use Rattle.std.proofs.lemmas.Bool.{cases_eq}
-use mathlib.Core.Option as maybe
+use Rattle.std.proofs.lemmas.{Grind.common_steps, Bool.cases_eq}
+use Rattle.std.proofs.Common.{◌≡◌, ◌≢◌, ◌⊎◌, ℕ, inl, inr, ⊎_elim, List, [], ◌∷◌, Option, Some, None, refl, sym, ap, ◌∙◌}
+use Rattle.std.proofs.Common.{subst, arith, slice_index, slice_set, eqb, eq-eqb, ne_eqb}
+use Rattle.std.specs.{Prelude.MatchOption, Arc.arc_value}
 use mathlib.Core.Option.{some, none}
 use prog.Atomic.{either}
 use lib.ListN.{get_elem?}
@@ -12,26 +10,21 @@ use Rattle.atomic_table.specs.Table.{State, Act, keeps, takes, gives, stepped, s
 use Rattle.atomic_table.specs.Table.{Splits, opening}
 use Rattle.cs_board.specs.declared.board.BoardSeat.{BoardSeat}
 use Rattle.cs_cells.specs.Meaning.{Meaning}
-use Rattle.cs_pool.specs.Working.{IsDone, IsThrough}
+use Rattle.cs_pool.specs.{Working.IsDone, Working.IsThrough, declared.letter.Task.Task, declared.view.Errand.Errand}
+use Rattle.cs_pool.specs.{declared.view.Knows.Knows, declared.view.Tasks.Tasks}
 use Rattle.cs_pool.specs.Letters.{errand_of, caller, helper, no_tasks, one_given, one_served}
 use Rattle.cs_pool.specs.inner.Exchange.{beginning, IsGiven, IsBack, IsHome, IsAbroad, Facts, Always}
 use Rattle.cs_pool.specs.inner.Telling.{Sat, fetched, gave, gave_back, closed, took, collected, withdrew}
 use Rattle.cs_pool.specs.declared.letter.MailboxLetter.{MailboxLetter}
-use Rattle.cs_pool.specs.declared.letter.MailboxLetter.TheVariants as letter
 use Rattle.cs_pool.specs.declared.letter.TheConstants.{EMPTY, GIVEN, TAKEN, BACK, OVER}
-use Rattle.cs_pool.specs.declared.letter.Task.{Task}
-use Rattle.cs_pool.specs.declared.view.Errand.{Errand}
-use Rattle.cs_pool.specs.declared.view.Knows.{Knows}
 use Rattle.cs_pool.specs.declared.view.Role.TheVariants.{Maker, Holder}
-use Rattle.cs_pool.specs.declared.view.Tasks.{Tasks}
 use Rattle.cs_pool.proofs.Ends.{OfCaller, OfHelper, of_caller, of_helper, of_maker, of_holder}
+use mathlib.Core.Option as maybe
+use Rattle.cs_pool.specs.declared.letter.MailboxLetter.TheVariants as letter
 
 -- the two cases of an exchange
 exchanged : (n old new : ℕ) (P : ℕ → Type 0) → (n ≡ old → P new) → (n ≢ old → P n) → P (either (eqb n old) new n)
-exchanged n old new P hit miss = ⊎_elim
-    (λ e. subst (λ b. P (either b new n)) (sym (eq-eqb n old e)) (hit e))
-    (λ ne. subst (λ b. P (either b new n)) (sym (ne_eqb n old ne)) (miss ne))
-    (cases_eq n old)
+exchanged n old new P hit miss = grind (arith, common_steps, cases_eq, either, eq-eqb, ne_eqb)
 
 module _ {J : Type 0} (M : Meaning J) where
   -- a helper that isn't on duty, at a step of the caller
@@ -66,32 +59,14 @@ module _ {J : Type 0} (M : Meaning J) where
         (h : maybe.Option (MailboxLetter J)) (v' : Knows J)
         → ws ≡ w ∷ [] → hs ≡ h ∷ [] → Facts M w h v' c.other
         → Always M (record { words = ws; homes = hs; views = slice_set s.views id v' })
-    caller_stepped v c ws hs w h v' words homes facts = inr (inr (record {
-      word = w;
-      home = h;
-      caller = v';
-      helper = c.other;
-      words = words;
-      homes = homes;
-      views = ap (λ i. slice_set s.views i v') c.id_is ∙ ap (λ vs. slice_set vs 0 v') c.views;
-      facts = facts;
-    }))
+    caller_stepped v c ws hs w h v' words homes facts = grind (arith, common_steps)
 
     helper_stepped : (v : Knows J) (c : OfHelper M s id v) (ws : List ℕ) (hs : List (maybe.Option (MailboxLetter J)))
         (w : ℕ)
         (h : maybe.Option (MailboxLetter J)) (v' : Knows J)
         → ws ≡ w ∷ [] → hs ≡ h ∷ [] → Facts M w h c.other v'
         → Always M (record { words = ws; homes = hs; views = slice_set s.views id v' })
-    helper_stepped v c ws hs w h v' words homes facts = inr (inr (record {
-      word = w;
-      home = h;
-      caller = c.other;
-      helper = v';
-      words = words;
-      homes = homes;
-      views = ap (λ i. slice_set s.views i v') c.id_is ∙ ap (λ vs. slice_set vs 1 v') c.views;
-      facts = facts;
-    }))
+    helper_stepped v c ws hs w h v' words homes facts = grind (arith, common_steps)
 
   -- the first end takes the slot along
   pub fetches : (n id : ℕ)
@@ -112,24 +87,7 @@ module _ {J : Type 0} (M : Meaning J) where
 
   -- the helper's end is split off
   pub parts : (id : ℕ) → Splits (Always M) id (beginning Holder) (caller no_tasks None) (helper None)
-  parts id s a here =
-      let b = of_holder M s id (beginning Holder) refl a here in
-      inr (inr (record {
-        word = EMPTY;
-        home = none;
-        caller = caller no_tasks None;
-        helper = helper None;
-        words = b.1.words;
-        homes = b.1.homes;
-        views = ap (λ i. slice_set s.views i (caller no_tasks None) ++ helper None ∷ []) b.0
-            ∙ ap (λ vs. slice_set vs 0 (caller no_tasks None) ++ helper None ∷ []) b.1.views;
-        facts = record {
-          roles = (refl, refl);
-          out = record { word = inl refl; home = refl };
-          duty =
-              λ e. omega (arith, e);
-        };
-      }))
+  parts id s a here = grind (arith, common_steps, none, of_holder)
 
   -- a task is handed out
   pub hands_out : (n id : ℕ) (k : Tasks) (t : Task J) → IsDone M (arc_value t.board) t.seat
@@ -327,9 +285,7 @@ module _ {J : Type 0} (M : Meaning J) where
 -- a seat that comes back as it was given
 pub untouched : {J : Type 0} (M : Meaning J) (e : Errand J) (r : BoardSeat J) → r ≡ e.seat → IsDone M e.board e.seat
     → IsThrough M e.board e.seat r
-untouched M e r is done =
-    subst (IsThrough M e.board e.seat) (sym is)
-    (record { done = done; seat = record { first = refl; number = refl; out = refl; made = refl } })
+untouched M e r is done = grind (arith, common_steps)
 
 module _ {J : Type 0} where
   abbrev letter_in : List (ℕ × MailboxLetter J) → MailboxLetter J

@@ -1,12 +1,11 @@
 -- What the caller knows of a helper after it has looked for what was out, and has looked again.
-use Rattle.std.proofs.Common.{◌≡◌, ◌+◌, [], Option, Some, None, IfSome, IfNone, sym, ap, ◌∙◌}
+use Rattle.std.proofs.Common.{arith, ◌≡◌, ◌+◌, Option, Some, None, IfSome, IfNone, ap, ◌∙◌}
+use Rattle.std.proofs.lemmas.Grind.{common_steps}
 use Rattle.std.specs.Int.{from_bool}
 use Rattle.cs_cells.specs.Meaning.{Meaning}
-use Rattle.cs_pool.specs.Letters.{caller, errand}
+use Rattle.cs_pool.specs.{Letters.caller, declared.mailbox.Mailbox.Mailbox, declared.mailbox.Returned.Returned}
 use Rattle.cs_pool.specs.Mailboxes.{HasSomethingOut, LooksFor}
 use Rattle.cs_pool.specs.declared.mailbox.CallerEnd.{CallerEnd}
-use Rattle.cs_pool.specs.declared.mailbox.Mailbox.{Mailbox}
-use Rattle.cs_pool.specs.declared.mailbox.Returned.{Returned}
 
 pub at_none : {A P Q : Type 0} (o : Option A) → (P → Q) → IfNone o P → IfNone o Q
 at_none None f p = f p
@@ -16,31 +15,22 @@ pub at_some : {A : Type 0} {P Q : A → Type 0} (o : Option A) → ((x : A) → 
 at_some None f p = p
 at_some (Some x) f p = f x p
 
-module _ {J : Type 0} (M : Meaning J) where
+module _ {J : Type 0} {M : Meaning J} where
   -- an end that is as it was has found nothing
-  pub found_nothing : (box : Mailbox J) (end end' : CallerEnd J) → end'.seat.table_id ≡ end.seat.table_id
+  pub found_nothing : {box : Mailbox J} {end end' : CallerEnd J} → end'.seat.table_id ≡ end.seat.table_id
       → end'.seat.me ≡ end.seat.me → LooksFor M box box end end' None
-  found_nothing box end end' table me = record {
-    some = λ b s h. tt;
-    home = tt;
-    none = λ b s h. record {
-      table = table ∙ h.table;
-      me = me ∙ h.me ∙ ap (λ k. (caller k (Some (errand b s)), [])) (sym (ap (λ m. m.0.tasks) me));
-    };
-    counted = tt;
-    same = ap (λ m. m.0.tasks) me;
-  }
+  found_nothing table me = grind (arith, common_steps)
 
   -- where nothing was found, what was out is out
-  pub still_out : (a b : Mailbox J) (end end' : CallerEnd J) (found : Option (Returned J))
+  pub still_out : {a b : Mailbox J} {end end' : CallerEnd J} {found : Option (Returned J)}
       → LooksFor M a b end end' found → HasSomethingOut a end → IfNone found (HasSomethingOut b end')
-  still_out a b end end' found l h =
+  still_out {found} l h =
       at_none found (λ out. record { board = h.board; seat = h.seat; out = out }) (l.none h.board h.seat h.out)
 
   -- two looks, of which the first found nothing
-  pub looked_again : (a b d : Mailbox J) (end mid end' : CallerEnd J) (found : Option (Returned J))
+  pub looked_again : {a b d : Mailbox J} {end mid end' : CallerEnd J} {found : Option (Returned J)}
       → LooksFor M a b end mid None → LooksFor M b d mid end' found → LooksFor M a d end end' found
-  looked_again a b d end mid end' found l m = record {
+  looked_again {found} l m = record {
     some = λ p s h. m.some p s (l.none p s h);
     home = m.home;
     none = λ p s h. m.none p s (l.none p s h);

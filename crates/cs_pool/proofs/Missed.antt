@@ -1,18 +1,14 @@
 -- What a cycle that was offered tells of the next ones.
-use Rattle.std.proofs.Common.{◌≡◌, ℕ, suc, ◌+◌, ◌*◌, ◌<◌, ◌^◌, ◌||◌, Bool, true, false, refl, ap, ◌∙◌, arith}
-use Rattle.std.specs.Prelude.{min}
-use Rattle.std.specs.Int.{from_bool}
+use Rattle.std.proofs.lemmas.Grind.{common_steps}
+use Rattle.std.proofs.Common.{◌≡◌, ℕ, ◌+◌, ◌*◌, ◌<◌, ◌||◌, Bool, true, false, refl, arith}
+use Rattle.std.specs.{Prelude.min, Int.from_bool}
 use Rattle.std.proofs.Math.Nat.{pow-succ'}
 use Rattle.cs_pool.specs.Alone.{most_alone, alone_after}
-use Rattle.cs_pool.specs.Pools.{Learns, tasks_served}
-use Rattle.cs_pool.specs.declared.pool.Pool.{Pool}
+use Rattle.cs_pool.specs.{Pools.Learns, Pools.tasks_served, declared.pool.Pool.Pool}
 
 -- twice as many, and 128 at most, are as many as after one miss more
 twice_more : (x k : ℕ) → x ≡ alone_after k → min (2 * x) most_alone ≡ alone_after (k + 1)
-twice_more x k is =
-    let p : 2 ^ suc k ≡ 2 * 2 ^ k = pow-succ' 2 k in
-    let s : 2 ^ (k + 1) ≡ 2 ^ suc k = ap (λ n. 2 ^ n) (let e : k + 1 ≡ suc k = omega arith in e) in
-    omega (arith, is, p, s)
+twice_more x k is = grind (arith, common_steps, pow-succ')
 
 module _ {J R G : Type 0} where
   pub learns : (before after : Pool J R G) (begun : Bool) → (begun ≡ true → tasks_served before < tasks_served after)
@@ -21,16 +17,8 @@ module _ {J R G : Type 0} where
       → (begun ≡ false → (after.sparing.alone ≡ before.sparing.after_a_miss)
       × (after.sparing.after_a_miss ≡ min (2 * before.sparing.after_a_miss) most_alone))
       → Learns before after
-  learns before after true more same helped missed = record {
-    served = omega (arith, more refl);
-    helped = λ _. helped refl;
-    missed = λ e. absurd (omega (arith, more refl, e));
-  }
-  learns before after false more same helped missed = record {
-    served = omega (arith, same refl);
-    helped = λ l. absurd (omega (arith, same refl, l));
-    missed = λ _ k is. ((missed refl).0 ∙ is, (missed refl).1 ∙ twice_more before.sparing.after_a_miss k is);
-  }
+  learns before after true more same helped missed = grind (arith, common_steps)
+  learns before after false more same helped missed = grind (arith, common_steps, twice_more)
 
 -- the tasks of a first helper and of the others, after they were asked for their seats
 pub more_served : (a b : Bool) (p q p' q' : ℕ) → p' ≡ p + from_bool a → (b ≡ true → q < q') → (b ≡ false → q' ≡ q)

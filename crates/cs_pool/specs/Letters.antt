@@ -1,15 +1,11 @@
 -- What the two ends of a mailbox know.
 use Rattle.std.specs.Prelude.{ℕ, ◌+◌, List, [], ◌∷◌, Option, Some, None}
 use Rattle.std.specs.Arc.{arc_value}
-use Rattle.cs_board.specs.declared.board.Board.{Board}
-use Rattle.cs_board.specs.declared.board.BoardSeat.{BoardSeat}
-use Rattle.cs_pool.specs.declared.letter.MailboxLetter.{MailboxLetter}
-use Rattle.cs_pool.specs.declared.letter.MailboxLetter.TheVariants as letter
-use Rattle.cs_pool.specs.declared.letter.Task.{Task}
-use Rattle.cs_pool.specs.declared.view.Errand.{Errand}
-use Rattle.cs_pool.specs.declared.view.Knows.{Knows}
+use Rattle.cs_board.specs.{declared.board.Board.Board, declared.board.BoardSeat.BoardSeat}
+use Rattle.cs_pool.specs.{declared.letter.MailboxLetter.MailboxLetter, declared.letter.Task.Task}
+use Rattle.cs_pool.specs.{declared.view.Errand.Errand, declared.view.Knows.Knows, declared.view.Tasks.Tasks}
 use Rattle.cs_pool.specs.declared.view.Role.TheVariants.{Caller, Helper}
-use Rattle.cs_pool.specs.declared.view.Tasks.{Tasks}
+use Rattle.cs_pool.specs.declared.letter.MailboxLetter.TheVariants as letter
 
 -- the tasks of a helper that was given none, and after it was given one more, and has served one more
 abbrev pub no_tasks : Tasks

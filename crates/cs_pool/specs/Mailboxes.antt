@@ -3,17 +3,12 @@
 -- share of the last.
 use Rattle.std.specs.Prelude.{◌≡◌, ◌+◌, ℕ, [], ◌∷◌, Option, Some, None, IfSome, IfNone}
 use Rattle.std.specs.Int.{from_bool}
-use Rattle.cs_board.specs.declared.board.Board.{Board}
-use Rattle.cs_board.specs.declared.board.BoardSeat.{BoardSeat}
+use Rattle.cs_board.specs.{declared.board.Board.Board, declared.board.BoardSeat.BoardSeat}
 use Rattle.cs_cells.specs.Meaning.{Meaning}
-use Rattle.cs_pool.specs.Letters.{errand, caller, helper}
+use Rattle.cs_pool.specs.{Letters.errand, Letters.caller, Letters.helper, declared.mailbox.CallerEnd.CallerEnd}
+use Rattle.cs_pool.specs.{declared.mailbox.HelperEnd.HelperEnd, declared.mailbox.Mailbox.Mailbox}
+use Rattle.cs_pool.specs.{declared.mailbox.Returned.Returned, declared.view.Tasks.Tasks, Working.IsThrough}
 use Rattle.cs_pool.specs.declared.letter.MailboxLetter.TheVariants.{Nothing}
-use Rattle.cs_pool.specs.declared.mailbox.CallerEnd.{CallerEnd}
-use Rattle.cs_pool.specs.declared.mailbox.HelperEnd.{HelperEnd}
-use Rattle.cs_pool.specs.declared.mailbox.Mailbox.{Mailbox}
-use Rattle.cs_pool.specs.declared.mailbox.Returned.{Returned}
-use Rattle.cs_pool.specs.declared.view.Tasks.{Tasks}
-use Rattle.cs_pool.specs.Working.{IsThrough}
 
 module _ {J : Type 0} where
   -- the helper's tasks so far, as the caller's end knows

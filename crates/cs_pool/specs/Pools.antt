@@ -2,10 +2,8 @@
 use Rattle.std.specs.Prelude.{◌≡◌, ◌⊎◌, ℕ, ◌+◌, ◌-◌, ◌<◌, ◌≤◌, ◌^◌, List, min, length, false}
 use Rattle.cs_board.specs.Counts.{total}
 use Rattle.cs_graph.specs.Cover.{HasCover}
-use Rattle.cs_pool.specs.Alone.{alone_after}
+use Rattle.cs_pool.specs.{Alone.alone_after, declared.line.Line.Line, declared.pool.Pool.Pool}
 use Rattle.cs_pool.specs.Mailboxes.{given, served}
-use Rattle.cs_pool.specs.declared.line.Line.{Line}
-use Rattle.cs_pool.specs.declared.pool.Pool.{Pool}
 
 -- nobody but the caller is of use in a cycle of so many notes: there is no helper, or one chain along the edges has all
 -- of them

@@ -1,8 +1,7 @@
 -- The seat of a worker before its work and after it.
 use Rattle.std.specs.Prelude.{◌≡◌, []}
 use Rattle.cs_board.specs.Board.{plan, name, view, IsSeatOf, IsIdle, SameSeat}
-use Rattle.cs_board.specs.declared.board.Board.{Board}
-use Rattle.cs_board.specs.declared.board.BoardSeat.{BoardSeat}
+use Rattle.cs_board.specs.{declared.board.Board.Board, declared.board.BoardSeat.BoardSeat}
 use Rattle.cs_cells.specs.Meaning.{Meaning}
 
 module _ {J : Type 0} (M : Meaning J) where

@@ -33,6 +33,18 @@ const PATIENCE: Patience = Patience {
     brisk: 100,
 };
 
+/// How often a helper that finds a task looks at least whether it still lies there before it takes it,
+/// some tens of microseconds together. A cycle that the caller has played by then is not shared at all:
+/// notes and cells that wander between processors would cost more than such a cycle takes.
+const HESITATION: u32 = 32_000;
+
+/// How often it looks for each note of the cycle, some 0.9 microseconds together: what sharing costs goes by the note.
+const LOOKS_A_NOTE: u32 = 800;
+
+/// How often for each edge, some 3.5 microseconds together: who waits for a note finds its words and the cells that it
+/// wrote at another processor.
+const LOOKS_AN_EDGE: u32 = 3_200;
+
 impl<'e, J: Job + Drop, R: Wait, G: Gate> Pool<'e, J, R, G> {
     /// Runs the notes of one control cycle, and answers a receipt with their jobs, the desk, and
     /// the graph, as if the notes had run one by one in serial order over the desk's cells.
@@ -71,8 +83,9 @@ impl<'e, J: Job + Drop, R: Wait, G: Gate> Pool<'e, J, R, G> {
             let receipt = desk.run_alone(cycle, graph.len(), jobs, self.gate);
             return (receipt, desk, graph);
         }
+        let hesitation = hesitation_of(&graph);
         let (board, first) = desk.open(graph, jobs);
-        let (board, first) = self.play(board, first, others, cycle);
+        let (board, first) = self.play(board, first, others, cycle, hesitation);
         Desk::rest(board, first)
     }
 
@@ -116,14 +129,15 @@ impl<'e, J: Job + Drop, R: Wait, G: Gate> Pool<'e, J, R, G> {
         parts_of(chains, self.lines.len())
     }
 
-    /// The cycle on its board, by the caller and so many others. It answers the board, of which nobody
-    /// else has a share any more, and the first seat.
+    /// The cycle on its board, by the caller and so many others, each of which looks so often before it begins. It
+    /// answers the board, of which nobody else has a share any more, and the first seat.
     fn play(
         &mut self,
         board: Board<J>,
         mut first: BoardSeat<J>,
         others: usize,
         cycle: u32,
+        hesitation: u32,
     ) -> (Board<J>, BoardSeat<J>)
         requires few { others ≤ helpers self.old }
         requires first { IsSeatOf J.means (plan board) (name board) first }
@@ -143,6 +157,7 @@ impl<'e, J: Job + Drop, R: Wait, G: Gate> Pool<'e, J, R, G> {
                     gate: self.gate,
                     alloc: self.alloc,
                     cycle,
+                    hesitation,
                 };
                 let lines = self.lines.as_mut_slice();
                 let shared = share(&shift, lines, others, &board, &mut first);
@@ -168,13 +183,22 @@ fn parts_of(chains: u32, helpers: usize) -> usize
     (chains.saturating_sub(1) as usize).min(helpers)
 }
 
-/// What each worker of a cycle works with, and whence a helper's part has its memory.
+/// How often a helper looks before it takes part in a cycle of this graph.
+fn hesitation_of(graph: &Graph) -> u32 {
+    let notes = graph.len().saturating_mul(LOOKS_A_NOTE);
+    let edges = graph.edge_count().saturating_mul(LOOKS_AN_EDGE);
+    notes.saturating_add(edges).max(HESITATION)
+}
+
+/// What each worker of a cycle works with, whence a helper's part has its memory, and how often a helper looks before
+/// it begins.
 #[derive(Drop)]
 struct Shift<'a, R, G> {
     rt: &'a R,
     gate: &'a G,
     alloc: Global,
     cycle: u32,
+    hesitation: u32,
 }
 
 /// What became of the helpers' parts in a cycle.
@@ -225,12 +249,13 @@ fn share<J: Job + Drop, R: Wait, G: Gate>(
         };
     };
     let seat = board.split(first);
-    line.give(Task {
+    let task = Task {
         board: part,
         seat,
         cycle: shift.cycle,
         member,
-    });
+    };
+    line.give(task, shift.hesitation);
     let shared = share(shift, rest, others - 1, board, first);
     let returned = line.await_seat(shift.rt);
     let Returned { seat, begun } = returned;

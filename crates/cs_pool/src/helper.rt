@@ -22,18 +22,9 @@ const LOOKS: u32 = 2_200;
 /// between them nobody has to be woken.
 const BRISK_LOOKS: u32 = 2_000;
 
-/// How often a helper that finds a task looks at least whether it still lies there before it takes it,
-/// some tens of microseconds together. A cycle that the caller has played by then is not shared at all:
-/// notes and cells that wander between processors would cost more than such a cycle takes.
-const HESITATION: u32 = 32_000;
-
-/// How often it looks for each note of the task's cycle, some 0.9 microseconds together: what sharing costs goes
-/// by the note.
-const LOOKS_A_NOTE: u32 = 800;
-
-/// How many tasks a helper takes at once after one that outlasted its hesitation. Then it hesitates
-/// again.
-const EAGER_TASKS: u32 = 32;
+/// How many tasks in a row a helper takes, each after half the hesitation before it. Then it hesitates as long as at
+/// first again.
+const EAGER_TASKS: u32 = 64;
 
 /// How long a helper that has taken a task and finds no note to claim looks for one, while notes wait. It never lets
 /// other threads go first: the caller can't take the task back any more, so whoever keeps this helper from the
@@ -53,10 +44,10 @@ pub(crate) fn help<J: Job + Drop, G: Gate, R: Wait>(
 )
     requires { IsFree (arc_value mailbox) end }
 {
-    let mut eager = 0;
+    let mut taken = 0;
     for _ in rt.forever() {
         match await_word(rt, &mailbox, &parker) {
-            GIVEN => eager = serve(rt, gate, &mailbox, &mut end, eager),
+            GIVEN => taken = serve(rt, gate, &mailbox, &mut end, taken),
             OVER => return,
             _ => {}
         }
@@ -92,21 +83,19 @@ pub(crate) fn pause(look: u32, brisk: u32) {
 }
 
 /// One task, unless the caller has taken it back: the helper works at its seat, lets its share of
-/// the board go, gives the seat back, and leaves the group, in this order. It takes so many tasks, this
-/// one first, without hesitation, and returns how many of those that follow.
+/// the board go, gives the seat back, and leaves the group, in this order. `taken` is how many tasks in a row it has
+/// taken; it returns how many these are now.
 fn serve<J: Job + Drop, G: Gate, R: Wait>(
     rt: &R,
     gate: &G,
     mailbox: &Mailbox<J>,
     end: &mut HelperEnd<J>,
-    eager: u32,
+    taken: u32,
 ) -> u32
     requires { IsFree mailbox.now end.old }
     ensures { IsFree mailbox.now end.new }
 {
-    if eager == 0 {
-        hesitate(mailbox);
-    }
+    hesitate(mailbox, taken);
     let Some(task) = mailbox.take(end) else {
         return 0;
     };
@@ -120,14 +109,14 @@ fn serve<J: Job + Drop, G: Gate, R: Wait>(
     drop(board);
     mailbox.give_back(end, seat);
     member.leave(mailbox, end);
-    eager.checked_sub(1).unwrap_or(EAGER_TASKS)
+    if taken < EAGER_TASKS { taken + 1 } else { 0 }
 }
 
-/// Lets the caller take a task back that it plays itself within a short while, by the notes of the task that lies
-/// there. The looks follow one another at once: a pause of the processor, which takes from 4 to 60 nanoseconds, would
-/// make them as long as a heavy cycle.
-fn hesitate<J: Job + Drop>(mailbox: &Mailbox<J>) {
-    let looks = mailbox.notes().saturating_mul(LOOKS_A_NOTE).max(HESITATION);
+/// Lets the caller take a task back that it plays itself within a short while, by the hesitation that lies with the
+/// task: a cycle that is over by then isn't shared. The looks follow one another at once: a pause of the processor,
+/// which takes from 4 to 60 nanoseconds, would make them as long as a heavy cycle.
+fn hesitate<J: Job + Drop>(mailbox: &Mailbox<J>, taken: u32) {
+    let looks = mailbox.hesitation().checked_shr(taken).unwrap_or(0);
     for _ in 0..looks {
         if mailbox.word() != GIVEN {
             return;

@@ -94,14 +94,14 @@ impl<J: Job + Drop> Line<J> {
         Ok((share, member))
     }
 
-    /// Hands a task out to the helper, and wakes it.
-    pub(crate) fn give(&mut self, task: Task<J>)
+    /// Hands a task out to the helper, which is to look so often before it takes it, and wakes it.
+    pub(crate) fn give(&mut self, task: Task<J>, hesitation: u32)
         requires idle { IsIdle self.old }
         requires task { IsDone J.means (arc_value task.board) task.seat }
         ensures lent { IsLent self.new (arc_value task.board) task.seat }
         ensures tasks { tasks self.new.end ≡ one_given (tasks self.old.end) }
     {
-        self.mailbox.give(&mut self.end, task);
+        self.mailbox.give(&mut self.end, task, hesitation);
         self.unparker.unpark();
     }
 

@@ -23,8 +23,8 @@ pub(crate) type End<J> = Seat<MailboxLetter<J>, Knows<J>>;
 #[derive(Drop)]
 pub(crate) struct Mailbox<J: Job> {
     pub(crate) table: Table<MailboxLetter<J>, Knows<J>, (), MailboxRule, Global>,
-    /// How many notes the cycle of the last task has. No promise rests on it.
-    notes: AtomicU32,
+    /// How often the helper is to look before it takes the last task. No promise rests on it.
+    hesitation: AtomicU32,
     ghost sized: { (table.shared.table_id.words ≡ 1) × (table.shared.table_id.slots ≡ 1) },
 }
 
@@ -68,21 +68,22 @@ impl<J: Job + Drop> Mailbox<J> {
         Ok((
             Mailbox {
                 table,
-                notes: AtomicU32::new(0),
+                hesitation: AtomicU32::new(0),
             },
             CallerEnd { seat },
             HelperEnd { seat: other },
         ))
     }
 
-    /// The caller hands out a task, whose seat does nothing and owes nothing.
-    pub(crate) fn give(&self, end: &mut CallerEnd<J>, task: Task<J>)
+    /// The caller hands out a task, whose seat does nothing and owes nothing. The helper is to look so often before it
+    /// takes it.
+    pub(crate) fn give(&self, end: &mut CallerEnd<J>, task: Task<J>, hesitation: u32)
         requires end { HasNothingOut self.now end.old }
         requires task { IsDone J.means (arc_value task.board) task.seat }
         ensures out { HasOut self.now end.new (arc_value task.board) task.seat }
         ensures tasks { tasks end.new ≡ one_given (tasks end.old) }
     {
-        self.notes.store(task.board.notes(), Ordering::SeqCst);
+        self.hesitation.store(hesitation, Ordering::SeqCst);
         let shared = &self.table.shared;
         let held = shared.exchange(&mut end.seat, 0, MailboxLetter::Task(task));
         drop(held);
@@ -151,9 +152,9 @@ impl<J: Job + Drop> Mailbox<J> {
         self.table.shared.peek(0)
     }
 
-    /// How many notes the cycle has whose task lies there. It may have changed since.
-    pub(crate) fn notes(&self) -> u32 {
-        self.notes.load(Ordering::SeqCst)
+    /// How often the helper is to look before it takes the task that lies there. It may have changed since.
+    pub(crate) fn hesitation(&self) -> u32 {
+        self.hesitation.load(Ordering::SeqCst)
     }
 
     /// The helper takes the task that was handed out, or answers None where there is none.

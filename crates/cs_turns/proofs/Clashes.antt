@@ -1,26 +1,21 @@
 -- Notes conflict by what they share exactly where their footprints clash.
+use Rattle.std.proofs.lemmas.{Grind.common_steps, Bool.Decides.nat_tests}
 use Rattle.std.proofs.Common.{◌≡◌, ◌<◌, ℕ, zero, suc, length, arith, Bool, true, List, [], ◌∷◌, slice_get, Option, Some}
 use Rattle.std.proofs.Common.{None, refl, sym, subst, ap, ◌∙◌, ⊎_elim, inl, inr, if◌then◌else◌}
 use Rattle.std.specs.List.{All, Contains, list_any}
-use Rattle.std.proofs.lemmas.Bool.Decides.{nat_tests}
 use Rattle.std.proofs.lemmas.Option.{get_or_from_slice_get, slice_get-get_or, slice_get_within}
-use Rattle.cs_base.proofs.Tests.{some_is}
+use Rattle.cs_base.proofs.{Tests.some_is, Rates.same_res_is}
 use Rattle.std.proofs.lemmas.Bool.{cases_Bool, or_cases, or_left, or_right}
-use Rattle.cs_base.specs.Rates.{same_res}
-use Rattle.cs_base.proofs.Rates.{same_res_is}
-use Rattle.cs_base.specs.declared.resource.Res.{Res}
-use Rattle.cs_cells.specs.Areas.{HasPlace, IsFootprint, IsLaid}
-use Rattle.cs_cells.specs.Cells.{covers, in_area}
+use Rattle.cs_base.specs.{Rates.same_res, declared.resource.Res.Res}
+use Rattle.cs_cells.specs.{Areas.HasPlace, Areas.IsFootprint, Areas.IsLaid, Cells.covers, Cells.in_area}
+use Rattle.cs_cells.specs.{declared.footprint.Area.Area, declared.footprint.Footprint.Footprint}
 use Rattle.cs_cells.proofs.Laid.{one_place}
-use Rattle.cs_cells.specs.declared.footprint.Area.{Area}
-use Rattle.cs_cells.specs.declared.footprint.Footprint.{Footprint}
 use Rattle.cs_graph.specs.Conflict.{Clash, UsesResource}
 use Rattle.cs_rwset.specs.Footprints.{is_among, places_holding}
 use Rattle.cs_rwset.proofs.Holding.{at_covers, covered_at, covers_holding}
 use Rattle.cs_rwset.proofs.Placed.{among_contains, contains_among, contains_cases, contains_first, contains_none}
 use Rattle.cs_rwset.proofs.Placed.{contains_rest, exact_places}
-use Rattle.cs_voice_meaning.specs.Follows.{AreNamed}
-use Rattle.cs_voice_meaning.specs.Placing.{HasArea, area_of}
+use Rattle.cs_voice_meaning.specs.{Follows.AreNamed, Placing.HasArea, Placing.area_of}
 use Rattle.cs_turns.specs.Turns.{AreOver, Touched, conflict, share}
 
 -- ITEMS that pass a test
@@ -145,10 +140,7 @@ module _ (areas zones : List Area) (over : AreOver areas zones) (p t : Touched) 
 
   meets : (fs gs : List ℕ) (a : ℕ) → covers zones fs a ≡ true → covers zones gs a ≡ true
       → (place : ℕ) × Contains fs place × Contains gs place
-  meets fs gs a x y =
-      let c = covered_at zones fs a x in
-      let d = covered_at zones gs a y in
-      (c.0, c.1, subst (Contains gs) (one_place zones d.0 c.0 a over.are_zones.laid d.2 c.2) d.1)
+  meets fs gs a x y = grind (arith, common_steps, covered_at, one_place)
 
   pub clashes : conflict p t ≡ true → Clash f g
   clashes c =

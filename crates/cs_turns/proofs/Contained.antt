@@ -2,20 +2,15 @@
 use Rattle.std.proofs.Common.{Bool, true, false, List, [], ◌++◌, ⊎_elim, if◌then◌else◌}
 use Rattle.std.specs.List.{Contains}
 use Rattle.std.proofs.lemmas.List.Elements.{Contains-append_left, Contains-append_right, Contains-append_cases}
-use Rattle.cs_base.specs.declared.resource.Rate.{Rate}
-use Rattle.cs_base.specs.declared.resource.Rate.TheVariants as rate
-use Rattle.cs_base.specs.declared.resource.Res.{Res}
+use Rattle.cs_base.specs.{declared.resource.Rate.Rate, declared.resource.Res.Res}
 use Rattle.cs_ir.specs.Resources.{Stock, may_use, may_write, tables_within, unit_uses, writes_places, zak_uses}
-use Rattle.cs_ir.specs.Resources.{zak_writes}
-use Rattle.cs_ir.specs.Waves.{if_init}
-use Rattle.cs_ir.specs.declared.op.Reach.{Reach}
+use Rattle.cs_ir.specs.{Resources.zak_writes, Waves.if_init, declared.op.Reach.Reach}
 use Rattle.cs_meaning.specs.Core.{Stmt, Block, Arms, set, unit, zak, store, out, out_at, ask, turnoff, nothing, choose}
-use Rattle.cs_meaning.specs.Core.{no_stmt, andthen, otherwise, arm}
+use Rattle.cs_meaning.specs.{Core.no_stmt, Core.andthen, Core.otherwise, Core.arm, Uses.var_uses, Uses.vars_use}
 use Rattle.cs_meaning.specs.Uses.{arms_touched, block_uses, block_writes, cycle, expr_used, exprs_used, stmt_touched}
-use Rattle.cs_meaning.specs.Uses.{var_uses, vars_use}
-use Rattle.cs_words.specs.Catalogue.{row_of}
-use Rattle.cs_words.specs.declared.catalogue.Opcode.{Opcode}
+use Rattle.cs_words.specs.{Catalogue.row_of, declared.catalogue.Opcode.Opcode}
 use Rattle.cs_rwset.proofs.Placed.{contains_none}
+use Rattle.cs_base.specs.declared.resource.Rate.TheVariants as rate
 
 -- each resource of the one list is in the other
 abbrev pub Within : List Res → List Res → Type 0

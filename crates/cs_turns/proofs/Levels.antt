@@ -1,16 +1,13 @@
 -- The levels of footprints are the turns of notes.
+use Rattle.std.proofs.lemmas.{Grind.common_steps, Bool.cases_lt, Slice.Zip.AllZip-long}
 use Rattle.std.proofs.Common.{◌≡◌, ◌⊎◌, ℕ, zero, suc, ◌+◌, ◌<◌, ◌≤◌, Bool, true, false, List, [], ◌∷◌, ◌++◌, length}
 use Rattle.std.proofs.Common.{get_or, map, max, refl, sym, subst, ap, ◌∙◌, arith, append_assoc, inl, inr, ⊎_elim}
-use Rattle.std.proofs.Common.{if◌then◌else◌}
+use Rattle.std.proofs.{Common.if◌then◌else◌, Math.Nat.eq-zero-or-pos, Math.Seq.get_or-append_seam}
 use Rattle.std.specs.List.{AllZip}
-use Rattle.std.proofs.Math.Seq.{get_or-append_seam}
-use Rattle.std.proofs.lemmas.Bool.{cases_lt}
 use Rattle.std.proofs.lemmas.List.{get_or_append_left, length-append, length-map}
-use Rattle.cs_cells.specs.declared.footprint.Area.{Area}
-use Rattle.cs_cells.specs.declared.footprint.Footprint.{Footprint}
+use Rattle.cs_cells.specs.{declared.footprint.Area.Area, declared.footprint.Footprint.Footprint}
 use Rattle.cs_piece_meaning.specs.Moments.{Active, Composition}
-use Rattle.cs_graph.specs.Conflict.{foot}
-use Rattle.cs_graph.specs.Graph.{IsLevelled}
+use Rattle.cs_graph.specs.{Conflict.foot, Graph.IsLevelled}
 use Rattle.cs_ir.specs.Resources.{Stock}
 use Rattle.cs_meaning.specs.Core.{Block}
 use Rattle.cs_rwset.specs.Footprints.{stock_of}
@@ -33,18 +30,8 @@ at notes p = get_or notes p (nothing, 0)
 bound : (notes : List Turn) (t : Touched) (p : ℕ) → p < length notes → conflict (at notes p).0 t ≡ true
     → (at notes p).1 + 1 ≤ turn_behind notes t
 bound [] t p l h = absurd (omega arith)
-bound (x ∷ notes) t zero l h = by (conflict x.0 t) h
-  where
-    by : (b : Bool) → b ≡ true → x.1 + 1 ≤ max (if b then x.1 + 1 else 0) (turn_behind notes t)
-    by true h = omega arith
-    by false h = absurd (cc)
-bound (x ∷ notes) t (suc p) l h =
-    let more : (at notes p).1 + 1 ≤ turn_behind notes t = bound notes t p (omega arith) h in
-    let m : ℕ = if conflict x.0 t then x.1 + 1 else 0 in
-    above m (turn_behind notes t) ((at notes p).1 + 1) more
-  where
-    above : (m n k : ℕ) → k ≤ n → k ≤ max m n
-    above m n k h = omega arith
+bound (x ∷ notes) t zero l h = grind (arith, common_steps, max)
+bound (x ∷ notes) t (suc p) l h = grind (arith, common_steps, max, bound notes t p (omega arith) h)
 
 -- the turn is 0 or one more than that of some note with which it conflicts
 abbrev IsReached : List Turn → Touched → ℕ → Type 0
@@ -77,14 +64,7 @@ reached (x ∷ notes) t = by (conflict x.0 t) refl (cases_lt (x.1 + 1) (turn_beh
 turn_is : (notes : List Turn) (t : Touched) (n : ℕ)
     → ((p : ℕ) → p < length notes → conflict (at notes p).0 t ≡ true → (at notes p).1 < n)
     → IsReached notes t n → n ≡ turn_behind notes t
-turn_is notes t n above is =
-    ⊎_elim (λ none. ⊎_elim (λ e. none ∙ sym e) (λ r. absurd (let l = above r.0 r.1 r.2 in omega (arith, l, none))) back)
-    (λ r. let most = bound notes t r.0 r.1 r.2 in
-    ⊎_elim (λ e. absurd (omega (arith, most, e)))
-    (λ q. let l = above q.0 q.1 q.2 in let e = r.3 in let f = q.3 in omega (arith, most, l, e, f)) back) is
-  where
-    back : IsReached notes t (turn_behind notes t)
-    back = reached notes t
+turn_is notes t n above is = grind (arith, common_steps, bound, reached)
 
 -- ALL NOTES, each behind those before it
 
@@ -96,15 +76,11 @@ pub record IsTurnAt (notes : List Turn) (k : ℕ) : Type 0 where
 
 -- the same of notes that are equal
 moves : (a b x y : Turn) → a ≡ b → x ≡ y → (conflict a.0 x.0 ≡ true → a.1 < x.1) → conflict b.0 y.0 ≡ true → b.1 < y.1
-moves a b x y e f h =
-    subst (λ (z : Turn). conflict b.0 z.0 ≡ true → b.1 < z.1) f
-    (subst (λ (z : Turn). conflict z.0 x.0 ≡ true → z.1 < x.1) e h)
+moves a b x y e f h = rw (← e, ← f) h
 
 moved : (a b x y : Turn) → a ≡ b → x ≡ y → (conflict a.0 x.0 ≡ true) × (x.1 ≡ a.1 + 1)
     → (conflict b.0 y.0 ≡ true) × (y.1 ≡ b.1 + 1)
-moved a b x y e f h =
-    subst (λ (z : Turn). (conflict b.0 z.0 ≡ true) × (z.1 ≡ b.1 + 1)) f
-    (subst (λ (z : Turn). (conflict z.0 x.0 ≡ true) × (x.1 ≡ z.1 + 1)) e h)
+moved a b x y e f h = rw (← e, ← f) h
 
 here : (earlier : List Turn) (x : Turn) (all : List Turn) → ((p : ℕ) → p < length earlier → at all p ≡ at earlier p)
     → at all (length earlier) ≡ x
@@ -166,12 +142,6 @@ paired_at (t ∷ ts) [] k e l = absurd (omega (arith, e))
 paired_at (t ∷ ts) (n ∷ ns) zero e l = refl
 paired_at (t ∷ ts) (n ∷ ns) (suc k) e l = paired_at ts ns k (omega (arith, e)) (omega arith)
 
-zip_length : {A B : Type 0} (R : A → B → Type 0) (xs : List A) (ys : List B) → AllZip R xs ys → length xs ≡ length ys
-zip_length R [] [] h = refl
-zip_length R [] (y ∷ ys) h = absurd h
-zip_length R (x ∷ xs) [] h = absurd h
-zip_length R (x ∷ xs) (y ∷ ys) h = ap suc (zip_length R xs ys h.1)
-
 zip_at : {A B : Type 0} (R : A → B → Type 0) (xs : List A) (ys : List B) (k : ℕ) (d : A) (e : B) → AllZip R xs ys
     → k < length xs → R (get_or xs k d) (get_or ys k e)
 zip_at R [] ys k d e h l = absurd (omega arith)
@@ -179,16 +149,12 @@ zip_at R (x ∷ xs) [] k d e h l = absurd h
 zip_at R (x ∷ xs) (y ∷ ys) zero d e h l = h.0
 zip_at R (x ∷ xs) (y ∷ ys) (suc k) d e h l = zip_at R xs ys k d e h.1 (omega arith)
 
-zero_or : (n : ℕ) → (n ≡ 0) ⊎ (0 < n)
-zero_or zero = inl refl
-zero_or (suc n) = inr (omega arith)
-
 module _ (areas zones : List Area) (over : AreOver areas zones) (ts : List Touched) (feet : List Footprint)
     (levels : List ℕ)
     (are : AllZip (IsFootFor areas zones) ts feet)
     (long : length levels ≡ length feet) (levelled : IsLevelled feet levels) where
   same_length : length ts ≡ length feet
-  same_length = zip_length (IsFootFor areas zones) ts feet are
+  same_length = sym (AllZip-long (IsFootFor areas zones) ts feet are)
 
   turn : ℕ → Turn
   turn k = (get_or ts k nothing, get_or levels k 0)
@@ -224,7 +190,7 @@ module _ (areas zones : List Area) (over : AreOver areas zones) (ts : List Touch
             (foot feet k) (foot_at r.0 (omega (arith, l, m))) (foot_at k m) r.1.clash,
         r.2,
       ))
-      (zero_or (get_or levels k 0))
+      (eq-zero-or-pos (get_or levels k 0))
 
   turn_at : (k : ℕ) → k < length ts → IsTurnAt (paired ts levels) k
   turn_at k m = record {
@@ -264,10 +230,8 @@ feet_for : (areas zones : List Area) (stock : Stock) (notes : List Active) (feet
 feet_for areas zones stock [] [] e h = h
 feet_for areas zones stock [] (f ∷ feet) e h = h
 feet_for areas zones stock (a ∷ notes) [] e h = h
-feet_for areas zones stock (a ∷ notes) (f ∷ feet) e h = (
-  subst (λ (s : Stock). IsFootFor areas zones (touched s a.body) f) e (foot_for areas zones a.body f h.0),
-  feet_for areas zones stock notes feet e h.1,
-)
+feet_for areas zones stock (a ∷ notes) (f ∷ feet) e h =
+    grind (arith, common_steps, foot_for, feet_for areas zones stock notes feet e h.1)
 
 pub turns_are : (c : Composition) (areas zones : List Area) (notes : List Active) (feet : List Footprint)
     (levels : List ℕ) → AreOver areas zones → stock_of areas ≡ stock_in c

@@ -1,12 +1,10 @@
 -- The areas of a piece have its stock.
-use Rattle.std.proofs.Common.{◌≡◌, ℕ, ◌+◌, List, [], ◌∷◌, ◌++◌, length, map, Option, None, refl, ap, ◌∙◌}
-use Rattle.std.specs.List.{cons_option, filter_map, range_with_len}
-use Rattle.std.proofs.lemmas.List.Elements.{filter_map-append}
-use Rattle.cs_base.specs.declared.resource.Res.{Res}
-use Rattle.cs_base.specs.declared.resource.Res.TheVariants as res
+use Rattle.std.proofs.Common.{arith, ◌≡◌, ℕ, ◌+◌, List, [], ◌∷◌, ◌++◌, map, None, refl, ap, ◌∙◌}
+use Rattle.std.proofs.lemmas.{Grind.common_steps, List.Elements.filter_map-append}
+use Rattle.std.specs.List.{filter_map, range_with_len}
+use Rattle.cs_base.specs.{declared.resource.Res.Res, declared.spaces.Spaces.Spaces}
 use Rattle.cs_cells.specs.declared.footprint.Area.{Area}
 use Rattle.cs_piece_meaning.specs.Moments.{Composition}
-use Rattle.cs_base.specs.declared.spaces.Spaces.{Spaces}
 use Rattle.cs_ir.specs.Resources.{Stock}
 use Rattle.cs_layout.specs.Layouts.{SharedCells, areas_of, laid_from, numbered, of_tables, shared_by}
 use Rattle.cs_layout.specs.declared.areas.LiveTable.{LiveTable}
@@ -14,6 +12,7 @@ use Rattle.cs_meaning.specs.Plain.{Table}
 use Rattle.cs_rwset.specs.Footprints.{stock_of, table_number}
 use Rattle.cs_typed.specs.TypedTree.{SharedNames}
 use Rattle.cs_turns.specs.Turns.{live, live_tables, stock_in}
+use Rattle.cs_base.specs.declared.resource.Res.TheVariants as res
 
 -- the numbers of tables among what is shared
 abbrev tables_among : List SharedCells → List ℕ
@@ -22,21 +21,13 @@ tables_among ss = filter_map (λ (s : SharedCells). table_number s.res) ss
 laid : (first : ℕ) (ss : List SharedCells)
     → filter_map (λ (a : Area). table_number a.res) (laid_from first ss) ≡ tables_among ss
 laid first [] = refl
-laid first (s ∷ rest) = by (table_number s.res) (laid (first + s.cells) rest)
-  where
-    by : (o : Option ℕ) → filter_map (λ (a : Area). table_number a.res)
-        (laid_from (first + s.cells) rest) ≡ tables_among rest
-        → cons_option o (filter_map (λ (a : Area). table_number a.res) (laid_from (first + s.cells) rest)) ≡ cons_option
-        o (tables_among rest)
-    by o e = ap (cons_option o) e
+laid first (s ∷ rest) = grind (arith, common_steps, laid (first + s.cells) rest)
 
 -- resources of other kinds are none
 others : (kind : ℕ → Res) → ((n : ℕ) → table_number (kind n) ≡ None) → (cells : ℕ) (ns : List ℕ)
     → tables_among (map (λ n. record { res = kind n; cells = cells }) ns) ≡ []
 others kind none cells [] = refl
-others kind none cells (n ∷ ns) =
-    ap (λ o. cons_option o (tables_among (map (λ m. record { res = kind m; cells = cells }) ns))) (none n)
-    ∙ others kind none cells ns
+others kind none cells (n ∷ ns) = grind (arith, common_steps, others kind none cells ns)
 
 tables : (ts : List LiveTable) → tables_among (of_tables ts) ≡ map (λ (t : LiveTable). t.number) ts
 tables [] = refl
@@ -54,15 +45,7 @@ in_front kind count cells ys none =
 
 shared : (ksmps : ℕ) (names : SharedNames) (spaces : Spaces) (ts : List LiveTable)
     → tables_among (shared_by ksmps names spaces ts) ≡ map (λ (t : LiveTable). t.number) ts
-shared ksmps names spaces ts =
-    in_front res.Gi (length names.variables.init) 1 _ (λ n. refl)
-    ∙ (in_front res.Gk (length names.variables.control) 1 _ (λ n. refl)
-    ∙ (in_front res.Ga (length names.variables.audio) ksmps _ (λ n. refl)
-    ∙ (in_front res.Control (length names.control) 1 _ (λ n. refl)
-    ∙ (in_front res.Sound (length names.sound) ksmps _ (λ n. refl)
-    ∙ (in_front res.ZakK spaces.control 1 _ (λ n. refl)
-    ∙ (in_front res.ZakA spaces.audio ksmps _ (λ n. refl)
-    ∙ tables ts))))))
+shared ksmps names spaces ts = grind (arith, common_steps, in_front, tables)
 
 numbers : (ts : List Table)
     → map (λ (t : LiveTable). t.number) (map (λ (t : Table). record { number = t.number; size = t.size }) ts) ≡ map

@@ -1,18 +1,17 @@
 -- Small cycles whose turns are worked out by hand.
 use Rattle.std.specs.Prelude.{ℕ, ℤ, pos, List, [], ◌∷◌, map, Option, Some, None, if◌then◌else◌}
 use Rattle.std.specs.Ordering.{int_eq}
-use Rattle.cs_base.specs.declared.resource.Rate.TheVariants as rate
-use Rattle.cs_base.specs.declared.resource.Res.TheVariants as res
-use Rattle.cs_piece_meaning.specs.Examples.{note}
-use Rattle.cs_piece_meaning.specs.Moments.{Composition}
+use Rattle.cs_piece_meaning.specs.{Examples.note, Moments.Composition}
 use Rattle.cs_base.specs.declared.spaces.Spaces.{Spaces}
 use Rattle.cs_ir.specs.Resources.{Stock}
 use Rattle.cs_meaning.specs.Core.{Block, core}
 use Rattle.cs_meaning.specs.Examples.{no_code, reading_any, reading_first, whole, writing_first}
 use Rattle.cs_typed.specs.TypedTree.{number, var, set, call, value, Block as Statements, no_stmt, andthen}
 use Rattle.cs_typed.specs.declared.tree.Var.TheVariants.{Local, Global}
-use Rattle.cs_words.specs.declared.catalogue.Opcode.TheVariants as op
 use Rattle.cs_turns.specs.Turns.{touched, turns_of}
+use Rattle.cs_base.specs.declared.resource.Rate.TheVariants as rate
+use Rattle.cs_base.specs.declared.resource.Res.TheVariants as res
+use Rattle.cs_words.specs.declared.catalogue.Opcode.TheVariants as op
 
 -- gk1 = 1
 abbrev giving : Statements

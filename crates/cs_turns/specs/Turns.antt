@@ -1,24 +1,16 @@
 -- In which turn of a control cycle each note comes at the earliest, and the lines that tell it.
 use Rattle.std.specs.Prelude.{ℕ, ◌+◌, Bool, not, ◌||◌, List, [], ◌∷◌, ◌++◌, codes, decimal, map, length, max, nat_lt}
-use Rattle.std.specs.Prelude.{◌≡◌, ◌<◌, if◌then◌else◌}
+use Rattle.std.specs.{Prelude.◌≡◌, Prelude.◌<◌, Prelude.if◌then◌else◌, Option.is_some}
 use Rattle.std.specs.List.{All, filter, flat_map, list_any, range_with_len}
-use Rattle.std.specs.Option.{is_some}
 use Rattle.cs_base.specs.declared.resource.Res.{Res}
-use Rattle.cs_cells.specs.Areas.{IsFootprint, IsLaid}
-use Rattle.cs_cells.specs.Cells.{covers}
-use Rattle.cs_cells.specs.declared.footprint.Area.{Area}
+use Rattle.cs_cells.specs.{Areas.IsFootprint, Areas.IsLaid, Cells.covers, declared.footprint.Area.Area}
 use Rattle.cs_cells.specs.declared.footprint.Footprint.{Footprint}
-use Rattle.cs_piece_meaning.specs.Course.{begins, moment_at}
-use Rattle.cs_piece_meaning.specs.Moments.{Active, Composition}
+use Rattle.cs_piece_meaning.specs.{Course.begins, Course.moment_at, Moments.Active, Moments.Composition}
 use Rattle.cs_ir.specs.Resources.{Stock}
 use Rattle.cs_layout.specs.declared.areas.LiveTable.{LiveTable}
-use Rattle.cs_meaning.specs.Core.{Block}
-use Rattle.cs_meaning.specs.Plain.{Table}
-use Rattle.cs_meaning.specs.Uses.{block_uses, block_writes}
-use Rattle.cs_rwset.specs.Footprints.{is_among, places_holding, stock_of}
-use Rattle.cs_rwset.specs.Zones.{AreZones}
-use Rattle.cs_voice_meaning.specs.Follows.{AreNamed}
-use Rattle.cs_voice_meaning.specs.Placing.{HasArea}
+use Rattle.cs_meaning.specs.{Core.Block, Plain.Table, Uses.block_uses, Uses.block_writes}
+use Rattle.cs_rwset.specs.{Footprints.is_among, Footprints.places_holding, Footprints.stock_of, Zones.AreZones}
+use Rattle.cs_voice_meaning.specs.{Follows.AreNamed, Placing.HasArea}
 
 -- the tables that may change: those that aren't frozen
 abbrev pub live : List Table → List Table

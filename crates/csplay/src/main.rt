@@ -77,51 +77,33 @@ fn play<R: Files + Print + AllocGlobal + Threads + Wait + Sync>(
     taps: &mut Vec<Box<dyn Tap>>,
 ) -> Status {
     let mut talk = TalkOut::new(io::writer(rt), rt.alloc());
+    let (mut shelf, mut wav) = (FileShelf::new(rt), FileSink::new(rt, rt.alloc()));
+    let (gate, mut tally) = (OpenGate::new(), Tally::new());
     let status = if asks_for_one(rt.alloc(), words) {
-        play_alone(rt, words, &mut talk, taps)
+        csplay_alone(
+            rt.alloc(),
+            words,
+            &mut shelf,
+            &mut wav,
+            &mut talk,
+            taps,
+            &gate,
+            &mut tally,
+        )
     } else {
-        play_by_crew(rt, words, &mut talk, taps)
+        csplay(
+            rt,
+            rt.alloc(),
+            words,
+            &mut shelf,
+            &mut wav,
+            &mut talk,
+            taps,
+            &gate,
+            &mut tally,
+        )
     };
     ended(status, talk.end())
-}
-
-/// Calls `csplay`.
-fn play_by_crew<R: Files + AllocGlobal + Threads + Wait + Sync, T: Sink>(
-    rt: &R,
-    words: &[String],
-    talk: &mut T,
-    taps: &mut Vec<Box<dyn Tap>>,
-) -> Status {
-    csplay(
-        rt,
-        rt.alloc(),
-        words,
-        &mut FileShelf::new(rt),
-        &mut FileSink::new(rt, rt.alloc()),
-        talk,
-        taps,
-        &OpenGate::new(),
-        &mut Tally::new(),
-    )
-}
-
-/// Calls `csplay_alone`.
-fn play_alone<R: Files + AllocGlobal, T: Sink>(
-    rt: &R,
-    words: &[String],
-    talk: &mut T,
-    taps: &mut Vec<Box<dyn Tap>>,
-) -> Status {
-    csplay_alone(
-        rt.alloc(),
-        words,
-        &mut FileShelf::new(rt),
-        &mut FileSink::new(rt, rt.alloc()),
-        talk,
-        taps,
-        &OpenGate::new(),
-        &mut Tally::new(),
-    )
 }
 
 /// The status of a run whose talk ended so: a report that isn't written to its end is a TalkFault.

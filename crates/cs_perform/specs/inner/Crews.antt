@@ -1,7 +1,6 @@
 -- What a performance may begin from, as one fact.
 use Rattle.std.specs.Prelude.{ℕ, ◌≤◌, ◌*◌, ◌^◌}
-use Rattle.cs_base.specs.Limits.{most_wav_bytes}
-use Rattle.cs_base.specs.Widths.{bytes_of}
+use Rattle.cs_base.specs.{Limits.most_wav_bytes, Widths.bytes_of}
 use Rattle.cs_piece.specs.Setups.{SetupData}
 use Rattle.cs_perform.specs.declared.order.PerformanceOrder.{PerformanceOrder}
 

@@ -1,11 +1,8 @@
 -- The end of a file.
 use Rattle.std.specs.Prelude.{ℕ, ◌≡◌, Bool, true, false, List, [], ◌∷◌, ◌++◌}
-use Rattle.cs_base.specs.declared.head.Head.{Head}
-use Rattle.cs_base.specs.declared.width.SampleWidth.{SampleWidth}
+use Rattle.cs_base.specs.{declared.head.Head.Head, declared.width.SampleWidth.SampleWidth}
 use Rattle.cs_edge.specs.Moves.{SinkTold, Wrote, Finished, Stopped}
-use Rattle.cs_piece_meaning.specs.Course.{closing}
-use Rattle.cs_piece_meaning.specs.Heard.{frames_of}
-use Rattle.cs_piece_meaning.specs.Moments.{Composition}
+use Rattle.cs_piece_meaning.specs.{Course.closing, Heard.frames_of, Moments.Composition}
 use Rattle.cs_wav.specs.Wav.{wav_of}
 use Rattle.cs_perform.specs.Performances.{HasAtLeast, file_after, front_after}
 use Rattle.cs_perform.specs.declared.stand.Starts.{Starts}

@@ -1,30 +1,30 @@
 -- What cycles do to what is lent to a performance.
 use Rattle.std.specs.Prelude.{ℕ, ◌<◌, ◌≤◌, ℤ, List}
 use Rattle.cs_piece_meaning.specs.Heard.{frames_before, mix_in}
-use Rattle.cs_edge.specs.Moves.{WroteMore, WrotePart}
+use Rattle.cs_edge.specs.Moves.{SinkTold, WroteMore, WrotePart}
 use Rattle.cs_wav.specs.Wav.{samples_of}
-use Rattle.cs_perform.specs.Hearing.{IfWritten, Told}
+use Rattle.cs_perform.specs.{Hearing.IfWritten, Hearing.Told, inner.Stands.CountsCycle}
 use Rattle.cs_perform.specs.Performances.{Lent, LentSight, Performed, Request}
-use Rattle.cs_perform.specs.inner.Stands.{CountsCycle}
 
 -- the samples of the values of a request's frames
 abbrev pub samples_for : Request → List ℤ → List ℕ
 samples_for request frames = samples_of request.order.width request.head.dbfs frames
 
 module _ {T W C : Type 0} (see : LentSight T W C) (request : Request) where
-  -- A cycle was told and counted, and its samples were written, where the sink is written.
-  pub record PlaysCycle (n : ℕ) (before now : Lent T W C) : Type 0 where
+  -- A cycle was told and counted, and its samples were written so, where the sink is written.
+  pub record RunsCycle (Writes : SinkTold → SinkTold → List ℕ → Type 0) (n : ℕ) (before now : Lent T W C) : Type
+      0 where
     pub told : Told see.stands before.taps now.taps (mix_in request.piece n)
     pub counted : CountsCycle see.counted request.piece n before.tally now.tally
     pub written : IfWritten see.wav request.order.output before.wav now.wav
-        (λ x y. WroteMore x y (samples_for request (mix_in request.piece n)))
+        (λ x y. Writes x y (samples_for request (mix_in request.piece n)))
 
-  -- A cycle was told and counted, and its samples were written in part, where the sink is written.
-  pub record BreaksCycle (n : ℕ) (before now : Lent T W C) : Type 0 where
-    pub told : Told see.stands before.taps now.taps (mix_in request.piece n)
-    pub counted : CountsCycle see.counted request.piece n before.tally now.tally
-    pub written : IfWritten see.wav request.order.output before.wav now.wav
-        (λ x y. WrotePart x y (samples_for request (mix_in request.piece n)))
+  -- whole, or in part
+  abbrev pub PlaysCycle : ℕ → Lent T W C → Lent T W C → Type 0
+  PlaysCycle n before now = RunsCycle WroteMore n before now
+
+  abbrev pub BreaksCycle : ℕ → Lent T W C → Lent T W C → Type 0
+  BreaksCycle n before now = RunsCycle WrotePart n before now
 
   -- The first `n` cycles were told and counted, and their samples were written, where the sink is written.
   pub record PlayedOn (n : ℕ) (before now : Lent T W C) : Type 0 where

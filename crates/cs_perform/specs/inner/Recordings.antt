@@ -1,16 +1,12 @@
 -- What is recorded of the first cycles of a performance.
-use Rattle.std.specs.Prelude.{ℕ, ◌≡◌, ◌*◌, length}
-use Rattle.std.specs.List.{count_by}
-use Rattle.cs_base.specs.Widths.{bytes_of}
-use Rattle.cs_base.specs.declared.head.Head.{Head}
-use Rattle.cs_base.specs.declared.width.SampleWidth.{SampleWidth}
+use Rattle.std.specs.{Prelude.ℕ, Prelude.◌≡◌, Prelude.◌*◌, Prelude.length, List.count_by}
+use Rattle.cs_base.specs.{Widths.bytes_of, declared.head.Head.Head, declared.width.SampleWidth.SampleWidth}
 use Rattle.cs_piece.specs.Setups.{SetupData, composition_of}
 use Rattle.cs_piece_meaning.specs.Heard.{frames_before}
 use Rattle.cs_turns.specs.Turns.{turn_lines_before}
 use Rattle.cs_wav.specs.Wav.{is_out_of_range}
-use Rattle.cs_perform.specs.Performances.{if_told}
+use Rattle.cs_perform.specs.{Performances.if_told, declared.recording.Recording.Recording}
 use Rattle.cs_perform.specs.declared.order.PerformanceOrder.{PerformanceOrder}
-use Rattle.cs_perform.specs.declared.recording.Recording.{Recording}
 
 -- the blocks have place for the mix of a cycle and its samples
 pub record HasBlocks (head : Head) (width : SampleWidth) (r : Recording) : Type 0 where

@@ -1,9 +1,7 @@
 -- The notes of a cycle in rows.
 use Rattle.cs_cells.specs.Meaning.{Meaning}
 use Rattle.cs_row.specs.Heard.{HeardRow, heard_job}
-use Rattle.cs_voice.specs.Mixing.{gives, shape}
-use Rattle.cs_voice.specs.VoiceData.{VoiceData}
-use Rattle.cs_voice.specs.VoiceMeaning.{voice_job}
+use Rattle.cs_voice.specs.{Mixing.gives, Mixing.shape, VoiceData.VoiceData, VoiceMeaning.voice_job}
 
 -- a row of voices as a job
 abbrev pub rows_job : Meaning (HeardRow VoiceData)

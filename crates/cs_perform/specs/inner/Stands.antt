@@ -1,23 +1,16 @@
 -- How all that is kept of a performance stands.
 use Rattle.std.specs.Prelude.{ℕ, ◌≡◌, ◌*◌, [], ◌∷◌, List, length, map, true}
-use Rattle.cs_piece_meaning.specs.Course.{opening}
-use Rattle.cs_piece_meaning.specs.Moments.{Composition, Moment}
+use Rattle.cs_piece_meaning.specs.{Course.opening, Moments.Composition, Moments.Moment}
 use Rattle.cs_cells.specs.declared.footprint.Footprint.{Footprint}
-use Rattle.cs_desk.specs.Desk.{areas, cells, HasRoom}
+use Rattle.cs_desk.specs.{Desk.areas, Desk.cells, Desk.HasRoom, Courses.IsCourseOf}
 use Rattle.cs_life.specs.Standing.{StandsFor}
 use Rattle.cs_piece.specs.Setups.{SetupData, composition_of}
-use Rattle.cs_row.specs.Cuts.{AreRowsOf}
-use Rattle.cs_row.specs.Kept.{HasMemory, cuts}
-use Rattle.cs_row.specs.Rows.{row_foot}
-use Rattle.cs_voice.specs.VoiceData.{VoiceData}
-use Rattle.cs_voice.specs.VoiceMeaning.{voice_job}
+use Rattle.cs_row.specs.{Cuts.AreRowsOf, Kept.HasMemory, Kept.cuts, Rows.row_foot}
+use Rattle.cs_voice.specs.{VoiceData.VoiceData, VoiceMeaning.voice_job}
 use Rattle.cs_perform.specs.Counted.{AreHeardIn, CountsOn, Receipts}
 use Rattle.cs_perform.specs.declared.order.PerformanceOrder.{PerformanceOrder}
-use Rattle.cs_perform.specs.declared.stand.Stand.{Stand}
+use Rattle.cs_perform.specs.{declared.stand.Stand.Stand, inner.Crews.HasPlace, inner.Recordings.IsRecordingOf}
 use Rattle.cs_perform.specs.declared.start.PerformanceStart.{PerformanceStart}
-use Rattle.cs_desk.specs.Courses.{IsCourseOf}
-use Rattle.cs_perform.specs.inner.Crews.{HasPlace}
-use Rattle.cs_perform.specs.inner.Recordings.{IsRecordingOf}
 
 -- voices are cut into rows of these lengths, of no more than `most`, and these are the footprints of the rows
 pub record IsInRows (voices : List VoiceData) (most : ℕ) (cuts : List ℕ) (feet : List Footprint) : Type 0 where

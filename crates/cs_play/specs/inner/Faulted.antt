@@ -1,15 +1,13 @@
 -- What keeps a run from its sound, as the status that it ends with and the name that can't be read.
 use Rattle.std.specs.Prelude.{ℕ, ◌≡◌, List, []}
 use Rattle.cs_command.specs.declared.reading.Unread.{Unread}
-use Rattle.cs_command.specs.declared.reading.Unread.TheVariants as unasked
 use Rattle.cs_perform.specs.declared.order.PlayFault.{PlayFault}
-use Rattle.cs_perform.specs.declared.order.PlayFault.TheVariants as fault
 use Rattle.cs_edge.specs.Moves.{SinkTold}
-use Rattle.cs_report.specs.Status.{refusal}
-use Rattle.cs_report.specs.Talk.{Says, message_of}
-use Rattle.cs_report.specs.declared.status.Status.{Status}
-use Rattle.cs_report.specs.declared.status.Status.TheVariants as status
+use Rattle.cs_report.specs.{Status.refusal, Talk.Says, Talk.message_of, declared.status.Status.Status}
 use Rattle.cs_source.specs.declared.loading.LoadFault.{LoadFault}
+use Rattle.cs_command.specs.declared.reading.Unread.TheVariants as unasked
+use Rattle.cs_perform.specs.declared.order.PlayFault.TheVariants as fault
+use Rattle.cs_report.specs.declared.status.Status.TheVariants as status
 use Rattle.cs_source.specs.declared.loading.LoadFault.TheVariants as unloaded
 
 abbrev pub unread_status : Unread → Status

@@ -5,15 +5,11 @@ use Rattle.cs_edge.specs.Moves.{SinkTold, WroteMore, WrotePart}
 use Rattle.cs_perform.specs.Performances.{Lent, LentSight, PerformsPiece}
 use Rattle.cs_perform.specs.declared.order.Outcome.{Outcome}
 use Rattle.cs_piece.specs.Setups.{composition_of}
-use Rattle.cs_play.specs.Endings.{request_in}
-use Rattle.cs_play.specs.declared.player.Played.{Played}
-use Rattle.cs_play.specs.declared.player.Played.TheVariants as what
+use Rattle.cs_play.specs.{Endings.request_in, declared.player.Played.Played, inner.Faulted.fault_status}
 use Rattle.cs_play.specs.declared.preparing.Prepared.{Prepared}
-use Rattle.cs_play.specs.inner.Faulted.{fault_status}
-use Rattle.cs_report.specs.Report.{counts_in, line_room}
-use Rattle.cs_report.specs.Talk.{Says, message_of}
-use Rattle.cs_report.specs.declared.counts.PerformanceCounts.{PerformanceCounts}
-use Rattle.cs_report.specs.declared.status.Status.{Status}
+use Rattle.cs_report.specs.{Report.counts_in, Report.line_room, Talk.Says, Talk.message_of}
+use Rattle.cs_report.specs.{declared.counts.PerformanceCounts.PerformanceCounts, declared.status.Status.Status}
+use Rattle.cs_play.specs.declared.player.Played.TheVariants as what
 use Rattle.cs_report.specs.declared.status.Status.TheVariants as status
 
 -- the counts that the performer answered

@@ -2,21 +2,17 @@
 -- M is what jobs mean, w the mailbox's word, h what lies in its slot (none while the slot is out with an end), c and d
 -- what the caller and the helper know, e what is out, s the state of the mailbox.
 use Rattle.std.specs.Prelude.{◌≡◌, ◌≢◌, ◌⊎◌, ℕ, [], ◌∷◌, Some, None, MatchOption}
-use mathlib.Core.Option as maybe
 use mathlib.Core.Option.{some, none}
 use Rattle.atomic_table.specs.Table.{State}
 use Rattle.cs_board.specs.declared.board.BoardSeat.{BoardSeat}
 use Rattle.cs_cells.specs.Meaning.{Meaning}
-use Rattle.cs_pool.specs.Working.{IsDone, IsThrough}
-use Rattle.cs_pool.specs.Letters.{errand_of, no_tasks}
-use Rattle.cs_pool.specs.declared.letter.MailboxLetter.{MailboxLetter}
-use Rattle.cs_pool.specs.declared.letter.MailboxLetter.TheVariants as letter
+use Rattle.cs_pool.specs.{Working.IsDone, Working.IsThrough, Letters.errand_of, Letters.no_tasks}
+use Rattle.cs_pool.specs.{declared.letter.MailboxLetter.MailboxLetter, declared.letter.Task.Task}
+use Rattle.cs_pool.specs.{declared.view.Errand.Errand, declared.view.Knows.Knows, declared.view.Role.Role}
 use Rattle.cs_pool.specs.declared.letter.TheConstants.{EMPTY, GIVEN, TAKEN, BACK, OVER}
-use Rattle.cs_pool.specs.declared.letter.Task.{Task}
-use Rattle.cs_pool.specs.declared.view.Errand.{Errand}
-use Rattle.cs_pool.specs.declared.view.Knows.{Knows}
-use Rattle.cs_pool.specs.declared.view.Role.{Role}
 use Rattle.cs_pool.specs.declared.view.Role.TheVariants.{Maker, Holder, Caller, Helper}
+use mathlib.Core.Option as maybe
+use Rattle.cs_pool.specs.declared.letter.MailboxLetter.TheVariants as letter
 
 module _ {J : Type 0} where
   -- the view of a mailbox's first end: it is being made

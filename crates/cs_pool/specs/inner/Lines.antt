@@ -1,9 +1,7 @@
 -- What the caller knows of a helper.
 use Rattle.std.specs.Arc.{arc_value}
-use Rattle.cs_board.specs.declared.board.Board.{Board}
-use Rattle.cs_board.specs.declared.board.BoardSeat.{BoardSeat}
-use Rattle.cs_pool.specs.Mailboxes.{HasNothingOut, HasOut, HasSomethingOut}
-use Rattle.cs_pool.specs.declared.line.Line.{Line}
+use Rattle.cs_board.specs.{declared.board.Board.Board, declared.board.BoardSeat.BoardSeat}
+use Rattle.cs_pool.specs.{Mailboxes.HasNothingOut, Mailboxes.HasOut, Mailboxes.HasSomethingOut, declared.line.Line.Line}
 
 module _ {J : Type 0} where
   -- the helper has nothing that is the caller's

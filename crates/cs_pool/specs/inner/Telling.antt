@@ -6,15 +6,12 @@ use Rattle.std.specs.Arc.{arc_value}
 use Rattle.atomic_table.specs.Table.{Me, Step}
 use Rattle.cs_board.specs.declared.board.BoardSeat.{BoardSeat}
 use Rattle.cs_cells.specs.Meaning.{Meaning}
-use Rattle.cs_pool.specs.Working.{IsDone, IsThrough}
+use Rattle.cs_pool.specs.{Working.IsDone, Working.IsThrough, inner.Exchange.beginning, declared.letter.Task.Task}
+use Rattle.cs_pool.specs.{declared.view.Knows.Knows, declared.view.Role.TheVariants.Holder}
 use Rattle.cs_pool.specs.Letters.{errand_of, task_in, caller, helper, one_given, one_served}
-use Rattle.cs_pool.specs.inner.Exchange.{beginning}
 use Rattle.cs_pool.specs.declared.letter.MailboxLetter.{MailboxLetter}
-use Rattle.cs_pool.specs.declared.letter.MailboxLetter.TheVariants as letter
 use Rattle.cs_pool.specs.declared.letter.TheConstants.{GIVEN, BACK}
-use Rattle.cs_pool.specs.declared.letter.Task.{Task}
-use Rattle.cs_pool.specs.declared.view.Knows.{Knows}
-use Rattle.cs_pool.specs.declared.view.Role.TheVariants.{Holder}
+use Rattle.cs_pool.specs.declared.letter.MailboxLetter.TheVariants as letter
 
 -- an end's view and the slots that it has taken, and what a step tells of it before, of the word found and of it after
 abbrev pub Sat : Type 0 → Type 0

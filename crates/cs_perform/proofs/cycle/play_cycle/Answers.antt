@@ -1,19 +1,14 @@
 use Rattle.std.proofs.Common.{◌≡◌, ◌≤◌, ◌<◌, ◌*◌, ◌+◌, ◌^◌, ℕ, ℤ, Bool, [], length, ap, sym, ◌∙◌, arith}
 use Rattle.std.specs.List.{count_by}
 use Rattle.std.proofs.lemmas.List.Sums.{count_by-le-length}
-use Rattle.cs_base.specs.Widths.{bytes_of}
-use Rattle.cs_base.specs.declared.head.Head.{Head}
-use Rattle.cs_piece_meaning.specs.Heard.{mix_in}
-use Rattle.cs_piece_meaning.specs.Moments.{Composition}
+use Rattle.cs_base.specs.{Widths.bytes_of, declared.head.Head.Head}
+use Rattle.cs_piece_meaning.specs.{Heard.mix_in, Moments.Composition}
 use Rattle.cs_piece.specs.Setups.{composition_of}
 use Rattle.cs_typed.specs.declared.tree.TypedOrc.{TypedOrc}
 use Rattle.cs_wav.specs.Wav.{is_out_of_range}
-use Rattle.cs_perform.specs.Performances.{lent, lent_sight, request_of}
-use Rattle.cs_perform.proofs.Blocks.{slice_written}
+use Rattle.cs_perform.specs.Performances.{lent}
+use Rattle.cs_perform.proofs.{Blocks.slice_written, Frames.length-mix_in, Performing.runs_cycle, Turning.told_more}
 use Rattle.cs_perform.proofs.Cycles.{block_small, counted_more, outside_fits}
-use Rattle.cs_perform.proofs.Frames.{length-mix_in}
-use Rattle.cs_perform.proofs.Performing.{breaks_cycle, plays_cycle}
-use Rattle.cs_perform.proofs.Turning.{told_more}
 use Rattle.cs_perform.proofs.Wholes.{not_ok, not_sink}
 use Rattle.cs_perform.proofs.cycle.play_cycle.Goals as goal
 
@@ -49,12 +44,10 @@ pour-requires-clause-room g c =
 
 pub returns-in_default-pour-clause-broken : goal.returns-in_default-pour-clause-broken
 returns-in_default-pour-clause-broken g c e =
-    breaks_cycle (lent_sight (λ b h. (goal.Tap-dyn g (b.vtable, b.value)).stands_for b.value h) g.K.Sink.tells
-    g.C.Counter.has_counted)
-    (request_of c.args.performance.now) c.orchestra.result.now.head.dbfs
+    runs_cycle _ _ c.orchestra.result.now.head.dbfs
     c.args.cycle c.deref.result.now _ _ (c.deref.ensures.value ∙ c.in-Ok.ensures.heard)
     (ap (λ (o : TypedOrc). o.head.dbfs) c.orchestra.ensures)
-    c.in_default-pour.ensures.told c.in-Ok.ensures.counted c.in_default-pour.ensures.part
+    c.in_default-pour.ensures.told c.in-Ok.ensures.counted _ c.in_default-pour.ensures.part
 
 pub returns-in_default-pour-clause-sink : goal.returns-in_default-pour-clause-sink
 returns-in_default-pour-clause-sink g c e = c.in_default-pour.ensures.ordered
@@ -78,12 +71,10 @@ overflow_add-recording g c =
 
 pub returns-clause-played : goal.returns-clause-played
 returns-clause-played g c =
-    plays_cycle (lent_sight (λ b h. (goal.Tap-dyn g (b.vtable, b.value)).stands_for b.value h) g.K.Sink.tells
-    g.C.Counter.has_counted)
-    (request_of c.args.performance.now) c.orchestra.result.now.head.dbfs
+    runs_cycle _ _ c.orchestra.result.now.head.dbfs
     c.args.cycle c.deref.result.now _ _ (c.deref.ensures.value ∙ c.in-Ok.ensures.heard)
     (ap (λ (o : TypedOrc). o.head.dbfs) c.orchestra.ensures)
-    c.in-Ok-pour.ensures.told c.in-Ok.ensures.counted c.in-Ok-pour.ensures.written
+    c.in-Ok-pour.ensures.told c.in-Ok.ensures.counted _ c.in-Ok-pour.ensures.written
 
 pub returns-clause-recorded : goal.returns-clause-recorded
 returns-clause-recorded g c =

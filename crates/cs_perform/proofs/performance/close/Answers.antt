@@ -1,10 +1,8 @@
 use Rattle.std.proofs.Common.{◌≡◌, ℕ, refl, ap}
-use Rattle.cs_piece_meaning.specs.Course.{moment_at}
-use Rattle.cs_piece_meaning.specs.Moments.{Composition}
+use Rattle.cs_piece_meaning.specs.{Course.moment_at, Moments.Composition}
 use Rattle.cs_piece.specs.Setups.{composition_of}
 use Rattle.cs_tempo.specs.declared.plot.Plot.{Plot}
-use Rattle.cs_perform.proofs.Starting.{starts_of}
-use Rattle.cs_perform.proofs.Wholes.{breaks, closes}
+use Rattle.cs_perform.proofs.{Starting.starts_of, Wholes.breaks, Wholes.closes}
 use Rattle.cs_perform.proofs.performance.close.Goals as goal
 
 pub frames_in-frames-requires : goal.frames_in-frames-requires

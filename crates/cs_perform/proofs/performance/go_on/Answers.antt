@@ -1,4 +1,3 @@
-use Rattle.cs_perform.specs.Performances.{lent_sight, request_of}
 use Rattle.cs_perform.proofs.Wholes.{performs_err, performs_ok}
 use Rattle.cs_perform.proofs.performance.go_on.Goals as goal
 
@@ -10,9 +9,7 @@ returns-in-Ok-clause-same g c = c.in-Ok.ensures.same
 
 pub returns-in-Ok-clause-performed : goal.returns-in-Ok-clause-performed
 returns-in-Ok-clause-performed g c = record {
-  performed = performs_ok (lent_sight (λ b h. (goal.Tap-dyn g (b.vtable, b.value)).stands_for b.value h) g.K.Sink.tells
-      g.C.Counter.has_counted)
-      (request_of c.args.performance.now) _ _ c.in-Ok.starts c.outcome.result
+  performed = performs_ok _ _ _ _ c.in-Ok.starts c.outcome.result
       c.in-Ok.ensures.performed;
   outcome = c.outcome.ensures.outcome;
   turns = c.outcome.ensures.turns;
@@ -20,10 +17,7 @@ returns-in-Ok-clause-performed g c = record {
 
 pub returns-in-Err-clause-performed : goal.returns-in-Err-clause-performed
 returns-in-Err-clause-performed g c = record {
-  performed = performs_err
-      (lent_sight (λ b h. (goal.Tap-dyn g (b.vtable, b.value)).stands_for b.value h) g.K.Sink.tells
-      g.C.Counter.has_counted)
-      (request_of c.args.performance.now) _ _ c.in-Err.fault c.in-Err.ensures.performed;
+  performed = performs_err _ _ _ _ c.in-Err.fault c.in-Err.ensures.performed;
   outcome = tt;
   turns = tt;
 }

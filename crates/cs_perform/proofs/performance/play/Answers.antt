@@ -23,13 +23,8 @@ returns-in-Ok-play_all-clause-recorded g c =
 
 pub returns-in_default-clause-performed : goal.returns-in_default-clause-performed
 returns-in_default-clause-performed g c =
-    performs_unbegun (lent_sight (λ b h. (goal.Tap-dyn g (b.vtable, b.value)).stands_for b.value h) g.K.Sink.tells
-    g.C.Counter.has_counted)
-    (request_of c.args.performance.now) c.first_bytes-first.result
-    (lent c.args.loan.now.wav.now c.args.loan.now.taps.now.items c.args.loan.now.tally.now)
-    (lent c.begin.new.wav c.args.loan.now.taps.now.items c.args.loan.now.tally.now) refl refl
-    c.first_bytes-first.ensures
-    c.in_default.ensures.stopped c.in_default.ensures.written (c.in_default.ensures.cause.rose refl)
+    performs_unbegun _ _ _ _ _ refl refl c.first_bytes-first.ensures c.in_default.ensures.stopped
+    c.in_default.ensures.written (c.in_default.ensures.cause.rose refl)
 
 pub returns-in-Ok-play_all-clause-performed : goal.returns-in-Ok-play_all-clause-performed
 returns-in-Ok-play_all-clause-performed g c =

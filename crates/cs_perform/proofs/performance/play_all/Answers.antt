@@ -5,21 +5,16 @@ use Rattle.cs_piece.specs.Setups.{composition_of}
 use Rattle.cs_tempo.specs.declared.plot.Plot.{Plot}
 use Rattle.cs_perform.specs.Performances.{lent, lent_sight, request_of}
 use Rattle.cs_perform.specs.declared.order.PlayFault.TheVariants.{OutOfMemory, Sink}
-use Rattle.cs_perform.specs.inner.Plays.{PlayedOn}
-use Rattle.cs_perform.specs.inner.Recordings.{IsRecordingOf}
-use Rattle.cs_perform.proofs.Cycles.{room_kept, room_left}
-use Rattle.cs_perform.proofs.Files.{error_as}
+use Rattle.cs_perform.specs.{inner.Plays.PlayedOn, inner.Recordings.IsRecordingOf}
+use Rattle.cs_perform.proofs.{Cycles.room_kept, Cycles.room_left, Files.error_as, Wholes.not_ok}
 use Rattle.cs_perform.proofs.Performing.{broke_after, paused_before, played_more, played_none}
-use Rattle.cs_perform.proofs.Wholes.{not_ok}
 use Rattle.cs_perform.proofs.performance.play_all.Goals as goal
 
 pub loop-cycle-init : goal.loop-cycle-init
 loop-cycle-init g c = (
   c.requires.at,
   c.requires.recorded,
-  played_none (lent_sight (λ b h. (goal.Tap-dyn g (b.vtable, b.value)).stands_for b.value h) g.K.Sink.tells
-      g.C.Counter.has_counted)
-      (request_of c.args.performance.now) _,
+  played_none _ _ _,
   refl,
   refl,
   refl,
@@ -36,10 +31,7 @@ pub returns-in-Err-clause-broke : goal.returns-in-Err-clause-broke
 returns-in-Err-clause-broke g c e =
     let all : c.plot.result.now.cycles ≡ c.args.performance.now.setup.now.plot.cycles =
     ap (λ (p : Plot). p.cycles) c.plot.ensures in
-    broke_after (lent_sight (λ b h. (goal.Tap-dyn g (b.vtable, b.value)).stands_for b.value h) g.K.Sink.tells
-    g.C.Counter.has_counted)
-    (request_of c.args.performance.now)
-    c.loop-cycle.cycle _ _ _ (omega (arith, c.loop-cycle-test.true, all)) c.loop-cycle.invariant.2
+    broke_after _ _ c.loop-cycle.cycle _ _ _ (omega (arith, c.loop-cycle-test.true, all)) c.loop-cycle.invariant.2
     (c.in-Err.ensures.broken (error_as c.in-Err.fault Sink e))
 
 pub returns-clause-broke : goal.returns-clause-broke
@@ -49,10 +41,7 @@ pub returns-in-Err-clause-memory : goal.returns-in-Err-clause-memory
 returns-in-Err-clause-memory g c e =
     let all : c.plot.result.now.cycles ≡ c.args.performance.now.setup.now.plot.cycles =
     ap (λ (p : Plot). p.cycles) c.plot.ensures in
-    paused_before (lent_sight (λ b h. (goal.Tap-dyn g (b.vtable, b.value)).stands_for b.value h) g.K.Sink.tells
-    g.C.Counter.has_counted)
-    (request_of c.args.performance.now)
-    c.loop-cycle.cycle _ _ _ (omega (arith, c.loop-cycle-test.true, all))
+    paused_before _ _ c.loop-cycle.cycle _ _ _ (omega (arith, c.loop-cycle-test.true, all))
     (c.in-Err.ensures.memory (error_as c.in-Err.fault OutOfMemory e)) c.loop-cycle.invariant.2
 
 pub returns-in-Err-clause-sink : goal.returns-in-Err-clause-sink
@@ -62,10 +51,7 @@ pub loop-cycle-preserved : goal.loop-cycle-preserved
 loop-cycle-preserved g c = (
   c.in-Ok.ensures.at,
   c.in-Ok.ensures.recorded,
-  played_more (lent_sight (λ b h. (goal.Tap-dyn g (b.vtable, b.value)).stands_for b.value h) g.K.Sink.tells
-      g.C.Counter.has_counted)
-      (request_of c.args.performance.now)
-      c.loop-cycle.cycle _ _ _ c.loop-cycle.invariant.2 c.in-Ok.ensures.played,
+  played_more _ _ c.loop-cycle.cycle _ _ _ c.loop-cycle.invariant.2 c.in-Ok.ensures.played,
   c.play_cycle.ensures.same.0 ∙ c.loop-cycle.invariant.3,
   c.play_cycle.ensures.same.1 ∙ c.loop-cycle.invariant.4,
   c.play_cycle.ensures.same.2 ∙ c.loop-cycle.invariant.5,

@@ -2,8 +2,7 @@ use Rattle.std.proofs.Common.{◌≡◌, ◌≤◌, ◌+◌, ◌*◌, ◌^◌}
 use Rattle.cs_base.specs.Limits.{most_notes}
 use Rattle.cs_piece_meaning.specs.Course.{moment_at}
 use Rattle.cs_perform.specs.Performances.{lent, lent_sight, request_of}
-use Rattle.cs_perform.specs.inner.Plays.{PlayedOn}
-use Rattle.cs_perform.specs.inner.Recordings.{IsRecordingOf}
+use Rattle.cs_perform.specs.{inner.Plays.PlayedOn, inner.Recordings.IsRecordingOf}
 use Rattle.cs_piece.specs.Setups.{composition_of}
 use Rattle.cs_perform.proofs.performance.play_all.Given as goal
 

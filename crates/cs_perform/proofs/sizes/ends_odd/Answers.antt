@@ -1,11 +1,8 @@
 use Rattle.std.proofs.Common.{◌≡◌, ◌≤◌, ◌*◌, ◌%◌, ◌==◌, ℕ, refl, ap, sym, subst, ◌∙◌, arith}
-use Rattle.cs_base.specs.Limits.{most_wav_bytes}
-use Rattle.cs_base.specs.Widths.{bytes_of}
-use Rattle.cs_base.specs.declared.head.Head.{Head}
+use Rattle.cs_base.specs.{Limits.most_wav_bytes, Widths.bytes_of, declared.head.Head.Head}
 use Rattle.cs_piece.specs.Setups.{composition_of}
 use Rattle.cs_typed.specs.declared.tree.TypedOrc.{TypedOrc}
-use Rattle.cs_perform.proofs.Cycles.{some_width, values_fit}
-use Rattle.cs_perform.proofs.Wholes.{values_are, wav_ends}
+use Rattle.cs_perform.proofs.{Cycles.some_width, Cycles.values_fit, Wholes.values_are, Wholes.wav_ends}
 use Rattle.cs_perform.proofs.sizes.ends_odd.Goals as goal
 
 pub overflow_mul-values : goal.overflow_mul-values

@@ -1,7 +1,5 @@
 use Rattle.std.proofs.Common.{◌≤◌, ◌*◌, ℕ, refl, ap, sym, subst, ◌∙◌}
-use Rattle.cs_base.specs.Widths.{bytes_of}
-use Rattle.cs_base.specs.Limits.{most_wav_bytes}
-use Rattle.cs_base.specs.declared.head.Head.{Head}
+use Rattle.cs_base.specs.{Widths.bytes_of, Limits.most_wav_bytes, declared.head.Head.Head}
 use Rattle.cs_piece.specs.Setups.{composition_of}
 use Rattle.cs_typed.specs.declared.tree.TypedOrc.{TypedOrc}
 use Rattle.cs_wav.specs.Wav.{header_bytes, size_of}

@@ -1,7 +1,6 @@
 use Rattle.std.proofs.Common.{◌≡◌, ℕ, pos, replicate, ap, ◌∙◌}
 use Rattle.std.proofs.lemmas.Result.{IfOk-weaker}
-use Rattle.cs_cells.specs.Areas.{word_count}
-use Rattle.cs_cells.specs.Cells.{values}
+use Rattle.cs_cells.specs.{Areas.word_count, Cells.values}
 use Rattle.cs_desk.specs.Desk.{cells}
 use Rattle.cs_perform.proofs.Standings.{zero_cells}
 use Rattle.cs_perform.proofs.stand.first_desk.Goals as goal

@@ -1,6 +1,5 @@
 use Rattle.std.proofs.Common.{◌≡◌, ◌≤◌, ◌++◌, ℕ, List, arith, length, map, ap, refl, subst, sym, ◌∙◌}
-use Rattle.std.proofs.lemmas.List.{length-map}
-use Rattle.std.proofs.lemmas.Result.{on_ok_weaker}
+use Rattle.std.proofs.lemmas.{List.length-map, Result.on_ok_weaker}
 use Rattle.std.specs.List.{AllZip}
 use Rattle.cs_base.specs.Limits.{most_notes}
 use Rattle.cs_cells.specs.declared.footprint.Footprint.{Footprint}
@@ -9,10 +8,9 @@ use Rattle.cs_graph.specs.Graph.{Dependencies}
 use Rattle.cs_rwset.specs.Footprints.{stock_of}
 use Rattle.cs_piece.specs.Setups.{SetupData, composition_of}
 use Rattle.cs_turns.specs.Turns.{IsFootOf, line_of, stock_in}
-use Rattle.cs_typed.specs.TypedTree as typed
 use Rattle.cs_voice.specs.VoiceData.{VoiceData}
-use Rattle.cs_perform.proofs.Standings.{own_course}
-use Rattle.cs_perform.proofs.Turning.{feet_of_notes}
+use Rattle.cs_perform.proofs.{Standings.own_course, Turning.feet_of_notes}
+use Rattle.cs_typed.specs.TypedTree as typed
 use Rattle.cs_perform.proofs.turns.add_line.Goals as goal
 
 pub follow-requires-clause-few : goal.follow-requires-clause-few

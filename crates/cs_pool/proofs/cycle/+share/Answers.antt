@@ -1,16 +1,10 @@
-use Rattle.std.proofs.Common.{◌≡◌, ◌≢◌, ◌<◌, ◌∷◌, suc, length, rules, ◌+◌, ap, sym, ◌∙◌, subst, arith}
-use Rattle.std.specs.Int.{from_bool}
-use Rattle.std.proofs.lemmas.List.Elements.{All-cons, All-tail}
-use Rattle.std.specs.Arc.{arc_value}
-use Rattle.std.specs.List.{All}
+use Rattle.std.proofs.lemmas.{Grind.common_steps, List.Elements.All-cons, List.Elements.All-tail}
+use Rattle.std.proofs.Common.{◌≡◌, ◌≢◌, suc, length, rules, ap, ◌∙◌, subst, arith}
+use Rattle.std.specs.{Arc.arc_value, List.All}
 use Rattle.cs_board.specs.Board.{plan, name, view, IsSeatOf}
-use Rattle.cs_pool.proofs.Missed.{more_served, none_served}
-use Rattle.cs_pool.proofs.Given.{all_given, most_given, none_given}
+use Rattle.cs_pool.proofs.{Missed.more_served, Missed.none_served, Given.all_given, Given.most_given, Given.none_given}
 use Rattle.cs_pool.proofs.Seats.{ready_kept, leads_kept, leads_joined}
-use Rattle.cs_pool.specs.Mailboxes.{given, served}
-use Rattle.cs_pool.specs.Pools.{given_to, served_by}
-use Rattle.cs_pool.specs.declared.line.Line.{Line}
-use Rattle.cs_pool.specs.inner.Lines.{IsIdle}
+use Rattle.cs_pool.specs.{declared.line.Line.Line, inner.Lines.IsIdle}
 use Rattle.cs_pool.proofs.cycle.+share.Goals as goal
 
 pub returns-in_default-part_in-clause-idle : goal.returns-in_default-part_in-clause-idle
@@ -19,11 +13,6 @@ returns-in_default-part_in-clause-idle g t c =
     let rest : All P c.in-Some.rest.now =
     All-tail P c.in-Some.line.now c.in-Some.rest.now (subst (All P) c.in-Some.ensures.cases.0 c.requires.idle) in
     All-cons P c.part_in.new.self c.in-Some.rest.now c.part_in.ensures.idle rest
-
-pub returns-in_default-part_in-clause-missed : goal.returns-in_default-part_in-clause-missed
-returns-in_default-part_in-clause-missed g t c =
-    λ _. ap (λ n. n.served + served_by c.in-Some.rest.now) c.part_in.ensures.tasks
-    ∙ sym (ap served_by c.in-Some.ensures.cases.0)
 
 pub share-shared-requires : goal.share-shared-requires
 share-shared-requires g t c κs within =
@@ -58,29 +47,10 @@ share-shared-requires g t c κs within =
     )
 
 pub returns-clause-begun : goal.returns-clause-begun
-returns-clause-begun g t c = λ is.
-    let l = c.in-Some.line.now in
-    let rest = c.in-Some.rest.now in
-    let one : served c.await_seat-returned.new.self.end ≡ served l.end + from_bool c.await_seat-returned.result.begun =
-    c.await_seat-returned.ensures.served
-    ∙ ap (λ n. n + from_bool c.await_seat-returned.result.begun)
-    (ap (λ n. n.served) c.give.ensures.tasks ∙ ap (λ n. n.served) c.part_in.ensures.tasks) in
-    subst (λ n. n < served_by (c.await_seat-returned.new.self ∷ c.share-shared.new.lines))
-    (sym (ap served_by c.in-Some.ensures.cases.0))
-    (more_served c.await_seat-returned.result.begun c.share-shared.result.begun (served l.end) (served_by rest) _ _ one
-    c.share-shared.ensures.begun c.share-shared.ensures.missed is)
+returns-clause-begun g t c = grind (arith, common_steps, more_served)
 
 pub returns-clause-missed : goal.returns-clause-missed
-returns-clause-missed g t c = λ is.
-    let l = c.in-Some.line.now in
-    let rest = c.in-Some.rest.now in
-    let one : served c.await_seat-returned.new.self.end ≡ served l.end + from_bool c.await_seat-returned.result.begun =
-    c.await_seat-returned.ensures.served
-    ∙ ap (λ n. n + from_bool c.await_seat-returned.result.begun)
-    (ap (λ n. n.served) c.give.ensures.tasks ∙ ap (λ n. n.served) c.part_in.ensures.tasks) in
-    none_served c.await_seat-returned.result.begun c.share-shared.result.begun (served l.end) (served_by rest) _ _ one
-    c.share-shared.ensures.begun c.share-shared.ensures.missed is
-    ∙ sym (ap served_by c.in-Some.ensures.cases.0)
+returns-clause-missed g t c = grind (arith, common_steps, none_served)
 
 pub returns-clause-leads : goal.returns-clause-leads
 returns-clause-leads g t c =
@@ -91,23 +61,10 @@ returns-clause-leads g t c =
     (through.seat.number ∙ ap (λ v. v.number) c.split-seat.ensures.new) c.join.ensures.view
 
 pub returns-in_default-part_in-clause-most : goal.returns-in_default-part_in-clause-most
-returns-in_default-part_in-clause-most g t c =
-    none_given c.args.others (given c.in-Some.line.now.end) (given_to c.in-Some.rest.now)
-    (given c.part_in.new.self.end) (given_to c.args.lines.now) (ap given_to c.in-Some.ensures.cases.0)
-    (ap (λ n. n.given) c.part_in.ensures.tasks)
+returns-in_default-part_in-clause-most g t c = grind (arith, common_steps, none_given)
 
 pub returns-clause-most : goal.returns-clause-most
-returns-clause-most g t c =
-    most_given c.args.others (given c.in-Some.line.now.end) (given_to c.in-Some.rest.now) _ _ _
-    c.if-others-eq0.false (ap given_to c.in-Some.ensures.cases.0)
-    (c.await_seat-returned.ensures.given ∙ ap (λ n. n.given) c.give.ensures.tasks
-    ∙ ap (λ n. n.given + 1) c.part_in.ensures.tasks)
-    c.share-shared.ensures.most
+returns-clause-most g t c = grind (arith, common_steps, most_given)
 
 pub returns-clause-all : goal.returns-clause-all
-returns-clause-all g t c = λ is.
-    all_given c.args.others (given c.in-Some.line.now.end) (given_to c.in-Some.rest.now) _ _ _
-    c.if-others-eq0.false (ap given_to c.in-Some.ensures.cases.0)
-    (c.await_seat-returned.ensures.given ∙ ap (λ n. n.given) c.give.ensures.tasks
-    ∙ ap (λ n. n.given + 1) c.part_in.ensures.tasks)
-    (c.share-shared.ensures.all is)
+returns-clause-all g t c = grind (arith, common_steps, all_given)

@@ -1,6 +1,5 @@
 use Rattle.std.proofs.Common.{◌≡◌, ◌≤◌, length}
-use Rattle.std.specs.List.{All}
-use Rattle.std.specs.Vec.{vec_capacity}
+use Rattle.std.specs.{List.All, Vec.vec_capacity}
 use Rattle.cs_pool.specs.inner.Lines.{IsIdle}
 use Rattle.cs_pool.proofs.pool.start_all.Given as goal
 

@@ -1,7 +1,6 @@
 use Rattle.cs_rwset.specs.Footprints.{stock_of}
 use Rattle.cs_turns.specs.Turns.{touched}
-use Rattle.cs_turns.proofs.Clashes.{clashes, conflicts}
-use Rattle.cs_turns.proofs.Levels.{foot_for}
+use Rattle.cs_turns.proofs.{Clashes.clashes, Clashes.conflicts, Levels.foot_for}
 use Rattle.cs_turns.proofs.laws.clashes_are_conflicts.Goals as goal
 
 pub returns-clause-conflict : goal.returns-clause-conflict

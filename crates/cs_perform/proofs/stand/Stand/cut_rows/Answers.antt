@@ -1,7 +1,6 @@
 use Rattle.std.proofs.Common.{◌∙◌, rules}
 use Rattle.cs_piece.specs.Setups.{composition_of}
-use Rattle.cs_perform.proofs.Readying.{few_feet, of_notes, rows_cut}
-use Rattle.cs_perform.proofs.Standings.{own_course}
+use Rattle.cs_perform.proofs.{Readying.few_feet, Readying.rows_cut, Standings.own_course}
 use Rattle.cs_perform.proofs.stand.Stand.cut_rows.Goals as goal
 
 pub returns-then-self-clause-rows : goal.returns-then-self-clause-rows
@@ -11,9 +10,8 @@ pub cut-requires-clause-over : goal.cut-requires-clause-over
 cut-requires-clause-over g c =
     let at = c.requires.at.2 in (
       c.args.self.now.life.stage.zones.now,
-      of_notes c.args.self.now.voices.items _ c.args.self.now.life.stage.zones.now c.deref.ensures.value
-          (c.serial_runs_perform.ensures.layouts (composition_of c.requires.at.0) c.args.self.now.life _ _
-          c.requires.at.1 at.stands),
+      rw c.deref.ensures.value (c.serial_runs_perform.ensures.layouts (composition_of c.requires.at.0)
+          c.args.self.now.life _ _ c.requires.at.1 at.stands),
     )
 
 pub follow-requires-clause-few : goal.follow-requires-clause-few

@@ -1,6 +1,5 @@
 use Rattle.std.proofs.Common.{◌≡◌, arith, length}
 use Rattle.std.proofs.lemmas.Bool.{eqb-true}
-use Rattle.cs_perform.proofs.Rows.{rows_stay}
 use Rattle.cs_piece.specs.Setups.{composition_of}
 use Rattle.cs_perform.proofs.stand.Stand.end.Goals as goal
 
@@ -17,7 +16,6 @@ returns g c = record {
         let same : c.len-stayed.result ≡ c.len-playing.result = eqb-true _ _ both.1 in
         let many : length c.end_cycle.new.voices.items ≡ length c.args.self.now.voices.items =
         omega (arith, c.len-stayed.ensures, c.len-playing.ensures, same) in
-        rows_stay c.args.self.now.voices.items c.end_cycle.new.voices.items _ _ _ (c.end_cycle.ensures.same many)
-        (at.current both.0);
+        rw (c.end_cycle.ensures.same many) (at.current both.0);
   };
 }

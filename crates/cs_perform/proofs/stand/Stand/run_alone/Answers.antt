@@ -4,11 +4,9 @@ use Rattle.cs_desk.specs.Desk.{cells}
 use Rattle.cs_life.specs.Standing.{StandsFor}
 use Rattle.cs_piece_meaning.specs.Course.{begins, moment_at, performed}
 use Rattle.cs_row.specs.Heard.{sums}
-use Rattle.cs_voice.specs.Mixing.{gives, shape}
-use Rattle.cs_voice.specs.VoiceData.{VoiceData}
+use Rattle.cs_voice.specs.{Mixing.gives, Mixing.shape, VoiceData.VoiceData}
 use Rattle.cs_perform.specs.Counted.{CountsOn}
-use Rattle.cs_perform.proofs.Rows.{heard_of, rows_after}
-use Rattle.cs_perform.proofs.Standings.{areas_same, ran_at}
+use Rattle.cs_perform.proofs.{Rows.heard_of, Rows.rows_after, Standings.areas_same, Standings.ran_at}
 use Rattle.cs_piece.specs.Setups.{composition_of}
 use Rattle.cs_perform.proofs.stand.Stand.run_alone.Goals as goal
 

@@ -1,7 +1,6 @@
 use Rattle.std.proofs.Common.{None}
 use Rattle.std.specs.Arc.{arc_value}
-use Rattle.cs_pool.specs.Mailboxes.{LooksFor}
-use Rattle.cs_pool.specs.inner.Lines.{IsBusy}
+use Rattle.cs_pool.specs.{Mailboxes.LooksFor, inner.Lines.IsBusy}
 use Rattle.cs_pool.proofs.line.Line.await_seat.Given as goal
 
 abbrev pub invariant-loop : goal.invariant-loop

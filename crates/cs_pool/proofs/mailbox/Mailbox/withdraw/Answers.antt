@@ -1,34 +1,13 @@
-use Rattle.std.proofs.Common.{None, sym, ◌∙◌, subst, arith, eqb}
-use mathlib.Core.Option.{none}
-use prog.Atomic.{either}
-use Rattle.atomic_table.specs.Table.{step, Allows}
-use Rattle.cs_pool.specs.Letters.{caller, errand}
-use Rattle.cs_pool.specs.Mailboxes.{tasks}
-use Rattle.cs_pool.specs.inner.Exchange.{Always}
-use Rattle.cs_pool.specs.inner.Telling.{withdrew}
-use Rattle.cs_pool.specs.declared.letter.MailboxLetter.TheVariants as letter
-use Rattle.cs_pool.specs.declared.letter.TheConstants.{EMPTY, GIVEN}
+use Rattle.std.proofs.Common.{◌∙◌, arith}
 use Rattle.cs_pool.proofs.Exchanging.{has_slot, withdraws}
 use Rattle.cs_pool.proofs.mailbox.Mailbox.withdraw.Goals as goal
 
 pub compare_exchange-found-requires : goal.compare_exchange-found-requires
 compare_exchange-found-requires g c =
-    let M = g.J.Job.means in
-    let n = c.args.self.now.table.shared.table_id.slots in
-    let id = c.args.end.now.seat.id in
-    let e = errand c.requires.board c.requires.seat in (
-      c.requires.out.table,
-      omega (arith, c.args.self.now.sized.0),
-      subst (λ m. Allows (Always M) n id m 0 (λ y. either (eqb y GIVEN) EMPTY y)
-          (withdrew M (step n 0 GIVEN EMPTY none) m)) (sym c.requires.out.me)
-          (withdraws M n id (tasks c.args.end.now) e),
-    )
+    let r = c.requires in
+    (r.out.table, omega (arith, c.args.self.now.sized.0), rw r.out.me (withdraws g.J.Job.means _ _ _ _))
 
 pub exchange-letter-requires : goal.exchange-letter-requires
 exchange-letter-requires g c =
-    let t = c.compare_exchange-found.ensures.2.0 c.if-found-ne-GIVEN.false in (
-      c.compare_exchange-found.ensures.0
-          ∙ c.requires.out.table,
-      has_slot c.compare_exchange-found.new.seat.me (caller (tasks c.args.end.now) None)
-          (letter.Task t.0) t.1,
-    )
+    let t = c.compare_exchange-found.ensures.2.0 c.if-found-ne-GIVEN.false in
+    (c.compare_exchange-found.ensures.0 ∙ c.requires.out.table, has_slot _ _ _ t.1)

@@ -1,12 +1,12 @@
+use Rattle.std.proofs.lemmas.Grind.{common_steps}
 use Rattle.std.specs.Prelude.{min}
-use Rattle.std.proofs.Common.{◌≡◌, ◌∙◌, ◌-◌, length, ap, inl, inr, subst, refl, sym, arith}
+use Rattle.std.proofs.Common.{◌∙◌, ◌-◌, length, ap, inl, inr, subst, refl, sym, arith}
 use Rattle.cs_board.specs.Board.{plan, name}
 use Rattle.cs_cells.specs.Serial.{serial_cells, serial_jobs}
 use Rattle.cs_desk.proofs.Cycling.{was_played}
 use Rattle.cs_desk.specs.Desk.{cells}
 use Rattle.cs_pool.proofs.Given.{none_wanted, nothing_more}
-use Rattle.cs_graph.specs.Cover.{HasCover}
-use Rattle.cs_pool.specs.Pools.{helpers, tasks_given, GivesParts, NeedsNoHelper}
+use Rattle.cs_pool.specs.Pools.{helpers, NeedsNoHelper}
 use Rattle.cs_pool.proofs.pool.Pool.cycle.Goals as goal
 
 pub returns-clause-played : goal.returns-clause-played
@@ -42,23 +42,5 @@ returns-then-others-eq0-clause-learned g c = inr (
   record { served = refl; alone = refl; missed = λ k h. h },
 )
 
-pub returns-clause-shared : goal.returns-clause-shared
-returns-clause-shared g c =
-    let wanted = c.wanted-others.ensures in
-    let given = c.play-board.ensures.parts in
-    record {
-      chains = wanted.0;
-      cover = subst (λ z. HasCover z.edges (length z.levels) wanted.0) c.deref.ensures wanted.1;
-      parts = subst (λ n. GivesParts n c.args.self.now c.play-board.new.self) wanted.2
-          (record { most = given.most; all = given.all });
-    }
-
 pub returns-then-others-eq0-clause-shared : goal.returns-then-others-eq0-clause-shared
-returns-then-others-eq0-clause-shared g c =
-    let wanted = c.wanted-others.ensures in
-    let none : min (wanted.0 - 1) (helpers c.args.self.now) ≡ 0 = sym wanted.2 ∙ c.if-others-eq0.true in
-    record {
-      chains = wanted.0;
-      cover = subst (λ z. HasCover z.edges (length z.levels) wanted.0) c.deref.ensures wanted.1;
-      parts = record { most = omega arith; all = λ _. nothing_more (tasks_given c.args.self.now) _ none };
-    }
+returns-then-others-eq0-clause-shared g c = grind (arith, common_steps, nothing_more)
