@@ -1,7 +1,7 @@
 """Builds csplay for `play` where it isn't built from what lies here, and notes of what it was built.
 
 Sources that passed the gate (proved.txt has their sums and this kit's logic) are built without proving them again, and
-the program must pass tools/test-program. Other sources are proved: the crates below csplay side by side, as many at
+the program must pass tests/program. Other sources are proved: the crates below csplay side by side, as many at
 once as there are processors and 4 GB of memory each, then csplay itself.
 
 What was built is told by crates/csplay/out/play.stamp: a sum over the sources of csplay and all below it, taken
@@ -199,9 +199,9 @@ def proves(found, lines, version):
 
 
 def ends_well(tool, to):
-    """Runs one of tools/ on the program of the quick build, and answers whether its status is 0."""
+    """Runs a script on the program of the quick build, and answers whether its status is 0."""
     how = {"stdin": subprocess.DEVNULL, "stdout": to, "stderr": subprocess.STDOUT, "start_new_session": True}
-    running[tool] = subprocess.Popen([sys.executable, f"{TOP}/tools/{tool}", QUICK], **how)
+    running[tool] = subprocess.Popen([sys.executable, f"{TOP}/{tool}", QUICK], **how)
     # In a thread, so that what stops this can wait for it too.
     waits = threading.Thread(target=running[tool].wait, daemon=True)
     waits.start()
@@ -214,9 +214,9 @@ def builds_by_record(found, version):
     how_long = "in some 2 minutes; ./play --prove proves them here"
     tell(f"these sources passed the gate, by {sums.RECORD}, so csplay is built without proving them again, {how_long}")
     with open(QUICK_LOG, "wb") as to:
-        failed = next((it for it in ("unproved.py", "test-program") if not ends_well(it, to)), None)
+        failed = next((it for it in ("tools/unproved.py", "tests/program") if not ends_well(it, to)), None)
     if failed:
-        tell(f"tools/{failed} failed, as {os.path.relpath(QUICK_LOG, TOP)} says, so they are proved")
+        tell(f"{failed} failed, as {os.path.relpath(QUICK_LOG, TOP)} says, so they are proved")
         return False
     os.remove(QUICK_LOG)
     os.replace(QUICK, PROGRAM)

@@ -34,7 +34,7 @@ def sources():
                         folders.append(it.path)
                     else:
                         yield it.path
-        except FileNotFoundError:
+        except (FileNotFoundError, NotADirectoryError):
             pass
 
 

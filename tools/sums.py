@@ -1,5 +1,5 @@
 """Sums over the sources that csplay is built from, and the record of what the gate has proved (proved.txt): for `play`
-and tools/proved."""
+and .ci/proved."""
 import hashlib
 import os
 import re

@@ -1,4 +1,4 @@
-"""The texts of docs/FIRST.md at each of its pictures, for bench/pictures and tools/test-program.
+"""The texts of docs/FIRST.md at each of its pictures, for bench/pictures and tests/program.
 
 The lesson has blocks of code marked `orc`, `sco` and `report`. At a picture `first-N.png` the texts are the last that
 stand before it, and the report that must come is the one that stands behind the same texts, if there is one."""

@@ -1,5 +1,5 @@
 """The texts whose trees, or whose calls, are deepest within the limits, for bench/texts, bench/attacks and
-tools/test-program."""
+tests/program."""
 
 
 def nested(depth, inner, word="if p4 == 1 then\n"):

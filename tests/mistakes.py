@@ -1,4 +1,4 @@
-"""The table of mistakes (tools/mistakes.txt), for tools/test-play and tools/test-program."""
+"""The table of mistakes (tests/mistakes.txt), for tests/play and tests/program."""
 import os
 
 FILE = f"{os.path.dirname(os.path.realpath(__file__))}/mistakes.txt"
