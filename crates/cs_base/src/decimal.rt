@@ -1,11 +1,8 @@
 // Decimals as a text writes them: digits with a point among or beside them, and no sign.
 ghost use Rattle.std.specs.Prelude.{◌≡◌, ◌*◌, ◌^◌, ◌-◌, min, take, length, true, Some, None};
-ghost use Rattle.std.specs.List.{list_all, position};
-ghost use Rattle.std.specs.Char.{is_ascii_digit};
-ghost use Rattle.std.specs.Str.Parse.{digits_value};
-ghost use Rattle.cs_base.specs.Numbers.{clamp};
+ghost use Rattle.std.specs.{List.list_all, List.position, Char.is_ascii_digit, Str.Parse.digits_value};
+ghost use Rattle.cs_base.specs.{Numbers.clamp, Decimals.millionths_of};
 ghost use Rattle.cs_base.specs.Decimals.{is_point, before_point, after_point, decimal_of, raw_of_decimal};
-ghost use Rattle.cs_base.specs.Decimals.{millionths_of};
 
 use crate::{Num, ONE};
 
@@ -37,9 +34,8 @@ impl Decimal {
     }
 }
 
-/// Reads a decimal: digits, digits and a point, digits with a point and digits, or a point and digits. Digits past
-/// the ninth after the point are dropped. `None` where the text is no such thing, or its whole part is above
-/// 2,147,483,647.
+/// Reads a decimal: digits, digits and a point, digits with a point and digits, or a point and digits. Digits past the
+/// ninth after the point are dropped. `None` where the text is no such thing, or its whole part is above 2,147,483,647.
 pub fn read_decimal(text: &[u8]) -> Option<Decimal>
     ensures { result ≡ decimal_of text.now }
 {

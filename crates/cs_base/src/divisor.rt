@@ -1,7 +1,6 @@
 // A divisor that stays for many divisions: each is a product and a look whether that is right.
 ghost use Rattle.std.specs.Prelude.{◌≡◌, ◌<◌, ◌≤◌, ◌+◌, ◌*◌, ◌^◌, true, pos, ◌≤ℤ◌, ◌<ℤ◌, ◌-ℤ◌, ◌*ℤ◌, unsigned_abs};
-ghost use Rattle.cs_base.specs.Numbers.{floor_div};
-ghost use Rattle.cs_base.specs.inner.Inverses.{IsInverse};
+ghost use Rattle.cs_base.specs.{Numbers.floor_div, inner.Inverses.IsInverse};
 
 /// A divisor from 1 to 2^48 - 1, and about how many 2^64ths its inverse is.
 #[derive(Clone, Copy)]

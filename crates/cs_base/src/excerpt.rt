@@ -1,7 +1,6 @@
 // A text in a file.
 ghost use Rattle.std.specs.Prelude.{◌≡◌, ◌≤◌, ◌+◌};
-ghost use Rattle.cs_base.specs.Limits.{most_csd_bytes};
-ghost use Rattle.cs_base.specs.Lines.{excerpt, whole_file};
+ghost use Rattle.cs_base.specs.{Limits.most_csd_bytes, Lines.excerpt, Lines.whole_file};
 
 use std::marker::Model;
 
@@ -14,8 +13,7 @@ pub struct Excerpt<'a> {
 }
 
 impl<'a> Model for Excerpt<'a> {
-    ghost use Rattle.cs_base.specs.Lines.{Excerpt, excerpt};
-    ghost use Rattle.cs_base.specs.Limits.{most_csd_bytes};
+    ghost use Rattle.cs_base.specs.{Lines.Excerpt, Lines.excerpt, Limits.most_csd_bytes};
     ghost use Rattle.std.specs.Prelude.{◌≤◌, ◌+◌};
 
     ghost Value = { Excerpt };

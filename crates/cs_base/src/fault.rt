@@ -54,6 +54,15 @@ impl<F> From<OutOfMemory> for Or<F> {
     }
 }
 
+// The name of a variant of `$kind`, which is one of these.
+macro_rules! variant_name {
+    ($value:expr, $kind:ident: $($variant:ident)*) => {
+        match $value {
+            $($kind::$variant => stringify!($variant),)*
+        }
+    };
+}
+
 /// The kinds of fault of an orchestra: tokens find 1 to 4, grammar 5 to 11 and 20 to 23, rates and names 12 to 19.
 #[derive(Clone, Copy, Debug, PartialEq, Eq)]
 pub enum OrcKind {
@@ -94,30 +103,11 @@ impl OrcKind {
     pub fn name(self) -> &'static str
         ensures { result.now ≡ orc_kind_name self }
     {
-        match self {
-            OrcKind::BadByte => "BadByte",
-            OrcKind::BadToken => "BadToken",
-            OrcKind::BadNumber => "BadNumber",
-            OrcKind::OpenComment => "OpenComment",
-            OrcKind::Unexpected => "Unexpected",
-            OrcKind::MissingEndin => "MissingEndin",
-            OrcKind::NestedInstr => "NestedInstr",
-            OrcKind::InstrNumber => "InstrNumber",
-            OrcKind::InstrTwice => "InstrTwice",
-            OrcKind::MissingEndif => "MissingEndif",
-            OrcKind::NotInProfile => "NotInProfile",
-            OrcKind::UnknownOpcode => "UnknownOpcode",
-            OrcKind::Undefined => "Undefined",
-            OrcKind::RateMismatch => "RateMismatch",
-            OrcKind::ArgCount => "ArgCount",
-            OrcKind::HeaderValue => "HeaderValue",
-            OrcKind::HeaderTwice => "HeaderTwice",
-            OrcKind::ChannelRate => "ChannelRate",
-            OrcKind::OutCount => "OutCount",
-            OrcKind::Recursion => "Recursion",
-            OrcKind::OpcodeTwice => "OpcodeTwice",
-            OrcKind::XinXout => "XinXout",
-            OrcKind::MissingEndop => "MissingEndop",
+        variant_name! {
+            self, OrcKind:
+            BadByte BadToken BadNumber OpenComment Unexpected MissingEndin NestedInstr InstrNumber
+            InstrTwice MissingEndif NotInProfile UnknownOpcode Undefined RateMismatch ArgCount
+            HeaderValue HeaderTwice ChannelRate OutCount Recursion OpcodeTwice XinXout MissingEndop
         }
     }
 }
@@ -149,17 +139,10 @@ impl ScoreKind {
     pub fn name(self) -> &'static str
         ensures { result.now ≡ score_kind_name self }
     {
-        match self {
-            ScoreKind::BadStatement => "BadStatement",
-            ScoreKind::BadNumber => "BadNumber",
-            ScoreKind::MissingField => "MissingField",
-            ScoreKind::NothingToCarry => "NothingToCarry",
-            ScoreKind::BadTempo => "BadTempo",
-            ScoreKind::BadGen => "BadGen",
-            ScoreKind::BadTableSize => "BadTableSize",
-            ScoreKind::TableResized => "TableResized",
-            ScoreKind::NegativeTime => "NegativeTime",
-            ScoreKind::NotInProfile => "NotInProfile",
+        variant_name! {
+            self, ScoreKind:
+            BadStatement BadNumber MissingField NothingToCarry BadTempo BadGen BadTableSize
+            TableResized NegativeTime NotInProfile
         }
     }
 }

@@ -1,5 +1,5 @@
 // Lists without a capacity, so that a contract can compare them.
-ghost use Rattle.std.specs.Prelude.{◌≡◌, [], ◌∷◌, ◌++◌, length, ◌<◌, ◌↔◌, IfOk, IsTrue, OnOk, OnErr, slice_get, Some};
+ghost use Rattle.std.specs.Prelude.{◌≡◌, [], ◌∷◌, ◌++◌, length, ◌<◌, ◌↔◌, IfOk, IsTrue, OnOk, OnErr};
 
 use crate::{Num, Rate};
 use std::alloc::{AllocError, Global};
@@ -24,9 +24,7 @@ impl<T> Items<T> {
     pub fn new(alloc: Global) -> Items<T>
         ensures { result ≡ [] }
     {
-        Items {
-            items: Vec::new(alloc),
-        }
+        Items::from_vec(Vec::new(alloc))
     }
 
     /// The items of a vector, without a copy.
@@ -42,9 +40,7 @@ impl<T> Items<T> {
         T: Copy,
         ensures { IfOk result (λ copy. copy ≡ items.now) }
     {
-        Ok(Items {
-            items: Vec::from_slice(alloc, items)?,
-        })
+        Ok(Items::from_vec(Vec::from_slice(alloc, items)?))
     }
 
     /// A copy of the list.

@@ -1,18 +1,13 @@
 // What holds of the definitions for all numbers and texts, said once: calls that do nothing, whose contracts are the
 // laws.
-ghost use Rattle.std.specs.Prelude.{◌≡◌, ◌↔◌, ◌⊎◌, true, ℤ, pos, neg_ℤ, ◌+ℤ◌, ◌*ℤ◌, ◌≤ℤ◌, ◌<ℤ◌, ℕ, List, Some};
-ghost use Rattle.std.specs.Prelude.{None, codes};
-ghost use Rattle.std.specs.Prelude.{◌++◌, take};
-ghost use Rattle.std.specs.List.{All};
-ghost use Rattle.cs_base.specs.declared.decimal.Decimal.{Decimal};
+ghost use Rattle.std.specs.Prelude.{◌≡◌, ◌↔◌, ◌⊎◌, true, ℤ, pos, neg_ℤ, ◌+ℤ◌, ◌*ℤ◌, ◌≤ℤ◌, ◌<ℤ◌, ℕ, List, Some, None};
+ghost use Rattle.std.specs.{Prelude.codes, Prelude.◌++◌, Prelude.take, List.All};
+ghost use Rattle.cs_base.specs.{declared.decimal.Decimal.Decimal, Decimals.decimal_of, Decimals.raw_of_decimal};
+ghost use Rattle.cs_base.specs.{Comments.comment_len, Comments.is_open_comment, Lines.line_after, Lines.lines_of};
+ghost use Rattle.cs_base.specs.{declared.resource.Rate.Rate, declared.resource.Res.Res};
 ghost use Rattle.cs_base.specs.Numbers.{IsRaw, clamp, least, one, floor_div, sum_of, difference_of, product_of};
 ghost use Rattle.cs_base.specs.Numbers.{quotient_of, remainder_of, floor_of, int_of, frac_of, abs_of};
-ghost use Rattle.cs_base.specs.Decimals.{decimal_of, raw_of_decimal};
-ghost use Rattle.cs_base.specs.Comments.{comment_len, is_open_comment};
-ghost use Rattle.cs_base.specs.Lines.{line_after, lines_of};
 ghost use Rattle.cs_base.specs.Rates.{same_rate, same_res, within, faster};
-ghost use Rattle.cs_base.specs.declared.resource.Rate.{Rate};
-ghost use Rattle.cs_base.specs.declared.resource.Res.{Res};
 
 /// Every result lies in the range of numbers, and a value of the range is its own `clamp`.
 pub fn results_in_range()
@@ -32,12 +27,9 @@ pub fn results_in_range()
 
 /// A quotient rounded down, and what it leaves: 0 or of the divisor's sign, and nearer to 0 than the divisor.
 pub fn division_rounds_down()
-    ensures rounded { (n d : ℤ) → pos 0 <ℤ d
-        → ((d *ℤ floor_div n d) ≤ℤ n) × (n <ℤ ((d *ℤ floor_div n d) +ℤ d)) }
-    ensures sign_above { (x y : ℤ) → pos 0 <ℤ y
-        → (pos 0 ≤ℤ remainder_of x y) × (remainder_of x y <ℤ y) }
-    ensures sign_below { (x y : ℤ) → y <ℤ pos 0
-        → (y <ℤ remainder_of x y) × (remainder_of x y ≤ℤ pos 0) }
+    ensures rounded { (n d : ℤ) → pos 0 <ℤ d → ((d *ℤ floor_div n d) ≤ℤ n) × (n <ℤ ((d *ℤ floor_div n d) +ℤ d)) }
+    ensures sign_above { (x y : ℤ) → pos 0 <ℤ y → (pos 0 ≤ℤ remainder_of x y) × (remainder_of x y <ℤ y) }
+    ensures sign_below { (x y : ℤ) → y <ℤ pos 0 → (y <ℤ remainder_of x y) × (remainder_of x y ≤ℤ pos 0) }
 {}
 
 /// A number is its floor and a part from 0 below one; it is also its `int`, which lies between 0 and it, and its
@@ -45,8 +37,7 @@ pub fn division_rounds_down()
 pub fn parts_of_a_number()
     ensures floor { (x : ℤ) → (floor_of x ≤ℤ x) × (x <ℤ (floor_of x +ℤ one)) }
     ensures whole { (x : ℤ) → (n : ℤ) × (floor_of x ≡ n *ℤ one) }
-    ensures int_from_zero { (x : ℤ) → pos 0 ≤ℤ x
-        → (pos 0 ≤ℤ int_of x) × (int_of x ≤ℤ x) × (x <ℤ (int_of x +ℤ one)) }
+    ensures int_from_zero { (x : ℤ) → pos 0 ≤ℤ x → (pos 0 ≤ℤ int_of x) × (int_of x ≤ℤ x) × (x <ℤ (int_of x +ℤ one)) }
     ensures int_below_zero { (x : ℤ) → IsRaw x → x <ℤ pos 0
         → (int_of x ≤ℤ pos 0) × (x ≤ℤ int_of x) × (int_of x <ℤ (x +ℤ one)) }
     ensures int_and_frac { (x : ℤ) → int_of x +ℤ frac_of x ≡ x }

@@ -7,9 +7,9 @@
 //!
 //! In reading order: `number` (arithmetic), `divisor` (many quotients by one number), `laws` (what holds of the
 //! definitions, and worked examples), `decimal` (numbers as a text writes them), `excerpt` (a text in a file), `lines`
-//! and `comments` (what both languages have between their words), `fault`, `limit` and `refusal` (what a text is refused
-//! for), `head`, `resource` (rates, and what notes share), `per_rate`, `spaces`, `width` (the width of a sample),
-//! `items` (the one list type), `text`, `steps`.
+//! and `comments` (what both languages have between their words), `fault`, `limit` and `refusal` (what a text is
+//! refused for), `head`, `resource` (rates, and what notes share), `per_rate`, `spaces`, `width` (the width of a
+//! sample), `items` (the one list type), `text`, `steps`.
 #![tactic(auto)]
 
 mod comments;

@@ -1,6 +1,5 @@
 // A number of the profile is a whole count of 65,536ths; nothing anywhere is floating point.
-ghost use Rattle.std.specs.Prelude.{◌≡◌, ◌≢◌, ◌<◌, ◌^◌, pos, ◌*ℤ◌, ◌≤ℤ◌, ◌<ℤ◌, neg_ℤ, unsigned_abs, IsTrue};
-ghost use Rattle.std.specs.Prelude.{◌↔◌};
+ghost use Rattle.std.specs.Prelude.{◌≡◌, ◌≢◌, ◌<◌, ◌^◌, pos, ◌*ℤ◌, ◌≤ℤ◌, ◌<ℤ◌, neg_ℤ, unsigned_abs, IsTrue, ◌↔◌};
 ghost use Rattle.std.specs.Ordering.{int_cmp};
 ghost use Rattle.cs_base.specs.Numbers.{IsRaw, clamp, one, floor_div, sum_of, difference_of, product_of};
 ghost use Rattle.cs_base.specs.Numbers.{quotient_by_zero, quotient_of, remainder_of, floor_of, int_of, frac_of, abs_of};
@@ -124,9 +123,7 @@ impl Num {
         ensures { result ≡ quotient_of self other }
     {
         if other.raw == 0 {
-            Num {
-                raw: by_zero(self.raw),
-            }
+            Num::exact(by_zero(self.raw))
         } else {
             Num::of_wide(floored(times(self.raw, ONE), other.raw))
         }
@@ -139,9 +136,7 @@ impl Num {
         if other.raw == 0 {
             Num { raw: 0 }
         } else {
-            Num {
-                raw: modulo(self.raw, other.raw),
-            }
+            Num::exact(modulo(self.raw, other.raw))
         }
     }
 
@@ -158,9 +153,7 @@ impl Num {
     pub fn floor(self) -> Num
         ensures { result ≡ floor_of self }
     {
-        Num {
-            raw: floored_raw(self.raw),
-        }
+        Num::exact(floored_raw(self.raw))
     }
 
     /// The number without its fraction: `floor` of a number from 0 on, else the negation of `floor` of the negation.
@@ -178,9 +171,7 @@ impl Num {
     pub fn frac(self) -> Num
         ensures { result ≡ frac_of self }
     {
-        Num {
-            raw: self.raw - self.int().raw,
-        }
+        Num::exact(self.raw - self.int().raw)
     }
 
     /// The number without its sign, brought into range.

@@ -1,6 +1,6 @@
 // Rates, and the resources that notes share.
 ghost use Rattle.std.specs.Prelude.{◌≡◌};
-ghost use Rattle.cs_base.specs.Rates.{how_often, is_init, is_control, is_audio, same_rate, within, faster};
+ghost use Rattle.cs_base.specs.Rates.{is_init, is_control, is_audio, same_rate, within, faster};
 ghost use Rattle.cs_base.specs.Rates.{res_kind, res_number, res_rate, same_res};
 
 /// How often a value changes: once a note, once a control cycle, or once a frame.
@@ -37,14 +37,14 @@ impl Rate {
     pub fn same(self, other: Rate) -> bool
         ensures { result ≡ same_rate self other }
     {
-        self.how_often() == other.how_often()
+        self as u8 == other as u8
     }
 
     /// Whether a value of this rate changes no more often than one of the other.
     pub fn within(self, other: Rate) -> bool
         ensures { result ≡ within self other }
     {
-        self.how_often() <= other.how_often()
+        self as u8 <= other as u8
     }
 
     /// Whichever of `self` and `other` changes more often.
@@ -52,16 +52,6 @@ impl Rate {
         ensures { result ≡ faster self other }
     {
         if self.within(other) { other } else { self }
-    }
-
-    fn how_often(self) -> u8
-        ensures { result ≡ how_often self }
-    {
-        match self {
-            Rate::Init => 0,
-            Rate::Control => 1,
-            Rate::Audio => 2,
-        }
     }
 }
 

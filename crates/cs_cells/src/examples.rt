@@ -1,9 +1,8 @@
 // A layout and its cells worked out.
-ghost use Rattle.std.specs.Prelude.{◌≡◌, ℕ, map, true, false, [], ◌∷◌, Some, None};
+ghost use Rattle.std.specs.Prelude.{◌≡◌, map, true, false, [], ◌∷◌, Some, None};
 ghost use Rattle.cs_base.specs.declared.limit.Limit.TheVariants as limit;
 ghost use Rattle.cs_cells.specs.Areas.{IsLaid, word_count, limit_passed};
-ghost use Rattle.cs_cells.specs.Cells.{covers, values};
-ghost use Rattle.cs_cells.specs.Examples.{three_areas, one_area};
+ghost use Rattle.cs_cells.specs.{Cells.covers, Examples.three_areas, Examples.one_area};
 
 /// A layout by hand: the variable `gk1`, a channel and a table of four points, in six cells. It
 /// does nothing: its clauses are what the definitions give there.

@@ -24,9 +24,10 @@ impl Footprint {
     pub fn copy(&self, alloc: Global) -> Result<Footprint, AllocError>
         ensures { IfOk result (λ copy. copy ≡ self.now) }
     {
-        let uses = copied(alloc, &self.uses)?;
-        let writes = copied(alloc, &self.writes)?;
-        Ok(Footprint { uses, writes })
+        Ok(Footprint {
+            uses: self.uses.to_items(alloc)?,
+            writes: self.writes.to_items(alloc)?,
+        })
     }
 
     /// Whether another names the same places.
@@ -36,10 +37,4 @@ impl Footprint {
         self.uses.as_slice() == other.uses.as_slice()
             && self.writes.as_slice() == other.writes.as_slice()
     }
-}
-
-fn copied(alloc: Global, places: &Places) -> Result<Places, AllocError>
-    ensures { IfOk result (λ copy. copy ≡ places.now) }
-{
-    Ok(Places::from_vec(places.as_slice().to_vec(alloc)?))
 }

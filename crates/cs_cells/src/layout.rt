@@ -21,8 +21,7 @@ pub struct Layout {
 
 impl Model for Layout {
     ghost use Rattle.std.specs.Prelude.{List};
-    ghost use Rattle.cs_cells.specs.declared.footprint.Area.{Area};
-    ghost use Rattle.cs_cells.specs.inner.Index.{IsIndexed};
+    ghost use Rattle.cs_cells.specs.{declared.footprint.Area.Area, inner.Index.IsIndexed};
 
     ghost Value = { List Area };
 
@@ -62,9 +61,12 @@ impl Layout {
         ensures found { IfSome result (HasPlace self.now res) }
         ensures none { IfNone result ((place : ℕ) → ¬ (HasPlace self.now res place)) }
     {
-        match self.at(self.guess(res), res) {
-            Some(place) => Some(place),
-            None => self.by_key(res),
+        if let Some(place) = self.at(self.guess(res), res) {
+            return Some(place);
+        }
+        match self.keys.get_index_of(&key_of(res)) {
+            Some(place) => Some(place as u32),
+            None => None,
         }
     }
 
@@ -80,25 +82,8 @@ impl Layout {
         ensures { IfSome result (HasPlace self.now res) }
     {
         match self.areas.get(place) {
-            Some(area) => {
-                if area.res.same(res) {
-                    Some(place as u32)
-                } else {
-                    None
-                }
-            }
-            None => None,
-        }
-    }
-
-    /// The place of a resource's area by a look at the keys.
-    fn by_key(&self, res: Res) -> Option<u32>
-        ensures found { IfSome result (HasPlace self.now res) }
-        ensures none { IfNone result ((place : ℕ) → ¬ (HasPlace self.now res place)) }
-    {
-        match self.keys.get_index_of(&key_of(res)) {
-            Some(place) => Some(place as u32),
-            None => None,
+            Some(area) if area.res.same(res) => Some(place as u32),
+            _ => None,
         }
     }
 

@@ -1,7 +1,6 @@
 // What follows from the frame law alone for jobs that run one after another.
 ghost use Rattle.std.specs.Prelude.{◌≡◌, ℕ, List, map, length, slice_get, Some};
-ghost use Rattle.cs_cells.specs.Cells.{Cells, Agree};
-ghost use Rattle.cs_cells.specs.Meaning.{Uses};
+ghost use Rattle.cs_cells.specs.{Cells.Cells, Cells.Agree, Meaning.Uses};
 ghost use Rattle.cs_cells.specs.Serial.{serial_cells, serial_jobs, before, AllValid, LastWriter, AsSerial};
 
 use crate::Job;

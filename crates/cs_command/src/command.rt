@@ -4,7 +4,7 @@ ghost use Rattle.clap.specs.Words.{app_of, rule_of, with_rule};
 ghost use Rattle.cs_arguments.specs.Command.{bare_app, lettered_app, the_app};
 
 use crate::options::{
-    demo_option, first_name, letter_flag, long_flag, second_name, sound_file_option, workers_option,
+    demo_option, letter_flag, long_flag, name, sound_file_option, workers_option,
 };
 use clap::{Arg, Command};
 use std::alloc::{AllocError, Global};
@@ -17,8 +17,8 @@ pub fn command<'w>(alloc: Global) -> Result<Command<'w>, AllocError>
     let command = with(command, long_flag(alloc, "turns"))?;
     let command = with(command, long_flag(alloc, "pool"))?;
     let command = with(command, demo_option(alloc))?;
-    let command = with(command, first_name(alloc))?;
-    with(command, second_name(alloc))
+    let command = with(command, name(alloc, "ORC"))?;
+    with(command, name(alloc, "SCO"))
 }
 
 // The command with its options and flags of one letter.

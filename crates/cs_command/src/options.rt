@@ -1,8 +1,8 @@
 // The options, flags and names that may stand.
 ghost use Rattle.std.specs.Prelude.{◌≡◌, pos, false, codes, Some, None};
 ghost use Rattle.clap.specs.Words.{rule_of};
-ghost use Rattle.clap.specs.declared.builder.value_parser.ValueParser.TheVariants.{Signed};
-ghost use Rattle.cs_arguments.specs.Command.{made_flag, made_option};
+ghost use Rattle.clap.specs.declared.builder.value_parser.ValueParser.TheVariants.{NonEmptyString, Signed};
+ghost use Rattle.cs_arguments.specs.Command.{made_flag, made_option, parser_of};
 
 use clap::builder::ValueParser;
 use clap::{Arg, ArgAction};
@@ -59,22 +59,13 @@ pub fn demo_option<'w>(alloc: Global) -> Arg<'w>
         .value_parser(from_one_to(10_000))
 }
 
-/// The first name: the orchestra's, or that of a file with both texts.
-pub fn first_name<'w>(alloc: Global) -> Arg<'w>
-    ensures rule { rule_of result ≡ made_option (codes "ORC") None None }
+/// A name: the orchestra's or that of a file with both texts, or the score's.
+pub fn name<'w>(alloc: Global, key: &'w str) -> Arg<'w>
+    requires { parser_of key.now ≡ NonEmptyString }
+    ensures rule { rule_of result ≡ made_option key.entry.now None None }
     ensures local { result.global ≡ false }
 {
-    Arg::new(alloc, "ORC")
-        .action(ArgAction::Set)
-        .value_parser(ValueParser::NonEmptyString)
-}
-
-/// The second name: the score's.
-pub fn second_name<'w>(alloc: Global) -> Arg<'w>
-    ensures rule { rule_of result ≡ made_option (codes "SCO") None None }
-    ensures local { result.global ≡ false }
-{
-    Arg::new(alloc, "SCO")
+    Arg::new(alloc, key)
         .action(ArgAction::Set)
         .value_parser(ValueParser::NonEmptyString)
 }

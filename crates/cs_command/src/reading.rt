@@ -1,7 +1,6 @@
 // The words behind the program's name, read.
 ghost use Rattle.std.specs.Prelude.{IfOk};
-ghost use Rattle.cs_command.specs.Words.{IsRead, texts};
-ghost use Rattle.cs_command.specs.inner.Matched.{IsMatched};
+ghost use Rattle.cs_command.specs.{Words.IsRead, Words.texts, inner.Matched.IsMatched};
 
 use crate::command::command;
 use crate::given::order_of;

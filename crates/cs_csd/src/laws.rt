@@ -27,12 +27,10 @@ pub fn files_worked_by_hand()
     ensures no_score { Reading (codes "<CsoundSynthesizer>\n<CsInstruments>\n</CsInstruments>\n</CsoundSynthesizer>")
         (Ok (record { orc = record { from = 36; to = 36; line = 3 }; sco = record { from = 0; to = 0; line = 1 } })) }
     ensures cut { Reading (codes "<CsoundSynthesizer>\n<CsScore>") (Err (fault kind.MissingTag 2)) }
-    ensures no_orchestra { Reading (codes "<CsoundSynthesizer>\n</CsoundSynthesizer>")
-        (Err (fault kind.MissingTag 2)) }
+    ensures no_orchestra { Reading (codes "<CsoundSynthesizer>\n</CsoundSynthesizer>") (Err (fault kind.MissingTag 2)) }
     ensures empty { Reading (codes "") (Err (fault kind.MissingTag 1)) }
     ensures twice { Reading (codes "<CsoundSynthesizer>\n<CsScore>\n</CsScore>\n<CsScore>")
         (Err (fault kind.SectionTwice 4)) }
-    ensures stray { Reading (codes "<CsoundSynthesizer>\n<CsFileB filename=x>")
-        (Err (fault kind.NotInProfile 2)) }
+    ensures stray { Reading (codes "<CsoundSynthesizer>\n<CsFileB filename=x>") (Err (fault kind.NotInProfile 2)) }
     ensures other_case { Reading (codes "<CsoundSynthesizer>\n<csscore>") (Err (fault kind.NotInProfile 2)) }
 {}

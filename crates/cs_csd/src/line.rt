@@ -1,8 +1,7 @@
 // A line of a file, and what it says.
-ghost use Rattle.std.specs.List.{list_all};
-ghost use Rattle.std.specs.Prelude.{◌≡◌};
+ghost use Rattle.std.specs.{List.list_all, Prelude.◌≡◌};
 ghost use Rattle.cs_base.specs.Lines.{is_blank};
-ghost use Rattle.cs_csd.specs.Lines.{after_blanks, closes, closing, is_idle, is_start, is_tag, mark_of, opening};
+ghost use Rattle.cs_csd.specs.Lines.{after_blanks, closing, is_idle, is_start, is_tag, mark_of, opening};
 
 use cs_base::{blanks_len, is_blank};
 
@@ -39,8 +38,8 @@ impl Section {
         }
     }
 
-    // The tag that closes it.
-    fn closing(self) -> &'static [u8]
+    /// The tag that closes it.
+    pub fn closing(self) -> &'static [u8]
         ensures { result.now ≡ closing self }
     {
         match self {
@@ -48,13 +47,6 @@ impl Section {
             Section::Instruments => b"</CsInstruments>",
             Section::Score => b"</CsScore>",
         }
-    }
-
-    /// Whether a line closes it.
-    pub fn is_closed_by(self, bytes: &[u8]) -> bool
-        ensures { result ≡ closes self bytes.now }
-    {
-        is_tag(self.closing(), bytes)
     }
 }
 
@@ -84,8 +76,8 @@ pub fn is_start(bytes: &[u8]) -> bool
     is_tag(b"<CsoundSynthesizer>", bytes)
 }
 
-// Whether a line is a tag, with blanks alone before and after it.
-fn is_tag(tag: &[u8], bytes: &[u8]) -> bool
+/// Whether a line is a tag, with blanks alone before and after it.
+pub fn is_tag(tag: &[u8], bytes: &[u8]) -> bool
     ensures { result ≡ is_tag tag.now bytes.now }
 {
     let text = after_blanks(bytes);

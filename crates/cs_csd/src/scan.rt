@@ -1,12 +1,11 @@
 // Where one stands in a file, line after line.
 ghost use Rattle.std.specs.Prelude.{◌≡◌, ◌≤◌, ◌+◌, length};
-ghost use Rattle.cs_base.specs.Limits.{most_csd_bytes};
-ghost use Rattle.cs_base.specs.Lines.{line};
+ghost use Rattle.cs_base.specs.{Limits.most_csd_bytes, Lines.line};
 ghost use Rattle.cs_csd.specs.Lines.{mark_of};
 ghost use Rattle.cs_csd.specs.Sections.{fault, nothing_found, stood, with_section};
-ghost use Rattle.cs_csd.specs.inner.Scan.{begun, finish, inside, marked, opened, step, stopped};
+ghost use Rattle.cs_csd.specs.inner.Scan.{finish, marked, opened, step, stopped};
 
-use crate::line::{LineMark, Section, is_start, mark_of};
+use crate::line::{LineMark, Section, is_start, is_tag, mark_of};
 use crate::{Part, Parts};
 use cs_base::{CsdFault, CsdKind};
 
@@ -58,20 +57,13 @@ impl SectionsFound {
     fn with(self, section: Section, part: Part) -> SectionsFound
         ensures { result ≡ with_section section part self }
     {
+        let mut found = self;
         match section {
-            Section::Options => SectionsFound {
-                options: true,
-                ..self
-            },
-            Section::Instruments => SectionsFound {
-                orc: Some(part),
-                ..self
-            },
-            Section::Score => SectionsFound {
-                sco: Some(part),
-                ..self
-            },
+            Section::Options => found.options = true,
+            Section::Instruments => found.orc = Some(part),
+            Section::Score => found.sco = Some(part),
         }
+        found
     }
 }
 
@@ -83,10 +75,14 @@ impl ScanState {
         ensures { result ≡ step self (line number at bytes.now) }
     {
         match self {
-            ScanState::Before => Ok(begun(bytes)),
+            ScanState::Before if is_start(bytes) => Ok(ScanState::Between(
+                SectionsFound::nothing(),
+            )),
             ScanState::Between(found) => between(found, number, at, bytes),
-            ScanState::Inside(found, section, part) => Ok(inside(found, section, part, at, bytes)),
-            ScanState::Done(parts) => Ok(ScanState::Done(parts)),
+            ScanState::Inside(found, section, part) if is_tag(section.closing(), bytes) => {
+                Ok(ScanState::Between(found.with(section, Part { to: at, ..part })))
+            }
+            ScanState::Before | ScanState::Inside(_, _, _) | ScanState::Done(_) => Ok(self),
         }
     }
 
@@ -98,27 +94,6 @@ impl ScanState {
             ScanState::Done(parts) => Ok(parts),
             _ => Err(fault(CsdKind::MissingTag, last)),
         }
-    }
-}
-
-fn begun(bytes: &[u8]) -> ScanState
-    ensures { result ≡ begun bytes.now }
-{
-    if is_start(bytes) {
-        ScanState::Between(SectionsFound::nothing())
-    } else {
-        ScanState::Before
-    }
-}
-
-// What a line in a section leads to.
-fn inside(found: SectionsFound, section: Section, part: Part, at: u32, bytes: &[u8]) -> ScanState
-    ensures { result ≡ inside found section part at bytes.now }
-{
-    if section.is_closed_by(bytes) {
-        ScanState::Between(found.with(section, Part { to: at, ..part }))
-    } else {
-        ScanState::Inside(found, section, part)
     }
 }
 

@@ -4,8 +4,7 @@
 ghost use Rattle.std.specs.Prelude.{◌≡◌, ◌<◌, ◌≤◌, [], length, None, IfOk, IfSome, OnOk};
 ghost use Rattle.std.specs.Io.Buffered.{writer_buffer, writer_contents};
 ghost use Rattle.std.specs.Io.KnownBytes.{Appends, Keeps, ReadConsumes, WriteAppends, append_known};
-ghost use Rattle.cs_edge.specs.Open.{known_of};
-ghost use Rattle.cs_edge.specs.Told.{HasCause, Rose};
+ghost use Rattle.cs_edge.specs.{Open.known_of, Told.HasCause, Told.Rose};
 
 use crate::line_buffer::LineBuffer;
 use crate::{Failed, Shelf, Sink};

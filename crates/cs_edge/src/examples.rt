@@ -1,5 +1,5 @@
 // The lines of the meters, computed: a call that does nothing, whose contract is the examples.
-ghost use Rattle.std.specs.Prelude.{◌≡◌, ℕ, pos, negsuc, [], ◌∷◌, codes};
+ghost use Rattle.std.specs.Prelude.{◌≡◌, pos, negsuc, [], ◌∷◌, codes};
 ghost use Rattle.cs_edge.specs.Taps.{peak_line, mirror_line, mirror_text};
 
 /// Lines of the meters: a peak is a whole number and five digits, a mirror the count and the values that it kept.

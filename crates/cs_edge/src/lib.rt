@@ -8,13 +8,12 @@
 //! What an object keeps, and how, may change without anyone above noticing; so may the adapters over the runtime.
 //!
 //! In reading order: `moves` (the calls made on an object), `files`, `shelf`, `sink`, `writing` (all of a piece),
-//! `gate`, `tap`; the meter, `digits`, `page` (a line in a buffer), `peak`, `examples` (lines of meters, computed);
-//! `line_buffer` (text that is written in whole lines), `adapters` over files and writers, the edge itself; and apart
-//! from these `fakes`, the objects that serve tests alone.
+//! `gate`, `tap`; the meter, `page` (a line in a buffer), `peak`, `examples` (lines of meters, computed); `line_buffer`
+//! (text that is written in whole lines), `adapters` over files and writers, the edge itself; and apart from these
+//! `fakes`, the objects that serve tests alone.
 #![tactic(auto)]
 
 mod adapters;
-mod digits;
 mod examples;
 mod fakes;
 mod files;

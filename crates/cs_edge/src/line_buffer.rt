@@ -1,7 +1,6 @@
 // A buffer in front of a writer, which gets whole lines.
 ghost use Rattle.std.specs.Prelude.{◌≡◌, ◌≢◌, ◌⊎◌, ◌<◌, ◌≤◌, ◌-◌, [], ◌++◌, All, length, drop, slice_index_or, OnOk};
-ghost use Rattle.std.specs.Prelude.{OnErr};
-ghost use Rattle.std.specs.Io.KnownBytes.{Appends, append_known};
+ghost use Rattle.std.specs.{Prelude.OnErr, Io.KnownBytes.Appends, Io.KnownBytes.append_known};
 ghost use Rattle.cs_base.specs.Lines.{line_feed};
 
 use std::alloc::Global;
@@ -50,9 +49,7 @@ impl LineBuffer {
         if end == 0 {
             return add(out, &mut self.held, piece);
         }
-        if let Err(error) = add_and_send(out, &mut self.held, &piece[..end]) {
-            return Err(error);
-        }
+        add_and_send(out, &mut self.held, &piece[..end])?;
         add(out, &mut self.held, &piece[end..])
     }
 
@@ -85,9 +82,7 @@ fn add_and_send<W: Write>(out: &mut W, held: &mut Vec<u8>, text: &[u8]) -> io::R
         (W.contents out.new) text.now) }
     ensures none { held.new.items ≡ [] }
 {
-    if let Err(error) = add(out, held, text) {
-        return Err(error);
-    }
+    add(out, held, text)?;
     send(out, held)
 }
 

@@ -1,22 +1,17 @@
 // A text in a buffer, piece by piece.
-ghost use Rattle.std.specs.Prelude.{ℕ, ℤ, List, ◌++◌, ◌<◌, ◌^◌, ◌≡◌, decimal};
+ghost use Rattle.std.specs.Prelude.{ℕ, List, ◌++◌, ◌<◌, decimal};
 ghost use Rattle.std.specs.Fmt.{signed_decimal};
 ghost use Rattle.cs_edge.specs.inner.Page.{Shows};
 
-use crate::digits::Digits;
+use itoa::Buffer;
 
-/// Adds a piece to the text in a buffer, and answers how many bytes are used then;
+/// Adds a piece to the text in a buffer, and returns how many bytes are used then;
 /// nothing once the text has outgrown the buffer.
 pub fn add_piece(out: &mut [u8], used: Option<usize>, piece: &[u8]) -> Option<usize>
     ensures { (text : List ℕ) → Shows used out.old text → Shows result out.new (text ++ piece.now) }
 {
-    let Some(from) = used else {
-        return None;
-    };
-    if out.len() < from {
-        return None;
-    }
-    if out.len() - from < piece.len() {
+    let from = used?;
+    if out.len() < from || out.len() - from < piece.len() {
         return None;
     }
     for i in 0..piece.len() {
@@ -29,17 +24,12 @@ pub fn add_piece(out: &mut [u8], used: Option<usize>, piece: &[u8]) -> Option<us
 pub fn add_number(out: &mut [u8], used: Option<usize>, n: u64) -> Option<usize>
     ensures { (text : List ℕ) → Shows used out.old text → Shows result out.new (text ++ decimal n) }
 {
-    add_piece(out, used, Digits::of(n).as_slice())
+    add_piece(out, used, Buffer::new().format(n).as_bytes())
 }
 
 /// Adds a number in decimal, after a dash where it is below 0.
 pub fn add_signed(out: &mut [u8], used: Option<usize>, z: i64) -> Option<usize>
     ensures { (text : List ℕ) → Shows used out.old text → Shows result out.new (text ++ signed_decimal z) }
 {
-    if z < 0 {
-        let used = add_piece(out, used, b"-");
-        add_number(out, used, z.unsigned_abs())
-    } else {
-        add_number(out, used, z.unsigned_abs())
-    }
+    add_piece(out, used, Buffer::new().format(z).as_bytes())
 }

@@ -1,10 +1,9 @@
-ghost use Rattle.std.specs.Prelude.{◌≡◌, ℕ, ℤ, List, [], ◌++◌, ◌<◌, ◌≤◌, ◌-◌, length, replicate};
-ghost use Rattle.cs_edge.specs.Taps.{peak_of, peak_line, five_digits, fitting};
-ghost use Rattle.cs_edge.specs.inner.Page.{Shows};
+ghost use Rattle.std.specs.Prelude.{◌≡◌, ℕ, List, [], ◌++◌, ◌<◌, ◌-◌, replicate};
+ghost use Rattle.cs_edge.specs.{Taps.peak_of, Taps.peak_line, Taps.five_digits, Taps.fitting, inner.Page.Shows};
 
 use crate::Tap;
-use crate::digits::Digits;
 use crate::page::{add_number, add_piece};
+use itoa::Buffer;
 
 /// A meter of the greatest absolute value of the mix.
 #[derive(Drop)]
@@ -53,12 +52,13 @@ fn add_five_digits(out: &mut [u8], used: Option<usize>, n: u64) -> Option<usize>
     requires { n < 100000 }
     ensures { (text : List ℕ) → Shows used out.old text → Shows result out.new (text ++ five_digits n) }
 {
-    let digits = Digits::of(n);
-    let used = add_piece(out, used, zeros_before(digits.as_slice().len()));
-    add_piece(out, used, digits.as_slice())
+    let mut buffer = Buffer::new();
+    let digits = buffer.format(n).as_bytes();
+    let used = add_piece(out, used, zeros_before(digits.len()));
+    add_piece(out, used, digits)
 }
 
-/// The zeros that bring so many digits to five.
+/// The zeros that bring this number of digits to five.
 fn zeros_before(digits: usize) -> &'static [u8]
     ensures { result.now ≡ replicate (5 - digits) 48 }
 {

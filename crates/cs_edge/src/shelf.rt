@@ -1,8 +1,7 @@
 // Where texts are read from.
-ghost use Rattle.std.specs.Prelude.{◌≡◌, ℕ, ◌<◌, ◌≤◌, length, IfOk, OnErr};
+ghost use Rattle.std.specs.Prelude.{◌≡◌, ◌<◌, ◌≤◌, length, IfOk, OnErr};
 ghost use Rattle.cs_edge.specs.declared.moves.Move.TheVariants.{Begin, Read};
-ghost use Rattle.cs_edge.specs.Told.{Follows, HasCause};
-ghost use Rattle.cs_edge.specs.Moves.{GrownBy};
+ghost use Rattle.cs_edge.specs.{Told.Follows, Told.HasCause, Moves.GrownBy};
 ghost use Rattle.cs_edge.specs.Files.{ShelfTold, Begins, NothingLeft, TakesFront};
 
 use crate::Failed;
@@ -21,7 +20,7 @@ pub trait Shelf {
         ensures moves { Follows (tells self.old).moves (tells self.new).moves (GrownBy (Begin name.now)) }
         ensures files { (tells self.new).files ≡ (tells self.old).files };
 
-    /// Moves at least one byte from the front of what is left into `buf`, and answers how many;
+    /// Moves at least one byte from the front of what is left into `buf`, and returns how many;
     /// 0 exactly where nothing is left.
     fn read(&mut self, buf: &mut [u8]) -> Result<usize, Failed>
         requires { 0 < length buf.old }

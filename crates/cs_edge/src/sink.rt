@@ -1,5 +1,5 @@
 // Where bytes are written to.
-ghost use Rattle.std.specs.Prelude.{◌≡◌, ℕ, List, [], ◌++◌, ◌<◌, ◌≤◌, length, take, Some, None, IfOk, OnOk, OnErr};
+ghost use Rattle.std.specs.Prelude.{◌≡◌, [], ◌<◌, ◌≤◌, length, take, IfOk, OnOk, OnErr};
 ghost use Rattle.cs_edge.specs.declared.moves.Move.TheVariants.{Begin, Write, End};
 ghost use Rattle.cs_edge.specs.Told.{Follows, HasCause};
 ghost use Rattle.cs_edge.specs.Moves.{SinkTold, GrownBy, TakenMore, IsEnded, no_file, open_file};
@@ -20,7 +20,7 @@ pub trait Sink {
         ensures cause { HasCause (tells self.old).faults (tells self.new).faults result }
         ensures moves { Follows (tells self.old).moves (tells self.new).moves (GrownBy (Begin name.now)) };
 
-    /// Takes at least one byte from the front of the piece, and answers how many; where it fails, none.
+    /// Takes at least one byte from the front of the piece, and returns how many; where it fails, none.
     fn write(&mut self, piece: &[u8]) -> Result<usize, Failed>
         requires { 0 < length piece.now }
         ensures count { IfOk result (λ n. (0 < n) × (n ≤ length piece.now)) }

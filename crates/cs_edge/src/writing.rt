@@ -1,6 +1,5 @@
 ghost use Rattle.std.specs.Prelude.{OnOk, OnErr};
-ghost use Rattle.cs_edge.specs.Told.{HasCause};
-ghost use Rattle.cs_edge.specs.Moves.{WroteMore, WrotePart};
+ghost use Rattle.cs_edge.specs.{Told.HasCause, Moves.WroteMore, Moves.WrotePart};
 
 use crate::{Failed, Sink};
 
@@ -12,10 +11,7 @@ pub fn write_all<K: Sink>(sink: &mut K, piece: &[u8]) -> Result<(), Failed>
 {
     let mut at = 0;
     while at < piece.len() {
-        match sink.write(&piece[at..]) {
-            Ok(n) => at += n,
-            Err(failed) => return Err(failed),
-        }
+        at += sink.write(&piece[at..])?;
     }
     Ok(())
 }

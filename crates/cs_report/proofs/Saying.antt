@@ -1,7 +1,7 @@
 -- A text that is written piece by piece.
 use Rattle.std.proofs.Common.{◌≡◌, ◌<◌, ◌≤◌, ℕ, ◌+◌, List, [], ◌∷◌, ◌++◌, length, take, drop, get_or, codes, ap, subst}
 use Rattle.std.proofs.Common.{sym, refl, ◌∙◌, append_assoc, append-nil}
-use Rattle.std.specs.{List.flat_map, Fmt.decimal, Prelude.Result, Prelude.OnOk, Prelude.OnErr}
+use Rattle.std.specs.{List.flat_map, Fmt.decimal, Prelude.Result, Prelude.Ok, Prelude.Err, Prelude.OnOk, Prelude.OnErr}
 use Rattle.std.proofs.lemmas.{List.take_more, List.take-append-drop, List.take_all, Grind.flat_map-append}
 use Rattle.cs_edge.specs.{Moves.SinkTold, Moves.WroteMore, Moves.WrotePart, declared.moves.Failed.Failed}
 use Rattle.cs_edge.proofs.Stories.{more_both, part_behind, part_longer}
@@ -9,6 +9,11 @@ use Rattle.cs_base.specs.{Limits.limit_number, declared.limit.LimitHit.LimitHit}
 use Rattle.cs_report.specs.{declared.status.Status.Status, Report.count_lines, Report.counts_in}
 use Rattle.cs_report.specs.declared.counts.PerformanceCounts.{PerformanceCounts}
 use Rattle.cs_report.specs.Talk.{joined, Says, fault_message, limit_message, message_of}
+
+-- what holds in any case holds of an error
+pub on_err : {T E P : Type 0} (r : Result T E) → P → OnErr r P
+on_err (Ok x) p = tt
+on_err (Err e) p = p
 
 -- the pieces so far
 abbrev pub so_far : {X : Type 0} → (X → List ℕ) → List X → ℕ → List ℕ

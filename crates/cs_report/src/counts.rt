@@ -34,13 +34,9 @@ pub fn report<T: Sink>(
     ensures part { OnErr result (WrotePart (T.tells talk.old) (T.tells talk.new)
         (counts_in counts.now ++ flat_map (λ t. text t line_room) taps.now ++ turns.now)) }
 {
-    if let Err(failed) = report_counts(talk, counts) {
-        return Err(failed);
-    }
-    if let Err(failed) = report_meters(talk, taps) {
-        return Err(failed);
-    }
-    report_turns(talk, turns)
+    report_counts(talk, counts)?;
+    report_meters(talk, taps)?;
+    write_all(talk, turns)
 }
 
 fn report_counts<T: Sink>(talk: &mut T, counts: &PerformanceCounts) -> Result<(), Failed>
@@ -65,13 +61,6 @@ fn report_counts<T: Sink>(talk: &mut T, counts: &PerformanceCounts) -> Result<()
     )
 }
 
-fn report_turns<T: Sink>(talk: &mut T, turns: &[u8]) -> Result<(), Failed>
-    ensures whole { OnOk result (WroteMore (T.tells talk.old) (T.tells talk.new) turns.now) }
-    ensures part { OnErr result (WrotePart (T.tells talk.old) (T.tells talk.new) turns.now) }
-{
-    write_all(talk, turns)
-}
-
 fn report_meters<T: Sink>(talk: &mut T, taps: &[Box<dyn Tap>]) -> Result<(), Failed>
     ensures whole { OnOk result (WroteMore (T.tells talk.old) (T.tells talk.new)
         (flat_map (λ t. text t line_room) taps.now)) }
@@ -79,9 +68,7 @@ fn report_meters<T: Sink>(talk: &mut T, taps: &[Box<dyn Tap>]) -> Result<(), Fai
         (flat_map (λ t. text t line_room) taps.now)) }
 {
     for tap in taps {
-        if let Err(failed) = report_meter(talk, tap) {
-            return Err(failed);
-        }
+        report_meter(talk, tap)?;
     }
     Ok(())
 }

@@ -5,7 +5,7 @@ ghost use Rattle.cs_report.specs.Talk.{Says, fault_message, limit_message, messa
 
 use crate::status::Status;
 use cs_arguments::usage_line;
-use cs_base::LimitHit;
+use cs_base::{CsdFault, LimitHit, OrcFault, ScoreFault};
 use cs_edge::{Failed, Sink, write_all};
 use itoa::Buffer;
 
@@ -19,30 +19,18 @@ pub fn say_end<T: Sink>(talk: &mut T, status: Status, name: &str) -> Status
         Status::Ok | Status::TalkFault => {}
         Status::Usage => say_line(talk, &[usage_line(), "\n"]),
         Status::ShelfFault => say_line(talk, &["cannot read ", name, "\n"]),
-        Status::OrcRefused(fault) => say_fault(
-            talk,
-            "orchestra",
-            fault.line,
-            fault.kind.number(),
-            fault.kind.name(),
-        ),
-        Status::ScoreRefused(fault) => say_fault(
-            talk,
-            "score",
-            fault.line,
-            fault.kind.number(),
-            fault.kind.name(),
-        ),
+        Status::OrcRefused(OrcFault { line, kind }) => {
+            say_fault(talk, "orchestra", line, kind.number(), kind.name())
+        }
+        Status::ScoreRefused(ScoreFault { line, kind }) => {
+            say_fault(talk, "score", line, kind.number(), kind.name())
+        }
         Status::Limit(hit) => say_limit(talk, hit),
         Status::SinkFault => say_line(talk, &["cannot write the sound file\n"]),
         Status::OutOfMemory => say_line(talk, &["out of memory\n"]),
-        Status::CsdRefused(fault) => say_fault(
-            talk,
-            "csd",
-            fault.line,
-            fault.kind.number(),
-            fault.kind.name(),
-        ),
+        Status::CsdRefused(CsdFault { line, kind }) => {
+            say_fault(talk, "csd", line, kind.number(), kind.name())
+        }
     }
     status
 }
@@ -84,10 +72,7 @@ fn say_limit<T: Sink>(talk: &mut T, hit: LimitHit)
 fn say_line<T: Sink>(talk: &mut T, pieces: &[&str])
     ensures { Says (T.tells talk.old) (T.tells talk.new) (flat_map (λ piece. piece.now) pieces.now) }
 {
-    match say(talk, pieces) {
-        Ok(()) => {}
-        Err(_) => {}
-    }
+    let _said = say(talk, pieces);
 }
 
 /// Writes pieces of text one after another, until one fails.

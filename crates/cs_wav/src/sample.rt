@@ -1,8 +1,7 @@
 // One mix value becomes one sample.
-ghost use Rattle.std.specs.Prelude.{◌≡◌, ◌≤◌, ◌<◌, ◌+◌, ◌^◌, ◌≤ℤ◌, ◌<ℤ◌, pos, neg_ℤ, ◌*ℤ◌, ◌++◌, length, true};
-ghost use Rattle.std.specs.Prelude.{take, drop, not, unsigned_abs, if◌then◌else◌};
-ghost use Rattle.std.specs.Option.{ForSome};
-ghost use Rattle.std.specs.Int.{int_div_euclid, is_negative};
+ghost use Rattle.std.specs.Prelude.{◌≡◌, ◌≤◌, ◌<◌, ◌+◌, ◌^◌, ◌≤ℤ◌, ◌<ℤ◌, pos, neg_ℤ, ◌*ℤ◌, ◌++◌, length, true, take};
+ghost use Rattle.std.specs.Prelude.{drop, not, unsigned_abs, if◌then◌else◌};
+ghost use Rattle.std.specs.{Option.ForSome, Int.int_div_euclid, Int.is_negative};
 ghost use Rattle.cs_base.specs.Widths.{bytes_of, greatest_of, least_of};
 ghost use Rattle.cs_wav.specs.Wav.{full_scale, is_out_of_range, little_bytes, complement, level, sample, sample_bytes};
 

@@ -1,10 +1,9 @@
 // The catalogue: one row an opcode, which says all that the layers above ask of it.
-ghost use Rattle.std.specs.Prelude.{◌≡◌, length, filter};
-ghost use Rattle.std.specs.List.{list_any};
+ghost use Rattle.std.specs.{Prelude.◌≡◌, Prelude.length, Prelude.filter, List.list_any};
 ghost use Rattle.cs_words.specs.inner.Rows.{first_named, row_in};
 ghost use Rattle.cs_words.specs.Catalogue.{row_of, catalogued, letter_at, takes_count, further, may_follow};
 ghost use Rattle.cs_words.specs.Catalogue.{result_count, takes, is_table, is_text, is_settled, is_moving};
-ghost use Rattle.cs_words.specs.Catalogue.{settled_letters, follows_settled, may_follow_settled, unit_takes};
+ghost use Rattle.cs_words.specs.Catalogue.{may_follow_settled, unit_takes};
 
 use cs_base::Rate;
 use std::marker::Model;
@@ -91,13 +90,6 @@ impl Letter {
         ensures { result ≡ is_text self }
     {
         matches!(self, Letter::Text)
-    }
-
-    /// Whether it takes a table's number.
-    fn is_table(self) -> bool
-        ensures { result ≡ is_table self }
-    {
-        matches!(self, Letter::Table)
     }
 
     /// Whether what it takes is known when the note begins.
@@ -349,7 +341,9 @@ impl Signature {
     pub fn takes_table(&self) -> bool
         ensures { result ≡ list_any is_table self.now.fixed }
     {
-        self.fixed.iter().any(|letter| letter.is_table())
+        self.fixed
+            .iter()
+            .any(|letter| matches!(letter, Letter::Table))
     }
 
     /// Whether it takes `count` arguments.
@@ -359,18 +353,11 @@ impl Signature {
         count >= self.fixed.len() && self.more.may_follow(count - self.fixed.len())
     }
 
-    /// How many of the arguments that must be given are settled: known when the note begins.
-    pub fn settled_count(&self) -> usize
-        ensures { result ≡ length (settled_letters self.now) }
-    {
-        settled_among(self.fixed)
-    }
-
     /// Whether it takes `count` settled arguments.
     pub fn takes_settled(&self, count: usize) -> bool
         ensures { result ≡ unit_takes self.now count }
     {
-        let least = self.settled_count();
+        let least = settled_among(self.fixed);
         count >= least && self.more.may_follow_settled(count - least)
     }
 
@@ -389,13 +376,7 @@ impl Signature {
 fn settled_among(letters: &[Letter]) -> usize
     ensures { result ≡ length (filter is_settled letters.now) }
 {
-    let mut count: usize = 0;
-    for letter in letters {
-        if letter.is_settled() {
-            count += 1;
-        }
-    }
-    count
+    letters.iter().filter(|letter| letter.is_settled()).count()
 }
 
 impl More {
@@ -411,25 +392,15 @@ impl More {
         }
     }
 
-    /// Whether all that may follow is settled.
-    fn is_settled(self) -> bool
-        ensures { result ≡ follows_settled self }
-    {
-        match self {
-            More::Nothing => true,
-            More::Perhaps(letter) | More::Each(letter) => letter.is_settled(),
-            More::Pairs(first, second) => first.is_settled() && second.is_settled(),
-        }
-    }
-
     /// Whether `count` settled arguments may follow those that must be given.
     fn may_follow_settled(self, count: usize) -> bool
         ensures { result ≡ may_follow_settled self count }
     {
-        if self.is_settled() {
-            self.may_follow(count)
-        } else {
-            count == 0
+        match self {
+            More::Perhaps(letter) | More::Each(letter) if !letter.is_settled() => count == 0,
+            More::Pairs(first, second) if !(first.is_settled() && second.is_settled()) => count
+                == 0,
+            _ => self.may_follow(count),
         }
     }
 

@@ -2,12 +2,9 @@
 ghost use Rattle.std.specs.Prelude.{◌≡◌, ◌≤◌, ℕ, List, [], ◌∷◌, filter, length, true, false, slice_get, Some};
 ghost use Rattle.std.specs.List.{All};
 ghost use Rattle.cs_base.specs.Limits.{greatest_field};
-ghost use Rattle.cs_words.specs.Catalogue.{row_of, catalogued, opcodes, settled_letters, moving_letters};
-ghost use Rattle.cs_words.specs.Catalogue.{takes_table, unit_takes};
-ghost use Rattle.cs_words.specs.NameSets.{has, place_of, seen};
-ghost use Rattle.cs_words.specs.Names.{is_name};
-ghost use Rattle.cs_words.specs.Signs.{signs, sign_of};
-ghost use Rattle.cs_words.specs.Words.{words, foreign_words, word_of};
+ghost use Rattle.cs_words.specs.Catalogue.{row_of, catalogued, opcodes, settled_letters, moving_letters, takes_table};
+ghost use Rattle.cs_words.specs.{Catalogue.unit_takes, NameSets.has, NameSets.place_of, NameSets.seen, Names.is_name};
+ghost use Rattle.cs_words.specs.{Signs.signs, Signs.sign_of, Words.words, Words.foreign_words, Words.word_of};
 ghost use Rattle.cs_words.specs.declared.catalogue.Letter.TheVariants as letter;
 ghost use Rattle.cs_words.specs.declared.catalogue.Opcode.{Opcode};
 ghost use Rattle.cs_words.specs.declared.catalogue.Opcode.TheVariants as op;
@@ -36,13 +33,11 @@ pub fn names_have_places()
         → has names n ≡ true → slice_get names (place_of names n) ≡ Some n }
     ensures apart { (names : List (List ℕ)) (m n : List ℕ)
         → has names m ≡ true → has names n ≡ true → place_of names m ≡ place_of names n → m ≡ n }
-    ensures unseen { (names : List (List ℕ)) (n : List ℕ)
-        → has names n ≡ false → place_of names n ≡ length names }
+    ensures unseen { (names : List (List ℕ)) (n : List ℕ) → has names n ≡ false → place_of names n ≡ length names }
     ensures new { (names : List (List ℕ)) (n : List ℕ)
         → has names n ≡ false → place_of (seen names n) n ≡ length names }
     ensures there { (names : List (List ℕ)) (n : List ℕ) → has (seen names n) n ≡ true }
-    ensures stays { (names : List (List ℕ)) (m n : List ℕ)
-        → has names m ≡ true → has (seen names n) m ≡ true }
+    ensures stays { (names : List (List ℕ)) (m n : List ℕ) → has names m ≡ true → has (seen names n) m ≡ true }
     ensures kept { (names : List (List ℕ)) (m n : List ℕ)
         → has names m ≡ true → place_of (seen names n) m ≡ place_of names m }
 {}
@@ -60,6 +55,5 @@ pub fn settled_arguments()
 
 /// The opcodes that take a table, computed by the definitions: `oscil`, `oscili`, `table`, `tablei` and `tablew`.
 pub fn opcodes_with_tables()
-    ensures { filter takes_table opcodes
-        ≡ op.Oscil ∷ op.Oscili ∷ op.Table ∷ op.Tablei ∷ op.Tablew ∷ [] }
+    ensures { filter takes_table opcodes ≡ op.Oscil ∷ op.Oscili ∷ op.Table ∷ op.Tablei ∷ op.Tablew ∷ [] }
 {}

@@ -23,7 +23,7 @@ pub use laws::{
     names_are_letters_of_rates, names_have_places, opcodes_with_tables, settled_arguments,
     words_are_apart,
 };
-pub use name::{is_global, is_name, is_rate_letter, letter_rate, name_rate};
+pub use name::{is_global, is_rate_letter, letter_rate, name_rate};
 pub use name_set::NameSet;
 pub use sign::{BinOp, Sign, sign_of};
 pub use word::{Func, HeadName, Keyword, Word, word_of};

@@ -15,12 +15,10 @@ pub fn is_rate_letter(byte: u8) -> bool
 pub fn letter_rate(byte: u8) -> Rate
     ensures { result ≡ letter_rate byte }
 {
-    if byte == b'i' {
-        Rate::Init
-    } else if byte == b'k' {
-        Rate::Control
-    } else {
-        Rate::Audio
+    match byte {
+        b'i' => Rate::Init,
+        b'k' => Rate::Control,
+        _ => Rate::Audio,
     }
 }
 
@@ -39,10 +37,7 @@ pub fn is_name(word: &[u8]) -> bool
 pub fn is_global(name: &[u8]) -> bool
     ensures { result ≡ is_global name.now }
 {
-    match name {
-        [] => false,
-        [b, ..] => *b == b'g',
-    }
+    matches!(name, [b'g', ..])
 }
 
 /// The rate of a variable, by the first letter of its name, or the second of a global one. What is no name has

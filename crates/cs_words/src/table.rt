@@ -1,7 +1,6 @@
 // A table of spellings, and how a row of it is found.
 ghost use Rattle.std.specs.Prelude.{◌≡◌};
-ghost use Rattle.cs_words.specs.Tables.{looked_up};
-ghost use Rattle.cs_words.specs.inner.Tables.{rows};
+ghost use Rattle.cs_words.specs.{Tables.looked_up, inner.Tables.rows};
 
 /// The value of the first row with this spelling.
 pub fn looked_up<T: Copy>(table: &[(&str, T)], bytes: &[u8]) -> Option<T>

@@ -1,8 +1,6 @@
 // Which word is what.
-ghost use Rattle.std.specs.Prelude.{◌≡◌, List};
-ghost use Rattle.std.specs.List.{list_any};
-ghost use Rattle.std.specs.Str.{bytes_eq};
-ghost use Rattle.cs_words.specs.Words.{listed_word, is_foreign, is_leading, field_of, word_of, plain_word};
+ghost use Rattle.std.specs.{Prelude.◌≡◌, List.list_any, Str.bytes_eq};
+ghost use Rattle.cs_words.specs.Words.{listed_word, is_foreign, is_leading, field_of, word_of};
 
 use crate::catalogue::{Opcode, find_opcode};
 use crate::name::is_name;
@@ -112,20 +110,6 @@ pub fn word_of(word: &[u8]) -> Word
     if let Some(opcode) = find_opcode(word) {
         return Word::Opcode(opcode);
     }
-    plain_word(word)
-}
-
-#[tactic(auto, unfolding(crate::specs::Words::listed_word))]
-fn listed_word(word: &[u8]) -> Option<Word>
-    ensures { result ≡ listed_word word.now }
-{
-    looked_up(&WORDS, word)
-}
-
-// What a word is that is no keyword, header name, function or opcode.
-fn plain_word(word: &[u8]) -> Word
-    ensures { result ≡ plain_word word.now }
-{
     if is_foreign(word) {
         return Word::Foreign;
     }
@@ -134,6 +118,13 @@ fn plain_word(word: &[u8]) -> Word
         None if is_name(word) => Word::Name,
         None => Word::Other,
     }
+}
+
+#[tactic(auto, unfolding(crate::specs::Words::listed_word))]
+fn listed_word(word: &[u8]) -> Option<Word>
+    ensures { result ≡ listed_word word.now }
+{
+    looked_up(&WORDS, word)
 }
 
 #[tactic(auto, unfolding(crate::specs::Words::is_foreign))]

@@ -1,9 +1,6 @@
 // The calls made on an object in memory, as long as memory suffices to keep them.
 ghost use Rattle.std.specs.Prelude.{◌≡◌, [], Some, IfOk};
-ghost use Rattle.cs_edge.specs.Told.{Follows};
-ghost use Rattle.cs_edge.specs.Moves.{GrownBy};
-ghost use Rattle.cs_edge.specs.Memory.{told_moves};
-ghost use Rattle.cs_edge.specs.declared.moves.Move.TheVariants.{Begin};
+ghost use Rattle.cs_edge.specs.{Told.Follows, Moves.GrownBy, Memory.told_moves, declared.moves.Move.TheVariants.Begin};
 
 use crate::Move;
 use cs_base::{Items, Text};

@@ -1,7 +1,6 @@
 // A file of a list of files, by name and by place.
 ghost use Rattle.std.specs.Prelude.{◌≡◌, ◌-◌, length, min, take, drop, Some, None, MatchOption};
-ghost use Rattle.cs_edge.specs.Files.{file_named};
-ghost use Rattle.cs_edge.specs.Memory.{bytes_at};
+ghost use Rattle.cs_edge.specs.{Files.file_named, Memory.bytes_at};
 
 use crate::NamedBytes;
 
@@ -32,7 +31,7 @@ pub fn bytes_of(files: &[NamedBytes], place: Option<usize>) -> &[u8]
     }
 }
 
-/// Copies what follows the place `at` into the buffer, as much as there is and fits, and answers how much.
+/// Copies what follows the place `at` into the buffer, as much as there is and fits, and returns how much.
 pub fn copy_front(bytes: &[u8], at: usize, buf: &mut [u8]) -> usize
     ensures count { result ≡ min (length buf.old) (length bytes.now - at) }
     ensures taken { take result buf.new ≡ take result (drop at bytes.now) }

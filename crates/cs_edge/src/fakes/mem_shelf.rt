@@ -1,10 +1,8 @@
 // A shelf of files in memory, some of whose calls fail.
-ghost use Rattle.std.specs.Prelude.{◌≡◌, ℕ, List, [], ◌<◌, ◌≤◌, length, Some, None, IfOk, OnErr, IfSome};
+ghost use Rattle.std.specs.Prelude.{◌≡◌, [], ◌<◌, ◌≤◌, length, Some, None, IfOk, OnErr, IfSome};
 ghost use Rattle.cs_edge.specs.declared.moves.Move.TheVariants.{Begin, Read};
-ghost use Rattle.cs_edge.specs.Told.{Follows, HasCause};
-ghost use Rattle.cs_edge.specs.Moves.{GrownBy};
-ghost use Rattle.cs_edge.specs.Files.{ShelfTold, Begins, NothingLeft, TakesFront};
-ghost use Rattle.cs_edge.specs.Memory.{FailsAsListed};
+ghost use Rattle.cs_edge.specs.{Told.Follows, Told.HasCause, Moves.GrownBy, Memory.FailsAsListed};
+ghost use Rattle.cs_edge.specs.Files.{Begins, NothingLeft, TakesFront};
 ghost use Rattle.cs_edge.specs.MemShelf.{shelf_told, shelf_script, shelf_moves};
 
 use crate::fakes::kept::Kept;

@@ -1,10 +1,9 @@
 // A sink in memory, some of whose calls fail.
-ghost use Rattle.std.specs.Prelude.{◌≡◌, ℕ, List, [], ◌++◌, ◌<◌, ◌≤◌, length, take, min, Some, None, IfOk, OnOk};
-ghost use Rattle.std.specs.Prelude.{OnErr, IfSome};
+ghost use Rattle.std.specs.Prelude.{◌≡◌, [], ◌<◌, ◌≤◌, length, take, min, Some, IfOk, OnOk, OnErr};
+ghost use Rattle.std.specs.Prelude.{IfSome};
 ghost use Rattle.cs_edge.specs.declared.moves.Move.TheVariants.{Begin, Write, End};
-ghost use Rattle.cs_edge.specs.Told.{Follows, HasCause};
-ghost use Rattle.cs_edge.specs.Moves.{SinkTold, GrownBy, TakenMore, IsEnded, no_file, open_file};
-ghost use Rattle.cs_edge.specs.Memory.{FailsAsListed};
+ghost use Rattle.cs_edge.specs.{Told.Follows, Told.HasCause, Memory.FailsAsListed};
+ghost use Rattle.cs_edge.specs.Moves.{GrownBy, TakenMore, IsEnded, no_file, open_file};
 ghost use Rattle.cs_edge.specs.MemSink.{sink_told, sink_script, sink_bytes, sink_moves, write_room};
 
 use crate::fakes::kept::Kept;

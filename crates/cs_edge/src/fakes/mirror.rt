@@ -1,7 +1,6 @@
-ghost use Rattle.std.specs.Prelude.{◌≡◌, ℕ, ℤ, List, [], ◌∷◌, ◌++◌, length, IfOk};
+ghost use Rattle.std.specs.Prelude.{◌≡◌, ℤ, List, [], ◌∷◌, ◌++◌, IfOk};
 ghost use Rattle.cs_edge.specs.Taps.{IsMirrorOf, mirror_line, mirror_text};
-ghost use Rattle.cs_edge.specs.inner.Page.{Shows};
-ghost use Rattle.cs_edge.specs.Mirror.{room_of, kept_of, count_of};
+ghost use Rattle.cs_edge.specs.{inner.Page.Shows, Mirror.room_of, Mirror.kept_of, Mirror.count_of};
 
 use crate::Tap;
 use crate::page::{add_number, add_piece, add_signed};
@@ -17,7 +16,7 @@ pub struct MirrorTap {
 }
 
 impl MirrorTap {
-    /// A mirror with room for so many values. It stands for no values.
+    /// A mirror with room for `room` values. It stands for no values.
     pub fn new(alloc: Global, room: u32) -> Result<MirrorTap, OutOfMemory>
         ensures none { IfOk result (λ t. ⟦<MirrorTap as Tap>⟧.stands_for t []) }
         ensures room { IfOk result (λ t. room_of t ≡ room) }

@@ -1,7 +1,6 @@
 // Which calls of an object in memory fail.
 ghost use Rattle.std.specs.Prelude.{◌≡◌, ◌≤◌, ◌↔◌, IsTrue, IsFalse, Contains};
-ghost use Rattle.cs_edge.specs.Told.{Rose};
-ghost use Rattle.cs_edge.specs.Memory.{next_call};
+ghost use Rattle.cs_edge.specs.{Told.Rose, Memory.next_call};
 
 use crate::Calls;
 

@@ -1,8 +1,7 @@
 // What a sink in memory holds, as long as memory suffices to keep it.
 ghost use Rattle.std.specs.Prelude.{◌≡◌, [], Some, None};
-ghost use Rattle.cs_edge.specs.Told.{Follows};
+ghost use Rattle.cs_edge.specs.{Told.Follows, Memory.told_taken};
 ghost use Rattle.cs_edge.specs.Moves.{TakenMore, IsEnded, no_file, open_file};
-ghost use Rattle.cs_edge.specs.Memory.{told_taken};
 
 use crate::fakes::kept::text_of;
 use cs_base::Text;

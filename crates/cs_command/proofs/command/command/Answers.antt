@@ -8,5 +8,5 @@ returns c =
     let turns = c.in_ok-command-2.ensures ∙ ap₂ with_rule c.in_ok-command.ensures c.long_flag.ensures.rule in
     let pool = c.in_ok-command-3.ensures ∙ ap₂ with_rule turns c.long_flag-2.ensures.rule in
     let demo = c.in_ok-command-4.ensures ∙ ap₂ with_rule pool c.demo_option.ensures.rule in
-    let orc = c.in_ok-command-5.ensures ∙ ap₂ with_rule demo c.first_name.ensures.rule in
-    IfOk-weaker c.with-5.result _ _ (λ x h. h ∙ ap₂ with_rule orc c.second_name.ensures.rule) c.with-5.ensures
+    let orc = c.in_ok-command-5.ensures ∙ ap₂ with_rule demo c.name.ensures.rule in
+    IfOk-weaker c.with-5.result _ _ (λ x h. h ∙ ap₂ with_rule orc c.name-2.ensures.rule) c.with-5.ensures

@@ -3,10 +3,10 @@ use Rattle.std.proofs.lemmas.{Grind.common_steps, Bool.both_ways}
 use Rattle.std.specs.List.{list_any}
 use Rattle.cs_cells.specs.{Areas.HasPlace, inner.Index.key}
 use Rattle.cs_cells.proofs.Areas.{same, place_found, any_place}
-use Rattle.cs_cells.proofs.layout.Layout.by_key.Goals as goal
+use Rattle.cs_cells.proofs.layout.Layout.find.Goals as goal
 
-pub returns-in-Some-clause-found : goal.returns-in-Some-clause-found
-returns-in-Some-clause-found c = grind (arith, common_steps, place_found, same)
+pub returns-in-Some-get_index_of-clause-found : goal.returns-in-Some-get_index_of-clause-found
+returns-in-Some-get_index_of-clause-found c = grind (arith, common_steps, place_found, same)
 
 pub returns-in-None-clause-none : goal.returns-in-None-clause-none
 returns-in-None-clause-none c place h =
