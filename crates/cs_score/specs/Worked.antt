@@ -1,5 +1,5 @@
 -- Statements and refusals of worked examples, in short.
-use Rattle.std.specs.Prelude.{ℕ, ℤ, pos, negsuc, ◌*◌, List, [], ◌∷◌, Result, Err}
+use Rattle.std.specs.Prelude.{◌≡◌, ℕ, ℤ, pos, negsuc, ◌*◌, List, [], ◌∷◌, Result, Err}
 use Rattle.cs_base.specs.{Lines.whole_file, declared.fault.ScoreFault.ScoreFault, declared.fault.ScoreKind.ScoreKind}
 use Rattle.cs_score.specs.{Statements.score_of, declared.statement.ScoreStmt.ScoreStmt}
 use Rattle.cs_score.specs.declared.statement.ScoreWhat.{ScoreWhat}
@@ -43,3 +43,8 @@ table line gen args = at_line line (Table 1 0 (pos 4) gen args)
 
 abbrev pub refused : ℕ → ScoreKind → Result (List ScoreStmt) ScoreFault
 refused line kind = Err (record { line = line; kind = kind })
+
+-- each of these lines, a score by itself, is refused for this kind
+abbrev pub AllRefused : ScoreKind → List (List ℕ) → Type 0
+AllRefused kind [] = Unit {0}
+AllRefused kind (text ∷ texts) = (meant text ≡ refused 1 kind) × AllRefused kind texts

@@ -1,17 +1,15 @@
 // What an `i` statement takes from the one before: the code keeps the row of that one, filled.
 ghost use Rattle.std.specs.Prelude.{◌≡◌, ◌<◌, ◌^◌, Some, Ok, IfOk};
 ghost use Rattle.std.proofs.Props.{props};
-ghost use Rattle.cs_score.specs.Carry.{is_same};
-ghost use Rattle.cs_score.specs.Notes.{note_of, valued_note};
-ghost use Rattle.cs_score.specs.Ranges.{HasRange, IsInstrument, beats_end};
-ghost use Rattle.cs_score.specs.inner.State.{Ends, IsKept, IsLast, NoteAnswers, completed, filled, filled_one};
+ghost use Rattle.cs_score.specs.{Carry.is_same, Notes.note_of, Ranges.HasRange, Ranges.IsInstrument};
+ghost use Rattle.cs_score.specs.{Ranges.beats_end, inner.Values.IsTakenFrom};
+ghost use Rattle.cs_score.specs.inner.State.{IsKept, IsLast, NoteAnswers, completed, filled, filled_one};
 ghost use Rattle.cs_score.specs.inner.State.{instr_read, note_read, note_with, p1_before};
-ghost use Rattle.cs_score.specs.inner.Values.{AreValues, IsTakenFrom};
 
 use crate::NoteValues;
 use crate::field::{Field, InstrumentNumber};
 use crate::last::{LastNote, NoteRead};
-use crate::note::{Times, check_count, field_at, gap, more_values, p1, p2, timed, what};
+use crate::note::{check_count, field_at, gap, more_values, p1, p2, timed, what};
 use crate::statement_fault::StatementFault;
 use cs_base::Items;
 use std::alloc::{AllocError, Global};
@@ -70,37 +68,24 @@ fn note_of(
     ensures range { IfOk result (λ read. HasRange read.what) }
     ensures kept { IfOk result (λ read. IsLast instr p2 carried.fields read.last) }
 {
-    let times = timed(base, instr, p2, field_at(&carried.fields, 2))?;
-    valued(alloc, instr, p2, times, carried)
-}
-
-// The statement after its p3.
-fn valued(
-    alloc: Global,
-    instr: InstrumentNumber,
-    p2: u64,
-    times: Times,
-    carried: Carried,
-) -> Result<NoteRead, StatementFault>
-    requires instr { IsInstrument instr.number }
-    requires p2 { p2 < beats_end }
-    requires at { times.at < beats_end }
-    requires ends { Ends instr times.at times.p3 }
-    ensures value { NoteAnswers result (valued_note instr times carried.fields) }
-    ensures range { IfOk result (λ read. HasRange read.what) }
-    ensures kept { IfOk result (λ read. IsLast instr p2 carried.fields read.last) }
-{
     let Carried {
         fields,
         written,
         before,
     } = carried;
+    let p3 = field_at(&fields, 2);
+    let times = timed(base, instr, p2, p3)?;
     let more = more_values(alloc, fields.as_slice(), written, &before)?;
     check_count(instr, fields.len())?;
-    let what = what(instr, times, more.share()?);
     Ok(NoteRead {
-        what,
-        last: kept(instr, p2, fields, more),
+        what: what(instr, times, more.share()?),
+        last: LastNote {
+            instr: Some(instr),
+            p2,
+            gap: gap(instr, p3),
+            fields,
+            more,
+        },
     })
 }
 
@@ -114,27 +99,11 @@ fn is_same(instr: InstrumentNumber, last: Option<InstrumentNumber>) -> bool
     }
 }
 
-fn kept(instr: InstrumentNumber, p2: u64, fields: Items<Field>, more: NoteValues) -> LastNote
-    requires instr { IsInstrument instr.number }
-    requires p2 { p2 < beats_end }
-    requires more { AreValues fields more }
-    ensures { IsLast instr p2 fields result }
-{
-    let gap = gap(instr, field_at(&fields, 2));
-    LastNote {
-        instr: Some(instr),
-        p2,
-        gap,
-        fields,
-        more,
-    }
-}
-
 /// The statement's fields, with omitted ones filled from the previous `i`.
 #[derive(Drop)]
 pub struct Carried {
     pub fields: Items<Field>,
-    /// Behind so many fields all are those of the statement before, whose values from p4 on are `before`.
+    /// Behind the first `written` all are fields of the statement before, whose values from p4 on are `before`.
     pub written: usize,
     pub before: NoteValues,
     ghost taken: { IsTakenFrom written fields before } by { Prim.hlevel props },

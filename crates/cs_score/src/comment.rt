@@ -1,8 +1,7 @@
 // The text without its comments.
 ghost use Rattle.std.specs.Prelude.{◌≡◌, ◌==◌, IfOk, if◌then◌else◌};
 ghost use Rattle.cs_base.specs.Lines.{space};
-ghost use Rattle.cs_score.specs.Plain.{plain_of};
-ghost use Rattle.cs_score.specs.inner.Hidden.{hidden_here};
+ghost use Rattle.cs_score.specs.{Plain.plain_of, inner.Hidden.hidden_here};
 
 use cs_base::comment_len;
 use std::alloc::{AllocError, Global};

@@ -1,8 +1,7 @@
 // What a field says: a number, a mark, or neither.
 ghost use Rattle.std.specs.Prelude.{◌≡◌, true, ◌==◌, ◌≤ℤ◌, pos, neg_ℤ, codes};
 ghost use Rattle.std.specs.List.{list_any};
-ghost use Rattle.cs_base.specs.Lines.{begins};
-ghost use Rattle.cs_base.specs.declared.decimal.Decimal.{Decimal};
+ghost use Rattle.cs_base.specs.{Lines.begins, declared.decimal.Decimal.Decimal};
 ghost use Rattle.cs_score.specs.Fields.{field_of, is_foreign, is_only, number_field, signed, signed_of, caret_field};
 ghost use Rattle.cs_score.specs.Fields.{raw_of, whole_of, size_of, is_whole, is_below_zero, is_negative_time};
 ghost use Rattle.cs_score.specs.Carry.{number_of};
@@ -139,22 +138,18 @@ fn number_field(word: &[u8]) -> Field
 fn signed_of(word: &[u8]) -> Option<Signed>
     ensures { result ≡ signed_of word.now }
 {
-    if begins_with_byte(b'-', word) {
-        decimal_after(true, &word[1..])
-    } else if begins_with_byte(b'+', word) {
-        decimal_after(false, &word[1..])
-    } else {
-        decimal_after(false, word)
+    match word {
+        [b'-', size @ ..] => decimal_after(true, size),
+        [b'+', size @ ..] => decimal_after(false, size),
+        _ => decimal_after(false, word),
     }
 }
 
 fn decimal_after(minus: bool, text: &[u8]) -> Option<Signed>
     ensures { result ≡ signed minus text.now }
 {
-    match read_decimal(text) {
-        Some(size) => Some(Signed { minus, size }),
-        None => None,
-    }
+    let size = read_decimal(text)?;
+    Some(Signed { minus, size })
 }
 
 // `^+x`, or a form that the profile leaves out.

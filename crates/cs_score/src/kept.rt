@@ -1,11 +1,9 @@
 // The statements of a score that are kept: all of them, until they pass a limit. Those after that aren't counted.
 ghost use Rattle.std.specs.Prelude.{◌≡◌, ◌++◌, ◌∷◌, [], ℕ, List, nat_lt, cond, All, IfOk, OnOk, Option, Some, None};
-ghost use Rattle.std.specs.Prelude.{Err, if◌then◌else◌};
-ghost use Rattle.std.specs.Option.{is_none, option_or};
+ghost use Rattle.std.specs.{Prelude.Err, Prelude.if◌then◌else◌, Option.is_none, Option.option_or};
 ghost use Rattle.cs_base.specs.declared.limit.LimitHit.{LimitHit};
-ghost use Rattle.cs_score.specs.declared.statement.ScoreStmt.{ScoreStmt};
+ghost use Rattle.cs_score.specs.{declared.statement.ScoreStmt.ScoreStmt, Ranges.IsInRange};
 ghost use Rattle.cs_score.specs.Limits.{is_counted, limit_of_score, own_number};
-ghost use Rattle.cs_score.specs.Ranges.{IsInRange};
 ghost use Rattle.cs_score.specs.inner.Counts.{HasCount, HasNumbers, IsSeen, Holds};
 
 use crate::{ScoreStmt, ScoreStmts, ScoreWhat};
@@ -63,12 +61,7 @@ fn see_table(seen: &mut Vec<u32>, what: &ScoreWhat) -> Result<(), AllocError>
 {
     match what {
         ScoreWhat::Table { number, .. } => see_number(seen, *number),
-        ScoreWhat::Note { .. } => Ok(()),
-        ScoreWhat::Hold { .. } => Ok(()),
-        ScoreWhat::Stop { .. } => Ok(()),
-        ScoreWhat::Extend { .. } => Ok(()),
-        ScoreWhat::Tempo { .. } => Ok(()),
-        ScoreWhat::Section => Ok(()),
+        _ => Ok(()),
     }
 }
 
@@ -105,8 +98,7 @@ impl EventCount {
     }
 
     fn see(&mut self, statement: &ScoreStmt)
-        ensures { (all : List ScoreStmt) → HasCount all self.old
-            → HasCount (all ++ statement.now ∷ []) self.new }
+        ensures { (all : List ScoreStmt) → HasCount all self.old → HasCount (all ++ statement.now ∷ []) self.new }
     {
         if self.hit.is_none() {
             self.count = self.count.saturating_add(counted(&statement.what));
@@ -119,13 +111,8 @@ fn counted(what: &ScoreWhat) -> usize
     ensures { result ≡ cond (is_counted what.now) 1 0 }
 {
     match what {
-        ScoreWhat::Note { .. } => 1,
-        ScoreWhat::Hold { .. } => 1,
-        ScoreWhat::Stop { .. } => 1,
-        ScoreWhat::Table { .. } => 1,
-        ScoreWhat::Extend { .. } => 1,
-        ScoreWhat::Tempo { .. } => 0,
-        ScoreWhat::Section => 0,
+        ScoreWhat::Tempo { .. } | ScoreWhat::Section => 0,
+        _ => 1,
     }
 }
 

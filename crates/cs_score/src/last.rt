@@ -1,7 +1,6 @@
 // What the next `i` statement may take from the one right before it.
 ghost use Rattle.std.specs.Prelude.{◌≡◌, ◌<◌, ◌^◌, None};
-ghost use Rattle.cs_score.specs.Ranges.{IsInstrument, number_or_one, beats_end};
-ghost use Rattle.cs_score.specs.inner.Values.{AreValues};
+ghost use Rattle.cs_score.specs.{Ranges.IsInstrument, Ranges.number_or_one, Ranges.beats_end, inner.Values.AreValues};
 
 use crate::field::{Field, InstrumentNumber};
 use crate::{NoteValues, ScoreWhat};

@@ -1,10 +1,8 @@
 // The lines of a text, one by one.
 ghost use Rattle.std.specs.Prelude.{◌≡◌, ◌<◌, ◌≤◌, ◌+◌, ◌-◌, ◌++◌, take, length, IfOk};
 ghost use Rattle.std.specs.Option.{option_to_list};
-ghost use Rattle.cs_base.specs.Limits.{most_csd_bytes, most_score_bytes};
-ghost use Rattle.cs_base.specs.Lines.{line_after};
-ghost use Rattle.cs_score.specs.Rows.{row_at};
-ghost use Rattle.cs_score.specs.inner.Left.{rows_from};
+ghost use Rattle.cs_base.specs.{Limits.most_csd_bytes, Limits.most_score_bytes, Lines.line_after};
+ghost use Rattle.cs_score.specs.{Rows.row_at, inner.Left.rows_from};
 
 use crate::row::{Row, StatementLetter, fields_of};
 use cs_base::{Excerpt, blanks_len, feeds, line_len, next_len};

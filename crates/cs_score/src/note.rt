@@ -1,13 +1,11 @@
 // An `i` statement: what it writes, what it takes from the one before, and what it asks for.
-ghost use Rattle.std.specs.Prelude.{◌≡◌, ◌<◌, ◌≤◌, ◌+◌, ◌-◌, ◌^◌, Some, Ok, Err, IfOk, OnOk, IfSome, slice_get, drop};
+ghost use Rattle.std.specs.Prelude.{◌≡◌, ◌<◌, ◌≤◌, ◌+◌, ◌-◌, ◌^◌, Some, Ok, Err, IfOk, OnOk, slice_get, drop};
 ghost use Rattle.std.specs.Prelude.{length};
-ghost use Rattle.cs_base.specs.Limits.{greatest_field};
-ghost use Rattle.cs_base.specs.declared.fault.ScoreKind.TheVariants.{NothingToCarry};
+ghost use Rattle.cs_base.specs.{Limits.greatest_field, declared.fault.ScoreKind.TheVariants.NothingToCarry};
 ghost use Rattle.cs_score.specs.Ranges.{IsInstrument, number_or_one, HasRange, beats_end};
-ghost use Rattle.cs_score.specs.declared.statement.ScoreWhat.{ScoreWhat};
+ghost use Rattle.cs_score.specs.{declared.statement.ScoreWhat.ScoreWhat, Notes.fewest, Notes.counted, Notes.note_by};
 ghost use Rattle.cs_score.specs.Carry.{and_then, as_instrument, p1_by};
-ghost use Rattle.cs_score.specs.Notes.{as_time, moved, p2_by, gap_by, start_of, as_length, p3_by, times_of, values_of};
-ghost use Rattle.cs_score.specs.Notes.{fewest, counted, note_by};
+ghost use Rattle.cs_score.specs.Notes.{as_time, moved, p2_by, gap_by, p3_by, times_of, values_of};
 ghost use Rattle.cs_score.specs.inner.State.{Answers, Ends, p1_before};
 ghost use Rattle.cs_score.specs.inner.Values.{AreValues, IsTakenFrom};
 
@@ -101,20 +99,6 @@ pub fn gap(instr: InstrumentNumber, p3: Option<Field>) -> u64
     }
 }
 
-// The start, with the base.
-fn start(base: u64, p2: u64) -> Result<u64, ScoreKind>
-    requires base { base < beats_end }
-    requires p2 { p2 < 2 ^ 63 }
-    ensures value { result ≡ start_of base p2 }
-    ensures below { IfOk result (λ at. (at < beats_end) × (p2 < beats_end)) }
-{
-    if p2 + base < BEATS_END {
-        Ok(p2 + base)
-    } else {
-        Err(ScoreKind::BadNumber)
-    }
-}
-
 // p3 of a note that starts at `at`; left off, it is 0.
 fn p3(instr: InstrumentNumber, at: u64, written: Option<Field>) -> Result<Signed, ScoreKind>
     requires { at < beats_end }
@@ -129,7 +113,15 @@ fn p3(instr: InstrumentNumber, at: u64, written: Option<Field>) -> Result<Signed
                 billionths: 0,
             },
         }),
-        Some(field) => length(instr, at, field.number(ScoreKind::NothingToCarry)?),
+        Some(field) => {
+            let n = field.number(ScoreKind::NothingToCarry)?;
+            // A note that lasts ends below the greatest beat; p3 of a stop is only a number.
+            if instr.stop || n.minus || at + n.millionths() < BEATS_END {
+                Ok(n)
+            } else {
+                Err(ScoreKind::BadNumber)
+            }
+        }
     }
 }
 
@@ -153,22 +145,12 @@ pub fn timed(
     ensures at { IfOk result (λ t. (t.at < beats_end) × (p2 < beats_end)) }
     ensures ends { IfOk result (λ t. Ends instr t.at t.p3) }
 {
-    let at = start(base, p2)?;
+    let at = p2 + base;
+    if at >= BEATS_END {
+        return Err(ScoreKind::BadNumber);
+    }
     let p3 = p3(instr, at, written)?;
     Ok(Times { at, p3 })
-}
-
-// A note that lasts ends below the greatest beat; p3 of a stop is only a number.
-fn length(instr: InstrumentNumber, at: u64, n: Signed) -> Result<Signed, ScoreKind>
-    requires { at < beats_end }
-    ensures value { result ≡ as_length instr at n }
-    ensures ends { IfOk result (Ends instr at) }
-{
-    if instr.stop || n.minus || at + n.millionths() < BEATS_END {
-        Ok(n)
-    } else {
-        Err(ScoreKind::BadNumber)
-    }
 }
 
 /// The values of fields that are all numbers. A `.` that nothing fills is refused as `dot`.

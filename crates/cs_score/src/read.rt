@@ -1,14 +1,11 @@
 // The whole text, line after line.
 ghost use Rattle.std.specs.Prelude.{◌≡◌, ◌≤◌, length, Some, None, Result, Ok, Err, IfOk, OnOk, All};
-ghost use Rattle.cs_base.specs.Limits.{most_score_bytes};
-ghost use Rattle.cs_base.specs.declared.fault.ScoreFault.{ScoreFault};
+ghost use Rattle.cs_base.specs.{Limits.most_score_bytes, declared.fault.ScoreFault.ScoreFault};
 ghost use Rattle.cs_base.specs.declared.fault.Or.TheVariants as or;
 ghost use Rattle.cs_base.specs.declared.refusal.Refusal.{Refusal};
 ghost use Rattle.cs_score.specs.Limits.{IsRefusedFor, limit_of_score};
-ghost use Rattle.cs_score.specs.inner.Counts.{IsWhole};
-ghost use Rattle.cs_score.specs.inner.Past.{IsFaultOf, LineTaken, RowRead};
-ghost use Rattle.cs_score.specs.Ranges.{IsInRange};
-ghost use Rattle.cs_score.specs.Statements.{is_end, score_of};
+ghost use Rattle.cs_score.specs.{inner.Counts.IsWhole, Ranges.IsInRange, Statements.score_of};
+ghost use Rattle.cs_score.specs.inner.Past.{IsFaultOf, LineTaken};
 
 use crate::comment::plain;
 use crate::kept::KeptStatements;
@@ -71,43 +68,18 @@ fn read_row(
 ) -> Result<bool, Or<ScoreFault>>
     ensures read { IfOk result (λ ends. LineTaken past.old kept.old row ends past.new kept.new) }
     ensures fault { (f : ScoreFault) → result ≡ Err (or.Fault f) → IsFaultOf past.old row f }
-    ensures ranges { OnOk result (All IsInRange kept.old.statements
-        → All IsInRange kept.new.statements) }
+    ensures ranges { OnOk result (All IsInRange kept.old.statements → All IsInRange kept.new.statements) }
 {
-    match row {
-        None => Ok(false),
-        Some(row) => {
-            let ends = is_end(row.letter);
-            read_statement(alloc, past, kept, row)?;
-            Ok(ends)
-        }
-    }
-}
-
-fn is_end(letter: StatementLetter) -> bool
-    ensures { result ≡ is_end letter }
-{
-    matches!(letter, StatementLetter::End)
-}
-
-// Adds a statement, with its line.
-fn read_statement(
-    alloc: Global,
-    past: &mut Past,
-    kept: &mut KeptStatements,
-    row: Row,
-) -> Result<(), Or<ScoreFault>>
-    ensures read { OnOk result (RowRead past.old kept.old row past.new kept.new) }
-    ensures fault { (f : ScoreFault) → result ≡ Err (or.Fault f) → IsFaultOf past.old (Some row) f }
-    ensures ranges { OnOk result (All IsInRange kept.old.statements
-        → All IsInRange kept.new.statements) }
-{
+    let Some(row) = row else {
+        return Ok(false);
+    };
     let line = row.line;
+    let ends = matches!(row.letter, StatementLetter::End);
     match past.read(alloc, row) {
-        Ok(None) => Ok(()),
+        Ok(None) => Ok(ends),
         Ok(Some(what)) => {
             kept.take(ScoreStmt { line, what })?;
-            Ok(())
+            Ok(ends)
         }
         Err(StatementFault::Kind(kind)) => Err(Or::Fault(ScoreFault { line, kind })),
         Err(StatementFault::OutOfMemory) => Err(Or::OutOfMemory),

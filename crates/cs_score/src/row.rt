@@ -1,8 +1,7 @@
 // The line of a statement: its letter and its fields.
 ghost use Rattle.std.specs.Prelude.{◌≡◌, ◌<◌, ◌≤◌, length, map, IfOk};
 ghost use Rattle.std.specs.List.{prefix_len};
-ghost use Rattle.cs_score.specs.Fields.{field_of};
-ghost use Rattle.cs_score.specs.Rows.{letter_of, is_word_byte, words};
+ghost use Rattle.cs_score.specs.{Fields.field_of, Rows.letter_of, Rows.is_word_byte, Rows.words};
 
 use crate::field::Field;
 use cs_base::{Items, is_blank};

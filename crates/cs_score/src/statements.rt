@@ -1,7 +1,6 @@
 // Each statement after those that were read before it.
-ghost use Rattle.std.specs.Prelude.{ℕ, ◌≡◌, ◌==◌, Some, None, Ok, if◌then◌else◌, OnOk, IfOk, nat_eq};
-ghost use Rattle.std.specs.HashMap.{get};
-ghost use Rattle.std.specs.Option.{option_or};
+ghost use Rattle.std.specs.Prelude.{ℕ, ◌≡◌, Some, None, Ok, OnOk, IfOk, nat_eq};
+ghost use Rattle.std.specs.{HashMap.get, Option.option_or};
 ghost use Rattle.cs_score.specs.declared.row.StatementLetter.TheVariants as letter;
 ghost use Rattle.cs_score.specs.Statements.{size_for};
 ghost use Rattle.cs_score.specs.inner.Past.{AskedAnswers, Follows, HasRangeOrNothing, asked_after};
@@ -42,11 +41,26 @@ impl Past {
         match row.letter {
             StatementLetter::Note => self.note(alloc, row),
             StatementLetter::Table => self.table(alloc, row),
-            StatementLetter::Tempo => self.tempo(alloc, row),
-            StatementLetter::Base => self.base(alloc, row),
-            StatementLetter::Section => Ok(self.section(row)),
-            StatementLetter::End => self.end(row),
-            StatementLetter::Other => Err(ScoreKind::NotInProfile.into()),
+            StatementLetter::Tempo => {
+                let what = tempo(alloc, row.fields.as_slice())?;
+                self.last.instr = None;
+                Ok(Some(what))
+            }
+            StatementLetter::Base => {
+                self.base = base(alloc, row.fields.as_slice())?;
+                self.last.instr = None;
+                Ok(None)
+            }
+            StatementLetter::Section => {
+                self.base = 0;
+                self.last.instr = None;
+                Ok(Some(ScoreWhat::Section))
+            }
+            StatementLetter::End if row.fields.is_empty() => {
+                self.last.instr = None;
+                Ok(None)
+            }
+            StatementLetter::End | StatementLetter::Other => Err(ScoreKind::NotInProfile.into()),
             StatementLetter::Stray => Err(ScoreKind::BadStatement.into()),
         }
     }
@@ -77,52 +91,6 @@ impl Past {
         self.last.instr = None;
         Ok(Some(what))
     }
-
-    fn tempo(&mut self, alloc: Global, row: Row) -> Result<Option<ScoreWhat>, StatementFault>
-        requires { row.letter ≡ letter.Tempo }
-        ensures value { AskedAnswers result (asked_after self.old row letter.Tempo) }
-        ensures follows { OnOk result (Follows self.old row self.new) }
-        ensures range { IfOk result HasRangeOrNothing }
-    {
-        let what = tempo(alloc, row.fields.as_slice())?;
-        self.last.instr = None;
-        Ok(Some(what))
-    }
-
-    fn base(&mut self, alloc: Global, row: Row) -> Result<Option<ScoreWhat>, StatementFault>
-        requires { row.letter ≡ letter.Base }
-        ensures value { AskedAnswers result (asked_after self.old row letter.Base) }
-        ensures follows { OnOk result (Follows self.old row self.new) }
-        ensures range { IfOk result HasRangeOrNothing }
-    {
-        self.base = base(alloc, row.fields.as_slice())?;
-        self.last.instr = None;
-        Ok(None)
-    }
-
-    fn section(&mut self, row: Row) -> Option<ScoreWhat>
-        requires { row.letter ≡ letter.Section }
-        ensures value { AskedAnswers (Ok result) (asked_after self.old row letter.Section) }
-        ensures follows { Follows self.old row self.new }
-        ensures range { HasRangeOrNothing result }
-    {
-        self.base = 0;
-        self.last.instr = None;
-        Some(ScoreWhat::Section)
-    }
-
-    fn end(&mut self, row: Row) -> Result<Option<ScoreWhat>, StatementFault>
-        requires { row.letter ≡ letter.End }
-        ensures value { AskedAnswers result (asked_after self.old row letter.End) }
-        ensures follows { OnOk result (Follows self.old row self.new) }
-        ensures range { IfOk result HasRangeOrNothing }
-    {
-        if row.fields.len() > 0 {
-            return Err(ScoreKind::NotInProfile.into());
-        }
-        self.last.instr = None;
-        Ok(None)
-    }
 }
 
 // Keeps the size of a table whose number had none before.
@@ -131,17 +99,10 @@ fn keep_size(sizes: &mut Sizes, what: &ScoreWhat) -> Result<(), AllocError>
         ≡ option_or (get nat_eq sizes.old n) (size_for n (Ok what.now))) }
 {
     match what {
-        ScoreWhat::Table { number, size, .. } => keep_first(sizes, *number, *size),
+        ScoreWhat::Table { number, size, .. } if first_size(sizes, *number).is_none() => {
+            sizes.insert(*number, *size)?;
+            Ok(())
+        }
         _ => Ok(()),
     }
-}
-
-fn keep_first(sizes: &mut Sizes, number: u32, size: i64) -> Result<(), AllocError>
-    ensures { OnOk result ((n : ℕ) → get nat_eq sizes.new n
-        ≡ option_or (get nat_eq sizes.old n) (if number == n then Some size else None)) }
-{
-    if first_size(sizes, number).is_none() {
-        sizes.insert(number, size)?;
-    }
-    Ok(())
 }

@@ -1,19 +1,17 @@
 // An `f` statement, and the base that a `b` gives.
-ghost use Rattle.std.specs.Prelude.{◌≡◌, ◌<◌, Some, None, Ok, IfOk, nat_eq, ◌==◌};
+ghost use Rattle.std.specs.Prelude.{◌≡◌, ◌<◌, Some, None, Ok, IfOk, nat_eq};
 ghost use Rattle.std.specs.HashMap.{get};
 ghost use Rattle.cs_base.specs.declared.fault.ScoreKind.TheVariants.{BadNumber};
-ghost use Rattle.cs_gen.specs.Faults.{table_fault};
-ghost use Rattle.cs_score.specs.Ranges.{beats_end, IsTableNumber};
-ghost use Rattle.cs_score.specs.Statements.{time_of, time_at, as_whole, whole_at, as_table_number, table_number_at};
-ghost use Rattle.cs_score.specs.Statements.{extend_of, table_by, written_table, is_other_size, table_refusal};
-ghost use Rattle.cs_score.specs.Statements.{refusal_of, base_by};
+ghost use Rattle.cs_score.specs.{Ranges.beats_end, Ranges.IsTableNumber, Statements.refusal_of, Statements.base_by};
+ghost use Rattle.cs_score.specs.Statements.{time_of, time_at, whole_at, as_table_number, table_number_at};
+ghost use Rattle.cs_score.specs.Statements.{table_by, written_table, is_other_size, table_refusal};
 ghost use Rattle.cs_score.specs.inner.State.{Answers, HasWrittenRange};
 
 use crate::ScoreWhat;
 use crate::field::{Field, Signed};
 use crate::note::{BEATS_END, rest, time, values};
 use crate::statement_fault::StatementFault;
-use cs_base::{GREATEST_TABLE, Nums, ScoreKind};
+use cs_base::{GREATEST_TABLE, ScoreKind};
 use cs_gen::{GenFault, check_table};
 use std::alloc::Global;
 use std::collections::HashMap;
@@ -45,23 +43,20 @@ fn time_at(fields: &[Field], k: usize) -> Result<u64, ScoreKind>
     }
 }
 
+// A size or a GEN.
 fn whole_at(fields: &[Field], k: usize) -> Result<i64, ScoreKind>
     ensures { result ≡ whole_at fields.now k }
 {
     match fields.get(k) {
         None => Ok(0),
-        Some(field) => whole(field.number(ScoreKind::BadNumber)?),
-    }
-}
-
-// A size or a GEN.
-fn whole(n: Signed) -> Result<i64, ScoreKind>
-    ensures { result ≡ as_whole n }
-{
-    if n.is_whole() {
-        Ok(n.whole())
-    } else {
-        Err(ScoreKind::BadNumber)
+        Some(field) => {
+            let n = field.number(ScoreKind::BadNumber)?;
+            if n.is_whole() {
+                Ok(n.whole())
+            } else {
+                Err(ScoreKind::BadNumber)
+            }
+        }
     }
 }
 
@@ -96,21 +91,13 @@ pub fn written_table(alloc: Global, fields: &[Field]) -> Result<ScoreWhat, State
     ensures range { IfOk result HasWrittenRange }
 {
     let number = table_number_at(fields)?;
-    if number == 0 {
-        Ok(extend(fields)?)
-    } else {
-        table(alloc, number, fields)
+    if number != 0 {
+        return table(alloc, number, fields);
     }
-}
-
-// `f 0 time`: its further fields aren't looked at.
-fn extend(fields: &[Field]) -> Result<ScoreWhat, ScoreKind>
-    ensures value { result ≡ extend_of fields.now }
-    ensures range { IfOk result HasWrittenRange }
-{
+    // The further fields of `f 0 time` aren't looked at.
     let at = time_at(fields, 1)?;
     if fields.len() < 2 {
-        return Err(ScoreKind::MissingField);
+        return Err(ScoreKind::MissingField.into());
     }
     Ok(ScoreWhat::Extend { at })
 }
@@ -149,19 +136,10 @@ pub fn refusal(sizes: &Sizes, what: &ScoreWhat) -> Option<ScoreKind>
             args,
             ..
         } => table_refusal(
-            fault(*size, *gen_, args),
+            check_table(*size, *gen_, args.as_slice()).err(),
             is_other_size(first_size(sizes, *number), *size),
         ),
         _ => None,
-    }
-}
-
-fn fault(size: i64, gen_: i64, args: &Nums) -> Option<GenFault>
-    ensures { result ≡ table_fault size gen_ args.now }
-{
-    match check_table(size, gen_, args.as_slice()) {
-        Ok(()) => None,
-        Err(fault) => Some(fault),
     }
 }
 

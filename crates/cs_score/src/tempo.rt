@@ -1,8 +1,7 @@
 // A `t` statement: pairs of beat and tempo.
 ghost use Rattle.std.specs.Prelude.{◌≡◌, ◌<◌, None, IfOk, length};
-ghost use Rattle.cs_score.specs.Ranges.{AreTempoPoints, HasRange};
+ghost use Rattle.cs_score.specs.{Ranges.AreTempoPoints, Ranges.HasRange, inner.State.Answers};
 ghost use Rattle.cs_score.specs.Statements.{follows, as_beat, as_tempo, points_of, tempo_of};
-ghost use Rattle.cs_score.specs.inner.State.{Answers};
 
 use crate::field::{Field, Signed};
 use crate::note::BEATS_END;

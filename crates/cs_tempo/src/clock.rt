@@ -2,8 +2,7 @@
 ghost use Rattle.std.specs.Prelude.{◌≡◌, ◌≤◌, ◌<◌, ◌+◌, ◌-◌, ◌*◌, ◌^◌, length, IfOk};
 ghost use Rattle.cs_score.specs.Ranges.{beats_end};
 ghost use Rattle.cs_tempo.specs.Time.{time_along, time_of, IsTempo, Rises};
-ghost use Rattle.cs_tempo.specs.inner.Clock.{point_at, AreTimes};
-ghost use Rattle.cs_tempo.specs.Sections.{cycle_at};
+ghost use Rattle.cs_tempo.specs.{inner.Clock.point_at, inner.Clock.AreTimes, Sections.cycle_at};
 
 use crate::time::{beat_time, cycle_of, first_part};
 use cs_base::{Head, OutOfMemory};

@@ -1,19 +1,16 @@
 // The events of a section, at their control cycles.
-ghost use Rattle.std.specs.Prelude.{◌≡◌, ℕ, List, ◌≤◌, ◌<◌, ◌+◌, ◌-◌, ◌*◌, ◌^◌, ◌++◌, [], map, length, pos, IfOk};
-ghost use Rattle.std.specs.Prelude.{OnOk, IfSome};
-ghost use Rattle.std.specs.List.{All};
+ghost use Rattle.std.specs.Prelude.{◌≡◌, ℕ, List, ◌≤◌, ◌<◌, ◌+◌, ◌-◌, ◌*◌, ◌^◌, ◌++◌, [], map, length, pos, IfOk, OnOk};
+ghost use Rattle.std.specs.{Prelude.IfSome, List.All};
 ghost use Rattle.cs_score.specs.Ranges.{IsInRange, HasRange, IsInstrument, beats_end};
-ghost use Rattle.cs_tempo.specs.Time.{seconds_of};
+ghost use Rattle.cs_tempo.specs.{Time.seconds_of, Order.beat_of, Order.in_order, declared.plot.EventAct.EventAct};
 ghost use Rattle.cs_tempo.specs.Sections.{reach_of, end_of, cycle_at};
-ghost use Rattle.cs_tempo.specs.Order.{beat_of, in_order};
-ghost use Rattle.cs_tempo.specs.declared.plot.EventAct.{EventAct};
 ghost use Rattle.cs_tempo.specs.Plot.{fields_of, length_in_seconds, held_until, acts_of, events_along};
 ghost use Rattle.cs_tempo.specs.inner.Events.{in_section, HasEnd, IsTurnIn, Acts};
 
 use crate::clock::Clock;
 use crate::fields::NoteFields;
 use crate::order::in_order;
-use crate::pairing::{StopsByInstrument, stops_by_instrument, take_turn};
+use crate::pairing::{stops_by_instrument, take_turn};
 use crate::plot::{Event, EventAct};
 use crate::section::end_of;
 use crate::time::seconds_of;
@@ -32,8 +29,7 @@ pub fn add_section(
     events: &mut Vec<Event>,
 ) -> Result<(), OutOfMemory>
     requires range { All IsInRange section.now }
-    requires reach { All (λ s. reach_of clock.now.head clock.now.tempo s.what ≤ cycles)
-        section.now }
+    requires reach { All (λ s. reach_of clock.now.head clock.now.tempo s.what ≤ cycles) section.now }
     requires short { offset + cycles ≤ 2 ^ 30 }
     ensures { OnOk result (events.new.items
         ≡ events.old.items
@@ -103,9 +99,7 @@ fn beat_of(what: &ScoreWhat) -> u64
         ScoreWhat::Hold { at, .. } => *at,
         ScoreWhat::Stop { at, .. } => *at,
         ScoreWhat::Table { at, .. } => *at,
-        ScoreWhat::Extend { .. } => 0,
-        ScoreWhat::Tempo { .. } => 0,
-        ScoreWhat::Section => 0,
+        _ => 0,
     }
 }
 
@@ -158,10 +152,7 @@ fn act_of(
             gen_: *gen_,
             args: args.to_items(alloc)?,
         })),
-        ScoreWhat::Stop { .. } => Ok(None),
-        ScoreWhat::Extend { .. } => Ok(None),
-        ScoreWhat::Tempo { .. } => Ok(None),
-        ScoreWhat::Section => Ok(None),
+        _ => Ok(None),
     }
 }
 

@@ -1,33 +1,23 @@
 // What holds of the definitions for every score: calls that do nothing, whose contracts are the laws.
 ghost use Rattle.std.specs.Prelude.{false, ◌≡◌, ◌≤◌, ◌+◌, ◌*◌, ◌/◌, ◌^◌, ℕ, List, [], ◌∷◌, Some, None, ℤ, pos, negsuc};
-ghost use Rattle.std.specs.Prelude.{◌+ℤ◌, ◌-ℤ◌, ◌*ℤ◌};
-ghost use Rattle.std.specs.List.{All, AllPairs, filter};
-ghost use Rattle.std.specs.Ordering.{is_eq, is_lt};
-ghost use Rattle.std.specs.List.Sorted.{IsNonDecreasingBy};
-ghost use Rattle.cs_base.specs.Numbers.{floor_div};
-ghost use Rattle.cs_base.specs.declared.head.Head.{Head};
-ghost use Rattle.cs_score.specs.Ranges.{IsInRange};
+ghost use Rattle.std.specs.{Prelude.◌+ℤ◌, Prelude.◌-ℤ◌, Prelude.◌*ℤ◌, List.All, List.AllPairs, List.filter};
+ghost use Rattle.std.specs.{Ordering.is_eq, Ordering.is_lt, List.Sorted.IsNonDecreasingBy};
+ghost use Rattle.cs_base.specs.{Numbers.floor_div, declared.head.Head.Head};
+ghost use Rattle.cs_score.specs.{Ranges.IsInRange, declared.statement.ScoreStmt.ScoreStmt};
 ghost use Rattle.cs_score.specs.declared.statement.TempoPoint.{TempoPoint};
-ghost use Rattle.cs_score.specs.declared.statement.ScoreStmt.{ScoreStmt};
 ghost use Rattle.cs_tempo.specs.Time.{IsTempo, ramp_time, time_of, cycle_of, seconds_of};
 ghost use Rattle.cs_score.specs.declared.statement.ScoreWhat.TheVariants as ScoreWhat;
-ghost use Rattle.cs_tempo.specs.Pairing.{ending_stop};
+ghost use Rattle.cs_tempo.specs.{Pairing.ending_stop, Order.has_turn, Order.in_order, Order.order_of, Plot.plot_of};
 ghost use Rattle.cs_score.specs.Worked.{at_line, held_note, note, stop, table, whole};
-ghost use Rattle.cs_tempo.specs.Order.{has_turn, in_order, order_of};
-ghost use Rattle.cs_tempo.specs.Plot.{plot_of};
 ghost use Rattle.cs_tempo.specs.Worked.{held_at, stop_at, two_sections};
 ghost use Rattle.cs_tempo.specs.declared.plot.EventAct.TheVariants as act;
-ghost use Rattle.cs_tempo.specs.Limits.{cycles_in, limit_of};
-ghost use Rattle.cs_tempo.specs.Performable.{IsPerformable};
+ghost use Rattle.cs_tempo.specs.{Limits.cycles_in, Limits.limit_of, Performable.IsPerformable};
 
-/// The time of a beat never falls as the beat grows, nor does the cycle of a time; a beat lasts a minute
-/// at most.
+/// The time of a beat never falls as the beat grows, nor does the cycle of a time; a beat lasts a minute at most.
 pub fn time_never_falls()
-    ensures time { (tempo : List TempoPoint) (a b : ℕ) → IsTempo tempo
-        → a ≤ b → time_of tempo a ≤ time_of tempo b }
+    ensures time { (tempo : List TempoPoint) (a b : ℕ) → IsTempo tempo → a ≤ b → time_of tempo a ≤ time_of tempo b }
     ensures cycle { (a b sr ksmps : ℕ) → a ≤ b → cycle_of a sr ksmps ≤ cycle_of b sr ksmps }
-    ensures small { (tempo : List TempoPoint) (beat : ℕ) → IsTempo tempo
-        → time_of tempo beat ≤ 60000 * beat }
+    ensures small { (tempo : List TempoPoint) (beat : ℕ) → IsTempo tempo → time_of tempo beat ≤ 60000 * beat }
 {}
 
 /// The time along a ramp is its formula over whole numbers with a sign, each part rounded down: that is never below 0.
@@ -90,7 +80,7 @@ pub fn pairings_worked_by_hand()
         (stop_at 3 ∷ stop_at 4 ∷ stop_at 5 ∷ []) ≡ Some 4 }
 {}
 
-/// The order of docs/MEANING.md, computed: at one beat tables, then by p1 (a stop's is negative), then by p3 (a held
+/// The order of docs/LANGUAGE.md, computed: at one beat tables, then by p1 (a stop's is negative), then by p3 (a held
 /// note's is the number as given); an earlier beat comes first, and what is equal keeps the order of the text.
 pub fn orders_worked_by_hand()
     ensures at_one_beat { in_order (note 1 0 5 ∷ held_note 2 0 5 ∷ stop 3 0 ∷ table 4 (negsuc 1) [] ∷ [])

@@ -36,8 +36,7 @@ pub fn in_order(alloc: Global, section: &[ScoreStmt]) -> Result<Vec<&ScoreStmt>,
 
 fn sorted_turns(alloc: Global, section: &[ScoreStmt]) -> Result<Vec<SortKey>, OutOfMemory>
     requires { All IsInRange section.now }
-    ensures sorted { IfOk result (λ turns. turns.items
-        ≡ sorted turn_order (turns_from 0 section.now)) }
+    ensures sorted { IfOk result (λ turns. turns.items ≡ sorted turn_order (turns_from 0 section.now)) }
     ensures within { IfOk result (λ turns. All (λ t. t.index < length section.now) turns.items) }
 {
     let mut turns = turns_of(alloc, section)?;

@@ -1,10 +1,9 @@
 // Pairs the stops of a section with its held notes, by instrument.
-ghost use Rattle.std.specs.Prelude.{◌≡◌, ◌≢◌, ◌==◌, ℕ, List, ◌+◌, ◌-◌, ◌<◌, ◌^◌, ◌++◌, ◌∷◌, [], map, drop, length};
-ghost use Rattle.std.specs.Prelude.{slice_get, nat_eq, IfOk, OnOk, Option, Some, None, if◌then◌else◌};
+ghost use Rattle.std.specs.Prelude.{◌≡◌, ℕ, List, ◌+◌, ◌-◌, ◌<◌, ◌^◌, ◌++◌, ◌∷◌, [], map, drop, length};
+ghost use Rattle.std.specs.Prelude.{slice_get, nat_eq, IfOk, OnOk, Option, Some, None};
 ghost use Rattle.std.specs.HashMap.{get};
 ghost use Rattle.cs_tempo.specs.inner.Counted.{own_stop, sounding, sounding_after};
-ghost use Rattle.cs_tempo.specs.inner.Stops.{Shows, AreQueues, ending};
-ghost use Rattle.cs_tempo.specs.inner.Queue.{Queue};
+ghost use Rattle.cs_tempo.specs.{inner.Stops.Shows, inner.Stops.AreQueues, inner.Stops.ending, inner.Queue.Queue};
 
 use cs_base::OutOfMemory;
 use cs_score::{ScoreStmt, ScoreWhat};
@@ -99,46 +98,11 @@ fn add_own_stop(
         → Shows (get nat_eq queues.new n) (stops ++ own_stop n what.now) 0) }
 {
     match what {
-        ScoreWhat::Stop { instr, at } => add_stop(queues, alloc, *instr, *at),
+        ScoreWhat::Stop { instr, at } => {
+            let stops = queues.entry(*instr)?.or_insert(Stops::new(alloc));
+            stops.push(*at)
+        }
         _ => Ok(()),
-    }
-}
-
-fn add_stop(
-    queues: &mut StopsByInstrument,
-    alloc: Global,
-    instr: u32,
-    at: u64,
-) -> Result<(), OutOfMemory>
-    ensures { OnOk result ((n : ℕ) (stops : List ℕ) → Shows (get nat_eq queues.old n) stops 0
-        → Shows (get nat_eq queues.new n) (stops ++ (if n == instr then at ∷ [] else [])) 0) }
-{
-    queues.entry(instr)?.or_insert(Stops::new(alloc)).push(at)
-}
-
-/// A held note starts: the beat of the stop that ends it, where one does.
-pub fn hold(queues: &mut StopsByInstrument, instr: u32) -> Option<u64>
-    requires { (queue : Queue) → get nat_eq queues.old instr ≡ Some queue → queue.sounding < 2 ^ 63 }
-    ensures stop { (stops : List ℕ) (sounding : ℕ) → Shows (get nat_eq queues.old instr) stops sounding
-        → result ≡ slice_get stops sounding }
-    ensures own { (stops : List ℕ) (sounding : ℕ) → Shows (get nat_eq queues.old instr) stops sounding
-        → Shows (get nat_eq queues.new instr) stops (sounding + 1) }
-    ensures others { (n : ℕ) → n ≢ instr → get nat_eq queues.new n ≡ get nat_eq queues.old n }
-{
-    match queues.get_mut(&instr) {
-        Some(stops) => stops.hold(),
-        None => None,
-    }
-}
-
-/// A stop comes.
-pub fn pass(queues: &mut StopsByInstrument, instr: u32)
-    ensures own { (stops : List ℕ) (sounding : ℕ) → Shows (get nat_eq queues.old instr) stops sounding
-        → Shows (get nat_eq queues.new instr) (drop 1 stops) (sounding - 1) }
-    ensures others { (n : ℕ) → n ≢ instr → get nat_eq queues.new n ≡ get nat_eq queues.old n }
-{
-    if let Some(stops) = queues.get_mut(&instr) {
-        stops.pass();
     }
 }
 
@@ -153,15 +117,13 @@ pub fn take_turn(queues: &mut StopsByInstrument, what: &ScoreWhat) -> Option<u64
         → Shows (get nat_eq queues.new n) stops (sounding_after n what.now sounding) }
 {
     match what {
-        ScoreWhat::Hold { instr, .. } => hold(queues, *instr),
+        ScoreWhat::Hold { instr, .. } => queues.get_mut(instr)?.hold(),
         ScoreWhat::Stop { instr, .. } => {
-            pass(queues, *instr);
+            if let Some(stops) = queues.get_mut(instr) {
+                stops.pass();
+            }
             None
         }
-        ScoreWhat::Note { .. } => None,
-        ScoreWhat::Table { .. } => None,
-        ScoreWhat::Extend { .. } => None,
-        ScoreWhat::Tempo { .. } => None,
-        ScoreWhat::Section => None,
+        _ => None,
     }
 }

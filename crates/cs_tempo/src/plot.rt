@@ -5,9 +5,8 @@ use cs_base::{Items, Nums};
 /// What an event does.
 #[derive(Drop)]
 pub enum EventAct {
-    /// Starts a note of instrument `instr` that lasts `cycles` control cycles; 0 is its initialisation
-    /// pass alone, where its p3 is 0. `fields` are p1 onward, with p2 and p3 in seconds, or p3 as it was
-    /// given for a held note.
+    /// Starts a note of instrument `instr` that lasts `cycles` control cycles; 0 is its initialisation pass alone,
+    /// where its p3 is 0. `fields` are p1 onward, with p2 and p3 in seconds, or p3 as it was given for a held note.
     Start {
         instr: u32,
         cycles: u32,

@@ -3,13 +3,10 @@ ghost use Rattle.std.specs.Prelude.{◌≡◌, ◌≤◌, ◌<◌, ◌+◌, ◌^
 ghost use Rattle.std.specs.List.{All};
 ghost use Rattle.cs_base.specs.declared.limit.LimitHit.{LimitHit};
 ghost use Rattle.cs_base.specs.declared.fault.Or.TheVariants as or;
-ghost use Rattle.cs_score.specs.Ranges.{IsInRange};
-ghost use Rattle.cs_tempo.specs.Sections.{length_of, sections_of};
-ghost use Rattle.cs_tempo.specs.Order.{in_order};
+ghost use Rattle.cs_score.specs.{Ranges.IsInRange, Limits.limit_of_score};
+ghost use Rattle.cs_tempo.specs.{Sections.length_of, Sections.sections_of, Order.in_order, Performable.IsPerformable};
 ghost use Rattle.cs_tempo.specs.Plot.{setting_of, events_along, events_from, plot_of_sections, plot_of};
-ghost use Rattle.cs_score.specs.Limits.{limit_of_score};
 ghost use Rattle.cs_tempo.specs.Limits.{limit_of_sections, limit_of};
-ghost use Rattle.cs_tempo.specs.Performable.{IsPerformable};
 
 use crate::active::note_hit;
 use crate::clock::Clock;
@@ -29,8 +26,7 @@ pub fn schedule(alloc: Global, score: &ScoreStmts, head: &Head) -> Result<Plot, 
     ensures plot { IfOk result (λ plot. plot ≡ plot_of head.now score.now) }
     ensures performable { IfOk result (IsPerformable head.now) }
     ensures within { OnOk result (limit_of head.now score.now ≡ None) }
-    ensures limit { (hit : LimitHit) → result ≡ Err (or.Fault hit)
-        → limit_of head.now score.now ≡ Some hit }
+    ensures limit { (hit : LimitHit) → result ≡ Err (or.Fault hit) → limit_of head.now score.now ≡ Some hit }
 {
     plot_sections(alloc, head, score.as_slice())
 }

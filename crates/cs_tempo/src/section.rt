@@ -81,8 +81,7 @@ fn reach_of(clock: &Clock, what: &ScoreWhat) -> u64
         ScoreWhat::Stop { at, .. } => clock.cycle(*at),
         ScoreWhat::Table { at, .. } => clock.cycle(*at),
         ScoreWhat::Extend { at } => clock.cycle(*at),
-        ScoreWhat::Tempo { .. } => 0,
-        ScoreWhat::Section => 0,
+        ScoreWhat::Tempo { .. } | ScoreWhat::Section => 0,
     }
 }
 

@@ -1,17 +1,14 @@
 // The time that beats take along a tempo, and the control cycle of a time.
 ghost use Rattle.std.specs.Prelude.{◌≡◌, ◌≤◌, ◌<◌, ◌*◌, ◌+◌, ◌-◌, ◌^◌, ◌/◌, drop, pos};
-ghost use Rattle.cs_base.specs.Limits.{greatest_ksmps, greatest_sr};
-ghost use Rattle.cs_base.specs.Numbers.{IsRaw};
-ghost use Rattle.cs_score.specs.Ranges.{beats_end};
-ghost use Rattle.cs_score.specs.declared.statement.TempoPoint.{TempoPoint};
+ghost use Rattle.cs_base.specs.{Limits.greatest_ksmps, Limits.greatest_sr, Numbers.IsRaw};
+ghost use Rattle.cs_score.specs.{Ranges.beats_end, declared.statement.TempoPoint.TempoPoint};
 ghost use Rattle.cs_tempo.specs.inner.Ramps.{rounded_up};
 ghost use Rattle.cs_tempo.specs.Time.{beat_length, ramp_time, time_along, time_of, Rises, cycle_of, seconds_of};
 
 use cs_base::ONE;
 use cs_score::TempoPoint;
 
-/// The control cycle of a time in nanoseconds, rounded half up, at `sr` frames a second and `ksmps`
-/// frames a cycle.
+/// The control cycle of a time in nanoseconds, rounded half up, at `sr` frames a second and `ksmps` frames a cycle.
 #[tactic(auto, unfolding(crate::specs::Time::cycle_of))]
 pub fn cycle_of(ns: u64, sr: u32, ksmps: u32) -> u64
     requires sr { (1 ≤ sr) × (sr ≤ greatest_sr) }
@@ -99,8 +96,7 @@ fn steady_time(length: u64, x: u64) -> u64
     (u128::from(length) * u128::from(x) / 1_000_000) as u64
 }
 
-// The time at `x` millionths into a ramp of `span` millionths, along which a beat's length goes from
-// `first` to `last`.
+// The time at `x` millionths into a ramp of `span` millionths, along which a beat's length goes from `first` to `last`.
 fn ramp_time(first: u64, last: u64, span: u64, x: u64) -> u64
     requires first { (1000000 ≤ first) × (first ≤ 60000000000) }
     requires last { (1000000 ≤ last) × (last ≤ 60000000000) }

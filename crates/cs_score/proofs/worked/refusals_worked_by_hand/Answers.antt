@@ -5,15 +5,15 @@ use Rattle.cs_score.proofs.worked.refusals_worked_by_hand.Goals as goal
 
 pub returns-clause-bad_statement : goal.returns-clause-bad_statement
 unfolding score_of table_fault is_size lengths is_gen has_negative_length
-returns-clause-bad_statement c = (refl, refl)
+returns-clause-bad_statement c = (refl, (refl, tt))
 
 pub returns-clause-bad_number : goal.returns-clause-bad_number
 unfolding score_of table_fault is_size lengths is_gen has_negative_length
-returns-clause-bad_number c = (refl, refl, refl, refl, refl, refl)
+returns-clause-bad_number c = (refl, (refl, (refl, (refl, (refl, (refl, tt))))))
 
 pub returns-clause-missing_field : goal.returns-clause-missing_field
 unfolding score_of table_fault is_size lengths is_gen has_negative_length
-returns-clause-missing_field c = (refl, refl, refl, refl, refl)
+returns-clause-missing_field c = (refl, (refl, (refl, (refl, (refl, tt)))))
 
 pub returns-clause-nothing_to_carry : goal.returns-clause-nothing_to_carry
 unfolding score_of table_fault is_size lengths is_gen has_negative_length
@@ -21,7 +21,7 @@ returns-clause-nothing_to_carry c = refl
 
 pub returns-clause-bad_tempo : goal.returns-clause-bad_tempo
 unfolding score_of table_fault is_size lengths is_gen has_negative_length
-returns-clause-bad_tempo c = (refl, refl)
+returns-clause-bad_tempo c = (refl, (refl, tt))
 
 pub returns-clause-bad_gen : goal.returns-clause-bad_gen
 unfolding score_of table_fault is_size lengths is_gen has_negative_length
@@ -37,8 +37,8 @@ returns-clause-resized c = refl
 
 pub returns-clause-negative_time : goal.returns-clause-negative_time
 unfolding score_of table_fault is_size lengths is_gen has_negative_length
-returns-clause-negative_time c = (refl, refl)
+returns-clause-negative_time c = (refl, (refl, tt))
 
 pub returns-clause-not_in_profile : goal.returns-clause-not_in_profile
 unfolding score_of table_fault is_size lengths is_gen has_negative_length
-returns-clause-not_in_profile c = (refl, refl, refl, refl, refl, refl)
+returns-clause-not_in_profile c = (refl, (refl, (refl, (refl, (refl, (refl, tt))))))
