@@ -1,11 +1,8 @@
 // Definitions of opcodes.
 ghost use Rattle.std.specs.Prelude.{◌≡◌, ◌≤◌, [], List, Ok, IfOk, IfErr, length};
 ghost use Rattle.cs_base.specs.declared.fault.Or.TheVariants as or;
-ghost use Rattle.cs_grammar.specs.Symbols.{Symbol};
+ghost use Rattle.cs_grammar.specs.{Symbols.Symbol, Headings.heading, Tree.definition, Orchestra.ReadsDefinition};
 ghost use Rattle.cs_grammar.specs.Reading.{after, in_definition, next};
-ghost use Rattle.cs_grammar.specs.Headings.{heading};
-ghost use Rattle.cs_grammar.specs.Tree.{definition};
-ghost use Rattle.cs_grammar.specs.Orchestra.{ReadsDefinition};
 ghost use Rattle.cs_grammar.specs.inner.Answers.{Gives, IsInside, IsLines, inside, of_inside};
 
 use crate::heading::Heading;
@@ -69,8 +66,7 @@ impl<'s> Parser<'s> {
         head: &Heading,
         defined: &NameSet<'s>,
     ) -> Result<Inside, Or<OrcFault>>
-        ensures reads { Gives inside result self.new
-            (IsLines scope.now defined.now head.now self.old) }
+        ensures reads { Gives inside result self.new (IsLines scope.now defined.now head.now self.old) }
         ensures goes { length self.new ≤ length self.old }
     {
         let lines = self.inside(scope, head)?;

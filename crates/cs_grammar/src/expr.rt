@@ -5,15 +5,12 @@ ghost use Rattle.cs_base.specs.declared.fault.Or.TheVariants as or;
 ghost use Rattle.cs_base.specs.declared.fault.OrcKind.TheVariants as orc;
 ghost use Rattle.cs_grammar.specs.declared.expr.Level.TheVariants as at;
 ghost use Rattle.cs_grammar.specs.declared.expr.PartForm.TheVariants as part;
-ghost use Rattle.cs_grammar.specs.Tree.{expression, neg, pair, pick, apply};
-ghost use Rattle.cs_grammar.specs.Symbols.{Symbol};
+ghost use Rattle.cs_grammar.specs.{Tree.expression, Tree.neg, Tree.pair, Tree.pick, Tree.apply, Symbols.Symbol};
 ghost use Rattle.cs_grammar.specs.declared.symbol.Expected.TheVariants as expected;
 ghost use Rattle.cs_grammar.specs.declared.symbol.Kind.TheVariants as kind;
-ghost use Rattle.cs_grammar.specs.Reading.{next, after, next_is};
+ghost use Rattle.cs_grammar.specs.{Reading.next, Reading.after, Reading.next_is, Parts.one_symbol, Parts.atom};
+ghost use Rattle.cs_grammar.specs.{inner.Answers.Gives, inner.Answers.IsClosed, Grammar.ReadsExpr, Grammar.ReadsTail};
 ghost use Rattle.cs_grammar.specs.Parts.{tighter, rank, is_at, repeats, operator_of, part_form, part_form_of, no_part};
-ghost use Rattle.cs_grammar.specs.Parts.{one_symbol, atom};
-ghost use Rattle.cs_grammar.specs.inner.Answers.{Gives, IsClosed};
-ghost use Rattle.cs_grammar.specs.Grammar.{ReadsExpr, ReadsTail};
 
 use crate::parser::Parser;
 use crate::scope::Scope;
@@ -140,8 +137,7 @@ impl<'s> Parser<'s> {
 
     // What the next symbol is as an expression.
     fn single(&self, scope: &Scope) -> Result<Expr, Or<OrcFault>>
-        ensures { Gives expression result (after self.now)
-            (λ o. o ≡ one_symbol scope.now self.now) }
+        ensures { Gives expression result (after self.now) (λ o. o ≡ one_symbol scope.now self.now) }
     {
         match self.kind() {
             Kind::Number(value) => Ok(Expr::Number(value)),
@@ -152,8 +148,7 @@ impl<'s> Parser<'s> {
 
     fn word(&self, scope: &Scope, word: Word) -> Result<Expr, Or<OrcFault>>
         requires { (next self.now).kind ≡ kind.Word word }
-        ensures { Gives expression result (after self.now)
-            (λ o. o ≡ one_symbol scope.now self.now) }
+        ensures { Gives expression result (after self.now) (λ o. o ≡ one_symbol scope.now self.now) }
     {
         match word {
             Word::Field(number) => Ok(Expr::Field(number)),
@@ -189,8 +184,7 @@ impl<'s> Parser<'s> {
         first: Expr,
     ) -> Result<Expr, Or<OrcFault>>
         requires { tighter level ≡ Some inner }
-        ensures reads { Gives expression result self.new
-            (ReadsTail scope.now level (Ok (expression first, self.old))) }
+        ensures reads { Gives expression result self.new (ReadsTail scope.now level (Ok (expression first, self.old))) }
         ensures goes { length self.new ≤ length self.old }
     {
         let mut left = first;
@@ -207,8 +201,7 @@ impl<'s> Parser<'s> {
 
     /// The operator of two operands.
     pub fn pair(&self, op: BinOp, left: Expr, right: Expr) -> Result<Expr, Or<OrcFault>>
-        ensures value { IfOk result (λ e. expression e
-            ≡ pair op (expression left) (expression right)) }
+        ensures value { IfOk result (λ e. expression e ≡ pair op (expression left) (expression right)) }
         ensures memory { IfErr result (λ e. e ≡ or.OutOfMemory) }
     {
         let (left, right) = self.boxes(left, right)?;
@@ -239,8 +232,7 @@ impl<'s> Parser<'s> {
     }
 
     fn picked(&self, cond: Expr, yes: Expr, no: Expr) -> Result<Expr, Or<OrcFault>>
-        ensures value { IfOk result (λ e. expression e
-            ≡ pick (expression cond) (expression yes) (expression no)) }
+        ensures value { IfOk result (λ e. expression e ≡ pick (expression cond) (expression yes) (expression no)) }
         ensures memory { IfErr result (λ e. e ≡ or.OutOfMemory) }
     {
         let (yes, no) = self.boxes(yes, no)?;
@@ -249,8 +241,7 @@ impl<'s> Parser<'s> {
 
     #[cycle(expr)]
     fn fact(&mut self, scope: &Scope) -> Result<Expr, Or<OrcFault>>
-        ensures reads { Gives expression result self.new
-            (ReadsExpr scope.now at.Fact (Ok self.old)) }
+        ensures reads { Gives expression result self.new (ReadsExpr scope.now at.Fact (Ok self.old)) }
         ensures goes { length self.new ≤ length self.old }
     {
         match self.part_form() {
@@ -264,8 +255,7 @@ impl<'s> Parser<'s> {
     #[cycle(expr)]
     fn negation(&mut self, scope: &Scope) -> Result<Expr, Or<OrcFault>>
         requires { part_form self.old ≡ part.Minus }
-        ensures reads { Gives expression result self.new
-            (ReadsExpr scope.now at.Fact (Ok self.old)) }
+        ensures reads { Gives expression result self.new (ReadsExpr scope.now at.Fact (Ok self.old)) }
         ensures goes { length self.new ≤ length self.old }
     {
         self.skip();
@@ -276,8 +266,7 @@ impl<'s> Parser<'s> {
     #[cycle(expr)]
     fn function(&mut self, scope: &Scope, func: Func) -> Result<Expr, Or<OrcFault>>
         requires { part_form self.old ≡ part.Function func }
-        ensures reads { Gives expression result self.new
-            (ReadsExpr scope.now at.Fact (Ok self.old)) }
+        ensures reads { Gives expression result self.new (ReadsExpr scope.now at.Fact (Ok self.old)) }
         ensures goes { length self.new ≤ length self.old }
     {
         self.skip();
@@ -300,8 +289,7 @@ impl<'s> Parser<'s> {
     #[cycle(expr)]
     fn bracket(&mut self, scope: &Scope) -> Result<Expr, Or<OrcFault>>
         requires { part_form self.old ≡ part.Bracket }
-        ensures reads { Gives expression result self.new
-            (ReadsExpr scope.now at.Fact (Ok self.old)) }
+        ensures reads { Gives expression result self.new (ReadsExpr scope.now at.Fact (Ok self.old)) }
         ensures goes { length self.new ≤ length self.old }
     {
         self.skip();

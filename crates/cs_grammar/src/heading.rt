@@ -1,11 +1,9 @@
 // The line of `opcode`.
 ghost use Rattle.std.specs.Prelude.{◌≡◌, ◌≤◌, Ok, IfOk, length, map, true, false};
 ghost use Rattle.std.specs.List.{list_all};
-ghost use Rattle.cs_words.specs.Names.{is_rate_letter, letter_rate};
-ghost use Rattle.cs_words.specs.NameSets.{has};
+ghost use Rattle.cs_words.specs.{Names.is_rate_letter, Names.letter_rate, NameSets.has};
 ghost use Rattle.cs_grammar.specs.declared.symbol.Kind.TheVariants as kind;
-ghost use Rattle.cs_grammar.specs.Kinds.{is_word, may_be_opcode};
-ghost use Rattle.cs_grammar.specs.Reading.{next, after};
+ghost use Rattle.cs_grammar.specs.{Kinds.is_word, Kinds.may_be_opcode, Reading.next, Reading.after};
 ghost use Rattle.cs_grammar.specs.Headings.{heading, new_name, types, types_at};
 ghost use Rattle.cs_grammar.specs.inner.Answers.{Gives, signature};
 
@@ -110,8 +108,7 @@ impl<'s> Parser<'s> {
 
     // The rates of results or inputs: a word of the letters a, k and i, or 0 for none.
     fn types(&mut self, scope: &Scope) -> Result<Rates, Or<OrcFault>>
-        ensures reads { Gives (λ rates. rates) result self.new
-            (λ o. o ≡ types scope.now (Ok self.old)) }
+        ensures reads { Gives (λ rates. rates) result self.new (λ o. o ≡ types scope.now (Ok self.old)) }
         ensures goes { length self.new ≤ length self.old }
     {
         match self.kind() {
@@ -123,8 +120,7 @@ impl<'s> Parser<'s> {
 
     fn no_types(&mut self, scope: &Scope, value: Num) -> Result<Rates, Or<OrcFault>>
         requires { (next self.old).kind ≡ kind.Number value }
-        ensures reads { Gives (λ rates. rates) result self.new
-            (λ o. o ≡ types_at scope.now self.old) }
+        ensures reads { Gives (λ rates. rates) result self.new (λ o. o ≡ types_at scope.now self.old) }
         ensures goes { length self.new ≤ length self.old }
     {
         if value.raw() != 0 {
@@ -136,8 +132,7 @@ impl<'s> Parser<'s> {
 
     fn letters(&mut self, scope: &Scope) -> Result<Rates, Or<OrcFault>>
         requires { is_word (next self.old).kind ≡ true }
-        ensures reads { Gives (λ rates. rates) result self.new
-            (λ o. o ≡ types_at scope.now self.old) }
+        ensures reads { Gives (λ rates. rates) result self.new (λ o. o ≡ types_at scope.now self.old) }
         ensures goes { length self.new ≤ length self.old }
     {
         if !are_rate_letters(self.text()) {

@@ -1,11 +1,8 @@
 // What holds of the grammar, for every list of tokens: a call that does nothing, whose contract is the laws.
 ghost use Rattle.std.specs.Prelude.{◌≡◌, ◌⊎◌, ℕ, List};
-ghost use Rattle.cs_base.specs.Lines.{Excerpt};
-ghost use Rattle.cs_base.specs.declared.fault.OrcKind.{OrcKind};
-ghost use Rattle.cs_lex.specs.declared.token.Token.{Token};
-ghost use Rattle.cs_lex.specs.Lexed.{Lexed};
-ghost use Rattle.cs_grammar.specs.Tree.{Orchestra};
-ghost use Rattle.cs_grammar.specs.Orchestra.{Tree, ParseFault};
+ghost use Rattle.cs_base.specs.{Lines.Excerpt, declared.fault.OrcKind.OrcKind};
+ghost use Rattle.cs_lex.specs.{declared.token.Token.Token, Lexed.Lexed};
+ghost use Rattle.cs_grammar.specs.{Tree.Orchestra, Orchestra.Tree, Orchestra.ParseFault};
 ghost use Rattle.cs_grammar.specs.WellFormed.{IsWellFormed, InOrder};
 
 use cs_lex::tokens_stand_in_the_text;

@@ -1,11 +1,8 @@
 // Lists in a line: the variables that take results, what is called, the arguments.
 ghost use Rattle.std.specs.Prelude.{◌≡◌, ◌≤◌, Ok, length, map};
-ghost use Rattle.cs_grammar.specs.Tree.{argument};
-ghost use Rattle.cs_grammar.specs.Reading.{next, after};
+ghost use Rattle.cs_grammar.specs.{Tree.argument, Reading.next, Reading.after, Parts.is_variable, Parts.is_opcode};
+ghost use Rattle.cs_grammar.specs.{inner.Answers.Gives, inner.Rows.targets, inner.Rows.quoted};
 ghost use Rattle.cs_grammar.specs.Lines.{no_target, target, operation, by_opcode, called, is_other_text};
-ghost use Rattle.cs_grammar.specs.Parts.{is_variable, is_opcode};
-ghost use Rattle.cs_grammar.specs.inner.Answers.{Gives};
-ghost use Rattle.cs_grammar.specs.inner.Rows.{targets, quoted};
 ghost use Rattle.cs_grammar.specs.Grammar.{ReadsArg, ReadsList, ReadsArgs};
 ghost use Rattle.cs_grammar.specs.declared.lists.Role.TheVariants as role;
 
@@ -54,8 +51,7 @@ impl<'s> Parser<'s> {
 
     // Takes the next symbol's bytes as a name.
     fn take_name(&mut self) -> Result<Name, Or<OrcFault>>
-        ensures reads { Gives (λ n. n) result self.new
-            (λ o. o ≡ Ok ((next self.old).text, after self.old)) }
+        ensures reads { Gives (λ n. n) result self.new (λ o. o ≡ Ok ((next self.old).text, after self.old)) }
         ensures goes { length self.new ≤ length self.old }
     {
         let name = self.name()?;
@@ -99,8 +95,7 @@ impl<'s> Parser<'s> {
 
     /// Reads what is called.
     pub fn operation(&mut self, scope: &Scope) -> Result<Callee, Or<OrcFault>>
-        ensures reads { Gives (λ c. c) result self.new
-            (λ o. o ≡ operation scope.now (Ok self.old)) }
+        ensures reads { Gives (λ c. c) result self.new (λ o. o ≡ operation scope.now (Ok self.old)) }
         ensures goes { length self.new ≤ length self.old }
     {
         match self.kind() {
@@ -115,8 +110,7 @@ impl<'s> Parser<'s> {
 
     // Reads an opcode of the catalogue; `zakinit` stands outside instruments and definitions alone.
     fn opcode(&mut self, scope: &Scope, opcode: Opcode) -> Result<Callee, Or<OrcFault>>
-        ensures reads { Gives (λ c. c) result self.new
-            (λ o. o ≡ by_opcode scope.now self.old opcode) }
+        ensures reads { Gives (λ c. c) result self.new (λ o. o ≡ by_opcode scope.now self.old opcode) }
         ensures goes { length self.new ≤ length self.old }
     {
         if matches!(opcode, Opcode::Zakinit) && !matches!(scope.place(), Place::Outside) {
@@ -163,8 +157,7 @@ impl<'s> Parser<'s> {
 
     /// Reads arguments or results, one at least.
     pub fn list(&mut self, scope: &Scope, role: Role) -> Result<Args, Or<OrcFault>>
-        ensures reads { Gives (λ v. map argument v.items) result self.new
-            (ReadsList scope.now role (Ok self.old)) }
+        ensures reads { Gives (λ v. map argument v.items) result self.new (ReadsList scope.now role (Ok self.old)) }
         ensures goes { length self.new ≤ length self.old }
     {
         let mut args = Vec::new(self.alloc());
@@ -179,8 +172,7 @@ impl<'s> Parser<'s> {
 
     /// Reads the arguments up to the end of the line, or none.
     pub fn arguments(&mut self, scope: &Scope) -> Result<Args, Or<OrcFault>>
-        ensures reads { Gives (λ v. map argument v.items) result self.new
-            (ReadsArgs scope.now (Ok self.old)) }
+        ensures reads { Gives (λ v. map argument v.items) result self.new (ReadsArgs scope.now (Ok self.old)) }
         ensures goes { length self.new ≤ length self.old }
     {
         if self.kind().ends_line() {

@@ -4,11 +4,9 @@ ghost use Rattle.cs_base.specs.declared.fault.Or.TheVariants as or;
 ghost use Rattle.cs_base.specs.declared.fault.OrcFault.{OrcFault};
 ghost use Rattle.cs_lex.specs.Lexed.{Lexed};
 ghost use Rattle.cs_grammar.specs.declared.orc.ItemForm.TheVariants as item;
-ghost use Rattle.cs_grammar.specs.Symbols.{Symbol};
+ghost use Rattle.cs_grammar.specs.{Symbols.Symbol, Reading.after, Reading.ended, inner.Rows.numbers};
 ghost use Rattle.cs_grammar.specs.Tree.{block, instrument, orchestra};
-ghost use Rattle.cs_grammar.specs.Reading.{after, ended};
 ghost use Rattle.cs_grammar.specs.Lines.{header_line, instrument_number, one_number};
-ghost use Rattle.cs_grammar.specs.inner.Rows.{numbers};
 ghost use Rattle.cs_grammar.specs.inner.Answers.{Gives, IsDraft, IsInstrBody, ReadsOn};
 ghost use Rattle.cs_grammar.specs.Orchestra.{item_form, item_form_of, nothing, ReadsInstr, ReadsOrc, Tree, ParseFault};
 
@@ -102,8 +100,7 @@ impl<'s> Parser<'s> {
 
     // Reads a header line: its name, `=`, a number.
     fn header_line(&mut self, scope: &Scope, name: HeadName) -> Result<HeadLine, Or<OrcFault>>
-        ensures reads { Gives (λ h. h) result self.new
-            (λ o. o ≡ header_line scope.now name self.old) }
+        ensures reads { Gives (λ h. h) result self.new (λ o. o ≡ header_line scope.now name self.old) }
         ensures goes { length self.new ≤ length self.old }
     {
         let line = self.line();
@@ -119,8 +116,7 @@ impl<'s> Parser<'s> {
 
     // Reads an instrument's number, which no instrument before has.
     fn number(&mut self, scope: &Scope, given: &mut Given) -> Result<u32, Or<OrcFault>>
-        ensures reads { Gives (λ n. n) result self.new
-            (λ o. o ≡ one_number scope.now given.old self.old) }
+        ensures reads { Gives (λ n. n) result self.new (λ o. o ≡ one_number scope.now given.old self.old) }
         ensures given { IfOk result (λ n. given.new ≡ given.old ++ n ∷ []) }
         ensures goes { length self.new ≤ length self.old }
     {
@@ -139,8 +135,7 @@ impl<'s> Parser<'s> {
     }
 
     fn numbers(&mut self, scope: &Scope, given: &mut Given) -> Result<Numbers, Or<OrcFault>>
-        ensures reads { Gives (λ ns. ns) result self.new
-            (λ o. o ≡ numbers scope.now given.old self.old) }
+        ensures reads { Gives (λ ns. ns) result self.new (λ o. o ≡ numbers scope.now given.old self.old) }
         ensures given { IfOk result (λ ns. given.new ≡ given.old ++ ns) }
         ensures goes { length self.new ≤ length self.old }
     {
@@ -156,8 +151,7 @@ impl<'s> Parser<'s> {
 
     // Reads an instrument.
     fn instr(&mut self, defined: &NameSet<'s>, given: &mut Given) -> Result<Instr, Or<OrcFault>>
-        ensures reads { Gives instrument result self.new
-            (ReadsInstr defined.now given.old self.old) }
+        ensures reads { Gives instrument result self.new (ReadsInstr defined.now given.old self.old) }
         ensures given { IfOk result (λ i. given.new ≡ given.old ++ i.numbers) }
         ensures goes { length self.new ≤ length self.old }
     {
@@ -186,8 +180,7 @@ impl<'s> Parser<'s> {
 
     // Reads the statements of an instrument, and the line of `endin`.
     fn instr_body(&mut self, scope: &Scope, defined: &NameSet<'s>) -> Result<Stmts, Or<OrcFault>>
-        ensures reads { Gives (λ v. block v.items) result self.new
-            (IsInstrBody scope.now defined.now self.old) }
+        ensures reads { Gives (λ v. block v.items) result self.new (IsInstrBody scope.now defined.now self.old) }
         ensures goes { length self.new ≤ length self.old }
     {
         let body = self.block(scope)?;
@@ -306,8 +299,7 @@ impl<'s> Parser<'s> {
 pub fn parse(alloc: Global, text: &Excerpt, tokens: &Tokens) -> Result<Orc, Or<OrcFault>>
     requires { Lexed text.now tokens.now }
     ensures tree { IfOk result (λ orc. Tree text.now.bytes tokens.now (orchestra orc)) }
-    ensures fault { (f : OrcFault) → result ≡ Err (or.Fault f)
-        → ParseFault text.now.bytes tokens.now f.line f.kind }
+    ensures fault { (f : OrcFault) → result ≡ Err (or.Fault f) → ParseFault text.now.bytes tokens.now f.line f.kind }
 {
     tokens_stand_in_the_text();
     let mut parser = Parser::new(alloc, text.bytes(), tokens.as_slice());

@@ -1,10 +1,9 @@
 // The symbols of an orchestra, and the place that is reached.
 ghost use Rattle.std.specs.Prelude.{◌≡◌, ◌≤◌, ◌<◌, ◌^◌, IfOk, length};
 ghost use Rattle.cs_base.specs.declared.fault.Or.TheVariants as or;
-ghost use Rattle.cs_grammar.specs.Symbols.{symbols};
+ghost use Rattle.cs_grammar.specs.{Symbols.symbols, inner.Reached.Spanned};
 ghost use Rattle.cs_grammar.specs.Reading.{next, after, next_is, fault, misfit};
 ghost use Rattle.cs_grammar.specs.inner.Answers.{Passes, past, line_past};
-ghost use Rattle.cs_grammar.specs.inner.Reached.{Spanned};
 
 use crate::scope::Scope;
 use crate::symbol::{Expected, Kind, bytes_of, counted, first_kind, second_kind, unquoted};
@@ -28,8 +27,7 @@ pub struct Parser<'s> {
 
 impl<'s> Model for Parser<'s> {
     ghost use Rattle.std.specs.Prelude.{List};
-    ghost use Rattle.cs_grammar.specs.Symbols.{Symbol, symbols_from};
-    ghost use Rattle.cs_grammar.specs.inner.Reached.{IsReached};
+    ghost use Rattle.cs_grammar.specs.{Symbols.Symbol, Symbols.symbols_from, inner.Reached.IsReached};
 
     ghost Value = { List Symbol };
 

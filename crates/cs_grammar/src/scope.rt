@@ -4,8 +4,7 @@ ghost use Rattle.cs_base.specs.Limits.{most_nested_ifs};
 ghost use Rattle.cs_words.specs.NameSets.{has};
 ghost use Rattle.cs_grammar.specs.Reading.{outside, in_instrument, in_definition, deeper, has_number, misfit_kind};
 ghost use Rattle.cs_grammar.specs.Reading.{keyword_kind, early, open_kind, opcode_kind, instr_kind, x_kind};
-ghost use Rattle.cs_grammar.specs.Parts.{is_opcode};
-ghost use Rattle.cs_grammar.specs.Lines.{is_own};
+ghost use Rattle.cs_grammar.specs.{Parts.is_opcode, Lines.is_own};
 
 use crate::symbol::Kind;
 use cs_base::{OrcKind, OutOfMemory};

@@ -7,8 +7,7 @@ ghost use Rattle.cs_grammar.specs.declared.stmt.LineForm.TheVariants as form;
 ghost use Rattle.cs_grammar.specs.declared.tree.Arm.{out-Arm};
 ghost use Rattle.cs_grammar.specs.Tree.{var, pair, expression, of_what, statement, block, arms, otherwise};
 ghost use Rattle.cs_grammar.specs.declared.symbol.Expected.TheVariants as expected;
-ghost use Rattle.cs_grammar.specs.Reading.{next, next_is};
-ghost use Rattle.cs_grammar.specs.Lines.{word_form, line_form};
+ghost use Rattle.cs_grammar.specs.{Reading.next, Reading.next_is, Lines.word_form, Lines.line_form};
 ghost use Rattle.cs_grammar.specs.inner.Answers.{Gives, GivesLine, IsArm, IsCondition};
 ghost use Rattle.cs_grammar.specs.Grammar.{assign, ends_block, ReadsStmt, ReadsBlock, ReadsArms, ReadsMore};
 
@@ -135,8 +134,7 @@ impl<'s> Parser<'s> {
 
     // What `name = ..` or `name += ..` does, by its sign.
     fn assigned(&self, sign: Kind, name: Name, value: Expr) -> Result<StmtWhat, Or<OrcFault>>
-        ensures value { (line : ℕ)
-            → IfOk result (λ w. of_what line w ≡ assign line sign name (expression value)) }
+        ensures value { (line : ℕ) → IfOk result (λ w. of_what line w ≡ assign line sign name (expression value)) }
         ensures memory { IfErr result (λ e. e ≡ or.OutOfMemory) }
     {
         match sign {
@@ -193,8 +191,7 @@ impl<'s> Parser<'s> {
     /// Reads statements, up to what ends them.
     #[cycle(stmt)]
     pub fn block(&mut self, scope: &Scope) -> Result<Stmts, Or<OrcFault>>
-        ensures reads { Gives (λ v. block v.items) result self.new
-            (ReadsBlock scope.now (Ok self.old)) }
+        ensures reads { Gives (λ v. block v.items) result self.new (ReadsBlock scope.now (Ok self.old)) }
         ensures goes { length self.new ≤ length self.old }
     {
         let mut stmts = Vec::new(self.alloc());
@@ -247,8 +244,7 @@ impl<'s> Parser<'s> {
     #[cycle(stmt)]
     fn otherwise(&mut self, scope: &Scope) -> Result<Stmts, Or<OrcFault>>
         requires { next_is expected.Elseif self.old ≡ false }
-        ensures reads { Gives (λ v. otherwise (block v.items)) result self.new
-            (ReadsMore scope.now (Ok self.old)) }
+        ensures reads { Gives (λ v. otherwise (block v.items)) result self.new (ReadsMore scope.now (Ok self.old)) }
         ensures goes { length self.new ≤ length self.old }
     {
         if !self.next_is(Expected::Else) {

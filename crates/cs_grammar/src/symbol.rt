@@ -2,8 +2,7 @@
 ghost use Rattle.std.specs.Prelude.{◌≡◌, ◌≤◌, ◌<◌, ◌+◌, ◌^◌, length};
 ghost use Rattle.cs_grammar.specs.Kinds.{is, is_word, is_plain, ends_line};
 ghost use Rattle.cs_grammar.specs.Symbols.{symbols_from, bytes_of, kind_after, unquoted, counted};
-ghost use Rattle.cs_grammar.specs.Reading.{next, after};
-ghost use Rattle.cs_grammar.specs.inner.Reached.{Spanned};
+ghost use Rattle.cs_grammar.specs.{Reading.next, Reading.after, inner.Reached.Spanned};
 ghost use Rattle.cs_grammar.specs.declared.symbol.Kind.TheVariants as kind;
 ghost use Rattle.cs_words.specs.declared.word.Word.TheVariants as word;
 

@@ -1,9 +1,7 @@
 // The first line of a definition: the names that take its inputs.
 ghost use Rattle.std.specs.Prelude.{◌≡◌, ◌≤◌, ◌<◌, ◌^◌, ◌++◌, IfOk, IfSome, length};
 ghost use Rattle.cs_words.specs.NameSets.{has};
-ghost use Rattle.cs_grammar.specs.Reading.{next};
-ghost use Rattle.cs_grammar.specs.Inputs.{is_free, is_local};
-ghost use Rattle.cs_grammar.specs.inner.Answers.{Gives};
+ghost use Rattle.cs_grammar.specs.{Reading.next, Inputs.is_free, Inputs.is_local, inner.Answers.Gives};
 ghost use Rattle.cs_grammar.specs.inner.Takes.{input_count, plus_one, is_input, are_inputs, words, at_xin, inputs};
 ghost use Rattle.cs_grammar.specs.inner.Takes.{no_names, taken_so_many, is_none, first_fits, after_first};
 
@@ -139,8 +137,7 @@ impl<'s> Parser<'s> {
 
     /// Reads the names that take the inputs.
     pub fn inputs(&mut self, scope: &Scope, heading: &Heading) -> Result<Names, Or<OrcFault>>
-        ensures reads { Gives (λ ns. ns) result self.new
-            (λ o. o ≡ inputs scope.now heading.now self.old) }
+        ensures reads { Gives (λ ns. ns) result self.new (λ o. o ≡ inputs scope.now heading.now self.old) }
         ensures goes { length self.new ≤ length self.old }
     {
         if self.next_is(Expected::Xin) {
@@ -172,8 +169,7 @@ impl<'s> Parser<'s> {
         count: usize,
     ) -> Result<Names, Or<OrcFault>>
         requires { 1 ≤ count }
-        ensures reads { Gives (λ ns. ns) result self.new
-            (λ o. o ≡ taken_so_many scope.now heading.now self.old count) }
+        ensures reads { Gives (λ ns. ns) result self.new (λ o. o ≡ taken_so_many scope.now heading.now self.old count) }
         ensures goes { length self.new ≤ length self.old }
     {
         let mut names = Names::new(self.alloc());

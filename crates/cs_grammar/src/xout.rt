@@ -1,7 +1,6 @@
 // The last line of a definition: the values that it gives.
 ghost use Rattle.std.specs.Prelude.{◌≡◌, ◌≤◌, Ok, length, map};
-ghost use Rattle.cs_grammar.specs.Tree.{argument};
-ghost use Rattle.cs_grammar.specs.Orchestra.{ReadsXout, ReadsResult};
+ghost use Rattle.cs_grammar.specs.{Tree.argument, Orchestra.ReadsXout, Orchestra.ReadsResult};
 ghost use Rattle.cs_grammar.specs.inner.Answers.{Gives, Passes, last_left};
 ghost use Rattle.cs_grammar.specs.inner.Takes.{are_results, results_of, no_results};
 
@@ -36,8 +35,7 @@ impl<'s> Parser<'s> {
 
     // Reads the values of `xout`, with the end of their line.
     fn values(&mut self, scope: &Scope) -> Result<Args, Or<OrcFault>>
-        ensures reads { Gives (λ v. map argument v.items) result self.new
-            (ReadsXout scope.now self.old) }
+        ensures reads { Gives (λ v. map argument v.items) result self.new (ReadsXout scope.now self.old) }
         ensures goes { length self.new ≤ length self.old }
     {
         self.skip();
@@ -80,8 +78,7 @@ impl<'s> Parser<'s> {
     }
 
     fn no_results(&self, outs: &[Rate]) -> Result<Args, Or<OrcFault>>
-        ensures { Gives (λ v. map argument v.items) result self.now
-            (λ o. o ≡ no_results outs.now self.now) }
+        ensures { Gives (λ v. map argument v.items) result self.now (λ o. o ≡ no_results outs.now self.now) }
     {
         if outs.is_empty() {
             Ok(Vec::new(self.alloc()))

@@ -1,6 +1,5 @@
 // What a byte may be, and what it may begin.
-ghost use Rattle.std.specs.Prelude.{◌≡◌, ◌==◌, codes};
-ghost use Rattle.std.specs.List.{list_any};
+ghost use Rattle.std.specs.{Prelude.◌≡◌, Prelude.◌==◌, Prelude.codes, List.list_any};
 ghost use Rattle.cs_lex.specs.Bytes.{is_letter, is_word_byte, is_allowed, is_short_sign, is_long_sign};
 ghost use Rattle.cs_lex.specs.inner.Front.{class_of};
 

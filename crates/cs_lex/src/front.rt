@@ -1,12 +1,10 @@
 // The piece at the front of a text: its row by its first byte, and how far it runs.
 ghost use Rattle.std.specs.Prelude.{◌≡◌, ◌<◌, ◌≤◌, ◌==◌, length, drop, IfOk};
-ghost use Rattle.std.specs.List.{list_all};
-ghost use Rattle.std.specs.Char.{is_ascii_digit};
+ghost use Rattle.std.specs.{List.list_all, Char.is_ascii_digit};
 ghost use Rattle.cs_base.specs.Lines.{is_blank, begins, begins_with};
-ghost use Rattle.cs_lex.specs.Bytes.{is_letter, is_word_byte, is_allowed};
+ghost use Rattle.cs_lex.specs.{Bytes.is_letter, Bytes.is_word_byte, Bytes.is_allowed, inner.Front.point_front};
 ghost use Rattle.cs_lex.specs.inner.Front.{front_of, run, comment_front, sign_front, slash_front, joined_front};
 ghost use Rattle.cs_lex.specs.inner.Front.{word_front, quoted_len, text_front, numeral_len, number_front, digit_front};
-ghost use Rattle.cs_lex.specs.inner.Front.{point_front};
 
 use crate::Mark;
 use crate::class::{Class, is_allowed, is_letter, is_long_sign, is_word_byte};

@@ -1,8 +1,7 @@
 // What holds of tokens and first faults, for every text: calls that do nothing, whose contracts are the laws.
 ghost use Rattle.std.specs.Prelude.{◌≡◌, ◌≢◌, ◌⊎◌, ◌≤◌, ◌++◌, ◌∷◌, [], ℕ, pos, List, length, codes};
 ghost use Rattle.std.specs.List.{All, AllPairs};
-ghost use Rattle.cs_base.specs.Lines.{Excerpt, excerpt, whole_file};
-ghost use Rattle.cs_base.specs.declared.fault.OrcKind.{OrcKind};
+ghost use Rattle.cs_base.specs.{Lines.Excerpt, Lines.excerpt, Lines.whole_file, declared.fault.OrcKind.OrcKind};
 ghost use Rattle.cs_base.specs.declared.fault.OrcKind.TheVariants as orc;
 ghost use Rattle.cs_lex.specs.declared.token.Mark.TheVariants as mark;
 ghost use Rattle.cs_lex.specs.declared.token.Token.{Token};

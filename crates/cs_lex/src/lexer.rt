@@ -2,8 +2,7 @@
 ghost use Rattle.std.specs.Prelude.{◌≡◌, ◌≤◌, ◌<◌, ◌+◌, ◌-◌, ◌^◌, length, IfOk, OnOk, ◌++◌, count_by};
 ghost use Rattle.cs_base.specs.declared.fault.OrcFault.{OrcFault};
 ghost use Rattle.cs_base.specs.declared.fault.Or.TheVariants as or;
-ghost use Rattle.cs_base.specs.Limits.{most_csd_bytes, most_orchestra_bytes};
-ghost use Rattle.cs_base.specs.Lines.{excerpt, is_feed};
+ghost use Rattle.cs_base.specs.{Limits.most_csd_bytes, Limits.most_orchestra_bytes, Lines.excerpt, Lines.is_feed};
 ghost use Rattle.cs_lex.specs.Lexed.{Lexed, LexFault, end_of, merged};
 ghost use Rattle.cs_lex.specs.inner.Front.{given, fed_by};
 

@@ -1,12 +1,9 @@
 // What holds of every orchestra without a fault and of its notes: calls that do nothing, whose contracts are the laws.
-ghost use Rattle.std.specs.Prelude.{◌≡◌, ◌++◌, None, true};
-ghost use Rattle.std.specs.List.{Contains};
-ghost use Rattle.cs_base.specs.declared.resource.Res.{Res};
+ghost use Rattle.std.specs.{Prelude.◌≡◌, Prelude.◌++◌, Prelude.None, Prelude.true, List.Contains};
+ghost use Rattle.cs_base.specs.{declared.resource.Res.Res, declared.spaces.Spaces.Spaces};
 ghost use Rattle.cs_grammar.specs.Tree.{Orchestra};
-ghost use Rattle.cs_base.specs.declared.spaces.Spaces.{Spaces};
 ghost use Rattle.cs_ir.specs.Resources.{Stock};
-ghost use Rattle.cs_meaning.specs.Core.{core};
-ghost use Rattle.cs_meaning.specs.Uses.{block_begins, block_uses};
+ghost use Rattle.cs_meaning.specs.{Core.core, Uses.block_begins, Uses.block_uses};
 ghost use Rattle.cs_name_laws.specs.Names.{IsNamedBlock, NamesWhatThereIs, is_there};
 ghost use Rattle.cs_typed.specs.TypedTree as typed;
 ghost use Rattle.cs_typed.specs.TypedTree.{SharedNames};

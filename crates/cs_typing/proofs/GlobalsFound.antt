@@ -12,7 +12,7 @@ use Rattle.cs_typing.specs.Typing.{all_globals, given_globals, globals_of_instru
 use Rattle.cs_typing.specs.inner.Globals.{Givers, Has, IsDone, Looks, called_names, givers_in, givers_of}
 use Rattle.cs_typing.specs.inner.Globals.{names_in_block, names_in_arms, names_in_bodies, names_given}
 use Rattle.cs_typing.specs.inner.Globals.{names_in_instruments, names_of}
-use Rattle.cs_typing.proofs.DefinitionsFound.{found, unfound}
+use Rattle.cs_udo.proofs.DefinitionsFound.{found, unfound}
 use Rattle.cs_typing.proofs.GlobalsHeld.{given_held, held_again, held_on}
 use Rattle.cs_typing.proofs.GlobalsWritten.{all_local_inputs, given_both, instruments_given, plain_block_given}
 use Rattle.cs_typing.proofs.{RoutineBlocks.no_first, RoutineOrchestra.no_uppermost}

@@ -4,7 +4,6 @@ pub mod Beside
 pub mod Called
 pub mod ChannelTexts
 pub mod Cut
-pub mod DefinitionsFound
 pub mod Ended
 pub mod FirstSound
 pub mod GlobalsFound

@@ -2,8 +2,8 @@
 use Rattle.std.proofs.Common.{◌≡◌, ℕ, ℤ, pos, negsuc, ◌≤◌, ◌<ℤ◌, ◌%◌, ◌/◌, ◌*◌, Bool, true, false, not, ◌&&◌, ◌==◌}
 use Rattle.std.proofs.Common.{nat_le, if◌then◌else◌, List, [], ◌∷◌, ◌++◌, Option, Some, None, arith, ap, sym, subst}
 use Rattle.std.proofs.Common.{◌∙◌, refl}
-use Rattle.std.specs.{List.list_any, Option.option_or}
-use Rattle.std.proofs.lemmas.{Bool.and_parts, Bool.Decides.nat_tests}
+use Rattle.std.specs.{List.list_any, Option.is_some, Option.option_or}
+use Rattle.std.proofs.lemmas.{Bool.and_parts, Bool.Decides.nat_tests, Grind.common_steps}
 use Rattle.cs_base.proofs.Tests.{by_test, some_is}
 use Rattle.cs_base.specs.{declared.fault.OrcFault.OrcFault, declared.fault.OrcKind.OrcKind, Heads.Header}
 use Rattle.cs_words.specs.declared.word.HeadName.{HeadName}
@@ -115,3 +115,9 @@ cycle_within hs none kr =
     (λ no. subst (λ k. (1 ≤ ksmps_of (rate_of_frames hs) k (header_of head.Ksmps hs)) ×
     (ksmps_of (rate_of_frames hs) k (header_of head.Ksmps hs) ≤ 4096)) (sym no)
     (by_ksmps (rate_of_frames hs) (header_of head.Ksmps hs) (λ h some. found head.Ksmps [] hs h none some)))
+
+-- a line among these gives a name
+pub given : (name : HeadName) (hs : List HeadLine)
+    → is_some (header_of name hs) ≡ list_any (λ b. same_head name b.name) hs
+given name [] = refl
+given name (h ∷ rest) = grind (arith, common_steps, given name rest)

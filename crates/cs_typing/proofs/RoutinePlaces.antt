@@ -9,7 +9,7 @@ use Rattle.cs_udo.proofs.Places.{before_first}
 use Rattle.cs_typing.specs.inner.Routines.{Routines, no_routines, routine_called, routine_of, with_routines}
 use Rattle.cs_typing.specs.inner.Routines.{routines_before, KnownInBody, call_fault_in, fault_in, knows_in}
 use Rattle.cs_typing.specs.{Calls.call_fault_by, Settings.at}
-use Rattle.cs_typing.proofs.DefinitionsFound.{found, unfound}
+use Rattle.cs_udo.proofs.DefinitionsFound.{found, unfound}
 use Rattle.cs_grammar.specs.declared.tree.Callee.TheVariants as callee
 
 -- those in front of a line

@@ -1,6 +1,5 @@
 -- What only clauses of private functions cite.
 pub mod Answers
-pub mod Defined
 pub mod Globals
 pub mod Held
 pub mod Listed

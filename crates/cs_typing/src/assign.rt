@@ -2,13 +2,10 @@
 ghost use Rattle.std.specs.Prelude.{ℕ, ◌≡◌, List, OnOk};
 ghost use Rattle.cs_words.specs.Names.{name_rate};
 ghost use Rattle.cs_grammar.specs.Tree as tree;
-ghost use Rattle.cs_typing.specs.Expressions.{expression_by};
-ghost use Rattle.cs_typing.specs.Settings.{at};
-ghost use Rattle.cs_typing.specs.Statements.{may_set, set_fault_by};
+ghost use Rattle.cs_typing.specs.{Expressions.expression_by, Settings.at, Statements.may_set, Statements.set_fault_by};
 ghost use Rattle.cs_typed.specs.TypedTree as typed;
-ghost use Rattle.cs_typing.specs.inner.Answers.{GivesOne};
+ghost use Rattle.cs_typing.specs.{inner.Answers.GivesOne, inner.Held.known_of};
 ghost use Rattle.cs_typing.specs.inner.Routines.{given_in, known_in, knows_in, variable_in};
-ghost use Rattle.cs_typing.specs.inner.Held.{known_of};
 
 use crate::call::broken;
 use crate::expr::{is_value, rate_of, reads_known, typed_expression};
@@ -18,25 +15,10 @@ use cs_grammar::Expr;
 use cs_typed::{Setting, TypedStmt, TypedWhat, Var};
 use cs_words::name_rate;
 
-// Whether a variable of a rate may take a value.
 fn may_set(setting: Setting, rate: Rate, e: &Expr) -> bool
     ensures { (x : List ℕ) → name_rate x ≡ rate → result ≡ may_set setting x (tree.expression e.now) }
 {
     is_value(e) && rate_of(e).within(rate) && (setting.inside || rate.is_init())
-}
-
-// The first rule that an assignment to a variable of a rate breaks.
-fn set_fault<'t>(setting: Setting, names: &KnownNames<'t>, rate: Rate, e: &Expr) -> Option<OrcKind>
-    ensures { (x : List ℕ) → name_rate x ≡ rate
-        → result ≡ set_fault_by setting (knows_in (known_of names.now)) x (tree.expression e.now) }
-{
-    if !reads_known(names, e) {
-        Some(OrcKind::Undefined)
-    } else if !may_set(setting, rate, e) {
-        Some(OrcKind::RateMismatch)
-    } else {
-        None
-    }
 }
 
 /// A variable, and its rate.
@@ -58,8 +40,11 @@ pub fn set<'t>(
         (at line (set_fault_by setting (knows_in (known_of names.now)) x (tree.expression e.now)))
         (typed.set line to.rate to.var (expression_by (variable_in (known_of names.now)) (tree.expression e.now))) }
 {
-    if let Some(kind) = set_fault(setting, names, to.rate, e) {
-        return Err(broken(line, kind));
+    if !reads_known(names, e) {
+        return Err(broken(line, OrcKind::Undefined));
+    }
+    if !may_set(setting, to.rate, e) {
+        return Err(broken(line, OrcKind::RateMismatch));
     }
     let value = typed_expression(names, e)?;
     Ok(TypedStmt {
@@ -89,5 +74,6 @@ pub fn set_name<'t>(
         var: names.variable(name),
     };
     let made = set(setting, names, line, to, e)?;
-    Ok(names.given(name, made)?)
+    names.scope.give(name)?;
+    Ok(made)
 }

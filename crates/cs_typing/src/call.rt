@@ -3,27 +3,23 @@ ghost use Rattle.std.specs.Prelude.{◌≡◌, ◌++◌, IfOk, List, OnOk, map};
 ghost use Rattle.std.specs.List.{list_all};
 ghost use Rattle.cs_base.specs.declared.fault.Or.TheVariants as or;
 ghost use Rattle.cs_grammar.specs.Tree.{argument};
-ghost use Rattle.cs_typed.specs.Places.{stands_outside, is_starting, is_writing};
 ghost use Rattle.cs_typing.specs.Calls.{fits, all_fit, bound_of, may_result, is_sound, any_sound, is_even, kind_of};
-ghost use Rattle.cs_typing.specs.Calls.{channel_use, text_of, is_too_wide, argument_read_by, all_read_by, rates_agree};
-ghost use Rattle.cs_typing.specs.Calls.{counts_agree, row_fault_by, is_still, plain_rate, call_rate, argument_by};
+ghost use Rattle.cs_typing.specs.Calls.{channel_use, text_of, argument_read_by, all_read_by, rates_agree};
+ghost use Rattle.cs_typing.specs.Calls.{row_fault_by, is_still, plain_rate, call_rate, argument_by};
 ghost use Rattle.cs_typing.specs.Calls.{arguments_by, row_by, call_fault_by, call_shared, call_by};
-ghost use Rattle.cs_typing.specs.Known.{use_channel};
-ghost use Rattle.cs_typing.specs.Settings.{at};
+ghost use Rattle.cs_typing.specs.{Settings.at};
+ghost use Rattle.cs_typed.specs.{Places.stands_outside};
 ghost use Rattle.cs_typed.specs.TypedTree as typed;
-ghost use Rattle.cs_typing.specs.inner.Answers.{GivesOne};
+ghost use Rattle.cs_typing.specs.{inner.Answers.GivesOne, inner.Held.known_of};
 ghost use Rattle.cs_typing.specs.inner.Routines.{all_given_in, known_in, knows_in, variable_in};
-ghost use Rattle.cs_typing.specs.inner.Held.{known_of};
 
 use crate::expr::{is_value, rate_of, reads_known, typed_expression};
 use crate::known::{Channel, KnownNames};
-use crate::making::add;
 use cs_base::{Name, Or, OrcFault, OrcKind, OutOfMemory, Rate};
 use cs_grammar::{Arg, Callee};
 use cs_typed::{Setting, TypedArg, TypedArgs, TypedStmt, TypedWhat, Vars};
 use cs_words::{Letter, Opcode, Shape, Signature, name_rate, signature_of};
 
-// Whether a letter takes an argument.
 fn fits(letter: Letter, bound: Rate, arg: &Arg) -> bool
     ensures { result ≡ fits letter bound (argument arg.now) }
 {
@@ -33,7 +29,6 @@ fn fits(letter: Letter, bound: Rate, arg: &Arg) -> bool
     }
 }
 
-// Whether each argument fits its letter.
 fn all_fit(row: &Signature, bound: Rate, args: &[Arg]) -> bool
     ensures { result ≡ all_fit row.now bound 0 (map argument args.now) }
 {
@@ -57,31 +52,19 @@ fn bound_of(results: &[Name]) -> Rate
     }
 }
 
-// Whether the result may have this name's rate.
 fn may_result(row: &Signature, name: &[u8]) -> bool
     ensures { result ≡ may_result row.now name.now }
 {
     let rate = name_rate(name);
-    for allowed in row.results() {
-        if rate.same(*allowed) {
-            return true;
-        }
-    }
-    false
+    row.results().iter().any(|allowed| rate.same(*allowed))
 }
 
 fn all_may_result(row: &Signature, results: &[Name]) -> bool
     ensures { result ≡ list_all (may_result row.now) results.now }
 {
-    for name in results {
-        if !may_result(row, name.as_slice()) {
-            return false;
-        }
-    }
-    true
+    results.iter().all(|name| may_result(row, name.as_slice()))
 }
 
-// A value of the audio rate.
 fn is_sound(arg: &Arg) -> bool
     ensures { result ≡ is_sound (argument arg.now) }
 {
@@ -119,7 +102,6 @@ fn stands_outside(shape: Shape) -> bool
     matches!(shape, Shape::Init | Shape::ZakInit)
 }
 
-// A channel of sounds, or else of control values.
 fn kind_of(is_sound: bool) -> Channel
     ensures { result ≡ kind_of is_sound }
 {
@@ -154,17 +136,6 @@ fn text_of(args: &[Arg]) -> &[u8]
     b"".as_slice()
 }
 
-// More sounds than the piece has channels.
-fn is_too_wide(setting: Setting, shape: Shape, args: &[Arg]) -> bool
-    ensures { result ≡ is_too_wide setting shape (map argument args.now) }
-{
-    match shape {
-        Shape::Out => args.len() > setting.channels as usize,
-        _ => false,
-    }
-}
-
-// Whether an argument reads what is known.
 fn argument_known<'t>(names: &KnownNames<'t>, arg: &Arg) -> bool
     ensures { result ≡ argument_read_by (knows_in (known_of names.now)) (argument arg.now) }
 {
@@ -195,13 +166,6 @@ fn rates_agree(setting: Setting, row: &Signature, results: &[Name], args: &[Arg]
         && (setting.inside || stands_outside(row.shape()))
 }
 
-// Whether results and arguments are as many as the row says.
-fn counts_agree(row: &Signature, results: &[Name], args: &[Arg]) -> bool
-    ensures { result ≡ counts_agree row.now results.now (map argument args.now) }
-{
-    results.len() == row.result_count() && row.takes_count(args.len())
-}
-
 /// The first rule that a call of an opcode breaks.
 pub fn row_fault<'t>(
     setting: Setting,
@@ -213,7 +177,7 @@ pub fn row_fault<'t>(
     ensures { result ≡ row_fault_by setting names.now.shared (knows_in (known_of names.now)) row.now results.now
         (map argument args.now) }
 {
-    if !counts_agree(row, results, args) {
+    if !(results.len() == row.result_count() && row.takes_count(args.len())) {
         Some(OrcKind::ArgCount)
     } else if !all_known(names, args) {
         Some(OrcKind::Undefined)
@@ -224,25 +188,11 @@ pub fn row_fault<'t>(
         .clashes(channel_use(row.shape(), results, args), text_of(args))
     {
         Some(OrcKind::ChannelRate)
-    } else if is_too_wide(setting, row.shape(), args) {
+    } else if matches!(row.shape(), Shape::Out) && args.len() > setting.channels as usize {
         Some(OrcKind::OutCount)
     } else {
         None
     }
-}
-
-// What is done once, as the note begins, whatever its arguments.
-fn is_starting(shape: Shape) -> bool
-    ensures { result ≡ is_starting shape }
-{
-    matches!(shape, Shape::Init | Shape::ZakInit | Shape::Ask)
-}
-
-// What is done once where all its arguments are known when the note begins.
-fn is_writing(shape: Shape) -> bool
-    ensures { result ≡ is_writing shape }
-{
-    matches!(shape, Shape::Store | Shape::ChannelPut)
 }
 
 // A text, or a value that is known when the note begins.
@@ -270,7 +220,7 @@ fn all_still(args: &[Arg]) -> bool
 fn plain_rate(shape: Shape, args: &[Arg]) -> Rate
     ensures { result ≡ plain_rate shape (map argument args.now) }
 {
-    if is_writing(shape) && all_still(args) {
+    if matches!(shape, Shape::Store | Shape::ChannelPut) && all_still(args) {
         Rate::Init
     } else if any_sound(args) {
         Rate::Audio
@@ -284,13 +234,12 @@ pub fn call_rate(shape: Shape, results: &[Name], args: &[Arg]) -> Rate
     ensures { result ≡ call_rate shape results.now (map argument args.now) }
 {
     match results {
-        _ if is_starting(shape) => Rate::Init,
+        _ if matches!(shape, Shape::Init | Shape::ZakInit | Shape::Ask) => Rate::Init,
         [] => plain_rate(shape, args),
         [name, ..] => name_rate(name.as_slice()),
     }
 }
 
-// The variables of results.
 fn variables<'t>(names: &KnownNames<'t>, results: &[Name]) -> Result<Vars, OutOfMemory>
     ensures { IfOk result (λ made. made ≡ map (variable_in (known_of names.now)) results.now) }
 {
@@ -312,21 +261,15 @@ fn add_argument<'t>(
         ++ argument_by names.now.shared (variable_in (known_of names.now)) role (argument arg.now)) }
 {
     match (arg, role) {
-        (Arg::Value(e), _) => {
-            let e = typed_expression(names, e)?;
-            add(made, TypedArg::Value(e))
-        }
-        (Arg::Text(name), Some(kind)) => {
-            add(
-                made,
-                TypedArg::Text(names.shared.channel(kind, name.as_slice())),
-            )
-        }
-        (Arg::Text(_), None) => Ok(()),
+        (Arg::Value(e), _) => made.push(TypedArg::Value(typed_expression(names, e)?))?,
+        (Arg::Text(name), Some(kind)) => made.push(TypedArg::Text(
+            names.shared.channel(kind, name.as_slice()),
+        ))?,
+        (Arg::Text(_), None) => {}
     }
+    Ok(())
 }
 
-// The typed forms of arguments.
 fn typed_arguments<'t>(
     names: &KnownNames<'t>,
     role: Option<Channel>,
@@ -342,7 +285,6 @@ fn typed_arguments<'t>(
     Ok(made)
 }
 
-// The typed form of a call of an opcode.
 fn typed_row<'t>(
     names: &KnownNames<'t>,
     line: u32,
@@ -365,13 +307,12 @@ fn typed_row<'t>(
     })
 }
 
-// Notes that results are given.
 fn give_all<'t>(names: &mut KnownNames<'t>, results: &'t [Name]) -> Result<(), OutOfMemory>
     ensures { OnOk result (known_of names.new
         ≡ known_in names.old.shared (all_given_in (known_of names.old).locals results.now)) }
 {
     for name in results {
-        names.give(name.as_slice())?;
+        names.scope.give(name.as_slice())?;
     }
     Ok(())
 }
@@ -402,24 +343,9 @@ pub fn call<'t>(
         return Err(broken(line, kind));
     }
     let made = typed_row(names, line, *opcode, &row, results, args)?;
-    let role = channel_use(row.shape(), results, args);
-    Ok(noted(names, results, role, text_of(args), made)?)
-}
-
-// Notes what a call gives: its results, and the channel that it uses. What was made of it is handed on.
-fn noted<'t, T: Drop>(
-    names: &mut KnownNames<'t>,
-    results: &'t [Name],
-    role: Option<Channel>,
-    channel: &'t [u8],
-    made: T,
-) -> Result<T, OutOfMemory>
-    ensures made { IfOk result (λ m. m ≡ made) }
-    ensures known { OnOk result (known_of names.new ≡ known_in (use_channel names.old.shared role channel.now)
-        (all_given_in (known_of names.old).locals results.now)) }
-{
     give_all(names, results)?;
-    names.shared.use_channel(role, channel)?;
+    let role = channel_use(row.shape(), results, args);
+    names.shared.use_channel(role, text_of(args))?;
     Ok(made)
 }
 

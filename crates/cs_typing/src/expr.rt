@@ -1,21 +1,16 @@
 // Expressions: their rates, whether they are values or conditions, what they read, and their typed form.
-ghost use Rattle.std.specs.Prelude.{◌≡◌, IfOk};
+ghost use Rattle.std.specs.{Prelude.◌≡◌, Prelude.IfOk, Box.box_value};
 ghost use Rattle.cs_grammar.specs.Tree.{expression};
-ghost use Rattle.std.specs.Box.{box_value};
-ghost use Rattle.cs_base.specs.Rates.{faster};
-ghost use Rattle.cs_base.specs.declared.resource.Rate.TheVariants as rate;
-ghost use Rattle.cs_typing.specs.Expressions.{rate_of, applied_rate, is_control_name, is_value, is_condition};
-ghost use Rattle.cs_typing.specs.Expressions.{reads_by, expression_by};
-ghost use Rattle.cs_typing.specs.inner.Routines.{knows_in, variable_in};
+ghost use Rattle.cs_typing.specs.Expressions.{rate_of, applied_rate, is_control_name, is_value, is_condition, reads_by};
+ghost use Rattle.cs_typing.specs.{Expressions.expression_by, inner.Routines.knows_in, inner.Routines.variable_in};
 ghost use Rattle.cs_typed.specs.TypedTree as typed;
 ghost use Rattle.cs_typing.specs.inner.Held.{known_of};
 
 use crate::known::KnownNames;
-use crate::making::in_box;
 use cs_base::{OutOfMemory, Rate};
 use cs_grammar::Expr;
 use cs_typed::{TypedExpr, TypedPart};
-use cs_words::{BinOp, Func, name_rate};
+use cs_words::{Func, name_rate};
 
 /// The rate of an expression: the fastest of its parts.
 pub fn rate_of(e: &Expr) -> Rate
@@ -32,14 +27,10 @@ pub fn rate_of(e: &Expr) -> Rate
     }
 }
 
-// The name of a variable of the control rate.
 fn is_control_name(e: &Expr) -> bool
     ensures { result ≡ is_control_name (expression e.now) }
 {
-    match e {
-        Expr::Var(name) => name_rate(name.as_slice()).is_control(),
-        _ => false,
-    }
+    matches!(e, Expr::Var(name) if name_rate(name.as_slice()).is_control())
 }
 
 /// Whether an expression is a value, with values and conditions where they are wanted.
@@ -98,89 +89,40 @@ pub fn typed_expression<'t>(names: &KnownNames<'t>, e: &Expr) -> Result<TypedExp
         ≡ expression_by (variable_in (known_of names.now)) (expression e.now)) }
     ensures rate { IfOk result (λ made. made.rate ≡ rate_of (expression e.now)) }
 {
-    match e {
-        Expr::Number(value) => Ok(still(TypedPart::Number(*value))),
-        Expr::Field(number) => Ok(still(TypedPart::Field(*number))),
-        Expr::Head(name) => Ok(still(TypedPart::Head(*name))),
-        Expr::Var(name) => Ok(TypedExpr {
-            rate: name_rate(name.as_slice()),
-            what: TypedPart::Var(names.variable(name.as_slice())),
-        }),
-        Expr::Neg(a) => Ok(negated(boxed(names, a)?)),
+    let (rate, what) = match e {
+        Expr::Number(value) => (Rate::Init, TypedPart::Number(*value)),
+        Expr::Field(number) => (Rate::Init, TypedPart::Field(*number)),
+        Expr::Head(name) => (Rate::Init, TypedPart::Head(*name)),
+        Expr::Var(name) => {
+            let name = name.as_slice();
+            (name_rate(name), TypedPart::Var(names.variable(name)))
+        }
+        Expr::Neg(a) => {
+            let a = boxed(names, a)?;
+            (a.rate, TypedPart::Neg(a))
+        }
         Expr::Pair(op, a, b) => {
             let a = boxed(names, a)?;
-            Ok(paired(*op, a, boxed(names, b)?))
+            let b = boxed(names, b)?;
+            (a.rate.faster(b.rate), TypedPart::Pair(*op, a, b))
         }
         Expr::Pick(c, a, b) => {
             let c = boxed(names, c)?;
             let a = boxed(names, a)?;
-            Ok(picked(c, a, boxed(names, b)?))
+            let b = boxed(names, b)?;
+            (
+                c.rate.faster(a.rate.faster(b.rate)),
+                TypedPart::Pick(c, a, b),
+            )
         }
-        Expr::Call(func, a) => Ok(applied(*func, boxed(names, a)?)),
-    }
+        Expr::Call(func, a) => {
+            let a = boxed(names, a)?;
+            (applied_rate(*func, a.rate), TypedPart::Call(*func, a))
+        }
+    };
+    Ok(TypedExpr { rate, what })
 }
 
-// The negation of a part.
-fn negated(a: Box<TypedExpr>) -> TypedExpr
-    ensures form { typed.expression result
-        ≡ typed.neg (box_value a).rate (typed.expression (box_value a)) }
-    ensures rate { result.rate ≡ (box_value a).rate }
-{
-    TypedExpr {
-        rate: a.rate,
-        what: TypedPart::Neg(a),
-    }
-}
-
-// An operator of two parts.
-fn paired(op: BinOp, a: Box<TypedExpr>, b: Box<TypedExpr>) -> TypedExpr
-    ensures form { typed.expression result
-        ≡ typed.pair (faster (box_value a).rate (box_value b).rate) op
-        (typed.expression (box_value a)) (typed.expression (box_value b)) }
-    ensures rate { result.rate ≡ faster (box_value a).rate (box_value b).rate }
-{
-    TypedExpr {
-        rate: a.rate.faster(b.rate),
-        what: TypedPart::Pair(op, a, b),
-    }
-}
-
-// A choice: its condition, the value where it holds, and the value where it doesn't.
-fn picked(c: Box<TypedExpr>, a: Box<TypedExpr>, b: Box<TypedExpr>) -> TypedExpr
-    ensures form { typed.expression result
-        ≡ typed.pick (faster (box_value c).rate (faster (box_value a).rate (box_value b).rate))
-        (typed.expression (box_value c)) (typed.expression (box_value a)) (typed.expression (box_value b)) }
-    ensures rate { result.rate ≡ faster (box_value c).rate (faster (box_value a).rate (box_value b).rate) }
-{
-    TypedExpr {
-        rate: c.rate.faster(a.rate.faster(b.rate)),
-        what: TypedPart::Pick(c, a, b),
-    }
-}
-
-// A function of a part.
-fn applied(func: Func, a: Box<TypedExpr>) -> TypedExpr
-    ensures form { typed.expression result
-        ≡ typed.apply (applied_rate func (box_value a).rate) func (typed.expression (box_value a)) }
-    ensures rate { result.rate ≡ applied_rate func (box_value a).rate }
-{
-    TypedExpr {
-        rate: applied_rate(func, a.rate),
-        what: TypedPart::Call(func, a),
-    }
-}
-
-// What is known when the note begins.
-fn still(what: TypedPart) -> TypedExpr
-    ensures { result ≡ record { rate = rate.Init; what = what } }
-{
-    TypedExpr {
-        rate: Rate::Init,
-        what,
-    }
-}
-
-// The typed form of a part, which stands in a box.
 #[cycle(typed)]
 fn boxed<'t>(names: &KnownNames<'t>, e: &Expr) -> Result<Box<TypedExpr>, OutOfMemory>
     ensures form { IfOk result (λ made. typed.expression (box_value made)
@@ -188,10 +130,9 @@ fn boxed<'t>(names: &KnownNames<'t>, e: &Expr) -> Result<Box<TypedExpr>, OutOfMe
     ensures rate { IfOk result (λ made. (box_value made).rate ≡ rate_of (expression e.now)) }
 {
     let made = typed_expression(names, e)?;
-    in_box(names.alloc(), made)
+    Ok(Box::new(names.alloc(), made)?)
 }
 
-// The rate of a function's value.
 fn applied_rate(func: Func, rate: Rate) -> Rate
     ensures { result ≡ applied_rate func rate }
 {

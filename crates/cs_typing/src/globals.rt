@@ -1,15 +1,11 @@
 // The global variables of an orchestra, in the order in which statements first give them: those outside instruments
 // first. What a defined opcode gives is given where it is first called, so each definition is looked through once.
-ghost use Rattle.std.specs.Prelude.{◌≡◌, OnOk, IfOk, map, nat_lt, true};
-ghost use Rattle.std.specs.List.{prefix_len};
+ghost use Rattle.std.specs.Prelude.{◌≡◌, OnOk, IfOk, map, true};
 ghost use Rattle.cs_grammar.specs.Tree as tree;
-ghost use Rattle.cs_grammar.specs.declared.tree.Arm.{out-Arm};
 ghost use Rattle.cs_typing.specs.Typing.{given_global, given_globals, all_globals};
-ghost use Rattle.cs_typing.specs.inner.Globals.{called_names, names_in, names_in_block, names_in_bodies};
-ghost use Rattle.cs_typing.specs.inner.Globals.{IsDone, Looks, givers_in, givers_of, names_in_instruments};
-ghost use Rattle.cs_udo.specs.Expanded.{expanded_orchestra};
-ghost use Rattle.cs_udo.specs.Library.{definitions_of};
-ghost use Rattle.cs_udo.specs.Ready.{IsReady};
+ghost use Rattle.cs_typing.specs.inner.Globals.{called_names, names_in, names_in_block, names_in_bodies, IsDone, Looks};
+ghost use Rattle.cs_typing.specs.inner.Globals.{givers_in, names_in_instruments};
+ghost use Rattle.cs_udo.specs.{Expanded.expanded_orchestra, Library.definitions_of, Ready.IsReady};
 
 use crate::known::NamesByRate;
 use cs_base::{Name, OutOfMemory};
@@ -78,8 +74,7 @@ fn globals_of_callee<'t>(
     callee: &Callee,
 ) -> Result<(), OutOfMemory>
     requires { IsDone front given.old }
-    ensures { OnOk result (Looks front.entry given.old given.new
-        (called_names (givers_in front.entry) callee.now)) }
+    ensures { OnOk result (Looks front.entry given.old given.new (called_names (givers_in front.entry) callee.now)) }
 {
     match front.library.find(front.visible, callee) {
         None => Ok(()),
@@ -120,26 +115,12 @@ fn globals_of_arms<'t>(
     list: &'t [Arm],
 ) -> Result<(), OutOfMemory>
     requires { IsDone front given.old }
-    ensures { OnOk result (Looks front.entry given.old given.new
-        (names_in_bodies (givers_in front.entry) list.now)) }
+    ensures { OnOk result (Looks front.entry given.old given.new (names_in_bodies (givers_in front.entry) list.now)) }
 {
     for a in list {
-        globals_of_arm(given, front, a)?;
+        globals_of_block(given, front, &a.body)?;
     }
     Ok(())
-}
-
-#[cycle(globals)]
-fn globals_of_arm<'t>(
-    given: &mut GivenGlobals<'t>,
-    front: Front<'_, 't>,
-    a: &'t Arm,
-) -> Result<(), OutOfMemory>
-    requires { IsDone front given.old }
-    ensures { OnOk result (Looks front.entry given.old given.new
-        (names_in_block (givers_in front.entry) (tree.block (out-Arm a.now).body.items))) }
-{
-    globals_of_block(given, front, &a.body)
 }
 
 // Those of instruments, each with what is defined in front of it.
@@ -153,29 +134,13 @@ fn globals_of_instruments<'t>(
         (names_in_instruments (definitions_of outside.entry.library.now) (map tree.instrument instrs.now))) }
 {
     for i in instrs {
-        globals_of_instrument(given, outside, i)?;
+        let front = Front {
+            library: outside.library,
+            visible: outside.library.before(i.line),
+        };
+        globals_of_block(given, front, &i.body)?;
     }
     Ok(())
-}
-
-fn globals_of_instrument<'t>(
-    given: &mut GivenGlobals<'t>,
-    outside: Front<'_, 't>,
-    i: &'t Instr,
-) -> Result<(), OutOfMemory>
-    requires { IsDone outside given.old }
-    ensures names { OnOk result (given.new.names ≡ given_globals given.old.names (names_in_block
-        (givers_of (definitions_of outside.entry.library.now)
-        (prefix_len (λ d. nat_lt d.line i.now.line) (definitions_of outside.entry.library.now)))
-        (tree.block i.now.body.items))) }
-    ensures done { OnOk result (IsDone outside.entry given.new) }
-{
-    let library = outside.library;
-    let front = Front {
-        library,
-        visible: library.before(i.line),
-    };
-    globals_of_block(given, front, &i.body)
 }
 
 /// The global variables that statements of an orchestra give, and those of the definitions that they call.

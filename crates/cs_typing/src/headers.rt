@@ -5,7 +5,6 @@ ghost use Rattle.cs_typing.specs.Settings.{raw_of, whole, is_whole_to, is_above_
 ghost use Rattle.cs_typing.specs.Settings.{header_fault, headers_fault, header_of, whole_or, value_or};
 ghost use Rattle.cs_typing.specs.Settings.{ksmps_of, header, is_product, kr_agrees, kr_fault};
 ghost use Rattle.cs_base.specs.Heads.{header_of_head};
-ghost use Rattle.cs_typing.specs.inner.Settled.{is_given};
 
 use cs_base::{GREATEST_KSMPS, GREATEST_SR, Head, MOST_CHANNELS, Num, ONE, OrcFault, OrcKind};
 use cs_grammar::HeadLine;
@@ -39,12 +38,6 @@ pub fn is_whole_to(most: u32, value: Num) -> bool
     raw % ONE as u64 == 0 && 1 <= raw / ONE as u64 && raw / ONE as u64 <= u64::from(most)
 }
 
-fn is_above_zero(value: Num) -> bool
-    ensures { result ≡ is_above_zero value }
-{
-    0 < raw_of(value)
-}
-
 // Whether a header line may give a value; `kr` is judged with the others.
 fn in_range(name: HeadName, value: Num) -> bool
     ensures { result ≡ in_range name value }
@@ -54,42 +47,24 @@ fn in_range(name: HeadName, value: Num) -> bool
         HeadName::Kr => true,
         HeadName::Ksmps => is_whole_to(GREATEST_KSMPS, value),
         HeadName::Nchnls => is_whole_to(MOST_CHANNELS, value),
-        HeadName::Dbfs => is_above_zero(value),
+        HeadName::Dbfs => 0 < raw_of(value),
     }
 }
 
 fn same_head(a: HeadName, b: HeadName) -> bool
     ensures { result ≡ same_head a b }
 {
-    match (a, b) {
-        (HeadName::Sr, HeadName::Sr) => true,
-        (HeadName::Kr, HeadName::Kr) => true,
-        (HeadName::Ksmps, HeadName::Ksmps) => true,
-        (HeadName::Nchnls, HeadName::Nchnls) => true,
-        (HeadName::Dbfs, HeadName::Dbfs) => true,
-        _ => false,
-    }
-}
-
-// Whether a line among these gives the name.
-fn is_given(before: &[HeadLine], name: HeadName) -> bool
-    ensures { result ≡ is_given before.now name }
-{
-    for line in before {
-        if same_head(name, line.name) {
-            return true;
-        }
-    }
-    false
+    a == b
 }
 
 // The first rule that a header line breaks, after those before it.
+#[tactic(auto, using(crate::proofs::Ranges::given))]
 fn header_fault(before: &[HeadLine], line: HeadLine) -> Option<OrcKind>
     ensures { result ≡ header_fault before.now line }
 {
     if !in_range(line.name, line.value) {
         Some(OrcKind::HeaderValue)
-    } else if is_given(before, line.name) {
+    } else if header_of(line.name, before).is_some() {
         Some(OrcKind::HeaderTwice)
     } else {
         None
@@ -113,7 +88,6 @@ pub fn headers_fault(lines: &[HeadLine]) -> Option<OrcFault>
     None
 }
 
-// The first header line of a name.
 fn header_of(name: HeadName, lines: &[HeadLine]) -> Option<HeadLine>
     ensures { result ≡ header_of name lines.now }
 {
@@ -125,49 +99,31 @@ fn header_of(name: HeadName, lines: &[HeadLine]) -> Option<HeadLine>
     None
 }
 
-// The whole number that a header line gives, or else another.
 fn whole_or(other: u32, line: Option<HeadLine>) -> u32
     ensures { result ≡ whole_or other line }
 {
-    match line {
-        None => other,
-        Some(line) => whole(line.value),
-    }
+    line.map_or(other, |line| whole(line.value))
 }
 
 fn value_or(other: Num, line: Option<HeadLine>) -> Num
     ensures { result ≡ value_or other line }
 {
-    match line {
-        None => other,
-        Some(line) => line.value,
-    }
+    line.map_or(other, |line| line.value)
 }
 
-// sr / kr, or 0 where kr isn't above 0.
-fn quotient(sr: u32, kr: Num) -> u64
-    ensures { result ≡ ksmps_of sr (Some (record { line = 0; name = head.Kr; value = kr })) None }
-{
-    let kr = raw_of(kr);
-    if kr == 0 {
-        0
-    } else {
-        u64::from(sr) * ONE as u64 / kr
-    }
-}
-
-// Frames a control cycle: as `ksmps` gives them, or else sr / kr, or else 10.
+// Frames a control cycle: as `ksmps` gives them, or else sr / kr, which is 0 where kr isn't above 0, or else 10.
 fn ksmps_of(sr: u32, kr: Option<HeadLine>, ksmps: Option<HeadLine>) -> u64
     ensures { result ≡ ksmps_of sr kr ksmps }
 {
     match (kr, ksmps) {
         (_, Some(line)) => u64::from(whole(line.value)),
-        (Some(line), None) => quotient(sr, line.value),
+        (Some(line), None) => (u64::from(sr) * ONE as u64)
+            .checked_div(raw_of(line.value))
+            .unwrap_or(0),
         (None, None) => 10,
     }
 }
 
-// Frames a control cycle, as the lines give them.
 fn cycle(lines: &[HeadLine]) -> u64
     ensures { result ≡ (header lines.now).ksmps }
 {
@@ -179,18 +135,11 @@ fn cycle(lines: &[HeadLine]) -> u64
     )
 }
 
-// kr * ksmps = sr exactly
-fn is_product(sr: u32, ksmps: u64, kr: Num) -> bool
-    requires { ksmps ≤ 4096 }
-    ensures { result ≡ is_product sr ksmps kr }
-{
-    raw_of(kr) * ksmps == u64::from(sr) * ONE as u64
-}
-
+// Whether kr * ksmps = sr exactly, with a cycle of a length that is allowed.
 fn kr_agrees(sr: u32, ksmps: u64, kr: Num) -> bool
     ensures { result ≡ kr_agrees sr ksmps kr }
 {
-    1 <= ksmps && ksmps <= 4096 && is_product(sr, ksmps, kr)
+    1 <= ksmps && ksmps <= 4096 && raw_of(kr) * ksmps == u64::from(sr) * ONE as u64
 }
 
 /// The rule that `kr` breaks, if it breaks one.
@@ -209,43 +158,6 @@ pub fn kr_fault(lines: &[HeadLine]) -> Option<OrcFault>
     }
 }
 
-// Frames a second.
-fn frames(lines: &[HeadLine]) -> u32
-    requires { headers_fault [] lines.now ≡ None }
-    ensures value { result ≡ (header lines.now).sr }
-    ensures in_range { (1 ≤ result) × (result ≤ 192000) }
-{
-    whole_or(44_100, header_of(HeadName::Sr, lines))
-}
-
-// Frames a control cycle.
-fn cycle_frames(lines: &[HeadLine]) -> u32
-    requires lines { headers_fault [] lines.now ≡ None }
-    requires kr { kr_fault (header lines.now) (header_of head.Kr lines.now) ≡ None }
-    ensures value { result ≡ (header lines.now).ksmps }
-    ensures in_range { (1 ≤ result) × (result ≤ 4096) }
-{
-    cycle(lines) as u32
-}
-
-// Channels.
-fn channels(lines: &[HeadLine]) -> u32
-    requires { headers_fault [] lines.now ≡ None }
-    ensures value { result ≡ (header lines.now).nchnls }
-    ensures in_range { (1 ≤ result) × (result ≤ 16) }
-{
-    whole_or(1, header_of(HeadName::Nchnls, lines))
-}
-
-// The value of full scale.
-fn full_scale(lines: &[HeadLine]) -> Num
-    requires { headers_fault [] lines.now ≡ None }
-    ensures value { result ≡ (header lines.now).dbfs }
-    ensures in_range { pos 0 <ℤ result }
-{
-    value_or(Num::exact(32_768 * ONE), header_of(HeadName::Dbfs, lines))
-}
-
 /// What header lines without a fault say together.
 pub fn head_of(lines: &[HeadLine]) -> Head
     requires lines { headers_fault [] lines.now ≡ None }
@@ -253,9 +165,9 @@ pub fn head_of(lines: &[HeadLine]) -> Head
     ensures { header_of_head result ≡ header lines.now }
 {
     Head {
-        sr: frames(lines),
-        ksmps: cycle_frames(lines),
-        nchnls: channels(lines),
-        dbfs: full_scale(lines),
+        sr: whole_or(44_100, header_of(HeadName::Sr, lines)),
+        ksmps: cycle(lines) as u32,
+        nchnls: whole_or(1, header_of(HeadName::Nchnls, lines)),
+        dbfs: value_or(Num::exact(32_768 * ONE), header_of(HeadName::Dbfs, lines)),
     }
 }

@@ -6,26 +6,21 @@ ghost use Rattle.cs_grammar.specs.Tree as tree;
 ghost use Rattle.cs_typed.specs.TypedTree as typed;
 ghost use Rattle.cs_typed.specs.declared.tree.Var.TheVariants.{Local};
 ghost use Rattle.cs_typing.specs.inner.Answers.{GivesOne, Judged};
-ghost use Rattle.cs_typing.specs.inner.Listed.{Adds};
-ghost use Rattle.cs_typing.specs.inner.Routines.{all_given_in, given_in, inputs_fault, known_in, no_locals};
-ghost use Rattle.cs_typing.specs.inner.Routines.{knows_in, variable_in};
+ghost use Rattle.cs_typing.specs.{inner.Listed.Adds, inner.Routines.variable_in, Expressions.expression_by};
+ghost use Rattle.cs_typing.specs.{Settings.at, Statements.set_fault_by, inner.Held.known_of, inner.Held.locals_of};
+ghost use Rattle.cs_typing.specs.inner.Routines.{all_given_in, inputs_fault, known_in, no_locals, knows_in};
 ghost use Rattle.cs_typing.specs.inner.Slots.{given_set, slot_numbers, slots_fault, slots_past, slots_set, taken_fault};
 ghost use Rattle.cs_typing.specs.inner.Slots.{one_counted, taken_kind, taken_set};
-ghost use Rattle.cs_typing.specs.Expressions.{expression_by};
-ghost use Rattle.cs_typing.specs.Settings.{at};
-ghost use Rattle.cs_typing.specs.Statements.{set_fault_by};
 ghost use Rattle.cs_udo.specs.Names.{slot};
 ghost use Rattle.cs_words.specs.Names.{name_rate};
-ghost use Rattle.cs_typing.specs.inner.Held.{known_of, locals_of};
 
 use crate::assign::{Target, set};
 use crate::call::broken;
 use crate::known::{KnownNames, Scope, plus};
-use crate::making::add;
 use cs_base::{Name, Or, OrcFault, OrcKind, OutOfMemory, PerRate, Rate};
 use cs_grammar::{Arg, Expr, Udo};
 use cs_typed::{Setting, TypedExpr, TypedPart, TypedStmt, TypedStmts, TypedWhat, Var};
-use cs_words::{is_global, name_rate};
+use cs_words::name_rate;
 
 /// A call of a defined opcode.
 #[derive(Clone, Copy)]
@@ -44,20 +39,9 @@ pub fn inputs_of<'t>(names: &KnownNames<'t>, definition: &'t Udo) -> Result<Scop
 {
     let mut made = Scope::new(names.alloc());
     for name in definition.names.as_slice() {
-        give(&mut made, name.as_slice())?;
+        made.give(name.as_slice())?;
     }
     Ok(made)
-}
-
-// Notes that a variable is given.
-fn give<'t>(scope: &mut Scope<'t>, name: &'t [u8]) -> Result<(), OutOfMemory>
-    ensures { OnOk result (locals_of scope.new ≡ given_in (locals_of scope.old) name.now) }
-{
-    if is_global(name) {
-        Ok(())
-    } else {
-        scope.add(name)
-    }
 }
 
 // A variable of the routine as its caller numbers it.
@@ -93,7 +77,7 @@ pub fn give_inputs<'t>(
             Arg::Value(e) => {
                 let name = list[i].as_slice();
                 let to = moved(it.base, name_rate(name), inputs.number(name))?;
-                add(done, set(setting, names, it.line, to, e)?)?;
+                done.push(set(setting, names, it.line, to, e)?)?;
             }
         }
     }
@@ -132,7 +116,6 @@ pub fn give_slots<'t>(
     Ok(slots)
 }
 
-// The same of one.
 fn give_slot<'t>(
     setting: Setting,
     names: &mut KnownNames<'t>,
@@ -150,12 +133,14 @@ fn give_slot<'t>(
         ≡ known_in names.old.shared (one_counted (known_of names.old).locals rate)) }
     ensures number { IfOk result (λ n. n ≡ at_rate (known_of names.old).locals.counts rate) }
 {
+    let number = names.scope.counts().of(rate);
     let to = Target {
         rate,
-        var: Var::Local(rate, names.local_counts().of(rate)),
+        var: Var::Local(rate, number),
     };
-    add(done, set(setting, names, line, to, e)?)?;
-    Ok(names.take_one(rate)?)
+    done.push(set(setting, names, line, to, e)?)?;
+    names.scope.take_one(rate)?;
+    Ok(number)
 }
 
 /// Judges that variables of the caller take the results from the slots of these numbers, and adds the assignments; they
@@ -179,9 +164,9 @@ pub fn give_results<'t>(
         let name = it.results[i].as_slice();
         if i < rates.len() {
             let from = moved(it.base, rates[i], slots[i])?;
-            add(done, taken(setting, names, it.line, name, from)?)?;
+            done.push(taken(setting, names, it.line, name, from)?)?;
         }
-        names.give(name)?;
+        names.scope.give(name)?;
     }
     Ok(())
 }

@@ -1,14 +1,11 @@
 // What is known at a place of the text: names of variables and of channels, each with its number.
-ghost use Rattle.std.specs.Prelude.{◌≡◌, ◌+◌, OnOk, IfOk, if◌then◌else◌};
-ghost use Rattle.cs_base.specs.Rates.{at_rate};
-ghost use Rattle.cs_typing.specs.Known.{no_names, of_rate, in_table, place_in, added, first_with};
-ghost use Rattle.cs_typing.specs.Known.{clashes, channel_of, use_channel, global};
-ghost use Rattle.cs_typing.specs.Typing.{shared_names};
+ghost use Rattle.std.specs.Prelude.{◌≡◌, ◌+◌, OnOk, IfOk};
+ghost use Rattle.cs_typing.specs.Known.{no_names, of_rate, in_table, place_in, added, first_with, clashes, channel_of};
+ghost use Rattle.cs_typing.specs.{Known.use_channel, Known.global, Typing.shared_names};
 ghost use Rattle.cs_typed.specs.TypedTree as typed;
-ghost use Rattle.cs_typing.specs.inner.Routines.{no_locals, has_local, number_in, with_local, given_in, counted};
+ghost use Rattle.cs_typing.specs.inner.Routines.{no_locals, has_local, number_in, given_in, counted};
 ghost use Rattle.cs_typing.specs.inner.Routines.{past_call, known_in, knows_in, variable_in};
-ghost use Rattle.cs_typing.specs.inner.Held.{known_of, locals_of};
-ghost use Rattle.cs_typing.specs.inner.Slots.{one_counted};
+ghost use Rattle.cs_typing.specs.{inner.Held.known_of, inner.Held.locals_of, inner.Slots.one_counted};
 
 use cs_base::{Names, OutOfMemory, PerRate, Rate, Res};
 use cs_typed::{Globals, Var};
@@ -30,38 +27,19 @@ pub enum Channel {
 pub fn plus(a: usize, b: usize) -> Result<usize, OutOfMemory>
     ensures { IfOk result (λ n. n ≡ a + b) }
 {
-    match a.checked_add(b) {
-        Some(sum) => Ok(sum),
-        None => Err(OutOfMemory),
-    }
+    a.checked_add(b).ok_or(OutOfMemory)
 }
 
-// One more of a rate.
 fn one_more(counts: PerRate<usize>, rate: Rate) -> Result<PerRate<usize>, OutOfMemory>
     ensures { IfOk result (λ c. c ≡ counted rate counts) }
 {
-    let PerRate {
-        init,
-        control,
-        audio,
-    } = counts;
+    let mut more = counts;
     match rate {
-        Rate::Init => Ok(PerRate {
-            init: plus(init, 1)?,
-            control,
-            audio,
-        }),
-        Rate::Control => Ok(PerRate {
-            init,
-            control: plus(control, 1)?,
-            audio,
-        }),
-        Rate::Audio => Ok(PerRate {
-            init,
-            control,
-            audio: plus(audio, 1)?,
-        }),
+        Rate::Init => more.init = plus(counts.init, 1)?,
+        Rate::Control => more.control = plus(counts.control, 1)?,
+        Rate::Audio => more.audio = plus(counts.audio, 1)?,
     }
+    Ok(more)
 }
 
 /// The local variables that a body has so far: the number of each among those of its rate, and how many numbers of each
@@ -87,7 +65,6 @@ impl<'t> Scope<'t> {
         }
     }
 
-    // The number of a variable that is given.
     fn given_number(&self, name: &[u8]) -> Option<usize>
         ensures { result ≡ (locals_of self.now).number name.now }
     {
@@ -105,18 +82,15 @@ impl<'t> Scope<'t> {
     pub fn number(&self, name: &[u8]) -> usize
         ensures { result ≡ number_in (locals_of self.now) name.now }
     {
-        match self.given_number(name) {
-            Some(number) => number,
-            None => self.counts.of(name_rate(name)),
-        }
+        self.given_number(name)
+            .unwrap_or(self.counts.of(name_rate(name)))
     }
 
-    /// Notes that a local variable is given.
-    pub fn add(&mut self, name: &'t [u8]) -> Result<(), OutOfMemory>
-        ensures { OnOk result (locals_of self.new ≡ (if has_local (locals_of self.old) name.now
-            then locals_of self.old else with_local (locals_of self.old) name.now)) }
+    /// Notes that a variable is given: a local one is among the body's own from now on.
+    pub fn give(&mut self, name: &'t [u8]) -> Result<(), OutOfMemory>
+        ensures { OnOk result (locals_of self.new ≡ given_in (locals_of self.old) name.now) }
     {
-        if self.has(name) {
+        if is_global(name) || self.has(name) {
             return Ok(());
         }
         let rate = name_rate(name);
@@ -219,17 +193,13 @@ impl<'t> NamesByRate<'t> {
         }
     }
 
-    // All names, copied.
     fn copied(&self, alloc: Global) -> Result<PerRate<Names>, OutOfMemory>
         ensures { IfOk result (λ made. made ≡ self.now) }
     {
-        let init = self.init.to_names(alloc)?;
-        let control = self.control.to_names(alloc)?;
-        let audio = self.audio.to_names(alloc)?;
         Ok(PerRate {
-            init,
-            control,
-            audio,
+            init: self.init.to_names(alloc)?,
+            control: self.control.to_names(alloc)?,
+            audio: self.audio.to_names(alloc)?,
         })
     }
 }
@@ -287,13 +257,10 @@ impl<'t> Shared<'t> {
     pub fn copied(&self, alloc: Global) -> Result<Globals, OutOfMemory>
         ensures { IfOk result (λ made. typed.shared_names made ≡ shared_names self.now) }
     {
-        let variables = self.globals.copied(alloc)?;
-        let control = self.control.to_names(alloc)?;
-        let sound = self.sound.to_names(alloc)?;
         Ok(Globals {
-            variables,
-            control,
-            sound,
+            variables: self.globals.copied(alloc)?,
+            control: self.control.to_names(alloc)?,
+            sound: self.sound.to_names(alloc)?,
         })
     }
 }
@@ -303,7 +270,7 @@ impl<'t> Shared<'t> {
 pub struct KnownNames<'t> {
     alloc: Global,
     pub shared: Shared<'t>,
-    scope: Scope<'t>,
+    pub scope: Scope<'t>,
 }
 
 impl<'t> KnownNames<'t> {
@@ -349,47 +316,6 @@ impl<'t> KnownNames<'t> {
         }
     }
 
-    /// Notes that a variable is given: a local one is among the body's own from now on.
-    pub fn give(&mut self, name: &'t [u8]) -> Result<(), OutOfMemory>
-        ensures { OnOk result (known_of self.new
-            ≡ known_in self.old.shared (given_in (known_of self.old).locals name.now)) }
-    {
-        if is_global(name) {
-            Ok(())
-        } else {
-            self.scope.add(name)
-        }
-    }
-
-    /// The same; what is made of a statement is handed on.
-    pub fn given<T: Drop>(&mut self, name: &'t [u8], made: T) -> Result<T, OutOfMemory>
-        ensures made { IfOk result (λ m. m ≡ made) }
-        ensures known { OnOk result (known_of self.new
-            ≡ known_in self.old.shared (given_in (known_of self.old).locals name.now)) }
-    {
-        self.give(name)?;
-        Ok(made)
-    }
-
-    /// Takes the next number of a rate, for a variable that no name of the text has; returns that number.
-    pub fn take_one(&mut self, rate: Rate) -> Result<usize, OutOfMemory>
-        ensures number { IfOk result (λ n. n ≡ at_rate (known_of self.old).locals.counts rate) }
-        ensures known { OnOk result (known_of self.new
-            ≡ known_in self.old.shared (one_counted (known_of self.old).locals rate)) }
-    {
-        let number = self.scope.counts().of(rate);
-        self.scope.take_one(rate)?;
-        Ok(number)
-    }
-
-    /// Takes some numbers of each rate, for the variables of a body that is called.
-    pub fn take(&mut self, counts: PerRate<usize>) -> Result<(), OutOfMemory>
-        ensures { OnOk result (known_of self.new
-            ≡ known_in self.old.shared (past_call (known_of self.old).locals counts)) }
-    {
-        self.scope.take(counts)
-    }
-
     /// Exchanges the body's own variables for those of another body.
     pub fn exchange(&mut self, other: &mut Scope<'t>)
         ensures own { known_of self.new ≡ known_in self.old.shared (locals_of other.old) }
@@ -397,16 +323,8 @@ impl<'t> KnownNames<'t> {
     {
         swap(&mut self.scope, other);
     }
-
-    /// How many numbers of each rate the body has taken.
-    pub fn local_counts(&self) -> PerRate<usize>
-        ensures { result ≡ (known_of self.now).locals.counts }
-    {
-        self.scope.counts()
-    }
 }
 
-// A global variable of a rate, by its number.
 fn global(rate: Rate, number: usize) -> Res
     ensures { result ≡ global rate number }
 {

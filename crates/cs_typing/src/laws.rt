@@ -1,13 +1,11 @@
 // What holds of typed orchestras: calls that do nothing, whose contracts are the laws.
 ghost use Rattle.std.specs.List.{All, IsDistinct, flat_map};
 ghost use Rattle.std.specs.Prelude.{ℕ, ◌≡◌, List, None, eqb};
-ghost use Rattle.cs_grammar.specs.Tree.{Orchestra, Statement, Block};
-ghost use Rattle.cs_grammar.specs.WellFormed.{IsWellFormed};
+ghost use Rattle.cs_grammar.specs.{Tree.Orchestra, Tree.Statement, Tree.Block, WellFormed.IsWellFormed};
 ghost use Rattle.cs_typed.specs.declared.setting.Setting.{Setting};
-ghost use Rattle.cs_typing.specs.Known.{KnownHere};
+ghost use Rattle.cs_typing.specs.{Known.KnownHere, Typing.type_fault, Typing.typed_of};
 ghost use Rattle.cs_typing.specs.Renaming.{IsRenaming, renamed, renamed_block, renamed_known};
 ghost use Rattle.cs_typing.specs.Statements.{known, known_block, fault, block_fault, typed_statement, typed_block};
-ghost use Rattle.cs_typing.specs.Typing.{type_fault, typed_of};
 ghost use Rattle.cs_typed.specs.TypedTree as typed;
 ghost use Rattle.cs_typed.specs.WellRated.{IsWellRated, BlockHasNoZakinit};
 

@@ -8,8 +8,8 @@
 //! instrument's number stands once (`numbers_stand_once`); `types_worked_by_hand` and `settings_worked_by_hand` are its
 //! rows. How names are looked up, and what is typed once, may be changed without anyone above noticing.
 //!
-//! To be read in this order: `known` (names and their numbers), `making` (boxes and lists), `expr`, `call`, `assign`
-//! (what is judged where it stands), `routines` and `invoke` (what defined opcodes do, and what stands beside a call
+//! To be read in this order: `known` (names and their numbers), `expr`, `call`, `assign` (what is judged where it
+//! stands), `routines` and `invoke` (what defined opcodes do, and what stands beside a call
 //! of one), `stmt`, `headers`, `zak` and `settle` (what holds for the whole piece), `globals` (the variables that all
 //! instruments share), `orc` (the parts in the order of the text), `laws`, `examples`. What is made, the typed tree,
 //! is the layer below.
@@ -24,7 +24,6 @@ mod headers;
 mod invoke;
 mod known;
 mod laws;
-mod making;
 mod orc;
 mod routines;
 mod settle;

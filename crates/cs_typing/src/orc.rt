@@ -6,21 +6,15 @@ ghost use Rattle.cs_base.specs.declared.fault.OrcFault.{OrcFault};
 ghost use Rattle.cs_grammar.specs.Tree as tree;
 ghost use Rattle.cs_typed.specs.TypedTree as typed;
 ghost use Rattle.cs_typing.specs.Typing.{items, alone, body, type_fault, typed_of};
-ghost use Rattle.cs_typing.specs.inner.Answers.{Judged};
-ghost use Rattle.cs_typing.specs.inner.Settled.{settings_of};
-ghost use Rattle.cs_typing.specs.inner.Listed.{blocks_in};
-ghost use Rattle.cs_typing.specs.inner.Parts.{made_from, made_with, nothing, part_fault, parts_fault};
-ghost use Rattle.cs_typing.specs.inner.Parts.{instrument_in, statements_fault, typed_by};
-ghost use Rattle.cs_typing.specs.inner.Walk.{AddsParts, AreSound, GivesInstrument, GivesOrc, IsBegun};
-ghost use Rattle.cs_typing.specs.inner.Walk.{IsBehind, made_of};
-ghost use Rattle.cs_udo.specs.Expanded.{expanded_orchestra};
-ghost use Rattle.cs_udo.specs.Library.{definitions_of};
-ghost use Rattle.cs_typing.specs.inner.Held.{known_of};
-ghost use Rattle.cs_udo.specs.Ready.{IsReady};
+ghost use Rattle.cs_typing.specs.{inner.Answers.Judged, inner.Settled.settings_of, inner.Listed.blocks_in};
+ghost use Rattle.cs_typing.specs.{inner.Walk.made_of, inner.Held.known_of};
+ghost use Rattle.cs_typing.specs.inner.Parts.{made_from, made_with, nothing, part_fault, parts_fault, instrument_in};
+ghost use Rattle.cs_typing.specs.inner.Parts.{statements_fault, typed_by};
+ghost use Rattle.cs_typing.specs.inner.Walk.{AddsParts, AreSound, GivesInstrument, GivesOrc, IsBegun, IsBehind};
+ghost use Rattle.cs_udo.specs.{Expanded.expanded_orchestra, Library.definitions_of, Ready.IsReady};
 
 use crate::globals::globals_of;
 use crate::known::{KnownNames, Scope};
-use crate::making::add;
 use crate::routines::{RoutineTable, Site, SoFar};
 use crate::settle::{Settings, judge_settings};
 use crate::stmt::block;
@@ -48,7 +42,6 @@ impl Done {
         }
     }
 
-    // Adds statements outside instruments.
     fn add_outside(&mut self, mut more: TypedStmts) -> Result<(), OutOfMemory>
         ensures { OnOk result ((rs : List typed.Block) → made_of rs self.new
             ≡ made_with (typed.then_block (made_of rs self.old).zero (typed.block rs more.items))
@@ -58,12 +51,12 @@ impl Done {
         Ok(())
     }
 
-    // Adds an instrument.
     fn add_instrument(&mut self, i: TypedInstr) -> Result<(), OutOfMemory>
         ensures { OnOk result ((rs : List typed.Block) → made_of rs self.new
             ≡ made_with (made_of rs self.old).zero ((made_of rs self.old).instrs ++ typed.instrument rs i ∷ [])) }
     {
-        add(&mut self.instrs, i)
+        self.instrs.push(i)?;
+        Ok(())
     }
 }
 
@@ -92,7 +85,6 @@ impl<'t> Typing<'t> {
         })
     }
 
-    // Judges statements outside instruments, and adds their typed forms.
     fn add_outside(
         &mut self,
         channels: u32,
@@ -117,7 +109,6 @@ impl<'t> Typing<'t> {
         Ok(self.made.add_outside(more)?)
     }
 
-    // Judges an instrument, and adds its typed form.
     fn add_instrument(
         &mut self,
         channels: u32,
@@ -159,7 +150,6 @@ impl<'t> Typing<'t> {
         self.add_outside(channels, library, rest)
     }
 
-    // What is made, with the names that its notes share.
     fn finished(&mut self, settings: Settings) -> Result<TypedOrc, OutOfMemory>
         ensures { IfOk result (λ t. typed.orchestra t
             ≡ made_from (settings_of settings) (known_of self.old.so_far.names)
@@ -182,12 +172,12 @@ impl<'t> Typing<'t> {
 
     // Judges an orchestra whose settings have no fault, where nothing of it is judged yet.
     fn typed(
-        &mut self,
+        mut self,
         settings: Settings,
         expansion: &Expansion<'t>,
     ) -> Result<TypedOrc, Or<OrcFault>>
         requires ready { IsReady expansion.now }
-        requires begun { IsBegun expansion.now self.old }
+        requires begun { IsBegun expansion.now self }
         ensures { GivesOrc result (statements_fault settings.head.nchnls (tree.orchestra expansion.now.orc.now))
             (typed_by (settings_of settings) (tree.orchestra expansion.now.orc.now)) }
     {
@@ -238,42 +228,7 @@ fn before_line(stmts: &[OrcStmt], line: u32) -> usize
     ensures count { result ≡ prefix_len (λ s. nat_lt s.line line) stmts.now }
     ensures within { result ≤ length stmts.now }
 {
-    let mut count: usize = 0;
-    for s in stmts {
-        if s.line >= line {
-            return count;
-        }
-        count += 1;
-    }
-    count
-}
-
-// An orchestra that is begun; what is known of it is let go afterwards.
-fn typed_from<'t>(
-    mut typing: Typing<'t>,
-    settings: Settings,
-    expansion: &Expansion<'t>,
-) -> Result<TypedOrc, Or<OrcFault>>
-    requires ready { IsReady expansion.now }
-    requires begun { IsBegun expansion.now typing }
-    ensures { GivesOrc result (statements_fault settings.head.nchnls (tree.orchestra expansion.now.orc.now))
-        (typed_by (settings_of settings) (tree.orchestra expansion.now.orc.now)) }
-{
-    typing.typed(settings, expansion)
-}
-
-// An orchestra whose settings have no fault.
-fn settled(
-    alloc: Global,
-    settings: Settings,
-    expansion: &Expansion<'_>,
-) -> Result<TypedOrc, Or<OrcFault>>
-    requires { IsReady expansion.now }
-    ensures { GivesOrc result (statements_fault settings.head.nchnls (tree.orchestra expansion.now.orc.now))
-        (typed_by (settings_of settings) (tree.orchestra expansion.now.orc.now)) }
-{
-    let typing = Typing::new(alloc, expansion)?;
-    typed_from(typing, settings, expansion)
+    stmts.iter().take_while(|s| s.line < line).count()
 }
 
 /// Judges rates, names and types of an orchestra, as if its calls of defined opcodes were expanded, and gives its typed
@@ -290,5 +245,5 @@ pub fn type_orc(alloc: Global, expansion: &Expansion<'_>) -> Result<TypedOrc, Or
         → type_fault (expanded_orchestra (tree.orchestra expansion.now.orc.now)) ≡ Some f }
 {
     let settings = judge_settings(&expansion.orc.head, &expansion.orc.zero)?;
-    settled(alloc, settings, expansion)
+    Typing::new(alloc, expansion)?.typed(settings, expansion)
 }

@@ -1,6 +1,5 @@
 // The routines of an orchestra: what its defined opcodes do, each typed where it is first called.
-ghost use Rattle.std.specs.Prelude.{◌≡◌, ◌++◌, ◌<◌, [], ◌∷◌, true, length, replicate};
-ghost use Rattle.std.specs.Prelude.{slice_get, slice_set, None};
+ghost use Rattle.std.specs.Prelude.{◌≡◌, ◌++◌, ◌<◌, [], ◌∷◌, true, length, replicate, slice_get, slice_set, None};
 ghost use Rattle.std.specs.Prelude.{IfNone, IfOk, IfSome, OnOk, Some};
 ghost use Rattle.cs_typing.specs.declared.routines.TypedDefinition.{TypedDefinition};
 
@@ -67,10 +66,7 @@ impl RoutineTable {
         ensures none { IfNone result ((it : TypedDefinition)
             → slice_get self.now.by_definition.items definition ≡ Some (Some it) → ⊥) }
     {
-        match self.by_definition.get(definition) {
-            Some(Some(typed)) => Some(typed),
-            _ => None,
-        }
+        self.by_definition.get(definition)?.as_ref()
     }
 
     /// Adds the routine of a definition that isn't typed.

@@ -3,8 +3,7 @@ ghost use Rattle.std.specs.Prelude.{◌≡◌, None, []};
 ghost use Rattle.cs_words.specs.declared.word.HeadName.TheVariants as head;
 ghost use Rattle.cs_grammar.specs.Tree.{block};
 ghost use Rattle.cs_typing.specs.Settings.{earlier, settings_fault, headers_fault, header_of, header, kr_fault};
-ghost use Rattle.cs_typing.specs.Settings.{zaks_of_block, zak_spaces};
-ghost use Rattle.cs_typing.specs.inner.Answers.{Gives};
+ghost use Rattle.cs_typing.specs.{Settings.zaks_of_block, Settings.zak_spaces, inner.Answers.Gives};
 ghost use Rattle.cs_typing.specs.inner.Settled.{settings_of, told};
 
 use crate::headers::{head_of, headers_fault, kr_fault};
@@ -21,28 +20,12 @@ pub struct Settings {
 
 // Whichever of two faults comes first in the text.
 fn earlier(f: Option<OrcFault>, g: Option<OrcFault>) -> Option<OrcFault>
-    ensures value { result ≡ earlier f g }
-    ensures none { result ≡ None → f ≡ None }
+    ensures { result ≡ earlier f g }
 {
     match (f, g) {
         (None, g) => g,
         (f, None) => f,
         (Some(f), Some(g)) => { if f.line <= g.line { Some(f) } else { Some(g) } }
-    }
-}
-
-// Judges `kr` after the other settings.
-fn with_kr(lines: &[HeadLine], spaces: Spaces) -> Result<Settings, Or<OrcFault>>
-    requires { headers_fault [] lines.now ≡ None }
-    ensures { Gives settings_of result (kr_fault (header lines.now) (header_of head.Kr lines.now))
-        (told (header lines.now) spaces) }
-{
-    match kr_fault(lines) {
-        Some(fault) => Err(Or::Fault(fault)),
-        None => Ok(Settings {
-            head: head_of(lines),
-            spaces,
-        }),
     }
 }
 
@@ -52,8 +35,11 @@ pub fn judge_settings(lines: &[HeadLine], outside: &[OrcStmt]) -> Result<Setting
         (told (header lines.now) (zak_spaces (zaks_of_block (block outside.now)))) }
 {
     let zaks = zaks_of(outside);
-    match earlier(headers_fault(lines), zaks.fault) {
+    match earlier(headers_fault(lines), zaks.fault).or(kr_fault(lines)) {
         Some(fault) => Err(Or::Fault(fault)),
-        None => with_kr(lines, zaks.spaces),
+        None => Ok(Settings {
+            head: head_of(lines),
+            spaces: zaks.spaces,
+        }),
     }
 }

@@ -3,67 +3,39 @@
 ghost use Rattle.std.specs.Prelude.{◌≡◌, ◌<◌, List, OnOk, Some, map, slice_get};
 ghost use Rattle.cs_grammar.specs.Tree as tree;
 ghost use Rattle.cs_grammar.specs.declared.tree.Callee.{Callee};
-ghost use Rattle.cs_typing.specs.Expressions.{expression_by};
-ghost use Rattle.cs_typing.specs.Settings.{at};
-ghost use Rattle.cs_typing.specs.Statements.{condition_fault_by, choice_rate, all_init};
+ghost use Rattle.cs_typing.specs.{Expressions.expression_by, Settings.at};
+ghost use Rattle.cs_typing.specs.Statements.{condition_fault_by, choice_rate};
 ghost use Rattle.cs_typed.specs.TypedTree as typed;
-ghost use Rattle.cs_typing.specs.inner.Answers.{Gives, Judged};
+ghost use Rattle.cs_typing.specs.{inner.Answers.Gives, inner.Answers.Judged, inner.Held.known_of, inner.Held.locals_of};
 ghost use Rattle.cs_typing.specs.inner.Listed.{AddsOver, GivesArm, GivesArms, GivesBlock, IsAhead, IsListed, IsSound};
 ghost use Rattle.cs_typing.specs.inner.Listed.{routine_here, routines_at};
-ghost use Rattle.cs_typing.specs.inner.Routines.{all_given_in, call_fault_in, call_in, locals_after_call};
-ghost use Rattle.cs_typing.specs.inner.Routines.{fault_in, block_fault_in, known_after, known_after_block, knows_in};
-ghost use Rattle.cs_typing.specs.inner.Routines.{known_in, no_locals, typed_in, typed_block_in, variable_in};
+ghost use Rattle.cs_typing.specs.inner.Routines.{all_given_in, call_fault_in, call_in, locals_after_call, fault_in};
+ghost use Rattle.cs_typing.specs.inner.Routines.{block_fault_in, known_after, known_after_block, knows_in, known_in};
+ghost use Rattle.cs_typing.specs.inner.Routines.{no_locals, typed_in, typed_block_in, variable_in};
 ghost use Rattle.cs_udo.specs.Library.{definitions_of};
-ghost use Rattle.cs_typing.specs.inner.Held.{known_of, locals_of};
 
 use crate::assign::set_name;
 use crate::call::{broken, call};
 use crate::expr::{is_condition, rate_of, reads_known, typed_expression};
 use crate::invoke::{Invocation, give_inputs, give_results, give_slots, inputs_of};
 use crate::known::{KnownNames, Scope};
-use crate::making::add;
 use crate::routines::{Site, SoFar};
 use cs_base::{Or, OrcFault, OrcKind, PerRate, Rate};
 use cs_grammar::{Arm, Expr, OrcStmt, StmtWhat, Udo};
 use cs_typed::{Setting, TypedArm, TypedArms, TypedExpr, TypedStmt, TypedStmts, TypedWhat};
 
-// The first rule that the condition of an `if` breaks.
-fn condition_fault<'t>(setting: Setting, names: &KnownNames<'t>, e: &Expr) -> Option<OrcKind>
-    ensures { result ≡ condition_fault_by setting (knows_in (known_of names.now)) (tree.expression e.now) }
-{
-    if !reads_known(names, e) {
-        Some(OrcKind::Undefined)
-    } else if !(is_condition(e) && (setting.inside || rate_of(e).is_init())) {
-        Some(OrcKind::RateMismatch)
-    } else {
-        None
-    }
-}
-
-// Whether all conditions are known when the note begins.
-fn all_init(list: &[Arm]) -> bool
-    ensures { (els : tree.Block) → result ≡ all_init (tree.arms els list.now) }
-{
-    for arm in list {
-        if !rate_of(&arm.cond).is_init() {
-            return false;
-        }
-    }
-    true
-}
-
-// The rate of an `if`.
+// The rate of an `if`: it is done once where all its conditions are known when the note begins.
 fn choice_rate(list: &[Arm]) -> Rate
     ensures { (els : tree.Block) → result ≡ choice_rate (tree.arms els list.now) }
 {
-    if all_init(list) {
-        Rate::Init
-    } else {
-        Rate::Control
+    for arm in list {
+        if !rate_of(&arm.cond).is_init() {
+            return Rate::Control;
+        }
     }
+    Rate::Init
 }
 
-// The condition of an arm.
 fn condition<'t>(
     setting: Setting,
     names: &KnownNames<'t>,
@@ -74,8 +46,11 @@ fn condition<'t>(
         (at line (condition_fault_by setting (knows_in (known_of names.now)) (tree.expression e.now)))
         (expression_by (variable_in (known_of names.now)) (tree.expression e.now)) }
 {
-    if let Some(kind) = condition_fault(setting, names, e) {
-        return Err(broken(line, kind));
+    if !reads_known(names, e) {
+        return Err(broken(line, OrcKind::Undefined));
+    }
+    if !(is_condition(e) && (setting.inside || rate_of(e).is_init())) {
+        return Err(broken(line, OrcKind::RateMismatch));
     }
     Ok(typed_expression(names, e)?)
 }
@@ -100,7 +75,8 @@ fn stmt<'t>(
     match &s.what {
         StmtWhat::Set(name, e) => {
             let made = set_name(site.setting, &mut so_far.names, s.line, name.as_slice(), e)?;
-            Ok(add(done, made)?)
+            done.push(made)?;
+            Ok(())
         }
         StmtWhat::Call(results, callee, args) => {
             let results = results.as_slice();
@@ -108,7 +84,8 @@ fn stmt<'t>(
                 None => {
                     let names = &mut so_far.names;
                     let made = call(site.setting, names, s.line, results, callee, args)?;
-                    Ok(add(done, made)?)
+                    done.push(made)?;
+                    Ok(())
                 }
                 Some(found) => {
                     let it = Invocation {
@@ -116,7 +93,7 @@ fn stmt<'t>(
                         results,
                         args,
                         definition: found.definition,
-                        base: so_far.names.local_counts(),
+                        base: so_far.names.scope.counts(),
                     };
                     invoke(site, so_far, done, &it, found.place)
                 }
@@ -130,7 +107,8 @@ fn stmt<'t>(
                 rate: choice_rate(list),
                 what: TypedWhat::Choose(typed, typed_els),
             };
-            Ok(add(done, made)?)
+            done.push(made)?;
+            Ok(())
         }
     }
 }
@@ -169,14 +147,13 @@ fn invoke<'t>(
     match routines.of(place) {
         None => Ok(()),
         Some(found) => {
-            add(done, invocation(it.line, found.routine, it.base))?;
-            names.take(found.locals)?;
+            done.push(invocation(it.line, found.routine, it.base))?;
+            names.scope.take(found.locals)?;
             give_results(site.setting, names, done, it, &found.slots)
         }
     }
 }
 
-// The typed form of an invocation.
 fn invocation(line: u32, routine: usize, base: PerRate<usize>) -> TypedStmt
     ensures { (rs : List typed.Block) → typed.statement rs result
         ≡ typed.moved_block base (typed.routine_at rs routine) }
@@ -263,7 +240,7 @@ fn arms<'t>(
 {
     let mut done = Vec::new(so_far.names.alloc());
     for a in list {
-        add(&mut done, arm(site, so_far, line, a)?)?;
+        done.push(arm(site, so_far, line, a)?)?;
     }
     Ok(done)
 }

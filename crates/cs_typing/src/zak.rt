@@ -1,9 +1,7 @@
 // `zakinit`s outside instruments, in the order of the text: their first fault, and the two zak spaces.
-ghost use Rattle.std.specs.Prelude.{◌≡◌, map, true, false, None};
-ghost use Rattle.std.specs.List.{list_all};
+ghost use Rattle.std.specs.{Prelude.◌≡◌, Prelude.map, Prelude.true, Prelude.false, Prelude.None, List.list_all};
 ghost use Rattle.cs_grammar.specs.Tree as tree;
-ghost use Rattle.cs_grammar.specs.declared.tree.Arm.{out-Arm};
-ghost use Rattle.cs_typing.specs.Settings.{at, is_zakinit, is_size, zak_fault, zaks, zaks_of_block, zaks_of_arms};
+ghost use Rattle.cs_typing.specs.Settings.{at, is_size, zak_fault, zaks, zaks_of_block, zaks_of_arms};
 ghost use Rattle.cs_typing.specs.Settings.{zaks_fault, places, sizes, zak_spaces};
 ghost use Rattle.cs_typing.specs.inner.Settled.{zak_at, after_zak, after_zaks};
 
@@ -93,7 +91,6 @@ fn sizes(args: &[Arg]) -> Spaces
     }
 }
 
-// What is known after one more `zakinit`.
 fn after_zak(before: Zaks, line: u32, args: &[Arg]) -> Zaks
     ensures { result ≡ after_zak before (zak_at line (map tree.argument args.now)) }
 {
@@ -108,12 +105,6 @@ fn after_zak(before: Zaks, line: u32, args: &[Arg]) -> Zaks
     }
 }
 
-fn is_zakinit(callee: &Callee) -> bool
-    ensures { result ≡ is_zakinit callee.now }
-{
-    matches!(callee, Callee::Opcode(Opcode::Zakinit))
-}
-
 #[cycle(zaks)]
 fn after_stmt(before: Zaks, s: &OrcStmt) -> Zaks
     ensures { result ≡ after_zaks before (zaks (tree.statement s.now)) }
@@ -121,7 +112,7 @@ fn after_stmt(before: Zaks, s: &OrcStmt) -> Zaks
     match &s.what {
         StmtWhat::Set(_, _) => before,
         StmtWhat::Call(_, callee, args) => {
-            if is_zakinit(callee) {
+            if matches!(callee, Callee::Opcode(Opcode::Zakinit)) {
                 after_zak(before, s.line, args)
             } else {
                 before
@@ -149,16 +140,9 @@ fn after_arms(before: Zaks, list: &[Arm]) -> Zaks
 {
     let mut known = before;
     for a in list {
-        known = after_arm(known, a);
+        known = after_block(known, &a.body);
     }
     known
-}
-
-#[cycle(zaks)]
-fn after_arm(before: Zaks, a: &Arm) -> Zaks
-    ensures { result ≡ after_zaks before (zaks_of_block (tree.block (out-Arm a.now).body.items)) }
-{
-    after_block(before, &a.body)
 }
 
 /// The `zakinit`s among statements, in `if`s too: their first fault, and the two spaces.

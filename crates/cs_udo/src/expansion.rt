@@ -4,11 +4,8 @@ ghost use Rattle.cs_base.specs.declared.fault.Or.TheVariants as or;
 ghost use Rattle.cs_base.specs.declared.refusal.Refusal.{Refusal};
 ghost use Rattle.cs_grammar.specs.Tree as tree;
 ghost use Rattle.cs_grammar.specs.WellFormed.{IsWellFormed};
-ghost use Rattle.cs_udo.specs.Counted.{first_limit};
+ghost use Rattle.cs_udo.specs.{Counted.first_limit, Expanding.expanding, Refused.first_fault, Library.definitions_of};
 ghost use Rattle.cs_udo.specs.Expanded.{expanded_orchestra};
-ghost use Rattle.cs_udo.specs.Expanding.{expanding};
-ghost use Rattle.cs_udo.specs.Refused.{first_fault};
-ghost use Rattle.cs_udo.specs.Library.{definitions_of};
 
 use crate::library::{Expansion, Library};
 use crate::refuse::first_fault;

@@ -5,12 +5,10 @@ ghost use Rattle.cs_base.specs.declared.fault.OrcKind.TheVariants as orc;
 ghost use Rattle.cs_base.specs.declared.refusal.Refusal.TheVariants as refusal;
 ghost use Rattle.cs_base.specs.declared.limit.Limit.TheVariants as limit;
 ghost use Rattle.cs_grammar.specs.Tree.{field, set, choose, no_stmt, otherwise, arm};
-ghost use Rattle.cs_udo.specs.Counted.{counts_in, line_passing, numbers_hit};
-ghost use Rattle.cs_udo.specs.Expanded.{opcodes_before};
-ghost use Rattle.cs_udo.specs.Expanding.{expanding};
+ghost use Rattle.cs_udo.specs.{Counted.counts_in, Counted.line_passing, Counted.numbers_hit, Expanded.opcodes_before};
+ghost use Rattle.cs_udo.specs.{Expanding.expanding, Worked.text_call, Worked.uncalled, Worked.called_outside};
 ghost use Rattle.cs_udo.specs.Worked.{literal, statements, instrument_1, twice, one_call, calls_twice, twice_expanded};
 ghost use Rattle.cs_udo.specs.Worked.{four, calls_four, four_expanded, count, calls_count, count_expanded, wrong_call};
-ghost use Rattle.cs_udo.specs.Worked.{text_call, uncalled, called_outside};
 
 /// Expansions worked by hand: an opcode that doubles, called on its own result; one that calls it twice; one that
 /// counts, at two places; an orchestra without definitions, which stays; and calls that are refused: the number of

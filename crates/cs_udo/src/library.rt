@@ -1,8 +1,7 @@
 // The defined opcodes of an orchestra, and an orchestra that may be expanded.
 ghost use Rattle.std.specs.Prelude.{◌≡◌, None, map};
 ghost use Rattle.cs_grammar.specs.Tree as tree;
-ghost use Rattle.cs_udo.specs.Counted.{first_limit};
-ghost use Rattle.cs_udo.specs.Refused.{first_fault};
+ghost use Rattle.cs_udo.specs.{Counted.first_limit, Refused.first_fault};
 
 use cs_grammar::{Orc, Udo};
 use cs_words::NameSet;

@@ -5,9 +5,8 @@ ghost use Rattle.cs_grammar.specs.Tree as tree;
 ghost use Rattle.cs_grammar.specs.declared.tree.Arm.{out-Arm};
 ghost use Rattle.cs_udo.specs.Refused.{has_text, broken_rule, at, call_faults, uppermost_of, faults, faults_in};
 ghost use Rattle.cs_udo.specs.Refused.{faults_in_arms, faults_outside, faults_of_definitions, faults_of_instruments};
-ghost use Rattle.cs_udo.specs.Refused.{first_fault};
+ghost use Rattle.cs_udo.specs.{Refused.first_fault, Library.definitions_of};
 ghost use Rattle.cs_udo.specs.Expanded.{Opcodes, no_opcodes, defined, template};
-ghost use Rattle.cs_udo.specs.Library.{definitions_of};
 ghost use Rattle.cs_udo.specs.inner.Walks.{opcodes_at, listed, after_faults};
 
 use crate::library::Library;
@@ -118,8 +117,7 @@ fn uppermost(first: Option<OrcFault>, next: Option<OrcFault>) -> Option<OrcFault
 
 #[cycle(refuse)]
 fn after_stmt(first: Option<OrcFault>, site: &Site, s: &OrcStmt) -> Option<OrcFault>
-    ensures { result ≡ after_faults first
-        (faults (opcodes_at site.now) site.now.inside (tree.statement s.now)) }
+    ensures { result ≡ after_faults first (faults (opcodes_at site.now) site.now.inside (tree.statement s.now)) }
 {
     match &s.what {
         StmtWhat::Set(_, _) => first,
@@ -133,8 +131,7 @@ fn after_stmt(first: Option<OrcFault>, site: &Site, s: &OrcStmt) -> Option<OrcFa
 
 #[cycle(refuse)]
 fn after_block(first: Option<OrcFault>, site: &Site, stmts: &[OrcStmt]) -> Option<OrcFault>
-    ensures { result ≡ after_faults first
-        (faults_in (opcodes_at site.now) site.now.inside (tree.block stmts.now)) }
+    ensures { result ≡ after_faults first (faults_in (opcodes_at site.now) site.now.inside (tree.block stmts.now)) }
 {
     let mut known = first;
     for s in stmts {

@@ -4,11 +4,9 @@ ghost use Rattle.std.specs.List.{prefix_len};
 ghost use Rattle.cs_grammar.specs.Tree as tree;
 ghost use Rattle.cs_grammar.specs.declared.tree.Arm.{out-Arm};
 ghost use Rattle.cs_udo.specs.Counted.{size_of, call_count, counts, counts_in, counts_in_arms, hit, numbers_hit};
-ghost use Rattle.cs_udo.specs.Counted.{statements_hit, limits};
+ghost use Rattle.cs_udo.specs.{Counted.statements_hit, Counted.limits, Library.definitions_of, inner.Tallies.weight};
 ghost use Rattle.cs_udo.specs.Expanded.{assignments, defined, template, opcodes_before};
-ghost use Rattle.cs_udo.specs.Library.{definitions_of};
-ghost use Rattle.cs_udo.specs.inner.Tallies.{capped, after_count, after_counts, opcodes_priced, IsPriced};
-ghost use Rattle.cs_udo.specs.inner.Tallies.{is_value, weight};
+ghost use Rattle.cs_udo.specs.inner.Tallies.{capped, after_count, after_counts, opcodes_priced, IsPriced, is_value};
 
 use crate::library::Library;
 use cs_base::{Limit, LimitHit, MOST_INSTRUMENTS, MOST_STATEMENTS, Name, OutOfMemory};

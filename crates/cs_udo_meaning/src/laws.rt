@@ -1,23 +1,16 @@
 // What holds of calls of defined opcodes: calls that do nothing, whose contracts are the laws.
 ghost use Rattle.std.specs.List.{All, AllZip, AllPairs, IsDistinct, flat_map};
 ghost use Rattle.std.specs.Prelude.{◌≡◌, ◌≢◌, ◌∷◌, ◌++◌, ◌<◌, [], ℕ, List, None, Ok, eqb, map};
-ghost use Rattle.cs_base.specs.declared.resource.Res.{Res};
-ghost use Rattle.cs_base.specs.declared.spaces.Spaces.{Spaces};
+ghost use Rattle.cs_base.specs.{declared.resource.Res.Res, declared.spaces.Spaces.Spaces};
 ghost use Rattle.cs_grammar.specs.Tree.{Block, Definition, Instrument, Orchestra};
 ghost use Rattle.cs_grammar.specs.WellFormed.{IsWellFormed, WellFormedInstrument};
 ghost use Rattle.cs_ir.specs.Worlds.{World};
-ghost use Rattle.cs_meaning.specs.Examples.{each, whole};
-ghost use Rattle.cs_meaning.specs.Core.{core};
-ghost use Rattle.cs_meaning.specs.Initialising.{init_block};
-ghost use Rattle.cs_meaning.specs.Notes.{Note, Path, StatementPlace};
-ghost use Rattle.cs_meaning.specs.Performing.{perf_block};
-ghost use Rattle.cs_meaning.specs.When.{When};
+ghost use Rattle.cs_meaning.specs.{Examples.each, Examples.whole, Core.core, Initialising.init_block, Notes.Note};
+ghost use Rattle.cs_meaning.specs.{Notes.Path, Notes.StatementPlace, Performing.perf_block, When.When};
 ghost use Rattle.cs_typed.specs.TypedTree as typed;
 ghost use Rattle.cs_typed.specs.WellRated.{BlockHasNoZakinit};
-ghost use Rattle.cs_typing.specs.Known.{Shared};
-ghost use Rattle.cs_typing.specs.Typing.{type_fault, typed_of};
-ghost use Rattle.cs_udo.specs.Expanding.{expanding};
-ghost use Rattle.cs_udo.specs.Worked.{twice, calls_twice, count};
+ghost use Rattle.cs_typing.specs.{Known.Shared, Typing.type_fault, Typing.typed_of};
+ghost use Rattle.cs_udo.specs.{Expanding.expanding, Worked.twice, Worked.calls_twice, Worked.count};
 ghost use Rattle.cs_udo_meaning.specs.Examples.{bump, calls_bump, counted, framed, heard, of_fives, of_sums, sevens};
 ghost use Rattle.cs_udo_meaning.specs.Examples.{swap, calls_swap, calls_only_first, inc, two, calls_two, turn};
 ghost use Rattle.cs_udo_meaning.specs.Examples.{calls_turn, half, calls_half, keeping};

@@ -6,7 +6,7 @@ use Rattle.cs_grammar.specs.{declared.tree.Callee.Callee, Tree.Definition, Tree.
 use Rattle.cs_grammar.specs.Tree.{Statement, set, call, choose, Block, no_stmt, andthen, Arms, otherwise, arm}
 use Rattle.cs_grammar.specs.declared.tree.Arm.{Arm as Arm', out-Arm}
 use Rattle.cs_typing.specs.{Known.RateNames, Known.in_table, Typing.given_globals, declared.globals.Front.Front}
-use Rattle.cs_typing.specs.inner.Defined.{with_item, with_items}
+use Rattle.cs_udo.specs.ByName.{with_item, with_items}
 use Rattle.cs_typing.specs.declared.globals.GivenGlobals.{GivenGlobals}
 use Rattle.cs_udo.specs.Library.{definitions_of}
 use Rattle.cs_grammar.specs.declared.tree.Callee.TheVariants as callee

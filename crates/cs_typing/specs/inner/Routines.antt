@@ -11,7 +11,8 @@ use Rattle.cs_typed.specs.TypedTree.{no_counts, counts_with, moved_variable, mov
 use Rattle.cs_typed.specs.{declared.setting.Setting.Setting, declared.tree.Var.Var}
 use Rattle.cs_udo.specs.{Expanded.before, Expanded.whole_body, Names.slots}
 use Rattle.cs_typing.specs.Calls.{call_fault_by, call_shared, call_by}
-use Rattle.cs_typing.specs.{Expressions.expression_by, Settings.at, inner.Defined.with_item, inner.Defined.with_items}
+use Rattle.cs_typing.specs.{Expressions.expression_by, Settings.at}
+use Rattle.cs_udo.specs.ByName.{with_item, with_items}
 use Rattle.cs_typing.specs.Known.{Shared, in_table, place_in, global}
 use Rattle.cs_typing.specs.Statements.{set_fault_by, condition_fault_by, choice_rate}
 use Rattle.cs_base.specs.declared.resource.Rate.TheVariants as rate

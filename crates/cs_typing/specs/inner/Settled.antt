@@ -1,15 +1,10 @@
 -- What is found of settings before a place of the text.
-use Rattle.std.specs.Prelude.{ℕ, Bool, true, List, [], ◌∷◌, if◌then◌else◌}
-use Rattle.std.specs.{List.list_any, Option.option_or}
+use Rattle.std.specs.Prelude.{ℕ, true, List, [], ◌∷◌, if◌then◌else◌}
+use Rattle.std.specs.{Option.option_or}
 use Rattle.cs_base.specs.{declared.spaces.Spaces.Spaces, Heads.Header, Heads.header_of_head}
-use Rattle.cs_words.specs.declared.word.HeadName.{HeadName}
-use Rattle.cs_grammar.specs.{declared.tree.HeadLine.HeadLine, Tree.Argument}
+use Rattle.cs_grammar.specs.{Tree.Argument}
 use Rattle.cs_typing.specs.{declared.settle.Settings.Settings, declared.zak.Zaks.Zaks}
-use Rattle.cs_typing.specs.Settings.{same_head, at, Zak, zak_fault, sizes}
-
--- a header line among these gives a name
-abbrev pub is_given : List HeadLine → HeadName → Bool
-is_given before name = list_any (λ b. same_head name b.name) before
+use Rattle.cs_typing.specs.Settings.{at, Zak, zak_fault, sizes}
 
 abbrev pub zak_at : ℕ → List Argument → Zak
 zak_at line args = record { line = line; args = args }

@@ -167,10 +167,11 @@ globals_of_block-returns t c =
       done = c.loop-s.invariant.1;
     }
 
-pub globals_of_arms-globals_of_arm-requires : goal.globals_of_arms-globals_of_arm-requires
-globals_of_arms-globals_of_arm-requires t c =
-    let light = arm_lighter c.args.list.now c.loop-a.a-index c.a-item.result (omega arith) c.a-item.is in (
-      omega (arith, c.decreases, light),
+pub globals_of_arms-globals_of_block-requires : goal.globals_of_arms-globals_of_block-requires
+globals_of_arms-globals_of_block-requires t c =
+    let light = arm_lighter c.args.list.now c.loop-a.a-index c.a-item.result (omega arith) c.a-item.is in
+    let same = ap (λ (l : List OrcStmt). weight_of (tree.block l)) c.deref.ensures.value in (
+      omega (arith, c.decreases, light, same),
       c.loop-a.invariant.1,
     )
 
@@ -181,7 +182,10 @@ globals_of_arms-loop-a-preserved t c =
     let k = c.loop-a.given.names in
     let rest = drop (c.loop-a.a-index + 1) c.args.list.now in
     let split = dropped c.args.list.now c.loop-a.a-index a (omega arith) c.a-item.is in
-    let made = c.in_ok-globals_of_arm.ensures in (
+    let made : Looks c.args.front c.loop-a.given c.globals_of_block.new.given
+    (names_in_block givers (tree.block (out-Arm a).body.items)) =
+    subst (λ (l : List OrcStmt). Looks c.args.front c.loop-a.given c.globals_of_block.new.given
+    (names_in_block givers (tree.block l))) c.deref.ensures.value c.in_ok-globals_of_block.ensures in (
       ap (λ u. given_globals u (names_in_bodies givers rest)) made.names
           ∙ sym (given_both k (names_in_block givers (tree.block (out-Arm a).body.items))
           (names_in_bodies givers rest))

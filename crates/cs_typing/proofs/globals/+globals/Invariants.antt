@@ -1,6 +1,5 @@
 use Rattle.std.proofs.Common.{◌≡◌, ◌+◌, drop}
 use Rattle.cs_grammar.specs.Tree as tree
-use Rattle.cs_grammar.specs.declared.tree.Arm.{out-Arm}
 use Rattle.cs_typing.specs.Typing.{given_globals}
 use Rattle.cs_typing.specs.inner.Globals.{IsDone, givers_in, names_in_block, names_in_bodies}
 use Rattle.cs_typing.proofs.Weights.{weight, weight_before, weight_of, weight_of_bodies}
@@ -22,11 +21,6 @@ decreases-globals_of_block l =
 abbrev pub decreases-globals_of_arms : goal.decreases-globals_of_arms
 decreases-globals_of_arms l =
     weight_before (definitions_of l.front.library.now) l.front.visible + weight_of_bodies l.list.now
-
-abbrev pub decreases-globals_of_arm : goal.decreases-globals_of_arm
-decreases-globals_of_arm l =
-    weight_before (definitions_of l.front.library.now) l.front.visible
-    + (1 + weight_of (tree.block (out-Arm l.a.now).body.items))
 
 -- the rest gives what the whole gives
 abbrev pub invariant-globals_of_block-loop-s : goal.invariant-globals_of_block-loop-s

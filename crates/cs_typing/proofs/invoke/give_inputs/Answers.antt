@@ -61,12 +61,12 @@ loop-i-preserved c =
     typed.set it.line (name_rate x) (Local (name_rate x) (at_rate k.locals.counts (name_rate x) + number_in first x))
     value in
     let same : typed.set it.line to.rate to.var value ≡ form = λ j. typed.set it.line (rate_is j) (var_is j) value in
-    let added : Adds c.loop-i.done.items c.add.new.list.items (typed.alone (typed.set it.line to.rate to.var value)) =
-    one_added_always c.loop-i.done.items c.add.new.list.items c.in_ok-set-in-Value.field-0
-    (typed.set it.line to.rate to.var value) c.in_ok-add-in-Value.ensures made.1 in (
+    let added : Adds c.loop-i.done.items c.push.new.self.items (typed.alone (typed.set it.line to.rate to.var value)) =
+    one_added_always c.loop-i.done.items c.push.new.self.items c.in_ok-set-in-Value.field-0
+    (typed.set it.line to.rate to.var value) c.in_ok-push-in-Value.ensures.items made.1 in (
       fault_next (at it.line (set_fault_by s (knows_in k) x (expression e))) _ _ _
           (ap (λ x. x.0) next) made.0 c.loop-i.invariant.0,
-      λ rs. made_next rs c.loop-i.done.items c.add.new.list.items (typed.set it.line to.rate to.var value) form _ _ _
+      λ rs. made_next rs c.loop-i.done.items c.push.new.self.items (typed.set it.line to.rate to.var value) form _ _ _
           added same (ap (λ x. x.1) next) (c.loop-i.invariant.1 rs),
     )
 

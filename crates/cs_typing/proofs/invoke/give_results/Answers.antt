@@ -4,13 +4,13 @@ use Rattle.std.proofs.lemmas.List.{drop_all, drop_more}
 use Rattle.cs_base.specs.Rates.{at_rate}
 use Rattle.cs_typed.specs.{declared.tree.TypedStmt.TypedStmt, declared.tree.Var.TheVariants.Local}
 use Rattle.cs_words.specs.Names.{name_rate}
-use Rattle.cs_typing.specs.{Settings.at, inner.Held.known_of, inner.Listed.Adds}
+use Rattle.cs_typing.specs.{Settings.at, inner.Held.known_of, inner.Held.locals_of, inner.Listed.Adds}
 use Rattle.cs_typing.specs.inner.Routines.{all_given_in, given_in, known_in, variable_in}
 use Rattle.cs_typing.specs.inner.Slots.{taken_fault, taken_kind, taken_set}
 use Rattle.cs_udo.proofs.Places.{dropped}
 use Rattle.cs_typing.proofs.Beside.{none_left, none_taken, one_taken, shifted}
 use Rattle.cs_typing.proofs.Walked.{one_added_always}
-use Rattle.cs_typing.proofs.invoke.give_results.Goals.{then-i-rates+in_ok-from+in_ok-taken+in_ok-add, else-i-rates}
+use Rattle.cs_typing.proofs.invoke.give_results.Goals.{then-i-rates+in_ok-from+in_ok-taken+in_ok-push, else-i-rates}
 use Rattle.cs_typed.specs.TypedTree as typed
 use Rattle.cs_typing.proofs.invoke.give_results.Goals as goal
 
@@ -19,7 +19,7 @@ loop-i-preserved c =
     let it = c.args.it.now in
     let s = c.args.setting in
     let k = known_of c.loop-i.names in
-    let m = known_of c.give.new.self in
+    let m = known_in k.shared (locals_of c.give.new.self) in
     let outs = it.definition.now.outs in
     let xs = it.results.now in
     let i = c.loop-i.i in
@@ -27,7 +27,7 @@ loop-i-preserved c =
     let p : drop i xs ≡ x ∷ drop (i + 1) xs = dropped xs i x (omega (arith, c.loop-i-test.true)) c.index-it-i.is in
     let name : c.as_slice-name.result.now ≡ x = c.as_slice-name.ensures ∙ sym c.index-it-i.is in
     let on : m ≡ known_in k.shared (given_in k.locals x) =
-    c.in_ok-give.ensures ∙ ap (λ y. known_in k.shared (given_in k.locals y)) name in
+    ap (known_in k.shared) (c.in_ok-give.ensures ∙ ap (given_in k.locals) name) in
     let old = c.loop-i.done.items in
     let new = c.if-i-rates.done.items in
     let slots = c.args.slots.now in
@@ -38,7 +38,7 @@ loop-i-preserved c =
     let known = known_in start.shared (all_given_in start.locals xs) in
     let rates : c.as_slice-rates.result.now ≡ outs = c.as_slice-rates.ensures in
     elim c.if-i-rates.branch [
-      | then-i-rates+in_ok-from+in_ok-taken+in_ok-add w ↦
+      | then-i-rates+in_ok-from+in_ok-taken+in_ok-push w ↦
           let r = w.in_ok-from.from.rate in
           let n = get_or slots i 0 in
           let low : i < length c.as_slice-rates.result.now = omega (arith, w.if-i-rates) in
@@ -55,7 +55,7 @@ loop-i-preserved c =
           let same : form ≡ typed.set it.line (name_rate x) (variable_in k x)
           (typed.var r (Local r (at_rate it.base r + n))) =
           λ j. typed.set it.line (name_rate (name j)) (variable_in k (name j)) (typed.var r (var j)) in
-          let pushed = ap (λ (v : Vec TypedStmt Global). v.items) w.done-is ∙ w.in_ok-add.ensures in
+          let pushed = ap (λ (v : Vec TypedStmt Global). v.items) w.done-is ∙ w.in_ok-push.ensures.items in
           let added : Adds old new (typed.alone form) =
           one_added_always old new w.in_ok-taken.field-0 form pushed w.in_ok-taken.ensures.1 in
           one_taken s k m it.base it.line xs outs slots i x old new r n p q (drop_more slots i 0 within)

@@ -24,10 +24,10 @@ returns-clause-made c =
     let k = known_of c.args.names.now in
     let r = c.args.rate in
     let value = expression_by (variable_in k) (expression c.args.e.now) in
-    let number : c.of.result ≡ at_rate k.locals.counts r =
-    c.of.ensures ∙ ap (λ t. at_rate t r) c.local_counts.ensures in
-    λ rs. one_added_always c.args.done.now.items c.add.new.list.items c.in_ok-set.field-0
-    (typed.set c.args.line r (Local r c.of.result) value) c.in_ok-add.ensures
+    let number : c.of-number.result ≡ at_rate k.locals.counts r =
+    c.of-number.ensures ∙ ap (λ t. at_rate t r) c.counts.ensures in
+    λ rs. one_added_always c.args.done.now.items c.push.new.self.items c.in_ok-set.field-0
+    (typed.set c.args.line r (Local r c.of-number.result) value) c.in_ok-push.ensures.items
     (c.in_ok-set.ensures (slot 0 r) (slot_rate 0 r)).1 rs
     ∙ ap (λ n. typed.then_block (typed.block rs c.args.done.now.items)
     (typed.alone (typed.set c.args.line r (Local r n) value))) number

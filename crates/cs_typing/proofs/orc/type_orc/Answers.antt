@@ -32,9 +32,9 @@ returns c =
     let same = statements_break e c.requires c.deref.result.now c.deref-2.result.now c.deref.ensures.value
     c.deref-2.ensures.value s told_so.0 told_so.1 in
     record {
-      typed = given_form c.settled.result fault form (typed_of (expanded_orchestra o)) c.settled.ensures
+      typed = given_form c.typed.result fault form (typed_of (expanded_orchestra o)) c.typed.ensures
           (statements_form e c.requires c.deref.result.now c.deref-2.result.now c.deref.ensures.value
           c.deref-2.ensures.value s told_so.0 told_so.1);
-      right = given_right c.settled.result fault whole form c.settled.ensures same;
-      fault = λ f is. given_fault c.settled.result fault whole form f c.settled.ensures same is;
+      right = given_right c.typed.result fault whole form c.typed.ensures same;
+      fault = λ f is. given_fault c.typed.result fault whole form f c.typed.ensures same is;
     }

@@ -7,7 +7,8 @@ use Rattle.cs_udo.specs.Library.{definitions_of}
 use Rattle.cs_typed.specs.declared.tree.TypedWhat.TheViews.{the_lemmas as typed_lemmas}
 use Rattle.cs_typed.specs.declared.tree.TypedWhat.TheBlock.{hidden-the_row-TypedStmt-1, hidden-the_row-TypedArm-0}
 use Rattle.cs_typed.proofs.Trees.{typed_block_is, typed_arms_is}
-use Rattle.cs_typing.specs.{inner.Held.known_of, inner.Listed.AddsOver, inner.Listed.arm_fault_in, inner.Answers.Judged}
+use Rattle.cs_typing.specs.{inner.Held.known_of, inner.Held.locals_of, inner.Listed.AddsOver}
+use Rattle.cs_typing.specs.{inner.Listed.arm_fault_in, inner.Answers.Judged}
 use Rattle.cs_typing.specs.{Statements.choice_rate, Calls.call_by, Calls.call_shared, Expressions.expression_by}
 use Rattle.cs_typing.specs.inner.Listed.{GivesArms, blocks_in, routines_at, AreTyped, routine_here, routines_of, Adds}
 use Rattle.cs_typing.specs.inner.Routines.{arms_fault_in, block_fault_in, known_after_arms, known_after_block}
@@ -110,7 +111,7 @@ arms-loop-a-preserved t c =
         λ more.
             rest_arms_typed_in rs (blocks_in c.arm.new.so_far.routines ++ more) k m els whole rest x
             c.loop-a.done.items
-            c.add.new.list.items c.in_ok-arm.field-0 split c.in_ok-add.ensures made.2 (made.3 more) made.4
+            c.push.new.self.items c.in_ok-arm.field-0 split c.in_ok-push.ensures.items made.2 (made.3 more) made.4
             ∙ ap (λ bs. with_arms bs c.loop-a.done.items (typed_arms_in rs k (tree.arms els whole)))
             (ap (λ bs. bs ++ more) ahead.longer.1 ∙ append_assoc old ahead.longer.0 more)
             ∙ (was.0 els).1 (ahead.longer.0 ++ more),
@@ -326,8 +327,8 @@ stmt-returns-in_err-typed_els-in-Choose-clause-fault t c =
     ∙ ap (λ xs. arms_fault_in s.setting rs k line (tree.arms els xs)) c.deref-in-Choose.ensures.value
     ∙ sym (ap (fault_in s.setting rs k) is)))
 
-pub stmt-returns-in_ok-add-in-Choose : goal.stmt-returns-in_ok-add-in-Choose
-stmt-returns-in_ok-add-in-Choose t c =
+pub stmt-returns-in_ok-push-in-Choose : goal.stmt-returns-in_ok-push-in-Choose
+stmt-returns-in_ok-push-in-Choose t c =
     let s = c.args.site.now in
     let rs = routines_at s in
     let k = known_of c.args.so_far.now.names in
@@ -370,7 +371,7 @@ stmt-returns-in_ok-add-in-Choose t c =
           ∙ bodies)
           ∙ ap (λ r. typed.choose line r (typed_arms_in rs k (tree.arms els list)))
           (c.choice_rate.ensures els ∙ ap (λ xs. choice_rate (tree.arms els xs)) c.deref-in-Choose-3.ensures.value) in
-          ap (typed.block bs) c.in_ok-add-in-Choose.ensures
+          ap (typed.block bs) c.in_ok-push-in-Choose.ensures.items
           ∙ one_more bs c.args.done.now.items _
           ∙ ap (λ x. typed.then_block old (typed.alone x)) one
           ∙ sym (ap (λ x. typed.then_block old (typed_in rs k x)) is);
@@ -384,8 +385,8 @@ stmt-returns-in_ok-add-in-Choose t c =
 
 -- ---- an assignment
 
-pub stmt-returns-in_ok-add-in-Set-clause-made : goal.stmt-returns-in_ok-add-in-Set-clause-made
-stmt-returns-in_ok-add-in-Set-clause-made t c more =
+pub stmt-returns-in_ok-push-in-Set-clause-made : goal.stmt-returns-in_ok-push-in-Set-clause-made
+stmt-returns-in_ok-push-in-Set-clause-made t c more =
     let rs = routines_at c.args.site.now in
     let k = known_of c.args.so_far.now.names in
     let line = c.args.s.now.line in
@@ -394,7 +395,7 @@ stmt-returns-in_ok-add-in-Set-clause-made t c more =
     let old = c.args.done.now.items in
     let bs = blocks_in table ++ more in
     let is : tree.statement c.args.s.now ≡ tree.set line c.in-Set.name e = search (rules, the_lemmas, c.in-Set.is) in
-    one_added table old c.add.new.list.items c.in_ok-made-in-Set.made _ c.in_ok-add-in-Set.ensures
+    one_added table old c.push.new.self.items c.in_ok-made-in-Set.made _ c.in_ok-push-in-Set.ensures.items
     c.in_ok-made-in-Set.ensures.gives.1 more
     ∙ ap (λ x. typed.then_block (typed.block bs old)
     (typed.alone (typed.set line (name_rate x) (variable_in k x) (expression_by (variable_in k) e))))
@@ -422,8 +423,8 @@ stmt-returns-in_err-made-in-None-clause-fault t c =
     (sym (unfound_fault s.setting rs k (tree.statement c.args.s.now) line xs _ q args _ is none
     c.as_slice-results.ensures c.deref.ensures.value)))
 
-pub stmt-returns-in_ok-add-in-None : goal.stmt-returns-in_ok-add-in-None
-stmt-returns-in_ok-add-in-None t c =
+pub stmt-returns-in_ok-push-in-None : goal.stmt-returns-in_ok-push-in-None
+stmt-returns-in_ok-push-in-None t c =
     let s = c.args.site.now in
     let rs = routines_at s in
     let k = known_of c.args.so_far.now.names in
@@ -453,8 +454,8 @@ stmt-returns-in_ok-add-in-None t c =
       fault = fault;
       made = λ more.
           let before = typed.block (blocks_in table ++ more) old in
-          one_added table old c.add-in-None.new.list.items c.in_ok-made-in-None.made _ c.in_ok-add-in-None.ensures
-          made.gives.1 more
+          one_added table old c.push-in-None.new.self.items c.in_ok-made-in-None.made _
+          c.in_ok-push-in-None.ensures.items made.gives.1 more
           ∙ ap (typed.then_block before)
           ((λ i. typed.alone (call_by line k.shared (variable_in k) q (c.as_slice-results.ensures i)
           (map tree.argument (c.deref.ensures.value i))))
@@ -538,7 +539,8 @@ invoke-returns-in_ok-take-in-Some-clause-made t c =
     let r = routine_here s c.args.place d in
     let old = c.args.done.now.items in
     let table = c.typed_routine.new.so_far.routines in
-    let n = known_of c.take.new.self in
+    let g = c.typed_routine.new.so_far.names.shared in
+    let n = known_in g (locals_of c.take.new.self) in
     let slots = c.deref.result.now in
     let listed = c.in_ok-typed_routine.ensures.listed in
     let same = same_it listed.it c.in-Some.found.now (sym listed.at ∙ c.in-Some.ensures.found) in
@@ -546,18 +548,18 @@ invoke-returns-in_ok-take-in-Some-clause-made t c =
     (given_set k (all_given_in no_locals d.names) line d.names args) =
     λ bs. c.in_ok-give_inputs.ensures.made bs
     ∙ ap (λ l. typed.then_block (typed.block bs old) (given_set k l line d.names args)) c.in_ok-inputs.ensures in
-    let after = c.in_ok-take-in-Some.ensures
+    let after = ap (known_in g) c.in_ok-take-in-Some.ensures
     ∙ ap (λ m. known_in m.shared (past_call m.locals c.in-Some.found.now.locals)) c.in_ok-typed_routine.ensures.known
     ∙ ap (λ z. known_in (r.shared k.shared) (past_call k.locals z)) (sym (ap (λ it. it.locals) same) ∙ listed.locals) in
     on_ok c.give_results.result c.give_results.ensures.made
     (λ adds. call_adds ds c.args.place d well s.setting k line xs args table old c.give_inputs.new.done.items
-    c.add.new.list.items c.give_results.new.done.items c.invocation.result c.in-Some.found.now.routine slots n
-    inputs c.in_ok-add-in-Some.ensures
+    c.push.new.self.items c.give_results.new.done.items c.invocation.result c.in-Some.found.now.routine slots n
+    inputs c.in_ok-push-in-Some.ensures.items
     (λ bs. c.invocation.ensures bs
     ∙ ap (λ z. typed.moved_block z (typed.routine_at bs c.in-Some.found.now.routine)) c.requires.base)
     (subst (λ it. it.routine < length (blocks_in table)) same listed.within)
     (listed.block ∙ ap (λ it. typed.routine_at (blocks_in table) it.routine) same)
     after
     (c.deref.ensures.value ∙ sym (ap (λ it. it.slots.items) same) ∙ listed.slots)
-    (subst (λ z. Adds c.add.new.list.items c.give_results.new.done.items (taken_set n z line xs d.outs slots))
+    (subst (λ z. Adds c.push.new.self.items c.give_results.new.done.items (taken_set n z line xs d.outs slots))
     c.requires.base adds))

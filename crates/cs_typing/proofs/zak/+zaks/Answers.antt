@@ -33,7 +33,8 @@ after_arms-loop-a-preserved t c els =
     let x = c.a-item.result in
     let rest = drop (c.loop-a.a-index + 1) c.args.list.now in
     let split = dropped c.args.list.now c.loop-a.a-index x (omega arith) c.a-item.is in
-    ap (λ s. after_zaks s (zaks_of_arms (tree.arms els rest))) c.after_arm-known.ensures
+    ap (λ s. after_zaks s (zaks_of_arms (tree.arms els rest))) (c.after_block-known.ensures
+    ∙ ap (λ xs. after_zaks c.loop-a.known (zaks_of_block (tree.block xs))) c.deref.ensures.value)
     ∙ sym (after_both c.loop-a.known (zaks_of_block (tree.block (out-Arm x).body.items))
     (zaks_of_arms (tree.arms els rest)))
     ∙ sym (ap (λ xs. after_zaks c.loop-a.known (zaks_of_arms (tree.arms els xs))) split)
