@@ -1,10 +1,8 @@
 // Which tables are refused, and for what.
 ghost use Rattle.std.specs.Prelude.{◌≡◌, Some, None, OnOk, IfErr, unsigned_abs, All, pos, ◌||◌, ◌+ℤ◌, ◌≤ℤ◌, int_lt};
-ghost use Rattle.std.specs.Prelude.{◌<◌, ◌+◌, ◌*◌};
+ghost use Rattle.std.specs.{Prelude.◌<◌, Prelude.◌+◌, Prelude.◌*◌, List.list_any, Ordering.int_eq};
 ghost use Rattle.cs_gen.specs.Faults.{table_fault, is_size, is_gen, has_negative_length, argument, segments_of};
 ghost use Rattle.cs_base.specs.Numbers.{whole_below};
-ghost use Rattle.std.specs.List.{list_any};
-ghost use Rattle.std.specs.Ordering.{int_eq};
 
 use cs_base::Num;
 

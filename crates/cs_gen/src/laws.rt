@@ -1,10 +1,8 @@
 // What holds of every table that is accepted: calls that do nothing, whose contracts are the laws.
 ghost use Rattle.std.specs.Prelude.{◌≡◌, ◌∷◌, [], List, Some, None, ℤ, pos, negsuc, ◌≤ℤ◌};
-ghost use Rattle.cs_gen.specs.Faults.{table_fault};
-ghost use Rattle.cs_gen.specs.Places.{place_of_index};
+ghost use Rattle.cs_gen.specs.{Faults.table_fault, Places.place_of_index};
 ghost use Rattle.cs_gen.specs.declared.check.GenFault.TheVariants as fault;
-ghost use Rattle.cs_gen.specs.Points.{points_of};
-ghost use Rattle.cs_gen.specs.Tables.{IsMade, curve_of};
+ghost use Rattle.cs_gen.specs.{Points.points_of, Tables.IsMade, Tables.curve_of};
 
 /// An accepted size is 2 to 65,537, and the points of an accepted table are a made table.
 pub fn accepted_tables_are_made()
@@ -27,8 +25,7 @@ pub fn tables_worked_by_hand()
         ≡ pos 65536 ∷ pos 65536 ∷ pos 327680 ∷ pos 458752 ∷ [] }
     ensures normalised { points_of (pos 4) (pos 2) (pos 65536 ∷ pos 131072 ∷ pos 262144 ∷ [])
         ≡ pos 16384 ∷ pos 32768 ∷ pos 65536 ∷ pos 0 ∷ [] }
-    ensures guard { curve_of (points_of (pos 3) (negsuc 1) (pos 5 ∷ pos 6 ∷ pos 7 ∷ []))
-        ≡ pos 5 ∷ pos 6 ∷ pos 7 ∷ [] }
+    ensures guard { curve_of (points_of (pos 3) (negsuc 1) (pos 5 ∷ pos 6 ∷ pos 7 ∷ [])) ≡ pos 5 ∷ pos 6 ∷ pos 7 ∷ [] }
     ensures turn { curve_of (points_of (pos 4) (pos 10) (pos 65536 ∷ []))
         ≡ pos 0 ∷ pos 65536 ∷ pos 0 ∷ negsuc 65535 ∷ pos 0 ∷ [] }
 {}
@@ -47,8 +44,7 @@ pub fn faults_worked_by_hand()
         ≡ Some fault.NegativeLength }
     ensures unfinished { table_fault (pos 4) (negsuc 6) (pos 458752 ∷ negsuc 65535 ∷ []) ≡ None }
     ensures size_first { table_fault (pos 6) (pos 3) (pos 0 ∷ negsuc 65535 ∷ pos 65536 ∷ []) ≡ Some fault.Size }
-    ensures size_before_length { table_fault (pos 6) (pos 7) (pos 0 ∷ negsuc 65535 ∷ pos 65536 ∷ [])
-        ≡ Some fault.Size }
+    ensures size_before_length { table_fault (pos 6) (pos 7) (pos 0 ∷ negsuc 65535 ∷ pos 65536 ∷ []) ≡ Some fault.Size }
     ensures unknown_before_length { table_fault (pos 4) (pos 3) (pos 0 ∷ negsuc 65535 ∷ pos 65536 ∷ [])
         ≡ Some fault.Unknown }
     ensures index { (place_of_index 4 (negsuc 65535) ≡ 0) × (place_of_index 4 (pos 65470) ≡ 0)

@@ -1,7 +1,6 @@
 // Places of a table: how many it has before its guard point, and that of an index.
 ghost use Rattle.std.specs.Prelude.{◌≡◌, ◌<◌, ◌≤◌};
-ghost use Rattle.cs_gen.specs.Places.{place_of_index};
-ghost use Rattle.cs_gen.specs.Points.{len_of};
+ghost use Rattle.cs_gen.specs.{Places.place_of_index, Points.len_of};
 
 use cs_base::Num;
 

@@ -1,9 +1,8 @@
 // GEN07: a point lies on the line of the segment in which its place is.
 ghost use Rattle.std.specs.Prelude.{◌≡◌, ◌<◌, ◌≤◌, ◌+◌, ◌*◌, ◌^◌, ◌+ℤ◌, ◌-ℤ◌, ◌*ℤ◌, pos, unsigned_abs, IfOk};
 ghost use Rattle.cs_base.specs.Numbers.{IsRaw, floor_div};
-ghost use Rattle.cs_gen.specs.Faults.{argument, segments_of};
+ghost use Rattle.cs_gen.specs.{Faults.argument, Faults.segments_of, inner.Walk.HasPassed, inner.Walk.HasReached};
 ghost use Rattle.cs_gen.specs.Points.{at_places, length_of, segments};
-ghost use Rattle.cs_gen.specs.inner.Walk.{HasPassed, HasReached};
 
 use crate::check::{argument, segments_of};
 use cs_base::Num;

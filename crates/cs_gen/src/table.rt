@@ -1,8 +1,7 @@
 // A table by its size, its GEN and the arguments.
 ghost use Rattle.std.specs.Prelude.{◌≡◌, ◌≤◌, IfOk, IfErr, OnOk, None, unsigned_abs};
 ghost use Rattle.cs_gen.specs.Faults.{IsCauseOf, argument, table_fault};
-ghost use Rattle.cs_gen.specs.Points.{at_places, plain_point};
-ghost use Rattle.cs_gen.specs.Tables.{IsMade};
+ghost use Rattle.cs_gen.specs.{Points.at_places, Points.plain_point, Tables.IsMade};
 
 use crate::check::{GenFault, argument, check_table};
 use crate::harmonics::harmonic_points;

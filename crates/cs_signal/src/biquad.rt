@@ -1,17 +1,15 @@
 // `biquad`: a filter of two zeros and two poles, by whole numbers.
 ghost use Rattle.std.specs.Prelude.{true, ◌≡◌, ◌≢◌, ◌<◌, ◌≤◌, ◌+◌, ◌^◌, length, pos, ◌≤ℤ◌, ◌+ℤ◌, ◌-ℤ◌, ◌*ℤ◌};
-ghost use Rattle.std.specs.Prelude.{unsigned_abs};
-ghost use Rattle.std.specs.Int.{int_div_euclid};
+ghost use Rattle.std.specs.{Prelude.unsigned_abs, Int.int_div_euclid};
 ghost use Rattle.cs_base.specs.Numbers.{IsRaw, clamp, floor_div, quotient_by_zero};
 ghost use Rattle.cs_signal.specs.Biquad.{biquad_step, inputs_by, ratio};
-ghost use Rattle.cs_signal.specs.Operands.{argument};
+ghost use Rattle.cs_signal.specs.{Operands.argument, Steps.run, Walk.HasRun};
 ghost use Rattle.cs_signal.specs.inner.Short.{AreShort, AreSmall, IsShort, IsSmall};
-ghost use Rattle.cs_signal.specs.Steps.{run};
-ghost use Rattle.cs_signal.specs.Walk.{HasRun};
 
 use crate::Operand;
 use crate::generator::{Generator, Stepper};
 use crate::operand::argument;
+use crate::ramp::plus;
 use crate::stepwise::frame_by_frame;
 use cs_base::{Divisor, Num, ONE};
 use std::marker::Model;
@@ -131,14 +129,15 @@ impl Biquad {
     fn is_near(&self, by: &Coefficients) -> bool
         ensures { result ≡ true → AreSmall by.now × AreShort self.now }
     {
-        are_small(by) && self.is_short()
-    }
-
-    // Whether all that it keeps is short.
-    fn is_short(&self) -> bool
-        ensures { result ≡ true → AreShort self.now }
-    {
-        is_short(self.x1) && is_short(self.x2) && is_short(self.y1) && is_short(self.y2)
+        is_small(by.b0)
+            && is_small(by.b1)
+            && is_small(by.b2)
+            && is_small(by.a1)
+            && is_small(by.a2)
+            && is_short(self.x1)
+            && is_short(self.x2)
+            && is_short(self.y1)
+            && is_short(self.y2)
     }
 
     // What is divided.
@@ -170,8 +169,11 @@ impl Biquad {
         ensures bounded { unsigned_abs result < 2 ^ 61 }
     {
         near_less(
-            near_forward(by.b0, x, by.b1, self.x1, by.b2, self.x2),
-            near_back(by.a1, self.y1, by.a2, self.y2),
+            near_plus(
+                near_plus(near_product(by.b0, x), near_product(by.b1, self.x1)),
+                near_product(by.b2, self.x2),
+            ),
+            near_plus(near_product(by.a1, self.y1), near_product(by.a2, self.y2)),
         )
     }
 }
@@ -224,13 +226,7 @@ impl Generator for Biquad {
     }
 }
 
-// Whether coefficients are below 2,048.
-fn are_small(by: &Coefficients) -> bool
-    ensures { result ≡ true → AreSmall by.now }
-{
-    is_small(by.b0) && is_small(by.b1) && is_small(by.b2) && is_small(by.a1) && is_small(by.a2)
-}
-
+// Whether a coefficient is below 2,048.
 fn is_small(c: Num) -> bool
     ensures { result ≡ true → IsSmall c }
 {
@@ -246,42 +242,13 @@ fn is_short(x: Num) -> bool
 }
 
 #[inline(always)]
-fn near_forward(b0: Num, x: Num, b1: Num, x1: Num, b2: Num, x2: Num) -> i64
-    requires coefficients { IsSmall b0 × IsSmall b1 × IsSmall b2 }
-    requires signals { IsShort x × IsShort x1 × IsShort x2 }
-    ensures value { result ≡ (b0 *ℤ x +ℤ b1 *ℤ x1) +ℤ b2 *ℤ x2 }
-    ensures bounded { unsigned_abs result ≤ 2 ^ 60 }
-{
-    near_plus(
-        near_plus(
-            near_product(b0.raw(), x.raw()),
-            near_product(b1.raw(), x1.raw()),
-        ),
-        near_product(b2.raw(), x2.raw()),
-    )
-}
-
-#[inline(always)]
-fn near_back(a1: Num, y1: Num, a2: Num, y2: Num) -> i64
-    requires coefficients { IsSmall a1 × IsSmall a2 }
-    requires signals { IsShort y1 × IsShort y2 }
-    ensures value { result ≡ a1 *ℤ y1 +ℤ a2 *ℤ y2 }
-    ensures bounded { unsigned_abs result ≤ 2 ^ 59 }
-{
-    near_plus(
-        near_product(a1.raw(), y1.raw()),
-        near_product(a2.raw(), y2.raw()),
-    )
-}
-
-#[inline(always)]
-fn near_product(c: i64, x: i64) -> i64
+fn near_product(c: Num, x: Num) -> i64
     requires coefficient { IsSmall c }
     requires signal { IsShort x }
     ensures value { result ≡ c *ℤ x }
     ensures bounded { unsigned_abs result ≤ 2 ^ 58 }
 {
-    c * x
+    c.raw() * x.raw()
 }
 
 #[inline(always)]
@@ -329,17 +296,6 @@ fn bounded(quotient: i64) -> Num
     } else {
         Num::of_raw(quotient)
     }
-}
-
-// The exact sum.
-#[inline(always)]
-fn plus(x: i128, y: i128) -> i128
-    requires x { unsigned_abs x < 2 ^ 96 }
-    requires y { unsigned_abs y < 2 ^ 96 }
-    ensures value { result ≡ x +ℤ y }
-    ensures bounded { unsigned_abs result ≤ unsigned_abs x + unsigned_abs y }
-{
-    x + y
 }
 
 // The exact difference.

@@ -1,14 +1,9 @@
 // `delay`: its input of a fixed number of samples ago.
-ghost use Rattle.std.specs.Prelude.{ℤ, ◌≡◌, ◌<◌, ◌≤◌, ◌+◌, ◌∷◌, ◌++◌, [], List, IfOk, length, vec_capacity};
-ghost use Rattle.std.specs.Prelude.{drop, map, replicate, take};
-ghost use Rattle.std.specs.List.{range_with_len};
-ghost use Rattle.cs_base.specs.Heads.{header_of_head};
-ghost use Rattle.cs_base.specs.declared.resource.Rate.{Rate};
-ghost use Rattle.cs_signal.specs.Delay.{delay_start, delay_step};
+ghost use Rattle.std.specs.Prelude.{ℤ, ◌≡◌, ◌<◌, ◌≤◌, ◌+◌, ◌∷◌, ◌++◌, [], List, IfOk, length, vec_capacity, drop, map};
+ghost use Rattle.std.specs.{Prelude.replicate, Prelude.take, List.range_with_len};
+ghost use Rattle.cs_base.specs.{Heads.header_of_head, declared.resource.Rate.Rate};
+ghost use Rattle.cs_signal.specs.{Delay.delay_start, Delay.delay_step, Pace.pace_of, Steps.run, Walk.HasRun};
 ghost use Rattle.cs_signal.specs.Operands.{operand_at, Lasts};
-ghost use Rattle.cs_signal.specs.Pace.{pace_of};
-ghost use Rattle.cs_signal.specs.Steps.{run};
-ghost use Rattle.cs_signal.specs.Walk.{HasRun};
 ghost use Rattle.cs_signal.specs.inner.Ring.{IsRing, IsWrapped, in_order, line_in};
 
 use crate::Operand;

@@ -1,8 +1,6 @@
 // What a unit without a table does, for whoever plays it.
-ghost use Rattle.std.specs.Prelude.{◌≡◌, ℕ, ℤ, List, length};
-ghost use Rattle.std.specs.List.{All};
-ghost use Rattle.cs_signal.specs.Operands.{Lasts, inputs_at};
-ghost use Rattle.cs_signal.specs.Steps.{run};
+ghost use Rattle.std.specs.{Prelude.◌≡◌, Prelude.ℕ, Prelude.ℤ, Prelude.List, Prelude.length, List.All};
+ghost use Rattle.cs_signal.specs.{Operands.Lasts, Operands.inputs_at, Steps.run};
 
 use crate::Operand;
 use cs_base::Num;

@@ -1,9 +1,7 @@
 // `interp`: a control value as a sound, on a straight line from one control cycle's value to the next.
 ghost use Rattle.std.specs.Prelude.{◌≡◌, List, ℤ};
-ghost use Rattle.cs_base.specs.Heads.{header_of_head};
-ghost use Rattle.cs_base.specs.declared.resource.Rate.{Rate};
-ghost use Rattle.cs_signal.specs.Interp.{interp_start, interp_step};
-ghost use Rattle.cs_signal.specs.Pace.{pace_of};
+ghost use Rattle.cs_base.specs.{Heads.header_of_head, declared.resource.Rate.Rate};
+ghost use Rattle.cs_signal.specs.{Interp.interp_start, Interp.interp_step, Pace.pace_of};
 
 use crate::Operand;
 use crate::generator::{Generator, Stepper};

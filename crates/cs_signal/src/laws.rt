@@ -1,18 +1,9 @@
 // What the formulas give: a call that does nothing, whose contract is the law.
 ghost use Rattle.std.specs.Prelude.{◌≡◌, [], ◌∷◌, ◌++◌, replicate, pos, negsuc};
 ghost use Rattle.cs_base.specs.declared.resource.Rate.TheVariants.{Audio, Control};
-ghost use Rattle.cs_signal.specs.Biquad.{biquad_of};
-ghost use Rattle.cs_signal.specs.Delay.{delay_of};
-ghost use Rattle.cs_signal.specs.Diff.{diff_of};
-ghost use Rattle.cs_signal.specs.Downsamp.{downsamp_of};
-ghost use Rattle.cs_signal.specs.Integ.{integ_of};
-ghost use Rattle.cs_signal.specs.Interp.{interp_of};
-ghost use Rattle.cs_signal.specs.Limit.{limit_of};
-ghost use Rattle.cs_signal.specs.Line.{line_of};
-ghost use Rattle.cs_signal.specs.Linen.{linen_of};
-ghost use Rattle.cs_signal.specs.Linseg.{linseg_of};
-ghost use Rattle.cs_signal.specs.Samphold.{samphold_of};
-ghost use Rattle.cs_signal.specs.Steps.{results_by};
+ghost use Rattle.cs_signal.specs.{Biquad.biquad_of, Delay.delay_of, Diff.diff_of, Downsamp.downsamp_of, Integ.integ_of};
+ghost use Rattle.cs_signal.specs.{Interp.interp_of, Limit.limit_of, Line.line_of, Linen.linen_of, Linseg.linseg_of};
+ghost use Rattle.cs_signal.specs.{Samphold.samphold_of, Steps.results_by};
 
 /// The examples of docs/LANGUAGE.md at 8 frames a second and 4 a control cycle, and one of each formula that it has no
 /// example of, computed by the formulas: a step's inputs are a list, and one without inputs is an empty list.

@@ -1,7 +1,6 @@
 // `line`: a straight line through two values, without end.
 ghost use Rattle.std.specs.Prelude.{◌≡◌, ◌<◌, ◌≤◌, ◌+◌, ◌^◌, pos, ◌+ℤ◌, ◌-ℤ◌, ◌*ℤ◌, unsigned_abs};
-ghost use Rattle.cs_base.specs.Heads.{header_of_head};
-ghost use Rattle.cs_base.specs.Numbers.{IsRaw, clamp, floor_div};
+ghost use Rattle.cs_base.specs.{Heads.header_of_head, Numbers.IsRaw, Numbers.clamp, Numbers.floor_div};
 ghost use Rattle.cs_signal.specs.Line.{LineState, line_start, line_step, part_way};
 ghost use Rattle.cs_signal.specs.Pace.{pace_of, last_number};
 
@@ -24,8 +23,7 @@ pub struct LineUnit {
 
 impl Model for LineUnit {
     ghost use Rattle.std.specs.Prelude.{◌≤◌, ◌<◌, ◌^◌};
-    ghost use Rattle.cs_signal.specs.Line.{LineState};
-    ghost use Rattle.cs_signal.specs.Pace.{last_number};
+    ghost use Rattle.cs_signal.specs.{Line.LineState, Pace.last_number};
 
     ghost Value = { LineState };
 

@@ -1,14 +1,11 @@
 // `linen`: an amplitude under a straight rise and a straight decay.
 ghost use Rattle.std.specs.Prelude.{◌≡◌, ◌<◌, ◌≤◌, ◌*◌, ◌/◌, ◌^◌, ◌∷◌, [], true, length, map, pos, ◌-ℤ◌, ◌*ℤ◌};
-ghost use Rattle.std.specs.Prelude.{unsigned_abs};
-ghost use Rattle.std.specs.List.{range_with_len};
+ghost use Rattle.std.specs.{Prelude.unsigned_abs, List.range_with_len};
 ghost use Rattle.cs_base.specs.Heads.{header_of_head};
 ghost use Rattle.cs_base.specs.Numbers.{IsRaw, clamp, floor_div, one, product_of};
-ghost use Rattle.cs_signal.specs.Linen.{linen_start, linen_step, up_at, down_at};
-ghost use Rattle.cs_signal.specs.Operands.{argument, operand_at, Lasts};
-ghost use Rattle.cs_signal.specs.Pace.{pace_of, last_number};
-ghost use Rattle.cs_signal.specs.inner.Ramp.{ramp_of};
-ghost use Rattle.cs_signal.specs.inner.Level.{IsFalling, IsLevel, IsRising};
+ghost use Rattle.cs_signal.specs.{Linen.linen_start, Linen.linen_step, Linen.up_at, Linen.down_at, Operands.argument};
+ghost use Rattle.cs_signal.specs.{Operands.operand_at, Operands.Lasts, Pace.pace_of, Pace.last_number};
+ghost use Rattle.cs_signal.specs.{inner.Ramp.ramp_of, inner.Level.IsFalling, inner.Level.IsLevel, inner.Level.IsRising};
 
 use crate::Operand;
 use crate::generator::{Generator, Stepper};
@@ -30,8 +27,7 @@ pub struct Linen {
 
 impl Model for Linen {
     ghost use Rattle.std.specs.Prelude.{◌≤◌, ◌<◌, ◌^◌};
-    ghost use Rattle.cs_signal.specs.Linen.{LinenState};
-    ghost use Rattle.cs_signal.specs.Pace.{last_number};
+    ghost use Rattle.cs_signal.specs.{Linen.LinenState, Pace.last_number};
 
     ghost Value = { LinenState };
 
@@ -175,33 +171,16 @@ fn shape(x: &Operand, out: &mut [Num])
     }
 }
 
-// The product of a number and a factor, which mostly lies from 0 below one.
+// The product of a number and a factor, which mostly lies from 0 below one: then it fits into 64 bits, and is in range.
 #[inline(always)]
 fn product(x: Num, factor: Num) -> Num
     ensures { result ≡ product_of x factor }
 {
-    if is_part(factor) {
-        reduced(x, factor)
+    if 0 <= factor.raw() && factor.raw() < ONE {
+        Num::of_product(near_product(x.raw(), factor.raw()))
     } else {
         x.mul(factor)
     }
-}
-
-// Whether a factor lies from 0 below one.
-#[inline(always)]
-fn is_part(factor: Num) -> bool
-    ensures { result ≡ true → unsigned_abs factor < 2 ^ 16 }
-{
-    0 <= factor.raw() && factor.raw() < ONE
-}
-
-// The product where the factor is below one: it fits into 64 bits, and is in range.
-#[inline(always)]
-fn reduced(x: Num, factor: Num) -> Num
-    requires { unsigned_abs factor < 2 ^ 16 }
-    ensures { result ≡ product_of x factor }
-{
-    Num::of_product(near_product(x.raw(), factor.raw()))
 }
 
 // The exact product.
@@ -245,23 +224,17 @@ fn down_at(duration: u64, decay: u64, n: u64) -> Num
     if decay == 0 || n + decay < duration {
         Num::of_raw(ONE)
     } else {
-        Num::of_wide(fallen(left(duration, n), decay))
+        Num::of_wide(fallen(duration, decay, n))
     }
 }
 
-fn left(duration: u64, n: u64) -> i128
+// What is left of the duration, by the decay.
+fn fallen(duration: u64, decay: u64, n: u64) -> i128
+    requires some { 0 < decay }
     requires wide { duration < 2 ^ 49 }
     requires number { n ≤ last_number }
-    ensures value { result ≡ pos duration -ℤ pos n }
-    ensures bounded { unsigned_abs result < 2 ^ 64 }
+    ensures { result ≡ floor_div (one *ℤ (pos duration -ℤ pos n)) (pos decay) }
 {
-    i128::from(duration) - i128::from(n)
-}
-
-fn fallen(left: i128, decay: u64) -> i128
-    requires some { 0 < decay }
-    requires bounded { unsigned_abs left < 2 ^ 64 }
-    ensures { result ≡ floor_div (one *ℤ left) (pos decay) }
-{
+    let left = i128::from(duration) - i128::from(n);
     (i128::from(ONE) * left).div_euclid(i128::from(decay))
 }

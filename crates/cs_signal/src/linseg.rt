@@ -1,10 +1,8 @@
 // `linseg`: straight pieces from value to value; after the last piece the last value.
 ghost use Rattle.std.specs.Prelude.{◌≡◌, ◌+◌, ◌*◌, ◌<◌, ◌≤◌, IfOk, length};
-ghost use Rattle.cs_base.specs.Heads.{header_of_head};
-ghost use Rattle.cs_base.specs.Numbers.{clamp};
+ghost use Rattle.cs_base.specs.{Heads.header_of_head, Numbers.clamp};
 ghost use Rattle.cs_signal.specs.Linseg.{linseg_start, linseg_step, lengths_of, on_pieces, pieces_of, values_of};
-ghost use Rattle.cs_signal.specs.Pace.{pace_of, last_number};
-ghost use Rattle.cs_signal.specs.inner.Pieces.{HasPassed, IsPlace};
+ghost use Rattle.cs_signal.specs.{Pace.pace_of, Pace.last_number, inner.Pieces.HasPassed, inner.Pieces.IsPlace};
 
 use crate::generator::{Generator, Stepper};
 use crate::line::part_way;
@@ -35,9 +33,7 @@ struct Place {
 
 impl Model for Linseg {
     ghost use Rattle.std.specs.Prelude.{◌≡◌, ◌+◌, ◌≤◌, length};
-    ghost use Rattle.cs_signal.specs.Linseg.{LinsegState};
-    ghost use Rattle.cs_signal.specs.Pace.{last_number};
-    ghost use Rattle.cs_signal.specs.inner.Pieces.{IsPlace};
+    ghost use Rattle.cs_signal.specs.{Linseg.LinsegState, Pace.last_number, inner.Pieces.IsPlace};
 
     ghost Value = { LinsegState };
 

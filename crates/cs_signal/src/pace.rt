@@ -1,7 +1,6 @@
 // How long a time is in steps of a unit.
 ghost use Rattle.std.specs.Prelude.{◌≡◌, ◌<◌, ◌≤◌, ◌+◌, ◌*◌, ◌^◌, max, pos, ◌*ℤ◌, unsigned_abs};
-ghost use Rattle.cs_base.specs.Heads.{header_of_head};
-ghost use Rattle.cs_base.specs.Numbers.{IsRaw, floor_div, one};
+ghost use Rattle.cs_base.specs.{Heads.header_of_head, Numbers.IsRaw, Numbers.floor_div, Numbers.one};
 ghost use Rattle.cs_signal.specs.Pace.{from_zero, pace_of, samples_of, cycles_of, steps_of, number_after};
 
 use cs_base::{Head, Num, ONE, Rate};
@@ -37,11 +36,7 @@ pub fn delay_samples(time: Num, head: &Head) -> u64
 pub(crate) fn next_number(number: u64) -> u64
     ensures { result ≡ number_after (number + 1) }
 {
-    if number < i64::MAX as u64 {
-        number + 1
-    } else {
-        i64::MAX as u64
-    }
+    number.min(i64::MAX as u64 - 1) + 1
 }
 
 // The exact product.

@@ -41,7 +41,7 @@ fn between_ends(from: Num, to: Num, n: u64, d: u64, out: &mut [Num])
     ensures { out.new ≡ ramp_of from to n d (length out.old) }
 {
     let inverse = inverse_of(d);
-    let step = told(near_rise(from, to, d), inverse);
+    let step = told(rise_of(from, to, d), inverse);
     let mut at = told(risen(from, part_of(from, to, n, d)), inverse);
     for j in 0..out.len() {
         out[j] = value(at);
@@ -65,7 +65,7 @@ struct Fine {
 }
 
 // A number in 2^64ths, its rest by the inverse of the divisor.
-fn told(number: Near, inverse: u128) -> Fine
+fn told(number: Parts, inverse: u128) -> Fine
     requires whole { unsigned_abs number.whole < 2 ^ 48 }
     requires rest { number.rest < 2 ^ 26 }
     requires inverse { inverse ≤ 2 ^ 64 }
@@ -73,17 +73,11 @@ fn told(number: Near, inverse: u128) -> Fine
     ensures bounded { unsigned_abs result.parts < 2 ^ 113 }
 {
     Fine {
-        parts: plus(lifted(number.whole), product(number.rest, inverse)),
+        parts: plus(
+            number.whole * 18_446_744_073_709_551_616,
+            product(number.rest, inverse),
+        ),
     }
-}
-
-// A whole number in 2^64ths.
-fn lifted(whole: i64) -> i128
-    requires { unsigned_abs whole < 2 ^ 48 }
-    ensures value { result ≡ whole *ℤ pos 18446744073709551616 }
-    ensures bounded { unsigned_abs result < 2 ^ 112 }
-{
-    i128::from(whole) * 18_446_744_073_709_551_616
 }
 
 // The exact product.
@@ -103,16 +97,7 @@ fn value(at: Fine) -> Num
     requires range { IsRaw (floor_div at.parts (pos 18446744073709551616)) }
     ensures { result ≡ floor_div at.parts (pos 18446744073709551616) }
 {
-    Num::exact(whole(at.parts))
-}
-
-// How many wholes a number in 2^64ths has.
-#[inline(always)]
-fn whole(parts: i128) -> i64
-    requires { unsigned_abs parts ≤ 2 ^ 125 }
-    ensures { result ≡ floor_div parts (pos 18446744073709551616) }
-{
-    (parts >> 64) as i64
+    Num::exact((at.parts >> 64) as i64)
 }
 
 // A number of a ramp one step on.
@@ -127,47 +112,16 @@ fn next(at: Fine, by: Fine) -> Fine
     }
 }
 
-// A number within 64 bits as a multiple of a divisor and a rest below it.
-#[derive(Clone, Copy)]
-struct Near {
-    whole: i64,
-    rest: u64,
-}
-
-// The parts of a way.
-fn near_rise(from: Num, to: Num, d: u64) -> Near
-    requires some { 1 ≤ d }
-    ensures parts { IsParted (to -ℤ from) d result.whole result.rest }
-    ensures bounded { unsigned_abs result.whole < 2 ^ 48 }
-    ensures ends { IsRaw from × IsRaw to }
-{
-    let rise = rise_of(from, to, d);
-    Near {
-        whole: rise.whole as i64,
-        rest: rise.rest,
-    }
-}
-
-// The value above another, and the rest that is left.
-fn risen(from: Num, part: Parts) -> Near
-    requires range { IsRaw (from +ℤ part.whole) }
-    requires far { unsigned_abs part.whole < 2 ^ 111 }
+// The parts of a value above another.
+fn risen(from: Num, part: Parts) -> Parts
+    requires { unsigned_abs part.whole < 2 ^ 111 }
     ensures value { result.whole ≡ from +ℤ part.whole }
     ensures rest { result.rest ≡ part.rest }
 {
-    Near {
-        whole: sum(from.raw(), part.whole),
+    Parts {
+        whole: i128::from(from.raw()) + part.whole,
         rest: part.rest,
     }
-}
-
-// The exact sum.
-fn sum(from: i64, whole: i128) -> i64
-    requires range { IsRaw (from +ℤ whole) }
-    requires far { unsigned_abs whole < 2 ^ 111 }
-    ensures { result ≡ from +ℤ whole }
-{
-    (i128::from(from) + whole) as i64
 }
 
 // The same wherever the parts lie.
@@ -261,8 +215,9 @@ fn advanced(at: Parts, by: Parts, d: u64) -> Parts
     }
 }
 
+/// The exact sum.
 #[inline(always)]
-fn plus(x: i128, y: i128) -> i128
+pub(crate) fn plus(x: i128, y: i128) -> i128
     requires x { unsigned_abs x < 2 ^ 125 }
     requires y { unsigned_abs y < 2 ^ 113 }
     ensures value { result ≡ x +ℤ y }

@@ -1,8 +1,6 @@
 // Steps one by one: where a block is no more than its steps.
-ghost use Rattle.std.specs.Prelude.{◌≡◌, ◌≤◌, ◌∷◌, [], length, take};
-ghost use Rattle.std.specs.List.{All};
-ghost use Rattle.cs_signal.specs.Operands.{Lasts, inputs_at, operand_at};
-ghost use Rattle.cs_signal.specs.Steps.{run};
+ghost use Rattle.std.specs.{Prelude.◌≡◌, Prelude.◌≤◌, Prelude.◌∷◌, Prelude.[], Prelude.length, Prelude.take, List.All};
+ghost use Rattle.cs_signal.specs.{Operands.Lasts, Operands.inputs_at, Operands.operand_at, Steps.run};
 
 use crate::Operand;
 use crate::generator::Stepper;

@@ -1,8 +1,7 @@
 // A table that stays as it was made.
 ghost use Rattle.std.specs.Prelude.{◌≡◌, ◌≤◌, ◌%◌, IfOk, true, refl, length};
 ghost use Rattle.std.proofs.Common.{◌∙◌};
-ghost use Rattle.cs_gen.specs.Points.{len_of};
-ghost use Rattle.cs_gen.specs.Tables.{curve_of};
+ghost use Rattle.cs_gen.specs.{Points.len_of, Tables.curve_of};
 ghost use Rattle.cs_signal.specs.Operands.{argument};
 ghost use Rattle.cs_ugen.specs.Points.{AreShort, IsShort, curve_len, is_len};
 

@@ -1,14 +1,10 @@
 // `oscil` and `oscili`: a table read as a wave.
 ghost use Rattle.std.specs.Prelude.{◌≡◌, ◌<◌, ◌∷◌, ◌++◌, ◌^◌, ◌≤◌, length, ◌*ℤ◌, unsigned_abs};
 ghost use Rattle.std.specs.List.{All};
-ghost use Rattle.cs_base.specs.Heads.{header_of_head};
-ghost use Rattle.cs_base.specs.Numbers.{product_of};
-ghost use Rattle.cs_ugen.specs.Oscil.{oscil_start, wave_step};
-ghost use Rattle.cs_ugen.specs.Phases.{turn};
-ghost use Rattle.cs_ugen.specs.Points.{IsShort};
+ghost use Rattle.cs_base.specs.{Heads.header_of_head, Numbers.product_of};
+ghost use Rattle.cs_ugen.specs.{Oscil.oscil_start, Oscil.wave_step, Phases.turn, Points.IsShort};
 ghost use Rattle.cs_signal.specs.Operands.{argument, inputs_at, operand_at, Lasts};
-ghost use Rattle.cs_signal.specs.Pace.{pace_of};
-ghost use Rattle.cs_signal.specs.Steps.{run};
+ghost use Rattle.cs_signal.specs.{Pace.pace_of, Steps.run};
 
 use crate::angle::{Angle, moved};
 use crate::curve::{Curve, floored};

@@ -1,15 +1,9 @@
 // What holds of the definitions for all inputs: calls that do nothing, whose contracts are the laws.
 ghost use Rattle.std.specs.Prelude.{◌≡◌, true, None, ℤ, pos, negsuc, neg_ℤ, List, [], ◌∷◌, length};
 ghost use Rattle.cs_base.specs.declared.resource.Rate.TheVariants.{Audio};
-ghost use Rattle.cs_gen.specs.Faults.{table_fault};
-ghost use Rattle.cs_gen.specs.Points.{len_of};
-ghost use Rattle.cs_gen.specs.Tables.{IsMade, curve_of};
-ghost use Rattle.cs_ugen.specs.Oscil.{oscil_of};
-ghost use Rattle.cs_ugen.specs.Oscili.{oscili_of};
-ghost use Rattle.cs_ugen.specs.Phasor.{phasor_of};
+ghost use Rattle.cs_gen.specs.{Faults.table_fault, Points.len_of, Tables.IsMade, Tables.curve_of};
+ghost use Rattle.cs_ugen.specs.{Oscil.oscil_of, Oscili.oscili_of, Phasor.phasor_of, Table.table_of, Tablei.tablei_of};
 ghost use Rattle.cs_ugen.specs.Points.{IsCurve, is_len};
-ghost use Rattle.cs_ugen.specs.Table.{table_of};
-ghost use Rattle.cs_ugen.specs.Tablei.{tablei_of};
 
 /// A made table can be read: its length is a power of two, and with its guard point it is a curve.
 pub fn made_tables_are_curves()

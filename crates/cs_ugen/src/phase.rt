@@ -1,8 +1,7 @@
 // What turns: a phase of 2^24 parts, moved on at each step by a frequency.
 ghost use Rattle.std.specs.Prelude.{◌≡◌, ◌+◌, ◌*◌, ◌/◌, ◌%◌, ◌<◌, ◌≤◌, ◌^◌, pos, ◌*ℤ◌, unsigned_abs};
 ghost use Rattle.std.specs.Int.{int_rem_euclid};
-ghost use Rattle.cs_base.specs.Heads.{header_of_head};
-ghost use Rattle.cs_base.specs.Numbers.{IsRaw, floor_div};
+ghost use Rattle.cs_base.specs.{Heads.header_of_head, Numbers.IsRaw, Numbers.floor_div};
 ghost use Rattle.cs_signal.specs.Pace.{pace_of};
 ghost use Rattle.cs_ugen.specs.Phases.{at_phase, begun, increment, turn, turned, within_turn};
 

@@ -1,11 +1,8 @@
 // `phasor`: a ramp from 0 to 1, once a turn.
 ghost use Rattle.std.specs.Prelude.{◌≡◌, ◌<◌, ◌∷◌, [], length};
-ghost use Rattle.cs_ugen.specs.Phases.{turn};
-ghost use Rattle.cs_ugen.specs.Phasor.{phasor_start, phasor_step, ramp};
+ghost use Rattle.cs_ugen.specs.{Phases.turn, Phasor.phasor_start, Phasor.phasor_step, Phasor.ramp};
 ghost use Rattle.cs_base.specs.Heads.{header_of_head};
-ghost use Rattle.cs_signal.specs.Operands.{argument, operand_at, Lasts};
-ghost use Rattle.cs_signal.specs.Pace.{pace_of};
-ghost use Rattle.cs_signal.specs.Steps.{run};
+ghost use Rattle.cs_signal.specs.{Operands.argument, Operands.operand_at, Operands.Lasts, Pace.pace_of, Steps.run};
 
 use crate::angle::{Angle, moved};
 use crate::phase::Phase;
@@ -40,8 +37,7 @@ impl Phasor {
     // A step for each frame of `out`.
     fn block(&mut self, cps: &Operand, out: &mut [Num])
         requires { Lasts (length out.old) cps.now }
-        ensures { (self.new, out.new)
-            ≡ run phasor_step (λ j. operand_at cps.now j ∷ []) self.old 0 (length out.old) }
+        ensures { (self.new, out.new) ≡ run phasor_step (λ j. operand_at cps.now j ∷ []) self.old 0 (length out.old) }
     {
         match cps {
             Operand::Held(cps) => held(self, *cps, out),
@@ -85,8 +81,7 @@ fn held(unit: &mut Phasor, cps: Num, out: &mut [Num])
 #[inline(never)]
 fn along(unit: &mut Phasor, cps: &[Num], out: &mut [Num])
     requires { length cps.now ≡ length out.old }
-    ensures { (unit.new, out.new)
-        ≡ run phasor_step (λ j. argument cps.now j ∷ []) unit.old 0 (length out.old) }
+    ensures { (unit.new, out.new) ≡ run phasor_step (λ j. argument cps.now j ∷ []) unit.old 0 (length out.old) }
 {
     let turning = unit.phase.copied();
     let mut phase = turning.get();

@@ -1,12 +1,8 @@
 // How a curve is read: each point held until the next, or on straight lines between its points.
 ghost use Rattle.std.specs.Prelude.{◌≡◌, ◌<◌, ◌≤◌, ◌-◌, ◌*◌, ◌/◌, ◌%◌, ℕ, ℤ, List};
 ghost use Rattle.cs_gen.specs.Places.{from_zero_to};
-ghost use Rattle.cs_ugen.specs.Oscil.{point_at};
-ghost use Rattle.cs_ugen.specs.Oscili.{line_at};
-ghost use Rattle.cs_ugen.specs.Phases.{turn};
+ghost use Rattle.cs_ugen.specs.{Oscil.point_at, Oscili.line_at, Phases.turn, Table.point_of, Tablei.line_of};
 ghost use Rattle.cs_ugen.specs.Points.{AreShort, IsShort};
-ghost use Rattle.cs_ugen.specs.Table.{point_of};
-ghost use Rattle.cs_ugen.specs.Tablei.{line_of};
 
 use crate::angle::Angle;
 use crate::curve::{Curve, between_points, curve_len};

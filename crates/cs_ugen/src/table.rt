@@ -1,9 +1,7 @@
 // `table` and `tablei`: a table read at an index.
-ghost use Rattle.std.specs.Prelude.{◌≡◌, ◌∷◌, ◌++◌, length};
-ghost use Rattle.std.specs.List.{All};
+ghost use Rattle.std.specs.{Prelude.◌≡◌, Prelude.◌∷◌, Prelude.◌++◌, Prelude.length, List.All};
 ghost use Rattle.cs_ugen.specs.Table.{index_step, table_start};
-ghost use Rattle.cs_signal.specs.Operands.{inputs_at, operand_at, Lasts};
-ghost use Rattle.cs_signal.specs.Steps.{run};
+ghost use Rattle.cs_signal.specs.{Operands.inputs_at, Operands.operand_at, Operands.Lasts, Steps.run};
 
 use crate::curve::Curve;
 use crate::reading::Reading;

@@ -2,12 +2,9 @@
 ghost use Rattle.std.specs.Prelude.{◌≡◌, ◌++◌, IfOk, OnErr, false, length, true};
 ghost use Rattle.std.specs.List.{All};
 ghost use Rattle.cs_base.specs.Heads.{header_of_head};
-ghost use Rattle.cs_signal.specs.Operands.{Lasts, inputs_at};
-ghost use Rattle.cs_signal.specs.Pace.{pace_of};
-ghost use Rattle.cs_signal.specs.Steps.{run};
+ghost use Rattle.cs_signal.specs.{Operands.Lasts, Operands.inputs_at, Pace.pace_of, Steps.run};
 ghost use Rattle.cs_ugen.specs.Units.{IsUnitOpcode, moving_count, opcode_of, reads_table, takes_memory, unit_start};
-ghost use Rattle.cs_ugen.specs.Units.{unit_step};
-ghost use Rattle.cs_ugen.specs.inner.Runs.{state_run};
+ghost use Rattle.cs_ugen.specs.{Units.unit_step, inner.Runs.state_run};
 
 use crate::oscillator::Oscillator;
 use crate::reading::{Interpolating, Truncating};

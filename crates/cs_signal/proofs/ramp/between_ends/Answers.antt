@@ -7,20 +7,13 @@ use Rattle.cs_signal.proofs.{Ramps.floor_is, Ways.on_way, Ways.parts_of_value}
 use Rattle.cs_signal.proofs.Rises.{HasRisen_none, HasRisen_more, HasRisen_all, steps_told}
 use Rattle.cs_signal.proofs.ramp.between_ends.Goals as goal
 
-pub risen-requires-clause-range : goal.risen-requires-clause-range
-risen-requires-clause-range c =
-    let ends = c.near_rise.ensures.ends in
-    let begun = c.requires.begun in
-    on_way c.args.from c.args.to c.part_of.result.whole c.args.n c.args.d c.part_of.result.rest ends.0 ends.1
-    (omega arith) c.part_of.ensures.parts
-
 pub told-step-requires-clause-rest : goal.told-step-requires-clause-rest
 told-step-requires-clause-rest c =
-    let below = c.near_rise.ensures.parts.below in let short = c.requires.short in omega (arith, below, short)
+    let below = c.rise_of.ensures.parts.below in let short = c.requires.short in omega (arith, below, short)
 
 pub told-at-requires-clause-whole : goal.told-at-requires-clause-whole
 told-at-requires-clause-whole c =
-    let ends = c.near_rise.ensures.ends in
+    let ends = c.rise_of.ensures.ends in
     let begun = c.requires.begun in
     let range : IsRaw c.risen.result.whole = subst IsRaw (sym c.risen.ensures.value)
     (on_way c.args.from c.args.to c.part_of.result.whole c.args.n c.args.d c.part_of.result.rest ends.0 ends.1
@@ -57,7 +50,7 @@ value-requires-clause-range c =
     let inside = c.loop-j-test.true in
     let few = c.requires.few in
     let room = c.requires.room in
-    let ends = c.near_rise.ensures.ends in
+    let ends = c.rise_of.ensures.ends in
     let now = steps_told c.args.from c.args.to c.args.n c.args.d c.inverse_of-inverse.result (length c.args.out.now)
     c.loop-j.j c.loop-j.at.parts c.loop-j.out c.requires.some c.requires.short (omega arith)
     c.inverse_of-inverse.ensures.near c.loop-j.invariant in
@@ -78,7 +71,7 @@ loop-j-preserved c =
     let inside = c.loop-j-test.true in
     let few = c.requires.few in
     let room = c.requires.room in
-    let step = c.near_rise.ensures in
+    let step = c.rise_of.ensures in
     let now = steps_told c.args.from c.args.to c.args.n c.args.d c.inverse_of-inverse.result (length c.args.out.now)
     c.loop-j.j c.loop-j.at.parts c.loop-j.out c.requires.some c.requires.short (omega arith)
     c.inverse_of-inverse.ensures.near h in
@@ -91,7 +84,7 @@ loop-j-preserved c =
     (floor_is ((c.args.to -ℤ c.args.from) *ℤ pos (c.args.n + c.loop-j.j)) now.by c.args.d now.rest now.parts)
     ∙ clamp_same (c.args.from +ℤ now.by) raw) in
     HasRisen_more c.args.from c.args.to c.args.n c.args.d c.inverse_of-inverse.result (length c.args.out.now) c.loop-j.j
-    c.loop-j.at.parts c.told-step.result.parts c.next-at.result.parts c.near_rise.result.whole c.near_rise.result.rest
+    c.loop-j.at.parts c.told-step.result.parts c.next-at.result.parts c.rise_of.result.whole c.rise_of.result.rest
     c.loop-j.out c.value.result h inside step.parts c.told-step.ensures.value c.told-step.ensures.bounded
     c.next-at.ensures value
 
