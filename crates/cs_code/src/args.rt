@@ -1,14 +1,12 @@
 // The values among a call's arguments, and their code. The catalogue's letters say which are settled at note start.
-ghost use Rattle.std.specs.Prelude.{◌≡◌, ◌++◌, map, not, true, IfOk, OnOk};
-ghost use Rattle.cs_ir.specs.Codes.{is_unaimed};
-ghost use Rattle.cs_ir.specs.Drafts.{Grew};
+ghost use Rattle.std.specs.Prelude.{◌≡◌, ◌++◌, not, true, IfOk, OnOk};
+ghost use Rattle.cs_ir.specs.{Codes.is_unaimed, Drafts.Grew};
 ghost use Rattle.cs_meaning.specs.Core.{settled, moving, values_of};
-ghost use Rattle.cs_code.specs.inner.Kept.{past_all};
-ghost use Rattle.cs_words.specs.Catalogue.{is_settled, row_of};
 ghost use Rattle.cs_code.specs.inner.Code.{operands_code, on_code, keep_all_code};
 ghost use Rattle.cs_code.specs.inner.Emitted.{arguments_of, expressions_of, taken, when_of};
+ghost use Rattle.cs_code.specs.{inner.Kept.past_all, inner.Spots.spots};
+ghost use Rattle.cs_words.specs.Catalogue.{is_settled, row_of};
 ghost use Rattle.cs_typed.specs.TypedTree as typed;
-ghost use Rattle.cs_code.specs.inner.Spots.{spots};
 ghost use Rattle.cs_code.specs.declared.frame.Pass.TheVariants as pass;
 
 use crate::expr::{keep, operand};
@@ -69,26 +67,13 @@ pub fn parted_values<'t>(alloc: Global, call: &Call<'t>) -> Result<Parted<'t>, O
         settled: Vec::new(alloc),
         moving: Vec::new(alloc),
     };
-    part_args(&mut parted, call)?;
-    Ok(parted)
-}
-
-// The same, to values that are appended.
-fn part_args<'t>(parted: &mut Parted<'t>, call: &Call<'t>) -> Result<(), OutOfMemory>
-    ensures settled { OnOk result (expressions_of parted.new.settled.items ≡ expressions_of
-        parted.old.settled.items
-        ++ settled (row_of call.now.opcode) 0 (arguments_of call.now)) }
-    ensures moving { OnOk result (expressions_of parted.new.moving.items ≡ expressions_of
-        parted.old.moving.items
-        ++ moving (row_of call.now.opcode) 0 (arguments_of call.now)) }
-{
     let row = signature_of(call.opcode);
     let mut place: usize = 0;
     for arg in call.args {
         parted.add(row.letter(place), arg)?;
         place += 1;
     }
-    Ok(())
+    Ok(parted)
 }
 
 /// All values among the arguments of a call, in order.
@@ -96,19 +81,10 @@ pub fn values<'t>(alloc: Global, call: &Call<'t>) -> Result<Vec<&'t TypedExpr>, 
     ensures { IfOk result (λ v. expressions_of v.items ≡ values_of (arguments_of call.now)) }
 {
     let mut values = Vec::new(alloc);
-    add_values(&mut values, call.args)?;
-    Ok(values)
-}
-
-// The same, to values that are appended.
-fn add_values<'t>(values: &mut Vec<&'t TypedExpr>, args: &'t [TypedArg]) -> Result<(), OutOfMemory>
-    ensures { OnOk result (expressions_of values.new.items
-        ≡ expressions_of values.old.items ++ values_of (map typed.argument args.now)) }
-{
-    for arg in args {
-        add_value(values, arg)?;
+    for arg in call.args {
+        add_value(&mut values, arg)?;
     }
-    Ok(())
+    Ok(values)
 }
 
 #[tactic(auto, using(crate::proofs::Lists::expressions_more, crate::proofs::Lists::append_nothing))]
@@ -138,29 +114,10 @@ pub fn operands(
 ) -> Result<Gathered, OutOfMemory>
     ensures ops { OnOk result (Grew ops.old ops.new (operands_code (when_of context.pass) at (expressions_of
         values.now) 0)) }
-    ensures regs { IfOk result (λ g. g.regs.items
-        ≡ spots (when_of context.pass) at (expressions_of values.now) 0) }
+    ensures regs { IfOk result (λ g. g.regs.items ≡ spots (when_of context.pass) at (expressions_of values.now) 0) }
     ensures next { IfOk result (λ g. g.next ≡ past_all at (expressions_of values.now)) }
 {
     let mut regs = Vec::new(context.alloc);
-    let next = gather(ops, &mut regs, context, at, values)?;
-    Ok(Gathered { regs, next })
-}
-
-// The same, to registers that are appended.
-fn gather(
-    ops: &mut CodeDraft<'_>,
-    regs: &mut Vec<Reg>,
-    context: Context,
-    at: u32,
-    values: &[&TypedExpr],
-) -> Result<u32, OutOfMemory>
-    ensures ops { OnOk result (Grew ops.old ops.new (operands_code (when_of context.pass) at (expressions_of
-        values.now) 0)) }
-    ensures regs { OnOk result (regs.new.items ≡ regs.old.items
-        ++ spots (when_of context.pass) at (expressions_of values.now) 0) }
-    ensures next { IfOk result (λ n. n ≡ past_all at (expressions_of values.now)) }
-{
     let mut next = at;
     let mut d = 0;
     for e in values {
@@ -169,7 +126,7 @@ fn gather(
         next = spot.next;
         d = add(d, 1)?;
     }
-    Ok(next)
+    Ok(Gathered { regs, next })
 }
 
 /// An op on values, after their code. Returns the number of the next kept value.

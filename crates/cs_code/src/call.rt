@@ -1,14 +1,13 @@
 // The code of calls, for either pass, by what a call is short for.
 ghost use Rattle.std.specs.Prelude.{◌≡◌, length, IfOk, OnOk};
 ghost use Rattle.cs_ir.specs.Drafts.{Grew, drafted};
-ghost use Rattle.cs_base.specs.declared.resource.Rate.TheVariants as rate;
 ghost use Rattle.cs_meaning.specs.Core.{ask, unit_call, store_call, zak_call, values_of};
-ghost use Rattle.cs_code.specs.inner.Code.{pass_block_code, pass_code};
 ghost use Rattle.cs_code.specs.inner.Kept.{start, past_block, past_stmt};
-ghost use Rattle.cs_words.specs.Catalogue.{row_of};
-ghost use Rattle.cs_words.specs.declared.catalogue.Shape.TheVariants as shape;
 ghost use Rattle.cs_code.specs.inner.Emitted.{IsAssignmentOf, alone_in, arguments_of, called, effect_of, put_shape};
-ghost use Rattle.cs_code.specs.inner.Emitted.{sent_as};
+ghost use Rattle.cs_code.specs.{inner.Code.pass_block_code, inner.Code.pass_code, inner.Emitted.sent_as};
+ghost use Rattle.cs_words.specs.Catalogue.{row_of};
+ghost use Rattle.cs_base.specs.declared.resource.Rate.TheVariants as rate;
+ghost use Rattle.cs_words.specs.declared.catalogue.Shape.TheVariants as shape;
 
 use crate::args::{Call, parted_values, values};
 use crate::frame::{Context, Progress};
@@ -41,7 +40,6 @@ fn once<'t>(call: &Call<'t>) -> Option<Assignment<'t>>
     }
 }
 
-// A variable takes what a channel has.
 fn get<'t>(call: &Call<'t>) -> Option<Assignment<'t>>
     ensures { IsAssignmentOf result shape.ChannelGet call.now }
 {
@@ -72,7 +70,6 @@ fn put<'t>(call: &Call<'t>, how: Putting) -> Option<Assignment<'t>>
     }
 }
 
-// A channel takes 0.
 fn clear<'t>(call: &Call<'t>) -> Option<Assignment<'t>>
     ensures { IsAssignmentOf result shape.ChannelClear call.now }
 {
@@ -86,7 +83,6 @@ fn clear<'t>(call: &Call<'t>) -> Option<Assignment<'t>>
     }
 }
 
-// The assignment that a call is short for, if it is.
 fn assigned<'t>(call: &Call<'t>) -> Option<Assignment<'t>>
     ensures { IsAssignmentOf result (row_of call.now.opcode).shape call.now }
 {
@@ -154,7 +150,6 @@ fn zak_call(
     zak(ops, context, p, reach, call, &values.moving)
 }
 
-// Values go out.
 fn out(
     ops: &mut CodeDraft<'_>,
     context: Context,
@@ -164,14 +159,12 @@ fn out(
 ) -> Result<Progress, OutOfMemory>
     ensures ops { OnOk result (Grew ops.old ops.new (pass_code context.pass 0 p (sent_as sending rate.Audio
         (values_of (arguments_of call.now))))) }
-    ensures next { IfOk result (λ q. q
-        ≡ past_stmt p (sent_as sending rate.Audio (values_of (arguments_of call.now)))) }
+    ensures next { IfOk result (λ q. q ≡ past_stmt p (sent_as sending rate.Audio (values_of (arguments_of call.now)))) }
 {
     let values = values(context.alloc, call)?;
     send(ops, context, p, sending, &values)
 }
 
-// Asks for a note.
 fn schedule(ops: &mut CodeDraft<'_>, context: Context, call: &Call<'_>) -> Result<(), OutOfMemory>
     ensures { OnOk result (Grew ops.old ops.new (pass_code context.pass 0 start (ask (values_of (arguments_of
         call.now))))) }
@@ -180,7 +173,6 @@ fn schedule(ops: &mut CodeDraft<'_>, context: Context, call: &Call<'_>) -> Resul
     ask(ops, context, &values)
 }
 
-// A call that is no assignment.
 fn effect(
     ops: &mut CodeDraft<'_>,
     context: Context,

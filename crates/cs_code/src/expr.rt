@@ -1,13 +1,11 @@
 // The code of expressions, and of what variables take. Each call appends to `ops`.
 ghost use Rattle.std.specs.Prelude.{◌≡◌, ◌+◌, IfOk, OnOk};
 ghost use Rattle.cs_ir.specs.Drafts.{Grew};
-ghost use Rattle.cs_code.specs.inner.Kept.{past};
+ghost use Rattle.cs_code.specs.inner.Code.{own, code, operand_code, look_code, keep_code, kept_code, set_code};
+ghost use Rattle.cs_code.specs.inner.Emitted.{parts_code, parts_past, value_of, when_of};
+ghost use Rattle.cs_code.specs.{inner.Kept.past, inner.Spots.kept_reg, inner.Spots.spot};
 ghost use Rattle.cs_typed.specs.TypedTree as typed;
 ghost use Rattle.cs_typed.specs.declared.tree.Var.TheVariants.{Local};
-ghost use Rattle.cs_code.specs.inner.Code.{own, code, operand_code, look_code, keep_code};
-ghost use Rattle.cs_code.specs.inner.Code.{kept_code, set_code};
-ghost use Rattle.cs_code.specs.inner.Emitted.{parts_code, parts_past, value_of, when_of};
-ghost use Rattle.cs_code.specs.inner.Spots.{spot, kept_reg};
 ghost use Rattle.cs_code.specs.declared.frame.Pass.TheVariants as pass;
 
 use crate::frame::{Context, ValueSpot, add, kept_reg, local, next_of, push, temp};
@@ -17,7 +15,6 @@ use cs_ir::{Act, CodeDraft, Operands, Reg};
 use cs_typed::{TypedExpr, TypedPart, Var};
 use cs_words::BinOp;
 
-// A variable's value into a register.
 fn look(ops: &mut CodeDraft<'_>, v: Var, into: Reg) -> Result<(), OutOfMemory>
     ensures { OnOk result (Grew ops.old ops.new (look_code v into)) }
 {
@@ -100,8 +97,7 @@ pub fn operand(
 ) -> Result<ValueSpot, OutOfMemory>
     ensures ops { OnOk result (Grew ops.old ops.new (operand_code (when_of context.pass) at (typed.expression e.now)
         d)) }
-    ensures spot { IfOk result (λ s. s.reg
-        ≡ spot (when_of context.pass) at (typed.expression e.now) d) }
+    ensures spot { IfOk result (λ s. s.reg ≡ spot (when_of context.pass) at (typed.expression e.now) d) }
     ensures next { IfOk result (λ s. s.next ≡ past at (typed.expression e.now)) }
 {
     match direct(context, at, &Value::Of(e))? {
@@ -117,18 +113,6 @@ pub fn operand(
     }
 }
 
-/// The register that holds `e` once its code has run.
-#[tactic(auto, using(crate::proofs::Nodes::rate_of_part, crate::proofs::Nodes::nodes))]
-pub fn operand_reg(context: Context, at: u32, e: &TypedExpr, d: u32) -> Result<Reg, OutOfMemory>
-    ensures { IfOk result (λ q. q
-        ≡ spot (when_of context.pass) at (typed.expression e.now) d) }
-{
-    match direct(context, at, &Value::Of(e))? {
-        Some(reg) => Ok(reg),
-        None => Ok(temp(e.rate, d)),
-    }
-}
-
 // What makes a variable's value stand somewhere.
 #[tactic(auto, using(crate::proofs::Nodes::nodes, crate::proofs::Growing::growing))]
 fn variable(
@@ -140,8 +124,7 @@ fn variable(
     d: u32,
 ) -> Result<ValueSpot, OutOfMemory>
     ensures ops { OnOk result (Grew ops.old ops.new (operand_code (when_of context.pass) at (typed.var rate v) d)) }
-    ensures spot { IfOk result (λ s. s.reg
-        ≡ spot (when_of context.pass) at (typed.var rate v) d) }
+    ensures spot { IfOk result (λ s. s.reg ≡ spot (when_of context.pass) at (typed.var rate v) d) }
     ensures next { IfOk result (λ s. s.next ≡ past at (typed.var rate v)) }
 {
     let next = next_of(rate, at, at)?;
@@ -200,8 +183,7 @@ pub fn spot_of(
     value: &Value<'_>,
 ) -> Result<ValueSpot, OutOfMemory>
     ensures ops { OnOk result (Grew ops.old ops.new (operand_code (when_of context.pass) at (value_of value.now) 0)) }
-    ensures spot { IfOk result (λ s. s.reg
-        ≡ spot (when_of context.pass) at (value_of value.now) 0) }
+    ensures spot { IfOk result (λ s. s.reg ≡ spot (when_of context.pass) at (value_of value.now) 0) }
     ensures next { IfOk result (λ s. s.next ≡ past at (value_of value.now)) }
 {
     match direct(context, at, value)? {

@@ -1,8 +1,6 @@
 // Where a note's values stand among the registers, and the ops that are appended.
 ghost use Rattle.std.specs.Prelude.{◌≡◌, ◌+◌, [], ◌∷◌, length, true, IfOk, OnOk};
-ghost use Rattle.cs_ir.specs.Codes.{is_unaimed};
-ghost use Rattle.cs_ir.specs.Drafts.{Grew, IsAt, drafted};
-ghost use Rattle.cs_ir.specs.Waves.{if_init};
+ghost use Rattle.cs_ir.specs.{Codes.is_unaimed, Drafts.Grew, Drafts.IsAt, Drafts.drafted, Waves.if_init};
 ghost use Rattle.cs_meaning.specs.Notes.{reg};
 ghost use Rattle.cs_code.specs.inner.Spots.{op_of, kept_reg, temp};
 
@@ -47,10 +45,7 @@ pub struct ValueSpot {
 pub fn add(a: u32, b: u32) -> Result<u32, OutOfMemory>
     ensures { IfOk result (λ n. n ≡ a + b) }
 {
-    match a.checked_add(b) {
-        Some(sum) => Ok(sum),
-        None => Err(OutOfMemory),
-    }
+    a.checked_add(b).ok_or(OutOfMemory)
 }
 
 /// A number of a register as ops name it. One that doesn't fit is reported as out of memory, as by `add`.
@@ -109,7 +104,8 @@ pub fn push(ops: &mut CodeDraft<'_>, act: Act, into: Reg, from: Operands) -> Res
     requires { is_unaimed act ≡ true }
     ensures { OnOk result (Grew ops.old ops.new (op_of act into from ∷ [])) }
 {
-    ops.push(Op { act, into, from })
+    ops.push(Op { act, into, from })?;
+    Ok(())
 }
 
 /// Appends a jump that is to be aimed.
@@ -123,5 +119,5 @@ pub fn jump(
     ensures more { IfOk result (λ _. Grew ops.old ops.new (op_of act into from ∷ [])) }
     ensures mark { IfOk result (λ m. IsAt ops.new m (length (drafted ops.old))) }
 {
-    ops.jump(Op { act, into, from })
+    ops.push(Op { act, into, from })
 }

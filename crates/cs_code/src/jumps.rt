@@ -1,6 +1,5 @@
 // Jumps whose end is not known yet when they are made.
-ghost use Rattle.std.specs.Prelude.{ℕ, List};
-ghost use Rattle.std.specs.List.{AllZip};
+ghost use Rattle.std.specs.{Prelude.ℕ, Prelude.List, List.AllZip};
 ghost use Rattle.cs_code.specs.inner.Branches.{AllAimed};
 ghost use Rattle.cs_ir.specs.Drafts.{IsAt};
 

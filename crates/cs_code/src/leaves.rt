@@ -3,15 +3,14 @@ ghost use Rattle.std.specs.Prelude.{◌≡◌, length, IfOk, OnOk};
 ghost use Rattle.cs_ir.specs.Drafts.{Grew, drafted};
 ghost use Rattle.cs_typed.specs.TypedTree as typed;
 ghost use Rattle.cs_code.specs.inner.Code.{cond_code, cond_reg, pass_block_code};
-ghost use Rattle.cs_code.specs.inner.Emitted.{alone_in};
-ghost use Rattle.cs_code.specs.inner.Kept.{past, past_block};
+ghost use Rattle.cs_code.specs.{inner.Emitted.alone_in, inner.Kept.past, inner.Kept.past_block};
 
-use crate::expr::{keep, operand, operand_reg};
+use crate::expr::{keep, operand};
 use crate::frame::{Context, Pass, Progress, ValueSpot, kept_reg};
 use crate::simple::{self, Assignment};
 use crate::value::Value;
 use cs_base::{OutOfMemory, Rate};
-use cs_ir::{CodeDraft, Reg};
+use cs_ir::CodeDraft;
 use cs_typed::{TypedExpr, Var};
 
 /// A variable takes the value of an expression, as often as the rate says. Returns what was met before the end.
@@ -37,6 +36,7 @@ pub fn assign(
 }
 
 /// The code of a condition, and where it stands.
+#[tactic(auto, using(crate::proofs::Chains::tested))]
 pub fn condition(
     ops: &mut CodeDraft<'_>,
     context: Context,
@@ -44,43 +44,14 @@ pub fn condition(
     e: &TypedExpr,
 ) -> Result<ValueSpot, OutOfMemory>
     ensures ops { OnOk result (Grew ops.old ops.new (cond_code context.pass at (typed.expression e.now))) }
-    ensures reg { IfOk result (λ s. s.reg ≡ cond_reg context.pass at
-        (typed.expression e.now)) }
+    ensures reg { IfOk result (λ s. s.reg ≡ cond_reg context.pass at (typed.expression e.now)) }
     ensures next { IfOk result (λ s. s.next ≡ past at (typed.expression e.now)) }
 {
-    Ok(ValueSpot {
-        reg: tested_reg(context, at, e)?,
-        next: tested(ops, context, at, e)?,
-    })
-}
-
-// What is tested of a condition. Returns the number of the next kept value.
-#[tactic(auto, using(crate::proofs::Chains::tested))]
-fn tested(
-    ops: &mut CodeDraft<'_>,
-    context: Context,
-    at: u32,
-    e: &TypedExpr,
-) -> Result<u32, OutOfMemory>
-    ensures ops { OnOk result (Grew ops.old ops.new (cond_code context.pass at (typed.expression e.now))) }
-    ensures next { IfOk result (λ n. n ≡ past at (typed.expression e.now)) }
-{
     match context.pass {
-        Pass::Initialisation => keep(ops, context, at, e),
-        Pass::Performance => {
-            let spot = operand(ops, context, at, e, 0)?;
-            Ok(spot.next)
-        }
-    }
-}
-
-// Where a condition stands that is tested.
-fn tested_reg(context: Context, at: u32, e: &TypedExpr) -> Result<Reg, OutOfMemory>
-    ensures { IfOk result (λ q. q ≡ cond_reg context.pass at
-        (typed.expression e.now)) }
-{
-    match context.pass {
-        Pass::Initialisation => Ok(kept_reg(at)),
-        Pass::Performance => operand_reg(context, at, e, 0),
+        Pass::Initialisation => Ok(ValueSpot {
+            reg: kept_reg(at),
+            next: keep(ops, context, at, e)?,
+        }),
+        Pass::Performance => operand(ops, context, at, e, 0),
     }
 }

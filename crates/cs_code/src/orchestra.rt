@@ -1,20 +1,17 @@
 // What an orchestra is performed by: the codes of each instrument, and of what stands outside of all.
-ghost use Rattle.std.specs.Prelude.{◌≡◌, ◌++◌, ℕ, true, eqb, length, IfOk, OnOk, List};
+ghost use Rattle.std.specs.Prelude.{◌≡◌, ◌++◌, ℕ, eqb, IfOk, OnOk, List};
 ghost use Rattle.std.specs.List.{AllZip, IsDistinct};
 ghost use Rattle.cs_base.specs.declared.spaces.Spaces.{Spaces};
-ghost use Rattle.cs_ir.specs.Validity.{fine_from};
 ghost use Rattle.cs_typed.specs.TypedTree as typed;
-ghost use Rattle.cs_typed.specs.Places.{inside};
+ghost use Rattle.cs_typed.specs.{Places.inside, declared.setting.Setting.Setting};
 ghost use Rattle.cs_typed.specs.WellRated.{IsWellRated, IsRatedBlock};
-ghost use Rattle.cs_typed.specs.declared.setting.Setting.{Setting};
-ghost use Rattle.cs_code.specs.Lowered.{IsCodeOf, IsNumberedCode, AreInstrumentsOf};
-ghost use Rattle.cs_code.specs.Lowered.{all_numbers, numbered_with, bodies};
-ghost use Rattle.cs_code.specs.inner.Rated.{IsRatedSomewhere};
-ghost use Rattle.cs_code.specs.inner.Served.{IsLibraryOf};
+ghost use Rattle.cs_code.specs.Lowered.{IsCodeOf, IsNumberedCode, AreInstrumentsOf, all_numbers, numbered_with, bodies};
+ghost use Rattle.cs_code.specs.{inner.Rated.IsRatedSomewhere, inner.Served.IsLibraryOf};
 
-use crate::codes::{Codes, Library, codes_of, library_of};
+use crate::codes::{Library, library_of, ops_of};
+use crate::frame::{Context, Pass};
 use cs_base::OutOfMemory;
-use cs_ir::{Body, Code, Instrument, Instruments, ValidCode};
+use cs_ir::{Body, Counts, Instrument, Instruments};
 use cs_typed::{TypedInstr, TypedOrc, TypedStmt};
 use std::alloc::Global;
 use std::sync::Arc;
@@ -43,7 +40,6 @@ pub fn lower(alloc: Global, orc: &TypedOrc) -> Result<Lowered, OutOfMemory>
     Ok(Lowered { zero, instruments })
 }
 
-// The instrument of what stands outside of all.
 fn zero_of(alloc: Global, orc: &TypedOrc, library: &Library) -> Result<Instrument, OutOfMemory>
     requires library { IsLibraryOf orc.now library.now }
     requires rated { IsWellRated (typed.orchestra orc.now) }
@@ -55,7 +51,6 @@ fn zero_of(alloc: Global, orc: &TypedOrc, library: &Library) -> Result<Instrumen
     Instrument::new(0, &body)
 }
 
-// The instruments of an orchestra.
 fn instruments_of(
     alloc: Global,
     orc: &TypedOrc,
@@ -70,7 +65,6 @@ fn instruments_of(
     Ok(Instruments::of(list))
 }
 
-// The instruments in the order of the text.
 fn in_text(alloc: Global, orc: &TypedOrc, library: &Library) -> Result<Vec<Instrument>, OutOfMemory>
     requires library { IsLibraryOf orc.now library.now }
     requires rated { IsWellRated (typed.orchestra orc.now) }
@@ -105,7 +99,6 @@ fn add_instr(
     add_numbers(&body, instr.numbers.as_slice(), list)
 }
 
-// A body under each of some numbers.
 fn add_numbers(
     body: &Arc<Body, Global>,
     numbers: &[u32],
@@ -113,7 +106,7 @@ fn add_numbers(
 ) -> Result<(), OutOfMemory>
     ensures { OnOk result ((spaces : Spaces) (channels : ℕ) (t : typed.Block)
         (ps : List (ℕ × typed.Block))
-        → IsCodeOf spaces channels t body.now.value.init body.now.value.perf
+        → IsCodeOf spaces channels t body.now.value.init.code body.now.value.perf.code
         → AllZip (IsNumberedCode spaces channels) ps list.old.items
         → AllZip (IsNumberedCode spaces channels) (ps ++ numbered_with t numbers.now) list.new.items) }
 {
@@ -135,23 +128,21 @@ fn body_of(
     ensures { IfOk result (λ b. (s : Setting) → IsRatedBlock s (typed.block
         (typed.routines orc.now.routines.items) stmts.now)
         → IsCodeOf orc.now.spaces s.channels (typed.block
-        (typed.routines orc.now.routines.items) stmts.now) b.value.init b.value.perf) }
+        (typed.routines orc.now.routines.items) stmts.now) b.value.init.code b.value.perf.code) }
 {
-    let codes = codes_of(alloc, orc, library, stmts)?;
-    Ok(Arc::new(alloc, valid_body(codes))?)
-}
-
-// Two codes that are known to be valid, over the same registers.
-fn valid_body(codes: Codes) -> Body
-    requires init { fine_from codes.counts (length codes.init) 0 codes.init ≡ true }
-    requires perf { fine_from codes.counts (length codes.perf) 0 codes.perf ≡ true }
-    ensures init { result.init.ops ≡ codes.init }
-    ensures init_counts { result.init.counts ≡ codes.counts }
-    ensures perf { result.perf.ops ≡ codes.perf }
-    ensures perf_counts { result.perf.counts ≡ codes.counts }
-{
-    let Codes { init, perf, counts } = codes;
-    let init = ValidCode::of(Code { ops: init, counts });
-    let perf = ValidCode::of(Code { ops: perf, counts });
-    Body::new(init, perf)
+    let context = Context {
+        alloc,
+        pass: Pass::Initialisation,
+        spaces: orc.spaces,
+    };
+    let init = ops_of(context, orc, &library.init, stmts)?;
+    let context = Context {
+        pass: Pass::Performance,
+        ..context
+    };
+    let perf = ops_of(context, orc, &library.perf, stmts)?;
+    let registers = init.ops.limits().greatest(&perf.ops.limits());
+    let units = init.extent.unit as usize;
+    let body = Body::new(init.ops, perf.ops, Counts { registers, units });
+    Ok(Arc::new(alloc, body)?)
 }

@@ -1,17 +1,16 @@
 // Which tables, or which zak places, an op may touch, by the literals among its values.
 ghost use Rattle.std.specs.Prelude.{◌≡◌};
-ghost use Rattle.cs_meaning.specs.Core.{unit_reach, table_reach, whole_part, zak_reach};
+ghost use Rattle.cs_meaning.specs.Core.{unit_reach, table_reach, zak_reach};
 ghost use Rattle.cs_code.specs.inner.Emitted.{known_at, known_of, table_known, expressions_of};
 ghost use Rattle.cs_code.specs.inner.Emitted.{place_known, span_known, zak_known};
 ghost use Rattle.cs_typed.specs.TypedTree as typed;
 
-use cs_base::{Num, Spaces};
+use cs_base::Spaces;
 use cs_ir::{Reach, places_of};
 use cs_typed::{TypedExpr, TypedPart};
 use cs_words::{Opcode, Shape, signature_of};
 
-/// What is known of an argument: nothing where there is none, and of a literal the whole number
-/// below it.
+/// What is known of an argument: nothing where there is none, and of a literal the whole number below it.
 #[derive(Clone, Copy)]
 pub enum KnownArgument {
     Missing,
@@ -46,7 +45,6 @@ pub fn zak_reach(spaces: Spaces, shape: Shape, values: &[&TypedExpr]) -> Reach
     zak_by(spaces, shape, known_first(values), known_second(values))
 }
 
-// Which zak places, by what is known of the first two values.
 fn zak_by(spaces: Spaces, shape: Shape, first: KnownArgument, second: KnownArgument) -> Reach
     ensures { result ≡ zak_known spaces shape first second }
 {
@@ -121,14 +119,9 @@ fn known_of(e: &TypedExpr) -> KnownArgument
     ensures { result ≡ known_of (typed.expression e.now) }
 {
     match &e.what {
-        TypedPart::Number(value) => KnownArgument::Literal(whole_part(*value)),
+        TypedPart::Number(value) => KnownArgument::Literal(
+            value.whole_below().unsigned_abs() as u32,
+        ),
         _ => KnownArgument::Other,
     }
-}
-
-// The whole number below a literal, without its sign.
-fn whole_part(value: Num) -> u32
-    ensures { result ≡ whole_part value }
-{
-    value.whole_below().unsigned_abs() as u32
 }

@@ -2,10 +2,8 @@
 ghost use Rattle.std.specs.Prelude.{◌≡◌, ◌+◌, List, length, IfOk, OnOk};
 ghost use Rattle.cs_ir.specs.Routines.{AreRoutines, IsRoutineOf, library_in, ops_in};
 ghost use Rattle.cs_typed.specs.TypedTree as typed;
-ghost use Rattle.cs_code.specs.inner.Code.{pass_block_code};
-ghost use Rattle.cs_code.specs.inner.Emitted.{block_in, scope_of};
-ghost use Rattle.cs_code.specs.inner.Kept.{past_block, start};
-ghost use Rattle.cs_code.specs.inner.Served.{AreMade, Serve};
+ghost use Rattle.cs_code.specs.{inner.Code.pass_block_code, inner.Emitted.block_in, inner.Emitted.scope_of};
+ghost use Rattle.cs_code.specs.{inner.Kept.past_block, inner.Kept.start, inner.Served.AreMade, inner.Served.Serve};
 
 use crate::frame::{Context, Progress, START};
 use crate::stmt::block;

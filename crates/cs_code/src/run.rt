@@ -1,10 +1,8 @@
 // The code of what gives results: units, and what reads or writes zak places.
 ghost use Rattle.std.specs.Prelude.{◌≡◌, true, IfOk, OnOk};
-ghost use Rattle.cs_ir.specs.Codes.{is_unaimed};
-ghost use Rattle.cs_ir.specs.Drafts.{Grew};
-ghost use Rattle.cs_code.specs.inner.Kept.{past_all};
+ghost use Rattle.cs_ir.specs.{Codes.is_unaimed, Drafts.Grew};
+ghost use Rattle.cs_code.specs.{inner.Kept.past_all, inner.Emitted.expressions_of, inner.Emitted.when_of};
 ghost use Rattle.cs_code.specs.inner.Code.{run_code, target, given_code};
-ghost use Rattle.cs_code.specs.inner.Emitted.{expressions_of, when_of};
 
 use crate::args::{Call, push_on};
 use crate::frame::{Context, local, push, temp};
@@ -12,7 +10,6 @@ use cs_base::{OutOfMemory, Rate};
 use cs_ir::{Act, CodeDraft, Operands, Reg};
 use cs_typed::{TypedExpr, Var};
 
-// Where a result goes.
 fn target(rate: Rate, results: &[Var]) -> Result<Reg, OutOfMemory>
     ensures { IfOk result (λ q. q ≡ target rate results.now) }
 {

@@ -8,7 +8,6 @@ ghost use Rattle.cs_code.specs.inner.Kept.{start, past_stmt};
 ghost use Rattle.cs_code.specs.inner.Code.{pass_code, start_code, seek_code, out_ops, out_at_ops};
 ghost use Rattle.cs_code.specs.declared.frame.Pass.TheVariants as pass;
 ghost use Rattle.cs_code.specs.inner.Emitted.{assignment_of, expressions_of, set_of, sent_as, sent_ops};
-ghost use Rattle.cs_code.specs.inner.Spots.{temp};
 
 use crate::args::{Call, Parted, keep_all, operands, push_on};
 use crate::expr::{keep_value, set};
@@ -104,7 +103,6 @@ pub fn unit(
     }
 }
 
-// A unit is started with its settled values.
 fn start(
     ops: &mut CodeDraft<'_>,
     context: Context,
@@ -117,15 +115,8 @@ fn start(
         settled.now))) }
 {
     let act = Act::Start(call.opcode, unit);
-    push_on(ops, context, 0, act, unwritten(call.rate), settled)?;
+    push_on(ops, context, 0, act, temp(call.rate, 0), settled)?;
     Ok(())
-}
-
-// The register of an op that writes none; it tells a rate.
-fn unwritten(rate: Rate) -> Reg
-    ensures { result ≡ temp rate 0 }
-{
-    temp(rate, 0)
 }
 
 /// Zak places are read or written: once, or in each cycle.
@@ -179,7 +170,7 @@ pub fn store(
         (expressions_of settled.now))) }
 {
     let act = Act::Store(table_reach(settled));
-    let into = unwritten(rate);
+    let into = temp(rate, 0);
     match (context.pass, rate) {
         (Pass::Initialisation, Rate::Init) => {
             seek(ops, context, settled)?;
@@ -199,7 +190,6 @@ pub fn store(
     }
 }
 
-// The table that settled values name is looked for.
 fn seek(
     ops: &mut CodeDraft<'_>,
     context: Context,
@@ -208,11 +198,10 @@ fn seek(
     requires { context.pass ≡ pass.Initialisation }
     ensures { OnOk result (Grew ops.old ops.new (seek_code (expressions_of settled.now))) }
 {
-    push_on(ops, context, 0, Act::Seek, unwritten(Rate::Init), settled)?;
+    push_on(ops, context, 0, Act::Seek, temp(Rate::Init, 0), settled)?;
     Ok(())
 }
 
-// Values to the channels from one on.
 fn out_ops(ops: &mut CodeDraft<'_>, regs: &[Reg]) -> Result<(), OutOfMemory>
     ensures { OnOk result (Grew ops.old ops.new (out_ops 0 regs.now)) }
 {
@@ -241,7 +230,6 @@ fn out_at_ops(ops: &mut CodeDraft<'_>, regs: &[Reg]) -> Result<(), OutOfMemory>
     Ok(())
 }
 
-// Values in registers go out.
 fn send_regs(ops: &mut CodeDraft<'_>, sending: Sending, regs: &[Reg]) -> Result<(), OutOfMemory>
     ensures { OnOk result (Grew ops.old ops.new (sent_ops sending regs.now)) }
 {
@@ -261,8 +249,7 @@ pub fn send(
 ) -> Result<Progress, OutOfMemory>
     ensures ops { OnOk result (Grew ops.old ops.new (pass_code context.pass 0 p (sent_as sending rate.Audio
         (expressions_of values.now)))) }
-    ensures next { IfOk result (λ q. q
-        ≡ past_stmt p (sent_as sending rate.Audio (expressions_of values.now))) }
+    ensures next { IfOk result (λ q. q ≡ past_stmt p (sent_as sending rate.Audio (expressions_of values.now))) }
 {
     match context.pass {
         Pass::Initialisation => {
@@ -291,7 +278,7 @@ pub fn ask(
 {
     match context.pass {
         Pass::Initialisation => {
-            push_on(ops, context, 0, Act::Ask, unwritten(Rate::Init), values)?;
+            push_on(ops, context, 0, Act::Ask, temp(Rate::Init, 0), values)?;
             Ok(())
         }
         Pass::Performance => Ok(()),
@@ -305,6 +292,6 @@ pub fn turnoff(ops: &mut CodeDraft<'_>, context: Context) -> Result<(), OutOfMem
 {
     match context.pass {
         Pass::Initialisation => Ok(()),
-        Pass::Performance => { push(ops, Act::Turnoff, unwritten(Rate::Init), Operands::none()) }
+        Pass::Performance => { push(ops, Act::Turnoff, temp(Rate::Init, 0), Operands::none()) }
     }
 }

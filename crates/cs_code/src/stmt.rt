@@ -109,7 +109,6 @@ fn invoke(
     })
 }
 
-// Numbers of registers as ops name them.
 fn narrowed(locals: PerRate<usize>) -> Result<PerRate<u32>, OutOfMemory>
     ensures { IfOk result (λ l. l ≡ locals) }
 {
@@ -209,7 +208,6 @@ fn each_arm(
     Ok(next)
 }
 
-// One of them.
 #[cycle(stmt)]
 fn one_arm(
     ops: &mut CodeDraft<'_>,

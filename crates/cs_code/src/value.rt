@@ -36,7 +36,6 @@ pub fn rate_of(value: &Value<'_>) -> Rate
     }
 }
 
-// The register of a local variable.
 fn local_of(value: &Value<'_>) -> Result<Option<Reg>, OutOfMemory>
     ensures { IfOk result (λ q. q ≡ local_of (value_of value.now)) }
 {
@@ -58,8 +57,7 @@ fn local_in(e: &TypedExpr) -> Result<Option<Reg>, OutOfMemory>
 
 /// Where a value stands already.
 pub fn direct(context: Context, at: u32, value: &Value<'_>) -> Result<Option<Reg>, OutOfMemory>
-    ensures { IfOk result (λ q. q ≡ direct (when_of context.pass) at
-        (value_of value.now)) }
+    ensures { IfOk result (λ q. q ≡ direct (when_of context.pass) at (value_of value.now)) }
 {
     match (context.pass, rate_of(value)) {
         (Pass::Performance, Rate::Init) => Ok(Some(kept_reg(at))),

@@ -1,25 +1,25 @@
 -- Lists that name the same resources; and what steps touch, by their own ops and by the routines that they invoke.
 use Rattle.std.proofs.Common.{◌≡◌, ◌∙◌, ◌+◌, ◌<◌, ◌≤◌, ◌++◌, ◌↔◌, ℕ, zero, suc, List, [], ◌∷◌, length, map, take, Bool}
 use Rattle.std.proofs.Common.{true, Some, ◌&&◌, eqb-true, get_or, slice_get, arith, refl, sym, ap, subst, nat_eq}
-use Rattle.std.proofs.Common.{⊎_elim}
+use Rattle.std.proofs.Common.{⊎_elim, None, Option}
 use Rattle.std.specs.{Cmp.IsEquivalence, List.Sorted.IsPermutation}
 use Rattle.std.proofs.lemmas.{Cmp.and_equiv, Cmp.nat_eq_equiv, Cmp.on_equiv, Bool.and_parts, List.append-nil}
 use Rattle.std.proofs.lemmas.{List.append_assoc, List.get_or_default, List.take_more, List.Concat.flat_map-append}
 use Rattle.std.proofs.lemmas.{List.Elements.Contains-push, List.Elements.Contains-push_cases}
 use Rattle.std.proofs.lemmas.{List.Sorted.Contains-permutation, List.Sorted.IsPermutation-sym}
-use Rattle.std.specs.List.{Contains, dedup, filter, flat_map, range_with_len}
+use Rattle.std.specs.List.{Contains, dedup, flat_map}
 use Rattle.std.proofs.lemmas.List.Elements.{Contains-append_cases, Contains-append_left, Contains-append_right}
 use Rattle.std.proofs.lemmas.List.Kept.{Contains-dedup, Contains-dedup_nat, Contains-from_dedup}
 use Rattle.cs_base.specs.declared.resource.Res.{Res}
 use Rattle.cs_words.specs.declared.catalogue.Space.{Space}
 use Rattle.cs_ir.proofs.Libraries.{each_routine, routine_at, routine_none}
 use Rattle.cs_ir.specs.Flat.{Begins, flat, flat_from, moved_act, moved_ops, ops_at, place_of, placed, window_of}
-use Rattle.cs_ir.specs.Resources.{Access, NameTheSame, Stock, act_touches, may_use, may_write, ops_touch, places_of}
-use Rattle.cs_ir.specs.Resources.{places_within, reaches, tables_within, zak_place}
+use Rattle.cs_ir.specs.Resources.{Access, NameTheSame, Stock, act_touches, may_use, may_write, ops_touch}
 use Rattle.cs_ir.specs.{Routines.AreRoutines, Routines.library_in, Routines.ops_in, Touched.named, Touched.named_by}
+use Rattle.cs_ir.specs.Touched.{resources}
 use Rattle.cs_ir.specs.{declared.op.Act.Act, declared.op.Op.Op, declared.op.Reach.Reach}
 use Rattle.cs_ir.specs.{declared.routine.Routine.Routine, declared.step.Step.Step, declared.touches.Touch.Touch}
-use Rattle.cs_ir.specs.inner.Naming.{invoked, kept, key_of, own_touches, routines_touch, within}
+use Rattle.cs_ir.specs.inner.Naming.{invoked, kept, key_of, own_touches, routines_touch}
 use Rattle.cs_base.specs.declared.resource.Res.TheVariants as res
 use Rattle.cs_words.specs.declared.catalogue.Space.TheVariants as space
 use Rattle.cs_ir.specs.declared.op.Act.TheVariants as act
@@ -97,24 +97,18 @@ module _ {X Y : Type 0} (f : X → List Y) where
       ∙ sym (flat_map-append f (take i xs) (x ∷ []))
       ∙ ap (flat_map f) (ap (λ y. take i xs ++ y ∷ []) is ∙ sym (take_more xs i x low))
 
--- ---- what is within a reach
+-- ---- what is touched, where something is
 
-none_of : (ns : List ℕ) → filter (reaches reach.Nothing) ns ≡ []
-none_of [] = refl
-none_of (n ∷ ns) = none_of ns
+pub touch_added : (stock : Stock) (old : List Touch) (t : Touch) (found : Option Touch) → found ≡ Some t
+    → named stock (old ++ t ∷ []) ≡ named stock old ++ named_by stock found
+touch_added stock old t found is =
+    flat_map-append (resources stock) old (t ∷ [])
+    ∙ ap (λ l. named stock old ++ l) (append-nil (resources stock t) ∙ ap (named_by stock) (sym is))
 
-pub tables_named : (stock : Stock) (r : Reach)
-    → named_by stock (within r (touch.Tables r)) ≡ tables_within stock r
-tables_named stock reach.Nothing = sym (ap (map res.Table) (none_of stock.live))
-tables_named stock (reach.Span first last) = refl
-tables_named stock reach.Any = refl
-
-pub places_named : (stock : Stock) (s : Space) (r : Reach)
-    → named_by stock (within r (touch.Places s r)) ≡ places_within stock s r
-places_named stock s reach.Nothing =
-    sym (ap (map (zak_place s)) (none_of (range_with_len 0 (places_of stock.spaces s))))
-places_named stock s (reach.Span first last) = refl
-places_named stock s reach.Any = refl
+pub touch_passed : (stock : Stock) (old : List Res) (found : Option Touch)
+    → ((t : Touch) → found ≡ Some t → ⊥) → old ≡ old ++ named_by stock found
+touch_passed stock old None h = sym (append-nil old)
+touch_passed stock old (Some t) h = absurd (h t refl)
 
 -- ---- ops that are moved
 

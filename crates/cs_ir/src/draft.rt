@@ -1,11 +1,10 @@
 // Codes that are being made.
 ghost use Rattle.std.specs.Prelude.{◌≡◌, ◌++◌, ℕ, ◌∷◌, [], length, true, IfOk, IfSome, IsNone, OnOk};
-ghost use Rattle.cs_ir.specs.Codes.{aimed, is_unaimed};
+ghost use Rattle.cs_ir.specs.{Codes.is_unaimed, inner.Steps.aim_step, inner.Steps.aimed_step};
 ghost use Rattle.cs_ir.specs.Drafts.{Aimed, Grew, IsAt, drafted, library_of};
 ghost use Rattle.cs_ir.specs.Flat.{are_within, is_within, moved_ops, ops_at, window_of};
 ghost use Rattle.cs_ir.specs.Routines.{AreRoutines, IsRoutineOf, library_in, ops_in};
 ghost use Rattle.cs_ir.specs.declared.step.Step.TheVariants as step;
-ghost use Rattle.cs_ir.specs.inner.Steps.{aim_step, aimed_step};
 
 use crate::{Act, Call, Op, Routine, Step};
 use cs_base::OutOfMemory;
@@ -22,9 +21,7 @@ pub struct CodeDraft<'r> {
 
 impl<'r> Model for CodeDraft<'r> {
     ghost use Rattle.std.specs.Prelude.{◌≡◌, length, map, true};
-    ghost use Rattle.cs_ir.specs.Drafts.{Draft};
-    ghost use Rattle.cs_ir.specs.Flat.{are_within};
-    ghost use Rattle.cs_ir.specs.Routines.{AreRoutines, steps_of};
+    ghost use Rattle.cs_ir.specs.{Drafts.Draft, Flat.are_within, Routines.AreRoutines, Routines.steps_of};
 
     ghost Value = { Draft };
 
@@ -63,26 +60,15 @@ impl<'r> CodeDraft<'r> {
         }
     }
 
-    /// Appends an op. A jump's place is 0 until it is aimed.
-    pub fn push(&mut self, op: Op) -> Result<(), OutOfMemory>
-        requires { is_unaimed op.act ≡ true }
-        ensures { OnOk result (Grew self.old self.new (op ∷ [])) }
-    {
-        self.push_step(Step::Do(op))?;
-        Ok(())
-    }
-
-    /// Appends a jump that is to be aimed.
-    pub fn jump(&mut self, op: Op) -> Result<Mark, OutOfMemory>
+    /// Appends an op. A jump's place is 0 until it is aimed, by its mark.
+    pub fn push(&mut self, op: Op) -> Result<Mark, OutOfMemory>
         requires { is_unaimed op.act ≡ true }
         ensures more { IfOk result (λ _. Grew self.old self.new (op ∷ [])) }
         ensures mark { IfOk result (λ m. IsAt self.new m (length (drafted self.old))) }
     {
-        let mark = Mark {
-            step: self.steps.len(),
-        };
+        let step = self.steps.len();
         self.push_step(Step::Do(op))?;
-        Ok(mark)
+        Ok(Mark { step })
     }
 
     /// Appends the ops of a routine.
@@ -159,7 +145,6 @@ fn only_call(steps: &[Step]) -> Option<Call>
     }
 }
 
-/// Lets the jump at a number, if one is there, go to another step.
 #[tactic(auto, using(crate::proofs::Drafting::step_set, crate::proofs::Drafting::step_none))]
 fn aim_step(steps: &mut Vec<Step>, number: usize, to: usize)
     ensures { steps.new.items ≡ aim_step number to steps.old.items }
@@ -172,18 +157,11 @@ fn aim_step(steps: &mut Vec<Step>, number: usize, to: usize)
 fn aim_one(step: &mut Step, to: usize)
     ensures { step.new ≡ aimed_step to step.old }
 {
-    match step {
-        Step::Do(op) => op.act = aimed(op.act, to),
-        Step::Invoke(_) => {}
-    }
-}
-
-fn aimed(act: Act, to: usize) -> Act
-    ensures { result ≡ aimed to act }
-{
-    match act {
-        Act::Jump(_) => Act::Jump(to),
-        Act::Unless(_) => Act::Unless(to),
-        _ => act,
+    if let Step::Do(op) = step {
+        op.act = match op.act {
+            Act::Jump(_) => Act::Jump(to),
+            Act::Unless(_) => Act::Unless(to),
+            act => act,
+        };
     }
 }

@@ -1,12 +1,9 @@
 // Instruments, by their numbers.
-ghost use Rattle.std.specs.Prelude.{◌≡◌, true, IfOk};
+ghost use Rattle.std.specs.{Prelude.◌≡◌, Prelude.true, Prelude.length, Prelude.IfOk, Prelude.eqb, List.IsDistinct};
 ghost use Rattle.std.specs.List.Sorted.{IsPermutation, IsStrictlyIncreasing};
-ghost use Rattle.std.specs.List.{IsDistinct};
-ghost use Rattle.std.specs.Prelude.{eqb};
-ghost use Rattle.cs_ir.specs.Instruments.{numbers_of};
-ghost use Rattle.cs_ir.specs.Validity.{valid};
+ghost use Rattle.cs_ir.specs.{Instruments.numbers_of, Validity.fine_from, Validity.valid};
 
-use crate::{Code, ValidCode};
+use crate::{Code, Counts, Ops, ValidCode};
 use cs_base::OutOfMemory;
 use std::alloc::Global;
 use std::marker::Model;
@@ -18,16 +15,25 @@ use std::sync::Arc;
 pub struct Body {
     init: ValidCode,
     perf: ValidCode,
-    ghost counts: { init.counts ≡ perf.counts },
+    ghost counts: { init.code.counts ≡ perf.code.counts },
 }
 
 impl Body {
-    pub fn new(init: ValidCode, perf: ValidCode) -> Body
-        requires { init.counts ≡ perf.counts }
-        ensures init { result.init ≡ init }
-        ensures perf { result.perf ≡ perf }
+    /// Codes of these ops, which are known to be valid.
+    pub fn new(init: Ops, perf: Ops, counts: Counts) -> Body
+        requires init { fine_from counts (length init) 0 init ≡ true }
+        requires perf { fine_from counts (length perf) 0 perf ≡ true }
+        ensures init { result.init.code ≡ record { ops = init; counts = counts } }
+        ensures perf { result.perf.code ≡ record { ops = perf; counts = counts } }
     {
-        Body { init, perf }
+        Body {
+            init: ValidCode {
+                code: Code { ops: init, counts },
+            },
+            perf: ValidCode {
+                code: Code { ops: perf, counts },
+            },
+        }
     }
 }
 
@@ -43,15 +49,15 @@ impl Model for Instrument {
 
     ghost Value = { Numbered };
 
-    ghost view = { λ i. record { number = i.number; init = i.body.value.init; perf = i.body.value.perf } };
+    ghost view = { λ i. record { number = i.number; init = i.body.value.init.code; perf = i.body.value.perf.code } };
 }
 
 impl Instrument {
     /// A body under a number.
     pub fn new(number: u32, body: &Arc<Body, Global>) -> Result<Instrument, OutOfMemory>
         ensures number { IfOk result (λ i. i.number ≡ number) }
-        ensures init { IfOk result (λ i. i.init ≡ body.now.value.init) }
-        ensures perf { IfOk result (λ i. i.perf ≡ body.now.value.perf) }
+        ensures init { IfOk result (λ i. i.init ≡ body.now.value.init.code) }
+        ensures perf { IfOk result (λ i. i.perf ≡ body.now.value.perf.code) }
     {
         Ok(Instrument {
             number,
@@ -71,7 +77,7 @@ impl Instrument {
         ensures valid { valid result.now ≡ true }
         ensures counts { result.now.counts ≡ self.now.perf.counts }
     {
-        self.body.init.code()
+        &self.body.init.code
     }
 
     /// What a note runs in each control cycle.
@@ -80,7 +86,7 @@ impl Instrument {
         ensures valid { valid result.now ≡ true }
         ensures counts { result.now.counts ≡ self.now.init.counts }
     {
-        self.body.perf.code()
+        &self.body.perf.code
     }
 }
 
@@ -91,8 +97,7 @@ pub struct Instruments {
 }
 
 impl Model for Instruments {
-    ghost use Rattle.std.specs.Prelude.{List};
-    ghost use Rattle.std.specs.List.Sorted.{IsStrictlyIncreasing};
+    ghost use Rattle.std.specs.{Prelude.List, List.Sorted.IsStrictlyIncreasing};
     ghost use Rattle.cs_ir.specs.Instruments.{Numbered, numbers_of};
 
     ghost Value = { List Numbered };

@@ -8,7 +8,6 @@ use std::marker::Model;
 /// following a pointer.
 #[derive(Drop)]
 enum Stored {
-    /// So many of these.
     Few(u32, [Reg; FEW]),
     More(Vec<Reg>),
 }
@@ -29,8 +28,7 @@ pub struct Operands {
 
 impl Model for Operands {
     ghost use Rattle.std.specs.Prelude.{List};
-    ghost use Rattle.cs_ir.specs.Operands.{IsStored, registers};
-    ghost use Rattle.cs_ir.specs.declared.register.Reg.{Reg};
+    ghost use Rattle.cs_ir.specs.{Operands.IsStored, Operands.registers, declared.register.Reg.Reg};
 
     ghost Value = { List Reg };
 
@@ -98,38 +96,14 @@ impl Operands {
         }
     }
 
-    /// The one register.
+    /// Where registers stand that are three at most, from the first on.
     #[inline(always)]
-    pub fn only(&self) -> Reg
-        requires { length self.now ≡ 1 }
-        ensures { self.now ≡ result ∷ [] }
+    pub(crate) fn first(&self) -> &[Reg; FEW]
+        requires { length self.now ≤ 3 }
+        ensures { self.now ≡ take (length self.now) result.now }
     {
         match &self.stored {
-            Stored::Few(_, registers) => registers[0],
-            Stored::More(_) => unreachable!(),
-        }
-    }
-
-    /// The two registers.
-    #[inline(always)]
-    pub fn pair(&self) -> (Reg, Reg)
-        requires { length self.now ≡ 2 }
-        ensures { self.now ≡ result.0 ∷ result.1 ∷ [] }
-    {
-        match &self.stored {
-            Stored::Few(_, registers) => (registers[0], registers[1]),
-            Stored::More(_) => unreachable!(),
-        }
-    }
-
-    /// The three registers.
-    #[inline(always)]
-    pub fn triple(&self) -> (Reg, Reg, Reg)
-        requires { length self.now ≡ 3 }
-        ensures { self.now ≡ result.0 ∷ result.1 ∷ result.2 ∷ [] }
-    {
-        match &self.stored {
-            Stored::Few(_, registers) => (registers[0], registers[1], registers[2]),
+            Stored::Few(_, registers) => registers,
             Stored::More(_) => unreachable!(),
         }
     }

@@ -1,8 +1,8 @@
 // Registers: where a note keeps the values that its code works on.
-ghost use Rattle.std.specs.Prelude.{◌≡◌, max, OnOk, if◌then◌else◌};
+ghost use Rattle.std.specs.Prelude.{◌≡◌, ◌≤◌, ◌^◌, max, OnOk, if◌then◌else◌};
 ghost use Rattle.cs_base.specs.Rates.{is_audio};
 ghost use Rattle.cs_ir.specs.Registers.{at_kind, local, rate_at, rate_of, same_kind, temporary};
-ghost use Rattle.cs_ir.specs.declared.register.Kind.{Kind};
+ghost use Rattle.cs_ir.specs.{declared.register.Kind.Kind, inner.Reaching.behind};
 
 use cs_base::{OutOfMemory, Rate};
 
@@ -47,18 +47,6 @@ impl Kind {
         }
     }
 
-    /// How often what it holds changes.
-    #[inline(always)]
-    pub fn rate(self) -> Rate
-        ensures { result ≡ rate_of self }
-    {
-        match self {
-            Kind::LocalInit | Kind::Kept | Kind::TemporaryInit => Rate::Init,
-            Kind::LocalControl | Kind::TemporaryControl => Rate::Control,
-            Kind::LocalAudio | Kind::TemporaryAudio => Rate::Audio,
-        }
-    }
-
     /// Whether it holds a value for each frame of the cycle; any other holds one value.
     #[inline(always)]
     pub fn is_audio(self) -> bool
@@ -77,10 +65,15 @@ pub struct Reg {
 
 impl Reg {
     /// How often what it holds changes.
+    #[inline(always)]
     pub fn rate(self) -> Rate
         ensures { result ≡ rate_at self }
     {
-        self.kind.rate()
+        match self.kind {
+            Kind::LocalInit | Kind::Kept | Kind::TemporaryInit => Rate::Init,
+            Kind::LocalControl | Kind::TemporaryControl => Rate::Control,
+            Kind::LocalAudio | Kind::TemporaryAudio => Rate::Audio,
+        }
     }
 
     /// Whether it holds a value for each frame of the cycle.
@@ -105,7 +98,6 @@ pub struct Counts {
     pub units: usize,
 }
 
-/// No registers.
 pub const NO_REGISTERS: RegisterCounts = RegisterCounts { counts: [0; KINDS] };
 
 impl RegisterCounts {
@@ -116,17 +108,22 @@ impl RegisterCounts {
         self.counts[kind as usize] as usize
     }
 
-    /// At least so many of a kind. A number that has no 32 bits is reported as out of memory, since so many registers
-    /// would take 32 GB.
-    pub fn raise(&mut self, kind: Kind, count: usize) -> Result<(), OutOfMemory>
+    /// At least the registers of a kind from `begin` on, `count` of them; none where that is 0. An end that has no 32
+    /// bits is reported as out of memory, since registers up to there would take 32 GB.
+    pub(crate) fn raise(&mut self, kind: Kind, begin: u32, count: usize) -> Result<(), OutOfMemory>
+        requires { count ≤ 2 ^ 32 }
         ensures { OnOk result ((k : Kind) → at_kind self.new k ≡ if same_kind k kind
-            then max (at_kind self.old k) count else at_kind self.old k) }
+            then max (at_kind self.old k) (behind begin count) else at_kind self.old k) }
     {
-        if count > u32::MAX as usize {
+        if count == 0 {
+            return Ok(());
+        }
+        let end = begin as usize + count;
+        if end > u32::MAX as usize {
             return Err(OutOfMemory);
         }
         let place = kind as usize;
-        self.counts[place] = self.counts[place].max(count as u32);
+        self.counts[place] = self.counts[place].max(end as u32);
         Ok(())
     }
 

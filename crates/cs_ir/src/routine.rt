@@ -1,25 +1,26 @@
-// Routines: steps that codes and later routines invoke, with what they reach and touch.
-ghost use Rattle.std.specs.Prelude.{◌≡◌, max, IfOk, OnOk, if◌then◌else◌};
+// Routines: steps that codes and later routines invoke, with what they reach and touch; and the ops of a code.
+ghost use Rattle.std.specs.Prelude.{◌≡◌, ◌≤◌, ◌^◌, length, max, IfOk, OnOk};
 ghost use Rattle.cs_ir.specs.Flat.{begin_of, flat, window_of};
-ghost use Rattle.cs_ir.specs.Limits.{op_limit, ops_limit};
-ghost use Rattle.cs_ir.specs.Registers.{at_kind, reg_limit, regs_limit, same_kind};
-ghost use Rattle.cs_ir.specs.Routines.{AreRoutines, IsRoutineOf, library_in, steps_of};
-ghost use Rattle.cs_ir.specs.inner.Reaching.{behind, call_limit, step_limit};
-ghost use Rattle.cs_ir.specs.declared.register.Kind.{Kind};
+ghost use Rattle.cs_ir.specs.{Limits.ops_limit, Resources.NameTheSame, Resources.Stock, Resources.ops_use};
+ghost use Rattle.cs_ir.specs.{Resources.ops_write, Touched.named, declared.register.Kind.Kind, inner.Reaching.behind};
+ghost use Rattle.cs_ir.specs.{Registers.at_kind, Registers.reg_limit, Registers.regs_limit, inner.Reaching.step_limit};
+ghost use Rattle.cs_ir.specs.Routines.{AreRoutines, IsRoutineOf, library_in, ops_in, steps_of};
 
 use crate::register::NO_REGISTERS;
 use crate::touches::touches_of;
-use crate::{Call, Kind, Op, Reg, RegisterCounts, Step, Touches};
+use crate::{Call, Kind, Reg, RegisterCounts, Step, Touches};
 use cs_base::OutOfMemory;
+use std::alloc::Global;
+use std::marker::Model;
+use std::sync::Arc;
 
 /// The steps of a routine. They invoke earlier routines alone.
 #[derive(Drop)]
 pub struct Routine {
     steps: Vec<Step>,
-    /// Where the registers end that its ops name, routines that it invokes too.
+    /// Where the registers end that its ops name, and what these touch; those of routines that it invokes too.
     limits: RegisterCounts,
-    /// What its ops touch of what notes share, those of routines that it invokes too.
-    touches: Touches,
+    pub(crate) touches: Touches,
 }
 
 impl Routine {
@@ -44,21 +45,8 @@ impl Routine {
     {
         &self.steps
     }
-
-    pub fn limits(&self) -> RegisterCounts
-        ensures { result ≡ self.now.limits }
-    {
-        self.limits
-    }
-
-    pub fn touches(&self) -> &Touches
-        ensures { result.now ≡ self.now.touches }
-    {
-        &self.touches
-    }
 }
 
-/// Where the registers end that steps name.
 fn limits_of(routines: &[Routine], steps: &[Step]) -> Result<RegisterCounts, OutOfMemory>
     requires { AreRoutines routines.now }
     ensures { IfOk result (λ l. (k : Kind) → at_kind l k ≡ ops_limit k (flat (library_in routines.now) steps.now)) }
@@ -80,16 +68,15 @@ fn add_step(
         ≡ max (at_kind limits.old k) (step_limit (library_in routines.now) k step.now)) }
 {
     match step {
-        Step::Do(op) => add_op(limits, op),
-        Step::Invoke(call) => add_call(limits, routines, call),
+        Step::Do(op) => {
+            add_register(limits, op.into)?;
+            add_registers(limits, op.from.as_slice())
+        }
+        Step::Invoke(call) => match routines.get(call.routine as usize) {
+            Some(routine) => add_reached(limits, &routine.limits, call),
+            None => Ok(()),
+        },
     }
-}
-
-fn add_op(limits: &mut RegisterCounts, op: &Op) -> Result<(), OutOfMemory>
-    ensures { OnOk result ((k : Kind) → at_kind limits.new k ≡ max (at_kind limits.old k) (op_limit k op.now)) }
-{
-    add_register(limits, op.into)?;
-    add_registers(limits, op.from.as_slice())
 }
 
 fn add_registers(limits: &mut RegisterCounts, registers: &[Reg]) -> Result<(), OutOfMemory>
@@ -105,26 +92,9 @@ fn add_registers(limits: &mut RegisterCounts, registers: &[Reg]) -> Result<(), O
 fn add_register(limits: &mut RegisterCounts, register: Reg) -> Result<(), OutOfMemory>
     ensures { OnOk result ((k : Kind) → at_kind limits.new k ≡ max (at_kind limits.old k) (reg_limit k register)) }
 {
-    limits.raise(register.kind, register.offset as usize + 1)
+    limits.raise(register.kind, register.offset, 1)
 }
 
-/// What a call reaches too.
-fn add_call(
-    limits: &mut RegisterCounts,
-    routines: &[Routine],
-    call: &Call,
-) -> Result<(), OutOfMemory>
-    requires { AreRoutines routines.now }
-    ensures { OnOk result ((k : Kind) → at_kind limits.new k
-        ≡ max (at_kind limits.old k) (call_limit (library_in routines.now) k call.now)) }
-{
-    match routines.get(call.routine as usize) {
-        Some(routine) => add_reached(limits, &routine.limits, call),
-        None => Ok(()),
-    }
-}
-
-/// Registers that a routine reaches, where a call lets them begin.
 fn add_reached(
     limits: &mut RegisterCounts,
     inner: &RegisterCounts,
@@ -133,28 +103,71 @@ fn add_reached(
     ensures { OnOk result ((k : Kind) → at_kind limits.new k
         ≡ max (at_kind limits.old k) (behind (begin_of (window_of call.now) k) (at_kind inner.now k))) }
 {
-    add_behind(limits, inner, Kind::LocalInit, call.locals.init)?;
-    add_behind(limits, inner, Kind::LocalControl, call.locals.control)?;
-    add_behind(limits, inner, Kind::LocalAudio, call.locals.audio)?;
-    add_behind(limits, inner, Kind::Kept, call.kept)?;
-    add_behind(limits, inner, Kind::TemporaryInit, 0)?;
-    add_behind(limits, inner, Kind::TemporaryControl, 0)?;
-    add_behind(limits, inner, Kind::TemporaryAudio, 0)
+    let at = call.locals;
+    limits.raise(Kind::LocalInit, at.init, inner.of(Kind::LocalInit))?;
+    limits.raise(Kind::LocalControl, at.control, inner.of(Kind::LocalControl))?;
+    limits.raise(Kind::LocalAudio, at.audio, inner.of(Kind::LocalAudio))?;
+    limits.raise(Kind::Kept, call.kept, inner.of(Kind::Kept))?;
+    limits.raise(Kind::TemporaryInit, 0, inner.of(Kind::TemporaryInit))?;
+    limits.raise(Kind::TemporaryControl, 0, inner.of(Kind::TemporaryControl))?;
+    limits.raise(Kind::TemporaryAudio, 0, inner.of(Kind::TemporaryAudio))
 }
 
-/// Registers of a kind that begin behind others; nothing where there are none.
-fn add_behind(
-    limits: &mut RegisterCounts,
-    inner: &RegisterCounts,
-    kind: Kind,
-    begin: u32,
-) -> Result<(), OutOfMemory>
-    ensures { OnOk result ((k : Kind) → at_kind limits.new k ≡ if same_kind k kind
-        then max (at_kind limits.old k) (behind begin (at_kind inner.now kind)) else at_kind limits.old k) }
-{
-    let count = inner.of(kind);
-    if count == 0 {
-        return Ok(());
+/// The ops of a code: its steps, and the routines that they invoke, which codes share. Contracts see the flat list of
+/// ops.
+#[derive(Drop)]
+pub struct Ops {
+    routines: Arc<Vec<Routine>, Global>,
+    body: Routine,
+}
+
+impl Model for Ops {
+    ghost use Rattle.std.specs.Prelude.{◌≤◌, ◌^◌, List, length};
+    ghost use Rattle.cs_ir.specs.Routines.{AreRoutines, IsRoutineOf, library_in, ops_in};
+    ghost use Rattle.cs_ir.specs.declared.op.Op.{Op};
+
+    ghost Value = { List Op };
+
+    ghost view = { λ o. ops_in (library_in o.routines.value.items) o.body };
+
+    ghost invariant = { λ o. AreRoutines o.routines.value.items
+        × (length o.routines.value.items ≤ 2 ^ 31)
+        × IsRoutineOf (library_in o.routines.value.items) o.body };
+}
+
+impl Ops {
+    /// The ops of steps that invoke these routines.
+    pub fn new(routines: Arc<Vec<Routine>, Global>, body: Routine) -> Ops
+        requires routines { AreRoutines routines.value.items }
+        requires few { length routines.value.items ≤ 2 ^ 31 }
+        requires body { IsRoutineOf (library_in routines.value.items) body }
+        ensures { result ≡ ops_in (library_in routines.value.items) body }
+    {
+        Ops { routines, body }
     }
-    limits.raise(kind, count + begin as usize)
+
+    /// The routines that the steps invoke, and the steps.
+    #[inline(always)]
+    pub fn parts(&self) -> (&[Routine], &[Step])
+        ensures ops { flat (library_in result.0.now) result.1.now ≡ self.now }
+        ensures few { length result.0.now ≤ 2 ^ 31 }
+    {
+        (&self.routines, self.body.steps())
+    }
+
+    /// Where the registers end that the ops name.
+    pub fn limits(&self) -> RegisterCounts
+        ensures { (k : Kind) → at_kind result k ≡ ops_limit k self.now }
+    {
+        self.body.limits
+    }
+
+    /// What the ops touch of what notes share. It is at hand at once.
+    pub fn touches(&self) -> &Touches
+        ensures used { (stock : Stock) → NameTheSame (named stock result.now.used.items) (ops_use stock self.now) }
+        ensures written { (stock : Stock) → NameTheSame (named stock result.now.written.items)
+            (ops_write stock self.now) }
+    {
+        &self.body.touches
+    }
 }

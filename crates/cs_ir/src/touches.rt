@@ -1,18 +1,14 @@
-// What ops touch of what notes share, whatever a piece has of it.
-ghost use Rattle.std.specs.Prelude.{ℕ, ◌≡◌, ◌++◌, ◌↔◌, [], IfOk, OnOk, if◌then◌else◌};
+// Tables and zak places by their numbers, and what ops touch of what notes share, whatever a piece has of it.
+ghost use Rattle.std.specs.Prelude.{ℕ, ◌≡◌, ◌↔◌, [], IfOk, if◌then◌else◌};
 ghost use Rattle.std.specs.List.{Contains};
-ghost use Rattle.cs_ir.specs.Flat.{flat, ops_at};
-ghost use Rattle.cs_ir.specs.Resources.{NameTheSame, Stock, act_touches, act_uses, act_writes, ops_touch, ops_use};
-ghost use Rattle.cs_ir.specs.Resources.{ops_write, shape_uses, unit_uses, writes_places};
-ghost use Rattle.cs_ir.specs.Routines.{AreRoutines, library_in};
-ghost use Rattle.cs_ir.specs.Touched.{covers, named, named_by};
-ghost use Rattle.cs_ir.specs.declared.touches.Touch.{Touch};
-ghost use Rattle.cs_ir.specs.inner.Naming.{access_of, invoked as invoked_by, kept, key_of, reach_key};
-ghost use Rattle.cs_ir.specs.inner.Naming.{step_touches, within};
+ghost use Rattle.cs_ir.specs.{Routines.AreRoutines, Routines.library_in, Touched.covers, declared.touches.Touch.Touch};
+ghost use Rattle.cs_ir.specs.{Flat.flat, Touched.named, Touched.named_by, Resources.NameTheSame, Resources.act_writes};
+ghost use Rattle.cs_ir.specs.Resources.{Stock, act_uses, ops_touch, ops_use, ops_write, places_of, reaches, zak_place};
+ghost use Rattle.cs_ir.specs.inner.Naming.{access_of, invoked as invoked_by, key_of, reach_key, step_touches};
 
 use crate::{Act, Reach, Routine, Step};
 use cs_base::{OutOfMemory, Res, Spaces};
-use cs_words::{Opcode, Shape, Space, signature_of};
+use cs_words::{Shape, Space, signature_of};
 use std::alloc::Global;
 
 /// What an op touches of what notes share.
@@ -32,22 +28,44 @@ pub struct Touches {
     pub written: Vec<Touch>,
 }
 
+impl Reach {
+    /// Whether a number lies within it.
+    pub fn contains(self, number: usize) -> bool
+        ensures { result ≡ reaches self number }
+    {
+        match self {
+            Reach::Nothing => false,
+            Reach::Span(first, last) => first as usize <= number && number <= last as usize,
+            Reach::Any => true,
+        }
+    }
+}
+
+/// The place of a zak space with a number.
+pub fn zak_place(space: Space, number: usize) -> Res
+    ensures { result ≡ zak_place space number }
+{
+    match space {
+        Space::Control => Res::ZakK(number),
+        Space::Audio => Res::ZakA(number),
+    }
+}
+
+/// How many places a zak space has.
+pub fn places_of(spaces: Spaces, space: Space) -> u32
+    ensures { result ≡ places_of spaces space }
+{
+    match space {
+        Space::Control => spaces.control,
+        Space::Audio => spaces.audio,
+    }
+}
+
 /// What is asked of what may be touched: what is read or written, or what is written alone.
 #[derive(Clone, Copy)]
 enum Access {
     Use,
     Write,
-}
-
-impl Touches {
-    fn by(&self, access: Access) -> &[Touch]
-        ensures { result.now ≡ kept (access_of access) self.now }
-    {
-        match access {
-            Access::Use => &self.used,
-            Access::Write => &self.written,
-        }
-    }
 }
 
 /// What steps touch: their own ops, and the routines that they invoke.
@@ -69,7 +87,6 @@ pub(crate) fn touches_of(
     })
 }
 
-/// The routines that steps invoke, each number once.
 fn invoked_by(alloc: Global, steps: &[Step]) -> Result<Vec<u32>, OutOfMemory>
     ensures { IfOk result (λ ns. (n : ℕ) → Contains ns.items n ↔ Contains (invoked_by steps.now) n) }
 {
@@ -80,7 +97,8 @@ fn invoked_by(alloc: Global, steps: &[Step]) -> Result<Vec<u32>, OutOfMemory>
             Step::Invoke(call) => numbers.push(call.routine)?,
         }
     }
-    each_number_once(&mut numbers);
+    numbers.sort_unstable();
+    numbers.dedup();
     Ok(numbers)
 }
 
@@ -99,68 +117,22 @@ fn touched(
 {
     let mut touches = Vec::new(alloc);
     for step in steps {
-        add_touch(&mut touches, own_touch(access, step))?;
+        if let Some(touch) = own_touch(access, step) {
+            touches.push(touch)?;
+        }
     }
     for number in invoked {
-        add_routine(access, &mut touches, routines, *number)?;
+        if let Some(routine) = routines.get(*number as usize) {
+            touches.extend_from_slice(match access {
+                Access::Use => &routine.touches.used,
+                Access::Write => &routine.touches.written,
+            })?;
+        }
     }
-    each_touch_once(&mut touches);
-    Ok(touches)
-}
-
-/// Adds what is touched, where something is.
-fn add_touch(touches: &mut Vec<Touch>, touch: Option<Touch>) -> Result<(), OutOfMemory>
-    ensures { OnOk result ((stock : Stock) → named stock touches.new.items
-        ≡ named stock touches.old.items ++ named_by stock touch) }
-{
-    if let Some(found) = touch {
-        touches.push(found)?;
-    }
-    Ok(())
-}
-
-fn own_touch(access: Access, step: &Step) -> Option<Touch>
-    ensures { (stock : Stock) → named_by stock result ≡ step_touches (access_of access) stock step.now }
-{
-    match step {
-        Step::Do(op) => touch_of(access, &op.act),
-        Step::Invoke(_) => None,
-    }
-}
-
-/// Adds what a routine of this number touches.
-fn add_routine(
-    access: Access,
-    touches: &mut Vec<Touch>,
-    routines: &[Routine],
-    number: u32,
-) -> Result<(), OutOfMemory>
-    requires { AreRoutines routines.now }
-    ensures { OnOk result ((stock : Stock) → NameTheSame (named stock touches.new.items)
-        (named stock touches.old.items
-        ++ ops_touch (access_of access) stock (ops_at (library_in routines.now) number))) }
-{
-    if let Some(routine) = routines.get(number as usize) {
-        touches.extend_from_slice(routine.touches().by(access))?;
-    }
-    Ok(())
-}
-
-/// Leaves each number once.
-fn each_number_once(numbers: &mut Vec<u32>)
-    ensures { (n : ℕ) → Contains numbers.new.items n ↔ Contains numbers.old.items n }
-{
-    numbers.sort_unstable();
-    numbers.dedup();
-}
-
-/// Leaves each once of what is touched.
-fn each_touch_once(touches: &mut Vec<Touch>)
-    ensures { (t : Touch) → Contains touches.new.items t ↔ Contains touches.old.items t }
-{
     touches.sort_unstable_by_key(|touch: &Touch| touch.key());
     touches.dedup_by_key(|touch: &mut Touch| touch.key());
     touches.shrink_to_fit();
+    Ok(touches)
 }
 
 impl Touch {
@@ -204,81 +176,48 @@ fn reach_key(what: u8, reach: Reach) -> (u8, u8, usize, usize)
     }
 }
 
-/// What an act may touch; None where that is nothing.
-fn touch_of(access: Access, act: &Act) -> Option<Touch>
-    ensures { (stock : Stock) → named_by stock result ≡ act_touches (access_of access) stock act.now }
+fn own_touch(access: Access, step: &Step) -> Option<Touch>
+    ensures { (stock : Stock) → named_by stock result ≡ step_touches (access_of access) stock step.now }
 {
-    match access {
-        Access::Use => use_of(act),
-        Access::Write => written_by(act),
+    match (access, step) {
+        (_, Step::Invoke(_)) => None,
+        (Access::Use, Step::Do(op)) => use_of(&op.act),
+        (Access::Write, Step::Do(op)) => {
+            if writes(&op.act) {
+                use_of(&op.act)
+            } else {
+                None
+            }
+        }
     }
 }
 
-/// What an act may write.
-fn written_by(act: &Act) -> Option<Touch>
-    ensures { (stock : Stock) → named_by stock result ≡ act_writes stock act.now }
-{
-    if writes(act) { use_of(act) } else { None }
-}
-
-/// What an act may read or write.
 fn use_of(act: &Act) -> Option<Touch>
     ensures { (stock : Stock) → named_by stock result ≡ act_uses stock act.now }
 {
     match *act {
         Act::Load(res) | Act::Save(res) => Some(Touch::One(res)),
-        Act::Unit(opcode, _, reach) => unit_touch(opcode, reach),
-        Act::Store(reach) => within(reach, Touch::Tables(reach)),
-        Act::Zak(opcode, reach) => zak_touch(signature_of(opcode).shape(), reach),
-        _ => None,
-    }
-}
-
-/// None where nothing is within a reach.
-fn within(reach: Reach, touch: Touch) -> Option<Touch>
-    ensures { result ≡ within reach touch }
-{
-    match reach {
-        Reach::Nothing => None,
-        Reach::Span(_, _) | Reach::Any => Some(touch),
-    }
-}
-
-fn unit_touch(opcode: Opcode, reach: Reach) -> Option<Touch>
-    ensures { (stock : Stock) → named_by stock result ≡ unit_uses stock opcode reach }
-{
-    if signature_of(opcode).takes_table() {
-        within(reach, Touch::Tables(reach))
-    } else {
-        None
-    }
-}
-
-fn zak_touch(shape: Shape, reach: Reach) -> Option<Touch>
-    ensures { (stock : Stock) → named_by stock result ≡ shape_uses stock shape reach }
-{
-    match shape {
-        Shape::ZakGet(space) | Shape::ZakPut(space) | Shape::ZakClear(space) => {
-            within(reach, Touch::Places(space, reach))
+        Act::Store(reach) => Some(Touch::Tables(reach)),
+        Act::Unit(opcode, _, reach) if signature_of(opcode).takes_table() => {
+            Some(Touch::Tables(reach))
         }
-        Shape::ZakMix => within(reach, Touch::Places(Space::Audio, reach)),
+        Act::Zak(opcode, reach) => match signature_of(opcode).shape() {
+            Shape::ZakGet(space) | Shape::ZakPut(space) | Shape::ZakClear(space) => {
+                Some(Touch::Places(space, reach))
+            }
+            Shape::ZakMix => Some(Touch::Places(Space::Audio, reach)),
+            _ => None,
+        },
         _ => None,
     }
 }
 
-/// Whether an act may write what it touches.
 fn writes(act: &Act) -> bool
     ensures { (stock : Stock) → act_writes stock act.now ≡ (if result then act_uses stock act.now else []) }
 {
     match *act {
         Act::Save(_) | Act::Store(_) => true,
-        Act::Zak(opcode, _) => writes_places(signature_of(opcode).shape()),
+        Act::Zak(opcode, _) => !matches!(signature_of(opcode).shape(), Shape::ZakGet(_)),
         _ => false,
     }
-}
-
-fn writes_places(shape: Shape) -> bool
-    ensures { result ≡ writes_places shape }
-{
-    matches!(shape, Shape::ZakPut(_) | Shape::ZakMix | Shape::ZakClear(_))
 }

@@ -1,58 +1,38 @@
 // Which codes can be run.
-ghost use Rattle.std.specs.Prelude.{◌≡◌, ◌+◌, ◌≤◌, ◌||◌, ℕ, true, false, not, IfOk, IfErr, filter, length};
+ghost use Rattle.std.specs.Prelude.{◌≡◌, ◌+◌, ◌≤◌, ℕ, true, false, IfOk, IfErr, filter, length};
 ghost use Rattle.std.specs.List.{list_all, list_any};
 ghost use Rattle.cs_base.specs.Rates.{same_rate};
 ghost use Rattle.cs_words.specs.Catalogue.{is_moving};
 ghost use Rattle.cs_ir.specs.Flat.{IsLow, flat, further, leaves_room, moved_ops, moved_reg, ops_at, window_of};
-ghost use Rattle.cs_ir.specs.Routines.{library_in};
-ghost use Rattle.cs_ir.specs.Units.{is_unit, is_zak};
-ghost use Rattle.cs_ir.specs.Validity.{as_sounds, fine_from, has_register, has_value, is_still, may_run_at, runs_with};
+ghost use Rattle.cs_ir.specs.{Routines.library_in, inner.Fine.finds_step, inner.Fine.suits};
+ghost use Rattle.cs_ir.specs.Validity.{fine_from, has_register, has_value, is_still, may_run_at, runs_with};
 ghost use Rattle.cs_ir.specs.Validity.{starts_with, suits_function, take_all, takes_from, valid, writes};
-ghost use Rattle.cs_ir.specs.inner.Fine.{finds_step, suits};
 
 use crate::{Act, Call, Code, Counts, Op, Reg, Routine, Step, Window};
 use cs_base::{Rate, Res};
 use cs_words::{Func, Letter, Shape, Signature, signature_of};
-use std::marker::Model;
 
 /// A code that can be run: each op finds the registers, units and places that it names, and reads what its act takes.
 #[derive(Drop)]
 pub struct ValidCode {
-    code: Code,
-}
-
-impl Model for ValidCode {
-    ghost use Rattle.std.specs.Prelude.{◌≡◌, true};
-    ghost use Rattle.cs_ir.specs.Validity.{valid};
-    ghost use Rattle.cs_ir.specs.declared.op.Code.{Code};
-
-    ghost Value = { Code };
-
-    ghost view = { λ v. v.code };
-
-    ghost invariant = { λ v. valid v.code ≡ true };
+    pub code: Code,
+    ghost valid: { valid code ≡ true },
 }
 
 impl Code {
     /// The code as one that can be run; handed back where it can't be.
     pub fn check(self) -> Result<ValidCode, Code>
-        ensures ok { IfOk result (λ v. v ≡ self) }
+        ensures ok { IfOk result (λ v. v.code ≡ self) }
         ensures valid { IfOk result (λ v. valid self ≡ true) }
         ensures err { IfErr result (λ c. c ≡ self) }
         ensures invalid { IfErr result (λ c. valid self ≡ false) }
     {
-        if self.is_valid() {
+        let (routines, steps) = self.ops.parts();
+        if are_fine(routines, steps, &Window::whole(), &self.counts) {
             Ok(ValidCode { code: self })
         } else {
             Err(self)
         }
-    }
-
-    fn is_valid(&self) -> bool
-        ensures { result ≡ valid self.now }
-    {
-        let (routines, steps) = self.ops.parts();
-        are_fine(routines, steps, &Window::whole(), &self.counts)
     }
 }
 
@@ -76,7 +56,6 @@ fn are_fine(routines: &[Routine], steps: &[Step], window: &Window, counts: &Coun
     true
 }
 
-/// Whether each op of a routine is fine where it is invoked.
 #[cycle(fine)]
 fn is_call_fine(routines: &[Routine], call: &Call, window: &Window, counts: &Counts) -> bool
     requires { IsLow (length routines.now) window.now }
@@ -96,38 +75,19 @@ fn is_call_fine(routines: &[Routine], call: &Call, window: &Window, counts: &Cou
     }
 }
 
-impl ValidCode {
-    /// A code that is known to be valid.
-    pub fn of(code: Code) -> ValidCode
-        requires { valid code ≡ true }
-        ensures { result ≡ code }
-    {
-        ValidCode { code }
-    }
-
-    /// The code itself.
-    pub fn code(&self) -> &Code
-        ensures same { result.now ≡ self.now }
-        ensures valid { valid result.now ≡ true }
-    {
-        &self.code
-    }
-}
-
 /// Whether an op of a routine is fine in a window, as a step that stands at a place among its routine's steps.
 fn is_fine(op: &Op, at: usize, window: &Window, counts: &Counts) -> bool
     requires { leaves_room window.now ≡ true }
     ensures { result ≡ suits counts.now window.now at op.now }
 {
     let from = op.from.as_slice();
-    counts.has_result(window, op)
+    (!op.act.writes() || counts.has(window, op.into))
         && counts.has_all(window, from)
         && counts.finds(window, at, op.act)
         && op.act.takes_from(op.into.rate(), from)
 }
 
 impl Counts {
-    /// Whether a register is there that is named in a window.
     fn has(&self, window: &Window, register: Reg) -> bool
         ensures { result ≡ has_register self.now (moved_reg window.now register) }
     {
@@ -136,13 +96,6 @@ impl Counts {
             .of(register.kind)
             .saturating_sub(window.begin(register.kind));
         (register.offset as usize) < behind
-    }
-
-    /// Whether the register is there that an op writes, where it writes one.
-    fn has_result(&self, window: &Window, op: &Op) -> bool
-        ensures { result ≡ (not (writes op.now.act) || has_register self.now (moved_reg window.now op.now.into)) }
-    {
-        !op.act.writes() || self.has(window, op.into)
     }
 
     fn has_all(&self, window: &Window, registers: &[Reg]) -> bool
@@ -165,7 +118,6 @@ impl Counts {
 }
 
 impl Act {
-    /// Whether it writes its op's register.
     fn writes(self) -> bool
         ensures { result ≡ writes self }
     {
@@ -207,15 +159,20 @@ impl Act {
             (Act::Start(opcode, _), _) => starts_with(&signature_of(opcode), rate, from),
             (Act::Unit(opcode, _, _), _) => {
                 let row = signature_of(opcode);
-                is_unit(row.shape()) && runs_with(&row, rate, from)
+                matches!(row.shape(), Shape::Unit) && runs_with(&row, rate, from)
             }
             (Act::Seek, [x]) => x.rate().is_init(),
             (Act::Store(_), [value, index, table]) => {
-                is_as_sound(rate, *value) && is_as_sound(rate, *index) && table.rate().is_init()
+                rate.is_audio() == value.is_audio()
+                    && rate.is_audio() == index.is_audio()
+                    && table.rate().is_init()
             }
             (Act::Zak(opcode, _), _) => {
                 let row = signature_of(opcode);
-                is_zak(row.shape()) && runs_with(&row, rate, from)
+                matches!(
+                    row.shape(),
+                    Shape::ZakGet(_) | Shape::ZakPut(_) | Shape::ZakMix | Shape::ZakClear(_)
+                ) && runs_with(&row, rate, from)
             }
             (Act::Ask, _) => from.len() >= 3 && are_init(from),
             _ => false,
@@ -249,35 +206,18 @@ fn are_init(registers: &[Reg]) -> bool
 fn starts_with(row: &Signature, rate: Rate, from: &[Reg]) -> bool
     ensures { result ≡ starts_with row.now rate from.now }
 {
-    is_unit(row.shape()) && row.takes_settled(from.len()) && are_init(from) && may_run_at(row, rate)
+    matches!(row.shape(), Shape::Unit)
+        && row.takes_settled(from.len())
+        && are_init(from)
+        && may_run_at(row, rate)
 }
 
 fn runs_with(row: &Signature, rate: Rate, from: &[Reg]) -> bool
     ensures { result ≡ runs_with row.now rate from.now }
 {
-    let bound = if row.result_count() == 0 {
-        Rate::Audio
-    } else {
-        rate
-    };
+    let free = row.result_count() == 0;
+    let bound = if free { Rate::Audio } else { rate };
     take_all(row.fixed(), bound, from) && may_run_at(row, rate)
-}
-
-/// Whether it makes its result from a state of its own.
-fn is_unit(shape: Shape) -> bool
-    ensures { result ≡ is_unit shape }
-{
-    matches!(shape, Shape::Unit)
-}
-
-/// Whether it reads or writes zak places.
-fn is_zak(shape: Shape) -> bool
-    ensures { result ≡ is_zak shape }
-{
-    matches!(
-        shape,
-        Shape::ZakGet(_) | Shape::ZakPut(_) | Shape::ZakMix | Shape::ZakClear(_)
-    )
 }
 
 fn may_run_at(row: &Signature, rate: Rate) -> bool
@@ -308,10 +248,4 @@ fn take_all(letters: &[Letter], bound: Rate, from: &[Reg]) -> bool
         }
     }
     place == from.len()
-}
-
-fn is_as_sound(rate: Rate, register: Reg) -> bool
-    ensures { result ≡ as_sounds rate register }
-{
-    rate.is_audio() == register.is_audio()
 }

@@ -1,8 +1,7 @@
 // What operators and functions make of numbers.
-ghost use Rattle.std.specs.Prelude.{◌≡◌, ◌≤◌, ◌*◌, ◌+◌, ◌^◌, ◌/◌, ◌%◌, slice_index_or, pos, unsigned_abs};
-ghost use Rattle.std.specs.Int.{int_max, int_min};
-ghost use Rattle.cs_ir.specs.Values.{holds, truth, negated, combined, applied, semitones, pitch_class, octave};
-ghost use Rattle.cs_ir.specs.Values.{cpspch_of};
+ghost use Rattle.std.specs.Prelude.{◌≡◌, ◌≤◌, ◌%◌, slice_index_or};
+ghost use Rattle.cs_ir.specs.Values.{applied, combined, cpspch_of, holds, negated, octave, pitch_class, semitones};
+ghost use Rattle.cs_ir.specs.Values.{truth};
 
 use cs_base::{Num, ONE};
 use cs_words::{BinOp, Func};
@@ -70,15 +69,15 @@ pub fn apply(function: Func, x: Num) -> Num
     }
 }
 
-// The frequency of an octave and pitch class.
 fn cpspch(x: Num) -> Num
     ensures { result ≡ cpspch_of x }
 {
     let class = pitch_class(x.raw());
-    Num::exact(hertz(semitone(class), octave(x.raw(), class)) as i64)
+    let octave = octave(x.raw(), class);
+    let hertz = semitone(class) * 2u64.pow(octave as u32 + 8) / 1_000;
+    Num::exact(hertz as i64)
 }
 
-// The semitones of an octave and pitch class.
 fn pitch_class(raw: i64) -> usize
     ensures value { result ≡ pitch_class raw }
     ensures small { result ≤ 100 }
@@ -87,37 +86,18 @@ fn pitch_class(raw: i64) -> usize
     (hundredths + ONE / 2).div_euclid(ONE).unsigned_abs() as usize
 }
 
-// Its octave, with 12 semitones as one more.
 fn octave(raw: i64, class: usize) -> usize
     requires small { class ≤ 100 }
     ensures value { result ≡ octave raw class }
     ensures small { result ≤ 20 }
 {
-    bounded(raw.div_euclid(ONE) + (class / 12) as i64)
-}
-
-// A number brought into 0 to 20.
-fn bounded(octave: i64) -> usize
-    ensures value { result ≡ unsigned_abs (int_max (pos 0) (int_min octave (pos 20))) }
-    ensures small { result ≤ 20 }
-{
+    let octave = raw.div_euclid(ONE) + (class / 12) as i64;
     octave.clamp(0, 20).unsigned_abs() as usize
 }
 
-// Thousandths of a hertz of a semitone in the octave of middle C.
 fn semitone(class: usize) -> u64
     ensures value { result ≡ slice_index_or semitones (class % 12) 0 }
     ensures small { result ≤ 493883 }
 {
     SEMITONES[class % 12]
-}
-
-// Hertz, in 65,536ths, of a semitone in an octave.
-fn hertz(thousandths: u64, octave: usize) -> u64
-    requires semitone { thousandths ≤ 493883 }
-    requires octave { octave ≤ 20 }
-    ensures value { result ≡ thousandths * 2 ^ (octave + 8) / 1000 }
-    ensures small { result ≤ 140737488355327 }
-{
-    thousandths * 2u64.pow(octave as u32 + 8) / 1_000
 }

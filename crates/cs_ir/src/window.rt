@@ -18,8 +18,7 @@ pub struct Window {
 
 impl Model for Window {
     ghost use Rattle.std.specs.Prelude.{◌≡◌};
-    ghost use Rattle.cs_ir.specs.Flat.{Begins};
-    ghost use Rattle.cs_ir.specs.inner.Windows.{numbers, seen};
+    ghost use Rattle.cs_ir.specs.{Flat.Begins, inner.Windows.numbers, inner.Windows.seen};
 
     ghost Value = { Begins };
 
@@ -127,7 +126,7 @@ impl<'o> OpAt<'o> {
         requires small { list_all is_small (there self.now).from ≡ true }
         ensures { (there self.now).from ≡ result ∷ [] }
     {
-        self.window.register(self.op.from.only())
+        self.window.register(self.op.from.first()[0])
     }
 
     /// The two registers that it reads.
@@ -137,8 +136,8 @@ impl<'o> OpAt<'o> {
         requires small { list_all is_small (there self.now).from ≡ true }
         ensures { (there self.now).from ≡ result.0 ∷ result.1 ∷ [] }
     {
-        let (x, y) = self.op.from.pair();
-        (self.window.register(x), self.window.register(y))
+        let from = self.op.from.first();
+        (self.window.register(from[0]), self.window.register(from[1]))
     }
 
     /// The three registers that it reads.
@@ -148,11 +147,11 @@ impl<'o> OpAt<'o> {
         requires small { list_all is_small (there self.now).from ≡ true }
         ensures { (there self.now).from ≡ result.0 ∷ result.1 ∷ result.2 ∷ [] }
     {
-        let (x, y, z) = self.op.from.triple();
+        let from = self.op.from.first();
         (
-            self.window.register(x),
-            self.window.register(y),
-            self.window.register(z),
+            self.window.register(from[0]),
+            self.window.register(from[1]),
+            self.window.register(from[2]),
         )
     }
 }

@@ -30,14 +30,12 @@ pub fn notes_worked_by_hand()
     ensures followed_keeps { kept_by (small_piece 0 0) two_outside followed followed_places ≡ whole 70 ∷ whole 4 ∷ [] }
     ensures followed_sounds { heard (small_piece 0 0) two_outside (followed ∷ [])
         ≡ each (whole 72) ∷ each (whole 74) ∷ [] }
-    ensures followed_ends { endings (small_piece 0 0) two_outside (followed ∷ [])
-        ≡ (false ∷ []) ∷ (true ∷ []) ∷ [] }
+    ensures followed_ends { endings (small_piece 0 0) two_outside (followed ∷ []) ≡ (false ∷ []) ∷ (true ∷ []) ∷ [] }
     // A table that isn't there, and a delay of 320,000 samples.
     ensures no_table { cause_of (small_piece 0 0) missing_table ≡ Some (no_table (pos 9)) }
     ensures long_delay { cause_of (small_piece 0 0) long_delay ≡ Some (delay_too_long 320000) }
     // A note asks for another one.
-    ensures asks { asked_by (small_piece 0 0) asking
-        ≡ (whole 2 ∷ whole 0 ∷ whole 1 ∷ whole 7 ∷ []) ∷ [] }
+    ensures asks { asked_by (small_piece 0 0) asking ≡ (whole 2 ∷ whole 0 ∷ whole 1 ∷ whole 7 ∷ []) ∷ [] }
     // Who conflicts: one writes gk1, another reads it, the third reads gk2.
     ensures writes { writes_of 0 setting_one ≡ res.Gk 0 ∷ [] }
     ensures uses { uses_of 0 (reading 0) ≡ res.Gk 0 ∷ [] }

@@ -1,8 +1,7 @@
 // What a code may touch, as marks of the areas.
 ghost use Rattle.std.specs.Prelude.{◌≡◌, IfOk};
 ghost use Rattle.cs_ir.specs.Resources.{ops_use, ops_write};
-ghost use Rattle.cs_rwset.specs.Footprints.{stock_of};
-ghost use Rattle.cs_rwset.specs.inner.Marks.{marks_of};
+ghost use Rattle.cs_rwset.specs.{Footprints.stock_of, inner.Marks.marks_of};
 
 use crate::marks::mark_all;
 use crate::runs::Runs;
@@ -20,10 +19,8 @@ pub(crate) struct Marks {
 
 /// The areas whose resource an op may use, and those whose resource one may write.
 pub(crate) fn marks_of(alloc: Global, ops: &Ops, layout: &Layout) -> Result<Marks, OutOfMemory>
-    ensures uses { IfOk result (λ m. m.uses.items
-        ≡ marks_of layout.now (ops_use (stock_of layout.now) ops.now)) }
-    ensures writes { IfOk result (λ m. m.writes.items
-        ≡ marks_of layout.now (ops_write (stock_of layout.now) ops.now)) }
+    ensures uses { IfOk result (λ m. m.uses.items ≡ marks_of layout.now (ops_use (stock_of layout.now) ops.now)) }
+    ensures writes { IfOk result (λ m. m.writes.items ≡ marks_of layout.now (ops_write (stock_of layout.now) ops.now)) }
 {
     let runs = Runs::of(layout);
     let areas = layout.len() as usize;

@@ -1,18 +1,15 @@
 // What holds of footprints: calls that do nothing, whose contracts are the laws.
 ghost use Rattle.std.specs.Prelude.{◌≡◌, ◌↔◌, ◌<◌, ◌≤◌, ℕ, true, List, [], ◌∷◌, length, Some};
-ghost use Rattle.std.specs.List.{Contains};
-ghost use Rattle.std.specs.List.Sorted.{IsStrictlyIncreasing};
+ghost use Rattle.std.specs.{List.Contains, List.Sorted.IsStrictlyIncreasing};
 ghost use Rattle.cs_base.specs.declared.resource.Res.{Res};
 ghost use Rattle.cs_base.specs.declared.resource.Res.TheVariants as res;
-ghost use Rattle.cs_cells.specs.Areas.{HasPlace, IsLaid};
-ghost use Rattle.cs_cells.specs.Cells.{covers, in_area};
+ghost use Rattle.cs_cells.specs.{Areas.HasPlace, Areas.IsLaid, Cells.covers, Cells.in_area};
 ghost use Rattle.cs_cells.specs.declared.footprint.Area.{Area};
 ghost use Rattle.cs_words.specs.declared.catalogue.Opcode.TheVariants.{Tablei, Zkw, Zkcl};
 ghost use Rattle.cs_words.specs.declared.catalogue.Space.{Space};
-ghost use Rattle.cs_ir.specs.Resources.{NameTheSame, act_uses, act_writes, ops_use, ops_write};
-ghost use Rattle.cs_ir.specs.Resources.{places_within, tables_within, zak_place};
+ghost use Rattle.cs_ir.specs.Resources.{NameTheSame, act_uses, act_writes, ops_use, ops_write, places_within};
+ghost use Rattle.cs_ir.specs.{Resources.tables_within, Resources.zak_place, declared.op.Op.Op};
 ghost use Rattle.cs_ir.specs.declared.op.Act.TheVariants.{Load, Save, Store, Unit, Zak};
-ghost use Rattle.cs_ir.specs.declared.op.Op.{Op};
 ghost use Rattle.cs_ir.specs.declared.op.Reach.TheVariants.{Nothing, Span, Any};
 ghost use Rattle.cs_rwset.specs.Examples.{seven_areas, used, written};
 ghost use Rattle.cs_rwset.specs.Footprints.{place_count, places_holding, stock_of};
@@ -83,17 +80,14 @@ pub fn written_is_used()
 pub fn footprints_worked_by_hand()
     ensures laid { IsLaid seven_areas }
     // `tablew k1, k2, i1` may write both tables, and so may read them.
-    ensures table_write { written (Store Any ∷ []) ≡ 5 ∷ 6 ∷ [] }
-    ensures table_write_uses { used (Store Any ∷ []) ≡ 5 ∷ 6 ∷ [] }
+    ensures table_write { (written (Store Any ∷ []) ≡ 5 ∷ 6 ∷ []) × (used (Store Any ∷ []) ≡ 5 ∷ 6 ∷ []) }
     // `tablei k1, 2` reads table 2.
-    ensures table_read { used (Unit Tablei 0 (Span 2 2) ∷ []) ≡ 6 ∷ [] }
-    ensures table_read_writes { written (Unit Tablei 0 (Span 2 2) ∷ []) ≡ [] }
+    ensures table_read { (used (Unit Tablei 0 (Span 2 2) ∷ []) ≡ 6 ∷ [])
+        × (written (Unit Tablei 0 (Span 2 2) ∷ []) ≡ []) }
     // `zkw 1, 0` writes one place, `zkcl 1, 2` the last two.
-    ensures zak_write { written (Zak Zkw (Span 0 0) ∷ []) ≡ 2 ∷ [] }
-    ensures zak_clear { written (Zak Zkcl (Span 1 2) ∷ []) ≡ 3 ∷ 4 ∷ [] }
+    ensures zak { (written (Zak Zkw (Span 0 0) ∷ []) ≡ 2 ∷ []) × (written (Zak Zkcl (Span 1 2) ∷ []) ≡ 3 ∷ 4 ∷ []) }
     // `chnget` reads its channel.
-    ensures channel { used (Load (res.Control 0) ∷ []) ≡ 1 ∷ [] }
-    ensures channel_kept { written (Load (res.Control 0) ∷ []) ≡ [] }
+    ensures channel { (used (Load (res.Control 0) ∷ []) ≡ 1 ∷ []) × (written (Load (res.Control 0) ∷ []) ≡ []) }
     // A variable is listed before the tables, whichever op names it first, and once.
     ensures variable { used (Unit Tablei 0 (Span 1 1) ∷ Save (res.Gk 0) ∷ Load (res.Gk 0) ∷ []) ≡ 0 ∷ 5 ∷ [] }
     ensures variable_written { written (Unit Tablei 0 (Span 1 1) ∷ Save (res.Gk 0) ∷ []) ≡ 0 ∷ [] }

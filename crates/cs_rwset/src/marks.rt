@@ -1,12 +1,10 @@
 // Areas that are marked, one after another, and the places of those.
 ghost use Rattle.std.specs.Prelude.{◌≡◌, ◌≤◌, ◌-◌, ◌||◌, ◌++◌, Bool, true, List, length, take, drop, replicate, IfOk};
-ghost use Rattle.cs_base.specs.Rates.{same_res};
-ghost use Rattle.cs_base.specs.declared.resource.Res.{Res};
+ghost use Rattle.cs_base.specs.{Rates.same_res, declared.resource.Res.Res};
 ghost use Rattle.cs_cells.specs.Areas.{IsLaid};
-ghost use Rattle.cs_rwset.specs.Footprints.{stock_of};
+ghost use Rattle.cs_rwset.specs.{Footprints.stock_of, inner.Runs.AreRuns};
 ghost use Rattle.cs_rwset.specs.inner.Marks.{marked, marked_by, marks_of};
 ghost use Rattle.cs_ir.specs.Touched.{covers, named};
-ghost use Rattle.cs_rwset.specs.inner.Runs.{AreRuns};
 
 use crate::runs::{Run, Runs};
 use cs_base::{OutOfMemory, Places, Res, Spaces};
@@ -27,7 +25,7 @@ pub fn mark_all(marks: &mut [bool], layout: &Layout, runs: &Runs, touches: &[Tou
     }
 }
 
-/// Marks each area whose resource is touched.
+/// Marks each area whose resource is touched, at once where these lie side by side.
 fn mark(marks: &mut [bool], layout: &Layout, runs: &Runs, touch: Touch)
     requires laid { IsLaid layout.now }
     requires runs { AreRuns layout.now runs.now }
@@ -45,21 +43,10 @@ fn mark(marks: &mut [bool], layout: &Layout, runs: &Runs, touch: Touch)
                 mark_one(marks, layout, zak_place(space, first as usize));
             }
         }
-        _ => mark_many(marks, layout, runs, touch),
-    }
-}
-
-/// Marks each area whose resource is named, at once where they lie side by side.
-fn mark_many(marks: &mut [bool], layout: &Layout, runs: &Runs, touch: Touch)
-    requires laid { IsLaid layout.now }
-    requires runs { AreRuns layout.now runs.now }
-    requires long { length marks.old ≡ length layout.now }
-    ensures { (P : Res → Bool) → marks.old ≡ marked_by P layout.now
-        → marks.new ≡ marked_by (λ r. P r || covers runs.now.spaces touch r) layout.now }
-{
-    match runs.run(touch) {
-        Some(run) => mark_run(marks, run),
-        None => mark_each(marks, layout, runs.spaces, touch),
+        _ => match runs.run(touch) {
+            Some(run) => mark_run(marks, run),
+            None => mark_each(marks, layout, runs.spaces, touch),
+        },
     }
 }
 
@@ -67,8 +54,7 @@ fn mark_many(marks: &mut [bool], layout: &Layout, runs: &Runs, touch: Touch)
 fn mark_run(marks: &mut [bool], run: Run)
     requires ordered { run.from ≤ run.to }
     requires within { run.to ≤ length marks.old }
-    ensures { marks.new ≡ take run.from marks.old
-        ++ (replicate (run.to - run.from) true ++ drop run.to marks.old) }
+    ensures { marks.new ≡ take run.from marks.old ++ (replicate (run.to - run.from) true ++ drop run.to marks.old) }
 {
     marks[run.from as usize..run.to as usize].fill(true);
 }

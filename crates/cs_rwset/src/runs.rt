@@ -1,8 +1,7 @@
 // Where the areas of what has numbers lie side by side.
 ghost use Rattle.std.specs.Prelude.{◌≡◌, ◌<◌, ◌≤◌, ℕ, List, length, slice_get, true, false, Some, IfSome, is_some};
 ghost use Rattle.cs_base.specs.Limits.{most_resources};
-ghost use Rattle.cs_cells.specs.Areas.{HasPlace, IsLaid};
-ghost use Rattle.cs_cells.specs.declared.footprint.Area.{Area};
+ghost use Rattle.cs_cells.specs.{Areas.HasPlace, Areas.IsLaid, declared.footprint.Area.Area};
 ghost use Rattle.cs_ir.specs.Resources.{places_of, reaches, zak_place};
 ghost use Rattle.cs_ir.specs.declared.op.Reach.TheVariants as reach;
 ghost use Rattle.cs_rwset.specs.Footprints.{is_place, place_count, stock_of};

@@ -1,13 +1,11 @@
 // Zones of a layout, and the footprints of codes over them.
-ghost use Rattle.std.specs.Prelude.{◌≡◌, ◌<◌, ◌≤◌, ◌+◌, ◌-◌, ◌^◌, true, false, length, IfOk};
+ghost use Rattle.std.specs.Prelude.{◌≡◌, ◌<◌, ◌≤◌, ◌-◌, true, false, length, IfOk};
 ghost use Rattle.std.specs.List.{All, AllZip};
 ghost use Rattle.cs_base.specs.Limits.{most_resources};
 ghost use Rattle.cs_cells.specs.declared.footprint.Footprint.{Footprint};
 ghost use Rattle.cs_ir.specs.Instruments.{Numbered};
-ghost use Rattle.cs_rwset.specs.Zones.{AreZones, IsFootOver};
-ghost use Rattle.cs_rwset.specs.declared.code.Marks.{Marks};
-ghost use Rattle.cs_rwset.specs.inner.Marks.{marked};
-ghost use Rattle.cs_rwset.specs.inner.Zoning.{AreBegins, AreFew, AreMarksOf, Stay, heads, joined, zones_of};
+ghost use Rattle.cs_rwset.specs.{Zones.AreZones, Zones.IsFootOver, declared.code.Marks.Marks, inner.Marks.marked};
+ghost use Rattle.cs_rwset.specs.inner.Zoning.{AreBegins, AreFew, AreMarksOf, Stay, heads, zones_of};
 
 use crate::code::{Marks, marks_of};
 use crate::marks::marked_places;
@@ -65,20 +63,9 @@ fn marks_of_each(
 {
     let mut each = Vec::with_capacity(alloc, instruments.len())?;
     for instrument in instruments {
-        each.push(marks_of_one(alloc, instrument, layout)?)?;
+        each.push(marks_of(alloc, &instrument.perf().ops, layout)?)?;
     }
     Ok(each)
-}
-
-fn marks_of_one(
-    alloc: Global,
-    instrument: &Instrument,
-    layout: &Layout,
-) -> Result<Marks, OutOfMemory>
-    ensures { IfOk result (λ m. AreMarksOf layout.now instrument.now.perf m) }
-{
-    let marks = marks_of(alloc, &instrument.perf().ops, layout)?;
-    Ok(marks)
 }
 
 /// Of each of so many areas, whether a zone begins with it.
@@ -164,22 +151,14 @@ fn areas_of(alloc: Global, layout: &Layout, begins: &[bool]) -> Result<Vec<Area>
             zones.push(zone)?;
             zone = area;
         } else {
-            zone = joined(zone, area);
+            zone = Area {
+                length: zone.length + area.length,
+                ..zone
+            };
         }
     }
     zones.push(zone)?;
     Ok(zones)
-}
-
-fn joined(zone: Area, area: Area) -> Area
-    requires { zone.length + area.length < 2 ^ 32 }
-    ensures { result ≡ joined zone area }
-{
-    Area {
-        res: zone.res,
-        first: zone.first,
-        length: zone.length + area.length,
-    }
 }
 
 fn feet_over(alloc: Global, each: &[Marks], begins: &[bool]) -> Result<Vec<Footprint>, OutOfMemory>
@@ -212,8 +191,7 @@ fn places_over(alloc: Global, marks: &[bool], begins: &[bool]) -> Result<Places,
 {
     let heads = heads_of(alloc, marks, begins)?;
     let count = heads.len() as u32;
-    let places = marked_places(alloc, &heads, count)?;
-    Ok(places)
+    marked_places(alloc, &heads, count)
 }
 
 /// The marks of the areas with which zones begin.

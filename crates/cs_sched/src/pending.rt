@@ -1,7 +1,6 @@
 // The notes that wait.
 ghost use Rattle.std.specs.Prelude.{◌≡◌, ◌<◌, ◌++◌, ◌∷◌, [], IfOk, OnErr, OnOk};
-ghost use Rattle.std.specs.BTreeMap.{IsOrdered};
-ghost use Rattle.std.specs.Ordering.{nat_cmp};
+ghost use Rattle.std.specs.{BTreeMap.IsOrdered, Ordering.nat_cmp};
 ghost use Rattle.cs_base.specs.Limits.{most_asks};
 ghost use Rattle.cs_sched.specs.Times.{clock_of, due_of};
 ghost use Rattle.cs_sched.specs.Waiting.{answer_to, nothing_waits, waiting, with_answer, IsTaken};
@@ -49,8 +48,7 @@ pub struct Pending {
 }
 
 impl Model for Pending {
-    ghost use Rattle.cs_sched.specs.Waiting.{Queue};
-    ghost use Rattle.cs_sched.specs.inner.ByCycle.{AreByCycle, all_dues};
+    ghost use Rattle.cs_sched.specs.{Waiting.Queue, inner.ByCycle.AreByCycle, inner.ByCycle.all_dues};
 
     ghost Value = { Queue };
 

@@ -1,5 +1,5 @@
 -- What steps touch, step by step; and numbers that tell apart what is touched.
-use Rattle.std.specs.Prelude.{ℕ, List, [], ◌∷◌, Option, None, Some}
+use Rattle.std.specs.Prelude.{ℕ, List, [], ◌∷◌}
 use Rattle.std.specs.List.{flat_map}
 use Rattle.cs_base.specs.{Rates.res_kind, Rates.res_number, declared.resource.Res.Res}
 use Rattle.cs_ir.specs.{Flat.ops_at, declared.op.Op.Op, declared.op.Reach.Reach, declared.step.Step.Step}
@@ -20,11 +20,6 @@ access_of access.Write = may_write
 abbrev pub kept : Access → Touches → List Touch
 kept may_use t = t.used.items
 kept may_write t = t.written.items
-
--- what is touched within a reach, where anything is within it
-abbrev pub within : Reach → Touch → Option Touch
-within reach.Nothing t = None
-within r t = Some t
 
 -- what a step's own op touches, and the number of the routine that a step invokes
 abbrev pub step_touches : Access → Stock → Step → List Res

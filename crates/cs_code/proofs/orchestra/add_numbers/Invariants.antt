@@ -8,6 +8,6 @@ use Rattle.cs_code.proofs.orchestra.add_numbers.Given as goal
 abbrev pub invariant-loop-number : goal.invariant-loop-number
 invariant-loop-number l =
     (spaces : Spaces) (channels : ℕ) (t : typed.Block) (ps : List (ℕ × typed.Block))
-    → IsCodeOf spaces channels t l.body.value.init l.body.value.perf
+    → IsCodeOf spaces channels t l.body.value.init.code l.body.value.perf.code
     → AllZip (IsNumberedCode spaces channels) ps l.initial.list.items
     → AllZip (IsNumberedCode spaces channels) (ps ++ numbered_with t (take l.number-index l.numbers)) l.list.items

@@ -1,8 +1,8 @@
-use Rattle.std.proofs.Common.{◌∙◌, ◌++◌, ◌∷◌, [], ◌↔◌, ap, append-nil, subst, sym, take}
+use Rattle.std.proofs.Common.{◌∙◌, ◌++◌, ◌∷◌, [], ◌↔◌, ap, append-nil, nat_eq, subst, sym, take}
 use Rattle.std.specs.List.{Contains}
-use Rattle.std.proofs.lemmas.List.{take_all}
+use Rattle.std.proofs.lemmas.{List.Filters.dedup_is, List.take_all}
 use Rattle.cs_ir.specs.inner.Naming.{invoked, step_invokes}
-use Rattle.cs_ir.proofs.Naming.{flat_next}
+use Rattle.cs_ir.proofs.Naming.{each_number_once, flat_next}
 use Rattle.cs_ir.proofs.touches.invoked_by.Goals.{in-Do, in-Invoke+in_ok-push-in-Invoke}
 use Rattle.cs_ir.proofs.touches.invoked_by.Goals as goal
 
@@ -24,7 +24,9 @@ loop-step-preserved c =
 
 pub returns : goal.returns
 returns c n =
-    subst (λ l. Contains c.each_number_once.new.numbers.items n ↔ Contains l n)
+    subst (λ l. Contains c.dedup.new.self.items n ↔ Contains l n)
     (c.loop-step.invariant
     ∙ ap invoked (take_all c.loop-step.step-index c.args.steps.now c.loop-step-test.false))
-    (c.each_number_once.ensures n)
+    (each_number_once c.loop-step.numbers.items c.sort_unstable.new.self.items c.dedup.new.self.items n
+    c.sort_unstable.ensures.permutation
+    (dedup_is nat_eq c.sort_unstable.new.self.items c.dedup.new.self.items c.dedup.ensures.filtered))

@@ -7,8 +7,8 @@ use Rattle.cs_rwset.proofs.ZoneSteps.{words_more, zone_begins, zone_goes_on}
 use Rattle.cs_rwset.proofs.zones.areas_of.Goals.{then-begins-place+in_ok-push, else-begins-place}
 use Rattle.cs_rwset.proofs.zones.areas_of.Goals as goal
 
-pub joined-zone-requires : goal.joined-zone-requires
-joined-zone-requires c =
+pub overflow_add-zone : goal.overflow_add-zone
+overflow_add-zone c =
     let p = c.loop-place.place in
     let a = c.area-area.result in
     let first : a.first ≡ word_count (take p c.args.layout.now) =
@@ -46,9 +46,9 @@ loop-place-preserved c =
         ap (λ l. l ++ zones_from c.if-begins-place.zone (drop (p + 1) areas) (drop (p + 1) begins))
             (ap (λ v. v.items) w.zones-is)
             ∙ ap (λ z. done ++ zones_from z (drop (p + 1) areas) (drop (p + 1) begins))
-            (w.zone-is ∙ w.joined-zone.ensures)
+            w.zone-is
             ∙ zone_goes_on areas begins p zone a done _ read low here w.if-begins-place.false c.loop-place.invariant.0,
-        ap (λ (z : Area). z.first + z.length) (w.zone-is ∙ w.joined-zone.ensures)
+        ap (λ (z : Area). z.first + z.length) w.zone-is
             ∙ (let so_far = c.loop-place.invariant.1 in
             let e : zone.first + (zone.length + a.length) ≡ word_count (take (p + 1) areas) =
             omega (arith, so_far, first, words) in e),

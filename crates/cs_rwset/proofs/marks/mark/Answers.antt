@@ -1,7 +1,7 @@
 use Rattle.std.proofs.Common.{◌∙◌, ◌-◌, ap, arith}
 use Rattle.cs_ir.specs.Touched.{covers}
 use Rattle.cs_rwset.proofs.Spans.{marked_run, set_from}
-use Rattle.cs_rwset.proofs.marks.mark_many.Goals as goal
+use Rattle.cs_rwset.proofs.marks.mark.Goals as goal
 
 pub mark_run-requires-clause-ordered : goal.mark_run-requires-clause-ordered
 mark_run-requires-clause-ordered c = (c.in-Some.ensures.run c.args.layout.now c.requires.laid c.requires.runs).ordered

@@ -2,13 +2,13 @@ use Rattle.std.proofs.Common.{◌+◌, map, drop, arith, ap}
 use Rattle.cs_typed.specs.TypedTree.{argument}
 use Rattle.cs_code.specs.inner.Emitted.{expressions_of}
 use Rattle.cs_code.proofs.Lists.{values_more, dropped}
-use Rattle.cs_code.proofs.args.add_values.Goals as goal
+use Rattle.cs_code.proofs.args.values.Goals as goal
 
 pub loop-arg-preserved : goal.loop-arg-preserved
 loop-arg-preserved c =
     let i = c.loop-arg.arg-index in
     let x = c.arg-item.result in
-    let args = c.args.args.now in
+    let args = c.args.call.now.args.now in
     values_more (map argument (drop i args)) (argument x) (map argument (drop (i + 1) args))
     (expressions_of c.loop-arg.values.items) (expressions_of c.add_value.new.values.items) _
     (ap (map argument) (dropped args i x (omega arith) c.arg-item.is))

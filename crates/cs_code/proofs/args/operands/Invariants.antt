@@ -2,7 +2,7 @@ use Rattle.std.proofs.Common.{◌≡◌, ◌++◌, drop}
 use Rattle.cs_code.specs.{inner.Code.operands_code, inner.Kept.past_all, inner.Spots.spots}
 use Rattle.cs_code.specs.inner.Emitted.{expressions_of, when_of}
 use Rattle.cs_code.proofs.Growing.{Leads}
-use Rattle.cs_code.proofs.args.gather.Given as goal
+use Rattle.cs_code.proofs.args.operands.Given as goal
 
 -- what is made, and what the rest will make
 abbrev pub invariant-loop-e : goal.invariant-loop-e
@@ -11,5 +11,5 @@ invariant-loop-e l =
     (operands_code (when_of l.context.pass) l.next (expressions_of (drop l.e-index l.values)) l.d)
     (operands_code (when_of l.context.pass) l.at (expressions_of l.values) 0)
     × (l.regs.items ++ spots (when_of l.context.pass) l.next (expressions_of (drop l.e-index l.values)) l.d
-    ≡ l.initial.regs.items ++ spots (when_of l.context.pass) l.at (expressions_of l.values) 0)
+    ≡ spots (when_of l.context.pass) l.at (expressions_of l.values) 0)
     × (past_all l.next (expressions_of (drop l.e-index l.values)) ≡ past_all l.at (expressions_of l.values))

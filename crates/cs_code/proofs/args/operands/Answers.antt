@@ -4,7 +4,7 @@ use Rattle.cs_typed.specs.TypedTree.{Expression, expression}
 use Rattle.cs_code.specs.{inner.Code.operand_code, inner.Code.operands_code, inner.Kept.past_all}
 use Rattle.cs_code.specs.inner.Emitted.{expressions_of, when_of}
 use Rattle.cs_code.proofs.{Growing.leads_end, Growing.leads_on, Lists.operands_more, Lists.spots_more, Lists.dropped}
-use Rattle.cs_code.proofs.args.gather.Goals as goal
+use Rattle.cs_code.proofs.args.operands.Goals as goal
 
 pub loop-e-preserved : goal.loop-e-preserved
 loop-e-preserved c =

@@ -3,7 +3,7 @@ use Rattle.cs_typed.specs.TypedTree.{Argument, argument}
 use Rattle.cs_words.specs.Catalogue.{row_of, letter_at, is_settled}
 use Rattle.cs_code.specs.inner.Emitted.{expressions_of}
 use Rattle.cs_code.proofs.Lists.{settled_more, moving_more, dropped}
-use Rattle.cs_code.proofs.args.part_args.Goals as goal
+use Rattle.cs_code.proofs.args.parted_values.Goals as goal
 
 pub loop-arg-preserved : goal.loop-arg-preserved
 loop-arg-preserved c =

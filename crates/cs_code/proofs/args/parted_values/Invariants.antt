@@ -3,7 +3,7 @@ use Rattle.cs_meaning.specs.Core.{settled, moving}
 use Rattle.cs_typed.specs.TypedTree.{argument}
 use Rattle.cs_words.specs.Catalogue.{row_of}
 use Rattle.cs_code.specs.inner.Emitted.{expressions_of}
-use Rattle.cs_code.proofs.args.part_args.Given as goal
+use Rattle.cs_code.proofs.args.parted_values.Given as goal
 
 -- what is parted, and what the rest will give
 abbrev pub invariant-loop-arg : goal.invariant-loop-arg
@@ -11,9 +11,7 @@ invariant-loop-arg l =
     (l.place ≡ l.arg-index)
     × (expressions_of l.parted.settled.items
     ++ settled (row_of l.call.opcode) l.place (map argument (drop l.arg-index l.call.args.now))
-    ≡ expressions_of l.initial.parted.settled.items
-    ++ settled (row_of l.call.opcode) 0 (map argument l.call.args.now))
+    ≡ settled (row_of l.call.opcode) 0 (map argument l.call.args.now))
     × (expressions_of l.parted.moving.items
     ++ moving (row_of l.call.opcode) l.place (map argument (drop l.arg-index l.call.args.now))
-    ≡ expressions_of l.initial.parted.moving.items
-    ++ moving (row_of l.call.opcode) 0 (map argument l.call.args.now))
+    ≡ moving (row_of l.call.opcode) 0 (map argument l.call.args.now))
