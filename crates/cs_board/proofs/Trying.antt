@@ -19,16 +19,6 @@ get_last [] x = refl
 get_last (z ∷ xs) x = get_last xs x
 
 module _ {J : Type 0} where
-  pub tries_none : (v : View J) → Tries v v
-  tries_none v = record {
-    more = omega arith;
-    found = λ n t h. h;
-    owes = λ t. omega arith;
-    mine = refl;
-    seat =
-        record { first = refl; number = refl; out = refl; made = refl };
-  }
-
   pub tries_join : (u v w : View J) → Tries u v → Tries v w → Tries u w
   tries_join u v w a b = record {
     more = omega (arith, a.more, b.more);
@@ -51,12 +41,6 @@ module _ {J : Type 0} where
       (λ l. let r = x t l.0 l.1 in (q.found u.tries t r.0, omega (arith, r.1, q.owes t)))
       (λ l. let r = y t l.0 l.1 in ((r.0.0, r.0.1, r.0.2, omega (arith, r.0.3, p.more)), r.1))
       h
-
-  -- what a try has found is found after further tries
-  pub carry : (u v w x : View J) (t : ℕ) → u.tries ≤ v.tries → Tries w x → FoundSince v.tries w t × (owed t w ≡ 0)
-      → FoundSince u.tries x t × (owed t x ≡ 0)
-  carry u v w x t low h r =
-      (h.found u.tries t (r.0.0, r.0.1, r.0.2, omega (arith, r.0.3)), omega (arith, r.1, h.owes t))
 
 module _ {J : Type 0} (M : Meaning J) where
   pub tries_more : (u v : View J) (b : Bool) (t : ℕ) → Tries u v → Tries u (tried M b v t)

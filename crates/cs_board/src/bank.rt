@@ -1,11 +1,9 @@
 // The cells of the board as a bank.
 ghost use Rattle.std.specs.Prelude.{◌≡◌, ◌+◌, Some, true, slice_get};
-ghost use Rattle.cs_board.specs.inner.Banks.{imageless};
-ghost use Rattle.cs_board.specs.Board.{plan};
+ghost use Rattle.cs_board.specs.{inner.Banks.imageless, Board.plan, Views.does, Views.set_image, Views.fresh};
 ghost use Rattle.cs_board.specs.inner.Sittings.{IsSittingOf, deed, ran_out};
 ghost use Rattle.cs_cells.specs.Cells.{cell};
 ghost use Rattle.cs_board.specs.Plans.{uses_at, writes_at, before_at};
-ghost use Rattle.cs_board.specs.Views.{does, set_image, fresh};
 
 use crate::board::{Board, Sitting};
 use crate::{Look, Set};

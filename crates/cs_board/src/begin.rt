@@ -2,11 +2,8 @@
 ghost use Rattle.std.specs.Prelude.{◌≡◌, ◌<◌, ◌≤◌, [], length, true};
 ghost use Rattle.std.specs.Vec.{vec_capacity};
 ghost use Rattle.cs_board.specs.Board.{plan, name, view, graph_of, IsSeatOf, IsIdle, IsViewOf};
-ghost use Rattle.cs_board.specs.Built.{IsBuilt};
-ghost use Rattle.cs_board.specs.Resting.{IsSole, IsLaying, areas_in, known_in};
-ghost use Rattle.cs_board.specs.Ending.{IsLast, IsOver};
-ghost use Rattle.cs_board.specs.Plans.{IsPlan};
-ghost use Rattle.cs_board.specs.Views.{opening_view, plan_laid};
+ghost use Rattle.cs_board.specs.{Built.IsBuilt, Resting.IsSole, Resting.IsLaying, Resting.areas_in, Resting.known_in};
+ghost use Rattle.cs_board.specs.{Ending.IsLast, Ending.IsOver, Plans.IsPlan, Views.opening_view, Views.plan_laid};
 
 use crate::board::{Berths, Board, BoardSeat, Frame, Sitting};
 use crate::{Begin, Berth, End};
@@ -85,14 +82,7 @@ impl<J: Job> Board<J> {
         ensures slots { length (known_in result.0).homes ≡ (name self.now).slots }
         ensures room { (result.1.items ≡ []) × ((plan self.now).notes ≤ vec_capacity result.1) }
     {
-        let BoardSeat {
-            badge,
-            note: _,
-            opened: _,
-            next: _,
-            splits: _,
-            room,
-        } = seat;
+        let BoardSeat { badge, room, .. } = seat;
         let Some(room) = room else { unreachable!() };
         let mut seat = badge.into_seat();
         self.end_cycle(&mut seat);
@@ -121,14 +111,13 @@ impl<J: Job> Board<J> {
             (name self).words (name self).slots }
     {
         let Board {
-            frame,
+            frame: Frame { table },
             graph,
-            opening: _,
             notes,
             areas,
             cells,
+            ..
         } = self;
-        let Frame { table } = frame;
         Parts {
             table,
             graph,

@@ -1,7 +1,6 @@
 // The board and its seats.
 ghost use Rattle.std.specs.Prelude.{◌≡◌};
-ghost use Rattle.cs_board.specs.Seen.{plan_seen};
-ghost use Rattle.cs_board.specs.Built.{IsBuilt};
+ghost use Rattle.cs_board.specs.{Seen.plan_seen, Built.IsBuilt};
 
 use crate::{Berth, Key, Rule, View};
 use atomic_table::{Badge, Seat, Table};
@@ -57,8 +56,7 @@ pub struct Board<J: Job> {
 
 impl<J: Job> Board<J> {
     ghost use Rattle.std.specs.Prelude.{◌≡◌, ◌+◌, length};
-    ghost use Rattle.cs_board.specs.Board.{plan, name};
-    ghost use Rattle.cs_board.specs.Words.{word_total};
+    ghost use Rattle.cs_board.specs.{Board.plan, Board.name, Words.word_total};
 
     /// The graph of the cycle.
     pub(crate) fn graph(&self) -> &Graph

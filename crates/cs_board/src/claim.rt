@@ -1,7 +1,7 @@
 // Claiming a note.
-ghost use Rattle.std.specs.Prelude.{◌≡◌, ◌+◌, ◌-◌, ◌*◌, ◌<◌, ◌≤◌, ◌^◌, ℕ, [], true, false, IfSome, IfNone};
+ghost use Rattle.std.specs.Prelude.{◌≡◌, ◌+◌, ◌-◌, ◌<◌, ◌≤◌, ◌^◌, ℕ, [], IfSome, IfNone};
 ghost use Rattle.cs_board.specs.Board.{plan, name, view, IsSeatOf, IsIdle, IsClaimed, SameSeat, FoundSince, note_of};
-ghost use Rattle.cs_board.specs.inner.Sittings.{IsSittingOf, HasClaimed, Tries, AllTried, AllBut};
+ghost use Rattle.cs_board.specs.inner.Sittings.{IsSittingOf, HasClaimed, Tries, AllTried};
 
 use crate::board::{Board, BoardSeat, Sitting};
 use cs_base::Steps;
@@ -38,49 +38,11 @@ impl<J: Job> Board<J> {
         None
     }
 
-    /// Tries the notes from one on and below another, but for one of them.
-    fn try_others(
-        &self,
-        sitting: &mut Sitting<J>,
-        from: u32,
-        to: u32,
-        but: u32,
-        steps: &mut Steps,
-    ) -> Option<u32>
+    /// Tries all notes once: those from one on, and then those before it.
+    fn try_round(&self, sitting: &mut Sitting<J>, from: u32, steps: &mut Steps) -> Option<u32>
         requires sitting { IsSittingOf J.means self.now sitting.old }
         requires idle { IsIdle sitting.old.me.0 }
-        requires range { (from ≤ to) × (to ≤ (plan self.now).notes) }
-        requires steps { steps.old.count + 2 * to ≤ 2 ^ 64 - 1 }
-        ensures sitting { IsSittingOf J.means self.now sitting.new }
-        ensures carries { sitting.new.me.1 ≡ sitting.old.me.1 }
-        ensures some { IfSome result (HasClaimed J.means (plan self.now) sitting.new.me.0) }
-        ensures none { IfNone result (IsIdle sitting.new.me.0 × AllBut but sitting.old.me.0 sitting.new.me.0 from to) }
-        ensures tries { Tries sitting.old.me.0 sitting.new.me.0 }
-        ensures steps { steps.new.count + sitting.old.me.0.tries ≡ steps.old.count + sitting.new.me.0.tries }
-        ensures few { steps.new.count ≤ steps.old.count + (to - from) }
-        ensures fewer { from ≤ but → but < to → steps.new.count + 1 ≤ steps.old.count + (to - from) }
-    {
-        if but < from || to <= but {
-            return self.try_range(sitting, from, to, steps);
-        }
-        let won = self.try_range(sitting, from, but, steps);
-        if won.is_some() {
-            return won;
-        }
-        self.try_range(sitting, but + 1, to, steps)
-    }
-
-    /// Tries all notes once: first this one, if it is a note, then those from one on, and then those before it.
-    fn try_round(
-        &self,
-        sitting: &mut Sitting<J>,
-        opened: u32,
-        next: u32,
-        steps: &mut Steps,
-    ) -> Option<u32>
-        requires sitting { IsSittingOf J.means self.now sitting.old }
-        requires idle { IsIdle sitting.old.me.0 }
-        requires next { next ≤ (plan self.now).notes }
+        requires from { from ≤ (plan self.now).notes }
         requires steps { steps.old.count ≤ 2 ^ 63 }
         ensures sitting { IsSittingOf J.means self.now sitting.new }
         ensures carries { sitting.new.me.1 ≡ sitting.old.me.1 }
@@ -91,22 +53,16 @@ impl<J: Job> Board<J> {
         ensures steps { steps.new.count + sitting.old.me.0.tries ≡ steps.old.count + sitting.new.me.0.tries }
         ensures few { steps.new.count ≤ steps.old.count + (plan self.now).notes }
     {
-        let from = opened.min(self.notes);
-        let to = opened.saturating_add(1).min(self.notes);
-        let first = self.try_range(sitting, from, to, steps);
-        if first.is_some() {
-            return first;
-        }
-        let won = self.try_others(sitting, next, self.notes, opened, steps);
+        let won = self.try_range(sitting, from, self.notes, steps);
         if won.is_some() {
             return won;
         }
-        self.try_others(sitting, 0, next, opened, steps)
+        self.try_range(sitting, 0, from, steps)
     }
 
     /// Claims a note that is Available, or answers None where each note was tried and found
-    /// otherwise. It tries each note at most once, first one that the seat itself has opened, and
-    /// then goes round from where the last claim left off. Each try is a step that is counted.
+    /// otherwise. It tries each note at most once: it goes round from one that the seat itself has
+    /// opened, or else from where the last claim left off. Each try is a step that is counted.
     pub fn claim(&self, seat: &mut BoardSeat<J>, steps: &mut Steps) -> Option<u32>
         requires seat { IsSeatOf J.means (plan self.now) (name self.now) seat.old }
         requires idle { IsIdle (view seat.old) }
@@ -124,10 +80,9 @@ impl<J: Job> Board<J> {
         ensures same { SameSeat (view seat.old) (view seat.new) }
     {
         let mut sitting = self.sit(seat);
-        let opened = seat.opened.unwrap_or(self.notes);
-        let next = min(seat.next, self.notes);
-        let won = self.try_round(&mut sitting, opened, next, steps);
-        seat.remember(won, opened);
+        let from = min(seat.opened.unwrap_or(seat.next), self.notes);
+        let won = self.try_round(&mut sitting, from, steps);
+        seat.remember(won);
         self.rise(seat, sitting);
         won
     }
@@ -135,14 +90,14 @@ impl<J: Job> Board<J> {
 
 impl<J> BoardSeat<J> {
     /// The note that it claimed. Its round goes on behind that note, unless it had opened the note itself.
-    fn remember(&mut self, won: Option<u32>, opened: u32)
+    fn remember(&mut self, won: Option<u32>)
         ensures note { IfSome won (λ t. self.new.note ≡ t) }
         ensures room { self.new.room ≡ self.old.room }
     {
-        self.opened = None;
+        let opened = self.opened.take();
         if let Some(note) = won {
             self.note = note;
-            if note != opened {
+            if opened != won {
                 self.next = note.wrapping_add(1);
             }
         }

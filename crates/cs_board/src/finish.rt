@@ -1,8 +1,8 @@
 // Finishing a note: it is Done, its edges are closed, and its watchers move on.
-ghost use Rattle.std.specs.Prelude.{◌≡◌, ◌+◌, ◌<◌, ℕ, ◌∷◌, [], ◌++◌, Some, None, IfSome, IfNone};
+ghost use Rattle.std.specs.Prelude.{◌≡◌, ◌+◌, ◌<◌, ℕ, ◌∷◌, [], ◌++◌, Some, None};
 ghost use Rattle.cs_board.specs.Board.{plan, name, view, IsSeatOf, IsIdle, HasRun, SameSeat, note_of};
 ghost use Rattle.cs_board.specs.inner.Sittings.{IsSittingOf, Beside, ClosesAt};
-ghost use Rattle.cs_graph.specs.Graph.{Edge, IsNextOut, NoneOut};
+ghost use Rattle.cs_graph.specs.Graph.{Edge};
 ghost use Rattle.cs_board.specs.Views.{closing_from};
 
 use crate::WATCHED;
@@ -53,29 +53,7 @@ impl<J: Job> Board<J> {
             None
         }
     }
-}
 
-impl<J: Job> Board<J> {
-    /// The first edge from a note.
-    fn first_out(&self, note: u32) -> Option<u32>
-        requires { note < (plan self.now).notes }
-        ensures some { IfSome result (IsNextOut (plan self.now).edges note 0) }
-        ensures none { IfNone result (NoneOut (plan self.now).edges note 0) }
-    {
-        self.graph().first_out(note)
-    }
-
-    /// The next edge from the note from which this one leads.
-    fn next_out(&self, edge: u32, note: u32) -> Option<u32>
-        requires { (t : ℕ) × Edge (plan self.now).edges edge note t }
-        ensures some { IfSome result (IsNextOut (plan self.now).edges note (edge + 1)) }
-        ensures none { IfNone result (NoneOut (plan self.now).edges note (edge + 1)) }
-    {
-        self.graph().next_out(edge, note)
-    }
-}
-
-impl<J: Job> Board<J> {
     /// Closes all edges from the note. It answers the first watcher that it opened.
     fn close_all(&self, sitting: &mut Sitting<J>, note: u32) -> Option<u32>
         requires sitting { IsSittingOf J.means self.now sitting.old }
@@ -89,11 +67,11 @@ impl<J: Job> Board<J> {
         ensures beside { Beside sitting.old.me.0 sitting.new.me.0 }
     {
         let mut opened = None;
-        let mut next = self.first_out(note);
+        let mut next = self.graph().first_out(note);
         while let Some(edge) = next {
             let watcher = self.close_one(sitting, edge, note);
             opened = opened.or(watcher);
-            next = self.next_out(edge, note);
+            next = self.graph().next_out(edge, note);
         }
         opened
     }
@@ -113,16 +91,7 @@ impl<J: Job> Board<J> {
         let mut sitting = self.sit(seat);
         self.store_done(&mut sitting, note);
         let opened = self.close_all(&mut sitting, note);
-        seat.aim(opened);
+        seat.opened = opened;
         self.rise(seat, sitting);
-    }
-}
-
-impl<J> BoardSeat<J> {
-    /// The next claim tries this note first.
-    fn aim(&mut self, opened: Option<u32>)
-        ensures { (self.new.note ≡ self.old.note) × (self.new.room ≡ self.old.room) }
-    {
-        self.opened = opened;
     }
 }

@@ -4,8 +4,7 @@ ghost use mathlib.Core.Option.{some};
 ghost use lib.ListN.{get_elem?};
 ghost use Rattle.atomic_table.specs.Table.{State};
 ghost use Rattle.cs_board.specs.Ending.{HasLast, IsLast, AllDone, AllMine, IsSerial};
-ghost use Rattle.cs_board.specs.Laws.{DoneOnce, EarlierDone, SeenBefore};
-ghost use Rattle.cs_board.specs.Rule.{Holds};
+ghost use Rattle.cs_board.specs.{Laws.DoneOnce, Laws.EarlierDone, Laws.SeenBefore, Rule.Holds};
 
 use crate::view::{Berth, Plan, View};
 use cs_cells::Job;

@@ -1,4 +1,8 @@
 // The board's rule as a rule of a table, and what each kind of step tells.
+ghost use Rattle.cs_board.specs.Plays.{looked_status, claimed, took, looked, set_cell, looked_turn, turned, gave};
+ghost use Rattle.cs_board.specs.Plays.{finished, closed, watched, opens, lays, reads, reaches, leaves, begins, ends};
+ghost use Rattle.cs_board.specs.Views.{kept_view, given_view, joined, spent_view};
+
 use crate::view::{Berth, View};
 use atomic_table::{Join, Play, Split as Cut, TableRule};
 use cs_cells::{Job, Layout};
@@ -15,8 +19,7 @@ pub struct Key {
 pub struct Rule;
 
 impl<J: Job> TableRule<Berth<J>, View<J>, Key> for Rule {
-    ghost use Rattle.cs_board.specs.Keys.{first_view};
-    ghost use Rattle.cs_board.specs.Rule.{Always};
+    ghost use Rattle.cs_board.specs.{Keys.first_view, Rule.Always};
 
     ghost holds = { λ key. Always J.means };
 
@@ -27,8 +30,6 @@ impl<J: Job> TableRule<Berth<J>, View<J>, Key> for Rule {
 pub struct LookStatus;
 
 impl<J> Play<Berth<J>, View<J>> for LookStatus {
-    ghost use Rattle.cs_board.specs.Plays.{looked_status};
-
     ghost then = { looked_status };
 }
 
@@ -36,8 +37,6 @@ impl<J> Play<Berth<J>, View<J>> for LookStatus {
 pub struct Claim;
 
 impl<J: Job> Play<Berth<J>, View<J>> for Claim {
-    ghost use Rattle.cs_board.specs.Plays.{claimed};
-
     ghost then = { claimed J.means };
 }
 
@@ -45,8 +44,6 @@ impl<J: Job> Play<Berth<J>, View<J>> for Claim {
 pub struct Take;
 
 impl<J> Play<Berth<J>, View<J>> for Take {
-    ghost use Rattle.cs_board.specs.Plays.{took};
-
     ghost then = { took };
 }
 
@@ -54,8 +51,6 @@ impl<J> Play<Berth<J>, View<J>> for Take {
 pub struct Look;
 
 impl<J: Job> Play<Berth<J>, View<J>> for Look {
-    ghost use Rattle.cs_board.specs.Plays.{looked};
-
     ghost then = { looked J.means };
 }
 
@@ -63,8 +58,6 @@ impl<J: Job> Play<Berth<J>, View<J>> for Look {
 pub struct Set;
 
 impl<J> Play<Berth<J>, View<J>> for Set {
-    ghost use Rattle.cs_board.specs.Plays.{set_cell};
-
     ghost then = { set_cell };
 }
 
@@ -72,8 +65,6 @@ impl<J> Play<Berth<J>, View<J>> for Set {
 pub struct LookTurn;
 
 impl<J: Job> Play<Berth<J>, View<J>> for LookTurn {
-    ghost use Rattle.cs_board.specs.Plays.{looked_turn};
-
     ghost then = { looked_turn J.means };
 }
 
@@ -81,8 +72,6 @@ impl<J: Job> Play<Berth<J>, View<J>> for LookTurn {
 pub struct Turn;
 
 impl<J> Play<Berth<J>, View<J>> for Turn {
-    ghost use Rattle.cs_board.specs.Plays.{turned};
-
     ghost then = { turned };
 }
 
@@ -90,8 +79,6 @@ impl<J> Play<Berth<J>, View<J>> for Turn {
 pub struct Give;
 
 impl<J> Play<Berth<J>, View<J>> for Give {
-    ghost use Rattle.cs_board.specs.Plays.{gave};
-
     ghost then = { gave };
 }
 
@@ -99,8 +86,6 @@ impl<J> Play<Berth<J>, View<J>> for Give {
 pub struct Finish;
 
 impl<J> Play<Berth<J>, View<J>> for Finish {
-    ghost use Rattle.cs_board.specs.Plays.{finished};
-
     ghost then = { finished };
 }
 
@@ -108,8 +93,6 @@ impl<J> Play<Berth<J>, View<J>> for Finish {
 pub struct Close;
 
 impl<J> Play<Berth<J>, View<J>> for Close {
-    ghost use Rattle.cs_board.specs.Plays.{closed};
-
     ghost then = { closed };
 }
 
@@ -117,8 +100,6 @@ impl<J> Play<Berth<J>, View<J>> for Close {
 pub struct Watch;
 
 impl<J> Play<Berth<J>, View<J>> for Watch {
-    ghost use Rattle.cs_board.specs.Plays.{watched};
-
     ghost then = { watched };
 }
 
@@ -126,8 +107,6 @@ impl<J> Play<Berth<J>, View<J>> for Watch {
 pub struct Open;
 
 impl<J> Play<Berth<J>, View<J>> for Open {
-    ghost use Rattle.cs_board.specs.Plays.{opens};
-
     ghost then = { opens };
 }
 
@@ -135,8 +114,6 @@ impl<J> Play<Berth<J>, View<J>> for Open {
 pub struct Lay;
 
 impl<J> Play<Berth<J>, View<J>> for Lay {
-    ghost use Rattle.cs_board.specs.Plays.{lays};
-
     ghost then = { lays };
 }
 
@@ -144,8 +121,6 @@ impl<J> Play<Berth<J>, View<J>> for Lay {
 pub struct Read;
 
 impl<J> Play<Berth<J>, View<J>> for Read {
-    ghost use Rattle.cs_board.specs.Plays.{reads};
-
     ghost then = { reads };
 }
 
@@ -153,8 +128,6 @@ impl<J> Play<Berth<J>, View<J>> for Read {
 pub struct Reach;
 
 impl<J> Play<Berth<J>, View<J>> for Reach {
-    ghost use Rattle.cs_board.specs.Plays.{reaches};
-
     ghost then = { reaches };
 }
 
@@ -162,8 +135,6 @@ impl<J> Play<Berth<J>, View<J>> for Reach {
 pub struct Leave;
 
 impl<J> Play<Berth<J>, View<J>> for Leave {
-    ghost use Rattle.cs_board.specs.Plays.{leaves};
-
     ghost then = { leaves };
 }
 
@@ -171,8 +142,6 @@ impl<J> Play<Berth<J>, View<J>> for Leave {
 pub struct Begin;
 
 impl<J> Play<Berth<J>, View<J>> for Begin {
-    ghost use Rattle.cs_board.specs.Plays.{begins};
-
     ghost then = { begins };
 }
 
@@ -180,8 +149,6 @@ impl<J> Play<Berth<J>, View<J>> for Begin {
 pub struct End;
 
 impl<J: Job> Play<Berth<J>, View<J>> for End {
-    ghost use Rattle.cs_board.specs.Plays.{ends};
-
     ghost then = { ends J.means };
 }
 
@@ -189,8 +156,6 @@ impl<J: Job> Play<Berth<J>, View<J>> for End {
 pub struct Split;
 
 impl<J> Cut<View<J>> for Split {
-    ghost use Rattle.cs_board.specs.Views.{kept_view, given_view};
-
     ghost left = { kept_view };
 
     ghost right = { given_view };
@@ -200,8 +165,6 @@ impl<J> Cut<View<J>> for Split {
 pub struct Gather;
 
 impl<J> Join<View<J>> for Gather {
-    ghost use Rattle.cs_board.specs.Views.{joined, spent_view};
-
     ghost both = { joined };
 
     ghost spent = { spent_view };

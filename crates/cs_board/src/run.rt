@@ -3,8 +3,7 @@ ghost use Rattle.std.specs.Prelude.{◌≡◌, ◌+◌, ◌-◌, ◌<◌, ◌≤
 ghost use Rattle.cs_board.specs.Board.{plan, name, view, IsSeatOf, IsClaimed, HasRun, SameSeat, note_of, turns_before};
 ghost use Rattle.cs_board.specs.inner.Sittings.{IsSittingOf, deed, job_out, ran_out};
 ghost use Rattle.cs_board.specs.Plans.{places_used, places_written, before_at};
-ghost use Rattle.cs_board.specs.Views.{does, fresh, next_phase};
-ghost use Rattle.cs_board.specs.declared.view.Berth.TheVariants.{Vacant};
+ghost use Rattle.cs_board.specs.{Views.does, Views.fresh, Views.next_phase, declared.view.Berth.TheVariants.Vacant};
 
 use crate::Berth;
 use crate::board::{Board, BoardSeat, Sitting};

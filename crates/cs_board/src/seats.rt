@@ -1,9 +1,8 @@
 // Seats: sitting down for a call, splitting one off and taking one in.
-ghost use Rattle.std.specs.Prelude.{◌≡◌, ◌<◌, ℕ, [], Some, true, false, IfSome};
+ghost use Rattle.std.specs.Prelude.{◌≡◌, ◌<◌, ℕ, [], Some, true, false};
 ghost use Rattle.cs_board.specs.Board.{plan, name, view, IsSeatOf, IsIdle, HasRoom};
-ghost use Rattle.cs_board.specs.inner.Sittings.{IsSittingOf};
+ghost use Rattle.cs_board.specs.{inner.Sittings.IsSittingOf, declared.view.Doing.Doing};
 ghost use Rattle.cs_board.specs.Views.{kept_view, given_view, joined};
-ghost use Rattle.cs_board.specs.declared.view.Doing.{Doing};
 
 use crate::board::{Board, BoardSeat, Sitting};
 use crate::{Gather, Split};
@@ -72,14 +71,7 @@ impl<J: Job> Board<J> {
         ensures view { view seat.new ≡ joined (view seat.old) (view other) }
     {
         let mut sitting = self.sit(seat);
-        let BoardSeat {
-            badge,
-            note: _,
-            opened: _,
-            next: _,
-            splits: _,
-            room,
-        } = other;
+        let BoardSeat { badge, room, .. } = other;
         let None = room else { unreachable!() };
         self.frame
             .table

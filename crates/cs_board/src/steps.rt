@@ -1,15 +1,12 @@
 // The steps on the board's words, one function each.
 ghost use Rattle.std.specs.Prelude.{◌≡◌, ◌+◌, ◌-◌, ◌<◌, ◌≤◌, ℕ, [], ◌∷◌, Some, None, true, false, slice_get};
-ghost use Rattle.cs_board.specs.Board.{plan, IsIdle, run_through};
-ghost use Rattle.cs_board.specs.inner.Sittings.{IsSittingOf, ClosesAt, MovesAt, MovesOut, deed, job_out};
-ghost use Rattle.cs_board.specs.inner.Sittings.{seen, tried, stopped, ran_out};
+ghost use Rattle.cs_board.specs.{Board.plan, Board.IsIdle, Board.run_through, inner.Sittings.stopped};
+ghost use Rattle.cs_board.specs.{inner.Sittings.ran_out, Counts.listed, Facts.turned_in, Words.watch_at, Words.own_at};
+ghost use Rattle.cs_board.specs.{Words.status_at, Words.turn_at, Words.cell_at, declared.view.Berth.TheVariants.Full};
+ghost use Rattle.cs_board.specs.inner.Sittings.{IsSittingOf, ClosesAt, MovesAt, MovesOut, deed, job_out, seen, tried};
 ghost use Rattle.cs_graph.specs.Graph.{Edge};
-ghost use Rattle.cs_board.specs.Counts.{listed};
-ghost use Rattle.cs_board.specs.Facts.{turned_in};
 ghost use Rattle.cs_board.specs.Plans.{area_count, places_used, places_written, before_at, writers_before};
 ghost use Rattle.cs_board.specs.Views.{fresh, does, next_phase, ended, shut, opened};
-ghost use Rattle.cs_board.specs.Words.{watch_at, own_at, status_at, turn_at, cell_at};
-ghost use Rattle.cs_board.specs.declared.view.Berth.TheVariants.{Full};
 
 use crate::board::{Board, Sitting};
 use crate::{

@@ -1,8 +1,7 @@
 // Claiming a note that may have to be waited for.
 ghost use Rattle.std.specs.Prelude.{◌≡◌, ◌<◌, ℕ, [], IfSome, IfNone};
 ghost use Rattle.cs_board.specs.Board.{plan, name, view, IsSeatOf, IsIdle, IsClaimed, SameSeat, FoundSince, note_of};
-ghost use Rattle.cs_board.specs.inner.Sittings.{HasTried};
-ghost use Rattle.cs_board.specs.declared.view.View.{View};
+ghost use Rattle.cs_board.specs.{inner.Sittings.HasTried, declared.view.View.View};
 
 use crate::board::{Board, BoardSeat};
 use crate::{AVAILABLE, WAITING};
@@ -44,7 +43,7 @@ impl<J: Job> Board<J> {
         ensures mine { (view seat.new).mine ≡ (view seat.old).mine }
         ensures same { SameSeat (view seat.old) (view seat.new) }
     {
-        let won = self.claim_once(seat);
+        let won = self.claim(seat, &mut Steps::new());
         if won.is_some() {
             return won;
         }
@@ -66,20 +65,6 @@ impl<J: Job> Board<J> {
         None
     }
 
-    /// A claim whose tries aren't counted.
-    fn claim_once(&self, seat: &mut BoardSeat<J>) -> Option<u32>
-        requires seat { IsSeatOf J.means (plan self.now) (name self.now) seat.old }
-        requires idle { IsIdle (view seat.old) }
-        ensures seat { IsSeatOf J.means (plan self.now) (name self.now) seat.new }
-        ensures some { IfSome result (λ t. IsClaimed J.means (view seat.new)
-            × (note_of (view seat.new) ≡ t) × (t < (plan self.now).notes)) }
-        ensures none { IfNone result (HasTried (plan self.now) (view seat.old) (view seat.new)) }
-        ensures mine { (view seat.new).mine ≡ (view seat.old).mine }
-        ensures same { SameSeat (view seat.old) (view seat.new) }
-    {
-        self.claim(seat, &mut Steps::new())
-    }
-
     /// A further claim, where a look found a note that is Available.
     fn claim_seen(&self, seat: &mut BoardSeat<J>, seen: Outlook) -> Option<u32>
         requires seat { IsSeatOf J.means (plan self.now) (name self.now) seat.old }
@@ -93,7 +78,7 @@ impl<J: Job> Board<J> {
         ensures same { SameSeat (view seat.old) (view seat.new) }
     {
         if seen == Outlook::Available {
-            return self.claim_once(seat);
+            return self.claim(seat, &mut Steps::new());
         }
         None
     }

@@ -12,7 +12,7 @@ use std::sync::{Arc, Wait};
 use std::thread;
 use std::thread::Threads;
 
-/// Runs the notes of one control cycle, and answers a receipt with their jobs, the desk, and the graph, as if the notes
+/// Runs the notes of one control cycle, and returns a receipt with their jobs, the desk, and the graph, as if the notes
 /// had run one by one in serial order over the desk's cells.
 ///
 /// `graph` is that of the jobs, which stand in serial order. The desk's layout is that of each job, and it has room for

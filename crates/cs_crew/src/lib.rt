@@ -1,7 +1,7 @@
 //! One control cycle by a crew of its own, for whoever has a single cycle to play: its helpers start with it and end
 //! with it.
 //!
-//! The one contract: `run_cycle` answers a receipt with the jobs, the desk with the cells, and the graph, as if the
+//! The one contract: `run_cycle` returns a receipt with the jobs, the desk with the cells, and the graph, as if the
 //! notes had run one by one in serial order, for every number of workers and every interleaving of their steps.
 //!
 //! How many threads are started, and who runs which note, may change without anyone above noticing: now it is a pool

@@ -18,7 +18,7 @@ impl<J: Job> Desk<J> {
     ghost use Rattle.cs_desk.specs.Desk.{areas, cells, note_room, word_room};
 
     /// Runs the notes of a control cycle, `notes` in number, one by one in serial order over the
-    /// desk's cells, which nobody else can reach, and answers a receipt with their jobs. There is no
+    /// desk's cells, which nobody else can reach, and returns a receipt with their jobs. There is no
     /// board: nothing is claimed, laid or cleared, and nobody is waited for. Where cycle after cycle is run so
     /// the cells come to lie in plain memory, unless there is none: then they stay where they are.
     /// `gate` is called with `cycle` and the note's place before each note is run.
@@ -39,7 +39,7 @@ impl<J: Job> Desk<J> {
         Receipt { notes, jobs }
     }
 
-    /// So many notes more in a row are the caller's alone; after enough of them, by the number of cells, the cells are
+    /// `notes` notes more in a row are the caller's alone; after enough of them, by the number of cells, the cells are
     /// moved into plain memory.
     fn loosen(&mut self, alloc: Global, notes: u32)
         ensures cells { cells self.new ≡ cells self.old }

@@ -1,9 +1,7 @@
 // What stands between two cycles.
 ghost use Rattle.std.specs.Prelude.{◌≡◌, ◌≤◌, ◌<◌, ◌+◌, ℕ, length, map, IfOk};
-ghost use Rattle.std.specs.List.{range_with_len};
-ghost use Rattle.std.specs.Option.{ForSome};
-ghost use Rattle.cs_cells.specs.Areas.{word_count};
-ghost use Rattle.cs_cells.specs.Cells.{cell, values, with_row};
+ghost use Rattle.std.specs.{List.range_with_len, Option.ForSome};
+ghost use Rattle.cs_cells.specs.{Areas.word_count, Cells.cell, Cells.values, Cells.with_row};
 ghost use Rattle.cs_desk.specs.inner.Tables.{layout_of};
 
 use crate::plain::numbers_in;
@@ -28,7 +26,7 @@ impl<J: Job> Desk<J> {
     ghost use Rattle.cs_board.specs.Resting.{wide};
     ghost use Rattle.cs_desk.specs.Desk.{areas, cells, note_room, word_room};
 
-    /// A desk over this layout, with one word for each cell, and with room for cycles of so many notes and edges.
+    /// A desk over this layout, with a word for each cell, and with room for cycles of `notes` notes and `edges` edges.
     pub fn new(
         alloc: Global,
         layout: &Layout,
@@ -45,7 +43,7 @@ impl<J: Job> Desk<J> {
         Desk::over(alloc, layout, numbers_in(alloc, words)?, notes, edges)
     }
 
-    /// A desk over this layout, with these cells, and with room for cycles of so many notes and edges.
+    /// A desk over this layout, with these cells, and with room for cycles of `notes` notes and `edges` edges.
     pub(crate) fn over(
         alloc: Global,
         layout: &Layout,

@@ -1,17 +1,13 @@
 // The beginning of a cycle.
-ghost use Rattle.std.specs.Option.{ForSome};
+ghost use Rattle.std.specs.{Option.ForSome, Vec.vec_capacity};
 ghost use Rattle.std.specs.Prelude.{◌≡◌, ◌+◌, ◌*◌, ◌<◌, ◌≤◌, ◌^◌, [], Some, length, slice_get};
-ghost use Rattle.std.specs.Vec.{vec_capacity};
 ghost use Rattle.cs_board.specs.Resting.{IsSole, IsLaying, areas_in, known_in};
-ghost use Rattle.cs_desk.specs.Kept.{cells_now};
-ghost use Rattle.cs_desk.specs.inner.Resting.{plan_over};
+ghost use Rattle.cs_desk.specs.{Kept.cells_now, inner.Resting.plan_over};
 ghost use Rattle.cs_desk.specs.inner.Tables.{layout_of, cells_in, slots_in, words_in, HasSpace, plan_at};
-ghost use Rattle.cs_cells.specs.Areas.{word_count};
-ghost use Rattle.cs_cells.specs.Serial.{AllValid};
-ghost use Rattle.cs_board.specs.Plans.{IsPlan};
+ghost use Rattle.cs_cells.specs.{Areas.word_count, Serial.AllValid};
+ghost use Rattle.cs_board.specs.{Plans.IsPlan, Opening.first_status, Opening.first_watch};
 ghost use Rattle.cs_board.specs.Views.{with_word, with_home, opening_view};
 ghost use Rattle.cs_board.specs.declared.view.Berth.TheVariants.{Vacant, Full};
-ghost use Rattle.cs_board.specs.Opening.{first_status, first_watch};
 
 use crate::desk::Desk;
 use crate::plain::fill;
@@ -25,8 +21,7 @@ use std::sync::Arc;
 
 impl<J: Job> Desk<J> {
     ghost use Rattle.cs_board.specs.Board.{plan, name, view, graph_of, IsSeatOf};
-    ghost use Rattle.cs_desk.specs.Cycles.{IsCycle};
-    ghost use Rattle.cs_desk.specs.Desk.{note_room, word_room, plan_from};
+    ghost use Rattle.cs_desk.specs.{Cycles.IsCycle, Desk.note_room, Desk.word_room, Desk.plan_from};
 
     /// The board of a cycle, and its first seat, at the cost of the cycle's notes and edges, and of the cells where
     /// they lay in plain memory. `graph` is that of the jobs' footprints, and the desk's layout that of each job. It
@@ -93,7 +88,7 @@ impl<J: Job> RestingTable<J> {
 }
 
 /// Lays the words of the cycle, of which the first status has this number, and the jobs into their
-/// slots. It answers the emptied vector of the jobs.
+/// slots. Returns the emptied vector of the jobs.
 fn lay_cycle<J: Job>(
     table: &Berths<J>,
     seat: &mut Sitting<J>,

@@ -1,8 +1,7 @@
 // What a cycle leaves, and how many cycles and notes there were.
 ghost use Rattle.std.specs.Prelude.{◌≡◌, ◌+◌, ◌≤◌, ◌<◌, ◌^◌, [], length, All};
 ghost use Rattle.std.specs.Vec.{vec_capacity};
-ghost use Rattle.cs_row.specs.Kept.{CutAlike};
-ghost use Rattle.cs_row.specs.Laws.{all_notes};
+ghost use Rattle.cs_row.specs.{Kept.CutAlike, Laws.all_notes};
 
 use cs_cells::Job;
 use cs_row::{Heard, Row, Rows};

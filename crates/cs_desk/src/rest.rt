@@ -5,8 +5,7 @@ ghost use Rattle.cs_board.specs.Board.{plan, name, view, graph_of, IsSeatOf, IsI
 ghost use Rattle.cs_board.specs.Resting.{IsSole, areas_in, known_in};
 ghost use Rattle.cs_cells.specs.Serial.{serial_cells, serial_jobs};
 ghost use Rattle.cs_desk.specs.inner.Resting.{IsClearing, ClearsTurns};
-ghost use Rattle.cs_board.specs.Plans.{IsPlan, places_written};
-ghost use Rattle.cs_board.specs.Views.{with_home};
+ghost use Rattle.cs_board.specs.{Plans.IsPlan, Plans.places_written, Views.with_home};
 ghost use Rattle.cs_board.specs.declared.view.Berth.TheVariants.{Vacant, Full};
 
 use crate::desk::Desk;
@@ -22,7 +21,7 @@ impl<J: Job> Desk<J> {
     ghost use Rattle.cs_desk.specs.Desk.{areas, cells, note_room, word_room};
 
     /// The jobs of the whole cycle, as the serial run leaves them, the desk with the cells as it leaves these, and the
-    /// cycle's graph. The seat is the first one, whose last claim answered None and which has joined every other seat.
+    /// cycle's graph. The seat is the first one, whose last claim returned None and which has joined every other seat.
     pub fn rest(board: Board<J>, seat: BoardSeat<J>) -> (Receipt<J>, Desk<J>, Arc<Graph, Global>)
         requires seat { IsSeatOf J.means (plan board) (name board) seat }
         requires idle { IsIdle (view seat) }

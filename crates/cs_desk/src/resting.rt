@@ -1,13 +1,11 @@
 // The table of a performance at rest, with its one seat.
-ghost use Rattle.std.specs.Prelude.{◌≡◌, ◌+◌, ◌<◌, ◌++◌, ◌∷◌, [], length, replicate, slice_index, Some, IfOk};
-ghost use Rattle.std.specs.Prelude.{OnOk, slice_get};
+ghost use Rattle.std.specs.Prelude.{◌≡◌, ◌+◌, ◌<◌, ◌++◌, ◌∷◌, [], length, replicate, slice_index, Some, IfOk, OnOk};
+ghost use Rattle.std.specs.Prelude.{slice_get};
 ghost use Rattle.cs_board.specs.Resting.{IsSole, known_in, areas_in};
 ghost use Rattle.cs_desk.specs.inner.Resting.{IsResting};
 ghost use Rattle.cs_cells.specs.Areas.{word_count};
 ghost use Rattle.cs_board.specs.Views.{laid, with_home, with_word};
-ghost use Rattle.cs_board.specs.declared.view.Berth.{Berth};
-ghost use Rattle.cs_board.specs.declared.view.Berth.TheVariants.{Vacant};
-ghost use Rattle.cs_board.specs.Opening.{each_below};
+ghost use Rattle.cs_board.specs.{declared.view.Berth.Berth, declared.view.Berth.TheVariants.Vacant, Opening.each_below};
 
 use atomic_table::{Refused, Table};
 use cs_base::{Num, OutOfMemory};
@@ -30,8 +28,8 @@ impl<J: Job> RestingTable<J> {
     ghost use Rattle.cs_desk.specs.inner.Tables.{layout_of, cells_in, slots_in, words_in};
     ghost use Rattle.cs_board.specs.Resting.{wide};
 
-    /// A table over this layout, with one word for each cell, and with room for cycles of so many
-    /// notes and edges. All cells are 0.
+    /// A table over this layout, with one word for each cell, and with room for cycles of
+    /// `notes` notes and `edges` edges. All cells are 0.
     pub(crate) fn new(
         alloc: Global,
         layout: &Layout,
@@ -87,7 +85,7 @@ fn push_zeros(words: &mut Vec<u64>, count: u64) -> Result<(), OutOfMemory>
     Ok(())
 }
 
-/// So many vacant slots.
+/// The number `count` of vacant slots.
 fn vacant_slots<J>(alloc: Global, count: u32) -> Result<Vec<Berth<J>>, OutOfMemory>
     ensures { IfOk result (λ slots. slots.items ≡ replicate count Vacant) }
 {
@@ -134,8 +132,7 @@ fn read<J: Job>(table: &Berths<J>, seat: &mut Sitting<J>, word: usize) -> u64
 /// The cells in the words of the table.
 impl<J: Job> Bank for RestingTable<J> {
     ghost use Rattle.std.specs.Prelude.{◌<◌};
-    ghost use Rattle.cs_desk.specs.Kept.{Standing};
-    ghost use Rattle.cs_desk.specs.inner.Tables.{standing_of, cells_in};
+    ghost use Rattle.cs_desk.specs.{Kept.Standing, inner.Tables.standing_of, inner.Tables.cells_in};
     ghost use Rattle.cs_cells.specs.Areas.{word_count};
 
     // The table with its rooms, and the layout.

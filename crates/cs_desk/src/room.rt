@@ -10,7 +10,7 @@ use cs_cells::{Job, Layout};
 use std::alloc::Global;
 
 impl<J: Job> Desk<J> {
-    /// Whether there is room for a cycle of so many notes and edges.
+    /// Whether there is room for a cycle of `notes` notes and `edges` edges.
     pub fn has_room(&self, notes: u32, edges: u32) -> bool
         ensures room { result ≡ true → HasRoom self.now notes edges }
         ensures only { HasRoom self.now notes edges → result ≡ true }
@@ -25,7 +25,7 @@ impl<J: Job> Desk<J> {
     }
 }
 
-/// The desk has room for cycles of so many notes and edges, over the same layout and cells.
+/// The desk has room for cycles of `notes` notes and `edges` edges, over the same layout and cells.
 pub fn make_room<J: Job + Drop>(
     alloc: Global,
     layout: &Layout,
@@ -46,7 +46,7 @@ pub fn make_room<J: Job + Drop>(
     Ok(())
 }
 
-/// A desk over the layout and the cells of another, with room for cycles of twice so many notes and edges.
+/// A desk over the layout and the cells of another, with room for cycles of twice as many notes and edges.
 fn larger<J: Job>(
     alloc: Global,
     layout: &Layout,

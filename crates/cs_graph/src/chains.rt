@@ -1,7 +1,6 @@
 // The edges of a cycle, chained by the note that they leave.
 ghost use Rattle.std.specs.Prelude.{◌≡◌, ◌+◌, ◌<◌, ◌^◌, length, IfOk};
-ghost use Rattle.cs_graph.specs.Graph.{LeadsForward};
-ghost use Rattle.cs_graph.specs.inner.Index.{IsChained};
+ghost use Rattle.cs_graph.specs.{Graph.LeadsForward, inner.Index.IsChained};
 
 use cs_base::OutOfMemory;
 use std::alloc::Global;

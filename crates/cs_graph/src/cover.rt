@@ -1,10 +1,8 @@
 // How many chains along edges cover the notes of a cycle.
 ghost use Rattle.cs_base.specs.Limits.{most_notes};
 ghost use Rattle.std.specs.Prelude.{◌≡◌, ◌<◌, ◌≤◌, ℕ, length, IfOk, IfSome, IfNone};
-ghost use Rattle.cs_graph.specs.Cover.{HasCover};
-ghost use Rattle.cs_graph.specs.Graph.{Edge, LeadsForward};
-ghost use Rattle.cs_graph.specs.inner.Covering.{IsFree, AreTaken};
-ghost use Rattle.cs_graph.specs.inner.Index.{AreInto, range_at};
+ghost use Rattle.cs_graph.specs.{Cover.HasCover, Graph.Edge, Graph.LeadsForward, inner.Covering.IsFree};
+ghost use Rattle.cs_graph.specs.{inner.Covering.AreTaken, inner.Index.AreInto, inner.Index.range_at};
 
 use cs_base::OutOfMemory;
 use std::alloc::Global;

@@ -2,8 +2,7 @@
 ghost use Rattle.cs_base.specs.Limits.{most_notes};
 ghost use Rattle.std.specs.Prelude.{◌≡◌, ◌<◌, ◌≤◌, ℕ, List, length, OnOk};
 ghost use Rattle.std.specs.List.{All, AllPairs};
-ghost use Rattle.cs_graph.specs.Graph.{ComesBefore};
-ghost use Rattle.cs_graph.specs.inner.Growing.{AreDrawnTo};
+ghost use Rattle.cs_graph.specs.{Graph.ComesBefore, inner.Growing.AreDrawnTo};
 
 use crate::note_set::{BLOCK, NoteSet};
 use cs_base::OutOfMemory;

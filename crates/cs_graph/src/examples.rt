@@ -1,7 +1,6 @@
 // A cycle worked out.
-ghost use Rattle.cs_graph.specs.Conflict.{Conflict, Near};
+ghost use Rattle.cs_graph.specs.{Conflict.Conflict, Conflict.Near, Graph.IsGraphOf};
 ghost use Rattle.cs_graph.specs.Examples.{small_cycle, small_graph};
-ghost use Rattle.cs_graph.specs.Graph.{IsGraphOf};
 
 /// A cycle by hand: a note that writes a resource, two that read it, and one that writes it again.
 /// It does nothing: its clauses are what the definitions give there.

@@ -1,12 +1,10 @@
 // The graph of a control cycle's jobs, by their footprints.
 ghost use Rattle.cs_base.specs.Limits.{most_notes};
-ghost use Rattle.std.specs.Prelude.{◌≡◌, ◌*◌, ◌+◌, ◌<◌, ◌≤◌, ◌↔◌, ℕ, List, length, slice_index};
-ghost use Rattle.std.specs.Prelude.{IfOk, IfSome, IfNone};
+ghost use Rattle.std.specs.Prelude.{◌≡◌, ◌*◌, ◌+◌, ◌<◌, ◌≤◌, ◌↔◌, ℕ, List, length, slice_index, IfOk, IfSome, IfNone};
 ghost use Rattle.std.specs.List.{AllPairs};
 ghost use Rattle.cs_graph.specs.Graph.{IsGraphOf, IsFit, IsLevelled, Edge, ComesBefore, LeadsForward, StandTogether};
 ghost use Rattle.cs_graph.specs.Graph.{IsNextOut, NoneOut, NoneIn};
-ghost use Rattle.cs_graph.specs.Cover.{HasCover, AreApart};
-ghost use Rattle.cs_graph.specs.inner.Index.{AreEnds};
+ghost use Rattle.cs_graph.specs.{Cover.HasCover, Cover.AreApart, inner.Index.AreEnds};
 
 use crate::chains::chained;
 use crate::cover::count_chains;
@@ -35,8 +33,7 @@ pub struct Graph {
 }
 
 impl Model for Graph {
-    ghost use Rattle.cs_graph.specs.Graph.{Dependencies};
-    ghost use Rattle.cs_graph.specs.inner.Index.{IsStored};
+    ghost use Rattle.cs_graph.specs.{Graph.Dependencies, inner.Index.IsStored};
 
     ghost Value = { Dependencies };
 
@@ -181,10 +178,6 @@ impl Graph {
         ensures some { IfSome result (λ e. (e ≡ edge) × (e < length self.now.edges)) }
         ensures none { IfNone result (length self.now.edges ≤ edge) }
     {
-        if edge < self.edge_count() {
-            Some(edge)
-        } else {
-            None
-        }
+        (edge < self.edge_count()).then_some(edge)
     }
 }

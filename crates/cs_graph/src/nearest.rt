@@ -1,8 +1,7 @@
 // At one note: which of the earlier notes that it meets are nearest, which lead to it, and its level.
 ghost use Rattle.cs_base.specs.Limits.{most_notes};
 ghost use Rattle.std.specs.Prelude.{◌≡◌, ◌==◌, ◌||◌, ◌&&◌, not, ℕ, ◌<◌, ◌≤◌, ◌+◌, true, false, max, length};
-ghost use Rattle.cs_graph.specs.inner.Nearest.{IsClosed, IsFound};
-ghost use Rattle.cs_graph.specs.inner.Sets.{has};
+ghost use Rattle.cs_graph.specs.{inner.Nearest.IsClosed, inner.Nearest.IsFound, inner.Sets.has};
 
 use crate::note_set::{BLOCK, NoteSet};
 use std::cmp::max;

@@ -2,8 +2,7 @@
 ghost use Rattle.cs_base.specs.Limits.{most_notes};
 ghost use Rattle.std.specs.Prelude.{◌≡◌, ◌==◌, ◌≢◌, ◌&&◌, ◌||◌, ◌↔◌, ◌+◌, ℕ, ◌<◌, true, false, length, IfOk, OnOk};
 ghost use Rattle.std.specs.List.{list_any};
-ghost use Rattle.cs_graph.specs.Conflict.{Clash, foot};
-ghost use Rattle.cs_graph.specs.inner.Sets.{has};
+ghost use Rattle.cs_graph.specs.{Conflict.Clash, Conflict.foot, inner.Sets.has};
 ghost use Rattle.cs_graph.specs.inner.Touched.{uses_so_far, writes_so_far, meets_so_far, IsTouchedBy};
 
 use crate::note_set::NoteSet;
@@ -31,23 +30,6 @@ impl Sharers {
             writers: NoteSet::new(),
         }
     }
-
-    fn add_user(&mut self, note: u32)
-        requires { note < most_notes }
-        ensures users { (p : ℕ) → has self.new.users p ≡ (has self.old.users p || p == note) }
-        ensures writers { self.new.writers ≡ self.old.writers }
-    {
-        self.users.insert(note);
-    }
-
-    fn add_writer(&mut self, note: u32)
-        requires { note < most_notes }
-        ensures users { (p : ℕ) → has self.new.users p ≡ (has self.old.users p || p == note) }
-        ensures writers { (p : ℕ) → has self.new.writers p ≡ (has self.old.writers p || p == note) }
-    {
-        self.add_user(note);
-        self.writers.insert(note);
-    }
 }
 
 // The note uses the place, and so meets the place's writers so far; or it writes the place, and meets its users.
@@ -68,11 +50,11 @@ fn touch_place(
     let sharers = by_place.entry(place)?.or_insert(Sharers::new());
     if writes {
         met.join(&sharers.users);
-        sharers.add_writer(note);
+        sharers.writers.insert(note);
     } else {
         met.join(&sharers.writers);
-        sharers.add_user(note);
     }
+    sharers.users.insert(note);
     Ok(())
 }
 

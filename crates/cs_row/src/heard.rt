@@ -1,8 +1,7 @@
 // What a job gives to be heard.
 ghost use Rattle.std.specs.Prelude.{◌≡◌, ◌<◌, ◌≤◌, ◌*◌, ℕ, ℤ, length, All};
 ghost use Rattle.cs_base.specs.Limits.{most_notes};
-ghost use Rattle.cs_row.specs.Heard.{AreSumsOf, sums};
-ghost use Rattle.cs_row.specs.HeardFrames.{KeepsShape};
+ghost use Rattle.cs_row.specs.{Heard.AreSumsOf, Heard.sums, HeardFrames.KeepsShape};
 
 use cs_cells::Job;
 

@@ -2,8 +2,7 @@
 ghost use Rattle.std.specs.Prelude.{◌≡◌, ◌<◌, ℕ, List, map, All};
 ghost use Rattle.cs_base.specs.Numbers.{total};
 ghost use Rattle.cs_cells.specs.Cells.{Cells};
-ghost use Rattle.cs_row.specs.Heard.{HeardRow, sum_at};
-ghost use Rattle.cs_row.specs.Laws.{ConflictByRow, RunsAsNotes};
+ghost use Rattle.cs_row.specs.{Heard.HeardRow, Heard.sum_at, Laws.ConflictByRow, Laws.RunsAsNotes};
 ghost use Rattle.cs_row.specs.Rows.{IsFree, IsRow, notes_in};
 
 use crate::heard::Heard;

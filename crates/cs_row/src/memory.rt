@@ -1,10 +1,8 @@
 // The memory of rows, their filling and emptying.
 ghost use Rattle.std.specs.Prelude.{◌≡◌, ◌≤◌, ◌<◌, ◌+◌, ◌-◌, ◌++◌, ℕ, [], length, take, map, reverse, All, OnOk};
 ghost use Rattle.std.specs.Vec.{vec_len, vec_capacity};
-ghost use Rattle.cs_row.specs.Cuts.{AreFilling, AreRowsOf, IsCut};
-ghost use Rattle.cs_row.specs.Kept.{CutAlike, HasMemory, IsFillable, cuts};
-ghost use Rattle.cs_row.specs.Laws.{all_notes, jobs_of};
-ghost use Rattle.cs_row.specs.Rooms.{IsEmptied, IsWide};
+ghost use Rattle.cs_row.specs.{Cuts.AreFilling, Cuts.AreRowsOf, Cuts.IsCut, Kept.CutAlike, Kept.HasMemory};
+ghost use Rattle.cs_row.specs.{Kept.IsFillable, Kept.cuts, Laws.all_notes, Laws.jobs_of, Rooms.IsEmptied, Rooms.IsWide};
 
 use crate::heard::Heard;
 use crate::row::{Row, RowRoom};

@@ -1,7 +1,6 @@
 // Jobs that run one after another.
 ghost use Rattle.std.specs.Prelude.{◌≡◌, ◌+◌, ◌<◌, ◌^◌, length};
-ghost use Rattle.cs_cells.specs.Meaning.{Uses, Writes};
-ghost use Rattle.cs_cells.specs.Serial.{serial_cells, serial_jobs};
+ghost use Rattle.cs_cells.specs.{Meaning.Uses, Meaning.Writes, Serial.serial_cells, Serial.serial_jobs};
 ghost use Rattle.cs_row.specs.Rows.{EachWithin};
 
 use cs_cells::{Bank, Job};

@@ -2,11 +2,9 @@
 ghost use Rattle.std.specs.Prelude.{◌≡◌, ◌+◌, ◌<◌, ◌≤◌, ◌*◌, ◌^◌, ◌++◌, ℕ, [], length, All, IfOk};
 ghost use Rattle.std.specs.Vec.{vec_len, vec_capacity};
 ghost use Rattle.cs_base.specs.Limits.{most_notes};
-ghost use Rattle.cs_cells.specs.Meaning.{Uses, Writes};
-ghost use Rattle.cs_cells.specs.Serial.{serial_cells, serial_jobs};
+ghost use Rattle.cs_cells.specs.{Meaning.Uses, Meaning.Writes, Serial.serial_cells, Serial.serial_jobs};
 ghost use Rattle.cs_row.specs.Heard.{AreSumsOf, IsHeardRow, sums};
-ghost use Rattle.cs_row.specs.Rooms.{IsEmptied};
-ghost use Rattle.cs_row.specs.Rows.{IsRow, row_job};
+ghost use Rattle.cs_row.specs.{Rooms.IsEmptied, Rows.IsRow, Rows.row_job};
 
 use crate::heard::Heard;
 use crate::order::run_in_order;
@@ -97,12 +95,7 @@ impl<'g, J: Heard, G> Row<'g, J, G> {
         ensures capacity { vec_capacity notes.old ≤ vec_capacity notes.new }
         ensures room { (result.notes.items ≡ []) × (result.sum.items ≡ self.entry.sum) }
     {
-        let Row {
-            mut room,
-            gate: _,
-            cycle: _,
-            first: _,
-        } = self;
+        let Row { mut room, .. } = self;
         let Ok(()) = notes.append(&mut room.notes) else {
             unreachable!()
         };
@@ -111,8 +104,7 @@ impl<'g, J: Heard, G> Row<'g, J, G> {
 }
 
 impl<'g, J: Heard, G: Gate> Job for Row<'g, J, G> {
-    ghost use Rattle.cs_row.specs.Heard.{heard_job};
-    ghost use Rattle.cs_row.specs.HeardFrames.{heard_frames};
+    ghost use Rattle.cs_row.specs.{Heard.heard_job, HeardFrames.heard_frames};
 
     ghost means = { heard_job J.Job.means J.shape J.gives };
 

@@ -2,9 +2,7 @@
 ghost use Rattle.std.specs.Prelude.{◌≡◌, ◌≤◌, ◌*◌, ◌/◌, List, [], length, map, max, All, IfOk, OnOk};
 ghost use Rattle.cs_base.specs.Limits.{most_notes};
 ghost use Rattle.cs_cells.specs.declared.footprint.Area.{Area};
-ghost use Rattle.cs_row.specs.Cuts.{AreRowsOf, IsCut};
-ghost use Rattle.cs_row.specs.Rooms.{IsEmptied};
-ghost use Rattle.cs_row.specs.Rows.{row_foot};
+ghost use Rattle.cs_row.specs.{Cuts.AreRowsOf, Cuts.IsCut, Rooms.IsEmptied, Rows.row_foot};
 
 use crate::cut::cut_notes;
 use crate::heard::Heard;

@@ -1,9 +1,7 @@
 // What the notes of a cycle give together, from the sums of their rows.
 ghost use Rattle.std.specs.Prelude.{◌≡◌, ◌≤◌, ◌<◌, ◌+◌, ◌+ℤ◌, ℕ, pos, slice_index_or, length, map, All};
-ghost use Rattle.cs_base.specs.Limits.{most_notes};
-ghost use Rattle.cs_base.specs.Numbers.{total};
-ghost use Rattle.cs_row.specs.Heard.{AreSumsOf, IsSumOf};
-ghost use Rattle.cs_row.specs.Laws.{all_notes};
+ghost use Rattle.cs_base.specs.{Limits.most_notes, Numbers.total};
+ghost use Rattle.cs_row.specs.{Heard.AreSumsOf, Heard.IsSumOf, Laws.all_notes};
 
 use crate::heard::Heard;
 use crate::row::Row;

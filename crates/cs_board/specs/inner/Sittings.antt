@@ -1,5 +1,5 @@
 -- A seat in the midst of a call.
-use Rattle.std.specs.Prelude.{◌≡◌, ◌≢◌, ℕ, ◌+◌, ◌<◌, ◌≤◌, [], Bool, true, false, cond, Option, Some, None}
+use Rattle.std.specs.Prelude.{◌≡◌, ℕ, ◌+◌, ◌<◌, ◌≤◌, [], Bool, true, false, cond, Option, Some, None}
 use Rattle.atomic_table.specs.declared.shared.Seat.{Seat}
 use Rattle.cs_board.specs.Board.{plan, IsViewOf, IsIdle, SameSeat, FoundSince}
 use Rattle.cs_board.specs.{declared.board.Board.Board, Facts.owed, Plans.IsPlan, Plans.before_at, Views.began}
@@ -60,10 +60,6 @@ module _ {J : Type 0} where
   -- each note from `from` on and below `to` was tried and found other than Available
   abbrev pub AllTried : View J → View J → ℕ → ℕ → Type 0
   AllTried v w from to = (t : ℕ) → from ≤ t → t < to → FoundSince v.tries w t × (owed t w ≡ 0)
-
-  -- and so was each but for one of them
-  abbrev pub AllBut : ℕ → View J → View J → ℕ → ℕ → Type 0
-  AllBut but v w from to = (t : ℕ) → t ≢ but → from ≤ t → t < to → FoundSince v.tries w t × (owed t w ≡ 0)
 
   -- the seat has nothing to do and owes nothing, and since the first view it tried each note and found it other than
   -- Available
