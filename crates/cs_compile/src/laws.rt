@@ -1,11 +1,8 @@
 // What holds of the meaning of every two texts: calls that do nothing, whose contracts are the laws.
 ghost use Rattle.std.specs.Prelude.{◌≡◌, Result, Ok};
-ghost use Rattle.cs_base.specs.Lines.{Excerpt};
-ghost use Rattle.cs_base.specs.declared.head.Head.{Head};
-ghost use Rattle.cs_base.specs.declared.refusal.Refusal.{Refusal};
+ghost use Rattle.cs_base.specs.{Lines.Excerpt, declared.head.Head.Head, declared.refusal.Refusal.Refusal};
 ghost use Rattle.cs_base.specs.declared.width.SampleWidth.{SampleWidth};
-ghost use Rattle.cs_compile.specs.Calls.{MeansCalls};
-ghost use Rattle.cs_compile.specs.Meaning.{means};
+ghost use Rattle.cs_compile.specs.{Calls.MeansCalls, Meaning.means};
 ghost use Rattle.cs_piece_meaning.specs.Moments.{Composition};
 ghost use Rattle.cs_typed.specs.TypedTree.{header_of_head};
 

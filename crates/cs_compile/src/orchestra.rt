@@ -13,8 +13,7 @@ ghost use Rattle.cs_piece.specs.Setups.{AskForFew};
 ghost use Rattle.cs_typed.specs.TypedTree as typed;
 ghost use Rattle.cs_typed.specs.WellRated.{IsWellRated};
 ghost use Rattle.cs_typing.specs.Typing.{typed_of};
-ghost use Rattle.cs_udo.specs.Expanded.{expanded_orchestra};
-ghost use Rattle.cs_udo.specs.Ready.{IsReady};
+ghost use Rattle.cs_udo.specs.{Expanded.expanded_orchestra, Ready.IsReady};
 
 use cs_base::{Excerpt, Or, Refusal};
 use cs_grammar::{Orc, parse, trees_are_well_formed};

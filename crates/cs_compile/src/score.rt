@@ -4,8 +4,7 @@ ghost use Rattle.cs_base.specs.Limits.{most_score_bytes};
 ghost use Rattle.cs_base.specs.declared.fault.Or.TheVariants as or;
 ghost use Rattle.cs_base.specs.declared.refusal.Refusal.{Refusal};
 ghost use Rattle.cs_compile.specs.Meaning.{plotted, score_means};
-ghost use Rattle.cs_score.specs.Limits.{limit_of_score};
-ghost use Rattle.cs_score.specs.Ranges.{IsInRange};
+ghost use Rattle.cs_score.specs.{Limits.limit_of_score, Ranges.IsInRange};
 ghost use Rattle.cs_piece.specs.Setups.{AreOfOneSize};
 ghost use Rattle.cs_tempo.specs.Performable.{IsPerformable};
 

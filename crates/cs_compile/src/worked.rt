@@ -6,8 +6,7 @@ ghost use Rattle.cs_base.specs.declared.refusal.Refusal.TheVariants as why;
 ghost use Rattle.cs_base.specs.declared.width.SampleWidth.{SampleWidth};
 ghost use Rattle.cs_compile.specs.Meaning.{means};
 ghost use Rattle.cs_compile.specs.Worked.{fourth_field, note_of_100, stray_byte, whole};
-ghost use Rattle.cs_piece_meaning.specs.Heard.{frames_of};
-ghost use Rattle.cs_piece_meaning.specs.Moments.{Composition};
+ghost use Rattle.cs_piece_meaning.specs.{Heard.frames_of, Moments.Composition};
 
 /// A note of a quarter of a second, at eight frames a second, is two frames of its fourth field; and an orchestra is
 /// refused for a byte that begins no token, with its line in the file, before its score is looked at.

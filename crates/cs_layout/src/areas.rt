@@ -1,7 +1,6 @@
 // The layout of a piece.
-ghost use Rattle.std.specs.List.{flat_map};
+ghost use Rattle.std.specs.{List.flat_map, Prelude.Err, Prelude.OnOk};
 ghost use Rattle.std.specs.Prelude.{◌≡◌, ◌<◌, ◌≤◌, ◌+◌, ◌*◌, ◌^◌, ◌++◌, length, sum_by, IfErr, IfNone, IfOk, IfSome};
-ghost use Rattle.std.specs.Prelude.{Err, OnOk};
 ghost use Rattle.cs_base.specs.Limits.{most_resources, most_words};
 ghost use Rattle.cs_base.specs.declared.fault.Or.TheVariants as or;
 ghost use Rattle.cs_cells.specs.Areas.{limit_passed};
@@ -33,8 +32,7 @@ pub fn layout(
     live: &[LiveTable],
 ) -> Result<Layout, Or<LimitHit>>
     requires { AreApart live.now }
-    ensures areas { IfOk result (λ l. l ≡ areas_of ksmps (shared_names globals.now)
-        spaces live.now) }
+    ensures areas { IfOk result (λ l. l ≡ areas_of ksmps (shared_names globals.now) spaces live.now) }
     ensures limit { IfSome (limit_passed (areas_of ksmps (shared_names globals.now)
         spaces live.now)) (λ h. result ≡ Err (or.Fault h)) }
     // Within the limits the one error is out of memory.

@@ -1,13 +1,9 @@
 // What holds of every layout of a piece: calls that do nothing, whose contracts are the laws.
 ghost use Rattle.std.specs.Prelude.{ℕ, ◌≡◌, ◌<◌, List, Some, true};
-ghost use Rattle.std.specs.List.{All};
-ghost use Rattle.std.specs.Option.{is_some};
+ghost use Rattle.std.specs.{List.All, Option.is_some};
 ghost use Rattle.cs_machine.specs.Access.{AreSpaces, spaces_of};
-ghost use Rattle.cs_base.specs.Rates.{res_rate};
-ghost use Rattle.cs_base.specs.declared.resource.Res.{Res};
-ghost use Rattle.cs_cells.specs.Areas.{IsLaid};
-ghost use Rattle.cs_cells.specs.declared.footprint.Area.{Area};
-ghost use Rattle.cs_base.specs.declared.spaces.Spaces.{Spaces};
+ghost use Rattle.cs_base.specs.{Rates.res_rate, declared.resource.Res.Res, declared.spaces.Spaces.Spaces};
+ghost use Rattle.cs_cells.specs.{Areas.IsLaid, declared.footprint.Area.Area};
 ghost use Rattle.cs_ir.specs.Validity.{has_value};
 ghost use Rattle.cs_layout.specs.Layouts.{AreApart, AreLive, AreOfPiece, areas_of, is_shared};
 ghost use Rattle.cs_layout.specs.declared.areas.LiveTable.{LiveTable};

@@ -1,7 +1,6 @@
 // Areas as values over a control cycle, a cell a frame.
 ghost use Rattle.std.specs.Prelude.{◌≡◌, ◌+◌, ◌<◌, ◌≤◌, length, slice_set, Some};
-ghost use Rattle.cs_machine.specs.Access.{CanTouch};
-ghost use Rattle.cs_machine.specs.Rows.{HasFrames, row_wave};
+ghost use Rattle.cs_machine.specs.{Access.CanTouch, Rows.HasFrames, Rows.row_wave};
 ghost use Rattle.cs_base.specs.declared.resource.Rate.TheVariants as rate;
 ghost use Rattle.cs_cells.specs.Cells.{cell};
 ghost use Rattle.cs_ir.specs.Waves.{constant, silence};

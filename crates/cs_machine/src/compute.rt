@@ -1,10 +1,8 @@
 // What operators and functions make of registers. Each call writes one register, as it is kept at its rate.
 ghost use Rattle.std.specs.Prelude.{◌≡◌, false, true, length};
 ghost use Rattle.cs_base.specs.Rates.{is_audio};
-ghost use Rattle.cs_ir.specs.Registers.{rate_at};
-ghost use Rattle.cs_ir.specs.Validity.{has_register};
+ghost use Rattle.cs_ir.specs.{Registers.rate_at, Validity.has_register, Waves.both, Waves.chosen};
 ghost use Rattle.cs_ir.specs.Values.{applied, negated};
-ghost use Rattle.cs_ir.specs.Waves.{both, chosen};
 ghost use Rattle.cs_machine.specs.Registers.{IsWritten, values};
 
 use crate::pairs::{combine_row, negate_row};

@@ -2,10 +2,8 @@
 ghost use Rattle.std.specs.Prelude.{◌≡◌, ◌<◌, ◌≤◌, ℕ, [], ◌∷◌, length, map, slice_index_or, true};
 ghost use Rattle.std.specs.List.{All, list_all};
 ghost use Rattle.cs_cells.specs.Cells.{cell};
-ghost use Rattle.cs_ir.specs.Placed.{regs_read};
-ghost use Rattle.cs_ir.specs.Validity.{has_register};
-ghost use Rattle.cs_machine.specs.Players.{CanRead, SamePlayer, stepped};
-ghost use Rattle.cs_machine.specs.Registers.{values};
+ghost use Rattle.cs_ir.specs.{Placed.regs_read, Validity.has_register};
+ghost use Rattle.cs_machine.specs.{Players.CanRead, Players.SamePlayer, Players.stepped, Registers.values};
 ghost use Rattle.cs_machine.specs.inner.Gathered.{IsFirstAt, StandsAt, HoldsOperand, no_register};
 ghost use Rattle.cs_signal.specs.Operands.{Lasts};
 ghost use Rattle.cs_ugen.specs.Units.{IsUnitOpcode, moving_count, opcode_of};

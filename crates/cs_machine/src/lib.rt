@@ -1,10 +1,10 @@
 //! The machine that runs codes: what a note keeps from cycle to cycle, and the cells that notes share.
 //!
 //! The one contract: a `State` over cells stands for a machine of the world of voices (`machine_of`, specs/States), and
-//! each act here makes of it the machine that the definition of the act makes (`Does`). Contracts see registers as a
-//! value over the cycle for each register (specs/Registers), the cells of a bank as one function by address
-//! (specs/Access), and a `Player` as a unit with the points of its table (specs/Players). What touches cells touches
-//! those of its areas alone.
+//! `send`, `send_at` and `turn_off` make of it the machine that their definitions make (`Does`). Contracts see
+//! registers as a value over the cycle for each register (specs/Registers), the cells of a bank as one function by
+//! address (specs/Access), and a `Player` as a unit with the points of its table (specs/Players). What touches cells
+//! touches those of its areas alone.
 //!
 //! How registers, units and channels lie in memory, which loop fills a row, in which order cells are read and written,
 //! and how a table is read, may be changed without anyone above noticing.

@@ -1,13 +1,11 @@
 // Acts that give to the output channels, and the end of a note.
 ghost use Rattle.std.specs.Prelude.{◌≡◌, ◌<◌, [], ◌∷◌, length, true};
 ghost use Rattle.cs_base.specs.Rates.{is_audio};
-ghost use Rattle.cs_ir.specs.Registers.{rate_at};
-ghost use Rattle.cs_ir.specs.Validity.{has_register};
+ghost use Rattle.cs_ir.specs.{Registers.rate_at, Validity.has_register};
 ghost use Rattle.cs_ir.specs.declared.op.Act.TheVariants as act;
 ghost use Rattle.cs_ir.specs.declared.register.Reg.{Reg};
 ghost use Rattle.cs_meaning.specs.Pieces.{index};
-ghost use Rattle.cs_machine.specs.States.{DoesAnywhere, HasRoom};
-ghost use Rattle.cs_machine.specs.inner.Channels.{channel_below};
+ghost use Rattle.cs_machine.specs.{States.DoesAnywhere, States.HasRoom, inner.Channels.channel_below};
 
 use crate::index;
 use crate::state::State;

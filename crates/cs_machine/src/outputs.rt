@@ -3,8 +3,7 @@ ghost use Rattle.std.specs.Prelude.{◌≡◌, ◌<◌, ℕ, [], length, replica
 ghost use Rattle.cs_base.specs.Numbers.{sum_of};
 ghost use Rattle.cs_ir.specs.Waves.{both, silence};
 ghost use Rattle.cs_machine.specs.Outputs.{IsGiven, outs, refilled};
-ghost use Rattle.cs_machine.specs.Rows.{HasFrames, row_wave};
-ghost use Rattle.cs_machine.specs.inner.Kept.{AreRows};
+ghost use Rattle.cs_machine.specs.{Rows.HasFrames, Rows.row_wave, inner.Kept.AreRows};
 ghost use Rattle.cs_words.specs.declared.sign.BinOp.TheVariants as op;
 
 use crate::registers::zeros;
@@ -75,8 +74,7 @@ pub struct Outputs {
 }
 
 impl Model for Outputs {
-    ghost use Rattle.cs_machine.specs.Outputs.{ChannelFile};
-    ghost use Rattle.cs_machine.specs.inner.Kept.{AreRows};
+    ghost use Rattle.cs_machine.specs.{Outputs.ChannelFile, inner.Kept.AreRows};
 
     ghost Value = { ChannelFile };
 

@@ -5,10 +5,8 @@
 // more than 32 bits, the loop of the definition makes the products anew.
 ghost use Rattle.std.specs.Prelude.{◌≡◌, ◌<◌, ◌≤◌, ◌^◌, ◌*ℤ◌, ℕ, length, true, unsigned_abs};
 ghost use Rattle.cs_base.specs.Numbers.{IsRaw, product_of};
-ghost use Rattle.cs_ir.specs.Values.{negated};
-ghost use Rattle.cs_ir.specs.Waves.{both};
-ghost use Rattle.cs_machine.specs.Rows.{HasFrames};
-ghost use Rattle.cs_machine.specs.inner.Narrow.{AreNarrow, IsNarrow, IsShort};
+ghost use Rattle.cs_ir.specs.{Values.negated, Waves.both};
+ghost use Rattle.cs_machine.specs.{Rows.HasFrames, inner.Narrow.AreNarrow, inner.Narrow.IsNarrow, inner.Narrow.IsShort};
 ghost use Rattle.cs_signal.specs.Operands.{Lasts, operand_at};
 ghost use Rattle.cs_words.specs.declared.sign.BinOp.TheVariants as op;
 

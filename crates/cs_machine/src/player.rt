@@ -5,10 +5,8 @@ ghost use Rattle.cs_cells.specs.Cells.{cell};
 ghost use Rattle.cs_ir.specs.Resources.{reaches};
 ghost use Rattle.cs_machine.specs.Players.{CanRead, SamePlayer, curve_at, has_table};
 ghost use Rattle.cs_gen.specs.Points.{len_of};
-ghost use Rattle.cs_ugen.specs.Points.{is_len};
-ghost use Rattle.cs_signal.specs.Operands.{Lasts};
-ghost use Rattle.cs_signal.specs.Steps.{run};
-ghost use Rattle.cs_ugen.specs.Units.{inputs_at, moving_count, opcode_of, unit_step};
+ghost use Rattle.cs_ugen.specs.{Points.is_len, Units.inputs_at, Units.moving_count, Units.opcode_of, Units.unit_step};
+ghost use Rattle.cs_signal.specs.{Operands.Lasts, Steps.run};
 
 use crate::live::LiveTable;
 use cs_base::Num;
@@ -35,8 +33,7 @@ pub struct Player<'t> {
 }
 
 impl<'t> Model for Player<'t> {
-    ghost use Rattle.cs_machine.specs.Players.{PlayerData};
-    ghost use Rattle.cs_machine.specs.Readings.{area_in, points_in};
+    ghost use Rattle.cs_machine.specs.{Players.PlayerData, Readings.area_in, Readings.points_in};
 
     ghost Value = { PlayerData };
 

@@ -3,8 +3,7 @@ ghost use Rattle.std.specs.Prelude.{◌≡◌, ◌<◌, ◌-◌, ℕ, [], length
 ghost use Rattle.std.specs.Prelude.{false, true};
 ghost use Rattle.cs_base.specs.Rates.{is_audio};
 ghost use Rattle.cs_ir.specs.Registers.{kind_number, rate_at, rate_of};
-ghost use Rattle.cs_ir.specs.Validity.{has_register};
-ghost use Rattle.cs_ir.specs.Waves.{Wave, constant, silence};
+ghost use Rattle.cs_ir.specs.{Validity.has_register, Waves.Wave, Waves.constant, Waves.silence};
 ghost use Rattle.cs_machine.specs.Registers.{IsWritten, filled, values};
 ghost use Rattle.cs_machine.specs.Rows.{HasFrames, row_wave};
 ghost use Rattle.cs_signal.specs.Operands.{Lasts, operand_at};
@@ -31,8 +30,7 @@ pub struct Registers {
 
 impl Model for Registers {
     ghost use Rattle.std.specs.Prelude.{map};
-    ghost use Rattle.cs_machine.specs.Registers.{RegisterFile};
-    ghost use Rattle.cs_machine.specs.inner.Kept.{AreKept};
+    ghost use Rattle.cs_machine.specs.{Registers.RegisterFile, inner.Kept.AreKept};
 
     ghost Value = { RegisterFile };
 

@@ -1,7 +1,6 @@
 // Loops over the frames of a control cycle.
 ghost use Rattle.std.specs.Prelude.{◌≡◌, length};
-ghost use Rattle.cs_ir.specs.Values.{applied};
-ghost use Rattle.cs_ir.specs.Waves.{constant};
+ghost use Rattle.cs_ir.specs.{Values.applied, Waves.constant};
 ghost use Rattle.cs_machine.specs.Rows.{HasFrames};
 ghost use Rattle.cs_signal.specs.Operands.{Lasts, operand_at};
 

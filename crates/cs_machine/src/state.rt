@@ -3,8 +3,7 @@ ghost use Rattle.std.specs.Prelude.{◌≡◌, ℕ, ℤ, List, [], None, replica
 ghost use Rattle.cs_cells.specs.declared.footprint.Area.{Area};
 ghost use Rattle.cs_ir.specs.Machine.{new_machine};
 ghost use Rattle.cs_meaning.specs.Pieces.{Piece};
-ghost use Rattle.cs_voice_meaning.specs.Follows.{Kinds};
-ghost use Rattle.cs_voice_meaning.specs.VoiceWorld.{fresh_voice};
+ghost use Rattle.cs_voice_meaning.specs.{Follows.Kinds, VoiceWorld.fresh_voice};
 ghost use Rattle.cs_machine.specs.States.{IsStateIn, machine_of};
 
 use crate::registers::zeros;

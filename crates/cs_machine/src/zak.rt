@@ -3,12 +3,10 @@ ghost use Rattle.std.specs.Prelude.{◌≡◌, ◌≤◌, ◌<◌, ◌&&◌, ℕ
 ghost use Rattle.cs_base.specs.Rates.{same_res};
 ghost use Rattle.cs_machine.specs.Access.{AreSpaces, CanTouch, spaces_of};
 ghost use Rattle.cs_machine.specs.inner.Numbers.{cleared_in, end_of, from_of};
-ghost use Rattle.cs_cells.specs.Cells.{cell};
-ghost use Rattle.cs_cells.specs.declared.footprint.Area.{Area};
+ghost use Rattle.cs_cells.specs.{Cells.cell, declared.footprint.Area.Area};
 ghost use Rattle.cs_ir.specs.Resources.{places_of, reaches, zak_place};
 ghost use Rattle.cs_meaning.specs.Pieces.{Piece, is_cleared};
-ghost use Rattle.cs_voice_meaning.specs.Placing.{area_of};
-ghost use Rattle.cs_voice_meaning.specs.VoiceWorld.{lies_cleared};
+ghost use Rattle.cs_voice_meaning.specs.{Placing.area_of, VoiceWorld.lies_cleared};
 
 use crate::area_rows::clear;
 use crate::places::{area_in, index};

@@ -14,6 +14,7 @@ use Rattle.cs_tempo.specs.declared.plot.Event.{Event}
 use Rattle.cs_voice.specs.declared.stage.PieceTable.{PieceTable}
 use Rattle.cs_piece.specs.{Compositions.live_in, declared.tables.Firsts.Firsts, declared.tables.GivenTable.GivenTable}
 use Rattle.cs_piece.specs.Tables.{Given, ascending, firsts, given_in, put_in, table_in, table_of, tables_in}
+use Rattle.cs_piece.specs.declared.tables.Times.{Times}
 use Rattle.cs_piece.specs.inner.Marked.{Differ, Marks, NoneHas, StandFor, given_of, table_by}
 use Rattle.cs_piece.proofs.Apart.{differ_map, firsts_differ, live_apart}
 use Rattle.cs_typed.specs.TypedTree as typed
@@ -264,7 +265,7 @@ up_mapped (t ∷ ts) up i j e le l =
 -- THE TABLES OF A PLOT
 
 -- those that are made of what was given first
-by_given : (times : List ℕ) (w : Marks) (xs : List GivenTable)
+by_given : (times : List Times) (w : Marks) (xs : List GivenTable)
     → map (λ x. table_by times w (given_of x)) xs ≡ map (table_by times w) (map given_of xs)
 by_given times w [] = refl
 by_given times w (x ∷ xs) = ap (λ (l : List Table). table_by times w (given_of x) ∷ l) (by_given times w xs)

@@ -8,7 +8,9 @@ use Rattle.std.proofs.lemmas.{List.Sums.sum_by-append, List.Elements.filter-appe
 use Rattle.cs_base.proofs.Tests.{by_test}
 use Rattle.cs_piece.specs.Tables.{Given, firsts, times_given}
 use Rattle.cs_piece.specs.{declared.tables.GivenTable.GivenTable, declared.tables.Firsts.Firsts}
+use Rattle.cs_piece.specs.declared.tables.Times.{Times}
 use Rattle.cs_piece.specs.inner.Marked.{StandFor, as_times, given_of, numbers_end, times_at}
+use Rattle.cs_piece.specs.declared.tables.Times.TheVariants as times
 
 -- a test whose answer is known
 cond_yes : {A : Type 0} (b : Bool) (x y : A) → b ≡ true → cond b x y ≡ x
@@ -91,65 +93,62 @@ not_first (x ∷ gs) g l = by_test (x.number == g.number)
     (not_first gs g (some_later (x.number == g.number) (times_given g.number gs) e
     (subst (λ m. 0 < m) (before g.number x gs) l))))
 
--- what stands for what was given, with one table more
-pub times_more : (ts : List ℕ) (gs : List Given) (g : Given) → g.number < length ts
-    → ((n : ℕ) → n < numbers_end → times_at ts n ≡ as_times (times_given n gs))
-    → (t : ℕ) → t ≡ as_times (times_at ts g.number + 1) → g.number < numbers_end
-    → (n : ℕ) → n < numbers_end → times_at (slice_set ts g.number t) n ≡ as_times (times_given n (gs ++ g ∷ []))
-times_more ts gs g within h t is low n l = ⊎_elim
-    (λ (e : n ≡ g.number). subst (λ m. times_at (slice_set ts g.number t) m ≡ as_times (times_given m (gs ++ g ∷ [])))
-    (sym e)
-    (let same : t ≡ as_times (times_given g.number (gs ++ g ∷ [])) =
-    omega (arith, is, h g.number low, given_here gs g) in get_or-set_same ts g.number t 0 within ∙ same))
-    (λ (e : n ≡ g.number → ⊥). get_or-set_other ts g.number n t 0 e ∙ h n l
-    ∙ ap as_times (sym (given_else n gs g (λ f. e (sym f)))))
-    (cases_eq n g.number)
+-- how often a number is given, by what is told of it
+never_is : (m : ℕ) → as_times m ≡ times.Never → m ≡ 0
+never_is zero e = refl
+never_is (suc zero) e = absurd cc
+never_is (suc (suc m)) e = absurd cc
 
-pub firsts_more : (xs : List GivenTable) (x : GivenTable) (gs : List Given) (t : ℕ) → map given_of xs ≡ firsts gs
-    → t ≡ as_times (times_given (given_of x).number gs) → t ≡ 0
-    → map given_of (xs ++ x ∷ []) ≡ firsts (gs ++ given_of x ∷ [])
-firsts_more xs x gs t same is never =
-    map-append given_of xs (x ∷ []) ∙ ap (λ l. l ++ given_of x ∷ []) same
-    ∙ sym (first_now gs (given_of x) (omega (arith, is, never)))
+given_is : (m : ℕ) → (as_times m ≡ times.Never → ⊥) → 0 < m
+given_is zero e = absurd (e refl)
+given_is (suc m) e = omega arith
 
-pub firsts_same : (xs : List GivenTable) (x : GivenTable) (gs : List Given) (t : ℕ) → map given_of xs ≡ firsts gs
-    → t ≡ as_times (times_given (given_of x).number gs) → 0 < t
-    → map given_of xs ≡ firsts (gs ++ given_of x ∷ [])
-firsts_same xs x gs t same is given =
-    same ∙ sym (not_first gs (given_of x) (omega (arith, is, given)))
+again_is : (m : ℕ) → 0 < m → times.Again ≡ as_times (suc m)
+again_is zero l = absurd (omega (arith, l))
+again_is (suc m) l = refl
 
 -- what stands for what was given, with one table more
-module _ (old new : Firsts) (x : GivenTable) (gs : List Given) (t u : ℕ) (stand : StandFor gs old)
+module _ (old new : Firsts) (x : GivenTable) (gs : List Given) (t u : Times) (stand : StandFor gs old)
     (long : length old.times.items ≡ numbers_end) (low : x.number < numbers_end)
-    (is : t ≡ times_at old.times.items x.number) (next : u ≡ as_times (t + 1))
+    (is : t ≡ times_at old.times.items x.number)
     (times_new : new.times.items ≡ slice_set old.times.items x.number u) where
   told : t ≡ as_times (times_given x.number gs)
   told = is ∙ stand.times_are x.number low
 
-  times_so : (n : ℕ) → n < numbers_end → times_at new.times.items n ≡ as_times (times_given n (gs ++ given_of x ∷ []))
-  times_so n l =
-      ap (λ ts. times_at ts n) times_new
-      ∙ times_more old.times.items gs (given_of x) (omega (arith, long, low)) stand.times_are u
-      (next ∙ ap (λ m. as_times (m + 1)) is) low n l
+  times_more : u ≡ as_times (suc (times_given x.number gs)) → (n : ℕ) → n < numbers_end
+      → times_at (slice_set old.times.items x.number u) n ≡ as_times (times_given n (gs ++ given_of x ∷ []))
+  times_more next n l = ⊎_elim
+      (λ (e : n ≡ x.number). subst (λ m. times_at (slice_set old.times.items x.number u) m
+      ≡ as_times (times_given m (gs ++ given_of x ∷ []))) (sym e)
+      (get_or-set_same old.times.items x.number u times.Never (omega (arith, long, low)) ∙ next
+      ∙ ap as_times (sym (given_here gs (given_of x)))))
+      (λ (e : n ≡ x.number → ⊥). get_or-set_other old.times.items x.number n u times.Never e ∙ stand.times_are n l
+      ∙ ap as_times (sym (given_else n gs (given_of x) (λ f. e (sym f)))))
+      (cases_eq n x.number)
 
-  pub stand_new : new.items.items ≡ old.items.items ++ x ∷ [] → t ≡ 0 → StandFor (gs ++ given_of x ∷ []) new
-  stand_new more never = record {
-    firsts_are = ap (map given_of) more ∙ firsts_more old.items.items x gs t stand.firsts_are told never;
-    times_are = times_so;
-  }
+  pub stand_new : new.items.items ≡ old.items.items ++ x ∷ [] → t ≡ times.Never → u ≡ times.Once
+      → StandFor (gs ++ given_of x ∷ []) new
+  stand_new more never once =
+      let none : times_given x.number gs ≡ 0 = never_is (times_given x.number gs) (sym told ∙ never) in
+      record {
+        firsts_are = ap (map given_of) more ∙ map-append given_of old.items.items (x ∷ [])
+            ∙ ap (λ l. l ++ given_of x ∷ []) stand.firsts_are ∙ sym (first_now gs (given_of x) none);
+        times_are = λ n l. ap (λ ts. times_at ts n) times_new
+            ∙ times_more (once ∙ ap (λ m. as_times (suc m)) (sym none)) n l;
+      }
 
-  pub stand_same : new.items.items ≡ old.items.items → 0 < t → StandFor (gs ++ given_of x ∷ []) new
-  stand_same same given = record {
-    firsts_are = ap (map given_of) same ∙ firsts_same old.items.items x gs t stand.firsts_are told given;
-    times_are = times_so;
-  }
+  pub stand_same : new.items.items ≡ old.items.items → (t ≡ times.Never → ⊥) → u ≡ times.Again
+      → StandFor (gs ++ given_of x ∷ []) new
+  stand_same same given again =
+      let some : 0 < times_given x.number gs = given_is (times_given x.number gs) (λ e. given (told ∙ e)) in
+      record {
+        firsts_are = ap (map given_of) same ∙ stand.firsts_are ∙ sym (not_first gs (given_of x) some);
+        times_are = λ n l. ap (λ ts. times_at ts n) times_new
+            ∙ times_more (again ∙ again_is (times_given x.number gs) some) n l;
+      }
 
 -- an element that is there is read whatever stands for one that isn't
 pub any_default : {X : Type 0} (xs : List X) (i : ℕ) (d e : X) → i < length xs → get_or xs i d ≡ get_or xs i e
 any_default [] i d e l = absurd (omega (arith, l))
 any_default (x ∷ xs) zero d e l = refl
 any_default (x ∷ xs) (suc i) d e l = any_default xs i d e (omega (arith, l))
-
-pub some_of : (t : ℕ) → (t ≡ 0 → ⊥) → 0 < t
-some_of zero h = absurd (h refl)
-some_of (suc t) h = omega arith

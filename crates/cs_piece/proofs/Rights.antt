@@ -1,6 +1,6 @@
 -- Which tables are found by the codes and the events is what the definitions say.
-use Rattle.std.proofs.Common.{◌≡◌, ℕ, suc, ◌==◌, ◌<◌, ◌≤◌, Bool, true, false, not, ◌&&◌, ◌||◌, List, [], ◌∷◌, ◌++◌, map}
-use Rattle.std.proofs.Common.{cond, refl, sym, ◌∙◌, ap, arith}
+use Rattle.std.proofs.Common.{◌≡◌, ℕ, zero, suc, ◌==◌, ◌<◌, ◌≤◌, Bool, true, false, not, ◌&&◌, ◌||◌, List, [], ◌∷◌}
+use Rattle.std.proofs.Common.{◌++◌, map, cond, refl, sym, ◌∙◌, ap, arith}
 use Rattle.std.specs.List.{All, AllByRecursion, AllZip, filter, list_any}
 use Rattle.std.proofs.lemmas.{Bool.ne_eqb, List.Sorted.list_any-IsPermutation}
 use Rattle.std.proofs.lemmas.List.Elements.{All-head, All-tail}
@@ -16,7 +16,7 @@ use Rattle.cs_piece.specs.Tables.{Given, firsts, given_by, given_in, is_frozen, 
 use Rattle.cs_piece.specs.Tables.{table_given, table_in, times_given}
 use Rattle.cs_piece.specs.{declared.tables.GivenTable.GivenTable, declared.tables.Firsts.Firsts}
 use Rattle.cs_piece.specs.inner.Marked.{IsRight, Marks, StandFor, as_times, codes_store, frozen_by, given_of, is_marked}
-use Rattle.cs_piece.specs.inner.Marked.{numbers_end, ops_store, table_by}
+use Rattle.cs_piece.specs.inner.Marked.{is_once, numbers_end, ops_store, table_by}
 use Rattle.cs_base.specs.declared.resource.Res.TheVariants as res
 use Rattle.cs_tempo.specs.declared.plot.EventAct.TheVariants as act
 use Rattle.cs_typed.specs.TypedTree as typed
@@ -86,17 +86,17 @@ written_as o l n are =
     ∙ any_alike n o.spaces o.head.nchnls (bodies o.instrs) are.in_text are.each
 
 -- tables by what was found
-once_as : (m : ℕ) → (as_times m == 1) ≡ (m == 1)
-once_as (suc (suc m)) =
-    ne_eqb (as_times (suc (suc m))) 1 (λ e. omega (arith, e)) ∙ sym (ne_eqb (suc (suc m)) 1 (λ e. omega (arith, e)))
-once_as _ = refl
+once_as : (m : ℕ) → is_once (as_times m) ≡ (m == 1)
+once_as zero = refl
+once_as (suc zero) = refl
+once_as (suc (suc m)) = sym (ne_eqb (suc (suc m)) 1 (λ e. omega (arith, e)))
 
 module _ (o : typed.Orchestra) (l : List Numbered) (gs : List Given) (given : Firsts) (w : Marks)
     (are : AreInstrumentsOf o l) (stand : StandFor gs given)
     (marked : (n : ℕ) → n < numbers_end → is_marked w n ≡ list_any (codes_store n) l) where
   frozen_as : (n : ℕ) → n < numbers_end → frozen_by given.times.items w n ≡ is_frozen o gs n
   frozen_as n low =
-      ap (λ b. b && not (is_marked w n)) (ap (λ m. m == 1) (stand.times_are n low) ∙ once_as (times_given n gs))
+      ap (λ b. b && not (is_marked w n)) (ap is_once (stand.times_are n low) ∙ once_as (times_given n gs))
       ∙ ap (λ b. (times_given n gs == 1) && not b) (marked n low ∙ written_as o l n are)
 
   each_as : (g : Given) → IsRight g → table_by given.times.items w g ≡ table_in o gs g

@@ -1,7 +1,7 @@
 -- What a setup is.
 use Rattle.std.specs.Prelude.{ℤ, ◌≡◌, ◌≤◌, List, map, None, Some}
 use Rattle.std.specs.{List.AllZip, List.Contains, Option.option_map}
-use Rattle.cs_base.specs.Limits.{most_statements}
+use Rattle.cs_base.specs.{Limits.most_statements, declared.head.Head.Head, declared.spaces.Spaces.Spaces}
 use Rattle.cs_cells.specs.{Areas.limit_passed, declared.footprint.Area.Area, declared.footprint.Footprint.Footprint}
 use Rattle.cs_code.specs.Lowered.{AreInstrumentsOf, IsCodeOf, bodies}
 use Rattle.cs_code.specs.declared.orchestra.Lowered.{Lowered}
@@ -27,10 +27,12 @@ abbrev pub AskForFew : typed.Orchestra → Type 0
 AskForFew o = (z : ℤ) (body : Block) → option_map (core o.spaces) (body_of (bodies o.instrs) z) ≡ Some body
     → asks_in body ≤ most_statements
 
--- What contracts see of a setup: the typed orchestra, the plot, its tables, where the cells of what notes share are,
--- the codes, which of these cells are claimed together, and the footprints over them of what stands outside of
--- instruments and of these, in their order.
+-- What contracts see of a setup: header and zak spaces, the typed orchestra as it was when its codes were made, the
+-- plot, its tables, where the cells of what notes share are, the codes, which of these cells are claimed together, and
+-- the footprints over them of what stands outside of instruments and of these, in their order.
 pub record SetupData : Type 0 where
+  pub head : Head
+  pub spaces : Spaces
   pub orchestra : TypedOrc
   pub plot : Plot
   pub tables : List PieceTable
@@ -40,10 +42,12 @@ pub record SetupData : Type 0 where
   pub zero_foot : Footprint
   pub feet : List Footprint
 
--- A setup: its instruments ask for few notes, the tables are those of the plot, the areas those of the piece and within
--- the limits, the codes are those of the orchestra, the zones are zones of the areas, and the footprints those of the
--- codes over them.
+-- A setup: header and zak spaces are those of the orchestra, its instruments ask for few notes, the tables are those of
+-- the plot, the areas those of the piece and within the limits, the codes are those of the orchestra, the zones are
+-- zones of the areas, and the footprints those of the codes over them.
 pub record IsSetup (s : SetupData) : Type 0 where
+  pub head_is : s.head ≡ s.orchestra.head
+  pub spaces_are : s.spaces ≡ s.orchestra.spaces
   pub performable : IsPerformable s.orchestra.head s.plot
   pub sizes : AreOfOneSize s.plot.events
   pub asks : AskForFew (typed.orchestra s.orchestra)

@@ -1,7 +1,6 @@
 // What holds of every voice and its note: calls that do nothing, whose contracts are the laws.
 ghost use Rattle.std.specs.Prelude.{◌≡◌, ◌<◌, AllPairs, List};
-ghost use Rattle.cs_meaning.specs.Core.{Block, core};
-ghost use Rattle.cs_meaning.specs.Plain.{Table};
+ghost use Rattle.cs_meaning.specs.{Core.Block, Core.core, Plain.Table};
 ghost use Rattle.cs_tempo.specs.declared.plot.Event.{Event};
 ghost use Rattle.cs_code.specs.Means.{Means};
 ghost use Rattle.cs_ugen.specs.Generators.{pace_of, the_generators};
@@ -9,9 +8,7 @@ ghost use Rattle.cs_voice_meaning.specs.Voices.{Sheet, IsPlayable};
 ghost use Rattle.cs_typed.specs.TypedTree as typed;
 ghost use Rattle.cs_ir.specs.declared.op.Code.{Code};
 ghost use Rattle.cs_code.specs.Names.{block_units};
-ghost use Rattle.cs_piece.specs.Tables.{tables_in};
-ghost use Rattle.cs_piece.specs.Sheets.{IsSheetOf, kinds_of};
-ghost use Rattle.cs_piece.specs.VoicesOfNotes.{Perform};
+ghost use Rattle.cs_piece.specs.{Tables.tables_in, Sheets.IsSheetOf, Sheets.kinds_of, VoicesOfNotes.Perform};
 
 /// Voices that play codes which mean the statements of a note perform the note: as it begins, and in every control
 /// cycle.
@@ -22,8 +19,7 @@ pub fn voices_perform_their_notes()
 
 /// An instrument's sheet can be played, and the voices that play from it perform the notes that the instrument means.
 pub fn instruments_are_performed()
-    ensures playable { (s : Sheet) (body : typed.Block) (init perf : Code) → IsSheetOf s body init perf
-        → IsPlayable s }
+    ensures playable { (s : Sheet) (body : typed.Block) (init perf : Code) → IsSheetOf s body init perf → IsPlayable s }
     ensures performed { (s : Sheet) (body : typed.Block) (init perf : Code) (h : IsSheetOf s body init perf)
         → Perform h.code.means.plan (kinds_of (block_units (core s.piece.spaces body))) s (core s.piece.spaces body) }
 {}

@@ -12,6 +12,7 @@
 //! (those of a plot), `setup`, `stage` (what is handed out).
 #![tactic(auto)]
 
+mod erased;
 mod laws;
 mod setup;
 mod stage;

@@ -8,20 +8,20 @@ ghost use Rattle.cs_code.specs.Lowered.{all_numbers};
 ghost use Rattle.cs_layout.specs.Layouts.{AreApart, areas_of};
 ghost use Rattle.cs_name_laws.specs.Names.{NamesWhatThereIs};
 ghost use Rattle.cs_piece.specs.Compositions.{areas_in, live_in};
-ghost use Rattle.cs_piece.specs.Setups.{AreOfOneSize, AskForFew};
-ghost use Rattle.cs_piece.specs.Tables.{table_of};
+ghost use Rattle.cs_piece.specs.{Setups.AreOfOneSize, Setups.AskForFew, Tables.table_of};
 ghost use Rattle.cs_tempo.specs.Performable.{IsPerformable};
 ghost use Rattle.cs_typed.specs.TypedTree as typed;
 ghost use Rattle.cs_typed.specs.WellRated.{IsWellRated};
 
+use crate::erased::ErasedOrchestra;
 use crate::tables::tables_of;
-use cs_base::{LimitHit, Or, OutOfMemory};
+use cs_base::{Head, LimitHit, Or, OutOfMemory, Spaces};
 use cs_cells::Layout;
 use cs_code::{Lowered, lower};
 use cs_layout::{LiveTable, layout};
 use cs_rwset::{Zoned, find_zones};
 use cs_tempo::Plot;
-use cs_typed::TypedOrc;
+use cs_typed::{Globals, TypedOrc};
 use cs_voice::PieceTable;
 use std::alloc::Global;
 use std::marker::Model;
@@ -29,7 +29,10 @@ use std::marker::Model;
 /// All that a piece needs to be performed. Contracts see its parts as plain data.
 #[derive(Drop)]
 pub struct Setup {
-    pub(crate) orchestra: TypedOrc,
+    pub(crate) head: Head,
+    pub(crate) spaces: Spaces,
+    /// The typed orchestra, for contracts alone.
+    pub(crate) orchestra: ErasedOrchestra,
     pub(crate) plot: Plot,
     /// Each table of the plot once, by ascending number.
     pub(crate) tables: Vec<PieceTable>,
@@ -50,7 +53,9 @@ impl Model for Setup {
     ghost coded = { Prim.hlevel (codes, e.the_row.coded) };
 
     ghost view = { λ s. record {
-      orchestra = s.orchestra;
+      head = s.head;
+      spaces = s.spaces;
+      orchestra = s.orchestra.orchestra;
       plot = s.plot;
       tables = s.tables.items;
       layout = s.layout;
@@ -61,7 +66,9 @@ impl Model for Setup {
     } };
 
     ghost invariant = { λ s. IsSetup (record {
-      orchestra = s.orchestra;
+      head = s.head;
+      spaces = s.spaces;
+      orchestra = s.orchestra.orchestra;
       plot = s.plot;
       tables = s.tables.items;
       layout = s.layout;
@@ -89,8 +96,12 @@ impl Setup {
             → limit_passed (areas_in (typed.orchestra orchestra) plot.events) ≡ Some hit }
     {
         let lowered = lower(alloc, &orchestra)?;
+        let erased = ErasedOrchestra::of(&orchestra);
+        // The statements are let go before the tables are made.
+        drop((orchestra.zero, orchestra.instrs, orchestra.routines));
         let tables = tables_of(alloc, &lowered, plot.events.as_slice())?;
-        let layout = layout_of(alloc, &orchestra, &tables)?;
+        let TypedOrc { head, spaces, .. } = orchestra;
+        let layout = layout_of(alloc, head.ksmps, &orchestra.globals, spaces, &tables)?;
         let zoned = find_zones(
             alloc,
             &layout,
@@ -98,7 +109,9 @@ impl Setup {
             lowered.instruments.as_slice(),
         )?;
         Ok(Setup {
-            orchestra,
+            head,
+            spaces,
+            orchestra: erased,
             plot,
             tables,
             layout,
@@ -107,11 +120,11 @@ impl Setup {
         })
     }
 
-    /// The typed orchestra.
-    pub fn orchestra(&self) -> &TypedOrc
-        ensures { result.now ≡ self.now.orchestra }
+    /// The header of the orchestra.
+    pub fn head(&self) -> &Head
+        ensures { result.now ≡ self.now.orchestra.head }
     {
-        &self.orchestra
+        &self.head
     }
 
     /// The plot.
@@ -136,32 +149,24 @@ impl Setup {
     }
 }
 
-/// The layout of a piece with these tables.
+/// The layout of a piece with `ksmps` frames a control cycle, these variables and channels, zak spaces and tables.
 fn layout_of(
     alloc: Global,
-    orchestra: &TypedOrc,
+    ksmps: u32,
+    globals: &Globals,
+    spaces: Spaces,
     tables: &[PieceTable],
 ) -> Result<Layout, Or<LimitHit>>
     requires { AreApart (live_in (map table_of tables.now)) }
-    ensures layout { let areas = areas_of orchestra.now.head.ksmps (typed.shared_names orchestra.now.globals)
-        (typed.orchestra orchestra.now).spaces (live_in (map table_of tables.now)) in
-        IfOk result (λ l. l ≡ areas) }
-    ensures within { let areas = areas_of orchestra.now.head.ksmps (typed.shared_names orchestra.now.globals)
-        (typed.orchestra orchestra.now).spaces (live_in (map table_of tables.now)) in
-        OnOk result (limit_passed areas ≡ None) }
-    ensures limit { let areas = areas_of orchestra.now.head.ksmps (typed.shared_names orchestra.now.globals)
-        (typed.orchestra orchestra.now).spaces (live_in (map table_of tables.now)) in
-        (hit : LimitHit) → result ≡ Err (or.Fault hit) → limit_passed areas ≡ Some hit }
+    ensures layout { IfOk result (λ l. l
+        ≡ areas_of ksmps (typed.shared_names globals.now) spaces (live_in (map table_of tables.now))) }
+    ensures within { OnOk result (limit_passed
+        (areas_of ksmps (typed.shared_names globals.now) spaces (live_in (map table_of tables.now))) ≡ None) }
+    ensures limit { (hit : LimitHit) → result ≡ Err (or.Fault hit) → limit_passed
+        (areas_of ksmps (typed.shared_names globals.now) spaces (live_in (map table_of tables.now))) ≡ Some hit }
 {
     let live = live_of(alloc, tables)?;
-    let head = &orchestra.head;
-    layout(
-        alloc,
-        head.ksmps,
-        &orchestra.globals,
-        orchestra.spaces,
-        &live,
-    )
+    layout(alloc, ksmps, globals, spaces, &live)
 }
 
 /// Those of the tables whose points are cells.

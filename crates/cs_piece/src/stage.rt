@@ -5,8 +5,7 @@ ghost use Rattle.cs_cells.specs.Areas.{IsLaid, limit_passed};
 ghost use Rattle.cs_ir.specs.Instruments.{Numbered};
 ghost use Rattle.cs_meaning.specs.Core.{Block};
 ghost use Rattle.cs_piece_meaning.specs.Bounded.{IsBounded};
-ghost use Rattle.cs_piece.specs.Compositions.{areas_in};
-ghost use Rattle.cs_piece.specs.Ready.{IsInstrumentOf, IsStageOf};
+ghost use Rattle.cs_piece.specs.{Compositions.areas_in, Ready.IsInstrumentOf, Ready.IsStageOf};
 ghost use Rattle.cs_piece.specs.Setups.{AreOfOneSize, composition_of};
 ghost use Rattle.cs_rwset.specs.Zones.{AreZones};
 ghost use Rattle.cs_tempo.specs.Performable.{IsPerformable};
@@ -48,10 +47,10 @@ impl Setup {
         ensures tables { result.tables.now ≡ self.now.tables }
     {
         Stage {
-            head: &self.orchestra.head,
+            head: &self.head,
             layout: &self.layout,
             zones: &self.zoned.zones,
-            spaces: self.orchestra.spaces,
+            spaces: self.spaces,
             tables: &self.tables,
         }
     }

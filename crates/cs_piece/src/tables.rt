@@ -1,15 +1,14 @@
 // The tables of a piece: each number once, in ascending order, as the score first gives it, and frozen where nothing
 // changes it.
 ghost use Rattle.std.specs.Prelude.{◌≡◌, ◌<◌, ◌++◌, ◌∷◌, [], ℕ, List, length, map, pos, IfOk, OnOk, Some, None};
-ghost use Rattle.std.specs.Prelude.{if◌then◌else◌};
-ghost use Rattle.std.specs.List.{All};
+ghost use Rattle.std.specs.{Prelude.if◌then◌else◌, List.All};
 ghost use Rattle.cs_code.specs.Lowered.{AreInstrumentsOf};
-ghost use Rattle.cs_gen.specs.Faults.{table_fault};
-ghost use Rattle.cs_gen.specs.Points.{points_of};
+ghost use Rattle.cs_gen.specs.{Faults.table_fault, Points.points_of};
 ghost use Rattle.cs_meaning.specs.Plain.{Table};
 ghost use Rattle.cs_piece.specs.Tables.{Given, ascending, firsts, given_by, given_in, table_given, table_of, tables_in};
 ghost use Rattle.cs_piece.specs.inner.Marked.{Differ, IsRight, StandFor, frozen_by, given_of, numbers_end, table_by};
-ghost use Rattle.cs_piece.specs.inner.Marked.{times_at};
+ghost use Rattle.cs_piece.specs.declared.tables.Times.TheVariants as often;
+ghost use Rattle.cs_piece.specs.inner.Marked.{is_once, times_at};
 ghost use Rattle.cs_tempo.specs.Performable.{IsActInRange};
 ghost use Rattle.cs_typed.specs.TypedTree as typed;
 
@@ -50,13 +49,29 @@ impl GivenTable<'_> {
     }
 }
 
+/// How often a number is given.
+#[derive(Clone, Copy)]
+enum Times {
+    Never,
+    Once,
+    Again,
+}
+
+impl Times {
+    fn is_once(self) -> bool
+        ensures { result ≡ is_once self }
+    {
+        matches!(self, Times::Once)
+    }
+}
+
 /// What events give.
 #[derive(Drop)]
 struct Firsts<'p> {
     /// Of each number the table that is given first.
     items: Vec<GivenTable<'p>>,
-    /// How often each number below 65,536 is given; 255 stands for more.
-    times: Vec<u8>,
+    /// Of each number below 65,536.
+    times: Vec<Times>,
 }
 
 /// The tables that events give, each number once, by ascending number, as it is given first; one has its points where
@@ -118,11 +133,11 @@ fn firsts_of<'p>(alloc: Global, events: &'p [Event]) -> Result<Firsts<'p>, OutOf
 }
 
 /// `count` numbers that aren't given.
-fn never(alloc: Global, count: usize) -> Result<Vec<u8>, OutOfMemory>
+fn never(alloc: Global, count: usize) -> Result<Vec<Times>, OutOfMemory>
     ensures long { IfOk result (λ v. length v.items ≡ count) }
-    ensures none { IfOk result (λ v. (n : ℕ) → times_at v.items n ≡ 0) }
+    ensures none { IfOk result (λ v. (n : ℕ) → times_at v.items n ≡ often.Never) }
 {
-    Ok(vec![in alloc; 0u8; count]?)
+    Ok(vec![in alloc; Times::Never; count]?)
 }
 
 impl<'p> Firsts<'p> {
@@ -137,12 +152,14 @@ impl<'p> Firsts<'p> {
         ensures all { OnOk result (All (λ x. IsRight (given_of x)) self.new.items.items) }
     {
         let number = table.number as usize;
-        let times = self.times[number];
-        if times == 0 {
-            self.items.push(table)?;
-        }
-        let more = times.saturating_add(1);
-        self.times[number] = more;
+        let times = match self.times[number] {
+            Times::Never => {
+                self.items.push(table)?;
+                Times::Once
+            }
+            _ => Times::Again,
+        };
+        self.times[number] = times;
         Ok(())
     }
 }
@@ -151,7 +168,7 @@ impl<'p> Firsts<'p> {
 fn made_tables(
     alloc: Global,
     given: &[GivenTable<'_>],
-    times: &[u8],
+    times: &[Times],
     written: &Written,
 ) -> Result<Vec<PieceTable>, OutOfMemory>
     requires right { All (λ x. IsRight (given_of x)) given.now }
@@ -162,7 +179,7 @@ fn made_tables(
     let mut tables = Vec::new(alloc);
     for first in given {
         let number = first.number as usize;
-        let frozen = times[number] == 1 && !written.is_marked(number);
+        let frozen = times[number].is_once() && !written.is_marked(number);
         tables.push(table_for(alloc, first, frozen)?)?;
     }
     Ok(tables)

@@ -1,9 +1,8 @@
 // What follows from the definitions alone: a call that does nothing, whose contract is the law.
 ghost use Rattle.std.specs.Prelude.{◌≡◌, ◌∷◌, ◌++◌, [], pos, ◌*◌, flat_map, replicate};
 ghost use Rattle.cs_meaning.specs.Examples.{counting, each, ending, missing_table, no_code, telling, whole, zeros};
-ghost use Rattle.cs_piece_meaning.specs.Course.{closing};
+ghost use Rattle.cs_piece_meaning.specs.{Course.closing, Heard.frames_of};
 ghost use Rattle.cs_piece_meaning.specs.Examples.{asking_for_two, note, piece_of_two, sounding_p4};
-ghost use Rattle.cs_piece_meaning.specs.Heard.{frames_of};
 
 /// Small performances worked out from the definitions: eight frames a second, four a control cycle.
 pub fn performances_worked_by_hand()

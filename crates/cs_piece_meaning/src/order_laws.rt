@@ -1,14 +1,10 @@
 // What holds of the notes of each cycle: calls that do nothing, whose contracts are the laws.
 ghost use Rattle.std.specs.Prelude.{ℕ, suc, Bool, false, ◌≡◌, ◌≢◌, ◌<◌, ◌≤◌, ◌⊎◌, Contains, length, ◌++◌, ◌+◌, ◌*◌};
-ghost use Rattle.std.specs.Prelude.{pos, flat_map, replicate, []};
-ghost use Rattle.std.specs.List.{AllZip};
-ghost use Rattle.cs_piece_meaning.specs.Counting.{starts_before};
+ghost use Rattle.std.specs.{Prelude.pos, Prelude.flat_map, Prelude.replicate, Prelude.[], List.AllZip};
+ghost use Rattle.cs_piece_meaning.specs.{Counting.starts_before, Heard.frames_of, Bounded.IsBounded, Moments.Active};
+ghost use Rattle.cs_piece_meaning.specs.{Moments.Composition, Moments.Moment, Started.AreStarted};
 ghost use Rattle.cs_piece_meaning.specs.Course.{begins, closing, events_in, moment_at, played_in, still};
-ghost use Rattle.cs_piece_meaning.specs.Heard.{frames_of};
 ghost use Rattle.cs_base.specs.Limits.{most_asks, most_events, most_notes, most_statements};
-ghost use Rattle.cs_piece_meaning.specs.Bounded.{IsBounded};
-ghost use Rattle.cs_piece_meaning.specs.Moments.{Active, Composition, Moment};
-ghost use Rattle.cs_piece_meaning.specs.Started.{AreStarted};
 ghost use Rattle.cs_piece_meaning.specs.Starts.{Start, all_done, in_vain, start_in};
 ghost use Rattle.cs_meaning.specs.Examples.{each, whole};
 ghost use Rattle.cs_piece_meaning.specs.OrderExamples.{asked_in_its_cycle, refused_late, table_made_twice};

@@ -1,13 +1,11 @@
 // What holds of the texts of every source: calls that do nothing, whose contracts are the laws.
 ghost use Rattle.std.specs.Prelude.{◌≡◌, ◌⊎◌, ℕ, List, Result, Ok};
-ghost use Rattle.cs_base.specs.declared.head.Head.{Head};
+ghost use Rattle.cs_base.specs.{declared.head.Head.Head, declared.refusal.Refusal.Refusal};
 ghost use Rattle.cs_base.specs.declared.width.SampleWidth.{SampleWidth};
 ghost use Rattle.cs_piece_meaning.specs.Moments.{Composition};
 ghost use Rattle.cs_edge.specs.declared.files.NamedBytes.{NamedBytes};
 ghost use Rattle.cs_arguments.specs.Reading.{AskedPiece};
-ghost use Rattle.cs_source.specs.Meaning.{Mean};
-ghost use Rattle.cs_source.specs.Texts.{Have, Lack, Texts};
-ghost use Rattle.cs_base.specs.declared.refusal.Refusal.{Refusal};
+ghost use Rattle.cs_source.specs.{Meaning.Mean, Texts.Have, Texts.Lack, Texts.Texts};
 ghost use Rattle.cs_typed.specs.TypedTree.{header_of_head};
 
 use cs_compile::texts_have_one_meaning;

@@ -42,8 +42,7 @@ pub fn load<'a, F: Shelf>(
     ensures unread { (name : _) → result ≡ Err (unloaded.Unread name)
         → CannotRead (F.tells shelf.old) (F.tells shelf.new) (piece_in source.now) name.now }
     // Where memory was refused no call of the shelf had failed.
-    ensures starved { IsErrOf result LoadFault.OutOfMemory
-        → (F.tells shelf.new).faults ≡ (F.tells shelf.old).faults }
+    ensures starved { IsErrOf result LoadFault.OutOfMemory → (F.tells shelf.new).faults ≡ (F.tells shelf.old).faults }
     ensures shelf { WasRead (F.tells shelf.old) (F.tells shelf.new) (piece_in source.now) }
     ensures files { (F.tells shelf.new).files ≡ (F.tells shelf.old).files }
 {

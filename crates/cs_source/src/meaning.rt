@@ -3,11 +3,9 @@ ghost use Rattle.std.specs.Prelude.{◌≡◌, ◌≤◌, Err, IfOk, Ok, length,
 ghost use Rattle.cs_base.specs.Limits.{most_csd_bytes};
 ghost use Rattle.cs_base.specs.declared.fault.Or.TheVariants as or;
 ghost use Rattle.cs_piece.specs.Setups.{composition_of};
-ghost use Rattle.cs_source.specs.Loaded.{FitsFile};
-ghost use Rattle.cs_source.specs.Meaning.{FileMeans, PartsMean};
+ghost use Rattle.cs_source.specs.{Loaded.FitsFile, Meaning.FileMeans, Meaning.PartsMean, inner.Read.MeansAsRead};
 ghost use Rattle.cs_csd.specs.Sections.{Reading};
 ghost use Rattle.cs_base.specs.declared.refusal.Refusal.{Refusal};
-ghost use Rattle.cs_source.specs.inner.Read.{MeansAsRead};
 
 use crate::csd::excerpt_of;
 use crate::source::SourceText;

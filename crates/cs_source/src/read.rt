@@ -1,9 +1,7 @@
 // A text of a shelf, read to its end or as far as it may be read.
 ghost use Rattle.std.specs.Prelude.{◌≡◌, ◌≤◌, ◌<◌, ◌⊎◌, [], length, IfOk, OnOk, IsErrOf};
-ghost use Rattle.cs_edge.specs.declared.moves.Move.TheVariants.{Read};
-ghost use Rattle.cs_edge.specs.Told.{Follows, Rose};
+ghost use Rattle.cs_edge.specs.{declared.moves.Move.TheVariants.Read, Told.Follows, Told.Rose, Files.Lacks};
 ghost use Rattle.cs_edge.specs.Moves.{Grown, GrownBy, AreAll, IsRun};
-ghost use Rattle.cs_edge.specs.Files.{Lacks};
 ghost use Rattle.cs_source.specs.inner.Reading.{IsFrontOf, IsTextOf, LeavesRest, ReadOnce};
 
 use cs_edge::Shelf;
@@ -33,8 +31,7 @@ pub fn read_text<F: Shelf>(
         ⊎ Lacks (F.tells shelf.old).files name.now }
     ensures later { (F.tells shelf.old).faults ≤ (F.tells shelf.new).faults }
     ensures calm { OnOk result ((F.tells shelf.new).faults ≡ (F.tells shelf.old).faults) }
-    ensures starved { IsErrOf result ReadFault.OutOfMemory
-        → (F.tells shelf.new).faults ≡ (F.tells shelf.old).faults }
+    ensures starved { IsErrOf result ReadFault.OutOfMemory → (F.tells shelf.new).faults ≡ (F.tells shelf.old).faults }
     ensures moves { Follows (F.tells shelf.old).moves (F.tells shelf.new).moves (Grown (IsRun name.now Read)) }
     ensures files { (F.tells shelf.new).files ≡ (F.tells shelf.old).files }
 {
@@ -51,8 +48,7 @@ fn read_begun<F: Shelf>(alloc: Global, shelf: &mut F, most: usize) -> Result<Vec
     ensures fault { IsErrOf result ReadFault.Shelf → Rose (F.tells shelf.old).faults (F.tells shelf.new).faults }
     ensures later { (F.tells shelf.old).faults ≤ (F.tells shelf.new).faults }
     ensures calm { OnOk result ((F.tells shelf.new).faults ≡ (F.tells shelf.old).faults) }
-    ensures starved { IsErrOf result ReadFault.OutOfMemory
-        → (F.tells shelf.new).faults ≡ (F.tells shelf.old).faults }
+    ensures starved { IsErrOf result ReadFault.OutOfMemory → (F.tells shelf.new).faults ≡ (F.tells shelf.old).faults }
     ensures moves { Follows (F.tells shelf.old).moves (F.tells shelf.new).moves (Grown (AreAll Read)) }
     ensures files { (F.tells shelf.new).files ≡ (F.tells shelf.old).files }
 {
@@ -71,8 +67,7 @@ fn fill<F: Shelf>(shelf: &mut F, text: &mut Vec<u8>, most: usize) -> Result<(), 
     ensures fault { IsErrOf result ReadFault.Shelf → Rose (F.tells shelf.old).faults (F.tells shelf.new).faults }
     ensures later { (F.tells shelf.old).faults ≤ (F.tells shelf.new).faults }
     ensures calm { OnOk result ((F.tells shelf.new).faults ≡ (F.tells shelf.old).faults) }
-    ensures starved { IsErrOf result ReadFault.OutOfMemory
-        → (F.tells shelf.new).faults ≡ (F.tells shelf.old).faults }
+    ensures starved { IsErrOf result ReadFault.OutOfMemory → (F.tells shelf.new).faults ≡ (F.tells shelf.old).faults }
     ensures moves { Follows (F.tells shelf.old).moves (F.tells shelf.new).moves (Grown (AreAll Read)) }
     ensures files { (F.tells shelf.new).files ≡ (F.tells shelf.old).files }
 {
@@ -98,8 +93,7 @@ fn read_block<F: Shelf>(shelf: &mut F, text: &mut Vec<u8>, most: usize) -> Resul
     ensures fault { IsErrOf result ReadFault.Shelf → Rose (F.tells shelf.old).faults (F.tells shelf.new).faults }
     ensures later { (F.tells shelf.old).faults ≤ (F.tells shelf.new).faults }
     ensures calm { OnOk result ((F.tells shelf.new).faults ≡ (F.tells shelf.old).faults) }
-    ensures starved { IsErrOf result ReadFault.OutOfMemory
-        → (F.tells shelf.new).faults ≡ (F.tells shelf.old).faults }
+    ensures starved { IsErrOf result ReadFault.OutOfMemory → (F.tells shelf.new).faults ≡ (F.tells shelf.old).faults }
     ensures moves { Follows (F.tells shelf.old).moves (F.tells shelf.new).moves (GrownBy Read) }
     ensures files { (F.tells shelf.new).files ≡ (F.tells shelf.old).files }
 {

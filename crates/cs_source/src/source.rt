@@ -1,10 +1,8 @@
 // The texts of a source, as far as they are read.
 ghost use Rattle.std.specs.Prelude.{◌≡◌, IfErr, IfOk, IsErrOf, OnOk};
-ghost use Rattle.cs_arguments.specs.Orders.{piece_in};
-ghost use Rattle.cs_arguments.specs.Reading.{one_file, two_files};
+ghost use Rattle.cs_arguments.specs.{Orders.piece_in, Reading.one_file, Reading.two_files};
 ghost use Rattle.cs_base.specs.declared.fault.Or.TheVariants as or;
-ghost use Rattle.cs_source.specs.Loaded.{CannotRead, LeavesUnread, WasRead};
-ghost use Rattle.cs_source.specs.Texts.{demo_notes};
+ghost use Rattle.cs_source.specs.{Loaded.CannotRead, Loaded.LeavesUnread, Loaded.WasRead, Texts.demo_notes};
 ghost use Rattle.cs_source.specs.inner.Read.{AreRead, IfFault, IsReadOf};
 
 use crate::read::{ReadFault, read_text};

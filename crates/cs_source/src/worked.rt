@@ -5,9 +5,7 @@ ghost use Rattle.cs_base.specs.declared.refusal.Refusal.TheVariants as why;
 ghost use Rattle.cs_base.specs.declared.width.SampleWidth.{SampleWidth};
 ghost use Rattle.cs_base.specs.declared.width.SampleWidth.TheVariants.{TwoBytes, ThreeBytes};
 ghost use Rattle.cs_compile.specs.Worked.{fourth_field, note_of_100, stray_byte};
-ghost use Rattle.cs_source.specs.Meaning.{Mean};
-ghost use Rattle.cs_source.specs.Sounds.{IsSoundOf};
-ghost use Rattle.cs_source.specs.Texts.{both, csd};
+ghost use Rattle.cs_source.specs.{Meaning.Mean, Sounds.IsSoundOf, Texts.both, Texts.csd};
 ghost use Rattle.cs_source.specs.Worked.{fault_in_line_4, narrow_file, wide_file};
 
 use cs_compile::texts_worked_by_hand;

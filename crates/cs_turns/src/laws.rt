@@ -1,17 +1,14 @@
 // What holds of turns: calls that do nothing, whose contracts are the laws.
 ghost use Rattle.std.specs.Prelude.{◌≡◌, ◌∷◌, [], ℕ, true, List, length};
 ghost use Rattle.std.specs.List.{AllZip};
-ghost use Rattle.cs_cells.specs.declared.footprint.Area.{Area};
-ghost use Rattle.cs_cells.specs.declared.footprint.Footprint.{Footprint};
+ghost use Rattle.cs_cells.specs.{declared.footprint.Area.Area, declared.footprint.Footprint.Footprint};
 ghost use Rattle.cs_meaning.specs.Core.{Block};
 ghost use Rattle.cs_piece_meaning.specs.Moments.{Active, Composition};
-ghost use Rattle.cs_graph.specs.Conflict.{Clash};
-ghost use Rattle.cs_graph.specs.Graph.{IsLevelled};
+ghost use Rattle.cs_graph.specs.{Conflict.Clash, Graph.IsLevelled};
 ghost use Rattle.cs_layout.specs.Layouts.{areas_of};
 ghost use Rattle.cs_rwset.specs.Footprints.{stock_of};
-ghost use Rattle.cs_turns.specs.Examples.{giving_and_taking, turns_of_places};
-ghost use Rattle.cs_turns.specs.Turns.{AreOver, IsFootOf, conflict, line_of, live_tables, notes_in, stock_in};
-ghost use Rattle.cs_turns.specs.Turns.{touched, turns_in};
+ghost use Rattle.cs_turns.specs.{Examples.giving_and_taking, Examples.turns_of_places, Turns.turns_in};
+ghost use Rattle.cs_turns.specs.Turns.{AreOver, IsFootOf, conflict, line_of, live_tables, notes_in, stock_in, touched};
 ghost use Rattle.cs_typed.specs.TypedTree.{SharedNames};
 
 use cs_layout::layouts_are_complete;

@@ -1,11 +1,9 @@
 // The sum of what voices give to each channel at each frame.
 ghost use Rattle.std.specs.Prelude.{◌≡◌, ◌≢◌, ◌<◌, ◌≤◌, ◌+◌, ◌*◌, ◌+ℤ◌, ℕ, length, pos, slice_index_or, All};
-ghost use Rattle.cs_base.specs.Limits.{most_notes};
-ghost use Rattle.cs_base.specs.Numbers.{IsRaw};
+ghost use Rattle.cs_base.specs.{Limits.most_notes, Numbers.IsRaw};
 ghost use Rattle.cs_machine.specs.Outputs.{outs};
 ghost use Rattle.cs_signal.specs.Operands.{argument};
-ghost use Rattle.cs_voice.specs.Mixing.{mixed, sum_at};
-ghost use Rattle.cs_voice.specs.VoiceData.{VoiceData};
+ghost use Rattle.cs_voice.specs.{Mixing.mixed, Mixing.sum_at, VoiceData.VoiceData};
 ghost use Rattle.cs_row.specs.Heard.{IsSumOf};
 ghost use Rattle.cs_voice.specs.inner.Places.{HasRoom, place};
 
@@ -24,8 +22,7 @@ pub fn mix(voices: &[Voice<'_>], frames: usize, channels: usize, out: &mut [i64]
     requires few { length voices.now ≤ most_notes }
     requires long { length out.old ≡ frames * channels }
     ensures sums { out.new ≡ mixed frames channels voices.now }
-    ensures small { (j c : ℕ) → j < frames → c < channels
-        → IsSumOf (length voices.now) (sum_at voices.now j c) }
+    ensures small { (j c : ℕ) → j < frames → c < channels → IsSumOf (length voices.now) (sum_at voices.now j c) }
 {
     for channel in 0..channels {
         mix_channel(voices, frames, channel, channels, out);
@@ -94,8 +91,7 @@ fn sum_voices(voices: &[Voice<'_>], frames: usize, from: usize, channel: usize, 
     requires silent { (j : ℕ) → slice_index_or sums.old j (pos 0) ≡ pos 0 }
     ensures sums { (j : ℕ) → j < length sums.old → slice_index_or sums.new j (pos 0) ≡ sum_at voices.now (from + j)
         channel }
-    ensures small { (j : ℕ) → j < length sums.old
-        → IsSumOf (length voices.now) (sum_at voices.now (from + j) channel) }
+    ensures small { (j : ℕ) → j < length sums.old → IsSumOf (length voices.now) (sum_at voices.now (from + j) channel) }
     ensures long { length sums.new ≡ length sums.old }
 {
     for voice in voices {

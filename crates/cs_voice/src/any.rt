@@ -2,13 +2,11 @@
 ghost use Rattle.std.specs.Prelude.{◌≡◌, length, true};
 ghost use Rattle.cs_voice.specs.Ready.{CanBeDone, DoesOp, IsFit, is_here, is_plain};
 ghost use Rattle.cs_cells.specs.Cells.{cell};
-ghost use Rattle.cs_ir.specs.Flat.{leaves_room};
-ghost use Rattle.cs_ir.specs.Placed.{there};
+ghost use Rattle.cs_ir.specs.{Flat.leaves_room, Placed.there};
 ghost use Rattle.cs_ir.specs.declared.op.Act.TheVariants as acts;
 ghost use Rattle.cs_ir.specs.declared.op.Reach.{Reach};
-ghost use Rattle.cs_words.specs.declared.catalogue.Opcode.{Opcode};
+ghost use Rattle.cs_words.specs.{declared.catalogue.Opcode.Opcode, Catalogue.row_of};
 ghost use Rattle.cs_machine.specs.States.{DoesAt};
-ghost use Rattle.cs_words.specs.Catalogue.{row_of};
 
 use crate::shared::{load, save};
 use crate::store::{Storing, store_points};

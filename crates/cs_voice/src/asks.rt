@@ -1,10 +1,7 @@
 // Notes that a note asks for as it begins.
 ghost use Rattle.std.specs.Prelude.{◌≡◌, ◌++◌, ◌∷◌, [], map, true, OnOk};
 ghost use Rattle.std.specs.List.{list_all};
-ghost use Rattle.cs_ir.specs.Placed.{regs_read};
-ghost use Rattle.cs_ir.specs.Asks.{ask_of};
-ghost use Rattle.cs_ir.specs.Validity.{has_register};
-ghost use Rattle.cs_ir.specs.Waves.{first_values};
+ghost use Rattle.cs_ir.specs.{Placed.regs_read, Asks.ask_of, Validity.has_register, Waves.first_values};
 ghost use Rattle.cs_machine.specs.Registers.{values};
 
 use cs_base::{Num, OutOfMemory};

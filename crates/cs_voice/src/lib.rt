@@ -11,10 +11,9 @@
 //!
 //! Modules in reading order: `shared` (what notes share, by resource and rate), `zak` (zak places), `unit` (units),
 //! `store` (stores into tables), `any` (the act of any op); `tables` (what a note finds), `begin` (units), `asks`,
-//! `starter` (what only a code has that begins a note), `run` (steps, and the routines that they invoke); `stage`
-//! (what all notes of a piece play in), `cycle` (the second code, once a control cycle), `body`, `voice` (the note and
-//! its run as a job), `laws`; `pass` (the first code), `note` (how a note begins); `adding` (what voices give
-//! together).
+//! `starter` (what only a code has that begins a note), `run` (steps, and the routines that they invoke); `stage` (what
+//! all notes of a piece play in), `cycle` (the second code, once a control cycle), `body`, `voice` (the note and its
+//! run as a job), `laws`; `pass` (the first code), `note` (how a note begins); `adding` (what voices give together).
 #![tactic(auto)]
 
 mod adding;

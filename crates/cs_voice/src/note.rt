@@ -1,12 +1,10 @@
 // How a note begins.
 ghost use Rattle.std.specs.Prelude.{◌≡◌, ◌<◌, ◌≤◌, ◌++◌, ℕ, length, map, IfOk, OnOk};
 ghost use Rattle.cs_machine.specs.Access.{AreSpaces, spaces_of};
-ghost use Rattle.cs_cells.specs.Areas.{word_count};
-ghost use Rattle.cs_cells.specs.Cells.{cell};
+ghost use Rattle.cs_cells.specs.{Areas.word_count, Cells.cell};
 ghost use Rattle.cs_ir.specs.Asks.{ask_of};
 ghost use Rattle.cs_voice_meaning.specs.Voices.{IsPlayable, initialised};
-ghost use Rattle.cs_voice.specs.Starts.{IsStarted, sheet_for, started_as};
-ghost use Rattle.cs_voice.specs.Tables.{CanAllBePlayed};
+ghost use Rattle.cs_voice.specs.{Starts.IsStarted, Starts.sheet_for, Starts.started_as, Tables.CanAllBePlayed};
 
 use crate::begin::StartRefusal;
 use crate::body::VoiceBody;

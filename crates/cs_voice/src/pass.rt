@@ -1,8 +1,7 @@
 // The code that a note begins with.
 ghost use Rattle.std.specs.Prelude.{◌≡◌, ℤ, List, length, IfOk};
 ghost use Rattle.cs_cells.specs.Cells.{cell};
-ghost use Rattle.cs_voice.specs.Passing.{CanInitialise, Passes};
-ghost use Rattle.cs_voice.specs.Starts.{sheet_for};
+ghost use Rattle.cs_voice.specs.{Passing.CanInitialise, Passing.Passes, Starts.sheet_for};
 
 use crate::NewNote;
 use crate::begin::StartRefusal;

@@ -1,21 +1,14 @@
 // A code from step to step, in a control cycle or as a note begins.
-ghost use Rattle.std.specs.Prelude.{◌≡◌, ◌<◌, Bool, true, length, map, slice_get, List, Some, None};
-ghost use Rattle.std.specs.Prelude.{IfOk, IsErr};
+ghost use Rattle.std.specs.Prelude.{◌≡◌, ◌<◌, Bool, true, length, map, slice_get, List, Some, None, IfOk, IsErr};
 ghost use Rattle.std.specs.List.{list_all};
 ghost use Rattle.cs_cells.specs.Cells.{cell};
 ghost use Rattle.cs_ir.specs.Flat.{IsLow, flat, further, moved_op, ops_at, window_of};
-ghost use Rattle.cs_ir.specs.Placed.{there};
-ghost use Rattle.cs_ir.specs.Routines.{library_in};
-ghost use Rattle.cs_ir.specs.Validity.{has_register};
-ghost use Rattle.cs_ir.specs.Values.{holds};
-ghost use Rattle.cs_ir.specs.Waves.{operand};
+ghost use Rattle.cs_ir.specs.{Placed.there, Routines.library_in, Validity.has_register, Values.holds, Waves.operand};
 ghost use Rattle.cs_ir.specs.declared.op.Code.{Code};
 ghost use Rattle.cs_machine.specs.Registers.{values};
 ghost use Rattle.cs_voice_meaning.specs.Voices.{Sheet};
 ghost use Rattle.cs_voice.specs.Cycles.{CanRun, Context, HasRun};
-ghost use Rattle.cs_voice.specs.Passing.{CanPass, Passes};
-ghost use Rattle.cs_voice.specs.Codes.{CanGo};
-ghost use Rattle.cs_voice.specs.declared.tables.Finds.{Finds};
+ghost use Rattle.cs_voice.specs.{Passing.CanPass, Passing.Passes, Codes.CanGo, declared.tables.Finds.Finds};
 ghost use Rattle.cs_voice.specs.inner.Coming.{AreOfNoCycle, CanDoOps, DoesOps};
 ghost use Rattle.cs_voice.specs.inner.Starters.{asked, finding};
 

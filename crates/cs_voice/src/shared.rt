@@ -4,13 +4,11 @@ ghost use Rattle.cs_machine.specs.Access.{CanTouch};
 ghost use Rattle.cs_voice.specs.Cells.{AreSized, DoesOver};
 ghost use Rattle.cs_base.specs.declared.resource.Rate.TheVariants as rate;
 ghost use Rattle.cs_cells.specs.Cells.{cell};
-ghost use Rattle.cs_ir.specs.Validity.{has_register, has_value};
-ghost use Rattle.cs_ir.specs.Waves.{held};
+ghost use Rattle.cs_ir.specs.{Validity.has_register, Validity.has_value, Waves.held};
 ghost use Rattle.cs_ir.specs.declared.op.Act.TheVariants as act;
 ghost use Rattle.cs_ir.specs.declared.register.Reg.{Reg};
-ghost use Rattle.cs_machine.specs.Registers.{IsWritten, values};
+ghost use Rattle.cs_machine.specs.{Registers.IsWritten, Registers.values, States.HasRoom, States.MayTouch};
 ghost use Rattle.cs_voice_meaning.specs.Placing.{cell_count, wave_in, with_wave};
-ghost use Rattle.cs_machine.specs.States.{HasRoom, MayTouch};
 
 use cs_base::{Num, Rate, Res};
 use cs_cells::{Area, Bank};

@@ -1,9 +1,7 @@
 // What only a code has that begins a note: it starts units, looks for tables and asks for notes.
 ghost use Rattle.std.specs.Prelude.{◌≡◌, [], true, IfOk, Some};
-ghost use Rattle.cs_ir.specs.Flat.{leaves_room};
-ghost use Rattle.cs_ir.specs.Placed.{there};
-ghost use Rattle.cs_voice.specs.Codes.{CanStart, HasStarted};
-ghost use Rattle.cs_voice.specs.inner.Jumps.{is_start};
+ghost use Rattle.cs_ir.specs.{Flat.leaves_room, Placed.there};
+ghost use Rattle.cs_voice.specs.{Codes.CanStart, Codes.HasStarted, inner.Jumps.is_start};
 ghost use Rattle.cs_voice.specs.inner.Starters.{asked, finding};
 
 use crate::asks::{ask, gather};

@@ -1,7 +1,6 @@
 // The tables of a piece, as a note that begins finds them.
 ghost use Rattle.std.specs.Prelude.{◌≡◌, ◌&&◌, ◌==◌, not, unsigned_abs, length};
-ghost use Rattle.std.specs.Int.{is_negative};
-ghost use Rattle.std.specs.Option.{option_map};
+ghost use Rattle.std.specs.{Int.is_negative, Option.option_map};
 ghost use Rattle.cs_meaning.specs.Pieces.{find_table, table_number};
 ghost use Rattle.cs_voice.specs.Tables.{table_at, tables_of};
 

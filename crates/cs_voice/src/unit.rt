@@ -3,14 +3,11 @@ ghost use Rattle.std.specs.Prelude.{◌≡◌, ◌<◌, length, map, slice_index
 ghost use Rattle.std.specs.List.{list_all};
 ghost use Rattle.cs_voice.specs.Units.{DoesUnit, MayPlay, cycled};
 ghost use Rattle.cs_cells.specs.Cells.{cell};
-ghost use Rattle.cs_ir.specs.Placed.{regs_read};
-ghost use Rattle.cs_ir.specs.Registers.{rate_at};
-ghost use Rattle.cs_ir.specs.Validity.{has_register};
+ghost use Rattle.cs_ir.specs.{Placed.regs_read, Registers.rate_at, Validity.has_register};
 ghost use Rattle.cs_meaning.specs.Pieces.{step_at};
-ghost use Rattle.cs_machine.specs.Players.{CanRead, PlayerData};
+ghost use Rattle.cs_machine.specs.{Players.CanRead, Players.PlayerData, States.HasRoom};
 ghost use Rattle.cs_machine.specs.Registers.{IsWritten, values};
 ghost use Rattle.cs_signal.specs.Operands.{argument};
-ghost use Rattle.cs_machine.specs.States.{HasRoom};
 ghost use Rattle.cs_ugen.specs.Units.{IsUnitOpcode, moving_count, opcode_of};
 
 use cs_base::Num;

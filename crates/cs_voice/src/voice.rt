@@ -1,8 +1,7 @@
 // A note as it sounds: a job that performs its code once a control cycle.
 ghost use Rattle.std.specs.Prelude.{◌≡◌, length, IfOk, IfSome, IfNone};
 ghost use Rattle.cs_ir.specs.Waves.{silence};
-ghost use Rattle.cs_machine.specs.Outputs.{outs};
-ghost use Rattle.cs_machine.specs.Rows.{row_wave};
+ghost use Rattle.cs_machine.specs.{Outputs.outs, Rows.row_wave};
 ghost use Rattle.cs_typed.specs.TypedTree.{header_of_head};
 ghost use Rattle.cs_voice.specs.Memory.{MakeVoice, data_of};
 
@@ -94,8 +93,7 @@ impl<'p> Voice<'p> {
 }
 
 impl<'p> Job for Voice<'p> {
-    ghost use Rattle.cs_voice.specs.VoiceMeaning.{voice_job};
-    ghost use Rattle.cs_voice.specs.Jobs.{voice_job_frames};
+    ghost use Rattle.cs_voice.specs.{VoiceMeaning.voice_job, Jobs.voice_job_frames};
 
     ghost means = { voice_job };
 

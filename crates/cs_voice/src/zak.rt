@@ -1,14 +1,10 @@
 // Zak places, read, written, mixed into and cleared by the numbers that values name.
 ghost use Rattle.std.specs.Prelude.{◌≡◌, [], ◌∷◌, length, true};
 ghost use Rattle.cs_machine.specs.Access.{AreSpaces, spaces_of};
-ghost use Rattle.cs_voice.specs.Cells.{CanReach, DoesZak, MayReach};
-ghost use Rattle.cs_voice.specs.inner.Zak.{reached};
+ghost use Rattle.cs_voice.specs.{Cells.CanReach, Cells.DoesZak, Cells.MayReach, inner.Zak.reached};
 ghost use Rattle.cs_base.specs.Rates.{is_audio};
 ghost use Rattle.cs_cells.specs.Cells.{cell};
-ghost use Rattle.cs_ir.specs.Registers.{rate_at};
-ghost use Rattle.cs_ir.specs.Resources.{places_of};
-ghost use Rattle.cs_ir.specs.Validity.{has_register};
-ghost use Rattle.cs_ir.specs.declared.register.Reg.{Reg};
+ghost use Rattle.cs_ir.specs.{Registers.rate_at, Resources.places_of, Validity.has_register, declared.register.Reg.Reg};
 ghost use Rattle.cs_meaning.specs.Pieces.{index};
 ghost use Rattle.cs_words.specs.declared.catalogue.Shape.TheVariants as shape;
 ghost use Rattle.cs_words.specs.declared.catalogue.Space.TheVariants as space;

@@ -1,7 +1,6 @@
 // Small codes worked out: a call that does nothing, whose contract says what comes of them.
 ghost use Rattle.std.specs.Prelude.{◌≡◌, ◌∷◌, [], pos, true, None, Some};
-ghost use Rattle.cs_meaning.specs.Examples.{whole};
-ghost use Rattle.cs_meaning.specs.Model.{no_table, delay_too_long};
+ghost use Rattle.cs_meaning.specs.{Examples.whole, Model.no_table, Model.delay_too_long};
 ghost use Rattle.cs_voice_meaning.specs.Examples.{begun, cells_of, counting, ending, heard, missing_table, reading};
 ghost use Rattle.cs_voice_meaning.specs.Examples.{seeking, start, storing, two_delays, writing};
 ghost use Rattle.cs_voice_meaning.specs.Voices.{performed, left_by};

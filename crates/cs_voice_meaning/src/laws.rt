@@ -1,11 +1,8 @@
 // What holds of every voice: calls that do nothing, whose contracts are the laws.
 ghost use Rattle.std.specs.Prelude.{◌≡◌, ◌<◌, ℕ, ℤ, [], None, length, true};
-ghost use Rattle.cs_cells.specs.Cells.{Cells, cell};
-ghost use Rattle.cs_cells.specs.Meaning.{Frames};
-ghost use Rattle.cs_voice_meaning.specs.Follows.{DoAlike};
-ghost use Rattle.cs_ir.specs.Validity.{fine_from};
-ghost use Rattle.cs_ir.specs.declared.register.Counts.{Counts};
-ghost use Rattle.cs_voice_meaning.specs.Room.{VoiceFits};
+ghost use Rattle.cs_cells.specs.{Cells.Cells, Cells.cell, Meaning.Frames};
+ghost use Rattle.cs_voice_meaning.specs.{Follows.DoAlike, Room.VoiceFits};
+ghost use Rattle.cs_ir.specs.{Validity.fine_from, declared.register.Counts.Counts};
 ghost use Rattle.cs_voice_meaning.specs.Voices.{Sheet, Sounding, IsPlayable, IsSound, cycle, initialised, left_by};
 ghost use Rattle.cs_voice_meaning.specs.Voices.{performed, voice_means, voice_of};
 
@@ -19,8 +16,7 @@ pub fn voices_stand_for_notes()
 /// cells.
 pub fn voices_obey_the_frame_law()
     ensures frames { Frames voice_means }
-    ensures voice { (v : Sounding) (c : Cells) → IsSound v
-        → performed v c ≡ voice_of v.sheet (cycle v (cell c)) }
+    ensures voice { (v : Sounding) (c : Cells) → IsSound v → performed v c ≡ voice_of v.sheet (cycle v (cell c)) }
     ensures cells { (v : Sounding) (c : Cells) (a : ℕ) → IsSound v → a < length c
         → cell (left_by v c) a ≡ (cycle v (cell c)).world.shared a }
 {}

@@ -1,6 +1,6 @@
 -- What is found of tables on the way: how often each number is given, which are given first, and which may be written.
-use Rattle.std.specs.Prelude.{ℕ, min, ◌==◌, ◌≡◌, ◌<◌, ◌||◌, ◌&&◌, Bool, false, not, List, [], ◌∷◌, map, slice_index_or}
-use Rattle.std.specs.{Prelude.None, List.list_any}
+use Rattle.std.specs.Prelude.{ℕ, zero, suc, ◌≡◌, ◌<◌, ◌||◌, ◌&&◌, Bool, true, false, not, List, [], ◌∷◌, map}
+use Rattle.std.specs.{Prelude.None, Prelude.slice_index_or, List.list_any}
 use Rattle.cs_base.specs.Rates.{same_res}
 use Rattle.cs_gen.specs.Faults.{table_fault}
 use Rattle.cs_ir.specs.{Instruments.Numbered, Resources.act_writes, Touched.resources, declared.op.Act.Act}
@@ -9,6 +9,8 @@ use Rattle.cs_score.specs.Ranges.{IsTableNumber}
 use Rattle.cs_meaning.specs.Plain.{Table}
 use Rattle.cs_piece.specs.Tables.{Given, firsts, only, table_given, times_given}
 use Rattle.cs_piece.specs.{declared.tables.GivenTable.GivenTable, declared.tables.Firsts.Firsts}
+use Rattle.cs_piece.specs.declared.tables.Times.{Times}
+use Rattle.cs_piece.specs.declared.tables.Times.TheVariants as times
 use Rattle.cs_base.specs.declared.resource.Res.TheVariants as res
 
 -- table numbers are below
@@ -16,14 +18,20 @@ abbrev pub numbers_end : ℕ
 numbers_end = 65536
 
 -- a count, as far as it is told
-abbrev pub as_times : ℕ → ℕ
-as_times n = min n 255
+abbrev pub as_times : ℕ → Times
+as_times zero = times.Never
+as_times (suc zero) = times.Once
+as_times (suc (suc n)) = times.Again
+
+abbrev pub is_once : Times → Bool
+is_once times.Once = true
+is_once _ = false
 
 abbrev pub given_of : GivenTable → Given
 given_of f = record { number = f.number; size = f.size; gen = f.gen_; args = f.args.now }
 
-abbrev pub times_at : List ℕ → ℕ → ℕ
-times_at ts n = slice_index_or ts n 0
+abbrev pub times_at : List Times → ℕ → Times
+times_at ts n = slice_index_or ts n times.Never
 
 -- a number that tables have, and a table without a fault
 pub record IsRight (g : Given) : Type 0 where
@@ -60,10 +68,10 @@ abbrev pub is_marked : Marks → ℕ → Bool
 is_marked w n = w.any || slice_index_or w.numbers n false
 
 -- a table is frozen by what was found
-abbrev pub frozen_by : List ℕ → Marks → ℕ → Bool
-frozen_by ts w n = (times_at ts n == 1) && not (is_marked w n)
+abbrev pub frozen_by : List Times → Marks → ℕ → Bool
+frozen_by ts w n = is_once (times_at ts n) && not (is_marked w n)
 
-abbrev pub table_by : List ℕ → Marks → Given → Table
+abbrev pub table_by : List Times → Marks → Given → Table
 table_by ts w g = table_given (frozen_by ts w g.number) g
 
 -- no element has this number; no two of a list have one
