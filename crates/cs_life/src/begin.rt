@@ -1,10 +1,8 @@
 // The notes of a cycle begin.
 ghost use Rattle.std.specs.Prelude.{◌≡◌, ◌<◌, ◌==◌, ℕ, filter, length, true, IfOk, OnOk};
-ghost use Rattle.std.specs.List.{All};
-ghost use Rattle.std.specs.List.Sorted.{IsNonDecreasingBy};
+ghost use Rattle.std.specs.{List.All, List.Sorted.IsNonDecreasingBy};
 ghost use Rattle.cs_cells.specs.Areas.{word_count};
-ghost use Rattle.cs_piece_meaning.specs.Course.{begins};
-ghost use Rattle.cs_piece_meaning.specs.Moments.{Moment};
+ghost use Rattle.cs_piece_meaning.specs.{Course.begins, Moments.Moment};
 ghost use Rattle.cs_piece_meaning.specs.Starts.{act_done, all_done, all_waited};
 ghost use Rattle.cs_life.specs.Standing.{Grew, StandsFor};
 ghost use Rattle.cs_life.specs.inner.Doing.{CanBeDone, CanGoOn, HasGoneOn};

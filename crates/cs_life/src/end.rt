@@ -1,10 +1,8 @@
 // Notes leave: those that have ended as a cycle begins, and those that were turned off as it ends.
 ghost use Rattle.std.specs.Prelude.{◌≡◌, filter, length};
 ghost use Rattle.cs_cells.specs.Cells.{Cells};
-ghost use Rattle.cs_piece_meaning.specs.Course.{turned_off};
-ghost use Rattle.cs_piece_meaning.specs.Moments.{Composition, Moment};
-ghost use Rattle.cs_life.specs.Leaving.{stays, without};
-ghost use Rattle.cs_life.specs.Standing.{StandsFor};
+ghost use Rattle.cs_piece_meaning.specs.{Course.turned_off, Moments.Composition, Moments.Moment};
+ghost use Rattle.cs_life.specs.{Leaving.stays, Leaving.without, Standing.StandsFor};
 
 use crate::leaving::Leaving;
 use crate::life::Life;

@@ -1,18 +1,11 @@
 // What whoever performs the notes rests on: calls that do nothing, whose contracts are the laws.
-ghost use Rattle.std.specs.Prelude.{◌≡◌, ◌≤◌, ℕ, List, length};
-ghost use Rattle.std.specs.List.{All};
+ghost use Rattle.std.specs.{Prelude.◌≡◌, Prelude.◌≤◌, Prelude.ℕ, Prelude.List, Prelude.length, List.All};
 ghost use Rattle.cs_base.specs.Limits.{most_notes};
-ghost use Rattle.cs_cells.specs.Cells.{Cells};
-ghost use Rattle.cs_cells.specs.Serial.{serial_cells, serial_jobs};
+ghost use Rattle.cs_cells.specs.{Cells.Cells, Serial.serial_cells, Serial.serial_jobs, Areas.IsFootprint};
 ghost use Rattle.cs_piece_meaning.specs.Course.{begins, moment_at, performed};
-ghost use Rattle.cs_piece_meaning.specs.Heard.{mix_in};
-ghost use Rattle.cs_piece_meaning.specs.Moments.{Composition, Moment};
-ghost use Rattle.cs_life.specs.Standing.{StandsFor};
-ghost use Rattle.cs_life.specs.declared.life.Life.{Life};
-ghost use Rattle.cs_voice.specs.Mixing.{mixed, shape};
-ghost use Rattle.cs_cells.specs.Areas.{IsFootprint};
-ghost use Rattle.cs_voice.specs.VoiceData.{VoiceData};
-ghost use Rattle.cs_voice.specs.VoiceMeaning.{voice_job};
+ghost use Rattle.cs_piece_meaning.specs.{Heard.mix_in, Moments.Composition, Moments.Moment};
+ghost use Rattle.cs_life.specs.{Standing.StandsFor, declared.life.Life.Life};
+ghost use Rattle.cs_voice.specs.{Mixing.mixed, Mixing.shape, VoiceData.VoiceData, VoiceMeaning.voice_job};
 
 use cs_voice::voices_perform;
 

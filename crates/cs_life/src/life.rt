@@ -1,12 +1,9 @@
 // What is kept of a performance beside its cells and the voices of its notes.
 ghost use Rattle.std.specs.Prelude.{◌≡◌, ◌<◌, ℕ, [], false, length, pos, replicate, IfOk, OnOk};
-ghost use Rattle.cs_cells.specs.Areas.{word_count};
-ghost use Rattle.cs_cells.specs.Cells.{cell};
+ghost use Rattle.cs_cells.specs.{Areas.word_count, Cells.cell};
 ghost use Rattle.cs_piece_meaning.specs.Course.{opening, outside_done};
 ghost use Rattle.cs_life.specs.Standing.{StandsFor, flags_of};
-ghost use Rattle.cs_piece.specs.VoicesOfNotes.{Hold};
-ghost use Rattle.cs_piece.specs.Ready.{IsStageOf};
-ghost use Rattle.cs_piece.specs.Setups.{composition_of};
+ghost use Rattle.cs_piece.specs.{VoicesOfNotes.Hold, Ready.IsStageOf, Setups.composition_of};
 
 use cs_base::OutOfMemory;
 use cs_cells::{Bank, Layout};

@@ -1,21 +1,15 @@
 // A note starts: it is initialised, what it asks for waits, and it takes its place among those that play.
 ghost use Rattle.std.specs.Prelude.{◌≡◌, ◌+◌, ◌<◌, ◌==◌, ◌||◌, ℕ, ℤ, pos, true, List, length, nat_lt, slice_index_or};
-ghost use Rattle.std.specs.Prelude.{OnOk};
-ghost use Rattle.std.specs.List.Sorted.{IsNonDecreasingBy};
+ghost use Rattle.std.specs.{Prelude.OnOk, List.Sorted.IsNonDecreasingBy};
 ghost use Rattle.cs_base.specs.Limits.{most_notes};
-ghost use Rattle.cs_cells.specs.Areas.{word_count};
-ghost use Rattle.cs_cells.specs.Cells.{Cells};
-ghost use Rattle.cs_piece_meaning.specs.Moments.{Composition, Moment, clock_of};
+ghost use Rattle.cs_cells.specs.{Areas.word_count, Cells.Cells};
+ghost use Rattle.cs_piece_meaning.specs.{Moments.Composition, Moments.Moment, Moments.clock_of, Starts.start_of};
 ghost use Rattle.cs_piece_meaning.specs.Starts.{Start, asked, begun, entered, has_room, in_vain, initialised, start_in};
-ghost use Rattle.cs_piece_meaning.specs.Starts.{start_of};
 ghost use Rattle.cs_life.specs.Standing.{Grew, StandsFor};
 ghost use Rattle.cs_life.specs.inner.Starting.{IsBegun, Joined, Wait, all_wanted, count_after};
-ghost use Rattle.cs_meaning.specs.Core.{Block};
-ghost use Rattle.cs_meaning.specs.Notes.{Note};
-ghost use Rattle.cs_meaning.specs.Plain.{Plain};
+ghost use Rattle.cs_meaning.specs.{Core.Block, Notes.Note, Plain.Plain};
 ghost use Rattle.cs_sched.specs.Times as times;
-ghost use Rattle.cs_piece.specs.Ready.{IsInstrumentOf};
-ghost use Rattle.cs_piece.specs.Setups.{composition_of};
+ghost use Rattle.cs_piece.specs.{Ready.IsInstrumentOf, Setups.composition_of};
 ghost use Rattle.cs_voice.specs.VoiceData.{VoiceData};
 
 use crate::life::Life;

@@ -2,14 +2,10 @@
 ghost use Rattle.std.specs.Prelude.{◌≡◌, ◌<◌, ℕ, List, length, true, OnOk, Some};
 ghost use Rattle.cs_machine.specs.Access.{CanTouch, row_wave};
 ghost use Rattle.cs_base.specs.declared.resource.Res.TheVariants as res;
-ghost use Rattle.cs_cells.specs.Areas.{word_count};
-ghost use Rattle.cs_cells.specs.Cells.{cell};
-ghost use Rattle.cs_cells.specs.declared.footprint.Area.{Area};
-ghost use Rattle.cs_piece_meaning.specs.Moments.{Moment};
-ghost use Rattle.cs_piece_meaning.specs.Starts.{made_table};
+ghost use Rattle.cs_cells.specs.{Areas.word_count, Cells.cell, declared.footprint.Area.Area};
+ghost use Rattle.cs_piece_meaning.specs.{Moments.Moment, Starts.made_table};
 ghost use Rattle.cs_gen.specs.Points.{points_of};
-ghost use Rattle.cs_life.specs.Standing.{StandsFor};
-ghost use Rattle.cs_life.specs.inner.Doing.{CanBeMade};
+ghost use Rattle.cs_life.specs.{Standing.StandsFor, inner.Doing.CanBeMade};
 ghost use Rattle.cs_life.specs.inner.Marks.{PointsWritten, has_cells, marked};
 ghost use Rattle.cs_piece.specs.Setups.{composition_of};
 ghost use Rattle.cs_voice_meaning.specs.Placing.{area_of, with_wave};

@@ -1,6 +1,8 @@
 -- What is kept of a performance, from step to step.
 use Rattle.std.proofs.Common.{subst, ◌≡◌, ℕ, zero, suc, ℤ, pos, List, ◌∷◌, length, replicate, refl, ap, sym, ◌∙◌}
-use Rattle.std.specs.{List.All, Prelude.Result, Prelude.Ok, Prelude.Err, Prelude.OnOk}
+use Rattle.std.specs.{List.All, Option.IsSomeAnd, Prelude.Result, Prelude.Ok, Prelude.Err, Prelude.OnOk}
+use Rattle.std.specs.Prelude.{Option, Some, None}
+use Rattle.std.proofs.lemmas.Option.{same_Some}
 use Rattle.cs_cells.specs.{Areas.word_count, Areas.IsFootprint, Cells.Cells, Cells.values, Serial.serial_cells}
 use Rattle.cs_cells.specs.{Serial.serial_jobs, declared.footprint.Area.Area, declared.footprint.Footprint.Footprint}
 use Rattle.cs_piece_meaning.specs.{Course.begins, Moments.Composition, Moments.Moment}
@@ -11,6 +13,7 @@ use Rattle.cs_voice.specs.{VoiceData.VoiceData, VoiceMeaning.voice_job}
 use Rattle.cs_desk.specs.{declared.course.Course.Course, Courses.IsCourseOf}
 use Rattle.cs_perform.specs.declared.order.PerformanceOrder.{PerformanceOrder}
 use Rattle.cs_perform.specs.{declared.recording.Recording.Recording, inner.Recordings.IsRecordingOf}
+use Rattle.cs_perform.specs.{declared.stand.Stand.Stand, inner.Stands.IsAt}
 
 -- a step that is told of the life's own setup
 pub of_setup : (s : SetupData) (life : Life) (voices : List VoiceData) (cells : Cells) (m : Moment) → life.setup.now ≡ s
@@ -101,3 +104,22 @@ pub still_recorded : {A E : Type 0} (r : Result A E) (s : SetupData) (order : Pe
     → IsRecordingOf s order n recording → OnOk r (IsRecordingOf s order n recording)
 still_recorded (Ok x) s order n recording is = is
 still_recorded (Err e) s order n recording is = tt
+
+-- what is kept, where it is there
+module _ {G : Type 0} (s : SetupData) (m : Moment) where
+  abbrev IsThere : Option (Stand G) → Type 0
+  IsThere o = IsSomeAnd o (λ (stand : Stand G). IsAt s stand m)
+
+  pub there : (o : Option (Stand G)) (stand : Stand G) → o ≡ Some stand → IsSomeAnd o (λ (x : Stand G). IsAt s x m)
+      → IsAt s stand m
+  there o stand is at = subst IsThere is at
+
+  pub put_there : (o : Option (Stand G)) (stand : Stand G) → o ≡ Some stand → IsAt s stand m
+      → IsSomeAnd o (λ (x : Stand G). IsAt s x m)
+  put_there o stand is at = subst IsThere (sym is) at
+
+  pub taken : (stand other : Stand G) → Some stand ≡ Some other → IsAt s other m → IsAt s stand m
+  taken stand other is at = subst (λ (x : Stand G). IsAt s x m) (sym (same_Some stand other is)) at
+
+  pub never_gone : {B : Type 0} (o : Option (Stand G)) → o ≡ None → IsSomeAnd o (λ (x : Stand G). IsAt s x m) → B
+  never_gone o is at = absurd (subst IsThere is at)

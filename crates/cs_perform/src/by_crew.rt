@@ -1,8 +1,7 @@
 // A performance by a crew, whose helpers are threads of a scope that lasts for the performance.
 ghost use Rattle.std.specs.Prelude.{◌≡◌};
 ghost use Rattle.cs_perform.specs.Performances.{PerformsPiece, lent, lent_sight, request_of};
-ghost use Rattle.cs_perform.specs.inner.Crews.{HasPlace};
-ghost use Rattle.cs_perform.specs.inner.Stands.{MayGoOn};
+ghost use Rattle.cs_perform.specs.{inner.Crews.HasPlace, inner.Stands.MayGoOn};
 
 use crate::counter::Counter;
 use crate::loan::{Loan, take_back};
@@ -99,7 +98,7 @@ fn play_loan<'a, 's, 'e, 't: 's, K: Sink, C: Counter, R: Threads + Wait + Sync, 
     let PerformanceStart { stand, recording } = start;
     let ensemble = Ensemble {
         pool: &mut pool,
-        stand,
+        stand: Some(stand),
     };
     let played = go_on(performance, ensemble, recording, &mut loan);
     pool.close();

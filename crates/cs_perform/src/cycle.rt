@@ -1,18 +1,13 @@
 // One control cycle.
 ghost use Rattle.std.specs.Prelude.{◌≡◌, ◌+◌, ◌*◌, ◌≤◌, ◌<◌, ◌++◌, length, IfOk, OnOk, OnErr, IsErrOf};
 ghost use Rattle.std.specs.List.{count_by};
-ghost use Rattle.cs_base.specs.Limits.{most_notes};
-ghost use Rattle.cs_base.specs.Widths.{bytes_of};
-ghost use Rattle.cs_piece_meaning.specs.Course.{begins, moment_at};
-ghost use Rattle.cs_piece_meaning.specs.Moments.{Moment};
-ghost use Rattle.cs_edge.specs.Told.{HasCause};
-ghost use Rattle.cs_edge.specs.Moves.{WroteMore, WrotePart};
-ghost use Rattle.cs_perform.specs.Hearing.{IfWritten, Told};
+ghost use Rattle.cs_base.specs.{Limits.most_notes, Widths.bytes_of};
+ghost use Rattle.cs_piece_meaning.specs.{Course.begins, Course.moment_at, Moments.Moment};
+ghost use Rattle.cs_edge.specs.{Told.HasCause, Moves.WroteMore, Moves.WrotePart};
+ghost use Rattle.cs_perform.specs.{Hearing.IfWritten, Hearing.Told, inner.Recordings.IsRecordingOf, inner.Stands.IsAt};
 ghost use Rattle.cs_perform.specs.Performances.{if_told, lent, lent_sight, request_of};
 ghost use Rattle.cs_perform.specs.declared.order.Output.TheVariants.{SoundFile};
 ghost use Rattle.cs_perform.specs.inner.Plays.{BreaksCycle, PlaysCycle};
-ghost use Rattle.cs_perform.specs.inner.Recordings.{IsRecordingOf};
-ghost use Rattle.cs_perform.specs.inner.Stands.{IsAt};
 ghost use Rattle.cs_piece.specs.Setups.{composition_of};
 ghost use Rattle.cs_turns.specs.Turns.{line_of, turns_in};
 ghost use Rattle.cs_wav.specs.Wav.{is_out_of_range, samples_of};
@@ -34,15 +29,15 @@ use cs_wav::pcm_block;
 pub(crate) fn play_cycle<K: Sink, C: Counter, S: Sounder>(
     performance: &Performance<'_>,
     cycle: u32,
-    sounder: S,
+    sounder: &mut S,
     recording: &mut Recording,
     loan: &mut Loan<'_, K, C>,
-) -> Result<S, PlayFault>
-    requires at { S.is_at performance.now.setup.now sounder
+) -> Result<(), PlayFault>
+    requires at { S.is_at performance.now.setup.now sounder.old
         (moment_at (composition_of performance.now.setup.now) cycle) }
     requires recorded { IsRecordingOf performance.now.setup.now performance.now.order cycle recording.old }
     requires room { most_notes < C.room loan.old.tally.now }
-    ensures at { IfOk result (λ next. S.is_at performance.now.setup.now next
+    ensures at { OnOk result (S.is_at performance.now.setup.now sounder.new
         (moment_at (composition_of performance.now.setup.now) (cycle + 1))) }
     ensures recorded { OnOk result (IsRecordingOf performance.now.setup.now performance.now.order (cycle + 1)
         recording.new) }
@@ -63,10 +58,10 @@ pub(crate) fn play_cycle<K: Sink, C: Counter, S: Sounder>(
         × (loan.new.taps.ghost_name ≡ loan.old.taps.ghost_name)
         × (loan.new.tally.ghost_name ≡ loan.old.tally.ghost_name) }
 {
-    let Ok(sounder) = sounder.sound(performance, cycle, recording, loan.tally) else {
+    let Ok(()) = sounder.sound(performance, cycle, recording, loan.tally) else {
         return Err(PlayFault::OutOfMemory);
     };
-    let head = &performance.setup.orchestra().head;
+    let head = performance.setup.head();
     let mix = &recording.mix;
     let Ok(outside) = pour(
         performance.order,
@@ -76,12 +71,11 @@ pub(crate) fn play_cycle<K: Sink, C: Counter, S: Sounder>(
         loan.wav,
         loan.taps,
     ) else {
-        drop(sounder);
         return Err(PlayFault::Sink);
     };
     let more = u64::from(outside);
     recording.out_of_range += more;
-    Ok(sounder)
+    Ok(())
 }
 
 /// The notes of a cycle begin, and their line of turns is added, where it is told.

@@ -1,10 +1,8 @@
 // What holds of performances: calls that do nothing, whose contracts are the laws.
 ghost use Rattle.std.specs.Prelude.{◌≡◌, ◌≤◌, ◌+◌, ℕ};
-ghost use Rattle.cs_base.specs.declared.head.Head.{Head};
-ghost use Rattle.cs_base.specs.declared.width.SampleWidth.{SampleWidth};
+ghost use Rattle.cs_base.specs.{declared.head.Head.Head, declared.width.SampleWidth.SampleWidth};
 ghost use Rattle.cs_desk.specs.declared.receipt.Tally.{Tally};
-ghost use Rattle.cs_piece_meaning.specs.Heard.{frames_of, notes_before};
-ghost use Rattle.cs_piece_meaning.specs.Moments.{Composition};
+ghost use Rattle.cs_piece_meaning.specs.{Heard.frames_of, Heard.notes_before, Moments.Composition};
 ghost use Rattle.cs_edge.specs.Told.{IsFront};
 ghost use Rattle.cs_perform.specs.Counted.{AreHeardBefore, CountsOn, IsTallyOf, Receipts};
 ghost use Rattle.cs_perform.specs.Performances.{file_after};

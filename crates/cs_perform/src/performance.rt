@@ -1,16 +1,13 @@
 // A piece is performed into a sink, to taps, and counted.
 ghost use Rattle.std.specs.Prelude.{◌≡◌, ◌*◌, ◌≤◌, ◌^◌, IfOk, OnOk, IsErrOf};
-ghost use Rattle.cs_base.specs.Limits.{most_wav_bytes};
-ghost use Rattle.cs_base.specs.Widths.{bytes_of};
+ghost use Rattle.cs_base.specs.{Limits.most_wav_bytes, Widths.bytes_of};
 ghost use Rattle.cs_piece_meaning.specs.Course.{moment_at, opening};
 ghost use Rattle.cs_edge.specs.Told.{Rose};
-ghost use Rattle.cs_perform.specs.Hearing.{IfWritten};
+ghost use Rattle.cs_perform.specs.{Hearing.IfWritten, inner.Crews.HasPlace, inner.Recordings.IsRecordingOf};
 ghost use Rattle.cs_perform.specs.Performances.{Performs, PerformsPiece, lent, lent_sight, request_of};
 ghost use Rattle.cs_perform.specs.declared.order.Output.TheVariants.{SoundFile};
-ghost use Rattle.cs_perform.specs.inner.Crews.{HasPlace};
 ghost use Rattle.cs_perform.specs.inner.Ends.{AreStartsOf, Breaks, Closes};
 ghost use Rattle.cs_perform.specs.inner.Plays.{BrokeOn, PausedOn, PlayedOn};
-ghost use Rattle.cs_perform.specs.inner.Recordings.{IsRecordingOf};
 ghost use Rattle.cs_piece.specs.Setups.{composition_of};
 
 use crate::by_crew::play_by_crew;
@@ -133,7 +130,7 @@ pub(crate) fn go_on<K: Sink, C: Counter, S: Sounder>(
 /// The performance from its opening on.
 fn play<K: Sink, C: Counter, S: Sounder>(
     performance: &Performance<'_>,
-    sounder: S,
+    mut sounder: S,
     recording: &mut Recording,
     loan: &mut Loan<'_, K, C>,
 ) -> Result<Starts, PlayFault>
@@ -157,8 +154,8 @@ fn play<K: Sink, C: Counter, S: Sounder>(
         drop(sounder);
         return Err(PlayFault::Sink);
     };
-    match play_all(performance, sounder, recording, loan) {
-        Ok(sounder) => close(performance, sounder, loan.wav),
+    match play_all(performance, &mut sounder, recording, loan) {
+        Ok(()) => close(performance, sounder, loan.wav),
         Err(fault) => Err(fault),
     }
 }
@@ -166,14 +163,15 @@ fn play<K: Sink, C: Counter, S: Sounder>(
 /// All cycles.
 fn play_all<K: Sink, C: Counter, S: Sounder>(
     performance: &Performance<'_>,
-    mut sounder: S,
+    sounder: &mut S,
     recording: &mut Recording,
     loan: &mut Loan<'_, K, C>,
-) -> Result<S, PlayFault>
+) -> Result<(), PlayFault>
     requires room { 2 ^ 42 ≤ C.room loan.old.tally.now }
-    requires at { S.is_at performance.now.setup.now sounder (moment_at (composition_of performance.now.setup.now) 0) }
+    requires at { S.is_at performance.now.setup.now sounder.old
+        (moment_at (composition_of performance.now.setup.now) 0) }
     requires recorded { IsRecordingOf performance.now.setup.now performance.now.order 0 recording.old }
-    ensures at { IfOk result (λ next. S.is_at performance.now.setup.now next
+    ensures at { OnOk result (S.is_at performance.now.setup.now sounder.new
         (moment_at (composition_of performance.now.setup.now) performance.now.setup.now.plot.cycles)) }
     ensures recorded { OnOk result (IsRecordingOf performance.now.setup.now performance.now.order
         performance.now.setup.now.plot.cycles recording.new) }
@@ -195,12 +193,12 @@ fn play_all<K: Sink, C: Counter, S: Sounder>(
         × (loan.new.tally.ghost_name ≡ loan.old.tally.ghost_name) }
 {
     for cycle in 0..performance.setup.plot().cycles {
-        sounder = match play_cycle(performance, cycle, sounder, recording, loan) {
-            Ok(next) => next,
+        match play_cycle(performance, cycle, sounder, recording, loan) {
+            Ok(()) => {}
             Err(fault) => return Err(fault),
-        };
+        }
     }
-    Ok(sounder)
+    Ok(())
 }
 
 /// The events at the very end are done, and the file is ended.

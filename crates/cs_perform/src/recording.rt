@@ -1,9 +1,7 @@
 // What is recorded of a performance.
 ghost use Rattle.std.specs.Prelude.{◌≡◌, ◌*◌, ◌≤◌, [], IfOk};
-ghost use Rattle.cs_base.specs.Limits.{most_wav_bytes};
-ghost use Rattle.cs_base.specs.Widths.{bytes_of};
-ghost use Rattle.cs_perform.specs.Performances.{IsOutcomeOf, if_told};
-ghost use Rattle.cs_perform.specs.inner.Ends.{AreStartsOf};
+ghost use Rattle.cs_base.specs.{Limits.most_wav_bytes, Widths.bytes_of};
+ghost use Rattle.cs_perform.specs.{Performances.IsOutcomeOf, Performances.if_told, inner.Ends.AreStartsOf};
 ghost use Rattle.cs_perform.specs.inner.Recordings.{HasBlocks, IsRecordingOf};
 ghost use Rattle.cs_piece.specs.Setups.{composition_of};
 ghost use Rattle.cs_turns.specs.Turns.{turn_lines_of};

@@ -1,11 +1,8 @@
 // How large the sound file of a piece is.
 ghost use Rattle.std.specs.Prelude.{◌≡◌, ◌*◌, ◌≤◌, ◌++◌, length};
-ghost use Rattle.cs_base.specs.Limits.{most_wav_bytes};
-ghost use Rattle.cs_base.specs.Widths.{bytes_of};
-ghost use Rattle.cs_base.specs.declared.width.SampleWidth.{SampleWidth};
+ghost use Rattle.cs_base.specs.{Limits.most_wav_bytes, Widths.bytes_of, declared.width.SampleWidth.SampleWidth};
 ghost use Rattle.cs_piece_meaning.specs.Heard.{frames_of};
-ghost use Rattle.cs_perform.specs.Performances.{front_after};
-ghost use Rattle.cs_perform.specs.inner.Ends.{padding};
+ghost use Rattle.cs_perform.specs.{Performances.front_after, inner.Ends.padding};
 ghost use Rattle.cs_piece.specs.Setups.{composition_of};
 ghost use Rattle.cs_wav.specs.Wav.{header_bytes, wav_of};
 
@@ -20,7 +17,7 @@ pub(crate) fn frames_in(setup: &Setup) -> u32
         * bytes_of width ≤ most_wav_bytes) }
     ensures { result ≡ setup.now.plot.cycles * setup.now.orchestra.head.ksmps }
 {
-    setup.plot().cycles * setup.orchestra().head.ksmps
+    setup.plot().cycles * setup.head().ksmps
 }
 
 /// The header, where `frames` is the number of frames.
@@ -31,7 +28,7 @@ pub(crate) fn first_bytes(setup: &Setup, width: SampleWidth, frames: u32) -> [u8
     ensures { result ≡ header_bytes width (length (frames_of
         (composition_of setup.now)) * bytes_of width) setup.now.orchestra.head }
 {
-    header(width, frames, &setup.orchestra().head)
+    header(width, frames, setup.head())
 }
 
 /// Whether the samples have an odd size.
@@ -43,7 +40,7 @@ pub(crate) fn ends_odd(setup: &Setup, width: SampleWidth, frames: u32) -> bool
         (composition_of setup.now).cycles ++ padding result
         ≡ wav_of (frames_of (composition_of setup.now)) setup.now.orchestra.head width }
 {
-    let values = frames * setup.orchestra().head.nchnls;
+    let values = frames * setup.head().nchnls;
     let size = values * width.bytes();
     size % 2 == 1
 }

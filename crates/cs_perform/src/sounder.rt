@@ -1,13 +1,10 @@
 // Who makes the sound of the cycles: what is kept from cycle to cycle, and who runs its notes.
-ghost use Rattle.std.specs.Prelude.{◌≡◌, ◌+◌, ◌*◌, ◌≤◌, ◌<◌, ◌++◌, length, IfOk, OnOk, OnErr};
+ghost use Rattle.std.specs.Prelude.{◌≡◌, ◌+◌, ◌*◌, ◌≤◌, ◌<◌, ◌++◌, length, IfOk, IsSomeAnd, OnOk, OnErr};
 ghost use Rattle.cs_base.specs.Limits.{most_notes};
 ghost use Rattle.cs_life.specs.Standing.{kept_count};
 ghost use Rattle.cs_piece.specs.Setups.{SetupData, composition_of};
-ghost use Rattle.cs_piece_meaning.specs.Course.{begins, moment_at};
-ghost use Rattle.cs_piece_meaning.specs.Heard.{mix_in};
-ghost use Rattle.cs_piece_meaning.specs.Moments.{Moment};
-ghost use Rattle.cs_perform.specs.Performances.{if_told};
-ghost use Rattle.cs_perform.specs.inner.Stands.{CountsCycle, IsAt};
+ghost use Rattle.cs_piece_meaning.specs.{Course.begins, Course.moment_at, Heard.mix_in, Moments.Moment};
+ghost use Rattle.cs_perform.specs.{Performances.if_told, inner.Stands.CountsCycle, inner.Stands.IsAt};
 ghost use Rattle.cs_turns.specs.Turns.{line_of, notes_in, turns_in};
 
 use crate::counter::Counter;
@@ -30,18 +27,18 @@ pub(crate) trait Sounder: Drop {
     /// The notes of a cycle begin, perform it and leave, and it is counted. Its mix is in the block, and its line of
     /// turns behind the others, where they are told.
     fn sound<C: Counter>(
-        self,
+        &mut self,
         performance: &Performance<'_>,
         cycle: u32,
         recording: &mut Recording,
         tally: &mut C,
-    ) -> Result<Self, OutOfMemory>
-        requires at { is_at performance.now.setup.now self
+    ) -> Result<(), OutOfMemory>
+        requires at { is_at performance.now.setup.now self.old
             (moment_at (composition_of performance.now.setup.now) cycle) }
         requires mix { length recording.old.mix.items
             ≡ performance.now.setup.now.orchestra.head.ksmps * performance.now.setup.now.orchestra.head.nchnls }
         requires room { most_notes < C.room tally.old }
-        ensures at { IfOk result (λ next. is_at performance.now.setup.now next
+        ensures at { OnOk result (is_at performance.now.setup.now self.new
             (moment_at (composition_of performance.now.setup.now) (cycle + 1))) }
         ensures heard { OnOk result (recording.new.mix.items
             ≡ mix_in (composition_of performance.now.setup.now) cycle) }
@@ -63,35 +60,44 @@ pub(crate) trait Sounder: Drop {
             × (n.not_started ≡ kept_count (begins (composition_of s) cycle m).not_started)) };
 }
 
-/// A crew, and what is kept from cycle to cycle.
+/// A crew, and what is kept from cycle to cycle, which is out while the crew runs a cycle.
 #[derive(Drop)]
 pub(crate) struct Ensemble<'r, 'e, 't, R, G: Gate> {
     pub pool: &'r mut Pool<'e, NoteRow<'t, G>, R, OpenGate>,
-    pub stand: Stand<'t, G>,
+    pub stand: Option<Stand<'t, G>>,
 }
 
 impl<'r, 'e, 't, R: Wait, G: Gate> Sounder for Ensemble<'r, 'e, 't, R, G> {
-    ghost is_at = { λ s e m. IsAt s e.stand m };
+    ghost is_at = { λ s e m. IsSomeAnd e.stand (λ stand. IsAt s stand m) };
 
     fn sound<C: Counter>(
-        self,
+        &mut self,
         performance: &Performance<'_>,
         cycle: u32,
         recording: &mut Recording,
         tally: &mut C,
-    ) -> Result<Self, OutOfMemory> {
-        let Ensemble { pool, mut stand } = self;
-        let Ok(()) = prepare(performance, cycle, &mut stand, &mut recording.turns) else {
-            drop(stand);
-            return Err(OutOfMemory);
+    ) -> Result<(), OutOfMemory> {
+        let Some(stand) = &mut self.stand else {
+            unreachable!()
         };
-        let mut stand = stand.run(pool, performance.alloc, cycle, tally, &mut recording.mix);
+        prepare(performance, cycle, stand, &mut recording.turns)?;
+        if !stand.is_shared(performance.alloc, self.pool, &recording.mix) {
+            stand.run_alone(cycle, tally, &mut recording.mix);
+            stand.end();
+            return Ok(());
+        }
+        let Some(stand) = self.stand.take() else {
+            unreachable!()
+        };
+        let mut stand = stand.run_shared(self.pool, cycle, tally, &mut recording.mix);
         stand.end();
-        Ok(Ensemble { pool, stand })
+        drop(self.stand.replace(stand));
+        Ok(())
     }
 
     fn close(self, alloc: Global, cycle: u32) -> Result<Starts, OutOfMemory> {
         let Ensemble { pool: _, stand } = self;
+        let Some(stand) = stand else { unreachable!() };
         stand.close(alloc, cycle)
     }
 }
@@ -106,20 +112,16 @@ impl<'t, G: Gate> Sounder for Soloist<'t, G> {
     ghost is_at = { λ s e m. IsAt s e.stand m };
 
     fn sound<C: Counter>(
-        self,
+        &mut self,
         performance: &Performance<'_>,
         cycle: u32,
         recording: &mut Recording,
         tally: &mut C,
-    ) -> Result<Self, OutOfMemory> {
-        let Soloist { mut stand } = self;
-        let Ok(()) = prepare(performance, cycle, &mut stand, &mut recording.turns) else {
-            drop(stand);
-            return Err(OutOfMemory);
-        };
-        let mut stand = stand.run_alone(cycle, tally, &mut recording.mix);
-        stand.end();
-        Ok(Soloist { stand })
+    ) -> Result<(), OutOfMemory> {
+        prepare(performance, cycle, &mut self.stand, &mut recording.turns)?;
+        self.stand.run_alone(cycle, tally, &mut recording.mix);
+        self.stand.end();
+        Ok(())
     }
 
     fn close(self, alloc: Global, cycle: u32) -> Result<Starts, OutOfMemory> {

@@ -3,16 +3,13 @@ ghost use Rattle.std.specs.Prelude.{◌≡◌, ◌+◌, ◌*◌, ◌≤◌, ◌<
 ghost use Rattle.cs_base.specs.Limits.{most_notes};
 ghost use Rattle.cs_cells.specs.Areas.{word_count};
 ghost use Rattle.cs_piece_meaning.specs.Course.{begins, moment_at, opening, performed, turned_off};
-ghost use Rattle.cs_piece_meaning.specs.Heard.{mix_in};
-ghost use Rattle.cs_piece_meaning.specs.Moments.{Moment};
+ghost use Rattle.cs_piece_meaning.specs.{Heard.mix_in, Moments.Moment};
 ghost use Rattle.cs_desk.specs.Desk.{areas, cells};
 ghost use Rattle.cs_life.specs.Standing.{StandsFor, kept_count};
-ghost use Rattle.cs_perform.specs.Counted.{CountsOn};
-ghost use Rattle.cs_perform.specs.inner.Stands.{InRows, IsAt, IsReady};
+ghost use Rattle.cs_perform.specs.{Counted.CountsOn, inner.Stands.InRows, inner.Stands.IsAt, inner.Stands.IsReady};
 ghost use Rattle.cs_piece.specs.Setups.{SetupData, composition_of};
 ghost use Rattle.cs_row.specs.Heard.{sums};
-ghost use Rattle.cs_voice.specs.Mixing.{gives, shape};
-ghost use Rattle.cs_voice.specs.VoiceData.{VoiceData};
+ghost use Rattle.cs_voice.specs.{Mixing.gives, Mixing.shape, VoiceData.VoiceData};
 
 use crate::counter::Counter;
 use cs_base::OutOfMemory;
@@ -25,6 +22,7 @@ use cs_pool::Pool;
 use cs_row::{Heard, Row, Rows, row_laws, sum_rows};
 use cs_voice::Voice;
 use std::alloc::Global;
+use std::mem;
 use std::sync::Wait;
 
 /// The number of notes for which there is room at first.
@@ -67,7 +65,7 @@ impl<'t, G: Gate> Stand<'t, G> {
     {
         let course = Course::of_feet(alloc, Vec::new(alloc))?;
         let turns = Course::of_feet(alloc, Vec::new(alloc))?;
-        let head = &setup.orchestra().head;
+        let head = setup.head();
         let block = head.ksmps as usize * head.nchnls as usize;
         let (life, desk) = open_desk(alloc, setup)?;
         Ok(Stand {
@@ -99,7 +97,7 @@ impl<'t, G: Gate> Stand<'t, G> {
         Ok(())
     }
 
-    /// The notes are cut into rows for so many workers, and the course is that of the rows, unless they are so still.
+    /// The notes are cut into rows for `workers` workers, and the course is that of the rows, unless they are so still.
     fn cut_rows(&mut self, alloc: Global, workers: u32) -> Result<(), OutOfMemory>
         requires at { (s : SetupData) × (m : Moment) × IsAt s self.old m }
         requires workers { 1 ≤ workers }
@@ -117,7 +115,7 @@ impl<'t, G: Gate> Stand<'t, G> {
         Ok(())
     }
 
-    /// All is made ready for so many workers: the rows and their course, memory for these, and room for their cycle.
+    /// All is made ready for `workers` workers: the rows and their course, memory for these, and room for their cycle.
     fn make_ready(&mut self, alloc: Global, workers: u32) -> Result<(), OutOfMemory>
         requires at { (s : SetupData) × (m : Moment) × IsAt s self.old m }
         requires workers { 1 ≤ workers }
@@ -130,84 +128,59 @@ impl<'t, G: Gate> Stand<'t, G> {
         make_room(alloc, self.life.zones(), &mut self.desk, rows, edges)
     }
 
-    /// The notes that play perform the cycle, and `tally` counts it by their receipt: in rows by the crew, where the
-    /// cycle is offered to it, they are several and there is memory for that, else by the caller alone. What they give
-    /// together is in the block.
-    pub fn run<R: Wait, C: Counter>(
-        mut self,
-        pool: &mut Pool<'_, NoteRow<'t, G>, R, OpenGate>,
+    /// Whether the crew is to run the cycle: where it is offered to it, the notes are several and there is memory for
+    /// their rows, and all is ready then. `block` is what they give together. Else the cycle is the caller's alone, and
+    /// the crew knows.
+    pub fn is_shared<R: Wait>(
+        &mut self,
         alloc: Global,
-        cycle: u32,
-        tally: &mut C,
-        block: &mut [i64],
-    ) -> Stand<'t, G>
-        requires at { (s : SetupData) × (m : Moment) × IsAt s self m }
-        requires block { length block.old ≡ self.rows.block }
-        requires room { most_notes < C.room tally.old }
-        ensures performed { (s : SetupData) (m : Moment) → IsAt s self.entry m
-            → IsAt s result (performed (composition_of s) m) }
-        ensures heard { (s : SetupData) (n : ℕ)
-            → IsAt s self.entry (begins (composition_of s) n (moment_at (composition_of s) n))
-            → block.new ≡ mix_in (composition_of s) n }
-        ensures counted { CountsOn C.has_counted tally.old tally.new (result.voices.items ∷ []) }
-        ensures room { C.room tally.old ≤ C.room tally.new + (most_notes + 1) }
+        pool: &mut Pool<'_, NoteRow<'t, G>, R, OpenGate>,
+        block: &[i64],
+    ) -> bool
+        requires at { (s : SetupData) × (m : Moment) × IsAt s self.old m }
+        ensures at { (s : SetupData) (m : Moment) → IsAt s self.old m → IsAt s self.new m }
+        ensures ready { result ≡ true → IsReady self.new }
     {
-        if !pool.offers() || self.voices.len() < 2 {
+        let notes = self.voices.len();
+        if notes < 2 || !pool.offers(notes.saturating_mul(block.len())) {
             pool.pass();
-            return self.run_alone(cycle, tally, block);
+            return false;
         }
         match self.make_ready(alloc, pool.workers()) {
-            Ok(()) => self.run_shared(pool, cycle, tally, block),
+            Ok(()) => true,
             Err(OutOfMemory) => {
                 pool.pass();
-                self.run_alone(cycle, tally, block)
+                false
             }
         }
     }
 
-    /// By the caller alone.
-    pub fn run_alone<C: Counter>(self, cycle: u32, tally: &mut C, block: &mut [i64]) -> Stand<'t, G>
-        requires at { (s : SetupData) × (m : Moment) × IsAt s self m }
-        requires block { length block.old ≡ self.rows.block }
+    /// The notes that play perform the cycle one by one, by the caller alone, and `tally` counts it by their receipt.
+    /// What they give together is in the block.
+    pub fn run_alone<C: Counter>(&mut self, cycle: u32, tally: &mut C, block: &mut [i64])
+        requires at { (s : SetupData) × (m : Moment) × IsAt s self.old m }
+        requires block { length block.old ≡ self.old.rows.block }
         requires room { most_notes < C.room tally.old }
-        ensures performed { (s : SetupData) (m : Moment) → IsAt s self.entry m
-            → IsAt s result (performed (composition_of s) m) }
+        ensures performed { (s : SetupData) (m : Moment) → IsAt s self.old m
+            → IsAt s self.new (performed (composition_of s) m) }
         ensures heard { (s : SetupData) (n : ℕ)
-            → IsAt s self.entry (begins (composition_of s) n (moment_at (composition_of s) n))
+            → IsAt s self.old (begins (composition_of s) n (moment_at (composition_of s) n))
             → block.new ≡ mix_in (composition_of s) n }
-        ensures counted { CountsOn C.has_counted tally.old tally.new (result.voices.items ∷ []) }
+        ensures counted { CountsOn C.has_counted tally.old tally.new (self.new.voices.items ∷ []) }
         ensures room { C.room tally.old ≤ C.room tally.new + (most_notes + 1) }
     {
         serial_runs_perform();
         voices_are_heard();
-        let Stand {
-            life,
-            gate,
-            voices,
-            mut desk,
-            course,
-            rows,
-            current,
-            turns,
-        } = self;
-        let notes = voices.len() as u32;
-        let receipt = desk.run_alone(cycle, notes, voices, gate);
-        let voices = tally.count(receipt);
-        sum_notes(&voices, block);
-        Stand {
-            life,
-            gate,
-            voices,
-            desk,
-            course,
-            rows,
-            current,
-            turns,
-        }
+        let notes = self.voices.len() as u32;
+        let alloc = *self.voices.allocator();
+        let voices = mem::replace(&mut self.voices, Vec::new(alloc));
+        let receipt = self.desk.run_alone(cycle, notes, voices, self.gate);
+        self.voices = tally.count(receipt);
+        sum_notes(&self.voices, block);
     }
 
-    /// In rows, by the crew.
-    fn run_shared<R: Wait, C: Counter>(
+    /// The same in rows, by the crew.
+    pub fn run_shared<R: Wait, C: Counter>(
         self,
         pool: &mut Pool<'_, NoteRow<'t, G>, R, OpenGate>,
         cycle: u32,

@@ -28,7 +28,7 @@ impl<'t, G: Gate> PerformanceStart<'t, G> {
     ) -> Result<PerformanceStart<'t, G>, OutOfMemory>
         ensures { IfOk result (IsStart setup.now order) }
     {
-        let head = &setup.orchestra().head;
+        let head = setup.head();
         let recording = Recording::new(alloc, head, order.width)?;
         let stand = Stand::new(alloc, setup, gate)?;
         Ok(PerformanceStart { stand, recording })

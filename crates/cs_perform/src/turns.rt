@@ -1,8 +1,7 @@
 // The lines that tell in which turn each note comes.
 ghost use Rattle.std.specs.Prelude.{◌≡◌, ◌++◌, OnOk};
 ghost use Rattle.cs_piece_meaning.specs.Moments.{Moment};
-ghost use Rattle.cs_perform.specs.Performances.{if_told};
-ghost use Rattle.cs_perform.specs.inner.Stands.{IsAt};
+ghost use Rattle.cs_perform.specs.{Performances.if_told, inner.Stands.IsAt};
 ghost use Rattle.cs_piece.specs.Setups.{composition_of};
 ghost use Rattle.cs_turns.specs.Turns.{line_of, turns_in};
 

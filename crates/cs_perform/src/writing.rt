@@ -1,9 +1,7 @@
 // The bytes of the sound file, where it is written.
 ghost use Rattle.std.specs.Prelude.{◌≡◌, ℕ, List, ◌++◌, OnOk, OnErr};
-ghost use Rattle.cs_edge.specs.Told.{HasCause};
-ghost use Rattle.cs_edge.specs.Moves.{WroteMore, WrotePart, Wrote, Stopped};
-ghost use Rattle.cs_perform.specs.Hearing.{IfWritten};
-ghost use Rattle.cs_perform.specs.declared.order.Output.TheVariants.{SoundFile};
+ghost use Rattle.cs_edge.specs.{Told.HasCause, Moves.WroteMore, Moves.WrotePart, Moves.Wrote, Moves.Stopped};
+ghost use Rattle.cs_perform.specs.{Hearing.IfWritten, declared.order.Output.TheVariants.SoundFile};
 ghost use Rattle.cs_perform.specs.inner.Ends.{Finishes, Stops, padding};
 
 use crate::order::Output;

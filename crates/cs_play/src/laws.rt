@@ -3,22 +3,14 @@
 ghost use Rattle.std.specs.Prelude.{◌≡◌, ◌≢◌, ◌⊎◌, ℕ, true, false, List, Some, None, Ok, Err};
 ghost use Rattle.cs_base.specs.declared.width.SampleWidth.{SampleWidth};
 ghost use Rattle.cs_piece_meaning.specs.Moments.{Composition};
-ghost use Rattle.cs_edge.specs.Moves.{Held};
-ghost use Rattle.cs_edge.specs.Told.{Rose};
+ghost use Rattle.cs_edge.specs.{Moves.Held, Told.Rose};
 ghost use Rattle.cs_play.specs.Alike.{AreTexts, AskAlike, HadNoFault, SoundAlike, TellAlike};
-ghost use Rattle.cs_play.specs.Page.{Ends};
-ghost use Rattle.cs_play.specs.Preparing.{Reads};
-ghost use Rattle.cs_play.specs.Report.{meter_lines};
-ghost use Rattle.cs_play.specs.Runs.{IsProgramRun, told_in};
-ghost use Rattle.cs_play.specs.Scene.{Scene, sight};
-ghost use Rattle.cs_play.specs.Sounds.{HoldsSoundFront};
-ghost use Rattle.cs_report.specs.Status.{refusal};
-ghost use Rattle.cs_report.specs.declared.status.Status.{Status};
+ghost use Rattle.cs_play.specs.{Page.Ends, Preparing.Reads, Report.meter_lines, Runs.IsProgramRun, Runs.told_in};
+ghost use Rattle.cs_play.specs.{Scene.Scene, Scene.sight, Sounds.HoldsSoundFront};
+ghost use Rattle.cs_report.specs.{Status.refusal, declared.status.Status.Status};
 ghost use Rattle.cs_report.specs.declared.status.Status.TheVariants as status;
 ghost use Rattle.cs_arguments.specs.Reading.{Asked, Text, reading};
-ghost use Rattle.cs_source.specs.Meaning.{Mean};
-ghost use Rattle.cs_source.specs.Sounds.{IsSoundOf};
-ghost use Rattle.cs_source.specs.Texts.{LackWhereTold, Texts};
+ghost use Rattle.cs_source.specs.{Meaning.Mean, Sounds.IsSoundOf, Texts.LackWhereTold, Texts.Texts};
 ghost use Rattle.cs_base.specs.declared.refusal.Refusal.{Refusal};
 
 use cs_edge::{Shelf, Sink, Tap};

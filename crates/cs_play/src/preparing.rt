@@ -1,7 +1,6 @@
 // What comes before a performance: words and texts are read, and compiled or refused.
 ghost use Rattle.std.specs.Prelude.{◌≡◌, List, Ok, Some, false, true, IfErr, IfOk, OnOk};
-ghost use Rattle.cs_arguments.specs.Orders.{asked_in, piece_in};
-ghost use Rattle.cs_arguments.specs.Reading.{Asked, Text, reading};
+ghost use Rattle.cs_arguments.specs.{Orders.asked_in, Orders.piece_in, Reading.Asked, Reading.Text, Reading.reading};
 ghost use Rattle.cs_command.specs.Words.{texts};
 ghost use Rattle.cs_play.specs.Preparing.{IsPrepared, IsReadFor, IsUnprepared};
 ghost use Rattle.cs_play.specs.inner.Faulted.{IsNotLoaded, unread_status};

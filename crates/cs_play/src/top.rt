@@ -1,8 +1,7 @@
 // The whole run.
 ghost use Rattle.std.specs.Prelude.{◌≤◌, ◌^◌};
 ghost use Rattle.cs_command.specs.Words.{texts};
-ghost use Rattle.cs_play.specs.Runs.{IsProgramRun};
-ghost use Rattle.cs_play.specs.Scene.{scene, sight};
+ghost use Rattle.cs_play.specs.{Runs.IsProgramRun, Scene.scene, Scene.sight};
 
 use crate::player::{Alone, Host, play, play_alone};
 use crate::preparing::prepare;
@@ -15,11 +14,10 @@ use std::sync::Wait;
 use std::thread::Threads;
 
 /// All that the program does: reads the words behind its name, takes the piece that they ask for from the shelf or
-/// makes the demo, performs it, writes the sound file into `wav`, tells the mix to each of `taps`, counts the cycles
-/// by their receipts in `tally`, and says on `talk` the report, or why there is none. `IsProgramRun` says what each
-/// status means. `tally` has room for 2^42 cycles and notes. As many workers perform as the words ask for, though no
-/// more than there are processors, or two where there is one; `gate` is handed to them, to be called before each
-/// note.
+/// makes the demo, performs it, writes the sound file into `wav`, tells the mix to each of `taps`, counts the cycles by
+/// their receipts in `tally`, and says on `talk` the report, or why there is none. `IsProgramRun` says what each status
+/// means. `tally` has room for 2^42 cycles and notes. As many workers perform as the words ask for, though no more than
+/// there are processors, or two where there is one; `gate` is handed to them, to be called before each note.
 pub fn csplay<R: Threads + Wait + Sync, F: Shelf, K: Sink, T: Sink, C: Counter, G: Gate + Sync>(
     rt: &R,
     alloc: Global,

@@ -5,6 +5,10 @@ use Rattle.std.specs.Prelude.{ℕ, ◌^◌, min}
 abbrev pub most_alone : ℕ
 most_alone = 128
 
+-- how many values the notes of a cycle have to make, so that it may be another's too
+abbrev pub few_values : ℕ
+few_values = 2
+
 -- how many follow a cycle that was offered and that no helper began, by how many such there were in a row before it: 1,
 -- 2, 4 .. 128
 abbrev pub alone_after : ℕ → ℕ

@@ -1,8 +1,7 @@
-// Who runs the notes of a performance: so many workers, and the gate that each of them calls.
+// Who runs the notes of a performance: a number of workers, and the gate that each of them calls.
 ghost use Rattle.std.specs.Prelude.{◌≡◌, ◌≤◌};
 
-/// A crew of 1 to 32 workers, of which the caller is one, and the gate that each of them calls
-/// before it runs a note.
+/// A crew of 1 to 32 workers, of which the caller is one, and the gate that each of them calls before it runs a note.
 #[derive(Drop)]
 pub struct Crew<'r, R, G> {
     pub rt: &'r R,

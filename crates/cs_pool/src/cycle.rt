@@ -1,16 +1,13 @@
 // One control cycle.
 ghost use Rattle.std.specs.Prelude.{◌≡◌, ◌<◌, ◌≤◌, ◌+◌, ◌-◌, ◌⊎◌, ◌↔◌, ℕ, length, min, All, true, false};
 ghost use Rattle.std.specs.Arc.{arc_value};
-ghost use Rattle.cs_board.specs.Board.{plan, name, view, IsSeatOf};
+ghost use Rattle.cs_board.specs.{Board.plan, Board.name, Board.view, Board.IsSeatOf, Views.opening_view};
 ghost use Rattle.cs_desk.specs.Cycles.{IsCycle, WasPlayed};
-ghost use Rattle.cs_pool.specs.Working.{IsReady, IsDone};
-ghost use Rattle.cs_pool.specs.Numbered.{IsFirst};
+ghost use Rattle.cs_pool.specs.{Working.IsReady, Working.IsDone, Numbered.IsFirst, inner.Lines.IsIdle};
 ghost use Rattle.cs_graph.specs.Cover.{HasCover};
-ghost use Rattle.cs_pool.specs.Pools.{helpers, ended, next_cycle, cycles_alone, tasks_served, served_by};
-ghost use Rattle.cs_pool.specs.Pools.{tasks_given, given_to, GivesParts, IsShared};
-ghost use Rattle.cs_pool.specs.Pools.{HasMissed, Learns, LearnsNothing, NeedsNoHelper};
-ghost use Rattle.cs_pool.specs.inner.Lines.{IsIdle};
-ghost use Rattle.cs_board.specs.Views.{opening_view};
+ghost use Rattle.cs_pool.specs.Alone.{few_values};
+ghost use Rattle.cs_pool.specs.Pools.{helpers, ended, next_cycle, cycles_alone, tasks_served, served_by, tasks_given};
+ghost use Rattle.cs_pool.specs.Pools.{given_to, GivesParts, IsShared, HasMissed, Learns, LearnsNothing, NeedsNoHelper};
 
 use crate::letter::Task;
 use crate::line::Line;
@@ -45,8 +42,11 @@ const LOOKS_A_NOTE: u32 = 800;
 /// wrote at another processor.
 const LOOKS_AN_EDGE: u32 = 3_200;
 
+/// A cycle whose notes make fewer values than this, one for each note, channel and frame, is the caller's alone.
+const FEW_VALUES: usize = 2;
+
 impl<'e, J: Job + Drop, R: Wait, G: Gate> Pool<'e, J, R, G> {
-    /// Runs the notes of one control cycle, and answers a receipt with their jobs, the desk, and
+    /// Runs the notes of one control cycle, and returns a receipt with their jobs, the desk, and
     /// the graph, as if the notes had run one by one in serial order over the desk's cells.
     ///
     /// `graph` is that of the jobs, which stand in serial order; it serves as many cycles as the
@@ -89,15 +89,17 @@ impl<'e, J: Job + Drop, R: Wait, G: Gate> Pool<'e, J, R, G> {
         Desk::rest(board, first)
     }
 
-    /// Whether the next cycle is offered to the helpers: where there are any, unless it is one of those
-    /// that are the caller's alone. So the first cycle is offered; after each one that was offered and that
-    /// no helper began before the caller was done 1, 2, 4 and so on up to 128 are the caller's alone, and
-    /// none after one that a helper began (`cycle`). A cycle that isn't offered needs no graph of its notes: the
-    /// caller runs them (`Desk::run_alone`) and tells the crew (`pass`).
-    pub fn offers(&self) -> bool
-        ensures { (result ≡ true) ↔ ((0 < helpers self.now) × (cycles_alone self.now ≡ 0)) }
+    /// Whether the next cycle is offered to the helpers, if there are any: where its notes have many values to make,
+    /// one for each note, channel and frame, unless it is one of those that are the caller's alone. So the first cycle
+    /// of two values or more is offered; after each one that was offered and that no helper began before the caller
+    /// was done 1, 2, 4 and so on up to 128 are the caller's alone, and none after one that a helper began (`cycle`). A
+    /// cycle that isn't offered needs no graph of its notes: the caller runs them (`Desk::run_alone`) and tells the
+    /// crew (`pass`).
+    pub fn offers(&self, values: usize) -> bool
+        ensures { (result ≡ true)
+            ↔ ((few_values ≤ values) × (0 < helpers self.now) × (cycles_alone self.now ≡ 0)) }
     {
-        !self.lines.is_empty() && self.sparing.alone == 0
+        values >= FEW_VALUES && !self.lines.is_empty() && self.sparing.alone == 0
     }
 
     /// How many workers it has, the caller among them.
@@ -129,8 +131,8 @@ impl<'e, J: Job + Drop, R: Wait, G: Gate> Pool<'e, J, R, G> {
         parts_of(chains, self.lines.len())
     }
 
-    /// The cycle on its board, by the caller and so many others, each of which looks so often before it begins. It
-    /// answers the board, of which nobody else has a share any more, and the first seat.
+    /// The cycle on its board, by the caller and `others` helpers, each of which looks `hesitation` times before it
+    /// begins. Returns the board, of which nobody else has a share any more, and the first seat.
     fn play(
         &mut self,
         board: Board<J>,
@@ -176,7 +178,7 @@ impl<'e, J: Job + Drop, R: Wait, G: Gate> Pool<'e, J, R, G> {
     }
 }
 
-/// How many of so many helpers are of use beside the caller, where no more notes than chains run at once.
+/// How many of `helpers` helpers are of use beside the caller, where no more notes than chains run at once.
 fn parts_of(chains: u32, helpers: usize) -> usize
     ensures { result ≡ min (chains - 1) helpers }
 {

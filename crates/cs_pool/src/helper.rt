@@ -17,9 +17,8 @@ use std::thread;
 /// How often a helper looks for a task before it sleeps.
 const LOOKS: u32 = 2_200;
 
-/// How many of these looks follow each other at once, some microseconds together. Between the
-/// others it lets other threads go first, so that in a row of cycles with some tens of microseconds
-/// between them nobody has to be woken.
+/// How many of these looks follow each other at once, some microseconds together. Between the others it lets other
+/// threads go first, so that in a row of cycles with some tens of microseconds between them nobody has to be woken.
 const BRISK_LOOKS: u32 = 2_000;
 
 /// How many tasks in a row a helper takes, each after half the hesitation before it. Then it hesitates as long as at
@@ -56,7 +55,7 @@ pub(crate) fn help<J: Job + Drop, G: Gate, R: Wait>(
 }
 
 /// Looks for a task, or for the end of all tasks, for a while, and then sleeps until the caller
-/// wakes it. It answers the word as it found it last.
+/// wakes it. Returns the word as it found it last.
 fn await_word<J: Job + Drop, R: Wait>(
     rt: &R,
     mailbox: &Mailbox<J>,
@@ -73,7 +72,7 @@ fn await_word<J: Job + Drop, R: Wait>(
     mailbox.word()
 }
 
-/// Between the look of this number and the next, where so many are brisk.
+/// Between the look of this number and the next, where the first `brisk` looks are brisk.
 pub(crate) fn pause(look: u32, brisk: u32) {
     if look < brisk {
         spin_loop();

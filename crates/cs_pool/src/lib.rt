@@ -1,7 +1,7 @@
 //! The standing crew of a performance: helpers that are started once, and take part in each control cycle for which
 //! the caller gives them a seat at the cycle's board. Between cycles they look for work for a while, and then sleep.
 //!
-//! The one contract: `Pool::cycle` answers a receipt with the jobs and the desk with the cells of the serial run, for
+//! The one contract: `Pool::cycle` returns a receipt with the jobs and the desk with the cells of the serial run, for
 //! every number of helpers and every interleaving of their steps, in each of any number of cycles.
 //!
 //! How a helper gets its seat and gives it back, how it is woken, how long anybody looks before it sleeps, how many

@@ -1,11 +1,7 @@
 // The caller's side of one helper.
-ghost use Rattle.std.specs.Prelude.{◌≡◌, ◌+◌, IfOk, IfNone};
-ghost use Rattle.std.specs.Int.{from_bool};
-ghost use Rattle.std.specs.Arc.{arc_value};
-ghost use Rattle.cs_board.specs.declared.board.Board.{Board};
-ghost use Rattle.cs_board.specs.declared.board.BoardSeat.{BoardSeat};
-ghost use Rattle.cs_pool.specs.Working.{IsDone, IsThrough};
-ghost use Rattle.cs_pool.specs.Letters.{one_given};
+ghost use Rattle.std.specs.{Prelude.◌≡◌, Prelude.◌+◌, Prelude.IfOk, Prelude.IfNone, Int.from_bool, Arc.arc_value};
+ghost use Rattle.cs_board.specs.{declared.board.Board.Board, declared.board.BoardSeat.BoardSeat};
+ghost use Rattle.cs_pool.specs.{Working.IsDone, Working.IsThrough, Letters.one_given};
 ghost use Rattle.cs_pool.specs.Mailboxes.{HasNothingOut, IsFree, LooksFor, given, served, tasks};
 ghost use Rattle.cs_pool.specs.inner.Lines.{IsIdle, IsLent, IsBusy};
 
@@ -34,8 +30,7 @@ const LOOKS: u32 = 1_200;
 /// others it lets other threads go first.
 const BRISK_LOOKS: u32 = 1_000;
 
-/// The mailbox of a helper and the caller's end of it, with what wakes the helper and what its
-/// thread is joined by.
+/// The mailbox of a helper and the caller's end of it, with what wakes the helper and what its thread is joined by.
 pub(crate) struct Line<J: Job> {
     pub(crate) mailbox: Arc<Mailbox<J>, Global>,
     pub(crate) end: CallerEnd<J>,
@@ -105,9 +100,8 @@ impl<J: Job + Drop> Line<J> {
         self.unparker.unpark();
     }
 
-    /// The seat that is out, after its work. A helper that hasn't begun is not waited for: its seat
-    /// is taken back. Else the caller looks for the seat for a while, and then sleeps until the
-    /// helper leaves the group.
+    /// The seat that is out, after its work. A helper that hasn't begun is not waited for: its seat is taken back. Else
+    /// the caller looks for the seat for a while, and then sleeps until the helper leaves the group.
     pub(crate) fn await_seat<R: Wait>(&mut self, rt: &R) -> Returned<J>
         requires { IsBusy self.old }
         ensures home { IsIdle self.new }

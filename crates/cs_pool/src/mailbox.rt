@@ -1,8 +1,6 @@
 // The mailbox of one helper: the caller gives it a task in each cycle and gets its seat back.
-ghost use Rattle.std.specs.Prelude.{◌≡◌, IfOk, IfSome, IfNone};
-ghost use Rattle.std.specs.Arc.{arc_value};
-ghost use Rattle.cs_board.specs.declared.board.Board.{Board};
-ghost use Rattle.cs_board.specs.declared.board.BoardSeat.{BoardSeat};
+ghost use Rattle.std.specs.{Prelude.◌≡◌, Prelude.IfOk, Prelude.IfSome, Prelude.IfNone, Arc.arc_value};
+ghost use Rattle.cs_board.specs.{declared.board.Board.Board, declared.board.BoardSeat.BoardSeat};
 ghost use Rattle.cs_pool.specs.Working.{IsReady, IsDone, IsThrough};
 
 use crate::letter::{BACK, EMPTY, GIVEN, MailboxLetter, OVER, TAKEN, Task};
@@ -40,8 +38,7 @@ pub(crate) struct HelperEnd<J: Job> {
     pub(crate) seat: End<J>,
 }
 
-/// A seat that is the caller's again, and whether the helper had begun its task: else the seat is as it was handed
-/// out.
+/// A seat that is the caller's again, and whether the helper had begun its task: else the seat is as it was handed out.
 #[derive(Drop)]
 pub(crate) struct Returned<J: Job> {
     pub(crate) seat: BoardSeat<J>,
@@ -49,9 +46,8 @@ pub(crate) struct Returned<J: Job> {
 }
 
 impl<J: Job + Drop> Mailbox<J> {
-    ghost use Rattle.cs_pool.specs.Mailboxes.{HasNothingOut, HasOut, HasSomethingOut, IsFree, IsOnDuty};
-    ghost use Rattle.cs_pool.specs.Letters.{one_given};
-    ghost use Rattle.cs_pool.specs.Mailboxes.{LooksFor, tasks};
+    ghost use Rattle.cs_pool.specs.Mailboxes.{HasNothingOut, HasOut, HasSomethingOut, IsFree, IsOnDuty, LooksFor};
+    ghost use Rattle.cs_pool.specs.{Mailboxes.tasks, Letters.one_given};
 
     /// A mailbox and its two ends. It fails only for want of memory.
     pub(crate) fn new(alloc: Global) -> Result<(Mailbox<J>, CallerEnd<J>, HelperEnd<J>), AllocError>
@@ -157,13 +153,11 @@ impl<J: Job + Drop> Mailbox<J> {
         self.hesitation.load(Ordering::SeqCst)
     }
 
-    /// The helper takes the task that was handed out, or answers None where there is none.
+    /// The helper takes the task that was handed out. None where there is none.
     pub(crate) fn take(&self, end: &mut HelperEnd<J>) -> Option<Task<J>>
         requires { IsFree self.now end.old }
-        ensures some { IfSome result (λ task. IsOnDuty
-            self.now end.new (arc_value task.board) task.seat) }
-        ensures ready { IfSome result (λ task. IsReady
-            J.means (arc_value task.board) task.seat) }
+        ensures some { IfSome result (λ task. IsOnDuty self.now end.new (arc_value task.board) task.seat) }
+        ensures ready { IfSome result (λ task. IsReady J.means (arc_value task.board) task.seat) }
         ensures none { IfNone result (IsFree self.now end.new) }
     {
         let shared = &self.table.shared;

@@ -72,8 +72,7 @@ impl<J: Job> Play<MailboxLetter<J>, Knows<J>> for Collect {
     ghost then = { collected J.means };
 }
 
-/// A task that nobody has taken is taken back: the word, which was GIVEN, is EMPTY, and the slot is
-/// the caller's.
+/// A task that nobody has taken is taken back: the word, which was GIVEN, is EMPTY, and the slot is the caller's.
 pub(crate) struct Withdraw;
 
 impl<J: Job> Play<MailboxLetter<J>, Knows<J>> for Withdraw {

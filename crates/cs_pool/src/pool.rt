@@ -29,7 +29,7 @@ pub struct Pool<'e, J: Job, R, G> {
 impl<'e, J: Job + Send + Drop, R: Threads + Wait + Sync, G: Gate + Sync> Pool<'e, J, R, G> {
     ghost use Rattle.cs_pool.specs.Pools.{helpers, ended, cycles_alone, HasMissed};
 
-    /// A crew of so many workers, 1 to 32, of which the caller is one, so that one worker starts no
+    /// A crew of `workers` workers, 1 to 32, of which the caller is one, so that one worker starts no
     /// thread and takes no memory. It can't fail: a helper for which there is no memory or no
     /// thread only leaves more to the others. The helpers are threads of `scope`, and each worker
     /// calls `gate` before it runs a note. The first cycle is offered to the helpers (`offers`).
@@ -58,7 +58,7 @@ impl<'e, J: Job + Send + Drop, R: Threads + Wait + Sync, G: Gate + Sync> Pool<'e
         }
     }
 
-    /// Ends the helpers and joins their threads. It answers how many cycles were played, or 2^64 - 1
+    /// Ends the helpers and joins their threads. Returns how many cycles were played, or 2^64 - 1
     /// where that is less.
     pub fn close(self) -> u64
         ensures { result ≡ ended self.entry }
@@ -77,7 +77,7 @@ impl<'e, J: Job + Send + Drop, R: Threads + Wait + Sync, G: Gate + Sync> Pool<'e
     }
 }
 
-/// So many helpers, or as many as there is memory and threads for.
+/// The number `helpers` of helpers, or as many as there is memory and threads for.
 fn start_all<'s, 'e, J: Job + Send + Drop + 's, R: Threads + Wait + Sync, G: Gate + Sync>(
     rt: &'e R,
     scope: &'s Scope<'s, &'e ()>,

@@ -1,5 +1,4 @@
-// What the two ends of a mailbox know of it. No value of these types is made: only contracts speak
-// of them.
+// What the two ends of a mailbox know of it. No value of these types is made: only contracts speak of them.
 use cs_board::{Board, BoardSeat};
 use cs_cells::Job;
 
@@ -28,8 +27,7 @@ pub(crate) struct Tasks {
 /// What one end of a mailbox knows.
 pub(crate) struct Knows<J: Job> {
     pub(crate) role: Role,
-    /// In the caller's view what is out at the helper, and in the helper's view what it is on duty
-    /// with.
+    /// In the caller's view what is out at the helper, and in the helper's view what it is on duty with.
     pub(crate) out: Option<Errand<J>>,
     /// In the caller's view the tasks so far.
     pub(crate) tasks: Tasks,

@@ -6,9 +6,8 @@ use cs_cells::Job;
 use cs_edge::Gate;
 use std::sync::Wait;
 
-/// Claims a note, calls the gate, runs the note and finishes it, and so on until all notes have
-/// begun, or until it has looked for one in vain so long that it leaves. Whoever leaves does no note
-/// and owes none.
+/// Claims a note, calls the gate, runs the note and finishes it, and so on until all notes have begun, or until it has
+/// looked for one in vain so long that it leaves. Whoever leaves does no note and owes none.
 pub(crate) fn work<J: Job, G: Gate, R: Wait>(
     rt: &R,
     board: &Board<J>,

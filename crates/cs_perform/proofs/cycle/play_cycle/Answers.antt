@@ -4,7 +4,6 @@ use Rattle.std.proofs.lemmas.List.Sums.{count_by-le-length}
 use Rattle.cs_base.specs.{Widths.bytes_of, declared.head.Head.Head}
 use Rattle.cs_piece_meaning.specs.{Heard.mix_in, Moments.Composition}
 use Rattle.cs_piece.specs.Setups.{composition_of}
-use Rattle.cs_typed.specs.declared.tree.TypedOrc.{TypedOrc}
 use Rattle.cs_wav.specs.Wav.{is_out_of_range}
 use Rattle.cs_perform.specs.Performances.{lent}
 use Rattle.cs_perform.proofs.{Blocks.slice_written, Frames.length-mix_in, Performing.runs_cycle, Turning.told_more}
@@ -44,9 +43,9 @@ pour-requires-clause-room g c =
 
 pub returns-in_default-pour-clause-broken : goal.returns-in_default-pour-clause-broken
 returns-in_default-pour-clause-broken g c e =
-    runs_cycle _ _ c.orchestra.result.now.head.dbfs
+    runs_cycle _ _ c.head-head.result.now.dbfs
     c.args.cycle c.deref.result.now _ _ (c.deref.ensures.value ∙ c.in-Ok.ensures.heard)
-    (ap (λ (o : TypedOrc). o.head.dbfs) c.orchestra.ensures)
+    (ap (λ (h : Head). h.dbfs) c.head-head.ensures)
     c.in_default-pour.ensures.told c.in-Ok.ensures.counted _ c.in_default-pour.ensures.part
 
 pub returns-in_default-pour-clause-sink : goal.returns-in_default-pour-clause-sink
@@ -61,7 +60,7 @@ overflow_add-recording g c =
     let long : length c.deref.result.now ≡ head.ksmps * head.nchnls =
     ap length (c.deref.ensures.value ∙ c.in-Ok.ensures.heard) ∙ length-mix_in piece c.args.cycle in
     let p : ℤ → Bool = is_out_of_range c.args.performance.now.order.width head.dbfs in
-    let q : ℤ → Bool = is_out_of_range c.args.performance.now.order.width c.orchestra.result.now.head.dbfs in
+    let q : ℤ → Bool = is_out_of_range c.args.performance.now.order.width c.head-head.result.now.dbfs in
     let here : c.in-Ok-pour.outside ≡ count_by q c.deref.result.now = c.in-Ok-pour.ensures.out_of_range in
     let some : count_by q c.deref.result.now ≤ length c.deref.result.now = count_by-le-length q c.deref.result.now in
     let fits : c.sound.new.recording.out_of_range + c.in-Ok-pour.outside < 2 ^ 64 =
@@ -71,9 +70,9 @@ overflow_add-recording g c =
 
 pub returns-clause-played : goal.returns-clause-played
 returns-clause-played g c =
-    runs_cycle _ _ c.orchestra.result.now.head.dbfs
+    runs_cycle _ _ c.head-head.result.now.dbfs
     c.args.cycle c.deref.result.now _ _ (c.deref.ensures.value ∙ c.in-Ok.ensures.heard)
-    (ap (λ (o : TypedOrc). o.head.dbfs) c.orchestra.ensures)
+    (ap (λ (h : Head). h.dbfs) c.head-head.ensures)
     c.in-Ok-pour.ensures.told c.in-Ok.ensures.counted _ c.in-Ok-pour.ensures.written
 
 pub returns-clause-recorded : goal.returns-clause-recorded
@@ -96,8 +95,8 @@ returns-clause-recorded g c =
           c.sound.new.recording.out_of_range c.from-more.result is
           (c.in-Ok.ensures.out_of_range ∙ c.requires.recorded.out_of_range)
           (c.from-more.ensures ∙ c.in-Ok-pour.ensures.out_of_range
-          ∙ ap (λ (o : TypedOrc). count_by (is_out_of_range c.args.performance.now.order.width o.head.dbfs)
-          c.deref.result.now) c.orchestra.ensures);
+          ∙ ap (λ (h : Head). count_by (is_out_of_range c.args.performance.now.order.width h.dbfs)
+          c.deref.result.now) c.head-head.ensures);
       turns = told_more c.args.performance.now.order.turns piece c.args.cycle [] c.args.recording.now.turns.items _
           c.requires.recorded.turns c.in-Ok.ensures.turns;
     }

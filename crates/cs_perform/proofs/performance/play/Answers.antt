@@ -12,7 +12,7 @@ frames_in-frames-requires g c = (c.args.performance.now.order.width, c.requires.
 pub close-requires-clause-at : goal.close-requires-clause-at
 close-requires-clause-at g c =
     let s : SetupData = c.args.performance.now.setup.now in
-    stands_so g.S.Sounder.is_at s c.in-Ok-play_all.sounder (moment_at (composition_of s) s.plot.cycles)
+    stands_so g.S.Sounder.is_at s c.play_all.new.sounder (moment_at (composition_of s) s.plot.cycles)
     c.in-Ok-play_all.ensures.at
 
 pub returns-in-Ok-play_all-clause-recorded : goal.returns-in-Ok-play_all-clause-recorded
