@@ -1,7 +1,0 @@
-use Rattle.std.proofs.Common.{◌≡◌}
-use Rattle.cs_ir.specs.Drafts.{library_of}
-use Rattle.cs_ir.specs.Routines.{library_in}
-use Rattle.cs_code_trial.proofs.checks.routine_of.Given as goal
-
-abbrev pub invariant-loop-row : goal.invariant-loop-row
-invariant-loop-row l = library_of l.draft ≡ library_in l.routines

@@ -1,0 +1,140 @@
+// A desk with the graph of marked jobs, and a cycle of them by a crew of its own.
+ghost use Rattle.std.specs.Prelude.{◌≡◌, ◌≤◌, length, map, All, IfSome};
+ghost use Rattle.cs_base.specs.Limits.{most_notes};
+ghost use Rattle.cs_cells.specs.Areas.{IsFootprint};
+ghost use Rattle.cs_desk.specs.{Cycles.AreOver, Desk.HasRoom, Desk.areas};
+ghost use Rattle.cs_graph.specs.Graph.{IsFit};
+ghost use Rattle.cs_crew_trial.specs.Marks.{IsOver};
+
+use crate::marked::{areas, jobs_of};
+use crate::watch::{Seen, Watch};
+use cs_base::{MOST_NOTES, Num};
+use cs_cells::{Bank, Job, Layout, PlainBank};
+use cs_crew::{Crew, run_cycle};
+use cs_desk::{Desk, Tally, feet_of};
+use cs_edge::Gate;
+use cs_graph::Graph;
+use std::alloc::{AllocError, Global};
+use std::sync::atomic::AtomicU64;
+use std::sync::{Arc, Wait};
+use std::thread::Threads;
+
+/// Returns a mark for each of `notes` notes, none of them set.
+pub fn marks_of(alloc: Global, notes: usize) -> Result<Vec<AtomicU64>, AllocError> {
+    let mut marks = Vec::new(alloc);
+    for _ in 0..notes {
+        marks.push(AtomicU64::new(0))?;
+    }
+    Ok(marks)
+}
+
+/// Returns the layout of marked jobs. None if memory runs out.
+pub fn layout(alloc: Global) -> Option<Layout>
+    ensures { IfSome result (λ layout. length layout ≡ 6) }
+{
+    let Ok(areas) = areas(alloc) else {
+        return None;
+    };
+    let Ok(layout) = Layout::build(alloc, areas.as_slice()) else {
+        return None;
+    };
+    Some(layout)
+}
+
+/// Returns the graph of these jobs. None if memory runs out.
+fn graph_of<J: Job>(alloc: Global, jobs: &[J]) -> Option<Graph>
+    requires { length jobs.now ≤ most_notes }
+    ensures notes { IfSome result (λ g. length g.levels ≡ length jobs.now) }
+    ensures fit { IfSome result (λ g. IsFit (map J.means.foot jobs.now) g.edges) }
+{
+    let feet = feet_of(alloc, jobs).ok()?;
+    Graph::of_feet(alloc, &feet).ok()
+}
+
+/// Returns a desk over the layout of these jobs, and their graph. None if memory runs out.
+pub fn desk_for<J: Job + Drop>(
+    alloc: Global,
+    layout: &Layout,
+    jobs: &[J],
+) -> Option<(Desk<J>, Arc<Graph, Global>)>
+    requires few { length jobs.now ≤ most_notes }
+    requires over { All (IsOver J.means layout.now) jobs.now }
+    ensures notes { IfSome result (λ d. length d.1.value.levels ≡ length jobs.now) }
+    ensures fit { IfSome result (λ d. IsFit (map J.means.foot jobs.now) d.1.value.edges) }
+    ensures over { IfSome result (λ d. AreOver J.means d.0 jobs.now) }
+    ensures footprints { IfSome result (λ d. All (λ j. IsFootprint (length (areas d.0)) (J.means.foot j)) jobs.now) }
+    ensures room { IfSome result (λ d. HasRoom d.0 (length jobs.now) (length d.1.value.edges)) }
+{
+    let words = vec![in alloc; 0u64; layout.words() as usize].ok()?;
+    let graph = graph_of(alloc, jobs)?;
+    let (notes, edges) = (graph.len(), graph.edge_count());
+    let Ok(graph) = Arc::new(alloc, graph) else {
+        return None;
+    };
+    match Desk::new(alloc, layout, &words, notes, edges) {
+        Ok(desk) => Some((desk, graph)),
+        Err(_) => None,
+    }
+}
+
+/// Runs one cycle of these jobs, and returns how many its receipt has. None if memory runs out.
+fn run_once<J: Job + Send + Drop, R: Threads + Wait + Sync, G: Gate + Sync>(
+    alloc: Global,
+    crew: &Crew<'_, R, G>,
+    layout: &Layout,
+    jobs: Vec<J>,
+) -> Option<u64>
+    requires few { length jobs.items ≤ most_notes }
+    requires over { All (IsOver J.means layout.now) jobs.items }
+{
+    let Some((desk, graph)) = desk_for(alloc, layout, &jobs) else {
+        return None;
+    };
+    let (receipt, _, _) = run_cycle(crew, alloc, 0, graph, desk, jobs);
+    let mut tally = Tally::new();
+    tally.add(receipt);
+    Some(tally.notes())
+}
+
+/// Returns whether plain memory has a number that was set there. None if memory runs out.
+pub fn in_plain_memory(alloc: Global) -> Option<bool> {
+    let mut words = vec![in alloc; 0u64; 1].ok()?;
+    let mut bank = PlainBank::new(&mut words);
+    bank.set(0, Num::of_raw(7));
+    Some(bank.get(0).raw() == 7)
+}
+
+/// Runs one cycle of a job for each of `marks`, which share nothing, and returns how many its receipt has. None if
+/// memory runs out, or if there are more than notes may be active.
+fn run_marked<R: Threads + Wait + Sync, G: Gate + Sync>(
+    alloc: Global,
+    crew: &Crew<'_, R, G>,
+    marks: &[AtomicU64],
+) -> Option<u64> {
+    if marks.len() > MOST_NOTES {
+        return None;
+    }
+    let layout = layout(alloc)?;
+    let clock = AtomicU64::new(0);
+    let jobs = jobs_of(alloc, &layout, &[], marks, &clock).ok()?;
+    run_once(alloc, crew, &layout, jobs)
+}
+
+/// Returns what is seen of one cycle of `jobs` jobs by `workers` workers, at a gate that holds each job until `held`
+/// have come. The crew isn't cut to the number of processors, so it shows the same on any machine. None if memory runs
+/// out, or if there are more jobs than notes may be active.
+pub fn by_a_crew<R: Threads + Wait + Sync>(
+    rt: &R,
+    alloc: Global,
+    workers: u32,
+    jobs: u32,
+    held: u64,
+) -> Option<Seen>
+    requires { (1 ≤ workers) × (workers ≤ 32) }
+{
+    let marks = marks_of(alloc, jobs as usize).ok()?;
+    let watch = Watch::new(&marks, held);
+    let crew = Crew::new(rt, workers, &watch);
+    let jobs = run_marked(alloc, &crew, &marks)?;
+    Some(watch.seen(jobs))
+}

@@ -1,3 +1,0 @@
-pub mod Mini
-pub mod MiniFrame
-pub mod Playing
