@@ -93,8 +93,9 @@ def in_turn():
 
 
 def shared():
-    """Twelve notes of four oscillators that share nothing, for a tenth of a second: several workers have work."""
-    return heavy_in_small(12, 4)
+    """Sixteen notes of four oscillators that share nothing, for a tenth of a second: several workers have work, 1,024
+    values a cycle."""
+    return heavy_in_small(16, 4)
 
 
 def heavy_in_small(notes, oscillators):

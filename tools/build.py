@@ -142,7 +142,7 @@ class Build:
             self.turn.notify_all()
 
     def run(self):
-        """Builds all, and answers whether that went well."""
+        """Builds all, and returns whether that went well."""
         tell(f"proving and building csplay from {len(self.crates)} crates, {self.lanes} at once")
         self.tell()
         told = 0
@@ -185,7 +185,7 @@ def stop_by(number, _):
 
 
 def proves(found, lines, version):
-    """Proves and builds; answers whether all went well."""
+    """Proves and builds; returns whether all went well."""
     made = Build(list(found), lines)
     if not made.run():
         stop_all()
@@ -199,7 +199,7 @@ def proves(found, lines, version):
 
 
 def ends_well(tool, to):
-    """Runs a script on the program of the quick build, and answers whether its status is 0."""
+    """Runs a script on the program of the quick build, and returns whether its status is 0."""
     how = {"stdin": subprocess.DEVNULL, "stdout": to, "stderr": subprocess.STDOUT, "start_new_session": True}
     running[tool] = subprocess.Popen([sys.executable, f"{TOP}/{tool}", QUICK], **how)
     # In a thread, so that what stops this can wait for it too.
@@ -210,7 +210,7 @@ def ends_well(tool, to):
 
 
 def builds_by_record(found, version):
-    """Builds what the record stands for without a proof, and tries it; answers whether that went well."""
+    """Builds what the record stands for without a proof, and tries it; returns whether that went well."""
     how_long = "in some 2 minutes; ./play --prove proves them here"
     tell(f"these sources passed the gate, by {sums.RECORD}, so csplay is built without proving them again, {how_long}")
     with open(QUICK_LOG, "wb") as to:
@@ -225,7 +225,7 @@ def builds_by_record(found, version):
 
 
 def build(version, is_to_be_proved):
-    """Builds until the program is that of the sources, three times at most; answers whether it is."""
+    """Builds until the program is that of the sources, three times at most; returns whether it is."""
     for _ in range(3):
         lines = sums.crates_listed(TOP)
         found = sums.sums_of(TOP, lines)

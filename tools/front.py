@@ -35,7 +35,7 @@ def state():
 
 def usage():
     """csplay's options and statuses, as docs/LANGUAGE.md has them."""
-    text = pages.page("LANGUAGE")
+    text = pages.page("LANGUAGE").replace("`", "")
     options = text.partition("\n| words | what they ask for |\n")[2].partition("\n\n")[0]
     ends = text.partition("\n| number | status | cause | what is left |\n")[2].partition("\n\n")[0]
     lines = ["csplay's words:", ""]
@@ -43,7 +43,7 @@ def usage():
     lines += ["", "statuses:", ""]
     lines += [f"  {it[0]:<3} {it[1]:<13} {it[2]}; {it[3]}" for it in map(pages.cells, ends.split("\n")[1:])]
     lines += ["", "pages: docs/LANGUAGE.md (what a text may say), docs/CSOUND.md (if you know Csound), docs/SERVERS.md"]
-    return [it.replace("`", "") for it in lines]
+    return lines
 
 
 def copy(to, text, mode=0o644):
