@@ -1,5 +1,5 @@
 // The case that is being made.
-use crate::gate::Task;
+use crate::gate::{Meeting, Task};
 use crate::line::{CaseText, number_of, parted};
 use crate::text::add_piece;
 use std::alloc::{AllocError, Global};
@@ -15,9 +15,10 @@ pub enum Filling {
     Words,
 }
 
-/// What holds for one case alone; a call's number is 0 where none fails.
-#[derive(Clone, Copy)]
+/// What holds for one case alone; a number is 0 where nothing is said.
+#[derive(Clone, Copy, Default)]
 pub struct Once {
+    /// The number of the call that fails.
     pub shelf_fails: u32,
     pub wav_fails: u32,
     pub talk_fails: u32,
@@ -33,8 +34,8 @@ pub struct Once {
     pub report: bool,
     /// The case runs twice on one shelf.
     pub twice: bool,
-    pub task: Task,
-    /// The room of a mirror that is told the mix too; 0 is none.
+    pub task: Option<Task>,
+    /// The room of a mirror that is told the mix too.
     pub mirror: u32,
     /// Samples have three bytes.
     pub wide: bool,
@@ -45,26 +46,6 @@ pub struct Once {
 }
 
 impl Once {
-    fn new() -> Once {
-        Once {
-            shelf_fails: 0,
-            wav_fails: 0,
-            talk_fails: 0,
-            wav_room: u32::MAX,
-            talk_room: u32::MAX,
-            has_words: false,
-            hex: false,
-            calls: false,
-            report: false,
-            twice: false,
-            task: Task::Nothing,
-            mirror: 0,
-            wide: false,
-            drops: false,
-            sure: false,
-        }
-    }
-
     /// Does what a line says of the case. Returns whether it says such a thing.
     pub fn take(&mut self, word: &[u8], rest: &[u8]) -> bool {
         let (name, behind) = parted(rest);
@@ -79,15 +60,10 @@ impl Once {
             b"calls" => self.calls = true,
             b"report" => self.report = true,
             b"twice" => self.twice = true,
-            b"meet" => self.task = Task::Meeting(first),
-            b"gather" => {
-                self.task = Task::Gathering {
-                    from: first,
-                    meetings: second,
-                };
-            }
-            b"sum" => self.task = Task::Summing(first),
-            b"count" => self.task = Task::Counting(first),
+            b"meet" => self.meet(first, 0, 1, 2),
+            b"gather" => self.meet(0, first, second, 2),
+            b"sum" => self.task = Some(Task::Summing(first)),
+            b"count" => self.task = Some(Task::Counting(first)),
             b"mirror" => self.mirror = first,
             b"wide" => self.wide = true,
             b"drops" => self.drops = true,
@@ -95,6 +71,20 @@ impl Once {
             _ => return false,
         }
         true
+    }
+
+    /// The gate is to hold `notes` notes at once.
+    pub fn crowd(&mut self, notes: u32) {
+        self.meet(0, 0, 1, notes);
+    }
+
+    fn meet(&mut self, note: u32, cycle: u32, cycles: u32, notes: u32) {
+        self.task = Some(Task::Meeting(Meeting {
+            note,
+            cycle,
+            cycles,
+            notes,
+        }));
     }
 
     fn fail(&mut self, object: &[u8], call: u32) -> bool {
@@ -125,7 +115,7 @@ impl CaseDesk {
             orchestra: Vec::new(alloc),
             score: Vec::new(alloc),
             words: Vec::new(alloc),
-            once: Once::new(),
+            once: Once::default(),
             filling: Filling::Orchestra,
         }
     }
@@ -154,12 +144,12 @@ impl CaseDesk {
 
     /// Whether any number of workers may play the case: it names none itself, and shows nothing of them.
     pub fn is_for_any_crew(&self) -> bool {
-        matches!(self.once.task, Task::Nothing) && !names_a_crew(self.own_words())
+        self.once.task.is_none() && !names_a_crew(self.own_words())
     }
 
     /// What held for the last case alone is forgotten.
     pub fn forget(&mut self) {
-        self.once = Once::new();
+        self.once = Once::default();
     }
 
     /// Adds to what was begun last.

@@ -10,8 +10,8 @@ pub struct CaseText<'a> {
 
 /// The text that a line adds: behind `|` with a line feed, behind `>` without, and behind a number so many times.
 pub fn text_of(line: &[u8]) -> Option<CaseText<'_>> {
-    let digits = count_digits(line);
-    let (front, rest) = line.split_at(digits.min(line.len()));
+    let digits = line.iter().position(|byte| !byte.is_ascii_digit());
+    let (front, rest) = line.split_at(digits.unwrap_or(usize::MAX).min(line.len()));
     match rest {
         [b'|', text @ ..] => Some(piece_of(front, text, true)),
         [b'>', text @ ..] => Some(piece_of(front, text, false)),
@@ -39,17 +39,6 @@ pub fn parted(text: &[u8]) -> (&[u8], &[u8]) {
     let word = parts.next().unwrap_or(&[]);
     let rest = parts.next().unwrap_or(&[]);
     (word, rest)
-}
-
-fn count_digits(text: &[u8]) -> usize {
-    let mut count = 0usize;
-    for byte in text {
-        if !byte.is_ascii_digit() {
-            break;
-        }
-        count = count.saturating_add(1);
-    }
-    count
 }
 
 /// The number that digits are.

@@ -6,8 +6,8 @@
 //! Nothing is proved of the answers here, only that the trials are safe.
 //!
 //! In reading order: `line` (the parts of a line of a case file), `text` (its escapes), `gate` (what shows how workers
-//! run), `meters` (what the meters show), `desk` (the case that is being made), `play` (the runs of a case), `sure` (a
-//! run over objects that never fail), `show` (its line) and `wave` (the samples in it).
+//! run), `meters` (what the meters show), `desk` (the case that is being made), `play` (the runs of a case), `show`
+//! (its line) and `wave` (the samples in it).
 #![tactic(auto)]
 
 mod desk;
@@ -16,12 +16,10 @@ mod line;
 mod meters;
 mod play;
 mod show;
-mod sure;
 mod text;
 mod wave;
 
 use crate::desk::{CaseDesk, Filling};
-use crate::gate::Task;
 use crate::line::{number_of, parted, text_of};
 use crate::play::play;
 use crate::show::add_shown;
@@ -83,7 +81,7 @@ fn follow<R: Files + Print + AllocGlobal + Threads + Wait + Sync>(
             add_file(rt, rest, &mut desk.score)?;
         }
         b"words" => desk.begin(Filling::Words),
-        b"crowd" => desk.once.task = Task::Crowding(at_once(rt, number_of(rest))),
+        b"crowd" => desk.once.crowd(at_once(rt, number_of(rest))),
         b"play" => {
             say(rt, rest, desk)?;
             desk.forget();

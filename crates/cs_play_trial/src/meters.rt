@@ -34,26 +34,14 @@ impl Tap for DropTap {
     }
 }
 
-/// Adds the line of the last meter.
-pub fn add_last(taps: &[Box<dyn Tap>], told: &mut Vec<u8>) -> Result<(), AllocError> {
-    match taps.last() {
-        Some(tap) => add_line(tap, told),
-        None => Ok(()),
-    }
-}
-
-/// Adds the lines of all meters, in their order.
-pub fn add_all(taps: &[Box<dyn Tap>], told: &mut Vec<u8>) -> Result<(), AllocError> {
+/// Adds the lines of meters, in their order.
+pub fn add_lines(taps: &[Box<dyn Tap>], told: &mut Vec<u8>) -> Result<(), AllocError> {
     for tap in taps {
-        add_line(tap, told)?;
+        let mut line = [0u8; 64];
+        let count = tap.line(&mut line);
+        told.extend_from_slice(&line[..count.min(64)])?;
     }
     Ok(())
-}
-
-fn add_line(tap: &Box<dyn Tap>, told: &mut Vec<u8>) -> Result<(), AllocError> {
-    let mut line = [0u8; 64];
-    let count = tap.line(&mut line);
-    told.extend_from_slice(&line[..count.min(64)])
 }
 
 /// Adds whether a meter was dropped with the vector and not before.

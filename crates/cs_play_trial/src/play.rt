@@ -1,19 +1,28 @@
 // The runs of a case.
-use crate::desk::{CaseDesk, Once};
+use crate::desk::CaseDesk;
 use crate::gate::CaseGate;
-use crate::meters::{DropTap, add_all, add_drops, add_last};
+use crate::meters::{DropTap, add_drops, add_lines};
 use crate::show::{CaseOutcome, Written, add_line};
-use crate::sure::play_surely;
 use cs_base::{Bytes, Text};
 use cs_desk::Tally;
-use cs_edge::{Calls, Files, MemShelf, MemSink, MirrorTap, NamedBytes, PeakTap, Tap};
+use cs_edge::{
+    Calls, Files, MemShelf, MemSink, MirrorTap, NamedBytes, PeakTap, SureShelf, SureSink, Tap,
+};
 use cs_play::csplay;
 use std::alloc::{AllocError, Global};
 use std::sync::atomic::{AtomicU64, Ordering};
 use std::sync::{Arc, Wait};
 use std::thread::Threads;
 
-/// Runs a case, with these words before its own, and writes its line; its status comes back.
+/// A case, with all its words, and the gate of one run.
+#[derive(Clone, Copy)]
+struct CaseRun<'a> {
+    desk: &'a CaseDesk,
+    words: &'a [String],
+    gate: &'a CaseGate,
+}
+
+/// Runs a case, with these words before its own, and writes its line. Returns its status.
 pub fn play<R: AllocGlobal + Threads + Wait + Sync>(
     rt: &R,
     name: &[u8],
@@ -22,94 +31,113 @@ pub fn play<R: AllocGlobal + Threads + Wait + Sync>(
     out: &mut String,
 ) -> Result<u8, AllocError> {
     let words = words_of(rt.alloc(), crew, desk)?;
-    if desk.once.sure {
-        return play_surely(rt, name, desk, &words, out);
+    let failing = failing(rt.alloc(), desk.once.shelf_fails)?;
+    let mut shelf = MemShelf::new(rt.alloc(), files_of(rt.alloc(), desk)?, failing);
+    let runs = if desk.once.twice { 2 } else { 1 };
+    let mut status = 0;
+    for _ in 0..runs {
+        let gate = CaseGate::new(desk.once.task);
+        let case = CaseRun {
+            desk,
+            words: &words,
+            gate: &gate,
+        };
+        out.clear();
+        status = run(rt, name, case, &mut shelf, out)?;
     }
-    let mut shelf = shelf_of(rt.alloc(), desk)?;
-    let status = run_on(rt, name, &words, &mut shelf, desk.once, out)?;
-    if !desk.once.twice {
-        return Ok(status);
-    }
-    out.clear();
-    run_on(rt, name, &words, &mut shelf, desk.once, out)
+    Ok(status)
 }
 
-// One run, with new sinks.
-fn run_on<R: AllocGlobal + Threads + Wait + Sync>(
+// One run, over new sinks.
+fn run<R: AllocGlobal + Threads + Wait + Sync>(
     rt: &R,
     name: &[u8],
-    words: &[String],
+    case: CaseRun<'_>,
     shelf: &mut MemShelf,
-    once: Once,
     out: &mut String,
 ) -> Result<u8, AllocError> {
-    let wav = sink_of(rt.alloc(), once.wav_fails, once.wav_room)?;
-    let talk = sink_of(rt.alloc(), once.talk_fails, once.talk_room)?;
-    let told = Vec::new(rt.alloc());
-    let mut written = Written { wav, talk, told };
-    let gate = CaseGate::new(once.task);
-    let status = run(rt, words, shelf, &mut written, &gate, once)?;
+    let once = case.desk.once;
+    let mut written = Written {
+        wav: sink_of(rt.alloc(), once.wav_fails, once.wav_room)?,
+        talk: sink_of(rt.alloc(), once.talk_fails, once.talk_room)?,
+        told: Vec::new(rt.alloc()),
+    };
+    let status = metered(rt, case, shelf, &mut written)?;
     let outcome = CaseOutcome {
         status,
         shelf: &*shelf,
         written: &written,
-        gate: &gate,
+        gate: case.gate,
     };
     add_line(out, name, once, outcome)?;
     Ok(status)
 }
 
-fn run<R: AllocGlobal + Threads + Wait + Sync>(
+// What the meters of a case show comes to what is written.
+fn metered<R: AllocGlobal + Threads + Wait + Sync>(
     rt: &R,
-    words: &[String],
+    case: CaseRun<'_>,
     shelf: &mut MemShelf,
     written: &mut Written,
-    gate: &CaseGate,
-    once: Once,
 ) -> Result<u8, AllocError> {
     let drops = Arc::new(rt.alloc(), AtomicU64::new(0))?;
     let mut taps: Vec<Box<dyn Tap>> = Vec::new(rt.alloc());
     taps.push(Box::new(rt.alloc(), PeakTap::new())?)?;
-    if once.mirror > 0 {
-        let Ok(mirror) = MirrorTap::new(rt.alloc(), once.mirror) else {
+    if case.desk.once.mirror > 0 {
+        let Ok(mirror) = MirrorTap::new(rt.alloc(), case.desk.once.mirror) else {
             return Err(AllocError);
         };
         taps.push(Box::new(rt.alloc(), mirror)?)?;
     }
-    if once.drops {
+    if case.desk.once.drops {
         let drops = Arc::try_clone(&drops)?;
         taps.push(Box::new(rt.alloc(), DropTap { drops })?)?;
     }
-    let mut tally = Tally::new();
-    let status = csplay(
-        rt,
-        rt.alloc(),
-        words,
-        shelf,
-        &mut written.wav,
-        &mut written.talk,
-        &mut taps,
-        gate,
-        &mut tally,
-    );
-    if once.drops {
-        add_dropped(taps, &drops, &mut written.told)?;
-    } else if once.mirror > 0 {
-        add_last(&taps, &mut written.told)?;
+    let status = performed(rt, case, shelf, written, &mut taps)?;
+    if !case.desk.once.drops {
+        add_lines(taps.get(1..).unwrap_or(&[]), &mut written.told)?;
+        return Ok(status);
     }
-    Ok(status.number())
-}
-
-// The lines of the meters, and what the last one notes of its drop.
-fn add_dropped(
-    taps: Vec<Box<dyn Tap>>,
-    drops: &AtomicU64,
-    told: &mut Vec<u8>,
-) -> Result<(), AllocError> {
-    add_all(&taps, told)?;
+    add_lines(&taps, &mut written.told)?;
     let before = drops.load(Ordering::SeqCst);
     drop(taps);
-    add_drops(before, drops.load(Ordering::SeqCst), told)
+    add_drops(before, drops.load(Ordering::SeqCst), &mut written.told)?;
+    Ok(status)
+}
+
+fn performed<R: AllocGlobal + Threads + Wait + Sync>(
+    rt: &R,
+    case: CaseRun<'_>,
+    shelf: &mut MemShelf,
+    written: &mut Written,
+    taps: &mut Vec<Box<dyn Tap>>,
+) -> Result<u8, AllocError> {
+    let status = if case.desk.once.sure {
+        csplay(
+            rt,
+            rt.alloc(),
+            case.words,
+            &mut SureShelf::new(files_of(rt.alloc(), case.desk)?),
+            &mut SureSink::new(),
+            &mut SureSink::new(),
+            taps,
+            case.gate,
+            &mut Tally::new(),
+        )
+    } else {
+        csplay(
+            rt,
+            rt.alloc(),
+            case.words,
+            shelf,
+            &mut written.wav,
+            &mut written.talk,
+            taps,
+            case.gate,
+            &mut Tally::new(),
+        )
+    };
+    Ok(status.number())
 }
 
 // The words of a case, behind others.
@@ -142,13 +170,8 @@ fn add_word(alloc: Global, word: &[u8], words: &mut Vec<String>) -> Result<(), A
     Ok(())
 }
 
-fn shelf_of(alloc: Global, desk: &CaseDesk) -> Result<MemShelf, AllocError> {
-    let files = files_of(alloc, desk)?;
-    Ok(MemShelf::new(alloc, files, failing(alloc, desk.once.shelf_fails)?))
-}
-
-/// The two texts of a case, and the file with both.
-pub fn files_of(alloc: Global, desk: &CaseDesk) -> Result<Files, AllocError> {
+// The two texts of a case, and the file with both.
+fn files_of(alloc: Global, desk: &CaseDesk) -> Result<Files, AllocError> {
     let mut files = Files::new(alloc);
     files.push(file_of(alloc, "a.orc", &desk.orchestra)?)?;
     files.push(file_of(alloc, "a.sco", &desk.score)?)?;
@@ -170,8 +193,10 @@ fn bytes_of(alloc: Global, text: &[u8]) -> Result<Bytes, AllocError> {
     Ok(Bytes::from_vec(bytes))
 }
 
+// A sink whose call number `fails` fails, and which takes at most `room` bytes a write; 0 is no limit.
 fn sink_of(alloc: Global, fails: u32, room: u32) -> Result<MemSink, AllocError> {
-    Ok(MemSink::new(alloc, failing(alloc, fails)?, room.max(1)))
+    let room = if room == 0 { u32::MAX } else { room };
+    Ok(MemSink::new(alloc, failing(alloc, fails)?, room))
 }
 
 // The one call that fails; 0 is none.

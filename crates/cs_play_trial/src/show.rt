@@ -1,9 +1,8 @@
 // The line of a case.
 use crate::desk::Once;
 use crate::gate::{CaseGate, Task};
-use crate::wave::{add_hex, add_wave};
+use crate::wave::add_wave;
 use cs_edge::{MemShelf, MemSink, Move};
-use itoa::Buffer;
 use std::alloc::AllocError;
 
 /// What a run writes: the sound file, what it says, and the line of a mirror.
@@ -33,17 +32,23 @@ pub fn add_line(
 ) -> Result<(), AllocError> {
     let written = outcome.written;
     add_shown(out, name)?;
-    out.push_str(": ")?;
-    add_number(out, u64::from(outcome.status))?;
+    write!(out, ": {}", outcome.status)?;
     if outcome.status != 0 || once.report {
         add_talk(out, written.talk.taken())?;
     }
     if !written.wav.moves().is_empty() {
         add_sound(out, written.wav.taken(), once.hex)?;
     }
-    add_gate(out, once.task, outcome.gate)?;
+    if let Some(task) = once.task {
+        add_gate(out, task, outcome.gate)?;
+    }
     if once.mirror > 0 {
-        add_told(out, &written.told)?;
+        // A last line feed isn't shown.
+        out.push_str("; ")?;
+        add_shown(
+            out,
+            written.told.strip_suffix(b"\n").unwrap_or(&written.told),
+        )?;
     }
     if once.calls {
         add_calls(out, "; shelf", outcome.shelf.moves())?;
@@ -53,55 +58,22 @@ pub fn add_line(
     out.push('\n')
 }
 
-/// Writes the line of a case over objects that keep nothing: its name, the status, and what meters show.
-pub fn add_sure_line(
-    out: &mut String,
-    name: &[u8],
-    status: u8,
-    told: &[u8],
-) -> Result<(), AllocError> {
-    add_shown(out, name)?;
-    out.push_str(": ")?;
-    add_number(out, u64::from(status))?;
-    add_told(out, told)?;
-    out.push('\n')
-}
-
-// What meters show: a last line feed isn't shown.
-fn add_told(out: &mut String, told: &[u8]) -> Result<(), AllocError> {
-    out.push_str("; ")?;
-    add_shown(out, told.strip_suffix(b"\n").unwrap_or(told))
-}
-
 // What the gate of a case shows.
 fn add_gate(out: &mut String, task: Task, gate: &CaseGate) -> Result<(), AllocError> {
     match task {
-        Task::Nothing => Ok(()),
-        Task::Meeting(_) => out.push_str(if gate.has_met() { "; met" } else { "; not met" }),
-        Task::Crowding(_) => out.push_str(if gate.has_met() {
-            "; as many at once as workers"
-        } else {
-            "; fewer at once than workers"
-        }),
-        Task::Gathering { .. } => {
-            let (cycles, calls) = gate.gathered();
-            out.push_str("; met in ")?;
-            add_number(out, cycles)?;
-            out.push_str(" cycles, ")?;
-            add_number(out, calls)?;
-            out.push_str(" calls")
+        Task::Meeting(_) => {
+            write!(
+                out,
+                "; met in {} cycles, {} calls",
+                gate.met(),
+                gate.calls()
+            )
         }
-        Task::Summing(_) => {
-            out.push_str("; squares of the calls' numbers: ")?;
-            add_number(out, gate.summed())
+        Task::Summing(_) => write!(out, "; squares of the calls' numbers: {}", gate.summed()),
+        Task::Counting(_) if gate.is_in_order() => {
+            write!(out, "; calls of the gate, in order: {}", gate.calls())
         }
-        Task::Counting(_) => match gate.counted() {
-            Some(calls) => {
-                out.push_str("; calls of the gate, in order: ")?;
-                add_number(out, calls)
-            }
-            None => out.push_str("; calls of the gate out of order"),
-        },
+        Task::Counting(_) => out.push_str("; calls of the gate out of order"),
     }
 }
 
@@ -126,7 +98,7 @@ fn add_sound(out: &mut String, wav: &[u8], hex: bool) -> Result<(), AllocError> 
     }
     out.push_str(", ")?;
     for byte in wav {
-        add_hex(out, *byte)?;
+        write!(out, "{byte:02x}")?;
     }
     Ok(())
 }
@@ -138,18 +110,10 @@ pub fn add_shown(out: &mut String, bytes: &[u8]) -> Result<(), AllocError> {
             b'\n' => out.push_str(" / ")?,
             b'`' => out.push_str("`60")?,
             b' '..=b'~' => out.push(char::from(*byte))?,
-            _ => {
-                out.push('`')?;
-                add_hex(out, *byte)?;
-            }
+            byte => write!(out, "`{byte:02x}")?,
         }
     }
     Ok(())
-}
-
-pub fn add_number(out: &mut String, number: u64) -> Result<(), AllocError> {
-    let mut digits = Buffer::new();
-    out.push_str(digits.format(number))
 }
 
 // The calls made on an object, equal ones together; none is nothing.
@@ -192,8 +156,7 @@ fn add_times(out: &mut String, kind: &str, times: u64) -> Result<(), AllocError>
     }
     out.push_str(kind)?;
     if times > 1 {
-        out.push_str(" x ")?;
-        add_number(out, times)?;
+        write!(out, " x {times}")?;
     }
     Ok(())
 }

@@ -1,7 +1,6 @@
 // The escapes in a text: behind a grave accent stand two hexadecimal digits, which are a byte, or `#`, the number of
 // the time that the text is added.
 use crate::line::CaseText;
-use itoa::Buffer;
 use std::alloc::AllocError;
 
 /// How far an escape is read.
@@ -45,8 +44,8 @@ fn add_byte(to: &mut Vec<u8>, escape: Escape, byte: u8, number: u32) -> Result<E
 }
 
 fn add_number(to: &mut Vec<u8>, number: u32) -> Result<(), AllocError> {
-    let mut digits = Buffer::new();
-    to.extend_from_slice(digits.format(number).as_bytes())
+    let digits = format!(in *to.allocator(); "{number}")?;
+    to.extend_from_slice(digits.as_bytes())
 }
 
 fn byte_of(high: u8, low: u8) -> u8 {
@@ -54,10 +53,5 @@ fn byte_of(high: u8, low: u8) -> u8 {
 }
 
 fn value_of(digit: u8) -> u8 {
-    match digit {
-        b'0'..=b'9' => digit.wrapping_sub(b'0'),
-        b'a'..=b'f' => digit.wrapping_sub(b'a').wrapping_add(10),
-        b'A'..=b'F' => digit.wrapping_sub(b'A').wrapping_add(10),
-        _ => 0,
-    }
+    char::from(digit).to_digit(16).unwrap_or(0).min(15) as u8
 }

@@ -1,5 +1,4 @@
 // The samples of a sound file, as runs of equal frames.
-use crate::show::add_number;
 use std::alloc::AllocError;
 
 /// Behind so many runs only their number and a sum of the file follow.
@@ -20,12 +19,9 @@ struct Layout {
 /// Writes a file's rate, its bytes, and its samples.
 pub fn add_wave(out: &mut String, wav: &[u8]) -> Result<(), AllocError> {
     if wav.len() >= HEADER {
-        out.push_str(", sr ")?;
-        add_number(out, number_at(wav, 24, 4))?;
+        write!(out, ", sr {}", number_at(wav, 24, 4))?;
     }
-    out.push_str(", ")?;
-    add_number(out, wav.len() as u64)?;
-    out.push_str(" bytes")?;
+    write!(out, ", {} bytes", wav.len())?;
     match wav.get(HEADER..) {
         Some([]) | None => Ok(()),
         Some(samples) => {
@@ -84,8 +80,7 @@ fn add_run(
     if run > 0 {
         out.push_str(", ")?;
     }
-    add_number(out, times)?;
-    out.push_str(" x ")?;
+    write!(out, "{times} x ")?;
     add_frame(out, frame, layout)
 }
 
@@ -95,7 +90,7 @@ fn add_frame(out: &mut String, frame: &[u8], layout: Layout) -> Result<(), Alloc
         if channel > 0 {
             out.push('/')?;
         }
-        add_signed(out, value_of(sample))?;
+        write!(out, "{}", value_of(sample))?;
     }
     Ok(())
 }
@@ -109,25 +104,12 @@ fn value_of(sample: &[u8]) -> i64 {
     }
 }
 
-fn add_signed(out: &mut String, value: i64) -> Result<(), AllocError> {
-    if value < 0 {
-        out.push('-')?;
-    }
-    add_number(out, value.unsigned_abs())
-}
-
 // Where not all runs are shown: how many there are, and the Adler-32 sum of the file.
 fn add_rest(out: &mut String, runs: u64, wav: &[u8]) -> Result<(), AllocError> {
     if runs <= MOST_RUNS {
         return Ok(());
     }
-    out.push_str(" .. of ")?;
-    add_number(out, runs)?;
-    out.push_str(" runs, adler32 ")?;
-    for byte in adler32(wav).to_be_bytes() {
-        add_hex(out, byte)?;
-    }
-    Ok(())
+    write!(out, " .. of {runs} runs, adler32 {:08x}", adler32(wav))
 }
 
 fn adler32(bytes: &[u8]) -> u32 {
@@ -138,14 +120,4 @@ fn adler32(bytes: &[u8]) -> u32 {
         high = high.wrapping_add(low) % 65_521;
     }
     high.wrapping_mul(65_536).wrapping_add(low)
-}
-
-/// Writes a byte as two hexadecimal digits.
-pub fn add_hex(out: &mut String, byte: u8) -> Result<(), AllocError> {
-    out.push(digit_of(byte / 16))?;
-    out.push(digit_of(byte % 16))
-}
-
-fn digit_of(value: u8) -> char {
-    char::from_digit(u32::from(value), 16).unwrap_or('?')
 }

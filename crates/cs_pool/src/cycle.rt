@@ -42,8 +42,9 @@ const LOOKS_A_NOTE: u32 = 800;
 /// wrote at another processor.
 const LOOKS_AN_EDGE: u32 = 3_200;
 
-/// A cycle whose notes make fewer values than this, one for each note, channel and frame, is the caller's alone.
-const FEW_VALUES: usize = 2;
+/// A cycle whose notes make fewer values than this, one for each note, channel and frame, is the caller's alone: 16
+/// light voices in stereo by cycles of 10 frames, a cycle that no helper is in time for.
+const FEW_VALUES: usize = 512;
 
 impl<'e, J: Job + Drop, R: Wait, G: Gate> Pool<'e, J, R, G> {
     /// Runs the notes of one control cycle, and returns a receipt with their jobs, the desk, and
@@ -91,7 +92,7 @@ impl<'e, J: Job + Drop, R: Wait, G: Gate> Pool<'e, J, R, G> {
 
     /// Whether the next cycle is offered to the helpers, if there are any: where its notes have many values to make,
     /// one for each note, channel and frame, unless it is one of those that are the caller's alone. So the first cycle
-    /// of two values or more is offered; after each one that was offered and that no helper began before the caller
+    /// of 512 values or more is offered; after each one that was offered and that no helper began before the caller
     /// was done 1, 2, 4 and so on up to 128 are the caller's alone, and none after one that a helper began (`cycle`). A
     /// cycle that isn't offered needs no graph of its notes: the caller runs them (`Desk::run_alone`) and tells the
     /// crew (`pass`).
