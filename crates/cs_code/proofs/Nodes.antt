@@ -3,9 +3,9 @@ use Rattle.std.proofs.Common.{◌≡◌, ◌∙◌, ◌+◌, ◌++◌, ◌∷◌
 use Rattle.std.proofs.lemmas.Option.{none-some}
 use Rattle.cs_base.specs.declared.resource.Rate.{Rate}
 use Rattle.cs_ir.proofs.Drafting.{grew_on}
-use Rattle.cs_ir.specs.{Drafts.Draft, Drafts.Grew, Waves.if_init, declared.register.Reg.Reg}
+use Rattle.cs_ir.specs.{Drafts.Draft, Drafts.Grew, Waves.if_init, declared.op.Op.Op, declared.register.Reg.Reg}
 use Rattle.cs_meaning.specs.When.{When, cycle}
-use Rattle.cs_code.specs.{inner.Kept.past, inner.Emitted.parts_code, inner.Emitted.parts_past}
+use Rattle.cs_code.specs.inner.Kept.{past}
 use Rattle.cs_typed.specs.TypedTree.{Expression, of_part, number, neg, pair, pick, apply}
 use Rattle.cs_typed.specs.{WellRated.node_rate, declared.tree.TypedPart.TypedPart}
 use Rattle.cs_typed.specs.declared.tree.TypedPart.TheVariants.{Number}
@@ -58,6 +58,21 @@ there_past when at (pair r o a b) q h = inner_past when r at (past (past at a) b
 there_past when at (pick r c a b) q h = inner_past when r at (past (past (past at c) a) b) q h
 there_past when at (apply r g a) q h = inner_past when r at (past at a) q h
 there_past when at a q h = refl
+
+-- the code of the kept parts of an expression that changes, and the number after theirs
+abbrev pub parts_code : ℕ → Expression → List Op
+parts_code at (neg r a) = keep_code at a
+parts_code at (pair r b y z) = keep_code at y ++ keep_code (past at y) z
+parts_code at (pick r c y z) = keep_code at c ++ (keep_code (past at c) y ++ keep_code (past (past at c) y) z)
+parts_code at (apply r g a) = keep_code at a
+parts_code at _ = []
+
+abbrev pub parts_past : ℕ → Expression → ℕ
+parts_past at (neg r a) = past at a
+parts_past at (pair r o a b) = past (past at a) b
+parts_past at (pick r c a b) = past (past (past at c) a) b
+parts_past at (apply r f a) = past at a
+parts_past at _ = at
 
 -- an expression is kept as a whole or by its parts
 pub keep_splits : (at : ℕ) (e : Expression)

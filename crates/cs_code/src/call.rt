@@ -10,7 +10,7 @@ ghost use Rattle.cs_base.specs.declared.resource.Rate.TheVariants as rate;
 ghost use Rattle.cs_words.specs.declared.catalogue.Shape.TheVariants as shape;
 
 use crate::args::{Call, parted_values, values};
-use crate::frame::{Context, Progress};
+use crate::frame::{Place, Progress};
 use crate::reach::{unit_reach, zak_reach};
 use crate::simple::{Assignment, Sending, ask, assign, send, store, turnoff, unit, zak};
 use crate::value::Value;
@@ -97,126 +97,101 @@ fn assigned<'t>(call: &Call<'t>) -> Option<Assignment<'t>>
 }
 
 // A unit, over the values among its arguments.
-fn unit_call(
-    ops: &mut CodeDraft<'_>,
-    context: Context,
-    p: Progress,
-    call: &Call<'_>,
-) -> Result<Progress, OutOfMemory>
-    ensures ops { OnOk result (Grew ops.old ops.new (pass_code context.pass 0 p (unit_call call.now.rate
+fn unit_call(ops: &mut CodeDraft<'_>, at: Place, call: &Call<'_>) -> Result<Progress, OutOfMemory>
+    ensures ops { OnOk result (Grew ops.old ops.new (pass_code at.context.pass 0 at.before (unit_call call.now.rate
         call.now.results.now call.now.opcode (arguments_of call.now)))) }
     ensures next { IfOk result (λ q. q
-        ≡ past_stmt p (unit_call call.now.rate call.now.results.now call.now.opcode
+        ≡ past_stmt at.before (unit_call call.now.rate call.now.results.now call.now.opcode
         (arguments_of call.now))) }
 {
-    let values = parted_values(context.alloc, call)?;
+    let values = parted_values(at.context.alloc, call)?;
     let reach = unit_reach(call.opcode, &values.settled);
-    unit(ops, context, p, reach, call, &values)
+    unit(ops, at.context, at.before, reach, call, &values)
 }
 
 // A store, over all values among its arguments, of which the settled one is the number of its table.
-fn store_call(
-    ops: &mut CodeDraft<'_>,
-    context: Context,
-    p: Progress,
-    call: &Call<'_>,
-) -> Result<Progress, OutOfMemory>
-    ensures ops { OnOk result (Grew ops.old ops.new (pass_code context.pass 0 p (store_call call.now.rate
+fn store_call(ops: &mut CodeDraft<'_>, at: Place, call: &Call<'_>) -> Result<Progress, OutOfMemory>
+    ensures ops { OnOk result (Grew ops.old ops.new (pass_code at.context.pass 0 at.before (store_call call.now.rate
         call.now.opcode (arguments_of call.now)))) }
     ensures next { IfOk result (λ q. q
-        ≡ past_stmt p (store_call call.now.rate call.now.opcode (arguments_of call.now))) }
+        ≡ past_stmt at.before (store_call call.now.rate call.now.opcode (arguments_of call.now))) }
 {
-    let all = values(context.alloc, call)?;
-    let parted = parted_values(context.alloc, call)?;
-    store(ops, context, p, call.rate, &all, &parted.settled)
+    let all = values(at.context.alloc, call)?;
+    let parted = parted_values(at.context.alloc, call)?;
+    store(ops, at.context, at.before, call.rate, &all, &parted.settled)
 }
 
 // What reads or writes zak places, over its values.
-fn zak_call(
-    ops: &mut CodeDraft<'_>,
-    context: Context,
-    p: Progress,
-    call: &Call<'_>,
-) -> Result<Progress, OutOfMemory>
-    ensures ops { OnOk result (Grew ops.old ops.new (pass_code context.pass 0 p (zak_call context.spaces
+fn zak_call(ops: &mut CodeDraft<'_>, at: Place, call: &Call<'_>) -> Result<Progress, OutOfMemory>
+    ensures ops { OnOk result (Grew ops.old ops.new (pass_code at.context.pass 0 at.before (zak_call at.context.spaces
         call.now.rate call.now.results.now call.now.opcode (row_of call.now.opcode).shape (arguments_of call.now)))) }
-    ensures next { IfOk result (λ q. q ≡ past_stmt p (zak_call context.spaces call.now.rate
+    ensures next { IfOk result (λ q. q ≡ past_stmt at.before (zak_call at.context.spaces call.now.rate
         call.now.results.now call.now.opcode (row_of call.now.opcode).shape
         (arguments_of call.now))) }
 {
-    let values = parted_values(context.alloc, call)?;
+    let values = parted_values(at.context.alloc, call)?;
     let shape = signature_of(call.opcode).shape();
-    let reach = zak_reach(context.spaces, shape, &values.moving);
-    zak(ops, context, p, reach, call, &values.moving)
+    let reach = zak_reach(at.context.spaces, shape, &values.moving);
+    zak(ops, at.context, at.before, reach, call, &values.moving)
 }
 
 fn out(
     ops: &mut CodeDraft<'_>,
-    context: Context,
-    p: Progress,
+    at: Place,
     sending: Sending,
     call: &Call<'_>,
 ) -> Result<Progress, OutOfMemory>
-    ensures ops { OnOk result (Grew ops.old ops.new (pass_code context.pass 0 p (sent_as sending rate.Audio
+    ensures ops { OnOk result (Grew ops.old ops.new (pass_code at.context.pass 0 at.before (sent_as sending rate.Audio
         (values_of (arguments_of call.now))))) }
-    ensures next { IfOk result (λ q. q ≡ past_stmt p (sent_as sending rate.Audio (values_of (arguments_of call.now)))) }
+    ensures next { IfOk result (λ q. q
+        ≡ past_stmt at.before (sent_as sending rate.Audio (values_of (arguments_of call.now)))) }
 {
-    let values = values(context.alloc, call)?;
-    send(ops, context, p, sending, &values)
+    let values = values(at.context.alloc, call)?;
+    send(ops, at.context, at.before, sending, &values)
 }
 
-fn schedule(ops: &mut CodeDraft<'_>, context: Context, call: &Call<'_>) -> Result<(), OutOfMemory>
-    ensures { OnOk result (Grew ops.old ops.new (pass_code context.pass 0 start (ask (values_of (arguments_of
+fn schedule(ops: &mut CodeDraft<'_>, at: Place, call: &Call<'_>) -> Result<(), OutOfMemory>
+    ensures { OnOk result (Grew ops.old ops.new (pass_code at.context.pass 0 start (ask (values_of (arguments_of
         call.now))))) }
 {
-    let values = values(context.alloc, call)?;
-    ask(ops, context, &values)
+    let values = values(at.context.alloc, call)?;
+    ask(ops, at.context, &values)
 }
 
-fn effect(
-    ops: &mut CodeDraft<'_>,
-    context: Context,
-    p: Progress,
-    call: &Call<'_>,
-) -> Result<Progress, OutOfMemory>
-    ensures ops { OnOk result (Grew ops.old ops.new (pass_code context.pass 0 p (effect_of context.spaces call.now
-        (row_of call.now.opcode).shape))) }
+fn effect(ops: &mut CodeDraft<'_>, at: Place, call: &Call<'_>) -> Result<Progress, OutOfMemory>
+    ensures ops { OnOk result (Grew ops.old ops.new (pass_code at.context.pass 0 at.before (effect_of at.context.spaces
+        call.now (row_of call.now.opcode).shape))) }
     ensures next { IfOk result (λ q. q
-        ≡ past_stmt p (effect_of context.spaces call.now (row_of call.now.opcode).shape)) }
+        ≡ past_stmt at.before (effect_of at.context.spaces call.now (row_of call.now.opcode).shape)) }
 {
     match signature_of(call.opcode).shape() {
-        Shape::Out => out(ops, context, p, Sending::InTurn, call),
-        Shape::OutAt => out(ops, context, p, Sending::ByNumber, call),
+        Shape::Out => out(ops, at, Sending::InTurn, call),
+        Shape::OutAt => out(ops, at, Sending::ByNumber, call),
         Shape::Turnoff => {
-            turnoff(ops, context)?;
-            Ok(p)
+            turnoff(ops, at.context)?;
+            Ok(at.before)
         }
         Shape::Ask => {
-            schedule(ops, context, call)?;
-            Ok(p)
+            schedule(ops, at, call)?;
+            Ok(at.before)
         }
-        Shape::Unit => unit_call(ops, context, p, call),
-        Shape::Store => store_call(ops, context, p, call),
-        Shape::ZakGet(_) | Shape::ZakPut(_) | Shape::ZakMix | Shape::ZakClear(_) => zak_call(
-            ops, context, p, call,
-        ),
-        _ => Ok(p),
+        Shape::Unit => unit_call(ops, at, call),
+        Shape::Store => store_call(ops, at, call),
+        Shape::ZakGet(_) | Shape::ZakPut(_) | Shape::ZakMix | Shape::ZakClear(_) => {
+            zak_call(ops, at, call)
+        }
+        _ => Ok(at.before),
     }
 }
 
 /// The code of a call. Returns what was met before its end.
-pub fn call(
-    ops: &mut CodeDraft<'_>,
-    context: Context,
-    p: Progress,
-    call: &Call<'_>,
-) -> Result<Progress, OutOfMemory>
-    ensures ops { OnOk result (Grew ops.old ops.new (pass_block_code context.pass (length (drafted ops.old)) p
-        (alone_in context.spaces (called call.now)))) }
-    ensures next { IfOk result (λ q. q ≡ past_block p (alone_in context.spaces (called call.now))) }
+pub fn call(ops: &mut CodeDraft<'_>, at: Place, call: &Call<'_>) -> Result<Progress, OutOfMemory>
+    ensures ops { OnOk result (Grew ops.old ops.new (pass_block_code at.context.pass (length (drafted ops.old))
+        at.before (alone_in at.context.spaces (called call.now)))) }
+    ensures next { IfOk result (λ q. q ≡ past_block at.before (alone_in at.context.spaces (called call.now))) }
 {
     match assigned(call) {
-        Some(assignment) => assign(ops, context, p, &assignment),
-        None => effect(ops, context, p, call),
+        Some(assignment) => assign(ops, at.context, at.before, &assignment),
+        None => effect(ops, at, call),
     }
 }

@@ -1,9 +1,9 @@
 // The code of expressions, and of what variables take. Each call appends to `ops`.
-ghost use Rattle.std.specs.Prelude.{◌≡◌, ◌+◌, IfOk, OnOk};
-ghost use Rattle.cs_ir.specs.Drafts.{Grew};
+ghost use Rattle.std.specs.Prelude.{◌≡◌, ◌+◌, [], ◌∷◌, true, IfOk, OnOk};
+ghost use Rattle.cs_ir.specs.{Codes.is_unaimed, Drafts.Grew, Waves.if_init};
 ghost use Rattle.cs_code.specs.inner.Code.{own, code, operand_code, look_code, keep_code, kept_code, set_code};
-ghost use Rattle.cs_code.specs.inner.Emitted.{parts_code, parts_past, value_of, when_of};
-ghost use Rattle.cs_code.specs.{inner.Kept.past, inner.Spots.kept_reg, inner.Spots.spot};
+ghost use Rattle.cs_code.specs.inner.Emitted.{value_of, when_of};
+ghost use Rattle.cs_code.specs.{inner.Kept.past, inner.Spots.kept_reg, inner.Spots.op_of, inner.Spots.spot};
 ghost use Rattle.cs_typed.specs.TypedTree as typed;
 ghost use Rattle.cs_typed.specs.declared.tree.Var.TheVariants.{Local};
 ghost use Rattle.cs_code.specs.declared.frame.Pass.TheVariants as pass;
@@ -26,6 +26,22 @@ fn look(ops: &mut CodeDraft<'_>, v: Var, into: Reg) -> Result<(), OutOfMemory>
     }
 }
 
+// A value that has no parts. Returns the number of the next kept value.
+fn leaf(
+    ops: &mut CodeDraft<'_>,
+    act: Act,
+    rate: Rate,
+    at: u32,
+    into: Reg,
+) -> Result<u32, OutOfMemory>
+    requires { is_unaimed act ≡ true }
+    ensures ops { OnOk result (Grew ops.old ops.new (op_of act into [] ∷ [])) }
+    ensures next { IfOk result (λ n. n ≡ if_init rate (at + 1) at) }
+{
+    push(ops, act, into, Operands::none())?;
+    next_of(rate, at, at)
+}
+
 // The value of an expression that stands nowhere yet, into a register; `d` is the first free temporary. Returns the
 // number of the next kept value.
 #[cycle(expr)]
@@ -42,22 +58,13 @@ fn own(
     ensures next { IfOk result (λ n. n ≡ past at (typed.expression e.now)) }
 {
     match &e.what {
-        TypedPart::Number(value) => {
-            push(ops, Act::Const(*value), into, Operands::none())?;
-            next_of(e.rate, at, at)
-        }
+        TypedPart::Number(value) => leaf(ops, Act::Const(*value), e.rate, at, into),
         TypedPart::Var(v) => {
             look(ops, *v, into)?;
             next_of(e.rate, at, at)
         }
-        TypedPart::Field(field) => {
-            push(ops, Act::Field(*field), into, Operands::none())?;
-            next_of(e.rate, at, at)
-        }
-        TypedPart::Head(name) => {
-            push(ops, Act::Head(*name), into, Operands::none())?;
-            next_of(e.rate, at, at)
-        }
+        TypedPart::Field(field) => leaf(ops, Act::Field(*field), e.rate, at, into),
+        TypedPart::Head(name) => leaf(ops, Act::Head(*name), e.rate, at, into),
         TypedPart::Neg(a) => {
             let a = operand(ops, context, at, a, d)?;
             push(ops, Act::Neg, into, Operands::one(a.reg))?;
@@ -167,10 +174,7 @@ fn made(
             )?;
             next_of(Rate::Audio, at, y.next)
         }
-        Value::Zero => {
-            push(ops, Act::Const(Num::of_raw(0)), into, Operands::none())?;
-            next_of(Rate::Init, at, at)
-        }
+        Value::Zero => leaf(ops, Act::Const(Num::of_raw(0)), Rate::Init, at, into),
     }
 }
 
@@ -220,24 +224,9 @@ pub fn code(
     }
 }
 
-// A value that doesn't change is worked out as a whole and kept.
-fn kept(
-    ops: &mut CodeDraft<'_>,
-    context: Context,
-    at: u32,
-    value: &Value<'_>,
-) -> Result<u32, OutOfMemory>
-    requires { context.pass ≡ pass.Initialisation }
-    ensures ops { OnOk result (Grew ops.old ops.new (kept_code at (value_of value.now))) }
-    ensures next { IfOk result (λ n. n ≡ at + 1) }
-{
-    code(ops, context, 0, value, kept_reg(at))?;
-    add(at, 1)
-}
-
 /// The outermost parts that don't change, each into its register. Returns the number of the next kept value.
 #[cycle(keep)]
-#[tactic(auto, using(crate::proofs::Nodes::splits))]
+#[tactic(auto, using(crate::proofs::Nodes::splits, crate::proofs::Growing::growing))]
 pub fn keep(
     ops: &mut CodeDraft<'_>,
     context: Context,
@@ -249,38 +238,25 @@ pub fn keep(
     ensures next { IfOk result (λ n. n ≡ past at (typed.expression e.now)) }
 {
     match e.rate {
-        Rate::Init => kept(ops, context, at, &Value::Of(e)),
-        Rate::Control | Rate::Audio => keep_parts(ops, context, at, e),
-    }
-}
-
-// Emits the kept parts inside an expression that itself changes.
-#[cycle(keep)]
-#[tactic(auto, using(crate::proofs::Growing::growing))]
-fn keep_parts(
-    ops: &mut CodeDraft<'_>,
-    context: Context,
-    at: u32,
-    e: &TypedExpr,
-) -> Result<u32, OutOfMemory>
-    requires { context.pass ≡ pass.Initialisation }
-    ensures ops { OnOk result (Grew ops.old ops.new (parts_code at (typed.expression e.now))) }
-    ensures next { IfOk result (λ n. n ≡ parts_past at (typed.expression e.now)) }
-{
-    match &e.what {
-        TypedPart::Number(_) | TypedPart::Var(_) | TypedPart::Field(_) | TypedPart::Head(_) => {
-            Ok(at)
+        Rate::Init => {
+            code(ops, context, 0, &Value::Of(e), kept_reg(at))?;
+            add(at, 1)
         }
-        TypedPart::Neg(a) | TypedPart::Call(_, a) => keep(ops, context, at, a),
-        TypedPart::Pair(_, a, b) => {
-            let next = keep(ops, context, at, a)?;
-            keep(ops, context, next, b)
-        }
-        TypedPart::Pick(c, a, b) => {
-            let next = keep(ops, context, at, c)?;
-            let next = keep(ops, context, next, a)?;
-            keep(ops, context, next, b)
-        }
+        Rate::Control | Rate::Audio => match &e.what {
+            TypedPart::Number(_) | TypedPart::Var(_) | TypedPart::Field(_) | TypedPart::Head(_) => {
+                Ok(at)
+            }
+            TypedPart::Neg(a) | TypedPart::Call(_, a) => keep(ops, context, at, a),
+            TypedPart::Pair(_, a, b) => {
+                let next = keep(ops, context, at, a)?;
+                keep(ops, context, next, b)
+            }
+            TypedPart::Pick(c, a, b) => {
+                let next = keep(ops, context, at, c)?;
+                let next = keep(ops, context, next, a)?;
+                keep(ops, context, next, b)
+            }
+        },
     }
 }
 
@@ -298,7 +274,10 @@ pub fn keep_value(
 {
     match value {
         Value::Of(e) => keep(ops, context, at, e),
-        Value::Read(Rate::Init, _) | Value::Zero => kept(ops, context, at, value),
+        Value::Read(Rate::Init, _) | Value::Zero => {
+            code(ops, context, 0, value, kept_reg(at))?;
+            add(at, 1)
+        }
         Value::Mixed(_, e) => keep(ops, context, at, e),
         Value::Read(_, _) => Ok(at),
     }

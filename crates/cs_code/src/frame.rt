@@ -30,6 +30,13 @@ pub struct Progress {
     pub unit: u32,
 }
 
+/// Where code is made: what for, and how far it has come.
+#[derive(Clone, Copy)]
+pub struct Place {
+    pub context: Context,
+    pub before: Progress,
+}
+
 /// Where a code begins.
 pub const START: Progress = Progress { part: 0, unit: 0 };
 

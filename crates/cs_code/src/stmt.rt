@@ -12,7 +12,7 @@ ghost use Rattle.cs_code.specs.declared.frame.Pass.TheVariants as pass;
 
 use crate::args;
 use crate::call::call;
-use crate::frame::{Context, Pass, Progress, add, jump, narrow};
+use crate::frame::{Context, Pass, Place, Progress, add, jump, narrow};
 use crate::jumps::aim_all;
 use crate::leaves::{assign, condition};
 use cs_base::{OutOfMemory, PerRate, Rate};
@@ -63,7 +63,7 @@ fn stmt(
                 opcode: *opcode,
                 args,
             };
-            call(ops, context, p, &made)
+            call(ops, Place { context, before: p }, &made)
         }
         TypedWhat::Choose(arms, els) => {
             if takes_all(context.pass, s.rate) {

@@ -129,6 +129,13 @@ library_first list n k low all =
     ∙ ap (λ l. ops_at l k) (more_both [] (map steps_of first) (map steps_of (drop n list)))
     ∙ more_first (library_in first) (map steps_of (drop n list)) k (omega (arith, low, long))
 
+-- steps that are one call
+pub one_call : (steps : List Step) (first : Step) (call : Call) → 1 ≤ length steps → length steps < 2
+    → get_or steps 0 first ≡ step.Invoke call → steps ≡ step.Invoke call ∷ []
+one_call [] first call some few is = absurd (omega (arith, some))
+one_call (s ∷ []) first call some few is = ap (λ x. x ∷ []) is
+one_call (s ∷ r ∷ rest) first call some few is = absurd (omega (arith, few))
+
 -- a routine that calls an earlier one and does nothing else stands for that one, in the windows of both calls
 pub called_once : (list : List Routine) (n : ℕ) (r : Routine) (call inner : Call) → slice_get list n ≡ Some r
     → n ≤ length list → steps_of r ≡ step.Invoke inner ∷ [] → inner.routine < n → (place : ℕ)

@@ -1,6 +1,5 @@
 // What a note may ask for: another note.
-ghost use Rattle.std.specs.Prelude.{◌≡◌, drop, take, IfOk};
-ghost use Rattle.cs_base.specs.Limits.{greatest_field};
+ghost use Rattle.std.specs.Prelude.{◌≡◌, IfOk};
 ghost use Rattle.cs_ir.specs.Asks.{ask_of, value_at};
 
 use cs_base::{GREATEST_FIELD, Num, Nums, OutOfMemory};
@@ -24,29 +23,14 @@ impl Ask {
     pub fn of(alloc: Global, values: &[Num]) -> Result<Ask, OutOfMemory>
         ensures { IfOk result (λ a. a ≡ ask_of values.now) }
     {
+        let more = values.iter().take(GREATEST_FIELD).skip(3).copied();
         Ok(Ask {
             number: value_at(values, 0).whole_below(),
             when: value_at(values, 1),
             dur: value_at(values, 2),
-            more: Nums::from_vec(more_of(values).to_vec(alloc)?),
+            more: Nums::from_vec(more.collect(alloc)?),
         })
     }
-}
-
-fn more_of(values: &[Num]) -> &[Num]
-    ensures { result.now ≡ drop 3 (take greatest_field values.now) }
-{
-    match readable(values).get(3..) {
-        Some(more) => more,
-        None => &[],
-    }
-}
-
-// The fields that a text can read.
-fn readable(values: &[Num]) -> &[Num]
-    ensures { result.now ≡ take greatest_field values.now }
-{
-    &values[..values.len().min(GREATEST_FIELD)]
 }
 
 fn value_at(values: &[Num], place: usize) -> Num

@@ -4,7 +4,6 @@ ghost use Rattle.cs_ir.specs.{Codes.is_unaimed, inner.Steps.aim_step, inner.Step
 ghost use Rattle.cs_ir.specs.Drafts.{Aimed, Grew, IsAt, drafted, library_of};
 ghost use Rattle.cs_ir.specs.Flat.{are_within, is_within, moved_ops, ops_at, window_of};
 ghost use Rattle.cs_ir.specs.Routines.{AreRoutines, IsRoutineOf, library_in, ops_in};
-ghost use Rattle.cs_ir.specs.declared.step.Step.TheVariants as step;
 
 use crate::{Act, Call, Op, Routine, Step};
 use cs_base::OutOfMemory;
@@ -119,29 +118,13 @@ fn called(routines: &[Routine], call: Call) -> Result<Option<Call>, OutOfMemory>
     let Some(routine) = routines.get(call.routine as usize) else {
         return Ok(None);
     };
-    let steps = routine.steps();
-    if steps.is_empty() {
-        return Ok(None);
-    }
-    let Some(inner) = only_call(steps) else {
-        return Ok(Some(call));
-    };
-    if inner.routine >= call.routine {
-        return Ok(Some(call));
-    }
-    match call.further(&inner) {
-        Some(both) => Ok(Some(both)),
-        None => Err(OutOfMemory),
-    }
-}
-
-/// The call that steps consist of, where they are one.
-fn only_call(steps: &[Step]) -> Option<Call>
-    ensures { IfSome result (λ c. steps.now ≡ step.Invoke c ∷ []) }
-{
-    match steps {
-        [Step::Invoke(call)] => Some(*call),
-        _ => None,
+    match routine.steps() {
+        [] => Ok(None),
+        [Step::Invoke(inner)] if inner.routine < call.routine => match call.further(inner) {
+            Some(both) => Ok(Some(both)),
+            None => Err(OutOfMemory),
+        },
+        _ => Ok(Some(call)),
     }
 }
 

@@ -1,8 +1,8 @@
 -- Marks of neighbouring areas.
 use Rattle.std.proofs.Common.{◌≡◌, ◌<◌, ◌≤◌, ◌+◌, ◌++◌, ℕ, zero, suc, List, [], ◌∷◌, length, take, drop, replicate, ◌-◌}
-use Rattle.std.proofs.Common.{slice_get, Some, Bool, true, false, ◌||◌, refl, sym, ◌∙◌, ap, subst, arith, ⊎_elim}
+use Rattle.std.proofs.Common.{slice_get, Some, Bool, true, false, not, ◌||◌, refl, sym, ◌∙◌, ap, subst, arith, ⊎_elim}
 use Rattle.std.proofs.Common.{IfSome}
-use Rattle.std.specs.List.{Contains}
+use Rattle.std.specs.{Bool.beq, List.Contains}
 use Rattle.std.proofs.lemmas.Bool.{cases_lt, false_from_ne_true, true≢false}
 use Rattle.std.proofs.lemmas.Option.{slice_get_cases, slice_get_within}
 use Rattle.cs_base.specs.{declared.resource.Res.Res, declared.spaces.Spaces.Spaces}
@@ -157,6 +157,35 @@ module _ (areas : List Area) (s : Space) (m n : ℕ) (g : Res) (is : g ≡ zak_p
 area_at : (areas : List Area) (k : ℕ) → k < length areas → (a : Area) × (slice_get areas k ≡ Some a)
 area_at areas k l =
     ⊎_elim (λ h. (h.0, h.2)) (λ h. absurd (let past = h.0 in omega (arith, l, past))) (slice_get_cases areas k).1
+
+-- an area that is sought is here, or it isn't and the search goes on
+same_test : (x y : Bool) → beq x y ≡ true → x ≡ y
+same_test true true e = refl
+same_test true false e = sym e
+same_test false true e = e
+same_test false false e = refl
+
+other_test : (x y : Bool) → beq x y ≡ false → x ≡ not y
+other_test true true e = e
+other_test true false e = refl
+other_test false true e = refl
+other_test false false e = sym e
+
+pub sought_here : (areas : List Area) (test : Res → Bool) (wanted found : Bool) (place : ℕ) (here : Area)
+    → slice_get areas place ≡ Some here → found ≡ test here.res → beq found wanted ≡ true
+    → (a : Area) → slice_get areas place ≡ Some a → test a.res ≡ wanted
+sought_here areas test wanted found place here at is found_it a there =
+    let same : a ≡ here = cc in ap (λ (x : Area). test x.res) same ∙ sym is ∙ same_test found wanted found_it
+
+pub sought_later : (areas : List Area) (test : Res → Bool) (wanted found : Bool) (from place : ℕ) (here : Area)
+    → ((k : ℕ) (a : Area) → slice_get areas k ≡ Some a → from ≤ k → k < place → test a.res ≡ not wanted)
+    → slice_get areas place ≡ Some here → found ≡ test here.res → beq found wanted ≡ false
+    → (k : ℕ) (a : Area) → slice_get areas k ≡ Some a → from ≤ k → k < place + 1 → test a.res ≡ not wanted
+sought_later areas test wanted found from place here before at is other k a there low below =
+    ⊎_elim (λ l. before k a there low l) (λ l.
+    let last : k ≡ place = omega (arith, l, below) in
+    let same : a ≡ here = cc in ap (λ (x : Area). test x.res) same ∙ sym is ∙ other_test found wanted other)
+    (cases_lt k place)
 
 -- areas that pass a test are in no run where one between them doesn't
 pub no_run : (areas : List Area) (test : Res → Bool) (from to next : ℕ)

@@ -1,5 +1,5 @@
 // Where the areas of what has numbers lie side by side.
-ghost use Rattle.std.specs.Prelude.{◌≡◌, ◌<◌, ◌≤◌, ℕ, List, length, slice_get, true, false, Some, IfSome, is_some};
+ghost use Rattle.std.specs.Prelude.{◌≡◌, ◌<◌, ◌≤◌, ℕ, List, length, not, slice_get, true, Some, IfSome, is_some};
 ghost use Rattle.cs_base.specs.Limits.{most_resources};
 ghost use Rattle.cs_cells.specs.{Areas.HasPlace, Areas.IsLaid, declared.footprint.Area.Area};
 ghost use Rattle.cs_ir.specs.Resources.{places_of, reaches, zak_place};
@@ -151,43 +151,27 @@ fn first_place(layout: &Layout, space: Space) -> u32
 fn find_tables(layout: &Layout, spaces: Spaces) -> Option<Run>
     ensures { Finds (IsRun layout.now (covers spaces (touched.Tables reach.Any))) result }
 {
-    let from = next_table(layout, spaces, 0);
-    let to = next_other(layout, spaces, from);
-    if next_table(layout, spaces, to) == layout.len() {
+    let from = next_place(layout, spaces, true, 0);
+    let to = next_place(layout, spaces, false, from);
+    if next_place(layout, spaces, true, to) == layout.len() {
         Some(Run { from, to })
     } else {
         None
     }
 }
 
-/// The first place of a table's area from a place on; where there is none, the number of areas.
-fn next_table(layout: &Layout, spaces: Spaces, from: u32) -> u32
+/// The first place from a place on whose area is a table's, or whose area isn't; where there is none, the number of
+/// areas.
+fn next_place(layout: &Layout, spaces: Spaces, of_table: bool, from: u32) -> u32
     requires { from ≤ length layout.now }
     ensures within { (from ≤ result) × (result ≤ length layout.now) }
     ensures here { (a : Area) → slice_get layout.now result ≡ Some a
-        → covers spaces (touched.Tables reach.Any) a.res ≡ true }
+        → covers spaces (touched.Tables reach.Any) a.res ≡ of_table }
     ensures before { (place : ℕ) (a : Area) → slice_get layout.now place ≡ Some a → from ≤ place → place < result
-        → covers spaces (touched.Tables reach.Any) a.res ≡ false }
+        → covers spaces (touched.Tables reach.Any) a.res ≡ not of_table }
 {
     for place in from..layout.len() {
-        if Touch::Tables(Reach::Any).covers(spaces, layout.area(place).res) {
-            return place;
-        }
-    }
-    layout.len()
-}
-
-/// The first place of an area that isn't a table's from a place on; where there is none, the number of areas.
-fn next_other(layout: &Layout, spaces: Spaces, from: u32) -> u32
-    requires { from ≤ length layout.now }
-    ensures within { (from ≤ result) × (result ≤ length layout.now) }
-    ensures here { (a : Area) → slice_get layout.now result ≡ Some a
-        → covers spaces (touched.Tables reach.Any) a.res ≡ false }
-    ensures before { (place : ℕ) (a : Area) → slice_get layout.now place ≡ Some a → from ≤ place → place < result
-        → covers spaces (touched.Tables reach.Any) a.res ≡ true }
-{
-    for place in from..layout.len() {
-        if !Touch::Tables(Reach::Any).covers(spaces, layout.area(place).res) {
+        if Touch::Tables(Reach::Any).covers(spaces, layout.area(place).res) == of_table {
             return place;
         }
     }

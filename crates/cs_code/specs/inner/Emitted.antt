@@ -12,7 +12,7 @@ use Rattle.cs_code.specs.{inner.Kept.past, inner.Kept.past_parts, declared.args.
 use Rattle.cs_code.specs.{declared.call.Putting.Putting, declared.frame.Pass.Pass, declared.frame.Progress.Progress}
 use Rattle.cs_code.specs.{declared.reach.KnownArgument.KnownArgument, declared.simple.Assignment.Assignment}
 use Rattle.cs_code.specs.{declared.simple.Sending.Sending, declared.value.Value.Value}
-use Rattle.cs_typed.specs.TypedTree.{Expression, number, var, neg, pair, pick, apply}
+use Rattle.cs_typed.specs.TypedTree.{Expression, number, var}
 use Rattle.cs_typed.specs.{declared.tree.TypedArm.TypedArm, declared.tree.TypedExpr.TypedExpr}
 use Rattle.cs_typed.specs.{declared.tree.TypedStmt.TypedStmt, declared.tree.Var.Var as Variable}
 use Rattle.cs_words.specs.{declared.catalogue.Opcode.Opcode, declared.catalogue.Shape.Shape}
@@ -48,21 +48,6 @@ assignment_of a = record { done = a.done; to = a.to; value = value_of a.value }
 
 abbrev pub set_of : Assigned → Stmt
 set_of a = set a.done a.to a.value
-
--- the code of the kept parts of an expression that changes, and the number after theirs
-abbrev pub parts_code : ℕ → Expression → List Op
-parts_code at (neg r a) = keep_code at a
-parts_code at (pair r b y z) = keep_code at y ++ keep_code (past at y) z
-parts_code at (pick r c y z) = keep_code at c ++ (keep_code (past at c) y ++ keep_code (past (past at c) y) z)
-parts_code at (apply r g a) = keep_code at a
-parts_code at _ = []
-
-abbrev pub parts_past : ℕ → Expression → ℕ
-parts_past at (neg r a) = past at a
-parts_past at (pair r o a b) = past (past at a) b
-parts_past at (pick r c a b) = past (past (past at c) a) b
-parts_past at (apply r f a) = past at a
-parts_past at _ = at
 
 -- the arguments of a call
 abbrev pub arguments_of : Call → List typed.Argument
