@@ -1,10 +1,10 @@
 // `biquad`: a filter of two zeros and two poles, by whole numbers.
-ghost use Rattle.std.specs.Prelude.{true, ◌≡◌, ◌≢◌, ◌<◌, ◌≤◌, ◌+◌, ◌^◌, length, pos, ◌≤ℤ◌, ◌+ℤ◌, ◌-ℤ◌, ◌*ℤ◌};
+ghost use Rattle.std.specs.Prelude.{true, ◌≡◌, ◌≢◌, ◌<◌, ◌≤◌, ◌+◌, ◌^◌, length, pos, ◌≤ℤ◌, ◌-ℤ◌, ◌*ℤ◌};
 ghost use Rattle.std.specs.{Prelude.unsigned_abs, Int.int_div_euclid};
 ghost use Rattle.cs_base.specs.Numbers.{IsRaw, clamp, floor_div, quotient_by_zero};
 ghost use Rattle.cs_signal.specs.Biquad.{biquad_step, inputs_by, ratio};
 ghost use Rattle.cs_signal.specs.{Operands.argument, Steps.run, Walk.HasRun};
-ghost use Rattle.cs_signal.specs.inner.Short.{AreShort, AreSmall, IsShort, IsSmall};
+ghost use Rattle.cs_signal.specs.inner.Short.{AreShort, AreSmall, IsShort, IsSmall, sum_of};
 
 use crate::Operand;
 use crate::generator::{Generator, Stepper};
@@ -143,9 +143,7 @@ impl Biquad {
     // What is divided.
     #[inline(always)]
     fn wide_sum(&self, x: Num, by: &Coefficients) -> i128
-        ensures value { let s = self.now in
-            result ≡ ((by.now.b0 *ℤ x +ℤ by.now.b1 *ℤ s.x1) +ℤ by.now.b2 *ℤ s.x2)
-            -ℤ (by.now.a1 *ℤ s.y1 +ℤ by.now.a2 *ℤ s.y2) }
+        ensures value { result ≡ sum_of by.now self.now x }
         ensures bounded { unsigned_abs result < 2 ^ 97 }
     {
         less(
@@ -157,24 +155,17 @@ impl Biquad {
         )
     }
 
-    // The same, where all factors are below 2,048 and all signals below 32,768, so that no sum has over 61 bits.
+    // The same, where all factors are below 2,048 and all signals below 32,768, so that no sum has over 61 bits: the
+    // compiler then makes all of it in 64.
     #[inline(always)]
     fn short_sum(&self, x: Num, by: &Coefficients) -> i64
         requires small { AreSmall by.now }
         requires input { IsShort x }
         requires short { AreShort self.now }
-        ensures value { let s = self.now in
-            result ≡ ((by.now.b0 *ℤ x +ℤ by.now.b1 *ℤ s.x1) +ℤ by.now.b2 *ℤ s.x2)
-            -ℤ (by.now.a1 *ℤ s.y1 +ℤ by.now.a2 *ℤ s.y2) }
+        ensures value { result ≡ sum_of by.now self.now x }
         ensures bounded { unsigned_abs result < 2 ^ 61 }
     {
-        near_less(
-            near_plus(
-                near_plus(near_product(by.b0, x), near_product(by.b1, self.x1)),
-                near_product(by.b2, self.x2),
-            ),
-            near_plus(near_product(by.a1, self.y1), near_product(by.a2, self.y2)),
-        )
+        self.wide_sum(x, by) as i64
     }
 }
 
@@ -239,36 +230,6 @@ fn is_short(x: Num) -> bool
     ensures { result ≡ true → IsShort x }
 {
     -(1 << 31) <= x.raw() && x.raw() < 1 << 31
-}
-
-#[inline(always)]
-fn near_product(c: Num, x: Num) -> i64
-    requires coefficient { IsSmall c }
-    requires signal { IsShort x }
-    ensures value { result ≡ c *ℤ x }
-    ensures bounded { unsigned_abs result ≤ 2 ^ 58 }
-{
-    c.raw() * x.raw()
-}
-
-#[inline(always)]
-fn near_plus(x: i64, y: i64) -> i64
-    requires x { unsigned_abs x < 2 ^ 61 }
-    requires y { unsigned_abs y < 2 ^ 61 }
-    ensures value { result ≡ x +ℤ y }
-    ensures bounded { unsigned_abs result ≤ unsigned_abs x + unsigned_abs y }
-{
-    x + y
-}
-
-#[inline(always)]
-fn near_less(x: i64, y: i64) -> i64
-    requires x { unsigned_abs x ≤ 2 ^ 60 }
-    requires y { unsigned_abs y ≤ 2 ^ 59 }
-    ensures value { result ≡ x -ℤ y }
-    ensures bounded { unsigned_abs result < 2 ^ 61 }
-{
-    x - y
 }
 
 // The quotient, rounded down and brought into range. By one, as most filters have it, a shift does: the next step waits

@@ -40,7 +40,7 @@ pub trait Curve {
     /// The same curve for a loop, where it lies in one row and `is_short` there; else None.
     #[inline(always)]
     fn short(&self) -> Option<ShortCurve<'_>>
-        ensures { IfSome result (λ s. s.curve.now ≡ points self.now) }
+        ensures { IfSome result (λ s. s.frozen.curve.now ≡ points self.now) }
     {
         None
     }

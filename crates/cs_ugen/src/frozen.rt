@@ -2,7 +2,6 @@
 ghost use Rattle.std.specs.Prelude.{◌≡◌, ◌≤◌, ◌%◌, IfOk, true, refl, length};
 ghost use Rattle.std.proofs.Common.{◌∙◌};
 ghost use Rattle.cs_gen.specs.{Points.len_of, Tables.curve_of};
-ghost use Rattle.cs_signal.specs.Operands.{argument};
 ghost use Rattle.cs_ugen.specs.Points.{AreShort, IsShort, curve_len, is_len};
 
 use crate::curve::Curve;
@@ -106,25 +105,6 @@ impl<'p> Frozen<'p> {
     }
 }
 
-// How many points a curve has before its guard point.
-#[inline(always)]
-fn len_of_curve(curve: &[Num]) -> usize
-    requires { is_len (curve_len curve.now) ≡ true }
-    ensures { result ≡ curve_len curve.now }
-{
-    curve.len() - 1
-}
-
-// The point at a place of a curve.
-#[inline(always)]
-fn point_at(curve: &[Num], place: usize) -> Num
-    requires power { is_len (curve_len curve.now) ≡ true }
-    requires place { place ≤ curve_len curve.now }
-    ensures { result ≡ argument curve.now place }
-{
-    curve[place]
-}
-
 impl Curve for Frozen<'_> {
     ghost points = { λ f. curve_of f.points.now };
 
@@ -132,18 +112,18 @@ impl Curve for Frozen<'_> {
 
     #[inline(always)]
     fn len(&self) -> usize {
-        len_of_curve(self.curve)
+        self.curve.len() - 1
     }
 
     #[inline(always)]
     fn at(&mut self, place: usize) -> Num {
-        point_at(self.curve, place)
+        self.curve[place]
     }
 
     #[inline(always)]
     fn short(&self) -> Option<ShortCurve<'_>> {
         if self.short {
-            Some(ShortCurve { curve: self.curve })
+            Some(ShortCurve { frozen: *self })
         } else {
             None
         }
@@ -157,24 +137,24 @@ impl Curve for Frozen<'_> {
 /// A frozen table as a curve whose points all fit into 32 bits.
 #[derive(Clone, Copy)]
 pub struct ShortCurve<'p> {
-    curve: &'p [Num],
-    ghost power: { is_len (curve_len curve.now) ≡ true },
-    ghost short_is: { AreShort curve.now },
+    frozen: Frozen<'p>,
+    ghost short_is: { AreShort frozen.curve.now },
 }
 
 impl Curve for ShortCurve<'_> {
-    ghost points = { λ f. f.curve.now };
+    ghost points = { λ f. f.frozen.curve.now };
 
     ghost kept = { λ before after. after ≡ before };
 
     #[inline(always)]
     fn len(&self) -> usize {
-        len_of_curve(self.curve)
+        self.frozen.len()
     }
 
     #[inline(always)]
     fn at(&mut self, place: usize) -> Num {
-        point_at(self.curve, place)
+        let mut frozen = self.frozen;
+        frozen.at(place)
     }
 
     #[inline(always)]

@@ -1,9 +1,8 @@
 // `oscil` and `oscili`: a table read as a wave.
-ghost use Rattle.std.specs.Prelude.{◌≡◌, ◌<◌, ◌∷◌, ◌++◌, ◌^◌, ◌≤◌, length, ◌*ℤ◌, unsigned_abs};
-ghost use Rattle.std.specs.List.{All};
+ghost use Rattle.std.specs.Prelude.{◌≡◌, ◌<◌, ◌∷◌, ◌^◌, ◌≤◌, length, ◌*ℤ◌, unsigned_abs};
 ghost use Rattle.cs_base.specs.{Heads.header_of_head, Numbers.product_of};
 ghost use Rattle.cs_ugen.specs.{Oscil.oscil_start, Oscil.wave_step, Phases.turn, Points.IsShort};
-ghost use Rattle.cs_signal.specs.Operands.{argument, inputs_at, operand_at, Lasts};
+ghost use Rattle.cs_signal.specs.Operands.{argument, operand_at, Lasts};
 ghost use Rattle.cs_signal.specs.{Pace.pace_of, Steps.run};
 
 use crate::angle::{Angle, moved};
@@ -51,30 +50,9 @@ impl Oscillator {
         wave::<R, C>(amp, curve, phase)
     }
 
-    /// A step for each frame of `out`, by the operands in the order of the text: amplitude and frequency.
+    /// A step for each frame of `out`, by amplitude and frequency.
     #[inline(always)]
-    pub(crate) fn render_on<R: Reading, C: Curve>(
-        &mut self,
-        inputs: &[Operand],
-        curve: &mut C,
-        out: &mut [Num],
-    )
-        requires count { length inputs.now ≡ 2 }
-        requires last { All (Lasts (length out.old)) inputs.now }
-        ensures value { (self.new, out.new) ≡ run (wave_step R.on_turn)
-            (λ j. inputs_at inputs.now j ++ C.points curve.old) self.old 0 (length out.old) }
-        ensures same { C.points curve.new ≡ C.points curve.old }
-        ensures kept { C.kept curve.old curve.new }
-    {
-        match inputs {
-            [amp, cps] => self.block_on::<R, C>(amp, cps, curve, out),
-            _ => unreachable!(),
-        }
-    }
-
-    // The same, by each operand.
-    #[inline(always)]
-    fn block_on<R: Reading, C: Curve>(
+    pub(crate) fn block_on<R: Reading, C: Curve>(
         &mut self,
         amp: &Operand,
         cps: &Operand,
@@ -88,42 +66,18 @@ impl Oscillator {
         ensures same { C.points curve.new ≡ C.points curve.old }
         ensures kept { C.kept curve.old curve.new }
     {
-        match curve.short() {
-            Some(short) => {
-                let mut local = short;
-                play::<R, _>(self, amp, cps, &mut local, out);
+        match (amp, cps) {
+            (Operand::Held(value), Operand::Held(cps)) => {
+                // Both arms are the same text: in the first the compiler knows that the amplitude fits into 32 bits.
+                if is_short(*value) {
+                    held::<R, C>(self, amp, *cps, curve, out);
+                } else {
+                    held::<R, C>(self, amp, *cps, curve, out);
+                }
             }
-            None => play::<R, C>(self, amp, cps, curve, out),
+            (Operand::Row(_), Operand::Held(cps)) => held::<R, C>(self, amp, *cps, curve, out),
+            (_, Operand::Row(cps)) => along::<R, C>(self, amp, cps, curve, out),
         }
-    }
-}
-
-#[inline(always)]
-fn play<R: Reading, C: Curve>(
-    unit: &mut Oscillator,
-    amp: &Operand,
-    cps: &Operand,
-    curve: &mut C,
-    out: &mut [Num],
-)
-    requires amp { Lasts (length out.old) amp.now }
-    requires cps { Lasts (length out.old) cps.now }
-    ensures value { (unit.new, out.new) ≡ run (wave_step R.on_turn)
-        (λ j. operand_at amp.now j ∷ operand_at cps.now j ∷ C.points curve.old) unit.old 0 (length out.old) }
-    ensures same { C.points curve.new ≡ C.points curve.old }
-    ensures kept { C.kept curve.old curve.new }
-{
-    match (amp, cps) {
-        (Operand::Held(value), Operand::Held(cps)) => {
-            // Both arms are the same text: in the first the compiler knows that the amplitude fits into 32 bits.
-            if is_short(*value) {
-                held::<R, C>(unit, amp, *cps, curve, out);
-            } else {
-                held::<R, C>(unit, amp, *cps, curve, out);
-            }
-        }
-        (Operand::Row(_), Operand::Held(cps)) => held::<R, C>(unit, amp, *cps, curve, out),
-        (_, Operand::Row(cps)) => along::<R, C>(unit, amp, cps, curve, out),
     }
 }
 

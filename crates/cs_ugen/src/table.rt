@@ -1,7 +1,7 @@
 // `table` and `tablei`: a table read at an index.
-ghost use Rattle.std.specs.{Prelude.◌≡◌, Prelude.◌∷◌, Prelude.◌++◌, Prelude.length, List.All};
+ghost use Rattle.std.specs.Prelude.{◌≡◌, ◌∷◌, length};
 ghost use Rattle.cs_ugen.specs.Table.{index_step, table_start};
-ghost use Rattle.cs_signal.specs.{Operands.inputs_at, Operands.operand_at, Operands.Lasts, Steps.run};
+ghost use Rattle.cs_signal.specs.{Operands.operand_at, Operands.Lasts, Steps.run};
 
 use crate::curve::Curve;
 use crate::reading::Reading;
@@ -37,30 +37,14 @@ impl TableReader {
         R::indexed(curve, ndx)
     }
 
-    /// A step for each frame of `out`, by the operands in the order of the text: the index.
+    /// A step for each frame of `out`, by the index.
     #[inline(always)]
-    pub(crate) fn render_on<R: Reading, C: Curve>(
+    pub(crate) fn block_on<R: Reading, C: Curve>(
         &mut self,
-        inputs: &[Operand],
+        ndx: &Operand,
         curve: &mut C,
         out: &mut [Num],
     )
-        requires count { length inputs.now ≡ 1 }
-        requires last { All (Lasts (length out.old)) inputs.now }
-        ensures value { (self.new, out.new) ≡ run (index_step R.on_index)
-            (λ j. inputs_at inputs.now j ++ C.points curve.old) self.old 0 (length out.old) }
-        ensures same { C.points curve.new ≡ C.points curve.old }
-        ensures kept { C.kept curve.old curve.new }
-    {
-        match inputs {
-            [ndx] => self.block_on::<R, C>(ndx, curve, out),
-            _ => unreachable!(),
-        }
-    }
-
-    // The same, by the operand.
-    #[inline(always)]
-    fn block_on<R: Reading, C: Curve>(&mut self, ndx: &Operand, curve: &mut C, out: &mut [Num])
         requires { Lasts (length out.old) ndx.now }
         ensures value { (self.new, out.new)
             ≡ run (index_step R.on_index) (λ j. operand_at ndx.now j ∷ C.points curve.old) self.old 0 (length out.old) }

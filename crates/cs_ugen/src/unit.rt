@@ -150,7 +150,14 @@ impl Unit {
         ensures same { C.points curve.new ≡ C.points curve.old }
         ensures kept { C.kept curve.old curve.new }
     {
-        self.rendered_on(inputs, curve, out);
+        match curve.short() {
+            // A copy, so that the compiler knows that no result is written over it.
+            Some(short) => {
+                let mut local = short;
+                self.rendered_on(inputs, &mut local, out);
+            }
+            None => self.rendered_on(inputs, curve, out),
+        }
     }
 
     // The same, by the steps of its state.
@@ -164,11 +171,17 @@ impl Unit {
         ensures same { C.points curve.new ≡ C.points curve.old }
         ensures kept { C.kept curve.old curve.new }
     {
-        match &mut self.kind {
-            UnitState::Oscil(unit) => unit.render_on::<Truncating, C>(inputs, curve, out),
-            UnitState::Oscili(unit) => unit.render_on::<Interpolating, C>(inputs, curve, out),
-            UnitState::Table(unit) => unit.render_on::<Truncating, C>(inputs, curve, out),
-            UnitState::Tablei(unit) => unit.render_on::<Interpolating, C>(inputs, curve, out),
+        match inputs {
+            [amp, cps] => match &mut self.kind {
+                UnitState::Oscil(unit) => unit.block_on::<Truncating, C>(amp, cps, curve, out),
+                UnitState::Oscili(unit) => unit.block_on::<Interpolating, C>(amp, cps, curve, out),
+                _ => unreachable!(),
+            },
+            [ndx] => match &mut self.kind {
+                UnitState::Table(unit) => unit.block_on::<Truncating, C>(ndx, curve, out),
+                UnitState::Tablei(unit) => unit.block_on::<Interpolating, C>(ndx, curve, out),
+                _ => unreachable!(),
+            },
             _ => unreachable!(),
         }
     }

@@ -1,6 +1,10 @@
--- What products and sums of 64 bits need: small coefficients and short signals.
-use Rattle.std.specs.Prelude.{◌≤◌, ◌^◌, ℤ, unsigned_abs}
+-- The sum of a filter's step, and what it needs to be of 64 bits: small coefficients and short signals.
+use Rattle.std.specs.Prelude.{◌≤◌, ◌^◌, ℤ, ◌+ℤ◌, ◌-ℤ◌, ◌*ℤ◌, unsigned_abs}
 use Rattle.cs_signal.specs.{Biquad.BiquadState, declared.biquad.Coefficients.Coefficients}
+
+-- what a step divides, by its coefficients, what the filter keeps, and the input
+abbrev pub sum_of : Coefficients → BiquadState → ℤ → ℤ
+sum_of by s x = ((by.b0 *ℤ x +ℤ by.b1 *ℤ s.x1) +ℤ by.b2 *ℤ s.x2) -ℤ (by.a1 *ℤ s.y1 +ℤ by.a2 *ℤ s.y2)
 
 -- a coefficient of at most 2,048
 abbrev pub IsSmall : ℤ → Type 0

@@ -1,10 +1,19 @@
-use Rattle.std.proofs.Common.{length, ◌++◌, ◌∙◌}
+use Rattle.std.proofs.Common.{ap, length, ◌++◌, ◌∙◌}
 use Rattle.cs_signal.specs.Operands.{inputs_at}
+use Rattle.cs_ugen.specs.inner.Runs.{state_run}
 use Rattle.cs_ugen.proofs.Units.{runs}
 use Rattle.cs_ugen.proofs.unit.Unit.block_on.Goals as goal
 
-pub returns-clause-value : goal.returns-clause-value
-returns-clause-value g c =
+pub returns-in-Some-clause-value : goal.returns-in-Some-clause-value
+returns-in-Some-clause-value g c =
+    let u = c.args.self.now in
+    let n = length c.args.out.now in
     c.rendered_on.ensures.value
+    ∙ ap (λ points. state_run u (λ j. inputs_at c.args.inputs.now j ++ points) n) c.in-Some.ensures
+    ∙ runs u (λ j. inputs_at c.args.inputs.now j ++ g.C.Curve.points c.args.curve.now) n
+
+pub returns-in-None-clause-value : goal.returns-in-None-clause-value
+returns-in-None-clause-value g c =
+    c.rendered_on-in-None.ensures.value
     ∙ runs c.args.self.now (λ j. inputs_at c.args.inputs.now j ++ g.C.Curve.points c.args.curve.now)
     (length c.args.out.now)
