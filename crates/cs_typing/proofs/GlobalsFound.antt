@@ -34,15 +34,8 @@ giver_found ds visible (callee.Name x) f h =
 
 -- ---- marks
 
--- they say the same in front of any part
-pub done_at : (f h : Front) (g : GivenGlobals) → f.library ≡ h.library → IsDone f g → IsDone h g
-done_at f h g e d = subst (λ l. IsDone (record { library = l; visible = h.visible }) g) e (record {
-  marks = d.marks;
-  has = d.has;
-})
-
 -- nothing is given that wasn't
-pub looks_unfound : (f : Front) (g : GivenGlobals) (c : Callee) → IsDone f g
+pub looks_unfound : (f : Front) (g : GivenGlobals) (c : Callee) → IsDone (definitions_of f.library.now) g
     → IsFound (definitions_of f.library.now) f.visible c None → Looks f g g (called_names (givers_in f) c)
 looks_unfound f g c d h = record {
   names = ap (given_globals g.names) (sym (giver_unfound (definitions_of f.library.now) f.visible c h));
@@ -50,8 +43,8 @@ looks_unfound f g c d h = record {
 }
 
 -- what a marked definition gives is given
-pub looks_again : (f : Front) (g : GivenGlobals) (c : Callee) (found : FoundDefinition) → IsDone f g
-    → IsFound (definitions_of f.library.now) f.visible c (Some found)
+pub looks_again : (f : Front) (g : GivenGlobals) (c : Callee) (found : FoundDefinition)
+    → IsDone (definitions_of f.library.now) g → IsFound (definitions_of f.library.now) f.visible c (Some found)
     → slice_get (definitions_of f.library.now) found.place ≡ Some (definition found.definition.now)
     → slice_get g.done.items found.place ≡ Some true → Looks f g g (called_names (givers_in f) c)
 looks_again f g c found d h at marked = record {
@@ -83,7 +76,7 @@ looks_first f inner old made new c found lib vis h at l names marks =
     ap (λ b. names_in_block (givers_of (definitions_of b.now) inner.visible) (definition found.definition.now).body) lib
     ∙ ap (λ v. names_in_block (givers_of ds v) (definition found.definition.now).body) vis in
     let all : made.names ≡ given_globals old.names xs = l.names ∙ ap (given_globals old.names) same in
-    let before : IsDone f made = done_at inner f made lib l.done in
+    let before : IsDone ds made = subst (λ b. IsDone (definitions_of b.now) made) lib l.done in
     let held : Has made.names xs = subst (λ t. Has t xs) (sym all) (given_held old.names xs) in
     record {
       names =
@@ -135,7 +128,7 @@ looks_both f old mid new xs ys a b = record {
 }
 
 -- names that a statement gives itself
-pub looks_given : (f : Front) (old new : GivenGlobals) (ys : List (List ℕ)) → IsDone f old
+pub looks_given : (f : Front) (old new : GivenGlobals) (ys : List (List ℕ)) → IsDone (definitions_of f.library.now) old
     → new.names ≡ given_globals old.names ys → new.done.items ≡ old.done.items → Looks f old new ys
 looks_given f old new ys d names marks = record {
   names = names;

@@ -3,13 +3,13 @@
 ghost use Rattle.std.specs.Prelude.{◌≡◌, OnOk, IfOk, map, true};
 ghost use Rattle.cs_grammar.specs.Tree as tree;
 ghost use Rattle.cs_typing.specs.Typing.{given_global, given_globals, all_globals};
-ghost use Rattle.cs_typing.specs.inner.Globals.{called_names, names_in, names_in_block, names_in_bodies, IsDone, Looks};
+ghost use Rattle.cs_typing.specs.inner.Globals.{called_names, names_in, names_in_block, IsDone, Looks};
 ghost use Rattle.cs_typing.specs.inner.Globals.{givers_in, names_in_instruments};
 ghost use Rattle.cs_udo.specs.{Expanded.expanded_orchestra, Library.definitions_of, Ready.IsReady};
 
 use crate::known::NamesByRate;
 use cs_base::{Name, OutOfMemory};
-use cs_grammar::{Arm, Callee, Instr, OrcStmt, StmtWhat};
+use cs_grammar::{Callee, Instr, OrcStmt, StmtWhat};
 use cs_udo::{Expansion, Library};
 use cs_words::is_global;
 use std::alloc::Global;
@@ -49,7 +49,7 @@ fn globals_of_stmt<'t>(
     front: Front<'_, 't>,
     s: &'t OrcStmt,
 ) -> Result<(), OutOfMemory>
-    requires { IsDone front given.old }
+    requires { IsDone (definitions_of front.library.now) given.old }
     ensures { OnOk result (Looks front.entry given.old given.new
         (names_in (givers_in front.entry) (tree.statement s.now))) }
 {
@@ -60,7 +60,9 @@ fn globals_of_stmt<'t>(
             give_globals(&mut given.names, results.as_slice())
         }
         StmtWhat::Choose(list, els) => {
-            globals_of_arms(given, front, list)?;
+            for a in list {
+                globals_of_block(given, front, &a.body)?;
+            }
             globals_of_block(given, front, els)
         }
     }
@@ -73,7 +75,7 @@ fn globals_of_callee<'t>(
     front: Front<'_, 't>,
     callee: &Callee,
 ) -> Result<(), OutOfMemory>
-    requires { IsDone front given.old }
+    requires { IsDone (definitions_of front.library.now) given.old }
     ensures { OnOk result (Looks front.entry given.old given.new (called_names (givers_in front.entry) callee.now)) }
 {
     match front.library.find(front.visible, callee) {
@@ -98,7 +100,7 @@ fn globals_of_block<'t>(
     front: Front<'_, 't>,
     stmts: &'t [OrcStmt],
 ) -> Result<(), OutOfMemory>
-    requires { IsDone front given.old }
+    requires { IsDone (definitions_of front.library.now) given.old }
     ensures { OnOk result (Looks front.entry given.old given.new
         (names_in_block (givers_in front.entry) (tree.block stmts.now))) }
 {
@@ -108,35 +110,20 @@ fn globals_of_block<'t>(
     Ok(())
 }
 
-#[cycle(globals)]
-fn globals_of_arms<'t>(
-    given: &mut GivenGlobals<'t>,
-    front: Front<'_, 't>,
-    list: &'t [Arm],
-) -> Result<(), OutOfMemory>
-    requires { IsDone front given.old }
-    ensures { OnOk result (Looks front.entry given.old given.new (names_in_bodies (givers_in front.entry) list.now)) }
-{
-    for a in list {
-        globals_of_block(given, front, &a.body)?;
-    }
-    Ok(())
-}
-
 // Those of instruments, each with what is defined in front of it.
 fn globals_of_instruments<'t>(
     given: &mut GivenGlobals<'t>,
-    outside: Front<'_, 't>,
+    library: &Library<'t>,
     instrs: &'t [Instr],
 ) -> Result<(), OutOfMemory>
-    requires { IsDone outside given.old }
+    requires { IsDone (definitions_of library.now) given.old }
     ensures { OnOk result (given.new.names ≡ given_globals given.old.names
-        (names_in_instruments (definitions_of outside.entry.library.now) (map tree.instrument instrs.now))) }
+        (names_in_instruments (definitions_of library.now) (map tree.instrument instrs.now))) }
 {
     for i in instrs {
         let front = Front {
-            library: outside.library,
-            visible: outside.library.before(i.line),
+            library,
+            visible: library.before(i.line),
         };
         globals_of_block(given, front, &i.body)?;
     }
@@ -161,6 +148,6 @@ pub fn globals_of<'t>(
         visible: 0,
     };
     globals_of_block(&mut given, outside, &expansion.orc.zero)?;
-    globals_of_instruments(&mut given, outside, &expansion.orc.instrs)?;
+    globals_of_instruments(&mut given, library, &expansion.orc.instrs)?;
     Ok(given.names)
 }

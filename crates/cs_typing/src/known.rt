@@ -131,18 +131,14 @@ impl<'t> Scope<'t> {
 
 /// Names of variables by their rates, each list in the order in which they were first given.
 #[derive(Drop)]
-pub struct NamesByRate<'t> {
-    init: NameSet<'t>,
-    control: NameSet<'t>,
-    audio: NameSet<'t>,
-}
+pub struct NamesByRate<'t>(PerRate<NameSet<'t>>);
 
 impl<'t> Model for NamesByRate<'t> {
     ghost use Rattle.cs_typing.specs.Known.{RateNames};
 
     ghost Value = { RateNames };
 
-    ghost view = { λ t. record { init = t.init; control = t.control; audio = t.audio } };
+    ghost view = { λ t. t.0 };
 }
 
 impl<'t> NamesByRate<'t> {
@@ -150,11 +146,11 @@ impl<'t> NamesByRate<'t> {
     pub fn new(alloc: Global) -> NamesByRate<'t>
         ensures { result ≡ no_names }
     {
-        NamesByRate {
+        NamesByRate(PerRate {
             init: NameSet::new(alloc),
             control: NameSet::new(alloc),
             audio: NameSet::new(alloc),
-        }
+        })
     }
 
     /// The names of a rate.
@@ -162,9 +158,9 @@ impl<'t> NamesByRate<'t> {
         ensures { result.now ≡ of_rate rate self.now }
     {
         match rate {
-            Rate::Init => &self.init,
-            Rate::Control => &self.control,
-            Rate::Audio => &self.audio,
+            Rate::Init => &self.0.init,
+            Rate::Control => &self.0.control,
+            Rate::Audio => &self.0.audio,
         }
     }
 
@@ -187,9 +183,9 @@ impl<'t> NamesByRate<'t> {
         ensures { OnOk result (self.new ≡ added self.old name.now) }
     {
         match name_rate(name) {
-            Rate::Init => self.init.add(name),
-            Rate::Control => self.control.add(name),
-            Rate::Audio => self.audio.add(name),
+            Rate::Init => self.0.init.add(name),
+            Rate::Control => self.0.control.add(name),
+            Rate::Audio => self.0.audio.add(name),
         }
     }
 
@@ -197,9 +193,9 @@ impl<'t> NamesByRate<'t> {
         ensures { IfOk result (λ made. made ≡ self.now) }
     {
         Ok(PerRate {
-            init: self.init.to_names(alloc)?,
-            control: self.control.to_names(alloc)?,
-            audio: self.audio.to_names(alloc)?,
+            init: self.0.init.to_names(alloc)?,
+            control: self.0.control.to_names(alloc)?,
+            audio: self.0.audio.to_names(alloc)?,
         })
     }
 }

@@ -7,10 +7,10 @@ ghost use Rattle.cs_grammar.specs.Tree as tree;
 ghost use Rattle.cs_typed.specs.TypedTree as typed;
 ghost use Rattle.cs_typing.specs.Typing.{items, alone, body, type_fault, typed_of};
 ghost use Rattle.cs_typing.specs.{inner.Answers.Judged, inner.Settled.settings_of, inner.Listed.blocks_in};
-ghost use Rattle.cs_typing.specs.{inner.Walk.made_of, inner.Held.known_of};
+ghost use Rattle.cs_typing.specs.{inner.Walk.made_of, inner.Walk.IsBehind, inner.Held.known_of};
 ghost use Rattle.cs_typing.specs.inner.Parts.{made_from, made_with, nothing, part_fault, parts_fault, instrument_in};
 ghost use Rattle.cs_typing.specs.inner.Parts.{statements_fault, typed_by};
-ghost use Rattle.cs_typing.specs.inner.Walk.{AddsParts, AreSound, GivesInstrument, GivesOrc, IsBegun, IsBehind};
+ghost use Rattle.cs_typing.specs.inner.Walk.{AddsPart, AddsParts, AreSound, GivesInstrument, GivesOrc, IsBegun};
 ghost use Rattle.cs_udo.specs.{Expanded.expanded_orchestra, Library.definitions_of, Ready.IsReady};
 
 use crate::globals::globals_of;
@@ -92,10 +92,8 @@ impl<'t> Typing<'t> {
         stmts: &'t [OrcStmt],
     ) -> Result<(), Or<OrcFault>>
         requires sound { AreSound channels (definitions_of library.now) self.old.so_far }
-        ensures fault { Judged result (part_fault channels (definitions_of library.now) (known_of self.old.so_far.names)
-            (alone (tree.block stmts.now))) }
-        ensures adds { OnOk result (AddsParts channels (definitions_of library.now) self.old self.new
-            (alone (tree.block stmts.now) ∷ [])) }
+        ensures { AddsPart channels (definitions_of library.now) self.old self.new result
+            (alone (tree.block stmts.now)) }
     {
         let site = Site {
             setting: Setting {
@@ -116,10 +114,8 @@ impl<'t> Typing<'t> {
         i: &'t Instr,
     ) -> Result<(), Or<OrcFault>>
         requires sound { AreSound channels (definitions_of library.now) self.old.so_far }
-        ensures fault { Judged result (part_fault channels (definitions_of library.now) (known_of self.old.so_far.names)
-            (body (tree.instrument i.now))) }
-        ensures adds { OnOk result (AddsParts channels (definitions_of library.now) self.old self.new
-            (body (tree.instrument i.now) ∷ [])) }
+        ensures { AddsPart channels (definitions_of library.now) self.old self.new result
+            (body (tree.instrument i.now)) }
     {
         let made = instrument(channels, library, &mut self.so_far, &mut self.around, i)?;
         Ok(self.made.add_instrument(made)?)

@@ -73,13 +73,12 @@ names_in_bodies givers (a ∷ rest) =
     names_in_block givers (block (out-Arm a).body.items) ++ names_in_bodies givers rest
 
 -- each definition has its mark, and what marked ones give is among the variables
-pub record IsDone (f : Front) (g : GivenGlobals) : Type 0 where
-  pub marks : length g.done.items ≡ length (definitions_of f.library.now)
+pub record IsDone (ds : List Definition) (g : GivenGlobals) : Type 0 where
+  pub marks : length g.done.items ≡ length ds
   pub has : (k : ℕ) (d : Definition) → slice_get g.done.items k ≡ Some true
-      → slice_get (definitions_of f.library.now) k ≡ Some d
-      → Has g.names (names_in_block (givers_of (definitions_of f.library.now) k) d.body)
+      → slice_get ds k ≡ Some d → Has g.names (names_in_block (givers_of ds k) d.body)
 
 -- these names are looked through
 pub record Looks (f : Front) (old new : GivenGlobals) (xs : List (List ℕ)) : Type 0 where
   pub names : new.names ≡ given_globals old.names xs
-  pub done : IsDone f new
+  pub done : IsDone (definitions_of f.library.now) new

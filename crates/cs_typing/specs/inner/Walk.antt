@@ -1,10 +1,11 @@
 -- What is made of the parts of an orchestra so far, and what calls answer of parts.
-use Rattle.std.specs.Prelude.{ℕ, List, ◌≡◌, ◌++◌, map, Option, None, Result, Ok, Err}
+use Rattle.std.specs.Prelude.{ℕ, List, [], ◌∷◌, ◌≡◌, ◌++◌, map, OnOk, Option, None, Result, Ok, Err}
 use Rattle.cs_base.specs.{declared.fault.Or.Or, declared.fault.OrcFault.OrcFault}
 use Rattle.cs_grammar.specs.Tree.{Definition, orchestra}
 use Rattle.cs_typed.specs.{declared.tree.TypedInstr.TypedInstr, declared.tree.TypedOrc.TypedOrc}
 use Rattle.cs_udo.specs.{Library.definitions_of, declared.library.Expansion.Expansion}
-use Rattle.cs_typing.specs.{Typing.Item, declared.orc.Done.Done, declared.orc.Typing.Typing, inner.Answers.HasFault}
+use Rattle.cs_typing.specs.{Typing.Item, declared.orc.Done.Done, declared.orc.Typing.Typing}
+use Rattle.cs_typing.specs.{inner.Answers.HasFault, inner.Answers.Judged, inner.Parts.part_fault}
 use Rattle.cs_typing.specs.{inner.Held.known_of, declared.routines.SoFar.SoFar, inner.Parts.nothing}
 use Rattle.cs_typing.specs.declared.routines.RoutineTable.{RoutineTable}
 use Rattle.cs_typing.specs.inner.Listed.{AreTyped, IsLonger, blocks_in}
@@ -34,6 +35,12 @@ pub record AddsParts (channels : ℕ) (ds : List Definition) (old new : Typing) 
       ≡ after_parts ds (known_of old.so_far.names) (made_of (blocks_in new.so_far.routines ++ more) old.made) xs
   pub longer : IsLonger old.so_far.routines new.so_far.routines
   pub sound : AreSound channels ds new.so_far
+
+-- An answer: a part is added, where it breaks no rule, or else its fault.
+abbrev pub AddsPart : {T : Type 0} → ℕ → List Definition → Typing → Typing → Result T (Or OrcFault) → Item → Type 0
+AddsPart channels ds old new result x =
+    Judged result (part_fault channels ds (known_of old.so_far.names) x)
+    × OnOk result (AddsParts channels ds old new (x ∷ []))
 
 -- An answer: what is made of an instrument, where more routines may follow, or its fault.
 abbrev pub GivesInstrument : RoutineTable → Result TypedInstr (Or OrcFault) → Option OrcFault → typed.Instrument

@@ -9,7 +9,7 @@ use Rattle.cs_typing.specs.declared.globals.GivenGlobals.{GivenGlobals}
 use Rattle.cs_typing.specs.inner.Globals.{Looks, called_names, givers_in, names_in, names_in_block, names_in_bodies}
 use Rattle.cs_typing.proofs.{Answers.on_ok, GlobalsWritten.given_both, Weights.weight_of_bodies}
 use Rattle.cs_udo.proofs.Places.{dropped}
-use Rattle.cs_typing.proofs.GlobalsFound.{arms_names, done_at, looks_again, looks_both, looks_first, looks_given}
+use Rattle.cs_typing.proofs.GlobalsFound.{arms_names, looks_again, looks_both, looks_first, looks_given}
 use Rattle.cs_typing.proofs.GlobalsFound.{looks_unfound}
 use Rattle.cs_typing.proofs.Weights.{stmt_lighter, arm_lighter, arms_weigh, lighter, weight, weight_of}
 use Rattle.cs_udo.specs.Library.{definitions_of}
@@ -27,7 +27,7 @@ globals_of_callee-globals_of_block-requires t c =
     c.in-Some.ensures.defined.1 in
     let same = ap (λ (l : List OrcStmt). weight_of (tree.block l)) c.deref.ensures.value in (
       omega (arith, c.decreases, light, same),
-      done_at c.args.front inner c.args.given.now refl c.requires,
+      c.requires,
     )
 
 pub globals_of_callee-index_mut-requires : goal.globals_of_callee-index_mut-requires
@@ -67,28 +67,53 @@ globals_of_callee-returns-else-not-index t c =
 
 -- ---- statements
 
-pub globals_of_stmt-globals_of_arms-requires : goal.globals_of_stmt-globals_of_arms-requires
-globals_of_stmt-globals_of_arms-requires t c =
-    let els = tree.block c.in-Choose.els.items in
-    let seen : tree.statement c.args.s.now ≡ tree.choose c.args.s.now.line (tree.arms els c.in-Choose.list.items) =
-    search (rules, the_lemmas, block_is, arms_is, c.in-Choose.is) in
-    let heavy : weight (tree.statement c.args.s.now) ≡ weight (tree.choose c.args.s.now.line (tree.arms els
-    c.in-Choose.list.items)) = ap weight seen in
-    let same = ap weight_of_bodies c.deref.ensures.value in (
-      omega (arith, c.decreases, heavy, same, arms_weigh els c.in-Choose.list.items),
-      c.requires,
-    )
-
 pub globals_of_stmt-globals_of_block-requires : goal.globals_of_stmt-globals_of_block-requires
 globals_of_stmt-globals_of_block-requires t c =
     let els = tree.block c.in-Choose.els.items in
-    let seen : tree.statement c.args.s.now ≡ tree.choose c.args.s.now.line (tree.arms els c.in-Choose.list.items) =
+    let list = c.in-Choose.list.items in
+    let seen : tree.statement c.args.s.now ≡ tree.choose c.args.s.now.line (tree.arms els list) =
     search (rules, the_lemmas, block_is, arms_is, c.in-Choose.is) in
-    let heavy : weight (tree.statement c.args.s.now) ≡ weight (tree.choose c.args.s.now.line (tree.arms els
-    c.in-Choose.list.items)) = ap weight seen in
+    let heavy : weight (tree.statement c.args.s.now) ≡ weight (tree.choose c.args.s.now.line (tree.arms els list)) =
+    ap weight seen in
+    let lent = c.deref-a-items.result.now in
+    let light = arm_lighter lent c.loop-a.a-index c.a-item.result (omega arith) c.a-item.is in
+    let arms = ap weight_of_bodies c.deref-a-items.ensures.value in
+    let same = ap (λ (l : List OrcStmt). weight_of (tree.block l)) c.deref.ensures.value in (
+      omega (arith, c.decreases, heavy, arms_weigh els list, light, arms, same),
+      c.loop-a.invariant.1,
+    )
+
+pub globals_of_stmt-loop-a-preserved : goal.globals_of_stmt-loop-a-preserved
+globals_of_stmt-loop-a-preserved t c =
+    let givers = givers_in c.args.front in
+    let a = c.a-item.result in
+    let k = c.loop-a.given.names in
+    let list = c.deref-a-items.result.now in
+    let rest = drop (c.loop-a.a-index + 1) list in
+    let split = dropped list c.loop-a.a-index a (omega arith) c.a-item.is in
+    let made : Looks c.args.front c.loop-a.given c.globals_of_block.new.given
+    (names_in_block givers (tree.block (out-Arm a).body.items)) =
+    subst (λ (l : List OrcStmt). Looks c.args.front c.loop-a.given c.globals_of_block.new.given
+    (names_in_block givers (tree.block l))) c.deref.ensures.value c.in_ok-globals_of_block-in-Choose.ensures in (
+      ap (λ u. given_globals u (names_in_bodies givers rest)) made.names
+          ∙ sym (given_both k (names_in_block givers (tree.block (out-Arm a).body.items))
+          (names_in_bodies givers rest))
+          ∙ sym (ap (λ xs. given_globals k (names_in_bodies givers xs)) split)
+          ∙ c.loop-a.invariant.0,
+      made.done,
+    )
+
+pub globals_of_stmt-globals_of_block-requires-in-Choose : goal.globals_of_stmt-globals_of_block-requires-in-Choose
+globals_of_stmt-globals_of_block-requires-in-Choose t c =
+    let els = tree.block c.in-Choose.els.items in
+    let list = c.in-Choose.list.items in
+    let seen : tree.statement c.args.s.now ≡ tree.choose c.args.s.now.line (tree.arms els list) =
+    search (rules, the_lemmas, block_is, arms_is, c.in-Choose.is) in
+    let heavy : weight (tree.statement c.args.s.now) ≡ weight (tree.choose c.args.s.now.line (tree.arms els list)) =
+    ap weight seen in
     let same = ap (λ (l : List OrcStmt). weight_of (tree.block l)) c.deref-in-Choose.ensures.value in (
-      omega (arith, c.decreases, heavy, same, arms_weigh els c.in-Choose.list.items),
-      c.in_ok-globals_of_arms-in-Choose.ensures.done,
+      omega (arith, c.decreases, heavy, same, arms_weigh els list),
+      c.loop-a.invariant.1,
     )
 
 pub globals_of_stmt-returns-in_ok-globals_of_callee-in-Call :
@@ -109,24 +134,27 @@ globals_of_stmt-returns-in_ok-globals_of_callee-in-Call t c =
     (looks_given f mid new c.in-Call.results c.in_ok-globals_of_callee-in-Call.ensures.done
     (e ∙ ap (given_globals mid.names) c.as_slice-in-Call.ensures) refl)))
 
-pub globals_of_stmt-returns-in_ok-globals_of_arms-in-Choose :
-    goal.globals_of_stmt-returns-in_ok-globals_of_arms-in-Choose
-globals_of_stmt-returns-in_ok-globals_of_arms-in-Choose t c =
+pub globals_of_stmt-returns-after-loop-a : goal.globals_of_stmt-returns-after-loop-a
+globals_of_stmt-returns-after-loop-a t c =
     let f = c.args.front in
     let g = givers_in f in
     let els = tree.block c.in-Choose.els.items in
     let list = c.in-Choose.list.items in
-    let mid = c.globals_of_arms.new.given in
-    let new = c.globals_of_block.new.given in
+    let mid = c.loop-a.given in
+    let new = c.globals_of_block-in-Choose.new.given in
     let seen : tree.statement c.args.s.now ≡ tree.choose c.args.s.now.line (tree.arms els list) =
     search (rules, the_lemmas, block_is, arms_is, c.in-Choose.is) in
     let names : names_in_bodies g list ++ names_in_block g els ≡ names_in g (tree.statement c.args.s.now) =
     sym (ap (names_in g) seen ∙ arms_names g els list) in
-    let first : Looks f c.args.given.now mid (names_in_bodies g list) =
-    subst (λ l. Looks f c.args.given.now mid (names_in_bodies g l)) c.deref.ensures.value
-    c.in_ok-globals_of_arms-in-Choose.ensures in
-    subst (λ ys. OnOk c.globals_of_block.result (Looks f c.args.given.now new ys)) names
-    (on_ok c.globals_of_block.result c.globals_of_block.ensures
+    let lent = c.deref-a-items.result.now in
+    let none = drop_all c.loop-a.a-index lent (omega arith) in
+    let first : Looks f c.args.given.now mid (names_in_bodies g list) = record {
+      names = sym (ap (λ xs. given_globals mid.names (names_in_bodies g xs)) none) ∙ c.loop-a.invariant.0
+          ∙ ap (λ xs. given_globals c.args.given.now.names (names_in_bodies g xs)) c.deref-a-items.ensures.value;
+      done = c.loop-a.invariant.1;
+    } in
+    subst (λ ys. OnOk c.globals_of_block-in-Choose.result (Looks f c.args.given.now new ys)) names
+    (on_ok c.globals_of_block-in-Choose.result c.globals_of_block-in-Choose.ensures
     (λ (l : Looks f mid new (names_in_block g (tree.block c.deref-in-Choose.result.now))). looks_both f c.args.given.now
     mid new (names_in_bodies g list)
     (names_in_block g els) first
@@ -165,41 +193,4 @@ globals_of_block-returns t c =
       names = sym (ap (λ xs. given_globals c.loop-s.given.names (names_in_block givers (tree.block xs))) none)
           ∙ c.loop-s.invariant.0;
       done = c.loop-s.invariant.1;
-    }
-
-pub globals_of_arms-globals_of_block-requires : goal.globals_of_arms-globals_of_block-requires
-globals_of_arms-globals_of_block-requires t c =
-    let light = arm_lighter c.args.list.now c.loop-a.a-index c.a-item.result (omega arith) c.a-item.is in
-    let same = ap (λ (l : List OrcStmt). weight_of (tree.block l)) c.deref.ensures.value in (
-      omega (arith, c.decreases, light, same),
-      c.loop-a.invariant.1,
-    )
-
-pub globals_of_arms-loop-a-preserved : goal.globals_of_arms-loop-a-preserved
-globals_of_arms-loop-a-preserved t c =
-    let givers = givers_in c.args.front in
-    let a = c.a-item.result in
-    let k = c.loop-a.given.names in
-    let rest = drop (c.loop-a.a-index + 1) c.args.list.now in
-    let split = dropped c.args.list.now c.loop-a.a-index a (omega arith) c.a-item.is in
-    let made : Looks c.args.front c.loop-a.given c.globals_of_block.new.given
-    (names_in_block givers (tree.block (out-Arm a).body.items)) =
-    subst (λ (l : List OrcStmt). Looks c.args.front c.loop-a.given c.globals_of_block.new.given
-    (names_in_block givers (tree.block l))) c.deref.ensures.value c.in_ok-globals_of_block.ensures in (
-      ap (λ u. given_globals u (names_in_bodies givers rest)) made.names
-          ∙ sym (given_both k (names_in_block givers (tree.block (out-Arm a).body.items))
-          (names_in_bodies givers rest))
-          ∙ sym (ap (λ xs. given_globals k (names_in_bodies givers xs)) split)
-          ∙ c.loop-a.invariant.0,
-      made.done,
-    )
-
-pub globals_of_arms-returns : goal.globals_of_arms-returns
-globals_of_arms-returns t c =
-    let givers = givers_in c.args.front in
-    let none = drop_all c.loop-a.a-index c.args.list.now (omega arith) in
-    record {
-      names = sym (ap (λ xs. given_globals c.loop-a.given.names (names_in_bodies givers xs)) none)
-          ∙ c.loop-a.invariant.0;
-      done = c.loop-a.invariant.1;
     }

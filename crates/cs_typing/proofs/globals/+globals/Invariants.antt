@@ -2,7 +2,7 @@ use Rattle.std.proofs.Common.{◌≡◌, ◌+◌, drop}
 use Rattle.cs_grammar.specs.Tree as tree
 use Rattle.cs_typing.specs.Typing.{given_globals}
 use Rattle.cs_typing.specs.inner.Globals.{IsDone, givers_in, names_in_block, names_in_bodies}
-use Rattle.cs_typing.proofs.Weights.{weight, weight_before, weight_of, weight_of_bodies}
+use Rattle.cs_typing.proofs.Weights.{weight, weight_before, weight_of}
 use Rattle.cs_typing.proofs.globals.+globals.Given as goal
 use Rattle.cs_udo.specs.Library.{definitions_of}
 
@@ -18,19 +18,15 @@ abbrev pub decreases-globals_of_block : goal.decreases-globals_of_block
 decreases-globals_of_block l =
     weight_before (definitions_of l.front.library.now) l.front.visible + weight_of (tree.block l.stmts.now)
 
-abbrev pub decreases-globals_of_arms : goal.decreases-globals_of_arms
-decreases-globals_of_arms l =
-    weight_before (definitions_of l.front.library.now) l.front.visible + weight_of_bodies l.list.now
-
 -- the rest gives what the whole gives
 abbrev pub invariant-globals_of_block-loop-s : goal.invariant-globals_of_block-loop-s
 invariant-globals_of_block-loop-s l =
     (given_globals l.given.names (names_in_block (givers_in l.front) (tree.block (drop l.s-index l.stmts)))
     ≡ given_globals l.initial.given.names (names_in_block (givers_in l.front) (tree.block l.stmts)))
-    × IsDone l.front l.given
+    × IsDone (definitions_of l.front.library.now) l.given
 
-abbrev pub invariant-globals_of_arms-loop-a : goal.invariant-globals_of_arms-loop-a
-invariant-globals_of_arms-loop-a l =
-    (given_globals l.given.names (names_in_bodies (givers_in l.front) (drop l.a-index l.list))
-    ≡ given_globals l.initial.given.names (names_in_bodies (givers_in l.front) l.list))
-    × IsDone l.front l.given
+abbrev pub invariant-globals_of_stmt-loop-a : goal.invariant-globals_of_stmt-loop-a
+invariant-globals_of_stmt-loop-a l =
+    (given_globals l.given.names (names_in_bodies (givers_in l.front) (drop l.a-index l.a-items))
+    ≡ given_globals l.initial.given.names (names_in_bodies (givers_in l.front) l.a-items))
+    × IsDone (definitions_of l.front.library.now) l.given

@@ -1,16 +1,16 @@
-use Rattle.std.proofs.Common.{◌≡◌, ◌∙◌, ◌+◌, ◌∷◌, arith, drop, map, refl, sym, ap}
+use Rattle.std.proofs.Common.{◌≡◌, ◌∙◌, ◌+◌, ◌∷◌, arith, drop, map, sym, ap}
 use Rattle.std.specs.{List.prefix_len, Prelude.nat_lt}
 use Rattle.std.proofs.lemmas.List.{drop_more}
 use Rattle.cs_typing.specs.Typing.{given_globals}
 use Rattle.cs_typing.specs.inner.Globals.{givers_of, names_in_block, names_in_instruments}
-use Rattle.cs_typing.proofs.{GlobalsFound.done_at, GlobalsWritten.given_both}
+use Rattle.cs_typing.proofs.GlobalsWritten.{given_both}
 use Rattle.cs_udo.specs.Library.{definitions_of}
 use Rattle.cs_grammar.specs.Tree as tree
 use Rattle.cs_typing.proofs.globals.globals_of_instruments.Goals as goal
 
 pub loop-i-preserved : goal.loop-i-preserved
 loop-i-preserved c =
-    let ds = definitions_of c.args.outside.library.now in
+    let ds = definitions_of c.args.library.now in
     let x = c.i-item.result in
     let k = c.loop-i.given.names in
     let rest = map tree.instrument (drop (c.loop-i.i-index + 1) c.args.instrs.now) in
@@ -26,5 +26,5 @@ loop-i-preserved c =
           ∙ ap (λ y. given_globals k (names_in_instruments ds (tree.instrument y ∷ rest))) c.i-item.is
           ∙ sym (ap (λ xs. given_globals k (names_in_instruments ds (map tree.instrument xs))) split)
           ∙ c.loop-i.invariant.0,
-      done_at _ c.args.outside c.globals_of_block.new.given refl made.done,
+      made.done,
     )

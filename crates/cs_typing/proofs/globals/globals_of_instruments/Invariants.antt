@@ -7,7 +7,7 @@ use Rattle.cs_typing.proofs.globals.globals_of_instruments.Given as goal
 abbrev pub invariant-loop-i : goal.invariant-loop-i
 invariant-loop-i l =
     (given_globals l.given.names
-    (names_in_instruments (definitions_of l.outside.library.now) (map tree.instrument (drop l.i-index l.instrs)))
+    (names_in_instruments (definitions_of l.library) (map tree.instrument (drop l.i-index l.instrs)))
     ≡ given_globals l.initial.given.names
-    (names_in_instruments (definitions_of l.outside.library.now) (map tree.instrument l.instrs)))
-    × IsDone l.outside l.given
+    (names_in_instruments (definitions_of l.library) (map tree.instrument l.instrs)))
+    × IsDone (definitions_of l.library) l.given

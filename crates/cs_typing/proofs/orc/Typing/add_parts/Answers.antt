@@ -23,7 +23,7 @@ returns-in_err-add_outside-clause-fault c =
     failed (λ r. Judged r (parts_fault ch ds (known_of c.args.self.now.so_far.names)
     (items (tree.block c.args.outside.now) (map tree.instrument c.args.instrs.now))))
     c.from_residual.result _ c.from_residual.ensures.1
-    (fault_on _ (part_fault ch ds k first) _ c.in_err-add_outside.ensures.fault
+    (fault_on _ (part_fault ch ds k first) _ c.in_err-add_outside.ensures.0
     (λ f h. sym c.loop-i.invariant.0 ∙ ap (parts_fault ch ds k) parts
     ∙ fault_first ch ds k first (body (tree.instrument i) ∷ items (tree.block back) (map tree.instrument rest)) f h))
 
@@ -46,9 +46,9 @@ returns-in_err-add_instrument-clause-fault c =
     failed (λ r. Judged r (parts_fault ch ds (known_of c.args.self.now.so_far.names)
     (items (tree.block c.args.outside.now) (map tree.instrument c.args.instrs.now))))
     c.from_residual-in_err-add_instrument.result _ c.from_residual-in_err-add_instrument.ensures.1
-    (fault_on _ (part_fault ch ds mid next) _ c.in_err-add_instrument.ensures.fault
+    (fault_on _ (part_fault ch ds mid next) _ c.in_err-add_instrument.ensures.0
     (λ f h. sym c.loop-i.invariant.0 ∙ ap (parts_fault ch ds k) parts
-    ∙ sym (fault_next ch ds k mid first (next ∷ more) added.fault added.adds.known)
+    ∙ sym (fault_next ch ds k mid first (next ∷ more) added.0 added.1.known)
     ∙ fault_first ch ds mid next more f h))
 
 pub loop-i-preserved : goal.loop-i-preserved
@@ -71,15 +71,15 @@ loop-i-preserved c =
     let end = c.add_instrument.new.self in
     let one = c.in_ok-add_outside.ensures in
     let two = c.in_ok-add_instrument.ensures in (
-      fault_next ch ds (known_of mid.so_far.names) (known_of end.so_far.names) next more two.fault two.adds.known
-          ∙ fault_next ch ds k (known_of mid.so_far.names) first (next ∷ more) one.fault one.adds.known
+      fault_next ch ds (known_of mid.so_far.names) (known_of end.so_far.names) next more two.0 two.1.known
+          ∙ fault_next ch ds k (known_of mid.so_far.names) first (next ∷ more) one.0 one.1.known
           ∙ sym (ap (parts_fault ch ds k) parts) ∙ was.0,
       λ t h.
           was.1 t
           (subst (λ xs. AddsParts ch ds self t xs) (sym parts)
-          (adds_both ch ds self mid t (first ∷ []) (next ∷ more) one.adds
-          (adds_both ch ds mid end t (next ∷ []) more two.adds h))),
-      two.adds.sound,
+          (adds_both ch ds self mid t (first ∷ []) (next ∷ more) one.1
+          (adds_both ch ds mid end t (next ∷ []) more two.1 h))),
+      two.1.sound,
     )
 
 pub returns : goal.returns
@@ -92,8 +92,8 @@ returns c =
     record {
       fault = subst (λ f. Judged c.add_outside-2.result f)
           (sym (fault_alone ch ds k (alone (tree.block c.loop-i.rest.now))) ∙ sym (ap (parts_fault ch ds k) parts)
-          ∙ c.loop-i.invariant.0) c.add_outside-2.ensures.fault;
-      adds = on_ok c.add_outside-2.result c.add_outside-2.ensures.adds
+          ∙ c.loop-i.invariant.0) c.add_outside-2.ensures.0;
+      adds = on_ok c.add_outside-2.result c.add_outside-2.ensures.1
           (λ h. c.loop-i.invariant.1 c.add_outside-2.new.self
           (subst (λ xs. AddsParts ch ds c.loop-i.self c.add_outside-2.new.self xs) (sym parts) h));
     }
