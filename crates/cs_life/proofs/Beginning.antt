@@ -129,18 +129,13 @@ module _ (c : Composition) (now : ℕ) (m : Moment) (life after : Life) (voices 
       → StandsFor c life voices cells m
       → (s.cycles == 0 || nat_lt (length voices) most_notes) ≡ true
       → ((body : Block) (n : Moment) → IsInstrumentOf life.stage i foot body
-      → has_room (record s { number = pos i.number }) n ≡ true → StandsFor c life voices cells n
-      → StandsFor c after left new
-      (initialised c now (record s { number = pos i.number }) body
-      (begun c n.made (record s { number = pos i.number }) body n) n))
+      → has_room s n ≡ true → StandsFor c life voices cells n
+      → StandsFor c after left new (initialised c now s body (begun c n.made s body n) n))
       → StandsFor c after left new (start_in c now s m)
   there_is_room s i foot there stands any rest =
       let room : has_room s m ≡ true = room_is c life voices cells m s stands ∙ any in
-      let so = rest there.0 m (there.3 life.stage stands.stand.stage_is stands.layout stands.zones) room stands in
       let same : StandsFor c after left new (initialised c now s there.0 (begun c m.made s there.0 m) m) =
-      subst (λ z. StandsFor c after left new
-      (initialised c now (record s { number = z }) there.0 (begun c m.made (record s { number = z }) there.0 m) m))
-      there.2 so in
+      rest there.0 m (there.3 life.stage stands.stand.stage_is stands.layout stands.zones) room stands in
       subst (λ (o : Option Block). StandsFor c after left new (started c now s o m)) (sym there.1)
       (subst (λ b. StandsFor c after left new
       (if b then initialised c now s there.0 (begun c m.made s there.0 m) m else in_vain m)) (sym room) same)

@@ -4,7 +4,7 @@ ghost use Rattle.std.specs.{Prelude.OnOk, List.Sorted.IsNonDecreasingBy};
 ghost use Rattle.cs_base.specs.Limits.{most_notes};
 ghost use Rattle.cs_cells.specs.{Areas.word_count, Cells.Cells};
 ghost use Rattle.cs_piece_meaning.specs.{Moments.Composition, Moments.Moment, Moments.clock_of, Starts.start_of};
-ghost use Rattle.cs_piece_meaning.specs.Starts.{Start, asked, begun, entered, has_room, in_vain, initialised, start_in};
+ghost use Rattle.cs_piece_meaning.specs.Starts.{Start, begun, entered, has_room, in_vain, initialised, start_in};
 ghost use Rattle.cs_life.specs.Standing.{Grew, StandsFor};
 ghost use Rattle.cs_life.specs.inner.Starting.{IsBegun, Joined, Wait, all_wanted, count_after};
 ghost use Rattle.cs_meaning.specs.{Core.Block, Notes.Note, Plain.Plain};
@@ -80,18 +80,15 @@ impl<'t> Life<'t> {
         voices: &mut Vec<Voice<'t>>,
         bank: &mut B,
     ) -> Result<(), OutOfMemory>
+        requires number { note.number ≡ pos playable.instrument.now.number }
         requires instrument { (body : Block)
             × IsInstrumentOf self.old.stage playable.instrument.now playable.foot.now body }
         requires stands { (m : Moment) × StandsFor (composition_of self.old.setup.now) self.old voices.old.items
             (B.cells bank.old) m }
         requires get { (a : ℕ) → a < word_count self.old.setup.now.layout → B.can_get (B.rest bank.old) a }
         requires set { (a : ℕ) → a < word_count self.old.setup.now.layout → B.can_set (B.rest bank.old) a }
-        ensures begun { let s : Start = record {
-          number = pos playable.entry.instrument.now.number;
-          cycles = note.cycles;
-          fields = note.fields;
-        } in
-            let c : Composition = composition_of self.old.setup.now in
+        ensures begun { let c : Composition = composition_of self.old.setup.now in
+            let s : Start = start_of note in
             OnOk result ((body : Block) (m : Moment)
             → IsInstrumentOf self.old.stage playable.entry.instrument.now playable.entry.foot.now body
             → has_room s m ≡ true
@@ -198,24 +195,9 @@ fn ask_all(
         → Wait pending.new not_started.new (all_wanted c at.now.cycle at.now.time asks.items m)) }
 {
     for ask in asks {
-        ask_one(alloc, ask, at, pending, not_started)?;
+        let answer = pending.add(alloc, ask, *at)?;
+        *not_started = count_after(answer, *not_started);
     }
-    Ok(())
-}
-
-fn ask_one(
-    alloc: Global,
-    ask: Ask,
-    at: &Asking,
-    pending: &mut Pending,
-    not_started: &mut u64,
-) -> Result<(), OutOfMemory>
-    ensures { OnOk result ((c : Composition) (m : Moment) → clock_of c ≡ times.clock_of at.now.head at.now.total
-        → Wait pending.old not_started.old m
-        → Wait pending.new not_started.new (asked c at.now.cycle at.now.time ask m)) }
-{
-    let answer = pending.add(alloc, ask, *at)?;
-    *not_started = count_after(answer, *not_started);
     Ok(())
 }
 

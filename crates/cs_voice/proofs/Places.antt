@@ -14,11 +14,14 @@ use Rattle.cs_ir.specs.Waves.{Wave, held, silence}
 use Rattle.cs_cells.specs.declared.footprint.Area.{Area}
 use Rattle.cs_meaning.specs.Model.{cleared, saved, zak_does}
 use Rattle.cs_meaning.specs.Pieces.{Piece, added, at_place, index, is_cleared}
+use Rattle.cs_machine.proofs.Done.{KeepsMachine, KeepsRest, changes, writes}
 use Rattle.cs_machine.proofs.{Found.if_false, Found.if_true, Writing.frame_past}
-use Rattle.cs_machine.specs.{Rows.row_wave, Access.CanTouch, declared.state.NoteSetting.NoteSetting}
+use Rattle.cs_machine.specs.{Rows.row_wave, Access.CanTouch, Registers.IsWritten, Registers.values}
+use Rattle.cs_machine.specs.{States.MayTouch, States.machine_of, declared.state.NoteSetting.NoteSetting}
+use Rattle.cs_machine.specs.declared.state.State.{State}
 use Rattle.cs_voice_meaning.specs.Placing.{area_of, wave_in, wave_of, with_wave}
-use Rattle.cs_voice_meaning.specs.VoiceWorld.{VoiceState, read_cells, voice_model, voice_world}
-use Rattle.cs_voice.specs.{Cells.MayReach, inner.Zak.reached}
+use Rattle.cs_voice_meaning.specs.VoiceWorld.{VoiceState, lies_cleared, read_cells, voice_model, voice_world}
+use Rattle.cs_voice.specs.{Cells.DoesOver, Cells.MayReach, inner.Zak.reached}
 use Rattle.cs_base.specs.declared.resource.Rate.TheVariants as rate
 use Rattle.cs_words.specs.declared.catalogue.Opcode.TheVariants as op
 use Rattle.cs_words.specs.declared.catalogue.Shape.TheVariants as shape
@@ -126,20 +129,29 @@ reached_value at s reach k g h = let p =
     place_value space.Audio n = refl
 
 -- it may be touched where all within reach may be
-pub reached_touched : (allowed : ℕ → Type 0) (count : ℕ) (at : NoteSetting) (s : Space) (reach : Reach) (k : Option ℕ)
-    (g : Res) (area : Area)
-    → MayReach allowed count at s reach → reached at s reach k ≡ Some g → area_of at.layout.now g ≡ Some area
-    → CanTouch allowed count area
-reached_touched allowed count at s reach None g area may h there = absurd cc
-reached_touched allowed count at s reach (Some n) g area may h there =
+pub area_touched : (allowed : ℕ → Type 0) (count : ℕ) (at : NoteSetting) (g : Res) (area : Area)
+    → MayTouch allowed count at.layout.now g → area_of at.layout.now g ≡ Some area → CanTouch allowed count area
+area_touched allowed count at g area may there =
+    subst (CanTouch allowed count) (some_is may.0 area (sym may.1 ∙ there)) may.2
+
+pub reached_may : (allowed : ℕ → Type 0) (count : ℕ) (at : NoteSetting) (s : Space) (reach : Reach) (k : Option ℕ)
+    (g : Res)
+    → MayReach allowed count at s reach → reached at s reach k ≡ Some g → MayTouch allowed count at.layout.now g
+reached_may allowed count at s reach None g may h = absurd cc
+reached_may allowed count at s reach (Some n) g may h =
     by_test (nat_lt n (places_of at.spaces s) && reaches reach n)
     (λ yes. let both = and_parts (nat_lt n (places_of at.spaces s)) (reaches reach n) yes in
     let same : zak_place s n ≡ g =
     some_is (zak_place s n) g (ap (λ b. if b then Some (zak_place s n) else None) (sym yes) ∙ h) in
-    let found = may n (ltb-true n (places_of at.spaces s) both.0) both.1 in
-    subst (CanTouch allowed count) (some_is found.0 area (sym found.1 ∙ ap (area_of at.layout.now) same ∙ there))
-    found.2)
+    subst (MayTouch allowed count at.layout.now) same (may n (ltb-true n (places_of at.spaces s) both.0) both.1))
     (λ no. absurd (none-some g (ap (λ b. if b then Some (zak_place s n) else None) (sym no) ∙ h)))
+
+pub reached_touched : (allowed : ℕ → Type 0) (count : ℕ) (at : NoteSetting) (s : Space) (reach : Reach) (k : Option ℕ)
+    (g : Res) (area : Area)
+    → MayReach allowed count at s reach → reached at s reach k ≡ Some g → area_of at.layout.now g ≡ Some area
+    → CanTouch allowed count area
+reached_touched allowed count at s reach k g area may h there =
+    area_touched allowed count at g area (reached_may allowed count at s reach k g may h) there
 
 pub reached_sound : (at : NoteSetting) (reach : Reach) (k : Option ℕ) (g : Res)
     → reached at space.Audio reach k ≡ Some g
@@ -178,3 +190,88 @@ mixed_here areas g area x row n ksmps before after found sound size long same ow
     ∙ ap (λ k. with_wave (Some area) (held k rate.Audio (added (wave_in rate.Audio area before) (row_wave row))) before)
     (sym same)
     ∙ ap (λ w. with_wave (Some area) w before) (sym (mixed_held n area before row size long)) ∙ sym is
+
+-- ---- the acts, at the place that a register names
+
+-- a state of which nothing has changed
+same_state : (s : State) → KeepsMachine s s
+same_state s = record { regs = refl; rest = record { players = refl; outs = refl; delays = refl; ended = refl } }
+
+module _ (at : NoteSetting) (o : Opcode) (reach : Reach) (s : Space) (number : Reg) {old : State} where
+  -- a place within reach is read and written as any resource is
+  pub loaded : {g : Res} {into : Reg} {new : State} {before after : ℕ → ℤ} → (row_of o).shape ≡ shape.ZakGet s
+      → reached at s reach (index (values old.regs number 0)) ≡ Some g
+      → DoesOver at (act.Load g) into [] old before new after
+      → DoesOver at (act.Zak o reach) into (number ∷ []) old before new after
+  loaded {g} {into} {new} {before} {after} is here does areas piece stock kinds counts setting placed state =
+      let done = does areas piece stock kinds counts setting placed state in
+      record {
+        machine = λ next asks cause. let m = machine_of old before next asks cause in
+            done.machine next asks cause
+            ∙ sym (getting areas piece o reach into m s (values old.regs number) is
+            ∙ ap (λ w. write piece.head.ksmps into w m)
+            (at_reached at piece s reach (index (values old.regs number 0)) g silence (λ q. read_cells areas q before)
+            setting.spaces here));
+        state = done.state;
+      }
+
+  pub saved_at : {g : Res} {x into : Reg} {new : State} {before after : ℕ → ℤ} → (row_of o).shape ≡ shape.ZakPut s
+      → reached at s reach (index (values old.regs number 0)) ≡ Some g
+      → DoesOver at (act.Save g) into (x ∷ []) old before new after
+      → DoesOver at (act.Zak o reach) into (x ∷ number ∷ []) old before new after
+  saved_at {g} {x} {into} {new} {before} {after} is here does areas piece stock kinds counts setting placed state =
+      let done = does areas piece stock kinds counts setting placed state in
+      record {
+        machine = λ next asks cause. let m = machine_of old before next asks cause in
+            done.machine next asks cause
+            ∙ sym (putting areas piece o reach into m s (values old.regs x) (values old.regs number) is
+            ∙ ap (λ y. in_world y m)
+            (at_reached at piece s reach (index (values old.regs number 0)) g m.world
+            (λ q. saved (voice_model areas piece) q (values old.regs x) m.world) setting.spaces here));
+        state = done.state;
+      }
+
+  -- where there is none, 0 is read, and nothing is written
+  pub none_loaded : {into : Reg} {new : State} {cells : ℕ → ℤ} → (row_of o).shape ≡ shape.ZakGet s
+      → reached at s reach (index (values old.regs number 0)) ≡ None
+      → KeepsRest old new → IsWritten old.regs into silence new.regs → length new.row.items ≡ old.regs.ksmps
+      → DoesOver at (act.Zak o reach) into (number ∷ []) old cells new cells
+  none_loaded {into} {new} {cells} is none rest written row areas piece stock kinds counts setting placed state =
+      writes silence rest refl state written row
+      (λ next asks cause. let m = machine_of old cells next asks cause in
+      getting areas piece o reach into m s (values old.regs number) is
+      ∙ ap (λ w. write piece.head.ksmps into w m)
+      (not_reached at piece s reach (index (values old.regs number 0)) silence (λ q. read_cells areas q cells)
+      setting.spaces none))
+
+  pub none_saved : {x into : Reg} {cells : ℕ → ℤ} → (row_of o).shape ≡ shape.ZakPut s
+      → reached at s reach (index (values old.regs number 0)) ≡ None
+      → DoesOver at (act.Zak o reach) into (x ∷ number ∷ []) old cells old cells
+  none_saved {x} {into} {cells} is none areas piece stock kinds counts setting placed state =
+      changes (same_state old) state (state.row ∙ sym state.frames)
+      (λ next asks cause. let m = machine_of old cells next asks cause in
+      putting areas piece o reach into m s (values old.regs x) (values old.regs number) is
+      ∙ ap (λ y. in_world y m)
+      (not_reached at piece s reach (index (values old.regs number 0)) m.world
+      (λ q. saved (voice_model areas piece) q (values old.regs x) m.world) setting.spaces none))
+
+-- places are cleared from the number that one register names to that of another
+pub cleared_from : (at : NoteSetting) (o : Opcode) (reach : Reach) (s : Space) (first last : Reg) (f l : ℤ)
+    {into : Reg} {old : State} {before after : ℕ → ℤ} → (row_of o).shape ≡ shape.ZakClear s
+    → f ≡ values old.regs first 0 → l ≡ values old.regs last 0
+    → ((piece : Piece) → piece.spaces ≡ at.spaces → after
+    ≡ (λ a. if lies_cleared at.layout.now (is_cleared piece s reach f l) a then pos 0 else before a))
+    → DoesOver at (act.Zak o reach) into (first ∷ last ∷ []) old before old after
+cleared_from at o reach s first last f l {into} {old} {before} {after} is from to does areas piece stock kinds counts
+    setting placed state =
+    let v = values old.regs first in
+    let w = values old.regs last in
+    changes (same_state old) state (state.row ∙ sym state.frames)
+    (λ next asks cause.
+    clearing areas piece o reach into (machine_of old before next asks cause) s v w is
+    ∙ ap (λ cells. machine_of old cells next asks cause)
+    (ap (λ ls a. if lies_cleared ls (is_cleared piece s reach (v 0) (w 0)) a then pos 0 else before a)
+    (sym setting.layout)
+    ∙ ap (λ z a. if lies_cleared at.layout.now (is_cleared piece s reach z (w 0)) a then pos 0 else before a) (sym from)
+    ∙ ap (λ z a. if lies_cleared at.layout.now (is_cleared piece s reach f z) a then pos 0 else before a) (sym to)
+    ∙ sym (does piece setting.spaces)))

@@ -210,15 +210,21 @@ module _ {can_get can_set : ℕ → Type 0} {count : ℕ} {at : NoteSetting} {pi
 
 -- ---- an op that is done
 
+pub does_over : {at : NoteSetting} {o : Op} {b : Act} {into : Reg} {ys : List Reg} {old : State} {before : ℕ → ℤ}
+    {new : State} {after : ℕ → ℤ}
+    → o.act ≡ b → into ≡ o.into → o.from ≡ ys → DoesOver at b into ys old before new after
+    → DoesOver at o.act o.into o.from old before new after
+does_over {at} {o} {b} {into} {ys} {old} {before} {new} {after} e g f h =
+    subst (λ d. DoesOver at d o.into o.from old before new after) (sym e)
+    (subst (λ l. DoesOver at b o.into l old before new after) (sym f)
+    (subst (λ q. DoesOver at b q ys old before new after) g h))
+
 pub does_op : {can_get can_set : ℕ → Type 0} {count : ℕ} {at : NoteSetting} {o : Op} {b : Act} {into : Reg}
     {ys : List Reg} {old : State} {before : ℕ → ℤ} {new : State} {after : ℕ → ℤ}
     → o.act ≡ b → into ≡ o.into → o.from ≡ ys → DoesOver at b into ys old before new after
     → DoesOp can_get can_set count at o old before new after
 does_op {can_get} {can_set} {count} {at} {o} {b} {into} {ys} {old} {before} {new} {after} e g f h piece kinds stock r =
-    subst (λ d. Does at.layout.now piece kinds old.regs.counts d o.into o.from old before new after) (sym e)
-    (subst (λ l. Does at.layout.now piece kinds old.regs.counts b o.into l old before new after) (sym f)
-    (subst (λ q. Does at.layout.now piece kinds old.regs.counts b q ys old before new after) g
-    (h at.layout.now piece stock kinds old.regs.counts r.setting r.placed r.state)))
+    does_over {at = at} {o = o} e g f h at.layout.now piece stock kinds old.regs.counts r.setting r.placed r.state
 
 pub does_op_unit : {can_get can_set : ℕ → Type 0} {count : ℕ} {at : NoteSetting} {o : Op} {opcode : Opcode} {u : ℕ}
     {reach : Reach} {into : Reg} {ys : List Reg} {old : State} {before : ℕ → ℤ} {new : State} {after : ℕ → ℤ}

@@ -5,7 +5,7 @@ use Rattle.std.proofs.Common.{arith}
 use Rattle.std.specs.Option.{is_some}
 use Rattle.std.proofs.lemmas.{Bool.Decides.nat_tests, List.length-set}
 use Rattle.cs_base.specs.{Limits.most_delay_samples, declared.resource.Rate.Rate}
-use Rattle.cs_base.proofs.Tests.{some_is}
+use Rattle.cs_base.proofs.Tests.{by_test, some_is}
 use Rattle.cs_words.specs.{Catalogue.takes_table, declared.catalogue.Opcode.Opcode}
 use Rattle.cs_signal.specs.{Delay.delay_length, Pace.Pace}
 use Rattle.cs_ugen.specs.{Units.IsUnitOpcode, Units.unit_start, declared.unit.UnitState.UnitState, Generators.pace_of}
@@ -22,9 +22,10 @@ use Rattle.cs_voice_meaning.specs.VoiceWorld.{Playing, VoiceState, voice_model}
 use Rattle.cs_voice.specs.Starting.{HasUnit, Starts, cause_of, player_alone, player_on}
 use Rattle.cs_voice.proofs.Ran.{players_set, units_set}
 use Rattle.cs_voice.specs.{Tables.CanBePlayed, Tables.CanAllBePlayed, declared.begin.StartRefusal.StartRefusal}
-use Rattle.cs_voice.specs.inner.Begun.{BeginsDelay, BeginsOnTable, IsBegunOn}
+use Rattle.cs_voice.specs.inner.Begun.{IsBegunOn, samples_with}
 use Rattle.cs_base.specs.declared.resource.Res.TheVariants as res
 use Rattle.cs_words.specs.declared.catalogue.Opcode.TheVariants as op
+use Rattle.cs_voice.specs.declared.begin.StartRefusal.TheVariants as refusal
 
 -- the machine of a state into which a unit was put
 unit_machine : (old new : State) (u samples : ℕ) (p : PlayerData) → HasUnit old u p samples new
@@ -191,11 +192,11 @@ module _ (areas : List Area) (piece : Piece) (kinds : Kinds) (counts : Counts) (
   module _ (pace : Pace) (same_pace : pace_of piece.head ≡ pace) (kind : kinds u ≡ (o, r)) (unit : IsUnitOpcode o)
       (state : IsStateIn areas piece kinds counts old)
       (low : u < length old.players.items) (small : old.delays ≤ most_delay_samples) where
-    pub on_table : (refused : Option StartRefusal) → takes_table o ≡ true → CanAllBePlayed areas piece.tables
-        → BeginsOnTable areas piece.tables (table_number settled) (unit_start o r pace settled) u old new refused
-        → Starts areas piece kinds counts o r u settled old new refused
+    pub on_table : takes_table o ≡ true → CanAllBePlayed areas piece.tables
+        → IsBegunOn areas piece.tables (table_number settled) (unit_start o r pace settled) u old new
+        → Starts areas piece kinds counts o r u settled old new None
     unfolding with_unit
-    on_table None takes can b =
+    on_table takes can b =
         started_is old.delays (player_on areas b.table (table_number settled) (unit_start o r pace settled)) b.has low
         state
         (on_is areas piece o r pace settled b.table unit takes b.found b.present
@@ -208,17 +209,21 @@ module _ (areas : List Area) (piece : Piece) (kinds : Kinds) (counts : Counts) (
         ∙ if_false (is_delay o) _ _ (no_delay o takes))
         ∙ ap (λ q. with_unit cells next asks old u old.delays
         (record { table = table_number settled; state = unit_start o r q settled })) same_pace)
-    on_table (Some refused) takes can b =
-        refused_is refused b.same state small
-        (λ x e. if_true (takes_table o && not (is_there (find_table piece.tables (table_number settled)))) _ _
-        (a_refusal (takes_table o) (is_there (find_table piece.tables (table_number settled))) takes b.missing)
-        ∙ ap (λ f. record x { cause = Some (cause_of f) }) (sym b.cause))
 
-    pub alone : takes_table o ≡ false → is_delay o ≡ false
+    pub lacks_table : (number : ℤ) → takes_table o ≡ true → number ≡ table_number settled
+        → is_there (find_table piece.tables (table_number settled)) ≡ false → new ≡ old
+        → Starts areas piece kinds counts o r u settled old new (Some (refusal.NoTable number))
+    lacks_table number takes is missing same =
+        refused_is (refusal.NoTable number) same state small
+        (λ x e. if_true (takes_table o && not (is_there (find_table piece.tables (table_number settled)))) _ _
+        (a_refusal (takes_table o) (is_there (find_table piece.tables (table_number settled))) takes missing)
+        ∙ ap (λ n. record x { cause = Some (cause_of (refusal.NoTable n)) }) (sym is))
+
+    alone_begun : takes_table o ≡ false → is_delay o ≡ false
         → HasUnit old u (player_alone (table_number settled) (unit_start o r pace settled)) old.delays new
         → Starts areas piece kinds counts o r u settled old new None
     unfolding with_unit
-    alone takes delay has =
+    alone_begun takes delay has =
         started_is old.delays (player_alone (table_number settled) (unit_start o r pace settled)) has low state
         (alone_is areas piece o r pace settled unit takes) kind small
         (λ cells next asks.
@@ -229,45 +234,67 @@ module _ (areas : List Area) (piece : Piece) (kinds : Kinds) (counts : Counts) (
         ∙ ap (λ q. with_unit cells next asks old u old.delays
         (record { table = table_number settled; state = unit_start o r q settled })) same_pace)
 
-    pub a_delay : (refused : Option StartRefusal) → is_delay o ≡ true
-        → BeginsDelay (old.delays + delay_length pace (slice_index_or settled 0 (pos 0)))
-        (player_alone (table_number settled) (unit_start o r pace settled)) u old new refused
-        → Starts areas piece kinds counts o r u settled old new refused
-    unfolding with_unit
-    a_delay None delay b =
-        let samples : ℕ = old.delays + delay_length pace (slice_index_or settled 0 (pos 0)) in
-        started_is samples (player_alone (table_number settled) (unit_start o r pace settled)) b.has low state
-        (alone_is areas piece o r pace settled unit (no_test o delay)) kind b.within
+    more : Pace → ℕ
+    more q = old.delays + delay_length q (slice_index_or settled 0 (pos 0))
+
+    delay_begun : is_delay o ≡ true → more pace ≤ most_delay_samples
+        → HasUnit old u (player_alone (table_number settled) (unit_start o r pace settled)) (more pace) new
+        → Starts areas piece kinds counts o r u settled old new None
+    unfolding with_unit more
+    delay_begun delay short has =
+        started_is (more pace) (player_alone (table_number settled) (unit_start o r pace settled)) has low state
+        (alone_is areas piece o r pace settled unit (no_test o delay)) kind short
         (λ cells next asks.
         ap (λ w. in_world w (machine_of old cells next asks None))
         (if_false (takes_table o && not (is_there (find_table piece.tables (table_number settled)))) _ _
         (no_look (takes_table o) (is_there (find_table piece.tables (table_number settled))) (no_test o delay))
         ∙ if_true (is_delay o) _ _ delay
-        ∙ if_true (nat_le (old.delays + delay_length (pace_of piece.head) (slice_index_or settled 0 (pos 0)))
-        most_delay_samples) _ _
-        (within (old.delays + delay_length (pace_of piece.head) (slice_index_or settled 0 (pos 0)))
-        (let P : Pace → Type 0 =
-        λ q. old.delays + delay_length q (slice_index_or settled 0 (pos 0))
-        ≤ most_delay_samples in subst P (sym same_pace) b.within)))
-        ∙ ap (λ q. with_unit cells next asks old u (old.delays + delay_length q (slice_index_or settled 0 (pos 0)))
+        ∙ if_true (nat_le (more (pace_of piece.head)) most_delay_samples) _ _
+        (within (more (pace_of piece.head))
+        (let P : Pace → Type 0 = λ q. more q ≤ most_delay_samples in subst P (sym same_pace) short)))
+        ∙ ap (λ q. with_unit cells next asks old u (more q)
         (record { table = table_number settled; state = unit_start o r q settled })) same_pace)
-    a_delay (Some refused) delay b =
-        refused_is refused b.same state small
+
+    delay_refused : (samples : ℕ) → is_delay o ≡ true → samples ≡ more pace → most_delay_samples < samples
+        → new ≡ old → Starts areas piece kinds counts o r u settled old new (Some (refusal.DelayTooLong samples))
+    unfolding with_unit more
+    delay_refused samples delay is long same =
+        refused_is (refusal.DelayTooLong samples) same state small
         (λ x e.
-        let more : ℕ → ℕ = λ n. n + delay_length (pace_of piece.head) (slice_index_or settled 0 (pos 0)) in
+        let longer : ℕ → ℕ = λ n. n + delay_length (pace_of piece.head) (slice_index_or settled 0 (pos 0)) in
+        let so : longer x.delays ≡ samples = ap longer e ∙ ap more same_pace ∙ sym is in
         if_false (takes_table o && not (is_there (find_table piece.tables (table_number settled)))) _ _
         (no_look (takes_table o) (is_there (find_table piece.tables (table_number settled))) (no_test o delay))
         ∙ if_true (is_delay o) _ _ delay
-        ∙ if_false (nat_le (x.delays + delay_length (pace_of piece.head) (slice_index_or settled 0 (pos 0)))
-        most_delay_samples) _ _
-        (beyond (x.delays + delay_length (pace_of piece.head) (slice_index_or settled 0 (pos 0)))
-        (let P : ℕ → Type 0 = λ n. most_delay_samples < n in
-        subst P (sym (ap (λ n. n + delay_length (pace_of piece.head) (slice_index_or settled 0 (pos 0))) e
-        ∙ ap (λ q. old.delays + delay_length q (slice_index_or settled 0 (pos 0))) same_pace)) b.beyond))
-        ∙ ap (λ f. record x { cause = Some f })
-        (ap delay_too_long (ap (λ n. n + delay_length (pace_of piece.head) (slice_index_or settled 0 (pos 0))) e
-        ∙ ap (λ q. old.delays + delay_length q (slice_index_or settled 0 (pos 0))) same_pace)
-        ∙ sym (ap cause_of b.cause)))
+        ∙ if_false (nat_le (longer x.delays) most_delay_samples) _ _
+        (beyond (longer x.delays) (let P : ℕ → Type 0 = λ n. most_delay_samples < n in subst P (sym so) long))
+        ∙ ap (λ n. record x { cause = Some (delay_too_long n) }) so)
+
+    -- a unit without a table, with which the delays have so many samples
+    module _ (samples : ℕ) (takes : takes_table o ≡ false) (is : samples ≡ samples_with o pace settled old.delays) where
+      of_delay : is_delay o ≡ true → samples ≡ more pace
+      unfolding more
+      of_delay so = is ∙ if_true (is_delay o) _ _ so
+
+      of_other : is_delay o ≡ false → samples ≡ old.delays
+      of_other so = is ∙ if_false (is_delay o) _ _ so
+
+      pub alone : samples ≤ most_delay_samples
+          → HasUnit old u (player_alone (table_number settled) (unit_start o r pace settled)) samples new
+          → Starts areas piece kinds counts o r u settled old new None
+      alone short has = by_test (is_delay o)
+          (λ yes. delay_begun yes (subst (λ n. n ≤ most_delay_samples) (of_delay yes) short)
+          (subst (λ n. HasUnit old u (player_alone (table_number settled) (unit_start o r pace settled)) n new)
+          (of_delay yes) has))
+          (λ no. alone_begun takes no
+          (subst (λ n. HasUnit old u (player_alone (table_number settled) (unit_start o r pace settled)) n new)
+          (of_other no) has))
+
+      pub too_long : most_delay_samples < samples → new ≡ old
+          → Starts areas piece kinds counts o r u settled old new (Some (refusal.DelayTooLong samples))
+      too_long long same = by_test (is_delay o)
+          (λ yes. delay_refused samples yes (of_delay yes) long same)
+          (λ no. absurd (let e = of_other no in omega (arith, e, long, small)))
 
 -- a unit that was put on a table
 pub begun_on : (areas : List Area) (tables : List Table) (t : Table) (number n m : ℤ) (state k : UnitState) (u : ℕ)

@@ -1,25 +1,25 @@
 // Units that a note starts as it begins.
-ghost use Rattle.std.specs.Prelude.{◌≡◌, ◌+◌, ◌<◌, ◌≤◌, true, length, slice_index_or, pos, IfOk, OnOk, Some, None};
+ghost use Rattle.std.specs.Prelude.{◌≡◌, ◌+◌, ◌<◌, ◌≤◌, true, List, length, IfOk, OnOk, Some, None};
 ghost use Rattle.cs_base.specs.Limits.{most_delay_samples};
 ghost use Rattle.cs_base.specs.declared.resource.Res.TheVariants as res;
 ghost use Rattle.cs_cells.specs.declared.footprint.Area.{Area};
 ghost use Rattle.cs_ir.specs.declared.register.Counts.{Counts};
-ghost use Rattle.cs_meaning.specs.Pieces.{Piece, is_delay, table_number};
+ghost use Rattle.cs_meaning.specs.Pieces.{Piece, Table, find_table, is_delay, table_number};
 ghost use Rattle.cs_voice_meaning.specs.{Placing.HasArea, Placing.area_of, Follows.Kinds};
-ghost use Rattle.cs_signal.specs.{Delay.delay_length, Pace.pace_of};
+ghost use Rattle.cs_signal.specs.Pace.{pace_of};
 ghost use Rattle.cs_voice.specs.Starting.{HasUnit, Starts, player_alone, player_on};
 ghost use Rattle.cs_voice.specs.Tables.{CanAllBePlayed, CanBePlayed, table_at, tables_of};
-ghost use Rattle.cs_voice.specs.inner.Begun.{BeginsDelay, BeginsOnTable, Seeks};
+ghost use Rattle.cs_voice.specs.inner.Begun.{IsBegunOn, Seeks, samples_with};
 ghost use Rattle.cs_typed.specs.TypedTree.{header_of_head};
 ghost use Rattle.cs_machine.specs.States.{IsStateIn};
 ghost use Rattle.cs_ugen.specs.Units.{IsUnitOpcode, unit_start};
 ghost use Rattle.cs_words.specs.Catalogue.{takes_table};
 
 use crate::PieceTable;
-use crate::tables::{Finds, find, table_number};
+use crate::tables::{Finds, find_made, table_number};
 use cs_base::{Head, MOST_DELAY_SAMPLES, Num, OutOfMemory, Rate, Res};
 use cs_cells::Layout;
-use cs_machine::{Player, State, area_in};
+use cs_machine::{NoteSetting, Player, State, area_in};
 use cs_signal::{argument, delay_samples};
 use cs_ugen::Unit;
 use cs_words::{Opcode, signature_of};
@@ -63,16 +63,26 @@ pub(crate) fn begin<'p>(
         state.new refused) }
 {
     if signature_of(start.opcode).takes_table() {
-        let refused = begin_on_table(alloc, state, finds, made, start, settled)?;
-        Ok(refused)
-    } else if is_delay(start.opcode) {
-        let refused = begin_delay(alloc, state, finds.at.head, start, settled)?;
-        Ok(refused)
-    } else {
-        let samples = state.delays;
-        begin_alone(alloc, state, finds.at.head, start, settled, samples)?;
-        Ok(None)
+        let number = table_number(settled);
+        let Some(table) = find_made(finds.tables, made, number) else {
+            return Ok(Some(StartRefusal::NoTable(number)));
+        };
+        begin_on_table(alloc, state, &finds.at, table, start, settled)?;
+        return Ok(None);
     }
+    let samples = samples_with(state.delays, start.opcode, finds.at.head, settled);
+    if samples > MOST_DELAY_SAMPLES as u64 {
+        return Ok(Some(StartRefusal::DelayTooLong(samples)));
+    }
+    begin_alone(
+        alloc,
+        state,
+        finds.at.head,
+        start,
+        settled,
+        samples as usize,
+    )?;
+    Ok(None)
 }
 
 /// Looks for the table that a store writes; None where it is there.
@@ -81,13 +91,9 @@ pub(crate) fn seek(tables: &[PieceTable], made: &[bool], settled: &[Num]) -> Opt
     ensures { Seeks (tables_of tables.now made.now) (table_number settled.now) result }
 {
     let number = table_number(settled);
-    let Some(found) = find(tables, made, number) else {
-        return Some(StartRefusal::NoTable(number));
-    };
-    if found.made {
-        None
-    } else {
-        Some(StartRefusal::NoTable(number))
+    match find_made(tables, made, number) {
+        Some(_) => None,
+        None => Some(StartRefusal::NoTable(number)),
     }
 }
 
@@ -97,61 +103,41 @@ fn is_delay(opcode: Opcode) -> bool
     matches!(opcode, Opcode::Delay)
 }
 
-/// A unit that reads a table.
+/// A unit on a table that has been made. It is so begun in whatever tables this one is found.
 fn begin_on_table<'p>(
     alloc: Global,
     state: &mut State<'p>,
-    finds: &Finds<'_, 'p>,
-    made: &[bool],
+    at: &NoteSetting<'_>,
+    table: &'p PieceTable,
     start: UnitStart,
     settled: &[Num],
-) -> Result<Option<StartRefusal>, OutOfMemory>
+) -> Result<(), OutOfMemory>
     requires unit { start.unit < length state.old.players.items }
     requires opcode { IsUnitOpcode start.opcode }
-    requires made { length made.now ≡ length finds.now.tables.now }
-    requires tables { CanAllBePlayed finds.now.at.layout.now (tables_of finds.now.tables.now made.now) }
-    ensures { IfOk result (BeginsOnTable finds.now.at.layout.now (tables_of finds.now.tables.now made.now)
-        (table_number settled.now)
-        (unit_start start.opcode start.rate (pace_of (header_of_head finds.now.at.head.now)) settled.now) start.unit
+    requires table { CanBePlayed at.now.layout.now (table_at table.now true) }
+    ensures { OnOk result ((tables : List Table)
+        → find_table tables (table_number settled.now) ≡ Some (table_at table.now true)
+        → IsBegunOn at.now.layout.now tables (table_number settled.now)
+        (unit_start start.opcode start.rate (pace_of (header_of_head at.now.head.now)) settled.now) start.unit
         state.old state.new) }
 {
     let number = table_number(settled);
-    let Some(found) = find(finds.tables, made, number) else {
-        return Ok(Some(StartRefusal::NoTable(number)));
-    };
-    if found.made {
-        let unit = Unit::start(alloc, start.opcode, start.rate, finds.at.head, settled)?;
-        let player = on_table(finds.at.layout, found.table, number, unit);
-        put(state, start.unit, player);
-        Ok(None)
-    } else {
-        Ok(Some(StartRefusal::NoTable(number)))
-    }
+    let unit = Unit::start(alloc, start.opcode, start.rate, at.head, settled)?;
+    let player = on_table(at.layout, table, number, unit);
+    put(state, start.unit, player);
+    Ok(())
 }
 
-/// A `delay`, which makes the delays longer together.
-fn begin_delay(
-    alloc: Global,
-    state: &mut State<'_>,
-    head: &Head,
-    start: UnitStart,
-    settled: &[Num],
-) -> Result<Option<StartRefusal>, OutOfMemory>
-    requires unit { start.unit < length state.old.players.items }
-    requires opcode { IsUnitOpcode start.opcode }
-    requires delays { state.old.delays ≤ most_delay_samples }
-    ensures { IfOk result (BeginsDelay
-        (state.old.delays + delay_length (pace_of (header_of_head head.now)) (slice_index_or settled.now 0 (pos 0)))
-        (player_alone (table_number settled.now)
-        (unit_start start.opcode start.rate (pace_of (header_of_head head.now)) settled.now))
-        start.unit state.old state.new) }
+/// How many samples the delays have together with a unit.
+fn samples_with(delays: usize, opcode: Opcode, head: &Head, settled: &[Num]) -> u64
+    requires { delays ≤ most_delay_samples }
+    ensures { result ≡ samples_with opcode (pace_of (header_of_head head.now)) settled.now delays }
 {
-    let samples = state.delays as u64 + delay_samples(argument(settled, 0), head);
-    if samples > MOST_DELAY_SAMPLES as u64 {
-        return Ok(Some(StartRefusal::DelayTooLong(samples)));
+    if is_delay(opcode) {
+        delays as u64 + delay_samples(argument(settled, 0), head)
+    } else {
+        delays as u64
     }
-    begin_alone(alloc, state, head, start, settled, samples as usize)?;
-    Ok(None)
 }
 
 /// A unit without a table, after which the delays have so many samples.

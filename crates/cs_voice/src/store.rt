@@ -1,8 +1,9 @@
 // Stores into live tables.
-ghost use Rattle.std.specs.Prelude.{◌≡◌, ◌+◌, ◌≤◌, [], ◌∷◌, length, true, IfSome};
+ghost use Rattle.std.specs.{List.list_all, Prelude.IfSome};
+ghost use Rattle.std.specs.Prelude.{◌≡◌, ◌+◌, ◌≤◌, [], ◌∷◌, length, true};
 ghost use Rattle.cs_voice.specs.Cells.{DoesOver, MayStore, stored_area};
 ghost use Rattle.cs_cells.specs.Cells.{cell};
-ghost use Rattle.cs_ir.specs.{Registers.rate_at, Validity.has_register};
+ghost use Rattle.cs_ir.specs.{Flat.is_small, Placed.there, Registers.rate_at, Validity.has_register};
 ghost use Rattle.cs_ir.specs.declared.op.Act.TheVariants as act;
 ghost use Rattle.cs_ir.specs.declared.register.Reg.{Reg};
 ghost use Rattle.cs_meaning.specs.Pieces.{index, steps_of};
@@ -10,7 +11,7 @@ ghost use Rattle.cs_machine.specs.States.{HasRoom};
 
 use cs_base::{Num, Rate, Res};
 use cs_cells::{Area, Bank};
-use cs_ir::{Reach, Reg};
+use cs_ir::{OpAt, Reach, Reg};
 use cs_machine::{NoteSetting, State, area_of, index, store};
 
 /// What is stored: a register, at the places that another one names, into the table whose number a third one holds; and
@@ -23,8 +24,26 @@ pub(crate) struct Storing {
     pub rate: Rate,
 }
 
+/// What an op that stores says to store.
+#[inline(never)]
+pub(crate) fn storing_of(op: OpAt<'_>) -> Storing
+    requires three { length (there op).from ≡ 3 }
+    requires small { list_all is_small (there op).from ≡ true }
+    ensures registers { (there op.entry).from ≡ result.signal ∷ result.index ∷ result.table ∷ [] }
+    ensures rate { result.rate ≡ rate_at (there op.entry).into }
+{
+    let (signal, index, table) = op.triple();
+    Storing {
+        signal,
+        index,
+        table,
+        rate: op.op.into.rate(),
+    }
+}
+
 /// Stores a register into a live table: the act `Store`. A frozen table, one that isn't there and one out of reach stay
 /// as they are.
+#[inline(never)]
 pub(crate) fn store_points<B: Bank>(
     state: &State<'_>,
     at: &NoteSetting<'_>,

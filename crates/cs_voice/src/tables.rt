@@ -1,8 +1,8 @@
 // The tables of a piece, as a note that begins finds them.
-ghost use Rattle.std.specs.Prelude.{◌≡◌, ◌&&◌, ◌==◌, not, unsigned_abs, length};
+ghost use Rattle.std.specs.Prelude.{◌≡◌, ◌&&◌, ◌==◌, not, true, unsigned_abs, length};
 ghost use Rattle.std.specs.{Int.is_negative, Option.option_map};
-ghost use Rattle.cs_meaning.specs.Pieces.{find_table, table_number};
-ghost use Rattle.cs_voice.specs.Tables.{table_at, tables_of};
+ghost use Rattle.cs_meaning.specs.Pieces.{table_number};
+ghost use Rattle.cs_voice.specs.{Tables.table_at, Tables.tables_of, inner.Begun.FindsMade};
 
 use crate::PieceTable;
 use cs_base::Num;
@@ -16,27 +16,22 @@ pub(crate) struct Finds<'s, 'p> {
     pub tables: &'p [PieceTable],
 }
 
-/// A table that was found, and whether it has been made by now.
-#[derive(Clone, Copy)]
-pub(crate) struct FoundTable<'p> {
-    pub table: &'p PieceTable,
-    pub made: bool,
-}
-
-/// The first table of a number.
-pub(crate) fn find<'p>(
+/// The first table of a number, where it has been made by now.
+pub(crate) fn find_made<'p>(
     tables: &'p [PieceTable],
     made: &[bool],
     number: i64,
-) -> Option<FoundTable<'p>>
+) -> Option<&'p PieceTable>
     requires { length made.now ≡ length tables.now }
-    ensures { option_map (λ f. table_at f.table.now f.made) result ≡ find_table (tables_of tables.now made.now) number }
+    ensures { FindsMade (tables_of tables.now made.now) number (option_map (λ t. table_at t.now true) result) }
 {
     for place in 0..tables.len() {
         let table = &tables[place];
         if has_number(table, number) {
-            let made = made[place];
-            return Some(FoundTable { table, made });
+            if made[place] {
+                return Some(table);
+            }
+            return None;
         }
     }
     None

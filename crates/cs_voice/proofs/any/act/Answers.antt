@@ -2,9 +2,10 @@ use Rattle.std.proofs.Common.{◌≡◌, ◌∙◌, ap, length, refl, subst, sym
 use Rattle.std.specs.List.{list_all}
 use Rattle.cs_ir.proofs.RegisterKinds.{there_small}
 use Rattle.cs_ir.specs.{Placed.there, Registers.rate_at, Validity.has_register}
-use Rattle.cs_voice.proofs.Fitting.{acts_there, bare_from, first_there, reads_small, unit_there}
-use Rattle.cs_voice.proofs.Readying.{does_op, does_op_plain, does_op_unit, fit_of, is_a_unit, number_of, parts_of}
-use Rattle.cs_voice.proofs.Readying.{room_of, takes_of, unit_into, unit_may_play}
+use Rattle.cs_voice.proofs.Fitting.{acts_there, bare_from, first_there, reads_small, second_there, third_there}
+use Rattle.cs_voice.proofs.Fitting.{unit_there}
+use Rattle.cs_voice.proofs.Readying.{does_op, does_op_plain, does_op_unit, fit_of, is_a_unit, number_of, op_may_store}
+use Rattle.cs_voice.proofs.Readying.{parts_of, room_of, store_long, takes_of, unit_into, unit_may_play}
 use Rattle.cs_voice.specs.Units.{MayPlay}
 use Rattle.cs_voice.proofs.any.act.Goals as goal
 
@@ -60,3 +61,35 @@ returns-in-Unit-clause-does g c =
     does_op_unit e c.writes-in-Unit.ensures (sym c.reads.ensures)
     (is_a_unit c.in-Unit.opcode c.unit.result c.in-Unit.reach (rate_at (there c.args.op).into) (there c.args.op).from
     (takes_of c.requires.ready.ready e)) c.run_unit.ensures.does
+
+pub returns-in-Zak-clause-does : goal.returns-in-Zak-clause-does
+returns-in-Zak-clause-does g c = does_op refl refl refl c.zak.ensures.does
+
+pub storing_of-requires-clause-three : goal.storing_of-requires-clause-three
+storing_of-requires-clause-three g c = store_long (rate_at (there c.args.op).into) (there c.args.op).from
+    (takes_of c.requires.ready.ready (acts_there c.args.op c.in-Store.is))
+
+pub storing_of-requires-clause-small : goal.storing_of-requires-clause-small
+storing_of-requires-clause-small g c = reads_small (fit_of c.requires.ready.ready)
+
+pub store_points-requires-clause-signal : goal.store_points-requires-clause-signal
+store_points-requires-clause-signal g c =
+    first_there c.args.state.now.regs.counts (parts_of c.requires.ready.ready).from c.storing_of.ensures.registers
+
+pub store_points-requires-clause-index : goal.store_points-requires-clause-index
+store_points-requires-clause-index g c =
+    second_there c.args.state.now.regs.counts (parts_of c.requires.ready.ready).from c.storing_of.ensures.registers
+
+pub store_points-requires-clause-table : goal.store_points-requires-clause-table
+store_points-requires-clause-table g c =
+    third_there c.args.state.now.regs.counts (parts_of c.requires.ready.ready).from c.storing_of.ensures.registers
+
+pub store_points-requires-clause-room : goal.store_points-requires-clause-room
+store_points-requires-clause-room g c = room_of c.requires.ready.ready
+
+pub store_points-requires-clause-write : goal.store_points-requires-clause-write
+store_points-requires-clause-write g c = op_may_store c.requires.ready.ready (acts_there c.args.op c.in-Store.is)
+
+pub returns-in-Store-clause-does : goal.returns-in-Store-clause-does
+returns-in-Store-clause-does g c = does_op (acts_there c.args.op c.in-Store.is) refl c.storing_of.ensures.registers
+    (c.store_points.ensures.does (there c.args.op).into (sym c.storing_of.ensures.rate))

@@ -2,7 +2,7 @@ use Rattle.std.proofs.Common.{ℕ, ℤ, pos, slice_index_or, ◌∙◌, ◌+◌,
 use Rattle.std.proofs.lemmas.Result.{on_ok_weaker}
 use Rattle.cs_cells.specs.Cells.{cell}
 use Rattle.cs_piece_meaning.specs.Moments.{Composition, Moment}
-use Rattle.cs_piece_meaning.specs.Starts.{Start, all_asked, begun, time_of}
+use Rattle.cs_piece_meaning.specs.Starts.{Start, all_asked, begun, start_of, time_of}
 use Rattle.cs_ir.specs.{Asks.ask_of, declared.ask.Ask.Ask}
 use Rattle.cs_life.proofs.{Beginning.Gives, Beginning.clock_is, Beginning.is_ready, Flags.flags_fit}
 use Rattle.cs_meaning.specs.{Notes.Note, Plain.Plain}
@@ -23,12 +23,7 @@ returns-clause-begun g c =
     on_ok_weaker c.enter.result
     (λ f body m of room st.
     let k : Composition = composition_of c.args.self.now.setup.now in
-    let s : Start = record {
-      number = pos c.args.playable.instrument.now.number;
-      cycles = c.args.note.cycles;
-      fields =
-          c.args.note.fields;
-    } in
+    let s : Start = start_of c.args.note in
     let t : Note Plain = begun k m.made s body m in
     let left : Moment = record m { shared = t.world.shared } in
     let sheet : List ℤ → Sheet = λ fields.
@@ -41,7 +36,7 @@ returns-clause-begun g c =
     (g.B.Bank.cells c.start.new.bank) c.args.note.cycle s
     c.args.playable.instrument.now c.args.playable.foot.now body m of st c.in_ok-begun.begun c.start.new.asks.items
     c.time_of-time.result c.deref-2.result.now
-    c.ask_all.new.pending c.ask_all.new.not_started room refl c.deref-2.ensures.value
+    c.ask_all.new.pending c.ask_all.new.not_started room c.requires.number c.deref-2.ensures.value
     (subst gives c.into_vec-fields.ensures (record {
       result = subst (λ n. IsStarted (sheet c.into_vec-fields.result.items) n
           (initialised (sheet c.into_vec-fields.result.items) before) c.in_ok-begun.begun) c.end_of-until.ensures

@@ -1,4 +1,4 @@
-use Rattle.std.proofs.Common.{◌≡◌, ◌==◌, true, false, length, rules}
+use Rattle.std.proofs.Common.{◌≡◌, ◌==◌, true, false, length, rules, sym}
 use Rattle.std.specs.Prelude.{◌||◌, nat_lt, None}
 use Rattle.std.proofs.lemmas.Result.{on_ok_weaker}
 use Rattle.cs_base.specs.Limits.{most_notes}
@@ -51,3 +51,10 @@ returns-in-None-clause-grown g c = grew_none c.args.voices.now.items
 
 pub returns-then-not-has_room-clause-grown : goal.returns-then-not-has_room-clause-grown
 returns-then-not-has_room-clause-grown g c = grew_none c.args.voices.now.items
+
+pub begin-requires-clause-number : goal.begin-requires-clause-number
+begin-requires-clause-number g c =
+    let there : IsThere (composition_of c.args.self.now.setup.now) c.args.self.now.setup.now.layout
+    c.args.self.now.setup.now.zones c.args.note.number
+    c.in-Some.playable.instrument.now c.in-Some.playable.foot.now = search rules in
+    sym there.2

@@ -9,7 +9,7 @@ use Rattle.cs_voice.specs.inner.Zak.{reached}
 use Rattle.cs_voice.proofs.Places.{at_reached, mixed_here, mixing, not_reached, reached_sound, reached_touched}
 use Rattle.cs_voice.proofs.Places.{reached_value}
 use Rattle.cs_words.specs.declared.catalogue.Space.TheVariants as space
-use Rattle.cs_voice.proofs.zak.zak_mix.Goals as goal
+use Rattle.cs_voice.proofs.zak.mix.Goals as goal
 
 pub mix_row-requires-clause-row : goal.mix_row-requires-clause-row
 mix_row-requires-clause-row g c =
