@@ -13,6 +13,6 @@ mod order;
 mod usage;
 mod worked;
 
-pub use order::{DemoNotes, Order, Source, Workers};
+pub use order::{DemoNotes, FromOneTo, Order, Source, Workers};
 pub use usage::usage_line;
 pub use worked::{words_with_a_reading, words_without_a_reading};

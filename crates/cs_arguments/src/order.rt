@@ -1,83 +1,52 @@
 // What the words ask for, as the program takes it.
 ghost use Rattle.std.specs.Prelude.{◌≡◌};
-ghost use Rattle.cs_arguments.specs.Ranges.{IsFromOneTo, most_workers, most_demo_notes};
+ghost use Rattle.cs_arguments.specs.Ranges.{IsFromOneTo};
 
 use cs_base::SampleWidth;
 use std::marker::Model;
 
-/// How many workers share the notes of a cycle: 1 to 32. Contracts see the number.
+/// A whole number from 1 to `MOST`. Contracts see the number.
 #[derive(Clone, Copy)]
-pub struct Workers {
+pub struct FromOneTo<const MOST: u32> {
     number: u32,
 }
 
-impl Model for Workers {
+impl<const MOST: u32> Model for FromOneTo<MOST> {
     ghost use Rattle.std.specs.Prelude.{ℕ};
-    ghost use Rattle.cs_arguments.specs.Ranges.{IsFromOneTo, most_workers};
+    ghost use Rattle.cs_arguments.specs.Ranges.{IsFromOneTo};
 
     ghost Value = { ℕ };
 
     ghost view = { λ w. w.number };
 
-    ghost invariant = { λ w. IsFromOneTo most_workers w.number };
+    ghost invariant = { λ w. IsFromOneTo MOST w.number };
 
     ghost inverse = { λ n. record { number = n } };
 }
 
-impl Workers {
-    /// `number` workers, from 1 to 32.
-    pub fn new(number: u32) -> Workers
-        requires { IsFromOneTo most_workers number }
+impl<const MOST: u32> FromOneTo<MOST> {
+    /// This number, from 1 to `MOST`.
+    pub fn new(number: u32) -> FromOneTo<MOST>
+        requires { IsFromOneTo MOST number }
         ensures { result ≡ number }
     {
-        Workers { number }
+        FromOneTo { number }
     }
 
-    /// The number of workers, from 1 to 32.
+    /// The number, from 1 to `MOST`.
     pub fn number(self) -> u32
-        ensures value { result ≡ self }
-        ensures range { IsFromOneTo most_workers result }
+        ensures value { result ≡ self.entry }
+        ensures range { IsFromOneTo MOST result }
     {
         self.number
     }
 }
 
-/// How many notes the demo has beside its delay: 1 to 10,000. Contracts see the number.
-#[derive(Clone, Copy)]
-pub struct DemoNotes {
-    number: u32,
-}
+/// How many workers share the notes of a cycle.
+pub type Workers = FromOneTo<32>;
 
-impl Model for DemoNotes {
-    ghost use Rattle.std.specs.Prelude.{ℕ};
-    ghost use Rattle.cs_arguments.specs.Ranges.{IsFromOneTo, most_demo_notes};
-
-    ghost Value = { ℕ };
-
-    ghost view = { λ w. w.number };
-
-    ghost invariant = { λ w. IsFromOneTo most_demo_notes w.number };
-
-    ghost inverse = { λ n. record { number = n } };
-}
-
-impl DemoNotes {
-    /// `number` notes, from 1 to 10,000.
-    pub fn new(number: u32) -> DemoNotes
-        requires { IsFromOneTo most_demo_notes number }
-        ensures { result ≡ number }
-    {
-        DemoNotes { number }
-    }
-
-    /// The number of notes, from 1 to 10,000.
-    pub fn number(self) -> u32
-        ensures value { result ≡ self }
-        ensures range { IsFromOneTo most_demo_notes result }
-    {
-        self.number
-    }
-}
+/// How many notes the demo has beside its delay.
+pub type DemoNotes = FromOneTo<10_000>;
 
 /// Where orchestra and score come from. No name is empty.
 #[derive(Clone, Copy)]

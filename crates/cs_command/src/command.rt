@@ -3,9 +3,8 @@ ghost use Rattle.std.specs.Prelude.{◌≡◌, false, IfOk};
 ghost use Rattle.clap.specs.Words.{app_of, rule_of, with_rule};
 ghost use Rattle.cs_arguments.specs.Command.{bare_app, lettered_app, the_app};
 
-use crate::options::{
-    demo_option, letter_flag, long_flag, name, sound_file_option, workers_option,
-};
+use crate::options::{demo_option, from_one_to, letter_flag, letter_option, long_flag, name};
+use clap::builder::ValueParser;
 use clap::{Arg, Command};
 use std::alloc::{AllocError, Global};
 
@@ -25,8 +24,11 @@ pub fn command<'w>(alloc: Global) -> Result<Command<'w>, AllocError>
 fn with_letters<'w>(alloc: Global) -> Result<Command<'w>, AllocError>
     ensures { IfOk result (λ c. app_of c ≡ lettered_app) }
 {
-    let command = with(bare(alloc), workers_option(alloc))?;
-    let command = with(command, sound_file_option(alloc))?;
+    let command = with(bare(alloc), letter_option(alloc, "j", 'j', from_one_to(32)))?;
+    let command = with(
+        command,
+        letter_option(alloc, "o", 'o', ValueParser::NonEmptyString),
+    )?;
     let command = with(command, letter_flag(alloc, "W", 'W'))?;
     let command = with(command, letter_flag(alloc, "s", 's'))?;
     let command = with(command, letter_flag(alloc, "d", 'd'))?;

@@ -26,26 +26,21 @@ pub fn long_flag<'w>(alloc: Global, name: &'w str) -> Arg<'w>
     Arg::new(alloc, name).long(name).action(ArgAction::SetTrue)
 }
 
-/// `-j N`.
-pub fn workers_option<'w>(alloc: Global) -> Arg<'w>
-    ensures rule { rule_of result ≡ made_option (codes "j") None (Some 106) }
+/// An option of one letter, whose text is the letter, and whose values `parser` reads.
+pub fn letter_option<'w>(
+    alloc: Global,
+    text: &'w str,
+    letter: char,
+    parser: ValueParser<'w>,
+) -> Arg<'w>
+    requires { parser_of text.now ≡ parser }
+    ensures rule { rule_of result ≡ made_option text.entry.now None (Some letter) }
     ensures local { result.global ≡ false }
 {
-    Arg::new(alloc, "j")
-        .short('j')
+    Arg::new(alloc, text)
+        .short(letter)
         .action(ArgAction::Set)
-        .value_parser(from_one_to(32))
-}
-
-/// `-o FILE`.
-pub fn sound_file_option<'w>(alloc: Global) -> Arg<'w>
-    ensures rule { rule_of result ≡ made_option (codes "o") None (Some 111) }
-    ensures local { result.global ≡ false }
-{
-    Arg::new(alloc, "o")
-        .short('o')
-        .action(ArgAction::Set)
-        .value_parser(ValueParser::NonEmptyString)
+        .value_parser(parser)
 }
 
 /// `--demo N`.
@@ -70,8 +65,8 @@ pub fn name<'w>(alloc: Global, key: &'w str) -> Arg<'w>
         .value_parser(ValueParser::NonEmptyString)
 }
 
-// A whole number from 1 to `most`.
-fn from_one_to<'w>(most: u16) -> ValueParser<'w>
+/// A whole number from 1 to `most`.
+pub fn from_one_to<'w>(most: u16) -> ValueParser<'w>
     ensures { result ≡ Signed (pos 1) (pos most) }
 {
     clap::value_parser!(u32).range(1..=i64::from(most))

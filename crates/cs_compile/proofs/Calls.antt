@@ -24,12 +24,6 @@ use Rattle.cs_typed.specs.TypedTree as typed
 
 -- THE BODY of a number: it is that of an instrument with this number
 
-equal : (x y : ℤ) → int_eq x y ≡ true → x ≡ y
-equal x y e = (Decides-int_eq x y).0 e
-
-itself : (x : ℤ) → int_eq x x ≡ true
-itself x = (Decides-int_eq x x).1 refl
-
 same_some : {A : Type 0} (a b : A) → Some a ≡ Some b → a ≡ b
 same_some a b e = cc
 
@@ -46,7 +40,7 @@ pairs_have (p ∷ ps) z b h = by (int_eq z (pos p.0)) refl h (λ k. pairs_have p
         → (n : ℕ) × (z ≡ pos n) × Contains (p ∷ ps) (n, b)
     by true e k rest =
         let first = subst (λ (x : typed.Block). Contains (p ∷ ps) (p.0, x)) (same_some p.1 b k) (contains_first p ps) in
-        (p.0, equal z (pos p.0) e, first)
+        (p.0, (Decides-int_eq z (pos p.0)).0 e, first)
     by false e k rest = let more = rest k in (more.0, more.1, contains_rest p (more.0, b) ps more.2)
 
 pairs_there : (ps : Pairs) (n : ℕ) (b : typed.Block) → Contains ps (n, b)
@@ -59,7 +53,8 @@ pairs_there (p ∷ ps) n b h =
     (contains_cases p (n, b) ps h)
   where
     here : (p q : ℕ × typed.Block) → p ≡ q → int_eq (pos q.0) (pos p.0) ≡ true
-    here p q e = subst (λ (x : ℕ × typed.Block). int_eq (pos x.0) (pos p.0) ≡ true) e (itself (pos p.0))
+    here p q e = subst (λ (x : ℕ × typed.Block). int_eq (pos x.0) (pos p.0) ≡ true) e
+        ((Decides-int_eq (pos p.0) (pos p.0)).1 refl)
 
     by : (t : Bool) → t ≡ true → (x : typed.Block) × ((if t then Some p.1 else body_of ps (pos n)) ≡ Some x)
     by true e = (p.1, refl)

@@ -27,62 +27,15 @@ use Rattle.cs_words.specs.declared.catalogue.Shape.TheVariants as shape
 module _ (spaces : Spaces) where
   call_asks : (r : Rate) (vs : List Variable) (o : Opcode) (sh : Shape) (args : List typed.Argument)
       → asks_in_stmt (core_call spaces r vs o sh args) ≤ 1
-  call_asks r [] o shape.Init args = omega arith
-  call_asks r [] o shape.Unit args = omega arith
-  call_asks r [] o shape.Store args = omega arith
-  call_asks r [] o shape.Out args = omega arith
-  call_asks r [] o shape.OutAt args = omega arith
-  call_asks r [] o shape.Turnoff args = omega arith
-  call_asks r [] o shape.ZakInit args = omega arith
-  call_asks r [] o (shape.ZakGet s) args = omega arith
-  call_asks r [] o (shape.ZakPut s) args = omega arith
-  call_asks r [] o shape.ZakMix args = omega arith
-  call_asks r [] o (shape.ZakClear s) args = omega arith
-  call_asks r [] o shape.Ask args = omega arith
-  call_asks r [] o shape.ChannelGet args = omega arith
-  call_asks r [] o shape.ChannelPut [] = omega arith
-  call_asks r [] o shape.ChannelPut (typed.text c ∷ args) = omega arith
-  call_asks r [] o shape.ChannelPut (typed.value e ∷ []) = omega arith
   call_asks r [] o shape.ChannelPut (typed.value e ∷ typed.value f ∷ args) = omega arith
-  call_asks r [] o shape.ChannelPut (typed.value e ∷ typed.text c ∷ args) = omega arith
-  call_asks r [] o shape.ChannelMix [] = omega arith
-  call_asks r [] o shape.ChannelMix (typed.text c ∷ args) = omega arith
-  call_asks r [] o shape.ChannelMix (typed.value e ∷ []) = omega arith
   call_asks r [] o shape.ChannelMix (typed.value e ∷ typed.value f ∷ args) = omega arith
-  call_asks r [] o shape.ChannelMix (typed.value e ∷ typed.text c ∷ args) = omega arith
-  call_asks r [] o shape.ChannelClear [] = omega arith
   call_asks r [] o shape.ChannelClear (typed.value e ∷ args) = omega arith
-  call_asks r [] o shape.ChannelClear (typed.text c ∷ args) = omega arith
-  call_asks r (v ∷ vs) o shape.Init [] = omega arith
   call_asks r (v ∷ vs) o shape.Init (typed.value e ∷ args) = omega arith
-  call_asks r (v ∷ vs) o shape.Init (typed.text c ∷ args) = omega arith
-  call_asks r (v ∷ vs) o shape.Unit args = omega arith
-  call_asks r (v ∷ vs) o shape.Store args = omega arith
-  call_asks r (v ∷ vs) o shape.Out args = omega arith
-  call_asks r (v ∷ vs) o shape.OutAt args = omega arith
-  call_asks r (v ∷ vs) o shape.Turnoff args = omega arith
-  call_asks r (v ∷ vs) o shape.ZakInit args = omega arith
-  call_asks r (v ∷ vs) o (shape.ZakGet s) args = omega arith
-  call_asks r (v ∷ vs) o (shape.ZakPut s) args = omega arith
-  call_asks r (v ∷ vs) o shape.ZakMix args = omega arith
-  call_asks r (v ∷ vs) o (shape.ZakClear s) args = omega arith
-  call_asks r (v ∷ vs) o shape.Ask args = omega arith
-  call_asks r (v ∷ vs) o shape.ChannelGet [] = omega arith
   call_asks r (v ∷ vs) o shape.ChannelGet (typed.value e ∷ args) = omega arith
-  call_asks r (v ∷ vs) o shape.ChannelGet (typed.text c ∷ args) = omega arith
-  call_asks r (v ∷ vs) o shape.ChannelPut [] = omega arith
-  call_asks r (v ∷ vs) o shape.ChannelPut (typed.text c ∷ args) = omega arith
-  call_asks r (v ∷ vs) o shape.ChannelPut (typed.value e ∷ []) = omega arith
   call_asks r (v ∷ vs) o shape.ChannelPut (typed.value e ∷ typed.value f ∷ args) = omega arith
-  call_asks r (v ∷ vs) o shape.ChannelPut (typed.value e ∷ typed.text c ∷ args) = omega arith
-  call_asks r (v ∷ vs) o shape.ChannelMix [] = omega arith
-  call_asks r (v ∷ vs) o shape.ChannelMix (typed.text c ∷ args) = omega arith
-  call_asks r (v ∷ vs) o shape.ChannelMix (typed.value e ∷ []) = omega arith
   call_asks r (v ∷ vs) o shape.ChannelMix (typed.value e ∷ typed.value f ∷ args) = omega arith
-  call_asks r (v ∷ vs) o shape.ChannelMix (typed.value e ∷ typed.text c ∷ args) = omega arith
-  call_asks r (v ∷ vs) o shape.ChannelClear [] = omega arith
   call_asks r (v ∷ vs) o shape.ChannelClear (typed.value e ∷ args) = omega arith
-  call_asks r (v ∷ vs) o shape.ChannelClear (typed.text c ∷ args) = omega arith
+  call_asks r vs o sh args = omega arith
 
   callee_asks : (n : KnownHere) (line : ℕ) (c : Callee) (xs : List (List ℕ)) (args : List tree.Argument)
       → asks_in_stmt (core_stmt spaces (typed_call line n c xs args)) ≤ 1

@@ -26,18 +26,13 @@ pub read_one : {A : Type 0} (V : A → Type 0) (F : ℕ → OrcKind → Type 0) 
     → ((a : A) (l : ℕ) (k : OrcKind) → V a → F l k → ⊥) → HasOne (IsRead V F)
 read_one V F v f n (Ok a) (Ok b) h k = ap (λ x. Ok x) (v a b h k)
 read_one V F v f n (Ok a) (Err (why.Orc g)) h k = absurd (n a g.line g.kind h k)
-read_one V F v f n (Ok a) (Err (why.Score g)) h k = absurd k
-read_one V F v f n (Ok a) (Err (why.Limit g)) h k = absurd k
-read_one V F v f n (Ok a) (Err (why.Csd g)) h k = absurd k
 read_one V F v f n (Err (why.Orc g)) (Ok a) h k = absurd (n a g.line g.kind k h)
 read_one V F v f n (Err (why.Orc g)) (Err (why.Orc g')) h k =
     ap (λ (x : OrcFault). Err (why.Orc x)) (same_fault g g' (f g.line g'.line g.kind g'.kind h k))
-read_one V F v f n (Err (why.Orc g)) (Err (why.Score g')) h k = absurd k
-read_one V F v f n (Err (why.Orc g)) (Err (why.Limit g')) h k = absurd k
-read_one V F v f n (Err (why.Orc g)) (Err (why.Csd g')) h k = absurd k
 read_one V F v f n (Err (why.Score g)) s h k = absurd h
 read_one V F v f n (Err (why.Limit g)) s h k = absurd h
 read_one V F v f n (Err (why.Csd g)) s h k = absurd h
+read_one V F v f n _ _ h k = absurd k
 
 -- a score in a piece with a head has one plot, and a piece one composition
 score_one : (head : Head) (text : Excerpt) → HasOne (score_means head text)

@@ -58,11 +58,6 @@ pub not_plotted : (head : Head) (score : List ScoreStmt) (hit : LimitHit) → li
     → plotted head score ≡ Err (why.Limit hit)
 not_plotted head score hit passes = ap (λ o. unless_passed o (plot_of head score)) passes
 
--- the value of an answer that no limit refuses
-pub is_value : {A : Type 0} (o : Option LimitHit) (a b : A) → unless_passed o a ≡ Ok b → a ≡ b
-is_value None a b e = cc
-is_value (Some hit) a b e = absurd (cc)
-
 pub score_plotted : (head : Head) (text : Excerpt) (score : List ScoreStmt) (r : Result Plot Refusal)
     → score_of text ≡ Ok score → plotted head score ≡ r
     → score_means head text r

@@ -29,13 +29,8 @@ module _ (P : ScoreWhat → Type 0) (Q : Given → Type 0)
   turn_each : (set : SectionSetting) (stop : Option ℕ) (at line : ℕ) (w : ScoreWhat) → P w
       → Each Q (given_in (map (λ what. record { cycle = at; line = line; act = what }) (acts_of set stop w)))
   unfolding acts_of
-  turn_each set stop cycle line (Note instr at len more) p = tt
-  turn_each set stop cycle line (Hold instr at given more) p = tt
-  turn_each set stop cycle line (Stop instr at) p = tt
   turn_each set stop cycle line (Table number at size gen args) p = (gives number at size gen args p, tt)
-  turn_each set stop cycle line (Extend at) p = tt
-  turn_each set stop cycle line (Tempo points) p = tt
-  turn_each set stop cycle line Section p = tt
+  turn_each set stop cycle line _ p = tt
 
   given_append : (xs ys : List Event) → Each Q (given_in xs) → Each Q (given_in ys) → Each Q (given_in (xs ++ ys))
   given_append [] ys d e = e
@@ -73,27 +68,11 @@ module _ (P : ScoreWhat → Type 0) (Q : Given → Type 0)
 
 other_way : (v w : ScoreWhat) → IsOneSize w v → IsOneSize v w
 other_way (Table number at size gen args) (Table number' at' size' gen' args') h = λ e. sym (h (sym e))
-other_way (Table number at size gen args) (Note instr at' len more) h = tt
-other_way (Table number at size gen args) (Hold instr at' given more) h = tt
-other_way (Table number at size gen args) (Stop instr at') h = tt
-other_way (Table number at size gen args) (Extend at') h = tt
-other_way (Table number at size gen args) (Tempo points) h = tt
-other_way (Table number at size gen args) Section h = tt
-other_way (Note instr at len more) w h = tt
-other_way (Hold instr at given more) w h = tt
-other_way (Stop instr at) w h = tt
-other_way (Extend at) w h = tt
-other_way (Tempo points) w h = tt
-other_way Section w h = tt
+other_way _ _ h = tt
 
 same_way : (w : ScoreWhat) → IsOneSize w w
 same_way (Table number at size gen args) = λ e. refl
-same_way (Note instr at len more) = tt
-same_way (Hold instr at given more) = tt
-same_way (Stop instr at) = tt
-same_way (Extend at) = tt
-same_way (Tempo points) = tt
-same_way Section = tt
+same_way _ = tt
 
 -- a statement is of one size with all of these
 abbrev Agrees : List ScoreStmt → ScoreWhat → Type 0

@@ -5,15 +5,13 @@ ghost use Rattle.cs_base.specs.Limits.{most_orchestra_bytes};
 ghost use Rattle.cs_base.specs.declared.fault.Or.TheVariants as or;
 ghost use Rattle.cs_base.specs.declared.refusal.Refusal.{Refusal};
 ghost use Rattle.cs_code.specs.Lowered.{all_numbers};
-ghost use Rattle.cs_compile.specs.Meaning.{IsReadAs, IsTypedAs, orchestra_means, typed_form};
+ghost use Rattle.cs_compile.specs.Meaning.{IsReadAs, IsTypedAs, orchestra_means};
 ghost use Rattle.cs_grammar.specs.Tree as tree;
 ghost use Rattle.cs_grammar.specs.WellFormed.{IsWellFormed};
 ghost use Rattle.cs_name_laws.specs.Names.{NamesWhatThereIs};
 ghost use Rattle.cs_piece.specs.Setups.{AskForFew};
 ghost use Rattle.cs_typed.specs.TypedTree as typed;
 ghost use Rattle.cs_typed.specs.WellRated.{IsWellRated};
-ghost use Rattle.cs_typing.specs.Typing.{typed_of};
-ghost use Rattle.cs_udo.specs.{Expanded.expanded_orchestra, Ready.IsReady};
 
 use cs_base::{Excerpt, Or, Refusal};
 use cs_grammar::{Orc, parse, trees_are_well_formed};
@@ -53,7 +51,8 @@ fn read_tree(alloc: Global, text: &Excerpt) -> Result<Orc, Or<Refusal>>
     Ok(tree)
 }
 
-// The typed form of a tree, its calls of defined opcodes expanded.
+// The typed form of a tree, its calls of defined opcodes expanded, or the refusal of its first broken rule of rates and
+// names.
 fn typed_tree(alloc: Global, orc: Orc) -> Result<TypedOrc, Or<Refusal>>
     requires { IsWellFormed (tree.orchestra orc) }
     ensures typed { IfOk result (λ o. IsTypedAs (tree.orchestra orc) (Ok (typed.orchestra o))) }
@@ -64,25 +63,9 @@ fn typed_tree(alloc: Global, orc: Orc) -> Result<TypedOrc, Or<Refusal>>
     ensures refused { (r : Refusal) → result ≡ Err (or.Fault r) → IsTypedAs (tree.orchestra orc) (Err r) }
 {
     expansions_can_be_lowered();
-    let expansion = Expansion::new(alloc, &orc)?;
-    typed_form(alloc, &expansion)
-}
-
-// The typed form of the expanded tree, or the refusal of its first broken rule of rates and names.
-fn typed_form(alloc: Global, expansion: &Expansion<'_>) -> Result<TypedOrc, Or<Refusal>>
-    requires ready { IsReady expansion.now }
-    requires distinct { let t = expanded_orchestra (tree.orchestra expansion.now.orc.now) in
-        IsDistinct eqb (all_numbers (typed_of t).instrs) }
-    ensures typed { let t = expanded_orchestra (tree.orchestra expansion.now.orc.now) in
-        IfOk result (λ o. typed_form t ≡ Ok (typed.orchestra o)) }
-    ensures rated { IfOk result (λ o. IsWellRated (typed.orchestra o)) }
-    ensures distinct { IfOk result (λ o. IsDistinct eqb (all_numbers (typed.orchestra o).instrs)) }
-    ensures named { IfOk result (λ o. NamesWhatThereIs (typed.orchestra o)) }
-    ensures refused { let t = expanded_orchestra (tree.orchestra expansion.now.orc.now) in
-        (r : Refusal) → result ≡ Err (or.Fault r) → typed_form t ≡ Err r }
-{
     typing_is_well_rated();
     typed_trees_name_what_there_is();
-    let typed = type_orc(alloc, expansion)?;
+    let expansion = Expansion::new(alloc, &orc)?;
+    let typed = type_orc(alloc, &expansion)?;
     Ok(typed)
 }

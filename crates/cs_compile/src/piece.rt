@@ -1,13 +1,11 @@
 // What two texts mean together.
-ghost use Rattle.std.specs.Prelude.{◌≡◌, ◌≤◌, ◌*◌, length, eqb, false, true, Ok, Err, IfOk};
+ghost use Rattle.std.specs.Prelude.{◌≡◌, ◌≤◌, ◌*◌, length, eqb, Ok, Err, IfOk};
 ghost use Rattle.std.specs.List.{IsDistinct};
-ghost use Rattle.cs_base.specs.Faults.{passed};
 ghost use Rattle.cs_base.specs.Limits.{most_orchestra_bytes, most_score_bytes, most_wav_bytes};
 ghost use Rattle.cs_base.specs.declared.fault.Or.TheVariants as or;
-ghost use Rattle.cs_base.specs.declared.limit.Limit.TheVariants as limit;
 ghost use Rattle.cs_base.specs.declared.refusal.Refusal.{Refusal};
 ghost use Rattle.cs_code.specs.Lowered.{all_numbers};
-ghost use Rattle.cs_compile.specs.Meaning.{IsPlayedAs, is_too_long, means, piece_of, short_texts_mean};
+ghost use Rattle.cs_compile.specs.Meaning.{is_too_long, means, piece_of, short_texts_mean};
 ghost use Rattle.cs_name_laws.specs.Names.{NamesWhatThereIs};
 ghost use Rattle.cs_piece.specs.Setups.{AreOfOneSize, AskForFew, composition_of};
 ghost use Rattle.cs_tempo.specs.Performable.{IsPerformable};
@@ -65,30 +63,8 @@ fn compile_short(
         → short_texts_mean width orchestra.now score.now (Err r) }
 {
     let typed = read_orchestra(alloc, orchestra)?;
-    with_score(alloc, typed, score, width)
-}
-
-// The same of an orchestra that was read.
-fn with_score(
-    alloc: Global,
-    orchestra: TypedOrc,
-    score: &Excerpt,
-    width: SampleWidth,
-) -> Result<Setup, Or<Refusal>>
-    requires rated { IsWellRated (typed.orchestra orchestra) }
-    requires distinct { IsDistinct eqb (all_numbers (typed.orchestra orchestra).instrs) }
-    requires named { NamesWhatThereIs (typed.orchestra orchestra) }
-    requires asks { AskForFew (typed.orchestra orchestra) }
-    requires score { length score.now.bytes ≤ most_score_bytes }
-    ensures accepted { IfOk result (λ s. IsPlayedAs width score.now (typed.orchestra orchestra) orchestra.head
-        (Ok (composition_of s))) }
-    ensures fits { IfOk result (λ s. size_of width
-        (s.plot.cycles * s.orchestra.head.ksmps) s.orchestra.head ≤ most_wav_bytes) }
-    ensures refused { (r : Refusal) → result ≡ Err (or.Fault r)
-        → IsPlayedAs width score.now (typed.orchestra orchestra) orchestra.head (Err r) }
-{
-    let plot = read_plot(alloc, score, &orchestra.head)?;
-    prepared(alloc, orchestra, plot, width)
+    let plot = read_plot(alloc, score, &typed.head)?;
+    prepared(alloc, typed, plot, width)
 }
 
 // What an orchestra and a plot need to be performed, or the refusal of the first limit that they pass together.
@@ -113,18 +89,10 @@ fn prepared(
 {
     let too_long = is_too_long(width, &orchestra.head, plot.cycles);
     let setup = Setup::new(alloc, orchestra, plot)?;
-    unless_long(setup, too_long)
-}
-
-// A value whose samples fit a sound file; else the refusal.
-fn unless_long<T: Drop>(value: T, too_long: bool) -> Result<T, Or<Refusal>>
-    ensures value { IfOk result (λ v. (v ≡ value) × (too_long ≡ false)) }
-    ensures refused { (r : Refusal) → result ≡ Err (or.Fault r) → (r ≡ passed limit.WavBytes) × (too_long ≡ true) }
-{
     if too_long {
         return Err(Or::Fault(Refusal::passed(Limit::WavBytes)));
     }
-    Ok(value)
+    Ok(setup)
 }
 
 // Whether the samples of a piece have more bytes than a sound file may have.

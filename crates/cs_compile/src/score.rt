@@ -1,15 +1,14 @@
 // What a score's text means in a piece: its plot.
-ghost use Rattle.std.specs.Prelude.{◌≡◌, ◌≤◌, length, All, Ok, Err, None, IfOk};
+ghost use Rattle.std.specs.Prelude.{◌≡◌, ◌≤◌, length, Ok, Err, IfOk};
 ghost use Rattle.cs_base.specs.Limits.{most_score_bytes};
 ghost use Rattle.cs_base.specs.declared.fault.Or.TheVariants as or;
 ghost use Rattle.cs_base.specs.declared.refusal.Refusal.{Refusal};
-ghost use Rattle.cs_compile.specs.Meaning.{plotted, score_means};
-ghost use Rattle.cs_score.specs.{Limits.limit_of_score, Ranges.IsInRange};
+ghost use Rattle.cs_compile.specs.Meaning.{score_means};
 ghost use Rattle.cs_piece.specs.Setups.{AreOfOneSize};
 ghost use Rattle.cs_tempo.specs.Performable.{IsPerformable};
 
 use cs_base::{Excerpt, Head, Or, Refusal};
-use cs_score::{ScoreStmts, read_score, tables_keep_one_size};
+use cs_score::{read_score, tables_keep_one_size};
 use cs_tempo::{Plot, schedule};
 use std::alloc::Global;
 
@@ -23,17 +22,6 @@ pub fn read_plot(alloc: Global, text: &Excerpt, head: &Head) -> Result<Plot, Or<
 {
     tables_keep_one_size();
     let statements = read_score(alloc, text)?;
-    plotted(alloc, &statements, head)
-}
-
-// The plot of statements, or the refusal of the first limit that they pass.
-fn plotted(alloc: Global, score: &ScoreStmts, head: &Head) -> Result<Plot, Or<Refusal>>
-    requires range { All IsInRange score.now }
-    requires read { limit_of_score score.now ≡ None }
-    ensures plot { IfOk result (λ plot. plotted head.now score.now ≡ Ok plot) }
-    ensures performable { IfOk result (IsPerformable head.now) }
-    ensures refused { (r : Refusal) → result ≡ Err (or.Fault r) → plotted head.now score.now ≡ Err r }
-{
-    let plot = schedule(alloc, score, head)?;
+    let plot = schedule(alloc, &statements, head)?;
     Ok(plot)
 }

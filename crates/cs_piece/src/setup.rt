@@ -52,31 +52,11 @@ impl Model for Setup {
 
     ghost coded = { Prim.hlevel (codes, e.the_row.coded) };
 
-    ghost view = { λ s. record {
-      head = s.head;
-      spaces = s.spaces;
-      orchestra = s.orchestra.orchestra;
-      plot = s.plot;
-      tables = s.tables.items;
-      layout = s.layout;
-      lowered = s.lowered;
-      zones = s.zoned.zones;
-      zero_foot = s.zoned.outside;
-      feet = s.zoned.feet.items;
-    } };
+    ghost use Rattle.cs_piece.specs.inner.Data.{data_of};
 
-    ghost invariant = { λ s. IsSetup (record {
-      head = s.head;
-      spaces = s.spaces;
-      orchestra = s.orchestra.orchestra;
-      plot = s.plot;
-      tables = s.tables.items;
-      layout = s.layout;
-      lowered = s.lowered;
-      zones = s.zoned.zones;
-      zero_foot = s.zoned.outside;
-      feet = s.zoned.feet.items;
-    }) };
+    ghost view = { data_of };
+
+    ghost invariant = { λ s. IsSetup (data_of s) };
 }
 
 impl Setup {

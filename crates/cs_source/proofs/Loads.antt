@@ -1,17 +1,20 @@
 -- What was read of a source, and what is left.
 use Rattle.std.proofs.Common.{◌≡◌, ◌≤◌, ◌<◌, ◌⊎◌, ◌+◌, ℕ, Bool, true, false, List, [], length, take, drop, Option, None}
-use Rattle.std.proofs.Common.{Some, refl, ap, sym, subst, ◌∙◌, inl, inr, ⊎_elim, if◌then◌else◌, arith}
+use Rattle.std.proofs.Common.{Some, Result, Ok, Err, IfErr, refl, ap, sym, subst, ◌∙◌, inl, inr, ⊎_elim, arith}
+use Rattle.std.proofs.Common.{if◌then◌else◌}
 use Rattle.std.proofs.lemmas.{Bool.Decides.nat_tests, List.take_all, List.length-take}
-use Rattle.std.specs.Global.{Vec}
+use Rattle.std.specs.{Global.Vec, Result.IsErrAnd}
+use Rattle.cs_base.specs.declared.fault.Or.{Or}
 use Rattle.cs_base.specs.Limits.{most_orchestra_bytes, most_score_bytes}
 use Rattle.cs_edge.specs.{Files.Lacks, Files.ShelfTold, Files.file_named, Moves.Grown, Moves.IsRun, Told.Follows}
 use Rattle.cs_edge.specs.{Told.Rose, declared.files.NamedBytes.NamedBytes, declared.moves.Move.TheVariants.Read}
 use Rattle.cs_arguments.specs.Reading.{AskedPiece, one_file, two_files, demo}
 use Rattle.cs_source.specs.Loaded.{CannotRead, IsLeftWhereTold, LeavesUnread, WasRead, is_there_too_long}
 use Rattle.cs_source.specs.{Loaded.is_told_too_long, declared.source.SourceText.SourceText, inner.Read.AreRead}
-use Rattle.cs_source.specs.{inner.Read.IsReadOf, inner.Reading.IsTextOf, inner.Reading.LeavesRest}
+use Rattle.cs_source.specs.{inner.Read.IfFault, inner.Read.IsReadOf, inner.Reading.IsTextOf, inner.Reading.LeavesRest}
 use Rattle.cs_source.specs.Texts.{both, csd, demo_notes, HaveWhereTold, IsScoreBehind, LackWhereTold, is_too_long}
 use Rattle.cs_source.proofs.Moves.{both_read, last_begun}
+use Rattle.cs_base.specs.declared.fault.Or.TheVariants as or
 use Rattle.cs_source.specs.declared.source.SourceText.TheVariants as read
 
 -- THE WHOLE TEXT behind what was read: that of the file where files are told
@@ -209,6 +212,17 @@ file_unread a b name moves cause = record {
   last = last_begun name a.moves b.moves moves;
   cause = ⊎_elim (λ r. inl r) (λ l. inr (lacks_file a.files name l)) cause;
 }
+
+pub unread_as : (a b : ShelfTold) (piece : AskedPiece) (n name : List ℕ) → n ≡ name → CannotRead a b piece name
+    → CannotRead a b piece n
+unread_as a b piece n name e h = subst (CannotRead a b piece) (sym e) h
+
+-- what holds of the fault of a `?` holds of its way out
+pub fault_left : {B F : Type 0} (P : F → Type 0) (r : Result B (Or F)) (e : Or F) → IsErrAnd r (λ y. y ≡ e)
+    → ((f : F) → e ≡ or.Fault f → P f) → IfErr r (λ x. IfFault x P)
+fault_left P (Ok b) e i h = tt
+fault_left P (Err (or.Fault f)) e i h = h f (sym i)
+fault_left P (Err or.OutOfMemory) e i h = tt
 
 -- BOTH FILES were begun
 

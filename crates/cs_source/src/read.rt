@@ -1,73 +1,53 @@
 // A text of a shelf, read to its end or as far as it may be read.
-ghost use Rattle.std.specs.Prelude.{◌≡◌, ◌≤◌, ◌<◌, ◌⊎◌, [], length, IfOk, OnOk, IsErrOf};
+ghost use Rattle.std.specs.Prelude.{◌≡◌, ◌≤◌, ◌<◌, ◌⊎◌, [], length, Err, IfOk, OnOk, IsErrOf};
+ghost use Rattle.cs_base.specs.declared.fault.Or.TheVariants as or;
 ghost use Rattle.cs_edge.specs.{declared.moves.Move.TheVariants.Read, Told.Follows, Told.Rose, Files.Lacks};
 ghost use Rattle.cs_edge.specs.Moves.{Grown, GrownBy, AreAll, IsRun};
 ghost use Rattle.cs_source.specs.inner.Reading.{IsFrontOf, IsTextOf, LeavesRest, ReadOnce};
 
-use cs_edge::Shelf;
+use cs_base::Or;
+use cs_edge::{Failed, Shelf};
 use std::alloc::Global;
 
-/// Why a text wasn't read.
-#[derive(Clone, Copy)]
-pub enum ReadFault {
-    /// The shelf failed, or lacks the name.
-    Shelf,
-    OutOfMemory,
-}
-
-/// The first bytes of the file of that name, `most` at most.
-pub fn read_text<F: Shelf>(
+/// The first bytes of the file of that name, `most` at most; or the name, where the shelf failed or lacks it.
+pub fn read_text<'a, F: Shelf>(
     alloc: Global,
     shelf: &mut F,
-    name: &str,
+    name: &'a str,
     most: usize,
-) -> Result<Vec<u8>, ReadFault>
+) -> Result<Vec<u8>, Or<&'a str>>
     ensures text { IfOk result (λ text. IsTextOf most (F.tells shelf.old).files name.now text.items) }
     ensures most { IfOk result (λ text. length text.items ≤ most) }
     // No more was read.
     ensures rest { IfOk result (λ _. LeavesRest most (F.tells shelf.old).files name.now (F.tells shelf.new).left) }
-    ensures fault { IsErrOf result ReadFault.Shelf
-        → Rose (F.tells shelf.old).faults (F.tells shelf.new).faults
-        ⊎ Lacks (F.tells shelf.old).files name.now }
+    ensures fault { (unread : _) → result ≡ Err (or.Fault unread) → (unread.now ≡ name.now)
+        × (Rose (F.tells shelf.old).faults (F.tells shelf.new).faults ⊎ Lacks (F.tells shelf.old).files name.now) }
     ensures later { (F.tells shelf.old).faults ≤ (F.tells shelf.new).faults }
     ensures calm { OnOk result ((F.tells shelf.new).faults ≡ (F.tells shelf.old).faults) }
-    ensures starved { IsErrOf result ReadFault.OutOfMemory → (F.tells shelf.new).faults ≡ (F.tells shelf.old).faults }
+    ensures starved { IsErrOf result or.OutOfMemory → (F.tells shelf.new).faults ≡ (F.tells shelf.old).faults }
     ensures moves { Follows (F.tells shelf.old).moves (F.tells shelf.new).moves (Grown (IsRun name.now Read)) }
     ensures files { (F.tells shelf.new).files ≡ (F.tells shelf.old).files }
 {
-    match shelf.begin(name) {
-        Ok(true) => read_begun(alloc, shelf, most),
-        _ => Err(ReadFault::Shelf),
-    }
-}
-
-/// The first bytes of what is left of the file begun, `most` at most.
-fn read_begun<F: Shelf>(alloc: Global, shelf: &mut F, most: usize) -> Result<Vec<u8>, ReadFault>
-    ensures text { IfOk result (λ text. IsFrontOf most (F.tells shelf.old).left text.items (F.tells shelf.new).left) }
-    ensures most { IfOk result (λ text. length text.items ≤ most) }
-    ensures fault { IsErrOf result ReadFault.Shelf → Rose (F.tells shelf.old).faults (F.tells shelf.new).faults }
-    ensures later { (F.tells shelf.old).faults ≤ (F.tells shelf.new).faults }
-    ensures calm { OnOk result ((F.tells shelf.new).faults ≡ (F.tells shelf.old).faults) }
-    ensures starved { IsErrOf result ReadFault.OutOfMemory → (F.tells shelf.new).faults ≡ (F.tells shelf.old).faults }
-    ensures moves { Follows (F.tells shelf.old).moves (F.tells shelf.new).moves (Grown (AreAll Read)) }
-    ensures files { (F.tells shelf.new).files ≡ (F.tells shelf.old).files }
-{
+    let Ok(true) = shelf.begin(name) else {
+        return Err(Or::Fault(name));
+    };
     let mut text = Vec::new(alloc);
     match fill(shelf, &mut text, most) {
         Ok(()) => Ok(text),
-        Err(fault) => Err(fault),
+        Err(Or::Fault(Failed)) => Err(Or::Fault(name)),
+        Err(Or::OutOfMemory) => Err(Or::OutOfMemory),
     }
 }
 
 /// Reads until the text is so long, or nothing is left.
-fn fill<F: Shelf>(shelf: &mut F, text: &mut Vec<u8>, most: usize) -> Result<(), ReadFault>
+fn fill<F: Shelf>(shelf: &mut F, text: &mut Vec<u8>, most: usize) -> Result<(), Or<Failed>>
     requires { text.old.items ≡ [] }
     ensures front { OnOk result (IsFrontOf most (F.tells shelf.old).left text.new.items (F.tells shelf.new).left) }
     ensures most { OnOk result (length text.new.items ≤ most) }
-    ensures fault { IsErrOf result ReadFault.Shelf → Rose (F.tells shelf.old).faults (F.tells shelf.new).faults }
+    ensures fault { (f : _) → result ≡ Err (or.Fault f) → Rose (F.tells shelf.old).faults (F.tells shelf.new).faults }
     ensures later { (F.tells shelf.old).faults ≤ (F.tells shelf.new).faults }
     ensures calm { OnOk result ((F.tells shelf.new).faults ≡ (F.tells shelf.old).faults) }
-    ensures starved { IsErrOf result ReadFault.OutOfMemory → (F.tells shelf.new).faults ≡ (F.tells shelf.old).faults }
+    ensures starved { IsErrOf result or.OutOfMemory → (F.tells shelf.new).faults ≡ (F.tells shelf.old).faults }
     ensures moves { Follows (F.tells shelf.old).moves (F.tells shelf.new).moves (Grown (AreAll Read)) }
     ensures files { (F.tells shelf.new).files ≡ (F.tells shelf.old).files }
 {
@@ -86,23 +66,22 @@ fn fill<F: Shelf>(shelf: &mut F, text: &mut Vec<u8>, most: usize) -> Result<(), 
 const BLOCK: usize = 4_096;
 
 /// One read: adds what it gives behind the text, `most` bytes at most, and returns whether it gave any.
-fn read_block<F: Shelf>(shelf: &mut F, text: &mut Vec<u8>, most: usize) -> Result<bool, ReadFault>
+fn read_block<F: Shelf>(shelf: &mut F, text: &mut Vec<u8>, most: usize) -> Result<bool, Or<Failed>>
     requires { 0 < most }
     ensures read { IfOk result (λ more. ReadOnce (F.tells shelf.old)
         (F.tells shelf.new) most text.old.items text.new.items more) }
-    ensures fault { IsErrOf result ReadFault.Shelf → Rose (F.tells shelf.old).faults (F.tells shelf.new).faults }
+    ensures fault { (f : _) → result ≡ Err (or.Fault f) → Rose (F.tells shelf.old).faults (F.tells shelf.new).faults }
     ensures later { (F.tells shelf.old).faults ≤ (F.tells shelf.new).faults }
     ensures calm { OnOk result ((F.tells shelf.new).faults ≡ (F.tells shelf.old).faults) }
-    ensures starved { IsErrOf result ReadFault.OutOfMemory → (F.tells shelf.new).faults ≡ (F.tells shelf.old).faults }
+    ensures starved { IsErrOf result or.OutOfMemory → (F.tells shelf.new).faults ≡ (F.tells shelf.old).faults }
     ensures moves { Follows (F.tells shelf.old).moves (F.tells shelf.new).moves (GrownBy Read) }
     ensures files { (F.tells shelf.new).files ≡ (F.tells shelf.old).files }
 {
     let mut block = [0u8; BLOCK];
-    let Ok(count) = shelf.read(&mut block[..most.min(BLOCK)]) else {
-        return Err(ReadFault::Shelf);
+    let count = match shelf.read(&mut block[..most.min(BLOCK)]) {
+        Ok(count) => count,
+        Err(failed) => return Err(Or::Fault(failed)),
     };
-    if text.extend_from_slice(&block[..count]).is_err() {
-        return Err(ReadFault::OutOfMemory);
-    }
+    text.extend_from_slice(&block[..count])?;
     Ok(count > 0)
 }

@@ -1,11 +1,11 @@
 // The texts of a source, as far as they are read.
 ghost use Rattle.std.specs.Prelude.{◌≡◌, IfErr, IfOk, IsErrOf, OnOk};
-ghost use Rattle.cs_arguments.specs.{Orders.piece_in, Reading.one_file, Reading.two_files};
+ghost use Rattle.cs_arguments.specs.{Orders.piece_in, Reading.two_files};
 ghost use Rattle.cs_base.specs.declared.fault.Or.TheVariants as or;
 ghost use Rattle.cs_source.specs.{Loaded.CannotRead, Loaded.LeavesUnread, Loaded.WasRead, Texts.demo_notes};
 ghost use Rattle.cs_source.specs.inner.Read.{AreRead, IfFault, IsReadOf};
 
-use crate::read::{ReadFault, read_text};
+use crate::read::read_text;
 use crate::{demo_orchestra, demo_score};
 use cs_arguments::Source;
 use cs_base::{MOST_CSD_BYTES, MOST_ORCHESTRA_BYTES, MOST_SCORE_BYTES, Or};
@@ -38,7 +38,10 @@ pub fn read_source<'a, F: Shelf>(
 {
     match *source {
         Source::TwoFiles { orchestra, score } => read_files(alloc, shelf, orchestra, score),
-        Source::OneFile { csd } => read_file(alloc, shelf, csd),
+        Source::OneFile { csd } => {
+            let text = read_text(alloc, shelf, csd, MOST_CSD_BYTES + 1)?;
+            Ok(SourceText::Csd { text })
+        }
         Source::Demo { notes } => match demo_texts(alloc, notes.number()) {
             Ok(text) => Ok(text),
             Err(_) => Err(Or::OutOfMemory),
@@ -62,42 +65,13 @@ fn read_files<'a, F: Shelf>(
     ensures starved { IsErrOf result or.OutOfMemory → (F.tells shelf.new).faults ≡ (F.tells shelf.old).faults }
     ensures files { (F.tells shelf.new).files ≡ (F.tells shelf.old).files }
 {
-    let orchestra = match read_text(alloc, shelf, orc, MOST_ORCHESTRA_BYTES + 1) {
-        Ok(text) => text,
-        Err(ReadFault::Shelf) => return Err(Or::Fault(orc)),
-        Err(ReadFault::OutOfMemory) => return Err(Or::OutOfMemory),
-    };
+    let orchestra = read_text(alloc, shelf, orc, MOST_ORCHESTRA_BYTES + 1)?;
     if orchestra.len() > MOST_ORCHESTRA_BYTES {
         let score = Vec::new(alloc);
         return Ok(SourceText::Pair { orchestra, score });
     }
-    match read_text(alloc, shelf, sco, MOST_SCORE_BYTES + 1) {
-        Ok(score) => Ok(SourceText::Pair { orchestra, score }),
-        Err(ReadFault::Shelf) => Err(Or::Fault(sco)),
-        Err(ReadFault::OutOfMemory) => Err(Or::OutOfMemory),
-    }
-}
-
-// Reads one file with both.
-fn read_file<'a, F: Shelf>(
-    alloc: Global,
-    shelf: &mut F,
-    csd: &'a str,
-) -> Result<SourceText, Or<&'a str>>
-    ensures read { IfOk result (λ text. AreRead (F.tells shelf.old).files (one_file csd.now) text) }
-    ensures rest { OnOk result (LeavesUnread (F.tells shelf.old) (F.tells shelf.new) (one_file csd.now)) }
-    ensures unread { IfErr result (λ e. IfFault e (λ name. CannotRead (F.tells shelf.old) (F.tells shelf.new)
-        (one_file csd.now) name.now)) }
-    ensures shelf { WasRead (F.tells shelf.old) (F.tells shelf.new) (one_file csd.now) }
-    ensures calm { OnOk result ((F.tells shelf.new).faults ≡ (F.tells shelf.old).faults) }
-    ensures starved { IsErrOf result or.OutOfMemory → (F.tells shelf.new).faults ≡ (F.tells shelf.old).faults }
-    ensures files { (F.tells shelf.new).files ≡ (F.tells shelf.old).files }
-{
-    match read_text(alloc, shelf, csd, MOST_CSD_BYTES + 1) {
-        Ok(text) => Ok(SourceText::Csd { text }),
-        Err(ReadFault::Shelf) => Err(Or::Fault(csd)),
-        Err(ReadFault::OutOfMemory) => Err(Or::OutOfMemory),
-    }
+    let score = read_text(alloc, shelf, sco, MOST_SCORE_BYTES + 1)?;
+    Ok(SourceText::Pair { orchestra, score })
 }
 
 // The texts of the demo.

@@ -4,12 +4,15 @@ use Rattle.cs_command.proofs.Getters.{in_range, notes_counted, number_given}
 use Rattle.cs_command.proofs.given.notes_of.Goals as goal
 
 pub new-requires : goal.new-requires
-new-requires c = in_range 10000 (codes "demo") notes_counted c.requires.0 c.args.matches.now c.requires.1
-    c.in-Some.number
-    (sym c.in-Some.is ∙ number_given _
-    (λ bs r. ParsesUnsigned 32 10 bs r × ExplainsUnsignedError 10 bs r × HasUnsignedDigitsIfOk bs r) 10000
-    (codes "demo") notes_counted (omega arith) (λ u x g. g.0)
-    c.args.matches.now c.requires.0 c.requires.1 c.get_one.result c.get_one.ensures.none c.get_one.ensures.value)
+new-requires c = (
+  omega arith,
+  in_range 10000 (codes "demo") notes_counted c.requires.0 c.args.matches.now c.requires.1
+      c.in-Some.number
+      (sym c.in-Some.is ∙ number_given _
+      (λ bs r. ParsesUnsigned 32 10 bs r × ExplainsUnsignedError 10 bs r × HasUnsignedDigitsIfOk bs r) 10000
+      (codes "demo") notes_counted (omega arith) (λ u x g. g.0)
+      c.args.matches.now c.requires.0 c.requires.1 c.get_one.result c.get_one.ensures.none c.get_one.ensures.value),
+)
 
 pub returns-in-Some : goal.returns-in-Some
 returns-in-Some c = λ uses h. ap Some c.new.ensures
