@@ -57,3 +57,10 @@ pub no_lines : (lines : TurnLines) (c : Composition) (start : List ℕ)
     → start ≡ start ++ if_told lines (turn_lines_before c 0)
 no_lines Told c start = sym (append-nil start)
 no_lines Untold c start = sym (append-nil start)
+
+pub when_told : (lines : TurnLines) (before now line : List ℕ) → lines ≡ Told → now ≡ before ++ line
+    → now ≡ before ++ if_told lines line
+when_told lines before now line is e = rw (is) e
+
+pub when_untold : (lines : TurnLines) (before line : List ℕ) → lines ≡ Untold → before ≡ before ++ if_told lines line
+when_untold lines before line is = rw (is) (sym (append-nil before))

@@ -1,10 +1,10 @@
 // A performance by a crew, whose helpers are threads of a scope that lasts for the performance.
 ghost use Rattle.std.specs.Prelude.{◌≡◌};
 ghost use Rattle.cs_perform.specs.Performances.{PerformsPiece, lent, lent_sight, request_of};
-ghost use Rattle.cs_perform.specs.{inner.Crews.HasPlace, inner.Stands.MayGoOn};
+ghost use Rattle.cs_perform.specs.inner.Stands.{MayGoOn};
 
 use crate::counter::Counter;
-use crate::loan::{Loan, take_back};
+use crate::loan::Loan;
 use crate::order::{Outcome, Performance, PlayFault};
 use crate::performance::go_on;
 use crate::sounder::Ensemble;
@@ -13,44 +13,17 @@ use cs_edge::{Gate, OpenGate, Sink, Tap};
 use cs_pool::{Crew, Pool};
 use std::sync::Wait;
 use std::thread;
-use std::thread::{Scope, Threads};
+use std::thread::Threads;
 
 /// The gate that the crew calls before each row of notes, which itself calls the caller's gate before each note.
 static OPEN: OpenGate = OpenGate {};
 
-/// The performance by a crew, to which sink, taps and tally are lent.
-pub(crate) fn play_by_crew<'a, 'e, K: Sink, C: Counter, R: Threads + Wait + Sync, G: Gate + Sync>(
+/// The performance from its start on, by a crew whose helpers are threads of a scope of its own, and have ended when it
+/// returns. What is lent comes back.
+pub(crate) fn play_in_scope<'a, K: Sink, C: Counter, R: Threads + Wait + Sync, G: Gate + Sync>(
     performance: &Performance<'_>,
-    crew: &Crew<'e, R, G>,
-    wav: &'a mut K,
-    taps: &'a mut Vec<Box<dyn Tap>>,
-    tally: &'a mut C,
-) -> Result<Outcome, PlayFault>
-    requires { HasPlace performance.now.setup.now performance.now.order (C.room tally.old) }
-    ensures { PerformsPiece (lent_sight (λ t h. stands_for t h) K.tells C.has_counted)
-        (request_of performance.now) (lent wav.old taps.old.items tally.old) (lent wav.new taps.new.items tally.new)
-        result }
-{
-    let Ok(start) = PerformanceStart::new(
-        performance.alloc,
-        performance.setup,
-        performance.order,
-        crew.gate,
-    ) else {
-        return Err(PlayFault::OutOfMemory);
-    };
-    let loan = Loan { wav, taps, tally };
-    let (played, loan) = play_in_scope(performance, start, crew, loan);
-    let Loan { wav, taps, tally } = loan;
-    take_back(wav, taps, tally);
-    played
-}
-
-/// By a crew in a scope of its own.
-fn play_in_scope<'a, 'e, 't, K: Sink, C: Counter, R: Threads + Wait + Sync, G: Gate + Sync>(
-    performance: &Performance<'_>,
-    start: PerformanceStart<'t, G>,
-    crew: &Crew<'e, R, G>,
+    start: PerformanceStart<'_, G>,
+    crew: &Crew<'_, R, G>,
     loan: Loan<'a, K, C>,
 ) -> (Result<Outcome, PlayFault>, Loan<'a, K, C>)
     requires { MayGoOn performance.now.setup.now performance.now.order (C.room loan.tally.now) start }
@@ -73,34 +46,18 @@ fn play_in_scope<'a, 'e, 't, K: Sink, C: Counter, R: Threads + Wait + Sync, G: G
                 (request_of performance.entry.now)
                 (lent loan.entry.wav.now loan.entry.taps.now.items loan.entry.tally.now)
                 (lent result.1.wav.now result.1.taps.now.items result.1.tally.now) result.0 }
-        { play_loan(scope, performance, start, crew, loan) },
+        {
+            // Both are captured whole, as the clauses name them.
+            let (start, mut loan) = (start, loan);
+            let mut pool = Pool::new(crew.rt, scope, performance.alloc, crew.workers, &OPEN);
+            let PerformanceStart { stand, recording } = start;
+            let ensemble = Ensemble {
+                pool: &mut pool,
+                stand: Some(stand),
+            };
+            let played = go_on(performance, ensemble, recording, &mut loan);
+            pool.close();
+            (played, loan)
+        },
     )
-}
-
-/// By a crew whose helpers are threads of this scope and have ended when it returns.
-fn play_loan<'a, 's, 'e, 't: 's, K: Sink, C: Counter, R: Threads + Wait + Sync, G: Gate + Sync>(
-    scope: &'s Scope<'s, &'e ()>,
-    performance: &Performance<'_>,
-    start: PerformanceStart<'t, G>,
-    crew: &Crew<'e, R, G>,
-    loan: Loan<'a, K, C>,
-) -> (Result<Outcome, PlayFault>, Loan<'a, K, C>)
-    requires { MayGoOn performance.now.setup.now performance.now.order (C.room loan.tally.now) start }
-    ensures same { (result.1.wav.ghost_name ≡ loan.entry.wav.ghost_name)
-        × (result.1.taps.ghost_name ≡ loan.entry.taps.ghost_name)
-        × (result.1.tally.ghost_name ≡ loan.entry.tally.ghost_name) }
-    ensures performed { PerformsPiece (lent_sight (λ t h. stands_for t h) K.tells C.has_counted)
-        (request_of performance.now) (lent loan.entry.wav.now loan.entry.taps.now.items loan.entry.tally.now)
-        (lent result.1.wav.now result.1.taps.now.items result.1.tally.now) result.0 }
-{
-    let mut loan = loan;
-    let mut pool = Pool::new(crew.rt, scope, performance.alloc, crew.workers, &OPEN);
-    let PerformanceStart { stand, recording } = start;
-    let ensemble = Ensemble {
-        pool: &mut pool,
-        stand: Some(stand),
-    };
-    let played = go_on(performance, ensemble, recording, &mut loan);
-    pool.close();
-    (played, loan)
 }

@@ -14,7 +14,7 @@ ghost use Rattle.cs_wav.specs.Wav.{is_out_of_range, samples_of};
 
 use crate::counter::Counter;
 use crate::loan::Loan;
-use crate::order::{Performance, PerformanceOrder, PlayFault};
+use crate::order::{Performance, PerformanceOrder, PlayFault, TurnLines};
 use crate::recording::Recording;
 use crate::sounder::Sounder;
 use crate::stand::Stand;
@@ -94,7 +94,10 @@ pub(crate) fn prepare<G: Gate>(
         (line_of cycle (turns_in c (begins c cycle m).active))) }
 {
     stand.begin(performance.alloc, cycle)?;
-    tell_turns(performance, cycle, stand, turns)
+    match performance.order.turns {
+        TurnLines::Told => tell_turns(performance.alloc, performance.setup, cycle, stand, turns),
+        TurnLines::Untold => Ok(()),
+    }
 }
 
 /// The mix of a cycle is told to the taps, and its samples are written. Returns how many of them had to be brought

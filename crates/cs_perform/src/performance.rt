@@ -10,7 +10,7 @@ ghost use Rattle.cs_perform.specs.inner.Ends.{AreStartsOf, Breaks, Closes};
 ghost use Rattle.cs_perform.specs.inner.Plays.{BrokeOn, PausedOn, PlayedOn};
 ghost use Rattle.cs_piece.specs.Setups.{composition_of};
 
-use crate::by_crew::play_by_crew;
+use crate::by_crew::play_in_scope;
 use crate::counter::Counter;
 use crate::cycle::play_cycle;
 use crate::loan::{Loan, take_back};
@@ -48,27 +48,13 @@ pub fn perform<K: Sink, C: Counter, R: Threads + Wait + Sync, G: Gate + Sync>(
         (request_of performance.now) (lent wav.old taps.old.items tally.old) (lent wav.new taps.new.items tally.new)
         result }
 {
-    play_by_crew(performance, crew, wav, taps, tally)
-}
-
-/// Performs a piece as `perform` does, by a crew that was asked to stay for the whole performance. Each crew stays, so
-/// the two differ in name alone.
-pub fn perform_pool<K: Sink, C: Counter, R: Threads + Wait + Sync, G: Gate + Sync>(
-    performance: &Performance<'_>,
-    crew: &Crew<'_, R, G>,
-    wav: &mut K,
-    taps: &mut Vec<Box<dyn Tap>>,
-    tally: &mut C,
-) -> Result<Outcome, PlayFault>
-    requires room { 2 ^ 42 ≤ C.room tally.old }
-    requires bytes { let s = performance.now.setup.now in
-        s.plot.cycles * s.orchestra.head.ksmps * s.orchestra.head.nchnls
-        * bytes_of performance.now.order.width ≤ most_wav_bytes }
-    ensures { PerformsPiece (lent_sight (λ t h. stands_for t h) K.tells C.has_counted)
-        (request_of performance.now) (lent wav.old taps.old.items tally.old) (lent wav.new taps.new.items tally.new)
-        result }
-{
-    perform(performance, crew, wav, taps, tally)
+    let Ok(start) = PerformanceStart::new(performance, crew.gate) else {
+        return Err(PlayFault::OutOfMemory);
+    };
+    let (played, loan) = play_in_scope(performance, start, crew, Loan { wav, taps, tally });
+    let Loan { wav, taps, tally } = loan;
+    take_back(wav, taps, tally);
+    played
 }
 
 /// Performs a piece as `perform` does, by the caller alone: no thread is started and nobody is waited for, so it
@@ -88,12 +74,7 @@ pub fn perform_alone<K: Sink, C: Counter, G: Gate>(
         (request_of performance.now) (lent wav.old taps.old.items tally.old) (lent wav.new taps.new.items tally.new)
         result }
 {
-    let Ok(start) = PerformanceStart::new(
-        performance.alloc,
-        performance.setup,
-        performance.order,
-        gate,
-    ) else {
+    let Ok(start) = PerformanceStart::new(performance, gate) else {
         return Err(PlayFault::OutOfMemory);
     };
     let PerformanceStart { stand, recording } = start;

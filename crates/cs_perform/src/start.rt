@@ -2,13 +2,11 @@
 ghost use Rattle.std.specs.Prelude.{IfOk};
 ghost use Rattle.cs_perform.specs.inner.Stands.{IsStart};
 
-use crate::order::PerformanceOrder;
+use crate::order::Performance;
 use crate::recording::Recording;
 use crate::stand::Stand;
 use cs_base::OutOfMemory;
 use cs_edge::Gate;
-use cs_piece::Setup;
-use std::alloc::Global;
 
 /// All that is made before the sink is begun: what is kept from cycle to cycle, at the opening, and a recording of no
 /// cycle.
@@ -19,18 +17,17 @@ pub(crate) struct PerformanceStart<'t, G: Gate> {
 }
 
 impl<'t, G: Gate> PerformanceStart<'t, G> {
-    /// The start of a piece.
+    /// The start of a performance.
     pub fn new(
-        alloc: Global,
-        setup: &'t Setup,
-        order: PerformanceOrder,
+        performance: &Performance<'t>,
         gate: &'t G,
     ) -> Result<PerformanceStart<'t, G>, OutOfMemory>
-        ensures { IfOk result (IsStart setup.now order) }
+        ensures { IfOk result (IsStart performance.now.setup.now performance.now.order) }
     {
-        let head = setup.head();
-        let recording = Recording::new(alloc, head, order.width)?;
-        let stand = Stand::new(alloc, setup, gate)?;
+        let alloc = performance.alloc;
+        let head = performance.setup.head();
+        let recording = Recording::new(alloc, head, performance.order.width)?;
+        let stand = Stand::new(alloc, performance.setup, gate)?;
         Ok(PerformanceStart { stand, recording })
     }
 }

@@ -87,10 +87,11 @@ pub fn sound_files_hold_sounds<F: Shelf, K: Sink, T: Sink, C: Counter>(_taps: &[
     early_stops_are_fronts();
 }
 
-/// Two runs end Ok; their words ask for one piece and one width, whatever else they say; and their shelves tell the
-/// same files, or the piece is the demo. Then they performed one composition, that of their texts, each has said its
-/// report, and their sound files are the same byte for byte.
-pub fn same_bytes<
+/// Two runs, whose words ask for one piece and one width, whatever else they say, and whose shelves tell the same
+/// files, or the piece is the demo. Where both end Ok, they performed one composition, that of their texts, each has
+/// said its report, and their sound files are the same byte for byte. Where nothing failed and memory sufficed in both,
+/// they end by one status.
+pub fn alike_runs_agree<
     F: Shelf,
     K: Sink,
     T: Sink,
@@ -100,7 +101,7 @@ pub fn same_bytes<
     T2: Sink,
     C2: Counter,
 >(_taps: &[Box<dyn Tap>])
-    ensures { (words others : List Text) (a b : Asked) (before now : Scene F K T _ C)
+    ensures bytes { (words others : List Text) (a b : Asked) (before now : Scene F K T _ C)
         (before_2 now_2 : Scene F2 K2 T2 _ C2)
         → reading words ≡ Some a → reading others ≡ Some b → AskAlike a b
         → TellAlike a.piece (F.tells before.shelf).files (F2.tells before_2.shelf).files
@@ -111,24 +112,7 @@ pub fn same_bytes<
         → SoundAlike (sight F.tells K.tells T.tells C.has_counted (λ t h. stands_for t h) (λ t room. text t room))
         (sight F2.tells K2.tells T2.tells C2.has_counted (λ t h. stands_for t h)
         (λ t room. text t room)) a b before now before_2 now_2 }
-{
-    texts_of_a_source_mean_one();
-    files_have_one_pair_of_texts();
-}
-
-/// Two runs whose words ask alike and whose shelves tell alike, in which nothing failed and memory sufficed, end by one
-/// status.
-pub fn same_status<
-    F: Shelf,
-    K: Sink,
-    T: Sink,
-    C: Counter,
-    F2: Shelf,
-    K2: Sink,
-    T2: Sink,
-    C2: Counter,
->(_taps: &[Box<dyn Tap>])
-    ensures { (words others : List Text) (s s_2 : Status) (a b : Asked) (before now : Scene F K T _ C)
+    ensures ends { (words others : List Text) (s s_2 : Status) (a b : Asked) (before now : Scene F K T _ C)
         (before_2 now_2 : Scene F2 K2 T2 _ C2)
         → reading words ≡ Some a → reading others ≡ Some b → AskAlike a b
         → TellAlike a.piece (F.tells before.shelf).files (F2.tells before_2.shelf).files

@@ -24,9 +24,8 @@ mod top;
 
 pub use cs_report::Status;
 pub use laws::{
-    failures_decide, lacking_decides, refusals_decide, runs_are_as_the_page_says, same_bytes,
-    same_status, sound_files_hold_sounds, sounds_decide, texts_have_one_sound_or_refusal,
-    words_decide,
+    alike_runs_agree, failures_decide, lacking_decides, refusals_decide, runs_are_as_the_page_says,
+    sound_files_hold_sounds, sounds_decide, texts_have_one_sound_or_refusal, words_decide,
 };
 pub use preparing::{Prepared, asks_for_one, prepare};
 pub use top::{csplay, csplay_alone};

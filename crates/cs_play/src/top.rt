@@ -36,11 +36,8 @@ pub fn csplay<R: Threads + Wait + Sync, F: Shelf, K: Sink, T: Sink, C: Counter, 
         (scene shelf.new wav.new talk.new taps.new.items tally.new) }
 {
     let prepared = prepare(alloc, words, shelf, talk);
-    let host = Host { rt, alloc, gate };
-    let played = play(&host, &prepared, wav, taps, tally);
-    let status = say(talk, &played, taps);
-    drop((prepared, played));
-    status
+    let played = play(&Host { rt, alloc, gate }, &prepared, wav, taps, tally);
+    say(talk, &played, taps)
 }
 
 /// The same by one worker, the caller, however many the words ask for. It has no runtime, so it starts no thread, waits
@@ -61,10 +58,7 @@ pub fn csplay_alone<F: Shelf, K: Sink, T: Sink, C: Counter, G: Gate>(
         (scene shelf.old wav.old talk.old taps.old.items tally.old)
         (scene shelf.new wav.new talk.new taps.new.items tally.new) }
 {
-    let found = prepare(alloc, words, shelf, talk);
-    let alone = Alone { alloc, gate };
-    let played = play_alone(&alone, &found, wav, taps, tally);
-    let status = say(talk, &played, taps);
-    drop((found, played));
-    status
+    let prepared = prepare(alloc, words, shelf, talk);
+    let played = play_alone(&Alone { alloc, gate }, &prepared, wav, taps, tally);
+    say(talk, &played, taps)
 }

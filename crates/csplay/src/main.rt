@@ -76,32 +76,15 @@ fn play<R: Files + Print + AllocGlobal + Threads + Wait + Sync>(
     words: &[String],
     taps: &mut Vec<Box<dyn Tap>>,
 ) -> Status {
-    let mut talk = TalkOut::new(io::writer(rt), rt.alloc());
-    let (mut shelf, mut wav) = (FileShelf::new(rt), FileSink::new(rt, rt.alloc()));
-    let (gate, mut tally) = (OpenGate::new(), Tally::new());
-    let status = if asks_for_one(rt.alloc(), words) {
-        csplay_alone(
-            rt.alloc(),
-            words,
-            &mut shelf,
-            &mut wav,
-            &mut talk,
-            taps,
-            &gate,
-            &mut tally,
-        )
+    let alloc = rt.alloc();
+    let (mut shelf, mut wav) = (FileShelf::new(rt), FileSink::new(rt, alloc));
+    let mut talk = TalkOut::new(io::writer(rt), alloc);
+    let (gate, mut tally) = (&OpenGate::new(), Tally::new());
+    let (shelf, wav, tally) = (&mut shelf, &mut wav, &mut tally);
+    let status = if asks_for_one(alloc, words) {
+        csplay_alone(alloc, words, shelf, wav, &mut talk, taps, gate, tally)
     } else {
-        csplay(
-            rt,
-            rt.alloc(),
-            words,
-            &mut shelf,
-            &mut wav,
-            &mut talk,
-            taps,
-            &gate,
-            &mut tally,
-        )
+        csplay(rt, alloc, words, shelf, wav, &mut talk, taps, gate, tally)
     };
     ended(status, talk.end())
 }

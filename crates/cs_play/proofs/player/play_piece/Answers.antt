@@ -4,12 +4,12 @@ pub perform_alone-requires-clause-bytes : goal.perform_alone-requires-clause-byt
 perform_alone-requires-clause-bytes g c =
     rw (c.performance_of-performance.ensures.setup, c.performance_of-performance.ensures.order) c.requires.fits
 
-pub perform_pool-requires-clause-bytes : goal.perform_pool-requires-clause-bytes
-perform_pool-requires-clause-bytes g c κs lives =
-    rw (c.performance_of-performance.ensures.setup, c.performance_of-performance.ensures.order) c.requires.fits
-
 pub perform-requires-clause-bytes : goal.perform-requires-clause-bytes
 perform-requires-clause-bytes g c κs lives =
+    rw (c.performance_of-performance.ensures.setup, c.performance_of-performance.ensures.order) c.requires.fits
+
+pub perform-requires-2-clause-bytes : goal.perform-requires-2-clause-bytes
+perform-requires-2-clause-bytes g c κs lives =
     rw (c.performance_of-performance.ensures.setup, c.performance_of-performance.ensures.order) c.requires.fits
 
 pub returns-then-not-piece : goal.returns-then-not-piece
@@ -18,8 +18,8 @@ returns-then-not-piece g c =
 
 pub returns-then-piece : goal.returns-then-piece
 returns-then-piece g c =
-    rw c.performance_of-performance.ensures.request at c.perform_pool.ensures
+    rw c.performance_of-performance.ensures.request at c.perform.ensures
 
 pub returns : goal.returns
 returns g c =
-    rw c.performance_of-performance.ensures.request at c.perform.ensures
+    rw c.performance_of-performance.ensures.request at c.perform-2.ensures

@@ -6,4 +6,4 @@ pub returns : goal.returns
 returns g c =
     prepared_run _ (texts c.args.words.now) c.prepare-prepared.result c.play-played.result _ _ _ _ _ _ _ _ _ _ _ _
     c.prepare-prepared.ensures.shelf c.prepare-prepared.ensures.prepared c.prepare-prepared.ensures.talk
-    c.prepare-prepared.ensures.unprepared c.play-played.ensures (rw c.deref.ensures.value at c.say-status.ensures)
+    c.prepare-prepared.ensures.unprepared c.play-played.ensures (rw c.deref.ensures.value at c.say.ensures)

@@ -4,6 +4,6 @@ use Rattle.cs_play.proofs.top.csplay_alone.Goals as goal
 
 pub returns : goal.returns
 returns g c =
-    prepared_run _ (texts c.args.words.now) c.prepare-found.result c.play_alone-played.result _ _ _ _ _ _ _ _ _ _ _ _
-    c.prepare-found.ensures.shelf c.prepare-found.ensures.prepared c.prepare-found.ensures.talk
-    c.prepare-found.ensures.unprepared c.play_alone-played.ensures (rw c.deref.ensures.value at c.say-status.ensures)
+    prepared_run _ (texts c.args.words.now) c.prepare-prepared.result c.play_alone-played.result _ _ _ _ _ _ _ _ _ _ _ _
+    c.prepare-prepared.ensures.shelf c.prepare-prepared.ensures.prepared c.prepare-prepared.ensures.talk
+    c.prepare-prepared.ensures.unprepared c.play_alone-played.ensures (rw c.deref.ensures.value at c.say.ensures)

@@ -9,10 +9,10 @@ pub returns : goal.returns
 returns g c = record {
   at = c.in_ok-stand.ensures;
   recorded = record {
-    blocks = subst (λ (h : Head). HasBlocks h c.args.order.width c.in_ok-recording.recording)
+    blocks = subst (λ (h : Head). HasBlocks h c.args.performance.now.order.width c.in_ok-recording.recording)
         c.head-head.ensures c.in_ok-recording.ensures.blocks;
     out_of_range = c.in_ok-recording.ensures.none.0;
     turns = c.in_ok-recording.ensures.none.1
-        ∙ no_lines c.args.order.turns (composition_of c.args.setup.now) [];
+        ∙ no_lines c.args.performance.now.order.turns (composition_of c.args.performance.now.setup.now) [];
   };
 }

@@ -1,7 +1,7 @@
 use Rattle.std.proofs.Common.{rules}
 use Rattle.cs_perform.specs.Performances.{PerformsPiece, lent, lent_sight, request_of}
 use Rattle.cs_perform.proofs.{Loans.three_same, Wholes.performs_nothing}
-use Rattle.cs_perform.proofs.by_crew.play_by_crew.Goals as goal
+use Rattle.cs_perform.proofs.performance.perform.Goals as goal
 
 pub returns-in_default : goal.returns-in_default
 returns-in_default g c = record {

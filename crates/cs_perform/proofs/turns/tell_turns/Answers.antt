@@ -11,7 +11,7 @@ use Rattle.cs_turns.specs.Turns.{IsFootOf, line_of, stock_in}
 use Rattle.cs_voice.specs.VoiceData.{VoiceData}
 use Rattle.cs_perform.proofs.{Standings.own_course, Turning.feet_of_notes}
 use Rattle.cs_typed.specs.TypedTree as typed
-use Rattle.cs_perform.proofs.turns.add_line.Goals as goal
+use Rattle.cs_perform.proofs.turns.tell_turns.Goals as goal
 
 pub follow-requires-clause-few : goal.follow-requires-clause-few
 follow-requires-clause-few g c =
@@ -42,7 +42,7 @@ returns-clause-at g c =
 
 pub returns-clause-told : goal.returns-clause-told
 returns-clause-told g c =
-    let s : SetupData = c.args.performance.now.setup.now in
+    let s : SetupData = c.args.setup.now in
     let piece : Composition = composition_of s in
     let stock : stock_of s.layout ≡ stock_in piece =
     ap stock_of c.facts.ensures.areas
