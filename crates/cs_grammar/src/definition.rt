@@ -1,5 +1,5 @@
 // Definitions of opcodes.
-ghost use Rattle.std.specs.Prelude.{◌≡◌, ◌≤◌, [], List, Ok, IfOk, IfErr, length};
+ghost use Rattle.std.specs.Prelude.{◌≡◌, [], List, Ok, IfOk, IfErr};
 ghost use Rattle.cs_base.specs.declared.fault.Or.TheVariants as or;
 ghost use Rattle.cs_grammar.specs.{Symbols.Symbol, Headings.heading, Tree.definition, Orchestra.ReadsDefinition};
 ghost use Rattle.cs_grammar.specs.Reading.{after, in_definition, next};
@@ -28,7 +28,6 @@ impl<'s> Parser<'s> {
             → heading (in_definition [] defined.now) (next ts).line (after ts) ≡ Ok (head.entry, self.old)
             → ReadsDefinition defined.now ts o) }
         ensures name { IfOk result (λ u. u.name ≡ head.entry.name) }
-        ensures goes { length self.new ≤ length self.old }
     {
         let lines = self.lines(&Scope::in_definition(head.name(), defined), &head, defined)?;
         self.defined_as(head, lines)
@@ -66,8 +65,7 @@ impl<'s> Parser<'s> {
         head: &Heading,
         defined: &NameSet<'s>,
     ) -> Result<Inside, Or<OrcFault>>
-        ensures reads { Gives inside result self.new (IsLines scope.now defined.now head.now self.old) }
-        ensures goes { length self.new ≤ length self.old }
+        ensures { Gives inside result self.new (IsLines scope.now defined.now head.now self.old) }
     {
         let lines = self.inside(scope, head)?;
         let lines = self.followed(scope, Expected::Endop, lines)?;
@@ -76,8 +74,7 @@ impl<'s> Parser<'s> {
 
     // Reads the names of the inputs, the statements, the results.
     fn inside(&mut self, scope: &Scope, head: &Heading) -> Result<Inside, Or<OrcFault>>
-        ensures reads { Gives inside result self.new (IsInside scope.now head.now self.old) }
-        ensures goes { length self.new ≤ length self.old }
+        ensures { Gives inside result self.new (IsInside scope.now head.now self.old) }
     {
         let names = self.inputs(scope, head)?;
         let body = self.block(scope)?;

@@ -1,15 +1,14 @@
 // Expressions: levels of operators, and the parts between them.
-ghost use Rattle.std.specs.Prelude.{◌≡◌, ◌≤◌, List, Ok, Some, None, IfOk, IfErr, IfSome, length, true};
-ghost use Rattle.std.specs.Box.{box_value};
+ghost use Rattle.std.specs.Prelude.{◌≡◌, ◌≤◌, List, Ok, Some, None, IfSome, length, true};
 ghost use Rattle.cs_base.specs.declared.fault.Or.TheVariants as or;
-ghost use Rattle.cs_base.specs.declared.fault.OrcKind.TheVariants as orc;
 ghost use Rattle.cs_grammar.specs.declared.expr.Level.TheVariants as at;
 ghost use Rattle.cs_grammar.specs.declared.expr.PartForm.TheVariants as part;
-ghost use Rattle.cs_grammar.specs.{Tree.expression, Tree.neg, Tree.pair, Tree.pick, Tree.apply, Symbols.Symbol};
+ghost use Rattle.cs_grammar.specs.{Tree.expression, Symbols.Symbol};
 ghost use Rattle.cs_grammar.specs.declared.symbol.Expected.TheVariants as expected;
 ghost use Rattle.cs_grammar.specs.declared.symbol.Kind.TheVariants as kind;
 ghost use Rattle.cs_grammar.specs.{Reading.next, Reading.after, Reading.next_is, Parts.one_symbol, Parts.atom};
-ghost use Rattle.cs_grammar.specs.{inner.Answers.Gives, inner.Answers.IsClosed, Grammar.ReadsExpr, Grammar.ReadsTail};
+ghost use Rattle.cs_grammar.specs.{Grammar.ReadsExpr, Grammar.ReadsTail, inner.Answers.Gives};
+ghost use Rattle.cs_grammar.specs.inner.Answers.{IsClosed, in_box};
 ghost use Rattle.cs_grammar.specs.Parts.{tighter, rank, is_at, repeats, operator_of, part_form, part_form_of, no_part};
 
 use crate::parser::Parser;
@@ -189,9 +188,10 @@ impl<'s> Parser<'s> {
     {
         let mut left = first;
         while let Some(op) = level.operator(self.kind()) {
+            let operand = Box::new(self.alloc(), left)?;
             self.skip();
-            let right = self.expr(scope, inner)?;
-            left = self.pair(op, left, right)?;
+            let right = self.boxed(scope, inner)?;
+            left = Expr::Pair(op, operand, right);
             if !level.repeats() {
                 return Ok(left);
             }
@@ -199,44 +199,14 @@ impl<'s> Parser<'s> {
         Ok(left)
     }
 
-    /// The operator of two operands.
-    pub fn pair(&self, op: BinOp, left: Expr, right: Expr) -> Result<Expr, Or<OrcFault>>
-        ensures value { IfOk result (λ e. expression e ≡ pair op (expression left) (expression right)) }
-        ensures memory { IfErr result (λ e. e ≡ or.OutOfMemory) }
+    // Reads an expression of a level into a box: dropped by one call, where it is alive beside a way out.
+    #[cycle(expr)]
+    fn boxed(&mut self, scope: &Scope, level: Level) -> Result<Box<Expr>, Or<OrcFault>>
+        ensures reads { Gives in_box result self.new (ReadsExpr scope.now level (Ok self.old)) }
+        ensures goes { length self.new ≤ length self.old }
     {
-        let (left, right) = self.boxes(left, right)?;
-        Ok(Expr::Pair(op, left, right))
-    }
-
-    fn boxes<T: Drop>(&self, left: T, right: T) -> Result<(Box<T>, Box<T>), Or<OrcFault>>
-        ensures left { IfOk result (λ p. box_value p.0 ≡ left) }
-        ensures right { IfOk result (λ p. box_value p.1 ≡ right) }
-        ensures memory { IfErr result (λ e. e ≡ or.OutOfMemory) }
-    {
-        let left = Box::new(self.alloc(), left)?;
-        Ok((left, Box::new(self.alloc(), right)?))
-    }
-
-    fn negated(&self, part: Expr) -> Result<Expr, Or<OrcFault>>
-        ensures value { IfOk result (λ e. expression e ≡ neg (expression part)) }
-        ensures memory { IfErr result (λ e. e ≡ or.OutOfMemory) }
-    {
-        Ok(Expr::Neg(Box::new(self.alloc(), part)?))
-    }
-
-    fn applied(&self, func: Func, argument: Expr) -> Result<Expr, Or<OrcFault>>
-        ensures value { IfOk result (λ e. expression e ≡ apply func (expression argument)) }
-        ensures memory { IfErr result (λ e. e ≡ or.OutOfMemory) }
-    {
-        Ok(Expr::Call(func, Box::new(self.alloc(), argument)?))
-    }
-
-    fn picked(&self, cond: Expr, yes: Expr, no: Expr) -> Result<Expr, Or<OrcFault>>
-        ensures value { IfOk result (λ e. expression e ≡ pick (expression cond) (expression yes) (expression no)) }
-        ensures memory { IfErr result (λ e. e ≡ or.OutOfMemory) }
-    {
-        let (yes, no) = self.boxes(yes, no)?;
-        Ok(Expr::Pick(Box::new(self.alloc(), cond)?, yes, no))
+        let value = self.expr(scope, level)?;
+        Ok(Box::new(self.alloc(), value)?)
     }
 
     #[cycle(expr)]
@@ -259,8 +229,8 @@ impl<'s> Parser<'s> {
         ensures goes { length self.new ≤ length self.old }
     {
         self.skip();
-        let part = self.fact(scope)?;
-        self.negated(part)
+        let part = self.boxed(scope, Level::Fact)?;
+        Ok(Expr::Neg(part))
     }
 
     #[cycle(expr)]
@@ -272,16 +242,16 @@ impl<'s> Parser<'s> {
         self.skip();
         self.skip();
         let argument = self.closed(scope, Expected::Close)?;
-        self.applied(func, argument)
+        Ok(Expr::Call(func, argument))
     }
 
-    /// Reads an expression, and the symbol that must follow it.
+    // Reads an expression, and the symbol that must follow it.
     #[cycle(expr)]
-    pub fn closed(&mut self, scope: &Scope, end: Expected) -> Result<Expr, Or<OrcFault>>
-        ensures reads { Gives expression result self.new (IsClosed scope.now end self.old) }
+    fn closed(&mut self, scope: &Scope, end: Expected) -> Result<Box<Expr>, Or<OrcFault>>
+        ensures reads { Gives in_box result self.new (IsClosed scope.now end self.old) }
         ensures goes { length self.new ≤ length self.old }
     {
-        let part = self.expr(scope, Level::Expr)?;
+        let part = self.boxed(scope, Level::Expr)?;
         self.followed(scope, end, part)
     }
 
@@ -309,9 +279,10 @@ impl<'s> Parser<'s> {
             → ReadsExpr scope.now at.Fact (Ok ts) o) }
         ensures goes { length self.new ≤ length self.old }
     {
+        let cond = Box::new(self.alloc(), cond)?;
         self.skip();
         let yes = self.closed(scope, Expected::Colon)?;
         let no = self.closed(scope, Expected::Close)?;
-        self.picked(cond, yes, no)
+        Ok(Expr::Pick(cond, yes, no))
     }
 }

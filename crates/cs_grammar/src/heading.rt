@@ -1,8 +1,7 @@
 // The line of `opcode`.
-ghost use Rattle.std.specs.Prelude.{◌≡◌, ◌≤◌, Ok, IfOk, length, map, true, false};
+ghost use Rattle.std.specs.Prelude.{◌≡◌, Ok, IfOk, map, true, false};
 ghost use Rattle.std.specs.List.{list_all};
 ghost use Rattle.cs_words.specs.{Names.is_rate_letter, Names.letter_rate, NameSets.has};
-ghost use Rattle.cs_grammar.specs.declared.symbol.Kind.TheVariants as kind;
 ghost use Rattle.cs_grammar.specs.{Kinds.is_word, Kinds.may_be_opcode, Reading.next, Reading.after};
 ghost use Rattle.cs_grammar.specs.Headings.{heading, new_name, types, types_at};
 ghost use Rattle.cs_grammar.specs.inner.Answers.{Gives, signature};
@@ -10,7 +9,7 @@ ghost use Rattle.cs_grammar.specs.inner.Answers.{Gives, signature};
 use crate::parser::Parser;
 use crate::scope::Scope;
 use crate::symbol::{Expected, Kind};
-use cs_base::{Items, Num, Or, OrcFault, OrcKind, Rate, Rates};
+use cs_base::{Items, Or, OrcFault, OrcKind, Rate, Rates};
 use cs_words::{Word, is_rate_letter, letter_rate};
 use std::alloc::{AllocError, Global};
 use std::marker::Model;
@@ -58,12 +57,6 @@ impl<'s> Heading<'s> {
     }
 }
 
-fn rates_of(alloc: Global, letters: &[u8]) -> Result<Rates, AllocError>
-    ensures { IfOk result (λ rates. rates ≡ map letter_rate letters.now) }
-{
-    Ok(Items::from_vec(each_rate(alloc, letters)?))
-}
-
 fn each_rate(alloc: Global, letters: &[u8]) -> Result<Vec<Rate>, AllocError>
     ensures { IfOk result (λ rates. rates.items ≡ map letter_rate letters.now) }
 {
@@ -83,7 +76,6 @@ impl<'s> Parser<'s> {
     fn new_name(&mut self, scope: &Scope) -> Result<&'s [u8], Or<OrcFault>>
         ensures reads { Gives (λ n. n.now) result self.new (λ o. o ≡ new_name scope.now self.old) }
         ensures fresh { IfOk result (λ n. has scope.now.defined n.now ≡ false) }
-        ensures goes { length self.new ≤ length self.old }
     {
         match self.kind() {
             Kind::Word(Word::Name | Word::Other | Word::Field(_)) => self.fresh_name(scope),
@@ -96,7 +88,6 @@ impl<'s> Parser<'s> {
         requires { may_be_opcode (next self.old).kind ≡ true }
         ensures reads { Gives (λ n. n.now) result self.new (λ o. o ≡ new_name scope.now self.old) }
         ensures fresh { IfOk result (λ n. has scope.now.defined n.now ≡ false) }
-        ensures goes { length self.new ≤ length self.old }
     {
         let name = self.text();
         if scope.is_defined(name) {
@@ -108,37 +99,26 @@ impl<'s> Parser<'s> {
 
     // The rates of results or inputs: a word of the letters a, k and i, or 0 for none.
     fn types(&mut self, scope: &Scope) -> Result<Rates, Or<OrcFault>>
-        ensures reads { Gives (λ rates. rates) result self.new (λ o. o ≡ types scope.now (Ok self.old)) }
-        ensures goes { length self.new ≤ length self.old }
+        ensures { Gives (λ rates. rates) result self.new (λ o. o ≡ types scope.now (Ok self.old)) }
     {
         match self.kind() {
-            Kind::Number(value) => self.no_types(scope, value),
+            Kind::Number(value) if value.raw() == 0 => {
+                self.skip();
+                Ok(Rates::new(self.alloc()))
+            }
             Kind::Word(_) => self.letters(scope),
             _ => Err(self.misfit(scope, OrcKind::Unexpected)),
         }
     }
 
-    fn no_types(&mut self, scope: &Scope, value: Num) -> Result<Rates, Or<OrcFault>>
-        requires { (next self.old).kind ≡ kind.Number value }
-        ensures reads { Gives (λ rates. rates) result self.new (λ o. o ≡ types_at scope.now self.old) }
-        ensures goes { length self.new ≤ length self.old }
-    {
-        if value.raw() != 0 {
-            return Err(self.misfit(scope, OrcKind::Unexpected));
-        }
-        self.skip();
-        Ok(Rates::new(self.alloc()))
-    }
-
     fn letters(&mut self, scope: &Scope) -> Result<Rates, Or<OrcFault>>
         requires { is_word (next self.old).kind ≡ true }
-        ensures reads { Gives (λ rates. rates) result self.new (λ o. o ≡ types_at scope.now self.old) }
-        ensures goes { length self.new ≤ length self.old }
+        ensures { Gives (λ rates. rates) result self.new (λ o. o ≡ types_at scope.now self.old) }
     {
         if !are_rate_letters(self.text()) {
             return Err(self.misfit(scope, OrcKind::NotInProfile));
         }
-        let rates = rates_of(self.alloc(), self.text())?;
+        let rates = Items::from_vec(each_rate(self.alloc(), self.text())?);
         self.skip();
         Ok(rates)
     }
@@ -148,7 +128,6 @@ impl<'s> Parser<'s> {
         ensures reads { Gives (λ h. h) result self.new
             (λ o. o ≡ heading scope.now (next self.old).line (after self.old)) }
         ensures fresh { IfOk result (λ h. has scope.now.defined h.name ≡ false) }
-        ensures goes { length self.new ≤ length self.old }
     {
         let line = self.line();
         self.skip();
@@ -165,8 +144,7 @@ impl<'s> Parser<'s> {
 
     // Reads the results and the inputs, with the end of the line.
     fn signature(&mut self, scope: &Scope) -> Result<(Rates, Rates), Or<OrcFault>>
-        ensures reads { Gives (λ p. p) result self.new (λ o. o ≡ signature scope.now self.old) }
-        ensures goes { length self.new ≤ length self.old }
+        ensures { Gives (λ p. p) result self.new (λ o. o ≡ signature scope.now self.old) }
     {
         let outs = self.types(scope)?;
         self.pass(scope, Expected::Comma)?;

@@ -11,14 +11,14 @@ ghost use Rattle.cs_grammar.specs.inner.Answers.{Gives, IsDraft, IsInstrBody, Re
 ghost use Rattle.cs_grammar.specs.Orchestra.{item_form, item_form_of, nothing, ReadsInstr, ReadsOrc, Tree, ParseFault};
 
 use crate::parser::Parser;
-use crate::scope::{Given, Scope};
+use crate::scope::Scope;
 use crate::symbol::{Expected, Kind};
 use crate::tree::{HeadLine, Instr, Orc, Stmts};
 use cs_base::{Excerpt, GREATEST_INSTRUMENT, Num, Numbers, ONE, Or, OrcFault, OrcKind};
 use cs_lex::{Tokens, tokens_stand_in_the_text};
 use cs_words::{HeadName, Keyword, NameSet, Word};
+use indexmap::IndexSet;
 use std::alloc::Global;
-use std::mem::replace;
 
 /// What stands next outside instruments and definitions.
 #[derive(Clone, Copy)]
@@ -56,37 +56,30 @@ fn instrument_number(value: Num) -> Option<u32>
     }
 }
 
-// An orchestra of which nothing is read.
-fn empty(alloc: Global) -> Orc
-    ensures { orchestra result ≡ nothing }
-{
-    Orc {
-        head: Vec::new(alloc),
-        opcodes: Vec::new(alloc),
-        zero: Vec::new(alloc),
-        instrs: Vec::new(alloc),
-    }
-}
-
 /// What is read of an orchestra so far: its tree, the names of the opcodes that it defines, the numbers of its
 /// instruments.
 #[derive(Drop)]
 pub struct Draft<'s> {
     pub orc: Orc,
     pub defined: NameSet<'s>,
-    pub given: Given,
+    pub given: IndexSet<u32>,
 }
 
 impl<'s> Draft<'s> {
     fn new(alloc: Global) -> Draft<'s>
         ensures orc { orchestra result.orc ≡ nothing }
         ensures defined { result.defined ≡ [] }
-        ensures given { result.given ≡ [] }
+        ensures given { result.given.keys ≡ [] }
     {
         Draft {
-            orc: empty(alloc),
+            orc: Orc {
+                head: Vec::new(alloc),
+                opcodes: Vec::new(alloc),
+                zero: Vec::new(alloc),
+                instrs: Vec::new(alloc),
+            },
             defined: NameSet::new(alloc),
-            given: Given::new(alloc),
+            given: IndexSet::new(alloc),
         }
     }
 }
@@ -100,8 +93,7 @@ impl<'s> Parser<'s> {
 
     // Reads a header line: its name, `=`, a number.
     fn header_line(&mut self, scope: &Scope, name: HeadName) -> Result<HeadLine, Or<OrcFault>>
-        ensures reads { Gives (λ h. h) result self.new (λ o. o ≡ header_line scope.now name self.old) }
-        ensures goes { length self.new ≤ length self.old }
+        ensures { Gives (λ h. h) result self.new (λ o. o ≡ header_line scope.now name self.old) }
     {
         let line = self.line();
         self.skip();
@@ -115,9 +107,9 @@ impl<'s> Parser<'s> {
     }
 
     // Reads an instrument's number, which no instrument before has.
-    fn number(&mut self, scope: &Scope, given: &mut Given) -> Result<u32, Or<OrcFault>>
-        ensures reads { Gives (λ n. n) result self.new (λ o. o ≡ one_number scope.now given.old self.old) }
-        ensures given { IfOk result (λ n. given.new ≡ given.old ++ n ∷ []) }
+    fn number(&mut self, scope: &Scope, given: &mut IndexSet<u32>) -> Result<u32, Or<OrcFault>>
+        ensures reads { Gives (λ n. n) result self.new (λ o. o ≡ one_number scope.now given.old.keys self.old) }
+        ensures given { IfOk result (λ n. given.new.keys ≡ given.old.keys ++ n ∷ []) }
         ensures goes { length self.new ≤ length self.old }
     {
         let Kind::Number(value) = self.kind() else {
@@ -126,18 +118,17 @@ impl<'s> Parser<'s> {
         let Some(number) = instrument_number(value) else {
             return Err(self.fault(OrcKind::InstrNumber));
         };
-        if given.has(number) {
+        if given.contains(&number) {
             return Err(self.fault(OrcKind::InstrTwice));
         }
-        given.add(number)?;
+        given.insert(number)?;
         self.skip();
         Ok(number)
     }
 
-    fn numbers(&mut self, scope: &Scope, given: &mut Given) -> Result<Numbers, Or<OrcFault>>
-        ensures reads { Gives (λ ns. ns) result self.new (λ o. o ≡ numbers scope.now given.old self.old) }
-        ensures given { IfOk result (λ ns. given.new ≡ given.old ++ ns) }
-        ensures goes { length self.new ≤ length self.old }
+    fn numbers(&mut self, scope: &Scope, given: &mut IndexSet<u32>) -> Result<Numbers, Or<OrcFault>>
+        ensures reads { Gives (λ ns. ns) result self.new (λ o. o ≡ numbers scope.now given.old.keys self.old) }
+        ensures given { IfOk result (λ ns. given.new.keys ≡ given.old.keys ++ ns) }
     {
         let mut numbers = Numbers::new(self.alloc());
         loop {
@@ -150,10 +141,13 @@ impl<'s> Parser<'s> {
     }
 
     // Reads an instrument.
-    fn instr(&mut self, defined: &NameSet<'s>, given: &mut Given) -> Result<Instr, Or<OrcFault>>
-        ensures reads { Gives instrument result self.new (ReadsInstr defined.now given.old self.old) }
-        ensures given { IfOk result (λ i. given.new ≡ given.old ++ i.numbers) }
-        ensures goes { length self.new ≤ length self.old }
+    fn instr(
+        &mut self,
+        defined: &NameSet<'s>,
+        given: &mut IndexSet<u32>,
+    ) -> Result<Instr, Or<OrcFault>>
+        ensures reads { Gives instrument result self.new (ReadsInstr defined.now given.old.keys self.old) }
+        ensures given { IfOk result (λ i. given.new.keys ≡ given.old.keys ++ i.numbers) }
     {
         let line = self.line();
         let scope = Scope::in_instrument(defined);
@@ -167,11 +161,14 @@ impl<'s> Parser<'s> {
     }
 
     // Reads the line of `instr`.
-    fn instr_line(&mut self, scope: &Scope, given: &mut Given) -> Result<Numbers, Or<OrcFault>>
+    fn instr_line(
+        &mut self,
+        scope: &Scope,
+        given: &mut IndexSet<u32>,
+    ) -> Result<Numbers, Or<OrcFault>>
         ensures reads { Gives (λ ns. ns) result self.new
-            (λ o. o ≡ ended scope.now (numbers scope.now given.old (after self.old))) }
-        ensures given { IfOk result (λ ns. given.new ≡ given.old ++ ns) }
-        ensures goes { length self.new ≤ length self.old }
+            (λ o. o ≡ ended scope.now (numbers scope.now given.old.keys (after self.old))) }
+        ensures given { IfOk result (λ ns. given.new.keys ≡ given.old.keys ++ ns) }
     {
         self.skip();
         let numbers = self.numbers(scope, given)?;
@@ -180,8 +177,7 @@ impl<'s> Parser<'s> {
 
     // Reads the statements of an instrument, and the line of `endin`.
     fn instr_body(&mut self, scope: &Scope, defined: &NameSet<'s>) -> Result<Stmts, Or<OrcFault>>
-        ensures reads { Gives (λ v. block v.items) result self.new (IsInstrBody scope.now defined.now self.old) }
-        ensures goes { length self.new ≤ length self.old }
+        ensures { Gives (λ v. block v.items) result self.new (IsInstrBody scope.now defined.now self.old) }
     {
         let body = self.block(scope)?;
         let body = self.followed(scope, Expected::Endin, body)?;
@@ -272,18 +268,9 @@ impl<'s> Parser<'s> {
         ensures { Gives orchestra result self.new (ReadsOrc [] [] (Ok self.old)) }
     {
         let mut draft = Draft::new(self.alloc());
-        self.whole(&mut draft)
-    }
-
-    // The same, through a draft of which nothing is read.
-    fn whole(&mut self, draft: &mut Draft<'s>) -> Result<Orc, Or<OrcFault>>
-        requires orc { orchestra draft.old.orc ≡ nothing }
-        requires defined { draft.old.defined ≡ [] }
-        requires given { draft.old.given ≡ [] }
-        ensures { Gives orchestra result self.new (ReadsOrc [] [] (Ok self.old)) }
-    {
-        self.add_items(draft)?;
-        Ok(replace(&mut draft.orc, empty(self.alloc())))
+        self.add_items(&mut draft)?;
+        let Draft { orc, .. } = draft;
+        Ok(orc)
     }
 
     fn at_end(&self) -> bool

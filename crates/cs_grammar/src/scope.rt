@@ -1,16 +1,14 @@
 // Where a line stands, and which opcodes are defined before it.
-ghost use Rattle.std.specs.Prelude.{◌≡◌, ◌++◌, ◌∷◌, [], false, OnOk, ◌<◌};
+ghost use Rattle.std.specs.Prelude.{◌≡◌, ◌<◌};
 ghost use Rattle.cs_base.specs.Limits.{most_nested_ifs};
 ghost use Rattle.cs_words.specs.NameSets.{has};
-ghost use Rattle.cs_grammar.specs.Reading.{outside, in_instrument, in_definition, deeper, has_number, misfit_kind};
-ghost use Rattle.cs_grammar.specs.Reading.{keyword_kind, early, open_kind, opcode_kind, instr_kind, x_kind};
+ghost use Rattle.cs_grammar.specs.Reading.{outside, in_instrument, in_definition, deeper, misfit_kind};
+ghost use Rattle.cs_grammar.specs.Reading.{keyword_kind, early, open_kind};
 ghost use Rattle.cs_grammar.specs.{Parts.is_opcode, Lines.is_own};
 
 use crate::symbol::Kind;
-use cs_base::{OrcKind, OutOfMemory};
+use cs_base::OrcKind;
 use cs_words::{Keyword, NameSet, Sign, Word};
-use indexmap::IndexSet;
-use std::alloc::Global;
 use std::marker::Model;
 
 /// Where a line stands.
@@ -19,45 +17,6 @@ pub enum Place {
     Outside,
     Instrument,
     Definition,
-}
-
-/// The numbers that instruments have so far, in order.
-#[derive(Drop)]
-pub struct Given {
-    numbers: IndexSet<u32>,
-}
-
-impl Model for Given {
-    ghost use Rattle.std.specs.Prelude.{ℕ, List};
-
-    ghost Value = { List ℕ };
-
-    ghost view = { λ g. g.numbers.keys };
-}
-
-impl Given {
-    pub fn new(alloc: Global) -> Given
-        ensures { result ≡ [] }
-    {
-        Given {
-            numbers: IndexSet::new(alloc),
-        }
-    }
-
-    pub fn has(&self, number: u32) -> bool
-        ensures { result ≡ has_number self.now number }
-    {
-        self.numbers.contains(&number)
-    }
-
-    /// Adds a number that isn't there.
-    pub fn add(&mut self, number: u32) -> Result<(), OutOfMemory>
-        requires { has_number self.old number ≡ false }
-        ensures { OnOk result (self.new ≡ self.old ++ number ∷ []) }
-    {
-        self.numbers.insert(number)?;
-        Ok(())
-    }
 }
 
 /// Where a line stands: in an instrument, a definition or neither; in how many `if`s; in the definition of which name;
@@ -82,30 +41,27 @@ impl<'a, 's> Scope<'a, 's> {
     pub fn outside(defined: &'a NameSet<'s>) -> Scope<'a, 's>
         ensures { result ≡ outside defined.now }
     {
-        Scope {
-            place: Place::Outside,
-            depth: 0,
-            own: b"".as_slice(),
-            defined,
-        }
+        Scope::new(Place::Outside, b"".as_slice(), defined)
     }
 
     pub fn in_instrument(defined: &'a NameSet<'s>) -> Scope<'a, 's>
         ensures { result ≡ in_instrument defined.now }
     {
-        Scope {
-            place: Place::Instrument,
-            depth: 0,
-            own: b"".as_slice(),
-            defined,
-        }
+        Scope::new(Place::Instrument, b"".as_slice(), defined)
     }
 
     pub fn in_definition(own: &'a [u8], defined: &'a NameSet<'s>) -> Scope<'a, 's>
         ensures { result ≡ in_definition own.now defined.now }
     {
+        Scope::new(Place::Definition, own, defined)
+    }
+
+    // Inside no `if`.
+    fn new(place: Place, own: &'a [u8], defined: &'a NameSet<'s>) -> Scope<'a, 's>
+        ensures { result ≡ record { place = place; depth = 0; own = own.now; defined = defined.now } }
+    {
         Scope {
-            place: Place::Definition,
+            place,
             depth: 0,
             own,
             defined,
@@ -176,14 +132,15 @@ impl<'a, 's> Scope<'a, 's> {
         }
     }
 
+    // From `opcode` to `endop`, no instrument and no other definition begins.
     fn keyword_kind(&self, usual: OrcKind, keyword: Keyword) -> OrcKind
         ensures { result ≡ keyword_kind self.now usual keyword }
     {
-        match keyword {
-            Keyword::Endin | Keyword::Endop => self.early(usual),
-            Keyword::Instr => self.instr_kind(usual),
-            Keyword::Opcode => self.opcode_kind(usual),
-            Keyword::Xin | Keyword::Xout => self.x_kind(usual),
+        match (keyword, self.place) {
+            (Keyword::Endin | Keyword::Endop, _) => self.early(usual),
+            (Keyword::Instr, Place::Instrument) => OrcKind::NestedInstr,
+            (Keyword::Instr | Keyword::Opcode, Place::Definition) => OrcKind::Unexpected,
+            (Keyword::Xin | Keyword::Xout, Place::Definition) => OrcKind::XinXout,
             _ => usual,
         }
     }
@@ -206,34 +163,6 @@ impl<'a, 's> Scope<'a, 's> {
             Place::Outside => OrcKind::Unexpected,
             Place::Instrument => OrcKind::MissingEndin,
             Place::Definition => OrcKind::MissingEndop,
-        }
-    }
-
-    fn instr_kind(&self, usual: OrcKind) -> OrcKind
-        ensures { result ≡ instr_kind self.now.place usual }
-    {
-        match self.place {
-            Place::Instrument => OrcKind::NestedInstr,
-            _ => self.opcode_kind(usual),
-        }
-    }
-
-    // From `opcode` to `endop`, no instrument and no other definition begins.
-    fn opcode_kind(&self, usual: OrcKind) -> OrcKind
-        ensures { result ≡ opcode_kind self.now.place usual }
-    {
-        match self.place {
-            Place::Definition => OrcKind::Unexpected,
-            _ => usual,
-        }
-    }
-
-    fn x_kind(&self, usual: OrcKind) -> OrcKind
-        ensures { result ≡ x_kind self.now.place usual }
-    {
-        match self.place {
-            Place::Definition => OrcKind::XinXout,
-            _ => usual,
         }
     }
 }

@@ -151,8 +151,9 @@ impl<'s> Parser<'s> {
         ensures value { IfOk result (λ e. expression e ≡ pair op.Add (var name.now) (expression value)) }
         ensures memory { IfErr result (λ e. e ≡ or.OutOfMemory) }
     {
+        let value = Box::new(self.alloc(), value)?;
         let variable = Expr::Var(Items::of_slice(self.alloc(), name)?);
-        self.pair(BinOp::Add, variable, value)
+        Ok(Expr::Pair(BinOp::Add, Box::new(self.alloc(), variable)?, value))
     }
 
     fn call_with_results(&mut self, scope: &Scope) -> Result<StmtWhat, Or<OrcFault>>
@@ -236,7 +237,8 @@ impl<'s> Parser<'s> {
         ensures reads { Gives expression result self.new (IsCondition scope.now self.old) }
         ensures goes { length self.new ≤ length self.old }
     {
-        let cond = self.closed(scope, Expected::Then)?;
+        let cond = self.expr(scope, Level::Expr)?;
+        let cond = self.followed(scope, Expected::Then, cond)?;
         self.ended(scope, cond)
     }
 

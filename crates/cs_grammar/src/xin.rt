@@ -111,7 +111,6 @@ impl<'s> Parser<'s> {
         ensures fit { IfOk result (λ fit. fit ≡ are_inputs scope.now names.old ins.now count self.old) }
         ensures names { IfOk result (λ _. names.new ≡ names.old ++ words count self.old) }
         ensures place { IfOk result (λ _. self.new ≡ at_xin count self.old) }
-        ensures goes { length self.new ≤ length self.old }
     {
         let fit = self.first_fits(scope, names, ins);
         let rest = after_first(ins);
@@ -137,8 +136,7 @@ impl<'s> Parser<'s> {
 
     /// Reads the names that take the inputs.
     pub fn inputs(&mut self, scope: &Scope, heading: &Heading) -> Result<Names, Or<OrcFault>>
-        ensures reads { Gives (λ ns. ns) result self.new (λ o. o ≡ inputs scope.now heading.now self.old) }
-        ensures goes { length self.new ≤ length self.old }
+        ensures { Gives (λ ns. ns) result self.new (λ o. o ≡ inputs scope.now heading.now self.old) }
     {
         if self.next_is(Expected::Xin) {
             return Err(self.fault(OrcKind::XinXout));
@@ -169,8 +167,7 @@ impl<'s> Parser<'s> {
         count: usize,
     ) -> Result<Names, Or<OrcFault>>
         requires { 1 ≤ count }
-        ensures reads { Gives (λ ns. ns) result self.new (λ o. o ≡ taken_so_many scope.now heading.now self.old count) }
-        ensures goes { length self.new ≤ length self.old }
+        ensures { Gives (λ ns. ns) result self.new (λ o. o ≡ taken_so_many scope.now heading.now self.old count) }
     {
         let mut names = Names::new(self.alloc());
         if !self.take_inputs(scope, heading.ins(), count, &mut names)? {

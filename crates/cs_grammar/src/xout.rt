@@ -1,5 +1,5 @@
 // The last line of a definition: the values that it gives.
-ghost use Rattle.std.specs.Prelude.{◌≡◌, ◌≤◌, Ok, length, map};
+ghost use Rattle.std.specs.Prelude.{◌≡◌, Ok, map};
 ghost use Rattle.cs_grammar.specs.{Tree.argument, Orchestra.ReadsXout, Orchestra.ReadsResult};
 ghost use Rattle.cs_grammar.specs.inner.Answers.{Gives, Passes, last_left};
 ghost use Rattle.cs_grammar.specs.inner.Takes.{are_results, results_of, no_results};
@@ -21,9 +21,8 @@ fn are_results(values: &[Arg], outs: &[Rate]) -> bool
 impl<'s> Parser<'s> {
     /// Reads the line of `xout`, or finds that there is none.
     pub fn results(&mut self, scope: &Scope, outs: &[Rate]) -> Result<Args, Or<OrcFault>>
-        ensures reads { Gives (λ v. map argument v.items) result self.new
+        ensures { Gives (λ v. map argument v.items) result self.new
             (ReadsResult scope.now outs.now (Ok self.old)) }
-        ensures goes { length self.new ≤ length self.old }
     {
         if !self.next_is(Expected::Xout) {
             return self.no_results(outs);
@@ -35,8 +34,7 @@ impl<'s> Parser<'s> {
 
     // Reads the values of `xout`, with the end of their line.
     fn values(&mut self, scope: &Scope) -> Result<Args, Or<OrcFault>>
-        ensures reads { Gives (λ v. map argument v.items) result self.new (ReadsXout scope.now self.old) }
-        ensures goes { length self.new ≤ length self.old }
+        ensures { Gives (λ v. map argument v.items) result self.new (ReadsXout scope.now self.old) }
     {
         self.skip();
         let values = self.list(scope, Role::Result)?;

@@ -1,11 +1,12 @@
 // The whole text, line after line.
-ghost use Rattle.std.specs.Prelude.{◌≡◌, ◌≤◌, length, Some, None, Result, Ok, Err, IfOk, OnOk, All};
+ghost use Rattle.std.specs.Prelude.{◌≡◌, ◌≤◌, [], length, Some, None, Result, Ok, Err, IfOk, OnOk, All};
 ghost use Rattle.cs_base.specs.{Limits.most_score_bytes, declared.fault.ScoreFault.ScoreFault};
 ghost use Rattle.cs_base.specs.declared.fault.Or.TheVariants as or;
 ghost use Rattle.cs_base.specs.declared.refusal.Refusal.{Refusal};
 ghost use Rattle.cs_score.specs.Limits.{IsRefusedFor, limit_of_score};
-ghost use Rattle.cs_score.specs.{inner.Counts.IsWhole, Ranges.IsInRange, Statements.score_of};
-ghost use Rattle.cs_score.specs.inner.Past.{IsFaultOf, LineTaken};
+ghost use Rattle.cs_score.specs.{Plain.plain_of, Ranges.IsInRange, Statements.score_of};
+ghost use Rattle.cs_score.specs.{inner.Counts.Holds, inner.Counts.IsWhole};
+ghost use Rattle.cs_score.specs.inner.Past.{IsFaultOf, Keeps, LineTaken};
 
 use crate::comment::plain;
 use crate::kept::KeptStatements;
@@ -45,18 +46,39 @@ fn read_all(alloc: Global, text: &Excerpt) -> Result<KeptStatements, Or<ScoreFau
     let plain = plain(alloc, text.bytes())?;
     let mut past = Past::new(alloc);
     let mut kept = KeptStatements::new(alloc);
+    read_lines(alloc, text, &plain, &mut past, &mut kept)?;
+    Ok(kept)
+}
+
+// Reads all lines, where none was read before; `plain` is the text without its comments.
+fn read_lines(
+    alloc: Global,
+    text: &Excerpt,
+    plain: &[u8],
+    past: &mut Past,
+    kept: &mut KeptStatements,
+) -> Result<(), Or<ScoreFault>>
+    requires small { length text.now.bytes ≤ most_score_bytes }
+    requires plain { plain.now ≡ plain_of text.now.bytes }
+    requires keeps { Keeps [] past.old }
+    requires holds { Holds [] kept.old }
+    requires none { kept.old.statements ≡ [] }
+    ensures whole { OnOk result (IsWhole text.now kept.new) }
+    ensures ranges { OnOk result (All IsInRange kept.new.statements) }
+    ensures fault { (f : ScoreFault) → result ≡ Err (or.Fault f) → score_of text.now ≡ Err f }
+{
     let mut at = 0;
     let mut line = text.first_line();
     while at < plain.len() {
-        let read = read_line(alloc, text, &plain, at, line)?;
+        let read = read_line(alloc, text, plain, at, line)?;
         at = read.next;
         line = read.line;
-        let ends = read_row(alloc, &mut past, &mut kept, read.row)?;
+        let ends = read_row(alloc, past, kept, read.row)?;
         if ends {
-            return Ok(kept);
+            return Ok(());
         }
     }
-    Ok(kept)
+    Ok(())
 }
 
 // Adds the statement of a line that has one. Returns whether it was an `e`.

@@ -1,11 +1,13 @@
 -- What calls of the parser return, as readings.
-use Rattle.std.specs.Prelude.{ℕ, List, [], ◌++◌, ◌≡◌, Result, Ok, Err, if◌then◌else◌, map}
+use Rattle.std.specs.Prelude.{ℕ, List, [], ◌++◌, ◌≡◌, Result, Ok, Err, if◌then◌else◌, map, box_value}
+use Rattle.std.specs.Global.{Box}
 use Rattle.cs_base.specs.{declared.fault.Or.Or, declared.fault.OrcFault.OrcFault, declared.resource.Rate.Rate}
 use Rattle.cs_grammar.specs.{declared.symbol.Kind.Kind, declared.symbol.Expected.Expected}
-use Rattle.cs_grammar.specs.{declared.tree.StmtWhat.StmtWhat, declared.definition.Inside.Inside}
+use Rattle.cs_grammar.specs.{declared.tree.Expr.Expr, declared.tree.StmtWhat.StmtWhat}
+use Rattle.cs_grammar.specs.{declared.definition.Inside.Inside, Tree.of_what, Tree.joins}
 use Rattle.cs_grammar.specs.{declared.orc.Draft.Draft, Tree.orchestra, Headings.Heading, Headings.types}
 use Rattle.cs_grammar.specs.{inner.Takes.inputs, Symbols.Symbol, Reading.Scope, Reading.outside, Reading.misfit}
-use Rattle.cs_grammar.specs.Tree.{Expression, of_what, Argument, argument, Block, block, joins, Definition, Orchestra}
+use Rattle.cs_grammar.specs.Tree.{Expression, expression, Argument, argument, Block, block, Definition, Orchestra}
 use Rattle.cs_grammar.specs.Grammar.{ReadsExpr, ReadsStmt, ReadsBlock}
 use Rattle.cs_grammar.specs.Orchestra.{ReadsOrc, ReadsResult, behind_xout, definition_of}
 use Rattle.cs_grammar.specs.Reading.{next, after, Left, Reading, left, both, three, mapped, next_is, through, ended}
@@ -48,6 +50,10 @@ abbrev pub signature : Scope → List Symbol → Reading (List Rate × List Rate
 signature s ts =
     let outs = types s (Ok ts) in
     ended s (both (λ x y. (x, y)) outs (types s (left (through s expected.Comma outs))))
+
+-- a boxed expression
+abbrev pub in_box : Box Expr → Expression
+in_box b = expression (box_value b)
 
 -- an expression, and the symbol that must follow it
 abbrev pub IsClosed : Scope → Expected → List Symbol → Reading Expression → Type 0
@@ -103,7 +109,7 @@ OrcSoFar first o d g now =
     (out : Reading Orchestra) → ReadsOrc d g (Ok now) out → ReadsOrc [] [] (Ok first) (mapped (joined o) out)
 
 abbrev pub IsDraft : List Symbol → Draft → List Symbol → Type 0
-IsDraft first d now = OrcSoFar first (orchestra d.orc) d.defined d.given now
+IsDraft first d now = OrcSoFar first (orchestra d.orc) d.defined d.given.keys now
 
 -- a call that reads on has read so far, or found the fault of the whole
 abbrev pub ReadsOn : {T : Type 0} → Result T (Or OrcFault) → List Symbol → Type 0 → Type 0

@@ -1,15 +1,23 @@
 use Rattle.std.proofs.Common.{◌≡◌, ◌∙◌, Ok, Err, Some, None, sym, refl, ap, subst, arith, length}
-use Rattle.cs_grammar.proofs.{Sizes.after_size, Gives.failed, Gives.followed, Gives.made, Rules.raised}
+use Rattle.cs_grammar.proofs.{Sizes.after_size, Gives.failed, Gives.followed, Rules.raised}
 use Rattle.cs_grammar.proofs.Rules.{group_is, closed_is, call_is, pick_unmet, pick_is, right_fails, alone, none_of}
 use Rattle.cs_grammar.specs.Grammar.{ReadsTail, binary, fact_group, fact_neg, no_more, one_alone, one_more}
-use Rattle.cs_grammar.specs.{Parts.operator_of, Reading.next, Tree.expression}
+use Rattle.cs_grammar.specs.{Grammar.ReadsExpr, Parts.operator_of, Reading.next, inner.Answers.in_box}
+use Rattle.cs_grammar.specs.Tree.{Expression, expression, pair, pick}
 use Rattle.cs_grammar.specs.declared.expr.Level.TheVariants as at
 use Rattle.cs_grammar.proofs.parser.Parser.+expr.Goals as goal
 
+pub boxed-returns-in_err-value-clause-reads : goal.boxed-returns-in_err-value-clause-reads
+boxed-returns-in_err-value-clause-reads t c =
+    failed expression in_box _ _ _ _ _ _ c.from_residual.ensures.1 c.in_err-value.ensures.reads (λ f h. h)
+
 pub negation-returns-in_err-part-clause-reads : goal.negation-returns-in_err-part-clause-reads
 negation-returns-in_err-part-clause-reads t c =
-    failed expression expression _ _ _ _ _ _ c.from_residual.ensures.1 c.in_err-part.ensures.reads
+    failed in_box expression _ _ _ _ _ _ c.from_residual.ensures.1 c.in_err-part.ensures.reads
     (λ f h. fact_neg c.requires (rw c.skip.ensures at h))
+
+pub negation-returns-clause-reads : goal.negation-returns-clause-reads
+negation-returns-clause-reads t c = fact_neg c.requires (rw c.skip.ensures at c.in_ok-part.ensures.reads)
 
 pub bracket-returns-in_err-first-clause-reads : goal.bracket-returns-in_err-first-clause-reads
 bracket-returns-in_err-first-clause-reads t c =
@@ -25,47 +33,42 @@ bracket-returns-clause-reads t c =
 
 pub function-returns-in_err-argument-clause-reads : goal.function-returns-in_err-argument-clause-reads
 function-returns-in_err-argument-clause-reads t c =
-    failed expression expression _ _ _ _ _ _ c.from_residual.ensures.1 c.in_err-argument.ensures.reads
+    failed in_box expression _ _ _ _ _ _ c.from_residual.ensures.1 c.in_err-argument.ensures.reads
     (λ f h. call_is c.args.func (Err f) c.requires (rw (c.skip-2.ensures, c.skip.ensures) at h))
 
 pub function-returns-clause-reads : goal.function-returns-clause-reads
 function-returns-clause-reads t c =
-    made expression _ _ _ _ c.applied.ensures.value c.applied.ensures.memory (call_is c.args.func
-    (Ok (expression c.in_ok-argument.argument, c.closed.new.self)) c.requires
-    (rw (c.skip-2.ensures, c.skip.ensures) at c.in_ok-argument.ensures.reads))
+    call_is c.args.func (Ok (in_box c.in_ok-argument.argument, c.closed.new.self)) c.requires
+    (rw (c.skip-2.ensures, c.skip.ensures) at c.in_ok-argument.ensures.reads)
 
 pub closed-returns-in_err-part-clause-reads : goal.closed-returns-in_err-part-clause-reads
 closed-returns-in_err-part-clause-reads t c =
-    failed expression expression _ _ _ _ _ _ c.from_residual.ensures.1 c.in_err-part.ensures.reads
-    (λ f h. (Err f, h, refl))
+    failed in_box in_box _ _ _ _ _ _ c.from_residual.ensures.1 c.in_err-part.ensures.reads (λ f h. (Err f, h, refl))
 
 pub closed-returns-clause-reads : goal.closed-returns-clause-reads
 closed-returns-clause-reads t c =
-    followed expression c.followed.result c.in_ok-part.part _ _ _ c.followed.ensures.value c.followed.ensures.passes
-    (λ st p. closed_is c.args.end (expression c.in_ok-part.part) c.expr.new.self st c.in_ok-part.ensures.reads p)
-
-pub negation-returns-clause-reads : goal.negation-returns-clause-reads
-negation-returns-clause-reads t c =
-    made expression _ _ _ _ c.negated.ensures.value c.negated.ensures.memory
-    (fact_neg c.requires (rw c.skip.ensures at c.in_ok-part.ensures.reads))
+    followed in_box c.followed.result c.in_ok-part.part _ _ _ c.followed.ensures.value c.followed.ensures.passes
+    (λ st p. closed_is c.args.end (in_box c.in_ok-part.part) c.boxed.new.self st c.in_ok-part.ensures.reads p)
 
 pub choice-returns-in_err-yes-clause-reads : goal.choice-returns-in_err-yes-clause-reads
 choice-returns-in_err-yes-clause-reads t c =
-    failed expression expression _ _ _ _ _ _ c.from_residual.ensures.1 c.in_err-yes.ensures.reads
+    failed in_box expression _ _ _ _ _ _ c.from_residual-in_err-yes.ensures.1 c.in_err-yes.ensures.reads
     (λ f h ts m k. pick_unmet (expression c.args.cond) c.args.self.now m k c.requires f (rw c.skip.ensures at h))
 
 pub choice-returns-in_err-no-clause-reads : goal.choice-returns-in_err-no-clause-reads
 choice-returns-in_err-no-clause-reads t c =
-    failed expression expression _ _ _ _ _ _ c.from_residual-in_err-no.ensures.1 c.in_err-no.ensures.reads
-    (λ f h ts m k. pick_is (expression c.args.cond) c.args.self.now m k c.requires (expression c.in_ok-yes.yes)
+    failed in_box expression _ _ _ _ _ _ c.from_residual-in_err-no.ensures.1 c.in_err-no.ensures.reads
+    (λ f h ts m k. pick_is (expression c.args.cond) c.args.self.now m k c.requires (in_box c.in_ok-yes.yes)
     c.closed.new.self (Err f)
     (rw c.skip.ensures at c.in_ok-yes.ensures.reads) h)
 
 pub choice-returns-clause-reads : goal.choice-returns-clause-reads
-choice-returns-clause-reads t c =
-    made expression _ _ _ _ c.picked.ensures.value c.picked.ensures.memory
-    (λ ts m k. pick_is (expression c.args.cond) c.args.self.now m k c.requires
-    (expression c.in_ok-yes.yes) c.closed.new.self (Ok (expression c.in_ok-no.no, c.closed-2.new.self))
+choice-returns-clause-reads t c = λ ts m k.
+    subst (λ v. ReadsExpr c.args.scope.now at.Fact (Ok ts)
+    (Ok (pick (expression v) (in_box c.in_ok-yes.yes) (in_box c.in_ok-no.no), c.closed-2.new.self)))
+    (sym c.in_ok-cond.ensures.ok)
+    (pick_is (expression c.args.cond) c.args.self.now m k c.requires (in_box c.in_ok-yes.yes) c.closed.new.self
+    (Ok (in_box c.in_ok-no.no, c.closed-2.new.self))
     (rw c.skip.ensures at c.in_ok-yes.ensures.reads)
     c.in_ok-no.ensures.reads)
 
@@ -102,27 +105,27 @@ expr-loop-outer-preserved t c = record {
 pub operators-returns-in_err-right-clause-reads : goal.operators-returns-in_err-right-clause-reads
 operators-returns-in_err-right-clause-reads t c =
     let op : operator_of c.args.level (next c.loop-op.self).kind ≡ Some c.in-Some.op = cc in
-    failed expression expression _ _ _ _ _ _ c.from_residual.ensures.1 c.in_err-right.ensures.reads
+    failed in_box expression _ _ _ _ _ _ c.from_residual-in_err-right.ensures.1 c.in_err-right.ensures.reads
     (λ f h. c.loop-op.invariant.reads (Err f)
     (right_fails (expression c.loop-op.left) f op c.requires (rw c.skip.ensures at h)))
 
 pub operators-returns-then-not-repeats-clause-reads : goal.operators-returns-then-not-repeats-clause-reads
 operators-returns-then-not-repeats-clause-reads t c =
     let op : operator_of c.args.level (next c.loop-op.self).kind ≡ Some c.in-Some.op = cc in
-    c.loop-op.invariant.reads (Ok (expression c.in_ok-left.left, c.expr.new.self)) (subst
-    (λ v. ReadsTail c.args.scope.now c.args.level (Ok (expression c.loop-op.left, c.loop-op.self))
-    (Ok (v, c.expr.new.self)))
-    (sym c.in_ok-left.ensures.value)
+    let x : Expression = pair c.in-Some.op (in_box c.in_ok-operand.operand) (in_box c.in_ok-right.right) in
+    c.loop-op.invariant.reads (Ok (x, c.boxed.new.self)) (subst
+    (λ v. ReadsTail c.args.scope.now c.args.level (Ok (expression v, c.loop-op.self)) (Ok (x, c.boxed.new.self)))
+    c.in_ok-operand.ensures.ok
     (one_alone op (sym c.if-not-repeats.ensures) c.requires (rw c.skip.ensures at c.in_ok-right.ensures.reads)))
 
 pub operators-loop-op-preserved : goal.operators-loop-op-preserved
 operators-loop-op-preserved t c =
     let op : operator_of c.args.level (next c.loop-op.self).kind ≡ Some c.in-Some.op = cc in
     record {
-      reads = λ out k. c.loop-op.invariant.reads out
-          (one_more op (sym c.if-not-repeats.ensures) c.requires (rw c.skip.ensures at c.in_ok-right.ensures.reads)
-          (subst (λ v. ReadsTail c.args.scope.now c.args.level (Ok (v, c.expr.new.self)) out) c.in_ok-left.ensures.value
-          k));
+      reads = λ out k. c.loop-op.invariant.reads out (subst
+          (λ v. ReadsTail c.args.scope.now c.args.level (Ok (expression v, c.loop-op.self)) out)
+          c.in_ok-operand.ensures.ok
+          (one_more op (sym c.if-not-repeats.ensures) c.requires (rw c.skip.ensures at c.in_ok-right.ensures.reads) k));
       goes = omega (arith, ap length c.skip.ensures, after_size c.loop-op.self);
     }
 

@@ -7,8 +7,11 @@ use Rattle.cs_grammar.proofs.parser.Parser.+expr.Given as goal
 abbrev pub decreases-expr : goal.decreases-expr
 decreases-expr l = 16 * length l.self.now + (2 * rank l.level + 2)
 
+abbrev pub decreases-boxed : goal.decreases-boxed
+decreases-boxed l = 16 * length l.self.now + (2 * rank l.level + 3)
+
 abbrev pub decreases-closed : goal.decreases-closed
-decreases-closed l = 16 * length l.self.now + 13
+decreases-closed l = 16 * length l.self.now + 14
 
 abbrev pub decreases-operators : goal.decreases-operators
 decreases-operators l = 16 * length l.self.now + (2 * rank l.level + 1)

@@ -8,7 +8,7 @@ use Rattle.cs_grammar.proofs.parser.Parser.add_definition.Goals as goal
 pub returns-in_err-heading-clause-reads : goal.returns-in_err-heading-clause-reads
 returns-in_err-heading-clause-reads c = λ first s.
     failed_on (λ (h : Heading). h) _ _ _ _ _ _ c.from_residual.ensures.1 c.in_err-heading.ensures.reads
-    (λ f h. definition_fails first c.args.self.now c.args.draft.now.defined c.args.draft.now.given
+    (λ f h. definition_fails first c.args.self.now c.args.draft.now.defined c.args.draft.now.given.keys
     c.args.draft.now.orc s f c.requires
     (no_definition c.args.draft.now.defined c.args.self.now c.in_definition.result f
     (rw c.as_slice.ensures at c.in_definition.ensures) h))
@@ -16,7 +16,7 @@ returns-in_err-heading-clause-reads c = λ first s.
 pub returns-in_err-udo-clause-reads : goal.returns-in_err-udo-clause-reads
 returns-in_err-udo-clause-reads c = λ first s.
     failed_on definition _ _ _ _ _ _ c.from_residual-in_err-udo.ensures.1 c.in_err-udo.ensures.reads
-    (λ f k. definition_fails first c.args.self.now c.args.draft.now.defined c.args.draft.now.given
+    (λ f k. definition_fails first c.args.self.now c.args.draft.now.defined c.args.draft.now.given.keys
     c.args.draft.now.orc s f c.requires
     (k c.args.self.now (heading_read c.args.draft.now.defined c.args.self.now c.heading.new.self c.in_ok-heading.heading
     c.in_definition.result

@@ -7,7 +7,7 @@ pub returns-in_err-stmt-clause-reads : goal.returns-in_err-stmt-clause-reads
 returns-in_err-stmt-clause-reads c = λ first s.
     failed_on statement _ _ _ _ _ _ c.from_residual.ensures.1 c.in_err-stmt.ensures.reads
     (λ f h. stmt_fails first c.args.self.now c.args.draft.now.defined
-    c.args.draft.now.given c.args.draft.now.orc s f c.requires
+    c.args.draft.now.given.keys c.args.draft.now.orc s f c.requires
     (subst (λ x. ReadsStmt x c.args.self.now (Err f)) c.outside.ensures h))
 
 pub returns-clause-reads : goal.returns-clause-reads

@@ -15,7 +15,7 @@ returns-in_err-pass-clause-reads c =
 pub returns-in_err-outs-clause-reads : goal.returns-in_err-outs-clause-reads
 returns-in_err-outs-clause-reads c =
     failed (λ (p : List Rate × List Rate). p) (λ (h : Heading). h) _ _ _ _ _ _ c.from_residual-in_err-outs.ensures.1
-    c.in_err-outs.ensures.reads
+    c.in_err-outs.ensures
     (λ f h. heading_is c.args.scope.now (next c.args.self.now).line (after c.args.self.now) c.in_ok-name.name.now
     c.new_name.new.self c.pass.new.self (Err f)
     (rw c.skip.ensures at (sym c.in_ok-name.ensures.reads)) c.in_ok-pass.ensures.passes h)
@@ -26,4 +26,4 @@ returns-clause-reads c =
     c.in_ok-name.name.now c.new_name.new.self
     c.pass.new.self (Ok ((c.in_ok-outs.outs, c.in_ok-outs.ins), c.signature.new.self))
     (rw c.skip.ensures at (sym c.in_ok-name.ensures.reads))
-    c.in_ok-pass.ensures.passes c.in_ok-outs.ensures.reads)
+    c.in_ok-pass.ensures.passes c.in_ok-outs.ensures)

@@ -5,18 +5,18 @@ use Rattle.cs_grammar.specs.{Tree.block, declared.tree.OrcStmt.OrcStmt, inner.An
 use Rattle.std.specs.Global.{Vec}
 use Rattle.cs_grammar.proofs.parser.Parser.instr_body.Goals as goal
 
-pub returns-in_err-body-clause-reads : goal.returns-in_err-body-clause-reads
-returns-in_err-body-clause-reads c =
+pub returns-in_err-body : goal.returns-in_err-body
+returns-in_err-body c =
     failed stmts_in stmts_in _ _ _ _ _ _ c.from_residual.ensures.1 c.in_err-body.ensures.reads (λ f h. (Err f, h, refl))
 
-pub returns-in_err-body-2-clause-reads : goal.returns-in_err-body-2-clause-reads
-returns-in_err-body-2-clause-reads c =
+pub returns-in_err-body-2 : goal.returns-in_err-body-2
+returns-in_err-body-2 c =
     unpassed (Vec OrcStmt) stmts_in _ _ _ _ _ _ c.from_residual-in_err-body-2.ensures.1 c.in_err-body-2.ensures.passes
     (λ f p. instr_body_open c.args.defined.now (block c.in_ok-body.body.items) c.block.new.self f
     c.in_ok-body.ensures.reads p)
 
-pub returns-clause-reads : goal.returns-clause-reads
-returns-clause-reads c =
+pub returns : goal.returns
+returns c =
     followed stmts_in c.ended.result c.in_ok-body-2.body _ _ _ c.ended.ensures.value c.ended.ensures.passes
     (λ st p. subst (λ v. IsInstrBody c.args.scope.now c.args.defined.now c.args.self.now (valued (stmts_in v) st))
     (sym c.in_ok-body-2.ensures.value)

@@ -1,13 +1,12 @@
-use Rattle.std.proofs.Common.{◌≡◌, ◌++◌, ◌≤◌, length}
+use Rattle.std.proofs.Common.{◌≡◌, ◌++◌, length}
 use Rattle.cs_grammar.specs.Lines.{one_number}
 use Rattle.cs_grammar.proofs.SoFar.{RowSoFar}
 use Rattle.cs_grammar.proofs.parser.Parser.numbers.Given as goal
 
 abbrev pub invariant-loop-numbers : goal.invariant-loop-numbers
 invariant-loop-numbers l = record {
-  reads : RowSoFar (one_number l.scope) l.fn.given l.fn.self l.numbers l.given l.self;
-  given : l.given ≡ l.fn.given ++ l.numbers;
-  goes : length l.self ≤ length l.fn.self;
+  reads : RowSoFar (one_number l.scope) l.fn.given.keys l.fn.self l.numbers l.given.keys l.self;
+  given : l.given.keys ≡ l.fn.given.keys ++ l.numbers;
 }
 
 abbrev pub decreases-loop-numbers : goal.decreases-loop-numbers

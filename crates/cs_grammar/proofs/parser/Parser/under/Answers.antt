@@ -7,7 +7,7 @@ use Rattle.cs_grammar.proofs.parser.Parser.under.Goals as goal
 
 pub returns-in_err-lines-clause-reads : goal.returns-in_err-lines-clause-reads
 returns-in_err-lines-clause-reads c =
-    failed inside definition _ _ _ _ _ _ c.from_residual.ensures.1 c.in_err-lines.ensures.reads
+    failed inside definition _ _ _ _ _ _ c.from_residual.ensures.1 c.in_err-lines.ensures
     (λ f h ts e. definition_reads c.args.defined.now ts c.args.self.now c.args.head (Err f) e
     (rw (c.in_definition.ensures, c.name.ensures) at h))
 
@@ -19,4 +19,4 @@ returns-clause-reads c =
     → ReadsDefinition c.args.defined.now ts o) c.defined_as.ensures.value c.defined_as.ensures.memory
     (λ ts e. definition_reads c.args.defined.now ts c.args.self.now c.args.head
     (Ok (inside c.in_ok-lines.lines, c.lines.new.self)) e
-    (rw (c.in_definition.ensures, c.name.ensures) at c.in_ok-lines.ensures.reads))
+    (rw (c.in_definition.ensures, c.name.ensures) at c.in_ok-lines.ensures))
