@@ -13,13 +13,16 @@ use Rattle.cs_typing.specs.declared.routines.RoutineTable.{RoutineTable}
 use Rattle.cs_typing.specs.declared.routines.TypedDefinition.{TypedDefinition}
 use Rattle.cs_grammar.specs.Tree as tree
 
+-- what stands in a list of one value is that value
+pub replicated : {A : Type 0} (n k : ℕ) (x y : A) → slice_get (replicate n x) k ≡ Some y → x ≡ y
+replicated {A} n k x y e =
+    let inside = slice_get_within (replicate n x) k y e in
+    let long = length-replicate {A = A} n x in
+    sym (get_or-replicate {A = A} n k x x (omega (arith, inside, long)))
+    ∙ get_or_from_slice_get (replicate n x) k y x e
+
 none_typed : {A : Type 0} (n k : ℕ) (it : TypedDefinition) → slice_get (replicate n None) k ≡ Some (Some it) → A
-none_typed n k it e =
-    let inside = slice_get_within (replicate n None) k (Some it) e in
-    let long = length-replicate {A = Option TypedDefinition} n None in
-    let here = get_or_from_slice_get (replicate n None) k (Some it) None e in
-    let nothing = get_or-replicate {A = Option TypedDefinition} n k None None (omega (arith, inside, long)) in
-    absurd (none-some it (sym nothing ∙ here))
+none_typed n k it e = absurd (none-some it (replicated n k None (Some it) e))
 
 pub first_sound : (channels : ℕ) (ds : List Definition) (g : Shared) (t : RoutineTable) (n : ℕ)
     → All WellFormedDefinition ds → length ds ≡ n → t.by_definition.items ≡ replicate n None → g.control ≡ []

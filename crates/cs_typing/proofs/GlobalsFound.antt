@@ -1,7 +1,8 @@
 -- Which names a called opcode gives, by the places of definitions; and what each definition's mark says.
 use Rattle.std.proofs.Common.{◌≡◌, ◌∙◌, ℕ, zero, suc, Bool, true, List, [], ◌∷◌, ◌++◌, length, set, slice_get, map}
-use Rattle.std.proofs.Common.{Some, None, refl, sym, ap, subst, ◌≢◌, ⊎_elim}
-use Rattle.std.proofs.lemmas.{List.append_assoc, List.length-set, Bool.cases_eq, Option.same_Some}
+use Rattle.std.proofs.Common.{Some, None, refl, sym, ap, subst, ◌≢◌, ⊎_elim, false, replicate}
+use Rattle.std.proofs.lemmas.{List.append_assoc, List.length-replicate, List.length-set, Bool.cases_eq}
+use Rattle.std.proofs.lemmas.Option.{same_Some}
 use Rattle.cs_grammar.specs.{WellFormed.IsWellFormed, declared.tree.Callee.Callee, declared.tree.Arm.Arm as Arm'}
 use Rattle.cs_grammar.specs.{declared.tree.Arm.out-Arm, Tree.Block, Tree.Definition, Tree.Orchestra, Tree.definition}
 use Rattle.cs_udo.specs.Expanded.{expanded_instrument, expanded_orchestra, no_opcodes}
@@ -15,7 +16,7 @@ use Rattle.cs_typing.specs.inner.Globals.{names_in_instruments, names_of}
 use Rattle.cs_udo.proofs.DefinitionsFound.{found, unfound}
 use Rattle.cs_typing.proofs.GlobalsHeld.{given_held, held_again, held_on}
 use Rattle.cs_typing.proofs.GlobalsWritten.{all_local_inputs, given_both, instruments_given, plain_block_given}
-use Rattle.cs_typing.proofs.{RoutineBlocks.no_first, RoutineOrchestra.no_uppermost}
+use Rattle.cs_typing.proofs.{FirstSound.replicated, RoutineBlocks.no_first, RoutineOrchestra.no_uppermost}
 use Rattle.cs_grammar.specs.declared.tree.Callee.TheVariants as callee
 use Rattle.cs_grammar.specs.Tree as tree
 
@@ -33,6 +34,14 @@ giver_found ds visible (callee.Name x) f h =
     ap names_of (found names_given (λ name. None) ds visible f.place x (definition f.definition.now) refl h.1 h.0 h.2)
 
 -- ---- marks
+
+-- before anything is looked through
+pub none_done : (ds : List Definition) (g : GivenGlobals) (n : ℕ) → length ds ≡ n → g.done.items ≡ replicate n false
+    → IsDone ds g
+none_done ds g n long marks = record {
+  marks = ap length marks ∙ length-replicate {A = Bool} n false ∙ sym long;
+  has = λ k d at here. absurd (cc (replicated n k false true (sym (ap (λ l. slice_get l k) marks) ∙ at)));
+}
 
 -- nothing is given that wasn't
 pub looks_unfound : (f : Front) (g : GivenGlobals) (c : Callee) → IsDone (definitions_of f.library.now) g

@@ -1,7 +1,7 @@
 -- The global variables that expanded statements give are those that the written ones give.
 use Rattle.std.proofs.Common.{◌≡◌, ◌∙◌, ◌++◌, ℕ, Bool, true, false, if◌then◌else◌, List, [], ◌∷◌, map, Option, Some}
 use Rattle.std.proofs.Common.{None, ◌+◌, zero, suc, nat_lt, arith, refl, subst, sym, ap, take}
-use Rattle.std.specs.{List.All, List.prefix_len, Option.option_or, Str.bytes_eq}
+use Rattle.std.specs.List.{All, prefix_len}
 use Rattle.std.proofs.lemmas.{List.append_assoc, List.Elements.All-head, List.Elements.All-tail}
 use Rattle.cs_base.specs.declared.resource.Rate.{Rate}
 use Rattle.cs_words.specs.Names.{is_global}
@@ -17,7 +17,8 @@ use Rattle.cs_udo.specs.Refused.{call_faults, faults, faults_in, faults_in_arms,
 use Rattle.cs_typing.specs.{Known.RateNames, Known.added, Typing.globals_of_instruments}
 use Rattle.cs_typing.specs.Typing.{given_global, given_globals, globals, globals_of_block, globals_of_arms}
 use Rattle.cs_typing.specs.inner.Globals.{Givers, names_of, called_names, names_in, names_in_block, names_in_arms}
-use Rattle.cs_typing.specs.inner.Globals.{with_giver, with_givers, givers_of, names_in_instruments}
+use Rattle.cs_typing.specs.inner.Globals.{names_given, with_giver, with_givers, givers_of, names_in_instruments}
+use Rattle.cs_typing.proofs.BothDefined.{Both, both_more}
 use Rattle.cs_typing.proofs.{RoutineCalls.ResultsFit, RoutineBlocks.call_fits, RoutineBlocks.no_first}
 use Rattle.cs_typing.proofs.{RoutineLibrary.body_allowed, RoutineNames.frame_owns, RoutineOrchestra.none_called_block}
 use Rattle.cs_typing.proofs.RoutineSlots.{AllLocal, inputs_local}
@@ -83,20 +84,14 @@ pub record Gives (t : Template) (xs : List (List ℕ)) : Type 0 where
   pub inputs : AllLocal t.inputs
   pub block : (g : RateNames) (f : ℕ) → globals_of_block g (t.block f) ≡ given_globals g xs
 
-abbrev pub Both : Option Template → Option (List (List ℕ)) → Type 0
-Both None None = Unit {0}
-Both None (Some xs) = ⊥
-Both (Some t) None = ⊥
-Both (Some t) (Some xs) = Gives t xs
-
 abbrev pub AllGive : Opcodes → Givers → Type 0
-AllGive opcodes givers = (name : List ℕ) → Both (opcodes name) (givers name)
+AllGive opcodes givers = (name : List ℕ) → Both Gives (opcodes name) (givers name)
 
 frame_keeps : (f : ℕ) → Keeps (in_frame f)
 frame_keeps f = let o = frame_owns f (f + 1) (omega arith) in record { local = o.local; shared = o.shared }
 
 call_given : {own : List ℕ → List ℕ} → Keeps own → (found : Option Template) (names : Option (List (List ℕ)))
-    → Both found names → (t : RateNames) (f line : ℕ) (xs : List (List ℕ)) (c : Callee) (args : List Argument)
+    → Both Gives found names → (t : RateNames) (f line : ℕ) (xs : List (List ℕ)) (c : Callee) (args : List Argument)
     → call_faults true line xs args found ≡ []
     → globals_of_block t (called own f line xs c args found) ≡ given_globals t (names_of names ++ xs)
 call_given o None None m t f line xs c args none = all_own_given o t xs
@@ -200,17 +195,8 @@ gives_of opcodes givers m d local none = record {
 
 give_more : (opcodes : Opcodes) (givers : Givers) → AllGive opcodes givers → (d : Definition) → AllLocal d.names
     → faults_in opcodes true d.body ≡ [] → AllGive (defining opcodes d) (with_giver givers d)
-give_more opcodes givers m d local none name =
-    by (opcodes name) (givers name) (m name) (bytes_eq name d.name)
-  where
-    by : (found : Option Template) (names : Option (List (List ℕ))) → Both found names → (b : Bool)
-        → Both (option_or found (if b then Some (template opcodes d) else None))
-        (option_or names (if b then Some (names_in_block givers d.body) else None))
-    by None None h true = gives_of opcodes givers m d local none
-    by None None h false = tt
-    by None (Some xs) h b = absurd h
-    by (Some t) None h b = absurd h
-    by (Some t) (Some xs) h b = h
+give_more opcodes givers m d local none =
+    both_more Gives template names_given opcodes givers m d (gives_of opcodes givers m d local none)
 
 abbrev pub AllLocalInputs : List Definition → Type 0
 AllLocalInputs [] = Unit {0}

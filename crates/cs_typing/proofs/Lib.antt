@@ -1,6 +1,7 @@
 pub mod Added
 pub mod Answers
 pub mod Beside
+pub mod BothDefined
 pub mod Called
 pub mod ChannelTexts
 pub mod Cut

@@ -12,7 +12,7 @@ use Rattle.cs_grammar.specs.Renaming.{renamed_expression, renamed_argument}
 use Rattle.cs_grammar.specs.{declared.tree.Callee.Callee, Tree.Arms, Tree.otherwise, Tree.arm}
 use Rattle.cs_grammar.specs.Tree.{Argument, value, text, Statement, set, call, choose, Block, no_stmt, andthen, joins}
 use Rattle.cs_typed.specs.{Calls.rate_of_choice, declared.setting.Setting.Setting}
-use Rattle.cs_typed.specs.TypedTree.{moved_block, moved_arms, then_block}
+use Rattle.cs_typed.specs.TypedTree.{moved_arms, then_block}
 use Rattle.cs_typed.proofs.Moved.{moved_then}
 use Rattle.cs_udo.specs.Expanded.{Template, Opcodes, defined, assignments, value_in, called, after_called, after}
 use Rattle.cs_udo.specs.Expanded.{after_block, after_arms, expanded, expanded_block, expanded_arms}
@@ -26,6 +26,7 @@ use Rattle.cs_typing.specs.inner.Routines.{KnownInBody, known_in, knows_in, Rout
 use Rattle.cs_typing.specs.inner.Routines.{known_after, known_after_block, known_after_arms, shared_after_call}
 use Rattle.cs_typing.specs.inner.Routines.{locals_after_call, call_fault_in, fault_in, block_fault_in, arms_fault_in}
 use Rattle.cs_typing.specs.inner.Routines.{call_in, typed_in, typed_block_in, typed_arms_in}
+use Rattle.cs_typing.proofs.BothDefined.{Both}
 use Rattle.cs_typing.proofs.{Added.added_other, Joins.or_none, Joins.known_joins, Joins.fault_joins, Joins.typed_joins}
 use Rattle.cs_typing.proofs.{RoutineExpressions.call_same, RoutineExpressions.call_mirrors, Rules.at_none}
 use Rattle.cs_typing.proofs.{Rules.keeps_condition, Rules.keeps_set, SameRates.KeepsRates, SameRates.rate_of_kept}
@@ -85,23 +86,17 @@ call_fits line xs args t e =
 
 -- ---- opcodes and their routines
 
-abbrev pub Both : Option Template → Option Routine → Type 0
-Both None None = Unit {0}
-Both None (Some r) = ⊥
-Both (Some t) None = ⊥
-Both (Some t) (Some r) = Matches t r
-
 abbrev pub AllMatch : Opcodes → Routines → Type 0
-AllMatch opcodes rs = (name : List ℕ) → Both (opcodes name) (rs name)
+AllMatch opcodes rs = (name : List ℕ) → Both Matches (opcodes name) (rs name)
 
 at_callee : (opcodes : Opcodes) (rs : Routines) → AllMatch opcodes rs → (c : Callee)
-    → Both (defined opcodes c) (routine_called rs c)
+    → Both Matches (defined opcodes c) (routine_called rs c)
 at_callee opcodes rs m (callee.Opcode o) = tt
 at_callee opcodes rs m (callee.Name name) = m name
 
 -- ---- frames are counted upwards
 
-call_grows : (t : Option Template) (r : Option Routine) → Both t r → (f : ℕ) → f ≤ after_called f t
+call_grows : (t : Option Template) (r : Option Routine) → Both Matches t r → (f : ℕ) → f ≤ after_called f t
 call_grows None None h f = omega arith
 call_grows None (Some r) h f = absurd h
 call_grows (Some t) None h f = absurd h
@@ -178,7 +173,7 @@ module _ {P : List ℕ → Type 0} {own : List ℕ → List ℕ} {f : ℕ} (o : 
   row_untouched n (callee.Opcode q) xs args p = all_untouched n xs p
   row_untouched n (callee.Name name) xs args p = all_untouched n xs p
 
-  call_untouched : (t : Option Template) (r : Option Routine) → Both t r → (n : KnownHere) (line : ℕ)
+  call_untouched : (t : Option Template) (r : Option Routine) → Both Matches t r → (n : KnownHere) (line : ℕ)
       (xs : List (List ℕ)) (c : Callee) (args : List Argument) → NamedAll P xs
       → in_table (known_block n (called own f line xs c args t)).locals y ≡ in_table n.locals y
   call_untouched None None m n line xs c args p = row_untouched n c xs (map (renamed_argument own) args) p
@@ -243,7 +238,7 @@ routine_fits t r m line xs args none =
     )
 
 module _ {P : List ℕ → Type 0} {own : List ℕ → List ℕ} (base : PerRate ℕ) where
-  call_meets : (t : Option Template) (r : Option Routine) → Both t r → (f : ℕ) → Owns P own f
+  call_meets : (t : Option Template) (r : Option Routine) → Both Matches t r → (f : ℕ) → Owns P own f
       → (n : KnownHere) (k : KnownInBody) → Mirrors P own f base n k
       → (line : ℕ) (xs : List (List ℕ)) (c : Callee) (args : List Argument) → NamedAll P xs → NamedArguments P args
       → call_faults true line xs args t ≡ []

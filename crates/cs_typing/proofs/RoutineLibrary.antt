@@ -1,23 +1,22 @@
 -- Definitions, and instruments: routines are what expansions are typed to.
 use Rattle.std.proofs.Common.{◌≡◌, ◌∙◌, ℕ, ◌+◌, ◌≤◌, ◌<◌, Bool, true, false, if◌then◌else◌, List, [], ◌∷◌, ◌++◌, nat_lt}
-use Rattle.std.proofs.Common.{append_assoc, Option, Some, None, arith, refl, sym, ap}
-use Rattle.std.specs.{Option.option_or, Str.bytes_eq}
+use Rattle.std.proofs.Common.{append_assoc, arith, refl, sym, ap}
 use Rattle.cs_base.specs.declared.resource.Rate.{Rate}
 use Rattle.cs_words.specs.{NameSets.has, Names.name_rate}
 use Rattle.cs_grammar.specs.WellFormed.{HasNoStop}
 use Rattle.cs_grammar.specs.Tree.{Argument, value, Block, no_stmt, andthen, joins, Definition, Instrument}
 use Rattle.cs_typed.specs.TypedTree.{no_counts}
-use Rattle.cs_udo.specs.Expanded.{Template, Opcodes, no_opcodes, assignments, after_block, whole_body, template}
+use Rattle.cs_udo.specs.Expanded.{Opcodes, no_opcodes, assignments, after_block, whole_body, template}
 use Rattle.cs_udo.specs.Expanded.{defining, defining_all, before, opcodes_before, expanded_instrument}
 use Rattle.cs_udo.specs.Names.{fresh, in_frame, as_it_is, slots}
 use Rattle.cs_udo.specs.Refused.{faults, faults_in, faults_of_definitions}
 use Rattle.cs_udo.proofs.Fresh.{framed_fresh}
 use Rattle.cs_typing.specs.Known.{no_names, of_rate, Shared, KnownHere, known_with}
 use Rattle.cs_typing.specs.{Typing.entered, inner.Routines.routines_before}
-use Rattle.cs_typing.specs.inner.Routines.{no_locals, known_in, Routine, Routines, no_routines, known_after_block}
+use Rattle.cs_typing.specs.inner.Routines.{no_locals, known_in, Routines, no_routines, known_after_block}
 use Rattle.cs_typing.specs.inner.Routines.{block_fault_in, typed_block_in, routine_of, with_routine, with_routines}
-use Rattle.cs_typing.proofs.{Named.NamedBlock, Named.any_block, RoutineBlocks.Stranger}
-use Rattle.cs_typing.proofs.RoutineBlocks.{Both, AllMatch, no_first, block_grows, block_untouched, block_meets}
+use Rattle.cs_typing.proofs.{BothDefined.both_more, Named.NamedBlock, Named.any_block, RoutineBlocks.Stranger}
+use Rattle.cs_typing.proofs.RoutineBlocks.{AllMatch, no_first, block_grows, block_untouched, block_meets}
 use Rattle.cs_typing.proofs.RoutineCalls.{Matches, Meets}
 use Rattle.cs_typing.proofs.RoutineNames.{Any, any, as_it_is_owns, frame_owns, Mirrors}
 use Rattle.cs_base.specs.declared.resource.Rate.TheVariants as rate
@@ -79,16 +78,8 @@ definition_matches opcodes rs m d none =
 
 one_match : (opcodes : Opcodes) (rs : Routines) → AllMatch opcodes rs → (d : Definition)
     → faults_in opcodes true d.body ≡ [] → AllMatch (defining opcodes d) (with_routine rs d)
-one_match opcodes rs m d none name = by (opcodes name) (rs name) (m name) (bytes_eq name d.name)
-  where
-    by : (t : Option Template) (r : Option Routine) → Both t r → (b : Bool)
-        → Both (option_or t (if b then Some (template opcodes d) else None))
-        (option_or r (if b then Some (routine_of rs d) else None))
-    by None None h true = definition_matches opcodes rs m d none
-    by None None h false = tt
-    by None (Some r) h b = absurd h
-    by (Some t) None h b = absurd h
-    by (Some t) (Some r) h b = h
+one_match opcodes rs m d none =
+    both_more Matches template routine_of opcodes rs m d (definition_matches opcodes rs m d none)
 
 pub all_match : (opcodes : Opcodes) (rs : Routines) → AllMatch opcodes rs → (ds : List Definition)
     → faults_of_definitions opcodes ds ≡ [] → AllMatch (defining_all opcodes ds) (with_routines rs ds)

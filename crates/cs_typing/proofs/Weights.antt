@@ -12,7 +12,7 @@ abbrev mutual
   pub weight : Statement → ℕ
   weight (set line x e) = 4
   weight (call line xs c args) = 4
-  weight (choose line list) = 1 + weight_of_arms list
+  weight (choose line list) = 2 + weight_of_arms list
 
   pub weight_of : Block → ℕ
   weight_of no_stmt = 1

@@ -4,7 +4,7 @@ ghost use Rattle.cs_words.specs.Names.{name_rate};
 ghost use Rattle.cs_grammar.specs.Tree as tree;
 ghost use Rattle.cs_typing.specs.{Expressions.expression_by, Settings.at, Statements.may_set, Statements.set_fault_by};
 ghost use Rattle.cs_typed.specs.TypedTree as typed;
-ghost use Rattle.cs_typing.specs.{inner.Answers.GivesOne, inner.Held.known_of};
+ghost use Rattle.cs_typing.specs.{inner.Answers.Judged, inner.Held.known_of, inner.Listed.Adds};
 ghost use Rattle.cs_typing.specs.inner.Routines.{given_in, known_in, knows_in, variable_in};
 
 use crate::call::broken;
@@ -12,7 +12,7 @@ use crate::expr::{is_value, rate_of, reads_known, typed_expression};
 use crate::known::KnownNames;
 use cs_base::{Or, OrcFault, OrcKind, Rate};
 use cs_grammar::Expr;
-use cs_typed::{Setting, TypedStmt, TypedWhat, Var};
+use cs_typed::{Setting, TypedStmt, TypedStmts, TypedWhat, Var};
 use cs_words::name_rate;
 
 fn may_set(setting: Setting, rate: Rate, e: &Expr) -> bool
@@ -28,17 +28,19 @@ pub struct Target {
     pub var: Var,
 }
 
-/// Judges an assignment to a variable, and gives its typed form.
+/// Judges an assignment to a variable, and adds its typed form.
 pub fn set<'t>(
     setting: Setting,
     names: &KnownNames<'t>,
+    done: &mut TypedStmts,
     line: u32,
     to: Target,
     e: &Expr,
-) -> Result<TypedStmt, Or<OrcFault>>
-    ensures { (x : List ℕ) → name_rate x ≡ to.rate → GivesOne result
-        (at line (set_fault_by setting (knows_in (known_of names.now)) x (tree.expression e.now)))
-        (typed.set line to.rate to.var (expression_by (variable_in (known_of names.now)) (tree.expression e.now))) }
+) -> Result<(), Or<OrcFault>>
+    ensures fault { (x : List ℕ) → name_rate x ≡ to.rate → Judged result
+        (at line (set_fault_by setting (knows_in (known_of names.now)) x (tree.expression e.now))) }
+    ensures made { OnOk result (Adds done.old.items done.new.items (typed.alone
+        (typed.set line to.rate to.var (expression_by (variable_in (known_of names.now)) (tree.expression e.now))))) }
 {
     if !reads_known(names, e) {
         return Err(broken(line, OrcKind::Undefined));
@@ -47,25 +49,28 @@ pub fn set<'t>(
         return Err(broken(line, OrcKind::RateMismatch));
     }
     let value = typed_expression(names, e)?;
-    Ok(TypedStmt {
+    done.push(TypedStmt {
         line,
         rate: to.rate,
         what: TypedWhat::Set(to.var, value),
-    })
+    })?;
+    Ok(())
 }
 
-/// `name = e`: judges it, and gives its typed form; the name is given from then on.
+/// `name = e`: judges it, and adds its typed form; the name is given from then on.
 pub fn set_name<'t>(
     setting: Setting,
     names: &mut KnownNames<'t>,
+    done: &mut TypedStmts,
     line: u32,
     name: &'t [u8],
     e: &Expr,
-) -> Result<TypedStmt, Or<OrcFault>>
-    ensures gives { GivesOne result
-        (at line (set_fault_by setting (knows_in (known_of names.old)) name.now (tree.expression e.now)))
+) -> Result<(), Or<OrcFault>>
+    ensures fault { Judged result
+        (at line (set_fault_by setting (knows_in (known_of names.old)) name.now (tree.expression e.now))) }
+    ensures made { OnOk result (Adds done.old.items done.new.items (typed.alone
         (typed.set line (name_rate name.now) (variable_in (known_of names.old) name.now)
-        (expression_by (variable_in (known_of names.old)) (tree.expression e.now))) }
+        (expression_by (variable_in (known_of names.old)) (tree.expression e.now))))) }
     ensures known { OnOk result (known_of names.new
         ≡ known_in names.old.shared (given_in (known_of names.old).locals name.now)) }
 {
@@ -73,7 +78,7 @@ pub fn set_name<'t>(
         rate: name_rate(name),
         var: names.variable(name),
     };
-    let made = set(setting, names, line, to, e)?;
+    set(setting, names, done, line, to, e)?;
     names.scope.give(name)?;
-    Ok(made)
+    Ok(())
 }

@@ -139,9 +139,10 @@ pub fn globals_of<'t>(
     ensures { IfOk result (λ t. t ≡ all_globals (expanded_orchestra (tree.orchestra expansion.now.orc.now))) }
 {
     let library = &expansion.library;
+    let done = vec![in alloc; false; library.definitions.len()]?;
     let mut given = GivenGlobals {
         names: NamesByRate::new(alloc),
-        done: vec![in alloc; false; library.definitions.len()]?,
+        done,
     };
     let outside = Front {
         library,

@@ -5,7 +5,7 @@ ghost use Rattle.cs_base.specs.Rates.{at_rate};
 ghost use Rattle.cs_grammar.specs.Tree as tree;
 ghost use Rattle.cs_typed.specs.TypedTree as typed;
 ghost use Rattle.cs_typed.specs.declared.tree.Var.TheVariants.{Local};
-ghost use Rattle.cs_typing.specs.inner.Answers.{GivesOne, Judged};
+ghost use Rattle.cs_typing.specs.inner.Answers.{Judged};
 ghost use Rattle.cs_typing.specs.{inner.Listed.Adds, inner.Routines.variable_in, Expressions.expression_by};
 ghost use Rattle.cs_typing.specs.{Settings.at, Statements.set_fault_by, inner.Held.known_of, inner.Held.locals_of};
 ghost use Rattle.cs_typing.specs.inner.Routines.{all_given_in, inputs_fault, known_in, no_locals, knows_in};
@@ -77,7 +77,7 @@ pub fn give_inputs<'t>(
             Arg::Value(e) => {
                 let name = list[i].as_slice();
                 let to = moved(it.base, name_rate(name), inputs.number(name))?;
-                done.push(set(setting, names, it.line, to, e)?)?;
+                set(setting, names, done, it.line, to, e)?;
             }
         }
     }
@@ -138,7 +138,7 @@ fn give_slot<'t>(
         rate,
         var: Var::Local(rate, number),
     };
-    done.push(set(setting, names, line, to, e)?)?;
+    set(setting, names, done, line, to, e)?;
     names.scope.take_one(rate)?;
     Ok(number)
 }
@@ -164,24 +164,26 @@ pub fn give_results<'t>(
         let name = it.results[i].as_slice();
         if i < rates.len() {
             let from = moved(it.base, rates[i], slots[i])?;
-            done.push(taken(setting, names, it.line, name, from)?)?;
+            take(setting, names, done, it.line, name, from)?;
         }
         names.scope.give(name)?;
     }
     Ok(())
 }
 
-// `name` takes what another variable has.
-fn taken<'t>(
+// `name` takes what another variable has: judges it, and adds the assignment.
+fn take<'t>(
     setting: Setting,
     names: &KnownNames<'t>,
+    done: &mut TypedStmts,
     line: u32,
     name: &'t [u8],
     from: Target,
-) -> Result<TypedStmt, Or<OrcFault>>
-    ensures { GivesOne result (at line (taken_kind setting name.now from.rate))
+) -> Result<(), Or<OrcFault>>
+    ensures fault { Judged result (at line (taken_kind setting name.now from.rate)) }
+    ensures made { OnOk result (Adds done.old.items done.new.items (typed.alone
         (typed.set line (name_rate name.now) (variable_in (known_of names.now) name.now)
-        (typed.var from.rate from.var)) }
+        (typed.var from.rate from.var)))) }
 {
     let rate = name_rate(name);
     if !(from.rate.within(rate) && (setting.inside || rate.is_init())) {
@@ -191,9 +193,10 @@ fn taken<'t>(
         rate: from.rate,
         what: TypedPart::Var(from.var),
     };
-    Ok(TypedStmt {
+    done.push(TypedStmt {
         line,
         rate,
         what: TypedWhat::Set(names.variable(name), value),
-    })
+    })?;
+    Ok(())
 }

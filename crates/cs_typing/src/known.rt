@@ -254,9 +254,9 @@ impl<'t> Shared<'t> {
         ensures { IfOk result (λ made. typed.shared_names made ≡ shared_names self.now) }
     {
         Ok(Globals {
-            variables: self.globals.copied(alloc)?,
             control: self.control.to_names(alloc)?,
             sound: self.sound.to_names(alloc)?,
+            variables: self.globals.copied(alloc)?,
         })
     }
 }

@@ -60,11 +60,10 @@ impl Done {
     }
 }
 
-/// An orchestra that is judged part by part: what is known, a place for the names of the body around, what is made.
+/// An orchestra that is judged part by part: what is known, and what is made.
 #[derive(Drop)]
 pub struct Typing<'t> {
     so_far: SoFar<'t>,
-    around: Scope<'t>,
     made: Done,
 }
 
@@ -73,14 +72,13 @@ impl<'t> Typing<'t> {
         requires { IsReady expansion.now }
         ensures { IfOk result (λ t. IsBegun expansion.now t) }
     {
-        let globals = globals_of(alloc, expansion)?;
         let routines = RoutineTable::new(alloc, expansion.library.definitions.len())?;
+        let globals = globals_of(alloc, expansion)?;
         Ok(Typing {
             so_far: SoFar {
                 names: KnownNames::new(alloc, globals),
                 routines,
             },
-            around: Scope::new(alloc),
             made: Done::new(alloc),
         })
     }
@@ -117,7 +115,7 @@ impl<'t> Typing<'t> {
         ensures { AddsPart channels (definitions_of library.now) self.old self.new result
             (body (tree.instrument i.now)) }
     {
-        let made = instrument(channels, library, &mut self.so_far, &mut self.around, i)?;
+        let made = instrument(channels, library, &mut self.so_far, i)?;
         Ok(self.made.add_instrument(made)?)
     }
 
@@ -168,12 +166,12 @@ impl<'t> Typing<'t> {
 
     // Judges an orchestra whose settings have no fault, where nothing of it is judged yet.
     fn typed(
-        mut self,
+        &mut self,
         settings: Settings,
         expansion: &Expansion<'t>,
     ) -> Result<TypedOrc, Or<OrcFault>>
         requires ready { IsReady expansion.now }
-        requires begun { IsBegun expansion.now self }
+        requires begun { IsBegun expansion.now self.old }
         ensures { GivesOrc result (statements_fault settings.head.nchnls (tree.orchestra expansion.now.orc.now))
             (typed_by (settings_of settings) (tree.orchestra expansion.now.orc.now)) }
     {
@@ -188,7 +186,6 @@ fn instrument<'t>(
     channels: u32,
     library: &Library<'t>,
     so_far: &mut SoFar<'t>,
-    around: &mut Scope<'t>,
     i: &'t Instr,
 ) -> Result<TypedInstr, Or<OrcFault>>
     requires sound { AreSound channels (definitions_of library.now) so_far.old }
@@ -208,10 +205,10 @@ fn instrument<'t>(
     };
     let alloc = so_far.names.alloc();
     let numbers = i.numbers.to_items(alloc)?;
-    drop(replace(around, Scope::new(alloc)));
-    so_far.names.exchange(around);
+    let mut around = Scope::new(alloc);
+    so_far.names.exchange(&mut around);
     let body = block(&site, so_far, &i.body)?;
-    so_far.names.exchange(around);
+    so_far.names.exchange(&mut around);
     Ok(TypedInstr {
         line: i.line,
         numbers,
@@ -241,5 +238,6 @@ pub fn type_orc(alloc: Global, expansion: &Expansion<'_>) -> Result<TypedOrc, Or
         → type_fault (expanded_orchestra (tree.orchestra expansion.now.orc.now)) ≡ Some f }
 {
     let settings = judge_settings(&expansion.orc.head, &expansion.orc.zero)?;
-    Typing::new(alloc, expansion)?.typed(settings, expansion)
+    let mut typing = Typing::new(alloc, expansion)?;
+    typing.typed(settings, expansion)
 }

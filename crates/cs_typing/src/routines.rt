@@ -66,7 +66,10 @@ impl RoutineTable {
         ensures none { IfNone result ((it : TypedDefinition)
             → slice_get self.now.by_definition.items definition ≡ Some (Some it) → ⊥) }
     {
-        self.by_definition.get(definition)?.as_ref()
+        match self.by_definition.get(definition) {
+            Some(Some(it)) => Some(it),
+            _ => None,
+        }
     }
 
     /// Adds the routine of a definition that isn't typed.

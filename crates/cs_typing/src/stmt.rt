@@ -1,17 +1,18 @@
 // Statements: judged in the order of the text, and given their typed form. A defined opcode is typed where it is first
 // called.
-ghost use Rattle.std.specs.Prelude.{◌≡◌, ◌<◌, List, OnOk, Some, map, slice_get};
+ghost use Rattle.std.specs.Prelude.{◌≡◌, ◌<◌, List, OnOk, Some, length, map, slice_get};
 ghost use Rattle.cs_grammar.specs.Tree as tree;
 ghost use Rattle.cs_grammar.specs.declared.tree.Callee.{Callee};
 ghost use Rattle.cs_typing.specs.{Expressions.expression_by, Settings.at};
 ghost use Rattle.cs_typing.specs.Statements.{condition_fault_by, choice_rate};
 ghost use Rattle.cs_typed.specs.TypedTree as typed;
 ghost use Rattle.cs_typing.specs.{inner.Answers.Gives, inner.Answers.Judged, inner.Held.known_of, inner.Held.locals_of};
-ghost use Rattle.cs_typing.specs.inner.Listed.{AddsOver, GivesArm, GivesArms, GivesBlock, IsAhead, IsListed, IsSound};
-ghost use Rattle.cs_typing.specs.inner.Listed.{routine_here, routines_at};
+ghost use Rattle.cs_typing.specs.inner.Listed.{AddsOver, GivesArm, GivesBlock, GivesChoice, IsAhead};
+ghost use Rattle.cs_typing.specs.inner.Listed.{IsListed, IsSound, routine_here, routines_at};
 ghost use Rattle.cs_typing.specs.inner.Routines.{all_given_in, call_fault_in, call_in, locals_after_call, fault_in};
-ghost use Rattle.cs_typing.specs.inner.Routines.{block_fault_in, known_after, known_after_block, knows_in, known_in};
-ghost use Rattle.cs_typing.specs.inner.Routines.{no_locals, typed_in, typed_block_in, variable_in};
+ghost use Rattle.cs_typing.specs.inner.Routines.{block_fault_in, known_after, known_after_arms, known_after_block};
+ghost use Rattle.cs_typing.specs.inner.Routines.{knows_in, known_in, no_locals, past_call, typed_in, typed_block_in};
+ghost use Rattle.cs_typing.specs.{inner.Routines.variable_in, inner.Slots.taken_fault, inner.Slots.taken_set};
 ghost use Rattle.cs_udo.specs.Library.{definitions_of};
 
 use crate::assign::set_name;
@@ -19,10 +20,10 @@ use crate::call::{broken, call};
 use crate::expr::{is_condition, rate_of, reads_known, typed_expression};
 use crate::invoke::{Invocation, give_inputs, give_results, give_slots, inputs_of};
 use crate::known::{KnownNames, Scope};
-use crate::routines::{Site, SoFar};
+use crate::routines::{Site, SoFar, TypedDefinition};
 use cs_base::{Or, OrcFault, OrcKind, PerRate, Rate};
 use cs_grammar::{Arm, Expr, OrcStmt, StmtWhat, Udo};
-use cs_typed::{Setting, TypedArm, TypedArms, TypedExpr, TypedStmt, TypedStmts, TypedWhat};
+use cs_typed::{Setting, TypedArm, TypedExpr, TypedStmt, TypedStmts, TypedWhat};
 
 // The rate of an `if`: it is done once where all its conditions are known when the note begins.
 fn choice_rate(list: &[Arm]) -> Rate
@@ -74,9 +75,8 @@ fn stmt<'t>(
 {
     match &s.what {
         StmtWhat::Set(name, e) => {
-            let made = set_name(site.setting, &mut so_far.names, s.line, name.as_slice(), e)?;
-            done.push(made)?;
-            Ok(())
+            let names = &mut so_far.names;
+            set_name(site.setting, names, done, s.line, name.as_slice(), e)
         }
         StmtWhat::Call(results, callee, args) => {
             let results = results.as_slice();
@@ -100,17 +100,39 @@ fn stmt<'t>(
             }
         }
         StmtWhat::Choose(list, els) => {
-            let typed = arms(site, so_far, s.line, list)?;
-            let typed_els = block(site, so_far, els)?;
-            let made = TypedStmt {
-                line: s.line,
-                rate: choice_rate(list),
-                what: TypedWhat::Choose(typed, typed_els),
-            };
+            let made = choice(site, so_far, s.line, list, els)?;
             done.push(made)?;
             Ok(())
         }
     }
+}
+
+// An `if`, whose line is given.
+#[cycle(typing)]
+fn choice<'t>(
+    site: &Site<'_, 't>,
+    so_far: &mut SoFar<'t>,
+    line: u32,
+    list: &'t [Arm],
+    els: &'t [OrcStmt],
+) -> Result<TypedStmt, Or<OrcFault>>
+    requires sound { IsSound site.now so_far.old }
+    ensures gives { GivesChoice so_far.new.routines result site.now.setting (routines_at site.now)
+        (known_of so_far.old.names) line (tree.arms (tree.block els.now) list.now) }
+    ensures known { OnOk result (known_of so_far.new.names ≡ known_after_arms (routines_at site.now)
+        (known_of so_far.old.names) (tree.arms (tree.block els.now) list.now)) }
+    ensures ahead { OnOk result (IsAhead site.now so_far.old so_far.new) }
+{
+    let mut typed = Vec::new(so_far.names.alloc());
+    for a in list {
+        typed.push(arm(site, so_far, line, a)?)?;
+    }
+    let typed_els = block(site, so_far, els)?;
+    Ok(TypedStmt {
+        line,
+        rate: choice_rate(list),
+        what: TypedWhat::Choose(typed, typed_els),
+    })
 }
 
 // A call of the definition at a place: its inputs are given, its routine is invoked, its results are given.
@@ -146,12 +168,31 @@ fn invoke<'t>(
     let SoFar { names, routines } = so_far;
     match routines.of(place) {
         None => Ok(()),
-        Some(found) => {
-            done.push(invocation(it.line, found.routine, it.base))?;
-            names.scope.take(found.locals)?;
-            give_results(site.setting, names, done, it, &found.slots)
-        }
+        Some(found) => give_routine(site.setting, names, done, it, found),
     }
+}
+
+// Adds what the routine of a typed definition does at a call; its results are given.
+fn give_routine<'t>(
+    setting: Setting,
+    names: &mut KnownNames<'t>,
+    done: &mut TypedStmts,
+    it: &Invocation<'t>,
+    found: &TypedDefinition,
+) -> Result<(), Or<OrcFault>>
+    requires { length found.now.slots.items ≡ length it.now.definition.now.outs }
+    ensures fault { Judged result (taken_fault setting it.now.line it.now.results.now it.now.definition.now.outs) }
+    ensures made { OnOk result ((rs : List typed.Block) → typed.block rs done.new.items
+        ≡ typed.then_block (typed.block rs done.old.items) (typed.then_block
+        (typed.moved_block it.now.base (typed.routine_at rs found.now.routine))
+        (taken_set (known_in names.old.shared (past_call (known_of names.old).locals found.now.locals))
+        it.now.base it.now.line it.now.results.now it.now.definition.now.outs found.now.slots.items))) }
+    ensures known { OnOk result (known_of names.new ≡ known_in names.old.shared
+        (all_given_in (past_call (known_of names.old).locals found.now.locals) it.now.results.now)) }
+{
+    done.push(invocation(it.line, found.routine, it.base))?;
+    names.scope.take(found.locals)?;
+    give_results(setting, names, done, it, &found.slots)
 }
 
 fn invocation(line: u32, routine: usize, base: PerRate<usize>) -> TypedStmt
@@ -221,26 +262,6 @@ pub fn block<'t>(
     let mut done = Vec::new(so_far.names.alloc());
     for s in stmts {
         stmt(site, so_far, &mut done, s)?;
-    }
-    Ok(done)
-}
-
-// The arms of an `if`, whose line is given.
-#[cycle(typing)]
-fn arms<'t>(
-    site: &Site<'_, 't>,
-    so_far: &mut SoFar<'t>,
-    line: u32,
-    list: &'t [Arm],
-) -> Result<TypedArms, Or<OrcFault>>
-    requires sound { IsSound site.now so_far.old }
-    ensures gives { GivesArms so_far.new.routines site.now.setting (routines_at site.now)
-        (known_of so_far.old.names) line list.now result (known_of so_far.new.names) }
-    ensures ahead { OnOk result (IsAhead site.now so_far.old so_far.new) }
-{
-    let mut done = Vec::new(so_far.names.alloc());
-    for a in list {
-        done.push(arm(site, so_far, line, a)?)?;
     }
     Ok(done)
 }

@@ -4,16 +4,17 @@ use Rattle.std.specs.{Prelude.Result, Prelude.Ok, Prelude.Err, Global.Vec, List.
 use Rattle.cs_base.specs.{declared.fault.Or.Or, declared.fault.OrcFault.OrcFault}
 use Rattle.cs_words.specs.NameSets.{has}
 use Rattle.cs_grammar.specs.{WellFormed.WellFormedDefinition, declared.tree.Arm.Arm, declared.tree.Arm.out-Arm}
-use Rattle.cs_grammar.specs.Tree.{Block, Definition, arms, block, expression}
+use Rattle.cs_grammar.specs.Tree.{Arms, Definition, block, expression}
 use Rattle.cs_typed.specs.{declared.setting.Setting.Setting, Places.inside, declared.tree.TypedStmt.TypedStmt}
 use Rattle.cs_typed.specs.declared.tree.TypedArm.{TypedArm, out-TypedArm}
-use Rattle.cs_typing.specs.{Expressions.expression_by, Settings.at, Statements.condition_fault_by}
+use Rattle.cs_typing.specs.{Expressions.expression_by, Settings.at, Statements.choice_rate}
 use Rattle.cs_typing.specs.{inner.Answers.HasFault, Known.Shared, declared.routines.RoutineTable.RoutineTable}
+use Rattle.cs_typing.specs.Statements.{condition_fault_by}
 use Rattle.cs_typing.specs.{declared.routines.Site.Site, declared.routines.SoFar.SoFar}
 use Rattle.cs_udo.specs.Library.{definitions_of}
 use Rattle.cs_typing.specs.declared.routines.TypedDefinition.{TypedDefinition}
 use Rattle.cs_typing.specs.inner.Routines.{Routine, Routines, no_routines, with_routines, routine_of, number_in}
-use Rattle.cs_typing.specs.inner.Routines.{KnownInBody, arms_fault_in, block_fault_in, known_after_arms}
+use Rattle.cs_typing.specs.inner.Routines.{KnownInBody, arms_fault_in, block_fault_in}
 use Rattle.cs_typing.specs.inner.Routines.{known_after_block, knows_in, typed_arms_in, typed_block_in, variable_in}
 use Rattle.cs_typed.specs.TypedTree as typed
 
@@ -78,6 +79,15 @@ GivesBlock t (Ok v) fault form =
     (fault ≡ None) × ((more : List typed.Block) → typed.block (blocks_in t ++ more) v.items ≡ form)
 GivesBlock t (Err e) fault form = HasFault e fault
 
+-- an `if`, where more routines may follow
+abbrev pub GivesChoice : RoutineTable → Result TypedStmt (Or OrcFault) → Setting → Routines → KnownInBody → ℕ → Arms
+    → Type 0
+GivesChoice t (Ok x) s rs k line list =
+    (arms_fault_in s rs k line list ≡ None)
+    × ((more : List typed.Block) → typed.statement (blocks_in t ++ more) x
+    ≡ typed.alone (typed.choose line (choice_rate list) (typed_arms_in rs k list)))
+GivesChoice t (Err e) s rs k line list = HasFault e (arms_fault_in s rs k line list)
+
 -- the first rule that an arm breaks
 abbrev pub arm_fault_in : Setting → Routines → KnownInBody → ℕ → Arm → Option OrcFault
 arm_fault_in s rs k line a =
@@ -95,16 +105,6 @@ GivesArm t s rs k line a (Ok x) n =
     ≡ typed_block_in rs k (block (out-Arm a).body.items))
     × (n ≡ known_after_block rs k (block (out-Arm a).body.items))
 GivesArm t s rs k line a (Err e) n = HasFault e (arm_fault_in s rs k line a)
-
--- the arms of an `if`, whatever stands after `else`; `n` is what is known after them
-abbrev pub GivesArms : RoutineTable → Setting → Routines → KnownInBody → ℕ → List Arm
-    → Result (Vec TypedArm) (Or OrcFault) → KnownInBody → Type 0
-GivesArms t s rs k line list (Ok made) n =
-    (els : Block) → (arms_fault_in s rs k line (arms els list) ≡ block_fault_in s rs n els)
-    × ((more : List typed.Block) → typed.arms (blocks_in t ++ more) (typed_block_in rs n els) made.items
-    ≡ typed_arms_in rs k (arms els list))
-    × (known_after_arms rs k (arms els list) ≡ known_after_block rs n els)
-GivesArms t s rs k line list (Err e) n = (els : Block) → HasFault e (arms_fault_in s rs k line (arms els list))
 
 -- the routine of the definition at a place
 abbrev pub routine_here : Site → ℕ → Definition → Routine

@@ -1,10 +1,18 @@
-use Rattle.std.proofs.Common.{◌∙◌, ap, map, sym}
+use Rattle.std.proofs.Common.{◌∙◌, ap, length, map, sym}
+use Rattle.std.proofs.lemmas.List.{length-map}
 use Rattle.cs_grammar.specs.Tree as tree
 use Rattle.cs_typing.specs.Typing.{given_globals}
 use Rattle.cs_typing.specs.inner.Globals.{givers_of, names_in_block, names_in_instruments}
-use Rattle.cs_typing.proofs.GlobalsFound.{all_written}
+use Rattle.cs_typing.proofs.GlobalsFound.{all_written, none_done}
 use Rattle.cs_udo.specs.Library.{definitions_of}
 use Rattle.cs_typing.proofs.globals.globals_of.Goals as goal
+
+pub globals_of_block-requires : goal.globals_of_block-requires
+globals_of_block-requires c =
+    let library = c.args.expansion.now.library in
+    let list = library.definitions.now in
+    none_done (definitions_of library) (record { names = c.new.result; done = c.in_ok-done.done }) (length list)
+    (length-map list tree.definition) (c.in_ok-done.ensures.items_if_clones_equal (λ y h. h))
 
 pub returns : goal.returns
 returns c =

@@ -3,14 +3,19 @@ use Rattle.cs_base.specs.Rates.{at_rate}
 use Rattle.cs_grammar.specs.Tree.{expression}
 use Rattle.cs_typed.specs.declared.tree.Var.TheVariants.{Local}
 use Rattle.cs_words.specs.Names.{name_rate}
-use Rattle.cs_typing.specs.{Expressions.expression_by, Settings.at, Statements.set_fault_by, inner.Listed.Adds}
+use Rattle.cs_typing.specs.{Expressions.expression_by, Settings.at, Statements.set_fault_by}
 use Rattle.cs_typing.specs.inner.Held.{known_of, locals_of}
 use Rattle.cs_typing.specs.inner.Routines.{knows_in, number_in, variable_in}
 use Rattle.cs_typing.proofs.Beside.{InputsMade, at_end, at_word, both_next, fault_next, in_both, inputs_end}
 use Rattle.cs_typing.proofs.Beside.{inputs_made, made_next, none_left, past_both}
-use Rattle.cs_typing.proofs.Walked.{one_added_always}
 use Rattle.cs_typed.specs.TypedTree as typed
 use Rattle.cs_typing.proofs.invoke.give_inputs.Goals as goal
+
+pub bounds-it-i : goal.bounds-it-i
+bounds-it-i c = omega (arith, c.min-i-end.ensures, c.loop-i-test.true)
+
+pub bounds-list-i : goal.bounds-list-i
+bounds-list-i c = omega (arith, c.min-i-end.ensures, c.loop-i-test.true)
 
 pub returns-in-Text : goal.returns-in-Text
 returns-in-Text c =
@@ -54,20 +59,18 @@ loop-i-preserved c =
     let var_is : to.var ≡ Local (name_rate x) (at_rate k.locals.counts (name_rate x) + number_in first x) =
     c.in_ok-to-in-Value.ensures.var ∙ λ j. Local (rate j) (at_rate (c.requires j) (rate j) + number j) in
     let value = expression_by (variable_in k) (expression e) in
-    let made = c.in_ok-set-in-Value.ensures x (sym rate_is) in
+    let judged = c.in_ok-set-in-Value.ensures.fault x (sym rate_is) in
     let next = both_next (inputs_made s k first it.line) names args i x a e front here back c.index-it-i.is
     (c.index-it-i.is ∙ c.in-Value.is) in
     let form : typed.Statement =
     typed.set it.line (name_rate x) (Local (name_rate x) (at_rate k.locals.counts (name_rate x) + number_in first x))
     value in
     let same : typed.set it.line to.rate to.var value ≡ form = λ j. typed.set it.line (rate_is j) (var_is j) value in
-    let added : Adds c.loop-i.done.items c.push.new.self.items (typed.alone (typed.set it.line to.rate to.var value)) =
-    one_added_always c.loop-i.done.items c.push.new.self.items c.in_ok-set-in-Value.field-0
-    (typed.set it.line to.rate to.var value) c.in_ok-push-in-Value.ensures.items made.1 in (
+    let new = c.set.new.done.items in (
       fault_next (at it.line (set_fault_by s (knows_in k) x (expression e))) _ _ _
-          (ap (λ x. x.0) next) made.0 c.loop-i.invariant.0,
-      λ rs. made_next rs c.loop-i.done.items c.push.new.self.items (typed.set it.line to.rate to.var value) form _ _ _
-          added same (ap (λ x. x.1) next) (c.loop-i.invariant.1 rs),
+          (ap (λ x. x.0) next) judged c.loop-i.invariant.0,
+      λ rs. made_next rs c.loop-i.done.items new (typed.set it.line to.rate to.var value) form _ _ _
+          c.in_ok-set-in-Value.ensures.made same (ap (λ x. x.1) next) (c.loop-i.invariant.1 rs),
     )
 
 pub returns : goal.returns

@@ -9,8 +9,7 @@ use Rattle.cs_typing.specs.inner.Routines.{all_given_in, given_in, known_in, var
 use Rattle.cs_typing.specs.inner.Slots.{taken_fault, taken_kind, taken_set}
 use Rattle.cs_udo.proofs.Places.{dropped}
 use Rattle.cs_typing.proofs.Beside.{none_left, none_taken, one_taken, shifted}
-use Rattle.cs_typing.proofs.Walked.{one_added_always}
-use Rattle.cs_typing.proofs.invoke.give_results.Goals.{then-i-rates+in_ok-from+in_ok-taken+in_ok-push, else-i-rates}
+use Rattle.cs_typing.proofs.invoke.give_results.Goals.{then-i-rates+in_ok-from+in_ok-take, else-i-rates}
 use Rattle.cs_typed.specs.TypedTree as typed
 use Rattle.cs_typing.proofs.invoke.give_results.Goals as goal
 
@@ -38,7 +37,7 @@ loop-i-preserved c =
     let known = known_in start.shared (all_given_in start.locals xs) in
     let rates : c.as_slice-rates.result.now ≡ outs = c.as_slice-rates.ensures in
     elim c.if-i-rates.branch [
-      | then-i-rates+in_ok-from+in_ok-taken+in_ok-push w ↦
+      | then-i-rates+in_ok-from+in_ok-take w ↦
           let r = w.in_ok-from.from.rate in
           let n = get_or slots i 0 in
           let low : i < length c.as_slice-rates.result.now = omega (arith, w.if-i-rates) in
@@ -55,11 +54,11 @@ loop-i-preserved c =
           let same : form ≡ typed.set it.line (name_rate x) (variable_in k x)
           (typed.var r (Local r (at_rate it.base r + n))) =
           λ j. typed.set it.line (name_rate (name j)) (variable_in k (name j)) (typed.var r (var j)) in
-          let pushed = ap (λ (v : Vec TypedStmt Global). v.items) w.done-is ∙ w.in_ok-push.ensures.items in
           let added : Adds old new (typed.alone form) =
-          one_added_always old new w.in_ok-taken.field-0 form pushed w.in_ok-taken.ensures.1 in
+          subst (λ (v : Vec TypedStmt Global). Adds old v.items (typed.alone form)) (sym w.done-is)
+          w.in_ok-take.ensures.made in
           one_taken s k m it.base it.line xs outs slots i x old new r n p q (drop_more slots i 0 within)
-          (ap (λ y. at it.line (taken_kind s y r)) (sym name) ∙ w.in_ok-taken.ensures.0)
+          (ap (λ y. at it.line (taken_kind s y r)) (sym name) ∙ w.in_ok-take.ensures.fault)
           (λ bs. added bs ∙ ap (λ f. typed.then_block (typed.block bs old) (typed.alone f)) same) on fault made known
           c.loop-i.invariant
       | else-i-rates w ↦

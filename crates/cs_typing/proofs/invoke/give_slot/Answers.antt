@@ -6,7 +6,7 @@ use Rattle.cs_udo.specs.Names.{slot}
 use Rattle.cs_udo.proofs.Fresh.{slot_rate}
 use Rattle.cs_typing.specs.{Expressions.expression_by, Settings.at, Statements.set_fault_by, inner.Answers.Judged}
 use Rattle.cs_typing.specs.{inner.Held.known_of, inner.Routines.knows_in, inner.Routines.variable_in}
-use Rattle.cs_typing.proofs.{Answers.failed, Walked.one_added_always}
+use Rattle.cs_typing.proofs.Answers.{failed}
 use Rattle.cs_typed.specs.TypedTree as typed
 use Rattle.cs_typing.proofs.invoke.give_slot.Goals as goal
 
@@ -14,10 +14,10 @@ pub returns-in_err-set-clause-fault : goal.returns-in_err-set-clause-fault
 returns-in_err-set-clause-fault c =
     failed (λ r. Judged r (at c.args.line (set_fault_by c.args.setting (knows_in (known_of c.args.names.now))
     (slot 0 c.args.rate) (expression c.args.e.now)))) c.from_residual.result _ c.from_residual.ensures.1
-    (c.in_err-set.ensures (slot 0 c.args.rate) (slot_rate 0 c.args.rate))
+    (c.in_err-set.ensures.fault (slot 0 c.args.rate) (slot_rate 0 c.args.rate))
 
 pub returns-clause-fault : goal.returns-clause-fault
-returns-clause-fault c = (c.in_ok-set.ensures (slot 0 c.args.rate) (slot_rate 0 c.args.rate)).0
+returns-clause-fault c = c.in_ok-set.ensures.fault (slot 0 c.args.rate) (slot_rate 0 c.args.rate)
 
 pub returns-clause-made : goal.returns-clause-made
 returns-clause-made c =
@@ -26,8 +26,6 @@ returns-clause-made c =
     let value = expression_by (variable_in k) (expression c.args.e.now) in
     let number : c.of-number.result ≡ at_rate k.locals.counts r =
     c.of-number.ensures ∙ ap (λ t. at_rate t r) c.counts.ensures in
-    λ rs. one_added_always c.args.done.now.items c.push.new.self.items c.in_ok-set.field-0
-    (typed.set c.args.line r (Local r c.of-number.result) value) c.in_ok-push.ensures.items
-    (c.in_ok-set.ensures (slot 0 r) (slot_rate 0 r)).1 rs
+    λ rs. c.in_ok-set.ensures.made rs
     ∙ ap (λ n. typed.then_block (typed.block rs c.args.done.now.items)
     (typed.alone (typed.set c.args.line r (Local r n) value))) number

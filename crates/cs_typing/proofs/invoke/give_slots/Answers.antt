@@ -8,6 +8,13 @@ use Rattle.cs_typing.proofs.Beside.{slots_made, slots_next}
 use Rattle.cs_typed.specs.TypedTree as typed
 use Rattle.cs_typing.proofs.invoke.give_slots.Goals as goal
 
+pub index-requires : goal.index-requires
+index-requires c =
+    omega (arith, c.min-i-end.ensures, c.len.ensures, c.args.definition.now.result.ok, c.loop-i-test.true)
+
+pub bounds-rates-i : goal.bounds-rates-i
+bounds-rates-i c = omega (arith, c.min-i-end.ensures, c.loop-i-test.true)
+
 pub returns-in-Text : goal.returns-in-Text
 returns-in-Text c =
     let d = c.args.definition.now in

@@ -1,6 +1,6 @@
 use Rattle.std.proofs.Common.{◌≡◌, ◌∙◌, sym, ap, subst}
 use Rattle.cs_typed.specs.Places.{inside}
-use Rattle.cs_typing.specs.{inner.Held.known_of, inner.Held.locals_of, inner.Listed.AreTyped, inner.Listed.routines_of}
+use Rattle.cs_typing.specs.{inner.Held.known_of, inner.Listed.AreTyped, inner.Listed.routines_of}
 use Rattle.cs_typing.specs.{inner.Parts.entered_in, inner.Parts.instrument_in, inner.Walk.GivesInstrument}
 use Rattle.cs_typing.specs.inner.Routines.{block_fault_in, known_after_block, known_in, routines_before, typed_block_in}
 use Rattle.cs_typing.proofs.{Answers.failed, Answers.same_fault, RoutinePlaces.routines_here}
@@ -15,7 +15,7 @@ returns-in_err-body-clause-gives c =
     let k = known_of c.args.so_far.now.names in
     let here = routines_here line ds c.before-2.result c.before-2.ensures.count in
     let entered : known_of c.exchange.new.self ≡ entered_in k =
-    c.exchange.ensures.own ∙ ap (known_in k.shared) (ap locals_of c.replace.ensures.after ∙ c.new.ensures) in
+    c.exchange.ensures.own ∙ ap (known_in k.shared) c.new-around.ensures in
     let same : block_fault_in (inside c.args.channels) (routines_of ds c.before-2.result) (known_of c.exchange.new.self)
     (tree.block c.deref.result.now)
     ≡ block_fault_in (inside c.args.channels) (routines_before line ds) (entered_in k)
@@ -36,7 +36,7 @@ returns c =
     let k = known_of c.args.so_far.now.names in
     let here = routines_here line ds c.before-2.result c.before-2.ensures.count in
     let entered : known_of c.exchange.new.self ≡ entered_in k =
-    c.exchange.ensures.own ∙ ap (known_in k.shared) (ap locals_of c.replace.ensures.after ∙ c.new.ensures) in
+    c.exchange.ensures.own ∙ ap (known_in k.shared) c.new-around.ensures in
     let value = c.deref.ensures.value in
     let made = c.in_ok-body.ensures in
     let after : known_of c.block.new.so_far.names

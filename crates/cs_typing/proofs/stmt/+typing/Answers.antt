@@ -1,5 +1,6 @@
 use Rattle.std.proofs.Common.{◌≡◌, ◌∙◌, ◌+◌, ◌<◌, ◌++◌, List, None, Some, arith, drop, length, map, refl, rules, sym}
-use Rattle.std.proofs.Common.{ap, subst}
+use Rattle.std.proofs.Common.{ap, subst, ℕ}
+use Rattle.std.specs.Option.{option_or}
 use Rattle.std.proofs.lemmas.{List.append_assoc, List.drop_all, Option.slice_get_within}
 use Rattle.cs_grammar.specs.{declared.tree.OrcStmt.OrcStmt, declared.tree.StmtWhat.TheViews.the_lemmas}
 use Rattle.cs_grammar.proofs.Rows.{block_is, arms_is}
@@ -7,10 +8,11 @@ use Rattle.cs_udo.specs.Library.{definitions_of}
 use Rattle.cs_typed.specs.declared.tree.TypedWhat.TheViews.{the_lemmas as typed_lemmas}
 use Rattle.cs_typed.specs.declared.tree.TypedWhat.TheBlock.{hidden-the_row-TypedStmt-1, hidden-the_row-TypedArm-0}
 use Rattle.cs_typed.proofs.Trees.{typed_block_is, typed_arms_is}
-use Rattle.cs_typing.specs.{inner.Held.known_of, inner.Held.locals_of, inner.Listed.AddsOver}
+use Rattle.cs_typing.specs.{inner.Held.known_of, inner.Listed.AddsOver}
 use Rattle.cs_typing.specs.{inner.Listed.arm_fault_in, inner.Answers.Judged}
-use Rattle.cs_typing.specs.{Statements.choice_rate, Calls.call_by, Calls.call_shared, Expressions.expression_by}
-use Rattle.cs_typing.specs.inner.Listed.{GivesArms, blocks_in, routines_at, AreTyped, routine_here, routines_of, Adds}
+use Rattle.cs_typing.specs.{Calls.call_by, Calls.call_shared, Expressions.expression_by}
+use Rattle.cs_typing.specs.inner.Listed.{GivesChoice, blocks_in, routines_at, AreTyped, routine_here, routines_of, Adds}
+use Rattle.cs_typing.specs.inner.Listed.{GivesBlock}
 use Rattle.cs_typing.specs.inner.Routines.{arms_fault_in, block_fault_in, known_after_arms, known_after_block}
 use Rattle.cs_typing.specs.inner.Routines.{typed_arms_in, typed_block_in, known_in, fault_in, known_after, typed_in}
 use Rattle.cs_typing.specs.inner.Routines.{all_given_in, call_fault_in, call_in, locals_after_call, no_locals}
@@ -20,12 +22,15 @@ use Rattle.cs_udo.proofs.Places.{dropped}
 use Rattle.cs_typing.proofs.{Joined.with_arms, Joined.arms_with, Joined.then_nothing, Walked.ahead_alone}
 use Rattle.cs_typing.proofs.{Walked.longer_same, Walked.one_added, Weights.weight_of_bodies, RoutineSteady.Apart}
 use Rattle.cs_typing.proofs.{TypedOnce.slots_many, Listed.one_more, Called.call_adds, Called.call_judged}
+use Rattle.cs_typing.proofs.Called.{inputs_break, routine_breaks}
 use Rattle.cs_typing.proofs.Walked.{ahead_still, rest_fault_in, rest_known_in, rest_typed_in, rest_arms_fault_in}
 use Rattle.cs_typing.proofs.Walked.{first_arm_fault_in, rest_arms_known_in, rest_arms_typed_in, longer_still}
 use Rattle.cs_typing.proofs.Weights.{stmt_lighter, arm_lighter, lighter, weight_of, arms_weigh, weight}
 use Rattle.cs_typing.specs.inner.Slots.{slots_fault, given_set, taken_set}
 use Rattle.cs_typing.proofs.TypedNow.{well_at, body_breaks, slots_breaks, no_fault, shared_then, then_typed}
 use Rattle.cs_typing.proofs.TypedOnce.{again_fault, again_listed, again_shared, found_it, placed_inside, same_it}
+use Rattle.cs_typing.specs.{Settings.at, Statements.set_fault_by}
+use Rattle.cs_typing.specs.inner.Routines.{given_in, knows_in}
 use Rattle.cs_words.specs.Names.{name_rate}
 use Rattle.cs_typing.proofs.RoutinePlaces.{routine_found, routine_unfound, unfound_fault}
 use Rattle.cs_grammar.specs.Tree as tree
@@ -64,6 +69,25 @@ block-loop-s-preserved t c =
       ahead_still s c.args.so_far.now c.loop-s.so_far c.stmt.new.so_far was.3 made.ahead,
     )
 
+pub block-returns-in_err-stmt-clause-gives : goal.block-returns-in_err-stmt-clause-gives
+block-returns-in_err-stmt-clause-gives t c =
+    let s = c.args.site.now in
+    let rs = routines_at s in
+    let start = known_of c.args.so_far.now.names in
+    let k = known_of c.loop-s.so_far.names in
+    let list = c.args.stmts.now in
+    let x = c.s-item.result in
+    let after = known_after rs k (tree.statement x) in
+    let rest = tree.block (drop (c.loop-s.s-index + 1) list) in
+    failed (λ r. GivesBlock c.stmt.new.so_far.routines r (block_fault_in s.setting rs start (tree.block list))
+    (typed_block_in rs start (tree.block list)))
+    c.from_residual.result _ c.from_residual.ensures.1
+    (fault_on _ (fault_in s.setting rs k (tree.statement x)) _ c.in_err-stmt.ensures.fault
+    (λ f h. sym c.loop-s.invariant.0
+    ∙ ap (λ xs. block_fault_in s.setting rs k (tree.block xs))
+    (dropped list c.loop-s.s-index x (omega arith) c.s-item.is)
+    ∙ ap (λ o. option_or o (block_fault_in s.setting rs after rest)) h))
+
 pub block-returns : goal.block-returns
 block-returns t c =
     let s = c.args.site.now in
@@ -83,76 +107,6 @@ block-returns t c =
       known = sym (ap (λ xs. known_after_block rs k (tree.block xs)) none) ∙ was.2;
       ahead = was.3;
     }
-
-pub arms-arm-requires : goal.arms-arm-requires
-arms-arm-requires t c =
-    let light = arm_lighter c.args.list.now c.loop-a.a-index c.a-item.result (omega arith) c.a-item.is in (
-      omega (arith, c.decreases, light),
-      c.loop-a.invariant.1.sound,
-    )
-
-pub arms-loop-a-preserved : goal.arms-loop-a-preserved
-arms-loop-a-preserved t c =
-    let s = c.args.site.now in
-    let rs = routines_at s in
-    let line = c.args.line in
-    let was = c.loop-a.invariant in
-    let k = known_of c.loop-a.so_far.names in
-    let m = known_of c.arm.new.so_far.names in
-    let whole = drop c.loop-a.a-index c.args.list.now in
-    let rest = drop (c.loop-a.a-index + 1) c.args.list.now in
-    let x = c.a-item.result in
-    let split = dropped c.args.list.now c.loop-a.a-index x (omega arith) c.a-item.is in
-    let made = c.in_ok-arm.ensures.gives in
-    let ahead = c.in_ok-arm.ensures.ahead in
-    let old = blocks_in c.loop-a.so_far.routines in (
-      λ els. (
-        rest_arms_fault_in s.setting rs k m line els whole rest x split made.0 made.1 made.4 ∙ (was.0 els).0,
-        λ more.
-            rest_arms_typed_in rs (blocks_in c.arm.new.so_far.routines ++ more) k m els whole rest x
-            c.loop-a.done.items
-            c.push.new.self.items c.in_ok-arm.field-0 split c.in_ok-push.ensures.items made.2 (made.3 more) made.4
-            ∙ ap (λ bs. with_arms bs c.loop-a.done.items (typed_arms_in rs k (tree.arms els whole)))
-            (ap (λ bs. bs ++ more) ahead.longer.1 ∙ append_assoc old ahead.longer.0 more)
-            ∙ (was.0 els).1 (ahead.longer.0 ++ more),
-        rest_arms_known_in rs k m els whole rest x split made.4 ∙ (was.0 els).2,
-      ),
-      ahead_still s c.args.so_far.now c.loop-a.so_far c.arm.new.so_far was.1 ahead,
-    )
-
-pub arms-returns-in_err-arm-clause-gives : goal.arms-returns-in_err-arm-clause-gives
-arms-returns-in_err-arm-clause-gives t c =
-    let s = c.args.site.now in
-    let rs = routines_at s in
-    let k = known_of c.loop-a.so_far.names in
-    let whole = drop c.loop-a.a-index c.args.list.now in
-    let rest = drop (c.loop-a.a-index + 1) c.args.list.now in
-    let x = c.a-item.result in
-    let split = dropped c.args.list.now c.loop-a.a-index x (omega arith) c.a-item.is in
-    let table = c.arm.new.so_far.routines in
-    let m = known_of c.arm.new.so_far.names in
-    failed (λ r. GivesArms table s.setting rs (known_of c.args.so_far.now.names) c.args.line c.args.list.now r m)
-    c.from_residual.result _ c.from_residual.ensures.1
-    (λ els. fault_on _ (arm_fault_in s.setting rs k c.args.line x) _ c.in_err-arm.ensures.gives
-    (λ f h. sym (c.loop-a.invariant.0 els).0
-    ∙ first_arm_fault_in s.setting rs k c.args.line els whole rest x f split h))
-
-pub arms-returns-clause-gives : goal.arms-returns-clause-gives
-arms-returns-clause-gives t c els =
-    let s = c.args.site.now in
-    let rs = routines_at s in
-    let was = c.loop-a.invariant.0 els in
-    let k = known_of c.loop-a.so_far.names in
-    let done = c.loop-a.done.items in
-    let none = drop_all c.loop-a.a-index c.args.list.now (omega arith) in (
-      sym was.0 ∙ ap (λ xs. arms_fault_in s.setting rs k c.args.line (tree.arms els xs)) none,
-      λ more.
-          let bs = blocks_in c.loop-a.so_far.routines ++ more in
-          sym (arms_with bs done (typed_block_in rs k els))
-          ∙ sym (ap (λ xs. with_arms bs done (typed_arms_in rs k (tree.arms els xs))) none)
-          ∙ was.1 more,
-      sym was.2 ∙ ap (λ xs. known_after_arms rs k (tree.arms els xs)) none,
-    )
 
 -- ---- a definition that is called
 
@@ -188,6 +142,12 @@ typed_routine-block-requires t c =
       omega (arith, c.decreases, light, lent),
       subst (λ h. AreTyped s.setting.channels ds h c.args.so_far.now.routines) (sym shared) c.requires.sound,
     )
+
+pub typed_routine-add-requires : goal.typed_routine-add-requires
+typed_routine-add-requires t c =
+    let ds = definitions_of c.args.site.now.library.now in
+    let inside_ds = slice_get_within ds c.args.place (tree.definition c.args.definition.now) c.requires.here in
+    omega (arith, c.in_ok-body.ensures.ahead.sound.marks, inside_ds)
 
 pub typed_routine-returns-in_err-body-clause-fault : goal.typed_routine-returns-in_err-body-clause-fault
 typed_routine-returns-in_err-body-clause-fault t c =
@@ -264,143 +224,196 @@ typed_routine-returns t c =
 
 -- ---- an `if`
 
-pub stmt-arms-requires : goal.stmt-arms-requires
-stmt-arms-requires t c =
+pub choice-arm-requires : goal.choice-arm-requires
+choice-arm-requires t c =
+    let light = arm_lighter c.args.list.now c.loop-a.a-index c.a-item.result (omega arith) c.a-item.is in (
+      omega (arith, c.decreases, light),
+      c.loop-a.invariant.3.sound,
+    )
+
+pub choice-loop-a-preserved : goal.choice-loop-a-preserved
+choice-loop-a-preserved t c =
+    let s = c.args.site.now in
+    let rs = routines_at s in
+    let els = tree.block c.args.els.now in
+    let was = c.loop-a.invariant in
+    let k = known_of c.loop-a.so_far.names in
+    let m = known_of c.arm.new.so_far.names in
+    let whole = drop c.loop-a.a-index c.args.list.now in
+    let rest = drop (c.loop-a.a-index + 1) c.args.list.now in
+    let x = c.a-item.result in
+    let split = dropped c.args.list.now c.loop-a.a-index x (omega arith) c.a-item.is in
+    let made = c.in_ok-arm.ensures.gives in
+    let ahead = c.in_ok-arm.ensures.ahead in
+    let old = c.loop-a.typed.items in (
+      rest_arms_fault_in s.setting rs k m c.args.line els whole rest x split made.0 made.1 made.4 ∙ was.0,
+      λ more.
+          rest_arms_typed_in rs (blocks_in c.arm.new.so_far.routines ++ more) k m els whole rest x old
+          c.push.new.self.items c.in_ok-arm.field-0 split c.in_ok-push.ensures.items made.2 (made.3 more) made.4
+          ∙ ap (λ bs. with_arms bs old (typed_arms_in rs k (tree.arms els whole)))
+          (ap (λ bs. bs ++ more) ahead.longer.1
+          ∙ append_assoc (blocks_in c.loop-a.so_far.routines) ahead.longer.0 more)
+          ∙ was.1 (ahead.longer.0 ++ more),
+      rest_arms_known_in rs k m els whole rest x split made.4 ∙ was.2,
+      ahead_still s c.args.so_far.now c.loop-a.so_far c.arm.new.so_far was.3 ahead,
+    )
+
+pub choice-block-requires : goal.choice-block-requires
+choice-block-requires t c = (omega (arith, c.decreases), c.loop-a.invariant.3.sound)
+
+pub choice-returns-in_err-arm-clause-gives : goal.choice-returns-in_err-arm-clause-gives
+choice-returns-in_err-arm-clause-gives t c =
+    let s = c.args.site.now in
+    let rs = routines_at s in
+    let els = tree.block c.args.els.now in
+    let k = known_of c.loop-a.so_far.names in
+    let whole = drop c.loop-a.a-index c.args.list.now in
+    let x = c.a-item.result in
+    let split = dropped c.args.list.now c.loop-a.a-index x (omega arith) c.a-item.is in
+    failed (λ r. GivesChoice c.arm.new.so_far.routines r s.setting rs (known_of c.args.so_far.now.names) c.args.line
+    (tree.arms els c.args.list.now))
+    c.from_residual.result _ c.from_residual.ensures.1
+    (fault_on _ (arm_fault_in s.setting rs k c.args.line x) _ c.in_err-arm.ensures.gives
+    (λ f h. sym c.loop-a.invariant.0 ∙ first_arm_fault_in s.setting rs k c.args.line els whole _ x f split h))
+
+pub choice-returns-in_err-typed_els-clause-gives : goal.choice-returns-in_err-typed_els-clause-gives
+choice-returns-in_err-typed_els-clause-gives t c =
+    let s = c.args.site.now in
+    let rs = routines_at s in
+    let els = tree.block c.args.els.now in
+    let k = known_of c.loop-a.so_far.names in
+    let none = drop_all c.loop-a.a-index c.args.list.now (omega arith) in
+    failed (λ r. GivesChoice c.block.new.so_far.routines r s.setting rs (known_of c.args.so_far.now.names) c.args.line
+    (tree.arms els c.args.list.now))
+    c.from_residual-in_err-typed_els.result _ c.from_residual-in_err-typed_els.ensures.1
+    (same_fault _ (block_fault_in s.setting rs k els) _ c.in_err-typed_els.ensures.gives
+    (sym (ap (λ xs. arms_fault_in s.setting rs k c.args.line (tree.arms els xs)) none) ∙ c.loop-a.invariant.0))
+
+pub choice-returns : goal.choice-returns
+choice-returns t c =
+    let s = c.args.site.now in
+    let rs = routines_at s in
+    let k = known_of c.loop-a.so_far.names in
+    let els = tree.block c.args.els.now in
+    let was = c.loop-a.invariant in
+    let last = c.in_ok-typed_els.ensures in
+    let whole = drop c.loop-a.a-index c.args.list.now in
+    let none = drop_all c.loop-a.a-index c.args.list.now (omega arith) in
+    let typed_list = typed_arms_in rs (known_of c.args.so_far.now.names) (tree.arms els c.args.list.now) in
+    record {
+      gives = (
+        sym was.0 ∙ ap (λ xs. arms_fault_in s.setting rs k c.args.line (tree.arms els xs)) none ∙ last.gives.0,
+        λ more.
+            let bs = blocks_in c.block.new.so_far.routines ++ more in
+            let made = c.loop-a.typed in
+            let made_els = c.in_ok-typed_els.typed_els in
+            let form : typed.of_arms bs (typed.of_block bs (hidden-the_row-TypedStmt-1 made_els))
+            (hidden-the_row-TypedArm-0 made) ≡ typed.arms bs (typed.block bs made_els.items) made.items =
+            search (rules, typed_lemmas, typed_block_is bs, typed_arms_is bs) in
+            let bodies : typed.arms bs (typed_block_in rs k els) made.items ≡ typed_list =
+            sym (arms_with bs made.items (typed_block_in rs k els))
+            ∙ sym (ap (λ xs. with_arms bs made.items (typed_arms_in rs k (tree.arms els xs))) none)
+            ∙ ap (λ xs. with_arms xs made.items (typed_arms_in rs k (tree.arms els whole)))
+            (ap (λ xs. xs ++ more) last.ahead.longer.1
+            ∙ append_assoc (blocks_in c.loop-a.so_far.routines) last.ahead.longer.0 more)
+            ∙ was.1 (last.ahead.longer.0 ++ more) in
+            ap (λ x. typed.alone (typed.choose c.args.line c.choice_rate.result x))
+            (form ∙ ap (λ b. typed.arms bs b made.items) (last.gives.1 more) ∙ bodies)
+            ∙ ap (λ r. typed.alone (typed.choose c.args.line r typed_list)) (c.choice_rate.ensures els),
+      );
+      known = last.known ∙ sym (ap (λ xs. known_after_arms rs k (tree.arms els xs)) none) ∙ was.2;
+      ahead = ahead_still s c.args.so_far.now c.loop-a.so_far c.block.new.so_far was.3 last.ahead;
+    }
+
+pub stmt-choice-requires : goal.stmt-choice-requires
+stmt-choice-requires t c =
     let list = c.in-Choose.list.items in
     let els = tree.block c.in-Choose.els.items in
     let is : tree.statement c.args.s.now ≡ tree.choose c.args.s.now.line (tree.arms els list) =
     search (rules, the_lemmas, block_is, arms_is, c.in-Choose.is) in
     let heavy : weight (tree.statement c.args.s.now) ≡ weight (tree.choose c.args.s.now.line (tree.arms els list)) =
     ap weight is in
-    let same = ap weight_of_bodies c.deref-in-Choose.ensures.value in (
-      omega (arith, c.decreases, heavy, same, arms_weigh els list),
+    let arms_same = ap weight_of_bodies c.deref-in-Choose.ensures.value in
+    let els_same = ap (λ (xs : List OrcStmt). weight_of (tree.block xs)) c.deref-in-Choose-2.ensures.value in (
+      omega (arith, c.decreases, heavy, arms_same, els_same, arms_weigh els list),
       c.requires.sound,
     )
 
-pub stmt-block-requires : goal.stmt-block-requires
-stmt-block-requires t c =
-    let list = c.in-Choose.list.items in
-    let els = tree.block c.in-Choose.els.items in
-    let is : tree.statement c.args.s.now ≡ tree.choose c.args.s.now.line (tree.arms els list) =
-    search (rules, the_lemmas, block_is, arms_is, c.in-Choose.is) in
-    let heavy : weight (tree.statement c.args.s.now) ≡ weight (tree.choose c.args.s.now.line (tree.arms els list)) =
-    ap weight is in
-    let same = ap (λ (xs : List OrcStmt). weight_of (tree.block xs)) c.deref-in-Choose-2.ensures.value in (
-      omega (arith, c.decreases, heavy, same, arms_weigh els list),
-      c.in_ok-typed-in-Choose.ensures.ahead.sound,
-    )
-
-pub stmt-returns-in_err-typed-in-Choose-clause-fault : goal.stmt-returns-in_err-typed-in-Choose-clause-fault
-stmt-returns-in_err-typed-in-Choose-clause-fault t c =
+pub stmt-returns-in_err-made-in-Choose-clause-fault : goal.stmt-returns-in_err-made-in-Choose-clause-fault
+stmt-returns-in_err-made-in-Choose-clause-fault t c =
     let s = c.args.site.now in
-    let rs = routines_at s in
-    let k = known_of c.args.so_far.now.names in
-    let list = c.in-Choose.list.items in
-    let els = tree.block c.in-Choose.els.items in
+    let fault = fault_in s.setting (routines_at s) (known_of c.args.so_far.now.names) in
     let line = c.args.s.now.line in
-    let is : tree.statement c.args.s.now ≡ tree.choose line (tree.arms els list) =
+    let is : tree.statement c.args.s.now
+    ≡ tree.choose line (tree.arms (tree.block c.in-Choose.els.items) c.in-Choose.list.items) =
     search (rules, the_lemmas, block_is, arms_is, c.in-Choose.is) in
-    failed (λ r. Judged r (fault_in s.setting rs k (tree.statement c.args.s.now)))
-    c.from_residual-in_err-typed-in-Choose.result _ c.from_residual-in_err-typed-in-Choose.ensures.1
-    (same_fault _ (arms_fault_in s.setting rs k line (tree.arms els c.deref-in-Choose.result.now)) _
-    (c.in_err-typed-in-Choose.ensures.gives els)
-    (ap (λ xs. arms_fault_in s.setting rs k line (tree.arms els xs)) c.deref-in-Choose.ensures.value
-    ∙ sym (ap (fault_in s.setting rs k) is)))
-
-pub stmt-returns-in_err-typed_els-in-Choose-clause-fault : goal.stmt-returns-in_err-typed_els-in-Choose-clause-fault
-stmt-returns-in_err-typed_els-in-Choose-clause-fault t c =
-    let s = c.args.site.now in
-    let rs = routines_at s in
-    let k = known_of c.args.so_far.now.names in
-    let m = known_of c.arms.new.so_far.names in
-    let list = c.in-Choose.list.items in
-    let els = tree.block c.in-Choose.els.items in
-    let line = c.args.s.now.line in
-    let is : tree.statement c.args.s.now ≡ tree.choose line (tree.arms els list) =
-    search (rules, the_lemmas, block_is, arms_is, c.in-Choose.is) in
-    failed (λ r. Judged r (fault_in s.setting rs k (tree.statement c.args.s.now)))
-    c.from_residual-in_err-typed_els-in-Choose.result _ c.from_residual-in_err-typed_els-in-Choose.ensures.1
-    (same_fault _ (block_fault_in s.setting rs m (tree.block c.deref-in-Choose-2.result.now)) _
-    c.in_err-typed_els-in-Choose.ensures.gives
-    (ap (λ xs. block_fault_in s.setting rs m (tree.block xs)) c.deref-in-Choose-2.ensures.value
-    ∙ sym (c.in_ok-typed-in-Choose.ensures.gives els).0
-    ∙ ap (λ xs. arms_fault_in s.setting rs k line (tree.arms els xs)) c.deref-in-Choose.ensures.value
-    ∙ sym (ap (fault_in s.setting rs k) is)))
+    failed (λ r. Judged r (fault (tree.statement c.args.s.now)))
+    c.from_residual-in_err-made-in-Choose.result _ c.from_residual-in_err-made-in-Choose.ensures.1
+    (same_fault _ (fault (tree.choose line (tree.arms (tree.block c.deref-in-Choose-2.result.now)
+    c.deref-in-Choose.result.now))) _ c.in_err-made-in-Choose.ensures.gives
+    ((λ i. fault (tree.choose line (tree.arms (tree.block (c.deref-in-Choose-2.ensures.value i))
+    (c.deref-in-Choose.ensures.value i))))
+    ∙ sym (ap fault is)))
 
 pub stmt-returns-in_ok-push-in-Choose : goal.stmt-returns-in_ok-push-in-Choose
 stmt-returns-in_ok-push-in-Choose t c =
     let s = c.args.site.now in
     let rs = routines_at s in
     let k = known_of c.args.so_far.now.names in
-    let m = known_of c.arms.new.so_far.names in
-    let list = c.in-Choose.list.items in
-    let els = tree.block c.in-Choose.els.items in
     let line = c.args.s.now.line in
-    let first = c.in_ok-typed-in-Choose.ensures in
-    let last = c.in_ok-typed_els-in-Choose.ensures in
-    let is : tree.statement c.args.s.now ≡ tree.choose line (tree.arms els list) =
+    let old = c.args.done.now.items in
+    let choice = c.in_ok-made-in-Choose.ensures in
+    let is : tree.statement c.args.s.now
+    ≡ tree.choose line (tree.arms (tree.block c.in-Choose.els.items) c.in-Choose.list.items) =
     search (rules, the_lemmas, block_is, arms_is, c.in-Choose.is) in
+    let same = (λ i. tree.choose line (tree.arms (tree.block (c.deref-in-Choose-2.ensures.value i))
+    (c.deref-in-Choose.ensures.value i))) ∙ sym is in
     record {
-      fault = ap (fault_in s.setting rs k) is
-          ∙ sym (ap (λ xs. arms_fault_in s.setting rs k line (tree.arms els xs)) c.deref-in-Choose.ensures.value)
-          ∙ (first.gives els).0
-          ∙ sym (ap (λ xs. block_fault_in s.setting rs m (tree.block xs)) c.deref-in-Choose-2.ensures.value)
-          ∙ last.gives.0;
+      fault = sym (ap (fault_in s.setting rs k) same) ∙ choice.gives.0;
       made = λ more.
-          let bs = blocks_in c.block.new.so_far.routines ++ more in
-          let old = typed.block bs c.args.done.now.items in
-          let made = c.in_ok-typed-in-Choose.typed in
-          let made_els = c.in_ok-typed_els-in-Choose.typed_els in
-          let rate = c.choice_rate.result in
-          let form : typed.of_arms bs (typed.of_block bs (hidden-the_row-TypedStmt-1 made_els))
-          (hidden-the_row-TypedArm-0 made) ≡ typed.arms bs (typed.block bs made_els.items) made.items =
-          search (rules, typed_lemmas, typed_block_is bs, typed_arms_is bs) in
-          let bodies : typed.arms bs (typed_block_in rs m els) made.items ≡ typed_arms_in rs k (tree.arms els list) =
-          ap (λ xs. typed.arms xs (typed_block_in rs m els) made.items)
-          (ap (λ xs. xs ++ more) last.ahead.longer.1
-          ∙ append_assoc (blocks_in c.arms.new.so_far.routines) last.ahead.longer.0 more)
-          ∙ (first.gives els).1 (last.ahead.longer.0 ++ more)
-          ∙ ap (λ xs. typed_arms_in rs k (tree.arms els xs)) c.deref-in-Choose.ensures.value in
-          let one : typed.choose line rate (typed.of_arms bs (typed.of_block bs (hidden-the_row-TypedStmt-1 made_els))
-          (hidden-the_row-TypedArm-0 made)) ≡ typed.choose line (choice_rate (tree.arms els list))
-          (typed_arms_in rs k (tree.arms els list)) =
-          ap (typed.choose line rate)
-          (form
-          ∙ ap (λ b. typed.arms bs b made.items) (last.gives.1 more
-          ∙ ap (λ xs. typed_block_in rs m (tree.block xs)) c.deref-in-Choose-2.ensures.value)
-          ∙ bodies)
-          ∙ ap (λ r. typed.choose line r (typed_arms_in rs k (tree.arms els list)))
-          (c.choice_rate.ensures els ∙ ap (λ xs. choice_rate (tree.arms els xs)) c.deref-in-Choose-3.ensures.value) in
+          let bs = blocks_in c.choice.new.so_far.routines ++ more in
           ap (typed.block bs) c.in_ok-push-in-Choose.ensures.items
-          ∙ one_more bs c.args.done.now.items _
-          ∙ ap (λ x. typed.then_block old (typed.alone x)) one
-          ∙ sym (ap (λ x. typed.then_block old (typed_in rs k x)) is);
-      known = last.known
-          ∙ ap (λ xs. known_after_block rs m (tree.block xs)) c.deref-in-Choose-2.ensures.value
-          ∙ sym (first.gives els).2
-          ∙ ap (λ xs. known_after_arms rs k (tree.arms els xs)) c.deref-in-Choose.ensures.value
-          ∙ sym (ap (known_after rs k) is);
-      ahead = ahead_still s c.args.so_far.now c.arms.new.so_far c.block.new.so_far first.ahead last.ahead;
+          ∙ one_more bs old c.in_ok-made-in-Choose.made
+          ∙ ap (typed.then_block (typed.block bs old)) (choice.gives.1 more)
+          ∙ ap (λ x. typed.then_block (typed.block bs old) (typed_in rs k x)) same;
+      known = choice.known ∙ ap (known_after rs k) same;
+      ahead = choice.ahead;
     }
 
 -- ---- an assignment
 
-pub stmt-returns-in_ok-push-in-Set-clause-made : goal.stmt-returns-in_ok-push-in-Set-clause-made
-stmt-returns-in_ok-push-in-Set-clause-made t c more =
-    let rs = routines_at c.args.site.now in
+pub stmt-returns-in-Set : goal.stmt-returns-in-Set
+stmt-returns-in-Set t c =
+    let s = c.args.site.now in
+    let rs = routines_at s in
     let k = known_of c.args.so_far.now.names in
     let line = c.args.s.now.line in
     let e = tree.expression c.in-Set.e in
     let table = c.args.so_far.now.routines in
     let old = c.args.done.now.items in
-    let bs = blocks_in table ++ more in
+    let name = c.as_slice.ensures in
     let is : tree.statement c.args.s.now ≡ tree.set line c.in-Set.name e = search (rules, the_lemmas, c.in-Set.is) in
-    one_added table old c.push.new.self.items c.in_ok-made-in-Set.made _ c.in_ok-push-in-Set.ensures.items
-    c.in_ok-made-in-Set.ensures.gives.1 more
-    ∙ ap (λ x. typed.then_block (typed.block bs old)
-    (typed.alone (typed.set line (name_rate x) (variable_in k x) (expression_by (variable_in k) e))))
-    c.as_slice.ensures
-    ∙ sym (ap (λ x. typed.then_block (typed.block bs old) (typed_in rs k x)) is)
+    let form : List ℕ → typed.Statement = λ x.
+    typed.set line (name_rate x) (variable_in k x) (expression_by (variable_in k) e) in
+    record {
+      fault = subst (λ f. Judged c.set_name.result f)
+          ((λ i. at line (set_fault_by s.setting (knows_in k) (name i) e)) ∙ sym (ap (fault_in s.setting rs k) is))
+          c.set_name.ensures.fault;
+      made = on_ok c.set_name.result c.set_name.ensures.made
+          (λ made more.
+          let before = typed.block (blocks_in table ++ more) old in
+          made (blocks_in table ++ more)
+          ∙ (λ i. typed.then_block before (typed.alone (form (name i))))
+          ∙ sym (ap (λ x. typed.then_block before (typed_in rs k x)) is));
+      known = on_ok c.set_name.result c.set_name.ensures.known
+          (λ known. known ∙ (λ i. known_in k.shared (given_in k.locals (name i))) ∙ sym (ap (known_after rs k) is));
+      ahead = on_ok c.set_name.result c.set_name.ensures.known
+          (λ known. record {
+            sound = subst (λ h. AreTyped s.setting.channels (definitions_of s.library.now) h table)
+                (sym (ap (λ m. m.shared) known)) c.requires.sound;
+            longer = longer_same table;
+          });
+    }
 
 -- ---- a call of an opcode of the catalogue
 
@@ -418,7 +431,7 @@ stmt-returns-in_err-made-in-None-clause-fault t c =
     let none : routine_called rs q ≡ None =
     routine_unfound (definitions_of s.library.now) s.visible q c.in-None.ensures.found in
     failed (λ r. Judged r (fault_in s.setting rs k (tree.statement c.args.s.now)))
-    c.from_residual-in_err-made-in-None.result _ c.from_residual-in_err-made-in-None.ensures.1
+    c.from_residual.result _ c.from_residual.ensures.1
     (same_fault _ _ _ c.in_err-made-in-None.ensures.gives
     (sym (unfound_fault s.setting rs k (tree.statement c.args.s.now) line xs _ q args _ is none
     c.as_slice-results.ensures c.deref.ensures.value)))
@@ -454,7 +467,7 @@ stmt-returns-in_ok-push-in-None t c =
       fault = fault;
       made = λ more.
           let before = typed.block (blocks_in table ++ more) old in
-          one_added table old c.push-in-None.new.self.items c.in_ok-made-in-None.made _
+          one_added table old c.push.new.self.items c.in_ok-made-in-None.made _
           c.in_ok-push-in-None.ensures.items made.gives.1 more
           ∙ ap (typed.then_block before)
           ((λ i. typed.alone (call_by line k.shared (variable_in k) q (c.as_slice-results.ensures i)
@@ -504,62 +517,91 @@ stmt-returns-in-Some t c =
 
 -- ---- what stands beside a routine
 
-pub invoke-give_results-requires : goal.invoke-give_results-requires
-invoke-give_results-requires t c =
+pub invoke-returns-in_err-give_inputs-clause-fault : goal.invoke-returns-in_err-give_inputs-clause-fault
+invoke-returns-in_err-give_inputs-clause-fault t c q =
+    let s = c.args.site.now in
+    let ds = definitions_of s.library.now in
+    let it = c.args.it.now in
+    let d = tree.definition it.definition.now in
+    let well = well_at ds c.args.place d c.requires.sound.fit c.requires.here in
+    let k = known_of c.args.so_far.now.names in
+    let args = map tree.argument it.args.now in
+    failed (λ z. Judged z (call_fault_in s.setting k it.line it.results.now q args
+    (Some (routine_here s c.args.place d))))
+    c.from_residual-in_err-give_inputs.result _ c.from_residual-in_err-give_inputs.ensures.1
+    (fault_on _ _ _ c.in_err-give_inputs.ensures.fault
+    (inputs_break ds c.args.place d well s.setting k it.line it.results.now args q))
+
+pub invoke-returns-in_err-typed_routine-clause-fault : goal.invoke-returns-in_err-typed_routine-clause-fault
+invoke-returns-in_err-typed_routine-clause-fault t c q =
+    let s = c.args.site.now in
+    let ds = definitions_of s.library.now in
+    let it = c.args.it.now in
+    let d = tree.definition it.definition.now in
+    let well = well_at ds c.args.place d c.requires.sound.fit c.requires.here in
+    let k = known_of c.args.so_far.now.names in
+    let args = map tree.argument it.args.now in
+    failed (λ z. Judged z (call_fault_in s.setting k it.line it.results.now q args
+    (Some (routine_here s c.args.place d))))
+    c.from_residual-in_err-typed_routine.result _ c.from_residual-in_err-typed_routine.ensures.1
+    (fault_on _ _ _ c.in_err-typed_routine.ensures.fault
+    (λ f. routine_breaks ds c.args.place d well s.setting k it.line it.results.now args q f
+    c.in_ok-give_inputs.ensures.fault))
+
+pub invoke-give_routine-requires : goal.invoke-give_routine-requires
+invoke-give_routine-requires t c =
     let d = tree.definition c.args.it.now.definition.now in
     let listed = c.in_ok-typed_routine.ensures.listed in
     let same = same_it listed.it c.in-Some.found.now (sym listed.at ∙ c.in-Some.ensures.found) in
-    ap length c.deref.ensures.value
-    ∙ slots_many (routine_here c.args.site.now c.args.place d) d.outs c.in-Some.found.now.slots.items refl
+    slots_many (routine_here c.args.site.now c.args.place d) d.outs c.in-Some.found.now.slots.items refl
     (sym (ap (λ it. it.slots.items) same) ∙ listed.slots)
 
-pub invoke-returns-in_ok-take-in-Some-clause-fault : goal.invoke-returns-in_ok-take-in-Some-clause-fault
-invoke-returns-in_ok-take-in-Some-clause-fault t c q =
+pub invoke-returns-in-Some : goal.invoke-returns-in-Some
+invoke-returns-in-Some t c =
     let s = c.args.site.now in
     let ds = definitions_of s.library.now in
-    let d = tree.definition c.args.it.now.definition.now in
-    let well = well_at ds c.args.place d c.requires.sound.fit c.requires.here in
-    let line = c.args.it.now.line in
-    let xs = c.args.it.now.results.now in
-    let args = map tree.argument c.args.it.now.args.now in
-    subst (λ f. Judged c.give_results.result f)
-    (call_judged ds c.args.place d well s.setting (known_of c.args.so_far.now.names) line xs args q
-    c.in_ok-give_inputs.ensures.fault c.in_ok-typed_routine.ensures.fault) c.give_results.ensures.fault
-
-pub invoke-returns-in_ok-take-in-Some-clause-made : goal.invoke-returns-in_ok-take-in-Some-clause-made
-invoke-returns-in_ok-take-in-Some-clause-made t c =
-    let s = c.args.site.now in
-    let ds = definitions_of s.library.now in
-    let d = tree.definition c.args.it.now.definition.now in
+    let it = c.args.it.now in
+    let d = tree.definition it.definition.now in
     let well = well_at ds c.args.place d c.requires.sound.fit c.requires.here in
     let k = known_of c.args.so_far.now.names in
-    let line = c.args.it.now.line in
-    let xs = c.args.it.now.results.now in
-    let args = map tree.argument c.args.it.now.args.now in
+    let args = map tree.argument it.args.now in
     let r = routine_here s c.args.place d in
     let old = c.args.done.now.items in
     let table = c.typed_routine.new.so_far.routines in
-    let g = c.typed_routine.new.so_far.names.shared in
-    let n = known_in g (locals_of c.take.new.self) in
-    let slots = c.deref.result.now in
-    let listed = c.in_ok-typed_routine.ensures.listed in
-    let same = same_it listed.it c.in-Some.found.now (sym listed.at ∙ c.in-Some.ensures.found) in
+    let found = c.in-Some.found.now in
+    let typed_now = c.in_ok-typed_routine.ensures in
+    let listed = typed_now.listed in
+    let same = same_it listed.it found (sym listed.at ∙ c.in-Some.ensures.found) in
     let inputs : Adds old c.give_inputs.new.done.items
-    (given_set k (all_given_in no_locals d.names) line d.names args) =
+    (given_set k (all_given_in no_locals d.names) it.line d.names args) =
     λ bs. c.in_ok-give_inputs.ensures.made bs
-    ∙ ap (λ l. typed.then_block (typed.block bs old) (given_set k l line d.names args)) c.in_ok-inputs.ensures in
-    let after = ap (known_in g) c.in_ok-take-in-Some.ensures
-    ∙ ap (λ m. known_in m.shared (past_call m.locals c.in-Some.found.now.locals)) c.in_ok-typed_routine.ensures.known
+    ∙ ap (λ l. typed.then_block (typed.block bs old) (given_set k l it.line d.names args)) c.in_ok-inputs.ensures in
+    let n = known_of c.typed_routine.new.so_far.names in
+    let after : known_in n.shared (past_call n.locals found.locals)
+    ≡ known_in (r.shared k.shared) (past_call k.locals r.last.counts) =
+    ap (λ m. known_in m.shared (past_call m.locals found.locals)) typed_now.known
     ∙ ap (λ z. known_in (r.shared k.shared) (past_call k.locals z)) (sym (ap (λ it. it.locals) same) ∙ listed.locals) in
-    on_ok c.give_results.result c.give_results.ensures.made
-    (λ adds. call_adds ds c.args.place d well s.setting k line xs args table old c.give_inputs.new.done.items
-    c.push.new.self.items c.give_results.new.done.items c.invocation.result c.in-Some.found.now.routine slots n
-    inputs c.in_ok-push-in-Some.ensures.items
-    (λ bs. c.invocation.ensures bs
-    ∙ ap (λ z. typed.moved_block z (typed.routine_at bs c.in-Some.found.now.routine)) c.requires.base)
-    (subst (λ it. it.routine < length (blocks_in table)) same listed.within)
-    (listed.block ∙ ap (λ it. typed.routine_at (blocks_in table) it.routine) same)
-    after
-    (c.deref.ensures.value ∙ sym (ap (λ it. it.slots.items) same) ∙ listed.slots)
-    (subst (λ z. Adds c.push.new.self.items c.give_results.new.done.items (taken_set n z line xs d.outs slots))
-    c.requires.base adds))
+    record {
+      fault = λ q. subst (λ f. Judged c.give_routine.result f)
+          (call_judged ds c.args.place d well s.setting k it.line it.results.now args q
+          c.in_ok-give_inputs.ensures.fault typed_now.fault) c.give_routine.ensures.fault;
+      made = on_ok c.give_routine.result c.give_routine.ensures.made
+          (λ adds. call_adds ds c.args.place d well s.setting k it.line it.results.now args table old
+          c.give_inputs.new.done.items c.give_routine.new.done.items found.routine found.slots.items _ inputs
+          (subst (λ it. it.routine < length (blocks_in table)) same listed.within)
+          (listed.block ∙ ap (λ it. typed.routine_at (blocks_in table) it.routine) same)
+          after (sym (ap (λ it. it.slots.items) same) ∙ listed.slots)
+          (λ bs. adds bs
+          ∙ ap (λ z. typed.then_block (typed.block bs c.give_inputs.new.done.items)
+          (typed.then_block (typed.moved_block z (typed.routine_at bs found.routine))
+          (taken_set (known_in n.shared (past_call n.locals found.locals)) z it.line it.results.now d.outs
+          found.slots.items))) c.requires.base));
+      known = on_ok c.give_routine.result c.give_routine.ensures.known
+          (λ known. known ∙ ap (λ m. known_in m.shared (all_given_in m.locals it.results.now)) after);
+      ahead = on_ok c.give_routine.result c.give_routine.ensures.known
+          (λ known. record {
+            sound = subst (λ h. AreTyped s.setting.channels ds h table) (sym (ap (λ m. m.shared) known))
+                typed_now.ahead.sound;
+            longer = typed_now.ahead.longer;
+          });
+    }

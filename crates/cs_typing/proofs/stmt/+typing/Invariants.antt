@@ -15,6 +15,11 @@ abbrev pub decreases-stmt : goal.decreases-stmt
 decreases-stmt l =
     weight_before (definitions_of l.site.now.library.now) l.site.now.visible + weight (tree.statement l.s.now)
 
+abbrev pub decreases-choice : goal.decreases-choice
+decreases-choice l =
+    weight_before (definitions_of l.site.now.library.now) l.site.now.visible
+    + (1 + weight_of_bodies l.list.now + weight_of (tree.block l.els.now))
+
 abbrev pub decreases-invoke : goal.decreases-invoke
 decreases-invoke l = weight_before (definitions_of l.site.now.library.now) l.site.now.visible + 3
 
@@ -24,10 +29,6 @@ decreases-typed_routine l = weight_before (definitions_of l.site.now.library.now
 abbrev pub decreases-block : goal.decreases-block
 decreases-block l =
     weight_before (definitions_of l.site.now.library.now) l.site.now.visible + weight_of (tree.block l.stmts.now)
-
-abbrev pub decreases-arms : goal.decreases-arms
-decreases-arms l =
-    weight_before (definitions_of l.site.now.library.now) l.site.now.visible + weight_of_bodies l.list.now
 
 abbrev pub decreases-arm : goal.decreases-arm
 decreases-arm l =
@@ -47,15 +48,15 @@ invariant-block-loop-s l =
     ≡ known_after_block (routines_at l.site) (known_of l.initial.so_far.names) (tree.block l.stmts))
     × IsAhead l.site l.initial.so_far l.so_far
 
-abbrev pub invariant-arms-loop-a : goal.invariant-arms-loop-a
-invariant-arms-loop-a l =
-    ((els : tree.Block)
-    → (arms_fault_in l.site.setting (routines_at l.site) (known_of l.so_far.names) l.line
+abbrev pub invariant-choice-loop-a : goal.invariant-choice-loop-a
+invariant-choice-loop-a l =
+    let els = tree.block l.els in
+    (arms_fault_in l.site.setting (routines_at l.site) (known_of l.so_far.names) l.line
     (tree.arms els (drop l.a-index l.list))
     ≡ arms_fault_in l.site.setting (routines_at l.site) (known_of l.initial.so_far.names) l.line (tree.arms els l.list))
-    × ((more : List typed.Block) → with_arms (blocks_in l.so_far.routines ++ more) l.done.items
+    × ((more : List typed.Block) → with_arms (blocks_in l.so_far.routines ++ more) l.typed.items
     (typed_arms_in (routines_at l.site) (known_of l.so_far.names) (tree.arms els (drop l.a-index l.list)))
     ≡ typed_arms_in (routines_at l.site) (known_of l.initial.so_far.names) (tree.arms els l.list))
     × (known_after_arms (routines_at l.site) (known_of l.so_far.names) (tree.arms els (drop l.a-index l.list))
-    ≡ known_after_arms (routines_at l.site) (known_of l.initial.so_far.names) (tree.arms els l.list)))
+    ≡ known_after_arms (routines_at l.site) (known_of l.initial.so_far.names) (tree.arms els l.list))
     × IsAhead l.site l.initial.so_far l.so_far

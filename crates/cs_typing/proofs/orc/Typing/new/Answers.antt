@@ -15,5 +15,5 @@ returns c =
       sound = λ channels.
           begun_sound e c.requires channels c.new-2.result c.in_ok-routines.routines (length e.library.definitions.now)
           known refl c.in_ok-routines.ensures.marks;
-      made = c.new-4.ensures;
+      made = c.new-3.ensures;
     }

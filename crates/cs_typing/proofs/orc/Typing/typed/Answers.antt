@@ -12,7 +12,7 @@ pub returns-in_err-add_parts : goal.returns-in_err-add_parts
 returns-in_err-add_parts c =
     let e = c.args.expansion.now in
     let ch = c.args.settings.head.nchnls in
-    let k = known_of c.args.self.so_far.names in
+    let k = known_of c.args.self.now.so_far.names in
     let zero = c.deref.result.now in
     let instrs = c.deref-2.result.now in
     let same = parts_break e c.requires.ready zero instrs c.deref.ensures.value c.deref-2.ensures.value ch k
@@ -26,7 +26,7 @@ pub returns : goal.returns
 returns c =
     let e = c.args.expansion.now in
     let ch = c.args.settings.head.nchnls in
-    let self = c.args.self in
+    let self = c.args.self.now in
     let zero = c.deref.result.now in
     let instrs = c.deref-2.result.now in
     let z = c.deref.ensures.value in
