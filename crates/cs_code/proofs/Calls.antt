@@ -1,14 +1,15 @@
 -- What calls are short for, by their shapes.
 use Rattle.std.proofs.Common.{◌≡◌, ◌++◌, ◌∷◌, ◌∙◌, ℕ, Bool, true, false, true≢false, List, [], Option, Some, None, refl}
-use Rattle.std.proofs.Common.{sym, ap}
+use Rattle.std.proofs.Common.{sym, ap, subst, length, IfOk, OnOk, Ok, Err, Result}
 use Rattle.cs_base.specs.{declared.resource.Rate.Rate, declared.spaces.Spaces.Spaces}
-use Rattle.cs_ir.specs.declared.register.Reg.{Reg}
+use Rattle.cs_ir.specs.{Drafts.Draft, Drafts.Grew, Drafts.drafted, declared.register.Reg.Reg}
 use Rattle.cs_meaning.specs.{Core.Stmt, Core.core_call, Core.set, Core.choose, When.cycle}
 use Rattle.cs_typed.specs.TypedTree.{Expression, Argument, value, text}
 use Rattle.cs_typed.specs.declared.tree.Var.{Var as Variable}
 use Rattle.cs_words.specs.{Catalogue.row_of, declared.catalogue.Opcode.Opcode, declared.catalogue.Shape.Shape}
 use Rattle.cs_code.specs.{declared.args.Call.Call, declared.frame.Progress.Progress, declared.frame.Pass.Pass}
-use Rattle.cs_code.specs.{declared.simple.Sending.Sending, inner.Spots.spots}
+use Rattle.cs_code.specs.{declared.simple.Sending.Sending, inner.Kept.past_stmt, inner.Served.Lowered}
+use Rattle.cs_code.specs.inner.Spots.{spots}
 use Rattle.cs_code.specs.inner.Code.{operands_code, pass_block_code, pass_code, perf_code}
 use Rattle.cs_code.specs.inner.Emitted.{Assigned, alone_in, arguments_of, assigned, called, set_of, effect, when_of}
 use Rattle.cs_code.specs.inner.Emitted.{sent_as, sent_ops}
@@ -86,6 +87,18 @@ call_alone way place p o k =
     let sh = (row_of k.opcode).shape in
     sym (call_anywhere way place p o k.rate k.results.now k.opcode sh (arguments_of k))
     ∙ sym (alone_code way place p (core_call o k.rate k.results.now k.opcode sh (arguments_of k)))
+
+-- what two clauses told of the statement that it is short for
+pub call_lowered : {E : Type 0} (way : Pass) (old new : Draft) (p : Progress) (o : Spaces) (k : Call) (s : Stmt)
+    (r : Result Progress E)
+    → core_call o k.rate k.results.now k.opcode (row_of k.opcode).shape (arguments_of k) ≡ s
+    → OnOk r (Grew old new (pass_code way 0 p s)) → IfOk r (λ q. q ≡ past_stmt p s)
+    → IfOk r (λ q. Lowered way old new p q (alone_in o (called k)))
+call_lowered way old new p o k s (Ok q) is grew past_it = record {
+  ops = subst (Grew old new) (ap (pass_code way 0 p) (sym is) ∙ call_alone way (length (drafted old)) p o k) grew;
+  next = past_it ∙ ap (past_stmt p) (sym is);
+}
+call_lowered way old new p o k s (Err e) is grew past_it = tt
 
 -- the code of an assignment and of a call is the same at each place
 pub ruleset at_each_place = (set_anywhere, call_anywhere)

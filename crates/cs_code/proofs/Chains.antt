@@ -2,7 +2,7 @@
 use Rattle.std.proofs.Common.{◌≡◌, ◌∙◌, ◌+◌, ◌++◌, ℕ, true, false, true≢false, List, [], length, arith, refl, sym, ap}
 use Rattle.std.proofs.lemmas.List.{append_assoc, append-nil, length-append}
 use Rattle.cs_base.specs.declared.resource.Rate.{Rate}
-use Rattle.cs_ir.specs.declared.op.Op.{Op}
+use Rattle.cs_ir.specs.{Waves.if_init, declared.op.Op.Op}
 use Rattle.cs_meaning.specs.Core.{Stmt, Block, Arms, no_stmt, andthen, choose, core_stmt}
 use Rattle.cs_typed.specs.TypedTree.{Expression}
 use Rattle.cs_code.specs.{declared.frame.Pass.Pass, declared.frame.Progress.Progress}
@@ -99,3 +99,10 @@ pub tested : (way : Pass) (at : ℕ) (e : Expression) → way ≡ pass.Performan
     → operand_code (when_of way) at e 0 ≡ cond_code way at e
 tested pass.Performance at e h = refl
 tested pass.Initialisation at e h = absurd (cc)
+
+-- the code of a statement that is done once
+pub code_once : (way w : Pass) (p : Progress) (s : Stmt) (r : Rate) (a b : List Op) → way ≡ w → r ≡ rate.Init
+    → pass_code w 0 p s ≡ if_init r a b
+    → a ≡ pass_code way 0 p s
+code_once way w p s r a b in_pass once is =
+    sym (ap (λ q. if_init q a b) once) ∙ sym is ∙ sym (ap (λ v. pass_code v 0 p s) in_pass)

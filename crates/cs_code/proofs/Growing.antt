@@ -22,10 +22,14 @@ pub leads_end : (start here : Draft) (rest whole : List Op) → Leads start here
     → Grew start here whole
 leads_end start here rest whole was none = was here (subst (Grew here here) (sym none) (grew_none here))
 
--- whatever is returned then
+-- whatever is returned then, and what follows from what a call tells
 pub on_any : {T E P : Type 0} (r : Result T E) → P → OnOk r P
 on_any (Ok x) p = p
 on_any (Err e) p = tt
+
+pub on_then : {T E P Q : Type 0} (r : Result T E) → (P → Q) → OnOk r P → OnOk r Q
+on_then (Ok x) f p = f p
+on_then (Err e) f p = tt
 
 -- where the ops end then
 pub grew_long : (a b : Draft) (more : List Op) → Grew a b more

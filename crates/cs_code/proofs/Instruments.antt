@@ -7,12 +7,14 @@ use Rattle.cs_base.specs.{declared.resource.Res.Res, declared.spaces.Spaces.Spac
 use Rattle.cs_ir.specs.{Cycles.are_of_cycle, Limits.ops_limit, Registers.at_kind, Resources.NameTheSame}
 use Rattle.cs_ir.specs.{Resources.ops_touch, Validity.fine_from, declared.op.Code.Code, declared.op.Op.Op}
 use Rattle.cs_ir.specs.{declared.register.Counts.Counts, declared.register.Kind.Kind}
+use Rattle.cs_ir.specs.declared.register.RegisterCounts.{RegisterCounts}
 use Rattle.cs_ir.specs.Instruments.{Numbered, numbers_of}
 use Rattle.cs_meaning.specs.{Core.core, Uses.block_touched, When.beginning, When.cycle}
 use Rattle.cs_typed.specs.{WellRated.IsRatedBlock, declared.setting.Setting.Setting}
 use Rattle.cs_typed.specs.declared.tree.TypedInstr.{TypedInstr}
 use Rattle.cs_code.specs.Lowered.{IsCodeOf, IsNumberedCode, numbered_with, bodies, all_numbers}
 use Rattle.cs_code.specs.{Means.Means, Names.block_units, Names.AllNamed, inner.Kept.start, inner.Kept.past_block}
+use Rattle.cs_code.specs.{inner.Served.AreCodes, declared.codes.BlockOps.BlockOps}
 use Rattle.cs_code.specs.inner.Code.{init_block_code, perf_block_code}
 use Rattle.cs_code.proofs.FromRates.{block_ranked, narrow_block}
 use Rattle.cs_code.proofs.{Lists.zip_one, Means.means_its_tree, Valid.names_of, Valid.perf_cycles}
@@ -30,6 +32,18 @@ pub record Made (spaces : Spaces) (t : typed.Block) (counts : Counts) (init perf
   pub perf_is : perf ≡ perf_block_code 0 start (core spaces t)
   pub units_are : counts.units ≡ (past_block start (core spaces t)).unit
   pub reached : (k : Kind) → at_kind counts.registers k ≡ max (ops_limit k init) (ops_limit k perf)
+
+pub made_with : (spaces : Spaces) (t : typed.Block) (init perf : BlockOps) (one two all : RegisterCounts)
+    → AreCodes spaces t init perf
+    → ((k : Kind) → at_kind one k ≡ ops_limit k init.ops) → ((k : Kind) → at_kind two k ≡ ops_limit k perf.ops)
+    → ((k : Kind) → at_kind all k ≡ max (at_kind one k) (at_kind two k))
+    → Made spaces t (record { registers = all; units = init.extent.unit }) init.ops perf.ops
+made_with spaces t init perf one two all codes ones twos greatest = record {
+  init_is = codes.begins;
+  perf_is = codes.performs;
+  units_are = ap (λ p. p.unit) codes.extent;
+  reached = λ k. greatest k ∙ (λ i. max (ones k i) (twos k i));
+}
 
 module _ (spaces : Spaces) (s : Setting) (t : typed.Block) (rated : IsRatedBlock s t) (counts : Counts)
     (init perf : List Op) (made : Made spaces t counts init perf) where

@@ -1,13 +1,15 @@
 -- Nodes of expressions.
-use Rattle.std.proofs.Common.{◌≡◌, ◌∙◌, ◌+◌, ◌++◌, ◌∷◌, ℕ, List, [], Some, None, refl, ap, subst, sym}
+use Rattle.std.proofs.Common.{◌≡◌, ◌∙◌, ◌+◌, ◌++◌, ◌∷◌, ℕ, List, [], Some, None, IfOk, Result}
+use Rattle.std.proofs.Common.{◌⊎◌, inl, inr, refl, ap, subst, sym}
 use Rattle.std.proofs.lemmas.Option.{none-some}
 use Rattle.cs_base.specs.declared.resource.Rate.{Rate}
 use Rattle.cs_ir.proofs.Drafting.{grew_on}
-use Rattle.cs_ir.specs.{Drafts.Draft, Drafts.Grew, Waves.if_init, declared.op.Op.Op, declared.register.Reg.Reg}
+use Rattle.cs_ir.specs.{Drafts.Draft, Drafts.Grew, Waves.if_init, declared.op.Act.Act, declared.op.Op.Op}
+use Rattle.cs_ir.specs.declared.register.Reg.{Reg}
 use Rattle.cs_meaning.specs.When.{When, cycle}
 use Rattle.cs_code.specs.inner.Kept.{past}
-use Rattle.cs_typed.specs.TypedTree.{Expression, of_part, number, neg, pair, pick, apply}
-use Rattle.cs_typed.specs.{WellRated.node_rate, declared.tree.TypedPart.TypedPart}
+use Rattle.cs_typed.specs.TypedTree.{Expression, expression, of_part, number, neg, pair, pick, apply}
+use Rattle.cs_typed.specs.{WellRated.node_rate, declared.tree.TypedExpr.TypedExpr, declared.tree.TypedPart.TypedPart}
 use Rattle.cs_typed.specs.declared.tree.TypedPart.TheVariants.{Number}
 use Rattle.cs_words.specs.declared.sign.BinOp.{BinOp}
 use Rattle.cs_code.specs.inner.Code.{own, code, operand_code, unless_there, copied, keep_code, kept_code}
@@ -84,7 +86,52 @@ pub past_splits : (at : ℕ) (e : Expression) → past at e ≡ if_init (node_ra
 past_splits at (number r n) = refl
 past_splits at a = refl
 
--- Two operands one after another, and the op on them; and three.
+-- of what changes the parts are kept
+goes_on : {A : Type 0} (q r : Rate) (x y : A) → q ≡ r → (r ≡ rate.Control) ⊎ (r ≡ rate.Audio) → if_init q x y ≡ y
+goes_on q r x y e (inl h) = ap (λ k. if_init k x y) (e ∙ h)
+goes_on q r x y e (inr h) = ap (λ k. if_init k x y) (e ∙ h)
+
+pub keeps_parts : (at : ℕ) (e : TypedExpr) → (e.rate ≡ rate.Control) ⊎ (e.rate ≡ rate.Audio)
+    → (keep_code at (expression e) ≡ parts_code at (expression e))
+    × (past at (expression e) ≡ parts_past at (expression e))
+keeps_parts at e moves =
+    let k : Expression = expression e in
+    let is : node_rate k ≡ e.rate = rate_of_part e.rate e.what in (
+      keep_splits at k ∙ goes_on (node_rate k) e.rate (kept_code at k) (parts_code at k) is moves,
+      past_splits at k ∙ goes_on (node_rate k) e.rate (at + 1) (parts_past at k) is moves,
+    )
+
+-- and what doesn't change is kept as a whole
+pub kept_whole : (at : ℕ) (e : TypedExpr) → e.rate ≡ rate.Init
+    → (keep_code at (expression e) ≡ kept_code at (expression e)) × (past at (expression e) ≡ at + 1)
+kept_whole at e once =
+    let k : Expression = expression e in
+    let is : node_rate k ≡ rate.Init = rate_of_part e.rate e.what ∙ once in (
+      keep_splits at k ∙ ap (λ q. if_init q (kept_code at k) (parts_code at k)) is,
+      past_splits at k ∙ ap (λ q. if_init q (at + 1) (parts_past at k)) is,
+    )
+
+-- the number after a value's own, by that after its parts
+pub made_past : {E : Type 0} (r : Result ℕ E) (at n : ℕ) (e k : Expression) → e ≡ k → n ≡ parts_past at k
+    → IfOk r (λ m. m ≡ if_init (node_rate k) (at + 1) n) → IfOk r (λ m. m ≡ past at e)
+made_past r at n e k is parts h =
+    subst (λ x. IfOk r (λ m. m ≡ x))
+    (ap (if_init (node_rate k) (at + 1)) parts ∙ sym (past_splits at k) ∙ sym (ap (past at) is)) h
+
+-- An operand and the op on it; two operands one after another; and three.
+pub made_one : (when : When) (at d : ℕ) (o : Act) (e k y : Expression) (x p : Reg) (from : List Reg)
+    (old first new : Draft)
+    → e ≡ k → own when at k x d ≡ operand_code when at y d ++ (op_of o x (spot when at y d ∷ []) ∷ [])
+    → p ≡ spot when at y d → from ≡ p ∷ []
+    → Grew old first (operand_code when at y d) → Grew first new (op_of o x from ∷ [])
+    → Grew old new (own when at e x d)
+made_one when at d o e k y x p from old first new is code_is p_is one made op =
+    let regs : from ≡ spot when at y d ∷ [] = one ∙ ap (λ q. q ∷ []) p_is in
+    subst (Grew old new)
+    (ap (λ qs. operand_code when at y d ++ (op_of o x qs ∷ [])) regs
+    ∙ sym code_is ∙ sym (ap (λ z. own when at z x d) is))
+    (grew_on old first new _ _ made op)
+
 pub made_pair : (when : When) (at next d one : ℕ) (r : Rate) (b : BinOp) (e y z : Expression) (x p q : Reg)
     (from : List Reg) (old first second new : Draft)
     → e ≡ pair r b y z → next ≡ past at y → one ≡ d + 1

@@ -1,10 +1,10 @@
 // The code of calls, for either pass, by what a call is short for.
-ghost use Rattle.std.specs.Prelude.{◌≡◌, length, IfOk, OnOk};
-ghost use Rattle.cs_ir.specs.Drafts.{Grew, drafted};
+ghost use Rattle.std.specs.Prelude.{◌≡◌, IfOk, OnOk};
+ghost use Rattle.cs_ir.specs.Drafts.{Grew};
 ghost use Rattle.cs_meaning.specs.Core.{ask, unit_call, store_call, zak_call, values_of};
-ghost use Rattle.cs_code.specs.inner.Kept.{start, past_block, past_stmt};
+ghost use Rattle.cs_code.specs.inner.Kept.{start, past_stmt};
 ghost use Rattle.cs_code.specs.inner.Emitted.{IsAssignmentOf, alone_in, arguments_of, called, effect_of, put_shape};
-ghost use Rattle.cs_code.specs.{inner.Code.pass_block_code, inner.Code.pass_code, inner.Emitted.sent_as};
+ghost use Rattle.cs_code.specs.{inner.Code.pass_code, inner.Emitted.sent_as, inner.Served.Lowered};
 ghost use Rattle.cs_words.specs.Catalogue.{row_of};
 ghost use Rattle.cs_base.specs.declared.resource.Rate.TheVariants as rate;
 ghost use Rattle.cs_words.specs.declared.catalogue.Shape.TheVariants as shape;
@@ -186,9 +186,8 @@ fn effect(ops: &mut CodeDraft<'_>, at: Place, call: &Call<'_>) -> Result<Progres
 
 /// The code of a call. Returns what was met before its end.
 pub fn call(ops: &mut CodeDraft<'_>, at: Place, call: &Call<'_>) -> Result<Progress, OutOfMemory>
-    ensures ops { OnOk result (Grew ops.old ops.new (pass_block_code at.context.pass (length (drafted ops.old))
-        at.before (alone_in at.context.spaces (called call.now)))) }
-    ensures next { IfOk result (λ q. q ≡ past_block at.before (alone_in at.context.spaces (called call.now))) }
+    ensures { IfOk result (λ q. Lowered at.context.pass ops.old ops.new at.before q
+        (alone_in at.context.spaces (called call.now))) }
 {
     match assigned(call) {
         Some(assignment) => assign(ops, at.context, at.before, &assignment),

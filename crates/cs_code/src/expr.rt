@@ -11,7 +11,7 @@ ghost use Rattle.cs_code.specs.declared.frame.Pass.TheVariants as pass;
 use crate::frame::{Context, ValueSpot, add, kept_reg, local, next_of, push, temp};
 use crate::value::{Value, direct, rate_of};
 use cs_base::{Num, OutOfMemory, Rate};
-use cs_ir::{Act, CodeDraft, Operands, Reg};
+use cs_ir::{Act, CodeDraft, Op, Operands, Reg};
 use cs_typed::{TypedExpr, TypedPart, Var};
 use cs_words::BinOp;
 
@@ -42,6 +42,22 @@ fn leaf(
     next_of(rate, at, at)
 }
 
+// The last op of a value, after its parts. Returns the number of the next kept value, by that after the parts.
+fn finish(
+    ops: &mut CodeDraft<'_>,
+    op: Op,
+    rate: Rate,
+    at: u32,
+    parts: u32,
+) -> Result<u32, OutOfMemory>
+    requires { is_unaimed op.act ≡ true }
+    ensures ops { OnOk result (Grew ops.old ops.new (op ∷ [])) }
+    ensures next { IfOk result (λ n. n ≡ if_init rate (at + 1) parts) }
+{
+    ops.push(op)?;
+    next_of(rate, at, parts)
+}
+
 // The value of an expression that stands nowhere yet, into a register; `d` is the first free temporary. Returns the
 // number of the next kept value.
 #[cycle(expr)]
@@ -67,27 +83,31 @@ fn own(
         TypedPart::Head(name) => leaf(ops, Act::Head(*name), e.rate, at, into),
         TypedPart::Neg(a) => {
             let a = operand(ops, context, at, a, d)?;
-            push(ops, Act::Neg, into, Operands::one(a.reg))?;
-            next_of(e.rate, at, a.next)
+            let act = Act::Neg;
+            let from = Operands::one(a.reg);
+            finish(ops, Op { act, into, from }, e.rate, at, a.next)
         }
         TypedPart::Pair(op, a, b) => {
             let a = operand(ops, context, at, a, d)?;
             let b = operand(ops, context, a.next, b, add(d, 1)?)?;
-            push(ops, Act::Pair(*op), into, Operands::two(a.reg, b.reg))?;
-            next_of(e.rate, at, b.next)
+            let act = Act::Pair(*op);
+            let from = Operands::two(a.reg, b.reg);
+            finish(ops, Op { act, into, from }, e.rate, at, b.next)
         }
         TypedPart::Pick(c, a, b) => {
             let second = add(d, 1)?;
             let c = operand(ops, context, at, c, d)?;
             let a = operand(ops, context, c.next, a, second)?;
             let b = operand(ops, context, a.next, b, add(second, 1)?)?;
-            push(ops, Act::Pick, into, Operands::three(c.reg, a.reg, b.reg))?;
-            next_of(e.rate, at, b.next)
+            let act = Act::Pick;
+            let from = Operands::three(c.reg, a.reg, b.reg);
+            finish(ops, Op { act, into, from }, e.rate, at, b.next)
         }
         TypedPart::Call(func, a) => {
             let a = operand(ops, context, at, a, d)?;
-            push(ops, Act::Call(*func), into, Operands::one(a.reg))?;
-            next_of(e.rate, at, a.next)
+            let act = Act::Call(*func);
+            let from = Operands::one(a.reg);
+            finish(ops, Op { act, into, from }, e.rate, at, a.next)
         }
     }
 }
@@ -166,13 +186,9 @@ fn made(
         Value::Mixed(v, e) => {
             let x = variable(ops, context, at, Rate::Audio, *v, d)?;
             let y = operand(ops, context, x.next, e, add(d, 1)?)?;
-            push(
-                ops,
-                Act::Pair(BinOp::Add),
-                into,
-                Operands::two(x.reg, y.reg),
-            )?;
-            next_of(Rate::Audio, at, y.next)
+            let act = Act::Pair(BinOp::Add);
+            let from = Operands::two(x.reg, y.reg);
+            finish(ops, Op { act, into, from }, Rate::Audio, at, y.next)
         }
         Value::Zero => leaf(ops, Act::Const(Num::of_raw(0)), Rate::Init, at, into),
     }

@@ -6,9 +6,9 @@ ghost use Rattle.cs_typed.specs.TypedTree as typed;
 ghost use Rattle.cs_typed.specs.{Places.inside, declared.setting.Setting.Setting};
 ghost use Rattle.cs_typed.specs.WellRated.{IsWellRated, IsRatedBlock};
 ghost use Rattle.cs_code.specs.Lowered.{IsCodeOf, IsNumberedCode, AreInstrumentsOf, all_numbers, numbered_with, bodies};
-ghost use Rattle.cs_code.specs.{inner.Rated.IsRatedSomewhere, inner.Served.IsLibraryOf};
+ghost use Rattle.cs_code.specs.{inner.Rated.IsRatedSomewhere, inner.Served.AreCodes, inner.Served.IsLibraryOf};
 
-use crate::codes::{Library, library_of, ops_of};
+use crate::codes::{BlockOps, Library, library_of, ops_of};
 use crate::frame::{Context, Pass};
 use cs_base::OutOfMemory;
 use cs_ir::{Body, Counts, Instrument, Instruments};
@@ -141,8 +141,17 @@ fn body_of(
         ..context
     };
     let perf = ops_of(context, orc, &library.perf, stmts)?;
+    let body = joined(init, perf);
+    Ok(Arc::new(alloc, body)?)
+}
+
+// Both codes of a block, with the registers and units that they name.
+fn joined(init: BlockOps, perf: BlockOps) -> Body
+    requires { (spaces : Spaces) × (t : typed.Block) × IsRatedSomewhere t × AreCodes spaces t init perf }
+    ensures { (spaces : Spaces) (s : Setting) (t : typed.Block) → IsRatedBlock s t → AreCodes spaces t init perf
+        → IsCodeOf spaces s.channels t result.init.code result.perf.code }
+{
     let registers = init.ops.limits().greatest(&perf.ops.limits());
     let units = init.extent.unit as usize;
-    let body = Body::new(init.ops, perf.ops, Counts { registers, units });
-    Ok(Arc::new(alloc, body)?)
+    Body::new(init.ops, perf.ops, Counts { registers, units })
 }

@@ -5,7 +5,8 @@ use Rattle.cs_ir.specs.{Drafts.Draft, Drafts.Grew, Drafts.drafted, declared.op.O
 use Rattle.cs_ir.specs.Routines.{AreRoutines, library_in}
 use Rattle.cs_meaning.specs.Core.{Block, core}
 use Rattle.cs_typed.specs.declared.tree.TypedOrc.{TypedOrc}
-use Rattle.cs_code.specs.{declared.codes.Library.Library, declared.frame.Pass.Pass, declared.frame.Progress.Progress}
+use Rattle.cs_code.specs.{declared.codes.BlockOps.BlockOps, declared.codes.Library.Library, declared.frame.Pass.Pass}
+use Rattle.cs_code.specs.declared.frame.Progress.{Progress}
 use Rattle.cs_code.specs.{declared.routines.Routines.Routines, inner.Code.pass_block_code}
 use Rattle.cs_code.specs.inner.Kept.{start, past_block}
 use Rattle.cs_typed.specs.TypedTree as typed
@@ -37,3 +38,9 @@ pub record AreMade (way : Pass) (spaces : Spaces) (rs : List typed.Block) (m : R
 pub record IsLibraryOf (orc : TypedOrc) (l : Library) : Type 0 where
   pub init : AreMade pass.Initialisation orc.spaces (typed.routines orc.routines.items) l.init
   pub perf : AreMade pass.Performance orc.spaces (typed.routines orc.routines.items) l.perf
+
+-- Ops of a block for both of a note's codes.
+pub record AreCodes (spaces : Spaces) (t : typed.Block) (init perf : BlockOps) : Type 0 where
+  pub begins : init.ops ≡ pass_block_code pass.Initialisation 0 start (core spaces t)
+  pub performs : perf.ops ≡ pass_block_code pass.Performance 0 start (core spaces t)
+  pub extent : init.extent ≡ past_block start (core spaces t)

@@ -132,7 +132,7 @@ stmt-returns-in-Call t c = λ rs serve.
     subst (λ b. IfOk c.call.result (λ q. Lowered way old c.call.new.ops c.args.p q b))
     ((λ i. core_in o (typed.alone (typed.call 0 r (given i) k (map typed.argument (lent i)))))
     ∙ sym (ap (core_in o) seen))
-    (lowered way old c.call.new.ops c.args.p _ c.call.result c.call.ensures.ops c.call.ensures.next)
+    c.call.ensures
 
 pub stmt-returns-in-Invoke : goal.stmt-returns-in-Invoke
 stmt-returns-in-Invoke t c = λ rs serve.
