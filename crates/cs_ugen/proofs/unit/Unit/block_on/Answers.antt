@@ -14,6 +14,6 @@ returns-in-Some-clause-value g c =
 
 pub returns-in-None-clause-value : goal.returns-in-None-clause-value
 returns-in-None-clause-value g c =
-    c.rendered_on-in-None.ensures.value
+    c.rendered_wide.ensures.value
     ∙ runs c.args.self.now (λ j. inputs_at c.args.inputs.now j ++ g.C.Curve.points c.args.curve.now)
     (length c.args.out.now)
