@@ -1,6 +1,6 @@
 -- States of which a channel was given a row.
 use Rattle.std.proofs.Common.{◌≡◌, ℕ, ℤ, ◌-◌, ◌&&◌, Bool, true, false, List, length, map, nat_le, Option, Some, None}
-use Rattle.std.proofs.Common.{if◌then◌else◌, sym, ◌∙◌, ap}
+use Rattle.std.proofs.Common.{if◌then◌else◌, refl, sym, ◌∙◌, ap}
 use Rattle.cs_base.proofs.Tests.{some_is}
 use Rattle.cs_ir.specs.Machine.{Machine, acts, in_world}
 use Rattle.cs_ir.specs.{Waves.Wave, declared.op.Act.Act, declared.register.Counts.Counts, declared.register.Reg.Reg}
@@ -68,3 +68,14 @@ numbered_channel channels (Some n) c w x h = at (nat_le 1 n && nat_le n channels
     at : (b : Bool) → (if b then Some (n - 1) else None) ≡ Some c → (if b then out_to (n - 1) w x else x) ≡ out_to c w x
     at true e = ap (λ k. out_to k w x) (some_is (n - 1) c e)
     at false e = cc
+
+-- nothing is given where there is no such channel
+pub numbered_nowhere : (channels : ℕ) (number : Option ℕ) (w : Wave) (x : VoiceState)
+    → ((c : ℕ) → channel_below channels number ≡ Some c → ⊥) → out_to_numbered channels number w x ≡ x
+numbered_nowhere channels None w x never = refl
+numbered_nowhere channels (Some n) w x never = at (nat_le 1 n && nat_le n channels) never
+  where
+    at : (b : Bool) → ((c : ℕ) → (if b then Some (n - 1) else None) ≡ Some c → ⊥)
+        → (if b then out_to (n - 1) w x else x) ≡ x
+    at true h = absurd (h (n - 1) refl)
+    at false h = refl

@@ -13,7 +13,7 @@ use Rattle.cs_cells.specs.declared.footprint.Area.{Area}
 use Rattle.cs_meaning.specs.{Model.Cause, Pieces.Piece, Pieces.Table, Pieces.find_table}
 use Rattle.cs_machine.specs.{Registers.values, Outputs.outs, Access.CanTouch, Players.PlayerData, Players.has_table}
 use Rattle.cs_machine.specs.{Players.playing, declared.state.State.State, declared.state.NoteSetting.NoteSetting}
-use Rattle.cs_voice_meaning.specs.{Placing.area_of, Follows.Kinds, Follows.AreNamed}
+use Rattle.cs_voice_meaning.specs.{Placing.area_of, Follows.Kinds, Follows.AreNamed, Room.channels_for}
 use Rattle.cs_voice_meaning.specs.VoiceWorld.{Playing, VoiceState, voice_world}
 use Rattle.cs_base.specs.declared.resource.Res.TheVariants as res
 pub use Rattle.cs_typed.specs.TypedTree.{header_of_head as header_of}
@@ -70,7 +70,7 @@ pub record IsPlayerOf (areas : List Area) (piece : Piece) (kind : Opcode × Rate
 pub record IsStateIn (areas : List Area) (piece : Piece) (kinds : Kinds) (counts : Counts) (s : State) : Type 0 where
   pub registers : s.regs.counts ≡ counts
   pub frames : s.regs.ksmps ≡ piece.head.ksmps
-  pub channels : length s.outs.rows ≡ piece.head.nchnls
+  pub channels : length s.outs.rows ≡ channels_for counts piece.head.nchnls
   pub channel_frames : s.outs.ksmps ≡ piece.head.ksmps
   pub units : length s.players.items ≡ counts.units
   pub row : length s.row.items ≡ piece.head.ksmps

@@ -3,14 +3,14 @@ ghost use Rattle.std.specs.Prelude.{◌≡◌, ℕ, ℤ, List, [], None, replica
 ghost use Rattle.cs_cells.specs.declared.footprint.Area.{Area};
 ghost use Rattle.cs_ir.specs.Machine.{new_machine};
 ghost use Rattle.cs_meaning.specs.Pieces.{Piece};
-ghost use Rattle.cs_voice_meaning.specs.{Follows.Kinds, VoiceWorld.fresh_voice};
+ghost use Rattle.cs_voice_meaning.specs.{Follows.Kinds, Room.channels_for, VoiceWorld.fresh_voice};
 ghost use Rattle.cs_machine.specs.States.{IsStateIn, machine_of};
 
 use crate::registers::zeros;
 use crate::{Outputs, Player, Registers};
 use cs_base::{Head, Num, OutOfMemory, Spaces};
 use cs_cells::Layout;
-use cs_ir::Counts;
+use cs_ir::{Counts, Kind};
 use std::alloc::Global;
 
 /// What a note keeps from cycle to cycle. Layers above take its parts one by one, so that a unit may be run while the
@@ -44,7 +44,7 @@ pub struct NoteSetting<'s> {
 impl<'p> State<'p> {
     /// A note that hasn't begun: its registers and channels are silent, no unit was started. All memory that its
     /// registers, channels and list of units need is taken now. `channels` are those of the piece, of `ksmps` frames
-    /// each.
+    /// each; where no register is of sounds it has none.
     pub fn new(
         alloc: Global,
         counts: Counts,
@@ -59,11 +59,24 @@ impl<'p> State<'p> {
         Ok(State {
             regs: Registers::new(alloc, counts, ksmps)?,
             players: no_players(alloc, counts.units)?,
-            outs: Outputs::new(alloc, channels, ksmps)?,
+            outs: Outputs::new(alloc, channels_for(&counts, channels), ksmps)?,
             delays: 0,
             ended: false,
             row: zeros(alloc, ksmps)?,
         })
+    }
+}
+
+/// How many of so many channels a note can give to: none where no register is of sounds, since what is given is a
+/// register of sounds.
+fn channels_for(counts: &Counts, channels: usize) -> usize
+    ensures { result ≡ channels_for counts.now channels }
+{
+    let registers = &counts.registers;
+    if registers.of(Kind::LocalAudio) == 0 && registers.of(Kind::TemporaryAudio) == 0 {
+        0
+    } else {
+        channels
     }
 }
 

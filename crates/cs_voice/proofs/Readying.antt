@@ -17,6 +17,7 @@ use Rattle.cs_meaning.specs.Pieces.{Piece}
 use Rattle.cs_machine.specs.{Players.PlayerData, declared.state.NoteSetting.NoteSetting, declared.state.State.State}
 use Rattle.cs_voice_meaning.specs.Follows.{ActNamed, AreNamed, Kinds}
 use Rattle.cs_voice_meaning.specs.{Placing.HasArea, Placing.cell_count, Voices.has_channel}
+use Rattle.cs_voice_meaning.proofs.Channels.{channel_there}
 use Rattle.cs_machine.proofs.Done.{has_room}
 use Rattle.cs_machine.specs.States.{Does, DoesAt, HasRoom, IsPlayerOf, MayTouch}
 use Rattle.cs_voice.specs.Cells.{AreSized, CanReach, DoesOver, MayReach, MayStore}
@@ -121,17 +122,19 @@ module _ {can_get can_set : ℕ → Type 0} {count : ℕ} {at : NoteSetting} {pi
         ∙ ap (λ n. cell_count n (res_rate g)) (sym r.state.frames);
   }
 
+  pub parts_of : Parts s.regs.counts o
+  parts_of = parts s.regs.counts r.end r.place o r.fine
+
   pub fit_of : IsFit o s
   fit_of = record {
     end = r.end;
     place = r.place;
     fine = r.fine;
     room = has_room at.layout.now piece kinds s.regs.counts s r.state;
-    channel = subst (λ n. has_channel n o.act ≡ true) (sym r.state.channels) r.channel;
+    channel = subst (λ n. has_channel n o.act ≡ true) (sym r.state.channels)
+        (channel_there s.regs.counts piece.head.nchnls o.act (rate_at o.into) o.from parts_of.takes parts_of.from
+        r.channel);
   }
-
-  pub parts_of : Parts s.regs.counts o
-  parts_of = parts s.regs.counts r.end r.place o r.fine
 
   -- the act by its name
   pub uses_of : {a : Act} → o.act ≡ a → AreNamed (MayTouch can_get count at.layout.now) (act_uses stock a)

@@ -3,7 +3,7 @@ use Rattle.std.specs.Prelude.{◌≡◌, true, length}
 use Rattle.cs_ir.specs.Validity.{valid}
 use Rattle.cs_cells.specs.{Cells.Cells, Meaning.Meaning}
 use Rattle.cs_machine.specs.{Outputs.outs, Outputs.refilled, Registers.filled, Registers.values}
-use Rattle.cs_voice_meaning.specs.Voices.{Sheet, IsPlayable, performed, left_by}
+use Rattle.cs_voice_meaning.specs.{Room.channels_for, Voices.Sheet, Voices.IsPlayable, Voices.performed, Voices.left_by}
 use Rattle.cs_voice.specs.VoiceData.{VoiceData, IsOn, sheet_of, sounding, sounding_on, taking}
 
 -- What is so of each voice: its code is valid and can be played; it has as many registers, units and channels as its
@@ -14,7 +14,7 @@ pub record IsVoice (d : VoiceData) : Type 0 where
   pub counts : d.regs.counts ≡ d.code.counts
   pub frames : d.regs.ksmps ≡ d.head.ksmps
   pub units : length d.units ≡ d.code.counts.units
-  pub channels : length d.outs.rows ≡ d.head.nchnls
+  pub channels : length d.outs.rows ≡ channels_for d.code.counts d.head.nchnls
   pub channel_frames : d.outs.ksmps ≡ d.head.ksmps
   pub all_registers : filled d.regs (values d.regs) ≡ d.regs
   pub all_channels : refilled d.outs (outs d.outs) ≡ d.outs

@@ -20,7 +20,8 @@ use Rattle.cs_meaning.specs.Pieces.{Piece, Table, is_live, index, at_place, has_
 use Rattle.cs_voice_meaning.specs.VoiceWorld.{Playing, VoiceState, voice_model, voice_world, fresh_voice}
 use Rattle.cs_voice_meaning.specs.Voices.{Sheet, Sounding, IsPlayable, IsSound, begins, seen, initialised, voice_of}
 use Rattle.cs_voice_meaning.specs.Voices.{performed, has_channel, have_channels}
-use Rattle.cs_voice_meaning.specs.Room.{FitsIn, VoiceFits}
+use Rattle.cs_voice_meaning.specs.Room.{FitsIn, VoiceFits, channels_for}
+use Rattle.cs_voice_meaning.proofs.Channels.{channel_there, numbered_there}
 use Rattle.cs_base.specs.declared.resource.Rate.TheVariants as rate
 use Rattle.cs_words.specs.declared.catalogue.Shape.TheVariants as shape
 use Rattle.cs_words.specs.declared.catalogue.Space.TheVariants as space
@@ -55,12 +56,12 @@ audio_is : (r : Rate) → is_audio r ≡ true → r ≡ rate.Audio
 audio_is rate.Audio h = refl
 audio_is _ h = absurd (cc)
 
-module _ (areas : List Area) (piece : Piece) (counts : Counts) where
+module _ (areas : List Area) (piece : Piece) (counts : Counts) (channels : ℕ) where
   abbrev model : WorldModel (ℕ → ℤ) Playing
   model = voice_model areas piece
 
   abbrev pub Fits : Machine VoiceState → Type 0
-  Fits m = FitsIn counts piece.head.ksmps piece.head.nchnls m.regs m.world.units m.world.outs
+  Fits m = FitsIn counts piece.head.ksmps channels m.regs m.world.units m.world.outs
 
   abbrev Sound : Wave → Type 0
   Sound w = held piece.head.ksmps rate.Audio w ≡ w
@@ -68,7 +69,7 @@ module _ (areas : List Area) (piece : Piece) (counts : Counts) where
   -- the world as a machine that fits has it
   abbrev Room : VoiceState → Type 0
   Room x = ((u : ℕ) → nat_lt u counts.units ≡ false → x.units u ≡ None)
-      × ((c : ℕ) → nat_lt c piece.head.nchnls ≡ false → x.outs c ≡ silence) × ((c : ℕ) → Sound (x.outs c))
+      × ((c : ℕ) → nat_lt c channels ≡ false → x.outs c ≡ silence) × ((c : ℕ) → Sound (x.outs c))
 
   room_of : (m : Machine VoiceState) → Fits m → Room m.world
   room_of m f = (f.units, f.outs, f.frames)
@@ -146,8 +147,8 @@ module _ (areas : List Area) (piece : Piece) (counts : Counts) where
 
   -- ---- what goes out
 
-  out_past : (b : Bool) (w v : Wave) (n c : ℕ) → (n == c) ≡ b → nat_lt c piece.head.nchnls ≡ true
-      → nat_lt n piece.head.nchnls ≡ false → v ≡ silence → (if b then w else v) ≡ silence
+  out_past : (b : Bool) (w v : Wave) (n c : ℕ) → (n == c) ≡ b → nat_lt c channels ≡ true → nat_lt n channels ≡ false
+      → v ≡ silence → (if b then w else v) ≡ silence
   out_past true w v n c e there past h = grind (arith, common_steps, eqb-true, nat_lt)
   out_past false w v n c e there past h = h
 
@@ -155,19 +156,19 @@ module _ (areas : List Area) (piece : Piece) (counts : Counts) where
   either_sound true w v h k = h
   either_sound false w v h k = k
 
-  out_room : (c : ℕ) (w : Wave) (x : VoiceState) → nat_lt c piece.head.nchnls ≡ true → Sound w → Room x
+  out_room : (c : ℕ) (w : Wave) (x : VoiceState) → nat_lt c channels ≡ true → Sound w → Room x
       → Room (out_to c w x)
   out_room c w x there sound k = grind (arith, common_steps, added_held, either_sound, out_past)
 
-  channel_below : (n channels : ℕ) → (nat_le 1 n && nat_le n channels) ≡ true → nat_lt (n - 1) channels ≡ true
-  channel_below n channels h = let both = and_parts (nat_le 1 n) (nat_le n channels) h in grind (arith, nat_tests)
+  channel_below : (n count : ℕ) → (nat_le 1 n && nat_le n count) ≡ true → nat_lt (n - 1) count ≡ true
+  channel_below n count h = let both = and_parts (nat_le 1 n) (nat_le n count) h in grind (arith, nat_tests)
 
   when_room : (b : Bool) (x y : VoiceState) → (b ≡ true → Room x) → Room y → Room (if b then x else y)
   when_room true x y h k = h refl
   when_room false x y h k = k
 
   out_at_room : (i : Option ℕ) (w : Wave) (x : VoiceState) → Sound w → Room x
-      → Room (out_to_numbered piece.head.nchnls i w x)
+      → Room (out_to_numbered channels i w x)
   out_at_room None w x sound k = k
   out_at_room (Some n) w x sound k = grind (arith, common_steps, channel_below, nat_le, out_room, when_room)
 
@@ -198,7 +199,9 @@ module _ (areas : List Area) (piece : Piece) (counts : Counts) where
 
   acts_fit : (t : Act) (into : Reg) (from : List Reg) (end place : ℕ) (m : Machine VoiceState)
       → (writes t ≡ true → has_register counts into ≡ true) → finds counts end place t ≡ true
-      → takes_from t (rate_at into) from ≡ true → has_channel piece.head.nchnls t ≡ true → Fits m
+      → takes_from t (rate_at into) from ≡ true
+      → (list_all (has_register counts) from ≡ true) × (has_channel piece.head.nchnls t ≡ true)
+      × (channels ≡ channels_for counts piece.head.nchnls) → Fits m
       → Fits (acts (voice_world areas piece) t into (map m.regs from) m)
   acts_fit (act.Save g) into from end place m w fi ta ch f =
       in_room m (acts (voice_world areas piece) (act.Save g) into (map m.regs from) m).world f (room_of m f)
@@ -224,11 +227,17 @@ module _ (areas : List Area) (piece : Piece) (counts : Counts) where
       record { regs = f.regs; keeps = f.keeps; units = f.units; outs = f.outs; frames = f.frames }
   acts_fit (act.Out c) into from end place m w fi ta ch f =
       in_room m (acts (voice_world areas piece) (act.Out c) into (map m.regs from) m).world f
-      (out_room c (operand 0 (map m.regs from)) m.world ch (out_sound m c (rate_at into) from ta f) (room_of m f))
+      (out_room c (operand 0 (map m.regs from)) m.world
+      (subst (λ n. nat_lt c n ≡ true) (sym ch.2)
+      (channel_there counts piece.head.nchnls (act.Out c) (rate_at into) from ta ch.0 ch.1))
+      (out_sound m c (rate_at into) from ta f) (room_of m f))
   acts_fit act.OutAt into from end place m w fi ta ch f =
       in_room m (acts (voice_world areas piece) act.OutAt into (map m.regs from) m).world f
+      (subst
+      (λ n. Room (out_to_numbered n (index (operand 0 (map m.regs from) 0)) (operand 1 (map m.regs from)) m.world))
+      (ch.2 ∙ numbered_there counts piece.head.nchnls (rate_at into) from ta ch.0)
       (out_at_room (index (operand 0 (map m.regs from) 0)) (operand 1 (map m.regs from)) m.world
-      (out_at_sound m (rate_at into) from ta f) (room_of m f))
+      (out_at_sound m (rate_at into) from ta f) (room_of m f)))
   acts_fit act.Turnoff into from end place m w fi ta ch f =
       in_room m (acts (voice_world areas piece) act.Turnoff into (map m.regs from) m).world f (room_of m f)
   acts_fit act.Ask into from end place m w fi ta ch f =
@@ -240,9 +249,9 @@ module _ (areas : List Area) (piece : Piece) (counts : Counts) where
   either_fits false n m h k = k
 
   step_fits : (end place : ℕ) (op : Op) (m : Machine VoiceState) → is_fine counts end place op ≡ true
-      → has_channel piece.head.nchnls op.act ≡ true → Fits m
+      → has_channel piece.head.nchnls op.act ≡ true → channels ≡ channels_for counts piece.head.nchnls → Fits m
       → Fits (step (voice_world areas piece) place op m)
-  step_fits end place op m fine ch f =
+  step_fits end place op m fine ch is f =
       let own : Bool = not (writes op.act) || has_register counts op.into in
       let reads : Bool = list_all (has_register counts) op.from in
       let names : Bool = finds counts end place op.act in
@@ -253,18 +262,18 @@ module _ (areas : List Area) (piece : Piece) (counts : Counts) where
       either_fits (is_done (voice_world areas piece) place m)
       (acts (voice_world areas piece) op.act op.into (map m.regs op.from) m) m
       (acts_fit op.act op.into op.from end place m (written_there (writes op.act) (has_register counts op.into) into.0)
-      middle.1 outer.1 ch f) f
+      middle.1 outer.1 (into.1, ch, is) f) f
 
   -- a machine that fits goes on so
   pub run_fits : (end place : ℕ) (ops : List Op) (m : Machine VoiceState) → fine_from counts end place ops ≡ true
-      → have_channels piece.head.nchnls ops ≡ true → Fits m
+      → have_channels piece.head.nchnls ops ≡ true → channels ≡ channels_for counts piece.head.nchnls → Fits m
       → Fits (run (voice_world areas piece) place ops m)
-  run_fits end place [] m fine ch f = f
-  run_fits end place (op ∷ ops) m fine ch f =
+  run_fits end place [] m fine ch is f = f
+  run_fits end place (op ∷ ops) m fine ch is f =
       let now = and_parts (is_fine counts end place op) (fine_from counts end (place + 1) ops) fine in
       let channel = and_parts (has_channel piece.head.nchnls op.act) (have_channels piece.head.nchnls ops) ch in
-      run_fits end (place + 1) ops (step (voice_world areas piece) place op m) now.1 channel.1
-      (step_fits end place op m now.0 channel.0 f)
+      run_fits end (place + 1) ops (step (voice_world areas piece) place op m) now.1 channel.1 is
+      (step_fits end place op m now.0 channel.0 is f)
 
 silent_held : (ksmps : ℕ) (r : Rate) → held ksmps r silence ≡ silence
 silent_held ksmps rate.Init = refl
@@ -275,8 +284,8 @@ silent_held ksmps rate.Audio = grind (arith, common_steps, nat_lt)
 pub begins_fitting : (s : Sheet) (counts : Counts) (cells : ℕ → ℤ) → IsPlayable s
     → fine_from counts (length s.init) 0 s.init ≡ true → VoiceFits counts (voice_of s (initialised s cells))
 begins_fitting s counts cells playable fine =
-    run_fits s.areas s.piece counts (length s.init) 0 s.init (new_machine (fresh_voice cells)) fine
-    playable.init_channels
+    run_fits s.areas s.piece counts (channels_for counts s.piece.head.nchnls) (length s.init) 0 s.init
+    (new_machine (fresh_voice cells)) fine playable.init_channels refl
     (record {
       regs = λ q past. refl;
       keeps = λ q. silent_held s.piece.head.ksmps (rate_at q);
@@ -289,8 +298,8 @@ pub goes_on_fitting : (v : Sounding) (counts : Counts) (c : Cells) → IsSound v
     → fine_from counts (length v.sheet.perf) 0 v.sheet.perf ≡ true → VoiceFits counts v
     → VoiceFits counts (performed v c)
 goes_on_fitting v counts c playable fine fits =
-    run_fits v.sheet.areas v.sheet.piece counts (length v.sheet.perf) 0 v.sheet.perf (begins v (seen v.sheet (cell c)))
-    fine playable.perf_channels
+    run_fits v.sheet.areas v.sheet.piece counts (channels_for counts v.sheet.piece.head.nchnls) (length v.sheet.perf) 0
+    v.sheet.perf (begins v (seen v.sheet (cell c))) fine playable.perf_channels refl
     (record {
       regs = fits.regs;
       keeps = fits.keeps;

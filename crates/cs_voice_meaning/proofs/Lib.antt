@@ -1,4 +1,5 @@
 pub mod Alikes
+pub mod Channels
 pub mod Fitting
 pub mod FrameLaw
 pub mod Models

@@ -1,9 +1,16 @@
 -- How much room a voice takes.
-use Rattle.std.specs.Prelude.{ℕ, ◌≡◌, false, Option, None, nat_lt}
-use Rattle.cs_ir.specs.{Registers.rate_at, Validity.has_register, Waves.Wave, Waves.held, Waves.silence}
-use Rattle.cs_ir.specs.{declared.register.Counts.Counts, declared.register.Reg.Reg}
+use Rattle.std.specs.Prelude.{ℕ, ◌≡◌, ◌+◌, ◌==◌, false, Option, None, nat_lt, if◌then◌else◌}
+use Rattle.cs_ir.specs.{Registers.at_kind, Registers.rate_at, Validity.has_register}
+use Rattle.cs_ir.specs.{Waves.Wave, Waves.held, Waves.silence, declared.register.Counts.Counts}
+use Rattle.cs_ir.specs.declared.register.Reg.{Reg}
 use Rattle.cs_voice_meaning.specs.{VoiceWorld.Playing, Voices.Sounding}
 use Rattle.cs_base.specs.declared.resource.Rate.TheVariants as rate
+use Rattle.cs_ir.specs.declared.register.Kind.TheVariants as kind
+
+-- How many of so many channels a code with these registers can give to: what it gives is a register of sounds.
+abbrev pub channels_for : Counts → ℕ → ℕ
+channels_for counts channels =
+    if at_kind counts.registers kind.LocalAudio + at_kind counts.registers kind.TemporaryAudio == 0 then 0 else channels
 
 -- Registers, units and channels fit in so many of each, of so many frames: past the last there is nothing, and each
 -- register holds what its rate can hold.
@@ -15,6 +22,7 @@ pub record FitsIn (counts : Counts) (ksmps channels : ℕ) (r : Reg → Wave) (u
   pub outs : (c : ℕ) → nat_lt c channels ≡ false → o c ≡ silence
   pub frames : (c : ℕ) → held ksmps rate.Audio (o c) ≡ o c
 
--- a voice fits in registers and units of so many, in its piece
+-- a voice fits in registers and units of so many, and in the channels of its piece that it can give to
 abbrev pub VoiceFits : Counts → Sounding → Type 0
-VoiceFits counts v = FitsIn counts v.sheet.piece.head.ksmps v.sheet.piece.head.nchnls v.regs v.units v.outs
+VoiceFits counts v = FitsIn counts v.sheet.piece.head.ksmps (channels_for counts v.sheet.piece.head.nchnls) v.regs
+    v.units v.outs

@@ -27,8 +27,8 @@ pub fn cycles_refuse_nothing()
         × ((cycle v cells).world.asks ≡ []) × ((cycle v cells).world.delays ≡ v.delays) }
 {}
 
-/// A voice that plays valid codes needs the registers and units that they count, and the channels and frames of its
-/// piece: past these there is nothing, as it begins and after each cycle.
+/// A voice that plays valid codes needs the registers and units that they count, the frames of its piece, and its
+/// channels where they count a register of sounds: past these there is nothing, as it begins and after each cycle.
 pub fn voices_fit_their_room()
     ensures begins { (s : Sheet) (counts : Counts) (cells : ℕ → ℤ) → IsPlayable s
         → fine_from counts (length s.init) 0 s.init ≡ true → VoiceFits counts (voice_of s (initialised s cells)) }
