@@ -39,25 +39,10 @@ pub fn run_cycle<J: Job + Send + Drop, R: Threads + Wait + Sync, G: Gate + Sync>
             ensures played { WasPlayed J.means desk jobs.items result.0 result.1 }
             ensures graph { result.2.value ≡ graph.value }
         {
-            let pool = Pool::new(crew.rt, scope, alloc, crew.workers, crew.gate);
-            run_once(pool, cycle, graph, desk, jobs)
+            let mut pool = Pool::new(crew.rt, scope, alloc, crew.workers, crew.gate);
+            let played = pool.cycle(cycle, graph, desk, jobs);
+            pool.close();
+            played
         },
     )
-}
-
-/// The one cycle of a pool, whose helpers have ended when it returns.
-fn run_once<J: Job + Send + Drop, R: Threads + Wait + Sync, G: Gate + Sync>(
-    mut pool: Pool<'_, J, R, G>,
-    cycle: u32,
-    graph: Arc<Graph, Global>,
-    desk: Desk<J>,
-    jobs: Vec<J>,
-) -> (Receipt<J>, Desk<J>, Arc<Graph, Global>)
-    requires { IsCycle J.means graph.value desk jobs.items }
-    ensures played { WasPlayed J.means desk jobs.items result.0 result.1 }
-    ensures graph { result.2.value ≡ graph.value }
-{
-    let played = pool.cycle(cycle, graph, desk, jobs);
-    pool.close();
-    played
 }

@@ -44,6 +44,9 @@ module _ {J : Type 0} (M : Meaning J) (F : Frames M) (k : Plan J) (whole : IsPla
   pub left_long : length left_jobs ≡ k.notes
   left_long = length-serial_jobs M k.jobs k.cells ∙ whole.jobs
 
+  pub left_low : (t end : ℕ) → t < end → end ≡ k.notes → t < length left_jobs
+  left_low t end l is = omega (arith, left_long, l, is)
+
   -- the job that a note leaves has the note's footprint
   pub left_writes : (t : ℕ) (j : J) → slice_get left_jobs t ≡ Some j → (M.foot j).writes ≡ places_written M k t
   left_writes t j at_ =

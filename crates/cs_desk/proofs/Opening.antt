@@ -59,22 +59,26 @@ module _ {J : Type 0} where
     spare = words - wide areas (length jobs) (length graph.edges);
   }
 
-  pub laid_over : (areas a1 : List Area) (w w1 : Still J) (graph : Dependencies) (jobs : List J) (e : ℕ) → a1 ≡ areas
-      → IsLaying (plan_over areas w graph jobs) 0 e w1
-      → length (cells_laid areas w) ≡ word_count areas → plan_laid a1 w1 graph ≡ plan_over areas w graph jobs
-  laid_over areas a1 w w1 graph jobs e same_areas h cells =
-      laid_plan (plan_over areas w graph jobs) e w1 a1 graph h (sym same_areas) refl refl
-      (length-map (cells_laid areas w) signed ∙ cells ∙ ap word_count (sym same_areas))
+  -- what was laid out goes by a graph that was lent, which is the cycle's
+  module _ (areas a1 : List Area) (w w1 : Still J) (lent graph : Dependencies) (jobs : List J) (same : lent ≡ graph)
+      (same_areas : a1 ≡ areas) (h : IsLaying (plan_over areas w lent jobs) 0 (length lent.edges) w1)
+      (cells : length (cells_laid areas w) ≡ word_count areas) where
+    laid_now : IsLaying (plan_over areas w graph jobs) 0 (length graph.edges) w1
+    laid_now = subst (λ z. IsLaying (plan_over areas w z jobs) 0 (length z.edges) w1) same h
 
-  -- the plan that is laid out is the one that the desk had
-  pub begin_plan : (areas a1 : List Area) (w w1 : Still J) (graph : Dependencies) (jobs : List J) (words e : ℕ)
-      → a1 ≡ areas → IsLaying (plan_over areas w graph jobs) 0 e w1
-      → length (cells_laid areas w) ≡ word_count areas → length w.words ≡ words
-      → plan_laid a1 w1 graph ≡ desk_plan areas w words graph jobs
-  begin_plan areas a1 w w1 graph jobs words e same_areas h cells count =
-      laid_over areas a1 w w1 graph jobs e same_areas h cells
-      ∙ ap (λ n. record (plan_over areas w graph jobs) { spare = n - wide areas (length jobs) (length graph.edges) })
-      count
+    laid_over : plan_laid a1 w1 graph ≡ plan_over areas w graph jobs
+    laid_over =
+        laid_plan (plan_over areas w graph jobs) (length graph.edges) w1 a1 graph laid_now (sym same_areas) refl refl
+        (length-map (cells_laid areas w) signed ∙ cells ∙ ap word_count (sym same_areas))
+
+    pub begin_laid : IsLaying (plan_laid a1 w1 graph) 0 (length graph.edges) w1
+    begin_laid = subst (λ k. IsLaying k 0 (length graph.edges) w1) (sym laid_over) laid_now
+
+    -- the plan that is laid out is the one that the desk had
+    pub begin_plan : (words : ℕ) → length w.words ≡ words → plan_laid a1 w1 graph ≡ desk_plan areas w words graph jobs
+    begin_plan words count = laid_over
+        ∙ ap (λ n. record (plan_over areas w graph jobs) { spare = n - wide areas (length jobs) (length graph.edges) })
+        count
 
   pub begin_built : (areas : List Area) (w : Still J) (words slots : ℕ) (graph : Dependencies) (jobs : List J)
       (k : Plan J) (n r c : ℕ) → k ≡ desk_plan areas w words graph jobs

@@ -1,8 +1,10 @@
 -- The one seat of a board that rests, after a step.
 use Rattle.std.proofs.lemmas.{Grind.common_steps, List.length-replicate, List.length-set, List.map-set}
+use Rattle.std.proofs.lemmas.{List.get_or_append_left, Option.get_or_from_slice_get}
 use Rattle.std.proofs.Common.{◌≡◌, ℕ, zero, suc, ◌+◌, ◌<◌, ◌≤◌, List, [], ◌∷◌, ◌++◌, length, set, take, drop, replicate}
-use Rattle.std.proofs.Common.{true, false, Option, Some, None, refl, sym, ap, ◌∙◌, subst, arith, slice_get, drop-drop}
-use Rattle.std.proofs.{Common.drop_at, Common.is_some, Math.Seq.take-append_seam}
+use Rattle.std.proofs.Common.{true, false, Option, Some, None, refl, sym, ap, ◌∙◌, subst, arith}
+use Rattle.std.proofs.Common.{slice_get, slice_index, get_or, pos}
+use Rattle.std.proofs.{Common.drop_at, Common.drop-drop, Common.is_some, Math.Seq.take-append_seam}
 use mathlib.Core.Option.{none}
 use Rattle.atomic_table.specs.{Seated.TableId, Table.step, Table.rest, declared.shared.Seat.Seat}
 use Rattle.cs_board.specs.Resting.{IsSole, still_in, areas_in, known_in}
@@ -14,6 +16,7 @@ use Rattle.cs_board.specs.{declared.view.Berth.Berth, declared.view.Still.Still,
 use Rattle.cs_board.specs.Views.{laid, with_word, with_home, cells_laid}
 use Rattle.cs_board.specs.declared.view.Berth.TheVariants.{Vacant, Full, Told}
 use Rattle.cs_board.proofs.{AllWords.one_set, Opening.length-each_below}
+use Rattle.cs_desk.proofs.Plainly.{value_at}
 pub use Rattle.cs_board.proofs.Sole.{sole_knows, sole_carries}
 
 past_drop : (xs ys : List ℕ) (n i : ℕ) → length xs ≡ n → drop (n + i) (xs ++ ys) ≡ drop i ys
@@ -123,6 +126,17 @@ module _ {J : Type 0} where
         (subst (IsCleared (areas_in s) id.words id.slots) (sym known)
         ((cleared_set (areas_in s) id.words id.slots (known_in s) a x h.cleared low).1));
   }
+
+  pub reads_cell : (areas : List Area) (words slots : ℕ) (w : Still J) (a : ℕ) → IsCleared areas words slots w
+      → a < word_count areas → get_or (values (cells_laid areas w)) a (pos 0) ≡ signed (slice_index w.words (1 + a))
+  reads_cell areas words slots w a h low =
+      let cells = cells_laid areas w in
+      let others : List ℕ = each_below (λ r. 0) (length areas) ++ others_laid areas w in
+      let near : a < length cells = omega (arith, h.long, low) in
+      let next : 1 + a ≡ suc a = omega arith in
+      get_or_from_slice_get (values cells) a (signed (slice_index cells a)) (pos 0) (value_at cells a near)
+      ∙ ap signed (sym (ap (λ ws. slice_index ws (1 + a)) h.words ∙ ap (slice_index (0 ∷ cells ++ others)) next
+      ∙ get_or_append_left cells others _ a near))
 
   pub sets_cell : (areas : List Area) (words slots : ℕ) (w : Still J) (a x : ℕ) → IsCleared areas words slots w
       → a < word_count areas

@@ -1,5 +1,6 @@
 -- Each kind of step on a mailbox keeps its rule, and tells what it promises.
-use Rattle.std.proofs.lemmas.{Grind.common_steps, Bool.cases_eq}
+use Rattle.std.proofs.lemmas.{Grind.common_steps, Bool.cases_eq, List.set-get_or}
+use Rattle.atomic_table.proofs.Lists.{set_again}
 use Rattle.std.proofs.Common.{◌≡◌, ◌≢◌, ◌⊎◌, ℕ, inl, inr, ⊎_elim, List, [], ◌∷◌, Option, Some, None, refl, sym, ap, ◌∙◌}
 use Rattle.std.proofs.Common.{subst, arith, slice_index, slice_set, eqb, eq-eqb, ne_eqb}
 use Rattle.std.specs.{Prelude.MatchOption, Arc.arc_value}
@@ -113,25 +114,17 @@ module _ {J : Type 0} (M : Meaning J) where
       )
 
   -- nothing changes
-  caller_again : (s : State (MailboxLetter J) (Knows J)) (id : ℕ) (v : Knows J) (c : OfCaller M s id v)
+  stays : (s : State (MailboxLetter J) (Knows J)) (id : ℕ) (v : Knows J) → Always M s → get_elem? s.views id ≡ some v
       → Always M (record {
         words = slice_set s.words 0 (slice_index s.words 0);
         homes = s.homes;
-        views =
-            slice_set s.views id v;
+        views = slice_set s.views id v;
       })
-  caller_again s id v c = caller_stepped s id v c (slice_set s.words 0 (slice_index s.words 0)) s.homes c.word c.home v
-      (ap (λ ws. slice_set ws 0 (slice_index ws 0)) c.words) c.homes c.facts
-
-  helper_again : (s : State (MailboxLetter J) (Knows J)) (id : ℕ) (v : Knows J) (c : OfHelper M s id v)
-      → Always M (record {
-        words = slice_set s.words 0 (slice_index s.words 0);
-        homes = s.homes;
-        views =
-            slice_set s.views id v;
-      })
-  helper_again s id v c = helper_stepped s id v c (slice_set s.words 0 (slice_index s.words 0)) s.homes c.word c.home v
-      (ap (λ ws. slice_set ws 0 (slice_index ws 0)) c.words) c.homes c.facts
+  stays s id v a here =
+      subst (λ ws. Always M (record { words = ws; homes = s.homes; views = slice_set s.views id v }))
+      (sym (set-get_or s.words 0 _))
+      (subst (λ vs. Always M (record { words = s.words; homes = s.homes; views = vs }))
+      (sym (set_again s.views id v here)) a)
 
   -- a task is taken, or there is none
   pub takes_task : (n id : ℕ)
@@ -158,7 +151,7 @@ module _ {J : Type 0} (M : Meaning J) where
             }),
         ((λ y. (t, refl, subst (λ e. IsDone M e.board e.seat) (sym g.2.same) g.2.ready)), (λ y. absurd (y hit))),
       ))
-      (λ miss. (helper None, keeps, tt, helper_again s id (helper None) c, ((λ y. absurd (miss y)), (λ y. refl))))
+      (λ miss. (helper None, keeps, tt, stays s id (helper None) a here, ((λ y. absurd (miss y)), (λ y. refl))))
     where
       x : ℕ
       x = slice_index s.words 0
@@ -221,7 +214,7 @@ module _ {J : Type 0} (M : Meaning J) where
             }),
         subst (λ y. told y (caller k' None, (0, f.0) ∷ [])) word_is f.2,
       ))
-      (λ miss. (caller k (Some e), keeps, tt, caller_again s id (caller k (Some e)) c, missed x miss))
+      (λ miss. (caller k (Some e), keeps, tt, stays s id (caller k (Some e)) a here, missed x miss))
     where
       x : ℕ
       x = slice_index s.words 0

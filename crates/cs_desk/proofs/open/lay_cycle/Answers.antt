@@ -1,11 +1,11 @@
 use Rattle.std.proofs.lemmas.{Grind.common_steps, List.append-nil, Option.slice_get_within}
 use Rattle.std.proofs.Common.{ℕ, ◌+◌, ◌<◌, ◌≡◌, [], ◌∷◌, ◌++◌, length, drop, Some, refl, sym, ap, ◌∙◌, subst, arith}
-use Rattle.std.proofs.{Common.length-append, Math.Seq.drop-length}
-use Rattle.cs_board.specs.{Opening.first_status, Views.with_word, Views.with_home, Words.status_at}
-use Rattle.cs_board.specs.{declared.view.Berth.TheVariants.Full, declared.view.Plan.Plan}
+use Rattle.std.proofs.{Common.length-append, Common.slice_get, Math.Seq.drop-length}
+use Rattle.cs_board.specs.{Opening.first_status, Views.slot_row, Views.with_word, Views.with_home}
+use Rattle.cs_board.specs.{declared.view.Berth.TheVariants.Full, declared.view.Plan.Plan, Words.status_at}
 use Rattle.cs_board.specs.Resting.{IsLaying, areas_in, known_in}
 use Rattle.cs_desk.specs.inner.Resting.{plan_over}
-use Rattle.cs_desk.proofs.{Laying.laying_watch, Laying.laying_note, Opening.popped}
+use Rattle.cs_desk.proofs.{Laying.laying_watch, Laying.laying_note, Laying.row_vacant, Opening.popped}
 use Rattle.cs_desk.proofs.open.lay_cycle.Goals as goal
 
 pub loop-edge-init : goal.loop-edge-init
@@ -35,6 +35,19 @@ loop-edge-preserved g c =
 
 pub loop-job-init : goal.loop-job-init
 loop-job-init g c = grind (arith, common_steps, append-nil, drop-length)
+
+pub lay_note-requires-clause-vacant : goal.lay_note-requires-clause-vacant
+lay_note-requires-clause-vacant g c =
+    let js = c.args.jobs.items in
+    let jn = c.pop.new.self.items in
+    let w = known_in c.loop-job.seat in
+    let i = c.loop-job.invariant in
+    let long : length c.loop-job.jobs.items ≡ length jn + 1 =
+    omega (arith, ap length c.in-Some.ensures.items, length-append jn (c.in-Some.job ∷ [])) in
+    let nt : c.len-note.result ≡ length jn = omega (arith, c.len-note.ensures, c.pop.new.self.ok.0) in
+    ap (slice_get w.homes) nt ∙ ap (λ hs. slice_get hs (length jn)) i.laying.homes
+    ∙ ap (λ n. slice_get (slot_row n (drop n js) i.laying.left) (length jn)) long
+    ∙ row_vacant (length jn) (drop (length jn + 1) js) i.laying.left
 
 pub loop-job-preserved : goal.loop-job-preserved
 loop-job-preserved g c =

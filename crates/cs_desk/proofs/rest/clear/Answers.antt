@@ -3,7 +3,7 @@ use Rattle.std.proofs.Common.{ℕ, ◌<◌, ◌≡◌, List, [], ◌∷◌, ◌+
 use Rattle.std.proofs.{Common.slice_get, Math.Seq.take-length}
 use Rattle.cs_board.specs.{Board.plan, Resting.known_in, Plans.places_written, declared.view.Berth.Berth}
 use Rattle.cs_desk.specs.inner.Resting.{ClearsTurns}
-use Rattle.cs_desk.proofs.Ending.{there, took, left_long, left_writes}
+use Rattle.cs_desk.proofs.Ending.{there, took, left_long, left_low, left_writes}
 use Rattle.cs_desk.proofs.Laying.{full_next, clears_note}
 use Rattle.cs_cells.specs.Serial.{serial_jobs}
 use Rattle.cs_board.specs.declared.view.Berth.TheVariants.{Vacant, Full}
@@ -17,12 +17,8 @@ fetch-job-requires-clause-full g c =
     let k = plan c.args.board.now in
     let js : List g.row.J.Denot = serial_jobs g.J.Job.means k.jobs k.cells in
     let j = there js c.loop-note.note
-    (omega (
-      arith,
-      left_long g.J.Job.means g.met.J.Job.frames k c.requires.whole,
-      c.loop-note-test.true,
-      c.notes-note-end.ensures,
-    )) in
+    (left_low g.J.Job.means g.met.J.Job.frames k c.requires.whole c.loop-note.note _ c.loop-note-test.true
+    c.notes-note-end.ensures) in
     (j.0, full_next g.J.Job.means k c.loop-note.note j.0 (known_in c.loop-note.seat) j.1 c.loop-note.invariant.clearing)
 
 -- the job that was fetched is the one that the serial run leaves
@@ -36,13 +32,8 @@ clear_turns-requires-clause-note g c =
     let k = plan c.args.board.now in
     let js : List g.row.J.Denot = serial_jobs g.J.Job.means k.jobs k.cells in
     let t : ℕ = c.loop-note.note in
-    let low : t < length js =
-    omega (
-      arith,
-      left_long g.J.Job.means g.met.J.Job.frames k c.requires.whole,
-      c.loop-note-test.true,
-      c.notes-note-end.ensures,
-    ) in
+    let low = left_low g.J.Job.means g.met.J.Job.frames k c.requires.whole t _ c.loop-note-test.true
+    c.notes-note-end.ensures in
     left_writes g.J.Job.means g.met.J.Job.frames k c.requires.whole t c.fetch-job.result
     (fetched js t low (known_in c.loop-note.seat).homes c.fetch-job.result
     (full_next g.J.Job.means k t (there js t low).0 (known_in c.loop-note.seat) (there js t low).1
@@ -55,13 +46,8 @@ loop-note-preserved g c =
     let t : ℕ = c.loop-note.note in
     let w = known_in c.loop-note.seat in
     let inv = c.loop-note.invariant in
-    let low : t < length js =
-    omega (
-      arith,
-      left_long g.J.Job.means g.met.J.Job.frames k c.requires.whole,
-      c.loop-note-test.true,
-      c.notes-note-end.ensures,
-    ) in
+    let low = left_low g.J.Job.means g.met.J.Job.frames k c.requires.whole t _ c.loop-note-test.true
+    c.notes-note-end.ensures in
     let at_ : slice_get js t ≡ Some c.fetch-job.result =
     fetched js t low w.homes c.fetch-job.result
     (full_next g.J.Job.means k t (there js t low).0 w (there js t low).1 inv.clearing) c.fetch-job.ensures.job in

@@ -1,5 +1,5 @@
 use Rattle.std.proofs.lemmas.{Grind.common_steps, List.Elements.All-cons, List.Elements.All-tail}
-use Rattle.std.proofs.Common.{◌≡◌, ◌≢◌, suc, length, rules, ap, ◌∙◌, subst, arith}
+use Rattle.std.proofs.Common.{◌≡◌, ◌≢◌, suc, length, rules, ap, ◌∙◌, subst, sym, arith}
 use Rattle.std.specs.{Arc.arc_value, List.All}
 use Rattle.cs_board.specs.Board.{plan, name, view, IsSeatOf}
 use Rattle.cs_pool.proofs.{Missed.more_served, Missed.none_served, Given.all_given, Given.most_given, Given.none_given}
@@ -45,6 +45,33 @@ share-shared-requires g t c κs within =
         ),
       ),
     )
+
+pub join-requires-clause-other : goal.join-requires-clause-other
+join-requires-clause-other g t c =
+    let through = c.await_seat-returned.ensures.seat (arc_value c.in-Ok.part) c.split-seat.result c.give.ensures.lent in
+    subst (λ b. IsSeatOf g.J.Job.means (plan b) (name b) c.await_seat-returned.result.seat)
+    (c.in-Ok.ensures.share ∙ sym c.deref-3.ensures) through.done.of
+
+pub join-requires-clause-later : goal.join-requires-clause-later
+join-requires-clause-later g t c =
+    let through = c.await_seat-returned.ensures.seat (arc_value c.in-Ok.part) c.split-seat.result c.give.ensures.lent in
+    through.seat.first ∙ ap (λ v. v.first) c.split-seat.ensures.new
+
+pub join-requires-clause-idle : goal.join-requires-clause-idle
+join-requires-clause-idle g t c =
+    let through = c.await_seat-returned.ensures.seat (arc_value c.in-Ok.part) c.split-seat.result c.give.ensures.lent in
+    through.done.idle
+
+pub join-requires-clause-owes : goal.join-requires-clause-owes
+join-requires-clause-owes g t c =
+    let through = c.await_seat-returned.ensures.seat (arc_value c.in-Ok.part) c.split-seat.result c.give.ensures.lent in
+    through.done.owes
+
+pub returns-clause-idle : goal.returns-clause-idle
+returns-clause-idle g t c =
+    let P : Line g.row.J.Denot → Type 0 = λ line. IsIdle line in
+    All-cons P c.await_seat-returned.new.self c.share-shared.new.lines c.await_seat-returned.ensures.home
+    c.share-shared.ensures.idle
 
 pub returns-clause-begun : goal.returns-clause-begun
 returns-clause-begun g t c = grind (arith, common_steps, more_served)

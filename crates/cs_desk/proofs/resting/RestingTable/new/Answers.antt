@@ -30,5 +30,12 @@ invariant_of-result g c =
           (t.1 ∙ ap length c.in_ok-slots.ensures ∙ length-replicate c.args.notes _ ∙ sym c.of-3.ensures);
     }
 
+pub returns-in-Ok-clause-areas : goal.returns-in-Ok-clause-areas
+returns-in-Ok-clause-areas g c = ap (λ z. z.0.plan.areas) c.in-Ok.ensures.ok.4 ∙ c.of.ensures
+
+pub returns-in-Ok-clause-notes : goal.returns-in-Ok-clause-notes
+returns-in-Ok-clause-notes g c =
+    c.in-Ok.ensures.ok.1 ∙ ap length c.in_ok-slots.ensures ∙ length-replicate c.args.notes _
+
 pub returns-in-Ok-clause-room : goal.returns-in-Ok-clause-room
 returns-in-Ok-clause-room g c = grind (arith, common_steps, length-each_below, row_long)
