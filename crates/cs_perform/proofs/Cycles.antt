@@ -9,11 +9,14 @@ use Rattle.cs_base.specs.declared.width.SampleWidth.TheVariants.{TwoBytes, Three
 use Rattle.cs_cells.specs.Cells.{Cells}
 use Rattle.cs_piece_meaning.specs.Course.{begins, moment_at, performed, played_in, turned_off}
 use Rattle.cs_piece_meaning.specs.{Heard.frames_before, Heard.mix_in, Moments.Active, Moments.Composition}
+use Rattle.cs_piece_meaning.specs.Moments.{Moment}
 use Rattle.cs_life.proofs.Heard.{heard}
 use Rattle.cs_life.specs.{Standing.Plays, Standing.StandsFor, declared.life.Life.Life}
 use Rattle.cs_voice.specs.{VoiceData.VoiceData, declared.stage.Stage.Stage}
 use Rattle.cs_perform.specs.Counted.{AreHeardIn, CountsOn, IsHeardAs, Receipts}
-use Rattle.cs_perform.specs.inner.Stands.{CountsCycle}
+use Rattle.cs_perform.specs.{declared.stand.Stand.Stand, inner.Stands.CountsCycle, inner.Stands.IsAt}
+use Rattle.cs_perform.specs.inner.Stands.{RunsNotes}
+use Rattle.cs_piece.specs.Setups.{SetupData, composition_of}
 use Rattle.cs_perform.proofs.Frames.{count_by_both, frames_before_more, length-frames_before}
 
 -- the moment after a cycle is the one before the next
@@ -49,6 +52,24 @@ counts_cycle N c n life voices cells before now st counted = record {
   voices = voices;
   heard = heard_in c n life voices cells st;
   counted = counted;
+}
+
+-- the notes run, by what is so of the stand that they run over, when they have performed, and when they have left
+pub runs_notes : {S G C : Type 0} (is_at : SetupData → S → Moment → Type 0) (N : C → Receipts → Type 0) (old now : S)
+    (stand ran left : Stand G) (before after : C) (block : List ℤ)
+    → ((s : SetupData) (m : Moment) → is_at s old m → IsAt s stand m)
+    → ((s : SetupData) (m : Moment) → IsAt s stand m → IsAt s ran (performed (composition_of s) m))
+    → CountsOn N before after (ran.voices.items ∷ [])
+    → ((s : SetupData) (n : ℕ) → IsAt s stand (begins (composition_of s) n (moment_at (composition_of s) n))
+    → block ≡ mix_in (composition_of s) n)
+    → ((s : SetupData) (m : Moment) → IsAt s ran m → IsAt s left (turned_off m))
+    → ((s : SetupData) (m : Moment) → IsAt s left m → is_at s now m)
+    → RunsNotes is_at N old now before after block
+runs_notes is_at N old now stand ran left before after block begun performs counted hears leaves kept = record {
+  ended = λ s m at. kept s _ (leaves s _ (performs s m (begun s m at)));
+  counted = λ s n at. counts_cycle N (composition_of s) n ran.life _ _ before after
+      (performs s _ (begun s _ at)).stands counted;
+  heard = λ s n at. hears s n (begun s _ at);
 }
 
 -- NUMBERS

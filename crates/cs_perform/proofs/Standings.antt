@@ -2,7 +2,6 @@
 use Rattle.std.proofs.Common.{subst, ◌≡◌, ℕ, zero, suc, ℤ, pos, List, ◌∷◌, length, replicate, refl, ap, sym, ◌∙◌}
 use Rattle.std.specs.{List.All, Option.IsSomeAnd, Prelude.Result, Prelude.Ok, Prelude.Err, Prelude.OnOk}
 use Rattle.std.specs.Prelude.{Option, Some, None}
-use Rattle.std.proofs.lemmas.Option.{same_Some}
 use Rattle.cs_cells.specs.{Areas.word_count, Areas.IsFootprint, Cells.Cells, Cells.values, Serial.serial_cells}
 use Rattle.cs_cells.specs.{Serial.serial_jobs, declared.footprint.Area.Area, declared.footprint.Footprint.Footprint}
 use Rattle.cs_piece_meaning.specs.{Course.begins, Moments.Composition, Moments.Moment}
@@ -118,8 +117,11 @@ module _ {G : Type 0} (s : SetupData) (m : Moment) where
       → IsSomeAnd o (λ (x : Stand G). IsAt s x m)
   put_there o stand is at = subst IsThere (sym is) at
 
-  pub taken : (stand other : Stand G) → Some stand ≡ Some other → IsAt s other m → IsAt s stand m
-  taken stand other is at = subst (λ (x : Stand G). IsAt s x m) (sym (same_Some stand other is)) at
-
   pub never_gone : {B : Type 0} (o : Option (Stand G)) → o ≡ None → IsSomeAnd o (λ (x : Stand G). IsAt s x m) → B
   never_gone o is at = absurd (subst IsThere is at)
+
+  -- what was there was taken
+  pub never_taken : {B : Type 0} (o took : Option (Stand G)) → took ≡ o → ((x : Stand G) → took ≡ Some x → ⊥)
+      → IsSomeAnd o (λ (x : Stand G). IsAt s x m) → B
+  never_taken None took same none at = absurd at
+  never_taken (Some x) took same none at = absurd (none x same)

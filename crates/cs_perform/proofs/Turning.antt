@@ -1,12 +1,15 @@
 -- The levels of a course are the turns of the notes that play.
 use Rattle.std.proofs.Common.{◌≡◌, ℕ, ◌+◌, Bool, List, [], ◌∷◌, ◌++◌, map, refl, ap, sym, ◌∙◌, append_assoc, append-nil}
-use Rattle.std.specs.List.{AllZip}
+use Rattle.std.specs.{List.AllZip, Prelude.Result, Prelude.Ok, Prelude.Err, Prelude.OnOk}
 use Rattle.cs_cells.specs.{declared.footprint.Area.Area, declared.footprint.Footprint.Footprint}
-use Rattle.cs_piece_meaning.specs.Moments.{Active, Composition}
+use Rattle.cs_piece.specs.Setups.{composition_of}
+use Rattle.cs_piece_meaning.specs.{Course.begins, Moments.Active, Moments.Composition, Moments.Moment}
 use Rattle.cs_life.specs.Standing.{Plays}
 use Rattle.cs_turns.specs.Turns.{IsFootOf, line_of, notes_in, turn_lines_before, turns_in}
 use Rattle.cs_voice.specs.{VoiceData.VoiceData, declared.stage.Stage.Stage}
-use Rattle.cs_perform.specs.{Performances.if_told, declared.order.TurnLines.TurnLines}
+use Rattle.cs_perform.specs.{Performances.if_told, declared.order.Performance.Performance}
+use Rattle.cs_perform.specs.{declared.order.TurnLines.TurnLines, declared.stand.Stand.Stand}
+use Rattle.cs_perform.specs.inner.Stands.{BeginsNotes, IsAt}
 use Rattle.cs_perform.specs.declared.order.TurnLines.TheVariants.{Told, Untold}
 use Rattle.cs_perform.proofs.Frames.{rows_more}
 
@@ -64,3 +67,17 @@ when_told lines before now line is e = rw (is) e
 
 pub when_untold : (lines : TurnLines) (before line : List ℕ) → lines ≡ Untold → before ≡ before ++ if_told lines line
 when_untold lines before line is = rw (is) (sym (append-nil before))
+
+-- a cycle that has begun, and whose line was told
+pub begins_notes : {G A E : Type 0} (r : Result A E) (p : Performance) (n : ℕ) (old begun told : Stand G)
+    (before after : List ℕ)
+    → ((m : Moment) → IsAt p.setup.now old m → IsAt p.setup.now begun (begins (composition_of p.setup.now) n m))
+    → p.order.turns ≡ Told → OnOk r ((m : Moment) → IsAt p.setup.now begun m → IsAt p.setup.now told m)
+    → OnOk r ((m : Moment) → IsAt p.setup.now begun m
+    → after ≡ before ++ line_of n (turns_in (composition_of p.setup.now) m.active))
+    → OnOk r (BeginsNotes IsAt p n old told before after)
+begins_notes (Ok x) p n old begun told before after first is at line = record {
+  begun = λ m was. at _ (first m was);
+  turns = λ m was. when_told p.order.turns before after _ is (line _ (first m was));
+}
+begins_notes (Err e) p n old begun told before after first is at line = tt

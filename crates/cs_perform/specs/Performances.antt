@@ -1,5 +1,5 @@
 -- What a performance leaves after some of its cycles: what taps were told, what was counted, and what a sink has taken.
-use Rattle.std.specs.Prelude.{ℕ, ◌≡◌, ◌≤◌, ◌+◌, ◌-◌, ◌*◌, ◌==◌, ◌⊎◌, ℤ, List, [], ◌++◌, length, if◌then◌else◌, Some}
+use Rattle.std.specs.Prelude.{ℕ, ◌≡◌, ◌≤◌, ◌-◌, ◌*◌, ◌==◌, ◌⊎◌, ℤ, List, [], ◌++◌, length, if◌then◌else◌, Some}
 use Rattle.std.specs.{Prelude.Result, Prelude.IfOk, Prelude.OnOk, Prelude.OnErr, Prelude.IsErrOf, List.count_by}
 use Rattle.cs_base.specs.{Widths.bytes_of, declared.head.Head.Head, declared.width.SampleWidth.SampleWidth}
 use Rattle.cs_piece_meaning.specs.{Course.closing, Heard.frames_before, Heard.frames_of, Moments.Composition}

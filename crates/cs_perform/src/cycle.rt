@@ -1,28 +1,25 @@
 // One control cycle.
-ghost use Rattle.std.specs.Prelude.{◌≡◌, ◌+◌, ◌*◌, ◌≤◌, ◌<◌, ◌++◌, length, IfOk, OnOk, OnErr, IsErrOf};
+ghost use Rattle.std.specs.Prelude.{◌≡◌, ◌+◌, ◌*◌, ◌≤◌, ◌<◌, length, IfOk, OnOk, OnErr, IsErrOf};
 ghost use Rattle.std.specs.List.{count_by};
 ghost use Rattle.cs_base.specs.{Limits.most_notes, Widths.bytes_of};
-ghost use Rattle.cs_piece_meaning.specs.{Course.begins, Course.moment_at, Moments.Moment};
+ghost use Rattle.cs_piece_meaning.specs.Course.{moment_at};
 ghost use Rattle.cs_edge.specs.{Told.HasCause, Moves.WroteMore, Moves.WrotePart};
-ghost use Rattle.cs_perform.specs.{Hearing.IfWritten, Hearing.Told, inner.Recordings.IsRecordingOf, inner.Stands.IsAt};
-ghost use Rattle.cs_perform.specs.Performances.{if_told, lent, lent_sight, request_of};
+ghost use Rattle.cs_perform.specs.{Hearing.IfWritten, Hearing.Told, inner.Recordings.IsRecordingOf};
+ghost use Rattle.cs_perform.specs.Performances.{lent, lent_sight, request_of};
 ghost use Rattle.cs_perform.specs.declared.order.Output.TheVariants.{SoundFile};
 ghost use Rattle.cs_perform.specs.inner.Plays.{BreaksCycle, PlaysCycle};
 ghost use Rattle.cs_piece.specs.Setups.{composition_of};
-ghost use Rattle.cs_turns.specs.Turns.{line_of, turns_in};
 ghost use Rattle.cs_wav.specs.Wav.{is_out_of_range, samples_of};
 
 use crate::counter::Counter;
 use crate::loan::Loan;
-use crate::order::{Performance, PerformanceOrder, PlayFault, TurnLines};
+use crate::order::{Performance, PerformanceOrder, PlayFault};
 use crate::recording::Recording;
 use crate::sounder::Sounder;
-use crate::stand::Stand;
 use crate::taps::tell;
-use crate::turns::tell_turns;
 use crate::writing::put;
-use cs_base::{Head, OutOfMemory};
-use cs_edge::{Failed, Gate, Sink, Tap};
+use cs_base::Head;
+use cs_edge::{Failed, Sink, Tap};
 use cs_wav::pcm_block;
 
 /// A cycle is performed, and its samples are written.
@@ -58,9 +55,10 @@ pub(crate) fn play_cycle<K: Sink, C: Counter, S: Sounder>(
         × (loan.new.taps.ghost_name ≡ loan.old.taps.ghost_name)
         × (loan.new.tally.ghost_name ≡ loan.old.tally.ghost_name) }
 {
-    let Ok(()) = sounder.sound(performance, cycle, recording, loan.tally) else {
+    let Ok(()) = sounder.prepare(performance, cycle, &mut recording.turns) else {
         return Err(PlayFault::OutOfMemory);
     };
+    sounder.run(cycle, loan.tally, &mut recording.mix);
     let head = performance.setup.head();
     let mix = &recording.mix;
     let Ok(outside) = pour(
@@ -76,28 +74,6 @@ pub(crate) fn play_cycle<K: Sink, C: Counter, S: Sounder>(
     let more = u64::from(outside);
     recording.out_of_range += more;
     Ok(())
-}
-
-/// The notes of a cycle begin, and their line of turns is added, where it is told.
-pub(crate) fn prepare<G: Gate>(
-    performance: &Performance<'_>,
-    cycle: u32,
-    stand: &mut Stand<'_, G>,
-    turns: &mut Vec<u8>,
-) -> Result<(), OutOfMemory>
-    requires { (m : Moment) × IsAt performance.now.setup.now stand.old m }
-    ensures begun { OnOk result ((m : Moment) → IsAt performance.now.setup.now stand.old m
-        → IsAt performance.now.setup.now stand.new (begins (composition_of performance.now.setup.now) cycle m)) }
-    ensures turns { let c = composition_of performance.now.setup.now in
-        OnOk result ((m : Moment) → IsAt performance.now.setup.now stand.old m → turns.new.items
-        ≡ turns.old.items ++ if_told performance.now.order.turns
-        (line_of cycle (turns_in c (begins c cycle m).active))) }
-{
-    stand.begin(performance.alloc, cycle)?;
-    match performance.order.turns {
-        TurnLines::Told => tell_turns(performance.alloc, performance.setup, cycle, stand, turns),
-        TurnLines::Untold => Ok(()),
-    }
 }
 
 /// The mix of a cycle is told to the taps, and its samples are written. Returns how many of them had to be brought

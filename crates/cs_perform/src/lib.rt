@@ -9,10 +9,10 @@
 //! How large a desk is and when it is replaced, when the graph of a cycle is built anew, and in which blocks the mix
 //! is made may be changed without anyone above noticing.
 //!
-//! Modules in reading order: `order` (what is asked for, and what comes of it), `performance`, `start` (what a
-//! performance begins with), `counter` (who counts its cycles), `loan` (what is lent to it), `by_crew` (in a scope of
-//! threads), `sounder` (who makes the sound of the cycles), `cycle`, `stand` (what is kept from cycle to cycle),
-//! `recording`, `taps`, `turns`, `sizes`, `writing`; `laws`.
+//! Modules in reading order: `order` (what is asked for, and what comes of it), `performance`, `counter` (who counts
+//! its cycles), `loan` (what is lent to it), `by_crew` (in a scope of threads), `sounder` (who makes the sound of the
+//! cycles), `cycle`, `stand` (what is kept from cycle to cycle), `recording`, `taps`, `turns`, `sizes`, `writing`;
+//! `laws`.
 #![tactic(auto)]
 
 mod by_crew;
@@ -26,7 +26,6 @@ mod recording;
 mod sizes;
 mod sounder;
 mod stand;
-mod start;
 mod taps;
 mod turns;
 mod writing;

@@ -17,9 +17,8 @@ use crate::loan::{Loan, take_back};
 use crate::order::{Outcome, Performance, PlayFault};
 use crate::recording::Recording;
 use crate::sizes::{ends_odd, first_bytes, frames_in};
-use crate::sounder::{Soloist, Sounder};
-use crate::stand::Starts;
-use crate::start::PerformanceStart;
+use crate::sounder::Sounder;
+use crate::stand::{Stand, Starts};
 use crate::writing::{begin, finish};
 use cs_edge::{Gate, Sink, Tap};
 use cs_piece_meaning::starts_are_few;
@@ -48,10 +47,7 @@ pub fn perform<K: Sink, C: Counter, R: Threads + Wait + Sync, G: Gate + Sync>(
         (request_of performance.now) (lent wav.old taps.old.items tally.old) (lent wav.new taps.new.items tally.new)
         result }
 {
-    let Ok(start) = PerformanceStart::new(performance, crew.gate) else {
-        return Err(PlayFault::OutOfMemory);
-    };
-    let (played, loan) = play_in_scope(performance, start, crew, Loan { wav, taps, tally });
+    let (played, loan) = play_in_scope(performance, crew, Loan { wav, taps, tally });
     let Loan { wav, taps, tally } = loan;
     take_back(wav, taps, tally);
     played
@@ -74,12 +70,11 @@ pub fn perform_alone<K: Sink, C: Counter, G: Gate>(
         (request_of performance.now) (lent wav.old taps.old.items tally.old) (lent wav.new taps.new.items tally.new)
         result }
 {
-    let Ok(start) = PerformanceStart::new(performance, gate) else {
+    let Ok(stand) = Stand::new(performance.alloc, performance.setup, gate) else {
         return Err(PlayFault::OutOfMemory);
     };
-    let PerformanceStart { stand, recording } = start;
     let mut loan = Loan { wav, taps, tally };
-    let played = go_on(performance, Soloist { stand }, recording, &mut loan);
+    let played = go_on(performance, stand, &mut loan);
     let Loan { wav, taps, tally } = loan;
     take_back(wav, taps, tally);
     played
@@ -89,12 +84,10 @@ pub fn perform_alone<K: Sink, C: Counter, G: Gate>(
 pub(crate) fn go_on<K: Sink, C: Counter, S: Sounder>(
     performance: &Performance<'_>,
     sounder: S,
-    mut recording: Recording,
     loan: &mut Loan<'_, K, C>,
 ) -> Result<Outcome, PlayFault>
     requires place { HasPlace performance.now.setup.now performance.now.order (C.room loan.old.tally.now) }
     requires at { S.is_at performance.now.setup.now sounder (opening (composition_of performance.now.setup.now)) }
-    requires recorded { IsRecordingOf performance.now.setup.now performance.now.order 0 recording }
     ensures performed { PerformsPiece (lent_sight (λ t h. stands_for t h) K.tells C.has_counted)
         (request_of performance.now) (lent loan.old.wav.now loan.old.taps.now.items loan.old.tally.now)
         (lent loan.new.wav.now loan.new.taps.now.items loan.new.tally.now) result }
@@ -102,6 +95,11 @@ pub(crate) fn go_on<K: Sink, C: Counter, S: Sounder>(
         × (loan.new.taps.ghost_name ≡ loan.old.taps.ghost_name)
         × (loan.new.tally.ghost_name ≡ loan.old.tally.ghost_name) }
 {
+    let head = performance.setup.head();
+    let Ok(mut recording) = Recording::new(performance.alloc, head, performance.order.width) else {
+        drop(sounder);
+        return Err(PlayFault::OutOfMemory);
+    };
     match play(performance, sounder, &mut recording, loan) {
         Ok(starts) => Ok(recording.outcome(performance, starts)),
         Err(fault) => Err(fault),

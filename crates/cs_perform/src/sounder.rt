@@ -1,17 +1,15 @@
 // Who makes the sound of the cycles: what is kept from cycle to cycle, and who runs its notes.
-ghost use Rattle.std.specs.Prelude.{◌≡◌, ◌+◌, ◌*◌, ◌≤◌, ◌<◌, ◌++◌, length, IfOk, IsSomeAnd, OnOk, OnErr};
+ghost use Rattle.std.specs.Prelude.{◌≡◌, ◌+◌, ◌*◌, ◌≤◌, ◌<◌, length, IfOk, IsSomeAnd, OnOk};
 ghost use Rattle.cs_base.specs.Limits.{most_notes};
 ghost use Rattle.cs_life.specs.Standing.{kept_count};
 ghost use Rattle.cs_piece.specs.Setups.{SetupData, composition_of};
-ghost use Rattle.cs_piece_meaning.specs.{Course.begins, Course.moment_at, Heard.mix_in, Moments.Moment};
-ghost use Rattle.cs_perform.specs.{Performances.if_told, inner.Stands.CountsCycle, inner.Stands.IsAt};
-ghost use Rattle.cs_turns.specs.Turns.{line_of, notes_in, turns_in};
+ghost use Rattle.cs_piece_meaning.specs.{Course.begins, Moments.Moment};
+ghost use Rattle.cs_perform.specs.inner.Stands.{BeginsNotes, IsAt, IsReady, RunsNotes};
 
 use crate::counter::Counter;
-use crate::cycle::prepare;
-use crate::order::Performance;
-use crate::recording::Recording;
+use crate::order::{Performance, TurnLines};
 use crate::stand::{NoteRow, Stand, Starts};
+use crate::turns::tell_turns;
 use cs_base::OutOfMemory;
 use cs_edge::{Gate, OpenGate};
 use cs_pool::Pool;
@@ -24,33 +22,25 @@ pub(crate) trait Sounder: Drop {
     /// Whether all that it keeps stands at a moment of a setup's performance.
     ghost is_at: { SetupData → Self → Moment → Type 0 };
 
-    /// The notes of a cycle begin, perform it and leave, and it is counted. Its mix is in the block, and its line of
-    /// turns behind the others, where they are told.
-    fn sound<C: Counter>(
+    /// The notes of a cycle begin, and their line of turns is added, where it is told.
+    fn prepare(
         &mut self,
         performance: &Performance<'_>,
         cycle: u32,
-        recording: &mut Recording,
-        tally: &mut C,
+        turns: &mut Vec<u8>,
     ) -> Result<(), OutOfMemory>
-        requires at { is_at performance.now.setup.now self.old
-            (moment_at (composition_of performance.now.setup.now) cycle) }
-        requires mix { length recording.old.mix.items
-            ≡ performance.now.setup.now.orchestra.head.ksmps * performance.now.setup.now.orchestra.head.nchnls }
+        requires { (m : Moment) × is_at performance.now.setup.now self.old m }
+        ensures { OnOk result (BeginsNotes is_at performance.now cycle self.old self.new
+            turns.old.items turns.new.items) };
+
+    /// The notes that have begun perform the cycle and leave, and `tally` counts it. What they give together is in the
+    /// block.
+    fn run<C: Counter>(&mut self, cycle: u32, tally: &mut C, block: &mut [i64])
+        requires at { (s : SetupData) × (m : Moment) × is_at s self.old m
+            × (length block.old ≡ s.orchestra.head.ksmps * s.orchestra.head.nchnls) }
         requires room { most_notes < C.room tally.old }
-        ensures at { OnOk result (is_at performance.now.setup.now self.new
-            (moment_at (composition_of performance.now.setup.now) (cycle + 1))) }
-        ensures heard { OnOk result (recording.new.mix.items
-            ≡ mix_in (composition_of performance.now.setup.now) cycle) }
-        ensures turns { let c = composition_of performance.now.setup.now in
-            OnOk result (recording.new.turns.items ≡ recording.old.turns.items
-            ++ if_told performance.now.order.turns (line_of cycle (turns_in c (notes_in c cycle)))) }
-        ensures counted { OnOk result (CountsCycle C.has_counted (composition_of performance.now.setup.now) cycle
-            tally.old tally.new) }
-        ensures room { OnOk result (C.room tally.old ≤ C.room tally.new + (most_notes + 1)) }
-        ensures memory { OnErr result (tally.new ≡ tally.old) }
-        ensures samples { recording.new.samples.items ≡ recording.old.samples.items }
-        ensures out_of_range { recording.new.out_of_range ≡ recording.old.out_of_range };
+        ensures runs { RunsNotes is_at C.has_counted self.old self.new tally.old tally.new block.new }
+        ensures room { C.room tally.old ≤ C.room tally.new + (most_notes + 1) };
 
     /// The events at the very end, in the cycle after the last, are done.
     fn close(self, alloc: Global, cycle: u32) -> Result<Starts, OutOfMemory>
@@ -58,6 +48,42 @@ pub(crate) trait Sounder: Drop {
         ensures starts { IfOk result (λ n. (s : SetupData) (m : Moment) → is_at s self m
             → (n.started ≡ kept_count (begins (composition_of s) cycle m).started)
             × (n.not_started ≡ kept_count (begins (composition_of s) cycle m).not_started)) };
+}
+
+/// The caller alone, who waits for nobody.
+impl<'t, G: Gate> Sounder for Stand<'t, G> {
+    ghost is_at = { λ s stand m. IsAt s stand m };
+
+    fn prepare(
+        &mut self,
+        performance: &Performance<'_>,
+        cycle: u32,
+        turns: &mut Vec<u8>,
+    ) -> Result<(), OutOfMemory> {
+        self.begin(performance.alloc, cycle)?;
+        match performance.order.turns {
+            TurnLines::Told => tell_turns(performance.alloc, performance.setup, cycle, self, turns),
+            TurnLines::Untold => Ok(()),
+        }
+    }
+
+    fn run<C: Counter>(&mut self, cycle: u32, tally: &mut C, block: &mut [i64]) {
+        self.run_alone(cycle, tally, block);
+        self.end();
+    }
+
+    fn close(mut self, alloc: Global, cycle: u32) -> Result<Starts, OutOfMemory> {
+        let begun = self.begin(alloc, cycle);
+        let starts = Starts {
+            started: self.life.started(),
+            not_started: self.life.not_started(),
+        };
+        drop(self);
+        match begun {
+            Ok(()) => Ok(starts),
+            Err(refused) => Err(refused),
+        }
+    }
 }
 
 /// A crew, and what is kept from cycle to cycle, which is out while the crew runs a cycle.
@@ -70,29 +96,27 @@ pub(crate) struct Ensemble<'r, 'e, 't, R, G: Gate> {
 impl<'r, 'e, 't, R: Wait, G: Gate> Sounder for Ensemble<'r, 'e, 't, R, G> {
     ghost is_at = { λ s e m. IsSomeAnd e.stand (λ stand. IsAt s stand m) };
 
-    fn sound<C: Counter>(
+    fn prepare(
         &mut self,
         performance: &Performance<'_>,
         cycle: u32,
-        recording: &mut Recording,
-        tally: &mut C,
+        turns: &mut Vec<u8>,
     ) -> Result<(), OutOfMemory> {
         let Some(stand) = &mut self.stand else {
             unreachable!()
         };
-        prepare(performance, cycle, stand, &mut recording.turns)?;
-        if !stand.is_shared(performance.alloc, self.pool, &recording.mix) {
-            stand.run_alone(cycle, tally, &mut recording.mix);
-            stand.end();
-            return Ok(());
-        }
-        let Some(stand) = self.stand.take() else {
+        stand.prepare(performance, cycle, turns)
+    }
+
+    fn run<C: Counter>(&mut self, cycle: u32, tally: &mut C, block: &mut [i64]) {
+        let Some(stand) = &mut self.stand else {
             unreachable!()
         };
-        let mut stand = stand.run_shared(self.pool, cycle, tally, &mut recording.mix);
-        stand.end();
-        drop(self.stand.replace(stand));
-        Ok(())
+        if !stand.is_shared(self.pool, block) {
+            stand.run(cycle, tally, block);
+            return;
+        }
+        self.share(cycle, tally, block);
     }
 
     fn close(self, alloc: Global, cycle: u32) -> Result<Starts, OutOfMemory> {
@@ -102,30 +126,24 @@ impl<'r, 'e, 't, R: Wait, G: Gate> Sounder for Ensemble<'r, 'e, 't, R, G> {
     }
 }
 
-/// The caller alone, who waits for nobody, and what is kept from cycle to cycle.
-#[derive(Drop)]
-pub(crate) struct Soloist<'t, G: Gate> {
-    pub stand: Stand<'t, G>,
-}
-
-impl<'t, G: Gate> Sounder for Soloist<'t, G> {
-    ghost is_at = { λ s e m. IsAt s e.stand m };
-
-    fn sound<C: Counter>(
-        &mut self,
-        performance: &Performance<'_>,
-        cycle: u32,
-        recording: &mut Recording,
-        tally: &mut C,
-    ) -> Result<(), OutOfMemory> {
-        prepare(performance, cycle, &mut self.stand, &mut recording.turns)?;
-        self.stand.run_alone(cycle, tally, &mut recording.mix);
-        self.stand.end();
-        Ok(())
-    }
-
-    fn close(self, alloc: Global, cycle: u32) -> Result<Starts, OutOfMemory> {
-        let Soloist { stand } = self;
-        stand.close(alloc, cycle)
+impl<'r, 'e, 't, R: Wait, G: Gate> Ensemble<'r, 'e, 't, R, G> {
+    /// The crew runs the cycle, for which all is ready, and the notes leave. A function of its own, so that a cycle of
+    /// the caller alone doesn't pay for the frame in which what is kept goes out and comes back.
+    #[inline(never)]
+    fn share<C: Counter>(&mut self, cycle: u32, tally: &mut C, block: &mut [i64])
+        requires at { (s : SetupData) × (m : Moment) × IsSomeAnd self.old.stand (λ stand. IsAt s stand m)
+            × (length block.old ≡ s.orchestra.head.ksmps * s.orchestra.head.nchnls) }
+        requires ready { IsSomeAnd self.old.stand (λ stand. IsReady stand) }
+        requires room { most_notes < C.room tally.old }
+        ensures runs { RunsNotes (λ s e m. IsSomeAnd e.stand (λ stand. IsAt s stand m)) C.has_counted
+            self.old self.new tally.old tally.new block.new }
+        ensures room { C.room tally.old ≤ C.room tally.new + (most_notes + 1) }
+    {
+        let Some(stand) = self.stand.take() else {
+            unreachable!()
+        };
+        let mut stand = stand.run_shared(self.pool, cycle, tally, block);
+        stand.end();
+        drop(self.stand.replace(stand));
     }
 }

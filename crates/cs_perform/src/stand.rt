@@ -5,7 +5,7 @@ ghost use Rattle.cs_cells.specs.Areas.{word_count};
 ghost use Rattle.cs_piece_meaning.specs.Course.{begins, moment_at, opening, performed, turned_off};
 ghost use Rattle.cs_piece_meaning.specs.{Heard.mix_in, Moments.Moment};
 ghost use Rattle.cs_desk.specs.Desk.{areas, cells};
-ghost use Rattle.cs_life.specs.Standing.{StandsFor, kept_count};
+ghost use Rattle.cs_life.specs.Standing.{StandsFor};
 ghost use Rattle.cs_perform.specs.{Counted.CountsOn, inner.Stands.InRows, inner.Stands.IsAt, inner.Stands.IsReady};
 ghost use Rattle.cs_piece.specs.Setups.{SetupData, composition_of};
 ghost use Rattle.cs_row.specs.Heard.{sums};
@@ -133,7 +133,6 @@ impl<'t, G: Gate> Stand<'t, G> {
     /// the crew knows.
     pub fn is_shared<R: Wait>(
         &mut self,
-        alloc: Global,
         pool: &mut Pool<'_, NoteRow<'t, G>, R, OpenGate>,
         block: &[i64],
     ) -> bool
@@ -146,6 +145,7 @@ impl<'t, G: Gate> Stand<'t, G> {
             pool.pass();
             return false;
         }
+        let alloc = *self.voices.allocator();
         match self.make_ready(alloc, pool.workers()) {
             Ok(()) => true,
             Err(OutOfMemory) => {
@@ -238,25 +238,6 @@ impl<'t, G: Gate> Stand<'t, G> {
         self.life.end_cycle(&mut self.voices);
         let stayed = self.voices.len();
         self.current = is_still_so(self.current, stayed == playing);
-    }
-
-    /// The events at the very end, in the cycle after the last, are done.
-    pub fn close(mut self, alloc: Global, cycle: u32) -> Result<Starts, OutOfMemory>
-        requires at { (s : SetupData) × (m : Moment) × IsAt s self m }
-        ensures starts { IfOk result (λ n. (s : SetupData) (m : Moment) → IsAt s self.entry m
-            → (n.started ≡ kept_count (begins (composition_of s) cycle m).started)
-            × (n.not_started ≡ kept_count (begins (composition_of s) cycle m).not_started)) }
-    {
-        let begun = self.begin(alloc, cycle);
-        let starts = Starts {
-            started: self.life.started(),
-            not_started: self.life.not_started(),
-        };
-        drop(self);
-        match begun {
-            Ok(()) => Ok(starts),
-            Err(refused) => Err(refused),
-        }
     }
 }
 

@@ -1,16 +1,17 @@
 -- How all that is kept of a performance stands.
-use Rattle.std.specs.Prelude.{ℕ, ◌≡◌, ◌*◌, [], ◌∷◌, List, length, map, true}
-use Rattle.cs_piece_meaning.specs.{Course.opening, Moments.Composition, Moments.Moment}
+use Rattle.std.specs.Prelude.{ℕ, ◌≡◌, ◌*◌, ℤ, [], ◌∷◌, ◌++◌, List, length, map, true}
+use Rattle.cs_piece_meaning.specs.Course.{begins, moment_at, performed, turned_off}
+use Rattle.cs_piece_meaning.specs.{Heard.mix_in, Moments.Composition, Moments.Moment}
 use Rattle.cs_cells.specs.declared.footprint.Footprint.{Footprint}
 use Rattle.cs_desk.specs.{Desk.areas, Desk.cells, Desk.HasRoom, Courses.IsCourseOf}
 use Rattle.cs_life.specs.Standing.{StandsFor}
 use Rattle.cs_piece.specs.Setups.{SetupData, composition_of}
+use Rattle.cs_turns.specs.Turns.{line_of, turns_in}
 use Rattle.cs_row.specs.{Cuts.AreRowsOf, Kept.HasMemory, Kept.cuts, Rows.row_foot}
 use Rattle.cs_voice.specs.{VoiceData.VoiceData, VoiceMeaning.voice_job}
 use Rattle.cs_perform.specs.Counted.{AreHeardIn, CountsOn, Receipts}
-use Rattle.cs_perform.specs.declared.order.PerformanceOrder.{PerformanceOrder}
-use Rattle.cs_perform.specs.{declared.stand.Stand.Stand, inner.Crews.HasPlace, inner.Recordings.IsRecordingOf}
-use Rattle.cs_perform.specs.declared.start.PerformanceStart.{PerformanceStart}
+use Rattle.cs_perform.specs.{Performances.if_told, declared.order.Performance.Performance}
+use Rattle.cs_perform.specs.declared.stand.Stand.{Stand}
 
 -- voices are cut into rows of these lengths, of no more than `most`, and these are the footprints of the rows
 pub record IsInRows (voices : List VoiceData) (most : ℕ) (cuts : List ℕ) (feet : List Footprint) : Type 0 where
@@ -48,13 +49,22 @@ pub record CountsCycle {C : Type 0} (has_counted : C → Receipts → Type 0) (c
   pub heard : AreHeardIn c n voices
   pub counted : CountsOn has_counted before now (voices ∷ [])
 
-module _ {G : Type 0} where
-  -- what a performance begins with: all that is kept stands at the opening, and nothing is recorded
-  pub record IsStart (s : SetupData) (order : PerformanceOrder) (start : PerformanceStart G) : Type 0 where
-    pub at : IsAt s start.stand (opening (composition_of s))
-    pub recorded : IsRecordingOf s order 0 start.recording
+-- The notes of a cycle begin, and their line of turns is added, where it is told.
+pub record BeginsNotes {S : Type 0} (is_at : SetupData → S → Moment → Type 0) (performance : Performance) (n : ℕ)
+    (old now : S) (before after : List ℕ) : Type 0 where
+  pub begun : (m : Moment) → is_at performance.setup.now old m
+      → is_at performance.setup.now now (begins (composition_of performance.setup.now) n m)
+  pub turns : (m : Moment) → is_at performance.setup.now old m
+      → let c = composition_of performance.setup.now in
+      after ≡ before ++ if_told performance.order.turns (line_of n (turns_in c (begins c n m).active))
 
-  -- what it may go on from: there is place for all that comes, and it has been begun
-  pub record MayGoOn (s : SetupData) (order : PerformanceOrder) (room : ℕ) (start : PerformanceStart G) : Type 0 where
-    pub place : HasPlace s order room
-    pub begun : IsStart s order start
+-- The notes that have begun perform a cycle and leave: what is kept stands after it, the cycle was counted, and the
+-- block has what they give together.
+pub record RunsNotes {S C : Type 0} (is_at : SetupData → S → Moment → Type 0) (has_counted : C → Receipts → Type 0)
+    (old now : S) (before after : C) (block : List ℤ) : Type 0 where
+  pub ended : (s : SetupData) (m : Moment) → is_at s old m → is_at s now (turned_off (performed (composition_of s) m))
+  pub counted : (s : SetupData) (n : ℕ)
+      → is_at s old (begins (composition_of s) n (moment_at (composition_of s) n))
+      → CountsCycle has_counted (composition_of s) n before after
+  pub heard : (s : SetupData) (n : ℕ)
+      → is_at s old (begins (composition_of s) n (moment_at (composition_of s) n)) → block ≡ mix_in (composition_of s) n

@@ -1,14 +1,7 @@
 use Rattle.std.proofs.Common.{rules}
 use Rattle.cs_perform.specs.Performances.{PerformsPiece, lent, lent_sight, request_of}
-use Rattle.cs_perform.proofs.{Loans.three_same, Wholes.performs_nothing}
+use Rattle.cs_perform.proofs.Loans.{three_same}
 use Rattle.cs_perform.proofs.performance.perform.Goals as goal
-
-pub returns-in_default : goal.returns-in_default
-returns-in_default g c = record {
-  performed = performs_nothing _ _ _;
-  outcome = tt;
-  turns = tt;
-}
 
 pub returns : goal.returns
 returns g c =

@@ -1,5 +1,5 @@
 use Rattle.std.proofs.Common.{◌∙◌}
-use Rattle.cs_perform.proofs.stand.Stand.close.Goals as goal
+use Rattle.cs_perform.proofs.sounder.StandSounder.close.Goals as goal
 
 pub returns-in-Ok : goal.returns-in-Ok
 returns-in-Ok g c = record {
