@@ -47,8 +47,13 @@ fn graph_of<J: Job>(alloc: Global, jobs: &[J]) -> Option<Graph>
     ensures notes { IfSome result (λ g. length g.levels ≡ length jobs.now) }
     ensures fit { IfSome result (λ g. IsFit (map J.means.foot jobs.now) g.edges) }
 {
-    let feet = feet_of(alloc, jobs).ok()?;
-    Graph::of_feet(alloc, &feet).ok()
+    let Ok(feet) = feet_of(alloc, jobs) else {
+        return None;
+    };
+    match Graph::of_feet(alloc, &feet) {
+        Ok(graph) => Some(graph),
+        Err(_) => None,
+    }
 }
 
 /// Returns a desk over the layout of these jobs, and their graph. None if memory runs out.
@@ -98,7 +103,9 @@ fn run_once<J: Job + Send + Drop, R: Threads + Wait + Sync, G: Gate + Sync>(
 
 /// Returns whether plain memory has a number that was set there. None if memory runs out.
 pub fn in_plain_memory(alloc: Global) -> Option<bool> {
-    let mut words = vec![in alloc; 0u64; 1].ok()?;
+    let Ok(mut words) = vec![in alloc; 0u64; 1] else {
+        return None;
+    };
     let mut bank = PlainBank::new(&mut words);
     bank.set(0, Num::of_raw(7));
     Some(bank.get(0).raw() == 7)
@@ -114,10 +121,27 @@ fn run_marked<R: Threads + Wait + Sync, G: Gate + Sync>(
     if marks.len() > MOST_NOTES {
         return None;
     }
-    let layout = layout(alloc)?;
+    let Some(layout) = layout(alloc) else {
+        return None;
+    };
+    run_over(alloc, crew, &layout, marks)
+}
+
+/// The same over this layout.
+fn run_over<R: Threads + Wait + Sync, G: Gate + Sync>(
+    alloc: Global,
+    crew: &Crew<'_, R, G>,
+    layout: &Layout,
+    marks: &[AtomicU64],
+) -> Option<u64>
+    requires laid { length layout.now ≡ 6 }
+    requires few { length marks.now ≤ most_notes }
+{
     let clock = AtomicU64::new(0);
-    let jobs = jobs_of(alloc, &layout, &[], marks, &clock).ok()?;
-    run_once(alloc, crew, &layout, jobs)
+    let Ok(jobs) = jobs_of(alloc, layout, &[], marks, &clock) else {
+        return None;
+    };
+    run_once(alloc, crew, layout, jobs)
 }
 
 /// Returns what is seen of one cycle of `jobs` jobs by `workers` workers, at a gate that holds each job until `held`
@@ -132,9 +156,13 @@ pub fn by_a_crew<R: Threads + Wait + Sync>(
 ) -> Option<Seen>
     requires { (1 ≤ workers) × (workers ≤ 32) }
 {
-    let marks = marks_of(alloc, jobs as usize).ok()?;
+    let Ok(marks) = marks_of(alloc, jobs as usize) else {
+        return None;
+    };
     let watch = Watch::new(&marks, held);
     let crew = Crew::new(rt, workers, &watch);
-    let jobs = run_marked(alloc, &crew, &marks)?;
-    Some(watch.seen(jobs))
+    match run_marked(alloc, &crew, &marks) {
+        Some(jobs) => Some(watch.seen(jobs)),
+        None => None,
+    }
 }

@@ -22,6 +22,13 @@ use std::sync::Wait;
 use std::thread::Threads;
 
 fn main(rt: HostRuntime) -> io::Result<()> {
+    show_boards(&rt)?;
+    let plain = in_plain_memory(rt.alloc());
+    println!(rt; "a number in plain memory: {plain:?}")?;
+    show_crews(&rt)
+}
+
+fn show_boards<R: Print + AllocGlobal>(rt: &R) -> io::Result<()> {
     for (notes, graphs, orders) in SMALL {
         let serial = serial_graphs(rt.alloc(), notes, graphs, orders);
         println!(rt;
@@ -29,15 +36,16 @@ fn main(rt: HostRuntime) -> io::Result<()> {
         )?;
     }
     let (own, row) = (most_notes(rt.alloc(), 0), most_notes(rt.alloc(), 1));
-    println!(rt; "512 notes on their own: {own:?}, in a row: {row:?} (in order, few tries)")?;
-    let plain = in_plain_memory(rt.alloc());
-    println!(rt; "a number in plain memory: {plain:?}")?;
-    show(&rt, 1, 2, 1)?;
-    show(&rt, 2, 2, 1)?;
-    show(&rt, 4, 4, 4)?;
-    show(&rt, 1, 512, 1)?;
-    show(&rt, 4, 512, 1)?;
-    show(&rt, 32, 512, 1)
+    println!(rt; "512 notes on their own: {own:?}, in a row: {row:?} (in order, few tries)")
+}
+
+fn show_crews<R: Print + AllocGlobal + Threads + Wait + Sync>(rt: &R) -> io::Result<()> {
+    show(rt, 1, 2, 1)?;
+    show(rt, 2, 2, 1)?;
+    show(rt, 4, 4, 4)?;
+    show(rt, 1, 512, 1)?;
+    show(rt, 4, 512, 1)?;
+    show(rt, 32, 512, 1)
 }
 
 // Shows one cycle of `jobs` jobs by `workers` workers, at a gate that holds each job until `held` have come.

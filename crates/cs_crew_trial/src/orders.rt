@@ -30,17 +30,40 @@ impl Played {
 fn play(alloc: Global, layout: &Layout, bits: &[u32], order: u32) -> Option<Played>
     requires { length layout.now ≡ 6 }
 {
-    let (marks, clock) = (marks_of(alloc, bits.len()).ok()?, AtomicU64::new(0));
+    let Ok(marks) = marks_of(alloc, bits.len()) else {
+        return None;
+    };
+    let tries = tries_to_mark(alloc, layout, bits, &marks, order)?;
+    let times = times_of(alloc, &marks)?;
+    Some(Played { times, tries })
+}
+
+/// Plays notes that leave these marks. Returns how often the first seat tried to claim one.
+fn tries_to_mark(
+    alloc: Global,
+    layout: &Layout,
+    bits: &[u32],
+    marks: &[AtomicU64],
+    order: u32,
+) -> Option<u64>
+    requires { length layout.now ≡ 6 }
+{
     if marks.len() > MOST_NOTES {
         return None;
     }
-    let jobs = jobs_of(alloc, layout, bits, &marks, &clock).ok()?;
-    let tries = tries_of(alloc, layout, jobs, order)?;
+    let clock = AtomicU64::new(0);
+    let Ok(jobs) = jobs_of(alloc, layout, bits, marks, &clock) else {
+        return None;
+    };
+    tries_of(alloc, layout, jobs, order)
+}
+
+fn times_of(alloc: Global, marks: &[AtomicU64]) -> Option<Vec<u64>> {
     let mut times = Vec::new(alloc);
-    for mark in &marks {
+    for mark in marks {
         times.push(mark.load(Ordering::SeqCst)).ok()?;
     }
-    Some(Played { times, tries })
+    Some(times)
 }
 
 /// Returns whether `notes` notes run by one order of calls, each after the notes that it waits for by `pairs`.
@@ -54,9 +77,13 @@ fn is_serial(alloc: Global, layout: &Layout, notes: usize, pairs: u32, order: u3
         pairs & 0b10_0110,
         pairs & 0b11_1000,
     ];
-    let Some(played) = play(alloc, layout, bits.get(..notes).unwrap_or(&[]), order) else {
-        return false;
-    };
+    match play(alloc, layout, bits.get(..notes).unwrap_or(&[]), order) {
+        Some(played) => is_after(&played, pairs) && !played.times.contains(&0),
+        None => false,
+    }
+}
+
+fn is_after(played: &Played, pairs: u32) -> bool {
     let mut left = pairs;
     for (one, later) in PAIRS {
         if left % 2 == 1 && played.time(one) >= played.time(later) {
@@ -64,7 +91,7 @@ fn is_serial(alloc: Global, layout: &Layout, notes: usize, pairs: u32, order: u3
         }
         left /= 2;
     }
-    !played.times.contains(&0)
+    true
 }
 
 /// Notes, the number of their graphs, and the number of orders of the claims, runs and finishes that they need.

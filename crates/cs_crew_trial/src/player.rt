@@ -88,6 +88,7 @@ fn tries_by<J: Job + Drop>(board: &Board<J>, mut seat: BoardSeat<J>, order: u32)
         tries: 0,
     };
     let mut left = order;
+    let mut tries = None;
     for _ in 0..board.notes().saturating_mul(3).saturating_add(1) {
         if left % 2 == 1 {
             second.call_or_pass(&mut first, board);
@@ -95,11 +96,12 @@ fn tries_by<J: Job + Drop>(board: &Board<J>, mut seat: BoardSeat<J>, order: u32)
             first.call_or_pass(&mut second, board);
         }
         if first.phase == Phase::Over && second.phase == Phase::Over {
-            return Some(first.tries);
+            tries = Some(first.tries);
+            break;
         }
         left /= 2;
     }
-    None
+    tries
 }
 
 /// Plays these jobs so. None also if memory runs out.

@@ -49,38 +49,38 @@ pub(crate) enum Played {
 /// stays. `tally` has room for 2^42 cycles and notes.
 pub(crate) fn play<R: Threads + Wait + Sync, G: Gate + Sync, K: Sink, C: Counter>(
     host: &Host<'_, R, G>,
-    prepared: &Result<Prepared<'_>, Status>,
+    prepared: Result<Prepared<'_>, Status>,
     wav: &mut K,
     taps: &mut Vec<Box<dyn Tap>>,
     tally: &mut C,
 ) -> Played
     requires room { 2 ^ 42 ≤ C.room tally.old }
-    requires fits { IfOk prepared.now (λ p. FitsFile p.order.width p.setup) }
-    ensures { HasPlayed (lent_sight (λ t h. stands_for t h) K.tells C.has_counted) prepared.now
+    requires fits { IfOk prepared (λ p. FitsFile p.order.width p.setup) }
+    ensures { HasPlayed (lent_sight (λ t h. stands_for t h) K.tells C.has_counted) prepared.entry
         (lent wav.old taps.old.items tally.old) (lent wav.new taps.new.items tally.new) result }
 {
     match prepared {
-        Ok(piece) => Played::Piece(play_piece(host, piece, wav, taps, tally)),
-        Err(status) => Played::Nothing(*status),
+        Ok(piece) => Played::Piece(play_piece(host, &piece, wav, taps, tally)),
+        Err(status) => Played::Nothing(status),
     }
 }
 
 /// The same by the caller alone, however many workers the words ask for.
 pub(crate) fn play_alone<G: Gate, K: Sink, C: Counter>(
     alone: &Alone<'_, G>,
-    prepared: &Result<Prepared<'_>, Status>,
+    prepared: Result<Prepared<'_>, Status>,
     wav: &mut K,
     taps: &mut Vec<Box<dyn Tap>>,
     tally: &mut C,
 ) -> Played
     requires room { 2 ^ 42 ≤ C.room tally.old }
-    requires fits { IfOk prepared.now (λ p. FitsFile p.order.width p.setup) }
-    ensures { HasPlayed (lent_sight (λ t h. stands_for t h) K.tells C.has_counted) prepared.now
+    requires fits { IfOk prepared (λ p. FitsFile p.order.width p.setup) }
+    ensures { HasPlayed (lent_sight (λ t h. stands_for t h) K.tells C.has_counted) prepared.entry
         (lent wav.old taps.old.items tally.old) (lent wav.new taps.new.items tally.new) result }
 {
     match prepared {
-        Ok(piece) => Played::Piece(play_piece_alone(alone, piece, wav, taps, tally)),
-        Err(status) => Played::Nothing(*status),
+        Ok(piece) => Played::Piece(play_piece_alone(alone, &piece, wav, taps, tally)),
+        Err(status) => Played::Nothing(status),
     }
 }
 

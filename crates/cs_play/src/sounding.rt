@@ -11,13 +11,13 @@ use cs_report::{PerformanceCounts, Status, report, say_end};
 
 /// Writes the report of a performance, with the lines of these meters, or the line that says why there is none; where
 /// there was no piece, that has been said.
-pub(crate) fn say<T: Sink>(talk: &mut T, played: &Played, taps: &[Box<dyn Tap>]) -> Status
-    ensures { HasSaid T.tells (λ t room. text t room) played.now taps.now talk.old talk.new result }
+pub(crate) fn say<T: Sink>(talk: &mut T, played: Played, taps: &[Box<dyn Tap>]) -> Status
+    ensures { HasSaid T.tells (λ t room. text t room) played taps.now talk.old talk.new result }
 {
     match played {
-        Played::Piece(Ok(outcome)) => reported(talk, outcome, taps),
-        Played::Piece(Err(fault)) => say_end(talk, status_of(*fault), ""),
-        Played::Nothing(status) => *status,
+        Played::Piece(Ok(outcome)) => reported(talk, &outcome, taps),
+        Played::Piece(Err(fault)) => say_end(talk, status_of(fault), ""),
+        Played::Nothing(status) => status,
     }
 }
 

@@ -36,8 +36,8 @@ pub fn csplay<R: Threads + Wait + Sync, F: Shelf, K: Sink, T: Sink, C: Counter, 
         (scene shelf.new wav.new talk.new taps.new.items tally.new) }
 {
     let prepared = prepare(alloc, words, shelf, talk);
-    let played = play(&Host { rt, alloc, gate }, &prepared, wav, taps, tally);
-    say(talk, &played, taps)
+    let played = play(&Host { rt, alloc, gate }, prepared, wav, taps, tally);
+    say(talk, played, taps)
 }
 
 /// The same by one worker, the caller, however many the words ask for. It has no runtime, so it starts no thread, waits
@@ -59,6 +59,6 @@ pub fn csplay_alone<F: Shelf, K: Sink, T: Sink, C: Counter, G: Gate>(
         (scene shelf.new wav.new talk.new taps.new.items tally.new) }
 {
     let prepared = prepare(alloc, words, shelf, talk);
-    let played = play_alone(&Alone { alloc, gate }, &prepared, wav, taps, tally);
-    say(talk, &played, taps)
+    let played = play_alone(&Alone { alloc, gate }, prepared, wav, taps, tally);
+    say(talk, played, taps)
 }

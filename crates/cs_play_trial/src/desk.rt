@@ -1,8 +1,9 @@
 // The case that is being made.
 use crate::gate::{Meeting, Task};
 use crate::line::{CaseText, number_of, parted};
+use crate::page::Page;
 use crate::text::add_piece;
-use std::alloc::{AllocError, Global};
+use std::alloc::Global;
 
 /// The words of a case that has none of its own: the names of its two texts.
 const NAMES: &[u8] = b"a.orc\na.sco\n";
@@ -13,6 +14,31 @@ pub enum Filling {
     Orchestra,
     Score,
     Words,
+}
+
+/// What a line that adds no text says.
+#[derive(Clone, Copy)]
+pub enum Command {
+    Nothing,
+    Begin(Filling),
+    Crowd,
+    Play,
+    /// Something of the next case alone.
+    Once,
+}
+
+/// What a line with this first word says.
+pub fn command_of(word: &str) -> Command {
+    match word {
+        "" => Command::Nothing,
+        "orc" => Command::Begin(Filling::Orchestra),
+        "sco" => Command::Begin(Filling::Score),
+        "words" => Command::Begin(Filling::Words),
+        "crowd" => Command::Crowd,
+        "play" => Command::Play,
+        _ if word.starts_with('#') => Command::Nothing,
+        _ => Command::Once,
+    }
 }
 
 /// What holds for one case alone; a number is 0 where nothing is said.
@@ -47,27 +73,32 @@ pub struct Once {
 
 impl Once {
     /// Does what a line says of the case. Returns whether it says such a thing.
-    pub fn take(&mut self, word: &[u8], rest: &[u8]) -> bool {
+    pub fn take(&mut self, word: &str, rest: &str) -> bool {
         let (name, behind) = parted(rest);
-        let (first, second) = (number_of(name), number_of(behind));
+        let (first, second) = (number_of(name.as_bytes()), number_of(behind.as_bytes()));
         match word {
-            b"fail" => return self.fail(name, second),
-            b"room" => match name {
-                b"talk" => self.talk_room = second,
-                _ => self.wav_room = first,
-            },
-            b"hex" => self.hex = true,
-            b"calls" => self.calls = true,
-            b"report" => self.report = true,
-            b"twice" => self.twice = true,
-            b"meet" => self.meet(first, 0, 1, 2),
-            b"gather" => self.meet(0, first, second, 2),
-            b"sum" => self.task = Some(Task::Summing(first)),
-            b"count" => self.task = Some(Task::Counting(first)),
-            b"mirror" => self.mirror = first,
-            b"wide" => self.wide = true,
-            b"drops" => self.drops = true,
-            b"sure" => self.sure = true,
+            "fail" => return self.fail(name, second),
+            "room" if name == "talk" => self.talk_room = second,
+            "room" => self.wav_room = first,
+            "mirror" => self.mirror = first,
+            "meet" => self.meet(first, 0, 1, 2),
+            "gather" => self.meet(0, first, second, 2),
+            "sum" => self.task = Some(Task::Summing(first)),
+            "count" => self.task = Some(Task::Counting(first)),
+            _ => return self.flag(word),
+        }
+        true
+    }
+
+    fn flag(&mut self, word: &str) -> bool {
+        match word {
+            "hex" => self.hex = true,
+            "calls" => self.calls = true,
+            "report" => self.report = true,
+            "twice" => self.twice = true,
+            "wide" => self.wide = true,
+            "drops" => self.drops = true,
+            "sure" => self.sure = true,
             _ => return false,
         }
         true
@@ -87,11 +118,11 @@ impl Once {
         }));
     }
 
-    fn fail(&mut self, object: &[u8], call: u32) -> bool {
+    fn fail(&mut self, object: &str, call: u32) -> bool {
         match object {
-            b"shelf" => self.shelf_fails = call,
-            b"wav" => self.wav_fails = call,
-            b"talk" => self.talk_fails = call,
+            "shelf" => self.shelf_fails = call,
+            "wav" => self.wav_fails = call,
+            "talk" => self.talk_fails = call,
             _ => return false,
         }
         true
@@ -101,10 +132,10 @@ impl Once {
 /// Two texts, which stay until others are begun, and what holds for the next case alone.
 #[derive(Drop)]
 pub struct CaseDesk {
-    pub orchestra: Vec<u8>,
-    pub score: Vec<u8>,
+    pub orchestra: Page,
+    pub score: Page,
     /// The words, one a line.
-    pub words: Vec<u8>,
+    pub words: Page,
     pub once: Once,
     filling: Filling,
 }
@@ -112,31 +143,37 @@ pub struct CaseDesk {
 impl CaseDesk {
     pub fn new(alloc: Global) -> CaseDesk {
         CaseDesk {
-            orchestra: Vec::new(alloc),
-            score: Vec::new(alloc),
-            words: Vec::new(alloc),
+            orchestra: Page::new(alloc),
+            score: Page::new(alloc),
+            words: Page::new(alloc),
             once: Once::default(),
             filling: Filling::Orchestra,
         }
     }
 
-    /// What is added from now on is the first of a new text of this kind.
-    pub fn begin(&mut self, filling: Filling) {
+    /// Begins a new text of this kind, which is what is added to from now on.
+    pub fn begin(&mut self, filling: Filling) -> &mut Page {
         self.filling = filling;
-        match filling {
-            Filling::Orchestra => self.orchestra.clear(),
-            Filling::Score => self.score.clear(),
-            Filling::Words => {
-                self.words.clear();
-                self.once.has_words = true;
-            }
+        if matches!(filling, Filling::Words) {
+            self.once.has_words = true;
+        }
+        let begun = self.begun();
+        begun.clear();
+        begun
+    }
+
+    fn begun(&mut self) -> &mut Page {
+        match self.filling {
+            Filling::Orchestra => &mut self.orchestra,
+            Filling::Score => &mut self.score,
+            Filling::Words => &mut self.words,
         }
     }
 
     /// The words of the case, one a line.
     pub fn own_words(&self) -> &[u8] {
         if self.once.has_words {
-            &self.words
+            self.words.bytes()
         } else {
             NAMES
         }
@@ -153,24 +190,31 @@ impl CaseDesk {
     }
 
     /// Adds to what was begun last.
-    pub fn add(&mut self, piece: CaseText<'_>) -> Result<(), AllocError> {
-        match self.filling {
-            Filling::Orchestra => add_piece(&mut self.orchestra, piece),
-            Filling::Score => add_piece(&mut self.score, piece),
-            Filling::Words => add_piece(&mut self.words, piece),
-        }
+    pub fn add(&mut self, piece: CaseText<'_>) {
+        add_piece(self.begun(), piece);
+    }
+
+    /// Whether memory sufficed for its texts.
+    pub fn is_whole(&self) -> bool {
+        self.orchestra.is_whole() && self.score.is_whole() && self.words.is_whole()
     }
 }
 
 // Whether one of these words says by how many workers, or by which.
 fn names_a_crew(words: &[u8]) -> bool {
     for word in words.split(|byte| *byte == b'\n') {
-        match word {
-            b"--pool" => return true,
-            [b'-', b'-', ..] => {}
-            [b'-', flags @ ..] if flags.contains(&b'j') => return true,
-            _ => {}
+        if asks_for_workers(word) {
+            return true;
         }
     }
     false
+}
+
+fn asks_for_workers(word: &[u8]) -> bool {
+    match word {
+        b"--pool" => true,
+        [b'-', b'-', ..] => false,
+        [b'-', flags @ ..] => flags.contains(&b'j'),
+        _ => false,
+    }
 }

@@ -34,11 +34,8 @@ fn piece_of<'a>(number: &'a [u8], text: &'a [u8], feed: bool) -> CaseText<'a> {
 }
 
 /// The first word, and what stands behind its blank.
-pub fn parted(text: &[u8]) -> (&[u8], &[u8]) {
-    let mut parts = text.splitn(2, |byte| *byte == b' ');
-    let word = parts.next().unwrap_or(&[]);
-    let rest = parts.next().unwrap_or(&[]);
-    (word, rest)
+pub fn parted(text: &str) -> (&str, &str) {
+    text.split_once(' ').unwrap_or((text, ""))
 }
 
 /// The number that digits are.

@@ -5,24 +5,26 @@
 //!
 //! Nothing is proved of the answers here, only that the trials are safe.
 //!
-//! In reading order: `line` (the parts of a line of a case file), `text` (its escapes), `gate` (what shows how workers
-//! run), `meters` (what the meters show), `desk` (the case that is being made), `play` (the runs of a case), `show`
-//! (its line) and `wave` (the samples in it).
+//! In reading order: `page` (what is written), `line` (the parts of a line of a case file), `text` (its escapes),
+//! `gate` (what shows how workers run), `desk` (the case that is being made), `made` (what a run of it is given),
+//! `meters` (what they show), `play` (the runs of a case), `show` (its line) and `wave` (the samples in it).
 #![tactic(auto)]
 
 mod desk;
 mod gate;
 mod line;
+mod made;
 mod meters;
+mod page;
 mod play;
 mod show;
 mod text;
 mod wave;
 
-use crate::desk::{CaseDesk, Filling};
+use crate::desk::{CaseDesk, Command, command_of};
 use crate::line::{number_of, parted, text_of};
+use crate::page::Page;
 use crate::play::play;
-use crate::show::add_shown;
 use std::io::Write;
 use std::rt::Files;
 use std::sync::Wait;
@@ -31,29 +33,37 @@ use std::{env, fs, io, thread};
 
 fn main(rt: HostRuntime) -> io::Result<()> {
     let names: Vec<String> = env::args(&rt)?.skip(1).collect(rt.alloc())?;
-    for name in &names {
-        run_named(&rt, name)?;
+    run_all(&rt, &names)
+}
+
+fn run_all<R: Files + Print + AllocGlobal + Threads + Wait + Sync>(
+    rt: &R,
+    names: &[String],
+) -> io::Result<()> {
+    for name in names {
+        println!(rt; "== {name}")?;
+        run_file(rt, name)?;
     }
     Ok(())
 }
 
-// The cases of a file, under a line with its name.
-fn run_named<R: Files + Print + AllocGlobal + Threads + Wait + Sync>(
+// The cases of a file.
+fn run_file<R: Files + Print + AllocGlobal + Threads + Wait + Sync>(
     rt: &R,
     name: &str,
 ) -> io::Result<()> {
     let text = fs::read(rt, name)?;
-    println!(rt; "== {name}")?;
-    run_file(rt, &text)
+    let mut desk = CaseDesk::new(rt.alloc());
+    run_lines(rt, &text, &mut desk)
 }
 
-fn run_file<R: Files + Print + AllocGlobal + Threads + Wait + Sync>(
+fn run_lines<R: Files + Print + AllocGlobal + Threads + Wait + Sync>(
     rt: &R,
     text: &[u8],
+    desk: &mut CaseDesk,
 ) -> io::Result<()> {
-    let mut desk = CaseDesk::new(rt.alloc());
     for line in text.split(|byte| *byte == b'\n') {
-        follow(rt, line, &mut desk)?;
+        follow(rt, line, desk)?;
     }
     Ok(())
 }
@@ -64,35 +74,37 @@ fn follow<R: Files + Print + AllocGlobal + Threads + Wait + Sync>(
     line: &[u8],
     desk: &mut CaseDesk,
 ) -> io::Result<()> {
-    if let Some(piece) = text_of(line) {
-        desk.add(piece)?;
-        return Ok(());
+    match (text_of(line), str::from_utf8(line)) {
+        (Some(piece), _) => {
+            desk.add(piece);
+            Ok(())
+        }
+        (None, Ok(line)) => obey(rt, line, desk),
+        (None, Err(_)) => say_wrong(rt, line),
     }
+}
+
+fn obey<R: Files + Print + AllocGlobal + Threads + Wait + Sync>(
+    rt: &R,
+    line: &str,
+    desk: &mut CaseDesk,
+) -> io::Result<()> {
     let (word, rest) = parted(line);
-    match word {
-        b"" => {}
-        [b'#', ..] => {}
-        b"orc" => {
-            desk.begin(Filling::Orchestra);
-            add_file(rt, rest, &mut desk.orchestra)?;
+    match command_of(word) {
+        Command::Nothing => Ok(()),
+        Command::Begin(filling) => add_file(rt, rest, desk.begin(filling)),
+        Command::Crowd => {
+            desk.once.crowd(at_once(rt, number_of(rest.as_bytes())));
+            Ok(())
         }
-        b"sco" => {
-            desk.begin(Filling::Score);
-            add_file(rt, rest, &mut desk.score)?;
-        }
-        b"words" => desk.begin(Filling::Words),
-        b"crowd" => desk.once.crowd(at_once(rt, number_of(rest))),
-        b"play" => {
+        Command::Play => {
             say(rt, rest, desk)?;
             desk.forget();
+            Ok(())
         }
-        _ => {
-            if !desk.once.take(word, rest) {
-                say_wrong(rt, line)?;
-            }
-        }
+        Command::Once if desk.once.take(word, rest) => Ok(()),
+        Command::Once => say_wrong(rt, line.as_bytes()),
     }
-    Ok(())
 }
 
 // How many of so many notes can be at work at once: no more than there are processors, where the system says that.
@@ -104,35 +116,43 @@ fn at_once<R: Threads>(rt: &R, notes: u32) -> u32 {
 }
 
 // Adds the bytes of a file; no path adds nothing.
-fn add_file<R: Files + AllocGlobal>(rt: &R, path: &[u8], to: &mut Vec<u8>) -> io::Result<()> {
-    let Ok(path) = str::from_utf8(path) else {
-        return Ok(());
-    };
+fn add_file<R: Files + AllocGlobal>(rt: &R, path: &str, to: &mut Page) -> io::Result<()> {
     if path.is_empty() {
         return Ok(());
     }
     let text = fs::read(rt, path)?;
-    to.extend_from_slice(&text)?;
+    to.add(&text);
     Ok(())
 }
 
 /// The crews that play each piece besides the one that its words ask for.
 const CREWS: [&[&str]; 3] = [&["-j", "4"], &["--pool", "-j", "4"], &["-j", "32"]];
 
-// Runs a case and prints its line. A piece that is played is played by other crews too.
+// Runs a case and prints its line.
 fn say<R: Print + AllocGlobal + Threads + Wait + Sync>(
     rt: &R,
-    name: &[u8],
+    name: &str,
     desk: &CaseDesk,
 ) -> io::Result<()> {
-    let mut out = String::new(rt.alloc());
-    let status = play(rt, name, desk, &[], &mut out)?;
-    io::writer(rt).write_all(out.as_bytes())?;
+    let mut line = Page::new(rt.alloc());
+    let status = play(rt, name, desk, &[], &mut line)?;
+    said(rt, name, desk, status, line.bytes())
+}
+
+// A piece that is played is played by other crews too.
+fn said<R: Print + AllocGlobal + Threads + Wait + Sync>(
+    rt: &R,
+    name: &str,
+    desk: &CaseDesk,
+    status: u8,
+    line: &[u8],
+) -> io::Result<()> {
+    print(rt, line)?;
     if status != 0 || !desk.is_for_any_crew() {
         return Ok(());
     }
     for crew in CREWS {
-        say_by(rt, name, desk, crew, &out)?;
+        say_by(rt, name, desk, crew, line)?;
     }
     Ok(())
 }
@@ -140,24 +160,32 @@ fn say<R: Print + AllocGlobal + Threads + Wait + Sync>(
 // Runs the case by a crew, and prints its line where it is another one.
 fn say_by<R: Print + AllocGlobal + Threads + Wait + Sync>(
     rt: &R,
-    name: &[u8],
+    name: &str,
     desk: &CaseDesk,
     crew: &[&str],
-    line: &str,
+    line: &[u8],
 ) -> io::Result<()> {
-    let mut out = String::new(rt.alloc());
+    let mut out = Page::new(rt.alloc());
     play(rt, name, desk, crew, &mut out)?;
-    if out.as_str() == line {
+    say_other(rt, crew, out.bytes(), line)
+}
+
+fn say_other<R: Print>(rt: &R, crew: &[&str], out: &[u8], line: &[u8]) -> io::Result<()> {
+    if out == line {
         return Ok(());
     }
     println!(rt; "another line, by {crew:?}:")?;
-    io::writer(rt).write_all(out.as_bytes())
+    print(rt, out)
 }
 
 fn say_wrong<R: Print + AllocGlobal>(rt: &R, line: &[u8]) -> io::Result<()> {
-    let mut out = String::new(rt.alloc());
-    out.push_str("not understood: ")?;
-    add_shown(&mut out, line)?;
-    out.push('\n')?;
-    io::writer(rt).write_all(out.as_bytes())
+    let mut out = Page::new(rt.alloc());
+    out.add(b"not understood: ");
+    out.add_shown(line);
+    out.push(b'\n');
+    print(rt, out.bytes())
+}
+
+fn print<R: Print>(rt: &R, text: &[u8]) -> io::Result<()> {
+    io::writer(rt).write_all(text)
 }

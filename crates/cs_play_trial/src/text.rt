@@ -1,7 +1,7 @@
 // The escapes in a text: behind a grave accent stand two hexadecimal digits, which are a byte, or `#`, the number of
 // the time that the text is added.
 use crate::line::CaseText;
-use std::alloc::AllocError;
+use crate::page::Page;
 
 /// How far an escape is read.
 #[derive(Clone, Copy)]
@@ -13,39 +13,32 @@ enum Escape {
 }
 
 /// Adds a text so many times.
-pub fn add_piece(to: &mut Vec<u8>, piece: CaseText<'_>) -> Result<(), AllocError> {
+pub fn add_piece(to: &mut Page, piece: CaseText<'_>) {
     for number in 0..piece.times {
-        add_text(to, piece.text, number.saturating_add(1))?;
+        add_text(to, piece.text, number.saturating_add(1));
         if piece.feed {
-            to.push(b'\n')?;
+            to.push(b'\n');
         }
     }
-    Ok(())
 }
 
-fn add_text(to: &mut Vec<u8>, text: &[u8], number: u32) -> Result<(), AllocError> {
+fn add_text(to: &mut Page, text: &[u8], number: u32) {
     let mut escape = Escape::None;
     for byte in text {
-        escape = add_byte(to, escape, *byte, number)?;
+        escape = add_byte(to, escape, *byte, number);
     }
-    Ok(())
 }
 
 // Adds what a byte is behind this much of an escape, and answers how far an escape is read behind it.
-fn add_byte(to: &mut Vec<u8>, escape: Escape, byte: u8, number: u32) -> Result<Escape, AllocError> {
+fn add_byte(to: &mut Page, escape: Escape, byte: u8, number: u32) -> Escape {
     match (escape, byte) {
-        (Escape::None, b'`') => return Ok(Escape::Begun),
-        (Escape::None, _) => to.push(byte)?,
-        (Escape::Begun, b'#') => add_number(to, number)?,
-        (Escape::Begun, _) => return Ok(Escape::Digit(byte)),
-        (Escape::Digit(high), _) => to.push(byte_of(high, byte))?,
+        (Escape::None, b'`') => return Escape::Begun,
+        (Escape::None, _) => to.push(byte),
+        (Escape::Begun, b'#') => to.add_number(u64::from(number)),
+        (Escape::Begun, _) => return Escape::Digit(byte),
+        (Escape::Digit(high), _) => to.push(byte_of(high, byte)),
     }
-    Ok(Escape::None)
-}
-
-fn add_number(to: &mut Vec<u8>, number: u32) -> Result<(), AllocError> {
-    let digits = format!(in *to.allocator(); "{number}")?;
-    to.extend_from_slice(digits.as_bytes())
+    Escape::None
 }
 
 fn byte_of(high: u8, low: u8) -> u8 {

@@ -1,5 +1,5 @@
 // The samples of a sound file, as runs of equal frames.
-use std::alloc::AllocError;
+use crate::page::Page;
 
 /// Behind so many runs only their number and a sum of the file follow.
 const MOST_RUNS: u64 = 20;
@@ -17,17 +17,20 @@ struct Layout {
 }
 
 /// Writes a file's rate, its bytes, and its samples.
-pub fn add_wave(out: &mut String, wav: &[u8]) -> Result<(), AllocError> {
+pub fn add_wave(out: &mut Page, wav: &[u8]) {
     if wav.len() >= HEADER {
-        write!(out, ", sr {}", number_at(wav, 24, 4))?;
+        out.add(b", sr ");
+        out.add_number(number_at(wav, 24, 4));
     }
-    write!(out, ", {} bytes", wav.len())?;
+    out.add(b", ");
+    out.add_number(wav.len() as u64);
+    out.add(b" bytes");
     match wav.get(HEADER..) {
-        Some([]) | None => Ok(()),
+        Some([]) | None => {}
         Some(samples) => {
-            out.push_str(": ")?;
-            let runs = add_runs(out, samples, layout_of(wav))?;
-            add_rest(out, runs, wav)
+            out.add(b": ");
+            let runs = add_runs(out, samples, layout_of(wav));
+            add_rest(out, runs, wav);
         }
     }
 }
@@ -50,49 +53,52 @@ fn number_at(bytes: &[u8], at: usize, width: usize) -> u64 {
 }
 
 // Writes the first runs, and answers how many there are.
-fn add_runs(out: &mut String, samples: &[u8], layout: Layout) -> Result<u64, AllocError> {
+fn add_runs(out: &mut Page, samples: &[u8], layout: Layout) -> u64 {
     let mut last: &[u8] = &[];
     let mut times = 0u64;
     let mut runs = 0u64;
     for frame in samples.chunks(layout.frame.max(1)) {
         if frame != last && times > 0 {
-            add_run(out, last, times, runs, layout)?;
+            add_run(out, last, times, runs, layout);
             runs = runs.saturating_add(1);
             times = 0;
         }
         last = frame;
         times = times.saturating_add(1);
     }
-    add_run(out, last, times, runs, layout)?;
-    Ok(runs.saturating_add(1))
+    add_run(out, last, times, runs, layout);
+    runs.saturating_add(1)
 }
 
-fn add_run(
-    out: &mut String,
-    frame: &[u8],
-    times: u64,
-    run: u64,
-    layout: Layout,
-) -> Result<(), AllocError> {
+fn add_run(out: &mut Page, frame: &[u8], times: u64, run: u64, layout: Layout) {
     if run >= MOST_RUNS {
-        return Ok(());
+        return;
     }
     if run > 0 {
-        out.push_str(", ")?;
+        out.add(b", ");
     }
-    write!(out, "{times} x ")?;
-    add_frame(out, frame, layout)
+    out.add_number(times);
+    out.add(b" x ");
+    add_frame(out, frame, layout);
 }
 
 // The values of a frame's channels, in order.
-fn add_frame(out: &mut String, frame: &[u8], layout: Layout) -> Result<(), AllocError> {
-    for (channel, sample) in frame.chunks(layout.width.max(1)).enumerate() {
-        if channel > 0 {
-            out.push('/')?;
+fn add_frame(out: &mut Page, frame: &[u8], layout: Layout) {
+    let mut is_first = true;
+    for sample in frame.chunks(layout.width.max(1)) {
+        if !is_first {
+            out.push(b'/');
         }
-        write!(out, "{}", value_of(sample))?;
+        is_first = false;
+        add_value(out, value_of(sample));
     }
-    Ok(())
+}
+
+fn add_value(out: &mut Page, value: i64) {
+    if value < 0 {
+        out.push(b'-');
+    }
+    out.add_number(value.unsigned_abs());
 }
 
 // A sample of two or three bytes.
@@ -105,11 +111,16 @@ fn value_of(sample: &[u8]) -> i64 {
 }
 
 // Where not all runs are shown: how many there are, and the Adler-32 sum of the file.
-fn add_rest(out: &mut String, runs: u64, wav: &[u8]) -> Result<(), AllocError> {
+fn add_rest(out: &mut Page, runs: u64, wav: &[u8]) {
     if runs <= MOST_RUNS {
-        return Ok(());
+        return;
     }
-    write!(out, " .. of {runs} runs, adler32 {:08x}", adler32(wav))
+    out.add(b" .. of ");
+    out.add_number(runs);
+    out.add(b" runs, adler32 ");
+    for byte in adler32(wav).to_be_bytes() {
+        out.add_digits(byte);
+    }
 }
 
 fn adler32(bytes: &[u8]) -> u32 {
