@@ -7,6 +7,8 @@ import signal
 import sys
 import time
 
+# The words of `play` that stand before csplay's.
+OWN = ("--prove", "--check", "--listen", "--picture")
 # The signals that end a program which does nothing about them: those that are sent to this one end what it started.
 ENDING = [getattr(signal, f"SIG{it}") for it in "TERM INT HUP QUIT ALRM USR1 USR2".split()]
 DIES_WITH_PARENT = 1

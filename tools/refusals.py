@@ -10,6 +10,7 @@ import orchestra
 import pages
 import scores
 from options import names_in
+from perform import OWN
 
 # What the line of each status looks like, and the first head of its tables in docs/LANGUAGE.md.
 FAULT = r" line (?P<line>\d+): (?P<kind>\d+ \w+)"
@@ -122,8 +123,10 @@ def of_name(said):
 def of_usage(words):
     """Of words that have no reading."""
     names, _ = names_in(words)
-    what = []
-    if len(names) == 1 and names[0].lower().endswith(".csd") and not names[0].endswith(".csd"):
+    what, late = [], [it for it in words if it in OWN]
+    if late:
+        what = [f"`{late[0]}` stands before csplay's words: ./play {late[0]} examples/tune.orc examples/tune.sco"]
+    elif len(names) == 1 and names[0].lower().endswith(".csd") and not names[0].endswith(".csd"):
         what = [f"The name of a file with both texts ends in `.csd`, in these very letters: rename {names[0]}."]
     elif len(names) == 1 and not names[0].endswith(".csd"):
         what = ["One name is that of a file with both texts, and ends in `.csd`. Else give two: orchestra and score."]
