@@ -1,5 +1,8 @@
 // The typed tree of an orchestra: what the layers above read in place of names and opcodes' names.
-use cs_base::{Head, Items, Names, Num, Numbers, PerRate, Rate, Res, Spaces};
+ghost use Rattle.std.specs.Prelude.{◌≡◌, IfOk};
+ghost use Rattle.cs_typed.specs.TypedTree.{moved_variable};
+
+use cs_base::{Head, Items, Names, Num, Numbers, OutOfMemory, PerRate, Rate, Res, Spaces};
 use cs_words::{BinOp, Func, HeadName, Opcode};
 
 /// A variable: one of the note's own, by its rate and its number among the names of that rate; or what notes share.
@@ -7,6 +10,23 @@ use cs_words::{BinOp, Func, HeadName, Opcode};
 pub enum Var {
     Local(Rate, usize),
     Global(Res),
+}
+
+impl Var {
+    /// A variable of a routine as it stands in a body that has `base` numbers of each rate in front of it. A number
+    /// that doesn't fit is reported as out of memory; none is met, since an expanded body has at most
+    /// `MOST_STATEMENTS` statements.
+    pub fn moved(self, base: PerRate<usize>) -> Result<Var, OutOfMemory>
+        ensures { IfOk result (λ v. v ≡ moved_variable base self) }
+    {
+        match self {
+            Var::Local(rate, number) => {
+                let number = base.of(rate).checked_add(number).ok_or(OutOfMemory)?;
+                Ok(Var::Local(rate, number))
+            }
+            Var::Global(_) => Ok(self),
+        }
+    }
 }
 
 pub type Vars = Items<Var>;

@@ -5,6 +5,7 @@ use Rattle.std.proofs.Common.{map, Option, None, arith, refl, sym, ap, subst}
 use Rattle.std.specs.Option.{option_or}
 use Rattle.std.proofs.lemmas.List.{append-nil, append_assoc, drop_all, drop_more, get_or_default}
 use Rattle.cs_base.specs.{Rates.at_rate, declared.fault.OrcFault.OrcFault, declared.resource.Rate.Rate}
+use Rattle.cs_base.specs.declared.fault.Or.{Or}
 use Rattle.cs_base.specs.declared.per_rate.PerRate.{PerRate}
 use Rattle.cs_grammar.specs.{declared.tree.Arg.Arg, declared.tree.Expr.Expr}
 use Rattle.cs_grammar.specs.declared.tree.Arg.TheVariants.{Value, Text}
@@ -15,12 +16,13 @@ use Rattle.cs_typed.proofs.Moved.{then_again}
 use Rattle.cs_typing.specs.{Expressions.expression_by, Settings.at, Statements.set_fault_by, inner.Listed.Adds}
 use Rattle.cs_typing.specs.inner.Routines.{Locals, KnownInBody, all_given_in, given_in, inputs_fault, known_in}
 use Rattle.cs_typing.specs.inner.Routines.{knows_in, variable_in}
+use Rattle.cs_typing.specs.inner.Answers.{HasFault}
 use Rattle.cs_typing.specs.inner.Slots.{given_set, one_counted, slot_numbers, slots_fault, slots_past, slots_set}
 use Rattle.cs_typing.specs.inner.Slots.{taken_fault, taken_kind, taken_set}
 use Rattle.cs_words.specs.Names.{name_rate}
 use Rattle.cs_udo.specs.Names.{slot}
 use Rattle.cs_udo.proofs.Places.{dropped}
-use Rattle.cs_typing.proofs.Joined.{then_nothing}
+use Rattle.cs_typing.proofs.{Answers.fault_on, Joined.then_nothing}
 use Rattle.cs_typed.specs.TypedTree as typed
 
 -- a function of names and arguments, on both rests where each has a next
@@ -128,6 +130,12 @@ pub fault_next : (first here next whole : Option OrcFault) → here ≡ option_o
     → next ≡ whole
 fault_next first here next whole split none was = sym (ap (λ f. option_or f next) none) ∙ sym split ∙ was
 
+-- the fault of the first is that of the whole
+pub fault_first : (e : Or OrcFault) (first here next whole : Option OrcFault) → HasFault e first
+    → here ≡ option_or first next → here ≡ whole → HasFault e whole
+fault_first e first here next whole is split was =
+    fault_on e first whole is (λ f h. sym was ∙ split ∙ ap (λ o. option_or o next) h)
+
 -- one statement was added, as the first that was left to add
 pub made_next : (rs : List typed.Block) (old new : List TypedStmt) (is form : typed.Statement)
     (here next whole : typed.Block)
@@ -161,6 +169,20 @@ module _ (s : Setting) (line : ℕ) where
     sym (ap (λ x. known_in k.shared x.2) none) ∙ was.2,
     sym (append-nil before) ∙ sym (ap (λ x. before ++ x.3) none) ∙ was.3,
   )
+
+-- one slot's fault
+
+pub slot_fault : (s : Setting) (k : KnownInBody) (line : ℕ) (outs rates : List Rate) (args : List Arg) (i : ℕ)
+    (d : Rate) (a : Arg) (e : Expr) (x : Or OrcFault) (whole : Option OrcFault)
+    → i < length outs → i < length args → rates ≡ outs → a ≡ get_or args i a → a ≡ Value e
+    → HasFault x (at line (set_fault_by s (knows_in k) (slot 0 (get_or rates i d)) (expression e)))
+    → slots_fault s k line (drop i outs) (map argument (drop i args)) ≡ whole → HasFault x whole
+slot_fault s k line outs rates args i d a e x whole front back same q v is was =
+    let low : i < length rates = subst (λ xs. i < length xs) (sym same) front in
+    let p : get_or rates i d ≡ get_or outs i (get_or rates i d) =
+    get_or_default rates i d (get_or rates i d) low ∙ ap (λ xs. get_or xs i (get_or rates i d)) same in
+    fault_first x _ _ _ whole is (both_next (slots_fault s k line) outs args i (get_or rates i d) a e front p back q v)
+    was
 
 -- one slot more
 

@@ -1,5 +1,6 @@
 pub mod Added
 pub mod Answers
+pub mod Arguments
 pub mod Beside
 pub mod BothDefined
 pub mod Called

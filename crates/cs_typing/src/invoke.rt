@@ -16,7 +16,7 @@ ghost use Rattle.cs_words.specs.Names.{name_rate};
 
 use crate::assign::{Target, set};
 use crate::call::broken;
-use crate::known::{KnownNames, Scope, plus};
+use crate::known::{KnownNames, Scope};
 use cs_base::{Name, Or, OrcFault, OrcKind, OutOfMemory, PerRate, Rate};
 use cs_grammar::{Arg, Expr, Udo};
 use cs_typed::{Setting, TypedExpr, TypedPart, TypedStmt, TypedStmts, TypedWhat, Var};
@@ -49,10 +49,9 @@ fn moved(base: PerRate<usize>, rate: Rate, number: usize) -> Result<Target, OutO
     ensures rate { IfOk result (λ t. t.rate ≡ rate) }
     ensures var { IfOk result (λ t. t.var ≡ Local rate (at_rate base rate + number)) }
 {
-    let number = plus(base.of(rate), number)?;
     Ok(Target {
         rate,
-        var: Var::Local(rate, number),
+        var: Var::Local(rate, number).moved(base)?,
     })
 }
 

@@ -22,9 +22,9 @@ pub enum Channel {
     Sound,
 }
 
-/// The sum of two numbers of local variables. One that doesn't fit would be reported as out of memory; none is met,
-/// since an expanded body has at most `MOST_STATEMENTS` statements.
-pub fn plus(a: usize, b: usize) -> Result<usize, OutOfMemory>
+// The sum of two numbers of local variables. One that doesn't fit would be reported as out of memory; none is met,
+// since an expanded body has at most `MOST_STATEMENTS` statements.
+fn plus(a: usize, b: usize) -> Result<usize, OutOfMemory>
     ensures { IfOk result (λ n. n ≡ a + b) }
 {
     a.checked_add(b).ok_or(OutOfMemory)

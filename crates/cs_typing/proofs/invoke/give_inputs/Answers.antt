@@ -1,13 +1,15 @@
-use Rattle.std.proofs.Common.{◌≡◌, ◌∙◌, ◌+◌, ◌<◌, ℕ, List, None, get_or, length, arith, refl, sym, ap}
+use Rattle.std.proofs.Common.{◌≡◌, ◌∙◌, ◌+◌, ◌<◌, ℕ, List, None, get_or, length, map, arith, refl, sym, ap}
 use Rattle.cs_base.specs.Rates.{at_rate}
-use Rattle.cs_grammar.specs.Tree.{expression}
+use Rattle.cs_grammar.specs.Tree.{argument, expression}
 use Rattle.cs_typed.specs.declared.tree.Var.TheVariants.{Local}
 use Rattle.cs_words.specs.Names.{name_rate}
 use Rattle.cs_typing.specs.{Expressions.expression_by, Settings.at, Statements.set_fault_by}
 use Rattle.cs_typing.specs.inner.Held.{known_of, locals_of}
-use Rattle.cs_typing.specs.inner.Routines.{knows_in, number_in, variable_in}
-use Rattle.cs_typing.proofs.Beside.{InputsMade, at_end, at_word, both_next, fault_next, in_both, inputs_end}
-use Rattle.cs_typing.proofs.Beside.{inputs_made, made_next, none_left, past_both}
+use Rattle.cs_typing.specs.inner.Answers.{Judged}
+use Rattle.cs_typing.specs.inner.Routines.{inputs_fault, knows_in, number_in, variable_in}
+use Rattle.cs_typing.proofs.Answers.{failed}
+use Rattle.cs_typing.proofs.Beside.{InputsMade, at_end, at_word, both_next, fault_first, fault_next, in_both}
+use Rattle.cs_typing.proofs.Beside.{inputs_end, inputs_made, made_next, none_left, past_both}
 use Rattle.cs_typed.specs.TypedTree as typed
 use Rattle.cs_typing.proofs.invoke.give_inputs.Goals as goal
 
@@ -72,6 +74,28 @@ loop-i-preserved c =
       λ rs. made_next rs c.loop-i.done.items new (typed.set it.line to.rate to.var value) form _ _ _
           c.in_ok-set-in-Value.ensures.made same (ap (λ x. x.1) next) (c.loop-i.invariant.1 rs),
     )
+
+pub returns-in_err-set-in-Value-clause-fault : goal.returns-in_err-set-in-Value-clause-fault
+returns-in_err-set-in-Value-clause-fault c =
+    let it = c.args.it.now in
+    let s = c.args.setting in
+    let k = known_of c.args.names.now in
+    let names = it.definition.now.names in
+    let args = it.args.now in
+    let i = c.loop-i.i in
+    let x = c.index-list-i.result in
+    let e = c.in-Value.e in
+    let low = in_both names args i c.min-i-end.ensures c.as_slice-list.ensures refl
+    (omega (arith, c.loop-i-test.true)) in
+    let rate : c.in_ok-to-in-Value.to.rate ≡ name_rate x =
+    c.in_ok-to-in-Value.ensures.rate ∙ c.name_rate.ensures ∙ ap name_rate c.as_slice-name.ensures in
+    failed (λ r. Judged r (inputs_fault s k it.line names (map argument args)))
+    c.from_residual-in_err-set-in-Value.result _ c.from_residual-in_err-set-in-Value.ensures.1
+    (fault_first _ (at it.line (set_fault_by s (knows_in k) x (expression e))) _ _ _
+    (c.in_err-set-in-Value.ensures.fault x (sym rate))
+    (both_next (inputs_fault s k it.line) names args i x c.index-it-i.result e (omega (arith, low))
+    (c.index-list-i.is ∙ ap (λ xs. get_or xs i x) c.as_slice-list.ensures) (omega (arith, low)) c.index-it-i.is
+    (c.index-it-i.is ∙ c.in-Value.is)) c.loop-i.invariant.0)
 
 pub returns : goal.returns
 returns c =

@@ -8,7 +8,9 @@ use Rattle.cs_typing.specs.{Settings.at, inner.Held.known_of, inner.Held.locals_
 use Rattle.cs_typing.specs.inner.Routines.{all_given_in, given_in, known_in, variable_in}
 use Rattle.cs_typing.specs.inner.Slots.{taken_fault, taken_kind, taken_set}
 use Rattle.cs_udo.proofs.Places.{dropped}
-use Rattle.cs_typing.proofs.Beside.{none_left, none_taken, one_taken, shifted}
+use Rattle.cs_typing.specs.inner.Answers.{Judged}
+use Rattle.cs_typing.proofs.Answers.{failed, same_fault}
+use Rattle.cs_typing.proofs.Beside.{fault_first, none_left, none_taken, one_taken, shifted}
 use Rattle.cs_typing.proofs.invoke.give_results.Goals.{then-i-rates+in_ok-from+in_ok-take, else-i-rates}
 use Rattle.cs_typed.specs.TypedTree as typed
 use Rattle.cs_typing.proofs.invoke.give_results.Goals as goal
@@ -66,6 +68,26 @@ loop-i-preserved c =
           (subst (λ ys. length ys ≤ i) rates (omega (arith, w.if-i-rates)))
           (ap (λ (v : Vec TypedStmt Global). v.items) w.done-is) on fault made known c.loop-i.invariant
     ]
+
+pub returns-in_err-take-clause-fault : goal.returns-in_err-take-clause-fault
+returns-in_err-take-clause-fault c =
+    let it = c.args.it.now in
+    let s = c.args.setting in
+    let outs = it.definition.now.outs in
+    let xs = it.results.now in
+    let i = c.loop-i.i in
+    let x = c.index-it-i.result in
+    let r = c.in_ok-from.from.rate in
+    let p : drop i xs ≡ x ∷ drop (i + 1) xs = dropped xs i x (omega (arith, c.loop-i-test.true)) c.index-it-i.is in
+    let q : drop i outs ≡ r ∷ drop (i + 1) outs =
+    shifted c.as_slice-rates.result.now outs i _ c.as_slice-rates.ensures (omega (arith, c.if-i-rates.true))
+    ∙ ap (λ y. y ∷ drop (i + 1) outs) (sym c.in_ok-from.ensures.rate) in
+    let name : c.as_slice-name.result.now ≡ x = c.as_slice-name.ensures ∙ sym c.index-it-i.is in
+    failed (λ r. Judged r (taken_fault s it.line xs outs))
+    c.from_residual-in_err-take.result _ c.from_residual-in_err-take.ensures.1
+    (fault_first _ (at it.line (taken_kind s x r)) _ _ _
+    (same_fault _ _ _ c.in_err-take.ensures.fault (ap (λ y. at it.line (taken_kind s y r)) name))
+    (λ j. taken_fault s it.line (p j) (q j)) c.loop-i.invariant.0)
 
 pub returns-clause-made : goal.returns-clause-made
 returns-clause-made c =

@@ -3,8 +3,10 @@ use Rattle.cs_base.specs.declared.resource.Rate.{Rate}
 use Rattle.cs_grammar.specs.Tree.{argument}
 use Rattle.cs_typing.specs.{inner.Held.known_of, inner.Routines.known_in}
 use Rattle.cs_typing.specs.inner.Slots.{slot_numbers, slots_fault, slots_past, slots_set}
-use Rattle.cs_typing.proofs.Beside.{SlotsMade, at_end, at_word, in_both, no_slots, past_both, slots_done, slots_end}
-use Rattle.cs_typing.proofs.Beside.{slots_made, slots_next}
+use Rattle.cs_typing.specs.inner.Answers.{Judged}
+use Rattle.cs_typing.proofs.Answers.{failed}
+use Rattle.cs_typing.proofs.Beside.{SlotsMade, at_end, at_word, in_both, no_slots, past_both, slot_fault, slots_done}
+use Rattle.cs_typing.proofs.Beside.{slots_end, slots_made, slots_next}
 use Rattle.cs_typed.specs.TypedTree as typed
 use Rattle.cs_typing.proofs.invoke.give_slots.Goals as goal
 
@@ -45,6 +47,18 @@ loop-i-preserved c =
     (λ rs. typed.then_block (typed.block rs c.args.done.now.items) (slots_set start d.line d.outs all))
     (known_in start.shared (slots_past start.locals d.outs all)) (slot_numbers start.locals.counts d.outs all)
     c.loop-i.invariant
+
+pub returns-in_err-number-in-Value-clause-fault : goal.returns-in_err-number-in-Value-clause-fault
+returns-in_err-number-in-Value-clause-fault c =
+    let d = c.args.definition.now in
+    let s = c.args.setting in
+    let low = in_both d.outs d.result.items c.loop-i.i c.min-i-end.ensures c.as_slice-rates.ensures
+    (omega (arith, c.len.ensures, d.result.ok)) (omega (arith, c.loop-i-test.true)) in
+    let whole = slots_fault s (known_of c.args.names.now) d.line d.outs (map argument d.result.items) in
+    failed (λ r. Judged r whole) c.from_residual.result _ c.from_residual.ensures.1
+    (slot_fault s (known_of c.loop-i.names) d.line d.outs c.as_slice-rates.result.now d.result.items c.loop-i.i _
+    c.index.result.now c.in-Value.e _ whole (omega (arith, low)) (omega (arith, low)) c.as_slice-rates.ensures
+    c.index.ensures c.in-Value.is c.in_err-number-in-Value.ensures.fault c.loop-i.invariant.0)
 
 pub returns : goal.returns
 returns c =
