@@ -5,6 +5,7 @@ pub mod Histories
 pub mod Levels
 pub mod Operands
 pub mod Pieces
+pub mod Products
 pub mod Ramps
 pub mod Rings
 pub mod Rises

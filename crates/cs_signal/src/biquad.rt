@@ -1,6 +1,6 @@
 // `biquad`: a filter of two zeros and two poles, by whole numbers.
-ghost use Rattle.std.specs.Prelude.{true, ◌≡◌, ◌≢◌, ◌<◌, ◌≤◌, ◌+◌, ◌^◌, length, pos, ◌≤ℤ◌, ◌-ℤ◌, ◌*ℤ◌};
-ghost use Rattle.std.specs.{Prelude.unsigned_abs, Int.int_div_euclid};
+ghost use Rattle.std.specs.Prelude.{true, ◌≡◌, ◌≢◌, ◌<◌, ◌≤◌, ◌+◌, ◌^◌, length, pos, ◌≤ℤ◌, ◌+ℤ◌};
+ghost use Rattle.std.specs.{Prelude.◌-ℤ◌, Prelude.◌*ℤ◌, Prelude.unsigned_abs, Int.int_div_euclid};
 ghost use Rattle.cs_base.specs.Numbers.{IsRaw, clamp, floor_div, quotient_by_zero};
 ghost use Rattle.cs_signal.specs.Biquad.{biquad_step, inputs_by, ratio};
 ghost use Rattle.cs_signal.specs.{Operands.argument, Steps.run, Walk.HasRun};
@@ -147,11 +147,8 @@ impl Biquad {
         ensures bounded { unsigned_abs result < 2 ^ 97 }
     {
         less(
-            plus(
-                plus(product(by.b0, x), product(by.b1, self.x1)),
-                product(by.b2, self.x2),
-            ),
-            plus(product(by.a1, self.y1), product(by.a2, self.y2)),
+            plus(products(by.b0, x, by.b1, self.x1), product(by.b2, self.x2)),
+            products(by.a1, self.y1, by.a2, self.y2),
         )
     }
 
@@ -268,6 +265,15 @@ fn less(x: i128, y: i128) -> i128
     ensures bounded { unsigned_abs result ≤ unsigned_abs x + unsigned_abs y }
 {
     x - y
+}
+
+// The exact sum of two products.
+#[inline(always)]
+fn products(a: Num, x: Num, b: Num, y: Num) -> i128
+    ensures value { result ≡ (a *ℤ x) +ℤ (b *ℤ y) }
+    ensures bounded { unsigned_abs result ≤ 2 ^ 95 }
+{
+    plus(product(a, x), product(b, y))
 }
 
 // The exact product, of 94 bits: three of them less two have 97.

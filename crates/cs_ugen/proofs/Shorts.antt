@@ -1,10 +1,12 @@
 -- The curve of points, by its places, and points that fit into 32 bits.
 use Rattle.std.proofs.Common.{◌≡◌, ℕ, ◌+◌, ◌-◌, ◌%◌, ◌<◌, ◌≤◌, ◌⊎◌, inl, inr, ⊎_elim, ◌==◌, true, false, if◌then◌else◌}
-use Rattle.std.proofs.Common.{List, [], ◌∷◌, ◌++◌, length, take, ℤ, pos, negsuc, ap, sym, ◌∙◌, subst, arith}
+use Rattle.std.proofs.Common.{List, [], ◌∷◌, ◌++◌, length, take, ℤ, pos, negsuc, ◌-ℤ◌, ◌*ℤ◌, unsigned_abs, ◌^◌, ap, sym}
+use Rattle.std.proofs.Common.{◌∙◌, subst, arith}
 use Rattle.std.proofs.{Common.length-append, Math.ListN.get_or-eq_default, Math.Seq.take-append_seam}
 use Rattle.std.proofs.lemmas.{Bool.cases_lt, Bool.Decides.nat_tests, Int.ints}
 use Rattle.std.proofs.lemmas.List.{length-take-le, take_all, take_more}
-use Rattle.cs_gen.proofs.Quotients.{on_line}
+use Rattle.cs_base.specs.Numbers.{IsRaw, floor_div}
+use Rattle.cs_gen.proofs.Quotients.{floor_div_within, on_line, product_within}
 use Rattle.cs_gen.specs.{Points.guard_place, Points.len_of, Tables.curve_of}
 use Rattle.cs_signal.specs.Operands.{argument}
 use Rattle.cs_ugen.specs.Points.{AreShort, IsShort, between_points, curve_len, is_len}
@@ -72,6 +74,21 @@ short_all ps place h all k = ⊎_elim
     (λ p. h k p)
     (λ p. subst IsShort (sym (get_or-eq_default ps (pos 0) (omega arith))) zero_short)
     (cases_lt k place)
+
+-- the rise from one short point to another has 32 bits
+pub short_rise : (x y : ℤ) → IsShort x → IsShort y → unsigned_abs (y -ℤ x) < 2 ^ 32
+short_rise x y hx hy = omega (arith, ints, hx.0, hx.1, hy.0, hy.1)
+
+-- a product of two short numbers, in 65,536ths, is in range
+in_range : (z : ℤ) → unsigned_abs z ≤ 70368744177664 → IsRaw z
+in_range z h = (omega (arith, ints, h), omega (arith, ints, h))
+
+pub short_ratio : (x y : ℤ) → IsShort x → IsShort y → IsRaw (floor_div (x *ℤ y) (pos 65536))
+short_ratio x y hx hy =
+    let small = product_within x y 2147483648 2147483648 (omega (arith, ints, hx.0, hx.1))
+    (omega (arith, ints, hy.0, hy.1)) in
+    in_range (floor_div (x *ℤ y) (pos 65536))
+    (floor_div_within (x *ℤ y) 70368744177664 65536 (omega arith) (omega (arith, small)))
 
 -- between two short points all is short
 pub between_short : (ps : List ℤ) (place fraction : ℕ) → AreShort ps → fraction < 65536

@@ -11,6 +11,10 @@ use cs_base::{Num, ONE};
 /// A table as a unit reads it: `len` points and behind them the guard point, which no call changes. What a curve
 /// stands on, such as cells that it reads, stays as it is too.
 pub trait Curve {
+    /// Whether `short` may find one. A constant leaves the loops on a short curve one caller, so that the compiler
+    /// builds them in there, where it sees that no result is written over the curve.
+    const MAY_BE_SHORT: bool = false;
+
     /// The points, the guard point last.
     ghost points: { Self → List ℤ };
 

@@ -106,6 +106,8 @@ impl<'p> Frozen<'p> {
 }
 
 impl Curve for Frozen<'_> {
+    const MAY_BE_SHORT: bool = true;
+
     ghost points = { λ f. curve_of f.points.now };
 
     ghost kept = { λ before after. after ≡ before };

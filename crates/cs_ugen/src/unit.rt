@@ -150,33 +150,17 @@ impl Unit {
         ensures same { C.points curve.new ≡ C.points curve.old }
         ensures kept { C.kept curve.old curve.new }
     {
-        match curve.short() {
+        if C::MAY_BE_SHORT
+            && let Some(mut short) = curve.short()
+        {
             // A copy, so that the compiler knows that no result is written over it.
-            Some(short) => {
-                let mut local = short;
-                self.rendered_on(inputs, &mut local, out);
-            }
-            None => self.rendered_wide(inputs, curve, out),
+            self.rendered_on(inputs, &mut short, out);
+        } else {
+            self.rendered_on(inputs, curve, out);
         }
     }
 
-    // The same on a curve that isn't short. It stands alone: a build drops `inline(always)` where a function would grow
-    // very large, and then what `block_on` copies is read again at each frame.
-    #[inline(never)]
-    fn rendered_wide<C: Curve>(&mut self, inputs: &[Operand], curve: &mut C, out: &mut [Num])
-        requires reads { reads_table (opcode_of self.old) ≡ true }
-        requires count { length inputs.now ≡ moving_count (opcode_of self.old) }
-        requires last { All (Lasts (length out.old)) inputs.now }
-        ensures value { (self.new, out.new) ≡ state_run self.old
-            (λ j. inputs_at inputs.now j ++ C.points curve.old) (length out.old) }
-        ensures same { C.points curve.new ≡ C.points curve.old }
-        ensures kept { C.kept curve.old curve.new }
-    {
-        self.rendered_on(inputs, curve, out);
-    }
-
     // The same, by the steps of its state.
-    #[inline(always)]
     fn rendered_on<C: Curve>(&mut self, inputs: &[Operand], curve: &mut C, out: &mut [Num])
         requires reads { reads_table (opcode_of self.old) ≡ true }
         requires count { length inputs.now ≡ moving_count (opcode_of self.old) }

@@ -1,4 +1,4 @@
-use Rattle.std.proofs.Common.{◌+◌, ◌++◌, ◌∷◌, [], length, refl, ap, ◌∙◌, arith}
+use Rattle.std.proofs.Common.{◌++◌, ◌∷◌, [], length, refl, ap, ◌∙◌, arith}
 use Rattle.std.proofs.lemmas.List.{length-append}
 use Rattle.cs_signal.specs.{Operands.operand_at, Delay.delay_step, inner.Ring.line_in}
 use Rattle.cs_signal.proofs.{Rings.fills, Walks.HasRun_none, Walks.HasRun_step}

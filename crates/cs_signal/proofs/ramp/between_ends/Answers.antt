@@ -1,4 +1,4 @@
-use Rattle.std.proofs.Common.{ℤ, ◌≡◌, ◌+◌, ◌*◌, ◌+ℤ◌, ◌-ℤ◌, ◌*ℤ◌, pos, length, refl, ap, ◌∙◌, subst, sym, arith}
+use Rattle.std.proofs.Common.{ℤ, ◌≡◌, ◌+◌, ◌+ℤ◌, ◌-ℤ◌, ◌*ℤ◌, pos, length, refl, ap, ◌∙◌, subst, sym, arith}
 use Rattle.std.proofs.lemmas.Int.{ints}
 use Rattle.cs_base.specs.Numbers.{IsRaw, clamp}
 use Rattle.cs_base.proofs.Arithmetic.{clamp_same}

@@ -1,6 +1,6 @@
 use Rattle.std.proofs.Common.{◌≡◌, ℕ, ◌∷◌, [], ◌++◌, ℤ, length, map, take, refl, ap, sym, ◌∙◌, arith}
 use Rattle.std.proofs.lemmas.List.{length-set, map-append, take_all, take_more, take_more_set}
-use Rattle.cs_signal.specs.{Operands.inputs_at, Operands.operand_at, declared.operand.Operand.Operand}
+use Rattle.cs_signal.specs.{Operands.operand_at, declared.operand.Operand.Operand}
 use Rattle.cs_signal.proofs.stepwise.gathered.Goals as goal
 
 pub loop-k-init : goal.loop-k-init

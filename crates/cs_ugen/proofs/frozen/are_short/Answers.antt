@@ -1,4 +1,4 @@
-use Rattle.std.proofs.Common.{arith, length, ◌∙◌}
+use Rattle.std.proofs.Common.{arith}
 use Rattle.cs_signal.proofs.Walks.{read}
 use Rattle.cs_ugen.proofs.Shorts.{short_all, short_more}
 use Rattle.cs_ugen.proofs.frozen.are_short.Goals as goal

@@ -12,8 +12,8 @@ returns-in-Some-clause-value g c =
     ∙ ap (λ points. state_run u (λ j. inputs_at c.args.inputs.now j ++ points) n) c.in-Some.ensures
     ∙ runs u (λ j. inputs_at c.args.inputs.now j ++ g.C.Curve.points c.args.curve.now) n
 
-pub returns-in-None-clause-value : goal.returns-in-None-clause-value
-returns-in-None-clause-value g c =
-    c.rendered_wide.ensures.value
+pub returns-else-MAY_BE_SHORT-clause-value : goal.returns-else-MAY_BE_SHORT-clause-value
+returns-else-MAY_BE_SHORT-clause-value g c =
+    c.rendered_on-else-MAY_BE_SHORT.ensures.value
     ∙ runs c.args.self.now (λ j. inputs_at c.args.inputs.now j ++ g.C.Curve.points c.args.curve.now)
     (length c.args.out.now)

@@ -1,0 +1,24 @@
+use Rattle.std.proofs.Common.{◌≡◌, ◌*◌, pos, to_z, of_z, w64, arith, rules}
+use Rattle.std.proofs.lemmas.Int.{ints, to_z-of_z}
+use Rattle.cs_signal.proofs.Products.{IsProduct, product}
+use Rattle.cs_ugen.proofs.curve.scaled.Goals as goal
+
+exact : (c : goal.After-from)
+    → IsProduct w64 (to_z w64 (of_z w64 c.args.difference)) (to_z w64 (of_z w64 c.from.result)) c.args.difference
+    (pos c.args.fraction) (4294967295 * 65535)
+exact c =
+    let fraction : to_z w64 (of_z w64 c.from.result) ≡ pos c.args.fraction = omega (arith, ints) in
+    let near = c.requires.bounded in
+    let few = c.requires.fraction in
+    product w64 _ _ c.args.difference (pos c.args.fraction) 4294967295 65535
+    (to_z-of_z w64 c.args.difference c.ranges.difference) fraction (omega (arith, near)) (omega (arith, ints, few))
+    (search rules)
+
+pub overflow_mul-result : goal.overflow_mul-result
+overflow_mul-result c = (exact c).fits
+
+pub returns-clause-value : goal.returns-clause-value
+returns-clause-value c = (exact c).value
+
+pub returns-clause-bounded : goal.returns-clause-bounded
+returns-clause-bounded c = let most = (exact c).bounded in omega (arith, most)
