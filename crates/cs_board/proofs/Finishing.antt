@@ -4,7 +4,8 @@ use Rattle.std.proofs.Common.{◌≡◌, ℕ, zero, suc, ◌-◌, ◌<◌, List,
 use Rattle.std.proofs.Common.{ap, ◌∙◌, subst, arith, ◌||◌, ne_eqb, IfNone, IfSome, MatchOption}
 use Rattle.cs_board.specs.inner.Sittings.{Beside, ClosesAt}
 use Rattle.cs_graph.specs.Graph.{IsNextOut, NoneOut, Edge}
-use Rattle.cs_board.specs.{Plans.leads_out, Views.closing_from, declared.view.Plan.Plan, declared.view.View.View}
+use Rattle.cs_board.specs.{Plans.leads_out, Views.closing_from, declared.view.Plan.Plan, declared.view.Spot.Spot}
+use Rattle.cs_board.specs.declared.view.View.{View}
 use Rattle.cs_board.proofs.Spots.{leads_out_here}
 
 -- how many edges are ahead
@@ -36,6 +37,17 @@ module _ {J : Type 0} where
 
   pub beside_join : (u v w : View J) → Beside u v → Beside v w → Beside u w
   beside_join u v w a b = grind (arith, common_steps)
+
+  -- a note that is moved, or opened
+  pub beside_moved : (u v : View J) (moving : Option Spot) (owes : List ℕ) → Beside u v
+      → Beside u (record v { moving = moving; owes = owes })
+  beside_moved u v moving owes b = record {
+    doing = b.doing;
+    tries = b.tries;
+    found = b.found;
+    mine = b.mine;
+    seat = record { first = b.seat.first; number = b.seat.number; out = b.seat.out; made = b.seat.made };
+  }
 
   pub closing_next : (k : Plan J) (v : View J) (edges : List (ℕ × ℕ)) (p i : ℕ) (o : Option ℕ) → k.edges ≡ edges
       → v.closing ≡ closing_from k.edges p i

@@ -3,8 +3,9 @@ use Rattle.std.proofs.Common.{◌≡◌, ◌≢◌, ℕ, zero, suc, ◌+◌, ◌
 use Rattle.std.proofs.Common.{true, false, Option, Some, None, refl, sym, ap, ◌∙◌, subst, arith, slice_get, IfNone}
 use Rattle.std.proofs.Common.{is_some}
 use Rattle.std.proofs.lemmas.Bool.{cases_eq}
-use Rattle.cs_board.specs.{Board.IsIdle, Board.IsViewOf, Board.FoundSince, Counts.times, Counts.without, Facts.owed}
-use Rattle.cs_board.specs.{Views.began, Views.missed, declared.view.Plan.Plan, declared.view.View.View}
+use Rattle.cs_board.specs.{Board.IsIdle, Board.IsViewOf, Board.FoundSince, Board.SameSeat, Counts.times}
+use Rattle.cs_board.specs.{Counts.without, Facts.owed, Views.began, Views.missed, declared.view.Plan.Plan}
+use Rattle.cs_board.specs.declared.view.View.{View}
 use Rattle.cs_board.specs.inner.Sittings.{HasTried, Tries, AllTried, tried}
 use Rattle.cs_cells.specs.Meaning.{Meaning}
 use Rattle.cs_board.proofs.Lists.{times-without_le, times-without_same, empty_from_times}
@@ -19,6 +20,14 @@ get_last [] x = refl
 get_last (z ∷ xs) x = get_last xs x
 
 module _ {J : Type 0} where
+  pub same_seat : (u v w : View J) → SameSeat u v → SameSeat v w → SameSeat u w
+  same_seat u v w a b = record {
+    first = b.first ∙ a.first;
+    number = b.number ∙ a.number;
+    out = b.out ∙ a.out;
+    made = b.made ∙ a.made;
+  }
+
   pub tries_join : (u v w : View J) → Tries u v → Tries v w → Tries u w
   tries_join u v w a b = record {
     more = omega (arith, a.more, b.more);
@@ -94,13 +103,7 @@ module _ {J : Type 0} (k : Plan J) where
     more = omega (arith, a.more, b.more);
     tried = λ t l. let r = b.tried t l in (r.0, r.1, r.2, omega (arith, a.more, r.3));
     mine = b.mine ∙ a.mine;
-    same = record {
-      first = b.same.first ∙ a.same.first;
-      number = b.same.number ∙ a.same.number;
-      out =
-          b.same.out ∙ a.same.out;
-      made = b.same.made ∙ a.same.made;
-    };
+    same = same_seat u v w a.same b.same;
   }
 
 -- a view that owes nothing of any note owes nothing
@@ -116,3 +119,7 @@ if_none_map (Some x) P Q f h = h
 pub at_none : {X : Type 0} (o : Option X) (P : Type 0) → is_some o ≡ false → IfNone o P → P
 at_none None P e h = h
 at_none (Some x) P e h = absurd (cc)
+
+pub not_none : {X : Type 0} (o : Option X) (P : Type 0) → is_some o ≡ true → IfNone o P
+not_none None P e = absurd (cc)
+not_none (Some x) P e = tt

@@ -56,16 +56,14 @@ struct BoardBank<'b, J: Job> {
 }
 
 impl<J: Job> Bank for BoardBank<'_, J> {
-    ghost use Rattle.cs_board.specs.inner.Banks.{Frame, frame_of, CanGet, CanSet};
-    ghost use Rattle.cs_board.specs.inner.Sittings.{deed};
+    ghost use Rattle.std.specs.Prelude.{refl};
+    ghost use Rattle.cs_board.specs.inner.{Banks.Frame, Banks.frame_of, Banks.access_at, Sittings.deed};
 
     ghost Rest = { Frame J.row.Denot };
 
     ghost rest = { λ b. frame_of b.board.now b.sitting.now b.sitting.ghost_name };
 
-    ghost can_get = { CanGet J.means };
-
-    ghost can_set = { CanSet J.means };
+    ghost access = { access_at J.means };
 
     ghost cells = { λ b. (deed b.sitting.now.me.0).image };
 
@@ -76,6 +74,8 @@ impl<J: Job> Bank for BoardBank<'_, J> {
     fn set(&mut self, addr: u32, value: Num) {
         self.board.set_cell(self.sitting, addr, value);
     }
+
+    ghost counted = { λ b. refl };
 }
 
 impl<J: Job> Board<J> {

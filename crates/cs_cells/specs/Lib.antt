@@ -1,3 +1,4 @@
+pub mod Access
 pub mod Areas
 pub mod Cells
 pub mod Examples

@@ -1,38 +1,36 @@
 // A row of cells behind addresses.
 ghost use Rattle.std.specs.Prelude.{◌≡◌, ℕ, ℤ, pos, List, ◌<◌, ◌≤◌, ◌+◌, length, map, slice_index_or, slice_set};
 ghost use Rattle.std.specs.List.{range_with_len};
-ghost use Rattle.cs_cells.specs.Cells.{cell, with_row, values};
+ghost use Rattle.cs_cells.specs.{Access.Access, Cells.cell, Cells.with_row, Cells.values};
 
 use cs_base::Num;
 
 /// Cells that a job reads and writes by address, from 0. A cell holds a number of the profile.
 pub trait Bank {
-    // What no call changes: what the bank stands over, and what may be read and set there.
+    // What no call changes: what the bank stands over, and by that what may be done with its cells.
     ghost Rest: { Type 0 };
 
     ghost rest: { Self → Rest };
 
-    ghost can_get: { Rest → ℕ → Type 0 };
-
-    ghost can_set: { Rest → ℕ → Type 0 };
+    ghost access: { Rest → Access };
 
     // The value of each cell, by address.
     ghost cells: { Self → List ℤ };
 
     fn get(&mut self, addr: u32) -> Num
-        requires { can_get (rest self.old) addr }
+        requires { (access (rest self.old)).can_get addr }
         ensures value { result ≡ slice_index_or (cells self.old) addr (pos 0) }
         ensures cells { cells self.new ≡ cells self.old }
         ensures rest { rest self.new ≡ rest self.old };
 
     fn set(&mut self, addr: u32, value: Num)
-        requires { can_set (rest self.old) addr }
+        requires { (access (rest self.old)).can_set addr }
         ensures cells { cells self.new ≡ slice_set (cells self.old) addr value }
         ensures rest { rest self.new ≡ rest self.old };
 
     /// Reads the cells from an address on into a row, one a place.
     fn get_row(&mut self, first: u32, row: &mut [Num])
-        requires get { (j : ℕ) → j < length row.old → can_get (rest self.old) (first + j) }
+        requires get { (j : ℕ) → j < length row.old → (access (rest self.old)).can_get (first + j) }
         requires there { (j : ℕ) → j < length row.old → first + j < length (cells self.old) }
         requires small { first + length row.old ≤ 65536 }
         ensures row { row.new ≡ map (cell (cells self.old)) (range_with_len first (length row.old)) }
@@ -46,17 +44,19 @@ pub trait Bank {
 
     /// Sets the cells from an address on to what a row has, one a place.
     fn set_row(&mut self, first: u32, row: &[Num])
-        requires set { (j : ℕ) → j < length row.now → can_set (rest self.old) (first + j) }
+        requires set { (j : ℕ) → j < length row.now → (access (rest self.old)).can_set (first + j) }
         requires there { (j : ℕ) → j < length row.now → first + j < length (cells self.old) }
         requires small { first + length row.now ≤ 65536 }
         ensures cells { cell (cells self.new) ≡ with_row first (length row.now) (cell row.now) (cell (cells self.old)) }
-        ensures long { length (cells self.new) ≡ length (cells self.old) }
         ensures rest { rest self.new ≡ rest self.old }
     {
         for j in 0..row.len() {
             self.set(first + j as u32, row[j]);
         }
     }
+
+    // There are as many cells as the access says. It stands below the last method, and so each bank proves it.
+    ghost counted: { (bank : Self) → length (cells bank) ≡ (access (rest bank)).count };
 }
 
 /// A bank over a vector of words, one cell a word: its raw number in two's complement. Each may be read and set.
@@ -75,14 +75,15 @@ impl<'w> PlainBank<'w> {
 }
 
 impl Bank for PlainBank<'_> {
+    ghost use Rattle.std.proofs.lemmas.List.{length-map};
+    ghost use Rattle.cs_cells.specs.{Access.full_access, Cells.signed};
+
     // The name of the borrow, and the number of words.
     ghost Rest = { ℕ × ℕ };
 
     ghost rest = { λ b. (b.words.ghost_name, length b.words.now.items) };
 
-    ghost can_get = { λ r a. a < r.1 };
-
-    ghost can_set = { λ r a. a < r.1 };
+    ghost access = { λ r. full_access r.1 };
 
     ghost cells = { λ b. values b.words.now.items };
 
@@ -93,4 +94,6 @@ impl Bank for PlainBank<'_> {
     fn set(&mut self, addr: u32, value: Num) {
         self.words[addr as usize] = value.raw().cast_unsigned();
     }
+
+    ghost counted = { λ b. length-map b.words.now.items signed };
 }

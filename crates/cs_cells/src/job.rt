@@ -1,6 +1,6 @@
 // What runs in a control cycle, such as the performing of one note.
-ghost use Rattle.std.specs.Prelude.{◌≡◌, ℕ, ◌<◌, length};
-ghost use Rattle.cs_cells.specs.Meaning.{Meaning, Frames, Uses, Writes};
+ghost use Rattle.std.specs.Prelude.{◌≡◌};
+ghost use Rattle.cs_cells.specs.{Access.Allows, Meaning.Meaning, Meaning.Frames, Meaning.Uses, Meaning.Writes};
 
 use crate::{Bank, Footprint};
 
@@ -17,9 +17,7 @@ pub trait Job {
 
     /// Runs once. The bank must have each cell that the job uses, and let each be set that it writes.
     fn run<B: Bank>(&mut self, bank: &mut B)
-        requires get { (a : ℕ) → Uses means self.old a → B.can_get (B.rest bank.old) a }
-        requires set { (a : ℕ) → Writes means self.old a → B.can_set (B.rest bank.old) a }
-        requires cells { (a : ℕ) → Uses means self.old a → a < length (B.cells bank.old) }
+        requires { Allows (B.access (B.rest bank.old)) (Uses means self.old) (Writes means self.old) }
         ensures job { self.new ≡ means.after self.old (B.cells bank.old) }
         ensures cells { B.cells bank.new ≡ means.leaves self.old (B.cells bank.old) }
         ensures rest { B.rest bank.new ≡ B.rest bank.old };

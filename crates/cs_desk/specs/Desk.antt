@@ -1,10 +1,11 @@
 -- What stands between two cycles: the cells, the layout, and how much room there is.
-use Rattle.std.specs.Prelude.{ℕ, ◌≤◌, List}
-use Rattle.cs_desk.specs.{Kept.cells_now, Kept.plan_of, declared.desk.Desk.Desk}
+use Rattle.std.specs.Prelude.{◌≡◌, ◌≤◌, ℕ, List, length}
+use Rattle.cs_desk.specs.{Kept.cells_now, Kept.count_now, Kept.plan_of, declared.desk.Desk.Desk}
+use Rattle.cs_desk.specs.inner.Tables.{cells_counted}
 use Rattle.cs_board.specs.{Resting.areas_in, Resting.known_in, Resting.wide, Views.cells_laid, declared.view.Plan.Plan}
-use Rattle.cs_cells.specs.{Cells.Cells, Cells.values, declared.footprint.Area.Area}
+use Rattle.cs_cells.specs.{Areas.word_count, Cells.Cells, Cells.values, declared.footprint.Area.Area}
 use Rattle.cs_graph.specs.Graph.{Dependencies}
-pub use Rattle.cs_desk.specs.Kept.{Standing}
+pub use Rattle.cs_desk.specs.Kept.{Standing, access_of}
 
 module _ {J : Type 0} where
   -- the layout of the cells
@@ -18,6 +19,12 @@ module _ {J : Type 0} where
   -- the value of each cell, by address
   abbrev pub cells : Desk J → Cells
   cells desk = cells_now desk.plain (values (cells_laid (areas desk) (known_in desk.resting.seat)))
+
+  -- there are as many as the layout says
+  pub count_is : (desk : Desk J) → length (cells desk) ≡ word_count (areas desk)
+  count_is desk =
+      count_now desk.plain (values (cells_laid (areas desk) (known_in desk.resting.seat))) (word_count (areas desk))
+      desk.long (cells_counted desk.resting)
 
   -- how many notes a cycle may have, and how many words there are for all that a cycle needs
   abbrev pub note_room : Desk J → ℕ

@@ -69,18 +69,14 @@ impl<J: Job> Desk<J> {
 /// Between two cycles a note's beginning, or the making of a table, reads and sets cells; in a cycle that is the
 /// caller's alone each note does.
 impl<J: Job> Bank for Desk<J> {
-    ghost use Rattle.std.specs.Prelude.{◌<◌};
-    ghost use Rattle.cs_desk.specs.Desk.{Standing, standing, cells};
-    ghost use Rattle.cs_cells.specs.Areas.{word_count};
+    ghost use Rattle.cs_desk.specs.Desk.{Standing, standing, access_of, cells, count_is};
 
     // The table with its rooms, and the layout.
     ghost Rest = { Standing };
 
     ghost rest = { standing };
 
-    ghost can_get = { λ r a. a < word_count r.areas };
-
-    ghost can_set = { λ r a. a < word_count r.areas };
+    ghost access = { access_of };
 
     ghost cells = { cells };
 
@@ -111,6 +107,8 @@ impl<J: Job> Bank for Desk<J> {
             None => self.resting.set_row(first, row),
         }
     }
+
+    ghost counted = { count_is };
 }
 
 /// A row takes the numbers from a place on.

@@ -23,7 +23,7 @@ pub(crate) fn numbers_of<B: Bank>(
     bank: &mut B,
     count: u32,
 ) -> Result<Vec<Num>, AllocError>
-    requires get { (a : ℕ) → a < count → B.can_get (B.rest bank.old) a }
+    requires get { (a : ℕ) → a < count → (B.access (B.rest bank.old)).can_get a }
     requires count { length (B.cells bank.old) ≡ count }
     ensures numbers { IfOk result (λ numbers. numbers.items ≡ B.cells bank.old) }
     ensures cells { B.cells bank.new ≡ B.cells bank.old }
@@ -38,7 +38,7 @@ pub(crate) fn numbers_of<B: Bank>(
 
 /// The cells of a bank, which has `count` of them, become these numbers.
 pub(crate) fn fill<B: Bank>(bank: &mut B, numbers: &[Num], count: u32)
-    requires set { (a : ℕ) → a < count → B.can_set (B.rest bank.old) a }
+    requires set { (a : ℕ) → a < count → (B.access (B.rest bank.old)).can_set a }
     requires cells { length (B.cells bank.old) ≡ count }
     requires numbers { length numbers.now ≡ count }
     ensures cells { B.cells bank.new ≡ numbers.now }

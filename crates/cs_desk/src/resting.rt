@@ -131,18 +131,15 @@ fn read<J: Job>(table: &Berths<J>, seat: &mut Sitting<J>, word: usize) -> u64
 
 /// The cells in the words of the table.
 impl<J: Job> Bank for RestingTable<J> {
-    ghost use Rattle.std.specs.Prelude.{◌<◌};
-    ghost use Rattle.cs_desk.specs.{Kept.Standing, inner.Tables.standing_of, inner.Tables.cells_in};
-    ghost use Rattle.cs_cells.specs.Areas.{word_count};
+    ghost use Rattle.cs_desk.specs.Kept.{Standing, access_of};
+    ghost use Rattle.cs_desk.specs.inner.Tables.{standing_of, cells_in, cells_counted};
 
     // The table with its rooms, and the layout.
     ghost Rest = { Standing };
 
     ghost rest = { standing_of };
 
-    ghost can_get = { λ r a. a < word_count r.areas };
-
-    ghost can_set = { λ r a. a < word_count r.areas };
+    ghost access = { access_of };
 
     ghost cells = { cells_in };
 
@@ -159,6 +156,8 @@ impl<J: Job> Bank for RestingTable<J> {
             value.raw().cast_unsigned(),
         );
     }
+
+    ghost counted = { cells_counted };
 }
 
 /// The berth in a slot gives way to another while the board rests, and comes back.

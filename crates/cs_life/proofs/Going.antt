@@ -4,7 +4,7 @@ use Rattle.std.proofs.Common.{[], ◌++◌, length, length-drop, take, drop, get
 use Rattle.std.proofs.Common.{ap, subst, arith}
 use Rattle.std.specs.{List.All, List.filter, List.Sorted.IsPartitionPoint}
 use Rattle.std.proofs.lemmas.{Bool.Decides.nat_tests, List.take_more}
-use Rattle.cs_cells.specs.{Areas.word_count, Cells.Cells}
+use Rattle.cs_cells.specs.{Access.Access, Access.AllowsBelow, Areas.word_count, Cells.Cells}
 use Rattle.cs_piece_meaning.specs.{Course.begins, Course.events_in, Course.still, Moments.Composition, Moments.Moment}
 use Rattle.cs_piece_meaning.specs.Starts.{act_done, all_done, all_waited, made_table, start_in}
 use Rattle.cs_gen.specs.Points.{points_of}
@@ -16,16 +16,16 @@ use Rattle.cs_life.specs.inner.Doing.{CanBeDone, CanBeMade, CanGoOn, HasGoneOn}
 use Rattle.cs_tempo.specs.declared.plot.EventAct.TheVariants as act
 
 -- what has gone on can go on
-pub goes_on : {get set get' set' : ℕ → Type 0} {leads : Moment → Moment} {life new : Life}
-    {voices after : List VoiceData} {cells left : Cells} → get' ≡ get → set' ≡ set → new.setup.now ≡ life.setup.now
-    → HasGoneOn leads life voices cells new after left → CanGoOn get set life voices cells
-    → CanGoOn get' set' new after left
-goes_on {leads = leads} {new = new} {after = after} {left = left} same_get same_set setup done h = record {
+pub goes_on : {access access' : Access} {leads : Moment → Moment} {life new : Life}
+    {voices after : List VoiceData} {cells left : Cells} → access' ≡ access → new.setup.now ≡ life.setup.now
+    → HasGoneOn leads life voices cells new after left → CanGoOn access life voices cells
+    → CanGoOn access' new after left
+goes_on {access} {access'} {leads} {life} {new} {voices} {after} {cells} {left} same setup done h = record {
   moment = leads h.moment;
   stands = subst (λ x. StandsFor (composition_of x) new after left (leads h.moment)) (sym setup)
       (done.to h.moment h.stands);
-  gets = λ a lt. subst (λ P. P a) (sym same_get) (h.gets a (subst (λ x. a < word_count x.layout) setup lt));
-  sets = λ a lt. subst (λ P. P a) (sym same_set) (h.sets a (subst (λ x. a < word_count x.layout) setup lt));
+  allows = subst (λ x. AllowsBelow access' (word_count x.layout)) (sym setup)
+      (subst (λ a. AllowsBelow a (word_count life.setup.now.layout)) (sym same) h.allows);
 }
 
 -- one thing, and then another

@@ -6,12 +6,13 @@ use Rattle.std.specs.{Global.Vec, Option.is_some}
 use Rattle.std.proofs.lemmas.Bool.{and_parts}
 use Rattle.cs_base.specs.declared.resource.Res.{Res}
 use Rattle.cs_ir.specs.Waves.{Wave}
-use Rattle.cs_cells.specs.{Areas.IsLaid, Areas.word_count, declared.footprint.Area.Area}
+use Rattle.cs_cells.specs.{Access.Access, Access.AllowsBelow, Areas.IsLaid, Areas.word_count}
+use Rattle.cs_cells.specs.declared.footprint.Area.{Area}
 use Rattle.cs_cells.specs.Cells.{Cells, cell, in_area}
 use Rattle.cs_cells.proofs.Laid.{area_within}
 use Rattle.cs_meaning.specs.Plain.{Table, find_table, shared_with}
 use Rattle.cs_rwset.specs.Footprints.{stock_of}
-use Rattle.cs_machine.specs.Access.{CanTouch, row_wave}
+use Rattle.cs_machine.specs.Access.{CanSet, row_wave}
 use Rattle.cs_voice_meaning.specs.Placing.{HasArea, area_of, with_wave}
 use Rattle.cs_voice_meaning.proofs.{Naming.found_number, Placed.area_at, Shared.written_reads}
 use Rattle.cs_piece.specs.VoicesOfNotes.{Hold}
@@ -66,10 +67,11 @@ module _ {c : Composition} {life : Life} {v : Vec Bool} {voices : List VoiceData
   same_cells e = flagged m.shared (subst (λ x. Hold life.stage.layout.now (cell x) m.shared) (sym e) h.stand.hold)
       (ap length e)
 
-  by_table : (o : Option Table) → PointsWritten (is_in_cells o) life.stage.layout.now n points cells new
+  by_table : length new ≡ length cells → (o : Option Table)
+      → PointsWritten (is_in_cells o) life.stage.layout.now n points cells new
       → StandsFor c (record life { made = v }) voices new (with_points o n points (record m { made = n ∷ m.made }))
-  by_table None w = same_cells w
-  by_table (Some t) w = by (is_some t.frozen) w
+  by_table long None w = same_cells w
+  by_table long (Some t) w = by (is_some t.frozen) w
     where
       after : Res → Wave
       after = shared_with (res.Table n) (λ j. slice_index_or points j (pos 0)) m.shared
@@ -86,14 +88,14 @@ module _ {c : Composition} {life : Life} {v : Vec Bool} {voices : List VoiceData
           (h.stand.stage_is.placed life.made.items [] (fit h)) (λ g has. has) (res.Table n) w.0 (row_wave points)
           (cell cells)
           m.shared w.1 (row_ends points w.0.length w.2) h.stand.hold))
-          w.4
+          long
 
   -- a table has been made: the points of the first of the number are cells, and were written, or all cells stay
   pub stands_made : (row : List ℤ) → row ≡ points → (b : Bool) → has_cells life.stage.tables.now n ≡ b
-      → PointsWritten b life.stage.layout.now n row cells new
+      → PointsWritten b life.stage.layout.now n row cells new → length new ≡ length cells
       → StandsFor c (record life { made = v }) voices new (made_table c n points m)
-  stands_made row same b there w =
-      by_table (find_table c.tables (pos n))
+  stands_made row same b there w long =
+      by_table long (find_table c.tables (pos n))
       (subst (λ x. PointsWritten x life.stage.layout.now n points cells new)
       (sym there ∙ cells_of_first life.stage.tables.now c.tables n h.stand.stage_is.tables)
       (subst (λ xs. PointsWritten b life.stage.layout.now n xs cells new) same w))
@@ -114,29 +116,28 @@ live_one (Some t) h = record { t = t; is = refl; live = unfrozen t.frozen h }
     unfrozen (Some points) h = absurd cc
 
 -- each cell of an area of the layout is one of the piece
-in_piece : (can : ℕ → Type 0) (areas : List Area) (count : ℕ) (g : Res) (a : Area) → IsLaid areas
-    → area_of areas g ≡ Some a → count ≡ word_count areas
-    → ((k : ℕ) → k < word_count areas → can k) → CanTouch can count a
-in_piece can areas count g a laid at long all =
+in_piece : (access : Access) (areas : List Area) (g : Res) (a : Area) → IsLaid areas
+    → area_of areas g ≡ Some a → AllowsBelow access (word_count areas) → CanSet access a
+in_piece access areas g a laid at allows =
     let place = area_at areas g a at in
     let end : a.first + a.length ≤ word_count areas = area_within areas place.0 a laid place.1 in
     record {
-      can = λ k inside. all k (let below : k < a.first + a.length = before k inside in omega arith);
-      within = λ k inside. let below : k < a.first + a.length = before k inside in omega arith;
+      can = λ k inside. allows.set k (let below : k < a.first + a.length = before k inside in omega arith);
+      within = λ k inside. allows.there k (let below : k < a.first + a.length = before k inside in omega arith);
     }
   where
     before : (k : ℕ) → in_area (Some a) k ≡ true → k < a.first + a.length
     before k h = ltb-true k (a.first + a.length) (and_parts (nat_le a.first k) (nat_lt k (a.first + a.length)) h).1
 
 -- the area of a table that is given can be written, and has a cell a point
-pub area_ready : (can : ℕ → Type 0) (c : Composition) (life : Life) (voices : List VoiceData) (cells : Cells)
+pub area_ready : (access : Access) (c : Composition) (life : Life) (voices : List VoiceData) (cells : Cells)
     (m : Moment) (n : ℕ) (row : List ℤ)
     (size gen : ℤ) (args : List ℤ) → StandsFor c life voices cells m → CanBeMade c n size gen args
     → has_cells life.stage.tables.now n ≡ true
-    → pos (length row) ≡ size → ((a : ℕ) → a < word_count life.setup.now.layout → can a)
+    → pos (length row) ≡ size → AllowsBelow access (word_count life.setup.now.layout)
     → (x : Area) × (area_of life.stage.layout.now (res.Table n) ≡ Some x) × (length row ≡ x.length)
-    × CanTouch can (length cells) x
-area_ready can c life voices cells m n row size gen args h given there long sets =
+    × CanSet access x
+area_ready access c life voices cells m n row size gen args h given there long allows =
     let ts = life.stage.tables.now in
     let e = h.stand.stage_is.tables in
     let flags = life.made.items in
@@ -155,6 +156,6 @@ area_ready can c life voices cells m n row size gen args h given there long sets
       has.0,
       at,
       many ∙ sym w.size ∙ sym (placed.size has.0 has.1),
-      in_piece can life.stage.layout.now (length cells) (res.Table n) has.0 h.stand.stage_is.laid at h.stand.long
-          (λ k lt. sets k (subst (λ areas. k < word_count areas) h.layout lt)),
+      in_piece access life.stage.layout.now (res.Table n) has.0 h.stand.stage_is.laid at
+          (subst (λ areas. AllowsBelow access (word_count areas)) (sym h.layout) allows),
     )

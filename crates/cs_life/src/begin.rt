@@ -1,7 +1,7 @@
 // The notes of a cycle begin.
-ghost use Rattle.std.specs.Prelude.{◌≡◌, ◌<◌, ◌==◌, ℕ, filter, length, true, IfOk, OnOk};
+ghost use Rattle.std.specs.Prelude.{◌≡◌, ◌==◌, filter, true, IfOk, OnOk};
 ghost use Rattle.std.specs.{List.All, List.Sorted.IsNonDecreasingBy};
-ghost use Rattle.cs_cells.specs.Areas.{word_count};
+ghost use Rattle.cs_cells.specs.{Access.AllowsBelow, Areas.word_count};
 ghost use Rattle.cs_piece_meaning.specs.{Course.begins, Moments.Moment};
 ghost use Rattle.cs_piece_meaning.specs.Starts.{act_done, all_done, all_waited};
 ghost use Rattle.cs_life.specs.Standing.{Grew, StandsFor};
@@ -33,15 +33,13 @@ impl<'t> Life<'t> {
     ) -> Result<bool, OutOfMemory>
         requires stands { (m : Moment) × StandsFor (composition_of self.old.setup.now) self.old voices.old.items
             (B.cells bank.old) m }
-        requires get { (a : ℕ) → a < word_count self.old.setup.now.layout → B.can_get (B.rest bank.old) a }
-        requires set { (a : ℕ) → a < word_count self.old.setup.now.layout → B.can_set (B.rest bank.old) a }
+        requires access { AllowsBelow (B.access (B.rest bank.old)) (word_count self.old.setup.now.layout) }
         ensures begun { OnOk result ((m : Moment) → StandsFor
             (composition_of self.old.setup.now) self.old voices.old.items (B.cells bank.old) m
             → StandsFor (composition_of self.old.setup.now) self.new voices.new.items (B.cells bank.new)
             (begins (composition_of self.old.setup.now) cycle m)) }
         ensures same { IfOk result (λ stay. stay ≡ true → voices.new.items ≡ voices.old.items) }
         ensures setup { self.new.setup.now ≡ self.old.setup.now }
-        ensures long { length (B.cells bank.new) ≡ length (B.cells bank.old) }
         ensures rest { B.rest bank.new ≡ B.rest bank.old }
     {
         let playing = voices.len();
@@ -63,14 +61,12 @@ impl<'t> Life<'t> {
         voices: &mut Vec<Voice<'t>>,
         bank: &mut B,
     ) -> Result<(), OutOfMemory>
-        requires able { CanGoOn (B.can_get (B.rest bank.old))
-            (B.can_set (B.rest bank.old)) self.old voices.old.items (B.cells bank.old) }
+        requires able { CanGoOn (B.access (B.rest bank.old)) self.old voices.old.items (B.cells bank.old) }
         requires events { All (λ (e : Event). CanBeDone (composition_of self.old.setup.now) e.act) events.now }
         ensures done { OnOk result (HasGoneOn (all_done (composition_of self.old.setup.now) events.now)
             self.old voices.old.items (B.cells bank.old) self.new voices.new.items (B.cells bank.new)) }
         ensures grown { OnOk result (Grew voices.old.items voices.new.items) }
         ensures setup { self.new.setup.now ≡ self.old.setup.now }
-        ensures long { length (B.cells bank.new) ≡ length (B.cells bank.old) }
         ensures rest { B.rest bank.new ≡ B.rest bank.old }
     {
         for event in events {
@@ -87,15 +83,13 @@ impl<'t> Life<'t> {
         voices: &mut Vec<Voice<'t>>,
         bank: &mut B,
     ) -> Result<(), OutOfMemory>
-        requires able { CanGoOn (B.can_get (B.rest bank.old))
-            (B.can_set (B.rest bank.old)) self.old voices.old.items (B.cells bank.old) }
+        requires able { CanGoOn (B.access (B.rest bank.old)) self.old voices.old.items (B.cells bank.old) }
         requires event { CanBeDone (composition_of self.old.setup.now) event.now.act }
         ensures done { OnOk result (HasGoneOn (act_done
             (composition_of self.old.setup.now) event.now.cycle event.now.act)
             self.old voices.old.items (B.cells bank.old) self.new voices.new.items (B.cells bank.new)) }
         ensures grown { OnOk result (Grew voices.old.items voices.new.items) }
         ensures setup { self.new.setup.now ≡ self.old.setup.now }
-        ensures long { length (B.cells bank.new) ≡ length (B.cells bank.old) }
         ensures rest { B.rest bank.new ≡ B.rest bank.old }
     {
         match &event.act {
@@ -138,13 +132,11 @@ impl<'t> Life<'t> {
         voices: &mut Vec<Voice<'t>>,
         bank: &mut B,
     ) -> Result<(), OutOfMemory>
-        requires able { CanGoOn (B.can_get (B.rest bank.old))
-            (B.can_set (B.rest bank.old)) self.old voices.old.items (B.cells bank.old) }
+        requires able { CanGoOn (B.access (B.rest bank.old)) self.old voices.old.items (B.cells bank.old) }
         ensures started { OnOk result (HasGoneOn (all_waited (composition_of self.old.setup.now) cycle)
             self.old voices.old.items (B.cells bank.old) self.new voices.new.items (B.cells bank.new)) }
         ensures grown { OnOk result (Grew voices.old.items voices.new.items) }
         ensures setup { self.new.setup.now ≡ self.old.setup.now }
-        ensures long { length (B.cells bank.new) ≡ length (B.cells bank.old) }
         ensures rest { B.rest bank.new ≡ B.rest bank.old }
     {
         for _ in 0..MOST_ASKS {

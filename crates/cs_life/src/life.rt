@@ -1,6 +1,6 @@
 // What is kept of a performance beside its cells and the voices of its notes.
-ghost use Rattle.std.specs.Prelude.{◌≡◌, ◌<◌, ℕ, [], false, length, pos, replicate, IfOk, OnOk};
-ghost use Rattle.cs_cells.specs.{Areas.word_count, Cells.cell};
+ghost use Rattle.std.specs.Prelude.{◌≡◌, [], false, pos, replicate, IfOk, OnOk};
+ghost use Rattle.cs_cells.specs.{Access.AllowsBelow, Areas.word_count, Cells.cell};
 ghost use Rattle.cs_piece_meaning.specs.Course.{opening, outside_done};
 ghost use Rattle.cs_life.specs.Standing.{StandsFor, flags_of};
 ghost use Rattle.cs_piece.specs.{VoicesOfNotes.Hold, Ready.IsStageOf, Setups.composition_of};
@@ -33,8 +33,7 @@ impl<'t> Life<'t> {
         bank: &mut B,
     ) -> Result<Life<'t>, OutOfMemory>
         requires cells { B.cells bank.old ≡ replicate (word_count setup.now.layout) (pos 0) }
-        requires get { (a : ℕ) → a < word_count setup.now.layout → B.can_get (B.rest bank.old) a }
-        requires set { (a : ℕ) → a < word_count setup.now.layout → B.can_set (B.rest bank.old) a }
+        requires access { AllowsBelow (B.access (B.rest bank.old)) (word_count setup.now.layout) }
         ensures stands { IfOk result (λ life. StandsFor (composition_of setup.now) life [] (B.cells bank.new)
             (opening (composition_of setup.now))) }
         ensures setup { IfOk result (λ life. life.setup.now ≡ setup.now) }
@@ -96,11 +95,9 @@ fn begin_outside<'t, B: Bank>(
     requires zones { stage.zones.now ≡ setup.now.zones }
     requires made { made.now ≡ flags_of (composition_of setup.now).tables [] }
     requires cells { B.cells bank.old ≡ replicate (word_count setup.now.layout) (pos 0) }
-    requires get { (a : ℕ) → a < word_count setup.now.layout → B.can_get (B.rest bank.old) a }
-    requires set { (a : ℕ) → a < word_count setup.now.layout → B.can_set (B.rest bank.old) a }
+    requires access { AllowsBelow (B.access (B.rest bank.old)) (word_count setup.now.layout) }
     ensures hold { OnOk result (Hold setup.now.layout (cell (B.cells bank.new))
         (outside_done (composition_of setup.now)).world.shared) }
-    ensures long { length (B.cells bank.new) ≡ length (B.cells bank.old) }
     ensures rest { B.rest bank.new ≡ B.rest bank.old }
 {
     let Playable { instrument, foot } = setup.outside();

@@ -2,7 +2,7 @@
 ghost use Rattle.std.specs.Prelude.{◌≡◌, ◌+◌, ◌<◌, ◌==◌, ◌||◌, ℕ, ℤ, pos, true, List, length, nat_lt, slice_index_or};
 ghost use Rattle.std.specs.{Prelude.OnOk, List.Sorted.IsNonDecreasingBy};
 ghost use Rattle.cs_base.specs.Limits.{most_notes};
-ghost use Rattle.cs_cells.specs.{Areas.word_count, Cells.Cells};
+ghost use Rattle.cs_cells.specs.{Access.AllowsBelow, Areas.word_count, Cells.Cells};
 ghost use Rattle.cs_piece_meaning.specs.{Moments.Composition, Moments.Moment, Moments.clock_of, Starts.start_of};
 ghost use Rattle.cs_piece_meaning.specs.Starts.{Start, begun, entered, has_room, in_vain, initialised, start_in};
 ghost use Rattle.cs_life.specs.Standing.{Grew, StandsFor};
@@ -34,15 +34,13 @@ impl<'t> Life<'t> {
     ) -> Result<(), OutOfMemory>
         requires stands { (m : Moment) × StandsFor (composition_of self.old.setup.now) self.old voices.old.items
             (B.cells bank.old) m }
-        requires get { (a : ℕ) → a < word_count self.old.setup.now.layout → B.can_get (B.rest bank.old) a }
-        requires set { (a : ℕ) → a < word_count self.old.setup.now.layout → B.can_set (B.rest bank.old) a }
+        requires access { AllowsBelow (B.access (B.rest bank.old)) (word_count self.old.setup.now.layout) }
         ensures started { OnOk result ((m : Moment)
             → StandsFor (composition_of self.old.setup.now) self.old voices.old.items (B.cells bank.old) m
             → StandsFor (composition_of self.old.setup.now) self.new voices.new.items (B.cells bank.new)
             (start_in (composition_of self.old.setup.now) note.cycle (start_of note) m)) }
         ensures grown { OnOk result (Grew voices.old.items voices.new.items) }
         ensures setup { self.new.setup.now ≡ self.old.setup.now }
-        ensures long { length (B.cells bank.new) ≡ length (B.cells bank.old) }
         ensures rest { B.rest bank.new ≡ B.rest bank.old }
     {
         let setup = self.setup;
@@ -85,8 +83,7 @@ impl<'t> Life<'t> {
             × IsInstrumentOf self.old.stage playable.instrument.now playable.foot.now body }
         requires stands { (m : Moment) × StandsFor (composition_of self.old.setup.now) self.old voices.old.items
             (B.cells bank.old) m }
-        requires get { (a : ℕ) → a < word_count self.old.setup.now.layout → B.can_get (B.rest bank.old) a }
-        requires set { (a : ℕ) → a < word_count self.old.setup.now.layout → B.can_set (B.rest bank.old) a }
+        requires access { AllowsBelow (B.access (B.rest bank.old)) (word_count self.old.setup.now.layout) }
         ensures begun { let c : Composition = composition_of self.old.setup.now in
             let s : Start = start_of note in
             OnOk result ((body : Block) (m : Moment)
@@ -97,7 +94,6 @@ impl<'t> Life<'t> {
             (initialised c note.cycle s body (begun c m.made s body m) m)) }
         ensures grown { OnOk result (Grew voices.old.items voices.new.items) }
         ensures setup { self.new.setup.now ≡ self.old.setup.now }
-        ensures long { length (B.cells bank.new) ≡ length (B.cells bank.old) }
         ensures rest { B.rest bank.new ≡ B.rest bank.old }
     {
         let Due {

@@ -1,8 +1,8 @@
 // A table of the score is made while notes play.
-ghost use Rattle.std.specs.Prelude.{◌≡◌, ◌<◌, ℕ, List, length, true, OnOk, Some};
-ghost use Rattle.cs_machine.specs.Access.{CanTouch, row_wave};
+ghost use Rattle.std.specs.Prelude.{◌≡◌, List, length, true, OnOk, Some};
+ghost use Rattle.cs_machine.specs.Access.{CanSet, row_wave};
 ghost use Rattle.cs_base.specs.declared.resource.Res.TheVariants as res;
-ghost use Rattle.cs_cells.specs.{Areas.word_count, Cells.cell, declared.footprint.Area.Area};
+ghost use Rattle.cs_cells.specs.{Access.AllowsBelow, Areas.word_count, Cells.cell, declared.footprint.Area.Area};
 ghost use Rattle.cs_piece_meaning.specs.{Moments.Moment, Starts.made_table};
 ghost use Rattle.cs_gen.specs.Points.{points_of};
 ghost use Rattle.cs_life.specs.{Standing.StandsFor, inner.Doing.CanBeMade};
@@ -30,7 +30,7 @@ impl<'t> Life<'t> {
     ) -> Result<(), OutOfMemory>
         requires stands { (voices : List VoiceData) × (m : Moment)
             × StandsFor (composition_of self.old.setup.now) self.old voices (B.cells bank.old) m }
-        requires set { (a : ℕ) → a < word_count self.old.setup.now.layout → B.can_set (B.rest bank.old) a }
+        requires access { AllowsBelow (B.access (B.rest bank.old)) (word_count self.old.setup.now.layout) }
         requires table { CanBeMade (composition_of self.old.setup.now) table.number table.size table.gen_
             table.args.now }
         ensures made { OnOk result ((voices : List VoiceData) (m : Moment)
@@ -39,7 +39,6 @@ impl<'t> Life<'t> {
             (made_table (composition_of self.old.setup.now) table.entry.number
             (points_of table.entry.size table.entry.gen_ table.entry.args.now) m)) }
         ensures setup { self.new.setup.now ≡ self.old.setup.now }
-        ensures long { length (B.cells bank.new) ≡ length (B.cells bank.old) }
         ensures rest { B.rest bank.new ≡ B.rest bank.old }
     {
         let number = table.number as usize;
@@ -81,7 +80,7 @@ fn has_cells(tables: &[PieceTable], number: usize) -> bool
 fn put<B: Bank>(layout: &Layout, number: usize, points: &[Num], bank: &mut B)
     requires there { (area : Area) × (area_of layout.now (res.Table number) ≡ Some area)
         × (length points.now ≡ area.length)
-        × CanTouch (B.can_set (B.rest bank.old)) (length (B.cells bank.old)) area }
+        × CanSet (B.access (B.rest bank.old)) area }
     ensures written { PointsWritten true layout.now number points.now (B.cells bank.old) (B.cells bank.new) }
     ensures rest { B.rest bank.new ≡ B.rest bank.old }
 {

@@ -12,3 +12,4 @@ pub mod Done
 pub mod Fresh
 pub mod Given
 pub mod Quotients
+pub mod Zeros

@@ -5,18 +5,17 @@ use Rattle.std.proofs.lemmas.{Bool.and_parts, Bool.Decides.nat_tests, List.FromF
 use Rattle.std.specs.List.{range_with_len}
 use Rattle.cs_base.proofs.Tests.{by_test}
 use Rattle.cs_ir.specs.Waves.{Wave, constant}
-use Rattle.cs_cells.specs.{Cells.cell, Cells.in_area, Cells.with_row, declared.footprint.Area.Area}
+use Rattle.cs_cells.specs.{Access.Access, Cells.cell, Cells.in_area, Cells.with_row, declared.footprint.Area.Area}
 use Rattle.cs_cells.proofs.Rows.{with_row_none, with_row_more}
 use Rattle.cs_signal.specs.Operands.{argument}
 use Rattle.cs_voice_meaning.specs.Placing.{wave_in, with_wave}
-use Rattle.cs_machine.specs.Access.{CanTouch}
+use Rattle.cs_machine.specs.Access.{CanSet, CanTouch}
 use Rattle.cs_base.specs.declared.resource.Rate.TheVariants as rate
 
--- what may be touched stays so as long as a bank stands on the same, with as many cells
-pub touch_again : {S : Type 0} (can : S → ℕ → Type 0) (r s : S) (m n : ℕ) (area : Area) → s ≡ r → n ≡ m
-    → CanTouch (can r) m area → CanTouch (can s) n area
-touch_again can r s m n area rest long h =
-    subst (λ q. CanTouch (can q) n area) (sym rest) (subst (λ k. CanTouch (can r) k area) (sym long) h)
+-- what may be set stays so as long as a bank stands on the same
+pub set_again : {S : Type 0} (access : S → Access) (r s : S) (area : Area) → s ≡ r
+    → CanSet (access r) area → CanSet (access s) area
+set_again access r s area rest h = subst (λ q. CanSet (access q) area) (sym rest) h
 
 -- a cell of an area
 pub in_here : (area : Area) (j : ℕ) → j < area.length → in_area (Some area) (area.first + j) ≡ true
@@ -26,9 +25,10 @@ pub can_here : (can : ℕ → Type 0) (n : ℕ) (area : Area) (j a : ℕ) → Ca
     → a ≡ area.first + j → can a
 can_here can n area j a h low is = subst can (sym is) (h.can (area.first + j) (in_here area j low))
 
-pub within_here : (can : ℕ → Type 0) (n : ℕ) (area : Area) (j : ℕ) → CanTouch can n area → j < area.length
-    → area.first + j < n
-within_here can n area j h low = h.within (area.first + j) (in_here area j low)
+pub within_here : (can : ℕ → Type 0) (n : ℕ) (cells : List ℤ) (area : Area) (j : ℕ) → length cells ≡ n
+    → CanTouch can n area → j < area.length → area.first + j < length cells
+within_here can n cells area j counted h low =
+    subst (λ m. area.first + j < m) (sym counted) (h.within (area.first + j) (in_here area j low))
 
 -- what a frame of an area holds
 pub frame_in : (area : Area) (cells : ℕ → ℤ) (j : ℕ) → j < area.length

@@ -4,7 +4,7 @@ use Rattle.std.specs.{List.range_with_len, Option.is_some}
 use Rattle.cs_words.specs.declared.catalogue.Space.{Space}
 use Rattle.cs_base.specs.declared.spaces.Spaces.{Spaces}
 use Rattle.cs_ir.specs.Resources.{places_of, zak_place}
-use Rattle.cs_cells.specs.{Cells.in_area, declared.footprint.Area.Area}
+use Rattle.cs_cells.specs.{Access.Access, Cells.in_area, declared.footprint.Area.Area}
 use Rattle.cs_rwset.specs.Footprints.{stock_of}
 use Rattle.cs_voice_meaning.specs.Placing.{area_of, wave_in}
 use Rattle.cs_base.specs.declared.resource.Rate.TheVariants as rate
@@ -14,6 +14,13 @@ pub use Rattle.cs_machine.specs.Rows.{row_wave}
 pub record CanTouch (allowed : ℕ → Type 0) (count : ℕ) (area : Area) : Type 0 where
   pub can : (a : ℕ) → in_area (Some area) a ≡ true → allowed a
   pub within : (a : ℕ) → in_area (Some area) a ≡ true → a < count
+
+-- each may be read; each may be set
+abbrev pub CanGet : Access → Area → Type 0
+CanGet access area = CanTouch access.can_get access.count area
+
+abbrev pub CanSet : Access → Area → Type 0
+CanSet access area = CanTouch access.can_set access.count area
 
 -- the zak spaces of a layout: as many places as have an area
 abbrev pub spaces_of : List Area → Spaces

@@ -2,8 +2,8 @@
 use Rattle.std.specs.Prelude.{ℕ, ◌≡◌, ◌+◌, ◌≤◌, true}
 use Rattle.cs_gen.specs.Points.{guard_place, len_of}
 use Rattle.cs_ugen.specs.Points.{is_len}
-use Rattle.cs_cells.specs.declared.footprint.Area.{Area}
-use Rattle.cs_machine.specs.Access.{CanTouch}
+use Rattle.cs_cells.specs.{Access.Access, declared.footprint.Area.Area}
+use Rattle.cs_machine.specs.Access.{CanGet}
 
 -- the name of the loan, the bank, and the table's area
 pub record LiveOver (B : Type 0) : Type 0 where
@@ -12,8 +12,8 @@ pub record LiveOver (B : Type 0) : Type 0 where
   pub area : Area
 
 -- An area has a table's points, which may be read, with so many before the guard point and the guard point at a place.
-pub record IsLive (allowed : ℕ → Type 0) (count : ℕ) (area : Area) (len guard : ℕ) : Type 0 where
-  pub read : CanTouch allowed count area
+pub record IsLive (access : Access) (area : Area) (len guard : ℕ) : Type 0 where
+  pub read : CanGet access area
   pub small : area.first + area.length ≤ 65536
   pub power : is_len (len_of area.length) ≡ true
   pub len_is : len ≡ len_of area.length

@@ -1,8 +1,8 @@
 -- Players: a unit of a note, with the table that it was started with.
 use Rattle.std.specs.Prelude.{ℕ, ℤ, ◌≡◌, Bool, true, ◌||◌, ◌+◌, ◌≤◌, List, [], Option, Some, None}
 use Rattle.std.specs.Option.{is_some}
-use Rattle.cs_machine.specs.Access.{CanTouch, live_points}
-use Rattle.cs_cells.specs.declared.footprint.Area.{Area}
+use Rattle.cs_machine.specs.Access.{CanGet, live_points}
+use Rattle.cs_cells.specs.{Access.Access, declared.footprint.Area.Area}
 use Rattle.cs_gen.specs.{Points.len_of, Tables.curve_of}
 use Rattle.cs_ir.specs.Waves.{Wave}
 use Rattle.cs_ugen.specs.{Points.is_len, declared.unit.UnitState.UnitState}
@@ -32,9 +32,9 @@ abbrev pub has_table : PlayerData → Bool
 has_table p = is_some p.points || is_some p.area
 
 -- the unit reads a table exactly where the player has one, and a live one can be read
-pub record CanRead (can : ℕ → Type 0) (count : ℕ) (p : PlayerData) : Type 0 where
+pub record CanRead (access : Access) (p : PlayerData) : Type 0 where
   pub reads : reads_table (opcode_of p.state) ≡ has_table p
-  pub live : (area : Area) → p.area ≡ Some area → CanTouch can count area
+  pub live : (area : Area) → p.area ≡ Some area → CanGet access area
   pub power : (area : Area) → p.area ≡ Some area → is_len (len_of area.length) ≡ true
   pub small : (area : Area) → p.area ≡ Some area → area.first + area.length ≤ 65536
 

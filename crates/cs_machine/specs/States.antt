@@ -9,7 +9,7 @@ use Rattle.cs_ugen.specs.{Points.is_len, Units.opcode_of}
 use Rattle.cs_signal.specs.Operands.{argument}
 use Rattle.cs_ir.specs.{Machine.Machine, Machine.acts, Resources.Stock, Resources.act_uses, Resources.act_writes}
 use Rattle.cs_ir.specs.{declared.op.Act.Act, declared.register.Counts.Counts, declared.register.Reg.Reg}
-use Rattle.cs_cells.specs.declared.footprint.Area.{Area}
+use Rattle.cs_cells.specs.{Access.Access, declared.footprint.Area.Area}
 use Rattle.cs_meaning.specs.{Model.Cause, Pieces.Piece, Pieces.Table, Pieces.find_table}
 use Rattle.cs_machine.specs.{Registers.values, Outputs.outs, Access.CanTouch, Players.PlayerData, Players.has_table}
 use Rattle.cs_machine.specs.{Players.playing, declared.state.State.State, declared.state.NoteSetting.NoteSetting}
@@ -107,9 +107,14 @@ DoesAt at act into from old new = (areas : List Area) (piece : Piece) (kinds : K
 abbrev pub MayTouch : (ℕ → Type 0) → ℕ → List Area → Res → Type 0
 MayTouch allowed count areas g = (area : Area) × (area_of areas g ≡ Some area) × CanTouch allowed count area
 
+abbrev pub MayGet : Access → List Area → Res → Type 0
+MayGet access areas g = MayTouch access.can_get access.count areas g
+
+abbrev pub MaySet : Access → List Area → Res → Type 0
+MaySet access areas g = MayTouch access.can_set access.count areas g
+
 -- An act may be done over a bank: each resource that it may read has cells that may be read, and so with those that it
 -- may write.
-pub record CanDo (can_get can_set : ℕ → Type 0) (count : ℕ) (areas : List Area) (stock : Stock) (act : Act) : Type
-    0 where
-  pub uses : AreNamed (MayTouch can_get count areas) (act_uses stock act)
-  pub writes : AreNamed (MayTouch can_set count areas) (act_writes stock act)
+pub record CanDo (access : Access) (areas : List Area) (stock : Stock) (act : Act) : Type 0 where
+  pub uses : AreNamed (MayGet access areas) (act_uses stock act)
+  pub writes : AreNamed (MaySet access areas) (act_writes stock act)

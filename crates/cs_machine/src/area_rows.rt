@@ -1,6 +1,6 @@
 // Areas as values over a control cycle, a cell a frame.
 ghost use Rattle.std.specs.Prelude.{◌≡◌, ◌+◌, ◌<◌, ◌≤◌, length, slice_set, Some};
-ghost use Rattle.cs_machine.specs.{Access.CanTouch, Rows.HasFrames, Rows.row_wave};
+ghost use Rattle.cs_machine.specs.{Access.CanGet, Access.CanSet, Rows.HasFrames, Rows.row_wave};
 ghost use Rattle.cs_base.specs.declared.resource.Rate.TheVariants as rate;
 ghost use Rattle.cs_cells.specs.Cells.{cell};
 ghost use Rattle.cs_ir.specs.Waves.{constant, silence};
@@ -11,10 +11,13 @@ use crate::outputs::add_row;
 use cs_base::Num;
 use cs_cells::{Area, Bank};
 
+/// How many cells are cleared at once.
+const CLEARED_AT_ONCE: usize = 64;
+
 /// Reads an area into a row of as many places.
 pub fn read_row<B: Bank>(bank: &mut B, area: Area, row: &mut [Num])
     requires row { length row.old ≡ area.length }
-    requires read { CanTouch (B.can_get (B.rest bank.old)) (length (B.cells bank.old)) area }
+    requires read { CanGet (B.access (B.rest bank.old)) area }
     requires small { area.first + area.length ≤ 65536 }
     ensures frames { HasFrames (wave_in rate.Audio area (cell (B.cells bank.old))) row.new }
     ensures row { length row.new ≡ length row.old }
@@ -27,10 +30,9 @@ pub fn read_row<B: Bank>(bank: &mut B, area: Area, row: &mut [Num])
 /// Writes a row into an area of as many cells.
 pub fn write_row<B: Bank>(bank: &mut B, area: Area, row: &[Num])
     requires row { length row.now ≡ area.length }
-    requires write { CanTouch (B.can_set (B.rest bank.old)) (length (B.cells bank.old)) area }
+    requires write { CanSet (B.access (B.rest bank.old)) area }
     requires small { area.first + area.length ≤ 65536 }
     ensures cells { cell (B.cells bank.new) ≡ with_wave (Some area) (row_wave row.now) (cell (B.cells bank.old)) }
-    ensures long { length (B.cells bank.new) ≡ length (B.cells bank.old) }
     ensures rest { B.rest bank.new ≡ B.rest bank.old }
 {
     bank.set_row(area.first, row);
@@ -39,10 +41,9 @@ pub fn write_row<B: Bank>(bank: &mut B, area: Area, row: &[Num])
 /// Writes one value into an area of one cell.
 pub fn write_value<B: Bank>(bank: &mut B, area: Area, value: Num)
     requires one { area.length ≡ 1 }
-    requires write { CanTouch (B.can_set (B.rest bank.old)) (length (B.cells bank.old)) area }
+    requires write { CanSet (B.access (B.rest bank.old)) area }
     requires small { area.first + area.length ≤ 65536 }
     ensures cells { cell (B.cells bank.new) ≡ with_wave (Some area) (constant value) (cell (B.cells bank.old)) }
-    ensures long { length (B.cells bank.new) ≡ length (B.cells bank.old) }
     ensures rest { B.rest bank.new ≡ B.rest bank.old }
 {
     set_frame(bank, area, 0, value);
@@ -52,13 +53,12 @@ pub fn write_value<B: Bank>(bank: &mut B, area: Area, value: Num)
 pub fn mix_row<B: Bank>(bank: &mut B, area: Area, row: &[Num], room: &mut [Num])
     requires row { length row.now ≡ area.length }
     requires room { length room.old ≡ area.length }
-    requires read { CanTouch (B.can_get (B.rest bank.old)) (length (B.cells bank.old)) area }
-    requires write { CanTouch (B.can_set (B.rest bank.old)) (length (B.cells bank.old)) area }
+    requires read { CanGet (B.access (B.rest bank.old)) area }
+    requires write { CanSet (B.access (B.rest bank.old)) area }
     requires small { area.first + area.length ≤ 65536 }
     ensures cells { cell (B.cells bank.new) ≡ with_wave (Some area)
         (added (wave_in rate.Audio area (cell (B.cells bank.old))) (row_wave row.now)) (cell (B.cells bank.old)) }
     ensures room { length room.new ≡ length room.old }
-    ensures long { length (B.cells bank.new) ≡ length (B.cells bank.old) }
     ensures rest { B.rest bank.new ≡ B.rest bank.old }
 {
     read_row(bank, area, room);
@@ -68,21 +68,25 @@ pub fn mix_row<B: Bank>(bank: &mut B, area: Area, row: &[Num], room: &mut [Num])
 
 /// Sets each cell of an area to 0.
 pub(crate) fn clear<B: Bank>(bank: &mut B, area: Area)
-    requires write { CanTouch (B.can_set (B.rest bank.old)) (length (B.cells bank.old)) area }
+    requires write { CanSet (B.access (B.rest bank.old)) area }
     requires small { area.first + area.length ≤ 65536 }
     ensures cells { cell (B.cells bank.new) ≡ with_wave (Some area) silence (cell (B.cells bank.old)) }
-    ensures long { length (B.cells bank.new) ≡ length (B.cells bank.old) }
     ensures rest { B.rest bank.new ≡ B.rest bank.old }
 {
-    for j in 0..area.length as usize {
-        set_frame(bank, area, j, Num::exact(0));
+    let zeros = [Num::exact(0); CLEARED_AT_ONCE];
+    let length = area.length as usize;
+    let mut done = 0;
+    while done < length {
+        let count = zeros.len().min(length - done);
+        bank.set_row(area.first + done as u32, &zeros[..count]);
+        done += count;
     }
 }
 
 /// One cell of an area.
 #[inline(always)]
 pub(crate) fn get_frame<B: Bank>(bank: &mut B, area: Area, frame: usize) -> Num
-    requires read { CanTouch (B.can_get (B.rest bank.old)) (length (B.cells bank.old)) area }
+    requires read { CanGet (B.access (B.rest bank.old)) area }
     requires small { area.first + area.length ≤ 65536 }
     requires frame { frame < area.length }
     ensures value { result ≡ cell (B.cells bank.old) (area.first + frame) }
@@ -95,7 +99,7 @@ pub(crate) fn get_frame<B: Bank>(bank: &mut B, area: Area, frame: usize) -> Num
 /// One cell of an area takes a value.
 #[inline(always)]
 pub(crate) fn set_frame<B: Bank>(bank: &mut B, area: Area, frame: usize, value: Num)
-    requires write { CanTouch (B.can_set (B.rest bank.old)) (length (B.cells bank.old)) area }
+    requires write { CanSet (B.access (B.rest bank.old)) area }
     requires small { area.first + area.length ≤ 65536 }
     requires frame { frame < area.length }
     ensures cells { B.cells bank.new ≡ slice_set (B.cells bank.old) (area.first + frame) value }

@@ -33,7 +33,7 @@ pub fn block<B: Bank>(
     requires row { length row.old ≡ regs.now.ksmps }
     requires unit { IsUnitOpcode (opcode_of player.old.state) }
     requires count { length (regs_read from) ≡ moving_count (opcode_of player.old.state) }
-    requires read { CanRead (B.can_get (B.rest bank.old)) (length (B.cells bank.old)) player.old }
+    requires read { CanRead (B.access (B.rest bank.old)) player.old }
     ensures value { (player.new.state, row.new)
         ≡ stepped player.old (map (values regs.now) (regs_read from.entry)) (cell (B.cells bank.old)) (length row.old) }
     ensures player { SamePlayer player.old player.new }
@@ -65,7 +65,7 @@ fn block_on_many<B: Bank>(
     requires row { length row.old ≡ regs.now.ksmps }
     requires unit { IsUnitOpcode (opcode_of player.old.state) }
     requires count { length (regs_read from) ≡ moving_count (opcode_of player.old.state) }
-    requires read { CanRead (B.can_get (B.rest bank.old)) (length (B.cells bank.old)) player.old }
+    requires read { CanRead (B.access (B.rest bank.old)) player.old }
     ensures value { (player.new.state, row.new)
         ≡ stepped player.old (map (values regs.now) (regs_read from.entry)) (cell (B.cells bank.old)) (length row.old) }
     ensures player { SamePlayer player.old player.new }
@@ -115,7 +115,7 @@ pub fn step<B: Bank>(player: &mut Player, regs: &Registers, from: Reads<'_>, ban
     requires there { list_all (has_register regs.now.counts) (regs_read from) ≡ true }
     requires unit { IsUnitOpcode (opcode_of player.old.state) }
     requires count { length (regs_read from) ≡ moving_count (opcode_of player.old.state) }
-    requires read { CanRead (B.can_get (B.rest bank.old)) (length (B.cells bank.old)) player.old }
+    requires read { CanRead (B.access (B.rest bank.old)) player.old }
     ensures value { (player.new.state, result ∷ [])
         ≡ stepped player.old (map (values regs.now) (regs_read from.entry)) (cell (B.cells bank.old)) 1 }
     ensures player { SamePlayer player.old player.new }
@@ -145,7 +145,7 @@ fn step_on_many<B: Bank>(
     requires there { list_all (has_register regs.now.counts) (regs_read from) ≡ true }
     requires unit { IsUnitOpcode (opcode_of player.old.state) }
     requires count { length (regs_read from) ≡ moving_count (opcode_of player.old.state) }
-    requires read { CanRead (B.can_get (B.rest bank.old)) (length (B.cells bank.old)) player.old }
+    requires read { CanRead (B.access (B.rest bank.old)) player.old }
     ensures value { (player.new.state, result ∷ [])
         ≡ stepped player.old (map (values regs.now) (regs_read from.entry)) (cell (B.cells bank.old)) 1 }
     ensures player { SamePlayer player.old player.new }

@@ -1,6 +1,6 @@
 // A live table as a curve.
-ghost use Rattle.std.specs.Prelude.{◌≡◌, ◌+◌, ◌-◌, ◌<◌, ◌≤◌, ◌%◌, true, length};
-ghost use Rattle.cs_machine.specs.Access.{CanTouch};
+ghost use Rattle.std.specs.Prelude.{◌≡◌, ◌+◌, ◌-◌, ◌<◌, ◌≤◌, ◌%◌, true};
+ghost use Rattle.cs_machine.specs.Access.{CanGet};
 ghost use Rattle.cs_gen.specs.Points.{guard_place, len_of};
 ghost use Rattle.cs_ugen.specs.Points.{is_len};
 
@@ -23,22 +23,20 @@ pub(crate) struct LiveTable<'b, B: Bank> {
 }
 
 impl<'b, B: Bank> Model for LiveTable<'b, B> {
-    ghost use Rattle.std.specs.Prelude.{length};
     ghost use Rattle.cs_machine.specs.Live.{IsLive, LiveOver};
 
     ghost Value = { LiveOver B };
 
     ghost view = { λ t. record { name = t.bank.ghost_name; bank = t.bank.now; area = t.area } };
 
-    ghost invariant = { λ t. IsLive (B.can_get (B.rest t.bank.now)) (length (B.cells t.bank.now)) t.area t.len
-        t.guard };
+    ghost invariant = { λ t. IsLive (B.access (B.rest t.bank.now)) t.area t.len t.guard };
 }
 
 impl<'b, B: Bank> LiveTable<'b, B> {
     /// The table whose points an area has, as many as its size.
     pub(crate) fn new(bank: &'b mut B, area: Area) -> LiveTable<'b, B>
         requires power { is_len (len_of area.length) ≡ true }
-        requires read { CanTouch (B.can_get (B.rest bank.old)) (length (B.cells bank.old)) area }
+        requires read { CanGet (B.access (B.rest bank.old)) area }
         requires small { area.first + area.length ≤ 65536 }
         ensures name { result.name ≡ bank.entry.ghost_name }
         ensures bank { result.bank ≡ bank.old }

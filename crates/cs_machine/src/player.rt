@@ -96,7 +96,7 @@ impl<'t> Player<'t> {
     pub fn block<B: Bank>(&mut self, inputs: &[Operand], bank: &mut B, row: &mut [Num])
         requires count { length inputs.now ≡ moving_count (opcode_of self.old.state) }
         requires last { All (Lasts (length row.old)) inputs.now }
-        requires read { CanRead (B.can_get (B.rest bank.old)) (length (B.cells bank.old)) self.old }
+        requires read { CanRead (B.access (B.rest bank.old)) self.old }
         ensures value { (self.new.state, row.new) ≡ run unit_step
             (λ j. inputs_at inputs.now j ++ curve_at self.old.points self.old.area (cell (B.cells bank.old)))
             self.old.state 0 (length row.old) }
@@ -119,7 +119,7 @@ impl<'t> Player<'t> {
     #[inline(always)]
     pub fn step<B: Bank>(&mut self, inputs: &[Num], bank: &mut B) -> Num
         requires count { length inputs.now ≡ moving_count (opcode_of self.old.state) }
-        requires read { CanRead (B.can_get (B.rest bank.old)) (length (B.cells bank.old)) self.old }
+        requires read { CanRead (B.access (B.rest bank.old)) self.old }
         ensures value { (self.new.state, result) ≡ unit_step self.old.state
             (inputs.now ++ curve_at self.old.points self.old.area (cell (B.cells bank.old))) }
         ensures player { SamePlayer self.old self.new }

@@ -1,6 +1,6 @@
 // Live tables that are stored into.
-ghost use Rattle.std.specs.Prelude.{◌≡◌, ◌+◌, ◌≤◌, true, length, Some};
-ghost use Rattle.cs_machine.specs.Access.{CanTouch};
+ghost use Rattle.std.specs.Prelude.{◌≡◌, ◌+◌, ◌≤◌, true, Some};
+ghost use Rattle.cs_machine.specs.Access.{CanSet};
 ghost use Rattle.cs_base.specs.declared.resource.Rate.TheVariants as rate;
 ghost use Rattle.cs_cells.specs.Cells.{cell};
 ghost use Rattle.cs_gen.specs.Points.{len_of};
@@ -18,12 +18,11 @@ use cs_signal::Operand;
 /// Stores into a live table: at each step a value, at the place of an index brought into the table.
 pub fn store<B: Bank>(bank: &mut B, area: Area, steps: usize, sig: &Operand, ndx: &Operand)
     requires power { is_len (len_of area.length) ≡ true }
-    requires write { CanTouch (B.can_set (B.rest bank.old)) (length (B.cells bank.old)) area }
+    requires write { CanSet (B.access (B.rest bank.old)) area }
     requires small { area.first + area.length ≤ 65536 }
     ensures cells { (t : Table) → t.size ≡ area.length → cell (B.cells bank.new) ≡ with_wave (Some area)
         (stored (places_of_indices t (operand_at ndx.now)) (operand_at sig.now) steps
         (wave_in rate.Audio area (cell (B.cells bank.old)))) (cell (B.cells bank.old)) }
-    ensures long { length (B.cells bank.new) ≡ length (B.cells bank.old) }
     ensures rest { B.rest bank.new ≡ B.rest bank.old }
 {
     let len = len_of(area.length);

@@ -1,7 +1,7 @@
 // Zak places that are cleared.
-ghost use Rattle.std.specs.Prelude.{◌≡◌, ◌≤◌, ◌<◌, ◌&&◌, ℕ, pos, true, length, Some, if◌then◌else◌};
+ghost use Rattle.std.specs.Prelude.{◌≡◌, ◌≤◌, ◌<◌, ◌&&◌, ℕ, pos, true, Some, if◌then◌else◌};
 ghost use Rattle.cs_base.specs.Rates.{same_res};
-ghost use Rattle.cs_machine.specs.Access.{AreSpaces, CanTouch, spaces_of};
+ghost use Rattle.cs_machine.specs.Access.{AreSpaces, CanSet, spaces_of};
 ghost use Rattle.cs_machine.specs.inner.Numbers.{cleared_in, end_of, from_of};
 ghost use Rattle.cs_cells.specs.{Cells.cell, declared.footprint.Area.Area};
 ghost use Rattle.cs_ir.specs.Resources.{places_of, reaches, zak_place};
@@ -29,11 +29,10 @@ pub fn clear_places<B: Bank>(
     requires zak { spaces_of at.now.layout.now ≡ at.now.spaces }
     requires write { (n : ℕ) (area : Area) → n < places_of at.now.spaces space → reaches reach n ≡ true
         → area_of at.now.layout.now (zak_place space n) ≡ Some area
-        → CanTouch (B.can_set (B.rest bank.old)) (length (B.cells bank.old)) area }
+        → CanSet (B.access (B.rest bank.old)) area }
     ensures cells { (piece : Piece) → piece.spaces ≡ at.now.spaces → cell (B.cells bank.new)
         ≡ (λ a. if lies_cleared at.now.layout.now (is_cleared piece space reach first last) a then pos 0
         else cell (B.cells bank.old) a) }
-    ensures long { length (B.cells bank.new) ≡ length (B.cells bank.old) }
     ensures rest { B.rest bank.new ≡ B.rest bank.old }
 {
     // No two areas are of one resource.
@@ -61,10 +60,9 @@ fn clear_place<B: Bank>(
     requires number { number < places_of at.now.spaces space }
     requires write { (area : Area) → reaches reach number ≡ true
         → area_of at.now.layout.now (zak_place space number) ≡ Some area
-        → CanTouch (B.can_set (B.rest bank.old)) (length (B.cells bank.old)) area }
+        → CanSet (B.access (B.rest bank.old)) area }
     ensures cells { cell (B.cells bank.new) ≡ cleared_in at.now.layout.now (λ g. reaches reach number
         && same_res g (zak_place space number)) (cell (B.cells bank.old)) }
-    ensures long { length (B.cells bank.new) ≡ length (B.cells bank.old) }
     ensures rest { B.rest bank.new ≡ B.rest bank.old }
 {
     // No two areas are of one resource.

@@ -1,5 +1,5 @@
 -- Rows of jobs that follow one another and touch the same, each row run as one job.
-use Rattle.std.specs.Prelude.{◌≡◌, ◌<◌, ◌-◌, ℕ, suc, List, [], ◌∷◌, length, nat_lt, if◌then◌else◌, slice_get, Some}
+use Rattle.std.specs.Prelude.{◌≡◌, ◌<◌, ◌-◌, ℕ, suc, List, [], ◌∷◌, length, nat_lt, if◌then◌else◌}
 use Rattle.std.specs.List.{All, flat_map}
 use Rattle.cs_cells.specs.{Meaning.Meaning, declared.footprint.Area.Area, declared.footprint.Footprint.Footprint}
 use Rattle.cs_cells.specs.Serial.{serial_cells, serial_jobs}
@@ -17,10 +17,6 @@ module _ {J : Type 0} where
   abbrev pub row_at : List (List J) → ℕ → ℕ
   row_at [] t = 0
   row_at (row ∷ rows) t = if nat_lt t (length row) then 0 else suc (row_at rows (t - length row))
-
-  -- whatever a job touches so, Q is true of
-  abbrev pub EachWithin : (J → ℕ → Type 0) → (ℕ → Type 0) → List J → Type 0
-  EachWithin Touch Q js = (t a : ℕ) (j : J) → slice_get js t ≡ Some j → Touch j a → Q a
 
 module _ {J : Type 0} (M : Meaning J) where
   -- the layout and the footprint of a row are those of its first job

@@ -1,7 +1,7 @@
 // Jobs that run one after another.
-ghost use Rattle.std.specs.Prelude.{◌≡◌, ◌+◌, ◌<◌, ◌^◌, length};
-ghost use Rattle.cs_cells.specs.{Meaning.Uses, Meaning.Writes, Serial.serial_cells, Serial.serial_jobs};
-ghost use Rattle.cs_row.specs.Rows.{EachWithin};
+ghost use Rattle.std.specs.Prelude.{◌≡◌, ◌+◌, ◌<◌, ◌^◌, length, All};
+ghost use Rattle.cs_cells.specs.{Access.Allows, Meaning.Uses, Meaning.Writes};
+ghost use Rattle.cs_cells.specs.Serial.{serial_cells, serial_jobs};
 
 use cs_cells::{Bank, Job};
 use cs_edge::Gate;
@@ -16,9 +16,7 @@ pub fn run_in_order<J: Job, B: Bank, G: Gate>(
     first: u32,
 )
     requires few { first + length jobs.old < 2 ^ 32 }
-    requires get { EachWithin (Uses J.means) (B.can_get (B.rest bank.old)) jobs.old }
-    requires set { EachWithin (Writes J.means) (B.can_set (B.rest bank.old)) jobs.old }
-    requires cells { EachWithin (Uses J.means) (λ a. a < length (B.cells bank.old)) jobs.old }
+    requires allowed { All (λ j. Allows (B.access (B.rest bank.old)) (Uses J.means j) (Writes J.means j)) jobs.old }
     ensures jobs { jobs.new ≡ serial_jobs J.means jobs.old (B.cells bank.old) }
     ensures cells { B.cells bank.new ≡ serial_cells J.means jobs.old (B.cells bank.old) }
     ensures rest { B.rest bank.new ≡ B.rest bank.old }

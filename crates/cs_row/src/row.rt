@@ -2,7 +2,8 @@
 ghost use Rattle.std.specs.Prelude.{◌≡◌, ◌+◌, ◌<◌, ◌≤◌, ◌*◌, ◌^◌, ◌++◌, ℕ, [], length, All, IfOk};
 ghost use Rattle.std.specs.Vec.{vec_len, vec_capacity};
 ghost use Rattle.cs_base.specs.Limits.{most_notes};
-ghost use Rattle.cs_cells.specs.{Meaning.Uses, Meaning.Writes, Serial.serial_cells, Serial.serial_jobs};
+ghost use Rattle.cs_cells.specs.{Access.Allows, Meaning.Uses, Meaning.Writes};
+ghost use Rattle.cs_cells.specs.Serial.{serial_cells, serial_jobs};
 ghost use Rattle.cs_row.specs.Heard.{AreSumsOf, IsHeardRow, sums};
 ghost use Rattle.cs_row.specs.{Rooms.IsEmptied, Rows.IsRow, Rows.row_job};
 
@@ -131,9 +132,8 @@ fn run_and_sum<J: Heard, B: Bank, G: Gate>(
 )
     requires row { IsHeardRow J.Job.means J.shape record { jobs = notes.old; sum = sum.old } }
     requires places { first + length notes.old < 2 ^ 32 }
-    requires get { (a : ℕ) → Uses (row_job J.Job.means) notes.old a → B.can_get (B.rest bank.old) a }
-    requires set { (a : ℕ) → Writes (row_job J.Job.means) notes.old a → B.can_set (B.rest bank.old) a }
-    requires cells { (a : ℕ) → Uses (row_job J.Job.means) notes.old a → a < length (B.cells bank.old) }
+    requires allowed { let row = row_job J.Job.means in
+        Allows (B.access (B.rest bank.old)) (Uses row notes.old) (Writes row notes.old) }
     ensures notes { notes.new ≡ serial_jobs J.Job.means notes.old (B.cells bank.old) }
     ensures sum { sum.new ≡ sums J.gives (length sum.old) notes.new }
     ensures small { AreSumsOf (length notes.old) sum.new }

@@ -6,7 +6,7 @@ use Rattle.cs_ir.specs.{Asks.ask_of, Machine.Machine, Machine.new_machine, Machi
 use Rattle.cs_ir.specs.{declared.ask.Ask.Ask, declared.op.Code.Code, declared.register.Counts.Counts}
 use Rattle.cs_machine.specs.{Access.AreSpaces, Access.spaces_of, Players.PlayerData, Players.playing, Registers.values}
 use Rattle.cs_machine.specs.{Outputs.outs, States.machine_of, States.IsStateIn, declared.state.State.State}
-use Rattle.cs_cells.specs.{declared.footprint.Footprint.Footprint, declared.footprint.Area.Area}
+use Rattle.cs_cells.specs.{Access.Access, declared.footprint.Footprint.Footprint, declared.footprint.Area.Area}
 use Rattle.cs_meaning.specs.Pieces.{Piece}
 use Rattle.cs_voice_meaning.specs.VoiceWorld.{VoiceState, fresh_voice, voice_world}
 use Rattle.cs_voice_meaning.specs.{Follows.Kinds, Voices.Sheet, Voices.IsPlayable, Voices.initialised, Voices.voice_of}
@@ -124,11 +124,10 @@ made_voice note number fields perf counts state playable numbered same long plac
 }
 
 -- the code that begins a note can be done with what it finds
-pub can_pass : (get set : ℕ → Type 0) (count : ℕ) (finds : Finds) (note : NewNote) (fields : List ℤ) (init : Code)
-    (state : State)
-    → init ≡ note.instrument.now.init → valid init ≡ true → CanInitialise get set count finds note fields state
-    → CanPass get set count finds note.made.now init (sheet_for note fields) state
-can_pass get set count finds note fields init state same fine can =
+pub can_pass : (access : Access) (finds : Finds) (note : NewNote) (fields : List ℤ) (init : Code)
+    (state : State) → init ≡ note.instrument.now.init → valid init ≡ true → CanInitialise access finds note fields state
+    → CanPass access finds note.made.now init (sheet_for note fields) state
+can_pass access finds note fields init state same fine can =
     let counts : Counts = note.instrument.now.init.counts in
     let new = new_state (sheet_for note fields) counts state can.fresh can.in_piece can.playable in
     record {
@@ -148,9 +147,7 @@ can_pass get set count finds note fields init state same fine can =
         };
         playable = can.playable;
         state = new.1;
-        gets = can.gets;
-        sets = can.sets;
-        long = can.cells;
+        bank = can.bank;
       };
       same = ap (λ code. code.ops) (sym same);
       valid = fine;
@@ -158,8 +155,8 @@ can_pass get set count finds note fields init state same fine can =
     }
 
 -- what holds of the p-fields holds of those that are found
-pub as_found : (get set : ℕ → Type 0) (count : ℕ) (finds : Finds) (note : NewNote) (fields : List ℤ) (state : State)
-    → CanInitialise get set count finds note fields state
-    → CanInitialise get set count finds note finds.at.fields.now state
-as_found get set count finds note fields state can =
-    subst (λ f. CanInitialise get set count finds note f state) (sym can.given) can
+pub as_found : (access : Access) (finds : Finds) (note : NewNote) (fields : List ℤ) (state : State)
+    → CanInitialise access finds note fields state
+    → CanInitialise access finds note finds.at.fields.now state
+as_found access finds note fields state can =
+    subst (λ f. CanInitialise access finds note f state) (sym can.given) can

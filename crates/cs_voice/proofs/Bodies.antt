@@ -1,52 +1,51 @@
 -- The parts of a voice: what makes one, and what a cycle makes of it.
-use Rattle.std.proofs.Common.{◌≡◌, ℕ, ◌<◌, Bool, true, false, List, [], ◌∷◌, if◌then◌else◌, ◌∙◌, ap}
+use Rattle.std.proofs.Common.{◌≡◌, Bool, true, false, List, [], ◌∷◌, if◌then◌else◌, ◌∙◌, ap}
 use Rattle.std.specs.List.{AllByRecursion}
 use Rattle.cs_base.specs.{declared.resource.Rate.Rate, declared.resource.Res.Res}
 use Rattle.cs_words.specs.Catalogue.{row_of}
 use Rattle.cs_ir.specs.{Registers.rate_at, declared.op.Act.Act, declared.op.Op.Op}
 use Rattle.cs_ir.specs.Resources.{Stock, act_writes, tables_within, unit_uses, writes_places, zak_uses}
-use Rattle.cs_cells.specs.Cells.{in_area}
+use Rattle.cs_cells.specs.{Access.Access, Access.Allows, Cells.in_area}
 use Rattle.cs_voice_meaning.specs.{Follows.ActNamed, Follows.AreNamed, Follows.OpsNamed, Follows.Kinds, Placing.HasArea}
 use Rattle.cs_voice_meaning.specs.Voices.{Sheet, IsUsed, IsWritten, OpsWritten, may_use, may_write}
-use Rattle.cs_machine.specs.States.{CanDo, MayTouch}
+use Rattle.cs_machine.specs.States.{CanDo, MayGet, MaySet}
 use Rattle.cs_ir.specs.declared.op.Act.TheVariants as act
 
 -- ---- what a voice may touch lets each of its ops be done
 
-module _ (s : Sheet) (can_get can_set : ℕ → Type 0) (count : ℕ) (get : (a : ℕ) → may_use s a ≡ true → can_get a)
-    (set : (a : ℕ) → may_write s a ≡ true → can_set a)
-    (within : (a : ℕ) → may_use s a ≡ true → a < count) where
-  may_get : (g : Res) → IsUsed s g → MayTouch can_get count s.areas g
+module _ (s : Sheet) (access : Access)
+    (bank : Allows access (λ a. may_use s a ≡ true) (λ a. may_write s a ≡ true)) where
+  may_get : (g : Res) → IsUsed s g → MayGet access s.areas g
   may_get g (area, is, used) =
-      (area, is, record { can = λ a here. get a (used a here); within = λ a here. within a (used a here) })
+      (area, is, record { can = λ a here. bank.get a (used a here); within = λ a here. bank.there a (used a here) })
 
-  may_set : (g : Res) → IsUsed s g → IsWritten s g → MayTouch can_set count s.areas g
+  may_set : (g : Res) → IsUsed s g → IsWritten s g → MaySet access s.areas g
   may_set g (area, is, used) w = (
     area,
     is,
     record {
-      can = λ a here. set a (w a (ap (λ o. in_area o a) is ∙ here));
-      within = λ a here. within a (used a here);
+      can = λ a here. bank.set a (w a (ap (λ o. in_area o a) is ∙ here));
+      within = λ a here. bank.there a (used a here);
     },
   )
 
-  each_get : (gs : List Res) → AreNamed (IsUsed s) gs → AreNamed (MayTouch can_get count s.areas) gs
+  each_get : (gs : List Res) → AreNamed (IsUsed s) gs → AreNamed (MayGet access s.areas) gs
   each_get [] h = tt
   each_get (g ∷ gs) h = (may_get g h.0, each_get gs h.1)
 
   each_set : (gs : List Res) → AreNamed (IsUsed s) gs → AreNamed (IsWritten s) gs
-      → AreNamed (MayTouch can_set count s.areas) gs
+      → AreNamed (MaySet access s.areas) gs
   each_set [] h w = tt
   each_set (g ∷ gs) h w = (may_set g h.0 w.0, each_set gs h.1 w.1)
 
   if_set : (b : Bool) (gs : List Res) → AreNamed (IsUsed s) gs → AreNamed (IsWritten s) (if b then gs else [])
-      → AreNamed (MayTouch can_set count s.areas) (if b then gs else [])
+      → AreNamed (MaySet access s.areas) (if b then gs else [])
   if_set true gs h w = each_set gs h w
   if_set false gs h w = tt
 
   can_do : (stock : Stock) (kinds : Kinds) (t : Act) (r : Rate) → ActNamed stock kinds (IsUsed s) t r
       → AreNamed (IsWritten s) (act_writes stock t)
-      → CanDo can_get can_set count s.areas stock t
+      → CanDo access s.areas stock t
   can_do stock kinds (act.Load g) r h w = record { uses = (may_get g h, tt); writes = tt }
   can_do stock kinds (act.Save g) r h w = record { uses = (may_get g h.0, tt); writes = (may_set g h.0 w.0, tt) }
   can_do stock kinds (act.Unit opcode u reach) r h w =
@@ -61,7 +60,7 @@ module _ (s : Sheet) (can_get can_set : ℕ → Type 0) (count : ℕ) (get : (a 
 
   pub can_all : (stock : Stock) (kinds : Kinds) (ops : List Op) → OpsNamed stock kinds (IsUsed s) ops
       → OpsWritten stock (IsWritten s) ops
-      → AllByRecursion (λ (op : Op). CanDo can_get can_set count s.areas stock op.act) ops
+      → AllByRecursion (λ (op : Op). CanDo access s.areas stock op.act) ops
   can_all stock kinds [] h w = tt
   can_all stock kinds (op ∷ ops) h w = (
     can_do stock kinds op.act (rate_at op.into) h.0 w.0,

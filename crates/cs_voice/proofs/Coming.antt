@@ -12,6 +12,7 @@ use Rattle.cs_ir.specs.Flat.{no_window, ops_at, place_of, placed, size, window_o
 use Rattle.cs_ir.specs.{Registers.rate_at, Validity.finds, Validity.has_register, Validity.is_fine, Validity.takes_from}
 use Rattle.cs_ir.specs.{Values.holds, Waves.operand, declared.ask.Ask.Ask, declared.op.Act.Act, declared.op.Code.Code}
 use Rattle.cs_ir.specs.{declared.op.Op.Op, declared.register.Reg.Reg, declared.step.Call.Call, declared.step.Step.Step}
+use Rattle.cs_cells.specs.Access.{Access}
 use Rattle.cs_machine.specs.{Registers.values, declared.state.NoteSetting.NoteSetting, declared.state.State.State}
 use Rattle.cs_voice_meaning.specs.Voices.{Sheet}
 use Rattle.cs_voice.specs.Codes.{CanGo, CanStart, Finding, HasStarted}
@@ -168,7 +169,7 @@ here_same w p place op other =
     λ i. record { act = does i; into = moved_reg w op.into; from = map (moved_reg w) op.from }
 
 -- an op is there as one of the same kind
-moved_start : (w : Begins) (a : Act) → is_start (moved_act w 0 a) ≡ is_start a
+pub moved_start : (w : Begins) (a : Act) → is_start (moved_act w 0 a) ≡ is_start a
 moved_start w act.Seek = refl
 moved_start w a = refl
 
@@ -210,48 +211,45 @@ module _ (a : Act) (not_jump : (to : ℕ) → a ≡ act.Jump to → ⊥) (not_un
 -- ---- how far a code has been done
 
 -- Wherever some steps lie in something that had been done up to there, it has gone on up to one of them.
-pub record Comes (get set : ℕ → Type 0) (count : ℕ) (at : NoteSetting) (finding : Finding) (rs : List (List Op))
+pub record Comes (access : Access) (at : NoteSetting) (finding : Finding) (rs : List (List Op))
     (ss : List Step) (w : Begins) (old : State) (before : ℕ → ℤ) (asked : List Ask) (i : ℕ) (now : State)
     (cells : ℕ → ℤ) (given : List Ask) (refused : Option StartRefusal) : Type 0 where
   pub up_to : (o : Outset) (p : ℕ) → LieFrom o.ops p (moved_ops w p (flat rs ss))
-      → IsDoneTo get set count at finding o p old before asked
-      → HasGoneOn get set count at finding o (p + place_of rs i ss) now cells given refused
+      → IsDoneTo access at finding o p old before asked
+      → HasGoneOn access at finding o (p + place_of rs i ss) now cells given refused
 
 -- Over what the bank was, and over what it is: it lets the same be done.
-module _ {R : Type 0} (get set : R → ℕ → Type 0) {r q : R} {n m : ℕ} (rest : q ≡ r) (long : m ≡ n) (x y : Finding)
-    (same : y ≡ x) where
-  now_so : (P : (ℕ → Type 0) → (ℕ → Type 0) → ℕ → Finding → Type 0) → P (get r) (set r) n x → P (get q) (set q) m y
-  now_so P h = subst (λ z. P (get z) (set z) m y) (sym rest)
-      (subst (λ k. P (get r) (set r) k y) (sym long) (subst (λ z. P (get r) (set r) n z) (sym same) h))
+module _ {earlier later : Access} (alike : later ≡ earlier) (x y : Finding) (same : y ≡ x) where
+  now_so : (P : Access → Finding → Type 0) → P earlier x → P later y
+  now_so P h = subst (λ access. P access y) (sym alike) (subst (P earlier) (sym same) h)
 
-  then_so : (P : (ℕ → Type 0) → (ℕ → Type 0) → ℕ → Finding → Type 0) → P (get q) (set q) m y → P (get r) (set r) n x
-  then_so P h = subst (λ z. P (get z) (set z) n x) rest
-      (subst (λ k. P (get q) (set q) k x) long (subst (λ z. P (get q) (set q) m z) same h))
+  then_so : (P : Access → Finding → Type 0) → P later y → P earlier x
+  then_so P h = subst (λ access. P access x) alike (subst (P later) same h)
 
 -- Steps that can be done have been, up to one of them; over what the bank is and with what is found now the same can be
 -- done as at first.
-pub record IsAt {R : Type 0} (get set : R → ℕ → Type 0) (r q : R) (n m : ℕ) (at : NoteSetting) (x y : Finding)
-    (rs : List (List Op)) (ss : List Step) (w : Begins) (old : State) (before : ℕ → ℤ) (asked : List Ask) (i : ℕ)
-    (now : State) (cells : ℕ → ℤ) (given : List Ask) : Type 0 where
-  pub able : CanDoOps (get r) (set r) n at x w (flat rs ss) old before asked
-  pub comes : Comes (get r) (set r) n at x rs ss w old before asked i now cells given None
+pub record IsAt {R : Type 0} (access : R → Access) (r q : R) (at : NoteSetting) (x y : Finding) (rs : List (List Op))
+    (ss : List Step) (w : Begins) (old : State) (before : ℕ → ℤ) (asked : List Ask) (i : ℕ) (now : State)
+    (cells : ℕ → ℤ) (given : List Ask) : Type 0 where
+  pub able : CanDoOps (access r) at x w (flat rs ss) old before asked
+  pub comes : Comes (access r) at x rs ss w old before asked i now cells given None
   pub same : y ≡ x
-  pub long : m ≡ n
   pub rest : q ≡ r
 
-module _ {R : Type 0} {get set : R → ℕ → Type 0} {r q : R} {n m : ℕ} {at : NoteSetting} {x y : Finding}
-    {rs : List (List Op)} {ss : List Step} {w : Begins} {old : State} {before : ℕ → ℤ} {asked : List Ask} {i : ℕ}
-    {now : State} {cells : ℕ → ℤ} {given : List Ask}
-    (here : IsAt get set r q n m at x y rs ss w old before asked i now cells given) where
+module _ {R : Type 0} {access : R → Access} {r q : R} {at : NoteSetting} {x y : Finding} {rs : List (List Op)}
+    {ss : List Step} {w : Begins} {old : State} {before : ℕ → ℤ} {asked : List Ask} {i : ℕ} {now : State}
+    {cells : ℕ → ℤ} {given : List Ask} (here : IsAt access r q at x y rs ss w old before asked i now cells given) where
+  same_access : access q ≡ access r
+  same_access = ap access here.rest
+
   -- it goes on
-  pub goes_on : {v : R} {k : ℕ} {z : Finding} {j : ℕ} {new : State} {after : ℕ → ℤ} {asks : List Ask} → z ≡ y → k ≡ m
-      → v ≡ q → Comes (get r) (set r) n at x rs ss w old before asked j new after asks None
-      → IsAt get set r v n k at x z rs ss w old before asked j new after asks
-  goes_on found long rest comes = record {
+  pub goes_on : {v : R} {z : Finding} {j : ℕ} {new : State} {after : ℕ → ℤ} {asks : List Ask} → z ≡ y → v ≡ q
+      → Comes (access r) at x rs ss w old before asked j new after asks None
+      → IsAt access r v at x z rs ss w old before asked j new after asks
+  goes_on found rest comes = record {
     able = here.able;
     comes = comes;
     same = found ∙ here.same;
-    long = long ∙ here.long;
     rest = rest ∙ here.rest;
   }
 
@@ -262,12 +260,12 @@ module _ {R : Type 0} {get set : R → ℕ → Type 0} {r q : R} {n m : ℕ} {at
     abbrev there : ℕ → Op
     there p = moved_op w p (record op { act = placed (λ to. place_of rs to ss) op.act })
 
-    done : IsDoneTo (get r) (set r) n at x here.able.outset (here.able.place + place_of rs i ss) now cells given
+    done : IsDoneTo (access r) at x here.able.outset (here.able.place + place_of rs i ss) now cells given
     done = here.comes.up_to here.able.outset here.able.place here.able.lie here.able.done
 
     -- is fine there
     fine : (end : ℕ) × (is_fine now.regs.counts end (here.able.place + place_of rs i ss) (there here.able.place) ≡ true)
-    fine = fine_now get set here.rest here.long done (op_lies rs ss w here.able.outset.ops here.able.place
+    fine = fine_now same_access done (op_lies rs ss w here.able.outset.ops here.able.place
         here.able.lie i op is)
         here.able.can
 
@@ -314,16 +312,16 @@ module _ {R : Type 0} {get set : R → ℕ → Type 0} {r q : R} {n m : ℕ} {at
     comes_to : (goal : ℕ) → i < goal
         → ((p : ℕ) → GoesOn (moved_act w p (placed (λ to. place_of rs to ss) op.act))
         (map (values now.regs) (map (moved_reg w) op.from)) (p + place_of rs i ss) (p + place_of rs goal ss))
-        → Comes (get r) (set r) n at x rs ss w old before asked goal now cells given None
+        → Comes (access r) at x rs ss w old before asked goal now cells given None
     comes_to goal later goes = record {
       up_to = λ o p lie first.
-          done_jump get set here.rest here.long (here.comes.up_to o p lie
+          done_jump same_access (here.comes.up_to o p lie
           first) (op_lies rs ss w o.ops p lie i op is) (p + place_of rs goal ss)
           (let far = place_on rs ss i goal op is later in omega (arith, far)) (goes p);
     }
 
     pub comes_jump : (to : ℕ) → op.act ≡ act.Jump to
-        → Comes (get r) (set r) n at x rs ss w old before asked to now cells given None
+        → Comes (access r) at x rs ss w old before asked to now cells given None
     comes_jump to jump = comes_to to (jump_later to jump)
         (λ p. subst (λ a. GoesOn (moved_act w p (placed (λ to. place_of rs to ss) a))
         (map (values now.regs) (map (moved_reg w) op.from)) (p + place_of rs i ss) (p + place_of rs to ss)) (sym jump)
@@ -333,7 +331,7 @@ module _ {R : Type 0} {get set : R → ℕ → Type 0} {r q : R} {n m : ℕ} {at
         → ((p : ℕ) → p + place_of rs goal ss
         ≡ (if holds (operand 0 (map (values now.regs) (map (moved_reg w) op.from)) 0) then p + place_of rs i ss + 1
         else p + place_of rs to ss))
-        → Comes (get r) (set r) n at x rs ss w old before asked goal now cells given None
+        → Comes (access r) at x rs ss w old before asked goal now cells given None
     comes_unless to goal jump later goes = comes_to goal later
         (λ p. subst (λ a. GoesOn (moved_act w p (placed (λ to. place_of rs to ss) a))
         (map (values now.regs) (map (moved_reg w) op.from)) (p + place_of rs i ss) (p + place_of rs goal ss)) (sym
@@ -341,7 +339,7 @@ module _ {R : Type 0} {get set : R → ℕ → Type 0} {r q : R} {n m : ℕ} {at
 
     pub comes_held : (to : ℕ) → op.act ≡ act.Unless to
         → holds (operand 0 (map (values now.regs) (map (moved_reg w) op.from)) 0) ≡ true
-        → Comes (get r) (set r) n at x rs ss w old before asked (i + 1) now cells given None
+        → Comes (access r) at x rs ss w old before asked (i + 1) now cells given None
     comes_held to jump held = comes_unless to (i + 1) jump (omega arith)
         (λ p. (let one : i + 1 ≡ suc i = omega arith in
         let behind : p + place_of rs (i + 1) ss ≡ p + place_of rs i ss + 1 =
@@ -351,7 +349,7 @@ module _ {R : Type 0} {get set : R → ℕ → Type 0} {r q : R} {n m : ℕ} {at
 
     pub comes_not : (to : ℕ) → op.act ≡ act.Unless to
         → holds (operand 0 (map (values now.regs) (map (moved_reg w) op.from)) 0) ≡ false
-        → Comes (get r) (set r) n at x rs ss w old before asked to now cells given None
+        → Comes (access r) at x rs ss w old before asked to now cells given None
     comes_not to jump held = comes_unless to to jump (unless_later to jump)
         (λ p. sym (ap (λ b. if b then p + place_of rs i ss + 1 else p + place_of rs to ss) held))
 
@@ -362,49 +360,49 @@ module _ {R : Type 0} {get set : R → ℕ → Type 0} {r q : R} {n m : ℕ} {at
       lies o p lie = op_lies rs ss w o.ops p lie i op is
           ∙ ap Some (here_same w p (λ to. place_of rs to ss) op other)
 
-      can_do : CanDoHere (get q) (set q) m at x (moved_op w 0 op) now
-      can_do = can_here get set here.rest here.long done (lies here.able.outset here.able.place here.able.lie)
+      can_do : CanDoHere (access q) at x (moved_op w 0 op) now
+      can_do = can_here same_access done (lies here.able.outset here.able.place here.able.lie)
           here.able.can
 
       pub can_begin : is_start op.act ≡ true → {d : Op} → d ≡ moved_op w 0 op → CanStart y d now
       can_begin st is_it = subst (λ z. CanStart y z now) (sym is_it) (subst (λ z. CanStart z (moved_op w 0 op) now)
           (sym here.same)
-          (can_start (get q) (set q) m at (moved_op w 0 op) now x (moved_start w op.act ∙ st) can_do))
+          (can_start (access q) at (moved_op w 0 op) now x (moved_start w op.act ∙ st) can_do))
 
-      pub can_be_done : {d : Op} → d ≡ moved_op w 0 op → CanBeDone (get q) (set q) m at d now
-      can_be_done is_it = subst (λ z. CanBeDone (get q) (set q) m at z now) (sym is_it)
-          (can_act (get q) (set q) m at (moved_op w 0 op) now x can_do)
+      pub can_be_done : {d : Op} → d ≡ moved_op w 0 op → CanBeDone (access q) at d now
+      can_be_done is_it = subst (λ z. CanBeDone (access q) at z now) (sym is_it)
+          (can_act (access q) at (moved_op w 0 op) now x can_do)
 
       pub comes_act : {new : State} {after : ℕ → ℤ} → is_here (moved_act w 0 op.act) ≡ true → {d : Op}
-          → d ≡ moved_op w 0 op → DoesOp (get q) (set q) m at d now cells new after
-          → Comes (get r) (set r) n at x rs ss w old before asked (i + 1) new after given None
+          → d ≡ moved_op w 0 op → DoesOp (access q) at d now cells new after
+          → Comes (access r) at x rs ss w old before asked (i + 1) new after given None
       comes_act {new} {after} is_one is_it does = record {
         up_to = λ o p lie first.
             let one : i + 1 ≡ suc i = omega arith in
             let on : p + place_of rs i ss + 1 ≡ p + place_of rs (suc i) ss = omega (arith, next) in
-            subst (λ k. IsDoneTo (get r) (set r) n at x o k new after given)
+            subst (λ k. IsDoneTo (access r) at x o k new after given)
             (on ∙ ap (λ k. p + place_of rs k ss) (sym one))
-            (done_act get set here.rest here.long (here.comes.up_to o p
+            (done_act same_access (here.comes.up_to o p
             lie first) (lies o p lie) new after is_one
-            (subst (λ z. DoesOp (get q) (set q) m at z now cells new after) is_it does));
+            (subst (λ z. DoesOp (access q) at z now cells new after) is_it does));
       }
 
-      pub never_op : is_start op.act ≡ true → AreOfNoCycle (get r) (set r) n at x w (flat rs ss) old before asked
+      pub never_op : is_start op.act ≡ true → AreOfNoCycle (access r) at x w (flat rs ss) old before asked
       never_op st = record {
-        never = λ o p lie first. never get set here.rest here.long (here.comes.up_to o p lie first) (lies o p lie)
+        never = λ o p lie first. never same_access (here.comes.up_to o p lie first) (lies o p lie)
             (moved_start w op.act ∙ st);
       }
 
       pub gone_start : {new : State} {asks : List Ask} {refused : Option StartRefusal} → is_start op.act ≡ true
           → {d : Op} → d ≡ moved_op w 0 op → HasStarted y d now given new asks refused
-          → Comes (get r) (set r) n at x rs ss w old before asked (i + 1) new cells asks refused
+          → Comes (access r) at x rs ss w old before asked (i + 1) new cells asks refused
       gone_start {new} {asks} {refused} st is_it started = record {
         up_to = λ o p lie first.
             let one : i + 1 ≡ suc i = omega arith in
             let on : p + place_of rs i ss + 1 ≡ p + place_of rs (suc i) ss = omega (arith, next) in
-            subst (λ k. HasGoneOn (get r) (set r) n at x o k new cells asks refused)
+            subst (λ k. HasGoneOn (access r) at x o k new cells asks refused)
             (on ∙ ap (λ k. p + place_of rs k ss) (sym one))
-            (done_start get set here.rest here.long (here.comes.up_to o p
+            (done_start same_access (here.comes.up_to o p
             lie first) (lies o p lie) new asks refused (moved_start w op.act ∙ st)
             (subst (λ z. HasStarted z (moved_op w 0 op) now given new asks refused) here.same
             (subst (λ z. HasStarted y z now given new asks refused) is_it started)));
@@ -413,111 +411,126 @@ module _ {R : Type 0} {get set : R → ℕ → Type 0} {r q : R} {n m : ℕ} {at
   -- ---- a call
 
   module _ {c : Call} (is : slice_get ss i ≡ Some (step.Invoke c)) where
-    pub can_call : CanDoOps (get q) (set q) m at y (further w (window_of c)) (ops_at rs c.routine) now cells given
+    pub can_call : CanDoOps (access q) at y (further w (window_of c)) (ops_at rs c.routine) now cells given
     can_call = record {
       outset = here.able.outset;
       place = here.able.place + place_of rs i ss;
       lie = call_lies rs ss w here.able.outset.ops here.able.place here.able.lie i c is;
-      can = now_so get set here.rest here.long x y here.same
-          (λ gt st k z. CanGo gt st k at z here.able.outset.ops here.able.outset.first) here.able.can;
-      done = now_so get set here.rest here.long x y here.same
-          (λ gt st k z. IsDoneTo gt st k at z here.able.outset (here.able.place + place_of rs i ss) now cells given)
+      can = now_so same_access x y here.same
+          (λ a z. CanGo a at z here.able.outset.ops here.able.outset.first) here.able.can;
+      done = now_so same_access x y here.same
+          (λ a z. IsDoneTo a at z here.able.outset (here.able.place + place_of rs i ss) now cells given)
           (here.comes.up_to here.able.outset here.able.place here.able.lie here.able.done);
     }
 
     pub gone_call : {new : State} {after : ℕ → ℤ} {asks : List Ask} {refused : Option StartRefusal}
-        → DoesOps (get q) (set q) m at y (further w (window_of c)) (ops_at rs c.routine) now cells given new after asks
-        refused → Comes (get r) (set r) n at x rs ss w old before asked (i + 1) new after asks refused
+        → DoesOps (access q) at y (further w (window_of c)) (ops_at rs c.routine) now cells given new after asks
+        refused → Comes (access r) at x rs ss w old before asked (i + 1) new after asks refused
     gone_call {new} {after} {asks} {refused} does = record {
       up_to = λ o p lie first.
           let one : i + 1 ≡ suc i = omega arith in
           let next = place_next rs i ss (step.Invoke c) is in
           let on : p + place_of rs i ss + length (ops_at rs c.routine) ≡ p + place_of rs (suc i) ss =
           omega (arith, next) in
-          then_so get set here.rest here.long x y here.same
-          (λ gt st k z. HasGoneOn gt st k at z o (p + place_of rs (i + 1) ss) new after asks refused)
-          (subst (λ k. HasGoneOn (get q) (set q) m at y o k new after asks refused)
+          then_so same_access x y here.same
+          (λ a z. HasGoneOn a at z o (p + place_of rs (i + 1) ss) new after asks refused)
+          (subst (λ k. HasGoneOn (access q) at y o k new after asks refused)
           (on ∙ ap (λ k. p + place_of rs k ss) (sym one))
           (does.goes o (p + place_of rs i ss) (call_lies rs ss w o.ops p lie i c is)
-          (now_so get set here.rest here.long x y here.same
-          (λ gt st k z. IsDoneTo gt st k at z o (p + place_of rs i ss) now cells given) (here.comes.up_to o p lie
+          (now_so same_access x y here.same
+          (λ a z. IsDoneTo a at z o (p + place_of rs i ss) now cells given) (here.comes.up_to o p lie
           first))));
     }
 
-    pub never_call : AreOfNoCycle (get q) (set q) m at y (further w (window_of c)) (ops_at rs c.routine) now cells given
-        → AreOfNoCycle (get r) (set r) n at x w (flat rs ss) old before asked
+    pub never_call : AreOfNoCycle (access q) at y (further w (window_of c)) (ops_at rs c.routine) now cells given
+        → AreOfNoCycle (access r) at x w (flat rs ss) old before asked
     never_call none = record {
-      never = λ o p lie first. then_so get set here.rest here.long x y here.same (λ gt st k z. IsOfNoCycle gt st k at o)
+      never = λ o p lie first. then_so same_access x y here.same (λ a z. IsOfNoCycle a at o)
           (none.never o (p + place_of rs i ss) (call_lies rs ss w o.ops p lie i c is)
-          (now_so get set here.rest here.long x y here.same
-          (λ gt st k z. IsDoneTo gt st k at z o (p + place_of rs i ss) now cells given) (here.comes.up_to o p lie
+          (now_so same_access x y here.same
+          (λ a z. IsDoneTo a at z o (p + place_of rs i ss) now cells given) (here.comes.up_to o p lie
           first)));
     }
 
 -- ---- ends
 
-module _ {get set : ℕ → Type 0} {count : ℕ} {at : NoteSetting} {x : Finding} {rs : List (List Op)} {ss : List Step}
+-- nothing of the steps has been done
+pub at_first : {R : Type 0} {access : R → Access} {r : R} {at : NoteSetting} {x : Finding} {rs : List (List Op)}
+    {ss : List Step} {w : Begins} {old : State} {before : ℕ → ℤ} {asked : List Ask}
+    → CanDoOps (access r) at x w (flat rs ss) old before asked
+    → IsAt access r r at x x rs ss w old before asked 0 old before asked
+at_first {R} {access} {r} {at} {x} {rs} {ss} {w} {old} {before} {asked} able = record {
+  able = able;
+  comes = record {
+    up_to = λ o p lie first. let here : p ≡ p + 0 = omega arith in
+        subst (λ k. IsDoneTo (access r) at x o k old before asked) here first;
+  };
+  same = refl;
+  rest = refl;
+}
+
+module _ {access : Access} {at : NoteSetting} {x : Finding} {rs : List (List Op)} {ss : List Step}
     {w : Begins} {old : State} {before : ℕ → ℤ} {asked : List Ask} {i : ℕ} {now : State} {cells : ℕ → ℤ}
     {given : List Ask} where
   -- nothing was refused
   pub comes_on : {refused : Option StartRefusal} → ((r : StartRefusal) → refused ≡ Some r → ⊥)
-      → Comes get set count at x rs ss w old before asked i now cells given refused
-      → Comes get set count at x rs ss w old before asked i now cells given None
+      → Comes access at x rs ss w old before asked i now cells given refused
+      → Comes access at x rs ss w old before asked i now cells given None
   comes_on {refused} none comes =
-      subst (Comes get set count at x rs ss w old before asked i now cells given) (none_if refused none) comes
+      subst (Comes access at x rs ss w old before asked i now cells given) (none_if refused none) comes
 
   -- something was, wherever it was
   pub does_refused : {refused : Option StartRefusal} {r : StartRefusal} → refused ≡ Some r
-      → Comes get set count at x rs ss w old before asked i now cells given refused
-      → DoesOps get set count at x w (flat rs ss) old before asked now cells given (Some r)
+      → Comes access at x rs ss w old before asked i now cells given refused
+      → DoesOps access at x w (flat rs ss) old before asked now cells given (Some r)
   does_refused is comes = record {
     goes = λ o p lie first.
-        subst (λ z. HasGoneOn get set count at x o (p + place_of rs i ss) now cells given z) is
+        subst (λ z. HasGoneOn access at x o (p + place_of rs i ss) now cells given z) is
         (comes.up_to o p lie first);
   }
 
   -- all steps have been done
-  pub does_all : length ss ≤ i → Comes get set count at x rs ss w old before asked i now cells given None
-      → DoesOps get set count at x w (flat rs ss) old before asked now cells given None
+  pub does_all : length ss ≤ i → Comes access at x rs ss w old before asked i now cells given None
+      → DoesOps access at x w (flat rs ss) old before asked now cells given None
   does_all far comes = record {
     goes = λ o p lie first.
-        subst (λ k. IsDoneTo get set count at x o (p + k) now cells given) (place_last rs ss i far)
+        subst (λ k. IsDoneTo access at x o (p + k) now cells given) (place_last rs ss i far)
         (comes.up_to o p lie first);
   }
 
 -- a routine that isn't there stands for nothing
-pub does_nothing : (get set : ℕ → Type 0) (count : ℕ) (at : NoteSetting) (x : Finding) (w : Begins) (ops : List Op)
+pub does_nothing : (access : Access) (at : NoteSetting) (x : Finding) (w : Begins) (ops : List Op)
     (old : State) (before : ℕ → ℤ) (asked : List Ask) → ops ≡ []
-    → DoesOps get set count at x w ops old before asked old before asked None
-does_nothing get set count at x w ops old before asked none = record {
+    → DoesOps access at x w ops old before asked old before asked None
+does_nothing access at x w ops old before asked none = record {
   goes = λ o p lie first.
       let here : p ≡ p + length ops = (let e : length ops ≡ 0 = ap length none in omega (arith, e)) in
-      subst (λ k. IsDoneTo get set count at x o k old before asked) here first;
+      subst (λ k. IsDoneTo access at x o k old before asked) here first;
 }
 
 -- the same ops in the same window can be done as well
-pub can_as : {get set : ℕ → Type 0} {count : ℕ} {at : NoteSetting} {x : Finding} {w v : Begins} {ops more : List Op}
+pub can_as : {access : Access} {at : NoteSetting} {x : Finding} {w v : Begins} {ops more : List Op}
     {now : State} {cells : ℕ → ℤ} {given : List Ask} → w ≡ v → ops ≡ more
-    → CanDoOps get set count at x w ops now cells given → CanDoOps get set count at x v more now cells given
-can_as {get} {set} {count} {at} {x} {w} {v} {ops} {more} {now} {cells} {given} same alike can =
-    subst (λ u. CanDoOps get set count at x u more now cells given) same
-    (subst (λ os. CanDoOps get set count at x w os now cells given) alike can)
+    → CanDoOps access at x w ops now cells given → CanDoOps access at x v more now cells given
+can_as {access} {at} {x} {w} {v} {ops} {more} {now} {cells} {given} same alike can =
+    subst (λ u. CanDoOps access at x u more now cells given) same
+    (subst (λ os. CanDoOps access at x w os now cells given) alike can)
 
-pub does_as : {get set : ℕ → Type 0} {count : ℕ} {at : NoteSetting} {x : Finding} {w v : Begins} {ops more : List Op}
+pub does_as : {access : Access} {at : NoteSetting} {x : Finding} {w v : Begins} {ops more : List Op}
     {old new : State} {before after : ℕ → ℤ} {asked given : List Ask} {refused : Option StartRefusal} → w ≡ v
-    → ops ≡ more → DoesOps get set count at x w ops old before asked new after given refused
-    → DoesOps get set count at x v more old before asked new after given refused
-does_as {get} {set} {count} {at} {x} {w} {v} {ops} {more} {old} {new} {before} {after} {asked} {given} {refused} same
+    → ops ≡ more → DoesOps access at x w ops old before asked new after given refused
+    → DoesOps access at x v more old before asked new after given refused
+does_as {access} {at} {x} {w} {v} {ops} {more} {old} {new} {before} {after} {asked} {given} {refused} same
     alike does =
-    subst (λ u. DoesOps get set count at x u more old before asked new after given refused) same
-    (subst (λ os. DoesOps get set count at x w os old before asked new after given refused) alike does)
+    subst (λ u. DoesOps access at x u more old before asked new after given refused) same
+    (subst (λ os. DoesOps access at x w os old before asked new after given refused) alike does)
 
-pub never_as : {get set : ℕ → Type 0} {count : ℕ} {at : NoteSetting} {x : Finding} {w v : Begins} {ops more : List Op}
+pub never_as : {access : Access} {at : NoteSetting} {x : Finding} {w v : Begins} {ops more : List Op}
     {old : State} {before : ℕ → ℤ} {asked : List Ask} → w ≡ v → ops ≡ more
-    → AreOfNoCycle get set count at x w ops old before asked → AreOfNoCycle get set count at x v more old before asked
-never_as {get} {set} {count} {at} {x} {w} {v} {ops} {more} {old} {before} {asked} same alike none =
-    subst (λ u. AreOfNoCycle get set count at x u more old before asked) same
-    (subst (λ os. AreOfNoCycle get set count at x w os old before asked) alike none)
+    → AreOfNoCycle access at x w ops old before asked → AreOfNoCycle access at x v more old before asked
+never_as {access} {at} {x} {w} {v} {ops} {more} {old} {before} {asked} same alike none =
+    subst (λ u. AreOfNoCycle access at x u more old before asked) same
+    (subst (λ os. AreOfNoCycle access at x w os old before asked) alike none)
 
 -- ---- a code as a whole
 
@@ -526,45 +539,45 @@ lie_whole ops n low =
     let here : 0 + n ≡ n = omega arith in
     ap (slice_get ops) here ∙ sym (ap (λ l. slice_get l n) (whole_ops ops))
 
-module _ (get set : ℕ → Type 0) (count : ℕ) (at : NoteSetting) (x : Finding) (ops : List Op) (old : State)
+module _ (access : Access) (at : NoteSetting) (x : Finding) (ops : List Op) (old : State)
     (before : ℕ → ℤ) (asked : List Ask) where
   whole : Outset
   whole = record { ops = ops; first = old; before = before; asked = asked }
 
-  pub can_all : CanGo get set count at x ops old → CanDoOps get set count at x no_window ops old before asked
+  pub can_all : CanGo access at x ops old → CanDoOps access at x no_window ops old before asked
   can_all can = record {
     outset = record { ops = ops; first = old; before = before; asked = asked };
     place = 0;
     lie = lie_whole ops;
     can = can;
-    done = done_none get set count at x (record { ops = ops; first = old; before = before; asked = asked });
+    done = done_none access at x (record { ops = ops; first = old; before = before; asked = asked });
   }
 
   gone : (new : State) (after : ℕ → ℤ) (given : List Ask) (refused : Option StartRefusal)
-      → DoesOps get set count at x no_window ops old before asked new after given refused
-      → HasGoneOn get set count at x whole (0 + length ops) new after given refused
+      → DoesOps access at x no_window ops old before asked new after given refused
+      → HasGoneOn access at x whole (0 + length ops) new after given refused
   unfolding whole
-  gone new after given refused does = does.goes whole 0 (lie_whole ops) (done_none get set count at x whole)
+  gone new after given refused does = does.goes whole 0 (lie_whole ops) (done_none access at x whole)
 
   pub run_cycle : (new : State) (after : ℕ → ℤ) (given : List Ask) (refused : Option StartRefusal)
-      → DoesOps get set count at x no_window ops old before asked new after given refused
-      → (c : Context) → CanRun get set count at c ops old
+      → DoesOps access at x no_window ops old before asked new after given refused
+      → (c : Context) → CanRun access at c ops old
       → (refused ≡ None) × HasRun at.layout.now c ops old before new after
   unfolding whole
   run_cycle new after given refused does c can =
-      all_cycle get set count at x whole (0 + length ops) new after given refused (omega arith)
+      all_cycle access at x whole (0 + length ops) new after given refused (omega arith)
       (gone new after given refused does) c can
 
   pub run_passes : (new : State) (after : ℕ → ℤ) (given : List Ask) (refused : Option StartRefusal)
-      → DoesOps get set count at x no_window ops old before asked new after given refused
+      → DoesOps access at x no_window ops old before asked new after given refused
       → (f : Finds) (ms : List Bool) (code : Code) (s : Sheet) → x ≡ Some (f, ms) → f.at ≡ at → code.ops ≡ ops
-      → CanPass get set count f ms code s old → Passes s old before asked new after given refused
+      → CanPass access f ms code s old → Passes s old before asked new after given refused
   unfolding whole
   run_passes new after given refused does f ms code s found same eq can =
-      all_passed get set count at x whole (0 + length ops) new after given refused (omega arith)
+      all_passed access at x whole (0 + length ops) new after given refused (omega arith)
       (gone new after given refused does) f ms code s found same eq can
 
-  pub run_never : AreOfNoCycle get set count at x no_window ops old before asked
-      → (c : Context) → CanRun get set count at c ops old → ⊥
+  pub run_never : AreOfNoCycle access at x no_window ops old before asked
+      → (c : Context) → CanRun access at c ops old → ⊥
   unfolding whole
-  run_never none c can = none.never whole 0 (lie_whole ops) (done_none get set count at x whole) c can
+  run_never none c can = none.never whole 0 (lie_whole ops) (done_none access at x whole) c can

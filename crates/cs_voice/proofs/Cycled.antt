@@ -1,12 +1,12 @@
 -- What a cycle makes of the parts of a voice.
-use Rattle.std.proofs.Common.{◌≡◌, ℕ, ℤ, pos, ◌-◌, ◌<◌, List, [], length, map, Option, None, refl, sym, ◌∙◌, ap, subst}
+use Rattle.std.proofs.Common.{◌≡◌, ℕ, ℤ, pos, ◌-◌, List, [], length, map, Option, None, refl, sym, ◌∙◌, ap, subst}
 use Rattle.std.proofs.Common.{arith}
 use Rattle.std.specs.{List.AllByRecursion, List.range_with_len, Option.option_map}
 use Rattle.std.proofs.lemmas.{List.length-map, List.ext_get_or, List.FromFn.length-map-range_with_len}
 use Rattle.cs_signal.specs.Operands.{argument}
 use Rattle.cs_ir.specs.{Machine.Machine, Machine.run, Waves.silence, declared.op.Code.Code, declared.op.Op.Op}
-use Rattle.cs_cells.specs.{Cells.Cells, Cells.cell, Meaning.Uses, Meaning.Writes, declared.footprint.Area.Area}
-use Rattle.cs_cells.specs.declared.footprint.Footprint.{Footprint}
+use Rattle.cs_cells.specs.{Access.Access, Access.Allows, Cells.Cells, Cells.cell, Meaning.Uses, Meaning.Writes}
+use Rattle.cs_cells.specs.{declared.footprint.Area.Area, declared.footprint.Footprint.Footprint}
 use Rattle.cs_machine.specs.{Outputs.ChannelFile, Outputs.outs, Outputs.refilled, Registers.RegisterFile}
 use Rattle.cs_machine.specs.{Registers.filled, Registers.values, Rows.row_of, Access.AreSpaces, Access.spaces_of}
 use Rattle.cs_machine.specs.{Players.PlayerData, Players.playing, States.CanDo, States.IsStateIn, States.machine_of}
@@ -81,14 +81,13 @@ module _ (number age until : ℕ) (stage : Stage) (foot : Footprint) (code : Cod
   }
 
   -- the code of a voice can be run over a bank that has what the voice may touch
-  pub can_run : (can_get can_set : ℕ → Type 0) (count : ℕ) (s : State) (h : Kept s) (at : NoteSetting) (t : State)
-      → ((a : ℕ) → Uses voice_job (voice s) a → can_get a) → ((a : ℕ) → Writes voice_job (voice s) a → can_set a)
-      → ((a : ℕ) → Uses voice_job (voice s) a → a < count)
+  pub can_run : (access : Access) (s : State) (h : Kept s) (at : NoteSetting) (t : State)
+      → Allows access (Uses voice_job (voice s)) (Writes voice_job (voice s))
       → at.layout.now ≡ stage.layout.now → at.head.now ≡ stage.head.now → at.spaces ≡ stage.spaces
       → at.fields.now ≡ fields
       → IsStateIn stage.layout.now (piece_of (voice s)) h.voice.playable.kinds code.counts t
-      → CanRun can_get can_set count at (context s h) code.ops t
-  can_run can_get can_set count s h at t get set within layout head zak given st =
+      → CanRun access at (context s h) code.ops t
+  can_run access s h at t bank layout head zak given st =
       let p = h.voice.playable in
       let sh = sheet_of (voice s) in
       record {
@@ -107,9 +106,8 @@ module _ (number age until : ℕ) (stage : Stage) (foot : Footprint) (code : Cod
             (all_areas sh p.stock p.kinds code.ops p.perf_uses);
         channels = p.perf_channels;
         acts = p.perf_acts;
-        can = subst (λ l. AllByRecursion (λ (op : Op). CanDo can_get can_set count l p.stock op.act) code.ops)
-            (sym layout)
-            (can_all sh can_get can_set count get set within p.stock p.kinds code.ops p.perf_uses p.perf_writes);
+        can = subst (λ l. AllByRecursion (λ (op : Op). CanDo access l p.stock op.act) code.ops) (sym layout)
+            (can_all sh access bank p.stock p.kinds code.ops p.perf_uses p.perf_writes);
       }
 
   -- a cycle was run
@@ -198,17 +196,15 @@ module _ (number age until : ℕ) (stage : Stage) (foot : Footprint) (code : Cod
       (frames : u.outs.ksmps ≡ s.outs.ksmps) (same : u ≡ record s { outs = u.outs })
       (at : NoteSetting) (layout : at.layout.now ≡ stage.layout.now) (head : at.head.now ≡ stage.head.now)
       (zak : at.spaces ≡ stage.spaces)
-      (given : at.fields.now ≡ fields) (can_get can_set : ℕ → Type 0) (count : ℕ)
-      (get : (a : ℕ) → Uses voice_job (voice s) a → can_get a)
-      (set : (a : ℕ) → Writes voice_job (voice s) a → can_set a)
-      (within : (a : ℕ) → Uses voice_job (voice s) a → a < count) where
-    pub able : CanRun can_get can_set count at (context s h) code.ops u
-    able = subst (λ z. CanRun can_get can_set count at (context s h) code.ops z) (sym same)
-        (can_run can_get can_set count s h at (record s { outs = u.outs }) get set within layout head zak given
+      (given : at.fields.now ≡ fields) (access : Access)
+      (bank : Allows access (Uses voice_job (voice s)) (Writes voice_job (voice s))) where
+    pub able : CanRun access at (context s h) code.ops u
+    able = subst (λ z. CanRun access at (context s h) code.ops z) (sym same)
+        (can_run access s h at (record s { outs = u.outs }) bank layout head zak given
         (cleared s h u.outs long frames))
 
     pub cycled : (t : State) (c d : Cells)
-        → ((x : Context) → CanRun can_get can_set count at x code.ops u
+        → ((x : Context) → CanRun access at x code.ops u
         → HasRun at.layout.now x code.ops u (cell c) t (cell d))
         → filled t.regs (values t.regs) ≡ t.regs → refilled t.outs (outs t.outs) ≡ t.outs → length d ≡ length c
         → HasCycled s t c d

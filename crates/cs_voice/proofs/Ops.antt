@@ -1,5 +1,5 @@
 -- What is so of each op of the code that begins a note.
-use Rattle.std.proofs.Common.{◌≡◌, ℕ, zero, suc, ◌+◌, ◌<◌, ◌≤◌, Bool, true, false, List, [], ◌∷◌, length, nat_lt}
+use Rattle.std.proofs.Common.{◌≡◌, ℕ, zero, suc, ◌+◌, ◌<◌, Bool, true, false, List, [], ◌∷◌, length, nat_lt}
 use Rattle.std.proofs.Common.{nat_le, slice_get, Some, if◌then◌else◌, sym, ◌∙◌, ap, subst, arith}
 use Rattle.std.specs.List.{AllByRecursion}
 use Rattle.std.proofs.lemmas.{Bool.and_parts, Bool.Decides.nat_tests}
@@ -10,7 +10,8 @@ use Rattle.cs_ir.proofs.Fine.{fine_at}
 use Rattle.cs_base.proofs.Tests.{some_is}
 use Rattle.cs_base.specs.{declared.resource.Rate.Rate, declared.resource.Res.Res}
 use Rattle.cs_words.specs.Catalogue.{row_of}
-use Rattle.cs_cells.specs.{Areas.IsLaid, Areas.word_count, Cells.in_area, declared.footprint.Area.Area}
+use Rattle.cs_cells.specs.{Access.Access, Access.AllowsBelow, Areas.IsLaid, Areas.word_count, Cells.in_area}
+use Rattle.cs_cells.specs.declared.footprint.Area.{Area}
 use Rattle.cs_cells.proofs.Laid.{area_within}
 use Rattle.cs_voice_meaning.specs.{Placing.HasArea, Follows.ActNamed, Follows.AreNamed, Follows.Kinds}
 use Rattle.cs_voice_meaning.specs.Voices.{Sheet, IsPlayable, has_channel}
@@ -50,8 +51,7 @@ op_of s code counts n op playable same fine counted at = record {
 
 -- Over a bank of all cells each op may be done.
 module _ (allowed : ℕ → Type 0) (count : ℕ) (areas : List Area) (laid : IsLaid areas)
-    (all : (a : ℕ) → a < word_count areas → allowed a)
-    (long : word_count areas ≤ count) where
+    (all : (a : ℕ) → a < word_count areas → allowed a) (there : (a : ℕ) → a < word_count areas → a < count) where
   inside : (area : Area) (a : ℕ) → in_area (Some area) a ≡ true → a < area.first + area.length
   inside area a e = let p = and_parts (nat_le area.first a) (nat_lt a (area.first + area.length)) e in below p.1
     where
@@ -66,7 +66,7 @@ module _ (allowed : ℕ → Type 0) (count : ℕ) (areas : List Area) (laid : Is
         has.1,
         record {
           can = λ a e. all a (let q = inside has.0 a e in omega arith);
-          within = λ a e. let q = inside has.0 a e in omega arith;
+          within = λ a e. there a (let q = inside has.0 a e in omega arith);
         },
       )
 
@@ -95,11 +95,12 @@ named_writes areas stock kinds (act.Zak o reach) r h =
     if_named (HasArea areas) (writes_places (row_of o).shape) (zak_uses stock o reach) h
 named_writes areas stock kinds _ r h = tt
 
-pub can_do : (get set : ℕ → Type 0) (count : ℕ) (areas : List Area) (stock : Stock) (kinds : Kinds) (t : Act) (r : Rate)
-    → IsLaid areas
-    → ((a : ℕ) → a < word_count areas → get a) → ((a : ℕ) → a < word_count areas → set a) → word_count areas ≤ count
-    → ActNamed stock kinds (HasArea areas) t r → CanDo get set count areas stock t
-can_do get set count areas stock kinds t r laid gets sets long named = record {
-  uses = all_touched get count areas laid gets long (act_uses stock t) (named_uses areas stock kinds t r named);
-  writes = all_touched set count areas laid sets long (act_writes stock t) (named_writes areas stock kinds t r named);
+pub can_do : (access : Access) (areas : List Area) (stock : Stock) (kinds : Kinds) (t : Act) (r : Rate)
+    → IsLaid areas → AllowsBelow access (word_count areas) → ActNamed stock kinds (HasArea areas) t r
+    → CanDo access areas stock t
+can_do access areas stock kinds t r laid bank named = record {
+  uses = all_touched access.can_get access.count areas laid bank.get bank.there (act_uses stock t)
+      (named_uses areas stock kinds t r named);
+  writes = all_touched access.can_set access.count areas laid bank.set bank.there (act_writes stock t)
+      (named_writes areas stock kinds t r named);
 }

@@ -14,7 +14,7 @@ use Rattle.cs_ir.proofs.Shapes.{started_shape}
 use Rattle.cs_ir.specs.Validity.{finds, is_fine, takes_from}
 use Rattle.cs_voice.specs.Ready.{CanBeDone, DoesOp, IsReady, is_here}
 use Rattle.cs_machine.specs.{Access.AreSpaces, Access.spaces_of, Registers.values, declared.state.State.State}
-use Rattle.cs_cells.specs.{Areas.word_count, declared.footprint.Area.Area}
+use Rattle.cs_cells.specs.{Access.Access, Access.AllowsBelow, Areas.word_count, declared.footprint.Area.Area}
 use Rattle.cs_meaning.specs.Model.{no_table, refused_for, seek}
 use Rattle.cs_meaning.specs.Pieces.{Piece, find_table, is_there, table_number}
 use Rattle.cs_voice_meaning.specs.Placing.{HasArea, IsPlaced}
@@ -42,19 +42,18 @@ steady_one : (op : Op) → is_of_cycle op.act ≡ true → are_of_cycle (op ∷ 
 steady_one op e = ap (λ b. b && true) e
 
 -- an op of such a code as can be passed can be done
-pub record CanDoOp (get set : ℕ → Type 0) (count : ℕ) (finds : Finds) (ms : List Bool) (op : Op) (s : Sheet)
-    (now : State) : Type 0 where
-  pub begin : CanBegin get set count finds ms s now
+pub record CanDoOp (access : Access) (finds : Finds) (ms : List Bool) (op : Op) (s : Sheet) (now : State) : Type 0 where
+  pub begin : CanBegin access finds ms s now
   pub fine : IsOpOf s now.regs.counts op
 
 -- Over a bank of all cells an op that isn't a jump, a start or an ask may be done, and what it does is what its sheet
 -- says.
-module _ {get set : ℕ → Type 0} {count : ℕ} {finds : Finds} {ms : List Bool} {s : Sheet} {op : Op} {old : State}
-    (can : CanDoOp get set count finds ms op s old) where
+module _ {access : Access} {finds : Finds} {ms : List Bool} {s : Sheet} {op : Op} {old : State}
+    (can : CanDoOp access finds ms op s old) where
   here : s.areas ≡ finds.at.layout.now
   here = sym can.begin.found.setting.layout
 
-  ready : (p : IsPlayable s) → IsReady get set count finds.at s.piece p.kinds p.stock op old
+  ready : (p : IsPlayable s) → IsReady access finds.at s.piece p.kinds p.stock op old
   unfolding here
   ready p = record {
     setting = record {
@@ -73,17 +72,17 @@ module _ {get set : ℕ → Type 0} {count : ℕ} {finds : Finds} {ms : List Boo
     fine = can.fine.fine;
     named = subst (λ areas. ActNamed p.stock p.kinds (HasArea areas) op.act (rate_at op.into)) here (can.fine.named p);
     channel = can.fine.channel;
-    can = subst (λ areas. CanDo get set count areas p.stock op.act) here
-        (can_do get set count s.areas p.stock p.kinds op.act (rate_at op.into) p.placed.laid can.begin.gets
-        can.begin.sets can.begin.long (can.fine.named p));
+    can = subst (λ areas. CanDo access areas p.stock op.act) here
+        (can_do access s.areas p.stock p.kinds op.act (rate_at op.into) p.placed.laid can.begin.bank
+        (can.fine.named p));
   }
 
-  pub can_be_done : CanBeDone get set count finds.at op old
+  pub can_be_done : CanBeDone access finds.at op old
   can_be_done =
       let p = can.begin.playable in record { piece = s.piece; kinds = p.kinds; stock = p.stock; ready = ready p }
 
   pub done_here : is_here op.act ≡ true → {new : State} {before after : ℕ → ℤ} {asked : List Ask}
-      → DoesOp get set count finds.at op old before new after → IsDone s op old before asked new after asked None
+      → DoesOp access finds.at op old before new after → IsDone s op old before asked new after asked None
   done_here at {new} {before} {after} {asked} does = record {
     more = [];
     asks = sym (append-nil asked);
@@ -213,17 +212,15 @@ module _ {s : Sheet} {first : State} {before : ℕ → ℤ} {asked : List Ask} {
   }
 
   -- the next op can be done, over a bank that lets the same be done
-  pub able_again : {R : Type 0} (get set : R → ℕ → Type 0) {r q : R} {n m : ℕ} {finds : Finds} {ms : List Bool}
-      {code : Code} {op : Op} → q ≡ r → m ≡ n → CanPass (get r) (set r) n finds ms code s first
-      → slice_get code.ops place ≡ Some op → CanDoOp (get q) (set q) m finds ms op s now
-  able_again {R} get set {r} {q} {n} {m} {finds} {ms} {code} {op} rest long can at = record {
+  pub able_again : {earlier later : Access} {finds : Finds} {ms : List Bool} {code : Code} {op : Op} → later ≡ earlier
+      → CanPass earlier finds ms code s first → slice_get code.ops place ≡ Some op
+      → CanDoOp later finds ms op s now
+  able_again {earlier} {later} {finds} {ms} {code} {op} alike can at = record {
     begin = record {
       found = can.begin.found;
       playable = can.begin.playable;
       state = subst (λ k. IsStateOf s k now) (sym u.counted) u.state;
-      gets = λ a low. subst (λ x. get x a) (sym rest) (can.begin.gets a low);
-      sets = λ a low. subst (λ x. set x a) (sym rest) (can.begin.sets a low);
-      long = subst (λ k. word_count s.areas ≤ k) (sym long) can.begin.long;
+      bank = subst (λ access. AllowsBelow access (word_count s.areas)) (sym alike) can.begin.bank;
     };
     fine = op_of s code now.regs.counts place op can.begin.playable can.same can.valid (u.counted ∙ can.counts) at;
   }

@@ -18,6 +18,14 @@ audio_frames ksmps n rate.Audio ws cells p k row e long is j low =
     ap (λ (d : UnitState × List ℤ). argument d.1 j) is ∙ ap (λ m. argument (stepped p ws cells m).1 j) long
 audio_frames ksmps n r ws cells p k row e long is j low = absurd (cc)
 
+pub audio_state : (ksmps n : ℕ) (r : Rate) (ws : List Wave) (cells : ℕ → ℤ) (p : PlayerData) (k : UnitState)
+    (row : List ℤ)
+    → is_audio r ≡ true → n ≡ ksmps
+    → (k, row) ≡ stepped p ws cells n → k ≡ (cycled ksmps r ws cells p).0
+audio_state ksmps n rate.Audio ws cells p k row e long is =
+    ap (λ (d : UnitState × List ℤ). d.0) is ∙ ap (λ m. (stepped p ws cells m).0) long
+audio_state ksmps n r ws cells p k row e long is = absurd (cc)
+
 -- one step, whose result is held
 pub held_gives : (ksmps : ℕ) (r : Rate) (ws : List Wave) (cells : ℕ → ℤ) (p : PlayerData) (k : UnitState) (z : ℤ)
     → is_audio r ≡ false

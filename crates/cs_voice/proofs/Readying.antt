@@ -13,20 +13,22 @@ use Rattle.cs_ir.specs.{declared.op.Act.Act, declared.op.Op.Op, declared.op.Reac
 use Rattle.cs_ir.specs.Resources.{Stock, act_uses, act_writes, places_within, shape_uses, writes_places}
 use Rattle.cs_ir.proofs.Shapes.{run_shape}
 use Rattle.cs_ir.specs.Validity.{bound_at, finds, has_register, may_run_at, runs_with, stores_with, take_all}
+use Rattle.cs_cells.specs.Access.{Access}
 use Rattle.cs_meaning.specs.Pieces.{Piece}
 use Rattle.cs_machine.specs.{Players.PlayerData, declared.state.NoteSetting.NoteSetting, declared.state.State.State}
 use Rattle.cs_voice_meaning.specs.Follows.{ActNamed, AreNamed, Kinds}
 use Rattle.cs_voice_meaning.specs.{Placing.HasArea, Placing.cell_count, Voices.has_channel}
 use Rattle.cs_voice_meaning.proofs.Channels.{channel_there}
 use Rattle.cs_machine.proofs.Done.{has_room}
-use Rattle.cs_machine.specs.States.{Does, DoesAt, HasRoom, IsPlayerOf, MayTouch}
-use Rattle.cs_voice.specs.Cells.{AreSized, CanReach, DoesOver, MayReach, MayStore}
+use Rattle.cs_machine.specs.States.{Does, DoesAt, HasRoom, IsPlayerOf, MayGet, MaySet}
+use Rattle.cs_voice.specs.Cells.{AreSized, CanMix, DoesOver, MayReach, MayStore}
 use Rattle.cs_voice.specs.{Ready.DoesOp, Ready.IsFit, Ready.IsReady, Units.DoesUnit, Units.MayPlay}
 use Rattle.cs_voice.proofs.Fitting.{Parts, found, parts, takes_as}
 use Rattle.cs_voice.proofs.{Points.unit_result, Touching.may_reach, Touching.may_run, Touching.may_store}
 use Rattle.cs_words.specs.declared.catalogue.Letter.TheVariants as letter
 use Rattle.cs_words.specs.declared.catalogue.Opcode.TheVariants as op
 use Rattle.cs_words.specs.declared.catalogue.Shape.TheVariants as shape
+use Rattle.cs_words.specs.declared.catalogue.Space.TheVariants as space
 use Rattle.cs_ir.specs.declared.op.Act.TheVariants as act
 
 -- ---- operands of units, of stores and of acts on zak places
@@ -109,9 +111,8 @@ store_long r xs h = absurd (cc)
 
 -- ---- what each op has
 
-module _ {can_get can_set : ℕ → Type 0} {count : ℕ} {at : NoteSetting} {piece : Piece} {kinds : Kinds} {stock : Stock}
-    {o : Op} {s : State}
-    (r : IsReady can_get can_set count at piece kinds stock o s) where
+module _ {access : Access} {at : NoteSetting} {piece : Piece} {kinds : Kinds} {stock : Stock}
+    {o : Op} {s : State} (r : IsReady access at piece kinds stock o s) where
   pub room_of : HasRoom s
   room_of = has_room at.layout.now piece kinds s.regs.counts s r.state
 
@@ -137,11 +138,11 @@ module _ {can_get can_set : ℕ → Type 0} {count : ℕ} {at : NoteSetting} {pi
   }
 
   -- the act by its name
-  pub uses_of : {a : Act} → o.act ≡ a → AreNamed (MayTouch can_get count at.layout.now) (act_uses stock a)
-  uses_of {a} e = subst (λ b. AreNamed (MayTouch can_get count at.layout.now) (act_uses stock b)) e r.can.uses
+  pub uses_of : {a : Act} → o.act ≡ a → AreNamed (MayGet access at.layout.now) (act_uses stock a)
+  uses_of {a} e = subst (λ b. AreNamed (MayGet access at.layout.now) (act_uses stock b)) e r.can.uses
 
-  pub writes_of : {a : Act} → o.act ≡ a → AreNamed (MayTouch can_set count at.layout.now) (act_writes stock a)
-  writes_of {a} e = subst (λ b. AreNamed (MayTouch can_set count at.layout.now) (act_writes stock b)) e r.can.writes
+  pub writes_of : {a : Act} → o.act ≡ a → AreNamed (MaySet access at.layout.now) (act_writes stock a)
+  writes_of {a} e = subst (λ b. AreNamed (MaySet access at.layout.now) (act_writes stock b)) e r.can.writes
 
   pub takes_of : {a : Act} → o.act ≡ a → takes_from a (rate_at o.into) o.from ≡ true
   takes_of {a} e = takes_as o a e (parts s.regs.counts r.end r.place o r.fine).takes
@@ -175,41 +176,46 @@ module _ {can_get can_set : ℕ → Type 0} {count : ℕ} {at : NoteSetting} {pi
       into_of e (unit_result opcode (is_a_unit opcode u reach (rate_at o.into) o.from (takes_of e))).some
 
   pub unit_may_play : {opcode : Opcode} {u : ℕ} {reach : Reach} → o.act ≡ act.Unit opcode u reach → (p : PlayerData)
-      → slice_index_or s.players.items u None ≡ Some p → MayPlay can_get count reach o.from p
+      → slice_index_or s.players.items u None ≡ Some p → MayPlay access reach o.from p
   unit_may_play {opcode} {u} {reach} e p is =
       let takes = takes_of e in
-      may_run can_get count at.layout.now stock piece opcode (rate_at o.into) reach o.from p
+      may_run access at.layout.now stock piece opcode (rate_at o.into) reach o.from p
       (is_a_unit opcode u reach (rate_at o.into) o.from takes)
       (unit_count opcode u reach (rate_at o.into) o.from takes)
       r.placed (uses_of e) (player_of e p is)
 
-  pub op_may_store : {reach : Reach} → o.act ≡ act.Store reach → MayStore can_set count at.layout.now reach
-  op_may_store {reach} e = may_store can_set count at.layout.now stock piece reach r.placed (writes_of e)
+  pub op_may_store : {reach : Reach} → o.act ≡ act.Store reach → MayStore access at.layout.now reach
+  op_may_store {reach} e = may_store access at.layout.now stock piece reach r.placed (writes_of e)
 
   -- zak places: those of the space that its shape reads, and those of the one that it writes
   module _ {opcode : Opcode} {reach : Reach} (e : o.act ≡ act.Zak opcode reach) where
     pub may_read : (z : Space) {sh : Shape} → (row_of opcode).shape ≡ sh
         → ((stock : Stock) → shape_uses stock sh reach ≡ places_within stock z reach)
-        → MayReach can_get count at z reach
+        → MayReach access.can_get access.count at z reach
     may_read z {sh} is these =
-        may_reach can_get count at stock piece z reach r.placed.spaces r.setting.spaces
-        (subst (AreNamed (MayTouch can_get count at.layout.now)) (ap (λ q. shape_uses stock q reach) is ∙ these stock)
+        may_reach access.can_get access.count at stock piece z reach r.placed.spaces r.setting.spaces
+        (subst (AreNamed (MayGet access at.layout.now)) (ap (λ q. shape_uses stock q reach) is ∙ these stock)
         (uses_of e))
 
     pub may_write : (z : Space) {sh : Shape} → (row_of opcode).shape ≡ sh
         → ((stock : Stock) → (if writes_places sh then shape_uses stock sh reach else []) ≡ places_within stock z reach)
-        → MayReach can_set count at z reach
+        → MayReach access.can_set access.count at z reach
     may_write z {sh} is these =
-        may_reach can_set count at stock piece z reach r.placed.spaces r.setting.spaces
-        (subst (AreNamed (MayTouch can_set count at.layout.now))
+        may_reach access.can_set access.count at stock piece z reach r.placed.spaces r.setting.spaces
+        (subst (AreNamed (MaySet access at.layout.now))
         (ap (λ q. if writes_places q then shape_uses stock q reach else []) is ∙ these stock)
         (writes_of e))
 
-  -- a register may name the places that may be touched
-  pub can_reach : {allowed : ℕ → Type 0} {space : Space} {reach : Reach} {number : Reg}
-      → has_register s.regs.counts number ≡ true → MayReach allowed count at space reach
-      → CanReach allowed count at space reach number s
-  can_reach there places = record { register = there; room = room_of; sized = sized_of; places = places }
+    -- a register may name the places of sound that are mixed into
+    pub can_mix : {number : Reg} → (row_of opcode).shape ≡ shape.ZakMix → has_register s.regs.counts number ≡ true
+        → CanMix access at reach number s
+    can_mix is there = record {
+      register = there;
+      room = room_of;
+      sized = sized_of;
+      read = may_read space.Audio is (λ stock. refl);
+      write = may_write space.Audio is (λ stock. refl);
+    }
 
 -- ---- an op that is done
 
@@ -222,19 +228,19 @@ does_over {at} {o} {b} {into} {ys} {old} {before} {new} {after} e g f h =
     (subst (λ l. DoesOver at b o.into l old before new after) (sym f)
     (subst (λ q. DoesOver at b q ys old before new after) g h))
 
-pub does_op : {can_get can_set : ℕ → Type 0} {count : ℕ} {at : NoteSetting} {o : Op} {b : Act} {into : Reg}
-    {ys : List Reg} {old : State} {before : ℕ → ℤ} {new : State} {after : ℕ → ℤ}
+pub does_op : {access : Access} {at : NoteSetting} {o : Op} {b : Act} {into : Reg} {ys : List Reg} {old : State}
+    {before : ℕ → ℤ} {new : State} {after : ℕ → ℤ}
     → o.act ≡ b → into ≡ o.into → o.from ≡ ys → DoesOver at b into ys old before new after
-    → DoesOp can_get can_set count at o old before new after
-does_op {can_get} {can_set} {count} {at} {o} {b} {into} {ys} {old} {before} {new} {after} e g f h piece kinds stock r =
+    → DoesOp access at o old before new after
+does_op {access} {at} {o} {b} {into} {ys} {old} {before} {new} {after} e g f h piece kinds stock r =
     does_over {at = at} {o = o} e g f h at.layout.now piece stock kinds old.regs.counts r.setting r.placed r.state
 
-pub does_op_unit : {can_get can_set : ℕ → Type 0} {count : ℕ} {at : NoteSetting} {o : Op} {opcode : Opcode} {u : ℕ}
-    {reach : Reach} {into : Reg} {ys : List Reg} {old : State} {before : ℕ → ℤ} {new : State} {after : ℕ → ℤ}
+pub does_op_unit : {access : Access} {at : NoteSetting} {o : Op} {opcode : Opcode} {u : ℕ} {reach : Reach}
+    {into : Reg} {ys : List Reg} {old : State} {before : ℕ → ℤ} {new : State} {after : ℕ → ℤ}
     → o.act ≡ act.Unit opcode u reach → into ≡ o.into → o.from ≡ ys → IsUnitOpcode opcode
-    → DoesUnit u reach into ys old before new after → DoesOp can_get can_set count at o old before new after
-does_op_unit {can_get} {can_set} {count} {at} {o} {opcode} {u} {reach} {into} {ys} {old} {before} {new} {after} e g f is
-    h piece kinds stock r =
+    → DoesUnit u reach into ys old before new after → DoesOp access at o old before new after
+does_op_unit {access} {at} {o} {opcode} {u} {reach} {into} {ys} {old} {before} {new} {after} e g f is h
+    piece kinds stock r =
     subst (λ d. Does at.layout.now piece kinds old.regs.counts d o.into o.from old before new after) (sym e)
     (subst (λ l. Does at.layout.now piece kinds old.regs.counts (act.Unit opcode u reach) o.into l old before new after)
     (sym f)
@@ -242,8 +248,7 @@ does_op_unit {can_get} {can_set} {count} {at} {o} {opcode} {u} {reach} {into} {y
     opcode is
     (kind_of r e) r.placed r.state))
 
-pub does_op_plain : {can_get can_set : ℕ → Type 0} {count : ℕ} {at : NoteSetting} {o : Op} {old : State} {cells : ℕ → ℤ}
-    {new : State}
-    → DoesAt at o.act o.into o.from old new → DoesOp can_get can_set count at o old cells new cells
-does_op_plain {can_get} {can_set} {count} {at} {o} {old} {cells} {new} h piece kinds stock r =
+pub does_op_plain : {access : Access} {at : NoteSetting} {o : Op} {old : State} {cells : ℕ → ℤ} {new : State}
+    → DoesAt at o.act o.into o.from old new → DoesOp access at o old cells new cells
+does_op_plain {access} {at} {o} {old} {cells} {new} h piece kinds stock r =
     h at.layout.now piece kinds old.regs.counts cells r.setting r.state

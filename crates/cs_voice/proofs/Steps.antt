@@ -3,7 +3,7 @@ use Rattle.std.proofs.Common.{◌≡◌, ℕ, ℤ, ◌+◌, ◌<◌, ◌≤◌, 
 use Rattle.std.proofs.Common.{◌∙◌, ap, subst, arith}
 use Rattle.cs_ir.specs.{Cycles.is_of_cycle, Validity.is_fine, declared.op.Op.Op, Machine.acts}
 use Rattle.cs_ir.proofs.Fine.{fine_at}
-use Rattle.cs_cells.specs.declared.footprint.Area.{Area}
+use Rattle.cs_cells.specs.{Access.Access, declared.footprint.Area.Area}
 use Rattle.cs_machine.specs.{Registers.values, declared.state.State.State, declared.state.NoteSetting.NoteSetting}
 use Rattle.cs_voice_meaning.specs.{VoiceWorld.voice_world, Voices.has_channel}
 use Rattle.cs_machine.specs.States.{Does, IsStateIn, machine_of}
@@ -14,9 +14,9 @@ use Rattle.cs_voice.proofs.{Ops.all_at, Running.HasMoved, Running.begins, Runnin
 
 -- An op at a place of a code of so many can be done in a control cycle over a bank: it may be done, is fine there, and
 -- is one of a cycle.
-pub record CanStep (can_get can_set : ℕ → Type 0) (count : ℕ) (at : NoteSetting) (c : Context) (end place : ℕ) (op : Op)
+pub record CanStep (access : Access) (at : NoteSetting) (c : Context) (end place : ℕ) (op : Op)
     (s : State) : Type 0 where
-  pub ready : IsReady can_get can_set count at c.piece c.kinds c.stock op s
+  pub ready : IsReady access at c.piece c.kinds c.stock op s
   pub counts : s.regs.counts ≡ c.counts
   pub fine : is_fine s.regs.counts end place op ≡ true
   pub acts : is_of_cycle op.act ≡ true
@@ -32,11 +32,11 @@ pub record HasStepped (areas : List Area) (c : Context) (op : Op) (place result 
 
 -- ---- what a code that can be run needs of each op
 
-module _ {can_get can_set : ℕ → Type 0} {count : ℕ} {at : NoteSetting} {c : Context} {ops : List Op} {s : State}
-    (h : CanRun can_get can_set count at c ops s) where
+module _ {access : Access} {at : NoteSetting} {c : Context} {ops : List Op} {s : State}
+    (h : CanRun access at c ops s) where
   -- each op of a code that can be run can be done
   pub can_step : {n : ℕ} {op : Op} → slice_get ops n ≡ Some op
-      → CanStep can_get can_set count at c (length ops) n op s
+      → CanStep access at c (length ops) n op s
   can_step {n} {op} e =
       let there : is_fine s.regs.counts (length ops) n op ≡ true =
       ap (λ k. is_fine k (length ops) n op) h.state.registers
@@ -63,7 +63,7 @@ module _ {can_get can_set : ℕ → Type 0} {count : ℕ} {at : NoteSetting} {c 
 
   -- and it can still be run from another state of its code
   pub can_go_on : {t : State} → IsStateIn at.layout.now c.piece c.kinds c.counts t
-      → CanRun can_get can_set count at c ops t
+      → CanRun access at c ops t
   can_go_on st = record {
     setting = h.setting;
     placed = h.placed;
@@ -77,13 +77,13 @@ module _ {can_get can_set : ℕ → Type 0} {count : ℕ} {at : NoteSetting} {c 
     can = h.can;
   }
 
-module _ {can_get can_set : ℕ → Type 0} {count : ℕ} {at : NoteSetting} {c : Context} {s : State} {end place : ℕ}
-    {op : Op} (h : CanStep can_get can_set count at c end place op s) where
-  pub can_be_done : CanBeDone can_get can_set count at op s
+module _ {access : Access} {at : NoteSetting} {c : Context} {s : State} {end place : ℕ} {op : Op}
+    (h : CanStep access at c end place op s) where
+  pub can_be_done : CanBeDone access at op s
   can_be_done = record { piece = c.piece; kinds = c.kinds; stock = c.stock; ready = h.ready }
 
   -- and what it does there
-  pub does_step : {before : ℕ → ℤ} {t : State} {after : ℕ → ℤ} → DoesOp can_get can_set count at op s before t after
+  pub does_step : {before : ℕ → ℤ} {t : State} {after : ℕ → ℤ} → DoesOp access at op s before t after
       → HasStepped at.layout.now c op place (place + 1) s before t after
   does_step {before} {t} {after} d =
       let does : Does at.layout.now c.piece c.kinds c.counts op.act op.into op.from s before t after =
@@ -129,11 +129,3 @@ module _ {areas : List Area} {c : Context} {ops : List Op} {old : State} {before
 
   pub ended : length ops ≤ place → HasRun areas c ops old before s cells
   ended far = record { next = h.next; machine = sym (ends h.up far); state = h.state }
-
--- over a bank that lets the same be done
-pub runs_again : {R : Type 0} (get set : R → ℕ → Type 0) {r q : R} {m n : ℕ} {at : NoteSetting} {c : Context}
-    {ops : List Op} {s : State} → q ≡ r → n ≡ m → CanRun (get r) (set r) m at c ops s
-    → CanRun (get q) (set q) n at c ops s
-runs_again {R} get set {r} {q} {m} {n} {at} {c} {ops} {s} rest long h =
-    subst (λ k. CanRun (get q) (set q) k at c ops s) (sym long)
-    (subst (λ z. CanRun (get z) (set z) m at c ops s) (sym rest) h)

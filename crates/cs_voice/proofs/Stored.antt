@@ -5,7 +5,7 @@ use Rattle.std.specs.Option.{is_some}
 use Rattle.cs_base.specs.declared.resource.Rate.{Rate}
 use Rattle.cs_ir.specs.{Registers.rate_at, Resources.Stock, Resources.reaches, Waves.Wave, Waves.operand}
 use Rattle.cs_ir.specs.{declared.op.Reach.Reach, declared.register.Counts.Counts, declared.register.Reg.Reg}
-use Rattle.cs_cells.specs.declared.footprint.Area.{Area}
+use Rattle.cs_cells.specs.{Access.Access, declared.footprint.Area.Area}
 use Rattle.cs_meaning.specs.Model.{store_at, store_into, with_value}
 use Rattle.cs_meaning.specs.Pieces.{Piece, Table, find_table, index, is_live, places_of_indices, steps_of, stored}
 use Rattle.cs_machine.specs.{Registers.values, declared.state.State.State}
@@ -33,14 +33,13 @@ stores_same area m n s v i w before after e f g h =
     (subst (λ x. Stores (Some area) m x w before after) f (subst (λ x. Stores (Some area) m s x before after) g h))
 
 -- an area that is stored into may be
-pub stored_there : (allowed : ℕ → Type 0) (count : ℕ) (areas : List Area) (reach : Reach) (k : Option ℕ) (area : Area)
-    → stored_area areas reach k ≡ Some area
-    → MayStore allowed count areas reach → IsStorable allowed count area
-stored_there allowed count areas reach None area is may = absurd (cc)
-stored_there allowed count areas reach (Some n) area is may = by_reach (reaches reach n) refl is
+pub stored_there : (access : Access) (areas : List Area) (reach : Reach) (k : Option ℕ) (area : Area)
+    → stored_area areas reach k ≡ Some area → MayStore access areas reach → IsStorable access area
+stored_there access areas reach None area is may = absurd (cc)
+stored_there access areas reach (Some n) area is may = by_reach (reaches reach n) refl is
   where
     by_reach : (b : Bool) → reaches reach n ≡ b → (if b then area_of areas (res.Table n) else None) ≡ Some area
-        → IsStorable allowed count area
+        → IsStorable access area
     by_reach true e at = may n area e at
     by_reach false e at = absurd (cc)
 

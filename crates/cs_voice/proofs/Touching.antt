@@ -10,10 +10,11 @@ use Rattle.cs_gen.specs.Points.{len_of}
 use Rattle.cs_ugen.specs.{Points.is_len, Units.IsUnitOpcode, Units.moving_count, Units.opcode_of, Units.reads_table}
 use Rattle.cs_ir.specs.Resources.{Stock, places_of, places_within, reaches, tables_within}
 use Rattle.cs_ir.specs.{declared.op.Reach.Reach, declared.register.Reg.Reg}
-use Rattle.cs_cells.specs.declared.footprint.Area.{Area}
+use Rattle.cs_cells.specs.{Access.Access, declared.footprint.Area.Area}
 use Rattle.cs_meaning.specs.Pieces.{Piece}
-use Rattle.cs_machine.specs.{Access.CanTouch, Players.PlayerData, Players.has_table, States.IsOnTable}
-use Rattle.cs_machine.specs.{States.IsPlayerOf, States.MayTouch, declared.state.NoteSetting.NoteSetting}
+use Rattle.cs_machine.specs.{Access.CanGet, Access.CanTouch, Players.PlayerData, Players.has_table}
+use Rattle.cs_machine.specs.States.{IsOnTable, IsPlayerOf, MayGet, MaySet, MayTouch}
+use Rattle.cs_machine.specs.{declared.state.NoteSetting.NoteSetting}
 use Rattle.cs_voice_meaning.proofs.Naming.{found_number, named_among, place_named}
 use Rattle.cs_voice_meaning.specs.{Follows.AreNamed, Placing.IsPlaced, Placing.area_of}
 use Rattle.cs_voice.specs.{Cells.MayReach, Cells.MayStore, Units.MayPlay, Units.may_play}
@@ -23,10 +24,10 @@ use Rattle.cs_base.specs.declared.resource.Res.TheVariants as res
 -- ---- tables
 
 -- what is known of the area of a unit's live table
-pub record IsTouched (allowed : ℕ → Type 0) (count : ℕ) (reach : Reach) (p : PlayerData) (area : Area) : Type 0 where
+pub record IsTouched (access : Access) (reach : Reach) (p : PlayerData) (area : Area) : Type 0 where
   pub power : is_len (len_of area.length) ≡ true
   pub small : area.first + area.length ≤ 65536
-  pub can : may_play reach p ≡ true → CanTouch allowed count area
+  pub can : may_play reach p ≡ true → CanGet access area
 
 -- a table that has an area isn't frozen
 not_frozen : (frozen : Option (List ℤ)) (o area : Option Area) (a : Area) → area ≡ (if is_some frozen then None else o)
@@ -42,19 +43,19 @@ the_area : (allowed : ℕ → Type 0) (count : ℕ) (areas : List Area) (g : Res
     → MayTouch allowed count areas g → CanTouch allowed count a
 the_area allowed count areas g a at may = subst (CanTouch allowed count) (some_is may.0 a (sym may.1 ∙ at)) may.2
 
-pub touched : (allowed : ℕ → Type 0) (count : ℕ) (areas : List Area) (stock : Stock) (piece : Piece) (reach : Reach)
-    (p : PlayerData) (on : IsOnTable areas piece.tables p)
-    → IsPlaced areas stock piece → AreNamed (MayTouch allowed count areas) (tables_within stock reach) → (area : Area)
-    → p.area ≡ Some area → IsTouched allowed count reach p area
-touched allowed count areas stock piece reach p on placed named area at =
+pub touched : (access : Access) (areas : List Area) (stock : Stock) (piece : Piece) (reach : Reach) (p : PlayerData)
+    (on : IsOnTable areas piece.tables p)
+    → IsPlaced areas stock piece → AreNamed (MayGet access areas) (tables_within stock reach) → (area : Area)
+    → p.area ≡ Some area → IsTouched access reach p area
+touched access areas stock piece reach p on placed named area at =
     let open_table : on.table.frozen ≡ None =
     not_frozen on.table.frozen (area_of areas (res.Table on.table.number)) p.area area on.area at in
     let live : IsLiveOn areas on.table area = live_table areas stock piece p on placed open_table area at in
     record {
       power = subst (λ n. is_len (len_of n) ≡ true) (sym live.size) on.power;
       small = on.small area at;
-      can = λ may. the_area allowed count areas (res.Table on.table.number) area live.area
-          (named_among (MayTouch allowed count areas) res.Table reach stock.live named on.table.number
+      can = λ may. the_area access.can_get access.count areas (res.Table on.table.number) area live.area
+          (named_among (MayGet access areas) res.Table reach stock.live named on.table.number
           (placed.tables p.table on.table on.found open_table).among
           (ap (reaches reach) (found_number piece.tables p.table on.table on.found)
           ∙ in_reach (has_table p) (reaches reach (unsigned_abs p.table)) may on.has));
@@ -73,17 +74,17 @@ when_taken : (N : Res → Type 0) (b : Bool) (l : List Res) → AreNamed N (if b
 when_taken N true l h e = h
 when_taken N false l h e = absurd (cc)
 
-pub may_run : (allowed : ℕ → Type 0) (count : ℕ) (areas : List Area) (stock : Stock) (piece : Piece) (opcode : Opcode)
-    (r : Rate) (reach : Reach) (from : List Reg) (p : PlayerData)
+pub may_run : (access : Access) (areas : List Area) (stock : Stock) (piece : Piece) (opcode : Opcode) (r : Rate)
+    (reach : Reach) (from : List Reg) (p : PlayerData)
     → IsUnitOpcode opcode → length from ≡ moving_count opcode → IsPlaced areas stock piece
-    → AreNamed (MayTouch allowed count areas) (if takes_table opcode then tables_within stock reach else [])
-    → IsPlayerOf areas piece (opcode, r) p → MayPlay allowed count reach from p
-may_run allowed count areas stock piece opcode r reach from p unit long placed named is =
+    → AreNamed (MayGet access areas) (if takes_table opcode then tables_within stock reach else [])
+    → IsPlayerOf areas piece (opcode, r) p → MayPlay access reach from p
+may_run access areas stock piece opcode r reach from p unit long placed named is =
     let same : opcode_of p.state ≡ opcode = is.state in
-    let there : (area : Area) → p.area ≡ Some area → IsTouched allowed count reach p area =
+    let there : (area : Area) → p.area ≡ Some area → IsTouched access reach p area =
     λ area at. let takes = takes_with areas piece (opcode, r) p is area at in
-    touched allowed count areas stock piece reach p (is.table takes) placed
-    (when_taken (MayTouch allowed count areas) (takes_table opcode) (tables_within stock reach) named takes) area at in
+    touched access areas stock piece reach p (is.table takes) placed
+    (when_taken (MayGet access areas) (takes_table opcode) (tables_within stock reach) named takes) area at in
     record {
       unit = subst IsUnitOpcode (sym same) unit;
       operands = long ∙ ap moving_count (sym same);
@@ -96,10 +97,10 @@ may_run allowed count areas stock piece opcode r reach from p unit long placed n
     }
 
 -- a live table within reach may be stored into
-pub may_store : (allowed : ℕ → Type 0) (count : ℕ) (areas : List Area) (stock : Stock) (piece : Piece) (reach : Reach)
-    → IsPlaced areas stock piece → AreNamed (MayTouch allowed count areas) (tables_within stock reach)
-    → MayStore allowed count areas reach
-may_store allowed count areas stock piece reach placed named n area within at =
+pub may_store : (access : Access) (areas : List Area) (stock : Stock) (piece : Piece) (reach : Reach)
+    → IsPlaced areas stock piece → AreNamed (MaySet access areas) (tables_within stock reach)
+    → MayStore access areas reach
+may_store access areas stock piece reach placed named n area within at =
     let is = placed.live n area at in
     let lies = placed.tables (pos n) is.table is.found is.live in
     let number : is.table.number ≡ n = found_number piece.tables (pos n) is.table is.found in
@@ -107,8 +108,8 @@ may_store allowed count areas stock piece reach placed named n area within at =
     ap (λ m. area_of areas (res.Table m)) number ∙ at in
     record {
       power = ap (λ m. is_len (len_of m)) (lies.size area here) ∙ lies.power;
-      write = the_area allowed count areas (res.Table is.table.number) area here
-          (named_among (MayTouch allowed count areas) res.Table reach stock.live named is.table.number lies.among
+      write = the_area access.can_set access.count areas (res.Table is.table.number) area here
+          (named_among (MaySet access areas) res.Table reach stock.live named is.table.number lies.among
           (ap (reaches reach) number ∙ within));
     }
 

@@ -8,13 +8,14 @@ use Rattle.cs_ugen.specs.Points.{is_len}
 use Rattle.cs_ir.specs.Resources.{Stock, places_of, reaches, zak_place}
 use Rattle.cs_ir.specs.{Validity.has_register, Validity.has_value, declared.op.Act.Act, declared.op.Reach.Reach}
 use Rattle.cs_ir.specs.{declared.register.Counts.Counts, declared.register.Reg.Reg}
-use Rattle.cs_cells.specs.declared.footprint.Area.{Area}
+use Rattle.cs_cells.specs.{Access.Access, declared.footprint.Area.Area}
 use Rattle.cs_meaning.specs.Pieces.{Piece}
 use Rattle.cs_voice_meaning.specs.{Follows.Kinds, Placing.IsPlaced, Placing.area_of, Placing.cell_count}
-use Rattle.cs_machine.specs.{Access.CanTouch, declared.state.NoteSetting.NoteSetting, declared.state.State.State}
+use Rattle.cs_machine.specs.{Access.CanSet, declared.state.NoteSetting.NoteSetting, declared.state.State.State}
 use Rattle.cs_machine.specs.States.{Does, HasRoom, IsSettingOf, IsStateIn, MayTouch}
 use Rattle.cs_base.specs.declared.resource.Res.TheVariants as res
 use Rattle.cs_ir.specs.declared.op.Act.TheVariants as acts
+use Rattle.cs_words.specs.declared.catalogue.Space.TheVariants as space
 
 -- An act makes of a state and cells what it makes in whatever piece the setting is of, whose areas are placed and whose
 -- state it is.
@@ -40,14 +41,14 @@ abbrev pub MayReach : (ℕ → Type 0) → ℕ → NoteSetting → Space → Rea
 MayReach allowed count at s reach = (n : ℕ) → n < places_of at.spaces s → reaches reach n ≡ true
     → MayTouch allowed count at.layout.now (zak_place s n)
 
--- A register may name a zak place that is read or written: it is there, a row has room, areas have their cells, and
--- each place within reach may be touched.
-pub record CanReach (allowed : ℕ → Type 0) (count : ℕ) (at : NoteSetting) (space : Space) (reach : Reach) (number : Reg)
-    (s : State) : Type 0 where
+-- A register may name a zak place of sound that is mixed into: it is there, a row has room, areas have their cells, and
+-- each place within reach may be read and written.
+pub record CanMix (access : Access) (at : NoteSetting) (reach : Reach) (number : Reg) (s : State) : Type 0 where
   pub register : has_register s.regs.counts number ≡ true
   pub room : HasRoom s
   pub sized : AreSized at.layout.now s.regs.ksmps
-  pub places : MayReach allowed count at space reach
+  pub read : MayReach access.can_get access.count at space.Audio reach
+  pub write : MayReach access.can_set access.count at space.Audio reach
 
 -- the area of the live table of a number, where it is within reach
 abbrev pub stored_area : List Area → Reach → Option ℕ → Option Area
@@ -55,12 +56,11 @@ stored_area areas reach None = None
 stored_area areas reach (Some n) = if reaches reach n then area_of areas (res.Table n) else None
 
 -- The cells of a table may be stored into.
-pub record IsStorable (allowed : ℕ → Type 0) (count : ℕ) (area : Area) : Type 0 where
+pub record IsStorable (access : Access) (area : Area) : Type 0 where
   pub power : is_len (len_of area.length) ≡ true
-  pub write : CanTouch allowed count area
+  pub write : CanSet access area
 
 -- so may those of each live table within reach
-abbrev pub MayStore : (ℕ → Type 0) → ℕ → List Area → Reach → Type 0
-MayStore allowed count areas reach =
-    (n : ℕ) (area : Area) → reaches reach n ≡ true → area_of areas (res.Table n) ≡ Some area
-    → IsStorable allowed count area
+abbrev pub MayStore : Access → List Area → Reach → Type 0
+MayStore access areas reach =
+    (n : ℕ) (area : Area) → reaches reach n ≡ true → area_of areas (res.Table n) ≡ Some area → IsStorable access area

@@ -1,5 +1,6 @@
 -- A code that is done from place to place: what it needs, in a control cycle or as a note begins.
 use Rattle.std.specs.Prelude.{ℕ, ℤ, Bool, ◌≡◌, ◌⊎◌, List, Option, Some, None}
+use Rattle.cs_cells.specs.Access.{Access}
 use Rattle.cs_ir.specs.{declared.ask.Ask.Ask, declared.op.Code.Code, declared.op.Op.Op}
 use Rattle.cs_machine.specs.{declared.state.NoteSetting.NoteSetting, declared.state.State.State}
 use Rattle.cs_voice_meaning.specs.Voices.{Sheet, IsPlayable}
@@ -30,11 +31,10 @@ HasStarted (Some f) op old asked new given refused = (s : Sheet) (cells : ℕ �
     → IsDone s op old cells asked new cells given refused
 
 -- a code can be done as one of a sheet that begins
-abbrev pub CanBeginBy : (get set : ℕ → Type 0) → ℕ → NoteSetting → Finding → List Op → State → Type 0
-CanBeginBy get set count at None ops now = ⊥
-CanBeginBy get set count at (Some f) ops now = (code : Code) × (s : Sheet) × (f.0.at ≡ at) × (code.ops ≡ ops)
-    × CanPass get set count f.0 f.1 code s now
+abbrev pub CanBeginBy : Access → NoteSetting → Finding → List Op → State → Type 0
+CanBeginBy access at None ops now = ⊥
+CanBeginBy access at (Some f) ops now = (code : Code) × (s : Sheet) × (f.0.at ≡ at) × (code.ops ≡ ops)
+    × CanPass access f.0 f.1 code s now
 
-abbrev pub CanGo : (get set : ℕ → Type 0) → ℕ → NoteSetting → Finding → List Op → State → Type 0
-CanGo get set count at finding ops now =
-    ((c : Context) × CanRun get set count at c ops now) ⊎ CanBeginBy get set count at finding ops now
+abbrev pub CanGo : Access → NoteSetting → Finding → List Op → State → Type 0
+CanGo access at finding ops now = ((c : Context) × CanRun access at c ops now) ⊎ CanBeginBy access at finding ops now

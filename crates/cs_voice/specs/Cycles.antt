@@ -3,7 +3,7 @@ use Rattle.std.specs.Prelude.{ℕ, ℤ, ◌≡◌, true, List, [], length, None}
 use Rattle.std.specs.List.{AllByRecursion}
 use Rattle.cs_ir.specs.{Cycles.are_of_cycle, Machine.run, Resources.Stock, Validity.fine_from, declared.op.Op.Op}
 use Rattle.cs_ir.specs.declared.register.Counts.{Counts}
-use Rattle.cs_cells.specs.declared.footprint.Area.{Area}
+use Rattle.cs_cells.specs.{Access.Access, declared.footprint.Area.Area}
 use Rattle.cs_meaning.specs.Pieces.{Piece}
 use Rattle.cs_machine.specs.{Access.AreSpaces, Access.spaces_of, States.CanDo, States.IsSettingOf, States.IsStateIn}
 use Rattle.cs_machine.specs.{States.machine_of, declared.state.State.State, declared.state.NoteSetting.NoteSetting}
@@ -19,8 +19,7 @@ pub record Context : Type 0 where
   pub counts : Counts
 
 -- A code can be run in a control cycle over a bank: each of its ops can be done.
-pub record CanRun (can_get can_set : ℕ → Type 0) (count : ℕ) (at : NoteSetting) (c : Context) (ops : List Op)
-    (s : State) : Type 0 where
+pub record CanRun (access : Access) (at : NoteSetting) (c : Context) (ops : List Op) (s : State) : Type 0 where
   pub setting : IsSettingOf at at.layout.now c.piece
   pub placed : IsPlaced at.layout.now c.stock c.piece
   pub spaces : AreSpaces at.layout.now
@@ -30,7 +29,7 @@ pub record CanRun (can_get can_set : ℕ → Type 0) (count : ℕ) (at : NoteSet
   pub named : OpsNamed c.stock c.kinds (HasArea at.layout.now) ops
   pub channels : have_channels c.piece.head.nchnls ops ≡ true
   pub acts : are_of_cycle ops ≡ true
-  pub can : AllByRecursion (λ (op : Op). CanDo can_get can_set count at.layout.now c.stock op.act) ops
+  pub can : AllByRecursion (λ (op : Op). CanDo access at.layout.now c.stock op.act) ops
 
 -- A code was run: the state and the cells are those of the machine after it. Where its last jump went doesn't matter
 -- any more.

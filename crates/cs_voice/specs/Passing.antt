@@ -1,11 +1,11 @@
 -- The code that a note begins with, done up to its end or up to a refusal.
-use Rattle.std.specs.Prelude.{ℕ, ℤ, Bool, ◌≡◌, ◌≤◌, ◌<◌, ◌++◌, true, List, [], length, map, Option, None}
+use Rattle.std.specs.Prelude.{ℕ, ℤ, Bool, ◌≡◌, ◌≤◌, ◌++◌, true, List, [], length, map, Option, None}
 use Rattle.std.specs.Option.{option_map}
 use Rattle.cs_base.specs.Limits.{most_delay_samples}
 use Rattle.cs_ir.specs.{Registers.rate_at, Asks.ask_of, Validity.is_fine, Validity.valid, declared.ask.Ask.Ask}
 use Rattle.cs_ir.specs.{declared.op.Code.Code, declared.op.Op.Op, declared.register.Counts.Counts}
 use Rattle.cs_ir.specs.Machine.{acts, new_machine, run}
-use Rattle.cs_cells.specs.{Areas.word_count, declared.footprint.Area.Area}
+use Rattle.cs_cells.specs.{Access.Access, Access.AllowsBelow, Areas.word_count, declared.footprint.Area.Area}
 use Rattle.cs_meaning.specs.Pieces.{Piece}
 use Rattle.cs_machine.specs.{Access.AreSpaces, Access.spaces_of, Registers.values, declared.state.State.State}
 use Rattle.cs_voice_meaning.specs.{Placing.HasArea, VoiceWorld.fresh_voice, VoiceWorld.voice_world, Follows.ActNamed}
@@ -40,26 +40,23 @@ pub record IsOpOf (s : Sheet) (counts : Counts) (op : Op) : Type 0 where
 
 -- A note of a sheet can begin: what it finds is what the sheet says, the sheet can be played, the state is one of its
 -- code, and each cell of the piece can be read and written.
-pub record CanBegin (get set : ℕ → Type 0) (count : ℕ) (finds : Finds) (ms : List Bool) (s : Sheet)
-    (now : State) : Type 0 where
+pub record CanBegin (access : Access) (finds : Finds) (ms : List Bool) (s : Sheet) (now : State) : Type 0 where
   pub found : IsFound finds ms s
   pub playable : IsPlayable s
   pub state : IsStateOf s now.regs.counts now
-  pub gets : (a : ℕ) → a < word_count s.areas → get a
-  pub sets : (a : ℕ) → a < word_count s.areas → set a
-  pub long : word_count s.areas ≤ count
+  pub bank : AllowsBelow access (word_count s.areas)
 
 -- so can a code of the sheet
-pub record CanPass (get set : ℕ → Type 0) (count : ℕ) (finds : Finds) (ms : List Bool) (code : Code) (s : Sheet)
+pub record CanPass (access : Access) (finds : Finds) (ms : List Bool) (code : Code) (s : Sheet)
     (now : State) : Type 0 where
-  pub begin : CanBegin get set count finds ms s now
+  pub begin : CanBegin access finds ms s now
   pub same : s.init ≡ code.ops
   pub valid : valid code ≡ true
   pub counts : now.regs.counts ≡ code.counts
 
 -- A note can begin with these p-fields, in a new state of its first code: it finds what it plays in, it can be played,
 -- its tables too, its layout has the zak places of the piece, and each cell of the piece can be read and written.
-pub record CanInitialise (get set : ℕ → Type 0) (count : ℕ) (finds : Finds) (note : NewNote) (fields : List ℤ)
+pub record CanInitialise (access : Access) (finds : Finds) (note : NewNote) (fields : List ℤ)
     (now : State) : Type 0 where
   pub layout : finds.at.layout.now ≡ note.stage.layout.now
   pub head : finds.at.head.now ≡ note.stage.head.now
@@ -71,9 +68,7 @@ pub record CanInitialise (get set : ℕ → Type 0) (count : ℕ) (finds : Finds
   pub tables : CanAllBePlayed note.stage.layout.now (sheet_for note fields).piece.tables
   pub places : AreSpaces note.stage.layout.now
   pub spaces : spaces_of note.stage.layout.now ≡ note.stage.spaces
-  pub gets : (a : ℕ) → a < word_count note.stage.layout.now → get a
-  pub sets : (a : ℕ) → a < word_count note.stage.layout.now → set a
-  pub cells : word_count note.stage.layout.now ≤ count
+  pub bank : AllowsBelow access (word_count note.stage.layout.now)
   pub fresh : (cells : ℕ → ℤ) → machine_of now cells 0 [] None ≡ new_machine (fresh_voice cells)
   pub in_piece : (areas : List Area) (piece : Piece) (kinds : Kinds) → piece.head.ksmps ≡ note.stage.head.now.ksmps
       → piece.head.nchnls ≡ note.stage.head.now.nchnls

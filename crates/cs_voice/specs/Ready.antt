@@ -1,5 +1,6 @@
 -- When an op may be done on a state over a bank.
 use Rattle.std.specs.Prelude.{ℕ, ℤ, ◌≡◌, Bool, true, false, length}
+use Rattle.cs_cells.specs.Access.{Access}
 use Rattle.cs_ir.specs.{Registers.rate_at, Resources.Stock, Validity.is_fine, declared.op.Act.Act, declared.op.Op.Op}
 use Rattle.cs_meaning.specs.Pieces.{Piece}
 use Rattle.cs_machine.specs.{Access.AreSpaces, Access.spaces_of, declared.state.State.State}
@@ -22,9 +23,8 @@ is_here _ = true
 -- An op of a valid code may be done: the setting is that of a piece, whose areas are placed; the state is one of the
 -- code and the piece; the units are of the op's opcode, and its channel is there; and what it touches may be read or
 -- written.
-pub record IsReady (can_get can_set : ℕ → Type 0) (count : ℕ) (at : NoteSetting) (piece : Piece) (kinds : Kinds)
-    (stock : Stock)
-    (op : Op) (s : State) : Type 0 where
+pub record IsReady (access : Access) (at : NoteSetting) (piece : Piece) (kinds : Kinds) (stock : Stock) (op : Op)
+    (s : State) : Type 0 where
   pub setting : IsSettingOf at at.layout.now piece
   pub placed : IsPlaced at.layout.now stock piece
   pub spaces : AreSpaces at.layout.now
@@ -35,19 +35,19 @@ pub record IsReady (can_get can_set : ℕ → Type 0) (count : ℕ) (at : NoteSe
   pub fine : is_fine s.regs.counts end place op ≡ true
   pub named : ActNamed stock kinds (HasArea at.layout.now) op.act (rate_at op.into)
   pub channel : has_channel piece.head.nchnls op.act ≡ true
-  pub can : CanDo can_get can_set count at.layout.now stock op.act
+  pub can : CanDo access at.layout.now stock op.act
 
 -- some piece in which it may be done
-pub record CanBeDone (can_get can_set : ℕ → Type 0) (count : ℕ) (at : NoteSetting) (op : Op) (s : State) : Type 0 where
+pub record CanBeDone (access : Access) (at : NoteSetting) (op : Op) (s : State) : Type 0 where
   pub piece : Piece
   pub kinds : Kinds
   pub stock : Stock
-  pub ready : IsReady can_get can_set count at piece kinds stock op s
+  pub ready : IsReady access at piece kinds stock op s
 
 -- In whatever piece it may be done, the op is done there.
-abbrev pub DoesOp : (ℕ → Type 0) → (ℕ → Type 0) → ℕ → NoteSetting → Op → State → (ℕ → ℤ) → State → (ℕ → ℤ) → Type 0
-DoesOp can_get can_set count at op old before new after = (piece : Piece) (kinds : Kinds) (stock : Stock)
-    → IsReady can_get can_set count at piece kinds stock op old
+abbrev pub DoesOp : Access → NoteSetting → Op → State → (ℕ → ℤ) → State → (ℕ → ℤ) → Type 0
+DoesOp access at op old before new after = (piece : Piece) (kinds : Kinds) (stock : Stock)
+    → IsReady access at piece kinds stock op old
     → Does at.layout.now piece kinds old.regs.counts op.act op.into op.from old before new after
 
 -- The acts that touch registers and output channels alone.

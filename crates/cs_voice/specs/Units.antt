@@ -7,7 +7,7 @@ use Rattle.cs_signal.specs.Operands.{argument}
 use Rattle.cs_ugen.specs.{Units.IsUnitOpcode, Units.moving_count, Units.opcode_of, declared.unit.UnitState.UnitState}
 use Rattle.cs_ir.specs.{Registers.rate_at, Resources.Stock, Resources.reaches, Waves.Wave, Waves.silence}
 use Rattle.cs_ir.specs.{declared.op.Reach.Reach, declared.register.Counts.Counts, declared.register.Reg.Reg}
-use Rattle.cs_cells.specs.declared.footprint.Area.{Area}
+use Rattle.cs_cells.specs.{Access.Access, declared.footprint.Area.Area}
 use Rattle.cs_meaning.specs.Pieces.{Piece, steps_of, step_at}
 use Rattle.cs_machine.specs.Players.{CanRead, PlayerData, has_table, stepped}
 use Rattle.cs_voice_meaning.specs.{Follows.Kinds, Placing.IsPlaced}
@@ -20,10 +20,10 @@ may_play reach p = not (has_table p) || reaches reach (unsigned_abs p.table)
 
 -- A unit may be run on these registers: it takes as many, and the table that it reads may be read where it is within
 -- reach.
-pub record MayPlay (allowed : ℕ → Type 0) (count : ℕ) (reach : Reach) (from : List Reg) (p : PlayerData) : Type 0 where
+pub record MayPlay (access : Access) (reach : Reach) (from : List Reg) (p : PlayerData) : Type 0 where
   pub unit : IsUnitOpcode (opcode_of p.state)
   pub operands : length from ≡ moving_count (opcode_of p.state)
-  pub read : may_play reach p ≡ true → CanRead allowed count p
+  pub read : may_play reach p ≡ true → CanRead access p
 
 -- the steps of a unit in a cycle, at a rate: where it comes to, and its results
 abbrev pub cycled : ℕ → Rate → List Wave → (ℕ → ℤ) → PlayerData → UnitState × List ℤ

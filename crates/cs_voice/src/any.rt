@@ -1,5 +1,5 @@
 // Any act but those that go on at another op, start a unit or ask for a note.
-ghost use Rattle.std.specs.Prelude.{◌≡◌, length, true};
+ghost use Rattle.std.specs.Prelude.{◌≡◌, true};
 ghost use Rattle.cs_voice.specs.Ready.{CanBeDone, DoesOp, IsFit, is_here, is_plain};
 ghost use Rattle.cs_cells.specs.Cells.{cell};
 ghost use Rattle.cs_ir.specs.{Flat.leaves_room, Placed.there};
@@ -19,12 +19,9 @@ use cs_machine::{NoteSetting, State, field_of, head_value};
 pub(crate) fn act<B: Bank>(state: &mut State<'_>, at: &NoteSetting<'_>, op: OpAt<'_>, bank: &mut B)
     requires here { is_here (there op).act ≡ true }
     requires room { leaves_room op.window.now ≡ true }
-    requires ready { CanBeDone (B.can_get (B.rest bank.old)) (B.can_set (B.rest bank.old)) (length (B.cells bank.old))
-        at.now
-        (there op) state.old }
-    ensures does { DoesOp (B.can_get (B.rest bank.old)) (B.can_set (B.rest bank.old)) (length (B.cells bank.old)) at.now
-        (there op.entry) state.old (cell (B.cells bank.old)) state.new (cell (B.cells bank.new)) }
-    ensures long { length (B.cells bank.new) ≡ length (B.cells bank.old) }
+    requires ready { CanBeDone (B.access (B.rest bank.old)) at.now (there op) state.old }
+    ensures does { DoesOp (B.access (B.rest bank.old)) at.now (there op.entry) state.old
+        (cell (B.cells bank.old)) state.new (cell (B.cells bank.new)) }
     ensures rest { B.rest bank.new ≡ B.rest bank.old }
 {
     match op.op.act {

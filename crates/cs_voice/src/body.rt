@@ -1,6 +1,6 @@
 // A voice as it lies in memory.
-ghost use Rattle.std.specs.Prelude.{◌≡◌, ◌<◌, ℕ, length};
-ghost use Rattle.cs_cells.specs.Meaning.{Uses, Writes};
+ghost use Rattle.std.specs.Prelude.{◌≡◌, length};
+ghost use Rattle.cs_cells.specs.{Access.Allows, Meaning.Uses, Meaning.Writes};
 ghost use Rattle.cs_ir.specs.Waves.{silence};
 ghost use Rattle.cs_machine.specs.Outputs.{outs};
 ghost use Rattle.cs_voice.specs.Memory.{IsBody, data_of};
@@ -32,9 +32,8 @@ impl VoiceBody<'_> {
     /// Performs a control cycle: its channels begin silent.
     pub(crate) fn run<B: Bank>(&mut self, bank: &mut B)
         requires body { IsBody self.old }
-        requires get { (a : ℕ) → Uses voice_job (data_of self.old) a → B.can_get (B.rest bank.old) a }
-        requires set { (a : ℕ) → Writes voice_job (data_of self.old) a → B.can_set (B.rest bank.old) a }
-        requires cells { (a : ℕ) → Uses voice_job (data_of self.old) a → a < length (B.cells bank.old) }
+        requires access { Allows (B.access (B.rest bank.old)) (Uses voice_job (data_of self.old))
+            (Writes voice_job (data_of self.old)) }
         ensures job { data_of self.new ≡ after (data_of self.old) (B.cells bank.old) }
         ensures cells { B.cells bank.new ≡ leaves (data_of self.old) (B.cells bank.old) }
         ensures rest { B.rest bank.new ≡ B.rest bank.old }

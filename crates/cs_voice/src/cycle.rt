@@ -1,5 +1,5 @@
 // A control cycle: the second code of a note.
-ghost use Rattle.std.specs.Prelude.{◌≡◌, length};
+ghost use Rattle.std.specs.Prelude.{◌≡◌};
 ghost use Rattle.cs_cells.specs.Cells.{cell};
 ghost use Rattle.cs_voice.specs.Cycles.{CanRun, Context, HasRun};
 
@@ -10,14 +10,9 @@ use cs_machine::{NoteSetting, State};
 
 /// Runs a code over a cycle.
 pub(crate) fn perform<B: Bank>(state: &mut State<'_>, at: &NoteSetting<'_>, ops: &Ops, bank: &mut B)
-    requires { (c : Context) × CanRun (B.can_get (B.rest bank.old)) (B.can_set (B.rest bank.old))
-        (length (B.cells bank.old))
-        at.now c ops.now state.old }
-    ensures run { (c : Context) → CanRun (B.can_get (B.rest bank.old)) (B.can_set (B.rest bank.old))
-        (length (B.cells bank.old))
-        at.now c ops.now state.old
+    requires { (c : Context) × CanRun (B.access (B.rest bank.old)) at.now c ops.now state.old }
+    ensures run { (c : Context) → CanRun (B.access (B.rest bank.old)) at.now c ops.now state.old
         → HasRun at.now.layout.now c ops.now state.old (cell (B.cells bank.old)) state.new (cell (B.cells bank.new)) }
-    ensures long { length (B.cells bank.new) ≡ length (B.cells bank.old) }
     ensures rest { B.rest bank.new ≡ B.rest bank.old }
 {
     match run(state, at, ops, &mut None, bank) {

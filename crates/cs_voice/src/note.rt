@@ -1,7 +1,7 @@
 // How a note begins.
-ghost use Rattle.std.specs.Prelude.{◌≡◌, ◌<◌, ◌≤◌, ◌++◌, ℕ, length, map, IfOk, OnOk};
+ghost use Rattle.std.specs.Prelude.{◌≡◌, ◌++◌, length, map, IfOk, OnOk};
 ghost use Rattle.cs_machine.specs.Access.{AreSpaces, spaces_of};
-ghost use Rattle.cs_cells.specs.{Areas.word_count, Cells.cell};
+ghost use Rattle.cs_cells.specs.{Access.AllowsBelow, Areas.word_count, Cells.cell};
 ghost use Rattle.cs_ir.specs.Asks.{ask_of};
 ghost use Rattle.cs_voice_meaning.specs.Voices.{IsPlayable, initialised};
 ghost use Rattle.cs_voice.specs.{Starts.IsStarted, Starts.sheet_for, Starts.started_as, Tables.CanAllBePlayed};
@@ -62,9 +62,7 @@ pub fn start<'p, B: Bank>(
     requires tables { CanAllBePlayed note.now.stage.layout.now (sheet_for note.now fields.items).piece.tables }
     requires places { AreSpaces note.now.stage.layout.now }
     requires spaces { spaces_of note.now.stage.layout.now ≡ note.now.stage.spaces }
-    requires get { (a : ℕ) → a < word_count note.now.stage.layout.now → B.can_get (B.rest bank.old) a }
-    requires set { (a : ℕ) → a < word_count note.now.stage.layout.now → B.can_set (B.rest bank.old) a }
-    requires cells { word_count note.now.stage.layout.now ≤ length (B.cells bank.old) }
+    requires access { AllowsBelow (B.access (B.rest bank.old)) (word_count note.now.stage.layout.now) }
     ensures started { let s = sheet_for note.now fields.items in
         IfOk result (IsStarted s note.now.until (initialised s (cell (B.cells bank.old)))) }
     ensures cells { let s = sheet_for note.now fields.items in
@@ -72,7 +70,6 @@ pub fn start<'p, B: Bank>(
     ensures asks { let s = sheet_for note.now fields.items in
         OnOk result (asks.new.items ≡ asks.old.items ++ map ask_of
         (initialised s (cell (B.cells bank.old))).world.asks) }
-    ensures long { length (B.cells bank.new) ≡ length (B.cells bank.old) }
     ensures rest { B.rest bank.new ≡ B.rest bank.old }
 {
     let finds = Finds {

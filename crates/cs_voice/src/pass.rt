@@ -1,5 +1,5 @@
 // The code that a note begins with.
-ghost use Rattle.std.specs.Prelude.{◌≡◌, ℤ, List, length, IfOk};
+ghost use Rattle.std.specs.Prelude.{◌≡◌, ℤ, List, IfOk};
 ghost use Rattle.cs_cells.specs.Cells.{cell};
 ghost use Rattle.cs_voice.specs.{Passing.CanInitialise, Passing.Passes, Starts.sheet_for};
 
@@ -25,13 +25,10 @@ pub(crate) fn pass<'s, 'p, B: Bank>(
     asks: &mut Vec<Ask>,
     bank: &mut B,
 ) -> Result<Option<StartRefusal>, OutOfMemory>
-    requires { CanInitialise (B.can_get (B.rest bank.old)) (B.can_set (B.rest bank.old)) (length (B.cells bank.old))
-        finds.now note.now finds.now.at.fields.now
-        state.old }
+    requires { CanInitialise (B.access (B.rest bank.old)) finds.now note.now finds.now.at.fields.now state.old }
     ensures passes { IfOk result (λ refused. (fields : List ℤ) → finds.now.at.fields.now ≡ fields
         → Passes (sheet_for note.now fields) state.old (cell (B.cells bank.old)) asks.old.items state.new
         (cell (B.cells bank.new)) asks.new.items refused) }
-    ensures long { length (B.cells bank.new) ≡ length (B.cells bank.old) }
     ensures rest { B.rest bank.new ≡ B.rest bank.old }
 {
     let code = note.instrument.init();
@@ -46,6 +43,5 @@ pub(crate) fn pass<'s, 'p, B: Bank>(
     let mut starter = Some(starter);
     let passed = run(state, &finds.at, &code.ops, &mut starter, bank);
     give_asks(&mut starter, asks);
-    let refused = passed?;
-    Ok(refused)
+    passed
 }

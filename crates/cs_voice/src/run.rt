@@ -29,22 +29,16 @@ pub(crate) fn run<'p, B: Bank>(
     starter: &mut Option<Starter<'_, '_, '_, 'p>>,
     bank: &mut B,
 ) -> Result<Option<StartRefusal>, OutOfMemory>
-    requires { CanGo (B.can_get (B.rest bank.old)) (B.can_set (B.rest bank.old)) (length (B.cells bank.old)) at.now
-        (finding starter.old) ops.now state.old }
-    ensures cycle { IfOk result (λ refused. (c : Context) → CanRun (B.can_get (B.rest bank.old))
-        (B.can_set (B.rest bank.old))
-        (length (B.cells bank.old)) at.now c ops.now state.old
-        → (refused ≡ None) × HasRun at.now.layout.now c ops.now state.old (cell (B.cells bank.old)) state.new
-        (cell (B.cells bank.new))) }
+    requires { CanGo (B.access (B.rest bank.old)) at.now (finding starter.old) ops.now state.old }
+    ensures cycle { IfOk result (λ refused. (c : Context)
+        → CanRun (B.access (B.rest bank.old)) at.now c ops.now state.old → (refused ≡ None)
+        × HasRun at.now.layout.now c ops.now state.old (cell (B.cells bank.old)) state.new (cell (B.cells bank.new))) }
     ensures passes { IfOk result (λ refused. (f : Finds) (ms : List Bool) (code : Code) (s : Sheet)
         → finding starter.old ≡ Some (f, ms) → f.at ≡ at.now → code.ops ≡ ops.now
-        → CanPass (B.can_get (B.rest bank.old)) (B.can_set (B.rest bank.old)) (length (B.cells bank.old)) f ms code s
-        state.old
+        → CanPass (B.access (B.rest bank.old)) f ms code s state.old
         → Passes s state.old (cell (B.cells bank.old)) (asked starter.old) state.new (cell (B.cells bank.new))
         (asked starter.new) refused) }
-    ensures memory { IsErr result → (c : Context) → CanRun (B.can_get (B.rest bank.old)) (B.can_set (B.rest bank.old))
-        (length (B.cells bank.old)) at.now c ops.now state.old → ⊥ }
-    ensures long { length (B.cells bank.new) ≡ length (B.cells bank.old) }
+    ensures memory { IsErr result → (c : Context) → CanRun (B.access (B.rest bank.old)) at.now c ops.now state.old → ⊥ }
     ensures rest { B.rest bank.new ≡ B.rest bank.old }
 {
     let (routines, steps) = ops.parts();
@@ -88,19 +82,16 @@ fn steps_in<'p, B: Bank>(
     bank: &mut B,
 ) -> Result<Option<StartRefusal>, OutOfMemory>
     requires low { IsLow (length code.now.routines.now) code.now.window }
-    requires able { CanDoOps (B.can_get (B.rest bank.old)) (B.can_set (B.rest bank.old)) (length (B.cells bank.old))
-        at.now (finding starter.old) code.now.window (flat (library_in code.now.routines.now) code.now.steps.now)
-        state.old (cell (B.cells bank.old)) (asked starter.old) }
-    ensures does { IfOk result (λ refused. DoesOps (B.can_get (B.rest bank.old)) (B.can_set (B.rest bank.old))
-        (length (B.cells bank.old)) at.now (finding starter.old) code.now.window
-        (flat (library_in code.now.routines.now) code.now.steps.now) state.old (cell (B.cells bank.old))
-        (asked starter.old) state.new (cell (B.cells bank.new)) (asked starter.new) refused) }
-    ensures memory { IsErr result → AreOfNoCycle (B.can_get (B.rest bank.old)) (B.can_set (B.rest bank.old))
-        (length (B.cells bank.old)) at.now (finding starter.old) code.now.window
+    requires able { CanDoOps (B.access (B.rest bank.old)) at.now (finding starter.old) code.now.window
         (flat (library_in code.now.routines.now) code.now.steps.now) state.old (cell (B.cells bank.old))
         (asked starter.old) }
+    ensures does { IfOk result (λ refused. DoesOps (B.access (B.rest bank.old)) at.now (finding starter.old)
+        code.now.window (flat (library_in code.now.routines.now) code.now.steps.now) state.old
+        (cell (B.cells bank.old)) (asked starter.old) state.new (cell (B.cells bank.new)) (asked starter.new) refused) }
+    ensures memory { IsErr result → AreOfNoCycle (B.access (B.rest bank.old)) at.now (finding starter.old)
+        code.now.window (flat (library_in code.now.routines.now) code.now.steps.now) state.old
+        (cell (B.cells bank.old)) (asked starter.old) }
     ensures same { finding starter.new ≡ finding starter.old }
-    ensures long { length (B.cells bank.new) ≡ length (B.cells bank.old) }
     ensures rest { B.rest bank.new ≡ B.rest bank.old }
 {
     let steps = code.steps;
@@ -151,20 +142,17 @@ fn invoke<'p, B: Bank>(
     bank: &mut B,
 ) -> Result<Option<StartRefusal>, OutOfMemory>
     requires low { IsLow (length code.now.routines.now) code.now.window }
-    requires able { CanDoOps (B.can_get (B.rest bank.old)) (B.can_set (B.rest bank.old)) (length (B.cells bank.old))
-        at.now (finding starter.old) (further code.now.window (window_of call.now))
-        (ops_at (library_in code.now.routines.now) call.now.routine) state.old (cell (B.cells bank.old))
-        (asked starter.old) }
-    ensures does { IfOk result (λ refused. DoesOps (B.can_get (B.rest bank.old)) (B.can_set (B.rest bank.old))
-        (length (B.cells bank.old)) at.now (finding starter.old) (further code.now.window (window_of call.now))
-        (ops_at (library_in code.now.routines.now) call.now.routine) state.old (cell (B.cells bank.old))
-        (asked starter.old) state.new (cell (B.cells bank.new)) (asked starter.new) refused) }
-    ensures memory { IsErr result → AreOfNoCycle (B.can_get (B.rest bank.old)) (B.can_set (B.rest bank.old))
-        (length (B.cells bank.old)) at.now (finding starter.old) (further code.now.window (window_of call.now))
-        (ops_at (library_in code.now.routines.now) call.now.routine) state.old (cell (B.cells bank.old))
-        (asked starter.old) }
+    requires able { CanDoOps (B.access (B.rest bank.old)) at.now (finding starter.old)
+        (further code.now.window (window_of call.now)) (ops_at (library_in code.now.routines.now) call.now.routine)
+        state.old (cell (B.cells bank.old)) (asked starter.old) }
+    ensures does { IfOk result (λ refused. DoesOps (B.access (B.rest bank.old)) at.now (finding starter.old)
+        (further code.now.window (window_of call.now)) (ops_at (library_in code.now.routines.now) call.now.routine)
+        state.old (cell (B.cells bank.old)) (asked starter.old) state.new (cell (B.cells bank.new))
+        (asked starter.new) refused) }
+    ensures memory { IsErr result → AreOfNoCycle (B.access (B.rest bank.old)) at.now (finding starter.old)
+        (further code.now.window (window_of call.now)) (ops_at (library_in code.now.routines.now) call.now.routine)
+        state.old (cell (B.cells bank.old)) (asked starter.old) }
     ensures same { finding starter.new ≡ finding starter.old }
-    ensures long { length (B.cells bank.new) ≡ length (B.cells bank.old) }
     ensures rest { B.rest bank.new ≡ B.rest bank.old }
 {
     let number = call.routine as usize;

@@ -1,13 +1,13 @@
 // What notes share, read and written at the rate of its resource.
 ghost use Rattle.std.specs.Prelude.{◌≡◌, ◌≤◌, ◌<◌, ◌+◌, [], ◌∷◌, length, true, Some};
-ghost use Rattle.cs_machine.specs.Access.{CanTouch};
+ghost use Rattle.cs_machine.specs.Access.{CanGet, CanSet};
 ghost use Rattle.cs_voice.specs.Cells.{AreSized, DoesOver};
 ghost use Rattle.cs_base.specs.declared.resource.Rate.TheVariants as rate;
 ghost use Rattle.cs_cells.specs.Cells.{cell};
 ghost use Rattle.cs_ir.specs.{Validity.has_register, Validity.has_value, Waves.held};
 ghost use Rattle.cs_ir.specs.declared.op.Act.TheVariants as act;
 ghost use Rattle.cs_ir.specs.declared.register.Reg.{Reg};
-ghost use Rattle.cs_machine.specs.{Registers.IsWritten, Registers.values, States.HasRoom, States.MayTouch};
+ghost use Rattle.cs_machine.specs.{Registers.IsWritten, Registers.values, States.HasRoom, States.MayGet, States.MaySet};
 ghost use Rattle.cs_voice_meaning.specs.Placing.{cell_count, wave_in, with_wave};
 
 use cs_base::{Num, Rate, Res};
@@ -27,7 +27,7 @@ pub(crate) fn load<B: Bank>(
     requires room { HasRoom state.old }
     requires value { has_value res ≡ true }
     requires sized { AreSized at.now.layout.now state.old.regs.ksmps }
-    requires read { MayTouch (B.can_get (B.rest bank.old)) (length (B.cells bank.old)) at.now.layout.now res }
+    requires read { MayGet (B.access (B.rest bank.old)) at.now.layout.now res }
     ensures does { DoesOver at.now (act.Load res) into [] state.old (cell (B.cells bank.old)) state.new
         (cell (B.cells bank.new)) }
     ensures same { B.cells bank.new ≡ B.cells bank.old }
@@ -56,10 +56,9 @@ pub(crate) fn save<B: Bank>(
     requires room { HasRoom state.old }
     requires value { has_value res ≡ true }
     requires sized { AreSized at.now.layout.now state.old.regs.ksmps }
-    requires write { MayTouch (B.can_set (B.rest bank.old)) (length (B.cells bank.old)) at.now.layout.now res }
+    requires write { MaySet (B.access (B.rest bank.old)) at.now.layout.now res }
     ensures does { (into : Reg) → DoesOver at.now (act.Save res) into (x ∷ []) state.old (cell (B.cells bank.old))
         state.new (cell (B.cells bank.new)) }
-    ensures long { length (B.cells bank.new) ≡ length (B.cells bank.old) }
     ensures rest { B.rest bank.new ≡ B.rest bank.old }
 {
     let area = area_in(at.layout, res);
@@ -79,7 +78,7 @@ pub(crate) fn read<B: Bank>(
     requires row { length row.old.items ≡ regs.old.ksmps }
     requires frames { 0 < regs.old.ksmps }
     requires size { area.length ≡ cell_count regs.old.ksmps rate }
-    requires read { CanTouch (B.can_get (B.rest bank.old)) (length (B.cells bank.old)) area }
+    requires read { CanGet (B.access (B.rest bank.old)) area }
     requires small { area.first + area.length ≤ 65536 }
     ensures values { IsWritten regs.old into (wave_in rate area (cell (B.cells bank.old))) regs.new }
     ensures row { length row.new.items ≡ regs.old.ksmps }
@@ -97,7 +96,7 @@ pub(crate) fn read<B: Bank>(
 /// The first cell of an area.
 fn first_cell<B: Bank>(bank: &mut B, area: Area) -> Num
     requires some { 0 < area.length }
-    requires read { CanTouch (B.can_get (B.rest bank.old)) (length (B.cells bank.old)) area }
+    requires read { CanGet (B.access (B.rest bank.old)) area }
     ensures value { result ≡ cell (B.cells bank.old) area.first }
     ensures same { B.cells bank.new ≡ B.cells bank.old }
     ensures rest { B.rest bank.new ≡ B.rest bank.old }
@@ -117,12 +116,11 @@ pub(crate) fn write<B: Bank>(
     requires x { has_register regs.now.counts x ≡ true }
     requires row { length row.old.items ≡ regs.now.ksmps }
     requires size { area.length ≡ cell_count regs.now.ksmps rate }
-    requires write { CanTouch (B.can_set (B.rest bank.old)) (length (B.cells bank.old)) area }
+    requires write { CanSet (B.access (B.rest bank.old)) area }
     requires small { area.first + area.length ≤ 65536 }
     ensures cells { cell (B.cells bank.new)
         ≡ with_wave (Some area) (held regs.now.ksmps rate (values regs.now x)) (cell (B.cells bank.old)) }
     ensures row { length row.new.items ≡ regs.now.ksmps }
-    ensures long { length (B.cells bank.new) ≡ length (B.cells bank.old) }
     ensures rest { B.rest bank.new ≡ B.rest bank.old }
 {
     match rate {
@@ -136,12 +134,11 @@ fn write_frames<B: Bank>(regs: &Registers, row: &mut Vec<Num>, x: Reg, area: Are
     requires x { has_register regs.now.counts x ≡ true }
     requires row { length row.old.items ≡ regs.now.ksmps }
     requires size { area.length ≡ regs.now.ksmps }
-    requires write { CanTouch (B.can_set (B.rest bank.old)) (length (B.cells bank.old)) area }
+    requires write { CanSet (B.access (B.rest bank.old)) area }
     requires small { area.first + area.length ≤ 65536 }
     ensures cells { cell (B.cells bank.new)
         ≡ with_wave (Some area) (held regs.now.ksmps rate.Audio (values regs.now x)) (cell (B.cells bank.old)) }
     ensures row { length row.new.items ≡ regs.now.ksmps }
-    ensures long { length (B.cells bank.new) ≡ length (B.cells bank.old) }
     ensures rest { B.rest bank.new ≡ B.rest bank.old }
 {
     if x.is_audio() {

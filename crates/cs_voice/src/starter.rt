@@ -47,15 +47,14 @@ impl<'p> Starter<'_, '_, '_, 'p> {
                     rate: op.op.into.rate(),
                     unit: op.window.unit(unit),
                 };
-                let refused = begin(
+                begin(
                     self.alloc,
                     state,
                     self.finds,
                     self.made,
                     start,
                     &self.settled,
-                )?;
-                Ok(refused)
+                )
             }
             Act::Seek => {
                 let refused = seek(self.finds.tables, self.made, &self.settled);
@@ -95,10 +94,7 @@ pub(crate) fn start<'p>(
     ensures same { finding starter.new ≡ finding starter.old }
 {
     match starter {
-        Some(starter) => {
-            let refused = starter.start(state, op)?;
-            Ok(refused)
-        }
+        Some(starter) => starter.start(state, op),
         None => Ok(None),
     }
 }

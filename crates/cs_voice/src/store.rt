@@ -55,11 +55,10 @@ pub(crate) fn store_points<B: Bank>(
     requires index { has_register state.now.regs.counts storing.index ≡ true }
     requires table { has_register state.now.regs.counts storing.table ≡ true }
     requires room { HasRoom state.now }
-    requires write { MayStore (B.can_set (B.rest bank.old)) (length (B.cells bank.old)) at.now.layout.now reach }
+    requires write { MayStore (B.access (B.rest bank.old)) at.now.layout.now reach }
     ensures does { (into : Reg) → rate_at into ≡ storing.rate
         → DoesOver at.now (act.Store reach) into (storing.signal ∷ storing.index ∷ storing.table ∷ []) state.now
         (cell (B.cells bank.old)) state.now (cell (B.cells bank.new)) }
-    ensures long { length (B.cells bank.new) ≡ length (B.cells bank.old) }
     ensures rest { B.rest bank.new ≡ B.rest bank.old }
 {
     let steps = steps(storing.rate, state.row.len());

@@ -32,7 +32,7 @@ pub(crate) fn run_unit<B: Bank>(
     requires number { number < length state.old.players.items }
     requires room { HasRoom state.old }
     requires unit { (p : PlayerData) → slice_index_or state.old.players.items number None ≡ Some p
-        → MayPlay (B.can_get (B.rest bank.old)) (length (B.cells bank.old)) reach (regs_read from) p }
+        → MayPlay (B.access (B.rest bank.old)) reach (regs_read from) p }
     ensures does { DoesUnit number reach into (regs_read from.entry) state.old (cell (B.cells bank.old)) state.new
         (cell (B.cells bank.new)) }
     ensures same { B.cells bank.new ≡ B.cells bank.old }
@@ -65,7 +65,7 @@ fn play<B: Bank>(
     requires row { length row.old.items ≡ regs.old.ksmps }
     requires unit { IsUnitOpcode (opcode_of player.old.state) }
     requires count { length (regs_read from) ≡ moving_count (opcode_of player.old.state) }
-    requires read { CanRead (B.can_get (B.rest bank.old)) (length (B.cells bank.old)) player.old }
+    requires read { CanRead (B.access (B.rest bank.old)) player.old }
     ensures unit { player.new ≡ record player.old {
       state = (cycled regs.old.ksmps (rate_at into) (map (values regs.old) (regs_read from.entry))
           (cell (B.cells bank.old)) player.old).0;

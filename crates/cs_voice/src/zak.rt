@@ -1,6 +1,6 @@
 // Zak places, read, written, mixed into and cleared by the numbers that values name.
-ghost use Rattle.std.specs.Prelude.{◌≡◌, [], ◌∷◌, length, true};
-ghost use Rattle.cs_voice.specs.Cells.{CanReach, DoesOver, DoesZak, MayReach};
+ghost use Rattle.std.specs.Prelude.{◌≡◌, [], ◌∷◌, true};
+ghost use Rattle.cs_voice.specs.Cells.{CanMix, DoesOver, DoesZak};
 ghost use Rattle.cs_voice.specs.{Ready.CanBeDone, inner.Zak.reached};
 ghost use Rattle.cs_base.specs.Rates.{is_audio};
 ghost use Rattle.cs_cells.specs.Cells.{cell};
@@ -11,7 +11,6 @@ ghost use Rattle.cs_ir.specs.declared.register.Reg.{Reg};
 ghost use Rattle.cs_meaning.specs.Pieces.{index};
 ghost use Rattle.cs_words.specs.{declared.catalogue.Opcode.Opcode, Catalogue.row_of};
 ghost use Rattle.cs_words.specs.declared.catalogue.Shape.TheVariants as shape;
-ghost use Rattle.cs_words.specs.declared.catalogue.Space.TheVariants as space;
 
 use crate::shared::{load, save};
 use cs_base::{Num, Res};
@@ -25,12 +24,9 @@ use cs_words::{Opcode, Shape, Space, signature_of};
 #[inline(never)]
 pub(crate) fn zak<B: Bank>(state: &mut State<'_>, at: &NoteSetting<'_>, op: OpAt<'_>, bank: &mut B)
     requires act { (opcode : Opcode) × (reach : Reach) × ((there op).act ≡ acts.Zak opcode reach) }
-    requires ready { CanBeDone (B.can_get (B.rest bank.old)) (B.can_set (B.rest bank.old)) (length (B.cells bank.old))
-        at.now
-        (there op) state.old }
+    requires ready { CanBeDone (B.access (B.rest bank.old)) at.now (there op) state.old }
     ensures does { DoesOver at.now (there op.entry).act (there op.entry).into (there op.entry).from state.old
         (cell (B.cells bank.old)) state.new (cell (B.cells bank.new)) }
-    ensures long { length (B.cells bank.new) ≡ length (B.cells bank.old) }
     ensures rest { B.rest bank.new ≡ B.rest bank.old }
 {
     let Act::Zak(opcode, reach) = op.op.act else {
@@ -81,12 +77,9 @@ fn mix<B: Bank>(
 )
     requires x { has_register state.old.regs.counts x ≡ true }
     requires sound { is_audio (rate_at x) ≡ true }
-    requires read { MayReach (B.can_get (B.rest bank.old)) (length (B.cells bank.old)) at.now space.Audio reach }
-    requires able { CanReach (B.can_set (B.rest bank.old)) (length (B.cells bank.old)) at.now space.Audio reach number
-        state.old }
+    requires able { CanMix (B.access (B.rest bank.old)) at.now reach number state.old }
     ensures does { (into : Reg) → DoesZak at.now shape.ZakMix reach into (x ∷ number ∷ [])
         state.old (cell (B.cells bank.old)) state.new (cell (B.cells bank.new)) }
-    ensures long { length (B.cells bank.new) ≡ length (B.cells bank.old) }
     ensures rest { B.rest bank.new ≡ B.rest bank.old }
 {
     if let Some(res) = place(at, Space::Audio, reach, state.regs.first(number)) {

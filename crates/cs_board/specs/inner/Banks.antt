@@ -1,9 +1,9 @@
 -- The cells of the board as a job sees them.
-use Rattle.std.specs.Prelude.{◌≡◌, ℕ, List, [], Option, Some, None, true}
+use Rattle.std.specs.Prelude.{◌≡◌, ℕ, List, [], length, Option, Some, None, true}
 use Rattle.atomic_table.specs.{Seated.TableId, declared.shared.Seat.Seat}
 use Rattle.cs_board.specs.{Board.plan, Board.IsViewOf, inner.Sittings.deed, declared.board.Board.Board}
 use Rattle.cs_board.specs.{declared.view.Berth.Berth, declared.view.Doing.Doing, declared.view.View.View}
-use Rattle.cs_cells.specs.Meaning.{Meaning}
+use Rattle.cs_cells.specs.{Access.Access, Meaning.Meaning}
 use Rattle.cs_board.specs.Plans.{IsPlan, uses_at, writes_at}
 
 abbrev pub bare : Option Doing → Option Doing
@@ -15,7 +15,7 @@ module _ {J : Type 0} where
   abbrev pub imageless : View J → View J
   imageless v = record v { doing = bare v.doing }
 
--- What no look and no set changes: the board, and all of the seat but the image.
+-- What no look and no set changes: the board, and all of the seat but the values in the image.
 pub record Frame (J : Type 0) : Type 0 where
   pub name : ℕ
   pub board : Board J
@@ -23,6 +23,7 @@ pub record Frame (J : Type 0) : Type 0 where
   pub id : ℕ
   pub view : View J
   pub carried : List (ℕ × Berth J)
+  pub count : ℕ
 
 module _ {J : Type 0} where
   abbrev pub frame_of : Board J → Seat (Berth J) (View J) → ℕ → Frame J
@@ -33,6 +34,7 @@ module _ {J : Type 0} where
     id = sitting.id;
     view = imageless sitting.me.0;
     carried = sitting.me.1;
+    count = length (deed sitting.me.0).image;
   }
 
 module _ {J : Type 0} (M : Meaning J) where
@@ -54,3 +56,7 @@ module _ {J : Type 0} (M : Meaning J) where
     pub held : (deed r.view).held ≡ true
     pub phase : (deed r.view).phase ≡ 0
     pub writes : writes_at M (plan r.board) (deed r.view).note a ≡ true
+
+  -- what the seat may do with the cells
+  abbrev pub access_at : Frame J → Access
+  access_at r = record { can_get = CanGet r; can_set = CanSet r; count = r.count }

@@ -1,7 +1,9 @@
 -- A table at rest: the layout, the cells in its words, and how much room there is.
-use Rattle.std.specs.Prelude.{ℕ, ◌≤◌, List}
+use Rattle.std.specs.Prelude.{◌≡◌, ◌≤◌, ℕ, List, length}
+use Rattle.std.proofs.Common.{◌∙◌}
+use Rattle.std.proofs.lemmas.List.{length-map}
 use Rattle.cs_board.specs.{Resting.areas_in, Resting.known_in, Resting.wide, Views.cells_laid, declared.view.Plan.Plan}
-use Rattle.cs_cells.specs.{Cells.Cells, Cells.values, declared.footprint.Area.Area}
+use Rattle.cs_cells.specs.{Areas.word_count, Cells.Cells, Cells.signed, Cells.values, declared.footprint.Area.Area}
 use Rattle.cs_desk.specs.{Kept.Standing, Kept.plan_of, declared.resting.RestingTable.RestingTable}
 use Rattle.cs_graph.specs.Graph.{Dependencies}
 
@@ -22,6 +24,11 @@ module _ {J : Type 0} where
   -- what neither a look nor a set changes
   abbrev pub standing_of : RestingTable J → Standing
   standing_of table = record { table = table.table.shared.table_id; areas = layout_of table }
+
+  -- a table has as many cells as its layout says
+  pub cells_counted : (table : RestingTable J) → length (cells_in table) ≡ word_count (layout_of table)
+  cells_counted table =
+      length-map (cells_laid (layout_of table) (known_in table.seat)) signed ∙ table.rests.cleared.long
 
   -- there is room for a cycle of n notes and m edges
   pub record HasSpace (table : RestingTable J) (n m : ℕ) : Type 0 where

@@ -1,6 +1,6 @@
 -- What is needed to do something at a moment, and what it is to have done it.
-use Rattle.std.specs.Prelude.{ℕ, ℤ, pos, ◌≡◌, ◌<◌, List, Some, None}
-use Rattle.cs_cells.specs.{Areas.word_count, Cells.Cells}
+use Rattle.std.specs.Prelude.{ℕ, ℤ, pos, ◌≡◌, List, Some, None}
+use Rattle.cs_cells.specs.{Access.Access, Access.AllowsBelow, Areas.word_count, Cells.Cells}
 use Rattle.cs_piece_meaning.specs.Moments.{Composition, Moment}
 use Rattle.cs_gen.specs.Faults.{table_fault}
 use Rattle.cs_meaning.specs.Plain.{Table, find_table}
@@ -11,11 +11,10 @@ use Rattle.cs_life.specs.{Standing.StandsFor, declared.life.Life.Life}
 use Rattle.cs_tempo.specs.declared.plot.EventAct.TheVariants as act
 
 -- It can go on: what is kept stands at some moment, and each cell of the piece can be read and written.
-pub record CanGoOn (get set : ℕ → Type 0) (life : Life) (voices : List VoiceData) (cells : Cells) : Type 0 where
+pub record CanGoOn (access : Access) (life : Life) (voices : List VoiceData) (cells : Cells) : Type 0 where
   pub moment : Moment
   pub stands : StandsFor (composition_of life.setup.now) life voices cells moment
-  pub gets : (a : ℕ) → a < word_count life.setup.now.layout → get a
-  pub sets : (a : ℕ) → a < word_count life.setup.now.layout → set a
+  pub allows : AllowsBelow access (word_count life.setup.now.layout)
 
 -- It has gone on: wherever it stood, it stands where this leads.
 pub record HasGoneOn (leads : Moment → Moment) (life : Life) (voices : List VoiceData) (cells : Cells) (new : Life)

@@ -28,4 +28,4 @@ abbrev pub PointsWritten : Bool → List Area → ℕ → List ℤ → Cells →
 PointsWritten false areas number points cells new = new ≡ cells
 PointsWritten true areas number points cells new =
     (a : Area) × (area_of areas (res.Table number) ≡ Some a) × (length points ≡ a.length)
-    × (cell new ≡ with_wave (Some a) (row_wave points) (cell cells)) × (length new ≡ length cells)
+    × (cell new ≡ with_wave (Some a) (row_wave points) (cell cells))

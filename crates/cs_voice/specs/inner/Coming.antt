@@ -1,7 +1,7 @@
 -- A code that has been done up to a place, by whatever it can be done as, and ops of it that are done from there on.
 use Rattle.std.specs.Prelude.{ℕ, ℤ, Bool, ◌≡◌, ◌+◌, ◌<◌, ◌≤◌, ◌++◌, List, [], Option, Some, None, drop, length, map}
 use Rattle.std.specs.Prelude.{slice_get}
-use Rattle.cs_cells.specs.declared.footprint.Area.{Area}
+use Rattle.cs_cells.specs.{Access.Access, declared.footprint.Area.Area}
 use Rattle.cs_ir.specs.{Asks.ask_of, Flat.Begins, Flat.moved_ops, Machine.Machine, Machine.run, Worlds.World}
 use Rattle.cs_ir.specs.{declared.ask.Ask.Ask, declared.op.Code.Code, declared.op.Op.Op}
 use Rattle.cs_machine.specs.{States.IsStateIn, States.machine_of, declared.state.State.State}
@@ -51,32 +51,31 @@ pub record Outset : Type 0 where
 
 -- It has been done up to a place: as whatever code of a control cycle it can be run, and as the code of whatever sheet
 -- it can begin a note.
-pub record IsDoneTo (get set : ℕ → Type 0) (count : ℕ) (at : NoteSetting) (finding : Finding) (o : Outset) (place : ℕ)
-    (now : State) (cells : ℕ → ℤ) (given : List Ask) : Type 0 where
-  pub cycle : (c : Context) → CanRun get set count at c o.ops o.first
+pub record IsDoneTo (access : Access) (at : NoteSetting) (finding : Finding) (o : Outset) (place : ℕ) (now : State)
+    (cells : ℕ → ℤ) (given : List Ask) : Type 0 where
+  pub cycle : (c : Context) → CanRun access at c o.ops o.first
       → HasComeTo at.layout.now c o.ops place o.first o.before now cells
   pub passes : (f : Finds) (ms : List Bool) (code : Code) (s : Sheet) → finding ≡ Some (f, ms) → f.at ≡ at
-      → code.ops ≡ o.ops → CanPass get set count f ms code s o.first
+      → code.ops ≡ o.ops → CanPass access f ms code s o.first
       → IsPassed s o.first o.before o.asked place now cells given
 
 -- it is no code of a control cycle
-abbrev pub IsOfNoCycle : (get set : ℕ → Type 0) → ℕ → NoteSetting → Outset → Type 0
-IsOfNoCycle get set count at o = (c : Context) → CanRun get set count at c o.ops o.first → ⊥
+abbrev pub IsOfNoCycle : Access → NoteSetting → Outset → Type 0
+IsOfNoCycle access at o = (c : Context) → CanRun access at c o.ops o.first → ⊥
 
 -- Something was refused, so nothing more of it is done. In a control cycle nothing is.
-pub record IsRefused (get set : ℕ → Type 0) (count : ℕ) (at : NoteSetting) (finding : Finding) (o : Outset)
-    (now : State) (cells : ℕ → ℤ) (given : List Ask) (refused : StartRefusal) : Type 0 where
-  pub cycle : IsOfNoCycle get set count at o
+pub record IsRefused (access : Access) (at : NoteSetting) (finding : Finding) (o : Outset) (now : State)
+    (cells : ℕ → ℤ) (given : List Ask) (refused : StartRefusal) : Type 0 where
+  pub cycle : IsOfNoCycle access at o
   pub passes : (f : Finds) (ms : List Bool) (code : Code) (s : Sheet) → finding ≡ Some (f, ms) → f.at ≡ at
-      → code.ops ≡ o.ops → CanPass get set count f ms code s o.first
+      → code.ops ≡ o.ops → CanPass access f ms code s o.first
       → Passes s o.first o.before o.asked now cells given (Some refused)
 
-abbrev pub HasGoneOn : (get set : ℕ → Type 0) → ℕ → NoteSetting → Finding → Outset → ℕ → State → (ℕ → ℤ) → List Ask
+abbrev pub HasGoneOn : Access → NoteSetting → Finding → Outset → ℕ → State → (ℕ → ℤ) → List Ask
     → Option StartRefusal → Type 0
-HasGoneOn get set count at finding o place now cells given None =
-    IsDoneTo get set count at finding o place now cells given
-HasGoneOn get set count at finding o place now cells given (Some refused) =
-    IsRefused get set count at finding o now cells given refused
+HasGoneOn access at finding o place now cells given None = IsDoneTo access at finding o place now cells given
+HasGoneOn access at finding o place now cells given (Some refused) =
+    IsRefused access at finding o now cells given refused
 
 -- ---- some ops of it, of a routine in a window
 
@@ -85,24 +84,24 @@ abbrev pub LieFrom : List Op → ℕ → List Op → Type 0
 LieFrom whole place ops = (n : ℕ) → n < length ops → slice_get whole (place + n) ≡ slice_get ops n
 
 -- They can be done: they lie in something that can be, and that has been done up to there.
-pub record CanDoOps (get set : ℕ → Type 0) (count : ℕ) (at : NoteSetting) (finding : Finding) (window : Begins)
-    (ops : List Op) (now : State) (cells : ℕ → ℤ) (given : List Ask) : Type 0 where
+pub record CanDoOps (access : Access) (at : NoteSetting) (finding : Finding) (window : Begins) (ops : List Op)
+    (now : State) (cells : ℕ → ℤ) (given : List Ask) : Type 0 where
   pub outset : Outset
   pub place : ℕ
   pub lie : LieFrom outset.ops place (moved_ops window place ops)
-  pub can : CanGo get set count at finding outset.ops outset.first
-  pub done : IsDoneTo get set count at finding outset place now cells given
+  pub can : CanGo access at finding outset.ops outset.first
+  pub done : IsDoneTo access at finding outset place now cells given
 
 -- They were: wherever they lie in something that had been done up to there, it has gone on behind them.
-pub record DoesOps (get set : ℕ → Type 0) (count : ℕ) (at : NoteSetting) (finding : Finding) (window : Begins)
-    (ops : List Op) (old : State) (before : ℕ → ℤ) (asked : List Ask) (new : State) (after : ℕ → ℤ) (given : List Ask)
+pub record DoesOps (access : Access) (at : NoteSetting) (finding : Finding) (window : Begins) (ops : List Op)
+    (old : State) (before : ℕ → ℤ) (asked : List Ask) (new : State) (after : ℕ → ℤ) (given : List Ask)
     (refused : Option StartRefusal) : Type 0 where
   pub goes : (o : Outset) (place : ℕ) → LieFrom o.ops place (moved_ops window place ops)
-      → IsDoneTo get set count at finding o place old before asked
-      → HasGoneOn get set count at finding o (place + length ops) new after given refused
+      → IsDoneTo access at finding o place old before asked
+      → HasGoneOn access at finding o (place + length ops) new after given refused
 
 -- They can't be those of a control cycle.
-pub record AreOfNoCycle (get set : ℕ → Type 0) (count : ℕ) (at : NoteSetting) (finding : Finding) (window : Begins)
-    (ops : List Op) (old : State) (before : ℕ → ℤ) (asked : List Ask) : Type 0 where
+pub record AreOfNoCycle (access : Access) (at : NoteSetting) (finding : Finding) (window : Begins) (ops : List Op)
+    (old : State) (before : ℕ → ℤ) (asked : List Ask) : Type 0 where
   pub never : (o : Outset) (place : ℕ) → LieFrom o.ops place (moved_ops window place ops)
-      → IsDoneTo get set count at finding o place old before asked → IsOfNoCycle get set count at o
+      → IsDoneTo access at finding o place old before asked → IsOfNoCycle access at o

@@ -85,3 +85,33 @@ loop-job-preserved g c =
       laying = subst (IsLaying k t e) (sym known)
           (laying_note k t e x job w low p.1 refl (subst (λ n. IsLaying k n e w) long inv.laying));
     }
+
+pub lay-requires-clause-sole : goal.lay-requires-clause-sole
+lay-requires-clause-sole g c = c.loop-edge.invariant.sole
+
+pub lay-requires-clause-word : goal.lay-requires-clause-word
+lay-requires-clause-word g c =
+    omega (
+      arith,
+      c.requires.words,
+      c.requires.notes,
+      c.len-notes.ensures.notes,
+      c.loop-edge-test.true,
+      c.edge_count-edge-end.ensures.count,
+    )
+
+pub lay_note-requires-clause-sole : goal.lay_note-requires-clause-sole
+lay_note-requires-clause-sole g c = c.loop-job.invariant.sole
+
+pub lay_note-requires-clause-words : goal.lay_note-requires-clause-words
+lay_note-requires-clause-words g c = omega (arith, c.requires.words, c.requires.notes)
+
+pub lay_note-requires-clause-note : goal.lay_note-requires-clause-note
+lay_note-requires-clause-note g c =
+    let js = c.args.jobs.items in
+    let jn = c.pop.new.self.items in
+    let old = c.loop-job.jobs.items in
+    let p = popped js jn (drop (length old) js) c.in-Some.job
+    (ap (λ l. l ++ drop (length old) js) (sym c.in-Some.ensures.items) ∙ c.loop-job.invariant.jobs) in
+    let low : length jn < length js = slice_get_within js (length jn) c.in-Some.job p.1 in
+    omega (arith, low, c.len-note.ensures, c.pop.new.self.ok.0, c.requires.notes)

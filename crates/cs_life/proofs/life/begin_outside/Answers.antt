@@ -1,5 +1,5 @@
-use Rattle.std.proofs.Common.{ap, subst, ◌∙◌, []}
-use Rattle.cs_cells.specs.{Areas.word_count, Cells.cell}
+use Rattle.std.proofs.Common.{◌≡◌, ap, length, subst, sym, ◌∙◌, []}
+use Rattle.cs_cells.specs.{Access.AllowsBelow, Areas.word_count, Cells.cell}
 use Rattle.cs_piece_meaning.specs.Course.{outside_done}
 use Rattle.cs_piece.specs.{VoicesOfNotes.Hold, Setups.composition_of}
 use Rattle.cs_voice_meaning.specs.Voices.{initialised}
@@ -7,11 +7,22 @@ use Rattle.cs_voice.specs.Starts.{sheet_at}
 use Rattle.cs_life.proofs.{Flags.flags_fit, Opened.outside_holds, Performing.same_piece}
 use Rattle.cs_life.proofs.life.begin_outside.Goals as goal
 
-pub start-requires-clause-tables : goal.start-requires-clause-tables
-start-requires-clause-tables g c =
-    c.requires.stage.can_be_played c.args.made.now
-    (flags_fit c.args.stage.tables.now (composition_of c.args.setup.now).tables [] c.args.made.now
-    c.requires.stage.tables c.requires.made)
+pub start-requires : goal.start-requires
+start-requires g c =
+    let stage = c.requires.stage in
+    let flags = c.args.made.now in
+    let fit : length flags ≡ length c.args.stage.tables.now =
+    flags_fit c.args.stage.tables.now (composition_of c.args.setup.now).tables [] flags stage.tables c.requires.made in
+    record {
+      playable = (c.outside.ensures c.args.stage stage c.requires.layout c.requires.zones).playable 0 flags
+          c.new-fields.result.items fit;
+      made = fit;
+      tables = stage.can_be_played flags fit;
+      places = stage.places;
+      spaces = stage.zak;
+      access = subst (λ areas. AllowsBelow (g.B.Bank.access (g.B.Bank.rest c.args.bank.now)) (word_count areas))
+          (sym c.requires.layout) c.requires.access;
+    }
 
 pub returns-clause-hold : goal.returns-clause-hold
 returns-clause-hold g c =

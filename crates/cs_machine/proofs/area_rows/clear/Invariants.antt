@@ -1,11 +1,15 @@
-use Rattle.std.proofs.Common.{◌≡◌, length}
+use Rattle.std.proofs.Common.{◌≡◌, ◌≤◌, ◌-◌}
 use Rattle.cs_cells.specs.Cells.{cell, with_row}
 use Rattle.cs_ir.specs.Waves.{silence}
 use Rattle.cs_machine.proofs.area_rows.clear.Given as goal
 
-abbrev pub invariant-loop-j : goal.invariant-loop-j
-invariant-loop-j g l = record {
-  cells : cell (g.B.Bank.cells l.bank) ≡ with_row l.area.first l.j silence (cell (g.B.Bank.cells l.initial.bank));
-  long : length (g.B.Bank.cells l.bank) ≡ length (g.B.Bank.cells l.initial.bank);
+-- so many cells are cleared
+abbrev pub invariant-loop-done : goal.invariant-loop-done
+invariant-loop-done g l = record {
+  cells : cell (g.B.Bank.cells l.bank) ≡ with_row l.area.first l.done silence (cell (g.B.Bank.cells l.initial.bank));
+  within : l.done ≤ l.area.length;
   rest : g.B.Bank.rest l.bank ≡ g.B.Bank.rest l.initial.bank;
 }
+
+abbrev pub decreases-loop-done : goal.decreases-loop-done
+decreases-loop-done g l = l.length - l.done

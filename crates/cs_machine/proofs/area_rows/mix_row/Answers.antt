@@ -1,4 +1,4 @@
-use Rattle.std.proofs.Common.{◌∙◌, Some, ap, arith, length, sym}
+use Rattle.std.proofs.Common.{◌∙◌, Some, ap, arith, sym}
 use Rattle.cs_base.specs.Numbers.{sum_of}
 use Rattle.cs_base.specs.declared.resource.Rate.TheVariants as rate
 use Rattle.cs_cells.specs.Cells.{cell}
@@ -6,7 +6,7 @@ use Rattle.cs_meaning.specs.Pieces.{added}
 use Rattle.cs_signal.specs.Operands.{argument}
 use Rattle.cs_voice_meaning.specs.Placing.{wave_in, with_wave}
 use Rattle.cs_machine.specs.Rows.{row_wave}
-use Rattle.cs_machine.proofs.Writing.{same_wave, touch_again}
+use Rattle.cs_machine.proofs.Writing.{same_wave, set_again}
 use Rattle.cs_machine.proofs.area_rows.mix_row.Goals as goal
 
 pub add_row-requires : goal.add_row-requires
@@ -17,9 +17,8 @@ write_row-requires-clause-row g c = c.add_row.ensures.long ∙ c.read_row.ensure
 
 pub write_row-requires-clause-write : goal.write_row-requires-clause-write
 write_row-requires-clause-write g c =
-    touch_again g.B.Bank.can_set (g.B.Bank.rest c.args.bank.now) (g.B.Bank.rest c.read_row.new.bank)
-    (length (g.B.Bank.cells c.args.bank.now)) (length (g.B.Bank.cells c.read_row.new.bank)) c.args.area
-    c.read_row.ensures.rest (ap length c.read_row.ensures.same) c.requires.write
+    set_again g.B.Bank.access (g.B.Bank.rest c.args.bank.now) (g.B.Bank.rest c.read_row.new.bank) c.args.area
+    c.read_row.ensures.rest c.requires.write
 
 pub returns-clause-cells : goal.returns-clause-cells
 returns-clause-cells g c =

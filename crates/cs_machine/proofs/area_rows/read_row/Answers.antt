@@ -7,13 +7,15 @@ use Rattle.cs_machine.proofs.area_rows.read_row.Goals as goal
 
 pub get_row-requires-clause-get : goal.get_row-requires-clause-get
 get_row-requires-clause-get g c = λ j low.
-    can_here (g.B.Bank.can_get (g.B.Bank.rest c.args.bank.now)) (length (g.B.Bank.cells c.args.bank.now)) c.args.area j
-    (c.args.area.first + j) c.requires.read (subst (λ n. j < n) c.requires.row low) refl
+    let access = g.B.Bank.access (g.B.Bank.rest c.args.bank.now) in
+    can_here access.can_get access.count c.args.area j (c.args.area.first + j) c.requires.read
+    (subst (λ n. j < n) c.requires.row low) refl
 
 pub get_row-requires-clause-there : goal.get_row-requires-clause-there
 get_row-requires-clause-there g c = λ j low.
-    within_here (g.B.Bank.can_get (g.B.Bank.rest c.args.bank.now)) (length (g.B.Bank.cells c.args.bank.now)) c.args.area
-    j c.requires.read (subst (λ n. j < n) c.requires.row low)
+    let access = g.B.Bank.access (g.B.Bank.rest c.args.bank.now) in
+    within_here access.can_get access.count (g.B.Bank.cells c.args.bank.now) c.args.area j
+    (g.met.B.Bank.counted c.args.bank.now) c.requires.read (subst (λ n. j < n) c.requires.row low)
 
 pub get_row-requires-clause-small : goal.get_row-requires-clause-small
 get_row-requires-clause-small g c = omega (arith, c.requires.row, c.requires.small)

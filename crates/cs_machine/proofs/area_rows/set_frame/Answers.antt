@@ -1,7 +1,8 @@
-use Rattle.std.proofs.Common.{length}
 use Rattle.cs_machine.proofs.Writing.{can_here}
 use Rattle.cs_machine.proofs.area_rows.set_frame.Goals as goal
 
 pub set-requires : goal.set-requires
-set-requires g c = can_here (g.B.Bank.can_set (g.B.Bank.rest c.args.bank.now)) (length (g.B.Bank.cells c.args.bank.now))
-    c.args.area c.args.frame c.address.result c.requires.write c.requires.frame c.address.ensures
+set-requires g c =
+    let access = g.B.Bank.access (g.B.Bank.rest c.args.bank.now) in
+    can_here access.can_set access.count c.args.area c.args.frame c.address.result c.requires.write c.requires.frame
+    c.address.ensures

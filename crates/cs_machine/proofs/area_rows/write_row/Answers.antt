@@ -6,13 +6,15 @@ use Rattle.cs_machine.proofs.area_rows.write_row.Goals as goal
 
 pub set_row-requires-clause-set : goal.set_row-requires-clause-set
 set_row-requires-clause-set g c = λ j low.
-    can_here (g.B.Bank.can_set (g.B.Bank.rest c.args.bank.now)) (length (g.B.Bank.cells c.args.bank.now)) c.args.area j
-    (c.args.area.first + j) c.requires.write (subst (λ n. j < n) c.requires.row low) refl
+    let access = g.B.Bank.access (g.B.Bank.rest c.args.bank.now) in
+    can_here access.can_set access.count c.args.area j (c.args.area.first + j) c.requires.write
+    (subst (λ n. j < n) c.requires.row low) refl
 
 pub set_row-requires-clause-there : goal.set_row-requires-clause-there
 set_row-requires-clause-there g c = λ j low.
-    within_here (g.B.Bank.can_set (g.B.Bank.rest c.args.bank.now)) (length (g.B.Bank.cells c.args.bank.now)) c.args.area
-    j c.requires.write (subst (λ n. j < n) c.requires.row low)
+    let access = g.B.Bank.access (g.B.Bank.rest c.args.bank.now) in
+    within_here access.can_set access.count (g.B.Bank.cells c.args.bank.now) c.args.area j
+    (g.met.B.Bank.counted c.args.bank.now) c.requires.write (subst (λ n. j < n) c.requires.row low)
 
 pub set_row-requires-clause-small : goal.set_row-requires-clause-small
 set_row-requires-clause-small g c = omega (arith, c.requires.row, c.requires.small)

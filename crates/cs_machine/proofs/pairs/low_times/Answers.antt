@@ -21,3 +21,15 @@ returns c = λ hx hy.
     ∙ ap (λ z. to_z w64 (of_z w64 (z *ℤ to_z w64 (of_z w64 y)))) ex
     ∙ ap (λ z. to_z w64 (of_z w64 (x *ℤ z))) ey
     ∙ whole
+
+pub overflow_mul-result : goal.overflow_mul-result
+overflow_mul-result c =
+    let a = c.low.result in
+    let b = c.low-2.result in
+    let left : to_z w64 (of_z w64 a) ≡ a = omega (arith, ints, c.low.ensures.small) in
+    let right : to_z w64 (of_z w64 b) ≡ b = omega (arith, ints, c.low-2.ensures.small) in
+    let product : unsigned_abs (to_z w64 (of_z w64 a) *ℤ to_z w64 (of_z w64 b)) ≤ 2147483648 * 2147483648 =
+    subst (λ z. unsigned_abs (z *ℤ to_z w64 (of_z w64 b)) ≤ 2147483648 * 2147483648) (sym left)
+    (subst (λ z. unsigned_abs (a *ℤ z) ≤ 2147483648 * 2147483648) (sym right)
+    (product_within a b 2147483648 2147483648 c.low.ensures.small c.low-2.ensures.small)) in
+    omega (arith, ints, product)

@@ -1,4 +1,4 @@
-use Rattle.std.proofs.Common.{◌≡◌, length, Some}
+use Rattle.std.proofs.Common.{◌≡◌, Some}
 use Rattle.cs_gen.specs.{Points.len_of, Places.place_of_index}
 use Rattle.cs_signal.specs.Operands.{operand_at}
 use Rattle.cs_cells.specs.Cells.{cell}
@@ -13,6 +13,5 @@ invariant-loop-j g l = record {
       (stored (λ j. place_of_index (len_of l.area.length) (operand_at l.ndx j)) (operand_at l.sig) l.j
       (wave_in rate.Audio l.area (cell (g.B.Bank.cells l.initial.bank))))
       (cell (g.B.Bank.cells l.initial.bank));
-  long : length (g.B.Bank.cells l.bank) ≡ length (g.B.Bank.cells l.initial.bank);
   rest : g.B.Bank.rest l.bank ≡ g.B.Bank.rest l.initial.bank;
 }

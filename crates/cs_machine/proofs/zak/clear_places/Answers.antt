@@ -1,11 +1,11 @@
-use Rattle.std.proofs.Common.{◌≡◌, ◌<◌, ◌+◌, ◌∙◌, ◌&&◌, ap, arith, length, refl}
+use Rattle.std.proofs.Common.{◌≡◌, ◌<◌, ◌+◌, ◌∙◌, ◌&&◌, ap, arith, refl}
 use Rattle.cs_base.specs.Rates.{same_res}
 use Rattle.cs_cells.specs.Cells.{cell}
 use Rattle.cs_ir.specs.Resources.{places_of, reaches, zak_place}
 use Rattle.cs_meaning.specs.Pieces.{index}
 use Rattle.cs_machine.specs.inner.Numbers.{cleared_in, clears, end_of, from_of}
 use Rattle.cs_machine.proofs.Clearing.{all_cleared, cleared_twice, clears_more, none_cleared, nothing_cleared}
-use Rattle.cs_machine.proofs.Writing.{touch_again}
+use Rattle.cs_machine.proofs.Writing.{set_again}
 use Rattle.cs_machine.proofs.zak.clear_places.Goals as goal
 
 pub loop-n-init : goal.loop-n-init
@@ -15,16 +15,13 @@ loop-n-init g c = record {
       (cell (g.B.Bank.cells c.args.bank.now)) (none_cleared c.args.space c.args.reach c.from_of-from.result);
   from = omega arith;
   within = c.from_of-from.ensures.within;
-  long = refl;
   rest = refl;
 }
 
 pub clear_place-requires-clause-write : goal.clear_place-requires-clause-write
 clear_place-requires-clause-write g c area reached at =
-    touch_again g.B.Bank.can_set (g.B.Bank.rest c.args.bank.now) (g.B.Bank.rest c.loop-n.bank)
-    (length (g.B.Bank.cells c.args.bank.now)) (length (g.B.Bank.cells c.loop-n.bank)) area
-    c.loop-n.invariant.rest c.loop-n.invariant.long
-    (c.requires.write c.loop-n.n area low reached at)
+    set_again g.B.Bank.access (g.B.Bank.rest c.args.bank.now) (g.B.Bank.rest c.loop-n.bank) area
+    c.loop-n.invariant.rest (c.requires.write c.loop-n.n area low reached at)
   where
     low : c.loop-n.n < places_of c.args.at.now.spaces c.args.space
     low =
@@ -44,7 +41,6 @@ loop-n-preserved g c = record {
       (clears_more c.args.space c.args.reach c.from_of-from.result c.loop-n.n c.loop-n.invariant.from);
   from = let low = c.loop-n.invariant.from in omega arith;
   within = let before = c.loop-n-test.true in omega arith;
-  long = c.clear_place.ensures.long ∙ c.loop-n.invariant.long;
   rest = c.clear_place.ensures.rest ∙ c.loop-n.invariant.rest;
 }
 

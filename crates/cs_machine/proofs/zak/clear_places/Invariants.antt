@@ -1,4 +1,4 @@
-use Rattle.std.proofs.Common.{◌≡◌, ◌≤◌, length}
+use Rattle.std.proofs.Common.{◌≡◌, ◌≤◌}
 use Rattle.cs_cells.specs.Cells.{cell}
 use Rattle.cs_machine.specs.inner.Numbers.{cleared_in, clears}
 use Rattle.cs_machine.proofs.zak.clear_places.Given as goal
@@ -10,6 +10,5 @@ invariant-loop-n g l = record {
       ≡ cleared_in l.at.layout.now (clears l.space l.reach l.from l.n) (cell (g.B.Bank.cells l.initial.bank));
   from : l.from ≤ l.n;
   within : l.n ≤ l.end;
-  long : length (g.B.Bank.cells l.bank) ≡ length (g.B.Bank.cells l.initial.bank);
   rest : g.B.Bank.rest l.bank ≡ g.B.Bank.rest l.initial.bank;
 }

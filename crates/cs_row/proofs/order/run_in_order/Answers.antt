@@ -1,9 +1,9 @@
 use Rattle.std.proofs.lemmas.Grind.{common_steps}
 use Rattle.std.proofs.Common.{ℕ, suc, ◌<◌, ◌+◌, ◌≡◌, ◌++◌, List, length, take, drop, slice_get, slice_set, Some, sym}
 use Rattle.std.proofs.Common.{ap, ◌∙◌, subst, get_or, arith}
-use Rattle.cs_cells.specs.Serial.{serial_jobs, before}
-use Rattle.cs_cells.proofs.SerialRun.{before-suc, job_at, before-all, length-serial_jobs, length-before}
-use Rattle.cs_row.proofs.Fronts.{next_here, next_set, all_of}
+use Rattle.cs_cells.specs.{Access.Allows, Meaning.Uses, Meaning.Writes, Serial.serial_jobs, Serial.before}
+use Rattle.cs_cells.proofs.SerialRun.{before-suc, job_at, before-all, length-serial_jobs}
+use Rattle.cs_row.proofs.Fronts.{all_at, next_here, next_set, all_of}
 use Rattle.cs_row.proofs.order.run_in_order.Goals as goal
 
 pub run-requires : goal.run-requires
@@ -15,12 +15,9 @@ run-requires g c =
     let job : g.row.J.Denot = get_or c.loop-at.jobs n c.index-jobs-at.result in
     let there = next_here (serial_jobs M c.args.jobs.now start) c.args.jobs.now c.loop-at.jobs n
     c.index-jobs-at.result (length-serial_jobs M c.args.jobs.now start) (omega (arith, c.loop-at-test.true)) inv.jobs in
-    let long = ap length inv.cells ∙ length-before M g.met.J.Job.frames c.args.jobs.now start n in
-    record {
-      get = λ a u. subst (λ r. g.B.Bank.can_get r a) (sym inv.rest) (c.requires.get n a job there u);
-      set = λ a w. subst (λ r. g.B.Bank.can_set r a) (sym inv.rest) (c.requires.set n a job there w);
-      cells = λ a u. subst (λ k. a < k) (sym long) (c.requires.cells n a job there u);
-    }
+    let allowed = all_at (λ j. Allows (g.B.Bank.access (g.B.Bank.rest c.args.bank.now)) (Uses M j) (Writes M j))
+    c.args.jobs.now n job c.requires.allowed there in
+    subst (λ r. Allows (g.B.Bank.access r) (Uses M job) (Writes M job)) (sym inv.rest) allowed
 
 pub loop-at-preserved : goal.loop-at-preserved
 loop-at-preserved g c =

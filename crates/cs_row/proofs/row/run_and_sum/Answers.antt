@@ -1,25 +1,15 @@
 use Rattle.std.proofs.lemmas.{Grind.common_steps, List.FromFn.length-map-range_with_len}
-use Rattle.std.proofs.Common.{◌≡◌, ◌<◌, ◌∙◌, ap, arith, length, subst, sym}
+use Rattle.std.proofs.Common.{◌≡◌, ◌∙◌, ap, arith, length, subst, sym}
 use Rattle.std.specs.List.{All}
 use Rattle.cs_cells.proofs.SerialRun.{length-serial_jobs}
 use Rattle.cs_row.specs.HeardFrames.{shapes_after}
-use Rattle.cs_row.proofs.Touching.{used_within, written_within}
+use Rattle.cs_row.proofs.Touching.{each_allowed}
 use Rattle.cs_row.proofs.row.run_and_sum.Goals as goal
 
-pub run_in_order-requires-clause-get : goal.run_in_order-requires-clause-get
-run_in_order-requires-clause-get g c =
-    used_within g.J.Job.means c.args.notes.now c.requires.row.row
-    (λ a. g.B.Bank.can_get (g.B.Bank.rest c.args.bank.now) a) c.requires.get
-
-pub run_in_order-requires-clause-set : goal.run_in_order-requires-clause-set
-run_in_order-requires-clause-set g c =
-    written_within g.J.Job.means c.args.notes.now c.requires.row.row
-    (λ a. g.B.Bank.can_set (g.B.Bank.rest c.args.bank.now) a) c.requires.set
-
-pub run_in_order-requires-clause-cells : goal.run_in_order-requires-clause-cells
-run_in_order-requires-clause-cells g c =
-    used_within g.J.Job.means c.args.notes.now c.requires.row.row
-    (λ a. a < length (g.B.Bank.cells c.args.bank.now)) c.requires.cells
+pub run_in_order-requires-clause-allowed : goal.run_in_order-requires-clause-allowed
+run_in_order-requires-clause-allowed g c =
+    each_allowed g.J.Job.means c.args.notes.now c.requires.row.row
+    (g.B.Bank.access (g.B.Bank.rest c.args.bank.now)) c.requires.allowed
 
 pub sum-requires : goal.sum-requires
 sum-requires g c =

@@ -1,11 +1,13 @@
 use Rattle.std.proofs.Common.{◌∙◌, ap, refl, sym}
-use Rattle.cs_ir.specs.{Machine.write, Placed.there, Validity.has_register, Values.applied, Values.negated}
+use Rattle.cs_ir.specs.{Machine.write, Placed.there, Values.applied, Values.negated}
 use Rattle.cs_ir.specs.Waves.{both, chosen, constant}
 use Rattle.cs_meaning.specs.Pieces.{head_value}
 use Rattle.cs_machine.proofs.Done.{writes_at}
 use Rattle.cs_machine.specs.Registers.{values}
-use Rattle.cs_voice.proofs.Fitting.{acts_there, bare_from, does_anywhere, does_at, first_there, reads_small}
-use Rattle.cs_voice.proofs.Fitting.{reads_there, second_there, third_there, writes_small, writes_there}
+use Rattle.cs_voice.proofs.Fitting.{acts_there, bare_from, does_anywhere, does_at, first_there, is_one_of}
+use Rattle.cs_voice.proofs.Fitting.{out_channel, picks_held, reads_one, reads_small, reads_there, reads_three}
+use Rattle.cs_voice.proofs.Fitting.{reads_two, second_there, sends_sound, sends_sound_at, third_there, writes_small}
+use Rattle.cs_voice.proofs.Fitting.{written_there}
 use Rattle.cs_voice.proofs.any.plain.Goals as goal
 
 -- ---- what is written and read is there
@@ -34,61 +36,129 @@ writes-requires-in-Pair c = writes_small c.requires.fit (acts_there c.args.op c.
 pub writes-requires-in-Pick : goal.writes-requires-in-Pick
 writes-requires-in-Pick c = writes_small c.requires.fit (acts_there c.args.op c.in-Pick.is) refl
 
-pub only-requires-clause-small : goal.only-requires-clause-small
-only-requires-clause-small c = reads_small c.requires.fit
+pub hold-requires : goal.hold-requires
+hold-requires c = record {
+  there = written_there c.requires.fit c.writes.ensures (acts_there c.args.op c.in-Const.is) refl;
+  row = c.requires.fit.room.row;
+}
 
-pub only-requires-in-Neg-clause-small : goal.only-requires-in-Neg-clause-small
-only-requires-in-Neg-clause-small c = reads_small c.requires.fit
+pub hold-requires-in-Field : goal.hold-requires-in-Field
+hold-requires-in-Field c = record {
+  there = written_there c.requires.fit c.writes-in-Field.ensures (acts_there c.args.op c.in-Field.is) refl;
+  row = c.requires.fit.room.row;
+}
 
-pub only-requires-in-Call-clause-small : goal.only-requires-in-Call-clause-small
-only-requires-in-Call-clause-small c = reads_small c.requires.fit
+pub hold-requires-in-Head : goal.hold-requires-in-Head
+hold-requires-in-Head c = record {
+  there = written_there c.requires.fit c.writes-in-Head.ensures (acts_there c.args.op c.in-Head.is) refl;
+  row = c.requires.fit.room.row;
+}
 
-pub only-requires-in-Out-clause-small : goal.only-requires-in-Out-clause-small
-only-requires-in-Out-clause-small c = reads_small c.requires.fit
+pub only-requires : goal.only-requires
+only-requires c = record {
+  one = reads_one c.requires.fit (acts_there c.args.op c.in-Copy.is) refl;
+  small = reads_small c.requires.fit;
+}
 
-pub pair-requires-clause-small : goal.pair-requires-clause-small
-pair-requires-clause-small c = reads_small c.requires.fit
+pub copy-requires : goal.copy-requires
+copy-requires c = record {
+  into = written_there c.requires.fit c.writes-in-Copy.ensures (acts_there c.args.op c.in-Copy.is) refl;
+  x = first_there c.args.state.now.regs.counts (reads_there c.requires.fit) c.only.ensures;
+  row = c.requires.fit.room.row;
+}
 
-pub pair-requires-in-OutAt-clause-small : goal.pair-requires-in-OutAt-clause-small
-pair-requires-in-OutAt-clause-small c = reads_small c.requires.fit
+pub only-requires-in-Neg : goal.only-requires-in-Neg
+only-requires-in-Neg c = record {
+  one = reads_one c.requires.fit (acts_there c.args.op c.in-Neg.is) refl;
+  small = reads_small c.requires.fit;
+}
 
-pub triple-requires-clause-small : goal.triple-requires-clause-small
-triple-requires-clause-small c = reads_small c.requires.fit
+pub negate-requires : goal.negate-requires
+negate-requires c = record {
+  into = written_there c.requires.fit c.writes-in-Neg.ensures (acts_there c.args.op c.in-Neg.is) refl;
+  x = first_there c.args.state.now.regs.counts (reads_there c.requires.fit) c.only-in-Neg.ensures;
+  row = c.requires.fit.room.row;
+}
 
-pub apply-requires-clause-x : goal.apply-requires-clause-x
-apply-requires-clause-x c = first_there c.args.state.now.regs.counts (reads_there c.requires.fit) c.only-in-Call.ensures
+pub only-requires-in-Call : goal.only-requires-in-Call
+only-requires-in-Call c = record {
+  one = reads_one c.requires.fit (acts_there c.args.op c.in-Call.is) refl;
+  small = reads_small c.requires.fit;
+}
 
-pub combine-requires-clause-into : goal.combine-requires-clause-into
-combine-requires-clause-into c = ap (has_register c.args.state.now.regs.counts) c.writes-in-Pair.ensures
-    ∙ writes_there c.requires.fit (acts_there c.args.op c.in-Pair.is) refl
+pub apply-requires : goal.apply-requires
+apply-requires c = record {
+  into = written_there c.requires.fit c.writes-in-Call.ensures (acts_there c.args.op c.in-Call.is) refl;
+  x = first_there c.args.state.now.regs.counts (reads_there c.requires.fit) c.only-in-Call.ensures;
+  row = c.requires.fit.room.row;
+}
 
-pub combine-requires-clause-x : goal.combine-requires-clause-x
-combine-requires-clause-x c = first_there c.args.state.now.regs.counts (reads_there c.requires.fit) c.pair.ensures
+pub pair-requires : goal.pair-requires
+pair-requires c = record {
+  two = reads_two c.requires.fit (acts_there c.args.op c.in-Pair.is) refl;
+  small = reads_small c.requires.fit;
+}
 
-pub combine-requires-clause-y : goal.combine-requires-clause-y
-combine-requires-clause-y c = second_there c.args.state.now.regs.counts (reads_there c.requires.fit) c.pair.ensures
+pub combine-requires : goal.combine-requires
+combine-requires c = record {
+  into = written_there c.requires.fit c.writes-in-Pair.ensures (acts_there c.args.op c.in-Pair.is) refl;
+  x = first_there c.args.state.now.regs.counts (reads_there c.requires.fit) c.pair.ensures;
+  y = second_there c.args.state.now.regs.counts (reads_there c.requires.fit) c.pair.ensures;
+  row = c.requires.fit.room.row;
+}
 
-pub pick-requires-clause-into : goal.pick-requires-clause-into
-pick-requires-clause-into c = ap (has_register c.args.state.now.regs.counts) c.writes-in-Pick.ensures
-    ∙ writes_there c.requires.fit (acts_there c.args.op c.in-Pick.is) refl
+pub triple-requires : goal.triple-requires
+triple-requires c = record {
+  three = reads_three c.requires.fit (acts_there c.args.op c.in-Pick.is);
+  small = reads_small c.requires.fit;
+}
 
-pub pick-requires-clause-condition : goal.pick-requires-clause-condition
-pick-requires-clause-condition c = first_there c.args.state.now.regs.counts (reads_there c.requires.fit)
-    c.triple.ensures
+pub pick-requires : goal.pick-requires
+pick-requires c = record {
+  into = written_there c.requires.fit c.writes-in-Pick.ensures (acts_there c.args.op c.in-Pick.is) refl;
+  condition = first_there c.args.state.now.regs.counts (reads_there c.requires.fit) c.triple.ensures;
+  held = picks_held c.requires.fit (acts_there c.args.op c.in-Pick.is) c.triple.ensures;
+  x = second_there c.args.state.now.regs.counts (reads_there c.requires.fit) c.triple.ensures;
+  y = third_there c.args.state.now.regs.counts (reads_there c.requires.fit) c.triple.ensures;
+  row = c.requires.fit.room.row;
+}
 
-pub pick-requires-clause-x : goal.pick-requires-clause-x
-pick-requires-clause-x c = second_there c.args.state.now.regs.counts (reads_there c.requires.fit) c.triple.ensures
+pub only-requires-in-Out : goal.only-requires-in-Out
+only-requires-in-Out c = record {
+  one = reads_one c.requires.fit (acts_there c.args.op c.in-Out.is) refl;
+  small = reads_small c.requires.fit;
+}
 
-pub pick-requires-clause-y : goal.pick-requires-clause-y
-pick-requires-clause-y c = third_there c.args.state.now.regs.counts (reads_there c.requires.fit) c.triple.ensures
+pub send-requires : goal.send-requires
+send-requires c = record {
+  channel = out_channel c.requires.fit (acts_there c.args.op c.in-Out.is);
+  x = first_there c.args.state.now.regs.counts (reads_there c.requires.fit) c.only-in-Out.ensures;
+  sound = sends_sound c.requires.fit (acts_there c.args.op c.in-Out.is) c.only-in-Out.ensures;
+  room = c.requires.fit.room;
+}
 
-pub send_at-requires-clause-number : goal.send_at-requires-clause-number
-send_at-requires-clause-number c = first_there c.args.state.now.regs.counts (reads_there c.requires.fit)
-    c.pair-in-OutAt.ensures
+pub pair-requires-in-OutAt : goal.pair-requires-in-OutAt
+pair-requires-in-OutAt c = record {
+  two = reads_two c.requires.fit (acts_there c.args.op c.in-OutAt.is) refl;
+  small = reads_small c.requires.fit;
+}
 
-pub send_at-requires-clause-x : goal.send_at-requires-clause-x
-send_at-requires-clause-x c = second_there c.args.state.now.regs.counts (reads_there c.requires.fit)
-    c.pair-in-OutAt.ensures
+pub send_at-requires : goal.send_at-requires
+send_at-requires c = record {
+  number = first_there c.args.state.now.regs.counts (reads_there c.requires.fit) c.pair-in-OutAt.ensures;
+  x = second_there c.args.state.now.regs.counts (reads_there c.requires.fit) c.pair-in-OutAt.ensures;
+  sound = sends_sound_at c.requires.fit (acts_there c.args.op c.in-OutAt.is) c.pair-in-OutAt.ensures;
+  room = c.requires.fit.room;
+}
+
+-- ---- no other act
+
+pub unreachable-requires : goal.unreachable-requires
+unreachable-requires c =
+    let other = c.in_default in
+    is_one_of c.args.op.window.now c.args.op.op.now.act c.requires.plain other.not-Const other.not-Field other.not-Head
+    other.not-Copy other.not-Neg other.not-Call other.not-Pair other.not-Pick other.not-Out other.not-OutAt
+    other.not-Turnoff
 
 -- ---- what is done
 

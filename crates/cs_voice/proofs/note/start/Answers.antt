@@ -10,7 +10,7 @@ use Rattle.cs_voice.proofs.Passed.{none_if}
 use Rattle.cs_voice.proofs.note.start.Goals as goal
 
 pub pass-requires : goal.pass-requires
-pass-requires g c = as_found _ _ _ _ c.args.note.now c.args.fields.items c.in_ok-state.state (record {
+pass-requires g c = as_found _ _ c.args.note.now c.args.fields.items c.in_ok-state.state (record {
   layout = refl;
   head = refl;
   zak = refl;
@@ -21,9 +21,7 @@ pass-requires g c = as_found _ _ _ _ c.args.note.now c.args.fields.items c.in_ok
   tables = c.requires.tables;
   places = c.requires.places;
   spaces = c.requires.spaces;
-  gets = c.requires.get;
-  sets = c.requires.set;
-  cells = c.requires.cells;
+  bank = c.requires.access;
   fresh = c.in_ok-state.ensures.machine;
   in_piece = λ areas piece kinds frames channels.
       subst (λ (code : Code). IsStateIn areas piece kinds code.counts c.in_ok-state.state) c.init-init.ensures.same

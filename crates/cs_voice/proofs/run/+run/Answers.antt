@@ -8,12 +8,15 @@ use Rattle.cs_ir.specs.Flat.{flat, further, leaves_room, ops_at, window_of}
 use Rattle.cs_ir.specs.{Routines.library_in, Routines.steps_of, Validity.has_register, Values.holds, Waves.operand}
 use Rattle.cs_ir.specs.{declared.op.Op.Op, declared.routine.Routine.Routine, declared.step.Step.Step}
 use Rattle.cs_machine.specs.Registers.{values}
-use Rattle.cs_voice.specs.{Ready.is_here, inner.Starters.asked, inner.Starters.finding}
-use Rattle.cs_voice.proofs.Coming.{can_as, can_be_done, can_begin, can_call, comes_act, comes_held, comes_jump}
-use Rattle.cs_voice.proofs.Coming.{comes_not, comes_on, does_all, does_as, does_nothing, does_refused, goes_on}
-use Rattle.cs_voice.proofs.Coming.{gone_call, gone_start, is_started, is_there, jump_later, never_as, never_call}
-use Rattle.cs_voice.proofs.Coming.{never_op, reads, start_stays, stays, unless_later, unless_one}
+use Rattle.cs_voice.specs.{Ready.is_here, inner.Jumps.is_start, inner.Starters.asked, inner.Starters.finding}
+use Rattle.cs_voice.proofs.Coming.{at_first, can_as, can_be_done, can_begin, can_call, comes_act, comes_held}
+use Rattle.cs_voice.proofs.Coming.{comes_jump, comes_not, comes_on, does_all, does_as, does_nothing, does_refused}
+use Rattle.cs_voice.proofs.Coming.{goes_on, gone_call, gone_start, is_started, is_there, jump_later, moved_start}
+use Rattle.cs_voice.proofs.Coming.{never_as, never_call, never_op, reads, start_stays, stays, unless_later, unless_one}
 use Rattle.cs_voice.proofs.run.+run.Goals as goal
+
+pub steps_in-loop-place-init : goal.steps_in-loop-place-init
+steps_in-loop-place-init g t c = at_first c.requires.able
 
 -- ---- jumps
 
@@ -23,7 +26,7 @@ steps_in-loop-place-smaller-in-Jump g t c =
     omega (arith, later, c.loop-place-test.true)
 
 pub steps_in-loop-place-preserved-in-Jump : goal.steps_in-loop-place-preserved-in-Jump
-steps_in-loop-place-preserved-in-Jump g t c = goes_on c.loop-place.invariant refl refl refl
+steps_in-loop-place-preserved-in-Jump g t c = goes_on c.loop-place.invariant refl refl
     (comes_jump c.loop-place.invariant (c.step_at.ensures ∙ ap Some c.in-Do.is) c.in-Jump.to c.in-Jump.is)
 
 pub steps_in-condition-requires-clause-one : goal.steps_in-condition-requires-clause-one
@@ -37,7 +40,7 @@ steps_in-condition-requires-clause-there g t c =
     ∙ reads c.loop-place.invariant (c.step_at.ensures ∙ ap Some c.in-Do.is)
 
 pub steps_in-loop-place-preserved-then-condition : goal.steps_in-loop-place-preserved-then-condition
-steps_in-loop-place-preserved-then-condition g t c = goes_on c.loop-place.invariant refl refl refl
+steps_in-loop-place-preserved-then-condition g t c = goes_on c.loop-place.invariant refl refl
     (comes_held c.loop-place.invariant (c.step_at.ensures ∙ ap Some c.in-Do.is) c.in-Unless.to c.in-Unless.is
     (sym (ap (λ (d : Op). holds (operand 0 (map (values c.loop-place.state.regs) d.from) 0)) c.op.ensures.op)
     ∙ sym c.condition.ensures ∙ c.if-condition.true))
@@ -49,7 +52,7 @@ steps_in-loop-place-smaller-else-condition g t c =
     omega (arith, later, c.loop-place-test.true)
 
 pub steps_in-loop-place-preserved-else-condition : goal.steps_in-loop-place-preserved-else-condition
-steps_in-loop-place-preserved-else-condition g t c = goes_on c.loop-place.invariant refl refl refl
+steps_in-loop-place-preserved-else-condition g t c = goes_on c.loop-place.invariant refl refl
     (comes_not c.loop-place.invariant (c.step_at.ensures ∙ ap Some c.in-Do.is) c.in-Unless.to c.in-Unless.is
     (sym (ap (λ (d : Op). holds (operand 0 (map (values c.loop-place.state.regs) d.from) 0)) c.op.ensures.op)
     ∙ sym c.condition.ensures ∙ c.if-condition.false))
@@ -60,6 +63,11 @@ pub steps_in-start-requires-clause-room : goal.steps_in-start-requires-clause-ro
 steps_in-start-requires-clause-room g t c =
     ap leaves_room c.op-in-Start.ensures.window
     ∙ room_in (length c.args.code.now.routines.now) c.args.code.now.window c.requires.low
+
+pub steps_in-start-requires-clause-here : goal.steps_in-start-requires-clause-here
+steps_in-start-requires-clause-here g t c =
+    ap (λ (d : Op). is_start d.act) c.op-in-Start.ensures.op
+    ∙ moved_start c.args.code.now.window c.in-Do.op.act ∙ is_started c.in-Do.op.act c.in-Start.is
 
 pub steps_in-start-requires-clause-able : goal.steps_in-start-requires-clause-able
 steps_in-start-requires-clause-able g t c =
@@ -73,6 +81,19 @@ steps_in-returns-in_err-refused-in-Start-clause-memory g t c err =
     let st = is_started c.in-Do.op.act c.in-Start.is in
     never_op c.loop-place.invariant (c.step_at.ensures ∙ ap Some c.in-Do.is) (start_stays c.in-Do.op.act st) st
 
+pub steps_in-returns-in_err-refused-in-Start-clause-same : goal.steps_in-returns-in_err-refused-in-Start-clause-same
+steps_in-returns-in_err-refused-in-Start-clause-same g t c =
+    c.in_err-refused-in-Start.ensures.same ∙ c.loop-place.invariant.same
+
+pub steps_in-returns-in_err-refused-in-Start-clause-rest : goal.steps_in-returns-in_err-refused-in-Start-clause-rest
+steps_in-returns-in_err-refused-in-Start-clause-rest g t c = c.loop-place.invariant.rest
+
+pub steps_in-returns-in-Some-clause-same : goal.steps_in-returns-in-Some-clause-same
+steps_in-returns-in-Some-clause-same g t c = c.in_ok-refused-in-Start.ensures.same ∙ c.loop-place.invariant.same
+
+pub steps_in-returns-in-Some-clause-rest : goal.steps_in-returns-in-Some-clause-rest
+steps_in-returns-in-Some-clause-rest g t c = c.loop-place.invariant.rest
+
 pub steps_in-returns-in-Some-clause-does : goal.steps_in-returns-in-Some-clause-does
 steps_in-returns-in-Some-clause-does g t c =
     let st = is_started c.in-Do.op.act c.in-Start.is in
@@ -83,7 +104,7 @@ steps_in-returns-in-Some-clause-does g t c =
 pub steps_in-loop-place-preserved-in-Start : goal.steps_in-loop-place-preserved-in-Start
 steps_in-loop-place-preserved-in-Start g t c =
     let st = is_started c.in-Do.op.act c.in-Start.is in
-    goes_on c.loop-place.invariant c.in_ok-refused-in-Start.ensures.same refl refl
+    goes_on c.loop-place.invariant c.in_ok-refused-in-Start.ensures.same refl
     (comes_on c.in_default-refused.not-Some
     (gone_start c.loop-place.invariant (c.step_at.ensures ∙ ap Some c.in-Do.is) (start_stays c.in-Do.op.act st) st
     c.op-in-Start.ensures.op c.in_ok-refused-in-Start.ensures.does))
@@ -105,7 +126,7 @@ steps_in-act-requires g t c =
 pub steps_in-loop-place-preserved-in_default : goal.steps_in-loop-place-preserved-in_default
 steps_in-loop-place-preserved-in_default g t c =
     let other = c.in_default in
-    goes_on c.loop-place.invariant refl c.act.ensures.long c.act.ensures.rest
+    goes_on c.loop-place.invariant refl c.act.ensures.rest
     (comes_act c.loop-place.invariant (c.step_at.ensures ∙ ap Some c.in-Do.is)
     (stays c.in-Do.op.act other.not-Jump other.not-Unless)
     (is_there c.in-Do.op.act other.not-Jump other.not-Unless c.args.code.now.window other.not-Start other.not-Seek
@@ -130,6 +151,22 @@ steps_in-returns-in_err-refused-in-Invoke-clause-memory g t c err =
     never_call c.loop-place.invariant (c.step_at.ensures ∙ ap Some c.in-Invoke.is)
     (c.in_err-refused-in-Invoke.ensures.memory refl)
 
+pub steps_in-returns-in_err-refused-in-Invoke-clause-same : goal.steps_in-returns-in_err-refused-in-Invoke-clause-same
+steps_in-returns-in_err-refused-in-Invoke-clause-same g t c =
+    c.in_err-refused-in-Invoke.ensures.same ∙ c.loop-place.invariant.same
+
+pub steps_in-returns-in_err-refused-in-Invoke-clause-rest : goal.steps_in-returns-in_err-refused-in-Invoke-clause-rest
+steps_in-returns-in_err-refused-in-Invoke-clause-rest g t c =
+    c.in_err-refused-in-Invoke.ensures.rest ∙ c.loop-place.invariant.rest
+
+pub steps_in-returns-in-Some-refused-clause-same : goal.steps_in-returns-in-Some-refused-clause-same
+steps_in-returns-in-Some-refused-clause-same g t c =
+    c.in_ok-refused-in-Invoke.ensures.same ∙ c.loop-place.invariant.same
+
+pub steps_in-returns-in-Some-refused-clause-rest : goal.steps_in-returns-in-Some-refused-clause-rest
+steps_in-returns-in-Some-refused-clause-rest g t c =
+    c.in_ok-refused-in-Invoke.ensures.rest ∙ c.loop-place.invariant.rest
+
 pub steps_in-returns-in-Some-refused-clause-does : goal.steps_in-returns-in-Some-refused-clause-does
 steps_in-returns-in-Some-refused-clause-does g t c =
     does_refused c.in-Some-refused.is
@@ -139,7 +176,7 @@ steps_in-returns-in-Some-refused-clause-does g t c =
 pub steps_in-loop-place-preserved : goal.steps_in-loop-place-preserved
 steps_in-loop-place-preserved g t c =
     let made = c.in_ok-refused-in-Invoke.ensures in
-    goes_on c.loop-place.invariant made.same made.long made.rest
+    goes_on c.loop-place.invariant made.same made.rest
     (comes_on c.in_default-refused-2.not-Some
     (gone_call c.loop-place.invariant (c.step_at.ensures ∙ ap Some c.in-Invoke.is) made.does))
 
@@ -203,8 +240,7 @@ invoke-returns-in-None-clause-does g t c =
     let list = c.args.code.now.routines.now in
     let n = c.args.call.now.routine in
     let h = c.in-None.ensures.lookup in
-    does_nothing (g.B.Bank.can_get (g.B.Bank.rest c.args.bank.now)) (g.B.Bank.can_set (g.B.Bank.rest c.args.bank.now))
-    (length (g.B.Bank.cells c.args.bank.now)) c.args.at.now (finding c.args.starter.now)
+    does_nothing (g.B.Bank.access (g.B.Bank.rest c.args.bank.now)) c.args.at.now (finding c.args.starter.now)
     (further c.args.code.now.window (window_of c.args.call.now)) (ops_at (library_in list) n) c.args.state.now
     (cell (g.B.Bank.cells c.args.bank.now)) (asked c.args.starter.now)
     (routine_none list n (ltb-false n (length list) (sym h.0)))

@@ -7,10 +7,9 @@ use Rattle.cs_voice.proofs.run.+run.Given as goal
 
 -- The code was done up to this step, by whatever it can be done as.
 abbrev pub invariant-steps_in-loop-place : goal.invariant-steps_in-loop-place
-invariant-steps_in-loop-place g l = IsAt g.B.Bank.can_get g.B.Bank.can_set (g.B.Bank.rest l.initial.bank)
-    (g.B.Bank.rest l.bank) (length (g.B.Bank.cells l.initial.bank)) (length (g.B.Bank.cells l.bank)) l.at
-    (finding l.initial.starter) (finding l.starter) (library_in l.code.routines.now) l.code.steps.now l.code.window
-    l.initial.state (cell (g.B.Bank.cells l.initial.bank)) (asked l.initial.starter) l.place l.state
+invariant-steps_in-loop-place g l = IsAt g.B.Bank.access (g.B.Bank.rest l.initial.bank) (g.B.Bank.rest l.bank)
+    l.at (finding l.initial.starter) (finding l.starter) (library_in l.code.routines.now) l.code.steps.now
+    l.code.window l.initial.state (cell (g.B.Bank.cells l.initial.bank)) (asked l.initial.starter) l.place l.state
     (cell (g.B.Bank.cells l.bank)) (asked l.starter)
 
 abbrev pub decreases-steps_in-loop-place : goal.decreases-steps_in-loop-place

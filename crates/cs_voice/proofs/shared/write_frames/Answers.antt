@@ -24,6 +24,5 @@ returns-else-is_audio g c =
           ∙ row_held c.args.regs.now.ksmps (values c.args.regs.now c.args.x) c.frames.new.row long
           c.frames.ensures.frames);
       row = ap length same ∙ long;
-      long = c.write_row-else-is_audio.ensures.long;
       rest = c.write_row-else-is_audio.ensures.rest;
     }

@@ -10,13 +10,13 @@ use Rattle.cs_voice.proofs.store.store_points.Goals as goal
 
 pub store-requires-clause-power : goal.store-requires-clause-power
 store-requires-clause-power g c =
-    (stored_there (g.B.Bank.can_set (g.B.Bank.rest c.args.bank.now)) _ c.args.at.now.layout.now c.args.reach
+    (stored_there (g.B.Bank.access (g.B.Bank.rest c.args.bank.now)) c.args.at.now.layout.now c.args.reach
     (index c.first.result) c.in-Some.area
     (sym c.stored_area.ensures.value ∙ c.in-Some.is) c.requires.write).power
 
 pub store-requires-clause-write : goal.store-requires-clause-write
 store-requires-clause-write g c =
-    (stored_there (g.B.Bank.can_set (g.B.Bank.rest c.args.bank.now)) _ c.args.at.now.layout.now c.args.reach
+    (stored_there (g.B.Bank.access (g.B.Bank.rest c.args.bank.now)) c.args.at.now.layout.now c.args.reach
     (index c.first.result) c.in-Some.area
     (sym c.stored_area.ensures.value ∙ c.in-Some.is) c.requires.write).write
 

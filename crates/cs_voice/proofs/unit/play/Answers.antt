@@ -6,7 +6,7 @@ use Rattle.cs_machine.proofs.Frames.{vector_frames}
 use Rattle.cs_machine.specs.Registers.{values}
 use Rattle.cs_signal.specs.Operands.{argument}
 use Rattle.cs_voice.specs.Units.{cycled}
-use Rattle.cs_voice.proofs.Playing.{audio_frames, held_gives, held_state, same_data}
+use Rattle.cs_voice.proofs.Playing.{audio_frames, audio_state, held_gives, held_state, same_data}
 use Rattle.cs_voice.proofs.unit.play.Goals as goal
 
 pub returns-then-is_audio-clause-values : goal.returns-then-is_audio-clause-values
@@ -22,6 +22,14 @@ returns-then-is_audio-clause-values g c =
     c.block.new.player.state c.block.new.row
     (sym c.is_audio.ensures ∙ c.if-is_audio.true)
     (ap length c.deref_mut.ensures.value ∙ c.requires.row) c.block.ensures.value))
+
+pub returns-then-is_audio-clause-unit : goal.returns-then-is_audio-clause-unit
+returns-then-is_audio-clause-unit g c =
+    same_data c.args.player.now c.block.new.player _ c.block.ensures.player
+    (audio_state c.args.regs.now.ksmps (length c.deref_mut.result.now) (rate_at c.args.into)
+    (map (values c.args.regs.now) (regs_read c.args.from)) (cell (g.B.Bank.cells c.args.bank.now)) c.args.player.now
+    c.block.new.player.state c.block.new.row (sym c.is_audio.ensures ∙ c.if-is_audio.true)
+    (ap length c.deref_mut.ensures.value ∙ c.requires.row) c.block.ensures.value)
 
 pub returns-else-is_audio-clause-unit : goal.returns-else-is_audio-clause-unit
 returns-else-is_audio-clause-unit g c =

@@ -31,15 +31,17 @@ mix_row-requires-clause-room g c =
 
 pub mix_row-requires-clause-read : goal.mix_row-requires-clause-read
 mix_row-requires-clause-read g c =
-    reached_touched (g.B.Bank.can_get (g.B.Bank.rest c.args.bank.now)) (length (g.B.Bank.cells c.args.bank.now))
-    c.args.at.now space.Audio c.args.reach (index c.first.result) c.in-Some.res c.area_in-area.result
-    c.requires.read (sym c.place.ensures ∙ c.in-Some.is) c.area_in-area.ensures.value
+    let access = g.B.Bank.access (g.B.Bank.rest c.args.bank.now) in
+    reached_touched access.can_get access.count c.args.at.now space.Audio c.args.reach (index c.first.result)
+    c.in-Some.res c.area_in-area.result c.requires.able.read (sym c.place.ensures ∙ c.in-Some.is)
+    c.area_in-area.ensures.value
 
 pub mix_row-requires-clause-write : goal.mix_row-requires-clause-write
 mix_row-requires-clause-write g c =
-    reached_touched (g.B.Bank.can_set (g.B.Bank.rest c.args.bank.now)) (length (g.B.Bank.cells c.args.bank.now))
-    c.args.at.now space.Audio c.args.reach (index c.first.result) c.in-Some.res c.area_in-area.result
-    c.requires.able.places (sym c.place.ensures ∙ c.in-Some.is) c.area_in-area.ensures.value
+    let access = g.B.Bank.access (g.B.Bank.rest c.args.bank.now) in
+    reached_touched access.can_set access.count c.args.at.now space.Audio c.args.reach (index c.first.result)
+    c.in-Some.res c.area_in-area.result c.requires.able.write (sym c.place.ensures ∙ c.in-Some.is)
+    c.area_in-area.ensures.value
 
 pub returns-in-Some-clause-does : goal.returns-in-Some-clause-does
 returns-in-Some-clause-does g c = λ into opcode shaped areas piece stock kinds counts at placed state.

@@ -1,15 +1,14 @@
-use Rattle.std.proofs.Common.{◌∙◌, length, ap, refl, subst, sym}
+use Rattle.std.proofs.Common.{◌∙◌, ap, refl, subst, sym}
 use Rattle.cs_ir.specs.{Placed.there, Registers.rate_at, Resources.zak_place, Units.is_zak, Validity.has_register}
 use Rattle.cs_ir.specs.Waves.{constant}
 use Rattle.cs_meaning.specs.Pieces.{index}
 use Rattle.cs_machine.specs.Registers.{IsWritten}
 use Rattle.cs_voice.specs.inner.Zak.{reached}
-use Rattle.cs_voice.proofs.Fitting.{acts_there, first_there, reads_small, second_there}
+use Rattle.cs_voice.proofs.Fitting.{acts_there, first_there, is_zak_act, reads_small, second_there}
 use Rattle.cs_voice.proofs.Places.{area_touched, cleared_from, get_gives, loaded, none_loaded, none_saved, reached_may}
 use Rattle.cs_voice.proofs.Places.{reached_value, saved_at}
-use Rattle.cs_voice.proofs.Readying.{can_reach, does_over, fit_of, into_of, is_a_zak, may_read, may_write, mix_sounds}
+use Rattle.cs_voice.proofs.Readying.{can_mix, does_over, fit_of, into_of, is_a_zak, may_read, may_write, mix_sounds}
 use Rattle.cs_voice.proofs.Readying.{not_zak, parts_of, room_of, sized_of, takes_of, zak_count, zak_long}
-use Rattle.cs_words.specs.declared.catalogue.Space.TheVariants as space
 use Rattle.cs_voice.proofs.zak.zak.Goals as goal
 
 -- ---- the registers that the op names
@@ -85,8 +84,9 @@ load-requires-clause-sized g c = sized_of c.requires.ready.ready
 
 pub load-requires-clause-read : goal.load-requires-clause-read
 load-requires-clause-read g c =
-    reached_may (g.B.Bank.can_get (g.B.Bank.rest c.args.bank.now)) (length (g.B.Bank.cells c.args.bank.now))
-    c.args.at.now c.in-ZakGet.space c.in-Zak.reach (index c.first.result) c.in-Some.res
+    let access = g.B.Bank.access (g.B.Bank.rest c.args.bank.now) in
+    reached_may access.can_get access.count c.args.at.now c.in-ZakGet.space c.in-Zak.reach (index c.first.result)
+    c.in-Some.res
     (may_read c.requires.ready.ready (acts_there c.args.op c.in-Zak.is) c.in-ZakGet.space
     (sym c.shape_of.ensures ∙ c.in-ZakGet.is) (λ stock. refl))
     (sym c.place.ensures ∙ c.in-Some.is)
@@ -137,8 +137,9 @@ save-requires-clause-sized g c = sized_of c.requires.ready.ready
 
 pub save-requires-clause-write : goal.save-requires-clause-write
 save-requires-clause-write g c =
-    reached_may (g.B.Bank.can_set (g.B.Bank.rest c.args.bank.now)) (length (g.B.Bank.cells c.args.bank.now))
-    c.args.at.now c.in-ZakPut.space c.in-Zak.reach (index c.first-in-ZakPut.result) c.in-Some-place.res
+    let access = g.B.Bank.access (g.B.Bank.rest c.args.bank.now) in
+    reached_may access.can_set access.count c.args.at.now c.in-ZakPut.space c.in-Zak.reach (index
+    c.first-in-ZakPut.result) c.in-Some-place.res
     (may_write c.requires.ready.ready (acts_there c.args.op c.in-Zak.is) c.in-ZakPut.space
     (sym c.shape_of.ensures ∙ c.in-ZakPut.is) (λ stock. refl))
     (sym c.place-in-ZakPut.ensures ∙ c.in-Some-place.is)
@@ -175,18 +176,10 @@ mix-requires-clause-sound g c = mix_sounds c.in-Zak.opcode c.in-Zak.reach
     (takes_of c.requires.ready.ready (acts_there c.args.op c.in-Zak.is)) (sym c.shape_of.ensures ∙ c.in-ZakMix.is)
     (c.pair-in-ZakMix.ensures)
 
-pub mix-requires-clause-read : goal.mix-requires-clause-read
-mix-requires-clause-read g c =
-    may_read c.requires.ready.ready (acts_there c.args.op c.in-Zak.is) space.Audio (sym c.shape_of.ensures ∙
-    c.in-ZakMix.is) (λ stock. refl)
-
 pub mix-requires-clause-able : goal.mix-requires-clause-able
-mix-requires-clause-able g c = can_reach c.requires.ready.ready
-    (second_there c.args.state.now.regs.counts (parts_of c.requires.ready.ready).from
-    (c.pair-in-ZakMix.ensures))
-    (may_write c.requires.ready.ready (acts_there c.args.op c.in-Zak.is) space.Audio (sym c.shape_of.ensures ∙
-    c.in-ZakMix.is)
-    (λ stock. refl))
+mix-requires-clause-able g c =
+    can_mix c.requires.ready.ready (acts_there c.args.op c.in-Zak.is) (sym c.shape_of.ensures ∙ c.in-ZakMix.is)
+    (second_there c.args.state.now.regs.counts (parts_of c.requires.ready.ready).from c.pair-in-ZakMix.ensures)
 
 pub returns-in-ZakMix-clause-does : goal.returns-in-ZakMix-clause-does
 returns-in-ZakMix-clause-does g c = does_over {o = there c.args.op} (acts_there c.args.op c.in-Zak.is) refl
@@ -197,8 +190,8 @@ returns-in-ZakMix-clause-does g c = does_over {o = there c.args.op} (acts_there 
 
 pub clear_places-requires-clause-write : goal.clear_places-requires-clause-write
 clear_places-requires-clause-write g c = λ n area low within.
-    area_touched (g.B.Bank.can_set (g.B.Bank.rest c.args.bank.now)) (length (g.B.Bank.cells c.args.bank.now))
-    c.args.at.now (zak_place c.in-ZakClear.space n) area
+    let access = g.B.Bank.access (g.B.Bank.rest c.args.bank.now) in
+    area_touched access.can_set access.count c.args.at.now (zak_place c.in-ZakClear.space n) area
     (may_write c.requires.ready.ready (acts_there c.args.op c.in-Zak.is) c.in-ZakClear.space
     (sym c.shape_of.ensures ∙ c.in-ZakClear.is) (λ stock. refl) n low within)
 
@@ -209,7 +202,11 @@ returns-in-ZakClear-clause-does g c =
     c.pair-in-ZakClear.result.1 c.first-first.result c.first-last.result (sym c.shape_of.ensures ∙ c.in-ZakClear.is)
     c.first-first.ensures c.first-last.ensures c.clear_places.ensures.cells)
 
--- ---- no other shape
+-- ---- no other act, and no other shape
+
+pub unreachable-requires : goal.unreachable-requires
+unreachable-requires g c =
+    is_zak_act c.args.op.window.now c.args.op.op.now.act c.requires.act.2 c.in_default.not-Zak
 
 pub unreachable-requires-in_default-shape_of : goal.unreachable-requires-in_default-shape_of
 unreachable-requires-in_default-shape_of g c = not_zak c.shape_of.result

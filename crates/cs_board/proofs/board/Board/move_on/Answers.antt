@@ -1,5 +1,74 @@
-use Rattle.std.proofs.Common.{rules}
+use Rattle.std.proofs.Common.{◌≡◌, ◌+◌, ◌∙◌, ◌∷◌, ◌++◌, [], None, Some, ap, arith, refl, subst, sym}
+use Rattle.cs_board.specs.{Views.passed, Views.settled, inner.Sittings.Beside}
+use Rattle.cs_board.specs.inner.Sittings.{stopped}
+use Rattle.cs_board.proofs.Finishing.{beside_same, beside_moved}
+use Rattle.cs_graph.specs.Graph.{Edge}
 use Rattle.cs_board.proofs.board.Board.move_on.Goals as goal
 
-pub returns-then-watch_edge-clause-moving : goal.returns-then-watch_edge-clause-moving
-returns-then-watch_edge-clause-moving g c = search rules
+pub loop-next-init : goal.loop-next-init
+loop-next-init g c = record {
+  sitting = c.requires.sitting;
+  carries = refl;
+  edge = c.requires.edge;
+  moving = c.requires.moving;
+  closing = refl;
+  beside = beside_same c.args.sitting.now.me.0;
+}
+
+pub watch_edge-requires-clause-moving : goal.watch_edge-requires-clause-moving
+watch_edge-requires-clause-moving g c =
+    let s = c.in-Some.ensures.some in
+    record {
+      from = c.loop-next.last + 1;
+      moving = c.loop-next.invariant.moving;
+      low = omega (arith, s.0);
+      edge = (s.1.0, subst (λ es. Edge es c.in-Some.next s.1.0 c.args.note) c.graph.ensures.edges s.1.1);
+      first = λ g r at_ low. omega (arith, s.0, low);
+    }
+
+pub loop-next-preserved : goal.loop-next-preserved
+loop-next-preserved g c =
+    let i = c.loop-next.invariant in
+    let s = c.in-Some.ensures.some in
+    let v = c.loop-next.sitting.me.0 in
+    let me : c.watch_edge.new.sitting.me ≡ (passed v c.args.note c.in-Some.next, c.loop-next.sitting.me.1) =
+    c.watch_edge.ensures.me
+    ∙ ap (λ b. (stopped b v c.args.note c.in-Some.next, c.loop-next.sitting.me.1)) c.if-watch_edge.false in
+    record {
+      sitting = c.watch_edge.ensures.sitting;
+      carries = ap (λ z. z.1) me ∙ i.carries;
+      edge = (s.1.0, subst (λ es. Edge es c.in-Some.next s.1.0 c.args.note) c.graph.ensures.edges s.1.1);
+      moving = ap (λ z. z.0.moving) me;
+      closing = ap (λ z. z.0.closing) me ∙ i.closing;
+      beside = subst (λ z. Beside c.args.sitting.now.me.0 z.0) (sym me)
+          (beside_moved _ v (Some (record { note = c.args.note; from = c.in-Some.next + 1 })) v.owes i.beside);
+    }
+
+pub returns-then-watch_edge : goal.returns-then-watch_edge
+returns-then-watch_edge g c =
+    let i = c.loop-next.invariant in
+    let v = c.loop-next.sitting.me.0 in
+    let me : c.watch_edge.new.sitting.me ≡ (settled v, c.loop-next.sitting.me.1) =
+    c.watch_edge.ensures.me
+    ∙ ap (λ b. (stopped b v c.args.note c.in-Some.next, c.loop-next.sitting.me.1)) c.if-watch_edge.true in
+    record {
+      sitting = c.watch_edge.ensures.sitting;
+      carries = ap (λ z. z.1) me ∙ i.carries;
+      moving = ap (λ z. z.0.moving) me;
+      closing = ap (λ z. z.0.closing) me ∙ i.closing;
+      beside = subst (λ z. Beside c.args.sitting.now.me.0 z.0) (sym me) (beside_moved _ v None v.owes i.beside);
+    }
+
+pub returns : goal.returns
+returns g c =
+    let i = c.loop-next.invariant in
+    let v = c.loop-next.sitting.me.0 in
+    let me = c.open_note.ensures.me in
+    record {
+      sitting = c.open_note.ensures.sitting;
+      carries = ap (λ z. z.1) me ∙ i.carries;
+      moving = ap (λ z. z.0.moving) me;
+      closing = ap (λ z. z.0.closing) me ∙ i.closing;
+      beside = subst (λ z. Beside c.args.sitting.now.me.0 z.0) (sym me)
+          (beside_moved _ v None (v.owes ++ c.args.note ∷ []) i.beside);
+    }

@@ -1,7 +1,7 @@
 use Rattle.std.proofs.Common.{◌<◌, ◌≤◌, sym, ◌∙◌, arith, inl, inr, ⊎_elim}
 use Rattle.std.proofs.lemmas.Bool.{cases_lt}
 use Rattle.cs_board.specs.{Board.plan, Board.IsIdle, inner.Sittings.AllTried}
-use Rattle.cs_board.proofs.Trying.{all_join, if_none_map, at_none}
+use Rattle.cs_board.proofs.Trying.{all_join, if_none_map, at_none, not_none, tries_join}
 use Rattle.cs_board.proofs.board.Board.try_round.Goals as goal
 
 pub returns-clause-none : goal.returns-clause-none
@@ -23,3 +23,10 @@ returns-clause-none g c =
           (cases_lt t c.args.from)),
     ))
     c.try_range.ensures.none
+
+pub returns-then-is_some-clause-none : goal.returns-then-is_some-clause-none
+returns-then-is_some-clause-none g c =
+    not_none c.try_range-won.result _ (sym c.is_some.ensures ∙ c.if-is_some.true)
+
+pub returns-clause-tries : goal.returns-clause-tries
+returns-clause-tries g c = tries_join _ _ _ c.try_range-won.ensures.tries c.try_range.ensures.tries

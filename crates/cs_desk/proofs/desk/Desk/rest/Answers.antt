@@ -28,3 +28,18 @@ invariant_of-resting g c =
           (c.clear-jobs.ensures.slots ∙ c.end-seat.ensures.slots)
           (none_past g.J.Job.means g.met.J.Job.frames k c.requires.seat.whole)));
     }
+
+pub returns-clause-jobs : goal.returns-clause-jobs
+returns-clause-jobs g c = c.clear-jobs.ensures.jobs
+
+pub returns-clause-areas : goal.returns-clause-areas
+returns-clause-areas g c = c.clear-jobs.ensures.areas ∙ c.end-seat.ensures.areas
+
+pub returns-clause-graph : goal.returns-clause-graph
+returns-clause-graph g c = c.into_parts-table.ensures.graph
+
+pub returns-clause-room : goal.returns-clause-room
+returns-clause-room g c = (
+  ap (λ i. i.slots) c.into_parts-table.ensures.table,
+  ap (λ i. i.words) c.into_parts-table.ensures.table,
+)

@@ -8,9 +8,7 @@ pub start_note-requires : goal.start_note-requires
 start_note-requires g c =
     record {
       stands = (c.requires.able.moment, c.requires.able.stands);
-      get = c.requires.able.gets;
-      set =
-          c.requires.able.sets;
+      access = c.requires.able.allows;
     }
 
 pub make_table-requires : goal.make_table-requires
@@ -19,7 +17,7 @@ make_table-requires g c =
     let k : to_z w64 (of_z w64 c.in-Table.gen_) ≡ c.in-Table.gen_ = search rules in
     record {
       stands = (c.args.voices.now.items, c.requires.able.moment, c.requires.able.stands);
-      set = c.requires.able.sets;
+      access = c.requires.able.allows;
       table = table_given (composition_of c.args.self.now.setup.now) c.args.event.now.act c.in-Table.number
           c.in-Table.size c.in-Table.gen_
           (to_z w64 (of_z w64 c.in-Table.size)) (to_z w64 (of_z w64 c.in-Table.gen_)) c.in-Table.args

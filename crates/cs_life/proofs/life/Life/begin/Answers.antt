@@ -1,6 +1,7 @@
-use Rattle.std.proofs.Common.{ℕ, ℤ, pos, slice_index_or, ◌∙◌, ◌+◌, ◌++◌, List, length, ap, map, refl, subst}
+use Rattle.std.proofs.Common.{◌≡◌, ℕ, ℤ, pos, slice_index_or, ◌∙◌, ◌+◌, ◌++◌, List, length, ap, map, refl, subst, sym}
 use Rattle.std.proofs.lemmas.Result.{on_ok_weaker}
-use Rattle.cs_cells.specs.Cells.{cell}
+use Rattle.cs_cells.specs.{Access.AllowsBelow, Areas.word_count, Cells.cell}
+use Rattle.cs_cells.proofs.Counted.{same_count}
 use Rattle.cs_piece_meaning.specs.Moments.{Composition, Moment}
 use Rattle.cs_piece_meaning.specs.Starts.{Start, all_asked, begun, start_of, time_of}
 use Rattle.cs_ir.specs.{Asks.ask_of, declared.ask.Ask.Ask}
@@ -12,11 +13,21 @@ use Rattle.cs_voice.specs.Starts.{IsStarted, sheet_at}
 use Rattle.cs_tempo.specs.declared.plot.Plot.{Plot}
 use Rattle.cs_life.proofs.life.Life.begin.Goals as goal
 
-pub start-requires-clause-tables : goal.start-requires-clause-tables
-start-requires-clause-tables g c =
-    c.requires.stands.1.stand.stage_is.can_be_played c.deref-2.result.now
-    (ap length c.deref-2.ensures.value
-    ∙ flags_fit _ _ _ _ c.requires.stands.1.stand.stage_is.tables c.requires.stands.1.stand.made)
+pub start-requires : goal.start-requires
+start-requires g c =
+    let stage = c.requires.stands.1.stand.stage_is in
+    let flags = c.deref-2.result.now in
+    let fit : length flags ≡ length c.args.self.now.stage.tables.now =
+    ap length c.deref-2.ensures.value ∙ flags_fit _ _ _ _ stage.tables c.requires.stands.1.stand.made in
+    record {
+      playable = c.requires.instrument.1.playable c.args.self.now.started flags c.into_vec-fields.result.items fit;
+      made = fit;
+      tables = stage.can_be_played flags fit;
+      places = stage.places;
+      spaces = stage.zak;
+      access = subst (λ areas. AllowsBelow (g.B.Bank.access (g.B.Bank.rest c.args.bank.now)) (word_count areas))
+          (sym c.requires.stands.1.layout) c.requires.access;
+    }
 
 pub returns-clause-begun : goal.returns-clause-begun
 returns-clause-begun g c =
@@ -47,7 +58,8 @@ returns-clause-begun g c =
           ++ map ask_of (initialised (sheet c.into_vec-fields.result.items) before).world.asks)
           c.new-asks.ensures.items;
     }))
-    c.start.ensures.long
+    (same_count g.B.Bank.cells g.B.Bank.rest g.B.Bank.access g.met.B.Bank.counted c.start.new.bank
+    c.args.bank.now c.start.ensures.rest)
     (c.time_of-time.ensures ∙ ap (λ (x : List ℤ). slice_index_or x 1 (pos 0))
     (c.deref.ensures.value ∙ c.into_vec-fields.ensures))
     (c.in_ok-ask_all.ensures k left

@@ -20,12 +20,11 @@ do_all-requires g c =
     ∙ ap (filter (λ (e : Event). e.cycle == c.args.cycle))
     (c.as_slice.ensures ∙ ap (λ (p : Plot). p.events) c.plot.ensures) in
     record {
-      able = goes_on refl refl refl left
+      able = goes_on refl refl left
           (record {
             moment = c.requires.stands.0;
             stands = c.requires.stands.1;
-            gets = c.requires.get;
-            sets = c.requires.set;
+            allows = c.requires.access;
           });
       events = subst (All (λ (e : Event). CanBeDone (composition_of setup) e.act)) (sym of_cycle)
           (All-filter (λ (e : Event). e.cycle == c.args.cycle)
@@ -40,14 +39,12 @@ start_waiting-requires g c =
     c.args.self.now c.leave.new.voices.items (g.B.Bank.cells c.args.bank.now) =
     record { to = c.leave.ensures.left (composition_of c.args.self.now.setup.now) (g.B.Bank.cells c.args.bank.now) } in
     record {
-      able = goes_on (ap g.B.Bank.can_get c.do_all.ensures.rest) (ap g.B.Bank.can_set c.do_all.ensures.rest)
-          c.do_all.ensures.setup c.in_ok-do_all.ensures.done
-          (goes_on refl refl refl left
+      able = goes_on (ap g.B.Bank.access c.do_all.ensures.rest) c.do_all.ensures.setup c.in_ok-do_all.ensures.done
+          (goes_on refl refl left
           (record {
             moment = c.requires.stands.0;
             stands = c.requires.stands.1;
-            gets = c.requires.get;
-            sets = c.requires.set;
+            allows = c.requires.access;
           }));
     }
 

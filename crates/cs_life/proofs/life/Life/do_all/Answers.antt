@@ -11,7 +11,6 @@ loop-event-init g c = record {
   able = c.requires.able;
   done = record { to = λ m h. h };
   setup = refl;
-  long = refl;
   grown = grew_none c.args.voices.now.items;
   rest = refl;
 }
@@ -27,13 +26,12 @@ act-requires-clause-event g c =
 
 pub loop-event-preserved : goal.loop-event-preserved
 loop-event-preserved g c = record {
-  able = goes_on (ap g.B.Bank.can_get c.act.ensures.rest) (ap g.B.Bank.can_set c.act.ensures.rest) c.act.ensures.setup
-      c.in_ok-act.ensures.done c.loop-event.invariant.able;
+  able = goes_on (ap g.B.Bank.access c.act.ensures.rest) c.act.ensures.setup c.in_ok-act.ensures.done
+      c.loop-event.invariant.able;
   done = event_done c.args.events.now c.loop-event.event-index c.event-item.result
       (omega arith) c.event-item.is c.loop-event.invariant.setup c.loop-event.invariant.done
       c.in_ok-act.ensures.done;
   setup = c.act.ensures.setup ∙ c.loop-event.invariant.setup;
-  long = c.act.ensures.long ∙ c.loop-event.invariant.long;
   grown = grew_again c.args.voices.now.items c.loop-event.voices.items c.act.new.voices.items
       c.loop-event.invariant.grown c.in_ok-act.ensures.grown;
   rest = c.act.ensures.rest ∙ c.loop-event.invariant.rest;

@@ -1,6 +1,7 @@
 use Rattle.std.proofs.Common.{ap, length, pos, refl, subst, sym, ◌∙◌}
 use Rattle.std.proofs.lemmas.List.{length-replicate}
 use Rattle.cs_cells.specs.{Areas.word_count, Cells.cell}
+use Rattle.cs_cells.proofs.Counted.{same_count}
 use Rattle.cs_piece_meaning.specs.Course.{outside_done}
 use Rattle.cs_piece.specs.{VoicesOfNotes.Hold, Setups.composition_of}
 use Rattle.cs_voice.specs.{Memory.table_of, VoiceData.made}
@@ -35,7 +36,9 @@ returns-clause-stands g c =
     (subst (λ areas. Hold areas (cell (g.B.Bank.cells c.begin_outside.new.bank))
     (outside_done (composition_of c.args.setup.now)).world.shared)
     (sym c.stage-stage.ensures.layout) c.in_ok-begin_outside.ensures.hold)
-    (c.begin_outside.ensures.long ∙ ap length c.requires.cells
+    (same_count g.B.Bank.cells g.B.Bank.rest g.B.Bank.access g.met.B.Bank.counted c.begin_outside.new.bank
+    c.args.bank.now c.begin_outside.ensures.rest
+    ∙ ap length c.requires.cells
     ∙ length-replicate (word_count c.args.setup.now.layout) (pos 0)
     ∙ ap word_count (sym c.stage-stage.ensures.layout))
     c.new.ensures refl refl

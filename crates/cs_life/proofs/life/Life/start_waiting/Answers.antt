@@ -13,7 +13,6 @@ loop-init g c = record {
   able = c.requires.able;
   waits = λ m h. none_started most_asks h;
   setup = refl;
-  long = refl;
   grown = grew_none c.args.voices.now.items;
   rest = refl;
 }
@@ -26,8 +25,7 @@ start_note-requires g c = record {
     },
     taken_out {q = c.next.new.self} c.in-Some.ensures c.loop.invariant.able.stands,
   );
-  get = c.loop.invariant.able.gets;
-  set = c.loop.invariant.able.sets;
+  access = c.loop.invariant.able.allows;
 }
 
 pub loop-preserved : goal.loop-preserved
@@ -47,15 +45,13 @@ loop-preserved g c =
     } in
     let moment = c.loop.invariant.able.moment in
     record {
-      able = goes_on (ap g.B.Bank.can_get c.start_note.ensures.rest) (ap g.B.Bank.can_set c.start_note.ensures.rest)
-          c.start_note.ensures.setup started
+      able = goes_on (ap g.B.Bank.access c.start_note.ensures.rest) c.start_note.ensures.setup started
           (record {
             moment = record moment {
               waiting = taken c.args.cycle ((waiting c.next.new.self).due c.args.cycle) moment.waiting;
             };
             stands = taken_out {q = c.next.new.self} c.in-Some.ensures c.loop.invariant.able.stands;
-            gets = c.loop.invariant.able.gets;
-            sets = c.loop.invariant.able.sets;
+            allows = c.loop.invariant.able.allows;
           });
       waits = λ m h. one_started {q = c.next.new.self} c.loop-test.true c.in-Some.ensures
           (subst (λ (x : SetupData). (n : Moment) → StandsFor (composition_of x) left voices cells n
@@ -64,7 +60,6 @@ loop-preserved g c =
           c.loop.invariant.setup started.to)
           (c.loop.invariant.waits m h);
       setup = c.start_note.ensures.setup ∙ c.loop.invariant.setup;
-      long = c.start_note.ensures.long ∙ c.loop.invariant.long;
       grown = grew_again c.args.voices.now.items voices c.start_note.new.voices.items c.loop.invariant.grown
           c.in_ok-start_note.ensures.grown;
       rest = c.start_note.ensures.rest ∙ c.loop.invariant.rest;

@@ -1,7 +1,8 @@
 use Rattle.std.proofs.Common.{◌<◌, ◌+◌, ◌∙◌, ap, length, map, subst, sym}
+use Rattle.std.proofs.lemmas.Result.{IfOk-weaker}
 use Rattle.cs_ir.specs.{Placed.there, Waves.first_values}
 use Rattle.cs_machine.specs.Registers.{values}
-use Rattle.cs_voice.proofs.Fitting.{acts_there}
+use Rattle.cs_voice.proofs.Fitting.{acts_there, is_some_start}
 use Rattle.cs_voice.proofs.Passed.{all_played, asked_op, sought_op, start_takes, start_there, started_op}
 use Rattle.cs_voice.proofs.starter.Starter.start.Goals as goal
 
@@ -23,15 +24,15 @@ pub begin-requires-clause-tables : goal.begin-requires-clause-tables
 begin-requires-clause-tables c =
     all_played c.args.self.now.finds.now c.args.self.now.made.now c.requires.able.0 c.requires.able.1.found
 
-pub returns-in_ok-refused-in-Start-clause-does : goal.returns-in_ok-refused-in-Start-clause-does
-returns-in_ok-refused-in-Start-clause-does c s cells can =
+pub returns-in-Start-clause-does : goal.returns-in-Start-clause-does
+returns-in-Start-clause-does c = IfOk-weaker c.begin.result _ _
+    (λ refused starts s cells can.
     started_op c.args.self.now.finds.now c.args.self.now.made.now s (there c.args.op) c.in-Start.opcode
     (c.args.op.window.now.unit + c.in-Start.unit) c.unit.result c.rate.result c.deref.result.now c.args.state.now
-    c.begin.new.state cells c.args.self.now.asks.items c.in_ok-refused-in-Start.refused
+    c.begin.new.state cells c.args.self.now.asks.items refused
     (acts_there c.args.op c.in-Start.is) c.unit.ensures c.rate.ensures can.found can.playable can.fine can.state
     (c.deref.ensures.value ∙ c.in_ok-gather.ensures
-    ∙ ap (λ xs. first_values (map (values c.args.state.now.regs) xs)) c.reads.ensures)
-    c.in_ok-refused-in-Start.ensures
+    ∙ ap (λ xs. first_values (map (values c.args.state.now.regs) xs)) c.reads.ensures) starts) c.begin.ensures
 
 pub returns-in-Seek-clause-does : goal.returns-in-Seek-clause-does
 returns-in-Seek-clause-does c s cells can =
@@ -51,3 +52,7 @@ returns-in_ok-ask-in-Ask-clause-does c s cells can =
     (c.deref-in-Ask.ensures.value ∙ c.in_ok-gather.ensures
     ∙ ap (λ xs. first_values (map (values c.args.state.now.regs) xs)) c.reads.ensures)
     c.in_ok-ask-in-Ask.ensures
+
+pub unreachable-requires : goal.unreachable-requires
+unreachable-requires c = is_some_start c.args.op.window.now c.args.op.op.now.act c.requires.here
+    c.in_default.not-Start c.in_default.not-Seek c.in_default.not-Ask
