@@ -2,6 +2,7 @@
 use Rattle.std.proofs.Common.{subst, ◌≡◌, ℕ, zero, suc, ℤ, pos, List, ◌∷◌, length, replicate, refl, ap, sym, ◌∙◌}
 use Rattle.std.specs.{List.All, Option.IsSomeAnd, Prelude.Result, Prelude.Ok, Prelude.Err, Prelude.OnOk}
 use Rattle.std.specs.Prelude.{Option, Some, None}
+use Rattle.cs_cells.specs.Access.{AllowsBelow, full_access}
 use Rattle.cs_cells.specs.{Areas.word_count, Areas.IsFootprint, Cells.Cells, Cells.values, Serial.serial_cells}
 use Rattle.cs_cells.specs.{Serial.serial_jobs, declared.footprint.Area.Area, declared.footprint.Footprint.Footprint}
 use Rattle.cs_piece_meaning.specs.{Course.begins, Moments.Composition, Moments.Moment}
@@ -47,6 +48,15 @@ pub words_of_desk : (s : SetupData) (life : Life) (areas : List Area) (voices : 
 words_of_desk s life areas voices cells m is e st =
     ap word_count (sym st.layout) ∙ sym st.stand.stage_is.zones.words
     ∙ ap word_count (areas_of_desk s life areas voices cells m is e st)
+
+-- whoever may read and set each of so many cells may do so below as many
+pub allows_all : (n m : ℕ) → n ≡ m → AllowsBelow (full_access m) n
+allows_all n m same =
+    subst (λ k. AllowsBelow (full_access k) n) same (record {
+      get = λ a below. below;
+      set = λ a below. below;
+      there = λ a below. below;
+    })
 
 -- words of 0 are cells of 0
 pub zero_cells : (n : ℕ) → values (replicate n 0) ≡ replicate n (pos 0)
