@@ -1,9 +1,34 @@
 -- The edges of a cycle, chained by the note that they leave.
-use Rattle.std.proofs.lemmas.{Grind.common_steps, Bool.cases_eq, List.length-set}
+use Rattle.std.proofs.lemmas.{Grind.common_steps, Bool.cases_eq, List.get_or-replicate, List.length-replicate}
+use Rattle.std.proofs.lemmas.List.{length-set}
 use Rattle.std.proofs.Common.{◌≡◌, ◌≢◌, ℕ, ◌+◌, ◌<◌, ⊎_elim, List, length, get_or, set, sym, ap, ◌∙◌, subst, arith}
+use Rattle.std.proofs.Common.{◌≤◌, replicate, Option, Some, None}
+use Rattle.std.specs.Prelude.{IfSome, IfNone}
 use Rattle.std.proofs.Common.{slice_get, get_or-set_same, get_or-set_other}
 use Rattle.std.proofs.lemmas.Option.{same_Some, slice_get_within}
-use Rattle.cs_graph.specs.{Graph.Edge, inner.Index.IsChained, inner.Index.Points}
+use Rattle.cs_graph.specs.Graph.{Edge, IsNextOut, NoneOut}
+use Rattle.cs_graph.specs.inner.Index.{IsChained, Points}
+
+-- no edge is chained yet
+pub chained_none : (edges : List (ℕ × ℕ)) (notes : ℕ) (first next : List ℕ) → first ≡ replicate notes (length edges)
+    → next ≡ replicate (length edges) (length edges)
+    → (length first ≡ notes) × IsChained edges (length edges) first next
+chained_none edges notes first next first_is next_is = rw (first_is, next_is) (
+  length-replicate notes (length edges),
+  record {
+    each = length-replicate (length edges) (length edges);
+    first = λ p low. subst (Points edges p (length edges))
+        (sym (get_or-replicate notes p (length edges) 0 (omega (arith, low, length-replicate notes (length edges)))))
+        (at_end p);
+    next = λ e p t low at_. absurd (omega (arith, low, slice_get_within edges e (p, t) at_));
+  },
+)
+  where
+    at_end : (p : ℕ) → Points edges p (length edges) (length edges)
+    at_end p = record {
+      some = λ below. absurd (omega (arith, below));
+      none = λ above e t at_. slice_get_within edges e (p, t) at_;
+    }
 
 module _ (edges : List (ℕ × ℕ)) (i from to : ℕ) (edge : Edge edges i from to) (first next : List ℕ)
     (low : from < length first)
@@ -40,3 +65,14 @@ module _ (edges : List (ℕ × ℕ)) (i from to : ℕ) (edge : Edge edges i from
             (chained.next e p t (omega arith) at_))
             (cases_eq e i);
       }
+
+-- what a number stands for, once it is told from none
+module _ (edges : List (ℕ × ℕ)) (p i x : ℕ) (points : Points edges p i x) where
+  pub named_some : (o : Option ℕ) → IfSome o (λ e. (e ≡ x) × (e < length edges)) → IfSome o (IsNextOut edges p i)
+  named_some None h = tt
+  named_some (Some e) h =
+      subst (IsNextOut edges p i) (sym h.0) (points.some (subst (λ z. z < length edges) h.0 h.1))
+
+  pub named_none : (o : Option ℕ) → IfNone o (length edges ≤ x) → IfNone o (NoneOut edges p i)
+  named_none None h = points.none h
+  named_none (Some e) h = tt

@@ -1,6 +1,6 @@
 -- The notes parted into chains, one by one, and how many may run at once.
-use Rattle.std.proofs.lemmas.{Grind.common_steps, Option.same_Some}
-use Rattle.std.proofs.Common.{◌≡◌, ◌≢◌, ◌⊎◌, ℕ, ◌+◌, ◌<◌, ◌≤◌, Bool, true, false, List, length, get_or, set, replicate}
+use Rattle.std.proofs.lemmas.{Grind.common_steps, Option.get_or_from_slice_get, Option.same_Some}
+use Rattle.std.proofs.Common.{◌≡◌, ◌≢◌, ℕ, ◌+◌, ◌<◌, ◌≤◌, Bool, true, false, List, length, get_or, set, replicate}
 use Rattle.std.proofs.Common.{cond, eqb, refl, sym, ap, ◌∙◌, subst, inl, inr, ⊎_elim, arith, get_or-set_same}
 use Rattle.std.proofs.Common.{get_or-set_other}
 use Rattle.std.proofs.lemmas.Bool.{both_ways, cases_eq, cases_lt, eq-eqb, ne_eqb}
@@ -201,3 +201,14 @@ module _ (edges : List (ℕ × ℕ)) (n count : ℕ) (chain : ℕ → ℕ) (c : 
       (λ ne. absurd (never j i (omega (arith, down, ne)) l (sym same)))
       (cases_eq i j))
       (cases_lt i j))
+
+-- one more edge leads from a note whose chain has a later one
+pub taken_more : (edges : List (ℕ × ℕ)) (continued : List Bool) (first e : ℕ) → e < length edges
+    → goes_on continued (get_or edges e (0, 0)).0 ≡ true → AreTaken edges continued first e
+    → AreTaken edges continued first (e + 1)
+taken_more edges continued first e within taken so_far f p t low high at_ = ⊎_elim
+    (λ (here : f ≡ e). let read : get_or edges e (0, 0) ≡ (p, t) =
+    get_or_from_slice_get edges e (p, t) (0, 0) (rw (← here) at_) in
+    subst (λ x. goes_on continued x.0 ≡ true) read taken)
+    (λ apart. so_far f p t low (omega arith) at_)
+    (cases_eq f e)

@@ -1,5 +1,5 @@
 use Rattle.std.proofs.lemmas.{Grind.common_steps, Bool.or_right, Bool.Decides.nat_tests}
-use Rattle.std.proofs.Common.{◌≡◌, ◌==◌, ◌||◌, ◌&&◌, not, ℕ, ◌+◌, ◌-◌, ◌<◌, ◌≤◌, max, true, false, List, refl, sym, ◌∙◌}
+use Rattle.std.proofs.Common.{◌≡◌, ◌==◌, ◌||◌, ◌&&◌, not, ℕ, ◌+◌, ◌<◌, ◌≤◌, max, true, false, List, refl, sym, ◌∙◌}
 use Rattle.std.proofs.Common.{inl, inr, ⊎_elim, arith}
 use Rattle.std.proofs.lemmas.Bool.{and_parts, both_ways, cases_eq, cases_lt, eqb-true, not-true, or_cases, or_left}
 use Rattle.cs_graph.specs.{inner.Sets.has, declared.nearest.Known.Known, declared.nearest.Found.Found}
@@ -9,6 +9,23 @@ module _ (met : List ℕ) (known : List Known) (t : ℕ) where
   pub found_none : (found : Found) → ((p : ℕ) → has found.near p ≡ false) → ((p : ℕ) → has found.known.reach p ≡ false)
       → found.known.level ≡ 0 → IsFound met known t t found
   found_none found near reach level = grind (arith, common_steps, both_ways)
+
+  -- none of the notes that are passed over is met
+  pub found_past : (from to : ℕ) (found : Found) → from ≤ to
+      → ((p : ℕ) → from ≤ p → p < to → has met p ≡ false) → IsFound met known to t found
+      → IsFound met known from t found
+  found_past from to found low clear f = record {
+    near = λ p h. let w = f.near p h in (omega (arith, low, w.0), w.1, w.2, w.3);
+    rest = λ p a b h. f.rest p (behind p a h) b h;
+    reach = λ p h. let w = f.reach p h in (w.0, omega (arith, low, w.1), w.2, w.3, w.4);
+    all = λ p q a b h k. f.all p q (behind q a h) b h k;
+    above = λ q a b h. f.above q (behind q a h) b h;
+    greatest = λ h. let w = f.greatest h in (w.0, omega (arith, low, w.1), w.2, w.3, w.4);
+    low = f.low;
+  }
+    where
+      behind : (p : ℕ) → from ≤ p → Has met p → to ≤ p
+      behind p a h = ⊎_elim (λ below. absurd (both_ways _ (clear p a below) h)) (λ k. k) (cases_lt p to)
 
   module _ (closed : IsClosed known t) (q : ℕ) (old new : Found) (within : q < t) (is_met : Has met q)
       (f : IsFound met known (q + 1) t old) where

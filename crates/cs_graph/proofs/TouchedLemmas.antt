@@ -1,6 +1,6 @@
 use Rattle.std.proofs.Common.{◌≡◌, ◌==◌, ◌≢◌, ◌||◌, ◌&&◌, ◌↔◌, ℕ, ◌+◌, ◌<◌, Bool, true, false, cond, List, length}
 use Rattle.std.proofs.Common.{get_or, take, nat_lt, refl, sym, ap, ◌∙◌, subst, inl, inr, ⊎_elim, arith}
-use Rattle.std.proofs.lemmas.{Bool.Decides.nat_tests, Bool.or_cases, Bool.or_left, Bool.or_right, Bool.eqb-true}
+use Rattle.std.proofs.lemmas.Bool.{Decides.nat_tests, cases_eq, or_cases, or_left, or_right, eqb-true}
 use Rattle.std.proofs.lemmas.List.Folds.{Any-from_list_any, list_any-from_Any, list_any_more}
 use Rattle.std.specs.List.{list_any, Contains}
 use Rattle.cs_cells.specs.declared.footprint.Footprint.{Footprint}
@@ -68,6 +68,38 @@ pub met_more : (f : ℕ → Bool) (xs : List ℕ) (i : ℕ) (m0 m m' u : Bool) �
     → m ≡ (m0 || list_any f (take i xs)) → m' ≡ (m0 || list_any f (take (i + 1) xs))
 met_more f xs i m0 m m' u within e k before =
     rw (e, k, before, list_any_more f xs i 0 within) (or_assoc m0 (list_any f (take i xs)) (f (get_or xs i 0)))
+
+-- what is so of the first t notes, and of note t where it touches the place
+more : (p t : ℕ) (old new x y : Bool) → old ≡ (nat_lt p t && x) → (p ≡ t → y ≡ x) → new ≡ (old || (y && p == t))
+    → new ≡ (nat_lt p (t + 1) && x)
+more p t old new x y is same grown = ⊎_elim
+    (λ (here : p ≡ t). let k = same here in grind (arith, nat_tests))
+    (λ apart. grind (arith, nat_tests))
+    (cases_eq p t)
+
+or_parts : (a b c e : Bool) → ((a || (b && e)) || (c && e)) ≡ (a || ((b || c) && e))
+or_parts true b c e = refl
+or_parts false true true true = refl
+or_parts false true true false = refl
+or_parts false true false true = refl
+or_parts false true false false = refl
+or_parts false false c e = refl
+
+or_none : (a b : Bool) → ((a || false) || b) ≡ (a || b)
+or_none true b = refl
+or_none false b = refl
+
+module _ (p t : ℕ) (u w u' w' old mid new : Bool) (writes : p ≡ t → w' ≡ w) where
+  pub users_more : (p ≡ t → u' ≡ u) → old ≡ (nat_lt p t && (u || w)) → mid ≡ (old || (u' && p == t))
+      → new ≡ (mid || (w' && p == t)) → new ≡ (nat_lt p (t + 1) && (u || w))
+  users_more uses before met now = more p t old new (u || w) (u' || w') before
+      (λ here. rw (uses here, writes here) refl)
+      (now ∙ ap (λ z. z || (w' && p == t)) met ∙ or_parts old u' w' (p == t))
+
+  pub writers_more : old ≡ (nat_lt p t && w) → mid ≡ (old || false) → new ≡ (mid || (w' && p == t))
+      → new ≡ (nat_lt p (t + 1) && w)
+  writers_more before met now = more p t old new w w' before writes
+      (now ∙ ap (λ z. z || (w' && p == t)) met ∙ or_none old (w' && p == t))
 
 pub others_same_where : (a w b t : Bool) (p note : ℕ) → p ≢ note → t ≡ (a || (w && (b && p == note))) → t ≡ a
 others_same_where a true b t p note apart e = others_same a b t p note apart e

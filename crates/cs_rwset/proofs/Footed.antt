@@ -9,7 +9,7 @@ use Rattle.cs_cells.specs.declared.footprint.Footprint.{Footprint}
 use Rattle.cs_ir.specs.{Resources.ops_use, Resources.ops_write, declared.op.Code.Code}
 use Rattle.cs_rwset.specs.Footprints.{is_among, is_of_one, places_holding, stock_of}
 use Rattle.cs_rwset.specs.{Zones.IsFootOver, declared.code.Marks.Marks, inner.Marks.marked, inner.Marks.marks_of}
-use Rattle.cs_rwset.specs.inner.Zoning.{AreBegins, AreFew, AreKept, AreMarksOf, Stay, heads, zones_of}
+use Rattle.cs_rwset.specs.inner.Zoning.{AreBegins, AreFew, AreKept, AreMarks, AreMarksOf, Stay, heads, zones_of}
 use Rattle.cs_rwset.proofs.{Covering.ops_written_is_used, Marking.mark_at, Marking.marked_places_are, Placed.one_of_is}
 use Rattle.cs_rwset.proofs.{Placed.range_ascends, Placed.range_contains, ZonesCover.zones_cover}
 use Rattle.cs_rwset.proofs.Placed.{among_contains, contains_among, contains_filter, contains_range, filter_contains}
@@ -34,8 +34,7 @@ marked_ascends marks =
     (range_ascends (length marks))
 
 -- as many marks as areas
-pub marks_many : (areas : List Area) (perf : Code) (m : Marks) → AreMarksOf areas perf m
-    → (length m.uses.items ≡ length areas) × (length m.writes.items ≡ length areas)
+pub marks_many : (areas : List Area) (perf : Code) (m : Marks) → AreMarksOf areas perf m → AreMarks areas m
 marks_many areas perf m is = (
   ap length is.uses ∙ length-map areas (λ a. is_among (ops_use (stock_of areas) perf.ops) a.res),
   ap length is.writes ∙ length-map areas (λ a. is_among (ops_write (stock_of areas) perf.ops) a.res),
@@ -109,24 +108,18 @@ module _ (areas : List Area) (laid : IsLaid areas) (perf : Code) (m : Marks) (be
 pub few_areas : (areas : List Area) → limit_passed areas ≡ None → length areas ≤ most_resources
 few_areas areas none = let few = (within_limits areas none).0 in grind (arith, nat_tests)
 
-pub few_marks : (areas : List Area) (perf : Code) (m : Marks) → length areas ≤ most_resources
-    → AreMarksOf areas perf m → AreFew m
-few_marks areas perf m few is =
-    let many = marks_many areas perf m is in
-    let u = many.0 in let w = many.1 in (omega (arith, u, few), omega (arith, w, few))
+pub few_marks : (areas : List Area) (m : Marks) → length areas ≤ most_resources → AreMarks areas m → AreFew m
+few_marks areas m few many = let u = many.0 in let w = many.1 in (omega (arith, u, few), omega (arith, w, few))
 
 -- ---- what is found of a code
 
-module _ (areas : List Area) (laid : IsLaid areas) (begins : List Bool) (n : ℕ) (outside : Marks) (each : List Marks)
-    (are : AreBegins n outside each begins) (same : n ≡ length areas) where
-  pub one_over : (m : Marks) (perf : Code) (zones : List Area) (c d : List Bool) (foot : Footprint)
-      → AreMarksOf areas perf m
+module _ (areas : List Area) (laid : IsLaid areas) (begins : List Bool) (outside : Marks) (each : List Marks)
+    (are : AreBegins (length areas) outside each begins) where
+  pub one_over : (m : Marks) (perf : Code) (zones : List Area) (foot : Footprint) → AreMarksOf areas perf m
       → ((p : ℕ) → suc p < length areas → get_or begins (suc p) false ≡ false → Stay m p (suc p))
-      → c ≡ begins → zones ≡ zones_of areas c → d ≡ begins
-      → foot.uses ≡ marked (heads m.uses.items d) → foot.writes ≡ marked (heads m.writes.items d)
+      → zones ≡ zones_of areas begins
+      → foot.uses ≡ marked (heads m.uses.items begins) → foot.writes ≡ marked (heads m.writes.items begins)
       → IsFootOver areas zones perf foot
-  one_over m perf zones c d foot is stays e z f uses writes =
-      subst (λ zs. IsFootOver areas zs perf foot) (sym (z ∙ ap (zones_of areas) e))
-      (foot_is areas laid perf m begins foot is (are.long ∙ same)
-      (λ low. are.first (subst (λ k. 0 < k) (sym same) low)) stays
-      (uses ∙ ap (λ l. marked (heads m.uses.items l)) f) (writes ∙ ap (λ l. marked (heads m.writes.items l)) f))
+  one_over m perf zones foot is stays z uses writes =
+      subst (λ zs. IsFootOver areas zs perf foot) (sym z)
+      (foot_is areas laid perf m begins foot is are.long are.first stays uses writes)

@@ -139,17 +139,26 @@ zip_more R xs i x ys zs y h here within r e =
     (zip_last R (take i xs) ys (get_or xs i x) y h (subst (λ z. R z y) here r)))
 
 -- two relations, one after the other
-pub zip_both : {X Y Z : Type 0} (R : X → Y → Type 0) (S : Y → Z → Type 0) (T : X → Z → Type 0) (P : Y → Type 0)
-    → ((x : X) (y : Y) (z : Z) → P y → R x y → S y z → T x z)
-    → (xs : List X) (ys : List Y) (zs : List Z) → All P ys → AllZip R xs ys → AllZip S ys zs → AllZip T xs zs
-zip_both R S T P f [] [] [] all r s = s
-zip_both R S T P f [] [] (z ∷ zs) all r s = absurd s
-zip_both R S T P f [] (y ∷ ys) zs all r s = absurd r
-zip_both R S T P f (x ∷ xs) [] zs all r s = absurd r
-zip_both R S T P f (x ∷ xs) (y ∷ ys) [] all r s = absurd s
-zip_both R S T P f (x ∷ xs) (y ∷ ys) (z ∷ zs) all r s = (
-  f x y z (all 0 y (omega arith)) r.0 s.0,
-  zip_both R S T P f xs ys zs (λ k d low. all (suc k) d (omega (arith, low))) r.1 s.1,
+pub zip_both : {X Y Z : Type 0} (R : X → Y → Type 0) (S : Y → Z → Type 0) (T : X → Z → Type 0)
+    → ((x : X) (y : Y) (z : Z) → R x y → S y z → T x z)
+    → (xs : List X) (ys : List Y) (zs : List Z) → AllZip R xs ys → AllZip S ys zs → AllZip T xs zs
+zip_both R S T f [] [] [] r s = s
+zip_both R S T f [] [] (z ∷ zs) r s = absurd s
+zip_both R S T f [] (y ∷ ys) zs r s = absurd r
+zip_both R S T f (x ∷ xs) [] zs r s = absurd r
+zip_both R S T f (x ∷ xs) (y ∷ ys) [] r s = absurd s
+zip_both R S T f (x ∷ xs) (y ∷ ys) (z ∷ zs) r s = (f x y z r.0 s.0, zip_both R S T f xs ys zs r.1 s.1)
+
+-- what follows from a relation
+pub zip_so : {X Y : Type 0} (P : X → Type 0) (S T : X → Y → Type 0)
+    → ((x : X) (y : Y) → P x → S x y → T x y)
+    → (xs : List X) (ys : List Y) → All P xs → AllZip S xs ys → AllZip T xs ys
+zip_so P S T f [] [] all s = s
+zip_so P S T f [] (y ∷ ys) all s = absurd s
+zip_so P S T f (x ∷ xs) [] all s = absurd s
+zip_so P S T f (x ∷ xs) (y ∷ ys) all s = (
+  f x y (all 0 x (omega arith)) s.0,
+  zip_so P S T f xs ys (λ k d low. all (suc k) d (omega (arith, low))) s.1,
 )
 
 -- what follows from a relation to something

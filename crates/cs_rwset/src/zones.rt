@@ -5,7 +5,8 @@ ghost use Rattle.cs_base.specs.Limits.{most_resources};
 ghost use Rattle.cs_cells.specs.declared.footprint.Footprint.{Footprint};
 ghost use Rattle.cs_ir.specs.Instruments.{Numbered};
 ghost use Rattle.cs_rwset.specs.{Zones.AreZones, Zones.IsFootOver, declared.code.Marks.Marks, inner.Marks.marked};
-ghost use Rattle.cs_rwset.specs.inner.Zoning.{AreBegins, AreFew, AreMarksOf, Stay, heads, zones_of};
+ghost use Rattle.cs_rwset.specs.inner.Zoning.{AreBegins, AreFew, AreMarks, AreMarksOf, IsFootOf, Stay, heads};
+ghost use Rattle.cs_rwset.specs.inner.Zoning.{zones_of};
 
 use crate::code::{Marks, marks_of};
 use crate::marks::marked_places;
@@ -41,15 +42,33 @@ pub fn find_zones(
     ensures feet { IfOk result (λ z. AllZip (λ (i : Numbered) (foot : Footprint). IsFootOver layout.now z.zones i.perf
         foot) instruments.now z.feet.items) }
 {
-    // No two areas are of one resource.
-    let _ = layout.words();
     let outside = marks_of(alloc, &outside.ops, layout)?;
     let each = marks_of_each(alloc, instruments, layout)?;
     let begins = begins_of(alloc, layout.len() as usize, &outside, &each)?;
+    zones_by(alloc, layout, &outside, &each, &begins)
+}
+
+/// Zones by where they begin, and footprints over them by what codes touch.
+fn zones_by(
+    alloc: Global,
+    layout: &Layout,
+    outside: &Marks,
+    each: &[Marks],
+    begins: &[bool],
+) -> Result<Zoned, OutOfMemory>
+    requires outside { AreMarks layout.now outside.now }
+    requires each { All (AreMarks layout.now) each.now }
+    requires begins { AreBegins (length layout.now) outside.now each.now begins.now }
+    ensures zones { IfOk result (λ z. AreZones layout.now z.zones) }
+    ensures outside { IfOk result (λ z. IsFootOf layout.now z.zones outside.now z.outside) }
+    ensures feet { IfOk result (λ z. AllZip (IsFootOf layout.now z.zones) each.now z.feet.items) }
+{
+    // No two areas are of one resource.
+    let _ = layout.words();
     Ok(Zoned {
-        zones: layout_of(alloc, layout, &begins)?,
-        outside: foot_over(alloc, &outside, &begins)?,
-        feet: feet_over(alloc, &each, &begins)?,
+        outside: foot_over(alloc, outside, begins)?,
+        feet: feet_over(alloc, each, begins)?,
+        zones: layout_of(alloc, layout, begins)?,
     })
 }
 

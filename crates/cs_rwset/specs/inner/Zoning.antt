@@ -2,9 +2,9 @@
 use Rattle.std.specs.Prelude.{ℕ, ◌≡◌, ◌+◌, ◌<◌, ◌≤◌, suc, Bool, true, false, List, [], ◌∷◌, drop, length}
 use Rattle.std.specs.{Prelude.slice_index_or, Prelude.if◌then◌else◌, List.All}
 use Rattle.cs_base.specs.Limits.{most_resources}
-use Rattle.cs_cells.specs.declared.footprint.Area.{Area}
+use Rattle.cs_cells.specs.{declared.footprint.Area.Area, declared.footprint.Footprint.Footprint}
 use Rattle.cs_ir.specs.{Resources.ops_use, Resources.ops_write, declared.op.Code.Code}
-use Rattle.cs_rwset.specs.{Footprints.stock_of, declared.code.Marks.Marks, inner.Marks.marks_of}
+use Rattle.cs_rwset.specs.{Footprints.stock_of, Zones.IsFootOver, declared.code.Marks.Marks, inner.Marks.marks_of}
 
 -- an area and the one behind it, as one
 abbrev pub joined : Area → Area → Area
@@ -54,3 +54,11 @@ pub record AreBegins (areas : ℕ) (outside : Marks) (each : List Marks) (begins
 pub record AreMarksOf (areas : List Area) (perf : Code) (m : Marks) : Type 0 where
   pub uses : m.uses.items ≡ marks_of areas (ops_use (stock_of areas) perf.ops)
   pub writes : m.writes.items ≡ marks_of areas (ops_write (stock_of areas) perf.ops)
+
+-- a mark for each area
+abbrev pub AreMarks : List Area → Marks → Type 0
+AreMarks areas m = (length m.uses.items ≡ length areas) × (length m.writes.items ≡ length areas)
+
+-- the footprint over zones of any code whose marks these are
+abbrev pub IsFootOf : List Area → List Area → Marks → Footprint → Type 0
+IsFootOf areas zones m foot = (perf : Code) → AreMarksOf areas perf m → IsFootOver areas zones perf foot

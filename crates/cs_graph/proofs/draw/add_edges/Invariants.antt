@@ -1,4 +1,4 @@
-use Rattle.std.proofs.Common.{ℕ, ◌*◌}
+use Rattle.std.proofs.Common.{◌*◌}
 use Rattle.std.specs.Prelude.{min}
 use Rattle.cs_graph.specs.inner.Growing.{AreDrawnTo}
 use Rattle.cs_graph.proofs.draw.add_edges.Given as goal

@@ -1,7 +1,8 @@
-use Rattle.std.proofs.Common.{◌≡◌, ℕ, ◌+◌, ◌-◌, ◌<◌, max, length, sym, ◌∙◌, subst, arith}
+use Rattle.std.proofs.Common.{◌≡◌, ℕ, ◌+◌, ◌-◌, ◌<◌, max, false, length, sym, ◌∙◌, subst, arith}
 use Rattle.cs_graph.specs.{inner.Sets.has, inner.Nearest.IsFound, inner.Nearest.Has, inner.Nearest.known_at}
 use Rattle.cs_base.proofs.Tests.{by_test}
-use Rattle.cs_graph.proofs.{ReadAt.read_at, NearestLemmas.found_reached, NearestLemmas.found_nearest}
+use Rattle.cs_graph.proofs.{ReadAt.read_at, NearestLemmas.found_past, NearestLemmas.found_reached}
+use Rattle.cs_graph.proofs.NearestLemmas.{found_nearest}
 use Rattle.cs_graph.proofs.nearest.sort_block.Goals as goal
 
 pub loop-q-preserved-then-contains : goal.loop-q-preserved-then-contains
@@ -24,3 +25,18 @@ loop-q-preserved-then-contains c =
           c.take_in.new.self (omega arith) is_met f c.take_in.ensures.near level no_
           (λ p. rw read (c.take_in.ensures.reaches no_ p))),
     )
+
+pub loop-q-preserved : goal.loop-q-preserved
+loop-q-preserved c =
+    let q : ℕ = c.loop-q.q - 1 in
+    let tested : has c.args.met.now q ≡ false = sym c.contains.ensures ∙ c.if-contains.false in (
+      omega (arith, c.loop-q-test.true),
+      found_past c.args.met.now c.args.known.now (length c.args.known.now) q c.loop-q.q c.loop-q.found (omega arith)
+          (λ p above below. let here : p ≡ q = omega (arith, above, below) in rw here tested) c.loop-q.invariant.1,
+    )
+
+pub returns : goal.returns
+returns c =
+    let all : c.loop-q.q ≡ c.args.from = omega (arith, c.loop-q-test.false, c.loop-q.invariant.0) in
+    subst (λ n. IsFound c.args.met.now c.args.known.now n (length c.args.known.now) c.loop-q.found) all
+    c.loop-q.invariant.1

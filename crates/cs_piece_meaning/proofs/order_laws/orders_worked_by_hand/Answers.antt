@@ -1,3 +1,4 @@
+use Rattle.std.proofs.Common.{refl}
 use Rattle.cs_piece_meaning.proofs.Computed.{asked, made_again, refused, refused_counted, refused_started}
 use Rattle.cs_piece_meaning.proofs.Computed.{refused_starts, stored}
 use Rattle.cs_piece_meaning.proofs.order_laws.orders_worked_by_hand.Goals as goal
@@ -22,3 +23,9 @@ returns-clause-refused_counted c = refused_counted
 
 pub returns-clause-refused_starts : goal.returns-clause-refused_starts
 returns-clause-refused_starts c = refused_starts
+
+pub returns-clause-older_counts : goal.returns-clause-older_counts
+returns-clause-older_counts c = refl
+
+pub returns-clause-younger_counts : goal.returns-clause-younger_counts
+returns-clause-younger_counts c = refl

@@ -1,10 +1,11 @@
 use Rattle.std.proofs.lemmas.{Grind.common_steps, List.Elements.All-cons, List.Elements.All-tail}
-use Rattle.std.proofs.Common.{◌≡◌, ◌≢◌, suc, length, rules, ap, ◌∙◌, subst, sym, arith}
+use Rattle.std.proofs.Common.{◌≡◌, ◌≢◌, ◌+◌, suc, length, false, true, refl, rules, ap, ◌∙◌, subst, sym, arith}
 use Rattle.std.specs.{Arc.arc_value, List.All}
 use Rattle.cs_board.specs.Board.{plan, name, view, IsSeatOf}
 use Rattle.cs_pool.proofs.{Missed.more_served, Missed.none_served, Given.all_given, Given.most_given, Given.none_given}
-use Rattle.cs_pool.proofs.Seats.{ready_kept, leads_kept, leads_joined}
-use Rattle.cs_pool.specs.{declared.line.Line.Line, inner.Lines.IsIdle}
+use Rattle.cs_pool.proofs.Seats.{given_done, joined_done, ready_kept, leads_kept, leads_joined}
+use Rattle.cs_pool.specs.{Pools.served_by, Working.IsDone, Working.IsReady, declared.line.Line.Line}
+use Rattle.cs_pool.specs.inner.Lines.{IsIdle}
 use Rattle.cs_pool.proofs.cycle.+share.Goals as goal
 
 pub returns-in_default-part_in-clause-idle : goal.returns-in_default-part_in-clause-idle
@@ -95,3 +96,71 @@ returns-clause-most g t c = grind (arith, common_steps, most_given)
 
 pub returns-clause-all : goal.returns-clause-all
 returns-clause-all g t c = grind (arith, common_steps, all_given)
+
+pub work-requires : goal.work-requires
+work-requires g t c =
+    subst (λ b. IsReady g.J.Job.means b c.args.first.now) (sym c.deref.ensures) c.requires.ready
+
+pub returns-then-others-eq0 : goal.returns-then-others-eq0
+returns-then-others-eq0 g t c = record {
+  idle = c.requires.idle;
+  done = subst (λ b. IsDone g.J.Job.means b c.work.new.seat) c.deref.ensures c.work.ensures.done;
+  leads = record {
+    first = c.work.ensures.seat.first ∙ c.requires.leads.first;
+    out = c.work.ensures.seat.out ∙ c.requires.leads.out;
+  };
+  begun = λ h. absurd (let wrong : false ≡ true = h in cc);
+  missed = λ h. refl;
+  most = omega arith;
+  all = λ h. omega (arith, c.if-others-eq0.true);
+}
+
+pub returns-in_default-part_in-clause-done : goal.returns-in_default-part_in-clause-done
+returns-in_default-part_in-clause-done g t c =
+    subst (λ b. IsDone g.J.Job.means b c.work-in_default-part_in.new.seat) c.deref-in_default-part_in.ensures
+    c.work-in_default-part_in.ensures.done
+
+pub returns-in_default-part_in-clause-leads : goal.returns-in_default-part_in-clause-leads
+returns-in_default-part_in-clause-leads g t c = record {
+  first = c.work-in_default-part_in.ensures.seat.first ∙ c.requires.leads.first;
+  out = c.work-in_default-part_in.ensures.seat.out ∙ c.requires.leads.out;
+}
+
+pub returns-in_default-part_in-clause-missed : goal.returns-in_default-part_in-clause-missed
+returns-in_default-part_in-clause-missed g t c = λ h.
+    ap (λ k. k.served + served_by c.in-Some.rest.now) c.part_in.ensures.tasks
+    ∙ sym (ap served_by c.in-Some.ensures.cases.0)
+
+pub split-seat-requires : goal.split-seat-requires
+split-seat-requires g t c = record {
+  seat = subst (λ b. IsSeatOf g.J.Job.means (plan b) (name b) c.args.first.now) (sym c.deref-2.ensures)
+      c.requires.ready.of;
+  first = c.requires.leads.first;
+}
+
+pub give-requires : goal.give-requires
+give-requires g t c = record {
+  idle = c.part_in.ensures.idle;
+  task = given_done g.J.Job.means (arc_value c.in-Ok.part) c.split-seat.result (view c.args.first.now)
+      (subst (λ b. IsSeatOf g.J.Job.means (plan b) (name b) c.split-seat.result)
+      (c.deref-2.ensures ∙ sym c.in-Ok.ensures.share) c.split-seat.ensures.other) c.split-seat.ensures.new;
+}
+
+pub await_seat-returned-requires : goal.await_seat-returned-requires
+await_seat-returned-requires g t c =
+    record { board = arc_value c.in-Ok.part; seat = c.split-seat.result; out = c.give.ensures.lent }
+
+pub join-requires-clause-seat : goal.join-requires-clause-seat
+join-requires-clause-seat g t c =
+    subst (λ b. IsSeatOf g.J.Job.means (plan b) (name b) c.share-shared.new.first) (sym c.deref-3.ensures)
+    c.share-shared.ensures.done.of
+
+pub join-requires-clause-first : goal.join-requires-clause-first
+join-requires-clause-first g t c = c.share-shared.ensures.leads.first
+
+pub returns-clause-done : goal.returns-clause-done
+returns-clause-done g t c =
+    joined_done g.J.Job.means (arc_value c.args.board.now) c.share-shared.new.first c.join.new.seat
+    (view c.await_seat-returned.result.seat) c.share-shared.ensures.done
+    (subst (λ b. IsSeatOf g.J.Job.means (plan b) (name b) c.join.new.seat) c.deref-3.ensures c.join.ensures.seat)
+    c.join.ensures.view

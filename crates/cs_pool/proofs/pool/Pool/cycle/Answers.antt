@@ -1,12 +1,12 @@
 use Rattle.std.proofs.lemmas.Grind.{common_steps}
-use Rattle.std.specs.Prelude.{min}
-use Rattle.std.proofs.Common.{◌∙◌, ◌-◌, length, ap, inl, inr, subst, refl, sym, arith}
-use Rattle.cs_board.specs.Board.{plan, name}
+use Rattle.std.proofs.Common.{◌∙◌, ◌+◌, ◌≤◌, length, ap, inl, inr, subst, refl, sym, arith}
+use Rattle.cs_board.specs.Board.{plan, name, graph_of}
 use Rattle.cs_cells.specs.Serial.{serial_cells, serial_jobs}
 use Rattle.cs_desk.proofs.Cycling.{was_played}
 use Rattle.cs_desk.specs.Desk.{cells}
 use Rattle.cs_pool.proofs.Given.{none_wanted, nothing_more}
-use Rattle.cs_pool.specs.Pools.{helpers, NeedsNoHelper}
+use Rattle.cs_graph.specs.Cover.{HasCover}
+use Rattle.cs_pool.specs.Pools.{helpers, tasks_given, NeedsNoHelper}
 use Rattle.cs_pool.proofs.pool.Pool.cycle.Goals as goal
 
 pub returns-clause-played : goal.returns-clause-played
@@ -44,3 +44,23 @@ returns-then-others-eq0-clause-learned g c = inr (
 
 pub returns-then-others-eq0-clause-shared : goal.returns-then-others-eq0-clause-shared
 returns-then-others-eq0-clause-shared g c = grind (arith, common_steps, nothing_more)
+
+pub returns-clause-graph : goal.returns-clause-graph
+returns-clause-graph g c =
+    c.rest.ensures.graph ∙ ap graph_of c.play-board.ensures.board ∙ c.open-board.ensures.graph
+
+pub returns-clause-helpers : goal.returns-clause-helpers
+returns-clause-helpers g c = c.play-board.ensures.helpers
+
+pub returns-clause-shared : goal.returns-clause-shared
+returns-clause-shared g c =
+    let w = c.wanted-others.ensures in
+    let p = c.play-board.ensures.parts in
+    record {
+      chains = w.0;
+      cover = subst (λ z. HasCover z.edges (length z.levels) w.0) c.deref.ensures w.1;
+      parts = record {
+        most = subst (λ n. tasks_given c.play-board.new.self ≤ tasks_given c.args.self.now + n) w.2 p.most;
+        all = λ h. p.all h ∙ ap (λ n. tasks_given c.args.self.now + n) w.2;
+      };
+    }
