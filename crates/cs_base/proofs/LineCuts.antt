@@ -76,8 +76,7 @@ moved : (first : ℕ) (before : List ℕ) (b : ℕ) (rest : List ℕ) (n : ℕ) 
     → AllNumbered first (before ++ b ∷ rest) (lines_from n (length before + 1) rest)
 moved first before b rest n e all =
     subst (λ t. AllNumbered first t (lines_from n (length before + 1) rest)) (append_assoc before (b ∷ []) rest)
-    (subst (λ at. AllNumbered first ((before ++ b ∷ []) ++ rest) (lines_from n at rest))
-    (length-append before (b ∷ []))
+    (subst (λ at. AllNumbered first ((before ++ b ∷ []) ++ rest) (lines_from n at rest)) (length-append before (b ∷ []))
     (subst (λ k. AllNumbered first ((before ++ b ∷ []) ++ rest) (lines_from k (length (before ++ b ∷ [])) rest)) e all))
 
 -- the line that begins behind a text
@@ -92,10 +91,8 @@ with_front first before b rest [] all =
     All-cons (IsNumbered first (before ++ b ∷ rest)) (line (line_after first before) (length before) (b ∷ [])) []
     (line_here first before (b ∷ rest) (b ∷ [])) (All-nil _)
 with_front first before b rest (l ∷ ls) all =
-    All-cons (IsNumbered first (before ++ b ∷ rest))
-    (line (line_after first before) (length before) (b ∷ l.bytes)) ls
-    (line_here first before (b ∷ rest) (b ∷ l.bytes))
-    (All-tail (IsNumbered first (before ++ b ∷ rest)) l ls all)
+    All-cons (IsNumbered first (before ++ b ∷ rest)) (line (line_after first before) (length before) (b ∷ l.bytes)) ls
+    (line_here first before (b ∷ rest) (b ∷ l.bytes)) (All-tail (IsNumbered first (before ++ b ∷ rest)) l ls all)
 
 numbered : (first : ℕ) (before rest : List ℕ)
     → AllNumbered first (before ++ rest) (lines_from (line_after first before) (length before) rest)
@@ -108,8 +105,7 @@ numbered first before (b ∷ rest) =
     by_test (is_feed b)
     (λ h. subst (AllNumbered first (before ++ b ∷ rest)) (sym (lines_feed n at b rest h))
     (All-cons (IsNumbered first (before ++ b ∷ rest)) (line n at []) (lines_from (n + 1) (at + 1) rest)
-    (line_here first before (b ∷ rest) [])
-    (moved first before b rest (n + 1) (omega (arith, one, one_feed b h)) more)))
+    (line_here first before (b ∷ rest) []) (moved first before b rest (n + 1) (omega (arith, one, one_feed b h)) more)))
     (λ h. subst (AllNumbered first (before ++ b ∷ rest)) (sym (lines_more n at b rest h))
     (with_front first before b rest (lines_from n (at + 1) rest)
     (moved first before b rest n (omega (arith, one, no_feed b h)) more)))

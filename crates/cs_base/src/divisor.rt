@@ -2,6 +2,8 @@
 ghost use Rattle.std.specs.Prelude.{◌≡◌, ◌<◌, ◌≤◌, ◌+◌, ◌*◌, ◌^◌, true, pos, ◌≤ℤ◌, ◌<ℤ◌, ◌-ℤ◌, ◌*ℤ◌, unsigned_abs};
 ghost use Rattle.cs_base.specs.{Numbers.floor_div, inner.Inverses.IsInverse};
 
+use crate::number::times;
+
 /// A divisor from 1 to 2^48 - 1, and about how many 2^64ths its inverse is.
 #[derive(Clone, Copy)]
 pub struct Divisor {
@@ -65,17 +67,7 @@ fn upper(n: i64, inverse: i64) -> i64
     requires { unsigned_abs n ≤ 2 ^ 61 }
     ensures { result ≡ floor_div (n *ℤ inverse) (pos 18446744073709551616) }
 {
-    whole(product(n, inverse))
-}
-
-// The exact product.
-#[inline(always)]
-fn product(x: i64, y: i64) -> i128
-    requires { unsigned_abs x ≤ 2 ^ 62 }
-    ensures value { result ≡ x *ℤ y }
-    ensures bounded { unsigned_abs result ≤ 2 ^ 125 }
-{
-    i128::from(x) * i128::from(y)
+    whole(times(n, inverse))
 }
 
 #[inline(always)]

@@ -206,7 +206,8 @@ fn scaled(x: Num, y: Num) -> i128
 }
 
 // The exact product.
-fn times(x: i64, y: i64) -> i128
+#[inline(always)]
+pub(crate) fn times(x: i64, y: i64) -> i128
     ensures { result ≡ x *ℤ y }
 {
     x as i128 * y as i128

@@ -1,6 +1,7 @@
 // All that may stand, as one command.
 ghost use Rattle.std.specs.Prelude.{◌≡◌, false, IfOk};
-ghost use Rattle.clap.specs.Words.{app_of, rule_of, with_rule};
+ghost use Rattle.clap.specs.Walk.{Rule};
+ghost use Rattle.clap.specs.Words.{App, app_of, rule_of, with_rule};
 ghost use Rattle.cs_arguments.specs.Command.{bare_app, lettered_app, the_app};
 
 use crate::options::{demo_option, from_one_to, letter_flag, letter_option, long_flag, name};
@@ -12,11 +13,11 @@ use std::alloc::{AllocError, Global};
 pub fn command<'w>(alloc: Global) -> Result<Command<'w>, AllocError>
     ensures { IfOk result (λ c. app_of c ≡ the_app) }
 {
-    let command = with_letters(alloc)?;
-    let command = with(command, long_flag(alloc, "turns"))?;
-    let command = with(command, long_flag(alloc, "pool"))?;
-    let command = with(command, demo_option(alloc))?;
-    let command = with(command, name(alloc, "ORC"))?;
+    let command = with_letters(alloc);
+    let command = with(command, long_flag(alloc, "turns"));
+    let command = with(command, long_flag(alloc, "pool"));
+    let command = with(command, demo_option(alloc));
+    let command = with(command, name(alloc, "ORC"));
     with(command, name(alloc, "SCO"))
 }
 
@@ -24,15 +25,18 @@ pub fn command<'w>(alloc: Global) -> Result<Command<'w>, AllocError>
 fn with_letters<'w>(alloc: Global) -> Result<Command<'w>, AllocError>
     ensures { IfOk result (λ c. app_of c ≡ lettered_app) }
 {
-    let command = with(bare(alloc), letter_option(alloc, "j", 'j', from_one_to(32)))?;
+    let command = with(
+        Ok(bare(alloc)),
+        letter_option(alloc, "j", 'j', from_one_to(32)),
+    );
     let command = with(
         command,
         letter_option(alloc, "o", 'o', ValueParser::NonEmptyString),
-    )?;
-    let command = with(command, letter_flag(alloc, "W", 'W'))?;
-    let command = with(command, letter_flag(alloc, "s", 's'))?;
-    let command = with(command, letter_flag(alloc, "d", 'd'))?;
-    let command = with(command, letter_flag(alloc, "n", 'n'))?;
+    );
+    let command = with(command, letter_flag(alloc, "W", 'W'));
+    let command = with(command, letter_flag(alloc, "s", 's'));
+    let command = with(command, letter_flag(alloc, "d", 'd'));
+    let command = with(command, letter_flag(alloc, "n", 'n'));
     with(command, letter_flag(alloc, "3", '3'))
 }
 
@@ -46,10 +50,17 @@ fn bare<'w>(alloc: Global) -> Command<'w>
         .disable_version_flag(true)
 }
 
-// The command with one more argument.
-fn with<'a>(command: Command<'a>, arg: Arg<'a>) -> Result<Command<'a>, AllocError>
+// A command with one more argument, where there is a command.
+fn with<'a>(
+    command: Result<Command<'a>, AllocError>,
+    arg: Arg<'a>,
+) -> Result<Command<'a>, AllocError>
     requires { arg.global ≡ false }
-    ensures { IfOk result (λ c. app_of c ≡ with_rule (app_of command.entry) (rule_of arg.entry)) }
+    ensures { (app : App) (rule : Rule) → rule_of arg.entry ≡ rule → IfOk command.entry (λ c. app_of c ≡ app)
+        → IfOk result (λ c. app_of c ≡ with_rule app rule) }
 {
-    command.arg(arg)
+    match command {
+        Ok(command) => command.arg(arg),
+        Err(error) => Err(error),
+    }
 }

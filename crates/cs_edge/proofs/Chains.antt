@@ -25,8 +25,7 @@ itself P same None = tt
 itself P same (Some x) = same x
 
 -- no call at all
-pub follows_same : {A : Type 0} (P : A → A → Type 0) → ((x : A) → P x x)
-    → (a b : Option A) → b ≡ a → Follows a b P
+pub follows_same : {A : Type 0} (P : A → A → Type 0) → ((x : A) → P x x) → (a b : Option A) → b ≡ a → Follows a b P
 follows_same P same a b e = let Q : Option _ → Type 0 = λ o. Follows a o P in subst Q (sym e) (itself P same a)
 
 -- moves of one kind, and then of another

@@ -1,4 +1,5 @@
 pub mod Buffered
+pub mod Causes
 pub mod Chains
 pub mod Lines
 pub mod Lists

@@ -1,5 +1,7 @@
-use Rattle.std.proofs.lemmas.{Grind.common_steps, List.take_all, List.take-append-drop}
-use Rattle.std.proofs.Common.{◌≡◌, ◌≤◌, ℕ, ◌+◌, ◌-◌, List, ◌++◌, length, take, drop, sym, ◌∙◌, ap, arith, length-drop}
+use Rattle.std.proofs.lemmas.{Grind.common_steps, List.take_all, List.take_more, List.take_more_set}
+use Rattle.std.proofs.lemmas.List.{take-append-drop}
+use Rattle.std.proofs.Common.{◌≡◌, ◌<◌, ◌≤◌, ℕ, ◌+◌, ◌-◌, List, [], ◌∷◌, ◌++◌, length, get_or, set, take, drop, sym}
+use Rattle.std.proofs.Common.{◌∙◌, ap, arith, append_assoc, length-drop}
 use Rattle.std.proofs.Math.Seq.{take-add}
 use Rattle.cs_edge.specs.Told.{IsFront}
 
@@ -24,3 +26,14 @@ taken_within at n l h k = grind (arith, common_steps, length-drop, rest_whole)
 -- the first items are a front
 pub take_front : {A : Type 0} (n : ℕ) (l : List A) → IsFront (take n l) l
 take_front n l = (drop n l, sym (take-append-drop n l))
+
+-- one item more of a piece stands behind the first items
+pub piece_more : (out first piece : List ℕ) (from i : ℕ) → from + i < length out → i < length piece
+    → take (from + i) out ≡ take from first ++ take i piece
+    → take (from + (i + 1)) (set out (from + i) (get_or piece i 0)) ≡ take from first ++ take (i + 1) piece
+piece_more out first piece from i within some read =
+    let next : from + (i + 1) ≡ from + i + 1 = omega arith in
+    let x : ℕ = get_or piece i 0 in
+    ap (λ n. take n (set out (from + i) x)) next ∙ take_more_set out (from + i) x within
+    ∙ ap (λ (l : List ℕ). l ++ x ∷ []) read ∙ append_assoc (take from first) (take i piece) (x ∷ [])
+    ∙ ap (λ (l : List ℕ). take from first ++ l) (sym (take_more piece i 0 some))

@@ -18,8 +18,7 @@ bytes_past (f ∷ files) (suc i) h = bytes_past files i (omega arith)
 
 -- a search from a place on looks at the file there, and then goes on
 pub named_from : (name : List ℕ) (files : List NamedBytes) (i : ℕ) (file : NamedBytes) → i < length files
-    → file ≡ get_or files i file
-    → file_named name (drop i files)
+    → file ≡ get_or files i file → file_named name (drop i files)
     ≡ (if bytes_eq file.name name then Some file.bytes else file_named name (drop (i + 1) files))
 named_from name files i file h e =
     rw (add-one, drop-cons files i file h, ← e) refl

@@ -93,8 +93,7 @@ part_longer a b xs ys f p = grind (arith, common_steps, front_of_front)
 -- WHOLE FILES
 
 -- a begin
-pub begun : (a b : SinkTold) (name : List ℕ)
-    → Follows a.held b.held (λ _ now. now ≡ open_file name [])
+pub begun : (a b : SinkTold) (name : List ℕ) → Follows a.held b.held (λ _ now. now ≡ open_file name [])
     → Follows a.moves b.moves (GrownBy (Begin name)) → b.faults ≡ a.faults → Wrote a b name []
 begun a b name held moves same = grind (arith, common_steps, run_begun)
 
@@ -117,8 +116,7 @@ whole_on : (name : List ℕ) (x y : List Move) → IsRun name Write x → y ≡ 
 whole_on name x y p e = (p.0, rw (p.1, e) refl)
 
 whole_moves : (name : List ℕ) (a b c : Option (List Move)) → Follows a b (Grown (IsRun name Write))
-    → Follows b c (GrownBy End)
-    → Follows a c (Grown (IsWhole name))
+    → Follows b c (GrownBy End) → Follows a c (Grown (IsWhole name))
 whole_moves name a b c made moves = grind (arith, common_steps, follows_on, grown_by, grown_on, whole_on)
 
 -- and an end
@@ -139,8 +137,7 @@ stopped_untouched a b name bytes e = record {
 }
 
 -- a begin that failed
-pub stopped_begin : (a b : SinkTold) (name bytes : List ℕ)
-    → Follows a.held b.held (λ _ now. now ≡ no_file)
+pub stopped_begin : (a b : SinkTold) (name bytes : List ℕ) → Follows a.held b.held (λ _ now. now ≡ no_file)
     → Follows a.moves b.moves (GrownBy (Begin name)) → a.faults ≤ b.faults → Stopped a b name bytes
 stopped_begin a b name bytes held moves later = record {
   taken = follows_as (λ _ now. now ≡ no_file) (HoldsFront name bytes)

@@ -9,8 +9,7 @@ use Rattle.cs_signal.specs.inner.Short.{AreShort, AreSmall, IsShort, sum_of}
 use Rattle.cs_signal.specs.declared.biquad.Coefficients.{Coefficients}
 
 pub stepped : (by : Coefficients) (s t : BiquadState) (x z y sum : ℤ)
-    → t ≡ record { x1 = x; x2 = s.x1; y1 = y; y2 = s.y1 } → y ≡ ratio sum by.a0
-    → sum ≡ sum_of by s x → x ≡ z
+    → t ≡ record { x1 = x; x2 = s.x1; y1 = y; y2 = s.y1 } → y ≡ ratio sum by.a0 → sum ≡ sum_of by s x → x ≡ z
     → (t, y) ≡ biquad_step s (inputs_by z by)
 stepped by s t x z y sum et ey es ex =
     let after : ℤ → BiquadState × ℤ = λ y. (record { x1 = x; x2 = s.x1; y1 = y; y2 = s.y1 }, y) in
@@ -33,8 +32,7 @@ sum_less_within : (p q r s t : ℤ) (m : ℕ) → unsigned_abs p ≤ m → unsig
     → unsigned_abs s ≤ m → unsigned_abs t ≤ m → unsigned_abs (((p +ℤ q) +ℤ r) -ℤ (s +ℤ t)) ≤ ((m + m) + m) + (m + m)
 sum_less_within p q r s t m hp hq hr hs ht =
     less_within ((p +ℤ q) +ℤ r) (s +ℤ t) ((m + m) + m) (m + m)
-    (sum_within (p +ℤ q) r (m + m) m (sum_within p q m m hp hq) hr)
-    (sum_within s t m m hs ht)
+    (sum_within (p +ℤ q) r (m + m) m (sum_within p q m m hp hq) hr) (sum_within s t m m hs ht)
 
 -- small coefficients and short signals have a sum of at most 61 bits
 pub short_sum : (by : Coefficients) (s : BiquadState) (x : ℤ) → AreSmall by → IsShort x → AreShort s

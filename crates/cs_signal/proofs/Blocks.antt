@@ -22,8 +22,7 @@ each_of : (formula : Rate → Pace → List ℤ → List (List ℤ) → ℤ) (ra
     (k : ℕ) → k < suc n → argument (z ∷ results) k ≡ formula rate pace init (before ++ inputs_of at j (k + 1))
 each_of formula rate pace init before at j n z results first rest zero below = first
 each_of formula rate pace init before at j n z results first rest (suc k) below =
-    rest k (omega arith)
-    ∙ ap (λ l. formula rate pace init l)
+    rest k (omega arith) ∙ ap (λ l. formula rate pace init l)
     (behind at before j (k + 1) ∙ ap (λ m. before ++ inputs_of at j m) (sym (add-one (k + 1)))
     ∙ ap (λ m. before ++ inputs_of at j (m + 1)) (add-one k))
 

@@ -138,8 +138,7 @@ oldest m xs =
     let place : length all - 1 - m ≡ length xs = omega arith in
     ap (argument all) (sym place) ∙ sym (get_or-reverse all m (pos 0) (omega arith))
     ∙ ap (λ l. argument l m) (reverse-append (replicate (suc m) (pos 0)) xs)
-    ∙ ap (λ l. argument (reverse xs ++ l) m) (reverse_same (suc m) (pos 0))
-    ∙ behind (suc m) m (reverse xs)
+    ∙ ap (λ l. argument (reverse xs ++ l) m) (reverse_same (suc m) (pos 0)) ∙ behind (suc m) m (reverse xs)
 
 delay_answers : (d : ℕ) (before : List (List ℤ)) (x : List ℤ) → 1 ≤ d →
     argument (drop (length before) (replicate d (pos 0) ++ signal 0 before)) 0 ≡ ago 0 d (before ++ x ∷ [])
@@ -147,8 +146,7 @@ delay_answers zero before x h = absurd (omega arith)
 delay_answers (suc m) before x h =
     get_or-drop (length before) (replicate (suc m) (pos 0) ++ signal 0 before) 0 (pos 0)
     ∙ ap (argument (replicate (suc m) (pos 0) ++ signal 0 before))
-    (omega arith ∙ sym (length-map before (λ inputs. argument inputs 0)))
-    ∙ oldest m (signal 0 before)
+    (omega arith ∙ sym (length-map before (λ inputs. argument inputs 0))) ∙ oldest m (signal 0 before)
     ∙ sym (ago_one 0 m before x)
 
 delay_goes_on : (d : ℕ) (before : List (List ℤ)) (x : List ℤ) → 1 ≤ d →
@@ -182,8 +180,7 @@ one_more_or_none : (n k : ℕ) → ((n % k + 1) % k ≡ n % k + 1) ⊎ ((n % k +
 one_more_or_none n zero = inl (mod-zero (n % 0 + 1))
 one_more_or_none n (suc m) = ⊎_elim
     (λ e. inr (ap (λ a. a % suc m) e ∙ mod_self (suc m)))
-    (λ h. inl (mod-eq_of_lt h))
-    (eq-or-lt_of_le (below n m))
+    (λ h. inl (mod-eq_of_lt h)) (eq-or-lt_of_le (below n m))
 
 kept_or_new : (next sample : ℕ) (before : List (List ℤ)) (x : List ℤ) → (next ≡ sample + 1) ⊎ (next ≡ 0) →
     (if next == 0 then argument x 0 else ago 0 sample before) ≡ ago 0 next (before ++ x ∷ [])
@@ -199,8 +196,7 @@ interp_sample k ksmps sample before x ek es =
     ∙ ap (λ n. n % ksmps) (omega arith ∙ sym (length_one before x))
 
 interp_answers : (k ksmps sample : ℕ) (b : ℤ) (before : List (List ℤ)) (x : List ℤ) → k ≡ ksmps
-    → sample ≡ length before % ksmps → b ≡ ago 0 sample before →
-    clamp (part_way b (argument x 0) (sample + 1) k) ≡
+    → sample ≡ length before % ksmps → b ≡ ago 0 sample before → clamp (part_way b (argument x 0) (sample + 1) k) ≡
     clamp (part_way (ago 0 ((length (before ++ x ∷ []) - 1) % ksmps + 1) (before ++ x ∷ [])) (now 0 (before ++ x ∷ []))
     ((length (before ++ x ∷ []) - 1) % ksmps + 1) ksmps)
 interp_answers k ksmps sample b before x ek es eb =

@@ -20,8 +20,7 @@ HasFilled_more f count j out y h inside e =
     record {
       long = length-set out j y ∙ long;
       done = take_more_set out j y (omega arith) ∙ ap (λ l. l ++ y ∷ []) h.done
-          ∙ ap (λ z. map f (range_with_len 0 j) ++ z ∷ []) e
-          ∙ sym (map-range_with_len_more f 0 j j (omega arith));
+          ∙ ap (λ z. map f (range_with_len 0 j) ++ z ∷ []) e ∙ sym (map-range_with_len_more f 0 j j (omega arith));
     }
 
 pub HasFilled_all : (f : ℕ → ℤ) (count j : ℕ) (out : List ℤ) → HasFilled f count j out → count ≤ j → j ≤ count
@@ -53,8 +52,7 @@ abbrev pub linen_at_step : LinenState → ℕ → LinenState
 linen_at_step s m = record { rise = s.rise; duration = s.duration; decay = s.decay; number = m }
 
 -- the steps of a linen between rise and decay are its amplitude times one
-pub linen_level : (x : ℕ → ℤ) (s : LinenState) (j n : ℕ) → IsLevel s n →
-    run linen_step (λ j. x j ∷ []) s j n ≡
+pub linen_level : (x : ℕ → ℤ) (s : LinenState) (j n : ℕ) → IsLevel s n → run linen_step (λ j. x j ∷ []) s j n ≡
     (linen_at_step s (s.number + n), map (λ i. product_of (x i) one) (range_with_len j n))
 linen_level x s j zero h = ap (λ m. (linen_at_step s m, [])) (omega arith)
 linen_level x s j (suc n) h =

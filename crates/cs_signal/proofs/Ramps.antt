@@ -63,11 +63,9 @@ HasRamped_none from to n d count whole rest out long parts bound = record {
 }
 
 pub HasRamped_more : (from to : ℤ) (n d count j : ℕ) (whole whole' by : ℤ) (rest rest' by_rest : ℕ) (out : List ℤ)
-    (y : ℤ) →
-    HasRamped from to n d count j whole rest out → j < count → IsParted (to -ℤ from) d by by_rest →
+    (y : ℤ) → HasRamped from to n d count j whole rest out → j < count → IsParted (to -ℤ from) d by by_rest →
     y ≡ clamp (from +ℤ whole) → IsAdvanced d whole rest by by_rest whole' rest'
-    → unsigned_abs whole' ≤ unsigned_abs whole + 2 ^ 49 →
-    HasRamped from to n d count (j + 1) whole' rest' (set out j y)
+    → unsigned_abs whole' ≤ unsigned_abs whole + 2 ^ 49 → HasRamped from to n d count (j + 1) whole' rest' (set out j y)
 HasRamped_more from to n d count j whole whole' by rest rest' by_rest out y h inside step ey next bound =
     let f : ℕ → ℤ = λ i. clamp (part_way from to i d) in
     let long = h.long in
@@ -78,8 +76,7 @@ HasRamped_more from to n d count j whole whole' by rest rest' by_rest out y h in
     record {
       long = length-set out j y ∙ long;
       done = take_more_set out j y (omega arith) ∙ ap (λ l. l ++ y ∷ []) h.done
-          ∙ ap (λ z. map f (range_with_len n j) ++ z ∷ []) value
-          ∙ sym (map-range_with_len_more f n j (n + j) refl);
+          ∙ ap (λ z. map f (range_with_len n j) ++ z ∷ []) value ∙ sym (map-range_with_len_more f n j (n + j) refl);
       parts = subst (λ z. IsParted z d whole' rest')
           (sym (ap (λ m. (to -ℤ from) *ℤ pos m) place ∙ once_more (to -ℤ from) (n + j)))
           (advanced ((to -ℤ from) *ℤ pos (n + j)) (to -ℤ from) whole by whole' d rest by_rest rest' h.parts step next);
@@ -87,8 +84,7 @@ HasRamped_more from to n d count j whole whole' by rest rest' by_rest out y h in
     }
 
 pub HasRamped_all : (from to : ℤ) (n d count j : ℕ) (whole : ℤ) (rest : ℕ) (out : List ℤ)
-    → HasRamped from to n d count j whole rest out →
-    count ≤ j → j ≤ count → out ≡ ramp_of from to n d count
+    → HasRamped from to n d count j whole rest out → count ≤ j → j ≤ count → out ≡ ramp_of from to n d count
 HasRamped_all from to n d count j whole rest out h p q =
     let long = h.long in
     let e : j ≡ count = omega arith in
@@ -157,8 +153,7 @@ one_on lengths n k begin d p e room =
 pub linseg_ramp : (at : ℕ → List ℤ) (s : LinsegState) (j n k begin d : ℕ) (here next : ℤ)
     → IsPlace s.lengths s.number k begin → k < length s.lengths → d ≡ slice_index s.lengths k →
     s.number + n ≤ begin + d → here ≡ argument s.values k → next ≡ argument s.values (k + 1)
-    → s.number + n ≤ last_number →
-    run linseg_step at s j n
+    → s.number + n ≤ last_number → run linseg_step at s j n
     ≡ (linseg_at_step s (s.number + n), ramp_of here next (s.number - begin) d n)
 linseg_ramp at s j zero k begin d here next p inside ed room eh en h =
     ap (λ m. (linseg_at_step s m, [])) (omega arith)
@@ -180,8 +175,7 @@ linseg_ramp at s j (suc (suc n)) k begin d here next p inside ed room eh en h =
     ∙ ap (led value) (linseg_ramp at t (j + 1) (suc n) k begin d here next
     (one_on s.lengths s.number k begin d p ed (omega arith)) inside ed (omega arith) eh en (omega arith))
     ∙ ap (λ m. (linseg_at_step s m, value ∷ ramp_of here next ((s.number + 1) - begin) d (suc n))) sum
-    ∙ ap (λ m. (linseg_at_step s (s.number + suc (suc n)), value ∷ ramp_of here next m d (suc n))) on
-    ∙ ap (λ z. (
+    ∙ ap (λ m. (linseg_at_step s (s.number + suc (suc n)), value ∷ ramp_of here next m d (suc n))) on ∙ ap (λ z. (
       linseg_at_step s (s.number + suc (suc n)),
       z ∷ ramp_of here next ((s.number - begin) + 1) d (suc n),
     )) known

@@ -12,16 +12,14 @@ use Rattle.cs_signal.specs.inner.Ring.{IsWrapped, in_order, line_in}
 use Rattle.cs_signal.proofs.Walks.{HasRun_none, led}
 
 -- as many steps as values leave a line: they are the results, and what came stands behind what stays
-leave : (x : ℕ → ℤ) (old stays : List ℤ) (j : ℕ) →
-    run delay_step (λ j. x j ∷ []) (old ++ stays) j (length old)
+leave : (x : ℕ → ℤ) (old stays : List ℤ) (j : ℕ) → run delay_step (λ j. x j ∷ []) (old ++ stays) j (length old)
     ≡ (stays ++ map x (range_with_len j (length old)), old)
 leave x [] stays j = ap (λ l. (l, [])) (sym (append-nil stays))
 leave x (o ∷ old) stays j =
     let next : List ℤ = stays ++ x j ∷ [] in
     let more : List ℤ = map x (range_with_len (j + 1) (length old)) in
     ap (λ l. led o (run delay_step (λ j. x j ∷ []) l (j + 1) (length old))) (append_assoc old stays (x j ∷ []))
-    ∙ ap (led o) (leave x old next (j + 1))
-    ∙ ap (λ l. (l, o ∷ old)) (append_assoc stays (x j ∷ []) more)
+    ∙ ap (led o) (leave x old next (j + 1)) ∙ ap (λ l. (l, o ∷ old)) (append_assoc stays (x j ∷ []) more)
 
 -- how long a list is some of whose items were replaced
 pub spliced : (l new : List ℤ) (place count : ℕ) → place + count ≤ length l → length new ≡ count →
@@ -33,8 +31,7 @@ spliced l new place count room long =
     length-append (take place l) (new ++ drop (place + count) l) ∙ omega (arith, first, left, more, long)
 
 -- a ring in order is what stands up to a place, and what stands from there on and before the oldest
-parted : (ring : List ℤ) (place count : ℕ) →
-    in_order ring place
+parted : (ring : List ℤ) (place count : ℕ) → in_order ring place
     ≡ take count (drop place ring) ++ (drop (place + count) ring ++ take place ring)
 parted ring place count =
     ap (λ l. l ++ take place ring) (sym (take-append-drop count (drop place ring))
@@ -52,16 +49,13 @@ exchanged_from ring new place count room long =
     let size : length (before ++ new) ≡ place + count = length-append before new ∙ omega (arith, first, long) in
     ap (λ l. in_order l (place + count)) (sym (append_assoc before new behind))
     ∙ ap (λ l. l ++ take (place + count) ((before ++ new) ++ behind))
-    (ap (λ n. drop n ((before ++ new) ++ behind)) (sym size)
-    ∙ drop-append_seam (before ++ new) behind)
+    (ap (λ n. drop n ((before ++ new) ++ behind)) (sym size) ∙ drop-append_seam (before ++ new) behind)
     ∙ ap (λ l. behind ++ l) (ap (λ n. take n ((before ++ new) ++ behind)) (sym size)
-    ∙ take-append_seam (before ++ new) behind)
-    ∙ sym (append_assoc behind before new)
+    ∙ take-append_seam (before ++ new) behind) ∙ sym (append_assoc behind before new)
 
 -- so many steps of a delay in a ring
 pub passed : (x : ℕ → ℤ) (ring : List ℤ) (place count j : ℕ) → place + count ≤ length ring →
-    run delay_step (λ j. x j ∷ []) (in_order ring place) j count
-    ≡ (
+    run delay_step (λ j. x j ∷ []) (in_order ring place) j count ≡ (
       in_order (take place ring ++ (map x (range_with_len j count) ++ drop (place + count) ring)) (place + count),
       take count (drop place ring),
     )
@@ -72,8 +66,7 @@ passed x ring place count j room =
     let long : length old ≡ count = length-take-le count (drop place ring) (omega (arith, rest)) in
     let new : length (map x (range_with_len j count)) ≡ count = length-map-range_with_len x j count in
     ap (λ l. run delay_step (λ j. x j ∷ []) l j count) (parted ring place count)
-    ∙ ap (λ n. run delay_step (λ j. x j ∷ []) (old ++ stays) j n) (sym long)
-    ∙ leave x old stays j
+    ∙ ap (λ n. run delay_step (λ j. x j ∷ []) (old ++ stays) j n) (sym long) ∙ leave x old stays j
     ∙ ap (λ n. (stays ++ map x (range_with_len j n), old)) long
     ∙ ap (λ l. (l, old)) (sym (exchanged_from ring (map x (range_with_len j count)) place count room new))
 
@@ -82,10 +75,8 @@ pub wraps : (ring : List ℤ) (place next : ℕ) → IsWrapped place (length rin
     → in_order ring place ≡ in_order ring next
 wraps ring place next (inl h) = ap (in_order ring) (sym h.1)
 wraps ring place next (inr h) =
-    ap (in_order ring) h.0
-    ∙ ap (λ l. l ++ take (length ring) ring) (drop_of_length-le ring (omega arith))
-    ∙ take_all (length ring) ring (omega arith)
-    ∙ sym (append-nil ring) ∙ ap (in_order ring) (sym h.1)
+    ap (in_order ring) h.0 ∙ ap (λ l. l ++ take (length ring) ring) (drop_of_length-le ring (omega arith))
+    ∙ take_all (length ring) ring (omega arith) ∙ sym (append-nil ring) ∙ ap (in_order ring) (sym h.1)
 
 pub inside_ring : (place len next : ℕ) → place ≤ len → 0 < len → IsWrapped place len next → next < len
 inside_ring place len next h some (inl n) = let off = n.0 in omega (arith, n.1, off, h)
@@ -147,8 +138,7 @@ goes_round at count oldest filled n next ring full turned out out' e long same d
     → (in_order turned next, out') ≡ run delay_step at first 0 n =
     subst (λ m. (first : List ℤ) → HasRun delay_step at first m filled (in_order full 0) out
     → (in_order turned next, out') ≡ run delay_step at first 0 m) done.long later in
-    ap (λ l. (l, out')) (full_line count turned next (omega (arith, long, same)))
-    ∙ on (line_in count ring 0)
+    ap (λ l. (l, out')) (full_line count turned next (omega (arith, long, same))) ∙ on (line_in count ring 0)
     (subst (λ l. HasRun delay_step at (line_in count ring 0) n filled l out) (full_line count full 0 long) done)
     ∙ ap (λ o. run delay_step at (line_in count ring o) 0 n) (sym e)
 

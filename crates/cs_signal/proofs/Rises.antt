@@ -76,8 +76,7 @@ pub record IsTold (z from at : ℤ) (d : ℕ) : Type 0 where
   pub parts : IsParted z d by rest
 
 pub is_told : (z from at whole : ℤ) (d inverse over more : ℕ) → 1 ≤ d → inverse * d ≡ 18446744073709551616 + more
-    → over * more < 18446744073709551616
-    → at ≡ (whole *ℤ pos 18446744073709551616) +ℤ pos (over * inverse)
+    → over * more < 18446744073709551616 → at ≡ (whole *ℤ pos 18446744073709551616) +ℤ pos (over * inverse)
     → z ≡ ((whole -ℤ from) *ℤ pos d) +ℤ pos over → IsTold z from at d
 is_told z from at whole d inverse over more some near few told sum =
     let q : ℕ = often over d inverse more some near few in
@@ -160,14 +159,12 @@ HasRisen_more from to n d inverse count j at by at' v s out y h inside p told bo
     record {
       long = length-set out j y ∙ long;
       done = take_more_set out j y (omega arith) ∙ ap (λ l. l ++ y ∷ []) h.done
-          ∙ ap (λ z. map f (range_with_len n j) ++ z ∷ []) value
-          ∙ sym (map-range_with_len_more f n j (n + j) refl);
+          ∙ ap (λ z. map f (range_with_len n j) ++ z ∷ []) value ∙ sym (map-range_with_len_more f n j (n + j) refl);
       whole = h.whole +ℤ v;
       over = h.over + s;
       told = omega (arith, ints, sum, here, told, wide, more);
       sum = ap (λ m. (to -ℤ from) *ℤ pos m) place ∙ once_more (to -ℤ from) (n + j)
-          ∙ omega (arith, ints, so_far, step, both)
-          ∙ sym (ap (λ z. (z *ℤ pos d) +ℤ pos (h.over + s)) on);
+          ∙ omega (arith, ints, so_far, step, both) ∙ sym (ap (λ z. (z *ℤ pos d) +ℤ pos (h.over + s)) on);
       few = omega (arith, few, below, turns);
       bound = omega (arith, ints, sum, room, bound);
     }

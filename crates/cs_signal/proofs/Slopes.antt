@@ -33,8 +33,7 @@ linen_by x g s j (suc n) room h =
     ∙ ap (λ m. (linen_at_step s m, value ∷ map (λ i. product_of (x i) (g i)) (range_with_len (j + 1) n))) sum
     ∙ ap (λ z. (
       linen_at_step s (s.number + suc n),
-      product_of (x j) z
-          ∷ map (λ i. product_of (x i) (g i)) (range_with_len (j + 1) n),
+      product_of (x j) z ∷ map (λ i. product_of (x i) (g i)) (range_with_len (j + 1) n),
     )) here
 
 pub by_one : (z : ℤ) → product_of z one ≡ clamp z
@@ -101,12 +100,10 @@ level_on : (n i k decay duration : ℕ) → i < k → (decay ≡ 0) ⊎ (n + k +
 level_on n i k decay duration h (inl e) = inl e
 level_on n i k decay duration h (inr p) = inr (omega arith)
 
-pub linen_rises : (x : ℕ → ℤ) (s : LinenState) (n : ℕ) → IsRising s n →
-    run linen_step (λ j. x j ∷ []) s 0 n ≡ (
-      linen_at_step s (s.number + n),
-      map (λ i. product_of (x i) (argument (ramp_of (pos 0) one s.number s.rise n) i))
-          (range_with_len 0 n),
-    )
+pub linen_rises : (x : ℕ → ℤ) (s : LinenState) (n : ℕ) → IsRising s n → run linen_step (λ j. x j ∷ []) s 0 n ≡ (
+  linen_at_step s (s.number + n),
+  map (λ i. product_of (x i) (argument (ramp_of (pos 0) one s.number s.rise n) i)) (range_with_len 0 n),
+)
 linen_rises x s n h =
     let room = h.room in
     let rising = h.rising in
@@ -119,8 +116,7 @@ linen_rises x s n h =
 pub linen_falls : (x : ℕ → ℤ) (s : LinenState) (n m : ℕ) → IsFalling s n → m + s.duration ≡ s.number + s.decay →
     run linen_step (λ j. x j ∷ []) s 0 n ≡ (
       linen_at_step s (s.number + n),
-      map (λ i. product_of (x i) (argument (ramp_of one (pos 0) m s.decay n) i))
-          (range_with_len 0 n),
+      map (λ i. product_of (x i) (argument (ramp_of one (pos 0) m s.decay n) i)) (range_with_len 0 n),
     )
 linen_falls x s n m h from =
     let room = h.room in

@@ -10,15 +10,13 @@ abbrev pub led : {S : Type 0} → ℤ → S × List ℤ → S × List ℤ
 led value r = (r.0, value ∷ r.1)
 
 pub HasRun_none : {S : Type 0} (step : S → List ℤ → S × ℤ) (at : ℕ → List ℤ) (first : S) (n : ℕ) (out : List ℤ)
-    → length out ≡ n →
-    HasRun step at first n 0 first out
+    → length out ≡ n → HasRun step at first n 0 first out
 HasRun_none step at first n out long =
     let whole : n - 0 ≡ n = omega arith in
     record { long = long; rest = sym (ap (λ k. ((run step at first 0 k).0, (run step at first 0 k).1)) whole) }
 
 pub HasRun_more : {S : Type 0} (step : S → List ℤ → S × ℤ) (at : ℕ → List ℤ) (first : S) (n j : ℕ) (s : S)
-    (out : List ℤ) →
-    HasRun step at first n j s out → j < n →
+    (out : List ℤ) → HasRun step at first n j s out → j < n →
     HasRun step at first n (j + 1) (step s (at j)).0 (set out j (step s (at j)).1)
 HasRun_more step at first n j s out h below =
     let here = step s (at j) in
@@ -42,11 +40,10 @@ HasRun_step step at first n j s t out y h below e =
     (HasRun_more step at first n j s out h below)
 
 -- some steps and then others
-run_on : {S : Type 0} (step : S → List ℤ → S × ℤ) (at : ℕ → List ℤ) (s : S) (j m k : ℕ) →
-    run step at s j (m + k) ≡ (
-      (run step at (run step at s j m).0 (j + m) k).0,
-      (run step at s j m).1 ++ (run step at (run step at s j m).0 (j + m) k).1,
-    )
+run_on : {S : Type 0} (step : S → List ℤ → S × ℤ) (at : ℕ → List ℤ) (s : S) (j m k : ℕ) → run step at s j (m + k) ≡ (
+  (run step at (run step at s j m).0 (j + m) k).0,
+  (run step at s j m).1 ++ (run step at (run step at s j m).0 (j + m) k).1,
+)
 run_on step at s j zero k =
     let n : ℕ = 0 + k in
     let e : n ≡ k = omega arith in
@@ -57,15 +54,13 @@ run_on step at s j (suc m) k =
     let here = step s (at j) in
     let first = run step at here.0 (j + 1) m in
     let sum : suc m + k ≡ suc (m + k) = omega arith in
-    ap (λ n. ((run step at s j n).0, (run step at s j n).1)) sum
-    ∙ ap (led here.1) (run_on step at here.0 (j + 1) m k)
+    ap (λ n. ((run step at s j n).0, (run step at s j n).1)) sum ∙ ap (led here.1) (run_on step at here.0 (j + 1) m k)
     ∙ ap (λ i. ((run step at first.0 i k).0, here.1 ∷ (first.1 ++ (run step at first.0 i k).1))) (omega arith)
 
 -- many steps more, whose results were put behind the first j
 pub HasRun_many : {S : Type 0} (step : S → List ℤ → S × ℤ) (at : ℕ → List ℤ) (first : S) (n j m : ℕ) (s t : S)
     (out results : List ℤ) → HasRun step at first n j s out → j + m ≤ n → length results ≡ m
-    → run step at s j m ≡ (t, results) →
-    HasRun step at first n (j + m) t (take j out ++ (results ++ drop (j + m) out))
+    → run step at s j m ≡ (t, results) → HasRun step at first n (j + m) t (take j out ++ (results ++ drop (j + m) out))
 HasRun_many step at first n j m s t out results h room size e =
     let k : ℕ = n - (j + m) in
     let all : List ℤ = take j out ++ results in

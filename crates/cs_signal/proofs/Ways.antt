@@ -9,8 +9,7 @@ use Rattle.cs_signal.specs.inner.Ramp.{IsParted}
 at_most : (a b d rest : ℕ) → b * d ≤ a * d + rest → rest < d → b ≤ a
 at_most a b d rest h below = ⊎_elim
     (λ p. let more : suc a * d ≤ b * d = mul-le (suc a) d b d p (omega arith) in absurd (omega arith))
-    (λ p. p)
-    (cases_lt a b)
+    (λ p. p) (cases_lt a b)
 
 -- part m of d of the way up by a is from 0 to a
 up : (a m d rest : ℕ) (w : ℤ) → m ≤ d → IsParted (pos a *ℤ pos m) d w rest → (pos 0 ≤ℤ w) × (w ≤ℤ pos a)

@@ -16,8 +16,7 @@ low_and_high : (x : ℕ) (r : Bool) → ((nat_le 2 x && nat_le x 65536) && r) �
 low_and_high x r h = (grind (arith, nat_tests), grind (arith, nat_tests), grind (arith, nat_tests))
 
 any_bounds : (n : ℕ) (xs : List ℕ) → list_all (λ len. nat_le 2 len && nat_le len 65536) xs ≡ true
-    → list_any (λ len. n == len) xs ≡ true →
-    (2 ≤ n) × (n ≤ 65536)
+    → list_any (λ len. n == len) xs ≡ true → (2 ≤ n) × (n ≤ 65536)
 any_bounds n [] all any = absurd cc
 any_bounds n (x ∷ xs) all any =
     let b = low_and_high x (list_all (λ len. nat_le 2 len && nat_le len 65536) xs) all in

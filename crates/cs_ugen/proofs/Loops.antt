@@ -13,8 +13,7 @@ step_at step s x x' points points' result e p q = cc
 
 -- a block whose frequency is held: before its first step
 pub held_none : (step : Turning → List ℤ → Turning × ℤ) (at : ℕ → List ℤ) (t : Turning) (phase : ℕ) (out : List ℤ)
-    → phase ≡ t.phase →
-    HasRun step at t (length out) 0 (at_phase t phase) out
+    → phase ≡ t.phase → HasRun step at t (length out) 0 (at_phase t phase) out
 held_none step at t phase out e =
     subst (λ p. HasRun step at t (length out) 0 (at_phase t p) out) (sym e)
     (HasRun_none step at t (length out) out refl)
@@ -23,8 +22,7 @@ held_none step at t phase out e =
 pub held_more : (step : Turning → List ℤ → Turning × ℤ) (at : ℕ → List ℤ) (t : Turning) (cps : ℤ)
     (n j parts phase phase' : ℕ) (out : List ℤ) (y y' : ℤ) →
     HasRun step at t n j (at_phase t phase) out → j < n → parts ≡ within_turn (increment t.rate t.pace cps)
-    → phase' ≡ (phase + parts) % turn → y ≡ y' →
-    (turned (at_phase t phase) cps, y') ≡ step (at_phase t phase) (at j)
+    → phase' ≡ (phase + parts) % turn → y ≡ y' → (turned (at_phase t phase) cps, y') ≡ step (at_phase t phase) (at j)
     → HasRun step at t n (j + 1) (at_phase t phase') (set out j y)
 held_more step at t cps n j parts phase phase' out y y' h below p q r e =
     let moved : phase' ≡ (phase + within_turn (increment t.rate t.pace cps)) % turn =
@@ -44,8 +42,7 @@ pub by_one : {S : Type 0} (step : S → List ℤ → S × ℤ) (xs : List Operan
 by_one step xs x p points s n long is =
     ap (λ ys. run step (λ j. inputs_at ys j ++ points) s 0 n) (sym (one xs x p long is))
 
-two : (xs : List Operand) (x y p q : Operand) → length xs ≡ 2 → x ≡ get_or xs 0 p → y ≡ get_or xs 1 q
-    → xs ≡ x ∷ y ∷ []
+two : (xs : List Operand) (x y p q : Operand) → length xs ≡ 2 → x ≡ get_or xs 0 p → y ≡ get_or xs 1 q → xs ≡ x ∷ y ∷ []
 two (a ∷ b ∷ []) x y p q n i j = cc
 two xs x y p q n i j = absurd (omega arith)
 

@@ -16,8 +16,7 @@ use Rattle.cs_ugen.specs.Phasor as phasor
 
 -- a value by the phase and the last inputs
 by_phase : (value : ℕ → List ℤ → ℤ) (frequency : List ℤ → ℤ) (t : Turning) (rate : Rate) (pace : Pace) (start : ℤ)
-    (before : List (List ℤ)) (x : List ℤ) →
-    HasTurned t rate pace start (map frequency before) →
+    (before : List (List ℤ)) (x : List ℤ) → HasTurned t rate pace start (map frequency before) →
     value t.phase x ≡ value (phase_of rate pace start (map frequency (before_last (before ++ x ∷ []))))
     (last_of (before ++ x ∷ []))
 by_phase value frequency t rate pace start before x h =
@@ -27,8 +26,7 @@ by_phase value frequency t rate pace start before x h =
     (sym (last_of-more before x))
 
 turns_on : (frequency : List ℤ → ℤ) (t : Turning) (rate : Rate) (pace : Pace) (start : ℤ) (before : List (List ℤ))
-    (x : List ℤ) →
-    HasTurned t rate pace start (map frequency before)
+    (x : List ℤ) → HasTurned t rate pace start (map frequency before)
     → HasTurned (turned t (frequency x)) rate pace start (map frequency (before ++ x ∷ []))
 turns_on frequency t rate pace start before x h =
     subst (HasTurned (turned t (frequency x)) rate pace start) (sym (map-more frequency before x))

@@ -61,13 +61,11 @@ phase-more rate pace start cs c =
 
 -- one step more
 pub HasTurned-more : (t : Turning) (rate : Rate) (pace : Pace) (start : ℤ) (cs : List ℤ) (c : ℤ)
-    → HasTurned t rate pace start cs →
-    HasTurned (turned t c) rate pace start (cs ++ c ∷ [])
+    → HasTurned t rate pace start cs → HasTurned (turned t c) rate pace start (cs ++ c ∷ [])
 HasTurned-more t rate pace start cs c h = record {
   rate_is = h.rate_is;
   pace_is = h.pace_is;
   phase_is = ap (λ r. (t.phase + within_turn (increment r t.pace c)) % turn) h.rate_is
       ∙ ap (λ p. (t.phase + within_turn (increment rate p c)) % turn) h.pace_is
-      ∙ ap (λ k. (k + within_turn (increment rate pace c)) % turn) h.phase_is
-      ∙ phase-more rate pace start cs c;
+      ∙ ap (λ k. (k + within_turn (increment rate pace c)) % turn) h.phase_is ∙ phase-more rate pace start cs c;
 }

@@ -54,8 +54,7 @@ whole h l f q r e =
     omega (arith, ints, e, a, b)
 
 -- part of a difference: the part of its upper bits and that of its lower
-pub by_parts : (d : ℤ) (f : ℕ) →
-    floor_div (d *ℤ pos f) (pos 65536)
+pub by_parts : (d : ℤ) (f : ℕ) → floor_div (d *ℤ pos f) (pos 65536)
     ≡ (floor_div d (pos 65536) *ℤ pos f) +ℤ floor_div (int_rem_euclid d (pos 65536) *ℤ pos f) (pos 65536)
 by_parts d f =
     let s = split d in

@@ -19,8 +19,7 @@ guard_last ps odd =
     let is : (length ps % 2 == 1) ≡ true = grind (arith, nat_tests) in
     let len : len_of (length ps) ≡ n = omega arith in
     ap (λ k. take k ps ++ argument ps (guard_place (length ps)) ∷ []) len
-    ∙ ap (λ b. take n ps ++ argument ps (if b then n else 0) ∷ []) is
-    ∙ sym (take_more ps n (pos 0) (omega arith))
+    ∙ ap (λ b. take n ps ++ argument ps (if b then n else 0) ∷ []) is ∙ sym (take_more ps n (pos 0) (omega arith))
     ∙ take_all (n + 1) ps (omega arith)
 
 pub guard_behind : (ps : List ℤ) → length ps % 2 ≡ 0 → curve_of ps ≡ ps ++ argument ps 0 ∷ []
@@ -60,20 +59,17 @@ zero_short = (omega (arith, ints), omega (arith, ints))
 
 -- one place more of which the point is short
 pub short_more : (ps : List ℤ) (place k : ℕ) (x : ℤ) → ((i : ℕ) → i < place → IsShort (argument ps i))
-    → x ≡ argument ps place → IsShort x →
-    k < place + 1 → IsShort (argument ps k)
+    → x ≡ argument ps place → IsShort x → k < place + 1 → IsShort (argument ps k)
 short_more ps place k x h is short below = ⊎_elim
     (λ p. h k p)
-    (λ p. let e : place ≡ k = omega arith in subst IsShort (is ∙ ap (argument ps) e) short)
-    (cases_lt k place)
+    (λ p. let e : place ≡ k = omega arith in subst IsShort (is ∙ ap (argument ps) e) short) (cases_lt k place)
 
 -- all places that there are
 pub short_all : (ps : List ℤ) (place : ℕ) → ((i : ℕ) → i < place → IsShort (argument ps i)) → length ps ≤ place
     → AreShort ps
 short_all ps place h all k = ⊎_elim
     (λ p. h k p)
-    (λ p. subst IsShort (sym (get_or-eq_default ps (pos 0) (omega arith))) zero_short)
-    (cases_lt k place)
+    (λ p. subst IsShort (sym (get_or-eq_default ps (pos 0) (omega arith))) zero_short) (cases_lt k place)
 
 -- the rise from one short point to another has 32 bits
 pub short_rise : (x y : ℤ) → IsShort x → IsShort y → unsigned_abs (y -ℤ x) < 2 ^ 32

@@ -97,14 +97,12 @@ pub answers : (u : UnitState) (o : Opcode) (rate : Rate) (pace : Pace) (settled 
     (x : List ℤ) → Stands u o rate pace settled before → (unit_step u x).1 ≡ gen o rate pace settled (before ++ x ∷ [])
 unfolding gen
 answers u o rate pace settled before x h =
-    ap (λ r. r.1) (stepped u x)
-    ∙ (law_of (opcode_of u)).answers (of_unit u).state rate pace settled before x
+    ap (λ r. r.1) (stepped u x) ∙ (law_of (opcode_of u)).answers (of_unit u).state rate pace settled before x
     (behind u rate pace settled before h.state)
     ∙ ap (λ p. (of_opcode p).formula rate pace settled (before ++ x ∷ [])) h.opcode
 
 pub goes_on : (u : UnitState) (o : Opcode) (rate : Rate) (pace : Pace) (settled : List ℤ) (before : List (List ℤ))
-    (x : List ℤ) → Stands u o rate pace settled before
-    → Stands (unit_step u x).0 o rate pace settled (before ++ x ∷ [])
+    (x : List ℤ) → Stands u o rate pace settled before → Stands (unit_step u x).0 o rate pace settled (before ++ x ∷ [])
 goes_on u o rate pace settled before x h = record {
   opcode = opcode_stays u x ∙ h.opcode;
   state = subst (λ v. v.stands rate pace settled (before ++ x ∷ [])) (sym (next u x))

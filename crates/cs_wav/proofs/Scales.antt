@@ -4,7 +4,7 @@ use Rattle.std.proofs.Common.{◌≡◌, ◌≤◌, ◌<◌, ◌≤ℤ◌, ◌<�
 use Rattle.std.proofs.Common.{true, false, refl, subst, arith}
 use Rattle.std.proofs.lemmas.Int.{ints, clamps, by_lt_z, unsigned_abs-mul, fits_signed_from_abs, to_z-of_z}
 use Rattle.std.specs.{Int.int_div_euclid, Int.RustNames.FitsSigned}
-use Rattle.std.specs.Prelude.{int_lt, ◌||◌, Bool, not, unsigned_abs}
+use Rattle.std.specs.Prelude.{int_lt, ◌||◌, Bool, not, unsigned_abs, if◌then◌else◌}
 use Rattle.cs_base.specs.{Numbers.floor_div, Widths.greatest_of, Widths.least_of}
 use Rattle.cs_base.specs.declared.width.SampleWidth.{SampleWidth}
 use Rattle.cs_base.proofs.Quotients.{floor_div-lt, le-floor_div}
@@ -34,6 +34,16 @@ in_range : (w : SampleWidth) (d : ℕ) (mix : ℤ) → 0 < d → neg_ℤ (pos d)
     → (least_of w ≤ℤ level w (pos d) mix) × (level w (pos d) mix ≤ℤ greatest_of w)
 in_range width.TwoBytes d mix some low high = grind (arith, common_steps, floor_div-lt, ints, le-floor_div, le_of_lt)
 in_range width.ThreeBytes d mix some low high = grind (arith, common_steps, floor_div-lt, ints, le-floor_div, le_of_lt)
+
+pub level_in_range : (w : SampleWidth) (dbfs mix : ℤ) → pos 1 ≤ℤ dbfs → neg_ℤ dbfs ≤ℤ mix → mix <ℤ dbfs
+    → (least_of w ≤ℤ level w dbfs mix) × (level w dbfs mix ≤ℤ greatest_of w)
+level_in_range w (pos d) mix one low high = in_range w d mix (omega (arith, ints, one)) low high
+level_in_range w (negsuc d) mix one low high = absurd (omega (arith, ints, one))
+
+pub end_in_range : (w : SampleWidth) (b : Bool) (z : ℤ) → z ≡ (if b then least_of w else greatest_of w)
+    → (least_of w ≤ℤ z) × (z ≤ℤ greatest_of w)
+end_in_range w true z e = let order = range_is w in (omega (arith, ints, e), omega (arith, ints, e, order))
+end_in_range w false z e = let order = range_is w in (omega (arith, ints, e, order), omega (arith, ints, e))
 
 -- one below it has its level below that range
 below_range : (w : SampleWidth) (d : ℕ) (mix : ℤ) → 0 < d → mix <ℤ neg_ℤ (pos d) → level w (pos d) mix <ℤ least_of w

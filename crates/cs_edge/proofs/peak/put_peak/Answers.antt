@@ -13,6 +13,5 @@ returns c =
     let five : List ℕ = point ++ five_digits (m % 65536 * 100000 / 65536) in
     shows_as _ _ (five ++ codes "\n") _
     (whole_line (codes "peak ") (decimal (m / 65536)) (codes ".") (five_digits (m % 65536 * 100000 / 65536))
-    (codes "\n"))
-    (c.add_piece.ensures five (c.add_five_digits-used.ensures point (c.add_piece-used-2.ensures whole
+    (codes "\n")) (c.add_piece.ensures five (c.add_five_digits-used.ensures point (c.add_piece-used-2.ensures whole
     (c.add_number-used.ensures head (c.add_piece-used.ensures [] (shows_none c.args.out.now))))))

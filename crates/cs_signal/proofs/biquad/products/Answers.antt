@@ -9,8 +9,7 @@ returns-clause-value c =
     let result : to_z w128 (of_z w128 c.plus.result) ≡ c.plus.result = omega (arith, ints) in
     let first = same w128 c.product.result (2 ^ 94) c.product.ensures.bounded (search rules) in
     let second = same w128 c.product-2.result (2 ^ 94) c.product-2.ensures.bounded (search rules) in
-    result ∙ c.plus.ensures.value
-    ∙ (λ i. (first ∙ c.product.ensures.value) i +ℤ (second ∙ c.product-2.ensures.value) i)
+    result ∙ c.plus.ensures.value ∙ (λ i. (first ∙ c.product.ensures.value) i +ℤ (second ∙ c.product-2.ensures.value) i)
 
 pub returns-clause-bounded : goal.returns-clause-bounded
 returns-clause-bounded c =

@@ -33,9 +33,7 @@ loop-j-preserved c =
       HasRun_step delay_step (λ j. operand_at c.args.x.now j ∷ []) (line_in c.args.count c.args.ring.now.items 0)
           (length c.args.out.now) c.loop-j.j
           (line_in c.args.count ring 0) (line_in c.args.count c.push_reserved.new.self.items 0) c.loop-j.out
-          c.of_raw.result
-          so_far.0 (omega (arith, inside))
-          (ap (λ l. (line_in c.args.count l 0, c.of_raw.result)) pushed
+          c.of_raw.result so_far.0 (omega (arith, inside)) (ap (λ l. (line_in c.args.count l 0, c.of_raw.result)) pushed
           ∙ ap (λ y. (line_in c.args.count (ring ++ c.at.result ∷ []) 0, y)) c.of_raw.ensures
           ∙ fills c.args.count ring c.at.result (omega (arith, so_far.1, inside, was))
           ∙ ap (λ z. delay_step (line_in c.args.count ring 0) (z ∷ [])) c.at.ensures),

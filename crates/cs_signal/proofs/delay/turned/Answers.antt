@@ -56,6 +56,5 @@ loop-frame-preserved c =
 pub returns-clause-run : goal.returns-clause-run
 returns-clause-run c = λ first h.
     HasRun_end delay_step (λ j. operand_at c.args.x.now j ∷ []) first (length c.args.out.now) c.loop-frame.frame
-    (in_order c.loop-frame.ring c.loop-frame.place) c.loop-frame.out
-    (c.loop-frame.invariant.3 first h)
+    (in_order c.loop-frame.ring c.loop-frame.place) c.loop-frame.out (c.loop-frame.invariant.3 first h)
     (omega (arith, c.loop-frame-test.false, c.loop-frame.invariant.2))

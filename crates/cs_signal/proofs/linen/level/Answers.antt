@@ -15,13 +15,10 @@ value-requires c = subst (Reaches c.loop-j.j) (sym c.copied-x.ensures)
 pub loop-j-preserved : goal.loop-j-preserved
 loop-j-preserved c =
     HasFilled_more (λ (j : ℕ). product_of (operand_at c.args.x.now j) one) (length c.args.out.now) c.loop-j.j
-    c.loop-j.out c.by_one.result
-    c.loop-j.invariant c.loop-j-test.true
-    (c.by_one.ensures ∙ ap (λ z. product_of z one)
+    c.loop-j.out c.by_one.result c.loop-j.invariant c.loop-j-test.true (c.by_one.ensures ∙ ap (λ z. product_of z one)
     (c.value.ensures ∙ ap (λ o. operand_at o c.loop-j.j) c.copied-x.ensures))
 
 pub returns : goal.returns
 returns c =
     HasFilled_all (λ (j : ℕ). product_of (operand_at c.args.x.now j) one) (length c.args.out.now) c.loop-j.j
-    c.loop-j.out
-    c.loop-j.invariant c.loop-j-test.false c.loop-j.auto.j-end
+    c.loop-j.out c.loop-j.invariant c.loop-j-test.false c.loop-j.auto.j-end

@@ -25,8 +25,7 @@ loop-j-preserved c =
     let long = so_far.0.long in
     let was = read c.loop-j.out j c.index-out-j.result c.index-out-j.is (omega arith) ∙ so_far.1 j (omega arith) in (
       HasFilled_more (λ (j : ℕ). product_of (operand_at c.args.x.now j) (argument c.args.out.now j))
-          (length c.args.out.now) j c.loop-j.out c.product.result
-          so_far.0 inside
+          (length c.args.out.now) j c.loop-j.out c.product.result so_far.0 inside
           (c.product.ensures ∙ ap (λ z. product_of z c.index-out-j.result)
           (c.value.ensures ∙ ap (λ o. operand_at o j) c.copied-x.ensures)
           ∙ ap (product_of (operand_at c.args.x.now j)) was),
@@ -36,5 +35,4 @@ loop-j-preserved c =
 pub returns : goal.returns
 returns c =
     HasFilled_all (λ (j : ℕ). product_of (operand_at c.args.x.now j) (argument c.args.out.now j))
-    (length c.args.out.now) c.loop-j.j c.loop-j.out
-    c.loop-j.invariant.0 c.loop-j-test.false c.loop-j.auto.j-end
+    (length c.args.out.now) c.loop-j.j c.loop-j.out c.loop-j.invariant.0 c.loop-j-test.false c.loop-j.auto.j-end

@@ -6,8 +6,7 @@ pub loop-j-init : goal.loop-j-init
 loop-j-init c =
     let bound = c.part_of-at.ensures.bounded in
     HasRamped_none c.args.from c.args.to c.args.n c.args.d (length c.args.out.now) c.part_of-at.result.whole
-    c.part_of-at.result.rest c.args.out.now refl
-    c.part_of-at.ensures.parts (omega arith)
+    c.part_of-at.result.rest c.args.out.now refl c.part_of-at.ensures.parts (omega arith)
 
 pub value_at-requires : goal.value_at-requires
 value_at-requires c = let bound = c.loop-j.invariant.bound in let inside = c.loop-j-test.true in omega arith
@@ -30,5 +29,4 @@ loop-j-preserved c =
 pub returns : goal.returns
 returns c =
     HasRamped_all c.args.from c.args.to c.args.n c.args.d (length c.args.out.now) c.loop-j.j c.loop-j.at.whole
-    c.loop-j.at.rest c.loop-j.out
-    c.loop-j.invariant c.loop-j-test.false c.loop-j.auto.j-end
+    c.loop-j.at.rest c.loop-j.out c.loop-j.invariant c.loop-j-test.false c.loop-j.auto.j-end

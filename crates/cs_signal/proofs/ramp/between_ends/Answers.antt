@@ -79,8 +79,7 @@ loop-j-preserved c =
     on_way c.args.from c.args.to now.by (c.args.n + c.loop-j.j) c.args.d now.rest step.ends.0 step.ends.1 (omega arith)
     now.parts in
     let value : c.value.result ≡ clamp (part_way c.args.from c.args.to (c.args.n + c.loop-j.j) c.args.d) =
-    c.value.ensures ∙ now.value
-    ∙ sym (ap (λ q. clamp (c.args.from +ℤ q))
+    c.value.ensures ∙ now.value ∙ sym (ap (λ q. clamp (c.args.from +ℤ q))
     (floor_is ((c.args.to -ℤ c.args.from) *ℤ pos (c.args.n + c.loop-j.j)) now.by c.args.d now.rest now.parts)
     ∙ clamp_same (c.args.from +ℤ now.by) raw) in
     HasRisen_more c.args.from c.args.to c.args.n c.args.d c.inverse_of-inverse.result (length c.args.out.now) c.loop-j.j

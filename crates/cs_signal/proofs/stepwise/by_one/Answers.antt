@@ -15,9 +15,7 @@ pub loop-j-preserved : goal.loop-j-preserved
 loop-j-preserved g c =
     HasRun_step g.S.Stepper.step (λ j. operand_at c.args.x.now j ∷ []) c.args.start
     (length c.args.out.now) c.loop-j.j c.loop-j.unit c.tick.new.self c.loop-j.out c.tick.result
-    c.loop-j.invariant c.loop-j-test.true
-    (c.tick.ensures
-    ∙ ap (λ z. g.S.Stepper.step c.loop-j.unit (z ∷ []))
+    c.loop-j.invariant c.loop-j-test.true (c.tick.ensures ∙ ap (λ z. g.S.Stepper.step c.loop-j.unit (z ∷ []))
     (c.value.ensures ∙ ap (λ o. operand_at o c.loop-j.j) c.copied-x.ensures))
 
 pub returns : goal.returns

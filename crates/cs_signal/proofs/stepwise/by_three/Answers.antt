@@ -26,11 +26,9 @@ loop-j-preserved g c =
     HasRun_step g.S.Stepper.step
     (λ j. operand_at c.args.x.now j ∷ operand_at c.args.y.now j ∷ operand_at c.args.z.now j ∷ [])
     c.args.start (length c.args.out.now) c.loop-j.j c.loop-j.unit c.tick.new.self c.loop-j.out c.tick.result
-    c.loop-j.invariant c.loop-j-test.true
-    (c.tick.ensures
+    c.loop-j.invariant c.loop-j-test.true (c.tick.ensures
     ∙ ap (λ z. g.S.Stepper.step c.loop-j.unit (z ∷ c.value-in-loop-j.result ∷ c.value-in-loop-j-2.result ∷ []))
-    (c.value.ensures ∙ ap (λ o. operand_at o c.loop-j.j) c.copied-x.ensures)
-    ∙ ap (λ z. g.S.Stepper.step c.loop-j.unit
+    (c.value.ensures ∙ ap (λ o. operand_at o c.loop-j.j) c.copied-x.ensures) ∙ ap (λ z. g.S.Stepper.step c.loop-j.unit
     (operand_at c.args.x.now c.loop-j.j ∷ z ∷ c.value-in-loop-j-2.result ∷ []))
     (c.value-in-loop-j.ensures ∙ ap (λ o. operand_at o c.loop-j.j) c.copied-y.ensures)
     ∙ ap (λ z. g.S.Stepper.step c.loop-j.unit

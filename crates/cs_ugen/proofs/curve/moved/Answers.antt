@@ -21,8 +21,7 @@ sum c =
     let raw : to_z w64 (of_z w64 c.raw.result) ≡ c.raw.result = omega (arith, ints) in
     λ i. (raw ∙ c.raw.ensures.value) i +ℤ to_z-of_z w64 c.args.part c.ranges.part i
 
-exact : (c : goal.After-raw)
-    → to_z w64 (of_z w64 (to_z w64 (of_z w64 c.raw.result) +ℤ to_z w64 (of_z w64 c.args.part)))
+exact : (c : goal.After-raw) → to_z w64 (of_z w64 (to_z w64 (of_z w64 c.raw.result) +ℤ to_z w64 (of_z w64 c.args.part)))
     ≡ c.args.here +ℤ c.args.part
 exact c = ap (λ z. to_z w64 (of_z w64 z)) (sum c) ∙ to_z-of_z w64 (c.args.here +ℤ c.args.part) (fits c)
 

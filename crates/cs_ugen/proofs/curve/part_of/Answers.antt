@@ -13,8 +13,7 @@ fits : (c : goal.Start) → FitsSigned w64 (c.args.next -ℤ c.args.here)
 fits c = fits_signed_from_abs w64 (c.args.next -ℤ c.args.here)
     (let near = short_rise c.args.here c.args.next c.requires.here c.requires.next in omega (arith, near))
 
-exact : (c : goal.Start)
-    → to_z w64 (of_z w64 (to_z w64 (of_z w64 c.args.next) -ℤ to_z w64 (of_z w64 c.args.here)))
+exact : (c : goal.Start) → to_z w64 (of_z w64 (to_z w64 (of_z w64 c.args.next) -ℤ to_z w64 (of_z w64 c.args.here)))
     ≡ c.args.next -ℤ c.args.here
 exact c = ap (λ z. to_z w64 (of_z w64 z)) (rise c) ∙ to_z-of_z w64 (c.args.next -ℤ c.args.here) (fits c)
 
@@ -30,6 +29,5 @@ pub returns : goal.returns
 returns c =
     let result : to_z w64 (of_z w64 c.floored.result) ≡ c.floored.result = omega (arith, ints) in
     let scaled : to_z w64 (of_z w64 c.scaled.result) ≡ c.scaled.result = omega (arith, ints) in
-    result ∙ c.floored.ensures
-    ∙ ap (λ z. floor_div z (pos 65536))
+    result ∙ c.floored.ensures ∙ ap (λ z. floor_div z (pos 65536))
     (scaled ∙ c.scaled.ensures.value ∙ ap (λ z. z *ℤ pos c.args.fraction) (exact c.before.before))

@@ -11,7 +11,6 @@ returns c =
     let points = c.args.points.items in
     let odd = c.if-len-eq1.false in
     let even : length points % 2 ≡ 0 = omega (arith, c.len.ensures, odd) in
-    c.push_reserved.ensures.items
-    ∙ ap (λ l. l ++ c.argument-guard.result ∷ []) c.in_ok-reserve_exact.ensures.items
+    c.push_reserved.ensures.items ∙ ap (λ l. l ++ c.argument-guard.result ∷ []) c.in_ok-reserve_exact.ensures.items
     ∙ ap (λ z. points ++ z ∷ []) (c.argument-guard.ensures ∙ ap (λ l. argument l 0) c.deref.ensures.value)
     ∙ sym (guard_behind points even)

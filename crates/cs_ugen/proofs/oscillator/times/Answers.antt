@@ -3,8 +3,7 @@ use Rattle.std.proofs.lemmas.Int.{ints, to_z-of_z}
 use Rattle.cs_signal.proofs.Products.{IsProduct, product}
 use Rattle.cs_ugen.proofs.oscillator.times.Goals as goal
 
-exact : (c : goal.Start)
-    → IsProduct w64 (to_z w64 (of_z w64 c.args.x)) (to_z w64 (of_z w64 c.args.y)) c.args.x c.args.y
+exact : (c : goal.Start) → IsProduct w64 (to_z w64 (of_z w64 c.args.x)) (to_z w64 (of_z w64 c.args.y)) c.args.x c.args.y
     (2147483648 * 2147483648)
 exact c =
     let x = c.requires.x in

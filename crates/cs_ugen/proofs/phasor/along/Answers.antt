@@ -32,5 +32,4 @@ pub returns : goal.returns
 returns c =
     let so_far = c.loop-j.invariant in
     held_end phasor_step _ c.args.unit.now c.set.new.self (length c.args.out.now) c.loop-j.j c.loop-j.phase c.loop-j.out
-    so_far.0 c.loop-j-test.false
-    (c.set.ensures ∙ ap (λ p. at_phase p c.loop-j.phase) c.unit.view_is)
+    so_far.0 c.loop-j-test.false (c.set.ensures ∙ ap (λ p. at_phase p c.loop-j.phase) c.unit.view_is)

@@ -28,6 +28,15 @@ loop-i-preserved c =
       raw = raw_more c.args.part.now i c.raw.result is raw c.loop-i.invariant.raw;
     }
 
+pub overflow_add-mix : goal.overflow_add-mix
+overflow_add-mix c =
+    let i : ℕ = c.loop-i.i in
+    let first : get_or c.loop-i.mix i (pos 0) ≡ get_or c.args.mix.now i (pos 0) =
+    ap (λ (l : List ℤ). get_or l i (pos 0)) c.loop-i.invariant.sums
+    ∙ get_or-part_added c.args.mix.now c.args.part.now i c.requires.same in
+    let room : TakesMore (get_or c.args.mix.now i (pos 0)) = c.requires.room i in
+    let raw = c.raw.ensures.in_range in omega (arith, ints, first, room.0, room.1, raw.0, raw.1)
+
 pub returns-clause-sums : goal.returns-clause-sums
 returns-clause-sums c = c.loop-i.invariant.sums
     ∙ part_added_all c.args.mix.now c.args.part.now c.loop-i.i c.requires.same (omega arith)

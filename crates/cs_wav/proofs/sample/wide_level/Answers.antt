@@ -19,6 +19,15 @@ quotient c =
     rw (value, full, dbfs, to_z-of_z w128 (c.args.value *ℤ c.args.full) fits) at c.div_euclid.ensures in
     (exact, subst (λ z. unsigned_abs z < 2 ^ 62) (sym exact) c.requires.bounded)
 
+pub overflow_mul-from : goal.overflow_mul-from
+overflow_mul-from c =
+    let value = to_z w128 (of_z w128 c.from.result) in
+    let full = to_z w128 (of_z w128 c.from-2.result) in
+    fits_signed_mul w128 value full (2 ^ 63) (2 ^ 63) (omega (arith, ints)) (omega (arith, ints)) (omega arith)
+
+pub div_euclid-requires : goal.div_euclid-requires
+div_euclid-requires c = record { nonzero = omega (arith, ints); no_overflow = λ e _. omega (arith, ints, e) }
+
 pub overflow_cast-result : goal.overflow_cast-result
 overflow_cast-result c = let small = (quotient c).1 in omega (arith, ints, small)
 

@@ -12,7 +12,6 @@ is_quotient-requires-clause-guess c =
     subst (λ z. unsigned_abs z ≤ 2 ^ 61 + 2 ^ 49)
     (sym (λ i. to_z-of_z w64 c.upper-guess.result guess i *ℤ to_z-of_z w64 c.args.self.value value i))
     (guess_small c.args.n c.args.self.inverse c.args.self.value c.upper-guess.result c.requires c.args.self.high
-    c.args.self.near
-    (c.upper-guess.ensures
+    c.args.self.near (c.upper-guess.ensures
     ∙ (λ i. floor_div (to_z-of_z w64 c.args.n c.ranges.n i *ℤ to_z-of_z w64 c.args.self.inverse inverse i)
     (pos 18446744073709551616))))

@@ -27,5 +27,4 @@ returns c =
     (take c.loop-z.z-index c.args.kept.now) in
     shows_as _ _ (before ++ codes "\n") _
     (values_end (codes "mirror ") (decimal c.args.count) (codes "\n") c.args.kept.now c.loop-z.z-index
-    c.loop-z-test.false)
-    (c.add_piece.ensures before c.loop-z.invariant)
+    c.loop-z-test.false) (c.add_piece.ensures before c.loop-z.invariant)

@@ -14,13 +14,11 @@ loop-j-preserved c =
     let same = c.near_steps-near.ensures.run.long in
     let here = read c.args.x.now c.loop-j.j c.index-x-j.result c.index-x-j.is (omega arith) in
     HasRun_step biquad_step at c.args.self.now (length c.args.out.now) c.loop-j.j c.loop-j.self c.step.new.self
-    c.loop-j.out c.step.result
-    c.loop-j.invariant (omega arith)
+    c.loop-j.out c.step.result c.loop-j.invariant (omega arith)
     (c.step.ensures ∙ ap (λ z. biquad_step c.loop-j.self (inputs_by z by)) here)
 
 pub returns : goal.returns
 returns c =
     let same = c.near_steps-near.ensures.run.long in
     HasRun_end biquad_step (λ j. inputs_by (argument c.args.x.now j) c.args.by.now) c.args.self.now
-    (length c.args.out.now) c.loop-j.j c.loop-j.self c.loop-j.out
-    c.loop-j.invariant (omega arith)
+    (length c.args.out.now) c.loop-j.j c.loop-j.self c.loop-j.out c.loop-j.invariant (omega arith)

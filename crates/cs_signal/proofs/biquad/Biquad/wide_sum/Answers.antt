@@ -17,8 +17,7 @@ pub less-requires-clause-x : goal.less-requires-clause-x
 less-requires-clause-x c =
     within w128 c.plus.result (2 ^ 95 + 2 ^ 94) (2 ^ 96)
     (both_within w128 c.plus.result c.products.result c.product.result (2 ^ 95) (2 ^ 94) c.plus.ensures.bounded
-    c.products.ensures.bounded c.product.ensures.bounded (search rules) (search rules))
-    (search rules) (search rules)
+    c.products.ensures.bounded c.product.ensures.bounded (search rules) (search rules)) (search rules) (search rules)
 
 pub less-requires-clause-y : goal.less-requires-clause-y
 less-requires-clause-y c =
@@ -36,15 +35,12 @@ returns-clause-value c =
     let third = same w128 c.product.result (2 ^ 94) c.product.ensures.bounded (search rules) in
     let three = same w128 c.plus.result (2 ^ 95 + 2 ^ 94) (plus_within c) (search rules) in
     let less = same w128 c.products-2.result (2 ^ 95) c.products-2.ensures.bounded (search rules) in
-    result ∙ c.less.ensures.value
-    ∙ (λ i. (three ∙ c.plus.ensures.value
+    result ∙ c.less.ensures.value ∙ (λ i. (three ∙ c.plus.ensures.value
     ∙ (λ i. (two ∙ c.products.ensures.value) i +ℤ (third ∙ c.product.ensures.value) i)) i
-    -ℤ (less ∙ c.products-2.ensures.value) i)
-    ∙ ap (λ s. sum_of c.args.by.now s c.args.x) c.self.view_is
+    -ℤ (less ∙ c.products-2.ensures.value) i) ∙ ap (λ s. sum_of c.args.by.now s c.args.x) c.self.view_is
 
 pub returns-clause-bounded : goal.returns-clause-bounded
 returns-clause-bounded c =
     within w128 c.less.result ((2 ^ 95 + 2 ^ 94) + 2 ^ 95) (2 ^ 97)
     (both_within w128 c.less.result c.plus.result c.products-2.result (2 ^ 95 + 2 ^ 94) (2 ^ 95) c.less.ensures.bounded
-    (plus_within c) c.products-2.ensures.bounded (search rules) (search rules))
-    (search rules) (search rules)
+    (plus_within c) c.products-2.ensures.bounded (search rules) (search rules)) (search rules) (search rules)

@@ -7,8 +7,7 @@ use Rattle.cs_signal.proofs.biquad.BiquadGenerator.render.Goals as goal
 pub returns-in-Row-Held-Held-Held-Held-Held-Held : goal.returns-in-Row-Held-Held-Held-Held-Held-Held
 returns-in-Row-Held-Held-Held-Held-Held-Held c =
     let here = c.in-Row-Held-Held-Held-Held-Held-Held in
-    c.held.ensures
-    ∙ ap (λ at. run biquad_step at c.args.self.now 0 (length c.args.out.now))
+    c.held.ensures ∙ ap (λ at. run biquad_step at c.args.self.now 0 (length c.args.out.now))
     (sym (ap inputs_at (seven c.args.inputs.now
     (Row here.row) (Held here.b0) (Held here.b1) (Held here.b2) (Held here.a0) (Held here.a1) (Held here.a2)
     c.x-item.result c.b0-item.result c.b1-item.result c.b2-item.result c.a0-item.result c.a1-item.result

@@ -12,5 +12,4 @@ returns-then-count-self c =
     ap (λ o. (record { from = s.from; to = s.to; way = s.way; number = s.number + length c.args.out.now }, o))
     c.ramp.ensures
     ∙ sym (line_ramp at (record { from = s.from; to = s.to; way = s.way; number = s.number }) 0
-    (length c.args.out.now) (omega arith))
-    ∙ ap (λ t. run line_step at t 0 (length c.args.out.now)) c.self.view_is
+    (length c.args.out.now) (omega arith)) ∙ ap (λ t. run line_step at t 0 (length c.args.out.now)) c.self.view_is

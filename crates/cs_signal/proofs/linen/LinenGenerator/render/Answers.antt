@@ -14,8 +14,7 @@ returns-in-len1 c =
     let n : ℕ = length c.args.out.now in
     let x = c.x-item.result in
     let t : LinenState = record { rise = s.rise; duration = s.duration; decay = s.decay; number = s.number } in
-    ap (λ o. (linen_at_step t (s.number + n), o)) c.level.ensures
-    ∙ sym (linen_level (λ (j : ℕ). operand_at x j) t 0 n
+    ap (λ o. (linen_at_step t (s.number + n), o)) c.level.ensures ∙ sym (linen_level (λ (j : ℕ). operand_at x j) t 0 n
     (subst (λ u. IsLevel u n) (sym c.self.view_is) (c.is_level.ensures c.if-is_level.true)))
     ∙ ap (λ u. run linen_step (λ j. operand_at x j ∷ []) u 0 n) c.self.view_is
     ∙ ap (λ xs. run linen_step (inputs_at xs) c.args.self.now 0 n)

@@ -19,8 +19,7 @@ returns-then-piece-len c =
     read s.values.items k c.index.result.now c.index.ensures (omega arith) in
     let next : c.index-then-piece-len.result.now ≡ argument s.values.items (k + 1) =
     read s.values.items (k + 1) c.index-then-piece-len.result.now c.index-then-piece-len.ensures (omega arith) in
-    c.part_way.ensures
-    ∙ on_piece s.values.items s.lengths.items s.number k s.place.begin d c.index.result.now
+    c.part_way.ensures ∙ on_piece s.values.items s.lengths.items s.number k s.place.begin d c.index.result.now
     c.index-then-piece-len.result.now c.self.invariant.2 in_it ed here next
     ∙ ap (λ v. clamp (on_pieces v.values v.lengths v.number)) c.self.view_is
 
@@ -34,7 +33,6 @@ returns-else-piece-len c =
     let z = c.index-else-piece-len.result.now in
     let value : z ≡ argument s.values.items k = read s.values.items k z c.index-else-piece-len.ensures (omega arith) in
     let same : c.of_raw.result ≡ clamp c.raw.result = search rules in
-    same ∙ ap clamp c.raw.ensures.value
-    ∙ last_value s.values.items s.lengths.items s.number k s.place.begin z place
+    same ∙ ap clamp c.raw.ensures.value ∙ last_value s.values.items s.lengths.items s.number k s.place.begin z place
     (omega (arith, c.len.ensures, c.if-piece-len.false)) value
     ∙ ap (λ v. clamp (on_pieces v.values v.lengths v.number)) c.self.view_is

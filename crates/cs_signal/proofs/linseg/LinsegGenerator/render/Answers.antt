@@ -20,8 +20,7 @@ returns-then-piece-len c =
     let far = c.if-count-self.false in
     let low : s.number + n ≤ last_number = omega arith in
     let known : c.value.result ≡ clamp z =
-    c.value.ensures
-    ∙ ap (λ v. clamp (on_pieces v.values v.lengths v.number)) (sym c.self.view_is)
+    c.value.ensures ∙ ap (λ v. clamp (on_pieces v.values v.lengths v.number)) (sym c.self.view_is)
     ∙ sym (last_value s.values.items s.lengths.items s.number k s.place.begin z place end refl) in
     ap (λ o. (record { values = s.values.items; lengths = s.lengths.items; number = s.number + n }, o))
     (c.fill.ensures.after (λ y h. h) ∙ ap (replicate n) known)
@@ -57,7 +56,6 @@ returns-then-count-index c =
     read s.values.items k x c.index-then-count-index.ensures (omega arith) in
     let next : y ≡ argument s.values.items (k + 1) =
     read s.values.items (k + 1) y c.index-then-count-index-2.ensures (omega arith) in
-    ap (λ o. (record { values = s.values.items; lengths = s.lengths.items; number = s.number + n }, o))
-    c.ramp.ensures
+    ap (λ o. (record { values = s.values.items; lengths = s.lengths.items; number = s.number + n }, o)) c.ramp.ensures
     ∙ sym (linseg_ramp at t 0 n k s.place.begin d x y place in_it ed room here next low)
     ∙ ap (λ v. run linseg_step at v 0 n) c.self.view_is

@@ -9,8 +9,7 @@ pub loop-j-init : goal.loop-j-init
 loop-j-init g c = (
   HasRun_none (index_step g.R.Reading.on_index)
       (λ (j : ℕ). operand_at c.args.ndx.now j ∷ g.C.Curve.points c.args.curve.now) c.args.self.now
-      (length c.args.out.now)
-      c.args.out.now refl,
+      (length c.args.out.now) c.args.out.now refl,
   refl,
   g.met.C.Curve.stays c.args.curve.now,
 )

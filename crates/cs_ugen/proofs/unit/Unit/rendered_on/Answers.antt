@@ -19,16 +19,14 @@ returns-after-self-clause-value g c =
           wrapped unit.Table w.block_on.new.self c.match-self.self-inside.kind c.match-self.out
           w.block_on.new.out _ (ap (λ i. i.kind) w.self-inside-is) w.out-is
           (w.block_on.ensures.value ∙ by_one (index_step point_of) c.args.inputs.now c.ndx-item.result
-          c.ndx-item.result points w.in-Table.unit n count c.ndx-item.is)
-          ∙ ap (λ u. state_run u at n) (sym here)
+          c.ndx-item.result points w.in-Table.unit n count c.ndx-item.is) ∙ ap (λ u. state_run u at n) (sym here)
       | in-Tablei w ↦
           let here : c.args.self.now ≡ unit.Tablei w.in-Tablei.unit = sym c.self.view_is ∙ w.in-Tablei.is in
           let count = c.requires.count ∙ ap (λ u. moving_count (opcode_of u)) here in
           wrapped unit.Tablei w.block_on-in-Tablei.new.self c.match-self.self-inside.kind c.match-self.out
           w.block_on-in-Tablei.new.out _ (ap (λ i. i.kind) w.self-inside-is) w.out-is
           (w.block_on-in-Tablei.ensures.value ∙ by_one (index_step line_of) c.args.inputs.now c.ndx-item.result
-          c.ndx-item.result points w.in-Tablei.unit n count c.ndx-item.is)
-          ∙ ap (λ u. state_run u at n) (sym here)
+          c.ndx-item.result points w.in-Tablei.unit n count c.ndx-item.is) ∙ ap (λ u. state_run u at n) (sym here)
     ]
 
 pub returns-after-self-2-clause-value : goal.returns-after-self-2-clause-value
@@ -44,8 +42,7 @@ returns-after-self-2-clause-value g c =
           w.block_on-in-Oscil.new.out _ (ap (λ i. i.kind) w.self-inside-is) w.out-is
           (w.block_on-in-Oscil.ensures.value ∙ by_two (wave_step point_at) c.args.inputs.now c.amp-item.result
           c.cps-item.result c.amp-item.result c.cps-item.result points w.in-Oscil.unit n count
-          c.amp-item.is c.cps-item.is)
-          ∙ ap (λ u. state_run u at n) (sym here)
+          c.amp-item.is c.cps-item.is) ∙ ap (λ u. state_run u at n) (sym here)
       | in-Oscili w ↦
           let here : c.args.self.now ≡ unit.Oscili w.in-Oscili.unit = sym c.self.view_is ∙ w.in-Oscili.is in
           let count = c.requires.count ∙ ap (λ u. moving_count (opcode_of u)) here in
@@ -53,6 +50,5 @@ returns-after-self-2-clause-value g c =
           w.block_on-in-Oscili.new.out _ (ap (λ i. i.kind) w.self-inside-is) w.out-is
           (w.block_on-in-Oscili.ensures.value ∙ by_two (wave_step line_at) c.args.inputs.now c.amp-item.result
           c.cps-item.result c.amp-item.result c.cps-item.result points w.in-Oscili.unit n count
-          c.amp-item.is c.cps-item.is)
-          ∙ ap (λ u. state_run u at n) (sym here)
+          c.amp-item.is c.cps-item.is) ∙ ap (λ u. state_run u at n) (sym here)
     ]
