@@ -7,12 +7,13 @@ use Rattle.cs_base.specs.declared.fault.OrcFault.{OrcFault}
 use Rattle.cs_words.specs.declared.catalogue.Opcode.{Opcode}
 use Rattle.cs_words.specs.{declared.word.Word.Word, Catalogue.row_of, Words.word_of, NameSets.has}
 use Rattle.cs_words.proofs.{Fields.name_begins, Fields.field_numbers, Apart.opcode_read}
-use Rattle.cs_grammar.specs.{declared.symbol.Kind.Kind, declared.symbol.Expected.Expected, declared.scope.Place.Place}
-use Rattle.cs_grammar.specs.{declared.expr.Level.Level, declared.tree.Callee.Callee, declared.lists.Role.Role}
-use Rattle.cs_grammar.specs.{Symbols.Symbol, Kinds.is_word, Kinds.is_name_kind, Kinds.may_be_opcode, WellFormed.MayCall}
+use Rattle.cs_grammar.specs.{declared.scope.Place.Place, declared.expr.Level.Level, declared.tree.Callee.Callee}
+use Rattle.cs_grammar.specs.{declared.lists.Role.Role}
+use Rattle.cs_grammar.specs.WellFormed.{MayCall, HasNoStop, IsCall, IsVariable, WellFormedExpr, WellFormedArg}
+use Rattle.cs_grammar.specs.WellFormed.{WellFormedValue}
 use Rattle.cs_grammar.specs.Tree.{Expression, var, neg, pair, pick, apply, Argument, value}
-use Rattle.cs_grammar.specs.Reading.{next, after, Left, Reading, left, mapped, both, three, skip, next_is, Scope, fault}
-use Rattle.cs_grammar.specs.Reading.{misfit, through, ended, line_end}
+use Rattle.cs_grammar.specs.Reading.{Left, Reading, left, mapped, both, three, skip, next_is, Scope, fault, misfit}
+use Rattle.cs_grammar.specs.Reading.{through, ended, line_end}
 use Rattle.cs_grammar.specs.Parts.{is_variable, single, single_or, no_part, one_symbol, atom}
 use Rattle.cs_grammar.specs.Lines.{no_target, target, ReadsRow, no_item, last_item, more_items, one_target, is_own}
 use Rattle.cs_grammar.specs.Lines.{is_outside, is_other_text, by_opcode, called, operation_of, operation}
@@ -20,12 +21,14 @@ use Rattle.cs_grammar.specs.Grammar.{ReadsExpr, binary, expr_stop, fact_neg, fac
 use Rattle.cs_grammar.specs.Grammar.{fact_alone, ReadsTail, no_more, one_more, one_alone, ReadsArg, arg_text}
 use Rattle.cs_grammar.specs.Grammar.{text_result, arg_value, ReadsList, list_stop, list_last, list_more, ReadsArgs}
 use Rattle.cs_grammar.specs.Grammar.{args_stop, args_none, args_some}
-use Rattle.cs_grammar.specs.WellFormed.{HasNoStop, IsCall, IsVariable, WellFormedExpr, WellFormedArg, WellFormedValue}
+use Rattle.cs_symbols.specs.{declared.symbol.Kind.Kind, declared.symbol.Expected.Expected}
+use Rattle.cs_symbols.specs.Symbols.{Symbol, next, after}
+use Rattle.cs_symbols.specs.Kinds.{is_word, is_name_kind, may_be_opcode}
 use Rattle.cs_base.specs.declared.fault.OrcKind.TheVariants as orc
 use Rattle.cs_words.specs.declared.catalogue.Opcode.TheVariants as opcode
 use Rattle.cs_words.specs.declared.word.Word.TheVariants as word
-use Rattle.cs_grammar.specs.declared.symbol.Kind.TheVariants as kind
-use Rattle.cs_grammar.specs.declared.symbol.Expected.TheVariants as expected
+use Rattle.cs_symbols.specs.declared.symbol.Kind.TheVariants as kind
+use Rattle.cs_symbols.specs.declared.symbol.Expected.TheVariants as expected
 use Rattle.cs_grammar.specs.declared.scope.Place.TheVariants as place
 use Rattle.cs_grammar.specs.declared.tree.Callee.TheVariants as callee
 use Rattle.cs_grammar.specs.declared.lists.Role.TheVariants as role

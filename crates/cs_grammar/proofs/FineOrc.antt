@@ -9,13 +9,12 @@ use Rattle.cs_base.specs.declared.resource.Rate.{Rate}
 use Rattle.cs_lex.specs.{declared.token.Mark.Mark, declared.token.Token.Token}
 use Rattle.cs_words.specs.{declared.word.Word.Word, NameSets.has, Words.word_of, declared.word.HeadName.HeadName}
 use Rattle.cs_words.specs.Names.{is_global, name_rate, letter_rate}
-use Rattle.cs_grammar.specs.{declared.symbol.Kind.Kind, declared.tree.HeadLine.HeadLine, Kinds.is_word}
-use Rattle.cs_grammar.specs.{Kinds.may_be_opcode, Parts.is_variable, Lines.header_of, Lines.header_line, Headings.types}
-use Rattle.cs_grammar.specs.Symbols.{Symbol, symbols_from, kind_after, kind_of_mark, unquoted, counted, bytes_of}
+use Rattle.cs_grammar.specs.{declared.tree.HeadLine.HeadLine, Parts.is_variable, Lines.header_of, Lines.header_line}
+use Rattle.cs_grammar.specs.Headings.{types, Heading, heading_of, heading, new_name, no_name_kind, is_number_zero}
+use Rattle.cs_grammar.specs.Headings.{is_letters}
 use Rattle.cs_grammar.specs.Tree.{Argument, Statement, Block, Instrument, Definition, Orchestra}
-use Rattle.cs_grammar.specs.Reading.{next, after, Left, Reading, left, both, three, Scope, outside, in_instrument}
-use Rattle.cs_grammar.specs.Reading.{in_definition, has_number, fault, misfit, through, ended}
-use Rattle.cs_grammar.specs.Headings.{Heading, heading_of, heading, new_name, no_name_kind, is_number_zero, is_letters}
+use Rattle.cs_grammar.specs.Reading.{Left, Reading, left, both, three, Scope, outside, in_instrument, in_definition}
+use Rattle.cs_grammar.specs.Reading.{has_number, fault, misfit, through, ended}
 use Rattle.cs_grammar.specs.Inputs.{XinLine, one_word, more_words, is_local, texts, AreDifferent, ReadsInputs, named}
 use Rattle.cs_grammar.specs.Inputs.{misnamed, xin_alone, no_inputs, xin_missing}
 use Rattle.cs_grammar.specs.Orchestra.{instrument_of, ReadsInstr, instr, ReadsXout, xout, ReadsResult, result_stop}
@@ -25,14 +24,17 @@ use Rattle.cs_grammar.specs.Orchestra.{with_instr, with_definition, with_stmt, d
 use Rattle.cs_grammar.specs.Orchestra.{orc_end, orc_header, orc_instr, orc_udo, orc_stmt}
 use Rattle.cs_grammar.specs.WellFormed.{HasNoStop, IsVariable, line_of, WellFormedStmt, WellFormedBlock}
 use Rattle.cs_grammar.specs.WellFormed.{WellFormedValue, WellFormedInstrument, WellFormedDefinition, all_numbers}
+use Rattle.cs_symbols.specs.{declared.symbol.Kind.Kind, Kinds.is_word, Kinds.may_be_opcode}
+use Rattle.cs_symbols.specs.Symbols.{Symbol, symbols_from, kind_after, kind_of_mark, unquoted, counted, bytes_of, next}
+use Rattle.cs_symbols.specs.Symbols.{after}
 use Rattle.cs_grammar.proofs.OneXin.{has_snoc, differs}
 use Rattle.cs_grammar.proofs.Fine.{IsWord, Fine, Kept, kept, may_be_stopless, variable_named, fine_both, fine_three}
 use Rattle.cs_grammar.proofs.Fine.{fine_through, fine_ended, fine_line, weakened, fine_list}
 use Rattle.cs_grammar.proofs.FineStmt.{fine_stmt, fine_block, NumbersFrom, fine_numbers, has_append}
 use Rattle.cs_base.specs.declared.fault.OrcKind.TheVariants as orc
 use Rattle.cs_lex.specs.declared.token.Mark.TheVariants as mark
-use Rattle.cs_grammar.specs.declared.symbol.Kind.TheVariants as kind
-use Rattle.cs_grammar.specs.declared.symbol.Expected.TheVariants as expected
+use Rattle.cs_symbols.specs.declared.symbol.Kind.TheVariants as kind
+use Rattle.cs_symbols.specs.declared.symbol.Expected.TheVariants as expected
 use Rattle.cs_grammar.specs.declared.scope.Place.TheVariants as place
 
 -- ---- the symbols of tokens are what their bytes say

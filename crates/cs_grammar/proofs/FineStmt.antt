@@ -7,17 +7,20 @@ use Rattle.std.proofs.lemmas.Bool.{and_parts, or_parts, ltb-true, leb-true}
 use Rattle.std.proofs.lemmas.{Bool.Decides.Decides-eqb, List.Kept.AllPairs-cons}
 use Rattle.std.proofs.lemmas.List.Elements.{All-nil, All-cons, All-weaker}
 use Rattle.cs_base.specs.declared.fault.OrcFault.{OrcFault}
-use Rattle.cs_grammar.specs.{declared.symbol.Kind.Kind, declared.scope.Place.Place, declared.stmt.LineForm.LineForm}
-use Rattle.cs_grammar.specs.{Symbols.Symbol, Reading.fault, Reading.through, Reading.ended, Parts.is_opcode}
-use Rattle.cs_grammar.specs.{Inputs.AreDifferent, WellFormed.WellFormedBlock, WellFormed.WellFormedArms}
+use Rattle.cs_grammar.specs.{declared.scope.Place.Place, declared.stmt.LineForm.LineForm, Parts.is_opcode}
+use Rattle.cs_grammar.specs.{Inputs.AreDifferent}
+use Rattle.cs_grammar.specs.Reading.{fault, through, ended, Left, Reading, left, mapped, both, three, Scope, deeper}
+use Rattle.cs_grammar.specs.Reading.{has_number}
+use Rattle.cs_grammar.specs.WellFormed.{WellFormedBlock, WellFormedArms, line_of, IsVariable, WellFormedExpr}
+use Rattle.cs_grammar.specs.WellFormed.{WellFormedArg, IsCall, WellFormedStmt}
 use Rattle.cs_grammar.specs.Tree.{Expression, Statement, call, choose, Block, no_stmt, andthen, Arms, otherwise, arm}
-use Rattle.cs_grammar.specs.Reading.{next, after, Left, Reading, left, mapped, both, three, Scope, deeper, has_number}
 use Rattle.cs_grammar.specs.Lines.{word_form, line_form_of, line_form, target, operation, instrument_number, fresh}
 use Rattle.cs_grammar.specs.Lines.{number_at, ReadsNumbers, no_item, last_item, more_items}
 use Rattle.cs_grammar.specs.Grammar.{assign, ReadsStmt, stmt_assign, stmt_results, stmt_bare, stmt_if, stmt_beyond}
 use Rattle.cs_grammar.specs.Grammar.{stmt_misplaced, ReadsBlock, block_stop, block_end, block_more, ReadsArms, arm_more}
 use Rattle.cs_grammar.specs.Grammar.{ReadsMore, more_stop, more_elseif, more_else, more_endif}
-use Rattle.cs_grammar.specs.WellFormed.{line_of, IsVariable, WellFormedExpr, WellFormedArg, IsCall, WellFormedStmt}
+use Rattle.cs_symbols.specs.declared.symbol.Kind.{Kind}
+use Rattle.cs_symbols.specs.Symbols.{Symbol, next, after}
 use Rattle.cs_grammar.proofs.Fine.{IsWord, Fine, Kept, kept, kept_skip, fine_mapped, fine_both, fine_three}
 use Rattle.cs_grammar.proofs.Fine.{fine_through, fine_ended, fine_line, weakened, fine_expr, fine_args, fine_target}
 use Rattle.cs_grammar.proofs.Fine.{fine_targets, fine_operation}
@@ -25,8 +28,8 @@ use Rattle.cs_base.specs.declared.fault.OrcKind.TheVariants as orc
 use Rattle.cs_words.specs.declared.word.Keyword.TheVariants as key
 use Rattle.cs_words.specs.declared.word.Word.TheVariants as word
 use Rattle.cs_words.specs.declared.sign.Sign.TheVariants as sign
-use Rattle.cs_grammar.specs.declared.symbol.Kind.TheVariants as kind
-use Rattle.cs_grammar.specs.declared.symbol.Expected.TheVariants as expected
+use Rattle.cs_symbols.specs.declared.symbol.Kind.TheVariants as kind
+use Rattle.cs_symbols.specs.declared.symbol.Expected.TheVariants as expected
 use Rattle.cs_grammar.specs.declared.stmt.LineForm.TheVariants as form
 
 -- ---- an `if` stands inside at most 99 others

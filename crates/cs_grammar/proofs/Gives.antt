@@ -2,13 +2,14 @@
 use Rattle.std.proofs.Common.{◌≡◌, ◌∙◌, Bool, true, false, List, Result, Ok, Err, if◌then◌else◌, refl, sym, ap, subst}
 use Rattle.std.specs.Result.{IsErrAnd, IfOk, IfErr}
 use Rattle.cs_base.specs.{declared.fault.Or.Or, declared.fault.OrcFault.OrcFault}
-use Rattle.cs_grammar.specs.{declared.symbol.Kind.Kind, Reading.next_is, Reading.through, Symbols.Symbol}
-use Rattle.cs_grammar.specs.declared.symbol.Expected.{Expected}
-use Rattle.cs_grammar.specs.Reading.{Left, Reading, Scope, after, both, ended, left, line_end, mapped, misfit, next}
+use Rattle.cs_grammar.specs.Reading.{next_is, through, Left, Reading, Scope, both, ended, left, line_end, mapped}
+use Rattle.cs_grammar.specs.Reading.{misfit}
 use Rattle.cs_grammar.specs.inner.Answers.{Gives, Passes, line_past, past}
+use Rattle.cs_symbols.specs.{declared.symbol.Kind.Kind, declared.symbol.Expected.Expected}
+use Rattle.cs_symbols.specs.Symbols.{Symbol, after, next}
 use Rattle.cs_base.specs.declared.fault.Or.TheVariants as or
 use Rattle.cs_base.specs.declared.fault.OrcKind.TheVariants as orc
-use Rattle.cs_grammar.specs.declared.symbol.Kind.TheVariants as kind
+use Rattle.cs_symbols.specs.declared.symbol.Kind.TheVariants as kind
 
 abbrev pub Same : Or OrcFault → Or OrcFault → Type 0
 Same e y = y ≡ e

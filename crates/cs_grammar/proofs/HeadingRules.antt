@@ -3,14 +3,15 @@ use Rattle.std.proofs.Common.{◌≡◌, ◌≢◌, ◌∙◌, ◌≤◌, ◌-�
 use Rattle.std.proofs.Common.{Err, if◌then◌else◌, refl, arith, ap, sym}
 use Rattle.cs_base.specs.{declared.fault.OrcFault.OrcFault, declared.resource.Rate.Rate}
 use Rattle.cs_grammar.proofs.Gives.{left_through, ended_is, ended_mapped, valued}
+use Rattle.cs_grammar.specs.{Orchestra.behind_xout, Tree.Argument}
 use Rattle.cs_grammar.specs.Headings.{Heading, heading, heading_of, new_name, types}
-use Rattle.cs_grammar.specs.{Orchestra.behind_xout, Reading.through, Symbols.Symbol, Tree.Argument}
-use Rattle.cs_grammar.specs.Reading.{Left, Reading, Scope, after, both, ended, left, mapped, next, next_is, three}
+use Rattle.cs_grammar.specs.Reading.{through, Left, Reading, Scope, both, ended, left, mapped, next_is, three}
 use Rattle.cs_grammar.specs.inner.Answers.{last_left, line_past, past, signature}
 use Rattle.cs_grammar.specs.inner.Takes.{after_first, are_inputs, are_results, at_xin, first_fits, is_input, is_none}
 use Rattle.cs_grammar.specs.inner.Takes.{last_line, results_of, words}
+use Rattle.cs_symbols.specs.Symbols.{Symbol, after, next}
 use Rattle.cs_base.specs.declared.fault.OrcKind.TheVariants as orc
-use Rattle.cs_grammar.specs.declared.symbol.Expected.TheVariants as expected
+use Rattle.cs_symbols.specs.declared.symbol.Expected.TheVariants as expected
 
 -- ---- the line of `opcode`
 

@@ -4,21 +4,23 @@ use Rattle.std.proofs.Common.{◌≡◌, ◌<◌, ◌≤◌, ◌+◌, ◌*◌, �
 use Rattle.std.proofs.Common.{length, Option, Some, None, Ok, Err, refl, arith, sym, ap, subst}
 use Rattle.cs_base.specs.declared.fault.OrcFault.{OrcFault}
 use Rattle.cs_words.specs.declared.sign.BinOp.{BinOp}
-use Rattle.cs_grammar.specs.{declared.expr.Level.Level, declared.symbol.Kind.Kind, declared.expr.PartForm.PartForm}
-use Rattle.cs_grammar.specs.{Kinds.is_word, Parts.tighter, Reading.through, Symbols.Symbol}
-use Rattle.cs_grammar.proofs.Sizes.{size, after_size, skip_size, mapped_size, both_size, three_size, choice_size}
-use Rattle.cs_grammar.proofs.Sizes.{through_size}
+use Rattle.cs_grammar.specs.{declared.expr.Level.Level, declared.expr.PartForm.PartForm}
+use Rattle.cs_grammar.specs.Parts.{tighter, atom, no_part, operator, operator_of, part_form, rank, repeats, single}
+use Rattle.cs_grammar.specs.Parts.{single_or}
+use Rattle.cs_grammar.specs.Reading.{through, Left, Reading, Scope, both, left, mapped, meets, next_is, skip, three}
 use Rattle.cs_grammar.specs.Grammar.{ReadsExpr, ReadsTail, binary, expr_stop, fact_alone, fact_call, fact_group}
 use Rattle.cs_grammar.specs.Grammar.{fact_neg, fact_pick, no_more, one_alone, one_more}
-use Rattle.cs_grammar.specs.Parts.{atom, no_part, operator, operator_of, part_form, rank, repeats, single, single_or}
-use Rattle.cs_grammar.specs.Reading.{Left, Reading, Scope, after, both, left, mapped, meets, next, next_is, skip, three}
 use Rattle.cs_grammar.specs.Tree.{Expression, apply, neg, pair, pick}
+use Rattle.cs_symbols.specs.{declared.symbol.Kind.Kind, Kinds.is_word}
+use Rattle.cs_symbols.specs.Symbols.{Symbol, after, next}
+use Rattle.cs_grammar.proofs.Sizes.{size, after_size, skip_size, mapped_size, both_size, three_size, choice_size}
+use Rattle.cs_grammar.proofs.Sizes.{through_size}
 use Rattle.cs_base.specs.declared.fault.OrcKind.TheVariants as orc
 use Rattle.cs_words.specs.declared.sign.BinOp.TheVariants as b
 use Rattle.cs_grammar.specs.declared.expr.Level.TheVariants as level
-use Rattle.cs_grammar.specs.declared.symbol.Kind.TheVariants as kind
+use Rattle.cs_symbols.specs.declared.symbol.Kind.TheVariants as kind
 use Rattle.cs_grammar.specs.declared.expr.PartForm.TheVariants as part
-use Rattle.cs_grammar.specs.declared.symbol.Expected.TheVariants as expected
+use Rattle.cs_symbols.specs.declared.symbol.Expected.TheVariants as expected
 use Rattle.cs_words.specs.declared.sign.Sign.TheVariants as sign
 
 -- what is asked for: an expression, or the operators after one

@@ -4,30 +4,32 @@ use Rattle.std.proofs.Common.{length, not, if◌then◌else◌, Ok, Err, refl, a
 use Rattle.cs_base.specs.{declared.fault.OrcFault.OrcFault, declared.fault.OrcKind.OrcKind, declared.resource.Rate.Rate}
 use Rattle.cs_lex.specs.declared.token.Token.{Token}
 use Rattle.cs_words.specs.{declared.word.HeadName.HeadName, NameSets.has, Names.letter_rate}
-use Rattle.cs_grammar.specs.{declared.symbol.Kind.Kind, declared.orc.ItemForm.ItemForm, Headings.types, Kinds.is_word}
-use Rattle.cs_grammar.specs.{Kinds.may_be_opcode, Lines.header_line, Lines.header_of, Symbols.Symbol, Symbols.symbols}
-use Rattle.cs_grammar.specs.{Tree.Argument, Tree.Definition, Tree.Instrument, Tree.Orchestra, inner.Rows.numbers}
-use Rattle.cs_grammar.proofs.Sizes.{size, after_size, both_size, three_size, through_size, ended_size, choice_size}
-use Rattle.cs_grammar.proofs.OneRow.{numbers_less, reads_numbers, numbers_are}
-use Rattle.cs_grammar.proofs.{OneXin.reads_inputs, OneXin.inputs_are, OneXin.inputs_size, OneStmt.block_is}
-use Rattle.cs_grammar.proofs.ResultRules.{none_given, given, some_missing, uneven, even}
-use Rattle.cs_grammar.proofs.OneList.{the_list, reads_list, list_size, list_is}
-use Rattle.cs_grammar.proofs.OneStmt.{the_stmt, reads_stmt, stmt_less, stmt_is, the_block, reads_block, block_size}
-use Rattle.cs_grammar.specs.Headings.{Heading, heading, heading_of, is_letters, is_number_zero, new_name, no_name_kind}
+use Rattle.cs_grammar.specs.{declared.orc.ItemForm.ItemForm, Lines.header_line, Lines.header_of, inner.Rows.numbers}
+use Rattle.cs_grammar.specs.Headings.{types, Heading, heading, heading_of, is_letters, is_number_zero, new_name}
+use Rattle.cs_grammar.specs.Headings.{no_name_kind}
+use Rattle.cs_grammar.specs.Tree.{Argument, Definition, Instrument, Orchestra}
 use Rattle.cs_grammar.specs.Orchestra.{ParseFault, Parses, ReadsDefinition, ReadsInstr, ReadsOrc, ReadsResult}
 use Rattle.cs_grammar.specs.Orchestra.{ReadsXout, Tree, behind_xout, defined_by, definition_of, given_by, instr}
 use Rattle.cs_grammar.specs.Orchestra.{instrument_of, item_form, no_heading, no_result, nothing, orc_end, orc_header}
 use Rattle.cs_grammar.specs.Orchestra.{orc_instr, orc_stmt, orc_stop, orc_udo, own_scope, result_stop, udo}
 use Rattle.cs_grammar.specs.Orchestra.{with_definition, with_header, with_instr, with_stmt, xout, xout_broken}
 use Rattle.cs_grammar.specs.Orchestra.{xout_last, xout_missing, xout_not_last, xout_uneven}
-use Rattle.cs_grammar.specs.Reading.{Left, Reading, Scope, after, both, ended, fault, in_definition, in_instrument}
-use Rattle.cs_grammar.specs.Reading.{left, misfit, next, next_is, outside, three, through}
+use Rattle.cs_grammar.specs.Reading.{Left, Reading, Scope, both, ended, fault, in_definition, in_instrument, left}
+use Rattle.cs_grammar.specs.Reading.{misfit, next_is, outside, three, through}
 use Rattle.cs_grammar.specs.inner.Takes.{inputs, is_none, last_line, no_results, results_of}
+use Rattle.cs_symbols.specs.{declared.symbol.Kind.Kind, Kinds.is_word, Kinds.may_be_opcode}
+use Rattle.cs_symbols.specs.Symbols.{Symbol, symbols, after, next}
+use Rattle.cs_grammar.proofs.Sizes.{size, after_size, both_size, three_size, through_size, ended_size, choice_size}
+use Rattle.cs_grammar.proofs.OneRow.{numbers_less, reads_numbers, numbers_are}
+use Rattle.cs_grammar.proofs.{OneXin.reads_inputs, OneXin.inputs_are, OneXin.inputs_size, OneStmt.block_is}
+use Rattle.cs_grammar.proofs.ResultRules.{none_given, given, some_missing, uneven, even}
+use Rattle.cs_grammar.proofs.OneList.{the_list, reads_list, list_size, list_is}
+use Rattle.cs_grammar.proofs.OneStmt.{the_stmt, reads_stmt, stmt_less, stmt_is, the_block, reads_block, block_size}
 use Rattle.cs_base.specs.declared.fault.OrcKind.TheVariants as orc
-use Rattle.cs_grammar.specs.declared.symbol.Kind.TheVariants as kind
+use Rattle.cs_symbols.specs.declared.symbol.Kind.TheVariants as kind
 use Rattle.cs_grammar.specs.declared.orc.ItemForm.TheVariants as item
 use Rattle.cs_grammar.specs.declared.lists.Role.TheVariants as role
-use Rattle.cs_grammar.specs.declared.symbol.Expected.TheVariants as expected
+use Rattle.cs_symbols.specs.declared.symbol.Expected.TheVariants as expected
 
 -- ---- sizes
 

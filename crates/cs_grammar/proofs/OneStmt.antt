@@ -2,26 +2,28 @@
 use Rattle.std.proofs.Common.{◌≡◌, ◌<◌, ◌≤◌, ◌+◌, ◌*◌, ◌∙◌, ℕ, zero, suc, Bool, true, false, List, [], ◌∷◌, length, Ok}
 use Rattle.std.proofs.Common.{Err, if◌then◌else◌, refl, arith, sym, ap}
 use Rattle.cs_words.specs.{declared.catalogue.Opcode.Opcode, declared.word.Word.Word}
-use Rattle.cs_grammar.specs.{declared.symbol.Kind.Kind, declared.tree.Callee.Callee, declared.stmt.LineForm.LineForm}
-use Rattle.cs_grammar.specs.{Lines.target, Symbols.Symbol, inner.Rows.targets}
+use Rattle.cs_grammar.specs.{declared.tree.Callee.Callee, declared.stmt.LineForm.LineForm, inner.Rows.targets}
+use Rattle.cs_grammar.specs.Lines.{target, by_opcode, is_other_text, is_outside, is_own, line_form, operation}
+use Rattle.cs_grammar.specs.Lines.{operation_of}
+use Rattle.cs_grammar.specs.Grammar.{ReadsArms, ReadsBlock, ReadsMore, ReadsStmt, arm_more, assign, block_end}
+use Rattle.cs_grammar.specs.Grammar.{block_more, block_stop, ends_block, more_else, more_elseif, more_endif, more_stop}
+use Rattle.cs_grammar.specs.Grammar.{stmt_assign, stmt_bare, stmt_beyond, stmt_if, stmt_misplaced, stmt_results}
+use Rattle.cs_grammar.specs.Reading.{Left, Reading, Scope, both, deeper, ended, fault, left, mapped, misfit, next_is}
+use Rattle.cs_grammar.specs.Reading.{skip, three, through}
+use Rattle.cs_grammar.specs.Tree.{Arms, Block, Expression, Statement, andthen, arm, call, choose, no_stmt, otherwise}
+use Rattle.cs_symbols.specs.declared.symbol.Kind.{Kind}
+use Rattle.cs_symbols.specs.Symbols.{Symbol, after, next}
 use Rattle.cs_grammar.proofs.Sizes.{size, skip_size, mapped_size, both_size, three_size, through_size, ended_size}
 use Rattle.cs_grammar.proofs.{Sizes.choice_size, OneExpr.the_expr, OneExpr.reads_expr, OneExpr.expr_size}
 use Rattle.cs_grammar.proofs.{OneExpr.expr_is, OneList.the_args, OneList.reads_args, OneList.args_size, OneList.args_is}
 use Rattle.cs_grammar.proofs.OneRow.{target_less, targets_less, reads_targets, targets_are}
-use Rattle.cs_grammar.specs.Grammar.{ReadsArms, ReadsBlock, ReadsMore, ReadsStmt, arm_more, assign, block_end}
-use Rattle.cs_grammar.specs.Grammar.{block_more, block_stop, ends_block, more_else, more_elseif, more_endif, more_stop}
-use Rattle.cs_grammar.specs.Grammar.{stmt_assign, stmt_bare, stmt_beyond, stmt_if, stmt_misplaced, stmt_results}
-use Rattle.cs_grammar.specs.Lines.{by_opcode, is_other_text, is_outside, is_own, line_form, operation, operation_of}
-use Rattle.cs_grammar.specs.Reading.{Left, Reading, Scope, after, both, deeper, ended, fault, left, mapped, misfit}
-use Rattle.cs_grammar.specs.Reading.{next, next_is, skip, three, through}
-use Rattle.cs_grammar.specs.Tree.{Arms, Block, Expression, Statement, andthen, arm, call, choose, no_stmt, otherwise}
 use Rattle.cs_base.specs.declared.fault.OrcKind.TheVariants as orc
 use Rattle.cs_words.specs.declared.catalogue.Opcode.TheVariants as opcode
-use Rattle.cs_grammar.specs.declared.symbol.Kind.TheVariants as kind
+use Rattle.cs_symbols.specs.declared.symbol.Kind.TheVariants as kind
 use Rattle.cs_grammar.specs.declared.tree.Callee.TheVariants as callee
 use Rattle.cs_grammar.specs.declared.expr.Level.TheVariants as level
 use Rattle.cs_grammar.specs.declared.stmt.LineForm.TheVariants as form
-use Rattle.cs_grammar.specs.declared.symbol.Expected.TheVariants as expected
+use Rattle.cs_symbols.specs.declared.symbol.Expected.TheVariants as expected
 use Rattle.cs_words.specs.declared.word.Word.TheVariants as word
 
 -- ---- sizes of the parts of a line

@@ -8,17 +8,18 @@ use Rattle.std.proofs.lemmas.{List.Kept.AllPairs-cons, Slice.Eq.bytes_eq-Decides
 use Rattle.cs_base.specs.{declared.resource.Rate.Rate, Rates.same_rate}
 use Rattle.cs_base.proofs.Rates.{same_rate_is, same_rate_here}
 use Rattle.cs_words.specs.{declared.word.Word.Word, Names.name_rate, NameSets.has}
-use Rattle.cs_grammar.specs.{declared.symbol.Kind.Kind, Symbols.Symbol, Kinds.is, Kinds.is_plain, Parts.is_opcode}
-use Rattle.cs_grammar.specs.{Headings.Heading, inner.Takes.taken, inner.Takes.inputs}
-use Rattle.cs_grammar.specs.Reading.{after, Reading, left, next_is, Scope, fault, ended}
+use Rattle.cs_grammar.specs.{Parts.is_opcode, Headings.Heading}
+use Rattle.cs_grammar.specs.inner.Takes.{taken, inputs, plus_one, input_count, words, at_xin, is_input, are_inputs}
+use Rattle.cs_grammar.specs.inner.Takes.{is_none, no_names}
+use Rattle.cs_grammar.specs.Reading.{Reading, left, next_is, Scope, fault, ended}
 use Rattle.cs_grammar.specs.Inputs.{is_free, XinLine, one_word, more_words, is_local, texts, AreDifferent, NameInputs}
 use Rattle.cs_grammar.specs.Inputs.{ReadsInputs, named, misnamed, xin_alone, no_inputs, xin_missing}
-use Rattle.cs_grammar.specs.inner.Takes.{plus_one, input_count, words, at_xin, is_input, are_inputs, is_none, no_names}
+use Rattle.cs_symbols.specs.{declared.symbol.Kind.Kind, Symbols.Symbol, Symbols.after, Kinds.is, Kinds.is_plain}
 use Rattle.cs_grammar.proofs.Sizes.{size, after_size, ended_size, choice_size}
 use Rattle.cs_base.specs.declared.fault.OrcKind.TheVariants as orc
 use Rattle.cs_words.specs.declared.word.Word.TheVariants as word
-use Rattle.cs_grammar.specs.declared.symbol.Kind.TheVariants as kind
-use Rattle.cs_grammar.specs.declared.symbol.Expected.TheVariants as expected
+use Rattle.cs_symbols.specs.declared.symbol.Kind.TheVariants as kind
+use Rattle.cs_symbols.specs.declared.symbol.Expected.TheVariants as expected
 
 count : List Symbol → ℕ
 count [] = zero

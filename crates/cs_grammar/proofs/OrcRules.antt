@@ -5,24 +5,26 @@ use Rattle.std.specs.Result.{IsErrAnd}
 use Rattle.cs_base.specs.{declared.fault.Or.Or, declared.fault.OrcFault.OrcFault}
 use Rattle.cs_words.specs.declared.word.HeadName.{HeadName}
 use Rattle.cs_grammar.specs.{declared.tree.HeadLine.HeadLine, declared.tree.OrcStmt.OrcStmt, declared.tree.Instr.Instr}
-use Rattle.cs_grammar.specs.{declared.tree.Udo.Udo, declared.tree.Orc.Orc, declared.symbol.Expected.Expected}
-use Rattle.cs_grammar.specs.{Grammar.ReadsBlock, Grammar.ReadsStmt, Grammar.block_stop, Headings.Heading}
-use Rattle.cs_grammar.specs.{Headings.heading, Lines.header_line, Orchestra.with_header, Orchestra.with_instr}
-use Rattle.cs_grammar.specs.{Orchestra.with_stmt, Symbols.Symbol, inner.Rows.numbers, inner.Takes.inputs}
-use Rattle.cs_grammar.proofs.{OneRow.reads_numbers, OneXin.reads_inputs}
-use Rattle.cs_grammar.proofs.Gives.{Same, both_mapped, closing_mapped, line_keeps, through_is, ended_is, valued}
-use Rattle.cs_grammar.specs.Orchestra.{ReadsDefinition, ReadsInstr, ReadsOrc, ReadsResult, definition_of, instr}
-use Rattle.cs_grammar.specs.Orchestra.{instrument_of, item_form, no_heading, nothing, orc_end, orc_header, orc_instr}
-use Rattle.cs_grammar.specs.Orchestra.{orc_stmt, orc_stop, orc_udo, own_scope, result_stop, udo, with_definition}
-use Rattle.cs_grammar.specs.Reading.{Left, Reading, Scope, after, both, ended, in_definition, in_instrument, left}
-use Rattle.cs_grammar.specs.Reading.{mapped, next, outside, three, through}
+use Rattle.cs_grammar.specs.{declared.tree.Udo.Udo, declared.tree.Orc.Orc, Headings.Heading, Headings.heading}
+use Rattle.cs_grammar.specs.{Lines.header_line, inner.Rows.numbers, inner.Takes.inputs}
+use Rattle.cs_grammar.specs.Grammar.{ReadsBlock, ReadsStmt, block_stop}
+use Rattle.cs_grammar.specs.Orchestra.{with_header, with_instr, with_stmt, ReadsDefinition, ReadsInstr, ReadsOrc}
+use Rattle.cs_grammar.specs.Orchestra.{ReadsResult, definition_of, instr, instrument_of, item_form, no_heading, nothing}
+use Rattle.cs_grammar.specs.Orchestra.{orc_end, orc_header, orc_instr, orc_stmt, orc_stop, orc_udo, own_scope}
+use Rattle.cs_grammar.specs.Orchestra.{result_stop, udo, with_definition}
+use Rattle.cs_grammar.specs.Reading.{Left, Reading, Scope, both, ended, in_definition, in_instrument, left, mapped}
+use Rattle.cs_grammar.specs.Reading.{outside, three, through}
 use Rattle.cs_grammar.specs.Tree.{Argument, Block, Definition, Instrument, Orchestra, Statement, andthen, block}
 use Rattle.cs_grammar.specs.Tree.{definition, instrument, joins, no_stmt, orchestra, statement}
 use Rattle.cs_grammar.specs.inner.Answers.{Gives, IsInside, IsInstrBody, IsLines, OrcSoFar, Parts, ReadsOn, joined}
 use Rattle.cs_grammar.specs.inner.Answers.{line_past, of_inside, past}
+use Rattle.cs_symbols.specs.declared.symbol.Expected.{Expected}
+use Rattle.cs_symbols.specs.Symbols.{Symbol, after, next}
+use Rattle.cs_grammar.proofs.{OneRow.reads_numbers, OneXin.reads_inputs}
+use Rattle.cs_grammar.proofs.Gives.{Same, both_mapped, closing_mapped, line_keeps, through_is, ended_is, valued}
 use Rattle.cs_base.specs.declared.fault.Or.TheVariants as or
 use Rattle.cs_grammar.specs.declared.orc.ItemForm.TheVariants as item
-use Rattle.cs_grammar.specs.declared.symbol.Expected.TheVariants as expected
+use Rattle.cs_symbols.specs.declared.symbol.Expected.TheVariants as expected
 
 -- ---- instruments and definitions
 

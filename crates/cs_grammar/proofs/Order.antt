@@ -5,25 +5,26 @@ use Rattle.std.specs.List.{All, AllPairs}
 use Rattle.std.proofs.lemmas.List.Elements.{All-nil, All-cons, All-weaker}
 use Rattle.std.proofs.lemmas.List.Kept.{AllPairs-cons}
 use Rattle.cs_words.specs.declared.word.HeadName.{HeadName}
-use Rattle.cs_grammar.specs.{declared.symbol.Kind.Kind, declared.symbol.Expected.Expected}
+use Rattle.cs_symbols.specs.{declared.symbol.Kind.Kind, declared.symbol.Expected.Expected, Kinds.is}
+use Rattle.cs_symbols.specs.Symbols.{Symbol, next, after}
 use Rattle.cs_grammar.specs.{declared.stmt.LineForm.LineForm, declared.orc.ItemForm.ItemForm}
-use Rattle.cs_grammar.specs.{declared.tree.HeadLine.HeadLine, Symbols.Symbol, Kinds.is, Parts.is_opcode}
-use Rattle.cs_grammar.specs.{Headings.Heading, Inputs.ReadsInputs, Orchestra.orc_instr, Orchestra.orc_udo}
-use Rattle.cs_grammar.specs.{Orchestra.orc_stmt, WellFormed.lines_of, WellFormed.orchestra_of, WellFormed.InOrder}
+use Rattle.cs_grammar.specs.{declared.tree.HeadLine.HeadLine, Parts.is_opcode, Headings.Heading, Inputs.ReadsInputs}
+use Rattle.cs_grammar.specs.Orchestra.{orc_instr, orc_udo, orc_stmt, instrument_of, ReadsInstr, instr, ReadsResult}
+use Rattle.cs_grammar.specs.Orchestra.{definition_of, own_scope, ReadsDefinition, no_heading, udo, item_form}
+use Rattle.cs_grammar.specs.Orchestra.{item_form_of, with_header, with_instr, with_definition, with_stmt, ReadsOrc}
+use Rattle.cs_grammar.specs.Orchestra.{orc_stop, orc_end, orc_header}
+use Rattle.cs_grammar.specs.WellFormed.{lines_of, orchestra_of, InOrder, IsVariable, WellFormedExpr, WellFormedArg}
+use Rattle.cs_grammar.specs.WellFormed.{IsCall, stmt_lines, block_lines, arms_lines, Item, header_item, opcode_item}
+use Rattle.cs_grammar.specs.WellFormed.{stmt_item, instr_item, item_lines}
 use Rattle.cs_grammar.specs.Tree.{Expression, Argument, Statement, call, choose, Block, no_stmt, andthen, Arms}
 use Rattle.cs_grammar.specs.Tree.{otherwise, arm, Instrument, Definition, Orchestra}
-use Rattle.cs_grammar.specs.Reading.{next, after, Left, Reading, left, mapped, both, three, next_is, Scope, outside}
-use Rattle.cs_grammar.specs.Reading.{in_instrument, in_definition, misfit, through, ended, line_end}
+use Rattle.cs_grammar.specs.Reading.{Left, Reading, left, mapped, both, three, next_is, Scope, outside, in_instrument}
+use Rattle.cs_grammar.specs.Reading.{in_definition, misfit, through, ended, line_end}
 use Rattle.cs_grammar.specs.Lines.{word_form, line_form_of, line_form, target, operation, header_line}
 use Rattle.cs_grammar.specs.Grammar.{assign, ReadsStmt, stmt_assign, stmt_results, stmt_bare, stmt_if, stmt_beyond}
 use Rattle.cs_grammar.specs.Grammar.{stmt_misplaced, ReadsBlock, block_stop, block_end, block_more, ReadsArms, arm_more}
 use Rattle.cs_grammar.specs.Grammar.{ReadsMore, more_stop, more_elseif, more_else, more_endif}
 use Rattle.cs_base.specs.declared.resource.Rate.{Rate}
-use Rattle.cs_grammar.specs.Orchestra.{instrument_of, ReadsInstr, instr, ReadsResult, definition_of, own_scope}
-use Rattle.cs_grammar.specs.Orchestra.{ReadsDefinition, no_heading, udo, item_form, item_form_of, with_header}
-use Rattle.cs_grammar.specs.Orchestra.{with_instr, with_definition, with_stmt, ReadsOrc, orc_stop, orc_end, orc_header}
-use Rattle.cs_grammar.specs.WellFormed.{IsVariable, WellFormedExpr, WellFormedArg, IsCall, stmt_lines, block_lines}
-use Rattle.cs_grammar.specs.WellFormed.{arms_lines, Item, header_item, opcode_item, stmt_item, instr_item, item_lines}
 use Rattle.cs_grammar.proofs.Fine.{IsWord, Fine, Kept, kept, kept_skip, fine_both, fine_three, fine_through, fine_line}
 use Rattle.cs_grammar.proofs.Fine.{fine_expr, fine_args, fine_target, fine_targets, fine_operation}
 use Rattle.cs_grammar.proofs.FineStmt.{NumbersFrom, fine_numbers}
@@ -31,8 +32,8 @@ use Rattle.cs_grammar.proofs.FineOrc.{Words, words_after, words_next, NewHeading
 use Rattle.cs_grammar.proofs.FineOrc.{fine_heading, fine_inputs, fine_result, fine_header}
 use Rattle.cs_base.specs.declared.fault.OrcKind.TheVariants as orc
 use Rattle.cs_words.specs.declared.sign.Sign.TheVariants as sign
-use Rattle.cs_grammar.specs.declared.symbol.Kind.TheVariants as kind
-use Rattle.cs_grammar.specs.declared.symbol.Expected.TheVariants as expected
+use Rattle.cs_symbols.specs.declared.symbol.Kind.TheVariants as kind
+use Rattle.cs_symbols.specs.declared.symbol.Expected.TheVariants as expected
 use Rattle.cs_grammar.specs.declared.stmt.LineForm.TheVariants as form
 use Rattle.cs_grammar.specs.declared.orc.ItemForm.TheVariants as item
 

@@ -3,17 +3,20 @@ use Rattle.std.proofs.Common.{◌≡◌, ◌∙◌, ◌≤◌, ◌+◌, ◌-◌,
 use Rattle.std.proofs.Common.{Some, None, refl, arith, sym, ap, subst}
 use Rattle.cs_base.specs.{declared.fault.Or.Or, declared.fault.OrcFault.OrcFault}
 use Rattle.cs_words.specs.{declared.sign.BinOp.BinOp, declared.word.Func.Func}
-use Rattle.cs_grammar.specs.{declared.expr.Level.Level, declared.symbol.Expected.Expected, Grammar.fact_pick}
-use Rattle.cs_grammar.specs.{Grammar.no_more, Grammar.one_alone, Grammar.one_more, Symbols.Symbol, Tree.Expression}
-use Rattle.cs_grammar.specs.{Tree.apply, Tree.pick, inner.Answers.Gives, inner.Answers.IsClosed, inner.Answers.past}
-use Rattle.cs_grammar.proofs.Gives.{both_mapped, left_through, through_is, through_keeps, through_mapped, valued}
-use Rattle.cs_grammar.specs.Grammar.{ReadsExpr, ReadsTail, binary, expr_stop, fact_alone, fact_call, fact_group}
+use Rattle.cs_grammar.specs.declared.expr.Level.{Level}
+use Rattle.cs_grammar.specs.Grammar.{fact_pick, no_more, one_alone, one_more, ReadsExpr, ReadsTail, binary, expr_stop}
+use Rattle.cs_grammar.specs.Grammar.{fact_alone, fact_call, fact_group}
+use Rattle.cs_grammar.specs.Tree.{Expression, apply, pick}
+use Rattle.cs_grammar.specs.inner.Answers.{Gives, IsClosed, past}
 use Rattle.cs_grammar.specs.Parts.{atom, operator_of, part_form, rank, repeats, tighter}
-use Rattle.cs_grammar.specs.Reading.{Left, Reading, Scope, after, left, mapped, next, next_is, three, through}
+use Rattle.cs_grammar.specs.Reading.{Left, Reading, Scope, left, mapped, next_is, three, through}
+use Rattle.cs_symbols.specs.declared.symbol.Expected.{Expected}
+use Rattle.cs_symbols.specs.Symbols.{Symbol, after, next}
+use Rattle.cs_grammar.proofs.Gives.{both_mapped, left_through, through_is, through_keeps, through_mapped, valued}
 use Rattle.cs_base.specs.declared.fault.Or.TheVariants as or
 use Rattle.cs_grammar.specs.declared.expr.Level.TheVariants as at
 use Rattle.cs_grammar.specs.declared.expr.PartForm.TheVariants as part
-use Rattle.cs_grammar.specs.declared.symbol.Expected.TheVariants as expected
+use Rattle.cs_symbols.specs.declared.symbol.Expected.TheVariants as expected
 
 -- ---- brackets
 

@@ -3,7 +3,8 @@ use Rattle.std.proofs.Common.{◌≡◌, ◌<◌, ◌≤◌, ℕ, List, length, 
 use Rattle.cs_words.specs.declared.word.HeadName.{HeadName}
 use Rattle.cs_grammar.specs.{declared.tree.HeadLine.HeadLine, Grammar.ReadsStmt, Lines.header_line}
 use Rattle.cs_grammar.specs.{Orchestra.ReadsDefinition, Orchestra.ReadsInstr, Reading.Scope, Reading.left}
-use Rattle.cs_grammar.specs.{Symbols.Symbol, Tree.Definition, Tree.Instrument, Tree.Statement}
+use Rattle.cs_grammar.specs.Tree.{Definition, Instrument, Statement}
+use Rattle.cs_symbols.specs.Symbols.{Symbol}
 use Rattle.cs_grammar.proofs.{Sizes.size, OneStmt.stmt_less, OneStmt.stmt_is}
 use Rattle.cs_grammar.proofs.OneOrc.{header_less, instr_less, instr_is, definition_less, definition_is}
 

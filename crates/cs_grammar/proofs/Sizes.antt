@@ -2,11 +2,12 @@
 -- given.
 use Rattle.std.proofs.Common.{◌≡◌, ◌<◌, ◌≤◌, ◌+◌, ◌⊎◌, ℕ, Bool, true, false, List, [], ◌∷◌, length, Ok, Err}
 use Rattle.std.proofs.Common.{if◌then◌else◌, refl, arith, inl, inr}
-use Rattle.cs_grammar.specs.{declared.symbol.Kind.Kind, declared.symbol.Expected.Expected, Symbols.Symbol}
-use Rattle.cs_grammar.specs.Reading.{Left, Reading, Scope, after, both, ended, left, line_end, mapped, misfit, next}
-use Rattle.cs_grammar.specs.Reading.{next_is, skip, three, through}
+use Rattle.cs_symbols.specs.{declared.symbol.Kind.Kind, declared.symbol.Expected.Expected}
+use Rattle.cs_symbols.specs.Symbols.{Symbol, after, next}
+use Rattle.cs_grammar.specs.Reading.{Left, Reading, Scope, both, ended, left, line_end, mapped, misfit, next_is, skip}
+use Rattle.cs_grammar.specs.Reading.{three, through}
 use Rattle.cs_base.specs.declared.fault.OrcKind.TheVariants as orc
-use Rattle.cs_grammar.specs.declared.symbol.Kind.TheVariants as kind
+use Rattle.cs_symbols.specs.declared.symbol.Kind.TheVariants as kind
 
 abbrev pub size : Left → ℕ
 size (Ok ts) = length ts + 1

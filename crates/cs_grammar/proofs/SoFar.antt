@@ -3,15 +3,15 @@ use Rattle.std.proofs.Common.{◌≡◌, ◌∙◌, ◌++◌, ℕ, Bool, true, f
 use Rattle.std.proofs.Common.{if◌then◌else◌, refl, sym, ap, subst}
 use Rattle.std.proofs.lemmas.List.{append_assoc}
 use Rattle.cs_base.specs.declared.fault.OrcFault.{OrcFault}
-use Rattle.cs_grammar.specs.{declared.lists.Role.Role, declared.tree.Arg.Arg, declared.symbol.Kind.Kind, Kinds.is}
-use Rattle.cs_grammar.specs.{Parts.is_variable, Symbols.Symbol, Tree.Argument, Tree.argument}
+use Rattle.cs_grammar.specs.{declared.lists.Role.Role, declared.tree.Arg.Arg, Parts.is_variable, Tree.Argument}
+use Rattle.cs_grammar.specs.{Tree.argument, inner.Rows.behind, inner.Rows.row}
 use Rattle.cs_grammar.specs.Grammar.{ReadsArg, ReadsList, list_last, list_more}
 use Rattle.cs_grammar.specs.Lines.{fresh, instrument_number, no_target, number_at, one_number, one_target}
-use Rattle.cs_grammar.specs.Reading.{Reading, Scope, after, both, fault, has_number, mapped, misfit, next_is}
-use Rattle.cs_grammar.specs.inner.Rows.{behind, row}
+use Rattle.cs_grammar.specs.Reading.{Reading, Scope, both, fault, has_number, mapped, misfit, next_is}
+use Rattle.cs_symbols.specs.{declared.symbol.Kind.Kind, Kinds.is, Symbols.Symbol, Symbols.after}
 use Rattle.cs_base.specs.declared.fault.OrcKind.TheVariants as orc
-use Rattle.cs_grammar.specs.declared.symbol.Kind.TheVariants as kind
-use Rattle.cs_grammar.specs.declared.symbol.Expected.TheVariants as expected
+use Rattle.cs_symbols.specs.declared.symbol.Kind.TheVariants as kind
+use Rattle.cs_symbols.specs.declared.symbol.Expected.TheVariants as expected
 
 -- ---- a list with more in front
 

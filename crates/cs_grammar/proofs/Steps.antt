@@ -4,10 +4,11 @@ use Rattle.std.proofs.Common.{Option, Some, None, if◌then◌else◌, refl, sym
 use Rattle.std.specs.{List.All, Option.IfSome}
 use Rattle.std.proofs.lemmas.List.Elements.{All-head, All-tail}
 use Rattle.cs_lex.specs.declared.token.Token.{Token}
-use Rattle.cs_grammar.specs.{Inputs.is_free, Kinds.is, Symbols.Symbol, Symbols.symbols_from, Symbols.counted}
-use Rattle.cs_grammar.specs.{inner.Reached.Spanned, inner.Takes.plus_one, inner.Takes.input_count}
-use Rattle.cs_grammar.specs.Reading.{next, after, next_is, Scope}
-use Rattle.cs_grammar.specs.declared.symbol.Expected.TheVariants as expected
+use Rattle.cs_grammar.specs.{Inputs.is_free, inner.Takes.plus_one, inner.Takes.input_count, Reading.next_is}
+use Rattle.cs_grammar.specs.{Reading.Scope}
+use Rattle.cs_symbols.specs.Kinds.{is}
+use Rattle.cs_symbols.specs.Symbols.{Symbol, symbols_from, counted, Spanned, next, after}
+use Rattle.cs_symbols.specs.declared.symbol.Expected.TheVariants as expected
 
 -- the bytes of all tokens stand in the text
 pub spanned : (size : ℕ) (ts : List Token) → All (λ t. (t.from ≤ t.to) × (t.to ≤ size)) ts → Spanned size ts

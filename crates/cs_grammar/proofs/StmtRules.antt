@@ -3,22 +3,23 @@ use Rattle.std.proofs.Common.{◌≡◌, ◌∙◌, ◌≤◌, ◌<◌, ◌++◌
 use Rattle.std.proofs.Common.{refl, arith, sym, ap, subst}
 use Rattle.cs_base.specs.{declared.fault.Or.Or, declared.fault.OrcFault.OrcFault}
 use Rattle.cs_grammar.specs.{declared.tree.OrcStmt.OrcStmt, declared.tree.Arg.Arg, declared.tree.Callee.Callee}
-use Rattle.cs_grammar.specs.{Lines.line_form, Lines.operation, Lines.target, Symbols.Symbol, inner.Rows.targets}
-use Rattle.std.specs.Global.{Vec}
-use Rattle.cs_grammar.specs.declared.tree.Arm.{Arm, out-Arm}
-use Rattle.cs_grammar.proofs.Gives.{closing_keeps, through_is, ended_is, valued, left_valued}
-use Rattle.cs_grammar.proofs.{OneRow.reads_targets, OneStmt.stmt_less, OneStmt.stmt_is, OneStmt.same_block, Sizes.size}
+use Rattle.cs_grammar.specs.{inner.Rows.targets, declared.tree.Arm.Arm, declared.tree.Arm.out-Arm}
+use Rattle.cs_grammar.specs.Lines.{line_form, operation, target}
 use Rattle.cs_grammar.specs.Grammar.{ReadsArgs, ReadsArms, ReadsBlock, ReadsExpr, ReadsMore, ReadsStmt, arm_more}
 use Rattle.cs_grammar.specs.Grammar.{assign, block_end, block_more, block_stop, ends_block, more_else, more_elseif}
 use Rattle.cs_grammar.specs.Grammar.{more_endif, more_stop, stmt_assign, stmt_bare, stmt_results}
-use Rattle.cs_grammar.specs.Reading.{Left, Reading, Scope, after, both, ended, left, mapped, next, next_is, skip, three}
+use Rattle.cs_grammar.specs.Reading.{Left, Reading, Scope, both, ended, left, mapped, next_is, skip, three}
 use Rattle.cs_grammar.specs.Tree.{Argument, Arms, Block, Expression, Statement, andthen, argument, arm, arms, block}
 use Rattle.cs_grammar.specs.Tree.{call, expression, no_stmt, otherwise, statement}
 use Rattle.cs_grammar.specs.inner.Answers.{Gives, IsArm, IsClosed, IsCondition, line_past, past}
+use Rattle.cs_symbols.specs.Symbols.{Symbol, after, next}
+use Rattle.std.specs.Global.{Vec}
+use Rattle.cs_grammar.proofs.Gives.{closing_keeps, through_is, ended_is, valued, left_valued}
+use Rattle.cs_grammar.proofs.{OneRow.reads_targets, OneStmt.stmt_less, OneStmt.stmt_is, OneStmt.same_block, Sizes.size}
 use Rattle.cs_base.specs.declared.fault.Or.TheVariants as or
 use Rattle.cs_grammar.specs.declared.expr.Level.TheVariants as at
 use Rattle.cs_grammar.specs.declared.stmt.LineForm.TheVariants as form
-use Rattle.cs_grammar.specs.declared.symbol.Expected.TheVariants as expected
+use Rattle.cs_symbols.specs.declared.symbol.Expected.TheVariants as expected
 
 -- ---- what a call gives, as the grammar sees it
 

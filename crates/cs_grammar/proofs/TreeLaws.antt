@@ -9,14 +9,15 @@ use Rattle.cs_lex.specs.{Lexed.IsEndedBy, Bytes.is_letter, Bytes.is_word_byte, R
 use Rattle.cs_lex.specs.Lexed.{TextPiece, text_of, AllFit, token_at, token_of, tokens_after, is_newline, merged, end_of}
 use Rattle.cs_base.specs.Lines.{Excerpt, begins}
 use Rattle.std.proofs.lemmas.{Bool.and_parts, List.append_assoc}
-use Rattle.cs_grammar.specs.{declared.symbol.Kind.Kind, Kinds.is, Tree.Orchestra, Orchestra.Tree}
-use Rattle.cs_grammar.specs.Symbols.{Symbol, symbols, symbols_from, kind_after, kind_of_mark, counted, bytes_of}
+use Rattle.cs_grammar.specs.{Tree.Orchestra, Orchestra.Tree}
 use Rattle.cs_grammar.specs.WellFormed.{HasNoStop, IsWellFormed, InOrder}
+use Rattle.cs_symbols.specs.{declared.symbol.Kind.Kind, Kinds.is}
+use Rattle.cs_symbols.specs.Symbols.{Symbol, symbols, symbols_from, kind_after, kind_of_mark, counted, bytes_of}
 use Rattle.cs_grammar.proofs.FineOrc.{NoStops, Words, words_after, words_next, words_from, fine_orc}
 use Rattle.cs_grammar.proofs.Order.{From, Sorted, in_order}
 use Rattle.cs_lex.specs.declared.token.Mark.TheVariants as mark
-use Rattle.cs_grammar.specs.declared.symbol.Kind.TheVariants as kind
-use Rattle.cs_grammar.specs.declared.symbol.Expected.TheVariants as expected
+use Rattle.cs_symbols.specs.declared.symbol.Kind.TheVariants as kind
+use Rattle.cs_symbols.specs.declared.symbol.Expected.TheVariants as expected
 
 -- ---- words have no full stop
 

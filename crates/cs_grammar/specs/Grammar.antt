@@ -4,19 +4,20 @@ use Rattle.std.specs.Prelude.{ℕ, Bool, true, false, List, [], ◌∷◌, ◌�
 use Rattle.std.specs.Prelude.{Err}
 use Rattle.cs_base.specs.declared.fault.OrcFault.{OrcFault}
 use Rattle.cs_words.specs.{declared.sign.BinOp.BinOp, declared.word.Func.Func}
-use Rattle.cs_grammar.specs.{declared.symbol.Kind.Kind, declared.lists.Role.Role, declared.scope.Place.Place}
-use Rattle.cs_grammar.specs.{declared.expr.Level.Level, Symbols.Symbol, Kinds.is, Kinds.ends_line}
+use Rattle.cs_grammar.specs.{declared.lists.Role.Role, declared.scope.Place.Place, declared.expr.Level.Level}
 use Rattle.cs_grammar.specs.Tree.{Expression, var, neg, pair, pick, apply, Argument, value, text, Statement, set, call}
 use Rattle.cs_grammar.specs.Tree.{choose, Block, no_stmt, andthen, Arms, otherwise, arm}
-use Rattle.cs_grammar.specs.Reading.{next, after, Left, Reading, left, mapped, both, three, skip, next_is, meets, Scope}
-use Rattle.cs_grammar.specs.Reading.{deeper, fault, misfit, through, ended}
+use Rattle.cs_grammar.specs.Reading.{Left, Reading, left, mapped, both, three, skip, next_is, meets, Scope, deeper}
+use Rattle.cs_grammar.specs.Reading.{fault, misfit, through, ended}
 use Rattle.cs_grammar.specs.Parts.{tighter, repeats, operator, part_form, atom}
 use Rattle.cs_grammar.specs.Lines.{line_form, target, ReadsTargets, operation}
+use Rattle.cs_symbols.specs.{declared.symbol.Kind.Kind, Kinds.is, Kinds.ends_line}
+use Rattle.cs_symbols.specs.Symbols.{Symbol, next, after}
 use Rattle.cs_base.specs.declared.fault.OrcKind.TheVariants as orc
 use Rattle.cs_words.specs.declared.sign.BinOp.TheVariants as op
 use Rattle.cs_words.specs.declared.sign.Sign.TheVariants as sign
-use Rattle.cs_grammar.specs.declared.symbol.Kind.TheVariants as kind
-use Rattle.cs_grammar.specs.declared.symbol.Expected.TheVariants as expected
+use Rattle.cs_symbols.specs.declared.symbol.Kind.TheVariants as kind
+use Rattle.cs_symbols.specs.declared.symbol.Expected.TheVariants as expected
 use Rattle.cs_grammar.specs.declared.lists.Role.TheVariants as role
 use Rattle.cs_grammar.specs.declared.scope.Place.TheVariants as place
 use Rattle.cs_grammar.specs.declared.expr.Level.TheVariants as level

@@ -3,13 +3,13 @@ use Rattle.std.specs.Prelude.{ℕ, ℤ, pos, Bool, false, List, [], ◌&&◌, �
 use Rattle.std.specs.List.{list_all}
 use Rattle.cs_base.specs.{declared.fault.OrcKind.OrcKind, declared.resource.Rate.Rate}
 use Rattle.cs_words.specs.{Names.is_rate_letter, Names.letter_rate, NameSets.has}
-use Rattle.cs_grammar.specs.{declared.symbol.Kind.Kind, Symbols.Symbol, Reading.through, Reading.ended}
-use Rattle.cs_grammar.specs.Kinds.{is_word, may_be_opcode}
-use Rattle.cs_grammar.specs.Reading.{next, after, Left, Reading, left, three, Scope, fault, misfit, misfit_kind}
+use Rattle.cs_grammar.specs.Reading.{through, ended, Left, Reading, left, three, Scope, fault, misfit, misfit_kind}
+use Rattle.cs_symbols.specs.{declared.symbol.Kind.Kind, Kinds.is_word, Kinds.may_be_opcode}
+use Rattle.cs_symbols.specs.Symbols.{Symbol, next, after}
 use Rattle.cs_base.specs.declared.fault.OrcKind.TheVariants as orc
 use Rattle.cs_words.specs.declared.word.Word.TheVariants as word
-use Rattle.cs_grammar.specs.declared.symbol.Kind.TheVariants as kind
-use Rattle.cs_grammar.specs.declared.symbol.Expected.TheVariants as expected
+use Rattle.cs_symbols.specs.declared.symbol.Kind.TheVariants as kind
+use Rattle.cs_symbols.specs.declared.symbol.Expected.TheVariants as expected
 
 -- what is no name for an opcode; a word of Csound that the profile leaves out is unexpected here
 abbrev pub no_name_kind : Scope → Kind → OrcKind

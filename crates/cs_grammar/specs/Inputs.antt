@@ -3,11 +3,11 @@ use Rattle.std.specs.Prelude.{ℕ, Bool, true, false, List, [], ◌∷◌, ◌�
 use Rattle.std.specs.List.{All, AllPairs}
 use Rattle.cs_base.specs.declared.resource.Rate.{Rate}
 use Rattle.cs_words.specs.Names.{is_global, name_rate}
-use Rattle.cs_grammar.specs.{Symbols.Symbol, Kinds.is, Kinds.is_plain, Headings.Heading}
-use Rattle.cs_grammar.specs.Reading.{after, Reading, next_is, Scope, fault, ended}
-use Rattle.cs_grammar.specs.Parts.{is_variable, is_opcode}
+use Rattle.cs_grammar.specs.{Headings.Heading, Parts.is_variable, Parts.is_opcode}
+use Rattle.cs_grammar.specs.Reading.{Reading, next_is, Scope, fault, ended}
+use Rattle.cs_symbols.specs.{Symbols.Symbol, Symbols.after, Kinds.is, Kinds.is_plain}
 use Rattle.cs_base.specs.declared.fault.OrcKind.TheVariants as orc
-use Rattle.cs_grammar.specs.declared.symbol.Expected.TheVariants as expected
+use Rattle.cs_symbols.specs.declared.symbol.Expected.TheVariants as expected
 
 -- a word of the profile that is neither a keyword nor an opcode, one defined before among them
 abbrev pub is_free : Scope → Symbol → Bool

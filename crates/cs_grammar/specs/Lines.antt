@@ -5,18 +5,19 @@ use Rattle.std.specs.Str.{bytes_eq}
 use Rattle.cs_base.specs.Limits.{greatest_instrument, most_nested_ifs}
 use Rattle.cs_base.specs.{declared.fault.OrcFault.OrcFault, declared.fault.OrcKind.OrcKind}
 use Rattle.cs_words.specs.{declared.catalogue.Opcode.Opcode, declared.word.HeadName.HeadName}
-use Rattle.cs_grammar.specs.{declared.tree.Callee.Callee, declared.tree.HeadLine.HeadLine, declared.symbol.Kind.Kind}
-use Rattle.cs_grammar.specs.{declared.scope.Place.Place, declared.stmt.LineForm.LineForm, Symbols.Symbol, Kinds.is}
-use Rattle.cs_grammar.specs.{Kinds.is_word, Reading.ended, Parts.is_variable, Parts.is_opcode}
-use Rattle.cs_grammar.specs.Reading.{next, after, Left, Reading, mapped, next_is, Scope, has_number, fault, misfit}
+use Rattle.cs_grammar.specs.{declared.tree.Callee.Callee, declared.tree.HeadLine.HeadLine, declared.scope.Place.Place}
+use Rattle.cs_grammar.specs.{declared.stmt.LineForm.LineForm, Parts.is_variable, Parts.is_opcode}
+use Rattle.cs_grammar.specs.Reading.{ended, Left, Reading, mapped, next_is, Scope, has_number, fault, misfit}
+use Rattle.cs_symbols.specs.{declared.symbol.Kind.Kind, Kinds.is, Kinds.is_word}
+use Rattle.cs_symbols.specs.Symbols.{Symbol, next, after}
 use Rattle.cs_base.specs.declared.fault.OrcKind.TheVariants as orc
 use Rattle.cs_words.specs.declared.catalogue.Opcode.TheVariants as opcode
 use Rattle.cs_words.specs.declared.word.Keyword.TheVariants as key
 use Rattle.cs_words.specs.declared.word.Word.TheVariants as word
 use Rattle.cs_words.specs.declared.sign.Sign.TheVariants as sign
 use Rattle.cs_grammar.specs.declared.tree.Callee.TheVariants as callee
-use Rattle.cs_grammar.specs.declared.symbol.Kind.TheVariants as kind
-use Rattle.cs_grammar.specs.declared.symbol.Expected.TheVariants as expected
+use Rattle.cs_symbols.specs.declared.symbol.Kind.TheVariants as kind
+use Rattle.cs_symbols.specs.declared.symbol.Expected.TheVariants as expected
 use Rattle.cs_grammar.specs.declared.scope.Place.TheVariants as place
 use Rattle.cs_grammar.specs.declared.stmt.LineForm.TheVariants as form
 

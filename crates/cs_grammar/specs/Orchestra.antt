@@ -3,18 +3,19 @@ use Rattle.std.specs.Prelude.{ℕ, Bool, true, false, List, [], ◌∷◌, ◌++
 use Rattle.cs_base.specs.{declared.fault.OrcFault.OrcFault, declared.fault.OrcKind.OrcKind, declared.resource.Rate.Rate}
 use Rattle.cs_lex.specs.declared.token.Token.{Token}
 use Rattle.cs_words.specs.declared.word.HeadName.{HeadName}
-use Rattle.cs_grammar.specs.{declared.tree.HeadLine.HeadLine, declared.symbol.Kind.Kind, declared.orc.ItemForm.ItemForm}
-use Rattle.cs_grammar.specs.{Symbols.Symbol, Symbols.symbols, Headings.Heading, Headings.heading, Inputs.ReadsInputs}
+use Rattle.cs_grammar.specs.{declared.tree.HeadLine.HeadLine, declared.orc.ItemForm.ItemForm, Headings.Heading}
+use Rattle.cs_grammar.specs.{Headings.heading, Inputs.ReadsInputs, Lines.header_line, Lines.ReadsNumbers}
 use Rattle.cs_grammar.specs.Tree.{Argument, Statement, Block, no_stmt, andthen, Instrument, Definition, Orchestra}
-use Rattle.cs_grammar.specs.Reading.{next, after, Left, Reading, left, both, three, next_is, Scope, outside}
-use Rattle.cs_grammar.specs.Reading.{in_instrument, in_definition, fault, misfit, through, ended}
-use Rattle.cs_grammar.specs.Lines.{header_line, ReadsNumbers}
+use Rattle.cs_grammar.specs.Reading.{Left, Reading, left, both, three, next_is, Scope, outside, in_instrument}
+use Rattle.cs_grammar.specs.Reading.{in_definition, fault, misfit, through, ended}
 use Rattle.cs_grammar.specs.Grammar.{ReadsList, ReadsStmt, ReadsBlock}
+use Rattle.cs_symbols.specs.declared.symbol.Kind.{Kind}
+use Rattle.cs_symbols.specs.Symbols.{Symbol, symbols, next, after}
 use Rattle.cs_base.specs.declared.fault.OrcKind.TheVariants as orc
-use Rattle.cs_grammar.specs.declared.symbol.Kind.TheVariants as kind
+use Rattle.cs_symbols.specs.declared.symbol.Kind.TheVariants as kind
 use Rattle.cs_words.specs.declared.word.Keyword.TheVariants as key
 use Rattle.cs_words.specs.declared.word.Word.TheVariants as word
-use Rattle.cs_grammar.specs.declared.symbol.Expected.TheVariants as expected
+use Rattle.cs_symbols.specs.declared.symbol.Expected.TheVariants as expected
 use Rattle.cs_grammar.specs.declared.lists.Role.TheVariants as role
 use Rattle.cs_grammar.specs.declared.orc.ItemForm.TheVariants as item
 

@@ -2,16 +2,17 @@
 use Rattle.std.specs.Prelude.{ℕ, Bool, true, false, List, ◌&&◌, not, Option, Some, None, Ok, Err, if◌then◌else◌}
 use Rattle.cs_base.specs.declared.fault.OrcFault.{OrcFault}
 use Rattle.cs_words.specs.{declared.sign.BinOp.BinOp, NameSets.has}
-use Rattle.cs_grammar.specs.{declared.symbol.Kind.Kind, Kinds.is_word, Kinds.is_name_kind}
-use Rattle.cs_grammar.specs.{declared.expr.PartForm.PartForm, declared.expr.Level.Level, Symbols.Symbol}
+use Rattle.cs_symbols.specs.{declared.symbol.Kind.Kind, Kinds.is_word, Kinds.is_name_kind}
+use Rattle.cs_symbols.specs.Symbols.{Symbol, next, after}
+use Rattle.cs_grammar.specs.{declared.expr.PartForm.PartForm, declared.expr.Level.Level}
 use Rattle.cs_grammar.specs.Tree.{Expression, number, var, field, head}
-use Rattle.cs_grammar.specs.Reading.{next, after, Left, Reading, Scope, next_is, misfit}
+use Rattle.cs_grammar.specs.Reading.{Left, Reading, Scope, next_is, misfit}
 use Rattle.cs_base.specs.declared.fault.OrcKind.TheVariants as orc
 use Rattle.cs_words.specs.declared.sign.BinOp.TheVariants as op
 use Rattle.cs_words.specs.declared.sign.Sign.TheVariants as sign
 use Rattle.cs_words.specs.declared.word.Word.TheVariants as word
-use Rattle.cs_grammar.specs.declared.symbol.Kind.TheVariants as kind
-use Rattle.cs_grammar.specs.declared.symbol.Expected.TheVariants as expected
+use Rattle.cs_symbols.specs.declared.symbol.Kind.TheVariants as kind
+use Rattle.cs_symbols.specs.declared.symbol.Expected.TheVariants as expected
 use Rattle.cs_grammar.specs.declared.expr.PartForm.TheVariants as part
 use Rattle.cs_grammar.specs.declared.expr.Level.TheVariants as level
 

@@ -3,23 +3,15 @@ use Rattle.std.specs.Prelude.{ℕ, Bool, false, List, [], ◌∷◌, ◌+◌, �
 use Rattle.std.specs.List.{list_any}
 use Rattle.cs_base.specs.{declared.fault.OrcFault.OrcFault, declared.fault.OrcKind.OrcKind}
 use Rattle.cs_words.specs.declared.word.Keyword.{Keyword}
-use Rattle.cs_grammar.specs.{declared.symbol.Kind.Kind, Kinds.is, declared.scope.Place.Place, Symbols.Symbol}
-use Rattle.cs_grammar.specs.declared.symbol.Expected.{Expected}
+use Rattle.cs_grammar.specs.declared.scope.Place.{Place}
+use Rattle.cs_symbols.specs.{declared.symbol.Kind.Kind, declared.symbol.Expected.Expected, Kinds.is}
+use Rattle.cs_symbols.specs.Symbols.{Symbol, next, after}
 use Rattle.cs_base.specs.declared.fault.OrcKind.TheVariants as orc
 use Rattle.cs_words.specs.declared.word.Keyword.TheVariants as key
 use Rattle.cs_words.specs.declared.word.Word.TheVariants as word
 use Rattle.cs_words.specs.declared.sign.Sign.TheVariants as sign
-use Rattle.cs_grammar.specs.declared.symbol.Kind.TheVariants as kind
+use Rattle.cs_symbols.specs.declared.symbol.Kind.TheVariants as kind
 use Rattle.cs_grammar.specs.declared.scope.Place.TheVariants as place
-
--- the first of the symbols that are left: after the last it is End
-abbrev pub next : List Symbol → Symbol
-next [] = record { kind = kind.End; text = []; line = 0 }
-next (t ∷ ts) = t
-
-abbrev pub after : List Symbol → List Symbol
-after [] = []
-after (t ∷ ts) = ts
 
 -- what is left to read, or the fault that ended the reading
 abbrev pub Left : Type 0

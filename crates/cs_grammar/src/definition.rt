@@ -1,16 +1,18 @@
 // Definitions of opcodes.
 ghost use Rattle.std.specs.Prelude.{◌≡◌, [], List, Ok, IfOk, IfErr};
 ghost use Rattle.cs_base.specs.declared.fault.Or.TheVariants as or;
-ghost use Rattle.cs_grammar.specs.{Symbols.Symbol, Headings.heading, Tree.definition, Orchestra.ReadsDefinition};
-ghost use Rattle.cs_grammar.specs.Reading.{after, in_definition, next};
+ghost use Rattle.cs_grammar.specs.{Headings.heading, Tree.definition, Orchestra.ReadsDefinition};
 ghost use Rattle.cs_grammar.specs.inner.Answers.{Gives, IsInside, IsLines, inside, of_inside};
+ghost use Rattle.cs_symbols.specs.Symbols.{Symbol};
+ghost use Rattle.cs_grammar.specs.Reading.{in_definition};
+ghost use Rattle.cs_symbols.specs.Symbols.{after, next};
 
 use crate::heading::Heading;
 use crate::parser::Parser;
 use crate::scope::Scope;
-use crate::symbol::Expected;
 use crate::tree::{Args, Stmts, Udo};
 use cs_base::{Items, Names, Or, OrcFault};
+use cs_symbols::Expected;
 use cs_words::NameSet;
 
 /// What a definition has between the line of `opcode` and `endop`.

@@ -3,19 +3,21 @@ ghost use Rattle.std.specs.Prelude.{◌≡◌, ◌≤◌, List, Ok, Some, None, 
 ghost use Rattle.cs_base.specs.declared.fault.Or.TheVariants as or;
 ghost use Rattle.cs_grammar.specs.declared.expr.Level.TheVariants as at;
 ghost use Rattle.cs_grammar.specs.declared.expr.PartForm.TheVariants as part;
-ghost use Rattle.cs_grammar.specs.{Tree.expression, Symbols.Symbol};
-ghost use Rattle.cs_grammar.specs.declared.symbol.Expected.TheVariants as expected;
-ghost use Rattle.cs_grammar.specs.declared.symbol.Kind.TheVariants as kind;
-ghost use Rattle.cs_grammar.specs.{Reading.next, Reading.after, Reading.next_is, Parts.one_symbol, Parts.atom};
-ghost use Rattle.cs_grammar.specs.{Grammar.ReadsExpr, Grammar.ReadsTail, inner.Answers.Gives};
-ghost use Rattle.cs_grammar.specs.inner.Answers.{IsClosed, in_box};
-ghost use Rattle.cs_grammar.specs.Parts.{tighter, rank, is_at, repeats, operator_of, part_form, part_form_of, no_part};
+ghost use Rattle.cs_grammar.specs.Tree.{expression};
+ghost use Rattle.cs_symbols.specs.Symbols.{Symbol};
+ghost use Rattle.cs_symbols.specs.declared.symbol.Expected.TheVariants as expected;
+ghost use Rattle.cs_symbols.specs.declared.symbol.Kind.TheVariants as kind;
+ghost use Rattle.cs_grammar.specs.{Reading.next_is, Grammar.ReadsExpr, Grammar.ReadsTail};
+ghost use Rattle.cs_grammar.specs.Parts.{one_symbol, atom, tighter, rank, is_at, repeats, operator_of, part_form};
+ghost use Rattle.cs_grammar.specs.Parts.{part_form_of, no_part};
+ghost use Rattle.cs_grammar.specs.inner.Answers.{Gives, IsClosed, in_box};
+ghost use Rattle.cs_symbols.specs.Symbols.{next, after};
 
 use crate::parser::Parser;
 use crate::scope::Scope;
-use crate::symbol::{Expected, Kind};
 use crate::tree::Expr;
 use cs_base::{Or, OrcFault, OrcKind};
+use cs_symbols::{Expected, Kind};
 use cs_words::{BinOp, Func, Sign, Word};
 
 /// The levels of an expression, the loosest first.

@@ -2,14 +2,14 @@
 ghost use Rattle.std.specs.Prelude.{◌≡◌, Ok, IfOk, map, true, false};
 ghost use Rattle.std.specs.List.{list_all};
 ghost use Rattle.cs_words.specs.{Names.is_rate_letter, Names.letter_rate, NameSets.has};
-ghost use Rattle.cs_grammar.specs.{Kinds.is_word, Kinds.may_be_opcode, Reading.next, Reading.after};
-ghost use Rattle.cs_grammar.specs.Headings.{heading, new_name, types, types_at};
+ghost use Rattle.cs_symbols.specs.{Kinds.is_word, Kinds.may_be_opcode, Symbols.next, Symbols.after};
 ghost use Rattle.cs_grammar.specs.inner.Answers.{Gives, signature};
+ghost use Rattle.cs_grammar.specs.Headings.{heading, new_name, types, types_at};
 
 use crate::parser::Parser;
 use crate::scope::Scope;
-use crate::symbol::{Expected, Kind};
 use cs_base::{Items, Or, OrcFault, OrcKind, Rate, Rates};
+use cs_symbols::{Expected, Kind};
 use cs_words::{Word, is_rate_letter, letter_rate};
 use std::alloc::{AllocError, Global};
 use std::marker::Model;

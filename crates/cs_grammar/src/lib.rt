@@ -9,7 +9,7 @@
 //! To be read in this order: `tree` (what comes out), `orc` (the whole, and instruments), `definition`, `heading`
 //! (its line of `opcode`), `xin` (its first line), `xout` (its last), `stmt`, `lists`, `expr` (the rules), `laws`
 //! (every text has one reading, and what holds of each tree), `parser` (the place that is reached), `scope` (where a
-//! line stands), `symbol` (what a token is).
+//! line stands).
 #![tactic(auto)]
 
 mod definition;
@@ -21,7 +21,6 @@ mod orc;
 mod parser;
 mod scope;
 mod stmt;
-mod symbol;
 mod tree;
 mod xin;
 mod xout;

@@ -1,17 +1,18 @@
 // Lists in a line: the variables that take results, what is called, the arguments.
 ghost use Rattle.std.specs.Prelude.{◌≡◌, ◌≤◌, Ok, length, map};
-ghost use Rattle.cs_grammar.specs.{Tree.argument, Reading.next, Reading.after, Parts.is_variable, Parts.is_opcode};
-ghost use Rattle.cs_grammar.specs.{inner.Answers.Gives, inner.Rows.targets, inner.Rows.quoted};
+ghost use Rattle.cs_grammar.specs.{Tree.argument, Parts.is_variable, Parts.is_opcode, inner.Answers.Gives};
+ghost use Rattle.cs_grammar.specs.{inner.Rows.targets, inner.Rows.quoted};
 ghost use Rattle.cs_grammar.specs.Lines.{no_target, target, operation, by_opcode, called, is_other_text};
 ghost use Rattle.cs_grammar.specs.Grammar.{ReadsArg, ReadsList, ReadsArgs};
+ghost use Rattle.cs_symbols.specs.Symbols.{next, after};
 ghost use Rattle.cs_grammar.specs.declared.lists.Role.TheVariants as role;
 
 use crate::expr::Level;
 use crate::parser::Parser;
 use crate::scope::{Place, Scope};
-use crate::symbol::{Expected, Kind};
 use crate::tree::{Arg, Args, Callee};
 use cs_base::{Name, Names, Or, OrcFault, OrcKind};
+use cs_symbols::{Expected, Kind};
 use cs_words::{Opcode, Word};
 
 /// The role of a value in a list: an argument of a call, or a result of a definition.
@@ -21,16 +22,14 @@ pub enum Role {
     Result,
 }
 
-impl Kind {
-    // The kind of fault of a symbol that can take no value.
-    fn no_target(self) -> OrcKind
-        ensures { result ≡ no_target self }
-    {
-        match self {
-            Kind::Word(Word::Field(_) | Word::Header(_)) => OrcKind::Unexpected,
-            _ if self.is_word() => OrcKind::NotInProfile,
-            _ => OrcKind::Unexpected,
-        }
+// The kind of fault of a symbol that can take no value.
+fn no_target(kind: Kind) -> OrcKind
+    ensures { result ≡ no_target kind }
+{
+    match kind {
+        Kind::Word(Word::Field(_) | Word::Header(_)) => OrcKind::Unexpected,
+        _ if kind.is_word() => OrcKind::NotInProfile,
+        _ => OrcKind::Unexpected,
     }
 }
 
@@ -67,7 +66,7 @@ impl<'s> Parser<'s> {
         if self.at_variable(scope) {
             self.take_name()
         } else {
-            Err(self.misfit(scope, self.kind().no_target()))
+            Err(self.misfit(scope, no_target(self.kind())))
         }
     }
 

@@ -1,14 +1,14 @@
 // The symbols of an orchestra, and the place that is reached.
 ghost use Rattle.std.specs.Prelude.{◌≡◌, ◌≤◌, ◌<◌, ◌^◌, IfOk, length};
 ghost use Rattle.cs_base.specs.declared.fault.Or.TheVariants as or;
-ghost use Rattle.cs_grammar.specs.{Symbols.symbols, inner.Reached.Spanned};
-ghost use Rattle.cs_grammar.specs.Reading.{next, after, next_is, fault, misfit};
+ghost use Rattle.cs_symbols.specs.Symbols.{symbols, Spanned, next, after};
+ghost use Rattle.cs_grammar.specs.Reading.{next_is, fault, misfit};
 ghost use Rattle.cs_grammar.specs.inner.Answers.{Passes, past, line_past};
 
 use crate::scope::Scope;
-use crate::symbol::{Expected, Kind, bytes_of, counted, first_kind, second_kind, unquoted};
 use cs_base::{Items, Name, Or, OrcFault, OrcKind};
 use cs_lex::Token;
+use cs_symbols::{Expected, Kind, bytes_of, counted, first_kind, second_kind, unquoted};
 use std::alloc::{AllocError, Global};
 use std::marker::Model;
 
@@ -27,7 +27,8 @@ pub struct Parser<'s> {
 
 impl<'s> Model for Parser<'s> {
     ghost use Rattle.std.specs.Prelude.{List};
-    ghost use Rattle.cs_grammar.specs.{Symbols.Symbol, Symbols.symbols_from, inner.Reached.IsReached};
+    ghost use Rattle.cs_grammar.specs.inner.Reached.{IsReached};
+    ghost use Rattle.cs_symbols.specs.Symbols.{Symbol, symbols_from};
 
     ghost Value = { List Symbol };
 

@@ -6,8 +6,8 @@ ghost use Rattle.cs_grammar.specs.Reading.{outside, in_instrument, in_definition
 ghost use Rattle.cs_grammar.specs.Reading.{keyword_kind, early, open_kind};
 ghost use Rattle.cs_grammar.specs.{Parts.is_opcode, Lines.is_own};
 
-use crate::symbol::Kind;
 use cs_base::OrcKind;
+use cs_symbols::Kind;
 use cs_words::{Keyword, NameSet, Sign, Word};
 use std::marker::Model;
 

@@ -5,18 +5,19 @@ ghost use Rattle.cs_base.specs.declared.fault.Or.TheVariants as or;
 ghost use Rattle.cs_words.specs.declared.sign.BinOp.TheVariants as op;
 ghost use Rattle.cs_grammar.specs.declared.stmt.LineForm.TheVariants as form;
 ghost use Rattle.cs_grammar.specs.declared.tree.Arm.{out-Arm};
+ghost use Rattle.cs_grammar.specs.{Reading.next_is, Lines.word_form, Lines.line_form};
 ghost use Rattle.cs_grammar.specs.Tree.{var, pair, expression, of_what, statement, block, arms, otherwise};
-ghost use Rattle.cs_grammar.specs.declared.symbol.Expected.TheVariants as expected;
-ghost use Rattle.cs_grammar.specs.{Reading.next, Reading.next_is, Lines.word_form, Lines.line_form};
 ghost use Rattle.cs_grammar.specs.inner.Answers.{Gives, GivesLine, IsArm, IsCondition};
 ghost use Rattle.cs_grammar.specs.Grammar.{assign, ends_block, ReadsStmt, ReadsBlock, ReadsArms, ReadsMore};
+ghost use Rattle.cs_symbols.specs.declared.symbol.Expected.TheVariants as expected;
+ghost use Rattle.cs_symbols.specs.Symbols.{next};
 
 use crate::expr::Level;
 use crate::parser::Parser;
 use crate::scope::{Place, Scope};
-use crate::symbol::{Expected, Kind};
 use crate::tree::{Arm, Arms, Expr, OrcStmt, StmtWhat, Stmts};
 use cs_base::{Items, MOST_NESTED_IFS, Name, Names, Or, OrcFault, OrcKind};
+use cs_symbols::{Expected, Kind};
 use cs_words::{BinOp, Keyword, Sign, Word};
 
 /// How a line is read: by its first word and the symbol after it.

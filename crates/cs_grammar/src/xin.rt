@@ -1,15 +1,16 @@
 // The first line of a definition: the names that take its inputs.
 ghost use Rattle.std.specs.Prelude.{◌≡◌, ◌≤◌, ◌<◌, ◌^◌, ◌++◌, IfOk, IfSome, length};
 ghost use Rattle.cs_words.specs.NameSets.{has};
-ghost use Rattle.cs_grammar.specs.{Reading.next, Inputs.is_free, Inputs.is_local, inner.Answers.Gives};
+ghost use Rattle.cs_grammar.specs.{Inputs.is_free, Inputs.is_local, inner.Answers.Gives};
 ghost use Rattle.cs_grammar.specs.inner.Takes.{input_count, plus_one, is_input, are_inputs, words, at_xin, inputs};
 ghost use Rattle.cs_grammar.specs.inner.Takes.{no_names, taken_so_many, is_none, first_fits, after_first};
+ghost use Rattle.cs_symbols.specs.Symbols.{next};
 
 use crate::heading::Heading;
 use crate::parser::Parser;
 use crate::scope::Scope;
-use crate::symbol::Expected;
 use cs_base::{Names, Or, OrcFault, OrcKind, Rate};
+use cs_symbols::Expected;
 use cs_words::{is_global, name_rate};
 use std::alloc::AllocError;
 

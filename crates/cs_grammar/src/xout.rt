@@ -7,9 +7,9 @@ ghost use Rattle.cs_grammar.specs.inner.Takes.{are_results, results_of, no_resul
 use crate::lists::Role;
 use crate::parser::Parser;
 use crate::scope::Scope;
-use crate::symbol::Expected;
 use crate::tree::{Arg, Args};
 use cs_base::{Or, OrcFault, OrcKind, Rate};
+use cs_symbols::Expected;
 
 // One value for each result.
 fn are_results(values: &[Arg], outs: &[Rate]) -> bool

@@ -39,8 +39,7 @@ or_false true b h k = cc
 
 and_not : (a b : Bool) → a ≡ true → b ≡ false → (a && not b) ≡ true
 and_not true false h k = refl
-and_not true true h k = cc
-and_not false b h k = cc
+and_not _ _ h k = cc
 
 pub class_means : (b : ℕ) → Means (class_of b) b
 class_means b = grind (arith, common_steps, and_not, is, is_not, or_false, pick)

@@ -16,8 +16,7 @@ pick_within false false true a b c n h k l = l refl refl
 pick_within false false false a b c n h k l = omega arith
 
 pick_some : (line left_open block : Bool) (a b c : ℕ) → (line || block) ≡ true → (line ≡ true → 0 < a)
-    → (left_open ≡ true → 0 < b) → 0 < c
-    → 0 < (if line then a else if left_open then b else if block then c else 0)
+    → (left_open ≡ true → 0 < b) → 0 < c → 0 < (if line then a else if left_open then b else if block then c else 0)
 pick_some true left_open block a b c e h k l = h refl
 pick_some false true block a b c e h k l = k refl
 pick_some false false true a b c e h k l = l

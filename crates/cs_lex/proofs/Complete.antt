@@ -56,9 +56,7 @@ each_of : (test : ℕ → Bool) (b : ℕ) (xs : List ℕ) → list_all test xs �
 each_of test b [] h k = absurd (false≢true k)
 each_of test b (x ∷ xs) h k =
     let both = and_parts (test x) (list_all test xs) h in
-    by_test (b == x)
-    (λ e. ap test (equals b x e) ∙ both.0)
-    (λ e. each_of test b xs both.1 (rw e at k))
+    by_test (b == x) (λ e. ap test (equals b x e) ∙ both.0) (λ e. each_of test b xs both.1 (rw e at k))
 
 abbrev is_sign_class : Class → Bool
 is_sign_class class.Sign = true
@@ -126,8 +124,7 @@ ends_run : (p : ℕ → Bool) (form : List ℕ → Bool) (span after : List ℕ)
     → ((c : ℕ) → p c ≡ true → form (span ++ c ∷ []) ≡ true) → begins p after ≡ false
 ends_run p form span [] h goes = refl
 ends_run p form span (c ∷ rest) h goes = by_test (p c)
-    (λ e. absurd (false≢true (sym (h.stops (c ∷ []) rest (λ x. cc) refl) ∙ goes c e)))
-    (λ e. e)
+    (λ e. absurd (false≢true (sym (h.stops (c ∷ []) rest (λ x. cc) refl) ∙ goes c e))) (λ e. e)
 
 all_and_one : (p : ℕ → Bool) (xs : List ℕ) (c : ℕ) → list_all p xs ≡ true → p c ≡ true
     → list_all p (xs ++ c ∷ []) ≡ true
@@ -143,11 +140,9 @@ run_of_span p span after h k m = ap (found m) (run_is p span after h k)
 
 comment_is : (text : List ℕ) → begins_comment text ≡ true → front_of text ≡ comment_front text
 comment_is text h = by_test (begins_with (codes ";") text)
-    (λ e. by_semicolon text (drop 1 text) (front_is (codes ";") text e))
-    (λ n. by_test (begins_with (codes "//") text)
+    (λ e. by_semicolon text (drop 1 text) (front_is (codes ";") text e)) (λ n. by_test (begins_with (codes "//") text)
     (λ e. by_slash text (47 ∷ drop 2 text) (front_is (codes "//") text e) h)
-    (λ m. by_slash text (42 ∷ drop 2 text)
-    (front_is (codes "/*") text
+    (λ m. by_slash text (42 ∷ drop 2 text) (front_is (codes "/*") text
     (last (begins_with (codes ";") text) (begins_with (codes "//") text) (begins_block_comment text) n m h)) h))
   where
     by_semicolon : (text rest : List ℕ) → text ≡ 59 ∷ rest → front_of text ≡ comment_front text
@@ -203,11 +198,9 @@ text_found span after h =
 
 sign_found : (span after : List ℕ) → IsSign span after → Finds (Some mark.Sign) span after
 sign_found [] after h = absurd (false≢true h.longest.fits)
-sign_found (a ∷ []) after h = by_test (a == 47)
-    (λ e. subst (λ x. begins_comment (x ∷ after) ≡ false
+sign_found (a ∷ []) after h = by_test (a == 47) (λ e. subst (λ x. begins_comment (x ∷ after) ≡ false
     → ((c : ℕ) (r : List ℕ) → after ≡ c ∷ r → is_long_sign x c ≡ false) → Finds (Some mark.Sign) (x ∷ []) after)
-    (sym (equals a 47 e)) (slash_found after) h.other (short a after h.longest.stops))
-    (λ n. by_first class.Sign a after
+    (sym (equals a 47 e)) (slash_found after) h.other (short a after h.longest.stops)) (λ n. by_first class.Sign a after
     (short_sign_class a h.longest.fits (λ e. false≢true (sym n ∙ ap (λ x. x == 47) e)))
     ∙ one a after (short a after h.longest.stops))
   where
@@ -262,8 +255,7 @@ numeral_begins text span after e h other = elim (numeral_first span h) [
         (other (record { after = drop 5 (b ∷ (span ++ after)); whole = is.0; ends = is.1 })))
         (λ n. record {
           front = digit_front_is (b ∷ (span ++ after)) h;
-          looks =
-              by_first class.Digit b (span ++ after) (digit_class b h) ∙ (rw n);
+          looks = by_first class.Digit b (span ++ after) (digit_class b h) ∙ (rw n);
         })
 
     by_point : (rest after : List ℕ) → begins is_ascii_digit rest ≡ true → LooksForNumber (46 ∷ (rest ++ after))

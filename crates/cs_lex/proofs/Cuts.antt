@@ -107,22 +107,16 @@ cut (suc n) (b ∷ rest) l = by_front n (b ∷ rest) l (cut n) (front_of (b ∷ 
 
 -- ---- the laws of reading
 
-pub some_reading : (first : ℕ) (source : List ℕ)
-    → ((tokens : List Token) × Lexed (excerpt first source) tokens)
+pub some_reading : (first : ℕ) (source : List ℕ) → ((tokens : List Token) × Lexed (excerpt first source) tokens)
     ⊎ ((line : ℕ) × (kind : OrcKind) × LexFault (excerpt first source) line kind)
 some_reading first source =
     let c = cut (length source) source (omega arith) in
     elim c.ends [
       | inl e ↦ inl (
-        merged true (tokens_after first [] c.pieces) ++ end_of (excerpt first source)
-            ∷ [],
+        merged true (tokens_after first [] c.pieces) ++ end_of (excerpt first source) ∷ [],
         (
           c.pieces,
-          record {
-            whole = c.whole ∙ ap (λ t. text_of c.pieces ++ t) e;
-            fit =
-                subst (AllFit c.pieces) e c.fit;
-          },
+          record { whole = c.whole ∙ ap (λ t. text_of c.pieces ++ t) e; fit = subst (AllFit c.pieces) e c.fit },
           refl,
         ),
       )
@@ -141,8 +135,7 @@ abbrev failed : OrcKind → Result Front OrcKind
 failed k = Err k
 
 pub one_fault : (first : ℕ) (source : List ℕ) (l m : ℕ) (j k : OrcKind) → LexFault (excerpt first source) l j
-    → LexFault (excerpt first source) m k
-    → (l ≡ m) × (j ≡ k)
+    → LexFault (excerpt first source) m k → (l ≡ m) × (j ≡ k)
 one_fault first source l m j k (ps, r, cp, f, lp) (qs, s, cq, g, lq) = grind (arith, common_steps, fault_found, one_cut)
 
 pub not_both : (first : ℕ) (source : List ℕ) (ts : List Token) (l : ℕ) (k : OrcKind) → Lexed (excerpt first source) ts

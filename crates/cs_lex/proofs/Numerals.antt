@@ -120,8 +120,7 @@ pointed_front text rest e some =
     let split_at : text ≡ (s.front ++ 46 ∷ []) ++ rest =
     s.whole ∙ ap (λ x. s.front ++ x) e ∙ sym (append_assoc s.front (46 ∷ []) rest) in
     let second : drop (run is_ascii_digit text + 1) text ≡ rest =
-    ap (drop (run is_ascii_digit text + 1)) split_at
-    ∙ drop_at (s.front ++ 46 ∷ []) rest (run is_ascii_digit text + 1)
+    ap (drop (run is_ascii_digit text + 1)) split_at ∙ drop_at (s.front ++ 46 ∷ []) rest (run is_ascii_digit text + 1)
     (length-append s.front (46 ∷ []) ∙ ap (λ n. n + 1) (sym s.len)) in
     let point : begins is_point (drop (run is_ascii_digit text) text) ≡ true =
     ap (begins is_point) (after_run is_ascii_digit text ∙ e) in
@@ -144,12 +143,10 @@ begun p (b ∷ rest) h = grind (arith, common_steps, split)
 
 -- a text that begins with a digit, or with a point and a digit, begins with a decimal
 pub digit_front_is : (text : List ℕ) → begins is_ascii_digit text ≡ true → NumeralFront text
-digit_front_is text h = by_test (begins is_point (split is_ascii_digit text).after)
-    (λ point.
+digit_front_is text h = by_test (begins is_point (split is_ascii_digit text).after) (λ point.
     let found = first_is is_point (split is_ascii_digit text).after point in
     pointed_front text found.1 (found.2 ∙ ap (λ b. b ∷ found.1) (equals found.0 46 found.3))
-    (omega (arith, begun is_ascii_digit text h)))
-    (λ none. plain_front text (begun is_ascii_digit text h) none)
+    (omega (arith, begun is_ascii_digit text h))) (λ none. plain_front text (begun is_ascii_digit text h) none)
 
 pub point_front_is : (rest : List ℕ) → begins is_ascii_digit rest ≡ true → NumeralFront (46 ∷ rest)
 point_front_is rest h =
@@ -162,14 +159,11 @@ point_front_is rest h =
 pub numeral_first : (span : List ℕ) → is_numeral span ≡ true
     → (begins is_ascii_digit span ≡ true) ⊎ ((rest : List ℕ) × (span ≡ 46 ∷ rest) × (begins is_ascii_digit rest ≡ true))
 numeral_first [] h = absurd (false≢true h)
-numeral_first (b ∷ rest) h = by_test (is_point b)
-    (λ e. inr (
-      rest,
-      ap (λ x. x ∷ rest) (equals b 46 e),
-      after_first_point rest
-          (sym (ap (λ x. is_numeral (x ∷ rest)) (equals b 46 e)) ∙ h),
-    ))
-    (λ n. inl (digit_first b rest n h))
+numeral_first (b ∷ rest) h = by_test (is_point b) (λ e. inr (
+  rest,
+  ap (λ x. x ∷ rest) (equals b 46 e),
+  after_first_point rest (sym (ap (λ x. is_numeral (x ∷ rest)) (equals b 46 e)) ∙ h),
+)) (λ n. inl (digit_first b rest n h))
   where
     some_rest : (rest : List ℕ) → nat_lt 0 (0 + length rest) ≡ true → list_all is_ascii_digit rest ≡ true
         → begins is_ascii_digit rest ≡ true

@@ -63,9 +63,8 @@ nothing_read first source = record {
 
 -- one piece more
 read_piece : (first : ℕ) (source : List ℕ) (at line : ℕ) (fed : Bool) (tokens : List Token) (m : Option Mark)
-    (n feeds : ℕ)
-    (fed' : Bool) (tokens' : List Token) (r : Read first source at line fed tokens) (s : Starts (drop at source) m n)
-    → feeds ≡ count_by is_feed (take n (drop at source))
+    (n feeds : ℕ) (fed' : Bool) (tokens' : List Token) (r : Read first source at line fed tokens)
+    (s : Starts (drop at source) m n) → feeds ≡ count_by is_feed (take n (drop at source))
     → fed' ≡ fed_after true (tokens_after first [] r.pieces ++ token_of first m (text_of r.pieces) s.span)
     → tokens' ≡ merged true (tokens_after first [] r.pieces ++ token_of first m (text_of r.pieces) s.span)
     → Read first source (at + n) (line + feeds) fed' tokens'
@@ -90,8 +89,7 @@ read_piece first source at line fed tokens m n feeds fed' tokens' r s f is_fed a
         f,
         ap (count_by is_feed) front,
         ap (count_by is_feed) text,
-        count_by-append
-            is_feed (text_of r.pieces) s.span,
+        count_by-append is_feed (text_of r.pieces) s.span,
       );
       tokens_are = are_tokens ∙ ap (merged true) (sym all);
       fed_is = is_fed ∙ ap (fed_after true) (sym all);
@@ -110,8 +108,7 @@ abbrev pub made : Mark → ℕ → ℕ → ℕ → Token
 made m x y z = record { mark = m; from = x; to = y; line = z }
 
 pub read_token : (first : ℕ) (source : List ℕ) (at line : ℕ) (fed : Bool) (tokens : List Token) (m : Mark) (n feeds : ℕ)
-    (t : Token)
-    → Read first source at line fed tokens → Starts (drop at source) (Some m) n
+    (t : Token) → Read first source at line fed tokens → Starts (drop at source) (Some m) n
     → feeds ≡ count_by is_feed (take n (drop at source)) → t ≡ record { mark = m; from = at; to = at + n; line = line }
     → Read first source (at + n) (line + feeds) (is_newline t) (tokens ++ merged fed (t ∷ []))
 read_token first source at line fed tokens m n feeds t r s f is =
@@ -183,9 +180,8 @@ pub next_within : (source : List ℕ) (at n : ℕ) → at < length source
 next_within source at n l h = omega (arith, length-take (length source - at) (drop at source))
 
 read_any : (first : ℕ) (source : List ℕ) (at line : ℕ) (fed : Bool) (tokens : List Token) (m : Option Mark)
-    (n feeds : ℕ)
-    (fed' : Bool) (tokens' : List Token) → Read first source at line fed tokens → Starts (drop at source) m n
-    → feeds ≡ count_by is_feed (take n (drop at source)) → fed' ≡ fed_by fed m
+    (n feeds : ℕ) (fed' : Bool) (tokens' : List Token) → Read first source at line fed tokens
+    → Starts (drop at source) m n → feeds ≡ count_by is_feed (take n (drop at source)) → fed' ≡ fed_by fed m
     → tokens' ≡ tokens ++ merged fed (given m at (at + n) line) → Read first source (at + n) (line + feeds) fed' tokens'
 read_any first source at line fed tokens None n feeds fed' tokens' r s g now more =
     grind (arith, common_steps, append-nil, read_gap)
@@ -203,13 +199,11 @@ pub next_piece : (first : ℕ) (source : List ℕ) (at line : ℕ) (fed : Bool) 
     → Read first source (at + f.len) (line + feeds) fed' tokens'
 next_piece first source at line fed tokens f feeds fed' tokens' l r e g now more =
     read_any first source at line fed tokens f.mark f.len feeds fed' tokens' r
-    (starts source at f l (rest_is source at f e))
-    (fed_is source at f.len feeds g) now more
+    (starts source at f l (rest_is source at f e)) (fed_is source at f.len feeds g) now more
 
 pub next_fault : (first : ℕ) (source : List ℕ) (at line : ℕ) (fed : Bool) (tokens : List Token) (k : OrcKind)
-    → at < length source
-    → Read first source at line fed tokens → Err k ≡ front_of (take (length source - at) (drop at source))
-    → LexFault (excerpt first source) line k
+    → at < length source → Read first source at line fed tokens
+    → Err k ≡ front_of (take (length source - at) (drop at source)) → LexFault (excerpt first source) line k
 next_fault first source at line fed tokens k l r e =
     fault_read first source at line fed tokens k r (faults source at k l (e ∙ ap front_of (take_rest source at)))
 

@@ -130,8 +130,7 @@ joined_right : (rest : List ℕ) → Right (92 ∷ rest) (joined_front rest)
 joined_right rest =
     let s = split is_blank rest in
     let same = after_run is_blank rest in
-    by_test (begins is_feed s.after)
-    (λ h. rw (same, h) (joins rest s (first_is is_feed s.after h)))
+    by_test (begins is_feed s.after) (λ h. rw (same, h) (joins rest s (first_is is_feed s.after h)))
     (λ h. rw (same, h) (inr (inl (record {
       rest = rest;
       whole = refl;
@@ -177,8 +176,7 @@ text_right rest =
     let s = split is_quotable rest in
     let front = take_run is_quotable rest in
     let after = after_run is_quotable rest in
-    by_test (list_all is_allowed s.front)
-    (λ all. by_test (begins is_quote s.after)
+    by_test (list_all is_allowed s.front) (λ all. by_test (begins is_quote s.after)
     (λ h. rw (front, all, after, h) (closes rest s all (first_is is_quote s.after h)))
     (λ h. rw (front, all, after, h) (inr (inr (record {
       body = s.front;
@@ -186,8 +184,7 @@ text_right rest =
       whole = ap (λ t. 34 ∷ t) s.whole;
       plain = list_all_both is_allowed is_quotable s.front all s.all;
       ends = open_ends s.after s.ends h;
-    })))))
-    (λ bad. rw (front, bad) (inr (has_bad rest s (where_fails is_allowed s.front bad))))
+    }))))) (λ bad. rw (front, bad) (inr (has_bad rest s (where_fails is_allowed s.front bad))))
   where
     closes : (rest : List ℕ) (s : Split is_quotable rest) → list_all is_allowed s.front ≡ true
         → (b : ℕ) × (r : List ℕ) × (s.after ≡ b ∷ r) × (is_quote b ≡ true)
@@ -203,14 +200,12 @@ text_right rest =
           fits = record {
             body = s.front;
             whole = refl;
-            plain =
-                list_all_both is_allowed is_quotable s.front all s.all;
+            plain = list_all_both is_allowed is_quotable s.front all s.all;
           };
         }
 
-    has_bad : (rest : List ℕ) (s : Split is_quotable rest)
-        → (before : List ℕ) × (b : ℕ) × (after : List ℕ) × (s.front ≡ before ++ b ∷ after) × (is_allowed b ≡ false)
-        → HasBadByte (34 ∷ rest)
+    has_bad : (rest : List ℕ) (s : Split is_quotable rest) → (before : List ℕ) × (b : ℕ) ×
+        (after : List ℕ) × (s.front ≡ before ++ b ∷ after) × (is_allowed b ≡ false) → HasBadByte (34 ∷ rest)
     has_bad rest s (before, b, after, e, bad) = record {
       body = before;
       byte = b;
@@ -246,8 +241,7 @@ number_right text f other =
     let taken : take (numeral_len text) text ≡ f.span = ap (take n) f.whole ∙ take_at f.span f.after n (sym f.len) in
     let numeral : IsNumeral f.span f.after =
     record { longest = f.longest; other = λ scale. other (subst IsFullScale (sym f.whole) scale) } in
-    by_test (begins is_letter f.after)
-    (λ h. rw (dropped, h) (record
+    by_test (begins is_letter f.after) (λ h. rw (dropped, h) (record
     { span = f.span; after = f.after; whole = f.whole; numeral = numeral; wrong = inl h }))
     (λ h. by_test (nat_le (whole_part f.span) greatest_whole)
     (λ small. rw (dropped, h, taken, f.longest.fits, small) (record {
@@ -257,8 +251,7 @@ number_right text f other =
       len = f.len;
       some = omega (arith, f.len, f.some);
       fits = record { numeral = numeral; ends = h; value_is = value_is f.span f.longest.fits small };
-    }))
-    (λ great. rw (dropped, h, taken, f.longest.fits, great) (record {
+    })) (λ great. rw (dropped, h, taken, f.longest.fits, great) (record {
       span = f.span;
       after = f.after;
       whole = f.whole;
@@ -287,8 +280,7 @@ digit_right b rest h = by_test (begins_with (codes "0dbfs") (b ∷ rest) && not 
       len = refl;
       some = omega arith;
       fits = inr (refl, is.1);
-    }))
-    (λ other. rw other (number_right (b ∷ rest) (digit_front_is (b ∷ rest) h)
+    })) (λ other. rw other (number_right (b ∷ rest) (digit_front_is (b ∷ rest) h)
     (λ scale. false≢true (sym other ∙ full_scale_is (b ∷ rest) scale))))
 
 point_right : (rest : List ℕ) → Right (46 ∷ rest) (point_front (46 ∷ rest))

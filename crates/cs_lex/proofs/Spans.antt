@@ -87,8 +87,7 @@ pairs_and_one : (R : Token → Token → Type 0) (ts : List Token) (e : Token) �
     → AllPairs R (ts ++ e ∷ [])
 pairs_and_one R [] e h k = AllPairs-cons R e [] (λ i d l. absurd (omega arith)) (no_pairs R)
 pairs_and_one R (t ∷ ts) e h k =
-    AllPairs-cons R t (ts ++ e ∷ [])
-    (All-append (R t) ts (e ∷ []) (λ i d l. h 0 (suc i) d (omega arith) (omega arith))
+    AllPairs-cons R t (ts ++ e ∷ []) (All-append (R t) ts (e ∷ []) (λ i d l. h 0 (suc i) d (omega arith) (omega arith))
     (All-cons (R t) e [] (k 0 t (omega arith)) (λ i d l. absurd (omega arith))))
     (pairs_and_one R ts e (λ i j d l m. h (suc i) (suc j) d (omega arith) (omega arith))
     (λ i d l. k (suc i) d (omega arith)))
@@ -111,8 +110,7 @@ pieces_after : (first : ℕ) (before : List ℕ) (ps : List TextPiece)
 pieces_after first before [] = λ k d l. absurd (omega arith)
 pieces_after first before (p ∷ ps) =
     All-append (IsAfter (length before) (line_after first before)) (token_of first p.mark before p.span)
-    (tokens_after first (before ++ p.span) ps)
-    (here p.mark)
+    (tokens_after first (before ++ p.span) ps) (here p.mark)
     (weaker (length before) (length (before ++ p.span)) (line_after first before) (line_after first (before ++ p.span))
     (tokens_after first (before ++ p.span) ps)
     (omega (arith, length-append before p.span)) (omega (arith, line_on first before p.span))
@@ -137,8 +135,7 @@ one_leads : (first : ℕ) (before span after : List ℕ) (m : Option Mark) (us :
 one_leads first before span after None us fits h k = k
 one_leads first before span after (Some m) us fits h k =
     AllPairs-cons Leads (token_at first m before span) us
-    (λ i d l. leads first m before span after fits (get_or us i d) (h i d l))
-    k
+    (λ i d l. leads first m before span after fits (get_or us i d) (h i d l)) k
 
 pieces_lead : (first : ℕ) (before : List ℕ) (ps : List TextPiece) (rest : List ℕ) → AllFit ps rest
     → AllPairs Leads (tokens_after first before ps)
@@ -188,10 +185,8 @@ pieces_end first before (p ∷ ps) h =
         All-cons (EndsAfter (end_of (excerpt first (before ++ text_of (p ∷ ps))))) (token_at first m before p.span) [] (
           not_end m fits,
           omega (arith, length-append before (text_of (p ∷ ps)), inner),
-          end_line first before
-              (text_of (p ∷ ps)) (omega (arith, some, inner)),
-        )
-        (λ k d l. absurd (omega arith))
+          end_line first before (text_of (p ∷ ps)) (omega (arith, some, inner)),
+        ) (λ k d l. absurd (omega arith))
 
 record Stands (first : ℕ) (source : List ℕ) (front : List Token) : Type 0 where
   pairs : AllPairs Leads front

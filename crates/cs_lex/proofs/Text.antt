@@ -93,8 +93,7 @@ by_order m n f g = elim (leb_tells m n) [ inl h ↦ f h.1 | inr h ↦ g (omega a
 -- two longest spans of one form at one text are the same
 pub longest_once : (form : List ℕ → Bool) (a b c d : List ℕ) → Longest form a b → Longest form c d → a ++ b ≡ c ++ d
     → a ≡ c
-longest_once form a b c d h k e = by_order (length a) (length c)
-    (λ l. meet a b c d h k (split_more a b c d e l))
+longest_once form a b c d h k e = by_order (length a) (length c) (λ l. meet a b c d h k (split_more a b c d e l))
     (λ l. sym (meet c d a b k h (split_more c d a b (sym e) l)))
   where
     meet : (a b c d : List ℕ) → Longest form a b → Longest form c d

@@ -2,19 +2,21 @@
 use Rattle.std.specs.Prelude.{ℕ, List, [], ◌++◌, ◌≡◌, Result, Ok, Err, if◌then◌else◌, map, box_value}
 use Rattle.std.specs.Global.{Box}
 use Rattle.cs_base.specs.{declared.fault.Or.Or, declared.fault.OrcFault.OrcFault, declared.resource.Rate.Rate}
-use Rattle.cs_grammar.specs.{declared.symbol.Kind.Kind, declared.symbol.Expected.Expected}
+use Rattle.cs_symbols.specs.{declared.symbol.Kind.Kind, declared.symbol.Expected.Expected}
+use Rattle.cs_symbols.specs.Symbols.{Symbol, next, after}
 use Rattle.cs_grammar.specs.{declared.tree.Expr.Expr, declared.tree.StmtWhat.StmtWhat}
-use Rattle.cs_grammar.specs.{declared.definition.Inside.Inside, Tree.of_what, Tree.joins}
-use Rattle.cs_grammar.specs.{declared.orc.Draft.Draft, Tree.orchestra, Headings.Heading, Headings.types}
-use Rattle.cs_grammar.specs.{inner.Takes.inputs, Symbols.Symbol, Reading.Scope, Reading.outside, Reading.misfit}
-use Rattle.cs_grammar.specs.Tree.{Expression, expression, Argument, argument, Block, block, Definition, Orchestra}
+use Rattle.cs_grammar.specs.{declared.definition.Inside.Inside, declared.orc.Draft.Draft, Headings.Heading}
+use Rattle.cs_grammar.specs.{Headings.types, inner.Takes.inputs}
+use Rattle.cs_grammar.specs.Tree.{of_what, joins, orchestra, Expression, expression, Argument, argument, Block, block}
+use Rattle.cs_grammar.specs.Tree.{Definition, Orchestra}
+use Rattle.cs_grammar.specs.Reading.{Scope, outside, misfit, Left, Reading, left, both, three, mapped, next_is, through}
+use Rattle.cs_grammar.specs.Reading.{ended}
 use Rattle.cs_grammar.specs.Grammar.{ReadsExpr, ReadsStmt, ReadsBlock}
 use Rattle.cs_grammar.specs.Orchestra.{ReadsOrc, ReadsResult, behind_xout, definition_of}
-use Rattle.cs_grammar.specs.Reading.{next, after, Left, Reading, left, both, three, mapped, next_is, through, ended}
 use Rattle.cs_base.specs.declared.fault.Or.TheVariants as or
 use Rattle.cs_base.specs.declared.fault.OrcKind.TheVariants as orc
-use Rattle.cs_grammar.specs.declared.symbol.Kind.TheVariants as kind
-use Rattle.cs_grammar.specs.declared.symbol.Expected.TheVariants as expected
+use Rattle.cs_symbols.specs.declared.symbol.Kind.TheVariants as kind
+use Rattle.cs_symbols.specs.declared.symbol.Expected.TheVariants as expected
 use Rattle.cs_grammar.specs.declared.expr.Level.TheVariants as level
 
 -- What a call of the parser returns: a reading of the given kind, which leaves what is left then. Out of memory says

@@ -1,12 +1,8 @@
 -- What the parser knows of the place that it has reached.
-use Rattle.std.specs.Prelude.{ℕ, List, [], ◌∷◌, ◌+◌, ◌<◌, ◌≤◌, ◌≡◌, ◌^◌, length}
+use Rattle.std.specs.Prelude.{ℕ, List, ◌+◌, ◌<◌, ◌≡◌, ◌^◌, length}
 use Rattle.cs_lex.specs.declared.token.Token.{Token}
-use Rattle.cs_grammar.specs.{declared.symbol.Kind.Kind, Reading.next, Reading.after, Symbols.symbols_from}
-
--- the bytes of each token stand in a text of this length
-abbrev pub Spanned : ℕ → List Token → Type 0
-Spanned size [] = Unit {0}
-Spanned size (t ∷ ts) = (t.from ≤ t.to) × (t.to ≤ size) × Spanned size ts
+use Rattle.cs_symbols.specs.declared.symbol.Kind.{Kind}
+use Rattle.cs_symbols.specs.Symbols.{Spanned, next, after, symbols_from}
 
 -- A place that is reached: tokens of the text are left, the first of them after `place` others of its line, and what
 -- the next two symbols are is known.

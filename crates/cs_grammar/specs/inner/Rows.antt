@@ -1,10 +1,11 @@
 -- Lists of words and numbers, as the parser goes along them.
 use Rattle.std.specs.Prelude.{ℕ, List, [], ◌∷◌, ◌++◌, Ok, Err, if◌then◌else◌}
-use Rattle.cs_grammar.specs.{declared.lists.Role.Role, Symbols.Symbol, Tree.Argument, Tree.text, Kinds.is}
-use Rattle.cs_grammar.specs.Reading.{next, after, Reading, mapped, Scope, fault}
-use Rattle.cs_grammar.specs.Lines.{one_number, one_target}
+use Rattle.cs_grammar.specs.{declared.lists.Role.Role, Tree.Argument, Tree.text, Lines.one_number, Lines.one_target}
+use Rattle.cs_grammar.specs.Reading.{Reading, mapped, Scope, fault}
+use Rattle.cs_symbols.specs.Kinds.{is}
+use Rattle.cs_symbols.specs.Symbols.{Symbol, next, after}
 use Rattle.cs_base.specs.declared.fault.OrcKind.TheVariants as orc
-use Rattle.cs_grammar.specs.declared.symbol.Expected.TheVariants as expected
+use Rattle.cs_symbols.specs.declared.symbol.Expected.TheVariants as expected
 use Rattle.cs_grammar.specs.declared.lists.Role.TheVariants as role
 
 -- an item, and more of them

@@ -3,11 +3,12 @@ use Rattle.std.specs.Prelude.{ℕ, Bool, true, false, List, [], ◌∷◌, ◌++
 use Rattle.std.specs.Prelude.{Ok, Err, if◌then◌else◌, zero, suc, ◌+◌}
 use Rattle.cs_base.specs.{declared.resource.Rate.Rate, Rates.same_rate}
 use Rattle.cs_words.specs.{Names.name_rate, NameSets.has}
-use Rattle.cs_grammar.specs.{Symbols.Symbol, Kinds.is, Tree.Argument, Headings.Heading, Orchestra.behind_xout}
-use Rattle.cs_grammar.specs.Reading.{next, after, Reading, next_is, Scope, fault, ended}
-use Rattle.cs_grammar.specs.Inputs.{is_free, is_local}
+use Rattle.cs_grammar.specs.{Tree.Argument, Headings.Heading, Orchestra.behind_xout, Inputs.is_free, Inputs.is_local}
+use Rattle.cs_grammar.specs.Reading.{Reading, next_is, Scope, fault, ended}
+use Rattle.cs_symbols.specs.Kinds.{is}
+use Rattle.cs_symbols.specs.Symbols.{Symbol, next, after}
 use Rattle.cs_base.specs.declared.fault.OrcKind.TheVariants as orc
-use Rattle.cs_grammar.specs.declared.symbol.Expected.TheVariants as expected
+use Rattle.cs_symbols.specs.declared.symbol.Expected.TheVariants as expected
 
 abbrev pub plus_one : Option ℕ → Option ℕ
 plus_one (Some n) = Some (n + 1)

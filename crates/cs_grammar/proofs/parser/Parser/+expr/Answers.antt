@@ -1,9 +1,10 @@
 use Rattle.std.proofs.Common.{◌≡◌, ◌∙◌, Ok, Err, Some, None, sym, refl, ap, subst, arith, length}
 use Rattle.cs_grammar.proofs.{Sizes.after_size, Gives.failed, Gives.followed, Rules.raised}
 use Rattle.cs_grammar.proofs.Rules.{group_is, closed_is, call_is, pick_unmet, pick_is, right_fails, alone, none_of}
-use Rattle.cs_grammar.specs.Grammar.{ReadsTail, binary, fact_group, fact_neg, no_more, one_alone, one_more}
-use Rattle.cs_grammar.specs.{Grammar.ReadsExpr, Parts.operator_of, Reading.next, inner.Answers.in_box}
+use Rattle.cs_grammar.specs.{Parts.operator_of, inner.Answers.in_box}
+use Rattle.cs_grammar.specs.Grammar.{ReadsTail, binary, fact_group, fact_neg, no_more, one_alone, one_more, ReadsExpr}
 use Rattle.cs_grammar.specs.Tree.{Expression, expression, pair, pick}
+use Rattle.cs_symbols.specs.Symbols.{next}
 use Rattle.cs_grammar.specs.declared.expr.Level.TheVariants as at
 use Rattle.cs_grammar.proofs.parser.Parser.+expr.Goals as goal
 

@@ -1,16 +1,18 @@
 use Rattle.std.proofs.Common.{◌≡◌, ◌∙◌, Ok, Err, sym, ap, subst, arith, rules, length}
-use Rattle.cs_grammar.specs.{declared.tree.Arm.Arm, Reading.ended, Reading.next}
-use Rattle.cs_grammar.specs.declared.tree.StmtWhat.TheBlock.{hidden-the_row-OrcStmt-1, hidden-the_row-Arm-0}
-use Rattle.cs_grammar.specs.declared.tree.StmtWhat.TheViews.{the_lemmas, roll-Arm}
+use Rattle.cs_grammar.specs.{declared.tree.Arm.Arm, Reading.ended}
+use Rattle.cs_grammar.specs.{declared.tree.StmtWhat.TheBlock.hidden-the_row-OrcStmt-1}
+use Rattle.cs_grammar.specs.{declared.tree.StmtWhat.TheBlock.hidden-the_row-Arm-0}
+use Rattle.cs_grammar.specs.{declared.tree.StmtWhat.TheViews.the_lemmas, declared.tree.StmtWhat.TheViews.roll-Arm}
+use Rattle.cs_grammar.specs.{inner.Answers.Gives, inner.Answers.IsArm}
+use Rattle.cs_grammar.specs.Grammar.{ReadsStmt, stmt_beyond, stmt_if, stmt_misplaced}
+use Rattle.cs_grammar.specs.Tree.{arms, block, choose, expression, of_arms, of_block, of_what, statement}
+use Rattle.cs_symbols.specs.Symbols.{next}
 use Rattle.cs_grammar.proofs.{Rows.block_is, Rows.arms_is, Sizes.after_size}
 use Rattle.cs_grammar.proofs.Gives.{failed, followed, unpassed, valued}
 use Rattle.cs_grammar.proofs.StmtRules.{BlockSoFar, ArmsSoFar, else_in, stmts_in, arm_in, chain_in, line_is}
 use Rattle.cs_grammar.proofs.StmtRules.{stmt_shorter, block_begun, block_grown, block_fails, block_done, arms_begun}
 use Rattle.cs_grammar.proofs.StmtRules.{arms_grown, arms_fail, arms_unended, arms_done, arm_unmet, arm_is, endif_is}
 use Rattle.cs_grammar.proofs.StmtRules.{else_no_line, else_no_block, else_is}
-use Rattle.cs_grammar.specs.Grammar.{ReadsStmt, stmt_beyond, stmt_if, stmt_misplaced}
-use Rattle.cs_grammar.specs.Tree.{arms, block, choose, expression, of_arms, of_block, of_what, statement}
-use Rattle.cs_grammar.specs.inner.Answers.{Gives, IsArm}
 use Rattle.cs_grammar.proofs.parser.Parser.+stmt.Goals as goal
 
 pub stmt-returns-in_err-what-clause-reads : goal.stmt-returns-in_err-what-clause-reads

@@ -1,11 +1,11 @@
 -- The tokens of a text as the grammar sees them.
-use Rattle.std.specs.Prelude.{ℕ, List, [], ◌∷◌, ◌+◌, ◌-◌, if◌then◌else◌, nat_le, slice_range, length}
+use Rattle.std.specs.Prelude.{ℕ, List, [], ◌∷◌, ◌+◌, ◌-◌, ◌≤◌, if◌then◌else◌, nat_le, slice_range, length}
 use Rattle.cs_base.specs.Limits.{most_line_tokens}
 use Rattle.cs_lex.specs.{declared.token.Mark.Mark, declared.token.Token.Token}
-use Rattle.cs_grammar.specs.declared.symbol.Kind.{Kind}
+use Rattle.cs_symbols.specs.declared.symbol.Kind.{Kind}
 use Rattle.cs_words.specs.{Words.word_of, Signs.sign_of}
 use Rattle.cs_lex.specs.declared.token.Mark.TheVariants as mark
-use Rattle.cs_grammar.specs.declared.symbol.Kind.TheVariants as kind
+use Rattle.cs_symbols.specs.declared.symbol.Kind.TheVariants as kind
 
 -- a token as the grammar sees it
 pub record Symbol : Type 0 where
@@ -56,3 +56,17 @@ symbols_from source place (t ∷ ts) = symbol source place t ∷ symbols_from so
 -- the tokens of a text, as the grammar sees them
 abbrev pub symbols : List ℕ → List Token → List Symbol
 symbols source tokens = symbols_from source 0 tokens
+
+-- the first of the symbols that are left: after the last it is End
+abbrev pub next : List Symbol → Symbol
+next [] = record { kind = kind.End; text = []; line = 0 }
+next (t ∷ ts) = t
+
+abbrev pub after : List Symbol → List Symbol
+after [] = []
+after (t ∷ ts) = ts
+
+-- the bytes of each token stand in a text of this length
+abbrev pub Spanned : ℕ → List Token → Type 0
+Spanned size [] = Unit {0}
+Spanned size (t ∷ ts) = (t.from ≤ t.to) × (t.to ≤ size) × Spanned size ts

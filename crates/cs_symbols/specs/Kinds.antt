@@ -1,11 +1,11 @@
 -- What a symbol is: the tests on kinds that the rules of the grammar ask for.
 use Rattle.std.specs.Prelude.{Bool, true, false}
-use Rattle.cs_grammar.specs.{declared.symbol.Kind.Kind, declared.symbol.Expected.Expected}
+use Rattle.cs_symbols.specs.{declared.symbol.Kind.Kind, declared.symbol.Expected.Expected}
 use Rattle.cs_words.specs.declared.word.Keyword.TheVariants as key
 use Rattle.cs_words.specs.declared.word.Word.TheVariants as word
 use Rattle.cs_words.specs.declared.sign.Sign.TheVariants as sign
-use Rattle.cs_grammar.specs.declared.symbol.Kind.TheVariants as kind
-use Rattle.cs_grammar.specs.declared.symbol.Expected.TheVariants as expected
+use Rattle.cs_symbols.specs.declared.symbol.Kind.TheVariants as kind
+use Rattle.cs_symbols.specs.declared.symbol.Expected.TheVariants as expected
 
 -- whether a symbol is what is asked for
 abbrev pub is : Expected → Kind → Bool

@@ -1,9 +1,8 @@
 // What a token is to the grammar.
 ghost use Rattle.std.specs.Prelude.{◌≡◌, ◌≤◌, ◌<◌, ◌+◌, ◌^◌, length};
-ghost use Rattle.cs_grammar.specs.Kinds.{is, is_word, is_plain, ends_line};
-ghost use Rattle.cs_grammar.specs.Symbols.{symbols_from, bytes_of, kind_after, unquoted, counted};
-ghost use Rattle.cs_grammar.specs.{Reading.next, Reading.after, inner.Reached.Spanned};
-ghost use Rattle.cs_grammar.specs.declared.symbol.Kind.TheVariants as kind;
+ghost use Rattle.cs_symbols.specs.Kinds.{is, is_word, is_plain, ends_line};
+ghost use Rattle.cs_symbols.specs.Symbols.{symbols_from, bytes_of, kind_after, unquoted, counted, next, after, Spanned};
+ghost use Rattle.cs_symbols.specs.declared.symbol.Kind.TheVariants as kind;
 ghost use Rattle.cs_words.specs.declared.word.Word.TheVariants as word;
 
 use cs_base::{MOST_LINE_TOKENS, Num};
@@ -41,6 +40,7 @@ impl Kind {
         }
     }
 
+    /// Whether the symbol ends a line: NewLine, or End in its place.
     pub fn ends_line(self) -> bool
         ensures { result ≡ ends_line self }
     {
