@@ -9,12 +9,14 @@ use Rattle.cs_words.specs.Words.{field_of, is_foreign, listed_word, word_of}
 use Rattle.cs_lex.specs.Lexed.{LexFault, Lexed, end_of, merged, tokens_after}
 use Rattle.cs_lex.specs.declared.token.Token.{Token}
 use Rattle.cs_lex.proofs.Computed.{got, reads, refuses}
+use Rattle.cs_grammar.specs.{Lines.ReadsNumbers, Lines.last_item, Parts.atom, Parts.part_form}
+use Rattle.cs_grammar.specs.{declared.expr.Level.Level, Reading.Scope, Reading.in_instrument}
 use Rattle.cs_grammar.specs.Grammar.{ReadsArg, ReadsArgs, ReadsBlock, ReadsExpr, ReadsStmt, arg_value, args_some}
 use Rattle.cs_grammar.specs.Grammar.{binary, block_end, block_more, fact_alone, list_last, no_more, stmt_assign}
-use Rattle.cs_grammar.specs.{Grammar.stmt_bare, Lines.ReadsNumbers, Lines.last_item, Parts.atom, Parts.part_form}
-use Rattle.cs_grammar.specs.{Symbols.Symbol, Symbols.symbols, declared.expr.Level.Level, declared.symbol.Kind.Kind}
+use Rattle.cs_grammar.specs.Grammar.{stmt_bare}
 use Rattle.cs_grammar.specs.Orchestra.{ReadsInstr, ReadsOrc, Tree, instr, orc_end, orc_header, orc_instr}
-use Rattle.cs_grammar.specs.Reading.{Scope, in_instrument, next}
+use Rattle.cs_symbols.specs.declared.symbol.Kind.{Kind}
+use Rattle.cs_symbols.specs.Symbols.{Symbol, symbols, next}
 use Rattle.cs_udo.specs.Expanding.{expanding}
 use Rattle.cs_typing.specs.Typing.{typed_of}
 use Rattle.cs_score.specs.{Limits.different, Limits.first_at, Limits.numbers_of, Statements.score_of}
@@ -22,7 +24,7 @@ use Rattle.cs_score.specs.{declared.statement.ScoreStmt.ScoreStmt, declared.stat
 use Rattle.cs_tempo.specs.{Order.in_order, Order.put, declared.plot.Plot.Plot}
 use Rattle.cs_tempo.specs.Plot.{acts_of, events_along, events_from}
 use Rattle.cs_tempo.specs.Sections.{cycle_at, length_of, sections_of, tempo_of}
-use Rattle.cs_tempo.specs.Time.{beat_length, cycle_of, part_of, ramp_time, seconds_of, time_along}
+use Rattle.cs_time.specs.Time.{beat_length, cycle_of, part_of, ramp_time, seconds_of, time_along}
 use Rattle.cs_piece.specs.Compositions.{composition}
 use Rattle.cs_piece_meaning.specs.{Heard.frames_of, Moments.Composition}
 use Rattle.cs_compile.specs.Meaning.{IsPlayedAs, IsReadAs, IsTypedAs, means, orchestra_means, orchestra_plays, piece_of}
@@ -42,7 +44,7 @@ use Rattle.cs_grammar.specs.Tree as tree
 use Rattle.cs_grammar.specs.declared.expr.Level.TheVariants as level
 use Rattle.cs_grammar.specs.declared.expr.PartForm.TheVariants as part
 use Rattle.cs_grammar.specs.declared.lists.Role.TheVariants as role
-use Rattle.cs_grammar.specs.declared.symbol.Kind.TheVariants as kind
+use Rattle.cs_symbols.specs.declared.symbol.Kind.TheVariants as kind
 use Rattle.cs_grammar.specs.declared.tree.Callee.TheVariants as callee
 use Rattle.cs_typed.specs.TypedTree as typed
 use Rattle.cs_tempo.specs.declared.plot.EventAct.TheVariants as act

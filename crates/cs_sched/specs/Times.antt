@@ -3,7 +3,7 @@ use Rattle.std.specs.Prelude.{ℕ, ℤ, pos, ◌+◌, ◌-◌, ◌*◌, ◌/◌,
 use Rattle.std.specs.{Prelude.if◌then◌else◌, Int.int_max, Ordering.int_eq}
 use Rattle.cs_base.specs.{Numbers.clamp, Numbers.sum_of, declared.head.Head.Head}
 use Rattle.cs_ir.specs.declared.ask.Ask.{Ask}
-use Rattle.cs_tempo.specs.Time.{cycle_of}
+use Rattle.cs_time.specs.Time.{cycle_of}
 use Rattle.cs_sched.specs.declared.due.Due.{Due}
 
 -- how time goes in a piece: frames a second, frames a control cycle, and how many cycles it has

@@ -5,7 +5,7 @@ ghost use Rattle.cs_sched.specs.Times.{nanoseconds};
 
 use cs_base::{Head, Num, Nums, ONE, OutOfMemory};
 use cs_ir::Ask;
-use cs_tempo::cycle_of;
+use cs_time::cycle_of;
 use std::alloc::Global;
 
 /// A note that is to start.

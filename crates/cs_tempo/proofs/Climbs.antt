@@ -10,13 +10,16 @@ use Rattle.cs_base.specs.declared.head.Head.{Head}
 use Rattle.cs_score.specs.{Ranges.IsInRange, Ranges.HasRange, declared.statement.TempoPoint.TempoPoint}
 use Rattle.cs_score.specs.{declared.statement.ScoreWhat.ScoreWhat, declared.statement.ScoreStmt.ScoreStmt}
 use Rattle.cs_score.specs.declared.statement.ScoreWhat.TheVariants.{Note, Hold, Table, Tempo}
-use Rattle.cs_tempo.specs.{declared.plot.Event.Event, declared.plot.EventAct.EventAct, Time.IsTempo, inner.Clock.Pace}
+use Rattle.cs_tempo.specs.{declared.plot.Event.Event, declared.plot.EventAct.EventAct, inner.Clock.Pace}
+use Rattle.cs_time.specs.Time.{IsTempo}
 use Rattle.cs_tempo.specs.{Pairing.stop_of, Limits.cycles_in, inner.Events.HasEnd, inner.Events.IsTurnIn}
 use Rattle.cs_tempo.specs.Sections.{sections_of, own_points, or_else, tempo_of, cycle_at, reach_of, greatest, length_of}
 use Rattle.cs_tempo.specs.Order.{has_turn, beat_of, order_of, put, in_order}
 use Rattle.cs_tempo.specs.Plot.{SectionSetting, acts_of, events_along, setting_of, events_from}
-use Rattle.cs_tempo.proofs.{Elements.each_append, Elements.each_more, Elements.sections_each, Times.time_grows}
-use Rattle.cs_tempo.proofs.{Times.cycles_grow, Walks.start_within, Walks.stop_within, Walks.order_each}
+use Rattle.cs_tempo.proofs.Elements.{each_append, each_more, sections_each}
+use Rattle.cs_time.proofs.Times.{time_grows}
+use Rattle.cs_tempo.proofs.Walks.{start_within, stop_within, order_each}
+use Rattle.cs_time.proofs.Times.{cycles_grow}
 use Rattle.cs_base.proofs.Tests.{is_below, isnt_below}
 
 -- a beat's cycle never falls as the beat grows
@@ -48,8 +51,7 @@ not_before_is_high : (a b : ℕ) (x : Ordering) → is_lt (ordering_then (nat_cm
 not_before_is_high a b x h =
     ⊎_elim (λ e. omega (arith, e))
     (λ g. ⊎_elim (λ l. absurd (let e = below_is_less a b l in let f = ap (λ o. is_lt (ordering_then o x)) e in cc))
-    (λ r. omega (arith, r)) g)
-    (cases_order a b)
+    (λ r. omega (arith, r)) g) (cases_order a b)
 
 put_rises : (low : ℕ) (s : ScoreStmt) (us : List ScoreStmt) → low ≤ beat_of s.what → BeatsRise low us
     → BeatsRise low (put s us)
@@ -67,8 +69,7 @@ order_rises [] = tt
 order_rises (s ∷ later) =
     ⊎_elim
     (λ t. rw t (put_rises 0 s (in_order later) (omega arith) (order_rises later)))
-    (λ f. rw f (order_rises later))
-    (cases_Bool (has_turn s.what))
+    (λ f. rw f (order_rises later)) (cases_Bool (has_turn s.what))
 
 -- events of which none is before the one before it
 abbrev pub Climb : ℕ → List Event → Type 0
@@ -123,8 +124,7 @@ first_cycles (a ∷ _) = cycles_in a
 
 -- a note ends within its section
 act_within : (set : SectionSetting) (stop : Option ℕ) (w : ScoreWhat) (a : EventAct) → HasRange w
-    → reach_of set.head set.tempo w ≤ set.cycles
-    → has_turn w ≡ true →
+    → reach_of set.head set.tempo w ≤ set.cycles → has_turn w ≡ true →
     IfSome stop (HasEnd (record { head = set.head; tempo = set.tempo }) set.cycles) → acts_of set stop w ≡ a ∷ [] →
     cycle_at set.head set.tempo (beat_of w) + cycles_in a ≤ set.cycles
 unfolding acts_of
@@ -195,8 +195,7 @@ from_within head offset (section ∷ others) r =
     let total = sum_by-cons (λ (n : ℕ). n) (length_of head section) (map (length_of head) others) in
     let turns = order_each (record { head = head; tempo = tempo_of section }) (length_of head section) section r.0
     (reach_all head section) in
-    each_append _ _ _
-    (each_more _ _ _ (λ e h. omega (arith, h, total))
+    each_append _ _ _ (each_more _ _ _ (λ e h. omega (arith, h, total))
     (along_within (setting_of head offset section) [] (in_order section) turns))
     (each_more _ _ _ (λ e h. omega (arith, h, total)) (from_within head (offset + length_of head section) others r.1))
 
@@ -210,13 +209,11 @@ from_climbs head offset (section ∷ others) r =
     (reach_all head section) in
     climb_append offset (offset + length_of head section) (events_along set [] (in_order section)) _
     (along_climbs set 0 offset [] (in_order section) (tempo_in_range section r.0) (order_rises section) (omega arith))
-    (each_more _ _ _ (λ e h. omega (arith, h)) (along_within set [] (in_order section) turns))
-    (omega arith)
+    (each_more _ _ _ (λ e h. omega (arith, h)) (along_within set [] (in_order section) turns)) (omega arith)
     (from_climbs head (offset + length_of head section) others r.1)
 
 pub reach_moved : (head head' : Head) (tempo tempo' : List TempoPoint) (n n' : ℕ) (w : ScoreWhat) → head ≡ head'
-    → tempo ≡ tempo' → n ≡ n' →
-    reach_of head' tempo' w ≤ n' → reach_of head tempo w ≤ n
+    → tempo ≡ tempo' → n ≡ n' → reach_of head' tempo' w ≤ n' → reach_of head tempo w ≤ n
 reach_moved head head' tempo tempo' n n' w p q r h =
     subst (λ x. reach_of head tempo w ≤ x) (sym r)
     (subst (λ x. reach_of head x w ≤ n') (sym q) (subst (λ x. reach_of x tempo' w ≤ n') (sym p) h))

@@ -4,9 +4,9 @@ use Rattle.std.proofs.Common.{get_or, arith, refl, sym, ◌∙◌}
 use Rattle.std.proofs.lemmas.List.{drop-drop, take_rest, get_or_read, length-drop}
 use Rattle.std.proofs.lemmas.Nat.{mul-le, div_below}
 use Rattle.cs_score.specs.{Ranges.AreRising, Ranges.beats_end, declared.statement.TempoPoint.TempoPoint}
-use Rattle.cs_tempo.specs.Time.{part_of, time_along, time_of, Rises, cycle_of}
+use Rattle.cs_time.specs.Time.{part_of, time_along, time_of, Rises, cycle_of}
 use Rattle.cs_tempo.specs.inner.Clock.{point_at, IsTimed}
-use Rattle.cs_tempo.proofs.Times.{along_is, along_small, rises_on, tempo_rises}
+use Rattle.cs_time.proofs.Times.{along_is, along_small, rises_on, tempo_rises}
 
 -- what rises goes on rising
 pub rises_drop : (ps : List TempoPoint) (k : ℕ) → Rises ps → Rises (drop k ps)
@@ -65,8 +65,7 @@ nothing_from (p ∷ later) (suc k) r some = nothing_from later k (rises_on p lat
 -- the time of the next point
 pub next_time : (ps : List TempoPoint) (j part : ℕ) → Rises ps → j + 1 < length ps →
     time_along (drop j ps) (point_at ps (j + 1)).beat ≡ part + time_along (drop 1 (drop j ps))
-    (point_at ps (j + 1)).beat →
-    time_along ps (point_at ps j).beat + part ≡ time_along ps (point_at ps (j + 1)).beat
+    (point_at ps (j + 1)).beat → time_along ps (point_at ps j).beat + part ≡ time_along ps (point_at ps (j + 1)).beat
 next_time ps j part r some e =
     let up : (point_at ps j).beat ≤ (point_at ps (j + 1)).beat = rises_by_one ps j r some in
     let split = time_from ps j (point_at ps (j + 1)).beat r (omega arith) up in

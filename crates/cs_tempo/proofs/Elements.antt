@@ -32,8 +32,7 @@ sections_each P [] e = (tt, tt)
 sections_each P (s ∷ later) e =
     ⊎_elim
     (λ t. rw t (tt, sections_each P later e.1))
-    (λ f. rw f (front_each P s (sections_of later) e.0 (sections_each P later e.1)))
-    (cases_Bool (ends_section s.what))
+    (λ f. rw f (front_each P s (sections_of later) e.0 (sections_each P later e.1))) (cases_Bool (ends_section s.what))
 
 pub put_each : (P : ScoreStmt → Type 0) (s : ScoreStmt) (us : List ScoreStmt) → P s → Each P us → Each P (put s us)
 unfolding put
@@ -47,5 +46,4 @@ in_order_each P [] e = tt
 in_order_each P (s ∷ later) e =
     ⊎_elim
     (λ t. rw t (put_each P s (in_order later) e.0 (in_order_each P later e.1)))
-    (λ f. rw f (in_order_each P later e.1))
-    (cases_Bool (has_turn s.what))
+    (λ f. rw f (in_order_each P later e.1)) (cases_Bool (has_turn s.what))

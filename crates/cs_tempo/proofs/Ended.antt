@@ -59,8 +59,7 @@ ended true false at rest later p q = absurd (cc)
 ended false c at rest later p q = absurd (cc)
 
 sounds_on : (b c : Bool) (at k : ℕ) (rest : Option ℕ) (later : List ℕ) → b ≡ true → c ≡ false → rest ≡ slice_get later k
-    →
-    or_later (cond (b && c) (Some at) None) rest ≡ slice_get (cond b (at ∷ []) [] ++ later) (suc k)
+    → or_later (cond (b && c) (Some at) None) rest ≡ slice_get (cond b (at ∷ []) [] ++ later) (suc k)
 sounds_on true true at k rest later p q h = absurd (cc)
 sounds_on true false at k rest later p q h = h
 sounds_on false c at k rest later p q h = absurd (cc)
@@ -83,8 +82,7 @@ module _ (n index : ℕ) where
   step k (Hold instr at given more) ahead behind rest later low go =
       ⊎_elim
       (λ t. go ahead (behind ++ k ∷ []) (rw t (append_assoc ahead (index ∷ behind) (k ∷ []))) low)
-      (λ f. go ahead behind (rw f refl) low)
-      (cases_Bool (n == instr))
+      (λ f. go ahead behind (rw f refl) low) (cases_Bool (n == instr))
   step k (Stop instr at) [] behind rest later low go =
       ⊎_elim
       (λ t. ended (n == instr) (index == index) at rest later t (grind (arith, nat_tests)))
@@ -95,13 +93,11 @@ module _ (n index : ℕ) where
       (λ t. sounds_on (n == instr) (index == a) at (length ahead) rest later t (apart a index low.0)
       (go ahead behind (rw t refl) low.1))
       (λ f. another (n == instr) (index == a) at (suc (length ahead)) rest later f
-      (go (a ∷ ahead) behind (rw f refl) low))
-      (cases_Bool (n == instr))
+      (go (a ∷ ahead) behind (rw f refl) low)) (cases_Bool (n == instr))
   step k _ ahead behind rest later low go = go ahead behind refl low
 
   counted : (ahead behind : List ℕ) (earlier later : List ScoreStmt) → held n earlier ≡ ahead ++ index ∷ behind
-      → Each (λ p. p < index) ahead →
-      ending_stop n index earlier later ≡ slice_get (stops_of n later) (length ahead)
+      → Each (λ p. p < index) ahead → ending_stop n index earlier later ≡ slice_get (stops_of n later) (length ahead)
   unfolding ending_stop stops_of held
   counted ahead behind earlier [] e low = none_there [] (length ahead) refl
   counted ahead behind earlier (s ∷ later) e low =
@@ -116,12 +112,10 @@ held_now n at given more k h = let same : (n == n) ≡ true = grind (arith, nat_
 
 -- the stop that ends a held note, where it starts as the last that sounds
 pub first_ended : (h : ScoreStmt) (n at : ℕ) (given : ℤ) (more : List ℤ) (earlier later : List ScoreStmt)
-    → h.what ≡ Hold n at given more →
-    ending_stop n (length earlier) (h ∷ earlier) later ≡ stop_after n earlier later
+    → h.what ≡ Hold n at given more → ending_stop n (length earlier) (h ∷ earlier) later ≡ stop_after n earlier later
 unfolding held
 first_ended h n at given more earlier later e =
     counted n (length earlier) (held n earlier) [] (h ∷ earlier) later
     (ap (λ w. held_after n (length earlier) w (held n earlier)) e
-    ∙ held_now n at given more (length earlier) (held n earlier))
-    (held_lower n earlier)
+    ∙ held_now n at given more (length earlier) (held n earlier)) (held_lower n earlier)
     ∙ ap (slice_get (stops_of n later)) (held_counted n earlier)

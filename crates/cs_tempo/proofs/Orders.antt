@@ -90,8 +90,7 @@ module _ (section : List ScoreStmt) (d : ScoreStmt) where
       (λ t. let t' : is_lt (order_of (stmt u).what s.what) ≡ true = sym (same_test k s u e.0) ∙ t in
       rw (t, t') (ap (λ r. stmt u ∷ r) (put_is k s us at e.1)))
       (λ f. let f' : is_lt (order_of (stmt u).what s.what) ≡ false = sym (same_test k s u e.0) ∙ f in
-      rw (f, f') (ap (λ x. x ∷ stmt u ∷ map stmt us) at))
-      (cases_Bool (is_lt (turn_order u (turn_of k s.what))))
+      rw (f, f') (ap (λ x. x ∷ stmt u ∷ map stmt us) at)) (cases_Bool (is_lt (turn_order u (turn_of k s.what))))
 
   more_from : (k : ℕ) (us : List SortKey) → Each (IsFrom (k + 1)) us → Each (IsFrom k) us
   more_from k us e = each_more _ _ us (λ u f. record { after = omega (arith, f.after); within = f.within; is = f.is }) e
@@ -111,8 +110,7 @@ module _ (section : List ScoreStmt) (d : ScoreStmt) where
         },
         rest,
       ))
-      (λ f. rw f rest)
-      (cases_Bool (has_turn s.what))
+      (λ f. rw f rest) (cases_Bool (has_turn s.what))
 
   -- the statements of the sorted turns
   pub order_is : (k : ℕ) (later : List ScoreStmt) → drop k section ≡ later
@@ -125,8 +123,7 @@ module _ (section : List ScoreStmt) (d : ScoreStmt) where
       ⊎_elim
       (λ t. rw t (put_is k s (sorted turn_order (turns_from (k + 1) later)) (here k s later e)
       (each_sorted turn_order turn_total (IsFrom (k + 1)) _ more) ∙ ap (put s) ih))
-      (λ f. rw f ih)
-      (cases_Bool (has_turn s.what))
+      (λ f. rw f ih) (cases_Bool (has_turn s.what))
 
 -- a walk over a section: the turns so far, and those of the rest
 pub turn_more : (section : List ScoreStmt) (k : ℕ) (s : ScoreStmt) (done : List SortKey) → k < length section

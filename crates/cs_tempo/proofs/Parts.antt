@@ -37,8 +37,7 @@ no_end _ h = refl
 
 -- a walk over the statements of a score, so far without an `s`
 pub read_on : (score : List ScoreStmt) (k : ℕ) (s : ScoreStmt) → k < length score → s ≡ get_or score k s
-    → (s.what ≡ Section → ⊥) →
-    sections_of score ≡ in_front (take k score) (sections_of (drop k score)) →
+    → (s.what ≡ Section → ⊥) → sections_of score ≡ in_front (take k score) (sections_of (drop k score)) →
     sections_of score ≡ in_front (take (k + 1) score) (sections_of (drop (k + 1) score))
 read_on score k s some at goes h =
     let a = at_drop_more sections_of score k s some in
@@ -49,8 +48,7 @@ read_on score k s some at goes h =
     ∙ ap (λ t. in_front t (sections_of (drop (k + 1) score))) (ap (λ t. take k score ++ t ∷ []) at ∙ sym d)
 
 pub read_to : (score : List ScoreStmt) (k : ℕ) (s : ScoreStmt) → k < length score → s ≡ get_or score k s
-    → s.what ≡ Section →
-    sections_of score ≡ in_front (take k score) (sections_of (drop k score)) →
+    → s.what ≡ Section → sections_of score ≡ in_front (take k score) (sections_of (drop k score)) →
     sections_of score ≡ take k score ∷ sections_of (drop (k + 1) score)
 read_to score k s some at end h =
     let a = at_drop_more sections_of score k s some in

@@ -32,8 +32,7 @@ one_not true x o e = absurd (cc)
 one_not false x o e = (refl, e)
 
 none_passes : {A : Type 0} (passes : List A → A → Bool) (before xs : List A) → first_at passes before xs ≡ None
-    → (i : ℕ) (d : A) → i < length xs
-    → passes (before ++ take (suc i) xs) (get_or xs i d) ≡ false
+    → (i : ℕ) (d : A) → i < length xs → passes (before ++ take (suc i) xs) (get_or xs i d) ≡ false
 unfolding first_at
 none_passes passes before [] e i d lt = absurd (omega arith)
 none_passes passes before (x ∷ xs) e zero d lt =
@@ -89,8 +88,7 @@ count_le p q (x ∷ xs) all =
       arith,
       sum_by-cons (λ y. cond (p y) 1 0) x xs,
       sum_by-cons (λ y. cond (q y) 1 0) x xs,
-      one_le (p x) (q x)
-          all.0,
+      one_le (p x) (q x) all.0,
       count_le p q xs all.1,
     )
 
@@ -114,13 +112,11 @@ few_more c n xs d order lt passed false e before =
     (let same : count_by (is_active c) (take n xs) + 0 ≤ 512 = omega arith in same))
 
 few_upto : (c : ℕ) (xs : List Event) (d : Event) → InOrder xs → first_at passes_notes [] xs ≡ None → (n : ℕ)
-    → n ≤ length xs
-    → count_by (is_active c) (take n xs) ≤ 512
+    → n ≤ length xs → count_by (is_active c) (take n xs) ≤ 512
 few_upto c xs d order none zero h = omega arith
 few_upto c xs d order none (suc n) h =
     few_more c n xs d order (omega arith) (none_passes passes_notes [] xs none n d (omega arith))
-    (is_active c (get_or xs n d)) refl
-    (few_upto c xs d order none n (omega arith))
+    (is_active c (get_or xs n d)) refl (few_upto c xs d order none n (omega arith))
 
 few_active : (c : ℕ) (xs : List Event) → InOrder xs → first_at passes_notes [] xs ≡ None
     → count_by (is_active c) xs ≤ 512
@@ -137,8 +133,7 @@ counts_few [] none = omega arith
 counts_few (s ∷ later) none =
     let whole : take (suc (length later)) (s ∷ later) ≡ s ∷ later =
     take_all (suc (length later)) (s ∷ later) (omega arith) in
-    not_more most_events (count_by counts (s ∷ later))
-    (ap (λ l. nat_lt most_events (count_by counts l)) (sym whole)
+    not_more most_events (count_by counts (s ∷ later)) (ap (λ l. nat_lt most_events (count_by counts l)) (sym whole)
     ∙ none_passes passes_events [] (s ∷ later) none (length later) s (omega arith))
 
 along_few : (set : SectionSetting) (earlier ss : List ScoreStmt) → length (events_along set earlier ss) ≤ length ss
@@ -148,8 +143,7 @@ along_few set earlier (s ∷ ss) =
     let more = along_few set (s ∷ earlier) ss in
     ⊎_elim
     (λ e. rw e (omega (arith, more)))
-    (λ e. rw e.1 (omega (arith, more)))
-    (one_act set (stop_of earlier ss s) s.what)
+    (λ e. rw e.1 (omega (arith, more))) (one_act set (stop_of earlier ss s) s.what)
 
 put_longer : (s : ScoreStmt) (us : List ScoreStmt) → length (put s us) ≡ suc (length us)
 unfolding put
@@ -174,11 +168,9 @@ order_few (s ∷ later) =
       put_longer s (in_order later),
       more,
       one,
-      ap {B = ℕ} (λ b. cond b 1 0)
-          (turn_counts s.what t),
+      ap {B = ℕ} (λ b. cond b 1 0) (turn_counts s.what t),
     )))
-    (λ f. rw f (omega (arith, more, one)))
-    (cases_Bool (has_turn s.what))
+    (λ f. rw f (omega (arith, more, one))) (cases_Bool (has_turn s.what))
 
 abbrev counted_in : List (List ScoreStmt) → ℕ
 counted_in sections = sum (map (count_by counts) sections)
@@ -221,11 +213,9 @@ sections_count (s ∷ later) =
       arith,
       more,
       one,
-      sum_by-cons (λ (n : ℕ). n) (count_by counts [])
-          (map (count_by counts) (sections_of later)),
+      sum_by-cons (λ (n : ℕ). n) (count_by counts []) (map (count_by counts) (sections_of later)),
     )))
-    (λ f. rw f (omega (arith, more, one, front_counts s (sections_of later))))
-    (cases_Bool (ends_section s.what))
+    (λ f. rw f (omega (arith, more, one, front_counts s (sections_of later)))) (cases_Bool (ends_section s.what))
 
 -- ---- what events do
 
@@ -257,8 +247,7 @@ from_in_range : (head : Head) (offset : ℕ) (sections : List (List ScoreStmt)) 
 unfolding events_from
 from_in_range head offset [] r = tt
 from_in_range head offset (section ∷ others) r =
-    each_append _ _ _
-    (along_in_range (setting_of head offset section) [] (in_order section)
+    each_append _ _ _ (along_in_range (setting_of head offset section) [] (in_order section)
     (in_order_each IsInRange section (recursion_from_All IsInRange section r.0)))
     (from_in_range head (offset + length_of head section) others r.1)
 

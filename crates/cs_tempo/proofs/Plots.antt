@@ -1,7 +1,8 @@
 -- The walk over a score's sections.
 use Rattle.std.proofs.Common.{◌≡◌, ℕ, ◌+◌, List, [], ◌∷◌, ◌++◌, drop, take, map, sum, arith, ap, sym, ◌∙◌, append_assoc}
-use Rattle.std.proofs.Common.{append-nil}
-use Rattle.std.proofs.lemmas.List.Sums.{sum_by-cons}
+use Rattle.std.proofs.Common.{append-nil, length, nat_lt, ◌<◌, ◌≤◌, ◌^◌}
+use Rattle.std.proofs.lemmas.{Bool.Decides.nat_tests, List.Sums.sum_by-cons, List.take_all}
+use Rattle.cs_base.proofs.Tests.{by_test}
 use Rattle.cs_base.specs.declared.head.Head.{Head}
 use Rattle.cs_score.specs.declared.statement.ScoreStmt.{ScoreStmt}
 use Rattle.cs_tempo.specs.{declared.plot.Event.Event, Sections.length_of, Sections.sections_of, Order.in_order}
@@ -34,10 +35,28 @@ events_first head offset left end done h =
 
 -- the events of the last one
 pub events_last : (head : Head) (offset : ℕ) (left : List ScoreStmt) (done : List Event) →
-    sections_of left ≡ left ∷ [] →
-    done ++ events_along (setting_of head offset left) [] (in_order left)
+    sections_of left ≡ left ∷ [] → done ++ events_along (setting_of head offset left) [] (in_order left)
     ≡ done ++ events_from head offset (sections_of left)
 unfolding events_from
 events_last head offset left done h =
     ap (λ es. done ++ es) (sym (append-nil (events_along (setting_of head offset left) [] (in_order left))))
     ∙ ap (λ ss. done ++ events_from head offset ss) (sym h)
+
+-- the length of the last one
+pub length_last : (head : Head) (left : List ScoreStmt) (end : ℕ) → sections_of left ≡ left ∷ [] → end ≡ length left
+    → length_of head (take end left) ≡ sum (map (length_of head) (sections_of left))
+length_last head left end last all =
+    let one = sum_by-cons (λ (n : ℕ). n) (length_of head left) [] in
+    let sums = ap (λ ss. sum (map (length_of head) ss)) last in
+    let whole = ap (length_of head) (take_all end left (omega (arith, all))) in omega (arith, one, sums, whole)
+
+-- the first section of those left is no longer than all of them
+pub first_short : (head : Head) (offset : ℕ) (left : List ScoreStmt) (end : ℕ) → end ≤ length left
+    → (end < length left → sections_of left ≡ take end left ∷ sections_of (drop (end + 1) left))
+    → (end ≡ length left → sections_of left ≡ left ∷ [])
+    → offset + sum (map (length_of head) (sections_of left)) ≤ 2 ^ 30 → offset + length_of head (take end left) ≤ 2 ^ 30
+first_short head offset left end within ended last short = by_test (nat_lt end (length left))
+    (λ t. let some : end < length left = grind (arith, nat_tests) in
+    omega (arith, short, length_first head left end offset (ended some)))
+    (λ f. let all : end ≡ length left = grind (arith, nat_tests) in
+    omega (arith, short, length_last head left end (last all) all))

@@ -36,8 +36,7 @@ module _ (head : Head) (score : List ScoreStmt) (h : limit_of head score ≡ Non
   after = (both_none (limit_of_score score) _ h).1
 
   pub bytes_within : cycles * head.ksmps * head.nchnls * 2 ≤ most_wav_bytes
-  bytes_within = few_bytes (cycles * head.ksmps * head.nchnls * 2)
-      (not_passed (passes_bytes head cycles)
+  bytes_within = few_bytes (cycles * head.ksmps * head.nchnls * 2) (not_passed (passes_bytes head cycles)
       (both_none (if passes_bytes head cycles then bytes_hit else None) _ after).0)
 
   pub notes_within : first_at passes_notes [] (events_from head 0 (sections_of score)) ≡ None

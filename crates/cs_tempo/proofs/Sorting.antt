@@ -33,8 +33,7 @@ module _ {X : Type 0} (R : X → X → Ordering) (o : IsTotalOrder R) where
   each_inserted P x (y ∷ ys) p e =
       ⊎_elim
       (λ t. rw t (e.0, each_inserted P x ys p e.1))
-      (λ f. rw f (p, (e.0, e.1)))
-      (cases_Bool (is_lt (R y x)))
+      (λ f. rw f (p, (e.0, e.1))) (cases_Bool (is_lt (R y x)))
 
   pub each_sorted : (P : X → Type 0) (xs : List X) → Each P xs → Each P (sorted R xs)
   each_sorted P [] e = tt
@@ -45,8 +44,7 @@ module _ {X : Type 0} (R : X → X → Ordering) (o : IsTotalOrder R) where
   rising_inserted x (y ∷ ys) r =
       ⊎_elim
       (λ t. rw t (each_inserted (λ u. is_lt (R u y) ≡ false) x ys (order.one_way y x t) r.0, rising_inserted x ys r.1))
-      (λ f. rw f (((f, each_more _ _ ys (λ u h. order.chain u y x h f) r.0)), r))
-      (cases_Bool (is_lt (R y x)))
+      (λ f. rw f (((f, each_more _ _ ys (λ u h. order.chain u y x h f) r.0)), r)) (cases_Bool (is_lt (R y x)))
 
   pub rising_sorted : (xs : List X) → Rising (sorted R xs)
   rising_sorted [] = tt
@@ -67,12 +65,10 @@ module _ {X : Type 0} (R : X → X → Ordering) (o : IsTotalOrder R) (same : (x
         sum_by-cons f y (inserted R x ys),
         count_inserted z x ys,
         sum_by-cons f x ys,
-        sum_by-cons f x
-            (y ∷ ys),
+        sum_by-cons f x (y ∷ ys),
         sum_by-cons f y ys,
       )))
-      (λ e. rw e refl)
-      (cases_Bool (is_lt (R y x)))
+      (λ e. rw e refl) (cases_Bool (is_lt (R y x)))
 
   count_sorted : (z : X) (xs : List X) → count z (sorted R xs) ≡ count z xs
   count_sorted z [] = refl
@@ -83,8 +79,7 @@ module _ {X : Type 0} (R : X → X → Ordering) (o : IsTotalOrder R) (same : (x
         count_inserted z x (sorted R xs),
         count_sorted z xs,
         sum_by-cons f x (sorted R xs),
-        sum_by-cons f x
-            xs,
+        sum_by-cons f x xs,
       )
 
   none_counted : (z : X) (xs : List X) → Each (λ y. is_eq (R z y) ≡ false) xs → count z xs ≡ 0
@@ -100,8 +95,7 @@ module _ {X : Type 0} (R : X → X → Ordering) (o : IsTotalOrder R) (same : (x
       ⊎_elim (λ l. ap is_eq l)
       (λ g. ⊎_elim
       (λ e. absurd (clash (is_lt (R z y)) (ap is_lt (sym (o.congr x z y e) ∙ low)) h))
-      (λ g'. ap is_eq g') g)
-      (three_ways (R x z))
+      (λ g'. ap is_eq g') g) (three_ways (R x z))
 
   below_all : (x y : X) (ys : List X) → R x y ≡ Less → Rising R o (y ∷ ys) → Each (λ z. is_eq (R x z) ≡ false) (y ∷ ys)
   below_all x y ys low r = (ap is_eq low, each_more _ _ ys (λ z h. apart x y z low h) r.0)

@@ -94,8 +94,7 @@ module _ {X : Type 0} (R : X → X → Ordering) (o : IsTotalOrder R) where
 pub in_order_rises : (section : List ScoreStmt)
     → AllPairs (λ s u. is_lt (order_of u.what s.what) ≡ false) (in_order section)
 in_order_rises section =
-    rw (in_order_is section)
-    (rising_pairs by_order order_total (sorted by_order (turns section))
+    rw (in_order_is section) (rising_pairs by_order order_total (sorted by_order (turns section))
     (rising_sorted by_order order_total (turns section)))
 
 pub equal_keep_order : (section : List ScoreStmt) (s : ScoreStmt)

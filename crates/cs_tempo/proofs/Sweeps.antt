@@ -95,8 +95,7 @@ past_counted ends c j up p =
       arith,
       sum_by-take-drop (λ m. cond (nat_le m c) 1 0) ends j,
       all_at c (take j ends) low,
-      none_at c
-          (drop j ends) high,
+      none_at c (drop j ends) high,
       length-take j ends,
       p.within,
     )
@@ -145,16 +144,14 @@ pub counted_here : (events : List Event) (ends seen : List ℕ) (k j : ℕ) (e :
     → k < length events → e ≡ get_or events k e →
     IsNonDecreasingBy (λ (x : Event). x.cycle) events → IsPermutation (ends_of events) ends → IsNonDecreasing ends →
     started ≡ count_by is_note (take k events) → notes ≡ cond (is_note e) 1 0 → seen ≡ ends → c ≡ e.cycle
-    → HaveEnded seen c j →
-    count_by (is_active e.cycle) (take (k + 1) events) + j ≡ started + notes
+    → HaveEnded seen c j → count_by (is_active e.cycle) (take (k + 1) events) + j ≡ started + notes
 counted_here events ends seen k j e started notes c some here up perm order s n same at past =
     let past' : HaveEnded ends c j = subst (λ xs. HaveEnded xs c j) same past in
     let past'' : HaveEnded ends e.cycle j = subst (λ x. HaveEnded ends x j) at past' in
     omega (
       arith,
       active_count events ends k j e some here up perm order past'',
-      count_more is_note events k e some
-          here,
+      count_more is_note events k e some here,
       s,
       n,
     )

@@ -23,8 +23,7 @@ note_within pace cycles at len h = grind (arith, nat_tests)
 
 -- a beat's cycle lies in its section
 pub start_within : (pace : Pace) (cycles : ℕ) (w : ScoreWhat) → HasRange w → reach_of pace.head pace.tempo w ≤ cycles
-    → has_turn w ≡ true
-    → HasEnd pace cycles (beat_of w)
+    → has_turn w ≡ true → HasEnd pace cycles (beat_of w)
 start_within pace cycles (Note instr at len more) r h t =
     record { beat = omega (arith, r.1); cycle = note_within pace cycles at len h }
 start_within pace cycles (Hold instr at given more) r h t = record { beat = r.1; cycle = omega arith }
@@ -63,9 +62,7 @@ behind ss k s some at =
     ap reverse (take_more ss k s some ∙ ap (λ x. take k ss ++ x ∷ []) (sym at)) ∙ reverse-append (take k ss) (s ∷ [])
 
 pub events_step : (set : SectionSetting) (ss : List ScoreStmt) (k : ℕ) (s : ScoreStmt) (done : List Event)
-    → k < length ss
-    → s ≡ get_or ss k s →
-    (done ++ events_at set (stop_of (reverse (take k ss)) (drop (k + 1) ss) s) s)
+    → k < length ss → s ≡ get_or ss k s → (done ++ events_at set (stop_of (reverse (take k ss)) (drop (k + 1) ss) s) s)
     ++ events_along set (reverse (take (k + 1) ss)) (drop (k + 1) ss)
     ≡ done ++ events_along set (reverse (take k ss)) (drop k ss)
 unfolding events_along
@@ -100,8 +97,7 @@ module _ (earlier later : List ScoreStmt) (s : ScoreStmt) where
   ended_within pace cycles _ is e = tt
 
 pub stop_within : (pace : Pace) (cycles : ℕ) (earlier later : List ScoreStmt) (s : ScoreStmt)
-    → Each (IsTurnIn pace cycles) later
-    → IfSome (stop_of earlier later s) (HasEnd pace cycles)
+    → Each (IsTurnIn pace cycles) later → IfSome (stop_of earlier later s) (HasEnd pace cycles)
 stop_within pace cycles earlier later s e = ended_within earlier later s pace cycles s.what refl e
 
 few_more : (n : ℕ) (w : ScoreWhat) (m k : ℕ) → m ≤ k → sounding_after n w m ≤ suc k
@@ -117,8 +113,7 @@ few_sound n [] = omega arith
 few_sound n (s ∷ ss) = few_more n s.what (sounding n ss) (length ss) (few_sound n ss)
 
 pub few_queues : (queues : Queues) (earlier later : List ScoreStmt) (n : ℕ) (queue : Queue)
-    → AreQueues queues earlier later
-    → get nat_eq queues n ≡ Some queue → queue.sounding ≤ length earlier
+    → AreQueues queues earlier later → get nat_eq queues n ≡ Some queue → queue.sounding ≤ length earlier
 few_queues queues earlier later n queue a e =
     let shown : Shows (Some queue) (stops_of n later) (sounding n earlier) =
     subst (λ (o : Option Queue). Shows o (stops_of n later) (sounding n earlier)) e (a n) in
@@ -138,8 +133,7 @@ queues_at queues earlier later s n a = a n
 
 -- the turns of a section in order
 pub order_each : (pace : Pace) (cycles : ℕ) (section : List ScoreStmt) → All IsInRange section
-    → All (λ s. reach_of pace.head pace.tempo s.what ≤ cycles) section →
-    Each (IsTurnIn pace cycles) (in_order section)
+    → All (λ s. reach_of pace.head pace.tempo s.what ≤ cycles) section → Each (IsTurnIn pace cycles) (in_order section)
 unfolding in_order
 order_each pace cycles [] r h = tt
 order_each pace cycles (s ∷ later) r h =
@@ -147,8 +141,7 @@ order_each pace cycles (s ∷ later) r h =
     ⊎_elim
     (λ t. rw t (put_each (IsTurnIn pace cycles) s (in_order later)
     (record { range = r 0 s (omega arith); reach = h 0 s (omega arith); turn = t }) rest))
-    (λ f. rw f rest)
-    (cases_Bool (has_turn s.what))
+    (λ f. rw f rest) (cases_Bool (has_turn s.what))
 
 pub each_map : {X Y : Type 0} (P : Y → Type 0) (f : X → Y) (xs : List X) → All (λ x. P (f x)) xs → Each P (map f xs)
 each_map P f xs a = recursion_from_All P (map f xs) (All-map P f xs a)
@@ -179,8 +172,7 @@ module _ (ss : List ScoreStmt) (k : ℕ) (s : ScoreStmt) (some : k < length ss) 
 
   pub stop_is : (r : Option ℕ) (queues : Queues) → AreQueues queues (reverse (take k ss)) (drop k ss) →
       ((stops : ℕ → List ℕ) (sounds : ℕ → ℕ) → ((n : ℕ) → Shows (get nat_eq queues n) (stops n) (sounds n))
-      → r ≡ ending s.what stops sounds) →
-      r ≡ stop_of (reverse (take k ss)) (drop (k + 1) ss) s
+      → r ≡ ending s.what stops sounds) → r ≡ stop_of (reverse (take k ss)) (drop (k + 1) ss) s
   stop_is r queues a h =
       h (λ n. stops_of n (s ∷ drop (k + 1) ss)) (λ n. sounding n (reverse (take k ss))) (lines_here queues a)
       ∙ ending_is (reverse (take k ss)) (drop (k + 1) ss) s

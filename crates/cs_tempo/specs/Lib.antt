@@ -4,6 +4,5 @@ pub mod Pairing
 pub mod Performable
 pub mod Plot
 pub mod Sections
-pub mod Time
 pub mod inner
 pub mod Worked

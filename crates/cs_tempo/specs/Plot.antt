@@ -5,7 +5,8 @@ use Rattle.cs_score.specs.declared.statement.TempoPoint.{TempoPoint}
 use Rattle.cs_score.specs.{declared.statement.ScoreWhat.ScoreWhat, declared.statement.ScoreStmt.ScoreStmt}
 use Rattle.cs_score.specs.declared.statement.ScoreWhat.TheVariants.{Note, Hold, Table}
 use Rattle.cs_tempo.specs.{declared.plot.Event.Event, declared.plot.EventAct.EventAct, declared.plot.Plot.Plot}
-use Rattle.cs_tempo.specs.{Time.time_of, Time.seconds_of, Order.beat_of, Order.in_order, Pairing.stop_of}
+use Rattle.cs_tempo.specs.{Order.beat_of, Order.in_order, Pairing.stop_of}
+use Rattle.cs_time.specs.Time.{time_of, seconds_of}
 use Rattle.cs_tempo.specs.Sections.{tempo_of, cycle_at, end_of, length_of, sections_of}
 use Rattle.cs_tempo.specs.declared.plot.EventAct.TheVariants as act
 

@@ -4,7 +4,7 @@ use Rattle.cs_base.specs.declared.head.Head.{Head}
 use Rattle.cs_score.specs.declared.statement.TempoPoint.{TempoPoint}
 use Rattle.cs_score.specs.{declared.statement.ScoreWhat.ScoreWhat, declared.statement.ScoreStmt.ScoreStmt}
 use Rattle.cs_score.specs.declared.statement.ScoreWhat.TheVariants.{Note, Hold, Stop, Table, Extend, Tempo, Section}
-use Rattle.cs_tempo.specs.Time.{time_of, cycle_of}
+use Rattle.cs_time.specs.Time.{time_of, cycle_of}
 
 abbrev pub ends_section : ScoreWhat → Bool
 ends_section Section = true

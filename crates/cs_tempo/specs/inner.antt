@@ -3,7 +3,6 @@ pub mod Clock
 pub mod Counted
 pub mod Events
 pub mod Queue
-pub mod Ramps
 pub mod Stops
 pub mod Sweep
 pub mod Turns

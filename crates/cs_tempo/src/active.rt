@@ -1,5 +1,6 @@
 // Counts the notes that are active in a cycle, by one way through the events in order.
-ghost use Rattle.std.specs.Prelude.{◌≡◌, ◌≤◌, ◌<◌, ◌+◌, ◌++◌, [], ℕ, length, slice_index, cond, IfOk, OnOk};
+ghost use Rattle.std.specs.Prelude.{◌≡◌, ◌≤◌, ◌<◌, ◌+◌, ◌++◌, [], ℕ, length, nat_lt, slice_index, cond, IfOk, OnOk};
+ghost use Rattle.cs_base.specs.Limits.{most_notes};
 ghost use Rattle.std.specs.List.Sorted.{IsNonDecreasingBy, IsNonDecreasing, IsPermutation};
 ghost use Rattle.cs_score.specs.Limits.{first_at};
 ghost use Rattle.cs_tempo.specs.Limits.{passes_notes, at_event, cycles_in};
@@ -20,7 +21,7 @@ pub fn note_hit(alloc: Global, events: &[Event]) -> Result<Option<LimitHit>, Out
     for event in events {
         started += notes_in(event);
         ended = ended_by(&ends, ended, u64::from(event.cycle));
-        if started - ended > MOST_NOTES {
+        if is_too_many(started - ended) {
             return Ok(Some(LimitHit {
                 limit: Limit::Notes,
                 line: event.line,
@@ -28,6 +29,13 @@ pub fn note_hit(alloc: Global, events: &[Event]) -> Result<Option<LimitHit>, Out
         }
     }
     Ok(None)
+}
+
+// Whether so many active notes are more than allowed.
+fn is_too_many(active: usize) -> bool
+    ensures { result ≡ nat_lt most_notes active }
+{
+    active > MOST_NOTES
 }
 
 // How many of the ends are at or before a cycle, where `from` of them are.

@@ -1,12 +1,12 @@
 // The clock of a section: it finds the time of a beat by the ramp that the beat lies in alone.
 ghost use Rattle.std.specs.Prelude.{◌≡◌, ◌≤◌, ◌<◌, ◌+◌, ◌-◌, ◌*◌, ◌^◌, length, IfOk};
 ghost use Rattle.cs_score.specs.Ranges.{beats_end};
-ghost use Rattle.cs_tempo.specs.Time.{time_along, time_of, IsTempo, Rises};
+ghost use Rattle.cs_time.specs.Time.{time_along, time_of, IsTempo, Rises};
 ghost use Rattle.cs_tempo.specs.{inner.Clock.point_at, inner.Clock.AreTimes, Sections.cycle_at};
 
-use crate::time::{beat_time, cycle_of, first_part};
 use cs_base::{Head, OutOfMemory};
 use cs_score::TempoPoint;
+use cs_time::{beat_time, cycle_of, first_part};
 use std::alloc::Global;
 use std::marker::Model;
 

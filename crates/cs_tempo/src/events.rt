@@ -2,7 +2,8 @@
 ghost use Rattle.std.specs.Prelude.{◌≡◌, ℕ, List, ◌≤◌, ◌<◌, ◌+◌, ◌-◌, ◌*◌, ◌^◌, ◌++◌, [], map, length, pos, IfOk, OnOk};
 ghost use Rattle.std.specs.{Prelude.IfSome, List.All};
 ghost use Rattle.cs_score.specs.Ranges.{IsInRange, HasRange, IsInstrument, beats_end};
-ghost use Rattle.cs_tempo.specs.{Time.seconds_of, Order.beat_of, Order.in_order, declared.plot.EventAct.EventAct};
+ghost use Rattle.cs_tempo.specs.{Order.beat_of, Order.in_order, declared.plot.EventAct.EventAct};
+ghost use Rattle.cs_time.specs.Time.{seconds_of};
 ghost use Rattle.cs_tempo.specs.Sections.{reach_of, end_of, cycle_at};
 ghost use Rattle.cs_tempo.specs.Plot.{fields_of, length_in_seconds, held_until, acts_of, events_along};
 ghost use Rattle.cs_tempo.specs.inner.Events.{in_section, HasEnd, IsTurnIn, Acts};
@@ -13,9 +14,9 @@ use crate::order::in_order;
 use crate::pairing::{stops_by_instrument, take_turn};
 use crate::plot::{Event, EventAct};
 use crate::section::end_of;
-use crate::time::seconds_of;
 use cs_base::{Num, OutOfMemory};
 use cs_score::{NoteValues, ScoreStmt, ScoreWhat};
+use cs_time::seconds_of;
 use std::alloc::Global;
 use std::cmp::max;
 

@@ -1,31 +1,15 @@
 // What holds of the definitions for every score: calls that do nothing, whose contracts are the laws.
-ghost use Rattle.std.specs.Prelude.{false, ◌≡◌, ◌≤◌, ◌+◌, ◌*◌, ◌/◌, ◌^◌, ℕ, List, [], ◌∷◌, Some, None, ℤ, pos, negsuc};
-ghost use Rattle.std.specs.{Prelude.◌+ℤ◌, Prelude.◌-ℤ◌, Prelude.◌*ℤ◌, List.All, List.AllPairs, List.filter};
+ghost use Rattle.std.specs.Prelude.{false, ◌≡◌, ◌≤◌, ◌+◌, ◌^◌, List, [], ◌∷◌, Some, None, pos, negsuc};
+ghost use Rattle.std.specs.List.{All, AllPairs, filter};
 ghost use Rattle.std.specs.{Ordering.is_eq, Ordering.is_lt, List.Sorted.IsNonDecreasingBy};
-ghost use Rattle.cs_base.specs.{Numbers.floor_div, declared.head.Head.Head};
+ghost use Rattle.cs_base.specs.declared.head.Head.{Head};
 ghost use Rattle.cs_score.specs.{Ranges.IsInRange, declared.statement.ScoreStmt.ScoreStmt};
-ghost use Rattle.cs_score.specs.declared.statement.TempoPoint.{TempoPoint};
-ghost use Rattle.cs_tempo.specs.Time.{IsTempo, ramp_time, time_of, cycle_of, seconds_of};
 ghost use Rattle.cs_score.specs.declared.statement.ScoreWhat.TheVariants as ScoreWhat;
 ghost use Rattle.cs_tempo.specs.{Pairing.ending_stop, Order.has_turn, Order.in_order, Order.order_of, Plot.plot_of};
 ghost use Rattle.cs_score.specs.Worked.{at_line, held_note, note, stop, table, whole};
 ghost use Rattle.cs_tempo.specs.Worked.{held_at, stop_at, two_sections};
 ghost use Rattle.cs_tempo.specs.declared.plot.EventAct.TheVariants as act;
 ghost use Rattle.cs_tempo.specs.{Limits.cycles_in, Limits.limit_of, Performable.IsPerformable};
-
-/// The time of a beat never falls as the beat grows, nor does the cycle of a time; a beat lasts a minute at most.
-pub fn time_never_falls()
-    ensures time { (tempo : List TempoPoint) (a b : ℕ) → IsTempo tempo → a ≤ b → time_of tempo a ≤ time_of tempo b }
-    ensures cycle { (a b sr ksmps : ℕ) → a ≤ b → cycle_of a sr ksmps ≤ cycle_of b sr ksmps }
-    ensures small { (tempo : List TempoPoint) (beat : ℕ) → IsTempo tempo → time_of tempo beat ≤ 60000 * beat }
-{}
-
-/// The time along a ramp is its formula over whole numbers with a sign, each part rounded down: that is never below 0.
-pub fn ramps_are_rounded_down()
-    ensures { (first last span x : ℕ) → 1000000 ≤ first → 1000000 ≤ last → x ≤ span
-        → pos (ramp_time first last span x) ≡ pos (first * x / 1000000)
-        +ℤ floor_div ((pos last -ℤ pos first) *ℤ pos (x * x)) (pos (2 * span * 1000000)) }
-{}
 
 /// The order of a section by its own rule: no statement stands before one that comes before it by beat, p1 and p3, and
 /// those that are equal in these are all that have a turn, in the order of the text.
@@ -53,20 +37,6 @@ pub fn plots_are_in_order()
 pub fn scores_within_limits_are_performable()
     ensures { (head : Head) (score : List ScoreStmt) → All IsInRange score
         → limit_of head score ≡ None → IsPerformable head (plot_of head score) }
-{}
-
-/// Times of docs/MEANING.md, computed for `t 0 60 4 120`: beats 2 and 4, their cycles at 8 frames a second and 4
-/// frames a cycle, and the seconds that an instrument sees.
-pub fn times_worked_by_hand()
-    ensures middle { time_of (record { beat = 0; tempo = 60000000 }
-        ∷ record { beat = 4000000; tempo = 120000000 } ∷ []) 2000000 ≡ 1750000000 }
-    ensures last { time_of (record { beat = 0; tempo = 60000000 }
-        ∷ record { beat = 4000000; tempo = 120000000 } ∷ []) 4000000 ≡ 3000000000 }
-    ensures cycles { (cycle_of 1750000000 8 4 ≡ 4) × (cycle_of 3000000000 8 4 ≡ 6) }
-    ensures seconds { (seconds_of 1750000000 ≡ 114688) × (seconds_of 1250000000 ≡ 81920) }
-    ensures jump { time_of (record { beat = 0; tempo = 60000000 }
-        ∷ record { beat = 0; tempo = 120000000 } ∷ []) 2000000 ≡ 1000000000 }
-    ensures steady { time_of [] 1500000 ≡ 1500000000 }
 {}
 
 /// The pairing of docs/MEANING.md, computed: of held notes at beats 0, 1 and 2 and stops at beats 2, 3, 4 and 5 the

@@ -1,12 +1,11 @@
-//! Time and the plot of a piece: when each note of a score starts and ends, in control cycles.
+//! The plot of a piece: when each note of a score starts and ends, in control cycles.
 //!
 //! Its one contract: `schedule` returns the plot of a score (`plot_of`), which can be performed (`IsPerformable`), or
-//! the first limit that the score passes (`limit_of`), or is out of memory. All times are exact whole numbers. How a
-//! beat's time is found, how turns are sorted, stops paired and notes counted may be changed without anyone above
-//! noticing.
+//! the first limit that the score passes (`limit_of`), or is out of memory. All times are exact (cs_time). How turns
+//! are sorted, stops paired and notes counted may be changed without anyone above noticing.
 //!
-//! To be read in this order: `time` (beats to nanoseconds to cycles), `clock`, `section`,
-//! `order`, `pairing`, `fields` and `plot` (the types), `events`, `limits`, `active`, `scheduling`, `laws`.
+//! To be read in this order: `clock` (the times of a section), `section`, `order`, `pairing`, `fields` and `plot` (the
+//! types), `events`, `limits`, `active`, `scheduling`, `laws`.
 #![tactic(auto)]
 
 mod active;
@@ -20,14 +19,11 @@ mod pairing;
 mod plot;
 mod scheduling;
 mod section;
-mod time;
 
 pub use fields::NoteFields;
 pub use laws::{
     orders_worked_by_hand, pairings_worked_by_hand, plot_worked_by_hand, plots_are_in_order,
-    ramps_are_rounded_down, scores_within_limits_are_performable, time_never_falls,
-    times_worked_by_hand, turns_are_in_order,
+    scores_within_limits_are_performable, turns_are_in_order,
 };
 pub use plot::{Event, EventAct, Events, Plot};
 pub use scheduling::schedule;
-pub use time::{beat_time, cycle_of};

@@ -2,7 +2,7 @@
 use Rattle.std.specs.Prelude.{◌≡◌, ℕ, ◌<◌, List, length, slice_index, slice_index_or}
 use Rattle.cs_base.specs.declared.head.Head.{Head}
 use Rattle.cs_score.specs.declared.statement.TempoPoint.{TempoPoint}
-use Rattle.cs_tempo.specs.Time.{time_along, IsTempo}
+use Rattle.cs_time.specs.Time.{time_along, IsTempo}
 
 -- how beats become cycles in a section: by the piece's head and the section's tempo
 pub record Pace : Type 0 where

@@ -1,6 +1,6 @@
-use Rattle.std.proofs.Common.{ℕ, ◌+◌, take, length, arith, ap, sym, ◌∙◌}
+use Rattle.std.proofs.Common.{◌≡◌, ℕ, ◌+◌, ◌-◌, nat_lt, take, length, arith, ap, sym, ◌∙◌}
 use Rattle.std.specs.List.{count_by}
-use Rattle.cs_base.proofs.Tests.{is_below, isnt_below}
+use Rattle.cs_base.specs.Limits.{most_notes}
 use Rattle.cs_tempo.specs.{Limits.passes_notes, Limits.at_event, Limits.is_active, inner.Sweep.is_note}
 use Rattle.cs_tempo.proofs.Firsts.{first_here, first_on, first_none, count_more}
 use Rattle.cs_tempo.proofs.Sweeps.{counted_here, ended_later}
@@ -16,8 +16,8 @@ overflow_sub-started c =
     c.ended_by-ended.ensures in
     omega (arith, n)
 
-pub returns-then-started-ended-gt-MOST_NOTES : goal.returns-then-started-ended-gt-MOST_NOTES
-returns-then-started-ended-gt-MOST_NOTES c =
+pub returns-then-is_too_many : goal.returns-then-is_too_many
+returns-then-is_too_many c =
     let k : ℕ = c.loop-event.event-index in
     let n = counted_here c.args.events.now c.in_ok-ends.ends.items c.deref.result.now k c.ended_by-ended.result
     c.event-item.result
@@ -25,8 +25,9 @@ returns-then-started-ended-gt-MOST_NOTES c =
     c.in_ok-ends.ensures.ends c.in_ok-ends.ensures.order
     c.loop-event.invariant.started c.notes_in-started.ensures c.deref.ensures.value c.from.ensures
     c.ended_by-ended.ensures in
-    let above = is_below 512 (count_by (is_active c.event-item.result.cycle) (take (k + 1) c.args.events.now))
-    (omega (arith, n, c.if-started-ended-gt-MOST_NOTES.true)) in
+    let active : count_by (is_active c.event-item.result.cycle) (take (k + 1) c.args.events.now)
+    ≡ c.loop-event.started + c.notes_in-started.result - c.ended_by-ended.result = omega (arith, n) in
+    let above = ap (nat_lt most_notes) active ∙ sym c.if-is_too_many.ensures in
     ap at_event (sym (first_here passes_notes c.args.events.now k c.event-item.result c.loop-event-test.true
     c.event-item.is above) ∙ c.loop-event.invariant.first)
 
@@ -39,15 +40,15 @@ loop-event-preserved c =
     c.in_ok-ends.ensures.ends c.in_ok-ends.ensures.order
     c.loop-event.invariant.started c.notes_in-started.ensures c.deref.ensures.value c.from.ensures
     c.ended_by-ended.ensures in
-    let within = isnt_below 512 (count_by (is_active c.event-item.result.cycle) (take (k + 1) c.args.events.now))
-    (omega (arith, n, c.if-started-ended-gt-MOST_NOTES.false)) in
+    let active : count_by (is_active c.event-item.result.cycle) (take (k + 1) c.args.events.now)
+    ≡ c.loop-event.started + c.notes_in-started.result - c.ended_by-ended.result = omega (arith, n) in
+    let within = ap (nat_lt most_notes) active ∙ sym c.if-is_too_many.ensures in
     record {
       started = omega (
         arith,
         c.loop-event.invariant.started,
         c.notes_in-started.ensures,
-        count_more is_note
-            c.args.events.now k c.event-item.result c.loop-event-test.true c.event-item.is,
+        count_more is_note c.args.events.now k c.event-item.result c.loop-event-test.true c.event-item.is,
       );
       within = omega (arith, c.ended_by-ended.ensures.within, ap length c.deref.ensures.value);
       below = ended_later c.args.events.now c.in_ok-ends.ends.items c.deref.result.now k c.ended_by-ended.result

@@ -1,5 +1,6 @@
-use Rattle.std.proofs.Common.{◌++◌, ◌∙◌, refl, ap, ℕ}
-use Rattle.std.proofs.lemmas.List.Sorted.{IsNonDecreasingBy-from_sort}
+use Rattle.std.proofs.Common.{◌++◌, ◌∙◌, refl, ap, subst, ℕ}
+use Rattle.std.specs.List.Sorted.{IsPermutation}
+use Rattle.std.proofs.lemmas.List.{Sorted.IsNonDecreasingBy-from_sort, take_all}
 use Rattle.cs_tempo.specs.inner.Sweep.{ends_of, own_end}
 use Rattle.cs_tempo.proofs.Sweeps.{ends_more}
 use Rattle.cs_tempo.proofs.active.sorted_ends.Goals as goal
@@ -15,3 +16,9 @@ loop-event-preserved c =
 
 pub returns-clause-order : goal.returns-clause-order
 returns-clause-order c = IsNonDecreasingBy-from_sort (λ (n : ℕ). n) _ c.in_ok-sort.ensures.sorted
+
+pub returns-clause-ends : goal.returns-clause-ends
+returns-clause-ends c =
+    let all = take_all c.loop-event.event-index c.args.events.now c.loop-event-test.false in
+    subst (λ ends. IsPermutation ends c.sort.new.self.items) (c.loop-event.invariant ∙ ap ends_of all)
+    c.in_ok-sort.ensures.permutation

@@ -1,7 +1,9 @@
 use Rattle.std.proofs.Common.{◌≡◌, ◌+◌, ◌-◌, ℕ, arith, ap, ◌∙◌}
 use Rattle.std.proofs.lemmas.List.{take_rest}
-use Rattle.cs_tempo.specs.{Time.time_along, inner.Clock.point_at}
-use Rattle.cs_tempo.proofs.{Times.rises_small, Clocks.rises_drop, Clocks.point_in_range, Clocks.next_time}
+use Rattle.cs_tempo.specs.inner.Clock.{point_at}
+use Rattle.cs_time.specs.Time.{time_along}
+use Rattle.cs_tempo.proofs.Clocks.{rises_drop, point_in_range, next_time}
+use Rattle.cs_time.proofs.Times.{rises_small}
 use Rattle.cs_tempo.proofs.clock.time_at.Goals as goal
 
 pub first_part-requires-clause-rising : goal.first_part-requires-clause-rising

@@ -1,5 +1,6 @@
 use Rattle.std.proofs.Common.{◌≡◌, ◌-◌}
-use Rattle.cs_tempo.specs.{Time.time_along, inner.Clock.point_at, inner.Clock.AreTimes}
+use Rattle.cs_tempo.specs.inner.Clock.{point_at, AreTimes}
+use Rattle.cs_time.specs.Time.{time_along}
 use Rattle.cs_tempo.proofs.clock.times_of.Given as goal
 
 abbrev pub invariant-loop-k : goal.invariant-loop-k

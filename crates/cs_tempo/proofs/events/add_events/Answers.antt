@@ -17,8 +17,7 @@ take_turn-stop-requires c = λ n queue e.
     c.loop-statement.invariant.queues e in
     omega (arith, few, few_before ss k)
 
-stop_here : (c : goal.After-take_turn-stop)
-    → c.take_turn-stop.result ≡ stop_of
+stop_here : (c : goal.After-take_turn-stop) → c.take_turn-stop.result ≡ stop_of
     (reverse (take c.loop-statement.statement-index (map (λ s. s.now) c.args.order.now)))
     (drop (c.loop-statement.statement-index + 1) (map (λ s. s.now) c.args.order.now)) c.statement-item.result.now
 stop_here c =
@@ -57,8 +56,7 @@ loop-statement-preserved c =
           let stop = stop_is ss k s some here c.take_turn-stop.result c.loop-statement.queues
           c.loop-statement.invariant.queues c.take_turn-stop.ensures.stop in
           ap (λ es. es ++ rest) (c.in_ok-push_event.ensures (acts_of set c.take_turn-stop.result s.what)
-          (c.in_ok-act.ensures c.args.offset))
-          ∙ ap (λ o. (old ++ events_at set o s) ++ rest) stop
+          (c.in_ok-act.ensures c.args.offset)) ∙ ap (λ o. (old ++ events_at set o s) ++ rest) stop
           ∙ events_step set ss k s old some here ∙ c.loop-statement.invariant.events);
     }
 

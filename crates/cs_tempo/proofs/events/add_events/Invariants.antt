@@ -7,7 +7,6 @@ invariant-loop-statement l = record {
   queues : AreQueues l.queues (reverse (take l.statement-index (map (λ s. s.now) l.order)))
       (drop l.statement-index (map (λ s. s.now) l.order));
   events : l.events.items ++ events_along (in_section l.clock l.offset l.cycles)
-      (reverse (take l.statement-index (map (λ s. s.now) l.order)))
-      (drop l.statement-index (map (λ s. s.now) l.order))
+      (reverse (take l.statement-index (map (λ s. s.now) l.order))) (drop l.statement-index (map (λ s. s.now) l.order))
       ≡ l.initial.events.items ++ events_along (in_section l.clock l.offset l.cycles) [] (map (λ s. s.now) l.order);
 }

@@ -17,8 +17,7 @@ loop-turn-preserved c = λ d.
     rw c.deref-turn-items.ensures.value (c.in_ok-turns.ensures.within c.loop-turn.turn-index zero_turn some) in
     ap (map (λ s. s.now)) c.in_ok-push.ensures.items
     ∙ taken_more (λ s. s.now) (λ (t : SortKey). get_or c.args.section.now t.index d) c.loop-turn.order.items _
-    c.deref-turn-items.result.now
-    c.loop-turn.turn-index zero_turn c.loop-turn-test.true
+    c.deref-turn-items.result.now c.loop-turn.turn-index zero_turn c.loop-turn-test.true
     (get_or_read c.args.section.now _ c.index-section-turn.result within c.index-section-turn.is d)
     (c.loop-turn.invariant d)
 

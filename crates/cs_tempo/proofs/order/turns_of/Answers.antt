@@ -8,8 +8,7 @@ loop-index-preserved c =
     ap (λ ts. ts ++ turns_from (c.loop-index.index + 1) (drop (c.loop-index.index + 1) c.args.section.now))
     c.in_ok-push_turn.ensures
     ∙ turn_more c.args.section.now c.loop-index.index c.index-section-index.result c.loop-index.turns.items
-    c.loop-index-test.true c.index-section-index.is
-    ∙ c.loop-index.invariant
+    c.loop-index-test.true c.index-section-index.is ∙ c.loop-index.invariant
 
 pub returns : goal.returns
 returns c = sym (turn_none c.args.section.now c.loop-index.index c.loop-index.turns.items c.loop-index-test.false)

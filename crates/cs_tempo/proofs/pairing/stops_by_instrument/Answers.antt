@@ -13,8 +13,7 @@ pub loop-statement-preserved : goal.loop-statement-preserved
 loop-statement-preserved c = λ n.
     subst (λ (ss : List ℕ). Shows (get nat_eq c.add_own_stop.new.queues n) ss 0)
     (stops_step (λ s. s.now) n c.args.order.now c.loop-statement.statement-index c.statement-item.result
-    c.loop-statement-test.true c.statement-item.is)
-    (c.in_ok-add_own_stop.ensures n _ (c.loop-statement.invariant n))
+    c.loop-statement-test.true c.statement-item.is) (c.in_ok-add_own_stop.ensures n _ (c.loop-statement.invariant n))
 
 pub returns : goal.returns
 unfolding sounding

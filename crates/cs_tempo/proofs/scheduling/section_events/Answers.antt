@@ -1,5 +1,6 @@
 use Rattle.std.proofs.Common.{◌∙◌, ap, sym, subst, get_or}
-use Rattle.cs_tempo.specs.{Sections.length_of, Time.IsTempo}
+use Rattle.cs_tempo.specs.Sections.{length_of}
+use Rattle.cs_time.specs.Time.{IsTempo}
 use Rattle.cs_tempo.proofs.Climbs.{tempo_in_range, reach_all, reach_moved}
 use Rattle.cs_tempo.proofs.scheduling.section_events.Goals as goal
 

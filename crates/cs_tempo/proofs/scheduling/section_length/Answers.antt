@@ -1,5 +1,5 @@
 use Rattle.std.proofs.Common.{sym, subst}
-use Rattle.cs_tempo.specs.Time.{IsTempo}
+use Rattle.cs_time.specs.Time.{IsTempo}
 use Rattle.cs_tempo.proofs.Climbs.{tempo_in_range}
 use Rattle.cs_tempo.proofs.scheduling.section_length.Goals as goal
 

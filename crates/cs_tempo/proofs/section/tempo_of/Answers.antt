@@ -10,8 +10,7 @@ pub loop-statement-preserved : goal.loop-statement-preserved
 loop-statement-preserved c =
     ap (or_else (tempo_of (drop (c.loop-statement.statement-index + 1) c.args.section.now))) c.points_or-tempo.ensures
     ∙ sym (tempo_more c.args.section.now c.loop-statement.statement-index c.statement-item.result
-    c.loop-statement.tempo.now c.loop-statement-test.true c.statement-item.is)
-    ∙ c.loop-statement.invariant
+    c.loop-statement.tempo.now c.loop-statement-test.true c.statement-item.is) ∙ c.loop-statement.invariant
 
 pub returns : goal.returns
 returns c = sym (tempo_none c.args.section.now c.loop-statement.statement-index c.loop-statement.tempo.now

@@ -1,5 +1,5 @@
 use Rattle.std.proofs.Common.{arith}
-use Rattle.cs_tempo.proofs.Times.{time_grows}
+use Rattle.cs_time.proofs.Times.{time_grows}
 use Rattle.cs_tempo.proofs.clock.Clock.span.Goals as goal
 
 pub overflow_sub-result : goal.overflow_sub-result

@@ -1,7 +1,9 @@
 use Rattle.std.proofs.Common.{◌≡◌, ◌+◌, arith, ap, subst, ◌∙◌}
 use Rattle.std.proofs.lemmas.List.{take_rest}
-use Rattle.cs_tempo.specs.{Time.time_of, Time.IsTempo, inner.Clock.Pace}
-use Rattle.cs_tempo.proofs.{Times.time_small, Times.tempo_rises, Clocks.rises_drop, Clocks.reading}
+use Rattle.cs_tempo.specs.inner.Clock.{Pace}
+use Rattle.cs_time.specs.Time.{time_of, IsTempo}
+use Rattle.cs_tempo.proofs.Clocks.{rises_drop, reading}
+use Rattle.cs_time.proofs.Times.{time_small, tempo_rises}
 use Rattle.cs_tempo.proofs.clock.Clock.time.Goals as goal
 
 pub beat_time-requires-clause-rising : goal.beat_time-requires-clause-rising

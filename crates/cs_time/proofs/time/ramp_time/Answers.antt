@@ -1,7 +1,7 @@
 use Rattle.std.proofs.Common.{◌-◌, ◌*◌, ◌/◌, arith, sym, ap, ◌∙◌}
-use Rattle.cs_tempo.proofs.Floors.{ramp_time_is, ramp_time_of_nothing}
-use Rattle.cs_tempo.proofs.Ramps.{shorter_within, ramp_up, ramp_down}
-use Rattle.cs_tempo.proofs.time.ramp_time.Goals as goal
+use Rattle.cs_time.proofs.Floors.{ramp_time_is, ramp_time_of_nothing}
+use Rattle.cs_time.proofs.Ramps.{shorter_within, ramp_up, ramp_down}
+use Rattle.cs_time.proofs.time.ramp_time.Goals as goal
 
 pub returns-then-x-eq0 : goal.returns-then-x-eq0
 returns-then-x-eq0 c = rw c.if-x-eq0.true (sym (ramp_time_of_nothing c.args.first c.args.last c.args.span))
@@ -25,3 +25,15 @@ returns-else-first-last c =
     ∙ ap (λ n. c.args.first * c.args.x / 1000000 - n) c.shorter.ensures.value
     ∙ ramp_down c.args.first c.args.last c.args.span c.args.x c.if-first-last.false
     ∙ sym (ramp_time_is c.args.first c.args.last c.args.span c.args.x c.requires.first.0 c.requires.last.0 c.requires.x)
+
+pub steady_time-even-requires : goal.steady_time-even-requires
+steady_time-even-requires c = record { length = omega arith; x = omega arith }
+
+pub overflow_sub-first : goal.overflow_sub-first
+overflow_sub-first c = omega arith
+
+pub longer-requires : goal.longer-requires
+longer-requires c = record { rise = omega arith; span = omega arith; x = (omega arith, omega arith) }
+
+pub shorter-requires : goal.shorter-requires
+shorter-requires c = record { fall = omega arith; span = omega arith; x = (omega arith, omega arith) }

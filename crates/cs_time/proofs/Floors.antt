@@ -5,9 +5,9 @@ use Rattle.std.specs.Int.{int_div_euclid}
 use Rattle.std.proofs.Math.Nat.{div-le_self, mul-zero}
 use Rattle.std.proofs.lemmas.{Nat.mul-le, Int.ints, Bool.cases_lt}
 use Rattle.cs_base.specs.Numbers.{floor_div}
-use Rattle.cs_tempo.specs.{Time.ramp_time, inner.Ramps.ramp_in_parts, inner.Ramps.rounded_up}
-use Rattle.cs_tempo.proofs.Ramps.{ramp_up, ramp_down, ramp_grows, ramp_small, ramp_of_nothing, nothing_shared}
-use Rattle.cs_tempo.proofs.Ramps.{quotient_below, quotient_above, up_least, up_most, shorter_within}
+use Rattle.cs_time.specs.{Time.ramp_time, inner.Ramps.ramp_in_parts, inner.Ramps.rounded_up}
+use Rattle.cs_time.proofs.Ramps.{ramp_up, ramp_down, ramp_grows, ramp_small, ramp_of_nothing, nothing_shared}
+use Rattle.cs_time.proofs.Ramps.{quotient_below, quotient_above, up_least, up_most, shorter_within}
 
 times_up : (f l y : ℕ) → f ≤ l → (pos l -ℤ pos f) *ℤ pos y ≡ pos ((l - f) * y)
 times_up f l y h = let e : pos l -ℤ pos f ≡ pos (l - f) = omega (arith, ints) in ap (λ z. z *ℤ pos y) e
@@ -28,9 +28,7 @@ same_quotient d u q n h a b c e =
     (λ (l : q + 1 ≤ u). ⊎_elim
     (λ (g : q + 1 < u). let m : d * (q + 2) ≤ d * u =
     mul-le d (q + 2) d u (omega arith) (omega arith) in absurd (omega (arith, m)))
-    (λ (g : u ≤ q + 1). omega arith)
-    (cases_lt (q + 1) u))
-    (cases_lt u (q + 1))
+    (λ (g : u ≤ q + 1). omega arith) (cases_lt (q + 1) u)) (cases_lt u (q + 1))
 
 -- what is rounded up and taken away is what falls and is rounded down
 up_of_more : (n d : ℕ) → 0 < d → rounded_up (suc n) d ≡ n / d + 1
@@ -47,8 +45,7 @@ none_up d h =
     ⊎_elim
     (λ (l : 0 < rounded_up 0 d). let m : d * 1 ≤ d * rounded_up 0 d =
     mul-le d 1 d (rounded_up 0 d) (omega arith) l in absurd (omega (arith, a, m)))
-    (λ (l : rounded_up 0 d ≤ 0). omega arith)
-    (cases_lt 0 (rounded_up 0 d))
+    (λ (l : rounded_up 0 d ≤ 0). omega arith) (cases_lt 0 (rounded_up 0 d))
 
 fallen : (n d e : ℕ) → 0 < d → rounded_up n d ≤ e
     → pos (e - rounded_up n d) ≡ pos e +ℤ int_div_euclid (neg_ℤ (pos n)) (pos d)
@@ -90,8 +87,7 @@ nothing_times : (f l : ℕ) → (pos l -ℤ pos f) *ℤ pos (0 * 0) ≡ pos 0
 nothing_times f l =
     ⊎_elim
     (λ (h : l < f). times_down f l (0 * 0) (omega (arith, h)) ∙ ap (λ n. neg_ℤ (pos n)) (mul-zero (f - l)))
-    (λ (h : f ≤ l). times_up f l (0 * 0) h ∙ ap pos (mul-zero (l - f)))
-    (cases_lt l f)
+    (λ (h : f ≤ l). times_up f l (0 * 0) h ∙ ap pos (mul-zero (l - f))) (cases_lt l f)
 
 formula_of_nothing : (f l s : ℕ) → formula f l s 0 ≡ pos 0
 formula_of_nothing f l s =

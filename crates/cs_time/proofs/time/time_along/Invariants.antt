@@ -1,6 +1,6 @@
 use Rattle.std.proofs.Common.{◌≡◌, ◌+◌, drop}
-use Rattle.cs_tempo.specs.Time.{time_along, Rises}
-use Rattle.cs_tempo.proofs.time.time_along.Given as goal
+use Rattle.cs_time.specs.Time.{time_along, Rises}
+use Rattle.cs_time.proofs.time.time_along.Given as goal
 
 abbrev pub invariant-loop-k : goal.invariant-loop-k
 invariant-loop-k l = record {

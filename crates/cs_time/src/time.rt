@@ -2,8 +2,8 @@
 ghost use Rattle.std.specs.Prelude.{◌≡◌, ◌≤◌, ◌<◌, ◌*◌, ◌+◌, ◌-◌, ◌^◌, ◌/◌, drop, pos};
 ghost use Rattle.cs_base.specs.{Limits.greatest_ksmps, Limits.greatest_sr, Numbers.IsRaw};
 ghost use Rattle.cs_score.specs.{Ranges.beats_end, declared.statement.TempoPoint.TempoPoint};
-ghost use Rattle.cs_tempo.specs.inner.Ramps.{rounded_up};
-ghost use Rattle.cs_tempo.specs.Time.{beat_length, ramp_time, time_along, time_of, Rises, cycle_of, seconds_of};
+ghost use Rattle.cs_time.specs.inner.Ramps.{rounded_up};
+ghost use Rattle.cs_time.specs.Time.{beat_length, ramp_time, time_along, time_of, Rises, cycle_of, seconds_of};
 
 use cs_base::ONE;
 use cs_score::TempoPoint;
@@ -21,7 +21,7 @@ pub fn cycle_of(ns: u64, sr: u32, ksmps: u32) -> u64
 
 /// Nanoseconds in 65,536ths of a second, rounded down.
 #[tactic(auto, unfolding(crate::specs::Time::seconds_of))]
-pub(crate) fn seconds_of(ns: u64) -> i64
+pub fn seconds_of(ns: u64) -> i64
     requires { ns ≤ 60000 * beats_end }
     ensures value { result ≡ pos (seconds_of ns) }
     ensures range { IsRaw result }
@@ -59,8 +59,8 @@ fn time_along(points: &[TempoPoint], beat: u64) -> u64
     time
 }
 
-// What of the time before a beat lies between the first point and the next, or after the last.
-pub(crate) fn first_part(points: &[TempoPoint], beat: u64) -> u64
+/// What of the time before a beat lies between the first point and the next, or after the last.
+pub fn first_part(points: &[TempoPoint], beat: u64) -> u64
     requires rising { Rises points.now }
     requires beat { beat < beats_end }
     ensures { time_along points.now beat ≡ result + time_along (drop 1 points.now) beat }

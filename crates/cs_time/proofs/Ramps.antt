@@ -4,7 +4,7 @@ use Rattle.std.proofs.{Common.inr, Common.lit<, Math.Nat.mul-zero}
 use Rattle.std.proofs.Math.Nat.{mul-le-mul_left, mul-div-le, le_of_mul-le-mul_left, eq-or-lt_of_le, div-le_self}
 use Rattle.std.proofs.lemmas.Nat.{le-div, mul-le, mod_below, div_below, div-add-mod'}
 use Rattle.std.proofs.lemmas.{Bool.cases_lt, Bool.Decides.nat_tests, Bool.Decides.leb_tells}
-use Rattle.cs_tempo.specs.inner.Ramps.{ramp_in_parts, rounded_up}
+use Rattle.cs_time.specs.inner.Ramps.{ramp_in_parts, rounded_up}
 
 -- a quotient grows with its number
 pub div_grows : (a b d : ℕ) → a ≤ b → a / d ≤ b / d
@@ -33,8 +33,7 @@ heart M T D e x k u qx qy cx cy low some halves below above up down =
     let d' : T * (M * 1) ≤ T * (e * k) = mul-le-mul_left T d in
     let f : T * (D * k) ≡ (x + (x + k) + u) * (D * k) = ap (λ t. t * (D * k)) halves in
     absurd (omega (arith, a, b, c, d', f)))
-    (λ (h : qx + cy ≤ qy + cx). h)
-    (cases_lt (qy + cx) (qx + cy))
+    (λ (h : qx + cy ≤ qy + cx). h) (cases_lt (qy + cx) (qx + cy))
 
 -- what a rise adds
 pub longer_small : (r s x : ℕ) → 1 ≤ x → x ≤ s → 2000000 * (r * (x * x) / (2 * s * 1000000)) ≤ r * x
@@ -66,8 +65,7 @@ paid : (D l s x k : ℕ) → 1000000 ≤ l → 1 ≤ s → 1 ≤ k → x + k ≤
 paid D l s x k low some more inside =
     heart 1000000 (2 * s) D l x k (2 * s - (x + (x + k))) ((D + l) * x / 1000000) ((D + l) * (x + k) / 1000000)
     (rounded_up (D * (x * x)) (2 * s * 1000000)) (rounded_up (D * ((x + k) * (x + k))) (2 * s * 1000000)) low more
-    (omega arith)
-    (quotient_below ((D + l) * x) 1000000) (quotient_above ((D + l) * (x + k)) 1000000 (lit< tt))
+    (omega arith) (quotient_below ((D + l) * x) 1000000) (quotient_above ((D + l) * (x + k)) 1000000 (lit< tt))
     (up_least (D * (x * x)) (2 * s * 1000000) (omega arith))
     (up_most (D * ((x + k) * (x + k))) (2 * s * 1000000) (omega arith))
 
@@ -81,8 +79,7 @@ shorter_pays f l s x y low falls some order inside =
     (λ (h : x < y).
     let p = paid (f - l) l s x (y - x) low some (omega arith) (omega arith) in
     let a : f - l + l ≡ f = omega arith in
-    let b : x + (y - x) ≡ y = omega arith in rw (a, b) at p)
-    (eq-or-lt_of_le order)
+    let b : x + (y - x) ≡ y = omega arith in rw (a, b) at p) (eq-or-lt_of_le order)
 
 -- time never falls along a ramp
 pub ramp_grows : (f l s x y : ℕ) → 1000000 ≤ l → x ≤ y → y ≤ s → ramp_in_parts f l s x ≤ ramp_in_parts f l s y
@@ -101,9 +98,7 @@ ramp_grows f l s x y low order inside =
     let a = shorter_pays f l s x y low (omega arith) (omega arith) order inside in
     let b = shorter_pays f l s 0 x low (omega arith) (omega arith) (omega arith) (omega arith) in
     let z = up_of_nothing (f - l) (2 * s * 1000000) (omega arith) in
-    omega (arith, a, b, z))
-    (zero_or_more y)))
-    (leb_tells f l)
+    omega (arith, a, b, z)) (zero_or_more y))) (leb_tells f l)
 
 pub nothing_shared : (d : ℕ) → 0 / d ≡ 0
 nothing_shared d = omega (arith, div-le_self 0 d)
@@ -115,8 +110,7 @@ ramp_of_nothing f l s =
     ⊎_elim
     (λ t. rw t.0 (let b : (l - f) * (0 * 0) / (2 * s * 1000000) ≡ 0 =
     ap (λ n. n / (2 * s * 1000000)) (mul-zero (l - f)) ∙ nothing_shared (2 * s * 1000000) in omega (arith, a, b)))
-    (λ t. rw t.0 (omega (arith, a)))
-    (leb_tells f l)
+    (λ t. rw t.0 (omega (arith, a))) (leb_tells f l)
 
 risen_small : (f w x a b : ℕ) → f + w ≤ 60000000000 → 1000000 * a ≤ f * x → 2000000 * b ≤ w * x → a + b ≤ 60000 * x
 risen_small f w x a b fast p q =
@@ -133,8 +127,7 @@ ramp_small f l s x fast fast' inside =
     ⊎_elim
     (λ t. rw t.0 (risen_small f (l - f) x _ _ (omega arith) a (longer_small (l - f) s x h inside)))
     (λ t. rw t.0 (let m : f * x ≤ 60000000000 * x = mul-le f x 60000000000 x fast (omega arith) in omega (arith, a, m)))
-    (leb_tells f l))
-    (zero_or_more x)
+    (leb_tells f l)) (zero_or_more x)
 
 -- with beats of one length
 pub steady_small : (f x : ℕ) → f ≤ 60000000000 → f * x / 1000000 ≤ 60000 * x

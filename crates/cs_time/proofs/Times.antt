@@ -3,8 +3,8 @@ use Rattle.std.proofs.Common.{◌≡◌, ℕ, ◌+◌, ◌-◌, ◌*◌, ◌/◌
 use Rattle.std.proofs.{Common.arith, Common.refl, Common.subst, Math.Nat.mul-le-mul_left, Math.Nat.div-le_of_le-mul}
 use Rattle.std.proofs.lemmas.{List.drop_more, Nat.le-div}
 use Rattle.cs_score.specs.{Ranges.IsTempoPoint, Ranges.AreRising, declared.statement.TempoPoint.TempoPoint}
-use Rattle.cs_tempo.specs.Time.{beat_length, ramp_time, part_of, time_along, time_of, IsTempo, Rises, cycle_of}
-use Rattle.cs_tempo.proofs.{Floors.ramp_time_grows, Floors.ramp_time_small, Ramps.div_grows, Ramps.steady_small}
+use Rattle.cs_time.specs.Time.{beat_length, ramp_time, part_of, time_along, time_of, IsTempo, Rises, cycle_of}
+use Rattle.cs_time.proofs.{Floors.ramp_time_grows, Floors.ramp_time_small, Ramps.div_grows, Ramps.steady_small}
 
 pub beat_slow : (t : ℕ) → 1000000 ≤ t → t ≤ 60000000000 → 1000000 ≤ beat_length t
 unfolding beat_length
@@ -15,8 +15,7 @@ unfolding beat_length
 beat_fast t slow = div-le_of_le-mul t (omega arith)
 
 part_small : (p q : TempoPoint) (rest : List TempoPoint) (beat : ℕ) → IsTempoPoint p → IsTempoPoint q → p.beat ≤ q.beat
-    →
-    part_of p (q ∷ rest) beat ≤ 60000 * (min beat q.beat - p.beat)
+    → part_of p (q ∷ rest) beat ≤ 60000 * (min beat q.beat - p.beat)
 unfolding part_of
 part_small p q rest beat a b order =
     ramp_time_small (beat_length p.tempo) (beat_length q.tempo) (q.beat - p.beat) (min beat q.beat - p.beat)
@@ -35,8 +34,7 @@ along_small p (q ∷ rest) beat a r =
     omega (arith, part_small p q rest beat a r.1 r.0, along_small q rest beat r.1 r.2)
 
 part_grows : (p q : TempoPoint) (rest : List TempoPoint) (x y : ℕ) → IsTempoPoint p → IsTempoPoint q → p.beat ≤ q.beat
-    → x ≤ y →
-    part_of p (q ∷ rest) x ≤ part_of p (q ∷ rest) y
+    → x ≤ y → part_of p (q ∷ rest) x ≤ part_of p (q ∷ rest) y
 unfolding part_of
 part_grows p q rest x y a b order up =
     ramp_time_grows (beat_length p.tempo) (beat_length q.tempo) (q.beat - p.beat) (min x q.beat - p.beat)
@@ -48,8 +46,7 @@ unfolding part_of
 last_grows p x y up = div_grows _ _ 1000000 (mul-le-mul_left (beat_length p.tempo) (omega arith))
 
 pub along_grows : (p : TempoPoint) (later : List TempoPoint) (x y : ℕ) → IsTempoPoint p → AreRising p.beat later → x ≤ y
-    →
-    time_along (p ∷ later) x ≤ time_along (p ∷ later) y
+    → time_along (p ∷ later) x ≤ time_along (p ∷ later) y
 unfolding time_along
 along_grows p [] x y a r up = omega (arith, last_grows p x y up)
 along_grows p (q ∷ rest) x y a r up =
@@ -123,3 +120,18 @@ sixty_time beat = let e : beat - 0 ≡ beat = omega arith in rw e (omega arith)
 pub tempo_rises : (tempo : List TempoPoint) → IsTempo tempo → Rises tempo
 tempo_rises [] t = tt
 tempo_rises (p ∷ later) t = (t.1.1, t.1.2)
+
+pub rises_behind : (ps : List TempoPoint) → Rises ps → Rises (drop 1 ps)
+rises_behind [] r = tt
+rises_behind (p ∷ later) r = rises_on p later r
+
+-- the first two points of some that rise
+pub first_point : (ps : List TempoPoint) (d : TempoPoint) → 1 ≤ length ps → Rises ps → IsTempoPoint (get_or ps 0 d)
+first_point [] d some r = absurd (omega arith)
+first_point (p ∷ later) d some r = r.0
+
+pub next_point : (ps : List TempoPoint) (d : TempoPoint) → 2 ≤ length ps → Rises ps
+    → ((get_or ps 0 d).beat ≤ (get_or ps 1 d).beat) × IsTempoPoint (get_or ps 1 d)
+next_point [] d some r = absurd (omega arith)
+next_point (p ∷ []) d some r = absurd (omega arith)
+next_point (p ∷ q ∷ rest) d some r = (r.1.0, r.1.1)

@@ -1,9 +1,9 @@
 use Rattle.std.proofs.Common.{◌≡◌, ◌∙◌, List, [], ap, arith, sym}
 use Rattle.std.proofs.lemmas.{Bool.Decides.nat_tests, List.nil_from_length}
 use Rattle.cs_score.specs.declared.statement.TempoPoint.{TempoPoint}
-use Rattle.cs_tempo.specs.Time.{time_of}
-use Rattle.cs_tempo.proofs.Times.{along_is, sixty_time}
-use Rattle.cs_tempo.proofs.time.beat_time.Goals as goal
+use Rattle.cs_time.specs.Time.{time_of}
+use Rattle.cs_time.proofs.Times.{along_is, sixty_time}
+use Rattle.cs_time.proofs.time.beat_time.Goals as goal
 
 pub returns-then-is_empty : goal.returns-then-is_empty
 returns-then-is_empty c =

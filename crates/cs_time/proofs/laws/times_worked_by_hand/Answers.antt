@@ -1,6 +1,6 @@
 use Rattle.std.proofs.Common.{refl}
-use Rattle.cs_tempo.specs.Time.{time_along, part_of, ramp_time, beat_length, cycle_of, seconds_of}
-use Rattle.cs_tempo.proofs.laws.times_worked_by_hand.Goals as goal
+use Rattle.cs_time.specs.Time.{time_along, part_of, ramp_time, beat_length, cycle_of, seconds_of}
+use Rattle.cs_time.proofs.laws.times_worked_by_hand.Goals as goal
 
 pub returns-clause-middle : goal.returns-clause-middle
 unfolding time_along part_of ramp_time beat_length

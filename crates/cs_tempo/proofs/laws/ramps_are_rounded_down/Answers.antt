@@ -1,5 +1,0 @@
-use Rattle.cs_tempo.proofs.Floors.{no_less_than_nothing}
-use Rattle.cs_tempo.proofs.laws.ramps_are_rounded_down.Goals as goal
-
-pub returns : goal.returns
-returns c = no_less_than_nothing
