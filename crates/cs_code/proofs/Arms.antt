@@ -10,8 +10,7 @@ use Rattle.cs_code.proofs.Runs.{Live, run_append, live_step, skip_step, run_past
 use Rattle.cs_ir.specs.declared.op.Act.TheVariants as act
 
 -- A machine stands as a note does, and goes on at a place or before it.
-pub record Agrees {W : Type 0} (placed : Path → Option ℕ) (place : ℕ) (t : Note W)
-    (m : Machine W) : Type 0 where
+pub record Agrees {W : Type 0} (placed : Path → Option ℕ) (place : ℕ) (t : Note W) (m : Machine W) : Type 0 where
   pub stands : StandsInMachine placed t m
   pub next : m.next ≤ place
 
@@ -50,8 +49,7 @@ module _ {W : Type 0} (o : World W) (placed : Path → Option ℕ) where
 
   -- the condition holds: its body, and then a jump over the rest
   taken_runs : (at : ℕ) (q : Reg) (body rest : List Op) (t : Note W) (m : Machine W)
-      → Agrees placed (at + length body) t (run o at body m)
-      → Agrees placed (at + length body + 1 + length rest) t
+      → Agrees placed (at + length body) t (run o at body m) → Agrees placed (at + length body + 1 + length rest) t
       (run o at (body ++ (op_of (act.Jump (at + length body + 1 + length rest)) q [] ∷ rest)) m)
   taken_runs at q body rest t m a =
       let jump : Op = op_of (act.Jump (at + length body + 1 + length rest)) q [] in
@@ -72,10 +70,8 @@ module _ {W : Type 0} (o : World W) (placed : Path → Option ℕ) where
 
   -- An arm, from its condition's run, and the runs of its body and of the rest on any machine that agrees there.
   pub arm_runs : (place : ℕ) (before : List Op) (q : Reg) (body rest : List Op) (s tb tr : Note W) (w : Wave)
-      (m : Machine W)
-      → Agrees placed (place + length before) s (run o place before m) → o.refused s.world ≡ false
-      → (run o place before m).regs q ≡ w
-      → ((n : Machine W) → Agrees placed (place + length before + 1) s n
+      (m : Machine W) → Agrees placed (place + length before) s (run o place before m) → o.refused s.world ≡ false
+      → (run o place before m).regs q ≡ w → ((n : Machine W) → Agrees placed (place + length before + 1) s n
       → Agrees placed (place + length before + 1 + length body) tb (run o (place + length before + 1) body n))
       → ((n : Machine W) → Agrees placed (place + length before + 1 + length body + 1) s n
       → Agrees placed (place + length before + 1 + length body + 1 + length rest) tr

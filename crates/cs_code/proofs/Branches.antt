@@ -46,8 +46,7 @@ joined_long place end b =
 
 -- how long an arm and those after it are
 arm_end : (place : ℕ) (cond : List Op) (q : Reg) (body rest : List Op)
-    → place + length (arm_code place cond q body rest)
-    ≡ place + length cond + 1 + length body + 1 + length rest
+    → place + length (arm_code place cond q body rest) ≡ place + length cond + 1 + length body + 1 + length rest
 arm_end place cond q body rest =
     let jump : Op = op_of (act.Jump (place + length cond + 1 + length body + 1 + length rest)) q [] in
     let unless : Op = op_of (act.Unless (place + length cond + 1 + length body + 1)) q (q ∷ []) in
@@ -69,8 +68,7 @@ opened_long place (b ∷ bs) =
 
 -- the first arm, and the others
 chain_first : (place end : ℕ) (b : Branch) (bs : List Branch) (els : List Op) → end ≡ after place (b ∷ bs) + length els
-    → joined place b end
-    ++ chain (past_branch place b) bs els ≡ chain place (b ∷ bs) els
+    → joined place b end ++ chain (past_branch place b) bs els ≡ chain place (b ∷ bs) els
 chain_first place end b bs els e =
     let rest : List Op = chain (past_branch place b) bs els in
     let jump : ℕ → Op = λ to. op_of (act.Jump to) b.q [] in
@@ -91,8 +89,7 @@ aimed_one place end pre b rest at =
     let here : jump_at place b ≡ length head =
     omega (arith, at, length-append pre (b.cond ++ (test ∷ b.body)), length-append b.cond (test ∷ b.body)) in
     ap (λ l. aim (jump_at place b) end l) (flat pre b.cond b.body test (jump 0) rest)
-    ∙ ap (λ n. aim n end (head ++ (jump 0 ∷ rest))) here
-    ∙ aim_seam head (jump 0) rest end
+    ∙ ap (λ n. aim n end (head ++ (jump 0 ∷ rest))) here ∙ aim_seam head (jump 0) rest end
     ∙ sym (flat pre b.cond b.body test (jump end) rest)
 
 pub closed : (end place : ℕ) (pre : List Op) (bs : List Branch) (els : List Op) → length pre ≡ place
@@ -107,14 +104,12 @@ closed end place pre (b ∷ bs) els at is =
     ap (λ l. aim_all (jumps next bs) end (aim (jump_at place b) end (pre ++ l)))
     (append_assoc (joined place b 0) (opened next bs) els)
     ∙ ap (aim_all (jumps next bs) end) (aimed_one place end pre b rest at ∙ sym (append_assoc pre first rest))
-    ∙ closed end next (pre ++ first) bs els long is
-    ∙ append_assoc pre first (chain next bs els)
+    ∙ closed end next (pre ++ first) bs els long is ∙ append_assoc pre first (chain next bs els)
     ∙ ap (λ l. pre ++ l) (chain_first place end b bs els is)
 
 -- ---- the arms of the tree
 
-chosen_list : (way : Pass) (o : Scope) (place : ℕ) (p : Progress) (list : List TypedArm)
-    (els : typed.Block)
+chosen_list : (way : Pass) (o : Scope) (place : ℕ) (p : Progress) (list : List TypedArm) (els : typed.Block)
     → chain place (branches way o place p list)
     (pass_block_code way (after place (branches way o place p list)) (past_list o p list) (core_in o els))
     ≡ chosen_code way place p (arms_in o els list)
@@ -130,10 +125,8 @@ past_chosen o p (a ∷ rest) els = past_chosen o (past_arm o p a) rest els
 
 -- an arm is made: its condition, a test, its body, and a jump; then the test is aimed past the jump
 arm_ops : (old first tested filled jumped new cond body : List Op) (q : Reg) (test past : ℕ) → first ≡ old ++ cond
-    → test ≡ length first
-    → tested ≡ first ++ (op_of (act.Unless 0) q (q ∷ []) ∷ []) → filled ≡ tested ++ body
-    → jumped ≡ filled ++ (op_of (act.Jump 0) q [] ∷ [])
-    → past ≡ length jumped → new ≡ aim test past jumped
+    → test ≡ length first → tested ≡ first ++ (op_of (act.Unless 0) q (q ∷ []) ∷ []) → filled ≡ tested ++ body
+    → jumped ≡ filled ++ (op_of (act.Jump 0) q [] ∷ []) → past ≡ length jumped → new ≡ aim test past jumped
     → new ≡ old ++ joined (length old) (record { cond = cond; q = q; body = body }) 0
 arm_ops old first tested filled jumped new cond body q test past a b c d e g h =
     let none : Op = op_of (act.Unless 0) q (q ∷ []) in
@@ -149,13 +142,10 @@ arm_ops old first tested filled jumped new cond body q test past a b c d e g h =
       g,
       ap length all,
       length-append (old ++ cond) (none ∷ (body ++ (jump ∷ []))),
-      length-append old
-          cond,
+      length-append old cond,
       length-append body (jump ∷ []),
     ) in
-    h
-    ∙ ap (λ n. aim n past jumped) (b ∙ ap length a)
-    ∙ ap (aim (length (old ++ cond)) past) all
+    h ∙ ap (λ n. aim n past jumped) (b ∙ ap length a) ∙ ap (aim (length (old ++ cond)) past) all
     ∙ aim_seam (old ++ cond) none (body ++ (jump ∷ [])) past
     ∙ ap (λ n. (old ++ cond) ++ (op_of (act.Unless n) q (q ∷ []) ∷ (body ++ (jump ∷ [])))) long
     ∙ append_assoc old cond (op_of (act.Unless (past_branch (length old) b0)) q (q ∷ []) ∷ (body ++ (jump ∷ [])))
@@ -182,16 +172,14 @@ module _ (old first tested filled jumped new : Draft) (cond body : List Op) (q :
 
   -- what its jump's mark stands for
   pub arm_marked : (end : ℕ) → IsAt jumped end (length (drafted filled)) → (ends places : List ℕ)
-      → AllZip (IsAt old) ends places
-      → AllZip (IsAt new) (ends ++ end ∷ [])
+      → AllZip (IsAt old) ends places → AllZip (IsAt new) (ends ++ end ∷ [])
       (places ++ jump_at (length (drafted old)) (record { cond = cond; q = q; body = body }) ∷ [])
   arm_marked end there ends places h =
       let place : ℕ = jump_at (length (drafted old)) (record { cond = cond; q = q; body = body }) in
       let here : length (drafted filled) ≡ place =
       omega (arith, grew_long old first cond begun, grew_long first tested _ tests, grew_long tested filled body fills)
       in
-      zip_one (IsAt new) ends places end place
-      (zip_still (IsAt old) (IsAt new) arm_made.marks ends places h)
+      zip_one (IsAt new) ends places end place (zip_still (IsAt old) (IsAt new) arm_made.marks ends places h)
       (subst (IsAt new end) here (aimed_test.marks end (length (drafted filled)) there))
 
 -- where its body begins, after the op of its test
@@ -208,8 +196,7 @@ arm_long way o place p a = joined_long place 0 (branch_of way o place p a)
 -- one arm more, in the loop that makes them: from where the ops end then
 pub opened_more : (way : Pass) (o : Scope) (place next : ℕ) (p q : Progress) (arms : List TypedArm) (a : TypedArm)
     (rest : List TypedArm) → arms ≡ a ∷ rest → q ≡ past_arm o p a
-    → next ≡ place + length (joined place (branch_of way o place p a) 0)
-    → opened place (branches way o place p arms)
+    → next ≡ place + length (joined place (branch_of way o place p a) 0) → opened place (branches way o place p arms)
     ≡ joined place (branch_of way o place p a) 0 ++ opened next (branches way o next q rest)
 opened_more way o place next p q arms a rest split on at =
     let one : List Op = joined place (branch_of way o place p a) 0 in
@@ -220,8 +207,7 @@ opened_more way o place next p q arms a rest split on at =
 
 pub jumps_more : (way : Pass) (o : Scope) (place next : ℕ) (p q : Progress) (arms : List TypedArm) (a : TypedArm)
     (rest : List TypedArm) → arms ≡ a ∷ rest → q ≡ past_arm o p a
-    → next ≡ place + length (joined place (branch_of way o place p a) 0)
-    → jumps place (branches way o place p arms)
+    → next ≡ place + length (joined place (branch_of way o place p a) 0) → jumps place (branches way o place p arms)
     ≡ jump_at place (branch_of way o place p a) ∷ jumps next (branches way o next q rest)
 jumps_more way o place next p q arms a rest split on at =
     let one : ℕ = jump_at place (branch_of way o place p a) in
@@ -236,14 +222,12 @@ pub each_more : (o : Scope) (place next : ℕ) (p q : Progress) (arms : List Typ
     → each_code o place p arms ≡ each_arm_code place p (condition_of a) (body_of o a) ++ each_code o next q rest
 each_more o place next p q arms a rest split on at =
     let one : List Op = each_arm_code place p (condition_of a) (body_of o a) in
-    ap (each_code o place p) split
-    ∙ sym (ap (λ k. one ++ each_code o (place + length one) k rest) on)
+    ap (each_code o place p) split ∙ sym (ap (λ k. one ++ each_code o (place + length one) k rest) on)
     ∙ sym (ap (λ n. one ++ each_code o n q rest) at)
 
 -- arms that are all initialised, and the statements after `else`
 each_all : (o : Scope) (place : ℕ) (p : Progress) (list : List TypedArm) (els : typed.Block)
-    → all_code place p (arms_in o els list)
-    ≡ each_code o place p list
+    → all_code place p (arms_in o els list) ≡ each_code o place p list
     ++ init_block_code (place + length (each_code o place p list)) (past_list o p list) (core_in o els)
 each_all o place p [] els = ap (λ n. init_block_code n p (core_in o els)) (let e : place ≡ place + 0 = omega arith in e)
 each_all o place p (a ∷ rest) els =
@@ -257,15 +241,13 @@ each_all o place p (a ∷ rest) els =
     let end : place + length one + length more ≡ place + length (one ++ more) = omega (arith, length-append one more) in
     sym (append_assoc cond body (all_code (place + length cond + length body) next (arms_in o els rest)))
     ∙ ap (λ n. one ++ all_code n next (arms_in o els rest)) long
-    ∙ ap (λ l. one ++ l) (each_all o (place + length one) next rest els)
-    ∙ sym (append_assoc one more
+    ∙ ap (λ l. one ++ l) (each_all o (place + length one) next rest els) ∙ sym (append_assoc one more
     (init_block_code (place + length one + length more) (past_list o next rest) (core_in o els)))
     ∙ ap (λ n. (one ++ more) ++ init_block_code n (past_list o next rest) (core_in o els)) end
 
 -- all arms are made, then the statements after `else`, and then the jumps are aimed
 chosen_ops : (way : Pass) (o : Scope) (old mid last new : List Op) (p q : Progress) (list : List TypedArm)
-    (els : typed.Block)
-    → mid ≡ old ++ opened (length old) (branches way o (length old) p list)
+    (els : typed.Block) → mid ≡ old ++ opened (length old) (branches way o (length old) p list)
     → q ≡ past_list o p list → last ≡ mid ++ pass_block_code way (length mid) q (core_in o els)
     → new ≡ aim_all (jumps (length old) (branches way o (length old) p list)) (length last) last
     → new ≡ old ++ chosen_code way (length old) p (arms_in o els list)
@@ -276,10 +258,8 @@ chosen_ops way o old mid last new p q list els made on done closing =
     let there : length mid ≡ begins =
     omega (arith, ap length made, length-append old (opened (length old) bs), opened_long (length old) bs) in
     let all : last ≡ old ++ (opened (length old) bs ++ rest) =
-    done
-    ∙ ap (λ n. mid ++ pass_block_code way n q (core_in o els)) there
-    ∙ ap (λ k. mid ++ pass_block_code way begins k (core_in o els)) on
-    ∙ ap (λ l. l ++ rest) made
+    done ∙ ap (λ n. mid ++ pass_block_code way n q (core_in o els)) there
+    ∙ ap (λ k. mid ++ pass_block_code way begins k (core_in o els)) on ∙ ap (λ l. l ++ rest) made
     ∙ append_assoc old (opened (length old) bs) rest in
     let end : length last ≡ begins + length rest =
     omega (
@@ -289,8 +269,7 @@ chosen_ops way o old mid last new p q list els made on done closing =
       length-append (opened (length old) bs) rest,
       opened_long (length old) bs,
     ) in
-    closing
-    ∙ ap (aim_all (jumps (length old) bs) (length last)) all
+    closing ∙ ap (aim_all (jumps (length old) bs) (length last)) all
     ∙ closed (length last) (length old) old bs rest refl end
     ∙ ap (λ l. old ++ l) (chosen_list way o (length old) p list els)
 
@@ -298,8 +277,7 @@ chosen_made : (way : Pass) (o : Scope) (old mid last new : Draft) (ends : List �
     (list : List TypedArm) (els : typed.Block)
     → Grew old mid (opened (length (drafted old)) (branches way o (length (drafted old)) p list))
     → AllZip (IsAt mid) ends (jumps (length (drafted old)) (branches way o (length (drafted old)) p list))
-    → q ≡ past_list o p list
-    → Grew mid last (pass_block_code way (length (drafted mid)) q (core_in o els))
+    → q ≡ past_list o p list → Grew mid last (pass_block_code way (length (drafted mid)) q (core_in o els))
     → ((places : List ℕ) → AllZip (IsAt last) ends places → AllAimed last new places)
     → Grew old new (chosen_code way (length (drafted old)) p (arms_in o els list))
 chosen_made way o old mid last new ends p q list els made marked on done closing =
@@ -336,8 +314,7 @@ module _ (o : Scope) (line : ℕ) (r : Rate) (s : typed.Block) (arms list : List
       ap (λ n. each ++ pass_block_code way n q (core_in o last)) (grew_long old mid each made)
       ∙ ap (λ w. each ++ pass_block_code w (place + length each) q (core_in o last)) (taken_pass way r taken)
       ∙ ap (λ k. each ++ init_block_code (place + length each) k (core_in o last)) on
-      ∙ sym (each_all o place p arms last)
-      ∙ sym (all_taken way place p r (arms_in o last arms) taken)
+      ∙ sym (each_all o place p arms last) ∙ sym (all_taken way place p r (arms_in o last arms) taken)
       ∙ sym (alone_code way place p (choose r (arms_in o last arms)))
       ∙ sym (ap (λ x. pass_block_code way place p (core_in o x)) here) in
       subst (Grew old new) is (grew_on old mid new each _ made done)
@@ -357,13 +334,11 @@ module _ (o : Scope) (line : ℕ) (r : Rate) (s : typed.Block) (arms list : List
       sym (one_taken way place p r (arms_in o then arms) taken)
       ∙ sym (alone_code way place p (choose r (arms_in o then arms)))
       ∙ sym (ap (λ x. pass_block_code way place p (core_in o x)) here) in
-      subst (Grew old new) is
-      (chosen_made way o old mid last new now p q arms then made
+      subst (Grew old new) is (chosen_made way o old mid last new now p q arms then made
       (subst (λ l. AllZip (IsAt mid) l (jumps place (branches way o place p arms))) (sym same)
       (marked [] (subst (λ l. AllZip (IsAt old) l []) (sym empty) tt))) on done closing)
 
   pub past_choice : past_block q (block_in o stmts) ≡ past_block p (core_in o s)
   past_choice =
-      ap (λ k. past_block k (block_in o stmts)) on
-      ∙ past_chosen o p arms (typed.block o.routines stmts)
+      ap (λ k. past_block k (block_in o stmts)) on ∙ past_chosen o p arms (typed.block o.routines stmts)
       ∙ sym (ap (λ x. past_block p (core_in o x)) here)

@@ -34,8 +34,7 @@ by_assigned o r vs op shape.ChannelClear (text c ∷ args) = refl
 by_assigned o r vs op sh args = refl
 
 pub call_assigned : (o : Spaces) (r : Rate) (vs : List Variable) (op : Opcode) (sh : Shape) (args : List Argument)
-    (a : Assigned)
-    → assigned sh r vs args ≡ Some a → core_call o r vs op sh args ≡ set_of a
+    (a : Assigned) → assigned sh r vs args ≡ Some a → core_call o r vs op sh args ≡ set_of a
 call_assigned o r vs op sh args a h = by_assigned o r vs op sh args ∙ ap (λ x. either_of x (effect o r vs op sh args)) h
 
 pub call_effect : (o : Spaces) (r : Rate) (vs : List Variable) (op : Opcode) (sh : Shape) (args : List Argument)
@@ -68,8 +67,7 @@ anywhere way place p (choose r arms) h = absurd (true≢false h)
 anywhere way place p _ h = refl
 
 pub set_anywhere : (way : Pass) (place : ℕ) (p : Progress) (r : Rate) (v : Variable) (e : Expression)
-    → pass_code way place p (set r v e)
-    ≡ pass_code way 0 p (set r v e)
+    → pass_code way place p (set r v e) ≡ pass_code way 0 p (set r v e)
 set_anywhere way place p r v e = refl
 
 pub call_anywhere : (way : Pass) (place : ℕ) (p : Progress) (o : Spaces) (r : Rate) (vs : List Variable)
@@ -90,8 +88,7 @@ call_alone way place p o k =
 
 -- what two clauses told of the statement that it is short for
 pub call_lowered : {E : Type 0} (way : Pass) (old new : Draft) (p : Progress) (o : Spaces) (k : Call) (s : Stmt)
-    (r : Result Progress E)
-    → core_call o k.rate k.results.now k.opcode (row_of k.opcode).shape (arguments_of k) ≡ s
+    (r : Result Progress E) → core_call o k.rate k.results.now k.opcode (row_of k.opcode).shape (arguments_of k) ≡ s
     → OnOk r (Grew old new (pass_code way 0 p s)) → IfOk r (λ q. q ≡ past_stmt p s)
     → IfOk r (λ q. Lowered way old new p q (alone_in o (called k)))
 call_lowered way old new p o k s (Ok q) is grew past_it = record {
@@ -105,8 +102,7 @@ pub ruleset at_each_place = (set_anywhere, call_anywhere)
 
 -- values that go out in a cycle
 sent_in_cycle : (place : ℕ) (p : Progress) (how : Sending) (r : Rate) (es : List Expression)
-    → perf_code place p (sent_as how r es) ≡ operands_code cycle p.part es 0
-    ++ sent_ops how (spots cycle p.part es 0)
+    → perf_code place p (sent_as how r es) ≡ operands_code cycle p.part es 0 ++ sent_ops how (spots cycle p.part es 0)
 sent_in_cycle place p sending.InTurn r es = refl
 sent_in_cycle place p sending.ByNumber r es = refl
 

@@ -1,5 +1,6 @@
 -- Statements one after another, and arms that are all initialised.
-use Rattle.std.proofs.Common.{◌≡◌, ◌∙◌, ◌+◌, ◌++◌, ℕ, true, false, true≢false, List, [], length, arith, refl, sym, ap}
+use Rattle.std.proofs.Common.{◌≡◌, ◌∙◌, ◌+◌, ◌++◌, ◌⊎◌, inl, inr, ℕ, true, false, true≢false, List, [], length, arith}
+use Rattle.std.proofs.Common.{refl, sym, ap}
 use Rattle.std.proofs.lemmas.List.{append_assoc, append-nil, length-append}
 use Rattle.cs_base.specs.declared.resource.Rate.{Rate}
 use Rattle.cs_ir.specs.{Waves.if_init, declared.op.Op.Op}
@@ -53,13 +54,11 @@ both_past p (andthen s rest) b = both_past (past_stmt p s) rest b
 -- one statement more, in the loop that makes them: from where the ops end then
 pub block_more : (way : Pass) (o : Scope) (place next : ℕ) (p q : Progress) (all a b : typed.Block)
     → all ≡ typed.then_block a b → q ≡ past_block p (core_in o a)
-    → next ≡ place + length (pass_block_code way place p (core_in o a))
-    → pass_block_code way place p (core_in o all)
+    → next ≡ place + length (pass_block_code way place p (core_in o a)) → pass_block_code way place p (core_in o all)
     ≡ pass_block_code way place p (core_in o a) ++ pass_block_code way next q (core_in o b)
 block_more way o place next p q all a b split on at =
     let own : List Op = pass_block_code way place p (core_in o a) in
-    ap (λ x. pass_block_code way place p (core_in o x)) split
-    ∙ ap (pass_block_code way place p) (core_both o a b)
+    ap (λ x. pass_block_code way place p (core_in o x)) split ∙ ap (pass_block_code way place p) (core_both o a b)
     ∙ both_code way place p (core_in o a) (core_in o b)
     ∙ sym (ap (λ k. own ++ pass_block_code way (place + length own) k (core_in o b)) on)
     ∙ sym (ap (λ n. own ++ pass_block_code way n q (core_in o b)) at)
@@ -67,23 +66,19 @@ block_more way o place next p q all a b split on at =
 pub past_more : (o : Scope) (p q : Progress) (all a b : typed.Block) → all ≡ typed.then_block a b
     → q ≡ past_block p (core_in o a) → past_block p (core_in o all) ≡ past_block q (core_in o b)
 past_more o p q all a b split on =
-    ap (λ x. past_block p (core_in o x)) split
-    ∙ ap (past_block p) (core_both o a b)
-    ∙ both_past p (core_in o a) (core_in o b)
-    ∙ sym (ap (λ k. past_block k (core_in o b)) on)
+    ap (λ x. past_block p (core_in o x)) split ∙ ap (past_block p) (core_both o a b)
+    ∙ both_past p (core_in o a) (core_in o b) ∙ sym (ap (λ k. past_block k (core_in o b)) on)
 
 -- an `if` by whether all its arms are initialised
 pub all_taken : (way : Pass) (place : ℕ) (p : Progress) (r : Rate) (arms : Arms) → takes_all way r ≡ true
-    → pass_code way place p (choose r arms)
-    ≡ all_code place p arms
+    → pass_code way place p (choose r arms) ≡ all_code place p arms
 all_taken pass.Initialisation place p rate.Init arms h = absurd (true≢false (sym h))
 all_taken pass.Initialisation place p rate.Control arms h = refl
 all_taken pass.Initialisation place p rate.Audio arms h = refl
 all_taken pass.Performance place p r arms h = absurd (true≢false (sym h))
 
 pub one_taken : (way : Pass) (place : ℕ) (p : Progress) (r : Rate) (arms : Arms) → takes_all way r ≡ false
-    → pass_code way place p (choose r arms)
-    ≡ chosen_code way place p arms
+    → pass_code way place p (choose r arms) ≡ chosen_code way place p arms
 one_taken pass.Initialisation place p rate.Init arms h = refl
 one_taken pass.Initialisation place p rate.Control arms h = absurd (true≢false h)
 one_taken pass.Initialisation place p rate.Audio arms h = absurd (true≢false h)
@@ -102,7 +97,17 @@ tested pass.Initialisation at e h = absurd (cc)
 
 -- the code of a statement that is done once
 pub code_once : (way w : Pass) (p : Progress) (s : Stmt) (r : Rate) (a b : List Op) → way ≡ w → r ≡ rate.Init
-    → pass_code w 0 p s ≡ if_init r a b
-    → a ≡ pass_code way 0 p s
+    → pass_code w 0 p s ≡ if_init r a b → a ≡ pass_code way 0 p s
 code_once way w p s r a b in_pass once is =
     sym (ap (λ q. if_init q a b) once) ∙ sym is ∙ sym (ap (λ v. pass_code v 0 p s) in_pass)
+
+-- and of one that is done in each cycle
+pub each_is : {A : Type 0} (r : Rate) (once each : A) → (r ≡ rate.Control) ⊎ (r ≡ rate.Audio)
+    → if_init r once each ≡ each
+each_is r once each (inl h) = ap (λ q. if_init q once each) h
+each_is r once each (inr h) = ap (λ q. if_init q once each) h
+
+pub code_each : (way w : Pass) (p : Progress) (s : Stmt) (r : Rate) (a b : List Op) → way ≡ w
+    → (r ≡ rate.Control) ⊎ (r ≡ rate.Audio) → pass_code w 0 p s ≡ if_init r a b → b ≡ pass_code way 0 p s
+code_each way w p s r a b in_pass moves is =
+    sym (each_is r a b moves) ∙ sym is ∙ sym (ap (λ v. pass_code v 0 p s) in_pass)

@@ -36,16 +36,14 @@ pub closing_on : (start here next : Draft) (m : ℕ) (marks places : List ℕ) �
     → ((place : ℕ) → IsAt here m place → Aimed here next place) → Closing start next marks places
 closing_on start here next m marks places was aims = of was.left was.marked was.ops
   where
-    of : (left : List ℕ) → AllZip (IsAt here) (m ∷ marks) left
-        → aim_all left (length (drafted start)) (drafted here)
+    of : (left : List ℕ) → AllZip (IsAt here) (m ∷ marks) left → aim_all left (length (drafted start)) (drafted here)
         ≡ aim_all places (length (drafted start)) (drafted start) → Closing start next marks places
     of [] marked ops = absurd marked
     of (n ∷ left) marked ops =
         let a : Aimed here next n = aims n marked.0 in record {
           left = left;
           marked = zip_still (IsAt here) (IsAt next) a.marks marks left marked.1;
-          ops = ap (aim_all left (length (drafted start)))
-              (a.ops ∙ ap (λ k. aim n k (drafted here)) was.long) ∙ ops;
+          ops = ap (aim_all left (length (drafted start))) (a.ops ∙ ap (λ k. aim n k (drafted here)) was.long) ∙ ops;
           long = ap length a.ops ∙ aim_long n (length (drafted here)) (drafted here) ∙ was.long;
           routines = a.routines ∙ was.routines;
           still = λ mark place h. a.marks mark place (was.still mark place h);
@@ -54,8 +52,7 @@ closing_on start here next m marks places was aims = of was.left was.marked was.
 pub closing_ends : (start here : Draft) (places : List ℕ) → Closing start here [] places → AllAimed start here places
 closing_ends start here places was = of was.left was.marked was.ops
   where
-    of : (left : List ℕ) → AllZip (IsAt here) [] left
-        → aim_all left (length (drafted start)) (drafted here)
+    of : (left : List ℕ) → AllZip (IsAt here) [] left → aim_all left (length (drafted start)) (drafted here)
         ≡ aim_all places (length (drafted start)) (drafted start) → AllAimed start here places
     of [] marked ops = record { ops = ops; routines = was.routines; marks = was.still }
     of (n ∷ left) marked ops = absurd marked

@@ -95,8 +95,7 @@ never_none cycle rate.Audio at q h = let h : Some q ≡ None = h in cc
 
 -- ---- values that stand already, and values that don't
 
-still_part : (k : ℕ) (when : When) (r : Rate) (at : ℕ) (z : _) (w : Wave)
-    → kept_or when r at None ≡ None
+still_part : (k : ℕ) (when : When) (r : Rate) (at : ℕ) (z : _) (w : Wave) → kept_or when r at None ≡ None
     → held k r (part when r z (held k r w)) ≡ part when r z (held k r w)
 still_part k when r at z w none =
     let e = part_own when r at None z (held k r w) none in
@@ -104,8 +103,7 @@ still_part k when r at z w none =
 
 -- a value without a register of its own is held at its rate
 pub still : {W : Type 0} (o : World W) (t : Note W) (when : When) (at : ℕ) (path : Path) (e : Expression)
-    → direct when at e ≡ None
-    → held o.ksmps (node_rate e) (value o t when path e) ≡ value o t when path e
+    → direct when at e ≡ None → held o.ksmps (node_rate e) (value o t when path e) ≡ value o t when path e
 still o t when at path (number r n) none = still_part o.ksmps when r at (t.kept path) (constant n) none
 still o t when at path (var r (Local q n)) none = absurd (never_none when r at (reg q n) none)
 still o t when at path (var r (Global g)) none =
@@ -115,8 +113,7 @@ still o t when at path (head r h) none = still_part o.ksmps when r at (t.kept pa
 still o t when at path (neg r a) none =
     still_part o.ksmps when r at (t.kept path) (λ j. negated (value o t when (0 ∷ path) a j)) none
 still o t when at path (pair r b x y) none =
-    still_part o.ksmps when r at (t.kept path) (both b (value o t when (0 ∷ path) x) (value o t when (1 ∷ path) y))
-    none
+    still_part o.ksmps when r at (t.kept path) (both b (value o t when (0 ∷ path) x) (value o t when (1 ∷ path) y)) none
 still o t when at path (pick r c x y) none =
     still_part o.ksmps when r at (t.kept path)
     (chosen (value o t when (0 ∷ path) c) (value o t when (1 ∷ path) x) (value o t when (2 ∷ path) y)) none
@@ -141,8 +138,7 @@ module _ {W : Type 0} (o : World W) (placed : Path → Option ℕ) (t : Note W) 
   stood : (m : Machine W) → StandsInMachine placed t m
       → (when : When) (r : Rate) (at : ℕ) (path : Path) (n : Path → Option ℕ) (own : Option Reg)
       (w : Wave) (q : Reg) → KnownArgument when path (if_init r (itself at) n) → kept_or when r at own ≡ Some q
-      → (own ≡ Some q → Stood q w m)
-      → Stood q (part when r (t.kept path) w) m
+      → (own ≡ Some q → Stood q w m) → Stood q (part when r (t.kept path) w) m
   stood m s cycle rate.Init at path n own w q known is right =
       let place : Stood (kept_reg at) (constant (t.kept path)) m =
       record { here = s.kept path at (known []); low = tt } in
@@ -155,8 +151,7 @@ module _ {W : Type 0} (o : World W) (placed : Path → Option ℕ) (t : Note W) 
   -- what stands already is right, and below all temporaries
   pub direct_right : (m : Machine W) → StandsInMachine placed t m
       → (when : When) (at : ℕ) (path : Path) (e : Expression) (q : Reg)
-      → KnownArgument when path (numbers at e) → direct when at e ≡ Some q
-      → Stood q (value o t when path e) m
+      → KnownArgument when path (numbers at e) → direct when at e ≡ Some q → Stood q (value o t when path e) m
   direct_right m s when at path (number r n) q known is =
       stood m s when r at path nowhere None (held o.ksmps r (constant n)) q known is
       (never_there m q (held o.ksmps r (constant n)))
@@ -199,10 +194,8 @@ module _ {W : Type 0} (o : World W) (placed : Path → Option ℕ) (t : Note W) 
   AllRun (e ∷ es) = OwnRuns e × AllRun es
 
   operand_from : (e : Expression) → OwnRuns e → (when : When) (at : ℕ) (path : Path) (d place : ℕ) (m : Machine W)
-      → StandsInMachine placed t m
-      → Live o place m → KnownArgument when path (numbers at e) → (there : Option Reg)
-      → direct when at e ≡ there
-      → Spotted d (reg_or there (temp (node_rate e) d)) (value o t when path e) m
+      → StandsInMachine placed t m → Live o place m → KnownArgument when path (numbers at e) → (there : Option Reg)
+      → direct when at e ≡ there → Spotted d (reg_or there (temp (node_rate e) d)) (value o t when path e) m
       (run o place (unless_there there (own when at e (temp (node_rate e) d) d)) m)
   operand_from e h when at path d place m s l known (Some q) is =
       let right = direct_right m s when at path e q known is in
@@ -233,8 +226,7 @@ module _ {W : Type 0} (o : World W) (placed : Path → Option ℕ) (t : Note W) 
       }
 
   pub operands_from : (es : List Expression) → AllRun es
-      → (when : When) (at : ℕ) (path : Path) (d place : ℕ) (m : Machine W)
-      → StandsInMachine placed t m → Live o place m
+      → (when : When) (at : ℕ) (path : Path) (d place : ℕ) (m : Machine W) → StandsInMachine placed t m → Live o place m
       → KnownOn when path (all_numbers at es)
       → Ready d (spots when at es d) (values o t when path es) m (run o place (operands_code when at es d) m)
   operands_from [] h when at path d place m s l known = record { here = refl; same = same_self d m }
@@ -246,8 +238,7 @@ module _ {W : Type 0} (o : World W) (placed : Path → Option ℕ) (t : Note W) 
       let known_rest = reads_rest when placed path (numbers at e) (all_numbers (past at e) es) known in
       let a = operand_from e h.0 when at path d place m s l known_first (direct when at e) refl in
       let b = operands_from es h.1 when (past at e) (next path) (d + 1) (place + length first) n
-      (stands_same d m n s a.same)
-      (live_same o d place (length first) m n l a.same) known_rest in
+      (stands_same d m n s a.same) (live_same o d place (length first) m n l a.same) known_rest in
       subst (Ready d (spots when at (e ∷ es) d) (values o t when path (e ∷ es)) m)
       (sym (run_append o place first rest m))
       (ready_more e es when at path d m n (run o (place + length first) rest n) a b)
@@ -270,8 +261,7 @@ module _ {W : Type 0} (o : World W) (placed : Path → Option ℕ) (t : Note W) 
       (reads_on when placed path (all_numbers at es) known) in
       let live : Live o (place + length ops) n = live_same o d place (length ops) m n l ready.same in
       let is : run o place (ops ++ (last ∷ [])) m ≡ write o.ksmps x (v ws) n =
-      run_snoc o place ops last m live
-      ∙ does n (map n.regs (spots when at es d)) (ready.same.world ∙ s.world)
+      run_snoc o place ops last m live ∙ does n (map n.regs (spots when at es d)) (ready.same.world ∙ s.world)
       ∙ ap (λ us. write o.ksmps x (v us) n) ready.here in
       subst (λ q. Wrote x d (held o.ksmps q (v ws)) m (run o place (ops ++ (last ∷ [])) m)) rated
       (subst (Wrote x d made m) (sym is) (record {
@@ -283,9 +273,7 @@ module _ {W : Type 0} (o : World W) (placed : Path → Option ℕ) (t : Note W) 
 
   -- as an expression's own code and value
   as_own : (r : Rate) (when : When) (at : ℕ) (path : Path) (x : Reg) (d place : ℕ) (m : Machine W) (u : Wave)
-      (made code : List Op)
-      → kept_or when r at None ≡ None → made ≡ code
-      → Wrote x d u m (run o place made m)
+      (made code : List Op) → kept_or when r at None ≡ None → made ≡ code → Wrote x d u m (run o place made m)
       → Wrote x d (part when r (t.kept path) u) m (run o place code m)
   as_own r when at path x d place m u made code none is h =
       subst (λ w. Wrote x d w m (run o place code m)) (sym (part_own when r at None (t.kept path) u none))
@@ -328,8 +316,7 @@ module _ {W : Type 0} (o : World W) (placed : Path → Option ℕ) (t : Note W) 
         as_own r when at path x d place m (held o.ksmps r (λ j. negated (value o t when (0 ∷ path) a j))) _ _ none
         (ap (λ c. c ++ (op_of act.Neg x (spot when at a d ∷ []) ∷ [])) (append-nil (operand_code when at a d)))
         (node_from (a ∷ []) (own_runs a, tt) act.Neg r (λ ws j. negated (operand 0 ws j)) when at path x rated d place m
-        (λ n ws e. refl) s l
-        (reads_own when r at placed path (all_numbers at (a ∷ [])) None none known));
+        (λ n ws e. refl) s l (reads_own when r at placed path (all_numbers at (a ∷ [])) None none known));
   }
   own_runs (pair r b a c) = record {
     runs = λ when at path x rated d place m s l known none.
@@ -339,8 +326,7 @@ module _ {W : Type 0} (o : World W) (placed : Path → Option ℕ) (t : Note W) 
         (op_of (act.Pair b) x (spots when at (a ∷ c ∷ []) d) ∷ []))
         (node_from (a ∷ c ∷ []) (own_runs a, (own_runs c, tt)) (act.Pair b) r
         (λ ws. both b (operand 0 ws) (operand 1 ws)) when at path x rated d place m
-        (λ n ws e. refl) s l
-        (reads_own when r at placed path (all_numbers at (a ∷ c ∷ [])) None none known));
+        (λ n ws e. refl) s l (reads_own when r at placed path (all_numbers at (a ∷ c ∷ [])) None none known));
   }
   own_runs (pick r b a c) = record {
     runs = λ when at path x rated d place m s l known none.
@@ -351,8 +337,7 @@ module _ {W : Type 0} (o : World W) (placed : Path → Option ℕ) (t : Note W) 
         (operand_code when (past (past at b) a) c (d + 1 + 1))
         (op_of act.Pick x (spots when at (b ∷ a ∷ c ∷ []) d) ∷ []))
         (node_from (b ∷ a ∷ c ∷ []) (own_runs b, (own_runs a, (own_runs c, tt))) act.Pick r
-        (λ ws. chosen (operand 0 ws) (operand 1 ws) (operand 2 ws))
-        when at path x rated d place m (λ n ws e. refl) s l
+        (λ ws. chosen (operand 0 ws) (operand 1 ws) (operand 2 ws)) when at path x rated d place m (λ n ws e. refl) s l
         (reads_own when r at placed path (all_numbers at (b ∷ a ∷ c ∷ [])) None none known));
   }
   own_runs (apply r g a) = record {
@@ -360,8 +345,7 @@ module _ {W : Type 0} (o : World W) (placed : Path → Option ℕ) (t : Note W) 
         as_own r when at path x d place m (held o.ksmps r (λ j. applied g (value o t when (0 ∷ path) a j))) _ _ none
         (ap (λ c. c ++ (op_of (act.Call g) x (spot when at a d ∷ []) ∷ [])) (append-nil (operand_code when at a d)))
         (node_from (a ∷ []) (own_runs a, tt) (act.Call g) r (λ ws j. applied g (operand 0 ws j)) when at path x rated d
-        place m (λ n ws e. refl) s l
-        (reads_own when r at placed path (all_numbers at (a ∷ [])) None none known));
+        place m (λ n ws e. refl) s l (reads_own when r at placed path (all_numbers at (a ∷ [])) None none known));
   }
 
   all_run : (es : List Expression) → AllRun es
@@ -369,14 +353,12 @@ module _ {W : Type 0} (o : World W) (placed : Path → Option ℕ) (t : Note W) 
   all_run (e ∷ es) = (own_runs e, all_run es)
 
   pub operands_run : (es : List Expression) (when : When) (at : ℕ) (path : Path) (d place : ℕ) (m : Machine W)
-      → StandsInMachine placed t m
-      → Live o place m → KnownOn when path (all_numbers at es)
+      → StandsInMachine placed t m → Live o place m → KnownOn when path (all_numbers at es)
       → Ready d (spots when at es d) (values o t when path es) m (run o place (operands_code when at es d) m)
   operands_run es = operands_from es (all_run es)
 
   pub operand_runs : (e : Expression) (when : When) (at : ℕ) (path : Path) (d place : ℕ) (m : Machine W)
-      → StandsInMachine placed t m
-      → Live o place m → KnownArgument when path (numbers at e)
+      → StandsInMachine placed t m → Live o place m → KnownArgument when path (numbers at e)
       → Spotted d (spot when at e d) (value o t when path e) m (run o place (operand_code when at e d) m)
   operand_runs e when at path d place m s l known =
       operand_from e (own_runs e) when at path d place m s l known (direct when at e) refl
@@ -392,16 +374,14 @@ module _ {W : Type 0} (o : World W) (placed : Path → Option ℕ) (t : Note W) 
       let done : run o place (op_of act.Copy x (q ∷ []) ∷ []) m ≡ write o.ksmps x (value o t when path e) m =
       live_step o place (op_of act.Copy x (q ∷ [])) m l ∙ ap (λ v. write o.ksmps x v m) right.here in
       subst (λ r. Wrote x d (held o.ksmps r (value o t when path e)) m (run o place (op_of act.Copy x (q ∷ []) ∷ []) m))
-      rated
-      (subst (Wrote x d w m) (sym done) (record {
+      rated (subst (Wrote x d w m) (sym done) (record {
         world = refl;
         next = refl;
         here = put_here m.regs x w;
         others = λ p other low. put_other m.regs x w p other;
       }))
   code_from e when at path x rated d place m s l known None is =
-      subst (λ w. Wrote x d w m (run o place (own when at e x d) m))
-      (sym (still o t when at path e is))
+      subst (λ w. Wrote x d w m (run o place (own when at e x d) m)) (sym (still o t when at path e is))
       ((own_runs e).runs when at path x rated d place m s l known is)
 
   pub code_runs : (e : Expression) (when : When) (at : ℕ) (path : Path) (x : Reg) → rate_at x ≡ node_rate e

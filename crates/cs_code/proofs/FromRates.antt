@@ -152,8 +152,7 @@ sounds row bound n [] at h = tt
 sounds row bound n (typed.value e ∷ rest) at h =
     let parts = and_parts (fits_letter (letter_at row n) bound (typed.value e)) (fit_letters row bound (n + 1) rest)
     h in (
-      ap (λ l. takes l bound (node_rate e)) (sym (at n (omega arith)))
-          ∙ parts.0,
+      ap (λ l. takes l bound (node_rate e)) (sym (at n (omega arith))) ∙ parts.0,
       sounds row bound (n + 1) rest (λ k low. at k (omega arith)) parts.1,
     )
 sounds row bound n (typed.text v ∷ rest) at h =
@@ -262,8 +261,7 @@ given_to true r q h = ap (λ y. within y q) h ∙ init_within q
 given_to false r q h = ap (λ y. within y q) h ∙ within_self q
 
 unit_given : (row : Row) (r : Rate) (vs : List Variable) (args : List typed.Argument)
-    → list_all (may_give row) vs ≡ true → r ≡ done_at row.shape vs args
-    → GivenTo r vs
+    → list_all (may_give row) vs ≡ true → r ≡ done_at row.shape vs args → GivenTo r vs
 unit_given row r [] args k h = tt
 unit_given row r (v ∷ vs) args k h =
     takes_it r v (given_holds row v vs k) (given_to (is_starting row.shape) r (var_rate v) h)
@@ -300,8 +298,7 @@ run_ranked s r vs opcode args runs count letters h =
 unit_ranked : (s : Setting) (r : Rate) (vs : List Variable) (opcode : Opcode) (args : List typed.Argument)
     → is_unit (row_of opcode).shape ≡ true
     → is_run (row_of opcode).shape ≡ true → takes_count (row_of opcode) (length args) ≡ true
-    → fit_letters (row_of opcode) (bound_by vs) 0 args ≡ true
-    → IsRatedCall s r vs opcode args
+    → fit_letters (row_of opcode) (bound_by vs) 0 args ≡ true → IsRatedCall s r vs opcode args
     → RankedUnit r vs opcode (moving (row_of opcode) 0 args) (settled (row_of opcode) 0 args)
 unit_ranked s r vs opcode args one runs count letters h =
     let fits = run_fits opcode (bound_by vs) args runs count letters in
@@ -330,8 +327,7 @@ none_given : (v : Variable) (vs : List Variable) → length (v ∷ vs) ≡ 0 →
 none_given v vs h = omega arith
 
 init_call : (spaces : Spaces) (s : Setting) (r : Rate) (v : Variable) (vs : List Variable) (args : List typed.Argument)
-    → IsRatedCall s r (v ∷ vs) op.Init args
-    → RankedStmt (core_call spaces r (v ∷ vs) op.Init shape.Init args)
+    → IsRatedCall s r (v ∷ vs) op.Init args → RankedStmt (core_call spaces r (v ∷ vs) op.Init shape.Init args)
 init_call spaces s r v vs [] h = absurd (let no : false ≡ true = h.count in cc)
 init_call spaces s r v vs (typed.text c ∷ rest) h = absurd (let no : false ≡ true = h.letters in cc)
 init_call spaces s r v vs (typed.value e ∷ rest) h =
@@ -343,8 +339,7 @@ init_call spaces s r v vs (typed.value e ∷ rest) h =
     )
 
 get_call : (spaces : Spaces) (s : Setting) (r : Rate) (v : Variable) (vs : List Variable) (args : List typed.Argument)
-    → IsRatedCall s r (v ∷ vs) op.Chnget args
-    → RankedStmt (core_call spaces r (v ∷ vs) op.Chnget shape.ChannelGet args)
+    → IsRatedCall s r (v ∷ vs) op.Chnget args → RankedStmt (core_call spaces r (v ∷ vs) op.Chnget shape.ChannelGet args)
 get_call spaces s r v vs [] h = absurd (let no : false ≡ true = h.count in cc)
 get_call spaces s r v vs (typed.value e ∷ rest) h = absurd (let no : false ≡ true = h.letters in cc)
 get_call spaces s r v vs (typed.text c ∷ rest) h =
@@ -378,8 +373,7 @@ mix_call spaces s r (typed.value e ∷ (typed.text c ∷ rest)) h =
 mix_call spaces s r a h = absurd (let no : false ≡ true = h.count in cc)
 
 clear_call : (spaces : Spaces) (s : Setting) (r : Rate) (args : List typed.Argument)
-    → IsRatedCall s r [] op.Chnclear args
-    → RankedStmt (core_call spaces r [] op.Chnclear shape.ChannelClear args)
+    → IsRatedCall s r [] op.Chnclear args → RankedStmt (core_call spaces r [] op.Chnclear shape.ChannelClear args)
 clear_call spaces s r [] h = absurd (let no : false ≡ true = h.count in cc)
 clear_call spaces s r (typed.value e ∷ rest) h = absurd (let no : false ≡ true = h.letters in cc)
 clear_call spaces s r (typed.text c ∷ rest) h =
@@ -406,8 +400,7 @@ call_ranked spaces s r (v ∷ vs) op.Out args h = absurd (none_given v vs h.resu
 call_ranked spaces s r [] op.Outs args h =
     let few = two_sounds (length args) h.count in (
       sounds (row_of op.Outs) rate.Audio 0 args (λ k low. outs_letter k (omega arith)) h.letters,
-      values_ranked args
-          (args_ranked args h.parts),
+      values_ranked args (args_ranked args h.parts),
     )
 call_ranked spaces s r (v ∷ vs) op.Outs args h = absurd (none_given v vs h.results)
 call_ranked spaces s r [] op.Outch args h =

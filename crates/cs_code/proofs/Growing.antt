@@ -32,8 +32,7 @@ on_then (Ok x) f p = f p
 on_then (Err e) f p = tt
 
 -- where the ops end then
-pub grew_long : (a b : Draft) (more : List Op) → Grew a b more
-    → length (drafted b) ≡ length (drafted a) + length more
+pub grew_long : (a b : Draft) (more : List Op) → Grew a b more → length (drafted b) ≡ length (drafted a) + length more
 grew_long a b more grew = ap length grew.ops ∙ length-append (drafted a) more
 
 pub ok_then : {X Y : Type 0} {P Q : X → Type 0} (r : Result X Y) → IfOk r P → ((x : X) → P x → Q x) → IfOk r Q

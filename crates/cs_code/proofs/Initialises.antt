@@ -48,8 +48,7 @@ module _ {W : Type 0} (o : World W) (quiet : Quiet o) (placed : Path → Option 
 
   -- one code after another
   seq_runs : (place : ℕ) (a b : List Op) (s u : Note W) (m : Machine W)
-      → Agrees placed (place + length a) s (run o place a m)
-      → (Agrees placed (place + length a) s (run o place a m)
+      → Agrees placed (place + length a) s (run o place a m) → (Agrees placed (place + length a) s (run o place a m)
       → Agrees placed (place + length a + length b) u (run o (place + length a) b (run o place a m)))
       → Agrees placed (place + length (a ++ b)) u (run o place (a ++ b) m)
   seq_runs place a b s u m h does =
@@ -59,8 +58,7 @@ module _ {W : Type 0} (o : World W) (quiet : Quiet o) (placed : Path → Option 
 
   -- what is done once, and what leaves parts to be kept
   rate_agrees : (r : Rate) (place : ℕ) (path : Path) (x : Path → Option ℕ) (once each : List Op) (s u : Note W)
-      (m : Machine W)
-      → Lays placed path (if_init r nowhere x)
+      (m : Machine W) → Lays placed path (if_init r nowhere x)
       → Agrees placed (place + length once) s (run o place once m)
       → (Lays placed path x → Agrees placed (place + length each) u (run o place each m))
       → Agrees placed (place + length (if_init r once each)) (if_init r s u) (run o place (if_init r once each) m)
@@ -68,10 +66,8 @@ module _ {W : Type 0} (o : World W) (quiet : Quiet o) (placed : Path → Option 
   rate_agrees a place path x once each s u m lays first other = other lays
 
   unit_once : (n : ℕ) (r : Rate) (vs : List Variable) (opcode : Opcode) (reach : Reach) (xs is : List Expression)
-      (place : ℕ) (t : Note W) (m : Machine W)
-      → Agrees placed place t m → o.refused t.world ≡ false → Takes opcode vs
-      → Agrees placed (place + length
-      (start_code r opcode n is ++ unit_code beginning 0 r vs opcode n reach xs))
+      (place : ℕ) (t : Note W) (m : Machine W) → Agrees placed place t m → o.refused t.world ≡ false → Takes opcode vs
+      → Agrees placed (place + length (start_code r opcode n is ++ unit_code beginning 0 r vs opcode n reach xs))
       (let s = started o r opcode n is t in going o s (run_once o r vs opcode n reach xs s))
       (run o place (start_code r opcode n is ++ unit_code beginning 0 r vs opcode n reach xs) m)
   unit_once u r vs opcode reach xs is place t m h live takes =
@@ -90,12 +86,9 @@ module _ {W : Type 0} (o : World W) (quiet : Quiet o) (placed : Path → Option 
       takes tt)))
 
   unit_each : (u at : ℕ) (path : Path) (r : Rate) (opcode : Opcode) (xs is : List Expression) (place : ℕ) (t : Note W)
-      (m : Machine W)
-      → Agrees placed place t m → o.refused t.world ≡ false
-      → LaysOn placed path (all_numbers at xs)
+      (m : Machine W) → Agrees placed place t m → o.refused t.world ≡ false → LaysOn placed path (all_numbers at xs)
       → Agrees placed (place + length (keep_all_code at xs ++ start_code r opcode u is))
-      (started o r opcode u is (keep_all o path xs t))
-      (run o place (keep_all_code at xs ++ start_code r opcode u is) m)
+      (started o r opcode u is (keep_all o path xs t)) (run o place (keep_all_code at xs ++ start_code r opcode u is) m)
   unit_each u at path r opcode xs is place t m h live lays =
       let first : List Op = keep_all_code at xs in
       let rest : List Op = start_code r opcode u is in
@@ -106,11 +99,9 @@ module _ {W : Type 0} (o : World W) (quiet : Quiet o) (placed : Path → Option 
       let lk : Live o (place + length first) n = live_kept o placed place (length first) s m n l kept in
       seq_runs place first rest s (started o r opcode u is s) m (from_kept s place first m n l kept)
       (λ k. from_reached (started o r opcode u is s) (place + length first) rest n (run o (place + length first) rest n)
-      lk
-      (start_runs o placed distinct r opcode u is s (place + length first) n k.stands lk))
+      lk (start_runs o placed distinct r opcode u is s (place + length first) n k.stands lk))
 
-  store_once : (r : Rate) (reach : Reach) (es is : List Expression) (place : ℕ) (t : Note W)
-      (m : Machine W)
+  store_once : (r : Rate) (reach : Reach) (es is : List Expression) (place : ℕ) (t : Note W) (m : Machine W)
       → Agrees placed place t m → o.refused t.world ≡ false
       → Agrees placed (place + length (seek_code is ++ store_code beginning 0 r reach es))
       (let s = sought o is t in going o s (stored_once o r reach es s))
@@ -130,8 +121,7 @@ module _ {W : Type 0} (o : World W) (quiet : Quiet o) (placed : Path → Option 
       (store_runs o placed distinct beginning 0 [] r reach es s (place + length first) n k.stands lk tt)))
 
   store_each : (at : ℕ) (path : Path) (es is : List Expression) (place : ℕ) (t : Note W) (m : Machine W)
-      → Agrees placed place t m → o.refused t.world ≡ false
-      → LaysOn placed path (all_numbers at es)
+      → Agrees placed place t m → o.refused t.world ≡ false → LaysOn placed path (all_numbers at es)
       → Agrees placed (place + length (keep_all_code at es ++ seek_code is))
       (sought o is (keep_all o path es t)) (run o place (keep_all_code at es ++ seek_code is) m)
   store_each at path es is place t m h live lays =
@@ -148,8 +138,7 @@ module _ {W : Type 0} (o : World W) (quiet : Quiet o) (placed : Path → Option 
 
   -- the arms of an `if` that is decided once, or of any other
   choose_runs : (r : Rate) (arms : Arms) (path : Path) (p : Progress) (place : ℕ) (t : Note W) (m : Machine W)
-      → (r ≡ rate.Init → AllStill arms)
-      → (AllStill arms
+      → (r ≡ rate.Init → AllStill arms) → (AllStill arms
       → Agrees placed (place + length (first_code place p arms)) (init_first o (stands_at path p) arms t)
       (run o place (first_code place p arms) m))
       → Agrees placed (place + length (all_code place p arms)) (init_all o (stands_at path p) arms t)
@@ -162,8 +151,7 @@ module _ {W : Type 0} (o : World W) (quiet : Quiet o) (placed : Path → Option 
 
   -- what goes out in each cycle keeps its parts
   sent_runs : (es : List Expression) (path : Path) (p : Progress) (place : ℕ) (t : Note W) (m : Machine W)
-      → Agrees placed place t m
-      → Lays placed path (all_numbers p.part es)
+      → Agrees placed place t m → Lays placed path (all_numbers p.part es)
       → Agrees placed (place + length (keep_all_code p.part es)) (going o t (keep_all o (0 ∷ path) es t))
       (run o place (keep_all_code p.part es) m)
   sent_runs es path p place t m h lays =
@@ -177,8 +165,7 @@ module _ {W : Type 0} (o : World W) (quiet : Quiet o) (placed : Path → Option 
 
   mutual
     pub init_runs : (s : Stmt) (path : Path) (p : Progress) (place : ℕ) (t : Note W) (m : Machine W)
-        → Agrees placed place t m
-        → SuitsStmt s → Lays placed path (stmt_numbers p s)
+        → Agrees placed place t m → SuitsStmt s → Lays placed path (stmt_numbers p s)
         → Agrees placed (place + length (init_code place p s)) (init_stmt o (stands_at path p) s t)
         (run o place (init_code place p s) m)
     init_runs (set r v e) path p place t m h suits lays =
@@ -249,8 +236,7 @@ module _ {W : Type 0} (o : World W) (quiet : Quiet o) (placed : Path → Option 
         (all_runs arms (0 ∷ path) p place t m h suits.1 known))
 
     pub init_block_runs : (b : Block) (path : Path) (p : Progress) (place : ℕ) (t : Note W) (m : Machine W)
-        → Agrees placed place t m
-        → SuitsBlock b → LaysOn placed path (block_numbers p b)
+        → Agrees placed place t m → SuitsBlock b → LaysOn placed path (block_numbers p b)
         → Agrees placed (place + length (init_block_code place p b)) (init_block o (stands_at path p) b t)
         (run o place (init_block_code place p b) m)
     init_block_runs no_stmt path p place t m h suits lays =
@@ -268,14 +254,12 @@ module _ {W : Type 0} (o : World W) (quiet : Quiet o) (placed : Path → Option 
         (λ i q. lays (suc i) q)))
 
     first_runs : (arms : Arms) (path : Path) (p : Progress) (place : ℕ) (t : Note W) (m : Machine W)
-        → Agrees placed place t m
-        → o.refused t.world ≡ false → AllStill arms → SuitsArms arms
+        → Agrees placed place t m → o.refused t.world ≡ false → AllStill arms → SuitsArms arms
         → LaysOn placed path (arms_numbers p arms)
         → Agrees placed (place + length (first_code place p arms)) (init_first o (stands_at path p) arms t)
         (run o place (first_code place p arms) m)
     first_runs (otherwise b) path p place t m h live still suits lays =
-        init_block_runs b (0 ∷ path) p place t m h suits
-        (lays_on placed path (block_numbers p b) (λ q. lays 0 q))
+        init_block_runs b (0 ∷ path) p place t m h suits (lays_on placed path (block_numbers p b) (λ q. lays 0 q))
     first_runs (arm c b rest) path p place t m h live still suits lays =
         let before : List Op = keep_code p.part c in
         let q : Progress = past_parts (past p.part c) p in
@@ -292,8 +276,7 @@ module _ {W : Type 0} (o : World W) (quiet : Quiet o) (placed : Path → Option 
         let calm : o.refused s.world ≡ false =
         ap o.refused (sym kept.stands.world ∙ kept.world ∙ h.stands.world) ∙ live in
         subst (λ far. Agrees placed far (init_first o (stands_at path p) (arm c b rest) t)
-        (run o place (arm_code place before holder body others) m))
-        (arm_length place before holder body others)
+        (run o place (arm_code place before holder body others) m)) (arm_length place before holder body others)
         (arm_runs o placed place before holder body others s (init_block o (stands_at (0 ∷ 1 ∷ path) q) b s)
         (init_first o (past_arm (stands_at path p) b) rest s) (constant (s.kept (0 ∷ path))) m
         (from_kept s place before m n l kept) calm (kept.stands.kept (0 ∷ path) p.part there)
@@ -306,13 +289,11 @@ module _ {W : Type 0} (o : World W) (quiet : Quiet o) (placed : Path → Option 
         (λ i j. lays (suc i) j))))
 
     all_runs : (arms : Arms) (path : Path) (p : Progress) (place : ℕ) (t : Note W) (m : Machine W)
-        → Agrees placed place t m
-        → SuitsArms arms → LaysOn placed path (arms_numbers p arms)
+        → Agrees placed place t m → SuitsArms arms → LaysOn placed path (arms_numbers p arms)
         → Agrees placed (place + length (all_code place p arms)) (init_all o (stands_at path p) arms t)
         (run o place (all_code place p arms) m)
     all_runs (otherwise b) path p place t m h suits lays =
-        init_block_runs b (0 ∷ path) p place t m h suits
-        (lays_on placed path (block_numbers p b) (λ q. lays 0 q))
+        init_block_runs b (0 ∷ path) p place t m h suits (lays_on placed path (block_numbers p b) (λ q. lays 0 q))
     all_runs (arm c b rest) path p place t m h suits lays =
         let before : List Op = keep_code p.part c in
         let q : Progress = past_parts (past p.part c) p in
@@ -325,11 +306,9 @@ module _ {W : Type 0} (o : World W) (quiet : Quiet o) (placed : Path → Option 
         let n : Machine W = run o place before m in
         going_runs place (before ++ (body ++ others)) t end m h (λ live.
         let l = agrees_live o placed place t m h live in
-        seq_runs place before (body ++ others) s end m
-        (from_kept s place before m n l
+        seq_runs place before (body ++ others) s end m (from_kept s place before m n l
         (keep_runs o placed distinct c t p.part (0 ∷ path) place m h.stands l (λ k. lays 0 (0 ∷ k))))
-        (λ k. seq_runs at body others u end n
-        (init_block_runs b (0 ∷ 1 ∷ path) q at s n k suits.0
+        (λ k. seq_runs at body others u end n (init_block_runs b (0 ∷ 1 ∷ path) q at s n k suits.0
         (lays_on placed (1 ∷ path) (block_numbers q b) (λ j. lays 0 (1 ∷ j))))
         (λ j. subst (λ (v : ℕ). Agrees placed (at + length body + length others)
         (init_all o (record { path = next path; unit = v }) rest u)

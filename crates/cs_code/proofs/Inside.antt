@@ -37,12 +37,9 @@ behind_is (suc k) n p = behind_is k (suc n) p ∙ ap (λ j. j ∷ p) (further k 
     further k n = omega arith
 
 -- the parts of what stands at a path
-pub lays_on : (placed : Path → Option ℕ) (p : Path) (n : Path → Option ℕ) → Lays placed p n
-    → LaysOn placed (0 ∷ p) n
+pub lays_on : (placed : Path → Option ℕ) (p : Path) (n : Path → Option ℕ) → Lays placed p n → LaysOn placed (0 ∷ p) n
 lays_on placed p n h k q =
-    subst (λ r. placed (inward q r) ≡ n (k ∷ q))
-    (sym (behind_is k 0 p ∙ ap (λ j. j ∷ p) (add-zero k)))
-    (h (k ∷ q))
+    subst (λ r. placed (inward q r) ≡ n (k ∷ q)) (sym (behind_is k 0 p ∙ ap (λ j. j ∷ p) (add-zero k))) (h (k ∷ q))
 
 -- the place of the tree that has a path and the number of a unit
 abbrev pub stands_at : Path → Progress → meaning.StatementPlace

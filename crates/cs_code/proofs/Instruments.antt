@@ -106,8 +106,7 @@ module _ (spaces : Spaces) (s : Setting) (t : typed.Block) (rated : IsRatedBlock
 
 -- the same codes
 pub code_same : (spaces : Spaces) (channels : ℕ) (t : typed.Block) (a b init perf : Code) → a ≡ init → b ≡ perf
-    → IsCodeOf spaces channels t init perf
-    → IsCodeOf spaces channels t a b
+    → IsCodeOf spaces channels t init perf → IsCodeOf spaces channels t a b
 code_same spaces channels t a b init perf e h code =
     subst (λ x. IsCodeOf spaces channels t x b) (sym e) (subst (λ x. IsCodeOf spaces channels t init x) (sym h) code)
 
@@ -115,8 +114,7 @@ code_same spaces channels t a b init perf e h code =
 pub one_numbered : (spaces : Spaces) (channels : ℕ) (t : typed.Block) (ps : List (ℕ × typed.Block)) (ns : List ℕ)
     (i d : ℕ) (list : List Numbered) (x : Numbered)
     → i < length ns → AllZip (IsNumberedCode spaces channels) (ps ++ numbered_with t (take i ns)) list
-    → x.number ≡ get_or ns i d
-    → IsCodeOf spaces channels t x.init x.perf
+    → x.number ≡ get_or ns i d → IsCodeOf spaces channels t x.init x.perf
     → AllZip (IsNumberedCode spaces channels) (ps ++ numbered_with t (take (i + 1) ns)) (list ++ x ∷ [])
 one_numbered spaces channels t ps ns i d list x low h number code =
     let with : ℕ → ℕ × typed.Block = λ n. (n, t) in
@@ -143,8 +141,7 @@ bodies_more rs xs i x low is =
 
 -- a fact on all instruments, at one of them
 pub at_instrument : (rs : List typed.Block) (P : typed.Instrument → Type 0) (xs : List TypedInstr)
-    (i : ℕ) (x : TypedInstr)
-    → All P (map (typed.instrument rs) xs) → i < length xs
+    (i : ℕ) (x : TypedInstr) → All P (map (typed.instrument rs) xs) → i < length xs
     → x ≡ get_or xs i x → P (typed.instrument rs x)
 at_instrument rs P xs i x all low is =
     let long : length (map (typed.instrument rs) xs) ≡ length xs = length-map xs (typed.instrument rs) in
@@ -153,8 +150,7 @@ at_instrument rs P xs i x all low is =
 
 -- numbers of instruments are those of the text
 zip_numbers : (spaces : Spaces) (channels : ℕ) (ps : List (ℕ × typed.Block)) (list : List Numbered)
-    → AllZip (IsNumberedCode spaces channels) ps list
-    → numbers_of list ≡ map (λ (p : ℕ × typed.Block). p.0) ps
+    → AllZip (IsNumberedCode spaces channels) ps list → numbers_of list ≡ map (λ (p : ℕ × typed.Block). p.0) ps
 zip_numbers spaces channels [] [] h = refl
 zip_numbers spaces channels [] (x ∷ list) h = absurd h
 zip_numbers spaces channels (p ∷ ps) [] h = absurd h
@@ -171,6 +167,5 @@ bodies_numbers (x ∷ is) =
     ∙ ap₂ ◌++◌ (numbers_with x.body x.numbers) (bodies_numbers is)
 
 pub same_numbers : (spaces : Spaces) (channels : ℕ) (is : List typed.Instrument) (list : List Numbered)
-    → AllZip (IsNumberedCode spaces channels) (bodies is) list
-    → numbers_of list ≡ all_numbers is
+    → AllZip (IsNumberedCode spaces channels) (bodies is) list → numbers_of list ≡ all_numbers is
 same_numbers spaces channels is list h = zip_numbers spaces channels (bodies is) list h ∙ bodies_numbers is

@@ -22,8 +22,7 @@ pub serve_more : (way : Pass) (spaces : Spaces) (rs : List typed.Block) (b : typ
     → ops_in (library_in made) r ≡ pass_block_code way 0 start (core spaces b) → e ≡ past_block start (core spaces b)
     → Serve way spaces (rs ++ b ∷ []) (library_in (made ++ r ∷ [])) (extents ++ e ∷ [])
 serve_more way spaces rs b made r extents e serve ops extent = record {
-  code = library_more made r
-      ∙ ap₂ (λ xs x. xs ++ x ∷ []) serve.code ops
+  code = library_more made r ∙ ap₂ (λ xs x. xs ++ x ∷ []) serve.code ops
       ∙ sym (map-append (λ y. pass_block_code way 0 start (core spaces y)) rs (b ∷ []));
   extents = ap₂ (λ xs x. xs ++ x ∷ []) serve.extents extent
       ∙ sym (map-append (λ y. past_block start (core spaces y)) rs (b ∷ []));
@@ -56,8 +55,7 @@ module _ (way : Pass) (spaces : Spaces) (rs : List typed.Block) (made : List (Li
   pub extent_is : (e : Progress) → true ≡ ltb k (length extents) → e ≡ get_or extents k e
       → past_block start (core spaces (typed.routine_at rs k)) ≡ e
   extent_is e low is =
-      extent_there (λ b. past_block start (core spaces b)) rs k e
-      (sym (ap (λ l. slice_get l k) serve.extents)
+      extent_there (λ b. past_block start (core spaces b)) rs k e (sym (ap (λ l. slice_get l k) serve.extents)
       ∙ slice_get-get_or extents k e (ltb-true k (length extents) (sym low)) ∙ ap Some (sym is))
 
   pub none_there : false ≡ ltb k (length extents) → typed.routine_at rs k ≡ typed.no_stmt
@@ -67,8 +65,7 @@ module _ (way : Pass) (spaces : Spaces) (rs : List typed.Block) (made : List (Li
 
   -- a call appends what its routine does
   pub invoked_code : (place : ℕ) (p : Progress) (base : PerRate ℕ) (c : Call) → c.routine ≡ k → c.locals ≡ base
-      → c.kept ≡ p.part → c.unit ≡ p.unit
-      → moved_ops (window_of c) place (ops_at made c.routine)
+      → c.kept ≡ p.part → c.unit ≡ p.unit → moved_ops (window_of c) place (ops_at made c.routine)
       ≡ pass_block_code way place p (invoked_in (scope_of spaces rs) k base)
   invoked_code place p base c routine locals kept unit =
       ap (λ n. moved_ops (window_of c) place (ops_at made n)) routine
@@ -83,8 +80,7 @@ module _ (way : Pass) (spaces : Spaces) (rs : List typed.Block) (made : List (Li
   pub invoked_past : (p e q : Progress) (base : PerRate ℕ) → true ≡ ltb k (length extents) → e ≡ get_or extents k e
       → q ≡ further_on p e → q ≡ past_block p (invoked_in (scope_of spaces rs) k base)
   invoked_past p e q base low is further =
-      further ∙ sym (ap (further_on p) (extent_is e low is))
-      ∙ sym (routine_past spaces base p (typed.routine_at rs k))
+      further ∙ sym (ap (further_on p) (extent_is e low is)) ∙ sym (routine_past spaces base p (typed.routine_at rs k))
 
   -- and where there is none, nothing
   pub nothing_invoked : (place : ℕ) (p : Progress) (base : PerRate ℕ) → false ≡ ltb k (length extents)

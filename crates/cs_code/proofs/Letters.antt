@@ -46,8 +46,7 @@ letters ls m n (suc k) = letter_in ls m n ∷ letters ls m (n + 1) k
 -- ---- one argument
 
 value_moves : (l : Letter) (bound : Rate) (e : Expression) (ls : List Letter) (es : List Expression)
-    → takes l bound (node_rate e) ≡ true
-    → take_rates (filter is_moving ls) bound es ≡ true
+    → takes l bound (node_rate e) ≡ true → take_rates (filter is_moving ls) bound es ≡ true
     → take_rates (filter is_moving (l ∷ ls)) bound (if is_settled l then es else e ∷ es) ≡ true
 value_moves letter.Init bound e ls es h ih = ih
 value_moves letter.Table bound e ls es h ih = ih
@@ -60,8 +59,7 @@ text_moves letter.Text bound ls es h ih = ih
 text_moves a bound ls es h ih = absurd (cc)
 
 value_stays : (l : Letter) (bound : Rate) (e : Expression) (es : List Expression) → takes l bound (node_rate e) ≡ true
-    → stills es ≡ true
-    → stills (if is_settled l then e ∷ es else es) ≡ true
+    → stills es ≡ true → stills (if is_settled l then e ∷ es else es) ≡ true
 value_stays letter.Init bound e es h ih = and_from _ _ h ih
 value_stays letter.Table bound e es h ih = and_from _ _ h ih
 value_stays a bound e es h ih = ih
@@ -74,8 +72,7 @@ value_counts letter.Table e ls es ih = ap suc ih
 value_counts a e ls es ih = ih
 
 text_counts : (l : Letter) (ls : List Letter) (es : List Expression) → is_text l ≡ true
-    → length es ≡ length (filter is_settled ls)
-    → length es ≡ length (filter is_settled (l ∷ ls))
+    → length es ≡ length (filter is_settled ls) → length es ≡ length (filter is_settled (l ∷ ls))
 text_counts letter.Init ls es h ih = absurd (cc)
 text_counts letter.Table ls es h ih = absurd (cc)
 text_counts a ls es h ih = ih
@@ -124,8 +121,7 @@ shift l ls m n (suc k) =
     let e : suc n - suc (length ls) ≡ n - length ls = omega arith in
     let s : suc n + 1 ≡ suc (n + 1) = omega arith in
     ap (λ j. unwrap_or (slice_get ls n) (further m j) ∷ letters (l ∷ ls) m (suc n + 1) k) e
-    ∙ ap (λ j. letter_in ls m n ∷ letters (l ∷ ls) m j k) s
-    ∙ ap (λ t. letter_in ls m n ∷ t) (shift l ls m (n + 1) k)
+    ∙ ap (λ j. letter_in ls m n ∷ letters (l ∷ ls) m j k) s ∙ ap (λ t. letter_in ls m n ∷ t) (shift l ls m (n + 1) k)
 
 they_are : (ls : List Letter) (m : More) (k : ℕ) → length ls ≤ k
     → letters ls m 0 k ≡ ls ++ letters [] m 0 (k - length ls)
@@ -186,8 +182,7 @@ lengths [] ys = omega arith
 lengths (x ∷ xs) ys = let e = lengths xs ys in omega (arith, e)
 
 takes_so : (row : Row) (n j : ℕ) → follows_settled row.more ≡ true → may_follow row.more j ≡ true
-    → n ≡ length (settled_letters row) + j
-    → unit_takes row n ≡ true
+    → n ≡ length (settled_letters row) + j → unit_takes row n ≡ true
 takes_so row n j h f e =
     let d : j ≡ n - length (settled_letters row) = omega (arith, e) in
     and_from _ _ (least (length (settled_letters row)) n (omega (arith, e)))
@@ -200,8 +195,7 @@ pub record FitsUnit (row : Row) (bound : Rate) (args : List typed.Argument) : Ty
   pub moving : take_rates (moving_letters row) bound (moving row 0 args) ≡ true
 
 fit : (row : Row) (bound : Rate) (args : List typed.Argument) → follows_settled row.more ≡ true
-    → takes_count row (length args) ≡ true
-    → fit_letters row bound 0 args ≡ true → FitsUnit row bound args
+    → takes_count row (length args) ≡ true → fit_letters row bound 0 args ≡ true → FitsUnit row bound args
 fit row bound args h c l =
     let b = and_parts (nat_le (length row.fixed) (length args)) (may_follow row.more (length args - length row.fixed))
     c in
@@ -246,8 +240,7 @@ result_rate false r q h e = e
 
 -- it is one that its opcode's result may have
 pub may_run : (s : Setting) (r : Rate) (vs : List Var) (o : Opcode) (args : List typed.Argument)
-    → IsRatedCall s r vs o args
-    → is_run (row_of o).shape ≡ true → may_run_at (row_of o) r ≡ true
+    → IsRatedCall s r vs o args → is_run (row_of o).shape ≡ true → may_run_at (row_of o) r ≡ true
 may_run s r [] o args h u = or_left _ _ (subst (λ n. (n == 0) ≡ true) h.results refl)
 may_run s r (v ∷ vs) o args h u =
     let g = and_parts (list_all (may_give (row_of o)) (v ∷ vs)) true (rw h.given refl) in
@@ -261,8 +254,7 @@ unequal n m e = grind (arith, nat_tests)
 
 -- its arguments are bounded by its own rate
 pub same_bound : (s : Setting) (r : Rate) (vs : List Var) (o : Opcode) (args : List typed.Argument)
-    → IsRatedCall s r vs o args
-    → is_run (row_of o).shape ≡ true → bound_by vs ≡ bound_at (row_of o) r
+    → IsRatedCall s r vs o args → is_run (row_of o).shape ≡ true → bound_by vs ≡ bound_at (row_of o) r
 same_bound s r [] o args h u = let e : (result_count (row_of o) == 0) ≡ true =
     subst (λ n. (n == 0) ≡ true) h.results refl in rw e refl
 same_bound s r (v ∷ vs) o args h u =

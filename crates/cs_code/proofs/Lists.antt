@@ -44,42 +44,32 @@ moving_step row n (text v) rest = refl
 pub settled_more : (row : Row) (args : List Argument) (n m : ℕ) (a : Argument) (rest : List Argument) (take : Bool)
     (es new total : List Expression)
     → args ≡ a ∷ rest → take ≡ is_settled (letter_at row n) → m ≡ n + 1 → new ≡ es ++ taken take a
-    → es ++ settled row n args ≡ total
-    → new ++ settled row m rest ≡ total
+    → es ++ settled row n args ≡ total → new ++ settled row m rest ≡ total
 settled_more row args n m a rest take es new total split took on made was =
     ap (λ k. new ++ settled row k rest) on
     ∙ ap (λ k. k ++ settled row (n + 1) rest) (made ∙ ap (λ b. es ++ taken b a) took)
     ∙ append_assoc es (taken (is_settled (letter_at row n)) a) (settled row (n + 1) rest)
-    ∙ ap (λ k. es ++ k) (sym (settled_step row n a rest))
-    ∙ ap (λ k. es ++ settled row n k) (sym split)
-    ∙ was
+    ∙ ap (λ k. es ++ k) (sym (settled_step row n a rest)) ∙ ap (λ k. es ++ settled row n k) (sym split) ∙ was
 
 pub moving_more : (row : Row) (args : List Argument) (n m : ℕ) (a : Argument) (rest : List Argument) (take : Bool)
     (es new total : List Expression)
     → args ≡ a ∷ rest → take ≡ is_settled (letter_at row n) → m ≡ n + 1 → new ≡ es ++ taken (not take) a
-    → es ++ moving row n args ≡ total
-    → new ++ moving row m rest ≡ total
+    → es ++ moving row n args ≡ total → new ++ moving row m rest ≡ total
 moving_more row args n m a rest take es new total split took on made was =
     ap (λ k. new ++ moving row k rest) on
     ∙ ap (λ k. k ++ moving row (n + 1) rest) (made ∙ ap (λ b. es ++ taken (not b) a) took)
     ∙ append_assoc es (taken (not (is_settled (letter_at row n))) a) (moving row (n + 1) rest)
-    ∙ ap (λ k. es ++ k) (sym (moving_step row n a rest))
-    ∙ ap (λ k. es ++ moving row n k) (sym split)
-    ∙ was
+    ∙ ap (λ k. es ++ k) (sym (moving_step row n a rest)) ∙ ap (λ k. es ++ moving row n k) (sym split) ∙ was
 
 values_step : (a : Argument) (rest : List Argument) → values_of (a ∷ rest) ≡ taken true a ++ values_of rest
 values_step (value e) rest = refl
 values_step (text v) rest = refl
 
 pub values_more : (args : List Argument) (a : Argument) (rest : List Argument) (es new total : List Expression)
-    → args ≡ a ∷ rest
-    → new ≡ es ++ taken true a → es ++ values_of args ≡ total → new ++ values_of rest ≡ total
+    → args ≡ a ∷ rest → new ≡ es ++ taken true a → es ++ values_of args ≡ total → new ++ values_of rest ≡ total
 values_more args a rest es new total split made was =
-    ap (λ k. k ++ values_of rest) made
-    ∙ append_assoc es (taken true a) (values_of rest)
-    ∙ ap (λ k. es ++ k) (sym (values_step a rest))
-    ∙ ap (λ k. es ++ values_of k) (sym split)
-    ∙ was
+    ap (λ k. k ++ values_of rest) made ∙ append_assoc es (taken true a) (values_of rest)
+    ∙ ap (λ k. es ++ k) (sym (values_step a rest)) ∙ ap (λ k. es ++ values_of k) (sym split) ∙ was
 
 -- one value more, in the loops that make code
 pub operands_more : (when : When) (at now d next : ℕ) (es : List Expression) (e : Expression) (rest : List Expression)
@@ -93,15 +83,12 @@ operands_more when at now d next es e rest split past_it on =
 pub spots_more : (when : When) (regs new total : List Reg) (at now d next : ℕ) (es : List Expression)
     (e : Expression) (rest : List Expression)
     → es ≡ e ∷ rest → new ≡ regs ++ spot when at e d ∷ [] → now ≡ past at e → next ≡ d + 1
-    → regs ++ spots when at es d ≡ total
-    → new ++ spots when now rest next ≡ total
+    → regs ++ spots when at es d ≡ total → new ++ spots when now rest next ≡ total
 spots_more when regs new total at now d next es e rest split made past_it on was =
-    ap (λ k. new ++ spots when k rest next) past_it
-    ∙ ap (λ k. new ++ spots when (past at e) rest k) on
+    ap (λ k. new ++ spots when k rest next) past_it ∙ ap (λ k. new ++ spots when (past at e) rest k) on
     ∙ ap (λ k. k ++ spots when (past at e) rest (d + 1)) made
     ∙ append_assoc regs (spot when at e d ∷ []) (spots when (past at e) rest (d + 1))
-    ∙ ap (λ k. regs ++ spots when at k d) (sym split)
-    ∙ was
+    ∙ ap (λ k. regs ++ spots when at k d) (sym split) ∙ was
 
 pub keep_more : (at now : ℕ) (es : List Expression) (e : Expression) (rest : List Expression)
     → es ≡ e ∷ rest → now ≡ past at e → keep_all_code at es ≡ keep_code at e ++ keep_all_code now rest

@@ -142,8 +142,7 @@ module _ (w : Begins) (origin : ℕ) where
   direct_is : (when : When) (e : Expression) (at at' : ℕ) → Counts when at at'
       → direct when at' (E e) ≡ option_map m (direct when at e)
   direct_is when e at at' h =
-      ap (λ r. kept_or when r at' (local_of (E e))) (rate_stays l e)
-      ∙ ap (kept_or when (node_rate e) at') (local_is e)
+      ap (λ r. kept_or when r at' (local_of (E e))) (rate_stays l e) ∙ ap (kept_or when (node_rate e) at') (local_is e)
       ∙ kept_or_is when (node_rate e) at at' h (local_of e)
 
   reg_or_is : (o : Option Reg) (x : Reg) → reg_or (option_map m o) (m x) ≡ m (reg_or o x)
@@ -193,8 +192,7 @@ module _ (w : Begins) (origin : ℕ) where
       after_three (part_is when c at at' h d (own_is when c at at' h _ _ (temp_is c d) d))
       (part_is when y p p' on (d + 1) (own_is when y p p' on _ _ (temp_is y (d + 1)) (d + 1)))
       (part_is when z q q' far (d + 1 + 1) (own_is when z q q' far _ _ (temp_is z (d + 1 + 1)) (d + 1 + 1)))
-      (ap₂ (λ u qs. op_of act.Pick u qs) i
-      (ap₂ (λ u vs. u ∷ vs) (spot_is when c at at' h d)
+      (ap₂ (λ u qs. op_of act.Pick u qs) i (ap₂ (λ u vs. u ∷ vs) (spot_is when c at at' h d)
       (ap₂ (λ u v. u ∷ v ∷ []) (spot_is when y p p' on (d + 1)) (spot_is when z q q' far (d + 1 + 1)))))
   own_is when (apply r g a) at at' h x x' i d =
       after_one (part_is when a at at' h d (own_is when a at at' h _ _ (temp_is a d) d))
@@ -234,8 +232,7 @@ module _ (w : Begins) (origin : ℕ) where
       (join (keep_is y at at' h) (keep_is z (past at y) (past at' (E y)) (past_grown l y w.kept at at' h)))
   keep_is (pick r c y z) at at' h =
       let p = past at c in let p' = past at' (E c) in let on = past_grown l c w.kept at at' h in
-      by_rate r (kept_is (pick r c y z) at at' h)
-      (join (keep_is c at at' h)
+      by_rate r (kept_is (pick r c y z) at at' h) (join (keep_is c at at' h)
       (join (keep_is y p p' on) (keep_is z (past p y) (past p' (E y)) (past_grown l y w.kept p p' on))))
   keep_is (apply r g a) at at' h = by_rate r (kept_is (apply r g a) at at' h) (keep_is a at at' h)
   keep_is w at at' h = by_rate (node_rate w) (kept_is w at at' h) nothing_moves
@@ -278,8 +275,7 @@ module _ (w : Begins) (origin : ℕ) where
       → a' ≡ moved_act w origin a → into' ≡ m into
       → Same (on_code when at a into es) (on_code when at' a' into' (map E es))
   on_is when a a' into into' es at at' h i j =
-      join (operands_are when es at at' h 0)
-      (one (λ n. op_of (i n) (j n) (spots_are when es at at' h 0 n)))
+      join (operands_are when es at at' h 0) (one (λ n. op_of (i n) (j n) (spots_are when es at at' h 0 n)))
 
   run_is : (when : When) (a a' : Act) (r : Rate) (vs : List Variable) (xs : List Expression) (at at' : ℕ)
       → Counts when at at' → a' ≡ moved_act w origin a
@@ -364,8 +360,7 @@ module _ (w : Begins) (origin : ℕ) where
       omega (arith, s, a, b) in
       let over : at' + length c' + 1 + length x' + 1 + length y'
       ≡ origin + (at + length c + 1 + length x + 1 + length y) = omega (arith, s, a, b, d) in
-      join cond
-      (more (ap₂ (λ to z. op_of (act.Unless to) z (z ∷ [])) test e)
+      join cond (more (ap₂ (λ to z. op_of (act.Unless to) z (z ∷ [])) test e)
       (join body (more (ap₂ (λ to z. op_of (act.Jump to) z []) over e) rest)))
 
   choice_is : {a b a' b' : List Op} (way : Pass) (r : Rate) → Same a a' → Same b b'
@@ -476,8 +471,7 @@ routine_moved way spaces base place p x =
     let begins : place ≡ place + 0 = omega arith in
     let part : p.part ≡ p.part + 0 = omega arith in
     let unit : p.unit ≡ p.unit + 0 = omega arith in
-    ap (pass_block_code way place p) (core_moved base spaces x)
-    ∙ (block_is w place way 0 place start p (core spaces x)
+    ap (pass_block_code way place p) (core_moved base spaces x) ∙ (block_is w place way 0 place start p (core spaces x)
     (record { text = record { part = part; unit = unit }; place = begins })).same
 
 -- and what is met up to its end

@@ -115,11 +115,9 @@ module _ (l : PerRate ℕ) where
       unit = unit_more n.unit x.unit y.unit h.unit;
     }
     stmt_further n x y (zak r vs opcode reach xs) h =
-        parts_further r (past_all x.part xs) (past_all y.part (map E xs))
-        (all_grown xs n.part x.part y.part h.part) h
+        parts_further r (past_all x.part xs) (past_all y.part (map E xs)) (all_grown xs n.part x.part y.part h.part) h
     stmt_further n x y (store r reach es is) h =
-        parts_further r (past_all x.part es) (past_all y.part (map E es))
-        (all_grown es n.part x.part y.part h.part) h
+        parts_further r (past_all x.part es) (past_all y.part (map E es)) (all_grown es n.part x.part y.part h.part) h
     stmt_further n x y (out r es) h =
         record { part = all_grown es n.part x.part y.part h.part; unit = h.unit }
     stmt_further n x y (out_at r es) h =
@@ -138,8 +136,7 @@ module _ (l : PerRate ℕ) where
     arms_further n x y (otherwise b) h = block_further n x y b h
     arms_further n x y (arm c b rest) h =
         let p = past_parts (past x.part c) x in let q = past_parts (past y.part (E c)) y in
-        arms_further n (past_block p b) (past_block q (moved_stmts l b)) rest
-        (block_further n p q b
+        arms_further n (past_block p b) (past_block q (moved_stmts l b)) rest (block_further n p q b
         (record { part = past_grown c n.part x.part y.part h.part; unit = h.unit }))
 
   pub stmts_past : (p : Progress) (b : Block) → past_block p (moved_stmts l b) ≡ further_on p (past_block start b)

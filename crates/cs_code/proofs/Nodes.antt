@@ -31,12 +31,10 @@ pub there_spot : (when : When) (at : ℕ) (e : Expression) (d : ℕ) (q : Reg) �
 there_spot when at e d q h = ap (λ o. reg_or o (temp (node_rate e) d)) h
 
 pub there_copied : (when : When) (at : ℕ) (e : Expression) (x : Reg) (d : ℕ) (q : Reg)
-    → direct when at e ≡ Some q → code when at e x d
-    ≡ op_of act.Copy x (q ∷ []) ∷ []
+    → direct when at e ≡ Some q → code when at e x d ≡ op_of act.Copy x (q ∷ []) ∷ []
 there_copied when at e x d q h = ap (λ o. copied o x (own when at e x d)) h
 
-pub made_code : (when : When) (at : ℕ) (e : Expression) (d : ℕ) → direct when at e ≡ None
-    → operand_code when at e d
+pub made_code : (when : When) (at : ℕ) (e : Expression) (d : ℕ) → direct when at e ≡ None → operand_code when at e d
     ≡ own when at e (temp (node_rate e) d) d
 made_code when at e d h = ap (λ o. unless_there o (own when at e (temp (node_rate e) d) d)) h
 
@@ -77,8 +75,7 @@ parts_past at (apply r f a) = past at a
 parts_past at _ = at
 
 -- an expression is kept as a whole or by its parts
-pub keep_splits : (at : ℕ) (e : Expression)
-    → keep_code at e ≡ if_init (node_rate e) (kept_code at e) (parts_code at e)
+pub keep_splits : (at : ℕ) (e : Expression) → keep_code at e ≡ if_init (node_rate e) (kept_code at e) (parts_code at e)
 keep_splits at (number r n) = refl
 keep_splits at a = refl
 
@@ -127,26 +124,21 @@ pub made_one : (when : When) (at d : ℕ) (o : Act) (e k y : Expression) (x p : 
     → Grew old new (own when at e x d)
 made_one when at d o e k y x p from old first new is code_is p_is one made op =
     let regs : from ≡ spot when at y d ∷ [] = one ∙ ap (λ q. q ∷ []) p_is in
-    subst (Grew old new)
-    (ap (λ qs. operand_code when at y d ++ (op_of o x qs ∷ [])) regs
-    ∙ sym code_is ∙ sym (ap (λ z. own when at z x d) is))
-    (grew_on old first new _ _ made op)
+    subst (Grew old new) (ap (λ qs. operand_code when at y d ++ (op_of o x qs ∷ [])) regs
+    ∙ sym code_is ∙ sym (ap (λ z. own when at z x d) is)) (grew_on old first new _ _ made op)
 
 pub made_pair : (when : When) (at next d one : ℕ) (r : Rate) (b : BinOp) (e y z : Expression) (x p q : Reg)
-    (from : List Reg) (old first second new : Draft)
-    → e ≡ pair r b y z → next ≡ past at y → one ≡ d + 1
+    (from : List Reg) (old first second new : Draft) → e ≡ pair r b y z → next ≡ past at y → one ≡ d + 1
     → p ≡ spot when at y d → q ≡ spot when next z one → from ≡ p ∷ q ∷ []
     → Grew old first (operand_code when at y d) → Grew first second (operand_code when next z one)
-    → Grew second new (op_of (act.Pair b) x from ∷ [])
-    → Grew old new (own when at e x d)
+    → Grew second new (op_of (act.Pair b) x from ∷ []) → Grew old new (own when at e x d)
 made_pair when at next d one r b e y z x p q from old first second new is past_it on p_is q_is both a c op =
     let second_at : q ≡ spot when (past at y) z (d + 1) = q_is ∙ (λ i. spot when (past_it i) z (on i)) in
     let regs : from ≡ spot when at y d ∷ spot when (past at y) z (d + 1) ∷ [] =
     both ∙ (λ i. p_is i ∷ second_at i ∷ []) in
     subst (Grew old new)
     ((λ i. operand_code when at y d ++ (operand_code when (past_it i) z (on i) ++ (op_of (act.Pair b) x (regs i) ∷ [])))
-    ∙ sym (ap (λ k. own when at k x d) is))
-    (grew_on old first new _ _ a (grew_on first second new _ _ c op))
+    ∙ sym (ap (λ k. own when at k x d) is)) (grew_on old first new _ _ a (grew_on first second new _ _ c op))
 
 pub made_pick : (when : When) (at next last d one two : ℕ) (r : Rate) (e v y z : Expression) (x o p q : Reg)
     (from : List Reg) (old first second third new : Draft)
@@ -165,8 +157,7 @@ made_pick when at next last d one two r e v y z x o p q from old first second th
     let regs : from ≡ spot when at v d ∷ spot when (past at v) y (d + 1) ∷ spot when (past (past at v) y) z (d + 1 + 1)
     ∷ [] =
     all ∙ (λ i. o_is i ∷ second_at i ∷ third_at i ∷ []) in
-    subst (Grew old new)
-    ((λ i. operand_code when at v d ++ (operand_code when (past_v i) y (on i)
+    subst (Grew old new) ((λ i. operand_code when at v d ++ (operand_code when (past_v i) y (on i)
     ++ (operand_code when (last_is i) z (two_is i) ++ (op_of act.Pick x (regs i) ∷ []))))
     ∙ sym (ap (λ k. own when at k x d) is))
     (grew_on old first new _ _ a (grew_on first second new _ _ b (grew_on second third new _ _ c op)))

@@ -58,8 +58,7 @@ mutual
   pub arms_grow : (p : Progress) (arms : Arms) → p.part ≤ (past_arms p arms).part
   arms_grow p (otherwise b) = block_grows p b
   arms_grow p (arm c b rest) =
-      le_trans (past_grows p.part c)
-      (le_trans (block_grows (past_parts (past p.part c) p) b)
+      le_trans (past_grows p.part c) (le_trans (block_grows (past_parts (past p.part c) p) b)
       (arms_grow (past_block (past_parts (past p.part c) p) b) rest))
 
 -- ---- numbers of different paths differ
@@ -86,8 +85,7 @@ nowhere_ranged from end =
     record { range = λ q k e. absurd (none-some k e); apart = λ q r k e f. absurd (none-some k e) }
 
 parts_ranged : (from mid end : ℕ) (n m : Path → Option ℕ) → from ≤ mid → mid ≤ end → Ranged from mid n
-    → Ranged mid end m
-    → Ranged from end (parts n m)
+    → Ranged mid end m → Ranged from end (parts n m)
 parts_ranged from mid end n m low high a b = record { range = range; apart = apart }
   where
     range : (q : Path) (k : ℕ) → parts n m q ≡ Some k → (from ≤ k) × (k < end)
@@ -130,8 +128,7 @@ ranged at (pair r o a b) =
     let end : ℕ = past mid b in
     rate_ranged r at end _
     (parts_ranged at mid end (numbers at a) (parts (numbers mid b) nowhere) (past_grows at a) (past_grows mid b)
-    (ranged at a)
-    (last_ranged mid end (numbers mid b) (past_grows mid b) (ranged mid b)))
+    (ranged at a) (last_ranged mid end (numbers mid b) (past_grows mid b) (ranged mid b)))
 ranged at (pick r c a b) =
     let one : ℕ = past at c in
     let two : ℕ = past one a in
@@ -140,8 +137,7 @@ ranged at (pick r c a b) =
     (parts_ranged at one end (numbers at c) (parts (numbers one a) (parts (numbers two b) nowhere)) (past_grows at c)
     (le_trans (past_grows one a) (past_grows two b)) (ranged at c)
     (parts_ranged one two end (numbers one a) (parts (numbers two b) nowhere) (past_grows one a) (past_grows two b)
-    (ranged one a)
-    (last_ranged two end (numbers two b) (past_grows two b) (ranged two b))))
+    (ranged one a) (last_ranged two end (numbers two b) (past_grows two b) (ranged two b))))
 ranged at (apply r g a) =
     rate_ranged r at (past at a) _ (last_ranged at (past at a) (numbers at a) (past_grows at a) (ranged at a))
 ranged at w = one_ranged (node_rate w) at
@@ -173,8 +169,7 @@ mutual
   block_ranged p (andthen s b) =
       let q : Progress = past_stmt p s in
       parts_ranged p.part q.part (past_block q b).part (stmt_numbers p s) (block_numbers q b) (stmt_grows p s)
-      (block_grows q b)
-      (stmt_ranged p s) (block_ranged q b)
+      (block_grows q b) (stmt_ranged p s) (block_ranged q b)
 
   arms_ranged : (p : Progress) (arms : Arms) → Ranged p.part (past_arms p arms).part (arms_numbers p arms)
   arms_ranged p (otherwise b) =
@@ -184,8 +179,7 @@ mutual
       let after : Progress = past_block q b in
       let end : ℕ = (past_arms after rest).part in
       parts_ranged p.part after.part end (parts (numbers p.part c) (parts (block_numbers q b) nowhere))
-      (arms_numbers after rest)
-      (le_trans (past_grows p.part c) (block_grows q b)) (arms_grow after rest)
+      (arms_numbers after rest) (le_trans (past_grows p.part c) (block_grows q b)) (arms_grow after rest)
       (parts_ranged p.part q.part after.part (numbers p.part c) (parts (block_numbers q b) nowhere)
       (past_grows p.part c) (block_grows q b)
       (ranged p.part c) (last_ranged q.part after.part (block_numbers q b) (block_grows q b) (block_ranged q b)))

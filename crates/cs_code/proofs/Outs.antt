@@ -8,8 +8,7 @@ use Rattle.cs_code.proofs.Growing.{Leads, leads_on}
 use Rattle.cs_ir.specs.declared.op.Act.TheVariants as act
 
 pub out_more : (old here next : Draft) (n i : ℕ) (qs : List Reg) (d : Reg) (from : List Reg) (whole : List Op)
-    → i < length qs → from ≡ get_or qs i d ∷ []
-    → Grew here next (op_of (act.Out n) (get_or qs i d) from ∷ [])
+    → i < length qs → from ≡ get_or qs i d ∷ [] → Grew here next (op_of (act.Out n) (get_or qs i d) from ∷ [])
     → Leads old here (out_ops n (drop i qs)) whole → Leads old next (out_ops (n + 1) (drop (i + 1) qs)) whole
 out_more old here next n i qs d from whole lt one grew was =
     leads_on old here next (op_of (act.Out n) (get_or qs i d) (get_or qs i d ∷ []) ∷ []) (out_ops n (drop i qs))

@@ -35,8 +35,7 @@ pub record Quiet {W : Type 0} (o : World W) : Type 0 where
   pub save : (g : Res) (w : Wave) (x : W) → o.refused (o.save g w x) ≡ o.refused x
   pub does : (opcode : Opcode) (r : Rate) (u : ℕ) (reach : Reach) (ws : List Wave) (x : W)
       → o.refused (o.does opcode r u reach ws x).0 ≡ o.refused x
-  pub store : (r : Rate) (reach : Reach) (ws : List Wave) (x : W)
-      → o.refused (o.store r reach ws x) ≡ o.refused x
+  pub store : (r : Rate) (reach : Reach) (ws : List Wave) (x : W) → o.refused (o.store r reach ws x) ≡ o.refused x
   pub zak : (opcode : Opcode) (reach : Reach) (ws : List Wave) (x : W)
       → o.refused (o.zak opcode reach ws x).0 ≡ o.refused x
   pub out : (c : ℕ) (w : Wave) (x : W) → o.refused (o.out c w x) ≡ o.refused x
@@ -44,8 +43,7 @@ pub record Quiet {W : Type 0} (o : World W) : Type 0 where
   pub turnoff : (x : W) → o.refused (o.turnoff x) ≡ o.refused x
 
 -- A code has led to a note; and has done so without a touch on the world.
-pub record Reached {W : Type 0} (placed : Path → Option ℕ) (s : Note W) (m n : Machine W) : Type
-    0 where
+pub record Reached {W : Type 0} (placed : Path → Option ℕ) (s : Note W) (m n : Machine W) : Type 0 where
   pub stands : StandsInMachine placed s n
   pub next : n.next ≡ m.next
 
@@ -54,8 +52,7 @@ pub record Kept {W : Type 0} (placed : Path → Option ℕ) (s : Note W) (m n : 
   pub next : n.next ≡ m.next
   pub world : n.world ≡ m.world
 
-pub live_kept : {W : Type 0} (o : World W) (placed : Path → Option ℕ) (place more : ℕ) (s : Note W)
-    (m n : Machine W)
+pub live_kept : {W : Type 0} (o : World W) (placed : Path → Option ℕ) (place more : ℕ) (s : Note W) (m n : Machine W)
     → Live o place m → Kept placed s m n → Live o (place + more) n
 live_kept o placed place more s m n l k = record {
   next = (let e = k.next in let h = l.next in omega arith);
@@ -78,8 +75,7 @@ module _ {W : Type 0} (o : World W) (placed : Path → Option ℕ) (distinct : A
   }
 
   kept_wrote : (t : Note W) (path : Path) (at : ℕ) (z : ℤ) (m n : Machine W) → StandsInMachine placed t m
-      → placed path ≡ Some at
-      → Wrote (kept_reg at) 0 (constant z) m n → Kept placed (put_kept path z t) m n
+      → placed path ≡ Some at → Wrote (kept_reg at) 0 (constant z) m n → Kept placed (put_kept path z t) m n
   kept_wrote t path at z m n s is h = record {
     stands = record {
       locals = λ q k. h.others (reg q k) (local_not_kept q k at) (under_local q k 0) ∙ s.locals q k;
@@ -88,11 +84,9 @@ module _ {W : Type 0} (o : World W) (placed : Path → Option ℕ) (distinct : A
           let here : p ≡ path = (bytes_eq-Decides p path).0 e in
           let same : at ≡ k = some_is at k (sym is ∙ ap placed (sym here) ∙ there) in
           subst (λ j. n.regs (kept_reg j) ≡ constant z) same h.here ∙ rw e refl)
-          (λ e. h.others (kept_reg k)
-          (apart (kept_reg k) (kept_reg at) (λ r same. absurd (
+          (λ e. h.others (kept_reg k) (apart (kept_reg k) (kept_reg at) (λ r same. absurd (
           let here : p ≡ path = distinct p path at (there ∙ ap (λ j. Some j) same) is in
-          let never : true ≡ false = sym ((bytes_eq-Decides p path).1 here) ∙ e in cc)))
-          tt
+          let never : true ≡ false = sym ((bytes_eq-Decides p path).1 here) ∙ e in cc))) tt
           ∙ s.kept p k there ∙ rw e refl);
       world = h.world ∙ s.world;
     };
@@ -101,8 +95,7 @@ module _ {W : Type 0} (o : World W) (placed : Path → Option ℕ) (distinct : A
   }
 
   pub moved_stands : (t : Note W) (x : W) (m n : Machine W) → StandsInMachine placed t m → n.world ≡ x
-      → ((p : Reg) → Under 0 p → n.regs p ≡ m.regs p)
-      → StandsInMachine placed (moved_to x t) n
+      → ((p : Reg) → Under 0 p → n.regs p ≡ m.regs p) → StandsInMachine placed (moved_to x t) n
   moved_stands t x m n s e same = record {
     locals = λ q k. same (reg q k) (under_local q k 0) ∙ s.locals q k;
     kept = λ p k is. same (kept_reg k) tt ∙ s.kept p k is;
@@ -126,8 +119,7 @@ module _ {W : Type 0} (o : World W) (placed : Path → Option ℕ) (distinct : A
       (write_wrote (reg r x) w m)
 
   -- a temporary that was written has its value
-  temp_holds : (r : Rate) (w : Wave) (m : Machine W)
-      → (write o.ksmps (temp r 0) w m).regs (temp r 0) ≡ held o.ksmps r w
+  temp_holds : (r : Rate) (w : Wave) (m : Machine W) → (write o.ksmps (temp r 0) w m).regs (temp r 0) ≡ held o.ksmps r w
   temp_holds r w m =
       put_here m.regs (temp r 0) (held o.ksmps (rate_at (temp r 0)) w) ∙ ap (λ q. held o.ksmps q w) (temp_rate r)
 
@@ -162,13 +154,11 @@ module _ {W : Type 0} (o : World W) (placed : Path → Option ℕ) (distinct : A
       (record { stands = k.stands; next = k.next ∙ h.next; world = k.world ∙ h.world })
 
   pub keep_runs : (e : Expression) (t : Note W) (at : ℕ) (path : Path) (place : ℕ) (m : Machine W)
-      → StandsInMachine placed t m → Live o place m
-      → Lays placed path (numbers at e)
+      → StandsInMachine placed t m → Live o place m → Lays placed path (numbers at e)
       → Kept placed (keep o path e t) m (run o place (keep_code at e) m)
   keep_runs (neg r a) t at path place m s l lays =
       rate_runs r t (keep o (0 ∷ path) a t) at path (all_numbers at (a ∷ [])) place (first_value o t (neg r a)) m
-      (kept_code at (neg r a)) (keep_code at a) s lays
-      (once_wrote t (neg r a) at place m s l)
+      (kept_code at (neg r a)) (keep_code at a) s lays (once_wrote t (neg r a) at place m s l)
       (λ b. keep_runs a t at (0 ∷ path) place m s l (λ q. b (0 ∷ q)))
   keep_runs (pair r p a b) t at path place m s l lays =
       rate_runs r t (keep o (1 ∷ path) b (keep o (0 ∷ path) a t)) at path (all_numbers at (a ∷ b ∷ [])) place
@@ -183,9 +173,7 @@ module _ {W : Type 0} (o : World W) (placed : Path → Option ℕ) (distinct : A
       (live_kept o placed place (length (keep_code at a)) t1 m n l first) (λ q. known (1 ∷ q))))
   keep_runs (pick r c a b) t at path place m s l lays =
       rate_runs r t (keep o (2 ∷ path) b (keep o (1 ∷ path) a (keep o (0 ∷ path) c t))) at path
-      (all_numbers at (c ∷ a ∷ b ∷ [])) place
-      (first_value o t (pick r c a b)) m
-      (kept_code at (pick r c a b))
+      (all_numbers at (c ∷ a ∷ b ∷ [])) place (first_value o t (pick r c a b)) m (kept_code at (pick r c a b))
       (keep_code at c ++ (keep_code (past at c) a ++ keep_code (past (past at c) a) b)) s lays
       (once_wrote t (pick r c a b) at place m s l) (λ known.
       let t1 : Note W = keep o (0 ∷ path) c t in
@@ -205,16 +193,14 @@ module _ {W : Type 0} (o : World W) (placed : Path → Option ℕ) (distinct : A
       (live_kept o placed (place + length ops) (length more) t2 n k live second) (λ q. known (2 ∷ q)))))
   keep_runs (apply r g a) t at path place m s l lays =
       rate_runs r t (keep o (0 ∷ path) a t) at path (all_numbers at (a ∷ [])) place (first_value o t (apply r g a)) m
-      (kept_code at (apply r g a)) (keep_code at a) s lays
-      (once_wrote t (apply r g a) at place m s l)
+      (kept_code at (apply r g a)) (keep_code at a) s lays (once_wrote t (apply r g a) at place m s l)
       (λ b. keep_runs a t at (0 ∷ path) place m s l (λ q. b (0 ∷ q)))
   keep_runs w t at path place m s l lays =
       rate_runs (node_rate w) t t at path nowhere place (first_value o t w) m (kept_code at w) [] s lays
       (once_wrote t w at place m s l) (λ b. kept_self t m s)
 
   pub keep_all_runs : (es : List Expression) (t : Note W) (at : ℕ) (path : Path) (place : ℕ) (m : Machine W)
-      → StandsInMachine placed t m
-      → Live o place m → LaysOn placed path (all_numbers at es)
+      → StandsInMachine placed t m → Live o place m → LaysOn placed path (all_numbers at es)
       → Kept placed (keep_all o path es t) m (run o place (keep_all_code at es) m)
   keep_all_runs [] t at path place m s l lays = kept_self t m s
   keep_all_runs (e ∷ es) t at path place m s l lays =
@@ -232,8 +218,7 @@ module _ {W : Type 0} (o : World W) (placed : Path → Option ℕ) (distinct : A
   pub on_runs : (when : When) (at : ℕ) (path : Path) (a : Act) (into : Reg) (es : List Expression)
       (move : List Wave → W → W) (t : Note W) (place : ℕ) (m : Machine W)
       → ((ws : List Wave) (n : Machine W) → acts o a into ws n ≡ in_world (move ws n.world) n)
-      → StandsInMachine placed t m → Live o place m
-      → Reads when (LaysOn placed path (all_numbers at es))
+      → StandsInMachine placed t m → Live o place m → Reads when (LaysOn placed path (all_numbers at es))
       → Reached placed (moved_to (move (values o t when path es) t.world) t) m
       (run o place (on_code when at a into es) m)
   on_runs when at path a into es move t place m moves s l known =
@@ -244,8 +229,7 @@ module _ {W : Type 0} (o : World W) (placed : Path → Option ℕ) (distinct : A
       let live : Live o (place + length ops) n = live_same o 0 place (length ops) m n l ready.same in
       let x : W = move (values o t when path es) t.world in
       let here : run o place (ops ++ (last ∷ [])) m ≡ in_world x n =
-      run_snoc o place ops last m live
-      ∙ moves (map n.regs (spots when at es 0)) n
+      run_snoc o place ops last m live ∙ moves (map n.regs (spots when at es 0)) n
       ∙ ap (λ ws. in_world (move ws n.world) n) ready.here
       ∙ ap (λ y. in_world (move (values o t when path es) y) n) (ready.same.world ∙ s.world) in
       subst (Reached placed (moved_to x t) m) (sym here) (record {
@@ -261,16 +245,13 @@ module _ {W : Type 0} (o : World W) (placed : Path → Option ℕ) (distinct : A
       m (λ ws n. ap (λ q. in_world (o.start opcode q u (first_values ws) n.world) n) (temp_rate r)) s l tt
 
   pub seek_runs : (is : List Expression) (t : Note W) (place : ℕ) (m : Machine W)
-      → StandsInMachine placed t m → Live o place m
-      → Reached placed (sought o is t) m (run o place (seek_code is) m)
+      → StandsInMachine placed t m → Live o place m → Reached placed (sought o is t) m (run o place (seek_code is) m)
   seek_runs is t place m s l =
       on_runs beginning 0 [] act.Seek (temp rate.Init 0) is (λ ws x. o.seek (first_values ws) x) t place m
-      (λ ws n. refl) s l
-      tt
+      (λ ws n. refl) s l tt
 
   pub store_runs : (when : When) (at : ℕ) (path : Path) (r : Rate) (reach : Reach)
-      (es : List Expression) (t : Note W) (place : ℕ) (m : Machine W)
-      → StandsInMachine placed t m → Live o place m
+      (es : List Expression) (t : Note W) (place : ℕ) (m : Machine W) → StandsInMachine placed t m → Live o place m
       → Reads when (LaysOn placed path (all_numbers at es))
       → Reached placed (moved_to (o.store r reach (values o t when path es) t.world) t) m
       (run o place (store_code when at r reach es) m)
@@ -289,8 +270,7 @@ module _ {W : Type 0} (o : World W) (placed : Path → Option ℕ) (distinct : A
   -- ---- what gives a result runs: a unit, or what reads or writes zak places
 
   -- no variable takes the result
-  none_given : (b : Bool) (r : Rate) (t : Note W) (x : W) (w : Wave) (m : Machine W)
-      → StandsInMachine placed t m
+  none_given : (b : Bool) (r : Rate) (t : Note W) (x : W) (w : Wave) (m : Machine W) → StandsInMachine placed t m
       → Reached placed (moved_to x t) m (if b then write o.ksmps (temp r 0) w (in_world x m) else in_world x m)
   none_given true r t x w m s = record {
     stands = moved_stands t x m (write o.ksmps (temp r 0) w (in_world x m)) s refl
@@ -306,8 +286,7 @@ module _ {W : Type 0} (o : World W) (placed : Path → Option ℕ) (distinct : A
 
   -- a local variable takes the result: by the unit itself, or by a copy
   local_given : (b : Bool) (r q : Rate) (y : ℕ) (t : Note W) (x : W) (w : Wave) (place : ℕ) (m : Machine W)
-      → same_rate q r ≡ b
-      → StandsInMachine placed t m → m.next ≤ place → o.refused x ≡ false
+      → same_rate q r ≡ b → StandsInMachine placed t m → m.next ≤ place → o.refused x ≡ false
       → Reached placed (assign o (Local q y) (held o.ksmps r w) (moved_to x t)) m
       (run o place (if b then [] else op_of act.Copy (reg q y) (temp r 0 ∷ []) ∷ [])
       (write o.ksmps (if b then reg q y else temp r 0) w (in_world x m)))
@@ -319,8 +298,7 @@ module _ {W : Type 0} (o : World W) (placed : Path → Option ℕ) (distinct : A
       subst (λ p. held o.ksmps q (held o.ksmps p w) ≡ held o.ksmps q w) (sym is) (held_again o.ksmps q w) in
       record {
         stands = subst (λ v. StandsInMachine placed
-            (record (moved_to x t) { locals = put t.locals (reg q y) v })
-            (write o.ksmps (reg q y) w (in_world x m)))
+            (record (moved_to x t) { locals = put t.locals (reg q y) v }) (write o.ksmps (reg q y) w (in_world x m)))
             (sym twice)
             (local_wrote (moved_to x t) q y (held o.ksmps q w) (in_world x m) (write o.ksmps (reg q y) w (in_world x m))
             moved (write_local q y w (in_world x m)));
@@ -343,8 +321,7 @@ module _ {W : Type 0} (o : World W) (placed : Path → Option ℕ) (distinct : A
   global_given : (r : Rate) (g : Res) (t : Note W) (x : W) (w : Wave) (place : ℕ) (m : Machine W)
       → StandsInMachine placed t m → m.next ≤ place → o.refused x ≡ false
       → Reached placed (assign o (Global g) (held o.ksmps r w) (moved_to x t)) m
-      (run o place (op_of (act.Save g) (temp r 0) (temp r 0 ∷ []) ∷ [])
-      (write o.ksmps (temp r 0) w (in_world x m)))
+      (run o place (op_of (act.Save g) (temp r 0) (temp r 0 ∷ []) ∷ []) (write o.ksmps (temp r 0) w (in_world x m)))
   global_given r g t x w place m s next going =
       let n : Machine W = write o.ksmps (temp r 0) w (in_world x m) in
       let v : Wave = held o.ksmps r w in
@@ -361,8 +338,7 @@ module _ {W : Type 0} (o : World W) (placed : Path → Option ℕ) (distinct : A
 
   given_runs : (r : Rate) (vs : List Variable) (opcode : Opcode) (p : W × Wave) (t : Note W) (place : ℕ) (m : Machine W)
       → StandsInMachine placed t m → m.next ≤ place → o.refused p.0 ≡ false → Takes opcode vs
-      → Reached placed (done o r vs p t) m
-      (run o place (given_code r vs) (written o.ksmps opcode (target r vs) p m))
+      → Reached placed (done o r vs p t) m (run o place (given_code r vs) (written o.ksmps opcode (target r vs) p m))
   given_runs r [] opcode p t place m s next going takes = none_given (gives opcode) r t p.0 p.1 m s
   given_runs r (Local q y ∷ vs) opcode p t place m s next going takes =
       rw takes (local_given (same_rate q r) r q y t p.0 p.1 place m refl s next going)
@@ -370,8 +346,7 @@ module _ {W : Type 0} (o : World W) (placed : Path → Option ℕ) (distinct : A
       rw takes (global_given r g t p.0 p.1 place m s next going)
 
   run_runs : (when : When) (at : ℕ) (path : Path) (a : Act) (r : Rate) (vs : List Variable) (opcode : Opcode)
-      (xs : List Expression) (gives_it : List Wave → W → W × Wave)
-      (t : Note W) (place : ℕ) (m : Machine W)
+      (xs : List Expression) (gives_it : List Wave → W → W × Wave) (t : Note W) (place : ℕ) (m : Machine W)
       → ((into : Reg) (ws : List Wave) (n : Machine W) → rate_at into ≡ r
       → acts o a into ws n ≡ written o.ksmps opcode into (gives_it ws n.world) n)
       → ((ws : List Wave) (x : W) → o.refused (gives_it ws x).0 ≡ o.refused x)
@@ -389,8 +364,7 @@ module _ {W : Type 0} (o : World W) (placed : Path → Option ℕ) (distinct : A
       let live : Live o (place + length ops) n = live_same o 0 place (length ops) m n l ready.same in
       let p : W × Wave = gives_it (values o t when path xs) t.world in
       let does : step o (place + length ops) op n ≡ written o.ksmps opcode into p n =
-      live_step o (place + length ops) op n live
-      ∙ acts_so into (map n.regs (spots when at xs 0)) n (target_rate r vs)
+      live_step o (place + length ops) op n live ∙ acts_so into (map n.regs (spots when at xs 0)) n (target_rate r vs)
       ∙ ap (λ ws. written o.ksmps opcode into (gives_it ws n.world) n) ready.here
       ∙ ap (λ x. written o.ksmps opcode into (gives_it (values o t when path xs) x) n) (ready.same.world ∙ s.world) in
       let is : run o place (ops ++ (op ∷ rest)) m ≡ run o (place + length ops + 1) rest
@@ -406,8 +380,7 @@ module _ {W : Type 0} (o : World W) (placed : Path → Option ℕ) (distinct : A
 
   pub unit_runs : Quiet o → (when : When) (at : ℕ) (path : Path) (r : Rate) (vs : List Variable) (opcode : Opcode)
       (u : ℕ) (reach : Reach) (xs : List Expression)
-      (t : Note W) (place : ℕ) (m : Machine W) → StandsInMachine placed t m → Live o place m
-      → Takes opcode vs
+      (t : Note W) (place : ℕ) (m : Machine W) → StandsInMachine placed t m → Live o place m → Takes opcode vs
       → Reads when (LaysOn placed path (all_numbers at xs))
       → Reached placed (done o r vs (o.does opcode r u reach (values o t when path xs) t.world) t) m
       (run o place (unit_code when at r vs opcode u reach xs) m)
@@ -418,8 +391,7 @@ module _ {W : Type 0} (o : World W) (placed : Path → Option ℕ) (distinct : A
 
   pub zak_runs : Quiet o → (when : When) (at : ℕ) (path : Path) (r : Rate) (vs : List Variable) (opcode : Opcode)
       (reach : Reach) (xs : List Expression)
-      (t : Note W) (place : ℕ) (m : Machine W) → StandsInMachine placed t m → Live o place m
-      → Takes opcode vs
+      (t : Note W) (place : ℕ) (m : Machine W) → StandsInMachine placed t m → Live o place m → Takes opcode vs
       → Reads when (LaysOn placed path (all_numbers at xs))
       → Reached placed (done o r vs (o.zak opcode reach (values o t when path xs) t.world) t) m
       (run o place (zak_code when at r vs opcode reach xs) m)
@@ -430,10 +402,8 @@ module _ {W : Type 0} (o : World W) (placed : Path → Option ℕ) (distinct : A
   -- ---- a variable takes a value
 
   local_set : (b : Bool) (when : When) (at : ℕ) (path : Path) (q : Rate) (y : ℕ) (e : Expression) (t : Note W)
-      (place : ℕ) (m : Machine W) → same_rate (node_rate e) q ≡ b
-      → StandsInMachine placed t m → Live o place m
-      → Reads when (Lays placed path (numbers at e))
-      → Reached placed (assign o (Local q y) (value o t when path e) t) m
+      (place : ℕ) (m : Machine W) → same_rate (node_rate e) q ≡ b → StandsInMachine placed t m → Live o place m
+      → Reads when (Lays placed path (numbers at e)) → Reached placed (assign o (Local q y) (value o t when path e) t) m
       (run o place (if b then code when at e (reg q y) 0
       else operand_code when at e 0 ++ (op_of act.Copy (reg q y) (spot when at e 0 ∷ []) ∷ [])) m)
   local_set true when at path q y e t place m is s l known =
@@ -461,8 +431,7 @@ module _ {W : Type 0} (o : World W) (placed : Path → Option ℕ) (distinct : A
       })
 
   pub set_runs : (v : Variable) (when : When) (at : ℕ) (path : Path) (e : Expression) (t : Note W) (place : ℕ)
-      (m : Machine W) → StandsInMachine placed t m
-      → Live o place m → Reads when (Lays placed path (numbers at e))
+      (m : Machine W) → StandsInMachine placed t m → Live o place m → Reads when (Lays placed path (numbers at e))
       → Reached placed (assign o v (value o t when path e) t) m (run o place (set_code when at v e) m)
   set_runs (Local q y) when at path e t place m s l known =
       local_set (same_rate (node_rate e) q) when at path q y e t place m refl s l known

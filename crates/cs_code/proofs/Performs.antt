@@ -98,8 +98,7 @@ module _ {W : Type 0} (o : World W) (quiet : Quiet o) where
     arms_quiet p (otherwise b) t = block_quiet (inside p) b t
     arms_quiet p (arm c b rest) t =
         if_quiet (holds (value o t cycle (0 ∷ p.path) c 0)) t (perf_block o (inside_arm p) b t)
-        (perf_arms o (past_arm p b) rest t)
-        (block_quiet (inside_arm p) b t) (arms_quiet (past_arm p b) rest t)
+        (perf_arms o (past_arm p b) rest t) (block_quiet (inside_arm p) b t) (arms_quiet (past_arm p b) rest t)
 
 -- ---- values go out
 
@@ -132,13 +131,10 @@ module _ {W : Type 0} (o : World W) (quiet : Quiet o) (placed : Path → Option 
 
   -- operands, and then ops that move the world alone
   sent_from : (es : List Expression) (last : List Op) (send : List Wave → W → W) (t : Note W) (at : ℕ) (path : Path)
-      (place : ℕ) (m : Machine W)
-      → ((n : Machine W) → Live o (place + length (operands_code cycle at es 0)) n
+      (place : ℕ) (m : Machine W) → ((n : Machine W) → Live o (place + length (operands_code cycle at es 0)) n
       → run o (place + length (operands_code cycle at es 0)) last n ≡ in_world
-      (send (map n.regs (spots cycle at es 0)) n.world) n)
-      → StandsInMachine placed t m → Live o place m
-      → LaysOn placed path (all_numbers at es)
-      → Reached placed (moved_to (send (values o t cycle path es) t.world) t) m
+      (send (map n.regs (spots cycle at es 0)) n.world) n) → StandsInMachine placed t m → Live o place m
+      → LaysOn placed path (all_numbers at es) → Reached placed (moved_to (send (values o t cycle path es) t.world) t) m
       (run o place (operands_code cycle at es 0 ++ last) m)
   sent_from es last send t at path place m does s l lays =
       let ops : List Op = operands_code cycle at es 0 in
@@ -147,8 +143,7 @@ module _ {W : Type 0} (o : World W) (quiet : Quiet o) (placed : Path → Option 
       let live : Live o (place + length ops) n = live_same o 0 place (length ops) m n l ready.same in
       let x : W = send (values o t cycle path es) t.world in
       let is : run o place (ops ++ last) m ≡ in_world x n =
-      run_append o place ops last m ∙ does n live
-      ∙ ap (λ ws. in_world (send ws n.world) n) ready.here
+      run_append o place ops last m ∙ does n live ∙ ap (λ ws. in_world (send ws n.world) n) ready.here
       ∙ ap (λ y. in_world (send (values o t cycle path es) y) n) (ready.same.world ∙ s.world) in
       subst (Reached placed (moved_to x t) m) (sym is) (record {
         stands = moved_stands o placed distinct t x m (in_world x n) s refl
@@ -157,8 +152,7 @@ module _ {W : Type 0} (o : World W) (quiet : Quiet o) (placed : Path → Option 
       })
 
   each_cycle : (r : Rate) (t s : Note W) (place : ℕ) (path : Path) (n : Path → Option ℕ) (ops : List Op) (m : Machine W)
-      → Agrees placed place t m
-      → Lays placed path (if_init r nowhere n)
+      → Agrees placed place t m → Lays placed path (if_init r nowhere n)
       → (Lays placed path n → Agrees placed (place + length ops) s (run o place ops m))
       → Agrees placed (place + length (if_init r [] ops)) (if_init r t s) (run o place (if_init r [] ops) m)
   each_cycle rate.Init t s place path n ops m h lays does =
@@ -167,8 +161,7 @@ module _ {W : Type 0} (o : World W) (quiet : Quiet o) (placed : Path → Option 
 
   mutual
     pub perf_runs : (s : Stmt) (path : Path) (p : Progress) (place : ℕ) (t : Note W) (m : Machine W)
-        → Agrees placed place t m
-        → o.refused t.world ≡ false → SuitsStmt s → Lays placed path (stmt_numbers p s)
+        → Agrees placed place t m → o.refused t.world ≡ false → SuitsStmt s → Lays placed path (stmt_numbers p s)
         → Agrees placed (place + length (perf_code place p s)) (perf_stmt o (stands_at path p) s t)
         (run o place (perf_code place p s) m)
     perf_runs (set r v e) path p place t m h going suits lays =
@@ -186,16 +179,14 @@ module _ {W : Type 0} (o : World W) (quiet : Quiet o) (placed : Path → Option 
         each_cycle r t s place path (all_numbers p.part xs) ops m h lays (λ b.
         reached t s place ops m (run o place ops m) live
         (unit_runs o placed distinct quiet cycle p.part (0 ∷ path) r vs opcode p.unit reach xs t place m h.stands live
-        suits
-        (lays_on placed path (all_numbers p.part xs) b)))
+        suits (lays_on placed path (all_numbers p.part xs) b)))
     perf_runs (zak r vs opcode reach xs) path p place t m h going suits lays =
         let ops : List Op = zak_code cycle p.part r vs opcode reach xs in
         let live = agrees_live o placed place t m h going in
         let s : Note W = done o r vs (o.zak opcode reach (values o t cycle (0 ∷ path) xs) t.world) t in
         each_cycle r t s place path (all_numbers p.part xs) ops m h lays (λ b.
         reached t s place ops m (run o place ops m) live
-        (zak_runs o placed distinct quiet cycle p.part (0 ∷ path) r vs opcode reach xs t place m h.stands live
-        suits
+        (zak_runs o placed distinct quiet cycle p.part (0 ∷ path) r vs opcode reach xs t place m h.stands live suits
         (lays_on placed path (all_numbers p.part xs) b)))
     perf_runs (store r reach es is) path p place t m h going suits lays =
         let ops : List Op = store_code cycle p.part r reach es in
@@ -210,8 +201,7 @@ module _ {W : Type 0} (o : World W) (quiet : Quiet o) (placed : Path → Option 
         let last : List Op = out_ops 0 (spots cycle p.part es 0) in
         let live = agrees_live o placed place t m h going in
         reached t (moved_to (sent o 0 (values o t cycle (0 ∷ path) es) t.world) t) place (ops ++ last) m
-        (run o place (ops ++ last) m) live
-        (sent_from es last (sent o 0) t p.part (0 ∷ path) place m
+        (run o place (ops ++ last) m) live (sent_from es last (sent o 0) t p.part (0 ∷ path) place m
         (λ n l. out_ops_run o quiet 0 (spots cycle p.part es 0) (place + length ops) n l) h.stands live
         (lays_on placed path (all_numbers p.part es) lays))
     perf_runs (out_at r es) path p place t m h going suits lays =
@@ -219,8 +209,7 @@ module _ {W : Type 0} (o : World W) (quiet : Quiet o) (placed : Path → Option 
         let last : List Op = out_at_ops (spots cycle p.part es 0) in
         let live = agrees_live o placed place t m h going in
         reached t (moved_to (sent_at o (values o t cycle (0 ∷ path) es) t.world) t) place (ops ++ last) m
-        (run o place (ops ++ last) m) live
-        (sent_from es last (sent_at o) t p.part (0 ∷ path) place m
+        (run o place (ops ++ last) m) live (sent_from es last (sent_at o) t p.part (0 ∷ path) place m
         (λ n l. out_at_ops_run o quiet (spots cycle p.part es 0) (place + length ops) n l) h.stands live
         (lays_on placed path (all_numbers p.part es) lays))
     perf_runs (ask es) path p place t m h going suits lays =
@@ -238,12 +227,10 @@ module _ {W : Type 0} (o : World W) (quiet : Quiet o) (placed : Path → Option 
     perf_runs nothing path p place t m h going suits lays =
         record { stands = h.stands; next = le_trans h.next (omega arith) }
     perf_runs (choose r arms) path p place t m h going suits lays =
-        perf_arms_runs arms (0 ∷ path) p place t m h going suits.1
-        (lays_on placed path (arms_numbers p arms) lays)
+        perf_arms_runs arms (0 ∷ path) p place t m h going suits.1 (lays_on placed path (arms_numbers p arms) lays)
 
     pub perf_block_runs : (b : Block) (path : Path) (p : Progress) (place : ℕ) (t : Note W) (m : Machine W)
-        → Agrees placed place t m
-        → o.refused t.world ≡ false → SuitsBlock b → LaysOn placed path (block_numbers p b)
+        → Agrees placed place t m → o.refused t.world ≡ false → SuitsBlock b → LaysOn placed path (block_numbers p b)
         → Agrees placed (place + length (perf_block_code place p b)) (perf_block o (stands_at path p) b t)
         (run o place (perf_block_code place p b) m)
     perf_block_runs no_stmt path p place t m h going suits lays =
@@ -257,11 +244,9 @@ module _ {W : Type 0} (o : World W) (quiet : Quiet o) (placed : Path → Option 
         (stmt_quiet o quiet (stands_at path p) s t ∙ going) suits.1 (λ k q. lays (suc k) q) in
         let far : place + length ops + length rest ≡ place + length (ops ++ rest) =
         (let l = length-append ops rest in omega arith) in
-        subst (λ n. Agrees placed n (perf_block o (stands_at path p) (andthen s b) t) (run o place (ops ++ rest) m))
-        far
+        subst (λ n. Agrees placed n (perf_block o (stands_at path p) (andthen s b) t) (run o place (ops ++ rest) m)) far
         (subst (Agrees placed (place + length ops + length rest) (perf_block o (stands_at path p) (andthen s b) t))
-        (sym (run_append o place ops rest m))
-        (subst (λ (n : ℕ). Agrees placed (place + length ops + length rest)
+        (sym (run_append o place ops rest m)) (subst (λ (n : ℕ). Agrees placed (place + length ops + length rest)
         (perf_block o (record { path = next path; unit = n }) b u)
         (run o (place + length ops) rest (run o place ops m))) (stmt_unit p s) more))
 
@@ -271,8 +256,7 @@ module _ {W : Type 0} (o : World W) (quiet : Quiet o) (placed : Path → Option 
         → Agrees placed (place + length (perf_arms_code place p arms)) (perf_arms o (stands_at path p) arms t)
         (run o place (perf_arms_code place p arms) m)
     perf_arms_runs (otherwise b) path p place t m h going suits lays =
-        perf_block_runs b (0 ∷ path) p place t m h going suits
-        (lays_on placed path (block_numbers p b) (λ q. lays 0 q))
+        perf_block_runs b (0 ∷ path) p place t m h going suits (lays_on placed path (block_numbers p b) (λ q. lays 0 q))
     perf_arms_runs (arm c b rest) path p place t m h going suits lays =
         let before : List Op = operand_code cycle p.part c 0 in
         let q : Progress = past_parts (past p.part c) p in
@@ -289,11 +273,9 @@ module _ {W : Type 0} (o : World W) (quiet : Quiet o) (placed : Path → Option 
           next = (let e = ready.same.next in let k = h.next in omega arith);
         } in
         subst (λ far. Agrees placed far (perf_arms o (stands_at path p) (arm c b rest) t)
-        (run o place (arm_code place before holder body others) m))
-        (arm_length place before holder body others)
+        (run o place (arm_code place before holder body others) m)) (arm_length place before holder body others)
         (arm_runs o placed place before holder body others t (perf_block o (stands_at (0 ∷ 1 ∷ path) q) b t)
-        (perf_arms o (past_arm (stands_at path p) b) rest t) (value o t cycle (0 ∷ path) c) m
-        there going ready.here
+        (perf_arms o (past_arm (stands_at path p) b) rest t) (value o t cycle (0 ∷ path) c) m there going ready.here
         (λ k a. perf_block_runs b (0 ∷ 1 ∷ path) q at t k a going suits.0
         (lays_on placed (1 ∷ path) (block_numbers q b) (λ j. lays 0 (1 ∷ j))))
         (λ k a. subst (λ (u : ℕ). Agrees placed (at + length body + 1 + length others)

@@ -27,8 +27,7 @@ Ranked (pair r o a b) =
     × Ranked b
 Ranked (pick r c a b) =
     (is_audio (node_rate c) ≡ false) × (within (node_rate c) r ≡ true) × (within (node_rate a) r ≡ true)
-    × (within (node_rate b) r ≡ true)
-    × Ranked c × Ranked a × Ranked b
+    × (within (node_rate b) r ≡ true) × Ranked c × Ranked a × Ranked b
 Ranked (apply r g a) = (suits_function g r (node_rate a) ≡ true) × Ranked a
 Ranked a = Unit {0}
 

@@ -87,8 +87,7 @@ module _ (t : Access) (stock : Stock) where
       → ((x : Reg) → touch (own w at e x d) ≡ read_only t (own_reads w e))
       → touch (operand_code w at e d) ≡ read_only t (reads w e)
   operand_by w e at d h =
-      by_there w e at (λ q. unless_there q (own w at e (temp (node_rate e) d) d)) (λ q. refl)
-      (h (temp (node_rate e) d))
+      by_there w e at (λ q. unless_there q (own w at e (temp (node_rate e) d) d)) (λ q. refl) (h (temp (node_rate e) d))
 
   code_by : (w : When) (e : Expression) (at : ℕ) (x : Reg) → touch (own w at e x 0) ≡ read_only t (own_reads w e)
       → touch (code w at e x 0) ≡ read_only t (reads w e)
@@ -109,8 +108,7 @@ module _ (t : Access) (stock : Stock) where
       let op : Op = op_of (act.Pair o) x (spots w at (a ∷ b ∷ []) d) in
       let second : List Op = operand_code w (past at a) b (d + 1) in
       two (operand_code w at a d) (second ++ (op ∷ [])) (read_only t (reads w a)) (read_only t (reads w b))
-      (operand_by w a at d (λ q. own_touch w a at q d))
-      (last second op (read_only t (reads w b)) refl
+      (operand_by w a at d (λ q. own_touch w a at q d)) (last second op (read_only t (reads w b)) refl
       (operand_by w b (past at a) (d + 1) (λ q. own_touch w b (past at a) q (d + 1))))
       ∙ two_reads t (reads w a) (reads w b)
   own_touch w (pick r c a b) at x d =
@@ -119,8 +117,7 @@ module _ (t : Access) (stock : Stock) where
       let second : List Op = operand_code w (past at c) a (d + 1) in
       let third : List Op = operand_code w next b (d + 1 + 1) in
       two (operand_code w at c d) (second ++ (third ++ (op ∷ []))) (read_only t (reads w c))
-      (read_only t (reads w a) ++ read_only t (reads w b))
-      (operand_by w c at d (λ q. own_touch w c at q d))
+      (read_only t (reads w a) ++ read_only t (reads w b)) (operand_by w c at d (λ q. own_touch w c at q d))
       (two second (third ++ (op ∷ [])) (read_only t (reads w a)) (read_only t (reads w b))
       (operand_by w a (past at c) (d + 1) (λ q. own_touch w a (past at c) q (d + 1)))
       (last third op (read_only t (reads w b)) refl
@@ -132,8 +129,7 @@ module _ (t : Access) (stock : Stock) where
       (operand_by w a at d (λ q. own_touch w a at q d))
   own_touch w a at x d = sym (no_reads t)
 
-  operand_touch : (w : When) (at : ℕ) (e : Expression) (d : ℕ)
-      → touch (operand_code w at e d) ≡ read_only t (reads w e)
+  operand_touch : (w : When) (at : ℕ) (e : Expression) (d : ℕ) → touch (operand_code w at e d) ≡ read_only t (reads w e)
   operand_touch w at e d = operand_by w e at d (λ q. own_touch w e at q d)
 
   code_touch : (w : When) (at : ℕ) (e : Expression) (x : Reg) → touch (code w at e x 0) ≡ read_only t (reads w e)
@@ -175,16 +171,13 @@ module _ (t : Access) (stock : Stock) where
       let third : List Op = keep_code (past (past at c) a) b in
       keeps at (pick r c a b) r (first ++ (second ++ third)) (kept c ++ (kept a ++ kept b))
       (two first (second ++ third) (read_only t (kept c)) (read_only t (kept a) ++ read_only t (kept b))
-      (keep_touch at c)
-      (two second third (read_only t (kept a)) (read_only t (kept b)) (keep_touch (past at c) a)
-      (keep_touch (past (past at c) a) b))
-      ∙ ap (λ l. read_only t (kept c) ++ l) (two_reads t (kept a) (kept b))
+      (keep_touch at c) (two second third (read_only t (kept a)) (read_only t (kept b)) (keep_touch (past at c) a)
+      (keep_touch (past (past at c) a) b)) ∙ ap (λ l. read_only t (kept c) ++ l) (two_reads t (kept a) (kept b))
       ∙ two_reads t (kept c) (kept a ++ kept b))
   keep_touch at (apply r g a) = keeps at (apply r g a) r (keep_code at a) (expr_used beginning a) (keep_touch at a)
   keep_touch at w = keeps at w (node_rate w) [] [] (sym (no_reads t)) ∙ ap (read_only t) (nothing_read (node_rate w))
 
-  keep_all_touch : (at : ℕ) (es : List Expression)
-      → touch (keep_all_code at es) ≡ read_only t (exprs_used beginning es)
+  keep_all_touch : (at : ℕ) (es : List Expression) → touch (keep_all_code at es) ≡ read_only t (exprs_used beginning es)
   keep_all_touch at [] = sym (no_reads t)
   keep_all_touch at (e ∷ es) =
       two (keep_code at e) (keep_all_code (past at e) es) (read_only t (expr_used beginning e))
@@ -228,13 +221,11 @@ module _ (t : Access) (stock : Stock) where
   alone : (a : Act) (into : Reg) (es : List Expression) → act_touches t stock a ≡ []
       → touch (on_code beginning 0 a into es) ≡ read_only t (exprs_read es)
   alone a into es none =
-      last (operands_code beginning 0 es 0) (op_of a into (spots beginning 0 es 0)) (read_only t (exprs_read es))
-      none
+      last (operands_code beginning 0 es 0) (op_of a into (spots beginning 0 es 0)) (read_only t (exprs_read es)) none
       (operands_touch beginning 0 es 0)
 
   run_touch : (w : When) (at : ℕ) (a : Act) (r : Rate) (vs : List Variable) (xs : List Expression)
-      → touch (run_code w at a r vs xs)
-      ≡ read_only t (flat_map (reads w) xs) ++ (act_touches t stock a ++ vars_use vs)
+      → touch (run_code w at a r vs xs) ≡ read_only t (flat_map (reads w) xs) ++ (act_touches t stock a ++ vars_use vs)
   run_touch w at a r vs xs =
       two (operands_code w at xs 0) (op_of a (target r vs) (spots w at xs 0) ∷ given_code r vs)
       (read_only t (flat_map (reads w) xs)) (act_touches t stock a ++ vars_use vs) (operands_touch w at xs 0)

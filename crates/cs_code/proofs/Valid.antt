@@ -73,8 +73,7 @@ init_within rate.Init = refl
 init_within a = refl
 
 -- where a value stands has its rate
-rate_kept : (when : When) (r : Rate) (at d : ℕ)
-    → rate_at (reg_or (kept_or when r at None) (temp r d)) ≡ r
+rate_kept : (when : When) (r : Rate) (at d : ℕ) → rate_at (reg_or (kept_or when r at None) (temp r d)) ≡ r
 rate_kept beginning r at d = temp_rate r
 rate_kept cycle rate.Init at d = refl
 rate_kept cycle a at d = refl
@@ -84,8 +83,7 @@ rate_local : (when : When) (r : Rate) (at d : ℕ) (q : Reg) → rate_at q ≡ r
 rate_local cycle rate.Init at d q h = refl
 rate_local a e at d q h = h
 
-spot_rate : (when : When) (at : ℕ) (e : Expression) (d : ℕ) → Ranked e
-    → rate_at (spot when at e d) ≡ node_rate e
+spot_rate : (when : When) (at : ℕ) (e : Expression) (d : ℕ) → Ranked e → rate_at (spot when at e d) ≡ node_rate e
 spot_rate when at (var r (Local q n)) d h = rate_local when r at d (reg q n) (local_rate q ∙ h)
 spot_rate when at w d h = rate_kept when (node_rate w) at d
 
@@ -218,8 +216,7 @@ module _ (cycles : Bool) (channels : ℕ) (units : List UnitKind) where
       let last : List Op = op_of (act.Pair b) x (p ∷ q ∷ []) ∷ [] in
       let second : List Op = operand_code when (past at y) z (d + 1) in
       both (operand_code when at y d) (second ++ last)
-      (operand_by when y at d (λ v into. own_plain when y at v into d h.3))
-      (both second last
+      (operand_by when y at d (λ v into. own_plain when y at v into d h.3)) (both second last
       (operand_by when z (past at y) (d + 1) (λ v into. own_plain when z (past at y) v into (d + 1) h.4)) (
         (
           (tt, refl),
@@ -240,11 +237,9 @@ module _ (cycles : Bool) (channels : ℕ) (units : List UnitKind) where
       let second : List Op = operand_code when (past at c) y (d + 1) in
       let third : List Op = operand_code when next z (d + 1 + 1) in
       both (operand_code when at c d) (second ++ (third ++ last))
-      (operand_by when c at d (λ v into. own_plain when c at v into d h.4))
-      (both second (third ++ last)
+      (operand_by when c at d (λ v into. own_plain when c at v into d h.4)) (both second (third ++ last)
       (operand_by when y (past at c) (d + 1) (λ v into. own_plain when y (past at c) v into (d + 1) h.5))
-      (both third last
-      (operand_by when z next (d + 1 + 1) (λ v into. own_plain when z next v into (d + 1 + 1) h.6)) (
+      (both third last (operand_by when z next (d + 1 + 1) (λ v into. own_plain when z next v into (d + 1 + 1) h.6)) (
         (
           (tt, refl),
           takes_into act.Pick r x (o ∷ p ∷ q ∷ []) is
@@ -272,8 +267,7 @@ module _ (cycles : Bool) (channels : ℕ) (units : List UnitKind) where
   operand_plain : (when : When) (e : Expression) (at d : ℕ) → Ranked e → Plain (operand_code when at e d)
   operand_plain when e at d h = operand_by when e at d (λ x into. own_plain when e at x into d h)
 
-  operands_plain : (when : When) (es : List Expression) (at d : ℕ) → AllRanked es
-      → Plain (operands_code when at es d)
+  operands_plain : (when : When) (es : List Expression) (at d : ℕ) → AllRanked es → Plain (operands_code when at es d)
   operands_plain when [] at d h = tt
   operands_plain when (e ∷ es) at d h =
       both (operand_code when at e d) (operands_code when (past at e) es (d + 1)) (operand_plain when e at d h.0)
@@ -299,8 +293,7 @@ module _ (cycles : Bool) (channels : ℕ) (units : List UnitKind) where
       → Plain (code when at e x d)
   code_plain when e at x is d h = code_from when e at x is d h (direct when at e) refl
 
-  when_init : (r : Rate) (once each : List Op) → (r ≡ rate.Init → Plain once) → Plain each
-      → Plain (if_init r once each)
+  when_init : (r : Rate) (once each : List Op) → (r ≡ rate.Init → Plain once) → Plain each → Plain (if_init r once each)
   when_init rate.Init once each h k = h refl
   when_init r once each h k = k
 
@@ -394,8 +387,7 @@ module _ (cycles : Bool) (channels : ℕ) (units : List UnitKind) where
       )
 
   -- all are still, and so are the registers where they stand
-  spots_still : (is : List Expression) → AllInit is → AllRanked is
-      → list_all is_still (spots beginning 0 is 0) ≡ true
+  spots_still : (is : List Expression) → AllInit is → AllRanked is → list_all is_still (spots beginning 0 is 0) ≡ true
   spots_still is h k =
       same_all is_init (spots beginning 0 is 0) (rated is) (spots_rates beginning 0 is 0 k) ∙ init_still is h
 
@@ -411,8 +403,7 @@ module _ (cycles : Bool) (channels : ℕ) (units : List UnitKind) where
       (subst (Names channels units (act.Start opcode u)) (sym (temp_rate r)) here) begin
       (takes_into (act.Start opcode u) r (temp r 0) ps (temp_rate r)
       (four (is_unit (row_of opcode).shape) (unit_takes (row_of opcode) (length ps)) (list_all is_still ps)
-      (may_run_at (row_of opcode) r) h.is_one count (spots_still is h.settled h.settled_parts) h.run.runs))
-      tt
+      (may_run_at (row_of opcode) r) h.is_one count (spots_still is h.settled h.settled_parts) h.run.runs)) tt
 
   runs_take : (when : When) (at : ℕ) (r : Rate) (vs : List Variable) (opcode : Opcode) (xs : List Expression)
       → RankedRun r vs opcode xs → runs_with (row_of opcode) r (spots when at xs 0) ≡ true
@@ -462,8 +453,7 @@ module _ (cycles : Bool) (channels : ℕ) (units : List UnitKind) where
     out_plain (c + 1) (past at e) (d + 1) es h.1 k.1 (omega (arith, few)),
   )
 
-  out_at_plain : (at d : ℕ) (es : List Expression) → Paired es → AllRanked es
-      → Plain (out_at_ops (spots cycle at es d))
+  out_at_plain : (at d : ℕ) (es : List Expression) → Paired es → AllRanked es → Plain (out_at_ops (spots cycle at es d))
   out_at_plain at d (c ∷ (e ∷ es)) h k =
       let held : is_audio (rate_at (spot cycle at c d)) ≡ false = ap is_audio (spot_rate cycle at c d k.0) ∙ h.0 in
       let sound : is_audio (rate_at (spot cycle (past at c) e (d + 1))) ≡ true =
@@ -558,8 +548,7 @@ module _ (cycles : Bool) (channels : ℕ) (units : List UnitKind) where
 
     arm_fine : (place : ℕ) (before : List Op) (q : Reg) (body rest : List Op) → is_audio (rate_at q) ≡ false
         → place + length (arm_code place before q body rest) ≤ end
-        → Plain before → Fine (place + length before + 1) body
-        → Fine (place + length before + 1 + length body + 1) rest
+        → Plain before → Fine (place + length before + 1) body → Fine (place + length before + 1 + length body + 1) rest
         → Fine place (arm_code place before q body rest)
     arm_fine place before q body rest held low h k l =
         let else_at : ℕ = place + length before + 1 + length body + 1 in
@@ -638,8 +627,7 @@ module _ (cycles : Bool) (channels : ℕ) (units : List UnitKind) where
           both_fine place before (body ++ others) (plain_fine place before (keep_plain c p.part h.1))
           (both_fine at body others
           (block_fine pass.Initialisation begin at q b h.2 (at_front units p.unit (block_units b) (arms_units rest) k)
-          n.0 (omega arith))
-          (all_fine begin (at + length body) (past_block q b) rest h.3
+          n.0 (omega arith)) (all_fine begin (at + length body) (past_block q b) rest h.3
           (at_back units p.unit (past_block q b).unit (block_units b) (arms_units rest) (block_count q b) k) n.1
           (omega arith)))
 
@@ -659,8 +647,7 @@ or_right true b h = refl
 or_right false b h = h
 
 finds_right : (counts : Counts) (channels : ℕ) (units : List UnitKind) (end place : ℕ) (a : Act) (r : Rate)
-    → length units ≤ counts.units → Names channels units a r
-    → Lands end place a → finds counts end place a ≡ true
+    → length units ≤ counts.units → Names channels units a r → Lands end place a → finds counts end place a ≡ true
 finds_right counts channels units end place (act.Start opcode u) r low h l =
     lt-ltb u counts.units (let there = slice_get_within units u (record { opcode = opcode; rate = r }) h in omega arith)
 finds_right counts channels units end place (act.Unit opcode u reach) r low h l =
@@ -695,8 +682,7 @@ fine_valid cycles counts channels units end place [] low limits fine = refl
 fine_valid cycles counts channels units end place (op ∷ ops) low limits fine =
     two (is_fine counts end place op) (fine_from counts end (place + 1) ops)
     (four (not (writes op.act) || has_register counts op.into) (list_all (has_register counts) op.from)
-    (finds counts end place op.act)
-    (takes_from op.act (rate_at op.into) op.from)
+    (finds counts end place op.act) (takes_from op.act (rate_at op.into) op.from)
     (or_right (not (writes op.act)) (has_register counts op.into)
     (has_one counts op.into (λ k. let m = limits k in omega arith)))
     (has_all counts op.from (λ k. let m = limits k in omega arith))

@@ -28,8 +28,7 @@ pub counter_code : (spaces : Spaces) (init perf : Code) → IsMadeOf counter_ini
     → IsMadeOf counter_perf counter_counts perf → IsCodeOf spaces 1 counter init perf
 counter_code spaces init perf a b =
     made_code spaces (inside 1) counter counter_rated counter_counts counter_init counter_perf
-    (record { init_is = refl; perf_is = refl; units_are = refl; reached = counter_reached })
-    init perf a.0 a.1 b.0 b.1
+    (record { init_is = refl; perf_is = refl; units_are = refl; reached = counter_reached }) init perf a.0 a.1 b.0 b.1
 
 -- ---- k1 = k1 + k2 + k1 + k2
 
@@ -53,8 +52,7 @@ pub terms_code : (spaces : Spaces) (init perf : Code) → IsMadeOf [] terms_coun
     → IsMadeOf terms_perf terms_counts perf → IsCodeOf spaces 1 terms init perf
 terms_code spaces init perf a b =
     made_code spaces (inside 1) terms terms_rated terms_counts [] terms_perf
-    (record { init_is = refl; perf_is = refl; units_are = refl; reached = terms_reached })
-    init perf a.0 a.1 b.0 b.1
+    (record { init_is = refl; perf_is = refl; units_are = refl; reached = terms_reached }) init perf a.0 a.1 b.0 b.1
 
 -- ---- a1 oscili k1, 440, 1 and out a1
 
@@ -115,5 +113,4 @@ pub tone_code : (spaces : Spaces) (init perf : Code) → IsMadeOf tone_init tone
     → IsMadeOf tone_perf tone_counts perf → IsCodeOf spaces 1 tone init perf
 tone_code spaces init perf a b =
     made_code spaces (inside 1) tone tone_rated tone_counts tone_init tone_perf
-    (record { init_is = refl; perf_is = refl; units_are = refl; reached = tone_reached })
-    init perf a.0 a.1 b.0 b.1
+    (record { init_is = refl; perf_is = refl; units_are = refl; reached = tone_reached }) init perf a.0 a.1 b.0 b.1

@@ -52,12 +52,12 @@ pub fn assign(
             set(ops, context, 0, it.to, &it.value)?;
             Ok(p)
         }
-        (Pass::Initialisation, _) => {
+        (Pass::Initialisation, Rate::Control | Rate::Audio) => {
             let part = keep_value(ops, context, p.part, &it.value)?;
             Ok(Progress { part, ..p })
         }
         (Pass::Performance, Rate::Init) => Ok(p),
-        (Pass::Performance, _) => {
+        (Pass::Performance, Rate::Control | Rate::Audio) => {
             let part = set(ops, context, p.part, it.to, &it.value)?;
             Ok(Progress { part, ..p })
         }
@@ -90,13 +90,13 @@ pub fn unit(
             run(ops, context, 0, act, call, &values.moving)?;
             Ok(Progress { part: p.part, unit })
         }
-        (Pass::Initialisation, _) => {
+        (Pass::Initialisation, Rate::Control | Rate::Audio) => {
             let part = keep_all(ops, context, p.part, &values.moving)?;
             start(ops, context, p.unit, call, &values.settled)?;
             Ok(Progress { part, unit })
         }
         (Pass::Performance, Rate::Init) => Ok(Progress { part: p.part, unit }),
-        (Pass::Performance, _) => {
+        (Pass::Performance, Rate::Control | Rate::Audio) => {
             let part = run(ops, context, p.part, act, call, &values.moving)?;
             Ok(Progress { part, unit })
         }
@@ -141,12 +141,12 @@ pub fn zak(
             run(ops, context, 0, act, call, values)?;
             Ok(p)
         }
-        (Pass::Initialisation, _) => {
+        (Pass::Initialisation, Rate::Control | Rate::Audio) => {
             let part = keep_all(ops, context, p.part, values)?;
             Ok(Progress { part, ..p })
         }
         (Pass::Performance, Rate::Init) => Ok(p),
-        (Pass::Performance, _) => {
+        (Pass::Performance, Rate::Control | Rate::Audio) => {
             let part = run(ops, context, p.part, act, call, values)?;
             Ok(Progress { part, ..p })
         }
@@ -177,13 +177,13 @@ pub fn store(
             push_on(ops, context, 0, act, into, values)?;
             Ok(p)
         }
-        (Pass::Initialisation, _) => {
+        (Pass::Initialisation, Rate::Control | Rate::Audio) => {
             let part = keep_all(ops, context, p.part, values)?;
             seek(ops, context, settled)?;
             Ok(Progress { part, ..p })
         }
         (Pass::Performance, Rate::Init) => Ok(p),
-        (Pass::Performance, _) => {
+        (Pass::Performance, Rate::Control | Rate::Audio) => {
             let part = push_on(ops, context, p.part, act, into, values)?;
             Ok(Progress { part, ..p })
         }

@@ -17,15 +17,13 @@ use Rattle.cs_ir.specs.declared.step.Step.TheVariants as step
 
 -- the ops of earlier steps stay, whose jumps go no further than behind them
 pub one_more : (rs : List (List Op)) (ss : List Step) (s : Step) → are_within (length ss) ss ≡ true
-    → flat rs (ss ++ s ∷ [])
-    ≡ flat rs ss ++ flat_step rs (λ to. place_of rs to (ss ++ s ∷ [])) (length (flat rs ss)) s
+    → flat rs (ss ++ s ∷ []) ≡ flat rs ss ++ flat_step rs (λ to. place_of rs to (ss ++ s ∷ [])) (length (flat rs ss)) s
 one_more rs ss s within =
     let old : ℕ → ℕ = λ to. place_of rs to ss in
     let new : ℕ → ℕ = λ to. place_of rs to (ss ++ s ∷ []) in
     let end : 0 + place_of rs (length ss) ss ≡ length (flat rs ss) =
     (let e = steps_long rs old 0 ss in omega (arith, e)) in
-    steps_both rs new 0 ss (s ∷ [])
-    ∙ ap (λ l. l ++ flat_from rs new (0 + place_of rs (length ss) ss) (s ∷ []))
+    steps_both rs new 0 ss (s ∷ []) ∙ ap (λ l. l ++ flat_from rs new (0 + place_of rs (length ss) ss) (s ∷ []))
     (steps_alike rs new old (length ss) 0 ss (λ to low. place_more rs to ss (s ∷ []) low) within)
     ∙ ap (λ l. flat rs ss ++ l) (append-nil (flat_step rs new (0 + place_of rs (length ss) ss) s))
     ∙ ap (λ k. flat rs ss ++ flat_step rs new k s) end
@@ -83,8 +81,7 @@ mark_there d op = record {
       ∙ sym (place_more (library_of d) (length d.steps) d.steps (step.Do op ∷ []) (omega arith));
 }
 
-pub grew_by : (d : Draft) (s : Step) (more : List Op)
-    → flat (library_of d) (d.steps ++ s ∷ []) ≡ drafted d ++ more
+pub grew_by : (d : Draft) (s : Step) (more : List Op) → flat (library_of d) (d.steps ++ s ∷ []) ≡ drafted d ++ more
     → Grew d (record d { steps = d.steps ++ s ∷ [] }) more
 grew_by d s more is = record { ops = is; routines = refl; marks = marks_stay d s }
 
@@ -146,8 +143,7 @@ module _ (rs : List (List Op)) where
   aimed_end ss i op is =
       let f : ℕ → ℕ = λ to. place_of rs to ss in
       ap (λ (g : ℕ → ℕ). flat_from rs g 0 (aim_step i (length ss) ss))
-      (λ j to. places_stay (length ss) to ss i j)
-      ∙ aim_from f (length ss) 0 ss i op is
+      (λ j to. places_stay (length ss) to ss i j) ∙ aim_from f (length ss) 0 ss i op is
       ∙ ap (λ k. aim (place_of rs i ss) k (flat rs ss)) (sym (steps_long rs f 0 ss))
 
 -- an op stays an op where a jump is aimed

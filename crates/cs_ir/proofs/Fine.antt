@@ -14,8 +14,7 @@ first x y k = ap (or_else x) k
 
 -- an op at a place of a code that is fine from some place on
 pub fine_at : (c : Counts) (end place : ℕ) (ops : List Op) (n : ℕ) (o : Op) → fine_from c end place ops ≡ true
-    → slice_get ops n ≡ Some o
-    → is_fine c end (place + n) o ≡ true
+    → slice_get ops n ≡ Some o → is_fine c end (place + n) o ≡ true
 fine_at c end place [] n o h e = absurd (cc)
 fine_at c end place (x ∷ ops) zero o h e =
     let b = and_parts (is_fine c end place x) (fine_from c end (place + 1) ops) h in
@@ -32,7 +31,6 @@ pub all_fine : (c : Counts) (end place : ℕ) (ops : List Op)
 all_fine c end place [] h = refl
 all_fine c end place (x ∷ ops) h =
     let p : place + zero ≡ place = omega arith in
-    and_from _ _ (subst (λ k. is_fine c end k x ≡ true) p (h zero x refl))
-    (all_fine c end (place + 1) ops
+    and_from _ _ (subst (λ k. is_fine c end k x ≡ true) p (h zero x refl)) (all_fine c end (place + 1) ops
     (λ n o e. let q : place + suc n ≡ (place + 1) + n =
     omega arith in subst (λ k. is_fine c end k o ≡ true) q (h (suc n) o e)))

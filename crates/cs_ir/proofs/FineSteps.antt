@@ -132,8 +132,7 @@ fine_after rs ss w c p end i =
 
 at_drop : (ss : List Step) (i : ℕ) (s : Step) → slice_get ss i ≡ Some s → drop i ss ≡ s ∷ drop (suc i) ss
 at_drop ss i s is =
-    drop-cons ss i s (slice_get_within ss i s is)
-    ∙ ap (λ y. y ∷ drop (suc i) ss) (get_or_from_slice_get ss i s s is)
+    drop-cons ss i s (slice_get_within ss i s is) ∙ ap (λ y. y ∷ drop (suc i) ss) (get_or_from_slice_get ss i s s is)
 
 module _ (rs : List (List Op)) (ss : List Step) (w : Begins) (c : Counts) (p end : ℕ) where
   pub fine_first : fine_from c end p (moved_ops w p (flat rs ss)) ≡ fine_after rs ss w c p end 0
@@ -145,8 +144,7 @@ module _ (rs : List (List Op)) (ss : List Step) (w : Begins) (c : Counts) (p end
       (moved_ops w p (flat_from rs (λ to. place_of rs to ss) (place_of rs i ss) l))) (drop_all i ss far)
 
   module _ (room : p + place_of rs (length ss) ss ≤ end) (i : ℕ) where
-    after_op : (op : Op) → slice_get ss i ≡ Some (step.Do op)
-        → fine_after rs ss w c p end i
+    after_op : (op : Op) → slice_get ss i ≡ Some (step.Do op) → fine_after rs ss w c p end i
         ≡ (suits c w i op && fine_after rs ss w c p end (suc i))
     after_op op is =
         let next : place_of rs i ss + 1 ≡ place_of rs (suc i) ss = sym (place_next rs i ss (step.Do op) is) in
@@ -157,8 +155,7 @@ module _ (rs : List (List Op)) (ss : List Step) (w : Begins) (c : Counts) (p end
         ∙ (λ j. fine j && fine_from c end (far j)
         (moved_ops w p (flat_from rs (λ to. place_of rs to ss) (next j) (drop (suc i) ss))))
 
-    after_call : (call : Call) → slice_get ss i ≡ Some (step.Invoke call)
-        → fine_after rs ss w c p end i
+    after_call : (call : Call) → slice_get ss i ≡ Some (step.Invoke call) → fine_after rs ss w c p end i
         ≡ (fine_from c end (p + place_of rs i ss)
         (moved_ops (further w (window_of call)) (p + place_of rs i ss) (ops_at rs call.routine))
         && fine_after rs ss w c p end (suc i))
@@ -214,8 +211,7 @@ module _ (rs : List (List Op)) (ss : List Step) (w : Begins) (c : Counts) where
       let all = room_of end p room in
       let next = place_next rs i ss (step.Invoke call) is in
       let last = place_end rs (suc i) ss in
-      after_call rs ss w c p end all i call is
-      ∙ ap (λ b. b && fine_after rs ss w c p end (suc i))
+      after_call rs ss w c p end all i call is ∙ ap (λ b. b && fine_after rs ss w c p end (suc i))
       (sym (told end (p + place_of rs i ss) (omega (arith, next, last, all))))
 
   pub passed : (i : ℕ) (answer : Bool) → HasPassed rs ss w c i → IsTurn i answer → answer ≡ true

@@ -48,14 +48,12 @@ more_at rs (x ∷ list) zero r is =
     let ops : List Op = flat rs (steps_of x) in
     ap (ops_at (more_routines (rs ++ ops ∷ []) (map steps_of list))) here
     ∙ more_first (rs ++ ops ∷ []) (map steps_of list) (length rs)
-    (let e = length-append rs (ops ∷ []) in omega (arith, e))
-    ∙ at_end rs ops ∙ ap (ops_in rs) same
+    (let e = length-append rs (ops ∷ []) in omega (arith, e)) ∙ at_end rs ops ∙ ap (ops_in rs) same
 more_at rs (x ∷ list) (suc n) r is =
     let ops : List Op = flat rs (steps_of x) in
     let long : length (rs ++ ops ∷ []) + n ≡ length rs + suc n =
     (let e = length-append rs (ops ∷ []) in omega (arith, e)) in
-    ap (ops_at (more_routines (rs ++ ops ∷ []) (map steps_of list))) (sym long)
-    ∙ more_at (rs ++ ops ∷ []) list n r is
+    ap (ops_at (more_routines (rs ++ ops ∷ []) (map steps_of list))) (sym long) ∙ more_at (rs ++ ops ∷ []) list n r is
 
 pub routine_at : (list : List Routine) (n : ℕ) (r : Routine) → slice_get list n ≡ Some r
     → ops_at (library_in list) n ≡ ops_in (library_in (take n list)) r
@@ -111,8 +109,7 @@ one_more_routine list r h is = more_from [] list r h is
 pub library_more : (list : List Routine) (r : Routine)
     → library_in (list ++ r ∷ []) ≡ library_in list ++ ops_in (library_in list) r ∷ []
 library_more list r =
-    ap (more_routines []) (map-append steps_of list (r ∷ []))
-    ∙ more_both [] (map steps_of list) (steps_of r ∷ [])
+    ap (more_routines []) (map-append steps_of list (r ∷ [])) ∙ more_both [] (map steps_of list) (steps_of r ∷ [])
 
 -- a routine among the first ones
 pub library_first : (list : List Routine) (n k : ℕ) → k < n → n ≤ length list

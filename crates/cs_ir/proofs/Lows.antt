@@ -19,10 +19,8 @@ module _ (n : ℕ) (w : Begins) (low : IsLow n w) where
       (nat_le w.kept (2 ^ 63))
       (and_from (nat_le w.locals.init (2 ^ 63) && nat_le w.locals.control (2 ^ 63)) (nat_le w.locals.audio (2 ^ 63))
       (and_from (nat_le w.locals.init (2 ^ 63)) (nat_le w.locals.control (2 ^ 63))
-      (le-leb w.locals.init (2 ^ 63) (omega (arith, init)))
-      (le-leb w.locals.control (2 ^ 63) (omega (arith, control))))
-      (le-leb w.locals.audio (2 ^ 63) (omega (arith, audio))))
-      (le-leb w.kept (2 ^ 63) (omega (arith, kept))))
+      (le-leb w.locals.init (2 ^ 63) (omega (arith, init))) (le-leb w.locals.control (2 ^ 63) (omega (arith, control))))
+      (le-leb w.locals.audio (2 ^ 63) (omega (arith, audio)))) (le-leb w.kept (2 ^ 63) (omega (arith, kept))))
       (le-leb w.unit (2 ^ 63) (omega (arith, unit)))
 
   -- what is behind by numbers of 32 bits nests less deep

@@ -50,8 +50,7 @@ turned : (xs ys zs : List Res) (g : Res) → Contains (xs ++ (ys ++ zs)) g → C
 turned xs ys zs g c =
     ⊎_elim (λ a. Contains-append_right ys (xs ++ zs) g (Contains-append_left xs zs g a))
     (λ d. ⊎_elim (λ a. Contains-append_left ys (xs ++ zs) g a)
-    (λ b. Contains-append_right ys (xs ++ zs) g (Contains-append_right xs zs g b))
-    (Contains-append_cases ys zs g d))
+    (λ b. Contains-append_right ys (xs ++ zs) g (Contains-append_right xs zs g b)) (Contains-append_cases ys zs g d))
     (Contains-append_cases xs (ys ++ zs) g c)
 
 -- the first two of three lists, in either order
@@ -76,8 +75,7 @@ module _ {X : Type 0} (f : X → List Res) where
   gives (y ∷ ys) x g c d =
       ⊎_elim (λ a. Contains-append_left (f y) (flat_map f ys) g
       (subst (λ z. Contains (f z) g) (sym (first_is y x a)) d))
-      (λ b. Contains-append_right (f y) (flat_map f ys) g (gives ys x g b d))
-      (Contains-append_cases (y ∷ []) ys x c)
+      (λ b. Contains-append_right (f y) (flat_map f ys) g (gives ys x g b d)) (Contains-append_cases (y ∷ []) ys x c)
 
   given : (xs ys : List X) → ((x : X) → Contains xs x → Contains ys x) → (g : Res) → Contains (flat_map f xs) g
       → Contains (flat_map f ys) g
@@ -93,8 +91,7 @@ module _ {X Y : Type 0} (f : X → List Y) where
   pub flat_next : (xs : List X) (i : ℕ) (x : X) → i < length xs → x ≡ get_or xs i x
       → flat_map f (take i xs) ++ f x ≡ flat_map f (take (i + 1) xs)
   flat_next xs i x low is =
-      ap (λ l. flat_map f (take i xs) ++ l) (sym (append-nil (f x)))
-      ∙ sym (flat_map-append f (take i xs) (x ∷ []))
+      ap (λ l. flat_map f (take i xs) ++ l) (sym (append-nil (f x))) ∙ sym (flat_map-append f (take i xs) (x ∷ []))
       ∙ ap (flat_map f) (ap (λ y. take i xs ++ y ∷ []) is ∙ sym (take_more xs i x low))
 
 -- ---- what is touched, where something is
@@ -144,8 +141,7 @@ module _ (t : Access) (stock : Stock) (rs : List (List Op)) where
       (append_assoc (act_touches t stock op.act) own routines))
       (same_both (act_touches t stock op.act) (act_touches t stock (placed f op.act)) (own ++ routines) rest
       (same_is (act_touches t stock op.act) (act_touches t stock (placed f op.act))
-      (sym (placed_touch t stock f op.act)))
-      (steps_name_from f (p + 1) ss))
+      (sym (placed_touch t stock f op.act))) (steps_name_from f (p + 1) ss))
   steps_name_from f p (step.Invoke c ∷ ss) =
       let own = own_touches t stock ss in
       let ops = ops_at rs c.routine in
@@ -153,8 +149,7 @@ module _ (t : Access) (stock : Stock) (rs : List (List Op)) where
       let rest = flat_from rs f q ss in
       let routines = routines_touch t stock rs (invoked ss) in
       same_then (own ++ (ops_touch t stock ops ++ routines)) (ops_touch t stock ops ++ (own ++ routines))
-      (ops_touch t stock (moved_ops (window_of c) p ops ++ rest))
-      (same_turned own (ops_touch t stock ops) routines)
+      (ops_touch t stock (moved_ops (window_of c) p ops ++ rest)) (same_turned own (ops_touch t stock ops) routines)
       (same_then (ops_touch t stock ops ++ (own ++ routines)) (ops_touch t stock ops ++ ops_touch t stock rest)
       (ops_touch t stock (moved_ops (window_of c) p ops ++ rest))
       (same_both (ops_touch t stock ops) (ops_touch t stock ops) (own ++ routines) (ops_touch t stock rest)
@@ -199,8 +194,7 @@ same_added before now more touched is same =
 
 -- one routine more of those that are looked at in turn
 pub same_next : (t : Access) (stock : Stock) (rs : List (List Op)) (ns : List ℕ) (i n : ℕ) (before now then : List Res)
-    → i < length ns → n ≡ get_or ns i 0
-    → NameTheSame now (before ++ routines_touch t stock rs (take i ns))
+    → i < length ns → n ≡ get_or ns i 0 → NameTheSame now (before ++ routines_touch t stock rs (take i ns))
     → NameTheSame then (now ++ ops_touch t stock (ops_at rs n))
     → NameTheSame then (before ++ routines_touch t stock rs (take (i + 1) ns))
 same_next t stock rs ns i n before now then low is old new =
@@ -208,27 +202,22 @@ same_next t stock rs ns i n before now then low is old new =
     let past = routines_touch t stock rs (take i ns) in
     let next = routines_touch t stock rs (take (i + 1) ns) in
     let here : n ≡ get_or ns i n = is ∙ get_or_default ns i 0 n low in
-    same_then then (now ++ ops) (before ++ next) new
-    (same_then (now ++ ops) ((before ++ past) ++ ops) (before ++ next)
-    (same_both now (before ++ past) ops ops old (same_itself ops))
-    (same_is ((before ++ past) ++ ops) (before ++ next)
+    same_then then (now ++ ops) (before ++ next) new (same_then (now ++ ops) ((before ++ past) ++ ops) (before ++ next)
+    (same_both now (before ++ past) ops ops old (same_itself ops)) (same_is ((before ++ past) ++ ops) (before ++ next)
     (append_assoc before past ops
     ∙ ap (λ l. before ++ l) (flat_next (λ k. ops_touch t stock (ops_at rs k)) ns i n low here))))
 
 -- own ops and routines, the numbers of which stand in any order and number
 pub same_all : (t : Access) (stock : Stock) (rs : List (List Op)) (ss : List Step) (ns : List ℕ) (own now : List Res)
     → own ≡ own_touches t stock ss → ((n : ℕ) → Contains ns n ↔ Contains (invoked ss) n)
-    → NameTheSame now (own ++ routines_touch t stock rs ns)
-    → NameTheSame now (ops_touch t stock (flat rs ss))
+    → NameTheSame now (own ++ routines_touch t stock rs ns) → NameTheSame now (ops_touch t stock (flat rs ss))
 same_all t stock rs ss ns own now is numbers same =
     let routines = routines_touch t stock rs (invoked ss) in
     same_then now (own ++ routines_touch t stock rs ns) (ops_touch t stock (flat rs ss)) same
     (same_then (own ++ routines_touch t stock rs ns) (own_touches t stock ss ++ routines)
-    (ops_touch t stock (flat rs ss))
-    (same_both own (own_touches t stock ss) (routines_touch t stock rs ns) routines
+    (ops_touch t stock (flat rs ss)) (same_both own (own_touches t stock ss) (routines_touch t stock rs ns) routines
     (same_is own (own_touches t stock ss) is)
-    (same_given (λ k. ops_touch t stock (ops_at rs k)) ns (invoked ss) numbers))
-    (steps_name t stock rs ss))
+    (same_given (λ k. ops_touch t stock (ops_at rs k)) ns (invoked ss) numbers)) (steps_name t stock rs ss))
 
 -- ---- what is touched is known by its numbers
 

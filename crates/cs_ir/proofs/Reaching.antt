@@ -61,10 +61,8 @@ moved_reg_limit : (w : Begins) (k : Kind) (q : Reg)
     → reg_limit k (moved_reg w q) ≡ behind (begin_of w k) (reg_limit k q)
 moved_reg_limit w k q = by_test (same_kind q.kind k)
     (λ yes. let there : q.kind ≡ k = kind_is q.kind k yes in
-    ap (λ b. if b then begin_of w q.kind + q.offset + 1 else 0) yes
-    ∙ ap (λ j. begin_of w j + q.offset + 1) there
-    ∙ behind_one (begin_of w k) q.offset
-    ∙ ap (λ b. behind (begin_of w k) (if b then q.offset + 1 else 0)) (sym yes))
+    ap (λ b. if b then begin_of w q.kind + q.offset + 1 else 0) yes ∙ ap (λ j. begin_of w j + q.offset + 1) there
+    ∙ behind_one (begin_of w k) q.offset ∙ ap (λ b. behind (begin_of w k) (if b then q.offset + 1 else 0)) (sym yes))
     (λ no. ap (λ b. if b then begin_of w q.kind + q.offset + 1 else 0) no
     ∙ ap (λ b. behind (begin_of w k) (if b then q.offset + 1 else 0)) (sym no))
 
@@ -92,8 +90,7 @@ steps_from rs k f p (s ∷ ss) =
     let rest = steps_from rs k f (p + size rs s) ss in
     most_both (op_limit k) (flat_step rs f p s) (flat_from rs f (p + size rs s) ss) ∙ (λ i. max (one i) (rest i))
 
-pub steps_end : (rs : List (List Op)) (k : Kind) (ss : List Step)
-    → ops_limit k (flat rs ss) ≡ steps_limit rs k ss
+pub steps_end : (rs : List (List Op)) (k : Kind) (ss : List Step) → ops_limit k (flat rs ss) ≡ steps_limit rs k ss
 steps_end rs k ss = steps_from rs k (λ to. place_of rs to ss) 0 ss
 
 -- ---- a call, by what its routine keeps

@@ -20,7 +20,6 @@ take_none bound (suc n) (x ∷ xs) h = same_suc n (length xs) ∙ take_none boun
 
 -- once all letters were gone through, all registers must have been
 pub all_taken : (ls : List Letter) (i : ℕ) (bound : Rate) (n : ℕ) (xs : List Reg) (b : Bool) → n ≤ length xs
-    → length ls ≤ i
-    → take_all (filter is_moving (drop i ls)) bound (drop n xs) ≡ b → nat_eq n (length xs) ≡ b
+    → length ls ≤ i → take_all (filter is_moving (drop i ls)) bound (drop n xs) ≡ b → nat_eq n (length xs) ≡ b
 all_taken ls i bound n xs b h past e =
     take_none bound n xs h ∙ subst (λ t. take_all (filter is_moving t) bound (drop n xs) ≡ b) (drop_all i ls past) e

@@ -51,8 +51,7 @@ gave old c row sum all low long frames same = record {
 
     at : (n : ℕ) → row_wave (slice_index_or (slice_set old.rows c sum) n [])
         ≡ (if n == c then both op.Add (outs old n) (row_wave row) else outs old n)
-    at n = by_test (n == c)
-        (λ yes. ap row_wave (set_at_place old.rows c sum [] low n
+    at n = by_test (n == c) (λ yes. ap row_wave (set_at_place old.rows c sum [] low n
         ∙ ap (λ b. if b then sum else slice_index_or old.rows n []) yes)
         ∙ is_sum ∙ ap (λ m. both op.Add (outs old m) (row_wave row)) (sym (eqb-true n c yes))
         ∙ sym (ap (λ b. if b then both op.Add (outs old n) (row_wave row) else outs old n) yes))
@@ -77,13 +76,11 @@ cleared_more rows n k row low is done m h = ap row_wave (set_at_place rows k row
 pub all_cleared : (rows : List (List ℤ)) (k : ℕ) → length rows ≤ k
     → ((m : ℕ) → m < k → row_wave (slice_index_or rows m []) ≡ silence)
     → (m : ℕ) → row_wave (slice_index_or rows m []) ≡ silence
-all_cleared rows k far done m = by_test (nat_lt m k)
-    (λ yes. done m (ltb-true m k yes))
+all_cleared rows k far done m = by_test (nat_lt m k) (λ yes. done m (ltb-true m k yes))
     (λ no. let past : k ≤ m = at_or_past m k no in ap row_wave (get_or_past rows m [] (omega (arith, far, past))))
 
 pub length_kept : (rows : List (List ℤ)) (n k : ℕ) (row : List ℤ) → k < length rows
-    → row ≡ replicate (length (slice_index_or rows k [])) (pos 0)
-    → AreRows n rows → AreRows n (slice_set rows k row)
+    → row ≡ replicate (length (slice_index_or rows k [])) (pos 0) → AreRows n rows → AreRows n (slice_set rows k row)
 length_kept rows n k row low is all m less =
     lengths_kept rows k row low (ap length is ∙ length-replicate (length (slice_index_or rows k [])) (pos 0)) m
     ∙ all m (let e : length (slice_set rows k row) ≡ length rows = length-set rows k row in omega (arith, e, less))

@@ -72,8 +72,7 @@ pub nothing_cleared : (areas : List Area) (test : Res → Bool) (cells : ℕ →
 nothing_cleared areas test cells none = λ i a. sym (at a) i
   where
     at : (a : ℕ) → cleared_in areas test cells a ≡ cells a
-    at a = ap (λ b. if b then pos 0 else cells a)
-        (any_none (λ (x : Area). in_area (Some x) a && test x.res) areas
+    at a = ap (λ b. if b then pos 0 else cells a) (any_none (λ (x : Area). in_area (Some x) a && test x.res) areas
         (λ x. ap (λ b. in_area (Some x) a && b) (none x.res) ∙ and-false (in_area (Some x) a)))
 
 -- what is cleared by one test and then by another is cleared by both
@@ -83,8 +82,7 @@ cleared_twice areas p q r cells same = λ i a. at a i
   where
     lies : (a : ℕ) → lies_cleared areas r a ≡ (lies_cleared areas p a || lies_cleared areas q a)
     lies a = any_or (λ (x : Area). in_area (Some x) a && p x.res) (λ (x : Area). in_area (Some x) a && q x.res)
-        (λ (x : Area). in_area (Some x) a && r x.res) areas
-        (λ x. ap (λ b. in_area (Some x) a && b) (same x.res)
+        (λ (x : Area). in_area (Some x) a && r x.res) areas (λ x. ap (λ b. in_area (Some x) a && b) (same x.res)
         ∙ and-or_distrib_left (in_area (Some x) a) (p x.res) (q x.res))
 
     at : (a : ℕ) → cleared_in areas q (cleared_in areas p cells) a ≡ cleared_in areas r cells a
@@ -153,8 +151,7 @@ none_cleared s r m g = refl
 -- one number more
 number_more : (test : ℕ → Bool) (m n i : ℕ) → m ≤ n → (test i && (nat_le m i && nat_lt i (n + 1)))
     ≡ ((test i && (nat_le m i && nat_lt i n)) || (test n && (i == n)))
-number_more test m n i low = by_test (i == n)
-    (λ yes. subst (λ k. (test k && (nat_le m k && nat_lt k (n + 1)))
+number_more test m n i low = by_test (i == n) (λ yes. subst (λ k. (test k && (nat_le m k && nat_lt k (n + 1)))
     ≡ ((test k && (nat_le m k && nat_lt k n)) || (test n && (k == n)))) (sym (eqb-true i n yes)) here)
     (λ no. let same : nat_lt i (n + 1) ≡ nat_lt i n = other no in
     ap (λ b. test i && (nat_le m i && b)) same ∙ or_nothing (test i && (nat_le m i && nat_lt i n)) (test n)
@@ -212,8 +209,7 @@ between_is (negsuc x) (negsuc y) n = refl
 
 -- a number among so many comes before the end where it isn't above the last
 before_end : (count k n : ℕ) → n < count → nat_lt n (end_of count (Some k)) ≡ nat_le n k
-before_end count k n low = by_test (nat_lt k count)
-    (λ yes. ap (λ b. nat_lt n (if b then k + 1 else count)) yes ∙ next)
+before_end count k n low = by_test (nat_lt k count) (λ yes. ap (λ b. nat_lt n (if b then k + 1 else count)) yes ∙ next)
     (λ no. ap (λ b. nat_lt n (if b then k + 1 else count)) no ∙ all no)
   where
     next : nat_lt n (k + 1) ≡ nat_le n k
@@ -227,8 +223,7 @@ before_end count k n low = by_test (nat_lt k count)
         let under : nat_le n k ≡ true = grind (arith, nat_tests) in less ∙ sym under
 
 after_from : (end m n : ℕ) → nat_lt n end ≡ true → nat_le (from_of end (Some m)) n ≡ nat_le m n
-after_from end m n low = by_test (nat_lt m end)
-    (λ yes. ap (λ b. nat_le (if b then m else end) n) yes)
+after_from end m n low = by_test (nat_lt m end) (λ yes. ap (λ b. nat_le (if b then m else end) n) yes)
     (λ no. ap (λ b. nat_le (if b then m else end) n) no
     ∙ (let past : nat_le end n ≡ false = grind (arith, nat_tests) in
     let far : nat_le m n ≡ false = grind (arith, nat_tests) in past ∙ sym far))
@@ -267,8 +262,7 @@ module _ (areas : List Area) (piece : Piece) (spaces : Spaces) (are : AreSpaces 
   cleared_place s r first last n a at =
       let there : nat_lt n (places_of piece.spaces s) ≡ true =
       ap (λ (sp : Spaces). nat_lt n (places_of sp s)) same ∙ counted s n a at in
-      (λ i. (there i && reaches r n) && between_is first last n i)
-      ∙ ap (λ b. reaches r n && b)
+      (λ i. (there i && reaches r n) && between_is first last n i) ∙ ap (λ b. reaches r n && b)
       (sym (within_is (places_of spaces s) (index first) (index last) n
       (ltb-true n (places_of spaces s) (counted s n a at))))
 
@@ -286,7 +280,6 @@ module _ (areas : List Area) (piece : Piece) (spaces : Spaces) (are : AreSpaces 
     where
       lies : (a : ℕ) → lies_cleared areas (clears s r (from s first last) (end s last)) a
           ≡ lies_cleared areas (is_cleared piece s r first last) a
-      lies a = any_same
-          (λ (x : Area). in_area (Some x) a && clears s r (from s first last) (end s last) x.res)
+      lies a = any_same (λ (x : Area). in_area (Some x) a && clears s r (from s first last) (end s last) x.res)
           (λ (x : Area). in_area (Some x) a && is_cleared piece s r first last x.res) areas
           (λ k x at. ap (λ b. in_area (Some x) a && b) (cleared_is s r first last x.res x (own areas k x laid at)))

@@ -40,8 +40,7 @@ module _ (area : Area) (cells : ℕ → ℤ) where
   front_long : length (take (len_of (length (live_points area cells))) (live_points area cells)) ≡ len_of area.length
   front_long =
       length-take-le (len_of (length (live_points area cells))) (live_points area cells)
-      (len_most (length (live_points area cells)))
-      ∙ ap len_of points_long
+      (len_most (length (live_points area cells))) ∙ ap len_of points_long
 
   pub curve_long : length (curve_of (live_points area cells)) ≡ len_of area.length + 1
   curve_long =
@@ -65,11 +64,9 @@ module _ (area : Area) (cells : ℕ → ℤ) where
   live_point place low =
       get_or_append_left (take (len_of (length (live_points area cells))) (live_points area cells))
       (slice_index_or (live_points area cells) (guard_place (length (live_points area cells))) (pos 0) ∷ []) (pos 0)
-      place
-      (subst (λ n. place < n) (sym front_long) low)
+      place (subst (λ n. place < n) (sym front_long) low)
       ∙ get_or-take (len_of (length (live_points area cells))) (live_points area cells) place (pos 0)
-      (subst (λ n. place < len_of n) (sym points_long) low)
-      ∙ point place (place_within area.length place low)
+      (subst (λ n. place < len_of n) (sym points_long) low) ∙ point place (place_within area.length place low)
 
   pub live_guard : (place : ℕ) → is_len (len_of area.length) ≡ true → place ≡ len_of area.length
       → argument (curve_of (live_points area cells)) place ≡ cells (area.first + guard_place area.length)
@@ -77,8 +74,7 @@ module _ (area : Area) (cells : ℕ → ℤ) where
       ap (argument (curve_of (live_points area cells))) is
       ∙ get_or_at (take (len_of (length (live_points area cells))) (live_points area cells))
       (slice_index_or (live_points area cells) (guard_place (length (live_points area cells))) (pos 0)) [] (pos 0)
-      (len_of area.length) front_long
-      ∙ ap (λ n. argument (live_points area cells) (guard_place n)) points_long
+      (len_of area.length) front_long ∙ ap (λ n. argument (live_points area cells) (guard_place n)) points_long
       ∙ point (guard_place area.length) (guard_within area.length power)
 
   -- what is read at a place, whichever cell it stands in

@@ -20,8 +20,7 @@ pub record SameRoom (old new : State) : Type 0 where
 
 -- such a state still is one of its code and piece
 pub still_in : (areas : List Area) (piece : Piece) (kinds : Kinds) (counts : Counts) (old new : State)
-    → SameRoom old new
-    → IsStateIn areas piece kinds counts old → IsStateIn areas piece kinds counts new
+    → SameRoom old new → IsStateIn areas piece kinds counts old → IsStateIn areas piece kinds counts new
 still_in areas piece kinds counts old new same state = record {
   registers = same.counts ∙ state.registers;
   frames = same.frames ∙ state.frames;
@@ -112,12 +111,10 @@ pub record KeepsMachine (old new : State) : Type 0 where
 
 pub changes : {areas : List Area} {piece : Piece} {kinds : Kinds} {counts : Counts} {act : Act} {into : Reg}
     {from : List Reg} {old new : State} {before after : ℕ → ℤ} → KeepsMachine old new
-    → IsStateIn areas piece kinds counts old
-    → length new.row.items ≡ old.regs.ksmps
+    → IsStateIn areas piece kinds counts old → length new.row.items ≡ old.regs.ksmps
     → ((next : ℕ) (asks : List (List ℤ)) (cause : Option Cause)
     → acts (voice_world areas piece) act into (map (values old.regs) from) (machine_of old before next asks cause)
-    ≡ machine_of old after next asks cause)
-    → Does areas piece kinds counts act into from old before new after
+    ≡ machine_of old after next asks cause) → Does areas piece kinds counts act into from old before new after
 changes {areas} {piece} {kinds} {counts} {act} {into} {from} {old} {new} {before} {after} kept state row does = record {
   machine = λ next asks cause. same_machine next asks cause ∙ sym (does next asks cause);
   state = still_in areas piece kinds counts old new (record {

@@ -31,8 +31,7 @@ some_first (x ∷ areas) g zero h =
           (subst (λ r. same_res r g ≡ true) (sym same) (same_res_here g)),
     )
 some_first (x ∷ areas) g (suc place) h =
-    by_test (same_res x.res g)
-    (λ here. (x, if_true (same_res x.res g) (Some x) (area_of areas g) here))
+    by_test (same_res x.res g) (λ here. (x, if_true (same_res x.res g) (Some x) (area_of areas g) here))
     (λ later. let rest = some_first areas g place
     h in (rest.0, if_false (same_res x.res g) (Some x) (area_of areas g) later ∙ rest.1))
 

@@ -93,3 +93,8 @@ all_written n new old long =
 pub vector_frames : (w : Wave) (n : ℕ) (new old : List ℤ) → length new ≡ n → HasFrames w new
     → HasFrames w (take n (new ++ drop (length new) old))
 vector_frames w n new old long = subst (HasFrames w) (sym (all_written n new old long))
+
+-- and as many as these
+pub vector_long : (n k : ℕ) (new old : List ℤ) → length new ≡ n → length new ≡ k
+    → length (take n (new ++ drop (length new) old)) ≡ k
+vector_long n k new old long is = ap length (all_written n new old long) ∙ is

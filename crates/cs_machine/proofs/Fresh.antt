@@ -1,6 +1,6 @@
 -- A state that was just made.
-use Rattle.std.proofs.Common.{◌≡◌, ℕ, ◌<◌, ◌≤◌, length, replicate, nat_lt, Option, None, arith, ltb-true}
-use Rattle.std.proofs.Common.{slice_index_or}
+use Rattle.std.proofs.Common.{◌≡◌, ◌∙◌, ℕ, ◌<◌, ◌≤◌, length, replicate, nat_lt, Option, None, Some, arith, ltb-true}
+use Rattle.std.proofs.Common.{slice_index_or, sym}
 use Rattle.std.specs.Option.{option_map}
 use Rattle.std.proofs.lemmas.{List.get_or-replicate, List.get_or_past, List.length-replicate, Bool.Decides.nat_tests}
 use Rattle.cs_base.proofs.Tests.{by_test}
@@ -19,3 +19,6 @@ no_unit n u = by_test (nat_lt u n)
 
 pub no_units : (n : ℕ) → unit_at (replicate n nothing) ≡ (λ u. None)
 no_units n = λ i u. option_map playing (no_unit n u i)
+
+pub no_player : (n u : ℕ) (p : PlayerData) → slice_index_or (replicate n nothing) u nothing ≡ Some p → ⊥
+no_player n u p h = let none : nothing ≡ Some p = sym (no_unit n u) ∙ h in cc

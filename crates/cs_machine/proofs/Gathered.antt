@@ -76,8 +76,7 @@ pub seven_last : (P : Operand → Type 0) (a b c d e g h : Operand) → P a → 
     → All P (a ∷ b ∷ c ∷ d ∷ e ∷ g ∷ h ∷ [])
 seven_last P a b c d e g h x0 x1 x2 x3 x4 x5 x6 =
     All-cons P a (b ∷ c ∷ d ∷ e ∷ g ∷ h ∷ []) x0
-    (All-cons P b (c ∷ d ∷ e ∷ g ∷ h ∷ []) x1 (All-cons P c (d ∷ e ∷ g ∷ h ∷ []) x2
-    (All-cons P d (e ∷ g ∷ h ∷ []) x3
+    (All-cons P b (c ∷ d ∷ e ∷ g ∷ h ∷ []) x1 (All-cons P c (d ∷ e ∷ g ∷ h ∷ []) x2 (All-cons P d (e ∷ g ∷ h ∷ []) x3
     (All-cons P e (g ∷ h ∷ []) x4 (All-cons P g (h ∷ []) x5 (All-cons P h [] x6 (All-nil P)))))))
 
 -- operands that stand for registers, as many of them, are what the registers are
@@ -94,8 +93,7 @@ same_inputs f os rs points long h = λ i j. at os rs long h j i ++ points
         λ i. h 0 (omega arith) j i ∷ at os rs (omega (arith, long)) (λ k low. h (suc k) (omega (arith, low))) j i
 
 pub same_firsts : (f : Reg → Wave) (xs : List ℤ) (rs : List Reg) → length rs ≤ length xs
-    → ((j : ℕ) → j < length rs → IsFirstAt f xs rs j)
-    → take (length rs) xs ≡ map (λ (w : Wave). w 0) (map f rs)
+    → ((j : ℕ) → j < length rs → IsFirstAt f xs rs j) → take (length rs) xs ≡ map (λ (w : Wave). w 0) (map f rs)
 same_firsts f xs [] long h = refl
 same_firsts f [] (r ∷ rs) long h = absurd (omega (arith, long))
 same_firsts f (x ∷ xs) (r ∷ rs) long h =

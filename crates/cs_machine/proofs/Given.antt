@@ -20,8 +20,7 @@ pub record KeepsAllButOuts (old new : State) : Type 0 where
   pub row : new.row ≡ old.row
 
 pub given_machine : (old new : State) (c : ℕ) (w : Wave) → KeepsAllButOuts old new → IsGiven old.outs c w new.outs
-    → (cells : ℕ → ℤ) (next : ℕ) (asks : List (List ℤ)) (cause : Option Cause)
-    → machine_of new cells next asks
+    → (cells : ℕ → ℤ) (next : ℕ) (asks : List (List ℤ)) (cause : Option Cause) → machine_of new cells next asks
     cause ≡ (let m : Machine VoiceState = machine_of old cells next asks cause in in_world (out_to c w m.world) m)
 given_machine old new c w rest given cells next asks cause = λ i. record {
   regs = values (rest.regs i);
@@ -43,8 +42,7 @@ pub gives_to : (areas : List Area) (piece : Piece) (kinds : Kinds) (counts : Cou
     (old new : State) (cells : ℕ → ℤ) → KeepsAllButOuts old new → IsStateIn areas piece kinds counts old
     → IsGiven old.outs c w new.outs
     → ((m : Machine VoiceState) → acts (voice_world areas piece) act into (map (values old.regs) from) m
-    ≡ in_world (out_to c w m.world) m)
-    → Does areas piece kinds counts act into from old cells new cells
+    ≡ in_world (out_to c w m.world) m) → Does areas piece kinds counts act into from old cells new cells
 gives_to areas piece kinds counts act into from c w old new cells rest state given does = record {
   machine = λ next asks cause. given_machine old new c w rest given cells next asks cause
       ∙ sym (does (machine_of old cells next asks cause));
@@ -60,8 +58,7 @@ gives_to areas piece kinds counts act into from c w old new cells rest state giv
 
 -- what is given to the channel of a number, and nothing where there is no such channel
 pub numbered_channel : (channels : ℕ) (number : Option ℕ) (c : ℕ) (w : Wave) (x : VoiceState)
-    → channel_below channels number ≡ Some c
-    → out_to_numbered channels number w x ≡ out_to c w x
+    → channel_below channels number ≡ Some c → out_to_numbered channels number w x ≡ out_to c w x
 numbered_channel channels None c w x h = cc
 numbered_channel channels (Some n) c w x h = at (nat_le 1 n && nat_le n channels) h
   where

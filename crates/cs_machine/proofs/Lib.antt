@@ -11,5 +11,6 @@ pub mod Unchanging
 pub mod Done
 pub mod Fresh
 pub mod Given
+pub mod Placed
 pub mod Quotients
 pub mod Zeros

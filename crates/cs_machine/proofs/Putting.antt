@@ -16,6 +16,7 @@ use Rattle.cs_ir.specs.Waves.{Wave, chosen, held, silence, constant}
 use Rattle.cs_machine.specs.Registers.{RegisterFile, IsWritten, filled, held_at, held_kinds, one_of, register, regs_of}
 use Rattle.cs_machine.specs.Registers.{row_in, sound_kinds, values}
 use Rattle.cs_machine.specs.{Rows.HasFrames, Rows.row_wave, Rows.row_of, inner.Kept.AreKept, inner.Kept.AreRows}
+use Rattle.cs_machine.specs.inner.Kept.{zeros_of}
 use Rattle.cs_machine.proofs.Frames.{apart, held_row, row_held, zeros_silent, row_again}
 use Rattle.cs_signal.specs.Operands.{argument}
 use Rattle.cs_base.specs.declared.resource.Rate.TheVariants as rate
@@ -150,9 +151,6 @@ zeros_sound n ksmps m = by_test (nat_lt m n)
     (let e : length (replicate n (replicate ksmps (pos 0))) ≡ n =
     length-replicate n (replicate ksmps (pos 0)) in omega (arith, far, e))))
 
-abbrev pub zeros_of : Counts → List Kind → List (List ℤ)
-zeros_of counts kinds = map (λ k. replicate (at_kind counts.registers k) (pos 0)) kinds
-
 abbrev pub rows_of_zeros : Counts → ℕ → List Kind → List (List (List ℤ))
 rows_of_zeros counts ksmps kinds =
     map (λ k. replicate (at_kind counts.registers k) (replicate ksmps (pos 0))) kinds
@@ -176,8 +174,7 @@ pub lengths_kept : {A : Type 0} (rows : List (List A)) (k : ℕ) (own : List A) 
     → length (slice_index_or (slice_set rows k own) j []) ≡ length (slice_index_or rows j [])
 lengths_kept rows k own there long j =
     ap length (set_at_place rows k own [] there j) ∙ through length (j == k) own (slice_index_or rows j [])
-    ∙ by_test (j == k)
-    (λ yes. ap (λ b. if b then length own else length (slice_index_or rows j [])) yes ∙ long
+    ∙ by_test (j == k) (λ yes. ap (λ b. if b then length own else length (slice_index_or rows j [])) yes ∙ long
     ∙ ap (λ i. length (slice_index_or rows i [])) (sym (eqb-true j k yes)))
     (λ no. ap (λ b. if b then length own else length (slice_index_or rows j [])) no)
 
@@ -206,8 +203,7 @@ held_kept ones rows counts ksmps q z kept slow = record {
     long = length-set (slice_index_or ones k []) q.offset z
 
 pub sound_kept : (ones : List (List ℤ)) (rows : List (List (List ℤ))) (counts : Counts) (ksmps : ℕ) (q : Reg)
-    (row : List ℤ)
-    → AreKept ones rows counts ksmps → is_audio (rate_at q) ≡ true → length row ≡ ksmps
+    (row : List ℤ) → AreKept ones rows counts ksmps → is_audio (rate_at q) ≡ true → length row ≡ ksmps
     → q.offset < length (slice_index_or rows (kind_number q.kind - 5) [])
     → AreKept ones (slice_set rows (kind_number q.kind - 5)
     (slice_set (slice_index_or rows (kind_number q.kind - 5) []) q.offset row)) counts ksmps
@@ -275,8 +271,7 @@ new_kept counts ksmps = record {
     long (suc (suc k)) m low = absurd (omega (arith, low))
 
 -- rows and numbers made for the registers of each kind
-pub five_made : (counts : Counts) (a b c d e : List ℤ)
-    → a ≡ replicate (at_kind counts.registers kind.LocalInit) (pos 0)
+pub five_made : (counts : Counts) (a b c d e : List ℤ) → a ≡ replicate (at_kind counts.registers kind.LocalInit) (pos 0)
     → b ≡ replicate (at_kind counts.registers kind.LocalControl) (pos 0)
     → c ≡ replicate (at_kind counts.registers kind.Kept) (pos 0)
     → d ≡ replicate (at_kind counts.registers kind.TemporaryInit) (pos 0)
@@ -296,8 +291,7 @@ pub made_silent : (counts : Counts) (ksmps : ℕ) (ones : List (List ℤ)) (rows
 made_silent counts ksmps ones rows e h = (λ i. regs_of (e i) (h i)) ∙ new_silent counts ksmps
 
 pub made_kept : (counts : Counts) (ksmps : ℕ) (ones : List (List ℤ)) (rows : List (List (List ℤ)))
-    → ones ≡ zeros_of counts held_kinds → rows ≡ rows_of_zeros counts ksmps sound_kinds
-    → AreKept ones rows counts ksmps
+    → ones ≡ zeros_of counts held_kinds → rows ≡ rows_of_zeros counts ksmps sound_kinds → AreKept ones rows counts ksmps
 made_kept counts ksmps ones rows e h =
     subst (λ o. AreKept o rows counts ksmps) (sym e)
     (subst (λ r. AreKept (zeros_of counts held_kinds) r counts ksmps) (sym h) (new_kept counts ksmps))
@@ -317,15 +311,13 @@ five xs d h = absurd (omega (arith, h))
 module _ (f : RegisterFile) (h : AreKept f.held f.sounds f.counts f.ksmps) where
   ones_again : (k : Kind) → is_audio (rate_of k) ≡ false
       → map (λ m. argument (slice_index_or f.held (kind_number k) []) m)
-      (range_with_len 0 (at_kind f.counts.registers k))
-      ≡ slice_index_or f.held (kind_number k) []
+      (range_with_len 0 (at_kind f.counts.registers k)) ≡ slice_index_or f.held (kind_number k) []
   ones_again k slow =
       row_again (at_kind f.counts.registers k) (slice_index_or f.held (kind_number k) []) (h.held k slow)
 
   rows_again : (k : Kind) → is_audio (rate_of k) ≡ true
       → map (λ m. row_of f.ksmps (row_in f.sounds (kind_number k - 5) m))
-      (range_with_len 0 (at_kind f.counts.registers k))
-      ≡ slice_index_or f.sounds (kind_number k - 5) []
+      (range_with_len 0 (at_kind f.counts.registers k)) ≡ slice_index_or f.sounds (kind_number k - 5) []
   rows_again k sound =
       let n : ℕ = at_kind f.counts.registers k in
       let own : List (List ℤ) = slice_index_or f.sounds (kind_number k - 5) [] in
@@ -334,8 +326,7 @@ module _ (f : RegisterFile) (h : AreKept f.held f.sounds f.counts f.ksmps) where
       let has : length own ≡ n = h.sounds k sound in
       ext_get_or [] (map row (range_with_len 0 n)) own (long ∙ sym has)
       (λ m low. get_or-map-range_with_len row 0 n m m [] (omega (arith, low, long)) (omega arith)
-      ∙ row_again f.ksmps (slice_index_or own m [])
-      (h.long (kind_number k - 5) m (omega (arith, low, long, has))))
+      ∙ row_again f.ksmps (slice_index_or own m []) (h.long (kind_number k - 5) m (omega (arith, low, long, has))))
 
   pub filled_again : filled f (values f) ≡ f
   filled_again = λ t. record f { held = helds t; sounds = all t }
@@ -370,8 +361,7 @@ wrote_held f q z slow there low = record {
     constant_held r s = refl
 
 pub wrote_sound : (f : RegisterFile) (q : Reg) (row : List ℤ) → is_audio (rate_at q) ≡ true → length row ≡ f.ksmps
-    → kind_number q.kind - 5 < length f.sounds
-    → q.offset < length (slice_index_or f.sounds (kind_number q.kind - 5) [])
+    → kind_number q.kind - 5 < length f.sounds → q.offset < length (slice_index_or f.sounds (kind_number q.kind - 5) [])
     → IsWritten f q (row_wave row) (record f {
       sounds = slice_set f.sounds (kind_number q.kind - 5)
           (slice_set (slice_index_or f.sounds (kind_number q.kind - 5) []) q.offset row);
@@ -461,8 +451,7 @@ low_in_memory : {A B : Type 0} (f : A → List B) (xs : List A) (k j n : ℕ) (x
 low_in_memory f xs k j n x same low less =
     subst (λ l. n < length l) (ap (λ i. slice_index_or (map f xs) i []) (sym same) ∙ get_or-map f xs k x [] low) less
 
-there_inside : (inside old : Counts) (q : Reg) → inside ≡ old → has_register old q ≡ true
-    → has_register inside q ≡ true
+there_inside : (inside old : Counts) (q : Reg) → inside ≡ old → has_register old q ≡ true → has_register inside q ≡ true
 there_inside inside old q same there = ap (λ c. has_register c q) same ∙ there
 
 module _ {A : Type 0} (f : A → List ℤ) (ones : List A) (rows : List (List (List ℤ))) (counts : Counts) (ksmps : ℕ)
@@ -529,8 +518,7 @@ module _ {A : Type 0} (f : A → List (List ℤ)) (ones : List (List ℤ)) (rows
   sound_long x row at =
       ap length (at ∙ ap (λ l. slice_index_or l q.offset []) (sym (get_or-map f rows k x [] sound_row_there)))
       ∙ kept.long k q.offset (subst (λ j. q.offset < length (slice_index_or (map f rows) j [])) (sym is)
-      sound_low_there)
-      ∙ ap (λ r. r.ksmps) same
+      sound_low_there) ∙ ap (λ r. r.ksmps) same
 
   pub sound_set : (x new : A) (row : List ℤ) → length row ≡ old.ksmps
       → f new ≡ slice_set (f (slice_index_or rows k x)) q.offset row
@@ -540,8 +528,7 @@ module _ {A : Type 0} (f : A → List (List ℤ)) (ones : List (List ℤ)) (rows
       (sound_kept ones (map f rows) counts ksmps q row kept sound (long ∙ sym (ap (λ r. r.ksmps) same)) sound_low_there)
 
   pub sound_written : (x new : A) (row : List ℤ) → length row ≡ old.ksmps
-      → f new ≡ slice_set (f (slice_index_or rows k x)) q.offset row
-      → IsWritten old q (row_wave row)
+      → f new ≡ slice_set (f (slice_index_or rows k x)) q.offset row → IsWritten old q (row_wave row)
       (record { held = ones; sounds = map f (slice_set rows k new); counts = counts; ksmps = ksmps })
   sound_written x new row long set =
       let before : RegisterFile = record { held = ones; sounds = map f rows; counts = counts; ksmps = ksmps } in

@@ -39,8 +39,7 @@ same_place p f a e = let is : a - f ≡ p = omega (arith, e) in grind (arith, na
 other_place : (p f a : ℕ) → (a == f + p) ≡ false → f + (a - f) ≡ a → (p == a - f) ≡ false
 other_place p f a away there = by_test (p == a - f)
     (λ yes. absurd (let e : p ≡ a - f = eqb-true p (a - f) yes in let same : a ≡ f + p = omega (arith, e, there) in
-    let t : (a == f + p) ≡ true = grind (arith, nat_tests) in cc))
-    (λ n. n)
+    let t : (a == f + p) ≡ true = grind (arith, nat_tests) in cc)) (λ n. n)
 
 next : (n : ℕ) → suc n ≡ n + 1
 next n = omega arith
@@ -67,8 +66,7 @@ one_stored c cells area place sig w j p z before at_p low long is =
         ∙ ap (λ q. if q == a - area.first then sig j else stored place sig j w (a - area.first)) at_p
         ∙ sym (ap (λ b. if b then stored place sig (suc j) w (a - area.first) else cells a)
         (subst (λ x. in_area (Some area) x ≡ true) (sym e) (in_here area p low))))
-        (λ no. ap (λ b. if b then z else cell c a) no ∙ ap (λ f. f a) before
-        ∙ by_test (in_area (Some area) a)
+        (λ no. ap (λ b. if b then z else cell c a) no ∙ ap (λ f. f a) before ∙ by_test (in_area (Some area) a)
         (λ here. ap (λ b. if b then stored place sig j w (a - area.first) else cells a) here ∙ inside a no here
         ∙ sym (ap (λ b. if b then stored place sig (suc j) w (a - area.first) else cells a) here))
         (λ out. ap (λ b. if b then stored place sig j w (a - area.first) else cells a) out

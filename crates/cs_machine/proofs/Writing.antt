@@ -42,8 +42,7 @@ frame_past area cells j far = let test : nat_lt j area.length ≡ false =
 
 -- what a row has that was read from an area
 pub frame_read : (area : Area) (c : List ℤ) (row : List ℤ) (j : ℕ) → j < area.length
-    → row ≡ map (cell c) (range_with_len area.first area.length)
-    → argument row j ≡ wave_in rate.Audio area (cell c) j
+    → row ≡ map (cell c) (range_with_len area.first area.length) → argument row j ≡ wave_in rate.Audio area (cell c) j
 frame_read area c row j low is =
     ap (λ r. argument r j) is
     ∙ get_or-map-range_with_len (cell c) area.first area.length j (area.first + j) (pos 0) low refl
@@ -62,8 +61,7 @@ pub same_wave : (area : Area) (w v : Wave) (cells : ℕ → ℤ) → ((j : ℕ) 
 same_wave area w v cells h = λ i a. at a i
   where
     at : (a : ℕ) → with_wave (Some area) w cells a ≡ with_wave (Some area) v cells a
-    at a = by_test (in_area (Some area) a)
-        (λ yes. ap (λ b. if b then w (a - area.first) else cells a) yes
+    at a = by_test (in_area (Some area) a) (λ yes. ap (λ b. if b then w (a - area.first) else cells a) yes
         ∙ h (a - area.first) (below_here area.first area.length a yes)
         ∙ sym (ap (λ b. if b then v (a - area.first) else cells a) yes))
         (λ no. ap (λ b. if b then w (a - area.first) else cells a) no

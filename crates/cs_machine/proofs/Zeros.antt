@@ -16,8 +16,7 @@ pub front_long : (z : ℤ) (count most left : ℕ) → count ≡ min most left �
 front_long z count most left is = ap length (front_of_zeros z count most left is) ∙ length-replicate count z
 
 zero_at : (n k : ℕ) (z : ℤ) → z ≡ pos 0 → get_or (replicate n z) k (pos 0) ≡ pos 0
-zero_at n k z is = by_test (nat_lt k n)
-    (λ yes. get_or-replicate n k z (pos 0) (ltb-true k n yes) ∙ is)
+zero_at n k z is = by_test (nat_lt k n) (λ yes. get_or-replicate n k z (pos 0) (ltb-true k n yes) ∙ is)
     (λ past. get_or_past (replicate n z) k (pos 0) (grind (arith, nat_tests, length-replicate)))
 
 -- an address lies among the first so many places and as many more if it lies among the later or the earlier of them
@@ -40,13 +39,11 @@ module _ (f j n a : ℕ) where
   neither not_later not_earlier = by_test (nat_le f a && nat_lt a (f + (j + n)))
       (λ yes. let both = and_parts (nat_le f a) (nat_lt a (f + (j + n))) yes in
       let high = ltb-true a (f + (j + n)) both.1 in
-      by_test (nat_lt a (f + j))
-      (λ front. absurd (both_ways (nat_le f a && nat_lt a (f + j)) not_earlier
+      by_test (nat_lt a (f + j)) (λ front. absurd (both_ways (nat_le f a && nat_lt a (f + j)) not_earlier
       (and_from (nat_le f a) (nat_lt a (f + j)) both.0 front)))
       (λ back. absurd (both_ways (nat_le (f + j) a && nat_lt a (f + j + n)) not_later
       (and_from (nat_le (f + j) a) (nat_lt a (f + j + n)) (grind (arith, nat_tests))
-      (grind (arith, nat_tests, high))))))
-      (λ no. no)
+      (grind (arith, nat_tests, high)))))) (λ no. no)
 
 -- behind places that were cleared a row of zeros clears as many more
 pub cleared_more : (cells : ℕ → ℤ) (f j n : ℕ) (z : ℤ) (before now : ℕ → ℤ) → z ≡ pos 0
@@ -58,12 +55,10 @@ cleared_more cells f j n z before now is so_far more =
   where
     at : (a : ℕ) → with_row (f + j) n (cell (replicate n z)) before a ≡ with_row f (j + n) silence cells a
     at a = by_test (nat_le (f + j) a && nat_lt a (f + j + n))
-        (λ yes. ap (λ b. if b then cell (replicate n z) (a - (f + j)) else before a) yes
-        ∙ zero_at n (a - (f + j)) z is
+        (λ yes. ap (λ b. if b then cell (replicate n z) (a - (f + j)) else before a) yes ∙ zero_at n (a - (f + j)) z is
         ∙ sym (ap (λ b. if b then pos 0 else cells a) (later f j n a yes)))
         (λ no. ap (λ b. if b then cell (replicate n z) (a - (f + j)) else before a) no ∙ ap (λ c. c a) so_far
-        ∙ by_test (nat_le f a && nat_lt a (f + j))
-        (λ front. ap (λ b. if b then pos 0 else cells a) front
+        ∙ by_test (nat_le f a && nat_lt a (f + j)) (λ front. ap (λ b. if b then pos 0 else cells a) front
         ∙ sym (ap (λ b. if b then pos 0 else cells a) (earlier f j n a front)))
         (λ out. ap (λ b. if b then pos 0 else cells a) out
         ∙ sym (ap (λ b. if b then pos 0 else cells a) (neither f j n a no out))))

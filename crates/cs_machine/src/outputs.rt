@@ -141,7 +141,7 @@ fn channels(alloc: Global, count: usize, ksmps: usize) -> Result<Vec<OutputChann
 {
     let mut all = Vec::with_capacity(alloc, count)?;
     for _ in 0..count {
-        all.push(OutputChannel::new(alloc, ksmps)?)?;
+        all.push_reserved(OutputChannel::new(alloc, ksmps)?);
     }
     Ok(all)
 }

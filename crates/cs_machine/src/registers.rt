@@ -4,7 +4,8 @@ ghost use Rattle.std.specs.Prelude.{false, true};
 ghost use Rattle.cs_base.specs.Rates.{is_audio};
 ghost use Rattle.cs_ir.specs.Registers.{kind_number, rate_at, rate_of};
 ghost use Rattle.cs_ir.specs.{Validity.has_register, Waves.Wave, Waves.constant, Waves.silence};
-ghost use Rattle.cs_machine.specs.Registers.{IsWritten, filled, values};
+ghost use Rattle.cs_machine.specs.Registers.{IsWritten, filled, held_kinds, values};
+ghost use Rattle.cs_machine.specs.inner.Kept.{zeros_of};
 ghost use Rattle.cs_machine.specs.Rows.{HasFrames, row_wave};
 ghost use Rattle.cs_signal.specs.Operands.{Lasts, operand_at};
 
@@ -54,13 +55,7 @@ impl Registers {
     {
         let registers = &counts.registers;
         Ok(Registers {
-            held: [
-                zeros(alloc, registers.of(Kind::LocalInit))?,
-                zeros(alloc, registers.of(Kind::LocalControl))?,
-                zeros(alloc, registers.of(Kind::Kept))?,
-                zeros(alloc, registers.of(Kind::TemporaryInit))?,
-                zeros(alloc, registers.of(Kind::TemporaryControl))?,
-            ],
+            held: held_zeros(alloc, &counts)?,
             sounds: [
                 rows(alloc, registers.of(Kind::LocalAudio), ksmps)?,
                 rows(alloc, registers.of(Kind::TemporaryAudio), ksmps)?,
@@ -183,6 +178,20 @@ impl Registers {
     }
 }
 
+/// Zeros for the registers of each kind that hold one number.
+fn held_zeros(alloc: Global, counts: &Counts) -> Result<[Vec<Num>; HELD_KINDS], OutOfMemory>
+    ensures { IfOk result (λ held. map (λ ones. ones.items) held ≡ zeros_of counts.now held_kinds) }
+{
+    let registers = &counts.registers;
+    Ok([
+        zeros(alloc, registers.of(Kind::LocalInit))?,
+        zeros(alloc, registers.of(Kind::LocalControl))?,
+        zeros(alloc, registers.of(Kind::Kept))?,
+        zeros(alloc, registers.of(Kind::TemporaryInit))?,
+        zeros(alloc, registers.of(Kind::TemporaryControl))?,
+    ])
+}
+
 /// Which of the vectors of numbers has the registers of a kind.
 #[inline(always)]
 fn held_number(kind: Kind) -> usize
@@ -248,7 +257,7 @@ pub(crate) fn rows(alloc: Global, count: usize, ksmps: usize) -> Result<Vec<Vec<
 {
     let mut all = Vec::with_capacity(alloc, count)?;
     for _ in 0..count {
-        all.push(zeros(alloc, ksmps)?)?;
+        all.push_reserved(zeros(alloc, ksmps)?);
     }
     Ok(all)
 }

@@ -57,12 +57,12 @@ impl<'p> State<'p> {
             → piece.head.nchnls ≡ channels → IsStateIn areas piece kinds counts s) }
     {
         Ok(State {
+            row: zeros(alloc, ksmps)?,
+            outs: Outputs::new(alloc, channels_for(&counts, channels), ksmps)?,
             regs: Registers::new(alloc, counts, ksmps)?,
             players: no_players(alloc, counts.units)?,
-            outs: Outputs::new(alloc, channels_for(&counts, channels), ksmps)?,
             delays: 0,
             ended: false,
-            row: zeros(alloc, ksmps)?,
         })
     }
 }
@@ -86,7 +86,7 @@ fn no_players<'p>(alloc: Global, count: usize) -> Result<Vec<Option<Player<'p>>>
 {
     let mut players = Vec::with_capacity(alloc, count)?;
     for _ in 0..count {
-        players.push(None)?;
+        players.push_reserved(None);
     }
     Ok(players)
 }

@@ -86,6 +86,11 @@ room_kept before now n enough less = omega arith
 pub block_small : (k n : ℕ) → k ≤ 4096 → n ≤ 16 → k * n ≤ 65536
 block_small k n a b = let h : k * n ≤ 4096 * 16 = mul-le-mul a b in omega (arith, h)
 
+-- no more samples of a block are out of range than it has
+pub outside_few : (outside some long block : ℕ) → outside ≡ some → some ≤ long → long ≡ block → block ≤ 65536
+    → outside < 2 ^ 32
+outside_few outside some long block here few same small = omega arith
+
 -- the count of samples out of range stays small
 pub outside_fits : (c : Composition) (p : ℤ → Bool) (n outside more : ℕ) → n < 2 ^ 32
     → c.head.ksmps * c.head.nchnls ≤ 65536

@@ -202,31 +202,18 @@ impl<'t, G: Gate> Stand<'t, G> {
         serial_runs_perform();
         voices_are_heard();
         row_laws::<Voice<'t>>();
-        let Stand {
-            life,
-            gate,
-            mut voices,
-            desk,
-            course,
-            mut rows,
-            current,
-            turns,
-        } = self;
-        let Course { graph, feet } = course;
-        let filled = rows.fill(&mut voices, gate, cycle);
-        let (receipt, desk, graph) = pool.cycle(cycle, graph, desk, filled);
+        let mut stand = self;
+        let mut voices = stand.voices;
+        let mut rows = stand.rows;
+        let Course { graph, feet } = stand.course;
+        let filled = rows.fill(&mut voices, stand.gate, cycle);
+        let (receipt, desk, graph) = pool.cycle(cycle, graph, stand.desk, filled);
         sum_rows(receipt.jobs(), block);
-        let voices = tally.count(receipt.unrow(voices, &mut rows));
-        Stand {
-            life,
-            gate,
-            voices,
-            desk,
-            course: Course { graph, feet },
-            rows,
-            current,
-            turns,
-        }
+        stand.voices = tally.count(receipt.unrow(voices, &mut rows));
+        stand.rows = rows;
+        stand.desk = desk;
+        stand.course = Course { graph, feet };
+        stand
     }
 
     /// The notes that were turned off leave.

@@ -49,8 +49,7 @@ module _ {X Y : Type 0} (m : X → Y) (f : Y → ℕ) (g : X → ℕ) (same : (x
   differ_map [] h = tt
   differ_map (x ∷ xs) h = (
     subst (λ n. NoneHas f n (map m xs)) (sym (same x)) (none_map (g x) xs h.0),
-    differ_map xs
-        h.1,
+    differ_map xs h.1,
   )
 
 -- the first of each number are of different numbers
@@ -80,7 +79,5 @@ pub live_apart : (tables : List Table) → Differ (λ (t : Table). t.number) tab
 live_apart tables h p q t u e g same =
     differ_at (λ (l : LiveTable). l.number) (live_in tables) p q t u
     (differ_map (λ (x : Table). record { number = x.number; size = x.size }) (λ (l : LiveTable). l.number)
-    (λ (x : Table). x.number) (λ x. refl)
-    (filter (λ (x : Table). not (is_some x.frozen)) tables)
-    (differ_filter (λ (x : Table). x.number) (λ (x : Table). not (is_some x.frozen)) tables h))
-    e g same
+    (λ (x : Table). x.number) (λ x. refl) (filter (λ (x : Table). not (is_some x.frozen)) tables)
+    (differ_filter (λ (x : Table). x.number) (λ (x : Table). not (is_some x.frozen)) tables h)) e g same

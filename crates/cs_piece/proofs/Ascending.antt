@@ -210,14 +210,12 @@ rises [] up d = tt
 rises (t ∷ ts) up d = (
   all_strictly t.number ts
       (recursion_from_All (λ (u : Table). t.number ≤ u.number) ts
-      (λ k x l. up 0 (suc k) x (omega arith) (omega (arith, l))))
-      (IsDistinct-head eqb t.number (map number_of ts) d),
+      (λ k x l. up 0 (suc k) x (omega arith) (omega (arith, l)))) (IsDistinct-head eqb t.number (map number_of ts) d),
   rises ts (λ i j x le l. up (suc i) (suc j) x (omega (arith, le)) (omega (arith, l)))
       (IsDistinct-tail eqb t.number (map number_of ts) d),
 )
 
-none_apart : (n : ℕ) (ts : List Table) → NoneHas number_of n ts
-    → Each (λ (m : ℕ). eqb n m ≡ false) (map number_of ts)
+none_apart : (n : ℕ) (ts : List Table) → NoneHas number_of n ts → Each (λ (m : ℕ). eqb n m ≡ false) (map number_of ts)
 none_apart n [] h = tt
 none_apart n (t ∷ ts) h = (ne_eqb n t.number (λ e. h.0 (sym e)), none_apart n ts h.1)
 
@@ -233,10 +231,8 @@ flips a b = grind (arith, nat_tests)
 pub sorted_is : (ts us : List Table) → IsPermutation ts us → IsNonDecreasingBy number_of us → Differ number_of ts
     → us ≡ ascending ts
 sorted_is ts us p up d =
-    one_list us (ascending ts)
-    (rises us up (IsDistinct-IsPermutation eqb flips (map number_of ts) (map number_of us)
-    (IsPermutation-map number_of ts us p) (apart_all ts d)))
-    (rising_ascending ts d)
+    one_list us (ascending ts) (rises us up (IsDistinct-IsPermutation eqb flips (map number_of ts) (map number_of us)
+    (IsPermutation-map number_of ts us p) (apart_all ts d))) (rising_ascending ts d)
     (λ z k. to_order z ts (among ts z (Contains-permutation us ts z (IsPermutation-sym ts us p) (there us z k))))
     (λ z k. among us z (Contains-permutation ts us z p (there ts z (from_order z ts k))))
 

@@ -46,8 +46,7 @@ differs b holds fails = absurd cc
 
 module _ (spaces : Spaces) (channels : ℕ) (z : ℤ) where
   pub first_of : (ps : List (ℕ × typed.Block)) (is : List Numbered) → AllZip (IsNumberedCode spaces channels) ps is
-      → (k : ℕ) (i : Numbered) → slice_get is k ≡ Some i
-      → pos i.number ≡ z → HasFirst spaces channels ps is z
+      → (k : ℕ) (i : Numbered) → slice_get is k ≡ Some i → pos i.number ≡ z → HasFirst spaces channels ps is z
   first_of [] [] h k i at n = absurd cc
   first_of [] (x ∷ is) h k i at n = absurd h
   first_of (p ∷ ps) [] h k i at n = absurd h
@@ -66,8 +65,7 @@ module _ (spaces : Spaces) (channels : ℕ) (z : ℤ) where
       same_number s = sym n ∙ ap (λ (y : Numbered). pos y.number) (sym s) ∙ ap pos h.0.0
 
       later : ((m : ℕ) → slice_get is m ≡ Some i → HasFirst spaces channels ps is z) → int_eq z (pos p.0) ≡ false
-          → (m : ℕ) → slice_get (x ∷ is) m ≡ Some i
-          → HasFirst spaces channels (p ∷ ps) (x ∷ is) z
+          → (m : ℕ) → slice_get (x ∷ is) m ≡ Some i → HasFirst spaces channels (p ∷ ps) (x ∷ is) z
       later rest e zero a = absurd (differs (int_eq z (pos p.0)) (eq_test z (pos p.0) (same_number (some_is x i a))) e)
       later rest e (suc m) a =
           let r = rest m a in
@@ -113,8 +111,7 @@ number_at (x ∷ l) (suc k) i e = let r =
     number_at l k i e in record { within = (let w = r.within in omega arith); is = r.is }
 
 pub one_of_number : (l : List Numbered) → IsStrictlyIncreasing (numbers_of l) → (k m : ℕ) (i j : Numbered)
-    → slice_get l k ≡ Some i → slice_get l m ≡ Some j
-    → i.number ≡ j.number → i ≡ j
+    → slice_get l k ≡ Some i → slice_get l m ≡ Some j → i.number ≡ j.number → i ≡ j
 one_of_number l up k m i j a b same =
     let p = number_at l k i a in
     let q = number_at l m j b in
@@ -124,9 +121,7 @@ one_of_number l up k m i j a b same =
     (λ (lt : k < m). absurd (let r =
     AllPairs-from_increasing (numbers_of l) up k m 0 lt q.within in omega (arith, r, p.is, q.is)))
     (λ (gt : m < k). absurd (let r =
-    AllPairs-from_increasing (numbers_of l) up m k 0 gt p.within in omega (arith, r, p.is, q.is)))
-    o)
-    (cases_order k m)
+    AllPairs-from_increasing (numbers_of l) up m k 0 gt p.within in omega (arith, r, p.is, q.is))) o) (cases_order k m)
 
 -- the body of an instrument that is found
 pub record HasBody (o : typed.Orchestra) (i : Numbered) (z : ℤ) : Type 0 where
@@ -153,8 +148,7 @@ body_for o l k i z are at n =
     }
 
 pub no_body : (o : typed.Orchestra) (l : List Numbered) (z : ℤ) → AreInstrumentsOf o l
-    → ((k : ℕ) (i : Numbered) → slice_get l k ≡ Some i → pos i.number ≡ z → ⊥)
-    → body_of (bodies o.instrs) z ≡ None
+    → ((k : ℕ) (i : Numbered) → slice_get l k ≡ Some i → pos i.number ≡ z → ⊥) → body_of (bodies o.instrs) z ≡ None
 no_body o l z are fails =
     none_of o.spaces o.head.nchnls z (bodies o.instrs) are.in_text are.each
     (λ k i at n. let there = moved are.in_text l are.same k i at in fails there.0 i there.1 n)

@@ -123,8 +123,7 @@ module _ (old new : Firsts) (x : GivenTable) (gs : List Given) (t u : Times) (st
       (get_or-set_same old.times.items x.number u times.Never (omega (arith, long, low)) ∙ next
       ∙ ap as_times (sym (given_here gs (given_of x)))))
       (λ (e : n ≡ x.number → ⊥). get_or-set_other old.times.items x.number n u times.Never e ∙ stand.times_are n l
-      ∙ ap as_times (sym (given_else n gs (given_of x) (λ f. e (sym f)))))
-      (cases_eq n x.number)
+      ∙ ap as_times (sym (given_else n gs (given_of x) (λ f. e (sym f))))) (cases_eq n x.number)
 
   pub stand_new : new.items.items ≡ old.items.items ++ x ∷ [] → t ≡ times.Never → u ≡ times.Once
       → StandFor (gs ++ given_of x ∷ []) new

@@ -67,8 +67,7 @@ module _ (s : Sheet) (playable : IsPlayable s) where
       → ((area : Area) (a : ℕ) → area_of s.areas g ≡ Some area → in_area (Some area) a ≡ true → c a ≡ d a)
       → wave_of (area_of s.areas g) (res_rate g) c ≡ wave_of (area_of s.areas g) (res_rate g) d
   same_wave g c d has same =
-      ap (λ o. wave_of o (res_rate g) c) has.1
-      ∙ wave_same (res_rate g) has.0 c d
+      ap (λ o. wave_of o (res_rate g) c) has.1 ∙ wave_same (res_rate g) has.0 c d
       (roomy s.areas playable.stock s.piece playable.placed g has.0 has.1) (λ a. same has.0 a has.1)
       ∙ sym (ap (λ o. wave_of o (res_rate g) d) has.1)
 
@@ -99,8 +98,7 @@ module _ (s : Sheet) (playable : IsPlayable s) where
         let n : Machine Plain = run (plain s.piece) 0 s.init (new_machine (fresh shared)) in
         let a : Alike (Same []) (initialised s cells) n =
         do_alike s.areas playable.stock s.piece playable.kinds [] playable.placed gen s.init
-        (new_machine (fresh_voice cells)) (new_machine (fresh shared)) playable.init_uses
-        (record {
+        (new_machine (fresh_voice cells)) (new_machine (fresh shared)) playable.init_uses (record {
           regs = refl;
           next = refl;
           world =
@@ -120,8 +118,7 @@ module _ (s : Sheet) (playable : IsPlayable s) where
     none_refused (Some x) e = absurd (cc)
 
     module _ (w : Sounding) (t : Note Plain) (c : Cells) (shared : Res → Wave) (long : word_count s.areas ≤ length c)
-        (hold : Hold s.areas (cell c) shared)
-        (stands : IsVoiceOf s plan playable.kinds w t) where
+        (hold : Hold s.areas (cell c) shared) (stands : IsVoiceOf s plan playable.kinds w t) where
       -- the voice, from the sheet that it plays from
       abbrev v : Sounding
       v = record w { sheet = s }
@@ -140,8 +137,7 @@ module _ (s : Sheet) (playable : IsPlayable s) where
           do_alike s.areas playable.stock s.piece playable.kinds t.world.asks playable.placed gen s.perf
           (begins v (cell c)) (again y before)
           (ops_wider playable.stock playable.kinds (IsUsed s) (HasArea s.areas) (λ g u. (u.0, u.1)) s.perf
-          playable.perf_uses)
-          (record {
+          playable.perf_uses) (record {
             regs = refl;
             next = refl;
             world = record {
@@ -166,16 +162,14 @@ module _ (s : Sheet) (playable : IsPlayable s) where
       voice_so : IsVoiceOf s plan playable.kinds (performed v c) (next_note s.piece body shared t)
       voice_so =
           subst (λ z. IsVoiceOf s plan playable.kinds z (next_note s.piece body shared t))
-          (sym (performed_on_all v c playable))
-          (voice_stands (next_note s.piece body shared t) (cycle v (cell c))
+          (sym (performed_on_all v c playable)) (voice_stands (next_note s.piece body shared t) (cycle v (cell c))
           (run (plain s.piece) 0 s.perf (again y before)) t.world.asks alike means_so
           (sym world_so.cause ∙ (cycle_steady v (cell c) playable).0))
 
       cells_so : Hold s.areas (cell (left_by v c)) (next_note s.piece body shared t).world.shared
       cells_so g has =
           same_wave g (cell (left_by v c)) (cycle v (cell c)).world.shared has
-          (λ area a e inside. left_on_all v c a playable (near g area c a long e inside))
-          ∙ world_so.shared g has
+          (λ area a e inside. left_on_all v c a playable (near g area c a long e inside)) ∙ world_so.shared g has
 
       goes_on_so : GoesOn s body plan playable.kinds w t c shared
       goes_on_so = subst (λ z. GoesOn s body plan playable.kinds z t c shared) same_voice

@@ -54,8 +54,7 @@ rest_is x y xs ys e = cc
 
 -- a live table of the composition is found by its number, made or not
 pub live_found : (ts : List PieceTable) (flags : List Bool) (cs : List Table) (n : ℕ)
-    → Differ (λ (t : Table). t.number) cs
-    → map table_of ts ≡ map made cs
+    → Differ (λ (t : Table). t.number) cs → map table_of ts ≡ map made cs
     → length flags ≡ length ts → any_live n (live_in cs) ≡ true → IsLiveTable (tables_of ts flags) n
 live_found [] flags [] n d e long any = absurd cc
 live_found [] flags (c ∷ cs) n d e long any = absurd cc

@@ -17,8 +17,7 @@ or_three false b c = refl
 
 -- what is marked, with one more thing that may mark it
 pub marked_more : {X : Type 0} (p : X → Bool) (xs : List X) (i : ℕ) (d : X) (old now new b : Bool)
-    → b ≡ p (get_or xs i d)
-    → i < length xs
+    → b ≡ p (get_or xs i d) → i < length xs
     → now ≡ (old || list_any p (take i xs)) → new ≡ (now || b) → new ≡ (old || list_any p (take (i + 1) xs))
 marked_more p xs i d old now new b here within before after =
     after ∙ ap (λ a. a || b) before ∙ or_three old (list_any p (take i xs)) b
@@ -35,8 +34,7 @@ any_of_parts p f (x ∷ xs) =
 pub all_are : {X : Type 0} (xs : List X) (count n : ℕ) (d : X) → xs ≡ replicate count d → get_or xs n d ≡ d
 all_are xs count n d e = ap (λ l. get_or l n d) e ∙ ⊎_elim
     (λ l. get_or-replicate count n d d l)
-    (λ g. get_or_past (replicate count d) n d (omega (arith, length-replicate count d, g)))
-    (cases_lt n count)
+    (λ g. get_or_past (replicate count d) n d (omega (arith, length-replicate count d, g))) (cases_lt n count)
 
 -- ---- by what ops touch
 

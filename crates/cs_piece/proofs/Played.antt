@@ -117,8 +117,7 @@ area_in (Some area) a h = (area, refl)
 
 -- the places of some resources cover each cell of one of them
 covered : (areas : List Area) (rs : List Res) (g : Res) (area : Area) (a : ℕ) → area_of areas g ≡ Some area
-    → Contains rs g → in_area (Some area) a ≡ true
-    → covers areas (places_holding areas rs) a ≡ true
+    → Contains rs g → in_area (Some area) a ≡ true → covers areas (places_holding areas rs) a ≡ true
 covered areas rs g area a e among inside =
     let p = area_at areas g area e in
     holding_covers areas rs area a (stands_in areas p.0 area p.1) (subst (λ r. Contains rs r) (sym p.2) among) inside
@@ -157,10 +156,8 @@ module _ (s : Sheet) (body : typed.Block) (init perf : Code) (h : IsSheetOf s bo
     kinds = kinds_of units;
     placed = h.placed;
     init_uses = ops_named stock s.piece.head.nchnls units (HasArea s.areas) init.counts (length init.ops) 0 s.init
-        init_named
-        (ap (fine_from init.counts (length init.ops) 0) h.init_ops ∙ h.code.runs.init_valid) h.init_areas;
-    perf_uses = ops_named stock s.piece.head.nchnls units (IsUsed s) perf.counts (length perf.ops) 0 s.perf
-        perf_named
+        init_named (ap (fine_from init.counts (length init.ops) 0) h.init_ops ∙ h.code.runs.init_valid) h.init_areas;
+    perf_uses = ops_named stock s.piece.head.nchnls units (IsUsed s) perf.counts (length perf.ops) 0 s.perf perf_named
         (ap (fine_from perf.counts (length perf.ops) 0) h.perf_ops ∙ h.code.runs.perf_valid)
         (all_with (HasArea s.areas) (IsUsed s) (ops_use stock s.perf) used h.perf_areas);
     perf_writes = ops_written stock (IsWritten s) s.perf (all_from (IsWritten s) (ops_write stock s.perf) written);

@@ -52,8 +52,7 @@ either_later true t fails e = absurd cc
 either_later false t fails e = e
 
 other_number : (g : Res) (n : ℕ) (ms : List ℕ) → same_res g (res.Table n) ≡ false
-    → list_any (λ m. m == n) (cons_option (table_number g) ms) ≡ true
-    → list_any (λ m. m == n) ms ≡ true
+    → list_any (λ m. m == n) (cons_option (table_number g) ms) ≡ true → list_any (λ m. m == n) ms ≡ true
 other_number (res.Table m) n ms fails e = either_later (m == n) (list_any (λ k. k == n) ms) fails e
 other_number _ n ms fails e = e
 
@@ -87,12 +86,10 @@ has_area ksmps names spaces live g e = by g e
     by (res.Sound n) f = some_area (area_of (areas_of ksmps names spaces live) (res.Sound n))
         (there ksmps names spaces live (res.Sound n) ∙ f)
     by (res.ZakK n) f =
-        some_area (area_of (areas_of ksmps names spaces live) (res.ZakK n))
-        (there ksmps names spaces live (res.ZakK n)
+        some_area (area_of (areas_of ksmps names spaces live) (res.ZakK n)) (there ksmps names spaces live (res.ZakK n)
         ∙ ap (λ (s : Spaces). nat_lt n s.control) (sym (spaces_are ksmps names spaces live)) ∙ f)
     by (res.ZakA n) f =
-        some_area (area_of (areas_of ksmps names spaces live) (res.ZakA n))
-        (there ksmps names spaces live (res.ZakA n)
+        some_area (area_of (areas_of ksmps names spaces live) (res.ZakA n)) (there ksmps names spaces live (res.ZakA n)
         ∙ ap (λ (s : Spaces). nat_lt n s.audio) (sym (spaces_are ksmps names spaces live)) ∙ f)
     by (res.Table n) f = live_area (areas_of ksmps names spaces live) n f
 
@@ -113,10 +110,8 @@ record IsReady (stage : Stage) (i : Numbered) (foot : Footprint) (spaces : Space
       (core spaces body)
 
 module _ (c : SetupData) (stage : Stage) (is_stage : IsStageOf (composition_of c) stage) (i : Numbered)
-    (foot : Footprint) (body : typed.Block)
-    (feet : IsFootOver stage.layout.now stage.zones.now i.perf foot)
-    (named : (g : Res) → (spaces : Spaces)
-    → Contains (block_uses (stock_of stage.layout.now) (core spaces body)
+    (foot : Footprint) (body : typed.Block) (feet : IsFootOver stage.layout.now stage.zones.now i.perf foot)
+    (named : (g : Res) → (spaces : Spaces) → Contains (block_uses (stock_of stage.layout.now) (core spaces body)
     ++ block_begins (stock_of stage.layout.now) (core spaces body)) g → HasArea stage.layout.now g) where
   -- what statements use in a cycle, and as a note begins
   uses_there : (spaces : Spaces) (g : Res) → Contains (block_uses (stock_of stage.layout.now) (core spaces body)) g
@@ -148,8 +143,7 @@ module _ (c : SetupData) (stage : Stage) (is_stage : IsStageOf (composition_of c
     writes = feet.writes;
   }
 
-  ready_here : IsCodeOf stage.spaces stage.head.now.nchnls body i.init i.perf
-      → IsReady stage i foot stage.spaces body
+  ready_here : IsCodeOf stage.spaces stage.head.now.nchnls body i.init i.perf → IsReady stage i foot stage.spaces body
   unfolding sheet_of
   ready_here code = record {
     plan = code.means.plan;
@@ -192,13 +186,10 @@ module _ (c : SetupData) (stage : Stage) (is_stage : IsStageOf (composition_of c
 -- What a setup hands out is ready on its stage.
 module _ (touched : TouchWhatIsThere) (c : SetupData) (h : IsSetup c) (stage : Stage)
     (is_stage : IsStageOf (composition_of c) stage) (laid : stage.layout.now ≡ c.layout)
-    (zoned : stage.zones.now ≡ c.zones)
-    (i : Numbered) (foot : Footprint) (body : typed.Block)
+    (zoned : stage.zones.now ≡ c.zones) (i : Numbered) (foot : Footprint) (body : typed.Block)
     (names : IsNamedBlock (typed.shared_names c.orchestra.globals) body) where
-  touches : (g : Res) (spaces : Spaces)
-      → Contains (block_uses (stock_of stage.layout.now) (core spaces body)
-      ++ block_begins (stock_of stage.layout.now) (core spaces body)) g
-      → HasArea stage.layout.now g
+  touches : (g : Res) (spaces : Spaces) → Contains (block_uses (stock_of stage.layout.now) (core spaces body)
+      ++ block_begins (stock_of stage.layout.now) (core spaces body)) g → HasArea stage.layout.now g
   touches g spaces k =
       let here = laid ∙ h.areas_are in
       subst (λ areas. HasArea areas g) (sym here)
@@ -263,5 +254,4 @@ pub none_more : (l : List Numbered) (place : ℕ) (x : Numbered) (z : ℤ)
 none_more l place x z none at differs k i low here n = ⊎_elim
     (λ (e : k ≡ place). differs
     (ap (λ (y : Numbered). pos y.number) (some_is x i (sym at ∙ ap (slice_get l) (sym e) ∙ here)) ∙ n))
-    (λ (f : k ≡ place → ⊥). none k i (omega arith) here n)
-    (cases_eq k place)
+    (λ (f : k ≡ place → ⊥). none k i (omega arith) here n) (cases_eq k place)

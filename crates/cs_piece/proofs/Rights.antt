@@ -57,13 +57,11 @@ stores_as : (n : ℕ) (ops : List Op) → ops_store n ops ≡ list_any (same_res
 stores_as n ops = any_of_parts (same_res (res.Table n)) (λ (o : Op). act_writes (only n) o.act) ops
 
 store_alike : (n : ℕ) (spaces : Spaces) (channels : ℕ) (p : ℕ × typed.Block) (i : Numbered)
-    → IsNumberedCode spaces channels p i
-    → codes_store n i ≡ stores_into n (core spaces p.1)
+    → IsNumberedCode spaces channels p i → codes_store n i ≡ stores_into n (core spaces p.1)
 store_alike n spaces channels p i h =
     ap (λ b. b || ops_store n i.perf.ops) (stores_as n i.init.ops
     ∙ among_alike (ops_write (only n) i.init.ops) (block_begin_writes (only n) (core spaces p.1))
-    (h.1.touches.begins may_write (only n)) (res.Table n))
-    ∙ ap (λ b. first || b) (stores_as n i.perf.ops
+    (h.1.touches.begins may_write (only n)) (res.Table n)) ∙ ap (λ b. first || b) (stores_as n i.perf.ops
     ∙ among_alike (ops_write (only n) i.perf.ops) (block_writes (only n) (core spaces p.1))
     (h.1.touches.cycles may_write (only n)) (res.Table n))
   where

@@ -87,8 +87,7 @@ rest_is : {X : Type 0} (x y : X) (xs ys : List X) → x ∷ xs ≡ y ∷ ys → 
 rest_is x y xs ys e = cc
 
 found_in : (ts : List PieceTable) (flags : List Bool) (cs : List Table) (n : ℤ) (t : Table)
-    → map table_of ts ≡ map made cs
-    → find_table (tables_of ts flags) n ≡ Some t → IsOne cs t
+    → map table_of ts ≡ map made cs → find_table (tables_of ts flags) n ≡ Some t → IsOne cs t
 found_in [] flags cs n t e f = absurd cc
 found_in (x ∷ ts) [] cs n t e f = absurd cc
 found_in (x ∷ ts) (m ∷ flags) [] n t e f = absurd cc
@@ -266,8 +265,7 @@ module _ (s : SetupData) (h : IsSetup s) (stage : Stage) (head : stage.head.now 
       (live_in (tables_in (typed.orchestra s.orchestra) s.plot.events)))
 
   zak : spaces_of stage.layout.now ≡ stage.spaces
-  zak = ap spaces_of here
-      ∙ spaces_are stage.head.now.ksmps (typed.shared_names s.orchestra.globals) stage.spaces
+  zak = ap spaces_of here ∙ spaces_are stage.head.now.ksmps (typed.shared_names s.orchestra.globals) stage.spaces
       (live_in (tables_in (typed.orchestra s.orchestra) s.plot.events))
 
   placed : (flags : List Bool) (fields : List ℤ) → length flags ≡ length stage.tables.now
@@ -293,8 +291,7 @@ module _ (s : SetupData) (h : IsSetup s) (stage : Stage) (head : stage.head.now 
     head = ap header_of head;
     spaces = spaces_so;
     tables = same;
-    laid = subst IsLaid (sym here)
-        (is_laid stage.head.now.ksmps (typed.shared_names s.orchestra.globals) stage.spaces
+    laid = subst IsLaid (sym here) (is_laid stage.head.now.ksmps (typed.shared_names s.orchestra.globals) stage.spaces
         (live_in (tables_in (typed.orchestra s.orchestra) s.plot.events)) apart);
     within = ap limit_passed laid ∙ h.within;
     places = places;

@@ -1,15 +1,17 @@
 // A piece, ready to be performed.
 ghost use Rattle.std.specs.Prelude.{◌≡◌, eqb, map, IfNone, IfOk, List, OnOk, Err, None, Some};
-ghost use Rattle.std.specs.List.{IsDistinct};
+ghost use Rattle.std.specs.List.{All, AllZip, IsDistinct};
 ghost use Rattle.cs_base.specs.declared.fault.Or.TheVariants as or;
 ghost use Rattle.cs_base.specs.declared.limit.LimitHit.{LimitHit};
-ghost use Rattle.cs_cells.specs.Areas.{limit_passed};
-ghost use Rattle.cs_code.specs.Lowered.{all_numbers};
+ghost use Rattle.cs_cells.specs.{Areas.limit_passed, declared.footprint.Footprint.Footprint};
+ghost use Rattle.cs_code.specs.Lowered.{AreInstrumentsOf, all_numbers};
+ghost use Rattle.cs_ir.specs.Instruments.{Numbered};
 ghost use Rattle.cs_layout.specs.Layouts.{AreApart, areas_of};
 ghost use Rattle.cs_name_laws.specs.Names.{NamesWhatThereIs};
 ghost use Rattle.cs_piece.specs.Compositions.{areas_in, live_in};
-ghost use Rattle.cs_piece.specs.{Setups.AreOfOneSize, Setups.AskForFew, Tables.table_of};
-ghost use Rattle.cs_tempo.specs.Performable.{IsPerformable};
+ghost use Rattle.cs_piece.specs.{Setups.AreOfOneSize, Setups.AskForFew, Tables.table_of, Tables.tables_in};
+ghost use Rattle.cs_rwset.specs.Zones.{AreZones, IsFootOver};
+ghost use Rattle.cs_tempo.specs.Performable.{IsActInRange, IsPerformable};
 ghost use Rattle.cs_typed.specs.TypedTree as typed;
 ghost use Rattle.cs_typed.specs.WellRated.{IsWellRated};
 
@@ -20,7 +22,7 @@ use cs_cells::Layout;
 use cs_code::{Lowered, lower};
 use cs_layout::{LiveTable, layout};
 use cs_rwset::{Zoned, find_zones};
-use cs_tempo::Plot;
+use cs_tempo::{Event, Plot};
 use cs_typed::{Globals, TypedOrc};
 use cs_voice::PieceTable;
 use std::alloc::Global;
@@ -77,26 +79,20 @@ impl Setup {
     {
         let lowered = lower(alloc, &orchestra)?;
         let erased = ErasedOrchestra::of(&orchestra);
+        let (head, spaces) = (orchestra.head, orchestra.spaces);
         // The statements are let go before the tables are made.
-        drop((orchestra.zero, orchestra.instrs, orchestra.routines));
-        let tables = tables_of(alloc, &lowered, plot.events.as_slice())?;
-        let TypedOrc { head, spaces, .. } = orchestra;
-        let layout = layout_of(alloc, head.ksmps, &orchestra.globals, spaces, &tables)?;
-        let zoned = find_zones(
-            alloc,
-            &layout,
-            lowered.zero.perf(),
-            lowered.instruments.as_slice(),
-        )?;
+        let globals = globals_of(orchestra);
+        let events = plot.events.as_slice();
+        let shared = shared_by(alloc, head.ksmps, &globals, spaces, &lowered, events)?;
         Ok(Setup {
             head,
             spaces,
             orchestra: erased,
             plot,
-            tables,
-            layout,
+            tables: shared.tables,
+            layout: shared.layout,
             lowered,
-            zoned,
+            zoned: shared.zoned,
         })
     }
 
@@ -127,6 +123,56 @@ impl Setup {
     {
         &self.zoned.zones
     }
+}
+
+/// The variables and channels of an orchestra, whose statements are let go.
+fn globals_of(orchestra: TypedOrc) -> Globals
+    ensures { result ≡ orchestra.globals }
+{
+    orchestra.globals
+}
+
+/// What the notes of a piece share: its tables, where the cells are, and what the codes may touch of them.
+#[derive(Drop)]
+struct Shared {
+    tables: Vec<PieceTable>,
+    layout: Layout,
+    zoned: Zoned,
+}
+
+/// What notes of these codes and events share, beside variables, channels and zak spaces.
+fn shared_by(
+    alloc: Global,
+    ksmps: u32,
+    globals: &Globals,
+    spaces: Spaces,
+    lowered: &Lowered,
+    events: &[Event],
+) -> Result<Shared, Or<LimitHit>>
+    requires codes { (o : typed.Orchestra) × AreInstrumentsOf o lowered.now.instruments }
+    requires acts { All (λ e. IsActInRange e.act) events.now }
+    ensures tables { IfOk result (λ s. (o : typed.Orchestra) → AreInstrumentsOf o lowered.now.instruments
+        → map table_of s.tables.items ≡ tables_in o events.now) }
+    ensures layout { IfOk result (λ s. s.layout ≡ areas_of ksmps (typed.shared_names globals.now) spaces
+        (live_in (map table_of s.tables.items))) }
+    ensures within { IfOk result (λ s. limit_passed s.layout ≡ None) }
+    ensures limit { (hit : LimitHit) → result ≡ Err (or.Fault hit) → (o : typed.Orchestra)
+        → AreInstrumentsOf o lowered.now.instruments → limit_passed (areas_of ksmps (typed.shared_names globals.now)
+        spaces (live_in (tables_in o events.now))) ≡ Some hit }
+    ensures zones { IfOk result (λ s. AreZones s.layout s.zoned.zones) }
+    ensures outside { IfOk result (λ s. IsFootOver s.layout s.zoned.zones lowered.now.zero.perf s.zoned.outside) }
+    ensures feet { IfOk result (λ s. AllZip (λ (i : Numbered) (foot : Footprint).
+        IsFootOver s.layout s.zoned.zones i.perf foot) lowered.now.instruments s.zoned.feet.items) }
+{
+    let tables = tables_of(alloc, lowered, events)?;
+    let layout = layout_of(alloc, ksmps, globals, spaces, &tables)?;
+    let instruments = lowered.instruments.as_slice();
+    let zoned = find_zones(alloc, &layout, lowered.zero.perf(), instruments)?;
+    Ok(Shared {
+        tables,
+        layout,
+        zoned,
+    })
 }
 
 /// The layout of a piece with `ksmps` frames a control cycle, these variables and channels, zak spaces and tables.

@@ -103,8 +103,7 @@ ops_written_is_used stock (o ∷ ops) r h =
     ⊎_elim (λ here. Contains-append_left (act_uses stock o.act) (ops_use stock ops) r
     (act_written_is_used stock o.act r here))
     (λ later. Contains-append_right (act_uses stock o.act) (ops_use stock ops) r
-    (ops_written_is_used stock ops r later))
-    (Contains-append_cases (act_writes stock o.act) (ops_write stock ops) r h)
+    (ops_written_is_used stock ops r later)) (Contains-append_cases (act_writes stock o.act) (ops_write stock ops) r h)
 
 or_none : (b : Bool) → (b || false) ≡ true → b ≡ true
 or_none true h = refl
@@ -157,8 +156,7 @@ module _ (areas : List Area) (place : ℕ) (g : Res) (h : HasPlace areas g place
 -- ---- places of what is named by numbers
 
 module _ (areas : List Area) where
-  pub table_places : (r : Reach) (place : ℕ)
-      → Contains (places_holding areas (tables_within (stock_of areas) r)) place
+  pub table_places : (r : Reach) (place : ℕ) → Contains (places_holding areas (tables_within (stock_of areas) r)) place
       ↔ ((n : ℕ) × (reaches r n ≡ true) × HasPlace areas (res.Table n) place)
   table_places r place = (
     λ h. let e = places_exact areas (tables_within (stock_of areas) r) place h in

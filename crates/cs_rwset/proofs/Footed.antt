@@ -117,9 +117,8 @@ module _ (areas : List Area) (laid : IsLaid areas) (begins : List Bool) (outside
     (are : AreBegins (length areas) outside each begins) where
   pub one_over : (m : Marks) (perf : Code) (zones : List Area) (foot : Footprint) → AreMarksOf areas perf m
       → ((p : ℕ) → suc p < length areas → get_or begins (suc p) false ≡ false → Stay m p (suc p))
-      → zones ≡ zones_of areas begins
-      → foot.uses ≡ marked (heads m.uses.items begins) → foot.writes ≡ marked (heads m.writes.items begins)
-      → IsFootOver areas zones perf foot
+      → zones ≡ zones_of areas begins → foot.uses ≡ marked (heads m.uses.items begins)
+      → foot.writes ≡ marked (heads m.writes.items begins) → IsFootOver areas zones perf foot
   one_over m perf zones foot is stays z uses writes =
       subst (λ zs. IsFootOver areas zs perf foot) (sym z)
       (foot_is areas laid perf m begins foot is are.long are.first stays uses writes)

@@ -17,8 +17,7 @@ module _ {X Y : Type 0} (f : X → List Y) where
   of_each [] x y h k = absurd (contains_none x h)
   of_each (z ∷ xs) x y h k =
       ⊎_elim (λ same. Contains-append_left (f z) (flat_map f xs) y (subst (λ w. Contains (f w) y) (sym same) k))
-      (λ later. Contains-append_right (f z) (flat_map f xs) y (of_each xs x y later k))
-      (contains_cases z x xs h)
+      (λ later. Contains-append_right (f z) (flat_map f xs) y (of_each xs x y later k)) (contains_cases z x xs h)
 
   pub each_of : (xs : List X) (y : Y) → Contains (flat_map f xs) y → (x : X) × Contains xs x × Contains (f x) y
   each_of [] y h = absurd (contains_none y h)
@@ -58,8 +57,7 @@ covered_at areas (p ∷ places) a h =
     (or_cases (in_area (slice_get areas p) a) (covers areas places a) h)
 
 pub at_covers : (areas : List Area) (places : List ℕ) (place a : ℕ) → Contains places place
-    → in_area (slice_get areas place) a ≡ true
-    → covers areas places a ≡ true
+    → in_area (slice_get areas place) a ≡ true → covers areas places a ≡ true
 at_covers areas [] place a h k = absurd (contains_none place h)
 at_covers areas (p ∷ places) place a h k =
     ⊎_elim (λ same. or_left (in_area (slice_get areas p) a) (covers areas places a)
@@ -82,8 +80,7 @@ res_there o x y r e f g = cc
 
 -- The places of some resources cover exactly the cells of the areas whose resource is one of them.
 pub holding_covers : (areas : List Area) (rs : List Res) (area : Area) (a : ℕ) → Contains areas area
-    → Contains rs area.res → in_area (Some area) a ≡ true
-    → covers areas (places_holding areas rs) a ≡ true
+    → Contains rs area.res → in_area (Some area) a ≡ true → covers areas (places_holding areas rs) a ≡ true
 holding_covers areas rs area a here of lies =
     let p = placed areas area here in
     at_covers areas (places_holding areas rs) p.0 a (exact_places areas rs p.0 area.res of (area, p.1, refl))
@@ -97,7 +94,6 @@ covers_holding areas rs a h =
     let s = some_in (slice_get areas c.0) a c.2 in (
       s.0,
       there areas c.0 s.0 s.1,
-      subst (λ r. Contains rs r)
-          (res_there (slice_get areas c.0) e.2.0 s.0 e.0 e.2.1 s.1 e.2.2) e.1,
+      subst (λ r. Contains rs r) (res_there (slice_get areas c.0) e.2.0 s.0 e.0 e.2.1 s.1 e.2.2) e.1,
       s.2,
     )

@@ -43,8 +43,7 @@ module _ (P Q : Res → Bool) where
       → set (marked_by P areas) place true ≡ marked_by (λ r. P r || Q r) areas
   one_mark [] place l here others = absurd (omega arith)
   one_mark (a ∷ areas) zero l here others =
-      λ i. or_here (P a.res) (Q a.res) (here a refl) i
-      ∷ same_marks P (λ r. P r || Q r) areas
+      λ i. or_here (P a.res) (Q a.res) (here a refl) i ∷ same_marks P (λ r. P r || Q r) areas
       (λ k b e. or_not (P b.res) (Q b.res) (others (suc k) b (λ s. omega (arith, s)) e)) i
   one_mark (a ∷ areas) (suc place) l here others =
       λ i. or_not (P a.res) (Q a.res) (others 0 a (λ s. omega (arith, s)) refl) i
@@ -95,8 +94,7 @@ mark_placed areas g place P laid h =
 pub mark_unplaced : (areas : List Area) (g : Res) (P : Res → Bool) → ((place : ℕ) → HasPlace areas g place → ⊥)
     → marked_by P areas ≡ marked_by (λ r. P r || same_res r g) areas
 mark_unplaced areas g P none =
-    same_marks P (λ r. P r || same_res r g) areas
-    (λ k a e. or_not (P a.res) (same_res a.res g)
+    same_marks P (λ r. P r || same_res r g) areas (λ k a e. or_not (P a.res) (same_res a.res g)
     (false_from_ne_true (same_res a.res g) (λ t. none k (a, e, same_res_is a.res g t))))
 
 -- marks of more resources
@@ -116,8 +114,7 @@ touch_marks areas rs spaces t sized =
 
 -- resources that are named in another order, or again
 pub alike_marks : (areas : List Area) (xs ys : List Res) → NameTheSame xs ys → marks_of areas xs ≡ marks_of areas ys
-alike_marks areas xs ys same =
-    same_marks (is_among xs) (is_among ys) areas (λ k a e. among_alike xs ys same a.res)
+alike_marks areas xs ys same = same_marks (is_among xs) (is_among ys) areas (λ k a e. among_alike xs ys same a.res)
 
 -- before the first op nothing is marked
 pub none_marked : (areas : List Area) (n : ℕ) → n ≡ length areas → replicate n false ≡ marks_of areas []
@@ -131,8 +128,7 @@ take_front [] (y ∷ ys) = refl
 take_front (x ∷ xs) ys = λ i. x ∷ take_front xs ys i
 
 pub rewritten : (areas : List Area) (rs more : List Res) (n : ℕ) (old new : List Bool) → old ≡ marks_of areas rs
-    → n ≡ length old → new ≡ marks_of areas more
-    → take n (new ++ drop (length new) old) ≡ marks_of areas more
+    → n ≡ length old → new ≡ marks_of areas more → take n (new ++ drop (length new) old) ≡ marks_of areas more
 rewritten areas rs more n old new was long is =
     let a = ap length was ∙ length-map areas (λ a. is_among rs a.res) in
     let b = ap length is ∙ length-map areas (λ a. is_among more a.res) in
@@ -158,8 +154,7 @@ counted areas s i a e p =
     (ap (λ b. is_place s b.res) (get_or_from_slice_get areas i a a e) ∙ p)
 
 pub not_counted : (areas : List Area) (s : Space) (i : ℕ) (a : Area) → slice_get areas i ≡ Some a
-    → is_place s a.res ≡ false
-    → place_count (take (i + 1) areas) s ≡ place_count (take i areas) s
+    → is_place s a.res ≡ false → place_count (take (i + 1) areas) s ≡ place_count (take i areas) s
 not_counted areas s i a e p =
     count_by_more_no (λ b. is_place s b.res) areas i a (slice_get_within areas i a e)
     (ap (λ b. is_place s b.res) (get_or_from_slice_get areas i a a e) ∙ p)

@@ -33,15 +33,13 @@ pub among_contains : (rs : List Res) (r : Res) → is_among rs r ≡ true → Co
 among_contains [] r h = absurd cc
 among_contains (x ∷ rs) r h =
     ⊎_elim (λ e. subst (λ y. Contains (y ∷ rs) r) (same_res_is r x e) (contains_first r rs))
-    (λ t. contains_rest x r rs (among_contains rs r t))
-    (or_cases (same_res r x) (is_among rs r) h)
+    (λ t. contains_rest x r rs (among_contains rs r t)) (or_cases (same_res r x) (is_among rs r) h)
 
 pub contains_among : (rs : List Res) (r : Res) → Contains rs r → is_among rs r ≡ true
 contains_among [] r h = absurd (contains_none r h)
 contains_among (x ∷ rs) r h =
     ⊎_elim (λ e. or_left (same_res r x) (is_among rs r) (subst (λ y. same_res r y ≡ true) (sym e) (same_res_here r)))
-    (λ t. or_right (same_res r x) (is_among rs r) (contains_among rs r t))
-    (contains_cases x r rs h)
+    (λ t. or_right (same_res r x) (is_among rs r) (contains_among rs r t)) (contains_cases x r rs h)
 
 -- two tests that pass for one another are the same
 pub same_tests : (b c : Bool) → (b ≡ true → c ≡ true) → (c ≡ true → b ≡ true) → b ≡ c
@@ -61,11 +59,9 @@ module _ {X : Type 0} (test : X → Bool) where
   filter_contains [] x h = absurd (contains_none x h)
   filter_contains (y ∷ xs) x h =
       cond_both (test y) (y ∷ filter test xs) (filter test xs)
-      (λ l. Contains l x → Contains (y ∷ xs) x × (test x ≡ true))
-      (λ e k. ⊎_elim (λ same. (
+      (λ l. Contains l x → Contains (y ∷ xs) x × (test x ≡ true)) (λ e k. ⊎_elim (λ same. (
         subst (λ z. Contains (z ∷ xs) x) (sym same) (contains_first x xs),
-        subst
-            (λ z. test z ≡ true) same e,
+        subst (λ z. test z ≡ true) same e,
       ))
       (λ t. let later = filter_contains xs x t in (contains_rest y x xs later.0, later.1))
       (contains_cases y x (filter test xs) k))
@@ -93,8 +89,7 @@ pub contains_map : {X Y : Type 0} (f : X → Y) (xs : List X) (x : X) → Contai
 contains_map f [] x h = absurd (contains_none x h)
 contains_map f (y ∷ xs) x h =
     ⊎_elim (λ same. subst (λ z. Contains (f z ∷ map f xs) (f x)) (sym same) (contains_first (f x) (map f xs)))
-    (λ t. contains_rest (f y) (f x) (map f xs) (contains_map f xs x t))
-    (contains_cases y x xs h)
+    (λ t. contains_rest (f y) (f x) (map f xs) (contains_map f xs x t)) (contains_cases y x xs h)
 
 -- the numbers below n
 pub range_contains : (n x : ℕ) → Contains (range_with_len 0 n) x → x < n

@@ -66,8 +66,7 @@ module _ (areas : List Area) (s : Space) (begin : ℕ) (laid : IsLaid areas)
       → (n : ℕ) × (n < count) × (reaches r n ≡ true) × (k ≡ begin + n)
   covered_at k a g c =
       let within = places_within (stock_of areas) s r in
-      let among : is_among within a.res ≡ true =
-      sym (covers_named areas k a.res (a, g, refl) (touch.Places s r)) ∙ c in
+      let among : is_among within a.res ≡ true = sym (covers_named areas k a.res (a, g, refl) (touch.Places s r)) ∙ c in
       let t = place_named (stock_of areas) s r a.res (among_contains within a.res among) in
       (t.0, t.1, t.2, laid.apart k (begin + t.0) (zak_place s t.0) (a, g, sym t.3) (order.each t.0 t.1))
 
@@ -79,14 +78,12 @@ module _ (areas : List Area) (s : Space) (begin : ℕ) (laid : IsLaid areas)
       let there : slice_get areas k ≡ Some p.0 = ap (slice_get areas) e ∙ p.1 in
       let same : p.0.res ≡ a.res = let f = sym there ∙ g in cc in
       covers_named areas k a.res (a, g, refl) (touch.Places s r)
-      ∙ contains_among within a.res
-      (subst (Contains within) (sym p.2 ∙ same) (named_place (stock_of areas) s r n l h))
+      ∙ contains_among within a.res (subst (Contains within) (sym p.2 ∙ same) (named_place (stock_of areas) s r n l h))
 
   pub placed_run : (numbers : Run) (run : Run)
       → ((n : ℕ) → n < count → reaches r n ≡ true → (numbers.from ≤ n) × (n < numbers.to))
       → ((n : ℕ) → numbers.from ≤ n → n < numbers.to → reaches r n ≡ true) → numbers.to ≤ count
-      → numbers.from ≤ numbers.to → run.from ≡ begin + numbers.from → run.to ≡ begin + numbers.to
-      → IsRun areas test run
+      → numbers.from ≤ numbers.to → run.from ≡ begin + numbers.from → run.to ≡ begin + numbers.to → IsRun areas test run
   placed_run numbers run within all few ordered from to = record {
     ordered = omega (arith, ordered, from, to);
     within = omega (arith, few, to, order.within);
@@ -115,8 +112,7 @@ module _ (areas : List Area) (s : Space) (begin : ℕ) (laid : IsLaid areas)
 -- the same, of a space that is counted
 pub placed_is : (areas : List Area) (s : Space) (spaces : Spaces) (count begin : ℕ) (r : Reach) → IsLaid areas
     → spaces ≡ (stock_of areas).spaces → count ≡ places_of spaces s → AreInOrder areas s count begin
-    → (numbers run : Run)
-    → ((n : ℕ) → n < count → reaches r n ≡ true → (numbers.from ≤ n) × (n < numbers.to))
+    → (numbers run : Run) → ((n : ℕ) → n < count → reaches r n ≡ true → (numbers.from ≤ n) × (n < numbers.to))
     → ((n : ℕ) → numbers.from ≤ n → n < numbers.to → reaches r n ≡ true) → numbers.to ≤ count
     → numbers.from ≤ numbers.to → run.from ≡ begin + numbers.from → run.to ≡ begin + numbers.to
     → IsRun areas (covers spaces (touch.Places s r)) run
@@ -131,20 +127,16 @@ pub one_more : (areas : List Area) (s : Space) (begin m place : ℕ) (g : Res) �
     → AreInOrder areas s m begin → HasPlace areas g place → place ≡ begin + m → AreInOrder areas s (m + 1) begin
 one_more areas s begin m place g is all here e = record {
   within = let w = slice_get_within areas place here.0 here.1 in omega (arith, w, e);
-  each = λ n l.
-      ⊎_elim (all.each n)
-      (λ h.
+  each = λ n l. ⊎_elim (all.each n) (λ h.
       let same : m ≡ n = omega (arith, h, l) in
       subst (λ k. HasPlace areas (zak_place s k) (begin + k)) same
-      (subst (λ k. HasPlace areas (zak_place s m) k) e (subst (λ r. HasPlace areas r place) is here)))
-      (cases_lt n m);
+      (subst (λ k. HasPlace areas (zak_place s m) k) e (subst (λ r. HasPlace areas r place) is here))) (cases_lt n m);
 }
 
 -- Places that don't lie in the order of their numbers begin nowhere: one of them has no area, or has it elsewhere.
 module _ (areas : List Area) (s : Space) (m n : ℕ) (g : Res) (is : g ≡ zak_place s n) (low : n < m) where
   pub unplaced : ((place : ℕ) → ¬ (HasPlace areas g place)) → (begin : ℕ) → ¬ (AreInOrder areas s m begin)
-  unplaced none begin order =
-      none (begin + n) (subst (λ r. HasPlace areas r (begin + n)) (sym is) (order.each n low))
+  unplaced none begin order = none (begin + n) (subst (λ r. HasPlace areas r (begin + n)) (sym is) (order.each n low))
 
   pub elsewhere : IsLaid areas → (first place : ℕ) → ((p : ℕ) → HasPlace areas (zak_place s 0) p → first ≡ p)
       → HasPlace areas g place → (place ≡ first + n → ⊥) → (begin : ℕ) → ¬ (AreInOrder areas s m begin)

@@ -12,9 +12,8 @@ use Rattle.cs_rwset.specs.declared.code.Marks.{Marks}
 use Rattle.cs_rwset.specs.inner.Zoning.{AreBegins, Stay, heads, joined, zones_from}
 
 -- the zones from one on, at an area
-zones_at : (areas : List Area) (begins : List Bool) (p : ℕ) (zone a : Area) → a ≡ get_or areas p a
-    → p < length areas → p < length begins
-    → zones_from zone (drop p areas) (drop p begins)
+zones_at : (areas : List Area) (begins : List Bool) (p : ℕ) (zone a : Area) → a ≡ get_or areas p a → p < length areas
+    → p < length begins → zones_from zone (drop p areas) (drop p begins)
     ≡ (if get_or begins p false then zone ∷ zones_from a (drop (p + 1) areas) (drop (p + 1) begins)
     else zones_from (joined zone a) (drop (p + 1) areas) (drop (p + 1) begins))
 zones_at areas begins p zone a read low here =
@@ -97,8 +96,7 @@ begins_more outside each begins new place b is e first stays all = record {
 }
   where
     by : {A : Type 0} (p : ℕ) → suc p < place + 1 → (suc p < place → A) → (suc p ≡ place → A) → A
-    by p low before here = ⊎_elim here
-        (⊎_elim before (λ far. absurd (omega (arith, low, far))))
+    by p low before here = ⊎_elim here (⊎_elim before (λ far. absurd (omega (arith, low, far))))
         (cases_order (suc p) place)
 
     kept : (p : ℕ) → suc p < place → get_or new (suc p) false ≡ false → get_or begins (suc p) false ≡ false
@@ -108,8 +106,7 @@ begins_more outside each begins new place b is e first stays all = record {
 
     last : (p : ℕ) → suc p ≡ place → get_or new (suc p) false ≡ false → b ≡ false
     last p l still =
-        sym (get_or_at begins b [] false (suc p) (is.long ∙ sym l)) ∙ ap (λ xs. get_or xs (suc p) false) (sym e)
-        ∙ still
+        sym (get_or_at begins b [] false (suc p) (is.long ∙ sym l)) ∙ ap (λ xs. get_or xs (suc p) false) (sym e) ∙ still
 
     at_first : (n : ℕ) → AreBegins n outside each begins → (n ≡ 0 → b ≡ true) → get_or (begins ++ b ∷ []) 0 false ≡ true
     at_first zero is none = get_or_at begins b [] false 0 is.long ∙ none refl
@@ -134,8 +131,7 @@ pub zip_more : {X Y : Type 0} (R : X → Y → Type 0) (xs : List X) (i : ℕ) (
     → AllZip R (take i xs) ys → x ≡ get_or xs i x → i < length xs
     → R x y → zs ≡ ys ++ y ∷ [] → AllZip R (take (i + 1) xs) zs
 zip_more R xs i x ys zs y h here within r e =
-    subst (AllZip R (take (i + 1) xs)) (sym e)
-    (subst (λ l. AllZip R l (ys ++ y ∷ [])) (sym (take_more xs i x within))
+    subst (AllZip R (take (i + 1) xs)) (sym e) (subst (λ l. AllZip R l (ys ++ y ∷ [])) (sym (take_more xs i x within))
     (zip_last R (take i xs) ys (get_or xs i x) y h (subst (λ z. R z y) here r)))
 
 -- two relations, one after the other
@@ -150,8 +146,7 @@ zip_both R S T f (x ∷ xs) (y ∷ ys) [] r s = absurd s
 zip_both R S T f (x ∷ xs) (y ∷ ys) (z ∷ zs) r s = (f x y z r.0 s.0, zip_both R S T f xs ys zs r.1 s.1)
 
 -- what follows from a relation
-pub zip_so : {X Y : Type 0} (P : X → Type 0) (S T : X → Y → Type 0)
-    → ((x : X) (y : Y) → P x → S x y → T x y)
+pub zip_so : {X Y : Type 0} (P : X → Type 0) (S T : X → Y → Type 0) → ((x : X) (y : Y) → P x → S x y → T x y)
     → (xs : List X) (ys : List Y) → All P xs → AllZip S xs ys → AllZip T xs ys
 zip_so P S T f [] [] all s = s
 zip_so P S T f [] (y ∷ ys) all s = absurd s

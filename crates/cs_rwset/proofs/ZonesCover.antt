@@ -19,8 +19,7 @@ LaidFrom n [] = Unit {0}
 LaidFrom n (x ∷ areas) = (x.first ≡ n) × LaidFrom (n + x.length) areas
 
 pub laid_from : (n : ℕ) (areas : List Area)
-    → ((p : ℕ) (x : Area) → slice_get areas p ≡ Some x → x.first ≡ n + word_count (take p areas))
-    → LaidFrom n areas
+    → ((p : ℕ) (x : Area) → slice_get areas p ≡ Some x → x.first ≡ n + word_count (take p areas)) → LaidFrom n areas
 laid_from n [] follows = tt
 laid_from n (x ∷ areas) follows = (
   let here : x.first ≡ n + 0 = follows 0 x refl in omega (arith, here),
@@ -71,8 +70,7 @@ module _ (a : ℕ) where
   covers_lies marks areas = same_tests (covers areas (marked marks) a) (lies marks areas)
       (λ h. let c = covered_at areas (marked marks) a h in
       let f = filter_contains (λ p. get_or marks p false) (range_with_len 0 (length marks)) c.0 c.1 in
-      at_lies marks areas c.0 f.1 c.2)
-      (λ h. let l = lies_at marks areas h in
+      at_lies marks areas c.0 f.1 c.2) (λ h. let l = lies_at marks areas h in
       at_covers areas (marked marks) l.0 a
       (contains_filter (λ p. get_or marks p false) (range_with_len 0 (length marks)) l.0
       (contains_range (length marks) l.0 (mark_within marks l.0 l.1)) l.1) l.2)
@@ -93,8 +91,7 @@ module _ (a : ℕ) where
       (λ l. let both = and_parts (nat_le x.first a) (nat_lt a (x.first + x.length)) l in
       let low = both.0 in let high = both.1 in
       and_from (nat_le z.first a) (nat_lt a (z.first + (z.length + x.length))) (grind (arith, nat_tests))
-      (grind (arith, nat_tests)))
-      (or_cases (in_area (Some z) a) (in_area (Some x) a) h))
+      (grind (arith, nat_tests))) (or_cases (in_area (Some z) a) (in_area (Some x) a) h))
     where
       either : (b : Bool) → nat_lt a (z.first + z.length) ≡ b → nat_le z.first a ≡ true
           → nat_lt a (z.first + (z.length + x.length)) ≡ true → (in_area (Some z) a || in_area (Some x) a) ≡ true
@@ -118,8 +115,7 @@ module _ (a : ℕ) where
   zone_lies m (k ∷ marks) begins z [] e f laid kept = absurd (omega (arith, e))
   zone_lies m (k ∷ marks) [] z (x ∷ areas) e f laid kept = absurd (omega (arith, f))
   zone_lies m (k ∷ marks) (true ∷ begins) z (x ∷ areas) e f laid kept =
-      ap (λ r. (m && in_area (Some z) a) || r)
-      (zone_lies k marks begins x areas (omega (arith, e)) (omega (arith, f))
+      ap (λ r. (m && in_area (Some z) a) || r) (zone_lies k marks begins x areas (omega (arith, e)) (omega (arith, f))
       (subst (λ n. LaidFrom (n + x.length) areas) (sym laid.0) laid.1)
       (λ p low same. kept (suc p) (omega (arith, low)) same))
   zone_lies m (k ∷ marks) (false ∷ begins) z (x ∷ areas) e f laid kept =
@@ -139,9 +135,8 @@ module _ (a : ℕ) where
       covers_lies (heads marks begins) (zones_of areas begins) ∙ by marks begins areas e f first kept
       (laid_at_zero areas laid) ∙ sym (covers_lies marks areas)
     where
-      by : (marks begins : List Bool) (areas : List Area) → length marks ≡ length areas
-          → length begins ≡ length areas → (0 < length begins → get_or begins 0 false ≡ true) → AreKept begins marks
-          → LaidFrom 0 areas
+      by : (marks begins : List Bool) (areas : List Area) → length marks ≡ length areas → length begins ≡ length areas
+          → (0 < length begins → get_or begins 0 false ≡ true) → AreKept begins marks → LaidFrom 0 areas
           → lies (heads marks begins) (zones_of areas begins) ≡ lies marks areas
       by [] begins [] e f first kept laid = refl
       by [] begins (x ∷ areas) e f first kept laid = absurd (omega (arith, e))
@@ -149,7 +144,6 @@ module _ (a : ℕ) where
       by (m ∷ marks) [] (x ∷ areas) e f first kept laid = absurd (omega (arith, f))
       by (m ∷ marks) (b ∷ begins) (x ∷ areas) e f first kept laid =
           ap (λ c. lies (if c then m ∷ heads marks begins else heads marks begins) (zones_from x areas begins))
-          (first (omega arith))
-          ∙ zone_lies m marks begins x areas (omega (arith, e)) (omega (arith, f))
+          (first (omega arith)) ∙ zone_lies m marks begins x areas (omega (arith, e)) (omega (arith, f))
           (subst (λ n. LaidFrom (n + x.length) areas) (sym laid.0) laid.1)
           (λ p low same. kept p (omega (arith, low)) same)

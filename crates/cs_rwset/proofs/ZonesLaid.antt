@@ -21,8 +21,7 @@ zones_words z [] begins e = sum_by-cons (λ x. x.length) z []
 zones_words z (x ∷ areas) [] e = absurd (omega (arith, e))
 zones_words z (x ∷ areas) (true ∷ begins) e =
     sum_by-cons (λ w. w.length) z (zones_from x areas begins)
-    ∙ ap (λ n. z.length + n)
-    (zones_words x areas begins (omega (arith, e)) ∙ sym (sum_by-cons (λ w. w.length) x areas))
+    ∙ ap (λ n. z.length + n) (zones_words x areas begins (omega (arith, e)) ∙ sym (sum_by-cons (λ w. w.length) x areas))
 zones_words z (x ∷ areas) (false ∷ begins) e =
     let rest : word_count (zones_from (joined z x) areas begins) ≡ z.length + x.length + word_count areas =
     zones_words (joined z x) areas begins (omega (arith, e)) in
@@ -81,9 +80,7 @@ new_before : (before : List Area) (z : Area) (areas : List Area) → Lacks areas
     → AreNew (before ++ z ∷ []) areas
 new_before before z [] lacks new = tt
 new_before before z (x ∷ areas) lacks new = (
-  λ p h. ⊎_elim
-      (λ front. new.0 p (h.0, front.0, h.2))
-      (λ last. lacks zero (x, refl, sym h.2 ∙ ap (λ w. w.res) last.1))
+  λ p h. ⊎_elim (λ front. new.0 p (h.0, front.0, h.2)) (λ last. lacks zero (x, refl, sym h.2 ∙ ap (λ w. w.res) last.1))
       (at_push before z p h.0 h.1),
   new.1,
   new_before before z areas (λ p h. lacks (suc p) (h.0, h.1, h.2)) new.2,
@@ -102,8 +99,7 @@ zones_laid done z (x ∷ areas) (true ∷ begins) laid first follows new other n
     subst IsLaid (append_assoc done (z ∷ []) (zones_from x areas begins))
     (zones_laid (done ++ z ∷ []) x areas begins (laid_more done z laid first new) (omega (arith, words, here, first))
     (subst (λ n. LaidFrom (n + x.length) areas) (sym here) follows.1)
-    (new_before done z (x ∷ areas) other news).0 news.1
-    (new_before done z (x ∷ areas) other news).2)
+    (new_before done z (x ∷ areas) other news).0 news.1 (new_before done z (x ∷ areas) other news).2)
 zones_laid done z (x ∷ areas) (false ∷ begins) laid first follows new other news =
     let on : z.first + z.length + x.length ≡ z.first + (z.length + x.length) = omega arith in
     zones_laid done (joined z x) areas begins laid first (subst (λ n. LaidFrom n areas) on follows.1) new
@@ -113,12 +109,7 @@ zones_laid done z (x ∷ areas) (false ∷ begins) laid first follows new other 
 
 pub are_zones : (areas : List Area) (begins : List Bool) → IsLaid areas → length begins ≡ length areas
     → AreZones areas (zones_of areas begins)
-are_zones [] begins laid e = record {
-  laid = laid_none;
-  words = refl;
-  few = omega arith;
-  some = λ all. all;
-}
+are_zones [] begins laid e = record { laid = laid_none; words = refl; few = omega arith; some = λ all. all }
 are_zones (x ∷ areas) [] laid e = absurd (omega (arith, e))
 are_zones (x ∷ areas) (b ∷ begins) laid e =
     let follows = laid_at_zero (x ∷ areas) laid in

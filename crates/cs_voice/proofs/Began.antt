@@ -156,7 +156,6 @@ can_pass access finds note fields init state same fine can =
 
 -- what holds of the p-fields holds of those that are found
 pub as_found : (access : Access) (finds : Finds) (note : NewNote) (fields : List ℤ) (state : State)
-    → CanInitialise access finds note fields state
-    → CanInitialise access finds note finds.at.fields.now state
+    → CanInitialise access finds note fields state → CanInitialise access finds note finds.at.fields.now state
 as_found access finds note fields state can =
     subst (λ f. CanInitialise access finds note f state) (sym can.given) can

@@ -40,8 +40,7 @@ module _ (frames channels : ℕ) where
       (length-map-range_with_len (row.sum_at gives vs) 0 (frames * channels))
       (λ j d low column.
       get_or-map-range_with_len (row.sum_at gives vs) 0 (frames * channels) (j * channels + d) (j * channels + d)
-      (pos 0) (within channels frames j d low column) (zero-add (j * channels + d))
-      ∙ all_at vs j d all column)
+      (pos 0) (within channels frames j d low column) (zero-add (j * channels + d)) ∙ all_at vs j d all column)
 
   pub first_fits : (vs : List VoiceData) (v : VoiceData) → All Fits vs → 0 < length vs → v ≡ get_or vs 0 v → Fits v
   first_fits vs v all some is = subst Fits (sym is) (all 0 v some)
@@ -73,16 +72,12 @@ module _ (frames channels : ℕ) where
       → block ≡ sums gives len vs → ((j c : ℕ) → j < frames → c < channels → IsSumOf m (sum_at vs j c))
       → AreSumsOf m block
   small_as vs m len block all long is small at =
-      subst (IsSumOf m) (sym (ap (λ (l : List ℤ). get_or l at (pos 0)) is))
-      (by_test (nat_lt at len)
+      subst (IsSumOf m) (sym (ap (λ (l : List ℤ). get_or l at (pos 0)) is)) (by_test (nat_lt at len)
       (λ yes. let low : at < len = ltb-true at len yes in
-      subst (IsSumOf m)
-      (sym (get_or-map-range_with_len (row.sum_at gives vs) 0 len at at (pos 0) low (zero-add at)))
+      subst (IsSumOf m) (sym (get_or-map-range_with_len (row.sum_at gives vs) 0 len at at (pos 0) low (zero-add at)))
       (small_at vs m at all (subst (λ (k : ℕ). at < k) long low) small))
-      (λ no. subst (IsSumOf m)
-      (sym (get_or_past (sums gives len vs) at (pos 0)
-      (omega (arith, at_or_past at len no, length-map-range_with_len (row.sum_at gives vs) 0 len))))
-      (no_sum m)))
+      (λ no. subst (IsSumOf m) (sym (get_or_past (sums gives len vs) at (pos 0)
+      (omega (arith, at_or_past at len no, length-map-range_with_len (row.sum_at gives vs) 0 len)))) (no_sum m)))
     where
       no_sum : (k : ℕ) → IsSumOf k (pos 0)
       no_sum k = record { low = omega (arith, ints); high = omega (arith, ints) }

@@ -33,8 +33,7 @@ module _ (s : Sheet) (access : Access)
   each_get [] h = tt
   each_get (g ∷ gs) h = (may_get g h.0, each_get gs h.1)
 
-  each_set : (gs : List Res) → AreNamed (IsUsed s) gs → AreNamed (IsWritten s) gs
-      → AreNamed (MaySet access s.areas) gs
+  each_set : (gs : List Res) → AreNamed (IsUsed s) gs → AreNamed (IsWritten s) gs → AreNamed (MaySet access s.areas) gs
   each_set [] h w = tt
   each_set (g ∷ gs) h w = (may_set g h.0 w.0, each_set gs h.1 w.1)
 
@@ -44,8 +43,7 @@ module _ (s : Sheet) (access : Access)
   if_set false gs h w = tt
 
   can_do : (stock : Stock) (kinds : Kinds) (t : Act) (r : Rate) → ActNamed stock kinds (IsUsed s) t r
-      → AreNamed (IsWritten s) (act_writes stock t)
-      → CanDo access s.areas stock t
+      → AreNamed (IsWritten s) (act_writes stock t) → CanDo access s.areas stock t
   can_do stock kinds (act.Load g) r h w = record { uses = (may_get g h, tt); writes = tt }
   can_do stock kinds (act.Save g) r h w = record { uses = (may_get g h.0, tt); writes = (may_set g h.0 w.0, tt) }
   can_do stock kinds (act.Unit opcode u reach) r h w =
@@ -59,8 +57,7 @@ module _ (s : Sheet) (access : Access)
   can_do stock kinds _ r h w = record { uses = tt; writes = tt }
 
   pub can_all : (stock : Stock) (kinds : Kinds) (ops : List Op) → OpsNamed stock kinds (IsUsed s) ops
-      → OpsWritten stock (IsWritten s) ops
-      → AllByRecursion (λ (op : Op). CanDo access s.areas stock op.act) ops
+      → OpsWritten stock (IsWritten s) ops → AllByRecursion (λ (op : Op). CanDo access s.areas stock op.act) ops
   can_all stock kinds [] h w = tt
   can_all stock kinds (op ∷ ops) h w = (
     can_do stock kinds op.act (rate_at op.into) h.0 w.0,

@@ -56,8 +56,7 @@ all_rows n f (suc frames) a out long each =
     (length-take n out ∙ (omega (arith, long, whole) ∙ sym (length-map-range_with_len (f a) 0 n)))
     (λ c low.
     let inside : c < n = omega (arith, low, length-take n out) in
-    get_or-take n out c (pos 0) inside
-    ∙ (subst (λ k. get_or out k (pos 0) ≡ f a c) (omega arith)
+    get_or-take n out c (pos 0) inside ∙ (subst (λ k. get_or out k (pos 0) ≡ f a c) (omega arith)
     (subst (λ k. place n out 0 c ≡ f k c) (omega arith) (each 0 c (omega arith) inside))
     ∙ sym (get_or-map-range_with_len (f a) 0 n c c (pos 0) inside (omega arith)))) in
     let rest : drop n out ≡ flat_map (λ j. map (f j) (range_with_len 0 n)) (range_with_len (a + 1) frames) =

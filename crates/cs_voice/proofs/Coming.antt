@@ -54,8 +54,7 @@ mapped_both f xs ys k n same = slice_get-map f xs (k + n) ∙ ap (option_map f) 
 module _ (rs : List (List Op)) where
   -- the ops of a step among those of all
   step_lies : (f : ℕ → ℕ) (p : ℕ) (ss : List Step) (at : ℕ) (s : Step) (n : ℕ) → slice_get ss at ≡ Some s
-      → n < size rs s
-      → slice_get (flat_from rs f p ss) (place_of rs at ss + n)
+      → n < size rs s → slice_get (flat_from rs f p ss) (place_of rs at ss + n)
       ≡ slice_get (flat_step rs f (p + place_of rs at ss) s) n
   step_lies f p [] at s n is low = absurd (cc)
   step_lies f p (x ∷ ss) zero s n is low =
@@ -70,8 +69,7 @@ module _ (rs : List (List Op)) where
         long,
         e,
       ))
-      ∙ ap (λ k. slice_get (flat_step rs f k x) n) here
-      ∙ ap (λ y. slice_get (flat_step rs f (p + 0) y) n) same
+      ∙ ap (λ k. slice_get (flat_step rs f k x) n) here ∙ ap (λ y. slice_get (flat_step rs f (p + 0) y) n) same
   step_lies f p (x ∷ ss) (suc at) s n is low =
       let long = step_long rs f p x in
       let on : size rs x + place_of rs at ss + n ≡ length (flat_step rs f p x) + (place_of rs at ss + n) =
@@ -79,8 +77,7 @@ module _ (rs : List (List Op)) where
       let behind : p + size rs x + place_of rs at ss ≡ p + (size rs x + place_of rs at ss) = omega arith in
       ap (slice_get (flat_step rs f p x ++ flat_from rs f (p + size rs x) ss)) on
       ∙ got_behind (flat_step rs f p x) (flat_from rs f (p + size rs x) ss) (place_of rs at ss + n)
-      ∙ step_lies f (p + size rs x) ss at s n is low
-      ∙ ap (λ k. slice_get (flat_step rs f k s) n) behind
+      ∙ step_lies f (p + size rs x) ss at s n is low ∙ ap (λ k. slice_get (flat_step rs f k s) n) behind
 
   module _ (ss : List Step) (w : Begins) (whole : List Op) (p : ℕ) (lie : LieFrom whole p (moved_ops w p (flat rs ss)))
       (at : ℕ) where
@@ -93,22 +90,18 @@ module _ (rs : List (List Op)) where
         omega (arith, next, end, long)
 
     -- an op, with its jump to where a step comes to stand
-    pub op_lies : (op : Op) → slice_get ss at ≡ Some (step.Do op)
-        → slice_get whole (p + place_of rs at ss)
+    pub op_lies : (op : Op) → slice_get ss at ≡ Some (step.Do op) → slice_get whole (p + place_of rs at ss)
         ≡ Some (moved_op w p (record op { act = placed (λ to. place_of rs to ss) op.act }))
     op_lies op is =
         let low = room (step.Do op) is in
         let all : length (moved_ops w p (flat rs ss)) ≡ length (flat rs ss) = length-map (flat rs ss) (moved_op w p) in
         let none : place_of rs at ss ≡ place_of rs at ss + 0 = omega arith in
-        lie (place_of rs at ss) (omega (arith, low, all))
-        ∙ got_mapped (moved_op w p) (flat rs ss) (place_of rs at ss)
-        (record op { act = placed (λ to. place_of rs to ss) op.act })
-        (ap (slice_get (flat rs ss)) none
+        lie (place_of rs at ss) (omega (arith, low, all)) ∙ got_mapped (moved_op w p) (flat rs ss) (place_of rs at ss)
+        (record op { act = placed (λ to. place_of rs to ss) op.act }) (ap (slice_get (flat rs ss)) none
         ∙ step_lies (λ to. place_of rs to ss) 0 ss at (step.Do op) 0 is (omega arith))
 
     -- what a call invokes, in the window of both
-    pub call_lies : (c : Call) → slice_get ss at ≡ Some (step.Invoke c)
-        → LieFrom whole (p + place_of rs at ss)
+    pub call_lies : (c : Call) → slice_get ss at ≡ Some (step.Invoke c) → LieFrom whole (p + place_of rs at ss)
         (moved_ops (further w (window_of c)) (p + place_of rs at ss) (ops_at rs c.routine))
     call_lies c is n low =
         let q = place_of rs at ss in
@@ -119,8 +112,7 @@ module _ (rs : List (List Op)) where
         let high = room (step.Invoke c) is in
         let all : length (moved_ops w p (flat rs ss)) ≡ length (flat rs ss) = length-map (flat rs ss) (moved_op w p) in
         let on : p + q + n ≡ p + (q + n) = omega arith in
-        ap (slice_get whole) on
-        ∙ lie (q + n) (omega (arith, low, short, high, all))
+        ap (slice_get whole) on ∙ lie (q + n) (omega (arith, low, short, high, all))
         ∙ mapped_both (moved_op w p) (flat rs ss) inner q n
         (step_lies (λ to. place_of rs to ss) 0 ss at (step.Invoke c) n is (omega (arith, low, short))
         ∙ (let none : 0 + q ≡ q = omega arith in
@@ -265,23 +257,20 @@ module _ {R : Type 0} {access : R → Access} {r q : R} {at : NoteSetting} {x y 
 
     -- is fine there
     fine : (end : ℕ) × (is_fine now.regs.counts end (here.able.place + place_of rs i ss) (there here.able.place) ≡ true)
-    fine = fine_now same_access done (op_lies rs ss w here.able.outset.ops here.able.place
-        here.able.lie i op is)
+    fine = fine_now same_access done (op_lies rs ss w here.able.outset.ops here.able.place here.able.lie i op is)
         here.able.can
 
     pub reads : list_all (has_register now.regs.counts) (map (moved_reg w) op.from) ≡ true
     reads = (parts now.regs.counts fine.0 (here.able.place + place_of rs i ss) (there here.able.place) fine.1).from
 
     -- a jump goes to a later step
-    goes_later : (to : ℕ) {a : Act} → op.act ≡ a
-        → finds now.regs.counts fine.0 (here.able.place + place_of rs i ss)
+    goes_later : (to : ℕ) {a : Act} → op.act ≡ a → finds now.regs.counts fine.0 (here.able.place + place_of rs i ss)
         (moved_act w here.able.place (placed (λ to. place_of rs to ss) a))
         ≡ (nat_lt (here.able.place + place_of rs i ss) (here.able.place + place_of rs to ss)
         && nat_le (here.able.place + place_of rs to ss) fine.0) → i < to
     goes_later to {a} is_a jumps =
         let far = ltb-true _ _ (and_parts (nat_lt (here.able.place + place_of rs i ss) (here.able.place + place_of rs
-        to ss))
-        (nat_le (here.able.place + place_of rs to ss) fine.0)
+        to ss)) (nat_le (here.able.place + place_of rs to ss) fine.0)
         (sym jumps ∙ subst (λ b. finds now.regs.counts fine.0 (here.able.place + place_of rs i ss)
         (moved_act w here.able.place (placed (λ to. place_of rs to ss) b)) ≡ true) is_a
         (found now.regs.counts fine.0 (here.able.place + place_of rs i ss) (there here.able.place) fine.1))).0 in
@@ -301,16 +290,14 @@ module _ {R : Type 0} {access : R → Access} {r q : R} {at : NoteSetting} {x y 
         (parts now.regs.counts fine.0 (here.able.place + place_of rs i ss) (there here.able.place) fine.1).takes)
       where
         one_of : (xs : List Reg) → takes_from (act.Unless (here.able.place + place_of rs to ss)) (rate_at op.into) xs ≡
-            true
-            → length xs ≡ 1
+            true → length xs ≡ 1
         one_of (y ∷ []) h = refl
         one_of ys h = absurd (cc)
 
     next : place_of rs (suc i) ss ≡ place_of rs i ss + 1
     next = place_next rs i ss (step.Do op) is
 
-    comes_to : (goal : ℕ) → i < goal
-        → ((p : ℕ) → GoesOn (moved_act w p (placed (λ to. place_of rs to ss) op.act))
+    comes_to : (goal : ℕ) → i < goal → ((p : ℕ) → GoesOn (moved_act w p (placed (λ to. place_of rs to ss) op.act))
         (map (values now.regs) (map (moved_reg w) op.from)) (p + place_of rs i ss) (p + place_of rs goal ss))
         → Comes (access r) at x rs ss w old before asked goal now cells given None
     comes_to goal later goes = record {
@@ -327,11 +314,9 @@ module _ {R : Type 0} {access : R → Access} {r q : R} {at : NoteSetting} {x y 
         (map (values now.regs) (map (moved_reg w) op.from)) (p + place_of rs i ss) (p + place_of rs to ss)) (sym jump)
         refl)
 
-    comes_unless : (to goal : ℕ) → op.act ≡ act.Unless to → i < goal
-        → ((p : ℕ) → p + place_of rs goal ss
+    comes_unless : (to goal : ℕ) → op.act ≡ act.Unless to → i < goal → ((p : ℕ) → p + place_of rs goal ss
         ≡ (if holds (operand 0 (map (values now.regs) (map (moved_reg w) op.from)) 0) then p + place_of rs i ss + 1
-        else p + place_of rs to ss))
-        → Comes (access r) at x rs ss w old before asked goal now cells given None
+        else p + place_of rs to ss)) → Comes (access r) at x rs ss w old before asked goal now cells given None
     comes_unless to goal jump later goes = comes_to goal later
         (λ p. subst (λ a. GoesOn (moved_act w p (placed (λ to. place_of rs to ss) a))
         (map (values now.regs) (map (moved_reg w) op.from)) (p + place_of rs i ss) (p + place_of rs goal ss)) (sym
@@ -357,17 +342,14 @@ module _ {R : Type 0} {access : R → Access} {r q : R} {at : NoteSetting} {x y 
     module _ (other : is_jump op.act ≡ false) where
       lies : (o : Outset) (p : ℕ) → LieFrom o.ops p (moved_ops w p (flat rs ss))
           → slice_get o.ops (p + place_of rs i ss) ≡ Some (moved_op w 0 op)
-      lies o p lie = op_lies rs ss w o.ops p lie i op is
-          ∙ ap Some (here_same w p (λ to. place_of rs to ss) op other)
+      lies o p lie = op_lies rs ss w o.ops p lie i op is ∙ ap Some (here_same w p (λ to. place_of rs to ss) op other)
 
       can_do : CanDoHere (access q) at x (moved_op w 0 op) now
-      can_do = can_here same_access done (lies here.able.outset here.able.place here.able.lie)
-          here.able.can
+      can_do = can_here same_access done (lies here.able.outset here.able.place here.able.lie) here.able.can
 
       pub can_begin : is_start op.act ≡ true → {d : Op} → d ≡ moved_op w 0 op → CanStart y d now
       can_begin st is_it = subst (λ z. CanStart y z now) (sym is_it) (subst (λ z. CanStart z (moved_op w 0 op) now)
-          (sym here.same)
-          (can_start (access q) at (moved_op w 0 op) now x (moved_start w op.act ∙ st) can_do))
+          (sym here.same) (can_start (access q) at (moved_op w 0 op) now x (moved_start w op.act ∙ st) can_do))
 
       pub can_be_done : {d : Op} → d ≡ moved_op w 0 op → CanBeDone (access q) at d now
       can_be_done is_it = subst (λ z. CanBeDone (access q) at z now) (sym is_it)
@@ -380,10 +362,8 @@ module _ {R : Type 0} {access : R → Access} {r q : R} {at : NoteSetting} {x y 
         up_to = λ o p lie first.
             let one : i + 1 ≡ suc i = omega arith in
             let on : p + place_of rs i ss + 1 ≡ p + place_of rs (suc i) ss = omega (arith, next) in
-            subst (λ k. IsDoneTo (access r) at x o k new after given)
-            (on ∙ ap (λ k. p + place_of rs k ss) (sym one))
-            (done_act same_access (here.comes.up_to o p
-            lie first) (lies o p lie) new after is_one
+            subst (λ k. IsDoneTo (access r) at x o k new after given) (on ∙ ap (λ k. p + place_of rs k ss) (sym one))
+            (done_act same_access (here.comes.up_to o p lie first) (lies o p lie) new after is_one
             (subst (λ z. DoesOp (access q) at z now cells new after) is_it does));
       }
 
@@ -401,8 +381,7 @@ module _ {R : Type 0} {access : R → Access} {r q : R} {at : NoteSetting} {x y 
             let one : i + 1 ≡ suc i = omega arith in
             let on : p + place_of rs i ss + 1 ≡ p + place_of rs (suc i) ss = omega (arith, next) in
             subst (λ k. HasGoneOn (access r) at x o k new cells asks refused)
-            (on ∙ ap (λ k. p + place_of rs k ss) (sym one))
-            (done_start same_access (here.comes.up_to o p
+            (on ∙ ap (λ k. p + place_of rs k ss) (sym one)) (done_start same_access (here.comes.up_to o p
             lie first) (lies o p lie) new asks refused (moved_start w op.act ∙ st)
             (subst (λ z. HasStarted z (moved_op w 0 op) now given new asks refused) here.same
             (subst (λ z. HasStarted y z now given new asks refused) is_it started)));
@@ -436,20 +415,16 @@ module _ {R : Type 0} {access : R → Access} {r q : R} {at : NoteSetting} {x y 
           (λ a z. HasGoneOn a at z o (p + place_of rs (i + 1) ss) new after asks refused)
           (subst (λ k. HasGoneOn (access q) at y o k new after asks refused)
           (on ∙ ap (λ k. p + place_of rs k ss) (sym one))
-          (does.goes o (p + place_of rs i ss) (call_lies rs ss w o.ops p lie i c is)
-          (now_so same_access x y here.same
-          (λ a z. IsDoneTo a at z o (p + place_of rs i ss) now cells given) (here.comes.up_to o p lie
-          first))));
+          (does.goes o (p + place_of rs i ss) (call_lies rs ss w o.ops p lie i c is) (now_so same_access x y here.same
+          (λ a z. IsDoneTo a at z o (p + place_of rs i ss) now cells given) (here.comes.up_to o p lie first))));
     }
 
     pub never_call : AreOfNoCycle (access q) at y (further w (window_of c)) (ops_at rs c.routine) now cells given
         → AreOfNoCycle (access r) at x w (flat rs ss) old before asked
     never_call none = record {
       never = λ o p lie first. then_so same_access x y here.same (λ a z. IsOfNoCycle a at o)
-          (none.never o (p + place_of rs i ss) (call_lies rs ss w o.ops p lie i c is)
-          (now_so same_access x y here.same
-          (λ a z. IsDoneTo a at z o (p + place_of rs i ss) now cells given) (here.comes.up_to o p lie
-          first)));
+          (none.never o (p + place_of rs i ss) (call_lies rs ss w o.ops p lie i c is) (now_so same_access x y here.same
+          (λ a z. IsDoneTo a at z o (p + place_of rs i ss) now cells given) (here.comes.up_to o p lie first)));
     }
 
 -- ---- ends
@@ -485,8 +460,7 @@ module _ {access : Access} {at : NoteSetting} {x : Finding} {rs : List (List Op)
       → DoesOps access at x w (flat rs ss) old before asked now cells given (Some r)
   does_refused is comes = record {
     goes = λ o p lie first.
-        subst (λ z. HasGoneOn access at x o (p + place_of rs i ss) now cells given z) is
-        (comes.up_to o p lie first);
+        subst (λ z. HasGoneOn access at x o (p + place_of rs i ss) now cells given z) is (comes.up_to o p lie first);
   }
 
   -- all steps have been done
@@ -561,8 +535,7 @@ module _ (access : Access) (at : NoteSetting) (x : Finding) (ops : List Op) (old
 
   pub run_cycle : (new : State) (after : ℕ → ℤ) (given : List Ask) (refused : Option StartRefusal)
       → DoesOps access at x no_window ops old before asked new after given refused
-      → (c : Context) → CanRun access at c ops old
-      → (refused ≡ None) × HasRun at.layout.now c ops old before new after
+      → (c : Context) → CanRun access at c ops old → (refused ≡ None) × HasRun at.layout.now c ops old before new after
   unfolding whole
   run_cycle new after given refused does c can =
       all_cycle access at x whole (0 + length ops) new after given refused (omega arith)

@@ -32,16 +32,14 @@ listed_units ps n long =
     (length-map-range_with_len (unit_at ps) 0 n ∙ sym long ∙ sym (length-map ps (option_map playing)))
     (λ u low. listed_at (unit_at ps) n None u
     (let e : length (map (unit_at ps) (range_with_len 0 n)) ≡ n =
-    length-map-range_with_len (unit_at ps) 0 n in omega (arith, low, e))
-    ∙ sym (ap (λ f. f u) (units_are ps)))
+    length-map-range_with_len (unit_at ps) 0 n in omega (arith, low, e)) ∙ sym (ap (λ f. f u) (units_are ps)))
 
 -- what registers hold fills as many others alike
 filled_alike : (f g : RegisterFile) → f.counts ≡ g.counts → f.ksmps ≡ g.ksmps → filled g (values g) ≡ g
     → filled f (values g) ≡ g
 filled_alike f g counts frames whole =
     ap (λ n. filled (record f { counts = n }) (values g)) counts
-    ∙ ap (λ n. filled (record f { counts = g.counts; ksmps = n }) (values g)) frames
-    ∙ whole
+    ∙ ap (λ n. filled (record f { counts = g.counts; ksmps = n }) (values g)) frames ∙ whole
 
 refilled_alike : (f g : ChannelFile) → length f.rows ≡ length g.rows → f.ksmps ≡ g.ksmps → refilled g (outs g) ≡ g
     → refilled f (outs g) ≡ g
@@ -84,8 +82,7 @@ module _ (number age until : ℕ) (stage : Stage) (foot : Footprint) (code : Cod
   pub can_run : (access : Access) (s : State) (h : Kept s) (at : NoteSetting) (t : State)
       → Allows access (Uses voice_job (voice s)) (Writes voice_job (voice s))
       → at.layout.now ≡ stage.layout.now → at.head.now ≡ stage.head.now → at.spaces ≡ stage.spaces
-      → at.fields.now ≡ fields
-      → IsStateIn stage.layout.now (piece_of (voice s)) h.voice.playable.kinds code.counts t
+      → at.fields.now ≡ fields → IsStateIn stage.layout.now (piece_of (voice s)) h.voice.playable.kinds code.counts t
       → CanRun access at (context s h) code.ops t
   can_run access s h at t bank layout head zak given st =
       let p = h.voice.playable in
@@ -134,8 +131,7 @@ module _ (number age until : ℕ) (stage : Stage) (foot : Footprint) (code : Cod
     -- the machine after it
     end : machine_of t (cell d) ran.next [] None ≡ cycle (sounding (voice s)) (cell c)
     end =
-        ran.machine
-        ∙ ap (λ l. run (voice_world l (piece_of (voice s))) 0 code.ops
+        ran.machine ∙ ap (λ l. run (voice_world l (piece_of (voice s))) 0 code.ops
         (machine_of (record s { outs = o }) (cell c) 0 [] None)) same
         ∙ ap (run (voice_world stage.layout.now (piece_of (voice s))) 0 code.ops) (sym begin)
 
@@ -145,8 +141,7 @@ module _ (number age until : ℕ) (stage : Stage) (foot : Footprint) (code : Cod
     -- the voice is the one after it
     pub job : voice t ≡ after (voice s) c
     job = sym (
-        ap (taking (voice s)) (sym done)
-        ∙ (λ i. record (voice t) {
+        ap (taking (voice s)) (sym done) ∙ (λ i. record (voice t) {
           regs = filled_alike s.regs t.regs (h.state.registers ∙ sym ran.state.registers)
               (h.state.frames ∙ sym ran.state.frames) all_registers i;
           units = units i;
@@ -195,16 +190,13 @@ module _ (number age until : ℕ) (stage : Stage) (foot : Footprint) (code : Cod
       (long : length u.outs.rows ≡ length s.outs.rows)
       (frames : u.outs.ksmps ≡ s.outs.ksmps) (same : u ≡ record s { outs = u.outs })
       (at : NoteSetting) (layout : at.layout.now ≡ stage.layout.now) (head : at.head.now ≡ stage.head.now)
-      (zak : at.spaces ≡ stage.spaces)
-      (given : at.fields.now ≡ fields) (access : Access)
+      (zak : at.spaces ≡ stage.spaces) (given : at.fields.now ≡ fields) (access : Access)
       (bank : Allows access (Uses voice_job (voice s)) (Writes voice_job (voice s))) where
     pub able : CanRun access at (context s h) code.ops u
     able = subst (λ z. CanRun access at (context s h) code.ops z) (sym same)
-        (can_run access s h at (record s { outs = u.outs }) bank layout head zak given
-        (cleared s h u.outs long frames))
+        (can_run access s h at (record s { outs = u.outs }) bank layout head zak given (cleared s h u.outs long frames))
 
-    pub cycled : (t : State) (c d : Cells)
-        → ((x : Context) → CanRun access at x code.ops u
+    pub cycled : (t : State) (c d : Cells) → ((x : Context) → CanRun access at x code.ops u
         → HasRun at.layout.now x code.ops u (cell c) t (cell d))
         → filled t.regs (values t.regs) ≡ t.regs → refilled t.outs (outs t.outs) ≡ t.outs → length d ≡ length c
         → HasCycled s t c d

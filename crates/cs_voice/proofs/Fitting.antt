@@ -208,8 +208,7 @@ pub one_read : (f : Reg → Wave) (xs : List Reg) (i : ℕ) (q : Reg) (before af
     → after ≡ first_values (map f (take (i + 1) xs))
 one_read f xs i q before after at was grown =
     let low : i < length xs = slice_get_within xs i q at in
-    grown ∙ ap (λ l. l ++ f q 0 ∷ []) was
-    ∙ sym (map-append (λ (w : Wave). w 0) (map f (take i xs)) (f q ∷ []))
+    grown ∙ ap (λ l. l ++ f q 0 ∷ []) was ∙ sym (map-append (λ (w : Wave). w 0) (map f (take i xs)) (f q ∷ []))
     ∙ sym (ap first_values (map_more f xs i q low
     ∙ ap (λ x. map f (take i xs) ++ f x ∷ []) (get_or_from_slice_get xs i q q at)))
 

@@ -23,8 +23,7 @@ CanDoBy access at (Some f) op now = (s : Sheet) × (f.0.at ≡ at) × CanDoOp ac
 
 abbrev pub CanDoHere : Access → NoteSetting → Finding → Op → State → Type 0
 CanDoHere access at finding op now =
-    ((c : Context) × (end : ℕ) × (place : ℕ) × CanStep access at c end place op now)
-    ⊎ CanDoBy access at finding op now
+    ((c : Context) × (end : ℕ) × (place : ℕ) × CanStep access at c end place op now) ⊎ CanDoBy access at finding op now
 
 -- a cycle starts nothing, looks for no table and asks for nothing
 pub starts_not : (t : Act) → is_of_cycle t ≡ true → is_start t ≡ true → ⊥
@@ -50,37 +49,30 @@ module _ (access : Access) (at : NoteSetting) (op : Op) (now : State) where
 
 module _ {earlier later : Access} (alike : later ≡ earlier) {at : NoteSetting} {finding : Finding} {o : Outset}
     {place : ℕ} {now : State} {cells : ℕ → ℤ} {given : List Ask}
-    (done : IsDoneTo earlier at finding o place now cells given)
-    {op : Op} (is : slice_get o.ops place ≡ Some op) where
+    (done : IsDoneTo earlier at finding o place now cells given) {op : Op} (is : slice_get o.ops place ≡ Some op) where
   -- the op there can be done in a cycle, over what the bank was and over what it is
-  step_first : (c : Context) → CanRun earlier at c o.ops o.first
-      → CanStep earlier at c (length o.ops) place op now
+  step_first : (c : Context) → CanRun earlier at c o.ops o.first → CanStep earlier at c (length o.ops) place op now
   step_first c can = steps.can_step (steps.can_go_on can (done.cycle c can).state) is
 
-  step_now : (c : Context) → CanRun earlier at c o.ops o.first
-      → CanStep later at c (length o.ops) place op now
+  step_now : (c : Context) → CanRun earlier at c o.ops o.first → CanStep later at c (length o.ops) place op now
   step_now c can =
       subst (λ access. CanStep access at c (length o.ops) place op now) (sym alike) (step_first c can)
 
   -- and as one of a sheet that begins
   op_now : (f : Finds) (ms : List Bool) (code : Code) (s : Sheet) → finding ≡ Some (f, ms) → f.at ≡ at
-      → code.ops ≡ o.ops
-      → CanPass earlier f ms code s o.first → CanDoOp later f ms op s now
+      → code.ops ≡ o.ops → CanPass earlier f ms code s o.first → CanDoOp later f ms op s now
   op_now f ms code s found same eq can =
-      passed.able_again (done.passes f ms code s found same eq can) alike can
-      (ap (λ xs. slice_get xs place) eq ∙ is)
+      passed.able_again (done.passes f ms code s found same eq can) alike can (ap (λ xs. slice_get xs place) eq ∙ is)
 
   pub can_here : CanGo earlier at finding o.ops o.first → CanDoHere later at finding op now
   can_here can = by finding refl can
     where
-      by : (x : Finding) → finding ≡ x → CanGo earlier at x o.ops o.first
-          → CanDoHere later at x op now
+      by : (x : Finding) → finding ≡ x → CanGo earlier at x o.ops o.first → CanDoHere later at x op now
       by x e (inl (c, h)) = inl (c, length o.ops, place, step_now c h)
       by None e (inr h) = absurd h
       by (Some f) e (inr (code, s, same, eq, h)) = inr (s, same, op_now f.0 f.1 code s e same eq h)
 
-  pub fine_now : CanGo earlier at finding o.ops o.first
-      → (end : ℕ) × (is_fine now.regs.counts end place op ≡ true)
+  pub fine_now : CanGo earlier at finding o.ops o.first → (end : ℕ) × (is_fine now.regs.counts end place op ≡ true)
   fine_now can = by finding refl can
     where
       by : (x : Finding) → finding ≡ x → CanGo earlier at x o.ops o.first
@@ -104,8 +96,7 @@ module _ {earlier later : Access} (alike : later ≡ earlier) {at : NoteSetting}
   }
 
   -- an op that was done over cells
-  pub done_act : (new : State) (after : ℕ → ℤ) → is_here op.act ≡ true
-      → DoesOp later at op now cells new after
+  pub done_act : (new : State) (after : ℕ → ℤ) → is_here op.act ≡ true → DoesOp later at op now cells new after
       → IsDoneTo earlier at finding o (place + 1) new after given
   done_act new after here does = record {
     cycle = λ c can. steps.came_on (done.cycle c can) is (omega arith) (steps.does_step (step_now c can) does);
@@ -126,8 +117,7 @@ module _ {earlier later : Access} (alike : later ≡ earlier) {at : NoteSetting}
   done_start new asks refused st started = by refused did
     where
       did : (f : Finds) (ms : List Bool) (code : Code) (s : Sheet) → finding ≡ Some (f, ms) → f.at ≡ at
-          → code.ops ≡ o.ops → CanPass earlier f ms code s o.first
-          → IsDone s op now cells given new cells asks refused
+          → code.ops ≡ o.ops → CanPass earlier f ms code s o.first → IsDone s op now cells given new cells asks refused
       did f ms code s found same eq can =
           let h = op_now f ms code s found same eq can in
           (subst (λ x. HasStarted x op now given new asks refused) found started) s cells (record {
@@ -144,8 +134,7 @@ module _ {earlier later : Access} (alike : later ≡ earlier) {at : NoteSetting}
       by None did = record {
         cycle = λ c can. absurd (never st c can);
         passes = λ f ms code s found same eq can. passed.passed_one (done.passes f ms code s found same eq can)
-            can.begin.playable (ap (λ xs. slice_get xs place) (can.same ∙ eq) ∙ is)
-            (did f ms code s found same eq can);
+            can.begin.playable (ap (λ xs. slice_get xs place) (can.same ∙ eq) ∙ is) (did f ms code s found same eq can);
       }
       by (Some x) did = record {
         cycle = never st;

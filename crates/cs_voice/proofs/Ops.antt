@@ -37,8 +37,7 @@ fine_here code n op fine at =
     (fine_at code.counts (length code.ops) 0 code.ops n op fine at)
 
 pub op_of : (s : Sheet) (code : Code) (counts : Counts) (n : ℕ) (op : Op) → IsPlayable s → s.init ≡ code.ops
-    → valid code ≡ true → counts ≡ code.counts
-    → slice_get code.ops n ≡ Some op → IsOpOf s counts op
+    → valid code ≡ true → counts ≡ code.counts → slice_get code.ops n ≡ Some op → IsOpOf s counts op
 op_of s code counts n op playable same fine counted at = record {
   end = length code.ops;
   place = n;

@@ -120,8 +120,7 @@ done_ask s op old cells asked is state = record {
 
 -- a unit is started, or isn't
 pub done_start : (s : Sheet) (op : Op) (o : Opcode) (u : ℕ) (areas : List Area) (old new : State) (cells : ℕ → ℤ)
-    (asked : List Ask) (refused : Option StartRefusal)
-    → op.act ≡ act.Start o u → areas ≡ s.areas → IsPlayable s
+    (asked : List Ask) (refused : Option StartRefusal) → op.act ≡ act.Start o u → areas ≡ s.areas → IsPlayable s
     → ((p : IsPlayable s) → Starts areas s.piece p.kinds old.regs.counts o (rate_at op.into) u
     (first_values (map (values old.regs) op.from)) old new refused)
     → IsDone s op old cells asked new cells asked refused
@@ -137,8 +136,7 @@ done_start s op o u areas old new cells asked refused is same p starts = record 
   where
     own : (q : IsPlayable s)
         → Starts s.areas s.piece q.kinds old.regs.counts o (rate_at op.into) u (first_values (map (values old.regs)
-        op.from))
-        old new refused
+        op.from)) old new refused
     own q = subst (λ x. Starts x s.piece q.kinds old.regs.counts o (rate_at op.into) u
         (first_values (map (values old.regs) op.from)) old new refused) same (starts q)
 
@@ -213,8 +211,7 @@ module _ {s : Sheet} {first : State} {before : ℕ → ℤ} {asked : List Ask} {
 
   -- the next op can be done, over a bank that lets the same be done
   pub able_again : {earlier later : Access} {finds : Finds} {ms : List Bool} {code : Code} {op : Op} → later ≡ earlier
-      → CanPass earlier finds ms code s first → slice_get code.ops place ≡ Some op
-      → CanDoOp later finds ms op s now
+      → CanPass earlier finds ms code s first → slice_get code.ops place ≡ Some op → CanDoOp later finds ms op s now
   able_again {earlier} {later} {finds} {ms} {code} {op} alike can at = record {
     begin = record {
       found = can.begin.found;
@@ -245,9 +242,7 @@ start_takes counts end place u o op fine is =
 pub started_op : (finds : Finds) (ms : List Bool) (s : Sheet) (op : Op) (o : Opcode) (u v : ℕ) (r : Rate)
     (settled : List ℤ) (old new : State) (cells : ℕ → ℤ) (asked : List Ask) (refused : Option StartRefusal)
     → op.act ≡ act.Start o u → v ≡ u → r ≡ rate_at op.into → IsFound finds ms s → IsPlayable s → IsOpOf s
-    old.regs.counts op
-    → IsStateOf s old.regs.counts old
-    → settled ≡ first_values (map (values old.regs) op.from)
+    old.regs.counts op → IsStateOf s old.regs.counts old → settled ≡ first_values (map (values old.regs) op.from)
     → ((piece : Piece) (kinds : Kinds) (counts : Counts) → piece.head ≡ header_of_head finds.at.head.now
     → piece.tables ≡ tables_of finds.tables.now ms
     → kinds v ≡ (o, r) → IsStateIn finds.at.layout.now piece kinds counts old
@@ -257,8 +252,7 @@ started_op finds ms s op o u v r settled old new cells asked refused is unit_is 
     starts =
     done_start s op o u finds.at.layout.now old new cells asked refused is found.setting.layout playable
     (λ p. subst (λ xs. Starts finds.at.layout.now s.piece p.kinds old.regs.counts o (rate_at op.into) u xs old new
-    refused)
-    same
+    refused) same
     (subst (λ w. Starts finds.at.layout.now s.piece p.kinds old.regs.counts o w u settled old new refused) rate_is
     (subst (λ k. Starts finds.at.layout.now s.piece p.kinds old.regs.counts o r k settled old new refused) unit_is
     (starts s.piece p.kinds old.regs.counts found.setting.head found.tables

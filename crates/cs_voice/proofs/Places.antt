@@ -53,11 +53,9 @@ module _ (areas : List Area) (piece : Piece) (o : Opcode) (reach : Reach) (into 
       is
 
   pub getting : (s : Space) (v : Wave) → (row_of o).shape ≡ shape.ZakGet s
-      → acts (voice_world areas piece) (act.Zak o reach) into (v ∷ []) m
-      ≡ write piece.head.ksmps into
+      → acts (voice_world areas piece) (act.Zak o reach) into (v ∷ []) m ≡ write piece.head.ksmps into
       (at_place piece s reach (index (v 0)) silence (λ g. read_cells areas g m.world.shared)) m
-  getting s v is = shaped (shape.ZakGet s) (v ∷ []) is
-      ∙ if_true (gives o) _ _ (get_gives o s is)
+  getting s v is = shaped (shape.ZakGet s) (v ∷ []) is ∙ if_true (gives o) _ _ (get_gives o s is)
 
   pub putting : (s : Space) (w v : Wave) → (row_of o).shape ≡ shape.ZakPut s
       → acts (voice_world areas piece) (act.Zak o reach) into (w ∷ v ∷ []) m
@@ -69,8 +67,7 @@ module _ (areas : List Area) (piece : Piece) (o : Opcode) (reach : Reach) (into 
       → acts (voice_world areas piece) (act.Zak o reach) into (w ∷ v ∷ []) m
       ≡ in_world (at_place piece space.Audio reach (index (v 0)) m.world
       (λ g. saved (voice_model areas piece) g (added (read_cells areas g m.world.shared) w) m.world)) m
-  mixing w v is = shaped shape.ZakMix (w ∷ v ∷ []) is
-      ∙ if_false (gives o) _ _ (write_gives o shape.ZakMix is refl)
+  mixing w v is = shaped shape.ZakMix (w ∷ v ∷ []) is ∙ if_false (gives o) _ _ (write_gives o shape.ZakMix is refl)
 
   pub clearing : (s : Space) (v w : Wave) → (row_of o).shape ≡ shape.ZakClear s
       → acts (voice_world areas piece) (act.Zak o reach) into (v ∷ w ∷ []) m
@@ -86,8 +83,7 @@ pub at_reached : {A : Type 0} (at : NoteSetting) (piece : Piece) (s : Space) (re
 at_reached at piece s reach None g other found same h = absurd cc
 at_reached {A} at piece s reach (Some n) g other found same h =
     ap (λ (spaces : Spaces). if nat_lt n (places_of spaces s) && reaches reach n then found (zak_place s n) else other)
-    same
-    ∙ by (nat_lt n (places_of at.spaces s) && reaches reach n) h
+    same ∙ by (nat_lt n (places_of at.spaces s) && reaches reach n) h
   where
     by : (b : Bool) → (if b then Some (zak_place s n) else None) ≡ Some g
         → (if b then found (zak_place s n) else other) ≡ found g
@@ -100,8 +96,7 @@ pub not_reached : {A : Type 0} (at : NoteSetting) (piece : Piece) (s : Space) (r
 not_reached at piece s reach None other found same h = refl
 not_reached {A} at piece s reach (Some n) other found same h =
     ap (λ (spaces : Spaces). if nat_lt n (places_of spaces s) && reaches reach n then found (zak_place s n) else other)
-    same
-    ∙ by (nat_lt n (places_of at.spaces s) && reaches reach n) h
+    same ∙ by (nat_lt n (places_of at.spaces s) && reaches reach n) h
   where
     by : (b : Bool) → (if b then Some (zak_place s n) else None) ≡ None
         → (if b then found (zak_place s n) else other) ≡ other
@@ -109,8 +104,7 @@ not_reached {A} at piece s reach (Some n) other found same h =
     by false e = refl
 
 place_of_number : (at : NoteSetting) (s : Space) (reach : Reach) (k : Option ℕ) (g : Res)
-    → reached at s reach k ≡ Some g
-    → (n : ℕ) × (zak_place s n ≡ g)
+    → reached at s reach k ≡ Some g → (n : ℕ) × (zak_place s n ≡ g)
 place_of_number at s reach None g h = absurd cc
 place_of_number at s reach (Some n) g h = (n, by (nat_lt n (places_of at.spaces s) && reaches reach n) h)
   where
@@ -119,8 +113,7 @@ place_of_number at s reach (Some n) g h = (n, by (nat_lt n (places_of at.spaces 
     by false e = absurd cc
 
 pub reached_value : (at : NoteSetting) (s : Space) (reach : Reach) (k : Option ℕ) (g : Res)
-    → reached at s reach k ≡ Some g
-    → has_value g ≡ true
+    → reached at s reach k ≡ Some g → has_value g ≡ true
 reached_value at s reach k g h = let p =
     place_of_number at s reach k g h in subst (λ r. has_value r ≡ true) p.1 (place_value s p.0)
   where
@@ -154,8 +147,7 @@ reached_touched allowed count at s reach k g area may h there =
     area_touched allowed count at g area (reached_may allowed count at s reach k g may h) there
 
 pub reached_sound : (at : NoteSetting) (reach : Reach) (k : Option ℕ) (g : Res)
-    → reached at space.Audio reach k ≡ Some g
-    → res_rate g ≡ rate.Audio
+    → reached at space.Audio reach k ≡ Some g → res_rate g ≡ rate.Audio
 reached_sound at reach k g h = let p = place_of_number at space.Audio reach k g h in sym (ap res_rate p.1)
 
 -- ---- what is mixed is nothing beyond the cycle
@@ -178,8 +170,7 @@ mixed_held n area cells row size long = λ i j. at j i
 pub mixed_here : (areas : List Area) (g : Res) (area : Area) (x : Wave) (row : List ℤ) (n ksmps : ℕ)
     (before after : ℕ → ℤ)
     → area_of areas g ≡ Some area → res_rate g ≡ rate.Audio → area.length ≡ n → length row ≡ n → n ≡ ksmps
-    → row_wave row ≡ x
-    → after ≡ with_wave (Some area) (added (wave_in rate.Audio area before) (row_wave row)) before
+    → row_wave row ≡ x → after ≡ with_wave (Some area) (added (wave_in rate.Audio area before) (row_wave row)) before
     → with_wave (area_of areas g) (held ksmps (res_rate g) (added (wave_of (area_of areas g) (res_rate g) before) x))
     before ≡ after
 mixed_here areas g area x row n ksmps before after found sound size long same own is =
@@ -188,8 +179,7 @@ mixed_here areas g area x row n ksmps before after found sound size long same ow
     ∙ ap (λ y. with_wave (Some area) (held ksmps rate.Audio (added (wave_in rate.Audio area before) y)) before)
     (sym own)
     ∙ ap (λ k. with_wave (Some area) (held k rate.Audio (added (wave_in rate.Audio area before) (row_wave row))) before)
-    (sym same)
-    ∙ ap (λ w. with_wave (Some area) w before) (sym (mixed_held n area before row size long)) ∙ sym is
+    (sym same) ∙ ap (λ w. with_wave (Some area) w before) (sym (mixed_held n area before row size long)) ∙ sym is
 
 -- ---- the acts, at the place that a register names
 
@@ -207,8 +197,7 @@ module _ (at : NoteSetting) (o : Opcode) (reach : Reach) (s : Space) (number : R
       let done = does areas piece stock kinds counts setting placed state in
       record {
         machine = λ next asks cause. let m = machine_of old before next asks cause in
-            done.machine next asks cause
-            ∙ sym (getting areas piece o reach into m s (values old.regs number) is
+            done.machine next asks cause ∙ sym (getting areas piece o reach into m s (values old.regs number) is
             ∙ ap (λ w. write piece.head.ksmps into w m)
             (at_reached at piece s reach (index (values old.regs number 0)) g silence (λ q. read_cells areas q before)
             setting.spaces here));
@@ -225,8 +214,7 @@ module _ (at : NoteSetting) (o : Opcode) (reach : Reach) (s : Space) (number : R
         machine = λ next asks cause. let m = machine_of old before next asks cause in
             done.machine next asks cause
             ∙ sym (putting areas piece o reach into m s (values old.regs x) (values old.regs number) is
-            ∙ ap (λ y. in_world y m)
-            (at_reached at piece s reach (index (values old.regs number 0)) g m.world
+            ∙ ap (λ y. in_world y m) (at_reached at piece s reach (index (values old.regs number 0)) g m.world
             (λ q. saved (voice_model areas piece) q (values old.regs x) m.world) setting.spaces here));
         state = done.state;
       }
@@ -239,8 +227,7 @@ module _ (at : NoteSetting) (o : Opcode) (reach : Reach) (s : Space) (number : R
   none_loaded {into} {new} {cells} is none rest written row areas piece stock kinds counts setting placed state =
       writes silence rest refl state written row
       (λ next asks cause. let m = machine_of old cells next asks cause in
-      getting areas piece o reach into m s (values old.regs number) is
-      ∙ ap (λ w. write piece.head.ksmps into w m)
+      getting areas piece o reach into m s (values old.regs number) is ∙ ap (λ w. write piece.head.ksmps into w m)
       (not_reached at piece s reach (index (values old.regs number 0)) silence (λ q. read_cells areas q cells)
       setting.spaces none))
 
@@ -250,16 +237,14 @@ module _ (at : NoteSetting) (o : Opcode) (reach : Reach) (s : Space) (number : R
   none_saved {x} {into} {cells} is none areas piece stock kinds counts setting placed state =
       changes (same_state old) state (state.row ∙ sym state.frames)
       (λ next asks cause. let m = machine_of old cells next asks cause in
-      putting areas piece o reach into m s (values old.regs x) (values old.regs number) is
-      ∙ ap (λ y. in_world y m)
+      putting areas piece o reach into m s (values old.regs x) (values old.regs number) is ∙ ap (λ y. in_world y m)
       (not_reached at piece s reach (index (values old.regs number 0)) m.world
       (λ q. saved (voice_model areas piece) q (values old.regs x) m.world) setting.spaces none))
 
 -- places are cleared from the number that one register names to that of another
 pub cleared_from : (at : NoteSetting) (o : Opcode) (reach : Reach) (s : Space) (first last : Reg) (f l : ℤ)
     {into : Reg} {old : State} {before after : ℕ → ℤ} → (row_of o).shape ≡ shape.ZakClear s
-    → f ≡ values old.regs first 0 → l ≡ values old.regs last 0
-    → ((piece : Piece) → piece.spaces ≡ at.spaces → after
+    → f ≡ values old.regs first 0 → l ≡ values old.regs last 0 → ((piece : Piece) → piece.spaces ≡ at.spaces → after
     ≡ (λ a. if lies_cleared at.layout.now (is_cleared piece s reach f l) a then pos 0 else before a))
     → DoesOver at (act.Zak o reach) into (first ∷ last ∷ []) old before old after
 cleared_from at o reach s first last f l {into} {old} {before} {after} is from to does areas piece stock kinds counts

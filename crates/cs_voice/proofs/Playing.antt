@@ -11,17 +11,14 @@ use Rattle.cs_base.specs.declared.resource.Rate.TheVariants as rate
 
 -- a step a frame
 pub audio_frames : (ksmps n : ℕ) (r : Rate) (ws : List Wave) (cells : ℕ → ℤ) (p : PlayerData) (k : UnitState)
-    (row : List ℤ)
-    → is_audio r ≡ true → n ≡ ksmps
+    (row : List ℤ) → is_audio r ≡ true → n ≡ ksmps
     → (k, row) ≡ stepped p ws cells n → HasFrames (λ j. argument (cycled ksmps r ws cells p).1 (step_at r j)) row
 audio_frames ksmps n rate.Audio ws cells p k row e long is j low =
     ap (λ (d : UnitState × List ℤ). argument d.1 j) is ∙ ap (λ m. argument (stepped p ws cells m).1 j) long
 audio_frames ksmps n r ws cells p k row e long is j low = absurd (cc)
 
 pub audio_state : (ksmps n : ℕ) (r : Rate) (ws : List Wave) (cells : ℕ → ℤ) (p : PlayerData) (k : UnitState)
-    (row : List ℤ)
-    → is_audio r ≡ true → n ≡ ksmps
-    → (k, row) ≡ stepped p ws cells n → k ≡ (cycled ksmps r ws cells p).0
+    (row : List ℤ) → is_audio r ≡ true → n ≡ ksmps → (k, row) ≡ stepped p ws cells n → k ≡ (cycled ksmps r ws cells p).0
 audio_state ksmps n rate.Audio ws cells p k row e long is =
     ap (λ (d : UnitState × List ℤ). d.0) is ∙ ap (λ m. (stepped p ws cells m).0) long
 audio_state ksmps n r ws cells p k row e long is = absurd (cc)
@@ -34,8 +31,7 @@ held_gives ksmps rate.Audio ws cells p k z slow is = absurd (cc)
 held_gives ksmps r ws cells p k z slow is = λ i j. ap (λ (d : UnitState × List ℤ). argument d.1 0) is i
 
 pub held_state : (ksmps : ℕ) (r : Rate) (ws : List Wave) (cells : ℕ → ℤ) (p : PlayerData) (k : UnitState) (z : ℤ)
-    → is_audio r ≡ false
-    → (k, z ∷ []) ≡ stepped p ws cells 1 → k ≡ (cycled ksmps r ws cells p).0
+    → is_audio r ≡ false → (k, z ∷ []) ≡ stepped p ws cells 1 → k ≡ (cycled ksmps r ws cells p).0
 held_state ksmps rate.Audio ws cells p k z slow is = absurd (cc)
 held_state ksmps r ws cells p k z slow is = ap (λ (d : UnitState × List ℤ). d.0) is
 

@@ -46,16 +46,14 @@ no_table : (points : Option (List ℤ)) (area : Option Area) → (points ≡ Non
 no_table points area h = ap (λ o. is_some o || is_some area) h.0 ∙ ap is_some h.1
 
 pub table_taken : (areas : List Area) (piece : Piece) (kind : Opcode × Rate) (p : PlayerData)
-    → IsPlayerOf areas piece kind p
-    → has_table p ≡ takes_table kind.0
+    → IsPlayerOf areas piece kind p → has_table p ≡ takes_table kind.0
 table_taken areas piece kind p is = by_test (takes_table kind.0)
     (λ takes. (is.table takes).has ∙ sym takes)
     (λ none. no_table p.points p.area (is.none none) ∙ sym none)
 
 -- so what it may touch is what the definition lets it touch
 pub same_reach : (areas : List Area) (piece : Piece) (opcode : Opcode) (r : Rate) (reach : Reach) (p : PlayerData)
-    → IsPlayerOf areas piece (opcode, r) p
-    → may_touch opcode reach p.table ≡ may_play reach p
+    → IsPlayerOf areas piece (opcode, r) p → may_touch opcode reach p.table ≡ may_play reach p
 same_reach areas piece opcode r reach p is =
     ap (λ b. not b || reaches reach (unsigned_abs p.table)) (sym (table_taken areas piece (opcode, r) p is))
 
@@ -91,8 +89,7 @@ live_table areas stock piece p on placed live a at =
     record { area = there; size = (placed.tables p.table on.table on.found live).size a there }
 
 pub same_points : (areas : List Area) (stock : Stock) (piece : Piece) (opcode : Opcode) (r : Rate) (p : PlayerData)
-    (x : VoiceState) → IsPlaced areas stock piece
-    → IsPlayerOf areas piece (opcode, r) p
+    (x : VoiceState) → IsPlaced areas stock piece → IsPlayerOf areas piece (opcode, r) p
     → unit_points (voice_model areas piece) opcode (playing p) x ≡ curve_at p.points p.area x.shared
 same_points areas stock piece opcode r p x placed is = by_test (takes_table opcode)
     (λ takes. let on = is.table takes in

@@ -69,8 +69,7 @@ module _ (areas : List Area) (stock : Stock) (piece : Piece) (opcode : Opcode) (
   plays_as None at is = stays None at
   plays_as (Some p) at is =
       ap (λ b. if b then plays_on (unit_points (voice_model areas piece) opcode (playing p) x) p else (x, silence))
-      (same_reach areas piece opcode r reach p (is p refl))
-      ∙ by_reach (may_play reach p)
+      (same_reach areas piece opcode r reach p (is p refl)) ∙ by_reach (may_play reach p)
     where
       -- the same steps, of the same points
       same_steps : played piece.head.ksmps r (playing p) ws
@@ -99,8 +98,7 @@ pub record HasRun (old : State) (u : ℕ) (q : Option PlayerData) (into : Reg) (
 run_machine : (ksmps : ℕ) (old new : State) (u : ℕ) (q : Option PlayerData) (into : Reg) (w : Wave)
     → HasRun old u q into w new → old.regs.ksmps ≡ ksmps
     → u < length old.players.items → (before after : ℕ → ℤ) → after ≡ before
-    → (next : ℕ) (asks : List (List ℤ)) (cause : Option Cause)
-    → machine_of new after next asks cause
+    → (next : ℕ) (asks : List (List ℤ)) (cause : Option Cause) → machine_of new after next asks cause
     ≡ (let m : Machine VoiceState =
     machine_of old before next asks cause in write ksmps into w (in_world (answers u q w m.world).0 m))
 run_machine ksmps old new u q into w ran frames low before after same next asks cause = λ i. record {
@@ -187,19 +185,16 @@ pub unit_done : {u : ℕ} {reach : Reach} {into : Reg} {from : List Reg} {old ne
     → HasRun old u (unit_after old.regs.ksmps (rate_at into) reach (map (values old.regs) from) before
     (slice_index_or old.players.items u None)) into
     (unit_gives old.regs.ksmps (rate_at into) reach (map (values old.regs) from) before
-    (slice_index_or old.players.items u None)) new
-    → DoesUnit u reach into from old before new after
+    (slice_index_or old.players.items u None)) new → DoesUnit u reach into from old before new after
 unit_done {u} {reach} {into} {from} {old} {new} {before} {after} low same ran areas piece stock kinds counts opcode unit
     kind placed state = record {
       machine = λ next asks cause.
           run_machine piece.head.ksmps old new u _ into _ ran state.frames low before after same next asks cause
           ∙ ap (λ n. unit_machine piece.head.ksmps u
           (unit_after n (rate_at into) reach (map (values old.regs) from) before (slice_index_or old.players.items u
-          None))
-          into
+          None)) into
           (unit_gives n (rate_at into) reach (map (values old.regs) from) before (slice_index_or old.players.items u
-          None))
-          (machine_of old before next asks cause)) state.frames
+          None)) (machine_of old before next asks cause)) state.frames
           ∙ sym (acts_as areas stock piece opcode u reach into (map (values old.regs) from)
           (machine_of old before next asks cause) (slice_index_or old.players.items u None) unit placed refl
           (λ p at. subst (λ k. IsPlayerOf areas piece k p) kind (state.players u p at)));

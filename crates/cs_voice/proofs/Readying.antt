@@ -65,8 +65,7 @@ is_a_zak o reach r xs h = (and_parts (is_zak (row_of o).shape) (runs_with (row_o
 
 -- there is no other shape of one
 pub not_zak : (s : Shape) → is_zak s ≡ true → ((z : Space) → s ≡ shape.ZakGet z → ⊥)
-    → ((z : Space) → s ≡ shape.ZakPut z → ⊥) → (s ≡ shape.ZakMix → ⊥)
-    → ((z : Space) → s ≡ shape.ZakClear z → ⊥) → ⊥
+    → ((z : Space) → s ≡ shape.ZakPut z → ⊥) → (s ≡ shape.ZakMix → ⊥) → ((z : Space) → s ≡ shape.ZakClear z → ⊥) → ⊥
 not_zak (shape.ZakGet z) h g p m c = g z refl
 not_zak (shape.ZakPut z) h g p m c = p z refl
 not_zak shape.ZakMix h g p m c = m refl
@@ -157,14 +156,12 @@ module _ {access : Access} {at : NoteSetting} {piece : Piece} {kinds : Kinds} {s
 
   pub number_of : {opcode : Opcode} {u : ℕ} {reach : Reach} → o.act ≡ act.Unit opcode u reach
       → u < length s.players.items
-  number_of {opcode} {u} {reach} e = subst (λ n. u < n) (sym r.state.units)
-      (ltb-true u s.regs.counts.units
+  number_of {opcode} {u} {reach} e = subst (λ n. u < n) (sym r.state.units) (ltb-true u s.regs.counts.units
       (ap (finds s.regs.counts r.end r.place) (sym e) ∙ found s.regs.counts r.end r.place o r.fine))
 
   -- the players of a unit
   pub player_of : {opcode : Opcode} {u : ℕ} {reach : Reach} → o.act ≡ act.Unit opcode u reach → (p : PlayerData)
-      → slice_index_or s.players.items u None ≡ Some p
-      → IsPlayerOf at.layout.now piece (opcode, (rate_at o.into)) p
+      → slice_index_or s.players.items u None ≡ Some p → IsPlayerOf at.layout.now piece (opcode, (rate_at o.into)) p
   player_of {opcode} {u} {reach} e p is = subst (λ k. IsPlayerOf at.layout.now piece k p)
       (subst (λ a. ActNamed stock kinds (HasArea at.layout.now) a (rate_at o.into)) e r.named).0 (r.state.players u
       p is)
@@ -180,8 +177,7 @@ module _ {access : Access} {at : NoteSetting} {piece : Piece} {kinds : Kinds} {s
   unit_may_play {opcode} {u} {reach} e p is =
       let takes = takes_of e in
       may_run access at.layout.now stock piece opcode (rate_at o.into) reach o.from p
-      (is_a_unit opcode u reach (rate_at o.into) o.from takes)
-      (unit_count opcode u reach (rate_at o.into) o.from takes)
+      (is_a_unit opcode u reach (rate_at o.into) o.from takes) (unit_count opcode u reach (rate_at o.into) o.from takes)
       r.placed (uses_of e) (player_of e p is)
 
   pub op_may_store : {reach : Reach} → o.act ≡ act.Store reach → MayStore access at.layout.now reach
@@ -203,8 +199,7 @@ module _ {access : Access} {at : NoteSetting} {piece : Piece} {kinds : Kinds} {s
     may_write z {sh} is these =
         may_reach access.can_set access.count at stock piece z reach r.placed.spaces r.setting.spaces
         (subst (AreNamed (MaySet access at.layout.now))
-        (ap (λ q. if writes_places q then shape_uses stock q reach else []) is ∙ these stock)
-        (writes_of e))
+        (ap (λ q. if writes_places q then shape_uses stock q reach else []) is ∙ these stock) (writes_of e))
 
     -- a register may name the places of sound that are mixed into
     pub can_mix : {number : Reg} → (row_of opcode).shape ≡ shape.ZakMix → has_register s.regs.counts number ≡ true
@@ -220,8 +215,7 @@ module _ {access : Access} {at : NoteSetting} {piece : Piece} {kinds : Kinds} {s
 -- ---- an op that is done
 
 pub does_over : {at : NoteSetting} {o : Op} {b : Act} {into : Reg} {ys : List Reg} {old : State} {before : ℕ → ℤ}
-    {new : State} {after : ℕ → ℤ}
-    → o.act ≡ b → into ≡ o.into → o.from ≡ ys → DoesOver at b into ys old before new after
+    {new : State} {after : ℕ → ℤ} → o.act ≡ b → into ≡ o.into → o.from ≡ ys → DoesOver at b into ys old before new after
     → DoesOver at o.act o.into o.from old before new after
 does_over {at} {o} {b} {into} {ys} {old} {before} {new} {after} e g f h =
     subst (λ d. DoesOver at d o.into o.from old before new after) (sym e)
@@ -243,10 +237,8 @@ does_op_unit {access} {at} {o} {opcode} {u} {reach} {into} {ys} {old} {before} {
     piece kinds stock r =
     subst (λ d. Does at.layout.now piece kinds old.regs.counts d o.into o.from old before new after) (sym e)
     (subst (λ l. Does at.layout.now piece kinds old.regs.counts (act.Unit opcode u reach) o.into l old before new after)
-    (sym f)
-    (subst (λ q. DoesUnit u reach q ys old before new after) g h at.layout.now piece stock kinds old.regs.counts
-    opcode is
-    (kind_of r e) r.placed r.state))
+    (sym f) (subst (λ q. DoesUnit u reach q ys old before new after) g h at.layout.now piece stock kinds old.regs.counts
+    opcode is (kind_of r e) r.placed r.state))
 
 pub does_op_plain : {access : Access} {at : NoteSetting} {o : Op} {old : State} {cells : ℕ → ℤ} {new : State}
     → DoesAt at o.act o.into o.from old new → DoesOp access at o old cells new cells

@@ -53,18 +53,15 @@ module _ {W : Type 0} (o : World W) where
       let k : ℕ = to - place in
       let sum : place + k ≡ to = omega (arith, later) in
       left_out k place (drop place ops) m (λ some. there (omega (arith, some, sum)) ∙ sym sum)
-      ∙ ap (λ l. run o (place + k) l m) (drop-drop k place ops)
-      ∙ ap (λ p. run o p (drop p ops) m) sum
+      ∙ ap (λ l. run o (place + k) l m) (drop-drop k place ops) ∙ ap (λ p. run o p (drop p ops) m) sum
 
   -- nor do those after a refusal
   stops : (ops : List Op) (place : ℕ) (m : Machine W) → o.refused m.world ≡ true → run o place ops m ≡ m
   stops [] place m e = refl
   stops (x ∷ ops) place m e =
       let n : Machine W = acts o x.act x.into (map m.regs x.from) m in
-      ap (run o (place + 1) ops)
-      (ap (λ b. if nat_le m.next place && not b then n else m) e
-      ∙ ap (λ b. if b then n else m) (and-false (nat_le m.next place)))
-      ∙ stops ops (place + 1) m e
+      ap (run o (place + 1) ops) (ap (λ b. if nat_le m.next place && not b then n else m) e
+      ∙ ap (λ b. if b then n else m) (and-false (nat_le m.next place))) ∙ stops ops (place + 1) m e
 
   -- an op that isn't passed over is done, where nothing was refused
   done_here : (place : ℕ) (op : Op) (m : Machine W) → m.next ≤ place → o.refused m.world ≡ false

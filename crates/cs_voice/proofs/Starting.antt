@@ -29,8 +29,7 @@ use Rattle.cs_voice.specs.declared.begin.StartRefusal.TheVariants as refusal
 
 -- the machine of a state into which a unit was put
 unit_machine : (old new : State) (u samples : ℕ) (p : PlayerData) → HasUnit old u p samples new
-    → u < length old.players.items
-    → (cells : ℕ → ℤ) (next : ℕ) (asks : List (List ℤ)) (cause : Option Cause)
+    → u < length old.players.items → (cells : ℕ → ℤ) (next : ℕ) (asks : List (List ℤ)) (cause : Option Cause)
     → machine_of new cells next asks cause ≡ record {
       regs = values old.regs;
       next = next;
@@ -62,8 +61,7 @@ unit_machine old new u samples p has low cells next asks cause = λ i. record {
 unit_state : (areas : List Area) (piece : Piece) (kinds : Kinds) (counts : Counts) (old new : State) (u samples : ℕ)
     (p : PlayerData)
     → HasUnit old u p samples new → u < length old.players.items → IsStateIn areas piece kinds counts old
-    → IsPlayerOf areas piece (kinds u) p
-    → IsStateIn areas piece kinds counts new
+    → IsPlayerOf areas piece (kinds u) p → IsStateIn areas piece kinds counts new
 unit_state areas piece kinds counts old new u samples p has low state player = record {
   registers = ap (λ r. r.counts) has.regs ∙ state.registers;
   frames = ap (λ r. r.ksmps) has.regs ∙ state.frames;
@@ -159,8 +157,7 @@ module _ (areas : List Area) (piece : Piece) (kinds : Kinds) (counts : Counts) (
     (settled : List ℤ) (old new : State) where
   -- what is refused
   refused_is : (refused : StartRefusal) → new ≡ old → IsStateIn areas piece kinds counts old
-      → old.delays ≤ most_delay_samples
-      → ((x : VoiceState) → x.delays ≡ old.delays
+      → old.delays ≤ most_delay_samples → ((x : VoiceState) → x.delays ≡ old.delays
       → starts (voice_model areas piece) o r u settled x ≡ record x { cause = Some (cause_of refused) })
       → Starts areas piece kinds counts o r u settled old new (Some refused)
   refused_is refused same state small is = record {
@@ -174,11 +171,9 @@ module _ (areas : List Area) (piece : Piece) (kinds : Kinds) (counts : Counts) (
   -- what is started
   started_is : (samples : ℕ) (p : PlayerData) → HasUnit old u p samples new → u < length old.players.items
       → IsStateIn areas piece kinds counts old → IsPlayerOf areas piece (o, r) p → kinds u ≡ (o, r)
-      → samples ≤ most_delay_samples
-      → ((cells : ℕ → ℤ) (next : ℕ) (asks : List (List ℤ))
+      → samples ≤ most_delay_samples → ((cells : ℕ → ℤ) (next : ℕ) (asks : List (List ℤ))
       → in_world (starts (voice_model areas piece) o r u settled (machine_of old cells next asks None).world)
-      (machine_of old cells next asks None)
-      ≡ with_unit cells next asks old u samples (playing p))
+      (machine_of old cells next asks None) ≡ with_unit cells next asks old u samples (playing p))
       → Starts areas piece kinds counts o r u settled old new None
   unfolding with_unit
   started_is samples p has low state player kind small is = record {
@@ -198,15 +193,13 @@ module _ (areas : List Area) (piece : Piece) (kinds : Kinds) (counts : Counts) (
     unfolding with_unit
     on_table takes can b =
         started_is old.delays (player_on areas b.table (table_number settled) (unit_start o r pace settled)) b.has low
-        state
-        (on_is areas piece o r pace settled b.table unit takes b.found b.present
+        state (on_is areas piece o r pace settled b.table unit takes b.found b.present
         (can (table_number settled) b.table b.found) b.small) kind small
         (λ cells next asks.
         ap (λ w. in_world w (machine_of old cells next asks None))
         (if_false (takes_table o && not (is_there (find_table piece.tables (table_number settled)))) _ _
         (no_refusal (takes_table o) (is_there (find_table piece.tables (table_number settled)))
-        (ap is_there b.found ∙ b.present))
-        ∙ if_false (is_delay o) _ _ (no_delay o takes))
+        (ap is_there b.found ∙ b.present)) ∙ if_false (is_delay o) _ _ (no_delay o takes))
         ∙ ap (λ q. with_unit cells next asks old u old.delays
         (record { table = table_number settled; state = unit_start o r q settled })) same_pace)
 
@@ -230,8 +223,7 @@ module _ (areas : List Area) (piece : Piece) (kinds : Kinds) (counts : Counts) (
         ap (λ w. in_world w (machine_of old cells next asks None))
         (if_false (takes_table o && not (is_there (find_table piece.tables (table_number settled)))) _ _
         (no_look (takes_table o) (is_there (find_table piece.tables (table_number settled))) takes)
-        ∙ if_false (is_delay o) _ _ delay)
-        ∙ ap (λ q. with_unit cells next asks old u old.delays
+        ∙ if_false (is_delay o) _ _ delay) ∙ ap (λ q. with_unit cells next asks old u old.delays
         (record { table = table_number settled; state = unit_start o r q settled })) same_pace)
 
     more : Pace → ℕ
@@ -248,8 +240,7 @@ module _ (areas : List Area) (piece : Piece) (kinds : Kinds) (counts : Counts) (
         ap (λ w. in_world w (machine_of old cells next asks None))
         (if_false (takes_table o && not (is_there (find_table piece.tables (table_number settled)))) _ _
         (no_look (takes_table o) (is_there (find_table piece.tables (table_number settled))) (no_test o delay))
-        ∙ if_true (is_delay o) _ _ delay
-        ∙ if_true (nat_le (more (pace_of piece.head)) most_delay_samples) _ _
+        ∙ if_true (is_delay o) _ _ delay ∙ if_true (nat_le (more (pace_of piece.head)) most_delay_samples) _ _
         (within (more (pace_of piece.head))
         (let P : Pace → Type 0 = λ q. more q ≤ most_delay_samples in subst P (sym same_pace) short)))
         ∙ ap (λ q. with_unit cells next asks old u (more q)
@@ -265,8 +256,7 @@ module _ (areas : List Area) (piece : Piece) (kinds : Kinds) (counts : Counts) (
         let so : longer x.delays ≡ samples = ap longer e ∙ ap more same_pace ∙ sym is in
         if_false (takes_table o && not (is_there (find_table piece.tables (table_number settled)))) _ _
         (no_look (takes_table o) (is_there (find_table piece.tables (table_number settled))) (no_test o delay))
-        ∙ if_true (is_delay o) _ _ delay
-        ∙ if_false (nat_le (longer x.delays) most_delay_samples) _ _
+        ∙ if_true (is_delay o) _ _ delay ∙ if_false (nat_le (longer x.delays) most_delay_samples) _ _
         (beyond (longer x.delays) (let P : ℕ → Type 0 = λ n. most_delay_samples < n in subst P (sym so) long))
         ∙ ap (λ n. record x { cause = Some (delay_too_long n) }) so)
 

@@ -23,8 +23,7 @@ pub record CanStep (access : Access) (at : NoteSetting) (c : Context) (end place
 
 -- An op at a place was done, from wherever a jump may have come.
 pub record HasStepped (areas : List Area) (c : Context) (op : Op) (place result : ℕ) (old : State) (before : ℕ → ℤ)
-    (new : State)
-    (after : ℕ → ℤ) : Type 0 where
+    (new : State) (after : ℕ → ℤ) : Type 0 where
   pub moved : (next : ℕ) → next ≤ place → HasMoved place result []
       (acts (voice_world areas c.piece) op.act op.into (map (values old.regs) op.from)
       (machine_of old before next [] None)) new after
@@ -35,8 +34,7 @@ pub record HasStepped (areas : List Area) (c : Context) (op : Op) (place result 
 module _ {access : Access} {at : NoteSetting} {c : Context} {ops : List Op} {s : State}
     (h : CanRun access at c ops s) where
   -- each op of a code that can be run can be done
-  pub can_step : {n : ℕ} {op : Op} → slice_get ops n ≡ Some op
-      → CanStep access at c (length ops) n op s
+  pub can_step : {n : ℕ} {op : Op} → slice_get ops n ≡ Some op → CanStep access at c (length ops) n op s
   can_step {n} {op} e =
       let there : is_fine s.regs.counts (length ops) n op ≡ true =
       ap (λ k. is_fine k (length ops) n op) h.state.registers
@@ -62,8 +60,7 @@ module _ {access : Access} {at : NoteSetting} {c : Context} {ops : List Op} {s :
       }
 
   -- and it can still be run from another state of its code
-  pub can_go_on : {t : State} → IsStateIn at.layout.now c.piece c.kinds c.counts t
-      → CanRun access at c ops t
+  pub can_go_on : {t : State} → IsStateIn at.layout.now c.piece c.kinds c.counts t → CanRun access at c ops t
   can_go_on st = record {
     setting = h.setting;
     placed = h.placed;

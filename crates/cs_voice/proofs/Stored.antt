@@ -83,12 +83,10 @@ module _ (areas : List Area) (stock : Stock) (piece : Piece) (r : Rate) (ws : Li
       let here : area_of areas (res.Table t.number) ≡ Some a =
       ap (λ m. area_of areas (res.Table m)) (found_number piece.tables (pos n) t is.found) ∙ at in
       let long : t.size ≡ a.length = sym ((placed.tables (pos n) t is.found is.live).size a here) in
-      (λ i. record x { shared = h t long i })
-      ∙ ap (λ o. record x {
+      (λ i. record x { shared = h t long i }) ∙ ap (λ o. record x {
         shared = with_wave o (stored (places_of_indices t (operand 1 ws)) (operand 0 ws) (steps_of piece.head.ksmps r)
             (wave_of o rate.Audio x.shared)) x.shared;
-      }) (sym here)
-      ∙ sym (live_takes t is.live)
+      }) (sym here) ∙ sym (live_takes t is.live)
       ∙ ap (λ o. store_into (voice_model areas piece) r ws o x) (sym is.found)
 
   stored_as : (reach : Reach) (k : Option ℕ) (after : ℕ → ℤ)
@@ -115,8 +113,7 @@ store_done areas piece stock kinds counts reach into signal place table s before
   machine = λ next asks cause i. record (machine_of s before next asks cause) {
     world = (stored_as areas stock piece (rate_at into)
         (values s.regs signal ∷ values s.regs place ∷ values s.regs table ∷ [])
-        (machine_of s before next asks cause).world placed
-        reach (index (values s.regs table 0)) after
+        (machine_of s before next asks cause).world placed reach (index (values s.regs table 0)) after
         (subst (λ n. Stores (stored_area areas reach (index (values s.regs table 0))) (steps_of n (rate_at into))
         (values s.regs signal) (values s.regs place) before after) state.frames h)) i;
   };

@@ -8,8 +8,7 @@ use Rattle.cs_voice.specs.{declared.stage.PieceTable.PieceTable, Tables.table_at
 
 -- the tables from a place on
 from_place : (tables : List PieceTable) (made : List Bool) (n : ℕ) (t : PieceTable) (m : Bool) → n < length tables
-    → n < length made
-    → t ≡ get_or tables n t → m ≡ get_or made n false
+    → n < length made → t ≡ get_or tables n t → m ≡ get_or made n false
     → tables_of (drop n tables) (drop n made) ≡ table_at t m ∷ tables_of (drop (n + 1) tables) (drop (n + 1) made)
 from_place [] made n t m h k e f = absurd (omega arith)
 from_place (x ∷ tables) [] n t m h k e f = absurd (omega arith)
@@ -32,8 +31,7 @@ found_here tables made number n t h long e here before =
     ∙ sym (before ∙ ap (λ ts. find_table ts number) (from_place tables made n t m h (omega arith) e refl))
 
 pub found_later : (tables : List PieceTable) (made : List Bool) (number : ℤ) (n : ℕ) (t : PieceTable)
-    → n < length tables
-    → length made ≡ length tables
+    → n < length tables → length made ≡ length tables
     → t ≡ get_or tables n t → (not (is_negative number) && t.number == unsigned_abs number) ≡ false
     → find_table (tables_of tables made) number ≡ find_table (tables_of (drop n tables) (drop n made)) number
     → find_table (tables_of tables made) number ≡ find_table (tables_of (drop (n + 1) tables) (drop (n + 1) made))

@@ -58,8 +58,7 @@ module _ (s : Sheet) (d : VoiceData) (on : IsOn s d) (h : IsVoice d) where
   unfolding own_sheet
   same_cycle x =
       sym (run_same d.areas (own_sheet s d).piece (piece_of d).generators 0 d.code.ops (begins (sounding d) x)
-      h.playable.perf_acts)
-      ∙ ap (λ ts. cycle (record (sounding d)
+      h.playable.perf_acts) ∙ ap (λ ts. cycle (record (sounding d)
       { sheet = record (sheet_of d) { piece = record (piece_of d) { tables = ts } } }) x) on.tables
 
   performs_own : (c : Cells) → sounding_on (own_sheet s d) (after d c) ≡ performed (sounding_on (own_sheet s d) d) c
@@ -72,8 +71,7 @@ module _ (s : Sheet) (d : VoiceData) (on : IsOn s d) (h : IsVoice d) where
   unfolding own_sheet
   leaves_own c =
       ap (λ (m : Machine VoiceState). map (λ a. if may_write (sheet_of d) a then m.world.shared a else cell c a)
-      (range_with_len 0 (length c)))
-      (sym (same_cycle (seen (sheet_of d) (cell c))))
+      (range_with_len 0 (length c))) (sym (same_cycle (seen (sheet_of d) (cell c))))
 
   pub performs : (c : Cells) → Performs s d c
   performs c = record {

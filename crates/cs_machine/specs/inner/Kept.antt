@@ -1,5 +1,5 @@
 -- What is always so of registers and channels as they lie in memory.
-use Rattle.std.specs.Prelude.{◌≡◌, ◌<◌, ◌≤◌, ◌-◌, ℕ, pos, ℤ, Bool, true, false, List, [], length, replicate}
+use Rattle.std.specs.Prelude.{◌≡◌, ◌<◌, ◌≤◌, ◌-◌, ℕ, pos, ℤ, Bool, true, false, List, [], length, map, replicate}
 use Rattle.std.specs.Prelude.{slice_index_or}
 use Rattle.cs_base.specs.Rates.{is_audio}
 use Rattle.cs_signal.specs.Operands.{argument}
@@ -23,6 +23,10 @@ pub record AreKept (ones : List (List ℤ)) (rows : List (List (List ℤ))) (cou
   pub sounds : (k : Kind) → is_audio (rate_of k) ≡ true
       → length (slice_index_or rows (kind_number k - 5) []) ≡ at_kind counts.registers k
   pub long : (k : ℕ) → AreRows ksmps (slice_index_or rows k [])
+
+-- for the registers of each of some kinds as many zeros
+abbrev pub zeros_of : Counts → List Kind → List (List ℤ)
+zeros_of counts kinds = map (λ k. replicate (at_kind counts.registers k) (pos 0)) kinds
 
 -- what a channel has: its row where anything was given to it, else zeros
 abbrev pub shown : Bool → List ℤ → List ℤ

@@ -1,10 +1,18 @@
-use Rattle.std.proofs.Common.{◌≡◌, ◌∙◌, ◌+◌, ◌++◌, ◌∷◌, [], List, drop, arith, ap, sym}
-use Rattle.std.proofs.lemmas.List.{drop_all}
+use Rattle.std.proofs.Common.{◌≡◌, ◌∙◌, ◌+◌, ◌++◌, ◌∷◌, [], List, drop, arith, ap, refl, sym}
+use Rattle.std.proofs.lemmas.List.{append-nil, drop_all}
 use Rattle.cs_typed.specs.TypedTree.{Expression, expression}
-use Rattle.cs_code.specs.{inner.Code.operand_code, inner.Code.operands_code, inner.Kept.past_all}
+use Rattle.cs_code.specs.{inner.Code.operand_code, inner.Code.operands_code, inner.Kept.past_all, inner.Spots.spots}
 use Rattle.cs_code.specs.inner.Emitted.{expressions_of, when_of}
 use Rattle.cs_code.proofs.{Growing.leads_end, Growing.leads_on, Lists.operands_more, Lists.spots_more, Lists.dropped}
 use Rattle.cs_code.proofs.args.operands.Goals as goal
+
+pub loop-e-init : goal.loop-e-init
+loop-e-init c = (
+  λ d made. made,
+  ap (λ qs. qs ++ spots (when_of c.args.context.pass) c.args.at (expressions_of c.args.values.now) 0)
+      c.new-regs.ensures.items,
+  refl,
+)
 
 pub loop-e-preserved : goal.loop-e-preserved
 loop-e-preserved c =
@@ -34,3 +42,15 @@ returns-clause-ops c =
     leads_end c.args.ops.now c.loop-e.ops _ _ c.loop-e.invariant.0
     (ap (λ es. operands_code (when_of c.args.context.pass) c.loop-e.next (expressions_of es) c.loop-e.d)
     (drop_all c.loop-e.e-index c.args.values.now (omega (arith, c.loop-e-test.false))))
+
+pub returns-clause-regs : goal.returns-clause-regs
+returns-clause-regs c =
+    let regs = c.loop-e.regs.items in
+    sym (append-nil regs)
+    ∙ ap (λ es. regs ++ spots (when_of c.args.context.pass) c.loop-e.next (expressions_of es) c.loop-e.d)
+    (sym (drop_all c.loop-e.e-index c.args.values.now (omega (arith, c.loop-e-test.false)))) ∙ c.loop-e.invariant.1
+
+pub returns-clause-next : goal.returns-clause-next
+returns-clause-next c =
+    ap (λ es. past_all c.loop-e.next (expressions_of es))
+    (sym (drop_all c.loop-e.e-index c.args.values.now (omega (arith, c.loop-e-test.false)))) ∙ c.loop-e.invariant.2

@@ -8,10 +8,8 @@ use Rattle.cs_code.proofs.args.parted_values.Given as goal
 -- what is parted, and what the rest will give
 abbrev pub invariant-loop-arg : goal.invariant-loop-arg
 invariant-loop-arg l =
-    (l.place ≡ l.arg-index)
-    × (expressions_of l.parted.settled.items
+    (l.place ≡ l.arg-index) × (expressions_of l.parted.settled.items
     ++ settled (row_of l.call.opcode) l.place (map argument (drop l.arg-index l.call.args.now))
-    ≡ settled (row_of l.call.opcode) 0 (map argument l.call.args.now))
-    × (expressions_of l.parted.moving.items
+    ≡ settled (row_of l.call.opcode) 0 (map argument l.call.args.now)) × (expressions_of l.parted.moving.items
     ++ moving (row_of l.call.opcode) l.place (map argument (drop l.arg-index l.call.args.now))
     ≡ moving (row_of l.call.opcode) 0 (map argument l.call.args.now))

@@ -10,8 +10,7 @@ returns c =
     let es = expressions_of c.args.values.now in
     record {
       ops = grew_two c.args.ops.now c.operands.new.ops c.push.new.ops _ _ _ c.in_ok-found.ensures.ops
-          c.in_ok-push.ensures
-          (ap (λ qs. operands_code when c.args.at es 0 ++ (op_of c.args.act c.args.into qs ∷ []))
+          c.in_ok-push.ensures (ap (λ qs. operands_code when c.args.at es 0 ++ (op_of c.args.act c.args.into qs ∷ []))
           (c.from_vec.ensures ∙ c.in_ok-found.ensures.regs));
       next = c.in_ok-found.ensures.next;
     }

@@ -10,8 +10,7 @@ returns-in-Some c =
     let sp = c.args.at.context.spaces in
     call_lowered c.args.at.context.pass c.args.ops.now c.assign.new.ops c.args.at.before sp k _ c.assign.result
     (call_assigned sp k.rate k.results.now k.opcode (row_of k.opcode).shape (arguments_of k)
-    (assignment_of c.in-Some.assignment) (sym c.in-Some.ensures))
-    c.assign.ensures.ops c.assign.ensures.next
+    (assignment_of c.in-Some.assignment) (sym c.in-Some.ensures)) c.assign.ensures.ops c.assign.ensures.next
 
 pub returns-in-None : goal.returns-in-None
 returns-in-None c =

@@ -8,8 +8,7 @@ use Rattle.cs_code.proofs.codes.ops_of.Goals as goal
 
 pub code_of-requires-clause-are : goal.code_of-requires-clause-are
 code_of-requires-clause-are c =
-    subst AreRoutines (sym (c.deref-2.ensures.value ∙ ap (λ (v : Vec Routine). v.items) c.deref.ensures))
-    c.requires.are
+    subst AreRoutines (sym (c.deref-2.ensures.value ∙ ap (λ (v : Vec Routine). v.items) c.deref.ensures)) c.requires.are
 
 pub code_of-requires-clause-serve : goal.code_of-requires-clause-serve
 code_of-requires-clause-serve c = (

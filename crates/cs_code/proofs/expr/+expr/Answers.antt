@@ -1,10 +1,10 @@
-use Rattle.std.proofs.Common.{◌≡◌, ◌∙◌, ◌+◌, Some, None, ap, refl, rules, subst, sym}
+use Rattle.std.proofs.Common.{◌≡◌, ◌∙◌, ◌+◌, Some, None, ap, refl, rules, subst, sym, IfOk, OnOk}
 use Rattle.cs_ir.specs.{Drafts.Grew, Waves.if_init}
 use Rattle.cs_ir.specs.declared.op.Act.TheVariants as act
-use Rattle.cs_typed.specs.TypedTree.{expression, apply, neg, pair, pick}
+use Rattle.cs_typed.specs.TypedTree.{Expression, expression, number, var, field, head, apply, neg, pair, pick}
 use Rattle.cs_typed.specs.WellRated.{node_rate}
 use Rattle.cs_code.specs.{inner.Code.own, inner.Emitted.when_of, inner.Kept.past, inner.Spots.direct, inner.Spots.temp}
-use Rattle.cs_code.proofs.Growing.{grew_nothing, on_then}
+use Rattle.cs_code.proofs.Growing.{grew_nothing, on_any, on_then}
 use Rattle.cs_code.proofs.Nodes.{made_code, made_one, made_pair, made_past, made_pick, made_spot, rate_of_part}
 use Rattle.cs_code.proofs.Nodes.{there_code, there_past, there_spot}
 use Rattle.cs_code.proofs.expr.+expr.Goals as goal
@@ -27,8 +27,7 @@ own-returns-in_ok-b-in-Pair t c =
           c.in_ok-a-in-Pair.a.reg c.in_ok-b-in-Pair.b.reg c.two-from.result c.args.ops.now c.operand-in-Pair.new.ops
           c.operand-in-Pair-2.new.ops c.finish-in-Pair.new.ops is c.in_ok-a-in-Pair.ensures.next
           c.in_ok-add-in-Pair.ensures c.in_ok-a-in-Pair.ensures.spot c.in_ok-b-in-Pair.ensures.spot c.two-from.ensures
-          c.in_ok-a-in-Pair.ensures.ops c.in_ok-b-in-Pair.ensures.ops)
-          c.finish-in-Pair.ensures.ops;
+          c.in_ok-a-in-Pair.ensures.ops c.in_ok-b-in-Pair.ensures.ops) c.finish-in-Pair.ensures.ops;
       next = made_past c.finish-in-Pair.result c.args.at c.in_ok-b-in-Pair.b.next (expression e) _ is
           (c.in_ok-b-in-Pair.ensures.next ∙ ap (λ n. past n (expression z)) c.in_ok-a-in-Pair.ensures.next)
           c.finish-in-Pair.ensures.next;
@@ -58,8 +57,7 @@ own-returns-in_ok-b-in-Pick t c =
           c.in_ok-c-in-Pick.ensures.next c.in_ok-a-in-Pick.ensures.next c.in_ok-second-in-Pick.ensures
           c.in_ok-add-in-Pick.ensures c.in_ok-c-in-Pick.ensures.spot c.in_ok-a-in-Pick.ensures.spot
           c.in_ok-b-in-Pick.ensures.spot c.three-from.ensures c.in_ok-c-in-Pick.ensures.ops
-          c.in_ok-a-in-Pick.ensures.ops c.in_ok-b-in-Pick.ensures.ops)
-          c.finish-in-Pick.ensures.ops;
+          c.in_ok-a-in-Pick.ensures.ops c.in_ok-b-in-Pick.ensures.ops) c.finish-in-Pick.ensures.ops;
       next = made_past c.finish-in-Pick.result c.args.at c.in_ok-b-in-Pick.b.next (expression e) _ is
           (c.in_ok-b-in-Pick.ensures.next ∙ ap (λ n. past n (expression z))
           (c.in_ok-a-in-Pick.ensures.next ∙ ap (λ n. past n (expression y)) c.in_ok-c-in-Pick.ensures.next))
@@ -77,8 +75,7 @@ own-returns-in_ok-a-in-Neg t c =
       ops = on_then c.finish.result
           (made_one (when_of c.args.context.pass) c.args.at c.args.d act.Neg (expression e) _ (expression y) c.args.into
           c.in_ok-a-in-Neg.a.reg c.one-from.result c.args.ops.now c.operand.new.ops c.finish.new.ops is refl
-          c.in_ok-a-in-Neg.ensures.spot c.one-from.ensures c.in_ok-a-in-Neg.ensures.ops)
-          c.finish.ensures.ops;
+          c.in_ok-a-in-Neg.ensures.spot c.one-from.ensures c.in_ok-a-in-Neg.ensures.ops) c.finish.ensures.ops;
       next = made_past c.finish.result c.args.at c.in_ok-a-in-Neg.a.next (expression e) _ is
           c.in_ok-a-in-Neg.ensures.next c.finish.ensures.next;
     }
@@ -96,8 +93,7 @@ own-returns-in_ok-a-in-Call t c =
           (made_one (when_of c.args.context.pass) c.args.at c.args.d (act.Call g) (expression e) _ (expression y)
           c.args.into c.in_ok-a-in-Call.a.reg c.one-from-in-Call.result c.args.ops.now c.operand-in-Call.new.ops
           c.finish-in-Call.new.ops is refl c.in_ok-a-in-Call.ensures.spot c.one-from-in-Call.ensures
-          c.in_ok-a-in-Call.ensures.ops)
-          c.finish-in-Call.ensures.ops;
+          c.in_ok-a-in-Call.ensures.ops) c.finish-in-Call.ensures.ops;
       next = made_past c.finish-in-Call.result c.args.at c.in_ok-a-in-Call.a.next (expression e) _ is
           c.in_ok-a-in-Call.ensures.next c.finish-in-Call.ensures.next;
     }
@@ -111,8 +107,7 @@ operand-returns-in_ok-next_of-in-Some t c =
     record {
       ops = grew_nothing c.args.ops.now _ (there_code when at (expression e) c.args.d c.in-Some.reg there);
       spot = sym (there_spot when at (expression e) c.args.d c.in-Some.reg there);
-      next = c.in_ok-next_of-in-Some.ensures
-          ∙ ap (λ r. if_init r (at + 1) at) (sym (rate_of_part e.rate e.what))
+      next = c.in_ok-next_of-in-Some.ensures ∙ ap (λ r. if_init r (at + 1) at) (sym (rate_of_part e.rate e.what))
           ∙ sym (there_past when at (expression e) c.in-Some.reg there);
     }
 
@@ -130,4 +125,46 @@ operand-returns-in_ok-next-in-None t c =
           c.in_ok-next-in-None.ensures.ops;
       spot = into ∙ sym (made_spot when at (expression e) c.args.d none);
       next = c.in_ok-next-in-None.ensures.next;
+    }
+
+pub own-returns-in-Number : goal.own-returns-in-Number
+own-returns-in-Number t c =
+    let e = c.args.e.now in
+    let is : expression e ≡ number e.rate c.in-Number.value = search (rules, c.in-Number.is) in
+    record {
+      ops = subst (λ (x : Expression). OnOk c.leaf.result (Grew c.args.ops.now c.leaf.new.ops
+          (own (when_of c.args.context.pass) c.args.at x c.args.into c.args.d))) (sym is) c.leaf.ensures.ops;
+      next = subst (λ (x : Expression). IfOk c.leaf.result (λ n. n ≡ past c.args.at x)) (sym is) c.leaf.ensures.next;
+    }
+
+pub own-returns-in-Field : goal.own-returns-in-Field
+own-returns-in-Field t c =
+    let e = c.args.e.now in
+    let is : expression e ≡ field e.rate c.in-Field.field = search (rules, c.in-Field.is) in
+    record {
+      ops = subst (λ (x : Expression). OnOk c.leaf-in-Field.result (Grew c.args.ops.now c.leaf-in-Field.new.ops
+          (own (when_of c.args.context.pass) c.args.at x c.args.into c.args.d))) (sym is) c.leaf-in-Field.ensures.ops;
+      next = subst (λ (x : Expression). IfOk c.leaf-in-Field.result (λ n. n ≡ past c.args.at x)) (sym is)
+          c.leaf-in-Field.ensures.next;
+    }
+
+pub own-returns-in-Head : goal.own-returns-in-Head
+own-returns-in-Head t c =
+    let e = c.args.e.now in
+    let is : expression e ≡ head e.rate c.in-Head.name = search (rules, c.in-Head.is) in
+    record {
+      ops = subst (λ (x : Expression). OnOk c.leaf-in-Head.result (Grew c.args.ops.now c.leaf-in-Head.new.ops
+          (own (when_of c.args.context.pass) c.args.at x c.args.into c.args.d))) (sym is) c.leaf-in-Head.ensures.ops;
+      next = subst (λ (x : Expression). IfOk c.leaf-in-Head.result (λ n. n ≡ past c.args.at x)) (sym is)
+          c.leaf-in-Head.ensures.next;
+    }
+
+pub own-returns-in_ok-look-in-Var : goal.own-returns-in_ok-look-in-Var
+own-returns-in_ok-look-in-Var t c =
+    let e = c.args.e.now in
+    let is : expression e ≡ var e.rate c.in-Var.v = search (rules, c.in-Var.is) in
+    record {
+      ops = on_any c.next_of.result (subst (λ (x : Expression). Grew c.args.ops.now c.look.new.ops
+          (own (when_of c.args.context.pass) c.args.at x c.args.into c.args.d)) (sym is) c.in_ok-look-in-Var.ensures);
+      next = subst (λ (x : Expression). IfOk c.next_of.result (λ n. n ≡ past c.args.at x)) (sym is) c.next_of.ensures;
     }

@@ -11,8 +11,7 @@ use Rattle.cs_code.proofs.Nodes.{keeps_parts, kept_whole, parts_code, parts_past
 use Rattle.cs_code.proofs.expr.+keep.Goals as goal
 
 -- what has one part
-one_part : (at : ℕ) (e : TypedExpr) (a : Box TypedExpr Global)
-    → (e.what ≡ Neg a) ⊎ ((g : Func) × (e.what ≡ Call g a))
+one_part : (at : ℕ) (e : TypedExpr) (a : Box TypedExpr Global) → (e.what ≡ Neg a) ⊎ ((g : Func) × (e.what ≡ Call g a))
     → (parts_code at (expression e) ≡ keep_code at (expression a.value))
     × (parts_past at (expression e) ≡ past at (expression a.value))
 one_part at e a (inl h) =
@@ -54,8 +53,7 @@ returns-in_ok-next-in-Pair t c =
       ops = on_then c.keep-in-Pair.result (λ more. grew_two c.args.ops.now c.keep.new.ops c.keep-in-Pair.new.ops _ _ _
           c.in_ok-next-in-Pair.ensures.ops more
           (ap (λ n. keep_code at (expression y) ++ keep_code n (expression z)) next
-          ∙ sym (parts.0 ∙ ap (parts_code at) is)))
-          c.keep-in-Pair.ensures.ops;
+          ∙ sym (parts.0 ∙ ap (parts_code at) is))) c.keep-in-Pair.ensures.ops;
       next = subst (λ m. IfOk c.keep-in-Pair.result (λ n. n ≡ m))
           (ap (λ n. past n (expression z)) next ∙ sym (parts.1 ∙ ap (parts_past at) is)) c.keep-in-Pair.ensures.next;
     }
@@ -80,11 +78,9 @@ returns-in_ok-next-in-Pick-2 t c =
     record {
       ops = on_then c.keep-in-Pick-3.result (λ more. grew_three c.args.ops.now c.keep-in-Pick.new.ops
           c.keep-in-Pick-2.new.ops c.keep-in-Pick-3.new.ops _ _ _ _ c.in_ok-next-in-Pick.ensures.ops
-          c.in_ok-next-in-Pick-2.ensures.ops more
-          ((λ i. keep_code at (expression v)
+          c.in_ok-next-in-Pick-2.ensures.ops more ((λ i. keep_code at (expression v)
           ++ (keep_code (first i) (expression y) ++ keep_code (last i) (expression z)))
-          ∙ sym (parts.0 ∙ ap (parts_code at) is)))
-          c.keep-in-Pick-3.ensures.ops;
+          ∙ sym (parts.0 ∙ ap (parts_code at) is))) c.keep-in-Pick-3.ensures.ops;
       next = subst (λ m. IfOk c.keep-in-Pick-3.result (λ n. n ≡ m))
           (ap (λ n. past n (expression z)) last ∙ sym (parts.1 ∙ ap (parts_past at) is)) c.keep-in-Pick-3.ensures.next;
     }
@@ -97,7 +93,6 @@ returns-in_ok-code-in-Init t c =
     record {
       ops = on_any c.add.result (subst (Grew c.args.ops.now c.code.new.ops)
           (ap (λ w. code (when_of w) 0 k c.kept_reg.result 0) c.requires
-          ∙ ap (λ q. code beginning 0 k q 0) c.kept_reg.ensures ∙ sym whole.0)
-          c.in_ok-code-in-Init.ensures.ops);
+          ∙ ap (λ q. code beginning 0 k q 0) c.kept_reg.ensures ∙ sym whole.0) c.in_ok-code-in-Init.ensures.ops);
       next = subst (λ m. IfOk c.add.result (λ n. n ≡ m)) (sym whole.1) c.add.ensures;
     }

@@ -18,5 +18,4 @@ returns-in_ok-y-in-Mixed-clause-ops c =
     (made_pair (when_of c.args.context.pass) c.args.at c.in_ok-x-in-Mixed.x.next c.args.d c.in_ok-add-in-Mixed.field-0
     rate.Audio op.Add sum x y c.args.into c.in_ok-x-in-Mixed.x.reg c.in_ok-y-in-Mixed.y.reg c.two-from.result
     c.args.ops.now c.variable.new.ops c.operand.new.ops c.finish.new.ops is first.next c.in_ok-add-in-Mixed.ensures
-    first.spot second.spot c.two-from.ensures first.ops second.ops)
-    c.finish.ensures.ops
+    first.spot second.spot c.two-from.ensures first.ops second.ops) c.finish.ensures.ops

@@ -19,8 +19,7 @@ returns-in_ok-push-clause-ops c =
     let copy = op_of act.Copy to (spot when c.args.at e 0 ∷ []) ∷ [] in
     let other : same_rate (node_rate e) own ≡ false =
     sym (ap (λ r. same_rate r own) c.rate_of.ensures) ∙ sym c.same.ensures ∙ c.if-same.false in
-    subst (Grew c.args.ops.now c.push.new.ops)
-    (ap₂ (λ q ys. made ++ op_of act.Copy q ys ∷ []) c.in_ok-to.ensures
+    subst (Grew c.args.ops.now c.push.new.ops) (ap₂ (λ q ys. made ++ op_of act.Copy q ys ∷ []) c.in_ok-to.ensures
     (c.one.ensures ∙ ap (λ q. q ∷ []) c.in_ok-spot.ensures.spot)
     ∙ sym (ap (λ b. if b then code when c.args.at e to 0 else made ++ copy) other))
     (grew_on c.args.ops.now c.spot_of.new.ops c.push.new.ops made _ c.in_ok-spot.ensures.ops c.in_ok-push.ensures)

@@ -13,7 +13,6 @@ loop-number-preserved c = λ spaces channels t ps code zip.
     subst (λ l. AllZip (IsNumberedCode spaces channels) (ps ++ numbered_with t (take (i + 1) ns)) l)
     (sym c.in_ok-push.ensures.items)
     (one_numbered spaces channels t ps ns i 0 c.loop-number.list.items x c.loop-number-test.true
-    (c.loop-number.invariant spaces channels t ps code zip)
-    c.in_ok-new.ensures.number
+    (c.loop-number.invariant spaces channels t ps code zip) c.in_ok-new.ensures.number
     (code_same spaces channels t x.init x.perf c.args.body.now.value.init.code c.args.body.now.value.perf.code
     c.in_ok-new.ensures.init c.in_ok-new.ensures.perf code))

@@ -14,8 +14,7 @@ add_instr-requires-clause-rated c =
       setting,
       at_instrument (typed.routines c.args.orc.now.routines.items) P xs c.loop-instr.instr-index c.instr-item.result
           (subst (λ l. All P (map (typed.instrument (typed.routines c.args.orc.now.routines.items)) l))
-          (sym c.deref-instr-items.ensures.value) c.requires.rated.instrs)
-          c.loop-instr-test.true c.instr-item.is,
+          (sym c.deref-instr-items.ensures.value) c.requires.rated.instrs) c.loop-instr-test.true c.instr-item.is,
     )
 
 pub add_instr-requires-clause-library : goal.add_instr-requires-clause-library
@@ -31,8 +30,7 @@ loop-instr-preserved c =
     let rated = at_instrument (typed.routines c.args.orc.now.routines.items)
     (λ (y : typed.Instrument). IsRatedBlock setting y.body) xs i x
     (subst (λ l. All (λ (y : typed.Instrument). IsRatedBlock setting y.body)
-    (map (typed.instrument (typed.routines c.args.orc.now.routines.items)) l))
-    (sym c.deref-instr-items.ensures.value)
+    (map (typed.instrument (typed.routines c.args.orc.now.routines.items)) l)) (sym c.deref-instr-items.ensures.value)
     c.requires.rated.instrs) c.loop-instr-test.true c.instr-item.is in
     subst (λ l. AllZip (IsNumberedCode o.spaces o.head.nchnls) l c.add_instr.new.list.items)
     (sym (bodies_more (typed.routines c.args.orc.now.routines.items) xs i x c.loop-instr-test.true c.instr-item.is))

@@ -22,13 +22,10 @@ returns-clause-ops c = λ rs serve.
     let library : library_of begun ≡ library_in c.args.routines.now = c.new-ops.ensures.routines in
     let serves = subst (λ l. Serve way sp rs l c.args.extents.now) (sym library) serve in
     let grew = (c.in_ok-extent.ensures rs serves).ops in
-    sym (ap (λ l. ops_in l c.in_ok-end.field-0) (grew.routines ∙ library))
-    ∙ c.in_ok-end.ensures.ops
-    ∙ grew.ops
+    sym (ap (λ l. ops_in l c.in_ok-end.field-0) (grew.routines ∙ library)) ∙ c.in_ok-end.ensures.ops ∙ grew.ops
     ∙ ap (λ l. l ++ pass_block_code way (length l) start (block_in (scope_of sp rs) c.args.stmts.now)) empty
 
 pub returns-clause-extent : goal.returns-clause-extent
 returns-clause-extent c = λ rs serve.
-    (c.in_ok-extent.ensures rs
-    (subst (λ l. Serve c.args.context.pass c.args.context.spaces rs l c.args.extents.now)
+    (c.in_ok-extent.ensures rs (subst (λ l. Serve c.args.context.pass c.args.context.spaces rs l c.args.extents.now)
     (sym c.new-ops.ensures.routines) serve)).next

@@ -13,8 +13,7 @@ returns c =
     let es = expressions_of c.args.values.now in
     let given = given_code k.rate k.results.now in
     record {
-      ops = grew_two c.args.ops.now c.push_on.new.ops c.give.new.ops _ _ _ c.in_ok-next.ensures.ops
-          c.in_ok-give.ensures
+      ops = grew_two c.args.ops.now c.push_on.new.ops c.give.new.ops _ _ _ c.in_ok-next.ensures.ops c.in_ok-give.ensures
           (ap (λ q. on_code when at c.args.act q es ++ given) c.in_ok-into.ensures
           ∙ append_assoc (operands_code when at es 0)
           (op_of c.args.act (target k.rate k.results.now) (spots when at es 0) ∷ []) given);

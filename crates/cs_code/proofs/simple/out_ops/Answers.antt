@@ -13,6 +13,5 @@ loop-reg-preserved c = (
 
 pub returns : goal.returns
 returns c =
-    leads_end c.args.ops.now c.loop-reg.ops _ _ c.loop-reg.invariant.1
-    (ap (out_ops c.loop-reg.channel)
+    leads_end c.args.ops.now c.loop-reg.ops _ _ c.loop-reg.invariant.1 (ap (out_ops c.loop-reg.channel)
     (drop_all c.loop-reg.reg-index c.args.regs.now (omega (arith, c.loop-reg-test.false))))

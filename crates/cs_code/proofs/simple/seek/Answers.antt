@@ -8,7 +8,5 @@ use Rattle.cs_code.proofs.simple.seek.Goals as goal
 pub returns : goal.returns
 returns c =
     let es = expressions_of c.args.settled.now in
-    subst (Grew c.args.ops.now c.push_on.new.ops)
-    (ap (λ w. on_code (when_of w) 0 act.Seek c.temp.result es) c.requires
-    ∙ ap (λ q. on_code beginning 0 act.Seek q es) c.temp.ensures)
-    c.in_ok-push_on.ensures.ops
+    subst (Grew c.args.ops.now c.push_on.new.ops) (ap (λ w. on_code (when_of w) 0 act.Seek c.temp.result es) c.requires
+    ∙ ap (λ q. on_code beginning 0 act.Seek q es) c.temp.ensures) c.in_ok-push_on.ensures.ops

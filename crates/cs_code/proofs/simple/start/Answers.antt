@@ -9,7 +9,5 @@ pub returns : goal.returns
 returns c =
     let es = expressions_of c.args.settled.now in
     let begins = act.Start c.args.call.now.opcode c.args.unit in
-    subst (Grew c.args.ops.now c.push_on.new.ops)
-    (ap (λ w. on_code (when_of w) 0 begins c.temp.result es) c.requires
-    ∙ ap (λ q. on_code beginning 0 begins q es) c.temp.ensures)
-    c.in_ok-push_on.ensures.ops
+    subst (Grew c.args.ops.now c.push_on.new.ops) (ap (λ w. on_code (when_of w) 0 begins c.temp.result es) c.requires
+    ∙ ap (λ q. on_code beginning 0 begins q es) c.temp.ensures) c.in_ok-push_on.ensures.ops

@@ -131,8 +131,7 @@ stmt-returns-in-Call t c = λ rs serve.
     let lent = c.deref.ensures.value in
     subst (λ b. IfOk c.call.result (λ q. Lowered way old c.call.new.ops c.args.p q b))
     ((λ i. core_in o (typed.alone (typed.call 0 r (given i) k (map typed.argument (lent i)))))
-    ∙ sym (ap (core_in o) seen))
-    c.call.ensures
+    ∙ sym (ap (core_in o) seen)) c.call.ensures
 
 pub stmt-returns-in-Invoke : goal.stmt-returns-in-Invoke
 stmt-returns-in-Invoke t c = λ rs serve.
@@ -253,8 +252,7 @@ arms_of-returns t c = λ rs serve.
       leads_end c.args.ops.now here _ _ was.1
           (ap (λ xs. opened at (branches c.args.context.pass o at c.loop-a.next xs)) none),
       λ places marked. let found = was.2 places marked in
-          subst (AllZip (IsAt here) c.loop-a.ends.items)
-          (sym (append-nil found.0)
+          subst (AllZip (IsAt here) c.loop-a.ends.items) (sym (append-nil found.0)
           ∙ sym (ap (λ xs. found.0 ++ jumps at (branches c.args.context.pass o at c.loop-a.next xs)) none) ∙ found.2)
           found.1,
       sym (ap (past_list o c.loop-a.next) none) ∙ was.3,
@@ -274,8 +272,7 @@ arm-returns t c = λ rs serve.
     let filled = c.block.new.ops in
     let jumped = c.jump-2.new.ops in
     let tests : Grew first tested (op_of (act.Unless 0) b.q (b.q ∷ []) ∷ []) =
-    subst (λ y. Grew first tested (y ∷ []))
-    (ap (λ xs. op_of (act.Unless 0) c.in_ok-spot.spot.reg xs) c.one.ensures
+    subst (λ y. Grew first tested (y ∷ [])) (ap (λ xs. op_of (act.Unless 0) c.in_ok-spot.spot.reg xs) c.one.ensures
     ∙ ap (λ x. op_of (act.Unless 0) x (x ∷ [])) is.reg) c.in_ok-test.ensures.more in
     let serves = serve_on way sp rs c.args.extents.now old tested (tests.routines ∙ is.ops.routines) serve in
     let done = c.in_ok-next.ensures rs serves in
@@ -286,11 +283,9 @@ arm-returns t c = λ rs serve.
     ∙ ap (λ n. pass_block_code way n (past_parts c.in_ok-spot.spot.next p) (body_of o c.args.arm.now))
     (body_begins old first tested b.cond _ is.ops tests)
     ∙ ap (λ n. pass_block_code way (length (drafted old) + length b.cond + 1) (past_parts n p)
-    (body_of o c.args.arm.now)) is.next)
-    done.ops in
+    (body_of o c.args.arm.now)) is.next) done.ops in
     let over : Grew filled jumped (op_of (act.Jump 0) b.q [] ∷ []) =
-    subst (λ y. Grew filled jumped (y ∷ []))
-    (ap (λ xs. op_of (act.Jump 0) c.in_ok-spot.spot.reg xs) c.none.ensures
+    subst (λ y. Grew filled jumped (y ∷ [])) (ap (λ xs. op_of (act.Jump 0) c.in_ok-spot.spot.reg xs) c.none.ensures
     ∙ ap (λ x. op_of (act.Jump 0) x []) is.reg) c.in_ok-end.ensures.more in (
       arm_made old first tested filled jumped c.aim.new.self b.cond b.body b.q c.in_ok-test.test is.ops tests
           c.in_ok-test.ensures.mark fills over c.aim.ensures,

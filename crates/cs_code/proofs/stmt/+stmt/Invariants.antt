@@ -14,8 +14,7 @@ abbrev pub invariant-block-loop-s : goal.invariant-block-loop-s
 invariant-block-loop-s l =
     (rs : List typed.Block) → Serve l.context.pass l.context.spaces rs (library_of l.initial.ops) l.extents
     → let o = scope_of l.context.spaces rs in
-    (library_of l.ops ≡ library_of l.initial.ops)
-    × Leads l.initial.ops l.ops
+    (library_of l.ops ≡ library_of l.initial.ops) × Leads l.initial.ops l.ops
     (pass_block_code l.context.pass (length (drafted l.ops)) l.next (block_in o (drop l.s-index l.stmts)))
     (pass_block_code l.context.pass (length (drafted l.initial.ops)) l.fn.p (block_in o l.stmts))
     × (past_block l.next (block_in o (drop l.s-index l.stmts)) ≡ past_block l.fn.p (block_in o l.stmts))

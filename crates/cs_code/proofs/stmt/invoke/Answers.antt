@@ -11,8 +11,7 @@ returns c = λ rs serve.
       ops = subst (Grew old c.invoke.new.self)
           (invoked_code c.args.context.pass c.args.context.spaces rs (library_of old) c.args.extents.now serve
           c.args.number (length (drafted old)) c.args.p c.args.base _ c.in_ok-narrow.ensures c.in_ok-narrowed.ensures
-          refl refl)
-          c.in_ok-invoke.ensures;
+          refl refl) c.in_ok-invoke.ensures;
       next = invoked_past c.args.context.pass c.args.context.spaces rs (library_of old) c.args.extents.now serve
           c.args.number c.args.p c.in-Some.extent.now _ c.args.base c.in-Some.ensures.lookup.0
           c.in-Some.ensures.lookup.1
@@ -25,8 +24,7 @@ returns-in_default c = λ rs serve.
     record {
       ops = subst (Grew old old)
           (sym (nothing_invoked c.args.context.pass c.args.context.spaces rs (library_of old) c.args.extents.now serve
-          c.args.number (length (drafted old)) c.args.p c.args.base c.in_default.ensures.lookup.0))
-          (grew_none old);
+          c.args.number (length (drafted old)) c.args.p c.args.base c.in_default.ensures.lookup.0)) (grew_none old);
       next = sym (nothing_past c.args.context.pass c.args.context.spaces rs (library_of old) c.args.extents.now serve
           c.args.number c.args.p c.args.base c.in_default.ensures.lookup.0);
     }

@@ -6,8 +6,7 @@ use Rattle.cs_ir.proofs.laws.valid_code_is_fine.Goals as goal
 pub returns-clause-each : goal.returns-clause-each
 returns-clause-each c k n o h e =
     let p : 0 + n ≡ n = omega arith in
-    subst (λ j. is_fine k.counts (length k.ops) j o ≡ true) p
-    (fine_at k.counts (length k.ops) 0 k.ops n o h e)
+    subst (λ j. is_fine k.counts (length k.ops) j o ≡ true) p (fine_at k.counts (length k.ops) 0 k.ops n o h e)
 
 pub returns-clause-all : goal.returns-clause-all
 returns-clause-all c k h =

@@ -11,10 +11,8 @@ returns-in-Some c =
     let h = c.in-Some.ensures.lookup in
     on_ok_weaker c.add_reached.result
     (λ reached k. reached k ∙ ap (max (at_kind c.args.limits.now k))
-    (call_there list k call c.in-Some.routine.now c.requires
-    (found list call.routine c.in-Some.routine.now h.0 h.1)
-    ∙ ap (step_limit (library_in list) k) (sym c.in-Invoke.is)))
-    c.add_reached.ensures
+    (call_there list k call c.in-Some.routine.now c.requires (found list call.routine c.in-Some.routine.now h.0 h.1)
+    ∙ ap (step_limit (library_in list) k) (sym c.in-Invoke.is))) c.add_reached.ensures
 
 pub returns-in-None : goal.returns-in-None
 returns-in-None c = λ k.

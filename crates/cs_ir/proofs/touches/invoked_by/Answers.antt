@@ -13,19 +13,16 @@ loop-step-preserved c =
     let old = invoked (take i ss) in
     let next = flat_next step_invokes ss i c.step-item.result c.loop-step-test.true c.step-item.is in
     elim c.match-step.branch [
-      | in-Do w ↦
-          ap (λ v. v.items) w.numbers-is ∙ c.loop-step.invariant ∙ sym (append-nil old)
+      | in-Do w ↦ ap (λ v. v.items) w.numbers-is ∙ c.loop-step.invariant ∙ sym (append-nil old)
           ∙ ap (λ s. old ++ step_invokes s) (sym w.in-Do.is) ∙ next
-      | in-Invoke+in_ok-push-in-Invoke w ↦
-          ap (λ v. v.items) w.numbers-is ∙ w.in_ok-push-in-Invoke.ensures.items
+      | in-Invoke+in_ok-push-in-Invoke w ↦ ap (λ v. v.items) w.numbers-is ∙ w.in_ok-push-in-Invoke.ensures.items
           ∙ ap (λ l. l ++ w.in-Invoke.call.routine ∷ []) c.loop-step.invariant
           ∙ ap (λ s. old ++ step_invokes s) (sym w.in-Invoke.is) ∙ next
     ]
 
 pub returns : goal.returns
 returns c n =
-    subst (λ l. Contains c.dedup.new.self.items n ↔ Contains l n)
-    (c.loop-step.invariant
+    subst (λ l. Contains c.dedup.new.self.items n ↔ Contains l n) (c.loop-step.invariant
     ∙ ap invoked (take_all c.loop-step.step-index c.args.steps.now c.loop-step-test.false))
     (each_number_once c.loop-step.numbers.items c.sort_unstable.new.self.items c.dedup.new.self.items n
     c.sort_unstable.ensures.permutation

@@ -21,11 +21,9 @@ loop-step-preserved c = λ stock.
     c.step-item.is in
     let more = ap (λ l. named stock old ++ l) (c.own_touch.ensures stock) in
     elim c.match-own_touch.branch [
-      | in-Some+in_ok-push w ↦
-          ap (λ v. named stock v.items) w.touches-is ∙ ap (named stock) w.in_ok-push.ensures.items
+      | in-Some+in_ok-push w ↦ ap (λ v. named stock v.items) w.touches-is ∙ ap (named stock) w.in_ok-push.ensures.items
           ∙ touch_added stock old w.in-Some.touch c.own_touch.result w.in-Some.is ∙ more ∙ so_far
-      | in_default w ↦
-          ap (λ v. named stock v.items) w.touches-is
+      | in_default w ↦ ap (λ v. named stock v.items) w.touches-is
           ∙ touch_passed stock (named stock old) c.own_touch.result w.in_default.not-Some ∙ more ∙ so_far
     ]
 
@@ -63,10 +61,8 @@ loop-number-preserved c = λ stock.
           ∙ ap (named stock) (w.in_ok-extend_from_slice.ensures.items ∙ ap (λ l. now ++ l) more)
           ∙ flat_map-append (resources stock) now (kept t r.touches))
           (routine_touches t list n r stock c.requires.routines there)
-      | in_default-get w ↦
-          subst (λ l. NameTheSame l (named stock now ++ ops_touch t stock (ops_at rs n)))
-          (sym (ap (λ v. named stock v.items) w.touches-is))
-          (none_added t stock list n (named stock now)
+      | in_default-get w ↦ subst (λ l. NameTheSame l (named stock now ++ ops_touch t stock (ops_at rs n)))
+          (sym (ap (λ v. named stock v.items) w.touches-is)) (none_added t stock list n (named stock now)
           (ltb-false n (length list) (sym w.in_default-get.ensures.lookup.0)))
     ] in
     same_next t stock rs ns i n before (named stock now) then_is c.loop-number-test.true refl

@@ -21,8 +21,7 @@ set_row-requires-clause-set g c = λ j low.
     let access = g.B.Bank.access (g.B.Bank.rest c.loop-done.bank) in
     can_here access.can_set access.count c.args.area (done + j) (c.args.area.first + done + j)
     (set_again g.B.Bank.access (g.B.Bank.rest c.args.bank.now) (g.B.Bank.rest c.loop-done.bank) c.args.area
-    c.loop-done.invariant.rest c.requires.write)
-    (omega (arith, few, c.min-count.ensures)) (omega arith)
+    c.loop-done.invariant.rest c.requires.write) (omega (arith, few, c.min-count.ensures)) (omega arith)
 
 pub set_row-requires-clause-there : goal.set_row-requires-clause-there
 set_row-requires-clause-there g c = λ j low.
@@ -48,8 +47,7 @@ loop-done-preserved g c =
     record {
       cells = cleared_more (cell (g.B.Bank.cells c.args.bank.now)) c.args.area.first c.loop-done.done
           c.min-count.result c.exact-zeros.result before (cell (g.B.Bank.cells c.set_row.new.self))
-          c.exact-zeros.ensures c.loop-done.invariant.cells
-          (c.set_row.ensures.cells
+          c.exact-zeros.ensures c.loop-done.invariant.cells (c.set_row.ensures.cells
           ∙ ap (λ row. with_row (c.args.area.first + c.loop-done.done) (length row) (cell row) before)
           (front_of_zeros c.exact-zeros.result c.min-count.result 64 (c.args.area.length - c.loop-done.done)
           c.min-count.ensures));

@@ -26,8 +26,7 @@ returns-clause-cells g c =
     let room = row_wave c.add_row.new.channel in
     let frames = c.read_row.ensures.row in
     let all = c.add_row.ensures.long in
-    c.write_row.ensures.cells
-    ∙ ap (λ l. with_wave (Some c.args.area) room (cell l)) c.read_row.ensures.same
+    c.write_row.ensures.cells ∙ ap (λ l. with_wave (Some c.args.area) room (cell l)) c.read_row.ensures.same
     ∙ same_wave c.args.area room (added (wave_in rate.Audio c.args.area cells) (row_wave c.args.row.now)) cells
     (λ j low. c.add_row.ensures.frames j (omega (arith, low, frames, all, c.requires.room))
     ∙ ap (λ z. sum_of z (argument c.args.row.now j))

@@ -24,8 +24,7 @@ block-requires-clause-last g c =
     let b : Operand = c.operand_at-then-len-le-FEW_INPUTS.result in
     let d : Operand = c.operand_at-then-len-le-FEW_INPUTS-2.result in
     let n = c.len-then-len-le-FEW_INPUTS.result in
-    subst (λ k. All (Lasts k) (take n (a ∷ b ∷ d ∷ []))) (sym c.requires.row)
-    (All-take P n (a ∷ b ∷ d ∷ [])
+    subst (λ k. All (Lasts k) (take n (a ∷ b ∷ d ∷ []))) (sym c.requires.row) (All-take P n (a ∷ b ∷ d ∷ [])
     (All-cons P a (b ∷ d ∷ []) c.operand_at.ensures.lasts
     (All-cons P b (d ∷ []) c.operand_at-then-len-le-FEW_INPUTS.ensures.lasts
     (All-cons P d [] c.operand_at-then-len-le-FEW_INPUTS-2.ensures.lasts (All-nil P)))))
@@ -47,8 +46,7 @@ returns-then-len-le-FEW_INPUTS-clause-value g c =
     let d : Operand = c.operand_at-then-len-le-FEW_INPUTS-2.result in
     c.block.ensures.value
     ∙ ap (λ n. run unit_step (λ j. inputs_at (take n (a ∷ b ∷ d ∷ [])) j ++ points) p.state 0 (length c.args.row.now))
-    c.len-then-len-le-FEW_INPUTS.ensures
-    ∙ ap (λ at. run unit_step at p.state 0 (length c.args.row.now))
+    c.len-then-len-le-FEW_INPUTS.ensures ∙ ap (λ at. run unit_step at p.state 0 (length c.args.row.now))
     (same_inputs (values c.args.regs.now) (a ∷ b ∷ d ∷ []) from points few
     (three_stand (values c.args.regs.now) from a b d c.operand_at.ensures.stands
     c.operand_at-then-len-le-FEW_INPUTS.ensures.stands c.operand_at-then-len-le-FEW_INPUTS-2.ensures.stands few))

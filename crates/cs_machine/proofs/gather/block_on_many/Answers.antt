@@ -42,8 +42,7 @@ returns-clause-value g c =
     omega (arith, most, c.operands-inputs.ensures.long) in
     c.block.ensures.value
     ∙ ap (λ n. run unit_step (λ j. inputs_at (take n c.operands-inputs.result) j ++ points) p.state 0
-    (length c.args.row.now)) c.len.ensures
-    ∙ ap (λ at. run unit_step at p.state 0 (length c.args.row.now))
+    (length c.args.row.now)) c.len.ensures ∙ ap (λ at. run unit_step at p.state 0 (length c.args.row.now))
     (same_inputs (values c.args.regs.now) c.operands-inputs.result from points long c.operands-inputs.ensures.stand)
 
 pub returns-clause-player : goal.returns-clause-player

@@ -14,8 +14,7 @@ first-requires c = each_read (has_register c.args.regs.now.counts) (regs_read c.
     c.in-Some.register c.requires (sym c.get.ensures ∙ c.in-Some.is)
 
 pub returns-in-Some : goal.returns-in-Some
-returns-in-Some c = λ low. c.first.ensures
-    ∙ ap (λ q. values c.args.regs.now q 0)
+returns-in-Some c = λ low. c.first.ensures ∙ ap (λ q. values c.args.regs.now q 0)
     (sym (get_or_from_slice_get (regs_read c.args.from) c.args.place c.in-Some.register no_register
     (sym c.get.ensures ∙ c.in-Some.is)))
 

@@ -14,8 +14,7 @@ operand-requires c = each_read (has_register c.args.regs.now.counts) (regs_read 
     c.in-Some.register c.requires (sym c.get.ensures ∙ c.in-Some.is)
 
 pub returns-in-Some-clause-stands : goal.returns-in-Some-clause-stands
-returns-in-Some-clause-stands c = λ low frame. c.operand.ensures.value frame
-    ∙ ap (λ q. values c.args.regs.now q frame)
+returns-in-Some-clause-stands c = λ low frame. c.operand.ensures.value frame ∙ ap (λ q. values c.args.regs.now q frame)
     (sym (get_or_from_slice_get (regs_read c.args.from) c.args.place c.in-Some.register no_register
     (sym c.get.ensures ∙ c.in-Some.is)))
 

@@ -11,8 +11,7 @@ returns c = record {
       c.operand_at-3.result c.operand_at-4.result c.operand_at-5.result c.operand_at-6.result c.operand_at-7.result
       c.operand_at.ensures.stands c.operand_at-2.ensures.stands c.operand_at-3.ensures.stands
       c.operand_at-4.ensures.stands c.operand_at-5.ensures.stands c.operand_at-6.ensures.stands
-      c.operand_at-7.ensures.stands
-      c.requires.few;
+      c.operand_at-7.ensures.stands c.requires.few;
   last = seven_last (Lasts c.args.regs.now.ksmps) c.operand_at.result c.operand_at-2.result c.operand_at-3.result
       c.operand_at-4.result c.operand_at-5.result c.operand_at-6.result c.operand_at-7.result
       c.operand_at.ensures.lasts c.operand_at-2.ensures.lasts c.operand_at-3.ensures.lasts c.operand_at-4.ensures.lasts

@@ -15,10 +15,8 @@ returns-then-len-le-FEW_INPUTS-clause-value g c =
     let a : ℤ = c.first_at.result in
     let b : ℤ = c.first_at-then-len-le-FEW_INPUTS.result in
     let d : ℤ = c.first_at-then-len-le-FEW_INPUTS-2.result in
-    ap (λ (r : UnitState × ℤ). (r.0, r.1 ∷ []))
-    (c.step.ensures.value
+    ap (λ (r : UnitState × ℤ). (r.0, r.1 ∷ [])) (c.step.ensures.value
     ∙ ap (λ n. unit_step p.state (take n (a ∷ b ∷ d ∷ []) ++ points)) c.len-then-len-le-FEW_INPUTS.ensures
-    ∙ ap (λ xs. unit_step p.state (xs ++ points))
-    (same_firsts (values c.args.regs.now) (a ∷ b ∷ d ∷ []) from few
+    ∙ ap (λ xs. unit_step p.state (xs ++ points)) (same_firsts (values c.args.regs.now) (a ∷ b ∷ d ∷ []) from few
     (three_first (values c.args.regs.now) from a b d c.first_at.ensures
     c.first_at-then-len-le-FEW_INPUTS.ensures c.first_at-then-len-le-FEW_INPUTS-2.ensures few)))

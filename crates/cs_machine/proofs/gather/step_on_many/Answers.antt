@@ -17,8 +17,7 @@ returns-clause-value g c =
     let from : List Reg = regs_read c.args.from in
     let most : length from ≤ 7 = few p.state (length from) c.requires.count in
     let long : length from ≤ length c.firsts-inputs.result = omega (arith, most, c.firsts-inputs.ensures.long) in
-    ap (λ (r : UnitState × ℤ). (r.0, r.1 ∷ []))
-    (c.step.ensures.value
+    ap (λ (r : UnitState × ℤ). (r.0, r.1 ∷ [])) (c.step.ensures.value
     ∙ ap (λ n. unit_step p.state (take n c.firsts-inputs.result ++ points)) c.len.ensures
     ∙ ap (λ xs. unit_step p.state (xs ++ points))
     (same_firsts (values c.args.regs.now) c.firsts-inputs.result from long c.firsts-inputs.ensures.first))

@@ -10,12 +10,9 @@ use Rattle.cs_machine.proofs.outputs.add_row.Goals as goal
 pub loop-j-preserved : goal.loop-j-preserved
 loop-j-preserved c = record {
   frames = one_more (both op.Add (row_wave c.args.channel.now) (row_wave c.args.row.now)) c.loop-j.channel c.loop-j.j
-      c.add.result (omega arith) c.loop-j.invariant.frames
-      (c.add.ensures
-      ∙ ap (λ z. sum_of z c.index-row-j.result)
+      c.add.result (omega arith) c.loop-j.invariant.frames (c.add.ensures ∙ ap (λ z. sum_of z c.index-row-j.result)
       (item_is c.loop-j.channel c.loop-j.j c.index-channel-j.result (omega arith) c.index-channel-j.is
-      ∙ c.loop-j.invariant.others c.loop-j.j (omega arith))
-      ∙ ap (sum_of (argument c.args.channel.now c.loop-j.j))
+      ∙ c.loop-j.invariant.others c.loop-j.j (omega arith)) ∙ ap (sum_of (argument c.args.channel.now c.loop-j.j))
       (item_is c.args.row.now c.loop-j.j c.index-row-j.result (omega arith) c.index-row-j.is));
   others = others_kept c.loop-j.j c.args.channel.now c.loop-j.channel c.add.result c.loop-j.invariant.others;
   long = search rules;

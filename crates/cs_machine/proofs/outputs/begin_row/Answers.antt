@@ -9,8 +9,7 @@ use Rattle.cs_machine.proofs.outputs.begin_row.Goals as goal
 pub loop-j-preserved : goal.loop-j-preserved
 loop-j-preserved c = record {
   frames = one_more (both op.Add silence (row_wave c.args.row.now)) c.loop-j.channel c.loop-j.j c.first.result
-      (omega arith) c.loop-j.invariant.frames
-      (c.first.ensures ∙ ap (sum_of (pos 0))
+      (omega arith) c.loop-j.invariant.frames (c.first.ensures ∙ ap (sum_of (pos 0))
       (item_is c.args.row.now c.loop-j.j c.index-row-j.result (omega arith) c.index-row-j.is));
   long = search rules;
 }

@@ -6,8 +6,7 @@ use Rattle.cs_machine.proofs.pairs.each.Goals as goal
 pub loop-j-preserved : goal.loop-j-preserved
 loop-j-preserved g c = record {
   frames = one_more (both c.args.operator (g.X.Side.wave c.args.x.now) (g.Y.Side.wave c.args.y.now)) c.loop-j.out
-      c.loop-j.j c.combine.result (omega arith) c.loop-j.invariant.frames
-      (c.combine.ensures
+      c.loop-j.j c.combine.result (omega arith) c.loop-j.invariant.frames (c.combine.ensures
       ∙ ap (λ z. combined c.args.operator z c.at-in-loop-j.result) c.at.ensures
       ∙ ap (combined c.args.operator (g.X.Side.wave c.args.x.now c.loop-j.j)) c.at-in-loop-j.ensures);
   long = search rules;

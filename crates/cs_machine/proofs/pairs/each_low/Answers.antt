@@ -13,8 +13,7 @@ loop-j-preserved g c = record {
       let short = c.size-sizes.ensures (omega (arith, h, r)) in
       one_more (both op.Mul (g.X.Side.wave c.args.x.now) (g.Y.Side.wave c.args.y.now)) c.loop-j.out c.loop-j.j
       c.low_product.result (omega arith) (c.loop-j.invariant.frames (omega (arith, h, l)))
-      (c.low_product.ensures short.0 short.1
-      ∙ ap (λ z. combined op.Mul z c.at-right.result) c.at-left.ensures
+      (c.low_product.ensures short.0 short.1 ∙ ap (λ z. combined op.Mul z c.at-right.result) c.at-left.ensures
       ∙ ap (combined op.Mul (g.X.Side.wave c.args.x.now c.loop-j.j)) c.at-right.ensures);
   long = search rules;
 }

@@ -7,8 +7,7 @@ use Rattle.cs_machine.proofs.pairs.each_quotient.Goals as goal
 pub loop-j-preserved : goal.loop-j-preserved
 loop-j-preserved g c = record {
   frames = one_more (both op.Div (g.X.Side.wave c.args.x.now) (g.Y.Side.wave c.args.y.now)) c.loop-j.out c.loop-j.j
-      c.quotient.result (omega arith) c.loop-j.invariant.frames
-      (c.quotient.ensures
+      c.quotient.result (omega arith) c.loop-j.invariant.frames (c.quotient.ensures
       ∙ ap (λ z. combined op.Div z c.at-in-loop-j.result) c.at.ensures
       ∙ ap (combined op.Div (g.X.Side.wave c.args.x.now c.loop-j.j)) c.at-in-loop-j.ensures);
   long = search rules;

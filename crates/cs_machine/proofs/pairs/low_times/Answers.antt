@@ -18,9 +18,7 @@ returns c = λ hx hy.
     let other : c.low-2.result ≡ y = c.low-2.ensures.value (subst IsShort (sym ey) hy) ∙ ey in
     ap (λ z. to_z w64 (of_z w64 (to_z w64 (of_z w64 z) *ℤ to_z w64 (of_z w64 c.low-2.result)))) low
     ∙ ap (λ z. to_z w64 (of_z w64 (to_z w64 (of_z w64 x) *ℤ to_z w64 (of_z w64 z)))) other
-    ∙ ap (λ z. to_z w64 (of_z w64 (z *ℤ to_z w64 (of_z w64 y)))) ex
-    ∙ ap (λ z. to_z w64 (of_z w64 (x *ℤ z))) ey
-    ∙ whole
+    ∙ ap (λ z. to_z w64 (of_z w64 (z *ℤ to_z w64 (of_z w64 y)))) ex ∙ ap (λ z. to_z w64 (of_z w64 (x *ℤ z))) ey ∙ whole
 
 pub overflow_mul-result : goal.overflow_mul-result
 overflow_mul-result c =

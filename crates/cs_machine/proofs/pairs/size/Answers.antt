@@ -14,6 +14,5 @@ returns c = λ h.
     let y : to_z w64 (of_z w64 c.raw-2.result) ≡ c.args.y =
     to_z-of_z w64 c.raw-2.result y_fits ∙ c.raw-2.ensures.value in (
       subst IsShort x (c.lifted.ensures (omega (arith, h, l))),
-      subst IsShort y
-          (c.lifted-2.ensures (omega (arith, h, r))),
+      subst IsShort y (c.lifted-2.ensures (omega (arith, h, r))),
     )

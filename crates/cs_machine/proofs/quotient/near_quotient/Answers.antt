@@ -11,8 +11,7 @@ unchanged-requires c =
     let quotient : FitsSigned w64 c.divide.result = search rules in
     let x = to_z-of_z w64 c.raw.result raw ∙ c.raw.ensures.value in
     let n = to_z-of_z w64 c.dividend.result number ∙ c.dividend.ensures.value ∙ ap (λ z. z *ℤ one) x in
-    subst IsRaw
-    (sym (to_z-of_z w64 c.divide.result quotient ∙ c.divide.ensures
+    subst IsRaw (sym (to_z-of_z w64 c.divide.result quotient ∙ c.divide.ensures
     ∙ ap (λ z. floor_div z c.args.by.divisor.value) n))
     (quotient_in_range c.args.x c.args.by.reach c.args.by.divisor.value c.args.by.divisor.low c.requires
     c.args.by.within)
@@ -24,7 +23,6 @@ returns c =
     let quotient : FitsSigned w64 c.divide.result = search rules in
     let x = to_z-of_z w64 c.raw.result raw ∙ c.raw.ensures.value in
     let n = to_z-of_z w64 c.dividend.result number ∙ c.dividend.ensures.value ∙ ap (λ z. z *ℤ one) x in
-    c.unchanged.ensures
-    ∙ ap clamp (to_z-of_z w64 c.divide.result quotient ∙ c.divide.ensures
+    c.unchanged.ensures ∙ ap clamp (to_z-of_z w64 c.divide.result quotient ∙ c.divide.ensures
     ∙ ap (λ z. floor_div z c.args.by.divisor.value) n)
     ∙ sym (quotient_is c.args.x c.args.by.divisor.value c.args.by.divisor.low)

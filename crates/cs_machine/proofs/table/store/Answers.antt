@@ -51,8 +51,7 @@ pub returns-clause-cells : goal.returns-clause-cells
 returns-clause-cells g c t size =
     in_table t c.args.area (operand_at c.args.ndx.now) (operand_at c.args.sig.now)
     (wave_in rate.Audio c.args.area (cell (g.B.Bank.cells c.args.bank.now))) c.args.steps
-    (cell (g.B.Bank.cells c.args.bank.now)) (cell (g.B.Bank.cells c.loop-j.bank)) size
-    (c.loop-j.invariant.cells
+    (cell (g.B.Bank.cells c.args.bank.now)) (cell (g.B.Bank.cells c.loop-j.bank)) size (c.loop-j.invariant.cells
     ∙ ap (λ n. with_wave (Some c.args.area)
     (stored (λ j. place_of_index (len_of c.args.area.length) (operand_at c.args.ndx.now j)) (operand_at c.args.sig.now)
     n (wave_in rate.Audio c.args.area (cell (g.B.Bank.cells c.args.bank.now)))) (cell (g.B.Bank.cells c.args.bank.now)))

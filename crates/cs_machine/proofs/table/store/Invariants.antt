@@ -11,7 +11,6 @@ abbrev pub invariant-loop-j : goal.invariant-loop-j
 invariant-loop-j g l = record {
   cells : cell (g.B.Bank.cells l.bank) ≡ with_wave (Some l.area)
       (stored (λ j. place_of_index (len_of l.area.length) (operand_at l.ndx j)) (operand_at l.sig) l.j
-      (wave_in rate.Audio l.area (cell (g.B.Bank.cells l.initial.bank))))
-      (cell (g.B.Bank.cells l.initial.bank));
+      (wave_in rate.Audio l.area (cell (g.B.Bank.cells l.initial.bank)))) (cell (g.B.Bank.cells l.initial.bank));
   rest : g.B.Bank.rest l.bank ≡ g.B.Bank.rest l.initial.bank;
 }

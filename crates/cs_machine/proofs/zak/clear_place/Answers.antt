@@ -23,13 +23,11 @@ returns-then-contains-clause-cells g c =
     ∙ one_cleared c.args.at.now.layout.now (zak_place c.args.space c.args.number) c.area_in-area.result before
     c.words.ensures.laid
     (ap (area_of c.args.at.now.layout.now) (sym c.zak_place.ensures) ∙ c.area_in-area.ensures.value)
-    ∙ ap (λ b. cleared_in c.args.at.now.layout.now
-    (λ r. b && same_res r (zak_place c.args.space c.args.number)) before)
+    ∙ ap (λ b. cleared_in c.args.at.now.layout.now (λ r. b && same_res r (zak_place c.args.space c.args.number)) before)
     (sym (sym c.contains.ensures ∙ c.if-contains.true))
 
 pub returns-else-contains-clause-cells : goal.returns-else-contains-clause-cells
 returns-else-contains-clause-cells g c = nothing_cleared c.args.at.now.layout.now
     (λ r. reaches c.args.reach c.args.number && same_res r (zak_place c.args.space c.args.number))
-    (cell (g.B.Bank.cells c.args.bank.now))
-    (λ r. ap (λ b. b && same_res r (zak_place c.args.space c.args.number))
+    (cell (g.B.Bank.cells c.args.bank.now)) (λ r. ap (λ b. b && same_res r (zak_place c.args.space c.args.number))
     (sym c.contains.ensures ∙ c.if-contains.false))

@@ -32,8 +32,7 @@ clear_place-requires-clause-write g c area reached at =
 
 pub loop-n-preserved : goal.loop-n-preserved
 loop-n-preserved g c = record {
-  cells = c.clear_place.ensures.cells
-      ∙ ap (cleared_in c.args.at.now.layout.now
+  cells = c.clear_place.ensures.cells ∙ ap (cleared_in c.args.at.now.layout.now
       (λ r. reaches c.args.reach c.loop-n.n && same_res r (zak_place c.args.space c.loop-n.n))) c.loop-n.invariant.cells
       ∙ cleared_twice c.args.at.now.layout.now (clears c.args.space c.args.reach c.from_of-from.result c.loop-n.n)
       (λ r. reaches c.args.reach c.loop-n.n && same_res r (zak_place c.args.space c.loop-n.n))
@@ -52,8 +51,7 @@ returns-clause-cells g c piece same =
     let places = places_of c.args.at.now.spaces c.args.space in
     c.loop-n.invariant.cells
     ∙ ap (λ n. cleared_in c.args.at.now.layout.now (clears c.args.space c.args.reach c.from_of-from.result n) cells)
-    (at_end ∙ end)
-    ∙ ap (λ m. cleared_in c.args.at.now.layout.now
+    (at_end ∙ end) ∙ ap (λ m. cleared_in c.args.at.now.layout.now
     (clears c.args.space c.args.reach m (end_of places (index c.args.last))) cells)
     (c.from_of-from.ensures.value ∙ ap (λ e. from_of e c.index-since.result) end
     ∙ ap (from_of (end_of places (index c.args.last))) c.index-since.ensures)

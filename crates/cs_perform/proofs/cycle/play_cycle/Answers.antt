@@ -7,7 +7,7 @@ use Rattle.cs_piece.specs.Setups.{SetupData, composition_of}
 use Rattle.cs_wav.specs.Wav.{is_out_of_range}
 use Rattle.cs_perform.proofs.{Blocks.mix_written, Blocks.slice_written, Frames.length-mix_in}
 use Rattle.cs_perform.proofs.{Performing.runs_cycle, Turning.told_more}
-use Rattle.cs_perform.proofs.Cycles.{block_small, counted_more, moment_after, outside_fits}
+use Rattle.cs_perform.proofs.Cycles.{block_small, counted_more, moment_after, outside_few, outside_fits}
 use Rattle.cs_perform.proofs.Wholes.{not_ok, not_sink}
 use Rattle.cs_perform.proofs.cycle.play_cycle.Goals as goal
 
@@ -39,7 +39,7 @@ pour-requires-clause-few g c =
     ap length (c.deref.ensures.value ∙ mix) ∙ length-mix_in (composition_of s) c.args.cycle in
     let small : head.ksmps * head.nchnls ≤ 65536 =
     block_small head.ksmps head.nchnls head.ksmps_in_range.1 head.nchnls_in_range.1 in
-    omega (arith, long, small)
+    subst (λ (n : ℕ). n ≤ 65536) (sym long) small
 
 pub pour-requires-clause-room : goal.pour-requires-clause-room
 pour-requires-clause-room g c =
@@ -85,7 +85,7 @@ overflow_add-recording g c =
     let some : count_by q c.deref.result.now ≤ length c.deref.result.now = count_by-le-length q c.deref.result.now in
     let fits : c.args.recording.now.out_of_range + c.in-Ok-pour.outside < 2 ^ 64 =
     outside_fits piece p c.args.cycle c.args.recording.now.out_of_range c.in-Ok-pour.outside (omega arith) small
-    c.requires.recorded.out_of_range (omega (arith, here, some, long, small)) in
+    c.requires.recorded.out_of_range (outside_few _ _ _ _ here some long small) in
     omega (arith, fits, c.from-more.ensures)
 
 pub returns-clause-at : goal.returns-clause-at

@@ -10,5 +10,4 @@ returns c =
     sorted_is (map table_of c.args.tables.items) _
     (IsPermutation-map table_of c.args.tables.items _ c.sort_unstable_by_key.ensures.permutation)
     (up_mapped _ (IsNonDecreasingBy-from_sort_by_key (λ (t : PieceTable). t.number) _
-    c.sort_unstable_by_key.ensures.sorted (λ a r q k. search rules)))
-    c.requires
+    c.sort_unstable_by_key.ensures.sorted (λ a r q k. search rules))) c.requires

@@ -7,7 +7,6 @@ invariant-loop-number l = record {
   long : length l.numbers ≡ numbers_end;
   low : l.first ≤ l.number;
   high : l.number ≤ max l.end l.first;
-  marked : (n : ℕ) → n < numbers_end
-      → slice_index_or l.numbers n
+  marked : (n : ℕ) → n < numbers_end → slice_index_or l.numbers n
       false ≡ (slice_index_or l.initial.numbers n false || (nat_le l.first n && nat_lt n l.number));
 }

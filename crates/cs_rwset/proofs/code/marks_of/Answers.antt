@@ -11,8 +11,7 @@ returns-clause-uses c =
     let marks = c.in_ok-vec.field-0 in
     let before = c.in_ok-vec.ensures.items_if_clones_equal (λ y h. h) ∙ none_marked areas _ c.len-areas.ensures in
     rewritten areas [] (ops_use stock c.args.ops.now) marks.len marks.items c.mark_all.new.marks before
-    (omega (arith, marks.ok))
-    (c.mark_all.ensures [] (c.deref_mut.ensures.value ∙ before)
+    (omega (arith, marks.ok)) (c.mark_all.ensures [] (c.deref_mut.ensures.value ∙ before)
     ∙ ap (λ l. marks_of areas (named stock l)) c.deref.ensures.value
     ∙ alike_marks areas (named stock c.touches-touches.result.now.used.items) (ops_use stock c.args.ops.now)
     (c.touches-touches.ensures.used stock))
@@ -24,8 +23,7 @@ returns-clause-writes c =
     let marks = c.in_ok-vec-2.field-0 in
     let before = c.in_ok-vec-2.ensures.items_if_clones_equal (λ y h. h) ∙ none_marked areas _ c.len-areas.ensures in
     rewritten areas [] (ops_write stock c.args.ops.now) marks.len marks.items c.mark_all-2.new.marks before
-    (omega (arith, marks.ok))
-    (c.mark_all-2.ensures [] (c.deref_mut-2.ensures.value ∙ before)
+    (omega (arith, marks.ok)) (c.mark_all-2.ensures [] (c.deref_mut-2.ensures.value ∙ before)
     ∙ ap (λ l. marks_of areas (named stock l)) c.deref-2.ensures.value
     ∙ alike_marks areas (named stock c.touches-touches.result.now.written.items) (ops_write stock c.args.ops.now)
     (c.touches-touches.ensures.written stock))

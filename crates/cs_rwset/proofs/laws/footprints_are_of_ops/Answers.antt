@@ -6,13 +6,11 @@ use Rattle.cs_rwset.proofs.laws.footprints_are_of_ops.Goals as goal
 pub returns-clause-used : goal.returns-clause-used
 returns-clause-used c areas ops place = (
   places_of_each areas (λ o. act_uses (stock_of areas) o.act) ops place,
-  each_placed areas
-      (λ o. act_uses (stock_of areas) o.act) ops place,
+  each_placed areas (λ o. act_uses (stock_of areas) o.act) ops place,
 )
 
 pub returns-clause-written : goal.returns-clause-written
 returns-clause-written c areas ops place = (
   places_of_each areas (λ o. act_writes (stock_of areas) o.act) ops place,
-  each_placed areas
-      (λ o. act_writes (stock_of areas) o.act) ops place,
+  each_placed areas (λ o. act_writes (stock_of areas) o.act) ops place,
 )

@@ -35,8 +35,7 @@ pub returns-clause-literal_bounds : goal.returns-clause-literal_bounds
 returns-clause-literal_bounds c areas s first last place = (
   λ h. let t = (zak_places areas s (reach.Span first last) place).0 h in
       let within = span_within first last t.0 t.2 in (t.0, within.0, within.1, t.1, t.3),
-  λ h. (zak_places areas s (reach.Span first last) place).1
-      (h.0, h.3, within_span first last h.0 h.1 h.2, h.4),
+  λ h. (zak_places areas s (reach.Span first last) place).1 (h.0, h.3, within_span first last h.0 h.1 h.2, h.4),
 )
 
 pub returns-clause-computed_place : goal.returns-clause-computed_place

@@ -23,6 +23,5 @@ loop-touch-preserved c =
 
 pub returns : goal.returns
 returns c rs e =
-    c.loop-touch.invariant.1 rs e
-    ∙ ap (λ l. marks_of c.args.layout.now (rs ++ named (stock_of c.args.layout.now) l))
+    c.loop-touch.invariant.1 rs e ∙ ap (λ l. marks_of c.args.layout.now (rs ++ named (stock_of c.args.layout.now) l))
     (take_all c.loop-touch.touch-index c.args.touches.now c.loop-touch-test.false)

@@ -23,6 +23,5 @@ loop-place-preserved c = elim c.if-covers.branch [
 
 pub returns : goal.returns
 returns c P e =
-    c.loop-place.invariant.1 P e
-    ∙ half_all P (covers c.args.spaces c.args.touch) c.loop-place.place c.args.layout.now
+    c.loop-place.invariant.1 P e ∙ half_all P (covers c.args.spaces c.args.touch) c.loop-place.place c.args.layout.now
     (omega (arith, c.loop-place-test.false, c.len-place-end.ensures))

@@ -7,6 +7,5 @@ use Rattle.cs_rwset.proofs.marks.mark_each.Given as goal
 
 abbrev pub invariant-loop-place : goal.invariant-loop-place
 invariant-loop-place l =
-    (length l.marks ≡ length l.layout)
-    × ((P : Res → Bool) → l.initial.marks ≡ marked_by P l.layout
+    (length l.marks ≡ length l.layout) × ((P : Res → Bool) → l.initial.marks ≡ marked_by P l.layout
     → l.marks ≡ half P (covers l.spaces l.touch) l.place l.layout)

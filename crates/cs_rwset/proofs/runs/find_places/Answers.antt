@@ -12,8 +12,7 @@ loop-number-init c = record {
 pub loop-number-preserved : goal.loop-number-preserved
 loop-number-preserved c =
     one_more c.args.layout.now c.args.space c.first_place-begin.result c.loop-number.number c.in_ok-place.place
-    c.zak_place.result c.zak_place.ensures c.loop-number.invariant
-    c.in_ok-place.ensures.found c.if-place-begin.false
+    c.zak_place.result c.zak_place.ensures c.loop-number.invariant c.in_ok-place.ensures.found c.if-place-begin.false
 
 pub returns-in_err-place : goal.returns-in_err-place
 returns-in_err-place c =

@@ -23,6 +23,5 @@ loop-place-preserved c = elim c.if-is_place.branch [
 
 pub returns : goal.returns
 returns c =
-    c.loop-place.invariant.0
-    ∙ ap (λ l. place_count l c.args.space)
+    c.loop-place.invariant.0 ∙ ap (λ l. place_count l c.args.space)
     (take_all c.loop-place.place c.args.layout.now (omega (arith, c.loop-place-test.false, c.len-place-end.ensures)))

@@ -45,11 +45,9 @@ loop-place-preserved c =
       | else-begins-place w ↦ (
         ap (λ l. l ++ zones_from c.if-begins-place.zone (drop (p + 1) areas) (drop (p + 1) begins))
             (ap (λ v. v.items) w.zones-is)
-            ∙ ap (λ z. done ++ zones_from z (drop (p + 1) areas) (drop (p + 1) begins))
-            w.zone-is
+            ∙ ap (λ z. done ++ zones_from z (drop (p + 1) areas) (drop (p + 1) begins)) w.zone-is
             ∙ zone_goes_on areas begins p zone a done _ read low here w.if-begins-place.false c.loop-place.invariant.0,
-        ap (λ (z : Area). z.first + z.length) w.zone-is
-            ∙ (let so_far = c.loop-place.invariant.1 in
+        ap (λ (z : Area). z.first + z.length) w.zone-is ∙ (let so_far = c.loop-place.invariant.1 in
             let e : zone.first + (zone.length + a.length) ≡ word_count (take (p + 1) areas) =
             omega (arith, so_far, first, words) in e),
       )

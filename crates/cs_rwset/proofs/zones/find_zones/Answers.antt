@@ -46,18 +46,15 @@ zones_by-requires-clause-begins c =
 
 pub returns-clause-outside : goal.returns-clause-outside
 returns-clause-outside c =
-    IfOk-weaker c.zones_by.result
-    (λ (z : Zoned). IsFootOf c.args.layout.now z.zones c.in_ok-outside.outside z.outside)
-    (λ (z : Zoned). IsFootOver c.args.layout.now z.zones c.args.outside.now z.outside)
-    (λ z is. is c.args.outside.now
+    IfOk-weaker c.zones_by.result (λ (z : Zoned). IsFootOf c.args.layout.now z.zones c.in_ok-outside.outside z.outside)
+    (λ (z : Zoned). IsFootOver c.args.layout.now z.zones c.args.outside.now z.outside) (λ z is. is c.args.outside.now
     (record { uses = c.in_ok-outside.ensures.uses; writes = c.in_ok-outside.ensures.writes }))
     c.zones_by.ensures.outside
 
 pub returns-clause-feet : goal.returns-clause-feet
 returns-clause-feet c =
     let areas = c.args.layout.now in
-    IfOk-weaker c.zones_by.result
-    (λ (z : Zoned). AllZip (IsFootOf areas z.zones) c.deref-2.result.now z.feet.items)
+    IfOk-weaker c.zones_by.result (λ (z : Zoned). AllZip (IsFootOf areas z.zones) c.deref-2.result.now z.feet.items)
     (λ (z : Zoned). AllZip (λ (i : Numbered) (foot : Footprint). IsFootOver areas z.zones i.perf foot)
     c.args.instruments.now z.feet.items)
     (λ z are. zip_both (λ (i : Numbered) (m : Marks). AreMarksOf areas i.perf m) (IsFootOf areas z.zones)

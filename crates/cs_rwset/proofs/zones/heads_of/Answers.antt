@@ -37,5 +37,4 @@ pub returns-clause-heads : goal.returns-clause-heads
 returns-clause-heads c =
     heads_done c.args.marks.now c.args.begins.now c.loop-place.place c.loop-place.heads.items _
     (past_either (length c.args.marks.now) (length c.args.begins.now) c.loop-place.place
-    (subst (λ n. n ≤ c.loop-place.place) c.min-place-end.ensures c.loop-place-test.false))
-    c.loop-place.invariant.0
+    (subst (λ n. n ≤ c.loop-place.place) c.min-place-end.ensures c.loop-place-test.false)) c.loop-place.invariant.0

@@ -13,8 +13,7 @@ build-requires c =
 pub unreachable-requires : goal.unreachable-requires
 unreachable-requires c =
     let none : limit_passed c.deref.result.now ≡ None =
-    ap limit_passed (c.deref.ensures.value ∙ c.in_ok-zones.ensures)
-    ∙ zones_within c.args.layout.now _
+    ap limit_passed (c.deref.ensures.value ∙ c.in_ok-zones.ensures) ∙ zones_within c.args.layout.now _
     (are_zones c.args.layout.now c.args.begins.now c.words.ensures.laid c.requires) c.words.ensures.within in
     let e : c.in-Err-Fault.field-0 ≡ or.OutOfMemory =
     subst (λ o. IfNone o (c.in-Err-Fault.field-0 ≡ or.OutOfMemory)) none c.in-Err-Fault.ensures.memory in

@@ -14,8 +14,7 @@ loop-instrument-preserved c =
     zip_more (λ (i : Numbered) (m : Marks). AreMarksOf c.args.layout.now i.perf m) c.args.instruments.now
     c.loop-instrument.instrument-index c.instrument-item.result
     c.loop-instrument.each.items c.push.new.self.items c.in_ok-marks_of.field-0 c.loop-instrument.invariant here
-    c.loop-instrument-test.true
-    (record {
+    c.loop-instrument-test.true (record {
       uses = is.uses ∙ ap (λ (x : Code). marks_of areas (ops_use (stock_of areas) x.ops)) c.perf.ensures.same;
       writes = is.writes ∙ ap (λ (x : Code). marks_of areas (ops_write (stock_of areas) x.ops)) c.perf.ensures.same;
     }) c.in_ok-push.ensures.items

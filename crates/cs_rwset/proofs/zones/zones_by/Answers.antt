@@ -38,11 +38,8 @@ returns-clause-feet c =
     let begins = c.args.begins.now in
     zip_so (λ (m : Marks). (p : ℕ) → suc p < length areas → get_or begins (suc p) false ≡ false → Stay m p (suc p))
     (λ (m : Marks) (foot : Footprint). (foot.uses ≡ marked (heads m.uses.items begins))
-    × (foot.writes ≡ marked (heads m.writes.items begins)))
-    (IsFootOf areas c.in_ok-layout_of.field-0)
+    × (foot.writes ≡ marked (heads m.writes.items begins))) (IsFootOf areas c.in_ok-layout_of.field-0)
     (λ m foot stays so perf is. one_over areas c.words.ensures.laid begins c.args.outside.now
     c.args.each.now c.requires.begins m perf c.in_ok-layout_of.field-0 foot is stays c.in_ok-layout_of.ensures
-    so.0 so.1)
-    c.args.each.now c.in_ok-feet_over.field-0.items
-    (λ k d low p l still. c.requires.begins.each_stays p l still k d low)
-    c.in_ok-feet_over.ensures
+    so.0 so.1) c.args.each.now c.in_ok-feet_over.field-0.items
+    (λ k d low p l still. c.requires.begins.each_stays p l still k d low) c.in_ok-feet_over.ensures

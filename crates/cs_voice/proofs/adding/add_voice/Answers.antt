@@ -10,8 +10,7 @@ pub returns-in-Some-clause-sums : goal.returns-in-Some-clause-sums
 returns-in-Some-clause-sums c j low =
     let count : ℕ = c.args.from + length c.args.sums.now - c.args.from in
     let there : j < count = omega (arith, low) in
-    c.add_row.ensures.sums j
-    ∙ ap (λ z. get_or c.args.sums.now j (pos 0) +ℤ z)
+    c.add_row.ensures.sums j ∙ ap (λ z. get_or c.args.sums.now j (pos 0) +ℤ z)
     (part_at c.in-Some.row.now c.args.from count j there
     ∙ ap (λ (w : Wave). w (c.args.from + j)) c.in-Some.ensures.some)
 

@@ -26,8 +26,7 @@ load-requires g c =
 
 pub returns-in-Load-clause-does : goal.returns-in-Load-clause-does
 returns-in-Load-clause-does g c = does_op (acts_there c.args.op c.in-Load.is) c.writes.ensures
-    (bare_from (fit_of c.requires.ready.ready)
-    (acts_there c.args.op c.in-Load.is) refl) c.load.ensures.does
+    (bare_from (fit_of c.requires.ready.ready) (acts_there c.args.op c.in-Load.is) refl) c.load.ensures.does
 
 pub only-requires : goal.only-requires
 only-requires g c = record {

@@ -164,15 +164,13 @@ unreachable-requires c =
 
 pub returns-in-Const : goal.returns-in-Const
 returns-in-Const c = does_at (acts_there c.args.op c.in-Const.is) c.writes.ensures
-    (bare_from c.requires.fit (acts_there c.args.op c.in-Const.is) refl)
-    (writes_at (constant c.in-Const.value)
+    (bare_from c.requires.fit (acts_there c.args.op c.in-Const.is) refl) (writes_at (constant c.in-Const.value)
     (record { players = refl; outs = refl; delays = refl; ended = refl }) c.hold.ensures.values c.hold.ensures.row
     (λ areas piece m setting. refl))
 
 pub returns-in-Field : goal.returns-in-Field
 returns-in-Field c = does_at (acts_there c.args.op c.in-Field.is) c.writes-in-Field.ensures
-    (bare_from c.requires.fit (acts_there c.args.op c.in-Field.is) refl)
-    (writes_at (constant c.field_of.result)
+    (bare_from c.requires.fit (acts_there c.args.op c.in-Field.is) refl) (writes_at (constant c.field_of.result)
     (record { players = refl; outs = refl; delays = refl; ended = refl }) c.hold-in-Field.ensures.values
     c.hold-in-Field.ensures.row
     (λ areas piece m setting. ap (λ z. write piece.head.ksmps c.writes-in-Field.result (constant z) m)
@@ -180,8 +178,7 @@ returns-in-Field c = does_at (acts_there c.args.op c.in-Field.is) c.writes-in-Fi
 
 pub returns-in-Head : goal.returns-in-Head
 returns-in-Head c = does_at (acts_there c.args.op c.in-Head.is) c.writes-in-Head.ensures
-    (bare_from c.requires.fit (acts_there c.args.op c.in-Head.is) refl)
-    (writes_at (constant c.head_value.result)
+    (bare_from c.requires.fit (acts_there c.args.op c.in-Head.is) refl) (writes_at (constant c.head_value.result)
     (record { players = refl; outs = refl; delays = refl; ended = refl }) c.hold-in-Head.ensures.values
     c.hold-in-Head.ensures.row
     (λ areas piece m setting. ap (λ z. write piece.head.ksmps c.writes-in-Head.result (constant z) m)

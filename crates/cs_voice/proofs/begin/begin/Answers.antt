@@ -20,14 +20,12 @@ returns-in_default c piece kinds counts head tables kind state =
     lacks_table c.args.finds.now.at.layout.now piece kinds counts c.args.start.opcode c.args.start.rate
     c.args.start.unit c.args.settled.now c.args.state.now c.args.state.now
     (pace_of (header_of_head c.args.finds.now.at.head.now)) (ap generators.pace_of head) kind c.requires.opcode
-    state c.requires.unit
-    c.requires.delays (to_z w64 (of_z w64 c.table_number-number.result))
+    state c.requires.unit c.requires.delays (to_z w64 (of_z w64 c.table_number-number.result))
     (sym (c.takes_table.ensures ∙ ap (λ r. list_any is_table r.fixed) c.signature_of.ensures) ∙ c.if-takes_table.true)
     (to_z-of_z w64 c.table_number-number.result fits ∙ c.table_number-number.ensures)
     (ap (λ ts. is_there (find_table ts (table_number c.args.settled.now))) tables
     ∙ sym (ap (λ n. is_there (find_table (tables_of c.args.finds.now.tables.now c.args.made.now) n))
-    (to_z-of_z w64 c.table_number-number.result fits ∙ c.table_number-number.ensures))
-    ∙ c.in_default.ensures) refl
+    (to_z-of_z w64 c.table_number-number.result fits ∙ c.table_number-number.ensures)) ∙ c.in_default.ensures) refl
 
 pub returns-then-takes_table : goal.returns-then-takes_table
 returns-then-takes_table c piece kinds counts head tables kind state =
@@ -35,23 +33,19 @@ returns-then-takes_table c piece kinds counts head tables kind state =
     on_table c.args.finds.now.at.layout.now piece kinds counts c.args.start.opcode c.args.start.rate c.args.start.unit
     c.args.settled.now c.args.state.now c.begin_on_table.new.state
     (pace_of (header_of_head c.args.finds.now.at.head.now)) (ap generators.pace_of head) kind c.requires.opcode
-    state c.requires.unit
-    c.requires.delays
+    state c.requires.unit c.requires.delays
     (sym (c.takes_table.ensures ∙ ap (λ r. list_any is_table r.fixed) c.signature_of.ensures) ∙ c.if-takes_table.true)
     (subst (λ ts. CanAllBePlayed c.args.finds.now.at.layout.now ts) (sym tables) c.requires.tables)
-    (c.in_ok-begin_on_table.ensures piece.tables
-    (ap (λ ts. find_table ts (table_number c.args.settled.now)) tables
+    (c.in_ok-begin_on_table.ensures piece.tables (ap (λ ts. find_table ts (table_number c.args.settled.now)) tables
     ∙ sym (ap (find_table (tables_of c.args.finds.now.tables.now c.args.made.now))
-    (to_z-of_z w64 c.table_number-number.result fits ∙ c.table_number-number.ensures))
-    ∙ c.in-Some.ensures))
+    (to_z-of_z w64 c.table_number-number.result fits ∙ c.table_number-number.ensures)) ∙ c.in-Some.ensures))
 
 pub returns-then-samples : goal.returns-then-samples
 returns-then-samples c piece kinds counts head tables kind state =
     too_long c.args.finds.now.at.layout.now piece kinds counts c.args.start.opcode c.args.start.rate
     c.args.start.unit c.args.settled.now c.args.state.now c.args.state.now
     (pace_of (header_of_head c.args.finds.now.at.head.now)) (ap generators.pace_of head) kind c.requires.opcode
-    state c.requires.unit
-    c.requires.delays c.samples_with-samples.result
+    state c.requires.unit c.requires.delays c.samples_with-samples.result
     (sym (c.takes_table.ensures ∙ ap (λ r. list_any is_table r.fixed) c.signature_of.ensures) ∙ c.if-takes_table.false)
     c.samples_with-samples.ensures (omega arith) refl
 
@@ -60,7 +54,6 @@ returns c piece kinds counts head tables kind state =
     alone c.args.finds.now.at.layout.now piece kinds counts c.args.start.opcode c.args.start.rate c.args.start.unit
     c.args.settled.now c.args.state.now c.begin_alone.new.state
     (pace_of (header_of_head c.args.finds.now.at.head.now)) (ap generators.pace_of head) kind c.requires.opcode
-    state c.requires.unit
-    c.requires.delays c.samples_with-samples.result
+    state c.requires.unit c.requires.delays c.samples_with-samples.result
     (sym (c.takes_table.ensures ∙ ap (λ r. list_any is_table r.fixed) c.signature_of.ensures) ∙ c.if-takes_table.false)
     c.samples_with-samples.ensures (omega arith) c.in_ok-begin_alone.ensures

@@ -14,8 +14,7 @@ returns c = λ tables found.
     begun_on c.args.at.now.layout.now tables (table_at c.args.table.now true) (table_number c.args.settled.now)
     (table_number c.args.settled.now) _
     (unit_start c.args.start.opcode c.args.start.rate (pace_of (header_of_head c.args.at.now.head.now))
-    c.args.settled.now)
-    c.in_ok-unit.unit c.args.start.unit
+    c.args.settled.now) c.in_ok-unit.unit c.args.start.unit
     c.args.state.now c.put.new.state c.on_table-player.result refl
     (to_z-of_z w64 c.table_number-number.result fits ∙ c.table_number-number.ensures) (sym found)
     refl c.in_ok-unit.ensures.unit c.on_table-player.ensures.value c.on_table-player.ensures.small c.put.ensures

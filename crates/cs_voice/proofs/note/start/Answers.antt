@@ -34,19 +34,16 @@ returns-in-Some-clause-started g c =
     let before = cell (g.B.Bank.cells c.args.bank.now) in
     subst (λ x. IsStarted s c.args.note.now.until (initialised s before) x) (sym c.refused.ensures)
     (refused_so s c.args.note.now.until (initialised s before) c.in-Some.refusal
-    (cause_left c.in_ok-state.ensures.machine
-    (c.in_ok-refusal.ensures.passes c.args.fields.items c.deref.ensures.value)
+    (cause_left c.in_ok-state.ensures.machine (c.in_ok-refusal.ensures.passes c.args.fields.items c.deref.ensures.value)
     ∙ ap (option_map cause_of) c.in-Some.is))
 
 pub returns-in-Some-clause-cells : goal.returns-in-Some-clause-cells
 returns-in-Some-clause-cells g c =
-    cells_left c.in_ok-state.ensures.machine
-    (c.in_ok-refusal.ensures.passes c.args.fields.items c.deref.ensures.value)
+    cells_left c.in_ok-state.ensures.machine (c.in_ok-refusal.ensures.passes c.args.fields.items c.deref.ensures.value)
 
 pub returns-in-Some-clause-asks : goal.returns-in-Some-clause-asks
 returns-in-Some-clause-asks g c =
-    asks_left c.in_ok-state.ensures.machine
-    (c.in_ok-refusal.ensures.passes c.args.fields.items c.deref.ensures.value)
+    asks_left c.in_ok-state.ensures.machine (c.in_ok-refusal.ensures.passes c.args.fields.items c.deref.ensures.value)
 
 pub of-requires : goal.of-requires
 of-requires g c =
@@ -64,11 +61,9 @@ returns-clause-started g c =
     let s = sheet_for c.args.note.now c.args.fields.items in
     let before = cell (g.B.Bank.cells c.args.bank.now) in
     subst (λ v. IsLive s c.args.note.now.until (initialised s before) v) (sym c.in_ok-voice.ensures)
-    (live c.in_ok-state.ensures.machine
-    (c.in_ok-refusal.ensures.passes c.args.fields.items c.deref.ensures.value)
+    (live c.in_ok-state.ensures.machine (c.in_ok-refusal.ensures.passes c.args.fields.items c.deref.ensures.value)
     c.number-number.result c.args.note.now.age c.args.note.now.until c.args.note.now.stage c.args.note.now.foot.now
-    c.perf-perf.result.now c.args.fields.items
-    (none_if c.in_ok-refusal.refusal c.in_default.not-Some)
+    c.perf-perf.result.now c.args.fields.items (none_if c.in_ok-refusal.refusal c.in_default.not-Some)
     (made_voice c.args.note.now c.number-number.result c.args.fields.items c.perf-perf.result.now
     c.in_ok-state.state.regs.counts c.pass.new.state c.requires.playable c.number-number.ensures
     c.perf-perf.ensures.same c.requires.made c.requires.places c.requires.spaces c.perf-perf.ensures.valid
@@ -78,10 +73,8 @@ returns-clause-started g c =
 
 pub returns-clause-cells : goal.returns-clause-cells
 returns-clause-cells g c =
-    cells_left c.in_ok-state.ensures.machine
-    (c.in_ok-refusal.ensures.passes c.args.fields.items c.deref.ensures.value)
+    cells_left c.in_ok-state.ensures.machine (c.in_ok-refusal.ensures.passes c.args.fields.items c.deref.ensures.value)
 
 pub returns-clause-asks : goal.returns-clause-asks
 returns-clause-asks g c =
-    asks_left c.in_ok-state.ensures.machine
-    (c.in_ok-refusal.ensures.passes c.args.fields.items c.deref.ensures.value)
+    asks_left c.in_ok-state.ensures.machine (c.in_ok-refusal.ensures.passes c.args.fields.items c.deref.ensures.value)

@@ -104,8 +104,7 @@ steps_in-returns-in-Some-clause-does g t c =
 pub steps_in-loop-place-preserved-in-Start : goal.steps_in-loop-place-preserved-in-Start
 steps_in-loop-place-preserved-in-Start g t c =
     let st = is_started c.in-Do.op.act c.in-Start.is in
-    goes_on c.loop-place.invariant c.in_ok-refused-in-Start.ensures.same refl
-    (comes_on c.in_default-refused.not-Some
+    goes_on c.loop-place.invariant c.in_ok-refused-in-Start.ensures.same refl (comes_on c.in_default-refused.not-Some
     (gone_start c.loop-place.invariant (c.step_at.ensures ∙ ap Some c.in-Do.is) (start_stays c.in-Do.op.act st) st
     c.op-in-Start.ensures.op c.in_ok-refused-in-Start.ensures.does))
 
@@ -169,15 +168,13 @@ steps_in-returns-in-Some-refused-clause-rest g t c =
 
 pub steps_in-returns-in-Some-refused-clause-does : goal.steps_in-returns-in-Some-refused-clause-does
 steps_in-returns-in-Some-refused-clause-does g t c =
-    does_refused c.in-Some-refused.is
-    (gone_call c.loop-place.invariant (c.step_at.ensures ∙ ap Some c.in-Invoke.is)
+    does_refused c.in-Some-refused.is (gone_call c.loop-place.invariant (c.step_at.ensures ∙ ap Some c.in-Invoke.is)
     c.in_ok-refused-in-Invoke.ensures.does)
 
 pub steps_in-loop-place-preserved : goal.steps_in-loop-place-preserved
 steps_in-loop-place-preserved g t c =
     let made = c.in_ok-refused-in-Invoke.ensures in
-    goes_on c.loop-place.invariant made.same made.rest
-    (comes_on c.in_default-refused-2.not-Some
+    goes_on c.loop-place.invariant made.same made.rest (comes_on c.in_default-refused-2.not-Some
     (gone_call c.loop-place.invariant (c.step_at.ensures ∙ ap Some c.in-Invoke.is) made.does))
 
 pub steps_in-returns-clause-does : goal.steps_in-returns-clause-does
@@ -196,8 +193,7 @@ routine_is : (list : List Routine) (n : ℕ) (r : Routine) (steps : List Step) �
 routine_is list n r steps there is same =
     let low : n < length list = ltb-true n (length list) (sym there) in (
       low,
-      ap (flat (library_in (take n list))) same
-          ∙ sym (routine_at list n r (found list n r there is)),
+      ap (flat (library_in (take n list))) same ∙ sym (routine_at list n r (found list n r there is)),
     )
 
 pub invoke-steps_in-requires : goal.invoke-steps_in-requires

@@ -21,16 +21,14 @@ returns-clause-cycle g c = IfOk-weaker c.steps_in.result _ _
     (λ refused does. run_cycle (g.B.Bank.access (g.B.Bank.rest c.args.bank.now)) c.args.at.now
     (finding c.args.starter.now) c.args.ops.now c.args.state.now (cell (g.B.Bank.cells c.args.bank.now))
     (asked c.args.starter.now) c.steps_in.new.state (cell (g.B.Bank.cells c.steps_in.new.bank))
-    (asked c.steps_in.new.starter) refused
-    (does_as c.whole.ensures c.parts.ensures.ops does)) c.steps_in.ensures.does
+    (asked c.steps_in.new.starter) refused (does_as c.whole.ensures c.parts.ensures.ops does)) c.steps_in.ensures.does
 
 pub returns-clause-passes : goal.returns-clause-passes
 returns-clause-passes g c = IfOk-weaker c.steps_in.result _ _
     (λ refused does. run_passes (g.B.Bank.access (g.B.Bank.rest c.args.bank.now)) c.args.at.now
     (finding c.args.starter.now) c.args.ops.now c.args.state.now (cell (g.B.Bank.cells c.args.bank.now))
     (asked c.args.starter.now) c.steps_in.new.state (cell (g.B.Bank.cells c.steps_in.new.bank))
-    (asked c.steps_in.new.starter) refused
-    (does_as c.whole.ensures c.parts.ensures.ops does)) c.steps_in.ensures.does
+    (asked c.steps_in.new.starter) refused (does_as c.whole.ensures c.parts.ensures.ops does)) c.steps_in.ensures.does
 
 pub returns-clause-memory : goal.returns-clause-memory
 returns-clause-memory g c err = run_never (g.B.Bank.access (g.B.Bank.rest c.args.bank.now)) c.args.at.now

@@ -3,7 +3,7 @@ use Rattle.std.proofs.lemmas.Bool.{false≢true}
 use Rattle.cs_base.specs.Rates.{is_audio}
 use Rattle.cs_cells.specs.Cells.{cell}
 use Rattle.cs_ir.specs.Registers.{rate_at}
-use Rattle.cs_machine.proofs.Frames.{vector_frames}
+use Rattle.cs_machine.proofs.Frames.{all_written, vector_frames}
 use Rattle.cs_voice.proofs.Sharing.{read_held, some_cell, sound_cells, sound_frames}
 use Rattle.cs_voice_meaning.specs.Placing.{wave_in}
 use Rattle.cs_voice.proofs.shared.read.Goals as goal
@@ -12,16 +12,19 @@ use Rattle.cs_voice.proofs.shared.read.Goals.{else-is_audio-via-else-is_audio}
 
 pub read_row-requires-clause-row : goal.read_row-requires-clause-row
 read_row-requires-clause-row g c =
-    ap length c.deref_mut.ensures.value ∙ c.requires.row
-    ∙ sym (c.requires.size
+    ap length c.deref_mut.ensures.value ∙ c.requires.row ∙ sym (c.requires.size
     ∙ sound_cells c.args.regs.now.ksmps c.args.rate (sym c.is_audio.ensures ∙ c.if-is_audio.true))
+
+pub swap-requires-clause-row : goal.swap-requires-clause-row
+swap-requires-clause-row g c = ap length (all_written c.args.row.now.len c.read_row.new.row c.args.row.now.items
+    (c.read_row.ensures.row ∙ c.deref_mut.ensures.len))
+    ∙ c.read_row.ensures.row ∙ ap length c.deref_mut.ensures.value ∙ c.requires.row
 
 pub returns-then-is_audio-2-clause-values : goal.returns-then-is_audio-2-clause-values
 returns-then-is_audio-2-clause-values g c =
     let cells = cell (g.B.Bank.cells c.args.bank.now) in
     let w = wave_in c.args.rate c.args.area cells in
-    c.swap.ensures.values w
-    (vector_frames w c.args.row.now.len c.read_row.new.row c.args.row.now.items
+    c.swap.ensures.values w (vector_frames w c.args.row.now.len c.read_row.new.row c.args.row.now.items
     (c.read_row.ensures.row ∙ c.deref_mut.ensures.len)
     (sound_frames c.args.rate c.args.area cells c.read_row.new.row (sym c.is_audio.ensures ∙ c.if-is_audio.true)
     c.read_row.ensures.frames))

@@ -19,6 +19,5 @@ returns-clause-does g c = λ into areas piece stock kinds counts at placed state
     (λ next asks cause. ap (λ cells. machine_of c.args.state.now cells next asks cause)
     (saved_here areas c.args.res c.area_in-area.result (res_rate c.args.res) w ksmps
     piece.head.ksmps before after (ap (λ l. area_of l c.args.res) (sym at.layout) ∙ c.area_in-area.ensures.value)
-    state.frames
-    (subst (λ r. after ≡ with_wave (Some c.area_in-area.result) (held ksmps r w) before) c.rate.ensures
+    state.frames (subst (λ r. after ≡ with_wave (Some c.area_in-area.result) (held ksmps r w) before) c.rate.ensures
     c.write.ensures.cells)))

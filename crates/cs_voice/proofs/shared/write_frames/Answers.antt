@@ -9,8 +9,7 @@ use Rattle.cs_voice.proofs.shared.write_frames.Goals as goal
 pub returns-then-is_audio-clause-cells : goal.returns-then-is_audio-clause-cells
 returns-then-is_audio-clause-cells g c =
     c.write_row.ensures.cells ∙ ap (λ w. with_wave (Some c.args.area) w (cell (g.B.Bank.cells c.args.bank.now)))
-    (row_is c.args.regs.now c.args.x c.row.result.now c.row.ensures.long
-    c.row.ensures.value)
+    (row_is c.args.regs.now c.args.x c.row.result.now c.row.ensures.long c.row.ensures.value)
 
 pub returns-else-is_audio : goal.returns-else-is_audio
 returns-else-is_audio g c =

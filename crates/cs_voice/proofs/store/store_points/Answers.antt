@@ -11,14 +11,12 @@ use Rattle.cs_voice.proofs.store.store_points.Goals as goal
 pub store-requires-clause-power : goal.store-requires-clause-power
 store-requires-clause-power g c =
     (stored_there (g.B.Bank.access (g.B.Bank.rest c.args.bank.now)) c.args.at.now.layout.now c.args.reach
-    (index c.first.result) c.in-Some.area
-    (sym c.stored_area.ensures.value ∙ c.in-Some.is) c.requires.write).power
+    (index c.first.result) c.in-Some.area (sym c.stored_area.ensures.value ∙ c.in-Some.is) c.requires.write).power
 
 pub store-requires-clause-write : goal.store-requires-clause-write
 store-requires-clause-write g c =
     (stored_there (g.B.Bank.access (g.B.Bank.rest c.args.bank.now)) c.args.at.now.layout.now c.args.reach
-    (index c.first.result) c.in-Some.area
-    (sym c.stored_area.ensures.value ∙ c.in-Some.is) c.requires.write).write
+    (index c.first.result) c.in-Some.area (sym c.stored_area.ensures.value ∙ c.in-Some.is) c.requires.write).write
 
 pub returns-in-Some-clause-does : goal.returns-in-Some-clause-does
 returns-in-Some-clause-does g c = λ into same areas piece stock kinds counts at placed state.
@@ -30,12 +28,9 @@ returns-in-Some-clause-does g c = λ into same areas piece stock kinds counts at
     ap (λ l. stored_area l c.args.reach (index (values s.regs by.table 0))) (sym at.layout)
     ∙ ap (λ z. stored_area c.args.at.now.layout.now c.args.reach (index z)) (sym c.first.ensures)
     ∙ sym c.stored_area.ensures.value ∙ c.in-Some.is in
-    store_done areas piece stock kinds counts c.args.reach into by.signal by.index by.table s before after placed
-    state
+    store_done areas piece stock kinds counts c.args.reach into by.signal by.index by.table s before after placed state
     (subst (λ o. Stores o (steps_of s.regs.ksmps (rate_at into)) (values s.regs by.signal) (values s.regs by.index)
-    before
-    after) (sym there)
-    (stores_same c.in-Some.area c.steps-steps.result (steps_of s.regs.ksmps (rate_at into))
+    before after) (sym there) (stores_same c.in-Some.area c.steps-steps.result (steps_of s.regs.ksmps (rate_at into))
     (operand_at c.operand-signal.result) (values s.regs by.signal)
     (operand_at c.operand-index.result) (values s.regs by.index) before after
     (c.steps-steps.ensures ∙ ap (λ n. steps_of n by.rate)
@@ -53,8 +48,6 @@ returns-in_default-clause-does g c = λ into same areas piece stock kinds counts
     ap (λ l. stored_area l c.args.reach (index (values s.regs by.table 0))) (sym at.layout)
     ∙ ap (λ z. stored_area c.args.at.now.layout.now c.args.reach (index z)) (sym c.first.ensures)
     ∙ sym c.stored_area.ensures.value ∙ c.in_default.is in
-    store_done areas piece stock kinds counts c.args.reach into by.signal by.index by.table s before before
-    placed state
+    store_done areas piece stock kinds counts c.args.reach into by.signal by.index by.table s before before placed state
     (subst (λ o. Stores o (steps_of s.regs.ksmps (rate_at into)) (values s.regs by.signal) (values s.regs by.index)
-    before
-    before) (sym none) refl)
+    before before) (sym none) refl)

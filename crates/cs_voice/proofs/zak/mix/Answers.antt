@@ -60,8 +60,7 @@ returns-in-Some-clause-does g c = λ into opcode shaped areas piece stock kinds 
     changes (record { regs = refl; rest = record { players = refl; outs = refl; delays = refl; ended = refl } }) state
     (ap length written ∙ c.mix_row.ensures.room ∙ ap length c.deref_mut.ensures.value ∙ c.requires.able.room.row)
     (λ next asks cause. let m = machine_of c.args.state.now before next asks cause in
-    mixing areas piece opcode c.args.reach into m w v shaped
-    ∙ ap (λ x. in_world x m)
+    mixing areas piece opcode c.args.reach into m w v shaped ∙ ap (λ x. in_world x m)
     (at_reached c.args.at.now piece space.Audio c.args.reach (index (v 0)) res m.world
     (λ q. saved (voice_model areas piece) q (added (read_cells areas q before) w) m.world) at.spaces here)
     ∙ ap (λ cells. machine_of c.args.state.now cells next asks cause)
@@ -69,9 +68,7 @@ returns-in-Some-clause-does g c = λ into opcode shaped areas piece stock kinds 
     (ap (λ l. area_of l res) (sym at.layout) ∙ c.area_in-area.ensures.value) sound
     (c.requires.able.sized.cells res c.area_in-area.result c.area_in-area.ensures.value
     (reached_value c.args.at.now space.Audio c.args.reach (index (v 0)) res here) ∙ ap (cell_count ksmps) sound)
-    c.row.ensures.long state.frames
-    c.row.ensures.value
-    c.mix_row.ensures.cells))
+    c.row.ensures.long state.frames c.row.ensures.value c.mix_row.ensures.cells))
 
 pub returns-in_default-clause-does : goal.returns-in_default-clause-does
 returns-in_default-clause-does g c = λ into opcode shaped areas piece stock kinds counts at placed state.
@@ -81,8 +78,7 @@ returns-in_default-clause-does g c = λ into opcode shaped areas piece stock kin
     changes (record { regs = refl; rest = record { players = refl; outs = refl; delays = refl; ended = refl } }) state
     (state.row ∙ sym state.frames)
     (λ next asks cause. let m = machine_of c.args.state.now before next asks cause in
-    mixing areas piece opcode c.args.reach into m w v shaped
-    ∙ ap (λ x. in_world x m)
+    mixing areas piece opcode c.args.reach into m w v shaped ∙ ap (λ x. in_world x m)
     (not_reached c.args.at.now piece space.Audio c.args.reach (index (v 0)) m.world
     (λ q. saved (voice_model areas piece) q (added (read_cells areas q before) w) m.world) at.spaces
     (ap (λ z. reached c.args.at.now space.Audio c.args.reach (index z)) (sym c.first.ensures) ∙ sym c.place.ensures

@@ -15,26 +15,22 @@ use Rattle.cs_voice.proofs.zak.zak.Goals as goal
 
 pub only-requires-clause-one : goal.only-requires-clause-one
 only-requires-clause-one g c = zak_long c.in-Zak.opcode c.in-Zak.reach (rate_at (there c.args.op).into)
-    (there c.args.op).from 1
-    (takes_of c.requires.ready.ready (acts_there c.args.op c.in-Zak.is))
+    (there c.args.op).from 1 (takes_of c.requires.ready.ready (acts_there c.args.op c.in-Zak.is))
     (ap zak_count (sym c.shape_of.ensures ∙ c.in-ZakGet.is))
 
 pub pair-requires-clause-two : goal.pair-requires-clause-two
 pair-requires-clause-two g c = zak_long c.in-Zak.opcode c.in-Zak.reach (rate_at (there c.args.op).into)
-    (there c.args.op).from 2
-    (takes_of c.requires.ready.ready (acts_there c.args.op c.in-Zak.is))
+    (there c.args.op).from 2 (takes_of c.requires.ready.ready (acts_there c.args.op c.in-Zak.is))
     (ap zak_count (sym c.shape_of.ensures ∙ c.in-ZakPut.is))
 
 pub pair-requires-in-ZakMix-clause-two : goal.pair-requires-in-ZakMix-clause-two
 pair-requires-in-ZakMix-clause-two g c = zak_long c.in-Zak.opcode c.in-Zak.reach (rate_at (there c.args.op).into)
-    (there c.args.op).from 2
-    (takes_of c.requires.ready.ready (acts_there c.args.op c.in-Zak.is))
+    (there c.args.op).from 2 (takes_of c.requires.ready.ready (acts_there c.args.op c.in-Zak.is))
     (ap zak_count (sym c.shape_of.ensures ∙ c.in-ZakMix.is))
 
 pub pair-requires-in-ZakClear-clause-two : goal.pair-requires-in-ZakClear-clause-two
 pair-requires-in-ZakClear-clause-two g c = zak_long c.in-Zak.opcode c.in-Zak.reach (rate_at (there c.args.op).into)
-    (there c.args.op).from 2
-    (takes_of c.requires.ready.ready (acts_there c.args.op c.in-Zak.is))
+    (there c.args.op).from 2 (takes_of c.requires.ready.ready (acts_there c.args.op c.in-Zak.is))
     (ap zak_count (sym c.shape_of.ensures ∙ c.in-ZakClear.is))
 
 pub only-requires-clause-small : goal.only-requires-clause-small
@@ -86,10 +82,8 @@ pub load-requires-clause-read : goal.load-requires-clause-read
 load-requires-clause-read g c =
     let access = g.B.Bank.access (g.B.Bank.rest c.args.bank.now) in
     reached_may access.can_get access.count c.args.at.now c.in-ZakGet.space c.in-Zak.reach (index c.first.result)
-    c.in-Some.res
-    (may_read c.requires.ready.ready (acts_there c.args.op c.in-Zak.is) c.in-ZakGet.space
-    (sym c.shape_of.ensures ∙ c.in-ZakGet.is) (λ stock. refl))
-    (sym c.place.ensures ∙ c.in-Some.is)
+    c.in-Some.res (may_read c.requires.ready.ready (acts_there c.args.op c.in-Zak.is) c.in-ZakGet.space
+    (sym c.shape_of.ensures ∙ c.in-ZakGet.is) (λ stock. refl)) (sym c.place.ensures ∙ c.in-Some.is)
 
 pub hold-requires-clause-there : goal.hold-requires-clause-there
 hold-requires-clause-there g c = ap (has_register c.args.state.now.regs.counts) c.writes-into.ensures
@@ -141,8 +135,7 @@ save-requires-clause-write g c =
     reached_may access.can_set access.count c.args.at.now c.in-ZakPut.space c.in-Zak.reach (index
     c.first-in-ZakPut.result) c.in-Some-place.res
     (may_write c.requires.ready.ready (acts_there c.args.op c.in-Zak.is) c.in-ZakPut.space
-    (sym c.shape_of.ensures ∙ c.in-ZakPut.is) (λ stock. refl))
-    (sym c.place-in-ZakPut.ensures ∙ c.in-Some-place.is)
+    (sym c.shape_of.ensures ∙ c.in-ZakPut.is) (λ stock. refl)) (sym c.place-in-ZakPut.ensures ∙ c.in-Some-place.is)
 
 pub returns-in-Some-place-clause-does : goal.returns-in-Some-place-clause-does
 returns-in-Some-place-clause-does g c =
@@ -151,8 +144,7 @@ returns-in-Some-place-clause-does g c =
     does_over {o = there c.args.op} (acts_there c.args.op c.in-Zak.is) refl c.pair.ensures
     (saved_at c.args.at.now c.in-Zak.opcode reach s c.pair.result.1 (sym c.shape_of.ensures ∙ c.in-ZakPut.is)
     (ap (λ z. reached c.args.at.now s reach (index z)) (sym c.first-in-ZakPut.ensures) ∙ sym c.place-in-ZakPut.ensures
-    ∙ c.in-Some-place.is)
-    (c.save.ensures.does (there c.args.op).into))
+    ∙ c.in-Some-place.is) (c.save.ensures.does (there c.args.op).into))
 
 pub returns-in_default-place-clause-does : goal.returns-in_default-place-clause-does
 returns-in_default-place-clause-does g c =
@@ -167,8 +159,7 @@ returns-in_default-place-clause-does g c =
 
 pub mix-requires-clause-x : goal.mix-requires-clause-x
 mix-requires-clause-x g c =
-    first_there c.args.state.now.regs.counts (parts_of c.requires.ready.ready).from
-    (c.pair-in-ZakMix.ensures)
+    first_there c.args.state.now.regs.counts (parts_of c.requires.ready.ready).from (c.pair-in-ZakMix.ensures)
 
 pub mix-requires-clause-sound : goal.mix-requires-clause-sound
 mix-requires-clause-sound g c = mix_sounds c.in-Zak.opcode c.in-Zak.reach
@@ -209,8 +200,7 @@ unreachable-requires g c =
     is_zak_act c.args.op.window.now c.args.op.op.now.act c.requires.act.2 c.in_default.not-Zak
 
 pub unreachable-requires-in_default-shape_of : goal.unreachable-requires-in_default-shape_of
-unreachable-requires-in_default-shape_of g c = not_zak c.shape_of.result
-    (ap is_zak c.shape_of.ensures
+unreachable-requires-in_default-shape_of g c = not_zak c.shape_of.result (ap is_zak c.shape_of.ensures
     ∙ is_a_zak c.in-Zak.opcode c.in-Zak.reach (rate_at (there c.args.op).into) (there c.args.op).from
     (takes_of c.requires.ready.ready (acts_there c.args.op c.in-Zak.is)))
     c.in_default-shape_of.not-ZakGet c.in_default-shape_of.not-ZakPut c.in_default-shape_of.not-ZakMix

@@ -9,8 +9,7 @@ pub returns : goal.returns
 returns c =
     let values = c.args.values.now in
     let more : c.in_ok-collect.field-0.items ≡ drop 3 (take greatest_field values) =
-    IfOk-at_ok _ c.in_ok-collect.was
-    (items_from_collect c.collect.result c.collect.ensures.ran
+    IfOk-at_ok _ c.in_ok-collect.was (items_from_collect c.collect.result c.collect.ensures.ran
     (YieldsList-from_copied (YieldsList-from_skip 3
     (YieldsList-from_take 100 (YieldsList-from_slice values (cc)) (cc)) (cc)))) in
     search (rules, more)

@@ -17,8 +17,7 @@ returns-in_ok-push_step c =
     target = moved_ops (window_of c.args.call) (length (drafted c.args.self.now))
         (ops_at (library_of c.args.self.now) c.args.call.routine)
 
-    found : (place : ℕ)
-        → moved_ops (window_of c.in-Some.call) place
+    found : (place : ℕ) → moved_ops (window_of c.in-Some.call) place
         (ops_at (library_in c.self.inside.routines.now) c.in-Some.call.routine)
         ≡ moved_ops (window_of c.args.call) place (ops_at (library_in c.self.inside.routines.now) c.args.call.routine)
     found = subst (λ o. IfSome o (λ (x : Call). (place : ℕ)

@@ -9,7 +9,6 @@ returns-then-channel-len-clause-none c =
     let low : c.args.channel < length c.self.inside.channels.items = search rules in
     let is : c.index.result.now ≡ slice_index_or c.self.inside.channels.items c.args.channel [] =
     get_or_read c.self.inside.channels.items c.args.channel c.index.result.now low c.index.ensures [] in
-    if_none c.row.result
-    (λ zeros. sym (ap (λ f. row_wave (slice_index_or f.rows c.args.channel [])) c.self.view_is)
+    if_none c.row.result (λ zeros. sym (ap (λ f. row_wave (slice_index_or f.rows c.args.channel [])) c.self.view_is)
     ∙ zeros_at c.self.inside.channels.items c.args.channel (length c.index.result.now) (sym is ∙ zeros))
     c.row.ensures.none

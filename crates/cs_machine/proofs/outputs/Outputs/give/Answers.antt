@@ -18,5 +18,4 @@ returns c =
     (gave old c.args.channel c.args.row.now c.give.new.self c.self.invariant low
     (c.requires.row ∙ sym (ap (λ f. f.ksmps) c.self.view_is))
     (subst (λ row. HasFrames (both op.Add (row_wave row) (row_wave c.args.row.now)) c.give.new.self) is
-    c.give.ensures.frames)
-    (c.give.ensures.long ∙ ap length is))
+    c.give.ensures.frames) (c.give.ensures.long ∙ ap length is))

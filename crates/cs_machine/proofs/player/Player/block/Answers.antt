@@ -1,19 +1,15 @@
-use Rattle.std.proofs.Common.{◌∙◌, ◌||◌, ◌++◌, Some, ap, length, subst, sym}
+use Rattle.std.proofs.Common.{◌∙◌, ◌++◌, Some, ap, length, refl, sym}
 use Rattle.std.proofs.lemmas.List.{append-nil}
-use Rattle.std.specs.Option.{is_some}
 use Rattle.cs_cells.specs.Cells.{cell}
 use Rattle.cs_gen.specs.Tables.{curve_of}
-use Rattle.cs_machine.specs.{Access.live_points, Players.CanRead, Players.curve_at}
-use Rattle.cs_machine.specs.Readings.{area_in, points_in}
+use Rattle.cs_machine.specs.{Access.live_points, Readings.area_in, Readings.points_in}
 use Rattle.cs_signal.specs.Steps.{run}
 use Rattle.cs_ugen.specs.Units.{inputs_at, moving_count, opcode_of, unit_step}
-use Rattle.cs_machine.proofs.Unchanging.{same_unit}
+use Rattle.cs_machine.proofs.{Placed.area_at, Placed.curve_from, Placed.reads_at, Placed.stays_at, Unchanging.same_unit}
 use Rattle.cs_machine.proofs.player.Player.block.Goals as goal
 
 pub block-requires-clause-reads_none : goal.block-requires-clause-reads_none
-block-requires-clause-reads_none g c =
-    (subst (CanRead (g.B.Bank.access (g.B.Bank.rest c.args.bank.now))) (sym c.self.view_is) c.requires.read).reads
-    ∙ ap (λ r. is_some (points_in r) || is_some (area_in r)) c.in-Nothing.is
+block-requires-clause-reads_none g c = reads_at c.requires.read c.self.view_is c.in-Nothing.is
 
 pub block-requires-clause-count : goal.block-requires-clause-count
 block-requires-clause-count g c = c.requires.count ∙ ap (λ p. moving_count (opcode_of p.state)) (sym c.self.view_is)
@@ -22,9 +18,7 @@ pub block-requires-clause-last : goal.block-requires-clause-last
 block-requires-clause-last g c = c.requires.last
 
 pub block_on-requires-clause-reads : goal.block_on-requires-clause-reads
-block_on-requires-clause-reads g c =
-    (subst (CanRead (g.B.Bank.access (g.B.Bank.rest c.args.bank.now))) (sym c.self.view_is) c.requires.read).reads
-    ∙ ap (λ r. is_some (points_in r) || is_some (area_in r)) c.in-Frozen.is
+block_on-requires-clause-reads g c = reads_at c.requires.read c.self.view_is c.in-Frozen.is
 
 pub block_on-requires-clause-count : goal.block_on-requires-clause-count
 block_on-requires-clause-count g c = c.requires.count ∙ ap (λ p. moving_count (opcode_of p.state)) (sym c.self.view_is)
@@ -33,24 +27,16 @@ pub block_on-requires-clause-last : goal.block_on-requires-clause-last
 block_on-requires-clause-last g c = c.requires.last
 
 pub new-table-requires-clause-power : goal.new-table-requires-clause-power
-new-table-requires-clause-power g c =
-    (subst (CanRead (g.B.Bank.access (g.B.Bank.rest c.args.bank.now))) (sym c.self.view_is) c.requires.read).power
-    _ (ap area_in c.in-Live.is)
+new-table-requires-clause-power g c = c.requires.read.power _ (area_at c.self.view_is c.in-Live.is)
 
 pub new-table-requires-clause-read : goal.new-table-requires-clause-read
-new-table-requires-clause-read g c =
-    (subst (CanRead (g.B.Bank.access (g.B.Bank.rest c.args.bank.now))) (sym c.self.view_is) c.requires.read).live
-    _ (ap area_in c.in-Live.is)
+new-table-requires-clause-read g c = c.requires.read.live _ (area_at c.self.view_is c.in-Live.is)
 
 pub new-table-requires-clause-small : goal.new-table-requires-clause-small
-new-table-requires-clause-small g c =
-    (subst (CanRead (g.B.Bank.access (g.B.Bank.rest c.args.bank.now))) (sym c.self.view_is) c.requires.read).small
-    _ (ap area_in c.in-Live.is)
+new-table-requires-clause-small g c = c.requires.read.small _ (area_at c.self.view_is c.in-Live.is)
 
 pub block_on-requires-in-Live-clause-reads : goal.block_on-requires-in-Live-clause-reads
-block_on-requires-in-Live-clause-reads g c =
-    (subst (CanRead (g.B.Bank.access (g.B.Bank.rest c.args.bank.now))) (sym c.self.view_is) c.requires.read).reads
-    ∙ ap (λ r. is_some (points_in r) || is_some (area_in r)) c.in-Live.is
+block_on-requires-in-Live-clause-reads g c = reads_at c.requires.read c.self.view_is c.in-Live.is
 
 pub block_on-requires-in-Live-clause-count : goal.block_on-requires-in-Live-clause-count
 block_on-requires-in-Live-clause-count g c =
@@ -61,62 +47,41 @@ block_on-requires-in-Live-clause-last g c = c.requires.last
 
 pub returns-in-Nothing-clause-value : goal.returns-in-Nothing-clause-value
 returns-in-Nothing-clause-value g c =
-    let cells = cell (g.B.Bank.cells c.args.bank.now) in
+    let inputs = inputs_at c.args.inputs.now in
     let n = length c.args.row.now in
-    c.block.ensures
-    ∙ (λ i. run unit_step (λ j. sym (append-nil (inputs_at c.args.inputs.now j)) i) c.self.inside.unit 0 n)
-    ∙ ap (λ r. run unit_step (λ j. inputs_at c.args.inputs.now j ++ curve_at (points_in r) (area_in r) cells)
-    c.self.inside.unit 0 n) (sym c.in-Nothing.is)
-    ∙ ap (λ p. run unit_step (λ j. inputs_at c.args.inputs.now j ++ curve_at p.points p.area cells) p.state 0 n)
-    c.self.view_is
+    let curve = curve_from c.self.view_is c.in-Nothing.is (cell (g.B.Bank.cells c.args.bank.now)) in
+    c.block.ensures ∙ (λ i. run unit_step (λ j. sym (append-nil (inputs j)) i) c.self.inside.unit 0 n)
+    ∙ (λ i. run unit_step (λ j. inputs j ++ curve i) (c.self.view_is i).state 0 n)
 
 pub returns-in-Frozen-clause-value : goal.returns-in-Frozen-clause-value
 returns-in-Frozen-clause-value g c =
-    let cells = cell (g.B.Bank.cells c.args.bank.now) in
-    let n = length c.args.row.now in
-    c.block_on.ensures.value
-    ∙ ap (λ r. run unit_step (λ j. inputs_at c.args.inputs.now j ++ curve_at (points_in r) (area_in r) cells)
-    c.self.inside.unit 0 n) (sym c.in-Frozen.is)
-    ∙ ap (λ p. run unit_step (λ j. inputs_at c.args.inputs.now j ++ curve_at p.points p.area cells) p.state 0 n)
-    c.self.view_is
+    let curve = curve_from c.self.view_is c.in-Frozen.is (cell (g.B.Bank.cells c.args.bank.now)) in
+    c.block_on.ensures.value ∙ (λ i. run unit_step (λ j. inputs_at c.args.inputs.now j ++ curve i)
+    (c.self.view_is i).state 0 (length c.args.row.now))
 
 pub returns-in-Live-clause-value : goal.returns-in-Live-clause-value
 returns-in-Live-clause-value g c =
-    let cells = cell (g.B.Bank.cells c.args.bank.now) in
+    let inputs = inputs_at c.args.inputs.now in
     let n = length c.args.row.now in
     let table = c.new-table.ensures in
-    c.block_on-in-Live.ensures.value
-    ∙ (λ i. run unit_step (λ j. inputs_at c.args.inputs.now j
+    let curve = curve_from c.self.view_is c.in-Live.is (cell (g.B.Bank.cells c.args.bank.now)) in
+    c.block_on-in-Live.ensures.value ∙ (λ i. run unit_step (λ j. inputs j
     ++ curve_of (live_points (table.area i) (cell (g.B.Bank.cells (table.bank i))))) c.self.inside.unit 0 n)
-    ∙ ap (λ r. run unit_step (λ j. inputs_at c.args.inputs.now j ++ curve_at (points_in r) (area_in r) cells)
-    c.self.inside.unit 0 n) (sym c.in-Live.is)
-    ∙ ap (λ p. run unit_step (λ j. inputs_at c.args.inputs.now j ++ curve_at p.points p.area cells) p.state 0 n)
-    c.self.view_is
+    ∙ (λ i. run unit_step (λ j. inputs j ++ curve i) (c.self.view_is i).state 0 n)
 
 pub returns-in-Nothing-clause-player : goal.returns-in-Nothing-clause-player
-returns-in-Nothing-clause-player g c = record {
-  table = ap (λ p. p.table) c.self.view_is;
-  points = ap (λ p. p.points) c.self.view_is;
-  area = ap (λ p. p.area) c.self.view_is;
-  unit = same_unit _ c.self.inside.unit c.block.new.self 0 (length c.args.row.now) c.block.new.out c.block.ensures
-      ∙ ap (λ p. opcode_of p.state) c.self.view_is;
-}
+returns-in-Nothing-clause-player g c = stays_at c.self.view_is refl refl
+    (same_unit _ c.self.inside.unit c.block.new.self 0 (length c.args.row.now) c.block.new.out c.block.ensures)
 
 pub returns-in-Frozen-clause-player : goal.returns-in-Frozen-clause-player
-returns-in-Frozen-clause-player g c = record {
-  table = ap (λ p. p.table) c.self.view_is;
-  points = ap (λ f. Some f.points.now) c.block_on.ensures.kept ∙ sym (ap points_in c.in-Frozen.is)
-      ∙ ap (λ p. p.points) c.self.view_is;
-  area = sym (ap area_in c.in-Frozen.is) ∙ ap (λ p. p.area) c.self.view_is;
-  unit = same_unit _ c.self.inside.unit c.block_on.new.self 0 (length c.args.row.now) c.block_on.new.out
-      c.block_on.ensures.value ∙ ap (λ p. opcode_of p.state) c.self.view_is;
-}
+returns-in-Frozen-clause-player g c = stays_at c.self.view_is
+    (ap (λ f. Some f.points.now) c.block_on.ensures.kept ∙ sym (ap points_in c.in-Frozen.is))
+    (sym (ap area_in c.in-Frozen.is))
+    (same_unit _ c.self.inside.unit c.block_on.new.self 0 (length c.args.row.now) c.block_on.new.out
+    c.block_on.ensures.value)
 
 pub returns-in-Live-clause-player : goal.returns-in-Live-clause-player
-returns-in-Live-clause-player g c = record {
-  table = ap (λ p. p.table) c.self.view_is;
-  points = sym (ap points_in c.in-Live.is) ∙ ap (λ p. p.points) c.self.view_is;
-  area = sym (ap area_in c.in-Live.is) ∙ ap (λ p. p.area) c.self.view_is;
-  unit = same_unit _ c.self.inside.unit c.block_on-in-Live.new.self 0 (length c.args.row.now) c.block_on-in-Live.new.out
-      c.block_on-in-Live.ensures.value ∙ ap (λ p. opcode_of p.state) c.self.view_is;
-}
+returns-in-Live-clause-player g c = stays_at c.self.view_is (sym (ap points_in c.in-Live.is))
+    (sym (ap area_in c.in-Live.is))
+    (same_unit _ c.self.inside.unit c.block_on-in-Live.new.self 0 (length c.args.row.now) c.block_on-in-Live.new.out
+    c.block_on-in-Live.ensures.value)

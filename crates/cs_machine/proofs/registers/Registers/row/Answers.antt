@@ -11,7 +11,6 @@ returns-clause-long c =
     (λ rows. rows.items) (λ rows. length-map rows.items (λ row. row.items)) _ in
     sound_long (λ rows. map (λ row. row.items) rows.items) _ c.self.inside.sounds c.self.inside.counts
     c.self.inside.ksmps c.args.self.now c.args.register c.sound_number.result c.self.view_is c.self.invariant
-    c.requires.there c.requires.sound c.sound_number.ensures.number _
-    c.deref.result.now
+    c.requires.there c.requires.sound c.sound_number.ensures.number _ c.deref.result.now
     (c.deref.ensures.value ∙ ap (λ row. row.items) c.index.ensures
     ∙ sym (get_or-map (λ row. row.items) _ c.args.register.offset c.index.result.now [] low))

@@ -16,8 +16,7 @@ invariant_of-self c =
     sound_set (λ rows. map (λ row. row.items) rows.items) _ c.self.inside.sounds c.self.inside.counts
     c.self.inside.ksmps
     c.args.self.now c.args.register c.sound_number.result c.self.view_is c.self.invariant c.requires.there
-    c.requires.sound c.sound_number.ensures.number _ _
-    c.args.row.now.items c.requires.row c.swap_in.ensures.rows
+    c.requires.sound c.sound_number.ensures.number _ _ c.args.row.now.items c.requires.row c.swap_in.ensures.rows
 
 pub returns-clause-values : goal.returns-clause-values
 returns-clause-values c = λ w frames. wrote_frames c.args.self.now _ c.args.register w c.args.row.now.items
@@ -25,13 +24,11 @@ returns-clause-values c = λ w frames. wrote_frames c.args.self.now _ c.args.reg
     (sound_written (λ rows. map (λ row. row.items) rows.items) _ c.self.inside.sounds c.self.inside.counts
     c.self.inside.ksmps
     c.args.self.now c.args.register c.sound_number.result c.self.view_is c.self.invariant c.requires.there
-    c.requires.sound c.sound_number.ensures.number _ _
-    c.args.row.now.items c.requires.row c.swap_in.ensures.rows)
+    c.requires.sound c.sound_number.ensures.number _ _ c.args.row.now.items c.requires.row c.swap_in.ensures.rows)
 
 pub returns-clause-row : goal.returns-clause-row
 returns-clause-row c =
     sound_long (λ rows. map (λ row. row.items) rows.items) _ c.self.inside.sounds c.self.inside.counts
     c.self.inside.ksmps
     c.args.self.now c.args.register c.sound_number.result c.self.view_is c.self.invariant c.requires.there
-    c.requires.sound c.sound_number.ensures.number _
-    c.swap_in.new.row.items c.swap_in.ensures.row
+    c.requires.sound c.sound_number.ensures.number _ c.swap_in.new.row.items c.swap_in.ensures.row

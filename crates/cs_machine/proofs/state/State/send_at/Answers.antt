@@ -12,8 +12,7 @@ returns-in-Some c = λ into areas piece kinds counts cells state.
     gives_to areas piece kinds counts act.OutAt into (c.args.number ∷ c.args.x ∷ []) c.in-Some.below
     (values c.args.self.now.regs c.args.x) c.args.self.now _ cells
     (record { regs = refl; players = refl; delays = refl; ended = refl; row = refl }) state
-    (subst (λ w. IsGiven c.args.self.now.outs c.in-Some.below w c.give.new.self)
-    c.row.ensures.value c.give.ensures)
+    (subst (λ w. IsGiven c.args.self.now.outs c.in-Some.below w c.give.new.self) c.row.ensures.value c.give.ensures)
     (λ m. ap (λ x. in_world x m)
     (numbered_channel piece.head.nchnls (index (values c.args.self.now.regs c.args.number 0)) c.in-Some.below
     (values c.args.self.now.regs c.args.x) m.world
@@ -31,10 +30,8 @@ returns-in_default c = λ into areas piece kinds counts cells state.
       machine = λ next asks cause. sym (ap (λ x. in_world x (m next asks cause))
           (numbered_nowhere piece.head.nchnls number (values c.args.self.now.regs c.args.x) (m next asks cause).world
           (λ below there. c.in_default.not-Some below (c.channel_below.ensures
-          ∙ ap (λ z. channel_below c.len.result (index z)) c.first.ensures
-          ∙ ap (λ n. channel_below n number)
+          ∙ ap (λ z. channel_below c.len.result (index z)) c.first.ensures ∙ ap (λ n. channel_below n number)
           (c.len.ensures.value ∙ state.channels ∙ all_channels counts c.args.x piece.head.nchnls
-          (ap (λ n. has_register n c.args.x) (sym state.registers) ∙ c.requires.x) c.requires.sound)
-          ∙ there))));
+          (ap (λ n. has_register n c.args.x) (sym state.registers) ∙ c.requires.x) c.requires.sound) ∙ there))));
       state = state;
     }

@@ -5,14 +5,13 @@ use Rattle.cs_machine.proofs.state.State.turn_off.Goals as goal
 pub returns : goal.returns
 returns c = λ into areas piece kinds counts cells state. record {
   machine = λ next asks cause. refl;
-  state = still_in areas piece kinds counts c.args.self.now _
-      (record {
-        counts = refl;
-        frames = refl;
-        channels = refl;
-        channel_frames = refl;
-        players = refl;
-        row =
-            state.row ∙ sym state.frames;
-      }) state;
+  state = still_in areas piece kinds counts c.args.self.now _ (record {
+    counts = refl;
+    frames = refl;
+    channels = refl;
+    channel_frames = refl;
+    players = refl;
+    row =
+        state.row ∙ sym state.frames;
+  }) state;
 }

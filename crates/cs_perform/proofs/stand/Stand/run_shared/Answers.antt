@@ -52,7 +52,7 @@ sum_rows-requires-clause-long g c =
 pub returns-clause-performed : goal.returns-clause-performed
 returns-clause-performed g c s m at =
     let run = have_run c.fill-filled.ensures.rows c.cycle-receipt.ensures.played c.row_laws.ensures.run in
-    let jobs = c.count-voices.ensures.voices ∙ c.unrow.ensures.notes ∙ run.notes in record {
+    let jobs = c.count.ensures.voices ∙ c.unrow.ensures.notes ∙ run.notes in record {
       setup = at.setup;
       stands = ran_at (composition_of s) c.args.self.life c.args.self.voices.items _ (cells c.args.self.desk) _ _ jobs
           run.left (c.serial_runs_perform.ensures.performed (composition_of s) c.args.self.life
@@ -73,8 +73,8 @@ returns-clause-heard g c s n at =
     let piece = composition_of s in
     let size : ℕ = length c.args.block.now in
     let run = have_run c.fill-filled.ensures.rows c.cycle-receipt.ensures.played c.row_laws.ensures.run in
-    let notes : c.count-voices.result.items ≡ all_notes c.cycle-receipt.result.0 =
-    c.count-voices.ensures.voices ∙ c.unrow.ensures.notes in
+    let notes : c.count.result.items ≡ all_notes c.cycle-receipt.result.0 =
+    c.count.ensures.voices ∙ c.unrow.ensures.notes in
     let after = ran_at piece c.args.self.life c.args.self.voices.items _ (cells c.args.self.desk) _ _
     (notes ∙ run.notes) run.left
     (c.serial_runs_perform.ensures.performed piece c.args.self.life c.args.self.voices.items
@@ -85,7 +85,7 @@ returns-clause-heard g c s n at =
     (rw c.requires.block (run.long c.args.self.rows.block c.fill-filled.ensures.sums)) run.summed
     (λ a low. c.sum_rows.ensures.sums a low ∙ ap (λ (l : List (HeardRow VoiceData)).
     total (map (λ (r : HeardRow VoiceData). get_or r.sum a (pos 0)) l)) c.jobs.ensures) in
-    heard_of piece.head.ksmps piece.head.nchnls size c.count-voices.result.items c.sum_rows.new.block _
+    heard_of piece.head.ksmps piece.head.nchnls size c.count.result.items c.sum_rows.new.block _
     (c.voices_are_heard.ensures.shapes piece c.args.self.life _ _ _ after) (c.requires.block ∙ at.block)
     (here ∙ ap (λ (l : List VoiceData). sums gives size l) (sym notes))
     (c.voices_are_heard.ensures.heard piece c.args.self.life _ _ n after)
@@ -110,8 +110,8 @@ unrow-requires-clause-sums g c =
     let run = have_run c.fill-filled.ensures.rows c.cycle-receipt.ensures.played c.row_laws.ensures.run in
     rw c.fill-filled.ensures.same.block (run.long c.args.self.rows.block c.fill-filled.ensures.sums)
 
-pub count-voices-requires : goal.count-voices-requires
-count-voices-requires g c =
+pub count-requires : goal.count-requires
+count-requires g c =
     let run = have_run c.fill-filled.ensures.rows c.cycle-receipt.ensures.played c.row_laws.ensures.run in
     let heard : length c.unrow.result ≡ length c.args.self.voices.items = ap length c.unrow.ensures.notes ∙ run.count in
     let few : length c.args.self.voices.items ≤ most_notes = c.requires.at.2.stands.stand.few in
@@ -122,9 +122,9 @@ returns-clause-room g c =
     let run = have_run c.fill-filled.ensures.rows c.cycle-receipt.ensures.played c.row_laws.ensures.run in
     let heard : length c.unrow.result ≡ length c.args.self.voices.items = ap length c.unrow.ensures.notes ∙ run.count in
     let few : length c.args.self.voices.items ≤ most_notes = c.requires.at.2.stands.stand.few in
-    omega (arith, c.count-voices.ensures.room, heard, few)
+    omega (arith, c.count.ensures.room, heard, few)
 
 pub returns-clause-counted : goal.returns-clause-counted
 returns-clause-counted g c =
-    subst (λ (l : List VoiceData). CountsOn g.C.Counter.has_counted c.args.tally.now c.count-voices.new.self (l ∷ []))
-    (sym c.count-voices.ensures.voices) c.count-voices.ensures.counted
+    subst (λ (l : List VoiceData). CountsOn g.C.Counter.has_counted c.args.tally.now c.count.new.self (l ∷ []))
+    (sym c.count.ensures.voices) c.count.ensures.counted

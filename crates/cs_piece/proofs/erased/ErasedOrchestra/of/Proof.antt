@@ -51,8 +51,7 @@ module _ {M : Type 1} {𝓤 : Ura M} (𝓛 : Logic 𝓤) (mem : Memory → SProp
     abbrev passed : Fml
     passed = owns (types_at f.signature.params κs) a (given ∷ [], tt)
 
-    walk : ent 𝓤 (on_entry 𝓛 f.signature κs qs a (given ∷ [], tt))
-        (WpFn 𝓤 H C Λ code.function (given ∷ [])
+    walk : ent 𝓤 (on_entry 𝓛 f.signature κs qs a (given ∷ [], tt)) (WpFn 𝓤 H C Λ code.function (given ∷ [])
         ((walk_of 𝓛 f.ended stayed (f.clauses 𝓛 mem run)).post bound))
     walk =
         qed 𝓛 (raw (alive 𝓛 f.signature κs qs) ∷ ‵ passed ∷ []) ∵ enter ! C Λ code.function (given ∷ []) _ $
@@ -61,8 +60,7 @@ module _ {M : Type 1} {𝓤 : Ura M} (𝓛 : Logic 𝓤) (mem : Memory → SProp
         suffices ! _ (ends_at 𝓛 f.ended stayed (f.clauses 𝓛 mem run) bound (vstruct vnil)
         (record { orchestra = a.0.now }) (tt, tt) (tt, tt)) $
         says ! refl $ pure_i ! (erased.the_row.own_val (record { orchestra = a.0.now }) (vstruct vnil ∷ []))
-        ((λ vss. (tt, tt)), tt) ((tt, (refl, tt)), tt) $
-        move ! (1 ∷ 2 ∷ 0 ∷ []) $ done !)
+        ((λ vss. (tt, tt)), tt) ((tt, (refl, tt)), tt) $ move ! (1 ∷ 2 ∷ 0 ∷ []) $ done !)
 
   walks : Walks 𝓛 f.ended stayed (WpFn 𝓤 H C Λ code.function) (f.clauses 𝓛 mem run)
   walks =

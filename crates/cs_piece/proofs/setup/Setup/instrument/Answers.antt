@@ -42,8 +42,7 @@ returns-in-Some c =
     (handed_out c.notes_touch_what_there_is.ensures _ c.self.invariant place i foot
     (subst (λ l. slice_get l place ≡ Some i) c.as_slice-instruments.ensures.same here)
     (slice_get_read c.self.inside.zoned.feet.items (length c.self.inside.zoned.feet.items) place foot refl foot_low
-    c.index.ensures)
-    c.args.number
+    c.index.ensures) c.args.number
     (ap (λ (y : Numbered). pos y.number) (some_is i c.in-Some.ensures.some.1 (sym here ∙ c.in-Some.ensures.some.2))
     ∙ c.in-Some.ensures.some.3 ∙ to_z-of_z w64 c.args.number c.ranges.number))
 

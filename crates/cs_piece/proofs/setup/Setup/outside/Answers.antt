@@ -9,5 +9,4 @@ returns c =
     subst (λ (s : SetupData). (stage : Stage) → IsStageOf (composition_of s) stage → stage.layout.now ≡ s.layout
     → stage.zones.now ≡ s.zones
     → IsInstrumentOf stage c.self.inside.lowered.zero c.self.inside.zoned.outside (composition_of s).outside)
-    c.self.view_is
-    (outside_is c.notes_touch_what_there_is.ensures _ c.self.invariant)
+    c.self.view_is (outside_is c.notes_touch_what_there_is.ensures _ c.self.invariant)

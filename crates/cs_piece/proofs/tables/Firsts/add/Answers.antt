@@ -17,13 +17,11 @@ returns-clause-stand c gs stand =
     let is : t ≡ times_at old.times.items x.number =
     c.index.ensures ∙ any_default old.times.items x.number t times.Never (omega (arith, c.requires.long, low)) in
     elim c.match-index.branch [
-      | in-Never+in_ok-push-in-Never w ↦
-          subst (λ (s : Firsts). StandFor (gs ++ given_of x ∷ [])
+      | in-Never+in_ok-push-in-Never w ↦ subst (λ (s : Firsts). StandFor (gs ++ given_of x ∷ [])
           (record { items = s.items; times = with_item s.times x.number u })) (sym w.self-is)
           (stand_new old (record { items = w.push.new.self; times = with_item old.times x.number u }) x gs t u stand
           c.requires.long low is refl w.in_ok-push-in-Never.ensures.items w.in-Never.is w.times-is)
-      | in_default w ↦
-          subst (λ (s : Firsts). StandFor (gs ++ given_of x ∷ [])
+      | in_default w ↦ subst (λ (s : Firsts). StandFor (gs ++ given_of x ∷ [])
           (record { items = s.items; times = with_item s.times x.number u })) (sym w.self-is)
           (stand_same old (record { items = old.items; times = with_item old.times x.number u }) x gs t u stand
           c.requires.long low is refl refl w.in_default.not-Never w.times-is)

@@ -13,6 +13,5 @@ loop-touch-preserved c n low =
 
 pub returns : goal.returns
 returns c n low =
-    c.loop-touch.invariant n low
-    ∙ ap (λ l. is_marked c.args.self.now n || list_any (touch_stores n) l)
+    c.loop-touch.invariant n low ∙ ap (λ l. is_marked c.args.self.now n || list_any (touch_stores n) l)
     (take_all c.loop-touch.touch-index c.args.touches.now c.loop-touch-test.false)

@@ -37,21 +37,16 @@ returns-in-Start-clause-does c = IfOk-weaker c.begin.result _ _
 pub returns-in-Seek-clause-does : goal.returns-in-Seek-clause-does
 returns-in-Seek-clause-does c s cells can =
     sought_op c.args.self.now.finds.now c.args.self.now.made.now s (there c.args.op) c.deref-in-Seek.result.now
-    c.args.state.now
-    cells c.args.self.now.asks.items c.seek-refused.result
-    (acts_there c.args.op c.in-Seek.is) can.found can.state
-    (c.deref-in-Seek.ensures.value ∙ c.in_ok-gather.ensures
-    ∙ ap (λ xs. first_values (map (values c.args.state.now.regs) xs)) c.reads.ensures)
-    c.seek-refused.ensures
+    c.args.state.now cells c.args.self.now.asks.items c.seek-refused.result
+    (acts_there c.args.op c.in-Seek.is) can.found can.state (c.deref-in-Seek.ensures.value ∙ c.in_ok-gather.ensures
+    ∙ ap (λ xs. first_values (map (values c.args.state.now.regs) xs)) c.reads.ensures) c.seek-refused.ensures
 
 pub returns-in_ok-ask-in-Ask-clause-does : goal.returns-in_ok-ask-in-Ask-clause-does
 returns-in_ok-ask-in-Ask-clause-does c s cells can =
     asked_op s (there c.args.op) c.deref-in-Ask.result.now c.args.state.now cells c.args.self.now.asks.items
-    c.ask.new.asks.items
-    (acts_there c.args.op c.in-Ask.is) can.state
+    c.ask.new.asks.items (acts_there c.args.op c.in-Ask.is) can.state
     (c.deref-in-Ask.ensures.value ∙ c.in_ok-gather.ensures
-    ∙ ap (λ xs. first_values (map (values c.args.state.now.regs) xs)) c.reads.ensures)
-    c.in_ok-ask-in-Ask.ensures
+    ∙ ap (λ xs. first_values (map (values c.args.state.now.regs) xs)) c.reads.ensures) c.in_ok-ask-in-Ask.ensures
 
 pub unreachable-requires : goal.unreachable-requires
 unreachable-requires c = is_some_start c.args.op.window.now c.args.op.op.now.act c.requires.here

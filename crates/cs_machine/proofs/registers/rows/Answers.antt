@@ -1,0 +1,23 @@
+use Rattle.std.proofs.Common.{◌≡◌, ◌∙◌, ◌++◌, ◌∷◌, [], ap, arith, length, map, pos, replicate, sym}
+use Rattle.std.proofs.lemmas.List.{length-map, length-replicate, map-append, replicate-append-replicate}
+use Rattle.cs_machine.proofs.registers.rows.Goals as goal
+
+pub loop-preserved : goal.loop-preserved
+loop-preserved c = (
+  omega (arith, c.loop-test.true),
+  ap (map (λ row. row.items)) c.push_reserved.ensures.items ∙ map-append (λ row. row.items) c.loop.all.items _
+      ∙ (λ i. c.loop.invariant.1 i ++ c.in_ok-zeros.ensures i ∷ [])
+      ∙ replicate-append-replicate c.loop.counter 1 (replicate c.args.ksmps (pos 0)),
+  omega (arith, c.push_reserved.ensures.capacity, c.loop.invariant.2),
+)
+
+pub push_reserved-requires : goal.push_reserved-requires
+push_reserved-requires c =
+    let long : length c.loop.all.items ≡ c.loop.counter =
+    sym (length-map c.loop.all.items (λ row. row.items)) ∙ ap length c.loop.invariant.1
+    ∙ length-replicate c.loop.counter (replicate c.args.ksmps (pos 0)) in
+    omega (arith, c.loop-test.true, c.loop.invariant.2, long)
+
+pub returns : goal.returns
+returns c = c.loop.invariant.1
+    ∙ ap (λ n. replicate n (replicate c.args.ksmps (pos 0))) (omega (arith, c.loop-test.false, c.loop.invariant.0))
