@@ -10,10 +10,10 @@ use crate::marked::{areas, jobs_of};
 use crate::watch::{Seen, Watch};
 use cs_base::{MOST_NOTES, Num};
 use cs_cells::{Bank, Job, Layout, PlainBank};
-use cs_crew::{Crew, run_cycle};
 use cs_desk::{Desk, Tally, feet_of};
 use cs_edge::Gate;
 use cs_graph::Graph;
+use cs_pool::{Crew, run_cycle};
 use std::alloc::{AllocError, Global};
 use std::sync::atomic::AtomicU64;
 use std::sync::{Arc, Wait};
@@ -70,8 +70,12 @@ pub fn desk_for<J: Job + Drop>(
     ensures footprints { IfSome result (λ d. All (λ j. IsFootprint (length (areas d.0)) (J.means.foot j)) jobs.now) }
     ensures room { IfSome result (λ d. HasRoom d.0 (length jobs.now) (length d.1.value.edges)) }
 {
-    let words = vec![in alloc; 0u64; layout.words() as usize].ok()?;
-    let graph = graph_of(alloc, jobs)?;
+    let Ok(words) = vec![in alloc; 0u64; layout.words() as usize] else {
+        return None;
+    };
+    let Some(graph) = graph_of(alloc, jobs) else {
+        return None;
+    };
     let (notes, edges) = (graph.len(), graph.edge_count());
     let Ok(graph) = Arc::new(alloc, graph) else {
         return None;

@@ -16,7 +16,7 @@ mod player;
 mod watch;
 
 use crate::cycle::{by_a_crew, in_plain_memory};
-use crate::orders::{SMALL, most_notes, serial_graphs};
+use crate::orders::{SMALL, Small, most_notes, serial_graphs};
 use std::io;
 use std::sync::Wait;
 use std::thread::Threads;
@@ -29,14 +29,24 @@ fn main(rt: HostRuntime) -> io::Result<()> {
 }
 
 fn show_boards<R: Print + AllocGlobal>(rt: &R) -> io::Result<()> {
-    for (notes, graphs, orders) in SMALL {
-        let serial = serial_graphs(rt.alloc(), notes, graphs, orders);
-        println!(rt;
-            "{notes} notes: {serial:?} of {graphs} graphs are serial by each of {orders} orders"
-        )?;
+    for small in &SMALL {
+        show_small(rt, small)?;
     }
     let (own, row) = (most_notes(rt.alloc(), 0), most_notes(rt.alloc(), 1));
     println!(rt; "512 notes on their own: {own:?}, in a row: {row:?} (in order, few tries)")
+}
+
+// Shows how many graphs of few notes are serial.
+fn show_small<R: Print + AllocGlobal>(rt: &R, small: &Small) -> io::Result<()> {
+    let Small {
+        notes,
+        graphs,
+        orders,
+    } = small;
+    let serial = serial_graphs(rt.alloc(), small);
+    println!(rt;
+        "{notes} notes: {serial:?} of {graphs} graphs are serial by each of {orders} orders"
+    )
 }
 
 fn show_crews<R: Print + AllocGlobal + Threads + Wait + Sync>(rt: &R) -> io::Result<()> {

@@ -33,9 +33,13 @@ fn play(alloc: Global, layout: &Layout, bits: &[u32], order: u32) -> Option<Play
     let Ok(marks) = marks_of(alloc, bits.len()) else {
         return None;
     };
-    let tries = tries_to_mark(alloc, layout, bits, &marks, order)?;
-    let times = times_of(alloc, &marks)?;
-    Some(Played { times, tries })
+    let Some(tries) = tries_to_mark(alloc, layout, bits, &marks, order) else {
+        return None;
+    };
+    match times_of(alloc, &marks) {
+        Some(times) => Some(Played { times, tries }),
+        None => None,
+    }
 }
 
 /// Plays notes that leave these marks. Returns how often the first seat tried to claim one.
@@ -61,7 +65,9 @@ fn tries_to_mark(
 fn times_of(alloc: Global, marks: &[AtomicU64]) -> Option<Vec<u64>> {
     let mut times = Vec::new(alloc);
     for mark in marks {
-        times.push(mark.load(Ordering::SeqCst)).ok()?;
+        if times.push(mark.load(Ordering::SeqCst)).is_err() {
+            return None;
+        }
     }
     Some(times)
 }
@@ -85,8 +91,8 @@ fn is_serial(alloc: Global, layout: &Layout, notes: usize, pairs: u32, order: u3
 
 fn is_after(played: &Played, pairs: u32) -> bool {
     let mut left = pairs;
-    for (one, later) in PAIRS {
-        if left % 2 == 1 && played.time(one) >= played.time(later) {
+    for (one, later) in &PAIRS {
+        if left % 2 == 1 && played.time(*one) >= played.time(*later) {
             return false;
         }
         left /= 2;
@@ -95,37 +101,75 @@ fn is_after(played: &Played, pairs: u32) -> bool {
 }
 
 /// Notes, the number of their graphs, and the number of orders of the claims, runs and finishes that they need.
-pub const SMALL: [(usize, u32, u32); 3] = [(2, 2, 64), (3, 8, 512), (4, 64, 4_096)];
+pub struct Small {
+    pub notes: usize,
+    pub graphs: u32,
+    pub orders: u32,
+}
 
-/// Returns how many of the first `graphs` graphs of notes are serial by each of `orders` orders. None if memory runs
-/// out.
-pub fn serial_graphs(alloc: Global, notes: usize, graphs: u32, orders: u32) -> Option<u32> {
-    let layout = layout(alloc)?;
+pub const SMALL: [Small; 3] = [
+    Small {
+        notes: 2,
+        graphs: 2,
+        orders: 64,
+    },
+    Small {
+        notes: 3,
+        graphs: 8,
+        orders: 512,
+    },
+    Small {
+        notes: 4,
+        graphs: 64,
+        orders: 4_096,
+    },
+];
+
+/// Returns how many of the graphs of so few notes are serial by each order. None if memory runs out.
+pub fn serial_graphs(alloc: Global, small: &Small) -> Option<u32> {
+    let Some(layout) = layout(alloc) else {
+        return None;
+    };
     let mut count = 0u32;
-    for pairs in 0..graphs {
-        let mut serial = 0u32;
-        for order in 0..orders {
-            if is_serial(alloc, &layout, notes, pairs, order) {
-                serial = serial.saturating_add(1);
-            }
-        }
-        if serial == orders {
+    for pairs in 0..small.graphs {
+        if is_always_serial(alloc, &layout, small, pairs) {
             count = count.saturating_add(1);
         }
     }
+    drop(layout);
     Some(count)
+}
+
+fn is_always_serial(alloc: Global, layout: &Layout, small: &Small, pairs: u32) -> bool
+    requires { length layout.now ≡ 6 }
+{
+    for order in 0..small.orders {
+        if !is_serial(alloc, layout, small.notes, pairs, order) {
+            return false;
+        }
+    }
+    true
 }
 
 /// Plays as many notes as may be active, all with these resources, by the first seat alone. Returns whether they run in
 /// serial order, and whether the seat tries at most twice for each. None if not all run, or if memory runs out.
 pub fn most_notes(alloc: Global, bits: u32) -> Option<(bool, bool)> {
-    let layout = layout(alloc)?;
-    let played = play(alloc, &layout, &[bits; MOST_NOTES], 0)?;
-    let mut in_order = true;
+    let Some(layout) = layout(alloc) else {
+        return None;
+    };
+    let played = play(alloc, &layout, &[bits; MOST_NOTES], 0);
+    drop(layout);
+    match played {
+        Some(played) => Some((is_in_order(&played), played.tries <= 1_024)),
+        None => None,
+    }
+}
+
+fn is_in_order(played: &Played) -> bool {
     for note in 1..MOST_NOTES {
         if played.time(note - 1) >= played.time(note) {
-            in_order = false;
+            return false;
         }
     }
-    Some((in_order, played.tries <= 1_024))
+    true
 }

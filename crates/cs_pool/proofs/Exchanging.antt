@@ -48,24 +48,19 @@ module _ {J : Type 0} (M : Meaning J) where
 
   -- at GIVEN there is something out, which lies in the slot
   given_out : (o : Option (Errand J)) (w : ℕ) (h : maybe.Option (MailboxLetter J)) → w ≡ GIVEN
-      → MatchOption o (IsHome M w h) (IsAbroad M w h)
-      → (e : Errand J) × (o ≡ Some e) × IsGiven M w h e
+      → MatchOption o (IsHome M w h) (IsAbroad M w h) → (e : Errand J) × (o ≡ Some e) × IsGiven M w h e
   given_out None w h is m = absurd (⊎_elim (λ z. omega (arith, z, is)) (λ z. omega (arith, z, is)) m.word)
   given_out (Some e) w h is m = (e, refl, given_abroad w h e is m)
 
   module _ (s : State (MailboxLetter J) (Knows J)) (id : ℕ) where
     -- the rule after a step of the caller, and of the helper
     caller_stepped : (v : Knows J) (c : OfCaller M s id v) (ws : List ℕ) (hs : List (maybe.Option (MailboxLetter J)))
-        (w : ℕ)
-        (h : maybe.Option (MailboxLetter J)) (v' : Knows J)
-        → ws ≡ w ∷ [] → hs ≡ h ∷ [] → Facts M w h v' c.other
+        (w : ℕ) (h : maybe.Option (MailboxLetter J)) (v' : Knows J) → ws ≡ w ∷ [] → hs ≡ h ∷ [] → Facts M w h v' c.other
         → Always M (record { words = ws; homes = hs; views = slice_set s.views id v' })
     caller_stepped v c ws hs w h v' words homes facts = grind (arith, common_steps)
 
     helper_stepped : (v : Knows J) (c : OfHelper M s id v) (ws : List ℕ) (hs : List (maybe.Option (MailboxLetter J)))
-        (w : ℕ)
-        (h : maybe.Option (MailboxLetter J)) (v' : Knows J)
-        → ws ≡ w ∷ [] → hs ≡ h ∷ [] → Facts M w h c.other v'
+        (w : ℕ) (h : maybe.Option (MailboxLetter J)) (v' : Knows J) → ws ≡ w ∷ [] → hs ≡ h ∷ [] → Facts M w h c.other v'
         → Always M (record { words = ws; homes = hs; views = slice_set s.views id v' })
     helper_stepped v c ws hs w h v' words homes facts = grind (arith, common_steps)
 
@@ -127,8 +122,7 @@ module _ {J : Type 0} (M : Meaning J) where
       (sym (set_again s.views id v here)) a)
 
   -- a task is taken, or there is none
-  pub takes_task : (n id : ℕ)
-      → Allows (Always M) n id (helper None, []) 0 (λ y. either (eqb y GIVEN) TAKEN y)
+  pub takes_task : (n id : ℕ) → Allows (Always M) n id (helper None, []) 0 (λ y. either (eqb y GIVEN) TAKEN y)
       (took M (step n 0 GIVEN TAKEN none) (helper None, []))
   takes_task n id s a long here fits =
       exchanged x GIVEN TAKEN (λ y. (w : Knows J) × (b : Act (MailboxLetter J)) × Valid s.homes [] b
@@ -142,8 +136,7 @@ module _ {J : Type 0} (M : Meaning J) where
         takes 0 (letter.Task t),
         ap (λ hs. get_elem? hs 0) c.homes ∙ ap some g.2.home,
         helper_stepped s id (helper None) c (slice_set s.words 0 TAKEN) (slice_set s.homes 0 none) TAKEN none v'
-            (ap (λ ws. slice_set ws 0 TAKEN) c.words) (ap (λ hs. slice_set hs 0 none) c.homes)
-            (record {
+            (ap (λ ws. slice_set ws 0 TAKEN) c.words) (ap (λ hs. slice_set hs 0 none) c.homes) (record {
               roles = (c.facts.roles.0, refl);
               out = subst (λ o. MatchOption o (IsHome M TAKEN none) (IsAbroad M TAKEN none)) (sym g.1)
                   (inr (inl (record { word = refl; home = refl })));
@@ -204,8 +197,7 @@ module _ {J : Type 0} (M : Meaning J) where
         takes 0 f.0,
         ap (λ hs. get_elem? hs 0) c.homes ∙ ap some f.1,
         caller_stepped s id (caller k (Some e)) c (slice_set s.words 0 EMPTY) (slice_set s.homes 0 none) EMPTY none
-            (caller k' None)
-            (ap (λ ws. slice_set ws 0 EMPTY) c.words) (ap (λ hs. slice_set hs 0 none) c.homes)
+            (caller k' None) (ap (λ ws. slice_set ws 0 EMPTY) c.words) (ap (λ hs. slice_set hs 0 none) c.homes)
             (record {
               roles = (refl, c.facts.roles.1);
               out = is_home EMPTY (inl refl);
@@ -260,8 +252,7 @@ module _ {J : Type 0} (M : Meaning J) where
         keeps,
         tt,
         caller_stepped s id (caller k None) c (slice_set s.words 0 OVER) s.homes OVER c.home (caller k None)
-            (ap (λ ws. slice_set ws 0 OVER) c.words) c.homes
-            (record {
+            (ap (λ ws. slice_set ws 0 OVER) c.words) c.homes (record {
               roles = (refl, c.facts.roles.1);
               out = record { word = inr refl; home = c.facts.out.home };
               duty = still_free c.other.out c.word OVER None None
@@ -295,6 +286,5 @@ module _ {J : Type 0} where
   found m v x y e z = ap letter_in (sym z) ∙ ap (λ q. letter_in q.1) e
 
   pub written : (m n : Sat J) (v : Knows J) (x y : MailboxLetter J) → m ≡ (v, (0, x) ∷ [])
-      → n ≡ (m.0, (0, y) ∷ rest m.1)
-      → n ≡ (v, (0, y) ∷ [])
+      → n ≡ (m.0, (0, y) ∷ rest m.1) → n ≡ (v, (0, y) ∷ [])
   written m n v x y e z = z ∙ ap (λ q. (q.0, (0, y) ∷ rest q.1)) e

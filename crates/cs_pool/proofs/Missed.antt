@@ -15,8 +15,7 @@ module _ {J R G : Type 0} where
       → (begun ≡ false → tasks_served after ≡ tasks_served before)
       → (begun ≡ true → (after.sparing.alone ≡ 0) × (after.sparing.after_a_miss ≡ 1))
       → (begun ≡ false → (after.sparing.alone ≡ before.sparing.after_a_miss)
-      × (after.sparing.after_a_miss ≡ min (2 * before.sparing.after_a_miss) most_alone))
-      → Learns before after
+      × (after.sparing.after_a_miss ≡ min (2 * before.sparing.after_a_miss) most_alone)) → Learns before after
   learns before after true more same helped missed = grind (arith, common_steps)
   learns before after false more same helped missed = grind (arith, common_steps, twice_more)
 

@@ -1,6 +1,6 @@
 -- The first seat after another was split off it, and after it has taken that one in again.
 use Rattle.std.proofs.lemmas.Grind.{common_steps}
-use Rattle.std.proofs.Common.{◌≡◌, suc, sym, ap, ◌∙◌, arith}
+use Rattle.std.proofs.Common.{◌≡◌, ℕ, suc, sym, ap, ◌∙◌, arith}
 use Rattle.cs_board.specs.{Board.plan, Board.name, Board.view, Board.IsSeatOf, declared.board.Board.Board}
 use Rattle.cs_board.specs.{declared.board.BoardSeat.BoardSeat, Views.given_view, Views.joined, Views.kept_view}
 use Rattle.cs_board.specs.Views.{opening_view}
@@ -11,16 +11,15 @@ use Rattle.cs_pool.specs.{Working.IsDone, Working.IsReady, Numbered.IsFirst, Num
 
 module _ {J : Type 0} where
   -- v before the split, w after it: w has one more out, the greatest
-  next_made : (v w : View J) → w ≡ kept_view v → w.made ≡ suc v.made
+  pub next_made : (v w : View J) → w ≡ kept_view v → w.made ≡ suc v.made
   next_made v w is = ap (λ x. x.made) is ∙ omega arith
 
   pub leads_kept : (v w : View J) → IsFirst v.made v → w ≡ kept_view v → IsFirst w.made w
   leads_kept v w h is = grind (arith, common_steps, next_made)
 
-  -- k at the end of the part of those that were split off later, o the view of the seat that comes back
-  pub leads_joined : (v w k o j : View J) → w ≡ kept_view v → IsFirst w.made k → o.number ≡ v.made → j ≡ joined k o
-      → IsFirst v.made j
-  leads_joined v w k o j is h number joins = grind (arith, common_steps, next_made, without_greatest)
+  -- k is the first seat's view, o that of the seat that comes back, which was split off last
+  pub leads_joined : (n : ℕ) (k o j : View J) → IsFirst (suc n) k → o.number ≡ n → j ≡ joined k o → IsFirst n j
+  leads_joined n k o j h number joins = grind (arith, common_steps, without_greatest)
 
   -- the first seat as a cycle opens: no other was split off yet
   pub opened_leads : (v : View J) (k : Plan J) → v ≡ opening_view k → IsFirst v.made v

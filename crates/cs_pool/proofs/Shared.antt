@@ -23,14 +23,12 @@ use Rattle.cs_pool.specs.contracts.mailbox.Mailbox as mailbox
 module _ (T : RattleType) (g : Ghosts T.Denot) (s : IsSend T) where
   board_sync : IsSync (board.the_row T g)
   board_sync = let B = board.the_type T g in
-      recorded_sync (Struct (declared.shape B)) B.D B.to B.to_one
-      (struct_sync (declared.shape B)
+      recorded_sync (Struct (declared.shape B)) B.D B.to B.to_one (struct_sync (declared.shape B)
       (search (sendable, crosses, frame.the_field_sync, graph.the_send, graph.the_sync) depth 40))
 
   board_send : IsSend (board.the_row T g)
   board_send = let B = board.the_type T g in
-      recorded_send (Struct (declared.shape B)) B.D B.to B.to_one
-      (struct_send (declared.shape B)
+      recorded_send (Struct (declared.shape B)) B.D B.to B.to_one (struct_send (declared.shape B)
       (search (sendable, crosses, frame.the_field_send, graph.the_send, graph.the_sync) depth 40))
 
   task_send : IsSend (Struct (declared.shape (task.the_type T g)))

@@ -1,9 +1,11 @@
 // One control cycle.
-ghost use Rattle.std.specs.Prelude.{◌≡◌, ◌<◌, ◌≤◌, ◌+◌, ◌-◌, ◌⊎◌, ◌↔◌, ℕ, length, min, All, true, false};
-ghost use Rattle.std.specs.Arc.{arc_value};
+ghost use Rattle.std.specs.Prelude.{◌≡◌, ◌<◌, ◌≤◌, ◌+◌, ◌-◌, ◌⊎◌, ◌↔◌, ℕ, suc, length, min, All, true, false};
+ghost use Rattle.std.specs.{Arc.arc_value, Int.from_bool};
 ghost use Rattle.cs_board.specs.{Board.plan, Board.name, Board.view, Board.IsSeatOf, Views.opening_view};
 ghost use Rattle.cs_desk.specs.Cycles.{IsCycle, WasPlayed};
-ghost use Rattle.cs_pool.specs.{Working.IsReady, Working.IsDone, Numbered.IsFirst, inner.Lines.IsIdle};
+ghost use Rattle.cs_pool.specs.{Working.IsReady, Working.IsDone, Numbered.IsFirst};
+ghost use Rattle.cs_pool.specs.inner.Lines.{IsIdle, IsAway, Lends};
+ghost use Rattle.cs_pool.specs.Mailboxes.{given, served, tasks};
 ghost use Rattle.cs_graph.specs.Cover.{HasCover};
 ghost use Rattle.cs_pool.specs.Alone.{few_values};
 ghost use Rattle.cs_pool.specs.Pools.{helpers, ended, next_cycle, cycles_alone, tasks_served, served_by, tasks_given};
@@ -244,12 +246,38 @@ fn share<J: Job + Drop, R: Wait, G: Gate>(
     let Some((line, rest)) = lines.split_first_mut() else {
         unreachable!()
     };
-    let Ok((part, member)) = line.part_in(shift.alloc, board) else {
+    if !lend(shift, line, board, first) {
         work(shift.rt, board, first, shift.cycle, shift.gate, PATIENCE);
         return Shared {
             begun: false,
             refused: true,
         };
+    }
+    let shared = share(shift, rest, others - 1, board, first);
+    let begun = take_in(shift.rt, line, board, first);
+    Shared {
+        begun: begun | shared.begun,
+        refused: shared.refused,
+    }
+}
+
+/// Whether the helper got a part in the cycle: a share of the board, and a seat that is split off `first`. It gets none
+/// where memory for it is refused.
+fn lend<J: Job + Drop, R: Wait, G: Gate>(
+    shift: &Shift<'_, R, G>,
+    line: &mut Line<J>,
+    board: &Arc<Board<J>, Global>,
+    first: &mut BoardSeat<J>,
+) -> bool
+    requires idle { IsIdle line.old }
+    requires ready { IsReady J.means (arc_value board.now) first.old }
+    requires leads { IsFirst (view first.old).made (view first.old) }
+    ensures lent { result ≡ true → Lends J.means (arc_value board.now) line.old line.new first.old first.new }
+    ensures kept { result ≡ false → IsIdle line.new × (tasks line.new.end ≡ tasks line.old.end)
+        × (first.new ≡ first.old) }
+{
+    let Ok((part, member)) = line.part_in(shift.alloc, board) else {
+        return false;
     };
     let seat = board.split(first);
     let task = Task {
@@ -259,14 +287,29 @@ fn share<J: Job + Drop, R: Wait, G: Gate>(
         member,
     };
     line.give(task, shift.hesitation);
-    let shared = share(shift, rest, others - 1, board, first);
-    let returned = line.await_seat(shift.rt);
-    let Returned { seat, begun } = returned;
+    true
+}
+
+/// `first` takes the helper's seat in, after its work. Returns whether the helper had begun.
+fn take_in<J: Job + Drop, R: Wait>(
+    rt: &R,
+    line: &mut Line<J>,
+    board: &Arc<Board<J>, Global>,
+    first: &mut BoardSeat<J>,
+) -> bool
+    requires away { (n : ℕ) × IsAway (arc_value board.now) line.old n }
+    requires done { IsDone J.means (arc_value board.now) first.old }
+    requires first { (view first.old).first ≡ true }
+    ensures idle { IsIdle line.new }
+    ensures done { IsDone J.means (arc_value board.now) first.new }
+    ensures leads { (n : ℕ) → IsAway (arc_value board.now) line.old n → IsFirst (suc n) (view first.old)
+        → IsFirst n (view first.new) }
+    ensures served { served line.new.end ≡ served line.old.end + from_bool result }
+    ensures given { given line.new.end ≡ given line.old.end }
+{
+    let Returned { seat, begun } = line.await_seat(rt);
     board.join(first, seat);
-    Shared {
-        begun: begun | shared.begun,
-        refused: shared.refused,
-    }
+    begun
 }
 
 /// The board, once nobody else has a share of it. Each helper let its share go before it gave its

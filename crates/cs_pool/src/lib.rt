@@ -9,7 +9,8 @@
 //! `worker` (claim, run, finish), `letter` (what lies in a helper's mailbox), `member`, `view` (what a mailbox's two
 //! ends know), `mailbox_rule`, `mailbox`, `helper` (what a helper does), `line` (the caller's side of one helper),
 //! `sparing` (which cycles the caller plays alone), `pool` (all helpers, started and ended), `cycle`; `crew` (what a
-//! performance is run by), `size` (how many workers are of use).
+//! performance is run by), `size` (how many workers are of use), `one_cycle` (a crew that starts and ends with one
+//! cycle, for whoever has a single cycle to play: the program keeps one pool for all of its cycles).
 #![tactic(auto)]
 
 mod crew;
@@ -20,6 +21,7 @@ mod line;
 mod mailbox;
 mod mailbox_rule;
 mod member;
+mod one_cycle;
 mod pool;
 mod size;
 mod sparing;
@@ -27,5 +29,6 @@ mod view;
 mod worker;
 
 pub use crew::Crew;
+pub use one_cycle::run_cycle;
 pub use pool::Pool;
 pub use size::crew_size;

@@ -1,6 +1,5 @@
-use Rattle.std.proofs.lemmas.Grind.{common_steps}
 use Rattle.std.proofs.Common.{◌∙◌, ◌+◌, ◌≤◌, length, ap, inl, inr, subst, refl, sym, arith}
-use Rattle.cs_board.specs.Board.{plan, name, graph_of}
+use Rattle.cs_board.specs.Board.{plan, name, graph_of, IsSeatOf}
 use Rattle.cs_cells.specs.Serial.{serial_cells, serial_jobs}
 use Rattle.cs_desk.proofs.Cycling.{was_played}
 use Rattle.cs_desk.specs.Desk.{cells}
@@ -19,12 +18,9 @@ returns-clause-played g c =
     let start = cells c.args.desk in
     was_played M c.args.desk c.args.jobs.items c.rest.result.0 c.rest.result.1
     (laws.footprints c.args.jobs.items start) (laws.areas c.args.jobs.items start) (laws.count c.args.jobs.items start)
-    (rested.jobs
-    ∙ ap (λ b. serial_jobs M (plan b).jobs (plan b).cells) same
-    ∙ ap (λ k. serial_jobs M k.jobs k.cells) over)
-    (rested.cells
-    ∙ ap (λ b. serial_cells M (plan b).jobs (plan b).cells) same
-    ∙ ap (λ k. serial_cells M k.jobs k.cells) over)
+    (rested.jobs ∙ ap (λ b. serial_jobs M (plan b).jobs (plan b).cells) same
+    ∙ ap (λ k. serial_jobs M k.jobs k.cells) over) (rested.cells
+    ∙ ap (λ b. serial_cells M (plan b).jobs (plan b).cells) same ∙ ap (λ k. serial_cells M k.jobs k.cells) over)
     (rested.areas ∙ ap (λ b. (plan b).areas) same ∙ ap (λ k. k.areas) over)
     (rested.room.0 ∙ ap (λ b. (name b).slots) same ∙ c.open-board.ensures.room.0)
     (rested.room.1 ∙ ap (λ b. (name b).words) same ∙ c.open-board.ensures.room.1)
@@ -43,7 +39,35 @@ returns-then-others-eq0-clause-learned g c = inr (
 )
 
 pub returns-then-others-eq0-clause-shared : goal.returns-then-others-eq0-clause-shared
-returns-then-others-eq0-clause-shared g c = grind (arith, common_steps, nothing_more)
+returns-then-others-eq0-clause-shared g c =
+    let w = c.wanted-others.ensures in
+    record {
+      chains = w.0;
+      cover = subst (λ z. HasCover z.edges (length z.levels) w.0) c.deref.ensures w.1;
+      parts = record { most = omega arith; all = λ h. nothing_more _ _ (sym w.2 ∙ c.if-others-eq0.true) };
+    }
+
+pub open-board-requires : goal.open-board-requires
+open-board-requires g c = c.requires
+
+pub play-board-requires : goal.play-board-requires
+play-board-requires g c = record {
+  few = omega (arith, c.wanted-others.ensures.2);
+  first = c.open-board.ensures.seat;
+  opening = c.open-board.ensures.view;
+}
+
+pub rest-requires : goal.rest-requires
+rest-requires g c =
+    let done = c.play-board.ensures.done in
+    let alone = c.play-board.ensures.alone in
+    record {
+      seat = subst (λ b. IsSeatOf g.J.Job.means (plan b) (name b) c.play-board.result.1)
+          (sym c.play-board.ensures.board) done.of;
+      idle = done.idle;
+      owes = done.owes;
+      alone = (alone.first, alone.out);
+    }
 
 pub returns-clause-graph : goal.returns-clause-graph
 returns-clause-graph g c =

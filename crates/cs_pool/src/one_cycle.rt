@@ -2,11 +2,12 @@
 ghost use Rattle.std.specs.Prelude.{◌≡◌};
 ghost use Rattle.cs_desk.specs.Cycles.{IsCycle, WasPlayed};
 
+use crate::crew::Crew;
+use crate::pool::Pool;
 use cs_cells::Job;
 use cs_desk::{Desk, Receipt};
 use cs_edge::Gate;
 use cs_graph::Graph;
-use cs_pool::{Crew, Pool};
 use std::alloc::Global;
 use std::sync::{Arc, Wait};
 use std::thread;
