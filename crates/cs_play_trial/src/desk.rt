@@ -193,11 +193,6 @@ impl CaseDesk {
     pub fn add(&mut self, piece: CaseText<'_>) {
         add_piece(self.begun(), piece);
     }
-
-    /// Whether memory sufficed for its texts.
-    pub fn is_whole(&self) -> bool {
-        self.orchestra.is_whole() && self.score.is_whole() && self.words.is_whole()
-    }
 }
 
 // Whether one of these words says by how many workers, or by which.
@@ -211,10 +206,9 @@ fn names_a_crew(words: &[u8]) -> bool {
 }
 
 fn asks_for_workers(word: &[u8]) -> bool {
-    match word {
-        b"--pool" => true,
-        [b'-', b'-', ..] => false,
-        [b'-', flags @ ..] => flags.contains(&b'j'),
-        _ => false,
+    if word.starts_with(b"--") {
+        word == b"--pool".as_slice()
+    } else {
+        word.starts_with(b"-") && word.contains(&b'j')
     }
 }

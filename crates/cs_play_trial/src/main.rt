@@ -3,7 +3,8 @@
 //! README.md says how a case is written; the words of the program, the crate's `args`, name them in the order in which
 //! they run.
 //!
-//! Nothing is proved of the answers here, only that the trials are safe.
+//! Nothing is proved of the answers here, only that the trials are safe. Where memory or a file is refused, that is
+//! printed in place of what was to be written.
 //!
 //! In reading order: `page` (what is written), `line` (the parts of a line of a case file), `text` (its escapes),
 //! `gate` (what shows how workers run), `desk` (the case that is being made), `made` (what a run of it is given),
@@ -24,7 +25,7 @@ mod wave;
 use crate::desk::{CaseDesk, Command, command_of};
 use crate::line::{number_of, parted, text_of};
 use crate::page::Page;
-use crate::play::play;
+use crate::play::{CaseRun, play};
 use std::io::Write;
 use std::rt::Files;
 use std::sync::Wait;
@@ -33,77 +34,80 @@ use std::{env, fs, io, thread};
 
 fn main(rt: HostRuntime) -> io::Result<()> {
     let names: Vec<String> = env::args(&rt)?.skip(1).collect(rt.alloc())?;
-    run_all(&rt, &names)
+    show_all(&rt, &names)
 }
 
-fn run_all<R: Files + Print + AllocGlobal + Threads + Wait + Sync>(
+fn show_all<R: Files + Print + AllocGlobal + Threads + Wait + Sync>(
     rt: &R,
     names: &[String],
 ) -> io::Result<()> {
     for name in names {
-        println!(rt; "== {name}")?;
-        run_file(rt, name)?;
+        show_file(rt, name)?;
     }
     Ok(())
 }
 
-// The cases of a file.
-fn run_file<R: Files + Print + AllocGlobal + Threads + Wait + Sync>(
+// Prints what comes of a file's cases.
+fn show_file<R: Files + Print + AllocGlobal + Threads + Wait + Sync>(
     rt: &R,
     name: &str,
 ) -> io::Result<()> {
-    let text = fs::read(rt, name)?;
-    let mut desk = CaseDesk::new(rt.alloc());
-    run_lines(rt, &text, &mut desk)
+    let mut out = Page::new(rt.alloc());
+    run_file(rt, name, &mut out);
+    io::writer(rt).write_all(out.shown())
 }
 
-fn run_lines<R: Files + Print + AllocGlobal + Threads + Wait + Sync>(
-    rt: &R,
-    text: &[u8],
-    desk: &mut CaseDesk,
-) -> io::Result<()> {
-    for line in text.split(|byte| *byte == b'\n') {
-        follow(rt, line, desk)?;
+fn run_file<R: Files + AllocGlobal + Threads + Wait + Sync>(rt: &R, name: &str, out: &mut Page) {
+    out.add(b"== ");
+    out.add(name.as_bytes());
+    out.push(b'\n');
+    match fs::read(rt, name) {
+        Ok(text) => run_lines(rt, &text, out),
+        Err(_) => out.spoil(),
     }
-    Ok(())
+}
+
+fn run_lines<R: Files + AllocGlobal + Threads + Wait + Sync>(rt: &R, text: &[u8], out: &mut Page) {
+    let mut desk = CaseDesk::new(rt.alloc());
+    for line in text.split(|byte| *byte == b'\n') {
+        follow(rt, line, &mut desk, out);
+    }
 }
 
 // Does what a line of a case file says.
-fn follow<R: Files + Print + AllocGlobal + Threads + Wait + Sync>(
+fn follow<R: Files + AllocGlobal + Threads + Wait + Sync>(
     rt: &R,
     line: &[u8],
     desk: &mut CaseDesk,
-) -> io::Result<()> {
+    out: &mut Page,
+) {
     match (text_of(line), str::from_utf8(line)) {
-        (Some(piece), _) => {
-            desk.add(piece);
-            Ok(())
-        }
-        (None, Ok(line)) => obey(rt, line, desk),
-        (None, Err(_)) => say_wrong(rt, line),
+        (Some(piece), _) => desk.add(piece),
+        (None, Ok(line)) => obey(rt, line, desk, out),
+        (None, Err(_)) => say_wrong(out, line),
     }
 }
 
-fn obey<R: Files + Print + AllocGlobal + Threads + Wait + Sync>(
+fn obey<R: Files + AllocGlobal + Threads + Wait + Sync>(
     rt: &R,
     line: &str,
     desk: &mut CaseDesk,
-) -> io::Result<()> {
+    out: &mut Page,
+) {
     let (word, rest) = parted(line);
     match command_of(word) {
-        Command::Nothing => Ok(()),
+        Command::Nothing => {}
         Command::Begin(filling) => add_file(rt, rest, desk.begin(filling)),
-        Command::Crowd => {
-            desk.once.crowd(at_once(rt, number_of(rest.as_bytes())));
-            Ok(())
-        }
+        Command::Crowd => desk.once.crowd(at_once(rt, number_of(rest.as_bytes()))),
         Command::Play => {
-            say(rt, rest, desk)?;
+            say(rt, rest, desk, out);
             desk.forget();
-            Ok(())
         }
-        Command::Once if desk.once.take(word, rest) => Ok(()),
-        Command::Once => say_wrong(rt, line.as_bytes()),
+        Command::Once => {
+            if !desk.once.take(word, rest) {
+                say_wrong(out, line.as_bytes());
+            }
+        }
     }
 }
 
@@ -116,76 +120,55 @@ fn at_once<R: Threads>(rt: &R, notes: u32) -> u32 {
 }
 
 // Adds the bytes of a file; no path adds nothing.
-fn add_file<R: Files + AllocGlobal>(rt: &R, path: &str, to: &mut Page) -> io::Result<()> {
+fn add_file<R: Files + AllocGlobal>(rt: &R, path: &str, to: &mut Page) {
     if path.is_empty() {
-        return Ok(());
+        return;
     }
-    let text = fs::read(rt, path)?;
-    to.add(&text);
-    Ok(())
+    match fs::read(rt, path) {
+        Ok(text) => to.add(&text),
+        Err(_) => to.spoil(),
+    }
 }
 
-/// The crews that play each piece besides the one that its words ask for.
-const CREWS: [&[&str]; 3] = [&["-j", "4"], &["--pool", "-j", "4"], &["-j", "32"]];
-
-// Runs a case and prints its line.
-fn say<R: Print + AllocGlobal + Threads + Wait + Sync>(
+// Runs a case and adds its line. A piece that is played is played by other crews too.
+fn say<R: AllocGlobal + Threads + Wait + Sync>(
     rt: &R,
     name: &str,
     desk: &CaseDesk,
-) -> io::Result<()> {
+    out: &mut Page,
+) {
     let mut line = Page::new(rt.alloc());
-    let status = play(rt, name, desk, &[], &mut line)?;
-    said(rt, name, desk, status, line.bytes())
+    let crew = b"";
+    let status = play(rt, CaseRun { name, desk, crew }, &mut line);
+    out.add(line.shown());
+    if status == 0 && desk.is_for_any_crew() {
+        say_by(rt, name, desk, b"-j\n4\n", &line, out);
+        say_by(rt, name, desk, b"--pool\n-j\n4\n", &line, out);
+        say_by(rt, name, desk, b"-j\n32\n", &line, out);
+    }
 }
 
-// A piece that is played is played by other crews too.
-fn said<R: Print + AllocGlobal + Threads + Wait + Sync>(
+// Runs the case by a crew, and adds its line where it is another one.
+fn say_by<R: AllocGlobal + Threads + Wait + Sync>(
     rt: &R,
     name: &str,
     desk: &CaseDesk,
-    status: u8,
-    line: &[u8],
-) -> io::Result<()> {
-    print(rt, line)?;
-    if status != 0 || !desk.is_for_any_crew() {
-        return Ok(());
+    crew: &[u8],
+    line: &Page,
+    out: &mut Page,
+) {
+    let mut other = Page::new(rt.alloc());
+    play(rt, CaseRun { name, desk, crew }, &mut other);
+    if other.shown() != line.shown() {
+        out.add(b"another line, by ");
+        out.add_shown(crew);
+        out.add(b":\n");
+        out.add(other.shown());
     }
-    for crew in CREWS {
-        say_by(rt, name, desk, crew, line)?;
-    }
-    Ok(())
 }
 
-// Runs the case by a crew, and prints its line where it is another one.
-fn say_by<R: Print + AllocGlobal + Threads + Wait + Sync>(
-    rt: &R,
-    name: &str,
-    desk: &CaseDesk,
-    crew: &[&str],
-    line: &[u8],
-) -> io::Result<()> {
-    let mut out = Page::new(rt.alloc());
-    play(rt, name, desk, crew, &mut out)?;
-    say_other(rt, crew, out.bytes(), line)
-}
-
-fn say_other<R: Print>(rt: &R, crew: &[&str], out: &[u8], line: &[u8]) -> io::Result<()> {
-    if out == line {
-        return Ok(());
-    }
-    println!(rt; "another line, by {crew:?}:")?;
-    print(rt, out)
-}
-
-fn say_wrong<R: Print + AllocGlobal>(rt: &R, line: &[u8]) -> io::Result<()> {
-    let mut out = Page::new(rt.alloc());
+fn say_wrong(out: &mut Page, line: &[u8]) {
     out.add(b"not understood: ");
     out.add_shown(line);
     out.push(b'\n');
-    print(rt, out.bytes())
-}
-
-fn print<R: Print>(rt: &R, text: &[u8]) -> io::Result<()> {
-    io::writer(rt).write_all(text)
 }

@@ -1,55 +1,49 @@
 // The meters of a case: what each shows, and one that notes its drop.
 ghost use Rattle.std.specs.Prelude.{[], codes, nat_lt, if◌then◌else◌};
 
-use crate::desk::Once;
 use crate::made::CaseStage;
 use cs_edge::{MirrorTap, PeakTap, Tap};
-use std::alloc::{AllocError, Global};
+use std::alloc::Global;
 use std::sync::Arc;
 use std::sync::atomic::{AtomicU64, Ordering};
 
-/// The meters of a case.
-#[derive(Drop)]
-pub struct CaseMeters {
-    pub peak: Box<PeakTap>,
-    pub mirror: Option<Box<MirrorTap>>,
-    pub noted: Option<Box<DropTap>>,
+/// The meter of the peak; none where memory is refused.
+pub fn peak_of(alloc: Global) -> Option<Box<PeakTap>> {
+    match Box::new(alloc, PeakTap::new()) {
+        Ok(peak) => Some(peak),
+        Err(_) => None,
+    }
 }
 
-/// The meters of a case, the last of which counts its drop in `drops`.
-pub fn meters_of(
-    alloc: Global,
-    once: Once,
-    drops: &Arc<AtomicU64>,
-) -> Result<CaseMeters, AllocError> {
-    Ok(CaseMeters {
-        peak: Box::new(alloc, PeakTap::new())?,
-        mirror: mirror_of(alloc, once.mirror)?,
-        noted: noted_of(alloc, once.drops, drops)?,
-    })
-}
-
-// A mirror with this room; 0 is none.
-fn mirror_of(alloc: Global, room: u32) -> Result<Option<Box<MirrorTap>>, AllocError> {
+/// A mirror with this room; none for 0, and where memory is refused.
+pub fn mirror_of(alloc: Global, room: u32) -> Option<Box<MirrorTap>> {
     if room == 0 {
-        return Ok(None);
+        return None;
     }
-    match MirrorTap::new(alloc, room) {
-        Ok(mirror) => Ok(Some(Box::new(alloc, mirror)?)),
-        Err(_) => Err(AllocError),
+    let Ok(mirror) = MirrorTap::new(alloc, room) else {
+        return None;
+    };
+    match Box::new(alloc, mirror) {
+        Ok(mirror) => Some(mirror),
+        Err(_) => None,
     }
 }
 
-fn noted_of(
-    alloc: Global,
-    is_noted: bool,
-    drops: &Arc<AtomicU64>,
-) -> Result<Option<Box<DropTap>>, AllocError> {
+/// A meter that counts its drop in `drops` of the stage, where that is noted; none too where memory is refused.
+pub fn noted_of(alloc: Global, is_noted: bool, stage: &mut CaseStage) -> Option<Box<DropTap>> {
     if !is_noted {
-        return Ok(None);
+        return None;
     }
-    let drops = Arc::try_clone(drops)?;
-    Ok(Some(Box::new(alloc, DropTap { drops })?))
+    let Ok(drops) = Arc::new(alloc, AtomicU64::new(0)) else {
+        return None;
+    };
+    if let Ok(noted) = Arc::try_clone(&drops) {
+        stage.drops = Some(noted);
+    }
+    match Box::new(alloc, DropTap { drops }) {
+        Ok(noted) => Some(noted),
+        Err(_) => None,
+    }
 }
 
 /// A meter that keeps nothing, says `third.`, and counts when it is dropped.
@@ -81,19 +75,33 @@ impl Tap for DropTap {
 }
 
 /// Adds the lines of meters, in their order, without that of the peak unless the case notes drops.
-pub fn add_lines(taps: &[Box<dyn Tap>], once: Once, stage: &mut CaseStage) {
-    let first = if once.drops { 0 } else { 1 };
-    for tap in taps.get(first..).unwrap_or(&[]) {
+pub fn add_lines(taps: &[Box<dyn Tap>], with_peak: bool, stage: &mut CaseStage) {
+    let mut is_shown = with_peak;
+    for tap in taps {
         let mut line = [0u8; 64];
         let count = tap.line(&mut line);
-        stage.told.add(&line[..count.min(64)]);
+        if is_shown {
+            stage.told.add(line.get(..count).unwrap_or(&[]));
+        }
+        is_shown = true;
     }
-    stage.early = stage.drops.load(Ordering::SeqCst);
+    stage.early = dropped(stage);
 }
 
-/// Adds whether a meter was dropped with the vector and not before.
+// How many meters were dropped; 0 where that isn't noted.
+fn dropped(stage: &CaseStage) -> u64 {
+    match &stage.drops {
+        Some(drops) => drops.load(Ordering::SeqCst),
+        None => 0,
+    }
+}
+
+/// Adds whether a meter was dropped with the vector and not before, where that is noted.
 pub fn add_drops(stage: &mut CaseStage) {
-    let dropped = stage.drops.load(Ordering::SeqCst);
+    if stage.drops.is_none() {
+        return;
+    }
+    let dropped = dropped(stage);
     stage.told.add(match (stage.early, dropped) {
         (0, 1) => b" dropped with the vector",
         (0, _) => b" not dropped once",

@@ -3,7 +3,7 @@ use std::alloc::Global;
 
 const DIGITS: [u8; 16] = *b"0123456789abcdef";
 
-/// What was written. Where memory was refused it isn't whole.
+/// What was written. Where memory or a file was refused it isn't whole.
 #[derive(Drop)]
 pub struct Page {
     alloc: Global,
@@ -26,6 +26,19 @@ impl Page {
 
     pub fn is_whole(&self) -> bool {
         self.whole
+    }
+
+    /// What is shown of it: that it isn't whole, where so.
+    pub fn shown(&self) -> &[u8] {
+        if self.whole {
+            &self.bytes
+        } else {
+            b"memory or a file was refused\n"
+        }
+    }
+
+    pub fn spoil(&mut self) {
+        self.whole = false;
     }
 
     pub fn clear(&mut self) {

@@ -1,140 +1,105 @@
 // The runs of a case.
 use crate::desk::CaseDesk;
-use crate::made::{CaseStage, files_of, shelf_of, stage_of, words_of};
-use crate::meters::{CaseMeters, add_drops, add_lines, meters_of};
+use crate::made::{CaseStage, add_words, files_of, shelf_of};
+use crate::meters::{add_drops, add_lines, mirror_of, noted_of, peak_of};
 use crate::page::Page;
-use crate::show::{CaseOutcome, add_line};
+use crate::show::add_line;
 use cs_desk::Tally;
 use cs_edge::{MemShelf, SureShelf, SureSink, Tap};
 use cs_play::csplay;
-use std::alloc::AllocError;
 use std::sync::Wait;
 use std::thread::Threads;
 
-/// A case under its name, with all its words.
+/// A case under its name, and the words that come before its own, one a line.
 #[derive(Clone, Copy)]
-struct CaseRun<'a> {
-    name: &'a str,
-    desk: &'a CaseDesk,
-    words: &'a [String],
+pub struct CaseRun<'a> {
+    pub name: &'a str,
+    pub desk: &'a CaseDesk,
+    pub crew: &'a [u8],
 }
 
-/// Runs a case, with these words before its own, and writes its line. Returns its status.
+/// Runs a case, over one shelf, and writes the line of its last run. Returns the status.
 pub fn play<R: AllocGlobal + Threads + Wait + Sync>(
-    rt: &R,
-    name: &str,
-    desk: &CaseDesk,
-    crew: &[&str],
-    out: &mut Page,
-) -> Result<u8, AllocError> {
-    if !desk.is_whole() {
-        return Err(AllocError);
-    }
-    let words = words_of(rt.alloc(), crew, desk)?;
-    let words = &words;
-    on_one_shelf(rt, CaseRun { name, desk, words }, out)
-}
-
-// The runs of a case, over one shelf; the line of the last one stays.
-fn on_one_shelf<R: AllocGlobal + Threads + Wait + Sync>(
     rt: &R,
     case: CaseRun<'_>,
     out: &mut Page,
-) -> Result<u8, AllocError> {
-    let mut shelf = shelf_of(rt.alloc(), case.desk)?;
+) -> u8 {
+    let mut words = Vec::new(rt.alloc());
+    add_words(&mut words, case.crew, case.desk, out);
+    let mut shelf = shelf_of(rt.alloc(), case.desk, out);
     if case.desk.once.twice {
-        run(rt, case, &mut shelf, out)?;
+        run(rt, case, &words, &mut shelf, out);
         out.clear();
     }
-    run(rt, case, &mut shelf, out)
+    let status = run(rt, case, &words, &mut shelf, out);
+    drop(shelf);
+    status
 }
 
 // One run, on a new stage.
 fn run<R: AllocGlobal + Threads + Wait + Sync>(
     rt: &R,
     case: CaseRun<'_>,
+    words: &[String],
     shelf: &mut MemShelf,
     out: &mut Page,
-) -> Result<u8, AllocError> {
-    let mut stage = stage_of(rt.alloc(), case.desk.once)?;
-    shown(rt, case, shelf, &mut stage, out)
+) -> u8 {
+    let mut stage = CaseStage::new(rt.alloc(), case.desk.once);
+    let status = metered(rt, case.desk, words, shelf, &mut stage);
+    add_drops(&mut stage);
+    add_line(out, case, status, shelf, &stage);
+    drop(stage);
+    status
 }
 
-fn shown<R: AllocGlobal + Threads + Wait + Sync>(
-    rt: &R,
-    case: CaseRun<'_>,
-    shelf: &mut MemShelf,
-    stage: &mut CaseStage,
-    out: &mut Page,
-) -> Result<u8, AllocError> {
-    let meters = meters_of(rt.alloc(), case.desk.once, &stage.drops)?;
-    let status = metered(rt, case, shelf, stage, meters)?;
-    if case.desk.once.drops {
-        add_drops(stage);
-    }
-    let outcome = CaseOutcome {
-        status,
-        shelf,
-        stage,
-    };
-    add_line(out, case.name, case.desk.once, outcome);
-    if outcome.stage.told.is_whole() && out.is_whole() {
-        Ok(status)
-    } else {
-        Err(AllocError)
-    }
-}
-
-// These meters become one list here, since a function that hands such a list out isn't proved.
+// The list of the meters is made here, since a function that hands such a list out isn't proved.
 fn metered<R: AllocGlobal + Threads + Wait + Sync>(
     rt: &R,
-    case: CaseRun<'_>,
+    desk: &CaseDesk,
+    words: &[String],
     shelf: &mut MemShelf,
     stage: &mut CaseStage,
-    meters: CaseMeters,
-) -> Result<u8, AllocError> {
-    let CaseMeters {
-        peak,
-        mirror,
-        noted,
-    } = meters;
+) -> u8 {
     let mut taps: Vec<Box<dyn Tap>> = Vec::new(rt.alloc());
-    let has_peak = taps.push(peak).is_ok();
-    let has_mirror = match mirror {
+    let has_peak = match peak_of(rt.alloc()) {
+        Some(peak) => taps.push(peak).is_ok(),
+        None => false,
+    };
+    let has_mirror = match mirror_of(rt.alloc(), desk.once.mirror) {
         Some(mirror) => taps.push(mirror).is_ok(),
-        None => true,
+        None => desk.once.mirror == 0,
     };
-    let has_noted = match noted {
+    let has_noted = match noted_of(rt.alloc(), desk.once.drops, stage) {
         Some(noted) => taps.push(noted).is_ok(),
-        None => true,
+        None => !desk.once.drops,
     };
-    if has_peak && has_mirror && has_noted {
-        told(rt, case, shelf, stage, &mut taps)
-    } else {
-        Err(AllocError)
+    if !(has_peak && has_mirror && has_noted) {
+        stage.told.spoil();
     }
+    told(rt, desk, words, shelf, stage, &mut taps)
 }
 
 // What the meters of a case show comes to its stage.
 fn told<R: AllocGlobal + Threads + Wait + Sync>(
     rt: &R,
-    case: CaseRun<'_>,
+    desk: &CaseDesk,
+    words: &[String],
     shelf: &mut MemShelf,
     stage: &mut CaseStage,
     taps: &mut Vec<Box<dyn Tap>>,
-) -> Result<u8, AllocError> {
-    let status = if case.desk.once.sure {
-        surely(rt, case, stage, taps)?
+) -> u8 {
+    let status = if desk.once.sure {
+        surely(rt, desk, words, stage, taps)
     } else {
-        performed(rt, case, shelf, stage, taps)
+        performed(rt, words, shelf, stage, taps)
     };
-    add_lines(taps, case.desk.once, stage);
-    Ok(status)
+    add_lines(taps, desk.once.drops, stage);
+    status
 }
 
 fn performed<R: AllocGlobal + Threads + Wait + Sync>(
     rt: &R,
-    case: CaseRun<'_>,
+    words: &[String],
     shelf: &mut MemShelf,
     stage: &mut CaseStage,
     taps: &mut Vec<Box<dyn Tap>>,
@@ -142,7 +107,7 @@ fn performed<R: AllocGlobal + Threads + Wait + Sync>(
     csplay(
         rt,
         rt.alloc(),
-        case.words,
+        words,
         shelf,
         &mut stage.wav,
         &mut stage.talk,
@@ -156,21 +121,22 @@ fn performed<R: AllocGlobal + Threads + Wait + Sync>(
 // The same over objects that never fail.
 fn surely<R: AllocGlobal + Threads + Wait + Sync>(
     rt: &R,
-    case: CaseRun<'_>,
-    stage: &CaseStage,
+    desk: &CaseDesk,
+    words: &[String],
+    stage: &mut CaseStage,
     taps: &mut Vec<Box<dyn Tap>>,
-) -> Result<u8, AllocError> {
-    let mut shelf = SureShelf::new(files_of(rt.alloc(), case.desk)?);
-    let status = csplay(
+) -> u8 {
+    let mut shelf = SureShelf::new(files_of(rt.alloc(), desk, &mut stage.told));
+    csplay(
         rt,
         rt.alloc(),
-        case.words,
+        words,
         &mut shelf,
         &mut SureSink::new(),
         &mut SureSink::new(),
         taps,
         &stage.gate,
         &mut Tally::new(),
-    );
-    Ok(status.number())
+    )
+    .number()
 }

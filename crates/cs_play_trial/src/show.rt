@@ -3,37 +3,40 @@ use crate::desk::Once;
 use crate::gate::{CaseGate, Task};
 use crate::made::CaseStage;
 use crate::page::Page;
+use crate::play::CaseRun;
 use crate::wave::add_wave;
 use cs_edge::{MemShelf, Move};
 
-/// What a run left.
-#[derive(Clone, Copy)]
-pub struct CaseOutcome<'a> {
-    pub status: u8,
-    pub shelf: &'a MemShelf,
-    pub stage: &'a CaseStage,
-}
-
 /// Writes a case's line: its name, the status, the line on talk (the report where it is asked for), and the sound file
 /// where one was begun.
-pub fn add_line(out: &mut Page, name: &str, once: Once, outcome: CaseOutcome<'_>) {
-    out.add_shown(name.as_bytes());
+pub fn add_line(
+    out: &mut Page,
+    case: CaseRun<'_>,
+    status: u8,
+    shelf: &MemShelf,
+    stage: &CaseStage,
+) {
+    let once = &case.desk.once;
+    out.add_shown(case.name.as_bytes());
     out.add(b": ");
-    out.add_number(u64::from(outcome.status));
-    if outcome.status != 0 || once.report {
-        add_talk(out, outcome.stage.talk.taken());
+    out.add_number(u64::from(status));
+    if status != 0 || once.report {
+        add_talk(out, stage.talk.taken());
     }
-    add_seen(out, once, outcome.stage);
+    add_seen(out, once, stage);
     if once.calls {
-        add_calls(out, "; shelf", outcome.shelf.moves());
-        add_calls(out, "; wav", outcome.stage.wav.moves());
-        add_calls(out, "; talk", outcome.stage.talk.moves());
+        add_calls(out, b"; shelf", shelf.moves());
+        add_calls(out, b"; wav", stage.wav.moves());
+        add_calls(out, b"; talk", stage.talk.moves());
     }
     out.push(b'\n');
+    if !stage.told.is_whole() {
+        out.spoil();
+    }
 }
 
 // The sound file, where one was begun, and what the gate and the meters show.
-fn add_seen(out: &mut Page, once: Once, stage: &CaseStage) {
+fn add_seen(out: &mut Page, once: &Once, stage: &CaseStage) {
     if !stage.wav.moves().is_empty() {
         add_sound(out, stage.wav.taken(), once.hex);
     }
@@ -95,47 +98,52 @@ fn add_sound(out: &mut Page, wav: &[u8], hex: bool) {
     }
 }
 
+/// Equal calls, one after another.
+#[derive(Clone, Copy)]
+struct Alike {
+    kind: &'static str,
+    times: u64,
+}
+
 // The calls made on an object, equal ones together; none is nothing.
-fn add_calls(out: &mut Page, object: &str, moves: &[Move]) {
+fn add_calls(out: &mut Page, object: &[u8], moves: &[Move]) {
     if moves.is_empty() {
         return;
     }
-    out.add(object.as_bytes());
-    let mut before = "";
-    let mut times = 0u64;
+    out.add(object);
+    let mut alike = Alike { kind: "", times: 0 };
     for made in moves {
-        let kind = kind_of(made);
-        if kind != before {
-            add_times(out, before, times);
-            times = 0;
-        }
-        if let Move::Begin(name) = made {
-            out.add(b" begin ");
-            out.add_shown(name.as_str().as_bytes());
-        }
-        before = kind;
-        times = times.saturating_add(1);
+        alike = add_call(out, alike, made);
     }
-    add_times(out, before, times);
+    add_alike(out, alike);
 }
 
-// A begin is written at once, with its name.
-fn kind_of(made: &Move) -> &'static str {
-    match made {
-        Move::Begin(_) => "",
+// Adds those before a call where it is another, and returns how often it came. A begin is written at once, with its
+// name.
+fn add_call(out: &mut Page, before: Alike, made: &Move) -> Alike {
+    let kind = match made {
         Move::Read => " read",
         Move::Write => " write",
         Move::End => " end",
+        Move::Begin(name) => {
+            add_alike(out, before);
+            out.add(b" begin ");
+            out.add_shown(name.as_str().as_bytes());
+            return Alike { kind: "", times: 0 };
+        }
+    };
+    if kind == before.kind {
+        let times = before.times.saturating_add(1);
+        return Alike { kind, times };
     }
+    add_alike(out, before);
+    Alike { kind, times: 1 }
 }
 
-fn add_times(out: &mut Page, kind: &str, times: u64) {
-    if kind.is_empty() {
-        return;
-    }
-    out.add(kind.as_bytes());
-    if times > 1 {
+fn add_alike(out: &mut Page, alike: Alike) {
+    out.add(alike.kind.as_bytes());
+    if alike.times > 1 {
         out.add(b" x ");
-        out.add_number(times);
+        out.add_number(alike.times);
     }
 }
