@@ -51,13 +51,7 @@ first_of x rest utf8 = go utf8.0 utf8.1.1
 pub no_letter : (x : ℕ) (rest : Text) → IsUtf8 (x ∷ rest) → is_flag_letter x ≡ false → is_value_letter x ≡ false
     → (y : ℕ) × (slice_get (chars (x ∷ rest)) 0 ≡ Some y) × (is_flag_letter y ≡ false) × (is_value_letter y ≡ false)
 no_letter x rest utf8 no_flag no_value =
-    let first = first_of x rest utf8 in (
-      first.0,
-      first.1,
-      not_flag first.0 first.2 (is_flag_letter first.0) refl,
-      not_value first.0 first.2
-          (is_value_letter first.0) refl,
-    )
+    let first = first_of _ _ utf8 in (first.0, first.1, not_flag _ first.2 _ refl, not_value _ first.2 _ refl)
   where
     not_flag : (y : ℕ) → (y < 128 → x ≡ y) → (b : Bool) → is_flag_letter y ≡ b → is_flag_letter y ≡ false
     not_flag y same true e = ap is_flag_letter (sym (same (low_flag y e))) ∙ no_flag

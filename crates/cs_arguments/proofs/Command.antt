@@ -1,11 +1,10 @@
 -- The command's own rules are such as the walk asks for, and each value is judged as the reading judges it.
 use Rattle.std.proofs.lemmas.{Grind.common_steps, Slice.Eq.bytes_eq-Decides}
-use Rattle.std.proofs.Common.{◌≡◌, ◌&&◌, ◌∷◌, ◌<◌, ◌^◌, ℕ, ℤ, pos, zero, suc, neg_ℤ, Bool, true, false, cond, [], Some}
-use Rattle.std.proofs.Common.{None, refl, subst, codes, bytes_eq, length, nat_lt, nat_le, int_le, drop, eqb-true, arith}
+use Rattle.std.proofs.Common.{◌≡◌, ◌&&◌, ◌∷◌, ◌<◌, ◌^◌, ℕ, pos, zero, suc, neg_ℤ, true, false, [], Some}
+use Rattle.std.proofs.Common.{None, refl, subst, codes, bytes_eq, length, nat_lt, nat_le, int_le, eqb-true, arith}
 use Rattle.std.proofs.Common.{leb-true, lt-ltb}
-use Rattle.std.specs.Str.Parse.{digits_value, without_leading_plus}
 use Rattle.std.proofs.lemmas.Bool.{and_left, and_right, or_parts}
-use Rattle.clap.specs.ValueTests.{is_signed_in, is_numeral, fits_i64}
+use Rattle.clap.specs.ValueTests.{is_signed_in}
 use Rattle.clap.specs.Walk.{arg_by_short, arg_by_long}
 use Rattle.cs_arguments.specs.Reading.{Text, is_number, is_flag_letter, is_value_letter, is_flag_name, is_value_name}
 use Rattle.cs_arguments.specs.Ranges.{most_workers, most_demo_notes}

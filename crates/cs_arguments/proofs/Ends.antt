@@ -50,8 +50,7 @@ nothing_else : (k : Kinds) → or_else k [] ≡ k
 nothing_else [] = refl
 nothing_else (x ∷ k) = refl
 
-level_is : (words : List Text)
-    → level_fault (shape the_rules) [] nothing_held words false [] ≡ all_faults the_rules
+level_is : (words : List Text) → level_fault (shape the_rules) [] nothing_held words false [] ≡ all_faults the_rules
     (clap_at (open_at [] None false no_name)) words
 level_is words =
     grind (arith, common_steps, clap_at, defaults_clear, no_faults, no_name, nothing_else, open_at, walk_end)

@@ -1,9 +1,8 @@
 -- What a word looks like: to clap's lexer and to the reading.
-use Rattle.std.proofs.Common.{◌≡◌, ◌==◌, ◌∷◌, ℕ, Bool, true, false, cond, [], Option, Some, None, refl, sym, ap, subst}
+use Rattle.std.proofs.Common.{◌≡◌, ◌==◌, ◌∷◌, ℕ, Bool, true, false, [], Option, Some, None, refl, sym, ap, subst}
 use Rattle.std.proofs.Common.{bytes_eq, IsUtf8, arith, eqb-true}
-use Rattle.std.specs.List.{list_any, before_first, after_first}
 use Rattle.clap.specs.Lexer.{long_of, short_of}
-use Rattle.cs_arguments.specs.Reading.{Text, Said, plain, unless_wanting, worded, lettered, titled, is_equals}
+use Rattle.cs_arguments.specs.Reading.{Text, Said, plain, unless_wanting, worded, lettered, titled}
 use Rattle.cs_arguments.proofs.Chars.{low_tail}
 
 abbrev pub dashes : Text
@@ -30,8 +29,7 @@ letters_form y ys e utf8 =
     some_letters y ys utf8 (simp e refl) (simp e refl) (simp e refl) (λ s. ap (unless_wanting s.wants) (simp e refl))
 
 title_form : (z : ℕ) (zs : Text) → Form (45 ∷ 45 ∷ z ∷ zs)
-title_form z zs = a_title (before_first is_equals (z ∷ zs))
-    (cond (list_any is_equals (z ∷ zs)) (Some (after_first is_equals (z ∷ zs))) None) refl refl (λ s. refl)
+title_form z zs = a_title _ _ refl refl (λ s. refl)
 
 dash_form : (rest : Text) → IsUtf8 (45 ∷ rest) → Form (45 ∷ rest)
 dash_form [] utf8 = a_name refl refl refl (λ s. refl)

@@ -1,16 +1,15 @@
 -- A word of flags, by clap's walk and by the reading.
-use Rattle.std.proofs.Common.{arith, ◌≡◌, ◌==◌, ◌∙◌, ◌++◌, ◌∷◌, ◌<◌, ℕ, Bool, true, false, cond, List, Option, Some}
-use Rattle.std.proofs.Common.{None, [], refl, sym, ap, subst, codes, true≢false, length, IsUtf8, chars, slice_get, drop}
-use Rattle.std.proofs.Common.{encode_utf8}
+use Rattle.std.proofs.Common.{arith, ◌≡◌, ◌==◌, ◌∙◌, ◌++◌, ◌∷◌, ℕ, Bool, true, false, cond, List, Option, Some}
+use Rattle.std.proofs.Common.{None, [], refl, sym, ap, subst, codes, true≢false, length, IsUtf8, chars, slice_get}
 use Rattle.std.proofs.lemmas.{Grind.common_steps, Bool.and_left}
 use Rattle.std.specs.Bool.{⊤}
 use Rattle.clap.specs.Kinds.{Kinds, or_else}
-use Rattle.clap.specs.Faults.{react_fault, option_fault, short_fault, bundle_step_fault, flags_fault, long_fault}
-use Rattle.clap.specs.Walk.{Held, Outcome, Rule, done, waits, reacted, option_met, short_met, bundle_step, bundle_met}
-use Rattle.clap.specs.Walk.{long_met, attached_value, arg_by_short, arg_by_long}
+use Rattle.clap.specs.Faults.{react_fault, option_fault, bundle_step_fault, flags_fault, long_fault}
+use Rattle.clap.specs.Walk.{Held, Outcome, Rule, done, waits, reacted, option_met, bundle_step, bundle_met}
+use Rattle.clap.specs.Walk.{long_met, attached_value, arg_by_long}
 use Rattle.cs_arguments.specs.Reading.{Text, Use, Said, used, valued, lettered, titled, is_flag_letter, is_value_letter}
 use Rattle.cs_arguments.specs.Reading.{is_flag_name, is_value_name}
-use Rattle.cs_arguments.specs.{Command.flag_rule, Command.option_rule, Taken.good, Taken.rows}
+use Rattle.cs_arguments.specs.{Command.option_rule, Taken.good, Taken.rows}
 use Rattle.cs_arguments.proofs.Chars.{low_flag, low_value, low_first, low_rest, low_tail, no_letter}
 use Rattle.cs_arguments.proofs.Walking.{clear, clear_nil, clear_or, bad_more, Does, Judges, option_does, flag_does}
 use Rattle.cs_arguments.proofs.Walking.{held, with_open, IsOpen, settle_clear, settled_held, react_clear, react_held}
@@ -36,10 +35,6 @@ abbrev pub Met : Option Said → Kinds → Held × Outcome → Type 0
 Met None fault met = clear fault ≡ false
 Met (Some s) fault met = (clear fault ≡ good s.uses) × (good s.uses ≡ true → met ≡ (now_held s, outcome_for s.wants))
 
-pub met_by : (o p : Option Said) (f g : Kinds) (m n : Held × Outcome) → o ≡ p → f ≡ g → m ≡ n → Met p g n → Met o f m
-met_by o p f g m n e1 e2 e3 h =
-    subst (λ x. Met x f m) (sym e1) (subst (λ y. Met p y m) (sym e2) (subst (λ z. Met p g z) (sym e3) h))
-
 -- uses that aren't good never become good
 abbrev pub Bad : Option Said → Type 0
 Bad None = ⊤
@@ -55,15 +50,14 @@ valued_bad key (x ∷ rest) s bad = bad_more s.uses _ bad
 
 pub lettered_bad : (flags : Text) (s : Said) → good s.uses ≡ false → Bad (lettered flags s)
 lettered_bad [] s bad = bad
-lettered_bad (x ∷ rest) s bad =
-    grind (
-      arith,
-      common_steps,
-      bad_more,
-      codes,
-      valued_bad,
-      lettered_bad rest (used (x ∷ []) (codes "true") s) (bad_more s.uses _ bad),
-    )
+lettered_bad (x ∷ rest) s bad = grind (
+  arith,
+  common_steps,
+  bad_more,
+  codes,
+  valued_bad,
+  lettered_bad rest (used (x ∷ []) (codes "true") s) (bad_more s.uses _ bad),
+)
 
 pub titled_bad : (name : Text) (value : Option Text) (s : Said) → good s.uses ≡ false → Bad (titled name value s)
 titled_bad name None s bad = grind (arith, common_steps, bad_more, codes)
@@ -72,27 +66,23 @@ titled_bad name (Some value) s bad = grind (arith, common_steps, bad_more)
 -- ---- one flag or option
 
 value_then : (c : List Rule) (key : Text) (long : Option Text) (short index : Option ℕ) (value : Text) (us : List Use)
-    (p : Option Use) → Judges key → IsOpen c p → good us ≡ true
-    → Met (Some (used key value (state (with_open us p))))
+    (p : Option Use) → Judges key → IsOpen c p → good us ≡ true → Met (Some (used key value (state (with_open us p))))
     (option_fault c false (option_rule key long short index) (Some value) (held us p))
     (option_met c (option_rule key long short index) (Some value) (held us p))
 value_then c key long short index value us p reads opened fine =
-    let does = option_does key long short index value reads in (
-      react_clear c (option_rule key long short index) (value ∷ []) us p (key, value) does opened fine,
-      λ ok. ap (λ h. (h, done))
-          (react_held c (option_rule key long short index) (value ∷ []) us p (key, value) does opened ok),
+    let does = option_does _ long short index _ reads in (
+      react_clear _ _ _ _ _ _ does opened fine,
+      λ ok. ap (λ h. (h, done)) (react_held _ _ _ _ _ _ does opened ok),
     )
 
 wait_then : (c : List Rule) (key : Text) (long : Option Text) (short index : Option ℕ) (us : List Use) (p : Option Use)
-    → IsOpen c p → good us ≡ true
-    → Met (Some (record (state (with_open us p)) { wants = Some key }))
+    → IsOpen c p → good us ≡ true → Met (Some (record (state (with_open us p)) { wants = Some key }))
     (option_fault c false (option_rule key long short index) None (held us p))
     (option_met c (option_rule key long short index) None (held us p))
 wait_then c key long short index us p opened fine = grind (arith, common_steps, settle_clear, settled_held)
 
 flag_alone : (c : List Rule) (a : Rule) (u : Use) (us : List Use) (p : Option Use) → Does a [] u → IsOpen c p
-    → good us ≡ true
-    → Met (Some (used u.0 u.1 (state (with_open us p)))) (react_fault c false a [] (held us p))
+    → good us ≡ true → Met (Some (used u.0 u.1 (state (with_open us p)))) (react_fault c false a [] (held us p))
     (reacted c a [] (held us p), done)
 flag_alone c a u us p does opened fine = (
   react_clear c a [] us p u does opened fine,
@@ -107,8 +97,7 @@ Goes c rest = (us : List Use) → IsUtf8 rest → good us ≡ true
 
 flag_then : (c : List Rule) (a : Rule) (u : Use) (us : List Use) (p : Option Use) (rest : Text) → Does a [] u
     → IsOpen c p → good us ≡ true → IsUtf8 rest → Goes c rest
-    → Met (lettered rest (state (with_open us p ++ u ∷ [])))
-    (or_else (react_fault c false a [] (held us p))
+    → Met (lettered rest (state (with_open us p ++ u ∷ []))) (or_else (react_fault c false a [] (held us p))
     (flags_fault c false (length rest) rest 0 (reacted c a [] (held us p))))
     (bundle_met c (length rest) rest 0 done (reacted c a [] (held us p)))
 flag_then c a u us p rest does opened fine utf8 goes = go (good (with_open us p ++ u ∷ [])) refl
@@ -118,19 +107,12 @@ flag_then c a u us p rest does opened fine utf8 goes = go (good (with_open us p 
         (flags_fault c false (length rest) rest 0 (reacted c a [] (held us p))))
         (bundle_met c (length rest) rest 0 done (reacted c a [] (held us p)))
     go true e =
-        let is_held = react_held c a [] us p u does opened e in
-        let no_fault = clear_nil (react_fault c false a [] (held us p))
-        (react_clear c a [] us p u does opened fine ∙ e) in
-        met_by (lettered rest (state (with_open us p ++ u ∷ []))) (lettered rest (state (with_open us p ++ u ∷ []))) _ _
-        _ _ refl
-        (ap (λ k. or_else k (flags_fault c false (length rest) rest 0 (reacted c a [] (held us p)))) no_fault
-        ∙ ap (λ h. flags_fault c false (length rest) rest 0 h) is_held)
-        (ap (λ h. bundle_met c (length rest) rest 0 done h) is_held) (goes (with_open us p ++ u ∷ []) utf8 e)
-    go false e = met_bad (lettered rest (state (with_open us p ++ u ∷ []))) _ _
-        (lettered_bad rest (state (with_open us p ++ u ∷ [])) e)
-        (clear_or (react_fault c false a [] (held us p))
-        (flags_fault c false (length rest) rest 0 (reacted c a [] (held us p)))
-        ∙ and_left _ _ (react_clear c a [] us p u does opened fine ∙ e))
+        rw (
+          clear_nil (react_fault c false a [] (held us p)) (react_clear c a [] us p u does opened fine ∙ e),
+          react_held c a [] us p u does opened e,
+        ) (goes (with_open us p ++ u ∷ []) utf8 e)
+    go false e = met_bad _ _ _
+        (lettered_bad rest _ e) (clear_or _ _ ∙ and_left _ _ (react_clear _ _ [] us p u does opened fine ∙ e))
 
 -- ---- the letters of a word
 
@@ -146,9 +128,8 @@ value_letter c is x [] us p value opened fine = wait_then c (x ∷ []) None (Som
 value_letter c is x (y ∷ ys) us p value opened fine =
     subst (λ v. Met (Some (valued (x ∷ []) (y ∷ ys) (state (with_open us p))))
     (option_fault c false (option_rule (x ∷ []) None (Some x) None) v (held us p))
-    (option_met c (option_rule (x ∷ []) None (Some x) None) v (held us p))) (sym (attached y ys))
-    (value_then c (x ∷ []) None (Some x) None (cond (y == 61) ys (y ∷ ys)) us p (is.value_letter_key x value).reads
-    opened fine)
+    (option_met c (option_rule (x ∷ []) None (Some x) None) v (held us p))) (sym (attached _ _))
+    (value_then _ _ None (Some x) None _ _ _ (is.value_letter_key x value).reads opened fine)
 
 one_letter : (c : List Rule) (is : IsCommand c) (x : ℕ) (rest : Text) (us : List Use) (p : Option Use)
     (so_far : Outcome) → IsUtf8 (x ∷ rest) → IsOpen c p → good us ≡ true → Goes c rest
@@ -158,61 +139,21 @@ one_letter : (c : List Rule) (is : IsCommand c) (x : ℕ) (rest : Text) (us : Li
     (bundle_step c (slice_get (chars (x ∷ rest)) 0) (x ∷ rest) 0 so_far (held us p) (bundle_met c (length rest)))
 one_letter c is x rest us p so_far utf8 opened fine goes = go (is_flag_letter x) refl (is_value_letter x) refl
   where
-    fault_low : x < 128 → bundle_step_fault c false (slice_get (chars (x ∷ rest)) 0) (x ∷ rest) 0 (held us p)
-        (flags_fault c false (length rest))
-        ≡ short_fault c false (arg_by_short c x) rest (held us p) (flags_fault c false (length rest) rest 0)
-    fault_low low = ap (λ o. bundle_step_fault c false o (x ∷ rest) 0 (held us p) (flags_fault c false (length rest)))
-        (low_first x rest low utf8)
-        ∙ ap (λ r. short_fault c false (arg_by_short c x) r (held us p) (flags_fault c false (length rest) r 0))
-        (low_rest x rest low)
-
-    met_low : x < 128 → bundle_step c (slice_get (chars (x ∷ rest)) 0) (x ∷ rest) 0 so_far (held us p)
-        (bundle_met c (length rest))
-        ≡ short_met c (arg_by_short c x) rest (held us p) (bundle_met c (length rest) rest 0 done)
-    met_low low = ap (λ o. bundle_step c o (x ∷ rest) 0 so_far (held us p) (bundle_met c (length rest)))
-        (low_first x rest low utf8)
-        ∙ ap (λ r. short_met c (arg_by_short c x) r (held us p) (bundle_met c (length rest) r 0 done))
-        (low_rest x rest low)
-
-    said_by : Bool → Bool → Option Said
-    said_by f v = cond f (lettered rest (used (x ∷ []) (codes "true") (state (with_open us p))))
-        (cond v (Some (valued (x ∷ []) rest (state (with_open us p)))) None)
-
     go : (f : Bool) → is_flag_letter x ≡ f → (v : Bool) → is_value_letter x ≡ v
         → Met (lettered (x ∷ rest) (state (with_open us p)))
         (bundle_step_fault c false (slice_get (chars (x ∷ rest)) 0) (x ∷ rest) 0 (held us p)
         (flags_fault c false (length rest)))
         (bundle_step c (slice_get (chars (x ∷ rest)) 0) (x ∷ rest) 0 so_far (held us p) (bundle_met c (length rest)))
     go true f v e =
-        let low = low_flag x f in
-        met_by (lettered (x ∷ rest) (state (with_open us p))) (said_by true (is_value_letter x)) _ _ _ _
-        (ap (λ b. said_by b (is_value_letter x)) f)
-        (fault_low low ∙ ap (λ o. short_fault c false o rest (held us p) (flags_fault c false (length rest) rest 0))
-        (is.flag_letter x f))
-        (met_low low ∙ ap (λ o. short_met c o rest (held us p) (bundle_met c (length rest) rest 0 done))
-        (is.flag_letter x f))
-        (flag_then c (flag_rule (x ∷ []) None (Some x)) (x ∷ [], codes "true") us p rest
-        (flag_does (x ∷ []) None (Some x) (is.flag_letter_key x f)) opened fine (low_tail x rest low utf8) goes)
+        let low = low_flag _ f in
+        rw (f, low_first x rest low utf8, low_rest x rest low, is.flag_letter x f) (flag_then _ _ _ _ _ _
+        (flag_does (x ∷ []) None (Some x) (is.flag_letter_key x f)) opened fine (low_tail _ _ low utf8) goes)
     go false f true e =
         let low = low_value x e in
-        met_by (lettered (x ∷ rest) (state (with_open us p))) (said_by false true) _ _ _ _
-        (ap (λ b. said_by b (is_value_letter x)) f ∙ ap (λ b. said_by false b) e)
-        (fault_low low ∙ ap (λ o. short_fault c false o rest (held us p) (flags_fault c false (length rest) rest 0))
-        (is.value_letter x e))
-        (met_low low ∙ ap (λ o. short_met c o rest (held us p) (bundle_met c (length rest) rest 0 done))
-        (is.value_letter x e))
+        rw (f, e, low_first x rest low utf8, low_rest x rest low, is.value_letter x e)
         (value_letter c is x rest us p e opened fine)
     go false f false e =
-        let first = no_letter x rest utf8 f e in
-        let unknown : (o : Option Rule) (r : Text) → o ≡ None
-        → clear (short_fault c false o r (held us p) (flags_fault c false (length rest) r 0)) ≡ false =
-        λ o r k. ap (λ q. clear (short_fault c false q r (held us p) (flags_fault c false (length rest) r 0))) k in
-        met_by (lettered (x ∷ rest) (state (with_open us p))) (said_by false false) _ _ _ _
-        (ap (λ b. said_by b (is_value_letter x)) f ∙ ap (λ b. said_by false b) e)
-        (ap (λ o. bundle_step_fault c false o (x ∷ rest) 0 (held us p) (flags_fault c false (length rest))) first.1)
-        refl
-        (unknown (arg_by_short c first.0) (drop (length (encode_utf8 first.0)) (x ∷ rest))
-        (is.no_letter first.0 first.2 first.3))
+        let first = no_letter x rest utf8 f e in rw (f, e, first.1, is.no_letter first.0 first.2 first.3) refl
 
 abbrev IsReady : Text → Option Use → Outcome → Type 0
 IsReady (x ∷ rest) p so_far = ⊤
@@ -246,46 +187,20 @@ pub titles : (c : List Rule) (is : IsCommand c) (name : Text) (value : Option Te
     (long_met c (arg_by_long c name) value (held us p))
 titles c is name None us p opened fine = go (is_value_name name) refl (is_flag_name name) refl
   where
-    said_by : Bool → Bool → Option Said
-    said_by v f = cond v (Some (record (state (with_open us p)) { wants = Some name }))
-        (cond f (Some (used name (codes "true") (state (with_open us p)))) None)
-
     go : (v : Bool) → is_value_name name ≡ v → (f : Bool) → is_flag_name name ≡ f
         → Met (titled name None (state (with_open us p))) (long_fault c false (arg_by_long c name) None (held us p))
         (long_met c (arg_by_long c name) None (held us p))
-    go true v f e = met_by (titled name None (state (with_open us p))) (said_by true (is_flag_name name)) _ _ _ _
-        (ap (λ b. said_by b (is_flag_name name)) v)
-        (ap (λ o. long_fault c false o None (held us p)) (is.value_name name v))
-        (ap (λ o. long_met c o None (held us p)) (is.value_name name v))
-        (wait_then c name (Some name) None None us p opened fine)
-    go false v true e = met_by (titled name None (state (with_open us p))) (said_by false true) _ _ _ _
-        (ap (λ b. said_by b (is_flag_name name)) v ∙ ap (λ b. said_by false b) e)
-        (ap (λ o. long_fault c false o None (held us p)) (is.flag_name name e))
-        (ap (λ o. long_met c o None (held us p)) (is.flag_name name e))
-        (flag_alone c (flag_rule name (Some name) None) (name, codes "true") us p
-        (flag_does name (Some name) None (is.flag_name_key name e).0) opened fine)
-    go false v false e = met_by (titled name None (state (with_open us p))) (said_by false false) _ _ _ _
-        (ap (λ b. said_by b (is_flag_name name)) v ∙ ap (λ b. said_by false b) e)
-        (ap (λ o. long_fault c false o None (held us p)) (is.no_name name e v))
-        (ap (λ o. long_met c o None (held us p)) (is.no_name name e v)) refl
+    go true v f e = rw (v, is.value_name name v) (wait_then c name (Some name) None None us p opened fine)
+    go false v true e = rw (v, e, is.flag_name name e)
+        (flag_alone _ _ _ _ _ (flag_does name (Some name) None (is.flag_name_key name e).0) opened fine)
+    go false v false e = rw (v, e, is.no_name name e v) refl
 titles c is name (Some value) us p opened fine = go (is_value_name name) refl (is_flag_name name) refl
   where
-    said_by : Bool → Option Said
-    said_by v = cond v (Some (used name value (state (with_open us p)))) None
-
     go : (v : Bool) → is_value_name name ≡ v → (f : Bool) → is_flag_name name ≡ f
         → Met (titled name (Some value) (state (with_open us p)))
         (long_fault c false (arg_by_long c name) (Some value) (held us p))
         (long_met c (arg_by_long c name) (Some value) (held us p))
-    go true v f e = met_by (titled name (Some value) (state (with_open us p))) (said_by true) _ _ _ _ (ap said_by v)
-        (ap (λ o. long_fault c false o (Some value) (held us p)) (is.value_name name v))
-        (ap (λ o. long_met c o (Some value) (held us p)) (is.value_name name v))
+    go true v f e = rw (v, is.value_name name v)
         (value_then c name (Some name) None None value us p (is.value_name_key name v).0.reads opened fine)
-    go false v true e = met_by (titled name (Some value) (state (with_open us p))) (said_by false) _ _ _ _
-        (ap said_by v)
-        (ap (λ o. long_fault c false o (Some value) (held us p)) (is.flag_name name e))
-        (ap (λ o. long_met c o (Some value) (held us p)) (is.flag_name name e)) refl
-    go false v false e = met_by (titled name (Some value) (state (with_open us p))) (said_by false) _ _ _ _
-        (ap said_by v)
-        (ap (λ o. long_fault c false o (Some value) (held us p)) (is.no_name name e v))
-        (ap (λ o. long_met c o (Some value) (held us p)) (is.no_name name e v)) refl
+    go false v true e = rw (v, is.flag_name name e) refl
+    go false v false e = rw (v, is.no_name name e v) refl

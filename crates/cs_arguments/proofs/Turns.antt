@@ -111,15 +111,13 @@ wants_long c h e None v = refl
 wants_long c h e (Some a) v = grind (arith, common_steps, clear, wants_first, wants_option)
 
 wants_short : (c : List Rule) (h : Held) → clear (settle_fault c false h) ≡ false
-    → (o : Option Rule) (rest : Text) (after : Held → Kinds)
-    → clear (short_fault c false o rest h after) ≡ false
+    → (o : Option Rule) (rest : Text) (after : Held → Kinds) → clear (short_fault c false o rest h after) ≡ false
 wants_short c h e None rest after = refl
 wants_short c h e (Some a) rest after =
     grind (arith, common_steps, and_left, clear, clear_or, wants_first, wants_option)
 
 pub wants_letters : (c : List Rule) (h : Held) → clear (settle_fault c false h) ≡ false → (x : ℕ) (rest : Text)
-    → IsUtf8 (x ∷ rest)
-    → clear (flags_fault c false (length (x ∷ rest)) (x ∷ rest) 0 h) ≡ false
+    → IsUtf8 (x ∷ rest) → clear (flags_fault c false (length (x ∷ rest)) (x ∷ rest) 0 h) ≡ false
 unfolding flags_fault
 wants_letters c h e x rest utf8 =
     let first = first_of x rest utf8 in

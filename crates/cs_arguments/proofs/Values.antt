@@ -66,8 +66,7 @@ row_stays key later (x ∷ rs) has = go (bytes_eq x.id key) (λ h. row_stays key
     go true e h = refl
     go false e h = e h
 
-one_default : (key : Text) (a : Rule) (rs : List Row)
-    → row_for key (with_default rs a) ≡ or_row (row_for key rs)
+one_default : (key : Text) (a : Rule) (rs : List Row) → row_for key (with_default rs a) ≡ or_row (row_for key rs)
     (cond (bytes_eq a.id key) (default_of a a.defaults) None)
 one_default key a rs = grind (arith, common_steps, bytes_eq, bytes_eq-Decides, no_row, or_none, row_at_end, row_stays)
 
@@ -120,16 +119,13 @@ abbrev flag_text : Bool → Text
 flag_text b = cond b (codes "true") (codes "false")
 
 abbrev pub IsFlag : Text → Type 0
-IsFlag key = (default_for key the_rules ≡ Some
-    (record {
-      id = key;
-      values = codes "false" ∷ [];
-      count = None;
-      source = Some DefaultValue;
-      reading =
-          reading.AsWritten;
-    }))
-    × (reading_of (parser_of key) ≡ reading.AsWritten) × ((v : Text) → is_value (key, v) ≡ true → v ≡ codes "true")
+IsFlag key = (default_for key the_rules ≡ Some (record {
+  id = key;
+  values = codes "false" ∷ [];
+  count = None;
+  source = Some DefaultValue;
+  reading = reading.AsWritten;
+})) × (reading_of (parser_of key) ≡ reading.AsWritten) × ((v : Text) → is_value (key, v) ≡ true → v ≡ codes "true")
 
 flag_row : (key : Text) → IsFlag key → (us : List Use) → good us ≡ true
     → one_of key (ends us) ≡ Some (flag_text (has_use key us))
@@ -138,15 +134,12 @@ flag_row key is us fine =
     ∙ go (use_for key us) (found_in key [] us fine) ∙ ap (λ b. Some (flag_text b)) (sym (is_used key us))
   where
     go : (o : Option Use) → IsFound key o
-        → option_and_then row_text
-        (or_row (option_map row o)
-        (Some (record {
+        → option_and_then row_text (or_row (option_map row o) (Some (record {
           id = key;
           values = codes "false" ∷ [];
           count = None;
           source = Some DefaultValue;
-          reading =
-              reading.AsWritten;
+          reading = reading.AsWritten;
         }))) ≡ Some (flag_text (is_some o))
     go None found = refl
     go (Some u) found =
@@ -211,11 +204,9 @@ number_for most key is us fine v at = go (use_for key us) (found_in key [] us fi
         ∙ found.1
 
 pub number_is : (E : Type 0) (G : Text → Result ℕ E → Type 0) (most : ℕ) (key : Text) → IsCounted most key
-    → most < 2 ^ 32
-    → ((u : Text) (x : Result ℕ E) → G u x → ParsesUnsigned 32 10 u x) → (f : Found) (us : List Use)
-    → rows_of f ≡ ends us → good us ≡ true
-    → (r : Option ℕ) → (one_text f key ≡ None → r ≡ None) → ((t : Text) → one_text f key ≡ Some t → ReadsOne G t r)
-    → r ≡ option_map number_of (value_of key us)
+    → most < 2 ^ 32 → ((u : Text) (x : Result ℕ E) → G u x → ParsesUnsigned 32 10 u x) → (f : Found) (us : List Use)
+    → rows_of f ≡ ends us → good us ≡ true → (r : Option ℕ) → (one_text f key ≡ None → r ≡ None)
+    → ((t : Text) → one_text f key ≡ Some t → ReadsOne G t r) → r ≡ option_map number_of (value_of key us)
 number_is E G most key is low only f us at fine r none some =
     let text : one_text f key ≡ value_of key us =
     one_text-rows f key ∙ ap (one_of key) at ∙ number_row most key is us fine in

@@ -175,6 +175,5 @@ pub react_held : (c : List Rule) (a : Rule) (values : List Text) (us : List Use)
 react_held c a values us p u does opened fine =
     let parts = good_before (with_open us p) u fine in
     ap {A = Held} (λ h. record h { rows = used_row a values h.rows; pending = None })
-    (settled_held c us p opened parts.0)
-    ∙ ap (λ rs. record { rows = rs; pending = None; skip = 0 })
+    (settled_held c us p opened parts.0) ∙ ap (λ rs. record { rows = rs; pending = None; skip = 0 })
     (does.adds (with_open us p) (joins_new (with_open us p) u parts.1))

@@ -1,6 +1,6 @@
 -- All the words: clap takes them where the uses that they say stand together, and its rows are those uses.
 use Rattle.std.proofs.Common.{arith, ◌≡◌, ◌==◌, ◌&&◌, ◌||◌, ◌∙◌, ◌++◌, ◌∷◌, ◌+◌, ℕ, Bool, true, false, not, cond, List}
-use Rattle.std.proofs.Common.{[], Option, Some, None, is_some, option_and_then, refl, sym, ap, ap₂, codes, bytes_eq}
+use Rattle.std.proofs.Common.{[], Option, Some, None, is_some, option_and_then, refl, sym, ap, codes, bytes_eq}
 use Rattle.std.proofs.Common.{length, All, fold, IsUtf8, true≢false, min, nat_lt}
 use Rattle.std.specs.{Bool.⊤, List.list_any, List.before_first, List.after_first, Option.option_map_or}
 use Rattle.std.proofs.lemmas.{Bool.and_left, Bool.and_right, Bool.or_right, List.Elements.All-head}
@@ -18,7 +18,7 @@ use Rattle.cs_arguments.specs.Taken.{accepted, good, rows, uses_or}
 use Rattle.cs_arguments.proofs.Walking.{clear, clear_nil, clear_or, good_more, bad_more, has_more, held, with_open}
 use Rattle.cs_arguments.proofs.Walking.{IsKey, IsOpen, settle_clear, settled_held}
 use Rattle.cs_arguments.proofs.Rules.{IsCommand, IsOptionKey, letter_key, keeps_name}
-use Rattle.cs_arguments.proofs.Letters.{state, now_held, outcome_for, Met, Bad, lettered_bad, titled_bad, letters}
+use Rattle.cs_arguments.proofs.Letters.{state, outcome_for, Met, Bad, lettered_bad, titled_bad, letters}
 use Rattle.cs_arguments.proofs.{Letters.titles, Letters.pending_for, Turns.wants_letters}
 use Rattle.cs_arguments.proofs.Forms.{Form, a_name, a_stop, a_title, some_letters, form_of}
 use Rattle.cs_arguments.proofs.Turns.{walk_at, none, one, turn_is, walk_is, turn_trailing, walk_trailing, wants_long}
@@ -124,8 +124,7 @@ leaves_more c us u is (Some t) l = grind (arith, common_steps, codes, keeps_name
 letters_leave : (c : List Rule) → IsCommand c → (flags : Text) (us : List Use)
     → LeavesIf c us (lettered flags (state us))
 letters_leave c is [] us = record { orc = refl; sco = refl; only = refl; wants = tt }
-letters_leave c is (x ∷ rest) us =
-    go (is_flag_letter x) (is_value_letter x) refl (letters_leave c is rest (us ++ (x ∷ [], codes "true") ∷ []))
+letters_leave c is (x ∷ rest) us = go (is_flag_letter x) (is_value_letter x) refl (letters_leave c is rest _)
   where
     value : (rest : Text) → is_value_letter x ≡ true → Leaves c us (valued (x ∷ []) rest (state us))
     value [] v = now_wants c us (x ∷ []) (is.value_letter_key x v) (letter_key x)
@@ -219,8 +218,7 @@ bad_reading : (s : Said) (word : Text) (rest : List Text) (t : Said) → after s
     → accepted (said s (word ∷ rest)) ≡ false
 bad_reading s word rest t e bad = ap accepted (said_after s word rest (Some t) e) ∙ said_bad rest t bad
 
-after_only : (us : List Use) (word : Text)
-    → after (record { uses = us; wants = None; only_names = true }) word ≡ Some
+after_only : (us : List Use) (word : Text) → after (record { uses = us; wants = None; only_names = true }) word ≡ Some
     (named word (record { uses = us; wants = None; only_names = true }))
 unfolding after
 after_only us word = refl
@@ -260,21 +258,18 @@ place_walk c position only word us p key index found settles =
     grind (arith, common_steps, and_right, held, min, walk_at)
 
 -- a name where `us` are used and p is open
-name_on : (c : List Rule) → IsCommand c
-    → (us : List Use) (p : Option Use) (only : Bool) (n : Count) (word : Text) (rest : List Text)
-    → IsFine c (open_at us p only n)
+name_on : (c : List Rule) → IsCommand c → (us : List Use) (p : Option Use) (only : Bool) (n : Count) (word : Text)
+    (rest : List Text) → IsFine c (open_at us p only n)
     → after (said_at (open_at us p only n)) word ≡ Some (named word (said_at (open_at us p only n)))
     → turn_fault (shape c) [] (clap_at (open_at us p only n)) word ≡ name_fault c (place n) (held us p)
-    → walked c [] (clap_at (open_at us p only n)) word ≡ name_walk c (place n) only word (held us p)
-    → Ahead c rest → Agrees c (said (said_at (open_at us p only n)) (word ∷ rest)) (clap_at (open_at us p only n))
-    (word ∷ rest)
+    → walked c [] (clap_at (open_at us p only n)) word ≡ name_walk c (place n) only word (held us p) → Ahead c rest
+    → Agrees c (said (said_at (open_at us p only n)) (word ∷ rest)) (clap_at (open_at us p only n)) (word ∷ rest)
 name_on c is us p only n word rest fine says faults walks ahead = count n fine says faults walks
   where
     -- the name goes to its place
     placed : (n m : Count) (key : Text) (b : Bool) (index : Option ℕ) → IsFine c (open_at us p only n)
-        → has_use (codes "ORC") (with_open us p) ≡ b → cond b (codes "SCO") (codes "ORC") ≡ key
-        → IsKey c key → arg_by_index c (place n) ≡ Some (option_rule key None None index)
-        → min (place n + 1) usize_max ≡ place m
+        → has_use (codes "ORC") (with_open us p) ≡ b → cond b (codes "SCO") (codes "ORC") ≡ key → IsKey c key
+        → arg_by_index c (place n) ≡ Some (option_rule key None None index) → min (place n + 1) usize_max ≡ place m
         → HasCount m (with_open us p ++ (key, word) ∷ [])
         → after (said_at (open_at us p only n)) word ≡ Some (named word (said_at (open_at us p only n)))
         → turn_fault (shape c) [] (clap_at (open_at us p only n)) word ≡ name_fault c (place n) (held us p)
@@ -284,8 +279,7 @@ name_on c is us p only n word rest fine says faults walks ahead = count n fine s
       where
         says_so : after (said_at (open_at us p only n)) word ≡ Some
             (record { uses = with_open us p ++ (key, word) ∷ []; wants = None; only_names = only })
-        says_so = says ∙ ap Some
-            (named_as (with_open us p) only word b has
+        says_so = says ∙ ap Some (named_as (with_open us p) only word b has
             ∙ ap (λ k. record { uses = with_open us p ++ (k, word) ∷ []; wants = None; only_names = only }) name)
 
         fault_clear : clear (turn_fault (shape c) [] (clap_at (open_at us p only n)) word) ≡ good (with_open us p)
@@ -330,77 +324,54 @@ name_on c is us p only n word rest fine says faults walks ahead = count n fine s
 
 flags_on : (c : List Rule) (us : List Use) (p : Option Use) (n : Count) (word : Text) (rest : List Text)
     (o : Option Said) (fault : Kinds) (met : Held × Outcome) → HasCount n (with_open us p)
-    → after (state (with_open us p)) word ≡ o
-    → turn_fault (shape c) [] (clap_at (open_at us p false n)) word
+    → after (state (with_open us p)) word ≡ o → turn_fault (shape c) [] (clap_at (open_at us p false n)) word
     ≡ or_else fault (step_fault (shape c) (place n) (after_flag c idle word met.0 met.1).0
-    (after_flag c idle word met.0 met.1).1)
-    → walked c [] (clap_at (open_at us p false n)) word
+    (after_flag c idle word met.0 met.1).1) → walked c [] (clap_at (open_at us p false n)) word
     ≡ after_step c word (clap_at (open_at us p false n)) (after_flag c idle word met.0 met.1).0
-    (after_flag c idle word met.0 met.1).1
-    → Met o fault met → LeavesIf c (with_open us p) o → Ahead c rest
+    (after_flag c idle word met.0 met.1).1 → Met o fault met → LeavesIf c (with_open us p) o → Ahead c rest
     → Agrees c (said (state (with_open us p)) (word ∷ rest)) (clap_at (open_at us p false n)) (word ∷ rest)
 flags_on c us p n word rest None fault met counted says faults walks is_met leaves ahead =
     grind (arith, common_steps, agrees_bad, and_left, clear, clear_or, no_reading, state, with_open)
 flags_on c us p n word rest (Some t) fault met counted says faults walks is_met leaves ahead = go (good t.uses) refl
   where
-    onward : (w : Option Text) → t.wants ≡ w → good t.uses ≡ true → WantsKey c w
-        → met ≡ (now_held t, outcome_for t.wants)
+    onward : (w : Option Text) → WantsKey c w → good t.uses ≡ true
+        → after (state (with_open us p)) word ≡ Some (record { uses = t.uses; wants = w; only_names = false })
+        → met ≡ (record { rows = rows t.uses; pending = pending_for w; skip = 0 }, outcome_for w)
         → Agrees c (said (state (with_open us p)) (word ∷ rest)) (clap_at (open_at us p false n)) (word ∷ rest)
-    onward None e fine key m =
-        let m2 : met ≡ (held t.uses None, outcome_for None) =
-        m ∙ ap (λ w. (record { rows = rows t.uses; pending = pending_for w; skip = 0 }, outcome_for w)) e in
-        let is_t : said_at (open_at t.uses None false n) ≡ t =
-        ap₂ (λ w b. record { uses = t.uses; wants = w; only_names = b }) (sym e) (sym leaves.only) in
-        goes_on c (state (with_open us p)) (clap_at (open_at us p false n)) word rest (open_at t.uses None false n)
-        (says ∙ ap Some (sym is_t))
-        (ap clear (faults ∙ ap (λ (q : Held × Outcome). or_else fault
-        (step_fault (shape c) (place n) (after_flag c idle word q.0 q.1).0 (after_flag c idle word q.0 q.1).1)) m2)
-        ∙ clear_or fault [] ∙ ap (λ b. b && true) (is_met.0 ∙ fine))
-        (walks ∙ ap (λ (q : Held × Outcome). after_step c word (clap_at (open_at us p false n))
-        (after_flag c idle word q.0 q.1).0 (after_flag c idle word q.0 q.1).1) m2)
+    onward None key fine s m =
+        goes_on c (state (with_open us p)) (clap_at (open_at us p false n)) word rest (open_at t.uses None false n) s
+        (ap clear (rw m at faults) ∙ clear_or fault [] ∙ ap (λ b. b && true) (is_met.0 ∙ fine)) (rw m at walks)
         (fine, tt, still_count n c (with_open us p) t leaves counted) ahead
-    onward (Some key) e fine is_key m =
-        let m2 : met ≡ (held_for t.uses key, outcome_for (Some key)) =
-        m ∙ ap (λ w. (record { rows = rows t.uses; pending = pending_for w; skip = 0 }, outcome_for w)) e in
-        let is_t : said_at (wait_for t.uses key n) ≡ t =
-        ap₂ (λ w b. record { uses = t.uses; wants = w; only_names = b }) (sym e) (sym leaves.only) in
-        goes_on c (state (with_open us p)) (clap_at (open_at us p false n)) word rest (wait_for t.uses key n)
-        (says ∙ ap Some (sym is_t))
-        (ap clear (faults ∙ ap (λ (q : Held × Outcome). or_else fault
-        (step_fault (shape c) (place n) (after_flag c idle word q.0 q.1).0 (after_flag c idle word q.0 q.1).1)) m2)
-        ∙ clear_or fault [] ∙ ap (λ b. b && true) (is_met.0 ∙ fine))
-        (walks ∙ ap (λ (q : Held × Outcome). after_step c word (clap_at (open_at us p false n))
-        (after_flag c idle word q.0 q.1).0 (after_flag c idle word q.0 q.1).1) m2)
-        (fine, is_key, still_count n c (with_open us p) t leaves counted) ahead
+    onward (Some k) key fine s m =
+        goes_on c (state (with_open us p)) (clap_at (open_at us p false n)) word rest (wait_for t.uses k n) s
+        (ap clear (rw m at faults) ∙ clear_or fault [] ∙ ap (λ b. b && true) (is_met.0 ∙ fine)) (rw m at walks)
+        (fine, key, still_count n c (with_open us p) t leaves counted) ahead
 
     go : (g : Bool) → good t.uses ≡ g
         → Agrees c (said (state (with_open us p)) (word ∷ rest)) (clap_at (open_at us p false n)) (word ∷ rest)
-    go true e = onward t.wants refl e leaves.wants (is_met.1 e)
-    go false e = agrees_bad c (state (with_open us p)) (clap_at (open_at us p false n)) word rest
-        (bad_reading (state (with_open us p)) word rest t says e)
-        (ap clear faults ∙ clear_or fault _ ∙ and_left _ _ (is_met.0 ∙ e))
+    go true e =
+        onward t.wants leaves.wants e
+        (says ∙ ap (λ b. Some (record { uses = t.uses; wants = t.wants; only_names = b })) leaves.only) (is_met.1 e)
+    go false e = agrees_bad _ _ _ _ _ (bad_reading _ _ _ _ says e)
+        (ap clear faults ∙ clear_or _ _ ∙ and_left _ _ (is_met.0 ∙ e))
 
 -- ---- a word where a value is wanted
 
 wants_settle : (c : List Rule) (us : List Use) (key : Text) → IsKey c key
     → clear (settle_fault c false (held_for us key)) ≡ false
-wants_settle c us key is =
-    ap (λ o. clear (option_map_or (λ a. use_fault false a [] (rows us)) o [])) is.found
+wants_settle c us key is = ap (λ o. clear (option_map_or (λ a. use_fault false a [] (rows us)) o [])) is.found
 
 value_on : (c : List Rule) → IsCommand c → (us : List Use) (key : Text) (n : Count) (word : Text) (rest : List Text)
     → IsFine c (wait_for us key n)
     → after (said_at (wait_for us key n)) word ≡ Some (plain (Some key) word (said_at (wait_for us key n)))
-    → turn_fault (shape c) [] (clap_at (wait_for us key n)) word ≡ []
-    → walked c [] (clap_at (wait_for us key n)) word
+    → turn_fault (shape c) [] (clap_at (wait_for us key n)) word ≡ [] → walked c [] (clap_at (wait_for us key n)) word
     ≡ record (clap_at (wait_for us key n)) {
       held = (option_word (arg_by_id c key) key word (held_for us key)).0;
       waiting = (option_word (arg_by_id c key) key word (held_for us key)).1;
-    }
-    → Ahead c rest → Agrees c (said (said_at (wait_for us key n)) (word ∷ rest)) (clap_at (wait_for us key n))
-    (word ∷ rest)
+    } → Ahead c rest
+    → Agrees c (said (said_at (wait_for us key n)) (word ∷ rest)) (clap_at (wait_for us key n)) (word ∷ rest)
 value_on c is us key n word rest fine says faults walks ahead =
     let k = fine.1.0 in
-    let a = option_rule key k.long k.short k.index in
     let same : bytes_eq key key ≡ true = (bytes_eq-Decides key key).1 refl in
     let waits : (option_word (arg_by_id c key) key word (held_for us key)) ≡ (held us (Some (key, word)), idle) =
     ap (λ o. option_word o key word (held_for us key)) k.found
@@ -408,30 +379,23 @@ value_on c is us key n word rest fine says faults walks ahead =
     goes_on c (said_at (wait_for us key n)) (clap_at (wait_for us key n)) word rest
     (open_at us (Some (key, word)) false n) says (ap clear faults)
     (walks ∙ ap (λ (q : Held × Waiting). record (clap_at (wait_for us key n)) { held = q.0; waiting = q.1 }) waits)
-    (fine.0, k, still_count n c us (state (us ++ (key, word) ∷ [])) (one_used c us (key, word) fine.1.1) fine.2) ahead
+    (fine.0, k, still_count _ c _ _ (one_used _ _ _ fine.1.1) fine.2) ahead
 
 -- `--` in place of a value: clap goes on, and fails later
 doomed : (c : List Rule) → IsCommand c → (us : List Use) (key : Text) (n : Count) → IsKey c key → (rest : List Text)
     → clear (all_faults c (walk_at (held_for us key) (wait_for_option key) (place n) true) rest) ≡ false
 unfolding walk_fault
 doomed c is us key n k [] = wants_settle c us key k
-doomed c is us key n k (word ∷ rest) =
-    clear_or (or_else (turn_fault (shape c) [] (walk_at (held_for us key) (wait_for_option key) (place n) true) word) _)
-    _
-    ∙ and_left _ _ (clear_or
-    (turn_fault (shape c) [] (walk_at (held_for us key) (wait_for_option key) (place n) true) word) _
-    ∙ and_left _ _ (go n))
+doomed c is us key n k (word ∷ rest) = clear_or _ _ ∙ and_left _ _ (clear_or _ _ ∙ and_left _ _ (go n))
   where
     go : (n : Count) → clear (name_fault c (place n) (held_for us key)) ≡ false
     go no_name = ap clear (place_fault c 1 (held_for us key) (codes "ORC") (Some 1) is.first) ∙ wants_settle c us key k
-    go one_name = ap clear (place_fault c 2 (held_for us key) (codes "SCO") (Some 2) is.second)
-        ∙ wants_settle c us key k
+    go one_name = ap clear (place_fault c 2 (held_for us key) (codes "SCO") (Some 2) is.second) ∙ wants_settle _ _ _ k
     go two_names = ap (λ o. clear
         (option_map_or (λ a. positional_fault c false a (held_for us key)) o (stray_fault (shape c)))) is.third
 
 stop_on : (c : List Rule) → IsCommand c → (us : List Use) (key : Text) (n : Count) (word : Text) (rest : List Text)
-    → IsKey c key
-    → after (said_at (wait_for us key n)) word ≡ None
+    → IsKey c key → after (said_at (wait_for us key n)) word ≡ None
     → turn_fault (shape c) [] (clap_at (wait_for us key n)) word ≡ []
     → walked c [] (clap_at (wait_for us key n)) word ≡ walk_at (held_for us key) (wait_for_option key) (place n) true
     → Agrees c (said (said_at (wait_for us key n)) (word ∷ rest)) (clap_at (wait_for us key n)) (word ∷ rest)
@@ -456,8 +420,7 @@ step_open c is us p n word rest (a_stop e says) fine ahead =
 step_open c is us p n word rest (a_title name value e f says) fine ahead =
     flags_on c us p n word rest (titled name value (state (with_open us p)))
     (long_fault c false (arg_by_long c name) value (held us p)) (long_met c (arg_by_long c name) value (held us p))
-    fine.2
-    (after_words (with_open us p) None word _ (says (state (with_open us p))))
+    fine.2 (after_words (with_open us p) None word _ (says (state (with_open us p))))
     (turn_is c idle none (place n) word (held us p) false (Some (name, value)) _ e f refl)
     (walk_is c idle none (place n) word (held us p) false (Some (name, value)) _ e f refl)
     (titles c is name value us p fine.1 fine.0) (title_leaves c is name value (with_open us p)) ahead
@@ -475,29 +438,21 @@ step_wait : (c : List Rule) (is : IsCommand c) (us : List Use) (key : Text) (n :
     → Form word → IsFine c (wait_for us key n) → Ahead c rest
     → Agrees c (said (said_at (wait_for us key n)) (word ∷ rest)) (clap_at (wait_for us key n)) (word ∷ rest)
 step_wait c is us key n word rest (a_name e f g says) fine ahead =
-    value_on c is us key n word rest fine (after_words us (Some key) word _ (says (said_at (wait_for us key n))))
-    (turn_is c (wait_for_option key) (one key) (place n) word (held_for us key) false None None e f g)
-    (walk_is c (wait_for_option key) (one key) (place n) word (held_for us key) false None None e f g) ahead
+    value_on _ is _ _ _ _ _ fine (after_words _ _ _ _ (says (said_at (wait_for us key n))))
+    (turn_is c _ (one key) (place n) word (held_for us key) _ _ _ e f g) (walk_is _ _ (one _) _ _ _ _ _ _ e f g) ahead
 step_wait c is us key n word rest (a_stop e says) fine ahead =
     stop_on c is us key n word rest fine.1.0 (after_words us (Some key) word _ (says (said_at (wait_for us key n))))
     (turn_is c (wait_for_option key) (one key) (place n) word (held_for us key) true _ _ e refl refl)
     (walk_is c (wait_for_option key) (one key) (place n) word (held_for us key) true _ _ e refl refl)
 step_wait c is us key n word rest (a_title name value e f says) fine ahead =
-    agrees_bad c (said_at (wait_for us key n)) (clap_at (wait_for us key n)) word rest
-    (no_reading (said_at (wait_for us key n)) word rest
-    (after_words us (Some key) word _ (says (said_at (wait_for us key n)))))
-    (ap clear (turn_is c (wait_for_option key) (one key) (place n) word (held_for us key) false (Some (name, value)) _ e
-    f refl)
-    ∙ clear_or (long_fault c false (arg_by_long c name) value (held_for us key)) _
-    ∙ and_left _ _ (wants_long c (held_for us key) (wants_settle c us key fine.1.0) (arg_by_long c name) value))
+    agrees_bad c _ _ word rest (no_reading _ _ _ (after_words _ _ _ _ (says (said_at (wait_for us key n)))))
+    (ap clear (turn_is c _ (one key) (place n) word (held_for us key) _ _ _ e
+    f refl) ∙ clear_or (long_fault c false (arg_by_long c name) value (held_for us key)) _
+    ∙ and_left _ _ (wants_long c (held_for us key) (wants_settle _ us _ fine.1.0) (arg_by_long c name) value))
 step_wait c is us key n word rest (some_letters x flags utf8 e f g says) fine ahead =
-    agrees_bad c (said_at (wait_for us key n)) (clap_at (wait_for us key n)) word rest
-    (no_reading (said_at (wait_for us key n)) word rest
-    (after_words us (Some key) word _ (says (said_at (wait_for us key n)))))
-    (ap clear (turn_is c (wait_for_option key) (one key) (place n) word (held_for us key) false None (Some (x ∷ flags))
-    e f g)
-    ∙ clear_or (flags_fault c false (length (x ∷ flags)) (x ∷ flags) 0 (held_for us key)) _
-    ∙ and_left _ _ (wants_letters c (held_for us key) (wants_settle c us key fine.1.0) x flags utf8))
+    agrees_bad _ _ _ _ _ (no_reading _ _ _ (after_words _ _ _ _ (says (said_at (wait_for us key n)))))
+    (ap clear (turn_is c _ (one key) (place n) word _ _ _ _ e f g) ∙ clear_or _ _
+    ∙ and_left _ _ (wants_letters _ (held_for us key) (wants_settle _ us _ fine.1.0) _ _ utf8))
 
 step : (c : List Rule) (is : IsCommand c) (word : Text) (rest : List Text) (at : At) → IsUtf8 word → IsFine c at
     → Ahead c rest → Agrees c (said (said_at at) (word ∷ rest)) (clap_at at) (word ∷ rest)

@@ -71,20 +71,13 @@ mutual
       All-weaker (IsGiven (given_globals t results)) (IsGiven g) (λ x h e. w x (h e)) results (given_held t results)
   gives t (choose line list) g w = arms_give t list g w
 
-  block_gives : (t : RateNames) (b : Block) (g : RateNames) → IsWithin (globals_of_block t b) g
-      → BlockGives g b
+  block_gives : (t : RateNames) (b : Block) (g : RateNames) → IsWithin (globals_of_block t b) g → BlockGives g b
   block_gives t no_stmt g w = tt
-  block_gives t (andthen x rest) g w =
-      (gives t x g (λ m h. w m (block_keeps (globals t x) rest m h)), block_gives (globals t x) rest g w)
+  block_gives t (andthen x rest) g w = (gives t x g (λ m h. w m (block_keeps _ rest m h)), block_gives _ rest g w)
 
-  arms_give : (t : RateNames) (list : Arms) (g : RateNames) → IsWithin (globals_of_arms t list) g
-      → ArmsGive g list
+  arms_give : (t : RateNames) (list : Arms) (g : RateNames) → IsWithin (globals_of_arms t list) g → ArmsGive g list
   arms_give t (otherwise b) g w = block_gives t b g w
-  arms_give t (arm c b rest) g w = (
-    block_gives t b g (λ m h. w m (arms_keep (globals_of_block t b) rest m h)),
-    arms_give (globals_of_block t b) rest
-        g w,
-  )
+  arms_give t (arm c b rest) g w = (block_gives t b g (λ m h. w m (arms_keep _ rest m h)), arms_give _ rest g w)
 
 instruments_give : (t : RateNames) (list : List Instrument) (g : RateNames) → IsWithin (globals_of_instruments t list) g
     → InstrumentsGive g list
@@ -96,8 +89,7 @@ instruments_give t (i ∷ rest) g w = (
 
 -- ---- the parts in the order of the text
 
-before_gives : (g : RateNames) (line : ℕ) (b : Block) → BlockGives g b
-    → BlockGives g (before line b)
+before_gives : (g : RateNames) (line : ℕ) (b : Block) → BlockGives g b → BlockGives g (before line b)
 before_gives g line no_stmt h = tt
 before_gives g line (andthen x rest) h = by (nat_lt (line_of x) line) (before_gives g line rest h.1)
   where
@@ -110,8 +102,7 @@ from_gives : (g : RateNames) (line : ℕ) (b : Block) → BlockGives g b → Blo
 from_gives g line no_stmt h = tt
 from_gives g line (andthen x rest) h = by (nat_lt (line_of x) line) (from_gives g line rest h.1)
   where
-    by : (b : Bool) → BlockGives g (from line rest)
-        → BlockGives g (if b then from line rest else andthen x rest)
+    by : (b : Bool) → BlockGives g (from line rest) → BlockGives g (if b then from line rest else andthen x rest)
     by true more = more
     by false more = h
 
@@ -125,7 +116,5 @@ items_give g outside (i ∷ rest) h k = (
 
 pub parts_give : (o : Orchestra) → ItemsGive (all_globals o) (items o.zero o.instrs)
 parts_give o =
-    items_give (all_globals o) o.zero o.instrs
-    (block_gives no_names o.zero (all_globals o)
-    (λ m h. instruments_keep (globals_of_block no_names o.zero) o.instrs m h))
-    (instruments_give (globals_of_block no_names o.zero) o.instrs (all_globals o) (λ m h. h))
+    items_give _ _ _ (block_gives _ _ _ (λ m h. instruments_keep (globals_of_block no_names o.zero) o.instrs m h))
+    (instruments_give _ _ _ (λ m h. h))

@@ -81,19 +81,15 @@ module _ (t : Shared) where
   channel_named s kind name on = subst P (sym (channel_same s t kind name on)) (by kind on)
     where
       by : (k : Channel) → SharedGoesOn (used s k name) t → P (channel_of t k name)
-      by channel.Control h =
-          low t.control name (has_on (seen s.control name) t.control name h.control (seen_is_there s.control name))
-      by channel.Sound h =
-          low t.sound name (has_on (seen s.sound name) t.sound name h.sound (seen_is_there s.sound name))
+      by channel.Control h = low t.control name (has_on _ _ _ h.control (seen_is_there s.control name))
+      by channel.Sound h = low t.sound name (has_on _ _ _ h.sound (seen_is_there s.sound name))
 
   -- ---- expressions and arguments
 
   named : (n : KnownHere) (e : Expression) → IsEarlier n → reads_known n e ≡ true
       → EachInExpression P (typed_expression n e)
-  named n (number v) s h = tt
   named n (var name) s h =
-      variable_named n name s
-      (λ e. subst (λ g. in_table g name ≡ true) (sym s.globals)
+      variable_named n name s (λ e. subst (λ g. in_table g name ≡ true) (sym s.globals)
       (then_part (is_global name) (in_table n.shared.globals name) (in_table n.locals name) h e))
   named n (neg a) s h = named n a s h
   named n (pair o a b) s h =
@@ -137,8 +133,7 @@ module _ (t : Shared) where
       (texts_named n kind name rest one.1 s on (and_parts true (all_known n rest) h).1)
 
   arguments_named : (n : KnownHere) (role : Option Channel) (args : List Argument) → OneText role args → IsEarlier n
-      → SharedGoesOn (use_channel n.shared role (text_of args)) t → all_known n args ≡ true
-      → ArgumentsNamed n role args
+      → SharedGoesOn (use_channel n.shared role (text_of args)) t → all_known n args ≡ true → ArgumentsNamed n role args
   arguments_named n None args one s on h = plain_named n args s h
   arguments_named n (Some kind) args one s on h = texts_named n kind (text_of args) args one s on h
 
@@ -148,8 +143,7 @@ module _ (t : Shared) where
       → All P (map (variable n) results)
   results_named n [] s g = All-nil P
   results_named n (x ∷ rest) s g =
-      All-cons P (variable n x) (map (variable n) rest)
-      (variable_named n x s (All-head (IsGiven t.globals) x rest g))
+      All-cons P (variable n x) (map (variable n) rest) (variable_named n x s (All-head (IsGiven t.globals) x rest g))
       (results_named n rest s (All-tail (IsGiven t.globals) x rest g))
 
   call_named : (s : Setting) (n : KnownHere) (line : ℕ) (c : Callee) (results : List (List ℕ)) (args : List Argument)
@@ -158,12 +152,10 @@ module _ (t : Shared) where
   call_named s n line (callee.Name name) results args h after g = absurd (cc h)
   call_named s n line (callee.Opcode o) results args h after g =
       let row = row_of o in
-      let role = channel_use row.shape results args in
       let keeps = keeps_rules s n.shared (knows n) row results args h in
-      let early = shared_further n.shared (use_channel n.shared role (text_of args)) t
-      (row_later n row results args).shared after in (
-        results_named n results early g,
-        arguments_named n role args (one_text o (bound_of results) results args keeps.args_count keeps.fit) early after
+      let early = shared_further _ _ _ (row_later n row results args).shared after in (
+        results_named _ _ early g,
+        arguments_named _ _ _ (one_text o (bound_of results) results args keeps.args_count keeps.fit) early after
             keeps.known,
       )
 
@@ -175,8 +167,7 @@ module _ (t : Shared) where
     stmt_named s n (set line name e) h after g =
         let right = (keeps_set s (knows n) line name e h).0 in
         (variable_named n name after g, named n e after right)
-    stmt_named s n (call line results c args) h after g =
-        call_named s n line c results args (at_none line (call_fault s n c results args) h) after g
+    stmt_named s n (call line results c args) h after g = call_named _ _ _ _ _ _ (at_none _ _ h) after g
     stmt_named s n (choose line list) h after g = arms_named s n line list h after g
 
     block_named : (s : Setting) (n : KnownHere) (b : Block) → block_fault s n b ≡ None → IsEarlier (known_block n b)
@@ -207,17 +198,15 @@ module _ (t : Shared) where
   -- ---- the parts of an orchestra
 
   items_named : (channels : ℕ) (n : KnownHere) (list : List Item) → items_fault channels n list ≡ None
-      → IsEarlier (known_items n list) → ItemsGive t.globals list
-      → IsNamedBlock (shared_names t) (typed_outside n list)
+      → IsEarlier (known_items n list) → ItemsGive t.globals list → IsNamedBlock (shared_names t) (typed_outside n list)
       × All (λ i. IsNamedBlock (shared_names t) i.body) (typed_instruments n list)
   items_named channels n [] h last given = (tt, All-nil (λ i. IsNamedBlock (shared_names t) i.body))
   items_named channels n (alone b ∷ rest) h last given =
       let next = known_item n (alone b) in
-      let parts = both_none (item_fault channels n (alone b)) (items_fault channels next rest) h in
+      let parts = both_none _ _ h in
       let after = items_named channels next rest parts.1 last given.1 in
-      let early = shared_further next.shared (known_items next rest).shared t (items_later next rest).shared last in (
-        each_then P (typed_block n b) (typed_outside next rest)
-            (block_named (outside channels) n b parts.0 early given.0) after.0,
+      let early = shared_further _ _ _ (items_later next rest).shared last in (
+        each_then _ _ _ (block_named _ _ _ parts.0 early given.0) after.0,
         after.1,
       )
   items_named channels n (body i ∷ rest) h last given =

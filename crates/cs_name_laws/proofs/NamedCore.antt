@@ -58,8 +58,7 @@ module _ (names : SharedNames) where
 
   values_named : (args : List typed.Argument) → AreNamedArguments args → AreNamedValues (values_of args)
   values_named [] h = All-nil (EachInExpression (IsNamed names))
-  values_named (typed.value e ∷ rest) h =
-      one_more e (values_of rest) (first (typed.value e) rest h) (values_named rest (others (typed.value e) rest h))
+  values_named (typed.value e ∷ rest) h = one_more _ _ (first _ _ h) (values_named rest (others _ _ h))
   values_named (typed.text v ∷ rest) h = values_named rest (others (typed.text v) rest h)
 
   either_way : (b : Bool) (es fs : List typed.Expression) → AreNamedValues es
@@ -72,9 +71,8 @@ module _ (names : SharedNames) where
   settled_named row n [] h = All-nil (EachInExpression (IsNamed names))
   settled_named row n (typed.value e ∷ rest) h =
       let more = settled row (n + 1) rest in
-      let after = settled_named row (n + 1) rest (others (typed.value e) rest h) in
-      either_way (is_settled (letter_at row n)) (e ∷ more) more
-      (one_more e more (first (typed.value e) rest h) after) after
+      let after = settled_named row (n + 1) rest (others _ _ h) in
+      either_way (is_settled (letter_at row n)) (e ∷ more) _ (one_more e _ (first _ _ h) after) after
   settled_named row n (typed.text v ∷ rest) h = settled_named row (n + 1) rest (others (typed.text v) rest h)
 
   moving_named : (row : Row) (n : ℕ) (args : List typed.Argument) → AreNamedArguments args
@@ -82,9 +80,8 @@ module _ (names : SharedNames) where
   moving_named row n [] h = All-nil (EachInExpression (IsNamed names))
   moving_named row n (typed.value e ∷ rest) h =
       let more = moving row (n + 1) rest in
-      let after = moving_named row (n + 1) rest (others (typed.value e) rest h) in
-      either_way (is_settled (letter_at row n)) more (e ∷ more) after
-      (one_more e more (first (typed.value e) rest h) after)
+      let after = moving_named row (n + 1) rest (others _ _ h) in
+      either_way (is_settled (letter_at row n)) _ (e ∷ more) after (one_more e _ (first _ _ h) after)
   moving_named row n (typed.text v ∷ rest) h = moving_named row (n + 1) rest (others (typed.text v) rest h)
 
   -- a call that stays a unit
@@ -104,8 +101,7 @@ module _ (names : SharedNames) where
   call_named : (spaces : Spaces) (r : Rate) (vs : List Variable) (opcode : Opcode) (sh : Shape)
       (args : List typed.Argument)
       → All (IsNamed names) vs → AreNamedArguments args → IsNamedCore (core_call spaces r vs opcode sh args)
-  call_named spaces r (v ∷ vs) opcode shape.Init (typed.value e ∷ args) h k =
-      (result v vs h, first (typed.value e) args k)
+  call_named spaces r (v ∷ vs) opcode shape.Init (typed.value e ∷ args) h k = (result _ _ h, first _ _ k)
   call_named spaces r vs opcode shape.Unit args h k = unit_named (row_of opcode) vs args h k
   call_named spaces r vs opcode shape.Store args h k = (values_named args k, settled_named (row_of opcode) 0 args k)
   call_named spaces r vs opcode (shape.ZakGet s) args h k = (h, moving_named (row_of opcode) 0 args k)
@@ -114,10 +110,7 @@ module _ (names : SharedNames) where
   call_named spaces r vs opcode (shape.ZakClear s) args h k = (h, moving_named (row_of opcode) 0 args k)
   call_named spaces r vs opcode shape.Out args h k = values_named args k
   call_named spaces r vs opcode shape.OutAt args h k = values_named args k
-  call_named spaces r vs opcode shape.Turnoff args h k = tt
-  call_named spaces r vs opcode shape.ZakInit args h k = tt
-  call_named spaces r (v ∷ vs) opcode shape.ChannelGet (typed.text c ∷ args) h k =
-      (result v vs h, first (typed.text c) args k)
+  call_named spaces r (v ∷ vs) opcode shape.ChannelGet (typed.text c ∷ args) h k = (result _ _ h, first _ _ k)
   call_named spaces r vs opcode shape.ChannelPut (typed.value e ∷ typed.text c ∷ args) h k =
       (second (typed.value e) (typed.text c) args k, first (typed.value e) (typed.text c ∷ args) k)
   call_named spaces r vs opcode shape.ChannelMix (typed.value e ∷ typed.text c ∷ args) h k =
@@ -131,8 +124,7 @@ module _ (names : SharedNames) where
     stmt_core : (spaces : Spaces) (x : typed.Statement) → EachInStatement (IsNamed names) x
         → IsNamedCore (core_stmt spaces x)
     stmt_core spaces (typed.set line r v e) h = h
-    stmt_core spaces (typed.call line r vs opcode args) h =
-        call_named spaces r vs opcode (row_of opcode).shape args h.0 h.1
+    stmt_core spaces (typed.call line r vs opcode args) h = call_named _ _ _ _ _ _ h.0 h.1
     stmt_core spaces (typed.choose line r list) h = arms_core spaces list h
 
     pub block_core : (spaces : Spaces) (b : typed.Block) → IsNamedBlock names b → IsNamedCoreBlock (core spaces b)

@@ -68,9 +68,7 @@ module _ (names : SharedNames) (stock : Stock) where
   reads_there (var r v) h = var_there v h
   reads_there (neg r a) h = reads_there a h
   reads_there (pair r o a b) h = both (expr_reads a) (expr_reads b) (reads_there a h.0) (reads_there b h.1)
-  reads_there (pick r c a b) h =
-      both (expr_reads c) (expr_reads a ++ expr_reads b) (reads_there c h.0)
-      (both (expr_reads a) (expr_reads b) (reads_there a h.1) (reads_there b h.2))
+  reads_there (pick r c a b) h = both _ _ (reads_there c h.0) (both _ _ (reads_there a h.1) (reads_there b h.2))
   reads_there (apply r f a) h = reads_there a h
   reads_there e h = none
 
@@ -81,15 +79,11 @@ module _ (names : SharedNames) (stock : Stock) where
       let part = uses_there w a h in
       by_rate w r (expr_reads a) (expr_used w a) (expr_used w a) (reads_there a h) part part
   uses_there w (pair r o a b) h =
-      let parts = expr_used w a ++ expr_used w b in
-      let there = both (expr_used w a) (expr_used w b) (uses_there w a h.0) (uses_there w b h.1) in
-      by_rate w r (expr_reads a ++ expr_reads b) parts parts (reads_there (pair r o a b) h) there there
+      let there = both _ _ (uses_there w a h.0) (uses_there w b h.1) in
+      by_rate w r (expr_reads a ++ expr_reads b) _ _ (reads_there (pair r o a b) h) there there
   uses_there w (pick r c a b) h =
-      let parts = expr_used w c ++ (expr_used w a ++ expr_used w b) in
-      let there = both (expr_used w c) (expr_used w a ++ expr_used w b) (uses_there w c h.0)
-      (both (expr_used w a) (expr_used w b) (uses_there w a h.1) (uses_there w b h.2)) in
-      by_rate w r (expr_reads c ++ (expr_reads a ++ expr_reads b)) parts parts
-      (reads_there (pick r c a b) h) there there
+      let there = both _ _ (uses_there w c h.0) (both _ _ (uses_there w a h.1) (uses_there w b h.2)) in
+      by_rate w r (expr_reads c ++ (expr_reads a ++ expr_reads b)) _ _ (reads_there (pick r c a b) h) there there
   uses_there w (apply r f a) h =
       let part = uses_there w a h in
       by_rate w r (expr_reads a) (expr_used w a) (expr_used w a) (reads_there a h) part part
@@ -163,61 +157,45 @@ module _ (names : SharedNames) (stock : Stock) where
     stmt_there : (w : When) (x : Stmt) → IsNamedCore names x → AreThere (stmt_touched may_use w stock x)
     stmt_there w (set r v e) h =
         let value = uses_there w e h.1 in
-        let variable = var_there v h.0 in
+        let variable = var_there _ h.0 in
         by_rate w r (expr_reads e ++ var_uses v) (expr_used w e) (expr_used w e ++ var_uses v)
-        (both (expr_reads e) (var_uses v) (reads_there e h.1) variable) value
-        (both (expr_used w e) (var_uses v) value variable)
+        (both (expr_reads e) _ (reads_there e h.1) variable) value (both (expr_used w e) _ value variable)
     stmt_there w (unit r vs opcode reach xs is) h =
-        let touched = unit_uses stock opcode reach ++ vars_use vs in
-        let own = both (unit_uses stock opcode reach) (vars_use vs) (unit_there opcode reach) (vars_there vs h.0) in
-        let moving = use_there w xs h.1 in
-        let settled = read_there is h.2 in
-        by_rate w r (exprs_read is ++ (exprs_read xs ++ touched)) (exprs_used w xs ++ exprs_read is)
-        (exprs_used w xs ++ touched) (both (exprs_read is) (exprs_read xs ++ touched) settled
-        (both (exprs_read xs) touched (read_there xs h.1) own)) (both (exprs_used w xs) (exprs_read is) moving settled)
-        (both (exprs_used w xs) touched moving own)
+        let own = both _ _ (unit_there _ _) (vars_there _ h.0) in
+        let moving = use_there _ _ h.1 in
+        let settled = read_there _ h.2 in
+        by_rate _ _ _ _ _ (both _ _ settled (both _ _ (read_there _ h.1) own)) (both _ _ moving settled)
+        (both _ _ moving own)
     stmt_there w (zak r vs opcode reach xs) h =
-        let touched = zak_uses stock opcode reach ++ vars_use vs in
-        let own = both (zak_uses stock opcode reach) (vars_use vs) (zak_there opcode reach) (vars_there vs h.0) in
-        let moving = use_there w xs h.1 in
-        by_rate w r (exprs_read xs ++ touched) (exprs_used w xs) (exprs_used w xs ++ touched)
-        (both (exprs_read xs) touched (read_there xs h.1) own) moving (both (exprs_used w xs) touched moving own)
+        let own = both _ _ (zak_there _ _) (vars_there _ h.0) in
+        let moving = use_there _ _ h.1 in
+        by_rate _ _ _ _ _ (both _ _ (read_there _ h.1) own) moving (both _ _ moving own)
     stmt_there w (store r reach es is) h =
-        let touched = tables_within stock reach in
-        let own = tables_there reach in
-        let moving = use_there w es h.0 in
-        let settled = read_there is h.1 in
-        by_rate w r (exprs_read is ++ (exprs_read es ++ touched)) (exprs_used w es ++ exprs_read is)
-        (exprs_used w es ++ touched) (both (exprs_read is) (exprs_read es ++ touched) settled
-        (both (exprs_read es) touched (read_there es h.0) own)) (both (exprs_used w es) (exprs_read is) moving settled)
-        (both (exprs_used w es) touched moving own)
+        let own = tables_there _ in
+        let moving = use_there _ _ h.0 in
+        let settled = read_there _ h.1 in
+        by_rate _ _ _ _ _ (both _ _ settled (both _ _ (read_there _ h.0) own)) (both _ _ moving settled)
+        (both _ _ moving own)
     stmt_there w (out r es) h = use_there w es h
     stmt_there w (out_at r es) h = use_there w es h
-    stmt_there w (ask es) h =
-        by_rate w rate.Init (exprs_read es) [] [] (read_there es h) none none
+    stmt_there w (ask es) h = by_rate w rate.Init (exprs_read es) [] [] (read_there es h) none none
     stmt_there w (choose r list) h = arms_there w list h
     stmt_there w x h = none
 
     block_there : (w : When) (b : Block) → IsNamedCoreBlock names b → AreThere (block_touched may_use w stock b)
     block_there w no_stmt h = none
-    block_there w (andthen x rest) h =
-        both (stmt_touched may_use w stock x) (block_touched may_use w stock rest)
-        (stmt_there w x h.0) (block_there w rest h.1)
+    block_there w (andthen x rest) h = both _ _ (stmt_there w x h.0) (block_there w rest h.1)
 
     arms_there : (w : When) (list : Arms) → AreNamedCoreArms names list → AreThere (arms_touched may_use w stock list)
     arms_there w (otherwise b) h = block_there w b h
     arms_there w (arm c b rest) h =
-        both (expr_used w c) (block_touched may_use w stock b ++ arms_touched may_use w stock rest) (uses_there w c h.0)
-        (both (block_touched may_use w stock b) (arms_touched may_use w stock rest)
-        (block_there w b h.1) (arms_there w rest h.2))
+        both _ _ (uses_there w c h.0) (both _ _ (block_there w b h.1) (arms_there w rest h.2))
 
-pub touched : (names : SharedNames) (b : typed.Block) → IsNamedBlock names b
-    → (spaces : Spaces) (stock : Stock) (g : Res)
-    → Contains (block_uses stock (core spaces b) ++ block_begins stock (core spaces b)) g
+pub touched : (names : SharedNames) (b : typed.Block) → IsNamedBlock names b → (spaces : Spaces) (stock : Stock)
+    (g : Res) → Contains (block_uses stock (core spaces b) ++ block_begins stock (core spaces b)) g
     → is_there names stock g ≡ true
 touched names b h spaces stock g there =
     let c = core spaces b in
-    let named = block_core names spaces b h in
+    let named = block_core _ _ _ h in
     All-contains (There names stock) (block_uses stock c ++ block_begins stock c) g
-    (both names stock (block_uses stock c) (block_begins stock c) (block_there names stock cycle c named)
-    (block_there names stock beginning c named)) there
+    (both names stock _ _ (block_there _ _ _ _ named) (block_there _ _ _ _ named)) there

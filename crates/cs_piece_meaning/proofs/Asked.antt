@@ -1,7 +1,7 @@
 -- A note of no cycle asks for another: worked out with the formula of a time's cycle opened.
 use Rattle.std.proofs.Common.{◌≡◌, [], ◌∷◌, ◌++◌, refl}
 use Rattle.cs_meaning.specs.Examples.{each, no_code, whole}
-use Rattle.cs_tempo.specs.Time.{cycle_of}
+use Rattle.cs_time.specs.Time.{cycle_of}
 use Rattle.cs_piece_meaning.specs.{Course.closing, Heard.frames_of}
 use Rattle.cs_piece_meaning.specs.Examples.{asking_for_two, note, piece_of_two, sounding_p4}
 

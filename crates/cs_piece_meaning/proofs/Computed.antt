@@ -3,7 +3,7 @@ use Rattle.std.proofs.Common.{◌≡◌, ◌++◌, refl}
 use Rattle.cs_gen.specs.Points.{plain_point, point, points_of}
 use Rattle.cs_ugen.specs.{Table.table_of, Units.gen}
 use Rattle.cs_meaning.specs.Examples.{each, whole}
-use Rattle.cs_tempo.specs.Time.{cycle_of}
+use Rattle.cs_time.specs.Time.{cycle_of}
 use Rattle.cs_piece_meaning.specs.{Counting.starts_before, Counting.starts_from, Course.closing, Heard.frames_of}
 use Rattle.cs_piece_meaning.specs.OrderExamples.{asked_in_its_cycle, refused_late, table_made_twice, table_stored_to}
 

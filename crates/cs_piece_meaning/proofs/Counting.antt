@@ -1,7 +1,7 @@
 -- Each start is counted once, as one that started a note or as one that started nothing.
 use Rattle.std.proofs.Common.{◌≡◌, ◌≢◌, ◌≤◌, ◌<◌, ◌∙◌, ℕ, ℤ, pos, zero, suc, ◌+◌, ◌==◌, Bool, cond, true, false, nat_le}
 use Rattle.std.proofs.Common.{List, [], ◌∷◌, ◌++◌, length, is_some, slice_index_or, Option, Some, None, refl, sym, ap}
-use Rattle.std.proofs.Common.{arith, length-append, if◌then◌else◌}
+use Rattle.std.proofs.Common.{arith, eq-eqb, length-append, ne_eqb, if◌then◌else◌}
 use Rattle.std.specs.{Int.is_negative, List.count_by}
 use Rattle.std.proofs.lemmas.{Bool.Decides.nat_tests, List.FromFn.sum_by-map-range_with_len_more, List.Sums.sum_by-cons}
 use Rattle.cs_base.specs.Limits.{most_asks}
@@ -69,44 +69,20 @@ waiting_in cycles w = below (suc cycles) (λ k. length (w.due k))
 pub kept_more : (cycles : ℕ) (d : Due) (w : Waiting) → d.cycle < cycles
     → waiting_in cycles (with_answer added.Kept d w) ≡ waiting_in cycles w + 1
 kept_more cycles d w l =
-    above_it (λ k. length (w.due k)) (λ k. length (if k == d.cycle then w.due k ++ d ∷ [] else w.due k)) d.cycle other
-    here (suc cycles) (omega (arith, l))
-  where
-    other : (k : ℕ) → k ≢ d.cycle → length (if k == d.cycle then w.due k ++ d ∷ [] else w.due k) ≡ length (w.due k)
-    other k apart = by (k == d.cycle) refl
-      where
-        by : (b : Bool) → (k == d.cycle) ≡ b → length (if b then w.due k ++ d ∷ [] else w.due k) ≡ length (w.due k)
-        by true e = absurd (apart (grind (arith, nat_tests)))
-        by false e = refl
-
-    here : length (if d.cycle == d.cycle then w.due d.cycle ++ d ∷ [] else w.due d.cycle) ≡ length (w.due d.cycle) + 1
-    here = by (d.cycle == d.cycle) refl
-      where
-        by : (b : Bool) → (d.cycle == d.cycle) ≡ b
-            → length (if b then w.due d.cycle ++ d ∷ [] else w.due d.cycle) ≡ length (w.due d.cycle) + 1
-        by true e = length-append (w.due d.cycle) (d ∷ [])
-        by false e = absurd (let no : d.cycle ≢ d.cycle = grind (arith, nat_tests) in no refl)
+    above_it (λ k. length (w.due k)) (λ k. length (if k == d.cycle then w.due k ++ d ∷ [] else w.due k)) d.cycle
+    (λ k apart. ap (λ b. length (if b then w.due k ++ d ∷ [] else w.due k)) (ne_eqb k d.cycle apart))
+    (ap (λ b. length (if b then w.due d.cycle ++ d ∷ [] else w.due d.cycle)) (eq-eqb d.cycle d.cycle refl)
+    ∙ length-append (w.due d.cycle) (d ∷ [])) (suc cycles) (omega (arith, l))
 
 -- one is taken out
 pub taken_one : (cycles now : ℕ) (d : Due) (rest : List Due) (w : Waiting) → now ≤ cycles → w.due now ≡ d ∷ rest
     → waiting_in cycles w ≡ waiting_in cycles (taken now rest w) + 1
 taken_one cycles now d rest w l is =
-    above_it (λ k. length (if k == now then rest else w.due k)) (λ k. length (w.due k)) now other here (suc cycles)
-    (omega (arith, l))
-  where
-    other : (k : ℕ) → k ≢ now → length (w.due k) ≡ length (if k == now then rest else w.due k)
-    other k apart = by (k == now) refl
-      where
-        by : (b : Bool) → (k == now) ≡ b → length (w.due k) ≡ length (if b then rest else w.due k)
-        by true e = absurd (apart (grind (arith, nat_tests)))
-        by false e = refl
-
-    here : length (w.due now) ≡ length (if now == now then rest else w.due now) + 1
-    here = by (now == now) refl
-      where
-        by : (b : Bool) → (now == now) ≡ b → length (w.due now) ≡ length (if b then rest else w.due now) + 1
-        by true e = ap length is ∙ (let long : suc (length rest) ≡ length rest + 1 = omega arith in long)
-        by false e = absurd (let no : now ≢ now = grind (arith, nat_tests) in no refl)
+    let long : suc (length rest) ≡ length rest + 1 = omega arith in
+    above_it (λ k. length (if k == now then rest else w.due k)) (λ k. length (w.due k)) now
+    (λ k apart. ap (λ b. length (if b then rest else w.due k)) (sym (ne_eqb k now apart)))
+    (ap length is ∙ long ∙ ap (λ b. length (if b then rest else w.due now) + 1) (sym (eq-eqb now now refl)))
+    (suc cycles) (omega (arith, l))
 
 -- STARTS that are counted, and those that wait to be
 
@@ -121,8 +97,7 @@ module _ (c : Composition) where
     where
       by : (b1 b2 b3 : Bool) → nat_le c.cycles (begins_in (clock_of c) now a) ≡ b3
           → (if b1 then added.Negative else (if b2 then added.TooMany else (if b3 then added.PastEnd else added.Kept)))
-          ≡ added.Kept
-          → begins_in (clock_of c) now a < c.cycles
+          ≡ added.Kept → begins_in (clock_of c) now a < c.cycles
       by false false false e h = grind (arith, nat_tests)
       by _ _ _ e h = absurd (cc)
 
@@ -227,8 +202,7 @@ module _ (c : Composition) where
       let es : List Event = events_in c n in
       let done : Moment = all_done c es (still n m) in
       added_up (total m) (total done) (total (begins c n m)) (count_by is_start es) (asks_of_events c es (still n m))
-      (asks_of_waiting most_asks c n done)
-      (events_more es (still n m)) (waited_more most_asks n done l)
+      (asks_of_waiting most_asks c n done) (events_more es (still n m)) (waited_more most_asks n done l)
 
   more_cycles : (n : ℕ) → starts_before c (suc n) ≡ starts_before c n + starts_in c n
   more_cycles n =
@@ -242,8 +216,7 @@ module _ (c : Composition) where
   moment_counts zero l = let idle = below_none (suc c.cycles) (λ k. 0) (λ k h. refl) in omega (arith, idle)
   moment_counts (suc n) l =
       after_more (total (begins c n (moment_at c n))) (total (moment_at c n)) (starts_before c n) (starts_in c n)
-      (moment_counts n (omega (arith, l))) (begins_more n (moment_at c n) (omega (arith, l)))
-      ∙ sym (more_cycles n)
+      (moment_counts n (omega (arith, l))) (begins_more n (moment_at c n) (omega (arith, l))) ∙ sym (more_cycles n)
 
   without_waiting : (s n w t : ℕ) → w ≡ 0 → s + n + w ≡ t → s + n ≡ t
   without_waiting s n w t e f = omega (arith, e, f)

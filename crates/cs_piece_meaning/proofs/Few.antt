@@ -16,7 +16,7 @@ use Rattle.cs_piece_meaning.specs.Moments.{Composition, Moment, clock_of, piece_
 use Rattle.cs_piece_meaning.specs.Starts.{Start, act_done, all_asked, all_done, asked, begun, counted, entered}
 use Rattle.cs_piece_meaning.specs.Starts.{first_started, has_room, in_vain, initialised, start_of, started, taken}
 use Rattle.cs_piece_meaning.specs.Starts.{time_of, unless_none, waited, with_points}
-use Rattle.cs_piece_meaning.proofs.Counting.{below, in_time, kept_more, taken_one, waiting_in}
+use Rattle.cs_piece_meaning.proofs.Counting.{below, below_none, in_time, kept_more, taken_one, waiting_in}
 use Rattle.cs_piece_meaning.proofs.{Unended.begins_asking, Waits.few_kept}
 use Rattle.cs_base.specs.declared.resource.Res.TheVariants as res
 use Rattle.cs_sched.specs.declared.pending.Added.TheVariants as added
@@ -124,8 +124,7 @@ module _ (c : Composition) (bounded : IsBounded c) where
   entered_costs now s body t (Some cause) m = omega arith
 
   initialised_costs : (now : ℕ) (s : Start) (body : Block) (t : Note Plain) (m : Moment)
-      → length t.world.asks ≤ most_statements
-      → Costs price m (initialised c now s body t m)
+      → length t.world.asks ≤ most_statements → Costs price m (initialised c now s body t m)
   initialised_costs now s body t m few =
       let before : Moment = record m { shared = t.world.shared } in
       let done : Moment = all_asked c now (time_of s) t.world.asks before in
@@ -152,8 +151,7 @@ module _ (c : Composition) (bounded : IsBounded c) where
   points_cost None number points m = omega arith
   points_cost (Some t) number points m = by (is_some t.frozen)
     where
-      by : (b : Bool) → Costs 0 m
-          (if b then m else record m
+      by : (b : Bool) → Costs 0 m (if b then m else record m
           { shared = shared_with (res.Table number) (λ j. slice_index_or points j (pos 0)) m.shared })
       by true = omega arith
       by false = omega arith
@@ -203,11 +201,7 @@ module _ (c : Composition) (bounded : IsBounded c) where
 
   moment_cost : (n : ℕ) → n ≤ c.cycles
       → spent (moment_at c n) ≤ earned (moment_at c n) + price * below n (events_at c.events)
-  moment_cost zero l = let idle = none_waiting (suc c.cycles) in omega (arith, idle)
-    where
-      none_waiting : (k : ℕ) → below k (λ (j : ℕ). 0) ≡ 0
-      none_waiting zero = refl
-      none_waiting (suc k) = let before = none_waiting k in omega (arith, before)
+  moment_cost zero l = let idle = below_none (suc c.cycles) (λ k. 0) (λ k h. refl) in omega (arith, idle)
   moment_cost (suc n) l =
       let before = moment_cost n (omega (arith, l)) in
       let now = begins_cost n (moment_at c n) (omega (arith, l)) in

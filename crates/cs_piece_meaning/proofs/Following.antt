@@ -25,8 +25,7 @@ module _ {A : Type 0} where
 
   -- what passes a test is among what passes it
   among : (p : A → Bool) (x : A) (xs : List A) (a : A) (b : Bool) → p x ≡ b → p a ≡ true
-      → (x ≡ a) ⊎ Contains (filter p xs) a
-      → Contains (cond b (x ∷ filter p xs) (filter p xs)) a
+      → (x ≡ a) ⊎ Contains (filter p xs) a → Contains (cond b (x ∷ filter p xs) (filter p xs)) a
   among p x xs a true e is (inl same) = subst (λ y. Contains (x ∷ filter p xs) y) same (here x (filter p xs))
   among p x xs a true e is (inr rest) = behind x (filter p xs) a rest
   among p x xs a false e is (inl same) = absurd (true≢false (sym is ∙ (ap p (sym same) ∙ e)))
@@ -76,8 +75,7 @@ record Grown (old : List Active) (base : ℕ) (active : List Active) (count : �
 
 module _ (old : List Active) (base : ℕ) where
   joined_grows : (now : ℕ) (s : Start) (body : Block) (t : Note Plain) (active : List Active) (age : ℕ)
-      → Grown old base active age
-      → Grown old base (joined now s body t active age) (age + 1)
+      → Grown old base active age → Grown old base (joined now s body t active age) (age + 1)
   joined_grows now s body t active age h = by (s.cycles == 0)
     where
       n : Active
@@ -170,8 +168,7 @@ module _ (notes : ℕ → List Active) (count : ℕ → ℕ) (rising : (n : ℕ)
       let same : k ≡ j = omega (arith, e) in (
         b,
         subst (λ q. Contains (notes q) b) same h,
-        record
-            { number = refl; age = refl; ends = refl; fields = refl; body = refl },
+        record { number = refl; age = refl; ends = refl; fields = refl; body = refl },
       )
   stretch i (suc m) zero j b e le early h = absurd (omega (arith, e))
   stretch i (suc m) (suc k) j b e le early h =
@@ -194,8 +191,7 @@ module _ (c : Composition) where
       (comes c k b h)
 
   pub one_stretch : (i j k : ℕ) (a b : Active) → i ≤ j → j ≤ k → Contains (notes_in c i) a → Contains (notes_in c k) b
-      → b.age ≡ a.age
-      → (d : Active) × Contains (notes_in c j) d × IsSameNote d b
+      → b.age ≡ a.age → (d : Active) × Contains (notes_in c j) d × IsSameNote d b
   one_stretch i j k a b low high first last age =
       let old : a.age < (moment_at c (suc i)).started =
       All-contains (λ (x : Active). x.age < (moment_at c (suc i)).started) (notes_in c i) a (in_order c i).started

@@ -23,6 +23,5 @@ starts_none c now s m (Some body) e =
     ap (λ b. if b then initialised c now s body (begun c m.made s body m) m else in_vain m) e
 
 pub full_starts_none : (c : Composition) (now : ℕ) (s : Start) (m : Moment) → length m.active ≡ most_notes
-    → s.cycles ≢ 0
-    → start_in c now s m ≡ in_vain m
+    → s.cycles ≢ 0 → start_in c now s m ≡ in_vain m
 full_starts_none c now s m full some = starts_none c now s m (c.instrument s.number) (no_room s m full some)

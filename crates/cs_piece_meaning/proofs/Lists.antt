@@ -30,8 +30,7 @@ module _ {A : Type 0} (R : A → A → Type 0) where
     all_of x xs head true rest =
         All-cons (λ y. All (R y) (filter (λ z. not (p z)) xs)) x (filter p xs)
         (All-filter (λ z. not (p z)) (R x) xs head) rest
-    all_of x xs head false rest = λ k d lt.
-        All-cons (R (get_or (filter p xs) k d)) x (filter (λ z. not (p z)) xs)
+    all_of x xs head false rest = λ k d lt. All-cons (R (get_or (filter p xs) k d)) x (filter (λ z. not (p z)) xs)
         (back x (get_or (filter p xs) k d) (All-filter p (R x) xs head k d lt)) (rest k d lt)
 
     pub pairs_across : (xs : List A) → AllPairs R xs → All (λ y. All (R y) (filter (λ z. not (p z)) xs)) (filter p xs)

@@ -60,8 +60,7 @@ module _ (n : Active) where
 
   -- a note that was started after all others takes its place
   pub placed_stands : (P : Active → Type 0) (active : List Active) → InOrder P active n.age → P n
-      → length active < most_notes
-      → InOrder P (placed n active) (n.age + 1)
+      → length active < most_notes → InOrder P (placed n active) (n.age + 1)
   placed_stands P active h this room =
       let older : All (λ (a : Active). a.age < n.age) (filter low active) =
       All-filter low (λ (a : Active). a.age < n.age) active h.started in
@@ -74,8 +73,7 @@ module _ (n : Active) where
             (λ k d lt. is_low (get_or (filter low active) k d) (lows k d lt) (older k d lt))
             (λ k d lt. inl (above (get_or (filter high active) k d).number n.number (highs k d lt)))
             (λ i d lt j e within. is_across (get_or (filter low active) i d) (get_or (filter high active) j e)
-            (lows i d lt) (highs j e within))
-            h.order;
+            (lows i d lt) (highs j e within)) h.order;
         ages = between_pairs low n active HaveOtherAges
             (λ k d lt e. let l = older k d lt in omega (arith, l, e))
             (λ k d lt e. let l = younger k d lt in omega (arith, l, e))
@@ -91,8 +89,7 @@ module _ (n : Active) where
 -- FEWER NOTES
 
 pub filtered_stands : (P : Active → Type 0) (p : Active → Bool) (active : List Active) (count : ℕ)
-    → InOrder P active count
-    → InOrder P (filter p active) count
+    → InOrder P active count → InOrder P (filter p active) count
 filtered_stands P p active count h = record {
   order = AllPairs-filter StandsBefore p active h.order;
   ages = AllPairs-filter HaveOtherAges p active h.ages;
@@ -115,8 +112,7 @@ module _ (c : Composition) (now : ℕ) where
   Stand m = InOrder (PlaysIn c now) m.active m.started
 
   joined_stands : (s : Start) (body : Block) (t : Note Plain) (active : List Active) (age : ℕ)
-      → c.instrument s.number ≡ Some body
-      → t.world.ended ≡ false → Roomy s active → InOrder (PlaysIn c now) active age
+      → c.instrument s.number ≡ Some body → t.world.ended ≡ false → Roomy s active → InOrder (PlaysIn c now) active age
       → InOrder (PlaysIn c now) (joined now s body t active age) (age + 1)
   joined_stands s body t active age there on room h = by (s.cycles == 0) refl
     where
@@ -163,8 +159,7 @@ module _ (c : Composition) (now : ℕ) where
       filter_passes (λ (a : Active). nat_lt now a.ends) m.active in
       let fewer : InOrder Playing (filter (λ a. nat_lt now a.ends) m.active) m.started =
       filtered_stands Playing (λ (a : Active). nat_lt now a.ends) m.active m.started h in
-      other_kind Playing (PlaysIn c now) (filter (λ a. nat_lt now a.ends) m.active) m.started
-      (λ k d lt. record {
+      other_kind Playing (PlaysIn c now) (filter (λ a. nat_lt now a.ends) m.active) m.started (λ k d lt. record {
         body = (fewer.each k d lt).0;
         before_its_end = later now (get_or (filter (λ (a : Active). nat_lt now a.ends) m.active) k d).ends
             (last k d lt);
@@ -180,8 +175,7 @@ module _ (c : Composition) (now : ℕ) where
 -- THE NOTES ARE PERFORMED
 
 pub zip_at : {A B : Type 0} (R : A → B → Type 0) (xs : List A) (ys : List B) (k : ℕ) (d : A) (e : B) → AllZip R xs ys
-    → k < length ys
-    → R (get_or xs k d) (get_or ys k e)
+    → k < length ys → R (get_or xs k d) (get_or ys k e)
 zip_at R xs [] k d e all lt = absurd (omega arith)
 zip_at R [] (y ∷ ys) k d e all lt = absurd all
 zip_at R (x ∷ xs) (y ∷ ys) zero d e all lt = all.0
@@ -196,8 +190,7 @@ serial_same c made shared [] = tt
 serial_same c made shared (a ∷ rest) =
     let now : Active = next c made shared a in (
       record { number = refl; age = refl; ends = refl; fields = refl; body = refl },
-      serial_same c made
-          now.note.world.shared rest,
+      serial_same c made now.note.world.shared rest,
     )
 
 module _ (c : Composition) (P Q : Active → Type 0) (keep : (a b : Active) → IsSameNote a b → P a → Q b) where
@@ -238,8 +231,7 @@ module _ (c : Composition) where
       other_kind OfInstrument (Playing c n) (filter (λ (a : Active). not a.note.world.ended) after) m.started
       (λ k d lt. (
         fewer.each k d lt,
-        negated
-            (get_or (filter (λ (a : Active). not a.note.world.ended) after) k d).note.world.ended (on k d lt),
+        negated (get_or (filter (λ (a : Active). not a.note.world.ended) after) k d).note.world.ended (on k d lt),
       )) fewer
     where
       negated : (b : Bool) → not b ≡ true → b ≡ false

@@ -20,8 +20,7 @@ steps_are c now (suc n) m e =
         → AreStarted c now (first_started c now (d ∷ rest) m) (waited n c now (first_started c now (d ∷ rest) m)))
         → AreStarted c now m (unless_none ds m (waited n c now (first_started c now ds m)))
     by [] is k more = nothing_due m is
-    by (d ∷ rest) is k more =
-        first_due m (waited n c now (first_started c now (d ∷ rest) m)) d rest is (more d rest k)
+    by (d ∷ rest) is k more = first_due m (waited n c now (first_started c now (d ∷ rest) m)) d rest is (more d rest k)
 
 pub cycle_starts : (c : Composition) (n : ℕ)
     → AreStarted c n (all_done c (events_in c n) (still n (moment_at c n))) (begins c n (moment_at c n))

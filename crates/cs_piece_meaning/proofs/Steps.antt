@@ -60,8 +60,7 @@ pub record Keeps (c : Composition) (now : ℕ) (S : Fact) : Type 0 where
   pub add : (x : ℕ) (active : List Active) (count : ℕ) (w : Waiting) (time : ℤ) (a : Ask) → S x active count w
       → S x active count (with_answer (answer_to (clock_of c) now a w.kept) (due_of (clock_of c) now time a) w)
   pub take : (x : ℕ) (active : List Active) (count : ℕ) (w : Waiting) (d : Due) (rest : List Due) → w.due now ≡ d ∷ rest
-      → S x active count w
-      → S (x + 1) active count (taken now rest w)
+      → S x active count w → S (x + 1) active count (taken now rest w)
 
 module _ (c : Composition) (now : ℕ) (S : Fact) (keeps : Keeps c now S) where
   counted_keeps : (x : ℕ) (answer : Added) (m : Moment) → At S x m → At S x (counted answer m)
@@ -92,8 +91,7 @@ module _ (c : Composition) (now : ℕ) (S : Fact) (keeps : Keeps c now S) where
       let before : Moment = record m { shared = t.world.shared } in
       let same = all_active c now (time_of s) t.world.asks before in
       entered_keeps x s body t t.world.cause (all_asked c now (time_of s) t.world.asks before) there on
-      (subst (Roomy s) (sym same) room)
-      (all_keep x (time_of s) t.world.asks before h)
+      (subst (Roomy s) (sym same) room) (all_keep x (time_of s) t.world.asks before h)
 
   roomy : (s : Start) (m : Moment) → has_room s m ≡ true → Roomy s m.active
   roomy s m h = by (s.cycles == 0) refl h
@@ -123,8 +121,7 @@ module _ (c : Composition) (now : ℕ) (S : Fact) (keeps : Keeps c now S) where
   points_keep x None number points m h = h
   points_keep x (Some t) number points m h = by (is_some t.frozen)
     where
-      by : (b : Bool) → At S x
-          (if b then m else record m
+      by : (b : Bool) → At S x (if b then m else record m
           { shared = shared_with (res.Table number) (λ j. slice_index_or points j (pos 0)) m.shared })
       by true = h
       by false = h
@@ -158,16 +155,14 @@ module _ (c : Composition) (now : ℕ) (S : Fact) (keeps : Keeps c now S) where
   waited_keeps : (n x : ℕ) (m : Moment) → At S x m → Over (x + n) (waited n c now m)
   waited_keeps zero x m h = (x, h, inl (omega arith))
   waited_keeps (suc n) x m h =
-      by (m.waiting.due now) refl
-      (λ d rest is. further d rest
+      by (m.waiting.due now) refl (λ d rest is. further d rest
       (waited_keeps n (x + 1) (first_started c now (d ∷ rest) m) (first_keeps x d rest m is h)))
     where
       further : (d : Due) (rest : List Due) → Over (x + 1 + n) (waited n c now (first_started c now (d ∷ rest) m))
           → Over (x + suc n) (waited n c now (first_started c now (d ∷ rest) m))
       further d rest r = (r.0, r.1, ⊎_elim (λ l. inl (omega (arith, l))) (λ e. inr e) r.2)
 
-      by : (ds : List Due) → m.waiting.due now ≡ ds
-          → ((d : Due) (rest : List Due) → m.waiting.due now ≡ d ∷ rest
+      by : (ds : List Due) → m.waiting.due now ≡ ds → ((d : Due) (rest : List Due) → m.waiting.due now ≡ d ∷ rest
           → Over (x + suc n) (waited n c now (first_started c now (d ∷ rest) m)))
           → Over (x + suc n) (unless_none ds m (waited n c now (first_started c now ds m)))
       by [] is more = (x, h, inr is)

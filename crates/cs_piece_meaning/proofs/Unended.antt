@@ -40,8 +40,7 @@ module _ (piece : Piece) where
       (refused_for (no_table (table_number is)) x) (if is_delay q then late else unit) (told x) refl
       (chosen_is told (is_delay q) late unit (told x)
       (chosen_is told (nat_le far most_delay_samples) (begun (plain_model piece) q r u is (record x { delays = far }))
-      (refused_for (delay_too_long far) x) (told x) refl refl)
-      refl)
+      (refused_for (delay_too_long far) x) (told x) refl refl) refl)
 
   sought_is : (is : List ℤ) (x : Plain) → told ((plain piece).seek is x) ≡ told x
   sought_is is x =
@@ -70,7 +69,7 @@ module _ (piece : Piece) where
 
   begins : (body : Block) (shared : Res → Wave)
       → Begins (asks_in body) (fresh shared) (init_block (plain piece) start body (new_note (fresh shared))).world
-  begins body shared = block_goes (plain piece) Begins goes body start (new_note (fresh shared))
+  begins body shared = (block_goes (plain piece) Begins goes body start (new_note (fresh shared))).worlds
 
   pub begins_unended : (body : Block) (shared : Res → Wave)
       → (init_block (plain piece) start body (new_note (fresh shared))).world.ended ≡ false

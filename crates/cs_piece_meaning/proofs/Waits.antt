@@ -26,8 +26,7 @@ room_of clock now a kept h =
   where
     by : (b1 b2 b3 : Bool) → nat_le most_asks kept ≡ b2
         → (if b1 then added.Negative else (if b2 then added.TooMany else (if b3 then added.PastEnd else added.Kept)))
-        ≡ added.Kept
-        → kept < most_asks
+        ≡ added.Kept → kept < most_asks
     by false false b3 e h = grind (arith, nat_tests)
     by _ _ b3 e h = absurd cc
 

@@ -32,8 +32,7 @@ passes : {X : Type 0} (test : X → Bool) (xs : List X) (x : X) → Contains xs 
 passes test [] x h e = absurd (contains_none x h)
 passes test (y ∷ xs) x h e =
     ⊎_elim (λ same. or_left (test y) (list_any test xs) (subst (λ z. test z ≡ true) (sym same) e))
-    (λ later. or_right (test y) (list_any test xs) (passes test xs x later e))
-    (contains_cases y x xs h)
+    (λ later. or_right (test y) (list_any test xs) (passes test xs x later e)) (contains_cases y x xs h)
 
 shared : (rs ss : List Res) → share rs ss ≡ true → (r : Res) × Contains rs r × Contains ss r
 shared rs ss h = let one = found (is_among ss) rs h in (one.0, one.1, among_contains ss one.0 one.2)
@@ -121,15 +120,12 @@ module _ (areas zones : List Area) (over : AreOver areas zones) (p t : Touched) 
       (subst (Contains ss) (one_area areas y.0 x.0 a over.areas_laid y.1 x.1 y.3 x.3) y.2)
 
   pub conflicts : Clash f g → conflict p t ≡ true
-  conflicts c =
-      ⊎_elim
-      (λ x. let a = cell_of p f c.0 h (h.places.written c.0 x.0) in
+  conflicts c = ⊎_elim (λ x. let a = cell_of p f c.0 h (h.places.written c.0 x.0) in
       or_left (share p.writes t.uses) (share t.writes p.uses)
       (at_one p.writes t.uses a.0 (holds_written p f c.0 a.0 h x.0 a.1) (holds_used t g c.0 a.0 k x.1 a.1)))
       (λ x. let a = cell_of t g c.0 k (k.places.written c.0 x.1) in
       or_right (share p.writes t.uses) (share t.writes p.uses)
-      (at_one t.writes p.uses a.0 (holds_written t g c.0 a.0 k x.1 a.1) (holds_used p f c.0 a.0 h x.0 a.1)))
-      c.1
+      (at_one t.writes p.uses a.0 (holds_written t g c.0 a.0 k x.1 a.1) (holds_used p f c.0 a.0 h x.0 a.1))) c.1
 
   -- what is used, or written, of a resource is in the footprint
   covers_res : (rs : List Res) (r : Res) (place : ℕ) (area : Area) → Contains rs r → slice_get areas place ≡ Some area
@@ -143,18 +139,14 @@ module _ (areas zones : List Area) (over : AreOver areas zones) (p t : Touched) 
   meets fs gs a x y = grind (arith, common_steps, covered_at, one_place)
 
   pub clashes : conflict p t ≡ true → Clash f g
-  clashes c =
-      ⊎_elim
-      (λ x. let r = shared p.writes t.uses x in
+  clashes c = ⊎_elim (λ x. let r = shared p.writes t.uses x in
       let at = place_of areas r.0 (named_at (HasArea areas) t.uses r.0 k.there r.2) in
       let m = meets f.writes g.uses at.1.0.first
       (h.writes at.1.0.first ∙ covers_res p.writes r.0 at.0 at.1.0 r.1 at.1.1 at.1.2)
       (k.uses at.1.0.first ∙ covers_res t.uses r.0 at.0 at.1.0 r.2 at.1.1 at.1.2) in
-      (m.0, inl (m.1, inl m.2)))
-      (λ x. let r = shared t.writes p.uses x in
+      (m.0, inl (m.1, inl m.2))) (λ x. let r = shared t.writes p.uses x in
       let at = place_of areas r.0 (named_at (HasArea areas) p.uses r.0 h.there r.2) in
       let m = meets g.writes f.uses at.1.0.first
       (k.writes at.1.0.first ∙ covers_res t.writes r.0 at.0 at.1.0 r.1 at.1.1 at.1.2)
       (h.uses at.1.0.first ∙ covers_res p.uses r.0 at.0 at.1.0 r.2 at.1.1 at.1.2) in
-      (m.0, inr (inl m.2, m.1)))
-      (or_cases (share p.writes t.uses) (share t.writes p.uses) c)
+      (m.0, inr (inl m.2, m.1))) (or_cases (share p.writes t.uses) (share t.writes p.uses) c)

@@ -5,7 +5,7 @@ use Rattle.std.proofs.lemmas.List.Elements.{Contains-append_left, Contains-appen
 use Rattle.cs_base.specs.{declared.resource.Rate.Rate, declared.resource.Res.Res}
 use Rattle.cs_ir.specs.Resources.{Stock, may_use, may_write, tables_within, unit_uses, writes_places, zak_uses}
 use Rattle.cs_ir.specs.{Resources.zak_writes, Waves.if_init, declared.op.Reach.Reach}
-use Rattle.cs_meaning.specs.Core.{Stmt, Block, Arms, set, unit, zak, store, out, out_at, ask, turnoff, nothing, choose}
+use Rattle.cs_meaning.specs.Core.{Stmt, Block, Arms, set, unit, zak, store, out, out_at, choose}
 use Rattle.cs_meaning.specs.{Core.no_stmt, Core.andthen, Core.otherwise, Core.arm, Uses.var_uses, Uses.vars_use}
 use Rattle.cs_meaning.specs.Uses.{arms_touched, block_uses, block_writes, cycle, expr_used, exprs_used, stmt_touched}
 use Rattle.cs_words.specs.{Catalogue.row_of, declared.catalogue.Opcode.Opcode}
@@ -29,8 +29,7 @@ both ws xs ys zs h k r e =
 
 at_rate : (r : Rate) (xs ys : List Res) → Within xs ys → Within (if_init r [] xs) (if_init r [] ys)
 at_rate rate.Init xs ys h = λ g k. k
-at_rate rate.Control xs ys h = h
-at_rate rate.Audio xs ys h = h
+at_rate _ xs ys h = h
 
 of_zak : (stock : Stock) (opcode : Opcode) (reach : Reach)
     → Within (zak_writes stock opcode reach) (zak_uses stock opcode reach)
@@ -62,10 +61,8 @@ mutual
       (behind (exprs_used cycle es) (tables_within stock reach) (tables_within stock reach) (λ g k. k))
   of_stmt stock (out r es) = none_within (exprs_used cycle es)
   of_stmt stock (out_at r es) = none_within (exprs_used cycle es)
-  of_stmt stock (ask es) = none_within []
-  of_stmt stock (turnoff r) = none_within []
-  of_stmt stock nothing = none_within []
   of_stmt stock (choose r arms) = of_arms stock arms
+  of_stmt stock _ = none_within []
 
   pub written_is_used : (stock : Stock) (b : Block) → Within (block_writes stock b) (block_uses stock b)
   written_is_used stock no_stmt = none_within []

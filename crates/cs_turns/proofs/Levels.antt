@@ -83,8 +83,7 @@ moved : (a b x y : Turn) → a ≡ b → x ≡ y → (conflict a.0 x.0 ≡ true)
 moved a b x y e f h = rw (← e, ← f) h
 
 here : (earlier : List Turn) (x : Turn) (all : List Turn) → ((p : ℕ) → p < length earlier → at all p ≡ at earlier p)
-    → at all (length earlier) ≡ x
-    → IsTurnAt all (length earlier) → x.1 ≡ turn_behind earlier x.0
+    → at all (length earlier) ≡ x → IsTurnAt all (length earlier) → x.1 ≡ turn_behind earlier x.0
 here earlier x all before seam h =
     turn_is earlier x.0 x.1
     (λ p l. moves (at all p) (at earlier p) (at all (length earlier)) x (before p l) seam (h.above p l))
@@ -168,13 +167,12 @@ module _ (areas zones : List Area) (over : AreOver areas zones) (ts : List Touch
 
   turn_above : (p k : ℕ) → p < k → k < length ts → conflict (turn p).0 (turn k).0 ≡ true → (turn p).1 < (turn k).1
   unfolding turn
-  turn_above p k l m c =
-      levelled.above p k (record {
-        earlier = l;
-        within = omega (arith, m, same_length);
-        clash = clashes areas zones over (get_or ts p nothing) (get_or ts k nothing) (foot feet p) (foot feet k)
-            (foot_at p (omega (arith, l, m))) (foot_at k m) c;
-      })
+  turn_above p k l m c = levelled.above p k (record {
+    earlier = l;
+    within = omega (arith, m, same_length);
+    clash = clashes areas zones over (get_or ts p nothing) (get_or ts k nothing) (foot feet p) (foot feet k)
+        (foot_at p (omega (arith, l, m))) (foot_at k m) c;
+  })
 
   turn_reached : (k : ℕ) → k < length ts
       → ((turn k).1 ≡ 0) ⊎ ((p : ℕ) × (p < k) × (conflict (turn p).0 (turn k).0 ≡ true) × ((turn k).1 ≡ (turn p).1 + 1))
@@ -189,8 +187,7 @@ module _ (areas zones : List Area) (over : AreOver areas zones) (ts : List Touch
         conflicts areas zones over (get_or ts r.0 nothing) (get_or ts k nothing) (foot feet r.0)
             (foot feet k) (foot_at r.0 (omega (arith, l, m))) (foot_at k m) r.1.clash,
         r.2,
-      ))
-      (eq-zero-or-pos (get_or levels k 0))
+      )) (eq-zero-or-pos (get_or levels k 0))
 
   turn_at : (k : ℕ) → k < length ts → IsTurnAt (paired ts levels) k
   turn_at k m = record {

@@ -13,7 +13,7 @@ use Rattle.cs_ir.specs.{Resources.places_of, Values.negated, Values.applied, Wor
 use Rattle.cs_ir.specs.Waves.{Wave, held, constant, both, chosen, if_init, first_values}
 use Rattle.cs_meaning.specs.Core.{Stmt, set, unit, zak, store, out, out_at, ask, turnoff, nothing, choose, no_stmt}
 use Rattle.cs_meaning.specs.Core.{otherwise, values_of, settled, moving, table_reach, place_reach, span_reach}
-use Rattle.cs_meaning.specs.Core.{unit_reach, zak_reach, plus, unit_call, store_call, zak_call, core_call}
+use Rattle.cs_meaning.specs.Core.{unit_reach, zak_reach, unit_call, store_call, zak_call, core_call}
 use Rattle.cs_meaning.specs.Initialising.{going, put_kept, keep, keep_all, started, sought, init_stmt}
 use Rattle.cs_meaning.specs.Notes.{Note, Path, StatementPlace, unit_past, moved_to, look, assign, part, value, values}
 use Rattle.cs_meaning.specs.Notes.{first_value, given, done, sent, sent_at}
@@ -65,8 +65,7 @@ pub data AlikeStmt (V : Variable → Variable → Type 0) : Stmt → Stmt → Ty
       → AlikeStmt V (unit r vs o k xs is) (unit r ws o k ys js)
   alike_zak : (r : Rate) (vs ws : List Variable) (o : Opcode) (k : Reach) (xs ys : List Expression)
       → AlikeVariables V vs ws → AlikeAll V xs ys → AlikeStmt V (zak r vs o k xs) (zak r ws o k ys)
-  alike_store : (r : Rate) (k : Reach) (xs ys is js : List Expression) → AlikeAll V xs ys
-      → AlikeAll V is js
+  alike_store : (r : Rate) (k : Reach) (xs ys is js : List Expression) → AlikeAll V xs ys → AlikeAll V is js
       → AlikeStmt V (store r k xs is) (store r k ys js)
   alike_out : (r : Rate) (xs ys : List Expression) → AlikeAll V xs ys → AlikeStmt V (out r xs) (out r ys)
   alike_out_at : (r : Rate) (xs ys : List Expression) → AlikeAll V xs ys → AlikeStmt V (out_at r xs) (out_at r ys)
@@ -84,8 +83,7 @@ values_alike (more_values a b xs ys h more) = alike_more a b (values_of xs) (val
 values_alike (more_texts v w xs ys h more) = values_alike more
 
 settled_alike : {V : Variable → Variable → Type 0} {xs ys : List typed.Argument} → (row : Row) (n : ℕ)
-    → AlikeArguments V xs ys
-    → AlikeAll V (settled row n xs) (settled row n ys)
+    → AlikeArguments V xs ys → AlikeAll V (settled row n xs) (settled row n ys)
 settled_alike row n no_argument = alike_none
 settled_alike {V} row n (more_values a b xs ys h more) =
     by (is_settled (letter_at row n)) (settled_alike row (n + 1) more)
@@ -98,8 +96,7 @@ settled_alike {V} row n (more_values a b xs ys h more) =
 settled_alike row n (more_texts v w xs ys h more) = settled_alike row (n + 1) more
 
 moving_alike : {V : Variable → Variable → Type 0} {xs ys : List typed.Argument} → (row : Row) (n : ℕ)
-    → AlikeArguments V xs ys
-    → AlikeAll V (moving row n xs) (moving row n ys)
+    → AlikeArguments V xs ys → AlikeAll V (moving row n xs) (moving row n ys)
 moving_alike row n no_argument = alike_none
 moving_alike {V} row n (more_values a b xs ys h more) =
     by (is_settled (letter_at row n)) (moving_alike row (n + 1) more)
@@ -132,15 +129,11 @@ span_alike n (alike_number r z) s = after_number n r z s
 span_alike n _ s = refl
 
 zak_reach_alike : {V : Variable → Variable → Type 0} {xs ys : List Expression} → (spaces : Spaces) (sh : Shape)
-    → AlikeAll V xs ys
-    → zak_reach spaces sh xs ≡ zak_reach spaces sh ys
+    → AlikeAll V xs ys → zak_reach spaces sh xs ≡ zak_reach spaces sh ys
 zak_reach_alike spaces (shape.ZakGet s) (alike_more a b xs ys h more) = place_alike (places_of spaces s) h
-zak_reach_alike spaces (shape.ZakPut s) (alike_more a b _ _ h (alike_more c d xs ys j more)) =
-    place_alike (places_of spaces s) j
-zak_reach_alike spaces shape.ZakMix (alike_more a b _ _ h (alike_more c d xs ys j more)) =
-    place_alike (places_of spaces space.Audio) j
-zak_reach_alike spaces (shape.ZakClear s) (alike_more a b _ _ h (alike_more c d xs ys j more)) =
-    span_alike (places_of spaces s) h j
+zak_reach_alike spaces (shape.ZakPut s) (alike_more a b _ _ h (alike_more c d xs ys j more)) = place_alike _ j
+zak_reach_alike spaces shape.ZakMix (alike_more a b _ _ h (alike_more c d xs ys j more)) = place_alike _ j
+zak_reach_alike spaces (shape.ZakClear s) (alike_more a b _ _ h (alike_more c d xs ys j more)) = span_alike _ h j
 zak_reach_alike spaces _ _ = refl
 
 unit_alike : {V : Variable → Variable → Type 0} {vs ws : List Variable} {xs ys : List typed.Argument}
@@ -153,56 +146,45 @@ unit_alike {V} {vs} {ws} {xs} {ys} r o given args =
     let made = unit_reach o (settled row 0 xs) in
     subst (λ k. AlikeStmt V (unit r vs o made (moving row 0 xs) (settled row 0 xs))
     (unit r ws o k (moving row 0 ys) (settled row 0 ys)))
-    (ap (λ k. if takes_table o then k else reach.Nothing) (table_alike s))
-    (alike_unit r vs ws o made (moving row 0 xs) (moving row 0 ys) (settled row 0 xs) (settled row 0 ys) given m s)
+    (ap (λ k. if takes_table o then k else reach.Nothing) (table_alike s)) (alike_unit _ _ _ _ _ _ _ _ _ given m s)
 
 store_alike : {V : Variable → Variable → Type 0} {xs ys : List typed.Argument} → (r : Rate) (o : Opcode)
-    → AlikeArguments V xs ys
-    → AlikeStmt V (store_call r o xs) (store_call r o ys)
+    → AlikeArguments V xs ys → AlikeStmt V (store_call r o xs) (store_call r o ys)
 store_alike {V} {xs} {ys} r o args =
     let row = row_of o in
     let s = settled_alike row 0 args in
     let made = table_reach (settled row 0 xs) in
     subst (λ k. AlikeStmt V (store r made (values_of xs) (settled row 0 xs))
-    (store r k (values_of ys) (settled row 0 ys))) (table_alike s)
-    (alike_store r made (values_of xs) (values_of ys) (settled row 0 xs) (settled row 0 ys) (values_alike args) s)
+    (store r k (values_of ys) (settled row 0 ys))) (table_alike s) (alike_store _ _ _ _ _ _ (values_alike args) s)
 
 zak_alike : {V : Variable → Variable → Type 0} {vs ws : List Variable} {xs ys : List typed.Argument}
-    → (spaces : Spaces) (r : Rate) (o : Opcode) (sh : Shape)
-    → AlikeVariables V vs ws → AlikeArguments V xs ys
+    → (spaces : Spaces) (r : Rate) (o : Opcode) (sh : Shape) → AlikeVariables V vs ws → AlikeArguments V xs ys
     → AlikeStmt V (zak_call spaces r vs o sh xs) (zak_call spaces r ws o sh ys)
 zak_alike {V} {vs} {ws} {xs} {ys} spaces r o sh given args =
     let row = row_of o in
     let m = moving_alike row 0 args in
     let made = zak_reach spaces sh (moving row 0 xs) in
     subst (λ k. AlikeStmt V (zak r vs o made (moving row 0 xs)) (zak r ws o k (moving row 0 ys)))
-    (zak_reach_alike spaces sh m)
-    (alike_zak r vs ws o made (moving row 0 xs) (moving row 0 ys) given m)
+    (zak_reach_alike spaces sh m) (alike_zak r vs ws o made (moving row 0 xs) (moving row 0 ys) given m)
 
 pub core_alike : {V : Variable → Variable → Type 0} {vs ws : List Variable} {xs ys : List typed.Argument}
-    → (spaces : Spaces) (r : Rate) (o : Opcode) (sh : Shape)
-    → AlikeVariables V vs ws → AlikeArguments V xs ys
+    → (spaces : Spaces) (r : Rate) (o : Opcode) (sh : Shape) → AlikeVariables V vs ws → AlikeArguments V xs ys
     → AlikeStmt V (core_call spaces r vs o sh xs) (core_call spaces r ws o sh ys)
 core_alike spaces r o shape.Init (more_variables x y vs ws g rest) (more_values a b xs ys h more) =
     alike_set rate.Init x y a b g h
 core_alike spaces r o shape.ChannelGet (more_variables x y vs ws g rest) (more_texts v w xs ys h more) =
-    alike_set r x y (var r v) (var r w) g
-    (alike_var r v w h)
+    alike_set r x y (var r v) (var r w) g (alike_var r v w h)
 core_alike spaces r o shape.ChannelPut no_variable (more_values a b _ _ h (more_texts v w xs ys j more)) =
     alike_set r v w a b j h
 core_alike spaces r o shape.ChannelPut given
     (more_values a b _ _ h (more_texts v w xs ys j more)) = alike_set r v w a b j h
 core_alike spaces r o shape.ChannelMix no_variable (more_values a b _ _ h (more_texts v w xs ys j more)) =
-    alike_set r v w (plus rate.Audio v a) (plus rate.Audio w b) j
-    (alike_pair rate.Audio op.Add (var rate.Audio v) (var rate.Audio w) a b (alike_var rate.Audio v w j) h)
-core_alike spaces r o shape.ChannelMix given
-    (more_values a b _ _ h (more_texts v w xs ys j more)) =
-    alike_set r v w (plus rate.Audio v a) (plus rate.Audio w b) j
-    (alike_pair rate.Audio op.Add (var rate.Audio v) (var rate.Audio w) a b (alike_var rate.Audio v w j) h)
+    alike_set _ _ _ _ _ j (alike_pair _ _ _ _ _ _ (alike_var _ _ _ j) h)
+core_alike spaces r o shape.ChannelMix given (more_values a b _ _ h (more_texts v w xs ys j more)) =
+    alike_set _ _ _ _ _ j (alike_pair _ _ _ _ _ _ (alike_var _ _ _ j) h)
 core_alike spaces r o shape.ChannelClear no_variable (more_texts v w xs ys h more) =
     alike_set r v w _ _ h (alike_number rate.Init _)
-core_alike spaces r o shape.ChannelClear given (more_texts v w xs ys h more) =
-    alike_set r v w _ _ h (alike_number rate.Init _)
+core_alike spaces r o shape.ChannelClear given (more_texts v w xs ys h more) = alike_set _ _ _ _ _ h (alike_number _ _)
 core_alike spaces r o shape.Out no_variable args = alike_out r _ _ (values_alike args)
 core_alike spaces r o shape.Out given args = alike_out r _ _ (values_alike args)
 core_alike spaces r o shape.OutAt no_variable args = alike_out_at r _ _ (values_alike args)
@@ -290,10 +272,7 @@ module _ {W : Type 0} (o : World W) (to : Res → Res) (V : Variable → Variabl
 
   pub value_same : (t u : Note W) → R t u → {a b : Expression} → Alike V a b → (w : When) (p q : Path)
       → Reads w (At p q) → value o t w p a ≡ value there u w q b
-  value_same t u h (alike_number r z) w p q at = part_same t u h w r p q at _ _ refl
   value_same t u h (alike_var r x y g) w p q at = part_same t u h w r p q at _ _ (s.looks t u h r x y g)
-  value_same t u h (alike_field r k) w p q at = part_same t u h w r p q at _ _ refl
-  value_same t u h (alike_head r k) w p q at = part_same t u h w r p q at _ _ refl
   value_same t u h (alike_neg r a b g) w p q at =
       let one = value_same t u h g w (0 ∷ p) (0 ∷ q) (inner w p q at 0) in
       part_same t u h w r p q at _ _ (λ i. held o.ksmps r (λ j. negated (one i j)))
@@ -309,6 +288,7 @@ module _ {W : Type 0} (o : World W) (to : Res → Res) (V : Variable → Variabl
   value_same t u h (alike_apply r f a b g) w p q at =
       let one = value_same t u h g w (0 ∷ p) (0 ∷ q) (inner w p q at 0) in
       part_same t u h w r p q at _ _ (λ i. held o.ksmps r (λ j. applied f (one i j)))
+  value_same t u h _ w p q at = part_same t u h w _ p q at _ _ refl
 
   -- values as the note begins, and in a cycle those of parts from one on
   firsts_same : (t u : Note W) → R t u → {xs ys : List Expression} → AlikeAll V xs ys
@@ -338,31 +318,24 @@ module _ {W : Type 0} (o : World W) (to : Res → Res) (V : Variable → Variabl
       → R (put_kept p (first_value o t a) t) (put_kept q (first_value there u b) u)
   kept_whole t u h {a} {b} g p q at =
       subst (λ x. R (put_kept p (first_value o t a) t) (put_kept q x u))
-      (λ i. value_same t u h g beginning [] [] tt i 0)
-      (s.keeps t u h p q at (first_value o t a))
+      (λ i. value_same t u h g beginning [] [] tt i 0) (s.keeps t u h p q at (first_value o t a))
 
   pub keep_same : (t u : Note W) → R t u → {a b : Expression} → Alike V a b → (p q : Path) → At p q
       → R (keep o p a t) (keep there q b u)
-  keep_same t u h (alike_number r z) p q at = either r _ _ t u (kept_whole t u h (alike_number r z) p q at) h
-  keep_same t u h (alike_var r v w g) p q at = either r _ _ t u (kept_whole t u h (alike_var r v w g) p q at) h
-  keep_same t u h (alike_field r k) p q at = either r _ _ t u (kept_whole t u h (alike_field r k) p q at) h
-  keep_same t u h (alike_head r k) p q at = either r _ _ t u (kept_whole t u h (alike_head r k) p q at) h
   keep_same t u h (alike_neg r a b g) p q at =
-      either r _ _ _ _ (kept_whole t u h (alike_neg r a b g) p q at)
-      (keep_same t u h g (0 ∷ p) (0 ∷ q) (s.parts p q at 0))
+      either _ _ _ _ _ (kept_whole _ _ h (alike_neg _ _ _ g) _ _ at) (keep_same t u h g _ _ (s.parts p q at 0))
   keep_same t u h (alike_pair r f a b c d g k) p q at =
       let one = keep_same t u h g (0 ∷ p) (0 ∷ q) (s.parts p q at 0) in
       either r _ _ _ _ (kept_whole t u h (alike_pair r f a b c d g k) p q at)
       (keep_same (keep o (0 ∷ p) a t) (keep there (0 ∷ q) b u) one k (1 ∷ p) (1 ∷ q) (s.parts p q at 1))
   keep_same t u h (alike_pick r a b c d x y g k l) p q at =
-      let one = keep_same t u h g (0 ∷ p) (0 ∷ q) (s.parts p q at 0) in
-      let two = keep_same (keep o (0 ∷ p) a t) (keep there (0 ∷ q) b u) one k (1 ∷ p) (1 ∷ q) (s.parts p q at 1) in
-      either r _ _ _ _ (kept_whole t u h (alike_pick r a b c d x y g k l) p q at)
-      (keep_same (keep o (1 ∷ p) c (keep o (0 ∷ p) a t)) (keep there (1 ∷ q) d (keep there (0 ∷ q) b u)) two l (2 ∷ p)
-      (2 ∷ q) (s.parts p q at 2))
+      let one = keep_same t u h g _ _ (s.parts p q at 0) in
+      let two = keep_same _ _ one k _ _ (s.parts p q at 1) in
+      either _ _ _ _ _ (kept_whole _ _ h (alike_pick _ _ _ _ _ _ _ g k l) _ _ at)
+      (keep_same _ _ two l _ _ (s.parts p q at 2))
   keep_same t u h (alike_apply r f a b g) p q at =
-      either r _ _ _ _ (kept_whole t u h (alike_apply r f a b g) p q at)
-      (keep_same t u h g (0 ∷ p) (0 ∷ q) (s.parts p q at 0))
+      either _ _ _ _ _ (kept_whole _ _ h (alike_apply _ _ _ _ g) _ _ at) (keep_same t u h g _ _ (s.parts p q at 0))
+  keep_same t u h g p q at = either _ _ _ t u (kept_whole t u h g p q at) h
 
   -- what is kept of parts from one on
   keep_all_same : (t u : Note W) → R t u → {xs ys : List Expression} → AlikeAll V xs ys → (k : ℕ) (p q : Path) → At p q
@@ -381,8 +354,7 @@ module _ {W : Type 0} (o : World W) (to : Res → Res) (V : Variable → Variabl
   given_same t u h (more_variables x y xs ys g more) w = s.assigns t u h x y g w
 
   done_same : (t u : Note W) → R t u → {vs ws : List Variable} → AlikeVariables V vs ws → (r : Rate) (d e : W × Wave)
-      → d ≡ e
-      → R (done o r vs d t) (done there r ws e u)
+      → d ≡ e → R (done o r vs d t) (done there r ws e u)
   done_same t u h {vs} {ws} g r d e same = subst (λ z. R (done o r vs d t) (done there r ws z u)) same (by d)
     where
       by : (z : W × Wave) → R (done o r vs z t) (done there r ws z u)
@@ -413,26 +385,21 @@ module _ {W : Type 0} (o : World W) (to : Res → Res) (V : Variable → Variabl
   init_same t u h (alike_out r xs ys g) p q at n = going_same t u _ _ h (keep_all_same t u h g 0 p q at)
   init_same t u h (alike_out_at r xs ys g) p q at n = going_same t u _ _ h (keep_all_same t u h g 0 p q at)
   init_same t u h (alike_ask xs ys g) p q at n =
-      going_same t u _ _ h
-      (moves_to t u h _ _ (λ i. o.ask (first_values (firsts_same t u h g i)) (s.world t u h i)))
+      going_same t u _ _ h (moves_to t u h _ _ (λ i. o.ask (first_values (firsts_same t u h g i)) (s.world t u h i)))
   init_same t u h (alike_empty r) p q at n = going_same t u _ _ h (either r t u t u h h)
   init_same t u h _ p q at n = h
 
   pub perf_same : (t u : Note W) → R t u → {x y : Stmt} → AlikeStmt V x y → (p q : Path) → At p q → (n : ℕ)
       → R (perf_stmt o (place p n) x t) (perf_stmt there (place q n) y u)
   perf_same t u h (alike_set r v w a b g k) p q at n =
-      either r t u _ _ h
-      (assigns_to t u h v w g (value o t cycle (0 ∷ p) a) (value there u cycle (0 ∷ q) b)
-      (value_same t u h k cycle (0 ∷ p) (0 ∷ q) (s.parts p q at 0)))
+      either _ _ _ _ _ h (assigns_to _ _ h _ _ g _ _ (value_same _ _ h k cycle (0 ∷ p) (0 ∷ q) (s.parts p q at 0)))
   perf_same t u h (alike_unit r vs ws f k xs ys is js g l m) p q at n =
       either r t u _ _ h
       (done_same t u h g r _ _ (λ i. o.does f r n k (values_same t u h l 0 p q at i) (s.world t u h i)))
   perf_same t u h (alike_zak r vs ws f k xs ys g l) p q at n =
-      either r t u _ _ h
-      (done_same t u h g r _ _ (λ i. o.zak f k (values_same t u h l 0 p q at i) (s.world t u h i)))
+      either r t u _ _ h (done_same t u h g r _ _ (λ i. o.zak f k (values_same t u h l 0 p q at i) (s.world t u h i)))
   perf_same t u h (alike_store r k xs ys is js l m) p q at n =
-      either r t u _ _ h
-      (moves_to t u h _ _ (λ i. o.store r k (values_same t u h l 0 p q at i) (s.world t u h i)))
+      either r t u _ _ h (moves_to t u h _ _ (λ i. o.store r k (values_same t u h l 0 p q at i) (s.world t u h i)))
   perf_same t u h (alike_out r xs ys g) p q at n = grind (arith, common_steps, moves_to, sent_there, values_same)
   perf_same t u h (alike_out_at r xs ys g) p q at n = grind (arith, common_steps, moves_to, sent_at_there, values_same)
   perf_same t u h (alike_turnoff r) p q at n = moves_to t u h _ _ (λ i. o.turnoff (s.world t u h i))

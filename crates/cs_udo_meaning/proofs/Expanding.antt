@@ -6,7 +6,7 @@ use Rattle.cs_words.specs.Names.{name_rate}
 use Rattle.cs_grammar.specs.{declared.tree.Callee.Callee, Tree.joins, Tree.Arms, Tree.otherwise, Tree.arm}
 use Rattle.cs_grammar.specs.Tree.{Expression, Argument, value, Statement, set, call, choose, Block, no_stmt, andthen}
 use Rattle.cs_typed.specs.declared.tree.Var.{Var as Variable}
-use Rattle.cs_typing.specs.{Known.channel_of, Statements.choice_rate, declared.known.Channel.Channel}
+use Rattle.cs_typing.specs.{Known.channel_of, declared.known.Channel.Channel}
 use Rattle.cs_ir.specs.{Values.holds, Waves.Wave, Waves.if_init}
 use Rattle.cs_meaning.specs.{Initialising.going, Initialising.keep, When.When, When.beginning, When.cycle}
 use Rattle.cs_meaning.specs.Notes.{Note, Path, StatementPlace, next, inside, inside_arm, past_stmt, unit_past_block}
@@ -123,8 +123,7 @@ module _ {W : Type 0} (texts : Texts W) where
       let q = past_stmt p (flat_stmt x) in
       let now = stmt_done w m.world p (flat_stmt x) t in
       ap (text_done w (past_text q (flat_block rest)) (flat_block b))
-      (sym (text_more w p (flat_stmt x) (flat_block rest) t))
-      ∙ text_joins w q rest b now
+      (sym (text_more w p (flat_stmt x) (flat_block rest) t)) ∙ text_joins w q rest b now
       ∙ text_more w p (flat_stmt x) (flat_block (joins rest b)) t
 
   -- ---- a statement without calls of defined opcodes
@@ -151,9 +150,7 @@ module _ {W : Type 0} (texts : Texts W) where
   alike_set f line x e n k =
       subst (λ a. AlikeStmt (Same f) (core.core_stmt m.spaces a) (read m (set line x e)))
       (sym (set_renamed (own_rates f) m.shared v line x e))
-      (set_alike (λ y. v (own_name f y)) (numbered m.shared m.number) (alike_variable f) m.shared m.shared
-      (alike_channel f)
-      m.spaces line x e n k)
+      (set_alike _ _ (alike_variable _) m.shared m.shared (alike_channel _) m.spaces line _ _ n k)
 
   alike_call : (f line : ℕ) (xs : List (List ℕ)) (c : Callee) (args : List Argument) → NamedAll (Fits f) xs
       → NamedArguments (Fits f) args
@@ -161,10 +158,8 @@ module _ {W : Type 0} (texts : Texts W) where
       (read m (call line xs c args))
   alike_call f line xs c args n k =
       subst (λ a. AlikeStmt (Same f) (core.core_stmt m.spaces a) (read m (call line xs c args)))
-      (sym (call_renamed (own_rates f) m.shared v line xs c args))
-      (call_alike (λ y. v (own_name f y)) (numbered m.shared m.number) (alike_variable f) m.shared m.shared
-      (alike_channel f)
-      m.spaces line xs c args n k)
+      (sym (call_renamed (own_rates _) m.shared v line xs c args))
+      (call_alike _ _ (alike_variable _) m.shared m.shared (alike_channel _) _ _ _ _ _ n k)
 
   -- ---- two notes at a statement
 
@@ -173,54 +168,39 @@ module _ {W : Type 0} (texts : Texts W) where
   agree f p at u = seen_agree m.world way clear flat m.number tf to f p at u
 
   plain_stands : (w : When) (f : ℕ) (fp : Path) → way.frame f ≡ Some fp → (p : StatementPlace) (q : Path)
-      → Follows way p.path q
-      → (x : core.Stmt) (y : core.Stmt) (t : Note W) (u : Framed W) → AlikeStmt (Same f) x y → Stand t u
-      → Stand (stmt_done w m.world p x t)
-      (put_back fp (stmt_done w m.world (place q p.unit) y (seen_from fp u)) u)
+      → Follows way p.path q → (x : core.Stmt) (y : core.Stmt) (t : Note W) (u : Framed W) → AlikeStmt (Same f) x y
+      → Stand t u
+      → Stand (stmt_done w m.world p x t) (put_back fp (stmt_done w m.world (place q p.unit) y (seen_from fp u)) u)
   plain_stands beginning f fp at p q leads x y t u a h =
-      from_seen way clear flat m.number f fp at (initial.init_stmt m.world p x t)
-      (initial.init_stmt m.world (place q p.unit) y (seen_from fp u)) u
-      (init_same m.world (λ r. r) (Same f) (Follows way) (Seen way flat m.number f fp u) (agree f fp at u) t
-      (seen_from fp u)
-      (to_seen way flat m.number f fp at t u h) a p.path q leads p.unit)
+      from_seen _ clear _ _ _ _ at _ _ _
+      (init_same _ (λ r. r) _ _ _ (agree _ _ at _) _ _ (to_seen _ _ _ _ _ at _ _ h) a _ _ leads _)
   plain_stands cycle f fp at p q leads x y t u a h =
-      from_seen way clear flat m.number f fp at (performing.perf_stmt m.world p x t)
-      (performing.perf_stmt m.world (place q p.unit) y (seen_from fp u)) u
-      (perf_same m.world (λ r. r) (Same f) (Follows way) (Seen way flat m.number f fp u) (agree f fp at u) t
-      (seen_from fp u)
-      (to_seen way flat m.number f fp at t u h) a p.path q leads p.unit)
+      from_seen _ clear _ _ _ _ at _ _ _
+      (perf_same _ (λ r. r) _ _ _ (agree _ _ at _) _ _ (to_seen _ _ _ _ _ at _ _ h) a _ _ leads _)
 
   -- a statement alone
   alone_stands : (w : When) (f : ℕ) (fp : Path) → way.frame f ≡ Some fp → (p : StatementPlace) (q : Path)
-      → Follows way p.path q
-      → (x : core.Stmt) (y : core.Stmt) (t : Note W) (u : Framed W) → AlikeStmt (Same f) x y → Stand t u
-      → Stand (text_done w p (core.andthen x core.no_stmt) t)
+      → Follows way p.path q → (x : core.Stmt) (y : core.Stmt) (t : Note W) (u : Framed W) → AlikeStmt (Same f) x y
+      → Stand t u → Stand (text_done w p (core.andthen x core.no_stmt) t)
       (put_back fp (stmt_done w m.world (place q p.unit) y (seen_from fp u)) u)
   alone_stands w f fp at p q leads x y t u a h =
       subst (λ z. Stand z (put_back fp (stmt_done w m.world (place q p.unit) y (seen_from fp u)) u))
-      (text_none w (past_stmt p x) (stmt_done w m.world p x t) ∙ text_more w p x core.no_stmt t)
-      (plain_stands w f fp at p q leads x y t u a h)
+      (text_none w (past_stmt p x) _ ∙ text_more w p x core.no_stmt t) (plain_stands _ _ _ at _ _ leads _ _ _ _ a h)
 
   -- ---- a value, what is kept of it, and a variable that takes it
 
   value_stands : (f : ℕ) (fp : Path) → way.frame f ≡ Some fp → (a b : typed.Expression) (t : Note W) (u : Framed W)
-      → Alike (Same f) a b → Stand t u
-      → (w : When) (p q : Path) → Reads w (Follows way p q)
+      → Alike (Same f) a b → Stand t u → (w : When) (p q : Path) → Reads w (Follows way p q)
       → value_of m.world t w p a ≡ value_of m.world (seen_from fp u) w q b
   value_stands f fp at a b t u k h w p q leads =
-      value_same m.world (λ r. r) (Same f) (Follows way) (Seen way flat m.number f fp u) (agree f fp at u) t
-      (seen_from fp u)
-      (to_seen way flat m.number f fp at t u h) k w p q leads
+      value_same _ (λ r. r) _ _ _ (agree _ _ at _) _ _ (to_seen _ _ _ _ _ at _ _ h) k _ _ _ leads
 
   keep_stands : (f : ℕ) (fp : Path) → way.frame f ≡ Some fp → (a b : typed.Expression) (t : Note W) (u : Framed W)
-      → Alike (Same f) a b → Stand t u
-      → (p q : Path) → Follows way p q
+      → Alike (Same f) a b → Stand t u → (p q : Path) → Follows way p q
       → Stand (keep m.world p a t) (put_back fp (keep m.world q b (seen_from fp u)) u)
   keep_stands f fp at a b t u k h p q leads =
-      from_seen way clear flat m.number f fp at (keep m.world p a t) (keep m.world q b (seen_from fp u)) u
-      (keep_same m.world (λ r. r) (Same f) (Follows way) (Seen way flat m.number f fp u) (agree f fp at u) t
-      (seen_from fp u)
-      (to_seen way flat m.number f fp at t u h) k p q leads)
+      from_seen _ clear _ _ _ _ at _ _ _
+      (keep_same _ (λ r. r) _ _ _ (agree _ _ at _) _ _ (to_seen _ _ _ _ _ at _ _ h) k _ _ leads)
 
   assign_stands : (g : ℕ) (gp : Path) → way.frame g ≡ Some gp → (x y : Variable) (t : Note W) (u : Framed W)
       → Same g x y → Stand t u → (a b : Wave) → a ≡ b
@@ -245,30 +225,24 @@ module _ {W : Type 0} (texts : Texts W) where
 
   copy_stands : (w : When) (line f g : ℕ) (fp gp : Path) → way.frame f ≡ Some fp → way.frame g ≡ Some gp
       → (p : StatementPlace) (q : Path) → Follows way (0 ∷ p.path) q
-      → (x : List ℕ) (e : Expression) (t : Note W) (u : Framed W)
-      → Fits g x → Named (Fits f) e → Stand t u
+      → (x : List ℕ) (e : Expression) (t : Note W) (u : Framed W) → Fits g x → Named (Fits f) e → Stand t u
       → Stand (stmt_done w m.world p (flat_stmt (copy_of line f g x e)) t) (copy_done m w fp gp q x e u)
   copy_stands beginning line f g fp gp af ag p q leads x e t u fits n h =
-      let a = expression_by v (renamed_expression (own_name f) e) in
       let b = expression_read m e in
-      let k = alike_expression f e n in
+      let k = alike_expression _ e n in
       subst (λ r. Stand (initial.init_stmt m.world p (flat_stmt (copy_of line f g x e)) t)
       (going_on m.world u (if_init r (copied m gp x (value_of m.world (seen_from fp u) beginning [] b) u)
       (put_back fp (keep m.world q b (seen_from fp u)) u)))) (own_rate g x)
-      (going_stands t _ u _ h
-      (either_stands (name_rate (own_name g x)) _ _ _ _
-      (assign_stands g gp ag (v (own_name g x)) (variable_read m x) t u (alike_variable g x fits) h _ _
-      (value_stands f fp af a b t u k h beginning [] [] tt))
-      (keep_stands f fp af a b t u k h (0 ∷ p.path) q leads)))
+      (going_stands _ _ _ _ h (either_stands (name_rate (own_name g x)) _ _ _ _
+      (assign_stands g gp ag _ _ t u (alike_variable _ _ fits) h _ _
+      (value_stands _ _ af _ _ _ _ k h beginning [] [] tt)) (keep_stands _ _ af _ _ _ _ k h _ _ leads)))
   copy_stands cycle line f g fp gp af ag p q leads x e t u fits n h =
-      let a = expression_by v (renamed_expression (own_name f) e) in
       let b = expression_read m e in
-      let k = alike_expression f e n in
+      let k = alike_expression _ e n in
       subst (λ r. Stand (performing.perf_stmt m.world p (flat_stmt (copy_of line f g x e)) t)
       (if_init r u (copied m gp x (value_of m.world (seen_from fp u) cycle q b) u))) (own_rate g x)
-      (either_stands (name_rate (own_name g x)) t _ u _ h
-      (assign_stands g gp ag (v (own_name g x)) (variable_read m x) t u (alike_variable g x fits) h _ _
-      (value_stands f fp af a b t u k h cycle (0 ∷ p.path) q leads)))
+      (either_stands _ _ _ _ _ h (assign_stands _ _ ag _ _ _ _ (alike_variable _ _ fits) h _ _
+      (value_stands _ _ af _ _ _ _ k h cycle (0 ∷ p.path) q leads)))
 
   -- ---- copies, one after another
 
@@ -277,16 +251,13 @@ module _ {W : Type 0} (texts : Texts W) where
 
   copies_unit : (line f g : ℕ) (p : StatementPlace) (xs : List (List ℕ)) (args : List Argument)
       → (past_text p (flat_block (copies_of line f g xs args))).unit ≡ p.unit
-  copies_unit line f g p (x ∷ xs) (value e ∷ args) =
-      copies_unit line f g (past_stmt p (flat_stmt (copy_of line f g x e))) xs args
+  copies_unit line f g p (x ∷ xs) (value e ∷ args) = copies_unit line f g _ xs args
   copies_unit line f g p _ _ = refl
 
   pub copies_lay : (line f g : ℕ) (p : StatementPlace) (q : Path) (xs : List (List ℕ)) (args : List Argument)
-      (n : Leads)
-      → LaysOn way p.path (copies_lead q xs args n)
+      (n : Leads) → LaysOn way p.path (copies_lead q xs args n)
       → LaysOn way (past_text p (flat_block (copies_of line f g xs args))).path n
-  copies_lay line f g p q (x ∷ xs) (value e ∷ args) n h =
-      copies_lay line f g (past_stmt p (flat_stmt (copy_of line f g x e))) (next q) xs args n (λ k y. h (suc k) y)
+  copies_lay line f g p q (x ∷ xs) (value e ∷ args) n h = copies_lay line f g _ _ xs args n (λ k y. h (suc k) y)
   copies_lay line f g p q _ _ n h = h
 
   copies_stand : (w : When) (line f g : ℕ) (fp gp : Path) → way.frame f ≡ Some fp → way.frame g ≡ Some gp
@@ -321,9 +292,8 @@ module _ {W : Type 0} (texts : Texts W) where
     pub led : (n : ℕ) → 1 ≤ n → (p : StatementPlace) (q : Path) (l : Leads) → LaysOn way p.path (k.leads q l)
         → AllLed p.path (t.block n)
     pub does : (w : When) (n : ℕ) → 1 ≤ n → (p : StatementPlace) (q : Path) (l : Leads)
-        → LaysOn way p.path (k.leads q l)
-        → way.frame n ≡ Some q → Holds way (suc n) (a.calls q) → (s : Note W) (u : Framed W) → Stand s u
-        → Stand (text_done w p (flat_block (t.block n)) s) (a.does m w (place q p.unit) u)
+        → LaysOn way p.path (k.leads q l) → way.frame n ≡ Some q → Holds way (suc n) (a.calls q) → (s : Note W)
+        (u : Framed W) → Stand s u → Stand (text_done w p (flat_block (t.block n)) s) (a.does m w (place q p.unit) u)
 
   abbrev pub ActsIf : {t : Option Template} {a : Option (Action W)} → PairIf t a → Type 0
   ActsIf neither = Unit {0}
@@ -340,16 +310,13 @@ module _ {W : Type 0} (texts : Texts W) where
   -- ---- a call
 
   pub called_is : (f n line : ℕ) (xs : List (List ℕ)) (c : Callee) (args : List Argument) (t : Template) (a : Action W)
-      → 1 ≤ n → Pair t a
-      → called (own_name f) n line xs c args (Some t)
+      → 1 ≤ n → Pair t a → called (own_name f) n line xs c args (Some t)
       ≡ joins (copies_of line f n a.inputs args) (joins (t.block n) (copies_of line n f xs (values_in a.results)))
   called_is f n line xs c args t a h k = grind (arith, common_steps, inner_name, results_in)
 
   -- the place behind a call
   call_past : (f n line : ℕ) (p : StatementPlace) (xs : List (List ℕ)) (c : Callee) (args : List Argument)
-      (t : Template)
-      (a : Action W)
-      → 1 ≤ n → Pair t a
+      (t : Template) (a : Action W) → 1 ≤ n → Pair t a
       → past_text p (flat_block (called (own_name f) n line xs c args (Some t)))
       ≡ past_text (past_text (past_text p (flat_block (copies_of line f n a.inputs args))) (flat_block (t.block n)))
       (flat_block (copies_of line n f xs (values_in a.results)))
@@ -357,27 +324,21 @@ module _ {W : Type 0} (texts : Texts W) where
       let one = copies_of line f n a.inputs args in
       let two = copies_of line n f xs (values_in a.results) in
       ap (λ b. past_text p (flat_block b)) (called_is f n line xs c args t a h k)
-      ∙ past_joins p one (joins (t.block n) two)
-      ∙ past_joins (past_text p (flat_block one)) (t.block n) two
+      ∙ past_joins p one (joins (t.block n) two) ∙ past_joins (past_text p (flat_block one)) (t.block n) two
 
   call_unit : (f n line : ℕ) (p : StatementPlace) (xs : List (List ℕ)) (c : Callee) (args : List Argument)
-      (t : Template)
-      (a : Action W) (k : Pair t a)
-      → 1 ≤ n → Acts t a k
+      (t : Template) (a : Action W) (k : Pair t a) → 1 ≤ n → Acts t a k
       → (past_text p (flat_block (called (own_name f) n line xs c args (Some t)))).unit
       ≡ p.unit + length (a.units m p.unit)
   call_unit f n line p xs c args t a k h acts =
       let ready = past_text p (flat_block (copies_of line f n a.inputs args)) in
       ap (λ (z : StatementPlace). z.unit) (call_past f n line p xs c args t a h k)
-      ∙ copies_unit line n f (past_text ready (flat_block (t.block n))) xs (values_in a.results)
-      ∙ acts.units n h ready
+      ∙ copies_unit line n f (past_text ready (flat_block (t.block n))) xs (values_in a.results) ∙ acts.units n h ready
       ∙ ap (λ i. i + length (a.units m i)) (copies_unit line f n p a.inputs args)
 
   call_stands : (w : When) (f n line : ℕ) (fp : Path) → way.frame f ≡ Some fp → (p : StatementPlace) (q : Path)
-      (xs : List (List ℕ)) (c : Callee) (args : List Argument) (t : Template) (a : Action W) (k : Pair t a)
-      (l : Leads)
-      → 1 ≤ n → Acts t a k
-      → LaysOn way p.path (call_leads (both t a k) q xs args l) → Holds way n (q ∷ a.calls q)
+      (xs : List (List ℕ)) (c : Callee) (args : List Argument) (t : Template) (a : Action W) (k : Pair t a) (l : Leads)
+      → 1 ≤ n → Acts t a k → LaysOn way p.path (call_leads (both t a k) q xs args l) → Holds way n (q ∷ a.calls q)
       → NamedAll (Fits f) xs → NamedArguments (Fits f) args → (s : Note W) (u : Framed W) → Stand s u
       → Stand (text_done w p (flat_block (called (own_name f) n line xs c args (Some t))) s)
       (call_done m w fp (place q p.unit) a xs args u)
@@ -410,17 +371,14 @@ module _ {W : Type 0} (texts : Texts W) where
 
   -- a call of a defined opcode or of another
   any_unit : (f n line : ℕ) (p : StatementPlace) (xs : List (List ℕ)) (c : Callee) (args : List Argument)
-      {t : Option Template} {a : Option (Action W)} (k : PairIf t a)
-      → 1 ≤ n → ActsIf k
-      → NamedAll (Fits f) xs → NamedArguments (Fits f) args
-      → (past_text p (flat_block (called (own_name f) n line xs c args t))).unit
+      {t : Option Template} {a : Option (Action W)} (k : PairIf t a) → 1 ≤ n → ActsIf k → NamedAll (Fits f) xs
+      → NamedArguments (Fits f) args → (past_text p (flat_block (called (own_name f) n line xs c args t))).unit
       ≡ p.unit + length (units_of_call m p.unit (call line xs c args) a)
   any_unit f n line p xs c args neither h acts fits named = unit_behind (alike_call f line xs c args fits named) p.unit
   any_unit f n line p xs c args (both t a k) h acts fits named = call_unit f n line p xs c args t a k h acts
 
   any_lays : (f n line : ℕ) (p : StatementPlace) (q : Path) (xs : List (List ℕ)) (c : Callee) (args : List Argument)
-      {t : Option Template} {a : Option (Action W)} (k : PairIf t a) (l : Leads)
-      → 1 ≤ n → ActsIf k
+      {t : Option Template} {a : Option (Action W)} (k : PairIf t a) (l : Leads) → 1 ≤ n → ActsIf k
       → LaysOn way p.path (call_leads k q xs args l)
       → LaysOn way (past_text p (flat_block (called (own_name f) n line xs c args t))).path l
   any_lays f n line p q xs c args neither l h acts lay = λ i y. lay (suc i) y
@@ -429,16 +387,13 @@ module _ {W : Type 0} (texts : Texts W) where
       let ready = past_text p (flat_block (copies_of line f n a.inputs args)) in
       subst (λ (z : StatementPlace). LaysOn way z.path l) (sym (call_past f n line p xs c args t a h k))
       (copies_lay line n f (past_text ready (flat_block (t.block n))) (0 ∷ 2 ∷ q) xs (values_in a.results) l
-      (acts.lays n h ready q last
-      (copies_lay line f n p (0 ∷ 0 ∷ q) a.inputs args (k.leads q last) lay)))
+      (acts.lays n h ready q last (copies_lay line f n p (0 ∷ 0 ∷ q) a.inputs args (k.leads q last) lay)))
 
   any_stands : (w : When) (f n line : ℕ) (fp : Path) → way.frame f ≡ Some fp → (p : StatementPlace) (q : Path)
       (xs : List (List ℕ)) (c : Callee) (args : List Argument) {t : Option Template} {a : Option (Action W)}
-      (k : PairIf t a) (l : Leads)
-      → 1 ≤ n → ActsIf k
-      → LaysOn way p.path (call_leads k q xs args l) → Holds way n (frames_of_call q a)
-      → NamedAll (Fits f) xs → NamedArguments (Fits f) args → (s : Note W) (u : Framed W) → Stand s u
-      → Stand (text_done w p (flat_block (called (own_name f) n line xs c args t)) s)
+      (k : PairIf t a) (l : Leads) → 1 ≤ n → ActsIf k → LaysOn way p.path (call_leads k q xs args l)
+      → Holds way n (frames_of_call q a) → NamedAll (Fits f) xs → NamedArguments (Fits f) args → (s : Note W)
+      (u : Framed W) → Stand s u → Stand (text_done w p (flat_block (called (own_name f) n line xs c args t)) s)
       (any_done m w fp (place q p.unit) (call line xs c args) xs args a u)
   any_stands w f n line fp af p q xs c args neither l h acts lay hold fits named s u stand =
       alone_stands w f fp af p q (λ y. lay 0 y) _ _ s u (alike_call f line xs c args fits named) stand
@@ -514,36 +469,30 @@ module _ {W : Type 0} (texts : Texts W) where
 
     mutual
       pub stmt_lays : (n : ℕ) → 1 ≤ n → (p : StatementPlace) (q : Path) (x : Statement) (l : Leads)
-          → LaysOn way p.path (stmt_leads opcodes env k q x l)
-          → LaysOn way (past_text p (text_of n x)).path l
+          → LaysOn way p.path (stmt_leads opcodes env k q x l) → LaysOn way (past_text p (text_of n x)).path l
       stmt_lays n h p q (call line xs c args) l lay =
           any_lays f n line p q xs c args (called_pair opcodes env k c) l h (acts_called opcodes env k g c) lay
       stmt_lays n h p q _ l lay = λ i y. lay (suc i) y
 
       pub block_lays : (n : ℕ) → 1 ≤ n → (p : StatementPlace) (q : Path) (b : Block) (l : Leads)
-          → LaysOn way p.path (block_leads opcodes env k q b l)
-          → LaysOn way (past_text p (texts_of n b)).path l
+          → LaysOn way p.path (block_leads opcodes env k q b l) → LaysOn way (past_text p (texts_of n b)).path l
       block_lays n h p q no_stmt l lay = lay
       block_lays n h p q (andthen x rest) l lay =
           let i = after opcodes n x in
           subst (λ (z : StatementPlace). LaysOn way z.path l)
           (sym (past_joins p (expanded opcodes (own_name f) n x) (expanded_block opcodes (own_name f) i rest)))
-          (block_lays i (at_least n x h) (past_text p (text_of n x)) (next q) rest l
-          (stmt_lays n h p q x (block_leads opcodes env k (next q) rest l) lay))
+          (block_lays i (at_least _ x h) (past_text p (text_of n x)) (next q) rest l (stmt_lays n h p q x _ lay))
 
     -- parts of an arm: its condition, and its statements
     pub condition_lays : (p q : Path) (b : Block) (rest : Leads)
         → LaysOn way p (parts (parts (alike (0 ∷ q)) (parts (block_leads opcodes env k (0 ∷ 1 ∷ q) b nowhere) nowhere))
-        rest)
-        → Follows way (0 ∷ p) (0 ∷ q)
+        rest) → Follows way (0 ∷ p) (0 ∷ q)
     condition_lays p q b rest lay = λ y. lay 0 (0 ∷ y)
 
     pub arm_lays : (p q : Path) (b : Block) (rest : Leads)
         → LaysOn way p (parts (parts (alike (0 ∷ q)) (parts (block_leads opcodes env k (0 ∷ 1 ∷ q) b nowhere) nowhere))
-        rest)
-        → LaysOn way (0 ∷ 1 ∷ p) (block_leads opcodes env k (0 ∷ 1 ∷ q) b nowhere)
-    arm_lays p q b rest lay =
-        lays_on way (1 ∷ p) (block_leads opcodes env k (0 ∷ 1 ∷ q) b nowhere) (λ y. lay 0 (1 ∷ y))
+        rest) → LaysOn way (0 ∷ 1 ∷ p) (block_leads opcodes env k (0 ∷ 1 ∷ q) b nowhere)
+    arm_lays p q b rest lay = lays_on way (1 ∷ p) (block_leads opcodes env k (0 ∷ 1 ∷ q) b nowhere) (λ y. lay 0 (1 ∷ y))
 
     -- the arms of an `if`
     record ArmsStand (fp : Path) (n : ℕ) (p : StatementPlace) (q : Path) (list : Arms) : Type 0 where
@@ -558,8 +507,7 @@ module _ {W : Type 0} (texts : Texts W) where
       mutual
         stands : (w : When) (n : ℕ) → 1 ≤ n → (p : StatementPlace) (q : Path) (x : Statement) (l : Leads)
             → LaysOn way p.path (stmt_leads opcodes env k q x l) → Holds way n (frames_of env q x)
-            → NamedStmt (Fits f) x
-            → (t : Note W) (u : Framed W) → Stand t u
+            → NamedStmt (Fits f) x → (t : Note W) (u : Framed W) → Stand t u
             → Stand (text_done w p (text_of n x) t) (framed_done m env w fp (place q p.unit) x u)
         stands w n h p q (set line x e) l lay hold named t u stand =
             alone_stands w f fp af p q (λ y. lay 0 y) _ _ t u (alike_set f line x e named.0 named.1) stand
@@ -567,22 +515,16 @@ module _ {W : Type 0} (texts : Texts W) where
             any_stands w f n line fp af p q xs c args (called_pair opcodes env k c) l h
             (acts_called opcodes env k g c) lay hold named.0 named.1 t u stand
         stands w n h p q (choose line list) l lay hold named t u stand =
-            let arms = arms_stand n h (inside p) (0 ∷ q) list
-            (lays_on way p.path (arms_lead opcodes env k (0 ∷ q) list) (λ y. lay 0 y)) hold named in
+            let arms = arms_stand n h _ _ list (lays_on way p.path _ (λ y. lay 0 y)) hold named in
             let there = place (0 ∷ q) p.unit in
-            passes_stand w _ _ _ _
-            (subst (λ z. Stand (initial.init_block m.world p (text_of n (choose line list)) t)
+            passes_stand _ _ _ _ _ (subst (λ z. Stand (initial.init_block m.world p (text_of n (choose line list)) t)
             (going_on m.world u (if_init z (init_first m env fp there list u) (init_all m env fp there list u))))
-            (choice_kept opcodes f n list)
-            (going_stands t _ u _ stand
-            (either_stands (choice_rate (expanded_arms opcodes (own_name f) n list)) _ _ _ _ (arms.first t u stand)
-            (arms.all t u stand))))
-            (arms.now t u stand)
+            (choice_kept opcodes f n list) (going_stands _ _ _ _ stand
+            (either_stands _ _ _ _ _ (arms.first t u stand) (arms.all t u stand)))) (arms.now t u stand)
 
         pub block_stands : (w : When) (n : ℕ) → 1 ≤ n → (p : StatementPlace) (q : Path) (b : Block) (l : Leads)
             → LaysOn way p.path (block_leads opcodes env k q b l) → Holds way n (frames_of_block env q b)
-            → NamedBlock (Fits f) b
-            → (t : Note W) (u : Framed W) → Stand t u
+            → NamedBlock (Fits f) b → (t : Note W) (u : Framed W) → Stand t u
             → Stand (text_done w p (texts_of n b) t) (block_done m env w fp (place q p.unit) b u)
         block_stands w n h p q no_stmt l lay hold named t u stand = subst (λ z. Stand z u) (text_none w p t) stand
         block_stands w n h p q (andthen x rest) l lay hold named t u stand =
@@ -596,10 +538,8 @@ module _ {W : Type 0} (texts : Texts W) where
             let more = block_leads opcodes env k (next q) rest l in
             let behind_p = past_text p (text_of n x) in
             subst (λ z. Stand z (block_done m env w fp (place q p.unit) (andthen x rest) u))
-            (text_joins w p first other t)
-            (subst (λ j. Stand (text_done w behind_p (flat_block other) now)
-            (block_done m env w fp (place (next q) j) rest next_u))
-            (unit_stands n h p x named.0)
+            (text_joins w p first other t) (subst (λ j. Stand (text_done w behind_p (flat_block other) now)
+            (block_done m env w fp (place (next q) j) rest next_u)) (unit_stands n h p x named.0)
             (block_stands w i (at_least n x h) behind_p (next q) rest l (stmt_lays n h p q x more lay)
             (rest_hold way n i one two (after_is opcodes env k n q x) hold) named.1 now next_u
             (stands w n h p q x more lay (first_hold way n one two hold) named.0 t u stand)))
@@ -637,10 +577,8 @@ module _ {W : Type 0} (texts : Texts W) where
                   (now_t t))
                   (init_first m env fp z rest (now_u u))) there (behind.first (now_t t) (now_u u) (kept t u stand)));
               all = λ t u stand. going_stands t _ u _ stand
-                  (subst (λ z. Stand
-                  (initial.init_all m.world (text_past_arm p (texts_of n b)) (arms_of i rest)
-                  (initial.init_block m.world (inside_arm p) (texts_of n b) (now_t t)))
-                  (init_all m env fp z rest
+                  (subst (λ z. Stand (initial.init_all m.world (text_past_arm p (texts_of n b)) (arms_of i rest)
+                  (initial.init_block m.world (inside_arm p) (texts_of n b) (now_t t))) (init_all m env fp z rest
                   (block_done m env beginning fp (place (0 ∷ 1 ∷ q) p.unit) b (now_u u)))) there
                   (behind.all _ _ (arm_stands beginning (now_t t) (now_u u) (kept t u stand))));
               now = λ t u stand. choose_stands (holds (value_of m.world t cycle (0 ∷ p.path) flat_c 0))

@@ -10,8 +10,8 @@ use Rattle.cs_grammar.specs.Tree.{otherwise, arm, Definition, Instrument, Orches
 use Rattle.cs_grammar.specs.WellFormed.{MayCall, WellFormedStmt, WellFormedBlock, WellFormedArms, WellFormedInstrument}
 use Rattle.cs_grammar.specs.WellFormed.{WellFormedDefinition, IsWellFormed, all_numbers}
 use Rattle.cs_typing.proofs.NumbersOnce.{numbers_kept}
-use Rattle.cs_udo.specs.{Names.as_it_is, Names.in_frame, Names.slots, Expanding.expanding}
-use Rattle.cs_udo.specs.Expanded.{Template, Opcodes, no_opcodes, defined, assignments, called, after, after_block}
+use Rattle.cs_udo.specs.{Names.as_it_is, Names.in_frame, Expanding.expanding}
+use Rattle.cs_udo.specs.Expanded.{Template, Opcodes, no_opcodes, defined, assignments, called, after_block}
 use Rattle.cs_udo.specs.Expanded.{expanded, expanded_block, expanded_arms, whole_body, template, defining, defining_all}
 use Rattle.cs_udo.specs.Expanded.{before, opcodes_before, expanded_instrument, expanded_orchestra}
 use Rattle.cs_udo.proofs.EachDefined.{Of, OfEach, of_called, of_none, one_more}
@@ -50,8 +50,7 @@ calm_assignments line _ _ = tt
 
 -- ---- well formed statements
 
-calm_call : (p : Place) (own : List ℕ) (c : Callee) → p ≢ place.Outside → MayCall p own c
-    → c ≢ callee.Opcode op.Zakinit
+calm_call : (p : Place) (own : List ℕ) (c : Callee) → p ≢ place.Outside → MayCall p own c → c ≢ callee.Opcode op.Zakinit
 calm_call place.Outside own c inner h = absurd (inner refl)
 calm_call place.Instrument own c inner h = h
 calm_call place.Definition own c inner h = h.0
@@ -97,8 +96,7 @@ mutual
       → CalmBlock b → CalmBlock (expanded_block opcodes own f b)
   calm_expanded_block opcodes k own f no_stmt h = tt
   calm_expanded_block opcodes k own f (andthen x rest) h =
-      calm_joins (expanded opcodes own f x) (expanded_block opcodes own (after opcodes f x) rest)
-      (calm_expanded opcodes k own f x h.0) (calm_expanded_block opcodes k own (after opcodes f x) rest h.1)
+      calm_joins _ _ (calm_expanded opcodes k own f x h.0) (calm_expanded_block opcodes k own _ rest h.1)
 
   calm_expanded_arms : (opcodes : Opcodes) → AllCalm opcodes → (own : List ℕ → List ℕ) (f : ℕ) (list : Arms)
       → CalmArms list → CalmArms (expanded_arms opcodes own f list)
@@ -107,20 +105,15 @@ mutual
       (calm_expanded_block opcodes k own f b h.0, calm_expanded_arms opcodes k own (after_block opcodes f b) rest h.1)
 
 calm_whole : (d : Definition) → WellFormedDefinition d → CalmBlock (whole_body d)
-calm_whole d h =
-    calm_joins d.body (assignments d.line (slots 0 d.outs) d.result)
-    (calm_block place.Definition d.name (λ e. absurd (cc e)) 0 d.body h.body)
-    (calm_assignments d.line (slots 0 d.outs) d.result)
+calm_whole d h = calm_joins _ _ (calm_block _ _ (λ e. absurd (cc e)) _ _ h.body) (calm_assignments _ _ _)
 
 calm_before : (opcodes : Opcodes) → AllCalm opcodes → (line : ℕ) (ds : List Definition) → All WellFormedDefinition ds
     → AllCalm (defining_all opcodes (before line ds))
 calm_before opcodes k line [] h = k
 calm_before opcodes k line (d ∷ ds) h =
-    by (nat_lt d.line line)
-    (calm_before (defining opcodes d)
+    by (nat_lt d.line line) (calm_before (defining opcodes d)
     (one_more AlwaysCalm template opcodes k d (λ f. calm_expanded_block opcodes k (in_frame f) (f + 1) (whole_body d)
-    (calm_whole d (All-head WellFormedDefinition d ds h))))
-    line ds (All-tail WellFormedDefinition d ds h))
+    (calm_whole d (All-head WellFormedDefinition d ds h)))) line ds (All-tail WellFormedDefinition d ds h))
   where
     by : (b : Bool) → AllCalm (defining_all (defining opcodes d) (before line ds))
         → AllCalm (defining_all opcodes (if b then d ∷ before line ds else []))
@@ -189,8 +182,7 @@ pub expansion_once : (o p : Orchestra) → IsWellFormed o → expanding o ≡ Ok
     → IsDistinct eqb (flat_map (λ (i : typed.Instrument). i.numbers) (typed_of p).instrs)
 expansion_once o p h e =
     subst (λ (x : Orchestra). IsDistinct eqb (flat_map (λ (i : typed.Instrument). i.numbers) (typed_of x).instrs))
-    (sym (expanded_is o p e))
-    (subst (IsDistinct eqb)
+    (sym (expanded_is o p e)) (subst (IsDistinct eqb)
     (sym (numbers_kept (first_known (expanded_orchestra o)) o.zero (map (expanded_instrument o.opcodes) o.instrs)
     ∙ expanded_numbers o.opcodes o.instrs))
     (IsDistinct-from_AllPairs (λ a b. (eqb-true a b, eq-eqb a b)) (all_numbers o.instrs) h.numbers))

@@ -17,8 +17,7 @@ own_local zero x = refl
 own_local (suc f) x = framed_global (suc f) x
 
 pub own_apart : (f g : ℕ) (x y : List ℕ) → is_global x ≡ false → is_global y ≡ false → Fits f x → Fits g y
-    → own_name f x ≡ own_name g y
-    → (f ≡ g) × (x ≡ y)
+    → own_name f x ≡ own_name g y → (f ≡ g) × (x ≡ y)
 own_apart zero zero x y a b p q e = (refl, e)
 own_apart zero (suc g) x y a b p q e = stopped (suc g) x y (p refl) (e ∙ framed_fresh (suc g) y b)
 own_apart (suc f) zero x y a b p q e = stopped (suc f) y x (q refl) (sym e ∙ framed_fresh (suc f) x a)

@@ -1,10 +1,9 @@
 -- What is known goes on being known, and the typed form of statements without a fault is that of what is known at the
-use Rattle.std.proofs.Common.{◌≡◌, ◌∙◌, ℕ, suc, ◌==◌, Bool, true, false, not, ◌&&◌, ◌||◌, if◌then◌else◌, List, ◌∷◌, []}
+use Rattle.std.proofs.Common.{◌≡◌, ◌∙◌, ℕ, suc, ◌==◌, Bool, true, false, not, ◌&&◌, if◌then◌else◌, List, ◌∷◌, []}
 use Rattle.std.proofs.Common.{length, map, Option, Some, None, arith, refl, sym, ap}
-use Rattle.std.specs.Option.{option_or}
 use Rattle.std.proofs.lemmas.{Bool.and_parts, Bool.Decides.nat_tests, Grind.common_steps}
 use Rattle.cs_base.proofs.Tests.{both_none}
-use Rattle.cs_base.specs.{Rates.within, Rates.is_init, declared.fault.OrcKind.OrcKind, declared.resource.Rate.Rate}
+use Rattle.cs_base.specs.{declared.fault.OrcKind.OrcKind, declared.resource.Rate.Rate}
 use Rattle.cs_words.specs.Catalogue.{Row, row_of, takes_count, result_count}
 use Rattle.cs_words.specs.{Names.name_rate, declared.catalogue.Opcode.Opcode}
 use Rattle.cs_grammar.specs.declared.tree.Callee.{Callee}
@@ -13,7 +12,7 @@ use Rattle.cs_grammar.specs.Tree.{choose, Block, no_stmt, andthen, Arms, otherwi
 use Rattle.cs_typed.specs.declared.setting.Setting.{Setting}
 use Rattle.cs_typing.specs.Calls.{all_fit, channel_use, text_of, all_known, row_fault, call_fault, row_known}
 use Rattle.cs_typing.specs.Calls.{call_known, typed_arguments, typed_row, typed_call}
-use Rattle.cs_typing.specs.Expressions.{is_value, is_condition, rate_of, reads_known, typed_expression}
+use Rattle.cs_typing.specs.Expressions.{rate_of, reads_known, typed_expression}
 use Rattle.cs_typing.specs.Known.{RateNames, in_table, place_in, KnownHere, knows, after_giving, given, given_all, used}
 use Rattle.cs_typing.specs.Known.{use_channel, global, variable, channel_of}
 use Rattle.cs_typing.specs.{Settings.at, declared.known.Channel.Channel}
@@ -46,19 +45,15 @@ shared_variable : (g h : RateNames) (x : List ℕ) → h ≡ g
 shared_variable g h x e = ap (λ t. variant.Global (global (name_rate x) (place_in t x))) (sym e)
 
 pub variable_known : (n m : KnownHere) (s : Numbering) (x : List ℕ) → Later n m → HasPlaces s m.locals
-    → knows n x ≡ true
-    → variable n x ≡ numbered m.shared s x
+    → knows n x ≡ true → variable n x ≡ numbered m.shared s x
 variable_known n m s x l p h = grind (arith, common_steps, in_on, place_in_on, shared_variable)
 
 pub variable_given : (n m : KnownHere) (s : Numbering) (x : List ℕ) → m.shared.globals ≡ n.shared.globals
-    → TableGoesOn (after_giving n.locals x) m.locals
-    → HasPlaces s m.locals
-    → variable n x ≡ numbered m.shared s x
+    → TableGoesOn (after_giving n.locals x) m.locals → HasPlaces s m.locals → variable n x ≡ numbered m.shared s x
 variable_given n m s x e l p = grind (arith, common_steps, added_in, added_place, in_on, place_in_on, shared_variable)
 
 pub expression_same : (n m : KnownHere) (s : Numbering) (e : Expression) → Later n m → HasPlaces s m.locals
-    → reads_known n e ≡ true
-    → typed_expression n e ≡ expression_by (numbered m.shared s) e
+    → reads_known n e ≡ true → typed_expression n e ≡ expression_by (numbered m.shared s) e
 expression_same n m s (var x) l p h = ap (typed.var (name_rate x)) (variable_known n m s x l p h)
 expression_same n m s (neg a) l p h = ap (typed.neg (rate_of (neg a))) (expression_same n m s a l p h)
 expression_same n m s (pair o a b) l p h =
@@ -75,8 +70,7 @@ expression_same n m s _ l p h = refl
 -- ---- arguments
 
 plain_same : (n m : KnownHere) (s : Numbering) (args : List Argument) → Later n m → HasPlaces s m.locals
-    → all_known n args ≡ true
-    → typed_arguments n None args ≡ arguments_by m.shared (numbered m.shared s) None args
+    → all_known n args ≡ true → typed_arguments n None args ≡ arguments_by m.shared (numbered m.shared s) None args
 plain_same n m s [] l p h = refl
 plain_same n m s (value e ∷ rest) l p h =
     let k = and_parts (reads_known n e) (all_known n rest) h in
@@ -96,14 +90,12 @@ texts_typed n m s kind t (text u ∷ rest) l p h one on =
     λ i. typed.text (same i) ∷ texts_typed n m s kind t rest l p h one.1 on i
 
 arguments_same : (n m : KnownHere) (s : Numbering) (o : Opcode) (b : Rate) (results : List (List ℕ))
-    (args : List Argument)
-    → Later n m → HasPlaces s m.locals
-    → takes_count (row_of o) (length args) ≡ true → all_fit (row_of o) b 0 args ≡ true → all_known n args ≡ true
+    (args : List Argument) → Later n m → HasPlaces s m.locals → takes_count (row_of o) (length args) ≡ true
+    → all_fit (row_of o) b 0 args ≡ true → all_known n args ≡ true
     → SharedGoesOn (use_channel n.shared (channel_use (row_of o).shape results args) (text_of args)) m.shared
     → typed_arguments n (channel_use (row_of o).shape results args) args
     ≡ arguments_by m.shared (numbered m.shared s) (channel_use (row_of o).shape results args) args
-arguments_same n m s o b results args l p c f h on =
-    by (channel_use (row_of o).shape results args) (one_text o b results args c f) on
+arguments_same n m s o b results args l p c f h on = by _ (one_text o b results args c f) on
   where
     by : (role : Option Channel) → OneText role args → SharedGoesOn (use_channel n.shared role (text_of args)) m.shared
         → typed_arguments n role args ≡ arguments_by m.shared (numbered m.shared s) role args
@@ -129,8 +121,7 @@ results_same n m s row (x ∷ y ∷ rest) c e l p = one_at_most (length row.resu
 
 -- ---- calls
 
-no_rule_broken : (a b c d e : Bool)
-    → (if not a then Some orc.ArgCount else (if not b then Some orc.Undefined else
+no_rule_broken : (a b c d e : Bool) → (if not a then Some orc.ArgCount else (if not b then Some orc.Undefined else
     (if not c then Some orc.RateMismatch else
     (if d then Some orc.ChannelRate else (if e then Some orc.OutCount else None))))) ≡ None
     → (a ≡ true) × (b ≡ true) × (c ≡ true)
@@ -138,9 +129,8 @@ no_rule_broken true true true d e h = (refl, refl, refl)
 no_rule_broken _ _ _ d e h = absurd (cc h)
 
 row_same : (q : Setting) (n m : KnownHere) (s : Numbering) (line : ℕ) (o : Opcode) (results : List (List ℕ))
-    (args : List Argument)
-    → row_fault q n (row_of o) results args ≡ None → Later (row_known n (row_of o) results args) m
-    → HasPlaces s m.locals
+    (args : List Argument) → row_fault q n (row_of o) results args ≡ None
+    → Later (row_known n (row_of o) results args) m → HasPlaces s m.locals
     → typed_row line n o (row_of o) results args ≡ row_by line m.shared (numbered m.shared s) o (row_of o) results args
 row_same q n m s line o results args h l p =
     grind (arith, common_steps, and_parts, arguments_same, later_further, no_rule_broken, results_same, row_later)
@@ -165,53 +155,39 @@ nothing_unknown false c h = absurd (cc h)
 
 set_known : (q : Setting) (n : KnownHere) (line : ℕ) (x : List ℕ) (e : Expression) → at line (set_fault q n x e) ≡ None
     → reads_known n e ≡ true
-set_known q n line x e h =
-    nothing_unknown (reads_known n e)
-    (is_value e && within (rate_of e) (name_rate x) && (q.inside || is_init (name_rate x)))
-    (at_none line (set_fault q n x e) h)
+set_known q n line x e h = nothing_unknown _ _ (at_none _ _ h)
 
 condition_known : (q : Setting) (n : KnownHere) (line : ℕ) (e : Expression) → at line (condition_fault q n e) ≡ None
     → reads_known n e ≡ true
-condition_known q n line e h =
-    nothing_unknown (reads_known n e) (is_condition e && (q.inside || is_init (rate_of e)))
-    (at_none line (condition_fault q n e) h)
+condition_known q n line e h = nothing_unknown _ _ (at_none _ _ h)
 
 mutual
   pub statement_same : (q : Setting) (n m : KnownHere) (s : Numbering) (x : Statement) → fault q n x ≡ None
-      → Later (known n x) m → HasPlaces s m.locals
-      → typed_statement n x ≡ statement_by m.shared (numbered m.shared s) x
+      → Later (known n x) m → HasPlaces s m.locals → typed_statement n x ≡ statement_by m.shared (numbered m.shared s) x
   statement_same q n m s (set line x e) h l p =
       let whole : Later n m = later_further n (given n x) m (given_later n x) l in
       λ i. typed.set line (name_rate x) (variable_given n m s x whole.shared.globals l.locals p i)
       (expression_same n m s e whole p (set_known q n line x e h) i)
-  statement_same q n m s (call line results c args) h l p =
-      call_same q n m s line c results args (at_none line (call_fault q n c results args) h) l p
+  statement_same q n m s (call line results c args) h l p = call_same _ _ _ _ _ _ _ _ (at_none _ _ h) l p
   statement_same q n m s (choose line list) h l p =
       ap (typed.choose line (choice_rate list)) (arms_same q n m s line list h l p)
 
   pub block_same : (q : Setting) (n m : KnownHere) (s : Numbering) (b : Block) → block_fault q n b ≡ None
-      → Later (known_block n b) m → HasPlaces s m.locals
-      → typed_block n b ≡ block_by m.shared (numbered m.shared s) b
+      → Later (known_block n b) m → HasPlaces s m.locals → typed_block n b ≡ block_by m.shared (numbered m.shared s) b
   block_same q n m s no_stmt h l p = refl
   block_same q n m s (andthen x rest) h l p =
-      let parts = both_none (fault q n x) (block_fault q (known n x) rest) h in
-      let after : Later (known n x) m =
-      later_further (known n x) (known_block (known n x) rest) m (known_block_later (known n x) rest) l in
-      λ i. typed.andthen (statement_same q n m s x parts.0 after p i) (block_same q (known n x) m s rest parts.1 l p i)
+      let parts = both_none _ _ h in
+      let after : Later (known n x) m = later_further _ _ _ (known_block_later _ rest) l in
+      λ i. typed.andthen (statement_same q n m s x parts.0 after p i) (block_same q _ m s rest parts.1 l p i)
 
   pub arms_same : (q : Setting) (n m : KnownHere) (s : Numbering) (line : ℕ) (list : Arms)
-      → arms_fault q n line list ≡ None
-      → Later (known_arms n list) m
-      → HasPlaces s m.locals → typed_arms n list ≡ arms_by m.shared (numbered m.shared s) list
+      → arms_fault q n line list ≡ None → Later (known_arms n list) m → HasPlaces s m.locals
+      → typed_arms n list ≡ arms_by m.shared (numbered m.shared s) list
   arms_same q n m s line (otherwise b) h l p = ap typed.otherwise (block_same q n m s b h l p)
   arms_same q n m s line (arm c b rest) h l p =
-      let parts = both_none (at line (condition_fault q n c))
-      (option_or (block_fault q n b) (arms_fault q (known_block n b) line rest)) h in
-      let more = both_none (block_fault q n b) (arms_fault q (known_block n b) line rest) parts.1 in
-      let after : Later (known_block n b) m =
-      later_further (known_block n b) (known_arms (known_block n b) rest) m (known_arms_later (known_block n b) rest)
-      l in
-      let whole : Later n m = later_further n (known_block n b) m (known_block_later n b) after in
-      λ i. typed.arm (expression_same n m s c whole p (condition_known q n line c parts.0) i)
-      (block_same q n m s b more.0 after p i)
-      (arms_same q (known_block n b) m s line rest more.1 l p i)
+      let parts = both_none _ _ h in
+      let more = both_none _ _ parts.1 in
+      let after : Later (known_block n b) m = later_further _ _ _ (known_arms_later _ rest) l in
+      let whole : Later n m = later_further _ _ _ (known_block_later _ b) after in
+      λ i. typed.arm (expression_same _ _ _ c whole p (condition_known q n line c parts.0) i)
+      (block_same q n m s b more.0 after p i) (arms_same q _ m s line rest more.1 l p i)

@@ -18,26 +18,14 @@ first_hold way n [] ys h = tt
 first_hold way n (x ∷ xs) ys h = (h.0, first_hold way (suc n) xs ys h.1)
 
 pub rest_hold : (way : Way) (n k : ℕ) (xs ys : List Path) → k ≡ n + length xs → Holds way n (xs ++ ys) → Holds way k ys
-rest_hold way n k [] ys e h = subst (λ i. Holds way i ys) (none n k e) h
-  where
-    none : (n k : ℕ) → k ≡ n + 0 → n ≡ k
-    none n k e = omega (arith, e)
-rest_hold way n k (x ∷ xs) ys e h = rest_hold way (suc n) k xs ys (one n k (length xs) e) h.1
-  where
-    one : (n k j : ℕ) → k ≡ n + suc j → k ≡ suc n + j
-    one n k j e = omega (arith, e)
+rest_hold way n k [] ys e h = let same : n ≡ k = omega (arith, e) in subst (λ i. Holds way i ys) same h
+rest_hold way n k (x ∷ xs) ys e h = rest_hold way (suc n) k xs ys (omega (arith, e)) h.1
 
-pub holds_from : (way : Way) (n : ℕ) (xs : List Path)
-    → ((i j : ℕ) → j ≡ i + n → way.frame j ≡ slice_get xs i)
+pub holds_from : (way : Way) (n : ℕ) (xs : List Path) → ((i j : ℕ) → j ≡ i + n → way.frame j ≡ slice_get xs i)
     → Holds way n xs
 holds_from way n [] h = tt
-holds_from way n (x ∷ xs) h = (h 0 n (first n), holds_from way (suc n) xs (λ i j e. h (suc i) j (on i j n e)))
-  where
-    first : (n : ℕ) → n ≡ 0 + n
-    first n = omega arith
-
-    on : (i j n : ℕ) → j ≡ i + suc n → j ≡ suc i + n
-    on i j n e = omega (arith, e)
+holds_from way n (x ∷ xs) h =
+    (h 0 n (omega arith), holds_from way (suc n) xs (λ i j e. h (suc i) j (omega (arith, e))))
 
 -- ---- parts of the expanded text
 
@@ -53,14 +41,9 @@ abbrev pub LaysOn : Way → Path → Leads → Type 0
 LaysOn way p n = (k : ℕ) (y : Path) → way.part (inward y (behind k p)) ≡ n (k ∷ y)
 
 behind_is : (k n : ℕ) (p : Path) → behind k (n ∷ p) ≡ (k + n) ∷ p
-behind_is zero n p = ap (λ j. j ∷ p) (none n)
-  where
-    none : (n : ℕ) → n ≡ 0 + n
-    none n = omega arith
-behind_is (suc k) n p = behind_is k (suc n) p ∙ ap (λ j. j ∷ p) (one k n)
-  where
-    one : (k n : ℕ) → k + suc n ≡ suc k + n
-    one k n = omega arith
+behind_is zero n p = let none : n ≡ 0 + n = omega arith in ap (λ j. j ∷ p) none
+behind_is (suc k) n p =
+    let one : k + suc n ≡ suc k + n = omega arith in behind_is k (suc n) p ∙ ap (λ j. j ∷ p) one
 
 -- the parts of what stands at a path
 pub lays_on : (way : Way) (p : Path) (n : Leads) → Lays way p n → LaysOn way (0 ∷ p) n

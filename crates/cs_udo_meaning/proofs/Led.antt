@@ -1,6 +1,6 @@
 -- What keeps values in the expanded text leads to the text as it was written, with all its parts.
 use Rattle.std.proofs.Common.{◌≡◌, ◌∙◌, ℕ, suc, ◌+◌, ◌≤◌, pos, Bool, true, false, List, ◌∷◌, Option, Some, arith, sym}
-use Rattle.std.proofs.Common.{[], ap, subst, length}
+use Rattle.std.proofs.Common.{[], ap, subst, length, add-one}
 use Rattle.std.specs.Str.{bytes_eq}
 use Rattle.cs_grammar.specs.{declared.tree.Callee.Callee, Tree.otherwise, Tree.arm, Tree.Definition}
 use Rattle.cs_grammar.specs.Tree.{Argument, value, Statement, set, call, choose, Block, no_stmt, andthen, joins, Arms}
@@ -70,11 +70,7 @@ module _ {W : Type 0} (texts : Texts W) where
       → AllLed texts p.path (joins a b)
   joins_led p no_stmt b h k = k
   joins_led p (andthen x rest) b h k =
-      let first = typed_keepers p.path (statement_by m.shared v x) in
-      let others = typed_keepers_of_block (next p.path) (block_by m.shared v rest) in
-      each_joined (Led texts) first (typed_keepers_of_block (next p.path) (block_by m.shared v (joins rest b)))
-      (each_first (Led texts) first others h)
-      (joins_led (past_stmt p (flat_stmt texts x)) rest b (each_rest (Led texts) first others h) k)
+      each_joined _ _ _ (each_first _ _ _ h) (joins_led (past_stmt p (flat_stmt texts x)) rest b (each_rest _ _ _ h) k)
 
   abbrev copies : ℕ → ℕ → ℕ → List (List ℕ) → List Argument → Block
   copies line f g xs args = copies_of texts line f g xs args
@@ -101,11 +97,10 @@ module _ {W : Type 0} (texts : Texts W) where
       let ready = behind_text p one in
       let lay1 = copies_lay texts line f n p (0 ∷ 0 ∷ q) a.inputs args (k.leads q last) lay in
       let lay2 = acts.lays n h ready q last lay1 in
-      subst (AllLed texts p.path) (sym (called_is texts f n line xs c args t a h k))
-      (joins_led p one (joins (t.block n) two)
-      (copies_led line f n p.path (0 ∷ 0 ∷ q) a.inputs args (k.leads q last) lay)
+      subst (AllLed texts p.path) (sym (called_is texts _ _ _ _ c _ _ _ h k))
+      (joins_led p one (joins (t.block n) two) (copies_led line f n _ (0 ∷ 0 ∷ q) a.inputs args (k.leads q last) lay)
       (joins_led ready (t.block n) two (acts.led n h ready q last lay1)
-      (copies_led line n f (behind_text ready (t.block n)).path (0 ∷ 2 ∷ q) xs given_values l lay2)))
+      (copies_led line n f _ (0 ∷ 2 ∷ q) xs given_values l lay2)))
 
   plain_led : (line : ℕ) (p q : Path) (xs : List (List ℕ)) (c : Callee) (args : List Argument) → Follows way p q
       → AllLed texts p (alone (call line xs c args))
@@ -113,9 +108,8 @@ module _ {W : Type 0} (texts : Texts W) where
   plain_led line p q xs (callee.Name name) args h = tt
 
   any_led : (f n line : ℕ) (p : StatementPlace) (q : Path) (xs : List (List ℕ)) (c : Callee) (args : List Argument)
-      {t : Option Template} {a : Option (Action W)} (k : PairIf t a) (l : Leads)
-      → 1 ≤ n → ActsIf texts k → LaysOn way p.path (call_leads k q xs args l)
-      → AllLed texts p.path (called (own_name f) n line xs c args t)
+      {t : Option Template} {a : Option (Action W)} (k : PairIf t a) (l : Leads) → 1 ≤ n → ActsIf texts k
+      → LaysOn way p.path (call_leads k q xs args l) → AllLed texts p.path (called (own_name f) n line xs c args t)
   any_led f n line p q xs c args neither l h acts lay = plain_led line p.path q _ c _ (λ y. lay 0 y)
   any_led f n line p q xs c args (both t a k) l h acts lay = call_led f n line p q xs c args t a k l h acts lay
 
@@ -128,12 +122,10 @@ module _ {W : Type 0} (texts : Texts W) where
           → LaysOn way p.path (stmt_leads opcodes env k q x l) → AllLed texts p.path (expanded opcodes (own_name f) n x)
       stmt_led n h p q (set line x e) l lay = (led_of (0 ∷ p.path) (0 ∷ q) (λ y. lay 0 (0 ∷ y)), tt)
       stmt_led n h p q (call line xs c args) l lay =
-          any_led f n line p q xs c args (called_pair opcodes env k c) l h
-          (acts_called texts opcodes env k g c) lay
+          any_led f n line p q xs c args (called_pair opcodes env k c) l h (acts_called texts opcodes env k g c) lay
       stmt_led n h p q (choose line list) l lay =
           one_led p.path (choose line (expanded_arms opcodes (own_name f) n list))
-          (arms_led n h (0 ∷ p.path) (0 ∷ q) list
-          (lays_on way p.path (arms_lead opcodes env k (0 ∷ q) list) (λ y. lay 0 y)))
+          (arms_led n h (0 ∷ p.path) _ list (lays_on way p.path _ (λ y. lay 0 y)))
 
       pub block_led : (n : ℕ) → 1 ≤ n → (p : StatementPlace) (q : Path) (b : Block) (l : Leads)
           → LaysOn way p.path (block_leads opcodes env k q b l)
@@ -149,8 +141,7 @@ module _ {W : Type 0} (texts : Texts W) where
 
       arms_led : (n : ℕ) → 1 ≤ n → (p q : Path) (list : Arms) → LaysOn way p (arms_lead opcodes env k q list)
           → Each (Led texts) (typed_keepers_of_arms p (arms_by m.shared v (expanded_arms opcodes (own_name f) n list)))
-      arms_led n h p q (otherwise b) lay =
-          block_led n h (place (0 ∷ p) 0) (0 ∷ q) b nowhere
+      arms_led n h p q (otherwise b) lay = block_led n h (place (0 ∷ p) 0) (0 ∷ q) b nowhere
           (lays_on way p (block_leads opcodes env k (0 ∷ q) b nowhere) (λ y. lay 0 y))
       arms_led n h p q (arm c b rest) lay =
           let i = after_block opcodes n b in
@@ -162,9 +153,7 @@ module _ {W : Type 0} (texts : Texts W) where
             led_of (0 ∷ p) (0 ∷ q) (condition_lays texts opcodes env k g f p q b more lay),
             block_led n h (place (0 ∷ 1 ∷ p) 0) (0 ∷ 1 ∷ q) b nowhere
                 (arm_lays texts opcodes env k g f p q b more lay),
-          )
-          (arms_led i (block_at_least texts opcodes env k g f n b h) (next p) (next q) rest
-          (λ j y. lay (suc j) y))
+          ) (arms_led i (block_at_least texts opcodes env k g f n b h) (next p) (next q) rest (λ j y. lay (suc j) y))
 
   -- ---- definitions
 
@@ -181,7 +170,7 @@ module _ {W : Type 0} (texts : Texts W) where
     does = λ w n h p q l lay at hold s u stand. named_as n h (λ own. Stand texts (text_done texts w p (body_by n own) s)
         (block_done m env w q (place (0 ∷ 1 ∷ q) p.unit) whole u))
         (block_stands texts opcodes env k g n q at w (n + 1) (more n) p (0 ∷ 1 ∷ q) whole l lay
-        (subst (λ i. Holds way i (frames_of_block env (0 ∷ 1 ∷ q) whole)) (one_further n) hold)
+        (subst (λ i. Holds way i (frames_of_block env (0 ∷ 1 ∷ q) whole)) (sym (add-one n)) hold)
         (any_block (Fits n) (fits_inner n h) whole) s u stand);
   }
     where
@@ -193,9 +182,6 @@ module _ {W : Type 0} (texts : Texts W) where
 
       more : (n : ℕ) → 1 ≤ n + 1
       more n = omega arith
-
-      one_further : (n : ℕ) → suc n ≡ n + 1
-      one_further n = omega arith
 
       named_as : (n : ℕ) → 1 ≤ n → (P : (List ℕ → List ℕ) → Type 0) → P (own_name n) → P (in_frame n)
       named_as n h P p = subst P (inner_name n h) p
@@ -214,7 +200,6 @@ module _ {W : Type 0} (texts : Texts W) where
       all_act (defining opcodes d) (acting env d) (defining_pairs opcodes env k d)
       (record { each = λ name. with_acts opcodes env k g d (k.each name) (g.each name) (bytes_eq name d.name) }) ds
 
-  pub opcodes_act : (ds : List Definition)
-      → Act texts (defining_all no_opcodes ds) (acting_all no_actions ds)
+  pub opcodes_act : (ds : List Definition) → Act texts (defining_all no_opcodes ds) (acting_all no_actions ds)
       (all_pair no_opcodes no_actions nothing_pairs ds)
   opcodes_act ds = all_act no_opcodes no_actions nothing_pairs (record { each = λ name. tt }) ds

@@ -60,12 +60,10 @@ number_places t = record
 
 numbers_apart : (names : List (List ℕ)) (x y : List ℕ)
     → (if has names x then place_of names x else length names + spelled x)
-    ≡ (if has names y then place_of names y else length names + spelled y)
-    → x ≡ y
+    ≡ (if has names y then place_of names y else length names + spelled y) → x ≡ y
 numbers_apart names x y e = grind (arith, common_steps, place_apart, place_low, spelled_apart)
 
 pub number_tells : (t : RateNames) → Tells (number_in t)
 number_tells t x y r e =
-    let names = of_rate (name_rate x) t in
-    numbers_apart names x y
+    numbers_apart _ _ _
     (e ∙ ap (λ q. if has (of_rate q t) y then place_of (of_rate q t) y else length (of_rate q t) + spelled y) (sym r))

@@ -114,8 +114,7 @@ each_joined P [] ys h k = k
 each_joined P (x ∷ xs) ys h k = (h.0, each_joined P xs ys h.1 k)
 
 differ_joined : (P Q : Path → Type 0) → ((x : Path) → P x → Q x → ⊥) → (xs ys : List Path) → Each P xs → Each Q ys
-    → Differ xs
-    → Differ ys → Differ (xs ++ ys)
+    → Differ xs → Differ ys → Differ (xs ++ ys)
 differ_joined P Q apart [] ys p q h k = k
 differ_joined P Q apart (x ∷ xs) ys p q h k = (
   each_joined (λ y. x ≢ y) xs ys h.0 (each_of Q (λ y. x ≢ y) (λ y b e. apart y (subst P e p.0) b) ys q),
@@ -137,23 +136,15 @@ lie_wider P Q f xs h = record { each = each_of P Q f xs h.each; differ = h.diffe
 pub joined_lie : (k : ℕ) (r : Path) (xs ys : List Path) → Lie (Inside (k ∷ r)) xs → Lie (Beyond (suc k) r) ys
     → Lie (Beyond k r) (xs ++ ys)
 joined_lie k r xs ys h g = record {
-  each = each_joined (Beyond k r) xs ys (each_of (Inside (k ∷ r)) (Beyond k r) (first_beyond k r) xs h.each)
-      (each_of (Beyond (suc k) r) (Beyond k r) (next_beyond k r) ys g.each);
-  differ = differ_joined (Inside (k ∷ r)) (Beyond (suc k) r) (next_apart k r) xs ys h.each g.each h.differ g.differ;
+  each = each_joined _ _ _ (each_of _ _ (first_beyond _ _) _ h.each) (each_of _ _ (next_beyond _ _) _ g.each);
+  differ = differ_joined _ _ (next_apart _ _) _ _ h.each g.each h.differ g.differ;
 }
 
 -- a path, and paths inside a part of it
 pub with_parts : (k : ℕ) (p : Path) (xs : List Path) → Lie (Inside (k ∷ p)) xs → Lie (Inside p) (p ∷ xs)
 with_parts k p xs h = record {
-  each = (
-    record { steps = []; is = refl },
-    each_of (Inside (k ∷ p)) (Inside p) (inside_whole k p) xs h.each,
-  );
-  differ = (
-    each_of (Inside (k ∷ p)) (λ y. p ≢ y)
-        (λ y b e. not_inside_itself k p (subst (Inside (k ∷ p)) (sym e) b)) xs h.each,
-    h.differ,
-  );
+  each = (record { steps = []; is = refl }, each_of _ _ (inside_whole _ _) _ h.each);
+  differ = (each_of _ _ (λ y b e. not_inside_itself k p (subst (Inside (k ∷ p)) (sym e) b)) _ h.each, h.differ);
 }
 
 pub of_all : (P : Path → Type 0) (xs : List Path) → All P xs → Each P xs
@@ -166,8 +157,7 @@ all_of P (x ∷ xs) h = All-cons P x xs h.0 (all_of P xs h.1)
 
 pub pairs_differ : (xs : List Path) → Differ xs → AllPairs (λ f g. f ≢ g) xs
 pairs_differ [] h = λ i j d p q. absurd (omega (arith, q))
-pairs_differ (x ∷ xs) h =
-    AllPairs-cons (λ f g. f ≢ g) x xs (all_of (λ y. x ≢ y) xs h.0) (pairs_differ xs h.1)
+pairs_differ (x ∷ xs) h = AllPairs-cons (λ f g. f ≢ g) x xs (all_of (λ y. x ≢ y) xs h.0) (pairs_differ xs h.1)
 
 each_got : (P : Path → Type 0) (xs : List Path) → Each P xs → (i : ℕ) (x : Path) → slice_get xs i ≡ Some x → P x
 each_got P [] h i x e = absurd (none-some x e)
@@ -179,8 +169,6 @@ pub one_place : (xs : List Path) → Differ xs → (i j : ℕ) (x : Path) → sl
     → i ≡ j
 one_place [] h i j x e f = absurd (none-some x e)
 one_place (y ∷ xs) h zero zero x e f = refl
-one_place (y ∷ xs) h zero (suc j) x e f =
-    absurd (each_got (λ z. y ≢ z) xs h.0 j x f (some_is y x e))
-one_place (y ∷ xs) h (suc i) zero x e f =
-    absurd (each_got (λ z. y ≢ z) xs h.0 i x e (some_is y x f))
+one_place (y ∷ xs) h zero (suc j) x e f = absurd (each_got (λ z. y ≢ z) xs h.0 j x f (some_is y x e))
+one_place (y ∷ xs) h (suc i) zero x e f = absurd (each_got (λ z. y ≢ z) xs h.0 i x e (some_is y x f))
 one_place (y ∷ xs) h (suc i) (suc j) x e f = ap suc (one_place xs h.1 i j x e f)

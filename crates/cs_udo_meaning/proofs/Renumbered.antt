@@ -128,11 +128,9 @@ module _ {W : Type 0} (to : Res → Res) (g h : Shared) (lead : LeadsTo to h g) 
 
   same_channel : (kind : Channel) (t : List ℕ) → Same (channel_of g kind t) (channel_of h kind t)
   same_channel channel.Control t =
-      subst (λ (r : Res). Same (Global r) (Global (res.Control (place_of h.control t)))) (lead.control t)
-      (led_shared (res.Control (place_of h.control t)))
+      subst (λ (r : Res). Same (Global r) (Global (res.Control (place_of h.control t)))) (lead.control t) (led_shared _)
   same_channel channel.Sound t =
-      subst (λ (r : Res). Same (Global r) (Global (res.Sound (place_of h.sound t)))) (lead.sound t)
-      (led_shared (res.Sound (place_of h.sound t)))
+      subst (λ (r : Res). Same (Global r) (Global (res.Sound (place_of h.sound t)))) (lead.sound t) (led_shared _)
 
   -- two notes that are one
   looks_same : (t u : Note W) → t ≡ u → (r : Rate) (v w : Variable) → Same v w → look o t r v ≡ look other u r w
@@ -165,9 +163,7 @@ module _ {W : Type 0} (to : Res → Res) (g h : Shared) (lead : LeadsTo to h g) 
 
   same_set : (line : ℕ) (x : List ℕ) (e : Expression)
       → AlikeStmt Same (stmt_here (set line x e)) (stmt_there (set line x e))
-  same_set line x e =
-      set_alike (numbered g number) (numbered h number) same_variable g h same_channel spaces line x e (any x)
-      (any_named Any any e)
+  same_set line x e = set_alike _ _ same_variable g h same_channel spaces line x e (any x) (any_named _ any e)
 
   same_call : (line : ℕ) (xs : List (List ℕ)) (c : Callee) (args : List Argument)
       → AlikeStmt Same (stmt_here (call line xs c args)) (stmt_there (call line xs c args))
@@ -177,14 +173,11 @@ module _ {W : Type 0} (to : Res → Res) (g h : Shared) (lead : LeadsTo to h g) 
 
   plain_same : (w : When) (x y : core.Stmt) → AlikeStmt Same x y → (p : StatementPlace) (t : Note W)
       → stmt_done w o p x t ≡ stmt_done w other p y t
-  plain_same beginning x y a p t =
-      init_same o to Same (λ q r. q ≡ r) (λ t u. t ≡ u) notes_agree t t refl a p.path p.path refl p.unit
-  plain_same cycle x y a p t =
-      perf_same o to Same (λ q r. q ≡ r) (λ t u. t ≡ u) notes_agree t t refl a p.path p.path refl p.unit
+  plain_same beginning x y a p t = init_same _ to _ _ _ notes_agree _ _ refl a _ _ refl _
+  plain_same cycle x y a p t = perf_same _ to _ _ _ notes_agree _ _ refl a _ _ refl _
 
   condition_kept : (p : Path) (c : Expression) (t : Note W) → keep o p (here c) t ≡ keep other p (there c) t
-  condition_kept p c t = keep_same o to Same (λ q r. q ≡ r) (λ t u. t ≡ u) notes_agree t t refl (same_expression c) p p
-      refl
+  condition_kept p c t = keep_same _ to _ _ _ notes_agree t _ refl (same_expression c) p _ refl
 
   condition_now : (p : Path) (c : Expression) (t : Note W)
       → value_of o t cycle p (here c) ≡ value_of other t cycle p (there c)
@@ -276,23 +269,18 @@ module _ {W : Type 0} (to : Res → Res) (g h : Shared) (lead : LeadsTo to h g) 
         let kept = λ (t : Note W). keep other at (there c) t in
         let more : ArmsSame rest (past_arm p (block_there b)) = arms_same rest (past_arm p (block_there b)) in
         record {
-          first = λ t. (λ i.
-              if holds ((condition_kept at c t i).kept at)
+          first = λ t. (λ i. if holds ((condition_kept at c t i).kept at)
               then initial.init_block o q (block_here b) (condition_kept at c t i)
               else initial.init_first o (past_arm_same b p i) (arms_here rest) (condition_kept at c t i))
-              ∙ λ i.
-              if holds ((kept t).kept at) then block_same beginning b q (kept t) i else more.first (kept t) i;
-          all = λ t. (λ i.
-              going o t (initial.init_all o (past_arm_same b p i) (arms_here rest)
+              ∙ λ i. if holds ((kept t).kept at) then block_same beginning b q (kept t) i else more.first (kept t) i;
+          all = λ t. (λ i. going o t (initial.init_all o (past_arm_same b p i) (arms_here rest)
               (initial.init_block o q (block_here b) (condition_kept at c t i))))
               ∙ (λ i. going o t (initial.init_all o (past_arm p (block_there b)) (arms_here rest)
               (block_same beginning b q (kept t) i)))
               ∙ λ i. going o t (more.all (initial.init_block other q (block_there b) (kept t)) i);
-          now = λ t. (λ i.
-              if holds (condition_now at c t i 0) then performing.perf_block o q (block_here b) t
+          now = λ t. (λ i. if holds (condition_now at c t i 0) then performing.perf_block o q (block_here b) t
               else performing.perf_arms o (past_arm_same b p i) (arms_here rest) t)
-              ∙ λ i.
-              if holds (value_of other t cycle at (there c) 0) then block_same cycle b q t i else more.now t i;
+              ∙ λ i. if holds (value_of other t cycle at (there c) 0) then block_same cycle b q t i else more.now t i;
         }
 
 -- ---- lives
@@ -303,8 +291,7 @@ body_by g number spaces b = core.core spaces (block_by g (numbered g number) b)
 
 module _ {W : Type 0} (to : Res → Res) (g h : Shared) (lead : LeadsTo to h g) (number : Numbering) (spaces : Spaces)
     (b : Block) where
-  cycles_same : (cycles : List (Cycle W)) (t : Note W)
-      → goes_on (body_by g number spaces b) cycles t
+  cycles_same : (cycles : List (Cycle W)) (t : Note W) → goes_on (body_by g number spaces b) cycles t
       ≡ goes_on (body_by h number spaces b) (map (renumbered_cycle to) cycles) t
   cycles_same [] t = refl
   cycles_same (c ∷ more) t =
@@ -313,13 +300,11 @@ module _ {W : Type 0} (to : Res → Res) (g h : Shared) (lead : LeadsTo to h g) 
       (ap (goes_on (body_by g number spaces b) more) (block_same to g h lead number spaces c.world cycle b start moved)
       ∙ cycles_same more (performing.perf_block (renumbered to c.world) start (body_by h number spaces b) moved))
 
-  lives_same : (o : World W) (cycles : List (Cycle W)) (x : W)
-      → life o (body_by g number spaces b) cycles x
+  lives_same : (o : World W) (cycles : List (Cycle W)) (x : W) → life o (body_by g number spaces b) cycles x
       ≡ life (renumbered to o) (body_by h number spaces b) (map (renumbered_cycle to) cycles) x
   lives_same o cycles x =
       ap (goes_on (body_by g number spaces b) cycles)
-      (block_same to g h lead number spaces o beginning b start (new_note x))
-      ∙ cycles_same cycles (initial.init_block (renumbered to o) start (body_by h number spaces b) (new_note x))
+      (block_same to g h lead number spaces o beginning b start (new_note x)) ∙ cycles_same _ _
 
 -- the expanded instrument, typed by these lists
 abbrev made_by : List Definition → Shared → Instrument → typed.Instrument

@@ -10,7 +10,7 @@ use Rattle.cs_grammar.specs.{declared.tree.Callee.Callee, Tree.set, Tree.call}
 use Rattle.cs_grammar.specs.Tree.{Expression, number, var, field, head, neg, pair, pick, apply, Argument, value, text}
 use Rattle.cs_typed.specs.declared.tree.Var.{Var as Variable}
 use Rattle.cs_typed.specs.declared.tree.Var.TheVariants.{Local, Global}
-use Rattle.cs_typing.specs.{Calls.channel_use, Calls.call_rate, Expressions.rate_of, declared.known.Channel.Channel}
+use Rattle.cs_typing.specs.{Calls.channel_use, Expressions.rate_of, declared.known.Channel.Channel}
 use Rattle.cs_typing.specs.Known.{Shared, place_in, global, channel_of}
 use Rattle.cs_ir.proofs.RegisterKinds.{kind_is, local_rate, same_reg_here}
 use Rattle.cs_ir.specs.{Machine.same_reg, Machine.put, Waves.Wave, Waves.held, Worlds.World}
@@ -76,13 +76,11 @@ variable_alike g flat own f x fits = by (is_global x) refl
         let there = Global (global (name_rate x) (place_in g.globals x)) in
         subst (λ v. SameVariable flat own f v (numbered g own x))
         (sym (ap (numbered g flat) (own_shared f x e) ∙ numbered_shared g flat x e))
-        (subst (λ w. SameVariable flat own f there w) (sym (numbered_shared g own x e))
-        (both_shared (global (name_rate x) (place_in g.globals x))))
+        (subst (λ w. SameVariable flat own f there w) (sym (numbered_shared g own x e)) (both_shared _))
     by false e =
         let y = own_name f x in
         let there : numbered g flat y ≡ Local (name_rate x) (flat y) =
-        numbered_own g flat y (own_local f x ∙ e) ∙ ap (λ r. Local r (flat y))
-        (own_rate f x) in
+        numbered_own g flat y (own_local f x ∙ e) ∙ ap (λ r. Local r (flat y)) (own_rate f x) in
         subst (λ v. SameVariable flat own f v (numbered g own x)) (sym there)
         (subst (λ w. SameVariable flat own f (Local (name_rate x) (flat y)) w) (sym (numbered_own g own x e))
         (both_own x e fits))
@@ -90,8 +88,7 @@ variable_alike g flat own f x fits = by (is_global x) refl
 -- ---- what is typed with them
 
 pub channel_alike : (V : Variable → Variable → Type 0) → ((g : Res) → V (Global g) (Global g))
-    → (g : Shared) (kind : Channel) (t : List ℕ)
-    → V (channel_of g kind t) (channel_of g kind t)
+    → (g : Shared) (kind : Channel) (t : List ℕ) → V (channel_of g kind t) (channel_of g kind t)
 channel_alike V k g channel.Control t = k _
 channel_alike V k g channel.Sound t = k _
 
@@ -103,8 +100,7 @@ module _ {V : Variable → Variable → Type 0} {P : List ℕ → Type 0} (v w :
   expression_alike (field j) n = alike_field rate.Init j
   expression_alike (head q) n = alike_head rate.Init q
   expression_alike (neg a) n = alike_neg (rate_of (neg a)) _ _ (expression_alike a n)
-  expression_alike (pair o a b) n =
-      alike_pair (rate_of (pair o a b)) o _ _ _ _ (expression_alike a n.0) (expression_alike b n.1)
+  expression_alike (pair o a b) n = alike_pair _ _ _ _ _ _ (expression_alike a n.0) (expression_alike b n.1)
   expression_alike (pick c a b) n =
       alike_pick (rate_of (pick c a b)) _ _ _ _ _ _ (expression_alike c n.0) (expression_alike a n.1)
       (expression_alike b n.2)
@@ -135,8 +131,7 @@ module _ {V : Variable → Variable → Type 0} {P : List ℕ → Type 0} (v w :
         (core_stmt spaces (statement_by q w (call line xs c args)))
     call_alike spaces line xs (callee.Name name) args n m = alike_empty rate.Init
     call_alike spaces line xs (callee.Opcode o) args n m =
-        core_alike spaces (call_rate (row_of o).shape xs args) o (row_of o).shape (results_alike xs n)
-        (arguments_alike (channel_use (row_of o).shape xs args) args m)
+        core_alike _ _ _ _ (results_alike _ n) (arguments_alike (channel_use (row_of o).shape xs args) args m)
 
 -- ---- a note, and the note that a frame sees
 
@@ -150,8 +145,7 @@ pub record Seen {W : Type 0} (way : Way) (flat own : Numbering) (f : ℕ) (p : P
   pub mine : (x : List ℕ) → is_global x ≡ false → Fits f x
       → t.locals (reg (name_rate x) (flat (own_name f x))) ≡ s.locals (reg (name_rate x) (own x))
   pub others : (g : ℕ) (q : Path) → way.frame g ≡ Some q → same_path q p ≡ false → (x : List ℕ) → is_global x ≡ false
-      → Fits g x
-      → t.locals (reg (name_rate x) (flat (own_name g x))) ≡ u.frames q (reg (name_rate x) (own x))
+      → Fits g x → t.locals (reg (name_rate x) (flat (own_name g x))) ≡ u.frames q (reg (name_rate x) (own x))
   pub kept : (a b : Path) → way.part a ≡ Some b → t.kept a ≡ s.kept b
   pub world : t.world ≡ s.world
 
@@ -192,9 +186,7 @@ module _ {W : Type 0} (o : World W) (way : Way) (clear : IsClear way) (flat own 
       → put t.locals (reg (name_rate x) (flat (own_name f x))) a (reg (name_rate y) (flat (own_name f y)))
       ≡ put s.locals (reg (name_rate x) (own x)) a (reg (name_rate y) (own y))
   mine_put t s h x y ex ey fx fy a =
-      let b = same_reg (reg (name_rate y) (flat (own_name f y))) (reg (name_rate x) (flat (own_name f x))) in
-      let c = same_reg (reg (name_rate y) (own y)) (reg (name_rate x) (own x)) in
-      λ i. if same_truth b c there back i then a else h.mine y ey fy i
+      λ i. if same_truth _ _ there back i then a else h.mine y ey fy i
     where
       there : same_reg (reg (name_rate y) (flat (own_name f y))) (reg (name_rate x) (flat (own_name f x))) ≡ true
           → same_reg (reg (name_rate y) (own y)) (reg (name_rate x) (own x)) ≡ true
@@ -207,14 +199,12 @@ module _ {W : Type 0} (o : World W) (way : Way) (clear : IsClear way) (flat own 
       back : same_reg (reg (name_rate y) (own y)) (reg (name_rate x) (own x)) ≡ true
           → same_reg (reg (name_rate y) (flat (own_name f y))) (reg (name_rate x) (flat (own_name f x))) ≡ true
       back e =
-          let k = same_local_is (name_rate y) (name_rate x) (own y) (own x) e in
+          let k = same_local_is _ _ _ _ e in
           let one = to y x k.0 k.1 in
-          same_local_here (name_rate y) (name_rate x) (flat (own_name f y)) (flat (own_name f x)) k.0
-          (ap (λ z. flat (own_name f z)) one)
+          same_local_here _ _ _ _ k.0 (ap (λ z. flat (own_name f z)) one)
 
-  others_put : (t s : Note W) → View t s → (x : List ℕ) → is_global x ≡ false → Fits f x
-      → (a : Wave) (g : ℕ) (q : Path) → way.frame g ≡ Some q → same_path q p ≡ false
-      → (y : List ℕ) → is_global y ≡ false → Fits g y
+  others_put : (t s : Note W) → View t s → (x : List ℕ) → is_global x ≡ false → Fits f x → (a : Wave) (g : ℕ) (q : Path)
+      → way.frame g ≡ Some q → same_path q p ≡ false → (y : List ℕ) → is_global y ≡ false → Fits g y
       → put t.locals (reg (name_rate x) (flat (own_name f x))) a (reg (name_rate y) (flat (own_name g y)))
       ≡ u.frames q (reg (name_rate y) (own y))
   others_put t s h x ex fx a g q there apart y ey fy = by b refl
@@ -222,8 +212,7 @@ module _ {W : Type 0} (o : World W) (way : Way) (clear : IsClear way) (flat own 
       b : Bool
       b = same_reg (reg (name_rate y) (flat (own_name g y))) (reg (name_rate x) (flat (own_name f x)))
 
-      by : (c : Bool) → b ≡ c
-          → (if c then a else t.locals (reg (name_rate y) (flat (own_name g y)))) ≡ u.frames q
+      by : (c : Bool) → b ≡ c → (if c then a else t.locals (reg (name_rate y) (flat (own_name g y)))) ≡ u.frames q
           (reg (name_rate y) (own y))
       by true e =
           let k = same_local_is (name_rate y) (name_rate x) (flat (own_name g y)) (flat (own_name f x)) e in

@@ -4,8 +4,8 @@ use Rattle.std.specs.List.{AllZip}
 use Rattle.cs_base.proofs.Tests.{both_none}
 use Rattle.cs_grammar.specs.Tree.{Block, no_stmt, andthen, Instrument, Orchestra}
 use Rattle.cs_typed.specs.Places.{outside, inside}
-use Rattle.cs_typing.specs.Known.{Shared, KnownHere, known_with}
-use Rattle.cs_typing.specs.{Settings.header, Settings.settings_fault, Typing.typed_instruments, Typing.typed_of}
+use Rattle.cs_typing.specs.Known.{Shared, KnownHere}
+use Rattle.cs_typing.specs.{Settings.header, Typing.typed_instruments, Typing.typed_of}
 use Rattle.cs_typing.specs.Statements.{block_fault, known_block, typed_block}
 use Rattle.cs_typing.specs.Typing.{before, from, Item, alone, body, items, entered, known_item, known_items, item_fault}
 use Rattle.cs_typing.specs.Typing.{items_fault, first_known, type_fault, typed_outside, typed_instrument}
@@ -24,9 +24,7 @@ item_later n (body i) = record { shared = (known_block_later (entered n) i.body)
 
 pub items_later : (n : KnownHere) (list : List Item) → Later n (known_items n list)
 items_later n [] = later_same n
-items_later n (x ∷ rest) =
-    later_further n (known_item n x) (known_items (known_item n x) rest) (item_later n x)
-    (items_later (known_item n x) rest)
+items_later n (x ∷ rest) = later_further _ _ _ (item_later _ x) (items_later (known_item n x) rest)
 
 -- ---- instruments
 
@@ -38,9 +36,8 @@ instrument_numbered channels n i g h l = record {
   numbers = refl;
   body = record {
     number = number_in known.locals;
-    apart = number_tells known.locals;
-    is = block_same (inside channels) (entered n) (known_with g known.locals) (number_in known.locals) i.body h
-        (record { shared = l; locals = table_stays known.locals }) (number_places known.locals);
+    apart = number_tells _;
+    is = block_same _ _ _ _ _ h (record { shared = l; locals = table_stays _ }) (number_places _);
   };
 }
   where
@@ -48,8 +45,7 @@ instrument_numbered channels n i g h l = record {
     known = known_block (entered n) i.body
 
 pub instruments_numbered : (channels : ℕ) (n : KnownHere) (b : Block) (list : List Instrument) (g : Shared)
-    → items_fault channels n (items b list) ≡ None
-    → SharedGoesOn (known_items n (items b list)).shared g
+    → items_fault channels n (items b list) ≡ None → SharedGoesOn (known_items n (items b list)).shared g
     → AllZip (IsNumberedInstrument g) list (typed_instruments n (items b list))
 instruments_numbered channels n b [] g h l = tt
 instruments_numbered channels n b (i ∷ rest) g h l =
@@ -57,15 +53,12 @@ instruments_numbered channels n b (i ∷ rest) g h l =
     let other = from i.line b in
     let m = known_block n first in
     let more = items other rest in
-    let parts = both_none (item_fault channels n (alone first)) (items_fault channels m (body i ∷ more)) h in
-    let halves = both_none (item_fault channels m (body i)) (items_fault channels (known_item m (body i)) more)
-    parts.1 in
+    let parts = both_none _ _ h in
+    let halves = both_none _ _ parts.1 in
     let here : SharedGoesOn (known_block (entered m) i.body).shared g =
-    shared_further (known_block (entered m) i.body).shared (known_items (known_item m (body i)) more).shared g
-    (items_later (known_item m (body i)) more).shared l in (
-      instrument_numbered channels m i g halves.0 here,
-      instruments_numbered channels (known_item m (body i)) other rest
-          g halves.1 l,
+    shared_further _ _ _ (items_later (known_item m (body i)) more).shared l in (
+      instrument_numbered _ m _ _ halves.0 here,
+      instruments_numbered channels (known_item m (body i)) other rest g halves.1 l,
     )
 
 -- ---- statements outside
@@ -76,8 +69,7 @@ cut g v line no_stmt = refl
 cut g v line (andthen x rest) = grind (arith, common_steps, nat_lt, cut g v line rest)
 
 outside_same : (channels : ℕ) (n : KnownHere) (b : Block) (list : List Instrument) (m : KnownHere) (s : Numbering)
-    → items_fault channels n (items b list) ≡ None
-    → Later (known_items n (items b list)) m → HasPlaces s m.locals
+    → items_fault channels n (items b list) ≡ None → Later (known_items n (items b list)) m → HasPlaces s m.locals
     → typed_outside n (items b list) ≡ block_by m.shared (numbered m.shared s) b
 outside_same channels n b [] m s h l p =
     let parts = both_none (item_fault channels n (alone b)) None h in
@@ -88,32 +80,25 @@ outside_same channels n b (i ∷ rest) m s h l p =
     let k = known_block n first in
     let more = items other rest in
     let next = known_item k (body i) in
-    let parts = both_none (item_fault channels n (alone first)) (items_fault channels k (body i ∷ more)) h in
-    let halves = both_none (item_fault channels k (body i)) (items_fault channels next more) parts.1 in
-    let here : Later k m = later_further k next m (item_later k (body i))
-    (later_further next (known_items next more) m (items_later next more) l) in
-    (λ j. typed.then_block (block_same (outside channels) n m s first parts.0 here p j)
-    (outside_same channels next other rest m s halves.1 l p j))
-    ∙ cut m.shared (numbered m.shared s) i.line b
+    let parts = both_none _ _ h in
+    let halves = both_none _ _ parts.1 in
+    let here : Later k m = later_further _ _ _ (item_later _ (body i)) (later_further _ _ _ (items_later _ more) l) in
+    (λ j. typed.then_block (block_same (outside channels) n _ _ first parts.0 here p j)
+    (outside_same channels next other rest m s halves.1 l p j)) ∙ cut _ _ i.line _
 
 no_fault : (o : Orchestra) → type_fault o ≡ None
     → items_fault (header o.head).nchnls (first_known o) (items o.zero o.instrs) ≡ None
-no_fault o h = (both_none (settings_fault o.head o.zero)
-    (items_fault (header o.head).nchnls (first_known o) (items o.zero o.instrs)) h).1
+no_fault o h = (both_none _ _ h).1
 
 pub outside_numbered : (o : Orchestra) → type_fault o ≡ None → IsNumbered (shared_of o) o.zero (typed_of o).zero
 outside_numbered o h =
     let known = known_items (first_known o) (items o.zero o.instrs) in
     record {
       number = number_in known.locals;
-      apart = number_tells known.locals;
-      is = outside_same (header o.head).nchnls (first_known o) o.zero o.instrs known (number_in known.locals)
-          (no_fault o h) (later_same known)
-          (number_places known.locals);
+      apart = number_tells _;
+      is = outside_same (header o.head).nchnls _ _ _ _ _ (no_fault o h) (later_same _) (number_places _);
     }
 
 pub all_numbered : (o : Orchestra) → type_fault o ≡ None
     → AllZip (IsNumberedInstrument (shared_of o)) o.instrs (typed_of o).instrs
-all_numbered o h =
-    instruments_numbered (header o.head).nchnls (first_known o) o.zero o.instrs (shared_of o) (no_fault o h)
-    (shared_stays (shared_of o))
+all_numbered o h = instruments_numbered (header o.head).nchnls _ _ _ _ (no_fault o h) (shared_stays _)

@@ -6,7 +6,7 @@ use Rattle.cs_grammar.specs.Tree.{Statement, set, call, choose, Block, no_stmt, 
 use Rattle.cs_grammar.specs.Tree.{Definition}
 use Rattle.cs_udo.specs.Expanded.{whole_body}
 use Rattle.cs_udo_meaning.specs.Frames.{Reading, read, Action, Actions, action_of, unit_of, units_of_call, units_of}
-use Rattle.cs_udo_meaning.specs.Frames.{units_of_block, units_of_arms, actions_of, action, no_actions}
+use Rattle.cs_udo_meaning.specs.Frames.{units_of_block, units_of_arms, actions_of, action}
 use Rattle.cs_udo.proofs.EachDefined.{Of, OfEach, of_called, of_none, all_more}
 use Rattle.cs_udo_meaning.proofs.Paths.{further}
 use Rattle.cs_meaning.specs.Core as core
@@ -40,9 +40,7 @@ abbrev Rise : ℕ → List ℕ → Type 0
 Rise n xs = Ascend n (n + length xs) xs
 
 rise_on : (n : ℕ) (xs ys : List ℕ) → Rise n xs → Rise (n + length xs) ys → Rise n (xs ++ ys)
-rise_on n xs ys h k =
-    subst (λ i. Ascend n i (xs ++ ys)) (further n xs ys)
-    (joined n (n + length xs) ((n + length xs) + length ys) xs ys h k)
+rise_on n xs ys h k = subst (λ i. Ascend n i (xs ++ ys)) (further _ _ _) (joined _ _ _ _ _ h k)
 
 none_rise : (n : ℕ) → n ≤ n + 0
 none_rise n = omega arith
@@ -70,20 +68,14 @@ module _ {W : Type 0} (m : Reading W) where
 
       block_rises : (n : ℕ) (b : Block) → Rise n (units_of_block m env n b)
       block_rises n no_stmt = none_rise n
-      block_rises n (andthen x rest) =
-          let one = units_of m env n x in
-          rise_on n one (units_of_block m env (n + length one) rest) (rises n x) (block_rises (n + length one) rest)
+      block_rises n (andthen x rest) = rise_on _ _ _ (rises n x) (block_rises _ rest)
 
       arms_rise : (n : ℕ) (list : Arms) → Rise n (units_of_arms m env n list)
       arms_rise n (otherwise b) = block_rises n b
-      arms_rise n (arm c b rest) =
-          let one = units_of_block m env n b in
-          rise_on n one (units_of_arms m env (n + length one) rest) (block_rises n b) (arms_rise (n + length one) rest)
+      arms_rise n (arm c b rest) = rise_on _ _ _ (block_rises n b) (arms_rise _ rest)
 
   pub units_differ : (ds : List Definition) (n : ℕ) (b : Block)
       → AllPairs (λ f g. f < g) (units_of_block m (actions_of W ds) n b)
   units_differ ds n b =
-      let list = units_of_block m (actions_of W ds) n b in
-      ascending n (n + length list) list
-      (block_rises (actions_of W ds) (all_more Rising action
-      (λ env k d n. block_rises env k n (whole_body d)) no_actions (of_none Rising) ds) n b)
+      ascending _ _ _ (block_rises (actions_of W ds) (all_more _ action
+      (λ env k d n. block_rises env k n (whole_body d)) _ (of_none Rising) ds) n b)

@@ -1,5 +1,5 @@
 -- What statements of a frame leave as it was: every frame but theirs and those of the calls in them. And the frames of
-use Rattle.std.proofs.Common.{◌≡◌, ◌≢◌, ◌∙◌, ℕ, suc, Bool, true, false, if◌then◌else◌, List, ◌∷◌, Option, Some, []}
+use Rattle.std.proofs.Common.{◌≡◌, ◌≢◌, ◌∙◌, ℕ, Bool, true, false, if◌then◌else◌, List, ◌∷◌, Option, Some, []}
 use Rattle.std.proofs.Common.{None, refl, ap, arith}
 use Rattle.std.specs.{List.AllPairs, Str.bytes_eq as same_path}
 use Rattle.std.proofs.lemmas.{Slice.Eq.bytes_eq-Decides, Grind.common_steps}
@@ -8,7 +8,6 @@ use Rattle.cs_words.specs.Names.{name_rate}
 use Rattle.cs_grammar.specs.Tree.{Expression, Argument, value, Statement, set, call, choose, Block, no_stmt, andthen}
 use Rattle.cs_grammar.specs.Tree.{Arms, otherwise, arm, Definition}
 use Rattle.cs_typed.specs.declared.tree.Var.{Var as Variable}
-use Rattle.cs_typing.specs.Statements.{choice_rate}
 use Rattle.cs_ir.specs.{Values.holds, Waves.Wave, Waves.if_init}
 use Rattle.cs_meaning.specs.{Core.Stmt, Initialising.keep, When.When, When.beginning, When.cycle}
 use Rattle.cs_meaning.specs.Notes.{Note, Path, StatementPlace, next, inside, inside_arm, assign, value as value_of}
@@ -46,48 +45,35 @@ module _ {W : Type 0} (env : Actions W) (k : OfEach CallsLie env) where
     frames_lie : (p : Path) (x : Statement) → Lie (Inside p) (frames_of env p x)
     frames_lie p (set line x e) = none_lie (Inside p)
     frames_lie p (call line xs c args) = call_lies p (action_of env c) (of_called CallsLie env k c)
-    frames_lie p (choose line list) =
-        lie_wider (Beyond 0 p) (Inside p) (beyond_whole 0 p) (frames_of_arms env (0 ∷ p) list) (arms_lie 0 p list)
+    frames_lie p (choose line list) = lie_wider _ _ (beyond_whole _ _) _ (arms_lie 0 p list)
 
     pub block_lies : (i : ℕ) (r : Path) (b : Block) → Lie (Beyond i r) (frames_of_block env (i ∷ r) b)
     block_lies i r no_stmt = none_lie (Beyond i r)
-    block_lies i r (andthen x rest) =
-        joined_lie i r (frames_of env (i ∷ r) x) (frames_of_block env (suc i ∷ r) rest) (frames_lie (i ∷ r) x)
-        (block_lies (suc i) r rest)
+    block_lies i r (andthen x rest) = joined_lie _ _ _ _ (frames_lie _ x) (block_lies _ r rest)
 
     arms_lie : (i : ℕ) (r : Path) (list : Arms) → Lie (Beyond i r) (frames_of_arms env (i ∷ r) list)
-    arms_lie i r (otherwise b) =
-        lie_wider (Beyond 0 (i ∷ r)) (Beyond i r) (λ x h. first_beyond i r x (beyond_whole 0 (i ∷ r) x h))
-        (frames_of_block env (0 ∷ i ∷ r) b) (block_lies 0 (i ∷ r) b)
+    arms_lie i r (otherwise b) = lie_wider _ _ (λ x h. first_beyond i r x (beyond_whole _ _ _ h)) _ (block_lies 0 _ b)
     arms_lie i r (arm c b rest) =
-        let body = frames_of_block env (0 ∷ 1 ∷ i ∷ r) b in
-        joined_lie i r body (frames_of_arms env (suc i ∷ r) rest)
-        (lie_wider (Beyond 0 (1 ∷ i ∷ r)) (Inside (i ∷ r))
-        (λ x h. beyond_whole 1 (i ∷ r) x (first_beyond 1 (i ∷ r) x (beyond_whole 0 (1 ∷ i ∷ r) x h)))
-        body (block_lies 0 (1 ∷ i ∷ r) b))
-        (arms_lie (suc i) r rest)
+        joined_lie _ _ _ _ (lie_wider _ _ (λ x h. beyond_whole 1 (i ∷ r) x (first_beyond _ _ _ (beyond_whole _ _ _ h)))
+        _ (block_lies 0 (1 ∷ i ∷ r) b)) (arms_lie _ r rest)
 
   -- the instrument's own frame among those of its calls
   pub frames_differ : (i : ℕ) (r : Path) (b : Block) → Differ (own_frame ∷ frames_of_block env (i ∷ r) b)
   frames_differ i r b =
       let h = block_lies i r b in
-      let list = frames_of_block env (i ∷ r) b in
-      (each_of (Beyond i r) (λ y. own_frame ≢ y) own list h.each, h.differ)
+      (each_of _ _ own _ h.each, h.differ)
     where
       own : (x : Path) → Beyond i r x → own_frame ≢ x
       own x h e = never_whole h.part h.inside.steps r (e ∙ h.inside.is)
 
 pub all_lie : (W : Type 0) (ds : List Definition) → OfEach CallsLie (actions_of W ds)
-all_lie W ds = all_more CallsLie action (λ env k d p.
-    lie_wider (Beyond 0 (1 ∷ p)) (Inside (1 ∷ p)) (beyond_whole 0 (1 ∷ p))
-    (frames_of_block env (0 ∷ 1 ∷ p) (whole_body d)) (block_lies env k 0 (1 ∷ p) (whole_body d)))
-    no_actions (of_none CallsLie) ds
+all_lie W ds = all_more _ action (λ env k d p. lie_wider (Beyond 0 (1 ∷ p)) (Inside (1 ∷ p)) (beyond_whole _ _)
+    (frames_of_block env (0 ∷ 1 ∷ p) (whole_body d)) (block_lies _ k _ _ (whole_body d))) _ (of_none CallsLie) ds
 
 pub calls_differ : (W : Type 0) (ds : List Definition) (i : ℕ) (r : Path) (b : Block)
     → AllPairs (λ f g. f ≢ g) (own_frame ∷ frames_of_block (actions_of W ds) (i ∷ r) b)
 calls_differ W ds i r b =
-    pairs_differ (own_frame ∷ frames_of_block (actions_of W ds) (i ∷ r) b)
-    (frames_differ (actions_of W ds) (all_lie W ds) i r b)
+    pairs_differ (own_frame ∷ frames_of_block (actions_of W ds) (i ∷ r) b) (frames_differ _ (all_lie _ ds) i r b)
 
 -- ---- what is left as it was
 
@@ -119,15 +105,12 @@ module _ {W A : Type 0} (m : Reading W) (seen : Framed W → A) (In At : Path �
   copy_stays : (w : When) (f h : Path) → In f → In h → (p : Path) → At p → (x : List ℕ) (e : Expression) (u : Framed W)
       → seen (copy_done m w f h p x e u) ≡ seen u
   copy_stays beginning f h own there p at x e u =
-      going u _
-      (either (name_rate x) _ _ (seen u) (s.assigned h there (variable_read m x) _ u)
+      going u _ (either (name_rate x) _ _ (seen u) (s.assigned h there (variable_read m x) _ u)
       (s.kept f own p at (expression_read m e) u))
-  copy_stays cycle f h own there p at x e u =
-      either (name_rate x) u _ (seen u) refl (s.assigned h there (variable_read m x) _ u)
+  copy_stays cycle f h own there p at x e u = either _ _ _ _ refl (s.assigned h there (variable_read m x) _ u)
 
   copies_stay : (w : When) (f h : Path) → In f → In h → (p : Path) (xs : List (List ℕ)) (args : List Argument)
-      (u : Framed W)
-      → Each At (keepers_of_copies p xs args) → seen (copies_done m w f h p xs args u) ≡ seen u
+      (u : Framed W) → Each At (keepers_of_copies p xs args) → seen (copies_done m w f h p xs args u) ≡ seen u
   copies_stay w f h own there p (x ∷ xs) (value e ∷ args) u at =
       copies_stay w f h own there (next p) xs args (copy_done m w f h p x e u) at.1
       ∙ copy_stays w f h own there p at.0 x e u
@@ -139,9 +122,8 @@ module _ {W A : Type 0} (m : Reading W) (seen : Framed W → A) (In At : Path �
       → Each At (a.keepers p.path) → seen (a.does m w p u) ≡ seen u
 
   any_stays : (w : When) (f : Path) → In f → (p : StatementPlace) (x : Statement) (xs : List (List ℕ))
-      (args : List Argument) (a : Option (Action W)) → Of StaysIn a → (u : Framed W)
-      → Each In (frames_of_call p.path a) → Each At (keepers_of_call p.path xs args a)
-      → seen (any_done m w f p x xs args a u) ≡ seen u
+      (args : List Argument) (a : Option (Action W)) → Of StaysIn a → (u : Framed W) → Each In (frames_of_call p.path a)
+      → Each At (keepers_of_call p.path xs args a) → seen (any_done m w f p x xs args a u) ≡ seen u
   any_stays w f own p x xs args None k u i at = s.done w f own p at.0 (read m x) u
   any_stays w f own p x xs args (Some a) k u i at = grind (arith, common_steps, copies_stay, each_first, each_rest)
 
@@ -159,22 +141,16 @@ module _ {W A : Type 0} (m : Reading W) (seen : Framed W → A) (In At : Path �
       stays w p (call line xs c args) u i at =
           any_stays w f own p (call line xs c args) xs args (action_of env c) (of_called StaysIn env k c) u i at
       stays w p (choose line list) u i at =
-          let arms = arms_stay (inside p) list i at in
-          passes w _ _ (seen u) (going u _ (either (choice_rate list) _ _ (seen u) (arms.first u) (arms.all u)))
-          (arms.now u)
+          let arms = arms_stay _ list i at in
+          passes _ _ _ _ (going _ _ (either _ _ _ _ (arms.first u) (arms.all u))) (arms.now u)
 
       pub block_stays : (w : When) (p : StatementPlace) (b : Block) (u : Framed W)
           → Each In (frames_of_block env p.path b) → Each At (keepers_of_block env p.path b)
           → seen (block_done m env w f p b u) ≡ seen u
       block_stays w p no_stmt u i at = refl
       block_stays w p (andthen x rest) u i at =
-          let frames = frames_of env p.path x in
-          let others = frames_of_block env (next p.path) rest in
-          let one = keepers_of env p.path x in
-          let two = keepers_of_block env (next p.path) rest in
-          block_stays w (past m env p x) rest (framed_done m env w f p x u) (each_rest In frames others i)
-          (each_rest At one two at)
-          ∙ stays w p x u (each_first In frames others i) (each_first At one two at)
+          block_stays w (past m env p x) rest (framed_done m env w f p x u) (each_rest _ _ _ i)
+          (each_rest _ _ _ at) ∙ stays w p x u (each_first _ _ _ i) (each_first _ _ _ at)
 
       arms_stay : (p : StatementPlace) (list : Arms) → Each In (frames_of_arms env p.path list)
           → Each At (keepers_of_arms env p.path list) → ArmsStay env f p list
@@ -200,24 +176,19 @@ module _ {W A : Type 0} (m : Reading W) (seen : Framed W → A) (In At : Path �
             first = λ u.
                 chosen (holds ((decided u).kept (0 ∷ p.path))) _ _ (seen (decided u)) (body beginning (decided u))
                 (more.first (decided u)) ∙ kept u;
-            all = λ u.
-                going u _ (more.all (block_done m env beginning f (inside_arm p) b (decided u))
+            all = λ u. going u _ (more.all (block_done m env beginning f (inside_arm p) b (decided u))
                 ∙ body beginning (decided u) ∙ kept u);
-            now = λ u.
-                chosen (holds (value_of m.world (seen_from f u) cycle (0 ∷ p.path) (expression_read m c) 0)) _ _
-                (seen u)
-                (body cycle u) (more.now u);
+            now = λ u. chosen (holds (value_of m.world (seen_from f u) cycle (0 ∷ p.path) (expression_read m c) 0)) _ _
+                (seen u) (body cycle u) (more.now u);
           }
 
-  pub statements_stay : (ds : List Definition) (w : When) (f : Path) → In f → (p : StatementPlace) (b : Block)
-      (u : Framed W)
-      → Each In (frames_of_block (actions_of W ds) p.path b) → Each At (keepers_of_block (actions_of W ds) p.path b)
-      → seen (block_done m (actions_of W ds) w f p b u) ≡ seen u
+  pub statements_stay : (ds : List Definition) (w : When) (f : Path) → In f
+      → (p : StatementPlace) (b : Block) (u : Framed W) → Each In (frames_of_block (actions_of W ds) p.path b)
+      → Each At (keepers_of_block (actions_of W ds) p.path b) → seen (block_done m (actions_of W ds) w f p b u) ≡ seen u
   statements_stay ds w f own p b u i at =
       block_stays (actions_of W ds)
       (all_more StaysIn action (λ env k d w p u own i at. block_stays env k p.path own w (inside_arm p)
-      (whole_body d) u i at)
-      no_actions (of_none StaysIn) ds) f own w p b u i at
+      (whole_body d) u i at) no_actions (of_none StaysIn) ds) f own w p b u i at
 
 -- every frame but those of the statements
 pub frame_stays : {W : Type 0} (m : Reading W) (g : Path) → Stays m (λ u. u.frames g) (λ f. g ≢ f) (λ p. Unit {0})

@@ -1,6 +1,6 @@
 -- The way from an expanded text to the text as it was written: where its statements and their parts stand there.
 use Rattle.std.proofs.Common.{◌≡◌, ◌∙◌, ℕ, zero, suc, ◌+◌, Bool, true, false, if◌then◌else◌, List, ◌∷◌, ◌++◌, length}
-use Rattle.std.proofs.Common.{[], Option, Some, None, ◌⊎◌, inl, inr, arith, refl, sym, ap}
+use Rattle.std.proofs.Common.{[], Option, Some, None, ◌⊎◌, inl, inr, arith, refl, sym, ap, add-one}
 use Rattle.std.specs.{Option.option_or, Str.bytes_eq}
 use Rattle.std.proofs.Math.Logic.{⊎_elim}
 use Rattle.std.proofs.lemmas.Option.{none-some}
@@ -37,8 +37,7 @@ parts first behind (suc k ∷ y) = behind (k ∷ y)
 
 -- assignments of arguments of which the first stands at a path
 abbrev pub copies_lead : Path → List (List ℕ) → List Argument → Leads → Leads
-copies_lead q (x ∷ xs) (value e ∷ args) behind =
-    parts (parts (alike q) nowhere) (copies_lead (next q) xs args behind)
+copies_lead q (x ∷ xs) (value e ∷ args) behind = parts (parts (alike q) nowhere) (copies_lead (next q) xs args behind)
 copies_lead q xs args behind = behind
 
 -- ---- no two lead to one place
@@ -106,8 +105,7 @@ both_added P Q R f g apart a b c h k = record {
 -- those of one part before those of the parts behind it
 one_more : (k : ℕ) (r : Path) (a b c : Leads) → Adds (Beyond (suc k) r) a b → Adds (Inside (k ∷ r)) b c
     → Adds (Beyond k r) a c
-one_more k r = both_added (Beyond (suc k) r) (Inside (k ∷ r)) (Beyond k r) (next_beyond k r) (first_beyond k r)
-    (next_apart k r)
+one_more k r = both_added _ _ _ (next_beyond _ _) (first_beyond _ _) (next_apart _ _)
 
 alone_within : (P : Path → Type 0) (n : Leads) → Adds P nowhere n → Within P n
 alone_within P n h = record {
@@ -124,10 +122,7 @@ last_within P n h = alone_within P (parts n nowhere) (part_added P n nowhere h)
 copies_add : (k : ℕ) (r : Path) (xs : List (List ℕ)) (args : List Argument) (behind : Leads)
     → Adds (Beyond k r) behind (copies_lead (k ∷ r) xs args behind)
 copies_add k r (x ∷ xs) (value e ∷ args) behind =
-    let more = copies_lead (suc k ∷ r) xs args behind in
-    let own = parts (alike (k ∷ r)) nowhere in
-    one_more k r behind more (parts own more) (copies_add (suc k) r xs args behind)
-    (part_added (Inside (k ∷ r)) own more (last_within (Inside (k ∷ r)) (alike (k ∷ r)) (alike_within (k ∷ r))))
+    one_more _ _ _ _ _ (copies_add _ r xs args behind) (part_added _ _ _ (last_within _ _ (alike_within _)))
 copies_add k r _ _ behind = nothing_added (Beyond k r) behind
 
 -- ---- to each part of what keeps values something leads
@@ -154,8 +149,7 @@ alike_whole : (q : Path) → HasWhole (alike q) q
 alike_whole q y = record { steps = inward y []; is = ap (λ x. Some x) (inward_twice y [] q) }
 
 reached_whole : (n : Leads) (qs : List Path) → Each (Whole n) qs → Each (HasWhole n) qs
-reached_whole n qs h =
-    each_of (Whole n) (HasWhole n) (λ q w y. record { steps = (w y).part ∷ (w y).steps; is = (w y).is }) qs h
+reached_whole n qs h = each_of _ _ (λ q w y. record { steps = (w y).part ∷ (w y).steps; is = (w y).is }) _ h
 
 nothing_kept : (a : Leads) → Keeps a a []
 nothing_kept a = record { stays = λ x r. r; each = tt }
@@ -163,8 +157,7 @@ nothing_kept a = record { stays = λ x r. r; each = tt }
 part_kept : (n a : Leads) (qs : List Path) → Each (HasWhole n) qs → Keeps a (parts n a) qs
 part_kept n a qs h = record {
   stays = λ x r. record { part = suc r.part; steps = r.steps; is = r.is };
-  each = each_of (HasWhole n) (Whole (parts n a))
-      (λ q w y. record { part = 0; steps = (w y).steps; is = (w y).is }) qs h;
+  each = each_of _ _ (λ q w y. record { part = 0; steps = (w y).steps; is = (w y).is }) _ h;
 }
 
 inner_kept : (n a : Leads) (qs : List Path) → Each (Whole n) qs → Keeps a (parts n a) qs
@@ -183,11 +176,7 @@ alike_kept q a = part_kept (alike q) a (q ∷ []) (alike_whole q, tt)
 copies_kept : (q : Path) (xs : List (List ℕ)) (args : List Argument) (behind : Leads)
     → Keeps behind (copies_lead q xs args behind) (keepers_of_copies q xs args)
 copies_kept q (x ∷ xs) (value e ∷ args) behind =
-    let more = copies_lead (next q) xs args behind in
-    let own = parts (alike q) nowhere in
-    both_kept behind more (parts own more) (q ∷ []) (keepers_of_copies (next q) xs args)
-    (inner_kept own more (q ∷ []) (alike_kept q nowhere).each)
-    (copies_kept (next q) xs args behind)
+    both_kept _ _ _ (q ∷ []) _ (inner_kept _ _ _ (alike_kept q nowhere).each) (copies_kept (next q) xs args behind)
 copies_kept q _ _ behind = nothing_kept behind
 
 -- ---- what a defined opcode is in both texts
@@ -221,34 +210,23 @@ call_leads neither q xs args behind = parts (alike q) behind
 call_leads (both t a h) q xs args behind =
     copies_lead (0 ∷ 0 ∷ q) a.inputs args (h.leads q (copies_lead (0 ∷ 2 ∷ q) xs (values_in a.results) behind))
 
-call_adds : {W : Type 0} {t : Option Template} {a : Option (Action W)} (h : PairIf t a) (q : Path)
-    (xs : List (List ℕ)) (args : List Argument) (behind : Leads)
-    → Adds (Inside q) behind (call_leads h q xs args behind)
+call_adds : {W : Type 0} {t : Option Template} {a : Option (Action W)} (h : PairIf t a) (q : Path) (xs : List (List ℕ))
+    (args : List Argument) (behind : Leads) → Adds (Inside q) behind (call_leads h q xs args behind)
 call_adds neither q xs args behind = part_added (Inside q) (alike q) behind (alike_within q)
 call_adds (both t a h) q xs args behind =
     let two = copies_lead (0 ∷ 2 ∷ q) xs (values_in a.results) behind in
-    let body = h.leads q two in
-    let all = copies_lead (0 ∷ 0 ∷ q) a.inputs args body in
-    let given = adds_wider (Beyond 0 (2 ∷ q)) (Beyond 2 q)
-    (λ x p. first_beyond 2 q x (beyond_whole 0 (2 ∷ q) x p)) behind two
-    (copies_add 0 (2 ∷ q) xs (values_in a.results) behind) in
-    let inner = one_more 1 q behind two body given (h.adds q two) in
-    let inputs = adds_wider (Beyond 0 (0 ∷ q)) (Inside (0 ∷ q)) (beyond_whole 0 (0 ∷ q)) body all
-    (copies_add 0 (0 ∷ q) a.inputs args body) in
-    adds_wider (Beyond 0 q) (Inside q) (beyond_whole 0 q) behind all (one_more 0 q behind body all inner inputs)
+    let given = adds_wider _ _ (λ x p. first_beyond 2 q x (beyond_whole _ _ _ p)) _ _ (copies_add _ _ _ _ _) in
+    let inner = one_more _ _ _ _ _ given (h.adds q two) in
+    let inputs = adds_wider _ _ (beyond_whole _ _) _ _ (copies_add _ _ _ _ _) in
+    adds_wider _ _ (beyond_whole _ _) _ _ (one_more _ _ _ _ _ inner inputs)
 
-call_kept : {W : Type 0} {t : Option Template} {a : Option (Action W)} (h : PairIf t a) (q : Path)
-    (xs : List (List ℕ)) (args : List Argument) (behind : Leads)
-    → Keeps behind (call_leads h q xs args behind) (keepers_of_call q xs args a)
+call_kept : {W : Type 0} {t : Option Template} {a : Option (Action W)} (h : PairIf t a) (q : Path) (xs : List (List ℕ))
+    (args : List Argument) (behind : Leads) → Keeps behind (call_leads h q xs args behind) (keepers_of_call q xs args a)
 call_kept neither q xs args behind = alike_kept q behind
 call_kept (both t a h) q xs args behind =
     let given = values_in a.results in
     let two = copies_lead (0 ∷ 2 ∷ q) xs given behind in
-    let body = h.leads q two in
-    let results = keepers_of_copies (0 ∷ 2 ∷ q) xs given in
-    both_kept behind body (copies_lead (0 ∷ 0 ∷ q) a.inputs args body) (keepers_of_copies (0 ∷ 0 ∷ q) a.inputs args)
-    (a.keepers q ++ results) (copies_kept (0 ∷ 0 ∷ q) a.inputs args body)
-    (both_kept behind two body (a.keepers q) results (h.keeps q two) (copies_kept (0 ∷ 2 ∷ q) xs given behind))
+    both_kept _ _ _ _ _ (copies_kept _ _ _ _) (both_kept _ _ _ _ _ (h.keeps q two) (copies_kept _ _ _ _))
 
 -- ---- statements
 
@@ -256,8 +234,7 @@ module _ {W : Type 0} (opcodes : Opcodes) (env : Actions W) (k : AllPair opcodes
   abbrev mutual
     pub stmt_leads : Path → Statement → Leads → Leads
     stmt_leads q (set line x e) behind = parts (alike q) behind
-    stmt_leads q (call line xs c args) behind =
-        call_leads (called_pair opcodes env k c) q xs args behind
+    stmt_leads q (call line xs c args) behind = call_leads (called_pair opcodes env k c) q xs args behind
     stmt_leads q (choose line list) behind = parts (arms_lead (0 ∷ q) list) behind
 
     pub block_leads : Path → Block → Leads → Leads
@@ -272,82 +249,52 @@ module _ {W : Type 0} (opcodes : Opcodes) (env : Actions W) (k : AllPair opcodes
   mutual
     stmt_adds : (q : Path) (x : Statement) (behind : Leads) → Adds (Inside q) behind (stmt_leads q x behind)
     stmt_adds q (set line x e) behind = part_added (Inside q) (alike q) behind (alike_within q)
-    stmt_adds q (call line xs c args) behind =
-        call_adds (called_pair opcodes env k c) q xs args behind
+    stmt_adds q (call line xs c args) behind = call_adds (called_pair opcodes env k c) q xs args behind
     stmt_adds q (choose line list) behind =
-        let arms = arms_lead (0 ∷ q) list in
-        part_added (Inside q) arms behind
-        (within_wider (Beyond 0 q) (Inside q) (beyond_whole 0 q) arms (arms_within 0 q list))
+        part_added _ _ _ (within_wider _ _ (beyond_whole _ _) _ (arms_within 0 q list))
 
     pub block_adds : (i : ℕ) (r : Path) (b : Block) (behind : Leads)
         → Adds (Beyond i r) behind (block_leads (i ∷ r) b behind)
     block_adds i r no_stmt behind = nothing_added (Beyond i r) behind
     block_adds i r (andthen x rest) behind =
         let more = block_leads (suc i ∷ r) rest behind in
-        one_more i r behind more (stmt_leads (i ∷ r) x more) (block_adds (suc i) r rest behind)
-        (stmt_adds (i ∷ r) x more)
+        one_more _ _ _ _ _ (block_adds _ r rest behind) (stmt_adds _ x more)
 
     arms_within : (i : ℕ) (r : Path) (list : Arms) → Within (Beyond i r) (arms_lead (i ∷ r) list)
     arms_within i r (otherwise b) =
-        let body = block_leads (0 ∷ i ∷ r) b nowhere in
-        last_within (Beyond i r) body
-        (within_wider (Beyond 0 (i ∷ r)) (Beyond i r)
-        (λ x p. first_beyond i r x (beyond_whole 0 (i ∷ r) x p)) body
-        (alone_within (Beyond 0 (i ∷ r)) body (block_adds 0 (i ∷ r) b nowhere)))
+        last_within _ _ (within_wider _ _ (λ x p. first_beyond i r x (beyond_whole _ _ _ p)) _
+        (alone_within _ _ (block_adds 0 _ b nowhere)))
     arms_within i r (arm c b rest) =
         let q = i ∷ r in
-        let body = block_leads (0 ∷ 1 ∷ q) b nowhere in
-        let behind = parts body nowhere in
-        let own = parts (alike (0 ∷ q)) behind in
-        let more = arms_lead (suc i ∷ r) rest in
-        let inner = last_within (Beyond 1 q) body
-        (within_wider (Beyond 0 (1 ∷ q)) (Beyond 1 q)
-        (λ x p. first_beyond 1 q x (beyond_whole 0 (1 ∷ q) x p)) body
-        (alone_within (Beyond 0 (1 ∷ q)) body (block_adds 0 (1 ∷ q) b nowhere))) in
-        let whole = one_more 0 q nowhere behind own (within_added (Beyond 1 q) behind inner)
-        (part_added (Inside (0 ∷ q)) (alike (0 ∷ q)) behind (alike_within (0 ∷ q))) in
-        let arm_within = within_wider (Beyond 0 q) (Inside q) (beyond_whole 0 q) own
-        (alone_within (Beyond 0 q) own whole) in
-        alone_within (Beyond i r) (parts own more)
-        (one_more i r nowhere more (parts own more) (within_added (Beyond (suc i) r) more (arms_within (suc i) r rest))
-        (part_added (Inside q) own more arm_within))
+        let inner = last_within _ _ (within_wider _ _ (λ x p. first_beyond 1 q x (beyond_whole _ _ _ p)) _
+        (alone_within _ _ (block_adds 0 (1 ∷ q) b nowhere))) in
+        let whole = one_more _ _ _ _ _ (within_added _ _ inner) (part_added _ _ _ (alike_within _)) in
+        let arm_within = within_wider _ _ (beyond_whole _ _) _ (alone_within _ _ whole) in
+        alone_within _ _ (one_more _ _ _ _ _ (within_added _ _ (arms_within _ r rest)) (part_added _ _ _ arm_within))
 
   pub block_sharp : (i : ℕ) (r : Path) (b : Block) → Sharp (block_leads (i ∷ r) b nowhere)
-  block_sharp i r b =
-      (alone_within (Beyond i r) (block_leads (i ∷ r) b nowhere) (block_adds i r b nowhere)).sharp
+  block_sharp i r b = (alone_within (Beyond i r) (block_leads (i ∷ r) b nowhere) (block_adds i r b nowhere)).sharp
 
   mutual
     stmt_kept : (q : Path) (x : Statement) (behind : Leads) → Keeps behind (stmt_leads q x behind) (keepers_of env q x)
     stmt_kept q (set line x e) behind = alike_kept q behind
-    stmt_kept q (call line xs c args) behind =
-        call_kept (called_pair opcodes env k c) q xs args behind
-    stmt_kept q (choose line list) behind =
-        inner_kept (arms_lead (0 ∷ q) list) behind (keepers_of_arms env (0 ∷ q) list) (arms_kept (0 ∷ q) list).each
+    stmt_kept q (call line xs c args) behind = call_kept (called_pair opcodes env k c) q xs args behind
+    stmt_kept q (choose line list) behind = inner_kept _ _ _ (arms_kept _ list).each
 
     pub block_kept : (q : Path) (b : Block) (behind : Leads)
         → Keeps behind (block_leads q b behind) (keepers_of_block env q b)
     block_kept q no_stmt behind = nothing_kept behind
     block_kept q (andthen x rest) behind =
         let more = block_leads (next q) rest behind in
-        both_kept behind more (stmt_leads q x more) (keepers_of env q x) (keepers_of_block env (next q) rest)
-        (stmt_kept q x more) (block_kept (next q) rest behind)
+        both_kept _ _ _ _ _ (stmt_kept q x more) (block_kept _ rest behind)
 
     arms_kept : (q : Path) (list : Arms) → Keeps nowhere (arms_lead q list) (keepers_of_arms env q list)
-    arms_kept q (otherwise b) =
-        inner_kept (block_leads (0 ∷ q) b nowhere) nowhere (keepers_of_block env (0 ∷ q) b)
-        (block_kept (0 ∷ q) b nowhere).each
+    arms_kept q (otherwise b) = inner_kept _ _ _ (block_kept _ b nowhere).each
     arms_kept q (arm c b rest) =
-        let body = block_leads (0 ∷ 1 ∷ q) b nowhere in
-        let behind = parts body nowhere in
-        let own = parts (alike (0 ∷ q)) behind in
         let in_body = keepers_of_block env (0 ∷ 1 ∷ q) b in
         let first = (0 ∷ q) ∷ in_body in
-        let more = arms_lead (next q) rest in
-        both_kept nowhere more (parts own more) first (keepers_of_arms env (next q) rest)
-        (inner_kept own more first
-        (both_kept nowhere behind own ((0 ∷ q) ∷ []) in_body (alike_kept (0 ∷ q) behind)
-        (inner_kept body nowhere in_body (block_kept (0 ∷ 1 ∷ q) b nowhere).each)).each)
-        (arms_kept (next q) rest)
+        both_kept _ _ _ first _ (inner_kept _ _ _ (both_kept nowhere _ _ _ _ (alike_kept (0 ∷ q) _)
+        (inner_kept _ _ _ (block_kept (0 ∷ 1 ∷ q) b nowhere).each)).each) (arms_kept _ rest)
 
   -- ---- the frame behind statements
 
@@ -362,23 +309,16 @@ module _ {W : Type 0} (opcodes : Opcodes) (env : Actions W) (k : AllPair opcodes
     after_is n p (call line xs c args) = call_after (called_pair opcodes env k c) n p
     after_is n p (choose line list) = after_arms_is n (0 ∷ p) list
 
-    pub after_block_is : (n : ℕ) (p : Path) (b : Block)
-        → after_block opcodes n b ≡ n + length (frames_of_block env p b)
+    pub after_block_is : (n : ℕ) (p : Path) (b : Block) → after_block opcodes n b ≡ n + length (frames_of_block env p b)
     after_block_is n p no_stmt = omega arith
     after_block_is n p (andthen x rest) =
-        let one = frames_of env p x in
-        ap (λ i. after_block opcodes i rest) (after_is n p x)
-        ∙ after_block_is (n + length one) (next p) rest
-        ∙ further n one (frames_of_block env (next p) rest)
+        ap (λ i. after_block opcodes i rest) (after_is n p x) ∙ after_block_is _ _ rest ∙ further _ _ _
 
     after_arms_is : (n : ℕ) (p : Path) (list : Arms)
         → after_arms opcodes n list ≡ n + length (frames_of_arms env p list)
     after_arms_is n p (otherwise b) = after_block_is n (0 ∷ p) b
     after_arms_is n p (arm c b rest) =
-        let one = frames_of_block env (0 ∷ 1 ∷ p) b in
-        ap (λ i. after_arms opcodes i rest) (after_block_is n (0 ∷ 1 ∷ p) b)
-        ∙ after_arms_is (n + length one) (next p) rest
-        ∙ further n one (frames_of_arms env (next p) rest)
+        ap (λ i. after_arms opcodes i rest) (after_block_is n _ b) ∙ after_arms_is _ _ rest ∙ further _ _ _
 
 -- ---- definitions
 
@@ -387,19 +327,13 @@ abbrev pub template_pair : {W : Type 0} (opcodes : Opcodes) (env : Actions W) �
 template_pair opcodes env k d = record {
   inputs = refl;
   results = refl;
-  after = λ n p.
-      ap (λ i. after_block opcodes i (whole_body d)) (one_more_is n)
-      ∙ after_block_is opcodes env k (suc n) (0 ∷ 1 ∷ p) (whole_body d);
+  after = λ n p. ap (λ i. after_block opcodes i (whole_body d)) (add-one n)
+      ∙ after_block_is _ _ k _ (0 ∷ 1 ∷ p) (whole_body d);
   leads = λ p behind. block_leads opcodes env k (0 ∷ 1 ∷ p) (whole_body d) behind;
-  adds = λ p behind.
-      adds_wider (Beyond 0 (1 ∷ p)) (Inside (1 ∷ p)) (beyond_whole 0 (1 ∷ p)) behind
-      (block_leads opcodes env k (0 ∷ 1 ∷ p) (whole_body d) behind)
-      (block_adds opcodes env k 0 (1 ∷ p) (whole_body d) behind);
+  adds = λ p behind. adds_wider (Beyond 0 (1 ∷ p)) (Inside (1 ∷ p)) (beyond_whole _ _) behind
+      (block_leads opcodes env k (0 ∷ 1 ∷ p) (whole_body d) behind) (block_adds opcodes env k _ _ _ _);
   keeps = λ p behind. block_kept opcodes env k (0 ∷ 1 ∷ p) (whole_body d) behind;
 }
-  where
-    one_more_is : (n : ℕ) → n + 1 ≡ suc n
-    one_more_is n = omega arith
 
 abbrev pub with_pair : {W : Type 0} (opcodes : Opcodes) (env : Actions W) (k : AllPair opcodes env) (d : Definition)
     {t : Option Template} {a : Option (Action W)} → PairIf t a → (b : Bool)
@@ -417,8 +351,7 @@ defining_pairs opcodes env k d =
 abbrev pub all_pair : {W : Type 0} (opcodes : Opcodes) (env : Actions W) → AllPair opcodes env → (ds : List Definition)
     → AllPair (defining_all opcodes ds) (acting_all env ds)
 all_pair opcodes env k [] = k
-all_pair opcodes env k (d ∷ ds) =
-    all_pair (defining opcodes d) (acting env d) (defining_pairs opcodes env k d) ds
+all_pair opcodes env k (d ∷ ds) = all_pair (defining opcodes d) (acting env d) (defining_pairs opcodes env k d) ds
 
 abbrev pub nothing_pairs : {W : Type 0} → AllPair no_opcodes (no_actions {W = W})
 nothing_pairs = record { each = λ name. neither }

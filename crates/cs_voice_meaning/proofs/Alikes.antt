@@ -24,20 +24,16 @@ pub record Follows {V W : Type 0} (stock : Stock) (kinds : Kinds) (N : Res → T
   pub save : (g : Res) (w : Wave) (x : V) (y : W) → N g → has_value g ≡ true → R x y
       → R (o.save g (held o.ksmps (res_rate g) w) x) (u.save g (held o.ksmps (res_rate g) w) y)
   pub start : (opcode : Opcode) (r : Rate) (n : ℕ) (is : List ℤ) (x : V) (y : W) → kinds n ≡ (opcode, r)
-      → IsUnitOpcode opcode → R x y
-      → R (o.start opcode r n is x) (u.start opcode r n is y)
+      → IsUnitOpcode opcode → R x y → R (o.start opcode r n is x) (u.start opcode r n is y)
   pub does : (opcode : Opcode) (r : Rate) (n : ℕ) (reach : Reach) (ws : List Wave) (x : V) (y : W)
-      → kinds n ≡ (opcode, r)
-      → AreNamed N (unit_uses stock opcode reach) → R x y
+      → kinds n ≡ (opcode, r) → AreNamed N (unit_uses stock opcode reach) → R x y
       → R (o.does opcode r n reach ws x).0 (u.does opcode r n reach ws y).0
       × (held o.ksmps r (o.does opcode r n reach ws x).1 ≡ held o.ksmps r (u.does opcode r n reach ws y).1)
   pub seek : (is : List ℤ) (x : V) (y : W) → R x y → R (o.seek is x) (u.seek is y)
   pub store : (r : Rate) (reach : Reach) (ws : List Wave) (x : V) (y : W)
-      → AreNamed N (tables_within stock reach) → R x y
-      → R (o.store r reach ws x) (u.store r reach ws y)
+      → AreNamed N (tables_within stock reach) → R x y → R (o.store r reach ws x) (u.store r reach ws y)
   pub zak : (opcode : Opcode) (reach : Reach) (ws : List Wave) (x : V) (y : W)
-      → AreNamed N (zak_uses stock opcode reach) → R x y
-      → R (o.zak opcode reach ws x).0 (u.zak opcode reach ws y).0
+      → AreNamed N (zak_uses stock opcode reach) → R x y → R (o.zak opcode reach ws x).0 (u.zak opcode reach ws y).0
       × ((o.zak opcode reach ws x).1 ≡ (u.zak opcode reach ws y).1)
   pub out : (c : ℕ) (w : Wave) (x : V) (y : W) → R x y → R (o.out c w x) (u.out c w y)
   pub out_at : (k w : Wave) (x : V) (y : W) → R x y → R (o.out_at k w x) (u.out_at k w y)
@@ -64,36 +60,26 @@ module _ {V W : Type 0} (stock : Stock) (kinds : Kinds) (N : Res → Type 0) (o 
   write_alike into w v m n e a = grind (arith, common_steps)
 
   written_alike : (b : Bool) (into : Reg) (p : V × Wave) (q : W × Wave) (m : Machine V) (n : Machine W) → R p.0 q.0
-      → held o.ksmps (rate_at into) p.1 ≡ held o.ksmps (rate_at into) q.1
-      → Alike R m n
+      → held o.ksmps (rate_at into) p.1 ≡ held o.ksmps (rate_at into) q.1 → Alike R m n
       → Alike R (if b then write o.ksmps into p.1 (record m { world = p.0 }) else record m { world = p.0 })
       (if b then write u.ksmps into q.1 (record n { world = q.0 }) else record n { world = q.0 })
-  written_alike true into p q m n r e a =
-      write_alike into p.1 q.1 (record m { world = p.0 }) (record n { world = q.0 }) e (moved m n p.0 q.0 r a)
+  written_alike true into p q m n r e a = write_alike _ _ _ _ _ e (moved _ _ _ _ r a)
   written_alike false into p q m n r e a = moved m n p.0 q.0 r a
 
   acts_alike : (a : Act) (into : Reg) (ws : List Wave) (m : Machine V) (n : Machine W)
       → ActNamed stock kinds N a (rate_at into) → Alike R m n → Alike R (acts o a into ws m) (acts u a into ws n)
   acts_alike (act.Const z) into ws m n h a = write_alike into (constant z) (constant z) m n refl a
   acts_alike (act.Field k) into ws m n h a =
-      write_alike into (constant (o.field k)) (constant (u.field k)) m n
-      (ap (λ g. held o.ksmps (rate_at into) (constant (g k))) f.field) a
+      write_alike _ _ _ _ _ (ap (λ g. held o.ksmps (rate_at into) (constant (g k))) f.field) a
   acts_alike (act.Head k) into ws m n h a =
-      write_alike into (constant (o.head k)) (constant (u.head k)) m n
-      (ap (λ g. held o.ksmps (rate_at into) (constant (g k))) f.head) a
+      write_alike _ _ _ _ _ (ap (λ g. held o.ksmps (rate_at into) (constant (g k))) f.head) a
   acts_alike act.Copy into ws m n h a = write_alike into (operand 0 ws) (operand 0 ws) m n refl a
-  acts_alike act.Neg into ws m n h a =
-      write_alike into (λ j. negated (operand 0 ws j)) (λ j. negated (operand 0 ws j)) m n refl a
-  acts_alike (act.Pair b) into ws m n h a =
-      write_alike into (both b (operand 0 ws) (operand 1 ws)) (both b (operand 0 ws) (operand 1 ws)) m n refl a
-  acts_alike act.Pick into ws m n h a =
-      write_alike into (chosen (operand 0 ws) (operand 1 ws) (operand 2 ws))
-      (chosen (operand 0 ws) (operand 1 ws) (operand 2 ws)) m n refl a
-  acts_alike (act.Call g) into ws m n h a =
-      write_alike into (λ j. applied g (operand 0 ws j)) (λ j. applied g (operand 0 ws j)) m n refl a
+  acts_alike act.Neg into ws m n h a = write_alike _ _ _ _ _ refl a
+  acts_alike (act.Pair b) into ws m n h a = write_alike _ _ _ _ _ refl a
+  acts_alike act.Pick into ws m n h a = write_alike _ _ _ _ _ refl a
+  acts_alike (act.Call g) into ws m n h a = write_alike _ _ _ _ _ refl a
   acts_alike (act.Load g) into ws m n h a =
-      write_alike into (o.load g m.world) (u.load g n.world) m n
-      (ap (λ w. held o.ksmps (rate_at into) w) (f.load g m.world n.world h a.world)) a
+      write_alike _ _ _ _ _ (ap (λ w. held o.ksmps (rate_at into) w) (f.load g m.world n.world h a.world)) a
   acts_alike (act.Save g) into ws m n h a =
       let w : Wave = operand 0 ws in
       moved m n _ _ (subst (λ k. R (o.save g (held o.ksmps (res_rate g) w) m.world)
@@ -102,15 +88,13 @@ module _ {V W : Type 0} (stock : Stock) (kinds : Kinds) (N : Res → Type 0) (o 
       moved m n _ _ (f.start opcode (rate_at into) k (first_values ws) m.world n.world h.0 h.1 a.world) a
   acts_alike (act.Unit opcode k reach) into ws m n h a =
       let d = f.does opcode (rate_at into) k reach ws m.world n.world h.0 h.1 a.world in
-      written_alike (gives opcode) into (o.does opcode (rate_at into) k reach ws m.world)
-      (u.does opcode (rate_at into) k reach ws n.world) m n d.0 d.1 a
+      written_alike _ _ _ _ _ _ d.0 d.1 a
   acts_alike act.Seek into ws m n h a = moved m n _ _ (f.seek (first_values ws) m.world n.world a.world) a
   acts_alike (act.Store reach) into ws m n h a =
       moved m n _ _ (f.store (rate_at into) reach ws m.world n.world h a.world) a
   acts_alike (act.Zak opcode reach) into ws m n h a =
       let d = f.zak opcode reach ws m.world n.world h a.world in
-      written_alike (gives opcode) into (o.zak opcode reach ws m.world) (u.zak opcode reach ws n.world) m n d.0
-      (ap (held o.ksmps (rate_at into)) d.1) a
+      written_alike _ _ _ _ _ _ d.0 (ap (held o.ksmps (rate_at into)) d.1) a
   acts_alike (act.Jump to) into ws m n h a = record { regs = a.regs; next = refl; world = a.world }
   acts_alike (act.Unless to) into ws m n h a =
       record { regs = a.regs; next = ap (λ k. if holds (operand 0 ws 0) then k else to) a.next; world = a.world }
@@ -127,10 +111,9 @@ module _ {V W : Type 0} (stock : Stock) (kinds : Kinds) (N : Res → Type 0) (o 
       ap (λ k. nat_le k place && not (o.refused m.world)) a.next
       ∙ ap (λ b. nat_le n.next place && not b) (f.refused m.world n.world a.world) in
       let args : map m.regs op.from ≡ map n.regs op.from = ap (λ g. map g op.from) a.regs in
-      either_alike (is_done o place m) (is_done u place n) (acts o op.act op.into (map m.regs op.from) m) m
-      (acts u op.act op.into (map n.regs op.from) n) n done
+      either_alike _ _ _ _ _ _ done
       (subst (λ ws. Alike R (acts o op.act op.into (map m.regs op.from) m) (acts u op.act op.into ws n)) args
-      (acts_alike op.act op.into (map m.regs op.from) m n h a)) a
+      (acts_alike _ _ _ _ _ h a)) a
 
   pub run_alike : (place : ℕ) (ops : List Op) (m : Machine V) (n : Machine W) → OpsNamed stock kinds N ops → Alike R m n
       → Alike R (run o place ops m) (run u place ops n)

@@ -93,8 +93,7 @@ module _ (areas : List Area) (piece : Piece) (counts : Counts) (channels : ℕ) 
   put_other false q into w v e there past h = h
 
   put_held : (b : Bool) (q into : Reg) (w v : Wave) → same_reg q into ≡ b → held piece.head.ksmps (rate_at q) v ≡ v
-      → held piece.head.ksmps (rate_at q)
-      (if b then held piece.head.ksmps (rate_at into) w else v)
+      → held piece.head.ksmps (rate_at q) (if b then held piece.head.ksmps (rate_at into) w else v)
       ≡ (if b then held piece.head.ksmps (rate_at into) w else v)
   put_held true q into w v e h = grind (arith, common_steps, held_twice, same_reg_is)
   put_held false q into w v e h = h
@@ -114,9 +113,7 @@ module _ (areas : List Area) (piece : Piece) (counts : Counts) (channels : ℕ) 
   put_room u p x there r = (λ n past. put_past (n == u) p (x.units n) u n refl there past (r.0 n past), r.1, r.2)
 
   unit_room : (opcode : Opcode) (r : Rate) (u : ℕ) (reach : Reach) (ws : List Wave) (o : Option Playing)
-      (x : VoiceState)
-      → nat_lt u counts.units ≡ true → Room x
-      → Room (unit_does model opcode r u reach ws o x).0
+      (x : VoiceState) → nat_lt u counts.units ≡ true → Room x → Room (unit_does model opcode r u reach ws o x).0
   unit_room opcode r u reach ws None x there k = k
   unit_room opcode r u reach ws (Some p) x there k = grind (arith, common_steps, either_room_of, put_room)
 
@@ -156,8 +153,7 @@ module _ (areas : List Area) (piece : Piece) (counts : Counts) (channels : ℕ) 
   either_sound true w v h k = h
   either_sound false w v h k = k
 
-  out_room : (c : ℕ) (w : Wave) (x : VoiceState) → nat_lt c channels ≡ true → Sound w → Room x
-      → Room (out_to c w x)
+  out_room : (c : ℕ) (w : Wave) (x : VoiceState) → nat_lt c channels ≡ true → Sound w → Room x → Room (out_to c w x)
   out_room c w x there sound k = grind (arith, common_steps, added_held, either_sound, out_past)
 
   channel_below : (n count : ℕ) → (nat_le 1 n && nat_le n count) ≡ true → nat_lt (n - 1) count ≡ true
@@ -167,8 +163,7 @@ module _ (areas : List Area) (piece : Piece) (counts : Counts) (channels : ℕ) 
   when_room true x y h k = h refl
   when_room false x y h k = k
 
-  out_at_room : (i : Option ℕ) (w : Wave) (x : VoiceState) → Sound w → Room x
-      → Room (out_to_numbered channels i w x)
+  out_at_room : (i : Option ℕ) (w : Wave) (x : VoiceState) → Sound w → Room x → Room (out_to_numbered channels i w x)
   out_at_room None w x sound k = k
   out_at_room (Some n) w x sound k = grind (arith, common_steps, channel_below, nat_le, out_room, when_room)
 
@@ -209,9 +204,8 @@ module _ (areas : List Area) (piece : Piece) (counts : Counts) (channels : ℕ) 
       in_room m (acts (voice_world areas piece) (act.Start opcode k) into (map m.regs from) m).world f
       (starts_room opcode (rate_at into) k (first_values (map m.regs from)) m.world fi (room_of m f))
   acts_fit (act.Unit opcode k reach) into from end place m w fi ta ch f =
-      written_fits (gives opcode) into
-      (unit_does model opcode (rate_at into) k reach (map m.regs from) (m.world.units k) m.world) m w
-      (unit_room opcode (rate_at into) k reach (map m.regs from) (m.world.units k) m.world fi (room_of m f)) f
+      written_fits _ _ (unit_does model opcode (rate_at into) k reach (map m.regs from) (m.world.units k) m.world) m w
+      (unit_room opcode (rate_at into) _ reach (map m.regs from) (m.world.units k) m.world fi (room_of m f)) f
   acts_fit act.Seek into from end place m w fi ta ch f =
       in_room m (acts (voice_world areas piece) act.Seek into (map m.regs from) m).world f
       (either_room (lacks_table model (first_values (map m.regs from))) _ m.world (room_of m f) (room_of m f))
@@ -221,19 +215,15 @@ module _ (areas : List Area) (piece : Piece) (counts : Counts) (channels : ℕ) 
   acts_fit (act.Zak opcode reach) into from end place m w fi ta ch f =
       written_fits (gives opcode) into (zak_does model (row_of opcode).shape reach (map m.regs from) m.world) m w
       (zak_room (row_of opcode).shape reach (map m.regs from) m.world (room_of m f)) f
-  acts_fit (act.Jump to) into from end place m w fi ta ch f =
-      record { regs = f.regs; keeps = f.keeps; units = f.units; outs = f.outs; frames = f.frames }
-  acts_fit (act.Unless to) into from end place m w fi ta ch f =
-      record { regs = f.regs; keeps = f.keeps; units = f.units; outs = f.outs; frames = f.frames }
+  acts_fit (act.Jump to) into from end place m w fi ta ch f = f
+  acts_fit (act.Unless to) into from end place m w fi ta ch f = f
   acts_fit (act.Out c) into from end place m w fi ta ch f =
       in_room m (acts (voice_world areas piece) (act.Out c) into (map m.regs from) m).world f
-      (out_room c (operand 0 (map m.regs from)) m.world
-      (subst (λ n. nat_lt c n ≡ true) (sym ch.2)
+      (out_room c (operand 0 (map m.regs from)) m.world (subst (λ n. nat_lt c n ≡ true) (sym ch.2)
       (channel_there counts piece.head.nchnls (act.Out c) (rate_at into) from ta ch.0 ch.1))
       (out_sound m c (rate_at into) from ta f) (room_of m f))
   acts_fit act.OutAt into from end place m w fi ta ch f =
-      in_room m (acts (voice_world areas piece) act.OutAt into (map m.regs from) m).world f
-      (subst
+      in_room m (acts (voice_world areas piece) act.OutAt into (map m.regs from) m).world f (subst
       (λ n. Room (out_to_numbered n (index (operand 0 (map m.regs from) 0)) (operand 1 (map m.regs from)) m.world))
       (ch.2 ∙ numbered_there counts piece.head.nchnls (rate_at into) from ta ch.0)
       (out_at_room (index (operand 0 (map m.regs from) 0)) (operand 1 (map m.regs from)) m.world
@@ -259,10 +249,7 @@ module _ (areas : List Area) (piece : Piece) (counts : Counts) (channels : ℕ) 
       let outer = and_parts (own && reads && names) takes fine in
       let middle = and_parts (own && reads) names outer.0 in
       let into = and_parts own reads middle.0 in
-      either_fits (is_done (voice_world areas piece) place m)
-      (acts (voice_world areas piece) op.act op.into (map m.regs op.from) m) m
-      (acts_fit op.act op.into op.from end place m (written_there (writes op.act) (has_register counts op.into) into.0)
-      middle.1 outer.1 (into.1, ch, is) f) f
+      either_fits _ _ _ (acts_fit _ _ _ _ _ _ (written_there _ _ into.0) middle.1 outer.1 (into.1, ch, is) f) f
 
   -- a machine that fits goes on so
   pub run_fits : (end place : ℕ) (ops : List Op) (m : Machine VoiceState) → fine_from counts end place ops ≡ true
@@ -285,8 +272,7 @@ pub begins_fitting : (s : Sheet) (counts : Counts) (cells : ℕ → ℤ) → IsP
     → fine_from counts (length s.init) 0 s.init ≡ true → VoiceFits counts (voice_of s (initialised s cells))
 begins_fitting s counts cells playable fine =
     run_fits s.areas s.piece counts (channels_for counts s.piece.head.nchnls) (length s.init) 0 s.init
-    (new_machine (fresh_voice cells)) fine playable.init_channels refl
-    (record {
+    (new_machine (fresh_voice cells)) fine playable.init_channels refl (record {
       regs = λ q past. refl;
       keeps = λ q. silent_held s.piece.head.ksmps (rate_at q);
       units = λ u past. refl;
@@ -299,8 +285,7 @@ pub goes_on_fitting : (v : Sounding) (counts : Counts) (c : Cells) → IsSound v
     → VoiceFits counts (performed v c)
 goes_on_fitting v counts c playable fine fits =
     run_fits v.sheet.areas v.sheet.piece counts (channels_for counts v.sheet.piece.head.nchnls) (length v.sheet.perf) 0
-    v.sheet.perf (begins v (seen v.sheet (cell c))) fine playable.perf_channels refl
-    (record {
+    v.sheet.perf (begins v (seen v.sheet (cell c))) fine playable.perf_channels refl (record {
       regs = fits.regs;
       keeps = fits.keeps;
       units = fits.units;

@@ -43,8 +43,7 @@ pub left_at : (v : Sounding) (c : Cells) (a : ℕ) → a < length c
 left_at v c a h = grind (arith, common_steps, tabled)
 
 left_long : (v : Sounding) (c : Cells) → length (left_by v c) ≡ length c
-left_long v c = long_map
-    (λ a. if may_write v.sheet a then (cycle v (seen v.sheet (cell c))).world.shared a else cell c a) 0 (length c)
+left_long v c = long_map _ _ _
 
 left_past : (v : Sounding) (c : Cells) (a : ℕ) → length c ≤ a → cell (left_by v c) a ≡ pos 0
 left_past v c a h = let long = left_long v c in past_cells (left_by v c) a (omega (arith, long, h))

@@ -65,8 +65,7 @@ pub record ModelFollows {S U T Y : Type 0} (areas : List Area) (stock : Stock) (
   pub delay : m.delay ≡ k.delay
   pub table : (u : ℕ) (p : U) (h : Y) → Plays u p h → m.table p ≡ k.table h
   pub plays : (opcode : Opcode) (r : Rate) (u : ℕ) (ws : List Wave) (points : List ℤ) (p : U) (h : Y)
-      → kinds u ≡ (opcode, r) → Plays u p h
-      → Plays u (m.plays r ws points p).0 (k.plays r ws points h).0
+      → kinds u ≡ (opcode, r) → Plays u p h → Plays u (m.plays r ws points p).0 (k.plays r ws points h).0
       × (held piece.head.ksmps r (m.plays r ws points p).1 ≡ held piece.head.ksmps r (k.plays r ws points h).1)
 
 abbrev of_piece : {S U : Type 0} → Piece → WorldModel S U → WorldModel S U
@@ -139,12 +138,9 @@ module _ {S U T Y : Type 0} (areas : List Area) (stock : Stock) (piece : Piece) 
       → m.table p ≡ k.table h → AreNamed N (unit_uses stock opcode reach) → may_touch opcode reach (m.table p) ≡ true
       → R x y → unit_points m opcode p x ≡ unit_points k opcode h y
   unit_points_same opcode reach p h x y table named may a =
-      either_points (takes_table opcode) (λ takes.
-      read_same x y (find_table piece.tables (m.table p)) a
-      (λ t found live. table_named areas stock piece N placed reach (m.table p) t
-      (when_taken N (takes_table opcode) (tables_within stock reach) named takes)
-      (reached (takes_table opcode) (reaches reach (unsigned_abs (m.table p))) may takes) found live)
-      ∙ ap (λ z. read_points (λ g. loaded k g y) (find_table piece.tables z)) table)
+      either_points _ (λ takes. read_same x y (find_table piece.tables (m.table p)) a
+      (λ t found live. table_named areas stock piece N placed reach (m.table p) t (when_taken _ _ _ named takes)
+      (reached _ _ may takes) found live) ∙ ap (λ z. read_points (λ g. loaded k g y) (find_table piece.tables z)) table)
     where
       either_points : (b : Bool) {l n : List ℤ} → (b ≡ true → l ≡ n) → (if b then l else []) ≡ (if b then n else [])
       either_points true e = e refl
@@ -165,8 +161,7 @@ module _ {S U T Y : Type 0} (areas : List Area) (stock : Stock) (piece : Piece) 
       let table = f.table u p h plays in
       subst (λ z. Ran r (unit_does m opcode r u reach ws (Some p) x)
       (if may_touch opcode reach z then has_run u (k.plays r ws (unit_points k opcode h y) h) y else
-      (y, silence))) table
-      (by (may_touch opcode reach (m.table p)) _ _ (λ may.
+      (y, silence))) table (by (may_touch opcode reach (m.table p)) _ _ (λ may.
       subst (λ l. Ran r (has_run u (m.plays r ws (unit_points m opcode p x) p) x) (has_run u (k.plays r ws l h) y))
       (unit_points_same opcode reach p h x y table named may a) (full (unit_points m opcode p x))))
     where
@@ -188,8 +183,7 @@ module _ {S U T Y : Type 0} (areas : List Area) (stock : Stock) (piece : Piece) 
       → AreNamed N (tables_within stock reach) → R x y → R (store_at m r reach ws i x) (store_at k r reach ws i y)
   store_alike r reach ws None x y named a = a
   store_alike r reach ws (Some n) x y named a = when (reaches reach n) _ x _ y
-      (λ touches. table_alike r ws (find_table piece.tables (pos n)) x y
-      (λ t found live. (
+      (λ touches. table_alike r ws (find_table piece.tables (pos n)) x y (λ t found live. (
         table_named areas stock piece N placed reach (pos n) t named touches found live,
         placed.tables (pos n) t found live,
       )) a) a
@@ -202,17 +196,15 @@ module _ {S U T Y : Type 0} (areas : List Area) (stock : Stock) (piece : Piece) 
       → R (at_place piece sp reach i x v) (at_place piece sp reach i y w)
   place_alike sp reach None x y v w named a each = a
   place_alike sp reach (Some n) x y v w named a each =
-      when (has_place piece sp reach n) (v (zak_place sp n)) x (w (zak_place sp n)) y
-      (λ there. each (zak_place sp n)
+      when (has_place piece sp reach n) (v (zak_place sp n)) x (w (zak_place sp n)) y (λ there. each (zak_place sp n)
       (place_named N stock piece.spaces sp reach n placed.spaces named there) (no_table_is sp n)) a
 
   place_wave : (sp : Space) (reach : Reach) (i : Option ℕ) (x : State S U) (y : State T Y)
       → AreNamed N (places_within stock sp reach) → R x y
       → at_place piece sp reach i silence (λ g. loaded m g x) ≡ at_place piece sp reach i silence (λ g. loaded k g y)
   place_wave sp reach None x y named a = refl
-  place_wave sp reach (Some n) x y named a = either_wave (has_place piece sp reach n) _ _ (λ there.
-      f.load (zak_place sp n) x.shared y.shared
-      (place_named N stock piece.spaces sp reach n placed.spaces named there) a.shared)
+  place_wave sp reach (Some n) x y named a = either_wave _ _ _ (λ there. f.load (zak_place sp n) x.shared y.shared
+      (place_named _ stock _ _ _ _ placed.spaces named there) a.shared)
 
   save_alike : (g : Res) (w : Wave) (x : State S U) (y : State T Y) → N g → has_value g ≡ true → R x y
       → R (saved m g w x) (saved k g w y)
@@ -223,21 +215,18 @@ module _ {S U T Y : Type 0} (areas : List Area) (stock : Stock) (piece : Piece) 
   mixed_alike g v x y n t a = grind (arith, common_steps, save_alike)
 
   zak_alike : (sh : Shape) (reach : Reach) (ws : List Wave) (x : State S U) (y : State T Y)
-      → AreNamed N (shape_uses stock sh reach) → R x y
-      → R (zak_does m sh reach ws x).0 (zak_does k sh reach ws y).0
+      → AreNamed N (shape_uses stock sh reach) → R x y → R (zak_does m sh reach ws x).0 (zak_does k sh reach ws y).0
       × ((zak_does m sh reach ws x).1 ≡ (zak_does k sh reach ws y).1)
   zak_alike (shape.ZakGet sp) reach ws x y named a = (a, place_wave sp reach (index (operand 0 ws 0)) x y named a)
   zak_alike (shape.ZakPut sp) reach ws x y named a = grind (arith, common_steps, place_alike, save_alike)
   zak_alike shape.ZakMix reach ws x y named a = grind (arith, common_steps, mixed_alike, place_alike)
   zak_alike (shape.ZakClear sp) reach ws x y named a = grind (arith, common_steps, share)
-  zak_alike shape.Unit reach ws x y named a = (a, refl)
   zak_alike _ reach ws x y named a = (a, refl)
 
   out_at_alike : (i : Option ℕ) (w : Wave) (x : State S U) (y : State T Y) → R x y
       → R (out_to_numbered piece.head.nchnls i w x) (out_to_numbered piece.head.nchnls i w y)
   out_at_alike None w x y a = a
-  out_at_alike (Some n) w x y a =
-      when (nat_le 1 n && nat_le n piece.head.nchnls) _ x _ y (λ there. out (n - 1) w x y a) a
+  out_at_alike (Some n) w x y a = when _ _ _ _ _ (λ there. out (n - 1) w x y a) a
 
   -- ---- the whole world
 

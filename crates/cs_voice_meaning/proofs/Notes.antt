@@ -12,15 +12,11 @@ use Rattle.cs_voice_meaning.proofs.{Alikes.run_alike, VoiceFollows.voice_follows
 
 -- over cells that have what notes share a voice begins as a note does
 pub begins_same : (N : Res → Type 0) (areas : List Area) (kinds : Kinds) (pace : Pace) (cells : ℕ → ℤ)
-    (shared : Res → Wave)
-    → ((g : Res) → N g → wave_of (area_of areas g) (res_rate g) cells ≡ shared g)
+    (shared : Res → Wave) → ((g : Res) → N g → wave_of (area_of areas g) (res_rate g) cells ≡ shared g)
     → SameState N areas kinds pace [] (fresh_voice cells) (fresh shared)
 begins_same N areas kinds pace cells shared h =
     record { shared = h; units = λ u. tt; delays = refl; outs = refl; ended = refl; asks = refl; cause = refl }
 
 pub do_alike : DoAlike
 do_alike areas stock piece kinds earlier placed generators ops m n touches same =
-    run_alike stock kinds (HasArea areas) (voice_world areas piece) (plain piece)
-    (SameState (HasArea areas) areas kinds (pace_of piece.head) earlier)
-    (voice_follows areas stock piece kinds (HasArea areas) earlier placed generators (λ g has. has)) 0 ops m n touches
-    same
+    run_alike _ _ _ _ _ _ (voice_follows _ _ _ _ _ _ placed generators (λ g has. has)) _ _ _ _ touches same

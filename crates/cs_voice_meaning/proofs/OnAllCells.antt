@@ -26,25 +26,19 @@ one_unit _ _ h = absurd h
 -- the machine that sees what the voice may use does as one that sees all
 pub cycle_seen : (v : Sounding) (c : ℕ → ℤ) → IsSound v
     → Alike (SameSeen (λ a. may_use v.sheet a ≡ true)) (cycle v (seen v.sheet c)) (cycle v c)
-cycle_seen v c s =
-    run_alike s.stock s.kinds (IsSeen (λ a. may_use v.sheet a ≡ true) v.sheet.areas)
-    (voice_world v.sheet.areas v.sheet.piece) (voice_world v.sheet.areas v.sheet.piece)
-    (SameSeen (λ a. may_use v.sheet a ≡ true))
-    (same_follows v.sheet.areas s.stock v.sheet.piece s.kinds (λ a. may_use v.sheet a ≡ true) s.placed) 0 v.sheet.perf
-    (begins v (seen v.sheet c)) (begins v c) s.perf_uses
-    (record {
-      regs = refl;
-      next = refl;
-      world = record {
-        shared = λ a used. ap (λ b. if b then c a else pos 0) used;
-        units = λ u. itself (v.units u);
-        delays = refl;
-        outs = refl;
-        ended = refl;
-        asks = refl;
-        cause = refl;
-      };
-    })
+cycle_seen v c s = run_alike _ _ _ _ _ _ (same_follows _ _ _ _ _ s.placed) _ _ _ _ s.perf_uses (record {
+  regs = refl;
+  next = refl;
+  world = record {
+    shared = λ a used. ap (λ b. if b then c a else pos 0) used;
+    units = λ u. itself (v.units u);
+    delays = refl;
+    outs = refl;
+    ended = refl;
+    asks = refl;
+    cause = refl;
+  };
+})
 
 without : (v : Sounding) (a : ℕ) → may_write v.sheet a ≡ false → (gs : List Res) → AreNamed (IsWritten v.sheet) gs
     → AreNamed (λ g. in_area (area_of v.sheet.areas g) a ≡ false) gs
@@ -52,17 +46,14 @@ without v a un [] h = tt
 without v a un (g ∷ gs) h = grind (arith, common_steps, by_test, without v a un gs h.1)
 
 ops_without : (v : Sounding) (stock : Stock) (a : ℕ) → may_write v.sheet a ≡ false → (ops : List Op)
-    → OpsWritten stock (IsWritten v.sheet) ops
-    → OpsWritten stock (λ g. in_area (area_of v.sheet.areas g) a ≡ false) ops
+    → OpsWritten stock (IsWritten v.sheet) ops → OpsWritten stock (λ g. in_area (area_of v.sheet.areas g) a ≡ false) ops
 ops_without v stock a un [] h = tt
 ops_without v stock a un (op ∷ ops) h = (without v a un (act_writes stock op.act) h.0, ops_without v stock a un ops h.1)
 
 -- a cell that the voice may not write keeps its value
 pub cycle_keeps : (v : Sounding) (c : ℕ → ℤ) (a : ℕ) → IsSound v → may_write v.sheet a ≡ false
     → (cycle v c).world.shared a ≡ c a
-cycle_keeps v c a s un =
-    run_keeps v.sheet.areas s.stock v.sheet.piece a s.placed 0 v.sheet.perf (begins v c)
-    (ops_without v s.stock a un v.sheet.perf s.perf_writes)
+cycle_keeps v c a s un = run_keeps _ _ _ _ s.placed _ _ _ (ops_without v _ _ un _ s.perf_writes)
 
 voice_by : Sounding → (Reg → Wave) → (ℕ → Option Playing) → ℕ → (ℕ → Wave) → Bool → Sounding
 voice_by v regs units delays outs ended =
@@ -81,10 +72,8 @@ performed_on_all v c s = same_after v (cycle v (seen v.sheet (cell c))) (cycle v
 pub left_on_all : (v : Sounding) (c : Cells) (a : ℕ) → IsSound v → a < length c
     → cell (left_by v c) a ≡ (cycle v (cell c)).world.shared a
 left_on_all v c a s near =
-    left_at v c a near
-    ∙ by_test (may_write v.sheet a)
-    (λ yes. ap (λ b. if b then (cycle v (seen v.sheet (cell c))).world.shared a else cell c a) yes
-    ∙ (cycle_seen v (cell c) s).world.shared a
-    (or_right (covers v.sheet.zones v.sheet.foot.uses a) (may_write v.sheet a) yes))
+    left_at v _ _ near
+    ∙ by_test _ (λ yes. ap (λ b. if b then (cycle v (seen v.sheet (cell c))).world.shared a else cell c a) yes
+    ∙ (cycle_seen v _ s).world.shared a (or_right (covers v.sheet.zones v.sheet.foot.uses a) (may_write v.sheet a) yes))
     (λ no. ap (λ b. if b then (cycle v (seen v.sheet (cell c))).world.shared a else cell c a) no
-    ∙ sym (cycle_keeps v (cell c) a s no))
+    ∙ sym (cycle_keeps v _ _ s no))

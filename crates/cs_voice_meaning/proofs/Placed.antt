@@ -33,8 +33,7 @@ area_at (a ∷ areas) g area h = by_test (same_res a.res g)
 
 -- areas of two resources share no cell
 pub apart : (areas : List Area) (g h : Res) (a b : Area) (x : ℕ) → IsLaid areas → area_of areas g ≡ Some a
-    → area_of areas h ≡ Some b
-    → in_area (Some a) x ≡ true → in_area (Some b) x ≡ true → g ≡ h
+    → area_of areas h ≡ Some b → in_area (Some a) x ≡ true → in_area (Some b) x ≡ true → g ≡ h
 apart areas g h a b x laid ha hb xa xb =
     let p = area_at areas g a ha in
     let q = area_at areas h b hb in
@@ -95,8 +94,7 @@ pub unwritten : (area : Area) (w : Wave) (c : ℕ → ℤ) (a : ℕ) → in_area
 unwritten area w c a h = ap (λ b. if b then w (a - area.first) else c a) h
 
 not_in : (areas : List Area) (g h : Res) (a b : Area) (x : ℕ) → IsLaid areas → area_of areas g ≡ Some a
-    → area_of areas h ≡ Some b → h ≢ g
-    → in_area (Some b) x ≡ true → in_area (Some a) x ≡ false
+    → area_of areas h ≡ Some b → h ≢ g → in_area (Some b) x ≡ true → in_area (Some a) x ≡ false
 not_in areas g h a b x laid ha hb other inside =
     by_test (in_area (Some a) x) (λ yes. absurd (other (sym (apart areas g h a b x laid ha hb yes inside)))) (λ no. no)
 

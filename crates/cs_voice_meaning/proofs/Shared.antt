@@ -77,8 +77,7 @@ module _ (areas : List Area) (stock : Stock) (piece : Piece) (N : Res → Type 0
   other h g unlike e = absurd (let t : same_res h g ≡ true = ap (λ k. same_res h k) (sym e) ∙ same_res_here h in cc)
 
   pub written_reads : (g : Res) (a : Area) (w : Wave) (c : ℕ → ℤ) (s : Res → Wave) → area_of areas g ≡ Some a
-      → Fits (res_rate g) a w
-      → Reads areas N c s → Reads areas N (write_cells areas g w c) (shared_with g w s)
+      → Fits (res_rate g) a w → Reads areas N c s → Reads areas N (write_cells areas g w c) (shared_with g w s)
   written_reads g a w c s at fits r h nh =
       grind (arith, common_steps, by_test, other, roomy, same_res_is, wave_kept, wave_written)
 
@@ -87,8 +86,7 @@ module _ (areas : List Area) (stock : Stock) (piece : Piece) (N : Res → Type 0
       (shared_with g (held piece.head.ksmps (res_rate g) w) s)
   held_reads g w c s n t r =
       let a = has g n in
-      written_reads g a.0 (held piece.head.ksmps (res_rate g) w) c s a.1
-      (fits_held areas stock piece placed g a.0 w a.1 t) r
+      written_reads _ _ _ _ _ a.1 (fits_held _ stock _ placed _ _ _ a.1 t) r
 
   -- ---- clearing
 
@@ -102,9 +100,7 @@ module _ (areas : List Area) (stock : Stock) (piece : Piece) (N : Res → Type 0
       → (if lies_cleared areas clears a then pos 0 else c a) ≡ c a
   cells_left clears g area c at missed a inside =
       let place = area_at areas g area at in
-      let none : lies_cleared areas clears a ≡ false =
-      by_test (lies_cleared areas clears a)
-      (λ yes.
+      let none : lies_cleared areas clears a ≡ false = by_test (lies_cleared areas clears a) (λ yes.
       let found = any_at (λ z. in_area (Some z) a && clears z.res) areas yes in
       let both = and_parts (in_area (Some found.1) a) (clears found.1.res) found.3 in
       let one : found.0 ≡ place.0 =
@@ -113,8 +109,7 @@ module _ (areas : List Area) (stock : Stock) (piece : Piece) (N : Res → Type 0
       let some : Some found.1 ≡ Some area = sym found.2 ∙ ap (slice_get areas) one ∙ place.1 in
       let same : found.1 ≡ area = cc in
       let t : clears g ≡ true = sym (ap clears place.2) ∙ ap (λ z. clears z.res) (sym same) ∙ both.1 in
-      absurd (cc))
-      (λ f. f) in
+      absurd (cc)) (λ f. f) in
       ap (λ b. if b then pos 0 else c a) none
 
   pub cleared_reads : (clears : Res → Bool) (cells : ℕ → ℤ) (s : Res → Wave) → Reads areas N cells s
@@ -124,9 +119,7 @@ module _ (areas : List Area) (stock : Stock) (piece : Piece) (N : Res → Type 0
       let c : ℕ → ℤ = clear_cells areas clears cells in
       let some = roomy areas stock piece placed g a.0 a.1 in
       ap (λ o. wave_of o (res_rate g) c) a.1
-      ∙ by_test (clears g)
-      (λ yes. silent (res_rate g) a.0 c some (cells_cleared clears g a.0 cells a.1 yes)
+      ∙ by_test (clears g) (λ yes. silent (res_rate g) a.0 c some (cells_cleared clears g a.0 cells a.1 yes)
       ∙ sym (ap (λ b. if b then silence else s g) yes))
       (λ no. wave_same (res_rate g) a.0 c cells some (cells_left clears g a.0 cells a.1 no)
-      ∙ sym (ap (λ o. wave_of o (res_rate g) cells) a.1) ∙ r g n
-      ∙ sym (ap (λ b. if b then silence else s g) no))
+      ∙ sym (ap (λ o. wave_of o (res_rate g) cells) a.1) ∙ r g n ∙ sym (ap (λ b. if b then silence else s g) no))

@@ -55,9 +55,7 @@ module _ {S U : Type 0} (model : WorldModel S U) where
   run_steady place (op ∷ ops) m h =
       let both = and_parts (is_of_cycle op.act) (are_of_cycle ops) h in
       run_steady (place + 1) ops (step (world_of model) place op m) both.1
-      ∙ either_steady (is_done (world_of model) place m) (acts (world_of model) op.act op.into (map m.regs op.from) m) m
-      m.world
-      (acts_steady op.act op.into (map m.regs op.from) m both.0) refl
+      ∙ either_steady _ _ _ m.world (acts_steady _ _ _ _ both.0) refl
 
 pub cycle_steady : (v : Sounding) (cells : ℕ → ℤ) → IsSound v
     → ((cycle v cells).world.cause ≡ None) × ((cycle v cells).world.asks ≡ [])

@@ -33,8 +33,7 @@ module _ (areas : List Area) (stock : Stock) (piece : Piece) (N : Res → Type 0
   read_past n j a c at high = grind (arith, common_steps, past_end)
 
   pub stored_reads : (t : Table) (ws : List Wave) (n : ℕ) (c : ℕ → ℤ) (s : Res → Wave) → N (res.Table t.number)
-      → IsTablePlaced areas stock t → Reads areas N c s
-      → Reads areas N (write_cells areas (res.Table t.number)
+      → IsTablePlaced areas stock t → Reads areas N c s → Reads areas N (write_cells areas (res.Table t.number)
       (stores t ws n (read_cells areas (res.Table t.number) c)) c)
       (shared_with (res.Table t.number) (stores t ws n (read_cells areas (res.Table t.number) c)) s)
   stored_reads t ws n c s named is r =
@@ -43,5 +42,4 @@ module _ (areas : List Area) (stock : Stock) (piece : Piece) (N : Res → Type 0
       written_reads areas stock piece N placed has g a.0 (stores t ws n (read_cells areas g c)) c s a.1
       (λ j high. stored_past (places_of_indices t (operand 1 ws)) (operand 0 ws) (read_cells areas g c) n j a.0.length
       (λ i. subst (λ k. places_of_indices t (operand 1 ws) i < k) (sym (is.size a.0 a.1))
-      (within_table t.size (operand 1 ws i) is.some)) high
-      ∙ read_past t.number j a.0 c a.1 high) r
+      (within_table t.size (operand 1 ws i) is.some)) high ∙ read_past t.number j a.0 c a.1 high) r

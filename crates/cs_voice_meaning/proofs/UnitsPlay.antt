@@ -56,17 +56,14 @@ module _ (piece : Piece) (opcode : Opcode) (r : Rate) (p : Playing) (h : History
       (inputs_at ws points) 0 (steps_of piece.head.ksmps r) plays.stands
 
   pub plays_on : PlaysUnit (pace_of piece.head) (opcode, r)
-      (record p { state = (played piece.head.ksmps r p ws points).0 })
-      (has_had piece ws points h)
+      (record p { state = (played piece.head.ksmps r p ws points).0 }) (has_had piece ws points h)
   plays_on = grind (arith, common_steps, answered)
 
   pub result_same : piece.generators ≡ the_generators (pace_of piece.head)
       → held piece.head.ksmps r (λ j. argument (played piece.head.ksmps r p ws points).1 (step_at r j))
       ≡ held piece.head.ksmps r (generated piece h ws points)
   result_same generators =
-      same_results r piece.head.ksmps (played piece.head.ksmps r p ws points).1
-      (λ k. gen opcode r (pace_of piece.head) h.settled (h.inputs ++ inputs_of ws points (k + 1))) answered.each
-      ∙ ap (held piece.head.ksmps r)
-      (ap (λ g. of_parts g opcode r h ws points) (sym generators)
+      same_results _ _ _ _ answered.each
+      ∙ ap (held piece.head.ksmps r) (ap (λ g. of_parts g opcode r h ws points) (sym generators)
       ∙ ap (λ q. of_parts piece.generators opcode q h ws points) (sym plays.rate)
       ∙ ap (λ o. of_parts piece.generators o h.rate h ws points) (sym plays.opcode))

@@ -39,6 +39,4 @@ module _ (areas : List Area) (stock : Stock) (piece : Piece) (kinds : Kinds) (N 
 
   pub voice_follows : Follows stock kinds N (voice_world areas piece) (plain piece)
       (SameState N areas kinds (pace_of piece.head) earlier)
-  voice_follows = models_follow areas stock piece kinds N earlier placed (Reads areas N)
-      (λ u p h. PlaysUnit (pace_of piece.head) (kinds u) p h) (voice_model areas piece)
-      (plain_model piece) model_follows
+  voice_follows = models_follow areas _ _ _ _ _ placed _ _ _ _ model_follows

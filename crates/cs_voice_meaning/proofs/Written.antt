@@ -75,8 +75,7 @@ module _ (areas : List Area) (stock : Stock) (piece : Piece) (a : ℕ) (placed :
   starts_keep opcode r u is x = grind (arith, common_steps, nat_le, not, same_cell, slice_index_or)
 
   unit_keeps : (opcode : Opcode) (r : Rate) (u : ℕ) (reach : Reach) (ws : List Wave) (o : Option Playing)
-      (x : VoiceState)
-      → (unit_does model opcode r u reach ws o x).0.shared a ≡ x.shared a
+      (x : VoiceState) → (unit_does model opcode r u reach ws o x).0.shared a ≡ x.shared a
   unit_keeps opcode r u reach ws None x = refl
   unit_keeps opcode r u reach ws (Some p) x = grind (arith, common_steps, same_cell_of)
 
@@ -100,19 +99,15 @@ module _ (areas : List Area) (stock : Stock) (piece : Piece) (a : ℕ) (placed :
       → (at_place piece sp reach i x (λ g. with_value model g (w g) x)).shared a ≡ x.shared a
   place_keeps sp reach None x w named = refl
   place_keeps sp reach (Some n) x w named =
-      same_cell (has_place piece sp reach n) (with_value model (zak_place sp n) (w (zak_place sp n)) x) x (x.shared a)
-      (λ there. kept_by_wave (area_of areas (zak_place sp n)) (w (zak_place sp n)) x.shared
-      (place_named (λ g. in_area (area_of areas g) a ≡ false) stock piece.spaces sp reach n placed.spaces named there))
-      refl
+      same_cell _ _ _ _ (λ there. kept_by_wave (area_of areas (zak_place sp n)) (w (zak_place sp n)) x.shared
+      (place_named _ stock _ _ _ _ placed.spaces named there)) refl
 
   clear_keeps : (sp : Space) (reach : Reach) (first last : ℤ) (x : VoiceState)
       → AreNamed (λ g. in_area (area_of areas g) a ≡ false) (places_within stock sp reach)
       → (cleared model (is_cleared piece sp reach first last) x).shared a ≡ x.shared a
   clear_keeps sp reach first last x named =
       let clears : Res → Bool = is_cleared piece sp reach first last in
-      let none : lies_cleared areas clears a ≡ false =
-      by_test (lies_cleared areas clears a)
-      (λ yes.
+      let none : lies_cleared areas clears a ≡ false = by_test (lies_cleared areas clears a) (λ yes.
       let found = any_at (λ z. in_area (Some z) a && clears z.res) areas yes in
       let both = and_parts (in_area (Some found.1) a) (clears found.1.res) found.3 in
       let own = some_area areas found.0 found.1 found.2 in
@@ -126,8 +121,7 @@ module _ (areas : List Area) (stock : Stock) (piece : Piece) (a : ℕ) (placed :
       (place_named (λ g. in_area (area_of areas g) a ≡ false) stock piece.spaces sp reach place.0 placed.spaces named
       place.2) in
       let inside : in_area (area_of areas found.1.res) a ≡ true = ap (λ o. in_area o a) (own.1 ∙ sym some) ∙ both.0 in
-      absurd (cc))
-      (λ f. f) in
+      absurd (cc)) (λ f. f) in
       ap (λ b. if b then pos 0 else x.shared a) none
 
   zak_keeps : (sh : Shape) (reach : Reach) (ws : List Wave) (x : VoiceState)
@@ -153,8 +147,7 @@ module _ (areas : List Area) (stock : Stock) (piece : Piece) (a : ℕ) (placed :
   acts_keep : (t : Act) (into : Reg) (ws : List Wave) (m : Machine VoiceState)
       → AreNamed (λ g. in_area (area_of areas g) a ≡ false) (act_writes stock t)
       → (acts (voice_world areas piece) t into ws m).world.shared a ≡ m.world.shared a
-  acts_keep (act.Save g) into ws m h =
-      kept_by_wave (area_of areas g) (held piece.head.ksmps (res_rate g) (operand 0 ws)) m.world.shared h.0
+  acts_keep (act.Save g) into ws m h = kept_by_wave _ _ _ h.0
   acts_keep (act.Start opcode k) into ws m h = starts_keep opcode (rate_at into) k (first_values ws) m.world
   acts_keep (act.Unit opcode k reach) into ws m h = grind (arith, common_steps, unit_keeps, written_keeps)
   acts_keep act.Seek into ws m h =
@@ -174,13 +167,11 @@ module _ (areas : List Area) (stock : Stock) (piece : Piece) (a : ℕ) (placed :
       → OpsWritten stock (λ g. in_area (area_of areas g) a ≡ false) ops
       → (run (voice_world areas piece) place ops m).world.shared a ≡ m.world.shared a
   run_keeps place [] m h = refl
-  run_keeps place (op ∷ ops) m h =
-      grind (
-        arith,
-        common_steps,
-        acts_keep,
-        common_steps,
-        either_keeps,
-        run_keeps (place + 1) ops
-            (step (voice_world areas piece) place op m) h.1,
-      )
+  run_keeps place (op ∷ ops) m h = grind (
+    arith,
+    common_steps,
+    acts_keep,
+    common_steps,
+    either_keeps,
+    run_keeps (place + 1) ops (step (voice_world areas piece) place op m) h.1,
+  )
