@@ -7,14 +7,15 @@ use Rattle.std.specs.{List.range_with_len, Result.IsErrAnd}
 use Rattle.std.proofs.lemmas.List.{drop_more, drop_all, get_or_at, take_more, set_at, append-nil, length-take-le}
 use Rattle.std.proofs.lemmas.List.{same_lists, drop-drop, length-append, length-drop}
 use Rattle.std.proofs.lemmas.List.FromFn.{length-map-range_with_len, get_or-map-range_with_len}
-use Rattle.cs_score.specs.{declared.field.Field.Field, declared.row.Row.Row, Notes.values_of, Notes.gap_by}
-use Rattle.cs_score.specs.{Fields.raw_of, declared.field.Signed.Signed, inner.State.Answers, inner.State.IsKept}
-use Rattle.cs_score.specs.{inner.State.IsLast, inner.Values.AreValues, inner.Values.IsTakenFrom}
-use Rattle.cs_score.specs.{declared.field.InstrumentNumber.InstrumentNumber, declared.last.LastNote.LastNote}
-use Rattle.cs_score.specs.{declared.last.NoteRead.NoteRead, declared.statement_fault.StatementFault.StatementFault}
-use Rattle.cs_score.specs.declared.field.Field.TheVariants.{Number, Same}
-use Rattle.cs_score.specs.Carry.{and_then, taken, field, count, fields, continues, number_of}
 use Rattle.cs_base.specs.{declared.fault.ScoreKind.ScoreKind, declared.fault.ScoreKind.TheVariants.NothingToCarry}
+use Rattle.cs_fields.specs.{declared.field.Field.Field, declared.field.Signed.Signed, Fields.number_of, Fields.raw_of}
+use Rattle.cs_fields.specs.declared.field.InstrumentNumber.{InstrumentNumber}
+use Rattle.cs_fields.specs.declared.field.Field.TheVariants.{Number, Same}
+use Rattle.cs_score.specs.{declared.last.LastNote.LastNote, declared.last.NoteRead.NoteRead, declared.row.Row.Row}
+use Rattle.cs_score.specs.declared.statement_fault.StatementFault.{StatementFault}
+use Rattle.cs_score.specs.{Notes.values_of, Notes.gap_by, inner.State.Answers, inner.State.IsKept}
+use Rattle.cs_score.specs.{inner.State.IsLast, inner.Values.AreValues, inner.Values.IsTakenFrom}
+use Rattle.cs_score.specs.Carry.{and_then, taken, field, count, fields, continues}
 use Rattle.cs_score.specs.inner.State.{filled, filled_one, completed, fields_read, instr_read, p1_before, p2_read}
 use Rattle.cs_score.specs.declared.statement_fault.StatementFault.TheVariants as fault
 
@@ -183,8 +184,7 @@ filled_more ws before now k v d l m is e =
     let split : now ≡ front ++ get_or before k d ∷ rest = e ∙ ap (λ t. front ++ t) (drop_more before k d m) in
     ap (λ t. set t k v) split ∙ set_at front (get_or before k d) rest v k (length-take-le k F (omega arith))
     ∙ ap (λ x. front ++ x ∷ rest) (is ∙ sym (get_filled ws before k d l m))
-    ∙ sym (append_assoc front (get_or F k d ∷ []) rest)
-    ∙ ap (λ t. t ++ rest) (sym (take_more F k d small))
+    ∙ sym (append_assoc front (get_or F k d ∷ []) rest) ∙ ap (λ t. t ++ rest) (sym (take_more F k d small))
 
 pub now_at : (ws before now : List Field) (k : ℕ) (d : Field) → k < length ws → k < length before
     → now ≡ take k (filled ws before) ++ drop k before → get_or now k d ≡ get_or before k d

@@ -71,8 +71,7 @@ next_byte (suc hidden) b rest =
 
 pub byte_read : (text plain plain' whole : List ℕ) (at hidden here hidden' b : ℕ) → at < length text
     → here ≡ hidden_here hidden (drop at text) → b ≡ (if here == 0 then get_or text at 0 else space)
-    → plain' ≡ plain ++ b ∷ []
-    → hidden' ≡ here - 1 → plain ++ behind hidden (drop at text) ≡ whole
+    → plain' ≡ plain ++ b ∷ [] → hidden' ≡ here - 1 → plain ++ behind hidden (drop at text) ≡ whole
     → plain' ++ behind hidden' (drop (at + 1) text) ≡ whole
 byte_read text plain plain' whole at hidden here hidden' b l e is more less read =
     let split = drop_more text at 0 l in
@@ -104,8 +103,7 @@ length-piece (suc c) text =
       arith,
       length-map (take (suc c) text) (λ _. space),
       length-take (suc c) text,
-      length-drop (max 1 (suc c))
-          text,
+      length-drop (max 1 (suc c)) text,
       at_least_one c,
     )
 

@@ -16,24 +16,20 @@ use Rattle.cs_base.specs.declared.limit.Limit.TheVariants as limit
 -- ---- the first item that passes a test, with one item more
 
 stays_by : {A : Type 0} (b : Bool) (x y : A) (now later : Option A) → (if b then Some y else now) ≡ Some x
-    → (now ≡ Some x → later ≡ Some x)
-    → (if b then Some y else later) ≡ Some x
+    → (now ≡ Some x → later ≡ Some x) → (if b then Some y else later) ≡ Some x
 stays_by true x y now later h more = h
 stays_by false x y now later h more = more h
 
 first_stays : {A : Type 0} (passes : List A → A → Bool) (before xs ys : List A) (x : A)
-    → first_at passes before xs ≡ Some x
-    → first_at passes before (xs ++ ys) ≡ Some x
+    → first_at passes before xs ≡ Some x → first_at passes before (xs ++ ys) ≡ Some x
 unfolding first_at
 first_stays passes before [] ys x h = absurd (cc)
 first_stays passes before (y ∷ xs) ys x h =
     stays_by (passes (before ++ y ∷ []) y) x y (first_at passes (before ++ y ∷ []) xs)
-    (first_at passes (before ++ y ∷ []) (xs ++ ys)) h
-    (first_stays passes (before ++ y ∷ []) xs ys x)
+    (first_at passes (before ++ y ∷ []) (xs ++ ys)) h (first_stays passes (before ++ y ∷ []) xs ys x)
 
 more_by : {A : Type 0} (b : Bool) (y : A) (now later other : Option A) → (if b then Some y else now) ≡ None
-    → (now ≡ None → later ≡ other)
-    → (if b then Some y else later) ≡ other
+    → (now ≡ None → later ≡ other) → (if b then Some y else later) ≡ other
 more_by true y now later other h more = absurd (cc)
 more_by false y now later other h more = more h
 
@@ -50,8 +46,7 @@ first_more passes before (y ∷ xs) x h =
 
 -- a refusal stays the first
 hit_stays : (which : Limit) (passes : List ScoreStmt → ScoreStmt → Bool) (all : List ScoreStmt) (s : ScoreStmt)
-    (h : LimitHit) →
-    Some h ≡ at_statement which (first_at passes [] all)
+    (h : LimitHit) → Some h ≡ at_statement which (first_at passes [] all)
     → Some h ≡ at_statement which (first_at passes [] (all ++ s ∷ []))
 hit_stays which passes all s h e = by_first (first_at passes [] all) refl e
   where
@@ -66,8 +61,7 @@ none_first which (Some x) h = absurd (cc)
 
 -- a statement more, where none was refused before
 hit_more : (which : Limit) (passes : List ScoreStmt → ScoreStmt → Bool) (all : List ScoreStmt) (s : ScoreStmt)
-    (b : Bool) →
-    None ≡ at_statement which (first_at passes [] all) → b ≡ passes (all ++ s ∷ []) s →
+    (b : Bool) → None ≡ at_statement which (first_at passes [] all) → b ≡ passes (all ++ s ∷ []) s →
     (if b then Some (record { limit = which; line = s.line }) else None) ≡ at_statement which
     (first_at passes [] (all ++ s ∷ []))
 hit_more which passes all s b e t =
@@ -129,8 +123,7 @@ known_any : (xs : List ℕ) (m n : ℕ) → list_any (λ k. k == m) xs ≡ true
 known_any xs m n h =
     ⊎_elim
     (λ t. rw t (or_true _ ∙ sym (sym (same_any m n xs t) ∙ h)))
-    (λ f. rw f (or_false _))
-    (cases_Bool (m == n))
+    (λ f. rw f (or_false _)) (cases_Bool (m == n))
 
 pub seen_again : (seen numbers : List ℕ) (m : ℕ) → list_any (λ k. k == m) seen ≡ true → IsSeen seen numbers
     → IsSeen seen (numbers ++ m ∷ [])
@@ -187,8 +180,7 @@ unfolding first_at
 no_count events e h = record { hit = h; count = λ _. e; few = λ _. omega (arith, e) }
 
 pub numbers_stay : (all : List ScoreStmt) (s : ScoreStmt) (tables : TableNumbers) → is_some tables.hit ≡ true
-    → HasNumbers all tables
-    → HasNumbers (all ++ s ∷ []) tables
+    → HasNumbers all tables → HasNumbers (all ++ s ∷ []) tables
 numbers_stay all s tables e n =
     let some = some_of tables.hit e in
     record {
@@ -197,8 +189,7 @@ numbers_stay all s tables e n =
     }
 
 pub count_stays : (all : List ScoreStmt) (s : ScoreStmt) (events : EventCount) → is_some events.hit ≡ true
-    → HasCount all events
-    → HasCount (all ++ s ∷ []) events
+    → HasCount all events → HasCount (all ++ s ∷ []) events
 count_stays all s events e n =
     let some = some_of events.hit e in
     record {
@@ -230,8 +221,7 @@ one_at_most true = omega arith
 one_at_most false = omega arith
 
 pub count_more : (all : List ScoreStmt) (s : ScoreStmt) (events next : EventCount) → is_some events.hit ≡ false
-    → HasCount all events →
-    (events.count ≤ 100000 → next.count ≡ events.count + cond (is_counted s.what) 1 0) →
+    → HasCount all events → (events.count ≤ 100000 → next.count ≡ events.count + cond (is_counted s.what) 1 0) →
     next.hit ≡ (if nat_lt 100000 next.count then Some (record { limit = limit.Events; line = s.line }) else None)
     → HasCount (all ++ s ∷ []) next
 count_more all s events next e before add hit =
@@ -259,8 +249,7 @@ none_before which passes all s e = by_first (first_at passes [] all) refl
         (let wrong = e ∙ ap (at_statement which) (first_stays passes [] all (s ∷ []) x h) in cc)
 
 pub kept_more : (all : List ScoreStmt) (s : ScoreStmt) (kept next : KeptStatements) → Holds all kept
-    → HasNumbers (all ++ s ∷ []) next.tables
-    → HasCount (all ++ s ∷ []) next.events →
+    → HasNumbers (all ++ s ∷ []) next.tables → HasCount (all ++ s ∷ []) next.events →
     next.statements ≡ kept.statements ++ s ∷ [] → Holds (all ++ s ∷ []) next
 kept_more all s kept next before tables events pushed = record {
   tables = tables;

@@ -1,18 +1,19 @@
 -- What the code keeps says the same as looking back.
 use Rattle.std.proofs.Common.{◌≡◌, ℕ, ℤ, Bool, true, false, ◌&&◌, List, [], ◌∷◌, ap, sym, ◌∙◌, refl, Option, Some, None}
-use Rattle.std.proofs.Common.{Result, Ok, Err, slice_get, nat_eq, if◌then◌else◌}
+use Rattle.std.proofs.Common.{Result, Ok, Err, slice_get, nat_eq, if◌then◌else◌, subst}
 use Rattle.std.specs.{HashMap.get, Option.option_or}
 use Rattle.cs_base.specs.{declared.fault.ScoreKind.ScoreKind, declared.fault.ScoreKind.TheVariants.NothingToCarry}
+use Rattle.cs_fields.specs.{declared.field.Field.Field, declared.field.Field.TheVariants.After}
+use Rattle.cs_fields.specs.declared.field.InstrumentNumber.{InstrumentNumber}
 use Rattle.cs_gen.specs.Faults.{table_fault}
-use Rattle.cs_score.specs.{declared.field.Field.Field, declared.field.Field.TheVariants.After}
-use Rattle.cs_score.specs.{declared.field.InstrumentNumber.InstrumentNumber, declared.last.LastNote.LastNote}
+use Rattle.cs_score.specs.declared.last.LastNote.{LastNote}
 use Rattle.cs_score.specs.{declared.past.Past.Past, declared.row.StatementLetter.StatementLetter, declared.row.Row.Row}
 use Rattle.cs_score.specs.{declared.statement.ScoreWhat.ScoreWhat, inner.State.p1_before, inner.State.p2_read}
 use Rattle.cs_score.specs.declared.statement.ScoreWhat.TheVariants.{Note, Table}
 use Rattle.cs_score.specs.Carry.{and_then, continues, fields, is_note, is_note_letter, is_same, p1, p1_by}
 use Rattle.cs_score.specs.Notes.{gap, gap_by, note, note_of, ok_or_zero, p2, p2_by}
 use Rattle.cs_score.specs.Statements.{asked, asked_by, asked_of, base_after, base_of, first_size, refusal_of, size_in}
-use Rattle.cs_score.specs.Statements.{table, table_refusal, is_other_size, unless, written_table}
+use Rattle.cs_score.specs.Statements.{size_by, table, table_refusal, is_other_size, unless, written_table}
 use Rattle.cs_score.specs.inner.State.{IsKept, completed, continuing, fields_read, instr_read, note_read, note_with}
 use Rattle.cs_score.specs.inner.Past.{Follows, Keeps, LastFollows, asked_after, table_read}
 use Rattle.cs_score.proofs.Carried.{field_is, fields_next}
@@ -29,8 +30,7 @@ no_same (Ok a) = refl
 no_same (Err e) = refl
 
 same_by : (b : Bool) (r before last : Result InstrumentNumber ScoreKind)
-    → last ≡ (if b then before else Err NothingToCarry)
-    → is_same r last ≡ (b && is_same r before)
+    → last ≡ (if b then before else Err NothingToCarry) → is_same r last ≡ (b && is_same r before)
 same_by true r before last e = ap (is_same r) e
 same_by false r before last e = ap (is_same r) e ∙ no_same r
 
@@ -53,8 +53,7 @@ fields_is : (above : List Row) (past : Past) (row : Row) → Keeps above past
 fields_is above past row k =
     ap (λ b. completed b row.fields past.last.fields) (continuing_is above past row k)
     ∙ completed_by (continues (row ∷ above)) row.fields past.last.fields (fields above)
-    (λ h. k.fields (and_first (is_note above) (is_same (p1 (row ∷ above)) (p1 above)) h))
-    ∙ sym (fields_next row above)
+    (λ h. k.fields (and_first (is_note above) (is_same (p1 (row ∷ above)) (p1 above)) h)) ∙ sym (fields_next row above)
 
 no_mark : (a b c d : ℕ) (f : Option Field) → p2_by false a b f ≡ p2_by false c d f
 no_mark a b c d None = refl
@@ -62,8 +61,7 @@ no_mark a b c d (Some After) = refl
 no_mark a b c d f = refl
 
 p2_by_same : (continuing : Bool) (a b c d : ℕ) (f : Option Field) → (continuing ≡ true → a ≡ c)
-    → (continuing ≡ true → b ≡ d)
-    → p2_by continuing a b f ≡ p2_by continuing c d f
+    → (continuing ≡ true → b ≡ d) → p2_by continuing a b f ≡ p2_by continuing c d f
 p2_by_same true a b c d f e g = ap (λ x. p2_by true x b f) (e refl) ∙ ap (λ x. p2_by true c x f) (g refl)
 p2_by_same false a b c d f e g = no_mark a b c d f
 
@@ -76,8 +74,7 @@ p2_is above past row k =
     λ h. and_first (is_note above) (is_same (p1 (row ∷ above)) (p1 above)) h in
     ap (λ x. p2_by x past.last.p2 past.last.gap f) (continuing_is above past row k)
     ∙ p2_by_same b past.last.p2 past.last.gap (ok_or_zero (p2 above)) (gap above) f (λ h. k.p2 (noted h))
-    (λ h. k.gap (noted h))
-    ∙ ap (p2_by b (ok_or_zero (p2 above)) (gap above))
+    (λ h. k.gap (noted h)) ∙ ap (p2_by b (ok_or_zero (p2 above)) (gap above))
     (ap (λ fs. slice_get fs 1) (fields_is above past row k) ∙ sym (field_is (row ∷ above) 1))
 
 note_is : (above : List Row) (past : Past) (row : Row) → Keeps above past
@@ -130,19 +127,16 @@ instr_more above past row next _ k h = ap p1_before h
 
 -- of an `i` statement its parts are kept
 kept_by : (past : Past) (row : Row) (next : LastNote) (l : StatementLetter) → LastFollows past.last row next l
-    → is_note_letter l ≡ true
-    → IsKept past.last row.fields next
+    → is_note_letter l ≡ true → IsKept past.last row.fields next
 kept_by past row next letter.Note h e = h
 kept_by past row next _ h e = absurd (let wrong : false ≡ true = e in cc)
 
 fields_more : (above : List Row) (past : Past) (row : Row) (next : LastNote) → Keeps above past
-    → IsKept past.last row.fields next
-    → next.fields ≡ fields (row ∷ above)
+    → IsKept past.last row.fields next → next.fields ≡ fields (row ∷ above)
 fields_more above past row next k h = h.is_fields ∙ fields_is above past row k
 
 gap_more : (above : List Row) (past : Past) (row : Row) (next : LastNote) → Keeps above past
-    → IsKept past.last row.fields next
-    → next.gap ≡ gap (row ∷ above)
+    → IsKept past.last row.fields next → next.gap ≡ gap (row ∷ above)
 gap_more above past row next k h =
     h.is_gap ∙ ap (λ r. gap_by r (slice_get next.fields 2)) (sym h.is_instr ∙ instr_is above past row k)
     ∙ ap (gap_by (p1 (row ∷ above)))
@@ -171,4 +165,20 @@ nothing_kept past b s i = record {
   p2 = λ e. absurd (let wrong : false ≡ true = e in cc);
   gap = λ e. absurd (let wrong : false ≡ true = e in cc);
   fields = λ e. absurd (let wrong : false ≡ true = e in cc);
+}
+
+-- ---- a row that gives no size
+
+or_none : (x : Option ℤ) → x ≡ option_or x None
+or_none None = refl
+or_none (Some z) = refl
+
+pub follows_by : (past : Past) (row : Row) (next : Past) (l : StatementLetter) → row.letter ≡ l
+    → next.base ≡ base_after row.fields past.base l → ((n : ℕ) → get nat_eq next.sizes n ≡ get nat_eq past.sizes n)
+    → ((n : ℕ) → size_by n row.fields l ≡ None) → LastFollows past.last row next.last l → Follows past row next
+follows_by past row next l e b s z i = record {
+  base = b ∙ ap (base_after row.fields past.base) (sym e);
+  sizes = λ n. s n ∙ or_none (get nat_eq past.sizes n)
+      ∙ ap (option_or (get nat_eq past.sizes n)) (sym (z n) ∙ ap (size_by n row.fields) (sym e));
+  last = subst (LastFollows past.last row next.last) (sym e) i;
 }

@@ -67,8 +67,7 @@ row_read text plain at n indent m number row l is_n is_indent is_m is_line is_ro
     let first = text.first_line in
     let rest = drop at plain in
     let cut : Cut first at rest n m =
-    subst (λ i. Cut first at rest i m) (sym is_n)
-    (subst (Cut first at rest (line_len rest)) (sym is_m)
+    subst (λ i. Cut first at rest i m) (sym is_n) (subst (Cut first at rest (line_len rest)) (sym is_m)
     (cut_at first at rest (omega (arith, length-drop at plain)))) in
     let here : row_of text (line first at (take n rest)) ≡ row =
     ap (λ k. row_at (line_after first (take (at + k) text.bytes)) (drop k (take n rest))) (sym is_indent)

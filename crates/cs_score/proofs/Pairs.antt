@@ -1,14 +1,25 @@
 -- The pairs of a tempo, one by one, and their ranges.
 use Rattle.std.proofs.Common.{◌≡◌, ℕ, ◌+◌, ◌<◌, ◌≤◌, ◌==◌, true, List, ◌∷◌, ◌++◌, length, drop, get_or, arith, ap, []}
 use Rattle.std.proofs.Common.{sym, ◌∙◌, refl, subst, append_assoc, Option, Some, None, Result, Ok, Err, nat_le}
+use Rattle.std.specs.Result.{IsErrAnd}
 use Rattle.std.proofs.lemmas.{List.drop_more, List.drop_all, List.append-nil, Bool.Decides.nat_tests}
 use Rattle.cs_base.specs.declared.fault.ScoreKind.{ScoreKind}
 use Rattle.cs_base.specs.declared.fault.ScoreKind.TheVariants.{BadNumber, MissingField}
-use Rattle.cs_score.specs.{declared.field.Signed.Signed, declared.field.Field.Field}
-use Rattle.cs_score.specs.{declared.field.Field.TheVariants.Number, Carry.and_then, Carry.number_of, Notes.zero}
+use Rattle.cs_fields.specs.{declared.field.Signed.Signed, declared.field.Field.Field, Fields.number_of}
+use Rattle.cs_fields.specs.declared.field.Field.TheVariants.{Number}
+use Rattle.cs_score.specs.{Carry.and_then, Notes.zero, inner.State.Answers}
+use Rattle.cs_score.specs.declared.statement_fault.StatementFault.{StatementFault}
 use Rattle.cs_score.specs.declared.statement.TempoPoint.{TempoPoint}
 use Rattle.cs_score.specs.Ranges.{beats_end, AreRising, AreTempoPoints}
 use Rattle.cs_score.specs.Statements.{follows, as_beat, as_tempo, points_of}
+use Rattle.cs_score.specs.declared.statement_fault.StatementFault.TheVariants as fault
+
+-- a fault that is found is the one that is meant
+pub kind_is : {A : Type 0} → (r : Result A StatementFault) (meant : Result A ScoreKind) (k : ScoreKind)
+    → IsErrAnd r (λ y. y ≡ fault.Kind k) → meant ≡ Err k → Answers r meant
+kind_is (Ok x) meant k i e = elim i [ ]
+kind_is (Err (fault.Kind g)) meant k i e = let same : g ≡ k = cc in e ∙ ap (λ x. Err x) (sym same)
+kind_is (Err fault.OutOfMemory) meant k i e = tt
 
 -- two readings that went well
 pub and_then_ok : {A B E : Type 0} → (r : Result A E) (f : A → Result B E) (y : B) → and_then r f ≡ Ok y
@@ -33,18 +44,17 @@ prepended : (points : List TempoPoint) (p : TempoPoint) (r : Result (List TempoP
 prepended points p (Ok ps) = ap Ok (sym (append_assoc points (p ∷ []) ps))
 prepended points p (Err k) = refl
 
-abbrev point : ℕ → ℕ → TempoPoint
+abbrev pub point : ℕ → ℕ → TempoPoint
 point beat tempo = record { beat = beat; tempo = tempo }
 
-abbrev with_tempo : ℕ → List Field → ℕ → Result (List TempoPoint) ScoreKind
+abbrev pub with_tempo : ℕ → List Field → ℕ → Result (List TempoPoint) ScoreKind
 with_tempo beat fs tempo = and_then (points_of (Some beat) fs) (λ ps. Ok (point beat tempo ∷ ps))
 
-abbrev with_beat : Field → List Field → ℕ → Result (List TempoPoint) ScoreKind
+abbrev pub with_beat : Field → List Field → ℕ → Result (List TempoPoint) ScoreKind
 with_beat g fs beat = and_then (number_of BadNumber g) (λ m. and_then (as_tempo m) (with_tempo beat fs))
 
 one_pair : (last : Option ℕ) (f g : Field) (fs : List Field) (n m : Signed) (beat tempo : ℕ)
-    → number_of BadNumber f ≡ Ok n
-    → as_beat last n ≡ Ok beat → number_of BadNumber g ≡ Ok m → as_tempo m ≡ Ok tempo
+    → number_of BadNumber f ≡ Ok n → as_beat last n ≡ Ok beat → number_of BadNumber g ≡ Ok m → as_tempo m ≡ Ok tempo
     → points_of last (f ∷ g ∷ fs) ≡ with_tempo beat fs tempo
 one_pair last f g fs n m beat tempo a b c d =
     and_then_by (number_of BadNumber f) (λ n. and_then (as_beat last n) (with_beat g fs)) n a
@@ -55,9 +65,7 @@ one_pair last f g fs n m beat tempo a b c d =
 pub pair_split : (fs : List Field) (at : ℕ) → at + 1 < length fs
     → drop at fs ≡ get_or fs at empty ∷ get_or fs (at + 1) empty ∷ drop (at + 2) fs
 pair_split fs at l =
-    drop_more fs at empty (omega arith)
-    ∙ ap (λ t. get_or fs at empty ∷ t)
-    (drop_more fs (at + 1) empty l
+    drop_more fs at empty (omega arith) ∙ ap (λ t. get_or fs at empty ∷ t) (drop_more fs (at + 1) empty l
     ∙ ap (λ n. get_or fs (at + 1) empty ∷ drop n fs) (let e : at + 1 + 1 ≡ at + 2 = omega arith in e))
 
 pub pair_read : (fs : List Field) (at : ℕ) (last : Option ℕ) (points points' : List TempoPoint) (n m : Signed)
@@ -69,9 +77,7 @@ pub pair_read : (fs : List Field) (at : ℕ) (last : Option ℕ) (points points'
     → whole ≡ and_then (points_of (Some beat) (drop (at + 2) fs)) (λ ps. Ok (points' ++ ps))
 pair_read fs at last points points' n m beat tempo whole l a b c d more read =
     let rest = drop (at + 2) fs in
-    read
-    ∙ ap (λ r. and_then r (λ ps. Ok (points ++ ps)))
-    (ap (points_of last) (pair_split fs at l)
+    read ∙ ap (λ r. and_then r (λ ps. Ok (points ++ ps))) (ap (points_of last) (pair_split fs at l)
     ∙ one_pair last (get_or fs at empty) (get_or fs (at + 1) empty) rest n m beat tempo a b c d)
     ∙ prepended points (point beat tempo) (points_of (Some beat) rest)
     ∙ ap (λ p. and_then (points_of (Some beat) rest) (λ ps. Ok (p ++ ps))) (sym more)
@@ -95,8 +101,7 @@ number_fault last f (g ∷ fs) k e =
     and_then_fault (number_of BadNumber f) (λ n. and_then (as_beat last n) (with_beat g fs)) k e
 
 beat_fault : (last : Option ℕ) (f : Field) (rest : List Field) (n : Signed) (k : ScoreKind)
-    → number_of BadNumber f ≡ Ok n
-    → as_beat last n ≡ Err k → points_of last (f ∷ rest) ≡ Err k
+    → number_of BadNumber f ≡ Ok n → as_beat last n ≡ Err k → points_of last (f ∷ rest) ≡ Err k
 beat_fault last f [] n k e g =
     and_then_by (number_of BadNumber f) (λ n. and_then (as_beat last n) (λ _. Err MissingField)) n e
     ∙ and_then_fault (as_beat last n) (λ _. Err MissingField) k g
@@ -113,8 +118,7 @@ fault_read fs at last points k whole l e read =
     ∙ and_then_fault (points_of last (get_or fs at empty ∷ drop (at + 1) fs)) (λ ps. Ok (points ++ ps)) k e
 
 pub number_fault_read : (fs : List Field) (at : ℕ) (last : Option ℕ) (points : List TempoPoint) (k : ScoreKind)
-    (whole : Result (List TempoPoint) ScoreKind)
-    → at < length fs → number_of BadNumber (get_or fs at empty) ≡ Err k
+    (whole : Result (List TempoPoint) ScoreKind) → at < length fs → number_of BadNumber (get_or fs at empty) ≡ Err k
     → whole ≡ and_then (points_of last (drop at fs)) (λ ps. Ok (points ++ ps)) → whole ≡ Err k
 number_fault_read fs at last points k whole l e read =
     fault_read fs at last points k whole l (number_fault last (get_or fs at empty) (drop (at + 1) fs) k e) read
@@ -126,11 +130,35 @@ pub beat_fault_read : (fs : List Field) (at : ℕ) (last : Option ℕ) (points :
 beat_fault_read fs at last points n k whole l e g read =
     fault_read fs at last points k whole l (beat_fault last (get_or fs at empty) (drop (at + 1) fs) n k e g) read
 
+-- a beat without its tempo
+pub odd_read : (fs : List Field) (at : ℕ) (last : Option ℕ) (points : List TempoPoint) (n : Signed) (beat : ℕ)
+    (whole : Result (List TempoPoint) ScoreKind)
+    → at < length fs → length fs ≤ at + 1 → number_of BadNumber (get_or fs at empty) ≡ Ok n → as_beat last n ≡ Ok beat
+    → whole ≡ and_then (points_of last (drop at fs)) (λ ps. Ok (points ++ ps)) → whole ≡ Err MissingField
+odd_read fs at last points n beat whole l m a b read =
+    let f = get_or fs at empty in
+    fault_read fs at last points MissingField whole l
+    (ap (λ t. points_of last (f ∷ t)) (drop_all (at + 1) fs m)
+    ∙ and_then_by (number_of BadNumber f) (λ n. and_then (as_beat last n) (λ _. Err MissingField)) n a
+    ∙ and_then_by (as_beat last n) (λ _. Err MissingField) beat b) read
+
+-- a fault in the tempo of a pair
+pub tempo_fault_read : (fs : List Field) (at : ℕ) (last : Option ℕ) (points : List TempoPoint) (n : Signed) (beat : ℕ)
+    (k : ScoreKind) (whole : Result (List TempoPoint) ScoreKind)
+    → at + 1 < length fs → number_of BadNumber (get_or fs at empty) ≡ Ok n → as_beat last n ≡ Ok beat
+    → with_beat (get_or fs (at + 1) empty) (drop (at + 2) fs) beat ≡ Err k
+    → whole ≡ and_then (points_of last (drop at fs)) (λ ps. Ok (points ++ ps)) → whole ≡ Err k
+tempo_fault_read fs at last points n beat k whole l a b e read =
+    let g = get_or fs (at + 1) empty in
+    let rest = drop (at + 2) fs in
+    read ∙ ap (λ r. and_then r (λ ps. Ok (points ++ ps))) (ap (points_of last) (pair_split fs at l)
+    ∙ and_then_by (number_of BadNumber (get_or fs at empty)) (λ n. and_then (as_beat last n) (with_beat g rest)) n a
+    ∙ and_then_by (as_beat last n) (with_beat g rest) beat b ∙ e)
+
 -- ---- all points
 
 rising_by : (last beat tempo : ℕ) (rest ps : List TempoPoint) → point beat tempo ∷ rest ≡ ps → last ≤ beat
-    → beat < beats_end
-    → (1000000 ≤ tempo) × (tempo ≤ 60000000000) → AreRising beat rest → AreRising last ps
+    → beat < beats_end → (1000000 ≤ tempo) × (tempo ≤ 60000000000) → AreRising beat rest → AreRising last ps
 rising_by last beat tempo rest ps e l m t r =
     subst (AreRising last) e (l, record { beat = m; slow = t.0; fast = t.1 }, r)
 

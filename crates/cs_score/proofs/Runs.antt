@@ -22,8 +22,7 @@ pub appended : {T E : Type 0} (r : Result T E) (now mid old rest own below : Lis
     → rest ≡ drop from own → at ≡ max from (length own) → IfOk r (λ _. now ≡ mid ++ drop at below)
     → IfOk r (λ _. now ≡ old ++ drop from (own ++ drop (length own) below))
 appended (Ok x) now mid old rest own below from at m s t h =
-    h ∙ ap (λ l. l ++ drop at below) (m ∙ ap (λ l. old ++ l) s)
-    ∙ ap (λ k. (old ++ drop from own) ++ drop k below) t
+    h ∙ ap (λ l. l ++ drop at below) (m ∙ ap (λ l. old ++ l) s) ∙ ap (λ k. (old ++ drop from own) ++ drop k below) t
     ∙ append_assoc old (drop from own) (drop (max from (length own)) below)
     ∙ ap (λ l. old ++ l) (sym (hidden from own below))
 appended (Err e) now mid old rest own below from at m s t h = tt

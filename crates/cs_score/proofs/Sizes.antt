@@ -6,13 +6,13 @@ use Rattle.std.specs.{List.All, Option.option_or, Ordering.int_eq}
 use Rattle.std.proofs.lemmas.Bool.Decides.{Decides-int_eq, nat_tests}
 use Rattle.cs_base.specs.{Lines.Excerpt, declared.fault.ScoreFault.ScoreFault, declared.fault.ScoreKind.ScoreKind}
 use Rattle.cs_base.specs.declared.fault.ScoreKind.TheVariants.{BadStatement, MissingField, NotInProfile, NothingToCarry}
+use Rattle.cs_fields.specs.{declared.field.Field.Field, Fields.is_negative_time, Fields.raw_of, Fields.size_of}
 use Rattle.cs_gen.specs.{declared.check.GenFault.GenFault, Faults.table_fault}
-use Rattle.cs_score.specs.{declared.field.Field.Field, declared.row.Row.Row, declared.statement.ScoreWhat.ScoreWhat}
+use Rattle.cs_score.specs.{declared.row.Row.Row, declared.statement.ScoreWhat.ScoreWhat}
 use Rattle.cs_score.specs.{declared.statement.ScoreStmt.ScoreStmt, Rows.rows_of, Sizes.HaveOneSize, Sizes.IsOneSize}
 use Rattle.cs_score.specs.declared.row.StatementLetter.{StatementLetter}
 use Rattle.cs_score.specs.declared.statement.ScoreWhat.TheVariants.{Note, Hold, Stop, Table, Tempo, Section}
 use Rattle.cs_score.specs.Carry.{and_then, fields, p1}
-use Rattle.cs_score.specs.Fields.{is_negative_time, raw_of, size_of}
 use Rattle.cs_score.specs.Notes.{counted, fewest, note, note_by, note_of, p2, times_of, valued_note, values_of}
 use Rattle.cs_score.specs.Statements.{asked, asked_by, at_line, base_by, base_of, ended, first_size, is_other_size, one}
 use Rattle.cs_score.specs.Statements.{points_of, refusal_of, score_of, size_by, size_for, stated, statements_of, table}
@@ -78,13 +78,11 @@ same_number : (n : ℕ) (z : ℤ) → (if n == n then Some z else None) ≡ Some
 same_number n z = let h : (n == n) ≡ true = grind (arith, nat_tests) in rw h refl
 
 table_accepted : (above : List Row) (fs : List Field) (w : ScoreWhat) → written_table fs ≡ Ok w
-    → refusal_of (first_size above) w ≡ None →
-    IsAccepted (first_size above) (λ n. size_by n fs letter.Table) w
+    → refusal_of (first_size above) w ≡ None → IsAccepted (first_size above) (λ n. size_by n fs letter.Table) w
 table_accepted above fs (Table number at size gen args) e h =
     let kept = not_resized (table_fault size gen args) (is_other_size (first_size above number) size) h in (
       λ z first. first_kept (first_size above number) size z kept first,
-      ap (size_for number) e
-          ∙ same_number number size,
+      ap (size_for number) e ∙ same_number number size,
     )
 table_accepted above fs _ e h = (tt, tt)
 
@@ -155,15 +153,13 @@ no_list : (f : ScoreFault) (ys : List ScoreStmt) → ◌≡◌ {A = Result (List
 no_list f ys e = cc
 
 one_accepted : (first own : ℕ → Option ℤ) (line : ℕ) (r : Result ScoreWhat ScoreKind) (these : List ScoreStmt)
-    → ((w : ScoreWhat) → r ≡ Ok w → IsAccepted first own w) →
-    stated line (one r) ≡ Ok these → Accepted first own these
+    → ((w : ScoreWhat) → r ≡ Ok w → IsAccepted first own w) → stated line (one r) ≡ Ok these → Accepted first own these
 one_accepted first own line (Ok w) these a e =
     own_at first own line these w (a w refl) (same_list (at_line line (w ∷ [])) these e)
 one_accepted first own line (Err k) these a e = absurd (no_list (record { line = line; kind = k }) these e)
 
 none_accepted : (first own : ℕ → Option ℤ) (these : List ScoreStmt)
-    → ◌≡◌ {A = Result (List ScoreStmt) ScoreFault} (Ok []) (Ok these)
-    → Accepted first own these
+    → ◌≡◌ {A = Result (List ScoreStmt) ScoreFault} (Ok []) (Ok these) → Accepted first own these
 none_accepted first own these e = subst (Accepted first own) (same_list [] these e) (tt, omega arith)
 
 base_accepted : (first own : ℕ → Option ℤ) (line : ℕ) (r : Result ℕ ScoreKind) (these : List ScoreStmt)
@@ -172,8 +168,7 @@ base_accepted first own line (Ok n) these e = none_accepted first own these e
 base_accepted first own line (Err k) these e = absurd (no_list (record { line = line; kind = k }) these e)
 
 end_accepted : (first own : ℕ → Option ℤ) (line : ℕ) (fs : List Field) (these : List ScoreStmt)
-    → stated line (ended fs) ≡ Ok these
-    → Accepted first own these
+    → stated line (ended fs) ≡ Ok these → Accepted first own these
 end_accepted first own line [] these e = none_accepted first own these e
 end_accepted first own line (f ∷ fs) these e = absurd (no_list (record { line = line; kind = NotInProfile }) these e)
 

@@ -3,7 +3,8 @@ use Rattle.std.proofs.Common.{◌≡◌, ℕ, suc, ◌+◌, ◌<◌, true, false
 use Rattle.std.proofs.Common.{get_or, arith, ap, sym, ◌∙◌, refl, subst, append_assoc}
 use Rattle.std.specs.List.{prefix_len}
 use Rattle.std.proofs.lemmas.List.{drop_more, drop-drop}
-use Rattle.cs_score.specs.{declared.field.Field.Field, Fields.field_of, Rows.is_word_byte, Rows.words, Rows.with_first}
+use Rattle.cs_fields.specs.{declared.field.Field.Field, Fields.field_of}
+use Rattle.cs_score.specs.Rows.{is_word_byte, words, with_first}
 use Rattle.cs_base.specs.Lines.{begins, is_blank}
 use Rattle.cs_base.proofs.Tests.{by_test}
 
@@ -57,5 +58,4 @@ word_read line at len fields fields' f l h e is more read =
     ∙ append_assoc fields (f ∷ []) (map field_of (words (drop (at + len) line)))
     ∙ ap (λ g. fields ++ g ∷ map field_of (words (drop (at + len) line))) is
     ∙ ap (λ t. fields ++ field_of (take len text) ∷ map field_of (words t)) (sym (drop-drop len at line))
-    ∙ ap (λ ws. fields ++ map field_of ws) (sym word)
-    ∙ read
+    ∙ ap (λ ws. fields ++ map field_of ws) (sym word) ∙ read

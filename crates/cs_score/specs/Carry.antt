@@ -1,28 +1,19 @@
 -- What an `i` statement writes and what it takes from those before it. A list of rows stands newest first.
-use Rattle.std.specs.Prelude.{ℕ, Bool, true, false, List, [], ◌∷◌, ◌&&◌, ◌==◌, not, length, max, map, nat_le, slice_get}
-use Rattle.std.specs.Prelude.{unwrap_or, Option, Some, None, Result, Ok, Err, if◌then◌else◌}
+use Rattle.std.specs.Prelude.{ℕ, Bool, true, false, List, [], ◌∷◌, ◌&&◌, length, max, map, nat_le, slice_get, unwrap_or}
+use Rattle.std.specs.Prelude.{Option, Some, None, Result, Ok, Err, if◌then◌else◌}
 use Rattle.std.specs.List.{range_with_len}
 use Rattle.cs_base.specs.{Limits.greatest_instrument, declared.fault.ScoreKind.ScoreKind}
 use Rattle.cs_base.specs.declared.fault.ScoreKind.TheVariants.{BadNumber, NothingToCarry, NotInProfile}
-use Rattle.cs_score.specs.declared.field.InstrumentNumber.{InstrumentNumber}
-use Rattle.cs_score.specs.{declared.field.Signed.Signed, declared.field.Field.Field}
-use Rattle.cs_score.specs.{declared.row.StatementLetter.StatementLetter, declared.row.Row.Row, Fields.is_whole}
-use Rattle.cs_score.specs.declared.field.Field.TheVariants.{Number, Same, After, Ahead, Foreign, Unreadable}
+use Rattle.cs_fields.specs.Fields.{is_same_instrument, is_whole, number_of}
+use Rattle.cs_fields.specs.{declared.field.Signed.Signed, declared.field.Field.Field}
+use Rattle.cs_fields.specs.declared.field.{Field.TheVariants.Same, InstrumentNumber.InstrumentNumber}
+use Rattle.cs_score.specs.{declared.row.StatementLetter.StatementLetter, declared.row.Row.Row}
 use Rattle.cs_score.specs.declared.row.StatementLetter.TheVariants as letter
 
 -- one reading after another: the first fault counts
 abbrev pub and_then : {A B E : Type 0} → Result A E → (A → Result B E) → Result B E
 and_then (Ok x) f = f x
 and_then (Err e) f = Err e
-
--- the number of a field at a place where no `+` may stand; a `.` that nothing fills is refused as `dot`
-abbrev pub number_of : ScoreKind → Field → Result Signed ScoreKind
-number_of dot (Number n) = Ok n
-number_of dot Same = Err dot
-number_of dot After = Err BadNumber
-number_of dot (Ahead x) = Err BadNumber
-number_of dot Foreign = Err NotInProfile
-number_of dot Unreadable = Err BadNumber
 
 -- an instrument number, with a minus for a stop
 abbrev pub as_instrument : Signed → Result InstrumentNumber ScoreKind
@@ -55,10 +46,6 @@ p1_by (Some f) before = instrument_of f
 abbrev pub p1 : List Row → Result InstrumentNumber ScoreKind
 p1 [] = Err NothingToCarry
 p1 (row ∷ above) = p1_by (slice_get row.fields 0) (if is_note above then p1 above else Err NothingToCarry)
-
--- one instrument, and both a stop or neither
-abbrev pub is_same_instrument : InstrumentNumber → InstrumentNumber → Bool
-is_same_instrument a b = a.number == b.number && (if a.stop then b.stop else not b.stop)
 
 abbrev pub is_same : Result InstrumentNumber ScoreKind → Result InstrumentNumber ScoreKind → Bool
 is_same (Ok a) (Ok b) = is_same_instrument a b

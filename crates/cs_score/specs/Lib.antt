@@ -1,5 +1,4 @@
 pub mod Carry
-pub mod Fields
 pub mod Limits
 pub mod Notes
 pub mod Plain

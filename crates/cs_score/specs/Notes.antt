@@ -4,13 +4,14 @@ use Rattle.std.specs.Prelude.{None, Result, Ok, Err, if◌then◌else◌}
 use Rattle.cs_base.specs.{Decimals.millionths_of, Limits.greatest_field, declared.fault.ScoreKind.ScoreKind}
 use Rattle.cs_base.specs.declared.fault.ScoreKind.TheVariants.{BadStatement, BadNumber, MissingField, NothingToCarry}
 use Rattle.cs_base.specs.declared.fault.ScoreKind.TheVariants.{NegativeTime}
-use Rattle.cs_score.specs.declared.field.InstrumentNumber.{InstrumentNumber}
-use Rattle.cs_score.specs.{declared.field.Signed.Signed, declared.field.Field.Field, declared.note.Times.Times}
-use Rattle.cs_score.specs.{declared.row.Row.Row, declared.statement.ScoreWhat.ScoreWhat, Ranges.beats_end}
-use Rattle.cs_score.specs.declared.field.Field.TheVariants.{Number, After, Ahead}
+use Rattle.cs_fields.specs.Fields.{raw_of, is_negative_time, number_of, size_of}
+use Rattle.cs_fields.specs.declared.field.InstrumentNumber.{InstrumentNumber}
+use Rattle.cs_fields.specs.{declared.field.Signed.Signed, declared.field.Field.Field}
+use Rattle.cs_fields.specs.declared.field.Field.TheVariants.{Number, After, Ahead}
+use Rattle.cs_score.specs.{declared.note.Times.Times, declared.row.Row.Row, Ranges.beats_end}
+use Rattle.cs_score.specs.declared.statement.ScoreWhat.{ScoreWhat}
 use Rattle.cs_score.specs.declared.statement.ScoreWhat.TheVariants.{Note, Hold, Stop}
-use Rattle.cs_score.specs.Fields.{raw_of, is_negative_time, size_of}
-use Rattle.cs_score.specs.Carry.{and_then, number_of, p1, continues, field, fields}
+use Rattle.cs_score.specs.Carry.{and_then, p1, continues, field, fields}
 
 -- a time that isn't below 0, in millionths
 abbrev pub as_time : Signed → Result ℕ ScoreKind

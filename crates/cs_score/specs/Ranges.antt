@@ -1,8 +1,9 @@
 -- The ranges of a statement's values, which the layers above rest on.
 use Rattle.std.specs.Prelude.{ℕ, ◌≡◌, ◌+◌, ◌<◌, ◌≤◌, ◌≤ℤ◌, pos, List, [], ◌∷◌, length, Option, Some, None}
 use Rattle.cs_base.specs.Limits.{greatest_instrument, greatest_table}
+use Rattle.cs_fields.specs.declared.field.InstrumentNumber.{InstrumentNumber}
 use Rattle.cs_gen.specs.Faults.{table_fault}
-use Rattle.cs_score.specs.{declared.field.InstrumentNumber.InstrumentNumber, declared.statement.TempoPoint.TempoPoint}
+use Rattle.cs_score.specs.declared.statement.TempoPoint.{TempoPoint}
 use Rattle.cs_score.specs.{declared.statement.ScoreWhat.ScoreWhat, declared.statement.ScoreStmt.ScoreStmt}
 use Rattle.cs_score.specs.declared.statement.ScoreWhat.TheVariants.{Note, Hold, Stop, Table, Extend, Tempo, Section}
 

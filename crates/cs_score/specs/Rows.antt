@@ -2,8 +2,9 @@
 use Rattle.std.specs.Prelude.{ℕ, Bool, List, [], ◌∷◌, ◌++◌, ◌+◌, ◌==◌, not, map, take, drop, if◌then◌else◌}
 use Rattle.std.specs.{Char.is_ascii_alphabetic, List.prefix_len, Str.byte}
 use Rattle.cs_base.specs.Lines.{Excerpt, Line, begins, is_blank, line_after, lines_of}
+use Rattle.cs_fields.specs.Fields.{field_of}
 use Rattle.cs_score.specs.declared.row.StatementLetter.{StatementLetter}
-use Rattle.cs_score.specs.{declared.row.Row.Row, Fields.field_of, Plain.plain_of}
+use Rattle.cs_score.specs.{declared.row.Row.Row, Plain.plain_of}
 use Rattle.cs_score.specs.declared.row.StatementLetter.TheVariants as letter
 
 abbrev pub with_first : ℕ → List (List ℕ) → List (List ℕ)

@@ -6,14 +6,14 @@ use Rattle.cs_base.specs.{Limits.greatest_table, Lines.Excerpt, declared.fault.S
 use Rattle.cs_base.specs.declared.fault.ScoreFault.{ScoreFault}
 use Rattle.cs_base.specs.declared.fault.ScoreKind.TheVariants.{BadStatement, BadNumber, MissingField, BadTempo, BadGen}
 use Rattle.cs_base.specs.declared.fault.ScoreKind.TheVariants.{BadTableSize, TableResized, NotInProfile}
+use Rattle.cs_fields.specs.Fields.{number_of, whole_of, size_of, is_whole, is_below_zero, is_negative_time}
+use Rattle.cs_fields.specs.{declared.field.Signed.Signed, declared.field.Field.Field}
 use Rattle.cs_gen.specs.{declared.check.GenFault.GenFault, Faults.table_fault}
-use Rattle.cs_score.specs.{declared.field.Signed.Signed, declared.field.Field.Field}
 use Rattle.cs_score.specs.{declared.row.StatementLetter.StatementLetter, declared.row.Row.Row}
 use Rattle.cs_score.specs.{declared.statement.TempoPoint.TempoPoint, declared.statement.ScoreWhat.ScoreWhat}
-use Rattle.cs_score.specs.{declared.statement.ScoreStmt.ScoreStmt, Carry.and_then, Carry.number_of, Notes.as_time}
+use Rattle.cs_score.specs.{declared.statement.ScoreStmt.ScoreStmt, Carry.and_then, Notes.as_time}
 use Rattle.cs_score.specs.{Notes.values_of, Notes.note, Notes.ok_or_zero, Ranges.beats_end, Rows.rows_of}
 use Rattle.cs_score.specs.declared.statement.ScoreWhat.TheVariants.{Table, Extend, Tempo, Section}
-use Rattle.cs_score.specs.Fields.{whole_of, size_of, is_whole, is_below_zero, is_negative_time}
 use Rattle.cs_gen.specs.declared.check.GenFault.TheVariants as gen
 use Rattle.cs_score.specs.declared.row.StatementLetter.TheVariants as letter
 

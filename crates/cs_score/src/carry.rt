@@ -7,11 +7,11 @@ ghost use Rattle.cs_score.specs.inner.State.{IsKept, IsLast, NoteAnswers, comple
 ghost use Rattle.cs_score.specs.inner.State.{instr_read, note_read, note_with, p1_before};
 
 use crate::NoteValues;
-use crate::field::{Field, InstrumentNumber};
 use crate::last::{LastNote, NoteRead};
 use crate::note::{check_count, field_at, gap, more_values, p1, p2, timed, what};
 use crate::statement_fault::StatementFault;
 use cs_base::Items;
+use cs_fields::{Field, InstrumentNumber};
 use std::alloc::{AllocError, Global};
 
 /// Reads an `i` statement by its written fields, after the statements that gave `base` and `last`.
@@ -94,7 +94,7 @@ fn is_same(instr: InstrumentNumber, last: Option<InstrumentNumber>) -> bool
     ensures { result ≡ is_same (Ok instr) (p1_before last) }
 {
     match last {
-        Some(last) => instr == last,
+        Some(last) => instr.is_same(last),
         None => false,
     }
 }

@@ -2,9 +2,9 @@
 ghost use Rattle.std.specs.Prelude.{◌≡◌, ◌<◌, ◌^◌, None};
 ghost use Rattle.cs_score.specs.{Ranges.IsInstrument, Ranges.number_or_one, Ranges.beats_end, inner.Values.AreValues};
 
-use crate::field::{Field, InstrumentNumber};
 use crate::{NoteValues, ScoreWhat};
 use cs_base::Items;
+use cs_fields::{Field, InstrumentNumber};
 use std::alloc::Global;
 
 /// The `i` statement right before, with all its fields.

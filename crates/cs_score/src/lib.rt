@@ -8,14 +8,13 @@
 //! `past`, `kept`, and specs/inner/) may be changed without anyone above noticing.
 //!
 //! To be read in this order: `statement` and `values` (what comes out), `read` (the one pass), `line` and `comment`
-//! (the text), `row` and `field` (what a line writes), `note`, `table` and `tempo` (what statements ask for), `carry`
-//! and `last` (what an `i` takes from the one before), `past` and `statements` (what is kept from statement to
-//! statement), `kept` (the statements up to a limit), `laws`, `worked` (scores read by the definitions).
+//! (the text), `row` (what a line writes, in fields of cs_fields), `note`, `table` and `tempo` (what statements ask
+//! for), `carry` and `last` (what an `i` takes from the one before), `past` and `statements` (what is kept from
+//! statement to statement), `kept` (the statements up to a limit), `laws`, `worked` (scores read by the definitions).
 #![tactic(auto)]
 
 mod carry;
 mod comment;
-mod field;
 mod kept;
 mod last;
 mod laws;

@@ -9,10 +9,10 @@ ghost use Rattle.cs_score.specs.Notes.{as_time, moved, p2_by, gap_by, p3_by, tim
 ghost use Rattle.cs_score.specs.inner.State.{Answers, Ends, p1_before};
 ghost use Rattle.cs_score.specs.inner.Values.{AreValues, IsTakenFrom};
 
-use crate::field::{Field, InstrumentNumber, Signed};
 use crate::statement_fault::StatementFault;
 use crate::{NoteValues, ScoreWhat};
 use cs_base::{Decimal, GREATEST_FIELD, GREATEST_INSTRUMENT, Items, Nums, ScoreKind};
+use cs_fields::{Field, InstrumentNumber, Signed};
 use std::alloc::Global;
 
 /// Exclusive upper bound of a beat, in millionths: 10,000,000 beats.

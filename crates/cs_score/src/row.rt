@@ -1,10 +1,11 @@
 // The line of a statement: its letter and its fields.
 ghost use Rattle.std.specs.Prelude.{◌≡◌, ◌<◌, ◌≤◌, length, map, IfOk};
 ghost use Rattle.std.specs.List.{prefix_len};
-ghost use Rattle.cs_score.specs.{Fields.field_of, Rows.letter_of, Rows.is_word_byte, Rows.words};
+ghost use Rattle.cs_fields.specs.Fields.{field_of};
+ghost use Rattle.cs_score.specs.Rows.{letter_of, is_word_byte, words};
 
-use crate::field::Field;
 use cs_base::{Items, is_blank};
+use cs_fields::Field;
 use std::alloc::{AllocError, Global};
 
 /// What the first byte of a statement says.

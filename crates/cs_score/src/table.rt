@@ -8,10 +8,10 @@ ghost use Rattle.cs_score.specs.Statements.{table_by, written_table, is_other_si
 ghost use Rattle.cs_score.specs.inner.State.{Answers, HasWrittenRange};
 
 use crate::ScoreWhat;
-use crate::field::{Field, Signed};
 use crate::note::{BEATS_END, rest, time, values};
 use crate::statement_fault::StatementFault;
 use cs_base::{GREATEST_TABLE, ScoreKind};
+use cs_fields::{Field, Signed};
 use cs_gen::{GenFault, check_table};
 use std::alloc::Global;
 use std::collections::HashMap;

@@ -3,11 +3,11 @@ ghost use Rattle.std.specs.Prelude.{◌≡◌, ◌<◌, None, IfOk, length};
 ghost use Rattle.cs_score.specs.{Ranges.AreTempoPoints, Ranges.HasRange, inner.State.Answers};
 ghost use Rattle.cs_score.specs.Statements.{follows, as_beat, as_tempo, points_of, tempo_of};
 
-use crate::field::{Field, Signed};
 use crate::note::BEATS_END;
 use crate::statement_fault::StatementFault;
 use crate::{ScoreWhat, TempoPoint, TempoPoints};
 use cs_base::ScoreKind;
+use cs_fields::{Field, Signed};
 use std::alloc::Global;
 
 /// One beat a minute, and 60,000, in millionths.

@@ -3,7 +3,8 @@ use Rattle.std.specs.Prelude.{◌≡◌, ℕ, ℤ, Bool, false, List, ◌++◌, 
 use Rattle.std.specs.{Prelude.if◌then◌else◌, HashMap.get, Option.option_or, Option.option_to_list}
 use Rattle.cs_base.specs.{declared.fault.ScoreFault.ScoreFault, declared.fault.ScoreKind.ScoreKind}
 use Rattle.cs_base.specs.declared.fault.ScoreKind.TheVariants.{NothingToCarry}
-use Rattle.cs_score.specs.{declared.field.Field.Field, declared.kept.KeptStatements.KeptStatements}
+use Rattle.cs_fields.specs.declared.field.Field.{Field}
+use Rattle.cs_score.specs.declared.kept.KeptStatements.{KeptStatements}
 use Rattle.cs_score.specs.{declared.last.LastNote.LastNote, declared.past.Past.Past}
 use Rattle.cs_score.specs.{declared.row.StatementLetter.StatementLetter, declared.row.Row.Row}
 use Rattle.cs_score.specs.{declared.statement.ScoreWhat.ScoreWhat, declared.statement.ScoreStmt.ScoreStmt}

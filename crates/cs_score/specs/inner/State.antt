@@ -2,12 +2,12 @@
 use Rattle.std.specs.Prelude.{◌≡◌, ◌+◌, ◌<◌, ℕ, Bool, false, List, [], ◌∷◌, Option, Some, None, Result, Ok, Err}
 use Rattle.std.specs.Prelude.{slice_get, IsSome, if◌then◌else◌}
 use Rattle.cs_base.specs.{declared.fault.ScoreKind.ScoreKind, declared.fault.ScoreKind.TheVariants.NothingToCarry}
+use Rattle.cs_fields.specs.{declared.field.Signed.Signed, declared.field.Field.Field, Fields.size_of}
+use Rattle.cs_fields.specs.declared.field.{Field.TheVariants.Same, InstrumentNumber.InstrumentNumber}
 use Rattle.cs_score.specs.{declared.last.LastNote.LastNote, declared.last.NoteRead.NoteRead}
-use Rattle.cs_score.specs.{declared.field.Signed.Signed, declared.field.Field.Field}
-use Rattle.cs_score.specs.{declared.field.Field.TheVariants.Same, declared.statement.ScoreWhat.ScoreWhat}
-use Rattle.cs_score.specs.{Fields.size_of, Carry.and_then, Carry.is_same, Carry.p1_by, Notes.gap_by, Notes.note_of}
+use Rattle.cs_score.specs.declared.statement.ScoreWhat.{ScoreWhat}
+use Rattle.cs_score.specs.{Carry.and_then, Carry.is_same, Carry.p1_by, Notes.gap_by, Notes.note_of}
 use Rattle.cs_score.specs.{Notes.p2_by, Ranges.beats_end, Ranges.IsTableNumber}
-use Rattle.cs_score.specs.declared.field.InstrumentNumber.{InstrumentNumber}
 use Rattle.cs_score.specs.declared.statement_fault.StatementFault.{StatementFault}
 use Rattle.cs_score.specs.declared.statement.ScoreWhat.TheVariants.{Table, Extend}
 use Rattle.cs_score.specs.declared.statement_fault.StatementFault.TheVariants as fault

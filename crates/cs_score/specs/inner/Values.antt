@@ -1,7 +1,8 @@
 -- The values that the code keeps beside the fields of a statement.
 use Rattle.std.specs.Prelude.{◌≡◌, ◌-◌, ◌≤◌, ℕ, ℤ, drop, length, List, Ok}
 use Rattle.cs_base.specs.declared.fault.ScoreKind.TheVariants.{NothingToCarry}
-use Rattle.cs_score.specs.{declared.field.Field.Field, Notes.values_of}
+use Rattle.cs_fields.specs.declared.field.Field.{Field}
+use Rattle.cs_score.specs.Notes.{values_of}
 
 -- the values of a statement's fields from p4 on
 abbrev pub AreValues : List Field → List ℤ → Type 0

@@ -1,6 +1,7 @@
 use Rattle.std.proofs.Common.{◌≡◌, ◌<◌, ◌-◌, ◌++◌, min, length, take, drop, get_or, arith, ap, ◌∙◌, subst}
 use Rattle.std.proofs.lemmas.List.{get_or_default, take_rest, append_assoc}
-use Rattle.cs_score.specs.{declared.field.Field.Field, inner.State.filled, inner.State.filled_one}
+use Rattle.cs_fields.specs.declared.field.Field.{Field}
+use Rattle.cs_score.specs.inner.State.{filled, filled_one}
 use Rattle.cs_score.proofs.{Pairs.empty, Carried.filled_more, Carried.filled_end, Carried.now_at}
 use Rattle.cs_score.proofs.carry.filled.Goals as goal
 
@@ -28,9 +29,7 @@ returns c =
     let end : k ≡ n = omega arith in
     let now : c.loop-k.fields.items ≡ take n (filled ws before) ++ drop n before =
     subst (λ i. c.loop-k.fields.items ≡ take i (filled ws before) ++ drop i before) end c.loop-k.invariant in
-    c.from_vec.ensures ∙ c.in_ok-extend_from_slice.ensures.items
-    ∙ ap (λ t. t ++ take (length ws - n) (drop n ws)) now
+    c.from_vec.ensures ∙ c.in_ok-extend_from_slice.ensures.items ∙ ap (λ t. t ++ take (length ws - n) (drop n ws)) now
     ∙ ap (λ t. (take n (filled ws before) ++ drop n before) ++ t) (take_rest ws n)
-    ∙ append_assoc (take n (filled ws before)) (drop n before) (drop n ws)
-    ∙ filled_end n ws before all
+    ∙ append_assoc (take n (filled ws before)) (drop n before) (drop n ws) ∙ filled_end n ws before all
     ∙ ap (λ b. filled ws b) c.into_vec-fields.ensures

@@ -18,7 +18,6 @@ returns-clause-row c =
     row_read c.args.text.now plain at n indent c.next_len.result line (option_to_list c.in_ok-row.row) c.requires.at
     (c.line_len.ensures.value ∙ ap line_len rest)
     (c.blanks_len-indent.ensures.value ∙ ap (λ t. prefix_len is_blank (take n t)) rest)
-    (c.next_len.ensures ∙ ap next_len rest)
-    c.line_on-row_line.ensures
+    (c.next_len.ensures ∙ ap next_len rest) c.line_on-row_line.ensures
     (c.in_ok-row.ensures ∙ ap (row_at line) (take_rest (take n (take (length plain - at) (drop at plain))) indent)
     ∙ ap (λ t. row_at line (drop indent (take n t))) rest)

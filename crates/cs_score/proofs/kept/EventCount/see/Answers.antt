@@ -11,8 +11,7 @@ returns-then-is_none c = λ all h.
       few,
       c.saturating_add-self.ensures,
       c.counted.ensures,
-      one_at_most
-          (is_counted c.args.statement.now.what),
+      one_at_most (is_counted c.args.statement.now.what),
     )) c.hit-self.ensures
 
 pub returns-else-is_none : goal.returns-else-is_none

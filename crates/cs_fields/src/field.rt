@@ -2,9 +2,9 @@
 ghost use Rattle.std.specs.Prelude.{◌≡◌, true, ◌==◌, ◌≤ℤ◌, pos, neg_ℤ, codes};
 ghost use Rattle.std.specs.List.{list_any};
 ghost use Rattle.cs_base.specs.{Lines.begins, declared.decimal.Decimal.Decimal};
-ghost use Rattle.cs_score.specs.Fields.{field_of, is_foreign, is_only, number_field, signed, signed_of, caret_field};
-ghost use Rattle.cs_score.specs.Fields.{raw_of, whole_of, size_of, is_whole, is_below_zero, is_negative_time};
-ghost use Rattle.cs_score.specs.Carry.{number_of};
+ghost use Rattle.cs_fields.specs.Fields.{field_of, is_foreign, is_only, number_field, number_of, signed, signed_of};
+ghost use Rattle.cs_fields.specs.Fields.{caret_field, raw_of, whole_of, size_of, is_whole, is_below_zero};
+ghost use Rattle.cs_fields.specs.Fields.{is_negative_time, is_same_instrument};
 
 use cs_base::{Decimal, Num, ScoreKind, read_decimal};
 
@@ -20,6 +20,15 @@ pub struct Signed {
 pub struct InstrumentNumber {
     pub number: u32,
     pub stop: bool,
+}
+
+impl InstrumentNumber {
+    /// Whether a statement has the p1 of the one before, and so takes from it the fields that are left to it.
+    pub fn is_same(self, before: InstrumentNumber) -> bool
+        ensures { result ≡ is_same_instrument self before }
+    {
+        self == before
+    }
 }
 
 impl Signed {
@@ -50,6 +59,7 @@ impl Signed {
         self.size.millionths()
     }
 
+    /// Whether no digit but 0 stands after the point.
     pub fn is_whole(self) -> bool
         ensures { result ≡ is_whole self }
     {

@@ -1,11 +1,14 @@
 -- What a field of a line says, wherever it stands.
-use Rattle.std.specs.Prelude.{ℕ, ℤ, pos, neg_ℤ, Bool, true, false, List, ◌&&◌, ◌||◌, ◌==◌, length, slice_index, drop}
-use Rattle.std.specs.Prelude.{codes, nat_lt, Option, Some, None, if◌then◌else◌}
+use Rattle.std.specs.Prelude.{ℕ, ℤ, pos, neg_ℤ, Bool, true, false, List, ◌&&◌, ◌||◌, ◌==◌, not, length, slice_index}
+use Rattle.std.specs.Prelude.{drop, codes, nat_lt, Option, Some, None, Result, Ok, Err, if◌then◌else◌}
 use Rattle.std.specs.{List.list_any, Str.byte, Option.option_map}
 use Rattle.cs_base.specs.Decimals.{decimal_of, raw_of_decimal, millionths_of}
 use Rattle.cs_base.specs.{Lines.begins, Lines.begins_with, Numbers.clamp, declared.decimal.Decimal.Decimal}
-use Rattle.cs_score.specs.{declared.field.Signed.Signed, declared.field.Field.Field}
-use Rattle.cs_score.specs.declared.field.Field.TheVariants.{Number, Same, After, Ahead, Foreign, Unreadable}
+use Rattle.cs_base.specs.declared.fault.ScoreKind.{ScoreKind}
+use Rattle.cs_base.specs.declared.fault.ScoreKind.TheVariants.{BadNumber, NotInProfile}
+use Rattle.cs_fields.specs.declared.field.InstrumentNumber.{InstrumentNumber}
+use Rattle.cs_fields.specs.{declared.field.Signed.Signed, declared.field.Field.Field}
+use Rattle.cs_fields.specs.declared.field.Field.TheVariants.{Number, Same, After, Ahead, Foreign, Unreadable}
 
 -- the bytes `< > ! [ { " ( ) ~ $ @ n p`, with which fields begin that the profile leaves out
 abbrev pub is_foreign : ℕ → Bool
@@ -47,6 +50,15 @@ field_of word =
     else if begins is_foreign word then Foreign
     else number_field (signed_of word)
 
+-- the number of a field at a place where no `+` may stand; a `.` that nothing fills is refused as `dot`
+abbrev pub number_of : ScoreKind → Field → Result Signed ScoreKind
+number_of dot (Number n) = Ok n
+number_of dot Same = Err dot
+number_of dot After = Err BadNumber
+number_of dot (Ahead x) = Err BadNumber
+number_of dot Foreign = Err NotInProfile
+number_of dot Unreadable = Err BadNumber
+
 -- a size with its sign
 abbrev pub with_sign : Bool → ℤ → ℤ
 with_sign minus z = if minus then neg_ℤ z else z
@@ -74,3 +86,7 @@ is_below_zero n = n.minus && (nat_lt 0 n.size.whole || nat_lt 0 n.size.billionth
 -- a time below 0, by the six digits that a time keeps
 abbrev pub is_negative_time : Signed → Bool
 is_negative_time n = n.minus && nat_lt 0 (size_of n)
+
+-- one instrument, and both a stop or neither
+abbrev pub is_same_instrument : InstrumentNumber → InstrumentNumber → Bool
+is_same_instrument a b = a.number == b.number && (if a.stop then b.stop else not b.stop)
