@@ -1,10 +1,11 @@
 -- Voices that stand at a moment, once some of its notes have left.
-use Rattle.std.proofs.Common.{◌≡◌, ◌≤◌, Bool, true, false, not, nat_lt, cond, List, ◌∷◌, filter, length, refl, sym, ap}
+use Rattle.std.proofs.Common.{◌≡◌, Bool, true, false, not, nat_lt, cond, List, ◌∷◌, filter, refl, sym, ap}
 use Rattle.std.proofs.Common.{[], subst, arith}
 use Rattle.std.specs.List.{AllZip}
-use Rattle.std.proofs.lemmas.{List.Filters.length-filter_both, List.Kept.IsNonDecreasingBy-filter}
+use Rattle.std.proofs.lemmas.List.Kept.{IsNonDecreasingBy-filter}
 use Rattle.cs_cells.specs.Cells.{Cells}
 use Rattle.cs_piece_meaning.specs.Moments.{Composition, Active, Moment}
+use Rattle.cs_roster.proofs.Growing.{fewer}
 use Rattle.cs_voice.specs.{VoiceData.VoiceData, declared.stage.Stage.Stage}
 use Rattle.cs_life.specs.{Leaving.stays, Leaving.without, declared.leaving.Leaving.Leaving, declared.life.Life.Life}
 use Rattle.cs_life.specs.Standing.{Plays, StandsFor, VoicesStand}
@@ -29,10 +30,6 @@ module _ (c : Composition) (stage : Stage) (flags : List Bool) where
         (cond (q a) (a ∷ filter q active) (filter q active))) (sym (agree v a p.0))
         (chosen v a (filter test voices) (filter q active) (q a) p.0 (kept_play voices active p.1))
     kept_play _ _ p = absurd p
-
--- no more pass a test than there are
-pub fewer : (test : VoiceData → Bool) (voices : List VoiceData) → length (filter test voices) ≤ length voices
-fewer test voices = omega (arith, length-filter_both test (λ v. not (test v)) (λ v. refl) voices)
 
 -- what stands at a moment, once those have left that don't pass a test
 pub kept_stand : (c : Composition) (stage : Stage) (flags : List Bool) (test : VoiceData → Bool) (q : Active → Bool)

@@ -7,7 +7,6 @@ mod Tabled
 mod Waited
 pub mod Beginning
 pub mod Begun
-pub mod Growing
 pub mod Heard
 pub mod Joining
 pub mod Left

@@ -10,13 +10,14 @@ use Rattle.cs_cells.specs.Cells.{Cells, cell}
 use Rattle.cs_piece_meaning.specs.Moments.{Composition, Active, Moment, placed}
 use Rattle.cs_piece_meaning.specs.Starts.{Start, entered, has_room, in_vain, joined}
 use Rattle.cs_ir.specs.Waves.{Wave}
-use Rattle.cs_life.proofs.Joining.{placed_is, stay_in_order}
-use Rattle.cs_life.proofs.{Places.zip_insert, Waits.SameOthers, Waits.count_up}
+use Rattle.cs_life.proofs.{Joining.placed_is, Places.zip_insert, Waits.SameOthers, Waits.count_up}
 use Rattle.cs_life.specs.Standing.{Plays, StandsFor, flags_of, kept_count}
 use Rattle.cs_life.specs.declared.life.Life.{Life}
-use Rattle.cs_life.specs.inner.Starting.{IsBegun, IsRefused, Joined, Wait, active_of}
+use Rattle.cs_life.specs.inner.Starting.{IsBegun, IsRefused, Wait, active_of}
 use Rattle.cs_meaning.specs.{Core.Block, Notes.Note, Plain.Cause, Plain.Plain}
 use Rattle.cs_piece.specs.VoicesOfNotes.{Hold}
+use Rattle.cs_roster.proofs.Joining.{still_in_order}
+use Rattle.cs_roster.specs.Roster.{Joined}
 use Rattle.cs_sched.specs.Waiting.{Queue}
 use Rattle.cs_voice.specs.declared.note.Started.{Started}
 use Rattle.cs_voice.specs.{VoiceData.VoiceData, VoiceMeaning.IsVoice, declared.stage.Stage.Stage}
@@ -127,7 +128,7 @@ module _ (c : Composition) (life : Life) (voices : List VoiceData) where
     -- it has started, and takes its place
     module _ (none : t.world.cause ≡ None) (lasts : 0 < s.cycles) (room : has_room s m ≡ true) (v : VoiceData)
         (plays : (age : ℕ) → Plays c life.stage life.made.items v (active_of now s body t age)) (after : List VoiceData)
-        (j : Joined v voices after) where
+        (j : Joined (λ (w : VoiceData). w.number) v voices after) where
       few_then : length after ≤ most_notes
       few_then =
           let one_more = length-insert voices j.place v j.within in
@@ -143,7 +144,7 @@ module _ (c : Composition) (life : Life) (voices : List VoiceData) where
       takes_place =
           ap (λ b. if b then m.active else placed n m.active) (lasting s.cycles lasts)
           ∙ placed_is c life.stage life.made.items voices m.active v n stands.stand.play (plays m.started).number
-          j.place j.within j.lower j.higher
+          after j
 
       in_place : StandsFor c (record life { started = min (life.started + 1) (2 ^ 64 - 1) }) after cells
           (record m { active = insert m.active j.place n; started = m.started + 1 })
@@ -156,9 +157,7 @@ module _ (c : Composition) (life : Life) (voices : List VoiceData) where
           play = subst (λ x. AllZip (Plays c life.stage life.made.items) x (insert m.active j.place n)) (sym j.is)
               (zip_insert (Plays c life.stage life.made.items) voices m.active j.place v n stands.stand.play
               (plays m.started));
-          in_order = subst (λ x. IsNonDecreasingBy (λ (w : VoiceData). w.number) x) (sym j.is)
-              (stay_in_order c life.stage life.made.items voices m.active v n stands.stand.play (plays m.started).number
-              j.place stands.stand.in_order j.within j.lower j.higher);
+          in_order = still_in_order (λ (w : VoiceData). w.number) voices v after stands.stand.in_order j;
           few = few_then;
         };
         due = stands.due;
@@ -183,7 +182,8 @@ module _ (c : Composition) (life : Life) (voices : List VoiceData) where
     pub live_so : (v : VoiceData) → IsVoice v → IsBegun c life.stage life.made.items now s body t (started.Live v)
         → has_room s m ≡ true
         → (after : List VoiceData) → (s.cycles ≡ 0 → after ≡ voices)
-        → (0 < s.cycles → IsNonDecreasingBy (λ (w : VoiceData). w.number) voices → Joined v voices after)
+        → (0 < s.cycles → IsNonDecreasingBy (λ (w : VoiceData). w.number) voices
+        → Joined (λ (w : VoiceData). w.number) v voices after)
         → StandsFor c (record life { started = min (life.started + 1) (2 ^ 64 - 1) }) after cells
         (entered now s body t t.world.cause m)
     live_so v valid begun room after brief lasts = ⊎_elim

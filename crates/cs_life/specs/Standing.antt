@@ -31,11 +31,6 @@ pub record Plays (c : Composition) (stage : Stage) (flags : List Bool) (v : Voic
   pub note : IsVoiceOf (sheet_at i v.age foot stage flags v.fields) of.plan of.kinds
       (sounding_on (sheet_at i v.age foot stage flags v.fields) v) a.note
 
--- These voices are the others, or more of them: as many are the same ones.
-pub record Grew (voices more : List VoiceData) : Type 0 where
-  pub many : length voices ≤ length more
-  pub same : length more ≡ length voices → more ≡ voices
-
 -- a count that is kept in 64 bits, and stays at their greatest number
 abbrev pub kept_count : ℕ → ℕ
 kept_count n = min n (2 ^ 64 - 1)

@@ -4,9 +4,10 @@ ghost use Rattle.std.specs.{List.All, List.Sorted.IsNonDecreasingBy};
 ghost use Rattle.cs_cells.specs.{Access.AllowsBelow, Areas.word_count};
 ghost use Rattle.cs_piece_meaning.specs.{Course.begins, Moments.Moment};
 ghost use Rattle.cs_piece_meaning.specs.Starts.{act_done, all_done, all_waited};
-ghost use Rattle.cs_life.specs.Standing.{Grew, StandsFor};
+ghost use Rattle.cs_life.specs.Standing.{StandsFor};
 ghost use Rattle.cs_life.specs.inner.Doing.{CanBeDone, CanGoOn, HasGoneOn};
 ghost use Rattle.cs_piece.specs.Setups.{composition_of};
+ghost use Rattle.cs_roster.specs.Roster.{Grew};
 ghost use Rattle.cs_tempo.specs.declared.plot.Event.{Event};
 
 use crate::leaving::Leaving;

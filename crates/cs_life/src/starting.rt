@@ -1,15 +1,15 @@
 // A note starts: it is initialised, what it asks for waits, and it takes its place among those that play.
-ghost use Rattle.std.specs.Prelude.{◌≡◌, ◌+◌, ◌<◌, ◌==◌, ◌||◌, ℕ, ℤ, pos, true, List, length, nat_lt, slice_index_or};
-ghost use Rattle.std.specs.{Prelude.OnOk, List.Sorted.IsNonDecreasingBy};
+ghost use Rattle.std.specs.Prelude.{◌≡◌, ◌+◌, ◌==◌, ◌||◌, ℕ, ℤ, pos, true, List, OnOk, nat_lt, slice_index_or};
 ghost use Rattle.cs_base.specs.Limits.{most_notes};
 ghost use Rattle.cs_cells.specs.{Access.AllowsBelow, Areas.word_count, Cells.Cells};
 ghost use Rattle.cs_piece_meaning.specs.{Moments.Composition, Moments.Moment, Moments.clock_of, Starts.start_of};
 ghost use Rattle.cs_piece_meaning.specs.Starts.{Start, begun, entered, has_room, in_vain, initialised, start_in};
-ghost use Rattle.cs_life.specs.Standing.{Grew, StandsFor};
-ghost use Rattle.cs_life.specs.inner.Starting.{IsBegun, Joined, Wait, all_wanted, count_after};
+ghost use Rattle.cs_life.specs.Standing.{StandsFor};
+ghost use Rattle.cs_life.specs.inner.Starting.{IsBegun, Wait, all_wanted, count_after};
 ghost use Rattle.cs_meaning.specs.{Core.Block, Notes.Note, Plain.Plain};
 ghost use Rattle.cs_sched.specs.Times as times;
 ghost use Rattle.cs_piece.specs.{Ready.IsInstrumentOf, Setups.composition_of};
+ghost use Rattle.cs_roster.specs.Roster.{Grew};
 ghost use Rattle.cs_voice.specs.VoiceData.{VoiceData};
 
 use crate::life::Life;
@@ -17,9 +17,21 @@ use cs_base::{MOST_NOTES, Num, OutOfMemory};
 use cs_cells::{Bank, Job};
 use cs_ir::Ask;
 use cs_piece::Playable;
+use cs_roster::{Numbering, join};
 use cs_sched::{Added, Asking, Due, Pending};
 use cs_voice::{NewNote, Started, Voice, start};
 use std::alloc::Global;
+
+/// Voices play in the order of their instruments' numbers.
+pub(crate) struct ByInstrument;
+
+impl<'t> Numbering<Voice<'t>> for ByInstrument {
+    ghost number = { λ v. v.number };
+
+    fn number(voice: &Voice<'t>) -> u32 {
+        voice.number()
+    }
+}
 
 impl<'t> Life<'t> {
     /// A note starts in its cycle. Where its instrument isn't there, where it would be one note too many, and where
@@ -148,7 +160,7 @@ impl<'t> Life<'t> {
         };
         // What is so of each voice is so of this one.
         let _ = voice.footprint();
-        keep(voice, cycles, voices)?;
+        join::<ByInstrument, _>(voice, cycles, voices)?;
         self.started = self.started.saturating_add(1);
         Ok(())
     }
@@ -205,29 +217,4 @@ fn count_after(answer: Added, count: u64) -> u64
         Added::Kept => count,
         _ => count.saturating_add(1),
     }
-}
-
-/// A voice that lasts any cycle is kept among those that play.
-fn keep<'t>(voice: Voice<'t>, cycles: u32, voices: &mut Vec<Voice<'t>>) -> Result<(), OutOfMemory>
-    ensures grown { OnOk result (Grew voices.old.items voices.new.items) }
-    ensures brief { cycles ≡ 0 → voices.new.items ≡ voices.old.items }
-    ensures lasting { OnOk result (0 < cycles → IsNonDecreasingBy (λ (v : VoiceData). v.number) voices.old.items
-        → Joined voice.entry voices.old.items voices.new.items) }
-{
-    if cycles == 0 {
-        return Ok(());
-    }
-    join(voice, voices)
-}
-
-/// A voice takes its place among those that play, behind all of its number and lower ones.
-fn join<'t>(voice: Voice<'t>, voices: &mut Vec<Voice<'t>>) -> Result<(), OutOfMemory>
-    ensures joined { OnOk result (IsNonDecreasingBy (λ (v : VoiceData). v.number) voices.old.items
-        → Joined voice.entry voices.old.items voices.new.items) }
-    ensures more { OnOk result (length voices.new.items ≡ length voices.old.items + 1) }
-{
-    let number = voice.number();
-    let place = voices.partition_point(|other| other.number() <= number);
-    voices.insert(place, voice)?;
-    Ok(())
 }

@@ -1,13 +1,12 @@
 -- Steps of a start.
-use Rattle.std.specs.Prelude.{ℕ, ℤ, ◌≡◌, ◌≤◌, ◌<◌, ◌+◌, ◌-◌, ◌^◌, Bool, List, [], ◌∷◌, length, min, Some, None}
-use Rattle.std.specs.List.{AllWithin, insert}
+use Rattle.std.specs.Prelude.{ℕ, ℤ, ◌≡◌, ◌+◌, ◌-◌, ◌^◌, Bool, List, [], ◌∷◌, min, Some, None}
 use Rattle.cs_piece_meaning.specs.{Moments.Composition, Moments.Active, Moments.Moment, Starts.Start, Starts.asked}
 use Rattle.cs_ir.specs.declared.ask.Ask.{Ask}
 use Rattle.cs_life.specs.Standing.{Plays, kept_count}
 use Rattle.cs_meaning.specs.{Core.Block, Notes.Note, Plain.Cause, Plain.Plain}
 use Rattle.cs_sched.specs.{Waiting.Queue, Waiting.waiting, declared.pending.Added.Added}
 use Rattle.cs_voice.specs.declared.note.Started.{Started}
-use Rattle.cs_voice.specs.{VoiceData.VoiceData, VoiceMeaning.IsVoice, declared.stage.Stage.Stage}
+use Rattle.cs_voice.specs.{VoiceMeaning.IsVoice, declared.stage.Stage.Stage}
 use Rattle.cs_sched.specs.declared.pending.Added.TheVariants as added
 use Rattle.cs_voice.specs.declared.note.Started.TheVariants as started
 
@@ -42,11 +41,3 @@ pub record Wait (pending : Queue) (not_started : ℕ) (m : Moment) : Type 0 wher
   pub due : (cycle : ℕ) → (waiting pending).due cycle ≡ m.waiting.due cycle
   pub kept : (waiting pending).kept ≡ m.waiting.kept
   pub count : not_started ≡ kept_count m.not_started
-
--- A voice was put in behind all of its number and lower ones, and before all of higher ones.
-pub record Joined (voice : VoiceData) (voices after : List VoiceData) : Type 0 where
-  pub place : ℕ
-  pub within : place ≤ length voices
-  pub lower : AllWithin (λ (v : VoiceData). v.number ≤ voice.number) voices 0 place
-  pub higher : AllWithin (λ (v : VoiceData). voice.number < v.number) voices place (length voices)
-  pub is : after ≡ insert voices place voice

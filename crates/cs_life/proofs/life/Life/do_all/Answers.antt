@@ -3,7 +3,8 @@ use Rattle.std.proofs.lemmas.List.{take_all}
 use Rattle.cs_piece_meaning.specs.Starts.{all_done}
 use Rattle.cs_piece.specs.Setups.{composition_of}
 use Rattle.cs_life.specs.inner.Doing.{HasGoneOn}
-use Rattle.cs_life.proofs.{Growing.grew_again, Growing.grew_none, Going.event_can, Going.event_done, Going.goes_on}
+use Rattle.cs_life.proofs.Going.{event_can, event_done, goes_on}
+use Rattle.cs_roster.proofs.Growing.{grew_again, grew_none}
 use Rattle.cs_life.proofs.life.Life.do_all.Goals as goal
 
 pub loop-event-init : goal.loop-event-init
