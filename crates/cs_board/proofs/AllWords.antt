@@ -66,8 +66,7 @@ module _ {J : Type 0} (k : Plan J) (w : Words) (s : IsSized k w) where
   set_past_cells i x = one_set 0 (w.cells ++ after_cells) (length k.cells + i) x
       ∙ ap (λ r. 0 ∷ r) (past_set w.cells after_cells (length k.cells) i x s.cells)
 
-  set_past_turns : (i x : ℕ)
-      → set (all_words w) (1 + (length k.cells + (area_count k + i))) x ≡ 0 ∷ w.cells
+  set_past_turns : (i x : ℕ) → set (all_words w) (1 + (length k.cells + (area_count k + i))) x ≡ 0 ∷ w.cells
       ++ (w.turns ++ set after_turns i x)
   set_past_turns i x = set_past_cells (area_count k + i) x
       ∙ ap (λ r. 0 ∷ w.cells ++ r) (past_set w.turns after_turns (area_count k) i x s.turns)

@@ -40,8 +40,7 @@ module _ {J : Type 0} (M : Meaning J) (k : Plan J) where
   word_kept s h i = set-get_or s.words i 0 ∙ h.words
 
   pub word_set : (s : State (Berth J) (View J)) (h : Holds M k s) (i x : ℕ) (p : Words)
-      → set (all_words h.parts) i x ≡ all_words p
-      → slice_set s.words i x ≡ all_words p
+      → set (all_words h.parts) i x ≡ all_words p → slice_set s.words i x ≡ all_words p
   word_set s h i x p e = ap (λ ws. set ws i x) h.words ∙ e
 
   pub status_is : (s : State (Berth J) (View J)) (h : Holds M k s) (t : ℕ) → t < k.notes
@@ -174,8 +173,7 @@ module _ {J : Type 0} (M : Meaning J) (k : Plan J) where
     )
 
     pub finishes : (d : Doing) → m.0.doing ≡ Some d → d.held ≡ false → d.phase ≡ 1 + length (places_written M k d.note)
-        → m.0.spent ≡ false
-        → Allows (Holds M k) n id m (status_at k d.note) (λ _. 3)
+        → m.0.spent ≡ false → Allows (Holds M k) n id m (status_at k d.note) (λ _. 3)
         (λ _. finished (step n (status_at k d.note) 3 0 none) m 3)
     finishes d doing free phase live s h deep here fits =
         let running : at h.parts.status d.note ≡ 2 = busy k h.parts.status s.views h.facts.doers id m.0 d here doing in
@@ -194,8 +192,7 @@ module _ {J : Type 0} (M : Meaning J) (k : Plan J) where
         )
 
     pub closes_edge : (e q t i : ℕ) → Edge k.edges e q t → m.0.closing ≡ Some (record { note = q; from = i })
-        → m.0.moving ≡ None → i ≤ e
-        → ((g u : ℕ) → Edge k.edges g q u → i ≤ g → e ≤ g) → m.0.spent ≡ false
+        → m.0.moving ≡ None → i ≤ e → ((g u : ℕ) → Edge k.edges g q u → i ≤ g → e ≤ g) → m.0.spent ≡ false
         → Allows (Holds M k) n id m (watch_at k e) (λ _. 2) (closed (step n (watch_at k e) 2 0 none) m)
     closes_edge e q t i edge closing no_moving low first live s h deep here fits =
         let near : e < edge_count k = slice_get_within k.edges e (q, t) edge in

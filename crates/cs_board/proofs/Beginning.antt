@@ -29,8 +29,7 @@ module _ {J : Type 0} (k : Plan J) where
         (h.sized.watch ∙ sym (length-each_below (first_watch k.edges) (edge_count k)))
         (λ i l. h.watch i (omega (arith, l, h.sized.watch)) (omega (arith, l, h.sized.watch))
         ∙ sym (at_each_below (first_watch k.edges) (edge_count k) i (omega (arith, l, h.sized.watch)))) in
-        h.words ∙ (λ i. all_words
-        (record {
+        h.words ∙ (λ i. all_words (record {
           cells = h.parts.cells;
           turns = h.turns i;
           status = status i;
@@ -59,8 +58,7 @@ module _ {J : Type 0} where
           note = λ d e. absurd (let n : None ≡ Some d = ap (λ v. v.doing) (sym sees) ∙ e in cc);
           room = subst (λ v. HasRoom k v seat) (sym sees)
               (subst (λ r. MatchOption r (true ≡ false) (λ z. (true ≡ true) × (z.items ≡ [])
-              × (k.notes ≤ vec_capacity z)))
-              (sym room) (refl, empty, long));
+              × (k.notes ≤ vec_capacity z))) (sym room) (refl, empty, long));
         },
         sees,
       )

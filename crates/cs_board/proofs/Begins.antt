@@ -45,22 +45,19 @@ module _ {J : Type 0} (M : Meaning J) (F : Frames M) (k : Plan J) (plan : IsPlan
         doers = doers_step k vs id v w here st st' (λ u. omega (
           arith,
           put_counts st t 2 1 2 u near is,
-          ap
-              (doing_on u) idle,
+          ap (doing_on u) idle,
         )) f.doers;
         watches = watches_still k vs id v w here st st' p.watch refl refl (three_still st t 2 1 near is refl)
             (λ u z. ⊎_elim (λ h. omega (arith, h.1)) (λ h. sym h.1 ∙ z) (put_cases st t 2 u near))
             (λ u z. ⊎_elim (λ h. omega (arith, h.1)) (λ h. sym h.1 ∙ z) (put_cases st t 2 u near))
             (λ u z y. ⊎_elim (λ h. let e : at st u ≡ 1 = ap (at st) h.0 ∙ is in omega arith) (λ h. z (h.1 ∙ y))
-            (put_cases st t 2 u near))
-            f.watches;
+            (put_cases st t 2 u near)) f.watches;
         tallied = tallied_step k vs id v w here st st'
             (λ u z. ⊎_elim (λ h. absurd (omega (arith, h.1, z)))
             (λ h. inr (sym h.1 ∙ z, omega (arith, times-without u t v.owes h.0))) (put_cases st t 2 u near))
             (λ u q l root. inl q)
             (λ u z. ⊎_elim (λ h. omega (arith, h.1)) (λ h. omega (arith, h.1)) (put_cases st t 2 u near))
-            (λ u. omega (arith, three_still st t 2 1 near is refl u))
-            f.tallied;
+            (λ u. omega (arith, three_still st t 2 1 near is refl u)) f.tallied;
         seats = seats_step k vs id v w here refl (λ x. refl) refl refl f.seats;
         owned = owned_step k vs id v w here st st' p.own p.own (λ u.
             let a : ran_note u v ≡ 0 = ap (ran_on u) idle in
@@ -73,8 +70,7 @@ module _ {J : Type 0} (M : Meaning J) (F : Frames M) (k : Plan J) (plan : IsPlan
             let at_t : slice_get k.jobs t ≡ Some j = ap (slice_get k.jobs) note ∙ at_ in
             let home : get_elem? hs t ≡ some (some (Full (job_if M k (at st t == 3) t j))) =
             f.slots.home t j at_t (λ z. omega arith) in
-            ap (get_elem? hs) (sym note) ∙ home
-            ∙ ap (λ n. some (some (Full (job_if M k (n == 3) t j)))) is
+            ap (get_elem? hs) (sym note) ∙ home ∙ ap (λ n. some (some (Full (job_if M k (n == 3) t j)))) is
             ∙ ap (λ n. some (some (Full (job_if M k (nat_le 1 n) t j)))) phase
             ∙ ap (λ n. some (some (Full (job_if M k (nat_le 1 d.phase) n j)))) note)
             (λ d e held. absurd (let z : true ≡ false =
@@ -82,8 +78,7 @@ module _ {J : Type 0} (M : Meaning J) (F : Frames M) (k : Plan J) (plan : IsPlan
         stored = stored_step M F k plan st p.watch p.cells vs id v w here f.gates st' (alike st t 2 1 near is refl)
             (λ u z. ⊎_elim (λ h. h.1) (λ h. h.1 ∙ z) (put_cases st t 2 u near))
             (λ d e. subst (Pictured M k p.cells) (ap (λ z. fresh M z t) (sym v_plan) ∙ same_Some _ _ e)
-            (pictured_fresh M F k plan st p.watch p.cells vs id v w here f.gates t low is f.stored))
-            f.stored;
+            (pictured_fresh M F k plan st p.watch p.cells vs id v w here f.gates t low is f.stored)) f.stored;
         turned = turned_still M k st vs id v w here st' p.turns (alike st t 2 1 near is refl)
             (λ r. sym (ap (turned_in M k r) idle)) f.turned;
       }
@@ -95,8 +90,7 @@ module _ {J : Type 0} (M : Meaning J) (F : Frames M) (k : Plan J) (plan : IsPlan
       let begun : (u : ℕ) → u < k.notes → IsRoot k u → at p.status u ≢ 1 → 2 ≤ at p.status u = λ u low root n. ⊎_elim
       (λ (z : at p.status u ≡ 0). let h =
       f.watches.waits u low z in absurd (root h.some_edge.0 h.some_edge.1 h.some_edge.2))
-      (λ (y : at p.status u ≢ 0). omega arith)
-      (cases_eq (at p.status u) 0) in
+      (λ (y : at p.status u ≢ 0). omega arith) (cases_eq (at p.status u) 0) in
       record {
         gates = f.gates;
         sane = sane_step k vs id v w here
@@ -108,16 +102,13 @@ module _ {J : Type 0} (M : Meaning J) (F : Frames M) (k : Plan J) (plan : IsPlan
         tallied = tallied_step k vs id v w here st st
             (λ u z. ⊎_elim
             (λ (e : u ≡ t). absurd (is (ap (at st) (sym e) ∙ z)))
-            (λ (n : u ≢ t). inr (z, omega (arith, times-without u t v.owes n)))
-            (cases_eq u t))
+            (λ (n : u ≢ t). inr (z, omega (arith, times-without u t v.owes n))) (cases_eq u t))
             (λ u q low root. ⊎_elim
             (λ old. inl (q.0, q.1, old.0))
             (λ new. let e : t ≡ u = ap (λ x. x.0) (sym new.1) in
-            inr (begun u low root (λ z. is (ap (at st) e ∙ z))))
-            (at_push v.found (t, v.tries + 1) q.0 (u, q.1) q.2))
+            inr (begun u low root (λ z. is (ap (at st) e ∙ z)))) (at_push v.found (t, v.tries + 1) q.0 (u, q.1) q.2))
             (λ u z. z)
-            (λ u. refl)
-            f.tallied;
+            (λ u. refl) f.tallied;
         seats = seats_step k vs id v w here refl (λ x. refl) refl refl f.seats;
         owned = owned_step k vs id v w here st st p.own p.own (λ u. refl) f.owned;
         slots = slots_step M k vs id v w here st st hs hs f.slots.home
@@ -130,8 +121,7 @@ module _ {J : Type 0} (M : Meaning J) (F : Frames M) (k : Plan J) (plan : IsPlan
 
   -- a step of the note that the view does
   pub facts_does : (p' : Words) (hs' : List (maybe.Option (Berth J))) (d d' : Doing) → p'.status ≡ p.status
-      → p'.watch ≡ p.watch → v.doing ≡ Some d
-      → d'.note ≡ d.note → v.spent ≡ false
+      → p'.watch ≡ p.watch → v.doing ≡ Some d → d'.note ≡ d.note → v.spent ≡ false
       → Owned p.status p'.own (set vs id (does v d')) → Slots M k p.status hs' (set vs id (does v d'))
       → Stored M k p.status p'.cells (set vs id (does v d'))
       → Turned M k p.status p'.turns (set vs id (does v d')) → Facts M k p' hs' (set vs id (does v d'))
@@ -143,8 +133,7 @@ module _ {J : Type 0} (M : Meaning J) (F : Frames M) (k : Plan J) (plan : IsPlan
             (λ s. sane_live k v w live refl refl refl refl refl
             (⊎_elim (λ none. absurd (let e : Some d ≡ None = sym doing ∙ none in cc)) (λ both. inr both) s.one_duty)
             s.owes_in s) f.sane;
-        doers = subst (λ x. Doers k x (set vs id w)) (sym same_status)
-            (doers_step k vs id v w here st st
+        doers = subst (λ x. Doers k x (set vs id w)) (sym same_status) (doers_step k vs id v w here st st
             (λ u. ap (λ n. n + same (at p.status u) 2) (ap (λ n. same n u) note
             ∙ sym (ap (doing_on u) doing))) f.doers);
         watches = subst (λ x. Watches k x p'.watch (set vs id w)) (sym same_status)
@@ -153,8 +142,7 @@ module _ {J : Type 0} (M : Meaning J) (F : Frames M) (k : Plan J) (plan : IsPlan
             f.watches));
         tallied = subst (λ x. Tallied k x (set vs id w)) (sym same_status)
             (tallied_step k vs id v w here st st (λ u z. inr (z, omega arith)) (λ u q l root. inl q) (λ u z. z)
-            (λ u. refl)
-            f.tallied);
+            (λ u. refl) f.tallied);
         seats = seats_step k vs id v w here refl (λ x. refl) refl refl f.seats;
         owned = subst (λ x. Owned x p'.own (set vs id w)) (sym same_status) owned;
         slots = subst (λ x. Slots M k x hs' (set vs id w)) (sym same_status) slots;

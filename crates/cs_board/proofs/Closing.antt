@@ -35,13 +35,11 @@ row_of [] (x ∷ js) n l full vacant = absurd (omega arith)
 row_of (h ∷ hs) [] zero l full vacant = absurd (omega arith)
 row_of (h ∷ hs) [] (suc n) l full vacant =
     let here : h ≡ some Vacant = some-injective _ _ (vacant 0 (omega arith) (omega arith)) in
-    ap (λ z. home_in z ∷ map home_in hs) here
-    ∙ ap (λ z. Some Vacant ∷ z)
+    ap (λ z. home_in z ∷ map home_in hs) here ∙ ap (λ z. Some Vacant ∷ z)
     (row_of hs [] n (omega arith) (λ i x at_. absurd (cc)) (λ i far near. vacant (suc i) (omega arith) (omega arith)))
 row_of (h ∷ hs) (x ∷ js) n l full vacant =
     let here : h ≡ some (Full x) = some-injective _ _ (full 0 x refl) in
-    ap (λ z. home_in z ∷ map home_in hs) here
-    ∙ ap (λ z. Some (Full x) ∷ z)
+    ap (λ z. home_in z ∷ map home_in hs) here ∙ ap (λ z. Some (Full x) ∷ z)
     (row_of hs js n (omega arith) (λ i z at_. full (suc i) z at_)
     (λ i far near. vacant (suc i) (omega arith) (omega arith)))
 
@@ -96,10 +94,8 @@ module _ {J : Type 0} (M : Meaning J) (F : Frames M) (k : Plan J) (plan : IsPlan
       (λ (c : at p.watch h.edge ≡ 2). omega (arith, c, a.2))
       (λ (c : 0 < total (closes_by a.0 h.edge) vs). omega (arith, c, none_closes a.0 h.edge))
       (f.watches.left h.edge a.0 t a.1 (all_done n a.0 (omega (arith, forward.0)) (omega (arith, forward.0)))))
-      (λ b. omega (arith, b.1, none_moves t))
-      h.who))
-      (λ d. d)
-      (still_or_done t)
+      (λ b. omega (arith, b.1, none_moves t)) h.who))
+      (λ d. d) (still_or_done t)
 
   pub done : (t : ℕ) → t < k.notes → at p.status t ≡ 3
   done t low = all_done (suc t) t (omega arith) low
@@ -110,9 +106,7 @@ module _ {J : Type 0} (M : Meaning J) (F : Frames M) (k : Plan J) (plan : IsPlan
       h.value (λ t l two. absurd (omega (arith, two, done t l)))
       ∙ sym (quiet M F k plan h.upto k.notes a h.within (λ q m l. ⊎_elim
       (λ w. absurd (h.later q m l w (done q l)))
-      (λ w. w)
-      (cases_Bool (writes_at M k q a))))
-      ∙ ap (λ n. cell (before_at M k n) a) (sym plan.jobs)
+      (λ w. w) (cases_Bool (writes_at M k q a)))) ∙ ap (λ n. cell (before_at M k n) a) (sym plan.jobs)
       ∙ ap (λ c. cell c a) (before-all M k.jobs k.cells)
 
   pub end_cells : values p.cells ≡ serial_cells M k.jobs k.cells
@@ -148,8 +142,7 @@ module _ {J : Type 0} (M : Meaning J) (F : Frames M) (k : Plan J) (plan : IsPlan
           let at_ : slice_get k.jobs t ≡ Some j = slice_get-get_or k.jobs t x (omega (arith, low, plan.jobs)) in
           let d : at p.status t ≡ 3 = done t low in
           let z : Some (M.after j (before_at M k t)) ≡ Some x = sym (job_at M k.jobs k.cells t j at_) ∙ is in
-          f.slots.home t j at_ (λ two. omega (arith, two, d))
-          ∙ ap (λ n. some (some (Full (job_if M k (n == 3) t j)))) d
+          f.slots.home t j at_ (λ two. omega (arith, two, d)) ∙ ap (λ n. some (some (Full (job_if M k (n == 3) t j)))) d
           ∙ ap (λ o. some (some (Full o))) (same_Some _ _ z)
 
   -- each note stands once among those of the last seat

@@ -17,8 +17,7 @@ pub listed_contains : (xs : List ℕ) (x : ℕ) → listed xs x ≡ true → Con
 listed_contains [] x h = absurd (cc)
 listed_contains (y ∷ ys) x h = ⊎_elim
     (λ e. (0, omega arith, eqb-true y x e))
-    (λ r. let c = listed_contains ys x r in (suc c.0, omega (arith, c.1), c.2))
-    (or_cases (y == x) (listed ys x) h)
+    (λ r. let c = listed_contains ys x r in (suc c.0, omega (arith, c.1), c.2)) (or_cases (y == x) (listed ys x) h)
 
 pub contains_listed : (xs : List ℕ) (i x : ℕ) → i < length xs → get_or xs i x ≡ x → listed xs x ≡ true
 contains_listed [] i x l e = absurd (omega arith)
@@ -108,8 +107,7 @@ module _ {J : Type 0} (M : Meaning J) where
         covers_in areas Q c.0 x.1 a c.1 c.2 x.3
       where
         covers_in : (areas : List Area) (Q : List ℕ) (i r a : ℕ) → i < length Q → get_or Q i r ≡ r
-            → in_area (slice_get areas r) a ≡ true
-            → covers areas Q a ≡ true
+            → in_area (slice_get areas r) a ≡ true → covers areas Q a ≡ true
         covers_in areas [] i r a l e h = absurd (omega arith)
         covers_in areas (y ∷ ys) zero r a l e h =
             or_left (in_area (slice_get areas y) a) (covers areas ys a)
@@ -147,8 +145,7 @@ module _ {J : Type 0} (M : Meaning J) where
         let x = covered_place k.areas (places_used M k t) a h in
         let f = uses_foot t x.1 (contains_at (places_used M k t) x.0 x.1 x.2) in (
           omega (arith, covered_below k.areas (places_used M k t) a plan.laid h, plan.cells),
-          omega
-              (arith, f.0, plan.jobs),
+          omega (arith, f.0, plan.jobs),
         )
 
     -- all earlier conflicting notes of a note that isn't Waiting are Done

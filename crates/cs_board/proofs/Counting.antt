@@ -21,8 +21,7 @@ count_more P Q t (suc n) l f h = ⊎_elim
     let c : one (Q n) ≡ one (Q t) = ap (λ u. one (Q u)) e in omega arith)
     (λ (d : n ≢ t).
     let a : count_below Q n ≡ count_below P n + one (Q t) = count_more P Q t n (omega arith) f h in
-    let b : one (Q n) ≡ one (P n) = ap one (h n d) in omega arith)
-    (cases_eq n t)
+    let b : one (Q n) ≡ one (P n) = ap one (h n d) in omega arith) (cases_eq n t)
 
 -- only numbers below t pass
 pub count_cut : (P Q : ℕ → Bool) (t n : ℕ) → t ≤ n → ((u : ℕ) → u < t → P u ≡ Q u)
@@ -32,8 +31,7 @@ count_cut P Q t (suc n) l h f = ⊎_elim
     (λ (e : t ≡ suc n). count_same P Q (suc n) (λ u m. h u (omega arith)) ∙ ap (count_below Q) (sym e))
     (λ (d : t ≢ suc n).
     let a : count_below P n ≡ count_below Q t = count_cut P Q t n (omega arith) h (λ u m o. f u m (omega arith)) in
-    let b : one (P n) ≡ 0 = ap one (f n (omega arith) (omega arith)) in omega arith)
-    (cases_eq t (suc n))
+    let b : one (P n) ≡ 0 = ap one (f n (omega arith) (omega arith)) in omega arith) (cases_eq t (suc n))
 
 pub count_le : (P : ℕ → Bool) (n : ℕ) → count_below P n ≤ n
 count_le P zero = omega arith

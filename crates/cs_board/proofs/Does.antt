@@ -18,8 +18,7 @@ module _ {J : Type 0} (k : Plan J) (st : List ℕ) (vs : List (View J)) (D : Doe
       (same_cases (at st d.note) 2)
 
   pub apart : (i j : ℕ) (x y : View J) (d e : Doing) → i ≢ j → get_elem? vs i ≡ some x → get_elem? vs j ≡ some y
-      → x.doing ≡ Some d → y.doing ≡ Some e
-      → d.note ≢ e.note
+      → x.doing ≡ Some d → y.doing ≡ Some e → d.note ≢ e.note
   apart i j x y d e n a b p q s =
       let one_x : does_note e.note x ≡ 1 = ap (λ t. does_note t x) (sym s) ∙ does_one x d p in
       let one_y : does_note e.note y ≡ 1 = does_one y e q in

@@ -74,25 +74,21 @@ module _ {J : Type 0} (M : Meaning J) (F : Frames M) (k : Plan J) (plan : IsPlan
             (put_cases st d.note 3 t near))))
             (λ t n. total_keeps k vs id v w here (moves t) refl ∙ f.watches.calm t (λ z. ⊎_elim
             (λ h. let a : at st t ≡ 2 = ap (at st) h.0 ∙ running in omega arith)
-            (λ h. n (h.1 ∙ z))
-            (put_cases st d.note 3 t near)))
-            (λ t n. total_keeps k vs id v w here (moves t) refl ∙ f.watches.moving_in t n)
-            f.watches;
+            (λ h. n (h.1 ∙ z)) (put_cases st d.note 3 t near)))
+            (λ t n. total_keeps k vs id v w here (moves t) refl ∙ f.watches.moving_in t n) f.watches;
         tallied = tallied_step k vs id v w here st st'
             (λ u z. ⊎_elim (λ h. absurd (omega (arith, h.1, z))) (λ h. inr (sym h.1 ∙ z, omega arith))
             (put_cases st d.note 3 u near))
             (λ u q l root. inl q)
             (λ u z. ⊎_elim (λ h. omega (arith, h.1)) (λ h. omega (arith, h.1)) (put_cases st d.note 3 u near))
-            (λ u. omega (arith, put_counts st d.note 3 2 3 u near running, times-snoc u v.mine d.note))
-            f.tallied;
+            (λ u. omega (arith, put_counts st d.note 3 2 3 u near running, times-snoc u v.mine d.note)) f.tallied;
         seats = seats_step k vs id v w here refl (λ x. refl) refl refl f.seats;
         owned = owned_step k vs id v w here st st' p.own p.own
             (λ u. let mine = ap (ran_on u) doing ∙ ap (λ b. one (d.note == u && b)) has_run ∙ one_and (d.note == u) in
             omega (arith, put_counts st d.note 3 2 3 u near running, mine)) f.owned;
         slots = slots_done M k vs id v w here st hs d near running doing free has_run refl f.slots;
         stored = stored_done M F k plan st p.watch p.cells vs id v w here f.gates d f.doers doing
-            (omega arith) refl near
-            within f.stored;
+            (omega arith) refl near within f.stored;
         turned = turned_done M k st vs id v w here p.turns d doing refl running near within phase f.turned;
       }
 
@@ -125,8 +121,7 @@ module _ {J : Type 0} (M : Meaning J) (F : Frames M) (k : Plan J) (plan : IsPlan
 
   -- a Waiting note whose edges a step leaves, and which nobody begins or ends to move
   pub waits_moved : (w : View J) (wt' : List ℕ) (u : ℕ) → ((e q : ℕ) → Edge k.edges e q u → at wt' e ≡ at p.watch e)
-      → moves u w ≡ moves u v
-      → ((i : ℕ) → moves_at u i w ≡ moves_at u i v)
+      → moves u w ≡ moves u v → ((i : ℕ) → moves_at u i w ≡ moves_at u i v)
       → Waits k p.watch vs u → Waits k wt' (set vs id w) u
   waits_moved w wt' u edges m ma h = record {
     edge = h.edge;
@@ -136,8 +131,7 @@ module _ {J : Type 0} (M : Meaning J) (F : Frames M) (k : Plan J) (plan : IsPlan
         (λ a. inl (a.0, a.1, edges h.edge a.0 a.1 ∙ a.2, total_keeps k vs id v w here (moves u) m ∙ a.3))
         (λ b. inr (
           (λ q edge z. b.0 q edge (sym (edges h.edge q edge) ∙ z)),
-          total_keeps k vs id v w here (moves u) m
-              ∙ b.1,
+          total_keeps k vs id v w here (moves u) m ∙ b.1,
           total_keeps k vs id v w here (moves_at u h.edge) (ma h.edge) ∙ b.2,
         ))
         h.who;
@@ -172,16 +166,14 @@ module _ {J : Type 0} (M : Meaning J) (F : Frames M) (k : Plan J) (plan : IsPlan
         (λ a. absurd (omega (arith, a.3, total_le (moves t) vs id v here, mine)))
         (λ b. let tight : moves_at t h.edge v ≡ moves t v =
         total_tight (moves_at t h.edge) (moves t) vs id v (λ x. at_less t h.edge x.moving) (b.2 ∙ sym b.1) here in
-        (b.0, b.1, sym (at_from t i h.edge (sym (ap (spot_at t h.edge) moving) ∙ tight ∙ mine))))
-        h.who
+        (b.0, b.1, sym (at_from t i h.edge (sym (ap (spot_at t h.edge) moving) ∙ tight ∙ mine)))) h.who
 
     pub others_moves : (u j : ℕ) → u ≢ t → (moves u v ≡ 0) × (moves_at u j v ≡ 0)
     others_moves u j n = grind (arith, common_steps, at_else, on_else)
 
   -- edge e of the note that is being closed is Closed
   pub facts_shut : (e q t i : ℕ) → Edge k.edges e q t → v.plan ≡ k → v.closing ≡ Some (record { note = q; from = i })
-      → v.moving ≡ None → i ≤ e
-      → ((g u : ℕ) → Edge k.edges g q u → i ≤ g → e ≤ g) → v.spent ≡ false
+      → v.moving ≡ None → i ≤ e → ((g u : ℕ) → Edge k.edges g q u → i ≤ g → e ≤ g) → v.spent ≡ false
       → Facts M k (record p { watch = set p.watch e 2 }) hs (set vs id (shut v e q t (at p.watch e)))
   facts_shut e q t i edge v_plan closing no_moving low first live =
       facts_aside w (set p.watch e 2) idle idle refl refl refl refl (λ x. refl) refl refl
@@ -190,11 +182,9 @@ module _ {J : Type 0} (M : Meaning J) (F : Frames M) (k : Plan J) (plan : IsPlan
       (λ s. sane_live k v w live refl refl refl refl refl (inl idle) s.owes_in s)
       (watches_step k vs id v w here p.status p.status p.watch (set p.watch e 2)
       (λ r. let a : closes r v ≡ same q r = ap (spot_on r) closing in let b : closes r w ≤ same q r =
-      closing_on v.plan.edges q (e + 1) r in omega arith)
-      goes waits
+      closing_on v.plan.edges q (e + 1) r in omega arith) goes waits
       (λ u n. still u (λ z c. n (ap (at p.status) z ∙ watcher_waits c)) ∙ f.watches.calm u n)
-      (λ u n. still u (λ z c. let l = (plan.forward e q t edge).1 in omega arith) ∙ f.watches.moving_in u n)
-      f.watches)
+      (λ u n. still u (λ z c. let l = (plan.forward e q t edge).1 in omega arith) ∙ f.watches.moving_in u n) f.watches)
     where
       w : View J
       w = shut v e q t (at p.watch e)
@@ -212,8 +202,7 @@ module _ {J : Type 0} (M : Meaning J) (F : Frames M) (k : Plan J) (plan : IsPlan
             z.1,
             f.watches.closing q,
             total_le (closes q) vs id v here,
-            ap (spot_on q)
-                closing,
+            ap (spot_on q) closing,
             on_here q i,
           )))
           (same_cases (at p.status q) 3)
@@ -241,23 +230,19 @@ module _ {J : Type 0} (M : Meaning J) (F : Frames M) (k : Plan J) (plan : IsPlan
       same_moves u n = ⊎_elim
           (λ c. let d : t ≢ u = λ z. n (sym z) c in (
             ap (spot_on u) (found_move c) ∙ on_else t u (e + 1) d ∙ sym (no_move u),
-            λ j. ap (spot_at u j) (found_move c)
-                ∙ at_else t u (e + 1) j d ∙ sym (no_move_at u j),
+            λ j. ap (spot_at u j) (found_move c) ∙ at_else t u (e + 1) j d ∙ sym (no_move_at u j),
           ))
           (λ c. (
             ap (spot_on u) (lost_move c) ∙ sym (no_move u),
-            λ j. ap (spot_at u j) (lost_move c)
-                ∙ sym (no_move_at u j),
+            λ j. ap (spot_at u j) (lost_move c) ∙ sym (no_move_at u j),
           ))
           (cases_eq (at p.watch e) 1)
 
       still : (u : ℕ) → (u ≡ t → at p.watch e ≢ 1) → total (moves u) (set vs id w) ≡ total (moves u) vs
       still u n = total_keeps k vs id v w here (moves u) (same_moves u n).0
 
-      goes : (g r u : ℕ) → Edge k.edges g r u → at p.status r ≡ 3
-          → (at (set p.watch e 2) g ≡ 2)
-          ⊎ ((0 < closes_by r g w)
-          ⊎ ((at p.status r ≡ 3) × (at p.watch g ≡ 2 → at (set p.watch e 2) g ≡ 2)
+      goes : (g r u : ℕ) → Edge k.edges g r u → at p.status r ≡ 3 → (at (set p.watch e 2) g ≡ 2)
+          ⊎ ((0 < closes_by r g w) ⊎ ((at p.status r ≡ 3) × (at p.watch g ≡ 2 → at (set p.watch e 2) g ≡ 2)
           × (closes_by r g v ≤ closes_by r g w)))
       goes g r u edge' d = ⊎_elim
           (λ z. inl z.1)
@@ -269,14 +254,12 @@ module _ {J : Type 0} (M : Meaning J) (F : Frames M) (k : Plan J) (plan : IsPlan
             omega (
               arith,
               ap (spot_by r g) closing,
-              subst (λ x. spot_by x g (Some (record { note = q; from = i })) ≡ 0) s
-                  (by_later q i g l),
+              subst (λ x. spot_by x g (Some (record { note = q; from = i })) ≡ 0) s (by_later q i g l),
             ),
           )))
           (λ (l : i ≤ g). let edge_q : Edge k.edges g q u = subst (λ x. Edge k.edges g x u) (sym s) edge' in
           let n = z.0 in let l' : e ≤ g = first g u edge_q l in
-          inr (inl (subst (λ x. 0 < closes_by x g w) s
-          (omega (
+          inr (inl (subst (λ x. 0 < closes_by x g w) s (omega (
             arith,
             closing_by v.plan.edges g q u (e + 1)
                 (subst (λ x. Edge x g q u) (sym (ap (λ y. y.edges) v_plan)) edge_q) (omega arith),
@@ -291,14 +274,11 @@ module _ {J : Type 0} (M : Meaning J) (F : Frames M) (k : Plan J) (plan : IsPlan
           (λ (s : u ≡ t). ⊎_elim
           (λ (c : at p.watch e ≡ 1). subst (Waits k (set p.watch e 2) (set vs id w)) (sym s)
           (found c (subst (Waits k p.watch vs) s (f.watches.waits u l z))))
-          (λ (c : at p.watch e ≢ 1). closed u c (f.watches.waits u l z))
-          (cases_eq (at p.watch e) 1))
+          (λ (c : at p.watch e ≢ 1). closed u c (f.watches.waits u l z)) (cases_eq (at p.watch e) 1))
           (λ (n : u ≢ t). let m = same_moves u (λ s. absurd (n s)) in
           waits_moved w (set p.watch e 2) u
           (λ g r edge'. ⊎_elim (λ y. absurd (n (one_target e r u q t (subst (λ x. Edge k.edges x r u) y.0 edge') edge)))
-          (λ y. y.1) (put_cases p.watch e 2 g near))
-          m.0 m.1 (f.watches.waits u l z))
-          (cases_eq u t)
+          (λ y. y.1) (put_cases p.watch e 2 g near)) m.0 m.1 (f.watches.waits u l z)) (cases_eq u t)
         where
           closed : (u : ℕ) → at p.watch e ≢ 1 → Waits k p.watch vs u → Waits k (set p.watch e 2) (set vs id w) u
           closed u c h = let m = same_moves u (λ s. c) in record {
@@ -328,8 +308,7 @@ module _ {J : Type 0} (M : Meaning J) (F : Frames M) (k : Plan J) (plan : IsPlan
           found c h =
               let edge_is : h.edge ≡ e = ⊎_elim
               (λ l. absurd (h.after e q edge l c))
-              (λ l. ⊎_elim (λ m. absurd (omega (arith, h.before e q edge m))) (λ m. omega arith)
-              (cases_lt e h.edge))
+              (λ l. ⊎_elim (λ m. absurd (omega (arith, h.before e q edge m))) (λ m. omega arith) (cases_lt e h.edge))
               (cases_lt h.edge e) in
               let none : total (moves t) vs ≡ 0 = ⊎_elim (λ a. a.3)
               (λ b. absurd (b.0 q (subst (λ x. Edge k.edges x q t) (sym edge_is) edge)
@@ -351,8 +330,7 @@ module _ {J : Type 0} (M : Meaning J) (F : Frames M) (k : Plan J) (plan : IsPlan
                     none,
                     no_move t,
                     ap (spot_on t) (found_move c),
-                    on_here
-                        t (e + 1),
+                    on_here t (e + 1),
                   ),
                   omega (
                     arith,

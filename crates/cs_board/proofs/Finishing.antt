@@ -5,7 +5,7 @@ use Rattle.std.proofs.Common.{ap, ◌∙◌, subst, arith, ◌||◌, ne_eqb, IfN
 use Rattle.cs_board.specs.inner.Sittings.{Beside, ClosesAt}
 use Rattle.cs_graph.specs.Graph.{IsNextOut, NoneOut, Edge}
 use Rattle.cs_board.specs.{Plans.leads_out, Views.closing_from, declared.view.Plan.Plan, declared.view.Spot.Spot}
-use Rattle.cs_board.specs.declared.view.View.{View}
+use Rattle.cs_board.specs.{Views.shut, declared.view.View.View}
 use Rattle.cs_board.proofs.Spots.{leads_out_here}
 
 -- how many edges are ahead
@@ -38,6 +38,15 @@ module _ {J : Type 0} where
   pub beside_join : (u v w : View J) → Beside u v → Beside v w → Beside u w
   beside_join u v w a b = grind (arith, common_steps)
 
+  pub beside_shut : (v w : View J) (e p t x : ℕ) → w ≡ shut v e p t x → Beside v w
+  beside_shut v w e p t x is = subst (Beside v) (sym is) (record {
+    doing = refl;
+    tries = refl;
+    found = refl;
+    mine = refl;
+    seat = record { first = refl; number = refl; out = refl; made = refl };
+  })
+
   -- a note that is moved, or opened
   pub beside_moved : (u v : View J) (moving : Option Spot) (owes : List ℕ) → Beside u v
       → Beside u (record v { moving = moving; owes = owes })
@@ -50,8 +59,7 @@ module _ {J : Type 0} where
   }
 
   pub closing_next : (k : Plan J) (v : View J) (edges : List (ℕ × ℕ)) (p i : ℕ) (o : Option ℕ) → k.edges ≡ edges
-      → v.closing ≡ closing_from k.edges p i
-      → IfNone o (NoneOut edges p i) → IfSome o (IsNextOut edges p i)
+      → v.closing ≡ closing_from k.edges p i → IfNone o (NoneOut edges p i) → IfSome o (IsNextOut edges p i)
       → MatchOption o (v.closing ≡ None) (ClosesAt k v p)
   closing_next k v edges p i None same c n s = c ∙ closing_none k.edges p i (subst (λ z. NoneOut z p i) (sym same) n)
   closing_next k v edges p i (Some e) same c n s =

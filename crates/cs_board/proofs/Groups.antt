@@ -23,12 +23,10 @@ module _ {J : Type 0} (k : Plan J) where
     watches = λ f. ⊎_elim (λ h. omega (arith, h.1)) (λ h. omega (arith, h.1, g.watches f)) (put_cases wt e x f low);
     closed = λ f p u edge n. let c = g.closed f p u edge n in ⊎_elim
         (λ h. h.1 ∙ stays (ap (at wt) (sym h.0) ∙ c))
-        (λ h. h.1 ∙ c)
-        (put_cases wt e x f low);
+        (λ h. h.1 ∙ c) (put_cases wt e x f low);
     done = λ f p u edge c. ⊎_elim
         (λ h. done (sym h.1 ∙ c) p u (subst (λ y. Edge k.edges y p u) h.0 edge))
-        (λ h. g.done f p u edge (sym h.1 ∙ c))
-        (put_cases wt e x f low);
+        (λ h. g.done f p u edge (sym h.1 ∙ c)) (put_cases wt e x f low);
   }
 
 -- a view that takes part stays sane where its duty and what it owes are
@@ -48,8 +46,7 @@ module _ {J : Type 0} (k : Plan J) (vs : List (View J)) (id : ℕ) (v w : View J
       (at_set vs id i w x e)
 
   pub doers_step : (st st' : List ℕ) → ((u : ℕ) → does_note u w + same (at st u) 2 ≡ does_note u v + same (at st' u) 2)
-      → Doers k st vs
-      → Doers k st' (set vs id w)
+      → Doers k st vs → Doers k st' (set vs id w)
   doers_step st st' h d u = omega (arith, h u, d u, total-set (does_note u) vs id v w here)
 
   pub waits_still : (wt : List ℕ) (t : ℕ) → w.moving ≡ v.moving → Waits k wt vs t → Waits k wt (set vs id w) t
@@ -73,8 +70,7 @@ module _ {J : Type 0} (k : Plan J) (vs : List (View J)) (id : ℕ) (v w : View J
       one_each p,
       h.closing p,
       total-set (closes p) vs id v w here,
-      total_le (closes p) vs id
-          v here,
+      total_le (closes p) vs id v here,
     );
     left = λ e p t edge d. ⊎_elim
         (λ c. inl c)
@@ -84,9 +80,7 @@ module _ {J : Type 0} (k : Plan J) (vs : List (View J)) (id : ℕ) (v w : View J
         (λ b. ⊎_elim
         (λ c. inl (b.1 c))
         (λ (c : 0 < total (closes_by p e) vs). inr (omega (arith, b.2, total-set (closes_by p e) vs id v w here)))
-        (h.left e p t edge b.0))
-        r)
-        (goes e p t edge d);
+        (h.left e p t edge b.0)) r) (goes e p t edge d);
     waits = waits;
     calm = calm;
     moving_in = moving;
@@ -102,8 +96,7 @@ module _ {J : Type 0} (k : Plan J) (vs : List (View J)) (id : ℕ) (v w : View J
       (λ e p t edge d. inr (inr (done p d, λ z. z, omega (arith, ap (spot_by p e) c))))
       (λ t low z. waits_still wt t m (h.waits t low (none t z)))
       (λ t n. total_keeps (moves t) (ap (spot_on t) m) ∙ h.calm t (some_ t n))
-      (λ t n. total_keeps (moves t) (ap (spot_on t) m) ∙ h.moving_in t n)
-      h
+      (λ t n. total_keeps (moves t) (ap (spot_on t) m) ∙ h.moving_in t n) h
 
   pub tallied_step : (st st' : List ℕ)
       → ((t : ℕ) → at st' t ≡ 1 → (0 < owed t w) ⊎ ((at st t ≡ 1) × (owed t v ≤ owed t w)))
@@ -114,13 +107,11 @@ module _ {J : Type 0} (k : Plan J) (vs : List (View J)) (id : ℕ) (v w : View J
   tallied_step st st' owing found rises having h = record {
     owing = λ t e. ⊎_elim
         (λ (a : 0 < owed t w). omega (arith, total-set (owed t) vs id v w here, total_le (owed t) vs id v here))
-        (λ b. omega (arith, b.1, h.owing t b.0, total-set (owed t) vs id v w here))
-        (owing t e);
+        (λ b. omega (arith, b.1, h.owing t b.0, total-set (owed t) vs id v w here)) (owing t e);
     finding = λ i x t e f low root. ⊎_elim
         (λ z. ⊎_elim (λ old. rises t (h.finding id v t here old low root)) (λ new. new)
         (found t (subst (λ y. Found y t) (sym z.1) f) low root))
-        (λ z. rises t (h.finding i x t z.1 f low root))
-        (at_set vs id i w x e);
+        (λ z. rises t (h.finding i x t z.1 f low root)) (at_set vs id i w x e);
     having = λ t. omega (arith, having t, h.having t, total-set (has_done t) vs id v w here);
   }
 

@@ -49,8 +49,7 @@ module _ {J : Type 0} (M : Meaning J) (k : Plan J) (F : Frames M) (n id : ℕ) (
       (one.finishes M k F n id m plan d doing free phase live)
 
   pub closes_edge : (e q t i : ℕ) → Edge k.edges e q t → m.0.closing ≡ Some (record { note = q; from = i })
-      → m.0.moving ≡ None → i ≤ e
-      → ((g u : ℕ) → Edge k.edges g q u → i ≤ g → e ≤ g)
+      → m.0.moving ≡ None → i ≤ e → ((g u : ℕ) → Edge k.edges g q u → i ≤ g → e ≤ g)
       → Allows (Always M) n id m (watch_at k e) (λ _. 2) (closed (step n (watch_at k e) 2 0 none) m)
   closes_edge e q t i edge closing no_moving low first =
       lift M k n id m live playing plan (watch_at k e) (λ _. 2) (closed (step n (watch_at k e) 2 0 none) m)
@@ -78,8 +77,7 @@ module _ {J : Type 0} (M : Meaning J) (k : Plan J) (F : Frames M) (n id : ℕ) (
         (run.takes_job M k F n id m plan live d doing j phase free at_)
 
     pub gives_job : (j x : J) → m.1 ≡ (d.note, Full x) ∷ [] → slice_get k.jobs d.note ≡ Some j
-        → x ≡ job_if M k (nat_le 1 d.phase) d.note j
-        → Allows (Always M) n id m 0 (λ y. y) (gave (step n 0 0 0 none) m)
+        → x ≡ job_if M k (nat_le 1 d.phase) d.note j → Allows (Always M) n id m 0 (λ y. y) (gave (step n 0 0 0 none) m)
     gives_job j x carries at_ is = lift M k n id m live playing plan 0 (λ y. y) (gave (step n 0 0 0 none) m)
         (run.gives_job M k F n id m plan live d doing j x carries at_ is)
 
@@ -97,8 +95,7 @@ module _ {J : Type 0} (M : Meaning J) (k : Plan J) (F : Frames M) (n id : ℕ) (
           (run.turns_own M k F n id m plan live d doing held phase ran)
 
       pub turns_on : (i r x : ℕ) → d.phase ≡ i + 1 → i < length (places_written M k d.note)
-          → at (places_written M k d.note) i ≡ r
-          → x ≡ writers_before M k d.note r + 1
+          → at (places_written M k d.note) i ≡ r → x ≡ writers_before M k d.note r + 1
           → Allows (Always M) n id m (turn_at k r) (λ _. x) (λ _. turned (step n (turn_at k r) x 0 none) m x)
       turns_on i r x phase low is next =
           lift M k n id m live playing plan (turn_at k r) (λ _. x) (λ _. turned (step n (turn_at k r) x 0 none) m x)
@@ -111,8 +108,7 @@ module _ {J : Type 0} (M : Meaning J) (k : Plan J) where
       lift_split M k id v (kept_view v) (given_view v) live playing plan (seat.splits M k id v first live plan)
 
   pub joins : (id : ℕ) (v : View J) (other : ℕ) (u : View J) → v.first ≡ true → v.spent ≡ false → v.rest ≡ None
-      → v.plan ≡ k → u.spent ≡ false
-      → u.doing ≡ None → u.closing ≡ None → u.moving ≡ None → u.owes ≡ []
+      → v.plan ≡ k → u.spent ≡ false → u.doing ≡ None → u.closing ≡ None → u.moving ≡ None → u.owes ≡ []
       → Joins (Always M) id v other u (joined v u) spent_view
   joins id v other u first live playing plan live' idle no_closing no_moving no_owes =
       lift_join M k id v other u (joined v u) spent_view live playing plan

@@ -1,4 +1,5 @@
 pub mod Stepping
+pub mod Calls
 pub mod Trying
 pub mod Finishing
 pub mod Performing

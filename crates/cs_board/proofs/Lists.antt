@@ -123,8 +123,7 @@ module _ {A : Type 0} where
 
   -- where none but one weighs anything, all weigh what it does
   pub total_only : (f : A → ℕ) (l : List A) (i : ℕ) (v : A) → get_elem? l i ≡ some v
-      → ((j : ℕ) (w : A) → j ≢ i → get_elem? l j ≡ some w → f w ≡ 0)
-      → total f l ≡ f v
+      → ((j : ℕ) (w : A) → j ≢ i → get_elem? l j ≡ some w → f w ≡ 0) → total f l ≡ f v
   total_only f [] i v e h = absurd (some-ne-none v (sym e))
   total_only f (x ∷ xs) zero v e h =
       let a : f x ≡ f v = ap f (some-injective x v e) in
@@ -138,8 +137,7 @@ module _ {A : Type 0} where
   total_some f [] h = absurd (omega arith)
   total_some f (x ∷ xs) h = ⊎_elim
       (λ z. let r = total_some f xs (omega arith) in (suc r.0, r.1, r.2, r.3))
-      (λ n. (0, x, refl, omega arith))
-      (cases_eq (f x) 0)
+      (λ n. (0, x, refl, omega arith)) (cases_eq (f x) 0)
 
 pub times-snoc : (x : ℕ) (l : List ℕ) (y : ℕ) → times x (l ++ y ∷ []) ≡ times x l + same y x
 times-snoc x l y = total-snoc (λ z. same z x) l y

@@ -56,8 +56,7 @@ module _ {J : Type 0} (M : Meaning J) (F : Frames M) (k : Plan J) (plan : IsPlan
       → Facts M k (record p { watch = set p.watch e 1 }) hs (set vs id (settled v))
   facts_settled e q edge low first found =
       facts_aside M F k plan p sized hs vs id v here f w (set p.watch e 1) idle idle refl refl refl refl (λ x. refl)
-      refl refl
-      (gates_watch k p.status p.watch e 1 near f.gates (omega arith) (λ z. absurd (omega arith))
+      refl refl (gates_watch k p.status p.watch e 1 near f.gates (omega arith) (λ z. absurd (omega arith))
       (λ z. absurd (omega arith)))
       (λ s. sane_live k v w live refl refl refl refl refl (inl idle) s.owes_in s)
       (watches_step k vs id v w here p.status p.status p.watch (set p.watch e 1)
@@ -74,8 +73,7 @@ module _ {J : Type 0} (M : Meaning J) (F : Frames M) (k : Plan J) (plan : IsPlan
       (λ g r edge'. ⊎_elim (λ y. absurd
       (n (one_target M F k plan p sized hs vs id v here f e r u q t (subst (λ x. Edge k.edges x r u) y.0 edge') edge)))
       (λ y. y.1) (put_cases p.watch e 1 g near))
-      (sym (others u 0 n).0) (λ j. sym (others u j n).1) (f.watches.waits u l z))
-      (cases_eq u t))
+      (sym (others u 0 n).0) (λ j. sym (others u j n).1) (f.watches.waits u l z)) (cases_eq u t))
       (λ u n. total_keeps k vs id v w here (moves u) (sym (others u 0 (not_t u n)).0) ∙ f.watches.calm u n)
       (λ u n. total_keeps k vs id v w here (moves u) (sym (others u 0 (not_in u n)).0) ∙ f.watches.moving_in u n)
       f.watches)
@@ -92,25 +90,21 @@ module _ {J : Type 0} (M : Meaning J) (F : Frames M) (k : Plan J) (plan : IsPlan
         before = λ g r edge' l. ⊎_elim (λ y. absurd (omega (arith, y.0)))
             (λ y. ⊎_elim
             (λ (m : g < i). y.1 ∙ h.before g r edge' (omega (arith, known.2)))
-            (λ (m : i ≤ g). absurd (omega (arith, first g r edge' m)))
-            (cases_lt g i))
-            (put_cases p.watch e 1 g near);
+            (λ (m : i ≤ g). absurd (omega (arith, first g r edge' m))) (cases_lt g i)) (put_cases p.watch e 1 g near);
         after = λ g r edge' l x. ⊎_elim (λ y. omega (arith, y.0))
             (λ y. h.after g r edge' (omega (arith, known.2)) (sym y.1 ∙ x)) (put_cases p.watch e 1 g near);
         who = inl (
           q,
           edge,
           ⊎_elim (λ y. y.1) (λ y. absurd (y.0 refl)) (put_cases p.watch e 1 e near),
-          omega
-              (arith, total-set (moves t) vs id v w here, known.1, mine),
+          omega (arith, total-set (moves t) vs id v w here, known.1, mine),
         );
         some_edge = (e, q, edge);
       }
 
   -- the edge was Closed already
   pub facts_passed : (e q : ℕ) → Edge k.edges e q t → i ≤ e → ((g r : ℕ) → Edge k.edges g r t → i ≤ g → e ≤ g)
-      → at p.watch e ≢ 0
-      → Facts M k p hs (set vs id (passed v t e))
+      → at p.watch e ≢ 0 → Facts M k p hs (set vs id (passed v t e))
   facts_passed e q edge low first found =
       facts_aside M F k plan p sized hs vs id v here f w p.watch idle idle refl refl refl refl (λ x. refl) refl refl
       f.gates
@@ -122,13 +116,11 @@ module _ {J : Type 0} (M : Meaning J) (F : Frames M) (k : Plan J) (plan : IsPlan
       (λ (s : u ≡ t). subst (Waits k p.watch (set vs id w)) (sym s) further)
       (λ (n : u ≢ t). waits_moved M F k plan p sized hs vs id v here f w p.watch u (λ g r edge'. refl)
       (on_else t u (e + 1) (λ y. n (sym y)) ∙ sym (others u 0 n).0)
-      (λ j. at_else t u (e + 1) j (λ y. n (sym y)) ∙ sym (others u j n).1) (f.watches.waits u l z))
-      (cases_eq u t))
+      (λ j. at_else t u (e + 1) j (λ y. n (sym y)) ∙ sym (others u j n).1) (f.watches.waits u l z)) (cases_eq u t))
       (λ u n. let m = not_t u n in total_keeps k vs id v w here (moves u)
       (on_else t u (e + 1) (λ y. m (sym y)) ∙ sym (others u 0 m).0) ∙ f.watches.calm u n)
       (λ u n. let m = not_in u n in total_keeps k vs id v w here (moves u)
-      (on_else t u (e + 1) (λ y. m (sym y)) ∙ sym (others u 0 m).0) ∙ f.watches.moving_in u n)
-      f.watches)
+      (on_else t u (e + 1) (λ y. m (sym y)) ∙ sym (others u 0 m).0) ∙ f.watches.moving_in u n) f.watches)
     where
       w : View J
       w = passed v t e
@@ -136,8 +128,7 @@ module _ {J : Type 0} (M : Meaning J) (F : Frames M) (k : Plan J) (plan : IsPlan
       not_watched : at p.watch e ≢ 1
       not_watched c = ⊎_elim
           (λ (s : h.edge ≡ e). known.0 q (subst (λ x. Edge k.edges x q t) (sym s) edge) (ap (at p.watch) s ∙ c))
-          (λ (n : h.edge ≢ e). h.after e q edge (omega (arith, known.2)) c)
-          (cases_eq h.edge e)
+          (λ (n : h.edge ≢ e). h.after e q edge (omega (arith, known.2)) c) (cases_eq h.edge e)
 
       closed : at p.watch e ≡ 2
       closed = omega (arith, f.gates.watches e, not_watched)
@@ -194,15 +185,13 @@ module _ {J : Type 0} (M : Meaning J) (F : Frames M) (k : Plan J) (plan : IsPlan
             (λ g r u edge d. inr (inr (
               ⊎_elim (λ y. absurd (omega (arith, y.1))) (λ y. sym y.1 ∙ d) (put_cases p.status t 1 r near),
               (λ c. c),
-              omega
-                  arith,
+              omega arith,
             )))
             (λ u l z. ⊎_elim
             (λ y. absurd (omega (arith, y.1)))
             (λ y. waits_moved M F k plan p sized hs vs id v here f w p.watch u (λ g r edge. refl) (sym
             (others u 0 y.0).0)
-            (λ j. sym (others u j y.0).1) (f.watches.waits u l (sym y.1 ∙ z)))
-            (put_cases p.status t 1 u near))
+            (λ j. sym (others u j y.0).1) (f.watches.waits u l (sym y.1 ∙ z))) (put_cases p.status t 1 u near))
             (λ u n. ⊎_elim
             (λ y. ap (λ x. total (moves x) (set vs id w)) y.0 ∙ gone)
             (λ y. total_keeps k vs id v w here (moves u) (sym (others u 0 y.0).0) ∙ f.watches.calm u (λ z. n (y.1 ∙ z)))
@@ -212,13 +201,11 @@ module _ {J : Type 0} (M : Meaning J) (F : Frames M) (k : Plan J) (plan : IsPlan
         tallied = tallied_step k vs id v w here p.status st'
             (λ u z. let more : owed u w ≡ owed u v + same t u = times-snoc u v.owes t in ⊎_elim
             (λ y. inl (omega (arith, same_yes t u (sym y.0))))
-            (λ y. inr (sym y.1 ∙ z, omega arith))
-            (put_cases p.status t 1 u near))
+            (λ y. inr (sym y.1 ∙ z, omega arith)) (put_cases p.status t 1 u near))
             (λ u q l root. inl q)
             (λ u z. ⊎_elim (λ y. absurd (let a : at p.status u ≡ 0 = ap (at p.status) y.0 ∙ waiting in omega arith))
             (λ y. omega (arith, y.1)) (put_cases p.status t 1 u near))
-            (λ u. omega (arith, three_still p.status t 1 0 near waiting refl u))
-            f.tallied;
+            (λ u. omega (arith, three_still p.status t 1 0 near waiting refl u)) f.tallied;
         seats = seats_step k vs id v w here refl (λ x. refl) refl refl f.seats;
         owned = owned_step k vs id v w here p.status st' p.own p.own
             (λ u. omega (arith, three_still p.status t 1 0 near waiting refl u)) f.owned;
@@ -231,6 +218,5 @@ module _ {J : Type 0} (M : Meaning J) (F : Frames M) (k : Plan J) (plan : IsPlan
             (λ y. y.1 ∙ z) (put_cases p.status t 1 u near))
             (λ d e. absurd (let z : Some d ≡ None = sym e ∙ idle in cc)) f.stored;
         turned = turned_still M k p.status vs id v w here st' p.turns (alike p.status t 1 0 near waiting refl)
-            (λ r. refl)
-            f.turned;
+            (λ r. refl) f.turned;
       }

@@ -29,8 +29,7 @@ at_each_below f zero i l = absurd (omega arith)
 at_each_below f (suc n) i l = ⊎_elim
     (λ (e : i ≡ n). get_or_at (each_below f n) (f n) [] 0 i (length-each_below f n ∙ sym e) ∙ ap f (sym e))
     (λ (d : i ≢ n). get_or_append_left (each_below f n) (f n ∷ []) 0 i (omega (arith, length-each_below f n))
-    ∙ at_each_below f n i (omega arith))
-    (cases_eq i n)
+    ∙ at_each_below f n i (omega arith)) (cases_eq i n)
 
 past_each_below : (f : ℕ → ℕ) (n i : ℕ) → n ≤ i → at (each_below f n) i ≡ 0
 past_each_below f n i l = get_or_past (each_below f n) i 0 (omega (arith, length-each_below f n))
@@ -61,8 +60,7 @@ first_edge (x ∷ es) t h = ⊎_elim
     (λ (b : (x.1 == t) ≡ true). let i : x.1 ≡ t = eqb-true x.1 t b in (0, x.0, ap (λ z. Some (x.0, z)) i, refl))
     (λ (b : (x.1 == t) ≡ false). let r =
     first_edge es t (ap (λ z. z || leads_in es t) (sym b)
-    ∙ h) in (suc r.0, r.1, r.2, ap (λ z. z || leads_in (take r.0 es) t) b ∙ r.3))
-    (cases_Bool (x.1 == t))
+    ∙ h) in (suc r.0, r.1, r.2, ap (λ z. z || leads_in (take r.0 es) t) b ∙ r.3)) (cases_Bool (x.1 == t))
 
 -- a note stands among those that wait for none exactly where no edge leads to it
 root_in : (edges : List (ℕ × ℕ)) (n t : ℕ) → t < n → leads_in edges t ≡ false → 0 < times t (roots_below edges n)
@@ -90,8 +88,7 @@ count_none P (suc n) h = let a : count_below P n ≡ 0 = count_none P n h in let
     ap one (h n) in omega arith
 
 module _ {J : Type 0} (M : Meaning J) (k : Plan J) (ws spare : List ℕ) (same_values : values ws ≡ k.cells)
-    (long : length spare ≡ k.spare)
-    (hs : List (maybe.Option (Berth J)))
+    (long : length spare ≡ k.spare) (hs : List (maybe.Option (Berth J)))
     (home : (t : ℕ) (j : J) → slice_get k.jobs t ≡ Some j → get_elem? hs t ≡ some (some (Full j)))
     (vs : List (View J)) (id : ℕ) (here : get_elem? vs id ≡ some (opening_view k))
     (others : (j : ℕ) (w : View J) → j ≢ id → get_elem? vs j ≡ some w → w ≡ spent_view) where
@@ -187,8 +184,7 @@ taken (y ∷ es) (suc e) (suc f) x h = let r = taken es e f x h in (omega (arith
 
 pub watch_later : (edges : List (ℕ × ℕ)) (f e p q t : ℕ) → f < e → Edge edges f p t → Edge edges e q t
     → 0 ≡ first_watch edges e
-watch_later edges f e p q t l h at_ = ap (λ b. cond b 0 1)
-    (sym (leads_by_earlier edges e f p t l h)
+watch_later edges f e p q t l h at_ = ap (λ b. cond b 0 1) (sym (leads_by_earlier edges e f p t l h)
     ∙ ap (λ z. leads_in (take e edges) z.1) (sym (get_or_from_slice_get edges e (q, t) (0, 0) at_)))
 
 pub watch_first : (edges : List (ℕ × ℕ)) (e q t : ℕ) → Edge edges e q t → ((f p : ℕ) → f < e → ¬ (Edge edges f p t))

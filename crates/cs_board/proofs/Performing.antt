@@ -24,8 +24,7 @@ module _ {J : Type 0} where
 
 -- a seat that does a note is at work, whatever its image is
 pub works_at : {J : Type 0} (M : Meaning J) (board : Board J) (sitting : Seat (Berth J) (View J)) (name : ℕ) (d : Doing)
-    → IsSittingOf M board sitting
-    → sitting.me.0.doing ≡ Some d → IsAtWork M (frame_of board sitting name)
+    → IsSittingOf M board sitting → sitting.me.0.doing ≡ Some d → IsAtWork M (frame_of board sitting name)
 works_at M board sitting name d h doing = grind (arith, common_steps, view_bare)
 
 module _ {J : Type 0} (M : Meaning J) (k : Plan J) (whole : IsPlan M k) (t : ℕ) (j : J)

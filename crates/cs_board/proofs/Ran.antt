@@ -32,6 +32,4 @@ module _ {J : Type 0} (M : Meaning J) (k : Plan J) (s : State (Berth J) (View J)
       (λ u l e. ⊎_elim
       (λ w. absurd (both_ways _ (subst (λ n. writes_at M k n a ≡ false)
       (sym (alone_at M k h.plan h.parts.status h.parts.watch h.facts.gates u d.note a w used e running)) other) w))
-      (λ w. w)
-      (cases_Bool (writes_at M k u a)))
-      (h.facts.stored.values a within.0)
+      (λ w. w) (cases_Bool (writes_at M k u a))) (h.facts.stored.values a within.0)

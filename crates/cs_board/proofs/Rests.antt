@@ -144,8 +144,7 @@ module _ {J : Type 0} (M : Meaning J) where
           takes t b,
           home_at s.homes t b (ap (λ z. slice_get z.homes t) (sym r.0) ∙ lies),
           resting s id m.0 here live (slice_set s.words t (slice_index s.words t)) (slice_set s.homes t none)
-              (laid m.0 w') live
-              (ap (λ z. Some (with_home z t None)) r.0
+              (laid m.0 w') live (ap (λ z. Some (with_home z t None)) r.0
               ∙ ap (λ z. Some (record { words = s.words; homes = z })) (sym (map-set home_in s.homes t none))
               ∙ ap (λ z. Some (record { words = z; homes = map home_in (slice_set s.homes t none) }))
               (sym (set-get_or s.words t 0))) r.1,
@@ -169,8 +168,7 @@ module _ {J : Type 0} (M : Meaning J) where
           tt,
           subst (λ z. Always M (record
               { words = slice_set s.words i (slice_index s.words i); homes = z; views = set s.views id (laid m.0 w') }))
-              (sym back)
-              (resting s id m.0 here live (slice_set s.words i (slice_index s.words i)) hs (laid m.0 w') live
+              (sym back) (resting s id m.0 here live (slice_set s.words i (slice_index s.words i)) hs (laid m.0 w') live
               (ap (λ z. Some (with_home z t (Some b))) r.0
               ∙ ap (λ z. Some (record { words = s.words; homes = z })) (sym (map-set home_in s.homes t (some b)))
               ∙ ap (λ z. Some (record { words = z; homes = map home_in hs })) (sym (set-get_or s.words i 0))) r.1),
@@ -201,8 +199,7 @@ module _ {J : Type 0} (M : Meaning J) where
         let x : ℕ = slice_index s.words 0 in
         let same_x : either (eqb x 0) 0 x ≡ x = ⊎_elim
         (λ e. ap (λ b. either b 0 x) (eq-eqb x 0 e) ∙ sym e)
-        (λ ne. ap (λ b. either b 0 x) (ne_eqb x 0 ne))
-        (cases_eq x 0) in
+        (λ ne. ap (λ b. either b 0 x) (ne_eqb x 0 ne)) (cases_eq x 0) in
         let known : map home_in s.homes ≡ slot_row 0 k.jobs c = ap (λ z. z.homes) (sym r.0) ∙ homes in
         let count : length s.homes ≡ length k.jobs + c =
         sym (length-map s.homes home_in) ∙ ap length known ∙ row_length k.jobs c in (
@@ -220,8 +217,7 @@ module _ {J : Type 0} (M : Meaning J) where
                   (set s.views id v') id (set_here s.views id v' (within_get s.views id m.0 here))
                   (λ j y d at_. r.1 j y d (sym (set_else s.views id j v' d) ∙ at_));
               deep = omega (arith, count, plan.jobs);
-              vacant = λ i far near. home_at s.homes i Vacant
-                  (ap (λ z. slice_get z i) known
+              vacant = λ i far near. home_at s.homes i Vacant (ap (λ z. slice_get z i) known
                   ∙ row_vacant k.jobs c i (omega (arith, plan.jobs, far)) (omega (arith, count, near)));
               facts = opening_facts M k ws spare cells long s.homes
                   (λ t j e. home_at s.homes t (Full j) (ap (λ z. slice_get z t) known ∙ row_job k.jobs c t j e))

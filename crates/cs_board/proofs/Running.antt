@@ -34,8 +34,7 @@ ran_less t None = omega arith
 ran_less t (Some d) = one_less (d.note == t) (nat_le 1 d.phase)
 
 module _ {J : Type 0} (M : Meaning J) (k : Plan J) (F : Frames M) (n id : ℕ) (m : Sat J) (plan : m.0.plan ≡ k)
-    (live : m.0.spent ≡ false)
-    (d : Doing) (doing : m.0.doing ≡ Some d) where
+    (live : m.0.spent ≡ false) (d : Doing) (doing : m.0.doing ≡ Some d) where
   module _ (s : State (Berth J) (View J)) (h : Holds M k s) (here : get_elem? s.views id ≡ some m.0) where
     running : at h.parts.status d.note ≡ 2
     running = busy k h.parts.status s.views h.facts.doers id m.0 d here doing
@@ -49,8 +48,7 @@ module _ {J : Type 0} (M : Meaning J) (k : Plan J) (F : Frames M) (n id : ℕ) (
     -- a step of the note that leaves its note, phase and image: only its job moves
     job_moved : (b : Bool) (i : ℕ) (hs : List (maybe.Option (Berth J))) → length hs ≡ length s.homes
         → ((j : ℕ) → k.notes ≤ j → get_elem? hs j ≡ get_elem? s.homes j)
-        → Slots M k h.parts.status hs (set s.views id (does m.0 (record d { held = b })))
-        → Holds M k (record {
+        → Slots M k h.parts.status hs (set s.views id (does m.0 (record d { held = b }))) → Holds M k (record {
           words = slice_set s.words i (slice_index s.words i);
           homes = hs;
           views =
@@ -63,8 +61,7 @@ module _ {J : Type 0} (M : Meaning J) (k : Plan J) (F : Frames M) (n id : ℕ) (
         (facts_does M F k h.plan h.parts h.sized s.homes s.views id m.0 here h.facts h.parts hs d
         (record d { held = b }) refl refl doing refl live
         (owned_step k s.views id m.0 w here h.parts.status h.parts.status h.parts.own h.parts.own
-        (λ u. omega (arith, ap (ran_on u) doing)) h.facts.owned)
-        slots
+        (λ u. omega (arith, ap (ran_on u) doing)) h.facts.owned) slots
         (stored_step M F k h.plan h.parts.status h.parts.watch h.parts.cells s.views id m.0 w here h.facts.gates
         h.parts.status (λ u. refl) (λ u z. z)
         (λ e is. subst (Pictured M k h.parts.cells) (same_Some _ _ is)
@@ -93,8 +90,7 @@ module _ {J : Type 0} (M : Meaning J) (k : Plan J) (F : Frames M) (n id : ℕ) (
   )
 
   pub gives_job : (j x : J) → m.1 ≡ (d.note, Full x) ∷ [] → slice_get k.jobs d.note ≡ Some j
-      → x ≡ job_if M k (nat_le 1 d.phase) d.note j
-      → Allows (Holds M k) n id m 0 (λ y. y) (gave (step n 0 0 0 none) m)
+      → x ≡ job_if M k (nat_le 1 d.phase) d.note j → Allows (Holds M k) n id m 0 (λ y. y) (gave (step n 0 0 0 none) m)
   gives_job j x carries at_ is s h deep here fits =
       let hs : List (maybe.Option (Berth J)) = set s.homes d.note (some (Full x)) in
       let back : put_back s.homes m.1 ≡ hs = ap (put_back s.homes) carries in (
@@ -106,8 +102,7 @@ module _ {J : Type 0} (M : Meaning J) (k : Plan J) (F : Frames M) (n id : ℕ) (
           homes = z;
           views =
               set s.views id (does m.0 (record d { held = false }));
-        })) (sym back)
-            (job_moved s h here false 0 hs (length-set s.homes d.note (some (Full x)))
+        })) (sym back) (job_moved s h here false 0 hs (length-set s.homes d.note (some (Full x)))
             (λ i far. set_else s.homes d.note i (some (Full x)) (λ z. omega (arith, within s h here)))
             (slots_moved M k s.views id m.0 (does m.0 (record d { held = false })) here h.parts.status s.homes d
             (record d { held = false }) (some (Full x)) h.facts.doers doing refl refl
@@ -134,8 +129,7 @@ module _ {J : Type 0} (M : Meaning J) (k : Plan J) (F : Frames M) (n id : ℕ) (
               (word_set M k s h (cell_at a) x p' (set_cell_word k h.parts h.sized a x low))
               (sized_cell k h.parts h.sized a x) refl (λ i far. refl)
               (facts_does M F k h.plan h.parts h.sized s.homes s.views id m.0 here h.facts p' s.homes d d' refl refl
-              doing refl live
-              (owned_step k s.views id m.0 w here h.parts.status h.parts.status h.parts.own h.parts.own
+              doing refl live (owned_step k s.views id m.0 w here h.parts.status h.parts.status h.parts.own h.parts.own
               (λ u. omega (arith, ap (ran_on u) doing)) h.facts.owned)
               (slots_still M k s.views id m.0 w here h.parts.status s.homes d d' doing held refl held refl
               h.facts.slots)
@@ -189,8 +183,7 @@ module _ {J : Type 0} (M : Meaning J) (k : Plan J) (F : Frames M) (n id : ℕ) (
               (λ y. let n : d.note ≢ u = λ z. y.0 (sym z) in
               let now : one (d.note == u && nat_le 1 (d.phase + 1)) ≡ 0 =
               ap (λ b. one (b && nat_le 1 (d.phase + 1))) (ne_eqb d.note u n) in
-              omega (arith, y.1, none_ran u))
-              (put_cases h.parts.own d.note 1 u near)) h.facts.owned)
+              omega (arith, y.1, none_ran u)) (put_cases h.parts.own d.note 1 u near)) h.facts.owned)
               (slots_still M k s.views id m.0 w here h.parts.status s.homes d d' doing held refl held refl
               h.facts.slots)
               (stored_step M F k h.plan h.parts.status h.parts.watch h.parts.cells s.views id m.0 w here h.facts.gates
@@ -214,8 +207,7 @@ module _ {J : Type 0} (M : Meaning J) (k : Plan J) (F : Frames M) (n id : ℕ) (
 
     -- the turn on the i-th resource that the note writes
     pub turns_on : (i r x : ℕ) → d.phase ≡ i + 1 → i < length (places_written M k d.note)
-        → at (places_written M k d.note) i ≡ r
-        → x ≡ writers_before M k d.note r + 1
+        → at (places_written M k d.note) i ≡ r → x ≡ writers_before M k d.note r + 1
         → Allows (Holds M k) n id m (turn_at k r) (λ _. x) (λ _. turned (step n (turn_at k r) x 0 none) m x)
     turns_on i r x phase low is next s h deep here fits =
         let d' : Doing = next_phase d in
@@ -252,8 +244,7 @@ module _ {J : Type 0} (M : Meaning J) (k : Plan J) (F : Frames M) (n id : ℕ) (
               h.facts.slots)
               (stored_step M F k h.plan h.parts.status h.parts.watch h.parts.cells s.views id m.0 w here h.facts.gates
               h.parts.status (λ u. refl) (λ u z. z)
-              (λ e is'. subst (Pictured M k h.parts.cells) (same_Some _ _ is')
-              (record {
+              (λ e is'. subst (Pictured M k h.parts.cells) (same_Some _ _ is') (record {
                 long = (picture s h here).long;
                 seen = (picture s h here).seen;
                 after =

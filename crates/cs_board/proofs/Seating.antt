@@ -69,9 +69,7 @@ module _ {J : Type 0} where
             finding = λ i x t e q low root. ⊎_elim
                 (λ none. absurd (found_none x t none.1 q))
                 (λ y. f.tallied.finding y.0 y.1 t y.2 (subst (λ l. (j : ℕ) × (n : ℕ)
-                × (slice_get l j ≡ Some (t, n))) y.4 q)
-                low root)
-                (old i x e);
+                × (slice_get l j ≡ Some (t, n))) y.4 q) low root) (old i x e);
             having = λ t. mine t ∙ f.tallied.having t;
           };
           seats = seats;
@@ -80,19 +78,16 @@ module _ {J : Type 0} where
             home = f.slots.home;
             resting = λ i x d j e is free at_. ⊎_elim
                 (λ none. absurd (let z : Some d ≡ None = sym is ∙ none.0 in cc))
-                (λ y. f.slots.resting y.0 y.1 d j y.2 (sym y.3 ∙ is) free at_)
-                (old i x e);
+                (λ y. f.slots.resting y.0 y.1 d j y.2 (sym y.3 ∙ is) free at_) (old i x e);
             away = λ i x d e is held. ⊎_elim
                 (λ none. absurd (let z : Some d ≡ None = sym is ∙ none.0 in cc))
-                (λ y. f.slots.away y.0 y.1 d y.2 (sym y.3 ∙ is) held)
-                (old i x e);
+                (λ y. f.slots.away y.0 y.1 d y.2 (sym y.3 ∙ is) held) (old i x e);
           };
           stored = record {
             values = f.stored.values;
             images = λ i x d e is. ⊎_elim
                 (λ none. absurd (let z : Some d ≡ None = sym is ∙ none.0 in cc))
-                (λ y. f.stored.images y.0 y.1 d y.2 (sym y.3 ∙ is))
-                (old i x e);
+                (λ y. f.stored.images y.0 y.1 d y.2 (sym y.3 ∙ is)) (old i x e);
           };
           turned = λ r low. omega (arith, f.turned r low, duty (λ d c m. turned_in M k r d) refl);
         }
@@ -122,8 +117,7 @@ module _ {J : Type 0} where
         (i, x, e, refl, refl)) in
         let sane : (i : ℕ) (x : View J) → get_elem? vs' i ≡ some x
         → IsSane k x = let o = h.facts.sane id v here in each (IsSane k)
-        (first_sane k v v.mine (v.made ∷ v.out) (v.made + 1) first live o)
-        (record {
+        (first_sane k v v.mine (v.made ∷ v.out) (v.made + 1) first live o) (record {
           plan = λ z. plan;
           one_duty = inl refl;
           owes_in = λ t z. absurd (omega arith);
@@ -131,8 +125,7 @@ module _ {J : Type 0} where
           leader = λ z. absurd (cc);
           over = λ z. absurd (cc);
           playing = refl;
-        })
-        h.facts.sane in
+        }) h.facts.sane in
         record {
           plan = h.plan;
           parts = h.parts;
@@ -143,8 +136,7 @@ module _ {J : Type 0} where
           facts = facts_alike M k h.parts s.homes s.views vs'
               (λ g none. omega (arith, sums (weigh g), none))
               (λ t. omega (arith, sums (owed t)))
-              (λ t. omega (arith, sums (has_done t)))
-              old sane seats h.facts;
+              (λ t. omega (arith, sums (has_done t))) old sane seats h.facts;
         }
       where
         w : View J
@@ -160,12 +152,10 @@ module _ {J : Type 0} where
         sums g = omega (arith, total-snoc g (set s.views id w) given, total-set g s.views id v w here)
 
         each : (P : View J → Type 0) → P w → P given → ((i : ℕ) (x : View J) → get_elem? s.views i ≡ some x → P x)
-            → (i : ℕ) (x : View J)
-            → get_elem? vs' i ≡ some x → P x
+            → (i : ℕ) (x : View J) → get_elem? vs' i ≡ some x → P x
         each P pw pg rest i x e = ⊎_elim
             (λ a. ⊎_elim (λ b. subst P b.1 pw) (λ b. rest i x b.1) (at_set s.views id i w x a.0))
-            (λ a. subst P a.0 pg)
-            (at_snoc (set s.views id w) given x i e)
+            (λ a. subst P a.0 pg) (at_snoc (set s.views id w) given x i e)
 
         new_name : names v.made v ≡ 0
         new_name = ⊎_elim (λ z. z) (λ n. absurd (omega (arith, h.facts.seats.fresh id v v.made here (omega arith))))
@@ -178,8 +168,7 @@ module _ {J : Type 0} where
             (λ q. ⊎_elim
             (λ (e : v.made ≡ x). omega arith)
             (λ (n : v.made ≢ x). let r : x < v.made =
-            h.facts.seats.fresh id v x here (omega (arith, q, same_no v.made x n)) in omega arith)
-            (cases_eq v.made x))
+            h.facts.seats.fresh id v x here (omega (arith, q, same_no v.made x n)) in omega arith) (cases_eq v.made x))
             (λ q. absurd (omega arith))
             (λ i y e q. h.facts.seats.fresh i y x e q) in
             record {
@@ -196,8 +185,7 @@ module _ {J : Type 0} where
             }
 
     pub joins : (id : ℕ) (v : View J) (other : ℕ) (u : View J) → v.first ≡ true → v.spent ≡ false → u.spent ≡ false
-        → u.doing ≡ None → u.closing ≡ None
-        → u.moving ≡ None → u.owes ≡ []
+        → u.doing ≡ None → u.closing ≡ None → u.moving ≡ None → u.owes ≡ []
         → Joins (Holds M k) id v other u (joined v u) spent_view
     joins id v other u first live live' idle no_closing no_moving no_owes s h here apart there =
         let old : (i : ℕ) (x : View J) → get_elem? vs' i ≡ some x
@@ -205,8 +193,7 @@ module _ {J : Type 0} where
         (i, x, e, refl, refl)) in
         let sane : (i : ℕ) (x : View J) → get_elem? vs' i ≡ some x
         → IsSane k x = let o = h.facts.sane id v here in each (IsSane k)
-        (first_sane k v (v.mine ++ u.mine) (without u.number v.out) v.made first live o)
-        (record {
+        (first_sane k v (v.mine ++ u.mine) (without u.number v.out) v.made first live o) (record {
           plan = λ z. absurd (cc);
           one_duty = inl refl;
           owes_in = λ t z. absurd (omega arith);
@@ -214,8 +201,7 @@ module _ {J : Type 0} where
           leader = λ z. absurd (cc);
           over = λ z. refl;
           playing = refl;
-        })
-        h.facts.sane in
+        }) h.facts.sane in
         record {
           plan = h.plan;
           parts = h.parts;
@@ -235,8 +221,7 @@ module _ {J : Type 0} where
               ))
               (λ t. omega (arith, sums (owed t), ap (times t) no_owes))
               (λ t. let both : has_done t w ≡ has_done t v + has_done t u =
-              total-append (λ y. same y t) v.mine u.mine in omega (arith, sums (has_done t)))
-              old sane seats h.facts;
+              total-append (λ y. same y t) v.mine u.mine in omega (arith, sums (has_done t))) old sane seats h.facts;
         }
       where
         w : View J
@@ -252,8 +237,7 @@ module _ {J : Type 0} where
         sums g = omega (arith, total-set g (set s.views id w) other u spent_view there, total-set g s.views id v w here)
 
         each : (P : View J → Type 0) → P w → P spent_view → ((i : ℕ) (x : View J) → get_elem? s.views i ≡ some x → P x)
-            → (i : ℕ) (x : View J)
-            → get_elem? vs' i ≡ some x → P x
+            → (i : ℕ) (x : View J) → get_elem? vs' i ≡ some x → P x
         each P pw ps rest i x e = ⊎_elim
             (λ a. subst P a.1 ps)
             (λ a. ⊎_elim (λ b. subst P b.1 pw) (λ b. rest i x b.1) (at_set s.views id i w x a.1))

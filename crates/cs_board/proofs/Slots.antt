@@ -16,25 +16,21 @@ module _ {J : Type 0} (M : Meaning J) (k : Plan J) (vs : List (View J)) (id : �
   abbrev Homes : Type 0
   Homes = List (maybe.Option (Berth J))
 
-  pub slots_step : (st st' : List ℕ) (hs hs' : Homes)
-      → ((t : ℕ) (j : J) → slice_get k.jobs t ≡ Some j → at st' t ≢ 2
+  pub slots_step : (st st' : List ℕ) (hs hs' : Homes) → ((t : ℕ) (j : J) → slice_get k.jobs t ≡ Some j → at st' t ≢ 2
       → get_elem? hs' t ≡ some (some (Full (job_if M k (at st' t == 3) t j))))
       → ((d : Doing) (j : J) → w.doing ≡ Some d → d.held ≡ false → slice_get k.jobs d.note ≡ Some j
       → get_elem? hs' d.note ≡ some (some (Full (job_if M k (nat_le 1 d.phase) d.note j))))
       → ((d : Doing) → w.doing ≡ Some d → d.held ≡ true → get_elem? hs' d.note ≡ some none)
       → ((i : ℕ) (x : View J) (d : Doing) → i ≢ id → get_elem? vs i ≡ some x → x.doing ≡ Some d
-      → get_elem? hs' d.note ≡ get_elem? hs d.note)
-      → Slots M k st hs vs → Slots M k st' hs' (set vs id w)
+      → get_elem? hs' d.note ≡ get_elem? hs d.note) → Slots M k st hs vs → Slots M k st' hs' (set vs id w)
   slots_step st st' hs hs' home mine out others s = record {
     home = home;
     resting = λ i x d j e is free at_. ⊎_elim
         (λ z. mine d j (ap (λ y. y.doing) z.1 ∙ is) free at_)
-        (λ z. others i x d z.0 z.1 is ∙ s.resting i x d j z.1 is free at_)
-        (at_set vs id i w x e);
+        (λ z. others i x d z.0 z.1 is ∙ s.resting i x d j z.1 is free at_) (at_set vs id i w x e);
     away = λ i x d e is held. ⊎_elim
         (λ z. out d (ap (λ y. y.doing) z.1 ∙ is) held)
-        (λ z. others i x d z.0 z.1 is ∙ s.away i x d z.1 is held)
-        (at_set vs id i w x e);
+        (λ z. others i x d z.0 z.1 is ∙ s.away i x d z.1 is held) (at_set vs id i w x e);
   }
 
   -- a status moves on among Waiting, Available and InProgress, and no job moves
@@ -47,8 +43,7 @@ module _ {J : Type 0} (M : Meaning J) (k : Plan J) (vs : List (View J)) (id : �
 
   -- a note is Done, while its job is home
   pub slots_done : (st : List ℕ) (hs : Homes) (d : Doing) → d.note < length st → at st d.note ≡ 2 → v.doing ≡ Some d
-      → d.held ≡ false
-      → nat_le 1 d.phase ≡ true → w.doing ≡ None
+      → d.held ≡ false → nat_le 1 d.phase ≡ true → w.doing ≡ None
       → Slots M k st hs vs → Slots M k (set st d.note 3) hs (set vs id w)
   slots_done st hs d low is doing free ran over s = slots_step st (set st d.note 3) hs hs
       (λ u j at_ n. ⊎_elim
@@ -60,13 +55,11 @@ module _ {J : Type 0} (M : Meaning J) (k : Plan J) (vs : List (View J)) (id : �
       (put_cases st d.note 3 u low))
       (λ e j is_. absurd (let z : Some e ≡ None = sym is_ ∙ over in cc))
       (λ e is_. absurd (let z : Some e ≡ None = sym is_ ∙ over in cc))
-      (λ i y e n at_ is_. refl)
-      s
+      (λ i y e n at_ is_. refl) s
 
   -- no slot changes, and the view has the job of its note still out
   pub slots_still : (st : List ℕ) (hs : Homes) (d d' : Doing) → v.doing ≡ Some d → d.held ≡ true → w.doing ≡ Some d'
-      → d'.held ≡ true → d'.note ≡ d.note
-      → Slots M k st hs vs → Slots M k st hs (set vs id w)
+      → d'.held ≡ true → d'.note ≡ d.note → Slots M k st hs vs → Slots M k st hs (set vs id w)
   slots_still st hs d d' was held is held' same_ s = slots_step st st hs hs s.home
       (λ e j is_ free. absurd (let z : true ≡ false =
       sym held' ∙ ap (λ y. y.held) (same_Some _ _ (sym is ∙ is_)) ∙ free in cc))
@@ -76,11 +69,9 @@ module _ {J : Type 0} (M : Meaning J) (k : Plan J) (vs : List (View J)) (id : �
 
   -- the job of the note that the view does goes out, or comes home
   pub slots_moved : (st : List ℕ) (hs : Homes) (d d' : Doing) (h : maybe.Option (Berth J)) → Doers k st vs
-      → v.doing ≡ Some d → w.doing ≡ Some d'
-      → d'.note ≡ d.note → d.note < length hs
+      → v.doing ≡ Some d → w.doing ≡ Some d' → d'.note ≡ d.note → d.note < length hs
       → ((j : J) → d'.held ≡ false → slice_get k.jobs d.note ≡ Some j
-      → h ≡ some (Full (job_if M k (nat_le 1 d'.phase) d.note j)))
-      → (d'.held ≡ true → h ≡ none)
+      → h ≡ some (Full (job_if M k (nat_le 1 d'.phase) d.note j))) → (d'.held ≡ true → h ≡ none)
       → Slots M k st hs vs → Slots M k st (set hs d.note h) (set vs id w)
   slots_moved st hs d d' h D doing doing' same_ low mine out s = slots_step st st hs (set hs d.note h)
       (λ u j at_ n. set_else hs d.note u h (λ z. n (ap (at st) z ∙ busy k st vs D id v d here doing))
@@ -96,5 +87,4 @@ module _ {J : Type 0} (M : Meaning J) (k : Plan J) (vs : List (View J)) (id : �
       let same_e : d' ≡ e = same_Some _ _ (sym doing' ∙ is_) in
       ap (get_elem? (set hs d.note h)) (ap (λ z. z.note) (sym same_e) ∙ same_) ∙ set_here hs d.note h low
       ∙ ap some (out (ap (λ z. z.held) same_e ∙ held)))
-      (λ i x e n at_ is_. set_else hs d.note e.note h (apart k st vs D i id x v e d n at_ here is_ doing))
-      s
+      (λ i x e n at_ is_. set_else hs d.note e.note h (apart k st vs D i id x v e d n at_ here is_ doing)) s

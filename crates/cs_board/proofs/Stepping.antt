@@ -46,22 +46,18 @@ module _ {J : Type 0} where
 
   -- a seat of the board after a step
   pub place_after : (M : Meaning J) (b : Board J) (s s' : Seat (Berth J) (View J)) (w : View J) (c : List (ℕ × Berth J))
-      → IsSittingOf M b s
-      → s'.table_id ≡ s.table_id → s'.me ≡ (w, c)
-      → IsViewOf (plan b) w → IsSittingOf M b s'
+      → IsSittingOf M b s → s'.table_id ≡ s.table_id → s'.me ≡ (w, c) → IsViewOf (plan b) w → IsSittingOf M b s'
   place_after M b s s' w c h table me knows = grind (arith, common_steps)
 
 module _ {J : Type 0} (M : Meaning J) where
   pub told_tried : (k : Plan J) (slots t r : ℕ) (m n : Sat J) → m.0.plan ≡ k
-      → claimed M (step slots (status_at k t) 1 2 none) m r n
-      → n ≡ (tried M (eqb r 1) m.0 t, m.1)
+      → claimed M (step slots (status_at k t) 1 2 none) m r n → n ≡ (tried M (eqb r 1) m.0 t, m.1)
   told_tried k slots t r m n plan_is told = grind (arith, common_steps, cases_eq, eq-eqb, ne_eqb)
 
 module _ {J : Type 0} where
   -- what a look at a status tells
   pub told_seen : (k : Plan J) (slots t r : ℕ) (m n : Sat J) → m.0.plan ≡ k
-      → looked_status (step slots (status_at k t) 0 0 none) m r n
-      → n ≡ (seen (eqb r 1) m.0 t, m.1)
+      → looked_status (step slots (status_at k t) 0 0 none) m r n → n ≡ (seen (eqb r 1) m.0 t, m.1)
   told_seen k slots t r m n plan_is told = grind (arith, common_steps, cases_eq, eq-eqb, ne_eqb)
 
   pub told_stopped : (k : Plan J) (slots e q t r : ℕ) (m n : Sat J) → m.0.plan ≡ k → Edge k.edges e q t
@@ -69,7 +65,6 @@ module _ {J : Type 0} where
   told_stopped k slots e q t r m n plan_is edge told = grind (arith, common_steps, cases_eq, eq-eqb, ne_eqb)
 
   pub told_shut : (k : Plan J) (slots e q t r : ℕ) (m n : Sat J) → m.0.plan ≡ k → Edge k.edges e q t
-      → closed (step slots (watch_at k e) 2 0 none) m r n
-      → n ≡ (shut m.0 e q t r, m.1)
+      → closed (step slots (watch_at k e) 2 0 none) m r n → n ≡ (shut m.0 e q t r, m.1)
   told_shut k slots e q t r m n plan_is edge told =
       told e q t (ap (λ z. watch_at z e) (sym plan_is)) (subst (λ z. Edge z.edges e q t) (sym plan_is) edge)

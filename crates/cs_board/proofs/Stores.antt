@@ -35,24 +35,19 @@ module _ {J : Type 0} (M : Meaning J) (F : Frames M) (k : Plan J) (plan : IsPlan
       (λ (l : h.upto < t). sym (quiet h.upto t a (omega arith) (λ q x y. ⊎_elim
       (λ z. absurd (h.later q x (omega arith) z
       (past M k plan st wt g q t (writer_user_at M k plan q t a y z used) begun)))
-      (λ z. z)
-      (cases_Bool (writes_at M k q a)))))
+      (λ z. z) (cases_Bool (writes_at M k q a)))))
       (λ (l : t ≤ h.upto). quiet t h.upto a l (λ q x y. ⊎_elim
       (λ z. absurd (let d : at st q ≡ 3 = h.done q y z in ⊎_elim
       (λ (e : t ≡ q). open_ (ap (at st) e ∙ d))
       (λ (n : t ≢ q). open_ (past M k plan st wt g t q (user_writer_at M k plan t q a (omega arith) used z)
-      (λ c. omega arith)))
-      (cases_eq t q)))
-      (λ z. z)
-      (cases_Bool (writes_at M k q a))))
-      (cases_lt h.upto t)
+      (λ c. omega arith))) (cases_eq t q)))
+      (λ z. z) (cases_Bool (writes_at M k q a)))) (cases_lt h.upto t)
 
   module _ (st wt cw : List ℕ) (vs : List (View J)) (id : ℕ) (v w : View J) (here : get_elem? vs id ≡ some v)
       (g : Gates k st wt) where
     -- a step after which the same notes are Done, and no other is InProgress that wasn't
     kept_still : (st' : List ℕ) (a : ℕ) → ((u : ℕ) → (at st' u == 3) ≡ (at st u == 3))
-        → ((u : ℕ) → at st u ≡ 2 → at st' u ≡ 2) → Kept M k st cw a
-        → Kept M k st' cw a
+        → ((u : ℕ) → at st u ≡ 2 → at st' u ≡ 2) → Kept M k st cw a → Kept M k st' cw a
     kept_still st' a alike runs h =
         let from_true : (n : ℕ) → (n == 3) ≡ true
         → n ≡ 3 = λ n e. grind (arith, Rattle.std.proofs.lemmas.Bool.eqb-true) in
@@ -79,8 +74,7 @@ module _ {J : Type 0} (M : Meaning J) (F : Frames M) (k : Plan J) (plan : IsPlan
 
     -- a cell is set by the note that writes it
     pub stored_set : (d : Doing) (a x : ℕ) → Doers k st vs → v.doing ≡ Some d → d.phase ≡ 0
-        → w.doing ≡ Some (set_image d a (signed x)) → a < length cw
-        → length cw ≡ length k.cells
+        → w.doing ≡ Some (set_image d a (signed x)) → a < length cw → length cw ≡ length k.cells
         → d.note < k.notes → writes_at M k d.note a ≡ true → Stored M k st cw vs
         → Stored M k st (set cw a x) (set vs id w)
     stored_set d a x D doing zero_ doing' low long within writes s =
@@ -91,8 +85,7 @@ module _ {J : Type 0} (M : Meaning J) (F : Frames M) (k : Plan J) (plan : IsPlan
               ∙ sym (ap (λ c. cell (slice_set d.image a (signed x)) c) e
               ∙ get_or-set_same d.image a (signed x) (pos 0) (omega (arith, p.long))))
               (λ (n : b ≢ a). ap signed (get_or-set_other cw a b x 0 n) ∙ p.seen b l u
-              ∙ sym (get_or-set_other d.image a b (signed x) (pos 0) n))
-              (cases_eq b a);
+              ∙ sym (get_or-set_other d.image a b (signed x) (pos 0) n)) (cases_eq b a);
           after = λ z. absurd (omega arith);
         } in
         record {
@@ -104,13 +97,11 @@ module _ {J : Type 0} (M : Meaning J) (F : Frames M) (k : Plan J) (plan : IsPlan
             value = λ q. ⊎_elim
                 (λ (e : b ≡ a). absurd (both_ways _
                 (subst (λ c. writes_at M k d.note c ≡ false) e (q d.note within running)) writes))
-                (λ (n : b ≢ a). ap signed (get_or-set_other cw a b x 0 n) ∙ h.value q)
-                (cases_eq b a);
+                (λ (n : b ≢ a). ap signed (get_or-set_other cw a b x 0 n) ∙ h.value q) (cases_eq b a);
           };
           images = λ i y e at_ is. ⊎_elim
               (λ z. subst (Pictured M k (set cw a x)) (same_Some _ _ (sym doing' ∙ ap (λ u. u.doing) z.1 ∙ is)) mine)
-              (λ z. others i y e z.0 z.1 is (s.images i y e z.1 is))
-              (at_set vs id i w y at_);
+              (λ z. others i y e z.0 z.1 is (s.images i y e z.1 is)) (at_set vs id i w y at_);
         }
       where
         running : at st d.note ≡ 2
@@ -124,22 +115,19 @@ module _ {J : Type 0} (M : Meaning J) (F : Frames M) (k : Plan J) (plan : IsPlan
               (λ (z : b ≡ a). absurd (apart k st vs D i id y v e d n at_ here is doing
               (sym (alone_at M k plan st wt g d.note e.note a writes (subst (λ c. uses_at M k e.note c ≡ true) z u)
               running (busy k st vs D i y e at_ is)))))
-              (λ (z : b ≢ a). ap signed (get_or-set_other cw a b x 0 z) ∙ p.seen b l u)
-              (cases_eq b a);
+              (λ (z : b ≢ a). ap signed (get_or-set_other cw a b x 0 z) ∙ p.seen b l u) (cases_eq b a);
           after = p.after;
         }
 
     -- a note that has run is Done: the cells that it writes are those after it in the serial run
     pub stored_done : (d : Doing) → Doers k st vs → v.doing ≡ Some d → 1 ≤ d.phase → w.doing ≡ None → d.note < length st
-        → d.note < k.notes
-        → Stored M k st cw vs → Stored M k (set st d.note 3) cw (set vs id w)
+        → d.note < k.notes → Stored M k st cw vs → Stored M k (set st d.note 3) cw (set vs id w)
     stored_done d D doing ran over low within s = record {
       values = λ a l. ⊎_elim (λ x. written a l x (s.values a l)) (λ x. left a x (s.values a l))
           (cases_Bool (writes_at M k d.note a));
       images = λ i y e at_ is. ⊎_elim
           (λ z. absurd (let n : Some e ≡ None = sym is ∙ ap (λ u. u.doing) (sym z.1) ∙ over in cc))
-          (λ z. s.images i y e z.1 is)
-          (at_set vs id i w y at_);
+          (λ z. s.images i y e z.1 is) (at_set vs id i w y at_);
     }
       where
         running : at st d.note ≡ 2
@@ -158,14 +146,12 @@ module _ {J : Type 0} (M : Meaning J) (F : Frames M) (k : Plan J) (plan : IsPlan
                   (λ (e : u ≡ d.note). ⊎_elim (λ z. z.1) (λ z. absurd (z.0 e)) (put_cases st d.note 3 u low))
                   (λ (n : u ≢ d.note). now_done u
                   (past M k plan st wt g u d.note (writer_user_at M k plan u d.note a (omega arith) y used)
-                  (λ z. omega (arith, running))))
-                  (cases_eq u d.note);
+                  (λ z. omega (arith, running)))) (cases_eq u d.note);
               later = λ u m n y e. ⊎_elim
                   (λ z. omega (arith, z.0))
                   (λ z. let c : at st d.note ≡ 3 =
                   past M k plan st wt g d.note u (user_writer_at M k plan d.note u a (omega arith) used y)
-                  (λ q. omega (arith, z.1, e)) in omega (arith, running))
-                  (put_cases st d.note 3 u low);
+                  (λ q. omega (arith, z.1, e)) in omega (arith, running)) (put_cases st d.note 3 u low);
               value = λ q. p.seen a l used ∙ ap (λ c. cell c a) (p.after ran);
             }
 
@@ -176,10 +162,8 @@ module _ {J : Type 0} (M : Meaning J) (F : Frames M) (k : Plan J) (plan : IsPlan
           done = λ u m y. now_done u (h.done u m y);
           later = λ u m n y e. ⊎_elim
               (λ z. both_ways _ x (subst (λ c. writes_at M k c a ≡ true) z.0 y))
-              (λ z. h.later u m n y (sym z.1 ∙ e))
-              (put_cases st d.note 3 u low);
+              (λ z. h.later u m n y (sym z.1 ∙ e)) (put_cases st d.note 3 u low);
           value = λ q. h.value (λ u m e. ⊎_elim
               (λ z. subst (λ c. writes_at M k c a ≡ false) (sym z.0) x)
-              (λ z. q u m (z.1 ∙ e))
-              (put_cases st d.note 3 u low));
+              (λ z. q u m (z.1 ∙ e)) (put_cases st d.note 3 u low));
         }

@@ -48,14 +48,12 @@ module _ {J : Type 0} where
       → ((a ≤ t) × (t < b)) ⊎ ((c ≤ t) × (t < d)) → FoundSince u.tries w t × (owed t w ≡ 0)
   all_join u v w a b c d p q x y t h = ⊎_elim
       (λ l. let r = x t l.0 l.1 in (q.found u.tries t r.0, omega (arith, r.1, q.owes t)))
-      (λ l. let r = y t l.0 l.1 in ((r.0.0, r.0.1, r.0.2, omega (arith, r.0.3, p.more)), r.1))
-      h
+      (λ l. let r = y t l.0 l.1 in ((r.0.0, r.0.1, r.0.2, omega (arith, r.0.3, p.more)), r.1)) h
 
 module _ {J : Type 0} (M : Meaning J) where
   pub tries_more : (u v : View J) (b : Bool) (t : ℕ) → Tries u v → Tries u (tried M b v t)
   tries_more u v true t h =
-      tries_join u v (began M v t) h
-      (record {
+      tries_join u v (began M v t) h (record {
         more = omega arith;
         found = λ n x q. q;
         owes = λ x. times-without_le x t v.owes;
@@ -86,8 +84,7 @@ module _ {J : Type 0} (M : Meaning J) where
       ))
       (λ (n : x ≢ t). let r = a x low (omega arith) in (
         (r.0.0, r.0.1, get_longer v.found ((t, v.tries + 1) ∷ []) r.0.0 (x, r.0.1) r.0.2, r.0.3),
-        omega
-            (arith, r.1, times-without_le x t v.owes),
+        omega (arith, r.1, times-without_le x t v.owes),
       ))
       (cases_eq x t)
 

@@ -57,8 +57,7 @@ module _ {J : Type 0} (M : Meaning J) (k : Plan J) (whole : IsPlan M k) (t : ℕ
 
   -- before the own turn a turn word counts the earlier writers alone
   pub look_before : (v : View J) (r x : ℕ) → v.doing ≡ Some (ran_out M k t 0)
-      → x ≡ writers_before M k (deed v).note r + turned_in M k r v.doing
-      → x ≡ writers_before M k t r
+      → x ≡ writers_before M k (deed v).note r + turned_in M k r v.doing → x ≡ writers_before M k t r
   look_before v r x e h = grind (arith, common_steps)
 
   -- and so it does before the note's turn there

@@ -24,18 +24,15 @@ module _ {J : Type 0} (M : Meaning J) (k : Plan J) where
   module _ (st : List ℕ) (vs : List (View J)) (id : ℕ) (v w : View J) (here : get_elem? vs id ≡ some v) where
     -- the same notes are Done, and the view weighs on each turn word what it did
     pub turned_still : (st' tw : List ℕ) → ((u : ℕ) → (at st' u == 3) ≡ (at st u == 3))
-        → ((r : ℕ) → turned_on M k r w ≡ turned_on M k r v)
-        → Turned M k st tw vs → Turned M k st' tw (set vs id w)
+        → ((r : ℕ) → turned_on M k r w ≡ turned_on M k r v) → Turned M k st tw vs → Turned M k st' tw (set vs id w)
     turned_still st' tw alike same_ h r l =
         omega (arith, h r l, same_ r, done_same st st' r alike, total-set (turned_on M k r) vs id v w here)
 
     -- a note makes its turn on a resource that it writes, in the order of its footprint
     pub turned_more : (tw : List ℕ) (d : Doing) (i r0 x : ℕ) → v.doing ≡ Some d → w.doing ≡ Some (next_phase d)
-        → d.phase ≡ i + 1
-        → IsStrictlyIncreasing (places_written M k d.note)
+        → d.phase ≡ i + 1 → IsStrictlyIncreasing (places_written M k d.note)
         → i < length (places_written M k d.note) → at (places_written M k d.note) i ≡ r0 → r0 < length tw
-        → x ≡ at tw r0 + 1
-        → Turned M k st tw vs → Turned M k st (set tw r0 x) (set vs id w)
+        → x ≡ at tw r0 + 1 → Turned M k st tw vs → Turned M k st (set tw r0 x) (set vs id w)
     turned_more tw d i r0 x doing doing' phase up low is within new h r l =
         let less : d.phase - 1 ≡ i = omega arith in
         let more : d.phase + 1 - 1 ≡ i + 1 = omega arith in
@@ -54,13 +51,11 @@ module _ {J : Type 0} (M : Meaning J) (k : Plan J) where
         omega (arith, z.1, h r l, sum))
         (λ z. let same_ : one (listed (take (i + 1) W) r) ≡ one (listed (take i W) r) =
         ap one (listed_more W i r low (λ e. z.0 (sym e ∙ is))) in
-        omega (arith, z.1, h r l, sum))
-        (put_cases tw r0 x r within)
+        omega (arith, z.1, h r l, sum)) (put_cases tw r0 x r within)
 
     -- a note whose turns are all made is Done
     pub turned_done : (tw : List ℕ) (d : Doing) → v.doing ≡ Some d → w.doing ≡ None → at st d.note ≡ 2
-        → d.note < length st → d.note < k.notes
-        → d.phase ≡ 1 + length (places_written M k d.note)
+        → d.note < length st → d.note < k.notes → d.phase ≡ 1 + length (places_written M k d.note)
         → Turned M k st tw vs → Turned M k (set st d.note 3) tw (set vs id w)
     turned_done tw d doing over is low within phase h r l =
         let less : d.phase - 1 ≡ length (places_written M k d.note) = omega arith in
@@ -80,8 +75,7 @@ module _ {J : Type 0} (M : Meaning J) (k : Plan J) where
         ap (λ n. one (n == 3 && listed W r)) here_ in
         omega (arith, h r l, total-set (turned_on M k r) vs id v w here)
       where
-        others : (u : ℕ) → u ≢ d.note
-            → (at (set st d.note 3) u == 3 && listed (places_written M k u) r)
+        others : (u : ℕ) → u ≢ d.note → (at (set st d.note 3) u == 3 && listed (places_written M k u) r)
             ≡ (at st u == 3 && listed (places_written M k u) r)
         others u n = ⊎_elim (λ z. absurd (n z.0)) (λ z. ap (λ x. x == 3 && listed (places_written M k u) r) z.1)
             (put_cases st d.note 3 u low)
@@ -104,8 +98,7 @@ module _ {J : Type 0} (M : Meaning J) (k : Plan J) where
           earlier : (u : ℕ) → u < d.note
               → (at st u == 3 && listed (places_written M k u) r) ≡ listed (places_written M k u) r
           earlier u l = ⊎_elim
-              (λ y. ap (λ b. b && listed (places_written M k u) r) (eq-eqb (at st u) 3
-              (past M k plan st wt g u d.note
+              (λ y. ap (λ b. b && listed (places_written M k u) r) (eq-eqb (at st u) 3 (past M k plan st wt g u d.note
               (writer_user M k plan u d.note r l (listed_contains (places_written M k u) r y) uses)
               (λ z. omega (arith, running)))))
               (λ y. ap (λ b. at st u == 3 && b) y ∙ and_right (at st u == 3) false refl ∙ sym y)
@@ -119,11 +112,9 @@ module _ {J : Type 0} (M : Meaning J) (k : Plan J) where
               (λ (e : d.note ≡ u). ap (at st) e ∙ three)
               (λ (n : d.note ≢ u). past M k plan st wt g d.note u
               (user_writer M k plan d.note u r (omega arith) uses (listed_contains (places_written M k u) r parts.1))
-              (λ z. omega arith))
-              (cases_eq d.note u) in
+              (λ z. omega arith)) (cases_eq d.note u) in
               omega (arith, running)))
-              (λ y. y)
-              (cases_Bool (at st u == 3 && listed (places_written M k u) r))
+              (λ y. y) (cases_Bool (at st u == 3 && listed (places_written M k u) r))
 
       take_listed : (n : ℕ) (xs : List ℕ) (r : ℕ) → listed xs r ≡ false → listed (take n xs) r ≡ false
       take_listed n xs r h = ⊎_elim

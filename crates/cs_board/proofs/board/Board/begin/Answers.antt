@@ -35,6 +35,5 @@ returns-clause-seat g c =
     (subst (IsPlan g.J.Job.means) (sym is) c.requires.whole)
     (c.into_badge-badge.ensures.0 ∙ c.begin_cycle-graph.ensures.table ∙ c.requires.sole.table)
     (c.into_badge-badge.ensures.2 ∙ ap (λ z. z.0 ∷ []) c.begin_cycle-graph.ensures.me
-    ∙ ap (λ k. opening_view k ∷ []) (sym is))
-    refl c.requires.room.0 (omega
+    ∙ ap (λ k. opening_view k ∷ []) (sym is)) refl c.requires.room.0 (omega
     (arith, ap (λ z. z.notes) is, c.requires.built.levels, c.requires.built.notes, c.requires.room.1))).0

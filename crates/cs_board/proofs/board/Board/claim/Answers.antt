@@ -1,6 +1,7 @@
-use Rattle.std.proofs.Common.{◌≡◌, ◌<◌, ℕ, [], sym, ap, ◌∙◌, subst, arith}
+use Rattle.std.proofs.Common.{◌≡◌, ◌<◌, ℕ, [], sym, ap, ◌∙◌, subst, arith, IfSome}
 use Rattle.cs_board.specs.{Board.plan, Board.view, Board.IsIdle, Board.FoundSince, inner.Sittings.AllTried}
-use Rattle.cs_board.proofs.Trying.{if_none_map, owes_none}
+use Rattle.cs_board.proofs.{Trying.if_none_map, Trying.owes_none, Calls.note_won, Calls.won_claimed, Calls.room_kept}
+use Rattle.cs_board.specs.Board.{IsClaimed, SameSeat, HasRoom, note_of}
 use Rattle.cs_board.proofs.board.Board.claim.Goals as goal
 
 pub returns-clause-none : goal.returns-clause-none
@@ -21,3 +22,45 @@ returns-clause-none g c =
           (subst (λ z. FoundSince z.tries w t) was (h.1 t (omega arith) l).0),
     ))
     c.try_round-won.ensures.none
+
+pub try_round-won-requires-clause-idle : goal.try_round-won-requires-clause-idle
+try_round-won-requires-clause-idle g c = subst (λ z. IsIdle z.0) (sym c.sit-sitting.ensures.me) c.requires.idle
+
+pub rise-requires : goal.rise-requires
+rise-requires g c =
+    let k = plan c.args.self.now in
+    let p = c.sit-sitting.ensures in
+    let w = c.try_round-won.new.sitting.me.0 in
+    let won = c.try_round-won.ensures in
+    record {
+      sitting = won.sitting;
+      carries = won.carries ∙ ap (λ z. z.1) p.me;
+      note = note_won g.J.Job.means k c.try_round-won.result w c.remember.new.self.note
+          (AllTried c.sit-sitting.result.me.0 w 0 k.notes) won.some won.none c.remember.ensures.note;
+      room = subst (λ o. HasRoom k w (record c.sit-sitting.new.seat { room = o })) (sym c.remember.ensures.room)
+          (room_kept k (view c.args.seat.now) w c.sit-sitting.new.seat p.room
+          (won.tries.seat.first ∙ ap (λ z. z.0.first) p.me));
+    }
+
+pub returns-clause-some : goal.returns-clause-some
+returns-clause-some g c =
+    let M = g.J.Job.means in
+    let k = plan c.args.self.now in
+    let won = c.try_round-won in
+    subst (λ v. IfSome won.result (λ t. IsClaimed M v × (note_of v ≡ t) × (t < k.notes))) (sym c.rise.ensures.view)
+    (won_claimed M k won.result won.new.sitting.me.0 won.ensures.sitting.knows.plan won.ensures.some)
+
+pub returns-clause-tries : goal.returns-clause-tries
+returns-clause-tries g c =
+    let seen = ap (λ v. v.tries) c.rise.ensures.view in
+    let was = ap (λ z. z.0.tries) c.sit-sitting.ensures.me in
+    omega (arith, c.try_round-won.ensures.steps)
+
+pub returns-clause-mine : goal.returns-clause-mine
+returns-clause-mine g c = ap (λ v. v.mine) c.rise.ensures.view ∙ c.try_round-won.ensures.tries.mine
+    ∙ ap (λ z. z.0.mine) c.sit-sitting.ensures.me
+
+pub returns-clause-same : goal.returns-clause-same
+returns-clause-same g c = subst (SameSeat (view c.args.seat.now)) (sym c.rise.ensures.view)
+    (subst (λ z. SameSeat z.0 c.try_round-won.new.sitting.me.0) c.sit-sitting.ensures.me
+    c.try_round-won.ensures.tries.seat)

@@ -9,8 +9,7 @@ returns-then-eq-clause-none g c =
     let k = plan c.args.self.now in
     let u = view c.args.seat.now in
     let w = view c.claim.new.seat in
-    if_none_map c.claim.result
-    (IsIdle w × (w.owes ≡ []) × ((t : ℕ) → t < k.notes → FoundSince u.tries w t))
+    if_none_map c.claim.result (IsIdle w × (w.owes ≡ []) × ((t : ℕ) → t < k.notes → FoundSince u.tries w t))
     ((v : View g.row.J.Denot) → HasTried k v u → HasTried k v w)
     (λ h v before. tried_again k v u w before (record {
       idle = h.0;
@@ -19,5 +18,4 @@ returns-then-eq-clause-none g c =
       tried = h.2;
       mine = c.claim.ensures.mine;
       same = c.claim.ensures.same;
-    }))
-    c.claim.ensures.none
+    })) c.claim.ensures.none

@@ -1,5 +1,5 @@
-use Rattle.std.proofs.Common.{◌+◌, ◌∙◌, refl, sym}
-use Rattle.cs_board.specs.Board.{plan}
+use Rattle.std.proofs.Common.{◌≡◌, ◌+◌, ◌∙◌, None, MatchOption, refl, subst, sym}
+use Rattle.cs_board.specs.{Board.plan, inner.Sittings.ClosesAt}
 use Rattle.cs_board.proofs.Finishing.{closing_next, beside_same, beside_join}
 use Rattle.cs_board.proofs.board.Board.close_all.Goals as goal
 
@@ -27,3 +27,13 @@ loop-next-preserved g c =
           (sym c.graph-in-Some.ensures.edges) done.closing c.next_out-next.ensures.none c.next_out-next.ensures.some;
       beside = beside_join _ _ _ i.beside done.beside;
     }
+
+pub close_one-watcher-requires-clause-closing : goal.close_one-watcher-requires-clause-closing
+close_one-watcher-requires-clause-closing g c = let v = c.loop-next.sitting.me.0 in
+    subst (λ o. MatchOption o (v.closing ≡ None) (ClosesAt (plan c.args.self.now) v c.args.note)) c.in-Some.is
+    c.loop-next.invariant.closing
+
+pub returns-clause-closing : goal.returns-clause-closing
+returns-clause-closing g c = let v = c.loop-next.sitting.me.0 in
+    subst (λ o. MatchOption o (v.closing ≡ None) (ClosesAt (plan c.args.self.now) v c.args.note)) c.in_default.is
+    c.loop-next.invariant.closing

@@ -10,8 +10,7 @@ load-found-requires g c =
     (deed c.args.sitting.now.me.0).note c.args.addr c.requires.used).0 in (
       c.requires.sitting.table,
       omega (arith, low, c.cell_word-word.ensures, c.args.self.now.built.words),
-      rw c.cell_word-word.ensures
-          (looks g.J.Job.means (plan c.args.self.now) g.met.J.Job.frames
+      rw c.cell_word-word.ensures (looks g.J.Job.means (plan c.args.self.now) g.met.J.Job.frames
           c.args.self.now.frame.table.shared.table_id.slots
           c.args.sitting.now.id c.args.sitting.now.me c.requires.sitting.knows.plan c.requires.sitting.knows.live
           c.requires.sitting.knows.playing c.args.addr),

@@ -17,18 +17,6 @@ load-requires g c = let j =
           refl refl j.1,
     )
 
-pub returns-clause-sitting : goal.returns-clause-sitting
-returns-clause-sitting g c =
-    let j = job_there (plan c.args.self.now).jobs c.args.note
-    (omega (arith, c.requires.note, c.requires.sitting.whole.jobs)) in
-    place_after g.J.Job.means c.args.self.now c.args.sitting.now c.load.new.seat
-    (does c.args.sitting.now.me.0 (job_out (fresh g.J.Job.means (plan c.args.self.now) c.args.note)))
-    ((c.args.note, Full j.0) ∷ c.args.sitting.now.me.1) c.requires.sitting c.load.ensures.0
-    (c.load.ensures.2 (fresh g.J.Job.means (plan c.args.self.now) c.args.note) j.0 c.requires.doing
-    (subst (λ z. slice_get z.jobs c.args.note ≡ Some j.0) (sym c.requires.sitting.knows.plan) j.1) refl)
-    (view_does (plan c.args.self.now) c.args.sitting.now.me.0
-    (job_out (fresh g.J.Job.means (plan c.args.self.now) c.args.note)) c.requires.sitting.knows)
-
 pub returns-clause-me : goal.returns-clause-me
 returns-clause-me g c =
     let j = job_there (plan c.args.self.now).jobs c.args.note
@@ -38,3 +26,11 @@ returns-clause-me g c =
       c.load.ensures.2 (fresh g.J.Job.means (plan c.args.self.now) c.args.note) j.0 c.requires.doing
           (subst (λ z. slice_get z.jobs c.args.note ≡ Some j.0) (sym c.requires.sitting.knows.plan) j.1) refl,
     )
+
+pub returns-clause-sitting : goal.returns-clause-sitting
+returns-clause-sitting g c =
+    let d = job_out (fresh g.J.Job.means (plan c.args.self.now) c.args.note) in
+    let me = returns-clause-me g c in
+    place_after g.J.Job.means c.args.self.now c.args.sitting.now c.load.new.seat (does c.args.sitting.now.me.0 d)
+    ((c.args.note, Full me.0) ∷ c.args.sitting.now.me.1) c.requires.sitting c.load.ensures.0 me.2
+    (view_does (plan c.args.self.now) c.args.sitting.now.me.0 d c.requires.sitting.knows)

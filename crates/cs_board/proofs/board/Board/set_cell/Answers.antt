@@ -11,8 +11,7 @@ store-requires g c =
     c.requires.writes)).0 in (
       c.requires.sitting.table,
       omega (arith, low, c.cell_word-word.ensures, c.args.self.now.built.words),
-      rw c.cell_word-word.ensures
-          (sets_cell g.J.Job.means (plan c.args.self.now) g.met.J.Job.frames
+      rw c.cell_word-word.ensures (sets_cell g.J.Job.means (plan c.args.self.now) g.met.J.Job.frames
           c.args.self.now.frame.table.shared.table_id.slots c.args.sitting.now.id c.args.sitting.now.me
           c.requires.sitting.knows.plan c.requires.sitting.knows.live c.requires.sitting.knows.playing d
           c.requires.doing c.requires.held c.args.addr c.cast_unsigned.result c.requires.phase c.requires.writes),

@@ -15,14 +15,13 @@ store-requires g c = (
       refl refl),
 )
 
+pub returns-clause-me : goal.returns-clause-me
+returns-clause-me g c = c.store.ensures.2 c.args.note
+    (c.status_word-word.ensures ∙ ap (λ z. status_at z c.args.note) (sym c.requires.sitting.knows.plan))
+
 pub returns-clause-sitting : goal.returns-clause-sitting
 returns-clause-sitting g c =
     place_after g.J.Job.means c.args.self.now c.args.sitting.now c.store.new.seat
     (ended c.args.sitting.now.me.0 c.args.note) c.args.sitting.now.me.1 c.requires.sitting c.store.ensures.0
-    (c.store.ensures.2 c.args.note
-    (c.status_word-word.ensures ∙ ap (λ z. status_at z c.args.note) (sym c.requires.sitting.knows.plan)))
+    (returns-clause-me g c)
     (view_ended (plan c.args.self.now) c.args.sitting.now.me.0 c.args.note c.requires.sitting.knows)
-
-pub returns-clause-me : goal.returns-clause-me
-returns-clause-me g c = c.store.ensures.2 c.args.note
-    (c.status_word-word.ensures ∙ ap (λ z. status_at z c.args.note) (sym c.requires.sitting.knows.plan))

@@ -1,7 +1,7 @@
 use Rattle.std.proofs.Common.{◌≡◌, ◌+◌, false, sym, ap, ◌∙◌, subst, arith}
-use Rattle.cs_board.specs.{Board.IsIdle, Views.missed}
-use Rattle.cs_board.specs.inner.Sittings.{Tries, AllTried, tried}
-use Rattle.cs_board.proofs.Trying.{tries_more, all_more, idle_missed}
+use Rattle.cs_board.specs.{Board.plan, Board.IsIdle, Views.missed}
+use Rattle.cs_board.specs.inner.Sittings.{HasClaimed, Tries, AllTried, tried}
+use Rattle.cs_board.proofs.{Trying.tries_more, Trying.all_more, Trying.idle_missed, Calls.began_has}
 use Rattle.cs_board.proofs.board.Board.try_range.Goals as goal
 
 pub returns-then-try_note-clause-tries : goal.returns-then-try_note-clause-tries
@@ -30,3 +30,14 @@ loop-note-preserved g c =
 
 pub returns-clause-none : goal.returns-clause-none
 returns-clause-none g c = (c.loop-note.invariant.idle, λ t low high. c.loop-note.invariant.tried t low (omega arith))
+
+pub returns-then-try_note-clause-some : goal.returns-then-try_note-clause-some
+returns-then-try_note-clause-some g c =
+    let M = g.J.Job.means in
+    let k = plan c.args.self.now in
+    let n = c.loop-note.note in
+    let s = c.loop-note.sitting.me in
+    let i = c.loop-note.invariant in
+    subst (λ z. HasClaimed M k z.0 n)
+    (sym (c.try_note.ensures.me ∙ ap (λ b. (tried M b s.0 n, s.1)) c.if-try_note.true))
+    (began_has M k s.0 n i.sitting.knows i.idle (omega (arith, c.loop-note-test.true, c.requires.range)))

@@ -4,6 +4,11 @@ use Rattle.cs_board.specs.{Board.plan, Board.IsIdle, inner.Sittings.AllTried}
 use Rattle.cs_board.proofs.Trying.{all_join, if_none_map, at_none, not_none, tries_join}
 use Rattle.cs_board.proofs.board.Board.try_round.Goals as goal
 
+pub try_range-requires-clause-idle : goal.try_range-requires-clause-idle
+try_range-requires-clause-idle g c = (at_none c.try_range-won.result (IsIdle c.try_range-won.new.sitting.me.0
+    × AllTried c.args.sitting.now.me.0 c.try_range-won.new.sitting.me.0 c.args.from c.args.self.now.notes)
+    (sym c.is_some.ensures ∙ c.if-is_some.false) c.try_range-won.ensures.none).0
+
 pub returns-clause-none : goal.returns-clause-none
 returns-clause-none g c =
     let n = c.args.self.now.notes in
@@ -17,8 +22,7 @@ returns-clause-none g c =
     (λ h. (
       h.0,
       λ t low high. all_join u v w c.args.from n 0 c.args.from c.try_range-won.ensures.tries c.try_range.ensures.tries
-          first.1 h.1 t
-          (⊎_elim (λ (l : t < c.args.from). inr (low, l))
+          first.1 h.1 t (⊎_elim (λ (l : t < c.args.from). inr (low, l))
           (λ (l : c.args.from ≤ t). inl (l, omega (arith, high, c.args.self.now.built.notes)))
           (cases_lt t c.args.from)),
     ))

@@ -43,8 +43,7 @@ loop-area-preserved g c =
     let up : 1 + i + 1 ≡ 1 + (i + 1) = omega arith in
     record {
       sitting = c.turn_on.ensures.sitting;
-      me = c.turn_on.ensures.me
-          ∙ ap (λ z. (does z.0 (next_phase (deed z.0)), z.1)) c.loop-area.invariant.me
+      me = c.turn_on.ensures.me ∙ ap (λ z. (does z.0 (next_phase (deed z.0)), z.1)) c.loop-area.invariant.me
           ∙ ap (λ n. (
             does c.args.sitting.now.me.0 (ran_out g.J.Job.means (plan c.args.self.now) c.args.note n),
             c.args.sitting.now.me.1,

@@ -11,8 +11,7 @@ store-requires g c =
     let phase : d.phase ≡ d.phase - 1 + 1 = omega (arith, c.requires.begun) in (
       c.requires.sitting.table,
       omega (arith, c.turn_word-word.ensures, c.requires.area, c.args.self.now.built.words),
-      rw c.turn_word-word.ensures
-          (turns_on g.J.Job.means (plan c.args.self.now) g.met.J.Job.frames
+      rw c.turn_word-word.ensures (turns_on g.J.Job.means (plan c.args.self.now) g.met.J.Job.frames
           c.args.self.now.frame.table.shared.table_id.slots c.args.sitting.now.id c.args.sitting.now.me
           c.requires.sitting.knows.plan c.requires.sitting.knows.live c.requires.sitting.knows.playing d
           c.requires.doing c.requires.held (d.phase - 1) c.args.area c.args.value phase
