@@ -1,5 +1,6 @@
 -- A cycle from the moment before it to the moment after it.
-use Rattle.std.proofs.Common.{◌≡◌, ◌≤◌, ◌<◌, ℕ, suc, ◌+◌, ◌*◌, ◌^◌, ℤ, Bool, List, [], ◌∷◌, length, ap, sym, ◌∙◌, arith}
+use Rattle.std.proofs.Common.{◌≡◌, ◌≤◌, ◌<◌, ℕ, suc, ◌+◌, ◌*◌, ◌^◌, ℤ, Bool, List, [], ◌∷◌, length, ap, sym, ◌∙◌}
+use Rattle.std.proofs.Common.{arith, Fits, w64}
 use Rattle.std.proofs.Math.Nat.{mul-le-mul, mul-le-mul_left}
 use Rattle.std.specs.List.{AllZip, count_by}
 use Rattle.std.proofs.lemmas.List.Sums.{count_by-le-length}
@@ -94,7 +95,7 @@ outside_few outside some long block here few same small = omega arith
 -- the count of samples out of range stays small
 pub outside_fits : (c : Composition) (p : ℤ → Bool) (n outside more : ℕ) → n < 2 ^ 32
     → c.head.ksmps * c.head.nchnls ≤ 65536
-    → outside ≡ count_by p (frames_before c n) → more < 2 ^ 32 → outside + more < 2 ^ 64
+    → outside ≡ count_by p (frames_before c n) → more < 2 ^ 32 → Fits w64 (outside + more)
 outside_fits c p n outside more small block is few =
     let some : count_by p (frames_before c n) ≤ length (frames_before c n) = count_by-le-length p (frames_before c n) in
     let long : length (frames_before c n) ≡ n * (c.head.ksmps * c.head.nchnls) = length-frames_before c n in

@@ -4,7 +4,7 @@ ghost use Rattle.cs_base.specs.Limits.{most_notes};
 ghost use Rattle.cs_cells.specs.Areas.{word_count};
 ghost use Rattle.cs_piece_meaning.specs.Course.{begins, moment_at, opening, performed, turned_off};
 ghost use Rattle.cs_piece_meaning.specs.{Heard.mix_in, Moments.Moment};
-ghost use Rattle.cs_desk.specs.Desk.{areas, cells};
+ghost use Rattle.cs_desk.specs.{Cycles.IsCycle, Cycles.WasPlayed, Desk.areas, Desk.cells};
 ghost use Rattle.cs_life.specs.Standing.{StandsFor};
 ghost use Rattle.cs_perform.specs.{Counted.CountsOn, inner.Stands.InRows, inner.Stands.IsAt, inner.Stands.IsReady};
 ghost use Rattle.cs_piece.specs.Setups.{SetupData, composition_of};
@@ -14,8 +14,9 @@ ghost use Rattle.cs_voice.specs.{Mixing.gives, Mixing.shape, VoiceData.VoiceData
 use crate::counter::Counter;
 use cs_base::OutOfMemory;
 use cs_cells::{Job, Layout};
-use cs_desk::{Course, Desk, make_room};
+use cs_desk::{Course, Desk, Receipt, make_room};
 use cs_edge::{Gate, OpenGate};
+use cs_graph::Graph;
 use cs_life::{Life, serial_runs_perform, voices_are_heard};
 use cs_piece::Setup;
 use cs_pool::Pool;
@@ -23,7 +24,7 @@ use cs_row::{Heard, Row, Rows, row_laws, sum_rows};
 use cs_voice::Voice;
 use std::alloc::Global;
 use std::mem;
-use std::sync::Wait;
+use std::sync::{Arc, Wait};
 
 /// The number of notes for which there is room at first.
 const FIRST_NOTES: u32 = 16;
@@ -142,14 +143,14 @@ impl<'t, G: Gate> Stand<'t, G> {
     {
         let notes = self.voices.len();
         if notes < 2 || !pool.offers(notes.saturating_mul(block.len())) {
-            pool.pass();
+            pass(pool);
             return false;
         }
         let alloc = *self.voices.allocator();
         match self.make_ready(alloc, pool.workers()) {
             Ok(()) => true,
             Err(OutOfMemory) => {
-                pool.pass();
+                pass(pool);
                 false
             }
         }
@@ -207,7 +208,7 @@ impl<'t, G: Gate> Stand<'t, G> {
         let mut rows = stand.rows;
         let Course { graph, feet } = stand.course;
         let filled = rows.fill(&mut voices, stand.gate, cycle);
-        let (receipt, desk, graph) = pool.cycle(cycle, graph, stand.desk, filled);
+        let (receipt, desk, graph) = by_crew(pool, cycle, graph, stand.desk, filled);
         sum_rows(receipt.jobs(), block);
         stand.voices = tally.count(receipt.unrow(voices, &mut rows));
         stand.rows = rows;
@@ -226,6 +227,26 @@ impl<'t, G: Gate> Stand<'t, G> {
         let stayed = self.voices.len();
         self.current = is_still_so(self.current, stayed == playing);
     }
+}
+
+/// One cycle more is the caller's alone. A performance needs to know nothing of what the crew makes of it.
+fn pass<J: Job + Drop, R: Wait, G: Gate>(pool: &mut Pool<'_, J, R, G>) {
+    pool.pass();
+}
+
+/// The crew runs the jobs of a cycle: `Pool::cycle`, as far as a performance has to know of it.
+fn by_crew<J: Job + Drop, R: Wait, G: Gate>(
+    pool: &mut Pool<'_, J, R, G>,
+    cycle: u32,
+    graph: Arc<Graph, Global>,
+    desk: Desk<J>,
+    jobs: Vec<J>,
+) -> (Receipt<J>, Desk<J>, Arc<Graph, Global>)
+    requires { IsCycle J.means graph.value desk jobs.items }
+    ensures played { WasPlayed J.means desk jobs.items result.0 result.1 }
+    ensures graph { result.2.value ≡ graph.value }
+{
+    pool.cycle(cycle, graph, desk, jobs)
 }
 
 /// Whether what was so is so again.

@@ -3,7 +3,7 @@ use Rattle.std.proofs.Common.{arith, ◌≡◌, ◌+◌, Option, Some, None, IfS
 use Rattle.std.proofs.lemmas.Grind.{common_steps}
 use Rattle.std.specs.Int.{from_bool}
 use Rattle.cs_cells.specs.Meaning.{Meaning}
-use Rattle.cs_pool.specs.{Letters.caller, declared.mailbox.Mailbox.Mailbox, declared.mailbox.Returned.Returned}
+use Rattle.cs_pool.specs.{declared.mailbox.Mailbox.Mailbox, declared.mailbox.Returned.Returned}
 use Rattle.cs_pool.specs.Mailboxes.{HasSomethingOut, LooksFor}
 use Rattle.cs_pool.specs.declared.mailbox.CallerEnd.{CallerEnd}
 

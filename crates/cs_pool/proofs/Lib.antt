@@ -4,5 +4,6 @@ pub mod Found
 pub mod Given
 pub mod Missed
 pub mod Numbers
+pub mod Parts
 pub mod Seats
 pub mod Shared

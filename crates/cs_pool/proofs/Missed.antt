@@ -1,7 +1,7 @@
 -- What a cycle that was offered tells of the next ones.
 use Rattle.std.proofs.lemmas.Grind.{common_steps}
-use Rattle.std.proofs.Common.{◌≡◌, ℕ, ◌+◌, ◌*◌, ◌<◌, ◌||◌, Bool, true, false, refl, arith}
-use Rattle.std.specs.{Prelude.min, Int.from_bool}
+use Rattle.std.proofs.Common.{◌≡◌, ℕ, ◌+◌, ◌*◌, ◌<◌, Bool, true, false, arith}
+use Rattle.std.specs.{Prelude.min}
 use Rattle.std.proofs.Math.Nat.{pow-succ'}
 use Rattle.cs_pool.specs.Alone.{most_alone, alone_after}
 use Rattle.cs_pool.specs.{Pools.Learns, Pools.tasks_served, declared.pool.Pool.Pool}
@@ -18,17 +18,3 @@ module _ {J R G : Type 0} where
       × (after.sparing.after_a_miss ≡ min (2 * before.sparing.after_a_miss) most_alone)) → Learns before after
   learns before after true more same helped missed = grind (arith, common_steps)
   learns before after false more same helped missed = grind (arith, common_steps, twice_more)
-
--- the tasks of a first helper and of the others, after they were asked for their seats
-pub more_served : (a b : Bool) (p q p' q' : ℕ) → p' ≡ p + from_bool a → (b ≡ true → q < q') → (b ≡ false → q' ≡ q)
-    → (a || b) ≡ true → p + q < p' + q'
-more_served true true p q p' q' one more same is = let o : p' ≡ p + 1 = one in omega (arith, o, more refl)
-more_served true false p q p' q' one more same is = let o : p' ≡ p + 1 = one in omega (arith, o, same refl)
-more_served false true p q p' q' one more same is = let o : p' ≡ p + 0 = one in omega (arith, o, more refl)
-more_served false false p q p' q' one more same is = absurd (cc)
-
-pub none_served : (a b : Bool) (p q p' q' : ℕ) → p' ≡ p + from_bool a → (b ≡ true → q < q') → (b ≡ false → q' ≡ q)
-    → (a || b) ≡ false → p' + q' ≡ p + q
-none_served true b p q p' q' one more same is = absurd (cc)
-none_served false true p q p' q' one more same is = absurd (cc)
-none_served false false p q p' q' one more same is = let o : p' ≡ p + 0 = one in omega (arith, o, same refl)

@@ -1,3 +1,4 @@
 pub mod Exchange
 pub mod Lines
+pub mod Parts
 pub mod Telling

@@ -4,8 +4,8 @@ ghost use Rattle.std.specs.{Arc.arc_value, Int.from_bool};
 ghost use Rattle.cs_board.specs.{Board.plan, Board.name, Board.view, Board.IsSeatOf, Views.opening_view};
 ghost use Rattle.cs_desk.specs.Cycles.{IsCycle, WasPlayed};
 ghost use Rattle.cs_pool.specs.{Working.IsReady, Working.IsDone, Numbered.IsFirst};
-ghost use Rattle.cs_pool.specs.inner.Lines.{IsIdle, IsAway, Lends};
-ghost use Rattle.cs_pool.specs.Mailboxes.{given, served, tasks};
+ghost use Rattle.cs_pool.specs.inner.{Lines.IsIdle, Lines.IsAway, Lines.Lends, Parts.AreLent};
+ghost use Rattle.cs_pool.specs.Mailboxes.{given, served};
 ghost use Rattle.cs_graph.specs.Cover.{HasCover};
 ghost use Rattle.cs_pool.specs.Alone.{few_values};
 ghost use Rattle.cs_pool.specs.Pools.{helpers, ended, next_cycle, cycles_alone, tasks_served, served_by, tasks_given};
@@ -236,29 +236,43 @@ fn share<J: Job + Drop, R: Wait, G: Gate>(
     ensures most { given_to lines.new ≤ given_to lines.old + others }
     ensures all { result.refused ≡ false → given_to lines.new ≡ given_to lines.old + others }
 {
-    if others == 0 {
-        work(shift.rt, board, first, shift.cycle, shift.gate, PATIENCE);
-        return Shared {
-            begun: false,
-            refused: false,
-        };
+    let parts = lend_parts(shift, lines, others, board, first);
+    work(shift.rt, board, first, shift.cycle, shift.gate, PATIENCE);
+    let mut begun = false;
+    let mut left = parts;
+    while left > 0 {
+        left -= 1;
+        let one_began = take_in(shift.rt, &mut lines[left], board, first);
+        begun = begun | one_began;
     }
-    let Some((line, rest)) = lines.split_first_mut() else {
-        unreachable!()
-    };
-    if !lend(shift, line, board, first) {
-        work(shift.rt, board, first, shift.cycle, shift.gate, PATIENCE);
-        return Shared {
-            begun: false,
-            refused: true,
-        };
-    }
-    let shared = share(shift, rest, others - 1, board, first);
-    let begun = take_in(shift.rt, line, board, first);
     Shared {
-        begun: begun | shared.begun,
-        refused: shared.refused,
+        begun,
+        refused: parts < others,
     }
+}
+
+/// Up to `others` helpers, one after another, get a part in the cycle, as long as there is memory for them. Returns how
+/// many got one.
+fn lend_parts<J: Job + Drop, R: Wait, G: Gate>(
+    shift: &Shift<'_, R, G>,
+    lines: &mut [Line<J>],
+    others: usize,
+    board: &Arc<Board<J>, Global>,
+    first: &mut BoardSeat<J>,
+) -> usize
+    requires idle { All (λ line. IsIdle line) lines.old }
+    requires ready { IsReady J.means (arc_value board.now) first.old }
+    requires leads { IsFirst (view first.old).made (view first.old) }
+    requires few { others ≤ length lines.old }
+    ensures few { result ≤ others }
+    ensures lent { AreLent J.means (arc_value board.now) result lines.old lines.new first.old first.new }
+{
+    for part in 0..others {
+        if !lend(shift, &mut lines[part], board, first) {
+            return part;
+        }
+    }
+    others
 }
 
 /// Whether the helper got a part in the cycle: a share of the board, and a seat that is split off `first`. It gets none
@@ -272,9 +286,7 @@ fn lend<J: Job + Drop, R: Wait, G: Gate>(
     requires idle { IsIdle line.old }
     requires ready { IsReady J.means (arc_value board.now) first.old }
     requires leads { IsFirst (view first.old).made (view first.old) }
-    ensures lent { result ≡ true → Lends J.means (arc_value board.now) line.old line.new first.old first.new }
-    ensures kept { result ≡ false → IsIdle line.new × (tasks line.new.end ≡ tasks line.old.end)
-        × (first.new ≡ first.old) }
+    ensures { Lends J.means (arc_value board.now) (from_bool result) line.old line.new first.old first.new }
 {
     let Ok((part, member)) = line.part_in(shift.alloc, board) else {
         return false;

@@ -1,10 +1,10 @@
 -- What the caller knows of a helper.
-use Rattle.std.specs.Prelude.{◌≡◌, ℕ, suc, false}
+use Rattle.std.specs.Prelude.{◌≡◌, ◌<◌, ◌≤◌, ◌+◌, ℕ, false}
 use Rattle.std.specs.Arc.{arc_value}
 use Rattle.cs_board.specs.{Board.view, declared.board.Board.Board, declared.board.BoardSeat.BoardSeat}
 use Rattle.cs_cells.specs.Meaning.{Meaning}
 use Rattle.cs_pool.specs.{Mailboxes.HasNothingOut, Mailboxes.HasOut, Mailboxes.HasSomethingOut, declared.line.Line.Line}
-use Rattle.cs_pool.specs.{Letters.one_given, Mailboxes.tasks, Numbered.IsFirst, Working.IsReady}
+use Rattle.cs_pool.specs.{Mailboxes.given, Mailboxes.served, Numbered.IsFirst, Working.IsReady}
 
 module _ {J : Type 0} where
   -- the helper has nothing that is the caller's
@@ -27,10 +27,14 @@ module _ {J : Type 0} where
     pub number : (view seat).number ≡ n
 
 module _ {J : Type 0} (M : Meaning J) where
-  -- the helper was given a part: another seat of this board was split off the first one, which is this before and after
-  pub record Lends (board : Board J) (before after : Line J) (first first' : BoardSeat J) : Type 0 where
-    pub away : IsAway board after (view first).made
+  -- The helper was given so many parts, one or none: so many seats of this board were split off the first one, which is
+  -- this before and after.
+  pub record Lends (board : Board J) (parts : ℕ) (before after : Line J) (first first' : BoardSeat J) : Type 0 where
+    pub few : parts ≤ 1
+    pub away : 0 < parts → IsAway board after (view first).made
+    pub home : parts ≡ 0 → IsIdle after
     pub ready : IsReady M board first'
     pub leads : IsFirst (view first').made (view first')
-    pub made : (view first').made ≡ suc (view first).made
-    pub tasks : tasks after.end ≡ one_given (tasks before.end)
+    pub made : (view first').made ≡ (view first).made + parts
+    pub given : given after.end ≡ given before.end + parts
+    pub served : served after.end ≡ served before.end

@@ -1,4 +1,4 @@
-use Rattle.std.proofs.Common.{◌≡◌, ◌≤◌, ◌<◌, ◌*◌, ◌+◌, ◌^◌, ℕ, ℤ, Bool, [], length, ap, subst, sym, ◌∙◌, arith}
+use Rattle.std.proofs.Common.{◌≡◌, ◌≤◌, ◌*◌, ◌+◌, ℕ, ℤ, Bool, [], length, ap, subst, sym, ◌∙◌, arith, Fits, w64}
 use Rattle.std.specs.List.{count_by}
 use Rattle.std.proofs.lemmas.List.Sums.{count_by-le-length}
 use Rattle.cs_base.specs.{Widths.bytes_of, declared.head.Head.Head}
@@ -83,10 +83,9 @@ overflow_add-recording g c =
     let q : ℤ → Bool = is_out_of_range c.args.performance.now.order.width c.head-head.result.now.dbfs in
     let here : c.in-Ok-pour.outside ≡ count_by q c.deref.result.now = c.in-Ok-pour.ensures.out_of_range in
     let some : count_by q c.deref.result.now ≤ length c.deref.result.now = count_by-le-length q c.deref.result.now in
-    let fits : c.args.recording.now.out_of_range + c.in-Ok-pour.outside < 2 ^ 64 =
-    outside_fits piece p c.args.cycle c.args.recording.now.out_of_range c.in-Ok-pour.outside (omega arith) small
-    c.requires.recorded.out_of_range (outside_few _ _ _ _ here some long small) in
-    omega (arith, fits, c.from-more.ensures)
+    subst (λ (k : ℕ). Fits w64 (c.args.recording.now.out_of_range + k)) (sym c.from-more.ensures)
+    (outside_fits piece p c.args.cycle c.args.recording.now.out_of_range c.in-Ok-pour.outside (omega arith) small
+    c.requires.recorded.out_of_range (outside_few _ _ _ _ here some long small))
 
 pub returns-clause-at : goal.returns-clause-at
 returns-clause-at g c =

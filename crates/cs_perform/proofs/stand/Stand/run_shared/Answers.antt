@@ -25,8 +25,8 @@ fill-filled-requires-clause-notes g c =
       size = at.block;
     }
 
-pub cycle-receipt-requires : goal.cycle-receipt-requires
-cycle-receipt-requires g c =
+pub by_crew-receipt-requires : goal.by_crew-receipt-requires
+by_crew-receipt-requires g c =
     let s = c.requires.at.0 in
     let at = c.requires.at.2 in
     rows_cycle c.fill-filled.result.items c.fill-filled.ensures.rows c.args.self.desk c.args.self.course _
@@ -39,27 +39,27 @@ cycle-receipt-requires g c =
 
 pub sum_rows-requires-clause-few : goal.sum_rows-requires-clause-few
 sum_rows-requires-clause-few g c =
-    let run = have_run c.fill-filled.ensures.rows c.cycle-receipt.ensures.played c.row_laws.ensures.run in
-    let few : length (all_notes c.cycle-receipt.result.0) ≤ most_notes =
+    let run = have_run c.fill-filled.ensures.rows c.by_crew-receipt.ensures.played c.row_laws.ensures.run in
+    let few : length (all_notes c.by_crew-receipt.result.0) ≤ most_notes =
     subst (λ (n : ℕ). n ≤ most_notes) (sym run.count) c.requires.at.2.stands.stand.few in
     rw c.jobs.ensures few
 
 pub sum_rows-requires-clause-long : goal.sum_rows-requires-clause-long
 sum_rows-requires-clause-long g c =
-    let run = have_run c.fill-filled.ensures.rows c.cycle-receipt.ensures.played c.row_laws.ensures.run in
+    let run = have_run c.fill-filled.ensures.rows c.by_crew-receipt.ensures.played c.row_laws.ensures.run in
     rw c.jobs.ensures (rw c.requires.block (run.long c.args.self.rows.block c.fill-filled.ensures.sums))
 
 pub returns-clause-performed : goal.returns-clause-performed
 returns-clause-performed g c s m at =
-    let run = have_run c.fill-filled.ensures.rows c.cycle-receipt.ensures.played c.row_laws.ensures.run in
+    let run = have_run c.fill-filled.ensures.rows c.by_crew-receipt.ensures.played c.row_laws.ensures.run in
     let jobs = c.count.ensures.voices ∙ c.unrow.ensures.notes ∙ run.notes in record {
       setup = at.setup;
       stands = ran_at (composition_of s) c.args.self.life c.args.self.voices.items _ (cells c.args.self.desk) _ _ jobs
           run.left (c.serial_runs_perform.ensures.performed (composition_of s) c.args.self.life
           c.args.self.voices.items (cells c.args.self.desk) m at.stands);
-      areas = c.cycle-receipt.ensures.played.areas_are ∙ at.areas;
+      areas = c.by_crew-receipt.ensures.played.areas_are ∙ at.areas;
       block = c.unrow.ensures.same.block ∙ c.fill-filled.ensures.same.block ∙ at.block;
-      course = kept_course c.args.self.course _ c.cycle-receipt.ensures.graph refl at.course;
+      course = kept_course c.args.self.course _ c.by_crew-receipt.ensures.graph refl at.course;
       turns = at.turns;
       current = λ h. rw (
         c.unrow.ensures.same.most ∙ c.fill-filled.ensures.same.most,
@@ -72,15 +72,15 @@ pub returns-clause-heard : goal.returns-clause-heard
 returns-clause-heard g c s n at =
     let piece = composition_of s in
     let size : ℕ = length c.args.block.now in
-    let run = have_run c.fill-filled.ensures.rows c.cycle-receipt.ensures.played c.row_laws.ensures.run in
-    let notes : c.count.result.items ≡ all_notes c.cycle-receipt.result.0 =
+    let run = have_run c.fill-filled.ensures.rows c.by_crew-receipt.ensures.played c.row_laws.ensures.run in
+    let notes : c.count.result.items ≡ all_notes c.by_crew-receipt.result.0 =
     c.count.ensures.voices ∙ c.unrow.ensures.notes in
     let after = ran_at piece c.args.self.life c.args.self.voices.items _ (cells c.args.self.desk) _ _
     (notes ∙ run.notes) run.left
     (c.serial_runs_perform.ensures.performed piece c.args.self.life c.args.self.voices.items
     (cells c.args.self.desk) (begins piece n (moment_at piece n)) at.stands) in
-    let here : c.sum_rows.new.block ≡ sums gives size (all_notes c.cycle-receipt.result.0) =
-    block_of_rows voice_job shape gives size c.sum_rows.new.block c.cycle-receipt.result.0 c.row_laws.ensures.sums
+    let here : c.sum_rows.new.block ≡ sums gives size (all_notes c.by_crew-receipt.result.0) =
+    block_of_rows voice_job shape gives size c.sum_rows.new.block c.by_crew-receipt.result.0 c.row_laws.ensures.sums
     c.sum_rows.ensures.long
     (rw c.requires.block (run.long c.args.self.rows.block c.fill-filled.ensures.sums)) run.summed
     (λ a low. c.sum_rows.ensures.sums a low ∙ ap (λ (l : List (HeardRow VoiceData)).
@@ -92,34 +92,34 @@ returns-clause-heard g c s n at =
 
 pub unrow-requires-clause-room : goal.unrow-requires-clause-room
 unrow-requires-clause-room g c =
-    let run : HaveRun c.args.self.voices.items c.fill-filled.result.items c.cycle-receipt.result.0 c.args.self.desk
-    c.cycle-receipt.result.1 =
-    have_run c.fill-filled.ensures.rows c.cycle-receipt.ensures.played c.row_laws.ensures.run in
+    let run : HaveRun c.args.self.voices.items c.fill-filled.result.items c.by_crew-receipt.result.0 c.args.self.desk
+    c.by_crew-receipt.result.1 =
+    have_run c.fill-filled.ensures.rows c.by_crew-receipt.ensures.played c.row_laws.ensures.run in
     let kept : vec_capacity c.fill-filled.new.notes ≡ vec_capacity c.args.self.voices = c.fill-filled.ensures.empty.1 in
     omega (arith, run.count, kept, c.args.self.voices.ok.0, c.args.self.voices.ok.1)
 
 pub unrow-requires-clause-few : goal.unrow-requires-clause-few
 unrow-requires-clause-few g c =
-    let run = have_run c.fill-filled.ensures.rows c.cycle-receipt.ensures.played c.row_laws.ensures.run in
-    let many : length (all_notes c.cycle-receipt.result.0) ≡ length c.args.self.voices.items = run.count in
+    let run = have_run c.fill-filled.ensures.rows c.by_crew-receipt.ensures.played c.row_laws.ensures.run in
+    let many : length (all_notes c.by_crew-receipt.result.0) ≡ length c.args.self.voices.items = run.count in
     let few : length c.args.self.voices.items ≤ most_notes = c.requires.at.2.stands.stand.few in
     omega (arith, many, few)
 
 pub unrow-requires-clause-sums : goal.unrow-requires-clause-sums
 unrow-requires-clause-sums g c =
-    let run = have_run c.fill-filled.ensures.rows c.cycle-receipt.ensures.played c.row_laws.ensures.run in
+    let run = have_run c.fill-filled.ensures.rows c.by_crew-receipt.ensures.played c.row_laws.ensures.run in
     rw c.fill-filled.ensures.same.block (run.long c.args.self.rows.block c.fill-filled.ensures.sums)
 
 pub count-requires : goal.count-requires
 count-requires g c =
-    let run = have_run c.fill-filled.ensures.rows c.cycle-receipt.ensures.played c.row_laws.ensures.run in
+    let run = have_run c.fill-filled.ensures.rows c.by_crew-receipt.ensures.played c.row_laws.ensures.run in
     let heard : length c.unrow.result ≡ length c.args.self.voices.items = ap length c.unrow.ensures.notes ∙ run.count in
     let few : length c.args.self.voices.items ≤ most_notes = c.requires.at.2.stands.stand.few in
     record { room = omega (arith, heard, few, c.requires.room) }
 
 pub returns-clause-room : goal.returns-clause-room
 returns-clause-room g c =
-    let run = have_run c.fill-filled.ensures.rows c.cycle-receipt.ensures.played c.row_laws.ensures.run in
+    let run = have_run c.fill-filled.ensures.rows c.by_crew-receipt.ensures.played c.row_laws.ensures.run in
     let heard : length c.unrow.result ≡ length c.args.self.voices.items = ap length c.unrow.ensures.notes ∙ run.count in
     let few : length c.args.self.voices.items ≤ most_notes = c.requires.at.2.stands.stand.few in
     omega (arith, c.count.ensures.room, heard, few)

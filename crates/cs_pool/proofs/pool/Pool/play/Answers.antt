@@ -43,9 +43,6 @@ returns-in-Ok-clause-alone g c =
     subst (λ n. IsFirst n (view c.share-shared.new.first)) (ap (λ v. v.made) c.requires.opening)
     c.share-shared.ensures.leads
 
-pub returns-in-Ok-clause-ended : goal.returns-in-Ok-clause-ended
-returns-in-Ok-clause-ended g c = refl
-
 pub returns-in-Ok-clause-helpers : goal.returns-in-Ok-clause-helpers
 returns-in-Ok-clause-helpers g c =
     ap length (lines_are g c) ∙ c.share-shared.auto.lines ∙ ap length c.as_mut_slice-lines.ensures.value
@@ -90,9 +87,6 @@ pub work-requires : goal.work-requires
 work-requires g c = subst (λ b. IsReady g.J.Job.means b c.args.first) (sym c.in-Err.ensures.value_returned)
     (opened_ready g.J.Job.means c.args.board c.args.first c.requires.first c.requires.opening)
 
-pub invariant_of-self-in-Err : goal.invariant_of-self-in-Err
-invariant_of-self-in-Err g c = record { idle = c.args.self.now.idle; few = c.args.self.now.few }
-
 pub returns-in-Err-clause-board : goal.returns-in-Err-clause-board
 returns-in-Err-clause-board g c = c.in-Err.ensures.value_returned
 
@@ -105,12 +99,6 @@ returns-in-Err-clause-alone g c = record {
   first = c.work.ensures.seat.first ∙ ap (λ v. v.first) c.requires.opening;
   out = c.work.ensures.seat.out ∙ ap (λ v. v.out) c.requires.opening;
 }
-
-pub returns-in-Err-clause-ended : goal.returns-in-Err-clause-ended
-returns-in-Err-clause-ended g c = refl
-
-pub returns-in-Err-clause-helpers : goal.returns-in-Err-clause-helpers
-returns-in-Err-clause-helpers g c = refl
 
 pub returns-in-Err-clause-parts : goal.returns-in-Err-clause-parts
 returns-in-Err-clause-parts g c = record {

@@ -1,4 +1,0 @@
-use Rattle.cs_pool.proofs.cycle.+share.Given as goal
-
-abbrev pub decreases-share : goal.decreases-share
-decreases-share g l = l.others
