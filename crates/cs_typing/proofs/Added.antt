@@ -71,6 +71,5 @@ counts_at : (q : Rate) (t : RateNames) → length (of_rate q t) ≡ at_rate (cou
 counts_at rate.Init t = refl
 counts_at q t = refl
 
-pub place_new : (t : RateNames) (x : List ℕ) → in_table t x ≡ false
-    → place_in t x ≡ at_rate (counts_of t) (name_rate x)
+pub place_new : (t : RateNames) (x : List ℕ) → in_table t x ≡ false → place_in t x ≡ at_rate (counts_of t) (name_rate x)
 place_new t x h = past_all (of_rate (name_rate x) t) x h ∙ counts_at (name_rate x) t

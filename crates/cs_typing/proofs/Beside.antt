@@ -27,8 +27,7 @@ use Rattle.cs_typed.specs.TypedTree as typed
 
 -- a function of names and arguments, on both rests where each has a next
 pub both_next : {X R : Type 0} (f : List X → List Argument → R) (xs : List X) (as' : List Arg) (i : ℕ) (x : X) (a : Arg)
-    (e : Expr)
-    → i < length xs → x ≡ get_or xs i x → i < length as' → a ≡ get_or as' i a → a ≡ Value e
+    (e : Expr) → i < length xs → x ≡ get_or xs i x → i < length as' → a ≡ get_or as' i a → a ≡ Value e
     → f (drop i xs) (map argument (drop i as'))
     ≡ f (x ∷ drop (i + 1) xs) (value (expression e) ∷ map argument (drop (i + 1) as'))
 both_next f xs as' i x a e l p m q k =
@@ -62,8 +61,7 @@ pub at_word : (X R : Type 0) (f : List X → List Argument → R) (r : R) → En
     → f (drop i xs) (map argument (drop i as')) ≡ r
 at_word X R f r ends xs as' i a t m q k =
     ap (λ ys. f (drop i xs) (map argument ys)) (dropped as' i a m q)
-    ∙ ap (λ y. f (drop i xs) (argument y ∷ map argument (drop (i + 1) as'))) k
-    ∙ no_value (drop i xs)
+    ∙ ap (λ y. f (drop i xs) (argument y ∷ map argument (drop (i + 1) as'))) k ∙ no_value (drop i xs)
   where
     no_value : (ys : List X) → f ys (text t ∷ map argument (drop (i + 1) as')) ≡ r
     no_value [] = ends.none (text t ∷ map argument (drop (i + 1) as'))
@@ -112,8 +110,7 @@ slots_end s k line = record { none = λ as'. refl; last = λ x xs. refl; word = 
 
 -- one statement was added: those to come stand behind it
 pub added_one : (rs : List typed.Block) (old new : List TypedStmt) (one rest : typed.Block)
-    → typed.block rs new ≡ typed.then_block (typed.block rs old) one
-    → typed.then_block (typed.block rs new) rest
+    → typed.block rs new ≡ typed.then_block (typed.block rs old) one → typed.then_block (typed.block rs new) rest
     ≡ typed.then_block (typed.block rs old) (typed.then_block one rest)
 added_one rs old new one rest is =
     ap (λ b. typed.then_block b rest) is ∙ then_again (typed.block rs old) one rest
@@ -138,8 +135,7 @@ fault_first e first here next whole is split was =
 
 -- one statement was added, as the first that was left to add
 pub made_next : (rs : List typed.Block) (old new : List TypedStmt) (is form : typed.Statement)
-    (here next whole : typed.Block)
-    → Adds old new (typed.alone is) → is ≡ form → here ≡ typed.andthen form next
+    (here next whole : typed.Block) → Adds old new (typed.alone is) → is ≡ form → here ≡ typed.andthen form next
     → typed.then_block (typed.block rs old) here ≡ whole → typed.then_block (typed.block rs new) next ≡ whole
 made_next rs old new is form here next whole added same split was =
     added_one rs old new (typed.alone is) next (added rs)

@@ -49,11 +49,9 @@ module _ (ds : List Definition) (place : ℕ) (d : Definition) (well : WellForme
   -- ---- its typed form
 
   pub call_adds : (t : RoutineTable) (a b f : List TypedStmt) (routine : ℕ) (slots : List ℕ) (n : KnownInBody)
-      → Adds a b (given_set k (first_locals rs d well) line d.names args)
-      → routine < length (blocks_in t)
+      → Adds a b (given_set k (first_locals rs d well) line d.names args) → routine < length (blocks_in t)
       → r.block k.shared ≡ typed.routine_at (blocks_in t) routine
-      → n ≡ known_in (r.shared k.shared) (past_call k.locals r.last.counts)
-      → slots ≡ map (number_in r.last) r.results
+      → n ≡ known_in (r.shared k.shared) (past_call k.locals r.last.counts) → slots ≡ map (number_in r.last) r.results
       → ((bs : List typed.Block) → typed.block bs f ≡ typed.then_block (typed.block bs b)
       (typed.then_block (typed.moved_block k.locals.counts (typed.routine_at bs routine))
       (taken_set n k.locals.counts line xs d.outs slots)))
@@ -73,6 +71,5 @@ module _ (ds : List Definition) (place : ℕ) (d : Definition) (well : WellForme
       in
       let beginning : given_set k (first_locals rs d well) line d.names args ≡ inputs_set k r line r.inputs args =
       sym (call_inputs_form rs d well k line args) in
-      all
-      ∙ λ i. typed.then_block (typed.block bs a) (typed.then_block (beginning i)
+      all ∙ λ i. typed.then_block (typed.block bs a) (typed.then_block (beginning i)
       (typed.then_block (typed.moved_block base (there i)) (ending i)))

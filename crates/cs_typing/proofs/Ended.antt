@@ -87,8 +87,7 @@ module _ (e : Expansion) (ready : IsReady e) (lines : List HeadLine) (zero : Lis
         ∙ ap (λ n. statements_fault n (tree.orchestra e.orc.now)) (sym channels)
 
     pub statements_form : statements_fault s.head.nchnls (tree.orchestra e.orc.now) ≡ None
-        → typed_by (settings_of s) (tree.orchestra e.orc.now)
-        ≡ typed_of (expanded_orchestra (tree.orchestra e.orc.now))
+        → typed_by (settings_of s) (tree.orchestra e.orc.now) ≡ typed_of (expanded_orchestra (tree.orchestra e.orc.now))
     statements_form free =
         ap (λ t. typed_by t (tree.orchestra e.orc.now)) same
         ∙ sym (orchestra_forms (tree.orchestra e.orc.now) ready.well_formed e.fine

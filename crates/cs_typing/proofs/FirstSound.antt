@@ -18,8 +18,7 @@ pub replicated : {A : Type 0} (n k : ℕ) (x y : A) → slice_get (replicate n x
 replicated {A} n k x y e =
     let inside = slice_get_within (replicate n x) k y e in
     let long = length-replicate {A = A} n x in
-    sym (get_or-replicate {A = A} n k x x (omega (arith, inside, long)))
-    ∙ get_or_from_slice_get (replicate n x) k y x e
+    sym (get_or-replicate {A = A} n k x x (omega (arith, inside, long))) ∙ get_or_from_slice_get (replicate n x) k y x e
 
 none_typed : {A : Type 0} (n k : ℕ) (it : TypedDefinition) → slice_get (replicate n None) k ≡ Some (Some it) → A
 none_typed n k it e = absurd (none-some it (replicated n k None (Some it) e))
@@ -41,6 +40,4 @@ pub begun_sound : (e : Expansion) → IsReady e → (channels : ℕ) (names : Kn
 begun_sound e ready channels names t n known many marks =
     first_sound channels (definitions_of e.library) names.shared t n
     (subst (All WellFormedDefinition) (sym ready.definitions) ready.well_formed.definitions)
-    (length-map e.library.definitions.now tree.definition ∙ many)
-    marks
-    (ap (λ k. k.shared.control) known)
+    (length-map e.library.definitions.now tree.definition ∙ many) marks (ap (λ k. k.shared.control) known)

@@ -103,8 +103,7 @@ looks_first f inner old made new c found lib vis h at l names marks =
             (subst (λ (y : Definition). Has made.names (names_in_block (givers_of ds found.place) y.body)) is held))
             (λ miss. before.has k d
             (sym (get_set_other made.done.items found.place k true miss) ∙ ap (λ l. slice_get l k) (sym marks) ∙ marked)
-            here)
-            (cases_eq k found.place) in
+            here) (cases_eq k found.place) in
             subst (λ t. Has t (names_in_block (givers_of ds k) d.body)) (sym names) now;
       };
     }
@@ -112,8 +111,7 @@ looks_first f inner old made new c found lib vis h at l names marks =
 -- ---- the whole
 
 -- the global variables of an expanded orchestra, by the text as it is written
-pub all_written : (o : Orchestra) → IsWellFormed o → first_fault o ≡ None
-    → all_globals (expanded_orchestra o)
+pub all_written : (o : Orchestra) → IsWellFormed o → first_fault o ≡ None → all_globals (expanded_orchestra o)
     ≡ given_globals (given_globals no_names (names_in_block (givers_of o.opcodes 0) o.zero))
     (names_in_instruments o.opcodes o.instrs)
 all_written o well allowed =

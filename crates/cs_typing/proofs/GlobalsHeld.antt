@@ -50,5 +50,4 @@ one_again t x h = by (is_global x) h
 pub held_again : (t : RateNames) (xs : List (List ℕ)) → Has t xs → given_globals t xs ≡ t
 held_again t [] h = refl
 held_again t (x ∷ xs) h =
-    ap (λ u. given_globals u xs) (one_again t x (All-head (Held t) x xs h))
-    ∙ held_again t xs (All-tail (Held t) x xs h)
+    ap (λ u. given_globals u xs) (one_again t x (All-head (Held t) x xs h)) ∙ held_again t xs (All-tail (Held t) x xs h)

@@ -101,13 +101,10 @@ call_given {own} o (Some d) (Some ys) m t f line xs c args none =
     let fits = call_fits line xs args d none in
     let first = assignments line (map (in_frame f) d.inputs) (map (renamed_argument own) args) in
     let last = assignments line (map own xs) (map (value_in f) d.results) in
-    globals_joins t first (joins (d.block f) last)
-    ∙ ap (λ u. globals_of_block u (joins (d.block f) last))
+    globals_joins t first (joins (d.block f) last) ∙ ap (λ u. globals_of_block u (joins (d.block f) last))
     (inputs_not_given t line (map (in_frame f) d.inputs) (map (renamed_argument own) args)
-    (all_local (frame_keeps f) d.inputs m.inputs))
-    ∙ globals_joins t (d.block f) last
-    ∙ ap (λ u. globals_of_block u last) (m.block t f)
-    ∙ results_given o (given_globals t ys) line f xs d.results fits.1
+    (all_local (frame_keeps f) d.inputs m.inputs)) ∙ globals_joins t (d.block f) last
+    ∙ ap (λ u. globals_of_block u last) (m.block t f) ∙ results_given o (given_globals t ys) line f xs d.results fits.1
     ∙ sym (given_both t ys xs)
 
 module _ (opcodes : Opcodes) (givers : Givers) (m : AllGive opcodes givers) where
@@ -252,13 +249,11 @@ instrument_given ds local fine t i none =
 
 pub instruments_given : (ds : List Definition) → AllLocalInputs ds → faults_of_definitions no_opcodes ds ≡ []
     → (t : RateNames) (list : List Instrument) → faults_of_instruments ds list ≡ []
-    → globals_of_instruments t (map (expanded_instrument ds) list)
-    ≡ given_globals t (names_in_instruments ds list)
+    → globals_of_instruments t (map (expanded_instrument ds) list) ≡ given_globals t (names_in_instruments ds list)
 instruments_given ds local fine t [] none = refl
 instruments_given ds local fine t (i ∷ list) none =
     let parts = no_first (faults_in (opcodes_before i.line ds) true i.body) (faults_of_instruments ds list) none in
     let names = names_in_block (givers_of ds (prefix_len (λ d. nat_lt d.line i.line) ds)) i.body in
-    ap (λ u. globals_of_instruments u (map (expanded_instrument ds) list))
-    (instrument_given ds local fine t i parts.0)
+    ap (λ u. globals_of_instruments u (map (expanded_instrument ds) list)) (instrument_given ds local fine t i parts.0)
     ∙ instruments_given ds local fine (given_globals t names) list parts.1
     ∙ sym (given_both t names (names_in_instruments ds list))

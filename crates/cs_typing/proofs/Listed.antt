@@ -19,16 +19,14 @@ block_both rs (x ∷ xs) ys =
 pub one_more : (rs : List typed.Block) (xs : List TypedStmt) (y : TypedStmt)
     → typed.block rs (xs ++ y ∷ []) ≡ typed.then_block (typed.block rs xs) (typed.statement rs y)
 one_more rs xs y =
-    block_both rs xs (y ∷ [])
-    ∙ ap (λ b. typed.then_block (typed.block rs xs) b) (then_nothing (typed.statement rs y))
+    block_both rs xs (y ∷ []) ∙ ap (λ b. typed.then_block (typed.block rs xs) b) (then_nothing (typed.statement rs y))
 
 -- ---- the list of routines
 
 abbrev Bodies : Type 0
 Bodies = List (Vec TypedStmt Global)
 
-more_both : (rs : List typed.Block) (list : Bodies) (r : Vec TypedStmt Global)
-    → typed.more_routines rs (list ++ r ∷ [])
+more_both : (rs : List typed.Block) (list : Bodies) (r : Vec TypedStmt Global) → typed.more_routines rs (list ++ r ∷ [])
     ≡ typed.more_routines rs list ++ typed.block (typed.more_routines rs list) r.items ∷ []
 more_both rs [] r = refl
 more_both rs (x ∷ list) r = more_both (rs ++ typed.block rs x.items ∷ []) list r
@@ -42,8 +40,7 @@ pub length_both : {A : Type 0} (xs ys : List A) → length (xs ++ ys) ≡ length
 length_both [] ys = omega arith
 length_both (x ∷ xs) ys = let rest = length_both xs ys in omega (arith, rest)
 
-more_length : (rs : List typed.Block) (list : Bodies)
-    → length (typed.more_routines rs list) ≡ length rs + length list
+more_length : (rs : List typed.Block) (list : Bodies) → length (typed.more_routines rs list) ≡ length rs + length list
 more_length rs [] = omega arith
 more_length rs (x ∷ list) =
     let rest = more_length (rs ++ typed.block rs x.items ∷ []) list in

@@ -91,8 +91,7 @@ module _ (P : List ℕ → Type 0) (k : (x : List ℕ) → HasNoStop x → P x) 
   arguments_named [] h = tt
   arguments_named (value e ∷ args) h = (
     expression_named e (All-head WellFormedArg (value e) args h),
-    arguments_named args
-        (All-tail WellFormedArg (value e) args h),
+    arguments_named args (All-tail WellFormedArg (value e) args h),
   )
   arguments_named (text t ∷ args) h = arguments_named args (All-tail WellFormedArg (text t) args h)
 

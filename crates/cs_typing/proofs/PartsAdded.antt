@@ -42,16 +42,14 @@ adds_both ch ds a b c xs ys p q = record {
     front : (more : List typed.Block) → made_of (blocks_in c.so_far.routines ++ more) b.made
         ≡ after_parts ds k (made_of (blocks_in c.so_far.routines ++ more) a.made) xs
     front more =
-        ap (λ rs. made_of rs b.made) (same more)
-        ∙ p.made (q.longer.0 ++ more)
+        ap (λ rs. made_of rs b.made) (same more) ∙ p.made (q.longer.0 ++ more)
         ∙ sym (ap (λ rs. after_parts ds k (made_of rs a.made) xs) (same more))
 
     made_both : (more : List typed.Block) → made_of (blocks_in c.so_far.routines ++ more) c.made
         ≡ after_parts ds k (made_of (blocks_in c.so_far.routines ++ more) a.made) (xs ++ ys)
     made_both more =
         let rs = blocks_in c.so_far.routines ++ more in
-        q.made more
-        ∙ ap (λ n. after_parts ds n (made_of rs b.made) ys) p.known
+        q.made more ∙ ap (λ n. after_parts ds n (made_of rs b.made) ys) p.known
         ∙ ap (λ m. after_parts ds (known_behind_all ds k xs) m ys) (front more)
         ∙ sym (after_both ds k (made_of rs a.made) xs ys)
 

@@ -41,8 +41,7 @@ here name l h same found ok =
 
 -- what the first line of a name gives lies in that name's range
 pub found : (name : HeadName) (before hs : List HeadLine) (h : HeadLine) → headers_fault before hs ≡ None
-    → header_of name hs ≡ Some h
-    → in_range name h.value ≡ true
+    → header_of name hs ≡ Some h → in_range name h.value ≡ true
 found name before [] h none some = absurd (cc some)
 found name before (l ∷ rest) h none some =
     let both = neither l.line (header_fault before l) (headers_fault (before ++ l ∷ []) rest) none in
@@ -60,8 +59,7 @@ whole_to most (pos raw) h =
 whole_to most (negsuc m) h = absurd (cc h)
 
 whole_of : (most other : ℕ) (o : Option HeadLine) → ((h : HeadLine) → o ≡ Some h → is_whole_to most h.value ≡ true)
-    → 1 ≤ other → other ≤ most
-    → (1 ≤ whole_or other o) × (whole_or other o ≤ most)
+    → 1 ≤ other → other ≤ most → (1 ≤ whole_or other o) × (whole_or other o ≤ most)
 whole_of most other None each low high = (low, high)
 whole_of most other (Some h) each low high = whole_to most h.value (each h refl)
 
@@ -108,8 +106,7 @@ by_ksmps sr None each = (omega arith, omega arith)
 by_ksmps sr (Some h) each = whole_to 4096 h.value (each h refl)
 
 pub cycle_within : (hs : List HeadLine) → headers_fault [] hs ≡ None
-    → kr_fault (header hs) (header_of head.Kr hs) ≡ None
-    → (1 ≤ (header hs).ksmps) × ((header hs).ksmps ≤ 4096)
+    → kr_fault (header hs) (header_of head.Kr hs) ≡ None → (1 ≤ (header hs).ksmps) × ((header hs).ksmps ≤ 4096)
 cycle_within hs none kr =
     by_kr (header hs) (header_of head.Kr hs) kr
     (λ no. subst (λ k. (1 ≤ ksmps_of (rate_of_frames hs) k (header_of head.Ksmps hs)) ×

@@ -21,8 +21,7 @@ use Rattle.cs_base.specs.declared.resource.Rate.TheVariants as rate
 use Rattle.cs_typed.specs.TypedTree as typed
 
 set_rated : (s : Setting) (n : KnownHere) (name : List ℕ) (e : Expression) → is_value e ≡ true
-    → within (rate_of e) (name_rate name) ≡ true
-    → (s.inside || is_init (name_rate name)) ≡ true
+    → within (rate_of e) (name_rate name) ≡ true → (s.inside || is_init (name_rate name)) ≡ true
     → IsRatedSet s (name_rate name) (variable n name) (typed_expression n e)
 set_rated s n name e v w p = (
   sym (variable_rate n name).0,

@@ -96,9 +96,7 @@ and_none : (j : ℕ) → j + 0 ≡ j
 and_none j = omega arith
 
 plain_row : (n : KnownHere) (row : Row) (b : Rate) (args : List Argument)
-    → list_all (λ m. not (is_text m)) row.fixed ≡ true
-    → no_text_after row.more ≡ true
-    → all_fit row b 0 args ≡ true
+    → list_all (λ m. not (is_text m)) row.fixed ≡ true → no_text_after row.more ≡ true → all_fit row b 0 args ≡ true
     → (fit_letters row b 0 (typed_arguments n None args) ≡ true) × (length (typed_arguments n None args) ≡ length args)
 plain_row n row b args f g h =
     plain_letters n row row b 0 (λ j. ap (λ i. letter_at row i) (and_none j)) (no_text row f g) args 0 0 refl h
@@ -106,8 +104,7 @@ plain_row n row b args f g h =
 -- ---- arguments where a text is a channel
 
 kept_letters : (n : KnownHere) (kind : Channel) (row : Row) (b : Rate) (args : List Argument) (k : ℕ)
-    → all_fit row b k args ≡ true
-    → (fit_letters row b k (typed_arguments n (Some kind) args) ≡ true)
+    → all_fit row b k args ≡ true → (fit_letters row b k (typed_arguments n (Some kind) args) ≡ true)
     × (length (typed_arguments n (Some kind) args) ≡ length args)
 kept_letters n kind row b [] k h = (refl, refl)
 kept_letters n kind row b (value x ∷ rest) k h =
@@ -157,24 +154,21 @@ event_letters n b (text name ∷ rest) c h =
 -- ---- any opcode
 
 plain : (n : KnownHere) (row : Row) (b : Rate) (args : List Argument) → list_all (λ m. not (is_text m)) row.fixed ≡ true
-    → no_text_after row.more ≡ true
-    → takes_count row (length args) ≡ true → all_fit row b 0 args ≡ true
+    → no_text_after row.more ≡ true → takes_count row (length args) ≡ true → all_fit row b 0 args ≡ true
     → (fit_letters row b 0 (typed_arguments n None args) ≡ true)
     × (takes_count row (length (typed_arguments n None args)) ≡ true)
 plain n row b args f g c h =
     let made = plain_row n row b args f g h in (made.0, ap (λ m. takes_count row m) made.1 ∙ c)
 
 kept : (n : KnownHere) (kind : Channel) (row : Row) (b : Rate) (args : List Argument)
-    → takes_count row (length args) ≡ true
-    → all_fit row b 0 args ≡ true
+    → takes_count row (length args) ≡ true → all_fit row b 0 args ≡ true
     → (fit_letters row b 0 (typed_arguments n (Some kind) args) ≡ true)
     × (takes_count row (length (typed_arguments n (Some kind) args)) ≡ true)
 kept n kind row b args c h =
     let made = kept_letters n kind row b args 0 h in (made.0, ap (λ m. takes_count row m) made.1 ∙ c)
 
 letters_right : (n : KnownHere) (o : Opcode) (b : Rate) (results : List (List ℕ)) (args : List Argument)
-    → takes_count (row_of o) (length args) ≡ true
-    → all_fit (row_of o) b 0 args ≡ true
+    → takes_count (row_of o) (length args) ≡ true → all_fit (row_of o) b 0 args ≡ true
     → (fit_letters (row_left o) b 0 (typed_arguments n (channel_use (row_of o).shape results args) args) ≡ true) ×
     (takes_count (row_left o) (length (typed_arguments n (channel_use (row_of o).shape results args) args)) ≡ true)
 letters_right n op.Chnget b results args c h =
@@ -186,8 +180,7 @@ letters_right n op.EventI b results args c h = event_letters n b args c h
 letters_right n o b results args c h = plain n (row_of o) b args refl refl c h
 
 channels_right : (n : KnownHere) (s : Setting) (o : Opcode) (b : Rate) (results : List (List ℕ)) (args : List Argument)
-    → all_fit (row_of o) b 0 args ≡ true
-    → is_too_wide s (row_of o).shape args ≡ false
+    → all_fit (row_of o) b 0 args ≡ true → is_too_wide s (row_of o).shape args ≡ false
     → goes_beyond s (row_of o).shape (typed_arguments n (channel_use (row_of o).shape results args) args) ≡ false
 channels_right n s op.Out b results args h wide =
     ap (λ m. nat_lt s.channels m) (plain_row n (row_of op.Out) b args refl refl h).1 ∙ wide
@@ -196,8 +189,7 @@ channels_right n s op.Outs b results args h wide =
 channels_right n s o b results args h wide = refl
 
 even_right : (n : KnownHere) (b : Rate) (args : List Argument) → all_fit (row_of op.Tablew) b 0 args ≡ true
-    → is_even shape.Store args ≡ true
-    → stores_evenly shape.Store (typed_arguments n None args) ≡ true
+    → is_even shape.Store args ≡ true → stores_evenly shape.Store (typed_arguments n None args) ≡ true
 even_right n b [] h e = refl
 even_right n b (text name ∷ rest) h e = absurd (cc (and_parts false (all_fit (row_of op.Tablew) b 1 rest) h).0)
 even_right n b (value x ∷ []) h e = refl
@@ -207,12 +199,10 @@ even_right n b (value x ∷ text name ∷ rest) h e =
 even_right n b (value x ∷ value y ∷ rest) h e =
     let other = is_audio (node_rate (typed_expression n y)) in
     ap (λ r. if is_audio r then other else not other) (node_is n x)
-    ∙ ap (λ r. if is_audio (rate_of x) then is_audio r else not (is_audio r)) (node_is n y)
-    ∙ e
+    ∙ ap (λ r. if is_audio (rate_of x) then is_audio r else not (is_audio r)) (node_is n y) ∙ e
 
 stores_right : (n : KnownHere) (o : Opcode) (b : Rate) (results : List (List ℕ)) (args : List Argument)
-    → all_fit (row_of o) b 0 args ≡ true
-    → is_even (row_of o).shape args ≡ true
+    → all_fit (row_of o) b 0 args ≡ true → is_even (row_of o).shape args ≡ true
     → stores_evenly (row_of o).shape (typed_arguments n (channel_use (row_of o).shape results args) args) ≡ true
 stores_right n op.Tablew b results args h e = even_right n b args h e
 stores_right n o b results args h e = refl
@@ -222,22 +212,19 @@ channel_made s channel.Control name = refl
 channel_made s channel.Sound name = refl
 
 parts_rated : (n : KnownHere) (role : Option Channel) (row : Row) (b : Rate) (args : List Argument) (k : ℕ)
-    → all_fit row b k args ≡ true
-    → All IsRatedArgument (typed_arguments n role args)
+    → all_fit row b k args ≡ true → All IsRatedArgument (typed_arguments n role args)
 parts_rated n role row b [] k h = All-nil IsRatedArgument
 parts_rated n role row b (value x ∷ rest) k h =
     let parts = and_parts (fits (letter_at row k) b (value x)) (all_fit row b (k + 1) rest) h in
     let first = and_parts (is_value x) (takes (letter_at row k) b (rate_of x)) parts.0 in
     All-cons IsRatedArgument (typed.value (typed_expression n x)) (typed_arguments n role rest)
-    (value_rated n x first.0)
-    (parts_rated n role row b rest (k + 1) parts.1)
+    (value_rated n x first.0) (parts_rated n role row b rest (k + 1) parts.1)
 parts_rated n None row b (text name ∷ rest) k h =
     parts_rated n None row b rest (k + 1)
     (and_parts (fits (letter_at row k) b (text name)) (all_fit row b (k + 1) rest) h).1
 parts_rated n (Some kind) row b (text name ∷ rest) k h =
     All-cons IsRatedArgument (typed.text (channel_of n.shared kind name)) (typed_arguments n (Some kind) rest)
-    (channel_made n.shared kind name)
-    (parts_rated n (Some kind) row b rest (k + 1)
+    (channel_made n.shared kind name) (parts_rated n (Some kind) row b rest (k + 1)
     (and_parts (fits (letter_at row k) b (text name)) (all_fit row b (k + 1) rest) h).1)
 
 given_right : (n : KnownHere) (row : Row) (results : List (List ℕ)) → list_all (may_result row) results ≡ true
@@ -278,8 +265,7 @@ done_right n role sh [] args =
     let made = typed_arguments n role args in
     sym (ap (λ b. if is_starting sh then rate.Init else
     (if is_writing sh && b then rate.Init else (if list_any is_of_sound made then rate.Audio else rate.Control)))
-    (still_right n role args)
-    ∙ ap (λ b. if is_starting sh then rate.Init else
+    (still_right n role args) ∙ ap (λ b. if is_starting sh then rate.Init else
     (if is_writing sh && list_all is_still args then rate.Init else (if b then rate.Audio else rate.Control)))
     (sound_right n role args))
 done_right n role sh (name ∷ rest) args =
@@ -300,8 +286,7 @@ or_none true = refl
 or_none false = refl
 
 suits_right : (n : KnownHere) (o : Opcode) (results : List (List ℕ)) (args : List Argument)
-    → takes_count (row_of o) (length args) ≡ true
-    → suits_channel (row_of o).shape (map (variable n) results)
+    → takes_count (row_of o) (length args) ≡ true → suits_channel (row_of o).shape (map (variable n) results)
     (typed_arguments n (channel_use (row_of o).shape results args) args) ≡ true
 suits_right n op.Chnget (name ∷ names) (text t ∷ rest) c =
     let sound = is_audio (name_rate name) in

@@ -86,8 +86,7 @@ module _ (f : List ℕ → List ℕ) (r : IsRenaming f) where
 
   seen_kept : (names : List (List ℕ)) (x : List ℕ) → seen (map own names) (own x) ≡ map own (seen names x)
   seen_kept names x =
-      ap (λ b. if b then map own names else map own names ++ own x ∷ [])
-      (has_kept names x) ∙ by (has names x)
+      ap (λ b. if b then map own names else map own names ++ own x ∷ []) (has_kept names x) ∙ by (has names x)
     where
       by : (b : Bool) → (if b then map own names else map own names ++ own x ∷ [])
           ≡ map own (if b then names else names ++ x ∷ [])
@@ -102,48 +101,39 @@ module _ (f : List ℕ → List ℕ) (r : IsRenaming f) where
   with_renamed : (q : Rate) (t : RateNames) (x : List ℕ)
       → with_name q (renamed_table f t) (own x) ≡ renamed_table f (with_name q t x)
   with_renamed rate.Init t x =
-      ap (λ l. record { init = l; control = map own t.control; audio = map own t.audio })
-      (seen_kept t.init x)
+      ap (λ l. record { init = l; control = map own t.control; audio = map own t.audio }) (seen_kept t.init x)
   with_renamed rate.Control t x =
-      ap (λ l. record { init = map own t.init; control = l; audio = map own t.audio })
-      (seen_kept t.control x)
+      ap (λ l. record { init = map own t.init; control = l; audio = map own t.audio }) (seen_kept t.control x)
   with_renamed rate.Audio t x =
-      ap (λ l. record { init = map own t.init; control = map own t.control; audio = l })
-      (seen_kept t.audio x)
+      ap (λ l. record { init = map own t.init; control = map own t.control; audio = l }) (seen_kept t.audio x)
 
   added_renamed : (t : RateNames) (x : List ℕ) → added (renamed_table f t) (own x) ≡ renamed_table f (added t x)
-  added_renamed t x = ap (λ q. with_name q (renamed_table f t) (own x)) (rate_kept x)
-      ∙ with_renamed (name_rate x) t x
+  added_renamed t x = ap (λ q. with_name q (renamed_table f t) (own x)) (rate_kept x) ∙ with_renamed (name_rate x) t x
 
   in_table_kept : (t : RateNames) (x : List ℕ) → in_table (renamed_table f t) (own x) ≡ in_table t x
   in_table_kept t x =
       ap (λ q. has (of_rate q (renamed_table f t)) (own x)) (rate_kept x)
-      ∙ ap (λ l. has l (own x)) (of_rate_renamed (name_rate x) t)
-      ∙ has_kept (of_rate (name_rate x) t) x
+      ∙ ap (λ l. has l (own x)) (of_rate_renamed (name_rate x) t) ∙ has_kept (of_rate (name_rate x) t) x
 
   place_in_kept : (t : RateNames) (x : List ℕ) → place_in (renamed_table f t) (own x) ≡ place_in t x
   place_in_kept t x =
       ap (λ q. place_of (of_rate q (renamed_table f t)) (own x)) (rate_kept x)
-      ∙ ap (λ l. place_of l (own x)) (of_rate_renamed (name_rate x) t)
-      ∙ place_kept (of_rate (name_rate x) t) x
+      ∙ ap (λ l. place_of l (own x)) (of_rate_renamed (name_rate x) t) ∙ place_kept (of_rate (name_rate x) t) x
 
   knows_kept : (n : KnownHere) (x : List ℕ) → knows (renamed_known f n) (own x) ≡ knows n x
   knows_kept n x =
       ap (λ b. if b then in_table n.shared.globals (own x) else in_table (renamed_table f n.locals)
-      (own x)) (global_kept x)
-      ∙ by (is_global x) refl
+      (own x)) (global_kept x) ∙ by (is_global x) refl
     where
       by : (b : Bool) → is_global x ≡ b
-          → (if b then in_table n.shared.globals (own x) else in_table (renamed_table f n.locals)
-          (own x))
+          → (if b then in_table n.shared.globals (own x) else in_table (renamed_table f n.locals) (own x))
           ≡ (if b then in_table n.shared.globals x else in_table n.locals x)
       by true e = ap (in_table n.shared.globals) (own_name x e)
       by false e = in_table_kept n.locals x
 
   variable_kept : (n : KnownHere) (x : List ℕ) → variable (renamed_known f n) (own x) ≡ variable n x
   variable_kept n x =
-      ap (λ b. if b then over (own x) else local (renamed_table f n.locals) (own x))
-      (global_kept x)
+      ap (λ b. if b then over (own x) else local (renamed_table f n.locals) (own x)) (global_kept x)
       ∙ by (is_global x) refl
     where
       over : List ℕ → Var
@@ -160,8 +150,7 @@ module _ (f : List ℕ → List ℕ) (r : IsRenaming f) where
   giving_renamed : (t : RateNames) (x : List ℕ)
       → after_giving (renamed_table f t) (own x) ≡ renamed_table f (after_giving t x)
   giving_renamed t x =
-      ap (λ b. if b then renamed_table f t else added (renamed_table f t) (own x)) (global_kept x)
-      ∙ by (is_global x)
+      ap (λ b. if b then renamed_table f t else added (renamed_table f t) (own x)) (global_kept x) ∙ by (is_global x)
     where
       by : (b : Bool) → (if b then renamed_table f t else added (renamed_table f t) (own x)) ≡ renamed_table f
           (if b then t else added t x)
@@ -189,8 +178,7 @@ module _ (f : List ℕ → List ℕ) (r : IsRenaming f) where
   expression_kept : (n : KnownHere) (e : Expression)
       → typed_expression (renamed_known f n) (renamed_expression own e) ≡ typed_expression n e
   expression_kept n e =
-      expression_renamed rates (variable (renamed_known f n)) e
-      ∙ λ i. expression_by (λ x. variable_kept n x i) e
+      expression_renamed rates (variable (renamed_known f n)) e ∙ λ i. expression_by (λ x. variable_kept n x i) e
 
   argument_known_kept : (n : KnownHere) (a : Argument)
       → argument_known (renamed_known f n) (renamed_argument own a) ≡ argument_known n a
@@ -210,8 +198,7 @@ module _ (f : List ℕ → List ℕ) (r : IsRenaming f) where
       else (if not (all_known_kept n args i) then Some orc.Undefined
       else (if not (rates_kept rates s row results args i) then Some orc.RateMismatch
       else (if clashes n.shared (use_kept rates row.shape results args i) (text_kept rates args i) then Some
-      orc.ChannelRate
-      else (if wide_kept rates s row.shape args i then Some orc.OutCount else None))))
+      orc.ChannelRate else (if wide_kept rates s row.shape args i then Some orc.OutCount else None))))
 
   call_fault_kept : (s : Setting) (n : KnownHere) (c : Callee) (results : List (List ℕ)) (args : List Argument)
       → call_fault s (renamed_known f n) c (map own results) (map (renamed_argument own) args)
@@ -223,8 +210,7 @@ module _ (f : List ℕ → List ℕ) (r : IsRenaming f) where
       → row_known (renamed_known f n) row (map own results) (map (renamed_argument own) args)
       ≡ renamed_known f (row_known n row results args)
   row_known_renamed n row results args =
-      λ i. known_with (use_channel n.shared (use_kept rates row.shape results args i)
-      (text_kept rates args i))
+      λ i. known_with (use_channel n.shared (use_kept rates row.shape results args i) (text_kept rates args i))
       (given_all_renamed n results i).locals
 
   call_known_renamed : (n : KnownHere) (c : Callee) (results : List (List ℕ)) (args : List Argument)
@@ -291,16 +277,14 @@ module _ (f : List ℕ → List ℕ) (r : IsRenaming f) where
   set_fault_kept s n x e = λ i.
       if not (reads_kept n e i) then Some orc.Undefined
       else (if not (value_kept rates e i && within (rate_of_kept rates e i) (rate_kept x i)
-      && (s.inside || is_init (rate_kept x i)))
-      then Some orc.RateMismatch else None)
+      && (s.inside || is_init (rate_kept x i))) then Some orc.RateMismatch else None)
 
   condition_fault_kept : (s : Setting) (n : KnownHere) (e : Expression)
       → condition_fault s (renamed_known f n) (renamed_expression own e) ≡ condition_fault s n e
   condition_fault_kept s n e = λ i.
       if not (reads_kept n e i) then Some orc.Undefined
       else (if not (condition_kept rates e i && (s.inside || is_init (rate_of_kept rates e i))) then Some
-      orc.RateMismatch
-      else None)
+      orc.RateMismatch else None)
 
   mutual
     pub fault_kept : (s : Setting) (n : KnownHere) (x : Statement)
@@ -314,8 +298,7 @@ module _ (f : List ℕ → List ℕ) (r : IsRenaming f) where
     block_fault_kept s n no_stmt = refl
     block_fault_kept s n (andthen x rest) =
         ap (λ m. option_or (fault s (renamed_known f n) (renamed f x)) (block_fault s m (renamed_block f rest)))
-        (known_renamed n x)
-        ∙ λ i. option_or (fault_kept s n x i) (block_fault_kept s (known n x) rest i)
+        (known_renamed n x) ∙ λ i. option_or (fault_kept s n x i) (block_fault_kept s (known n x) rest i)
 
     arms_fault_kept : (s : Setting) (n : KnownHere) (line : ℕ) (list : Arms)
         → arms_fault s (renamed_known f n) line (renamed_arms f list) ≡ arms_fault s n line list

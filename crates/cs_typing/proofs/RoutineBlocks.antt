@@ -74,8 +74,7 @@ results_fit (x ∷ xs) [] e = absurd (omega (arith, e))
 results_fit (x ∷ xs) (y ∷ ys) e = results_fit xs ys (omega (arith, e))
 
 pub call_fits : (line : ℕ) (xs : List (List ℕ)) (args : List Argument) (t : Template)
-    → call_faults true line xs args (Some t) ≡ []
-    → ArgumentsFit t.inputs args × ResultsFit xs t.results
+    → call_faults true line xs args (Some t) ≡ [] → ArgumentsFit t.inputs args × ResultsFit xs t.results
 call_fits line xs args t e =
     let parts = allowed (length xs == length t.results && length args == length t.inputs) (has_text args)
     (no_rule line (broken_rule true xs args t) e) in
@@ -147,8 +146,7 @@ framed_untouched : (f : ℕ) (y : List ℕ) → ((x : List ℕ) → y ≡ fresh 
     (xs : List (List ℕ)) (args : List Argument)
     → in_table (known_block n (assignments line (map (in_frame f) xs) args)).locals y ≡ in_table n.locals y
 framed_untouched f y h n line (x ∷ xs) (value e ∷ args) =
-    framed_untouched f y h (given n (in_frame f x)) line xs args
-    ∙ given_untouched n (in_frame f x) y
+    framed_untouched f y h (given n (in_frame f x)) line xs args ∙ given_untouched n (in_frame f x) y
     (λ d same. h x (same ∙ framed_fresh f x (sym (framed_global f x) ∙ d)))
 framed_untouched f y h n line xs args = refl
 
@@ -183,8 +181,7 @@ module _ {P : List ℕ → Type 0} {own : List ℕ → List ℕ} {f : ℕ} (o : 
       let first = assignments line (map (in_frame f) t.inputs) (map (renamed_argument own) args) in
       let last = assignments line (map own xs) (map (value_in f) t.results) in
       let behind = known_block n first in
-      ap (λ z. in_table z.locals y) (known_joins n first (joins (t.block f) last)
-      ∙ known_joins behind (t.block f) last)
+      ap (λ z. in_table z.locals y) (known_joins n first (joins (t.block f) last) ∙ known_joins behind (t.block f) last)
       ∙ results_untouched (known_block behind (t.block f)) line xs (map (value_in f) t.results) p
       ∙ m.untouched behind f y h.frames
       ∙ framed_untouched f y (λ x. h.frames x f (omega arith)) n line t.inputs (map (renamed_argument own) args)
@@ -212,8 +209,7 @@ module _ (opcodes : Opcodes) (rs : Routines) (m : AllMatch opcodes rs) {P : List
         let le = stmt_grows opcodes rs m f x in
         ap (λ z. in_table z.locals y) (known_joins n (expanded opcodes own f x) (expanded_block opcodes own g rest))
         ∙ block_untouched g (owns_later P own f g le o) (stranger_later P own f g y le h)
-        (known_block n (expanded opcodes own f x)) rest p.1
-        ∙ stmt_untouched f o h n x p.0
+        (known_block n (expanded opcodes own f x)) rest p.1 ∙ stmt_untouched f o h n x p.0
 
     arms_untouched : (f : ℕ) → Owns P own f → Stranger P own f y → (n : KnownHere) (list : Arms) → NamedArms P list
         → in_table (known_arms n (expanded_arms opcodes own f list)).locals y ≡ in_table n.locals y
@@ -222,15 +218,13 @@ module _ (opcodes : Opcodes) (rs : Routines) (m : AllMatch opcodes rs) {P : List
         let g = after_block opcodes f b in
         let le = block_grows opcodes rs m f b in
         arms_untouched g (owns_later P own f g le o) (stranger_later P own f g y le h)
-        (known_block n (expanded_block opcodes own f b)) rest p.2
-        ∙ block_untouched f o h n b p.1
+        (known_block n (expanded_block opcodes own f b)) rest p.2 ∙ block_untouched f o h n b p.1
 
 -- ---- statements
 
 -- the number of arguments and results of a call of a routine
 routine_fits : (t : Template) (r : Routine) → Matches t r → (line : ℕ) (xs : List (List ℕ)) (args : List Argument)
-    → call_faults true line xs args (Some t) ≡ []
-    → ArgumentsFit r.inputs args × ResultsFit xs r.results
+    → call_faults true line xs args (Some t) ≡ [] → ArgumentsFit r.inputs args × ResultsFit xs r.results
 routine_fits t r m line xs args none =
     let fits = call_fits line xs args t none in (
       subst (λ ins. ArgumentsFit ins args) m.inputs fits.0,
@@ -241,16 +235,14 @@ module _ {P : List ℕ → Type 0} {own : List ℕ → List ℕ} (base : PerRate
   call_meets : (t : Option Template) (r : Option Routine) → Both Matches t r → (f : ℕ) → Owns P own f
       → (n : KnownHere) (k : KnownInBody) → Mirrors P own f base n k
       → (line : ℕ) (xs : List (List ℕ)) (c : Callee) (args : List Argument) → NamedAll P xs → NamedArguments P args
-      → call_faults true line xs args t ≡ []
-      → Meets P own (after_called f t) base n (called own f line xs c args t)
+      → call_faults true line xs args t ≡ [] → Meets P own (after_called f t) base n (called own f line xs c args t)
       (known_in (shared_after_call k.shared c xs args r) (locals_after_call k.locals xs r))
       (λ q. call_fault_in q k line xs c args r) (call_in k line xs c args r)
   call_meets None None m f o n k s line xs c args p a none = record {
     known = call_mirrors o base n k s c xs args p;
     fault = λ q. or_none (at line (call_fault_by q n.shared (knows n) c (map own xs) (map (renamed_argument own) args)))
         ∙ ap (at line) (call_fault_same o base n k s.sees q c xs args a);
-    form = λ q h. ap (λ x. typed.andthen x typed.no_stmt)
-        (call_same o base n k s q line c xs args p a
+    form = λ q h. ap (λ x. typed.andthen x typed.no_stmt) (call_same o base n k s q line c xs args p a
         (at_none line (call_fault_by q k.shared (knows_in k) c xs args) h));
   }
   call_meets None (Some r) m f o n k s line xs c args p a none = absurd m
@@ -268,8 +260,7 @@ record ArmsMeet (P : List ℕ → Type 0) (own : List ℕ → List ℕ) (h : ℕ
 
 module _ (opcodes : Opcodes) (rs : Routines) (m : AllMatch opcodes rs) {P : List ℕ → Type 0}
     {own : List ℕ → List ℕ} (base : PerRate ℕ) where
-  all_init_same : (f g : ℕ) → Owns P own f → (list : Arms)
-      → all_init (expanded_arms opcodes own g list) ≡ all_init list
+  all_init_same : (f g : ℕ) → Owns P own f → (list : Arms) → all_init (expanded_arms opcodes own g list) ≡ all_init list
   all_init_same f g o (otherwise b) = refl
   all_init_same f g o (arm c b rest) =
       let kept : KeepsRates own = record { rate = o.rate } in
@@ -320,8 +311,7 @@ module _ (opcodes : Opcodes) (rs : Routines) (m : AllMatch opcodes rs) {P : List
           fault = λ q. fault_joins q n front back ∙ λ i. option_or (first.fault q i) (last.fault q i);
           form = λ q h.
               let sound = both_none (fault_in q rs k x) (block_fault_in q rs later rest) h in
-              typed_joins n front back
-              ∙ (λ i. then_block (first.form q sound.0 i) (last.form q sound.1 i))
+              typed_joins n front back ∙ (λ i. then_block (first.form q sound.0 i) (last.form q sound.1 i))
               ∙ sym (moved_then base (typed_in rs k x) (typed_block_in rs later rest));
         }
 

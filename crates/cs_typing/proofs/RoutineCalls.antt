@@ -68,21 +68,18 @@ ResultsFit (x ∷ xs) (y ∷ ys) = ResultsFit xs ys
 
 -- ---- numbers stay
 
-pub number_kept : (l : Locals) (z x : List ℕ) → has_local l x ≡ true
-    → (given_in l z).number x ≡ l.number x
+pub number_kept : (l : Locals) (z x : List ℕ) → has_local l x ≡ true → (given_in l z).number x ≡ l.number x
 number_kept l z x h = by (is_global z) (has_local l z) refl
   where
     same : has_local l z ≡ false → bytes_eq z x ≡ true → ⊥
     same new e =
         absurd (cc (sym new ∙ ap (has_local l) ((bytes_eq-Decides z x).0 e) ∙ h))
 
-    isnt : (c : Bool) → (c ≡ true → ⊥)
-        → (if c then Some (at_rate l.counts (name_rate z)) else l.number x) ≡ l.number x
+    isnt : (c : Bool) → (c ≡ true → ⊥) → (if c then Some (at_rate l.counts (name_rate z)) else l.number x) ≡ l.number x
     isnt true g = absurd (g refl)
     isnt false g = refl
 
-    by : (b c : Bool) → has_local l z ≡ c
-        → (if b then l else (if c then l else with_local l z)).number x ≡ l.number x
+    by : (b c : Bool) → has_local l z ≡ c → (if b then l else (if c then l else with_local l z)).number x ≡ l.number x
     by true c e = refl
     by false true e = refl
     by false false e = isnt (bytes_eq z x) (same e)
@@ -96,8 +93,7 @@ all_kept l [] x h = refl
 all_kept l (z ∷ zs) x h = all_kept (given_in l z) zs x (has_kept l z x h) ∙ number_kept l z x h
 
 -- a local variable has its number when it is given
-given_has : (l : Locals) (x : List ℕ) → is_global x ≡ false
-    → (given_in l x).number x ≡ Some (number_in l x)
+given_has : (l : Locals) (x : List ℕ) → is_global x ≡ false → (given_in l x).number x ≡ Some (number_in l x)
 given_has l x e = by (is_global x) (has_local l x) e refl
   where
     is_there : (a : Option ℕ) (d : ℕ) → is_some a ≡ true → a ≡ Some (unwrap_or a d)
@@ -130,15 +126,13 @@ variable_stays g l x xs = by (is_global x) refl
     there e =
         all_kept (given_in l x) xs x (ap (λ o. is_some o) (given_has l x e)) ∙ given_has l x e
 
-    by : (b : Bool) → is_global x ≡ b
-        → (if b then variant.Global (global (name_rate x) (place_in g.globals x))
+    by : (b : Bool) → is_global x ≡ b → (if b then variant.Global (global (name_rate x) (place_in g.globals x))
         else variant.Local (name_rate x) (number_in l x))
         ≡ (if b then variant.Global (global (name_rate x) (place_in g.globals x))
         else variant.Local (name_rate x) (number_in last x))
     by true e = refl
     by false e =
-        ap (variant.Local (name_rate x))
-        (sym (ap (λ o. unwrap_or o (at_rate last.counts (name_rate x))) (there e)))
+        ap (variant.Local (name_rate x)) (sym (ap (λ o. unwrap_or o (at_rate last.counts (name_rate x))) (there e)))
 
 -- ---- names of a frame are none of the caller's
 
@@ -233,8 +227,7 @@ goes_on f h base n g l last s m = record {
     shared = s.shared;
     has = s.has;
     place = λ x p e there.
-        s.place x p e there
-        ∙ ap (λ j. at_rate base (name_rate x) + j)
+        s.place x p e there ∙ ap (λ j. at_rate base (name_rate x) + j)
         (some_there (l.number x) (at_rate l.counts (name_rate x))
         (at_rate (counts_with l.counts last.counts) (name_rate x)) there);
   };
@@ -260,8 +253,7 @@ module _ {P : List ℕ → Type 0} {own : List ℕ → List ℕ} {f : ℕ} (o : 
     where
       by : (y : List ℕ) → is_global y ≡ false → in_frame f y ≡ own x → (b : Bool) → is_global x ≡ b → ⊥
       by y d same true e =
-          absurd (cc (sym (ap is_global (framed_fresh f y d) ∙ fresh_local f y)
-          ∙ ap is_global same ∙ o.local x ∙ e))
+          absurd (cc (sym (ap is_global (framed_fresh f y d) ∙ fresh_local f y) ∙ ap is_global same ∙ o.local x ∙ e))
       by y d same false e = frame_other o x y p e (sym same)
 
   slot_fault : (q : Setting) (n : KnownHere) → Inner n → (line : ℕ) (x y : List ℕ)
@@ -378,8 +370,7 @@ module _ {P : List ℕ → Type 0} {own : List ℕ → List ℕ} {f : ℕ} (o : 
       (fault_joins q behind_inputs (t.block f) (taken r.results))
 
   -- the typed form
-  form_parts : typed_block n (whole r.inputs r.results)
-      ≡ then_block (typed_block n (given_in_frame r.inputs))
+  form_parts : typed_block n (whole r.inputs r.results) ≡ then_block (typed_block n (given_in_frame r.inputs))
       (then_block (typed_block behind_inputs (t.block f)) (typed_block behind_body (taken r.results)))
   form_parts =
       typed_joins n (given_in_frame r.inputs) (joins (t.block f) (taken r.results))
@@ -417,8 +408,7 @@ module _ {P : List ℕ → Type 0} {own : List ℕ → List ℕ} {f : ℕ} (o : 
         (results_known o later base k.locals.counts (r.shared k.shared) r behind_body
         (past_call k.locals r.last.counts) caller_goes_on line xs r.results names takes);
     fault = λ q. ap (block_fault q n) whole_is ∙ fault_parts q
-        ∙ λ i. option_or (inputs_fault_same o base k q n m.sees line r.inputs args reads i)
-        (option_or (inner.fault q i)
+        ∙ λ i. option_or (inputs_fault_same o base k q n m.sees line r.inputs args reads i) (option_or (inner.fault q i)
         (results_fault_same o later base k.locals.counts (r.shared k.shared) r q behind_body inner.known.sees line xs
         r.results names i));
     form = λ q none.
@@ -426,11 +416,9 @@ module _ {P : List ℕ → Type 0} {own : List ℕ → List ℕ} {f : ℕ} (o : 
         let parts = both_none (inputs_fault q k line r.inputs args) (option_or (r.fault q k.shared) results_none)
         none in
         let more = both_none (r.fault q k.shared) results_none parts.1 in
-        ap (typed_block n) whole_is ∙ form_parts
-        ∙ (λ i. then_block
+        ap (typed_block n) whole_is ∙ form_parts ∙ (λ i. then_block
         (inputs_typed o base k q n m.sees r no_locals (begins f base n k m) line r.inputs args reads same.first parts.0
-        i)
-        (then_block (inner.form q more.0 i)
+        i) (then_block (inner.form q more.0 i)
         (results_typed o later base k.locals.counts (r.shared k.shared) r q behind_body
         (past_call k.locals r.last.counts) inner.known.sees caller_goes_on line xs r.results names more.1 i)))
         ∙ sym form_moved;

@@ -33,8 +33,7 @@ module _ {P : List ℕ → Type 0} {own : List ℕ → List ℕ} {f : ℕ} (o : 
   kept = record { rate = o.rate }
 
   module _ (s : Sees P own base n k) where
-    pub reads_same : (e : Expression) → Named P e
-        → reads_known n (renamed_expression own e) ≡ reads_by (knows_in k) e
+    pub reads_same : (e : Expression) → Named P e → reads_known n (renamed_expression own e) ≡ reads_by (knows_in k) e
     reads_same (var x) h = knows_same o base n k s x h
     reads_same (neg a) h = reads_same a h
     reads_same (pair p a b) h = λ i. reads_same a h.0 i && reads_same b h.1 i
@@ -104,11 +103,9 @@ module _ {P : List ℕ → Type 0} {own : List ℕ → List ℕ} {f : ℕ} (o : 
         else (if not (all_read_same args h i) then Some orc.Undefined
         else (if not (rates_kept kept q row xs args i) then Some orc.RateMismatch
         else (if clashes (s.shared i) (use_kept kept row.shape xs args i) (text_kept kept args i)
-        then Some orc.ChannelRate
-        else (if wide_kept kept q row.shape args i then Some orc.OutCount else None))))
+        then Some orc.ChannelRate else (if wide_kept kept q row.shape args i then Some orc.OutCount else None))))
 
-    pub call_fault_same : (q : Setting) (c : Callee) (xs : List (List ℕ)) (args : List Argument)
-        → NamedArguments P args
+    pub call_fault_same : (q : Setting) (c : Callee) (xs : List (List ℕ)) (args : List Argument) → NamedArguments P args
         → call_fault q n c (map own xs) (map (renamed_argument own) args)
         ≡ call_fault_by q k.shared (knows_in k) c xs args
     call_fault_same q (callee.Opcode p) xs args h = row_fault_same q (row_of p) xs args h
@@ -147,7 +144,6 @@ module _ {P : List ℕ → Type 0} {own : List ℕ → List ℕ} {f : ℕ} (o : 
         with_shared P own f base (given_all n (map own xs)) (known_in k.shared (all_given_in k.locals xs))
         (mirrors_all_given P own f o base n k m xs h)
         (use_channel n.shared (channel_use sh (map own xs) (map (renamed_argument own) args))
-        (text_of (map (renamed_argument own) args)))
-        (use_channel k.shared (channel_use sh xs args) (text_of args))
+        (text_of (map (renamed_argument own) args))) (use_channel k.shared (channel_use sh xs args) (text_of args))
         (λ i. use_channel (m.sees.shared i) (use_kept kept sh xs args i) (text_kept kept args i))
     call_mirrors (callee.Name name) xs args h = mirrors_all_given P own f o base n k m xs h

@@ -39,8 +39,7 @@ pub body_allowed : (opcodes : Opcodes) (d : Definition) → faults_in opcodes tr
     → faults_in opcodes true (whole_body d) ≡ []
 body_allowed opcodes d none =
     let last = assignments d.line (slots 0 d.outs) d.result in
-    faults_joins opcodes d.body last
-    ∙ λ i. none i ++ values_allowed opcodes d.line (slots 0 d.outs) d.result i
+    faults_joins opcodes d.body last ∙ λ i. none i ++ values_allowed opcodes d.line (slots 0 d.outs) d.result i
 
 from_next : (f g : ℕ) → f + 1 ≤ g → f < g
 from_next f g le = omega (arith, le)

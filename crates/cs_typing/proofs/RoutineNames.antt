@@ -91,8 +91,7 @@ module _ {P : List ℕ → Type 0} {own : List ℕ → List ℕ} {f : ℕ} (o : 
       ap (λ b. if b then in_table n.shared.globals (own x) else in_table n.locals (own x)) (o.local x)
       ∙ by (is_global x) refl
     where
-      by : (b : Bool) → is_global x ≡ b
-          → (if b then in_table n.shared.globals (own x) else in_table n.locals (own x))
+      by : (b : Bool) → is_global x ≡ b → (if b then in_table n.shared.globals (own x) else in_table n.locals (own x))
           ≡ (if b then in_table k.shared.globals x else has_local k.locals x)
       by true e = λ i. in_table (s.shared i).globals (o.shared x e i)
       by false e = s.has x p e
@@ -109,8 +108,7 @@ module _ {P : List ℕ → Type 0} {own : List ℕ → List ℕ} {f : ℕ} (o : 
   variable_at shared x place =
       ap (λ b. if b then over n (own x) else in_body (own x)) (o.local x) ∙ by (is_global x) refl
     where
-      by : (b : Bool) → is_global x ≡ b → (if b then over n (own x) else in_body (own x))
-          ≡ moved_variable base
+      by : (b : Bool) → is_global x ≡ b → (if b then over n (own x) else in_body (own x)) ≡ moved_variable base
           (if b then variant.Global (global (name_rate x) (place_in k.shared.globals x))
           else variant.Local (name_rate x) (number_in k.locals x))
       by true e = λ i. variant.Global
@@ -152,8 +150,7 @@ module _ {P : List ℕ → Type 0} {own : List ℕ → List ℕ} {f : ℕ} (o : 
   place_fresh : (x : List ℕ) → P x → is_global x ≡ false → has_local k.locals x ≡ false
       → place_in n.locals (own x) ≡ at_rate base (name_rate x) + at_rate k.locals.counts (name_rate x)
   place_fresh x p e h =
-      place_new n.locals (own x) (m.sees.has x p e ∙ h)
-      ∙ (λ i. at_rate (m.counts i) (o.rate x i))
+      place_new n.locals (own x) (m.sees.has x p e ∙ h) ∙ (λ i. at_rate (m.counts i) (o.rate x i))
       ∙ at_with base k.locals.counts (name_rate x)
 
   pub place_same : (x : List ℕ) → P x → is_global x ≡ false
@@ -175,14 +172,12 @@ module _ {P : List ℕ → Type 0} {own : List ℕ → List ℕ} {f : ℕ} (o : 
       → in_table (added n.locals (own x)) (own y) ≡ has_local (with_local k.locals x) y
   new_has x y p q e d = by (bytes_eq x y) refl
     where
-      by : (b : Bool) → bytes_eq x y ≡ b
-          → in_table (added n.locals (own x)) (own y)
+      by : (b : Bool) → bytes_eq x y ≡ b → in_table (added n.locals (own x)) (own y)
           ≡ is_some (if b then Some (at_rate k.locals.counts (name_rate x)) else k.locals.number y)
       by true h =
           subst (λ z. in_table (added n.locals (own x)) (own z) ≡ true) ((bytes_eq-Decides x y).0 h)
           (added_in n.locals (own x))
-      by false h = added_other n.locals (own x) (own y) (λ same. isnt h (o.apart y x q p d e same))
-          ∙ m.sees.has y q d
+      by false h = added_other n.locals (own x) (own y) (λ same. isnt h (o.apart y x q p d e same)) ∙ m.sees.has y q d
         where
           isnt : bytes_eq x y ≡ false → y ≡ x → ⊥
           isnt g same = absurd (cc (sym g ∙ (bytes_eq-Decides x y).1 (sym same)))
@@ -196,18 +191,15 @@ module _ {P : List ℕ → Type 0} {own : List ℕ → List ℕ} {f : ℕ} (o : 
       c = at_rate k.locals.counts (name_rate x)
 
       by : (b : Bool) → bytes_eq x y ≡ b → is_some (if b then Some c else k.locals.number y) ≡ true
-          → place_in (added n.locals (own x)) (own y)
-          ≡ at_rate base (name_rate y)
+          → place_in (added n.locals (own x)) (own y) ≡ at_rate base (name_rate y)
           + unwrap_or (if b then Some c else k.locals.number y)
           (at_rate (counted (name_rate x) k.locals.counts) (name_rate y))
       by true g there =
           subst (λ z. place_in (added n.locals (own x)) (own z) ≡ at_rate base (name_rate z) + c)
           ((bytes_eq-Decides x y).0 g) (added_place n.locals (own x) ∙ place_fresh x p e new)
       by false g there =
-          place_in_on n.locals (added n.locals (own x)) (own y) (added_on n.locals (own x))
-          (m.sees.has y q d ∙ there)
-          ∙ m.sees.place y q d there
-          ∙ ap (λ j. at_rate base (name_rate y) + j)
+          place_in_on n.locals (added n.locals (own x)) (own y) (added_on n.locals (own x)) (m.sees.has y q d ∙ there)
+          ∙ m.sees.place y q d there ∙ ap (λ j. at_rate base (name_rate y) + j)
           (some_there (k.locals.number y) (at_rate k.locals.counts (name_rate y))
           (at_rate (counted (name_rate x) k.locals.counts) (name_rate y)) there)
 
@@ -219,8 +211,7 @@ module _ {P : List ℕ → Type 0} {own : List ℕ → List ℕ} {f : ℕ} (o : 
       has = λ y q d. new_has x y p q e d;
       place = λ y q d h. new_place x y p q e d new h;
     };
-    counts = added_new n.locals (own x) (m.sees.has x p e ∙ new)
-        ∙ (λ i. counted (o.rate x i) (m.counts i))
+    counts = added_new n.locals (own x) (m.sees.has x p e ∙ new) ∙ (λ i. counted (o.rate x i) (m.counts i))
         ∙ counted_with (name_rate x) base k.locals.counts;
     free = λ g y le. added_other n.locals (own x) (fresh g y) (λ same. o.below x y g p e le (sym same)) ∙ m.free g y le;
   }
@@ -229,13 +220,11 @@ module _ {P : List ℕ → Type 0} {own : List ℕ → List ℕ} {f : ℕ} (o : 
       → Mirrors P own f base (given n (own x)) (known_in k.shared (given_in k.locals x))
   mirrors_given x p =
       subst (λ b. Mirrors P own f base (known_with n.shared (if b then n.locals else added n.locals (own x)))
-      (known_in k.shared (given_in k.locals x))) (sym (o.local x))
-      (by (is_global x) (has_local k.locals x) refl refl)
+      (known_in k.shared (given_in k.locals x))) (sym (o.local x)) (by (is_global x) (has_local k.locals x) refl refl)
     where
       by : (b c : Bool) → is_global x ≡ b → has_local k.locals x ≡ c
           → Mirrors P own f base (known_with n.shared (if b then n.locals else added n.locals (own x)))
-          (known_in k.shared
-          (if b then k.locals else (if c then k.locals else with_local k.locals x)))
+          (known_in k.shared (if b then k.locals else (if c then k.locals else with_local k.locals x)))
       by true c e h = m
       by false true e h =
           subst (λ t. Mirrors P own f base (known_with n.shared t) k)

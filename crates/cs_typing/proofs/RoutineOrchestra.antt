@@ -92,8 +92,7 @@ rest_named : (P : List ℕ → Type 0) (line : ℕ) (b : Block) → NamedBlock P
 rest_named P line no_stmt h = tt
 rest_named P line (andthen x rest) h = by (rest_named P line rest h.1) (nat_lt (line_of x) line)
   where
-    by : NamedBlock P (from line rest) → (c : Bool)
-        → NamedBlock P (if c then from line rest else andthen x rest)
+    by : NamedBlock P (from line rest) → (c : Bool) → NamedBlock P (if c then from line rest else andthen x rest)
     by more true = more
     by more false = h
 
@@ -170,8 +169,7 @@ module _ (ds : List Definition) (ch : ℕ) (sound : faults_of_definitions no_opc
             (λ j. made_with (then_block m.zero (then_block (first j) outer))
             (m.instrs ++ record { line = i.line; numbers = i.numbers; body = form j } ∷ instrs))
             ∙ (λ j. made_with (sym (then_again m.zero (typed_block_in no_routines k front) outer) j)
-            (sym (append_assoc m.instrs (instrument_in ds k1 i ∷ []) instrs) j))
-            ∙ more.form made inner.1;
+            (sym (append_assoc m.instrs (instrument_in ds k1 i ∷ []) instrs) j)) ∙ more.form made inner.1;
       }
 
 -- ---- the whole
@@ -226,8 +224,7 @@ module _ (o : Orchestra) (well : IsWellFormed o) (allowed : first_fault o ≡ No
   orchestra_breaks = ap (option_or (settings_fault o.head o.zero)) meets.fault
 
   -- LEMMA: its typed form
-  pub orchestra_forms : statements_fault channels o ≡ None
-      → typed_of (expanded_orchestra o)
+  pub orchestra_forms : statements_fault channels o ≡ None → typed_of (expanded_orchestra o)
       ≡ typed_by (told (header o.head) (zak_spaces (zaks_of_block o.zero))) o
   orchestra_forms none =
       let made = meets.form nothing none in

@@ -25,8 +25,7 @@ routine_unfound ds visible (callee.Opcode o) h = refl
 routine_unfound ds visible (callee.Name x) h = unfound routine_of no_routines ds visible x refl h
 
 pub routine_found : (ds : List Definition) (visible : ℕ) (c : Callee) (f : FoundDefinition)
-    → IsFound ds visible c (Some f)
-    → routine_called (with_routines no_routines (take visible ds)) c
+    → IsFound ds visible c (Some f) → routine_called (with_routines no_routines (take visible ds)) c
     ≡ Some (routine_of (with_routines no_routines (take f.place ds)) (definition f.definition.now))
 routine_found ds visible (callee.Opcode o) f h = absurd h
 routine_found ds visible (callee.Name x) f h =
@@ -38,6 +37,5 @@ pub unfound_fault : (s : Setting) (rs : Routines) (k : KnownInBody) (stmt : Stat
     → routine_called rs c ≡ None → ys ≡ xs → zs ≡ args
     → fault_in s rs k stmt ≡ at line (call_fault_by s k.shared (knows_in k) c ys (map argument zs))
 unfound_fault s rs k stmt line xs ys c args zs is none same lent =
-    ap (fault_in s rs k) is
-    ∙ ap (call_fault_in s k line xs c (map argument args)) none
+    ap (fault_in s rs k) is ∙ ap (call_fault_in s k line xs c (map argument args)) none
     ∙ sym (λ i. at line (call_fault_by s k.shared (knows_in k) c (same i) (map argument (lent i))))

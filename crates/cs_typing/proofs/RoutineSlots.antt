@@ -45,8 +45,7 @@ module _ (rs : Routines) where
   shared_joins g no_stmt b = refl
   shared_joins g (andthen x rest) b = shared_joins (shared_after rs g x) rest b
 
-  pub fault_joins_in : (s : Setting) (k : KnownInBody) (a b : Block)
-      → block_fault_in s rs k (joins a b)
+  pub fault_joins_in : (s : Setting) (k : KnownInBody) (a b : Block) → block_fault_in s rs k (joins a b)
       ≡ option_or (block_fault_in s rs k a) (block_fault_in s rs (known_after_block rs k a) b)
   fault_joins_in s k no_stmt b = refl
   fault_joins_in s k (andthen x rest) b =
@@ -55,8 +54,7 @@ module _ (rs : Routines) where
       ∙ sym (or_again (fault_in s rs k x) (block_fault_in s rs next rest)
       (block_fault_in s rs (known_after_block rs next rest) b))
 
-  pub typed_joins_in : (k : KnownInBody) (a b : Block)
-      → typed_block_in rs k (joins a b)
+  pub typed_joins_in : (k : KnownInBody) (a b : Block) → typed_block_in rs k (joins a b)
       ≡ then_block (typed_block_in rs k a) (typed_block_in rs (known_after_block rs k a) b)
   typed_joins_in k no_stmt b = refl
   typed_joins_in k (andthen x rest) b =
@@ -78,8 +76,7 @@ module _ (rs : Routines) where
       by false true = h n r
       by false false =
           ap (λ q. is_some (if q then Some (at_rate l.counts (name_rate x)) else l.number (slot n r)))
-          (differ x (slot n r) (no_slot n r x p))
-          ∙ h n r
+          (differ x (slot n r) (no_slot n r x p)) ∙ h n r
 
   all_given_no_slots : (l : Locals) → NoSlots l → (xs : List (List ℕ)) → NamedAll HasNoStop xs
       → NoSlots (all_given_in l xs)
@@ -153,13 +150,11 @@ module _ (n : ℕ) (l m : Locals) (s : SlotsFrom n l m) where
     number = λ x p.
         ap (λ z. z.number x) (slot_given r)
         ∙ ap (λ b. if b then Some (at_rate l.counts (name_rate (slot n r))) else l.number x)
-        (differ (slot n r) x (λ e. no_slot n r x p (sym e)))
-        ∙ s.number x p;
+        (differ (slot n r) x (λ e. no_slot n r x p (sym e))) ∙ s.number x p;
     free = λ j q le.
         ap (λ z. has_local z (slot j q)) (slot_given r)
         ∙ ap (λ b. is_some (if b then Some (at_rate l.counts (name_rate (slot n r))) else l.number (slot j q)))
-        (differ (slot n r) (slot j q) (λ e. apart j le (slot_apart n j r q e)))
-        ∙ s.free j q (below j le);
+        (differ (slot n r) (slot j q) (λ e. apart j le (slot_apart n j r q e))) ∙ s.free j q (below j le);
   }
     where
       apart : (j : ℕ) → n + 1 ≤ j → n ≡ j → ⊥
@@ -232,8 +227,7 @@ module _ (rs : Routines) (g : Shared) (line : ℕ) where
       → (given_in l (slot n r)).number (slot n r) ≡ Some (at_rate m.counts r)
   slot_number n l m s r =
       ap (λ z. z.number (slot n r)) (slot_given n l m s r)
-      ∙ ap (λ b. if b then Some (at_rate l.counts (name_rate (slot n r))) else l.number (slot n r))
-      (itself (slot n r))
+      ∙ ap (λ b. if b then Some (at_rate l.counts (name_rate (slot n r))) else l.number (slot n r)) (itself (slot n r))
       ∙ λ i. Some (at_rate (s.counts i) (slot_rate n r i))
 
   slots_meet : (n : ℕ) (l m : Locals) → SlotsFrom n l m → (outs : List Rate) (args : List Argument)
@@ -293,8 +287,7 @@ module _ (r : Routine) where
       else variant.Local (name_rate y) (number_in r.last y))) (slot_local n q) in
       (λ i. typed.andthen (typed.set line (name_rate x) (variable_in k x) (typed.var (name_rate y) (there i)))
       (results_form (known_in k.shared (given_in k.locals x)) base line xs (n + 1) outs i))
-      ∙ (λ i. typed.andthen (typed.set line (name_rate x) (variable_in k x)
-      (typed.var (slot_rate n q i)
+      ∙ (λ i. typed.andthen (typed.set line (name_rate x) (variable_in k x) (typed.var (slot_rate n q i)
       (variant.Local (slot_rate n q i) (at_rate base (slot_rate n q i) + number_in r.last y))))
       (taken_set (known_in k.shared (given_in k.locals x)) base line xs outs
       (map (number_in r.last) (slots (n + 1) outs))))
@@ -421,8 +414,7 @@ module _ (rs : Routines) (d : Definition) (well : WellFormedDefinition d) where
       → results_set k base (routine_of rs d) line xs (slots 0 d.outs)
       ≡ taken_set k base line xs d.outs (slot_numbers body_locals.counts d.outs d.result)
   call_results_form k base line xs =
-      results_form (routine_of rs d) k base line xs 0 d.outs
-      ∙ ap (taken_set k base line xs d.outs) body_numbers
+      results_form (routine_of rs d) k base line xs 0 d.outs ∙ ap (taken_set k base line xs d.outs) body_numbers
 
   pub call_inputs_form : (k : KnownInBody) (line : ℕ) (args : List Argument)
       → inputs_set k (routine_of rs d) line d.names args ≡ given_set k first_locals line d.names args

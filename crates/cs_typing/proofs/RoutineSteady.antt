@@ -75,8 +75,7 @@ at_callee rs m (callee.Name name) = m name
 
 -- ---- global variables alone are read
 
-knows_again : (g h : Shared) (l : Locals) → h.globals ≡ g.globals
-    → knows_in (known_in h l) ≡ knows_in (known_in g l)
+knows_again : (g h : Shared) (l : Locals) → h.globals ≡ g.globals → knows_in (known_in h l) ≡ knows_in (known_in g l)
 knows_again g h l e = λ i x. if is_global x then in_table (e i) x else has_local l x
 
 variable_again : (g h : Shared) (l : Locals) → h.globals ≡ g.globals
@@ -144,10 +143,8 @@ module _ (s : Setting) (g h : Shared) (a : Apart h) (l : Locals) where
       clash_again g h a (channel_use row.shape xs args) (text_of args) on ∙ sym keeps.clash in
       (λ i. if not (counts_agree row xs args) then Some orc.ArgCount
       else (if not (all_read_by (knows_again g h l e i) args) then Some orc.Undefined
-      else (if not (rates_agree s row xs args) then Some orc.RateMismatch
-      else (if clash i then Some orc.ChannelRate
-      else (if is_too_wide s row.shape args then Some orc.OutCount else None)))))
-      ∙ none
+      else (if not (rates_agree s row xs args) then Some orc.RateMismatch else (if clash i then Some orc.ChannelRate
+      else (if is_too_wide s row.shape args then Some orc.OutCount else None))))) ∙ none
 
   channels_again : (role : Option Channel) (args : List Argument) → OneText role args
       → SharedGoesOn (use_channel g role (text_of args)) h → (v : Variables)

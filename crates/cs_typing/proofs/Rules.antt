@@ -26,8 +26,7 @@ pub record KeepsRules (s : Setting) (g : Shared) (is_known : List ℕ → Bool) 
   pub clash : clashes g (channel_use row.shape results args) (text_of args) ≡ false
   pub width : is_too_wide s row.shape args ≡ false
 
-none_broken : (a b c d e : Bool)
-    → (if not a then Some orc.ArgCount else (if not b then Some orc.Undefined else
+none_broken : (a b c d e : Bool) → (if not a then Some orc.ArgCount else (if not b then Some orc.Undefined else
     (if not c then Some orc.RateMismatch else
     (if d then Some orc.ChannelRate else (if e then Some orc.OutCount else None))))) ≡ None
     → (a ≡ true) × (b ≡ true) × (c ≡ true) × (d ≡ false) × (e ≡ false)

@@ -54,8 +54,7 @@ module _ {own : List ℕ → List ℕ} (same : KeepsRates own) where
 
     pub condition_kept : (e : Expression) → is_condition (renamed_expression own e) ≡ is_condition e
     condition_kept (pair o a b) = λ i. if is_logic o then condition_kept a i && condition_kept b i
-        else not (is_arithmetic o)
-        && (value_kept a i && value_kept b i
+        else not (is_arithmetic o) && (value_kept a i && value_kept b i
         && not (is_audio (faster (rate_of_kept a i) (rate_of_kept b i))))
     condition_kept e = refl
 
@@ -110,11 +109,9 @@ module _ {own : List ℕ → List ℕ} (same : KeepsRates own) where
   pub rates_kept : (s : Setting) (row : Row) (results : List (List ℕ)) (args : List Argument)
       → rates_agree s row (map own results) (map (renamed_argument own) args) ≡ rates_agree s row results args
   rates_kept s row results args =
-      ap (λ q. all_fit row q 0 (map (renamed_argument own) args)
-      && list_all (may_result row) (map own results)
+      ap (λ q. all_fit row q 0 (map (renamed_argument own) args) && list_all (may_result row) (map own results)
       && is_even row.shape (map (renamed_argument own) args) && (s.inside || stands_outside row.shape))
-      (bound_kept results)
-      ∙ λ i. all_fit_kept row (bound_of results) 0 args i && results_kept row results i
+      (bound_kept results) ∙ λ i. all_fit_kept row (bound_of results) 0 args i && results_kept row results i
       && even_kept row.shape args i && (s.inside || stands_outside row.shape)
 
   pub wide_kept : (s : Setting) (sh : Shape) (args : List Argument)
@@ -130,8 +127,7 @@ module _ {own : List ℕ → List ℕ} (same : KeepsRates own) where
   pub counts_kept : (row : Row) (results : List (List ℕ)) (args : List Argument)
       → counts_agree row (map own results) (map (renamed_argument own) args) ≡ counts_agree row results args
   counts_kept row results args =
-      λ i. length-map results own i == result_count row
-      && takes_count row (length-map args (renamed_argument own) i)
+      λ i. length-map results own i == result_count row && takes_count row (length-map args (renamed_argument own) i)
 
   pub plain_rate_kept : (sh : Shape) (args : List Argument)
       → plain_rate sh (map (renamed_argument own) args) ≡ plain_rate sh args

@@ -21,8 +21,7 @@ use Rattle.cs_typed.specs.TypedTree as typed
 pub well_at : (ds : List Definition) (place : ℕ) (d : Definition) → All WellFormedDefinition ds
     → slice_get ds place ≡ Some d → WellFormedDefinition d
 well_at ds place d h at =
-    subst WellFormedDefinition (get_or_from_slice_get ds place d d at)
-    (h place d (slice_get_within ds place d at))
+    subst WellFormedDefinition (get_or_from_slice_get ds place d d at) (h place d (slice_get_within ds place d at))
 
 -- it has its routine, which is the last of a longer table, and all that is typed stays so
 pub record IsTypedThen (s : Setting) (ds : List Definition) (place : ℕ) (d : Definition) (g h : Shared)
@@ -52,8 +51,7 @@ module _ (s : Setting) (ds : List Definition) (place : ℕ) (d : Definition) (we
     at_slots = known ∙ λ i. known_after_block (routines_of ds place) (start i) (lent i)
 
     no_body_fault : block_fault_in s (routines_of ds place) (known_in g (first_locals (routines_of ds place) d well))
-        d.body
-        ≡ None
+        d.body ≡ None
     no_body_fault = sym (λ i. block_fault_in s (routines_of ds place) (start i) (lent i)) ∙ none_body
 
     -- a fault of the slots
@@ -61,8 +59,7 @@ module _ (s : Setting) (ds : List Definition) (place : ℕ) (d : Definition) (we
     slots_breaks f e =
         body_fault (routines_of ds place) d well s g
         ∙ ap (λ o. option_or o (slots_fault s (behind_body (routines_of ds place) d well g) d.line d.outs d.result))
-        no_body_fault
-        ∙ ap (λ k. slots_fault s k d.line d.outs d.result) (sym at_slots) ∙ e
+        no_body_fault ∙ ap (λ k. slots_fault s k d.line d.outs d.result) (sym at_slots) ∙ e
 
     pub shared_then : kb.shared ≡ r.shared g
     shared_then = ap (λ k. k.shared) at_slots ∙ sym (body_shared (routines_of ds place) d well g)
@@ -76,25 +73,21 @@ module _ (s : Setting) (ds : List Definition) (place : ℕ) (d : Definition) (we
       module _ (free : Apart g) (b c : RoutineTable) (first : List TypedStmt) (body : Vec TypedStmt Global)
           (locals : PerRate ℕ) (slots : Vec ℕ Global)
           (gives : (more : List typed.Block) → typed.block (blocks_in b ++ more) first
-          ≡ typed_block_in (routines_of ds place) k1 stmts)
-          (adds : (bs : List typed.Block) → typed.block bs body.items
+          ≡ typed_block_in (routines_of ds place) k1 stmts) (adds : (bs : List typed.Block) → typed.block bs body.items
           ≡ typed.then_block (typed.block bs first) (slots_set kb d.line d.outs d.result))
           (counts : locals ≡ (slots_past kb.locals d.outs d.result).counts)
           (numbers : slots.items ≡ slot_numbers kb.locals.counts d.outs d.result)
-          (within : place < length b.by_definition.items)
-          (pushed : c.list.items ≡ b.list.items ++ body ∷ [])
+          (within : place < length b.by_definition.items) (pushed : c.list.items ≡ b.list.items ++ body ∷ [])
           (marks : c.by_definition.items ≡ slice_set b.by_definition.items place
           (Some (record { routine = length b.list.items; locals = locals; slots = slots }))) where
         abbrev it : TypedDefinition
         it = record { routine = length b.list.items; locals = locals; slots = slots }
 
-        made : (more : List typed.Block) → typed.block (blocks_in b ++ more) body.items
-            ≡ typed.then_block
+        made : (more : List typed.Block) → typed.block (blocks_in b ++ more) body.items ≡ typed.then_block
             (typed_block_in (routines_of ds place) (known_in g (first_locals (routines_of ds place) d well)) d.body)
             (slots_set (behind_body (routines_of ds place) d well g) d.line d.outs d.result)
         made more =
-            adds (blocks_in b ++ more)
-            ∙ ap (λ x. typed.then_block x (slots_set kb d.line d.outs d.result)) (gives more)
+            adds (blocks_in b ++ more) ∙ ap (λ x. typed.then_block x (slots_set kb d.line d.outs d.result)) (gives more)
             ∙ λ i. typed.then_block (typed_block_in (routines_of ds place) (start i) (lent i))
             (slots_set (at_slots i) d.line d.outs d.result)
 

@@ -93,23 +93,20 @@ module _ (s : Setting) (ds : List Definition) (place : ℕ) (d : Definition) (we
       → slots_fault s (behind_body rs d well g) d.line d.outs d.result ≡ None → r.fault s g ≡ None
   now_fault body slots =
       body_fault rs d well s g
-      ∙ ap (λ f. option_or f (slots_fault s (behind_body rs d well g) d.line d.outs d.result)) body
-      ∙ slots
+      ∙ ap (λ f. option_or f (slots_fault s (behind_body rs d well g) d.line d.outs d.result)) body ∙ slots
 
   module _ (none : r.fault s g ≡ None) (free : Apart g) (b : RoutineTable) (body : Vec TypedStmt Global)
       (numbers : List ℕ) (c : RoutineTable) (it : TypedDefinition)
       (made : (more : List typed.Block) → typed.block (blocks_in b ++ more) body.items
       ≡ typed.then_block (typed_block_in rs (known_in g (first_locals rs d well)) d.body)
-      (slots_set (behind_body rs d well g) d.line d.outs d.result))
-      (pushed : c.list.items ≡ b.list.items ++ body ∷ [])
+      (slots_set (behind_body rs d well g) d.line d.outs d.result)) (pushed : c.list.items ≡ b.list.items ++ body ∷ [])
       (is : it.routine ≡ length b.list.items)
       (locals : it.locals ≡ (slots_past (body_locals rs d well) d.outs d.result).counts)
       (slots : it.slots.items ≡ slot_numbers (body_locals rs d well).counts d.outs d.result)
       (at : slice_get c.by_definition.items place ≡ Some (Some it)) where
     form : typed.block (blocks_in b) body.items ≡ r.block g
     form =
-        ap (λ bs. typed.block bs body.items) (sym (append-nil (blocks_in b))) ∙ made []
-        ∙ sym (body_form rs d well g)
+        ap (λ bs. typed.block bs body.items) (sym (append-nil (blocks_in b))) ∙ made [] ∙ sym (body_form rs d well g)
 
     blocks : blocks_in c ≡ blocks_in b ++ typed.block (blocks_in b) body.items ∷ []
     blocks = ap typed.routines pushed ∙ routines_more b.list.items body
@@ -121,8 +118,7 @@ module _ (s : Setting) (ds : List Definition) (place : ℕ) (d : Definition) (we
     stands =
         ap (λ k. typed.routine_at (blocks_in c) k) (sym many)
         ∙ ap (λ bs. typed.routine_at bs (length (blocks_in b))) blocks
-        ∙ at_end (blocks_in b) (typed.block (blocks_in b) body.items)
-        ∙ form
+        ∙ at_end (blocks_in b) (typed.block (blocks_in b) body.items) ∙ form
 
     one_longer : length (blocks_in c) ≡ length (blocks_in b) + 1
     one_longer = ap length blocks ∙ length_both (blocks_in b) (typed.block (blocks_in b) body.items ∷ [])
@@ -165,8 +161,7 @@ module _ (s : Setting) (ds : List Definition) (place : ℕ) (d : Definition) (we
     pub now_typed : (channels : ℕ) → s ≡ inside channels → slice_get ds place ≡ Some d
         → AreTyped channels ds (r.shared g) b
         → ((k : ℕ) → k ≢ place → slice_get c.by_definition.items k ≡ slice_get b.by_definition.items k)
-        → length c.by_definition.items ≡ length b.by_definition.items
-        → AreTyped channels ds (r.shared g) c
+        → length c.by_definition.items ≡ length b.by_definition.items → AreTyped channels ds (r.shared g) c
     now_typed channels e here was others marks = record {
       fit = was.fit;
       marks = marks ∙ was.marks;
@@ -194,8 +189,7 @@ module _ (s : Setting) (ds : List Definition) (place : ℕ) (d : Definition) (we
         each_typed k q x false h at_k here_k =
             let before = was.each k q x (sym (others k (other_place k place h)) ∙ at_k) here_k in
             subst (λ (bs : List typed.Block). IsTyped channels (r.shared g) (routine_of (routines_of ds k) x) q bs)
-            (sym blocks)
-            (typed_on channels (r.shared g) (routine_of (routines_of ds k) x) q (blocks_in b)
+            (sym blocks) (typed_on channels (r.shared g) (routine_of (routines_of ds k) x) q (blocks_in b)
             (typed.block (blocks_in b) body.items ∷ []) before)
 
 -- ---- what is found

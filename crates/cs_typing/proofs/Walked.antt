@@ -101,15 +101,13 @@ pub one_added : (t : RoutineTable) (old new : List TypedStmt) (y : TypedStmt) (f
     → AddsOver t old new (typed.alone form)
 one_added t old new y form pushed is more =
     let rs = blocks_in t ++ more in
-    ap (typed.block rs) pushed ∙ one_more rs old y
-    ∙ ap (λ b. typed.then_block (typed.block rs old) b) (is rs)
+    ap (typed.block rs) pushed ∙ one_more rs old y ∙ ap (λ b. typed.then_block (typed.block rs old) b) (is rs)
 
 pub one_added_always : (old new : List TypedStmt) (y : TypedStmt) (form : typed.Statement)
     → new ≡ old ++ y ∷ [] → ((rs : List typed.Block) → typed.statement rs y ≡ typed.alone form)
     → Adds old new (typed.alone form)
 one_added_always old new y form pushed is rs =
-    ap (typed.block rs) pushed ∙ one_more rs old y
-    ∙ ap (λ b. typed.then_block (typed.block rs old) b) (is rs)
+    ap (typed.block rs) pushed ∙ one_more rs old y ∙ ap (λ b. typed.then_block (typed.block rs old) b) (is rs)
 
 -- some, and then others
 pub added_both : (rs : List typed.Block) (a b c : List TypedStmt) (x y : typed.Block)
@@ -133,8 +131,7 @@ pub rest_known_in : (rs : Routines) (k m : KnownInBody) (list rest : List OrcStm
     → m ≡ known_after rs k (tree.statement x)
     → known_after_block rs m (tree.block rest) ≡ known_after_block rs k (tree.block list)
 rest_known_in rs k m list rest x e after =
-    ap (λ n. known_after_block rs n (tree.block rest)) after
-    ∙ sym (ap (λ xs. known_after_block rs k (tree.block xs)) e)
+    ap (λ n. known_after_block rs n (tree.block rest)) after ∙ sym (ap (λ xs. known_after_block rs k (tree.block xs)) e)
 
 pub rest_typed_in : (rs : Routines) (bs : List typed.Block) (k m : KnownInBody) (list rest : List OrcStmt) (x : OrcStmt)
     (done more : List TypedStmt) → list ≡ x ∷ rest
@@ -144,8 +141,7 @@ pub rest_typed_in : (rs : Routines) (bs : List typed.Block) (k m : KnownInBody) 
     ≡ typed.then_block (typed.block bs done) (typed_block_in rs k (tree.block list))
 rest_typed_in rs bs k m list rest x done more e made after =
     let tail = typed_block_in rs m (tree.block rest) in
-    ap (λ b. typed.then_block b tail) made
-    ∙ then_again (typed.block bs done) (typed_in rs k (tree.statement x)) tail
+    ap (λ b. typed.then_block b tail) made ∙ then_again (typed.block bs done) (typed_in rs k (tree.statement x)) tail
     ∙ ap (λ n. typed.then_block (typed.block bs done)
     (typed.then_block (typed_in rs k (tree.statement x)) (typed_block_in rs n (tree.block rest)))) after
     ∙ sym (ap (λ xs. typed.then_block (typed.block bs done) (typed_block_in rs k (tree.block xs))) e)
@@ -164,8 +160,7 @@ pub rest_arms_fault_in : (s : Setting) (rs : Routines) (k m : KnownInBody) (line
     → arms_fault_in s rs m line (tree.arms els rest) ≡ arms_fault_in s rs k line (tree.arms els list)
 rest_arms_fault_in s rs k m line els list rest a e cond body after =
     let tail = arms_fault_in s rs (known_after_block rs k (body_of a)) line (tree.arms els rest) in
-    ap (λ n. arms_fault_in s rs n line (tree.arms els rest)) after
-    ∙ sym (ap (λ f. option_or f tail) body)
+    ap (λ n. arms_fault_in s rs n line (tree.arms els rest)) after ∙ sym (ap (λ f. option_or f tail) body)
     ∙ sym (ap (λ f. option_or f (option_or (block_fault_in s rs k (body_of a)) tail)) cond)
     ∙ sym (ap (λ xs. arms_fault_in s rs k line (tree.arms els xs)) e)
 
@@ -178,16 +173,13 @@ rest_arms_known_in rs k m els list rest a e after =
 
 pub rest_arms_typed_in : (rs : Routines) (bs : List typed.Block) (k m : KnownInBody) (els : Block)
     (list rest : List Arm) (a : Arm) (done more : List TypedArm) (y : TypedArm) → list ≡ a ∷ rest
-    → more ≡ done ++ y ∷ []
-    → typed.expression (out-TypedArm y).cond ≡ expression_by (variable_in k) (cond_of a)
+    → more ≡ done ++ y ∷ [] → typed.expression (out-TypedArm y).cond ≡ expression_by (variable_in k) (cond_of a)
     → typed.block bs (out-TypedArm y).body.items ≡ typed_block_in rs k (body_of a)
-    → m ≡ known_after_block rs k (body_of a)
-    → with_arms bs more (typed_arms_in rs m (tree.arms els rest))
+    → m ≡ known_after_block rs k (body_of a) → with_arms bs more (typed_arms_in rs m (tree.arms els rest))
     ≡ with_arms bs done (typed_arms_in rs k (tree.arms els list))
 rest_arms_typed_in rs bs k m els list rest a done more y e pushed cond body after =
     let tail = typed_arms_in rs m (tree.arms els rest) in
-    ap (λ ys. with_arms bs ys tail) pushed
-    ∙ one_more_arm bs done y tail
+    ap (λ ys. with_arms bs ys tail) pushed ∙ one_more_arm bs done y tail
     ∙ (λ i. with_arms bs done (typed.arm (cond i) (body i) (typed_arms_in rs (after i) (tree.arms els rest))))
     ∙ sym (ap (λ xs. with_arms bs done (typed_arms_in rs k (tree.arms els xs))) e)
 

@@ -18,6 +18,5 @@ returns-clause-fault c = c.in_ok-set.ensures.fault c.args.name.now (sym c.name_r
 pub returns-clause-made : goal.returns-clause-made
 returns-clause-made c =
     let value = expression_by (variable_in (known_of c.args.names.now)) (expression c.args.e.now) in
-    λ rs. c.in_ok-set.ensures.made rs
-    ∙ λ i. typed.then_block (typed.block rs c.args.done.now.items)
+    λ rs. c.in_ok-set.ensures.made rs ∙ λ i. typed.then_block (typed.block rs c.args.done.now.items)
     (typed.alone (typed.set c.args.line (c.name_rate.ensures i) (c.variable.ensures i) value))

@@ -17,5 +17,4 @@ loop-arg-preserved c =
     ap (λ xs. xs ++ rest) c.in_ok-add_argument.ensures
     ∙ append_assoc done (argument_by n.shared (variable_in (known_of n)) role (argument x)) rest
     ∙ sym (ap (λ xs. done ++ arguments_by n.shared (variable_in (known_of n)) role (map argument xs))
-    (dropped c.args.args.now i x (omega arith) c.arg-item.is))
-    ∙ c.loop-arg.invariant
+    (dropped c.args.args.now i x (omega arith) c.arg-item.is)) ∙ c.loop-arg.invariant

@@ -6,7 +6,6 @@ use Rattle.cs_typing.proofs.call.typed_arguments.Given as goal
 
 abbrev pub invariant-loop-arg : goal.invariant-loop-arg
 invariant-loop-arg l =
-    map typed.argument l.made.items
-    ++ arguments_by l.names.shared (variable_in (known_of l.names)) l.role
+    map typed.argument l.made.items ++ arguments_by l.names.shared (variable_in (known_of l.names)) l.role
     (map argument (drop l.arg-index l.args)) ≡ arguments_by l.names.shared (variable_in (known_of l.names)) l.role
     (map argument l.args)

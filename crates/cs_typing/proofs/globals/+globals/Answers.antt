@@ -96,10 +96,8 @@ globals_of_stmt-loop-a-preserved t c =
     subst (λ (l : List OrcStmt). Looks c.args.front c.loop-a.given c.globals_of_block.new.given
     (names_in_block givers (tree.block l))) c.deref.ensures.value c.in_ok-globals_of_block-in-Choose.ensures in (
       ap (λ u. given_globals u (names_in_bodies givers rest)) made.names
-          ∙ sym (given_both k (names_in_block givers (tree.block (out-Arm a).body.items))
-          (names_in_bodies givers rest))
-          ∙ sym (ap (λ xs. given_globals k (names_in_bodies givers xs)) split)
-          ∙ c.loop-a.invariant.0,
+          ∙ sym (given_both k (names_in_block givers (tree.block (out-Arm a).body.items)) (names_in_bodies givers rest))
+          ∙ sym (ap (λ xs. given_globals k (names_in_bodies givers xs)) split) ∙ c.loop-a.invariant.0,
       made.done,
     )
 
@@ -129,8 +127,7 @@ globals_of_stmt-returns-in_ok-globals_of_callee-in-Call t c =
     subst (λ ys. OnOk c.give_globals.result (Looks f c.args.given.now new ys)) (sym seen)
     (on_ok c.give_globals.result c.give_globals.ensures
     (λ (e : c.give_globals.new.t ≡ given_globals mid.names c.as_slice-in-Call.result.now). looks_both f c.args.given.now
-    mid new xs c.in-Call.results
-    c.in_ok-globals_of_callee-in-Call.ensures
+    mid new xs c.in-Call.results c.in_ok-globals_of_callee-in-Call.ensures
     (looks_given f mid new c.in-Call.results c.in_ok-globals_of_callee-in-Call.ensures.done
     (e ∙ ap (given_globals mid.names) c.as_slice-in-Call.ensures) refl)))
 
@@ -156,8 +153,7 @@ globals_of_stmt-returns-after-loop-a t c =
     subst (λ ys. OnOk c.globals_of_block-in-Choose.result (Looks f c.args.given.now new ys)) names
     (on_ok c.globals_of_block-in-Choose.result c.globals_of_block-in-Choose.ensures
     (λ (l : Looks f mid new (names_in_block g (tree.block c.deref-in-Choose.result.now))). looks_both f c.args.given.now
-    mid new (names_in_bodies g list)
-    (names_in_block g els) first
+    mid new (names_in_bodies g list) (names_in_block g els) first
     (subst (λ (b : List OrcStmt). Looks f mid new (names_in_block g (tree.block b))) c.deref-in-Choose.ensures.value
     l)))
 
@@ -180,8 +176,7 @@ globals_of_block-loop-s-preserved t c =
     let made = c.in_ok-globals_of_stmt.ensures in (
       ap (λ u. given_globals u (names_in_block givers (tree.block rest))) made.names
           ∙ sym (given_both k (names_in givers (tree.statement x)) (names_in_block givers (tree.block rest)))
-          ∙ sym (ap (λ xs. given_globals k (names_in_block givers (tree.block xs))) split)
-          ∙ c.loop-s.invariant.0,
+          ∙ sym (ap (λ xs. given_globals k (names_in_block givers (tree.block xs))) split) ∙ c.loop-s.invariant.0,
       made.done,
     )
 

@@ -21,8 +21,7 @@ returns c =
     let ready = c.requires in
     c.in_ok-globals_of_instruments.ensures
     ∙ ap (λ t. given_globals t (names_in_instruments ds (map tree.instrument c.deref-2.result.now)))
-    c.in_ok-globals_of_block.ensures.names
-    ∙ (λ i. given_globals
+    c.in_ok-globals_of_block.ensures.names ∙ (λ i. given_globals
     (given_globals (c.new.ensures i) (names_in_block (givers_of (ready.definitions i) 0)
     (tree.block (c.deref.ensures.value i))))
     (names_in_instruments (ready.definitions i) (map tree.instrument (c.deref-2.ensures.value i))))

@@ -18,8 +18,7 @@ loop-i-preserved c =
     let split = drop_more c.args.instrs.now c.loop-i.i-index x (omega arith) in
     let made = c.in_ok-globals_of_block.ensures in
     let names : c.globals_of_block.new.given.names ≡ given_globals k first =
-    made.names
-    ∙ λ i. given_globals k
+    made.names ∙ λ i. given_globals k
     (names_in_block (givers_of ds (c.before-in-loop-i.ensures.count i)) (tree.block (c.deref.ensures.value i))) in (
       ap (λ t. given_globals t (names_in_instruments ds rest)) names
           ∙ sym (given_both k first (names_in_instruments ds rest))

@@ -13,7 +13,6 @@ invariant-loop-i l =
     ≡ inputs_fault l.setting (known_of l.names) l.it.line l.it.definition.now.names (map argument l.it.args.now))
     × ((rs : List typed.Block) → typed.then_block (typed.block rs l.done.items)
     (given_set (known_of l.names) (locals_of l.inputs) l.it.line (drop l.i l.it.definition.now.names)
-    (map argument (drop l.i l.it.args.now)))
-    ≡ typed.then_block (typed.block rs l.initial.done.items)
+    (map argument (drop l.i l.it.args.now))) ≡ typed.then_block (typed.block rs l.initial.done.items)
     (given_set (known_of l.names) (locals_of l.inputs) l.it.line l.it.definition.now.names
     (map argument l.it.args.now)))

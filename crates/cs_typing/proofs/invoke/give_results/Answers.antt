@@ -63,8 +63,7 @@ loop-i-preserved c =
           (ap (λ y. at it.line (taken_kind s y r)) (sym name) ∙ w.in_ok-take.ensures.fault)
           (λ bs. added bs ∙ ap (λ f. typed.then_block (typed.block bs old) (typed.alone f)) same) on fault made known
           c.loop-i.invariant
-      | else-i-rates w ↦
-          none_taken s k m it.base it.line xs outs slots i x old new p
+      | else-i-rates w ↦ none_taken s k m it.base it.line xs outs slots i x old new p
           (subst (λ ys. length ys ≤ i) rates (omega (arith, w.if-i-rates)))
           (ap (λ (v : Vec TypedStmt Global). v.items) w.done-is) on fault made known c.loop-i.invariant
     ]

@@ -26,6 +26,5 @@ returns-clause-made c =
     let value = expression_by (variable_in k) (expression c.args.e.now) in
     let number : c.of-number.result ≡ at_rate k.locals.counts r =
     c.of-number.ensures ∙ ap (λ t. at_rate t r) c.counts.ensures in
-    λ rs. c.in_ok-set.ensures.made rs
-    ∙ ap (λ n. typed.then_block (typed.block rs c.args.done.now.items)
+    λ rs. c.in_ok-set.ensures.made rs ∙ ap (λ n. typed.then_block (typed.block rs c.args.done.now.items)
     (typed.alone (typed.set c.args.line r (Local r n) value))) number

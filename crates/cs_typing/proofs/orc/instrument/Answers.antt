@@ -17,15 +17,13 @@ returns-in_err-body-clause-gives c =
     let entered : known_of c.exchange.new.self ≡ entered_in k =
     c.exchange.ensures.own ∙ ap (known_in k.shared) c.new-around.ensures in
     let same : block_fault_in (inside c.args.channels) (routines_of ds c.before-2.result) (known_of c.exchange.new.self)
-    (tree.block c.deref.result.now)
-    ≡ block_fault_in (inside c.args.channels) (routines_before line ds) (entered_in k)
+    (tree.block c.deref.result.now) ≡ block_fault_in (inside c.args.channels) (routines_before line ds) (entered_in k)
     (tree.block c.args.i.now.body.items) =
     λ i. block_fault_in (inside c.args.channels) (here i) (entered i) (tree.block (c.deref.ensures.value i)) in
     failed
     (λ r. GivesInstrument c.block.new.so_far.routines r
     (block_fault_in (inside c.args.channels) (routines_before line ds) (entered_in k)
-    (tree.block c.args.i.now.body.items))
-    (instrument_in ds k (tree.instrument c.args.i.now)))
+    (tree.block c.args.i.now.body.items)) (instrument_in ds k (tree.instrument c.args.i.now)))
     c.from_residual-in_err-body.result _ c.from_residual-in_err-body.ensures.1
     (same_fault _ _ _ c.in_err-body.ensures.gives same)
 

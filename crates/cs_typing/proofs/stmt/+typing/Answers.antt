@@ -63,8 +63,7 @@ block-loop-s-preserved t c =
           rest_typed_in rs (blocks_in c.stmt.new.so_far.routines ++ more) k m whole rest x c.loop-s.done.items
           c.stmt.new.done.items split (made.made more) made.known
           ∙ ap (λ bs. typed.then_block (typed.block bs c.loop-s.done.items) (typed_block_in rs k (tree.block whole)))
-          (ap (λ bs. bs ++ more) made.ahead.longer.1 ∙ append_assoc old more_now more)
-          ∙ was.1 (more_now ++ more),
+          (ap (λ bs. bs ++ more) made.ahead.longer.1 ∙ append_assoc old more_now more) ∙ was.1 (more_now ++ more),
       rest_known_in rs k m whole rest x split made.known ∙ was.2,
       ahead_still s c.args.so_far.now c.loop-s.so_far c.stmt.new.so_far was.3 made.ahead,
     )
@@ -80,11 +79,9 @@ block-returns-in_err-stmt-clause-gives t c =
     let after = known_after rs k (tree.statement x) in
     let rest = tree.block (drop (c.loop-s.s-index + 1) list) in
     failed (λ r. GivesBlock c.stmt.new.so_far.routines r (block_fault_in s.setting rs start (tree.block list))
-    (typed_block_in rs start (tree.block list)))
-    c.from_residual.result _ c.from_residual.ensures.1
+    (typed_block_in rs start (tree.block list))) c.from_residual.result _ c.from_residual.ensures.1
     (fault_on _ (fault_in s.setting rs k (tree.statement x)) _ c.in_err-stmt.ensures.fault
-    (λ f h. sym c.loop-s.invariant.0
-    ∙ ap (λ xs. block_fault_in s.setting rs k (tree.block xs))
+    (λ f h. sym c.loop-s.invariant.0 ∙ ap (λ xs. block_fault_in s.setting rs k (tree.block xs))
     (dropped list c.loop-s.s-index x (omega arith) c.s-item.is)
     ∙ ap (λ o. option_or o (block_fault_in s.setting rs after rest)) h))
 
@@ -100,8 +97,7 @@ block-returns t c =
         sym was.0 ∙ ap (λ xs. block_fault_in s.setting rs k (tree.block xs)) none,
         λ more.
             let done = typed.block (blocks_in c.loop-s.so_far.routines ++ more) c.loop-s.done.items in
-            sym (then_nothing done)
-            ∙ sym (ap (λ xs. typed.then_block done (typed_block_in rs k (tree.block xs))) none)
+            sym (then_nothing done) ∙ sym (ap (λ xs. typed.then_block done (typed_block_in rs k (tree.block xs))) none)
             ∙ was.1 more,
       );
       known = sym (ap (λ xs. known_after_block rs k (tree.block xs)) none) ∙ was.2;
@@ -250,10 +246,8 @@ choice-loop-a-preserved t c =
       λ more.
           rest_arms_typed_in rs (blocks_in c.arm.new.so_far.routines ++ more) k m els whole rest x old
           c.push.new.self.items c.in_ok-arm.field-0 split c.in_ok-push.ensures.items made.2 (made.3 more) made.4
-          ∙ ap (λ bs. with_arms bs old (typed_arms_in rs k (tree.arms els whole)))
-          (ap (λ bs. bs ++ more) ahead.longer.1
-          ∙ append_assoc (blocks_in c.loop-a.so_far.routines) ahead.longer.0 more)
-          ∙ was.1 (ahead.longer.0 ++ more),
+          ∙ ap (λ bs. with_arms bs old (typed_arms_in rs k (tree.arms els whole))) (ap (λ bs. bs ++ more) ahead.longer.1
+          ∙ append_assoc (blocks_in c.loop-a.so_far.routines) ahead.longer.0 more) ∙ was.1 (ahead.longer.0 ++ more),
       rest_arms_known_in rs k m els whole rest x split made.4 ∙ was.2,
       ahead_still s c.args.so_far.now c.loop-a.so_far c.arm.new.so_far was.3 ahead,
     )
@@ -271,8 +265,7 @@ choice-returns-in_err-arm-clause-gives t c =
     let x = c.a-item.result in
     let split = dropped c.args.list.now c.loop-a.a-index x (omega arith) c.a-item.is in
     failed (λ r. GivesChoice c.arm.new.so_far.routines r s.setting rs (known_of c.args.so_far.now.names) c.args.line
-    (tree.arms els c.args.list.now))
-    c.from_residual.result _ c.from_residual.ensures.1
+    (tree.arms els c.args.list.now)) c.from_residual.result _ c.from_residual.ensures.1
     (fault_on _ (arm_fault_in s.setting rs k c.args.line x) _ c.in_err-arm.ensures.gives
     (λ f h. sym c.loop-a.invariant.0 ∙ first_arm_fault_in s.setting rs k c.args.line els whole _ x f split h))
 
@@ -352,8 +345,7 @@ stmt-returns-in_err-made-in-Choose-clause-fault t c =
     (same_fault _ (fault (tree.choose line (tree.arms (tree.block c.deref-in-Choose-2.result.now)
     c.deref-in-Choose.result.now))) _ c.in_err-made-in-Choose.ensures.gives
     ((λ i. fault (tree.choose line (tree.arms (tree.block (c.deref-in-Choose-2.ensures.value i))
-    (c.deref-in-Choose.ensures.value i))))
-    ∙ sym (ap fault is)))
+    (c.deref-in-Choose.ensures.value i)))) ∙ sym (ap fault is)))
 
 pub stmt-returns-in_ok-push-in-Choose : goal.stmt-returns-in_ok-push-in-Choose
 stmt-returns-in_ok-push-in-Choose t c =
@@ -372,8 +364,7 @@ stmt-returns-in_ok-push-in-Choose t c =
       fault = sym (ap (fault_in s.setting rs k) same) ∙ choice.gives.0;
       made = λ more.
           let bs = blocks_in c.choice.new.so_far.routines ++ more in
-          ap (typed.block bs) c.in_ok-push-in-Choose.ensures.items
-          ∙ one_more bs old c.in_ok-made-in-Choose.made
+          ap (typed.block bs) c.in_ok-push-in-Choose.ensures.items ∙ one_more bs old c.in_ok-made-in-Choose.made
           ∙ ap (typed.then_block (typed.block bs old)) (choice.gives.1 more)
           ∙ ap (λ x. typed.then_block (typed.block bs old) (typed_in rs k x)) same;
       known = choice.known ∙ ap (known_after rs k) same;
@@ -402,8 +393,7 @@ stmt-returns-in-Set t c =
       made = on_ok c.set_name.result c.set_name.ensures.made
           (λ made more.
           let before = typed.block (blocks_in table ++ more) old in
-          made (blocks_in table ++ more)
-          ∙ (λ i. typed.then_block before (typed.alone (form (name i))))
+          made (blocks_in table ++ more) ∙ (λ i. typed.then_block before (typed.alone (form (name i))))
           ∙ sym (ap (λ x. typed.then_block before (typed_in rs k x)) is));
       known = on_ok c.set_name.result c.set_name.ensures.known
           (λ known. known ∙ (λ i. known_in k.shared (given_in k.locals (name i))) ∙ sym (ap (known_after rs k) is));
@@ -431,8 +421,7 @@ stmt-returns-in_err-made-in-None-clause-fault t c =
     let none : routine_called rs q ≡ None =
     routine_unfound (definitions_of s.library.now) s.visible q c.in-None.ensures.found in
     failed (λ r. Judged r (fault_in s.setting rs k (tree.statement c.args.s.now)))
-    c.from_residual.result _ c.from_residual.ensures.1
-    (same_fault _ _ _ c.in_err-made-in-None.ensures.gives
+    c.from_residual.result _ c.from_residual.ensures.1 (same_fault _ _ _ c.in_err-made-in-None.ensures.gives
     (sym (unfound_fault s.setting rs k (tree.statement c.args.s.now) line xs _ q args _ is none
     c.as_slice-results.ensures c.deref.ensures.value)))
 
@@ -454,22 +443,18 @@ stmt-returns-in_ok-push-in-None t c =
     routine_unfound (definitions_of s.library.now) s.visible q c.in-None.ensures.found in
     let fault : fault_in s.setting rs k (tree.statement c.args.s.now) ≡ None =
     unfound_fault s.setting rs k (tree.statement c.args.s.now) line xs _ q args _ is none c.as_slice-results.ensures
-    c.deref.ensures.value
-    ∙ made.gives.0 in
-    let known = made.known
-    ∙ (λ i. known_in
+    c.deref.ensures.value ∙ made.gives.0 in
+    let known = made.known ∙ (λ i. known_in
     (call_shared k.shared q (c.as_slice-results.ensures i) (map tree.argument (c.deref.ensures.value i)))
     (all_given_in k.locals (c.as_slice-results.ensures i)))
     ∙ sym (ap (λ r. known_in (shared_after_call k.shared q xs (map tree.argument args) r)
-    (locals_after_call k.locals xs r)) none)
-    ∙ sym (ap (known_after rs k) is) in
+    (locals_after_call k.locals xs r)) none) ∙ sym (ap (known_after rs k) is) in
     record {
       fault = fault;
       made = λ more.
           let before = typed.block (blocks_in table ++ more) old in
           one_added table old c.push.new.self.items c.in_ok-made-in-None.made _
-          c.in_ok-push-in-None.ensures.items made.gives.1 more
-          ∙ ap (typed.then_block before)
+          c.in_ok-push-in-None.ensures.items made.gives.1 more ∙ ap (typed.then_block before)
           ((λ i. typed.alone (call_by line k.shared (variable_in k) q (c.as_slice-results.ensures i)
           (map tree.argument (c.deref.ensures.value i))))
           ∙ sym (ap (call_in k line xs q (map tree.argument args)) none) ∙ sym (ap (typed_in rs k) is));
@@ -500,8 +485,7 @@ stmt-returns-in-Some t c =
       fault = subst (λ f. Judged c.invoke.result f)
           ((λ i. call_fault_in s.setting k line (names i) q (map tree.argument (given i)) (Some r))
           ∙ sym (ap (call_fault_in s.setting k line xs q (map tree.argument args)) found)
-          ∙ sym (ap (fault_in s.setting rs k) is))
-          (c.invoke.ensures.fault q);
+          ∙ sym (ap (fault_in s.setting rs k) is)) (c.invoke.ensures.fault q);
       made = on_ok c.invoke.result c.invoke.ensures.made
           (λ made. subst
           (λ b. AddsOver c.invoke.new.so_far.routines c.args.done.now.items c.invoke.new.done.items b)
@@ -510,8 +494,7 @@ stmt-returns-in-Some t c =
       known = on_ok c.invoke.result c.invoke.ensures.known
           (λ known. known ∙ ap (λ ys. known_in (r.shared k.shared) (locals_after_call k.locals ys (Some r))) names
           ∙ sym (ap (λ o. known_in (shared_after_call k.shared q xs (map tree.argument args) o)
-          (locals_after_call k.locals xs o)) found)
-          ∙ sym (ap (known_after rs k) is));
+          (locals_after_call k.locals xs o)) found) ∙ sym (ap (known_after rs k) is));
       ahead = c.invoke.ensures.ahead;
     }
 
@@ -591,8 +574,7 @@ invoke-returns-in-Some t c =
           (subst (λ it. it.routine < length (blocks_in table)) same listed.within)
           (listed.block ∙ ap (λ it. typed.routine_at (blocks_in table) it.routine) same)
           after (sym (ap (λ it. it.slots.items) same) ∙ listed.slots)
-          (λ bs. adds bs
-          ∙ ap (λ z. typed.then_block (typed.block bs c.give_inputs.new.done.items)
+          (λ bs. adds bs ∙ ap (λ z. typed.then_block (typed.block bs c.give_inputs.new.done.items)
           (typed.then_block (typed.moved_block z (typed.routine_at bs found.routine))
           (taken_set (known_in n.shared (past_call n.locals found.locals)) z it.line it.results.now d.outs
           found.slots.items))) c.requires.base));

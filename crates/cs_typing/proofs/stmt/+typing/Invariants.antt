@@ -38,8 +38,7 @@ decreases-arm l =
 -- the rest says what the whole says, whatever routines follow
 abbrev pub invariant-block-loop-s : goal.invariant-block-loop-s
 invariant-block-loop-s l =
-    (block_fault_in l.site.setting (routines_at l.site) (known_of l.so_far.names)
-    (tree.block (drop l.s-index l.stmts))
+    (block_fault_in l.site.setting (routines_at l.site) (known_of l.so_far.names) (tree.block (drop l.s-index l.stmts))
     ≡ block_fault_in l.site.setting (routines_at l.site) (known_of l.initial.so_far.names) (tree.block l.stmts))
     × ((more : List typed.Block) → typed.then_block (typed.block (blocks_in l.so_far.routines ++ more) l.done.items)
     (typed_block_in (routines_at l.site) (known_of l.so_far.names) (tree.block (drop l.s-index l.stmts)))

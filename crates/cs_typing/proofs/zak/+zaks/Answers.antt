@@ -10,8 +10,7 @@ pub after_stmt-returns-in-Choose : goal.after_stmt-returns-in-Choose
 after_stmt-returns-in-Choose t c =
     let els = tree.block c.in-Choose.els.items in
     let seen : tree.statement c.args.s.now ≡ tree.choose c.args.s.now.line (tree.arms els c.in-Choose.list.items) =
-    search
-    (rules, the_lemmas, block_is, arms_is, c.in-Choose.is) in
+    search (rules, the_lemmas, block_is, arms_is, c.in-Choose.is) in
     c.after_block.ensures
     ∙ ap (λ xs. after_zaks c.after_arms.result (zaks_of_block (tree.block xs))) c.deref-in-Choose-2.ensures.value
     ∙ c.after_arms.ensures els
@@ -25,8 +24,7 @@ after_block-loop-s-preserved t c =
     let split = dropped c.args.stmts.now c.loop-s.s-index x (omega arith) c.s-item.is in
     ap (λ s. after_zaks s (zaks_of_block (tree.block rest))) c.after_stmt-known.ensures
     ∙ sym (after_both c.loop-s.known (zaks (tree.statement x)) (zaks_of_block (tree.block rest)))
-    ∙ sym (ap (λ xs. after_zaks c.loop-s.known (zaks_of_block (tree.block xs))) split)
-    ∙ c.loop-s.invariant
+    ∙ sym (ap (λ xs. after_zaks c.loop-s.known (zaks_of_block (tree.block xs))) split) ∙ c.loop-s.invariant
 
 pub after_arms-loop-a-preserved : goal.after_arms-loop-a-preserved
 after_arms-loop-a-preserved t c els =
@@ -37,5 +35,4 @@ after_arms-loop-a-preserved t c els =
     ∙ ap (λ xs. after_zaks c.loop-a.known (zaks_of_block (tree.block xs))) c.deref.ensures.value)
     ∙ sym (after_both c.loop-a.known (zaks_of_block (tree.block (out-Arm x).body.items))
     (zaks_of_arms (tree.arms els rest)))
-    ∙ sym (ap (λ xs. after_zaks c.loop-a.known (zaks_of_arms (tree.arms els xs))) split)
-    ∙ c.loop-a.invariant els
+    ∙ sym (ap (λ xs. after_zaks c.loop-a.known (zaks_of_arms (tree.arms els xs))) split) ∙ c.loop-a.invariant els

@@ -12,5 +12,4 @@ invariant-after_block-loop-s l =
 abbrev pub invariant-after_arms-loop-a : goal.invariant-after_arms-loop-a
 invariant-after_arms-loop-a l =
     (els : tree.Block) → after_zaks l.known (zaks_of_arms (tree.arms els (drop l.a-index l.list))) ≡ after_zaks
-    l.fn.before
-    (zaks_of_arms (tree.arms els l.list))
+    l.fn.before (zaks_of_arms (tree.arms els l.list))

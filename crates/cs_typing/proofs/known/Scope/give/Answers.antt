@@ -13,7 +13,6 @@ returns c =
     let rate = c.name_rate-rate.ensures in
     put_in s.numbers c.insert.new.self x c.of-number.result s.counts c.in_ok-counts.counts
     (sym c.has.ensures ∙ c.if-has.false) c.in_ok-insert.ensures.updates
-    (c.of-number.ensures ∙ ap (at_rate s.counts) rate)
-    (c.in_ok-counts.ensures ∙ ap (λ r. counted r s.counts) rate)
+    (c.of-number.ensures ∙ ap (at_rate s.counts) rate) (c.in_ok-counts.ensures ∙ ap (λ r. counted r s.counts) rate)
     ∙ sym (ap (λ b. if b then l else (if has_local l x then l else with_local l x))
     (sym c.is_global.ensures ∙ c.if-is_global.false))

@@ -48,8 +48,7 @@ returns-in_err-add_instrument-clause-fault c =
     c.from_residual-in_err-add_instrument.result _ c.from_residual-in_err-add_instrument.ensures.1
     (fault_on _ (part_fault ch ds mid next) _ c.in_err-add_instrument.ensures.0
     (λ f h. sym c.loop-i.invariant.0 ∙ ap (parts_fault ch ds k) parts
-    ∙ sym (fault_next ch ds k mid first (next ∷ more) added.0 added.1.known)
-    ∙ fault_first ch ds mid next more f h))
+    ∙ sym (fault_next ch ds k mid first (next ∷ more) added.0 added.1.known) ∙ fault_first ch ds mid next more f h))
 
 pub loop-i-preserved : goal.loop-i-preserved
 loop-i-preserved c =
@@ -75,8 +74,7 @@ loop-i-preserved c =
           ∙ fault_next ch ds k (known_of mid.so_far.names) first (next ∷ more) one.0 one.1.known
           ∙ sym (ap (parts_fault ch ds k) parts) ∙ was.0,
       λ t h.
-          was.1 t
-          (subst (λ xs. AddsParts ch ds self t xs) (sym parts)
+          was.1 t (subst (λ xs. AddsParts ch ds self t xs) (sym parts)
           (adds_both ch ds self mid t (first ∷ []) (next ∷ more) one.1
           (adds_both ch ds mid end t (next ∷ []) more two.1 h))),
       two.1.sound,
